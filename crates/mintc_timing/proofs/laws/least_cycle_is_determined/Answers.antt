@@ -1,0 +1,5 @@
+use Rattle.mintc_timing.proofs.DeterminedLaws.{least_cycle_is_determined_lem}
+use Rattle.mintc_timing.proofs.laws.least_cycle_is_determined.Goals as goal
+
+pub returns : goal.returns
+returns c = least_cycle_is_determined_lem

@@ -1,0 +1,53 @@
+use Rattle.std.specs.Prelude.{◌≡◌, ◌≢◌, ◌<◌, ℕ, ℤ, pos, ◌+ℤ◌, ◌*ℤ◌, ◌≤ℤ◌, ◌<ℤ◌, List, ◌++◌, map, length}
+use Rattle.mintc_timing.specs.declared.parts.TimingArc.{TimingArc}
+use Rattle.mintc_timing.specs.declared.parts.Pair.{Pair}
+use Rattle.mintc_timing.specs.declared.clocking.Schedule.{Schedule}
+use Rattle.mintc_timing.specs.declared.link.Link.{Link}
+use Rattle.mintc_timing.specs.Design.{Design, Timing}
+use Rattle.mintc_timing.specs.Paths.{Leads, IsPath, greatest_delay, least_delay, ArePairs}
+use Rattle.mintc_timing.specs.Departures.{AreLate, AreEarly}
+use Rattle.mintc_timing.specs.Links.{delay_of, cycles_of, Forbids}
+use Rattle.mintc_timing.specs.Right.{IsRight, IsLeastCycle, IsHopeless}
+
+-- Two lists of late departures are one list; so are two of early ones.
+abbrev pub LateAreDetermined : Type 0
+LateAreDetermined = (t : Timing) (s : Schedule) (d e : List ℤ) → AreLate t s d → AreLate t s e → d ≡ e
+
+abbrev pub EarlyAreDetermined : Type 0
+EarlyAreDetermined = (t : Timing) (s : Schedule) (d e : List ℤ) → AreEarly t s d → AreEarly t s e → d ≡ e
+
+-- A listed path and arcs that go on from its end are a listed path, and its sums are those of the parts.
+pub record Joined (arcs : List TimingArc) (j bit : ℕ) (front back : List ℕ) : Type 0 where
+  pub is_path : IsPath arcs j (front ++ back) bit
+  pub greatest : greatest_delay arcs (front ++ back) ≡ greatest_delay arcs front +ℤ greatest_delay arcs back
+  pub least : least_delay arcs (front ++ back) ≡ least_delay arcs front +ℤ least_delay arcs back
+
+abbrev pub PathsJoin : Type 0
+PathsJoin = (arcs : List TimingArc) (j between bit : ℕ) (front back : List ℕ) → IsPath arcs j front between → Leads arcs between back bit → Joined arcs j bit front back
+
+-- numbers over a denominator, and a schedule, written over a denominator that is so many times as great
+abbrev pub times : ℤ → List ℤ → List ℤ
+times factor numbers = map (λ x. x *ℤ factor) numbers
+
+abbrev pub times_schedule : ℤ → Schedule → Schedule
+times_schedule factor s = record { den = s.den *ℤ factor; cycle = s.cycle *ℤ factor; starts = times factor s.starts; widths = times factor s.widths }
+
+-- Right schedules stay right however their numbers are written, so the denominator is no part of the meaning.
+abbrev pub RightAtEachDenominator : Type 0
+RightAtEachDenominator = (t : Timing) (s : Schedule) (d : List ℤ) (factor : ℤ) → pos 1 ≤ℤ factor → IsRight t s d → IsRight t (times_schedule factor s) (times factor d)
+
+-- Two least cycles of a design are the same fraction.
+abbrev pub LeastCycleIsDetermined : Type 0
+LeastCycleIsDetermined = (t : Timing) (num den other_num other_den : ℤ) → IsLeastCycle t num den → IsLeastCycle t other_num other_den → num *ℤ other_den ≡ other_num *ℤ den
+
+-- A design with a least cycle isn't hopeless.
+abbrev pub LeastCycleIsNoHopelessness : Type 0
+LeastCycleIsNoHopelessness = (t : Timing) (num den : ℤ) → IsLeastCycle t num den → IsHopeless t → ⊥
+
+-- A chain that has no cycle and takes time forbids every cycle time.
+abbrev pub ForbidsAll : Type 0
+ForbidsAll = (chain : List Link) (num den : ℤ) → cycles_of chain ≡ pos 0 → pos 0 <ℤ delay_of chain → pos 1 ≤ℤ den → Forbids chain num den
+
+-- Two lists of the pairs of a design are one list.
+abbrev pub PairsAreDetermined : Type 0
+PairsAreDetermined = (design : Design) (pairs others : List Pair) → ArePairs design pairs → ArePairs design others → pairs ≡ others

@@ -1,0 +1,42 @@
+//! What the definitions say of one another: each law is the contract of a function that does nothing.
+ghost use Rattle.mintc_timing.specs.Laws.{EarlyAreDetermined, ForbidsAll, LateAreDetermined, LeastCycleIsDetermined, LeastCycleIsNoHopelessness, PairsAreDetermined, PathsJoin, RightAtEachDenominator};
+
+/// A schedule has one list of late departures at most.
+pub fn late_are_determined()
+    ensures { LateAreDetermined }
+{}
+
+/// A schedule has one list of early departures at most.
+pub fn early_are_determined()
+    ensures { EarlyAreDetermined }
+{}
+
+/// The sums of a listed path are those of its parts.
+pub fn paths_join()
+    ensures { PathsJoin }
+{}
+
+/// A right schedule's numbers, all multiplied by one factor, are right again.
+pub fn right_at_each_denominator()
+    ensures { RightAtEachDenominator }
+{}
+
+/// A design has one least cycle at most, as a fraction.
+pub fn least_cycle_is_determined()
+    ensures { LeastCycleIsDetermined }
+{}
+
+/// A design can't both have a least cycle and be hopeless.
+pub fn least_cycle_is_no_hopelessness()
+    ensures { LeastCycleIsNoHopelessness }
+{}
+
+/// A chain with no cycle and a positive delay forbids every cycle time.
+pub fn forbids_all()
+    ensures { ForbidsAll }
+{}
+
+/// A design has one list of pairs.
+pub fn pairs_are_determined()
+    ensures { PairsAreDetermined }
+{}
