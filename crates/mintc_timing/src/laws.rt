@@ -1,4 +1,5 @@
 //! What the definitions say of one another: each law is the contract of a function that does nothing.
+ghost use Rattle.mintc_timing.specs.Accepted.{SystemsAreAccepted};
 ghost use Rattle.mintc_timing.specs.Laws.{EarlyAreDetermined, ForbidsAll, LateAreDetermined, LeastCycleIsDetermined, LeastCycleIsNoHopelessness, PairsAreDetermined, PathsJoin, RightAtEachDenominator};
 
 /// A schedule has one list of late departures at most.
@@ -39,4 +40,9 @@ pub fn forbids_all()
 /// A design has one list of pairs.
 pub fn pairs_are_determined()
     ensures { PairsAreDetermined }
+{}
+
+/// The design of a system is accepted.
+pub fn systems_are_accepted()
+    ensures { SystemsAreAccepted }
 {}
