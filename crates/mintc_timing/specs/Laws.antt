@@ -1,4 +1,4 @@
-use Rattle.std.specs.Prelude.{◌≡◌, ◌≢◌, ◌<◌, ℕ, ℤ, pos, ◌+ℤ◌, ◌*ℤ◌, ◌≤ℤ◌, ◌<ℤ◌, List, ◌++◌, map, length}
+use Rattle.std.specs.Prelude.{◌≡◌, ◌≢◌, ◌<◌, ℕ, ℤ, pos, ◌+ℤ◌, ◌*ℤ◌, ◌≤ℤ◌, ◌<ℤ◌, List, ◌++◌, map, length, All}
 use Rattle.mintc_timing.specs.declared.parts.TimingArc.{TimingArc}
 use Rattle.mintc_timing.specs.declared.parts.Pair.{Pair}
 use Rattle.mintc_timing.specs.declared.clocking.Schedule.{Schedule}
@@ -6,7 +6,9 @@ use Rattle.mintc_timing.specs.declared.link.Link.{Link}
 use Rattle.mintc_timing.specs.Design.{Design, Timing}
 use Rattle.mintc_timing.specs.Paths.{Leads, IsPath, greatest_delay, least_delay, ArePairs}
 use Rattle.mintc_timing.specs.Departures.{AreLate, AreEarly}
-use Rattle.mintc_timing.specs.Links.{delay_of, cycles_of, Forbids}
+use Rattle.mintc_timing.specs.Limits.{IsDesign}
+use Rattle.mintc_timing.specs.Links.{links_of, IsChain, delay_of, cycles_of, Forbids}
+use Rattle.mintc_timing.specs.Times.{Meets}
 use Rattle.mintc_timing.specs.Right.{IsRight, IsLeastCycle, IsHopeless}
 
 -- Two lists of late departures are one list; so are two of early ones.
@@ -47,6 +49,14 @@ LeastCycleIsNoHopelessness = (t : Timing) (num den : ℤ) → IsLeastCycle t num
 -- A chain that has no cycle and takes time forbids every cycle time.
 abbrev pub ForbidsAll : Type 0
 ForbidsAll = (chain : List Link) (num den : ℤ) → cycles_of chain ≡ pos 0 → pos 0 <ℤ delay_of chain → pos 1 ≤ℤ den → Forbids chain num den
+
+-- The moments of a right schedule and its departures meet each link of the design.
+abbrev pub RightMeetsLinks : Type 0
+RightMeetsLinks = (t : Timing) (s : Schedule) (d : List ℤ) → IsDesign t.flat → ArePairs t.flat t.pairs → IsRight t s d → All (Meets t s d) (links_of t)
+
+-- So no chain of its links forbids a cycle time that a right schedule has.
+abbrev pub NoChainForbidsRight : Type 0
+NoChainForbidsRight = (t : Timing) (s : Schedule) (d : List ℤ) (chain : List Link) → IsDesign t.flat → ArePairs t.flat t.pairs → IsRight t s d → IsChain (links_of t) chain → Forbids chain s.cycle s.den → ⊥
 
 -- Two lists of the pairs of a design are one list.
 abbrev pub PairsAreDetermined : Type 0

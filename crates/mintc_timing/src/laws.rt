@@ -1,6 +1,6 @@
 //! What the definitions say of one another: each law is the contract of a function that does nothing.
 ghost use Rattle.mintc_timing.specs.Accepted.{SystemsAreAccepted};
-ghost use Rattle.mintc_timing.specs.Laws.{EarlyAreDetermined, ForbidsAll, LateAreDetermined, LeastCycleIsDetermined, LeastCycleIsNoHopelessness, PairsAreDetermined, PathsJoin, RightAtEachDenominator};
+ghost use Rattle.mintc_timing.specs.Laws.{EarlyAreDetermined, ForbidsAll, LateAreDetermined, LeastCycleIsDetermined, LeastCycleIsNoHopelessness, NoChainForbidsRight, PairsAreDetermined, PathsJoin, RightAtEachDenominator, RightMeetsLinks};
 
 /// A schedule has one list of late departures at most.
 pub fn late_are_determined()
@@ -35,6 +35,16 @@ pub fn least_cycle_is_no_hopelessness()
 /// A chain with no cycle and a positive delay forbids every cycle time.
 pub fn forbids_all()
     ensures { ForbidsAll }
+{}
+
+/// The moments of a right schedule meet each link of its design.
+pub fn right_meets_links()
+    ensures { RightMeetsLinks }
+{}
+
+/// No chain of a design's links forbids the cycle time of a right schedule.
+pub fn no_chain_forbids_right()
+    ensures { NoChainForbidsRight }
 {}
 
 /// A design has one list of pairs.

@@ -1,0 +1,5 @@
+use Rattle.mintc_timing.proofs.MeetingLaws.{no_chain_forbids_right_lem}
+use Rattle.mintc_timing.proofs.laws.no_chain_forbids_right.Goals as goal
+
+pub returns : goal.returns
+returns c = no_chain_forbids_right_lem
