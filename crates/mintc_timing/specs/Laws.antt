@@ -1,4 +1,4 @@
-use Rattle.std.specs.Prelude.{◌≡◌, ◌≢◌, ◌<◌, ℕ, ℤ, pos, ◌+ℤ◌, ◌*ℤ◌, ◌≤ℤ◌, ◌<ℤ◌, List, ◌++◌, map, length, All}
+use Rattle.std.specs.Prelude.{◌≡◌, ◌≢◌, ◌<◌, ℕ, ℤ, pos, ◌+ℤ◌, ◌*ℤ◌, ◌≤ℤ◌, ◌<ℤ◌, List, ◌++◌, map, length, All, ◌⊎◌, ◌↔◌, IfSome}
 use Rattle.mintc_timing.specs.declared.parts.TimingArc.{TimingArc}
 use Rattle.mintc_timing.specs.declared.parts.Pair.{Pair}
 use Rattle.mintc_timing.specs.declared.clocking.Schedule.{Schedule}
@@ -9,7 +9,9 @@ use Rattle.mintc_timing.specs.Departures.{AreLate, AreEarly}
 use Rattle.mintc_timing.specs.Limits.{IsDesign}
 use Rattle.mintc_timing.specs.Links.{links_of, IsChain, delay_of, cycles_of, Forbids}
 use Rattle.mintc_timing.specs.Times.{Meets}
-use Rattle.mintc_timing.specs.Right.{IsRight, IsLeastCycle, IsHopeless}
+use Rattle.mintc_timing.specs.Right.{IsRight, IsLeastCycle, IsHopeless, KeepsSetup, KeepsHold}
+use Rattle.mintc_timing.specs.Violations.{AreViolations, EndInLoop, setup_amount, hold_amount}
+use Rattle.mintc_timing.specs.declared.violation.Violation.{Violation}
 
 -- Two lists of late departures are one list; so are two of early ones.
 abbrev pub LateAreDetermined : Type 0
@@ -17,6 +19,17 @@ LateAreDetermined = (t : Timing) (s : Schedule) (d e : List ℤ) → AreLate t s
 
 abbrev pub EarlyAreDetermined : Type 0
 EarlyAreDetermined = (t : Timing) (s : Schedule) (d e : List ℤ) → AreEarly t s d → AreEarly t s e → d ≡ e
+
+-- The violations are determined, but for the choice of a loop where there is one.
+abbrev pub ViolationsAreDetermined : Type 0
+ViolationsAreDetermined = (t : Timing) (s : Schedule) (vs ws : List Violation) → AreViolations t s vs → AreViolations t s ws → (vs ≡ ws) ⊎ (EndInLoop t s vs × EndInLoop t s ws)
+
+-- A setup, or a hold, is kept exactly where it has no amount above 0.
+abbrev pub SetupsHaveAmounts : Type 0
+SetupsHaveAmounts = (t : Timing) (s : Schedule) (d : List ℤ) (l : ℕ) → KeepsSetup t s d l ↔ IfSome (setup_amount t s d l) (λ x. x ≤ℤ pos 0)
+
+abbrev pub HoldsHaveAmounts : Type 0
+HoldsHaveAmounts = (t : Timing) (s : Schedule) (early : List ℤ) (l : ℕ) → KeepsHold t s early l ↔ IfSome (hold_amount t s early l) (λ x. x ≤ℤ pos 0)
 
 -- A listed path and arcs that go on from its end are a listed path, and its sums are those of the parts.
 pub record Joined (arcs : List TimingArc) (j bit : ℕ) (front back : List ℕ) : Type 0 where

@@ -1,6 +1,6 @@
 //! What the definitions say of one another: each law is the contract of a function that does nothing.
 ghost use Rattle.mintc_timing.specs.Accepted.{SystemsAreAccepted};
-ghost use Rattle.mintc_timing.specs.Laws.{EarlyAreDetermined, ForbidsAll, LateAreDetermined, LeastCycleIsDetermined, LeastCycleIsNoHopelessness, NoChainForbidsRight, PairsAreDetermined, PathsJoin, RightAtEachDenominator, RightMeetsLinks};
+ghost use Rattle.mintc_timing.specs.Laws.{EarlyAreDetermined, ForbidsAll, HoldsHaveAmounts, LateAreDetermined, LeastCycleIsDetermined, LeastCycleIsNoHopelessness, NoChainForbidsRight, PairsAreDetermined, PathsJoin, RightAtEachDenominator, RightMeetsLinks, SetupsHaveAmounts, ViolationsAreDetermined};
 
 /// A schedule has one list of late departures at most.
 pub fn late_are_determined()
@@ -10,6 +10,21 @@ pub fn late_are_determined()
 /// A schedule has one list of early departures at most.
 pub fn early_are_determined()
     ensures { EarlyAreDetermined }
+{}
+
+/// A schedule has one list of violations, but for the choice of a loop.
+pub fn violations_are_determined()
+    ensures { ViolationsAreDetermined }
+{}
+
+/// A setup is kept exactly where it has no amount above 0.
+pub fn setups_have_amounts()
+    ensures { SetupsHaveAmounts }
+{}
+
+/// A hold is kept exactly where it has no amount above 0.
+pub fn holds_have_amounts()
+    ensures { HoldsHaveAmounts }
 {}
 
 /// The sums of a listed path are those of its parts.
