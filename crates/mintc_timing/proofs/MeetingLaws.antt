@@ -17,6 +17,7 @@ use Rattle.mintc_timing.specs.Times.{Meets}
 use Rattle.mintc_timing.specs.Links.{links_of, start_link, cycle_link, order_link, span_link, width_link, apart_link, open_link, opened_link, reach_link, setup_link, bound_link, latches_of, IsChain, Forbids, delay_of, cycles_of}
 use Rattle.mintc_timing.specs.Violations.{phases_of, elements_of}
 use Rattle.mintc_timing.specs.Laws.{RightMeetsLinks, NoChainForbidsRight}
+use Rattle.mintc_timing.proofs.Feeding.{latch_of}
 use Rattle.mintc_timing.proofs.LinkLaws.{meets-start, meets-cycle, meets-order, meets-span, meets-width, meets-apart, meets-open, meets-opened, meets-reach, meets-setup, meets-bound, ring-at_most}
 
 -- what holds of the numbers from a on
@@ -39,10 +40,6 @@ All-passing p P (x ∷ xs) h =
 All-pieces : {X Y : Type 0} (f : X → List Y) (P : Y → Type 0) (xs : List X) → All (λ x. All P (f x)) xs → All P (flat_map f xs)
 All-pieces f P [] h = All-nil P
 All-pieces f P (x ∷ xs) h = All-append P (f x) (flat_map f xs) (All-head (λ x. All P (f x)) x xs h) (All-pieces f P xs (All-tail (λ x. All P (f x)) x xs h))
-
-is_latch : (b : Bool) → not b ≡ true → b ≡ false
-is_latch true h = cc
-is_latch false h = refl
 
 module _ (t : Timing) (s : Schedule) (d : List ℤ) (limits : IsDesign t.flat) (right : IsRight t s d) (pairs_are : ArePairs t.flat t.pairs) where
   each_phase : (f : ℕ → Link) → ((p : ℕ) → IsPhase (phase_count t) p → Meets t s d (f p)) → All (Meets t s d) (map f (phases_of t))
@@ -68,7 +65,7 @@ module _ (t : Timing) (s : Schedule) (d : List ℤ) (limits : IsDesign t.flat) (
   openeds = All-map (Meets t s d) (opened_link t) (latches_of t)
       (All-passing (λ l. not (element_at t l).flop) (λ l. Meets t s d (opened_link t l)) (elements_of t)
       (All-range (λ l. not (element_at t l).flop ≡ true → Meets t s d (opened_link t l)) 0 (element_count t)
-      (λ l low high latch. meets-opened t s d limits right l (omega arith) (is_latch (element_at t l).flop latch))))
+      (λ l low high latch. meets-opened t s d limits right l (omega arith) (latch_of (element_at t l).flop latch))))
 
   reaches : All (Meets t s d) (map (λ (p : Pair). reach_link t p.from p.to p.max) t.pairs)
   reaches = All-map (Meets t s d) (λ (p : Pair). reach_link t p.from p.to p.max) t.pairs
