@@ -3,7 +3,6 @@ ghost use Rattle.std.specs.Prelude.{◌≡◌, ◌++◌, ◌∷◌, [], ℕ, Lis
 ghost use Rattle.mintc_text.specs.Lines.{numeral_of};
 
 use crate::OutOfMemory;
-use itoa::Buffer;
 use std::alloc::Global;
 use std::marker::Model;
 
@@ -45,8 +44,10 @@ impl Lines {
         ensures ok { OnOk result (self.new ≡ self.old ++ numeral_of value) }
         ensures err { OnErr result (self.new ≡ self.old) }
     {
-        let mut buffer = Buffer::new();
-        self.put(buffer.format(value).as_bytes())
+        match value.to_string(*self.bytes.allocator()) {
+            Ok(text) => self.put(text.as_bytes()),
+            Err(_) => Err(OutOfMemory),
+        }
     }
 
     /// Appends two numerals with a `/` between. Err leaves a front of them.
