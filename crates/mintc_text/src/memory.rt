@@ -208,3 +208,74 @@ impl Sink for MemorySink {
         }
     }
 }
+
+#[cfg(test)]
+mod tests {
+    use super::*;
+    use std::test::Fail;
+
+    fn named(alloc: Global, name: &[u8], bytes: &[u8]) -> Result<(Name, Vec<u8>), Fail> {
+        Ok((Name::new(alloc, name)?, Vec::from_slice(alloc, bytes)?))
+    }
+
+    fn is_read(read: Result<Vec<u8>, ShelfError>, bytes: &[u8]) -> bool {
+        match read {
+            Ok(v) => v.as_slice() == bytes,
+            Err(_) => false,
+        }
+    }
+
+    fn is_failed(read: Result<Vec<u8>, ShelfError>) -> bool {
+        match read {
+            Ok(_) => false,
+            Err(error) => error == ShelfError::Failed,
+        }
+    }
+
+    #[test]
+    fn reads_files(rt: HostRuntime) -> Result<(), Fail> {
+        let alloc = rt.alloc();
+        let files = vec![in alloc;
+            named(alloc, b"a", b"first")?,
+            named(alloc, b"b", b"")?,
+            named(alloc, b"a", b"second")?,
+        ]?;
+        let failing = Numbers::new(vec![in alloc; 2, 5]?);
+        let mut shelf = MemoryShelf::new(files, failing);
+        assert!(rt; is_read(shelf.read(alloc, "a", 100), b"first"));
+        assert!(rt; is_read(shelf.read(alloc, "a", 3), b"fir"));
+        assert!(rt; is_failed(shelf.read(alloc, "a", 5)));
+        assert!(rt; is_read(shelf.read(alloc, "b", 1), b""));
+        assert!(rt; is_failed(shelf.read(alloc, "c", 1)));
+        assert!(rt; is_failed(shelf.read(alloc, "c", 0)));
+        assert!(rt; is_read(shelf.read(alloc, "a", 0), b""));
+        assert_eq!(rt; shelf.calls, 7);
+        assert_eq!(rt; shelf.faults, 3);
+        Ok(())
+    }
+
+    #[test]
+    fn takes_bytes(rt: HostRuntime) -> Result<(), Fail> {
+        let mut sink = MemorySink::new(rt.alloc(), 8, Some((1, 2)))?;
+        assert!(rt; sink.write(b"abc").is_ok());
+        assert!(rt; sink.write(b"def").is_err());
+        assert_eq!(rt; sink.taken(), b"abcde".as_slice());
+        assert!(rt; sink.write(b"fghij").is_err());
+        assert_eq!(rt; sink.taken(), b"abcdefgh".as_slice());
+        assert!(rt; sink.write(b"").is_ok());
+        assert_eq!(rt; sink.calls, 4);
+        assert_eq!(rt; sink.faults, 2);
+        Ok(())
+    }
+
+    #[test]
+    fn fails_at_a_whole_piece(rt: HostRuntime) -> Result<(), Fail> {
+        let mut sink = MemorySink::new(rt.alloc(), 2, Some((0, 9)))?;
+        assert!(rt; sink.write(b"abc").is_err());
+        assert_eq!(rt; sink.taken(), b"ab".as_slice());
+        let mut other = MemorySink::new(rt.alloc(), 9, Some((0, 9)))?;
+        assert!(rt; other.write(b"abc").is_err());
+        assert_eq!(rt; other.taken(), b"abc".as_slice());
+        Ok(())
+    }
+}

@@ -62,3 +62,45 @@ pub fn numeral(word: &[u8], least: i64, most: i64) -> Option<i64>
     }
     Some(value as i64)
 }
+
+#[cfg(test)]
+mod tests {
+    use super::*;
+
+    const ALL: (i64, i64) = (i64::MIN, i64::MAX);
+
+    #[test]
+    fn reads_numerals(rt: HostRuntime) {
+        for (word, (least, most), value) in [
+            ("0", ALL, Some(0)),
+            ("7", ALL, Some(7)),
+            ("-7", ALL, Some(-7)),
+            ("120", ALL, Some(120)),
+            ("9223372036854775807", ALL, Some(i64::MAX)),
+            ("-9223372036854775808", ALL, Some(i64::MIN)),
+            ("9223372036854775808", ALL, None),
+            ("-9223372036854775809", ALL, None),
+            ("9999999999999999999", ALL, None),
+            ("10000000000000000000", ALL, None),
+            ("999999999", (0, 999_999_999), Some(999_999_999)),
+            ("1000000000", (0, 999_999_999), None),
+            ("-1", (0, 999_999_999), None),
+            ("5", (6, 4), None),
+        ] {
+            assert_eq!(rt; numeral(word.as_bytes(), least, most), value, "{word}");
+        }
+    }
+
+    #[test]
+    fn refuses_other_words(rt: HostRuntime) {
+        for word in [
+            "", "-", "-0", "00", "01", "-01", "+1", "1-", " 1", "1 ", "1a", "0x1", "1.0", "--1",
+            "/", ":",
+        ] {
+            assert!(rt;
+                numeral(word.as_bytes(), i64::MIN, i64::MAX).is_none(),
+                "{word}"
+            );
+        }
+    }
+}

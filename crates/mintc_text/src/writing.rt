@@ -82,3 +82,26 @@ impl Lines {
         self.bytes
     }
 }
+
+#[cfg(test)]
+mod tests {
+    use super::*;
+    use std::test::Fail;
+
+    #[test]
+    fn writes(rt: HostRuntime) -> Result<(), Fail> {
+        let mut lines = Lines::new(rt.alloc());
+        lines.put(b"cycle ")?;
+        lines.number(i128::MIN)?;
+        lines.put(b" ")?;
+        lines.number(0)?;
+        lines.put(b"\n")?;
+        lines.fraction(-12, 5)?;
+        let bytes = lines.into_bytes();
+        assert_eq!(rt;
+            bytes.as_slice(),
+            b"cycle -170141183460469231731687303715884105728 0\n-12/5".as_slice()
+        );
+        Ok(())
+    }
+}
