@@ -1,0 +1,17 @@
+//! The program as one call: words and files in, a status and one text out.
+//!
+//! `run` judges the words, reads the files that they name, works out the answer whole in memory, and writes it by one
+//! call of the sink.
+#![tactic(auto)]
+
+mod answer;
+mod command;
+mod plain;
+mod program;
+mod reading;
+
+mod status;
+
+pub use program::run;
+pub use status::Status;
+

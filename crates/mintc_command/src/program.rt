@@ -1,0 +1,66 @@
+//! A run: words, files, one answer.
+ghost use Rattle.std.specs.Prelude.{◌≡◌, ◌≢◌, ◌⊎◌, length};
+ghost use Rattle.mintc_text.specs.Outside.{Rose};
+ghost use Rattle.mintc_command.specs.Answers.{HoldsAll, IsAfterReading, IsAnswer, IsOfNoCommand, MakesAtMost, Writes};
+ghost use Rattle.mintc_command.specs.Commands.{Command, IsCommand, bytes_of, names_of, words_of};
+
+use crate::answer::answer_to;
+use crate::command::is_command;
+use crate::reading::read_files;
+use crate::status::Status;
+use mintc_text::{OutOfMemory, Shelf, ShelfError, Sink};
+use std::alloc::Global;
+
+/// What is written where the words are no command.
+const USAGE: &[u8] = b"usage: mintc check|optimise|verify|report|safe|slack table|files|liberty FILE.. | mintc sample N | mintc corners V C K D D..\n";
+
+/// Writes an answer by one call. The status is the answer's, or that the write failed.
+fn write<O: Sink>(out: &mut O, status: Status, text: &[u8]) -> Status
+    requires { IsAnswer status text.now }
+    ensures status { (result ≡ status) ⊎ (result ≡ Status.WriteFault) }
+    ensures written { Writes result (O.taken out.old) (O.taken out.new) }
+    ensures cause { result ≡ Status.WriteFault → Rose (O.faults out.old) (O.faults out.new) }
+    ensures writes { MakesAtMost 1 (O.calls out.old) (O.calls out.new) }
+{
+    match out.write(text) {
+        Ok(()) => status,
+        Err(_) => Status::WriteFault,
+    }
+}
+
+/// Does what the words ask: reads the files that they name, each once and in their order, and writes the answer by one
+/// call of the sink. Nothing is written before the answer is whole.
+pub fn run<S: Shelf, O: Sink>(
+    alloc: Global,
+    words: &[String],
+    shelf: &mut S,
+    out: &mut O,
+) -> Status
+    ensures usage_only { result ≡ Status.Usage → IsCommand (bytes_of words.now) → ⊥ }
+    ensures usage { (IsCommand (bytes_of words.now) → ⊥) → IsOfNoCommand result }
+
+    ensures written { Writes result (O.taken out.old) (O.taken out.new) }
+    ensures held { (command : Command) → bytes_of words.now ≡ words_of command → IsAfterReading result → HoldsAll (S.files shelf.old) (names_of command) }
+    ensures same { S.files shelf.new ≡ S.files shelf.old }
+
+    ensures read_fault { result ≡ Status.ReadFault → IsCommand (bytes_of words.now) }
+    ensures read_cause { result ≡ Status.ReadFault → Rose (S.faults shelf.old) (S.faults shelf.new) }
+    ensures sound { (command : Command) → bytes_of words.now ≡ words_of command → S.is_sound shelf.old → HoldsAll (S.files shelf.old) (names_of command) → result ≢ Status.ReadFault }
+    ensures reads { (command : Command) → bytes_of words.now ≡ words_of command → MakesAtMost (length (names_of command)) (S.calls shelf.old) (S.calls shelf.new) }
+    ensures no_reads { (IsCommand (bytes_of words.now) → ⊥) → S.calls shelf.new ≡ S.calls shelf.old }
+
+    ensures write_cause { result ≡ Status.WriteFault → Rose (O.faults out.old) (O.faults out.new) }
+    ensures writes { MakesAtMost 1 (O.calls out.old) (O.calls out.new) }
+{
+    if !is_command(words) {
+        return write(out, Status::Usage, USAGE);
+    }
+    match read_files(alloc, shelf, &words[2..]) {
+        Ok(files) => match answer_to(alloc, files.as_slice()) {
+            Ok(answer) => write(out, answer.status, answer.text.items()),
+            Err(OutOfMemory) => Status::OutOfMemory,
+        },
+        Err(ShelfError::Failed) => Status::ReadFault,
+        Err(ShelfError::OutOfMemory) => Status::OutOfMemory,
+    }
+}
