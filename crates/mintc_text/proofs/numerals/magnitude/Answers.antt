@@ -1,0 +1,67 @@
+use Rattle.std.proofs.Common.{◌≡◌, ℕ, ◌+◌, ◌<◌, ◌≤◌, List, arith, take, get_or, length, ap, ◌∙◌, subst}
+use Rattle.std.proofs.lemmas.List.{take_all}
+use Rattle.std.proofs.lemmas.Int.Digits.{digits_more, digits_value_more}
+use Rattle.std.proofs.lemmas.Bool.Decides.{nat_tests}
+use Rattle.std.proofs.lemmas.Str.{digit_value_digit}
+use Rattle.std.specs.Char.{digit_value}
+use Rattle.std.specs.Str.Parse.{AllDigits, digits_value}
+use Rattle.mintc_text.proofs.NumeralsLaws.{plain_from_decimal, small_front, small_from_plain, decimal_from_plain, digit_here}
+use Rattle.mintc_text.proofs.numerals.magnitude.Goals as goal
+use Rattle.mintc_text.proofs.numerals.magnitude.Goals.{then-is_empty-via-then-is_empty, then-is_empty-via-else-is_empty+then-digits-gt19, then-byte-lt48-via-then-byte-lt48, then-byte-lt48-via-else-byte-lt48+then-byte-gt57, else-digits-eq48-via-then-digits-eq48+else-digits-gt1, else-digits-eq48-via-else-digits-eq48}
+
+pub returns-then-is_empty-clause-value : goal.returns-then-is_empty-clause-value
+returns-then-is_empty-clause-value c = λ n small e.
+    let plain = plain_from_decimal _ n small e in
+    let some = plain.some in
+    let few = plain.few in
+    elim c.then-is_empty.branch [
+      | then-is_empty-via-then-is_empty w ↦ grind (arith, nat_tests)
+      | then-is_empty-via-else-is_empty+then-digits-gt19 w ↦ omega (arith, few)
+    ]
+
+pub returns-then-digits-gt1-clause-value : goal.returns-then-digits-gt1-clause-value
+returns-then-digits-gt1-clause-value c = λ n small e.
+    let plain = plain_from_decimal _ n small e in
+    omega (arith, plain.first c.if-digits-eq48.true)
+
+pub returns-then-byte-lt48-clause-value : goal.returns-then-byte-lt48-clause-value
+returns-then-byte-lt48-clause-value c = λ n small e.
+    let digit = digit_here _ c.loop-byte.byte-index (plain_from_decimal c.args.digits.now n small e) (omega arith) in
+    elim c.then-byte-lt48.branch [
+      | then-byte-lt48-via-then-byte-lt48 w ↦ omega (arith, digit)
+      | then-byte-lt48-via-else-byte-lt48+then-byte-gt57 w ↦ omega (arith, digit)
+    ]
+
+pub overflow_mul-value : goal.overflow_mul-value
+overflow_mul-value c = omega (arith, c.loop-byte.invariant.1, small_front c.args.digits.now c.loop-byte.byte-index (omega arith) c.loop-byte.invariant.0)
+
+pub overflow_add-value : goal.overflow_add-value
+overflow_add-value c = omega (arith, c.loop-byte.invariant.1, small_front c.args.digits.now c.loop-byte.byte-index (omega arith) c.loop-byte.invariant.0)
+
+pub loop-byte-preserved : goal.loop-byte-preserved
+loop-byte-preserved c =
+    let byte = get_or c.args.digits.now c.loop-byte.byte-index 0 in
+    let digit : digit_value byte + 48 ≡ byte = digit_value_digit byte (omega arith, omega arith) in
+    let more = digits_value_more 10 c.args.digits.now c.loop-byte.byte-index (omega arith) in
+    (digits_more 10 c.args.digits.now c.loop-byte.byte-index (omega arith) c.loop-byte.invariant.0 (omega (arith, digit)), omega (arith, digit, more, c.loop-byte.invariant.1))
+
+whole : (ds : List ℕ) (i value : ℕ) → length ds ≤ i → AllDigits 10 (take i ds) → value ≡ digits_value 10 (take i ds) → AllDigits 10 ds × (value ≡ digits_value 10 ds)
+whole ds i value all digits is =
+    let same = take_all i ds all in
+    (subst (AllDigits 10) same digits, is ∙ ap (digits_value 10) same)
+
+pub returns-clause-value : goal.returns-clause-value
+returns-clause-value c =
+    let h = whole c.args.digits.now c.loop-byte.byte-index c.loop-byte.value (omega arith) c.loop-byte.invariant.0 c.loop-byte.invariant.1 in
+    let some : 0 < length c.args.digits.now = grind (arith, nat_tests) in
+    let first : get_or c.args.digits.now 0 0 ≡ 48 → length c.args.digits.now ≡ 1 =
+    λ zero. elim c.else-digits-eq48.branch [
+      | else-digits-eq48-via-then-digits-eq48+else-digits-gt1 w ↦ omega (arith, some)
+      | else-digits-eq48-via-else-digits-eq48 w ↦ omega (arith, zero)
+    ] in
+    rw h.1 (decimal_from_plain c.args.digits.now (record { some = some; few = omega arith; first = first; digits = h.0 }))
+
+pub returns-clause-small : goal.returns-clause-small
+returns-clause-small c =
+    let h = whole c.args.digits.now c.loop-byte.byte-index c.loop-byte.value (omega arith) c.loop-byte.invariant.0 c.loop-byte.invariant.1 in
+    omega (arith, h.1, small_from_plain c.args.digits.now (omega arith) h.0)

@@ -1,0 +1,7 @@
+use Rattle.std.proofs.Common.{◌≡◌, take}
+use Rattle.std.specs.Str.Parse.{AllDigits, digits_value}
+use Rattle.mintc_text.proofs.numerals.magnitude.Given as goal
+
+-- the number of the digits so far
+abbrev pub invariant-loop-byte : goal.invariant-loop-byte
+invariant-loop-byte l = AllDigits 10 (take l.byte-index l.digits) × (l.value ≡ digits_value 10 (take l.byte-index l.digits))
