@@ -10,6 +10,7 @@ use Rattle.mintc_walks.proofs.Walking.{arcs_of_walk, potentials_along}
 
 -- a closed chain of arcs that raised their ends last
 module _ (arcs : List Arc) (starts values : List ℤ) (before : List ℕ) (same : length before ≡ length values) (few : length arcs < 2 ^ 32) (age : ℕ → ℕ) (all : AreTended arcs starts values before age) where
+  -- along these arcs the value rises by no more than their weight, and where it rises by as much, the age rises with each
   rises_along : (es : List ℕ) (u v : ℕ) → Leads arcs u es v → AreLast arcs before es → (value_at values v ≤ℤ (value_at values u +ℤ weight_of arcs es)) × (value_at values v ≡ value_at values u +ℤ weight_of arcs es → age u + length es ≤ age v)
   rises_along [] u v h l = let e = ap (value_at values) h in let f = ap age h in (omega (arith, ints), λ q. omega arith)
   rises_along (e ∷ es) u v h l =
@@ -33,6 +34,7 @@ module _ (arcs : List Arc) (starts values : List ℤ) (before : List ℕ) (same 
             omega arith,
       )
 
+  -- a walk leads to each reached node
   EndsWalk-at_reached : (v : ℕ) → v < length values → IsReached values v → EndsWalk arcs starts v
   EndsWalk-at_reached v h r = let w = all.walked v h r in let a = arcs_of_walk arcs starts w.0 v (value_at values v) w.1 in (a.0, a.1, a.2, a.3)
 
@@ -47,6 +49,7 @@ module _ (arcs : List Arc) (starts values : List ℤ) (before : List ℕ) (same 
       let a : EndsWalk arcs starts (arc_at arcs e).from = EndsWalk-at_reached (arc_at arcs e).from t.inside t.reached in
       rw h.1 at a
 
+  -- round a closed chain neither the value nor the age rises, so its weight is above 0
   IsPositiveChain-from_loop : (node : ℕ) (es : List ℕ) → IsLoop arcs before node es → IsPositiveChain arcs es
   IsPositiveChain-from_loop node es l =
       let r = rises_along es node node l.closed l.last in
@@ -59,6 +62,7 @@ module _ (arcs : List Arc) (starts values : List ℤ) (before : List ℕ) (same 
         positive = omega (arith, ints);
       }
 
+  -- what is answered with a chain
   pub HasChain-from_loop : (node : ℕ) (chain : List ℕ) (len : ℕ) → len ≤ length chain → IsLoop arcs before node (take len chain) → HasChain arcs starts chain len
   HasChain-from_loop node chain len fits l =
       let positive = IsPositiveChain-from_loop node (take len chain) l in record {
