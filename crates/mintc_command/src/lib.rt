@@ -15,3 +15,5 @@ mod status;
 pub use program::run;
 pub use status::Status;
 
+#[cfg(test)]
+mod tests;
