@@ -1,0 +1,209 @@
+//! A room: lists for the nodes of a network, and for what is found there.
+ghost use Rattle.std.specs.Prelude.{◌≡◌, ◌≤◌, ◌<◌, ◌+◌, ◌^◌, [], pos, IfOk, length, replicate, slice_set};
+ghost use Rattle.mintc_walks.specs.Bounds.{AreBounded, AreOrdinary};
+ghost use Rattle.mintc_constraints.specs.Walked.{HasWalked};
+
+use crate::lists::{fill, grow};
+use mintc_text::OutOfMemory;
+use mintc_walks::{Answer, Network, Steps, greatest_walks, greatest_walks_uncounted};
+use std::alloc::Global;
+use std::marker::Model;
+use std::sync::ledger::Ledger;
+
+/// Memory for walks through a network of so many nodes and links: five lists, each of at most one number a node. Calls
+/// other than `reserve` take no memory.
+#[derive(Debug, Drop)]
+pub struct Room {
+    nodes: usize,
+    links: usize,
+    values: Vec<i128>,
+    before: Vec<u32>,
+    late: Vec<i64>,
+    early: Vec<i64>,
+    chain: Vec<u32>,
+    marks: Vec<u32>,
+}
+
+impl Model for Room {
+    ghost use Rattle.std.specs.Prelude.{◌≤◌, vec_len, vec_capacity};
+    ghost use Rattle.mintc_constraints.specs.Rooms.{Space};
+
+    ghost Value = { Space };
+
+    ghost view = { λ r. record { nodes = r.nodes; links = r.links; values = r.values.items; before = r.before.items; late = r.late.items; early = r.early.items; chain = r.chain.items } };
+
+    ghost invariant = { λ r.
+        (r.nodes ≤ vec_capacity r.values) × (r.nodes ≤ vec_capacity r.before) × (r.nodes ≤ vec_capacity r.late)
+        × (r.nodes ≤ vec_capacity r.early) × (r.nodes ≤ vec_capacity r.chain) × (r.nodes ≤ vec_capacity r.marks) };
+}
+
+impl Room {
+    /// A room for so many nodes and links, its lists empty.
+    pub fn reserve(alloc: Global, nodes: usize, links: usize) -> Result<Room, OutOfMemory>
+        ensures nodes { IfOk result (λ r. r.nodes ≡ nodes) }
+        ensures links { IfOk result (λ r. r.links ≡ links) }
+        ensures values { IfOk result (λ r. r.values ≡ []) }
+        ensures before { IfOk result (λ r. r.before ≡ []) }
+        ensures late { IfOk result (λ r. r.late ≡ []) }
+        ensures early { IfOk result (λ r. r.early ≡ []) }
+        ensures chain { IfOk result (λ r. r.chain ≡ []) }
+    {
+        let Ok(values) = Vec::with_capacity(alloc, nodes) else {
+            return Err(OutOfMemory);
+        };
+        let Ok(before) = Vec::with_capacity(alloc, nodes) else {
+            return Err(OutOfMemory);
+        };
+        let Ok(late) = Vec::with_capacity(alloc, nodes) else {
+            return Err(OutOfMemory);
+        };
+        let Ok(early) = Vec::with_capacity(alloc, nodes) else {
+            return Err(OutOfMemory);
+        };
+        let Ok(chain) = Vec::with_capacity(alloc, nodes) else {
+            return Err(OutOfMemory);
+        };
+        let Ok(marks) = Vec::with_capacity(alloc, nodes) else {
+            return Err(OutOfMemory);
+        };
+        Ok(Room {
+            nodes,
+            links,
+            values,
+            before,
+            late,
+            early,
+            chain,
+            marks,
+        })
+    }
+
+    /// The number of nodes that it was reserved for.
+    pub fn nodes(&self) -> usize
+        ensures { result ≡ self.now.nodes }
+    {
+        self.nodes
+    }
+
+    /// The number of links that it was reserved for.
+    pub fn links(&self) -> usize
+        ensures { result ≡ self.now.links }
+    {
+        self.links
+    }
+
+    /// The values of the nodes.
+    pub fn values(&self) -> &[i128]
+        ensures { result.now ≡ self.now.values }
+    {
+        &self.values
+    }
+
+    /// Makes `values` so many zeros.
+    pub fn fill_values(&mut self, count: usize)
+        requires { count ≤ self.old.nodes }
+        ensures { self.new ≡ record self.old { values = replicate count (pos 0) } }
+    {
+        fill(&mut self.values, count, 0);
+    }
+
+    /// Changes one item of `values`.
+    pub fn set_values(&mut self, at: usize, value: i128)
+        requires { at < length self.old.values }
+        ensures { self.new ≡ record self.old { values = slice_set self.old.values at value } }
+    {
+        self.values[at] = value;
+    }
+
+    /// An arc's number for each node.
+    pub fn before(&self) -> &[u32]
+        ensures { result.now ≡ self.now.before }
+    {
+        &self.before
+    }
+
+    /// Makes `before` so many zeros.
+    pub fn fill_before(&mut self, count: usize)
+        requires { count ≤ self.old.nodes }
+        ensures { self.new ≡ record self.old { before = replicate count (0) } }
+    {
+        fill(&mut self.before, count, 0);
+    }
+
+    /// Changes one item of `before`.
+    pub fn set_before(&mut self, at: usize, value: u32)
+        requires { at < length self.old.before }
+        ensures { self.new ≡ record self.old { before = slice_set self.old.before at value } }
+    {
+        self.before[at] = value;
+    }
+
+    /// The late departures of the elements.
+    pub fn late(&self) -> &[i64]
+        ensures { result.now ≡ self.now.late }
+    {
+        &self.late
+    }
+
+    /// Makes `late` so many zeros.
+    pub fn fill_late(&mut self, count: usize)
+        requires { count ≤ self.old.nodes }
+        ensures { self.new ≡ record self.old { late = replicate count (pos 0) } }
+    {
+        fill(&mut self.late, count, 0);
+    }
+
+    /// Changes one item of `late`.
+    pub fn set_late(&mut self, at: usize, value: i64)
+        requires { at < length self.old.late }
+        ensures { self.new ≡ record self.old { late = slice_set self.old.late at value } }
+    {
+        self.late[at] = value;
+    }
+
+    /// The early departures of the elements.
+    pub fn early(&self) -> &[i64]
+        ensures { result.now ≡ self.now.early }
+    {
+        &self.early
+    }
+
+    /// Makes `early` so many zeros.
+    pub fn fill_early(&mut self, count: usize)
+        requires { count ≤ self.old.nodes }
+        ensures { self.new ≡ record self.old { early = replicate count (pos 0) } }
+    {
+        fill(&mut self.early, count, 0);
+    }
+
+    /// Changes one item of `early`.
+    pub fn set_early(&mut self, at: usize, value: i64)
+        requires { at < length self.old.early }
+        ensures { self.new ≡ record self.old { early = slice_set self.old.early at value } }
+    {
+        self.early[at] = value;
+    }
+
+    /// The arcs of a chain.
+    pub fn chain(&self) -> &[u32]
+        ensures { result.now ≡ self.now.chain }
+    {
+        &self.chain
+    }
+
+    /// Makes `chain` so many zeros.
+    pub fn fill_chain(&mut self, count: usize)
+        requires { count ≤ self.old.nodes }
+        ensures { self.new ≡ record self.old { chain = replicate count (0) } }
+    {
+        fill(&mut self.chain, count, 0);
+    }
+
+    /// Changes one item of `chain`.
+    pub fn set_chain(&mut self, at: usize, value: u32)
+        requires { at < length self.old.chain }
+        ensures { self.new ≡ record self.old { chain = slice_set self.old.chain at value } }
+    {
+        self.chain[at] = value;
+    }
+}
