@@ -1,0 +1,73 @@
+use Rattle.std.proofs.Common.{◌≡◌, ◌≢◌, ℕ, ◌+◌, ◌-◌, ◌<◌, ◌≤◌, List, ◌++◌, length, get_or, eqb, refl, sym, ap, ◌∙◌, ⊎_elim, arith, length-append}
+use Rattle.std.specs.List.{All, AllPairs, Contains}
+use Rattle.std.proofs.lemmas.Bool.{cases_lt}
+use Rattle.std.proofs.lemmas.Bool.Decides.{Decides-eqb}
+use Rattle.std.proofs.lemmas.List.{get_or_append_left, get_or-append_right, get_or_default}
+use Rattle.std.proofs.lemmas.List.Folds.{list_any_at}
+use Rattle.std.proofs.lemmas.Map.Made.{IsDistinct-from_AllPairs}
+use Rattle.std.proofs.lemmas.Map.Steps.{length-le_from_distinct_below, le-length_from_below}
+use Rattle.std.proofs.lemmas.Map.Views.{Contains-from_any}
+use Rattle.mintc_timing.specs.declared.parts.TimingArc.{TimingArc}
+use Rattle.mintc_timing.specs.Paths.{arc_at}
+use Rattle.mintc_order.specs.Searches.{IsSearch}
+
+-- numbers below n, no two of them equal, are at most n
+pub few_distinct : (n : ℕ) (xs : List ℕ) → AllPairs (λ x y. x ≢ y) xs → All (λ x. x < n) xs → length xs ≤ n
+few_distinct n xs apart below =
+    length-le_from_distinct_below xs n (IsDistinct-from_AllPairs Decides-eqb xs apart)
+    (λ q h. let at = Contains-from_any (λ x y e. (Decides-eqb x y).0 e) q xs h in let b : get_or xs at.0 q < n = below at.0 q at.1 in let e : get_or xs at.0 q ≡ q = at.2 in omega arith)
+
+-- a list with each number below n is at least n long
+pub many_listed : (n : ℕ) (xs : List ℕ) → ((q : ℕ) → q < n → Contains xs q) → n ≤ length xs
+many_listed n xs each =
+    le-length_from_below xs n
+    (λ q h. let at = each q h in list_any_at (eqb q) xs at.0 q at.1 ((Decides-eqb q (get_or xs at.0 q)).1 (sym at.2)))
+
+module _ (arcs : List TimingArc) (bits : ℕ) (left places path given : List ℕ) (s : IsSearch arcs bits left places path given) where
+  in_path : (i d : ℕ) → i < length path → get_or (path ++ given) i d ≡ get_or path i 0
+  in_path i d h = get_or_append_left path given d i h ∙ get_or_default path i d 0 h
+
+  in_given : (i d : ℕ) → length path ≤ i → i < length path + length given → get_or (path ++ given) i d ≡ get_or given (i - length path) 0
+  in_given i d h l = get_or-append_right path given (length path) i d refl h ∙ get_or_default given (i - length path) d 0 (omega arith)
+
+  -- a waiting arc isn't given out
+  waits : (i j : ℕ) → i < length path → j < length given → get_or path i 0 ≢ get_or given j 0
+  waits i j h l = λ e.
+      let w = s.is_way.waiting i h in
+      let a = w.next in
+      let b = s.are_given.out j l in
+      let same = ap (λ (n : ℕ). get_or left (arc_at arcs n).from 0) e in
+      omega arith
+
+  apart_in_path : (i j : ℕ) → i < j → j < length path → get_or path i 0 ≢ get_or path j 0
+  apart_in_path i j l h = λ e.
+      let a = s.is_way.waiting i (omega arith) in
+      let p = a.place in
+      let b = s.is_way.waiting j h in
+      let q = b.place in
+      let same = ap (λ (n : ℕ). get_or places (arc_at arcs n).from 0) e in
+      omega arith
+
+  distinct : AllPairs (λ x y. x ≢ y) (path ++ given)
+  distinct i j d l h = λ e.
+      let len = length-append path given in
+      ⊎_elim
+      (λ p.
+      ⊎_elim
+      (λ q. apart_in_path i j l q (sym (in_path i d p) ∙ e ∙ in_path j d q))
+      (λ q. waits i (j - length path) p (omega arith) (sym (in_path i d p) ∙ e ∙ in_given j d q (omega arith)))
+      (cases_lt j (length path)))
+      (λ p. s.are_given.once (i - length path) (j - length path) (omega arith) (omega arith) (sym (in_given i d p (omega arith)) ∙ e ∙ in_given j d (omega arith) (omega arith)))
+      (cases_lt i (length path))
+
+  below : All (λ x. x < length arcs) (path ++ given)
+  below k d h =
+      let len = length-append path given in
+      ⊎_elim
+      (λ p. let w = s.is_way.waiting k p in let a = w.number in let e = in_path k d p in omega arith)
+      (λ p. let a = s.are_given.number (k - length path) (omega arith) in let e = in_given k d p (omega arith) in omega arith)
+      (cases_lt k (length path))
+
+  -- An arc waits or is given out once, so all of these are at most as many as the arcs.
+  pub IsSearch-few : length path + length given ≤ length arcs
+  IsSearch-few = let len = length-append path given in let few = few_distinct (length arcs) (path ++ given) distinct below in omega arith

@@ -1,0 +1,41 @@
+//! An order of a design's arcs, or a closed list of them.
+#![tactic(auto)]
+
+ghost use Rattle.std.specs.Prelude.{IfOk, IfErr};
+ghost use Rattle.mintc_text.specs.Stops.{StopsAt};
+ghost use Rattle.mintc_timing.specs.Order.{IsOrder};
+ghost use Rattle.mintc_order.specs.Refusals.{NamesLoop};
+
+mod laws;
+mod leaving;
+mod search;
+
+pub use laws::orders_exclude_loops;
+use leaving::Leaving;
+use mintc_text::{Numbers, Stop};
+use mintc_timing::{Flat, Order};
+use search::Search;
+use std::alloc::Global;
+
+/// All arc numbers of the design, each once, every arc after all arcs into the bit that it leaves. The refusal is
+/// CombinationalLoop with a closed list of arcs that leaves no bit twice, exactly where arcs lead round. Takes time and
+/// memory in proportion to the bits and arcs.
+pub fn order(alloc: Global, flat: &Flat) -> Result<Order, Stop>
+    ensures order { IfOk result (λ order. IsOrder flat.now.arcs order) }
+    ensures stop { IfErr result (StopsAt (NamesLoop flat.now.arcs)) }
+{
+    let bits = 2 * flat.elements().len() + flat.inner().items().len();
+    let arcs = flat.arcs();
+    let Ok(Leaving { lasts, nexts }) = Leaving::new(alloc, arcs, bits) else {
+        return Err(Stop::OutOfMemory);
+    };
+    let Ok(mut search) = Search::new(alloc, lasts) else {
+        return Err(Stop::OutOfMemory);
+    };
+    for root in 0..bits {
+        search.follow(alloc, arcs, &nexts, root as u32)?;
+    }
+    let mut order = search.given;
+    order.reverse();
+    Ok(Order::new(Numbers::new(order)))
+}
