@@ -1,0 +1,7 @@
+pub mod Comparing
+pub mod Dividing
+pub mod Products
+pub mod Reading
+pub mod Reducing
+pub mod Rounding
+pub mod Summing
