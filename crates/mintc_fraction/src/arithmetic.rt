@@ -40,7 +40,7 @@ fn euclid(x: u128, y: u128) -> u128
     ensures { IsGcd x y result }
 {
     let (mut a, mut b) = (y, x % y);
-    for _turn in 0..80u32 {
+    for turn in 0..80u32 {
         if b == 0 {
             return a;
         }
