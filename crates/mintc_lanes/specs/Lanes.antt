@@ -3,6 +3,7 @@ use Rattle.std.specs.Prelude.{◌≡◌, ◌*◌, ◌^◌, ◌<◌, ◌≤◌, �
 use Rattle.std.specs.Ordering.{int_eq}
 use Rattle.mintc_lanes.specs.declared.TheConstants.{ABSENT}
 
+-- what a lane holds: None where it is absent
 abbrev pub lane_of : ℤ → Option ℤ
 lane_of x = if int_eq x ABSENT then None else Some x
 
@@ -10,13 +11,13 @@ lane_of x = if int_eq x ABSENT then None else Some x
 abbrev pub lane_at : List ℤ → ℕ → Option ℤ
 lane_at row k = lane_of (slice_index_or row k ABSENT)
 
--- a lane beside another one with a number added, by a choice of one of two numbers
+-- what a lane becomes beside another one and a number to add: where both are present, the chosen one of the lane and the sum
 abbrev pub joined : (ℤ → ℤ → ℤ) → Option ℤ → Option ℤ → ℤ → Option ℤ
 joined choose lane None add = lane
 joined choose None (Some y) add = Some (y +ℤ add)
 joined choose (Some x) (Some y) add = Some (choose x (y +ℤ add))
 
--- each lane of the new row is the old one beside the other row's
+-- each lane of the new row is what the old one becomes beside the other row's
 abbrev pub AreJoined : (ℤ → ℤ → ℤ) → List ℤ → List ℤ → ℤ → List ℤ → Type 0
 AreJoined choose row other add new = (k : ℕ) → k < 8 → lane_at new k ≡ joined choose (lane_at row k) (lane_at other k) add
 
@@ -24,7 +25,7 @@ AreJoined choose row other add new = (k : ℕ) → k < 8 → lane_at new k ≡ j
 abbrev pub AreWithin : ℕ → List ℤ → Type 0
 AreWithin n row = (k : ℕ) → k < 8 → IfSome (lane_at row k) (λ x. unsigned_abs x ≤ n)
 
--- small enough that no sum of two rows and a number wraps
+-- small enough that no lane with a number of up to 10^18 added wraps or is taken for an absent one
 abbrev pub AreLanes : List ℤ → Type 0
 AreLanes row = AreWithin (2 * 10 ^ 18) row
 

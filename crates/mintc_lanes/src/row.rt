@@ -1,8 +1,8 @@
 //! The calls on rows.
-ghost use Rattle.std.specs.Prelude.{◌≡◌, ◌+◌, ◌*◌, ◌^◌, ◌<◌, ◌≤◌, ℕ, ℤ, max, unsigned_abs, length, IsSome};
+ghost use Rattle.std.specs.Prelude.{◌≡◌, ◌+◌, ◌^◌, ◌<◌, ◌≤◌, ℕ, max, unsigned_abs, IsSome};
 ghost use Rattle.std.specs.Int.{int_max, int_min};
 ghost use Rattle.mintc_lanes.specs.Lanes.{lane_at, AreJoined, AreWithin, AreLanes, IsGreatestLane};
-ghost use Rattle.mintc_lanes.specs.Vectors.{IsVector, HasNumbers, number_at, where_absent_at, joined_at};
+ghost use Rattle.mintc_lanes.specs.Vectors.{IsVector, HasNumbers, joined_at};
 
 use crate::vectors::{
     greater, lesser, sums, turned_by_four, turned_by_one, turned_by_two, where_absent,
@@ -38,6 +38,7 @@ pub fn max_plus_row(row: &mut [i64; 8], other: &[i64; 8], add: i64)
     requires add { unsigned_abs add ≤ 10 ^ 18 }
     ensures lanes { AreJoined int_max row.old other.now add row.new }
     ensures present { (k : ℕ) → k < 8 → IsSome (lane_at row.old k) → IsSome (lane_at row.new k) }
+    // The lanes of the two rows are at most m and n in absolute value, the added number at most b.
     ensures bounds { (m n b : ℕ) → AreWithin m row.old → AreWithin n other.now → unsigned_abs add ≤ b
         → AreWithin (max m (n + b)) row.new }
 {
@@ -55,6 +56,7 @@ pub fn min_plus_row(row: &mut [i64; 8], other: &[i64; 8], add: i64)
     requires add { unsigned_abs add ≤ 10 ^ 18 }
     ensures lanes { AreJoined int_min row.old other.now add row.new }
     ensures present { (k : ℕ) → k < 8 → IsSome (lane_at row.old k) → IsSome (lane_at row.new k) }
+    // The lanes of the two rows are at most m and n in absolute value, the added number at most b.
     ensures bounds { (m n b : ℕ) → AreWithin m row.old → AreWithin n other.now → unsigned_abs add ≤ b
         → AreWithin (max m (n + b)) row.new }
 {

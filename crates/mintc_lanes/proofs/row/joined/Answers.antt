@@ -6,19 +6,19 @@ use Rattle.mintc_lanes.proofs.Reading.{read_is, read_vector}
 use Rattle.mintc_lanes.proofs.row.joined.Goals as goal
 
 pub where_absent-requires-clause-x : goal.where_absent-requires-clause-x
-where_absent-requires-clause-x c = read_vector _ c.requires.row
+where_absent-requires-clause-x c = search (read_vector, c.requires.row, c.requires.other, c.requires.sum, c.requires.chosen)
 
 pub where_absent-requires-clause-absent : goal.where_absent-requires-clause-absent
-where_absent-requires-clause-absent c = read_vector _ c.requires.sum
+where_absent-requires-clause-absent c = search (read_vector, c.requires.row, c.requires.other, c.requires.sum, c.requires.chosen)
 
 pub where_absent-requires-clause-present : goal.where_absent-requires-clause-present
-where_absent-requires-clause-present c = read_vector _ c.requires.chosen
+where_absent-requires-clause-present c = search (read_vector, c.requires.row, c.requires.other, c.requires.sum, c.requires.chosen)
 
 pub where_absent-requires-2-clause-x : goal.where_absent-requires-2-clause-x
-where_absent-requires-2-clause-x c = read_vector _ c.requires.other
+where_absent-requires-2-clause-x c = search (read_vector, c.requires.row, c.requires.other, c.requires.sum, c.requires.chosen)
 
 pub where_absent-requires-2-clause-absent : goal.where_absent-requires-2-clause-absent
-where_absent-requires-2-clause-absent c = read_vector _ c.requires.row
+where_absent-requires-2-clause-absent c = search (read_vector, c.requires.row, c.requires.other, c.requires.sum, c.requires.chosen)
 
 pub where_absent-requires-2-clause-present : goal.where_absent-requires-2-clause-present
 where_absent-requires-2-clause-present c = read_vector _ c.where_absent.ensures.vector
