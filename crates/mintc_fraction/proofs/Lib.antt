@@ -1,5 +1,6 @@
 pub mod Comparing
 pub mod Dividing
+pub mod Lowest
 pub mod Products
 pub mod Reading
 pub mod Reducing

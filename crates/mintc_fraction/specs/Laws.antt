@@ -1,6 +1,6 @@
 -- The laws of the order, of sums and of rounding to a grid.
 use Rattle.std.specs.Prelude.{◌≡◌, ◌⊎◌, ◌↔◌, ℤ, ◌≤ℤ◌}
-use Rattle.mintc_fraction.specs.Ratio.{Ratio, over, IsFraction, IsAtMost, IsBelow, IsEqual, sum_of, IsFloor, IsCeiling}
+use Rattle.mintc_fraction.specs.Ratio.{Ratio, over, IsFraction, IsAtMost, IsBelow, IsEqual, sum_of, IsFloor, IsCeiling, IsLowest}
 
 -- the order of the values is total and agrees with their equality
 pub record IsTotalOrder : Type 0 where
@@ -27,3 +27,7 @@ IsOnGrid a grid = (g : ℤ) × IsEqual (over g grid) a
 pub record IsRounding : Type 0 where
   pub ordered : (a : Ratio) (grid low high : ℤ) → IsFraction a → IsFloor a grid low → IsCeiling a grid high → low ≤ℤ high
   pub exact : (a : Ratio) (grid low high : ℤ) → IsFraction a → IsFloor a grid low → IsCeiling a grid high → (low ≡ high) ↔ IsOnGrid a grid
+
+-- fractions in lowest terms with the same value are the same
+abbrev pub AreLowestUnique : Type 0
+AreLowestUnique = (a b : Ratio) → IsFraction a → IsFraction b → IsLowest a → IsLowest b → IsEqual a b → a ≡ b

@@ -1,5 +1,5 @@
 //! The type and its operations.
-ghost use Rattle.std.specs.Prelude.{◌≡◌, ◌+◌, ◌*◌, ◌^◌, ◌≤◌, ℕ, pos, ◌*ℤ◌, ◌≤ℤ◌, unsigned_abs, Some};
+ghost use Rattle.std.specs.Prelude.{◌≡◌, ◌+◌, ◌*◌, ◌^◌, ◌≤◌, ℕ, pos, ◌≤ℤ◌, unsigned_abs};
 
 use crate::arithmetic::{greatest_divisor, product, quotient, rounded_down};
 use std::cmp::Ordering;

@@ -1,5 +1,5 @@
 //! Laws of fractions. Each function does nothing: its contract is the law.
-ghost use Rattle.mintc_fraction.specs.Laws.{IsTotalOrder, AreSums, IsRounding};
+ghost use Rattle.mintc_fraction.specs.Laws.{IsTotalOrder, AreSums, IsRounding, AreLowestUnique};
 
 /// The values are in a total order, and two of them are equal exactly where each is at most the other.
 pub fn order()
@@ -14,4 +14,9 @@ pub fn sums()
 /// Rounding down to a grid gives at most what rounding up gives, and the same exactly on the grid.
 pub fn rounding()
     ensures { IsRounding }
+{}
+
+/// A value has one fraction in lowest terms.
+pub fn lowest_terms()
+    ensures { AreLowestUnique }
 {}
