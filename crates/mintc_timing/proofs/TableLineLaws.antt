@@ -92,8 +92,9 @@ equal_cq Openings k e h g t = h.flop t
 pub opening_of : (v : Version) (k : ℕ) (e : Element) (flop : Bool) (low high : ℤ) → IsElement k e → IsOfVersion v e → flop ≡ e.flop → low ≡ e.dq_min → high ≡ e.dq_max →
     IsOpening v flop low high e.cq_min e.cq_max
 opening_of v k e flop low high h g same from to = (
-    record { low_is = h.cq_min; high_is = h.cq_max; ordered = h.cq },
-    λ t. let c = equal_cq v k e h g (subst (λ (f : Bool). IsTrue (are_equal v f)) same t) in (c.0 ∙ sym from, c.1 ∙ sym to))
+  record { low_is = h.cq_min; high_is = h.cq_max; ordered = h.cq },
+  λ t. let c = equal_cq v k e h g (subst (λ (f : Bool). IsTrue (are_equal v f)) same t) in (c.0 ∙ sym from, c.1 ∙ sym to),
+)
 
 version_made : (v : Version) (name : List ℕ) (n : ElementNumbers) → IsKind v n.flop → IsOpening v n.flop n.dq_min n.dq_max n.cq_min n.cq_max → IsOfVersion v (named name n)
 version_made Latches name n h g = let c = g.1 refl in (h, c.0, c.1)
@@ -109,10 +110,19 @@ pub element_made : (v : Version) (k : ℕ) (name : List ℕ) (n : ElementNumbers
     AreDelays n.dq_min n.dq_max → IsOpening v n.flop n.dq_min n.dq_max n.cq_min n.cq_max → IsDelay n.width → ws ≡ element_words v (named name n) → IsElementLine v k (named name n) ws
 element_made v k name n ws is_name phase kind setup hold dq cq width e = record {
   ranges = record {
-    phase = phase; setup = setup; hold = hold.0; no_hold = hold.1;
-    dq_min = dq.low_is; dq_max = dq.high_is; dq = dq.ordered;
-    cq_min = cq.0.low_is; cq_max = cq.0.high_is; cq = cq.0.ordered;
-    flop = flop_made v n kind cq; width = width };
+    phase = phase;
+    setup = setup;
+    hold = hold.0;
+    no_hold = hold.1;
+    dq_min = dq.low_is;
+    dq_max = dq.high_is;
+    dq = dq.ordered;
+    cq_min = cq.0.low_is;
+    cq_max = cq.0.high_is;
+    cq = cq.0.ordered;
+    flop = flop_made v n kind cq;
+    width = width;
+  };
   name = is_name;
   version = version_made v name n kind cq;
   spelled = e;

@@ -61,7 +61,11 @@ fn flop(fields: &mut Fields) -> Option<bool>
     if word == b"flop".as_slice() {
         return Some(true);
     }
-    if word == b"latch".as_slice() { Some(false) } else { None }
+    if word == b"latch".as_slice() {
+        Some(false)
+    } else {
+        None
+    }
 }
 
 /// Whether the element is a flop, by the next word where the version has one for that.
@@ -111,7 +115,11 @@ fn openings(fields: &mut Fields, version: Version, flop: bool, dq: (i64, i64)) -
 }
 
 /// The element of a line, in a table of so many phases.
-pub fn element_of<'a>(mut fields: Fields<'a>, version: Version, phases: u32) -> Option<(&'a [u8], ElementNumbers)>
+pub fn element_of<'a>(
+    mut fields: Fields<'a>,
+    version: Version,
+    phases: u32,
+) -> Option<(&'a [u8], ElementNumbers)>
     ensures { MatchOption result
         ((e : Element) → IsElementLine version phases e fields.entry → ⊥)
         (λ found. IsElementLine version phases (named found.0.now found.1) fields.entry) }

@@ -8,4 +8,4 @@ pub returns-in_err-gap : goal.returns-in_err-gap
 returns-in_err-gap c =
     at_none c.from_residual-in_err-gap.result _ _ c.from_residual-in_err-gap.ensures
     (λ x h. let a = c.in_ok-fixed.ensures in let b = c.in_ok-word.ensures in let d = c.in_ok-word-2.ensures in let e = h.1 in
-      c.in_err-gap.ensures x.gap (number x.cycles ∷ []) h.0.gap cc)
+    c.in_err-gap.ensures x.gap (number x.cycles ∷ []) h.0.gap cc)
