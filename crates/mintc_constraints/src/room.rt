@@ -5,7 +5,7 @@ ghost use Rattle.mintc_constraints.specs.Walked.{HasWalked};
 
 use crate::lists::{fill, grow};
 use mintc_text::OutOfMemory;
-use mintc_walks::{Answer, Network, Steps, greatest_walks, greatest_walks_uncounted};
+use mintc_walks::{Answer, Network, Steps, greatest_walks};
 use std::alloc::Global;
 use std::marker::Model;
 use std::sync::ledger::Ledger;
@@ -205,5 +205,44 @@ impl Room {
         ensures { self.new ≡ record self.old { chain = slice_set self.old.chain at value } }
     {
         self.chain[at] = value;
+    }
+
+    /// Walks through a network, as `greatest_walks` does, from the room's values as the starts. With `Values` they are
+    /// the greatest and the chain stays as it was; with a chain, `chain` holds its arcs, and the values mean nothing.
+    pub fn walk<N: Network, L: Ledger>(&mut self, net: &N, steps: &mut Steps<L>) -> Answer
+        requires some { 0 < length self.old.values }
+        requires nodes { length self.old.values ≤ self.old.nodes }
+        requires bound { length self.old.values ≤ 4096 }
+        requires chain { length self.old.chain ≤ length self.old.values }
+        requires few { length (N.arcs net.now) < 2 ^ 32 }
+        requires arcs { AreOrdinary (length self.old.values) (N.arcs net.now) }
+        requires starts { AreBounded (2 ^ 80) self.old.values }
+        ensures walked { HasWalked (N.arcs net.now) self.old self.new result }
+        ensures nodes { self.new.nodes ≡ self.old.nodes }
+        ensures links { self.new.links ≡ self.old.links }
+        ensures late { self.new.late ≡ self.old.late }
+        ensures early { self.new.early ≡ self.old.early }
+        ensures values { length self.new.values ≡ length self.old.values }
+        ensures some { steps.old < steps.new }
+        ensures cost { steps.new ≤ steps.old + length self.old.values }
+    {
+        let count = self.values.len();
+        let len = self.chain.len();
+        grow(&mut self.chain, count, 0);
+        fill(&mut self.before, count, 0);
+        fill(&mut self.marks, count, 0);
+        let answer = greatest_walks(
+            net,
+            self.values.as_mut_slice(),
+            self.before.as_mut_slice(),
+            self.marks.as_mut_slice(),
+            self.chain.as_mut_slice(),
+            steps,
+        );
+        match answer {
+            Answer::Values => self.chain.truncate(len),
+            Answer::Chain { len } => self.chain.truncate(len),
+        }
+        answer
     }
 }

@@ -1,17 +1,21 @@
 //! Canonical numerals.
-ghost use Rattle.std.specs.Prelude.{◌≡◌, ◌∷◌, ℕ, ℤ, ◌<◌, ◌^◌, Option, MatchOption, IfSome, decimal};
+ghost use Rattle.std.specs.Prelude.{◌≡◌, ◌∷◌, ℕ, ℤ, ◌<◌, ◌^◌, Option, MatchOption, IfSome, IsTrue, ◌↔◌, slice_index, length, decimal};
 ghost use Rattle.mintc_text.specs.Lines.{numeral_of, IsWithin};
 ghost use Rattle.mintc_text.specs.Words.{IsShort};
+
+/// Whether some bytes begin with a zero and go on.
+fn has_leading_zero(digits: &[u8]) -> bool
+    ensures { IsTrue result ↔ ((slice_index digits.now 0 ≡ 48) × (1 < length digits.now)) }
+{
+    digits.len() > 1 && digits[0] == b'0'
+}
 
 /// The number that digits without a leading zero write, at most 19 of them. None of other bytes.
 fn magnitude(digits: &[u8]) -> Option<u64>
     ensures value { MatchOption result ((n : ℕ) → n < 10 ^ 19 → digits.now ≡ decimal n → ⊥) (λ n. digits.now ≡ decimal n) }
     ensures small { IfSome result (λ n. n < 10 ^ 19) }
 {
-    if digits.is_empty() || digits.len() > 19 {
-        return None;
-    }
-    if digits[0] == b'0' && digits.len() > 1 {
+    if digits.is_empty() || digits.len() > 19 || has_leading_zero(digits) {
         return None;
     }
     let mut value = 0u64;
@@ -30,10 +34,10 @@ fn below_zero(digits: &[u8]) -> Option<i128>
     ensures small { IfSome result (λ z. IsShort z) }
 {
     let size = magnitude(digits)?;
-    if size == 0 {
-        return None;
+    match size {
+        0 => None,
+        _ => Some(-(size as i128)),
     }
-    Some(-(size as i128))
 }
 
 /// The number of a canonical numeral of at most 19 digits. None of other bytes.

@@ -95,33 +95,3 @@ pub fn read_schedule(text: &[u8]) -> Result<Schedule, Refusal>
         }),
     }
 }
-
-#[cfg(test)]
-mod tests {
-    use super::*;
-    use std::test::Fail;
-
-    const SCH1: &[u8] = b"schedule 1\nden 1\ncycle 100\nphases 2\nphase 0 10\nphase 10 30\nend\n";
-
-    /// The line of a refusal.
-    fn fault(text: &[u8]) -> Option<u32>
-        requires { length text.now ≤ 67108864 }
-    {
-        match read_schedule(text) {
-            Err(Refusal::Syntax { entry, .. }) => Some(entry),
-            _ => None,
-        }
-    }
-
-    #[test]
-    fn reads(rt: HostRuntime) -> Result<(), Fail> {
-        let Ok(schedule) = read_schedule(SCH1) else {
-            return Err(Fail::from("refused"));
-        };
-        assert_eq!(rt; schedule.cycle, 100);
-        assert_eq!(rt; schedule.starts.items(), [0, 10].as_slice());
-        assert_eq!(rt; schedule.widths.items(), [10, 30].as_slice());
-        assert_eq!(rt; fault(b""), Some(1));
-        Ok(())
-    }
-}

@@ -1,13 +1,14 @@
-use Rattle.std.proofs.Common.{◌≡◌, ℕ, ◌+◌, ◌<◌, ◌≤◌, List, arith, take, get_or, length, ap, ◌∙◌, subst}
+use Rattle.std.proofs.Common.{◌≡◌, ℕ, ◌+◌, ◌<◌, ◌≤◌, List, arith, take, get_or, length, ap, ◌∙◌, subst, refl, inl, inr}
 use Rattle.std.proofs.lemmas.List.{take_all}
 use Rattle.std.proofs.lemmas.Int.Digits.{digits_more, digits_value_more}
+use Rattle.std.proofs.lemmas.Bool.{cases_lt, false≢true}
 use Rattle.std.proofs.lemmas.Bool.Decides.{nat_tests}
 use Rattle.std.proofs.lemmas.Str.{digit_value_digit}
 use Rattle.std.specs.Char.{digit_value}
 use Rattle.std.specs.Str.Parse.{AllDigits, digits_value}
 use Rattle.mintc_text.proofs.NumeralsLaws.{plain_from_decimal, small_front, small_from_plain, decimal_from_plain, digit_here}
 use Rattle.mintc_text.proofs.numerals.magnitude.Goals as goal
-use Rattle.mintc_text.proofs.numerals.magnitude.Goals.{then-is_empty-via-then-is_empty, then-is_empty-via-else-is_empty+then-digits-gt19, then-byte-lt48-via-then-byte-lt48, then-byte-lt48-via-else-byte-lt48+then-byte-gt57, else-digits-eq48-via-then-digits-eq48+else-digits-gt1, else-digits-eq48-via-else-digits-eq48}
+use Rattle.mintc_text.proofs.numerals.magnitude.Goals.{then-is_empty-via-then-is_empty, then-is_empty-via-else-is_empty+then-digits-gt19, then-is_empty-via-else-is_empty+else-digits-gt19+then-has_leading_zero, then-byte-lt48-via-then-byte-lt48, then-byte-lt48-via-else-byte-lt48+then-byte-gt57}
 
 pub returns-then-is_empty-clause-value : goal.returns-then-is_empty-clause-value
 returns-then-is_empty-clause-value c = λ n small e.
@@ -17,12 +18,10 @@ returns-then-is_empty-clause-value c = λ n small e.
     elim c.then-is_empty.branch [
       | then-is_empty-via-then-is_empty w ↦ grind (arith, nat_tests)
       | then-is_empty-via-else-is_empty+then-digits-gt19 w ↦ omega (arith, few)
+      | then-is_empty-via-else-is_empty+else-digits-gt19+then-has_leading_zero w ↦
+          let leads = w.if-has_leading_zero.ensures.0 refl in
+          omega (arith, leads, plain.first leads.0)
     ]
-
-pub returns-then-digits-gt1-clause-value : goal.returns-then-digits-gt1-clause-value
-returns-then-digits-gt1-clause-value c = λ n small e.
-    let plain = plain_from_decimal _ n small e in
-    omega (arith, plain.first c.if-digits-eq48.true)
 
 pub returns-then-byte-lt48-clause-value : goal.returns-then-byte-lt48-clause-value
 returns-then-byte-lt48-clause-value c = λ n small e.
@@ -50,15 +49,18 @@ whole ds i value all digits is =
     let same = take_all i ds all in
     (subst (AllDigits 10) same digits, is ∙ ap (digits_value 10) same)
 
+one_digit : (ds : List ℕ) → 0 < length ds → ((get_or ds 0 0 ≡ 48) × (1 < length ds) → ⊥) → get_or ds 0 0 ≡ 48 → length ds ≡ 1
+one_digit ds some none zero =
+    elim (cases_lt 1 (length ds)) [
+      | inl more ↦ absurd (none (zero, more))
+      | inr few ↦ omega (arith, some)
+    ]
+
 pub returns-clause-value : goal.returns-clause-value
 returns-clause-value c =
     let h = whole c.args.digits.now c.loop-byte.byte-index c.loop-byte.value (omega arith) c.loop-byte.invariant.0 c.loop-byte.invariant.1 in
     let some : 0 < length c.args.digits.now = grind (arith, nat_tests) in
-    let first : get_or c.args.digits.now 0 0 ≡ 48 → length c.args.digits.now ≡ 1 =
-    λ zero. elim c.else-digits-eq48.branch [
-      | else-digits-eq48-via-then-digits-eq48+else-digits-gt1 w ↦ omega (arith, some)
-      | else-digits-eq48-via-else-digits-eq48 w ↦ omega (arith, zero)
-    ] in
+    let first = one_digit c.args.digits.now some (λ leads. false≢true (c.if-has_leading_zero.ensures.1 leads)) in
     rw h.1 (decimal_from_plain c.args.digits.now (record { some = some; few = omega arith; first = first; digits = h.0 }))
 
 pub returns-clause-small : goal.returns-clause-small

@@ -1,0 +1,5 @@
+use Rattle.mintc_fraction.proofs.Lowest.{IsLowest-unique}
+use Rattle.mintc_fraction.proofs.laws.lowest_terms.Goals as goal
+
+pub returns : goal.returns
+returns c = IsLowest-unique

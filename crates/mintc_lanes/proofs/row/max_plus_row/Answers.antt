@@ -1,0 +1,54 @@
+use Rattle.std.proofs.Common.{◌≡◌, ◌∙◌, w64}
+use Rattle.std.specs.Int.{int_max}
+use Rattle.std.proofs.lemmas.Int.{to_z-of_z}
+use Rattle.mintc_lanes.specs.Lanes.{AreJoined}
+use Rattle.mintc_lanes.specs.Vectors.{number_at}
+use Rattle.mintc_lanes.proofs.Joining.{sum_fits, are_joined, are_present, are_within, IsChoice-int_max}
+use Rattle.mintc_lanes.proofs.Reading.{read, read_is, read_vector}
+use Rattle.mintc_lanes.proofs.row.max_plus_row.Goals as goal
+
+pub sums-sum-requires-clause-x : goal.sums-sum-requires-clause-x
+sums-sum-requires-clause-x c = read_vector _ c.numbers-others.ensures.vector
+
+pub sums-sum-requires-clause-fits : goal.sums-sum-requires-clause-fits
+sums-sum-requires-clause-fits c = λ k lt.
+    rw (read_is c.numbers-others.result c.numbers-others.ensures.vector, to_z-of_z w64 c.args.add c.ranges.add, c.numbers-others.ensures.numbers)
+    (sum_fits (number_at c.args.other.now k) c.args.add (c.requires.other k lt) c.requires.add)
+
+pub greater-requires-clause-x : goal.greater-requires-clause-x
+greater-requires-clause-x c = read_vector _ c.numbers-own.ensures.vector
+
+pub greater-requires-clause-y : goal.greater-requires-clause-y
+greater-requires-clause-y c = read_vector _ c.sums-sum.ensures.vector
+
+pub joined-requires-clause-row : goal.joined-requires-clause-row
+joined-requires-clause-row c = read_vector _ c.numbers-own.ensures.vector
+
+pub joined-requires-clause-other : goal.joined-requires-clause-other
+joined-requires-clause-other c = read_vector _ c.numbers-others.ensures.vector
+
+pub joined-requires-clause-sum : goal.joined-requires-clause-sum
+joined-requires-clause-sum c = read_vector _ c.sums-sum.ensures.vector
+
+pub joined-requires-clause-chosen : goal.joined-requires-clause-chosen
+joined-requires-clause-chosen c = read_vector _ c.greater.ensures.vector
+
+pub returns : goal.returns
+returns c =
+    let row = c.args.row.now in
+    let other = c.args.other.now in
+    let own_is : read c.numbers-own.result ≡ row = read_is c.numbers-own.result c.numbers-own.ensures.vector ∙ c.numbers-own.ensures.numbers in
+    let others_is : read c.numbers-others.result ≡ other = read_is c.numbers-others.result c.numbers-others.ensures.vector ∙ c.numbers-others.ensures.numbers in
+    let sum_is = read_is c.sums-sum.result c.sums-sum.ensures.vector in
+    let chosen_is = read_is c.greater.result c.greater.ensures.vector in
+    let lanes : AreJoined int_max row other c.args.add c.joined.result =
+    are_joined int_max row other c.sums-sum.result c.greater.result c.joined.result c.args.add IsChoice-int_max c.requires.row c.requires.other c.requires.add
+    (rw (others_is, to_z-of_z w64 c.args.add c.ranges.add) at c.sums-sum.ensures.numbers)
+    (rw (own_is, sum_is) at c.greater.ensures.numbers)
+    (rw (own_is, others_is, sum_is, chosen_is) at c.joined.ensures.numbers) in
+    rw (read_is c.joined.result c.joined.ensures.vector)
+    record {
+      lanes = lanes;
+      present = are_present int_max row other c.joined.result c.args.add lanes;
+      bounds = are_within int_max row other c.joined.result c.args.add IsChoice-int_max lanes;
+    }
