@@ -39,3 +39,6 @@ pub fn order(alloc: Global, flat: &Flat) -> Result<Order, Stop>
     order.reverse();
     Ok(Order::new(Numbers::new(order)))
 }
+
+#[cfg(test)]
+mod tests;
