@@ -18,10 +18,10 @@ leads arcs (n ∷ (n' ∷ xs)) start end some number first joined ends = (
 )
 
 -- From the place of the arc that leaves the path's end, the path is a loop.
-module _ (arcs : List TimingArc) (bits : ℕ) (left places path given : List ℕ) (s : IsSearch arcs bits left places path given) (bit d : ℕ)
+module _ {arcs : List TimingArc} {bits : ℕ} {left places path given : List ℕ} (s : IsSearch arcs bits left places path given) (bit d : ℕ)
     (placed : get_or places bit 0 ≡ d + 1) (ends : EndsAt arcs path bit) where
   pub at_place : d < length path
-  at_place = (s.is_way.placed bit d placed).0
+  at_place = (s.is_path.placed bit d placed).0
 
   abbrev loop : List ℕ
   loop = drop d path
@@ -33,7 +33,7 @@ module _ (arcs : List TimingArc) (bits : ℕ) (left places path given : List ℕ
   at i k h = get_or-drop d path i k ∙ get_or_default path (d + i) k 0 (let l = len in omega arith)
 
   number : (i : ℕ) → i < length loop → get_or loop i 0 < length arcs
-  number i h = let l = len in let w = s.is_way.waiting (d + i) (omega arith) in let n = w.number in let e = at i 0 h in omega arith
+  number i h = let l = len in let w = s.is_path.waiting (d + i) (omega arith) in let n = w.number in let e = at i 0 h in omega arith
 
   some : 0 < length loop
   some = let l = len in let p = at_place in omega arith
@@ -41,13 +41,13 @@ module _ (arcs : List TimingArc) (bits : ℕ) (left places path given : List ℕ
   first : (arc_at arcs (get_or loop 0 0)).from ≡ bit
   first =
       let z : d + 0 ≡ d = omega arith in
-      ap (λ (n : ℕ). (arc_at arcs n).from) (at 0 0 some ∙ ap (λ (i : ℕ). get_or path i 0) z) ∙ (s.is_way.placed bit d placed).1
+      ap (λ (n : ℕ). (arc_at arcs n).from) (at 0 0 some ∙ ap (λ (i : ℕ). get_or path i 0) z) ∙ (s.is_path.placed bit d placed).1
 
   joined : (i : ℕ) → suc i < length loop → (arc_at arcs (get_or loop i 0)).to ≡ (arc_at arcs (get_or loop (suc i) 0)).from
   joined i h =
       let l = len in
       let z : d + i + 1 ≡ d + suc i = omega arith in
-      ap (λ (n : ℕ). (arc_at arcs n).to) (at i 0 (omega arith)) ∙ s.is_way.joined (d + i) (omega arith)
+      ap (λ (n : ℕ). (arc_at arcs n).to) (at i 0 (omega arith)) ∙ s.is_path.joined (d + i) (omega arith)
       ∙ sym (ap (λ (n : ℕ). (arc_at arcs n).from) (at (suc i) 0 h ∙ sym (ap (λ (k : ℕ). get_or path k 0) z)))
 
   closes : (i : ℕ) → length loop ≡ suc i → (arc_at arcs (get_or loop i 0)).to ≡ bit
@@ -62,8 +62,8 @@ module _ (arcs : List TimingArc) (bits : ℕ) (left places path given : List ℕ
   pub LeavesOnce-from_place : LeavesOnce arcs loop
   LeavesOnce-from_place i j k l h = λ q.
       let n = len in
-      let a = s.is_way.waiting (d + i) (omega arith) in
-      let b = s.is_way.waiting (d + j) (omega arith) in
+      let a = s.is_path.waiting (d + i) (omega arith) in
+      let b = s.is_path.waiting (d + j) (omega arith) in
       let a' = a.place in
       let b' = b.place in
       let e : (arc_at arcs (get_or path (d + i) 0)).from ≡ (arc_at arcs (get_or path (d + j) 0)).from =

@@ -23,7 +23,7 @@ many_listed n xs each =
     le-length_from_below xs n
     (λ q h. let at = each q h in list_any_at (eqb q) xs at.0 q at.1 ((Decides-eqb q (get_or xs at.0 q)).1 (sym at.2)))
 
-module _ (arcs : List TimingArc) (bits : ℕ) (left places path given : List ℕ) (s : IsSearch arcs bits left places path given) where
+module _ {arcs : List TimingArc} {bits : ℕ} {left places path given : List ℕ} (s : IsSearch arcs bits left places path given) where
   in_path : (i d : ℕ) → i < length path → get_or (path ++ given) i d ≡ get_or path i 0
   in_path i d h = get_or_append_left path given d i h ∙ get_or_default path i d 0 h
 
@@ -33,7 +33,7 @@ module _ (arcs : List TimingArc) (bits : ℕ) (left places path given : List ℕ
   -- a waiting arc isn't given out
   waits : (i j : ℕ) → i < length path → j < length given → get_or path i 0 ≢ get_or given j 0
   waits i j h l = λ e.
-      let w = s.is_way.waiting i h in
+      let w = s.is_path.waiting i h in
       let a = w.next in
       let b = s.are_given.out j l in
       let same = ap (λ (n : ℕ). get_or left (arc_at arcs n).from 0) e in
@@ -41,9 +41,9 @@ module _ (arcs : List TimingArc) (bits : ℕ) (left places path given : List ℕ
 
   apart_in_path : (i j : ℕ) → i < j → j < length path → get_or path i 0 ≢ get_or path j 0
   apart_in_path i j l h = λ e.
-      let a = s.is_way.waiting i (omega arith) in
+      let a = s.is_path.waiting i (omega arith) in
       let p = a.place in
-      let b = s.is_way.waiting j h in
+      let b = s.is_path.waiting j h in
       let q = b.place in
       let same = ap (λ (n : ℕ). get_or places (arc_at arcs n).from 0) e in
       omega arith
@@ -64,7 +64,7 @@ module _ (arcs : List TimingArc) (bits : ℕ) (left places path given : List ℕ
   below k d h =
       let len = length-append path given in
       ⊎_elim
-      (λ p. let w = s.is_way.waiting k p in let a = w.number in let e = in_path k d p in omega arith)
+      (λ p. let w = s.is_path.waiting k p in let a = w.number in let e = in_path k d p in omega arith)
       (λ p. let a = s.are_given.number (k - length path) (omega arith) in let e = in_given k d p (omega arith) in omega arith)
       (cases_lt k (length path))
 

@@ -6,7 +6,7 @@ use Rattle.mintc_timing.specs.Paths.{arc_at}
 use Rattle.mintc_order.specs.Searches.{EndsAt, IsWaiting, IsSearch}
 
 -- The next arc that leaves the path's end goes to the path.
-module _ (arcs : List TimingArc) (bits : ℕ) (left places path given : List ℕ) (s : IsSearch arcs bits left places path given) (bit e : ℕ)
+module _ {arcs : List TimingArc} {bits : ℕ} {left places path given : List ℕ} (s : IsSearch arcs bits left places path given) (bit e : ℕ)
     (in_bits : bit < bits) (next : get_or left bit 0 ≡ e + 1) (apart : get_or places bit 0 ≡ 0) (ends : EndsAt arcs path bit) where
   abbrev places' : List ℕ
   places' = set places bit (length path + 1)
@@ -46,7 +46,7 @@ module _ (arcs : List TimingArc) (bits : ℕ) (left places path given : List ℕ
   waiting : (i : ℕ) → i < length path' → IsWaiting arcs left places' i (get_or path' i 0)
   waiting i h =
       ⊎_elim
-      (λ l. rw (before i l) (IsWaiting-still i (get_or path i 0) (s.is_way.waiting i l)))
+      (λ l. rw (before i l) (IsWaiting-still i (get_or path i 0) (s.is_path.waiting i l)))
       (λ l. let q : i ≡ length path = omega (arith, length_push path e) in rw (at_last i q) (IsWaiting-last i q))
       (cases_lt i (length path))
 
@@ -55,7 +55,7 @@ module _ (arcs : List TimingArc) (bits : ℕ) (left places path given : List ℕ
       let len = length_push path e in
       ap (λ (n : ℕ). (arc_at arcs n).to) (before i (omega arith))
       ∙ ⊎_elim
-      (λ l. s.is_way.joined i l ∙ sym (ap (λ (n : ℕ). (arc_at arcs n).from) (before (i + 1) l)))
+      (λ l. s.is_path.joined i l ∙ sym (ap (λ (n : ℕ). (arc_at arcs n).from) (before (i + 1) l)))
       (λ l. let q : i + 1 ≡ length path = omega arith in ends i (sym q) ∙ sym known.1 ∙ sym (ap (λ (n : ℕ). (arc_at arcs n).from) (at_last (i + 1) q)))
       (cases_lt (i + 1) (length path))
 
@@ -69,7 +69,7 @@ module _ (arcs : List TimingArc) (bits : ℕ) (left places path given : List ℕ
       let at : i ≡ length path = omega arith in
       (omega arith, ap (λ (n : ℕ). (arc_at arcs n).from) (at_last i at) ∙ known.1 ∙ sym q))
       (λ ne.
-      let old = s.is_way.placed v i (sym (place_other v ne) ∙ h) in
+      let old = s.is_path.placed v i (sym (place_other v ne) ∙ h) in
       let below = old.0 in
       (omega arith, ap (λ (n : ℕ). (arc_at arcs n).from) (before i below) ∙ old.1))
       (cases_eq v bit)
@@ -80,7 +80,7 @@ module _ (arcs : List TimingArc) (bits : ℕ) (left places path given : List ℕ
     each_left = s.each_left;
     each_place = length-set places bit (length path + 1) ∙ s.each_place;
     are_left = s.are_left;
-    is_way = record { waiting = waiting; joined = joined; placed = placed };
+    is_path = record { waiting = waiting; joined = joined; placed = placed };
     are_given = s.are_given;
   }
 

@@ -8,16 +8,16 @@ use Rattle.mintc_timing.specs.Paths.{arc_at}
 use Rattle.mintc_order.specs.Indexes.{IsLast}
 use Rattle.mintc_order.specs.Searches.{IsGiven, AreLeft, IsWaiting, IsSearch}
 
-pub at_end : (arcs : List TimingArc) (bits : ℕ) (left places path given : List ℕ) (e : ℕ) → IsSearch arcs bits left places (path ++ e ∷ []) given → e < length arcs
-at_end arcs bits left places path given e s =
+pub at_end : {arcs : List TimingArc} {bits : ℕ} {left places given : List ℕ} (path : List ℕ) (e : ℕ) → IsSearch arcs bits left places (path ++ e ∷ []) given → e < length arcs
+at_end path e s =
     let len = length_push path e in
-    let w = s.is_way.waiting (length path) (omega arith) in
+    let w = s.is_path.waiting (length path) (omega arith) in
     let n = w.number in
     let q = get_or_push path e 0 (length path) refl in
     omega arith
 
 -- The path's last arc is given out, where all arcs that leave its end are.
-module _ (arcs : List TimingArc) (bits : ℕ) (left places path given : List ℕ) (e x : ℕ) (s : IsSearch arcs bits left places (path ++ e ∷ []) given)
+module _ {arcs : List TimingArc} {bits : ℕ} {left places given : List ℕ} (path : List ℕ) {e x : ℕ} (s : IsSearch arcs bits left places (path ++ e ∷ []) given)
     (last : IsLast arcs (arc_at arcs e).from e x) (end : get_or left (arc_at arcs e).to 0 ≡ 0) where
   abbrev bit : ℕ
   bit = (arc_at arcs e).from
@@ -38,7 +38,7 @@ module _ (arcs : List TimingArc) (bits : ℕ) (left places path given : List ℕ
   at_last i q = get_or_push path e 0 i (sym q)
 
   top : IsWaiting arcs left places (length path) e
-  top = let len = length_push path e in let w = s.is_way.waiting (length path) (omega arith) in rw (at_last (length path) refl) at w
+  top = let len = length_push path e in let w = s.is_path.waiting (length path) (omega arith) in rw (at_last (length path) refl) at w
 
   in_bits : bit < bits
   in_bits = let w = s.within e top.number in w.0
@@ -77,7 +77,7 @@ module _ (arcs : List TimingArc) (bits : ℕ) (left places path given : List ℕ
   waiting : (i : ℕ) → i < length path → IsWaiting arcs left' places' i (get_or path i 0)
   waiting i h =
       let len = length_push path e in
-      let w : IsWaiting arcs left places i (get_or path i 0) = rw (before i h) at (s.is_way.waiting i (omega arith)) in
+      let w : IsWaiting arcs left places i (get_or path i 0) = rw (before i h) at (s.is_path.waiting i (omega arith)) in
       let ne : (arc_at arcs (get_or path i 0)).from ≢ bit = λ q. let same = ap (λ (v : ℕ). get_or places v 0) q in let a = w.place in let b = top.place in omega arith in
       record {
         number = w.number;
@@ -88,7 +88,7 @@ module _ (arcs : List TimingArc) (bits : ℕ) (left places path given : List ℕ
   joined : (i : ℕ) → i + 1 < length path → (arc_at arcs (get_or path i 0)).to ≡ (arc_at arcs (get_or path (i + 1) 0)).from
   joined i h =
       let len = length_push path e in
-      sym (ap (λ (n : ℕ). (arc_at arcs n).to) (before i (omega arith))) ∙ s.is_way.joined i (omega arith) ∙ ap (λ (n : ℕ). (arc_at arcs n).from) (before (i + 1) h)
+      sym (ap (λ (n : ℕ). (arc_at arcs n).to) (before i (omega arith))) ∙ s.is_path.joined i (omega arith) ∙ ap (λ (n : ℕ). (arc_at arcs n).from) (before (i + 1) h)
 
   placed : (v i : ℕ) → get_or places' v 0 ≡ i + 1 → (i < length path) × ((arc_at arcs (get_or path i 0)).from ≡ v)
   placed v i h =
@@ -96,7 +96,7 @@ module _ (arcs : List TimingArc) (bits : ℕ) (left places path given : List ℕ
       ⊎_elim
       (λ q. let same = ap (λ (v' : ℕ). get_or places' v' 0) q in let z = place_same in absurd (omega arith))
       (λ ne.
-      let old = s.is_way.placed v i (sym (place_other v ne) ∙ h) in
+      let old = s.is_path.placed v i (sym (place_other v ne) ∙ h) in
       let below = old.0 in
       ⊎_elim
       (λ l. (l, sym (ap (λ (n : ℕ). (arc_at arcs n).from) (before i l)) ∙ old.1))
@@ -209,7 +209,7 @@ module _ (arcs : List TimingArc) (bits : ℕ) (left places path given : List ℕ
     each_left = length-set left bit x ∙ s.each_left;
     each_place = length-set places bit 0 ∙ s.each_place;
     are_left = are_left;
-    is_way = record { waiting = waiting; joined = joined; placed = placed };
+    is_path = record { waiting = waiting; joined = joined; placed = placed };
     are_given = record { number = number; out = out; whole = whole; ended = ended; after = after; once = once };
   }
 

@@ -42,10 +42,10 @@ impl Search {
     }
 
     /// The bit that the path leads to, or the root where it is empty.
-    fn end(&self, arcs: &[TimingArc], bits: usize, root: u32) -> u32
-        requires search { IsSearching arcs.now bits self.now }
-        requires root { root < bits }
-        ensures within { result < bits }
+    fn end(&self, arcs: &[TimingArc], root: u32) -> u32
+        requires search { IsSearching arcs.now (length self.now.left.items) self.now }
+        requires root { root < length self.now.left.items }
+        ensures within { result < length self.now.left.items }
         ensures root { self.now.path.items ≡ [] → result ≡ root }
         ensures ends { EndsAt arcs.now self.now.path.items result }
     {
@@ -129,7 +129,7 @@ impl Search {
         ensures through { IfOk result (λ more. IsFalse more → slice_index self.new.left.items root ≡ 0) }
         ensures stop { IfErr result (StopsAt (NamesLoop arcs.now)) }
     {
-        let bit = self.end(arcs, self.left.len(), root);
+        let bit = self.end(arcs, root);
         if self.left[bit as usize] == 0 {
             let Some(number) = self.path.pop() else {
                 return Ok(false);

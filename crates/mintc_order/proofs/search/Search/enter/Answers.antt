@@ -1,4 +1,4 @@
-use Rattle.std.proofs.Common.{◌≡◌, ◌+◌, ◌-◌, length, get_or, arith}
+use Rattle.std.proofs.Common.{◌≡◌, ◌+◌, ◌-◌, get_or, arith}
 use Rattle.std.proofs.lemmas.List.{get_or_default}
 use Rattle.mintc_order.proofs.Counting.{IsSearch-few}
 use Rattle.mintc_order.proofs.Entering.{IsSearch-entered_as}
@@ -6,7 +6,7 @@ use Rattle.mintc_order.proofs.search.Search.enter.Goals as goal
 
 pub overflow_cast-len : goal.overflow_cast-len
 overflow_cast-len c =
-    let few = IsSearch-few c.args.arcs.now (length c.args.self.now.left.items) c.args.self.now.left.items c.args.self.now.places.items c.args.self.now.path.items c.args.self.now.given.items c.requires.search in
+    let few = IsSearch-few c.requires.search in
     let len = c.args.self.now.path.ok in
     let len' = c.len.ensures in
     let pushed = rw (← c.in_ok-map_err.ensures.variant) at c.push.ensures.len in
@@ -19,5 +19,5 @@ returns-clause-search c =
     let len = c.args.self.now.path.ok in
     let len' = c.len.ensures in
     let pushed = rw (← c.in_ok-map_err.ensures.variant) at c.push.ensures.len in
-    IsSearch-entered_as c.args.arcs.now (length c.args.self.now.left.items) c.args.self.now.left.items c.args.self.now.places.items c.args.self.now.path.items c.args.self.now.given.items c.requires.search
-    c.args.bit (c.index.result.now - 1) c.requires.bit next c.requires.apart c.requires.ends c.push.new.self.items c.len.result (rw (← c.in_ok-map_err.ensures.variant) at c.push.ensures.items) (omega arith)
+    IsSearch-entered_as c.requires.search c.args.bit (c.index.result.now - 1) c.requires.bit next c.requires.apart c.requires.ends
+    c.push.new.self.items c.len.result (rw (← c.in_ok-map_err.ensures.variant) at c.push.ensures.items) (omega arith)

@@ -1,9 +1,9 @@
-use Rattle.std.proofs.Common.{length, arith}
+use Rattle.std.proofs.Common.{arith}
 use Rattle.mintc_order.proofs.Counting.{IsSearch-few}
 use Rattle.mintc_order.proofs.search.Search.follow.Goals as goal
 
 pub loop-smaller : goal.loop-smaller
 loop-smaller c =
-    let few = IsSearch-few c.args.arcs.now (length c.loop.self.left.items) c.step.new.self.left.items c.step.new.self.places.items c.step.new.self.path.items c.step.new.self.given.items c.in_ok-step.ensures.search in
+    let few = IsSearch-few c.in_ok-step.ensures.search in
     let step = c.in_ok-step.ensures.step c.if-branch.true in
     omega (arith, few, step)

@@ -1,4 +1,4 @@
-use Rattle.std.proofs.Common.{◌≡◌, ◌+◌, ◌-◌, ℕ, length, slice_index}
+use Rattle.std.proofs.Common.{◌≡◌, ◌*◌, ◌-◌, ℕ, length, slice_index}
 use Rattle.mintc_order.specs.Searches.{IsSearching, steps_of}
 use Rattle.mintc_order.proofs.search.Search.follow.Given as goal
 
@@ -9,4 +9,4 @@ invariant-loop l = record {
 }
 
 abbrev pub decreases-loop : goal.decreases-loop
-decreases-loop l = length l.arcs + length l.arcs - steps_of l.self
+decreases-loop l = 2 * length l.arcs - steps_of l.self

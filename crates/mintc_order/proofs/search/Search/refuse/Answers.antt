@@ -9,8 +9,7 @@ slice_bounds-from_slice-count c =
     let bit = c.requires.bit in
     let read = get_or_default c.args.self.now.places.items c.args.bit 0 c.index.result.now (omega arith) in
     let placed : get_or c.args.self.now.places.items c.args.bit 0 ≡ c.index.result.now - 1 + 1 = let e = c.index.ensures in let s = c.requires.some in omega arith in
-    let at = at_place c.args.arcs.now (length c.args.self.now.left.items) c.args.self.now.left.items c.args.self.now.places.items c.args.self.now.path.items c.args.self.now.given.items c.requires.search
-    c.args.bit (c.index.result.now - 1) placed c.requires.ends in
+    let at = at_place c.requires.search c.args.bit (c.index.result.now - 1) placed c.requires.ends in
     let len = ap length c.deref.ensures.value in
     omega arith
 
@@ -27,6 +26,6 @@ returns-in-Ok c =
     rw (c.new.ensures, loop) (
       drop (c.index.result.now - 1) c.args.self.now.path.items,
       refl,
-      IsArcLoop-from_place c.args.arcs.now (length c.args.self.now.left.items) c.args.self.now.left.items c.args.self.now.places.items c.args.self.now.path.items c.args.self.now.given.items c.requires.search c.args.bit (c.index.result.now - 1) placed c.requires.ends,
-      LeavesOnce-from_place c.args.arcs.now (length c.args.self.now.left.items) c.args.self.now.left.items c.args.self.now.places.items c.args.self.now.path.items c.args.self.now.given.items c.requires.search c.args.bit (c.index.result.now - 1) placed c.requires.ends,
+      IsArcLoop-from_place c.requires.search c.args.bit (c.index.result.now - 1) placed c.requires.ends,
+      LeavesOnce-from_place c.requires.search c.args.bit (c.index.result.now - 1) placed c.requires.ends,
     )
