@@ -1,4 +1,4 @@
-use Rattle.std.proofs.Common.{◌≡◌, ℕ, ℤ, pos, negsuc, ◌≤ℤ◌, ◌<◌, ◌^◌, List, [], ◌∷◌, ap, ◌∙◌, sym, subst, arith, decimal}
+use Rattle.std.proofs.Common.{◌≡◌, ℕ, ℤ, pos, negsuc, ◌≤ℤ◌, ◌<◌, ◌^◌, List, ap, ◌∙◌, sym, subst, arith, decimal}
 use Rattle.std.proofs.lemmas.Fmt.{decimal_injective}
 use Rattle.mintc_text.specs.Lines.{numeral_of, words}
 use Rattle.mintc_text.proofs.NumeralsLaws.{same_numeral}

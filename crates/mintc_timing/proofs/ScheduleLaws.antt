@@ -1,4 +1,4 @@
-use Rattle.std.proofs.Common.{◌≡◌, ℕ, zero, suc, ℤ, pos, negsuc, ◌≤ℤ◌, ◌<◌, ◌^◌, ◌≤◌, ◌+◌, true, false, List, [], ◌∷◌, length, length-append, All, refl, ap, ◌∙◌, sym, subst, arith, codes, eqb}
+use Rattle.std.proofs.Common.{◌≡◌, ℕ, zero, suc, ℤ, pos, ◌<◌, ◌^◌, ◌≤◌, ◌+◌, true, false, List, [], ◌∷◌, length, length-append, All, refl, ap, ◌∙◌, sym, subst, arith, codes, eqb}
 use Rattle.std.proofs.lemmas.Int.{ints}
 use Rattle.std.proofs.lemmas.List.Elements.{All-push, All-nil}
 use Rattle.mintc_text.specs.Lines.{numeral_of}

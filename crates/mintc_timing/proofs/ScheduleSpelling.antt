@@ -1,7 +1,7 @@
-use Rattle.std.proofs.Common.{◌≡◌, ℕ, zero, suc, ℤ, pos, List, [], ◌∷◌, ◌++◌, refl, ap, ◌∙◌, sym, subst, codes, arith}
-use Rattle.mintc_text.specs.Lines.{numeral_of, text_of, words}
+use Rattle.std.proofs.Common.{◌≡◌, ℕ, zero, suc, ℤ, pos, List, [], refl, ap, ◌∙◌, sym, subst, codes, arith}
+use Rattle.mintc_text.specs.Lines.{text_of, words}
 use Rattle.mintc_timing.specs.declared.clocking.Schedule.{Schedule}
-use Rattle.mintc_timing.specs.Fields.{Spells, IsWordLine, IsNumberLine, IsCountLine}
+use Rattle.mintc_timing.specs.Fields.{IsNumberLine, IsCountLine}
 use Rattle.mintc_timing.specs.TextLaws.{HaveOneScheduleText}
 use Rattle.mintc_timing.specs.Texts.{NextOfSchedule, IsPhaseLine, ScheduleLines, first, den, cycle, phases, phase, whole, no_phases, with_phase}
 use Rattle.mintc_timing.proofs.LineLaws.{spelled_same}

@@ -1,4 +1,4 @@
-use Rattle.std.proofs.Common.{◌≡◌, ◌⊎◌, ℕ, zero, suc, ℤ, pos, negsuc, ◌≤ℤ◌, ◌<◌, ◌≤◌, ◌+◌, ◌*◌, ◌^◌, Bool, true, false, IsFalse, List, [], ◌∷◌, ◌++◌, length, get_or, All, refl, ap, ◌∙◌, sym, subst, arith, codes, decimal, eqb, length-append, inl, inr}
+use Rattle.std.proofs.Common.{◌≡◌, ℕ, suc, ℤ, pos, negsuc, ◌<◌, ◌≤◌, ◌^◌, Bool, true, false, List, [], ◌∷◌, ◌++◌, length, get_or, refl, ap, ◌∙◌, sym, subst, arith, codes, decimal, inl, inr}
 use Rattle.std.proofs.lemmas.Fmt.{decimal_injective, decimal_nonempty}
 use Rattle.std.proofs.lemmas.Int.{ints}
 use Rattle.mintc_text.specs.Lines.{numeral_of}
@@ -11,12 +11,12 @@ use Rattle.mintc_timing.specs.declared.parts.Point.{Point}
 use Rattle.mintc_timing.specs.declared.parts.Point.TheVariants.{Origin, Start, End}
 use Rattle.mintc_timing.specs.declared.table_lines.Version.{Version}
 use Rattle.mintc_timing.specs.declared.table_lines.Version.TheVariants.{Latches, Flops, Openings}
-use Rattle.mintc_timing.specs.Fields.{AreDelays, IsCount, number}
+use Rattle.mintc_timing.specs.Fields.{IsCount, number}
 use Rattle.mintc_timing.specs.Limits.{IsElement, IsDelay, IsGap, IsPoint}
 use Rattle.mintc_timing.specs.ElementWords.{IsHold}
-use Rattle.mintc_timing.specs.TableText.{kind_word, hold_word, with_kind, element_words, IsOfVersion, IsElementLine, IsFromWord, IsToWord, IsArcLine, IsBoundLine, point_word}
+use Rattle.mintc_timing.specs.TableText.{hold_word, with_kind, element_words, IsOfVersion, IsElementLine, IsFromWord, IsToWord, IsArcLine, IsBoundLine, point_word}
 use Rattle.mintc_timing.proofs.FieldsLaws.{short, short_delay}
-use Rattle.mintc_timing.proofs.TableLineLaws.{kind_word_same, same_delays, lettered_same, kind_of, kind_same, openings_same, after_kind, after_setup, after_hold, after_dq}
+use Rattle.mintc_timing.proofs.TableLineLaws.{lettered_same, kind_of, kind_same, after_kind, after_dq}
 
 -- ---- the words of an element have one value
 

@@ -1,10 +1,10 @@
-use Rattle.std.proofs.Common.{◌≡◌, ℕ, zero, suc, ◌<◌, ◌≤◌, ◌+◌, ◌^◌, true, false, List, [], ◌∷◌, ◌++◌, length, length-append, All, refl, ap, ◌∙◌, sym, subst, arith, codes, eqb}
+use Rattle.std.proofs.Common.{◌≡◌, ℕ, zero, suc, ◌≤◌, ◌+◌, true, false, List, [], ◌∷◌, ◌++◌, length, length-append, All, refl, ap, ◌∙◌, sym, subst, arith, codes, eqb}
 use Rattle.mintc_timing.specs.declared.parts.Element.{Element}
 use Rattle.mintc_timing.specs.declared.parts.TimingArc.{TimingArc}
 use Rattle.mintc_timing.specs.declared.parts.Bound.{Bound}
 use Rattle.mintc_timing.specs.Design.{Design}
 use Rattle.mintc_timing.specs.Fields.{IsCount, plain, plain_line, Spells, IsWordLine, IsCountLine, IsNameLine}
-use Rattle.mintc_timing.specs.TableText.{NextOfTable, IsWholeTable, IsTableText, TableLines, first, phases, phase, element, arcs, arc, bound, whole, empty, version_of, inner_names, IsElementLine, IsArcLine, IsBoundLine}
+use Rattle.mintc_timing.specs.TableText.{NextOfTable, IsWholeTable, TableLines, first, phases, phase, element, arcs, arc, bound, whole, empty, version_of, inner_names, IsElementLine, IsArcLine, IsBoundLine}
 use Rattle.mintc_timing.specs.TextLaws.{HaveOneDesign, HaveNoTableFault, HaveOneTableFault}
 use Rattle.mintc_timing.proofs.LineLaws.{count_one, name_one}
 use Rattle.mintc_timing.proofs.ReadingLaws.{plain-count_line, plain-name_line, plain-word_line}
@@ -66,7 +66,7 @@ table_one (element v zero d) b c line p h g = h.2 ∙ ap (λ (m : ℕ). arcs (re
 table_one (arcs d) b c line p h g = h.2 ∙ ap (λ (n : ℕ). arc n d) (one_count (codes "arcs") 0 refl h.0 g.0 line h.1 g.1) ∙ sym g.2
 table_one (arc (suc left) d) b c line p h g =
     let same = spelled_one (IsArcLine (length d.elements) (length d.inner)) (plain-arc_line (length d.elements) (length d.inner) p.elements_few p.inner_few)
-      (arc_one (length d.elements) (length d.inner) p.elements_few p.inner_few) h.0 g.0 line h.1 g.1 in
+    (arc_one (length d.elements) (length d.inner) p.elements_few p.inner_few) h.0 g.0 line h.1 g.1 in
     h.2 ∙ ap (λ (x : TimingArc). arc left (record d { arcs = d.arcs ++ x ∷ [] })) same ∙ sym g.2
 table_one (arc zero d) b c line p h g = h.2 ∙ ap (λ (n : ℕ). bound n d) (one_count (codes "bounds") 0 refl h.0 g.0 line h.1 g.1) ∙ sym g.2
 table_one (bound (suc left) d) b c line p h g =

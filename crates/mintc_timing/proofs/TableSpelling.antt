@@ -1,18 +1,17 @@
-use Rattle.std.proofs.Common.{◌≡◌, ℕ, zero, suc, List, [], ◌∷◌, ◌++◌, length, Contains, refl, ap, ◌∙◌, sym, subst, arith, codes, append_assoc, length-append}
+use Rattle.std.proofs.Common.{◌≡◌, ℕ, zero, suc, List, [], ◌∷◌, ◌++◌, length, Contains, refl, ap, ◌∙◌, sym, subst, codes}
 use Rattle.mintc_text.specs.Lines.{Follows, ended, text_of, words}
 use Rattle.mintc_timing.specs.declared.parts.Element.{Element}
 use Rattle.mintc_timing.specs.declared.parts.TimingArc.{TimingArc}
 use Rattle.mintc_timing.specs.declared.parts.Bound.{Bound}
-use Rattle.mintc_timing.specs.declared.table_lines.Version.{Version}
 use Rattle.mintc_timing.specs.Design.{Design}
-use Rattle.mintc_timing.specs.Fields.{Spells, IsWordLine, IsCountLine, IsNameLine}
+use Rattle.mintc_timing.specs.Fields.{Spells, IsCountLine, IsNameLine}
 use Rattle.mintc_timing.specs.TextLaws.{HaveOneTableText}
-use Rattle.mintc_timing.specs.TableText.{NextOfTable, IsTableText, TableLines, first, phases, phase, element, arcs, arc, bound, whole, empty, version_of, inner_names, IsElementLine, IsArcLine, IsBoundLine}
+use Rattle.mintc_timing.specs.TableText.{NextOfTable, TableLines, first, phases, phase, element, arcs, arc, bound, whole, empty, inner_names, IsElementLine, IsArcLine, IsBoundLine}
 use Rattle.mintc_timing.proofs.LineLaws.{spelled_same}
 use Rattle.mintc_timing.proofs.ReadingLaws.{one_line, line_free}
 use Rattle.mintc_timing.proofs.Spelling.{Rest, rest_none, rest_back, rest_same, rest_count, IsSpelled, one_text}
 use Rattle.mintc_timing.proofs.TableOne.{arc_words}
-use Rattle.mintc_timing.proofs.TablePlain.{table_plain, Counted}
+use Rattle.mintc_timing.proofs.TablePlain.{table_plain}
 use Rattle.mintc_timing.proofs.TableReading.{length-inner_names}
 
 -- what a state knows of the design to which it leads
@@ -28,8 +27,12 @@ Begins (whole d) f = d ≡ f
 
 whole_known : (d f : Design) → d ≡ f → (f.phases ≡ d.phases) × (f.elements ≡ d.elements) × (f.inner ≡ d.inner) × (f.arcs ≡ d.arcs) × Rest d.bounds f.bounds 0
 whole_known d f e = (
-    sym (ap (λ (x : Design). x.phases) e), sym (ap (λ (x : Design). x.elements) e), sym (ap (λ (x : Design). x.inner) e), sym (ap (λ (x : Design). x.arcs) e),
-    rest_none d.bounds f.bounds (sym (ap (λ (x : Design). x.bounds) e)))
+  sym (ap (λ (x : Design). x.phases) e),
+  sym (ap (λ (x : Design). x.elements) e),
+  sym (ap (λ (x : Design). x.inner) e),
+  sym (ap (λ (x : Design). x.arcs) e),
+  rest_none d.bounds f.bounds (sym (ap (λ (x : Design). x.bounds) e)),
+)
 
 back : (a b : TableLines) (line : List ℕ) (f : Design) → NextOfTable a line b → Begins b f → Begins a f
 back first b line f h g = tt
@@ -76,18 +79,20 @@ step (phases v) b c line other f begun h g i j =
     (count_same (codes "phases") 1 999999999 h.0 g.0 line other same h.1 g.1, h.2 ∙ ap (λ (n : ℕ). phase v n empty) same ∙ sym g.2)
 step (phase v (suc left) d) b c line other f begun h g i j =
     let k = subst (λ (x : TableLines). Begins x f) h.2 i in let l = subst (λ (x : TableLines). Begins x f) g.2 j in
-    let same : h.0 ≡ g.0 = rest_same d.phases f.phases h.0 g.0 left left k l in
-    (spelled_same (IsNameLine (codes "phase")) (λ n ws xs h g. h.1 ∙ sym g.1) h.0 g.0 line other same h.1 g.1,
-      h.2 ∙ ap (λ (name : List ℕ). phase v left (record d { phases = d.phases ++ name ∷ [] })) same ∙ sym g.2)
+    let same : h.0 ≡ g.0 = rest_same d.phases f.phases h.0 g.0 left left k l in (
+      spelled_same (IsNameLine (codes "phase")) (λ n ws xs h g. h.1 ∙ sym g.1) h.0 g.0 line other same h.1 g.1,
+      h.2 ∙ ap (λ (name : List ℕ). phase v left (record d { phases = d.phases ++ name ∷ [] })) same ∙ sym g.2,
+    )
 step (phase v zero d) b c line other f begun h g i j =
     let k = subst (λ (x : TableLines). Begins x f) h.2 i in let l = subst (λ (x : TableLines). Begins x f) g.2 j in
     let same : h.0 ≡ g.0 = rest_count d.elements f.elements h.0 g.0 k.1 l.1 in
     (count_same (codes "elements") 0 999999999 h.0 g.0 line other same h.1 g.1, h.2 ∙ ap (λ (n : ℕ). element v n d) same ∙ sym g.2)
 step (element v (suc left) d) b c line other f begun h g i j =
     let k = subst (λ (x : TableLines). Begins x f) h.2 i in let l = subst (λ (x : TableLines). Begins x f) g.2 j in
-    let same : h.0 ≡ g.0 = rest_same d.elements f.elements h.0 g.0 left left k.1 l.1 in
-    (spelled_same (IsElementLine v (length d.phases)) (λ e ws xs h g. h.spelled ∙ sym g.spelled) h.0 g.0 line other same h.1 g.1,
-      h.2 ∙ ap (λ (e : Element). element v left (record d { elements = d.elements ++ e ∷ [] })) same ∙ sym g.2)
+    let same : h.0 ≡ g.0 = rest_same d.elements f.elements h.0 g.0 left left k.1 l.1 in (
+      spelled_same (IsElementLine v (length d.phases)) (λ e ws xs h g. h.spelled ∙ sym g.spelled) h.0 g.0 line other same h.1 g.1,
+      h.2 ∙ ap (λ (e : Element). element v left (record d { elements = d.elements ++ e ∷ [] })) same ∙ sym g.2,
+    )
 step (element v zero d) b c line other f begun h g i j =
     let k = subst (λ (x : TableLines). Begins x f) h.2 i in let l = subst (λ (x : TableLines). Begins x f) g.2 j in
     let names : inner_names h.0 ≡ inner_names g.0 = sym k.2 ∙ l.2 in
@@ -99,18 +104,20 @@ step (arcs d) b c line other f begun h g i j =
     (count_same (codes "arcs") 0 999999999 h.0 g.0 line other same h.1 g.1, h.2 ∙ ap (λ (n : ℕ). arc n d) same ∙ sym g.2)
 step (arc (suc left) d) b c line other f begun h g i j =
     let k = subst (λ (x : TableLines). Begins x f) h.2 i in let l = subst (λ (x : TableLines). Begins x f) g.2 j in
-    let same : h.0 ≡ g.0 = rest_same d.arcs f.arcs h.0 g.0 left left k.3 l.3 in
-    (spelled_same (IsArcLine (length d.elements) (length d.inner)) (arc_words (length d.elements) (length d.inner)) h.0 g.0 line other same h.1 g.1,
-      h.2 ∙ ap (λ (x : TimingArc). arc left (record d { arcs = d.arcs ++ x ∷ [] })) same ∙ sym g.2)
+    let same : h.0 ≡ g.0 = rest_same d.arcs f.arcs h.0 g.0 left left k.3 l.3 in (
+      spelled_same (IsArcLine (length d.elements) (length d.inner)) (arc_words (length d.elements) (length d.inner)) h.0 g.0 line other same h.1 g.1,
+      h.2 ∙ ap (λ (x : TimingArc). arc left (record d { arcs = d.arcs ++ x ∷ [] })) same ∙ sym g.2,
+    )
 step (arc zero d) b c line other f begun h g i j =
     let k = subst (λ (x : TableLines). Begins x f) h.2 i in let l = subst (λ (x : TableLines). Begins x f) g.2 j in
     let same : h.0 ≡ g.0 = rest_count d.bounds f.bounds h.0 g.0 k.4 l.4 in
     (count_same (codes "bounds") 0 999999999 h.0 g.0 line other same h.1 g.1, h.2 ∙ ap (λ (n : ℕ). bound n d) same ∙ sym g.2)
 step (bound (suc left) d) b c line other f begun h g i j =
     let k = subst (λ (x : TableLines). Begins x f) h.2 i in let l = subst (λ (x : TableLines). Begins x f) g.2 j in
-    let same : h.0 ≡ g.0 = rest_same d.bounds f.bounds h.0 g.0 left left k.4 l.4 in
-    (spelled_same (IsBoundLine (length d.phases)) (λ x ws xs h g. h.1 ∙ sym g.1) h.0 g.0 line other same h.1 g.1,
-      h.2 ∙ ap (λ (x : Bound). bound left (record d { bounds = d.bounds ++ x ∷ [] })) same ∙ sym g.2)
+    let same : h.0 ≡ g.0 = rest_same d.bounds f.bounds h.0 g.0 left left k.4 l.4 in (
+      spelled_same (IsBoundLine (length d.phases)) (λ x ws xs h g. h.1 ∙ sym g.1) h.0 g.0 line other same h.1 g.1,
+      h.2 ∙ ap (λ (x : Bound). bound left (record d { bounds = d.bounds ++ x ∷ [] })) same ∙ sym g.2,
+    )
 step (bound zero d) b c line other f begun h g i j = (h.1.2 ∙ ap words (h.1.1 ∙ sym g.1.1) ∙ sym g.1.2, h.2 ∙ sym g.2)
 step (whole d) b c line other f begun h g i j = absurd h
 

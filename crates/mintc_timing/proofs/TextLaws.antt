@@ -1,9 +1,8 @@
-use Rattle.std.proofs.Common.{◌≡◌, ◌≢◌, ℕ, suc, ◌≤◌, ◌+◌, true, false, List, [], ◌∷◌, ◌++◌, length, length-append, append_assoc, All, eqb, refl, ap, ◌∙◌, sym, subst, arith}
+use Rattle.std.proofs.Common.{◌≡◌, ◌≢◌, ℕ, suc, true, false, List, [], ◌∷◌, ◌++◌, length, length-append, append_assoc, All, eqb, refl, ap, ◌∙◌, sym, subst, arith}
 use Rattle.mintc_text.specs.Lines.{Follows, IsText, IsFault, IsStuck, text_of, ended, words}
 use Rattle.mintc_timing.specs.Fields.{fields_of, plain_line, Spells}
 use Rattle.mintc_timing.proofs.FieldsLaws.{fields-words}
 use Rattle.mintc_timing.proofs.ReadingLaws.{one_line, words_free}
-
 
 -- what each line keeps, all lines keep
 pub along : {S : Type 0} (next : S → List ℕ → S → Type 0) (P : S → Type 0) → ((a : S) (line : List ℕ) (b : S) → next a line b → P a → P b) →
@@ -58,7 +57,7 @@ one_fault {S} next P plain a b c (line ∷ before) [] left rest p e h g stuck ot
     absurd (other_stuck line (text_of before ++ left) h.0 (sym e ∙ append_assoc (ended line) (text_of before) left) (subst (λ (s : S). next s line h.0) g h.1))
 one_fault {S} next P plain a b c (line ∷ before) (other ∷ others) left rest p e h g stuck other_stuck =
     let same = split line (text_of before ++ left) other (text_of others ++ rest) (plain.free a h.0 line p h.1) (plain.free a g.0 other p g.1)
-      (sym (append_assoc (ended line) (text_of before) left) ∙ e ∙ append_assoc (ended other) (text_of others) rest) in
+    (sym (append_assoc (ended line) (text_of before) left) ∙ e ∙ append_assoc (ended other) (text_of others) rest) in
     let step : h.0 ≡ g.0 = plain.one a h.0 g.0 other p (subst (λ (l : List ℕ). next a l h.0) same.0 h.1) g.1 in
     ap suc (one_fault next P plain g.0 b c before others left rest (plain.keeps a g.0 other p g.1) same.1 (subst (λ (s : S). Follows next s before b) step h.2) g.2 stuck other_stuck)
 

@@ -6,20 +6,17 @@ pub fn schedule_texts_are_plain()
     ensures value { HaveOneSchedule }
     ensures no_fault { HaveNoScheduleFault }
     ensures fault { HaveOneScheduleFault }
-{
-}
+{}
 
 /// A text is that of at most one design; where it is that of one, no line is at fault; and at most one line is.
 pub fn table_texts_are_plain()
     ensures value { HaveOneDesign }
     ensures no_fault { HaveNoTableFault }
     ensures fault { HaveOneTableFault }
-{
-}
+{}
 
 /// A schedule has one text, and a design one with a given first line, which is its version.
 pub fn texts_are_canonical()
     ensures schedule { HaveOneScheduleText }
     ensures table { HaveOneTableText }
-{
-}
+{}
