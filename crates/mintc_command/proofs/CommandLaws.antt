@@ -1,4 +1,4 @@
-use Rattle.std.proofs.Common.{◌≡◌, ℕ, suc, zero, List, [], ◌∷◌, length, get_or, arith, refl, ap, ◌∙◌, sym, codes, String, take, drop, map, ◌-◌, length-drop}
+use Rattle.std.proofs.Common.{◌≡◌, ℕ, List, [], ◌∷◌, length, get_or, arith, ap, ◌∙◌, sym, codes, String, take, drop, ◌-◌, length-drop}
 use Rattle.std.proofs.lemmas.List.{take_all, drop-map}
 use Rattle.std.specs.String.{string_bytes}
 use Rattle.mintc_command.specs.Commands.{Command, check_table, IsCommand, words_of, names_of, bytes_of}

@@ -37,7 +37,9 @@ fn check_table(alloc: Global, table: &[u8], schedule: &[u8]) -> Result<bool, Sto
         return Err(Stop::Refused(Refusal::TooLong { role: Role::Table }));
     }
     if schedule.len() > LONGEST {
-        return Err(Stop::Refused(Refusal::TooLong { role: Role::Schedule }));
+        return Err(Stop::Refused(Refusal::TooLong {
+            role: Role::Schedule,
+        }));
     }
     let flat = match read_table(alloc, table) {
         Ok(flat) => flat,

@@ -9,7 +9,6 @@ mod command;
 mod plain;
 mod program;
 mod reading;
-
 mod status;
 
 pub use program::run;

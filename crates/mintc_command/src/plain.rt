@@ -51,7 +51,11 @@ fn width(schedule: &Schedule, phase: u32) -> i64 {
 
 /// No cycle or one, between a start of phase `i` and the next one of phase `j`.
 fn cycles(schedule: &Schedule, i: u32, j: u32) -> i64 {
-    if crosses(i, j) == 0 { 0 } else { schedule.cycle }
+    if crosses(i, j) == 0 {
+        0
+    } else {
+        schedule.cycle
+    }
 }
 
 /// A delay in femtoseconds as a numerator over the schedule's denominator.
@@ -125,7 +129,11 @@ fn openings(alloc: Global, flat: &Flat, schedule: &Schedule) -> Result<Vec<i64>,
     let mut departures = Vec::new(alloc);
     for element in flat.elements() {
         let opening = element.cq_max.saturating_sub(element.dq_max);
-        departures.push(if element.flop { 0 } else { scaled(opening, schedule) })?;
+        departures.push(if element.flop {
+            0
+        } else {
+            scaled(opening, schedule)
+        })?;
     }
     Ok(departures)
 }

@@ -12,7 +12,8 @@ use mintc_text::{OutOfMemory, Shelf, ShelfError, Sink};
 use std::alloc::Global;
 
 /// What is written where the words are no command.
-const USAGE: &[u8] = b"usage: mintc check|optimise|verify|report|safe|slack table|files|liberty FILE.. | mintc sample N | mintc corners V C K D D..\n";
+const USAGE: &[u8] =
+    b"usage: mintc check|optimise|verify|report|safe|slack table|files|liberty FILE.. | mintc sample N | mintc corners V C K D D..\n";
 
 /// Writes an answer by one call. The status is the answer's, or that the write failed.
 fn write<O: Sink>(out: &mut O, status: Status, text: &[u8]) -> Status
@@ -30,12 +31,7 @@ fn write<O: Sink>(out: &mut O, status: Status, text: &[u8]) -> Status
 
 /// Does what the words ask: reads the files that they name, each once and in their order, and writes the answer by one
 /// call of the sink. Nothing is written before the answer is whole.
-pub fn run<S: Shelf, O: Sink>(
-    alloc: Global,
-    words: &[String],
-    shelf: &mut S,
-    out: &mut O,
-) -> Status
+pub fn run<S: Shelf, O: Sink>(alloc: Global, words: &[String], shelf: &mut S, out: &mut O) -> Status
     ensures usage_only { result ≡ Status.Usage → IsCommand (bytes_of words.now) → ⊥ }
     ensures usage { (IsCommand (bytes_of words.now) → ⊥) → IsOfNoCommand result }
 

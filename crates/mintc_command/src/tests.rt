@@ -4,19 +4,38 @@ use mintc_text::{MemoryShelf, MemorySink, Name, Numbers};
 use std::alloc::Global;
 use std::test::Fail;
 
-const TAB1: &[u8] = b"table 1\nphases 2\nphase phi1\nphase phi2\nelements 2\nelement a 1 10 - 10 10 0\nelement b 2 10 - 10 10 0\ninner 0\narcs 2\narc q0 d1 20 20\narc q1 d0 60 60\nbounds 0\nend\n";
+const TAB1: &[u8] =
+    b"table 1\nphases 2\nphase phi1\nphase phi2\nelements 2\nelement a 1 10 - 10 10 0\nelement b 2 10 - 10 10 0\ninner 0\narcs 2\narc q0 d1 20 20\narc q1 d0 60 60\nbounds 0\nend\n";
+
 const SCH1: &[u8] = b"schedule 1\nden 1\ncycle 100\nphases 2\nphase 0 10\nphase 10 30\nend\n";
+
 const SHORT: &[u8] = b"schedule 1\nden 1\ncycle 99\nphases 2\nphase 0 10\nphase 10 30\nend\n";
+
 const OVERLAP: &[u8] = b"schedule 1\nden 1\ncycle 100\nphases 2\nphase 0 12\nphase 10 25\nend\n";
+
 const ONE: &[u8] = b"schedule 1\nden 1\ncycle 100\nphases 1\nphase 0 50\nend\n";
-const INNER: &[u8] = b"table 1\nphases 2\nphase phi1\nphase phi2\nelements 2\nelement a 1 10 - 10 10 0\nelement b 2 10 - 10 10 0\ninner 1\narcs 3\narc q0 n0 15 15\narc n0 d1 5 5\narc q1 d0 60 60\nbounds 0\nend\n";
-const FLOPS: &[u8] = b"table 2\nphases 1\nphase p\nelements 2\nelement a 1 flop 5 - 10 10 0\nelement b 1 flop 5 - 10 10 0\ninner 0\narcs 2\narc q0 d1 85 85\narc q1 d0 35 35\nbounds 0\nend\n";
+
+const INNER: &[u8] =
+    b"table 1\nphases 2\nphase phi1\nphase phi2\nelements 2\nelement a 1 10 - 10 10 0\nelement b 2 10 - 10 10 0\ninner 1\narcs 3\narc q0 n0 15 15\narc n0 d1 5 5\narc q1 d0 60 60\nbounds 0\nend\n";
+
+const FLOPS: &[u8] =
+    b"table 2\nphases 1\nphase p\nelements 2\nelement a 1 flop 5 - 10 10 0\nelement b 1 flop 5 - 10 10 0\ninner 0\narcs 2\narc q0 d1 85 85\narc q1 d0 35 35\nbounds 0\nend\n";
+
 const FLOPS_SCHEDULE: &[u8] = b"schedule 1\nden 1\ncycle 95\nphases 1\nphase 0 0\nend\n";
-const ENABLE: &[u8] = b"table 3\nphases 2\nphase phi1\nphase phi2\nelements 2\nelement a 1 latch 10 - 10 10 4 4 0\nelement b 2 latch 10 - 10 10 10 10 0\ninner 0\narcs 2\narc q0 d1 20 20\narc q1 d0 60 60\nbounds 0\nend\n";
-const USAGE: &[u8] = b"usage: mintc check|optimise|verify|report|safe|slack table|files|liberty FILE.. | mintc sample N | mintc corners V C K D D..\n";
+
+const ENABLE: &[u8] =
+    b"table 3\nphases 2\nphase phi1\nphase phi2\nelements 2\nelement a 1 latch 10 - 10 10 4 4 0\nelement b 2 latch 10 - 10 10 10 10 0\ninner 0\narcs 2\narc q0 d1 20 20\narc q1 d0 60 60\nbounds 0\nend\n";
+
+const USAGE: &[u8] =
+    b"usage: mintc check|optimise|verify|report|safe|slack table|files|liberty FILE.. | mintc sample N | mintc corners V C K D D..\n";
 
 /// Appends a file to a shelf's list.
-fn put(alloc: Global, files: &mut Vec<(Name, Vec<u8>)>, name: &[u8], bytes: &[u8]) -> Result<(), Fail> {
+fn put(
+    alloc: Global,
+    files: &mut Vec<(Name, Vec<u8>)>,
+    name: &[u8],
+    bytes: &[u8],
+) -> Result<(), Fail> {
     let bytes = Vec::from_slice(alloc, bytes)?;
     files.push((Name::new(alloc, name)?, bytes))?;
     Ok(())
@@ -65,13 +84,37 @@ fn worked_rows(rt: HostRuntime) -> Result<(), Fail> {
     let rows: [(&str, Status, &[u8]); 14] = [
         ("check table TAB1 SCH1", Status::Done, b"pass\n"),
         ("check table TAB1 short.schedule", Status::Found, b"fail\n"),
-        ("check table TAB1 overlap.schedule", Status::Found, b"fail\n"),
-        ("check table flops.table flops.schedule", Status::Found, b"fail\n"),
+        (
+            "check table TAB1 overlap.schedule",
+            Status::Found,
+            b"fail\n",
+        ),
+        (
+            "check table flops.table flops.schedule",
+            Status::Found,
+            b"fail\n",
+        ),
         ("check table enable.table SCH1", Status::Done, b"pass\n"),
-        ("check table TAB1 one.schedule", Status::Refused, b"refused 19 2 1\n"),
-        ("check table TAB1 empty.schedule", Status::Refused, b"refused 1 schedule 1\n"),
-        ("check table cut.table SCH1", Status::Refused, b"refused 1 table 6\n"),
-        ("check table inner.table SCH1", Status::Refused, b"refused 20 table 0\n"),
+        (
+            "check table TAB1 one.schedule",
+            Status::Refused,
+            b"refused 19 2 1\n",
+        ),
+        (
+            "check table TAB1 empty.schedule",
+            Status::Refused,
+            b"refused 1 schedule 1\n",
+        ),
+        (
+            "check table cut.table SCH1",
+            Status::Refused,
+            b"refused 1 table 6\n",
+        ),
+        (
+            "check table inner.table SCH1",
+            Status::Refused,
+            b"refused 20 table 0\n",
+        ),
         ("check table absent.table SCH1", Status::ReadFault, b""),
         ("check table TAB1", Status::Usage, USAGE),
         ("sample 07", Status::Usage, USAGE),

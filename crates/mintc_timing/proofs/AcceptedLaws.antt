@@ -1,11 +1,10 @@
-use Rattle.std.proofs.Common.{◌≡◌, ℕ, ◌<◌, ◌≤◌, List, [], ◌∷◌, length, get_or, arith, refl, ap, ◌∙◌, sym}
+use Rattle.std.proofs.Common.{◌≡◌, ℕ, ◌<◌, List, [], ◌∷◌, length, get_or, arith, refl, ap, ◌∙◌, sym}
 use Rattle.std.proofs.lemmas.List.{get_or_default}
-use Rattle.std.specs.List.{Contains}
 use Rattle.mintc_timing.specs.declared.parts.TimingArc.{TimingArc}
 use Rattle.mintc_timing.specs.declared.parts.Pair.{Pair}
 use Rattle.mintc_timing.specs.Paths.{Leads, arc_at}
 use Rattle.mintc_timing.specs.Order.{IsOrder}
-use Rattle.mintc_timing.specs.Accepted.{IsArcLoop, SystemsAreAccepted}
+use Rattle.mintc_timing.specs.Accepted.{SystemsAreAccepted}
 use Rattle.mintc_timing.proofs.PairLaws.{pairs_are_determined_lem}
 
 module _ (arcs : List TimingArc) (order : List ℕ) (is_order : IsOrder arcs order) where

@@ -1,9 +1,7 @@
-use Rattle.std.proofs.Common.{◌≡◌, ℕ, ℤ, pos, ◌≤ℤ◌, ◌+ℤ◌, ◌-ℤ◌, ◌*ℤ◌, Bool, true, false, cond, IsTrue, List, ◌++◌, arith, refl, ap, ◌∙◌, sym, Option, Some, None, IfSome, option_map, MatchBool, ◌↔◌, ◌⊎◌, inl, inr}
+use Rattle.std.proofs.Common.{ℤ, pos, ◌≤ℤ◌, ◌+ℤ◌, ◌-ℤ◌, ◌*ℤ◌, Bool, true, false, cond, IsTrue, List, ◌++◌, arith, refl, ap, ◌∙◌, sym, Option, Some, None, IfSome, option_map, MatchBool, ◌↔◌, inl, inr}
 use Rattle.std.proofs.lemmas.Int.{ints}
 use Rattle.std.specs.Int.{int_max}
-use Rattle.mintc_timing.specs.declared.clocking.Schedule.{Schedule}
-use Rattle.mintc_timing.specs.declared.violation.Violation.{Violation}
-use Rattle.mintc_timing.specs.Design.{Timing, element_at, phase_of}
+use Rattle.mintc_timing.specs.Design.{element_at, phase_of}
 use Rattle.mintc_timing.specs.Clocking.{width_of}
 use Rattle.mintc_timing.specs.Extremes.{greatest_of, least_of}
 use Rattle.mintc_timing.specs.Departures.{departure, late_arrivals, early_arrivals}

@@ -1,15 +1,14 @@
-use Rattle.std.proofs.Common.{◌≡◌, ◌≢◌, ℕ, zero, suc, ◌<◌, ◌≤◌, ◌+◌, ℤ, pos, ◌≤ℤ◌, ◌<ℤ◌, ◌+ℤ◌, ◌*ℤ◌, List, [], ◌∷◌, ◌++◌, length, get_or, arith, refl, ap, ◌∙◌, sym, ◌⊎◌, inl, inr}
+use Rattle.std.proofs.Common.{◌≡◌, ◌≢◌, ℕ, ◌<◌, ℤ, pos, ◌≤ℤ◌, ◌+ℤ◌, ◌*ℤ◌, List, [], ◌∷◌, ◌++◌, length, arith, refl, ◌∙◌, sym}
 use Rattle.std.proofs.Math.IntN.{zero-*ℤ}
 use Rattle.std.proofs.lemmas.Int.{ints}
 use Rattle.std.proofs.lemmas.List.{same_lists, get_or_default}
 use Rattle.mintc_timing.specs.declared.parts.TimingArc.{TimingArc}
-use Rattle.mintc_timing.specs.declared.clocking.Schedule.{Schedule}
-use Rattle.mintc_timing.specs.Design.{Timing, element_count}
+use Rattle.mintc_timing.specs.Design.{element_count}
 use Rattle.mintc_timing.specs.Closed.{total}
 use Rattle.mintc_timing.specs.Links.{delay_of}
-use Rattle.mintc_timing.specs.Paths.{arc_at, Leads, IsPath, greatest_delay, least_delay}
-use Rattle.mintc_timing.specs.Departures.{AreLate, AreEarly, departure}
-use Rattle.mintc_timing.specs.Laws.{LateAreDetermined, EarlyAreDetermined, Joined, PathsJoin, LeastCycleIsDetermined, LeastCycleIsNoHopelessness, ForbidsAll}
+use Rattle.mintc_timing.specs.Paths.{arc_at, Leads}
+use Rattle.mintc_timing.specs.Departures.{departure}
+use Rattle.mintc_timing.specs.Laws.{LateAreDetermined, EarlyAreDetermined, PathsJoin, LeastCycleIsDetermined, LeastCycleIsNoHopelessness, ForbidsAll}
 use Rattle.mintc_timing.proofs.LeastLaws.{AreLate-unique, IsLeastCycle-unique}
 use Rattle.mintc_timing.proofs.Products.{times-mono_positive}
 

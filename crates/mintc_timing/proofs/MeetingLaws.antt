@@ -1,6 +1,5 @@
-use Rattle.std.proofs.Common.{◌≡◌, ℕ, suc, zero, ◌<◌, ◌≤◌, ◌+◌, ◌-◌, ℤ, pos, ◌≤ℤ◌, ◌<ℤ◌, ◌*ℤ◌, Bool, true, false, not, cond, IsTrue, List, [], ◌∷◌, ◌++◌, length, get_or, map, filter, flat_map, arith, refl, ap, ◌∙◌, sym, zero-add}
+use Rattle.std.proofs.Common.{◌≡◌, ℕ, ◌<◌, ◌≤◌, ◌+◌, ◌-◌, ℤ, ◌≤ℤ◌, ◌*ℤ◌, Bool, true, false, not, cond, List, [], ◌∷◌, ◌++◌, length, get_or, map, filter, flat_map, arith, refl}
 use Rattle.std.proofs.lemmas.Int.{ints}
-use Rattle.std.proofs.lemmas.List.{get_or_default}
 use Rattle.std.proofs.lemmas.List.FromFn.{get_or-range_with_len, length-range_with_len, get_or-enumerate_from, length-enumerate_from}
 use Rattle.std.proofs.lemmas.List.Elements.{All-nil, All-cons, All-head, All-tail, All-append, All-map, All-contains}
 use Rattle.std.specs.List.{All, Contains, range_with_len, enumerate_from}
@@ -14,7 +13,7 @@ use Rattle.mintc_timing.specs.Limits.{IsPhase, IsDesign}
 use Rattle.mintc_timing.specs.Paths.{ArePairs, greatest_delay}
 use Rattle.mintc_timing.specs.Right.{IsRight}
 use Rattle.mintc_timing.specs.Times.{Meets}
-use Rattle.mintc_timing.specs.Links.{links_of, start_link, cycle_link, order_link, span_link, width_link, apart_link, open_link, opened_link, reach_link, setup_link, bound_link, latches_of, IsChain, Forbids, delay_of, cycles_of}
+use Rattle.mintc_timing.specs.Links.{links_of, start_link, cycle_link, order_link, span_link, width_link, apart_link, open_link, opened_link, reach_link, setup_link, bound_link, latches_of, delay_of, cycles_of}
 use Rattle.mintc_timing.specs.Violations.{phases_of, elements_of}
 use Rattle.mintc_timing.specs.Laws.{RightMeetsLinks, NoChainForbidsRight}
 use Rattle.mintc_timing.proofs.Feeding.{latch_of}

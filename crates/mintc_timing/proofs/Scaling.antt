@@ -1,23 +1,21 @@
-use Rattle.std.proofs.Common.{◌≡◌, ℕ, ◌<◌, ◌≤◌, ◌+◌, ◌-◌, ◌==◌, ℤ, pos, ◌≤ℤ◌, ◌+ℤ◌, ◌-ℤ◌, ◌*ℤ◌, neg_ℤ, Bool, true, false, cond, IsTrue, List, [], ◌∷◌, length, get_or, map, filter, arith, refl, ap, ◌∙◌, sym, Option, Some, None, IfSome, option_map, MatchBool}
+use Rattle.std.proofs.Common.{◌≡◌, ℕ, ◌+◌, ◌-◌, ℤ, pos, ◌≤ℤ◌, ◌+ℤ◌, ◌-ℤ◌, ◌*ℤ◌, Bool, true, false, cond, List, [], ◌∷◌, get_or, map, arith, refl, ap, ◌∙◌, sym, Option, Some, None, IfSome, option_map, MatchBool}
 use Rattle.std.proofs.Math.IntN.{*ℤ_comm, zero-*ℤ}
 use Rattle.std.proofs.lemmas.Int.{ints, clamps, by_lt_z}
 use Rattle.std.proofs.lemmas.List.{length-map}
 use Rattle.std.proofs.Math.ListN.{get_or-map}
 use Rattle.std.specs.Int.{int_max}
-use Rattle.std.specs.List.{All}
 use Rattle.mintc_timing.specs.declared.parts.Pair.{Pair}
 use Rattle.mintc_timing.specs.declared.parts.Point.{Point}
 use Rattle.mintc_timing.specs.declared.parts.Point.TheVariants as point
 use Rattle.mintc_timing.specs.declared.parts.Bound.{Bound}
 use Rattle.mintc_timing.specs.declared.clocking.Schedule.{Schedule}
-use Rattle.mintc_timing.specs.Design.{Timing, phase_count, element_count, element_at, phase_of}
+use Rattle.mintc_timing.specs.Design.{Timing, element_at, phase_of}
 use Rattle.mintc_timing.specs.Extremes.{greater_of, greatest_of}
-use Rattle.mintc_timing.specs.Clocking.{start_of, width_of, end_of, shift_of, crosses_of, time_of, least_width, feeds_of, EachPhase, KeepsApart, KeepsPhase, KeepsClock, KeepsBound}
+use Rattle.mintc_timing.specs.Clocking.{start_of, width_of, end_of, shift_of, crosses_of, time_of, least_width, KeepsApart, KeepsPhase, KeepsClock, KeepsBound}
 use Rattle.mintc_timing.specs.Departures.{departure, into, late_arrival, late_arrivals, late_opening, late_departure, AreExact}
 use Rattle.mintc_timing.specs.Right.{KeepsSetup, IsRight}
 use Rattle.mintc_timing.specs.Laws.{times, times_schedule, RightAtEachDenominator}
-use Rattle.mintc_timing.proofs.Products.{add-times, neg-times, swap-times, times-mono_positive}
-use Rattle.mintc_timing.proofs.SetupLaws.{KeepsSetup-latch}
+use Rattle.mintc_timing.proofs.Products.{add-times, swap-times, times-mono_positive}
 
 -- a product of a product, and of a difference
 times_assoc : (x y z : ℤ) → x *ℤ (y *ℤ z) ≡ (x *ℤ y) *ℤ z

@@ -1,4 +1,4 @@
-use Rattle.std.proofs.Common.{◌≡◌, ◌≢◌, ◌⊎◌, ℕ, zero, suc, ◌<◌, ◌≤◌, ◌+◌, ◌*◌, List, [], ◌∷◌, ◌++◌, length, take, length-append, All, refl, ap, ◌∙◌, sym, subst, arith, inl, inr}
+use Rattle.std.proofs.Common.{◌≡◌, ◌≢◌, ℕ, zero, suc, ◌<◌, ◌≤◌, ◌+◌, ◌*◌, List, [], ◌∷◌, length, length-append, All, refl, ap, ◌∙◌, sym, subst, arith, inl, inr}
 use Rattle.std.proofs.lemmas.List.{take_all}
 use Rattle.std.proofs.lemmas.List.Elements.{All-push, All-nil}
 use Rattle.mintc_text.specs.declared.refusals.Refusal.{Refusal}
@@ -12,7 +12,7 @@ use Rattle.mintc_timing.specs.declared.table_text.Parts.{Parts}
 use Rattle.mintc_timing.specs.Design.{Design, design_of}
 use Rattle.mintc_timing.specs.Limits.{IsElement, IsArc, IsBound, HasParts, limit_of, over_limit, quantities}
 use Rattle.mintc_timing.specs.TableReading.{AreKept, ArePartsOf}
-use Rattle.mintc_timing.specs.TableText.{NextOfTable, IsWholeTable, IsTableText, IsTableFault, TableLines, first, phases, phase, element, arcs, arc, bound, whole, empty, inner_names, IsFromWord, IsToWord, IsArcLine}
+use Rattle.mintc_timing.specs.TableText.{NextOfTable, IsTableText, TableLines, first, phases, phase, element, arcs, arc, bound, whole, inner_names, IsFromWord, IsToWord, IsArcLine}
 use Rattle.mintc_timing.proofs.TableReading.{length-inner_names}
 use Rattle.mintc_timing.proofs.TextLaws.{along}
 

@@ -1,4 +1,4 @@
-use Rattle.std.proofs.Common.{◌≡◌, ◌⊎◌, ℕ, zero, suc, ℤ, pos, negsuc, ◌≤ℤ◌, ◌<◌, ◌≤◌, ◌+◌, ◌-◌, ◌*◌, ◌^◌, ◌&&◌, Bool, true, false, Result, Ok, Err, MatchResult, List, [], ◌∷◌, ◌++◌, length, take, refl, ap, ◌∙◌, sym, subst, arith, codes, decimal, inl, inr, length-append}
+use Rattle.std.proofs.Common.{◌≡◌, ℕ, zero, suc, ℤ, pos, negsuc, ◌<◌, ◌≤◌, ◌+◌, ◌-◌, ◌^◌, Bool, true, false, Result, Ok, Err, MatchResult, List, [], ◌∷◌, ◌++◌, length, take, refl, ap, ◌∙◌, sym, subst, arith, codes, inl, inr, length-append}
 use Rattle.std.proofs.lemmas.Int.{ints}
 use Rattle.std.proofs.lemmas.List.FromFn.{length-map-range_with_len}
 use Rattle.mintc_text.specs.Lines.{numeral_of}
@@ -10,13 +10,13 @@ use Rattle.mintc_timing.specs.declared.parts.Point.TheVariants.{Origin, Start, E
 use Rattle.mintc_timing.specs.declared.table_lines.Version.{Version}
 use Rattle.mintc_timing.specs.declared.table_lines.Version.TheVariants.{Latches, Flops, Openings}
 use Rattle.mintc_timing.specs.Design.{Design, design_of}
-use Rattle.mintc_timing.specs.Fields.{plain, plain_line, number, IsCount, Spells, IsWordLine, IsCountLine, IsNameLine}
+use Rattle.mintc_timing.specs.Fields.{plain, plain_line, number, IsCount, Spells, IsWordLine, IsCountLine}
 use Rattle.mintc_timing.specs.Limits.{IsDelay, IsGap, IsPoint}
 use Rattle.mintc_timing.specs.Reading.{Reading, HasRead, HasNone, IsAt, number_after}
 use Rattle.mintc_timing.specs.declared.table_text.Halt.{Halt}
 use Rattle.mintc_timing.specs.TableReading.{AreKept, Halts}
-use Rattle.mintc_timing.specs.TableText.{NextOfTable, IsWholeTable, IsTableText, IsTableFault, TableLines, first, phases, phase, element, arcs, arc, bound, whole, empty, version_of, inner_names, kind_word, hold_word, with_kind, with_openings, element_words, IsElementLine, IsFromWord, IsToWord, IsArcLine, IsBoundLine, point_word}
-use Rattle.mintc_timing.proofs.FieldsLaws.{and_both, plain-numeral, plain-number, plain-from_graphic, short}
+use Rattle.mintc_timing.specs.TableText.{NextOfTable, IsWholeTable, IsTableText, IsTableFault, TableLines, first, phases, phase, element, arcs, arc, bound, whole, empty, version_of, inner_names, kind_word, hold_word, element_words, IsElementLine, IsFromWord, IsToWord, IsArcLine, IsBoundLine, point_word}
+use Rattle.mintc_timing.proofs.FieldsLaws.{plain-numeral, plain-number, plain-from_graphic, short}
 use Rattle.mintc_timing.proofs.ReadingLaws.{at_more, at_fault, at_end, at_past}
 
 -- ---- words that can be seen

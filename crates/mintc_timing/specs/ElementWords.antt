@@ -1,4 +1,4 @@
-use Rattle.std.specs.Prelude.{◌≡◌, ℕ, ℤ, pos, Bool, true, IsTrue, IsFalse, List, ◌∷◌}
+use Rattle.std.specs.Prelude.{◌≡◌, ℕ, ℤ, pos, Bool, true, IsTrue, IsFalse, List}
 use Rattle.mintc_timing.specs.declared.parts.Element.{Element}
 use Rattle.mintc_timing.specs.declared.table_lines.ElementNumbers.{ElementNumbers}
 use Rattle.mintc_timing.specs.declared.table_lines.Version.{Version}

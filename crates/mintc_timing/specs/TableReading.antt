@@ -1,4 +1,4 @@
-use Rattle.std.specs.Prelude.{◌≡◌, ℕ, List, length, take, Vec}
+use Rattle.std.specs.Prelude.{◌≡◌, ℕ, List, length, take}
 use Rattle.mintc_timing.specs.declared.table_text.Halt.{Halt}
 use Rattle.mintc_timing.specs.declared.table_text.Halt.TheVariants.{Form, Memory}
 use Rattle.mintc_timing.specs.declared.table_text.Parts.{Parts}

@@ -1,5 +1,4 @@
-use Rattle.std.proofs.Common.{◌≡◌, ap, ◌∙◌, sym, refl, inl, inr, Err}
-use Rattle.mintc_command.specs.declared.status.Status.{Status}
+use Rattle.std.proofs.Common.{◌≡◌, ap, ◌∙◌, sym, inl, inr, Err}
 use Rattle.mintc_command.specs.declared.status.Status.TheVariants.{Usage, WriteFault}
 use Rattle.mintc_command.proofs.CommandLaws.{names_of-rest}
 use Rattle.mintc_command.proofs.program.run.Goals as goal

@@ -1,5 +1,4 @@
-use Rattle.std.proofs.Common.{◌≡◌, ◌∷◌, []}
-use Rattle.mintc_text.specs.Lines.{numeral_of}
+use Rattle.std.proofs.Common.{◌∷◌, []}
 use Rattle.mintc_timing.specs.Fields.{number}
 use Rattle.mintc_timing.proofs.ReadingLaws.{at_none}
 use Rattle.mintc_timing.proofs.table_lines.bound_of.Goals as goal

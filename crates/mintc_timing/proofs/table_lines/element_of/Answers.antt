@@ -1,10 +1,7 @@
-use Rattle.std.proofs.Common.{◌≡◌, ◌∷◌, [], ℤ, arith, sym, ◌∙◌}
-use Rattle.std.proofs.lemmas.Int.{ints}
+use Rattle.std.proofs.Common.{◌≡◌, ◌∷◌, [], sym, ◌∙◌}
 use Rattle.mintc_text.specs.Lines.{numeral_of}
 use Rattle.mintc_timing.specs.declared.table_lines.ElementNumbers.{ElementNumbers}
 use Rattle.mintc_timing.specs.Fields.{AreDelays}
-use Rattle.mintc_timing.specs.TableText.{with_openings, element_words}
-use Rattle.mintc_timing.specs.ElementWords.{named}
 use Rattle.mintc_timing.proofs.Fitting.{read_time, IsTime-IsDelay, IsTime-IsGap}
 use Rattle.mintc_timing.proofs.ReadingLaws.{at_none}
 use Rattle.mintc_timing.proofs.TableLineLaws.{element_phase, element_kind, element_made, element_spelled, opening_of, openings_same, same_delays, after_setup, after_hold, after_dq}

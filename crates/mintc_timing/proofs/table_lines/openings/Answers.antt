@@ -1,4 +1,4 @@
-use Rattle.std.proofs.Common.{◌≡◌, ◌∷◌, ℤ, true, false, refl, sym, ◌∙◌, int_eq}
+use Rattle.std.proofs.Common.{◌≡◌, ◌∷◌, ℤ, true, refl, sym, ◌∙◌, int_eq}
 use Rattle.std.proofs.lemmas.Bool.Decides.{Decides-int_eq}
 use Rattle.mintc_text.specs.Lines.{numeral_of}
 use Rattle.mintc_timing.specs.ElementWords.{are_equal}

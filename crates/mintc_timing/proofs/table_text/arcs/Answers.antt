@@ -1,9 +1,7 @@
-use Rattle.std.proofs.Common.{◌≡◌, ℕ, List, [], ◌∷◌, length, arith, codes, subst, sym, ap, refl, take, ◌++◌}
-use Rattle.mintc_timing.specs.declared.parts.Element.{Element}
+use Rattle.std.proofs.Common.{ℕ, [], length, arith, codes, subst, sym, refl}
 use Rattle.mintc_timing.specs.Design.{design_of}
-use Rattle.mintc_timing.specs.ElementWords.{named}
-use Rattle.mintc_timing.specs.Fields.{Spells, IsCountLine, IsNameLine}
-use Rattle.mintc_timing.specs.TableText.{phases, phase, element, arcs, arc, bound, empty, IsElementLine, IsArcLine, IsBoundLine}
+use Rattle.mintc_timing.specs.Fields.{Spells, IsCountLine}
+use Rattle.mintc_timing.specs.TableText.{arcs, IsArcLine}
 use Rattle.mintc_timing.proofs.TableReading.{fault, arcs_read, so_far_more, so_far_fault, so_far_all, arc_states}
 use Rattle.mintc_timing.proofs.table_text.arcs.Goals as goal
 

@@ -1,7 +1,7 @@
 use Rattle.std.proofs.Common.{◌≡◌, ℕ, List, [], length}
 use Rattle.mintc_timing.specs.declared.parts.Element.{Element}
 use Rattle.mintc_timing.specs.Design.{design_of}
-use Rattle.mintc_timing.specs.TableText.{phase, element, arc, bound, empty}
+use Rattle.mintc_timing.specs.TableText.{arc}
 use Rattle.mintc_timing.proofs.TableReading.{At, SoFar, arc_states}
 use Rattle.mintc_timing.proofs.table_text.arcs.Given as goal
 

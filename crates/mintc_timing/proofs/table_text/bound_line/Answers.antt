@@ -1,5 +1,3 @@
-use Rattle.std.proofs.Common.{arith}
-use Rattle.mintc_timing.specs.ElementWords.{named}
 use Rattle.mintc_timing.specs.TableText.{IsBoundLine}
 use Rattle.mintc_timing.proofs.ReadingLaws.{at_none, none_there, read_there}
 use Rattle.mintc_timing.proofs.TableReading.{plain-bound_line}

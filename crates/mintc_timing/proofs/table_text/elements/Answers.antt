@@ -1,9 +1,9 @@
-use Rattle.std.proofs.Common.{◌≡◌, ℕ, List, [], ◌∷◌, length, arith, codes, subst, sym, ap, refl, take, ◌++◌}
+use Rattle.std.proofs.Common.{◌≡◌, ℕ, List, [], ◌∷◌, arith, codes, subst, sym, refl, take, ◌++◌}
 use Rattle.mintc_timing.specs.declared.parts.Element.{Element}
 use Rattle.mintc_timing.specs.Design.{design_of}
 use Rattle.mintc_timing.specs.ElementWords.{named}
-use Rattle.mintc_timing.specs.Fields.{Spells, IsCountLine, IsNameLine}
-use Rattle.mintc_timing.specs.TableText.{phases, phase, element, arcs, arc, bound, empty, IsElementLine, IsArcLine, IsBoundLine}
+use Rattle.mintc_timing.specs.Fields.{Spells, IsCountLine}
+use Rattle.mintc_timing.specs.TableText.{phase, IsElementLine}
 use Rattle.mintc_timing.proofs.TableReading.{fault, elements_read, so_far_more, so_far_fault, so_far_all, element_states}
 use Rattle.mintc_timing.proofs.table_text.elements.Goals as goal
 

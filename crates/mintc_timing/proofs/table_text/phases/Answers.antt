@@ -1,9 +1,6 @@
-use Rattle.std.proofs.Common.{◌≡◌, ℕ, List, [], ◌∷◌, length, arith, codes, subst, sym, ap, refl, take, ◌++◌}
-use Rattle.mintc_timing.specs.declared.table_lines.Version.{Version}
-use Rattle.mintc_timing.specs.Design.{design_of}
-use Rattle.mintc_timing.specs.ElementWords.{named}
-use Rattle.mintc_timing.specs.Fields.{Spells, IsCountLine, IsNameLine}
-use Rattle.mintc_timing.specs.TableText.{phases, phase, element, arcs, arc, bound, empty, IsElementLine, IsArcLine, IsBoundLine}
+use Rattle.std.proofs.Common.{◌≡◌, ℕ, List, [], ◌∷◌, arith, codes, subst, refl, take, ◌++◌}
+use Rattle.mintc_timing.specs.Fields.{IsCountLine, IsNameLine}
+use Rattle.mintc_timing.specs.TableText.{phases}
 use Rattle.mintc_timing.proofs.TableReading.{fault, phases_read, so_far_more, so_far_fault, so_far_all, phase_states}
 use Rattle.mintc_timing.proofs.table_text.phases.Goals as goal
 

@@ -1,7 +1,6 @@
-use Rattle.std.proofs.Common.{◌≡◌, ℕ, List, [], length}
+use Rattle.std.proofs.Common.{ℕ, List}
 use Rattle.mintc_timing.specs.declared.table_lines.Version.{Version}
-use Rattle.mintc_timing.specs.Design.{design_of}
-use Rattle.mintc_timing.specs.TableText.{phase, element, arc, bound, empty}
+use Rattle.mintc_timing.specs.TableText.{phase, empty}
 use Rattle.mintc_timing.proofs.TableReading.{At, SoFar, phase_states}
 use Rattle.mintc_timing.proofs.table_text.phases.Given as goal
 

@@ -1,6 +1,5 @@
-use Rattle.std.proofs.Common.{◌≡◌, ℕ, List, Some, ◌∙◌, sym, ap, subst, refl, inl, inr}
+use Rattle.std.proofs.Common.{◌≡◌, Some, sym, subst, refl, inl, inr}
 use Rattle.std.proofs.lemmas.Result.{IfOk-weaker, MatchResult-weaker}
-use Rattle.mintc_text.specs.declared.refusals.Refusal.{Refusal}
 use Rattle.mintc_timing.specs.Design.{Design}
 use Rattle.mintc_timing.specs.Limits.{limit_of}
 use Rattle.mintc_timing.specs.TableReading.{ArePartsOf, Halts}

@@ -1,5 +1,4 @@
-use Rattle.std.proofs.Common.{codes, ◌∙◌, sym, [], ap, refl}
-use Rattle.std.proofs.lemmas.List.FromFn.{length-map-range_with_len}
+use Rattle.std.proofs.Common.{codes, refl}
 use Rattle.std.proofs.lemmas.Result.{err_from_is_err_and}
 use Rattle.mintc_timing.specs.Design.{design_of}
 use Rattle.mintc_timing.specs.Fields.{IsWordLine}
