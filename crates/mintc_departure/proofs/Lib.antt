@@ -1,0 +1,5 @@
+pub mod Sizes
+pub mod NetworkLaws
+pub mod LoopLaws
+pub mod SettledLaws
+pub mod Filling
