@@ -12,3 +12,14 @@ filled-more f xs ys n y e h is before =
 -- a write to the values leaves the rest of the room
 pub kept-values : (old now new : Space) (xs : List ℤ) → new ≡ record now { values = xs } → now ≡ record old { values = now.values } → new ≡ record old { values = new.values }
 kept-values old now new xs e h = e ∙ ap (λ (r : Space). record r { values = xs }) h ∙ ap (λ (ys : List ℤ). record old { values = ys }) (sym (ap (λ (r : Space). r.values) e))
+
+-- so does one to the early departures
+pub kept-early : (old now new : Space) (xs : List ℤ) → new ≡ record now { early = xs } → now ≡ record old { early = now.early } → new ≡ record old { early = new.early }
+kept-early old now new xs e h = e ∙ ap (λ (r : Space). record r { early = xs }) h ∙ ap (λ (ys : List ℤ). record old { early = ys }) (sym (ap (λ (r : Space). r.early) e))
+
+-- and both in turn
+pub kept-round : (old now mid new : Space) → mid ≡ record now { values = mid.values } → new ≡ record mid { early = new.early } →
+    now ≡ record old { early = now.early; values = now.values } → new ≡ record old { early = new.early; values = new.values }
+kept-round old now mid new e f h =
+    f ∙ ap (λ (r : Space). record r { early = new.early }) (e ∙ ap (λ (r : Space). record r { values = mid.values }) h)
+    ∙ ap (λ (xs : List ℤ). record old { early = new.early; values = xs }) (sym (ap (λ (r : Space). r.values) f))

@@ -3,3 +3,8 @@ pub mod NetworkLaws
 pub mod LoopLaws
 pub mod SettledLaws
 pub mod Filling
+pub mod Ladders
+pub mod LateSizes
+pub mod Lesser
+pub mod EarlyLaws
+pub mod Missing

@@ -113,12 +113,6 @@ module _ (t : Timing) (s : Schedule) (design : IsDesign t.flat) (timing : IsTimi
       rw (arc_is t s n h) (from, ends.to, wide)
 
   module _ (starts : List ℤ) (count : length starts ≡ element_count t) (each : (l : ℕ) → l < element_count t → value_at starts l ≡ late_start_of t s l) where
-    pub starts-bounded : AreBounded 100000000000000 starts
-    starts-bounded v h =
-        let h' : v < element_count t = rw count at h in
-        let w = start-within t s design timing range phases v h' in
-        rw (each v h') (let a = w.0 in let b = w.1 in (omega (arith, ints), λ r. w))
-
     pub starts-ordinary : AreBounded (2 ^ 80) starts
     starts-ordinary v h =
         let h' : v < element_count t = rw count at h in
@@ -195,13 +189,3 @@ module _ (t : Timing) (s : Schedule) (design : IsDesign t.flat) (timing : IsTimi
             (λ u start. let k : u < element_count t = rw count at start.0 in rw (each u k) (exact-starts t s d exact timing.extremes.each u k))
             l (rw count h) (reached l h);
       }
-
-      pub greatest-within : (l : ℕ) → l < element_count t → IsWithin 900100000000000000 (value_at values l)
-      greatest-within l h =
-          let weights : (n : ℕ) → n < length (arcs_of t s) → IsWithin 400000000000000 (arc_at (arcs_of t s) n).weight =
-          λ n k. let k' : n < length t.pairs = rw (arcs-count t s) at k in rw (arc_is t s n k') (weight-within t s design timing range phases n k') in
-          let b = g.bounded 100000000000000 400000000000000 starts-bounded weights l (rw count h) (reached l h) in
-          let few = design.elements in
-          let b0 = b.0 in
-          let b1 = b.1 in
-          (omega (arith, ints), omega (arith, ints))

@@ -13,7 +13,8 @@ use Rattle.mintc_timing.specs.Order.{IsTiming}
 use Rattle.mintc_timing.specs.Violations.{HasLoop}
 use Rattle.mintc_departure.specs.Networks.{late_start_of, arcs_of}
 use Rattle.mintc_departure.specs.Settled.{IsSum}
-use Rattle.mintc_departure.proofs.NetworkLaws.{exact-meets, greatest-late, greatest-within}
+use Rattle.mintc_departure.proofs.NetworkLaws.{exact-meets, greatest-late}
+use Rattle.mintc_departure.proofs.LateSizes.{late-within}
 use Rattle.mintc_departure.proofs.LoopLaws.{loop-from_chain}
 
 -- with no element there is nothing to settle
@@ -29,7 +30,7 @@ none-late t s d none empty = (
 module _ (t : Timing) (s : Schedule) (design : IsDesign t.flat) (timing : IsTiming t.flat t.order t.pairs) (range : IsInRange s) (phases : length s.starts ≡ phase_count t) (starts : List ℤ) (count : length starts ≡ element_count t) (each : (l : ℕ) → l < element_count t → value_at starts l ≡ late_start_of t s l) where
   pub sums : (values : List ℤ) → length values ≡ length starts → HasGreatest (arcs_of t s) starts values → (l : ℕ) → l < length values → IsSum (value_at values l)
   sums values same g l h =
-      let w = greatest-within t s design timing range phases starts count each values same g l (rw (same, count) at h) in
+      let w = late-within t s design timing range phases values (greatest-late t s design timing range phases starts count each values same g) l (rw (same, count) at h) in
       (omega (arith, ints), omega (arith, ints))
 
   pub settled-from_greatest : (values late : List ℤ) → length values ≡ length starts → HasGreatest (arcs_of t s) starts values → late ≡ values → AreLate t s late × All IsSum late

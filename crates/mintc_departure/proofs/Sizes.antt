@@ -1,15 +1,17 @@
-use Rattle.std.proofs.Common.{◌≡◌, ℕ, zero, suc, ◌-◌, ◌*◌, ◌<◌, ◌≤◌, ℤ, pos, negsuc, ◌+ℤ◌, ◌-ℤ◌, ◌*ℤ◌, length, arith, ◌⊎◌, inl, inr, ⊎_elim}
+use Rattle.std.proofs.Common.{◌≡◌, ℕ, zero, suc, ◌-◌, ◌*◌, ◌<◌, ◌≤◌, ℤ, pos, negsuc, ◌+ℤ◌, ◌-ℤ◌, ◌*ℤ◌, ◌≤ℤ◌, List, [], ◌∷◌, length, get_or, arith, ◌⊎◌, inl, inr, ⊎_elim}
 use Rattle.std.proofs.lemmas.Int.{ints, unsigned_abs-mul}
 use Rattle.std.proofs.lemmas.Bool.{cases_Bool}
 use Rattle.std.specs.Int.RustNames.{unsigned_abs}
 use Rattle.mintc_walks.specs.Bounds.{IsWithin}
 use Rattle.mintc_timing.specs.declared.clocking.Schedule.{Schedule}
-use Rattle.mintc_timing.specs.Design.{Timing, element_at, element_count, pair_at, phase_count, no_element, no_pair}
+use Rattle.mintc_timing.specs.declared.parts.Pair.{Pair}
+use Rattle.mintc_timing.specs.declared.parts.TimingArc.{TimingArc}
+use Rattle.mintc_timing.specs.Design.{Design, Timing, element_at, element_count, pair_at, phase_count, no_element, no_pair, no_arc}
 use Rattle.mintc_timing.specs.Clocking.{start_of, shift_of}
 use Rattle.mintc_timing.specs.Departures.{late_opening}
 use Rattle.mintc_timing.specs.Limits.{IsDesign, IsElement, IsInRange, IsPhase, IsNumerator, IsDenominator, IsDelay}
 use Rattle.mintc_timing.specs.Order.{IsTiming}
-use Rattle.mintc_timing.specs.Paths.{HasExtremes}
+use Rattle.mintc_timing.specs.Paths.{HasExtremes, Leads, arc_at, greatest_delay, least_delay}
 use Rattle.mintc_timing.proofs.Ranges.{pair-max_range}
 use Rattle.mintc_timing.proofs.Shifts.{shift-below, shift-not_below}
 use Rattle.mintc_departure.specs.Networks.{late_start_of, late_travel, arc_of}
@@ -87,3 +89,37 @@ module _ (t : Timing) (s : Schedule) (design : IsDesign t.flat) (timing : IsTimi
   pub weight-within : (n : ℕ) → n < length t.pairs → IsWithin 400000000000000 (arc_of t s (pair_at t n)).weight
   weight-within n h =
       ⊎_elim (λ e. rw e (omega (arith, ints), omega (arith, ints))) (λ e. rw e (travel-within n h)) (cases_Bool (element_at t (pair_at t n).to).flop)
+
+-- Along a path of arcs the least delay is not negative, and at most the greatest one.
+delays_ordered : (arcs : List TimingArc) → ((n : ℕ) → n < length arcs → (pos 0 ≤ℤ (arc_at arcs n).min) × ((arc_at arcs n).min ≤ℤ (arc_at arcs n).max)) →
+    (from : ℕ) (path : List ℕ) (to : ℕ) → Leads arcs from path to → (pos 0 ≤ℤ least_delay arcs path) × (least_delay arcs path ≤ℤ greatest_delay arcs path)
+delays_ordered arcs each from [] to h = (omega (arith, ints), omega (arith, ints))
+delays_ordered arcs each from (n ∷ path) to h =
+    let here = each n h.0 in
+    let rest = delays_ordered arcs each (arc_at arcs n).to path to h.2 in
+    let a = here.0 in
+    let b = here.1 in
+    let c = rest.0 in
+    let e = rest.1 in
+    (omega (arith, ints), omega (arith, ints))
+
+pub pair-min_order : (flat : Design) (order : List ℕ) (pairs : List Pair) → IsDesign flat → IsTiming flat order pairs → (n : ℕ) (d : Pair) → n < length pairs →
+    (pos 0 ≤ℤ (get_or pairs n d).min) × ((get_or pairs n d).min ≤ℤ (get_or pairs n d).max)
+pair-min_order flat order pairs limits kept n d h =
+    let named = kept.extremes.each n d h in
+    let some = named.least.attained in
+    let ordered = delays_ordered flat.arcs (λ k g. let arc = limits.each_arc k no_arc g in (arc.min.0, arc.ordered)) _ some.0 _ some.1.1 in
+    let most = named.greatest.bound some.0 some.1 in
+    let is = some.2 in
+    let a = ordered.0 in
+    let b = ordered.1 in
+    (omega (arith, ints), omega (arith, ints))
+
+pub pair-min_range : (flat : Design) (order : List ℕ) (pairs : List Pair) → IsDesign flat → IsTiming flat order pairs → (n : ℕ) (d : Pair) → n < length pairs → IsDelay (get_or pairs n d).min
+pair-min_range flat order pairs limits kept n d h =
+    let ordered = pair-min_order flat order pairs limits kept n d h in
+    let max : IsDelay (get_or pairs n d).max = pair-max_range flat order pairs limits kept n d h in
+    let a = ordered.0 in
+    let b = ordered.1 in
+    let e = max.1 in
+    (omega (arith, ints), omega (arith, ints))

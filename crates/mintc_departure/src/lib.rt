@@ -2,7 +2,11 @@
 #![tactic(auto)]
 
 mod amounts;
+mod arrivals;
 mod pair_network;
+mod rounds;
 mod settling;
 
+
+pub use rounds::early;
 pub use settling::{Settling, late};
