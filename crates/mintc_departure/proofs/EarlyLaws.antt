@@ -1,4 +1,4 @@
-use Rattle.std.proofs.Common.{◌≡◌, ◌≢◌, ℕ, zero, suc, ◌+◌, ◌<◌, ◌≤◌, ◌==◌, ℤ, pos, negsuc, ◌+ℤ◌, ◌-ℤ◌, ◌*ℤ◌, ◌≤ℤ◌, ◌<ℤ◌, Bool, true, false, cond, List, length, get_or, arith, refl, sym, ap, ◌∙◌, Option, Some, None, ⊎_elim, ◌⊎◌, inl, inr, subst}
+use Rattle.std.proofs.Common.{◌≡◌, ◌≢◌, ℕ, ◌<◌, ◌==◌, ℤ, pos, ◌+ℤ◌, ◌-ℤ◌, ◌*ℤ◌, ◌≤ℤ◌, Bool, true, false, cond, List, length, arith, refl, sym, ap, ◌∙◌, Option, Some, None, ⊎_elim, subst}
 use Rattle.std.proofs.lemmas.Int.{ints}
 use Rattle.std.proofs.lemmas.Bool.{cases_Bool, eqb-true}
 use Rattle.std.proofs.lemmas.List.{get_or_past, ext_get_or}
@@ -8,19 +8,18 @@ use Rattle.mintc_timing.specs.declared.parts.Pair.{Pair}
 use Rattle.mintc_timing.specs.declared.clocking.Schedule.{Schedule}
 use Rattle.mintc_timing.specs.Design.{Timing, element_at, element_count, pair_at, phase_count, phase_of, no_pair}
 use Rattle.mintc_timing.specs.Clocking.{shift_of}
-use Rattle.mintc_timing.specs.Departures.{departure, into, early_arrival, early_arrivals, early_opening, early_departure, late_arrival, late_opening, AreExactEarly, AreEarly, AreAtMost, AreLate}
+use Rattle.mintc_timing.specs.Departures.{departure, into, early_arrival, early_arrivals, early_opening, early_departure, late_arrival, late_opening, AreEarly, AreAtMost, AreLate}
 use Rattle.mintc_timing.specs.Extremes.{greater_of, least_of}
 use Rattle.mintc_timing.specs.Limits.{IsDesign, IsInRange}
 use Rattle.mintc_timing.specs.Order.{IsTiming}
 use Rattle.mintc_timing.proofs.DepartureLaws.{late_departure-flop}
 use Rattle.mintc_timing.proofs.Loops.{arrival-at_most}
 use Rattle.mintc_timing.proofs.Products.{add-times, times-mono_positive}
-use Rattle.mintc_departure.specs.Networks.{late_start_of}
 use Rattle.mintc_departure.specs.Rounds.{early_start_of, early_travel, IsFirst, AreSums, AreRising}
 use Rattle.mintc_departure.specs.Settled.{IsSum}
 use Rattle.mintc_departure.specs.declared.arrivals.TheConstants.{NEVER}
 use Rattle.mintc_departure.proofs.LateSizes.{late-within}
-use Rattle.mintc_departure.proofs.Lesser.{IsNoLater, greater-mono, greater-from, greater-one, least-mono, least-some}
+use Rattle.mintc_departure.proofs.Lesser.{greater-mono, greater-from, greater-one, least-mono, least-some}
 use Rattle.mintc_departure.proofs.NetworkLaws.{exact-starts, start-latch}
 use Rattle.mintc_departure.proofs.Sizes.{IsWithin-product, below_or_not, element_in_range, pair_ends, pair-min_order}
 
@@ -61,7 +60,7 @@ module _ (t : Timing) (s : Schedule) where
       ⊎_elim
       (λ flop. start-flop_early l flop ∙ sym (early-flop d l flop))
       (λ latch.
-          start-latch_early l latch ∙ first-none (early_opening t s l) first (least_of (early_arrivals t s d l)) is e ∙ sym (early-latch d l latch))
+      start-latch_early l latch ∙ first-none (early_opening t s l) first (least_of (early_arrivals t s d l)) is e ∙ sym (early-latch d l latch))
       (cases_Bool (element_at t l).flop)
 
   pub departs-flop : (d : List ℤ) (l : ℕ) → (element_at t l).flop ≡ true → early_start_of t s l ≡ early_departure t s d l
@@ -76,7 +75,7 @@ module _ (t : Timing) (s : Schedule) where
       ⊎_elim
       (λ flop. rw (early-flop d l flop, early-flop e l flop) (omega (arith, ints)))
       (λ latch. rw (early-latch d l latch, early-latch e l latch) (greater-mono (early_opening t s l) _ _
-        (least-mono (early_arrival t s d) (early_arrival t s e) (λ p. arrival-mono d e p (h p.from)) (into t l))))
+      (least-mono (early_arrival t s d) (early_arrival t s e) (λ p. arrival-mono d e p (h p.from)) (into t l))))
       (cases_Bool (element_at t l).flop)
 
   start-least : (d : List ℤ) (l : ℕ) → early_start_of t s l ≤ℤ early_departure t s d l
@@ -106,7 +105,7 @@ latch-before : (start q late opens cq_low cq_high dq_high : ℤ) → start +ℤ 
 latch-before start q late opens cq_low cq_high dq_high e h f k = omega (arith, ints)
 
 module _ (t : Timing) (s : Schedule) (design : IsDesign t.flat) (timing : IsTiming t.flat t.order t.pairs) (range : IsInRange s) (phases : length s.starts ≡ phase_count t)
-  (late : List ℤ) (are_late : AreLate t s late) where
+    (late : List ℤ) (are_late : AreLate t s late) where
   dq-grow : (l : ℕ) → l < element_count t → ((element_at t l).dq_min *ℤ s.den) ≤ℤ ((element_at t l).dq_max *ℤ s.den)
   dq-grow l h = times-mono_positive _ _ s.den (element_in_range t s design timing range phases l h).dq range.den.0
 
@@ -118,15 +117,15 @@ module _ (t : Timing) (s : Schedule) (design : IsDesign t.flat) (timing : IsTimi
       let grow = dq-grow l h in
       ⊎_elim
       (λ flop.
-          let is : departure late l ≡ pos 0 = are_late.exact.each l h ∙ late_departure-flop t s late l flop in
-          rw (start-flop_early t s l flop, is) (omega (arith, ints)))
+      let is : departure late l ≡ pos 0 = are_late.exact.each l h ∙ late_departure-flop t s late l flop in
+      rw (start-flop_early t s l flop, is) (omega (arith, ints)))
       (λ latch.
-          rw (start-latch_early t s l latch)
-          (latch-before (early_opening t s l) (e.dq_min *ℤ s.den) (departure late l) (late_opening t s l) (e.cq_min *ℤ s.den) (e.cq_max *ℤ s.den) (e.dq_max *ℤ s.den)
-            (opening-sum e.cq_min e.dq_min s.den)
-            (times-mono_positive e.cq_min e.cq_max s.den (element_in_range t s design timing range phases l h).cq range.den.0)
-            (opening-sum e.cq_max e.dq_max s.den)
-            (rw (start-latch t s l latch) at starts)))
+      rw (start-latch_early t s l latch)
+      (latch-before (early_opening t s l) (e.dq_min *ℤ s.den) (departure late l) (late_opening t s l) (e.cq_min *ℤ s.den) (e.cq_max *ℤ s.den) (e.dq_max *ℤ s.den)
+      (opening-sum e.cq_min e.dq_min s.den)
+      (times-mono_positive e.cq_min e.cq_max s.den (element_in_range t s design timing range phases l h).cq range.den.0)
+      (opening-sum e.cq_max e.dq_max s.den)
+      (rw (start-latch t s l latch) at starts)))
       (cases_Bool e.flop)
 
   -- What arrives early is there before what arrives late.
@@ -150,12 +149,12 @@ module _ (t : Timing) (s : Schedule) (design : IsDesign t.flat) (timing : IsTimi
       ⊎_elim
       (λ flop. carry _ _ _ _ (early-flop t s d l flop ∙ sym (start-flop_early t s l flop)) (start-before l h))
       (λ latch.
-          rw (early-latch t s d l latch)
-          (⊎_elim
-            (λ opens. carry _ _ _ _ (opens ∙ sym (start-latch_early t s l latch)) (start-before l h))
-            (λ arrives. by_arrival latch arrives.0 arrives.2 (⊎_elim (λ none. absurd (some_or_none arrives.0 _ arrives.1 none)) (λ w. (w.0, w.1, w.2, some-same _ _ (sym arrives.1 ∙ w.3)))
-              (least-some (early_arrival t s d) (λ (p : Pair). p.to == l) no_pair t.pairs)))
-            (greater-one (early_opening t s l) (least_of (early_arrivals t s d l)))))
+      rw (early-latch t s d l latch)
+      (⊎_elim
+      (λ opens. carry _ _ _ _ (opens ∙ sym (start-latch_early t s l latch)) (start-before l h))
+      (λ arrives. by_arrival latch arrives.0 arrives.2 (⊎_elim (λ none. absurd (some_or_none arrives.0 _ arrives.1 none)) (λ w. (w.0, w.1, w.2, some-same _ _ (sym arrives.1 ∙ w.3)))
+      (least-some (early_arrival t s d) (λ (p : Pair). p.to == l) no_pair t.pairs)))
+      (greater-one (early_opening t s l) (least_of (early_arrivals t s d l)))))
       (cases_Bool (element_at t l).flop)
     where
       some_or_none : (a : ℤ) (o : Option ℤ) → o ≡ Some a → o ≡ None → ⊥

@@ -1,4 +1,4 @@
-use Rattle.std.proofs.Common.{◌≡◌, ℕ, zero, suc, ◌+◌, ◌*◌, ◌<◌, ◌≤◌, ℤ, pos, ◌+ℤ◌, ◌≤ℤ◌, ◌<ℤ◌, Bool, cond, arith, ◌⊎◌, inl, inr, ⊎_elim, below_more}
+use Rattle.std.proofs.Common.{◌≡◌, ℕ, zero, suc, ◌+◌, ◌*◌, ◌<◌, ◌≤◌, ℤ, pos, ◌≤ℤ◌, ◌<ℤ◌, cond, arith, ◌⊎◌, inl, inr, ⊎_elim, below_more}
 use Rattle.std.proofs.lemmas.Int.{ints, by_lt_z}
 use lib.Signed.{lt_z}
 
@@ -46,19 +46,19 @@ module _ (x : ℕ → ℤ) where
   count_or_gap low high h (suc n) =
       by_lt_z low (x n)
       (λ above.
-          let e = none_if_high low (x n) above in
-          by_lt_z high (x n)
-          (λ over.
-              let e' = none_if_high high (x n) over in
-              ⊎_elim (λ a. inl (omega arith)) (λ b. let few = b.1 in inr (gap_suc b.0 (inr over), omega arith)) (count_or_gap low high h n))
-          (λ under.
-              let e' = one_if_low high (x n) under in
-              ⊎_elim (λ a. inl (omega arith)) (λ b. let few = b.1 in inl (omega arith)) (count_or_gap low high h n)))
+      let e = none_if_high low (x n) above in
+      by_lt_z high (x n)
+      (λ over.
+      let e' = none_if_high high (x n) over in
+      ⊎_elim (λ a. inl (omega arith)) (λ b. let few = b.1 in inr (gap_suc b.0 (inr over), omega arith)) (count_or_gap low high h n))
+      (λ under.
+      let e' = one_if_low high (x n) under in
+      ⊎_elim (λ a. inl (omega arith)) (λ b. let few = b.1 in inl (omega arith)) (count_or_gap low high h n)))
       (λ below.
-          let e = one_if_low low (x n) below in
-          let under : x n ≤ℤ high = omega (arith, ints) in
-          let e' = one_if_low high (x n) under in
-          ⊎_elim (λ a. inl (omega arith)) (λ b. let few = b.1 in inr (gap_suc b.0 (inl below), omega arith)) (count_or_gap low high h n))
+      let e = one_if_low low (x n) below in
+      let under : x n ≤ℤ high = omega (arith, ints) in
+      let e' = one_if_low high (x n) under in
+      ⊎_elim (λ a. inl (omega arith)) (λ b. let few = b.1 in inr (gap_suc b.0 (inl below), omega arith)) (count_or_gap low high h n))
     where
       gap_suc : IsGap x low high n → (x n ≤ℤ low) ⊎ (high <ℤ x n) → IsGap x low high (suc n)
       gap_suc before here l lt = below_more (λ k. (x k ≤ℤ low) ⊎ (high <ℤ x k)) n before here l (omega arith)
@@ -71,10 +71,10 @@ module _ (x : ℕ → ℤ) where
         let next : pos (first + k * width) ≤ℤ pos (first + suc k * width) = omega (arith, ints) in
         ⊎_elim
         (λ many.
-            ⊎_elim
-            (λ more. inl (omega arith))
-            (λ gap. inr (λ l lt. let s = stay (first + k * width) (omega arith) (rung gap.0) l lt in omega (arith, ints)))
-            (count_or_gap (pos (first + k * width)) (pos (first + suc k * width)) next n))
+        ⊎_elim
+        (λ more. inl (omega arith))
+        (λ gap. inr (λ l lt. let s = stay (first + k * width) (omega arith) (rung gap.0) l lt in omega (arith, ints)))
+        (count_or_gap (pos (first + k * width)) (pos (first + suc k * width)) next n))
         (λ all. inr (λ l lt. let a = all l lt in omega (arith, ints)))
         (climb k)
       where

@@ -1,9 +1,8 @@
-use Rattle.std.proofs.Common.{◌≡◌, ℕ, ◌+◌, ◌*◌, ◌<◌, ◌≤◌, ℤ, pos, ◌+ℤ◌, ◌-ℤ◌, ◌≤ℤ◌, ◌<ℤ◌, ◌==◌, Bool, true, false, cond, List, length, get_or, map, arith, refl, sym, ap, ◌∙◌, ◌⊎◌, inl, inr, ⊎_elim, eq-eqb, subst}
-use Rattle.std.proofs.lemmas.Int.{ints, by_lt_z}
+use Rattle.std.proofs.Common.{◌≡◌, ℕ, ◌+◌, ◌<◌, ◌≤◌, ℤ, pos, ◌+ℤ◌, ◌-ℤ◌, ◌≤ℤ◌, ◌<ℤ◌, ◌==◌, Bool, true, false, cond, List, length, get_or, map, arith, sym, ap, ◌∙◌, ◌⊎◌, inl, inr, ⊎_elim, subst}
+use Rattle.std.proofs.lemmas.Int.{ints}
 use Rattle.std.proofs.lemmas.Bool.{cases_Bool, eqb-true}
 use Rattle.std.proofs.lemmas.List.{length-map, get_or_default}
 use Rattle.std.proofs.Math.ListN.{get_or-map}
-use Rattle.std.specs.List.{All, Any}
 use lib.Signed.{lt_z}
 use Rattle.mintc_walks.specs.Bounds.{IsWithin}
 use Rattle.mintc_timing.specs.declared.parts.Pair.{Pair}
@@ -13,12 +12,10 @@ use Rattle.mintc_timing.specs.Departures.{departure, late_arrival, late_arrivals
 use Rattle.mintc_timing.specs.Extremes.{greater_of, greatest_of}
 use Rattle.mintc_timing.specs.Limits.{IsDesign, IsInRange}
 use Rattle.mintc_timing.specs.Order.{IsTiming}
-use Rattle.mintc_timing.specs.Paths.{HasExtremes}
 use Rattle.mintc_timing.proofs.DepartureLaws.{late_departure-latch, late_departure-flop}
 use Rattle.mintc_timing.proofs.ExtremesLaws.{greatest_is, greater-attained}
 use Rattle.mintc_timing.proofs.Loops.{arrival-at_most}
-use Rattle.mintc_departure.specs.Networks.{late_start_of, late_travel}
-use Rattle.mintc_departure.specs.Settled.{IsSum}
+use Rattle.mintc_departure.specs.Networks.{late_travel}
 use Rattle.mintc_departure.proofs.Ladders.{IsGap, all_below}
 use Rattle.mintc_departure.proofs.NetworkLaws.{greater-is, arrival-is, start-latch, exact-starts}
 use Rattle.mintc_departure.proofs.Sizes.{start-within, opening-within, travel-within, pair_ends}
@@ -111,9 +108,9 @@ module _ (t : Timing) (s : Schedule) (design : IsDesign t.flat) (timing : IsTimi
           (start-kept low 400000000000000 (late_opening t s l) (departure d l) (departure down l) opens (down-is l h) (rw (start-latch t s l e) at (exact-starts t s d exact timing.extremes.each l h)))
           (λ n k to. kept n k (eqb-true _ _ to))
           (⊎_elim
-            (λ a. inl (start-same low 400000000000000 (late_opening t s l) (departure d l) (departure down l) opens (down-is l h) a))
-            (λ m. inr (m.0, m.1, m.2, brought m.0 m.1 (eqb-true _ _ m.2) m.3))
-            (attained l h e))
+          (λ a. inl (start-same low 400000000000000 (late_opening t s l) (departure d l) (departure down l) opens (down-is l h) a))
+          (λ m. inr (m.0, m.1, m.2, brought m.0 m.1 (eqb-true _ _ m.2) m.3))
+          (attained l h e))
           ∙ sym (late_departure-latch t s down l e)
         where
           kept : (n : ℕ) → n < length t.pairs → (pair_at t n).to ≡ l → late_arrival t s down (pair_at t n) ≤ℤ departure down l
@@ -123,7 +120,7 @@ module _ (t : Timing) (s : Schedule) (design : IsDesign t.flat) (timing : IsTimi
               let a = subst P to (arrival-at_most t s d exact timing.extremes.each n no_pair k (ap (λ (m : ℕ). (element_at t m).flop) to ∙ e)) in
               rw (arrival-is t s down (pair_at t n))
               (arrival-kept low 400000000000000 (departure d (pair_at t n).from) (departure down (pair_at t n).from) (departure d l) (departure down l) (late_travel t s (pair_at t n))
-                (travel-within t s design timing range phases n k) (down-is (pair_at t n).from ends.from) (down-is l h) (rw (arrival-is t s d (pair_at t n)) at a))
+              (travel-within t s design timing range phases n k) (down-is (pair_at t n).from ends.from) (down-is l h) (rw (arrival-is t s d (pair_at t n)) at a))
 
           brought : (n : ℕ) → n < length t.pairs → (pair_at t n).to ≡ l → departure d l ≡ late_arrival t s d (pair_at t n) → departure down l ≡ late_arrival t s down (pair_at t n)
           brought n k to is =

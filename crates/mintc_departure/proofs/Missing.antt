@@ -1,4 +1,4 @@
-use Rattle.std.proofs.Common.{◌≡◌, ◌≢◌, ℕ, zero, suc, ◌+◌, ◌<◌, ◌≤◌, ℤ, pos, negsuc, ◌+ℤ◌, ◌-ℤ◌, ◌*ℤ◌, ◌≤ℤ◌, ◌<ℤ◌, List, arith, sym, ◌∙◌, ⊎_elim, ◌⊎◌, inl, inr}
+use Rattle.std.proofs.Common.{◌≡◌, ◌≢◌, ℕ, zero, suc, ◌+◌, ◌<◌, ◌≤◌, ℤ, pos, negsuc, ◌+ℤ◌, ◌-ℤ◌, ◌*ℤ◌, ◌≤ℤ◌, ◌<ℤ◌, List, arith, sym, ◌∙◌, ⊎_elim}
 use Rattle.std.proofs.lemmas.Int.{ints, by_lt_z}
 use Rattle.mintc_timing.specs.declared.clocking.Schedule.{Schedule}
 use Rattle.mintc_timing.specs.Design.{Timing, element_at, element_count}
@@ -49,15 +49,15 @@ module _ (t : Timing) (s : Schedule) (late d e : List ℤ) where
       let new = (departure late n +ℤ (element_at t n).dq_max *ℤ s.den) -ℤ (departure e n +ℤ (element_at t n).dq_min *ℤ s.den) in
       ⊎_elim
       (λ below.
-          let rest = missing-falls n j (λ l w. h l (omega arith)) (λ l w. k l (omega arith)) below up in
-          let one = count-mono new old (omega (arith, ints)) in
-          omega arith)
+      let rest = missing-falls n j (λ l w. h l (omega arith)) (λ l w. k l (omega arith)) below up in
+      let one = count-mono new old (omega (arith, ints)) in
+      omega arith)
       (λ past.
-          let is : n ≡ j = omega arith in
-          let rest = missing-mono n (λ l w. h l (omega arith)) in
-          let up_here : departure d n <ℤ departure e n = rw is up in
-          let one = count-falls new old (omega (arith, ints)) (omega (arith, ints)) in
-          omega arith)
+      let is : n ≡ j = omega arith in
+      let rest = missing-mono n (λ l w. h l (omega arith)) in
+      let up_here : departure d n <ℤ departure e n = rw is up in
+      let one = count-falls new old (omega (arith, ints)) (omega (arith, ints)) in
+      omega arith)
       (below_or_not j n)
 
 -- A round that changes something leaves less to rise.

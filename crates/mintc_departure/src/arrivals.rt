@@ -43,8 +43,10 @@ fn bring(system: &System, schedule: &Schedule, room: &mut Room, number: usize)
     requires count { length room.old.values ≡ element_count system.now }
     ensures inside { (pair_at system.now number).to < element_count system.now }
     ensures range { IsArrival (early_arrival system.now schedule.now room.old.early (pair_at system.now number)) }
-    ensures value { let pair = pair_at system.now number in room.new ≡ record room.old { values = slice_set room.old.values pair.to
-        (int_min (early_arrival system.now schedule.now room.old.early pair) (value_at room.old.values pair.to)) } }
+    ensures value { let pair = pair_at system.now number in room.new ≡ record room.old {
+      values = slice_set room.old.values pair.to
+          (int_min (early_arrival system.now schedule.now room.old.early pair) (value_at room.old.values pair.to));
+    } }
 {
     let to = system.pair(number).to as usize;
     let time = i128::from(arrival(system, schedule, room.early(), number));

@@ -7,6 +7,5 @@ mod pair_network;
 mod rounds;
 mod settling;
 
-
 pub use rounds::early;
 pub use settling::{Settling, late};

@@ -4,7 +4,7 @@ use Rattle.std.proofs.lemmas.Int.{ints, clamps, to_z-of_z}
 use Rattle.mintc_timing.specs.declared.parts.Element.{Element}
 use Rattle.mintc_timing.specs.Design.{element_at}
 use Rattle.mintc_departure.specs.declared.arrivals.TheConstants.{NEVER}
-use Rattle.mintc_departure.specs.Rounds.{early_start_of, IsArrival}
+use Rattle.mintc_departure.specs.Rounds.{IsArrival}
 use Rattle.mintc_departure.proofs.EarlyLaws.{departs-by_first}
 use Rattle.mintc_departure.proofs.rounds.departs.Goals as goal
 

@@ -2,7 +2,6 @@ use Rattle.std.proofs.Common.{◌≡◌, ◌<◌, ℕ, ℤ, List, ap, ◌∙◌,
 use Rattle.mintc_constraints.specs.Rooms.{Space}
 use Rattle.mintc_timing.specs.Design.{element_count}
 use Rattle.mintc_timing.specs.Departures.{departure, early_departure}
-use Rattle.mintc_departure.specs.Rounds.{AreRising}
 use Rattle.mintc_departure.proofs.EarlyLaws.{rising-first, rising-more, rising-last, rising-sums}
 use Rattle.mintc_departure.proofs.Filling.{kept-round}
 use Rattle.mintc_departure.proofs.Missing.{round-falls}
