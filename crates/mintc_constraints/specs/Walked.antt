@@ -1,4 +1,4 @@
-use Rattle.std.specs.Prelude.{◌≡◌, ℤ, List, length}
+use Rattle.std.specs.Prelude.{◌≡◌, List, length}
 use Rattle.mintc_walks.specs.declared.network.Arc.{Arc}
 use Rattle.mintc_walks.specs.declared.walks.Answer.{Answer}
 use Rattle.mintc_walks.specs.declared.walks.Answer.TheVariants.{Values, Chain}

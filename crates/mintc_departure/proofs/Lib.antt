@@ -1,0 +1,10 @@
+pub mod Sizes
+pub mod NetworkLaws
+pub mod LoopLaws
+pub mod SettledLaws
+pub mod Filling
+pub mod Ladders
+pub mod LateSizes
+pub mod Lesser
+pub mod EarlyLaws
+pub mod Missing

@@ -1,0 +1,151 @@
+use Rattle.std.proofs.Common.{◌≡◌, ℕ, zero, suc, ◌-◌, ◌<◌, ◌≢◌, ℤ, pos, ◌+ℤ◌, ◌≤ℤ◌, ◌<ℤ◌, Bool, true, false, List, [], ◌∷◌, length, get_or, arith, refl, sym, ap, ◌∙◌, ⊎_elim, subst, IsFalse}
+use Rattle.std.proofs.lemmas.Int.{ints}
+use Rattle.std.proofs.lemmas.Bool.{cases_Bool}
+use Rattle.std.proofs.lemmas.List.Elements.{All-nil, All-cons, All-head, All-tail}
+use Rattle.std.specs.List.{All, AllPairs}
+use Rattle.mintc_walks.specs.declared.network.Arc.{Arc}
+use Rattle.mintc_walks.specs.Walks.{arc_at, Leads, weight_of}
+use Rattle.mintc_walks.specs.Answers.{IsPositiveChain}
+use Rattle.mintc_timing.specs.declared.clocking.Schedule.{Schedule}
+use Rattle.mintc_timing.specs.Closed.{Joins, IsClosed}
+use Rattle.mintc_timing.specs.Design.{Timing, element_at, pair_at}
+use Rattle.mintc_timing.specs.Violations.{HasLoop, loop_amount}
+use Rattle.mintc_departure.specs.Networks.{late_travel, arcs_of}
+use Rattle.mintc_departure.proofs.NetworkLaws.{arcs-count, to_is, latch-from, latch-weight, flop-from, flop-weight}
+
+-- Place by place: each arc begins where the one before ends, and the last one ends where the walk does.
+leads_next : (arcs : List Arc) (es : List ℕ) (u v i d : ℕ) → Leads arcs u es v → suc i < length es →
+    (arc_at arcs (get_or es (suc i) d)).from ≡ (arc_at arcs (get_or es i d)).to
+leads_next arcs [] u v i d h lt = absurd (omega arith)
+leads_next arcs (n ∷ []) u v i d h lt = absurd (omega arith)
+leads_next arcs (n ∷ m ∷ es) u v zero d h lt = h.2.1
+leads_next arcs (n ∷ m ∷ es) u v (suc i) d h lt = leads_next arcs (m ∷ es) (arc_at arcs n).to v i d h.2 (omega arith)
+
+leads_last : (arcs : List Arc) (es : List ℕ) (u v i d : ℕ) → Leads arcs u es v → length es ≡ suc i → (arc_at arcs (get_or es i d)).to ≡ v
+leads_last arcs [] u v i d h e = absurd (omega arith)
+leads_last arcs (n ∷ []) u v zero d h e = h.2
+leads_last arcs (n ∷ []) u v (suc i) d h e = absurd (omega arith)
+leads_last arcs (n ∷ m ∷ es) u v zero d h e = absurd (omega arith)
+leads_last arcs (n ∷ m ∷ es) u v (suc i) d h e = leads_last arcs (m ∷ es) (arc_at arcs n).to v i d h.2 (omega arith)
+
+leads_first : (arcs : List Arc) (es : List ℕ) (u v d : ℕ) → Leads arcs u es v → 0 < length es → (arc_at arcs (get_or es 0 d)).from ≡ u
+leads_first arcs [] u v d h lt = absurd (omega arith)
+leads_first arcs (n ∷ es) u v d h lt = h.1
+
+-- Where the ends of a closed walk's arcs are all different, so are their beginnings.
+begin_apart : (arcs : List Arc) (es : List ℕ) (v : ℕ) → Leads arcs v es v → AllPairs (λ a b. (arc_at arcs a).to ≢ (arc_at arcs b).to) es →
+    (i j d : ℕ) → i < j → j < length es → (arc_at arcs (get_or es i d)).from ≢ (arc_at arcs (get_or es j d)).from
+begin_apart arcs es v h apart i zero d lt within = absurd (omega arith)
+begin_apart arcs es v h apart zero (suc j) d lt within =
+    let k : ℕ = length es - 1 in
+    let first = leads_first arcs es v v d h (omega arith) in
+    let last = leads_last arcs es v v k d h (omega arith) in
+    let next = leads_next arcs es v v j d h within in
+    let below : j < k = omega arith in
+    let inside : k < length es = omega arith in
+    λ e. apart j k d below inside (sym next ∙ sym e ∙ first ∙ sym last)
+begin_apart arcs es v h apart (suc i) (suc j) d lt within =
+    let one = leads_next arcs es v v i d h (omega arith) in
+    let two = leads_next arcs es v v j d h within in
+    let below : i < j = omega arith in
+    let inside : j < length es = omega arith in
+    λ e. apart i j d below inside (sym one ∙ e ∙ two)
+
+module _ (t : Timing) (s : Schedule) where
+  -- A walk to a flop stays there, and weighs nothing or less.
+  walk_to_flop : (es : List ℕ) (u v : ℕ) → Leads (arcs_of t s) u es v → (element_at t v).flop ≡ true → (u ≡ v) × (weight_of (arcs_of t s) es ≤ℤ pos 0)
+  walk_to_flop [] u v h e = (h, omega (arith, ints))
+  walk_to_flop (n ∷ es) u v h e =
+      let rest = walk_to_flop es (arc_at (arcs_of t s) n).to v h.2 e in
+      let k : n < length t.pairs = rw (arcs-count t s) at h.0 in
+      let to : (pair_at t n).to ≡ v = sym (to_is t s n k) ∙ rest.0 in
+      let flop : (element_at t (pair_at t n).to).flop ≡ true = ap (λ (m : ℕ). (element_at t m).flop) to ∙ e in
+      let w = flop-weight t s n k flop in
+      let r = rest.1 in
+      (sym h.1 ∙ flop-from t s n k flop ∙ to, omega (arith, ints))
+
+  -- A walk from a latch meets latches alone.
+  walk_from_latch : (es : List ℕ) (u v : ℕ) → Leads (arcs_of t s) u es v → (element_at t u).flop ≡ false → All (λ n. (element_at t (pair_at t n).to).flop ≡ false) es
+  walk_from_latch [] u v h e = All-nil (λ n. (element_at t (pair_at t n).to).flop ≡ false)
+  walk_from_latch (n ∷ es) u v h e =
+      let k : n < length t.pairs = rw (arcs-count t s) at h.0 in
+      let latch : (element_at t (pair_at t n).to).flop ≡ false =
+      ⊎_elim
+      (λ flop. absurd (not_both _ flop (ap (λ (m : ℕ). (element_at t m).flop) (sym (flop-from t s n k flop) ∙ h.1) ∙ e)))
+      (λ latch. latch)
+      (cases_Bool (element_at t (pair_at t n).to).flop) in
+      All-cons (λ n. (element_at t (pair_at t n).to).flop ≡ false) n es latch
+      (walk_from_latch es (arc_at (arcs_of t s) n).to v h.2 (ap (λ (m : ℕ). (element_at t m).flop) (to_is t s n k) ∙ latch))
+    where
+      not_both : (b : Bool) → b ≡ true → b ≡ false → ⊥
+      not_both b g h = cc
+
+  pairs_exist : (es : List ℕ) (u v : ℕ) → Leads (arcs_of t s) u es v → All (λ n. n < length t.pairs) es
+  pairs_exist [] u v h = All-nil (λ n. n < length t.pairs)
+  pairs_exist (n ∷ es) u v h = All-cons (λ n. n < length t.pairs) n es (rw (arcs-count t s) at h.0) (pairs_exist es (arc_at (arcs_of t s) n).to v h.2)
+
+  abbrev AreLatches : List ℕ → Type 0
+  AreLatches es = All (λ n. (element_at t (pair_at t n).to).flop ≡ false) es
+
+  begin_at_latches : (es : List ℕ) (u v : ℕ) → Leads (arcs_of t s) u es v → (element_at t u).flop ≡ false → All (λ n. IsFalse (element_at t (pair_at t n).from).flop) es
+  begin_at_latches [] u v h e = All-nil (λ n. IsFalse (element_at t (pair_at t n).from).flop)
+  begin_at_latches (n ∷ es) u v h e =
+      let k : n < length t.pairs = rw (arcs-count t s) at h.0 in
+      let latches : AreLatches (n ∷ es) = walk_from_latch (n ∷ es) u v h e in
+      let latch : (element_at t (pair_at t n).to).flop ≡ false = All-head (λ n. (element_at t (pair_at t n).to).flop ≡ false) n es latches in
+      All-cons (λ n. IsFalse (element_at t (pair_at t n).from).flop) n es
+      (ap (λ (m : ℕ). (element_at t m).flop) (sym (latch-from t s n k latch) ∙ h.1) ∙ e)
+      (begin_at_latches es (arc_at (arcs_of t s) n).to v h.2 (ap (λ (m : ℕ). (element_at t m).flop) (to_is t s n k) ∙ latch))
+
+  pairs_join : (es : List ℕ) (u v : ℕ) → Leads (arcs_of t s) u es v → AreLatches es → Joins (λ n. (pair_at t n).from) (λ n. (pair_at t n).to) u es v
+  pairs_join [] u v h latches = h
+  pairs_join (n ∷ es) u v h latches =
+      let k : n < length t.pairs = rw (arcs-count t s) at h.0 in
+      let latch : (element_at t (pair_at t n).to).flop ≡ false = All-head (λ n. (element_at t (pair_at t n).to).flop ≡ false) n es latches in
+      let rest = All-tail (λ n. (element_at t (pair_at t n).to).flop ≡ false) n es latches in
+      let P : ℕ → Type 0 = λ m. Joins (λ n. (pair_at t n).from) (λ n. (pair_at t n).to) m es v in
+      (sym (latch-from t s n k latch) ∙ h.1, subst P (to_is t s n k) (pairs_join es (arc_at (arcs_of t s) n).to v h.2 rest))
+
+  pairs_amount : (es : List ℕ) → All (λ n. n < length t.pairs) es → AreLatches es → loop_amount t s es ≡ weight_of (arcs_of t s) es
+  pairs_amount [] exist latches = refl
+  pairs_amount (n ∷ es) exist latches =
+      let k : n < length t.pairs = All-head (λ n. n < length t.pairs) n es exist in
+      let latch : (element_at t (pair_at t n).to).flop ≡ false = All-head (λ n. (element_at t (pair_at t n).to).flop ≡ false) n es latches in
+      let rest = pairs_amount es (All-tail (λ n. n < length t.pairs) n es exist) (All-tail (λ n. (element_at t (pair_at t n).to).flop ≡ false) n es latches) in
+      ap (λ z. late_travel t s (pair_at t n) +ℤ z) rest ∙ ap (λ z. z +ℤ weight_of (arcs_of t s) es) (sym (latch-weight t s n k latch))
+
+  closed_at : (es : List ℕ) (v : ℕ) → Joins (λ n. (pair_at t n).from) (λ n. (pair_at t n).to) v es v → pos 0 <ℤ weight_of (arcs_of t s) es →
+      IsClosed (λ n. (pair_at t n).from) (λ n. (pair_at t n).to) es
+  closed_at [] v h positive = absurd (omega (arith, ints))
+  closed_at (n ∷ es) v h positive =
+      let P : ℕ → Type 0 = λ m. Joins (λ n. (pair_at t n).from) (λ n. (pair_at t n).to) (pair_at t n).to es m in
+      subst P (sym h.0) h.1
+
+  -- A closed chain of positive weight is a loop of pairs of latches.
+  pub loop-from_chain : (es : List ℕ) → IsPositiveChain (arcs_of t s) es → (amount : ℤ) × HasLoop t s es amount
+  loop-from_chain es chain =
+      let v : ℕ = chain.closed.0 in
+      let leads : Leads (arcs_of t s) v es v = chain.closed.1 in
+      let positive = chain.positive in
+      let exist = pairs_exist es v v leads in
+      ⊎_elim
+      (λ flop. let w = (walk_to_flop es v v leads flop).1 in absurd (omega (arith, ints)))
+      (λ latch.
+      let latches : AreLatches es = walk_from_latch es v v leads latch in
+      let amount = pairs_amount es exist latches in (
+        loop_amount t s es,
+        record {
+          is_loop = record {
+            exist = exist;
+            latches = begin_at_latches es v v leads latch;
+            closed = closed_at es v (pairs_join es v v leads latches) positive;
+            once = λ i j d lt within.
+                let i_in : i < length es = omega arith in
+                λ e. begin_apart (arcs_of t s) es v leads chain.apart i j d lt within
+                (latch-from t s (get_or es i d) (exist i d i_in) (latches i d i_in) ∙ e ∙ sym (latch-from t s (get_or es j d) (exist j d within) (latches j d within)));
+          };
+          is_amount = refl;
+          above = rw amount positive;
+        },
+      ))
+      (cases_Bool (element_at t v).flop)

@@ -1,0 +1,73 @@
+use Rattle.std.proofs.Common.{◌≡◌, ◌≢◌, ℕ, zero, suc, ◌+◌, ◌<◌, ◌≤◌, ℤ, pos, negsuc, ◌+ℤ◌, ◌-ℤ◌, ◌*ℤ◌, ◌≤ℤ◌, ◌<ℤ◌, List, arith, sym, ◌∙◌, ⊎_elim}
+use Rattle.std.proofs.lemmas.Int.{ints, by_lt_z}
+use Rattle.mintc_timing.specs.declared.clocking.Schedule.{Schedule}
+use Rattle.mintc_timing.specs.Design.{Timing, element_at, element_count}
+use Rattle.mintc_timing.specs.Departures.{departure, early_departure}
+use Rattle.mintc_departure.specs.Rounds.{AreRising}
+use Rattle.mintc_departure.proofs.Sizes.{below_or_not}
+
+-- a number that is not negative, and 0 for any other
+abbrev pub count_of : ℤ → ℕ
+count_of (pos n) = n
+count_of (negsuc n) = 0
+
+count-mono : (x y : ℤ) → x ≤ℤ y → count_of x ≤ count_of y
+count-mono (pos n) (pos m) h = omega (arith, ints)
+count-mono (pos n) (negsuc m) h = absurd (omega (arith, ints))
+count-mono (negsuc n) (pos m) h = omega arith
+count-mono (negsuc n) (negsuc m) h = omega arith
+
+count-falls : (x y : ℤ) → pos 0 ≤ℤ x → x <ℤ y → count_of x < count_of y
+count-falls (pos n) (pos m) p h = omega (arith, ints)
+count-falls (pos n) (negsuc m) p h = absurd (omega (arith, ints))
+count-falls (negsuc n) y p h = absurd (omega (arith, ints))
+
+-- by how much the first n outputs are early, added up
+abbrev pub missing : Timing → Schedule → List ℤ → List ℤ → ℕ → ℕ
+missing t s late d zero = 0
+missing t s late d (suc n) = missing t s late d n +
+    count_of ((departure late n +ℤ (element_at t n).dq_max *ℤ s.den) -ℤ (departure d n +ℤ (element_at t n).dq_min *ℤ s.den))
+
+module _ (t : Timing) (s : Schedule) (late d e : List ℤ) where
+  missing-mono : (n : ℕ) → ((l : ℕ) → l < n → departure d l ≤ℤ departure e l) → missing t s late e n ≤ missing t s late d n
+  missing-mono zero h = omega arith
+  missing-mono (suc n) h =
+      let rest = missing-mono n (λ l lt. h l (omega arith)) in
+      let here = h n (omega arith) in
+      let one = count-mono ((departure late n +ℤ (element_at t n).dq_max *ℤ s.den) -ℤ (departure e n +ℤ (element_at t n).dq_min *ℤ s.den))
+      ((departure late n +ℤ (element_at t n).dq_max *ℤ s.den) -ℤ (departure d n +ℤ (element_at t n).dq_min *ℤ s.den)) (omega (arith, ints)) in
+      omega arith
+
+  missing-falls : (n j : ℕ) → ((l : ℕ) → l < n → departure d l ≤ℤ departure e l) →
+      ((l : ℕ) → l < n → (departure e l +ℤ (element_at t l).dq_min *ℤ s.den) ≤ℤ (departure late l +ℤ (element_at t l).dq_max *ℤ s.den)) →
+      j < n → departure d j <ℤ departure e j → missing t s late e n < missing t s late d n
+  missing-falls zero j h k lt up = absurd (omega arith)
+  missing-falls (suc n) j h k lt up =
+      let here = h n (omega arith) in
+      let inside = k n (omega arith) in
+      let old = (departure late n +ℤ (element_at t n).dq_max *ℤ s.den) -ℤ (departure d n +ℤ (element_at t n).dq_min *ℤ s.den) in
+      let new = (departure late n +ℤ (element_at t n).dq_max *ℤ s.den) -ℤ (departure e n +ℤ (element_at t n).dq_min *ℤ s.den) in
+      ⊎_elim
+      (λ below.
+      let rest = missing-falls n j (λ l w. h l (omega arith)) (λ l w. k l (omega arith)) below up in
+      let one = count-mono new old (omega (arith, ints)) in
+      omega arith)
+      (λ past.
+      let is : n ≡ j = omega arith in
+      let rest = missing-mono n (λ l w. h l (omega arith)) in
+      let up_here : departure d n <ℤ departure e n = rw is up in
+      let one = count-falls new old (omega (arith, ints)) (omega (arith, ints)) in
+      omega arith)
+      (below_or_not j n)
+
+-- A round that changes something leaves less to rise.
+pub round-falls : (t : Timing) (s : Schedule) (late d e : List ℤ) → AreRising t s late d → AreRising t s late e → ((l : ℕ) → l < element_count t → departure e l ≡ early_departure t s d l) →
+    (l : ℕ) × (l < element_count t) × (early_departure t s d l ≢ departure d l) → missing t s late e (element_count t) < missing t s late d (element_count t)
+round-falls t s late d e old new round changed =
+    let j = changed.0 in
+    let rose : departure d j ≤ℤ departure e j = rw (round j changed.1) (old.rises j changed.1) in
+    let other : departure d j ≡ departure e j → ⊥ = λ same. changed.2 (sym (round j changed.1) ∙ sym same) in
+    missing-falls t s late d e (element_count t) j (λ l h. rw (round l h) (old.rises l h)) new.before changed.1 (strict _ _ rose other)
+  where
+    strict : (x y : ℤ) → x ≤ℤ y → (x ≡ y → ⊥) → x <ℤ y
+    strict x y h ne = by_lt_z x y (λ k. k) (λ k. absurd (ne (omega (arith, ints))))

@@ -1,0 +1,30 @@
+use Rattle.std.proofs.Common.{◌≡◌, ◌<◌, length, pos, set, get_or, arith, ap, ◌∙◌, length-set}
+use Rattle.std.specs.Int.{int_min}
+use Rattle.mintc_constraints.specs.Rooms.{Space}
+use Rattle.mintc_timing.specs.Departures.{early_arrival}
+use Rattle.mintc_timing.specs.Design.{pair_at}
+use Rattle.mintc_departure.specs.Rounds.{IsArrival}
+use Rattle.mintc_departure.proofs.Filling.{kept-values}
+use Rattle.mintc_departure.proofs.Lesser.{gathered-more}
+use Rattle.mintc_departure.proofs.arrivals.gather.Goals as goal
+
+pub loop-number-preserved : goal.loop-number-preserved
+loop-number-preserved c =
+    let t = c.args.system.now in
+    let s = c.args.schedule.now in
+    let n = c.loop-number.number in
+    let i = c.loop-number.invariant in
+    let xs = c.loop-number.room.values in
+    let p = pair_at t n in
+    let f = early_arrival t s c.args.room.now.early in
+    let early : c.loop-number.room.early ≡ c.args.room.now.early = ap (λ (r : Space). r.early) i.kept in
+    let h : n < length t.pairs = rw c.requires.pairs at c.loop-number-test.true in
+    let range : IsArrival (f p) = rw early at c.bring.ensures.range in
+    let inside : p.to < length xs = omega (arith, i.count, c.bring.ensures.inside) in
+    let write = ap (λ (r : Space). r.values) c.bring.ensures.value in
+    let written : c.bring.new.room.values ≡ set xs p.to (int_min (f p) (get_or xs p.to (pos 0))) = rw early at write in
+    record {
+      kept = kept-values c.args.room.now c.loop-number.room c.bring.new.room _ c.bring.ensures.value i.kept;
+      count = ap length written ∙ length-set xs p.to _ ∙ i.count;
+      gathered = gathered-more f t.pairs n _ xs c.bring.new.room.values h range inside written i.gathered;
+    }

@@ -1,0 +1,17 @@
+use Rattle.std.proofs.Common.{◌≡◌, ◌<◌, ◌==◌, ℕ, pos, length, get_or, take, map}
+use Rattle.std.specs.List.{filter}
+use Rattle.mintc_timing.specs.declared.parts.Pair.{Pair}
+use Rattle.mintc_timing.specs.Design.{element_count}
+use Rattle.mintc_timing.specs.Departures.{early_arrival}
+use Rattle.mintc_timing.specs.Extremes.{least_of}
+use Rattle.mintc_departure.specs.Rounds.{IsFirst}
+use Rattle.mintc_departure.proofs.arrivals.gather.Given as goal
+
+-- each value stands for the earliest arrival by the pairs so far
+abbrev pub invariant-loop-number : goal.invariant-loop-number
+invariant-loop-number l = record {
+  kept : l.room ≡ record l.fn.room { values = l.room.values };
+  count : length l.room.values ≡ element_count l.system;
+  gathered : (k : ℕ) → k < element_count l.system →
+      IsFirst (least_of (map (early_arrival l.system l.schedule l.fn.room.early) (filter (λ (p : Pair). p.to == k) (take l.number l.system.pairs)))) (get_or l.room.values k (pos 0));
+}

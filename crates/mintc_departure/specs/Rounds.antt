@@ -1,0 +1,41 @@
+use Rattle.std.specs.Prelude.{◌≡◌, ◌<◌, ℕ, ℤ, pos, negsuc, ◌+ℤ◌, ◌*ℤ◌, ◌≤ℤ◌, if◌then◌else◌, List, length, Option, Some, None}
+use Rattle.mintc_timing.specs.declared.parts.Pair.{Pair}
+use Rattle.mintc_timing.specs.declared.clocking.Schedule.{Schedule}
+use Rattle.mintc_timing.specs.Design.{Timing, element_at, element_count, phase_of}
+use Rattle.mintc_timing.specs.Clocking.{shift_of}
+use Rattle.mintc_timing.specs.Departures.{departure, early_opening, early_departure, AreExactEarly, AreAtMost}
+use Rattle.mintc_departure.specs.declared.arrivals.TheConstants.{NEVER}
+use Rattle.mintc_departure.specs.Settled.{IsSum}
+
+-- When an element's data leaves at the earliest where no data reaches it, counted from the start of its phase.
+abbrev pub early_start_of : Timing → Schedule → ℕ → ℤ
+early_start_of t s l = if (element_at t l).flop then pos 0 else early_opening t s l
+
+-- By how much later data arrives at the end of a pair than it departs at its beginning, at the earliest, each counted
+-- from the start of the element's phase.
+abbrev pub early_travel : Timing → Schedule → Pair → ℤ
+early_travel t s p = ((element_at t p.from).dq_min +ℤ p.min) *ℤ s.den +ℤ shift_of s (phase_of t p.from) (phase_of t p.to)
+
+-- a departure with the delay of one pair added
+abbrev pub IsArrival : ℤ → Type 0
+IsArrival x = (negsuc 1029999999999999999 ≤ℤ x) × (x ≤ℤ pos 1030000000000000000)
+
+-- v stands for the earliest arrival, if any comes
+abbrev pub IsFirst : Option ℤ → ℤ → Type 0
+IsFirst None v = v ≡ NEVER
+IsFirst (Some a) v = (v ≡ a) × IsArrival a
+
+-- A number for each element, each a sum of few delays.
+pub record AreSums (t : Timing) (d : List ℤ) : Type 0 where
+  pub count : length d ≡ element_count t
+  pub each : (l : ℕ) → l < element_count t → IsSum (departure d l)
+
+-- What each round of the early departures keeps: they rise from where no data reaches an element, are at most every
+-- solution, and leave no output later than the late departures do.
+pub record AreRising (t : Timing) (s : Schedule) (late d : List ℤ) : Type 0 where
+  pub count : length d ≡ element_count t
+  pub above : (l : ℕ) → l < element_count t → early_start_of t s l ≤ℤ departure d l
+  pub rises : (l : ℕ) → l < element_count t → departure d l ≤ℤ early_departure t s d l
+  pub least : (e : List ℤ) → AreExactEarly t s e → AreAtMost t d e
+  pub before : (l : ℕ) → l < element_count t →
+      (departure d l +ℤ (element_at t l).dq_min *ℤ s.den) ≤ℤ (departure late l +ℤ (element_at t l).dq_max *ℤ s.den)
