@@ -4,13 +4,17 @@
 use mintc_command::run;
 use mintc_text::{FolderShelf, StreamSink};
 use std::alloc::AllocError;
+use std::process::ExitCode;
 use std::rt::Env;
 use std::{env, io};
-use std::process::ExitCode;
 
 /// Why there are no words, as an exit status: memory was wanting, or the arguments can't be read.
 fn status_of(error: &io::Error) -> u8 {
-    if error.kind() == io::ErrorKind::OutOfMemory { 6 } else { 7 }
+    if error.kind() == io::ErrorKind::OutOfMemory {
+        6
+    } else {
+        7
+    }
 }
 
 /// The words after the program's name.
