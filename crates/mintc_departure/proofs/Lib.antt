@@ -8,3 +8,4 @@ pub mod LateSizes
 pub mod Lesser
 pub mod EarlyLaws
 pub mod Missing
+pub mod FailedLaws

@@ -1,5 +1,6 @@
 //! Spans of time under a schedule, as numerators over its denominator.
 ghost use Rattle.std.specs.Prelude.{◌≡◌, ◌<◌, ◌+ℤ◌, ◌*ℤ◌, length};
+ghost use Rattle.std.specs.Int.{int_max};
 ghost use Rattle.mintc_timing.specs.Clocking.{shift_of};
 ghost use Rattle.mintc_timing.specs.Design.{element_count, pair_at, phase_count};
 ghost use Rattle.mintc_timing.specs.Limits.{IsDelay, IsDenominator, IsInRange, IsModest, IsPhase, IsSpan, IsTime};
@@ -7,6 +8,13 @@ ghost use Rattle.mintc_departure.specs.Networks.{late_start_of, late_travel};
 ghost use Rattle.mintc_departure.specs.Rounds.{early_start_of, early_travel};
 
 use mintc_timing::{Schedule, System, shift};
+
+/// The greater of two numbers.
+pub(crate) fn larger(a: i64, b: i64) -> i64
+    ensures { result ≡ int_max a b }
+{
+    if b < a { a } else { b }
+}
 
 /// A span of time in femtoseconds, times the denominator.
 pub(crate) fn scaled(span: i64, den: i64) -> i64

@@ -3,6 +3,8 @@
 
 mod amounts;
 mod arrivals;
+mod clock;
+mod clock_checks;
 mod pair_network;
 mod rounds;
 mod settling;

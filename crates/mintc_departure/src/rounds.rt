@@ -1,7 +1,6 @@
 //! The early departures: rounds that rise from where no data reaches an element, until nothing changes.
 ghost use Rattle.std.specs.Prelude.{◌≡◌, ◌≢◌, ◌<◌, ◌≤◌, ◌+◌, ◌*◌, ◌⊎◌, ℕ, ℤ, List, length};
 ghost use Rattle.std.specs.Bool.{OnTrue, OnFalse};
-ghost use Rattle.std.specs.Int.{int_max};
 ghost use Rattle.mintc_walks.specs.Walks.{value_at};
 ghost use Rattle.mintc_timing.specs.Departures.{departure, early_arrivals, early_departure, AreEarly, AreLate};
 ghost use Rattle.mintc_timing.specs.Design.{element_count, phase_count};
@@ -9,17 +8,10 @@ ghost use Rattle.mintc_timing.specs.Extremes.{least_of};
 ghost use Rattle.mintc_timing.specs.Limits.{IsDesign, IsInRange};
 ghost use Rattle.mintc_departure.specs.Rounds.{early_start_of, AreSums, IsArrival, IsFirst};
 
-use crate::amounts::early_start;
+use crate::amounts::{early_start, larger};
 use crate::arrivals::{NEVER, gather};
 use mintc_constraints::Room;
 use mintc_timing::{Schedule, System};
-
-/// The greater of two numbers.
-fn larger(a: i64, b: i64) -> i64
-    ensures { result ≡ int_max a b }
-{
-    if b < a { a } else { b }
-}
 
 /// When an element's data leaves at the earliest, by its earliest arrival.
 fn departs(system: &System, schedule: &Schedule, number: u32, first: i128) -> i64

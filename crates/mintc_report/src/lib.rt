@@ -1,6 +1,15 @@
 //! The texts of answers.
 #![tactic(auto)]
 
+mod fail;
+mod laws;
+mod pass;
 mod refusals;
+#[cfg(test)]
+mod tests;
+mod writing;
 
+pub use fail::fail_text;
+pub use laws::answers_are_determined;
+pub use pass::pass_text;
 pub use refusals::refusal_text;

@@ -3,6 +3,7 @@ ghost use Rattle.std.specs.Prelude.{◌≡◌, ◌++◌, ◌∷◌, [], ℕ, Lis
 ghost use Rattle.mintc_text.specs.Refusals.{role_word, kind_word, refusal_number, refusal_fields, refusal_line};
 ghost use Rattle.mintc_report.specs.Spaced.{spaced};
 
+use crate::writing::{put_number, put_numbers, put_word};
 use mintc_text::{Kind, Lines, OutOfMemory, Refusal, Role};
 use std::alloc::Global;
 
@@ -36,32 +37,6 @@ fn kind_word(kind: Kind) -> &'static [u8]
         Kind::Bounds => b"bounds",
         Kind::Pairs => b"pairs",
     }
-}
-
-/// Writes a word after a space.
-fn put_word(lines: &mut Lines, word: &[u8]) -> Result<(), OutOfMemory>
-    ensures { OnOk result (lines.new ≡ lines.old ++ 32 ∷ word.now) }
-{
-    lines.put(b" ")?;
-    lines.put(word)
-}
-
-/// Writes a number after a space.
-fn put_number(lines: &mut Lines, number: u64) -> Result<(), OutOfMemory>
-    ensures { OnOk result (lines.new ≡ lines.old ++ 32 ∷ decimal number) }
-{
-    lines.put(b" ")?;
-    lines.number(number as i128)
-}
-
-/// Writes numbers, each after a space.
-fn put_numbers(lines: &mut Lines, numbers: &[u32]) -> Result<(), OutOfMemory>
-    ensures { OnOk result (lines.new ≡ lines.old ++ spaced (map decimal numbers.now)) }
-{
-    for number in numbers {
-        put_number(lines, *number as u64)?;
-    }
-    Ok(())
 }
 
 /// Writes a refusal's number and the text that it speaks of.

@@ -1,0 +1,286 @@
+//! The text of a fail.
+ghost use Rattle.std.specs.Prelude.{◌≡◌, ◌≢◌, ◌<◌, ◌++◌, ◌∷◌, [], IfOk, OnOk, length, All, codes, decimal};
+ghost use Rattle.mintc_text.specs.Lines.{ended, text_of, words};
+ghost use Rattle.mintc_timing.specs.Limits.{IsDenominator, IsInRange};
+ghost use Rattle.mintc_report.specs.Answers.{broken_words, fraction_word, reach_line, reach_lines, ring_of, AppendsViolation, AppendsViolations, IsFailText, NamePairs};
+
+use crate::writing::{lowest, put_fraction, put_number, put_word};
+use mintc_fraction::Fraction;
+use mintc_text::{Lines, OutOfMemory};
+use mintc_timing::{Broken, Pair, Schedule, System, Violation};
+use std::alloc::Global;
+
+/// Writes a constraint of one number.
+fn put_violated(lines: &mut Lines, kind: &[u8], number: u32) -> Result<(), OutOfMemory>
+    ensures { OnOk result (lines.new ≡ lines.old ++ words (codes "violated" ∷ kind.now ∷ decimal number ∷ [])) }
+{
+    lines.put(b"violated")?;
+    put_word(lines, kind)?;
+    put_number(lines, number as u64)
+}
+
+/// Writes that two phases come too close.
+fn put_apart(lines: &mut Lines, i: u32, j: u32) -> Result<(), OutOfMemory>
+    ensures { OnOk result (lines.new ≡ lines.old ++ words (codes "violated" ∷ codes "apart" ∷ decimal i ∷ decimal j ∷ [])) }
+{
+    put_violated(lines, b"apart", i)?;
+    put_number(lines, j as u64)
+}
+
+/// Writes how many pairs a loop has.
+fn put_loop(lines: &mut Lines, ring: &[u32]) -> Result<(), OutOfMemory>
+    ensures { OnOk result (lines.new ≡ lines.old ++ words (codes "loop" ∷ decimal (length ring.now) ∷ [])) }
+{
+    lines.put(b"loop")?;
+    put_number(lines, ring.len() as u64)
+}
+
+/// Writes a broken constraint.
+fn put_broken(lines: &mut Lines, broken: &Broken) -> Result<(), OutOfMemory>
+    ensures { OnOk result (lines.new ≡ lines.old ++ broken_words broken.now) }
+{
+    match broken {
+        Broken::Cycle { phase } => put_violated(lines, b"cycle", *phase),
+        Broken::Order { phase } => put_violated(lines, b"order", *phase),
+        Broken::Span { phase } => put_violated(lines, b"span", *phase),
+        Broken::Width { phase } => put_violated(lines, b"width", *phase),
+        Broken::Apart { i, j } => put_apart(lines, *i, *j),
+        Broken::Bound { index } => put_violated(lines, b"bound", *index),
+        Broken::Loop { pairs } => put_loop(lines, pairs.items()),
+        Broken::Setup { element } => put_violated(lines, b"setup", *element),
+        Broken::Hold { element } => put_violated(lines, b"hold", *element),
+    }
+}
+
+/// Writes by how much a constraint fails, and ends the line.
+fn put_amount(lines: &mut Lines, amount: &Fraction) -> Result<(), OutOfMemory>
+    ensures { OnOk result (lines.new ≡ lines.old ++ 32 ∷ ended (words (codes "by" ∷ fraction_word amount.now ∷ []))) }
+{
+    put_word(lines, b"by")?;
+    put_fraction(lines, amount)?;
+    lines.put(b"\n")
+}
+
+/// Writes the line of a pair of a loop.
+fn put_reach(lines: &mut Lines, pair: &Pair) -> Result<(), OutOfMemory>
+    ensures { OnOk result (lines.new ≡ lines.old ++ ended (reach_line pair.now)) }
+{
+    lines.put(b"reach")?;
+    put_number(lines, pair.from as u64)?;
+    put_number(lines, pair.to as u64)?;
+    lines.put(b"\n")
+}
+
+/// Writes the lines of a loop's pairs.
+fn put_ring(lines: &mut Lines, pairs: &[Pair], ring: &[u32]) -> Result<(), OutOfMemory>
+    requires { All (λ n. n < length pairs.now) ring.now }
+    ensures { OnOk result (lines.new ≡ lines.old ++ text_of (reach_lines pairs.now ring.now)) }
+{
+    for number in ring {
+        put_reach(lines, &pairs[*number as usize])?;
+    }
+    Ok(())
+}
+
+/// The pairs of a loop, by their numbers. Other constraints have none.
+fn ring(broken: &Broken) -> &[u32]
+    ensures { result.now ≡ ring_of broken.now }
+{
+    match broken {
+        Broken::Loop { pairs } => pairs.items(),
+        _ => &[],
+    }
+}
+
+/// Writes the lines of a violation.
+fn put_violation(
+    lines: &mut Lines,
+    pairs: &[Pair],
+    den: i64,
+    violation: &Violation,
+) -> Result<(), OutOfMemory>
+    requires den { IsDenominator den }
+    requires named { All (λ n. n < length pairs.now) (ring_of violation.now.broken) }
+    ensures { OnOk result (AppendsViolation pairs.now den violation.now lines.old lines.new) }
+{
+    put_broken(lines, &violation.broken)?;
+    put_amount(lines, &lowest(violation.amount, den))?;
+    put_ring(lines, pairs, ring(&violation.broken))
+}
+
+/// Writes the lines of each violation.
+fn put_violations(
+    lines: &mut Lines,
+    pairs: &[Pair],
+    den: i64,
+    violations: &[Violation],
+) -> Result<(), OutOfMemory>
+    requires den { IsDenominator den }
+    requires named { NamePairs (length pairs.now) violations.now }
+    ensures { OnOk result (AppendsViolations pairs.now den violations.now lines.old lines.new) }
+{
+    for violation in violations {
+        put_violation(lines, pairs, den, violation)?;
+    }
+    Ok(())
+}
+
+/// The text of a fail: `fail`, then for each violation `violated KIND .. by F`, or `loop M by F` and for each of the
+/// loop's M pairs `reach J L`. F is an amount in femtoseconds, as a fraction in lowest terms. Phases are counted from
+/// 1, bounds and elements from 0.
+pub fn fail_text(
+    alloc: Global,
+    system: &System,
+    schedule: &Schedule,
+    violations: &[Violation],
+) -> Result<Vec<u8>, OutOfMemory>
+    requires in_range { IsInRange schedule.now }
+    requires named { NamePairs (length system.now.pairs) violations.now }
+    requires some { violations.now ≢ [] }
+    ensures { IfOk result (λ text. IsFailText system.now schedule.now violations.now text.items) }
+{
+    let mut lines = Lines::new(alloc);
+    lines.put(b"fail\n")?;
+    put_violations(&mut lines, system.pairs(), schedule.den, violations)?;
+    Ok(lines.into_bytes())
+}
+
+#[cfg(test)]
+mod tests {
+    use super::*;
+    use mintc_text::Numbers;
+    use std::test::Fail;
+
+    /// Whether a violation that is no loop has this text.
+    fn is_shown(alloc: Global, broken: Broken, amount: i64, den: i64, text: &str) -> bool
+        requires den { IsDenominator den }
+        requires no_loop { ring_of broken ≡ [] }
+    {
+        let mut lines = Lines::new(alloc);
+        match put_violation(&mut lines, &[], den, &Violation { broken, amount }) {
+            Ok(()) => lines.into_bytes().as_slice() == text.as_bytes(),
+            Err(_) => false,
+        }
+    }
+
+    #[test]
+    fn shows_constraints_of_the_clock(rt: HostRuntime) {
+        let alloc = rt.alloc();
+        assert!(rt;
+            is_shown(
+                alloc,
+                Broken::Cycle { phase: 1 },
+                30,
+                1,
+                "violated cycle 1 by 30/1\n"
+            )
+        );
+        assert!(rt;
+            is_shown(
+                alloc,
+                Broken::Order { phase: 2 },
+                6,
+                4,
+                "violated order 2 by 3/2\n"
+            )
+        );
+        assert!(rt;
+            is_shown(
+                alloc,
+                Broken::Span { phase: 3 },
+                7,
+                100_000,
+                "violated span 3 by 7/100000\n"
+            )
+        );
+        assert!(rt;
+            is_shown(
+                alloc,
+                Broken::Width { phase: 8 },
+                9,
+                3,
+                "violated width 8 by 3/1\n"
+            )
+        );
+        assert!(rt;
+            is_shown(
+                alloc,
+                Broken::Apart { i: 2, j: 1 },
+                2,
+                1,
+                "violated apart 2 1 by 2/1\n"
+            )
+        );
+    }
+
+    #[test]
+    fn shows_constraints_of_data(rt: HostRuntime) {
+        let alloc = rt.alloc();
+        assert!(rt;
+            is_shown(
+                alloc,
+                Broken::Bound { index: 0 },
+                1,
+                1,
+                "violated bound 0 by 1/1\n"
+            )
+        );
+        assert!(rt;
+            is_shown(
+                alloc,
+                Broken::Setup { element: 1 },
+                5,
+                1,
+                "violated setup 1 by 5/1\n"
+            )
+        );
+        assert!(rt;
+            is_shown(
+                alloc,
+                Broken::Hold { element: 0 },
+                35,
+                1,
+                "violated hold 0 by 35/1\n"
+            )
+        );
+    }
+
+    #[test]
+    fn shows_a_loop(rt: HostRuntime) -> Result<(), Fail> {
+        let alloc = rt.alloc();
+        let pairs = [
+            Pair {
+                from: 0,
+                to: 1,
+                min: 20,
+                max: 20,
+            },
+            Pair {
+                from: 1,
+                to: 0,
+                min: 60,
+                max: 60,
+            },
+        ];
+        let violations = vec![in alloc;
+            Violation {
+                broken: Broken::Cycle { phase: 2 },
+                amount: 4,
+            },
+            Violation {
+                broken: Broken::Loop {
+                    pairs: Numbers::new(vec![in alloc; 0, 1]?),
+                },
+                amount: 1,
+            },
+        ]?;
+        let mut lines = Lines::new(alloc);
+        put_violations(&mut lines, &pairs, 1, &violations)?;
+        let bytes = lines.into_bytes();
+        assert_eq!(rt;
+            bytes.as_slice(),
+            b"violated cycle 2 by 4/1\nloop 2 by 1/1\nreach 0 1\nreach 1 0\n".as_slice()
+        );
+        Ok(())
+    }
+}

@@ -1,0 +1,7 @@
+//! What the definitions of answers say: a law is the contract of a function that does nothing.
+ghost use Rattle.mintc_report.specs.Laws.{AnswersAreDetermined};
+
+/// Departures have one text of a pass, and violations one text of a fail.
+pub fn answers_are_determined()
+    ensures { AnswersAreDetermined }
+{}

@@ -1,0 +1,121 @@
+//! The text of a pass.
+ghost use Rattle.std.specs.Prelude.{◌≡◌, ◌++◌, IfOk, OnOk, length};
+ghost use Rattle.mintc_text.specs.Lines.{ended};
+ghost use Rattle.mintc_timing.specs.Departures.{AreLate, AreEarly};
+ghost use Rattle.mintc_timing.specs.Design.{phase_count};
+ghost use Rattle.mintc_timing.specs.Limits.{IsDenominator, IsInRange};
+ghost use Rattle.mintc_report.specs.Answers.{element_line, fraction_word, AppendsElements, IsPassText};
+
+use crate::writing::{lowest, put_fraction, put_word};
+use mintc_constraints::Room;
+use mintc_fraction::Fraction;
+use mintc_text::{Lines, OutOfMemory};
+use mintc_timing::{Element, Schedule, System};
+use std::alloc::Global;
+
+/// Writes the line of an element.
+fn put_element(
+    lines: &mut Lines,
+    name: &[u8],
+    late: &Fraction,
+    early: &Fraction,
+) -> Result<(), OutOfMemory>
+    ensures { OnOk result (lines.new ≡ lines.old ++ ended (element_line name.now (fraction_word late.now) (fraction_word early.now))) }
+{
+    lines.put(b"element")?;
+    put_word(lines, name)?;
+    put_word(lines, b"late")?;
+    put_fraction(lines, late)?;
+    put_word(lines, b"early")?;
+    put_fraction(lines, early)?;
+    lines.put(b"\n")
+}
+
+/// Writes the line of each element, with its departures over the denominator.
+fn put_elements(
+    lines: &mut Lines,
+    elements: &[Element],
+    den: i64,
+    late: &[i64],
+    early: &[i64],
+) -> Result<(), OutOfMemory>
+    requires den { IsDenominator den }
+    requires late { length late.now ≡ length elements.now }
+    requires early { length early.now ≡ length elements.now }
+    ensures { OnOk result (AppendsElements elements.now den late.now early.now (length elements.now) lines.old lines.new) }
+{
+    for number in 0..elements.len() {
+        put_element(
+            lines,
+            elements[number].name.bytes(),
+            &lowest(late[number], den),
+            &lowest(early[number], den),
+        )?;
+    }
+    Ok(())
+}
+
+/// The text of a pass: `pass`, then for each element `element NAME late F early F`. The room has the late and the
+/// early departures of the schedule; F is such a departure in femtoseconds, as a fraction in lowest terms.
+pub fn pass_text(
+    alloc: Global,
+    system: &System,
+    schedule: &Schedule,
+    room: &Room,
+) -> Result<Vec<u8>, OutOfMemory>
+    requires in_range { IsInRange schedule.now }
+    requires phases { length schedule.now.starts ≡ phase_count system.now }
+    requires late { AreLate system.now schedule.now room.now.late }
+    requires early { AreEarly system.now schedule.now room.now.early }
+    ensures { IfOk result (λ text. IsPassText system.now schedule.now room.now.late room.now.early text.items) }
+{
+    let mut lines = Lines::new(alloc);
+    lines.put(b"pass\n")?;
+    put_elements(
+        &mut lines,
+        system.flat().elements(),
+        schedule.den,
+        room.late(),
+        room.early(),
+    )?;
+    Ok(lines.into_bytes())
+}
+
+#[cfg(test)]
+mod tests {
+    use super::*;
+    use mintc_text::Name;
+    use std::test::Fail;
+
+    fn element(alloc: Global, name: &str) -> Result<Element, OutOfMemory> {
+        Ok(Element {
+            name: Name::new(alloc, name.as_bytes())?,
+            phase: 1,
+            flop: false,
+            setup: 0,
+            hold: 0,
+            has_hold: false,
+            dq_min: 0,
+            dq_max: 0,
+            cq_min: 0,
+            cq_max: 0,
+            width: 0,
+        })
+    }
+
+    #[test]
+    fn shows_departures(rt: HostRuntime) -> Result<(), Fail> {
+        let alloc = rt.alloc();
+        let elements = vec![in alloc; element(alloc, "a")?, element(alloc, "b.q[3]")?]?;
+        let mut lines = Lines::new(alloc);
+        put_elements(&mut lines, &elements, 1, &[0, 20], &[0, 20])?;
+        put_elements(&mut lines, &elements, 1, &[-6, 14], &[-6, 14])?;
+        put_elements(&mut lines, &elements, 6, &[9, 100], &[-4, 0])?;
+        let bytes = lines.into_bytes();
+        assert_eq!(rt;
+            bytes.as_slice(),
+            b"element a late 0/1 early 0/1\nelement b.q[3] late 20/1 early 20/1\nelement a late -6/1 early -6/1\nelement b.q[3] late 14/1 early 14/1\nelement a late 3/2 early -2/3\nelement b.q[3] late 50/3 early 0/1\n".as_slice()
+        );
+        Ok(())
+    }
+}

@@ -1,0 +1,50 @@
+//! Words and numbers that follow a space.
+ghost use Rattle.std.specs.Prelude.{◌≡◌, ◌++◌, ◌∷◌, OnOk, map, decimal};
+ghost use Rattle.mintc_timing.specs.Limits.{IsDenominator};
+ghost use Rattle.mintc_report.specs.Answers.{fraction_word, IsLowestOf};
+ghost use Rattle.mintc_report.specs.Spaced.{spaced};
+
+use mintc_fraction::Fraction;
+use mintc_text::{Lines, OutOfMemory};
+
+/// Writes a word after a space.
+pub(crate) fn put_word(lines: &mut Lines, word: &[u8]) -> Result<(), OutOfMemory>
+    ensures { OnOk result (lines.new ≡ lines.old ++ 32 ∷ word.now) }
+{
+    lines.put(b" ")?;
+    lines.put(word)
+}
+
+/// Writes a number after a space.
+pub(crate) fn put_number(lines: &mut Lines, number: u64) -> Result<(), OutOfMemory>
+    ensures { OnOk result (lines.new ≡ lines.old ++ 32 ∷ decimal number) }
+{
+    lines.put(b" ")?;
+    lines.number(number as i128)
+}
+
+/// Writes numbers, each after a space.
+pub(crate) fn put_numbers(lines: &mut Lines, numbers: &[u32]) -> Result<(), OutOfMemory>
+    ensures { OnOk result (lines.new ≡ lines.old ++ spaced (map decimal numbers.now)) }
+{
+    for number in numbers {
+        put_number(lines, *number as u64)?;
+    }
+    Ok(())
+}
+
+/// The fraction `num / den` in lowest terms.
+pub(crate) fn lowest(num: i64, den: i64) -> Fraction
+    requires { IsDenominator den }
+    ensures { IsLowestOf num den result }
+{
+    Fraction::new(num as i128, den as i128).reduced()
+}
+
+/// Writes a fraction after a space.
+pub(crate) fn put_fraction(lines: &mut Lines, fraction: &Fraction) -> Result<(), OutOfMemory>
+    ensures { OnOk result (lines.new ≡ lines.old ++ 32 ∷ fraction_word fraction.now) }
+{
+    lines.put(b" ")?;
+    lines.fraction(fraction.num(), fraction.den())
+}
