@@ -1,4 +1,4 @@
-use Rattle.std.proofs.Common.{◌≡◌, ◌≢◌, ℕ, ◌<◌, ◌==◌, ℤ, pos, ◌+ℤ◌, ◌-ℤ◌, ◌*ℤ◌, ◌≤ℤ◌, Bool, true, false, cond, List, length, arith, refl, sym, ap, ◌∙◌, Option, Some, None, ⊎_elim, subst}
+use Rattle.std.proofs.Common.{◌≡◌, ◌≢◌, ℕ, ◌<◌, ◌==◌, ℤ, pos, ◌+ℤ◌, ◌-ℤ◌, ◌*ℤ◌, ◌≤ℤ◌, Bool, true, false, cond, List, length, get_or, arith, refl, sym, ap, ◌∙◌, Option, Some, None, ⊎_elim, subst}
 use Rattle.std.proofs.lemmas.Int.{ints}
 use Rattle.std.proofs.lemmas.Bool.{cases_Bool, eqb-true}
 use Rattle.std.proofs.lemmas.List.{get_or_past, ext_get_or}
@@ -91,6 +91,11 @@ module _ (t : Timing) (s : Schedule) where
       (λ lt. h l lt)
       (λ past. rw (get_or_past d l (pos 0) (rw p past), get_or_past e l (pos 0) (rw q past)) (omega (arith, ints)))
       (below_or_not l (element_count t))
+
+-- what stands for the first arrivals, at the same departures and values
+pub firsts-kept : (t : Timing) (s : Schedule) (l : ℕ) (d e : List ℤ) (xs ys : List ℤ) → e ≡ d → ys ≡ xs →
+    IsFirst (least_of (early_arrivals t s d l)) (get_or xs l (pos 0)) → IsFirst (least_of (early_arrivals t s e l)) (get_or ys l (pos 0))
+firsts-kept t s l d e xs ys p q h = rw (p, q) h
 
 -- a delay and the one before it, times the denominator
 opening-sum : (cq dq den : ℤ) → (cq -ℤ dq) *ℤ den +ℤ dq *ℤ den ≡ cq *ℤ den
@@ -204,12 +209,16 @@ module _ (t : Timing) (s : Schedule) (design : IsDesign t.flat) (timing : IsTimi
         before = λ l h. rw (round l h) (round-before d rising.before l h);
       }
 
-  -- Where a round changes nothing, the departures are the early ones.
+  -- Where a round changes nothing, it leaves the departures, and they are the early ones.
+  pub rising-same : (d e : List ℤ) → AreRising t s late d → length e ≡ element_count t → ((l : ℕ) → l < element_count t → departure e l ≡ early_departure t s d l) →
+      ((l : ℕ) → l < element_count t → early_departure t s d l ≡ departure d l) → e ≡ d
+  rising-same d e rising count round still =
+      ext_get_or (pos 0) e d (count ∙ sym rising.count) (λ l h. let k : l < element_count t = rw count at h in round l k ∙ still l k)
+
   pub rising-last : (d e : List ℤ) → AreRising t s late d → length e ≡ element_count t → ((l : ℕ) → l < element_count t → departure e l ≡ early_departure t s d l) →
       ((l : ℕ) → l < element_count t → early_departure t s d l ≡ departure d l) → AreEarly t s e
   rising-last d e rising count round still =
-      let same : e ≡ d = ext_get_or (pos 0) e d (count ∙ sym rising.count) (λ l h. let k : l < element_count t = rw count at h in round l k ∙ still l k) in
-      rw same (record { exact = record { count = rising.count; each = λ l h. sym (still l h) }; least = rising.least })
+      rw (rising-same d e rising count round still) (record { exact = record { count = rising.count; each = λ l h. sym (still l h) }; least = rising.least })
 
   -- The numbers of each round are sums of few delays.
   pub rising-sums : (d : List ℤ) → AreRising t s late d → AreSums t d

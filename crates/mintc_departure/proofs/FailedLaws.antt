@@ -1,9 +1,9 @@
-use Rattle.std.proofs.Common.{◌≡◌, ℕ, ◌+◌, ◌<◌, ◌≤◌, List, [], ◌∷◌, ◌++◌, length, get_or, take, map, Bool, true, false, cond, refl, sym, ap, ◌∙◌, append_assoc, int_lt, pos}
+use Rattle.std.proofs.Common.{◌≡◌, ℕ, ◌+◌, ◌<◌, ◌≤◌, List, [], ◌∷◌, ◌++◌, length, get_or, take, map, Bool, true, false, cond, refl, sym, ap, ◌∙◌, append_assoc, int_lt, pos, Option, zero-add}
 use Rattle.std.proofs.lemmas.List.{take_more, take_all, map-append, append-nil}
-use Rattle.std.specs.List.{range_with_len, filter, flat_map}
+use Rattle.std.specs.List.{range_with_len, filter, filter_map, flat_map}
 use Rattle.std.proofs.lemmas.Grind.{flat_map-append}
-use Rattle.std.proofs.lemmas.List.FromFn.{length-map-range_with_len, get_or-map-range_with_len}
-use Rattle.std.proofs.lemmas.List.Elements.{filter-append, filter_more}
+use Rattle.std.proofs.lemmas.List.FromFn.{length-map-range_with_len, get_or-map-range_with_len, length-range_with_len, get_or-range_with_len}
+use Rattle.std.proofs.lemmas.List.Elements.{filter-append, filter_map-append, filter_more}
 use Rattle.mintc_timing.specs.declared.violation.Violation.{Violation}
 use Rattle.mintc_timing.specs.Violations.{failed}
 
@@ -52,3 +52,19 @@ flat-turn g xs i p old now new h is before more =
     let step = take_more xs i p h ∙ ap (λ q. take i xs ++ q ∷ []) is in
     let parts = ap (flat_map g) step ∙ flat_map-append g (take i xs) (p ∷ []) ∙ ap (λ ys. flat_map g (take i xs) ++ ys) (append-nil (g p)) in
     joined old now new (flat_map g (take i xs)) (g p) before more ∙ ap (λ ys. old ++ failed ys) (sym parts)
+
+-- a turn of a loop over checks that numbers may have, and all of them
+pub optional-more : (g : ℕ → Option Violation) (n p : ℕ) (old now new : List Violation) → p < n →
+    now ≡ old ++ failed (filter_map g (take p (range_with_len 0 n))) → new ≡ now ++ failed (filter_map g (p ∷ [])) →
+    new ≡ old ++ failed (filter_map g (take (p + 1) (range_with_len 0 n)))
+optional-more g n p old now new h before more =
+    let xs = range_with_len 0 n in
+    let is : get_or xs p p ≡ p = get_or-range_with_len 0 n p p h ∙ zero-add p in
+    let step = take_more xs p p (rw (length-range_with_len 0 n) h) ∙ ap (λ q. take p xs ++ q ∷ []) is in
+    let parts = ap (filter_map g) step ∙ filter_map-append g (take p xs) (p ∷ []) in
+    joined old now new (filter_map g (take p xs)) (filter_map g (p ∷ [])) before more ∙ ap (λ ys. old ++ failed ys) (sym parts)
+
+pub optional-all : (g : ℕ → Option Violation) (n p : ℕ) (old now : List Violation) → n ≤ p →
+    now ≡ old ++ failed (filter_map g (take p (range_with_len 0 n))) → now ≡ old ++ failed (filter_map g (range_with_len 0 n))
+optional-all g n p old now h before =
+    before ∙ ap (λ (xs : List ℕ). old ++ failed (filter_map g xs)) (take_all p (range_with_len 0 n) (rw (length-range_with_len 0 n) h))

@@ -1,17 +1,12 @@
-use Rattle.std.proofs.Common.{◌≡◌, ℕ, suc, ◌+◌, ◌<◌, ◌==◌, ℤ, pos, ◌≤ℤ◌, Bool, true, false, cond, List, [], ◌∷◌, ◌++◌, length, get_or, set, take, map, arith, refl, sym, ap, ◌∙◌, Option, Some, None, ◌⊎◌, inl, inr, ⊎_elim, eq-eqb, ne_eqb, get_or-set_same, get_or-set_other}
+use Rattle.std.proofs.Common.{◌≡◌, ℕ, suc, ◌<◌, ℤ, ◌≤ℤ◌, Bool, true, false, cond, List, [], ◌∷◌, ◌++◌, length, get_or, map, arith, refl, ap, ◌∙◌, Option, Some, None, ◌⊎◌, inl, inr, ⊎_elim}
 use Rattle.std.proofs.lemmas.Int.{ints, clamps, by_lt_z}
-use Rattle.std.proofs.lemmas.Bool.{cases_eq}
-use Rattle.std.proofs.lemmas.List.{map-append, append-nil}
-use Rattle.std.proofs.lemmas.List.Elements.{filter_more}
 use Rattle.std.specs.List.{filter}
 use Rattle.std.specs.Int.{int_min}
-use Rattle.mintc_timing.specs.declared.parts.Pair.{Pair}
-use Rattle.mintc_timing.specs.Design.{no_pair}
 use Rattle.mintc_timing.specs.Extremes.{lesser_of, least_of, greater_of}
 use Rattle.mintc_departure.specs.Rounds.{IsArrival, IsFirst}
 
 -- one more number at the end
-least_of-push : (xs : List ℤ) (y : ℤ) → least_of (xs ++ y ∷ []) ≡ Some (lesser_of y (least_of xs))
+pub least_of-push : (xs : List ℤ) (y : ℤ) → least_of (xs ++ y ∷ []) ≡ Some (lesser_of y (least_of xs))
 least_of-push [] y = refl
 least_of-push (x ∷ xs) y = ap (λ o. Some (lesser_of x o)) (least_of-push xs y) ∙ ap Some (turn x y (least_of xs))
   where
@@ -80,19 +75,8 @@ module _ {X : Type 0} (f : X → ℤ) (test : X → Bool) (d : X) where
   least-some [] = inl refl
   least-some (x ∷ xs) = some-step x xs (test x) refl (least-some xs)
 
-  -- one more item, as at a turn of a loop
-  least-more : (xs : List X) (n : ℕ) → n < length xs →
-      least_of (map f (filter test (take (n + 1) xs)))
-      ≡ cond (test (get_or xs n d)) (Some (lesser_of (f (get_or xs n d)) (least_of (map f (filter test (take n xs)))))) (least_of (map f (filter test (take n xs))))
-  least-more xs n h =
-      ap (λ ys. least_of (map f ys)) (filter_more test xs n d h) ∙ pushed (filter test (take n xs)) (get_or xs n d) (test (get_or xs n d))
-    where
-      pushed : (ys : List X) (y : X) (b : Bool) → least_of (map f (ys ++ cond b (y ∷ []) [])) ≡ cond b (Some (lesser_of (f y) (least_of (map f ys)))) (least_of (map f ys))
-      pushed ys y true = ap least_of (map-append f ys (y ∷ [])) ∙ least_of-push (map f ys) (f y)
-      pushed ys y false = ap (λ zs. least_of (map f zs)) (append-nil ys)
-
 -- an arrival more
-first-more : (o : Option ℤ) (v y : ℤ) → IsArrival y → IsFirst o v → IsFirst (Some (lesser_of y o)) (int_min y v)
+pub first-more : (o : Option ℤ) (v y : ℤ) → IsArrival y → IsFirst o v → IsFirst (Some (lesser_of y o)) (int_min y v)
 first-more None v y r is = let a = r.0 in let b = r.1 in (omega (arith, ints, clamps), r)
 first-more (Some a) v y r is =
     let e = is.0 in
@@ -102,33 +86,3 @@ first-more (Some a) v y r is =
     let r0 = r.0 in
     let r1 = r.1 in
     (omega (arith, ints, clamps), (omega (arith, ints, clamps), omega (arith, ints, clamps)))
-
--- a turn of the loop over pairs, at each element
-pub gathered-more : (f : Pair → ℤ) (pairs : List Pair) (n m : ℕ) (xs ys : List ℤ) → n < length pairs → IsArrival (f (get_or pairs n no_pair)) →
-    (get_or pairs n no_pair).to < length xs →
-    ys ≡ set xs (get_or pairs n no_pair).to (int_min (f (get_or pairs n no_pair)) (get_or xs (get_or pairs n no_pair).to (pos 0))) →
-    ((k : ℕ) → k < m → IsFirst (least_of (map f (filter (λ (p : Pair). p.to == k) (take n pairs)))) (get_or xs k (pos 0))) →
-    (k : ℕ) → k < m → IsFirst (least_of (map f (filter (λ (p : Pair). p.to == k) (take (n + 1) pairs)))) (get_or ys k (pos 0))
-gathered-more f pairs n m xs ys h range inside write before k lt =
-    rw (write, least-more f (λ (p : Pair). p.to == k) no_pair pairs n h) (⊎_elim here other (cases_eq k (get_or pairs n no_pair).to))
-  where
-    p : Pair
-    p = get_or pairs n no_pair
-
-    y : ℤ
-    y = int_min (f p) (get_or xs p.to (pos 0))
-
-    o : Option ℤ
-    o = least_of (map f (filter (λ (q : Pair). q.to == k) (take n pairs)))
-
-    here : k ≡ p.to → IsFirst (cond (p.to == k) (Some (lesser_of (f p) o)) o) (get_or (set xs p.to y) k (pos 0))
-    here e =
-        let test : (p.to == k) ≡ true = eq-eqb p.to k (sym e) in
-        let value : get_or (set xs p.to y) k (pos 0) ≡ int_min (f p) (get_or xs k (pos 0)) =
-        ap (λ (j : ℕ). get_or (set xs p.to y) j (pos 0)) e ∙ get_or-set_same xs p.to y (pos 0) inside ∙ ap (λ (j : ℕ). int_min (f p) (get_or xs j (pos 0))) (sym e) in
-        rw (test, value) (first-more o (get_or xs k (pos 0)) (f p) range (before k lt))
-
-    other : (k ≡ p.to → ⊥) → IsFirst (cond (p.to == k) (Some (lesser_of (f p) o)) o) (get_or (set xs p.to y) k (pos 0))
-    other ne =
-        let test : (p.to == k) ≡ false = ne_eqb p.to k (λ e. ne (sym e)) in
-        rw (test, get_or-set_other xs p.to k y (pos 0) ne) (before k lt)

@@ -9,3 +9,8 @@ pub mod Lesser
 pub mod EarlyLaws
 pub mod Missing
 pub mod FailedLaws
+pub mod Gathering
+pub mod Greater
+pub mod ElementLaws
+pub mod LoopSums
+pub mod JudgedLaws

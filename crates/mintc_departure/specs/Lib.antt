@@ -1,3 +1,4 @@
 pub mod Networks
 pub mod Settled
 pub mod Rounds
+pub mod Excesses

@@ -17,7 +17,7 @@ fn start(schedule: &Schedule, phase: u32) -> i64
 }
 
 /// How wide a phase is.
-fn width(schedule: &Schedule, phase: u32) -> i64
+pub(crate) fn width(schedule: &Schedule, phase: u32) -> i64
     requires in_range { IsInRange schedule.now }
     requires phase { IsPhase (length schedule.now.starts) phase }
     ensures value { result ≡ width_of schedule.now phase }

@@ -13,7 +13,11 @@ use mintc_text::OutOfMemory;
 use mintc_timing::{Broken, Schedule, System, Violation, feeds};
 
 /// Appends a constraint with its amount, if that is above 0.
-fn judge(violations: &mut Vec<Violation>, broken: Broken, amount: i64) -> Result<(), OutOfMemory>
+pub(crate) fn judge(
+    violations: &mut Vec<Violation>,
+    broken: Broken,
+    amount: i64,
+) -> Result<(), OutOfMemory>
     ensures { OnOk result (violations.new.items ≡ violations.old.items ++ failed (check broken amount ∷ [])) }
 {
     if amount <= 0 {

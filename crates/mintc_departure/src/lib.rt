@@ -1,13 +1,18 @@
-//! When data leaves each element under a schedule, at the latest and at the earliest.
+//! When data leaves each element under a schedule, at the latest and at the earliest, and what the schedule breaks.
 #![tactic(auto)]
 
 mod amounts;
 mod arrivals;
 mod clock;
 mod clock_checks;
+mod element_checks;
+mod judging;
+mod latest;
 mod pair_network;
 mod rounds;
 mod settling;
 
+pub use judging::violations;
+pub use mintc_timing::{Broken, Violation};
 pub use rounds::early;
 pub use settling::{Settling, late};

@@ -71,6 +71,29 @@ fn raise(system: &System, schedule: &Schedule, room: &mut Room) -> bool
     changed
 }
 
+/// `early`, which leaves the earliest arrivals by the early departures in the room's values.
+pub(crate) fn rise_early(system: &System, schedule: &Schedule, room: &mut Room)
+    requires in_range { IsInRange schedule.now }
+    requires phases { length schedule.now.starts ≡ phase_count system.now }
+    requires room { 1 + 2 * phase_count system.now + element_count system.now ≤ room.old.nodes }
+    requires late { AreLate system.now schedule.now room.old.late }
+    ensures early { AreEarly system.now schedule.now room.new.early }
+    ensures late { room.new.late ≡ room.old.late }
+    ensures nodes { room.new.nodes ≡ room.old.nodes }
+    ensures links { room.new.links ≡ room.old.links }
+    ensures count { length room.new.values ≡ element_count system.now }
+    ensures firsts { (l : ℕ) → l < element_count system.now → IsFirst (least_of (early_arrivals system.now schedule.now room.new.early l)) (value_at room.new.values l) }
+{
+    fill_early_starts(system, schedule, room);
+    let pairs = system.pairs();
+    loop {
+        gather(system, pairs, schedule, room);
+        if !raise(system, schedule, room) {
+            return;
+        }
+    }
+}
+
 /// The early departures of the elements, as numerators over the schedule's denominator, into the room's `early`: one for
 /// each element, the least that are exact. The room's `late` has to hold the late departures, and stays.
 pub fn early(system: &System, schedule: &Schedule, room: &mut Room)
@@ -83,12 +106,5 @@ pub fn early(system: &System, schedule: &Schedule, room: &mut Room)
     ensures nodes { room.new.nodes ≡ room.old.nodes }
     ensures links { room.new.links ≡ room.old.links }
 {
-    fill_early_starts(system, schedule, room);
-    let pairs = system.pairs();
-    loop {
-        gather(system, pairs, schedule, room);
-        if !raise(system, schedule, room) {
-            return;
-        }
-    }
+    rise_early(system, schedule, room);
 }

@@ -3,9 +3,11 @@ use Rattle.std.specs.Int.{int_min}
 use Rattle.mintc_constraints.specs.Rooms.{Space}
 use Rattle.mintc_timing.specs.Departures.{early_arrival}
 use Rattle.mintc_timing.specs.Design.{pair_at}
-use Rattle.mintc_departure.specs.Rounds.{IsArrival}
+use Rattle.mintc_timing.specs.Extremes.{least_of, lesser_of}
+use Rattle.mintc_departure.specs.Rounds.{IsArrival, IsFirst}
 use Rattle.mintc_departure.proofs.Filling.{kept-values}
-use Rattle.mintc_departure.proofs.Lesser.{gathered-more}
+use Rattle.mintc_departure.proofs.Gathering.{gathered-more}
+use Rattle.mintc_departure.proofs.Lesser.{first-more, least_of-push}
 use Rattle.mintc_departure.proofs.arrivals.gather.Goals as goal
 
 pub loop-number-preserved : goal.loop-number-preserved
@@ -26,5 +28,5 @@ loop-number-preserved c =
     record {
       kept = kept-values c.args.room.now c.loop-number.room c.bring.new.room _ c.bring.ensures.value i.kept;
       count = ap length written ∙ length-set xs p.to _ ∙ i.count;
-      gathered = gathered-more f t.pairs n _ xs c.bring.new.room.values h range inside written i.gathered;
+      gathered = gathered-more least_of lesser_of int_min IsFirst least_of-push first-more f t.pairs n _ xs c.bring.new.room.values h range inside written i.gathered;
     }

@@ -2,10 +2,10 @@ use Rattle.std.proofs.Common.{◌≡◌, ◌<◌, ℕ, ℤ, List, ap, ◌∙◌,
 use Rattle.mintc_constraints.specs.Rooms.{Space}
 use Rattle.mintc_timing.specs.Design.{element_count}
 use Rattle.mintc_timing.specs.Departures.{departure, early_departure}
-use Rattle.mintc_departure.proofs.EarlyLaws.{rising-first, rising-more, rising-last, rising-sums}
+use Rattle.mintc_departure.proofs.EarlyLaws.{rising-first, rising-more, rising-last, rising-same, rising-sums, firsts-kept}
 use Rattle.mintc_departure.proofs.Filling.{kept-round}
 use Rattle.mintc_departure.proofs.Missing.{round-falls}
-use Rattle.mintc_departure.proofs.rounds.early.Goals as goal
+use Rattle.mintc_departure.proofs.rounds.rise_early.Goals as goal
 
 pub loop-pairs-init : goal.loop-pairs-init
 loop-pairs-init c =
@@ -33,6 +33,18 @@ returns-then-not-raise-clause-early c =
     rising-last t s c.fill_early_starts.ensures.design c.pairs-pairs.ensures.kept c.requires.in_range c.requires.phases c.args.room.now.late c.requires.late d c.raise.new.room.early c.loop-pairs.invariant.rising c.raise.ensures.count
     (λ l h. c.raise.ensures.each l h ∙ ap (λ (xs : List ℤ). early_departure t s xs l) same)
     (λ l h. ap (λ (xs : List ℤ). early_departure t s xs l) (sym same) ∙ c.if-not-raise.ensures.still l h ∙ ap (λ (xs : List ℤ). departure xs l) same)
+
+pub returns-then-not-raise-clause-firsts : goal.returns-then-not-raise-clause-firsts
+returns-then-not-raise-clause-firsts c l h =
+    let t = c.args.system.now in
+    let s = c.args.schedule.now in
+    let d = c.loop-pairs.room.early in
+    let same : c.gather.new.room.early ≡ d = ap (λ (r : Space). r.early) c.gather.ensures.kept in
+    let is : c.raise.new.room.early ≡ d =
+    rising-same t s c.fill_early_starts.ensures.design c.pairs-pairs.ensures.kept c.requires.in_range c.requires.phases c.args.room.now.late c.requires.late d c.raise.new.room.early c.loop-pairs.invariant.rising c.raise.ensures.count
+    (λ l h. c.raise.ensures.each l h ∙ ap (λ (xs : List ℤ). early_departure t s xs l) same)
+    (λ l h. ap (λ (xs : List ℤ). early_departure t s xs l) (sym same) ∙ c.if-not-raise.ensures.still l h ∙ ap (λ (xs : List ℤ). departure xs l) same) in
+    firsts-kept t s l d c.raise.new.room.early c.gather.new.room.values c.raise.new.room.values is (ap (λ (r : Space). r.values) c.raise.ensures.kept) (c.gather.ensures.each l h)
 
 pub loop-pairs-smaller : goal.loop-pairs-smaller
 loop-pairs-smaller c =

@@ -2,7 +2,7 @@ use Rattle.std.proofs.Common.{◌≡◌}
 use Rattle.mintc_timing.specs.Design.{element_count}
 use Rattle.mintc_departure.specs.Rounds.{AreRising}
 use Rattle.mintc_departure.proofs.Missing.{missing}
-use Rattle.mintc_departure.proofs.rounds.early.Given as goal
+use Rattle.mintc_departure.proofs.rounds.rise_early.Given as goal
 
 -- the early departures rise, and the rest of the room but the values stays
 abbrev pub invariant-loop-pairs : goal.invariant-loop-pairs

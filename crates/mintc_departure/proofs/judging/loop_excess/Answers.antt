@@ -1,0 +1,35 @@
+use Rattle.std.proofs.Common.{◌<◌, ◌+ℤ◌, take, length, arith, ap, ◌∙◌, sym}
+use Rattle.mintc_timing.specs.Design.{Design, pair_at}
+use Rattle.mintc_timing.specs.Violations.{loop_amount}
+use Rattle.mintc_timing.proofs.Fitting.{read_time}
+use Rattle.mintc_departure.specs.Networks.{late_travel}
+use Rattle.mintc_departure.proofs.LoopSums.{few_pairs, read_sum, sum-fits, sum-within, total-more}
+use Rattle.mintc_departure.proofs.judging.loop_excess.Goals as goal
+
+few : (c : goal.After-late_delay-amount) → c.loop-pair.pair-index < 2000
+few c =
+    let pairs = few_pairs c.args.system.now c.args.pairs.now c.pairs-pairs.ensures.kept.extremes.each c.requires.closed in
+    let elements = c.elements-elements.ensures.kept.elements in
+    let test = c.loop-pair-test.true in
+    omega (arith, ap (λ (d : Design). length d.elements) c.flat.ensures)
+
+pub overflow_add-amount : goal.overflow_add-amount
+overflow_add-amount c =
+    let y = c.late_delay-amount.result in
+    rw (read_time y c.late_delay-amount.ensures.range) (sum-fits c.loop-pair.pair-index _ y (few c) c.loop-pair.invariant.within c.late_delay-amount.ensures.range)
+
+pub loop-pair-preserved : goal.loop-pair-preserved
+loop-pair-preserved c =
+    let t = c.args.system.now in
+    let s = c.args.schedule.now in
+    let i = c.loop-pair.pair-index in
+    let loop = c.args.pairs.now in
+    let y = c.late_delay-amount.result in
+    let r = c.late_delay-amount.ensures.range in
+    let read = read_sum i _ y (few c) c.loop-pair.invariant.within r in
+    record {
+      is =
+          read ∙ ap (λ z. z +ℤ y) c.loop-pair.invariant.is ∙ ap (λ z. loop_amount t s (take i loop) +ℤ z) c.late_delay-amount.ensures.value
+          ∙ sym (total-more (λ n. late_travel t s (pair_at t n)) loop i 0 c.loop-pair-test.true);
+      within = rw read (sum-within i _ y c.loop-pair.invariant.within r);
+    }

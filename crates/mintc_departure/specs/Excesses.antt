@@ -1,0 +1,12 @@
+use Rattle.std.specs.Prelude.{◌≡◌, ℤ, pos, negsuc, ◌≤ℤ◌, Option, Some, None}
+use Rattle.mintc_departure.specs.declared.latest.TheConstants.{LONG_AGO}
+use Rattle.mintc_departure.specs.Rounds.{IsArrival}
+
+-- v stands for the latest arrival, if any comes
+abbrev pub IsLast : Option ℤ → ℤ → Type 0
+IsLast None v = v ≡ LONG_AGO
+IsLast (Some a) v = (v ≡ a) × IsArrival a
+
+-- an arrival or a departure with a few times of the clock added
+abbrev pub IsExcess : ℤ → Type 0
+IsExcess x = (negsuc 1039999999999999999 ≤ℤ x) × (x ≤ℤ pos 1040000000000000000)

@@ -1,0 +1,175 @@
+//! What the setups and the holds of the elements ask of a schedule, and by how much it fails.
+ghost use Rattle.std.specs.Prelude.{◌≡◌, ◌<◌, ◌++◌, ◌∷◌, [], ◌⊎◌, ℕ, ℤ, pos, if◌then◌else◌, List, length, filter_map, option_map, IfSome, OnOk};
+ghost use Rattle.mintc_walks.specs.Walks.{value_at};
+ghost use Rattle.mintc_timing.specs.Clocking.{width_of};
+ghost use Rattle.mintc_timing.specs.Departures.{departure, early_arrivals, late_arrivals};
+ghost use Rattle.mintc_timing.specs.Design.{element_at, element_count, phase_count, phase_of};
+ghost use Rattle.mintc_timing.specs.Extremes.{greatest_of, least_of};
+ghost use Rattle.mintc_timing.specs.Limits.{IsInRange, IsNumerator};
+ghost use Rattle.mintc_timing.specs.Violations.{check, failed, hold_amount, hold_checks, setup_amount, setup_checks};
+ghost use Rattle.mintc_departure.specs.Excesses.{IsExcess, IsLast};
+ghost use Rattle.mintc_departure.specs.Rounds.{AreSums, IsArrival, IsFirst};
+ghost use Rattle.mintc_departure.specs.Settled.{IsSum};
+
+use crate::amounts::{larger, scaled};
+use crate::arrivals::NEVER;
+use crate::clock::width;
+use crate::clock_checks::judge;
+use crate::latest::LONG_AGO;
+use mintc_constraints::Room;
+use mintc_text::OutOfMemory;
+use mintc_timing::{Broken, Schedule, System, Violation};
+
+/// By how much an element fails its setup, by its late departure and its latest arrival; a flop that no pair leads to has
+/// no setup to keep.
+fn setup_excess(
+    system: &System,
+    schedule: &Schedule,
+    time: i64,
+    last: i128,
+    number: u32,
+) -> Option<i64>
+    requires in_range { IsInRange schedule.now }
+    requires phases { length schedule.now.starts ≡ phase_count system.now }
+    requires number { number < element_count system.now }
+    requires time { IsSum time }
+    requires last { (last ≡ LONG_AGO) ⊎ IsArrival last }
+    ensures value { (d : List ℤ) → departure d number ≡ time → IsLast (greatest_of (late_arrivals system.now schedule.now d number)) last →
+        result ≡ setup_amount system.now schedule.now d number }
+    ensures range { IfSome result IsExcess }
+{
+    let element = system.element(number);
+    let setup = scaled(element.setup, schedule.den);
+    if !element.flop {
+        return Some(larger(0, time) + setup - width(schedule, element.phase));
+    }
+    if last == LONG_AGO {
+        return None;
+    }
+    Some(last as i64 + setup)
+}
+
+/// Appends an element's setup, if the element fails it.
+fn judge_setup(
+    system: &System,
+    schedule: &Schedule,
+    room: &Room,
+    number: u32,
+    violations: &mut Vec<Violation>,
+) -> Result<(), OutOfMemory>
+    requires in_range { IsInRange schedule.now }
+    requires phases { length schedule.now.starts ≡ phase_count system.now }
+    requires number { number < element_count system.now }
+    requires departures { AreSums system.now room.now.late }
+    requires count { length room.now.values ≡ element_count system.now }
+    requires last { IsLast (greatest_of (late_arrivals system.now schedule.now room.now.late number)) (value_at room.now.values number) }
+    ensures { OnOk result (violations.new.items ≡ violations.old.items
+        ++ failed (filter_map (λ l. option_map (check (Broken.Setup l)) (setup_amount system.now schedule.now room.now.late l)) (number ∷ []))) }
+{
+    let time = room.late()[number as usize];
+    let last = room.values()[number as usize];
+    match setup_excess(system, schedule, time, last, number) {
+        Some(amount) => judge(violations, Broken::Setup { element: number }, amount),
+        None => Ok(()),
+    }
+}
+
+/// Appends the setups that aren't kept. The room's values have to be the latest arrivals by its late departures.
+pub(crate) fn judge_setups(
+    system: &System,
+    schedule: &Schedule,
+    room: &Room,
+    violations: &mut Vec<Violation>,
+) -> Result<(), OutOfMemory>
+    requires in_range { IsInRange schedule.now }
+    requires phases { length schedule.now.starts ≡ phase_count system.now }
+    requires departures { AreSums system.now room.now.late }
+    requires count { length room.now.values ≡ element_count system.now }
+    requires lasts { (l : ℕ) → l < element_count system.now → IsLast (greatest_of (late_arrivals system.now schedule.now room.now.late l)) (value_at room.now.values l) }
+    ensures { OnOk result (violations.new.items ≡ violations.old.items ++ failed (setup_checks system.now schedule.now room.now.late)) }
+{
+    for number in 0..system.flat().elements().len() {
+        judge_setup(system, schedule, room, number as u32, violations)?;
+    }
+    Ok(())
+}
+
+/// How long after the start of its phase an element's data has to hold, its hold aside.
+fn hold_start(system: &System, schedule: &Schedule, number: u32) -> i64
+    requires in_range { IsInRange schedule.now }
+    requires phases { length schedule.now.starts ≡ phase_count system.now }
+    requires number { number < element_count system.now }
+    ensures value { result ≡ (if (element_at system.now number).flop then pos 0 else width_of schedule.now (phase_of system.now number)) }
+    ensures range { IsNumerator result }
+{
+    let element = system.element(number);
+    if element.flop {
+        0
+    } else {
+        width(schedule, element.phase)
+    }
+}
+
+/// By how much an element fails its hold, by its earliest arrival; one that has no hold, or that no pair leads to, has none
+/// to keep.
+fn hold_excess(system: &System, schedule: &Schedule, first: i128, number: u32) -> Option<i64>
+    requires in_range { IsInRange schedule.now }
+    requires phases { length schedule.now.starts ≡ phase_count system.now }
+    requires number { number < element_count system.now }
+    requires first { (first ≡ NEVER) ⊎ IsArrival first }
+    ensures value { (d : List ℤ) → IsFirst (least_of (early_arrivals system.now schedule.now d number)) first →
+        result ≡ hold_amount system.now schedule.now d number }
+    ensures range { IfSome result IsExcess }
+{
+    let element = system.element(number);
+    if !element.has_hold {
+        return None;
+    }
+    if first == NEVER {
+        return None;
+    }
+    let hold = scaled(element.hold, schedule.den);
+    Some(hold_start(system, schedule, number) + hold - (first as i64 + schedule.cycle))
+}
+
+/// Appends an element's hold, if the element fails it.
+fn judge_hold(
+    system: &System,
+    schedule: &Schedule,
+    room: &Room,
+    number: u32,
+    violations: &mut Vec<Violation>,
+) -> Result<(), OutOfMemory>
+    requires in_range { IsInRange schedule.now }
+    requires phases { length schedule.now.starts ≡ phase_count system.now }
+    requires number { number < element_count system.now }
+    requires count { length room.now.values ≡ element_count system.now }
+    requires first { IsFirst (least_of (early_arrivals system.now schedule.now room.now.early number)) (value_at room.now.values number) }
+    ensures { OnOk result (violations.new.items ≡ violations.old.items
+        ++ failed (filter_map (λ l. option_map (check (Broken.Hold l)) (hold_amount system.now schedule.now room.now.early l)) (number ∷ []))) }
+{
+    let first = room.values()[number as usize];
+    match hold_excess(system, schedule, first, number) {
+        Some(amount) => judge(violations, Broken::Hold { element: number }, amount),
+        None => Ok(()),
+    }
+}
+
+/// Appends the holds that aren't kept. The room's values have to be the earliest arrivals by its early departures.
+pub(crate) fn judge_holds(
+    system: &System,
+    schedule: &Schedule,
+    room: &Room,
+    violations: &mut Vec<Violation>,
+) -> Result<(), OutOfMemory>
+    requires in_range { IsInRange schedule.now }
+    requires phases { length schedule.now.starts ≡ phase_count system.now }
+    requires count { length room.now.values ≡ element_count system.now }
+    requires firsts { (l : ℕ) → l < element_count system.now → IsFirst (least_of (early_arrivals system.now schedule.now room.now.early l)) (value_at room.now.values l) }
+    ensures { OnOk result (violations.new.items ≡ violations.old.items ++ failed (hold_checks system.now schedule.now room.now.early)) }
+{
+    for number in 0..system.flat().elements().len() {
+        judge_hold(system, schedule, room, number as u32, violations)?;
+    }
+    Ok(())
+}

@@ -1,0 +1,125 @@
+//! What a schedule breaks.
+ghost use Rattle.std.specs.Prelude.{◌≡◌, ◌≤◌, ◌+◌, ◌*◌, ◌++◌, ◌∷◌, [], length, All, IfOk, OnOk};
+ghost use Rattle.mintc_timing.specs.Departures.{AreEarly, AreLate};
+ghost use Rattle.mintc_timing.specs.Design.{element_count, phase_count};
+ghost use Rattle.mintc_timing.specs.Limits.{IsInRange};
+ghost use Rattle.mintc_timing.specs.Violations.{AreViolations, IsLoop, check, failed, hold_checks, loop_amount, setup_checks};
+ghost use Rattle.mintc_departure.specs.Settled.{IsSum};
+
+use crate::amounts::late_delay;
+use crate::clock_checks::judge_clock;
+use crate::element_checks::{judge_holds, judge_setups};
+use crate::latest::gather_latest;
+use crate::rounds::rise_early;
+use crate::settling::{Settling, late};
+use mintc_constraints::Room;
+use mintc_text::{Numbers, OutOfMemory};
+use mintc_timing::{Broken, Schedule, System, Violation};
+use std::alloc::Global;
+
+/// By how much data comes later each time that it goes round a loop.
+fn loop_excess(system: &System, schedule: &Schedule, pairs: &[u32]) -> i64
+    requires in_range { IsInRange schedule.now }
+    requires phases { length schedule.now.starts ≡ phase_count system.now }
+    requires closed { IsLoop system.now pairs.now }
+    ensures { result ≡ loop_amount system.now schedule.now pairs.now }
+{
+    let _elements = system.flat().elements();
+    let _pairs = system.pairs();
+    let mut amount = 0;
+    for pair in pairs {
+        amount += late_delay(system, schedule, *pair as usize);
+    }
+    amount
+}
+
+/// Copies numbers.
+fn copy(alloc: Global, numbers: &[u32]) -> Result<Numbers, OutOfMemory>
+    ensures { IfOk result (λ copy. copy ≡ numbers.now) }
+{
+    match Vec::from_slice(alloc, numbers) {
+        Ok(items) => Ok(Numbers::new(items)),
+        Err(_) => Err(OutOfMemory),
+    }
+}
+
+/// Appends a loop with its amount.
+fn push_loop(
+    alloc: Global,
+    system: &System,
+    schedule: &Schedule,
+    pairs: &[u32],
+    violations: &mut Vec<Violation>,
+) -> Result<(), OutOfMemory>
+    requires in_range { IsInRange schedule.now }
+    requires phases { length schedule.now.starts ≡ phase_count system.now }
+    requires closed { IsLoop system.now pairs.now }
+    ensures { OnOk result (violations.new.items ≡ violations.old.items
+        ++ check (Broken.Loop pairs.now) (loop_amount system.now schedule.now pairs.now) ∷ []) }
+{
+    let amount = loop_excess(system, schedule, pairs);
+    let pairs = copy(alloc, pairs)?;
+    let broken = Broken::Loop { pairs };
+    let Ok(()) = violations.push(Violation { broken, amount }) else {
+        return Err(OutOfMemory);
+    };
+    Ok(())
+}
+
+/// Appends the setups and the holds that aren't kept, by the room's late departures. The early ones are then in the room.
+fn judge_elements(
+    system: &System,
+    schedule: &Schedule,
+    room: &mut Room,
+    violations: &mut Vec<Violation>,
+) -> Result<(), OutOfMemory>
+    requires in_range { IsInRange schedule.now }
+    requires phases { length schedule.now.starts ≡ phase_count system.now }
+    requires room { 1 + 2 * phase_count system.now + element_count system.now ≤ room.old.nodes }
+    requires late { AreLate system.now schedule.now room.old.late }
+    requires sums { All IsSum room.old.late }
+    ensures early { OnOk result (AreEarly system.now schedule.now room.new.early) }
+    ensures late { OnOk result (room.new.late ≡ room.old.late) }
+    ensures nodes { room.new.nodes ≡ room.old.nodes }
+    ensures links { room.new.links ≡ room.old.links }
+    ensures violations { OnOk result (violations.new.items ≡ violations.old.items
+        ++ failed (setup_checks system.now schedule.now room.old.late ++ hold_checks system.now schedule.now room.new.early)) }
+{
+    gather_latest(system, system.pairs(), schedule, room);
+    judge_setups(system, schedule, room, violations)?;
+    rise_early(system, schedule, room);
+    judge_holds(system, schedule, room, violations)
+}
+
+/// What a schedule breaks, in this order: cycle, order, span, width, apart, bound, then either one loop, or all setups and then
+/// all holds, numbers ascending inside a kind; each with the amount by which it fails, in femtoseconds times the schedule's
+/// denominator. Phases are counted from 1, all else from 0. An empty list leaves the late and the early departures in the room.
+pub fn violations(
+    alloc: Global,
+    system: &System,
+    schedule: &Schedule,
+    room: &mut Room,
+) -> Result<Vec<Violation>, OutOfMemory>
+    requires in_range { IsInRange schedule.now }
+    requires phases { length schedule.now.starts ≡ phase_count system.now }
+    requires room { 1 + 2 * phase_count system.now + element_count system.now ≤ room.old.nodes }
+    ensures violations { IfOk result (λ violations. AreViolations system.now schedule.now violations.items) }
+    ensures late { IfOk result (λ violations. violations.items ≡ [] → AreLate system.now schedule.now room.new.late) }
+    ensures early { IfOk result (λ violations. violations.items ≡ [] → AreEarly system.now schedule.now room.new.early) }
+    ensures nodes { room.new.nodes ≡ room.old.nodes }
+    ensures links { room.new.links ≡ room.old.links }
+{
+    let mut violations = Vec::new(alloc);
+    judge_clock(system, schedule, &mut violations)?;
+    let _pairs = system.pairs();
+    match late(system, schedule, room) {
+        Settling::Settled => {
+            judge_elements(system, schedule, room, &mut violations)?;
+            Ok(violations)
+        }
+        Settling::Loop => {
+            push_loop(alloc, system, schedule, room.chain(), &mut violations)?;
+            Ok(violations)
+        }
+    }
+}
