@@ -1,1 +1,2 @@
 pub mod OptimalLaws
+pub mod WritingLaws

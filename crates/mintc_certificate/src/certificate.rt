@@ -45,5 +45,7 @@ pub enum Certificate {
         chain: Members,
     },
     /// A chain that forbids every cycle.
-    Never { chain: Members },
+    Never {
+        chain: Members,
+    },
 }

@@ -8,7 +8,9 @@ mod certificate;
 mod laws;
 mod members;
 mod version;
+mod writing;
 
 pub use certificate::{Certificate, Departures};
 pub use laws::valid_is_optimal;
 pub use members::{Member, Members};
+pub use writing::write;
