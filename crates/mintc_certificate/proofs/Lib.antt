@@ -1,0 +1,2 @@
+pub mod OptimalLaws
+pub mod WritingLaws

@@ -1,0 +1,113 @@
+use Rattle.std.specs.Prelude.{◌≡◌, ◌≢◌, ◌==◌, ℕ, zero, suc, ℤ, pos, negsuc, Bool, if◌then◌else◌, List, [], ◌∷◌, ◌++◌, length, map, codes}
+use Rattle.mintc_text.specs.Lines.{IsText, IsFault, IsWithin}
+use Rattle.mintc_timing.specs.declared.clocking.Schedule.{Schedule}
+use Rattle.mintc_timing.specs.Fields.{IsCount, number, Spells, IsWordLine, IsNumberLine, IsCountLine}
+use Rattle.mintc_timing.specs.Texts.{IsPhaseLine, no_phases, with_phase}
+use Rattle.std.specs.List.{All}
+use Rattle.mintc_certificate.specs.declared.members.Member.{Member}
+use Rattle.mintc_certificate.specs.declared.members.Member.TheVariants as member
+use Rattle.mintc_certificate.specs.declared.certificate.Certificate.{Certificate}
+use Rattle.mintc_certificate.specs.declared.certificate.Certificate.TheVariants.{Least, Never}
+use Rattle.mintc_certificate.specs.declared.version.Version.{Version}
+use Rattle.mintc_certificate.specs.declared.version.Version.TheVariants.{First, Second}
+
+-- Certificate texts have two versions. The first has no departures below 0 and no member `opened`.
+abbrev pub version_of : ℕ → Version
+version_of n = if n == 1 then First else Second
+
+-- the least departure that a version can say, a numerator over the schedule's denominator
+abbrev pub least_departure : Version → ℤ
+least_departure First = pos 0
+least_departure Second = negsuc 99999999999999
+
+-- the words of a member
+abbrev pub member_words : Member → List (List ℕ)
+member_words (member.Start p) = codes "start" ∷ number p ∷ []
+member_words (member.Cycle p) = codes "cycle" ∷ number p ∷ []
+member_words (member.Order p) = codes "order" ∷ number p ∷ []
+member_words (member.Span p) = codes "span" ∷ number p ∷ []
+member_words (member.Width p) = codes "width" ∷ number p ∷ []
+member_words (member.Apart i j) = codes "apart" ∷ number i ∷ number j ∷ []
+member_words (member.Opening l) = codes "open" ∷ number l ∷ []
+member_words (member.Opened l) = codes "opened" ∷ number l ∷ []
+member_words (member.Reach j l path) = codes "reach" ∷ number j ∷ number l ∷ number (length path) ∷ map number path
+member_words (member.Setup l) = codes "setup" ∷ number l ∷ []
+member_words (member.Bound b) = codes "bound" ∷ number b ∷ []
+
+-- Its numbers are counts, and a reach has some arcs.
+abbrev pub IsCounted : Member → Type 0
+IsCounted (member.Start p) = IsCount p
+IsCounted (member.Cycle p) = IsCount p
+IsCounted (member.Order p) = IsCount p
+IsCounted (member.Span p) = IsCount p
+IsCounted (member.Width p) = IsCount p
+IsCounted (member.Apart i j) = IsCount i × IsCount j
+IsCounted (member.Opening l) = IsCount l
+IsCounted (member.Opened l) = IsCount l
+IsCounted (member.Reach j l path) = IsCount j × IsCount l × IsCount (length path) × (path ≢ []) × All IsCount path
+IsCounted (member.Setup l) = IsCount l
+IsCounted (member.Bound b) = IsCount b
+
+-- The version has the member.
+abbrev pub IsMemberOf : Version → Member → Type 0
+IsMemberOf First (member.Opened l) = ⊥
+IsMemberOf version m = Unit {0}
+
+-- the line of a member
+pub record IsMemberLine (version : Version) (m : Member) (ws : List (List ℕ)) : Type 0 where
+  pub counted : IsCounted m
+  pub has : IsMemberOf version m
+  pub spelled : ws ≡ member_words m
+
+-- What is known of a certificate after some of its lines. A number says how many lines of a kind are left.
+pub data CertificateLines : Type 0 where
+  first : CertificateLines
+  outcome : Version → CertificateLines
+  den : Version → CertificateLines
+  cycle : Version → ℤ → CertificateLines
+  phases : Version → ℤ → ℤ → CertificateLines
+  phase : Version → ℕ → Schedule → CertificateLines
+  departure : Version → ℕ → Schedule → List ℤ → CertificateLines
+  never : Version → CertificateLines
+  link : Version → ℕ → Certificate → CertificateLines
+  whole : Certificate → CertificateLines
+
+abbrev pub with_member : Certificate → Member → Certificate
+with_member (Least schedule departures chain) m = Least schedule departures (chain ++ m ∷ [])
+with_member (Never chain) m = Never (chain ++ m ∷ [])
+
+-- the line that says whether a schedule follows
+abbrev pub IsOutcomeLine : Bool → List (List ℕ) → Type 0
+IsOutcomeLine least ws = ws ≡ (if least then codes "least" else codes "never") ∷ []
+
+-- the line that says how many members follow
+abbrev pub IsChainLine : ℕ → List (List ℕ) → Type 0
+IsChainLine = IsCountLine (codes "chain") 1 4096
+
+-- the form of the line that may come next
+abbrev pub NextOfCertificate : CertificateLines → List ℕ → CertificateLines → Type 0
+NextOfCertificate first line after = (n : ℕ) × Spells (IsCountLine (codes "certificate") 1 2) n line × (after ≡ outcome (version_of n))
+NextOfCertificate (outcome v) line after = (least : Bool) × Spells IsOutcomeLine least line × (after ≡ (if least then den v else never v))
+NextOfCertificate (den v) line after = (d : ℤ) × Spells (IsNumberLine (codes "den") (pos 1) (pos 100000)) d line × (after ≡ cycle v d)
+NextOfCertificate (cycle v d) line after = (t : ℤ) × Spells (IsNumberLine (codes "cycle") (pos 0) (pos 100000000000000)) t line × (after ≡ phases v d t)
+NextOfCertificate (phases v d t) line after = (k : ℕ) × Spells (IsCountLine (codes "phases") 1 8) k line × (after ≡ phase v k (no_phases d t))
+NextOfCertificate (phase v (suc left) s) line after = (p : ℤ × ℤ) × Spells IsPhaseLine p line × (after ≡ phase v left (with_phase s p))
+NextOfCertificate (phase v zero s) line after = (n : ℕ) × Spells (IsCountLine (codes "departures") 0 999999999) n line × (after ≡ departure v n s [])
+NextOfCertificate (departure v (suc left) s ds) line after =
+    (d : ℤ) × Spells (IsNumberLine (codes "departure") (least_departure v) (pos 100000000000000)) d line × (after ≡ departure v left s (ds ++ d ∷ []))
+NextOfCertificate (departure v zero s ds) line after = (m : ℕ) × Spells IsChainLine m line × (after ≡ link v m (Least s ds []))
+NextOfCertificate (never v) line after = (m : ℕ) × Spells IsChainLine m line × (after ≡ link v m (Never []))
+NextOfCertificate (link v (suc left) c) line after = (m : Member) × Spells (IsMemberLine v) m line × (after ≡ link v left (with_member c m))
+NextOfCertificate (link v zero c) line after = (u : Unit {0}) × Spells (IsWordLine (codes "end")) u line × (after ≡ whole c)
+NextOfCertificate (whole c) line after = ⊥
+
+abbrev pub IsWholeCertificate : CertificateLines → Type 0
+IsWholeCertificate (whole c) = Unit {0}
+IsWholeCertificate lines = ⊥
+
+-- The text is one of the certificate's; and line n is the first that is out of form.
+abbrev pub IsCertificateText : List ℕ → Certificate → Type 0
+IsCertificateText text certificate = IsText NextOfCertificate first (whole certificate) text
+
+abbrev pub IsCertificateFault : List ℕ → ℕ → Type 0
+IsCertificateFault text n = IsFault NextOfCertificate IsWholeCertificate first text n

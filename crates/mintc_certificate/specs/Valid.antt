@@ -1,0 +1,112 @@
+use Rattle.std.specs.Prelude.{◌≡◌, ◌<◌, ◌≤◌, ℕ, ℤ, pos, ◌*ℤ◌, ◌<ℤ◌, ◌≤ℤ◌, List, length, slice_index_or, map, All, IsTrue, IsFalse}
+use Rattle.mintc_timing.specs.declared.parts.Bound.{Bound}
+use Rattle.mintc_timing.specs.declared.parts.Point.TheVariants.{Origin}
+use Rattle.mintc_timing.specs.declared.clocking.Schedule.{Schedule}
+use Rattle.mintc_timing.specs.declared.link.Link.{Link}
+use Rattle.mintc_certificate.specs.declared.members.Member.{Member}
+use Rattle.mintc_certificate.specs.declared.members.Member.TheVariants as member
+use Rattle.mintc_certificate.specs.declared.certificate.Certificate.{Certificate}
+use Rattle.mintc_certificate.specs.declared.certificate.Certificate.TheVariants.{Least, Never}
+use Rattle.mintc_timing.specs.Closed.{IsClosed}
+use Rattle.mintc_timing.specs.Design.{Timing, phase_count, element_count, element_at}
+use Rattle.mintc_timing.specs.Limits.{IsPhase}
+use Rattle.mintc_timing.specs.Paths.{IsPath, input_of, greatest_delay}
+use Rattle.mintc_timing.specs.Clocking.{KeepsClock, KeepsBound, feeds_of}
+use Rattle.mintc_timing.specs.Departures.{AreExact}
+use Rattle.mintc_timing.specs.Right.{KeepsSetup}
+use Rattle.mintc_timing.specs.Links.{start_link, cycle_link, order_link, span_link, width_link, apart_link, open_link, opened_link, reach_link, setup_link, bound_link, delay_of, cycles_of}
+
+abbrev pub no_bound : Bound
+no_bound = record { from = Origin; to = Origin; gap = pos 0; cycles = 0 }
+
+-- The member names what the design has. A reach carries a listed path from its first element to its second.
+abbrev pub IsMember : Timing → Member → Type 0
+IsMember t (member.Start p) = IsPhase (phase_count t) p
+IsMember t (member.Cycle p) = IsPhase (phase_count t) p
+IsMember t (member.Order p) = (1 ≤ p) × (p < phase_count t)
+IsMember t (member.Span p) = IsPhase (phase_count t) p
+IsMember t (member.Width p) = IsPhase (phase_count t) p
+IsMember t (member.Apart i j) = IsPhase (phase_count t) i × IsPhase (phase_count t) j × IsTrue (feeds_of t i j)
+IsMember t (member.Opening l) = l < element_count t
+IsMember t (member.Opened l) = (l < element_count t) × IsFalse (element_at t l).flop
+IsMember t (member.Reach j l path) = (j < element_count t) × (l < element_count t) × IsPath t.flat.arcs j path (input_of l)
+IsMember t (member.Setup l) = l < element_count t
+IsMember t (member.Bound n) = n < length t.flat.bounds
+
+-- The link that a member stands for. A reach has the delay of its own path, which may be less than the greatest.
+abbrev pub link_of : Timing → Member → Link
+link_of t (member.Start p) = start_link p
+link_of t (member.Cycle p) = cycle_link p
+link_of t (member.Order p) = order_link p
+link_of t (member.Span p) = span_link p
+link_of t (member.Width p) = width_link t p
+link_of t (member.Apart i j) = apart_link i j
+link_of t (member.Opening l) = open_link t l
+link_of t (member.Opened l) = opened_link t l
+link_of t (member.Reach j l path) = reach_link t j l (greatest_delay t.flat.arcs path)
+link_of t (member.Setup l) = setup_link t l
+link_of t (member.Bound n) = bound_link n (slice_index_or t.flat.bounds n no_bound)
+
+abbrev pub links_of_members : Timing → List Member → List Link
+links_of_members t members = map (link_of t) members
+
+abbrev pub chain_of : Certificate → List Member
+chain_of (Least schedule departures chain) = chain
+chain_of (Never chain) = chain
+
+-- The tests of a certificate, in order: it has the design's phases and elements; it keeps the clock; it keeps the
+-- bounds; its departures are exact; it keeps the setups; its members are the design's and lead round in a ring;
+-- the ring forbids each smaller cycle, or each cycle.
+pub data Test : Type 0 where
+  counts : Test
+  clock : Test
+  bounds : Test
+  departures : Test
+  setups : Test
+  ring : Test
+  sums : Test
+
+abbrev pub number_of : Test → ℕ
+number_of counts = 1
+number_of clock = 2
+number_of bounds = 3
+number_of departures = 4
+number_of setups = 5
+number_of ring = 6
+number_of sums = 7
+
+-- what a test asks of a schedule and its departures
+abbrev pub SchedulePasses : Timing → Schedule → List ℤ → Test → Type 0
+SchedulePasses t s d counts = (length s.starts ≡ phase_count t) × (length s.widths ≡ phase_count t) × (length d ≡ element_count t)
+SchedulePasses t s d clock = KeepsClock t s
+SchedulePasses t s d bounds = All (KeepsBound s) t.flat.bounds
+SchedulePasses t s d departures = AreExact t s d
+SchedulePasses t s d setups = (l : ℕ) → l < element_count t → KeepsSetup t s d l
+SchedulePasses t s d ring = Unit {0}
+SchedulePasses t s d sums = Unit {0}
+
+-- what the last two tests ask of a ring
+abbrev pub IsRing : Timing → List Member → Type 0
+IsRing t members = All (IsMember t) members × IsClosed (λ k. k.from) (λ k. k.to) (links_of_members t members)
+
+-- The ring's delay, in femtoseconds, is its cycles times the schedule's cycle, and it has a cycle.
+pub record IsTight (t : Timing) (s : Schedule) (members : List Member) : Type 0 where
+  pub turns : pos 1 ≤ℤ cycles_of (links_of_members t members)
+  pub tight : delay_of (links_of_members t members) *ℤ s.den ≡ cycles_of (links_of_members t members) *ℤ s.cycle
+
+-- The ring asks for time, and has no cycle to take it from.
+pub record IsStuck (t : Timing) (members : List Member) : Type 0 where
+  pub turns : cycles_of (links_of_members t members) ≡ pos 0
+  pub stuck : pos 0 <ℤ delay_of (links_of_members t members)
+
+abbrev pub Passes : Timing → Certificate → Test → Type 0
+Passes t (Least s d chain) ring = IsRing t chain
+Passes t (Least s d chain) sums = IsTight t s chain
+Passes t (Least s d chain) test = SchedulePasses t s d test
+Passes t (Never chain) ring = IsRing t chain
+Passes t (Never chain) sums = IsStuck t chain
+Passes t (Never chain) test = Unit {0}
+
+-- Every test passes.
+abbrev pub IsValid : Timing → Certificate → Type 0
+IsValid t certificate = (test : Test) → Passes t certificate test

@@ -1,0 +1,16 @@
+//! Certificates: what shows that a cycle time is the least, or that none is right.
+//!
+//! A certificate is a schedule with its departures and a chain of constraints that forbids every smaller cycle time, or a
+//! chain alone that forbids all. Here stand its parts, what makes it valid, and its text.
+#![tactic(auto)]
+
+mod certificate;
+mod laws;
+mod members;
+mod version;
+mod writing;
+
+pub use certificate::{Certificate, Departures};
+pub use laws::valid_is_optimal;
+pub use members::{Member, Members};
+pub use writing::write;
