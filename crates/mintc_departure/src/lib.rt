@@ -8,11 +8,13 @@ mod clock_checks;
 mod element_checks;
 mod judging;
 mod latest;
+mod laws;
 mod pair_network;
 mod rounds;
 mod settling;
 
 pub use judging::violations;
+pub use laws::a_pass_means_right;
 pub use mintc_timing::{Broken, Violation};
 pub use rounds::early;
 pub use settling::{Settling, late};
