@@ -12,6 +12,8 @@ mod laws;
 mod pair_network;
 mod rounds;
 mod settling;
+#[cfg(test)]
+mod tests;
 
 pub use judging::violations;
 pub use laws::a_pass_means_right;
