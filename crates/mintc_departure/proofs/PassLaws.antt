@@ -1,4 +1,4 @@
-use Rattle.std.proofs.Common.{◌≡◌, ℕ, ◌+◌, ◌-◌, ◌<◌, ◌≤◌, ℤ, pos, ◌≤ℤ◌, ◌+ℤ◌, ◌-ℤ◌, ◌*ℤ◌, Bool, true, false, List, [], ◌∷◌, ◌++◌, length, get_or, map, Option, Some, None, IfSome, MatchBool, IsTrue, ◌↔◌, inl, inr, ⊎_elim, arith, refl, sym, ap, ◌∙◌, subst, option_map}
+use Rattle.std.proofs.Common.{◌≡◌, ℕ, ◌+◌, ◌-◌, ◌<◌, ◌≤◌, ℤ, pos, ◌≤ℤ◌, ◌+ℤ◌, ◌-ℤ◌, ◌*ℤ◌, Bool, true, false, List, [], ◌∷◌, ◌++◌, map, Option, Some, None, IfSome, MatchBool, IsTrue, ◌↔◌, inl, inr, arith, sym, ◌∙◌, subst, option_map}
 use Rattle.std.proofs.lemmas.Int.{ints, clamps}
 use Rattle.std.specs.Int.{int_max}
 use Rattle.std.specs.List.{All, enumerate_from, filter, filter_map, range_with_len}
@@ -9,13 +9,12 @@ use Rattle.mintc_timing.specs.declared.clocking.Schedule.{Schedule}
 use Rattle.mintc_timing.specs.declared.violation.Broken.{Broken}
 use Rattle.mintc_timing.specs.declared.violation.Broken.TheVariants as broken
 use Rattle.mintc_timing.specs.declared.violation.Violation.{Violation}
-use Rattle.mintc_timing.specs.Clocking.{start_of, width_of, end_of, time_of, crosses_of, feeds_of, least_width, EachPhase, KeepsApart, KeepsBound, KeepsClock, KeepsPhase}
-use Rattle.mintc_timing.specs.Departures.{departure, into, late_arrival, late_arrivals, AreAtMost, AreEarly, AreLate}
+use Rattle.mintc_timing.specs.Clocking.{start_of, width_of, end_of, time_of, crosses_of, feeds_of, least_width, EachPhase, KeepsApart, KeepsBound, KeepsClock}
+use Rattle.mintc_timing.specs.Departures.{departure, into, late_arrival, late_arrivals, AreEarly, AreLate}
 use Rattle.mintc_timing.specs.Design.{Timing, element_at, element_count, phase_count, phase_of}
 use Rattle.mintc_timing.specs.Extremes.{greatest_of}
-use Rattle.mintc_timing.specs.Paths.{HasExtremes}
 use Rattle.mintc_timing.specs.Right.{IsRight, KeepsHold, KeepsSetup}
-use Rattle.mintc_timing.specs.Violations.{AreSettled, EndInLoop, check, failed, phases_of, elements_of, cycle_checks, order_checks, span_checks, width_checks, apart_checks, bound_checks, clock_checks, setup_amount, setup_checks, hold_amount, hold_checks}
+use Rattle.mintc_timing.specs.Violations.{check, failed, phases_of, elements_of, cycle_checks, order_checks, span_checks, width_checks, apart_checks, bound_checks, clock_checks, setup_amount, setup_checks, hold_amount, hold_checks}
 use Rattle.mintc_timing.proofs.AmountLaws.{setups_have_amounts_lem, holds_have_amounts_lem}
 use Rattle.mintc_timing.proofs.DeterminedLaws.{early_are_determined_lem}
 use Rattle.mintc_timing.proofs.Loops.{no_loop}
