@@ -85,7 +85,7 @@ module _ (t : Timing) (s : Schedule) where
       (λ latch. rw (start-latch_early l latch, early-latch d l latch) (greater-from (early_opening t s l) (least_of (early_arrivals t s d l))))
       (cases_Bool (element_at t l).flop)
 
-  everywhere : (d e : List ℤ) → length d ≡ element_count t → length e ≡ element_count t → AreAtMost t d e → (l : ℕ) → departure d l ≤ℤ departure e l
+  pub everywhere : (d e : List ℤ) → length d ≡ element_count t → length e ≡ element_count t → AreAtMost t d e → (l : ℕ) → departure d l ≤ℤ departure e l
   everywhere d e p q h l =
       ⊎_elim
       (λ lt. h l lt)

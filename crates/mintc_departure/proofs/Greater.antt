@@ -1,9 +1,10 @@
-use Rattle.std.proofs.Common.{ℤ, arith, Option, Some, None}
+use Rattle.std.proofs.Common.{ℤ, ◌≤ℤ◌, List, [], ◌∷◌, map, arith, Option, Some, None}
 use Rattle.std.proofs.lemmas.Int.{ints, clamps}
 use Rattle.std.specs.Int.{int_max}
-use Rattle.mintc_timing.specs.Extremes.{greater_of}
+use Rattle.mintc_timing.specs.Extremes.{greater_of, greatest_of}
 use Rattle.mintc_departure.specs.Excesses.{IsLast}
 use Rattle.mintc_departure.specs.Rounds.{IsArrival}
+use Rattle.mintc_departure.proofs.Lesser.{IsNoLater}
 
 -- an arrival more
 pub last-more : (o : Option ℤ) (v y : ℤ) → IsArrival y → IsLast o v → IsLast (Some (greater_of y o)) (int_max y v)
@@ -16,3 +17,14 @@ last-more (Some a) v y r is =
     let r0 = r.0 in
     let r1 = r.1 in
     (omega (arith, ints, clamps), (omega (arith, ints, clamps), omega (arith, ints, clamps)))
+
+greater_of-mono : (x y : ℤ) (o p : Option ℤ) → x ≤ℤ y → IsNoLater o p → greater_of x o ≤ℤ greater_of y p
+greater_of-mono x y None None h k = h
+greater_of-mono x y None (Some b) h k = absurd k
+greater_of-mono x y (Some a) None h k = absurd k
+greater_of-mono x y (Some a) (Some b) h k = omega (arith, ints, clamps)
+
+-- the greatest of greater numbers is no less
+pub greatest-mono : {X : Type 0} (f g : X → ℤ) → ((x : X) → f x ≤ℤ g x) → (xs : List X) → IsNoLater (greatest_of (map f xs)) (greatest_of (map g xs))
+greatest-mono f g h [] = tt
+greatest-mono f g h (x ∷ xs) = greater_of-mono (f x) (g x) (greatest_of (map f xs)) (greatest_of (map g xs)) (h x) (greatest-mono f g h xs)

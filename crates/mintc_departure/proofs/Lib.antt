@@ -14,3 +14,5 @@ pub mod Greater
 pub mod ElementLaws
 pub mod LoopSums
 pub mod JudgedLaws
+pub mod KeptLaws
+pub mod PassLaws

@@ -54,16 +54,16 @@ fn bring(system: &System, schedule: &Schedule, room: &mut Room, number: usize)
     room.set_values(to, earliest);
 }
 
-/// Makes the values so many times `NEVER`.
-fn fill_never(room: &mut Room, count: usize)
+/// Makes the values so many times the item.
+pub(crate) fn fill(room: &mut Room, count: usize, item: i128)
     requires { count ≤ room.old.nodes }
     ensures kept { room.new ≡ record room.old { values = room.new.values } }
     ensures count { length room.new.values ≡ count }
-    ensures each { (l : ℕ) → l < count → value_at room.new.values l ≡ NEVER }
+    ensures each { (l : ℕ) → l < count → value_at room.new.values l ≡ item }
 {
     room.fill_values(count);
     for number in 0..count {
-        room.set_values(number, NEVER);
+        room.set_values(number, item);
     }
 }
 
@@ -78,7 +78,7 @@ pub(crate) fn gather(system: &System, pairs: &[Pair], schedule: &Schedule, room:
     ensures count { length room.new.values ≡ element_count system.now }
     ensures each { (l : ℕ) → l < element_count system.now → IsFirst (least_of (early_arrivals system.now schedule.now room.old.early l)) (value_at room.new.values l) }
 {
-    fill_never(room, system.flat().elements().len());
+    fill(room, system.flat().elements().len(), NEVER);
     for number in 0..pairs.len() {
         bring(system, schedule, room, number);
     }

@@ -10,6 +10,7 @@ ghost use Rattle.mintc_departure.specs.Excesses.{IsLast};
 ghost use Rattle.mintc_departure.specs.Rounds.{AreSums, IsArrival};
 
 use crate::amounts::late_delay;
+use crate::arrivals::fill;
 use mintc_constraints::Room;
 use mintc_timing::{Pair, Schedule, System};
 
@@ -55,19 +56,6 @@ fn bring_latest(system: &System, schedule: &Schedule, room: &mut Room, number: u
     room.set_values(to, last);
 }
 
-/// Makes the values so many times `LONG_AGO`.
-fn fill_long_ago(room: &mut Room, count: usize)
-    requires { count ≤ room.old.nodes }
-    ensures kept { room.new ≡ record room.old { values = room.new.values } }
-    ensures count { length room.new.values ≡ count }
-    ensures each { (l : ℕ) → l < count → value_at room.new.values l ≡ LONG_AGO }
-{
-    room.fill_values(count);
-    for number in 0..count {
-        room.set_values(number, LONG_AGO);
-    }
-}
-
 /// Makes the values the latest arrivals at the elements, by the room's late departures.
 pub(crate) fn gather_latest(system: &System, pairs: &[Pair], schedule: &Schedule, room: &mut Room)
     requires in_range { IsInRange schedule.now }
@@ -79,7 +67,7 @@ pub(crate) fn gather_latest(system: &System, pairs: &[Pair], schedule: &Schedule
     ensures count { length room.new.values ≡ element_count system.now }
     ensures each { (l : ℕ) → l < element_count system.now → IsLast (greatest_of (late_arrivals system.now schedule.now room.old.late l)) (value_at room.new.values l) }
 {
-    fill_long_ago(room, system.flat().elements().len());
+    fill(room, system.flat().elements().len(), LONG_AGO);
     for number in 0..pairs.len() {
         bring_latest(system, schedule, room, number);
     }

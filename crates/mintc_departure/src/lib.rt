@@ -8,11 +8,15 @@ mod clock_checks;
 mod element_checks;
 mod judging;
 mod latest;
+mod laws;
 mod pair_network;
 mod rounds;
 mod settling;
+#[cfg(test)]
+mod tests;
 
 pub use judging::violations;
+pub use laws::{a_pass_means_right, schedules_in_range_are_of_phases};
 pub use mintc_timing::{Broken, Violation};
 pub use rounds::early;
 pub use settling::{Settling, late};

@@ -1,0 +1,32 @@
+use Rattle.std.specs.Prelude.{◌≡◌, ◌<◌, ℕ, ℤ, pos, ◌≤ℤ◌, List, [], length, All, ◌↔◌}
+use Rattle.mintc_timing.specs.declared.clocking.Schedule.{Schedule}
+use Rattle.mintc_timing.specs.declared.violation.Violation.{Violation}
+use Rattle.mintc_timing.specs.Design.{Timing, element_count, phase_count}
+use Rattle.mintc_timing.specs.Limits.{IsInRange}
+use Rattle.mintc_timing.specs.Paths.{ArePairs}
+use Rattle.mintc_timing.specs.Departures.{AreEarly}
+use Rattle.mintc_timing.specs.Right.{IsRight, KeepsHold}
+use Rattle.mintc_timing.specs.Violations.{AreViolations}
+
+-- A schedule of the design's phases, over a denominator of at least 1, that starts no phase before time 0 and makes
+-- none of a negative width.
+pub record IsOfPhases (t : Timing) (s : Schedule) : Type 0 where
+  pub den : pos 1 ≤ℤ s.den
+  pub starts : length s.starts ≡ phase_count t
+  pub widths : length s.widths ≡ phase_count t
+  pub from_zero : All (λ x. pos 0 ≤ℤ x) s.starts
+  pub not_negative : All (λ x. pos 0 ≤ℤ x) s.widths
+
+-- Each schedule in range that has the design's number of phases is one.
+abbrev pub InRangeIsOfPhases : Type 0
+InRangeIsOfPhases = (t : Timing) (s : Schedule) → IsInRange s → length s.starts ≡ phase_count t → IsOfPhases t s
+
+-- Some departures make the schedule right, and each element keeps its hold by the early departures.
+abbrev pub IsPass : Timing → Schedule → Type 0
+IsPass t s =
+    ((d : List ℤ) × IsRight t s d)
+    × ((early : List ℤ) × AreEarly t s early × ((l : ℕ) → l < element_count t → KeepsHold t s early l))
+
+-- A schedule breaks nothing exactly where it passes.
+abbrev pub PassMeansRight : Type 0
+PassMeansRight = (t : Timing) (s : Schedule) (vs : List Violation) → ArePairs t.flat t.pairs → IsOfPhases t s → AreViolations t s vs → (vs ≡ []) ↔ IsPass t s
