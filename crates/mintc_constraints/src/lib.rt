@@ -1,7 +1,10 @@
-//! The memory that searches work in, reserved before they begin.
+//! The links of a design, and the memory that searches over them work in, reserved before they begin.
 #![tactic(auto)]
 
+mod link_list;
 mod lists;
 mod room;
 
+pub use link_list::LinkList;
+pub use mintc_timing::{Link, LinkKind};
 pub use room::Room;
