@@ -2,9 +2,12 @@
 #![tactic(auto)]
 
 mod link_list;
+mod listing;
 mod lists;
+mod making;
 mod room;
 
 pub use link_list::LinkList;
+pub use listing::links;
 pub use mintc_timing::{Link, LinkKind};
 pub use room::Room;
