@@ -1,8 +1,8 @@
-use Rattle.std.proofs.Common.{◌≡◌, ℕ, ◌+◌, ◌<◌, ◌≤◌, List, [], ◌∷◌, ◌++◌, length, get_or, take, map, Bool, true, false, cond, refl, sym, ap, ◌∙◌, append_assoc}
-use Rattle.std.proofs.lemmas.List.{take_more, take_all, map-append, append-nil}
-use Rattle.std.specs.List.{range_with_len, filter, flat_map}
+use Rattle.std.proofs.Common.{◌≡◌, ℕ, ◌+◌, ◌<◌, ◌≤◌, List, [], ◌∷◌, ◌++◌, length, get_or, take, map, Bool, true, false, cond, refl, sym, ap, ◌∙◌, append_assoc, zero-add}
+use Rattle.std.proofs.lemmas.List.{take_more, take_all, map-append, append-nil, length-map, get_or-map, get_or_default}
+use Rattle.std.specs.List.{range_with_len, enumerate_from, filter, flat_map}
 use Rattle.std.proofs.lemmas.Grind.{flat_map-append}
-use Rattle.std.proofs.lemmas.List.FromFn.{length-range_with_len, get_or-range_with_len, length-map-range_with_len, get_or-map-range_with_len}
+use Rattle.std.proofs.lemmas.List.FromFn.{length-range_with_len, get_or-range_with_len, length-map-range_with_len, get_or-map-range_with_len, length-enumerate_from, get_or-enumerate_from}
 use Rattle.std.proofs.lemmas.List.Elements.{filter_more}
 
 module _ {X : Type 0} where
@@ -20,6 +20,26 @@ module _ {X : Type 0} where
   -- all of them
   pub items-all : (all : List X) (i : ℕ) (old now : List X) → length all ≤ i → now ≡ old ++ take i all → now ≡ old ++ all
   items-all all i old now h before = before ∙ ap (λ (ys : List X). old ++ ys) (take_all i all h)
+
+  -- the same of an item for each item of another list, and for each with its number
+  pub map-more : {Y : Type 0} (f : Y → X) (ys : List Y) (i : ℕ) (d : Y) → i < length ys → (old now new : List X) →
+      now ≡ old ++ take i (map f ys) → new ≡ now ++ f (get_or ys i d) ∷ [] → new ≡ old ++ take (i + 1) (map f ys)
+  map-more f ys i d h old now new before step =
+      items-more (map f ys) i (f (get_or ys i d)) old now new (rw (length-map ys f) h) (get_or-map f ys i d (f (get_or ys i d)) h) before step
+
+  pub map-all : {Y : Type 0} (f : Y → X) (ys : List Y) (i : ℕ) → length ys ≤ i → (old now : List X) → now ≡ old ++ take i (map f ys) → now ≡ old ++ map f ys
+  map-all f ys i h old now before = items-all (map f ys) i old now (rw (length-map ys f) h) before
+
+  pub numbered-more : {Y : Type 0} (f : ℕ × Y → X) (ys : List Y) (i : ℕ) (d : Y) → i < length ys → (old now new : List X) →
+      now ≡ old ++ take i (map f (enumerate_from 0 ys)) → new ≡ now ++ f (i, get_or ys i d) ∷ [] → new ≡ old ++ take (i + 1) (map f (enumerate_from 0 ys))
+  numbered-more {Y} f ys i d h old now new before step =
+      let inside : i < length (enumerate_from 0 ys) = rw (length-enumerate_from 0 ys) h in
+      let at : get_or (enumerate_from 0 ys) i (i, d) ≡ (i, get_or ys i d) = get_or-enumerate_from 0 ys i (i, d) h ∙ ap (λ (k : ℕ). (k, get_or ys i d)) (zero-add i) in
+      map-more f (enumerate_from 0 ys) i (i, d) inside old now new before (step ∙ ap (λ (y : ℕ × Y). now ++ f y ∷ []) (sym at))
+
+  pub numbered-all : {Y : Type 0} (f : ℕ × Y → X) (ys : List Y) (i : ℕ) → length ys ≤ i → (old now : List X) →
+      now ≡ old ++ take i (map f (enumerate_from 0 ys)) → now ≡ old ++ map f (enumerate_from 0 ys)
+  numbered-all f ys i h old now before = map-all f (enumerate_from 0 ys) i (rw (length-enumerate_from 0 ys) h) old now before
 
   -- the same of an item for each number of a range
   module _ (f : ℕ → X) (a n i : ℕ) where

@@ -9,7 +9,7 @@ ghost use Rattle.mintc_timing.specs.Violations.{elements_of, phases_of};
 
 use crate::LinkList;
 use crate::making::{
-    apart, bound, cycle_of_phase, elements, opened, opening, order_of_phase, phases, reach, setup,
+    apart, bound, cycle_of_phase, elements, is_latch, opened, opening, order_of_phase, phases, reach, setup,
     span_of_phase, start_of_phase, width_of_phase,
 };
 use mintc_text::OutOfMemory;
@@ -131,8 +131,7 @@ fn append_openeds(system: &System, items: &mut Vec<Link>) -> Result<(), OutOfMem
     ensures { OnOk result (items.new.items ≡ items.old.items ++ map (opened_link system.now) (latches_of system.now)) }
 {
     for number in 0..elements(system) {
-        let latch = !system.element(number).flop;
-        append_if(items, latch, opened(system, number))?;
+        append_if(items, is_latch(system, number), opened(system, number))?;
     }
     Ok(())
 }

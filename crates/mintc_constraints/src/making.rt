@@ -1,5 +1,5 @@
 //! Links, one of each kind.
-ghost use Rattle.std.specs.Prelude.{◌≡◌, ◌<◌, ◌≤◌, ◌+◌, length};
+ghost use Rattle.std.specs.Prelude.{◌≡◌, ◌<◌, ◌≤◌, ◌+◌, not, length};
 ghost use Rattle.std.specs.Int.{int_max};
 ghost use Rattle.mintc_timing.specs.Clocking.{least_width};
 ghost use Rattle.mintc_timing.specs.Design.{element_at, element_count, pair_at, phase_count, phase_of};
@@ -32,6 +32,14 @@ fn phase(system: &System, number: u32) -> u32
 {
     let _phases = phases(system);
     system.element(number).phase
+}
+
+/// Whether an element is a latch, a listed port among them.
+pub(crate) fn is_latch(system: &System, number: u32) -> bool
+    requires { number < element_count system.now }
+    ensures { result ≡ not (element_at system.now number).flop }
+{
+    !system.element(number).flop
 }
 
 /// The node of a phase's start.
