@@ -1,2 +1,5 @@
 pub mod ListLaws
 pub mod Appending
+pub mod Members
+pub mod ByKind
+pub mod OrdinaryLaws

@@ -1,3 +1,4 @@
 pub mod Ordinary
 pub mod Rooms
 pub mod Walked
+pub mod Laws

@@ -9,8 +9,8 @@ ghost use Rattle.mintc_timing.specs.Violations.{elements_of, phases_of};
 
 use crate::LinkList;
 use crate::making::{
-    apart, bound, cycle_of_phase, elements, is_latch, opened, opening, order_of_phase, phases, reach, setup,
-    span_of_phase, start_of_phase, width_of_phase,
+    apart, bound, cycle_of_phase, elements, is_latch, nodes, opened, opening, order_of_phase,
+    phases, reach, setup, span_of_phase, start_of_phase, width_of_phase,
 };
 use mintc_text::OutOfMemory;
 use mintc_timing::{Link, System, feeds};
@@ -192,6 +192,5 @@ pub fn links(alloc: Global, system: &System) -> Result<LinkList, OutOfMemory>
 {
     let mut items = Vec::new(alloc);
     append_all(system, &mut items)?;
-    let nodes = 1 + 2 * phases(system) + elements(system);
-    Ok(LinkList::new(nodes, items))
+    Ok(LinkList::new(nodes(system), items))
 }

@@ -4,7 +4,9 @@ ghost use Rattle.std.specs.Int.{int_max};
 ghost use Rattle.mintc_timing.specs.Clocking.{least_width};
 ghost use Rattle.mintc_timing.specs.Design.{element_at, element_count, pair_at, phase_count, phase_of};
 ghost use Rattle.mintc_timing.specs.Limits.{IsBound, IsDelay, IsDesign, IsPhase, IsPoint};
+ghost use Rattle.mintc_timing.specs.Order.{IsTiming};
 ghost use Rattle.mintc_timing.specs.Links.{start_node, end_node, element_node, output_node, point_node, start_link, cycle_link, order_link, span_link, width_link, apart_link, open_link, opened_link, reach_link, setup_link, bound_link};
+ghost use Rattle.mintc_constraints.specs.Laws.{node_count};
 
 use mintc_timing::{Bound, Link, LinkKind, Point, System, crosses};
 
@@ -68,6 +70,16 @@ fn point(point: Point) -> u32
         Point::Start(phase) => start(phase),
         Point::End(phase) => end(phase),
     }
+}
+
+/// How many nodes there are.
+pub(crate) fn nodes(system: &System) -> u32
+    ensures value { result ≡ node_count system.now }
+    ensures design { IsDesign system.now.flat }
+    ensures timing { IsTiming system.now.flat system.now.order system.now.pairs }
+{
+    let _pairs = system.pairs();
+    1 + 2 * phases(system) + elements(system)
 }
 
 /// The node of an element's moment.
