@@ -3,3 +3,4 @@ pub mod Appending
 pub mod Members
 pub mod ByKind
 pub mod OrdinaryLaws
+pub mod MomentLaws

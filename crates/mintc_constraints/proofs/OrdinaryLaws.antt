@@ -86,7 +86,7 @@ module _ (t : Timing) (limits : IsDesign t.flat) where
   element_is : (l : ℕ) → l < element_count t → IsElement (phase_count t) (element_at t l)
   element_is l h = limits.each_element l no_element h
 
-  least_width-range : (p : ℕ) → IsDelay (least_width t p)
+  pub least_width-range : (p : ℕ) → IsDelay (least_width t p)
   least_width-range p =
       let width = λ (e : Element). e.width in
       let on = λ (e : Element). e.phase == p in

@@ -2,3 +2,4 @@ pub mod Ordinary
 pub mod Rooms
 pub mod Walked
 pub mod Laws
+pub mod Duality
