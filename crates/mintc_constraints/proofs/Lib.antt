@@ -4,3 +4,5 @@ pub mod Members
 pub mod ByKind
 pub mod OrdinaryLaws
 pub mod MomentLaws
+pub mod RightLaws
+pub mod ChainLaws

@@ -1,12 +1,11 @@
-use Rattle.std.proofs.Common.{◌≡◌, ℕ, ◌<◌, ◌≤◌, ◌+◌, ◌-◌, ◌*◌, ◌==◌, ℤ, pos, negsuc, ◌≤ℤ◌, ◌+ℤ◌, ◌-ℤ◌, ◌*ℤ◌, neg_ℤ, Bool, true, false, cond, IsTrue, IsFalse, List, [], ◌∷◌, length, get_or, map, arith, refl, ap, ◌∙◌, sym, eq-eqb, inl, inr, ◌⊎◌, ⊎_elim, Option, Some, None, IfSome}
+use Rattle.std.proofs.Common.{◌≡◌, ℕ, ◌<◌, ◌≤◌, ◌+◌, ◌-◌, ◌*◌, ◌==◌, ℤ, pos, ◌≤ℤ◌, ◌+ℤ◌, ◌-ℤ◌, ◌*ℤ◌, Bool, true, false, cond, List, length, get_or, arith, refl, ap, ◌∙◌, sym, eq-eqb, inl, inr, ◌⊎◌, ⊎_elim, Option, Some, None, IfSome}
 use Rattle.std.proofs.lemmas.Int.{ints, clamps}
 use Rattle.std.proofs.lemmas.Bool.Decides.{nat_tests}
 use Rattle.std.proofs.lemmas.List.{get_or_default}
 use Rattle.std.proofs.lemmas.List.FromFn.{length-map-range_with_len, get_or-map-range_with_len}
-use Rattle.std.specs.List.{All, Any, filter}
+use Rattle.std.specs.List.{All, Any}
 use Rattle.mintc_walks.specs.Walks.{value_at}
 use Rattle.mintc_timing.specs.declared.parts.Pair.{Pair}
-use Rattle.mintc_timing.specs.declared.parts.Bound.{Bound}
 use Rattle.mintc_timing.specs.declared.parts.Point.{Point}
 use Rattle.mintc_timing.specs.declared.parts.Point.TheVariants as point
 use Rattle.mintc_timing.specs.declared.clocking.Schedule.{Schedule}
@@ -14,17 +13,17 @@ use Rattle.mintc_timing.specs.declared.link.Link.{Link}
 use Rattle.mintc_timing.specs.declared.link.LinkKind.TheVariants as kind
 use Rattle.mintc_timing.specs.Design.{Timing, phase_count, element_count, element_at, phase_of, pair_at, no_element, no_pair}
 use Rattle.mintc_timing.specs.Extremes.{greater_of, greatest_of, IsGreatest}
-use Rattle.mintc_timing.specs.Clocking.{start_of, width_of, end_of, crosses_of, feeds_of, least_width, time_of, EachPhase, KeepsApart, KeepsPhase, KeepsClock, KeepsBound}
+use Rattle.mintc_timing.specs.Clocking.{start_of, width_of, end_of, least_width, time_of, KeepsApart, KeepsPhase, KeepsClock, KeepsBound}
 use Rattle.mintc_timing.specs.Departures.{departure, late_arrival, late_arrivals, late_opening, late_departure, AreExact}
-use Rattle.mintc_timing.specs.Limits.{IsPhase, IsDesign, IsPoint, IsDelay}
-use Rattle.mintc_timing.specs.Links.{link, links_of, start_node, end_node, element_node, output_node, point_node, start_link, cycle_link, order_link, span_link, width_link, apart_link, open_link, opened_link, reach_link, setup_link, bound_link}
+use Rattle.mintc_timing.specs.Limits.{IsPhase, IsDesign, IsPoint}
+use Rattle.mintc_timing.specs.Links.{link, links_of, start_node, end_node, element_node, output_node, point_node, open_link, reach_link, setup_link}
 use Rattle.mintc_timing.specs.Right.{IsRight, KeepsSetup}
 use Rattle.mintc_timing.proofs.DepartureLaws.{late_departure-latch, late_departure-flop}
 use Rattle.mintc_timing.proofs.ExtremesLaws.{greatest_is, greater-least, greater-bound, greater-attained}
-use Rattle.mintc_timing.proofs.Products.{neg-times, times-mono_positive}
+use Rattle.mintc_timing.proofs.Products.{times-mono_positive}
 use Rattle.mintc_timing.proofs.SetupLaws.{KeepsSetup-latch}
 use Rattle.mintc_constraints.specs.Ordinary.{link_at}
-use Rattle.mintc_constraints.specs.Duality.{brought, IsMet, IsBrought, AreMoments, AreExactMoments, schedule_of, departure_of, departures_of, HasEnds, MomentsAreRight}
+use Rattle.mintc_constraints.specs.Duality.{brought, IsMet, AreExactMoments, schedule_of, departure_of, departures_of, HasEnds, MomentsAreRight}
 use Rattle.mintc_constraints.proofs.ByKind.{EachKind, All-links, EachKind-from_all}
 use Rattle.mintc_constraints.proofs.OrdinaryLaws.{least_width-range}
 
@@ -36,10 +35,10 @@ cond-low : (b : Bool) (x y most : ℕ) → x ≤ most → y ≤ most → cond b 
 cond-low true x y most p q = p
 cond-low false x y most p q = q
 
-same_number : (a b : ℕ) → (a == b) ≡ true → a ≡ b
+pub same_number : (a b : ℕ) → (a == b) ≡ true → a ≡ b
 same_number a b h = grind (arith, nat_tests)
 
-not_both_ways : (b : Bool) → b ≡ true → b ≡ false → ⊥
+pub not_both_ways : (b : Bool) → b ≡ true → b ≡ false → ⊥
 not_both_ways b g h = cc
 
 equal_from_both : (x y : ℤ) → x ≤ℤ y → y ≤ℤ x → x ≡ y

@@ -1,13 +1,12 @@
-use Rattle.std.proofs.Common.{◌≡◌, ℕ, ◌<◌, ◌≤◌, ◌+◌, ◌-◌, ◌*◌, ◌/◌, ◌%◌, ◌^◌, ◌==◌, ℤ, pos, negsuc, ◌≤ℤ◌, ◌+ℤ◌, ◌-ℤ◌, neg_ℤ, Bool, true, false, not, cond, IsTrue, List, [], ◌∷◌, ◌++◌, length, get_or, map, arith, refl, ap, ◌∙◌, subst, inl, inr, ◌⊎◌, ⊎_elim, length-append}
+use Rattle.std.proofs.Common.{◌≡◌, ℕ, ◌<◌, ◌≤◌, ◌+◌, ◌-◌, ◌*◌, ◌/◌, ◌%◌, ◌^◌, ◌==◌, ℤ, pos, negsuc, ◌≤ℤ◌, ◌-ℤ◌, neg_ℤ, Bool, true, false, not, cond, List, [], ◌∷◌, length, get_or, map, arith, refl, ap, ◌∙◌, subst, ⊎_elim, length-append}
 use Rattle.std.proofs.lemmas.Int.{ints}
 use Rattle.std.proofs.lemmas.Bool.{cases_eq, cases_lt}
 use Rattle.std.proofs.lemmas.Bool.Decides.{nat_tests}
 use Rattle.std.proofs.lemmas.List.{length-map, get_or_default}
 use Rattle.std.proofs.lemmas.List.FromFn.{length-range_with_len, length-enumerate_from}
 use Rattle.std.proofs.lemmas.List.Sums.{length-filter, count_by-le-length}
-use Rattle.std.specs.List.{All, Any, Contains, range_with_len, enumerate_from, filter, flat_map}
+use Rattle.std.specs.List.{Any, Contains, filter}
 use Rattle.mintc_timing.specs.declared.parts.Element.{Element}
-use Rattle.mintc_timing.specs.declared.parts.Bound.{Bound}
 use Rattle.mintc_timing.specs.declared.parts.Point.{Point}
 use Rattle.mintc_timing.specs.declared.parts.Point.TheVariants as point
 use Rattle.mintc_timing.specs.declared.link.Link.{Link}
@@ -17,12 +16,14 @@ use Rattle.mintc_timing.specs.Extremes.{greater_of, greatest_of}
 use Rattle.mintc_timing.specs.Clocking.{crosses_of, feeds_of, least_width}
 use Rattle.mintc_timing.specs.Limits.{IsPhase, IsElement, IsDesign, IsDelay, IsGap, IsPoint}
 use Rattle.mintc_timing.specs.Order.{IsTiming}
+use Rattle.mintc_timing.specs.Paths.{ArePairs}
 use Rattle.mintc_timing.specs.Links.{link, links_of, start_node, end_node, element_node, output_node, point_node, start_link, cycle_link, order_link, span_link, width_link, apart_link, open_link, opened_link, reach_link, setup_link, bound_link, latches_of}
 use Rattle.mintc_timing.specs.Violations.{phases_of, elements_of}
 use Rattle.mintc_timing.proofs.ExtremesLaws.{greatest_is, greater-least, greater-attained}
 use Rattle.mintc_timing.proofs.Ranges.{pair-max_range}
 use Rattle.mintc_constraints.specs.Ordinary.{link_at, Leads, HasPlainLink, IsOrdinaryLink, IsOrdinary, constraints_of}
 use Rattle.mintc_constraints.specs.Laws.{node_count, LinksAreOrdinary}
+use Rattle.mintc_constraints.specs.Duality.{HasEnds}
 use Rattle.mintc_constraints.proofs.Members.{length-flat_map_at_most}
 use Rattle.mintc_constraints.proofs.ByKind.{EachKind, All-links, stands}
 
@@ -82,6 +83,10 @@ longer links k a b c h from to rest =
     let ends : (link_at links found.0).to ≡ b = ap (λ (x : Link). x.to) found.2 ∙ to in
     (found.0 ∷ rest.0, (found.1, leaves, rw ends rest.1))
 
+-- the ends of the pairs of a system
+pub ends_of : (t : Timing) → ArePairs t.flat t.pairs → HasEnds t
+ends_of t pairs_are = λ n d h. let named = pairs_are.each n d h in (named.from, named.to)
+
 module _ (t : Timing) (limits : IsDesign t.flat) where
   element_is : (l : ℕ) → l < element_count t → IsElement (phase_count t) (element_at t l)
   element_is l h = limits.each_element l no_element h
@@ -127,70 +132,70 @@ module _ (t : Timing) (limits : IsDesign t.flat) where
           let mapped = length-map (filter (feeds_of t i) (phases_of t)) (apart_link i) in
           omega arith
 
-  module _ (kept : IsTiming t.flat t.order t.pairs) where
-    each_ordinary : EachKind t (IsOrdinaryLink (node_count t))
-    each_ordinary = record {
-      start = λ p h. let low = h.0 in let high = h.1 in record { from = omega arith; to = omega arith; cycles = omega arith; delay = (omega (arith, ints), omega (arith, ints)) };
-      cycle = λ p h. let low = h.0 in let high = h.1 in record { from = omega arith; to = omega arith; cycles = omega arith; delay = (omega (arith, ints), omega (arith, ints)) };
-      order = λ p low high. record { from = omega arith; to = omega arith; cycles = omega arith; delay = (omega (arith, ints), omega (arith, ints)) };
-      span = λ p h. let low = h.0 in let high = h.1 in record { from = omega arith; to = omega arith; cycles = omega arith; delay = (omega (arith, ints), omega (arith, ints)) };
-      width = λ p h.
-          let low = h.0 in let high = h.1 in
-          let range = least_width-range p in
-          record { from = omega arith; to = omega arith; cycles = omega arith; delay = (omega (arith, ints), omega (arith, ints)) };
-      apart = λ i j g h fed.
-          let one = g.0 in let two = g.1 in let low = h.0 in let high = h.1 in
-          record { from = omega arith; to = omega arith; cycles = crosses-at_most j i; delay = (omega (arith, ints), omega (arith, ints)) };
-      opening = λ l h.
-          let e = element_is l h in
-          let phase = e.phase in
-          let gap = opening_gap l h in
-          record { from = omega arith; to = omega arith; cycles = omega arith; delay = (omega (arith, ints), omega (arith, ints)) };
-      opened = λ l h latch.
-          let e = element_is l h in
-          let phase = e.phase in
-          let gap = e.setup in
-          record { from = omega arith; to = omega arith; cycles = omega arith; delay = (omega (arith, ints), omega (arith, ints)) };
-      reach = λ n h.
-          let named = kept.extremes.each n no_pair h in
-          let to = named.to in
-          let delay = (element_is (pair_at t n).from named.from).dq_max in
-          let longest = pair-max_range t.flat t.order t.pairs limits kept n no_pair h in
-          record {
-            from = output_below (pair_at t n).from named.from;
-            to = omega arith;
-            cycles = crosses-at_most (phase_of t (pair_at t n).from) (phase_of t (pair_at t n).to);
-            delay = (omega (arith, ints), omega (arith, ints));
-          };
+  module _ (ends : HasEnds t) where
+    output_below : (l : ℕ) → l < element_count t → output_node t l < node_count t
+    output_below l h =
+        let phase = (element_is l h).phase in
+        cond-below (element_at t l).flop (start_node (phase_of t l)) (element_node t l) (node_count t) (omega arith) (omega arith)
+
+    -- each link leads from a node to a node
+    pub each_between : EachKind t (λ k. (k.from < node_count t) × (k.to < node_count t))
+    each_between = record {
+      start = λ p h. let low = h.0 in let high = h.1 in (omega arith, omega arith);
+      cycle = λ p h. let low = h.0 in let high = h.1 in (omega arith, omega arith);
+      order = λ p low high. (omega arith, omega arith);
+      span = λ p h. let low = h.0 in let high = h.1 in (omega arith, omega arith);
+      width = λ p h. let low = h.0 in let high = h.1 in (omega arith, omega arith);
+      apart = λ i j g h fed. let one = g.0 in let two = g.1 in let low = h.0 in let high = h.1 in (omega arith, omega arith);
+      opening = λ l h. let phase = (element_is l h).phase in (omega arith, omega arith);
+      opened = λ l h latch. let phase = (element_is l h).phase in (omega arith, omega arith);
+      reach = λ n h. let to = (ends n no_pair h).1 in (output_below (pair_at t n).from (ends n no_pair h).0, omega arith);
       setup = λ l h.
-          let e = element_is l h in
-          let phase = e.phase in
-          let gap = e.setup in
-          record {
-            from = omega arith;
-            to = cond-below (element_at t l).flop (start_node (phase_of t l)) (end_node (phase_of t l)) (node_count t) (omega arith) (omega arith);
-            cycles = omega arith;
-            delay = (omega (arith, ints), omega (arith, ints));
-          };
+          let phase = (element_is l h).phase in
+          (omega arith, cond-below (element_at t l).flop (start_node (phase_of t l)) (end_node (phase_of t l)) (node_count t) (omega arith) (omega arith));
       bound = λ n d h.
           let b = limits.each_bound n d h in
-          let gap = b.gap in
-          record { from = point_below (get_or t.flat.bounds n d).from b.from; to = point_below (get_or t.flat.bounds n d).to b.to; cycles = b.cycles; delay = (omega (arith, ints), omega (arith, ints)) };
+          (point_below (get_or t.flat.bounds n d).from b.from, point_below (get_or t.flat.bounds n d).to b.to);
     }
-      where
-        opening_gap : (l : ℕ) → l < element_count t → IsGap (open_link t l).delay
-        opening_gap l h =
-            let e = element_is l h in
-            let gap = e.setup in
-            let dq = e.dq_max in
-            let cq = e.cq_max in
-            cond-IsGap (element_at t l).flop (neg_ℤ (element_at t l).setup) ((element_at t l).cq_max -ℤ (element_at t l).dq_max)
-            (omega (arith, ints), omega (arith, ints)) (omega (arith, ints), omega (arith, ints))
 
-        output_below : (l : ℕ) → l < element_count t → output_node t l < node_count t
-        output_below l h =
-            let phase = (element_is l h).phase in
-            cond-below (element_at t l).flop (start_node (phase_of t l)) (element_node t l) (node_count t) (omega arith) (omega arith)
+  module _ (kept : IsTiming t.flat t.order t.pairs) where
+    opening_gap : (l : ℕ) → l < element_count t → IsGap (open_link t l).delay
+    opening_gap l h =
+        let e = element_is l h in
+        let gap = e.setup in
+        let dq = e.dq_max in
+        let cq = e.cq_max in
+        cond-IsGap (element_at t l).flop (neg_ℤ (element_at t l).setup) ((element_at t l).cq_max -ℤ (element_at t l).dq_max)
+        (omega (arith, ints), omega (arith, ints)) (omega (arith, ints), omega (arith, ints))
+
+    each_ordinary : EachKind t (IsOrdinaryLink (node_count t))
+    each_ordinary =
+        let between = each_between (ends_of t kept.extremes) in
+        record {
+          start = λ p h. ordinary_link (start_link p) (between.start p h) (omega arith) (omega (arith, ints), omega (arith, ints));
+          cycle = λ p h. ordinary_link (cycle_link p) (between.cycle p h) (omega arith) (omega (arith, ints), omega (arith, ints));
+          order = λ p low high. ordinary_link (order_link p) (between.order p low high) (omega arith) (omega (arith, ints), omega (arith, ints));
+          span = λ p h. ordinary_link (span_link p) (between.span p h) (omega arith) (omega (arith, ints), omega (arith, ints));
+          width = λ p h. let range = least_width-range p in ordinary_link (width_link t p) (between.width p h) (omega arith) (omega (arith, ints), omega (arith, ints));
+          apart = λ i j g h fed. ordinary_link (apart_link i j) (between.apart i j g h fed) (crosses-at_most j i) (omega (arith, ints), omega (arith, ints));
+          opening = λ l h. let gap = opening_gap l h in ordinary_link (open_link t l) (between.opening l h) (omega arith) (omega (arith, ints), omega (arith, ints));
+          opened = λ l h latch.
+              let gap = (element_is l h).setup in ordinary_link (opened_link t l) (between.opened l h latch) (omega arith) (omega (arith, ints), omega (arith, ints));
+          reach = λ n h.
+              let named = kept.extremes.each n no_pair h in
+              let delay = (element_is (pair_at t n).from named.from).dq_max in
+              let longest = pair-max_range t.flat t.order t.pairs limits kept n no_pair h in
+              ordinary_link (reach_link t (pair_at t n).from (pair_at t n).to (pair_at t n).max) (between.reach n h)
+              (crosses-at_most (phase_of t (pair_at t n).from) (phase_of t (pair_at t n).to)) (omega (arith, ints), omega (arith, ints));
+          setup = λ l h. let gap = (element_is l h).setup in ordinary_link (setup_link t l) (between.setup l h) (omega arith) (omega (arith, ints), omega (arith, ints));
+          bound = λ n d h.
+              let b = limits.each_bound n d h in
+              let gap = b.gap in
+              ordinary_link (bound_link n (get_or t.flat.bounds n d)) (between.bound n d h) b.cycles (omega (arith, ints), omega (arith, ints));
+        }
+      where
+        ordinary_link : (k : Link) → (k.from < node_count t) × (k.to < node_count t) → k.cycles ≤ 1 → (negsuc 3999999999 ≤ℤ k.delay) × (k.delay ≤ℤ pos 2000000000) → IsOrdinaryLink (node_count t) k
+        ordinary_link k between cycles delay = record { from = between.0; to = between.1; cycles = cycles; delay = delay }
 
     to_start : (p : ℕ) → IsPhase (phase_count t) p → (walk : List ℕ) × Leads (links_of t) 0 walk (start_node p)
     to_start p h = longer (links_of t) (start_link p) 0 (start_node p) (start_node p) ((stands t).start p h) refl refl ([], refl)

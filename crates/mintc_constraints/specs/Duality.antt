@@ -1,4 +1,4 @@
-use Rattle.std.specs.Prelude.{◌≡◌, ◌<◌, ◌≤◌, ◌+◌, ◌*◌, ℕ, ℤ, pos, ◌+ℤ◌, ◌-ℤ◌, ◌*ℤ◌, ◌≤ℤ◌, ◌<ℤ◌, if◌then◌else◌, IsFalse, List, length, map, All}
+use Rattle.std.specs.Prelude.{◌≡◌, ◌<◌, ℕ, ℤ, pos, ◌+ℤ◌, ◌-ℤ◌, ◌*ℤ◌, ◌≤ℤ◌, ◌<ℤ◌, if◌then◌else◌, IsFalse, List, length, map, All}
 use Rattle.std.specs.List.{range_with_len}
 use Rattle.mintc_walks.specs.Walks.{value_at}
 use Rattle.mintc_timing.specs.declared.clocking.Schedule.{Schedule}
@@ -66,9 +66,9 @@ abbrev pub MomentsAreRight : Type 0
 MomentsAreRight = (t : Timing) (num den : ℤ) (values : List ℤ) → IsDesign t.flat → HasEnds t → pos 1 ≤ℤ den → AreExactMoments t num den values →
     IsRight t (schedule_of t num den values) (departures_of t values)
 
--- A right schedule with its departures has moments that meet each link.
+-- A right schedule with its departures has moments that meet each link, exact at the latches.
 abbrev pub RightHasMoments : Type 0
-RightHasMoments = (t : Timing) (s : Schedule) (d : List ℤ) → IsDesign t.flat → HasEnds t → IsRight t s d → AreMoments t s.cycle s.den (moments_of t s d)
+RightHasMoments = (t : Timing) (s : Schedule) (d : List ℤ) → IsDesign t.flat → HasEnds t → IsRight t s d → AreExactMoments t s.cycle s.den (moments_of t s d)
 
 -- A chain that forbids a cycle time leaves no right schedule with it.
 abbrev pub ForbiddenIsNotRight : Type 0

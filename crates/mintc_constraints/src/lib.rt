@@ -8,7 +8,10 @@ mod lists;
 mod making;
 mod room;
 
-pub use laws::links_are_ordinary;
+pub use laws::{
+    forbidden_is_not_right, links_are_ordinary, moments_are_right, right_has_moments,
+    stuck_is_hopeless, tight_is_least,
+};
 pub use link_list::LinkList;
 pub use listing::links;
 pub use mintc_timing::{Link, LinkKind};
