@@ -6,3 +6,4 @@ pub mod OrdinaryLaws
 pub mod MomentLaws
 pub mod RightLaws
 pub mod ChainLaws
+pub mod WorkedLinks

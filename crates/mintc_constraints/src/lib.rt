@@ -7,6 +7,8 @@ mod listing;
 mod lists;
 mod making;
 mod room;
+#[cfg(test)]
+mod tests;
 
 pub use laws::{
     forbidden_is_not_right, links_are_ordinary, moments_are_right, right_has_moments,
