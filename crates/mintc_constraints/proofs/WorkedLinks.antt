@@ -1,9 +1,8 @@
-use Rattle.std.proofs.Common.{◌≡◌, ℕ, zero, suc, ℤ, pos, negsuc, ◌≤ℤ◌, ◌<◌, ◌≤◌, ◌+◌, ◌*◌, false, true, IsFalse, List, [], ◌∷◌, length, get_or, arith, refl}
+use Rattle.std.proofs.Common.{◌≡◌, ℕ, ℤ, pos, negsuc, ◌≤ℤ◌, ◌<◌, ◌≤◌, ◌+◌, ◌*◌, false, true, List, [], ◌∷◌, arith, refl}
 use Rattle.std.proofs.lemmas.Int.{ints}
 use Rattle.std.proofs.lemmas.List.Elements.{All-nil, All-cons}
-use Rattle.std.specs.List.{All, Contains}
+use Rattle.std.specs.List.{Contains}
 use Rattle.mintc_timing.specs.declared.parts.Element.{Element}
-use Rattle.mintc_timing.specs.declared.parts.Bound.{Bound}
 use Rattle.mintc_timing.specs.declared.parts.Point.TheVariants as point
 use Rattle.mintc_timing.specs.declared.link.LinkKind.TheVariants as kind
 use Rattle.mintc_timing.specs.declared.link.Link.{Link}
@@ -14,7 +13,7 @@ use Rattle.mintc_timing.specs.Right.{IsLeastCycle}
 use Rattle.mintc_timing.specs.Worked.{latch, pair, ring, of_100}
 use Rattle.mintc_timing.proofs.WorkedPairs.{pairs_of_ring}
 use Rattle.mintc_timing.proofs.WorkedRows.{right_100}
-use Rattle.mintc_constraints.specs.Duality.{AreExactMoments, moments_of, schedule_of, departures_of, HasEnds}
+use Rattle.mintc_constraints.specs.Duality.{AreExactMoments, moments_of, schedule_of, departures_of}
 use Rattle.mintc_constraints.proofs.OrdinaryLaws.{ends_of}
 use Rattle.mintc_constraints.proofs.RightLaws.{right_has_moments_lem}
 use Rattle.mintc_constraints.proofs.ChainLaws.{tight_is_least_lem}
