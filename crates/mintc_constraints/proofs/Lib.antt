@@ -3,6 +3,7 @@ pub mod Appending
 pub mod Members
 pub mod ByKind
 pub mod OrdinaryLaws
+pub mod Arrivals
 pub mod MomentLaws
 pub mod RightLaws
 pub mod ChainLaws

@@ -1,29 +1,25 @@
-use Rattle.std.proofs.Common.{◌≡◌, ℕ, ◌<◌, ◌≤◌, ◌+◌, ◌-◌, ◌*◌, ◌==◌, ℤ, pos, ◌≤ℤ◌, ◌+ℤ◌, ◌-ℤ◌, ◌*ℤ◌, Bool, true, false, cond, List, length, get_or, arith, refl, ap, ◌∙◌, sym, eq-eqb, inl, inr, ◌⊎◌, ⊎_elim, Option, Some, None, IfSome}
+use Rattle.std.proofs.Common.{◌≡◌, ℕ, ◌<◌, ◌≤◌, ◌+◌, ◌-◌, ◌*◌, ℤ, pos, ◌≤ℤ◌, ◌+ℤ◌, ◌-ℤ◌, ◌*ℤ◌, Bool, true, false, cond, List, length, get_or, arith, refl, ap, ◌∙◌, sym, inl, inr, ◌⊎◌, ⊎_elim}
 use Rattle.std.proofs.lemmas.Int.{ints, clamps}
-use Rattle.std.proofs.lemmas.Bool.Decides.{nat_tests}
-use Rattle.std.proofs.lemmas.List.{get_or_default}
 use Rattle.std.proofs.lemmas.List.FromFn.{length-map-range_with_len, get_or-map-range_with_len}
-use Rattle.std.specs.List.{All, Any}
+use Rattle.std.specs.List.{All}
 use Rattle.mintc_walks.specs.Walks.{value_at}
-use Rattle.mintc_timing.specs.declared.parts.Pair.{Pair}
 use Rattle.mintc_timing.specs.declared.parts.Point.{Point}
 use Rattle.mintc_timing.specs.declared.parts.Point.TheVariants as point
 use Rattle.mintc_timing.specs.declared.clocking.Schedule.{Schedule}
 use Rattle.mintc_timing.specs.declared.link.Link.{Link}
 use Rattle.mintc_timing.specs.declared.link.LinkKind.TheVariants as kind
 use Rattle.mintc_timing.specs.Design.{Timing, phase_count, element_count, element_at, phase_of, pair_at, no_element, no_pair}
-use Rattle.mintc_timing.specs.Extremes.{greater_of, greatest_of, IsGreatest}
 use Rattle.mintc_timing.specs.Clocking.{start_of, width_of, end_of, least_width, time_of, KeepsApart, KeepsPhase, KeepsClock, KeepsBound}
-use Rattle.mintc_timing.specs.Departures.{departure, late_arrival, late_arrivals, late_opening, late_departure, AreExact}
+use Rattle.mintc_timing.specs.Departures.{departure, late_arrival, late_opening, late_departure, AreExact}
 use Rattle.mintc_timing.specs.Limits.{IsPhase, IsDesign, IsPoint}
 use Rattle.mintc_timing.specs.Links.{link, links_of, start_node, end_node, element_node, output_node, point_node, open_link, reach_link, setup_link}
 use Rattle.mintc_timing.specs.Right.{IsRight, KeepsSetup}
 use Rattle.mintc_timing.proofs.DepartureLaws.{late_departure-latch, late_departure-flop}
-use Rattle.mintc_timing.proofs.ExtremesLaws.{greatest_is, greater-least, greater-bound, greater-attained}
 use Rattle.mintc_timing.proofs.Products.{times-mono_positive}
 use Rattle.mintc_timing.proofs.SetupLaws.{KeepsSetup-latch}
 use Rattle.mintc_constraints.specs.Ordinary.{link_at}
 use Rattle.mintc_constraints.specs.Duality.{brought, IsMet, AreExactMoments, schedule_of, departure_of, departures_of, HasEnds, MomentsAreRight}
+use Rattle.mintc_constraints.proofs.Arrivals.{latest, ArrivesBy, latest-opens, latest-arrives, latest-attained, greatest-from_each}
 use Rattle.mintc_constraints.proofs.ByKind.{EachKind, All-links, EachKind-from_all}
 use Rattle.mintc_constraints.proofs.OrdinaryLaws.{least_width-range}
 
@@ -34,12 +30,6 @@ EntersBy t l k = (k ≡ open_link t l) ⊎ ((n : ℕ) × (n < length t.pairs) ×
 cond-low : (b : Bool) (x y most : ℕ) → x ≤ most → y ≤ most → cond b x y ≤ most
 cond-low true x y most p q = p
 cond-low false x y most p q = q
-
-pub same_number : (a b : ℕ) → (a == b) ≡ true → a ≡ b
-same_number a b h = grind (arith, nat_tests)
-
-pub not_both_ways : (b : Bool) → b ≡ true → b ≡ false → ⊥
-not_both_ways b g h = cc
 
 equal_from_both : (x y : ℤ) → x ≤ℤ y → y ≤ℤ x → x ≡ y
 equal_from_both x y g h = omega (arith, ints)
@@ -208,47 +198,38 @@ module _ (t : Timing) (limits : IsDesign t.flat) (ends : HasEnds t) where
         let node : value_at values (element_node t (pair_at t n).to) ≡ value_at values (element_node t l) = ap (λ (m : ℕ). value_at values (element_node t m)) to in
         omega (arith, ints)
 
-    -- the greatest arrival at an element
-    tops : (l : ℕ) → IsGreatest (late_arrival t s d) (λ (p : Pair). p.to == l) t.pairs (greatest_of (late_arrivals t s d l))
-    tops l = greatest_is (late_arrival t s d) (λ (p : Pair). p.to == l) t.pairs
-
-    abbrev latest : ℕ → ℤ
-    latest l = greater_of (late_opening t s l) (greatest_of (late_arrivals t s d l))
-
     -- A latch departs no sooner than it opens and its data arrives,
-    at_least : (l : ℕ) → l < element_count t → (element_at t l).flop ≡ false → latest l ≤ℤ departure d l
+    at_least : (l : ℕ) → l < element_count t → (element_at t l).flop ≡ false → latest t s d l ≤ℤ departure d l
     at_least l h latch =
         let moment = moment_is-latch l h latch in
         ⊎_elim
-        (λ (is : latest l ≡ late_opening t s l).
+        (λ (opens : latest t s d l ≡ late_opening t s l).
         let k = met.opening l h in
         let opening = opening_is-latch l h latch in
         omega (arith, ints))
-        (λ (some : Any (λ (p : Pair). ((p.to == l) ≡ true) × (late_arrival t s d p ≡ latest l)) t.pairs).
-        let at : pair_at t some.0 ≡ some.1 = get_or_default t.pairs some.0 no_pair some.1 some.2 ∙ some.3 in
-        let to : (pair_at t some.0).to ≡ l = ap (λ (p : Pair). p.to) at ∙ same_number some.1.to l some.4.0 in
-        let k = arrives some.0 some.2 l to in
-        let is : late_arrival t s d (pair_at t some.0) ≡ latest l = ap (late_arrival t s d) at ∙ some.4.1 in
+        (λ (by : ArrivesBy t s d l (latest t s d l)).
+        let k = arrives by.0 by.1 l by.2 in
+        let is = by.3 in
         omega (arith, ints))
-        (greater-attained (late_arrival t s d) (λ (p : Pair). p.to == l) (late_opening t s l) t.pairs (greatest_of (late_arrivals t s d l)) (tops l))
+        (latest-attained t s d l)
 
     -- and no later than one of these asks.
-    entered : (l : ℕ) → l < element_count t → (element_at t l).flop ≡ false → (k : Link) → EntersBy t l k → value_at values (element_node t l) ≡ brought num den values k → departure d l ≤ℤ latest l
+    entered : (l : ℕ) → l < element_count t → (element_at t l).flop ≡ false → (k : Link) → EntersBy t l k → value_at values (element_node t l) ≡ brought num den values k → departure d l ≤ℤ latest t s d l
     entered l h latch k (inl is) brings =
         let moment = moment_is-latch l h latch in
         let opening = opening_is-latch l h latch in
         let same : brought num den values k ≡ brought num den values (open_link t l) = ap (brought num den values) is in
-        let least = greater-least (late_arrival t s d) (λ (p : Pair). p.to == l) (late_opening t s l) (greatest_of (late_arrivals t s d l)) in
+        let least = latest-opens t s d l in
         omega (arith, ints)
     entered l h latch k (inr (n, below, to, is)) brings =
         let moment = moment_is-latch l h latch in
         let same : brought num den values k ≡ brought num den values (reach_link t (pair_at t n).from (pair_at t n).to (pair_at t n).max) = ap (brought num den values) is in
         let arrival = arrival_is n below in
         let phase : start_of s (phase_of t (pair_at t n).to) ≡ start_of s (phase_of t l) = ap (λ (m : ℕ). start_of s (phase_of t m)) to in
-        let bound = greater-bound (late_arrival t s d) (λ (p : Pair). p.to == l) (late_opening t s l) t.pairs (greatest_of (late_arrivals t s d l)) (tops l) n no_pair below (eq-eqb (pair_at t n).to l to) in
+        let bound = latest-arrives t s d l n below to in
         omega (arith, ints)
 
-    at_most : (l : ℕ) → l < element_count t → (element_at t l).flop ≡ false → departure d l ≤ℤ latest l
+    at_most : (l : ℕ) → l < element_count t → (element_at t l).flop ≡ false → departure d l ≤ℤ latest t s d l
     at_most l h latch =
         let some = exact.latches l h latch in
         let k = link_at (links_of t) some.0 in
@@ -262,7 +243,7 @@ module _ (t : Timing) (limits : IsDesign t.flat) (ends : HasEnds t) where
     }
       where
         each_exact : (l : ℕ) → l < element_count t → (b : Bool) → (element_at t l).flop ≡ b → departure d l ≡ late_departure t s d l
-        each_exact l h false latch = equal_from_both (departure d l) (latest l) (at_most l h latch) (at_least l h latch) ∙ sym (late_departure-latch t s d l latch)
+        each_exact l h false latch = equal_from_both (departure d l) (latest t s d l) (at_most l h latch) (at_least l h latch) ∙ sym (late_departure-latch t s d l latch)
         each_exact l h true flop = departure_is-flop l h flop ∙ sym (late_departure-flop t s d l flop)
 
     -- the setups
@@ -280,22 +261,16 @@ module _ (t : Timing) (limits : IsDesign t.flat) (ends : HasEnds t) where
         setup_of-latch : IsMet num den values (setup_link t l) → (value_at values (element_node t l) +ℤ (element_at t l).setup *ℤ den) ≤ℤ value_at values (end_node (phase_of t l))
         setup_of-latch k = let k' = rw latch at k in omega (arith, ints)
 
-    flop_kept : (l : ℕ) → l < element_count t → (value_at values (element_node t l) +ℤ (element_at t l).setup *ℤ den) ≤ℤ start_of s (phase_of t l) →
-        (o : Option ℤ) → IsGreatest (late_arrival t s d) (λ (p : Pair). p.to == l) t.pairs o → IfSome o (λ a. (a +ℤ (element_at t l).setup *ℤ den) ≤ℤ pos 0)
-    flop_kept l h setup None top = tt
-    flop_kept l h setup (Some a) top =
-        let some = top.attained in
-        let at : pair_at t some.0 ≡ some.1 = get_or_default t.pairs some.0 no_pair some.1 some.2 ∙ some.3 in
-        let to : (pair_at t some.0).to ≡ l = ap (λ (p : Pair). p.to) at ∙ same_number some.1.to l some.4.0 in
-        let k = arrives some.0 some.2 l to in
-        let is : late_arrival t s d (pair_at t some.0) ≡ a = ap (late_arrival t s d) at ∙ some.4.1 in
-        omega (arith, ints)
-
     keeps_setup-flop : (l : ℕ) → l < element_count t → (element_at t l).flop ≡ true → KeepsSetup t s d l
     keeps_setup-flop l h flop =
         let start = start_is (phase_of t l) (phase_is l h) in
-        let k = rw flop at (met.setup l h) in
-        rw flop (flop_kept l h (omega (arith, ints)) (greatest_of (late_arrivals t s d l)) (tops l))
+        let setup = rw flop at (met.setup l h) in
+        rw flop
+        (greatest-from_each t s d l (λ a. (a +ℤ (element_at t l).setup *ℤ den) ≤ℤ pos 0)
+        (λ a by.
+        let k = arrives by.0 by.1 l by.2 in
+        let is = by.3 in
+        omega (arith, ints)))
 
     keeps_setup : (l : ℕ) → l < element_count t → (b : Bool) → (element_at t l).flop ≡ b → KeepsSetup t s d l
     keeps_setup l h false latch = keeps_setup-latch l h latch

@@ -1,42 +1,32 @@
-use Rattle.std.proofs.Common.{◌≡◌, ℕ, ◌<◌, ◌==◌, ℤ, pos, ◌≤ℤ◌, ◌+ℤ◌, ◌-ℤ◌, ◌*ℤ◌, Bool, true, false, cond, List, length, get_or, arith, refl, ap, ◌∙◌, sym, eq-eqb, ⊎_elim, Option, Some, None, IfSome}
+use Rattle.std.proofs.Common.{◌≡◌, ℕ, ◌<◌, ℤ, pos, ◌≤ℤ◌, ◌+ℤ◌, ◌-ℤ◌, ◌*ℤ◌, Bool, true, false, cond, List, length, get_or, arith, refl, ap, ◌∙◌, sym, ⊎_elim}
 use Rattle.std.proofs.lemmas.Int.{ints}
-use Rattle.std.proofs.lemmas.List.{get_or_default}
 use Rattle.std.proofs.lemmas.List.FromFn.{length-map-range_with_len, get_or-map-range_with_len}
-use Rattle.std.specs.List.{All, Any, Contains}
+use Rattle.std.specs.List.{All, Contains}
 use Rattle.mintc_walks.specs.Walks.{value_at}
-use Rattle.mintc_timing.specs.declared.parts.Pair.{Pair}
 use Rattle.mintc_timing.specs.declared.clocking.Schedule.{Schedule}
 use Rattle.mintc_timing.specs.declared.link.Link.{Link}
 use Rattle.mintc_timing.specs.Design.{Timing, phase_count, element_count, element_at, phase_of, pair_at, no_element, no_pair}
-use Rattle.mintc_timing.specs.Extremes.{greater_of, greatest_of, IsGreatest}
 use Rattle.mintc_timing.specs.Clocking.{start_of}
-use Rattle.mintc_timing.specs.Departures.{departure, late_arrival, late_arrivals, late_opening}
+use Rattle.mintc_timing.specs.Departures.{departure, late_arrival, late_opening}
 use Rattle.mintc_timing.specs.Limits.{IsPhase, IsDesign}
 use Rattle.mintc_timing.specs.Links.{links_of, start_node, element_node, output_node, open_link, reach_link}
 use Rattle.mintc_timing.specs.Right.{IsRight}
 use Rattle.mintc_timing.specs.Times.{node_time, Meets}
 use Rattle.mintc_timing.proofs.DepartureLaws.{late_departure-latch, late_departure-flop}
-use Rattle.mintc_timing.proofs.ExtremesLaws.{greatest_is, greater-bound, greater-attained}
 use Rattle.mintc_timing.proofs.LinkLaws.{meets-start, meets-cycle, meets-order, meets-span, meets-width, meets-apart, meets-open, meets-opened, meets-setup, meets-bound}
 use Rattle.mintc_timing.proofs.TimesLaws.{node_time-start, node_time-element}
 use Rattle.mintc_constraints.specs.Laws.{node_count}
 use Rattle.mintc_constraints.specs.Duality.{brought, IsMet, IsBrought, AreExactMoments, moments_of, HasEnds, RightHasMoments}
+use Rattle.mintc_constraints.proofs.Arrivals.{latest, ArrivesBy, latest-arrives, latest-attained, each-from_greatest}
 use Rattle.mintc_constraints.proofs.ByKind.{EachKind, All-links, stands}
 use Rattle.mintc_constraints.proofs.OrdinaryLaws.{each_between, number_of}
-use Rattle.mintc_constraints.proofs.MomentLaws.{same_number, not_both_ways}
 
 module _ (t : Timing) (s : Schedule) (d : List ℤ) (limits : IsDesign t.flat) (ends : HasEnds t) (right : IsRight t s d) where
   abbrev moment : ℕ → ℤ
   moment node = node_time t s d node
 
-  abbrev latest : ℕ → ℤ
-  latest l = greater_of (late_opening t s l) (greatest_of (late_arrivals t s d l))
-
   phase_is : (l : ℕ) → l < element_count t → IsPhase (phase_count t) (phase_of t l)
   phase_is l h = (limits.each_element l no_element h).phase
-
-  tops : (l : ℕ) → IsGreatest (late_arrival t s d) (λ (p : Pair). p.to == l) t.pairs (greatest_of (late_arrivals t s d l))
-  tops l = greatest_is (late_arrival t s d) (λ (p : Pair). p.to == l) t.pairs
 
   -- the moments of a latch and of a flop, and of their outputs
   moment-latch : (l : ℕ) → (element_at t l).flop ≡ false → moment (element_node t l) ≡ start_of s (phase_of t l) +ℤ departure d l
@@ -55,25 +45,20 @@ module _ (t : Timing) (s : Schedule) (d : List ℤ) (limits : IsDesign t.flat) (
       ap (λ (b : Bool). moment (cond b (start_node (phase_of t j)) (element_node t j))) flop ∙ omega (arith, ints)
 
   -- a latch's departure is its equation's, and its data arrives no later
-  departs : (l : ℕ) → l < element_count t → (element_at t l).flop ≡ false → departure d l ≡ latest l
+  departs : (l : ℕ) → l < element_count t → (element_at t l).flop ≡ false → departure d l ≡ latest t s d l
   departs l h latch = right.exact.each l h ∙ late_departure-latch t s d l latch
-
-  flop_before : (l n : ℕ) → n < length t.pairs → (pair_at t n).to ≡ l → (o : Option ℤ) → IsGreatest (late_arrival t s d) (λ (p : Pair). p.to == l) t.pairs o →
-      IfSome o (λ a. (a +ℤ (element_at t l).setup *ℤ s.den) ≤ℤ pos 0) → (late_arrival t s d (pair_at t n) +ℤ (element_at t l).setup *ℤ s.den) ≤ℤ pos 0
-  flop_before l n below to None top kept = absurd (not_both_ways _ (eq-eqb _ l to) (top n no_pair below))
-  flop_before l n below to (Some a) top kept = let b = top.bound n no_pair below (eq-eqb _ l to) in omega (arith, ints)
 
   arrives : (l : ℕ) → l < element_count t → (n : ℕ) → n < length t.pairs → (pair_at t n).to ≡ l → (b : Bool) → (element_at t l).flop ≡ b →
       (late_arrival t s d (pair_at t n) +ℤ start_of s (phase_of t l)) ≤ℤ moment (element_node t l)
   arrives l h n below to false latch =
       let is = departs l h latch in
       let node = moment-latch l latch in
-      let bound = greater-bound (late_arrival t s d) (λ (p : Pair). p.to == l) (late_opening t s l) t.pairs (greatest_of (late_arrivals t s d l)) (tops l) n no_pair below (eq-eqb (pair_at t n).to l to) in
+      let bound = latest-arrives t s d l n below to in
       omega (arith, ints)
   arrives l h n below to true flop =
       let node = moment-flop l flop in
       let kept = rw flop at (right.setup l h) in
-      let before = flop_before l n below to (greatest_of (late_arrivals t s d l)) (tops l) kept in
+      let before = each-from_greatest t s d l (λ a. (a +ℤ (element_at t l).setup *ℤ s.den) ≤ℤ pos 0) (λ a b less g. omega (arith, ints)) kept n below to in
       omega (arith, ints)
 
   -- what the link of a pair asks: the arrival of its data
@@ -135,19 +120,18 @@ module _ (t : Timing) (s : Schedule) (d : List ℤ) (limits : IsDesign t.flat) (
       let is = departs l h latch in
       let node = moment-latch l latch in
       ⊎_elim
-      (λ (top : latest l ≡ late_opening t s l).
+      (λ (opens : latest t s d l ≡ late_opening t s l).
       let start = node_time-start t s d (phase_of t l) (phase_is l h) in
       brings l (open_link t l) ((stands t).opening l h) ((each_between t limits ends).opening l h).0 refl h (rw latch (omega (arith, ints))))
-      (λ (some : Any (λ (p : Pair). ((p.to == l) ≡ true) × (late_arrival t s d p ≡ latest l)) t.pairs).
-      let n = some.0 in
-      let at : pair_at t n ≡ some.1 = get_or_default t.pairs n no_pair some.1 some.2 ∙ some.3 in
-      let to : (pair_at t n).to ≡ l = ap (λ (p : Pair). p.to) at ∙ same_number some.1.to l some.4.0 in
-      let arrival : late_arrival t s d (pair_at t n) ≡ latest l = ap (late_arrival t s d) at ∙ some.4.1 in
+      (λ (by : ArrivesBy t s d l (latest t s d l)).
+      let n = by.0 in
+      let to : (pair_at t n).to ≡ l = by.2 in
+      let arrival = by.3 in
       let phase : start_of s (phase_of t (pair_at t n).to) ≡ start_of s (phase_of t l) = ap (λ (m : ℕ). start_of s (phase_of t m)) to in
-      let all = asked n some.2 in
-      brings l (reach_link t (pair_at t n).from (pair_at t n).to (pair_at t n).max) ((stands t).reach n some.2) ((each_between t limits ends).reach n some.2).0
+      let all = asked n by.1 in
+      brings l (reach_link t (pair_at t n).from (pair_at t n).to (pair_at t n).max) ((stands t).reach n by.1) ((each_between t limits ends).reach n by.1).0
       (ap (element_node t) to) h (omega (arith, ints)))
-      (greater-attained (late_arrival t s d) (λ (p : Pair). p.to == l) (late_opening t s l) t.pairs (greatest_of (late_arrivals t s d l)) (tops l))
+      (latest-attained t s d l)
 
   pub moments : AreExactMoments t s.cycle s.den (moments_of t s d)
   moments = record {
