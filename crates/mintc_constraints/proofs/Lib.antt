@@ -7,4 +7,5 @@ pub mod Arrivals
 pub mod MomentLaws
 pub mod RightLaws
 pub mod ChainLaws
+pub mod WalkLaws
 pub mod WorkedLinks

@@ -7,17 +7,16 @@ use Rattle.mintc_timing.specs.declared.parts.Point.{Point}
 use Rattle.mintc_timing.specs.declared.parts.Point.TheVariants as point
 use Rattle.mintc_timing.specs.declared.clocking.Schedule.{Schedule}
 use Rattle.mintc_timing.specs.declared.link.Link.{Link}
-use Rattle.mintc_timing.specs.declared.link.LinkKind.TheVariants as kind
 use Rattle.mintc_timing.specs.Design.{Timing, phase_count, element_count, element_at, phase_of, pair_at, no_element, no_pair}
 use Rattle.mintc_timing.specs.Clocking.{start_of, width_of, end_of, least_width, time_of, KeepsApart, KeepsPhase, KeepsClock, KeepsBound}
 use Rattle.mintc_timing.specs.Departures.{departure, late_arrival, late_opening, late_departure, AreExact}
 use Rattle.mintc_timing.specs.Limits.{IsPhase, IsDesign, IsPoint}
-use Rattle.mintc_timing.specs.Links.{link, links_of, start_node, end_node, element_node, output_node, point_node, open_link, reach_link, setup_link}
+use Rattle.mintc_timing.specs.Links.{links_of, start_node, end_node, element_node, output_node, point_node, open_link, reach_link, setup_link}
 use Rattle.mintc_timing.specs.Right.{IsRight, KeepsSetup}
 use Rattle.mintc_timing.proofs.DepartureLaws.{late_departure-latch, late_departure-flop}
 use Rattle.mintc_timing.proofs.Products.{times-mono_positive}
 use Rattle.mintc_timing.proofs.SetupLaws.{KeepsSetup-latch}
-use Rattle.mintc_constraints.specs.Ordinary.{link_at}
+use Rattle.mintc_constraints.specs.Ordinary.{link_at, no_link}
 use Rattle.mintc_constraints.specs.Duality.{brought, IsMet, AreExactMoments, schedule_of, departure_of, departures_of, HasEnds, MomentsAreRight}
 use Rattle.mintc_constraints.proofs.Arrivals.{latest, ArrivesBy, latest-opens, latest-arrives, latest-attained, greatest-from_each}
 use Rattle.mintc_constraints.proofs.ByKind.{EachKind, All-links, EachKind-from_all}
@@ -233,7 +232,7 @@ module _ (t : Timing) (limits : IsDesign t.flat) (ends : HasEnds t) where
     at_most l h latch =
         let some = exact.latches l h latch in
         let k = link_at (links_of t) some.0 in
-        let way : EntersBy t l k = All-links t (λ k. k.to ≡ element_node t l → EntersBy t l k) (enters l) some.0 (link (kind.Other 0) 0 0 (pos 0) 0) some.1 some.2 in
+        let way : EntersBy t l k = All-links t (λ k. k.to ≡ element_node t l → EntersBy t l k) (enters l) some.0 no_link some.1 some.2 in
         entered l h latch k way some.3
 
     are_exact : AreExact t s d

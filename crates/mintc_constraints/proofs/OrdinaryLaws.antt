@@ -10,18 +10,17 @@ use Rattle.mintc_timing.specs.declared.parts.Element.{Element}
 use Rattle.mintc_timing.specs.declared.parts.Point.{Point}
 use Rattle.mintc_timing.specs.declared.parts.Point.TheVariants as point
 use Rattle.mintc_timing.specs.declared.link.Link.{Link}
-use Rattle.mintc_timing.specs.declared.link.LinkKind.TheVariants as kind
 use Rattle.mintc_timing.specs.Design.{Timing, phase_count, element_count, element_at, phase_of, pair_at, no_element, no_pair}
 use Rattle.mintc_timing.specs.Extremes.{greater_of, greatest_of}
 use Rattle.mintc_timing.specs.Clocking.{crosses_of, feeds_of, least_width}
 use Rattle.mintc_timing.specs.Limits.{IsPhase, IsElement, IsDesign, IsDelay, IsGap, IsPoint}
 use Rattle.mintc_timing.specs.Order.{IsTiming}
 use Rattle.mintc_timing.specs.Paths.{ArePairs}
-use Rattle.mintc_timing.specs.Links.{link, links_of, start_node, end_node, element_node, output_node, point_node, start_link, cycle_link, order_link, span_link, width_link, apart_link, open_link, opened_link, reach_link, setup_link, bound_link, latches_of}
+use Rattle.mintc_timing.specs.Links.{links_of, start_node, end_node, element_node, output_node, point_node, start_link, cycle_link, order_link, span_link, width_link, apart_link, open_link, opened_link, reach_link, setup_link, bound_link, latches_of}
 use Rattle.mintc_timing.specs.Violations.{phases_of, elements_of}
 use Rattle.mintc_timing.proofs.ExtremesLaws.{greatest_is, greater-least, greater-attained}
 use Rattle.mintc_timing.proofs.Ranges.{pair-max_range}
-use Rattle.mintc_constraints.specs.Ordinary.{link_at, Leads, HasPlainLink, IsOrdinaryLink, IsOrdinary, constraints_of}
+use Rattle.mintc_constraints.specs.Ordinary.{link_at, no_link, Leads, HasPlainLink, IsOrdinaryLink, IsOrdinary, constraints_of}
 use Rattle.mintc_constraints.specs.Laws.{node_count, LinksAreOrdinary}
 use Rattle.mintc_constraints.specs.Duality.{HasEnds}
 use Rattle.mintc_constraints.proofs.Members.{length-flat_map_at_most}
@@ -60,7 +59,7 @@ cond-IsGap false x y p q = q
 
 -- where a link stands in a list
 pub number_of : (links : List Link) (k : Link) → Contains links k → (e : ℕ) × (e < length links) × (link_at links e ≡ k)
-number_of links k h = (h.0, h.1, get_or_default links h.0 (link (kind.Other 0) 0 0 (pos 0) 0) k h.1 ∙ h.2)
+number_of links k h = (h.0, h.1, get_or_default links h.0 no_link k h.1 ∙ h.2)
 
 plain_link : (links : List Link) (k : Link) (a b laps : ℕ) → Contains links k → k.from ≡ a → k.to ≡ b → k.delay ≡ pos 0 → k.cycles ≡ laps → HasPlainLink links a b laps
 plain_link links k a b laps h from to delay cycles =

@@ -11,9 +11,13 @@ pub record Constraints : Type 0 where
 abbrev pub constraints_of : ℕ → List Link → Constraints
 constraints_of count items = record { nodes = count; links = items }
 
--- The link of this number, counted from 0. Where there is none, one of delay 0 and 0 cycles from node 0 to itself.
+-- a link from node 0 to itself, which stands for those past the end of a list
+abbrev pub no_link : Link
+no_link = link (kind.Other 0) 0 0 (pos 0) 0
+
+-- the link of a number, counted from 0
 abbrev pub link_at : List Link → ℕ → Link
-link_at links e = slice_index_or links e (link (kind.Other 0) 0 0 (pos 0) 0)
+link_at links e = slice_index_or links e no_link
 
 -- A walk is a list of link numbers, each link leaving the node where the one before ends. This one leads from a to b.
 abbrev pub Leads : List Link → ℕ → List ℕ → ℕ → Type 0

@@ -1,10 +1,20 @@
 //! What the definitions say of one another: each law is the contract of a function that does nothing.
 ghost use Rattle.mintc_constraints.specs.Duality.{ForbiddenIsNotRight, MomentsAreRight, RightHasMoments, StuckIsHopeless, TightIsLeast};
-ghost use Rattle.mintc_constraints.specs.Laws.{LinksAreOrdinary};
+ghost use Rattle.mintc_constraints.specs.Laws.{ClosedWalksAreChains, LinksAreOrdinary, WalksAreOfArcs};
 
 /// The links of a system are ordinary.
 pub fn links_are_ordinary()
     ensures { LinksAreOrdinary }
+{}
+
+/// A walk over links is one over arcs between the same nodes.
+pub fn walks_are_of_arcs()
+    ensures { WalksAreOfArcs }
+{}
+
+/// The links of a closed walk are a chain.
+pub fn closed_walks_are_chains()
+    ensures { ClosedWalksAreChains }
 {}
 
 /// Moments that meet each link of a design, exact at its latches, are a right schedule with its departures.

@@ -11,8 +11,8 @@ mod room;
 mod tests;
 
 pub use laws::{
-    forbidden_is_not_right, links_are_ordinary, moments_are_right, right_has_moments,
-    stuck_is_hopeless, tight_is_least,
+    closed_walks_are_chains, forbidden_is_not_right, links_are_ordinary, moments_are_right,
+    right_has_moments, stuck_is_hopeless, tight_is_least, walks_are_of_arcs,
 };
 pub use link_list::LinkList;
 pub use listing::links;
