@@ -1,1 +1,11 @@
 pub mod ListLaws
+pub mod Appending
+pub mod Members
+pub mod ByKind
+pub mod OrdinaryLaws
+pub mod Arrivals
+pub mod MomentLaws
+pub mod RightLaws
+pub mod ChainLaws
+pub mod WalkLaws
+pub mod WorkedLinks

@@ -1,0 +1,8 @@
+use Rattle.std.proofs.Common.{◌≡◌, ◌++◌, take, map}
+use Rattle.mintc_timing.specs.Links.{start_link}
+use Rattle.mintc_timing.specs.Violations.{phases_of}
+use Rattle.mintc_constraints.proofs.listing.append_starts.Given as goal
+
+-- the links of the phases so far are there
+abbrev pub invariant-loop-index : goal.invariant-loop-index
+invariant-loop-index l = l.items.items ≡ l.fn.items.items ++ take l.index (map start_link (phases_of l.system))

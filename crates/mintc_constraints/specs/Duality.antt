@@ -1,0 +1,85 @@
+use Rattle.std.specs.Prelude.{◌≡◌, ◌<◌, ℕ, ℤ, pos, ◌+ℤ◌, ◌-ℤ◌, ◌*ℤ◌, ◌≤ℤ◌, ◌<ℤ◌, if◌then◌else◌, IsFalse, List, length, map, All}
+use Rattle.std.specs.List.{range_with_len}
+use Rattle.mintc_walks.specs.Walks.{value_at}
+use Rattle.mintc_timing.specs.declared.clocking.Schedule.{Schedule}
+use Rattle.mintc_timing.specs.declared.link.Link.{Link}
+use Rattle.mintc_timing.specs.Design.{Timing, element_count, element_at, phase_of}
+use Rattle.mintc_timing.specs.Limits.{IsDesign}
+use Rattle.mintc_timing.specs.Links.{links_of, start_node, end_node, element_node, IsChain, delay_of, cycles_of, Forbids}
+use Rattle.mintc_timing.specs.Right.{IsRight, IsLeastCycle, IsHopeless}
+use Rattle.mintc_timing.specs.Times.{node_time}
+use Rattle.mintc_timing.specs.Violations.{phases_of, elements_of}
+use Rattle.mintc_constraints.specs.Ordinary.{link_at}
+use Rattle.mintc_constraints.specs.Laws.{node_count}
+
+-- Values of the nodes are moments, in femtoseconds times den, at a cycle time of num / den femtoseconds.
+-- What a link brings its end: the value of the node that it leaves and its delay, less its cycles.
+abbrev pub brought : ℤ → ℤ → List ℤ → Link → ℤ
+brought num den values k = value_at values k.from +ℤ k.delay *ℤ den -ℤ pos k.cycles *ℤ num
+
+-- The link holds of the values.
+abbrev pub IsMet : ℤ → ℤ → List ℤ → Link → Type 0
+IsMet num den values k = brought num den values k ≤ℤ value_at values k.to
+
+-- Some link of the list brings the node its value.
+abbrev pub IsBrought : List Link → ℤ → ℤ → List ℤ → ℕ → Type 0
+IsBrought links num den values node =
+    (e : ℕ) × (e < length links) × ((link_at links e).to ≡ node) × (value_at values node ≡ brought num den values (link_at links e))
+
+-- There is a value for each node, that of time 0 is 0, and each link of the design holds of them.
+pub record AreMoments (t : Timing) (num den : ℤ) (values : List ℤ) : Type 0 where
+  pub count : length values ≡ node_count t
+  pub origin : value_at values 0 ≡ pos 0
+  pub met : All (IsMet num den values) (links_of t)
+
+-- And the moment of each latch is no later than some link asks: it is the greatest that a link brings.
+pub record AreExactMoments (t : Timing) (num den : ℤ) (values : List ℤ) : Type 0 where
+  pub moments : AreMoments t num den values
+  pub latches : (l : ℕ) → l < element_count t → IsFalse (element_at t l).flop → IsBrought (links_of t) num den values (element_node t l)
+
+-- the schedule that has these values as the moments of its clock
+abbrev pub schedule_of : Timing → ℤ → ℤ → List ℤ → Schedule
+schedule_of t num den values = record {
+  den = den;
+  cycle = num;
+  starts = map (λ p. value_at values (start_node p)) (phases_of t);
+  widths = map (λ p. value_at values (end_node p) -ℤ value_at values (start_node p)) (phases_of t);
+}
+
+-- the departures that have these values as the moments of the latches, counted from the starts of their phases
+abbrev pub departure_of : Timing → List ℤ → ℕ → ℤ
+departure_of t values l = if (element_at t l).flop then pos 0 else value_at values (element_node t l) -ℤ value_at values (start_node (phase_of t l))
+
+abbrev pub departures_of : Timing → List ℤ → List ℤ
+departures_of t values = map (departure_of t values) (elements_of t)
+
+-- the moments of the nodes under a schedule with its departures
+abbrev pub moments_of : Timing → Schedule → List ℤ → List ℤ
+moments_of t s d = map (node_time t s d) (range_with_len 0 (node_count t))
+
+-- The pairs are between elements of the design, as those of each system are, also with delays changed.
+abbrev pub HasEnds : Timing → Type 0
+HasEnds t = All (λ p. (p.from < element_count t) × (p.to < element_count t)) t.pairs
+
+-- Moments that meet each link, exact at the latches, are a right schedule with its departures.
+abbrev pub MomentsAreRight : Type 0
+MomentsAreRight = (t : Timing) (num den : ℤ) (values : List ℤ) → IsDesign t.flat → HasEnds t → pos 1 ≤ℤ den → AreExactMoments t num den values →
+    IsRight t (schedule_of t num den values) (departures_of t values)
+
+-- A right schedule with its departures has moments that meet each link, exact at the latches.
+abbrev pub RightHasMoments : Type 0
+RightHasMoments = (t : Timing) (s : Schedule) (d : List ℤ) → IsDesign t.flat → HasEnds t → IsRight t s d → AreExactMoments t s.cycle s.den (moments_of t s d)
+
+-- A chain that forbids a cycle time leaves no right schedule with it.
+abbrev pub ForbiddenIsNotRight : Type 0
+ForbiddenIsNotRight = (t : Timing) (num den : ℤ) (chain : List Link) → IsDesign t.flat → HasEnds t → pos 1 ≤ℤ den → IsChain (links_of t) chain → Forbids chain num den →
+    (s : Schedule) (d : List ℤ) → s.cycle *ℤ den ≡ num *ℤ s.den → IsRight t s d → ⊥
+
+-- A chain that has no cycle and takes time leaves no right schedule at all.
+abbrev pub StuckIsHopeless : Type 0
+StuckIsHopeless = (t : Timing) (chain : List Link) → IsDesign t.flat → HasEnds t → IsChain (links_of t) chain → cycles_of chain ≡ pos 0 → pos 0 <ℤ delay_of chain → IsHopeless t
+
+-- A cycle time with exact moments, at which a chain of some cycles takes exactly its cycles, is the least.
+abbrev pub TightIsLeast : Type 0
+TightIsLeast = (t : Timing) (num den : ℤ) (values : List ℤ) (chain : List Link) → IsDesign t.flat → HasEnds t → pos 1 ≤ℤ den → AreExactMoments t num den values →
+    IsChain (links_of t) chain → pos 1 ≤ℤ cycles_of chain → delay_of chain *ℤ den ≡ cycles_of chain *ℤ num → IsLeastCycle t num den
