@@ -119,3 +119,10 @@ module _ (arcs : List TimingArc) (order : List ℕ) (is_order : IsOrder arcs ord
 -- an arc of the order is one of the design's
 pub arc_inside : (arcs : List TimingArc) (order : List ℕ) → IsOrder arcs order → (n m : ℕ) → All (IsArc n m) arcs → (i : ℕ) → i < length order → IsArc n m (arc_at arcs (get_or order i 0))
 arc_inside arcs order is_order n m each i below = each (get_or order i 0) no_arc (inside arcs order is_order i below)
+
+-- what a call of carry leaves
+pub record IsCarried (arc : TimingArc) (old new : List Sums) : Type 0 where
+  pub others : (bit : ℕ) → bit ≢ arc.to → sums_at new bit ≡ sums_at old bit
+  pub greatest : AreJoined int_max (sums_at old arc.to).greatest (sums_at old arc.from).greatest arc.max (sums_at new arc.to).greatest
+  pub least : AreJoined int_min (sums_at old arc.to).least (sums_at old arc.from).least arc.min (sums_at new arc.to).least
+  pub bounded : (most : ℕ) → IsBounded most (sums_at old arc.from) → IsBounded most (sums_at old arc.to) → IsBounded (most + 1000000000) (sums_at new arc.to)

@@ -1,7 +1,7 @@
 -- Sums of paths to bits, from up to eight elements at a time.
 use Rattle.std.specs.Prelude.{◌≡◌, ◌<◌, ◌≤◌, ◌+◌, ◌*◌, ℕ, None, List, [], length, slice_index_or}
 use Rattle.mintc_timing.specs.declared.parts.TimingArc.{TimingArc}
-use Rattle.mintc_timing.specs.Paths.{output_of}
+use Rattle.mintc_timing.specs.Paths.{output_of, arc_at}
 use Rattle.mintc_lanes.specs.Lanes.{lane_at, AreWithin}
 use Rattle.mintc_paths.specs.declared.sums.Sums.{Sums}
 use Rattle.mintc_paths.specs.Among.{IsGreatestAmong, IsLeastAmong}
@@ -33,3 +33,8 @@ pub record AreSums (arcs : List TimingArc) (order : List ℕ) (k first lanes : �
 pub record AreBegun (arcs : List TimingArc) (order : List ℕ) (first lanes : ℕ) (sums : List Sums) : Type 0 where
   pub sums_so_far : AreSums arcs order 0 first lanes sums
   pub absent : (bit lane : ℕ) → bit < length sums → lanes ≤ lane → lane < 8 → (lane_at (sums_at sums bit).greatest lane ≡ None) × (lane_at (sums_at sums bit).least lane ≡ None)
+
+-- The list has the arcs that the first k numbers of the order name, one for each, as they stand there.
+pub record AreAlong (arcs : List TimingArc) (order : List ℕ) (k : ℕ) (along : List TimingArc) : Type 0 where
+  pub count : length along ≡ k
+  pub each : (i : ℕ) → i < k → arc_at along i ≡ arc_at arcs (slice_index_or order i 0)

@@ -3,19 +3,21 @@ ghost use Rattle.std.specs.Prelude.{◌≡◌, ◌<◌, ◌≤◌, ◌+◌, ◌*
 ghost use Rattle.mintc_text.specs.Stops.{StopsAt};
 ghost use Rattle.mintc_timing.specs.Order.{IsOrder, ArePathsShort};
 ghost use Rattle.mintc_paths.specs.Found.{IsFoundBefore};
+ghost use Rattle.mintc_paths.specs.Sums.{AreAlong};
 ghost use Rattle.mintc_paths.specs.Refusals.{AreShortBefore, IsPathRange};
 
 use crate::found::Found;
 use crate::long::first_long;
-use crate::sums::{NO_SUMS, Sums, fill};
+use crate::sums::{NO_SUMS, Sums, arcs_along, fill};
 use mintc_text::{Refusal, Stop};
-use mintc_timing::{Flat, Order};
+use mintc_timing::{Flat, Order, TimingArc};
 use std::alloc::Global;
 
 /// Finds the pairs from so many elements, whose sums go through `sums`.
 fn find_block(
     flat: &Flat,
     order: &Order,
+    along: &[TimingArc],
     sums: &mut [Sums],
     found: &mut Found,
     first: u32,
@@ -23,6 +25,7 @@ fn find_block(
 ) -> Result<(), Stop>
     requires bits { length sums.old ≡ 2 * length flat.now.elements + length flat.now.inner }
     requires order { IsOrder flat.now.arcs order.now }
+    requires along { AreAlong flat.now.arcs order.now (length order.now) along.now }
     requires lanes { lanes ≤ 8 }
     requires elements { first + lanes ≤ length flat.now.elements }
     requires short { AreShortBefore flat.now first }
@@ -32,7 +35,7 @@ fn find_block(
     ensures stop { IfErr result (StopsAt (IsPathRange flat.now)) }
 {
     let _elements = flat.elements();
-    fill(sums, flat, order, first, lanes as usize);
+    fill(sums, flat, order, along, first, lanes as usize);
     if let Some(place) = first_long(sums, lanes as usize) {
         return Err(Stop::Refused(Refusal::PathRange {
             element: first + place.lane as u32,
@@ -58,11 +61,14 @@ pub fn find(alloc: Global, flat: &Flat, order: &Order) -> Result<Found, Stop>
     let Ok(mut sums) = vec![in alloc; NO_SUMS; bits] else {
         return Err(Stop::OutOfMemory);
     };
+    let Ok(along) = arcs_along(alloc, flat, order) else {
+        return Err(Stop::OutOfMemory);
+    };
     let mut found = Found::new(alloc);
     let mut first = 0;
     while first < elements {
         let lanes = (elements - first).min(8);
-        find_block(flat, order, &mut sums, &mut found, first, lanes)?;
+        find_block(flat, order, &along, &mut sums, &mut found, first, lanes)?;
         first += lanes;
     }
     Ok(found)

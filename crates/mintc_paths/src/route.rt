@@ -2,7 +2,7 @@
 ghost use Rattle.std.specs.Prelude.{◌≡◌, ◌+◌, ◌*◌, length, IfOk};
 ghost use Rattle.mintc_paths.specs.Trace.{IsPairOf, IsOfPair};
 
-use crate::sums::{NO_SUMS, Sums, fill};
+use crate::sums::{NO_SUMS, Sums, arcs_along, fill};
 use crate::trace::{Extreme, trace};
 use mintc_text::{Numbers, OutOfMemory};
 use mintc_timing::System;
@@ -24,7 +24,10 @@ fn path_by(
     let _pairs = system.pairs();
     let (flat, order) = (system.flat(), system.order());
     let _elements = flat.elements();
-    fill(sums, flat, order, from, 1);
+    let Ok(along) = arcs_along(alloc, flat, order) else {
+        return Err(OutOfMemory);
+    };
+    fill(sums, flat, order, &along, from, 1);
     match trace(alloc, extreme, flat, order, sums, 2 * to) {
         Ok(path) => Ok(Numbers::new(path)),
         Err(_) => Err(OutOfMemory),

@@ -1,15 +1,16 @@
 //! Sums of paths to bits, from up to eight elements at a time.
-ghost use Rattle.std.specs.Prelude.{◌≡◌, ◌≢◌, ◌+◌, ◌*◌, ◌<◌, ◌≤◌, ℕ, List, pos, length, None, Some, IfSome, FitsSigned};
+ghost use Rattle.std.specs.Prelude.{◌≡◌, ◌≢◌, ◌+◌, ◌*◌, ◌<◌, ◌≤◌, ℕ, List, pos, length, None, Some, IfSome, IfOk, FitsSigned};
 ghost use Rattle.std.specs.Int.{int_max, int_min, w64};
 ghost use Rattle.mintc_lanes.specs.Lanes.{lane_at, AreJoined};
 ghost use Rattle.mintc_timing.specs.Limits.{IsDelay};
 ghost use Rattle.mintc_timing.specs.Order.{IsOrder};
 ghost use Rattle.mintc_timing.specs.declared.parts.TimingArc.{TimingArc};
 ghost use Rattle.mintc_paths.specs.Reached.{AreExtremes};
-ghost use Rattle.mintc_paths.specs.Sums.{sums_at, IsBounded, IsAlike, AreBegun, AreSums};
+ghost use Rattle.mintc_paths.specs.Sums.{sums_at, IsBounded, IsAlike, AreAlong, AreBegun, AreSums};
 
 use mintc_lanes::{ABSENT, max_plus_row, max_row, min_plus_row};
 use mintc_timing::{Flat, Order, TimingArc};
+use std::alloc::{AllocError, Global};
 
 /// The greatest and least sums of the paths to a bit, in femtoseconds: a lane for each of eight elements, absent where no
 /// path leads from it.
@@ -87,10 +88,33 @@ fn carry(sums: &mut [Sums], arc: TimingArc)
     }
 }
 
-/// Makes the sums those of the listed paths, and of the empty ones, from up to eight elements from `first` on.
-pub fn fill(sums: &mut [Sums], flat: &Flat, order: &Order, first: u32, lanes: usize)
+/// The arcs in their order, one after another as they are carried along.
+pub fn arcs_along(alloc: Global, flat: &Flat, order: &Order) -> Result<Vec<TimingArc>, AllocError>
+    requires { IsOrder flat.now.arcs order.now }
+    ensures { IfOk result (λ along. AreAlong flat.now.arcs order.now (length order.now) along.items) }
+{
+    let arcs = flat.arcs();
+    let numbers = order.arcs().items();
+    let mut along = Vec::with_capacity(alloc, numbers.len())?;
+    for number in numbers {
+        along.push(arcs[*number as usize])?;
+    }
+    Ok(along)
+}
+
+/// Makes the sums those of the listed paths, and of the empty ones, from up to eight elements from `first` on. The arcs
+/// in their order are `along`.
+pub fn fill(
+    sums: &mut [Sums],
+    flat: &Flat,
+    order: &Order,
+    along: &[TimingArc],
+    first: u32,
+    lanes: usize,
+)
     requires bits { length sums.old ≡ 2 * length flat.now.elements + length flat.now.inner }
     requires order { IsOrder flat.now.arcs order.now }
+    requires along { AreAlong flat.now.arcs order.now (length order.now) along.now }
     requires lanes { lanes ≤ 8 }
     requires elements { first + lanes ≤ length flat.now.elements }
     ensures sums { AreSums flat.now.arcs order.now (length order.now) first lanes sums.new }
@@ -98,8 +122,7 @@ pub fn fill(sums: &mut [Sums], flat: &Flat, order: &Order, first: u32, lanes: us
 {
     clear(sums, first, lanes);
     let _elements = flat.elements();
-    let arcs = flat.arcs();
-    for number in order.arcs().items() {
-        carry(sums, arcs[*number as usize]);
+    for arc in along {
+        carry(sums, *arc);
     }
 }
