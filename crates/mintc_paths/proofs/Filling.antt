@@ -1,0 +1,128 @@
+-- Sums along one more arc.
+use Rattle.std.proofs.Common.{◌≡◌, ◌≢◌, ℕ, ◌<◌, ◌≤◌, ◌+◌, ◌*◌, max, ℤ, ◌≤ℤ◌, List, length, get_or, arith, refl, ap, ◌∙◌, sym, ⊎_elim, Option, Some, None, subst, get_or-set_same}
+use Rattle.std.specs.Prelude.{IfSome, unsigned_abs, slice_set}
+use Rattle.std.specs.Int.{int_max, int_min}
+use Rattle.std.proofs.lemmas.Int.{ints}
+use Rattle.std.proofs.lemmas.Bool.{cases_eq}
+use Rattle.mintc_timing.specs.declared.parts.TimingArc.{TimingArc}
+use Rattle.mintc_timing.specs.Paths.{arc_at, output_of}
+use Rattle.std.specs.List.{All}
+use Rattle.mintc_timing.specs.Design.{no_arc}
+use Rattle.mintc_timing.specs.Limits.{IsDelay, IsArc}
+use Rattle.mintc_timing.specs.Order.{IsOrder}
+use Rattle.mintc_lanes.specs.Lanes.{lane_at, joined, AreJoined, AreWithin}
+use Rattle.mintc_paths.specs.declared.sums.Sums.{Sums}
+use Rattle.mintc_paths.specs.Among.{AtLeast, max_of, min_of, IsGreatestAmong, IsLeastAmong}
+use Rattle.mintc_paths.specs.Sums.{sums_at, no_sums, IsBounded, IsAlike, AreSums}
+use Rattle.mintc_paths.proofs.Ordered.{inside}
+use Rattle.mintc_paths.proofs.Best.{greatest_choice, least_choice, IsBest-other, IsBest-joined}
+
+pub AreWithin-weaker : (m n : ℕ) (row : List ℤ) → m ≤ n → AreWithin m row → AreWithin n row
+AreWithin-weaker m n row h g k below = weaker (lane_at row k) (g k below)
+  where
+    weaker : (x : Option ℤ) → IfSome x (λ z. unsigned_abs z ≤ m) → IfSome x (λ z. unsigned_abs z ≤ n)
+    weaker None h = tt
+    weaker (Some z) g = omega arith
+
+pub IsBounded-weaker : (m n : ℕ) (sums : Sums) → m ≤ n → IsBounded m sums → IsBounded n sums
+IsBounded-weaker m n sums h g = record { greatest = AreWithin-weaker m n sums.greatest h g.greatest; least = AreWithin-weaker m n sums.least h g.least }
+
+pub is_small : (x : ℤ) → IsDelay x → unsigned_abs x ≤ 1000000000
+is_small x h = let low = h.0 in let high = h.1 in omega (arith, ints)
+
+pub bounded_write : (sums : List Sums) (bit : ℕ) (greatest least : List ℤ) (most : ℕ) → bit < length sums → AreWithin (max most (most + 1000000000)) greatest →
+    AreWithin (max most (most + 1000000000)) least → IsBounded (most + 1000000000) (sums_at (slice_set sums bit (record { greatest = greatest; least = least })) bit)
+bounded_write sums bit greatest least most below h g =
+    let new : Sums = record { greatest = greatest; least = least } in
+    let read : new ≡ sums_at (slice_set sums bit new) bit = sym (get_or-set_same sums bit new no_sums below) in
+    let bounded : IsBounded (most + 1000000000) new = record {
+      greatest = AreWithin-weaker (max most (most + 1000000000)) (most + 1000000000) greatest (omega arith) h;
+      least = AreWithin-weaker (max most (most + 1000000000)) (most + 1000000000) least (omega arith) g;
+    } in
+    subst (λ s. IsBounded (most + 1000000000) s) read bounded
+
+joined_none : (choose : ℤ → ℤ → ℤ) (x y : Option ℤ) (w : ℤ) → joined choose x y w ≡ None → (x ≡ None) × (y ≡ None)
+joined_none choose None None w h = (refl, refl)
+joined_none choose (Some x) None w h = absurd (cc)
+joined_none choose None (Some y) w h = absurd (cc)
+joined_none choose (Some x) (Some y) w h = absurd (cc)
+
+none_joined : (choose : ℤ → ℤ → ℤ) (x y : Option ℤ) (w : ℤ) → x ≡ None → y ≡ None → joined choose x y w ≡ None
+none_joined choose x y w h g = ap (λ o. joined choose o y w) h ∙ ap (λ o. joined choose None o w) g
+
+pub IsAlike-joined : (old other new : Sums) (max min : ℤ) → IsAlike old → IsAlike other → AreJoined int_max old.greatest other.greatest max new.greatest →
+    AreJoined int_min old.least other.least min new.least → IsAlike new
+IsAlike-joined old other new max min h g greatest least lane below none =
+    let both = joined_none int_max (lane_at old.greatest lane) (lane_at other.greatest lane) max (sym (greatest lane below) ∙ none) in
+    least lane below ∙ none_joined int_min (lane_at old.least lane) (lane_at other.least lane) min (h lane below both.0) (g lane below both.1)
+
+module _ (arcs : List TimingArc) (order : List ℕ) (is_order : IsOrder arcs order) (k n first lanes : ℕ) (old new : List Sums) (same : length new ≡ length old)
+    (low : k < length order) (is : get_or order k 0 ≡ n) (below : n < length arcs) (from_in : (arc_at arcs n).from < length old) (to_in : (arc_at arcs n).to < length old) (few : lanes ≤ 8)
+    (others : (bit : ℕ) → bit ≢ (arc_at arcs n).to → sums_at new bit ≡ sums_at old bit)
+    (greatest : AreJoined int_max (sums_at old (arc_at arcs n).to).greatest (sums_at old (arc_at arcs n).from).greatest (arc_at arcs n).max (sums_at new (arc_at arcs n).to).greatest)
+    (least : AreJoined int_min (sums_at old (arc_at arcs n).to).least (sums_at old (arc_at arcs n).from).least (arc_at arcs n).min (sums_at new (arc_at arcs n).to).least)
+    (bounded : (most : ℕ) → IsBounded most (sums_at old (arc_at arcs n).from) → IsBounded most (sums_at old (arc_at arcs n).to) → IsBounded (most + 1000000000) (sums_at new (arc_at arcs n).to))
+    (h : AreSums arcs order k first lanes old) where
+  abbrev to : ℕ
+  to = (arc_at arcs n).to
+
+  abbrev from : ℕ
+  from = (arc_at arcs n).from
+
+  not_entered : (bit : ℕ) → bit ≢ to → bit ≢ (arc_at arcs (get_or order k 0)).to
+  not_entered bit ne e = ne (e ∙ ap (λ m. (arc_at arcs m).to) is)
+
+  at_end : (P : ℕ → Type 0) (bit : ℕ) → bit ≡ to → P to → P bit
+  at_end P bit e p = subst P (sym e) p
+
+  greatest_more : (bit lane : ℕ) → bit < length new → lane < lanes → IsGreatestAmong arcs order (k + 1) (output_of (first + lane)) bit (lane_at (sums_at new bit).greatest lane)
+  greatest_more bit lane inside g =
+      ⊎_elim
+      (λ e. at_end (λ b. IsGreatestAmong arcs order (k + 1) (output_of (first + lane)) b (lane_at (sums_at new b).greatest lane)) bit e
+      (subst (λ o. IsGreatestAmong arcs order (k + 1) (output_of (first + lane)) to o) (sym (greatest lane (omega arith)))
+      (IsBest-joined ◌≤ℤ◌ int_max greatest_choice (max_of arcs) arcs order is_order k n (output_of (first + lane))
+      (lane_at (sums_at old to).greatest lane) (lane_at (sums_at old from).greatest lane) low is below (h.greatest to lane to_in g) (h.greatest from lane from_in g))))
+      (λ ne. subst (λ (s : Sums). IsGreatestAmong arcs order (k + 1) (output_of (first + lane)) bit (lane_at s.greatest lane)) (sym (others bit ne))
+      (IsBest-other ◌≤ℤ◌ int_max greatest_choice (max_of arcs) arcs order is_order k (output_of (first + lane)) bit (lane_at (sums_at old bit).greatest lane) low
+      (not_entered bit ne) (h.greatest bit lane (omega arith) g)))
+      (cases_eq bit to)
+
+  least_more : (bit lane : ℕ) → bit < length new → lane < lanes → IsLeastAmong arcs order (k + 1) (output_of (first + lane)) bit (lane_at (sums_at new bit).least lane)
+  least_more bit lane inside g =
+      ⊎_elim
+      (λ e. at_end (λ b. IsLeastAmong arcs order (k + 1) (output_of (first + lane)) b (lane_at (sums_at new b).least lane)) bit e
+      (subst (λ o. IsLeastAmong arcs order (k + 1) (output_of (first + lane)) to o) (sym (least lane (omega arith)))
+      (IsBest-joined AtLeast int_min least_choice (min_of arcs) arcs order is_order k n (output_of (first + lane))
+      (lane_at (sums_at old to).least lane) (lane_at (sums_at old from).least lane) low is below (h.least to lane to_in g) (h.least from lane from_in g))))
+      (λ ne. subst (λ (s : Sums). IsLeastAmong arcs order (k + 1) (output_of (first + lane)) bit (lane_at s.least lane)) (sym (others bit ne))
+      (IsBest-other AtLeast int_min least_choice (min_of arcs) arcs order is_order k (output_of (first + lane)) bit (lane_at (sums_at old bit).least lane) low
+      (not_entered bit ne) (h.least bit lane (omega arith) g)))
+      (cases_eq bit to)
+
+  pub AreSums-more : AreSums arcs order (k + 1) first lanes new
+  AreSums-more = record {
+    greatest = greatest_more;
+    least = least_more;
+    bounded = λ bit inside. ⊎_elim
+        (λ e. at_end (λ b. IsBounded ((k + 1) * 1000000000) (sums_at new b)) bit e
+        (IsBounded-weaker (k * 1000000000 + 1000000000) ((k + 1) * 1000000000) (sums_at new to) (omega arith) (bounded (k * 1000000000) (h.bounded from from_in) (h.bounded to to_in))))
+        (λ ne. subst (λ (s : Sums). IsBounded ((k + 1) * 1000000000) s) (sym (others bit ne))
+        (IsBounded-weaker (k * 1000000000) ((k + 1) * 1000000000) (sums_at old bit) (omega arith) (h.bounded bit (omega arith))))
+        (cases_eq bit to);
+    alike = λ bit inside. ⊎_elim
+        (λ e. at_end (λ b. IsAlike (sums_at new b)) bit e
+        (IsAlike-joined (sums_at old to) (sums_at old from) (sums_at new to) (arc_at arcs n).max (arc_at arcs n).min (h.alike to to_in) (h.alike from from_in) greatest least))
+        (λ ne. subst (λ (s : Sums). IsAlike s) (sym (others bit ne)) (h.alike bit (omega arith)))
+        (cases_eq bit to);
+  }
+
+-- an arc of the order is one of the design's
+pub arc_inside : (arcs : List TimingArc) (order : List ℕ) → IsOrder arcs order → (n m : ℕ) → All (IsArc n m) arcs → (i : ℕ) → i < length order → IsArc n m (arc_at arcs (get_or order i 0))
+arc_inside arcs order is_order n m each i below = each (get_or order i 0) no_arc (inside arcs order is_order i below)
+
+-- what a call of carry leaves
+pub record IsCarried (arc : TimingArc) (old new : List Sums) : Type 0 where
+  pub others : (bit : ℕ) → bit ≢ arc.to → sums_at new bit ≡ sums_at old bit
+  pub greatest : AreJoined int_max (sums_at old arc.to).greatest (sums_at old arc.from).greatest arc.max (sums_at new arc.to).greatest
+  pub least : AreJoined int_min (sums_at old arc.to).least (sums_at old arc.from).least arc.min (sums_at new arc.to).least
+  pub bounded : (most : ℕ) → IsBounded most (sums_at old arc.from) → IsBounded most (sums_at old arc.to) → IsBounded (most + 1000000000) (sums_at new arc.to)

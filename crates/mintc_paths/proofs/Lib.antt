@@ -1,0 +1,10 @@
+pub mod Ordered
+pub mod Best
+pub mod Filling
+pub mod Beginning
+pub mod Finding
+pub mod Refusing
+pub mod Reaching
+pub mod Shortness
+pub mod Tracing
+pub mod Pairing

@@ -1,0 +1,67 @@
+-- Long paths and long sums.
+use Rattle.std.proofs.Common.{◌≡◌, ℕ, ◌<◌, ◌≤◌, ◌+◌, ◌-◌, ℤ, ◌≤ℤ◌, ◌<ℤ◌, pos, List, length, arith, sym, ◌⊎◌, ⊎_elim, Option, Some, None, subst}
+use Rattle.std.specs.Prelude.{IfSome, IsSomeAnd}
+use Rattle.std.proofs.lemmas.Int.{ints}
+use Rattle.mintc_timing.specs.Design.{Design}
+use Rattle.mintc_timing.specs.Order.{ArePathsShort}
+use Rattle.mintc_timing.specs.Paths.{IsPath, greatest_delay}
+use Rattle.mintc_lanes.specs.Lanes.{lane_at}
+use Rattle.mintc_paths.specs.declared.sums.Sums.{Sums}
+use Rattle.mintc_paths.specs.Sums.{sums_at}
+use Rattle.mintc_paths.specs.Reached.{IsReached, AreExtremes}
+use Rattle.mintc_paths.specs.Long.{IsShortLane, IsFirstLane}
+use Rattle.mintc_paths.specs.Refusals.{IsLong, IsFirstLong, AreShortBefore}
+
+short_path : (design : Design) (j bit : ℕ) (x : Option ℤ) → IsReached design j bit x → IfSome x (λ z. z ≤ℤ pos 1000000000) → (path : List ℕ) → IsPath design.arcs j path bit →
+    greatest_delay design.arcs path ≤ℤ pos 1000000000
+short_path design j bit None h g path is = absurd (h path is)
+short_path design j bit (Some z) h g path is = let most = h.0 path is in omega (arith, ints)
+
+long_path : (design : Design) (j bit : ℕ) (x : Option ℤ) → IsReached design j bit x → IsSomeAnd x (λ z. pos 1000000000 <ℤ z) → (path : List ℕ) × IsLong design j bit path
+long_path design j bit None h g = absurd g
+long_path design j bit (Some z) h g =
+    let above : pos 0 <ℤ z = omega (arith, ints) in
+    let found = h.1 above in
+    let sum = found.2 in
+    (found.0, (found.1, omega (arith, ints)))
+
+not_long : (design : Design) (j bit : ℕ) (path : List ℕ) → greatest_delay design.arcs path ≤ℤ pos 1000000000 → IsLong design j bit path → ⊥
+not_long design j bit path h g = let above = g.1 in omega (arith, ints)
+
+pub AreShortBefore-none : (design : Design) → AreShortBefore design 0
+AreShortBefore-none design = λ j bit path below is. absurd (omega arith)
+
+pub ArePathsShort-from_before : (design : Design) (n : ℕ) → n ≡ length design.elements → AreShortBefore design n → ArePathsShort design
+ArePathsShort-from_before design n e h = λ j bit path below is. h j bit path (omega arith) is
+
+module _ (design : Design) (first lanes : ℕ) (sums : List Sums) (h : AreExtremes design first lanes sums) (before : AreShortBefore design first) where
+  -- no path from the element of a short lane is long
+  short_lane : (lane : ℕ) → lane < lanes → IsShortLane sums lane → (bit : ℕ) (path : List ℕ) → IsPath design.arcs (first + lane) path bit → greatest_delay design.arcs path ≤ℤ pos 1000000000
+  short_lane lane below short bit path is =
+      let inside = h.inside (first + lane) bit path is in
+      short_path design (first + lane) bit (lane_at (sums_at sums bit).greatest lane) (h.reached bit lane inside below) (short bit inside) path is
+
+  short_from : (end : ℕ) → end ≤ lanes → ((lane : ℕ) → lane < end → IsShortLane sums lane) → AreShortBefore design (first + end)
+  short_from end few short j bit path below is = ⊎_elim
+      (λ (low : j < first). before j bit path low is)
+      (λ (high : first ≤ j).
+      let same : first + (j - first) ≡ j = omega arith in
+      short_lane (j - first) (omega arith) (short (j - first) (omega arith)) bit path (subst (λ i. IsPath design.arcs i path bit) (sym same) is))
+      (low_or_high j first)
+    where
+      low_or_high : (i n : ℕ) → (i < n) ⊎ (n ≤ i)
+      low_or_high i n = grind arith
+
+  pub AreShortBefore-more : ((lane : ℕ) → lane < lanes → IsShortLane sums lane) → AreShortBefore design (first + lanes)
+  AreShortBefore-more short = short_from lanes (omega arith) short
+
+  pub IsFirstLong-from_lane : (lane bit : ℕ) → first + lanes ≤ length design.elements → IsFirstLane sums lanes lane bit → IsFirstLong design (first + lane) bit
+  IsFirstLong-from_lane lane bit few g = let below = g.inside in record {
+    element = omega arith;
+    long = long_path design (first + lane) bit (lane_at (sums_at sums bit).greatest lane) (h.reached bit lane g.at_bit.inside g.inside) g.at_bit.long;
+    first_element = λ i other path sooner is. not_long design i other path (short_from lane (omega arith) g.first i other path sooner is.0) is;
+    first_bit = λ other path sooner is.
+        let inside = h.inside (first + lane) other path is.0 in
+        not_long design (first + lane) other path
+        (short_path design (first + lane) other (lane_at (sums_at sums other).greatest lane) (h.reached other lane inside g.inside) (g.at_bit.first other sooner) path is.0) is;
+  }

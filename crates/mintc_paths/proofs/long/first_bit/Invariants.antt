@@ -1,0 +1,5 @@
+use Rattle.mintc_paths.specs.Long.{AreShortBelow}
+use Rattle.mintc_paths.proofs.long.first_bit.Given as goal
+
+abbrev pub invariant-loop-bit : goal.invariant-loop-bit
+invariant-loop-bit l = AreShortBelow l.sums l.lane l.bit

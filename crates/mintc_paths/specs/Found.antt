@@ -1,0 +1,31 @@
+-- Pairs as they are found.
+use Rattle.std.specs.Prelude.{◌≡◌, ◌<◌, ◌≤◌, ◌+◌, ◌*◌, ◌⊎◌, ℕ, List, length, All, Contains}
+use Rattle.std.specs.List.{AllAdjacentBelow}
+use Rattle.mintc_timing.specs.declared.parts.Pair.{Pair}
+use Rattle.mintc_timing.specs.Design.{Design}
+use Rattle.mintc_timing.specs.Paths.{IsPath, input_of, HasExtremes, ComesBefore}
+use Rattle.mintc_paths.specs.declared.found.Found.{Found}
+
+-- elements a and b come before elements `from` and `to`
+abbrev pub Precede : ℕ → ℕ → ℕ → ℕ → Type 0
+Precede from to a b = (a < from) ⊎ ((a ≡ from) × (b < to))
+
+-- The list has each pair of the design before elements `from` and `to` once, in order, with its extremes.
+pub record ArePairsBefore (design : Design) (from to : ℕ) (pairs : List Pair) : Type 0 where
+  pub each : All (HasExtremes design) pairs
+  pub ascending : AllAdjacentBelow ComesBefore pairs (length pairs)
+  pub earlier : All (λ (p : Pair). Precede from to p.from p.to) pairs
+  pub whole : (j l : ℕ) (path : List ℕ) → Precede from to j l → l < length design.elements →
+      IsPath design.arcs j path (input_of l) → (pair : Pair) × Contains pairs pair × (pair.from ≡ j) × (pair.to ≡ l)
+
+-- What is found has these pairs, or the number of them alone where they are more than 200,000.
+pub record HasPairs (found : Found) (pairs : List Pair) : Type 0 where
+  pub count : found.count ≡ length pairs
+  pub kept : length pairs ≤ 200000 → found.pairs.items ≡ pairs
+
+-- What is found are the pairs before elements `from` and `to`.
+pub record IsFoundBefore (design : Design) (from to : ℕ) (found : Found) : Type 0 where
+  pub pairs : List Pair
+  pub are_pairs : ArePairsBefore design from to pairs
+  pub has_pairs : HasPairs found pairs
+  pub few : length pairs ≤ 2000 * from + to

@@ -1,0 +1,32 @@
+-- Sums above the limit.
+use Rattle.std.specs.Prelude.{◌<◌, ℕ, pos, ◌<ℤ◌, ◌≤ℤ◌, IfSome, IsSomeAnd, List, length}
+use Rattle.mintc_lanes.specs.Lanes.{lane_at}
+use Rattle.mintc_paths.specs.declared.sums.Sums.{Sums}
+use Rattle.mintc_paths.specs.Sums.{sums_at}
+
+-- The lane's greatest sum is above 10^9 femtoseconds, or it is not.
+abbrev pub IsLongAt : List Sums → ℕ → ℕ → Type 0
+IsLongAt sums lane bit = IsSomeAnd (lane_at (sums_at sums bit).greatest lane) (λ z. pos 1000000000 <ℤ z)
+
+abbrev pub IsShortAt : List Sums → ℕ → ℕ → Type 0
+IsShortAt sums lane bit = IfSome (lane_at (sums_at sums bit).greatest lane) (λ z. z ≤ℤ pos 1000000000)
+
+-- No sum of the lane at the bits below this one is above the limit.
+abbrev pub AreShortBelow : List Sums → ℕ → ℕ → Type 0
+AreShortBelow sums lane end = (bit : ℕ) → bit < end → IsShortAt sums lane bit
+
+-- no sum of the lane
+abbrev pub IsShortLane : List Sums → ℕ → Type 0
+IsShortLane sums lane = AreShortBelow sums lane (length sums)
+
+-- The bit is the first with a sum of the lane above the limit.
+pub record IsFirstBit (sums : List Sums) (lane bit : ℕ) : Type 0 where
+  pub inside : bit < length sums
+  pub long : IsLongAt sums lane bit
+  pub first : AreShortBelow sums lane bit
+
+-- Of so many lanes, this is the first with a sum above the limit, first at this bit.
+pub record IsFirstLane (sums : List Sums) (lanes lane bit : ℕ) : Type 0 where
+  pub inside : lane < lanes
+  pub at_bit : IsFirstBit sums lane bit
+  pub first : (other : ℕ) → other < lane → IsShortLane sums other

@@ -1,0 +1,40 @@
+-- Sums of paths to bits, from up to eight elements at a time.
+use Rattle.std.specs.Prelude.{◌≡◌, ◌<◌, ◌≤◌, ◌+◌, ◌*◌, ℕ, None, List, [], length, slice_index_or}
+use Rattle.mintc_timing.specs.declared.parts.TimingArc.{TimingArc}
+use Rattle.mintc_timing.specs.Paths.{output_of, arc_at}
+use Rattle.mintc_lanes.specs.Lanes.{lane_at, AreWithin}
+use Rattle.mintc_paths.specs.declared.sums.Sums.{Sums}
+use Rattle.mintc_paths.specs.Among.{IsGreatestAmong, IsLeastAmong}
+
+-- the sums at a bit; a bit past the end has none
+abbrev pub no_sums : Sums
+no_sums = record { greatest = []; least = [] }
+
+abbrev pub sums_at : List Sums → ℕ → Sums
+sums_at sums bit = slice_index_or sums bit no_sums
+
+-- No sum at a bit is above so many femtoseconds.
+pub record IsBounded (most : ℕ) (sums : Sums) : Type 0 where
+  pub greatest : AreWithin most sums.greatest
+  pub least : AreWithin most sums.least
+
+-- A lane with no greatest sum has no least one.
+abbrev pub IsAlike : Sums → Type 0
+IsAlike sums = (lane : ℕ) → lane < 8 → lane_at sums.greatest lane ≡ None → lane_at sums.least lane ≡ None
+
+-- Lane i of each bit has the sums of the paths from element first + i along the first k arcs of the order.
+pub record AreSums (arcs : List TimingArc) (order : List ℕ) (k first lanes : ℕ) (sums : List Sums) : Type 0 where
+  pub greatest : (bit lane : ℕ) → bit < length sums → lane < lanes → IsGreatestAmong arcs order k (output_of (first + lane)) bit (lane_at (sums_at sums bit).greatest lane)
+  pub least : (bit lane : ℕ) → bit < length sums → lane < lanes → IsLeastAmong arcs order k (output_of (first + lane)) bit (lane_at (sums_at sums bit).least lane)
+  pub bounded : (bit : ℕ) → bit < length sums → IsBounded (k * 1000000000) (sums_at sums bit)
+  pub alike : (bit : ℕ) → bit < length sums → IsAlike (sums_at sums bit)
+
+-- the same before any arc, with the lanes from this one on absent
+pub record AreBegun (arcs : List TimingArc) (order : List ℕ) (first lanes : ℕ) (sums : List Sums) : Type 0 where
+  pub sums_so_far : AreSums arcs order 0 first lanes sums
+  pub absent : (bit lane : ℕ) → bit < length sums → lanes ≤ lane → lane < 8 → (lane_at (sums_at sums bit).greatest lane ≡ None) × (lane_at (sums_at sums bit).least lane ≡ None)
+
+-- The list has the arcs that the first k numbers of the order name, one for each, as they stand there.
+pub record AreAlong (arcs : List TimingArc) (order : List ℕ) (k : ℕ) (along : List TimingArc) : Type 0 where
+  pub count : length along ≡ k
+  pub each : (i : ℕ) → i < k → arc_at along i ≡ arc_at arcs (slice_index_or order i 0)

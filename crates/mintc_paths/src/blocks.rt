@@ -1,0 +1,75 @@
+//! The pairs of a design, by eight elements at a time.
+ghost use Rattle.std.specs.Prelude.{◌≡◌, ◌<◌, ◌≤◌, ◌+◌, ◌*◌, length, IfOk, IfErr, OnOk};
+ghost use Rattle.mintc_text.specs.Stops.{StopsAt};
+ghost use Rattle.mintc_timing.specs.Order.{IsOrder, ArePathsShort};
+ghost use Rattle.mintc_paths.specs.Found.{IsFoundBefore};
+ghost use Rattle.mintc_paths.specs.Sums.{AreAlong};
+ghost use Rattle.mintc_paths.specs.Refusals.{AreShortBefore, IsPathRange};
+
+use crate::found::Found;
+use crate::long::first_long;
+use crate::sums::{NO_SUMS, Sums, arcs_along, fill};
+use mintc_text::{Refusal, Stop};
+use mintc_timing::{Flat, Order, TimingArc};
+use std::alloc::Global;
+
+/// Finds the pairs from so many elements, whose sums go through `sums`.
+fn find_block(
+    flat: &Flat,
+    order: &Order,
+    along: &[TimingArc],
+    sums: &mut [Sums],
+    found: &mut Found,
+    first: u32,
+    lanes: u32,
+) -> Result<(), Stop>
+    requires bits { length sums.old ≡ 2 * length flat.now.elements + length flat.now.inner }
+    requires order { IsOrder flat.now.arcs order.now }
+    requires along { AreAlong flat.now.arcs order.now (length order.now) along.now }
+    requires lanes { lanes ≤ 8 }
+    requires elements { first + lanes ≤ length flat.now.elements }
+    requires short { AreShortBefore flat.now first }
+    requires found { IsFoundBefore flat.now first 0 found.old }
+    ensures found { OnOk result (IsFoundBefore flat.now (first + lanes) 0 found.new) }
+    ensures short { OnOk result (AreShortBefore flat.now (first + lanes)) }
+    ensures stop { IfErr result (StopsAt (IsPathRange flat.now)) }
+{
+    let _elements = flat.elements();
+    fill(sums, flat, order, along, first, lanes as usize);
+    if let Some(place) = first_long(sums, lanes as usize) {
+        return Err(Stop::Refused(Refusal::PathRange {
+            element: first + place.lane as u32,
+            bit: place.bit as u32,
+        }));
+    }
+    match found.add_all(flat, sums, first, lanes as usize) {
+        Ok(()) => Ok(()),
+        Err(_) => Err(Stop::OutOfMemory),
+    }
+}
+
+/// Finds the design's pairs.
+pub fn find(alloc: Global, flat: &Flat, order: &Order) -> Result<Found, Stop>
+    requires { IsOrder flat.now.arcs order.now }
+    ensures found { IfOk result (IsFoundBefore flat.now (length flat.now.elements) 0) }
+    ensures few { IfOk result (λ found. found.count ≤ 4000000) }
+    ensures short { OnOk result (ArePathsShort flat.now) }
+    ensures stop { IfErr result (StopsAt (IsPathRange flat.now)) }
+{
+    let elements = flat.elements().len() as u32;
+    let bits = 2 * elements as usize + flat.inner().items().len();
+    let Ok(mut sums) = vec![in alloc; NO_SUMS; bits] else {
+        return Err(Stop::OutOfMemory);
+    };
+    let Ok(along) = arcs_along(alloc, flat, order) else {
+        return Err(Stop::OutOfMemory);
+    };
+    let mut found = Found::new(alloc);
+    let mut first = 0;
+    while first < elements {
+        let lanes = (elements - first).min(8);
+        find_block(flat, order, &along, &mut sums, &mut found, first, lanes)?;
+        first += lanes;
+    }
+    Ok(found)
+}

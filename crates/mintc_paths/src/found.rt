@@ -1,0 +1,104 @@
+//! Pairs as they are found.
+ghost use Rattle.std.specs.Prelude.{◌≡◌, ◌<◌, ◌≤◌, ◌^◌, ◌+◌, ◌*◌, ◌++◌, ◌∷◌, [], length, OnOk};
+
+use crate::sums::{Sums, sum_in};
+use mintc_text::OutOfMemory;
+use mintc_timing::{Flat, Pair};
+use std::alloc::Global;
+
+/// The first 200,000 pairs found, and the number of all.
+#[derive(Drop)]
+pub struct Found {
+    pub pairs: Vec<Pair>,
+    pub count: u64,
+}
+
+impl Found {
+    ghost use Rattle.mintc_paths.specs.Found.{IsFoundBefore};
+    ghost use Rattle.mintc_timing.specs.Design.{Design};
+    ghost use Rattle.mintc_lanes.specs.Lanes.{lane_at};
+    ghost use Rattle.mintc_paths.specs.Reached.{IsPaired, IsPairedLane, AreExtremes};
+
+    /// No pairs.
+    pub fn new(alloc: Global) -> Found
+        ensures pairs { result.pairs.items ≡ [] }
+        ensures count { result.count ≡ 0 }
+    {
+        Found {
+            pairs: Vec::new(alloc),
+            count: 0,
+        }
+    }
+
+    /// One more pair.
+    pub fn add(&mut self, pair: Pair) -> Result<(), OutOfMemory>
+        requires { self.old.count < 2 ^ 62 }
+        ensures count { OnOk result (self.new.count ≡ self.old.count + 1) }
+        ensures pairs { OnOk result (self.old.count < 200000 → self.new.pairs.items ≡ self.old.pairs.items ++ pair ∷ []) }
+    {
+        if self.count < 200_000 && self.pairs.push(pair).is_err() {
+            return Err(OutOfMemory);
+        }
+        self.count += 1;
+        Ok(())
+    }
+
+    /// The pair of two elements, whose sums are in this lane, if they are a pair.
+    fn add_at(&mut self, from: u32, to: u32, sums: &Sums, lane: usize) -> Result<(), OutOfMemory>
+        requires count { self.old.count < 2 ^ 62 }
+        requires lane { lane < 8 }
+        ensures { OnOk result ((design : Design) → IsPaired design from to (lane_at sums.now.greatest lane) (lane_at sums.now.least lane)
+            → IsFoundBefore design from to self.old → IsFoundBefore design from (to + 1) self.new) }
+    {
+        let Some(max) = sum_in(&sums.greatest, lane) else {
+            return Ok(());
+        };
+        let Some(min) = sum_in(&sums.least, lane) else {
+            return Ok(());
+        };
+        self.add(Pair { from, to, min, max })
+    }
+
+    /// The pairs from an element, whose sums are in this lane.
+    fn add_from(
+        &mut self,
+        flat: &Flat,
+        sums: &[Sums],
+        element: u32,
+        lane: usize,
+    ) -> Result<(), OutOfMemory>
+        requires bits { 2 * length flat.now.elements ≤ length sums.now }
+        requires element { element < length flat.now.elements }
+        requires lane { lane < 8 }
+        requires paired { IsPairedLane flat.now sums.now element lane }
+        requires found { IsFoundBefore flat.now element 0 self.old }
+        ensures { OnOk result (IsFoundBefore flat.now (element + 1) 0 self.new) }
+    {
+        for to in 0..flat.elements().len() as u32 {
+            self.add_at(element, to, &sums[2 * to as usize], lane)?;
+        }
+        Ok(())
+    }
+
+    /// The pairs from so many elements, whose sums are in the lanes.
+    pub fn add_all(
+        &mut self,
+        flat: &Flat,
+        sums: &[Sums],
+        first: u32,
+        lanes: usize,
+    ) -> Result<(), OutOfMemory>
+        requires bits { 2 * length flat.now.elements ≤ length sums.now }
+        requires elements { first + lanes ≤ length flat.now.elements }
+        requires lanes { lanes ≤ 8 }
+        requires extremes { AreExtremes flat.now first lanes sums.now }
+        requires found { IsFoundBefore flat.now first 0 self.old }
+        ensures { OnOk result (IsFoundBefore flat.now (first + lanes) 0 self.new) }
+    {
+        let _elements = flat.elements();
+        for lane in 0..lanes {
+            self.add_from(flat, sums, first + lane as u32, lane)?;
+        }
+        Ok(())
+    }
+}

@@ -1,0 +1,74 @@
+//! The pairs of a design with the extremes of their listed paths.
+#![tactic(auto)]
+
+ghost use Rattle.std.specs.Prelude.{◌≡◌, ◌≤◌, length, All, IfOk, IfErr, OnOk};
+ghost use Rattle.mintc_text.specs.Stops.{StopsAt};
+ghost use Rattle.mintc_timing.specs.declared.parts.Pair.{Pair};
+ghost use Rattle.mintc_timing.specs.Order.{IsOrder, ArePathsShort};
+ghost use Rattle.mintc_timing.specs.Paths.{ArePairs, IsPath, input_of, greatest_delay, least_delay};
+ghost use Rattle.mintc_paths.specs.Refusals.{IsExtremesRefusal};
+ghost use Rattle.mintc_paths.specs.Trace.{IsPairOf};
+
+mod blocks;
+mod found;
+mod long;
+mod route;
+mod sums;
+mod trace;
+
+use blocks::find;
+use found::Found;
+use mintc_text::{Kind, Numbers, OutOfMemory, Refusal, Stop};
+use mintc_timing::{Flat, Order, Pair, System};
+use route::best_path;
+use std::alloc::Global;
+use trace::Extreme;
+
+/// All pairs of the design, in ascending order of their elements, with the least and the greatest sum of the listed
+/// paths between them, in femtoseconds. The refusal is PathRange with the first element that a listed path with a
+/// sum above 10^9 femtoseconds leaves, and the first bit that such a path from it leads to. It is Limit of the pairs
+/// where no path is so long and they are more than 200,000.
+pub fn extremes(alloc: Global, flat: &Flat, order: &Order) -> Result<Vec<Pair>, Stop>
+    requires { IsOrder flat.now.arcs order.now }
+    ensures pairs { IfOk result (λ pairs. ArePairs flat.now pairs.items) }
+    ensures few { IfOk result (λ pairs. length pairs.items ≤ 200000) }
+    ensures short { OnOk result (ArePathsShort flat.now) }
+    ensures stop { IfErr result (StopsAt (IsExtremesRefusal flat.now)) }
+{
+    let Found { pairs, count } = find(alloc, flat, order)?;
+    if count > 200_000 {
+        return Err(Stop::Refused(Refusal::Limit {
+            kind: Kind::Pairs,
+            count,
+        }));
+    }
+    Ok(pairs)
+}
+
+/// The arcs of a listed path from one element to another with the greatest sum.
+pub fn path_of(alloc: Global, system: &System, from: u32, to: u32) -> Result<Numbers, OutOfMemory>
+    requires { IsPairOf system.now.pairs from to }
+    ensures path { IfOk result (λ path. IsPath system.now.flat.arcs from path (input_of to)) }
+    ensures delay { IfOk result (λ path. All (λ (p : Pair). p.from ≡ from → p.to ≡ to
+        → greatest_delay system.now.flat.arcs path ≡ p.max) system.now.pairs) }
+{
+    best_path(alloc, Extreme::Greatest, system, from, to)
+}
+
+/// The arcs of a listed path from one element to another with the least sum.
+pub fn shortest_path_of(
+    alloc: Global,
+    system: &System,
+    from: u32,
+    to: u32,
+) -> Result<Numbers, OutOfMemory>
+    requires { IsPairOf system.now.pairs from to }
+    ensures path { IfOk result (λ path. IsPath system.now.flat.arcs from path (input_of to)) }
+    ensures delay { IfOk result (λ path. All (λ (p : Pair). p.from ≡ from → p.to ≡ to
+        → least_delay system.now.flat.arcs path ≡ p.min) system.now.pairs) }
+{
+    best_path(alloc, Extreme::Least, system, from, to)
+}
+
+#[cfg(test)]
+mod tests;

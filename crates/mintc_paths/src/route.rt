@@ -1,0 +1,54 @@
+//! A path with the sum of a pair.
+ghost use Rattle.std.specs.Prelude.{◌≡◌, ◌+◌, ◌*◌, length, IfOk};
+ghost use Rattle.mintc_paths.specs.Trace.{IsPairOf, IsOfPair};
+
+use crate::sums::{NO_SUMS, Sums, arcs_along, fill};
+use crate::trace::{Extreme, trace};
+use mintc_text::{Numbers, OutOfMemory};
+use mintc_timing::System;
+use std::alloc::Global;
+
+/// The arcs of a listed path from one element to another with the greatest or the least sum, which go through `sums`.
+fn path_by(
+    alloc: Global,
+    extreme: Extreme,
+    system: &System,
+    sums: &mut [Sums],
+    from: u32,
+    to: u32,
+) -> Result<Numbers, OutOfMemory>
+    requires bits { length sums.old ≡ 2 * length system.now.flat.elements + length system.now.flat.inner }
+    requires pair { IsPairOf system.now.pairs from to }
+    ensures { IfOk result (IsOfPair extreme system.now from to) }
+{
+    let _pairs = system.pairs();
+    let (flat, order) = (system.flat(), system.order());
+    let _elements = flat.elements();
+    let Ok(along) = arcs_along(alloc, flat, order) else {
+        return Err(OutOfMemory);
+    };
+    fill(sums, flat, order, &along, from, 1);
+    match trace(alloc, extreme, flat, order, sums, 2 * to) {
+        Ok(path) => Ok(Numbers::new(path)),
+        Err(_) => Err(OutOfMemory),
+    }
+}
+
+/// The arcs of a listed path from one element to another with the greatest or the least sum.
+pub fn best_path(
+    alloc: Global,
+    extreme: Extreme,
+    system: &System,
+    from: u32,
+    to: u32,
+) -> Result<Numbers, OutOfMemory>
+    requires { IsPairOf system.now.pairs from to }
+    ensures { IfOk result (IsOfPair extreme system.now from to) }
+{
+    let flat = system.flat();
+    let bits = 2 * flat.elements().len() + flat.inner().items().len();
+    match vec![in alloc; NO_SUMS; bits] {
+        Ok(mut sums) => path_by(alloc, extreme, system, &mut sums, from, to),
+        Err(_) => Err(OutOfMemory),
+    }
+}

@@ -1,0 +1,128 @@
+//! Sums of paths to bits, from up to eight elements at a time.
+ghost use Rattle.std.specs.Prelude.{◌≡◌, ◌≢◌, ◌+◌, ◌*◌, ◌<◌, ◌≤◌, ℕ, List, pos, length, None, Some, IfSome, IfOk, FitsSigned};
+ghost use Rattle.std.specs.Int.{int_max, int_min, w64};
+ghost use Rattle.mintc_lanes.specs.Lanes.{lane_at, AreJoined};
+ghost use Rattle.mintc_timing.specs.Limits.{IsDelay};
+ghost use Rattle.mintc_timing.specs.Order.{IsOrder};
+ghost use Rattle.mintc_timing.specs.declared.parts.TimingArc.{TimingArc};
+ghost use Rattle.mintc_paths.specs.Reached.{AreExtremes};
+ghost use Rattle.mintc_paths.specs.Sums.{sums_at, IsBounded, IsAlike, AreAlong, AreBegun, AreSums};
+
+use mintc_lanes::{ABSENT, max_plus_row, max_row, min_plus_row};
+use mintc_timing::{Flat, Order, TimingArc};
+use std::alloc::{AllocError, Global};
+
+/// The greatest and least sums of the paths to a bit, in femtoseconds: a lane for each of eight elements, absent where no
+/// path leads from it.
+#[derive(Clone, Copy)]
+pub struct Sums {
+    pub greatest: [i64; 8],
+    pub least: [i64; 8],
+}
+
+/// The sums where no path leads.
+pub const NO_SUMS: Sums = Sums {
+    greatest: [ABSENT; 8],
+    least: [ABSENT; 8],
+};
+
+/// What a lane of a row holds, if it is present.
+pub fn sum_in(row: &[i64; 8], lane: usize) -> Option<i64>
+    requires { lane < 8 }
+    ensures value { result ≡ lane_at row.now lane }
+    ensures fits { IfSome result (λ sum. FitsSigned w64 sum) }
+{
+    let sum = row[lane];
+    if sum == ABSENT { None } else { Some(sum) }
+}
+
+/// Begins a lane: the empty path leads from a bit to itself.
+fn begin(sums: &mut [Sums], bit: usize, lane: usize)
+    requires bit { bit < length sums.old }
+    requires lane { lane < 8 }
+    ensures others { (other : ℕ) → other ≢ bit → sums_at sums.new other ≡ sums_at sums.old other }
+    ensures lanes { (other : ℕ) → other ≢ lane
+        → (lane_at (sums_at sums.new bit).greatest other ≡ lane_at (sums_at sums.old bit).greatest other)
+        × (lane_at (sums_at sums.new bit).least other ≡ lane_at (sums_at sums.old bit).least other) }
+    ensures own { (lane_at (sums_at sums.new bit).greatest lane ≡ Some (pos 0)) × (lane_at (sums_at sums.new bit).least lane ≡ Some (pos 0)) }
+{
+    let at = &mut sums[bit];
+    at.greatest[lane] = 0;
+    at.least[lane] = 0;
+}
+
+/// Makes the sums those of the empty paths from so many elements.
+fn clear(sums: &mut [Sums], first: u32, lanes: usize)
+    requires lanes { lanes ≤ 8 }
+    requires outputs { 2 * (first + lanes) ≤ length sums.old }
+    ensures { (arcs : List TimingArc) (order : List ℕ) → AreBegun arcs order first lanes sums.new }
+{
+    for at in sums.iter_mut() {
+        *at = NO_SUMS;
+    }
+    for lane in 0..lanes {
+        begin(sums, 2 * (first as usize + lane) + 1, lane);
+    }
+}
+
+/// Carries the sums at the bit that the arc leaves to the bit that it enters.
+fn carry(sums: &mut [Sums], arc: TimingArc)
+    requires from { arc.from < length sums.old }
+    requires to { arc.to < length sums.old }
+    requires apart { arc.from ≢ arc.to }
+    requires min { IsDelay arc.min }
+    requires max { IsDelay arc.max }
+    requires from_bounded { IsBounded 1000000000000000 (sums_at sums.old arc.from) }
+    requires to_bounded { IsBounded 1000000000000000 (sums_at sums.old arc.to) }
+    requires alike { IsAlike (sums_at sums.old arc.from) }
+    ensures others { (bit : ℕ) → bit ≢ arc.to → sums_at sums.new bit ≡ sums_at sums.old bit }
+    ensures greatest { AreJoined int_max (sums_at sums.old arc.to).greatest (sums_at sums.old arc.from).greatest arc.max (sums_at sums.new arc.to).greatest }
+    ensures least { AreJoined int_min (sums_at sums.old arc.to).least (sums_at sums.old arc.from).least arc.min (sums_at sums.new arc.to).least }
+    ensures bounded { (most : ℕ) → IsBounded most (sums_at sums.old arc.from) → IsBounded most (sums_at sums.old arc.to) → IsBounded (most + 1000000000) (sums_at sums.new arc.to) }
+{
+    let from = sums[arc.from as usize];
+    if max_row(&from.greatest) != ABSENT {
+        let to = &mut sums[arc.to as usize];
+        max_plus_row(&mut to.greatest, &from.greatest, arc.max);
+        min_plus_row(&mut to.least, &from.least, arc.min);
+    }
+}
+
+/// The arcs in their order, one after another as they are carried along.
+pub fn arcs_along(alloc: Global, flat: &Flat, order: &Order) -> Result<Vec<TimingArc>, AllocError>
+    requires { IsOrder flat.now.arcs order.now }
+    ensures { IfOk result (λ along. AreAlong flat.now.arcs order.now (length order.now) along.items) }
+{
+    let arcs = flat.arcs();
+    let numbers = order.arcs().items();
+    let mut along = Vec::with_capacity(alloc, numbers.len())?;
+    for number in numbers {
+        along.push(arcs[*number as usize])?;
+    }
+    Ok(along)
+}
+
+/// Makes the sums those of the listed paths, and of the empty ones, from up to eight elements from `first` on. The arcs
+/// in their order are `along`.
+pub fn fill(
+    sums: &mut [Sums],
+    flat: &Flat,
+    order: &Order,
+    along: &[TimingArc],
+    first: u32,
+    lanes: usize,
+)
+    requires bits { length sums.old ≡ 2 * length flat.now.elements + length flat.now.inner }
+    requires order { IsOrder flat.now.arcs order.now }
+    requires along { AreAlong flat.now.arcs order.now (length order.now) along.now }
+    requires lanes { lanes ≤ 8 }
+    requires elements { first + lanes ≤ length flat.now.elements }
+    ensures sums { AreSums flat.now.arcs order.now (length order.now) first lanes sums.new }
+    ensures extremes { AreExtremes flat.now first lanes sums.new }
+{
+    clear(sums, first, lanes);
+    let _elements = flat.elements();
+    for arc in along {
+        carry(sums, *arc);
+    }
+}

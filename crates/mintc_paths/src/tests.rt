@@ -1,0 +1,390 @@
+//! Tests of what no clause says: the worked designs, and small ones against a plain listing of all paths.
+ghost use Rattle.std.specs.Prelude.{◌≡◌, ◌<◌, ◌≤◌, ℕ, length, slice_index, Contains, All};
+ghost use Rattle.std.specs.Bool.{OnTrue};
+ghost use Rattle.mintc_timing.specs.Order.{IsOrder};
+ghost use Rattle.mintc_timing.specs.Paths.{arc_at};
+ghost use Rattle.mintc_paths.specs.Trace.{IsPairOf};
+
+use super::*;
+use mintc_timing::{TimingArc, read_table};
+use std::alloc::AllocError;
+use std::process::Abort;
+use std::test::Fail;
+
+/// Whether the list has the number.
+fn has(order: &[u32], number: u32) -> bool
+    ensures { OnTrue result (Contains order.now number) }
+{
+    for place in 0..order.len() {
+        if order[place] == number {
+            return true;
+        }
+    }
+    false
+}
+
+/// Whether the list has the number of each of so many arcs.
+fn has_all(order: &[u32], count: u32) -> bool
+    ensures { OnTrue result ((n : ℕ) → n < count → Contains order.now n) }
+{
+    for number in 0..count {
+        if !has(order, number) {
+            return false;
+        }
+    }
+    true
+}
+
+/// Whether the arc at a place stands before all arcs that leave the bit that it enters.
+fn is_sooner(arcs: &[TimingArc], order: &[u32], place: usize) -> bool
+    requires place { place < length order.now }
+    requires arcs { All (λ n. n < length arcs.now) order.now }
+    ensures { OnTrue result ((j : ℕ) → j < length order.now
+        → (arc_at arcs.now (slice_index order.now place)).to ≡ (arc_at arcs.now (slice_index order.now j)).from → place < j) }
+{
+    let entered = arcs[order[place] as usize].to;
+    for j in 0..order.len() {
+        if arcs[order[j] as usize].from == entered && j <= place {
+            return false;
+        }
+    }
+    true
+}
+
+/// Whether each number is that of an arc.
+fn are_arcs(order: &[u32], count: usize) -> bool
+    ensures { OnTrue result (All (λ n. n < count) order.now) }
+{
+    for n in order {
+        if *n as usize >= count {
+            return false;
+        }
+    }
+    true
+}
+
+/// Whether the numbers are an order of the arcs.
+fn is_order(arcs: &[TimingArc], order: &[u32]) -> bool
+    requires { length arcs.now ≤ 1000 }
+    ensures { OnTrue result (IsOrder arcs.now order.now) }
+{
+    if order.len() != arcs.len()
+        || !has_all(order, arcs.len() as u32)
+        || !are_arcs(order, arcs.len())
+    {
+        return false;
+    }
+    for place in 0..order.len() {
+        if !is_sooner(arcs, order, place) {
+            return false;
+        }
+    }
+    true
+}
+
+/// Whether some pair is of these two elements.
+fn is_pair(pairs: &[Pair], from: u32, to: u32) -> bool
+    ensures { OnTrue result (IsPairOf pairs.now from to) }
+{
+    for place in 0..pairs.len() {
+        let pair = pairs[place];
+        if pair.from == from && pair.to == to {
+            return true;
+        }
+    }
+    false
+}
+
+/// A table with so many elements and inner bits, and these arcs in this order.
+#[derive(Clone, Copy)]
+struct Case {
+    name: &'static str,
+    elements: u32,
+    inner: u32,
+    arcs: &'static [&'static str],
+    order: &'static [u32],
+}
+
+/// The text of a case's table.
+fn text_of(alloc: Global, case: &Case) -> Result<String, AllocError> {
+    let count = case.arcs.len();
+    let (elements, inner) = (case.elements, case.inner);
+    let mut text = format!(in alloc; "table 1\nphases 1\nphase p\nelements {elements}\n")?;
+    for _ in 0..elements {
+        text.push_str("element a 1 0 - 0 0 0\n")?;
+    }
+    text.push_str(&format!(in alloc; "inner {inner}\narcs {count}\n")?)?;
+    for arc in case.arcs {
+        text.push_str(&format!(in alloc; "arc {arc}\n")?)?;
+    }
+    text.push_str("bounds 0\nend\n")?;
+    Ok(text)
+}
+
+/// The system of a case.
+fn system_of(rt: &impl Abort, alloc: Global, case: &Case) -> Result<System, Stop> {
+    let Ok(text) = text_of(alloc, case) else {
+        return Err(Stop::OutOfMemory);
+    };
+    assert!(rt; text.len() < 100_000);
+    let flat = read_table(alloc, text.as_bytes())?;
+    assert!(rt; flat.arcs().len() <= 1_000);
+    assert!(rt; is_order(flat.arcs(), case.order));
+    let Ok(items) = Vec::from_slice(alloc, case.order) else {
+        return Err(Stop::OutOfMemory);
+    };
+    let order = Order::new(Numbers::new(items));
+    let pairs = extremes(alloc, &flat, &order)?;
+    Ok(System::new(flat, order, pairs))
+}
+
+/// What a list of pairs gives for two elements.
+fn given(pairs: &[Pair], from: u32, to: u32) -> Option<(i64, i64)> {
+    for pair in pairs {
+        if pair.from == from && pair.to == to {
+            return Some((pair.min, pair.max));
+        }
+    }
+    None
+}
+
+/// The least and the greatest sum of those so far and of one more path.
+fn joined(best: Option<(i64, i64)>, min: i64, max: i64) -> (i64, i64) {
+    match best {
+        None => (min, max),
+        Some((least, greatest)) => (least.min(min), greatest.max(max)),
+    }
+}
+
+/// The least and the greatest sum of the paths from a bit to another along at most so many arcs, each path by itself.
+/// The empty path leads from a bit to itself.
+fn listed(arcs: &[TimingArc], from: u32, to: u32, most: usize) -> Option<(i64, i64)> {
+    let mut best = if from == to { Some((0, 0)) } else { None };
+    if most == 0 {
+        return best;
+    }
+    for arc in arcs {
+        if arc.from == from {
+            if let Some((min, max)) = listed(arcs, arc.to, to, most - 1) {
+                let (min, max) = (min.saturating_add(arc.min), max.saturating_add(arc.max));
+                best = Some(joined(best, min, max));
+            }
+        }
+    }
+    best
+}
+
+const NINE: Case = Case {
+    name: "nine elements",
+    elements: 9,
+    inner: 1,
+    arcs: &[
+        "q0 n0 1 1",
+        "q1 n0 2 2",
+        "q2 n0 3 3",
+        "q3 n0 4 4",
+        "q4 n0 5 5",
+        "q5 n0 6 6",
+        "q6 n0 7 7",
+        "q7 n0 8 8",
+        "q8 n0 9 9",
+        "n0 d0 0 0",
+    ],
+    order: &[0, 1, 2, 3, 4, 5, 6, 7, 8, 9],
+};
+
+const INNER: Case = Case {
+    name: "an inner bit",
+    elements: 2,
+    inner: 1,
+    arcs: &["q0 n0 15 15", "n0 d1 5 5", "q1 d0 60 60"],
+    order: &[2, 0, 1],
+};
+
+const PATHS: Case = Case {
+    name: "two paths",
+    elements: 2,
+    inner: 1,
+    arcs: &["q0 d1 20 20", "q0 n0 1 1", "n0 d1 2 2"],
+    order: &[1, 0, 2],
+};
+
+const AT_LIMIT: Case = Case {
+    name: "a sum of 10^9",
+    elements: 1,
+    inner: 1,
+    arcs: &["q0 n0 1000000000 1000000000", "n0 d0 0 0"],
+    order: &[0, 1],
+};
+
+const ABOVE_LIMIT: Case = Case {
+    name: "a sum above 10^9",
+    elements: 1,
+    inner: 1,
+    arcs: &["q0 n0 1000000000 1000000000", "n0 d0 1 1"],
+    order: &[0, 1],
+};
+
+const NONE: Case = Case {
+    name: "no arcs",
+    elements: 2,
+    inner: 0,
+    arcs: &[],
+    order: &[],
+};
+
+const PARALLEL: Case = Case {
+    name: "parallel arcs",
+    elements: 2,
+    inner: 2,
+    arcs: &[
+        "q0 n0 1 5",
+        "q0 n0 2 3",
+        "n0 n1 0 7",
+        "n0 d1 4 4",
+        "n1 d1 1 1",
+        "n1 d0 2 9",
+        "q1 n1 3 3",
+        "q0 d1 6 6",
+        "q1 d0 10 40",
+        "q1 d0 20 30",
+    ],
+    order: &[8, 1, 0, 3, 2, 7, 6, 5, 4, 9],
+};
+
+const SELVES: Case = Case {
+    name: "elements that lead to themselves",
+    elements: 3,
+    inner: 2,
+    arcs: &[
+        "q0 d0 5 6",
+        "q1 n0 1 2",
+        "n0 d1 3 4",
+        "n0 n1 1 1",
+        "n1 d1 0 9",
+        "n1 d2 7 7",
+        "q2 n1 2 2",
+    ],
+    order: &[6, 1, 3, 5, 4, 2, 0],
+};
+
+const ENDS: Case = Case {
+    name: "a bit that no path leads to, and one that leads nowhere",
+    elements: 2,
+    inner: 3,
+    arcs: &[
+        "n0 d1 1 1",
+        "n0 n1 1 1",
+        "n1 d0 2 2",
+        "q0 n2 3 3",
+        "q1 n1 1 5",
+    ],
+    order: &[1, 4, 2, 0, 3],
+};
+
+const DIAMOND: Case = Case {
+    name: "a diamond",
+    elements: 1,
+    inner: 3,
+    arcs: &[
+        "n2 d0 0 0",
+        "n1 n2 4 4",
+        "n0 n2 1 9",
+        "n0 n1 1 1",
+        "q0 n0 2 3",
+    ],
+    order: &[4, 3, 1, 2, 0],
+};
+
+const ELEVEN: Case = Case {
+    name: "elements beyond eight",
+    elements: 11,
+    inner: 2,
+    arcs: &[
+        "q0 n0 0 1",
+        "q1 n1 1 2",
+        "q2 n0 2 3",
+        "q3 n1 3 4",
+        "q4 n0 4 5",
+        "q5 n1 5 6",
+        "q6 n0 6 7",
+        "q7 n1 7 8",
+        "q8 n0 8 9",
+        "q9 n1 9 10",
+        "q10 n0 10 11",
+        "n0 n1 1 2",
+        "n1 d9 0 0",
+        "n0 d10 5 5",
+        "q8 d8 1 2",
+        "q9 d0 3 4",
+    ],
+    order: &[15, 10, 9, 8, 7, 6, 5, 4, 3, 2, 1, 0, 11, 13, 12, 14],
+};
+
+#[test]
+fn pairs_are_found(rt: HostRuntime) -> Result<(), Fail> {
+    let alloc = rt.alloc();
+    let nine = system_of(&rt, alloc, &NINE).ok().ok_or("refused")?;
+    assert_eq!(rt; nine.pairs().len(), 9);
+    for from in 0..9 {
+        let sum = from as i64 + 1;
+        assert_eq!(rt; given(nine.pairs(), from, 0), Some((sum, sum)));
+    }
+    let inner = system_of(&rt, alloc, &INNER).ok().ok_or("refused")?;
+    assert_eq!(rt; inner.pairs().len(), 2);
+    assert_eq!(rt; given(inner.pairs(), 0, 1), Some((20, 20)));
+    assert_eq!(rt; given(inner.pairs(), 1, 0), Some((60, 60)));
+    Ok(())
+}
+
+#[test]
+fn pairs_are_those_of_a_listing(rt: HostRuntime) -> Result<(), Fail> {
+    let alloc = rt.alloc();
+    for case in &[
+        NINE, INNER, PATHS, NONE, PARALLEL, SELVES, ENDS, DIAMOND, ELEVEN,
+    ] {
+        let system = system_of(&rt, alloc, case).ok().ok_or(case.name)?;
+        let arcs = system.flat().arcs();
+        assert!(rt; case.elements <= 11);
+        for from in 0..case.elements {
+            for to in 0..case.elements {
+                assert_eq!(rt;
+                    given(system.pairs(), from, to),
+                    listed(arcs, 2 * from + 1, 2 * to, arcs.len()),
+                    "{}",
+                    case.name
+                );
+            }
+        }
+    }
+    Ok(())
+}
+
+#[test]
+fn paths_have_the_sums(rt: HostRuntime) -> Result<(), Fail> {
+    let alloc = rt.alloc();
+    let system = system_of(&rt, alloc, &PATHS).ok().ok_or("refused")?;
+    assert!(rt; is_pair(system.pairs(), 0, 1));
+    let greatest = path_of(alloc, &system, 0, 1).ok().ok_or("no memory")?;
+    assert_eq!(rt; greatest.items(), [0].as_slice());
+    let least = shortest_path_of(alloc, &system, 0, 1)
+        .ok()
+        .ok_or("no memory")?;
+    assert_eq!(rt; least.items(), [1, 2].as_slice());
+    Ok(())
+}
+
+#[test]
+fn a_sum_at_the_limit_is_none_above(rt: HostRuntime) -> Result<(), Fail> {
+    let alloc = rt.alloc();
+    assert!(rt; system_of(&rt, alloc, &AT_LIMIT).is_ok());
+    let Err(Stop::Refused(Refusal::PathRange { element, bit })) = system_of(
+        &rt,
+        alloc,
+        &ABOVE_LIMIT,
+    ) else {
+        return Err("accepted".into());
+    };
+    assert_eq!(rt; (element, bit), (0, 0));
+    Ok(())
+}
