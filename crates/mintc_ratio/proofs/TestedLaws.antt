@@ -47,7 +47,7 @@ pub exist-leads : (links : List Link) (es : List ℕ) (u v : ℕ) → Leads link
 exist-leads links [] u v h = All-nil (λ e. e < length links)
 exist-leads links (e ∷ es) u v h = All-cons (λ e. e < length links) e es h.0 (exist-leads links es (link_at links e).to v h.2)
 
-listed : (links : List Link) (es : List ℕ) → All (λ e. e < length links) es → All (Contains links) (links_at links es)
+pub listed : (links : List Link) (es : List ℕ) → All (λ e. e < length links) es → All (Contains links) (links_at links es)
 listed links [] h = All-nil (Contains links)
 listed links (e ∷ es) h =
     All-cons (Contains links) (link_at links e) (links_at links es) (Contains-get_or links e no_link (All-head (λ e. e < length links) e es h))

@@ -7,6 +7,8 @@ use Rattle.mintc_constraints.specs.Rooms.{Space}
 use Rattle.mintc_ratio.specs.declared.sums.Sums.{Sums}
 use Rattle.mintc_ratio.specs.declared.turns.Turn.{Turn}
 use Rattle.mintc_ratio.specs.declared.turns.Turn.TheVariants.{Found, Held, Free}
+use Rattle.mintc_ratio.specs.declared.advancing.Advance.{Advance}
+use Rattle.mintc_ratio.specs.declared.advancing.Advance.TheVariants.{Over, On}
 use Rattle.mintc_ratio.specs.Chains.{links_at, NamesChain}
 use Rattle.mintc_ratio.specs.Searched.{HasSearched}
 use Rattle.mintc_ratio.specs.Sums.{HasSums, IsSmall}
@@ -68,8 +70,19 @@ pub record IsPlainAt (links : List Link) (a b laps number : ℕ) : Type 0 where
   pub delay : (link_at links number).delay ≡ pos 0
   pub cycles : (link_at links number).cycles ≡ laps
 
--- A search of so many nodes began at this number of steps, which the counter could say as `begun`, and took one test since.
-pub record HasBegun (nodes start begun now : ℕ) : Type 0 where
+-- What a search keeps that began at this number of steps, which the counter could say as `begun`: the room holds a chain
+-- with these sums, no chain with a cycle forbids the cycle time of `high` parts of the grid, and after so many halvings
+-- between them one test is left, for which there are steps enough.
+pub record IsClimbing (list : Constraints) (start begun : ℕ) (room : Space) (held : Sums) (high : ℤ) (halvings now : ℕ) : Type 0 where
+  pub is_held : IsHeld list room held
+  pub is_high : IsHigh list high
+  pub inside : high ≤ℤ top_of list.nodes
   pub said : begun ≡ min start (2 ^ 64 - 1)
   pub later : start ≤ now
-  pub few : now ≤ start + (nodes + 1)
+  pub near : (low : ℤ) → IsLow list.nodes held low → (high -ℤ low) ≤ℤ pos (2 ^ halvings)
+  pub few : now + (halvings + 1) * (list.nodes + 1) ≤ start + 68 * (list.nodes + 1)
+
+-- What a turn of such a search leaves: an outcome, or the search goes on from other sums and another high cycle time.
+abbrev pub IsAdvanced : Constraints → ℕ → ℕ → Space → ℕ → Advance → Type 0
+IsAdvanced list start begun room now (Over outcome) = HasSearched list room outcome × (now ≤ start + 68 * (list.nodes + 1))
+IsAdvanced list start begun room now (On held high) = (halvings : ℕ) × IsClimbing list start begun room held high halvings now

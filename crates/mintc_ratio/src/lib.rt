@@ -1,6 +1,7 @@
 //! The test of one cycle time, and the search for the least.
 #![tactic(auto)]
 
+mod advancing;
 mod budget;
 mod rest;
 mod searching;

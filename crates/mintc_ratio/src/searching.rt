@@ -1,12 +1,12 @@
 //! The search for the least cycle time.
-ghost use Rattle.std.specs.Prelude.{◌≡◌, ◌≤◌, ◌+◌, ◌*◌, ◌^◌, ℕ, pos, ◌≤ℤ◌, length};
-ghost use Rattle.mintc_ratio.specs.Climbing.{HasBegun, IsHeld, top_of};
+ghost use Rattle.std.specs.Prelude.{◌≡◌, ◌≤◌, ◌+◌, ◌*◌, ℕ, length};
+ghost use Rattle.mintc_ratio.specs.Climbing.{IsClimbing, top_of};
 ghost use Rattle.mintc_ratio.specs.Searched.{HasSearched};
 
-use crate::budget::may_jump;
+use crate::advancing::{Advance, take_turn};
 use crate::rest::hold_rest;
-use crate::sums::{Sums, low_of};
-use crate::turns::{Turn, halve, jump, turn_of};
+use crate::sums::Sums;
+use crate::turns::{Turn, turn_of};
 use crate::{Test, test_at};
 use mintc_constraints::{LinkList, Room};
 use mintc_fraction::Fraction;
@@ -25,15 +25,13 @@ pub enum Outcome {
 /// A part of the grid that no chain's ratio exceeds.
 fn top_of(nodes: u32) -> i128
     requires { nodes ≤ 2017 }
-    ensures value { result ≡ top_of nodes }
-    ensures range { result ≤ℤ pos (2 ^ 65) }
+    ensures { result ≡ top_of nodes }
 {
     let nodes = i128::from(nodes);
     4_000_000_000 * nodes * nodes * nodes
 }
 
-/// Searches on from a chain in the room: each turn tests its ratio, or the middle between its ratio and a cycle time that no
-/// chain with a cycle forbids.
+/// Searches on from a chain in the room, in as many steps as are left.
 fn climb<L: Ledger>(
     links: &LinkList,
     first: Sums,
@@ -43,28 +41,24 @@ fn climb<L: Ledger>(
 ) -> Outcome
     requires nodes { links.now.nodes ≤ room.old.nodes }
     requires links { length links.now.links ≤ room.old.links }
-    requires held { IsHeld links.now room.old first }
-    requires begun { (start : ℕ) × HasBegun links.now.nodes start begun steps.old }
+    requires climbing { (start : ℕ) × IsClimbing links.now start begun room.old first (top_of links.now.nodes) 65 steps.old }
     ensures searched { HasSearched links.now room.new result }
     ensures nodes { room.new.nodes ≡ room.old.nodes }
     ensures links { room.new.links ≡ room.old.links }
-    ensures cost { (start : ℕ) → HasBegun links.now.nodes start begun steps.old → steps.new ≤ start + 68 * (links.now.nodes + 1) }
+    ensures cost { (start : ℕ) → IsClimbing links.now start begun room.old first (top_of links.now.nodes) 65 steps.old → steps.new ≤ start + 68 * (links.now.nodes + 1) }
 {
-    let nodes = links.nodes();
     let mut held = first;
-    let mut high = top_of(nodes);
+    let mut high = top_of(links.nodes());
     loop {
-        let low = low_of(nodes, held);
-        let middle = low + (high - low) / 2;
-        let turn = if may_jump(nodes, begun, steps.taken(), high - low) {
-            jump(links, held, room, steps)
-        } else {
-            halve(links, held, middle, room, steps)
-        };
-        match turn {
-            Turn::Found { outcome } => return outcome,
-            Turn::Held { sums } => held = sums,
-            Turn::Free => high = middle,
+        match take_turn(links, held, high, begun, room, steps) {
+            Advance::Over { outcome } => return outcome,
+            Advance::On {
+                held: next,
+                high: lower,
+            } => {
+                held = next;
+                high = lower;
+            }
         }
     }
 }

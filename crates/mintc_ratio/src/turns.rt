@@ -55,6 +55,7 @@ pub(crate) fn jump<L: Ledger>(
     ensures some { steps.old < steps.new }
     ensures cost { steps.new ≤ steps.old + links.now.nodes + 1 }
 {
+    let _nodes = links.nodes();
     let cycle = ratio_of(held);
     match test_at(links, &cycle, room, steps) {
         Test::Values => Turn::Found {

@@ -23,7 +23,7 @@ fn weight(delay: i64, cycles: u32, num: i128, den: i128) -> i128
 
 /// The link of a number.
 #[inline(always)]
-fn numbered(links: &[Link], number: usize) -> &Link
+pub(crate) fn numbered(links: &[Link], number: usize) -> &Link
     requires { number < length links.now }
     ensures { result.now ≡ link_at links.now number }
 {
