@@ -37,3 +37,10 @@ grid_point m n middle grid at e f few low high is =
     let point : IsWithin (2 ^ 65) middle = (omega (arith, ints), omega (arith, ints)) in
     let fine : IsWithin (10 ^ 7) (grid_of n) = (omega (arith, ints), omega (arith, ints)) in
     is ∙ rw (to_z-of_z w128 middle (fits_128 (2 ^ 65) middle (lit< tt) point), f, e, to_z-of_z w128 (grid_of n) (fits_128 (10 ^ 7) (grid_of n) (lit< tt) fine))
+
+-- the top, as the code reads it
+pub read_top : (m n : ℕ) (top : ℤ) → m ≡ n → n ≤ 2017 → top ≡ top_of m → to_z w128 (of_z w128 top) ≡ top_of n
+read_top m n top e few is =
+    let small = top_small n few in
+    let within : IsWithin (2 ^ 65) (top_of n) = (omega (arith, ints), omega (arith, ints)) in
+    rw (is, e) (to_z-of_z w128 (top_of n) (fits_128 (2 ^ 65) (top_of n) (lit< tt) within))

@@ -8,3 +8,4 @@ pub mod TurnLaws
 pub mod GridLaws
 pub mod ClimbLaws
 pub mod TurnedLaws
+pub mod BeginningLaws

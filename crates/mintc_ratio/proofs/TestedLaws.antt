@@ -30,8 +30,12 @@ no_link = link (kind.Other 0) 0 0 (pos 0) 0
 -- the time at which the code weighs the links
 pub time_same : (at : Ratio) (n d : ℤ) → n ≡ at.num → d ≡ at.den → IsTestable at → over (to_z w128 (of_z w128 n)) (to_z w128 (of_z w128 d)) ≡ at
 time_same at n d e f t =
-    rw (e, f, to_z-of_z w128 at.num (fits_128 (10 ^ 20) at.num (lit< tt) (num_within (pos 0) (pos 0) at.num at.den refl zero_within t)),
-    to_z-of_z w128 at.den (fits_128 (10 ^ 7) at.den (lit< tt) (den_within (pos 0) (pos 0) at.num at.den refl zero_within t))) refl
+    rw (
+      e,
+      f,
+      to_z-of_z w128 at.num (fits_128 (10 ^ 20) at.num (lit< tt) (num_within (pos 0) (pos 0) at.num at.den refl zero_within t)),
+      to_z-of_z w128 at.den (fits_128 (10 ^ 7) at.den (lit< tt) (den_within (pos 0) (pos 0) at.num at.den refl zero_within t)),
+    ) refl
   where
     zero_within : IsWithin 4000000000 (pos 0)
     zero_within = (omega (arith, ints), omega (arith, ints))
@@ -110,12 +114,14 @@ module _ (at : Ratio) (links : List Link) where
       let positive = p.positive in
       let asked : pos 0 <ℤ asked_by at (links_at links chain) = omega (arith, ints) in
       let some : chain ≢ [] = λ e. let none : asked_by at (links_at links chain) ≡ pos 0 = ap (λ (x : List ℕ). asked_by at (links_at links x)) e ∙ asked-nothing in absurd (omega (arith, ints)) in
-      let exist = exist-leads links chain v v leads in
-      (record {
-        exist = exist;
-        chain = record { listed = listed links chain exist; closed = closed-leads links chain v some leads };
-        once = λ i j d l m. λ q. p.apart i j d l m (to_is at links (get_or chain i d) ∙ q ∙ sym (to_is at links (get_or chain j d)));
-      }, forbids-asked chain asked)
+      let exist = exist-leads links chain v v leads in (
+        record {
+          exist = exist;
+          chain = record { listed = listed links chain exist; closed = closed-leads links chain v some leads };
+          once = λ i j d l m. λ q. p.apart i j d l m (to_is at links (get_or chain i d) ∙ q ∙ sym (to_is at links (get_or chain j d)));
+        },
+        forbids-asked chain asked,
+      )
 
   module _ (n : ℕ) (starts values : List ℤ) (few : length starts ≡ n) (some : 0 < n) (origin : value_at starts 0 ≡ pos 0) (others : (v : ℕ) → v < n → v ≢ 0 → value_at starts v ≡ UNREACHED) where
     only_origin : (u : ℕ) → IsStart starts u → u ≡ 0

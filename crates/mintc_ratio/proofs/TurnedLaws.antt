@@ -56,16 +56,18 @@ module _ (list : Constraints) (ordinary : IsOrdinary list) (start begun : ℕ) (
       let steps = few_steps start now ((k + 1) * (list.nodes + 1)) list.nodes ordinary.nodes.1 s.few in
       let room = m.2 start now s.said said steps in
       let two = two_left m.0 list.nodes in
-      let reach = m.1 in
-      (m.0, record {
-        is_held = is;
-        is_high = s.is_high;
-        inside = s.inside;
-        said = s.said;
-        later = omega (arith, s.later);
-        near = λ next other. let rises = low_rises list.nodes held sums low next s.is_held.turns is.turns floor other steeper some_nodes in omega (arith, ints);
-        few = omega arith;
-      }))
+      let reach = m.1 in (
+        m.0,
+        record {
+          is_held = is;
+          is_high = s.is_high;
+          inside = s.inside;
+          said = s.said;
+          later = omega (arith, s.later);
+          near = λ next other. let rises = low_rises list.nodes held sums low next s.is_held.turns is.turns floor other steeper some_nodes in omega (arith, ints);
+          few = omega arith;
+        },
+      ))
       may
 
   -- A halving leaves a chain that forbids the middle.
@@ -79,16 +81,18 @@ module _ (list : Constraints) (ordinary : IsOrdinary list) (start begun : ℕ) (
           let near = t.near low floor in
           let double = pow-suc 2 j in
           let left = tests_left j list.nodes in
-          let few = t.few in
-          (j, record {
-            is_held = is;
-            is_high = t.is_high;
-            inside = t.inside;
-            said = t.said;
-            later = omega (arith, t.later);
-            near = λ next other. let rises = low_halved list.nodes sums (low +ℤ pos (width / 2)) next other above in omega (arith, ints);
-            few = omega arith;
-          })
+          let few = t.few in (
+            j,
+            record {
+              is_held = is;
+              is_high = t.is_high;
+              inside = t.inside;
+              said = t.said;
+              later = omega (arith, t.later);
+              near = λ next other. let rises = low_halved list.nodes sums (low +ℤ pos (width / 2)) next other above in omega (arith, ints);
+              few = omega arith;
+            },
+          )
 
   -- Or it leaves the chain that was held, and no chain forbids the middle.
   pub freed_on : 2 ≤ width → NoneForbids list.links (over (low +ℤ pos (width / 2)) (grid_of list.nodes)) → new.chain ≡ old.chain →
@@ -103,16 +107,18 @@ module _ (list : Constraints) (ordinary : IsOrdinary list) (start begun : ℕ) (
           let left = tests_left j list.nodes in
           let few = t.few in
           let before = t.is_held in
-          let under = t.inside in
-          (j, record {
-            is_held = record { chain = rw same before.chain; has_sums = rw same before.has_sums; small = before.small; turns = before.turns; low = before.low };
-            is_high = high_free list (low +ℤ pos (width / 2)) none;
-            inside = omega (arith, ints);
-            said = t.said;
-            later = omega (arith, t.later);
-            near = λ next other. let rises = other.greatest low floor.low in omega (arith, ints);
-            few = omega arith;
-          })
+          let under = t.inside in (
+            j,
+            record {
+              is_held = record { chain = rw same before.chain; has_sums = rw same before.has_sums; small = before.small; turns = before.turns; low = before.low };
+              is_high = high_free list (low +ℤ pos (width / 2)) none;
+              inside = omega (arith, ints);
+              said = t.said;
+              later = omega (arith, t.later);
+              near = λ next other. let rises = other.greatest low floor.low in omega (arith, ints);
+              few = omega arith;
+            },
+          )
 
 -- the numbers of a range, as the code reads them
 pub read_low : (high low : ℤ) → IsRange high low → to_z w128 (of_z w128 low) ≡ low

@@ -76,6 +76,7 @@ pub fn search<L: Ledger>(links: &LinkList, room: &mut Room, steps: &mut Steps<L>
     ensures links { room.new.links ≡ room.old.links }
     ensures cost { steps.new ≤ steps.old + 68 * (links.now.nodes + 1) }
 {
+    let _nodes = links.nodes();
     let begun = steps.taken();
     let rest = Fraction::new(0, 1);
     match test_at(links, &rest, room, steps) {
@@ -84,8 +85,9 @@ pub fn search<L: Ledger>(links: &LinkList, room: &mut Room, steps: &mut Steps<L>
             Outcome::Least { cycle: rest }
         }
         Test::Chain => match turn_of(links, room) {
+            Turn::Found { outcome } => outcome,
             Turn::Held { sums } => climb(links, sums, begun, room, steps),
-            _ => Outcome::Never,
+            Turn::Free => unreachable!(),
         },
     }
 }

@@ -114,4 +114,3 @@ returns-in-Free-halve-clause-advanced g c =
     rw (read_middle c.args.high c.low_of-low.result c.middle_of-middle.result c.width_of-width.result r wide middle)
     (freed_on c.args.links.now c.nodes-nodes.ensures.kept start c.args.begun c.args.room.now c.args.held c.args.high c.low_of-low.result halvings c.args.steps.now c.width_of-width.result now floor wide
     c.halve.new.room c.halve.new.steps c.in-Free-halve.ensures.cost c.in-Free-halve.ensures.some c.if-may_jump.ensures.wide turn.0 turn.1)
-

@@ -11,9 +11,10 @@ use Rattle.mintc_ratio.proofs.sums.sums_of.Goals as goal
 turn : (c : goal.After-delay-1) → IsOrdinaryLink c.args.nodes (link_at c.args.links.now (get_or c.args.chain.now c.loop-number.number-index 0)) × (c.loop-number.number-index < 2017)
 turn c =
     let few = few_links c.args.nodes c.args.links.now c.requires.ordinary c.args.chain.now c.requires.chain in
-    let most = c.requires.ordinary.nodes.1 in
-    (ordinary-at c.args.nodes c.args.links.now c.requires.ordinary (get_or c.args.chain.now c.loop-number.number-index 0) (c.requires.chain.exist c.loop-number.number-index 0 c.loop-number-test.true),
-    omega arith)
+    let most = c.requires.ordinary.nodes.1 in (
+      ordinary-at c.args.nodes c.args.links.now c.requires.ordinary (get_or c.args.chain.now c.loop-number.number-index 0) (c.requires.chain.exist c.loop-number.number-index 0 c.loop-number-test.true),
+      omega arith,
+    )
 
 -- what the code adds
 read : (c : goal.After-delay-1) → to_z w64 (of_z w64 c.numbered-link.result.now.delay) ≡ (link_at c.args.links.now (get_or c.args.chain.now c.loop-number.number-index 0)).delay

@@ -23,10 +23,11 @@ returns-in-Values-clause-tested g c =
     let few : length c.begin.new.room.values ≡ list.nodes = c.begin.ensures.count ∙ c.nodes-nodes.ensures.value in
     let some : 0 < list.nodes = omega (arith, kept.nodes.0) in
     let others = rw c.nodes-nodes.ensures.value at c.begin.ensures.others in
-    let count : length c.walk.new.self.values ≡ list.nodes = c.walk.ensures.values ∙ few in
-    (greatest-from_walks at list.links list.nodes c.begin.new.room.values c.walk.new.self.values few some c.begin.ensures.origin others walked.0 kept.each kept.reached count,
-    none-from_walks at list.links list.nodes c.begin.new.room.values c.walk.new.self.values few some c.begin.ensures.origin others walked.0 kept.each kept.reached,
-    λ h. walked.1 ∙ ap (λ (r : Space). r.chain) c.begin.ensures.kept ∙ c.cut_chain.ensures.same (omega (arith, h, c.nodes-nodes.ensures.value)))
+    let count : length c.walk.new.self.values ≡ list.nodes = c.walk.ensures.values ∙ few in (
+      greatest-from_walks at list.links list.nodes c.begin.new.room.values c.walk.new.self.values few some c.begin.ensures.origin others walked.0 kept.each kept.reached count,
+      none-from_walks at list.links list.nodes c.begin.new.room.values c.walk.new.self.values few some c.begin.ensures.origin others walked.0 kept.each kept.reached,
+      λ h. walked.1 ∙ ap (λ (r : Space). r.chain) c.begin.ensures.kept ∙ c.cut_chain.ensures.same (omega (arith, h, c.nodes-nodes.ensures.value)),
+    )
 
 pub returns-in-Chain-clause-tested : goal.returns-in-Chain-clause-tested
 returns-in-Chain-clause-tested g c =
