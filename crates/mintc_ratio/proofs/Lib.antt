@@ -1,0 +1,11 @@
+pub mod Weights
+pub mod Weighing
+pub mod TestedLaws
+pub mod RestLaws
+pub mod SumsLaws
+pub mod CycleLaws
+pub mod TurnLaws
+pub mod GridLaws
+pub mod ClimbLaws
+pub mod TurnedLaws
+pub mod BeginningLaws

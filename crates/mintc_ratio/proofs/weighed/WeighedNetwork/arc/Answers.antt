@@ -1,0 +1,28 @@
+use Rattle.std.proofs.Common.{◌≡◌, ◌<◌, ◌^◌, pos, length, refl, lit<, arith}
+use Rattle.std.specs.Int.{w64, w128}
+use Rattle.std.proofs.lemmas.Int.{ints, to_z-of_z}
+use Rattle.std.proofs.lemmas.List.{length-map}
+use Rattle.mintc_fraction.specs.Ratio.{over}
+use Rattle.mintc_timing.specs.declared.link.LinkKind.TheVariants as kind
+use Rattle.mintc_timing.specs.Links.{link}
+use Rattle.mintc_constraints.specs.Ordinary.{link_at, IsOrdinaryLink}
+use Rattle.mintc_walks.specs.Bounds.{IsWithin}
+use Rattle.mintc_ratio.proofs.Weights.{fits_64, fits_128, num_within, den_within}
+use Rattle.mintc_ratio.proofs.Weighing.{arc_is, delay-within}
+use Rattle.mintc_ratio.proofs.weighed.WeighedNetwork.arc.Goals as goal
+
+pub returns : goal.returns
+returns c =
+    let w = c.args.self.now in
+    let links = w.links.now in
+    let below : c.args.number < length links = simp length-map at c.requires in
+    let ordinary : IsOrdinaryLink w.nodes (link_at links c.args.number) = w.ordinary c.args.number (link (kind.Other 0) 0 0 (pos 0) 0) below in
+    let d = (link_at links c.args.number).delay in
+    let delay : IsWithin 4000000000 d = delay-within w.nodes (link_at links c.args.number) ordinary in
+    let value = rw (
+      c.numbered-link.ensures,
+      to_z-of_z w64 d (fits_64 4000000000 d (lit< tt) delay),
+      to_z-of_z w128 w.num (fits_128 (10 ^ 20) w.num (lit< tt) (num_within d d w.num w.den refl delay w.time)),
+      to_z-of_z w128 w.den (fits_128 (10 ^ 7) w.den (lit< tt) (den_within d d w.num w.den refl delay w.time)),
+    ) at c.weight.ensures.value in
+    rw c.numbered-link.ensures (arc_is (over w.num w.den) links c.args.number c.weight.result below value c.weight.ensures.small)

@@ -1,0 +1,14 @@
+//! The test of one cycle time, and the search for the least.
+#![tactic(auto)]
+
+mod advancing;
+mod budget;
+mod rest;
+mod searching;
+mod sums;
+mod testing;
+mod turns;
+mod weighed;
+
+pub use searching::{Outcome, search};
+pub use testing::{Test, test_at};

@@ -1,0 +1,93 @@
+//! The search for the least cycle time.
+ghost use Rattle.std.specs.Prelude.{◌≡◌, ◌≤◌, ◌+◌, ◌*◌, ℕ, length};
+ghost use Rattle.mintc_ratio.specs.Climbing.{IsClimbing, top_of};
+ghost use Rattle.mintc_ratio.specs.Searched.{HasSearched};
+
+use crate::advancing::{Advance, take_turn};
+use crate::rest::hold_rest;
+use crate::sums::Sums;
+use crate::turns::{Turn, turn_of};
+use crate::{Test, test_at};
+use mintc_constraints::{LinkList, Room};
+use mintc_fraction::Fraction;
+use mintc_walks::Steps;
+use std::sync::ledger::Ledger;
+
+/// What the search for the least cycle time finds.
+#[derive(Clone, Copy, Debug)]
+pub enum Outcome {
+    /// The least cycle time that no chain forbids, in femtoseconds and in lowest terms.
+    Least { cycle: Fraction },
+    /// Some chain forbids every cycle time.
+    Never,
+}
+
+/// A part of the grid that no chain's ratio exceeds.
+fn top_of(nodes: u32) -> i128
+    requires { nodes ≤ 2017 }
+    ensures { result ≡ top_of nodes }
+{
+    let nodes = i128::from(nodes);
+    4_000_000_000 * nodes * nodes * nodes
+}
+
+/// Searches on from a chain in the room, in as many steps as are left.
+fn climb<L: Ledger>(
+    links: &LinkList,
+    first: Sums,
+    begun: u64,
+    room: &mut Room,
+    steps: &mut Steps<L>,
+) -> Outcome
+    requires nodes { links.now.nodes ≤ room.old.nodes }
+    requires links { length links.now.links ≤ room.old.links }
+    requires climbing { (start : ℕ) × IsClimbing links.now start begun room.old first (top_of links.now.nodes) 65 steps.old }
+    ensures searched { HasSearched links.now room.new result }
+    ensures nodes { room.new.nodes ≡ room.old.nodes }
+    ensures links { room.new.links ≡ room.old.links }
+    ensures cost { (start : ℕ) → IsClimbing links.now start begun room.old first (top_of links.now.nodes) 65 steps.old → steps.new ≤ start + 68 * (links.now.nodes + 1) }
+{
+    let mut held = first;
+    let mut high = top_of(links.nodes());
+    loop {
+        match take_turn(links, held, high, begun, room, steps) {
+            Advance::Over { outcome } => return outcome,
+            Advance::On {
+                held: next,
+                high: lower,
+            } => {
+                held = next;
+                high = lower;
+            }
+        }
+    }
+}
+
+/// The least cycle time that no chain of the links forbids.
+///
+/// `Least`: the room's `values` are those of the greatest walks at `cycle`, as numerators over its denominator, and its
+/// `chain` has the link numbers, counted from 0, of a chain that forbids every smaller cycle time. `Never`: exactly where some
+/// chain forbids every cycle time, and the room's `chain` has such a one. Neither chain enters a node twice.
+pub fn search<L: Ledger>(links: &LinkList, room: &mut Room, steps: &mut Steps<L>) -> Outcome
+    requires nodes { links.now.nodes ≤ room.old.nodes }
+    requires links { length links.now.links ≤ room.old.links }
+    ensures searched { HasSearched links.now room.new result }
+    ensures nodes { room.new.nodes ≡ room.old.nodes }
+    ensures links { room.new.links ≡ room.old.links }
+    ensures cost { steps.new ≤ steps.old + 68 * (links.now.nodes + 1) }
+{
+    let _nodes = links.nodes();
+    let begun = steps.taken();
+    let rest = Fraction::new(0, 1);
+    match test_at(links, &rest, room, steps) {
+        Test::Values => {
+            hold_rest(links, room);
+            Outcome::Least { cycle: rest }
+        }
+        Test::Chain => match turn_of(links, room) {
+            Turn::Found { outcome } => outcome,
+            Turn::Held { sums } => climb(links, sums, begun, room, steps),
+            Turn::Free => unreachable!(),
+        },
+    }
+}
