@@ -1,3 +1,5 @@
+pub mod AnswerLaws
 pub mod Calls
+pub mod CheckLaws
 pub mod CommandLaws
 pub mod ReadingLaws

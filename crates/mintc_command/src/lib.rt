@@ -6,7 +6,6 @@
 
 mod answer;
 mod command;
-mod plain;
 mod program;
 mod reading;
 mod status;
