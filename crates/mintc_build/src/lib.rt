@@ -4,3 +4,6 @@
 mod building;
 
 pub use building::{from_table, system};
+
+#[cfg(test)]
+mod tests;
