@@ -1,4 +1,4 @@
-use Rattle.std.specs.Prelude.{◌≡◌, ◌⊎◌, ℕ, List}
+use Rattle.std.specs.Prelude.{◌⊎◌, ℕ, List}
 use Rattle.mintc_text.specs.declared.refusals.Refusal.{Refusal}
 use Rattle.mintc_timing.specs.Design.{Design}
 use Rattle.mintc_timing.specs.Accepted.{IsArcLoop}

@@ -2,8 +2,10 @@
 #![tactic(auto)]
 
 mod building;
+mod laws;
 
 pub use building::{from_table, system};
+pub use laws::{accepted_designs_are_not_refused, design_refusals_are_determined};
 
 #[cfg(test)]
 mod tests;

@@ -1,4 +1,4 @@
-use Rattle.std.proofs.Common.{◌≡◌, ◌≢◌, ◌+◌, ◌-◌, ℕ, List, [], ◌∷◌, length, get_or, take, drop, refl, ap, ◌∙◌, sym, subst, arith, Option, Some, None, String}
+use Rattle.std.proofs.Common.{◌≡◌, ◌≢◌, ◌+◌, ◌-◌, ℕ, List, [], ◌∷◌, length, get_or, take, drop, refl, ap, ◌∙◌, sym, subst, arith, Option, String}
 use Rattle.mintc_text.specs.declared.refusals.Refusal.{Refusal}
 use Rattle.mintc_text.specs.Outside.{Files}
 use Rattle.mintc_command.specs.Answers.{AreFronts, IsDefined, IsFirstRefusal, IsNotRefused, IsComplete, IsAnswer}

@@ -3,3 +3,4 @@ pub mod Calls
 pub mod CheckLaws
 pub mod CommandLaws
 pub mod ReadingLaws
+pub mod RefusalLaws

@@ -7,7 +7,7 @@ use Rattle.mintc_text.specs.declared.refusals.Refusal.{Refusal}
 use Rattle.mintc_command.specs.Commands.{Command, check_table, IsCommand, words_of, names_of}
 use Rattle.mintc_command.specs.declared.reading.TheConstants.{LONGEST}
 use Rattle.mintc_command.specs.declared.status.Status.{Status}
-use Rattle.mintc_command.specs.declared.status.Status.TheVariants.{Done, Found, Refused, Usage, ReadFault, WriteFault, OutOfMemory}
+use Rattle.mintc_command.specs.declared.status.Status.TheVariants.{Done, Found, Usage, ReadFault, WriteFault, OutOfMemory}
 
 -- the line that is written where the words are no command
 abbrev pub usage_line : List ℕ

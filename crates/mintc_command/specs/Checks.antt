@@ -1,5 +1,5 @@
 -- What `check` answers, from the bytes of its files alone.
-use Rattle.std.specs.Prelude.{◌≡◌, ◌≢◌, ◌<◌, ◌≤◌, ◌⊎◌, ℕ, ℤ, List, [], ◌∷◌, length, All}
+use Rattle.std.specs.Prelude.{◌≡◌, ◌≢◌, ◌<◌, ◌≤◌, ◌⊎◌, ℕ, ℤ, List, [], ◌∷◌, length}
 use Rattle.mintc_text.specs.declared.refusals.Refusal.{Refusal}
 use Rattle.mintc_text.specs.declared.refusals.Refusal.TheVariants as refusal
 use Rattle.mintc_text.specs.declared.refusals.Role.{Role}
@@ -19,7 +19,7 @@ use Rattle.mintc_build.specs.Designs.{IsDesignRefusal}
 use Rattle.mintc_report.specs.Answers.{IsPassText, IsFailText}
 use Rattle.mintc_command.specs.declared.reading.TheConstants.{LONGEST}
 use Rattle.mintc_command.specs.declared.status.Status.{Status}
-use Rattle.mintc_command.specs.declared.status.Status.TheVariants.{Done, Found, Refused, Usage, ReadFault, WriteFault, OutOfMemory}
+use Rattle.mintc_command.specs.declared.status.Status.TheVariants.{Done, Found, Refused}
 
 -- The refusal of the first file that is too long, in the order of the words.
 abbrev pub IsLengthRefusal : List Role → List (List ℕ) → Refusal → Type 0

@@ -2,3 +2,4 @@ pub mod Statuses
 pub mod Commands
 pub mod Checks
 pub mod Answers
+pub mod Laws
