@@ -207,7 +207,7 @@ const ROWS: [Row; 22] = [
         name: "path-sum-limit",
         words: "check table long.table slow.schedule",
         status: Status::Refused,
-        texts: &["refused 16 2 0 1\n"],
+        texts: &["refused 21 0 0\n"],
     },
     Row {
         name: "closed-inner-arcs",
