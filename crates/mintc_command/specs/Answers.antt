@@ -1,31 +1,63 @@
-use Rattle.std.specs.Prelude.{◌≡◌, ◌≤◌, ◌+◌, ℕ, List, Option, Some, None, codes, All}
+use Rattle.std.specs.Prelude.{◌≡◌, ◌≤◌, ◌+◌, ℕ, List, [], ◌∷◌, Option, Some, None, codes, All}
 use Rattle.std.specs.List.{AllZip}
-use Rattle.mintc_text.specs.declared.refusals.Refusal.{Refusal}
 use Rattle.mintc_text.specs.Lines.{ended}
-use Rattle.mintc_text.specs.Refusals.{refusal_line}
 use Rattle.mintc_text.specs.Outside.{Files, Holds, IsFront, Takes, TakesFront}
+use Rattle.mintc_command.specs.Checks.{IsCheckAnswer, IsCheckRefusal}
+use Rattle.mintc_text.specs.declared.refusals.Refusal.{Refusal}
+use Rattle.mintc_command.specs.Commands.{Command, check_table, IsCommand, words_of, names_of}
+use Rattle.mintc_command.specs.declared.reading.TheConstants.{LONGEST}
 use Rattle.mintc_command.specs.declared.status.Status.{Status}
-use Rattle.mintc_command.specs.declared.status.Status.TheVariants.{Done, Found, Refused, Usage, ReadFault, WriteFault, OutOfMemory}
+use Rattle.mintc_command.specs.declared.status.Status.TheVariants.{Done, Found, Usage, ReadFault, WriteFault, OutOfMemory}
 
 -- the line that is written where the words are no command
 abbrev pub usage_line : List ℕ
 usage_line = ended (codes "usage: mintc check|optimise|verify|report|safe|slack table|files|liberty FILE.. | mintc sample N | mintc corners V C K D D..")
 
--- A text that may be written with a status: a pass, a fail, a refusal's line, or the usage line.
-abbrev pub IsAnswer : Status → List ℕ → Type 0
-IsAnswer Done text = text ≡ ended (codes "pass")
-IsAnswer Found text = text ≡ ended (codes "fail")
-IsAnswer Refused text = (refusal : Refusal) × (text ≡ refusal_line refusal)
-IsAnswer Usage text = text ≡ usage_line
-IsAnswer status text = ⊥
+-- The shelf, where it tells its files, has one of each name.
+abbrev pub HoldsAll : Option Files → List (List ℕ) → Type 0
+HoldsAll files names = All (Holds files) names
+
+-- These are the first bytes of the files of these names, at most so many of each.
+abbrev pub AreFronts : Option Files → ℕ → List (List ℕ) → List (List ℕ) → Type 0
+AreFronts files most names fronts = AllZip (λ name front. IsFront files name most front) names fronts
+
+-- The defined answer of a command on the first bytes of its files: a status and a text.
+abbrev pub IsDefined : Command → List (List ℕ) → Status → List ℕ → Type 0
+IsDefined (check_table table_name schedule_name) (table ∷ schedule ∷ []) status text = IsCheckAnswer table schedule status text
+IsDefined command files status text = ⊥
+
+-- The first refusal of a command on the first bytes of its files.
+abbrev pub IsFirstRefusal : Command → List (List ℕ) → Refusal → Type 0
+IsFirstRefusal (check_table table_name schedule_name) (table ∷ schedule ∷ []) refused = IsCheckRefusal table schedule refused
+IsFirstRefusal command files refused = ⊥
+
+-- Whatever the files of this command are read as, none of them is refused.
+abbrev pub IsNotRefused : Option Files → Command → Type 0
+IsNotRefused files command =
+    (fronts : List (List ℕ)) (refused : Refusal) → AreFronts files (LONGEST + 1) (names_of command) fronts → IsFirstRefusal command fronts refused → ⊥
+
+-- The status is that of an answer which isn't a refusal, or memory was wanting.
+abbrev pub IsComplete : Status → Type 0
+IsComplete Done = Unit {0}
+IsComplete Found = Unit {0}
+IsComplete OutOfMemory = Unit {0}
+IsComplete status = ⊥
+
+-- The defined answer of words over a shelf's files: that of a command on the first bytes of the files that it names, one
+-- byte more than a file may have, or the usage line.
+abbrev pub IsAnswer : List (List ℕ) → Option Files → Status → List ℕ → Type 0
+IsAnswer words files Usage text = (IsCommand words → ⊥) × (text ≡ usage_line)
+IsAnswer words files status text =
+    (command : Command) × (words ≡ words_of command) × (fronts : List (List ℕ)) × AreFronts files (LONGEST + 1) (names_of command) fronts
+    × IsDefined command fronts status text
 
 -- What a run leaves of the bytes that the sink took: with an answer its text at the end, with a failed write a front of
 -- an answer's text, and else what there was.
-abbrev pub Writes : Status → Option (List ℕ) → Option (List ℕ) → Type 0
-Writes ReadFault before now = now ≡ before
-Writes OutOfMemory before now = now ≡ before
-Writes WriteFault before now = (status : Status) × (text : List ℕ) × IsAnswer status text × TakesFront before now text
-Writes status before now = (text : List ℕ) × IsAnswer status text × Takes before now text
+abbrev pub Writes : List (List ℕ) → Option Files → Status → Option (List ℕ) → Option (List ℕ) → Type 0
+Writes words files ReadFault before now = now ≡ before
+Writes words files OutOfMemory before now = now ≡ before
+Writes words files WriteFault before now = (status : Status) × (text : List ℕ) × IsAnswer words files status text × TakesFront before now text
+Writes words files status before now = (text : List ℕ) × IsAnswer words files status text × Takes before now text
 
 -- The status is one that comes only after all files were read.
 abbrev pub IsAfterReading : Status → Type 0
@@ -40,14 +72,6 @@ IsOfNoCommand Usage = Unit {0}
 IsOfNoCommand WriteFault = Unit {0}
 IsOfNoCommand OutOfMemory = Unit {0}
 IsOfNoCommand status = ⊥
-
--- The shelf, where it tells its files, has one of each name.
-abbrev pub HoldsAll : Option Files → List (List ℕ) → Type 0
-HoldsAll files names = All (Holds files) names
-
--- These are the first bytes of the files of these names, at most so many of each.
-abbrev pub AreFronts : Option Files → ℕ → List (List ℕ) → List (List ℕ) → Type 0
-AreFronts files most names fronts = AllZip (λ name front. IsFront files name most front) names fronts
 
 -- At most so many calls were made, where calls are told.
 abbrev pub MakesAtMost : ℕ → Option ℕ → Option ℕ → Type 0

@@ -1,13 +1,19 @@
 //! The answer to a command, from the bytes of its files.
-ghost use Rattle.std.specs.Prelude.{◌≡◌, ◌≢◌, length, IfOk};
-ghost use Rattle.mintc_command.specs.Answers.{IsAnswer};
+ghost use Rattle.std.specs.Prelude.{◌≡◌, ◌≤◌, [], ◌∷◌, length, slice_index_or, MatchOption, IfOk, IfErr};
+ghost use Rattle.mintc_text.specs.Refusals.{refusal_line};
+ghost use Rattle.mintc_text.specs.Stops.{StopsAt};
+ghost use Rattle.mintc_timing.specs.Design.{phase_count};
+ghost use Rattle.mintc_timing.specs.Limits.{IsInRange};
+ghost use Rattle.mintc_command.specs.Checks.{IsCheckAnswer, IsCheckRefusal, IsJudgement, IsLengthRefusal, IsScheduleOf, IsScheduleRefused, IsTableOf, IsTableRefused};
 
-use crate::plain;
 use crate::reading::LONGEST;
 use crate::status::Status;
-use mintc_report::refusal_text;
+use mintc_build::{from_table, system};
+use mintc_constraints::Room;
+use mintc_departure::violations;
+use mintc_report::{fail_text, pass_text, refusal_text, violations_name_pairs};
 use mintc_text::{Bytes, OutOfMemory, Refusal, Role, Stop};
-use mintc_timing::{read_schedule, read_table};
+use mintc_timing::{Schedule, System, read_schedule, systems_are_accepted};
 use std::alloc::Global;
 
 /// A status and the text that goes with it.
@@ -17,55 +23,135 @@ pub struct Answer {
     pub text: Bytes,
 }
 
-/// A text that is one line.
-fn line(alloc: Global, status: Status, line: &[u8]) -> Result<Answer, OutOfMemory>
-    ensures status { IfOk result (λ answer. answer.status ≡ status) }
-    ensures text { IfOk result (λ answer. answer.text ≡ line.now) }
+/// The refusal of the first of the two files that is too long.
+fn too_long(table: &[u8], schedule: &[u8]) -> Option<Refusal>
+    ensures { MatchOption result
+        ((length table.now ≤ LONGEST) × (length schedule.now ≤ LONGEST))
+        (IsLengthRefusal (Role.Table ∷ Role.Schedule ∷ []) (table.now ∷ schedule.now ∷ [])) }
 {
-    match Vec::from_slice(alloc, line) {
-        Ok(text) => Ok(Answer {
-            status,
-            text: Bytes::new(text),
-        }),
-        Err(_) => Err(OutOfMemory),
-    }
-}
-
-/// Whether a schedule passes on a table, from their bytes; or the first refusal, in the order of a run.
-fn check_table(alloc: Global, table: &[u8], schedule: &[u8]) -> Result<bool, Stop> {
     if table.len() > LONGEST {
-        return Err(Stop::Refused(Refusal::TooLong { role: Role::Table }));
+        return Some(Refusal::TooLong { role: Role::Table });
     }
     if schedule.len() > LONGEST {
-        return Err(Stop::Refused(Refusal::TooLong {
+        return Some(Refusal::TooLong {
             role: Role::Schedule,
-        }));
+        });
     }
-    let flat = match read_table(alloc, table) {
+    None
+}
+
+/// The system of a table, or its first refusal.
+fn system_of(alloc: Global, table: &[u8]) -> Result<System, Stop>
+    requires { length table.now ≤ LONGEST }
+    ensures value { IfOk result (λ system. IsTableOf table.now system) }
+    ensures stop { IfErr result (StopsAt (IsTableRefused table.now)) }
+{
+    let flat = match from_table(alloc, table) {
         Ok(flat) => flat,
         Err(stop) => return Err(stop),
     };
-    plain::is_answered(alloc, &flat)?;
-    let schedule = match read_schedule(schedule) {
+    systems_are_accepted();
+    let _phases = flat.phases();
+    match system(alloc, flat) {
+        Ok(system) => {
+            let _pairs = system.pairs();
+            Ok(system)
+        }
+        Err(stop) => Err(stop),
+    }
+}
+
+/// The schedule of a text, which is to have so many phases, or its first refusal.
+fn schedule_of(text: &[u8], phases: usize) -> Result<Schedule, Refusal>
+    requires text { length text.now ≤ LONGEST }
+    requires few { phases ≤ 8 }
+    ensures value { IfOk result (λ schedule. IsScheduleOf text.now phases schedule) }
+    ensures in_range { IfOk result IsInRange }
+    ensures refusal { IfErr result (IsScheduleRefused text.now phases) }
+{
+    let schedule = match read_schedule(text) {
+        Ok(schedule) => schedule,
+        Err(refusal) => return Err(refusal),
+    };
+    let given = schedule.starts.items().len();
+    if phases != given {
+        return Err(Refusal::PhaseMismatch {
+            design: phases as u32,
+            schedule: given as u32,
+        });
+    }
+    Ok(schedule)
+}
+
+/// The judgement of a schedule: a pass, or a fail with all its violations.
+fn judged(alloc: Global, system: &System, schedule: &Schedule) -> Result<Answer, OutOfMemory>
+    requires in_range { IsInRange schedule.now }
+    requires phases { length schedule.now.starts ≡ phase_count system.now }
+    ensures { IfOk result (λ answer. IsJudgement system.now schedule.now answer.status answer.text) }
+{
+    let flat = system.flat();
+    let nodes = 1 + 2 * flat.phases().items().len() + flat.elements().len();
+    let mut room = Room::reserve(alloc, nodes, 0)?;
+    let violations = violations(alloc, system, schedule, &mut room)?;
+    if violations.is_empty() {
+        let text = pass_text(alloc, system, schedule, &room)?;
+        Ok(Answer {
+            status: Status::Done,
+            text: Bytes::new(text),
+        })
+    } else {
+        violations_name_pairs();
+        let text = fail_text(alloc, system, schedule, violations.as_slice())?;
+        Ok(Answer {
+            status: Status::Found,
+            text: Bytes::new(text),
+        })
+    }
+}
+
+/// The answer that a refusal is.
+fn refused(alloc: Global, refusal: &Refusal) -> Result<Answer, OutOfMemory>
+    ensures status { IfOk result (λ answer. answer.status ≡ Status.Refused) }
+    ensures text { IfOk result (λ answer. answer.text ≡ refusal_line refusal.now) }
+{
+    let text = refusal_text(alloc, refusal)?;
+    Ok(Answer {
+        status: Status::Refused,
+        text: Bytes::new(text),
+    })
+}
+
+/// The answer to `check table` where nothing is refused, from the bytes of a table and of a schedule; else the first
+/// refusal, in the order of a run.
+fn checked(alloc: Global, table: &[u8], schedule: &[u8]) -> Result<Answer, Stop>
+    ensures value { IfOk result (λ answer. IsCheckAnswer table.now schedule.now answer.status answer.text) }
+    ensures stop { IfErr result (StopsAt (IsCheckRefusal table.now schedule.now)) }
+{
+    if let Some(refusal) = too_long(table, schedule) {
+        return Err(Stop::Refused(refusal));
+    }
+    let system = match system_of(alloc, table) {
+        Ok(system) => system,
+        Err(stop) => return Err(stop),
+    };
+    let schedule = match schedule_of(schedule, system.flat().phases().items().len()) {
         Ok(schedule) => schedule,
         Err(refusal) => return Err(Stop::Refused(refusal)),
     };
-    plain::passes(alloc, &flat, &schedule)
+    match judged(alloc, &system, &schedule) {
+        Ok(answer) => Ok(answer),
+        Err(OutOfMemory) => Err(Stop::OutOfMemory),
+    }
 }
 
 /// The answer to `check table`, of the bytes of the table and of the schedule.
 pub fn answer_to(alloc: Global, files: &[Bytes]) -> Result<Answer, OutOfMemory>
     requires { length files.now ≡ 2 }
-    ensures answer { IfOk result (λ answer. IsAnswer answer.status answer.text) }
-    ensures command { IfOk result (λ answer. answer.status ≢ Status.Usage) }
+    ensures { IfOk result (λ answer. IsCheckAnswer (slice_index_or files.now 0 []) (slice_index_or files.now 1 []) answer.status answer.text) }
 {
-    match check_table(alloc, files[0].items(), files[1].items()) {
-        Ok(true) => line(alloc, Status::Done, b"pass\n"),
-        Ok(false) => line(alloc, Status::Found, b"fail\n"),
-        Err(Stop::Refused(refusal)) => Ok(Answer {
-            status: Status::Refused,
-            text: Bytes::new(refusal_text(alloc, &refusal)?),
-        }),
+    match checked(alloc, files[0].items(), files[1].items()) {
+        Ok(answer) => Ok(answer),
+        Err(Stop::Refused(refusal)) => refused(alloc, &refusal),
         Err(Stop::OutOfMemory) => Err(OutOfMemory),
     }
 }

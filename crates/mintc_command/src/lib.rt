@@ -6,11 +6,12 @@
 
 mod answer;
 mod command;
-mod plain;
+mod laws;
 mod program;
 mod reading;
 mod status;
 
+pub use laws::{refusals_are_determined, refusals_exclude_answers};
 pub use program::run;
 pub use status::Status;
 

@@ -1,8 +1,8 @@
 //! A run: words, files, one answer.
-ghost use Rattle.std.specs.Prelude.{◌≡◌, ◌≢◌, ◌⊎◌, length};
-ghost use Rattle.mintc_text.specs.Outside.{Rose};
-ghost use Rattle.mintc_command.specs.Answers.{HoldsAll, IsAfterReading, IsAnswer, IsOfNoCommand, MakesAtMost, Writes};
-ghost use Rattle.mintc_command.specs.Commands.{Command, IsCommand, bytes_of, names_of, words_of};
+ghost use Rattle.std.specs.Prelude.{◌≡◌, ◌≢◌, ◌⊎◌, ◌+◌, ℕ, List, Option, length};
+ghost use Rattle.mintc_text.specs.Outside.{Files, Rose};
+ghost use Rattle.mintc_command.specs.Answers.{HoldsAll, IsAfterReading, IsAnswer, IsComplete, IsNotRefused, IsOfNoCommand, MakesAtMost, Writes};
+ghost use Rattle.mintc_command.specs.Commands.{Command, IsCommand, NameFile, bytes_of, names_of, words_of};
 
 use crate::answer::answer_to;
 use crate::command::is_command;
@@ -17,9 +17,9 @@ const USAGE: &[u8] =
 
 /// Writes an answer by one call. The status is the answer's, or that the write failed.
 fn write<O: Sink>(out: &mut O, status: Status, text: &[u8]) -> Status
-    requires { IsAnswer status text.now }
+    requires { status ≢ Status.WriteFault }
     ensures status { (result ≡ status) ⊎ (result ≡ Status.WriteFault) }
-    ensures written { Writes result (O.taken out.old) (O.taken out.new) }
+    ensures written { (words : List (List ℕ)) (files : Option Files) → IsAnswer words files status text.now → Writes words files result (O.taken out.old) (O.taken out.new) }
     ensures cause { result ≡ Status.WriteFault → Rose (O.faults out.old) (O.faults out.new) }
     ensures writes { MakesAtMost 1 (O.calls out.old) (O.calls out.new) }
 {
@@ -35,15 +35,18 @@ pub fn run<S: Shelf, O: Sink>(alloc: Global, words: &[String], shelf: &mut S, ou
     ensures usage_only { result ≡ Status.Usage → IsCommand (bytes_of words.now) → ⊥ }
     ensures usage { (IsCommand (bytes_of words.now) → ⊥) → IsOfNoCommand result }
 
-    ensures written { Writes result (O.taken out.old) (O.taken out.new) }
+    ensures written { Writes (bytes_of words.now) (S.files shelf.old) result (O.taken out.old) (O.taken out.new) }
     ensures held { (command : Command) → bytes_of words.now ≡ words_of command → IsAfterReading result → HoldsAll (S.files shelf.old) (names_of command) }
     ensures same { S.files shelf.new ≡ S.files shelf.old }
 
-    ensures read_fault { result ≡ Status.ReadFault → IsCommand (bytes_of words.now) }
+    ensures read_fault { result ≡ Status.ReadFault → NameFile (bytes_of words.now) }
     ensures read_cause { result ≡ Status.ReadFault → Rose (S.faults shelf.old) (S.faults shelf.new) }
     ensures sound { (command : Command) → bytes_of words.now ≡ words_of command → S.is_sound shelf.old → HoldsAll (S.files shelf.old) (names_of command) → result ≢ Status.ReadFault }
     ensures reads { (command : Command) → bytes_of words.now ≡ words_of command → MakesAtMost (length (names_of command)) (S.calls shelf.old) (S.calls shelf.new) }
     ensures no_reads { (IsCommand (bytes_of words.now) → ⊥) → S.calls shelf.new ≡ S.calls shelf.old }
+
+    ensures complete { (command : Command) → bytes_of words.now ≡ words_of command → S.is_sound shelf.old → HoldsAll (S.files shelf.old) (names_of command) →
+        IsNotRefused (S.files shelf.old) command → (Rose (O.faults out.old) (O.faults out.new) → ⊥) → IsComplete result }
 
     ensures write_cause { result ≡ Status.WriteFault → Rose (O.faults out.old) (O.faults out.new) }
     ensures writes { MakesAtMost 1 (O.calls out.old) (O.calls out.new) }

@@ -1,3 +1,4 @@
 pub mod AnswerLaws
 pub mod DeterminedLaws
+pub mod NamedLaws
 pub mod SpacedLaws

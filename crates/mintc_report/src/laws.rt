@@ -1,7 +1,12 @@
 //! What the definitions of answers say: a law is the contract of a function that does nothing.
-ghost use Rattle.mintc_report.specs.Laws.{AnswersAreDetermined};
+ghost use Rattle.mintc_report.specs.Laws.{AnswersAreDetermined, ViolationsNamePairs};
 
 /// Departures have one text of a pass, and violations one text of a fail.
 pub fn answers_are_determined()
     ensures { AnswersAreDetermined }
+{}
+
+/// The violations of a schedule name pairs that the design has.
+pub fn violations_name_pairs()
+    ensures { ViolationsNamePairs }
 {}

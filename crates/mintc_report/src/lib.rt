@@ -10,6 +10,6 @@ mod tests;
 mod writing;
 
 pub use fail::fail_text;
-pub use laws::answers_are_determined;
+pub use laws::{answers_are_determined, violations_name_pairs};
 pub use pass::pass_text;
 pub use refusals::refusal_text;

@@ -1,0 +1,12 @@
+use Rattle.std.specs.Prelude.{◌⊎◌, ℕ, List}
+use Rattle.mintc_text.specs.declared.refusals.Refusal.{Refusal}
+use Rattle.mintc_timing.specs.Design.{Design}
+use Rattle.mintc_timing.specs.Accepted.{IsArcLoop}
+use Rattle.mintc_order.specs.Refusals.{NamesLoop}
+use Rattle.mintc_paths.specs.Refusals.{IsExtremesRefusal}
+
+-- Why a design has no system: its arcs lead round; or they don't, and a listed path is too long or the pairs are too many.
+abbrev pub IsDesignRefusal : Design → Refusal → Type 0
+IsDesignRefusal design refused =
+    NamesLoop design.arcs refused
+    ⊎ (((loop : List ℕ) → IsArcLoop design.arcs loop → ⊥) × IsExtremesRefusal design refused)

@@ -1,0 +1,38 @@
+//! Building designs and systems.
+ghost use Rattle.std.specs.Prelude.{◌≡◌, ◌≤◌, length, IfOk, IfErr};
+ghost use Rattle.mintc_text.specs.Stops.{StopsAt};
+ghost use Rattle.mintc_timing.specs.TableText.{IsTableRefusal, IsTableText};
+ghost use Rattle.mintc_build.specs.Designs.{IsDesignRefusal};
+
+use mintc_order::{order, orders_exclude_loops};
+use mintc_paths::extremes;
+use mintc_text::Stop;
+use mintc_timing::{Flat, System, read_table};
+use std::alloc::Global;
+
+/// The design of a table. The refusal is Syntax with the first line out of form, counted from 1, or Limit of the first
+/// quantity that passes its limit.
+pub fn from_table(alloc: Global, text: &[u8]) -> Result<Flat, Stop>
+    requires { length text.now ≤ 67108864 }
+    ensures value { IfOk result (λ flat. IsTableText text.now flat) }
+    ensures stop { IfErr result (StopsAt (IsTableRefusal text.now)) }
+{
+    read_table(alloc, text)
+}
+
+/// The system of a design: its arcs in an order, and its pairs with their extremes. The refusal is CombinationalLoop,
+/// PathRange or Limit of pairs.
+pub fn system(alloc: Global, flat: Flat) -> Result<System, Stop>
+    ensures value { IfOk result (λ system. system.flat ≡ flat) }
+    ensures stop { IfErr result (StopsAt (IsDesignRefusal flat)) }
+{
+    let order = match order(alloc, &flat) {
+        Ok(order) => order,
+        Err(stop) => return Err(stop),
+    };
+    orders_exclude_loops();
+    match extremes(alloc, &flat, &order) {
+        Ok(pairs) => Ok(System::new(flat, order, pairs)),
+        Err(stop) => Err(stop),
+    }
+}

@@ -1,0 +1,18 @@
+-- What holds of refusals and answers.
+use Rattle.std.specs.Prelude.{◌≡◌, ◌⊎◌, ℕ, List}
+use Rattle.mintc_text.specs.declared.refusals.Refusal.{Refusal}
+use Rattle.mintc_build.specs.Laws.{IsLoopRefusal}
+use Rattle.mintc_command.specs.Answers.{IsDefined, IsFirstRefusal}
+use Rattle.mintc_command.specs.Commands.{Command}
+use Rattle.mintc_command.specs.declared.status.Status.{Status}
+use Rattle.mintc_command.specs.declared.status.Status.TheVariants.{Refused}
+
+-- Where there is a first refusal, its line is the only answer.
+abbrev pub RefusalsExcludeAnswers : Type 0
+RefusalsExcludeAnswers = (command : Command) (files : List (List ℕ)) (refused : Refusal) (status : Status) (text : List ℕ) →
+    IsFirstRefusal command files refused → IsDefined command files status text → status ≡ Refused
+
+-- There is one first refusal, but for the choice of a loop of arcs.
+abbrev pub RefusalsAreDetermined : Type 0
+RefusalsAreDetermined = (command : Command) (files : List (List ℕ)) (refused other : Refusal) →
+    IsFirstRefusal command files refused → IsFirstRefusal command files other → (refused ≡ other) ⊎ (IsLoopRefusal refused × IsLoopRefusal other)

@@ -1,0 +1,24 @@
+//! What the definitions of refusals and answers say: a law is the contract of a function that only calls laws.
+ghost use Rattle.mintc_command.specs.Laws.{RefusalsAreDetermined, RefusalsExcludeAnswers};
+
+use mintc_build::{accepted_designs_are_not_refused, design_refusals_are_determined};
+use mintc_timing::{schedule_texts_are_plain, table_texts_are_plain};
+
+/// Where there is a first refusal, its line is the only answer.
+pub fn refusals_exclude_answers()
+    ensures { RefusalsExcludeAnswers }
+{
+    schedule_texts_are_plain();
+    table_texts_are_plain();
+    accepted_designs_are_not_refused();
+}
+
+/// There is one first refusal, but for the choice of a loop of arcs.
+pub fn refusals_are_determined()
+    ensures { RefusalsAreDetermined }
+{
+    schedule_texts_are_plain();
+    table_texts_are_plain();
+    accepted_designs_are_not_refused();
+    design_refusals_are_determined();
+}
