@@ -113,7 +113,6 @@ fn put_refusal(lines: &mut Lines, refusal: &Refusal) -> Result<(), OutOfMemory>
         Refusal::Limit { kind, count } => put_limit(lines, 17, *kind, *count),
         Refusal::Range { entry } => put_one(lines, 18, *entry),
         Refusal::PhaseMismatch { design, schedule } => put_two(lines, 19, *design, *schedule),
-        Refusal::NotYet { role, entry } => put_place(lines, 20, *role, *entry),
         Refusal::PathRange { element, bit } => put_two(lines, 21, *element, *bit),
         Refusal::Corner { file } => put_one(lines, 22, *file),
     }
@@ -171,16 +170,6 @@ mod tests {
                     entry: 0
                 },
                 "refused 10 clock 0\n"
-            )
-        );
-        assert!(rt;
-            is_shown(
-                alloc,
-                &Refusal::NotYet {
-                    role: Role::Table,
-                    entry: 0
-                },
-                "refused 20 table 0\n"
             )
         );
     }

@@ -49,7 +49,6 @@ refusal_number (refusal.CombinationalLoop arcs) = 16
 refusal_number (refusal.Limit quantity count) = 17
 refusal_number (refusal.Range entry) = 18
 refusal_number (refusal.PhaseMismatch design schedule) = 19
-refusal_number (refusal.NotYet text entry) = 20
 refusal_number (refusal.PathRange element bit) = 21
 refusal_number (refusal.Corner file) = 22
 
@@ -74,7 +73,6 @@ refusal_fields (refusal.CombinationalLoop arcs) = decimal (length arcs) ∷ map 
 refusal_fields (refusal.Limit quantity count) = kind_word quantity ∷ decimal count ∷ []
 refusal_fields (refusal.Range entry) = decimal entry ∷ []
 refusal_fields (refusal.PhaseMismatch design schedule) = decimal design ∷ decimal schedule ∷ []
-refusal_fields (refusal.NotYet text entry) = role_word text ∷ decimal entry ∷ []
 refusal_fields (refusal.PathRange element bit) = decimal element ∷ decimal bit ∷ []
 refusal_fields (refusal.Corner file) = decimal file ∷ []
 
