@@ -8,3 +8,4 @@ pub mod Reaching
 pub mod Shortness
 pub mod Tracing
 pub mod Pairing
+pub mod Marking

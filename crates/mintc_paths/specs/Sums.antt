@@ -1,9 +1,10 @@
 -- Sums of paths to bits, from up to eight elements at a time.
-use Rattle.std.specs.Prelude.{◌≡◌, ◌<◌, ◌≤◌, ◌+◌, ◌*◌, ℕ, None, List, [], length, slice_index_or}
+use Rattle.std.specs.Prelude.{◌≡◌, ◌<◌, ◌≤◌, ◌+◌, ◌*◌, ℕ, None, List, [], length, slice_index_or, Bool, false}
 use Rattle.mintc_timing.specs.declared.parts.TimingArc.{TimingArc}
 use Rattle.mintc_timing.specs.Paths.{output_of, arc_at}
 use Rattle.mintc_lanes.specs.Lanes.{lane_at, AreWithin}
 use Rattle.mintc_paths.specs.declared.sums.Sums.{Sums}
+use Rattle.mintc_paths.specs.declared.sums.TheConstants.{NO_SUMS}
 use Rattle.mintc_paths.specs.Among.{IsGreatestAmong, IsLeastAmong}
 
 -- the sums at a bit; a bit past the end has none
@@ -38,3 +39,8 @@ pub record AreBegun (arcs : List TimingArc) (order : List ℕ) (first lanes : �
 pub record AreAlong (arcs : List TimingArc) (order : List ℕ) (k : ℕ) (along : List TimingArc) : Type 0 where
   pub count : length along ≡ k
   pub each : (i : ℕ) → i < k → arc_at along i ≡ arc_at arcs (slice_index_or order i 0)
+
+-- There is a mark for each bit, and one that isn't marked as reached has no sums.
+pub record AreMarked (sums : List Sums) (reached : List Bool) : Type 0 where
+  pub count : length reached ≡ length sums
+  pub none : (bit : ℕ) → bit < length sums → slice_index_or reached bit false ≡ false → sums_at sums bit ≡ NO_SUMS

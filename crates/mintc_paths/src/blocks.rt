@@ -3,7 +3,7 @@ ghost use Rattle.std.specs.Prelude.{◌≡◌, ◌<◌, ◌≤◌, ◌+◌, ◌*
 ghost use Rattle.mintc_text.specs.Stops.{StopsAt};
 ghost use Rattle.mintc_timing.specs.Order.{IsOrder, ArePathsShort};
 ghost use Rattle.mintc_paths.specs.Found.{IsFoundBefore};
-ghost use Rattle.mintc_paths.specs.Sums.{AreAlong};
+ghost use Rattle.mintc_paths.specs.Sums.{AreAlong, AreMarked};
 ghost use Rattle.mintc_paths.specs.Refusals.{AreShortBefore, IsPathRange};
 
 use crate::found::Found;
@@ -19,6 +19,7 @@ fn find_block(
     order: &Order,
     along: &[TimingArc],
     sums: &mut [Sums],
+    reached: &mut [bool],
     found: &mut Found,
     first: u32,
     lanes: u32,
@@ -30,13 +31,15 @@ fn find_block(
     requires elements { first + lanes ≤ length flat.now.elements }
     requires short { AreShortBefore flat.now first }
     requires found { IsFoundBefore flat.now first 0 found.old }
+    requires marked { AreMarked sums.old reached.old }
+    ensures marked { OnOk result (AreMarked sums.new reached.new) }
     ensures found { OnOk result (IsFoundBefore flat.now (first + lanes) 0 found.new) }
     ensures short { OnOk result (AreShortBefore flat.now (first + lanes)) }
     ensures stop { IfErr result (StopsAt (IsPathRange flat.now)) }
 {
     let _elements = flat.elements();
-    fill(sums, flat, order, along, first, lanes as usize);
-    if let Some(place) = first_long(sums, lanes as usize) {
+    fill(sums, reached, flat, order, along, first, lanes as usize);
+    if let Some(place) = first_long(sums, reached, lanes as usize) {
         return Err(Stop::Refused(Refusal::PathRange {
             element: first + place.lane as u32,
             bit: place.bit as u32,
@@ -61,6 +64,9 @@ pub fn find(alloc: Global, flat: &Flat, order: &Order) -> Result<Found, Stop>
     let Ok(mut sums) = vec![in alloc; NO_SUMS; bits] else {
         return Err(Stop::OutOfMemory);
     };
+    let Ok(mut reached) = vec![in alloc; false; bits] else {
+        return Err(Stop::OutOfMemory);
+    };
     let Ok(along) = arcs_along(alloc, flat, order) else {
         return Err(Stop::OutOfMemory);
     };
@@ -68,7 +74,16 @@ pub fn find(alloc: Global, flat: &Flat, order: &Order) -> Result<Found, Stop>
     let mut first = 0;
     while first < elements {
         let lanes = (elements - first).min(8);
-        find_block(flat, order, &along, &mut sums, &mut found, first, lanes)?;
+        find_block(
+            flat,
+            order,
+            &along,
+            &mut sums,
+            &mut reached,
+            &mut found,
+            first,
+            lanes,
+        )?;
         first += lanes;
     }
     Ok(found)

@@ -2,7 +2,7 @@
 ghost use Rattle.std.specs.Prelude.{◌<◌, ◌≤◌, ℕ, length, MatchOption};
 ghost use Rattle.std.specs.Bool.{OnTrue};
 ghost use Rattle.mintc_lanes.specs.Lanes.{AreLanes};
-ghost use Rattle.mintc_paths.specs.Sums.{sums_at};
+ghost use Rattle.mintc_paths.specs.Sums.{AreMarked, sums_at};
 ghost use Rattle.mintc_paths.specs.Long.{IsShortLane, IsFirstBit, IsFirstLane};
 
 use crate::sums::Sums;
@@ -19,13 +19,16 @@ pub struct Place {
 }
 
 /// Whether no sum is above the limit.
-fn are_short(sums: &[Sums]) -> bool
-    requires { (bit : ℕ) → bit < length sums.now → AreLanes (sums_at sums.now bit).greatest }
+fn are_short(sums: &[Sums], reached: &[bool]) -> bool
+    requires marked { AreMarked sums.now reached.now }
+    requires bounded { (bit : ℕ) → bit < length sums.now → AreLanes (sums_at sums.now bit).greatest }
     ensures { OnTrue result ((lane : ℕ) → lane < 8 → IsShortLane sums.now lane) }
 {
-    for at in sums {
-        if max_row(&at.greatest) > LIMIT {
-            return false;
+    for bit in 0..sums.len() {
+        if reached[bit] {
+            if max_row(&sums[bit].greatest) > LIMIT {
+                return false;
+            }
         }
     }
     true
@@ -45,12 +48,13 @@ fn first_bit(sums: &[Sums], lane: usize) -> Option<usize>
 }
 
 /// The first of so many lanes with a sum above the limit, and the first such bit.
-pub fn first_long(sums: &[Sums], lanes: usize) -> Option<Place>
+pub fn first_long(sums: &[Sums], reached: &[bool], lanes: usize) -> Option<Place>
+    requires marked { AreMarked sums.now reached.now }
     requires bounded { (bit : ℕ) → bit < length sums.now → AreLanes (sums_at sums.now bit).greatest }
     requires lanes { lanes ≤ 8 }
     ensures { MatchOption result ((lane : ℕ) → lane < lanes → IsShortLane sums.now lane) (λ place. IsFirstLane sums.now lanes place.lane place.bit) }
 {
-    if are_short(sums) {
+    if are_short(sums, reached) {
         return None;
     }
     for lane in 0..lanes {

@@ -1,5 +1,6 @@
 //! A path with the sum of a pair.
 ghost use Rattle.std.specs.Prelude.{◌≡◌, ◌+◌, ◌*◌, length, IfOk};
+ghost use Rattle.mintc_paths.specs.Sums.{AreMarked};
 ghost use Rattle.mintc_paths.specs.Trace.{IsPairOf, IsOfPair};
 
 use crate::sums::{NO_SUMS, Sums, arcs_along, fill};
@@ -14,9 +15,11 @@ fn path_by(
     extreme: Extreme,
     system: &System,
     sums: &mut [Sums],
+    reached: &mut [bool],
     from: u32,
     to: u32,
 ) -> Result<Numbers, OutOfMemory>
+    requires marked { AreMarked sums.old reached.old }
     requires bits { length sums.old ≡ 2 * length system.now.flat.elements + length system.now.flat.inner }
     requires pair { IsPairOf system.now.pairs from to }
     ensures { IfOk result (IsOfPair extreme system.now from to) }
@@ -27,7 +30,7 @@ fn path_by(
     let Ok(along) = arcs_along(alloc, flat, order) else {
         return Err(OutOfMemory);
     };
-    fill(sums, flat, order, &along, from, 1);
+    fill(sums, reached, flat, order, &along, from, 1);
     match trace(alloc, extreme, flat, order, sums, 2 * to) {
         Ok(path) => Ok(Numbers::new(path)),
         Err(_) => Err(OutOfMemory),
@@ -47,8 +50,11 @@ pub fn best_path(
 {
     let flat = system.flat();
     let bits = 2 * flat.elements().len() + flat.inner().items().len();
-    match vec![in alloc; NO_SUMS; bits] {
-        Ok(mut sums) => path_by(alloc, extreme, system, &mut sums, from, to),
-        Err(_) => Err(OutOfMemory),
-    }
+    let Ok(mut sums) = vec![in alloc; NO_SUMS; bits] else {
+        return Err(OutOfMemory);
+    };
+    let Ok(mut reached) = vec![in alloc; false; bits] else {
+        return Err(OutOfMemory);
+    };
+    path_by(alloc, extreme, system, &mut sums, &mut reached, from, to)
 }

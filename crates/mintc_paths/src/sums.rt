@@ -6,9 +6,9 @@ ghost use Rattle.mintc_timing.specs.Limits.{IsDelay};
 ghost use Rattle.mintc_timing.specs.Order.{IsOrder};
 ghost use Rattle.mintc_timing.specs.declared.parts.TimingArc.{TimingArc};
 ghost use Rattle.mintc_paths.specs.Reached.{AreExtremes};
-ghost use Rattle.mintc_paths.specs.Sums.{sums_at, IsBounded, IsAlike, AreAlong, AreBegun, AreSums};
+ghost use Rattle.mintc_paths.specs.Sums.{sums_at, IsBounded, IsAlike, AreAlong, AreBegun, AreMarked, AreSums};
 
-use mintc_lanes::{ABSENT, max_plus_row, max_row, min_plus_row};
+use mintc_lanes::{ABSENT, max_plus_row, min_plus_row};
 use mintc_timing::{Flat, Order, TimingArc};
 use std::alloc::{AllocError, Global};
 
@@ -51,22 +51,38 @@ fn begin(sums: &mut [Sums], bit: usize, lane: usize)
     at.least[lane] = 0;
 }
 
-/// Makes the sums those of the empty paths from so many elements.
-fn clear(sums: &mut [Sums], first: u32, lanes: usize)
-    requires lanes { lanes ≤ 8 }
-    requires outputs { 2 * (first + lanes) ≤ length sums.old }
-    ensures { (arcs : List TimingArc) (order : List ℕ) → AreBegun arcs order first lanes sums.new }
+/// Takes away the sums at the bits that were reached.
+fn wipe(sums: &mut [Sums], reached: &mut [bool])
+    requires { AreMarked sums.old reached.old }
+    ensures none { (bit : ℕ) → bit < length sums.new → sums_at sums.new bit ≡ NO_SUMS }
+    ensures marked { AreMarked sums.new reached.new }
 {
-    for at in sums.iter_mut() {
-        *at = NO_SUMS;
-    }
-    for lane in 0..lanes {
-        begin(sums, 2 * (first as usize + lane) + 1, lane);
+    for bit in 0..sums.len() {
+        if reached[bit] {
+            sums[bit] = NO_SUMS;
+            reached[bit] = false;
+        }
     }
 }
 
-/// Carries the sums at the bit that the arc leaves to the bit that it enters.
-fn carry(sums: &mut [Sums], arc: TimingArc)
+/// Makes the sums those of the empty paths from so many elements.
+fn clear(sums: &mut [Sums], reached: &mut [bool], first: u32, lanes: usize)
+    requires lanes { lanes ≤ 8 }
+    requires outputs { 2 * (first + lanes) ≤ length sums.old }
+    requires marked { AreMarked sums.old reached.old }
+    ensures begun { (arcs : List TimingArc) (order : List ℕ) → AreBegun arcs order first lanes sums.new }
+    ensures marked { AreMarked sums.new reached.new }
+{
+    wipe(sums, reached);
+    for lane in 0..lanes {
+        let bit = 2 * (first as usize + lane) + 1;
+        begin(sums, bit, lane);
+        reached[bit] = true;
+    }
+}
+
+/// Carries the sums at the bit that the arc leaves to the bit that it enters, if that was reached.
+fn carry(sums: &mut [Sums], reached: &mut [bool], arc: TimingArc)
     requires from { arc.from < length sums.old }
     requires to { arc.to < length sums.old }
     requires apart { arc.from ≢ arc.to }
@@ -75,13 +91,16 @@ fn carry(sums: &mut [Sums], arc: TimingArc)
     requires from_bounded { IsBounded 1000000000000000 (sums_at sums.old arc.from) }
     requires to_bounded { IsBounded 1000000000000000 (sums_at sums.old arc.to) }
     requires alike { IsAlike (sums_at sums.old arc.from) }
+    requires marked { AreMarked sums.old reached.old }
+    ensures marked { AreMarked sums.new reached.new }
     ensures others { (bit : ℕ) → bit ≢ arc.to → sums_at sums.new bit ≡ sums_at sums.old bit }
     ensures greatest { AreJoined int_max (sums_at sums.old arc.to).greatest (sums_at sums.old arc.from).greatest arc.max (sums_at sums.new arc.to).greatest }
     ensures least { AreJoined int_min (sums_at sums.old arc.to).least (sums_at sums.old arc.from).least arc.min (sums_at sums.new arc.to).least }
     ensures bounded { (most : ℕ) → IsBounded most (sums_at sums.old arc.from) → IsBounded most (sums_at sums.old arc.to) → IsBounded (most + 1000000000) (sums_at sums.new arc.to) }
 {
-    let from = sums[arc.from as usize];
-    if max_row(&from.greatest) != ABSENT {
+    if reached[arc.from as usize] {
+        reached[arc.to as usize] = true;
+        let from = sums[arc.from as usize];
         let to = &mut sums[arc.to as usize];
         max_plus_row(&mut to.greatest, &from.greatest, arc.max);
         min_plus_row(&mut to.least, &from.least, arc.min);
@@ -103,9 +122,10 @@ pub fn arcs_along(alloc: Global, flat: &Flat, order: &Order) -> Result<Vec<Timin
 }
 
 /// Makes the sums those of the listed paths, and of the empty ones, from up to eight elements from `first` on. The arcs
-/// in their order are `along`.
+/// in their order are `along`. A bit without sums isn't marked as reached.
 pub fn fill(
     sums: &mut [Sums],
+    reached: &mut [bool],
     flat: &Flat,
     order: &Order,
     along: &[TimingArc],
@@ -117,12 +137,14 @@ pub fn fill(
     requires along { AreAlong flat.now.arcs order.now (length order.now) along.now }
     requires lanes { lanes ≤ 8 }
     requires elements { first + lanes ≤ length flat.now.elements }
+    requires marked { AreMarked sums.old reached.old }
+    ensures marked { AreMarked sums.new reached.new }
     ensures sums { AreSums flat.now.arcs order.now (length order.now) first lanes sums.new }
     ensures extremes { AreExtremes flat.now first lanes sums.new }
 {
-    clear(sums, first, lanes);
+    clear(sums, reached, first, lanes);
     let _elements = flat.elements();
     for arc in along {
-        carry(sums, *arc);
+        carry(sums, reached, *arc);
     }
 }

@@ -19,7 +19,7 @@ carry-requires-clause-from_bounded c =
     let few = kept.arcs in
     let arc = arc_inside c.args.flat.now.arcs c.args.order.now c.requires.order (length c.args.flat.now.elements) (length c.args.flat.now.inner) kept.each_arc i low in
     let bit : ℕ = (arc_at c.args.flat.now.arcs (get_or c.args.order.now i 0)).from in
-    let bounded : IsBounded (i * 1000000000) (sums_at c.loop-arc.sums bit) = c.loop-arc.invariant.bounded bit (omega (arith, arc.from)) in
+    let bounded : IsBounded (i * 1000000000) (sums_at c.loop-arc.sums bit) = c.loop-arc.invariant.sums_so_far.bounded bit (omega (arith, arc.from)) in
     rw same (IsBounded-weaker (i * 1000000000) 1000000000000000 (sums_at c.loop-arc.sums bit) (omega arith) bounded)
 
 pub carry-requires-clause-to_bounded : goal.carry-requires-clause-to_bounded
@@ -33,7 +33,7 @@ carry-requires-clause-to_bounded c =
     let few = kept.arcs in
     let arc = arc_inside c.args.flat.now.arcs c.args.order.now c.requires.order (length c.args.flat.now.elements) (length c.args.flat.now.inner) kept.each_arc i low in
     let bit : ℕ = (arc_at c.args.flat.now.arcs (get_or c.args.order.now i 0)).to in
-    let bounded : IsBounded (i * 1000000000) (sums_at c.loop-arc.sums bit) = c.loop-arc.invariant.bounded bit (omega (arith, arc.to)) in
+    let bounded : IsBounded (i * 1000000000) (sums_at c.loop-arc.sums bit) = c.loop-arc.invariant.sums_so_far.bounded bit (omega (arith, arc.to)) in
     rw same (IsBounded-weaker (i * 1000000000) 1000000000000000 (sums_at c.loop-arc.sums bit) (omega arith) bounded)
 
 pub loop-arc-preserved : goal.loop-arc-preserved
@@ -48,13 +48,16 @@ loop-arc-preserved c =
     let carried : IsCarried (arc_at c.args.along.now i) old new = record { others = c.carry.ensures.others; greatest = c.carry.ensures.greatest; least = c.carry.ensures.least; bounded = c.carry.ensures.bounded } in
     let done : IsCarried (arc_at arcs (get_or order i 0)) old new = subst (λ (a : TimingArc). IsCarried a old new) (c.requires.along.each i low) carried in
     let arc = arc_inside arcs order c.requires.order (length c.args.flat.now.elements) (length c.args.flat.now.inner) c.elements-elements.ensures.kept.each_arc i low in
-    AreSums-more arcs order c.requires.order i (get_or order i 0) c.args.first c.args.lanes old new (omega arith) low refl
-    (inside arcs order c.requires.order i low) (omega (arith, arc.from)) (omega (arith, arc.to)) c.requires.lanes
-    done.others done.greatest done.least done.bounded c.loop-arc.invariant
+    record {
+      sums_so_far = AreSums-more arcs order c.requires.order i (get_or order i 0) c.args.first c.args.lanes old new (omega arith) low refl
+          (inside arcs order c.requires.order i low) (omega (arith, arc.from)) (omega (arith, arc.to)) c.requires.lanes
+          done.others done.greatest done.least done.bounded c.loop-arc.invariant.sums_so_far;
+      marked = c.carry.ensures.marked;
+    }
 
 pub returns-clause-extremes : goal.returns-clause-extremes
 returns-clause-extremes c =
     let count = c.requires.along.count in
     let done : c.loop-arc.arc-index ≡ length c.args.order.now = omega arith in
     AreExtremes-from_sums c.args.flat.now c.args.order.now c.requires.order c.args.first c.args.lanes c.loop-arc.sums (omega arith) c.requires.elements c.elements-elements.ensures.kept.each_arc
-    (subst (λ n. AreSums c.args.flat.now.arcs c.args.order.now n c.args.first c.args.lanes c.loop-arc.sums) done c.loop-arc.invariant)
+    (subst (λ n. AreSums c.args.flat.now.arcs c.args.order.now n c.args.first c.args.lanes c.loop-arc.sums) done c.loop-arc.invariant.sums_so_far)
