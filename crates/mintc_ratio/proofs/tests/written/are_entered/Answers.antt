@@ -1,4 +1,4 @@
-use Rattle.std.proofs.Common.{◌≡◌, ◌<◌, ◌+◌, ℕ, List, [], ◌∷◌, ◌++◌, length, refl, sym, ◌∙◌, below_more, arith}
+use Rattle.std.proofs.Common.{◌≡◌, ◌<◌, ℕ, List, [], ◌∷◌, ◌++◌, length, refl, sym, ◌∙◌, below_more}
 use Rattle.mintc_timing.specs.declared.link.Link.{Link}
 use Rattle.mintc_constraints.specs.Ordinary.{link_at, Leads}
 use Rattle.mintc_ratio.proofs.tests.written.are_entered.Goals as goal
