@@ -1,12 +1,12 @@
-use Rattle.std.proofs.Common.{◌≡◌, ◌≤◌, ◌<◌, ◌*◌, ◌+◌, ◌-◌, ◌^◌, ℕ, zero, suc, ℤ, pos, negsuc, ◌+ℤ◌, ◌-ℤ◌, ◌*ℤ◌, ◌≤ℤ◌, ◌<ℤ◌, List, length, arith, ap, ◌∙◌, sym, min}
+use Rattle.std.proofs.Common.{◌≡◌, ◌≤◌, ◌*◌, ◌+◌, ◌-◌, ◌^◌, ℕ, zero, suc, ℤ, pos, negsuc, ◌*ℤ◌, ◌<ℤ◌, arith, min}
 use Rattle.std.proofs.lemmas.Int.{ints}
-use Rattle.mintc_fraction.specs.Ratio.{Ratio, over, IsLowest, Divides}
+use Rattle.mintc_fraction.specs.Ratio.{Ratio, over}
 use Rattle.mintc_timing.specs.Links.{delay_of, cycles_of}
 use Rattle.mintc_constraints.specs.Ordinary.{Constraints, IsOrdinary}
 use Rattle.mintc_constraints.specs.Rooms.{Space}
 use Rattle.mintc_ratio.specs.declared.sums.Sums.{Sums}
 use Rattle.mintc_ratio.specs.Chains.{NamesChain, links_at}
-use Rattle.mintc_ratio.specs.Climbing.{IsHeld, IsHigh, IsLow, IsClimbing, top_of}
+use Rattle.mintc_ratio.specs.Climbing.{IsHeld, IsClimbing, top_of}
 use Rattle.mintc_ratio.specs.Greatest.{AreGreatest}
 use Rattle.mintc_ratio.specs.Searched.{IsCycle, IsLeast}
 use Rattle.mintc_ratio.specs.Tested.{NoneForbids}

@@ -1,19 +1,16 @@
-use Rattle.std.proofs.Common.{◌≡◌, ◌≤◌, ◌<◌, ◌*◌, ◌+◌, ◌-◌, ◌/◌, ◌^◌, ℕ, zero, suc, ℤ, pos, negsuc, ◌+ℤ◌, ◌-ℤ◌, ◌*ℤ◌, ◌≤ℤ◌, ◌<ℤ◌, List, length, arith, ap, ◌∙◌, sym, ⊎_elim, ◌⊎◌, inl, inr, min}
+use Rattle.std.proofs.Common.{◌≡◌, ◌≤◌, ◌*◌, ◌+◌, ℕ, ℤ, pos, ◌+ℤ◌, ◌-ℤ◌, ◌*ℤ◌, ◌≤ℤ◌, ◌<ℤ◌, arith, ap, ◌∙◌, ⊎_elim}
 use Rattle.std.proofs.lemmas.Int.{ints}
 use Rattle.std.proofs.Math.IntN.{*ℤ_comm}
-use Rattle.std.proofs.Math.Nat.{pow-suc}
-use Rattle.mintc_fraction.specs.Ratio.{Ratio, over, IsFloor}
-use Rattle.mintc_timing.specs.declared.link.Link.{Link}
+use Rattle.mintc_fraction.specs.Ratio.{over}
 use Rattle.mintc_timing.specs.Links.{delay_of, cycles_of}
 use Rattle.mintc_timing.proofs.Products.{times-mono, times-mono_positive, times-cancel_positive, swap-times, add-times}
 use Rattle.mintc_constraints.specs.Ordinary.{Constraints, IsOrdinary}
 use Rattle.mintc_constraints.specs.Rooms.{Space}
 use Rattle.mintc_ratio.specs.declared.sums.Sums.{Sums}
-use Rattle.mintc_ratio.specs.declared.advancing.Advance.TheVariants.{Over, On}
-use Rattle.mintc_ratio.specs.Chains.{NamesChain, links_at}
-use Rattle.mintc_ratio.specs.Climbing.{IsHeld, IsHigh, IsLow, IsSteeper, IsClimbing, IsAdvanced, grid_of, top_of}
+use Rattle.mintc_ratio.specs.Chains.{links_at}
+use Rattle.mintc_ratio.specs.Climbing.{IsHeld, IsHigh, IsLow, IsSteeper, grid_of, top_of}
 use Rattle.mintc_ratio.specs.Tested.{NoneForbids}
-use Rattle.mintc_ratio.proofs.GridLaws.{grid_some, top_small}
+use Rattle.mintc_ratio.proofs.GridLaws.{grid_some}
 use Rattle.mintc_ratio.proofs.SumsLaws.{small-named}
 use Rattle.mintc_ratio.proofs.TurnLaws.{product_low, int_cases}
 

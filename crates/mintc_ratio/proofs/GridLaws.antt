@@ -1,4 +1,4 @@
-use Rattle.std.proofs.Common.{◌≡◌, ◌≤◌, ◌<◌, ◌*◌, ◌^◌, ℕ, ℤ, pos, ◌≤ℤ◌, arith, lit<, to_z, of_z, ◌∙◌}
+use Rattle.std.proofs.Common.{◌≡◌, ◌≤◌, ◌*◌, ◌^◌, ℕ, ℤ, pos, ◌≤ℤ◌, arith, lit<, to_z, of_z, ◌∙◌}
 use Rattle.std.specs.Int.{w128}
 use Rattle.mintc_fraction.specs.Ratio.{Ratio, over}
 use Rattle.mintc_walks.specs.Bounds.{IsWithin}

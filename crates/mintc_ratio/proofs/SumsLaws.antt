@@ -1,8 +1,8 @@
-use Rattle.std.proofs.Common.{◌≡◌, ◌≢◌, ℕ, zero, suc, ◌+◌, ◌*◌, ◌<◌, ◌≤◌, ◌^◌, ℤ, pos, ◌+ℤ◌, ◌≤ℤ◌, List, [], ◌∷◌, length, get_or, take, map, arith, refl, sym, ap, ◌∙◌, SFits, w64, to_z, of_z, All, lit<}
+use Rattle.std.proofs.Common.{◌≡◌, ◌≢◌, ℕ, zero, suc, ◌+◌, ◌*◌, ◌<◌, ◌≤◌, ℤ, pos, ◌+ℤ◌, ◌≤ℤ◌, List, [], ◌∷◌, length, get_or, take, map, arith, refl, sym, ap, ◌∙◌, SFits, w64, All}
 use Rattle.std.specs.List.{AllPairs}
-use Rattle.std.proofs.lemmas.Int.{ints, to_z-of_z}
+use Rattle.std.proofs.lemmas.Int.{ints}
 use Rattle.std.proofs.lemmas.Bool.Decides.{Decides-eqb}
-use Rattle.std.proofs.lemmas.List.{get_or-map, length-map, take_more, take_all, map-append, get_or_default}
+use Rattle.std.proofs.lemmas.List.{get_or-map, length-map, take_more, take_all, map-append}
 use Rattle.std.proofs.lemmas.Map.Made.{IsDistinct-from_AllPairs}
 use Rattle.std.proofs.lemmas.Map.Steps.{length-le_from_distinct_below}
 use Rattle.std.proofs.lemmas.Map.Views.{Contains-from_any}
@@ -15,8 +15,6 @@ use Rattle.mintc_timing.proofs.DeterminedLaws.{total-append}
 use Rattle.mintc_constraints.specs.Ordinary.{link_at, IsOrdinary, IsOrdinaryLink, constraints_of}
 use Rattle.mintc_ratio.specs.Chains.{NamesChain, links_at}
 use Rattle.mintc_ratio.specs.Sums.{IsSmall}
-use Rattle.mintc_ratio.proofs.Weights.{fits_64}
-use Rattle.mintc_ratio.proofs.Weighing.{delay-within}
 
 -- numbers below n, no two of them equal, are at most n
 few_distinct : (n : ℕ) (xs : List ℕ) → AllPairs (λ x y. x ≢ y) xs → All (λ x. x < n) xs → length xs ≤ n

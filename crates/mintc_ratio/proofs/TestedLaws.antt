@@ -1,6 +1,5 @@
-use Rattle.std.proofs.Common.{◌≡◌, ◌≢◌, ℕ, zero, suc, ℤ, pos, ◌^◌, ◌+ℤ◌, ◌-ℤ◌, ◌*ℤ◌, ◌≤ℤ◌, ◌<ℤ◌, ◌<◌, ◌≤◌, List, [], ◌∷◌, length, map, take, get_or, ⊎_elim, refl, sym, ap, subst, arith, ◌∙◌, All, Contains, to_z, of_z, lit<}
+use Rattle.std.proofs.Common.{◌≡◌, ◌≢◌, ℕ, ℤ, pos, ◌^◌, ◌≤ℤ◌, ◌<ℤ◌, ◌<◌, List, [], ◌∷◌, length, take, get_or, ⊎_elim, refl, sym, ap, subst, arith, ◌∙◌, All, Contains, to_z, of_z, lit<}
 use Rattle.std.specs.Int.{w128}
-use Rattle.std.specs.List.{AllPairs}
 use Rattle.std.proofs.lemmas.Int.{ints, to_z-of_z}
 use Rattle.std.proofs.lemmas.List.{length-map, take_all, get_or_default}
 use Rattle.std.proofs.lemmas.List.Elements.{All-nil, All-cons, All-head, All-tail, Contains-get_or}
@@ -9,12 +8,11 @@ use Rattle.mintc_fraction.specs.Ratio.{Ratio, over}
 use Rattle.mintc_timing.specs.declared.link.Link.{Link}
 use Rattle.mintc_timing.specs.declared.link.LinkKind.TheVariants as kind
 use Rattle.mintc_timing.specs.Closed.{Joins, IsClosed}
-use Rattle.mintc_timing.specs.Links.{link, IsChain, Forbids, delay_of, cycles_of}
-use Rattle.mintc_constraints.specs.Ordinary.{Constraints, link_at, Leads, IsOrdinary, IsOrdinaryLink}
-use Rattle.mintc_constraints.specs.Rooms.{Space}
+use Rattle.mintc_timing.specs.Links.{link, Forbids}
+use Rattle.mintc_constraints.specs.Ordinary.{link_at, Leads, IsOrdinaryLink}
 use Rattle.mintc_walks.specs.declared.network.TheConstants.{UNREACHED}
 use Rattle.mintc_walks.specs.Bounds.{AreBounded, IsWithin}
-use Rattle.mintc_walks.specs.Walks.{arc_at, value_at, IsStart, IsReached, weight_of}
+use Rattle.mintc_walks.specs.Walks.{value_at, IsStart, IsReached}
 use Rattle.mintc_walks.specs.Answers.{Meets, HasGreatest, HasChain}
 use Rattle.mintc_ratio.specs.Chains.{links_at, NamesChain}
 use Rattle.mintc_ratio.specs.Greatest.{asked_by, asked_by_link, AreGreatest}

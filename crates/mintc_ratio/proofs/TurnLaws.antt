@@ -1,9 +1,9 @@
-use Rattle.std.proofs.Common.{◌≡◌, ◌≤◌, ◌<◌, ◌*◌, ◌+◌, ◌^◌, ℕ, ℤ, pos, negsuc, ◌+ℤ◌, ◌*ℤ◌, ◌≤ℤ◌, ◌<ℤ◌, List, [], ◌∷◌, length, arith, ap, ◌∙◌, sym, ⊎_elim, ◌⊎◌, inl, inr}
+use Rattle.std.proofs.Common.{◌≡◌, ◌≤◌, ◌+◌, ℤ, pos, negsuc, ◌+ℤ◌, ◌*ℤ◌, ◌≤ℤ◌, ◌<ℤ◌, List, [], ◌∷◌, length, arith, ap, ◌∙◌, sym, ⊎_elim, ◌⊎◌, inl, inr}
 use Rattle.std.proofs.lemmas.Int.{ints}
 use Rattle.std.proofs.lemmas.Bool.{cases_lt}
 use borrow.Author.Differences.{up, down}
 use Rattle.std.proofs.Math.IntN.{*ℤ_comm}
-use Rattle.mintc_fraction.specs.Ratio.{Ratio, over, IsEqual}
+use Rattle.mintc_fraction.specs.Ratio.{Ratio}
 use Rattle.mintc_timing.specs.declared.link.Link.{Link}
 use Rattle.mintc_timing.specs.Links.{delay_of, cycles_of, Forbids}
 use Rattle.mintc_timing.proofs.Products.{times-mono_positive, swap-times, add-times}
@@ -12,11 +12,10 @@ use Rattle.mintc_constraints.specs.Rooms.{Space}
 use Rattle.mintc_ratio.specs.declared.sums.Sums.{Sums}
 use Rattle.mintc_ratio.specs.declared.turns.Turn.{Turn}
 use Rattle.mintc_ratio.specs.declared.turns.Turn.TheVariants.{Found, Held, Free}
-use Rattle.mintc_ratio.specs.Chains.{NamesChain, links_at}
-use Rattle.mintc_ratio.specs.Climbing.{IsHeld, IsOfChain, IsJump, IsHalving, IsSteeper, grid_of, top_of}
+use Rattle.mintc_ratio.specs.Chains.{links_at}
+use Rattle.mintc_ratio.specs.Climbing.{IsHeld, IsOfChain, IsJump, IsHalving, grid_of}
 use Rattle.mintc_ratio.specs.Greatest.{AreGreatest}
-use Rattle.mintc_ratio.specs.Searched.{IsCycle, IsLeast, IsTight}
-use Rattle.mintc_ratio.specs.Sums.{HasSums}
+use Rattle.mintc_ratio.specs.Searched.{IsCycle, IsLeast}
 use Rattle.mintc_ratio.specs.Tested.{NoneForbids}
 use Rattle.mintc_ratio.proofs.SumsLaws.{few_links}
 

@@ -1,4 +1,4 @@
-use Rattle.std.proofs.Common.{◌≡◌, ◌≤◌, ◌<◌, ◌*◌, ◌+◌, ◌-◌, ◌/◌, ◌^◌, ℕ, zero, suc, ℤ, pos, ◌+ℤ◌, ◌-ℤ◌, ◌*ℤ◌, ◌≤ℤ◌, ◌<ℤ◌, List, length, arith, ap, ◌∙◌, sym, ⊎_elim, ◌⊎◌, min, lit<, to_z, of_z}
+use Rattle.std.proofs.Common.{◌≡◌, ◌≤◌, ◌<◌, ◌*◌, ◌+◌, ◌-◌, ◌/◌, ◌^◌, ℕ, zero, suc, ℤ, pos, ◌+ℤ◌, ◌-ℤ◌, ◌*ℤ◌, ◌≤ℤ◌, ◌<ℤ◌, arith, ⊎_elim, ◌⊎◌, min, lit<, to_z, of_z}
 use Rattle.std.specs.Int.{w128}
 use Rattle.mintc_walks.specs.Bounds.{IsWithin}
 use Rattle.mintc_ratio.proofs.Weights.{fits_128}
@@ -8,7 +8,7 @@ use Rattle.mintc_fraction.specs.Ratio.{over}
 use Rattle.mintc_constraints.specs.Ordinary.{Constraints, IsOrdinary}
 use Rattle.mintc_constraints.specs.Rooms.{Space}
 use Rattle.mintc_ratio.specs.declared.sums.Sums.{Sums}
-use Rattle.mintc_ratio.specs.Climbing.{IsHeld, IsHigh, IsLow, IsSteeper, IsClimbing, grid_of, top_of}
+use Rattle.mintc_ratio.specs.Climbing.{IsHeld, IsLow, IsSteeper, IsClimbing, grid_of}
 use Rattle.mintc_ratio.specs.Tested.{NoneForbids}
 use Rattle.mintc_ratio.proofs.GridLaws.{top_small}
 use Rattle.mintc_ratio.proofs.ClimbLaws.{low_inside, low_rises, low_halved, high_free, gap}

@@ -1,4 +1,4 @@
-use Rattle.std.specs.Prelude.{◌^◌, ℤ, pos, ◌≤ℤ◌, List, map}
+use Rattle.std.specs.Prelude.{◌^◌, pos, ◌≤ℤ◌, List, map}
 use Rattle.mintc_fraction.specs.Ratio.{Ratio}
 use Rattle.mintc_timing.specs.declared.link.Link.{Link}
 use Rattle.mintc_walks.specs.declared.network.Arc.{Arc}

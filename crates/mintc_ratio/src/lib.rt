@@ -7,6 +7,8 @@ mod rest;
 mod searching;
 mod sums;
 mod testing;
+#[cfg(test)]
+mod tests;
 mod turns;
 mod weighed;
 

@@ -1,4 +1,4 @@
-use Rattle.std.proofs.Common.{◌≤◌, ◌^◌, arith, ◌∙◌}
+use Rattle.std.proofs.Common.{arith}
 use Rattle.std.proofs.lemmas.Int.{ints}
 use Rattle.mintc_ratio.proofs.TurnedLaws.{range_of, read_low, read_high, read_middle, middle_low, middle_high, width_small, jumped_on, halved_on, freed_on}
 use Rattle.mintc_ratio.proofs.advancing.take_turn.Goals as goal

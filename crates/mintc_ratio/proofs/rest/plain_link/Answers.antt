@@ -1,5 +1,4 @@
-use Rattle.std.proofs.Common.{arith}
-use Rattle.mintc_ratio.proofs.RestLaws.{none_more, none_left, plain_here}
+use Rattle.mintc_ratio.proofs.RestLaws.{none_more, none_left}
 use Rattle.mintc_ratio.proofs.rest.plain_link.Goals as goal
 
 pub loop-number-preserved : goal.loop-number-preserved

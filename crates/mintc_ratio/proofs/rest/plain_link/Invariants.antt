@@ -1,5 +1,4 @@
-use Rattle.std.proofs.Common.{◌≡◌, ◌<◌, ℕ, pos}
-use Rattle.mintc_constraints.specs.Ordinary.{link_at}
+use Rattle.std.proofs.Common.{◌<◌, ℕ}
 use Rattle.mintc_ratio.specs.Climbing.{IsPlainAt}
 use Rattle.mintc_ratio.proofs.rest.plain_link.Given as goal
 

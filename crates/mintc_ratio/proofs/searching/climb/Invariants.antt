@@ -1,5 +1,4 @@
 use Rattle.std.proofs.Common.{◌≡◌, ◌+◌, ◌-◌, ◌*◌, ◌≤◌, ℕ}
-use Rattle.mintc_constraints.specs.Rooms.{Space}
 use Rattle.mintc_ratio.specs.Climbing.{IsClimbing, top_of}
 use Rattle.mintc_ratio.proofs.searching.climb.Given as goal
 

@@ -1,4 +1,4 @@
-use Rattle.std.proofs.Common.{arith, ap, ◌≤◌}
+use Rattle.std.proofs.Common.{arith, ap}
 use Rattle.mintc_constraints.specs.Rooms.{Space}
 use Rattle.mintc_ratio.proofs.BeginningLaws.{climbing-begun, least_rest}
 use Rattle.mintc_ratio.proofs.searching.search.Goals as goal

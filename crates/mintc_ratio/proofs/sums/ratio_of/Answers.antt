@@ -1,4 +1,4 @@
-use Rattle.std.proofs.Common.{◌≡◌, ◌^◌, pos, arith, lit<, ◌∙◌}
+use Rattle.std.proofs.Common.{◌≡◌, pos, arith, lit<, ◌∙◌}
 use Rattle.std.specs.Int.{w64, w128}
 use Rattle.std.proofs.lemmas.Int.{ints, to_z-of_z}
 use Rattle.mintc_walks.specs.Bounds.{IsWithin}

@@ -1,6 +1,5 @@
-use Rattle.std.proofs.Common.{◌≡◌, ◌<◌, ◌≤◌, ◌+◌, ◌+ℤ◌, length, get_or, arith, lit<, to_z, of_z, w64, SFits}
-use Rattle.std.proofs.lemmas.Int.{ints, to_z-of_z}
-use Rattle.mintc_walks.specs.Bounds.{IsWithin}
+use Rattle.std.proofs.Common.{◌≡◌, ◌<◌, ◌+ℤ◌, get_or, arith, lit<, to_z, of_z, w64, SFits}
+use Rattle.std.proofs.lemmas.Int.{to_z-of_z}
 use Rattle.mintc_constraints.specs.Ordinary.{link_at, IsOrdinaryLink}
 use Rattle.mintc_ratio.proofs.Weights.{fits_64}
 use Rattle.mintc_ratio.proofs.Weighing.{delay-within}

@@ -2,7 +2,7 @@ use Rattle.std.proofs.Common.{◌<◌, ◌≡◌, ap, ◌∙◌, length, arith}
 use Rattle.mintc_constraints.specs.Rooms.{Space}
 use Rattle.mintc_ratio.specs.Weighed.{IsTestable}
 use Rattle.mintc_ratio.proofs.Weighing.{AreOrdinary-from_links}
-use Rattle.mintc_ratio.proofs.TestedLaws.{time_same, chain-named, bounded-starts, greatest-from_walks, none-from_walks}
+use Rattle.mintc_ratio.proofs.TestedLaws.{time_same, chain-named, greatest-from_walks, none-from_walks}
 use Rattle.mintc_ratio.proofs.testing.test_at.Goals as goal
 
 pub walk-requires-clause-arcs : goal.walk-requires-clause-arcs

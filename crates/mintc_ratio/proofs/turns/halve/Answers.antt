@@ -1,13 +1,10 @@
-use Rattle.std.proofs.Common.{◌≡◌, ◌≤◌, ◌*◌, ◌^◌, ◌≤ℤ◌, ℕ, ℤ, pos, arith, ap, ◌∙◌, lit<}
-use Rattle.std.specs.Int.{w128}
-use Rattle.std.proofs.lemmas.Int.{ints, to_z-of_z}
-use Rattle.mintc_fraction.specs.Ratio.{Ratio, over}
-use Rattle.mintc_walks.specs.Bounds.{IsWithin}
+use Rattle.std.proofs.Common.{arith}
+use Rattle.std.proofs.lemmas.Int.{ints}
 use Rattle.mintc_ratio.specs.Chains.{links_at}
-use Rattle.mintc_ratio.specs.Climbing.{grid_of, top_of}
+use Rattle.mintc_ratio.specs.Climbing.{grid_of}
 use Rattle.mintc_ratio.proofs.GridLaws.{grid_point, top_small, grid_some}
 use Rattle.mintc_ratio.proofs.SumsLaws.{few_links}
-use Rattle.mintc_ratio.proofs.TurnLaws.{forbids-takes, halving_turn}
+use Rattle.mintc_ratio.proofs.TurnLaws.{forbids-takes}
 use Rattle.mintc_ratio.proofs.turns.halve.Goals as goal
 
 pub test_at-requires-clause-num : goal.test_at-requires-clause-num

@@ -1,4 +1,3 @@
-use Rattle.std.proofs.Common.{sym}
 use Rattle.mintc_ratio.proofs.turns.turn_of.Goals as goal
 
 pub sums_of-sums-requires-clause-ordinary : goal.sums_of-sums-requires-clause-ordinary

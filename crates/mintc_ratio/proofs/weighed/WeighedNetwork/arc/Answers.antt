@@ -1,6 +1,6 @@
-use Rattle.std.proofs.Common.{◌≡◌, ◌<◌, ◌^◌, pos, length, refl, lit<, arith}
+use Rattle.std.proofs.Common.{◌<◌, ◌^◌, pos, length, refl, lit<}
 use Rattle.std.specs.Int.{w64, w128}
-use Rattle.std.proofs.lemmas.Int.{ints, to_z-of_z}
+use Rattle.std.proofs.lemmas.Int.{to_z-of_z}
 use Rattle.std.proofs.lemmas.List.{length-map}
 use Rattle.mintc_fraction.specs.Ratio.{over}
 use Rattle.mintc_timing.specs.declared.link.LinkKind.TheVariants as kind
