@@ -1,4 +1,6 @@
 pub mod CertificateText
+pub mod MemberWords
+pub mod CertificateReading
 pub mod Ranges
 pub mod Written
 pub mod Valid

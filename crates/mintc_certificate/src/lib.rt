@@ -5,12 +5,16 @@
 #![tactic(auto)]
 
 mod certificate;
+mod halt;
 mod laws;
+mod member_lines;
 mod members;
+mod reading;
 mod version;
 mod writing;
 
 pub use certificate::{Certificate, Departures};
 pub use laws::valid_is_optimal;
 pub use members::{Member, Members};
+pub use reading::read;
 pub use writing::write;
