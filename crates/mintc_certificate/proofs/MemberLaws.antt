@@ -400,3 +400,77 @@ member_there v left new fields (Err Memory) whole only h = tt
 pub formed_there : (P : Member → Type 0) (none : Type 0) (o : Option Member) (r : Result Member Halt) → MatchOption o (r ≡ Err Form) (λ m. r ≡ Ok m) → MatchOption o none P → MatchResult r P (Halts none)
 formed_there P none None r e h = let R : Result Member Halt → Type 0 = λ x. MatchResult x P (Halts none) in subst R (sym e) h
 formed_there P none (Some m) r e h = let R : Result Member Halt → Type 0 = λ x. MatchResult x P (Halts none) in subst R (sym e) h
+
+-- ---- and one value
+
+same_count : (m n : ℕ) → IsCount m → IsCount n → number m ≡ number n → m ≡ n
+same_count m n h g e = decimal_injective m n (omega (arith, h)) (omega (arith, g)) e
+
+same_numbers : (xs ys : List ℕ) → All IsCount xs → All IsCount ys → map number xs ≡ map number ys → xs ≡ ys
+same_numbers [] [] h g e = refl
+same_numbers [] (y ∷ ys) h g e = absurd (cc e)
+same_numbers (x ∷ xs) [] h g e = absurd (cc e)
+same_numbers (x ∷ xs) (y ∷ ys) h g e =
+    let p = heads (number x) (number y) (map number xs) (map number ys) e in
+    let first : x ≡ y = same_count x y (All-head IsCount x xs h) (All-head IsCount y ys g) (sym p.0) in
+    let rest : xs ≡ ys = same_numbers xs ys (All-tail IsCount x xs h) (All-tail IsCount y ys g) p.1 in
+    cc
+
+only_number : (a b : ℕ) → IsCount a → IsCount b → number a ∷ [] ≡ number b ∷ [] → a ≡ b
+only_number a b h g e = same_count a b h g (sym (heads (number a) (number b) [] [] e).0)
+
+one_others : (s : Single) (n : ℕ) → others_of (single s n) ≡ number n ∷ []
+one_others one.Start n = refl
+one_others one.Cycle n = refl
+one_others one.Order n = refl
+one_others one.Span n = refl
+one_others one.Width n = refl
+one_others one.Opening n = refl
+one_others one.Opened n = refl
+one_others one.Setup n = refl
+one_others one.Bound n = refl
+
+same_one : (s : Single) (m n : Member) → IsCounted m → IsCounted n → word_of m ≡ One s → word_of n ≡ One s → others_of m ≡ others_of n → m ≡ n
+same_one s m n h g e f same =
+    let p = of_one m s e in
+    let q = of_one n s f in
+    let a = counted_one s p.0 (subst IsCounted p.1 h) in
+    let b = counted_one s q.0 (subst IsCounted q.1 g) in
+    let words = sym (one_others s p.0) ∙ ap others_of (sym p.1) ∙ same ∙ ap others_of q.1 ∙ one_others s q.0 in
+    p.1 ∙ ap (λ (x : ℕ). single s x) (only_number p.0 q.0 a b words) ∙ sym q.1
+
+same_apart : (m n : Member) → IsCounted m → IsCounted n → word_of m ≡ Apart → word_of n ≡ Apart → others_of m ≡ others_of n → m ≡ n
+same_apart m n h g e f same =
+    let p = of_apart m e in
+    let q = of_apart n f in
+    let a = subst IsCounted p.2 h in
+    let b = subst IsCounted q.2 g in
+    let words = heads (number p.0) (number q.0) (number p.1 ∷ []) (number q.1 ∷ []) (ap others_of (sym p.2) ∙ same ∙ ap others_of q.2) in
+    let i : p.0 ≡ q.0 = same_count p.0 q.0 a.0 b.0 (sym words.0) in
+    let j : p.1 ≡ q.1 = only_number p.1 q.1 a.1 b.1 words.1 in
+    p.2 ∙ ap (λ (x : ℕ). member.Apart x p.1) i ∙ ap (λ (x : ℕ). member.Apart q.0 x) j ∙ sym q.2
+
+same_reach : (m n : Member) → IsCounted m → IsCounted n → word_of m ≡ Reach → word_of n ≡ Reach → others_of m ≡ others_of n → m ≡ n
+same_reach m n h g e f same =
+    let p = of_reach m e in
+    let q = of_reach n f in
+    let a = subst IsCounted p.3 h in
+    let b = subst IsCounted q.3 g in
+    let words = heads (number p.0) (number q.0) (number p.1 ∷ number (length p.2) ∷ map number p.2) (number q.1 ∷ number (length q.2) ∷ map number q.2) (ap others_of (sym p.3) ∙ same ∙ ap others_of q.3) in
+    let more = heads (number p.1) (number q.1) (number (length p.2) ∷ map number p.2) (number (length q.2) ∷ map number q.2) words.1 in
+    let last = heads (number (length p.2)) (number (length q.2)) (map number p.2) (map number q.2) more.1 in
+    let j : p.0 ≡ q.0 = same_count p.0 q.0 a.0 b.0 (sym words.0) in
+    let l : p.1 ≡ q.1 = same_count p.1 q.1 a.1 b.1 (sym more.0) in
+    let path : p.2 ≡ q.2 = same_numbers p.2 q.2 a.4 b.4 last.1 in
+    p.3 ∙ ap (λ (x : ℕ). member.Reach x p.1 p.2) j ∙ ap (λ (x : ℕ). member.Reach q.0 x p.2) l ∙ ap (λ (x : List ℕ). member.Reach q.0 q.1 x) path ∙ sym q.3
+
+same_member : (w : MemberWord) (m n : Member) → IsCounted m → IsCounted n → word_of m ≡ w → word_of n ≡ w → others_of m ≡ others_of n → m ≡ n
+same_member (One s) m n h g e f same = same_one s m n h g e f same
+same_member Apart m n h g e f same = same_apart m n h g e f same
+same_member Reach m n h g e f same = same_reach m n h g e f same
+
+-- a member's line has one value
+pub member_one : (v : Version) (m n : Member) (ws : List (List ℕ)) → IsMemberLine v m ws → IsMemberLine v n ws → m ≡ n
+member_one v m n ws h g =
+    let p = heads (member_word (word_of m)) (member_word (word_of n)) (others_of m) (others_of n) (sym (words_of m) ∙ sym h.spelled ∙ g.spelled ∙ words_of n) in
+    same_member (word_of m) m n h.counted g.counted refl (same_word (word_of n) (word_of m) p.0) p.1

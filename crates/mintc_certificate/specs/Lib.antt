@@ -5,3 +5,4 @@ pub mod Ranges
 pub mod Written
 pub mod Valid
 pub mod Optimal
+pub mod TextLaws

@@ -10,6 +10,7 @@ mod laws;
 mod member_lines;
 mod members;
 mod reading;
+mod text_laws;
 mod version;
 mod writing;
 
@@ -17,4 +18,7 @@ pub use certificate::{Certificate, Departures};
 pub use laws::valid_is_optimal;
 pub use members::{Member, Members};
 pub use reading::read;
+pub use text_laws::{
+    certificate_texts_are_canonical, certificate_texts_are_plain, written_certificates_are_read,
+};
 pub use writing::write;

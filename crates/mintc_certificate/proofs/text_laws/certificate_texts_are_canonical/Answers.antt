@@ -1,0 +1,5 @@
+use Rattle.mintc_certificate.proofs.CertificateSpelling.{certificates_have_one_text}
+use Rattle.mintc_certificate.proofs.text_laws.certificate_texts_are_canonical.Goals as goal
+
+pub returns : goal.returns
+returns c = certificates_have_one_text
