@@ -6,3 +6,4 @@ pub mod CertificateLaws
 pub mod CertificatePlain
 pub mod CertificateSpelling
 pub mod CertificateWritten
+pub mod WorkedCertificate

@@ -75,6 +75,7 @@ pub data CertificateLines : Type 0 where
   link : Version → ℕ → Certificate → CertificateLines
   whole : Certificate → CertificateLines
 
+-- the certificate with one member more at the end of its chain
 abbrev pub with_member : Certificate → Member → Certificate
 with_member (Least schedule departures chain) m = Least schedule departures (chain ++ m ∷ [])
 with_member (Never chain) m = Never (chain ++ m ∷ [])

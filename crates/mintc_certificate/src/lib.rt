@@ -10,6 +10,8 @@ mod laws;
 mod member_lines;
 mod members;
 mod reading;
+#[cfg(test)]
+mod tests;
 mod text_laws;
 mod version;
 mod writing;
