@@ -1,8 +1,7 @@
-use Rattle.std.proofs.Common.{◌≡◌, ℕ, zero, suc, ℤ, pos, ◌<◌, ◌^◌, ◌≤◌, ◌≤ℤ◌, ◌+◌, true, false, Bool, if◌then◌else◌, List, [], ◌∷◌, ◌++◌, length, length-append, All, refl, ap, ◌∙◌, sym, subst, arith, codes, eqb}
+use Rattle.std.proofs.Common.{◌≡◌, ℕ, zero, suc, ℤ, pos, ◌≤◌, ◌≤ℤ◌, ◌+◌, true, false, Bool, if◌then◌else◌, List, [], ◌∷◌, ◌++◌, length, length-append, All, refl, sym, subst, arith}
 use Rattle.std.proofs.lemmas.Int.{ints}
 use Rattle.std.proofs.lemmas.List.Elements.{All-push, All-nil}
 use Rattle.mintc_timing.specs.declared.clocking.Schedule.{Schedule}
-use Rattle.mintc_timing.specs.Fields.{IsCount}
 use Rattle.mintc_timing.specs.Limits.{IsNumerator, IsDenominator, IsInRange}
 use Rattle.mintc_timing.specs.Texts.{IsPhaseLine, with_phase}
 use Rattle.mintc_timing.proofs.TextLaws.{along}
@@ -12,7 +11,7 @@ use Rattle.mintc_certificate.specs.declared.members.Member.{Member}
 use Rattle.mintc_certificate.specs.declared.version.Version.{Version}
 use Rattle.mintc_certificate.specs.declared.version.Version.TheVariants.{First, Second}
 use Rattle.mintc_certificate.specs.CertificateText.{NextOfCertificate, IsCertificateText, CertificateLines, first, outcome, den, cycle, phases, phase, departure, never, link, whole, least_departure, IsCounted}
-use Rattle.mintc_certificate.specs.Ranges.{IsDeparture, IsChainInRange, IsLeastInRange, IsCertificateInRange}
+use Rattle.mintc_certificate.specs.Ranges.{IsDeparture, IsChainInRange, IsCertificateInRange}
 
 -- what is kept of a schedule while its lines come
 record IsSoFar (left : ℕ) (s : Schedule) : Type 0 where

@@ -10,10 +10,9 @@ use Rattle.mintc_certificate.specs.declared.certificate.Certificate.{Certificate
 use Rattle.mintc_certificate.specs.declared.certificate.Certificate.TheVariants.{Least, Never}
 use Rattle.mintc_certificate.specs.declared.members.Member.{Member}
 use Rattle.mintc_certificate.specs.declared.version.Version.{Version}
-use Rattle.mintc_certificate.specs.CertificateText.{NextOfCertificate, CertificateLines, first, outcome, den, cycle, phases, phase, departure, never, link, whole, least_departure, with_member, IsOutcomeLine, IsChainLine, IsMemberLine}
+use Rattle.mintc_certificate.specs.CertificateText.{NextOfCertificate, CertificateLines, first, outcome, den, cycle, phases, phase, departure, never, link, whole, least_departure, with_member, IsOutcomeLine, IsMemberLine}
 use Rattle.mintc_certificate.specs.TextLaws.{HaveOneCertificateText}
 use Rattle.mintc_certificate.proofs.CertificatePlain.{certificate_plain}
-use Rattle.mintc_certificate.proofs.CertificateReading.{IsDepartureLine}
 
 -- what a state knows of the schedule to which it leads
 record Agrees (left : ℕ) (p s : Schedule) : Type 0 where

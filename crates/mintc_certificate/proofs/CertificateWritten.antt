@@ -1,5 +1,4 @@
-use Rattle.std.proofs.Common.{◌≡◌, ℕ, zero, suc, ℤ, pos, ◌≤◌, ◌+◌, List, [], ◌∷◌, ◌++◌, length, map, All, Contains, refl, ap, ◌∙◌, sym, subst, arith, codes, eqb, true, false, append_assoc}
-use Rattle.std.proofs.lemmas.Int.{ints}
+use Rattle.std.proofs.Common.{◌≡◌, ℕ, ℤ, ◌≤◌, List, [], ◌∷◌, ◌++◌, length, map, All, Contains, refl, ap, ◌∙◌, sym, subst, arith, codes, eqb, true, false, append_assoc}
 use Rattle.std.proofs.lemmas.List.{append-nil}
 use Rattle.std.proofs.lemmas.List.Elements.{All-head, All-tail}
 use Rattle.std.specs.Fmt.{digits}
@@ -15,7 +14,7 @@ use Rattle.mintc_certificate.specs.declared.members.Member.{Member}
 use Rattle.mintc_certificate.specs.declared.version.Version.TheVariants.{Second}
 use Rattle.mintc_certificate.specs.CertificateReading.{with_chain, before_chain}
 use Rattle.mintc_certificate.specs.CertificateText.{NextOfCertificate, IsCertificateText, CertificateLines, first, outcome, den, cycle, phases, phase, departure, never, link, whole, member_words, IsCounted, IsMemberOf, IsChainLine}
-use Rattle.mintc_certificate.specs.Ranges.{IsDeparture, IsChainInRange, IsLeastInRange, IsCertificateInRange}
+use Rattle.mintc_certificate.specs.Ranges.{IsDeparture, IsChainInRange, IsCertificateInRange}
 use Rattle.mintc_certificate.specs.TextLaws.{WrittenAreTexts, WrittenAreAll, WrittenAreApart}
 use Rattle.mintc_certificate.specs.Written.{number_line, count_line, phase_line, departure_lines, chain_lines, schedule_lines, lines_of}
 use Rattle.mintc_certificate.proofs.CertificateLaws.{IsCertificateInRange-from_text}

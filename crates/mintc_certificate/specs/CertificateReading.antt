@@ -1,5 +1,4 @@
-use Rattle.std.specs.Prelude.{ℤ, List}
-use Rattle.mintc_timing.specs.declared.clocking.Schedule.{Schedule}
+use Rattle.std.specs.Prelude.{List}
 use Rattle.mintc_certificate.specs.declared.certificate.Certificate.{Certificate}
 use Rattle.mintc_certificate.specs.declared.certificate.Certificate.TheVariants.{Least, Never}
 use Rattle.mintc_certificate.specs.declared.halt.Halt.{Halt}

@@ -1,4 +1,4 @@
-use Rattle.std.proofs.Common.{◌≡◌, ℤ, List, pos, SFits, w64, codes, refl, arith, subst, sym}
+use Rattle.std.proofs.Common.{◌≡◌, ℤ, List, SFits, w64, codes, refl, arith, subst, sym}
 use Rattle.std.proofs.lemmas.Int.{to_z-of_z}
 use Rattle.mintc_timing.specs.Fields.{IsCountLine}
 use Rattle.mintc_timing.proofs.Fitting.{read_time}
