@@ -141,7 +141,7 @@ one_pair : (a b c d : ℤ) → a ≡ c → b ≡ d → (let p : ℤ × ℤ = (a,
 one_pair a b c d e f = cc
 
 -- the first line was read
-abbrev Begun : CertificateLines → Type 0
+abbrev pub Begun : CertificateLines → Type 0
 Begun first = ⊥
 Begun lines = Unit {0}
 
@@ -149,7 +149,7 @@ begun_outcome : (v : Version) (x : Bool) → Begun (if x then den v else never v
 begun_outcome v true = tt
 begun_outcome v false = tt
 
-begun_next : (a b : CertificateLines) (line : List ℕ) → NextOfCertificate a line b → Begun b
+pub begun_next : (a b : CertificateLines) (line : List ℕ) → NextOfCertificate a line b → Begun b
 begun_next first b line h = subst Begun (sym h.2) tt
 begun_next (outcome v) b line h = subst Begun (sym h.2) (begun_outcome v h.0)
 begun_next (den v) b line h = subst Begun (sym h.2) tt
@@ -250,7 +250,7 @@ spelled : IsSpelled NextOfCertificate Begun whole Begins
 spelled = record { keeps = begun_next; last = λ c line b h. h; ends = whole_begins; back = back; step = step }
 
 -- the first line of a certificate, and what comes after it
-after_first : (line x : List ℕ) (d : Certificate) (lines : List (List ℕ)) → (Contains line 10 → ⊥) → ended line ++ x ≡ text_of lines → Follows NextOfCertificate first lines (whole d) →
+pub after_first : (line x : List ℕ) (d : Certificate) (lines : List (List ℕ)) → (Contains line 10 → ⊥) → ended line ++ x ≡ text_of lines → Follows NextOfCertificate first lines (whole d) →
     (c : CertificateLines) × (rest : List (List ℕ)) × NextOfCertificate first line c × (x ≡ text_of rest) × Follows NextOfCertificate c rest (whole d)
 after_first line x d [] free e h = absurd (cc h)
 after_first line x d (l ∷ ls) free e h =

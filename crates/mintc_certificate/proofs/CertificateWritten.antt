@@ -101,7 +101,7 @@ chain_written c ms h =
           (members_written c [] ms h.each) (end_written (with_chain c ms)),
     )
 
-first_written : NextOfCertificate first (codes "certificate 2") (outcome Second)
+pub first_written : NextOfCertificate first (codes "certificate 2") (outcome Second)
 unfolding digits
 first_written = (2, (codes "certificate" ∷ number 2 ∷ [], (omega arith, omega arith, refl), refl), refl)
 
@@ -130,7 +130,7 @@ written_are_texts c h = record {
   follows = (outcome Second, first_written, after_leads c h);
 }
 
-free_all : (line : List ℕ) → All (λ x. eqb x 10 ≡ false) line → Contains line 10 → ⊥
+pub free_all : (line : List ℕ) → All (λ x. eqb x 10 ≡ false) line → Contains line 10 → ⊥
 free_all line all h = let f : eqb 10 10 ≡ false = subst (λ (x : ℕ). eqb x 10 ≡ false) h.2 (all h.0 10 h.1) in cc
 
 first_free : Contains (codes "certificate 2") 10 → ⊥

@@ -6,4 +6,5 @@ pub mod CertificateLaws
 pub mod CertificatePlain
 pub mod CertificateSpelling
 pub mod CertificateWritten
+pub mod CertificateVersions
 pub mod WorkedCertificate

@@ -19,6 +19,10 @@ HaveOneCertificateFault = (text : List ℕ) (m n : ℕ) → IsCertificateFault t
 abbrev pub HaveOneCertificateText : Type 0
 HaveOneCertificateText = (line x y : List ℕ) (c : Certificate) → (Contains line 10 → ⊥) → IsCertificateText (ended line ++ x) c → IsCertificateText (ended line ++ y) c → x ≡ y
 
+-- A text in version 1 is one in version 2 with the other first line, of the same certificate.
+abbrev pub SecondSaysFirst : Type 0
+SecondSaysFirst = (x : List ℕ) (c : Certificate) → IsCertificateText (ended (codes "certificate 1") ++ x) c → IsCertificateText (ended (codes "certificate 2") ++ x) c
+
 -- What is written of a certificate whose numbers a text can say is its text; and it is its only one in version 2.
 abbrev pub WrittenAreTexts : Type 0
 WrittenAreTexts = (c : Certificate) → IsCertificateInRange c → IsCertificateText (text_of (lines_of c)) c

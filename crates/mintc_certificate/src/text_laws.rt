@@ -1,5 +1,5 @@
 //! Laws of the text of certificates.
-ghost use Rattle.mintc_certificate.specs.TextLaws.{HaveOneCertificate, HaveNoCertificateFault, HaveOneCertificateFault, HaveOneCertificateText, WrittenAreTexts, WrittenAreAll, WrittenAreApart};
+ghost use Rattle.mintc_certificate.specs.TextLaws.{HaveOneCertificate, HaveNoCertificateFault, HaveOneCertificateFault, HaveOneCertificateText, SecondSaysFirst, WrittenAreTexts, WrittenAreAll, WrittenAreApart};
 
 /// A text is that of at most one certificate; where it is that of one, no line is at fault; and at most one line is.
 pub fn certificate_texts_are_plain()
@@ -8,9 +8,11 @@ pub fn certificate_texts_are_plain()
     ensures fault { HaveOneCertificateFault }
 {}
 
-/// A certificate has one text with a given first line, which is its version.
+/// A certificate has one text with a given first line, which is its version; and a text in version 1 with the other
+/// first line is one of the same certificate in version 2.
 pub fn certificate_texts_are_canonical()
-    ensures { HaveOneCertificateText }
+    ensures one { HaveOneCertificateText }
+    ensures versions { SecondSaysFirst }
 {}
 
 /// What `write` gives is read back, is the only text in version 2, and is that of no other certificate.
