@@ -1,5 +1,8 @@
 use Rattle.std.specs.Prelude.{◌≡◌, ◌≢◌, ◌==◌, ℕ, zero, suc, ℤ, pos, negsuc, Bool, if◌then◌else◌, List, [], ◌∷◌, ◌++◌, length, map, codes}
-use Rattle.mintc_text.specs.Lines.{IsText, IsFault, IsWithin}
+use Rattle.mintc_text.specs.Lines.{IsText, IsFault}
+use Rattle.mintc_text.specs.declared.refusals.Refusal.{Refusal}
+use Rattle.mintc_text.specs.declared.refusals.Refusal.TheVariants as refusal
+use Rattle.mintc_text.specs.declared.refusals.Role.TheVariants as role
 use Rattle.mintc_timing.specs.declared.clocking.Schedule.{Schedule}
 use Rattle.mintc_timing.specs.Fields.{IsCount, number, Spells, IsWordLine, IsNumberLine, IsCountLine}
 use Rattle.mintc_timing.specs.Texts.{IsPhaseLine, no_phases, with_phase}
@@ -72,6 +75,7 @@ pub data CertificateLines : Type 0 where
   link : Version → ℕ → Certificate → CertificateLines
   whole : Certificate → CertificateLines
 
+-- the certificate with one member more at the end of its chain
 abbrev pub with_member : Certificate → Member → Certificate
 with_member (Least schedule departures chain) m = Least schedule departures (chain ++ m ∷ [])
 with_member (Never chain) m = Never (chain ++ m ∷ [])
@@ -111,3 +115,7 @@ IsCertificateText text certificate = IsText NextOfCertificate first (whole certi
 
 abbrev pub IsCertificateFault : List ℕ → ℕ → Type 0
 IsCertificateFault text n = IsFault NextOfCertificate IsWholeCertificate first text n
+
+-- why a text that is no certificate's is refused: the first line that is out of form
+abbrev pub IsCertificateRefusal : List ℕ → Refusal → Type 0
+IsCertificateRefusal text r = (n : ℕ) × (r ≡ refusal.Syntax role.Certificate n) × IsCertificateFault text n

@@ -1,4 +1,4 @@
-use Rattle.std.specs.Prelude.{◌≤◌, ℕ, ℤ, pos, negsuc, List, length, All}
+use Rattle.std.specs.Prelude.{◌≤◌, ℤ, pos, negsuc, List, length, All}
 use Rattle.mintc_text.specs.Lines.{IsWithin}
 use Rattle.mintc_timing.specs.declared.clocking.Schedule.{Schedule}
 use Rattle.mintc_timing.specs.Limits.{IsInRange}

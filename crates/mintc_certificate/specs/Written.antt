@@ -1,6 +1,6 @@
-use Rattle.std.specs.Prelude.{◌≡◌, ℕ, ℤ, List, [], ◌∷◌, ◌++◌, length, map, flat_map, codes}
+use Rattle.std.specs.Prelude.{ℕ, ℤ, List, [], ◌∷◌, ◌++◌, length, map, flat_map, codes}
 use Rattle.std.specs.List.{zip}
-use Rattle.mintc_text.specs.Lines.{words, numeral_of, text_of}
+use Rattle.mintc_text.specs.Lines.{words, numeral_of}
 use Rattle.mintc_timing.specs.declared.clocking.Schedule.{Schedule}
 use Rattle.mintc_timing.specs.Fields.{number}
 use Rattle.mintc_certificate.specs.declared.members.Member.{Member}

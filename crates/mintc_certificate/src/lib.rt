@@ -5,12 +5,22 @@
 #![tactic(auto)]
 
 mod certificate;
+mod halt;
 mod laws;
+mod member_lines;
 mod members;
+mod reading;
+#[cfg(test)]
+mod tests;
+mod text_laws;
 mod version;
 mod writing;
 
 pub use certificate::{Certificate, Departures};
 pub use laws::valid_is_optimal;
 pub use members::{Member, Members};
+pub use reading::read;
+pub use text_laws::{
+    certificate_texts_are_canonical, certificate_texts_are_plain, written_certificates_are_read,
+};
 pub use writing::write;

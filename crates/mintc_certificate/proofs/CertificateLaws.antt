@@ -1,0 +1,137 @@
+use Rattle.std.proofs.Common.{◌≡◌, ℕ, zero, suc, ℤ, pos, ◌≤◌, ◌≤ℤ◌, ◌+◌, true, false, Bool, if◌then◌else◌, List, [], ◌∷◌, ◌++◌, length, length-append, All, refl, sym, subst, arith}
+use Rattle.std.proofs.lemmas.Int.{ints}
+use Rattle.std.proofs.lemmas.List.Elements.{All-push, All-nil}
+use Rattle.mintc_timing.specs.declared.clocking.Schedule.{Schedule}
+use Rattle.mintc_timing.specs.Limits.{IsNumerator, IsDenominator, IsInRange}
+use Rattle.mintc_timing.specs.Texts.{IsPhaseLine, with_phase}
+use Rattle.mintc_timing.proofs.TextLaws.{along}
+use Rattle.mintc_certificate.specs.declared.certificate.Certificate.{Certificate}
+use Rattle.mintc_certificate.specs.declared.certificate.Certificate.TheVariants.{Least, Never}
+use Rattle.mintc_certificate.specs.declared.members.Member.{Member}
+use Rattle.mintc_certificate.specs.declared.version.Version.{Version}
+use Rattle.mintc_certificate.specs.declared.version.Version.TheVariants.{First, Second}
+use Rattle.mintc_certificate.specs.CertificateText.{NextOfCertificate, IsCertificateText, CertificateLines, first, outcome, den, cycle, phases, phase, departure, never, link, whole, least_departure, IsCounted}
+use Rattle.mintc_certificate.specs.Ranges.{IsDeparture, IsChainInRange, IsCertificateInRange}
+
+-- what is kept of a schedule while its lines come
+record IsSoFar (left : ℕ) (s : Schedule) : Type 0 where
+  pub den : IsDenominator s.den
+  pub cycle : IsNumerator s.cycle
+  pub starts : All IsNumerator s.starts
+  pub widths : All IsNumerator s.widths
+  pub alike : length s.widths ≡ length s.starts
+  pub some : 1 ≤ length s.starts + left
+  pub few : length s.starts + left ≤ 8
+
+-- of departures
+record AreSoFar (left : ℕ) (s : Schedule) (ds : List ℤ) : Type 0 where
+  pub schedule_in : IsInRange s
+  pub each : All IsDeparture ds
+  pub count : length ds + left ≤ 999999999
+
+-- and of a chain
+record IsChaining (left : ℕ) (ms : List Member) : Type 0 where
+  pub some : 1 ≤ length ms + left
+  pub most : length ms + left ≤ 4096
+  pub each : All IsCounted ms
+
+abbrev Links : ℕ → Certificate → Type 0
+Links left (Least s ds ms) = AreSoFar 0 s ds × IsChaining left ms
+Links left (Never ms) = IsChaining left ms
+
+abbrev Keeps : CertificateLines → Type 0
+Keeps first = Unit {0}
+Keeps (outcome v) = Unit {0}
+Keeps (den v) = Unit {0}
+Keeps (cycle v d) = IsDenominator d
+Keeps (phases v d t) = IsDenominator d × IsNumerator t
+Keeps (phase v left s) = IsSoFar left s
+Keeps (departure v left s ds) = AreSoFar left s ds
+Keeps (never v) = Unit {0}
+Keeps (link v left c) = Links left c
+Keeps (whole c) = IsCertificateInRange c
+
+phase_kept : (left : ℕ) (s : Schedule) (p : ℤ × ℤ) (ws : List (List ℕ)) → IsSoFar (suc left) s → IsPhaseLine p ws → IsSoFar left (with_phase s p)
+phase_kept left s p ws k h = record {
+  den = k.den;
+  cycle = k.cycle;
+  starts = All-push IsNumerator s.starts p.0 k.starts h.0;
+  widths = All-push IsNumerator s.widths p.1 k.widths h.1;
+  alike = omega (arith, k.alike, length-append s.starts (p.0 ∷ []), length-append s.widths (p.1 ∷ []));
+  some = omega (arith, length-append s.starts (p.0 ∷ []));
+  few = omega (arith, k.few, length-append s.starts (p.0 ∷ []));
+}
+
+IsDeparture-from : (v : Version) (d : ℤ) → least_departure v ≤ℤ d → d ≤ℤ pos 100000000000000 → IsDeparture d
+IsDeparture-from First d low high = (omega (arith, ints), omega (arith, ints))
+IsDeparture-from Second d low high = (omega (arith, ints), omega (arith, ints))
+
+departure_kept : (left : ℕ) (s : Schedule) (ds : List ℤ) (d : ℤ) → AreSoFar (suc left) s ds → IsDeparture d → AreSoFar left s (ds ++ d ∷ [])
+departure_kept left s ds d k h = record {
+  schedule_in = k.schedule_in;
+  each = All-push IsDeparture ds d k.each h;
+  count = omega (arith, k.count, length-append ds (d ∷ []));
+}
+
+chain_begun : (n : ℕ) → 1 ≤ n → n ≤ 4096 → IsChaining n []
+chain_begun n some most = record { some = omega arith; most = omega arith; each = All-nil IsCounted }
+
+chain_kept : (left : ℕ) (ms : List Member) (m : Member) → IsChaining (suc left) ms → IsCounted m → IsChaining left (ms ++ m ∷ [])
+chain_kept left ms m k h = record {
+  some = omega (arith, k.some, length-append ms (m ∷ []));
+  most = omega (arith, k.most, length-append ms (m ∷ []));
+  each = All-push IsCounted ms m k.each h;
+}
+
+chain_whole : (ms : List Member) → IsChaining 0 ms → IsChainInRange ms
+chain_whole ms k = record { some = omega (arith, k.some); most = omega (arith, k.most); each = k.each }
+
+links_next : (v : Version) (left : ℕ) (c : Certificate) (line : List ℕ) (b : CertificateLines) → NextOfCertificate (link v (suc left) c) line b → Links (suc left) c → Keeps b
+links_next v left (Least s ds ms) line b h k = subst Keeps (sym h.2) (k.0, chain_kept left ms h.0 k.1 h.1.1.counted)
+links_next v left (Never ms) line b h k = subst Keeps (sym h.2) (chain_kept left ms h.0 k h.1.1.counted)
+
+links_end : (c : Certificate) → Links 0 c → IsCertificateInRange c
+links_end (Least s ds ms) k = record { schedule_in = k.0.schedule_in; count = omega (arith, k.0.count); each = k.0.each; chain_in = chain_whole ms k.1 }
+links_end (Never ms) k = chain_whole ms k
+
+outcome_next : (v : Version) (b : Bool) → Keeps (if b then den v else never v)
+outcome_next v true = tt
+outcome_next v false = tt
+
+keeps_next : (a : CertificateLines) (line : List ℕ) (b : CertificateLines) → NextOfCertificate a line b → Keeps a → Keeps b
+keeps_next first line b h k = subst Keeps (sym h.2) tt
+keeps_next (outcome v) line b h k = subst Keeps (sym h.2) (outcome_next v h.0)
+keeps_next (den v) line b h k = subst Keeps (sym h.2) h.1.1.0
+keeps_next (cycle v d) line b h k = subst Keeps (sym h.2) (k, h.1.1.0)
+keeps_next (phases v d t) line b h k = subst Keeps (sym h.2) (let n = h.1.1 in record {
+  den = k.0;
+  cycle = k.1;
+  starts = All-nil IsNumerator;
+  widths = All-nil IsNumerator;
+  alike = refl;
+  some = omega (arith, n.0);
+  few = omega (arith, n.1);
+})
+keeps_next (phase v (suc left) s) line b h k = subst Keeps (sym h.2) (phase_kept left s h.0 h.1.0 k h.1.1)
+keeps_next (phase v zero s) line b h k = subst Keeps (sym h.2) (let n = h.1.1 in record {
+  schedule_in = record {
+    den = k.den;
+    cycle = k.cycle;
+    starts = k.starts;
+    widths = k.widths;
+    phases = (omega (arith, k.some), omega (arith, k.few));
+    alike = k.alike;
+  };
+  each = All-nil IsDeparture;
+  count = omega (arith, n.1);
+})
+keeps_next (departure v (suc left) s ds) line b h k = subst Keeps (sym h.2) (departure_kept left s ds h.0 k (IsDeparture-from v h.0 h.1.1.0.0 h.1.1.0.1))
+keeps_next (departure v zero s ds) line b h k = subst Keeps (sym h.2) (k, chain_begun h.0 h.1.1.0 h.1.1.1)
+keeps_next (never v) line b h k = subst Keeps (sym h.2) (chain_begun h.0 h.1.1.0 h.1.1.1)
+keeps_next (link v (suc left) c) line b h k = links_next v left c line b h k
+keeps_next (link v zero c) line b h k = subst Keeps (sym h.2) (links_end c k)
+keeps_next (whole c) line b h k = absurd h
+
+-- what a certificate's text says is in range
+pub IsCertificateInRange-from_text : (text : List ℕ) (c : Certificate) → IsCertificateText text c → IsCertificateInRange c
+IsCertificateInRange-from_text text c h = along NextOfCertificate Keeps keeps_next first h.lines (whole c) h.follows tt

@@ -1,0 +1,72 @@
+use Rattle.std.proofs.Common.{◌≡◌, ℕ, zero, suc, ℤ, pos, Bool, true, false, if◌then◌else◌, List, [], ◌∷◌, ◌++◌, Contains, refl, ap, ◌∙◌, sym, subst, arith, codes}
+use Rattle.std.proofs.lemmas.Int.{ints}
+use Rattle.std.specs.Fmt.{digits}
+use Rattle.mintc_text.specs.Lines.{Follows, IsWithin, ended}
+use Rattle.mintc_timing.specs.Fields.{number}
+use Rattle.mintc_certificate.specs.declared.certificate.Certificate.{Certificate}
+use Rattle.mintc_certificate.specs.declared.version.Version.{Version}
+use Rattle.mintc_certificate.specs.declared.version.Version.TheVariants.{First, Second}
+use Rattle.mintc_certificate.specs.CertificateText.{NextOfCertificate, CertificateLines, first, outcome, den, cycle, phases, phase, departure, never, link, whole, least_departure}
+use Rattle.mintc_certificate.specs.TextLaws.{SecondSaysFirst}
+use Rattle.mintc_certificate.proofs.CertificatePlain.{certificate_plain}
+use Rattle.mintc_certificate.proofs.CertificateSpelling.{Begun, begun_next, after_first}
+use Rattle.mintc_certificate.proofs.CertificateWritten.{first_written, free_all}
+
+-- a state with the second version in place of its own
+abbrev raise : CertificateLines → CertificateLines
+raise first = first
+raise (outcome v) = outcome Second
+raise (den v) = den Second
+raise (cycle v d) = cycle Second d
+raise (phases v d t) = phases Second d t
+raise (phase v left s) = phase Second left s
+raise (departure v left s ds) = departure Second left s ds
+raise (never v) = never Second
+raise (link v left c) = link Second left c
+raise (whole c) = whole c
+
+raise_outcome : (v : Version) (x : Bool) → raise (if x then den v else never v) ≡ (if x then den Second else never Second)
+raise_outcome v true = refl
+raise_outcome v false = refl
+
+within_second : (v : Version) (d : ℤ) → IsWithin (least_departure v) (pos 100000000000000) d → IsWithin (least_departure Second) (pos 100000000000000) d
+within_second First d h = (omega (arith, ints, h.0), h.1)
+within_second Second d h = h
+
+-- what a line says in a version, it says in the second
+raised : (a b : CertificateLines) (line : List ℕ) → Begun a → NextOfCertificate a line b → NextOfCertificate (raise a) line (raise b)
+raised first b line begun h = absurd begun
+raised (outcome v) b line begun h = (h.0, h.1, ap raise h.2 ∙ raise_outcome v h.0)
+raised (den v) b line begun h = (h.0, h.1, ap raise h.2)
+raised (cycle v d) b line begun h = (h.0, h.1, ap raise h.2)
+raised (phases v d t) b line begun h = (h.0, h.1, ap raise h.2)
+raised (phase v (suc left) s) b line begun h = (h.0, h.1, ap raise h.2)
+raised (phase v zero s) b line begun h = (h.0, h.1, ap raise h.2)
+raised (departure v (suc left) s ds) b line begun h = (h.0, (h.1.0, (within_second v h.0 h.1.1.0, h.1.1.1), h.1.2), ap raise h.2)
+raised (departure v zero s ds) b line begun h = (h.0, h.1, ap raise h.2)
+raised (never v) b line begun h = (h.0, h.1, ap raise h.2)
+raised (link v (suc left) c) b line begun h = (h.0, (h.1.0, record { counted = h.1.1.counted; has = tt; spelled = h.1.1.spelled }, h.1.2), ap raise h.2)
+raised (link v zero c) b line begun h = (h.0, h.1, ap raise h.2)
+raised (whole c) b line begun h = absurd h
+
+raised_all : (a b : CertificateLines) (lines : List (List ℕ)) → Begun a → Follows NextOfCertificate a lines b → Follows NextOfCertificate (raise a) lines (raise b)
+raised_all a b [] begun h = ap raise h
+raised_all a b (line ∷ lines) begun h = (raise h.0, raised a h.0 line begun h.1, raised_all h.0 b lines (begun_next a h.0 line h.1) h.2)
+
+first_line : NextOfCertificate first (codes "certificate 1") (outcome First)
+unfolding digits
+first_line = (1, (codes "certificate" ∷ number 1 ∷ [], (omega arith, omega arith, refl), refl), refl)
+
+first_line_free : Contains (codes "certificate 1") 10 → ⊥
+first_line_free = free_all (codes "certificate 1") (certificate_plain.free first (outcome First) (codes "certificate 1") tt first_line)
+
+pub second_says_first : SecondSaysFirst
+second_says_first x c h =
+    let a = after_first (codes "certificate 1") x c h.lines first_line_free h.whole h.follows in
+    let state : a.0 ≡ outcome First = certificate_plain.one first a.0 (outcome First) (codes "certificate 1") tt a.2 first_line in
+    let rest = subst (λ (s : CertificateLines). Follows NextOfCertificate s a.1 (whole c)) state a.4 in
+    record {
+      lines = codes "certificate 2" ∷ a.1;
+      whole = ap (λ (y : List ℕ). ended (codes "certificate 2") ++ y) a.3;
+      follows = (outcome Second, first_written, raised_all (outcome First) (whole c) a.1 tt rest);
+    }

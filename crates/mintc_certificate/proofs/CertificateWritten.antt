@@ -1,0 +1,148 @@
+use Rattle.std.proofs.Common.{◌≡◌, ℕ, ℤ, ◌≤◌, List, [], ◌∷◌, ◌++◌, length, map, All, Contains, refl, ap, ◌∙◌, sym, subst, arith, codes, eqb, true, false, append_assoc}
+use Rattle.std.proofs.lemmas.List.{append-nil}
+use Rattle.std.proofs.lemmas.List.Elements.{All-head, All-tail}
+use Rattle.std.specs.Fmt.{digits}
+use Rattle.std.specs.List.{zip}
+use Rattle.mintc_text.specs.Lines.{Follows, ended, text_of, words}
+use Rattle.mintc_timing.specs.declared.clocking.Schedule.{Schedule}
+use Rattle.mintc_timing.specs.Fields.{number, Spells}
+use Rattle.mintc_timing.specs.Limits.{IsNumerator, IsInRange}
+use Rattle.mintc_timing.specs.Texts.{schedule_of, no_phases}
+use Rattle.mintc_certificate.specs.declared.certificate.Certificate.{Certificate}
+use Rattle.mintc_certificate.specs.declared.certificate.Certificate.TheVariants.{Least, Never}
+use Rattle.mintc_certificate.specs.declared.members.Member.{Member}
+use Rattle.mintc_certificate.specs.declared.version.Version.TheVariants.{Second}
+use Rattle.mintc_certificate.specs.CertificateReading.{with_chain, before_chain}
+use Rattle.mintc_certificate.specs.CertificateText.{NextOfCertificate, IsCertificateText, CertificateLines, first, outcome, den, cycle, phases, phase, departure, never, link, whole, member_words, IsCounted, IsMemberOf, IsChainLine}
+use Rattle.mintc_certificate.specs.Ranges.{IsDeparture, IsChainInRange, IsCertificateInRange}
+use Rattle.mintc_certificate.specs.TextLaws.{WrittenAreTexts, WrittenAreAll, WrittenAreApart}
+use Rattle.mintc_certificate.specs.Written.{number_line, count_line, phase_line, departure_lines, chain_lines, schedule_lines, lines_of}
+use Rattle.mintc_certificate.proofs.CertificateLaws.{IsCertificateInRange-from_text}
+use Rattle.mintc_certificate.proofs.CertificatePlain.{certificate_plain, certificates_have_one_value}
+use Rattle.mintc_certificate.proofs.CertificateReading.{member_next}
+use Rattle.mintc_certificate.proofs.CertificateSpelling.{certificates_have_one_text}
+
+chain_begins : (c : Certificate) (m : ℕ) → Spells IsChainLine m (count_line (codes "chain") m) → NextOfCertificate (before_chain Second c) (count_line (codes "chain") m) (link Second m (with_chain c []))
+chain_begins (Least s ds ms) m spells = (m, spells, refl)
+chain_begins (Never ms) m spells = (m, spells, refl)
+
+-- these lines lead from one state to another
+abbrev Leads : CertificateLines → List (List ℕ) → CertificateLines → Type 0
+Leads a lines b = Follows NextOfCertificate a lines b
+
+joined : (a b c : CertificateLines) (lines more : List (List ℕ)) → Leads a lines b → Leads b more c → Leads a (lines ++ more) c
+joined a b c [] more h g = subst (λ (s : CertificateLines). Leads s more c) (sym h) g
+joined a b c (line ∷ lines) more h g = (h.0, h.1, joined h.0 b c lines more h.2 g)
+
+phases_written : (d t : ℤ) (so wo xs ys : List ℤ) → length ys ≡ length xs → All IsNumerator xs → All IsNumerator ys →
+    Leads (phase Second (length xs) (schedule_of d t so wo)) (map phase_line (zip xs ys)) (phase Second 0 (schedule_of d t (so ++ xs) (wo ++ ys)))
+phases_written d t so wo [] [] same h g = ap (λ (x : List ℤ). phase Second 0 (schedule_of d t x wo)) (sym (append-nil so)) ∙ ap (λ (x : List ℤ). phase Second 0 (schedule_of d t (so ++ []) x)) (sym (append-nil wo))
+phases_written d t so wo [] (y ∷ ys) same h g = absurd (omega (arith, same))
+phases_written d t so wo (x ∷ xs) [] same h g = absurd (omega (arith, same))
+phases_written d t so wo (x ∷ xs) (y ∷ ys) same h g =
+    let rest = phases_written d t (so ++ x ∷ []) (wo ++ y ∷ []) xs ys (omega (arith, same)) (All-tail IsNumerator x xs h) (All-tail IsNumerator y ys g) in
+    let starts = append_assoc so (x ∷ []) xs in
+    let widths = append_assoc wo (y ∷ []) ys in
+    let R : List ℤ → List ℤ → Type 0 = λ a b. Leads (phase Second (length xs) (schedule_of d t (so ++ x ∷ []) (wo ++ y ∷ []))) (map phase_line (zip xs ys)) (phase Second 0 (schedule_of d t a b)) in
+    let one = subst (λ (a : List ℤ). R a ((wo ++ y ∷ []) ++ ys)) starts rest in
+    let all = subst (λ (b : List ℤ). R (so ++ x ∷ xs) b) widths one in
+    (phase Second (length xs) (schedule_of d t (so ++ x ∷ []) (wo ++ y ∷ [])), ((x, y), (_, (All-head IsNumerator x xs h, All-head IsNumerator y ys g, refl), refl), refl), all)
+
+departures_written : (s : Schedule) (so xs : List ℤ) → All IsDeparture xs →
+    Leads (departure Second (length xs) s so) (map (number_line (codes "departure")) xs) (departure Second 0 s (so ++ xs))
+departures_written s so [] h = ap (λ (x : List ℤ). departure Second 0 s x) (sym (append-nil so))
+departures_written s so (x ∷ xs) h =
+    let rest = departures_written s (so ++ x ∷ []) xs (All-tail IsDeparture x xs h) in
+    let all = subst (λ (ds : List ℤ). Leads (departure Second (length xs) s (so ++ x ∷ [])) (map (number_line (codes "departure")) xs) (departure Second 0 s ds)) (append_assoc so (x ∷ []) xs) rest in
+    (departure Second (length xs) s (so ++ x ∷ []), (x, (_, (All-head IsDeparture x xs h, refl), refl), refl), all)
+
+has_member : (m : Member) → IsMemberOf Second m
+has_member m = tt
+
+members_written : (c : Certificate) (so xs : List Member) → All IsCounted xs →
+    Leads (link Second (length xs) (with_chain c so)) (map (λ (m : Member). words (member_words m)) xs) (link Second 0 (with_chain c (so ++ xs)))
+members_written c so [] h = ap (λ (x : List Member). link Second 0 (with_chain c x)) (sym (append-nil so))
+members_written c so (x ∷ xs) h =
+    let rest = members_written c (so ++ x ∷ []) xs (All-tail IsCounted x xs h) in
+    let all = subst (λ (ms : List Member). Leads (link Second (length xs) (with_chain c (so ++ x ∷ []))) (map (λ (m : Member). words (member_words m)) xs) (link Second 0 (with_chain c ms))) (append_assoc so (x ∷ []) xs) rest in (
+      link Second (length xs) (with_chain c (so ++ x ∷ [])),
+      member_next Second c x (length xs) so (words (member_words x)) (member_words x, record { counted = All-head IsCounted x xs h; has = has_member x; spelled = refl }, refl),
+      all,
+    )
+
+end_written : (c : Certificate) → Leads (link Second 0 c) (codes "end" ∷ []) (whole c)
+end_written c = (whole c, (tt, (codes "end" ∷ [], refl, refl), refl), refl)
+
+schedule_written : (s : Schedule) → IsInRange s → Leads (den Second) (schedule_lines s) (phase Second 0 s)
+schedule_written s h = (
+  cycle Second s.den,
+  (s.den, (_, (h.den, refl), refl), refl),
+  (
+    phases Second s.den s.cycle,
+    (s.cycle, (_, (h.cycle, refl), refl), refl),
+    (
+      phase Second (length s.starts) (no_phases s.den s.cycle),
+      (length s.starts, (_, (h.phases.0, h.phases.1, refl), refl), refl),
+      phases_written s.den s.cycle [] [] s.starts s.widths h.alike h.starts h.widths,
+    ),
+  ),
+)
+
+all_departures : (s : Schedule) (ds : List ℤ) → length ds ≤ 999999999 → All IsDeparture ds → Leads (phase Second 0 s) (departure_lines ds) (departure Second 0 s ds)
+all_departures s ds few h = (departure Second (length ds) s [], (length ds, (_, (omega arith, few, refl), refl), refl), departures_written s [] ds h)
+
+chain_written : (c : Certificate) (ms : List Member) → IsChainInRange ms → Leads (before_chain Second c) (chain_lines ms) (whole (with_chain c ms))
+chain_written c ms h =
+    let begun : NextOfCertificate (before_chain Second c) (count_line (codes "chain") (length ms)) (link Second (length ms) (with_chain c [])) =
+    chain_begins c (length ms) (_, (h.some, h.most, refl), refl) in (
+      link Second (length ms) (with_chain c []),
+      begun,
+      joined (link Second (length ms) (with_chain c [])) (link Second 0 (with_chain c ms)) (whole (with_chain c ms)) (map (λ (m : Member). words (member_words m)) ms) (codes "end" ∷ [])
+          (members_written c [] ms h.each) (end_written (with_chain c ms)),
+    )
+
+pub first_written : NextOfCertificate first (codes "certificate 2") (outcome Second)
+unfolding digits
+first_written = (2, (codes "certificate" ∷ number 2 ∷ [], (omega arith, omega arith, refl), refl), refl)
+
+abbrev after_written : Certificate → List (List ℕ)
+after_written (Least s ds ms) = codes "least" ∷ schedule_lines s ++ departure_lines ds ++ chain_lines ms
+after_written (Never ms) = codes "never" ∷ chain_lines ms
+
+lines_written : (c : Certificate) → lines_of c ≡ codes "certificate 2" ∷ after_written c
+lines_written (Least s ds ms) = refl
+lines_written (Never ms) = refl
+
+after_leads : (c : Certificate) → IsCertificateInRange c → Leads (outcome Second) (after_written c) (whole c)
+after_leads (Least s ds ms) h = (
+  den Second,
+  (true, (codes "least" ∷ [], refl, refl), refl),
+  joined (den Second) (departure Second 0 s ds) (whole (Least s ds ms)) (schedule_lines s ++ departure_lines ds) (chain_lines ms)
+      (joined (den Second) (phase Second 0 s) (departure Second 0 s ds) (schedule_lines s) (departure_lines ds) (schedule_written s h.schedule_in) (all_departures s ds h.count h.each))
+      (chain_written (Least s ds []) ms h.chain_in),
+)
+after_leads (Never ms) h = (never Second, (false, (codes "never" ∷ [], refl, refl), refl), chain_written (Never []) ms h)
+
+pub written_are_texts : WrittenAreTexts
+written_are_texts c h = record {
+  lines = codes "certificate 2" ∷ after_written c;
+  whole = ap text_of (lines_written c);
+  follows = (outcome Second, first_written, after_leads c h);
+}
+
+pub free_all : (line : List ℕ) → All (λ x. eqb x 10 ≡ false) line → Contains line 10 → ⊥
+free_all line all h = let f : eqb 10 10 ≡ false = subst (λ (x : ℕ). eqb x 10 ≡ false) h.2 (all h.0 10 h.1) in cc
+
+first_free : Contains (codes "certificate 2") 10 → ⊥
+first_free = free_all (codes "certificate 2") (certificate_plain.free first (outcome Second) (codes "certificate 2") tt first_written)
+
+pub written_are_all : WrittenAreAll
+written_are_all x c h =
+    let in_range = IsCertificateInRange-from_text (ended (codes "certificate 2") ++ x) c h in
+    let whole : text_of (lines_of c) ≡ ended (codes "certificate 2") ++ text_of (after_written c) = ap text_of (lines_written c) in
+    let written = subst (λ (t : List ℕ). IsCertificateText t c) whole (written_are_texts c in_range) in
+    ap (λ (y : List ℕ). ended (codes "certificate 2") ++ y) (certificates_have_one_text (codes "certificate 2") x (text_of (after_written c)) c first_free h written) ∙ sym whole
+
+pub written_are_apart : WrittenAreApart
+written_are_apart c d h g e =
+    certificates_have_one_value (text_of (lines_of c)) c d (written_are_texts c h) (subst (λ (t : List ℕ). IsCertificateText t d) (sym e) (written_are_texts d g))

@@ -1,0 +1,28 @@
+use Rattle.std.proofs.Common.{codes}
+use Rattle.std.proofs.lemmas.Result.{err_from_is_err_and}
+use Rattle.mintc_timing.specs.Fields.{IsWordLine}
+use Rattle.mintc_certificate.specs.CertificateReading.{with_chain}
+use Rattle.mintc_certificate.specs.CertificateText.{link}
+use Rattle.mintc_certificate.proofs.CertificateReading.{fault, end_read, end_of_certificate, past_certificate, at_halt}
+use Rattle.mintc_certificate.proofs.reading.chain.Goals as goal
+
+pub returns-in_err-chain : goal.returns-in_err-chain
+returns-in_err-chain c = λ text d at.
+    at_halt c.from_residual.result c.in_err-chain.field-0.0 _ _ (err_from_is_err_and c.from_residual.result c.from_residual.ensures.1) (c.in_err-chain.ensures text d at)
+
+pub returns-in_default : goal.returns-in_default
+returns-in_default c = λ text d at.
+    let members = c.in_ok-chain.ensures text d at in
+    fault text c.members.new.reader c.word_line.new.self.number (link c.args.version 0 (with_chain d c.in_ok-chain.chain)) (IsWordLine (codes "end")) members c.in_default.ensures.read c.in_default.ensures.counted (λ e. e) (λ line after step. (step.0, step.1))
+
+pub returns-in_default-end : goal.returns-in_default-end
+returns-in_default-end c = λ text d at.
+    let whole = with_chain d c.in_ok-chain.chain in
+    let ended = end_read text c.members.new.reader c.word_line.new.self c.args.version whole (c.in_ok-chain.ensures text d at) c.in-Some.ensures.read c.in-Some.ensures.counted in
+    past_certificate text c.word_line.new.self c.end.new.self.number whole ended c.in_default-end.ensures.read c.in_default-end.ensures.counted
+
+pub returns : goal.returns
+returns c = λ text d at.
+    let whole = with_chain d c.in_ok-chain.chain in
+    let ended = end_read text c.members.new.reader c.word_line.new.self c.args.version whole (c.in_ok-chain.ensures text d at) c.in-Some.ensures.read c.in-Some.ensures.counted in
+    end_of_certificate text c.word_line.new.self whole ended c.in-Some-end.ensures.read

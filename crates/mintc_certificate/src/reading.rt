@@ -1,0 +1,273 @@
+//! Reading the text of a certificate.
+ghost use Rattle.std.specs.Prelude.{◌≡◌, ◌≤◌, ℕ, ℤ, List, Bool, MatchOption, MatchResult, IfOk, IfErr, IfSome, length};
+ghost use Rattle.mintc_text.specs.Stops.{StopsAt};
+ghost use Rattle.mintc_timing.specs.declared.clocking.Schedule.{Schedule};
+ghost use Rattle.mintc_timing.specs.Limits.{IsDenominator, IsNumerator};
+ghost use Rattle.mintc_timing.specs.Reading.{HasNone, HasRead, IsAt, number_after};
+ghost use Rattle.mintc_timing.specs.Texts.{IsPhaseLine, no_phases, schedule_of};
+ghost use Rattle.mintc_certificate.specs.declared.certificate.Certificate.{Certificate};
+ghost use Rattle.mintc_certificate.specs.declared.members.Member.{Member};
+ghost use Rattle.mintc_certificate.specs.declared.version.Version.{Version};
+ghost use Rattle.mintc_certificate.specs.CertificateReading.{Halts, with_chain, before_chain};
+ghost use Rattle.mintc_certificate.specs.CertificateText.{version_of, least_departure, IsMemberLine, IsOutcomeLine, NextOfCertificate, IsCertificateText, IsCertificateFault, IsCertificateRefusal, first, outcome, den, phase, departure, link};
+ghost use Rattle.mintc_certificate.specs.CertificateText.{never as no_schedule};
+ghost use Rattle.mintc_certificate.specs.Ranges.{IsCertificateInRange};
+
+use crate::halt::Halt;
+use crate::member_lines::member_of;
+use crate::version::Version;
+use crate::{Certificate, Departures, Member, Members};
+use arrayvec::ArrayVec;
+use mintc_text::{Refusal, Role, Stop};
+use mintc_timing::{Fields, PhaseNumbers, Reader, Schedule};
+use std::alloc::Global;
+
+/// The greatest numerator of a schedule and of a departure.
+const MOST: i64 = 100_000_000_000_000;
+
+/// The version of a text whose first line has this number.
+fn version_of(number: u32) -> Version
+    ensures { result ≡ version_of number }
+{
+    if number == 1 {
+        Version::First
+    } else {
+        Version::Second
+    }
+}
+
+/// The least departure that a version can say, a numerator over the schedule's denominator.
+fn least_departure(version: Version) -> i64
+    ensures { result ≡ least_departure version }
+{
+    match version {
+        Version::First => 0,
+        Version::Second => -MOST,
+    }
+}
+
+/// Whether the line says `least`, and not `never`.
+fn outcome_of(mut fields: Fields) -> Option<bool>
+    ensures { MatchOption result ((b : Bool) → IsOutcomeLine b fields.entry → ⊥) (λ b. IsOutcomeLine b fields.entry) }
+{
+    let word = fields.word()?;
+    fields.end()?;
+    if word == b"least".as_slice() {
+        return Some(true);
+    }
+    if word == b"never".as_slice() {
+        Some(false)
+    } else {
+        None
+    }
+}
+
+/// Reads the line that says whether a schedule follows.
+fn outcome_line(reader: &mut Reader) -> Option<bool>
+    ensures read { MatchOption result (HasNone IsOutcomeLine reader.old.left) (λ b. HasRead IsOutcomeLine reader.old.left b reader.new.left) }
+    ensures counted { reader.new.number ≡ number_after reader.old.number }
+{
+    let fields = reader.fields()?;
+    outcome_of(fields)
+}
+
+/// The start and the width of a phase, from the words of its line.
+fn phase_of(mut fields: Fields) -> Option<(i64, i64)>
+    ensures { MatchOption result ((p : ℤ × ℤ) → IsPhaseLine p fields.entry → ⊥) (λ p. IsPhaseLine (p.0, p.1) fields.entry) }
+{
+    fields.fixed(b"phase")?;
+    let start = fields.number(0, MOST)?;
+    let width = fields.number(0, MOST)?;
+    fields.end()?;
+    Some((start, width))
+}
+
+/// Reads the line of a phase.
+fn phase_line(reader: &mut Reader) -> Option<(i64, i64)>
+    ensures read { MatchOption result (HasNone IsPhaseLine reader.old.left) (λ p. HasRead IsPhaseLine reader.old.left (p.0, p.1) reader.new.left) }
+    ensures counted { reader.new.number ≡ number_after reader.old.number }
+{
+    let fields = reader.fields()?;
+    phase_of(fields)
+}
+
+/// Reads the lines of so many phases: their starts and their widths.
+fn phases(reader: &mut Reader, count: u32) -> Option<(PhaseNumbers, PhaseNumbers)>
+    requires { count ≤ 8 }
+    ensures { (text : List ℕ) (version : Version) (d t : ℤ) → IsAt NextOfCertificate first text reader.old (phase version count (no_phases d t)) →
+        MatchOption result (IsCertificateFault text reader.new.number) (λ r. IsAt NextOfCertificate first text reader.new (phase version 0 (schedule_of d t r.0 r.1))) }
+{
+    let mut starts = ArrayVec::new();
+    let mut widths = ArrayVec::new();
+    for _phase in 0..count {
+        let (start, width) = phase_line(reader)?;
+        starts.push(start);
+        widths.push(width);
+    }
+    Some((PhaseNumbers::new(starts), PhaseNumbers::new(widths)))
+}
+
+/// Reads the lines of a schedule before those of its phases: `den`, the cycle time and the number of phases.
+fn head(reader: &mut Reader) -> Option<(i64, i64, u32)>
+    ensures read { (text : List ℕ) (version : Version) → IsAt NextOfCertificate first text reader.old (den version) →
+        MatchOption result (IsCertificateFault text reader.new.number) (λ r. IsAt NextOfCertificate first text reader.new (phase version r.2 (no_phases r.0 r.1))) }
+    ensures few { IfSome result (λ r. r.2 ≤ 8) }
+    ensures in_range { IfSome result (λ r. IsDenominator r.0 × IsNumerator r.1) }
+{
+    let den = reader.number_line(b"den", 1, 100_000)?;
+    let cycle = reader.number_line(b"cycle", 0, MOST)?;
+    let count = reader.count_line(b"phases", 1, 8)?;
+    Some((den, cycle, count))
+}
+
+/// Reads the lines of a schedule.
+fn schedule(reader: &mut Reader) -> Option<Schedule>
+    ensures { (text : List ℕ) (version : Version) → IsAt NextOfCertificate first text reader.old (den version) →
+        MatchOption result (IsCertificateFault text reader.new.number) (λ s. IsAt NextOfCertificate first text reader.new (phase version 0 s)) }
+{
+    let (den, cycle, count) = head(reader)?;
+    let (starts, widths) = phases(reader, count)?;
+    Some(Schedule {
+        den,
+        cycle,
+        starts,
+        widths,
+    })
+}
+
+/// Reads the number of departures and their lines.
+fn departures(alloc: Global, reader: &mut Reader, version: Version) -> Result<Departures, Halt>
+    ensures { (text : List ℕ) (s : Schedule) → IsAt NextOfCertificate first text reader.old (phase version 0 s) →
+        MatchResult result
+        (λ ds. IsAt NextOfCertificate first text reader.new (departure version 0 s ds))
+        (Halts (IsCertificateFault text reader.new.number)) }
+{
+    let least = least_departure(version);
+    let Some(count) = reader.count_line(b"departures", 0, 999_999_999) else {
+        return Err(Halt::Form);
+    };
+    let mut found = Vec::new(alloc);
+    for _departure in 0..count {
+        let Some(departure) = reader.number_line(b"departure", least, MOST) else {
+            return Err(Halt::Form);
+        };
+        let Ok(()) = found.push(departure) else {
+            return Err(Halt::Memory);
+        };
+    }
+    Ok(Departures::new(found))
+}
+
+/// Reads the line of a member.
+fn member_line(alloc: Global, reader: &mut Reader, version: Version) -> Result<Member, Halt>
+    ensures read { MatchResult result
+        (λ m. HasRead (IsMemberLine version) reader.old.left m reader.new.left)
+        (Halts (HasNone (IsMemberLine version) reader.old.left)) }
+    ensures counted { reader.new.number ≡ number_after reader.old.number }
+{
+    let Some(fields) = reader.fields() else {
+        return Err(Halt::Form);
+    };
+    member_of(alloc, fields, version)
+}
+
+/// Reads the number of members and their lines.
+fn members(alloc: Global, reader: &mut Reader, version: Version) -> Result<Members, Halt>
+    ensures { (text : List ℕ) (c : Certificate) → IsAt NextOfCertificate first text reader.old (before_chain version c) →
+        MatchResult result
+        (λ chain. IsAt NextOfCertificate first text reader.new (link version 0 (with_chain c chain)))
+        (Halts (IsCertificateFault text reader.new.number)) }
+{
+    let Some(count) = reader.count_line(b"chain", 1, 4_096) else {
+        return Err(Halt::Form);
+    };
+    let mut found = Vec::new(alloc);
+    for _member in 0..count {
+        let member = member_line(alloc, reader, version)?;
+        let Ok(()) = found.push(member) else {
+            return Err(Halt::Memory);
+        };
+    }
+    Ok(Members::new(found))
+}
+
+/// Reads the lines of a chain and the last line, and that none follows.
+fn chain(alloc: Global, reader: &mut Reader, version: Version) -> Result<Members, Halt>
+    ensures { (text : List ℕ) (c : Certificate) → IsAt NextOfCertificate first text reader.old (before_chain version c) →
+        MatchResult result
+        (λ chain. IsCertificateText text (with_chain c chain))
+        (Halts (IsCertificateFault text reader.new.number)) }
+{
+    let chain = members(alloc, reader, version)?;
+    let Some(()) = reader.word_line(b"end") else {
+        return Err(Halt::Form);
+    };
+    let Some(()) = reader.end() else {
+        return Err(Halt::Form);
+    };
+    Ok(chain)
+}
+
+/// Reads the lines after `least`.
+fn least(alloc: Global, reader: &mut Reader, version: Version) -> Result<Certificate, Halt>
+    ensures { (text : List ℕ) → IsAt NextOfCertificate first text reader.old (den version) →
+        MatchResult result (IsCertificateText text) (Halts (IsCertificateFault text reader.new.number)) }
+{
+    let Some(schedule) = schedule(reader) else {
+        return Err(Halt::Form);
+    };
+    let departures = departures(alloc, reader, version)?;
+    let chain = chain(alloc, reader, version)?;
+    Ok(Certificate::Least {
+        schedule,
+        departures,
+        chain,
+    })
+}
+
+/// Reads the lines after `never`.
+fn never(alloc: Global, reader: &mut Reader, version: Version) -> Result<Certificate, Halt>
+    ensures { (text : List ℕ) → IsAt NextOfCertificate first text reader.old (no_schedule version) →
+        MatchResult result (IsCertificateText text) (Halts (IsCertificateFault text reader.new.number)) }
+{
+    let chain = chain(alloc, reader, version)?;
+    Ok(Certificate::Never { chain })
+}
+
+/// Reads all lines of a certificate, and that none follows.
+fn certificate(alloc: Global, reader: &mut Reader) -> Result<Certificate, Halt>
+    ensures { (text : List ℕ) → IsAt NextOfCertificate first text reader.old first →
+        MatchResult result (IsCertificateText text) (Halts (IsCertificateFault text reader.new.number)) }
+{
+    let Some(number) = reader.count_line(b"certificate", 1, 2) else {
+        return Err(Halt::Form);
+    };
+    let version = version_of(number);
+    let Some(has_schedule) = outcome_line(reader) else {
+        return Err(Halt::Form);
+    };
+    if has_schedule {
+        least(alloc, reader, version)
+    } else {
+        never(alloc, reader, version)
+    }
+}
+
+/// The certificate of a text, of either version. The refusal is Syntax with the first line that is out of form, counted
+/// from 1.
+pub fn read(alloc: Global, text: &[u8]) -> Result<Certificate, Stop>
+    requires { length text.now ≤ 67108864 }
+    ensures value { IfOk result (λ certificate. IsCertificateText text.now certificate) }
+    ensures in_range { IfOk result IsCertificateInRange }
+    ensures stop { IfErr result (StopsAt (IsCertificateRefusal text.now)) }
+{
+    let mut reader = Reader::new(text);
+    match certificate(alloc, &mut reader) {
+        Ok(certificate) => Ok(certificate),
+        Err(Halt::Form) => Err(Stop::Refused(Refusal::Syntax {
+            role: Role::Certificate,
+            entry: reader.number(),
+        })),
+        Err(Halt::Memory) => Err(Stop::OutOfMemory),
+    }
+}
