@@ -1,0 +1,10 @@
+pub mod Ordered
+pub mod Greatest
+pub mod Carrying
+pub mod Beginning
+pub mod Sizes
+pub mod Arriving
+pub mod Pairing
+pub mod Scaled
+pub mod Exact
+pub mod Deciding
