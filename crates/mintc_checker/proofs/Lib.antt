@@ -6,5 +6,7 @@ pub mod Sizes
 pub mod Arriving
 pub mod Pairing
 pub mod Scaled
+pub mod Fed
+pub mod Bounds
 pub mod Exact
 pub mod Deciding

@@ -1,6 +1,6 @@
 //! The tests of a schedule against the counts, the clock and the bounds.
 ghost use Rattle.std.specs.Prelude.{◌≡◌, ◌+◌, ◌-◌, ◌*◌, ◌<◌, ◌≤◌, ◌≤ℤ◌, ◌-ℤ◌, ◌*ℤ◌, pos, ℕ, ℤ, List, length, IsTrue, ◌↔◌, All};
-ghost use Rattle.mintc_timing.specs.Clocking.{KeepsApart, KeepsBound, KeepsClock, KeepsPhase, EachPhase, crosses_of, end_of, start_of};
+ghost use Rattle.mintc_timing.specs.Clocking.{KeepsApart, KeepsBound, KeepsClock, KeepsPhase, EachPhase, crosses_of, end_of, least_width, start_of, width_of};
 ghost use Rattle.mintc_timing.specs.Limits.{IsBound, IsInRange, IsPhase};
 ghost use Rattle.mintc_certificate.specs.Valid.{SchedulePasses, counts};
 ghost use Rattle.mintc_checker.specs.Judged.{Decides, IsFed, IsFedAt, KeepsOwn, alone};
@@ -92,6 +92,42 @@ fn keeps_aparts(flat: &Flat, schedule: &Schedule, fed: &[bool], i: u32) -> bool
     true
 }
 
+/// Whether a phase starts no later than the cycle.
+fn starts_in_cycle(schedule: &Schedule, phase: u32) -> bool
+    requires in_range { IsInRange schedule.now }
+    requires phase { IsPhase (length schedule.now.starts) phase }
+    ensures { IsTrue result ↔ (start_of schedule.now phase ≤ℤ schedule.now.cycle) }
+{
+    cycle_excess(schedule, phase) <= 0
+}
+
+/// Whether a phase is no wider than the cycle.
+fn fits_cycle(schedule: &Schedule, phase: u32) -> bool
+    requires in_range { IsInRange schedule.now }
+    requires phase { IsPhase (length schedule.now.starts) phase }
+    ensures { IsTrue result ↔ (width_of schedule.now phase ≤ℤ schedule.now.cycle) }
+{
+    span_excess(schedule, phase) <= 0
+}
+
+/// Whether a phase starts no later than the next one, if there is one.
+fn starts_in_order(schedule: &Schedule, phase: u32) -> bool
+    requires in_range { IsInRange schedule.now }
+    requires phase { IsPhase (length schedule.now.starts) phase }
+    ensures { IsTrue result ↔ (phase < length schedule.now.starts → start_of schedule.now phase ≤ℤ start_of schedule.now (phase + 1)) }
+{
+    phase as usize == schedule.starts.items().len() || order_excess(schedule, phase) <= 0
+}
+
+/// Whether a phase is as wide as its elements ask.
+fn is_wide(flat: &Flat, schedule: &Schedule, phase: u32) -> bool
+    requires in_range { IsInRange schedule.now }
+    requires phase { IsPhase (length schedule.now.starts) phase }
+    ensures { IsTrue result ↔ ((least_width (alone flat.now) phase *ℤ schedule.now.den) ≤ℤ width_of schedule.now phase) }
+{
+    width_excess(flat, schedule, phase) <= 0
+}
+
 /// Whether a phase is in range, starts no later than the next one, and is as wide as its elements ask.
 fn keeps_own(flat: &Flat, schedule: &Schedule, phase: u32) -> bool
     requires in_range { IsInRange schedule.now }
@@ -99,14 +135,10 @@ fn keeps_own(flat: &Flat, schedule: &Schedule, phase: u32) -> bool
     requires phase { IsPhase (length schedule.now.starts) phase }
     ensures { IsTrue result ↔ KeepsOwn (alone flat.now) schedule.now phase }
 {
-    if cycle_excess(schedule, phase) > 0 || span_excess(schedule, phase) > 0 {
-        return false;
-    }
-    let last = phase as usize == schedule.starts.items().len();
-    if !last && order_excess(schedule, phase) > 0 {
-        return false;
-    }
-    width_excess(flat, schedule, phase) <= 0
+    starts_in_cycle(schedule, phase)
+        && fits_cycle(schedule, phase)
+        && starts_in_order(schedule, phase)
+        && is_wide(flat, schedule, phase)
 }
 
 /// Whether a schedule keeps what the clock asks at a phase.
