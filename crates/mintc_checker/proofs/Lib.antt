@@ -8,5 +8,6 @@ pub mod Pairing
 pub mod Scaled
 pub mod Fed
 pub mod Bounds
+pub mod Leading
 pub mod Exact
 pub mod Deciding

@@ -1,5 +1,5 @@
 //! The links that members stand for.
-ghost use Rattle.std.specs.Prelude.{◌≡◌, ◌<◌, ◌≤◌, ◌^◌, length, slice_index_or, All, IsTrue, IsFalse, ◌↔◌};
+ghost use Rattle.std.specs.Prelude.{◌≡◌, ◌<◌, ◌≤◌, ◌+ℤ◌, ◌^◌, length, slice_index_or, All, IsTrue, IsFalse, ◌↔◌};
 ghost use Rattle.std.specs.Bool.{OnTrue};
 ghost use Rattle.mintc_timing.specs.declared.parts.TimingArc.{TimingArc as Arc};
 ghost use Rattle.mintc_timing.specs.Clocking.{feeds_of};
@@ -7,7 +7,7 @@ ghost use Rattle.mintc_timing.specs.Design.{phase_count};
 ghost use Rattle.mintc_timing.specs.Limits.{IsDelay, IsPhase, IsPoint, IsSpan};
 ghost use Rattle.mintc_timing.specs.Links.{element_node, output_node, point_node, start_node, link as link_by, apart_link as apart_link_of, bound_link as bound_link_of, open_link, opened_link, reach_link, setup_link as setup_link_of};
 ghost use Rattle.mintc_timing.specs.Order.{ArePathsShort};
-ghost use Rattle.mintc_timing.specs.Paths.{IsPath, Leads, greatest_delay, input_of};
+ghost use Rattle.mintc_timing.specs.Paths.{IsPath, Leads, arc_at, greatest_delay, input_of};
 ghost use Rattle.mintc_certificate.specs.CertificateText.{IsCounted};
 ghost use Rattle.mintc_certificate.specs.Valid.{IsMember, no_bound, link_of as link_of_member};
 ghost use Rattle.mintc_checker.specs.Judged.{Decides, IsFed, IsNamed, alone};
@@ -18,13 +18,20 @@ use crate::reading::element;
 use mintc_certificate::Member;
 use mintc_timing::{Flat, Link, LinkKind, Point, TimingArc, crosses};
 
+/// Whether an arc exists and leaves a bit.
+fn leaves(arcs: &[TimingArc], number: u32, bit: u32) -> bool
+    ensures { IsTrue result ↔ ((number < length arcs.now) × ((arc_at arcs.now number).from ≡ bit)) }
+{
+    (number as usize) < arcs.len() && arcs[number as usize].from == bit
+}
+
 /// Whether the arcs of a path lead from one bit to another.
 fn leads(arcs: &[TimingArc], from: u32, path: &[u32], to: u32) -> bool
     ensures { IsTrue result ↔ Leads arcs.now from path.now to }
 {
     let mut at = from;
     for number in path {
-        if *number as usize >= arcs.len() || arcs[*number as usize].from != at {
+        if !leaves(arcs, *number, at) {
             return false;
         }
         at = arcs[*number as usize].to;
@@ -73,6 +80,7 @@ fn is_apart(flat: &Flat, fed: &[bool], i: u32, j: u32) -> bool
     ensures phases { OnTrue result (IsPhase (length flat.now.phases) i × IsPhase (length flat.now.phases) j) }
     ensures fed { Decides flat.now result (λ t. IsPhase (phase_count t) i × IsPhase (phase_count t) j × IsTrue (feeds_of t i j)) }
 {
+    let _phases = flat.phases();
     is_phase(flat, i) && is_phase(flat, j) && fed[8 * (i as usize - 1) + (j as usize - 1)]
 }
 
@@ -80,6 +88,7 @@ fn is_apart(flat: &Flat, fed: &[bool], i: u32, j: u32) -> bool
 fn is_reach(flat: &Flat, from: u32, to: u32, path: &[u32]) -> bool
     ensures { IsTrue result ↔ ((from < length flat.now.elements) × (to < length flat.now.elements) × IsPath flat.now.arcs from path.now (input_of to)) }
 {
+    let _elements = flat.elements();
     is_element(flat, from)
         && is_element(flat, to)
         && !path.is_empty()
@@ -151,6 +160,20 @@ fn link(kind: LinkKind, from: u32, to: u32, delay: i64, cycles: u32) -> Link
     }
 }
 
+/// How long after its phase's start an element opens; at a flop, its setup before the start.
+fn opening_delay(flat: &Flat, number: u32) -> i64
+    requires { number < length flat.now.elements }
+    ensures value { result ≡ (open_link (alone flat.now) number).delay }
+    ensures range { IsSpan result }
+{
+    let element = element(flat, number as usize);
+    if element.flop {
+        -element.setup
+    } else {
+        element.cq_max - element.dq_max
+    }
+}
+
 /// The link of an element's opening.
 fn opening_link(flat: &Flat, number: u32) -> Link
     requires { number < length flat.now.elements }
@@ -159,16 +182,11 @@ fn opening_link(flat: &Flat, number: u32) -> Link
 {
     let _elements = flat.elements();
     let element = element(flat, number as usize);
-    let delay = if element.flop {
-        -element.setup
-    } else {
-        element.cq_max - element.dq_max
-    };
     link(
         LinkKind::Opening { element: number },
         start_at(element.phase),
         node_at(flat, number),
-        delay,
+        opening_delay(flat, number),
         0,
     )
 }
@@ -226,6 +244,19 @@ fn output_at(flat: &Flat, number: u32) -> u32
     }
 }
 
+/// An element's delay and that of a path from it.
+fn reach_delay(flat: &Flat, from: u32, to: u32, path: &[u32]) -> i64
+    requires short { ArePathsShort flat.now }
+    requires few { length path.now < 10 ^ 9 }
+    requires from { from < length flat.now.elements }
+    requires path { IsPath flat.now.arcs from path.now (input_of to) }
+    ensures value { result ≡ (element_of flat.now from).dq_max +ℤ greatest_delay flat.now.arcs path.now }
+    ensures range { IsSpan result }
+{
+    let _elements = flat.elements();
+    element(flat, from as usize).dq_max + path_delay(flat.arcs(), path)
+}
+
 /// The link of a reach, with the delay of its own path.
 fn path_link(flat: &Flat, from: u32, to: u32, path: &[u32]) -> Link
     requires short { ArePathsShort flat.now }
@@ -239,12 +270,11 @@ fn path_link(flat: &Flat, from: u32, to: u32, path: &[u32]) -> Link
 {
     let _elements = flat.elements();
     let first = element(flat, from as usize);
-    let delay = first.dq_max + path_delay(flat.arcs(), path);
     link(
         LinkKind::Reach { from, to },
         output_at(flat, from),
         node_at(flat, to),
-        delay,
+        reach_delay(flat, from, to, path),
         crosses(first.phase, element(flat, to as usize).phase),
     )
 }
