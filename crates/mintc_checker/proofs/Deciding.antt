@@ -1,5 +1,6 @@
 -- Answers of tests.
-use Rattle.std.proofs.Common.{◌≡◌, Bool, true, false, IsTrue, ◌↔◌, refl, sym, ◌∙◌}
+use Rattle.std.proofs.Common.{◌≡◌, Bool, true, false, IsTrue, ◌↔◌, refl, sym, ◌∙◌, ℕ, ◌==◌, arith}
+use Rattle.std.proofs.lemmas.Bool.Decides.{nat_tests}
 
 true_or_false : (b : Bool) → b ≡ false → b ≡ true → ⊥
 true_or_false b h g = cc
@@ -21,3 +22,7 @@ fails none = ((λ h. absurd (not_true h)), (λ q. absurd (none q)))
 -- one test decides two claims that say the same
 pub alike : {P Q : Type 0} (b : Bool) → IsTrue b ↔ P → (P → Q) → (Q → P) → IsTrue b ↔ Q
 alike b decides there back = ((λ h. there (decides.0 h)), (λ q. decides.1 (back q)))
+
+-- the code's test of two numbers
+pub same_test : (a b : ℕ) → IsTrue (a == b) ↔ (a ≡ b)
+same_test a b = ((λ h. grind (arith, nat_tests)), (λ h. grind (arith, nat_tests)))

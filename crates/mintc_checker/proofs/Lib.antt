@@ -9,5 +9,6 @@ pub mod Scaled
 pub mod Fed
 pub mod Bounds
 pub mod Leading
+pub mod Rings
 pub mod Exact
 pub mod Deciding

@@ -1,6 +1,8 @@
 -- What the tests speak of: the design with all its pairs.
 use Rattle.std.specs.Prelude.{◌≡◌, ◌+◌, ◌-◌, ◌*◌, ◌<◌, ℕ, ℤ, pos, negsuc, ◌≤ℤ◌, IfSome, Bool, false, List, [], length, slice_index_or, IsTrue, IsFalse, IsSome, ◌↔◌, ◌*ℤ◌}
 use Rattle.mintc_timing.specs.declared.parts.Pair.{Pair}
+use Rattle.mintc_timing.specs.declared.link.LinkKind.TheVariants.{Other}
+use Rattle.mintc_timing.specs.declared.link.Link.{Link}
 use Rattle.mintc_timing.specs.Clocking.{feeds_of, least_width, start_of, width_of}
 use Rattle.mintc_timing.specs.Design.{Design, Timing, phase_count}
 use Rattle.mintc_timing.specs.Limits.{IsPhase}
@@ -39,6 +41,10 @@ pub record IsFed (design : Design) (fed : List Bool) : Type 0 where
 abbrev pub IsNamed : Design → Member → Type 0
 IsNamed design (member.Apart i j) = IsPhase (length design.phases) i × IsPhase (length design.phases) j
 IsNamed design m = IsMember (alone design) m
+
+-- a link of zeros, which stands for one past the end of a list
+abbrev pub no_link : Link
+no_link = record { kind = Other 0; from = 0; to = 0; delay = pos 0; cycles = 0 }
 
 -- Each label is a time.
 abbrev pub IsLate : ℤ → Type 0

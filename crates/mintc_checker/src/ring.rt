@@ -1,18 +1,19 @@
 //! The tests of a chain: its members, that it leads round, and its sums.
-ghost use Rattle.std.specs.Prelude.{◌≡◌, ◌≤◌, pos, ◌*ℤ◌, ◌<ℤ◌, ◌≤ℤ◌, length, All, IsTrue, ◌↔◌, negsuc};
+ghost use Rattle.std.specs.Prelude.{◌≡◌, ◌<◌, ◌≤◌, pos, negsuc, ◌≤ℤ◌, length, slice_index_or, All, IsTrue, ◌↔◌};
 ghost use Rattle.std.specs.Bool.{OnTrue};
 ghost use Rattle.mintc_timing.specs.declared.link.Link.{Link as LinkValue};
 ghost use Rattle.mintc_timing.specs.Closed.{IsClosed};
-ghost use Rattle.mintc_timing.specs.Limits.{IsDenominator, IsNumerator};
+ghost use Rattle.mintc_timing.specs.Limits.{IsDenominator, IsNumerator, IsSpan};
 ghost use Rattle.mintc_timing.specs.Links.{cycles_of, delay_of};
 ghost use Rattle.mintc_timing.specs.Order.{ArePathsShort};
+ghost use Rattle.mintc_certificate.specs.CertificateText.{IsCounted};
 ghost use Rattle.mintc_certificate.specs.Ranges.{IsChainInRange};
 ghost use Rattle.mintc_certificate.specs.Valid.{IsMember, IsRing, IsStuck, IsTight, links_of_members};
-ghost use Rattle.mintc_checker.specs.Judged.{Decides, IsFed, IsNamed, alone};
+ghost use Rattle.mintc_checker.specs.Judged.{Decides, IsFed, IsNamed, alone, no_link};
 
 use crate::links::{is_member, link_of};
 use mintc_certificate::Member;
-use mintc_timing::{Flat, Schedule};
+use mintc_timing::{Flat, Link, Schedule};
 
 /// Whether all members are the design's.
 fn are_members(flat: &Flat, fed: &[bool], members: &[Member]) -> bool
@@ -28,6 +29,19 @@ fn are_members(flat: &Flat, fed: &[bool], members: &[Member]) -> bool
     true
 }
 
+/// The link of the member at a place.
+fn link_at(flat: &Flat, members: &[Member], place: usize) -> Link
+    requires short { ArePathsShort flat.now }
+    requires named { All (IsNamed flat.now) members.now }
+    requires counted { All IsCounted members.now }
+    requires place { place < length members.now }
+    ensures value { result ≡ slice_index_or (links_of_members (alone flat.now) members.now) place no_link }
+    ensures range { IsSpan result.delay }
+    ensures cycles { result.cycles ≤ 1 }
+{
+    link_of(flat, &members[place])
+}
+
 /// Whether the links of the members lead round in a ring.
 fn lead_round(flat: &Flat, members: &[Member]) -> bool
     requires short { ArePathsShort flat.now }
@@ -35,10 +49,10 @@ fn lead_round(flat: &Flat, members: &[Member]) -> bool
     requires chain { IsChainInRange members.now }
     ensures { IsTrue result ↔ IsClosed (λ (k : LinkValue). k.from) (λ (k : LinkValue). k.to) (links_of_members (alone flat.now) members.now) }
 {
-    let first = link_of(flat, &members[0]);
+    let first = link_at(flat, members, 0);
     let mut at = first.to;
     for place in 1..members.len() {
-        let next = link_of(flat, &members[place]);
+        let next = link_at(flat, members, place);
         if next.from != at {
             return false;
         }
@@ -78,7 +92,7 @@ fn sums_of(flat: &Flat, members: &[Member]) -> ChainSums
     let mut delay = 0;
     let mut cycles = 0;
     for place in 0..members.len() {
-        let link = link_of(flat, &members[place]);
+        let link = link_at(flat, members, place);
         delay += link.delay;
         cycles += i64::from(link.cycles);
     }

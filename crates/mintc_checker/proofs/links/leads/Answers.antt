@@ -1,7 +1,6 @@
-use Rattle.std.proofs.Common.{◌≡◌, ◌<◌, ◌≤◌, ℕ, length, get_or, drop, arith, IsTrue, ◌↔◌, ◌==◌}
-use Rattle.std.proofs.lemmas.Bool.Decides.{nat_tests}
+use Rattle.std.proofs.Common.{◌≡◌, ◌<◌, ◌≤◌, ℕ, length, get_or, drop, arith}
 use Rattle.mintc_timing.specs.Paths.{Leads, arc_at}
-use Rattle.mintc_checker.proofs.Deciding.{denied, alike}
+use Rattle.mintc_checker.proofs.Deciding.{denied, alike, same_test}
 use Rattle.mintc_checker.proofs.Leading.{Leads-rest, Leads-end}
 use Rattle.mintc_checker.proofs.links.leads.Goals as goal
 
@@ -15,9 +14,6 @@ loop-number-preserved c =
     let law = Leads-rest c.args.arcs.now c.loop-number.at c.args.to c.args.path.now c.loop-number.number-index c.loop-number-test.true in
     let here = c.leaves.ensures.0 c.if-not-leaves.false in
     ((λ h. (law.0 (c.loop-number.invariant.0 h)).2), (λ h. c.loop-number.invariant.1 (law.1 (here.0, here.1, h))))
-
-same_test : (a b : ℕ) → IsTrue (a == b) ↔ (a ≡ b)
-same_test a b = ((λ h. grind (arith, nat_tests)), (λ h. grind (arith, nat_tests)))
 
 pub returns : goal.returns
 returns c =
