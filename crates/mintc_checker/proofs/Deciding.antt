@@ -26,3 +26,7 @@ alike b decides there back = ((λ h. there (decides.0 h)), (λ q. decides.1 (bac
 -- the code's test of two numbers
 pub same_test : (a b : ℕ) → IsTrue (a == b) ↔ (a ≡ b)
 same_test a b = ((λ h. grind (arith, nat_tests)), (λ h. grind (arith, nat_tests)))
+
+-- what a test denies
+pub refused : {P : Type 0} (b : Bool) → b ≡ false → IsTrue b ↔ P → P → ⊥
+refused b off decides p = true_or_false b off (decides.1 p)

@@ -5,10 +5,11 @@ pub mod Beginning
 pub mod Sizes
 pub mod Arriving
 pub mod Pairing
+pub mod Deciding
 pub mod Scaled
 pub mod Fed
 pub mod Bounds
 pub mod Leading
 pub mod Rings
 pub mod Exact
-pub mod Deciding
+pub mod Firsts
