@@ -30,3 +30,7 @@ same_test a b = ((λ h. grind (arith, nat_tests)), (λ h. grind (arith, nat_test
 -- what a test denies
 pub refused : {P : Type 0} (b : Bool) → b ≡ false → IsTrue b ↔ P → P → ⊥
 refused b off decides p = true_or_false b off (decides.1 p)
+
+-- a test that fails decides each claim that asks for its own
+pub denied_as : {P Q : Type 0} (b : Bool) → b ≡ false → IsTrue b ↔ P → (Q → P) → IsTrue b ↔ Q
+denied_as b off decides asks = ((λ h. absurd (true_or_false b off h)), (λ q. decides.1 (asks q)))
