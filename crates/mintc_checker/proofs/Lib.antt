@@ -13,3 +13,4 @@ pub mod Leading
 pub mod Rings
 pub mod Exact
 pub mod Firsts
+pub mod Answering

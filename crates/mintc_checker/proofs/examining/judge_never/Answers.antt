@@ -1,11 +1,13 @@
-use Rattle.std.proofs.Common.{◌≡◌}
+use Rattle.std.proofs.Common.{pos, [], sym, subst}
+use Rattle.mintc_checker.specs.Labels.{AreLabels}
 use Rattle.mintc_checker.specs.Judged.{timing_of}
 use Rattle.mintc_checker.proofs.Firsts.{never-ring, never-sums, valid-never}
 use Rattle.mintc_checker.proofs.Deciding.{refused}
 use Rattle.mintc_checker.proofs.examining.judge_never.Goals as goal
 
 pub are_ring-requires-clause-fed : goal.are_ring-requires-clause-fed
-are_ring-requires-clause-fed c = ?
+are_ring-requires-clause-fed c =
+    c.feeds_table-fed.ensures [] (pos 1) (subst (λ ls. AreLabels c.args.flat.now (pos 1) [] ls) (sym c.deref.ensures.value) c.in_ok-labels.ensures.labels)
 
 pub returns-then-not-are_ring : goal.returns-then-not-are_ring
 returns-then-not-are_ring c = λ along pairs are_pairs.
