@@ -1,5 +1,5 @@
 -- The last arrival at an element, phase by phase.
-use Rattle.std.proofs.Common.{◌≡◌, ◌≢◌, ℕ, ◌<◌, ◌≤◌, ◌+◌, ℤ, ◌+ℤ◌, List, length, arith, refl, ap, ◌∙◌, sym, ◌⊎◌, inl, inr, ⊎_elim, Option, Some, None}
+use Rattle.std.proofs.Common.{◌≡◌, ℕ, ◌+◌, ℤ, ◌+ℤ◌, List, length, arith, refl, ap, ◌∙◌, sym, inl, inr, ⊎_elim, Option, None}
 use Rattle.std.specs.Int.{int_max}
 use Rattle.std.proofs.lemmas.Bool.{cases_eq}
 use Rattle.mintc_timing.specs.declared.clocking.Schedule.{Schedule}
@@ -8,7 +8,7 @@ use Rattle.mintc_timing.specs.Design.{Design, no_element}
 use Rattle.mintc_timing.specs.Limits.{IsDesign}
 use Rattle.mintc_timing.specs.Paths.{input_of}
 use Rattle.mintc_lanes.specs.Lanes.{joined}
-use Rattle.mintc_checker.specs.Trails.{IsGreatestTime, LeadsTo, LeadsFrom, LeadsFromUpTo, element_of, time_along, arrival_along, IsLabel, IsLastArrival, IsLastUpTo}
+use Rattle.mintc_checker.specs.Trails.{LeadsTo, LeadsFrom, LeadsFromUpTo, element_of, time_along, arrival_along, IsLabel, IsLastArrival, IsLastUpTo}
 use Rattle.mintc_checker.proofs.Greatest.{greatest_of_none, greatest_alike, greatest_joined}
 
 module _ (design : Design) (limits : IsDesign design) (s : Schedule) (d : List ℤ) (l q : ℕ) where

@@ -1,5 +1,5 @@
 -- Labels along no arcs.
-use Rattle.std.proofs.Common.{◌≡◌, ◌≢◌, ℕ, ◌<◌, ◌≤◌, ◌+◌, ◌*◌, ℤ, pos, ◌+ℤ◌, ◌*ℤ◌, List, [], ◌∷◌, length, arith, refl, ap, ◌∙◌, sym, ◌⊎◌, inl, inr, ⊎_elim, Option, Some, None, subst}
+use Rattle.std.proofs.Common.{◌≡◌, ◌≢◌, ℕ, ◌<◌, ◌+◌, ◌*◌, ℤ, pos, ◌+ℤ◌, ◌*ℤ◌, List, [], length, arith, refl, ap, ◌∙◌, sym, ◌⊎◌, inl, inr, ⊎_elim, Option, Some, None, subst}
 use Rattle.std.proofs.lemmas.Int.{ints}
 use Rattle.std.proofs.lemmas.List.{get_or-replicate}
 use Rattle.std.proofs.lemmas.Bool.{cases_eq}

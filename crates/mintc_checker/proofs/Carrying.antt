@@ -1,22 +1,18 @@
 -- Labels along one more arc.
-use Rattle.std.proofs.Common.{◌≡◌, ◌≢◌, ℕ, ◌<◌, ◌≤◌, ◌+◌, ◌*◌, ℤ, pos, ◌+ℤ◌, ◌*ℤ◌, ◌≤ℤ◌, List, [], ◌∷◌, ◌++◌, length, get_or, arith, refl, ap, ◌∙◌, sym, ◌⊎◌, inl, inr, ⊎_elim, Option, Some, None, subst}
-use Rattle.std.specs.Prelude.{IfSome, unsigned_abs}
+use Rattle.std.proofs.Common.{◌≡◌, ◌≢◌, ℕ, ◌<◌, ◌+◌, ℤ, ◌+ℤ◌, ◌*ℤ◌, List, [], ◌∷◌, ◌++◌, length, get_or, arith, refl, ap, ◌∙◌, sym, ◌⊎◌, inl, inr, ⊎_elim, Option, subst}
 use Rattle.std.specs.Int.{int_max}
 use Rattle.std.specs.List.{All}
 use Rattle.std.proofs.lemmas.Int.{ints}
 use Rattle.std.proofs.lemmas.Bool.{cases_eq}
 use Rattle.mintc_timing.specs.declared.parts.TimingArc.{TimingArc}
-use Rattle.mintc_timing.specs.Closed.{total}
-use Rattle.mintc_timing.specs.Departures.{departure}
-use Rattle.mintc_timing.specs.Design.{Design, no_arc, no_element}
-use Rattle.mintc_timing.specs.Limits.{IsArc, IsDelay, IsDesign, IsDenominator}
-use Rattle.mintc_timing.specs.Order.{IsOrder, ArePathsShort}
+use Rattle.mintc_timing.specs.Design.{Design, no_arc}
+use Rattle.mintc_timing.specs.Limits.{IsArc}
+use Rattle.mintc_timing.specs.Order.{IsOrder}
 use Rattle.mintc_timing.specs.Paths.{Leads, arc_at, output_of, greatest_delay}
 use Rattle.mintc_timing.proofs.Products.{add-times}
-use Rattle.mintc_certificate.specs.Ranges.{IsDeparture}
-use Rattle.mintc_lanes.specs.Lanes.{lane_at, joined, AreJoined, AreWithin, AreLanes}
+use Rattle.mintc_lanes.specs.Lanes.{lane_at, joined, AreJoined}
 use Rattle.mintc_checker.specs.declared.labels.Labels.{Labels}
-use Rattle.mintc_checker.specs.Trails.{IsGreatestTime, LeadsTo, LeadsFrom, element_of, time_along, IsLabel}
+use Rattle.mintc_checker.specs.Trails.{IsGreatestTime, LeadsFrom, element_of, time_along}
 use Rattle.mintc_checker.specs.Labels.{labels_at, label_at, AreLabels, AreLabelsOf, IsStart, IsAlong, IsAmong, AreAmong}
 use Rattle.mintc_checker.proofs.Ordered.{total-push, Leads-push, AreAmong-push, AreAmong-more, split, inside, all_among, none_among}
 use Rattle.mintc_checker.proofs.Greatest.{greatest_alike, greatest_joined}

@@ -1,5 +1,5 @@
 -- Answers of tests.
-use Rattle.std.proofs.Common.{◌≡◌, Bool, true, false, IsTrue, ◌↔◌, refl, sym, ◌∙◌, ℕ, ◌==◌, arith}
+use Rattle.std.proofs.Common.{◌≡◌, Bool, true, false, IsTrue, ◌↔◌, refl, ℕ, ◌==◌, arith}
 use Rattle.std.proofs.lemmas.Bool.Decides.{nat_tests}
 
 true_or_false : (b : Bool) → b ≡ false → b ≡ true → ⊥

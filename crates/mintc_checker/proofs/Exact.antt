@@ -1,14 +1,9 @@
 -- What the last arrivals make of departures and setups.
-use Rattle.std.proofs.Common.{◌≡◌, ℕ, ◌<◌, ℤ, pos, ◌+ℤ◌, ◌*ℤ◌, ◌≤ℤ◌, ◌↔◌, Bool, true, false, cond, IsTrue, List, length, arith, refl, ap, ◌∙◌, sym, Option, Some, None, subst}
-use Rattle.std.specs.Prelude.{IfSome}
-use Rattle.std.specs.Int.{int_max}
-use Rattle.mintc_timing.specs.declared.parts.Pair.{Pair}
+use Rattle.std.proofs.Common.{◌≡◌, ℕ, ◌<◌, ℤ, pos, ◌+ℤ◌, ◌*ℤ◌, ◌≤ℤ◌, ◌↔◌, true, false, cond, List, length, ap, ◌∙◌, sym, Option, Some, None}
 use Rattle.mintc_timing.specs.declared.clocking.Schedule.{Schedule}
-use Rattle.mintc_timing.specs.Clocking.{width_of}
-use Rattle.mintc_timing.specs.Departures.{departure, late_arrivals, late_departure, late_opening}
-use Rattle.mintc_timing.specs.Design.{Design, Timing, element_at, phase_of}
+use Rattle.mintc_timing.specs.Departures.{late_arrivals, late_departure, late_opening}
+use Rattle.mintc_timing.specs.Design.{Design}
 use Rattle.mintc_timing.specs.Extremes.{greater_of, greatest_of}
-use Rattle.mintc_timing.specs.Paths.{ArePairs}
 use Rattle.mintc_timing.specs.Right.{KeepsSetup}
 use Rattle.mintc_timing.proofs.SetupLaws.{KeepsSetup-flop}
 use Rattle.mintc_checker.specs.Judged.{OfTiming, alone, timing_of}

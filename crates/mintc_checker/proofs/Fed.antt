@@ -1,18 +1,17 @@
 -- Which phase feeds which, by the labels.
-use Rattle.std.proofs.Common.{◌≡◌, ℕ, ◌<◌, ◌≤◌, ◌+◌, ◌-◌, ◌*◌, ◌/◌, ◌%◌, ℤ, ◌≤ℤ◌, ◌==◌, Bool, true, false, not, ◌&&◌, IsTrue, IsFalse, ◌↔◌, List, length, get_or, arith, refl, ap, ◌∙◌, sym, Option, Some, None, subst}
+use Rattle.std.proofs.Common.{◌≡◌, ℕ, ◌<◌, ◌+◌, ◌-◌, ◌*◌, ◌/◌, ◌%◌, ℤ, ◌==◌, Bool, true, false, not, ◌&&◌, IsTrue, ◌↔◌, List, length, get_or, arith, refl, ap, ◌∙◌, sym, Option, Some, None, subst}
 use Rattle.std.specs.Prelude.{IfSome, IsSomeAnd, IsSome}
-use Rattle.std.specs.List.{Any, Contains}
 use Rattle.std.proofs.lemmas.Bool.Decides.{nat_tests}
 use Rattle.std.proofs.lemmas.List.Folds.{Any-from_list_any, list_any-from_Any}
 use Rattle.mintc_timing.specs.declared.parts.Pair.{Pair}
 use Rattle.mintc_timing.specs.Clocking.{feeds_of, is_pair_between}
 use Rattle.mintc_timing.specs.Design.{Design, Timing}
-use Rattle.mintc_timing.specs.Limits.{IsPhase, IsDesign}
+use Rattle.mintc_timing.specs.Limits.{IsPhase}
 use Rattle.mintc_timing.specs.Paths.{ArePairs, HasExtremes, input_of}
 use Rattle.mintc_checker.specs.declared.labels.Labels.{Labels}
-use Rattle.mintc_checker.specs.Trails.{LeadsTo, LeadsFrom, element_of, time_along, IsLabel}
+use Rattle.mintc_checker.specs.Trails.{LeadsFrom, element_of, IsLabel}
 use Rattle.mintc_checker.specs.Labels.{AreLabels, label_at}
-use Rattle.mintc_checker.specs.Judged.{IsFedAt, IsFed, OfTiming, timing_of}
+use Rattle.mintc_checker.specs.Judged.{IsFedAt, IsFed, timing_of}
 use Rattle.mintc_checker.proofs.Pairing.{pair_of_trail, trail_of_pair}
 
 -- Some latch on phase j is reached from phase i.

@@ -1,13 +1,13 @@
 -- The first test that fails.
-use Rattle.std.proofs.Common.{◌≡◌, ◌<◌, ◌≤◌, ℕ, ℤ, List, arith, lit<, refl, ap, ◌∙◌, sym, Option, Some, None, subst}
+use Rattle.std.proofs.Common.{◌<◌, ◌≤◌, ℕ, ℤ, List, arith, lit<, refl, Some, None}
 use Rattle.mintc_timing.specs.declared.clocking.Schedule.{Schedule}
 use Rattle.mintc_timing.specs.Design.{Timing}
 use Rattle.mintc_certificate.specs.declared.members.Member.{Member}
 use Rattle.mintc_certificate.specs.declared.certificate.Certificate.{Certificate}
 use Rattle.mintc_certificate.specs.declared.certificate.Certificate.TheVariants.{Least, Never}
-use Rattle.mintc_certificate.specs.Valid.{Test, number_of, Passes, IsValid, SchedulePasses, counts, clock, bounds, departures, setups, ring, sums}
+use Rattle.mintc_certificate.specs.Valid.{Test, number_of, Passes, SchedulePasses, counts, clock, bounds, departures, setups, ring, sums}
 use Rattle.mintc_checker.specs.declared.verdict.Verdict.TheVariants.{Valid, Invalid}
-use Rattle.mintc_checker.specs.Verdicts.{FailsFirst, IsVerdict, IsFirstOfSchedule}
+use Rattle.mintc_checker.specs.Verdicts.{IsVerdict, IsFirstOfSchedule}
 
 module _ (t : Timing) (s : Schedule) (d : List ℤ) where
   pub fails-clock : (SchedulePasses t s d clock → ⊥) → IsFirstOfSchedule t s d (Some 2)
@@ -118,11 +118,14 @@ module _ (t : Timing) (s : Schedule) (d : List ℤ) where
         let test : Test = first.0 in
         let is = first.1 in
         let low = first.3 in
-        let before : (other : Test) → number_of other < n → Passes t certificate other = with_counts h n (omega arith) first.5 in
-        (test, is, record {
-          fails = λ p. first.4 (back_tests test (omega arith) p);
-          before = λ other less. before other (omega arith);
-        })
+        let before : (other : Test) → number_of other < n → Passes t certificate other = with_counts h n (omega arith) first.5 in (
+          test,
+          is,
+          record {
+            fails = λ p. first.4 (back_tests test (omega arith) p);
+            before = λ other less. before other (omega arith);
+          },
+        )
 
     all_before : SchedulePasses t s d counts → IsFirstOfSchedule t s d None → (other : Test) → number_of other < 6 → Passes t certificate other
     all_before h first = with_counts h 6 (omega arith) first

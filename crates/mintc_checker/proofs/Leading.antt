@@ -1,11 +1,10 @@
 -- Paths, arc by arc.
-use Rattle.std.proofs.Common.{◌≡◌, ◌<◌, ◌≤◌, ◌+◌, ◌++◌, ℕ, ℤ, ◌+ℤ◌, ◌↔◌, List, [], ◌∷◌, length, get_or, drop, take, arith, refl, ap, ◌∙◌, sym, subst, add-one}
+use Rattle.std.proofs.Common.{◌≡◌, ◌<◌, ◌≤◌, ◌+◌, ℕ, ◌+ℤ◌, ◌↔◌, List, [], ◌∷◌, length, get_or, drop, take, ap, ◌∙◌, sym, subst, add-one}
 use Rattle.std.specs.List.{All}
 use Rattle.std.proofs.Math.Seq.{drop-cons}
 use Rattle.std.proofs.lemmas.List.{take_more, drop_all, take_all}
 use Rattle.std.proofs.lemmas.List.Elements.{All-nil, All-cons}
 use Rattle.mintc_timing.specs.declared.parts.TimingArc.{TimingArc}
-use Rattle.mintc_timing.specs.Closed.{total}
 use Rattle.mintc_timing.specs.Paths.{Leads, arc_at, greatest_delay}
 use Rattle.mintc_checker.proofs.Ordered.{total-push}
 

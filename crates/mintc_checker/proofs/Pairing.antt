@@ -1,12 +1,12 @@
 -- What labels say of a design with all its pairs.
-use Rattle.std.proofs.Common.{◌≡◌, ◌≢◌, ℕ, ◌<◌, ◌+◌, ◌-◌, ◌*◌, ℤ, pos, ◌+ℤ◌, ◌*ℤ◌, ◌≤ℤ◌, ◌==◌, Bool, true, false, not, ◌&&◌, IsTrue, IsFalse, List, [], length, get_or, map, arith, refl, ap, ◌∙◌, sym, ◌⊎◌, inl, inr, ⊎_elim, Option, Some, None, subst, eq-eqb}
-use Rattle.std.specs.Prelude.{IfSome, IsSomeAnd, IsSome}
-use Rattle.std.specs.List.{All, Any, filter, Contains, list_any}
+use Rattle.std.proofs.Common.{◌≡◌, ℕ, ◌<◌, ◌+◌, ◌*◌, ℤ, pos, ◌+ℤ◌, ◌*ℤ◌, ◌≤ℤ◌, ◌==◌, Bool, true, false, List, length, arith, refl, ap, ◌∙◌, sym, Option, Some, None, subst, eq-eqb}
+use Rattle.std.specs.Prelude.{IsSomeAnd}
+use Rattle.std.specs.List.{Contains}
 use Rattle.std.proofs.lemmas.Int.{ints}
 use Rattle.std.proofs.lemmas.Bool.Decides.{nat_tests}
 use Rattle.mintc_timing.specs.declared.parts.Pair.{Pair}
 use Rattle.mintc_timing.specs.declared.clocking.Schedule.{Schedule}
-use Rattle.mintc_timing.specs.Clocking.{shift_of, feeds_of, is_pair_between}
+use Rattle.mintc_timing.specs.Clocking.{shift_of}
 use Rattle.mintc_timing.specs.Departures.{departure, late_arrival, late_arrivals}
 use Rattle.mintc_timing.specs.Design.{Design, Timing}
 use Rattle.mintc_timing.specs.Extremes.{greatest_of, IsGreatest}
@@ -14,7 +14,7 @@ use Rattle.mintc_timing.specs.Paths.{IsPath, Leads, ArePairs, HasExtremes, input
 use Rattle.mintc_timing.proofs.ExtremesLaws.{greatest_is}
 use Rattle.mintc_timing.proofs.Products.{times-mono_positive}
 use Rattle.mintc_checker.specs.Judged.{timing_of}
-use Rattle.mintc_checker.specs.Trails.{IsGreatestTime, LeadsTo, element_of, time_along, arrival_along, IsLastArrival}
+use Rattle.mintc_checker.specs.Trails.{LeadsTo, element_of, arrival_along, IsLastArrival}
 
 not_odd : (j l : ℕ) → 2 * j + 1 ≡ 2 * l → ⊥
 not_odd j l e = omega arith

@@ -1,9 +1,8 @@
 -- Chains of links, link by link.
-use Rattle.std.proofs.Common.{◌≡◌, ◌<◌, ◌≤◌, ◌+◌, ◌++◌, ℕ, suc, zero, ℤ, pos, ◌+ℤ◌, ◌↔◌, List, [], ◌∷◌, length, get_or, drop, take, map, arith, refl, ap, ◌∙◌, sym, subst, add-one}
-use Rattle.std.specs.List.{All}
+use Rattle.std.proofs.Common.{◌≡◌, ◌<◌, ◌≤◌, ◌+◌, ◌++◌, ℕ, ℤ, ◌+ℤ◌, ◌↔◌, List, [], ◌∷◌, length, get_or, drop, take, arith, ap, ◌∙◌, sym, subst, add-one}
 use Rattle.std.proofs.lemmas.Int.{ints}
 use Rattle.std.proofs.Math.Seq.{drop-cons}
-use Rattle.std.proofs.lemmas.List.{take_more, drop_all, take_all, get_or_default}
+use Rattle.std.proofs.lemmas.List.{take_more, drop_all, take_all}
 use Rattle.mintc_timing.specs.Closed.{total, Joins, IsClosed}
 
 module _ {X : Type 0} (from to : X → ℕ) where

@@ -1,5 +1,5 @@
 -- How large labels and arrivals are.
-use Rattle.std.proofs.Common.{◌≡◌, ℕ, ◌<◌, ◌≤◌, ◌+◌, ◌*◌, ◌^◌, ℤ, pos, ◌+ℤ◌, ◌*ℤ◌, ◌≤ℤ◌, List, [], ◌∷◌, length, get_or, arith, refl, ap, ◌∙◌, sym, ◌⊎◌, inl, inr, ⊎_elim, Option, Some, None, subst}
+use Rattle.std.proofs.Common.{◌≡◌, ℕ, ◌<◌, ◌≤◌, ◌+◌, ◌*◌, ◌^◌, ℤ, pos, ◌+ℤ◌, ◌*ℤ◌, ◌≤ℤ◌, List, [], ◌∷◌, length, arith, sym, ◌⊎◌, ⊎_elim, Option, Some, None, subst}
 use Rattle.std.specs.Prelude.{IfSome, unsigned_abs}
 use Rattle.std.specs.List.{All}
 use Rattle.std.proofs.lemmas.Int.{ints}
@@ -9,10 +9,10 @@ use Rattle.mintc_timing.specs.Departures.{departure}
 use Rattle.mintc_timing.specs.Design.{Design, no_arc, no_element}
 use Rattle.mintc_timing.specs.Limits.{IsDelay, IsDesign, IsDenominator}
 use Rattle.mintc_timing.specs.Order.{ArePathsShort}
-use Rattle.mintc_timing.specs.Paths.{Leads, IsPath, arc_at, output_of, greatest_delay}
+use Rattle.mintc_timing.specs.Paths.{Leads, arc_at, output_of, greatest_delay}
 use Rattle.mintc_timing.proofs.Products.{times-mono_positive}
 use Rattle.mintc_certificate.specs.Ranges.{IsDeparture}
-use Rattle.mintc_lanes.specs.Lanes.{lane_at, AreLanes}
+use Rattle.mintc_lanes.specs.Lanes.{AreLanes}
 use Rattle.mintc_checker.specs.declared.labels.Labels.{Labels}
 use Rattle.mintc_checker.specs.Trails.{IsGreatestTime, LeadsTo, LeadsFrom, element_of, time_along}
 use Rattle.mintc_checker.specs.Labels.{labels_at, label_at, AreLabels, AreLabelsOf}

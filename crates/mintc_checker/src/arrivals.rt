@@ -35,12 +35,7 @@ fn later(last: Option<i64>, label: Option<i64>, add: i64) -> Option<i64>
 }
 
 /// When the last data arrives at an element, counted from the start of its phase; None where no trail leads to it.
-fn last_arrival(
-    flat: &Flat,
-    schedule: &Schedule,
-    labels: &[Labels],
-    number: usize,
-) -> Option<i64>
+fn last_arrival(flat: &Flat, schedule: &Schedule, labels: &[Labels], number: usize) -> Option<i64>
     requires in_range { IsInRange schedule.now }
     requires phases { length schedule.now.starts ≡ length flat.now.phases }
     requires number { number < length flat.now.elements }

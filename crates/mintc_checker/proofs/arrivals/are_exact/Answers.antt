@@ -1,5 +1,5 @@
-use Rattle.std.proofs.Common.{◌≡◌, ◌<◌, ◌≤◌, ℕ, length, arith, ap}
-use Rattle.mintc_timing.specs.Departures.{AreExact, departure, late_departure}
+use Rattle.std.proofs.Common.{◌≡◌, ◌<◌, length, arith, ap}
+use Rattle.mintc_timing.specs.Departures.{departure, late_departure}
 use Rattle.mintc_checker.specs.Judged.{timing_of}
 use Rattle.mintc_checker.proofs.Deciding.{denied, holds}
 use borrow.Author.Count.{below_more}

@@ -1,11 +1,11 @@
-use Rattle.std.proofs.Common.{◌≡◌, ℤ, pos, ◌+ℤ◌, ◌*ℤ◌, arith, ap, ◌∙◌, refl, sym, Option, Some, None, subst, to_z, of_z, w64}
+use Rattle.std.proofs.Common.{◌≡◌, ℤ, pos, ◌+ℤ◌, ◌*ℤ◌, arith, ap, ◌∙◌, refl, sym, Option, subst, to_z, of_z, w64}
 use Rattle.std.specs.Prelude.{IfSome}
 use Rattle.std.specs.Int.{int_max}
 use Rattle.std.proofs.lemmas.Int.{ints, clamps}
 use Rattle.mintc_timing.specs.declared.parts.Element.{Element}
 use Rattle.mintc_timing.specs.Clocking.{width_of}
 use Rattle.mintc_timing.specs.Departures.{departure}
-use Rattle.mintc_timing.specs.Limits.{IsModest, IsNumerator}
+use Rattle.mintc_timing.specs.Limits.{IsModest}
 use Rattle.mintc_timing.proofs.Fitting.{read_time, test_is, IsTime-IsGap, IsTime-IsDenominator, IsTime-IsNumerator}
 use Rattle.mintc_timing.proofs.SetupLaws.{KeepsSetup-latch}
 use Rattle.mintc_certificate.specs.Ranges.{IsDeparture}

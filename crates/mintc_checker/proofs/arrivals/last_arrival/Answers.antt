@@ -1,12 +1,11 @@
-use Rattle.std.proofs.Common.{◌≡◌, ◌<◌, ◌≤◌, ◌+◌, ◌*◌, ℕ, ℤ, List, length, arith, ap, ◌∙◌, sym, subst, Option, to_z, of_z, w64}
+use Rattle.std.proofs.Common.{◌≡◌, ◌<◌, ◌+◌, ℕ, length, arith, ap, ◌∙◌, sym, subst, to_z, of_z, w64}
 use Rattle.std.specs.Int.{int_max}
 use Rattle.mintc_timing.specs.declared.parts.Element.{Element}
-use Rattle.mintc_timing.specs.Clocking.{shift_of}
 use Rattle.mintc_timing.specs.Paths.{input_of}
 use Rattle.mintc_timing.proofs.Fitting.{read_time, IsTime-IsModest}
 use Rattle.mintc_lanes.specs.Lanes.{joined}
-use Rattle.mintc_checker.specs.Labels.{AreLabels, label_at}
-use Rattle.mintc_checker.specs.Trails.{IsLastUpTo, element_of}
+use Rattle.mintc_checker.specs.Labels.{label_at}
+use Rattle.mintc_checker.specs.Trails.{IsLastUpTo}
 use Rattle.mintc_checker.proofs.Arriving.{last-none, last-more, last-all}
 use Rattle.mintc_checker.proofs.arrivals.last_arrival.Goals as goal
 

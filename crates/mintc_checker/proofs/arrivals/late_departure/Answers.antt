@@ -1,9 +1,9 @@
-use Rattle.std.proofs.Common.{◌≡◌, ℤ, List, arith, ap, ◌∙◌, sym, Option, Some, None, subst, to_z, of_z, w64}
+use Rattle.std.proofs.Common.{◌≡◌, ℤ, arith, ap, ◌∙◌, sym, Option, Some, None, subst, to_z, of_z, w64}
 use Rattle.std.specs.Prelude.{IfSome}
 use Rattle.std.specs.Int.{int_max}
 use Rattle.std.proofs.lemmas.Int.{ints, clamps}
 use Rattle.mintc_timing.specs.declared.parts.Element.{Element}
-use Rattle.mintc_timing.specs.Limits.{IsModest, IsTime}
+use Rattle.mintc_timing.specs.Limits.{IsModest}
 use Rattle.mintc_timing.proofs.Fitting.{read_time, IsTime-IsModest}
 use Rattle.mintc_checker.specs.Judged.{IsArrival}
 use Rattle.mintc_checker.specs.Trails.{IsLastArrival}

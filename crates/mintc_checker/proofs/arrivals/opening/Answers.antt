@@ -1,9 +1,8 @@
-use Rattle.std.proofs.Common.{◌≡◌, ◌-ℤ◌, ◌*ℤ◌, ap, ◌∙◌, arith, SFits, w64}
-use Rattle.std.proofs.lemmas.Int.{ints, to_z-of_z}
+use Rattle.std.proofs.Common.{◌≡◌, ◌-ℤ◌, ◌*ℤ◌, ap, ◌∙◌, arith}
+use Rattle.std.proofs.lemmas.Int.{ints}
 use Rattle.mintc_timing.specs.declared.parts.Element.{Element}
 use Rattle.mintc_timing.proofs.Fitting.{read_time, IsTime-IsDelay, IsTime-IsDenominator, IsTime-IsModest}
 use Rattle.mintc_timing.specs.Limits.{IsTime}
-use Rattle.mintc_checker.specs.Trails.{element_of}
 use Rattle.mintc_checker.proofs.arrivals.opening.Goals as goal
 
 pub returns-clause-value : goal.returns-clause-value

@@ -1,4 +1,3 @@
-use Rattle.std.proofs.Common.{◌≡◌}
 use Rattle.mintc_checker.specs.Judged.{timing_of}
 use Rattle.mintc_checker.proofs.Firsts.{fails-clock, fails-bounds, fails-departures, fails-setups, fails-none}
 use Rattle.mintc_checker.proofs.Deciding.{refused}

@@ -1,5 +1,5 @@
-use Rattle.std.proofs.Common.{◌≡◌, ℕ, Option, sym, subst, to_z, of_z, w64}
-use Rattle.mintc_checker.specs.Judged.{IsFed, timing_of}
+use Rattle.std.proofs.Common.{ℕ, Option, sym, subst, to_z, of_z, w64}
+use Rattle.mintc_checker.specs.Judged.{timing_of}
 use Rattle.mintc_checker.specs.Labels.{AreLabels}
 use Rattle.mintc_checker.specs.Verdicts.{IsFirstOfSchedule}
 use Rattle.mintc_checker.proofs.Firsts.{invalid-counts, invalid-schedule, invalid-ring, invalid-sums, valid-least}

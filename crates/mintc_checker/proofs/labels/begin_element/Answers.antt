@@ -1,9 +1,8 @@
-use Rattle.std.proofs.Common.{◌≡◌, ℕ, ◌+◌, ◌-◌, arith, ap, ◌∙◌, length}
+use Rattle.std.proofs.Common.{◌≡◌, ◌+◌, ◌-◌, arith, ap, ◌∙◌, length}
 use Rattle.mintc_timing.specs.declared.parts.Element.{Element}
 use Rattle.std.proofs.lemmas.Int.{to_z-of_z}
 use Rattle.std.specs.Int.{w64}
 use Rattle.mintc_timing.proofs.Fitting.{read_time}
-use Rattle.mintc_checker.specs.Trails.{element_of}
 use Rattle.mintc_checker.proofs.Beginning.{AreStarts-more}
 use Rattle.mintc_checker.proofs.labels.begin_element.Goals as goal
 

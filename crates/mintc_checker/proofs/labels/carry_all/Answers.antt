@@ -1,4 +1,4 @@
-use Rattle.std.proofs.Common.{◌≡◌, ℕ, length, arith, subst, ap, ◌∙◌}
+use Rattle.std.proofs.Common.{◌≡◌, length, arith, subst, ap, ◌∙◌}
 use Rattle.std.proofs.lemmas.Int.{to_z-of_z}
 use Rattle.std.specs.Int.{w64}
 use Rattle.mintc_checker.specs.Labels.{AreLabelsOf, IsAlong}

@@ -1,9 +1,7 @@
-use Rattle.std.proofs.Common.{◌≡◌, ℕ, ◌<◌, ◌+◌, ◌*ℤ◌, List, length, get_or, arith, refl, ap, ◌∙◌, sym, subst}
+use Rattle.std.proofs.Common.{◌≡◌, ◌*ℤ◌, get_or, arith, refl, ◌∙◌}
 use Rattle.mintc_timing.specs.declared.parts.TimingArc.{TimingArc}
-use Rattle.mintc_timing.specs.Paths.{arc_at}
 use Rattle.mintc_timing.proofs.Fitting.{read_time, IsTime-IsDelay, IsTime-IsDenominator, IsTime-IsModest}
-use Rattle.mintc_checker.specs.declared.labels.Labels.{Labels}
-use Rattle.mintc_checker.specs.Labels.{IsAlong, labels_at}
+use Rattle.mintc_checker.specs.Labels.{IsAlong}
 use Rattle.mintc_checker.proofs.Carrying.{carried}
 use Rattle.mintc_checker.proofs.Sizes.{AreLanes-from_labels}
 use Rattle.mintc_checker.proofs.labels.carry_arc.Goals as goal

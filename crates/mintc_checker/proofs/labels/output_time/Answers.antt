@@ -1,4 +1,4 @@
-use Rattle.std.proofs.Common.{◌≡◌, ◌+ℤ◌, ◌*ℤ◌, arith, ap, ◌∙◌}
+use Rattle.std.proofs.Common.{◌≡◌, ◌*ℤ◌, arith, ap, ◌∙◌}
 use Rattle.std.proofs.lemmas.Int.{ints}
 use Rattle.mintc_timing.specs.declared.parts.Element.{Element}
 use Rattle.mintc_timing.proofs.Fitting.{read_time, IsTime-IsDelay, IsTime-IsDenominator}

@@ -1,5 +1,3 @@
-use Rattle.std.proofs.Common.{◌≡◌, ◌<◌, ◌≤◌, ℕ, length, get_or, drop, arith}
-use Rattle.mintc_timing.specs.Paths.{Leads, arc_at}
 use Rattle.mintc_checker.proofs.Deciding.{denied, alike, same_test}
 use Rattle.mintc_checker.proofs.Leading.{Leads-rest, Leads-end}
 use Rattle.mintc_checker.proofs.links.leads.Goals as goal

@@ -1,4 +1,4 @@
-use Rattle.std.proofs.Common.{◌≤◌, ◌↔◌, drop, length}
+use Rattle.std.proofs.Common.{◌↔◌, drop}
 use Rattle.mintc_timing.specs.Paths.{Leads}
 use Rattle.mintc_checker.proofs.links.leads.Given as goal
 

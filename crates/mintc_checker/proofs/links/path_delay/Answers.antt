@@ -1,8 +1,8 @@
-use Rattle.std.proofs.Common.{◌≡◌, ◌<◌, ◌≤◌, ◌+◌, ◌*◌, ℕ, ℤ, pos, ◌+ℤ◌, ◌≤ℤ◌, length, get_or, take, arith, ap, ◌∙◌, sym, SFits, w64, to_z, of_z}
+use Rattle.std.proofs.Common.{◌≡◌, ◌<◌, ◌+◌, ◌*◌, ℕ, ℤ, pos, ◌+ℤ◌, ◌≤ℤ◌, get_or, arith, ap, ◌∙◌, sym, SFits, w64, to_z, of_z}
 use Rattle.std.proofs.lemmas.Int.{ints}
 use Rattle.mintc_timing.specs.Design.{no_arc}
 use Rattle.mintc_timing.specs.Limits.{IsDelay}
-use Rattle.mintc_timing.specs.Paths.{greatest_delay, arc_at}
+use Rattle.mintc_timing.specs.Paths.{arc_at}
 use Rattle.mintc_checker.proofs.Leading.{delay-more, delay-all}
 use Rattle.mintc_checker.proofs.links.path_delay.Goals as goal
 

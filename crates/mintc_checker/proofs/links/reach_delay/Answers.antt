@@ -1,4 +1,4 @@
-use Rattle.std.proofs.Common.{◌≡◌, ◌+ℤ◌, arith, ap, ◌∙◌}
+use Rattle.std.proofs.Common.{◌≡◌, arith}
 use Rattle.std.proofs.lemmas.Int.{ints}
 use Rattle.mintc_timing.specs.Paths.{input_of, output_of, greatest_delay}
 use Rattle.mintc_timing.specs.Limits.{IsDelay}

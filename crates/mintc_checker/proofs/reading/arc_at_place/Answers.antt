@@ -1,7 +1,5 @@
-use Rattle.std.proofs.Common.{◌≡◌, ◌<◌, ℕ, List, length, get_or, subst, ◌∙◌, ap, sym}
-use Rattle.std.proofs.lemmas.List.{get_or_read}
+use Rattle.std.proofs.Common.{◌≡◌, ℕ, List, length, get_or, subst, ◌∙◌, ap, sym}
 use Rattle.mintc_timing.specs.declared.parts.TimingArc.{TimingArc}
-use Rattle.mintc_timing.specs.Design.{no_arc}
 use Rattle.mintc_timing.specs.Limits.{IsArc}
 use Rattle.mintc_timing.specs.Paths.{arc_at}
 use Rattle.mintc_checker.proofs.Ordered.{inside}

@@ -1,4 +1,4 @@
-use Rattle.std.proofs.Common.{◌<◌, ◌≤◌, length, arith, subst}
+use Rattle.std.proofs.Common.{arith, subst}
 use Rattle.mintc_certificate.specs.Valid.{IsMember}
 use Rattle.mintc_checker.specs.Judged.{IsNamed, timing_of}
 use Rattle.mintc_checker.proofs.Bounds.{item_at, places_more}

@@ -1,7 +1,6 @@
-use Rattle.std.proofs.Common.{◌≡◌, ℤ, pos, ◌*ℤ◌, ◌≤ℤ◌, arith, refl, ap, ◌∙◌, sym, subst, to_z, of_z, w64}
+use Rattle.std.proofs.Common.{ℤ, pos, ◌*ℤ◌, ◌≤ℤ◌, arith, refl, ap, ◌∙◌, sym, subst}
 use Rattle.std.proofs.lemmas.Int.{ints}
 use Rattle.mintc_timing.specs.Limits.{IsTime}
-use Rattle.mintc_timing.specs.Links.{cycles_of, delay_of}
 use Rattle.mintc_timing.proofs.Fitting.{read_time, test_is, IsTime-IsDenominator, IsTime-IsNumerator}
 use Rattle.mintc_certificate.specs.Valid.{links_of_members}
 use Rattle.mintc_checker.specs.Judged.{alone}

@@ -1,4 +1,4 @@
-use Rattle.std.proofs.Common.{◌≡◌, length, get_or, map, ap, ◌∙◌, sym, subst}
+use Rattle.std.proofs.Common.{ap, ◌∙◌, sym, subst}
 use Rattle.std.proofs.lemmas.List.{get_or-map}
 use Rattle.mintc_certificate.specs.CertificateText.{IsCounted}
 use Rattle.mintc_certificate.specs.Valid.{link_of}

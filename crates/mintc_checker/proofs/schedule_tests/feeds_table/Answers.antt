@@ -1,4 +1,4 @@
-use Rattle.std.proofs.Common.{◌≡◌, ◌<◌, ◌≤◌, ◌+◌, ◌/◌, ◌%◌, ℕ, IsTrue, ◌↔◌, true, false, get_or, set, length, arith, ap, ◌∙◌, sym, subst, get_or-set_same, get_or-set_other, length-set, Bool, List, ⊎_elim, ◌≢◌}
+use Rattle.std.proofs.Common.{◌≡◌, ◌<◌, ◌+◌, ◌/◌, ◌%◌, ℕ, IsTrue, ◌↔◌, false, get_or, set, length, arith, ◌∙◌, sym, subst, get_or-set_same, get_or-set_other, length-set, Bool, List, ⊎_elim, ◌≢◌}
 use Rattle.std.proofs.lemmas.Bool.{cases_eq}
 use Rattle.mintc_timing.specs.Design.{Design}
 use Rattle.mintc_checker.specs.declared.labels.Labels.{Labels}

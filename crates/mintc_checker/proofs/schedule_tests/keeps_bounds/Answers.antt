@@ -1,7 +1,5 @@
-use Rattle.std.proofs.Common.{◌≡◌, ◌<◌, ◌≤◌, ℕ, length, arith, ap, ◌∙◌, subst, sym, get_or}
-use Rattle.std.proofs.lemmas.List.{get_or_read}
+use Rattle.std.proofs.Common.{length, arith, ap, get_or}
 use borrow.Author.Count.{below_more}
-use Rattle.mintc_timing.specs.declared.parts.Bound.{Bound}
 use Rattle.mintc_timing.specs.Clocking.{KeepsBound}
 use Rattle.mintc_certificate.specs.Valid.{no_bound}
 use Rattle.mintc_checker.proofs.Bounds.{All-from_places}
