@@ -1,0 +1,140 @@
+-- Labels along one more arc.
+use Rattle.std.proofs.Common.{◌≡◌, ◌≢◌, ℕ, ◌<◌, ◌+◌, ℤ, ◌+ℤ◌, ◌*ℤ◌, List, [], ◌∷◌, ◌++◌, length, get_or, arith, refl, ap, ◌∙◌, sym, ◌⊎◌, inl, inr, ⊎_elim, Option, subst}
+use Rattle.std.specs.Int.{int_max}
+use Rattle.std.specs.List.{All}
+use Rattle.std.proofs.lemmas.Int.{ints}
+use Rattle.std.proofs.lemmas.Bool.{cases_eq}
+use Rattle.mintc_timing.specs.declared.parts.TimingArc.{TimingArc}
+use Rattle.mintc_timing.specs.Design.{Design, no_arc}
+use Rattle.mintc_timing.specs.Limits.{IsArc}
+use Rattle.mintc_timing.specs.Order.{IsOrder}
+use Rattle.mintc_timing.specs.Paths.{Leads, arc_at, output_of, greatest_delay}
+use Rattle.mintc_timing.proofs.Products.{add-times}
+use Rattle.mintc_lanes.specs.Lanes.{lane_at, joined, AreJoined}
+use Rattle.mintc_checker.specs.declared.labels.Labels.{Labels}
+use Rattle.mintc_checker.specs.Trails.{IsGreatestTime, LeadsFrom, element_of, time_along}
+use Rattle.mintc_checker.specs.Labels.{labels_at, label_at, AreLabels, AreLabelsOf, IsStart, IsAlong, IsAmong, AreAmong}
+use Rattle.mintc_checker.proofs.Ordered.{total-push, Leads-push, AreAmong-push, AreAmong-more, split, inside, all_among, none_among}
+use Rattle.mintc_checker.proofs.Greatest.{greatest_alike, greatest_joined}
+
+-- an arc of the order is one of the design's
+pub arc_inside : (arcs : List TimingArc) (order : List ℕ) → IsOrder arcs order → (n m : ℕ) → All (IsArc n m) arcs → (i : ℕ) → i < length order → IsArc n m (arc_at arcs (get_or order i 0))
+arc_inside arcs order is_order n m each i below = each (get_or order i 0) no_arc (inside arcs order is_order i below)
+
+module _ (design : Design) (den : ℤ) (d : List ℤ) where
+  -- one more arc at the end of a trail
+  pub time-push : (j : ℕ) (path : List ℕ) (n : ℕ) → time_along design den d j (path ++ n ∷ []) ≡ time_along design den d j path +ℤ (arc_at design.arcs n).max *ℤ den
+  time-push j path n =
+      let weight : ℕ → ℤ = λ m. (arc_at design.arcs m).max in
+      let sum : greatest_delay design.arcs (path ++ n ∷ []) ≡ greatest_delay design.arcs path +ℤ weight n = total-push weight path n in
+      let dq : ℤ = (element_of design j).dq_max in
+      let whole : dq +ℤ greatest_delay design.arcs (path ++ n ∷ []) ≡ (dq +ℤ greatest_delay design.arcs path) +ℤ weight n = omega (arith, ints) in
+      let times : (dq +ℤ greatest_delay design.arcs (path ++ n ∷ [])) *ℤ den ≡ (dq +ℤ greatest_delay design.arcs path) *ℤ den +ℤ weight n *ℤ den =
+      ap (λ v. v *ℤ den) whole ∙ add-times (dq +ℤ greatest_delay design.arcs path) (weight n) den in
+      omega (arith, ints)
+
+  LeadsFrom-push : (p j : ℕ) (path : List ℕ) (n : ℕ) → n < length design.arcs → LeadsFrom design p (arc_at design.arcs n).from j path → LeadsFrom design p (arc_at design.arcs n).to j (path ++ n ∷ [])
+  LeadsFrom-push p j path n below h = record {
+    trail = record { element = h.trail.element; leads = Leads-push design.arcs (output_of j) path n below h.trail.leads };
+    phase = h.phase;
+  }
+
+  module _ (order : List ℕ) (is_order : IsOrder design.arcs order) (k n : ℕ) (low : k < length order) (is : get_or order k 0 ≡ n) where
+    abbrev from : ℕ
+    from = (arc_at design.arcs n).from
+
+    abbrev to : ℕ
+    to = (arc_at design.arcs n).to
+
+    abbrev Trails : ℕ → ℕ → ℕ → ℕ → List ℕ → Type 0
+    Trails i p bit j path = LeadsFrom design p bit j path × IsAlong order i j path
+
+    below : n < length design.arcs
+    below = subst (λ m. m < length design.arcs) is (inside design.arcs order is_order k low)
+
+    more : (p bit j : ℕ) (path : List ℕ) → Trails k p bit j path → Trails (k + 1) p bit j path × (time_along design den d j path ≡ time_along design den d j path)
+    more p bit j path h = ((h.0, AreAmong-more order k path h.1), refl)
+
+    longer : (p j : ℕ) (path : List ℕ) → Trails k p from j path → (after : List ℕ) × Trails (k + 1) p to j after × (time_along design den d j after ≡ time_along design den d j path +ℤ (arc_at design.arcs n).max *ℤ den)
+    longer p j path h =
+        let last : IsAmong order (k + 1) n = (k, omega arith, low, is) in
+        (path ++ n ∷ [], (LeadsFrom-push p j path n below h.0, AreAmong-push order (k + 1) path n (AreAmong-more order k path h.1) last), time-push j path n)
+
+    -- A trail along the first k + 1 arcs keeps to the first k, or ends with the arc at k.
+    last : (p bit j : ℕ) (path : List ℕ) → Trails (k + 1) p bit j path →
+        Trails k p bit j path ⊎ ((bit ≡ to) × ((before : List ℕ) × Trails k p from j before × (time_along design den d j path ≡ time_along design den d j before +ℤ (arc_at design.arcs n).max *ℤ den)))
+    last p bit j path h =
+        ⊎_elim (λ old. inl (h.0, old))
+        (λ new.
+        let lead : Leads design.arcs (output_of j) new.0 from = subst (λ m. Leads design.arcs (output_of j) new.0 (arc_at design.arcs m).from) is new.2 in
+        let end : bit ≡ to = new.3 ∙ ap (λ m. (arc_at design.arcs m).to) is in
+        let whole : path ≡ new.0 ++ n ∷ [] = new.4 ∙ ap (λ m. new.0 ++ m ∷ []) is in
+        inr (end, (new.0, (record { trail = record { element = h.0.trail.element; leads = lead }; phase = h.0.phase }, new.1), ap (time_along design den d j) whole ∙ time-push j new.0 n)))
+        (split design.arcs order is_order (output_of j) path bit k low h.0.trail.leads h.1)
+
+    -- A bit that the arc doesn't enter keeps its labels; the one that it enters takes those of the other end.
+    label-other : (p bit : ℕ) (x : Option ℤ) → bit ≢ to → IsGreatestTime (Trails k p bit) (time_along design den d) x → IsGreatestTime (Trails (k + 1) p bit) (time_along design den d) x
+    label-other p bit x ne h =
+        greatest_alike (Trails k p bit) (Trails (k + 1) p bit) (time_along design den d) (time_along design den d) (more p bit)
+        (λ j path g. ⊎_elim (λ old. old) (λ new. absurd (ne new.0)) (last p bit j path g)) x h
+
+    label-joined : (p : ℕ) (x y : Option ℤ) → IsGreatestTime (Trails k p to) (time_along design den d) x → IsGreatestTime (Trails k p from) (time_along design den d) y →
+        IsGreatestTime (Trails (k + 1) p to) (time_along design den d) (joined int_max x y ((arc_at design.arcs n).max *ℤ den))
+    label-joined p x y h g =
+        greatest_joined (Trails k p to) (Trails k p from) (Trails (k + 1) p to) (time_along design den d) (time_along design den d) (time_along design den d) ((arc_at design.arcs n).max *ℤ den)
+        (more p to) (longer p) (λ j path t. ⊎_elim (λ old. inl (old, refl)) (λ new. inr new.1) (last p to j path t)) x y h g
+
+    -- the same of the arc by its number
+    carried_at : (old new : List Labels) (w : ℤ) → length new ≡ length old → from < length old → to < length old → w ≡ (arc_at design.arcs n).max *ℤ den →
+        ((bit : ℕ) → bit ≢ to → labels_at new bit ≡ labels_at old bit) →
+        AreJoined int_max (labels_at old to).lanes (labels_at old from).lanes w (labels_at new to).lanes →
+        AreLabelsOf design den d (IsAlong order k) old → AreLabelsOf design den d (IsAlong order (k + 1)) new
+    carried_at old new w same from_in to_in weight others joins h = record {
+      count = same ∙ h.count;
+      each = λ bit lane within eight. ⊎_elim
+          (λ (e : bit ≡ to). subst (λ b. IsGreatestTime (Trails (k + 1) (lane + 1) b) (time_along design den d) (label_at new b lane)) (sym e)
+          (subst (λ o. IsGreatestTime (Trails (k + 1) (lane + 1) to) (time_along design den d) o)
+          (sym (joins lane eight ∙ ap (joined int_max (label_at old to lane) (label_at old from lane)) weight))
+          (label-joined (lane + 1) (label_at old to lane) (label_at old from lane) (h.each to lane to_in eight) (h.each from lane from_in eight))))
+          (λ ne. subst (λ (s : Labels). IsGreatestTime (Trails (k + 1) (lane + 1) bit) (time_along design den d) (lane_at s.lanes lane)) (sym (others bit ne))
+          (label-other (lane + 1) bit (label_at old bit lane) ne (h.each bit lane (omega arith) eight)))
+          (cases_eq bit to);
+    }
+
+    -- one turn: the row of the arc's end is joined with that of its beginning
+    pub carried : (old new : List Labels) (arc : TimingArc) → arc ≡ arc_at design.arcs n → (w : ℤ) → length new ≡ length old → arc.from < length old → arc.to < length old → w ≡ arc.max *ℤ den →
+        ((bit : ℕ) → bit ≢ arc.to → labels_at new bit ≡ labels_at old bit) →
+        AreJoined int_max (labels_at old arc.to).lanes (labels_at old arc.from).lanes w (labels_at new arc.to).lanes →
+        AreLabelsOf design den d (IsAlong order k) old → AreLabelsOf design den d (IsAlong order (k + 1)) new
+    carried old new arc e w same from_in to_in weight others joins h =
+        carried_at old new w same (subst (λ (a : TimingArc). a.from < length old) e from_in) (subst (λ (a : TimingArc). a.to < length old) e to_in)
+        (weight ∙ ap (λ (a : TimingArc). a.max *ℤ den) e)
+        (subst (λ (a : TimingArc). (bit : ℕ) → bit ≢ a.to → labels_at new bit ≡ labels_at old bit) e others)
+        (subst (λ (a : TimingArc). AreJoined int_max (labels_at old a.to).lanes (labels_at old a.from).lanes w (labels_at new a.to).lanes) e joins)
+        h
+
+-- a path of no arcs is along none of the order, and the other way round
+pub along_none : (design : Design) (den : ℤ) (d : List ℤ) (order : List ℕ) (labels : List Labels) →
+    AreLabelsOf design den d (IsStart (length design.elements)) labels → AreLabelsOf design den d (IsAlong order 0) labels
+along_none design den d order labels h = record {
+  count = h.count;
+  each = λ bit lane within eight.
+      greatest_alike (λ j path. LeadsFrom design (lane + 1) bit j path × IsStart (length design.elements) j path) (λ j path. LeadsFrom design (lane + 1) bit j path × IsAlong order 0 j path)
+      (time_along design den d) (time_along design den d)
+      (λ j path g. ((g.0, subst (λ xs. AreAmong order 0 xs) (sym g.1.1) tt), refl))
+      (λ j path g. (g.0, (g.0.trail.element, none_among order path g.1)))
+      (label_at labels bit lane) (h.each bit lane within eight);
+}
+
+-- all paths are along the whole order
+pub along_all : (design : Design) (den : ℤ) (d : List ℤ) (order : List ℕ) → IsOrder design.arcs order → (labels : List Labels) →
+    AreLabelsOf design den d (IsAlong order (length order)) labels → AreLabels design den d labels
+along_all design den d order is_order labels h = record {
+  count = h.count;
+  each = λ bit lane within eight.
+      greatest_alike (λ j path. LeadsFrom design (lane + 1) bit j path × IsAlong order (length order) j path) (LeadsFrom design (lane + 1) bit)
+      (time_along design den d) (time_along design den d)
+      (λ j path g. (g.0, refl))
+      (λ j path g. (g, all_among design.arcs order is_order (output_of j) path bit g.trail.leads))
+      (label_at labels bit lane) (h.each bit lane within eight);
+}

@@ -1,0 +1,16 @@
+pub mod Ordered
+pub mod Greatest
+pub mod Carrying
+pub mod Beginning
+pub mod Sizes
+pub mod Arriving
+pub mod Pairing
+pub mod Deciding
+pub mod Scaled
+pub mod Fed
+pub mod Bounds
+pub mod Leading
+pub mod Rings
+pub mod Exact
+pub mod Firsts
+pub mod Answering

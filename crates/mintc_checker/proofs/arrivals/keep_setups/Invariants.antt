@@ -1,0 +1,8 @@
+use Rattle.std.proofs.Common.{◌<◌, ℕ}
+use Rattle.mintc_timing.specs.Right.{KeepsSetup}
+use Rattle.mintc_checker.specs.Judged.{OfTiming}
+use Rattle.mintc_checker.proofs.arrivals.keep_setups.Given as goal
+
+-- the elements so far keep their setups
+abbrev pub invariant-loop-number : goal.invariant-loop-number
+invariant-loop-number l = OfTiming l.flat (λ t. (k : ℕ) → k < l.number → KeepsSetup t l.schedule l.departures k)

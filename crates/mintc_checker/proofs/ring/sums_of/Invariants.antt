@@ -1,0 +1,16 @@
+use Rattle.std.proofs.Common.{◌≡◌, ◌*◌, pos, neg_ℤ, ◌≤ℤ◌, take}
+use Rattle.mintc_timing.specs.Links.{cycles_of, delay_of}
+use Rattle.mintc_certificate.specs.Valid.{links_of_members}
+use Rattle.mintc_checker.specs.Judged.{alone}
+use Rattle.mintc_checker.proofs.ring.sums_of.Given as goal
+
+-- the sums over the members so far
+abbrev pub invariant-loop-place : goal.invariant-loop-place
+invariant-loop-place l = record {
+  delay_is : l.delay ≡ delay_of (take l.place (links_of_members (alone l.flat) l.members));
+  delay_low : neg_ℤ (pos (l.place * 2000000000)) ≤ℤ l.delay;
+  delay_high : l.delay ≤ℤ pos (l.place * 2000000000);
+  cycles_is : l.cycles ≡ cycles_of (take l.place (links_of_members (alone l.flat) l.members));
+  cycles_low : pos 0 ≤ℤ l.cycles;
+  cycles_high : l.cycles ≤ℤ pos l.place;
+}

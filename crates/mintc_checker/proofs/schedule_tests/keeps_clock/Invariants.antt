@@ -1,0 +1,8 @@
+use Rattle.std.proofs.Common.{◌<◌, ◌+◌, ℕ}
+use Rattle.mintc_timing.specs.Clocking.{KeepsPhase}
+use Rattle.mintc_checker.specs.Judged.{OfTiming}
+use Rattle.mintc_checker.proofs.schedule_tests.keeps_clock.Given as goal
+
+-- the phases so far are kept
+abbrev pub invariant-loop-index : goal.invariant-loop-index
+invariant-loop-index l = OfTiming l.flat (λ t. (k : ℕ) → k < l.index → KeepsPhase t l.schedule (k + 1))

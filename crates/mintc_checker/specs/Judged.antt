@@ -1,0 +1,70 @@
+-- What the tests speak of: the design with all its pairs.
+use Rattle.std.specs.Prelude.{◌≡◌, ◌+◌, ◌-◌, ◌*◌, ◌<◌, ℕ, ℤ, pos, negsuc, ◌≤ℤ◌, IfSome, Bool, false, List, [], length, slice_index_or, IsTrue, IsFalse, IsSome, ◌↔◌, ◌*ℤ◌}
+use Rattle.mintc_timing.specs.declared.parts.Pair.{Pair}
+use Rattle.mintc_timing.specs.declared.link.LinkKind.TheVariants.{Other}
+use Rattle.mintc_timing.specs.declared.link.Link.{Link}
+use Rattle.mintc_timing.specs.Clocking.{feeds_of, least_width, start_of, width_of}
+use Rattle.mintc_timing.specs.Design.{Design, Timing, phase_count}
+use Rattle.mintc_timing.specs.Limits.{IsPhase}
+use Rattle.mintc_timing.specs.Paths.{ArePairs, input_of}
+use Rattle.mintc_timing.specs.declared.clocking.Schedule.{Schedule}
+use Rattle.mintc_certificate.specs.declared.members.Member.{Member}
+use Rattle.mintc_certificate.specs.declared.members.Member.TheVariants as member
+use Rattle.mintc_certificate.specs.Valid.{IsMember}
+use Rattle.mintc_checker.specs.declared.labels.Labels.{Labels}
+use Rattle.mintc_checker.specs.Labels.{label_at}
+use Rattle.mintc_checker.specs.Trails.{element_of}
+
+-- the timing of a design, an order of its arcs and pairs
+abbrev pub timing_of : Design → List ℕ → List Pair → Timing
+timing_of design along pairs' = record { flat = design; order = along; pairs = pairs' }
+
+-- a design with neither, for what asks for neither
+abbrev pub alone : Design → Timing
+alone design = timing_of design [] []
+
+-- The claim holds of the design with all its pairs, whatever order of its arcs is given.
+abbrev pub OfTiming : Design → (Timing → Type 0) → Type 0
+OfTiming design P = (along : List ℕ) (pairs : List Pair) → ArePairs design pairs → P (timing_of design along pairs)
+
+-- The answer to a test is true exactly where the claim holds.
+abbrev pub Decides : Design → Bool → (Timing → Type 0) → Type 0
+Decides design answer P = OfTiming design (λ t. IsTrue answer ↔ P t)
+
+-- The table has, at place 8 * (i - 1) + (j - 1), whether phase i feeds phase j.
+pub record IsFed (design : Design) (fed : List Bool) : Type 0 where
+  pub count : length fed ≡ 64
+  pub each : (i j : ℕ) → IsPhase 8 i → IsPhase 8 j →
+      OfTiming design (λ t. slice_index_or fed (8 * (i - 1) + (j - 1)) false ≡ feeds_of t i j)
+
+-- The member's numbers are the design's, and a reach carries a listed path.
+abbrev pub IsNamed : Design → Member → Type 0
+IsNamed design (member.Apart i j) = IsPhase (length design.phases) i × IsPhase (length design.phases) j
+IsNamed design m = IsMember (alone design) m
+
+-- a link of zeros, which stands for one past the end of a list
+abbrev pub no_link : Link
+no_link = record { kind = Other 0; from = 0; to = 0; delay = pos 0; cycles = 0 }
+
+-- Each label is a time.
+abbrev pub IsLate : ℤ → Type 0
+IsLate x = (negsuc 99999999999999 ≤ℤ x) × (x ≤ℤ pos 300000000000000)
+
+abbrev pub AreTimely : List Labels → Type 0
+AreTimely labels = (bit lane : ℕ) → bit < length labels → lane < 8 → IfSome (label_at labels bit lane) IsLate
+
+-- an arrival
+abbrev pub IsArrival : ℤ → Type 0
+IsArrival x = (negsuc 299999999999999 ≤ℤ x) × (x ≤ℤ pos 500000000000000)
+
+-- Element l is a latch on phase j, and data of phase i reaches it.
+abbrev pub IsFedAt : Design → List Labels → ℕ → ℕ → ℕ → Type 0
+IsFedAt design labels i j l = ((element_of design l).phase ≡ j) × IsFalse (element_of design l).flop × IsSome (label_at labels (input_of l) (i - 1))
+
+-- What the clock asks of phase p by itself: that its start and its width are in range, that the next phase starts no
+-- sooner, and that it is as wide as its elements ask.
+pub record KeepsOwn (t : Timing) (s : Schedule) (p : ℕ) : Type 0 where
+  pub start : (pos 0 ≤ℤ start_of s p) × (start_of s p ≤ℤ s.cycle)
+  pub span : (pos 0 ≤ℤ width_of s p) × (width_of s p ≤ℤ s.cycle)
+  pub order : p < phase_count t → start_of s p ≤ℤ start_of s (p + 1)
+  pub wide : (least_width t p *ℤ s.den) ≤ℤ width_of s p

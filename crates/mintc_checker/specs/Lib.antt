@@ -1,0 +1,4 @@
+pub mod Verdicts
+pub mod Trails
+pub mod Labels
+pub mod Judged

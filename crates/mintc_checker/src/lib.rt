@@ -1,0 +1,64 @@
+//! The judgement of a certificate by itself: seven tests, without a search.
+//!
+//! It needs no list of pairs. Data that leaves the elements of a phase is carried along the arcs in their order, so that
+//! each bit has the last time at which some comes there from each phase.
+#![tactic(auto)]
+
+ghost use Rattle.std.specs.Prelude.{◌≡◌, IfOk};
+ghost use Rattle.mintc_certificate.specs.Optimal.{IsOptimal};
+ghost use Rattle.mintc_certificate.specs.Ranges.{IsCertificateInRange};
+ghost use Rattle.mintc_timing.specs.Design.{Timing};
+ghost use Rattle.mintc_timing.specs.Order.{IsOrder, ArePathsShort};
+ghost use Rattle.mintc_timing.specs.Paths.{ArePairs};
+ghost use Rattle.mintc_checker.specs.Verdicts.{IsVerdict};
+
+mod amounts;
+mod arrivals;
+mod clock;
+mod examining;
+mod labels;
+mod links;
+mod reading;
+mod ring;
+mod schedule_tests;
+mod verdict;
+
+use examining::judge;
+use mintc_certificate::{Certificate, valid_is_optimal};
+use mintc_text::OutOfMemory;
+use mintc_timing::{Flat, Order, System};
+use std::alloc::Global;
+pub use verdict::Verdict;
+
+/// The verdict on a certificate of a design: valid, or the number of the first of the seven tests that it fails. The
+/// number of the design's pairs is free, and so is which order of its arcs is given.
+pub fn examine_flat(
+    alloc: Global,
+    flat: &Flat,
+    order: &Order,
+    certificate: &Certificate,
+) -> Result<Verdict, OutOfMemory>
+    requires order { IsOrder flat.now.arcs order.now }
+    requires short { ArePathsShort flat.now }
+    requires in_range { IsCertificateInRange certificate.now }
+    ensures verdict { IfOk result (λ verdict. (t : Timing) → t.flat ≡ flat.now → ArePairs t.flat t.pairs → IsVerdict t certificate.now verdict) }
+    ensures optimal { IfOk result (λ verdict. verdict ≡ Verdict.Valid → (t : Timing) → t.flat ≡ flat.now → ArePairs t.flat t.pairs → IsOptimal t certificate.now) }
+{
+    valid_is_optimal();
+    let _elements = flat.elements();
+    judge(alloc, flat, order, certificate)
+}
+
+/// The verdict on a certificate of a system: valid, or the number of the first of the seven tests that it fails.
+pub fn examine(
+    alloc: Global,
+    system: &System,
+    certificate: &Certificate,
+) -> Result<Verdict, OutOfMemory>
+    requires { IsCertificateInRange certificate.now }
+    ensures verdict { IfOk result (IsVerdict system.now certificate.now) }
+    ensures optimal { IfOk result (λ verdict. verdict ≡ Verdict.Valid → IsOptimal system.now certificate.now) }
+{
+    let _pairs = system.pairs();
+    examine_flat(alloc, system.flat(), system.order(), certificate)
+}
