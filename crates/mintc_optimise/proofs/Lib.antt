@@ -1,0 +1,2 @@
+pub mod WalkedLaws
+pub mod SolvedLaws

@@ -1,0 +1,2 @@
+pub mod Optimum
+pub mod Benches
