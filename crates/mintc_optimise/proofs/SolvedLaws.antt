@@ -1,9 +1,8 @@
-use Rattle.std.proofs.Common.{◌≡◌, List, subst}
-use Rattle.mintc_fraction.specs.Ratio.{Ratio}
+use Rattle.std.proofs.Common.{◌≡◌, subst}
 use Rattle.mintc_timing.specs.Design.{Timing}
 use Rattle.mintc_timing.specs.Limits.{IsDesign}
 use Rattle.mintc_timing.specs.Links.{links_of}
-use Rattle.mintc_constraints.specs.Duality.{AreExactMoments, HasEnds}
+use Rattle.mintc_constraints.specs.Duality.{HasEnds}
 use Rattle.mintc_constraints.specs.Laws.{node_count}
 use Rattle.mintc_constraints.specs.Ordinary.{Constraints, constraints_of}
 use Rattle.mintc_constraints.specs.Rooms.{Space}
@@ -17,7 +16,7 @@ use Rattle.mintc_optimise.specs.Benches.{IsSolved}
 use Rattle.mintc_optimise.proofs.WalkedLaws.{exact_moments}
 
 module _ (t : Timing) (limits : IsDesign t.flat) (ends : HasEnds t) (room : Space) where
-  solved_here : (outcome : Outcome) → HasSearched (constraints_of (node_count t) (links_of t)) room outcome → IsSolved t room outcome
+  pub solved_here : (outcome : Outcome) → HasSearched (constraints_of (node_count t) (links_of t)) room outcome → IsSolved t room outcome
   solved_here (Least cycle) h =
       let exact = exact_moments t limits ends cycle room.values h.values in
       let positive = h.cycle_is.fraction in

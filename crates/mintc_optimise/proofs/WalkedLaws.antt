@@ -1,5 +1,5 @@
 -- The values of greatest walks as moments of a design.
-use Rattle.std.proofs.Common.{◌≡◌, ◌≢◌, ℕ, ◌<◌, ℤ, pos, ◌+ℤ◌, ◌-ℤ◌, ◌*ℤ◌, ◌≤ℤ◌, List, [], ◌∷◌, length, arith, refl, ap, sym, ◌∙◌}
+use Rattle.std.proofs.Common.{◌≡◌, ◌≢◌, ℕ, ◌<◌, ℤ, pos, ◌+ℤ◌, List, [], ◌∷◌, length, arith, ap, sym}
 use Rattle.std.proofs.lemmas.Int.{ints}
 use Rattle.std.specs.List.{All}
 use Rattle.mintc_walks.specs.Walks.{value_at}
@@ -8,13 +8,13 @@ use Rattle.mintc_timing.specs.declared.link.Link.{Link}
 use Rattle.mintc_timing.specs.Design.{Timing}
 use Rattle.mintc_timing.specs.Limits.{IsDesign}
 use Rattle.mintc_timing.specs.Links.{links_of, element_node, delay_of, cycles_of}
-use Rattle.mintc_constraints.specs.Duality.{brought, IsBrought, IsMet, AreExactMoments, HasEnds}
+use Rattle.mintc_constraints.specs.Duality.{IsBrought, IsMet, AreExactMoments, HasEnds}
 use Rattle.mintc_constraints.specs.Laws.{node_count}
 use Rattle.mintc_constraints.specs.Ordinary.{Leads, link_at, no_link, constraints_of}
 use Rattle.mintc_constraints.proofs.ByKind.{All-links}
 use Rattle.mintc_constraints.proofs.OrdinaryLaws.{each_between}
 use Rattle.mintc_ratio.specs.Chains.{links_at}
-use Rattle.mintc_ratio.specs.Greatest.{AreGreatest, IsGreatestWalk, asked_by, asked_by_link}
+use Rattle.mintc_ratio.specs.Greatest.{AreGreatest, asked_by, asked_by_link}
 use Rattle.mintc_ratio.proofs.Weights.{weight_step}
 
 -- what a link and those after it ask for

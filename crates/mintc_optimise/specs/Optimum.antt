@@ -1,5 +1,5 @@
-use Rattle.std.specs.Prelude.{◌≡◌, ◌<◌, ℕ, ℤ, pos, ◌+ℤ◌, ◌*ℤ◌, ◌≤ℤ◌, IsFalse, List, All}
-use Rattle.mintc_fraction.specs.Ratio.{Ratio, over, IsLowest}
+use Rattle.std.specs.Prelude.{◌≡◌, ◌<◌, ℕ, ℤ, pos, ◌+ℤ◌, ◌≤ℤ◌, IsFalse, List, All}
+use Rattle.mintc_fraction.specs.Ratio.{over, IsLowest}
 use Rattle.mintc_timing.specs.declared.clocking.Schedule.{Schedule}
 use Rattle.mintc_timing.specs.Clocking.{EachPhase, start_of, end_of}
 use Rattle.mintc_timing.specs.Departures.{departure}

@@ -57,6 +57,13 @@ impl Bench {
         search(&self.links, &mut self.room, steps)
     }
 
+    /// The links.
+    pub fn links(&self) -> &LinkList
+        ensures { result.now ≡ self.now.list }
+    {
+        &self.links
+    }
+
     /// The room.
     pub fn room(&self) -> &Room
         ensures { result.now ≡ self.now.room }

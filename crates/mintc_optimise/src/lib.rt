@@ -2,5 +2,9 @@
 #![tactic(auto)]
 
 mod bench;
+mod chain;
+mod optimum;
+mod times;
 
 pub use bench::Bench;
+pub use optimum::optimise;

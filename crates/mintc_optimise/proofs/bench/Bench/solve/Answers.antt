@@ -1,4 +1,4 @@
-use Rattle.std.proofs.Common.{ap, sym, ◌∙◌}
+use Rattle.std.proofs.Common.{ap, ◌∙◌}
 use Rattle.mintc_optimise.specs.Benches.{Workplace}
 use Rattle.mintc_optimise.proofs.SolvedLaws.{solved}
 use Rattle.mintc_optimise.proofs.bench.Bench.solve.Goals as goal
