@@ -4,6 +4,8 @@
 mod bench;
 mod chain;
 mod optimum;
+#[cfg(test)]
+mod tests;
 mod times;
 
 pub use bench::Bench;
