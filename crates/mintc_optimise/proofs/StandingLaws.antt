@@ -1,8 +1,8 @@
 -- The member that stands for a link of a design, by the link's kind.
-use Rattle.std.proofs.Common.{◌≡◌, ℕ, ◌+◌, ◌*◌, ◌<◌, ◌≤◌, List, length, get_or, arith, refl, ap, sym, subst, ◌∙◌, ◌∷◌, [], ◌++◌, take}
+use Rattle.std.proofs.Common.{◌≡◌, ℕ, ◌+◌, ◌*◌, ◌<◌, List, length, get_or, arith, refl, ap, sym, subst, ◌∙◌, ◌∷◌, [], ◌++◌, take}
 use Rattle.std.specs.List.{All, Contains}
-use Rattle.std.proofs.lemmas.List.{get_or_default, take_more, take_all, map-append}
-use Rattle.std.proofs.lemmas.List.Elements.{All-contains, All-nil, All-push}
+use Rattle.std.proofs.lemmas.List.{get_or_default, take_more, map-append}
+use Rattle.std.proofs.lemmas.List.Elements.{All-contains, All-push}
 use Rattle.mintc_timing.specs.declared.parts.Pair.{Pair}
 use Rattle.mintc_timing.specs.declared.link.Link.{Link}
 use Rattle.mintc_timing.specs.declared.link.LinkKind.{LinkKind}
@@ -86,10 +86,7 @@ module _ (t : Timing) (limits : IsDesign t.flat) where
           counted = (omega arith, omega arith, omega arith, is_path.0, arcs_below t.flat.arcs (2 * j + 1) path (2 * l) 999999999 (omega arith) is_path.1);
         }
 
--- no members, and one more at the end
-pub stand_none : (t : Timing) (links : List Link) → StandForAll t links [] []
-stand_none t links = record { each = All-nil (IsMember t); same = refl; counted = All-nil IsCounted }
-
+-- one more member at the end
 stand_more : (t : Timing) (links : List Link) (chain : List ℕ) (i : ℕ) (members : List Member) (m : Member) → i < length chain → StandForAll t links (take i chain) members →
     StandsFor t (link_at links (get_or chain i 0)) m → StandForAll t links (take (i + 1) chain) (members ++ m ∷ [])
 stand_more t links chain i members m h before here = record {
@@ -106,6 +103,3 @@ pub stand_read : (t : Timing) (links : List Link) (chain : List ℕ) (i : ℕ) (
     StandForAll t links (take i chain) members → StandsFor t (get_or links (get_or chain i 0) d) m → StandForAll t links (take (i + 1) chain) (members ++ m ∷ [])
 stand_read t links chain i members m d h exist before here =
     stand_more t links chain i members m h before (subst (λ (k : Link). StandsFor t k m) (get_or_default links (get_or chain i 0) d no_link (exist i 0 h)) here)
-
-pub stand_all : (t : Timing) (links : List Link) (chain : List ℕ) (i : ℕ) (members : List Member) → length chain ≤ i → StandForAll t links (take i chain) members → StandForAll t links chain members
-stand_all t links chain i members h all = subst (λ (ns : List ℕ). StandForAll t links ns members) (take_all i chain h) all

@@ -55,9 +55,6 @@ said_more f a i j x old new at fits is before step =
 pub said_all : (P : ℤ → Type 0) (x : ℤ) (old new : List ℤ) → IsTime x → P x → All P old → new ≡ old ++ narrow x ∷ [] → All P new
 said_all P x old new fits here before step = rw (step, read_time x fits) (All-push P old x before here)
 
-pub said_whole : (f : ℕ → ℤ) (a i n : ℕ) (xs : List ℤ) → i ≤ n → n ≤ i → xs ≡ map f (range_with_len a i) → xs ≡ map f (range_with_len a n)
-said_whole f a i n xs h k is = let same : i ≡ n = omega arith in is ∙ ap (λ (m : ℕ). map f (range_with_len a m)) same
-
 module _ (t : Timing) (values : List ℤ) (sayable : AreSayable t values) where
   pub width_read : (p : ℕ) → IsPhase (phase_count t) p →
       narrow (wide (wide (value_at values (end_node p)) -ℤ wide (value_at values (start_node p)))) ≡ value_at values (end_node p) -ℤ value_at values (start_node p)
