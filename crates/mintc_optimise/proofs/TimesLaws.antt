@@ -1,5 +1,5 @@
 -- What the code reads and gives of moments that can be said.
-use Rattle.std.proofs.Common.{◌≡◌, ℕ, ◌+◌, ◌-◌, ◌*◌, ◌<◌, ◌≤◌, ℤ, pos, negsuc, ◌≤ℤ◌, ◌-ℤ◌, Bool, false, cond, List, [], ◌∷◌, ◌++◌, length, map, arith, ap, sym, ◌∙◌, SFits, w64, to_z, of_z}
+use Rattle.std.proofs.Common.{◌≡◌, ℕ, ◌+◌, ◌-◌, ◌*◌, ◌<◌, ℤ, pos, negsuc, ◌≤ℤ◌, ◌-ℤ◌, Bool, false, cond, List, [], ◌∷◌, ◌++◌, length, map, arith, ap, sym, ◌∙◌, SFits, w64, to_z, of_z}
 use Rattle.std.specs.Int.{w128}
 use Rattle.std.specs.List.{All, range_with_len}
 use Rattle.std.proofs.lemmas.Int.{ints, to_z-of_z}
