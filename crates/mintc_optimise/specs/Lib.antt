@@ -1,0 +1,3 @@
+pub mod Optimum
+pub mod Benches
+pub mod Making

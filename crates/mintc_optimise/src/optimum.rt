@@ -1,0 +1,69 @@
+//! The least cycle time with its certificate.
+ghost use Rattle.std.specs.Prelude.{◌≡◌, ◌≤◌, ◌+◌, ◌*◌, IfOk};
+ghost use Rattle.mintc_constraints.specs.Laws.{node_count};
+ghost use Rattle.mintc_constraints.specs.Ordinary.{constraints_of};
+ghost use Rattle.mintc_timing.specs.Links.{links_of};
+ghost use Rattle.mintc_certificate.specs.Optimal.{IsOptimal};
+ghost use Rattle.mintc_certificate.specs.Ranges.{IsCertificateInRange};
+ghost use Rattle.mintc_certificate.specs.Valid.{IsValid};
+ghost use Rattle.mintc_ratio.specs.Searched.{HasSearched};
+ghost use Rattle.mintc_optimise.specs.Optimum.{HasEarliest};
+
+use crate::Bench;
+use crate::chain::members;
+use crate::times::{departures, phases, schedule};
+use mintc_certificate::Certificate;
+use mintc_constraints::{LinkList, Room};
+use mintc_ratio::Outcome;
+use mintc_text::OutOfMemory;
+use mintc_timing::System;
+use mintc_walks::Steps;
+use std::alloc::Global;
+use std::sync::ledger::Ledger;
+
+/// The certificate of what a search over a system's links found and left in a room.
+fn certificate(
+    alloc: Global,
+    system: &System,
+    list: &LinkList,
+    room: &Room,
+    outcome: Outcome,
+) -> Result<Certificate, OutOfMemory>
+    requires list { list.now ≡ constraints_of (node_count system.now) (links_of system.now) }
+    requires searched { HasSearched list.now room.now outcome }
+    ensures valid { IfOk result (IsValid system.now) }
+    ensures optimal { IfOk result (IsOptimal system.now) }
+    ensures earliest { IfOk result (HasEarliest system.now) }
+    ensures in_range { IfOk result IsCertificateInRange }
+{
+    let _pairs = system.pairs();
+    let _phases = phases(system);
+    let chain = members(alloc, system, list.items(), room.chain())?;
+    match outcome {
+        Outcome::Least { cycle } => Ok(Certificate::Least {
+            schedule: schedule(system, &cycle, room.values()),
+            departures: departures(alloc, system, room.values())?,
+            chain,
+        }),
+        Outcome::Never => Ok(Certificate::Never { chain }),
+    }
+}
+
+/// The least cycle time of a system with its certificate: a right schedule of that cycle with its departures and a chain that
+/// forbids every smaller cycle time; or a chain that forbids all. Its starts, its ends and the moments at which latches
+/// depart are the least that any solution has. Which chain is given is free.
+pub fn optimise<L: Ledger>(
+    alloc: Global,
+    system: &System,
+    steps: &mut Steps<L>,
+) -> Result<Certificate, OutOfMemory>
+    ensures valid { IfOk result (IsValid system.now) }
+    ensures optimal { IfOk result (IsOptimal system.now) }
+    ensures earliest { IfOk result (HasEarliest system.now) }
+    ensures in_range { IfOk result IsCertificateInRange }
+    ensures cost { steps.new ≤ steps.old + 68 * (node_count system.now + 1) }
+{
+    let mut bench = Bench::reserve(alloc, system)?;
+    let outcome = bench.solve(steps);
+    certificate(alloc, system, bench.links(), bench.room(), outcome)
+}

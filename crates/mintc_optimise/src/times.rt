@@ -1,0 +1,125 @@
+//! The schedule and the departures that moments of the nodes stand for.
+ghost use Rattle.std.specs.Prelude.{◌≡◌, ◌<◌, ◌-ℤ◌, IfOk, All, map};
+ghost use Rattle.mintc_walks.specs.Walks.{value_at};
+ghost use Rattle.mintc_timing.specs.Design.{element_count, phase_count};
+ghost use Rattle.mintc_timing.specs.Limits.{IsDesign, IsInRange, IsNumerator, IsPhase};
+ghost use Rattle.mintc_timing.specs.Links.{end_node, start_node};
+ghost use Rattle.mintc_timing.specs.Violations.{phases_of};
+ghost use Rattle.mintc_constraints.specs.Duality.{departure_of, departures_of, schedule_of};
+ghost use Rattle.mintc_certificate.specs.Ranges.{IsDeparture};
+ghost use Rattle.mintc_ratio.specs.Searched.{IsCycle};
+ghost use Rattle.mintc_optimise.specs.Making.{AreSayable};
+
+use arrayvec::ArrayVec;
+use mintc_certificate::Departures;
+use mintc_fraction::Fraction;
+use mintc_text::OutOfMemory;
+use mintc_timing::{PhaseNumbers, Schedule, System};
+use std::alloc::Global;
+
+/// How many phases there are.
+pub(crate) fn phases(system: &System) -> u32
+    ensures value { result ≡ phase_count system.now }
+    ensures kept { IsDesign system.now.flat }
+{
+    system.flat().phases().items().len() as u32
+}
+
+/// When a phase starts.
+fn start(system: &System, values: &[i128], phase: u32) -> i64
+    requires phase { IsPhase (phase_count system.now) phase }
+    requires sayable { AreSayable system.now values.now }
+    ensures value { result ≡ value_at values.now (start_node phase) }
+    ensures in_range { IsNumerator result }
+{
+    let _phases = phases(system);
+    values[2 * phase as usize - 1] as i64
+}
+
+/// How wide a phase is.
+fn width(system: &System, values: &[i128], phase: u32) -> i64
+    requires phase { IsPhase (phase_count system.now) phase }
+    requires sayable { AreSayable system.now values.now }
+    ensures value { result ≡ value_at values.now (end_node phase) -ℤ value_at values.now (start_node phase) }
+    ensures in_range { IsNumerator result }
+{
+    let _phases = phases(system);
+    (values[2 * phase as usize] - values[2 * phase as usize - 1]) as i64
+}
+
+/// The starts of the phases.
+fn starts(system: &System, values: &[i128]) -> PhaseNumbers
+    requires { AreSayable system.now values.now }
+    ensures value { result ≡ map (λ p. value_at values.now (start_node p)) (phases_of system.now) }
+    ensures in_range { All IsNumerator result }
+{
+    let mut starts = ArrayVec::new();
+    for index in 0..phases(system) {
+        starts.push(start(system, values, index + 1));
+    }
+    PhaseNumbers::new(starts)
+}
+
+/// The widths of the phases.
+fn widths(system: &System, values: &[i128]) -> PhaseNumbers
+    requires { AreSayable system.now values.now }
+    ensures value { result ≡ map (λ p. value_at values.now (end_node p) -ℤ value_at values.now (start_node p)) (phases_of system.now) }
+    ensures in_range { All IsNumerator result }
+{
+    let mut widths = ArrayVec::new();
+    for index in 0..phases(system) {
+        widths.push(width(system, values, index + 1));
+    }
+    PhaseNumbers::new(widths)
+}
+
+/// The schedule with this cycle time and these moments, as numerators over the cycle time's denominator.
+pub(crate) fn schedule(system: &System, cycle: &Fraction, values: &[i128]) -> Schedule
+    requires cycle { IsCycle cycle.now }
+    requires sayable { AreSayable system.now values.now }
+    ensures value { result ≡ schedule_of system.now cycle.now.num cycle.now.den values.now }
+    ensures in_range { IsInRange result }
+{
+    let _phases = phases(system);
+    Schedule {
+        den: cycle.den() as i64,
+        cycle: cycle.num() as i64,
+        starts: starts(system, values),
+        widths: widths(system, values),
+    }
+}
+
+/// The departure of an element, since its phase's start; that of a flop is 0.
+fn departure(system: &System, values: &[i128], number: u32) -> i64
+    requires number { number < element_count system.now }
+    requires sayable { AreSayable system.now values.now }
+    ensures value { result ≡ departure_of system.now values.now number }
+    ensures in_range { IsDeparture result }
+{
+    let node = 2 * phases(system) + 1 + number;
+    let element = system.element(number);
+    if element.flop {
+        return 0;
+    }
+    let start = 2 * element.phase - 1;
+    (values[node as usize] - values[start as usize]) as i64
+}
+
+/// The departures of the elements.
+pub(crate) fn departures(
+    alloc: Global,
+    system: &System,
+    values: &[i128],
+) -> Result<Departures, OutOfMemory>
+    requires { AreSayable system.now values.now }
+    ensures value { IfOk result (λ departures. departures ≡ departures_of system.now values.now) }
+    ensures in_range { IfOk result (All IsDeparture) }
+{
+    let mut departures = Vec::new(alloc);
+    for number in 0..system.flat().elements().len() {
+        let Ok(()) = departures.push(departure(system, values, number as u32)) else {
+            return Err(OutOfMemory);
+        };
+    }
+    Ok(Departures::new(departures))
+}
