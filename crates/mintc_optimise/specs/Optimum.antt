@@ -15,8 +15,8 @@ pub record IsSolution (t : Timing) (s : Schedule) (moment : ℕ → ℤ) : Type 
   pub origin : moment 0 ≡ pos 0
   pub met : All (Meets (over s.cycle s.den) moment) (links_of t)
 
--- The schedule's denominator is that of its cycle time in lowest terms; of all solutions at this cycle time its starts, its
--- ends and the moments at which its latches depart are the least; and a flop departs at the start of its phase.
+-- The schedule's denominator is that of its cycle time in lowest terms; and of all solutions at this cycle time its starts,
+-- its ends and the moments at which its latches depart are the least.
 pub record IsEarliest (t : Timing) (s : Schedule) (d : List ℤ) : Type 0 where
   pub lowest : IsLowest (over s.cycle s.den)
   pub starts : (moment : ℕ → ℤ) → IsSolution t s moment → EachPhase t (λ p. start_of s p ≤ℤ moment (start_node p))
