@@ -14,3 +14,4 @@ pub mod Rings
 pub mod Exact
 pub mod Firsts
 pub mod Answering
+pub mod Direct

@@ -21,6 +21,8 @@ mod links;
 mod reading;
 mod ring;
 mod schedule_tests;
+#[cfg(test)]
+mod tests;
 mod verdict;
 
 use examining::judge;
