@@ -8,3 +8,4 @@ pub mod CertificateSpelling
 pub mod CertificateWritten
 pub mod CertificateVersions
 pub mod WorkedCertificate
+pub mod PathDelays

@@ -1,12 +1,13 @@
 //! Certificates: what shows that a cycle time is the least, or that none is right.
 //!
 //! A certificate is a schedule with its departures and a chain of constraints that forbids every smaller cycle time, or a
-//! chain alone that forbids all. Here stand its parts, what makes it valid, and its text.
+//! chain alone that forbids all. Here stand its parts, the links of its members, what makes it valid, and its text.
 #![tactic(auto)]
 
 mod certificate;
 mod halt;
 mod laws;
+mod links;
 mod member_lines;
 mod members;
 mod reading;
@@ -18,6 +19,7 @@ mod writing;
 
 pub use certificate::{Certificate, Departures};
 pub use laws::valid_is_optimal;
+pub use links::{link_of, width_needed};
 pub use members::{Member, Members};
 pub use reading::read;
 pub use text_laws::{

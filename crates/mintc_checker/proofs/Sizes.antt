@@ -1,17 +1,17 @@
 -- How large labels and arrivals are.
-use Rattle.std.proofs.Common.{◌≡◌, ℕ, ◌<◌, ◌≤◌, ◌+◌, ◌*◌, ◌^◌, ℤ, pos, ◌+ℤ◌, ◌*ℤ◌, ◌≤ℤ◌, List, [], ◌∷◌, length, arith, sym, ◌⊎◌, ⊎_elim, Option, Some, None, subst}
+use Rattle.std.proofs.Common.{ℕ, ◌<◌, ◌≤◌, ◌+◌, ◌*◌, ◌^◌, ℤ, pos, ◌+ℤ◌, ◌*ℤ◌, ◌≤ℤ◌, List, length, arith, sym, ◌⊎◌, ⊎_elim, Option, Some, None, subst}
 use Rattle.std.specs.Prelude.{IfSome, unsigned_abs}
 use Rattle.std.specs.List.{All}
 use Rattle.std.proofs.lemmas.Int.{ints}
 use Rattle.std.proofs.lemmas.List.{get_or_past}
-use Rattle.mintc_timing.specs.declared.parts.TimingArc.{TimingArc}
 use Rattle.mintc_timing.specs.Departures.{departure}
-use Rattle.mintc_timing.specs.Design.{Design, no_arc, no_element}
-use Rattle.mintc_timing.specs.Limits.{IsDelay, IsDesign, IsDenominator}
+use Rattle.mintc_timing.specs.Design.{Design, no_element}
+use Rattle.mintc_timing.specs.Limits.{IsDesign, IsDenominator}
 use Rattle.mintc_timing.specs.Order.{ArePathsShort}
-use Rattle.mintc_timing.specs.Paths.{Leads, arc_at, output_of, greatest_delay}
+use Rattle.mintc_timing.specs.Paths.{greatest_delay}
 use Rattle.mintc_timing.proofs.Products.{times-mono_positive}
 use Rattle.mintc_certificate.specs.Ranges.{IsDeparture}
+use Rattle.mintc_certificate.proofs.PathDelays.{path-range}
 use Rattle.mintc_lanes.specs.Lanes.{AreLanes}
 use Rattle.mintc_checker.specs.declared.labels.Labels.{Labels}
 use Rattle.mintc_checker.specs.Trails.{IsGreatestTime, LeadsTo, LeadsFrom, element_of, time_along}
@@ -26,24 +26,7 @@ departure-range d each j = ⊎_elim (λ low. each j (pos 0) low)
     (λ high. subst IsDeparture (sym (get_or_past d j (pos 0) high)) (omega (arith, ints), omega (arith, ints)))
     (low_or_high j (length d))
 
--- A path of arcs that take time takes time.
-delay-least : (arcs : List TimingArc) → ((n : ℕ) → n < length arcs → pos 0 ≤ℤ (arc_at arcs n).max) →
-    (from : ℕ) (path : List ℕ) (to : ℕ) → Leads arcs from path to → pos 0 ≤ℤ greatest_delay arcs path
-delay-least arcs each from [] to h = omega (arith, ints)
-delay-least arcs each from (n ∷ path) to h =
-    let here = each n h.0 in
-    let rest = delay-least arcs each (arc_at arcs n).to path to h.2 in
-    omega (arith, ints)
-
-not_empty : (n : ℕ) (path : List ℕ) → n ∷ path ≡ [] → ⊥
-not_empty n path e = cc
-
 module _ (design : Design) (limits : IsDesign design) (short : ArePathsShort design) where
-  pub trail-delay : (bit j : ℕ) (path : List ℕ) → LeadsTo design bit j path → IsDelay (greatest_delay design.arcs path)
-  trail-delay bit j [] h = (omega (arith, ints), omega (arith, ints))
-  trail-delay bit j (n ∷ path) h =
-      (delay-least design.arcs (λ k g. (limits.each_arc k no_arc g).max.0) (output_of j) (n ∷ path) bit h.leads, short j bit (n ∷ path) h.element (not_empty n path, h.leads))
-
   product-range : (x den : ℤ) → (pos 0 ≤ℤ x) × (x ≤ℤ pos 2000000000) → IsDenominator den → (pos 0 ≤ℤ (x *ℤ den)) × ((x *ℤ den) ≤ℤ pos 200000000000000)
   product-range x den h g =
       let one = g.0 in
@@ -56,7 +39,7 @@ module _ (design : Design) (limits : IsDesign design) (short : ArePathsShort des
   trail-range den d is_den each bit j path h =
       let leaves = departure-range d each j in
       let dq = (limits.each_element j no_element h.element).dq_max in
-      let delay = trail-delay bit j path h in
+      let delay = path-range design limits short j bit path h.element h.leads in
       let sum : (pos 0 ≤ℤ ((element_of design j).dq_max +ℤ greatest_delay design.arcs path)) × (((element_of design j).dq_max +ℤ greatest_delay design.arcs path) ≤ℤ pos 2000000000) = (omega (arith, ints), omega (arith, ints)) in
       let product = product-range ((element_of design j).dq_max +ℤ greatest_delay design.arcs path) den sum is_den in
       (omega (arith, ints), omega (arith, ints))

@@ -1,5 +1,5 @@
 -- What the tests speak of: the design with all its pairs.
-use Rattle.std.specs.Prelude.{◌≡◌, ◌+◌, ◌-◌, ◌*◌, ◌<◌, ℕ, ℤ, pos, negsuc, ◌≤ℤ◌, IfSome, Bool, false, List, [], length, slice_index_or, IsTrue, IsFalse, IsSome, ◌↔◌, ◌*ℤ◌}
+use Rattle.std.specs.Prelude.{◌≡◌, ◌+◌, ◌-◌, ◌*◌, ◌<◌, ℕ, ℤ, pos, negsuc, ◌≤ℤ◌, IfSome, Bool, false, List, length, slice_index_or, IsTrue, IsFalse, IsSome, ◌↔◌, ◌*ℤ◌}
 use Rattle.mintc_timing.specs.declared.parts.Pair.{Pair}
 use Rattle.mintc_timing.specs.declared.link.LinkKind.TheVariants.{Other}
 use Rattle.mintc_timing.specs.declared.link.Link.{Link}
@@ -8,9 +8,6 @@ use Rattle.mintc_timing.specs.Design.{Design, Timing, phase_count}
 use Rattle.mintc_timing.specs.Limits.{IsPhase}
 use Rattle.mintc_timing.specs.Paths.{ArePairs, input_of}
 use Rattle.mintc_timing.specs.declared.clocking.Schedule.{Schedule}
-use Rattle.mintc_certificate.specs.declared.members.Member.{Member}
-use Rattle.mintc_certificate.specs.declared.members.Member.TheVariants as member
-use Rattle.mintc_certificate.specs.Valid.{IsMember}
 use Rattle.mintc_checker.specs.declared.labels.Labels.{Labels}
 use Rattle.mintc_checker.specs.Labels.{label_at}
 use Rattle.mintc_checker.specs.Trails.{element_of}
@@ -18,10 +15,6 @@ use Rattle.mintc_checker.specs.Trails.{element_of}
 -- the timing of a design, an order of its arcs and pairs
 abbrev pub timing_of : Design → List ℕ → List Pair → Timing
 timing_of design along pairs' = record { flat = design; order = along; pairs = pairs' }
-
--- a design with neither, for what asks for neither
-abbrev pub alone : Design → Timing
-alone design = timing_of design [] []
 
 -- The claim holds of the design with all its pairs, whatever order of its arcs is given.
 abbrev pub OfTiming : Design → (Timing → Type 0) → Type 0
@@ -36,11 +29,6 @@ pub record IsFed (design : Design) (fed : List Bool) : Type 0 where
   pub count : length fed ≡ 64
   pub each : (i j : ℕ) → IsPhase 8 i → IsPhase 8 j →
       OfTiming design (λ t. slice_index_or fed (8 * (i - 1) + (j - 1)) false ≡ feeds_of t i j)
-
--- The member's numbers are the design's, and a reach carries a listed path.
-abbrev pub IsNamed : Design → Member → Type 0
-IsNamed design (member.Apart i j) = IsPhase (length design.phases) i × IsPhase (length design.phases) j
-IsNamed design m = IsMember (alone design) m
 
 -- a link of zeros, which stands for one past the end of a list
 abbrev pub no_link : Link

@@ -7,7 +7,8 @@ ghost use Rattle.mintc_timing.specs.Design.{element_count};
 ghost use Rattle.mintc_timing.specs.Limits.{IsInRange, IsModest};
 ghost use Rattle.mintc_timing.specs.Right.{KeepsSetup};
 ghost use Rattle.mintc_certificate.specs.Ranges.{IsDeparture};
-ghost use Rattle.mintc_checker.specs.Judged.{AreTimely, Decides, IsArrival, IsLate, OfTiming, alone};
+ghost use Rattle.mintc_certificate.specs.Named.{alone};
+ghost use Rattle.mintc_checker.specs.Judged.{AreTimely, Decides, IsArrival, IsLate, OfTiming};
 ghost use Rattle.mintc_checker.specs.Labels.{AreLabels};
 ghost use Rattle.mintc_checker.specs.Trails.{IsLastArrival};
 

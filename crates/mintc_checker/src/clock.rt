@@ -1,10 +1,11 @@
 //! What the clock and the bounds ask of a schedule, and by how much it fails.
 ghost use Rattle.std.specs.Prelude.{◌≡◌, ◌+◌, ◌-◌, ◌*◌, ◌≤◌, ◌<◌, ℕ, pos, ◌+ℤ◌, ◌-ℤ◌, ◌*ℤ◌, length};
 ghost use Rattle.mintc_timing.specs.Clocking.{start_of, width_of, end_of, time_of, crosses_of, least_width};
-ghost use Rattle.mintc_timing.specs.Limits.{IsBound, IsDelay, IsInRange, IsModest, IsNumerator, IsPhase, IsPoint, IsTime};
-ghost use Rattle.mintc_checker.specs.Judged.{alone};
+ghost use Rattle.mintc_timing.specs.Limits.{IsBound, IsInRange, IsModest, IsNumerator, IsPhase, IsPoint, IsTime};
+ghost use Rattle.mintc_certificate.specs.Named.{alone};
 
-use crate::amounts::{larger, scaled};
+use crate::amounts::scaled;
+use mintc_certificate::width_needed;
 use mintc_timing::{Bound, Flat, Point, Schedule, crosses};
 
 /// When a phase starts.
@@ -49,20 +50,6 @@ fn taken(cycles: u32, schedule: &Schedule) -> i64
     ensures range { IsNumerator result }
 {
     if cycles == 0 { 0 } else { schedule.cycle }
-}
-
-/// The greatest of 0 and the widths that elements on the phase ask for.
-pub(crate) fn width_needed(flat: &Flat, phase: u32) -> i64
-    ensures value { result ≡ least_width (alone flat.now) phase }
-    ensures range { IsDelay result }
-{
-    let mut width = 0;
-    for element in flat.elements() {
-        if element.phase == phase {
-            width = larger(width, element.width);
-        }
-    }
-    width
 }
 
 /// By how much a phase starts after the cycle.

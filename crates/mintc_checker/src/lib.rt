@@ -17,7 +17,7 @@ mod arrivals;
 mod clock;
 mod examining;
 mod labels;
-mod links;
+mod members;
 mod reading;
 mod ring;
 mod schedule_tests;

@@ -9,10 +9,11 @@ ghost use Rattle.mintc_timing.specs.Order.{ArePathsShort};
 ghost use Rattle.mintc_certificate.specs.CertificateText.{IsCounted};
 ghost use Rattle.mintc_certificate.specs.Ranges.{IsChainInRange};
 ghost use Rattle.mintc_certificate.specs.Valid.{IsMember, IsRing, IsStuck, IsTight, links_of_members};
-ghost use Rattle.mintc_checker.specs.Judged.{Decides, IsFed, IsNamed, alone, no_link};
+ghost use Rattle.mintc_certificate.specs.Named.{IsNamed, alone};
+ghost use Rattle.mintc_checker.specs.Judged.{Decides, IsFed, no_link};
 
-use crate::links::{is_member, link_of};
-use mintc_certificate::Member;
+use crate::members::is_member;
+use mintc_certificate::{Member, link_of};
 use mintc_timing::{Flat, Link, Schedule};
 
 /// Whether all members are the design's.

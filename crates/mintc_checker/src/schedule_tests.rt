@@ -3,7 +3,8 @@ ghost use Rattle.std.specs.Prelude.{◌≡◌, ◌+◌, ◌-◌, ◌*◌, ◌<�
 ghost use Rattle.mintc_timing.specs.Clocking.{KeepsApart, KeepsBound, KeepsClock, KeepsPhase, EachPhase, crosses_of, end_of, least_width, start_of, width_of};
 ghost use Rattle.mintc_timing.specs.Limits.{IsBound, IsInRange, IsPhase};
 ghost use Rattle.mintc_certificate.specs.Valid.{SchedulePasses, counts};
-ghost use Rattle.mintc_checker.specs.Judged.{Decides, IsFed, IsFedAt, KeepsOwn, alone};
+ghost use Rattle.mintc_certificate.specs.Named.{alone};
+ghost use Rattle.mintc_checker.specs.Judged.{Decides, IsFed, IsFedAt, KeepsOwn};
 ghost use Rattle.mintc_checker.specs.Labels.{AreLabels};
 
 use crate::clock::{

@@ -2,7 +2,7 @@ use Rattle.std.proofs.Common.{◌≡◌, ◌-ℤ◌, ◌*ℤ◌, arith, ap, ◌�
 use Rattle.std.proofs.lemmas.Int.{ints}
 use Rattle.mintc_timing.specs.Clocking.{least_width, width_of}
 use Rattle.mintc_timing.proofs.Fitting.{read_time, IsTime-IsDelay, IsTime-IsDenominator}
-use Rattle.mintc_checker.specs.Judged.{alone}
+use Rattle.mintc_certificate.specs.Named.{alone}
 use Rattle.mintc_checker.proofs.clock.width_excess.Goals as goal
 
 pub returns-clause-value : goal.returns-clause-value

@@ -5,7 +5,8 @@ use Rattle.mintc_timing.specs.declared.link.Link.{Link}
 use Rattle.mintc_timing.specs.Limits.{IsSpan}
 use Rattle.mintc_timing.specs.Links.{cycles_of, delay_of}
 use Rattle.mintc_certificate.specs.Valid.{link_of, links_of_members}
-use Rattle.mintc_checker.specs.Judged.{alone, no_link}
+use Rattle.mintc_certificate.specs.Named.{alone}
+use Rattle.mintc_checker.specs.Judged.{no_link}
 use Rattle.mintc_checker.proofs.Rings.{total-more, total-all}
 use Rattle.mintc_checker.proofs.ring.sums_of.Goals as goal
 

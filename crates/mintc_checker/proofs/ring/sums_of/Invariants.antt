@@ -1,7 +1,7 @@
 use Rattle.std.proofs.Common.{◌≡◌, ◌*◌, pos, neg_ℤ, ◌≤ℤ◌, take}
 use Rattle.mintc_timing.specs.Links.{cycles_of, delay_of}
 use Rattle.mintc_certificate.specs.Valid.{links_of_members}
-use Rattle.mintc_checker.specs.Judged.{alone}
+use Rattle.mintc_certificate.specs.Named.{alone}
 use Rattle.mintc_checker.proofs.ring.sums_of.Given as goal
 
 -- the sums over the members so far

@@ -1,6 +1,6 @@
 use Rattle.mintc_checker.proofs.Deciding.{denied, alike, same_test}
 use Rattle.mintc_checker.proofs.Leading.{Leads-rest, Leads-end}
-use Rattle.mintc_checker.proofs.links.leads.Goals as goal
+use Rattle.mintc_checker.proofs.members.leads.Goals as goal
 
 pub returns-then-not-leaves : goal.returns-then-not-leaves
 returns-then-not-leaves c =

@@ -3,7 +3,7 @@ use Rattle.std.specs.List.{filter}
 use Rattle.mintc_timing.specs.declared.parts.Element.{Element}
 use Rattle.mintc_timing.specs.Extremes.{greater_of, greatest_of}
 use Rattle.mintc_timing.specs.Limits.{IsDelay}
-use Rattle.mintc_checker.proofs.clock.width_needed.Given as goal
+use Rattle.mintc_certificate.proofs.links.width_needed.Given as goal
 
 -- the width is that of the elements so far
 abbrev pub invariant-loop-element : goal.invariant-loop-element

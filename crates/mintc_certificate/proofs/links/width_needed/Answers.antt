@@ -5,10 +5,9 @@ use Rattle.mintc_timing.specs.declared.parts.Element.{Element}
 use Rattle.mintc_timing.proofs.ExtremesLaws.{greater-turn}
 use Rattle.mintc_timing.specs.Design.{no_element}
 use Rattle.mintc_timing.specs.Limits.{IsDelay}
-use Rattle.mintc_checker.specs.Judged.{alone}
-use Rattle.mintc_checker.proofs.clock.width_needed.Goals as goal
-use Rattle.mintc_checker.specs.Judged.{alone}
-use Rattle.mintc_checker.proofs.clock.width_needed.Goals.{then-element-phase, else-element-phase}
+use Rattle.mintc_certificate.proofs.links.width_needed.Goals as goal
+use Rattle.mintc_certificate.specs.Named.{alone}
+use Rattle.mintc_certificate.proofs.links.width_needed.Goals.{then-element-phase, else-element-phase}
 
 pub loop-element-preserved : goal.loop-element-preserved
 loop-element-preserved c =

@@ -1,6 +1,6 @@
 use Rattle.std.proofs.Common.{◌≡◌, ◌*◌, pos, ◌≤ℤ◌, take}
 use Rattle.mintc_timing.specs.Paths.{greatest_delay}
-use Rattle.mintc_checker.proofs.links.path_delay.Given as goal
+use Rattle.mintc_certificate.proofs.links.path_delay.Given as goal
 
 -- the sum of the arcs so far
 abbrev pub invariant-loop-number : goal.invariant-loop-number

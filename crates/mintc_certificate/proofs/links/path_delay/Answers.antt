@@ -3,8 +3,8 @@ use Rattle.std.proofs.lemmas.Int.{ints}
 use Rattle.mintc_timing.specs.Design.{no_arc}
 use Rattle.mintc_timing.specs.Limits.{IsDelay}
 use Rattle.mintc_timing.specs.Paths.{arc_at}
-use Rattle.mintc_checker.proofs.Leading.{delay-more, delay-all}
-use Rattle.mintc_checker.proofs.links.path_delay.Goals as goal
+use Rattle.mintc_certificate.proofs.PathDelays.{delay-more, delay-all}
+use Rattle.mintc_certificate.proofs.links.path_delay.Goals as goal
 
 fits : (old part : ℤ) (i : ℕ) → pos 0 ≤ℤ old → old ≤ℤ pos (i * 1000000000) → i < 1000000000 → IsDelay part → SFits w64 (old +ℤ to_z w64 (of_z w64 part))
 fits old part i low high few h = let h0 = h.0 in let h1 = h.1 in omega (arith, ints)
