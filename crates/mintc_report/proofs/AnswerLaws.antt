@@ -15,19 +15,19 @@ use Rattle.mintc_report.specs.Answers.{IsLowestOf, IsWordOf, fraction_word, elem
 
 -- ---- one more item, of lists that go with one another, and of numbers in a row
 
-AllZip-more : {X Y : Type 0} (R : X → Y → Type 0) (xs : List X) (ys : List Y) (x : X) (y : Y) → AllZip R xs ys → R x y → AllZip R (xs ++ x ∷ []) (ys ++ y ∷ [])
+pub AllZip-more : {X Y : Type 0} (R : X → Y → Type 0) (xs : List X) (ys : List Y) (x : X) (y : Y) → AllZip R xs ys → R x y → AllZip R (xs ++ x ∷ []) (ys ++ y ∷ [])
 AllZip-more R [] [] x y h g = (g, tt)
 AllZip-more R [] (z ∷ ys) x y h g = absurd h
 AllZip-more R (z ∷ xs) [] x y h g = absurd h
 AllZip-more R (z ∷ xs) (w ∷ ys) x y h g = (h.0, AllZip-more R xs ys x y h.1 g)
 
-range_more : (a n j : ℕ) → a + n ≡ j → range_with_len a (suc n) ≡ range_with_len a n ++ j ∷ []
+pub range_more : (a n j : ℕ) → a + n ≡ j → range_with_len a (suc n) ≡ range_with_len a n ++ j ∷ []
 range_more a zero j e = let same : a ≡ j = omega arith in ap (λ (k : ℕ). k ∷ []) same
 range_more a (suc n) j e = ap (λ (v : List ℕ). a ∷ v) (range_more (a + 1) n j (omega arith))
 
 -- ---- the elements of a pass
 
-IsWordOf-lowest : (num den : ℤ) (f : Ratio) → IsLowestOf num den f → IsWordOf num den (fraction_word f)
+pub IsWordOf-lowest : (num den : ℤ) (f : Ratio) → IsLowestOf num den f → IsWordOf num den (fraction_word f)
 IsWordOf-lowest num den f h = record { lowest = f; is_lowest = h; written = refl }
 
 -- the line of an element is appended to the lines of those before it

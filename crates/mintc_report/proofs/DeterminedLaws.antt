@@ -1,14 +1,24 @@
-use Rattle.std.proofs.Common.{◌≡◌, ℕ, ℤ, pos, ◌≤ℤ◌, ◌*ℤ◌, List, [], ◌∷◌, ◌++◌, refl, ap, ◌∙◌, sym}
+use Rattle.std.proofs.Common.{◌≡◌, ◌≤◌, ℕ, ℤ, pos, ◌≤ℤ◌, ◌*ℤ◌, List, [], ◌∷◌, ◌++◌, get_or, drop, decimal, refl, ap, ◌∙◌, sym, subst, arith}
 use Rattle.std.specs.Prelude.{codes, flat_map}
 use Rattle.std.specs.List.{AllZip}
+use Rattle.std.proofs.lemmas.Fmt.{decimal_injective}
+use Rattle.std.proofs.lemmas.List.{append_cancel_right}
 use Rattle.mintc_text.specs.Lines.{ended, text_of, words}
 use Rattle.mintc_fraction.proofs.Lowest.{IsLowest-unique}
 use Rattle.mintc_fraction.proofs.Products.{swap-times, times-cancel_equal}
 use Rattle.mintc_timing.specs.declared.parts.Element.{Element}
 use Rattle.mintc_timing.specs.declared.parts.Pair.{Pair}
 use Rattle.mintc_timing.specs.declared.violation.Violation.{Violation}
+use Rattle.mintc_timing.specs.Design.{Timing}
+use Rattle.mintc_certificate.specs.declared.certificate.Certificate.{Certificate}
+use Rattle.mintc_certificate.specs.declared.certificate.Certificate.TheVariants.{Least, Never}
+use Rattle.mintc_certificate.specs.Valid.{Test, counts, clock, bounds, departures, setups, ring, sums, number_of}
+use Rattle.mintc_checker.specs.declared.verdict.Verdict.{Verdict}
+use Rattle.mintc_checker.specs.declared.verdict.Verdict.TheVariants.{Valid, Invalid}
+use Rattle.mintc_checker.specs.Verdicts.{IsVerdict}
 use Rattle.mintc_report.specs.Answers.{fraction_word, IsWordOf, element_line, IsElementLine, broken_words, ring_of, reach_lines, AreViolationLines}
-use Rattle.mintc_report.specs.Laws.{AnswersAreDetermined}
+use Rattle.mintc_report.specs.Reports.{verdict_text_of, cycle_line, phase_line, IsPhaseLine, late_line, IsLateLine, chain_lines, IsReportText}
+use Rattle.mintc_report.specs.Laws.{HasDenominator, AnswersAreDetermined}
 
 -- two fractions of one value are equal
 equal_values : (num den n d m e : ℤ) → pos 1 ≤ℤ den → n *ℤ den ≡ num *ℤ d → m *ℤ den ≡ num *ℤ e → n *ℤ e ≡ m *ℤ d
@@ -51,6 +61,65 @@ AllZip-unique R one (x ∷ xs) (y ∷ ys) (z ∷ zs) h g =
     let rest = AllZip-unique R one xs ys zs h.1 g.1 in
     cc
 
+IsPhaseLine-unique : (den : ℤ) (name : List ℕ) (start width : ℤ) (line other : List ℕ) → pos 1 ≤ℤ den →
+    IsPhaseLine den name start width line → IsPhaseLine den name start width other → line ≡ other
+IsPhaseLine-unique den name start width line other some a b =
+    a.written
+    ∙ ap (λ v. phase_line name v a.width_word) (IsWordOf-unique start den a.start_word b.start_word some a.is_start b.is_start)
+    ∙ ap (λ v. phase_line name b.start_word v) (IsWordOf-unique width den a.width_word b.width_word some a.is_width b.is_width)
+    ∙ sym b.written
+
+IsLateLine-unique : (den : ℤ) (name : List ℕ) (late : ℤ) (line other : List ℕ) → pos 1 ≤ℤ den →
+    IsLateLine den name late line → IsLateLine den name late other → line ≡ other
+IsLateLine-unique den name late line other some a b =
+    a.written ∙ ap (late_line name) (IsWordOf-unique late den a.late_word b.late_word some a.is_late b.is_late) ∙ sym b.written
+
+-- the lines of a report
+report_lines : List (List ℕ) → List ℕ → List (List ℕ) → List (List ℕ) → List ℕ
+report_lines rest time phases lates = text_of (cycle_line time ∷ phases ++ lates ++ rest)
+
+report_one : (t : Timing) (certificate : Certificate) (text other : List ℕ) → HasDenominator certificate →
+    IsReportText t certificate text → IsReportText t certificate other → text ≡ other
+unfolding report_lines
+report_one t (Least s d chain) text other some a b =
+    let rest : List (List ℕ) = chain_lines t chain in
+    let time = IsWordOf-unique s.cycle s.den a.cycle_word b.cycle_word some a.is_cycle b.is_cycle in
+    let phases = AllZip-unique _ (λ p line more h g. IsPhaseLine-unique s.den _ _ _ line more some h g) _ a.phase_lines b.phase_lines a.phases b.phases in
+    let lates = AllZip-unique _ (λ l line more h g. IsLateLine-unique s.den _ _ line more some h g) _ a.late_lines b.late_lines a.elements b.elements in
+    a.whole
+    ∙ ap (λ v. report_lines rest v a.phase_lines a.late_lines) time
+    ∙ ap (λ v. report_lines rest b.cycle_word v a.late_lines) phases
+    ∙ ap (λ v. report_lines rest b.cycle_word b.phase_lines v) lates
+    ∙ sym b.whole
+report_one t (Never chain) text other some a b = a ∙ sym b
+
+-- a test has a number up to 7
+number_small : (test : Test) → number_of test ≤ 7
+number_small counts = omega arith
+number_small clock = omega arith
+number_small bounds = omega arith
+number_small departures = omega arith
+number_small setups = omega arith
+number_small ring = omega arith
+number_small sums = omega arith
+
+-- the first byte of a verdict's text, and what comes after the word `invalid`
+valid_first : (n : ℕ) → verdict_text_of Valid ≡ verdict_text_of (Invalid n) → ⊥
+valid_first n e = let first : 118 ≡ 105 = ap (λ (v : List ℕ). get_or v 0 0) e in omega (arith, first)
+
+same_test : (m n : ℕ) → m ≤ 7 → n ≤ 7 → verdict_text_of (Invalid m) ≡ verdict_text_of (Invalid n) → m ≡ n
+same_test m n small little e =
+    let rest : decimal m ++ 10 ∷ [] ≡ decimal n ++ 10 ∷ [] = ap (drop 8) e in
+    decimal_injective m n (omega arith) (omega arith) (append_cancel_right (decimal m) (decimal n) (10 ∷ []) rest)
+
+verdict_one : (t u : Timing) (certificate another : Certificate) (v w : Verdict) → IsVerdict t certificate v → IsVerdict u another w →
+    verdict_text_of v ≡ verdict_text_of w → v ≡ w
+verdict_one t u certificate another Valid Valid h g e = refl
+verdict_one t u certificate another Valid (Invalid n) h g e = absurd (valid_first n e)
+verdict_one t u certificate another (Invalid m) Valid h g e = absurd (valid_first m (sym e))
+verdict_one t u certificate another (Invalid m) (Invalid n) h g e =
+    ap Invalid (same_test m n (subst (λ k. k ≤ 7) h.1 (number_small h.0)) (subst (λ k. k ≤ 7) g.1 (number_small g.0)) e)
+
 pub answers_are_determined_lem : AnswersAreDetermined
 answers_are_determined_lem = record {
   pass = λ t s late early text other some a b.
@@ -63,4 +132,6 @@ answers_are_determined_lem = record {
       ∙ ap (λ (v : List (List (List ℕ))). ended (codes "fail") ++ flat_map text_of v)
       (AllZip-unique _ (λ violation lines more h g. AreViolationLines-unique t.pairs s.den violation lines more some h g) violations a.answers b.answers a.each b.each)
       ∙ sym b.whole;
+  report = report_one;
+  verdict = verdict_one;
 }

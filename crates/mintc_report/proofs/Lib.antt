@@ -1,4 +1,9 @@
 pub mod AnswerLaws
 pub mod DeterminedLaws
 pub mod NamedLaws
+pub mod ReportLaws
 pub mod SpacedLaws
+pub mod Sums
+pub mod Throughs
+pub mod ValidParts
+pub mod WorkedReports

@@ -5,7 +5,6 @@ use Rattle.std.specs.Option.{IfSome}
 use Rattle.std.proofs.lemmas.List.Elements.{All-nil, All-cons, All-append, All-push, All-map, All-filter, All-same}
 use Rattle.mintc_timing.specs.declared.parts.Bound.{Bound}
 use Rattle.mintc_timing.specs.declared.clocking.Schedule.{Schedule}
-use Rattle.mintc_timing.specs.declared.violation.Broken.{Broken}
 use Rattle.mintc_timing.specs.declared.violation.Broken.TheVariants as broken
 use Rattle.mintc_timing.specs.declared.violation.Violation.{Violation}
 use Rattle.mintc_timing.specs.Clocking.{start_of, width_of, feeds_of, least_width, time_of}

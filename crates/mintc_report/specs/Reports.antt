@@ -1,0 +1,144 @@
+-- The texts that answer `verify` and `report`: a verdict, and a certificate in the names of its design.
+use Rattle.std.specs.Prelude.{◌≡◌, ◌<◌, ◌≤◌, ◌+◌, ◌-◌, ◌*◌, ℕ, ℤ, pos, List, [], ◌∷◌, ◌++◌, length, map, flat_map, drop, slice_index_or, codes, decimal}
+use Rattle.std.specs.List.{AllZip, range_with_len}
+use Rattle.mintc_text.specs.Lines.{ended, text_of, words, numeral_of}
+use Rattle.mintc_timing.specs.declared.parts.Element.{Element}
+use Rattle.mintc_timing.specs.declared.clocking.Schedule.{Schedule}
+use Rattle.mintc_timing.specs.Clocking.{start_of, width_of}
+use Rattle.mintc_timing.specs.Departures.{departure}
+use Rattle.mintc_timing.specs.Design.{Timing, phase_count, element_count, element_at, no_element}
+use Rattle.mintc_timing.specs.Links.{delay_of, cycles_of}
+use Rattle.mintc_timing.specs.Paths.{arc_at}
+use Rattle.mintc_certificate.specs.declared.certificate.Certificate.{Certificate}
+use Rattle.mintc_certificate.specs.declared.certificate.Certificate.TheVariants.{Least, Never}
+use Rattle.mintc_certificate.specs.declared.members.Member.{Member}
+use Rattle.mintc_certificate.specs.declared.members.Member.TheVariants as member
+use Rattle.mintc_certificate.specs.Valid.{link_of, links_of_members}
+use Rattle.mintc_checker.specs.declared.verdict.Verdict.{Verdict}
+use Rattle.mintc_checker.specs.declared.verdict.Verdict.TheVariants.{Valid, Invalid}
+use Rattle.mintc_report.specs.Answers.{IsWordOf}
+
+-- A verdict in words. An invalid certificate has the number of the first test that it fails.
+abbrev pub verdict_text_of : Verdict → List ℕ
+verdict_text_of Valid = ended (codes "valid")
+verdict_text_of (Invalid n) = ended (words (codes "invalid" ∷ decimal n ∷ []))
+
+-- the line of the cycle time
+abbrev pub cycle_line : List ℕ → List ℕ
+cycle_line time = words (codes "cycle" ∷ time ∷ [])
+
+-- A phase with its start and its width, which count femtoseconds times the denominator.
+abbrev pub phase_line : List ℕ → List ℕ → List ℕ → List ℕ
+phase_line name start width = words (codes "phase" ∷ name ∷ codes "start" ∷ start ∷ codes "width" ∷ width ∷ [])
+
+pub record IsPhaseLine (den : ℤ) (name : List ℕ) (start width : ℤ) (line : List ℕ) : Type 0 where
+  pub start_word : List ℕ
+  pub width_word : List ℕ
+  pub is_start : IsWordOf start den start_word
+  pub is_width : IsWordOf width den width_word
+  pub written : line ≡ phase_line name start_word width_word
+
+-- the line of each of the first n phases, in order
+abbrev pub ArePhaseLines : List (List ℕ) → Schedule → ℕ → List (List ℕ) → Type 0
+ArePhaseLines names s n lines =
+    AllZip (λ p. IsPhaseLine s.den (slice_index_or names (p - 1) []) (start_of s p) (width_of s p)) (range_with_len 1 n) lines
+
+-- An element with its late departure, which counts femtoseconds times the denominator.
+abbrev pub late_line : List ℕ → List ℕ → List ℕ
+late_line name late = words (codes "element" ∷ name ∷ codes "late" ∷ late ∷ [])
+
+pub record IsLateLine (den : ℤ) (name : List ℕ) (late : ℤ) (line : List ℕ) : Type 0 where
+  pub late_word : List ℕ
+  pub is_late : IsWordOf late den late_word
+  pub written : line ≡ late_line name late_word
+
+-- the line of each of the first n elements, in order
+abbrev pub AreLateLines : List Element → ℤ → List ℤ → ℕ → List (List ℕ) → Type 0
+AreLateLines elements den late n lines =
+    AllZip (λ l. IsLateLine den (slice_index_or elements l no_element).name (departure late l)) (range_with_len 0 n) lines
+
+-- the names of a phase, of an element, and of an inner bit: the inner bits come after two bits of each element
+abbrev pub phase_name : Timing → ℕ → List ℕ
+phase_name t p = slice_index_or t.flat.phases (p - 1) []
+
+abbrev pub element_name : Timing → ℕ → List ℕ
+element_name t l = (element_at t l).name
+
+abbrev pub inner_name : Timing → ℕ → List ℕ
+inner_name t bit = slice_index_or t.flat.inner (bit - 2 * element_count t) []
+
+-- A member's kind, as a certificate's text says it, and what it names. A bound has its number.
+abbrev pub member_names : Timing → Member → List (List ℕ)
+member_names t (member.Start p) = codes "start" ∷ phase_name t p ∷ []
+member_names t (member.Cycle p) = codes "cycle" ∷ phase_name t p ∷ []
+member_names t (member.Order p) = codes "order" ∷ phase_name t p ∷ []
+member_names t (member.Span p) = codes "span" ∷ phase_name t p ∷ []
+member_names t (member.Width p) = codes "width" ∷ phase_name t p ∷ []
+member_names t (member.Apart i j) = codes "apart" ∷ phase_name t i ∷ phase_name t j ∷ []
+member_names t (member.Opening l) = codes "open" ∷ element_name t l ∷ []
+member_names t (member.Opened l) = codes "opened" ∷ element_name t l ∷ []
+member_names t (member.Reach j l path) = codes "reach" ∷ element_name t j ∷ element_name t l ∷ []
+member_names t (member.Setup l) = codes "setup" ∷ element_name t l ∷ []
+member_names t (member.Bound n) = codes "bound" ∷ decimal n ∷ []
+
+-- a delay in femtoseconds, and cycles
+abbrev pub amount_words : ℤ → ℤ → List (List ℕ)
+amount_words delay cycles = codes "delay" ∷ numeral_of delay ∷ codes "cycles" ∷ numeral_of cycles ∷ []
+
+-- A member with the delay and the cycles of its link. A reach has the delay of its own path.
+abbrev pub member_line : Timing → Member → List ℕ
+member_line t m = words (member_names t m ++ amount_words (link_of t m).delay (pos (link_of t m).cycles))
+
+-- The arcs of a reach after its first. They leave the inner bits on its path.
+abbrev pub later_arcs : Member → List ℕ
+later_arcs (member.Reach j l path) = drop 1 path
+later_arcs m = []
+
+-- the line of the bit that an arc leaves, and the line of each inner bit on the path of a reach, in its order
+abbrev pub through_line : Timing → ℕ → List ℕ
+through_line t n = words (codes "through" ∷ inner_name t (arc_at t.flat.arcs n).from ∷ [])
+
+abbrev pub through_lines : Timing → Member → List (List ℕ)
+through_lines t m = map (through_line t) (later_arcs m)
+
+abbrev pub member_lines : Timing → Member → List (List ℕ)
+member_lines t m = member_line t m ∷ through_lines t m
+
+-- a chain: how many members it has, its delay and its cycles, and the lines of each member
+abbrev pub chain_line : Timing → List Member → List ℕ
+chain_line t chain =
+    words (codes "chain" ∷ decimal (length chain) ∷ amount_words (delay_of (links_of_members t chain)) (cycles_of (links_of_members t chain)))
+
+abbrev pub chain_lines : Timing → List Member → List (List ℕ)
+chain_lines t chain = chain_line t chain ∷ flat_map (member_lines t) chain
+
+-- The report of a schedule with its departures: the cycle time, the phases, the elements, and the chain that forbids
+-- every smaller cycle time.
+pub record IsLeastReport (t : Timing) (s : Schedule) (d : List ℤ) (chain : List Member) (text : List ℕ) : Type 0 where
+  pub cycle_word : List ℕ
+  pub phase_lines : List (List ℕ)
+  pub late_lines : List (List ℕ)
+  pub is_cycle : IsWordOf s.cycle s.den cycle_word
+  pub phases : ArePhaseLines t.flat.phases s (phase_count t) phase_lines
+  pub elements : AreLateLines t.flat.elements s.den d (element_count t) late_lines
+  pub whole : text ≡ text_of (cycle_line cycle_word ∷ phase_lines ++ late_lines ++ chain_lines t chain)
+
+-- The text of the report of a certificate. Without a schedule it is `never`, and the chain that forbids every cycle time.
+abbrev pub IsReportText : Timing → Certificate → List ℕ → Type 0
+IsReportText t (Least s d chain) text = IsLeastReport t s d chain text
+IsReportText t (Never chain) text = text ≡ text_of (codes "never" ∷ chain_lines t chain)
+
+-- The bit is an inner one, and the arc leaves an inner one.
+abbrev pub IsInner : Timing → ℕ → Type 0
+IsInner t bit = (2 * element_count t ≤ bit) × (bit < 2 * element_count t + length t.flat.inner)
+
+abbrev pub IsThrough : Timing → ℕ → Type 0
+IsThrough t n = (n < length t.flat.arcs) × IsInner t (arc_at t.flat.arcs n).from
+
+-- ---- what the writers of a report append to the text so far
+
+-- lines of which the claim holds
+pub record AppendsLines (Are : List (List ℕ) → Type 0) (old new : List ℕ) : Type 0 where
+  pub lines : List (List ℕ)
+  pub are_lines : Are lines
+  pub appended : new ≡ old ++ text_of lines
