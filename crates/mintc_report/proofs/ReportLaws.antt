@@ -8,13 +8,13 @@ use Rattle.mintc_text.proofs.LinesLaws.{text_of-push}
 use Rattle.mintc_fraction.specs.Ratio.{Ratio}
 use Rattle.mintc_timing.specs.declared.parts.Element.{Element}
 use Rattle.mintc_timing.specs.declared.clocking.Schedule.{Schedule}
-use Rattle.mintc_timing.specs.Design.{Timing, no_element}
+use Rattle.mintc_timing.specs.Design.{Timing, phase_count, element_count, no_element}
 use Rattle.mintc_timing.specs.Departures.{departure}
 use Rattle.mintc_certificate.specs.declared.members.Member.{Member}
 use Rattle.mintc_certificate.specs.declared.members.Member.TheVariants as member
 use Rattle.mintc_certificate.specs.Valid.{link_of}
 use Rattle.mintc_report.specs.Answers.{IsLowestOf, fraction_word}
-use Rattle.mintc_report.specs.Reports.{IsPhaseLine, ArePhaseLines, phase_line, IsLateLine, AreLateLines, late_line, AppendsLines, amount_words, member_names, member_line, member_lines, later_arcs, through_line}
+use Rattle.mintc_report.specs.Reports.{IsPhaseLine, ArePhaseLines, phase_line, IsLateLine, AreLateLines, late_line, AppendsLines, IsLeastReport, cycle_line, chain_lines, amount_words, member_names, member_line, member_lines, later_arcs, through_line}
 use Rattle.mintc_report.specs.Spaced.{spaced}
 use Rattle.mintc_report.proofs.AnswerLaws.{AllZip-more, range_more, IsWordOf-lowest}
 use Rattle.mintc_report.proofs.SpacedLaws.{words-spaced}
@@ -117,3 +117,34 @@ items_more f xs i x old now new below is before more =
     let joined = ap (flat_map f) step ∙ flat_map-append f (take i xs) (x ∷ []) ∙ ap (λ v. flat_map f (take i xs) ++ v) (append-nil (f x)) in
     let lines = ap text_of joined ∙ flat_map-append ended (flat_map f (take i xs)) (f x) in
     more ∙ ap (λ v. v ++ text_of (f x)) before ∙ append_assoc old _ _ ∙ ap (λ v. old ++ v) (sym lines)
+
+-- ---- the whole report
+
+-- a text that is written in four parts
+whole_written : (cycle : List ℕ) (phases lates chain : List (List ℕ)) (none first second third text : List ℕ) → none ≡ [] →
+    first ≡ none ++ ended cycle → second ≡ first ++ text_of phases → third ≡ second ++ text_of lates → text ≡ third ++ text_of chain →
+    text ≡ text_of (cycle ∷ phases ++ lates ++ chain)
+whole_written cycle phases lates chain none first second third text n e f g h =
+    let parts : text_of (cycle ∷ phases ++ lates ++ chain) ≡ ((ended cycle ++ text_of phases) ++ text_of lates) ++ text_of chain =
+    flat_map-append ended (cycle ∷ phases ++ lates) chain ∙ ap (λ v. v ++ text_of chain)
+    (flat_map-append ended (cycle ∷ phases) lates ∙ refl) in
+    h ∙ ap (λ v. v ++ text_of chain) (g ∙ ap (λ v. v ++ text_of lates) (f ∙ ap (λ v. v ++ text_of phases) (e ∙ ap (λ v. v ++ ended cycle) n))) ∙ sym parts
+
+-- a report is written as its cycle time, its phases, its elements and its chain
+pub least_written : (t : Timing) (s : Schedule) (d : List ℤ) (chain : List Member) (f : Ratio) (names : List (List ℕ)) (elements : List Element) (none first second third fourth text : List ℕ) →
+    IsLowestOf s.cycle s.den f → names ≡ t.flat.phases → elements ≡ t.flat.elements → none ≡ [] → first ≡ none ++ ended (cycle_line (fraction_word f)) →
+    AppendsLines (ArePhaseLines names s (length names)) first second → AppendsLines (AreLateLines elements s.den d (length elements)) second third →
+    fourth ≡ third ++ text_of (chain_lines t chain) → text ≡ fourth → IsLeastReport t s d chain text
+least_written t s d chain f names elements none first second third fourth text cycle names_are elements_are n e phases lates g h =
+    let p : AppendsLines (ArePhaseLines t.flat.phases s (phase_count t)) first second = subst (λ v. AppendsLines (ArePhaseLines v s (length v)) first second) names_are phases in
+    let l : AppendsLines (AreLateLines t.flat.elements s.den d (element_count t)) second third =
+    subst (λ v. AppendsLines (AreLateLines v s.den d (length v)) second third) elements_are lates in
+    record {
+      cycle_word = fraction_word f;
+      phase_lines = p.lines;
+      late_lines = l.lines;
+      is_cycle = IsWordOf-lowest s.cycle s.den f cycle;
+      phases = p.are_lines;
+      elements = l.are_lines;
+      whole = whole_written (cycle_line (fraction_word f)) p.lines l.lines (chain_lines t chain) none first second third text n e p.appended l.appended (h ∙ g);
+    }

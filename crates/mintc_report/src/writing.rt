@@ -1,5 +1,6 @@
 //! Words and numbers that follow a space.
 ghost use Rattle.std.specs.Prelude.{◌≡◌, ◌++◌, ◌∷◌, OnOk, map, decimal};
+ghost use Rattle.mintc_text.specs.Lines.{numeral_of};
 ghost use Rattle.mintc_timing.specs.Limits.{IsDenominator};
 ghost use Rattle.mintc_report.specs.Answers.{fraction_word, IsLowestOf};
 ghost use Rattle.mintc_report.specs.Spaced.{spaced};
@@ -18,6 +19,14 @@ pub(crate) fn put_word(lines: &mut Lines, word: &[u8]) -> Result<(), OutOfMemory
 /// Writes a number after a space.
 pub(crate) fn put_number(lines: &mut Lines, number: u64) -> Result<(), OutOfMemory>
     ensures { OnOk result (lines.new ≡ lines.old ++ 32 ∷ decimal number) }
+{
+    lines.put(b" ")?;
+    lines.number(number as i128)
+}
+
+/// Writes a number that may be below zero after a space.
+pub(crate) fn put_integer(lines: &mut Lines, number: i64) -> Result<(), OutOfMemory>
+    ensures { OnOk result (lines.new ≡ lines.old ++ 32 ∷ numeral_of number) }
 {
     lines.put(b" ")?;
     lines.number(number as i128)
