@@ -32,10 +32,12 @@ use Rattle.mintc_certificate.specs.declared.certificate.Certificate.TheVariants.
 use Rattle.mintc_certificate.specs.Optimal.{IsOptimal}
 use Rattle.mintc_certificate.specs.Ranges.{IsCertificateInRange, IsChainInRange, IsDeparture}
 use Rattle.mintc_certificate.specs.Valid.{IsRing, IsValid, counts, clock, bounds, departures, setups, ring, sums, link_of, links_of_members}
+use Rattle.mintc_optimise.specs.Bounded.{CertifiesNeverOnlyWithBounds}
 use Rattle.mintc_optimise.specs.Making.{AreSayable, StandForAll}
 use Rattle.mintc_optimise.specs.Optimum.{HasEarliest, IsEarliest, IsSolution}
 use Rattle.mintc_optimise.proofs.SayingLaws.{are_sayable}
 use Rattle.mintc_optimise.proofs.SolvedLaws.{solved_here}
+use Rattle.mintc_optimise.proofs.UnboundedLaws.{never_needs_a_bound_lem}
 use Rattle.mintc_optimise.proofs.WalkedLaws.{exact_moments}
 
 -- what a certificate must be
@@ -43,6 +45,7 @@ pub record IsAnswer (t : Timing) (certificate : Certificate) : Type 0 where
   pub valid : IsValid t certificate
   pub optimal : IsOptimal t certificate
   pub earliest : HasEarliest t certificate
+  pub bounded : CertifiesNeverOnlyWithBounds t certificate
   pub in_range : IsCertificateInRange certificate
 
 some_closed : (ks : List Link) → IsClosed (λ k. k.from) (λ k. k.to) ks → 1 ≤ length ks
@@ -176,6 +179,7 @@ module _ (t : Timing) (limits : IsDesign t.flat) (kept : IsTiming t.flat t.order
             valid = of_these (λ x y. IsValid t (Least x y members)) (valid_least room.chain found.chain members stand s d cycle refl refl optimal_here.1 found.tight);
             optimal = of_these (λ x y. IsOptimal t (Least x y members)) (optimal_here.1, optimal_here.0);
             earliest = of_these (IsEarliest t) earliest_here;
+            bounded = tt;
             in_range = record { schedule_in = schedule_in; count = omega arith; each = departures_in; chain_in = chain_in room.chain found.chain members stand };
           }
 
@@ -195,9 +199,11 @@ module _ (t : Timing) (limits : IsDesign t.flat) (kept : IsTiming t.flat t.order
       made_never o_is =
           let stuck = stuck_of list room o list_is o_is searched in
           let stands = stand_of list links numbers room.chain members list_is links_are numbers_are stand in
+          let hopeless = solved_here t limits (ends_of t kept.extremes) room outcome.Never stuck in
           record {
             valid = valid_never room.chain stuck.0 members stands stuck.1;
-            optimal = solved_here t limits (ends_of t kept.extremes) room outcome.Never stuck;
+            optimal = hopeless;
             earliest = tt;
+            bounded = never_needs_a_bound_lem t limits kept hopeless;
             in_range = chain_in room.chain stuck.0 members stands;
           }

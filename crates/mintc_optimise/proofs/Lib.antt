@@ -5,3 +5,4 @@ pub mod StandingLaws
 pub mod SayingLaws
 pub mod TimesLaws
 pub mod CertificateLaws
+pub mod UnboundedLaws

@@ -4,7 +4,7 @@ use Rattle.mintc_timing.specs.Limits.{IsDesign}
 use Rattle.mintc_timing.specs.Links.{links_of}
 use Rattle.mintc_constraints.specs.Duality.{HasEnds}
 use Rattle.mintc_constraints.specs.Laws.{node_count}
-use Rattle.mintc_constraints.specs.Ordinary.{Constraints, constraints_of}
+use Rattle.mintc_constraints.specs.Ordinary.{Constraints, IsOrdinary, constraints_of}
 use Rattle.mintc_constraints.specs.Rooms.{Space}
 use Rattle.mintc_constraints.proofs.ChainLaws.{stuck_is_hopeless_lem, tight_is_least_lem}
 use Rattle.mintc_constraints.proofs.MomentLaws.{moments_are_right_lem}
@@ -13,6 +13,8 @@ use Rattle.mintc_ratio.specs.declared.searching.Outcome.TheVariants.{Least, Neve
 use Rattle.mintc_ratio.specs.Chains.{links_at}
 use Rattle.mintc_ratio.specs.Searched.{HasSearched}
 use Rattle.mintc_optimise.specs.Benches.{IsSolved}
+use Rattle.mintc_optimise.specs.Bounded.{NeverOnlyWithBounds}
+use Rattle.mintc_optimise.proofs.UnboundedLaws.{hopeless_is_bounded}
 use Rattle.mintc_optimise.proofs.WalkedLaws.{exact_moments}
 
 module _ (t : Timing) (limits : IsDesign t.flat) (ends : HasEnds t) (room : Space) where
@@ -29,3 +31,11 @@ module _ (t : Timing) (limits : IsDesign t.flat) (ends : HasEnds t) (room : Spac
   -- What a search over the links of a design finds is solved of the design.
   pub solved : (list : Constraints) (outcome : Outcome) → list ≡ constraints_of (node_count t) (links_of t) → HasSearched list room outcome → IsSolved t room outcome
   solved list outcome is h = solved_here outcome (subst (λ (c : Constraints). HasSearched c room outcome) is h)
+
+  only_with_bounds : IsOrdinary (constraints_of (node_count t) (links_of t)) → (outcome : Outcome) → IsSolved t room outcome → NeverOnlyWithBounds t outcome
+  only_with_bounds all (Least cycle) h = tt
+  only_with_bounds all Never h = hopeless_is_bounded t limits ends all h
+
+  -- Where it finds that there is no cycle time, the design has a bound.
+  pub bounded : (list : Constraints) (outcome : Outcome) → list ≡ constraints_of (node_count t) (links_of t) → IsOrdinary list → HasSearched list room outcome → NeverOnlyWithBounds t outcome
+  bounded list outcome is all h = only_with_bounds (subst IsOrdinary is all) outcome (solved list outcome is h)

@@ -1,3 +1,4 @@
 pub mod Optimum
 pub mod Benches
 pub mod Making
+pub mod Bounded

@@ -36,6 +36,7 @@ impl Bench {
     ghost use Rattle.mintc_timing.specs.Limits.{IsDesign};
     ghost use Rattle.mintc_timing.specs.Links.{links_of};
     ghost use Rattle.mintc_optimise.specs.Benches.{IsSolved};
+    ghost use Rattle.mintc_optimise.specs.Bounded.{NeverOnlyWithBounds};
 
     /// A bench for a system's links.
     pub fn reserve(alloc: Global, system: &System) -> Result<Bench, OutOfMemory>
@@ -47,10 +48,12 @@ impl Bench {
     }
 
     /// The least cycle time that no chain of the links forbids, as `search` finds it; it is the least of all right schedules
-    /// of each design with these links. Takes no memory. The links stay, so that a second call has the same outcome.
+    /// of each design with these links, and without bounds there is one. Takes no memory. The links stay, so that a second
+    /// call has the same outcome.
     pub fn solve<L: Ledger>(&mut self, steps: &mut Steps<L>) -> Outcome
         ensures searched { HasSearched self.old.list self.new.room result }
         ensures solved { (t : Timing) → IsDesign t.flat → HasEnds t → self.old.list ≡ constraints_of (node_count t) (links_of t) → IsSolved t self.new.room result }
+        ensures bounded { (t : Timing) → IsDesign t.flat → HasEnds t → self.old.list ≡ constraints_of (node_count t) (links_of t) → NeverOnlyWithBounds t result }
         ensures kept { self.new.list ≡ self.old.list }
         ensures cost { steps.new ≤ steps.old + 68 * (self.old.list.nodes + 1) }
     {

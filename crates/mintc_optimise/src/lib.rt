@@ -3,10 +3,12 @@
 
 mod bench;
 mod chain;
+mod laws;
 mod optimum;
 #[cfg(test)]
 mod tests;
 mod times;
 
 pub use bench::Bench;
+pub use laws::{never_needs_a_bound, unbounded_has_right};
 pub use optimum::optimise;

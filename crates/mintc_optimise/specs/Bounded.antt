@@ -1,0 +1,29 @@
+-- A design that no schedule is right for has a bound.
+use Rattle.std.specs.Prelude.{◌≡◌, ◌≢◌, ℤ, List, []}
+use Rattle.mintc_timing.specs.declared.clocking.Schedule.{Schedule}
+use Rattle.mintc_timing.specs.Design.{Timing}
+use Rattle.mintc_timing.specs.Limits.{IsDesign}
+use Rattle.mintc_timing.specs.Order.{IsTiming}
+use Rattle.mintc_timing.specs.Right.{IsRight, IsHopeless}
+use Rattle.mintc_ratio.specs.declared.searching.Outcome.{Outcome}
+use Rattle.mintc_ratio.specs.declared.searching.Outcome.TheVariants as outcome
+use Rattle.mintc_certificate.specs.declared.certificate.Certificate.{Certificate}
+use Rattle.mintc_certificate.specs.declared.certificate.Certificate.TheVariants as certificate
+
+-- A system without bounds has a right schedule.
+abbrev pub UnboundedHasRight : Type 0
+UnboundedHasRight = (t : Timing) → IsDesign t.flat → IsTiming t.flat t.order t.pairs → t.flat.bounds ≡ [] → (s : Schedule) × (d : List ℤ) × IsRight t s d
+
+-- So where no schedule is right, there is a bound.
+abbrev pub NeverNeedsABound : Type 0
+NeverNeedsABound = (t : Timing) → IsDesign t.flat → IsTiming t.flat t.order t.pairs → IsHopeless t → t.flat.bounds ≢ []
+
+-- Where the answer is "never", the design has a bound.
+abbrev pub NeverOnlyWithBounds : Timing → Outcome → Type 0
+NeverOnlyWithBounds t (outcome.Least cycle) = Unit {0}
+NeverOnlyWithBounds t outcome.Never = t.flat.bounds ≢ []
+
+-- the same of a certificate
+abbrev pub CertifiesNeverOnlyWithBounds : Timing → Certificate → Type 0
+CertifiesNeverOnlyWithBounds t (certificate.Least schedule departures chain) = Unit {0}
+CertifiesNeverOnlyWithBounds t (certificate.Never chain) = t.flat.bounds ≢ []
