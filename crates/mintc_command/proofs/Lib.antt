@@ -1,6 +1,7 @@
-pub mod AnswerLaws
 pub mod Calls
-pub mod CheckLaws
 pub mod CommandLaws
 pub mod ReadingLaws
+pub mod AnswerLaws
+pub mod SourceLaws
+pub mod JudgementLaws
 pub mod RefusalLaws

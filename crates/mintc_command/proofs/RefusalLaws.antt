@@ -1,8 +1,10 @@
 -- A first refusal excludes other answers, and is one.
 use Rattle.std.proofs.Common.{◌≡◌, ◌≤◌, ℕ, List, [], ◌∷◌, length, Some, None, false, ltb, refl, ap, ◌∙◌, sym, subst, inl, inr, ◌⊎◌, arith}
 use Rattle.std.proofs.lemmas.Bool.Decides.{nat_tests}
+use Rattle.std.proofs.lemmas.List.Elements.{All-head, All-tail}
 use Rattle.mintc_text.specs.declared.refusals.Refusal.{Refusal}
 use Rattle.mintc_text.specs.declared.refusals.Refusal.TheVariants as refusal
+use Rattle.mintc_text.specs.declared.refusals.Role.{Role}
 use Rattle.mintc_text.specs.declared.refusals.Role.TheVariants as role
 use Rattle.mintc_timing.specs.declared.clocking.Schedule.{Schedule}
 use Rattle.mintc_timing.specs.Design.{Design, Timing, phase_count}
@@ -10,9 +12,18 @@ use Rattle.mintc_timing.specs.Limits.{IsDesign, limit_of}
 use Rattle.mintc_timing.specs.TextLaws.{HaveOneSchedule, HaveNoScheduleFault, HaveOneScheduleFault, HaveOneDesign, HaveNoTableFault, HaveOneTableFault}
 use Rattle.mintc_build.specs.Designs.{IsDesignRefusal}
 use Rattle.mintc_build.specs.Laws.{AcceptedAreNotRefused, DesignRefusalsAreDetermined, IsLoopRefusal}
-use Rattle.mintc_command.specs.Checks.{IsLengthRefusal, IsTableOf, IsTableRefused, IsScheduleOf, IsScheduleRefused, IsCheckRefusal, IsCheckAnswer, AreChecked}
-use Rattle.mintc_command.specs.Commands.{check_table}
+use Rattle.mintc_certificate.specs.TextLaws.{HaveNoCertificateFault, HaveOneCertificateFault}
+use Rattle.mintc_command.specs.Answers.{IsContentAnswer, IsContentRefusal, IsFirstRefusal}
+use Rattle.mintc_command.specs.Commands.{roles_of}
+use Rattle.mintc_command.specs.Jobs.{IsFileRefused, IsJobAnswer, IsScheduleOf, IsScheduleRefused}
 use Rattle.mintc_command.specs.Laws.{RefusalsExcludeAnswers, RefusalsAreDetermined}
+use Rattle.mintc_command.specs.Sources.{AreShort, Gives, IsLengthRefusal, IsSourceRefused, IsTableOf, IsTableRefused, file_at, own_file}
+use Rattle.mintc_command.specs.declared.command.Command.{Command}
+use Rattle.mintc_command.specs.declared.command.Command.TheVariants.{OfDesign}
+use Rattle.mintc_command.specs.declared.command.Job.{Job}
+use Rattle.mintc_command.specs.declared.command.Job.TheVariants.{Check, Optimise, Verify, Report}
+use Rattle.mintc_command.specs.declared.command.Source.{Source}
+use Rattle.mintc_command.specs.declared.command.Source.TheVariants.{Table}
 use Rattle.mintc_command.specs.declared.reading.TheConstants.{LONGEST}
 use Rattle.mintc_command.specs.declared.status.Status.{Status}
 use Rattle.mintc_command.specs.declared.status.Status.TheVariants.{Done, Found, Refused, Usage, ReadFault, WriteFault, OutOfMemory}
@@ -25,6 +36,8 @@ pub record AreTextLaws : Type 0 where
   pub one_design : HaveOneDesign
   pub no_table_fault : HaveNoTableFault
   pub one_table_fault : HaveOneTableFault
+  pub no_certificate_fault : HaveNoCertificateFault
+  pub one_certificate_fault : HaveOneCertificateFault
   pub accepted : AcceptedAreNotRefused
 
 -- Within the limits none is passed.
@@ -40,20 +53,22 @@ no_limit design refused limits h =
     cc
 
 -- Files within their length aren't refused for it, and the first that isn't is one.
-no_length : (table schedule : List ℕ) (refused : Refusal) → length table ≤ LONGEST → length schedule ≤ LONGEST →
-    IsLengthRefusal (role.Table ∷ role.Schedule ∷ []) (table ∷ schedule ∷ []) refused → ⊥
-no_length table schedule refused short short_too (inl h) = let long = h.0 in omega (arith, long)
-no_length table schedule refused short short_too (inr (first, inl h)) = let long = h.0 in omega (arith, long)
-no_length table schedule refused short short_too (inr (first, inr h)) = absurd h.1
+no_length : (roles : List Role) (files : List (List ℕ)) (refused : Refusal) → AreShort files → IsLengthRefusal roles files refused → ⊥
+no_length [] files refused short h = absurd h
+no_length (text ∷ roles) [] refused short h = absurd h
+no_length (text ∷ roles) (bytes ∷ files) refused short (inl h) =
+    let long = h.0 in
+    let here = All-head (λ (b : List ℕ). length b ≤ LONGEST) bytes files short in
+    omega (arith, long, here)
+no_length (text ∷ roles) (bytes ∷ files) refused short (inr h) = no_length roles files refused (All-tail (λ (b : List ℕ). length b ≤ LONGEST) bytes files short) h.1
 
-one_length : (table schedule : List ℕ) (refused other : Refusal) → IsLengthRefusal (role.Table ∷ role.Schedule ∷ []) (table ∷ schedule ∷ []) refused →
-    IsLengthRefusal (role.Table ∷ role.Schedule ∷ []) (table ∷ schedule ∷ []) other → refused ≡ other
-one_length table schedule refused other (inl a) (inl b) = a.1 ∙ sym b.1
-one_length table schedule refused other (inl a) (inr b) = let long = a.0 in let short = b.0 in absurd (omega (arith, long, short))
-one_length table schedule refused other (inr a) (inl b) = let long = b.0 in let short = a.0 in absurd (omega (arith, long, short))
-one_length table schedule refused other (inr (s, inl a)) (inr (t, inl b)) = a.1 ∙ sym b.1
-one_length table schedule refused other (inr (s, inl a)) (inr (t, inr b)) = absurd b.1
-one_length table schedule refused other (inr (s, inr a)) (inr (t, b)) = absurd a.1
+one_length : (roles : List Role) (files : List (List ℕ)) (refused other : Refusal) → IsLengthRefusal roles files refused → IsLengthRefusal roles files other → refused ≡ other
+one_length [] files refused other a b = absurd a
+one_length (text ∷ roles) [] refused other a b = absurd a
+one_length (text ∷ roles) (bytes ∷ files) refused other (inl a) (inl b) = a.1 ∙ sym b.1
+one_length (text ∷ roles) (bytes ∷ files) refused other (inl a) (inr b) = let long = a.0 in let short = b.0 in absurd (omega (arith, long, short))
+one_length (text ∷ roles) (bytes ∷ files) refused other (inr a) (inl b) = let long = b.0 in let short = a.0 in absurd (omega (arith, long, short))
+one_length (text ∷ roles) (bytes ∷ files) refused other (inr a) (inr b) = one_length roles files refused other a.1 b.1
 
 -- A table with an accepted design isn't refused.
 no_table : AreTextLaws → (table : List ℕ) (t : Timing) (refused : Refusal) → IsTableOf table t → IsTableRefused table refused → ⊥
@@ -72,32 +87,44 @@ no_schedule law schedule phases s refused is (inr (other, text, apart, named)) =
     let same : s ≡ other = law.one_schedule schedule s other is.is_text text in
     apart (sym is.count ∙ ap (λ (x : Schedule). length x.starts) same)
 
--- The designs of one table have one number of phases.
-same_phases : AreTextLaws → (table : List ℕ) (t u : Timing) → IsTableOf table t → IsTableOf table u → phase_count t ≡ phase_count u
-same_phases law table t u a b = ap (λ (d : Design). length d.phases) (law.one_design table t.flat u.flat a.text b.text)
+-- So it is for each source, whose files give one design.
+no_source : AreTextLaws → (source : Source) (files : List (List ℕ)) (t : Timing) (refused : Refusal) → Gives source files t → IsSourceRefused source files refused → ⊥
+no_source law Table files t refused is h = no_table law (file_at files 0) t refused is h
 
-no_check : AreTextLaws → (table schedule : List ℕ) (t : Timing) (s : Schedule) (refused : Refusal) → AreChecked table schedule t s → IsCheckRefusal table schedule refused → ⊥
-no_check law table schedule t s refused checked (inl h) = no_length table schedule refused checked.table_short checked.schedule_short h
-no_check law table schedule t s refused checked (inr (short, short_too, inl h)) = no_table law table t refused checked.table_of h
-no_check law table schedule t s refused checked (inr (short, short_too, inr (u, is, h))) =
-    let same : phase_count u ≡ phase_count t = same_phases law table u t is checked.table_of in
-    no_schedule law schedule (phase_count t) s refused checked.schedule_of (subst (λ (n : ℕ). IsScheduleRefused schedule n refused) same h)
+one_flat : AreTextLaws → (source : Source) (files : List (List ℕ)) (t u : Timing) → Gives source files t → Gives source files u → t.flat ≡ u.flat
+one_flat law Table files t u a b = law.one_design (file_at files 0) t.flat u.flat a.text b.text
 
-exclude_check : AreTextLaws → (table schedule : List ℕ) (refused : Refusal) (status : Status) (text : List ℕ) → IsCheckRefusal table schedule refused →
-    IsCheckAnswer table schedule status text → status ≡ Refused
-exclude_check law table schedule refused Refused text first h = refl
-exclude_check law table schedule refused Done text first (t, s, checked, h) = absurd (no_check law table schedule t s refused checked first)
-exclude_check law table schedule refused Found text first (t, s, checked, h) = absurd (no_check law table schedule t s refused checked first)
-exclude_check law table schedule refused Usage text first h = absurd h.3
-exclude_check law table schedule refused ReadFault text first h = absurd h.3
-exclude_check law table schedule refused WriteFault text first h = absurd h.3
-exclude_check law table schedule refused OutOfMemory text first h = absurd h.3
+one_count : AreTextLaws → (source : Source) (files : List (List ℕ)) (t u : Timing) → Gives source files t → Gives source files u → phase_count t ≡ phase_count u
+one_count law source files t u a b = ap (λ (d : Design). length d.phases) (one_flat law source files t u a b)
+
+-- A file that is answered isn't refused.
+no_file : AreTextLaws → (job : Job) (t u : Timing) (file : List ℕ) (refused : Refusal) (status : Status) (text : List ℕ) → phase_count u ≡ phase_count t →
+    IsJobAnswer job t file status text → IsFileRefused job u file refused → ⊥
+no_file law Check t u file refused status text same (s, is, h) g =
+    no_schedule law file (phase_count t) s refused is (subst (λ (n : ℕ). IsScheduleRefused file n refused) same g)
+no_file law Optimise t u file refused status text same h g = absurd g
+no_file law Verify t u file refused status text same (c, is, h) (n, named, fault) = law.no_certificate_fault file c n is fault
+no_file law Report t u file refused status text same h g = absurd g
+
+no_content : AreTextLaws → (command : Command) (files : List (List ℕ)) (refused : Refusal) (status : Status) (text : List ℕ) →
+    IsContentAnswer command files status text → IsContentRefusal command files refused → ⊥
+no_content law (OfDesign job source) files refused status text (t, gives, h) (inl g) = no_source law source files t refused gives g
+no_content law (OfDesign job source) files refused status text (t, gives, h) (inr (u, gives_too, g)) =
+    no_file law job t u (own_file source files) refused status text (one_count law source files u t gives_too gives) h g
+
+exclude : AreTextLaws → (command : Command) (files : List (List ℕ)) (refused : Refusal) (status : Status) (text : List ℕ) → IsFirstRefusal command files refused →
+    AreShort files → IsContentAnswer command files status text → ⊥
+exclude law command files refused status text (inl h) short answer = no_length (roles_of command) files refused short h
+exclude law command files refused status text (inr (short_too, h)) short answer = no_content law command files refused status text answer h
 
 pub exclude_lem : AreTextLaws → RefusalsExcludeAnswers
-exclude_lem law (check_table t s) [] refused status text first h = absurd h
-exclude_lem law (check_table t s) (a ∷ []) refused status text first h = absurd h
-exclude_lem law (check_table t s) (a ∷ b ∷ []) refused status text first h = exclude_check law a b refused status text first h
-exclude_lem law (check_table t s) (a ∷ b ∷ c ∷ files) refused status text first h = absurd h
+exclude_lem law command files refused Refused text first h = refl
+exclude_lem law command files refused Done text first h = absurd (exclude law command files refused Done text first h.0 h.1)
+exclude_lem law command files refused Found text first h = absurd (exclude law command files refused Found text first h.0 h.1)
+exclude_lem law command files refused Usage text first h = absurd (exclude law command files refused Usage text first h.0 h.1)
+exclude_lem law command files refused ReadFault text first h = absurd (exclude law command files refused ReadFault text first h.0 h.1)
+exclude_lem law command files refused WriteFault text first h = absurd (exclude law command files refused WriteFault text first h.0 h.1)
+exclude_lem law command files refused OutOfMemory text first h = absurd (exclude law command files refused OutOfMemory text first h.0 h.1)
 
 one_limit : (design : Design) (refused other : Refusal) → limit_of design ≡ Some refused → limit_of design ≡ Some other → refused ≡ other
 one_limit design refused other a b = let e : Some refused ≡ Some other = sym a ∙ b in cc
@@ -132,20 +159,29 @@ one_schedule_refusal law schedule phases refused other (inr (s, text, apart, a))
 one_schedule_refusal law schedule phases refused other (inr (s, text, apart, a)) (inr (u, other_text, other_apart, b)) =
     a ∙ ap (λ (x : Schedule). refusal.PhaseMismatch phases (length x.starts)) (law.one_schedule schedule s u text other_text) ∙ sym b
 
-one_check : AreTextLaws → DesignRefusalsAreDetermined → (table schedule : List ℕ) (refused other : Refusal) → IsCheckRefusal table schedule refused →
-    IsCheckRefusal table schedule other → (refused ≡ other) ⊎ (IsLoopRefusal refused × IsLoopRefusal other)
-one_check law one table schedule refused other (inl a) (inl b) = inl (one_length table schedule refused other a b)
-one_check law one table schedule refused other (inl a) (inr (short, short_too, b)) = absurd (no_length table schedule refused short short_too a)
-one_check law one table schedule refused other (inr (short, short_too, a)) (inl b) = absurd (no_length table schedule other short short_too b)
-one_check law one table schedule refused other (inr (short, short_too, inl a)) (inr (s, l, inl b)) = one_table law one table refused other a b
-one_check law one table schedule refused other (inr (short, short_too, inl a)) (inr (s, l, inr (t, is, b))) = absurd (no_table law table t refused is a)
-one_check law one table schedule refused other (inr (short, short_too, inr (t, is, a))) (inr (s, l, inl b)) = absurd (no_table law table t other is b)
-one_check law one table schedule refused other (inr (short, short_too, inr (t, is, a))) (inr (s, l, inr (u, is_too, b))) =
-    let same : phase_count u ≡ phase_count t = same_phases law table u t is_too is in
-    inl (one_schedule_refusal law schedule (phase_count t) refused other a (subst (λ (n : ℕ). IsScheduleRefused schedule n other) same b))
+one_source_refusal : AreTextLaws → DesignRefusalsAreDetermined → (source : Source) (files : List (List ℕ)) (refused other : Refusal) → IsSourceRefused source files refused →
+    IsSourceRefused source files other → (refused ≡ other) ⊎ (IsLoopRefusal refused × IsLoopRefusal other)
+one_source_refusal law one Table files refused other a b = one_table law one (file_at files 0) refused other a b
+
+one_file : AreTextLaws → (job : Job) (t u : Timing) (file : List ℕ) (refused other : Refusal) → phase_count u ≡ phase_count t → IsFileRefused job t file refused →
+    IsFileRefused job u file other → refused ≡ other
+one_file law Check t u file refused other same a b =
+    one_schedule_refusal law file (phase_count t) refused other a (subst (λ (n : ℕ). IsScheduleRefused file n other) same b)
+one_file law Optimise t u file refused other same a b = absurd a
+one_file law Verify t u file refused other same (n, a, fault) (m, b, other_fault) =
+    a ∙ ap (λ (k : ℕ). refusal.Syntax role.Certificate k) (law.one_certificate_fault file n m fault other_fault) ∙ sym b
+one_file law Report t u file refused other same a b = absurd a
+
+one_content : AreTextLaws → DesignRefusalsAreDetermined → (command : Command) (files : List (List ℕ)) (refused other : Refusal) → IsContentRefusal command files refused →
+    IsContentRefusal command files other → (refused ≡ other) ⊎ (IsLoopRefusal refused × IsLoopRefusal other)
+one_content law one (OfDesign job source) files refused other (inl a) (inl b) = one_source_refusal law one source files refused other a b
+one_content law one (OfDesign job source) files refused other (inl a) (inr (t, gives, b)) = absurd (no_source law source files t refused gives a)
+one_content law one (OfDesign job source) files refused other (inr (t, gives, a)) (inl b) = absurd (no_source law source files t other gives b)
+one_content law one (OfDesign job source) files refused other (inr (t, gives, a)) (inr (u, gives_too, b)) =
+    inl (one_file law job t u (own_file source files) refused other (one_count law source files u t gives_too gives) a b)
 
 pub determined_lem : AreTextLaws → DesignRefusalsAreDetermined → RefusalsAreDetermined
-determined_lem law one (check_table t s) [] refused other a b = absurd a
-determined_lem law one (check_table t s) (x ∷ []) refused other a b = absurd a
-determined_lem law one (check_table t s) (x ∷ y ∷ []) refused other a b = one_check law one x y refused other a b
-determined_lem law one (check_table t s) (x ∷ y ∷ z ∷ files) refused other a b = absurd a
+determined_lem law one command files refused other (inl a) (inl b) = inl (one_length (roles_of command) files refused other a b)
+determined_lem law one command files refused other (inl a) (inr (short, b)) = absurd (no_length (roles_of command) files refused short a)
+determined_lem law one command files refused other (inr (short, a)) (inl b) = absurd (no_length (roles_of command) files other short b)
+determined_lem law one command files refused other (inr (short, a)) (inr (short_too, b)) = one_content law one command files refused other a b

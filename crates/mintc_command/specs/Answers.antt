@@ -1,13 +1,19 @@
-use Rattle.std.specs.Prelude.{◌≡◌, ◌≤◌, ◌+◌, ℕ, List, [], ◌∷◌, Option, Some, None, codes, All}
+-- What a run answers: the first refusal of a command, its defined answer, and what a run leaves.
+use Rattle.std.specs.Prelude.{◌≡◌, ◌≤◌, ◌+◌, ◌⊎◌, ℕ, List, Option, Some, None, codes, All}
 use Rattle.std.specs.List.{AllZip}
 use Rattle.mintc_text.specs.Lines.{ended}
 use Rattle.mintc_text.specs.Outside.{Files, Holds, IsFront, Takes, TakesFront}
-use Rattle.mintc_command.specs.Checks.{IsCheckAnswer, IsCheckRefusal}
 use Rattle.mintc_text.specs.declared.refusals.Refusal.{Refusal}
-use Rattle.mintc_command.specs.Commands.{Command, check_table, IsCommand, words_of, names_of}
+use Rattle.mintc_text.specs.Refusals.{refusal_line}
+use Rattle.mintc_timing.specs.Design.{Timing}
+use Rattle.mintc_command.specs.Commands.{AreWordsOf, IsCommand, roles_of}
+use Rattle.mintc_command.specs.Jobs.{IsJobAnswer, IsFileRefused}
+use Rattle.mintc_command.specs.Sources.{AreShort, IsLengthRefusal, Gives, IsSourceRefused, own_file}
+use Rattle.mintc_command.specs.declared.command.Command.{Command}
+use Rattle.mintc_command.specs.declared.command.Command.TheVariants.{OfDesign}
 use Rattle.mintc_command.specs.declared.reading.TheConstants.{LONGEST}
 use Rattle.mintc_command.specs.declared.status.Status.{Status}
-use Rattle.mintc_command.specs.declared.status.Status.TheVariants.{Done, Found, Usage, ReadFault, WriteFault, OutOfMemory}
+use Rattle.mintc_command.specs.declared.status.Status.TheVariants.{Done, Found, Refused, Usage, ReadFault, WriteFault, OutOfMemory}
 
 -- the line that is written where the words are no command
 abbrev pub usage_line : List ℕ
@@ -21,20 +27,35 @@ HoldsAll files names = All (Holds files) names
 abbrev pub AreFronts : Option Files → ℕ → List (List ℕ) → List (List ℕ) → Type 0
 AreFronts files most names fronts = AllZip (λ name front. IsFront files name most front) names fronts
 
--- The defined answer of a command on the first bytes of its files: a status and a text.
-abbrev pub IsDefined : Command → List (List ℕ) → Status → List ℕ → Type 0
-IsDefined (check_table table_name schedule_name) (table ∷ schedule ∷ []) status text = IsCheckAnswer table schedule status text
-IsDefined command files status text = ⊥
+-- The refusal of a command on files that aren't too long: of the design's, and then of the file beside them.
+abbrev pub IsContentRefusal : Command → List (List ℕ) → Refusal → Type 0
+IsContentRefusal (OfDesign job source) files refused =
+    IsSourceRefused source files refused ⊎ ((t : Timing) × Gives source files t × IsFileRefused job t (own_file source files) refused)
 
--- The first refusal of a command on the first bytes of its files.
+-- The first refusal of a command on the first bytes of its files, in the order of a run.
 abbrev pub IsFirstRefusal : Command → List (List ℕ) → Refusal → Type 0
-IsFirstRefusal (check_table table_name schedule_name) (table ∷ schedule ∷ []) refused = IsCheckRefusal table schedule refused
-IsFirstRefusal command files refused = ⊥
+IsFirstRefusal command files refused = IsLengthRefusal (roles_of command) files refused ⊎ (AreShort files × IsContentRefusal command files refused)
 
--- Whatever the files of this command are read as, none of them is refused.
-abbrev pub IsNotRefused : Option Files → Command → Type 0
-IsNotRefused files command =
-    (fronts : List (List ℕ)) (refused : Refusal) → AreFronts files (LONGEST + 1) (names_of command) fronts → IsFirstRefusal command fronts refused → ⊥
+-- The answer of a command on files of which none is refused: a status and a text.
+abbrev pub IsContentAnswer : Command → List (List ℕ) → Status → List ℕ → Type 0
+IsContentAnswer (OfDesign job source) files status text = (t : Timing) × Gives source files t × IsJobAnswer job t (own_file source files) status text
+
+-- The defined answer of a command on the first bytes of its files: the line of the first refusal, or its answer.
+abbrev pub IsDefined : Command → List (List ℕ) → Status → List ℕ → Type 0
+IsDefined command files Refused text = (refused : Refusal) × IsFirstRefusal command files refused × (text ≡ refusal_line refused)
+IsDefined command files status text = AreShort files × IsContentAnswer command files status text
+
+-- The status is that of an answer to a command.
+abbrev pub IsOfCommand : Status → Type 0
+IsOfCommand Done = Unit {0}
+IsOfCommand Found = Unit {0}
+IsOfCommand Refused = Unit {0}
+IsOfCommand status = ⊥
+
+-- Whatever the files of these names are read as, the command refuses none of them.
+abbrev pub IsNotRefused : Option Files → Command → List (List ℕ) → Type 0
+IsNotRefused files command names =
+    (fronts : List (List ℕ)) (refused : Refusal) → AreFronts files (LONGEST + 1) names fronts → IsFirstRefusal command fronts refused → ⊥
 
 -- The status is that of an answer which isn't a refusal, or memory was wanting.
 abbrev pub IsComplete : Status → Type 0
@@ -48,7 +69,7 @@ IsComplete status = ⊥
 abbrev pub IsAnswer : List (List ℕ) → Option Files → Status → List ℕ → Type 0
 IsAnswer words files Usage text = (IsCommand words → ⊥) × (text ≡ usage_line)
 IsAnswer words files status text =
-    (command : Command) × (words ≡ words_of command) × (fronts : List (List ℕ)) × AreFronts files (LONGEST + 1) (names_of command) fronts
+    (command : Command) × (names : List (List ℕ)) × AreWordsOf command names words × (fronts : List (List ℕ)) × AreFronts files (LONGEST + 1) names fronts
     × IsDefined command fronts status text
 
 -- What a run leaves of the bytes that the sink took: with an answer its text at the end, with a failed write a front of

@@ -1,26 +1,57 @@
-use Rattle.std.specs.Prelude.{◌≡◌, ◌≢◌, ℕ, List, [], ◌∷◌, map, codes, String}
+-- The words of commands.
+use Rattle.std.specs.Prelude.{◌≡◌, ◌≢◌, ℕ, List, [], ◌∷◌, ◌++◌, length, map, codes, String}
 use Rattle.std.specs.String.{string_bytes}
+use Rattle.mintc_text.specs.declared.refusals.Role.{Role}
+use Rattle.mintc_text.specs.declared.refusals.Role.TheVariants as role
+use Rattle.mintc_command.specs.declared.command.Command.{Command}
+use Rattle.mintc_command.specs.declared.command.Command.TheVariants.{OfDesign}
+use Rattle.mintc_command.specs.declared.command.Job.{Job}
+use Rattle.mintc_command.specs.declared.command.Job.TheVariants.{Check, Optimise, Verify, Report}
+use Rattle.mintc_command.specs.declared.command.Source.{Source}
+use Rattle.mintc_command.specs.declared.command.Source.TheVariants.{Table}
 
 -- the bytes of each word
 abbrev pub bytes_of : {Z : Type 0} → List (String Z) → List (List ℕ)
 bytes_of words = map string_bytes words
 
--- A command: what is asked of the files of these names.
-pub data Command : Type 0 where
-  check_table : (table schedule : List ℕ) → Command
+-- the word of what is asked, and of what a design is read from
+abbrev pub job_word : Job → List ℕ
+job_word Check = codes "check"
+job_word Optimise = codes "optimise"
+job_word Verify = codes "verify"
+job_word Report = codes "report"
 
--- its words, by position
+abbrev pub source_word : Source → List ℕ
+source_word Table = codes "table"
+
+-- what the files of a design hold, in their order
+abbrev pub source_roles : Source → List Role
+source_roles Table = role.Table ∷ []
+
+-- what the file holds that stands after those of the design, if there is one
+abbrev pub job_roles : Job → List Role
+job_roles Check = role.Schedule ∷ []
+job_roles Optimise = []
+job_roles Verify = role.Certificate ∷ []
+job_roles Report = []
+
+-- the words that a command begins with
 abbrev pub words_of : Command → List (List ℕ)
-words_of (check_table table schedule) = codes "check" ∷ codes "table" ∷ table ∷ schedule ∷ []
+words_of (OfDesign job source) = job_word job ∷ source_word source ∷ []
 
--- the names of its files, in the order of the words
-abbrev pub names_of : Command → List (List ℕ)
-names_of (check_table table schedule) = table ∷ schedule ∷ []
+-- what each file that a command names holds, in the order of the words
+abbrev pub roles_of : Command → List Role
+roles_of (OfDesign job source) = source_roles source ++ job_roles job
+
+-- The words are the command's, and then the names of its files, one for each role.
+pub record AreWordsOf (command : Command) (names words : List (List ℕ)) : Type 0 where
+  pub count : length names ≡ length (roles_of command)
+  pub whole : words ≡ words_of command ++ names
 
 -- The words are those of some command.
 abbrev pub IsCommand : List (List ℕ) → Type 0
-IsCommand words = (command : Command) × (words ≡ words_of command)
+IsCommand words = (command : Command) × (names : List (List ℕ)) × AreWordsOf command names words
 
 -- They are those of a command that names a file.
 abbrev pub NameFile : List (List ℕ) → Type 0
-NameFile words = (command : Command) × (words ≡ words_of command) × (names_of command ≢ [])
+NameFile words = (command : Command) × (names : List (List ℕ)) × AreWordsOf command names words × (names ≢ [])

@@ -3,7 +3,7 @@ use Rattle.std.specs.Prelude.{◌≡◌, ◌⊎◌, ℕ, List}
 use Rattle.mintc_text.specs.declared.refusals.Refusal.{Refusal}
 use Rattle.mintc_build.specs.Laws.{IsLoopRefusal}
 use Rattle.mintc_command.specs.Answers.{IsDefined, IsFirstRefusal}
-use Rattle.mintc_command.specs.Commands.{Command}
+use Rattle.mintc_command.specs.declared.command.Command.{Command}
 use Rattle.mintc_command.specs.declared.status.Status.{Status}
 use Rattle.mintc_command.specs.declared.status.Status.TheVariants.{Refused}
 

@@ -1,5 +1,6 @@
 pub mod Statuses
 pub mod Commands
-pub mod Checks
+pub mod Sources
+pub mod Jobs
 pub mod Answers
 pub mod Laws

@@ -2,6 +2,7 @@
 ghost use Rattle.mintc_command.specs.Laws.{RefusalsAreDetermined, RefusalsExcludeAnswers};
 
 use mintc_build::{accepted_designs_are_not_refused, design_refusals_are_determined};
+use mintc_certificate::certificate_texts_are_plain;
 use mintc_timing::{schedule_texts_are_plain, table_texts_are_plain};
 
 /// Where there is a first refusal, its line is the only answer.
@@ -10,6 +11,7 @@ pub fn refusals_exclude_answers()
 {
     schedule_texts_are_plain();
     table_texts_are_plain();
+    certificate_texts_are_plain();
     accepted_designs_are_not_refused();
 }
 
@@ -19,6 +21,7 @@ pub fn refusals_are_determined()
 {
     schedule_texts_are_plain();
     table_texts_are_plain();
+    certificate_texts_are_plain();
     accepted_designs_are_not_refused();
     design_refusals_are_determined();
 }

@@ -5,11 +5,16 @@
 #![tactic(auto)]
 
 mod answer;
+mod answering;
+mod checking;
 mod command;
 mod laws;
+mod optimum;
 mod program;
 mod reading;
+mod source;
 mod status;
+mod verifying;
 
 pub use laws::{refusals_are_determined, refusals_exclude_answers};
 pub use program::run;

@@ -2,10 +2,11 @@
 ghost use Rattle.std.specs.Prelude.{◌≡◌, ◌≢◌, ◌⊎◌, ◌+◌, ℕ, List, Option, length};
 ghost use Rattle.mintc_text.specs.Outside.{Files, Rose};
 ghost use Rattle.mintc_command.specs.Answers.{HoldsAll, IsAfterReading, IsAnswer, IsComplete, IsNotRefused, IsOfNoCommand, MakesAtMost, Writes};
-ghost use Rattle.mintc_command.specs.Commands.{Command, IsCommand, NameFile, bytes_of, names_of, words_of};
+ghost use Rattle.mintc_command.specs.declared.command.Command.{Command};
+ghost use Rattle.mintc_command.specs.Commands.{AreWordsOf, IsCommand, NameFile, bytes_of};
 
-use crate::answer::answer_to;
-use crate::command::is_command;
+use crate::answering::answer_to;
+use crate::command::command_of;
 use crate::reading::read_files;
 use crate::status::Status;
 use mintc_text::{OutOfMemory, Shelf, ShelfError, Sink};
@@ -36,26 +37,28 @@ pub fn run<S: Shelf, O: Sink>(alloc: Global, words: &[String], shelf: &mut S, ou
     ensures usage { (IsCommand (bytes_of words.now) → ⊥) → IsOfNoCommand result }
 
     ensures written { Writes (bytes_of words.now) (S.files shelf.old) result (O.taken out.old) (O.taken out.new) }
-    ensures held { (command : Command) → bytes_of words.now ≡ words_of command → IsAfterReading result → HoldsAll (S.files shelf.old) (names_of command) }
+    ensures held { (command : Command) (names : List (List ℕ)) → AreWordsOf command names (bytes_of words.now) → IsAfterReading result → HoldsAll (S.files shelf.old) names }
     ensures same { S.files shelf.new ≡ S.files shelf.old }
 
     ensures read_fault { result ≡ Status.ReadFault → NameFile (bytes_of words.now) }
     ensures read_cause { result ≡ Status.ReadFault → Rose (S.faults shelf.old) (S.faults shelf.new) }
-    ensures sound { (command : Command) → bytes_of words.now ≡ words_of command → S.is_sound shelf.old → HoldsAll (S.files shelf.old) (names_of command) → result ≢ Status.ReadFault }
-    ensures reads { (command : Command) → bytes_of words.now ≡ words_of command → MakesAtMost (length (names_of command)) (S.calls shelf.old) (S.calls shelf.new) }
+    ensures sound { (command : Command) (names : List (List ℕ)) → AreWordsOf command names (bytes_of words.now) → S.is_sound shelf.old → HoldsAll (S.files shelf.old) names →
+        result ≢ Status.ReadFault }
+    ensures reads { (command : Command) (names : List (List ℕ)) → AreWordsOf command names (bytes_of words.now) →
+        MakesAtMost (length names) (S.calls shelf.old) (S.calls shelf.new) }
     ensures no_reads { (IsCommand (bytes_of words.now) → ⊥) → S.calls shelf.new ≡ S.calls shelf.old }
 
-    ensures complete { (command : Command) → bytes_of words.now ≡ words_of command → S.is_sound shelf.old → HoldsAll (S.files shelf.old) (names_of command) →
-        IsNotRefused (S.files shelf.old) command → (Rose (O.faults out.old) (O.faults out.new) → ⊥) → IsComplete result }
+    ensures complete { (command : Command) (names : List (List ℕ)) → AreWordsOf command names (bytes_of words.now) → S.is_sound shelf.old → HoldsAll (S.files shelf.old) names →
+        IsNotRefused (S.files shelf.old) command names → (Rose (O.faults out.old) (O.faults out.new) → ⊥) → IsComplete result }
 
     ensures write_cause { result ≡ Status.WriteFault → Rose (O.faults out.old) (O.faults out.new) }
     ensures writes { MakesAtMost 1 (O.calls out.old) (O.calls out.new) }
 {
-    if !is_command(words) {
+    let Some(command) = command_of(words) else {
         return write(out, Status::Usage, USAGE);
-    }
+    };
     match read_files(alloc, shelf, &words[2..]) {
-        Ok(files) => match answer_to(alloc, files.as_slice()) {
+        Ok(files) => match answer_to(alloc, command, files.as_slice()) {
             Ok(answer) => write(out, answer.status, answer.text.items()),
             Err(OutOfMemory) => Status::OutOfMemory,
         },

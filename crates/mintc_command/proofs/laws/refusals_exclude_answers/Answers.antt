@@ -10,6 +10,8 @@ returns c =
       one_design = c.table_texts_are_plain.ensures.value;
       no_table_fault = c.table_texts_are_plain.ensures.no_fault;
       one_table_fault = c.table_texts_are_plain.ensures.fault;
+      no_certificate_fault = c.certificate_texts_are_plain.ensures.no_fault;
+      one_certificate_fault = c.certificate_texts_are_plain.ensures.fault;
       accepted = c.accepted_designs_are_not_refused.ensures;
     } in
     exclude_lem laws

@@ -1,8 +1,8 @@
 use Rattle.std.proofs.Common.{◌≡◌, ◌≢◌, [], length, ap, arith}
 use Rattle.std.proofs.lemmas.List.{nil_from_length}
 use Rattle.std.proofs.lemmas.Bool.Decides.{nat_tests}
-use Rattle.mintc_command.proofs.CheckLaws.{IsJudgement-pass, IsJudgement-fail, NamePairs-seen}
-use Rattle.mintc_command.proofs.answer.judged.Goals as goal
+use Rattle.mintc_command.proofs.JudgementLaws.{IsJudgement-pass, IsJudgement-fail, NamePairs-seen}
+use Rattle.mintc_command.proofs.checking.judged.Goals as goal
 
 pub returns-then-is_empty : goal.returns-then-is_empty
 returns-then-is_empty c =

@@ -1,5 +1,5 @@
-use Rattle.mintc_command.proofs.CheckLaws.{IsTableOf-system, StopsAt-system}
-use Rattle.mintc_command.proofs.answer.system_of.Goals as goal
+use Rattle.mintc_command.proofs.SourceLaws.{IsTableOf-system, StopsAt-system}
+use Rattle.mintc_command.proofs.source.system_of_table.Goals as goal
 
 pub returns-in-Ok-system-clause-value : goal.returns-in-Ok-system-clause-value
 returns-in-Ok-system-clause-value c =

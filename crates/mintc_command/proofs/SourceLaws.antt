@@ -1,0 +1,39 @@
+-- Tables and their systems.
+use Rattle.std.proofs.Common.{◌≡◌, ◌<◌, ◌≤◌, ℕ, zero, suc, List, [], ◌∷◌, length, get_or, take, inl, inr, refl, arith}
+use Rattle.std.proofs.lemmas.List.Elements.{All-head, All-tail}
+use Rattle.mintc_text.specs.declared.refusals.Refusal.TheVariants as refusal
+use Rattle.mintc_text.specs.declared.refusals.Role.{Role}
+use Rattle.mintc_text.specs.declared.refusals.Stop.{Stop}
+use Rattle.mintc_text.specs.declared.refusals.Stop.TheVariants as stop
+use Rattle.mintc_text.specs.Stops.{StopsAt}
+use Rattle.mintc_timing.specs.Accepted.{SystemsAreAccepted}
+use Rattle.mintc_timing.specs.Design.{Design, Timing}
+use Rattle.mintc_timing.specs.Limits.{IsDesign}
+use Rattle.mintc_timing.specs.Order.{IsTiming}
+use Rattle.mintc_timing.specs.TableText.{IsTableText}
+use Rattle.mintc_build.specs.Designs.{IsDesignRefusal}
+use Rattle.mintc_command.specs.Sources.{AreShort, IsLengthRefusal, IsTableOf, IsTableRefused}
+use Rattle.mintc_command.specs.declared.reading.TheConstants.{LONGEST}
+
+-- What stops a system of a table's design stops the table.
+pub StopsAt-system : (table : List ℕ) (design : Design) (s : Stop) → IsTableText table design → IsDesign design → StopsAt (IsDesignRefusal design) s → StopsAt (IsTableRefused table) s
+StopsAt-system table design (stop.Refused refused) text limits h = inr (design, text, limits, h)
+StopsAt-system table design stop.OutOfMemory text limits h = tt
+
+-- A system of a table's design is the table's.
+pub IsTableOf-system : SystemsAreAccepted → (table : List ℕ) (design : Design) (t : Timing) → IsTableText table design → IsDesign design → t.flat ≡ design → IsTiming t.flat t.order t.pairs → IsTableOf table t
+IsTableOf-system accepted table design t text limits same timing =
+    let limits_too : IsDesign t.flat = rw same limits in
+    record { text = rw same text; accepted = accepted t.flat t.order t.pairs limits_too timing; pairs = timing.extremes }
+
+-- A file that is too long, after some that aren't, is refused by its role.
+pub IsLengthRefusal-at : (roles : List Role) (files : List (List ℕ)) (n : ℕ) (d : Role) → n < length files → n < length roles →
+    AreShort (take n files) → LONGEST < length (get_or files n []) → IsLengthRefusal roles files (refusal.TooLong (get_or roles n d))
+IsLengthRefusal-at [] files n d below role_below short long = absurd (omega (arith, role_below))
+IsLengthRefusal-at (r ∷ roles) [] n d below role_below short long = absurd (omega (arith, below))
+IsLengthRefusal-at (r ∷ roles) (bytes ∷ files) zero d below role_below short long = inl (long, refl)
+IsLengthRefusal-at (r ∷ roles) (bytes ∷ files) (suc n) d below role_below short long =
+    inr (
+      All-head (λ (b : List ℕ). length b ≤ LONGEST) bytes (take n files) short,
+      IsLengthRefusal-at roles files n d (omega (arith, below)) (omega (arith, role_below)) (All-tail (λ (b : List ℕ). length b ≤ LONGEST) bytes (take n files) short) long,
+    )

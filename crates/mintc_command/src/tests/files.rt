@@ -1,0 +1,145 @@
+//! The files of the rows.
+
+/// The files of the rows, each a name and its bytes.
+pub const FILES: [(&str, &str); 26] = [
+    (
+        "TAB1",
+        "table 1\nphases 2\nphase phi1\nphase phi2\nelements 2\nelement a 1 10 - 10 10 0\nelement b 2 10 - 10 10 0\ninner 0\narcs 2\narc q0 d1 20 20\narc q1 d0 60 60\nbounds 0\nend\n",
+    ),
+    (
+        "SCH1",
+        "schedule 1\nden 1\ncycle 100\nphases 2\nphase 0 10\nphase 10 30\nend\n",
+    ),
+    (
+        "short.schedule",
+        "schedule 1\nden 1\ncycle 99\nphases 2\nphase 0 10\nphase 10 30\nend\n",
+    ),
+    (
+        "overlap.schedule",
+        "schedule 1\nden 1\ncycle 100\nphases 2\nphase 0 12\nphase 10 25\nend\n",
+    ),
+    (
+        "hold.table",
+        "table 1\nphases 1\nphase p\nelements 1\nelement a 1 0 5 0 0 0\ninner 0\narcs 1\narc q0 d0 20 20\nbounds 0\nend\n",
+    ),
+    (
+        "one.schedule",
+        "schedule 1\nden 1\ncycle 100\nphases 1\nphase 0 50\nend\n",
+    ),
+    (
+        "early.table",
+        "table 1\nphases 1\nphase p\nelements 3\nelement a 1 0 - 0 0 0\nelement b 1 0 - 0 0 0\nelement c 1 0 8 0 0 0\ninner 0\narcs 2\narc q0 d1 120 120\narc q1 d2 40 40\nbounds 0\nend\n",
+    ),
+    (
+        "bound.table",
+        "table 1\nphases 2\nphase phi1\nphase phi2\nelements 2\nelement a 1 10 - 10 10 0\nelement b 2 10 - 10 10 0\ninner 0\narcs 2\narc q0 d1 20 20\narc q1 d0 60 60\nbounds 1\nbound o o 101 1\nend\n",
+    ),
+    (
+        "inner.table",
+        "table 1\nphases 2\nphase phi1\nphase phi2\nelements 2\nelement a 1 10 - 10 10 0\nelement b 2 10 - 10 10 0\ninner 1\narcs 3\narc q0 n0 15 15\narc n0 d1 5 5\narc q1 d0 60 60\nbounds 0\nend\n",
+    ),
+    (
+        "flops.table",
+        "table 2\nphases 1\nphase p\nelements 2\nelement a 1 flop 5 - 10 10 0\nelement b 1 flop 5 - 10 10 0\ninner 0\narcs 2\narc q0 d1 85 85\narc q1 d0 35 35\nbounds 0\nend\n",
+    ),
+    (
+        "flops.schedule",
+        "schedule 1\nden 1\ncycle 95\nphases 1\nphase 0 0\nend\n",
+    ),
+    (
+        "race.table",
+        "table 2\nphases 1\nphase p\nelements 2\nelement a 1 flop 0 - 2 2 0\nelement b 1 flop 0 10 2 2 0\ninner 0\narcs 1\narc q0 d1 3 3\nbounds 0\nend\n",
+    ),
+    (
+        "race.schedule",
+        "schedule 1\nden 1\ncycle 100\nphases 1\nphase 0 0\nend\n",
+    ),
+    (
+        "enable.table",
+        "table 3\nphases 2\nphase phi1\nphase phi2\nelements 2\nelement a 1 latch 10 - 10 10 4 4 0\nelement b 2 latch 10 - 10 10 10 10 0\ninner 0\narcs 2\narc q0 d1 20 20\narc q1 d0 60 60\nbounds 0\nend\n",
+    ),
+    (
+        "sum.table",
+        "table 1\nphases 1\nphase p\nelements 1\nelement a 1 0 - 0 0 0\ninner 1\narcs 2\narc q0 n0 1000000000 1000000000\narc n0 d0 0 0\nbounds 0\nend\n",
+    ),
+    (
+        "long.table",
+        "table 1\nphases 1\nphase p\nelements 1\nelement a 1 0 - 0 0 0\ninner 1\narcs 2\narc q0 n0 1000000000 1000000000\narc n0 d0 1 1\nbounds 0\nend\n",
+    ),
+    (
+        "slow.schedule",
+        "schedule 1\nden 1\ncycle 1000000000\nphases 1\nphase 0 50\nend\n",
+    ),
+    (
+        "closed.table",
+        "table 1\nphases 1\nphase p\nelements 0\ninner 2\narcs 2\narc n0 n1 0 0\narc n1 n0 0 0\nbounds 0\nend\n",
+    ),
+    (
+        "cut.table",
+        "table 1\nphases 2\nphase phi1\nphase phi2\nelements 2\n",
+    ),
+    ("empty.schedule", ""),
+    (
+        "half.table",
+        "table 1\nphases 1\nphase p\nelements 2\nelement a 1 0 - 0 0 0\nelement b 1 0 - 0 0 0\ninner 0\narcs 2\narc q0 d1 31 31\narc q1 d0 20 20\nbounds 0\nend\n",
+    ),
+    (
+        "empty.table",
+        "table 1\nphases 1\nphase p\nelements 0\ninner 0\narcs 0\nbounds 0\nend\n",
+    ),
+    (
+        "never.table",
+        "table 1\nphases 1\nphase p\nelements 1\nelement a 1 10 - 0 0 0\ninner 0\narcs 0\nbounds 1\nbound e1 s1 -5 0\nend\n",
+    ),
+    (
+        "tight.table",
+        "table 1\nphases 2\nphase phi1\nphase phi2\nelements 2\nelement a 1 10 - 10 10 0\nelement b 2 70 - 10 10 0\ninner 0\narcs 2\narc q0 d1 20 20\narc q1 d0 60 60\nbounds 0\nend\n",
+    ),
+    (
+        "CERT1",
+        "certificate 2\nleast\nden 1\ncycle 100\nphases 2\nphase 0 10\nphase 10 30\ndepartures 2\ndeparture 0\ndeparture 20\nchain 2\nreach 0 1 1 0\nreach 1 0 1 1\nend\n",
+    ),
+    (
+        "paths.table",
+        "table 1\nphases 1\nphase p\nelements 2\nelement a 1 0 - 0 0 0\nelement b 1 0 - 0 0 0\ninner 1\narcs 3\narc q0 d1 20 20\narc q0 n0 1 1\narc n0 d1 2 2\nbounds 0\nend\n",
+    ),
+];
+
+/// Certificates of the first table, each the name of its row, the text after its first line, and what `verify` answers.
+pub const CERTIFICATES: [(&str, &str, &str); 7] = [
+    (
+        "verify-valid",
+        "least\nden 1\ncycle 100\nphases 2\nphase 0 10\nphase 10 30\ndepartures 2\ndeparture 0\ndeparture 20\nchain 2\nreach 0 1 1 0\nreach 1 0 1 1\nend\n",
+        "valid\n",
+    ),
+    (
+        "verify-wrong-departure",
+        "least\nden 1\ncycle 100\nphases 2\nphase 0 10\nphase 10 30\ndepartures 2\ndeparture 0\ndeparture 21\nchain 2\nreach 0 1 1 0\nreach 1 0 1 1\nend\n",
+        "invalid 4\n",
+    ),
+    (
+        "verify-open-chain",
+        "least\nden 1\ncycle 100\nphases 2\nphase 0 10\nphase 10 30\ndepartures 2\ndeparture 0\ndeparture 20\nchain 1\nreach 0 1 1 0\nend\n",
+        "invalid 6\n",
+    ),
+    (
+        "verify-later-departures",
+        "least\nden 1\ncycle 100\nphases 2\nphase 0 15\nphase 15 30\ndepartures 2\ndeparture 5\ndeparture 20\nchain 2\nreach 0 1 1 0\nreach 1 0 1 1\nend\n",
+        "valid\n",
+    ),
+    (
+        "verify-missing-departure",
+        "least\nden 1\ncycle 100\nphases 2\nphase 0 10\nphase 10 30\ndepartures 1\ndeparture 0\nchain 2\nreach 0 1 1 0\nreach 1 0 1 1\nend\n",
+        "invalid 1\n",
+    ),
+    (
+        "verify-above-least",
+        "least\nden 1\ncycle 101\nphases 2\nphase 0 10\nphase 10 30\ndepartures 2\ndeparture 0\ndeparture 20\nchain 2\nreach 0 1 1 0\nreach 1 0 1 1\nend\n",
+        "invalid 7\n",
+    ),
+    (
+        "certificate-without-end",
+        "least\nden 1\ncycle 100\nphases 2\nphase 0 10\nphase 10 30\ndepartures 2\ndeparture 0\ndeparture 20\nchain 2\nreach 0 1 1 0\nreach 1 0 1 1\n",
+        "refused 1 certificate 14\n",
+    ),
+];
