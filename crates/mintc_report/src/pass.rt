@@ -84,24 +84,8 @@ pub fn pass_text(
 #[cfg(test)]
 mod tests {
     use super::*;
-    use mintc_text::Name;
+    use crate::tests::element;
     use std::test::Fail;
-
-    fn element(alloc: Global, name: &str) -> Result<Element, OutOfMemory> {
-        Ok(Element {
-            name: Name::new(alloc, name.as_bytes())?,
-            phase: 1,
-            flop: false,
-            setup: 0,
-            hold: 0,
-            has_hold: false,
-            dq_min: 0,
-            dq_max: 0,
-            cq_min: 0,
-            cq_max: 0,
-            width: 0,
-        })
-    }
 
     #[test]
     fn shows_departures(rt: HostRuntime) -> Result<(), Fail> {
