@@ -1,5 +1,5 @@
 -- The greatest lane, by three turns.
-use Rattle.std.proofs.Common.{◌≡◌, ℕ, zero, suc, ◌+◌, ◌*◌, ◌%◌, ◌^◌, ◌<◌, ◌≤◌, ℤ, ◌≤ℤ◌, ◌<ℤ◌, Bool, true, false, cond, Option, Some, None, List, length, refl, sym, ap, ◌∙◌, subst, arith}
+use Rattle.std.proofs.Common.{◌≡◌, ℕ, zero, suc, ◌+◌, ◌*◌, ◌%◌, ◌^◌, ◌<◌, ◌≤◌, ℤ, ◌≤ℤ◌, ◌<ℤ◌, ◌-ℤ◌, Bool, true, false, cond, Option, Some, None, List, length, refl, sym, ap, ◌∙◌, subst, arith, w64, SFits}
 use Rattle.std.specs.Prelude.{unsigned_abs, IfSome, IsSomeAnd, Contains}
 use Rattle.std.specs.Int.{int_max}
 use Rattle.std.specs.Ordering.{int_eq}
@@ -8,7 +8,7 @@ use Rattle.std.proofs.lemmas.List.Elements.{Contains-get_or}
 use Rattle.mintc_lanes.specs.declared.TheConstants.{ABSENT}
 use Rattle.mintc_lanes.specs.Lanes.{lane_of, AreLanes, IsGreatestLane}
 use Rattle.mintc_lanes.specs.Vectors.{HasNumbers, number_at}
-use Rattle.mintc_lanes.proofs.Joining.{present, size_of_present}
+use Rattle.mintc_lanes.proofs.Joining.{present, size_of_present, IsNear, IsNear-lane, difference_fits}
 
 -- a vector with the greater of each number and the number o places on
 abbrev pub IsTurn : List ℤ → ℕ → List ℤ → Type 0
@@ -78,3 +78,18 @@ IsGreatestLane-from_turns v w x y count lanes t =
 -- a turn by the code: the greater of a vector and of the vector turned round
 pub turn_is : (v turned w : List ℤ) (o : ℕ) → HasNumbers turned (λ k. number_at v ((k + o) % 8)) → HasNumbers w (λ k. int_max (number_at v k) (number_at turned k)) → IsTurn v o w
 turn_is v turned w o places greater k lt = greater k lt ∙ ap (λ z. int_max (number_at v k) z) (places k lt)
+
+-- each number is that of a lane
+abbrev pub AreNear : List ℤ → Type 0
+AreNear v = (k : ℕ) → k < 8 → IsNear (number_at v k)
+
+pub AreNear-row : (row : List ℤ) → AreLanes row → AreNear row
+AreNear-row row lanes k lt = IsNear-lane (number_at row k) (lanes k lt)
+
+pub AreNear-turn : (v w : List ℤ) (o : ℕ) → IsTurn v o w → AreNear v → AreNear w
+AreNear-turn v w o turn near = of_turn IsNear v o w turn near
+
+pub turn_differs : (v turned : List ℤ) (o : ℕ) → AreNear v → HasNumbers turned (λ k. number_at v ((k + o) % 8)) →
+    (k : ℕ) → k < 8 → SFits w64 (number_at v k -ℤ number_at turned k)
+turn_differs v turned o near places k lt =
+    difference_fits (number_at v k) (number_at turned k) (near k lt) (subst IsNear (sym (places k lt)) (near ((k + o) % 8) (round k o)))

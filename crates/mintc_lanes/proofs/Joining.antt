@@ -1,5 +1,5 @@
 -- Lanes beside each other.
-use Rattle.std.proofs.Common.{◌≡◌, ℕ, ◌+◌, ◌*◌, ◌^◌, ◌<◌, ◌≤◌, max, ℤ, ◌+ℤ◌, ◌<ℤ◌, ◌≤ℤ◌, Bool, true, false, cond, ◌⊎◌, inl, inr, ⊎_elim, Option, Some, None, List, length, refl, sym, ap, ◌∙◌, subst, arith, w64, SFits}
+use Rattle.std.proofs.Common.{◌≡◌, ℕ, ◌+◌, ◌*◌, ◌^◌, ◌<◌, ◌≤◌, max, ℤ, pos, ◌+ℤ◌, ◌-ℤ◌, ◌<ℤ◌, ◌≤ℤ◌, Bool, true, false, cond, ◌⊎◌, inl, inr, ⊎_elim, Option, Some, None, List, length, refl, sym, ap, ◌∙◌, subst, arith, w64, SFits}
 use Rattle.std.specs.Prelude.{unsigned_abs, IfSome, IsSome}
 use Rattle.std.specs.Int.{int_max, int_min}
 use Rattle.std.specs.Ordering.{int_eq}
@@ -31,6 +31,26 @@ lane_fits x h = ⊎_elim (λ e. omega (arith, ints)) (λ small. omega (arith, in
 
 pub sum_fits : (x add : ℤ) → IfSome (lane_of x) (λ v. unsigned_abs v ≤ 2 * 10 ^ 18) → unsigned_abs add ≤ 10 ^ 18 → SFits w64 (x +ℤ add)
 sum_fits x add h few = ⊎_elim (λ e. omega (arith, ints)) (λ small. omega (arith, ints)) (within_cases (2 * 10 ^ 18) x h)
+
+-- a lane's number, or the greater of two
+pub record IsNear (z : ℤ) : Type 0 where
+  pub low : ABSENT ≤ℤ z
+  pub high : z ≤ℤ pos (2 * 10 ^ 18)
+
+pub IsNear-lane : (x : ℤ) → IfSome (lane_of x) (λ v. unsigned_abs v ≤ 2 * 10 ^ 18) → IsNear x
+IsNear-lane x h = ⊎_elim
+    (λ (e : x ≡ ABSENT). record { low = omega (arith, ints); high = omega (arith, ints) })
+    (λ (small : unsigned_abs x ≤ 2 * 10 ^ 18). record { low = omega (arith, ints); high = omega (arith, ints) })
+    (within_cases (2 * 10 ^ 18) x h)
+
+pub difference_fits : (x y : ℤ) → IsNear x → IsNear y → SFits w64 (x -ℤ y)
+difference_fits x y p q = let a = p.low in let b = p.high in let c = q.low in let d = q.high in omega (arith, ints)
+
+pub sum_differs : (x y s add : ℤ) → IfSome (lane_of x) (λ v. unsigned_abs v ≤ 2 * 10 ^ 18) → IfSome (lane_of y) (λ v. unsigned_abs v ≤ 2 * 10 ^ 18) →
+    unsigned_abs add ≤ 10 ^ 18 → s ≡ y +ℤ add → SFits w64 (x -ℤ s)
+sum_differs x y s add h g few e =
+    let p = IsNear-lane x h in let q = IsNear-lane y g in
+    let a = p.low in let b = p.high in let c = q.low in let d = q.high in omega (arith, ints)
 
 -- a number that is present, of a lane within the bound
 pub size_of_present : (x : ℤ) → IfSome (lane_of x) (λ v. unsigned_abs v ≤ 2 * 10 ^ 18) → int_eq x ABSENT ≡ false → unsigned_abs x ≤ 2 * 10 ^ 18

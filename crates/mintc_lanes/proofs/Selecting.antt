@@ -1,9 +1,9 @@
 -- What the operations on vectors give at each number.
-use Rattle.std.proofs.Common.{◌≡◌, ℕ, ◌+◌, ◌-◌, ◌%◌, ◌^◌, ◌<◌, ℤ, ◌+ℤ◌, Bool, true, false, cond, eqb, List, length, get_or, refl, sym, ap, ◌∙◌, subst, arith, w64, to_z, of_z, SFits, map, lit<}
+use Rattle.std.proofs.Common.{◌≡◌, ℕ, ◌+◌, ◌-◌, ◌%◌, ◌^◌, ◌<◌, ℤ, pos, ◌+ℤ◌, ◌-ℤ◌, Bool, true, false, cond, eqb, List, length, get_or, refl, sym, ap, ◌∙◌, subst, arith, w64, to_z, of_z, SFits, map, lit<}
 use Rattle.std.specs.Int.{int_max, int_min}
 use Rattle.std.specs.Ordering.{int_eq}
 use Rattle.std.proofs.lemmas.Bool.Decides.{same_from_decides, Decides-int_eq, Decides-eqb}
-use Rattle.std.proofs.lemmas.Int.{ints, clamps, to_z-of_z, wrapping_add_is, int_wrap_fits}
+use Rattle.std.proofs.lemmas.Int.{ints, clamps, to_z-of_z, wrapping_add_is, wrapping_sub_is, int_wrap_fits}
 use Rattle.std.proofs.lemmas.List.{get_or-map}
 use Rattle.std.proofs.Math.ListN.{length-map}
 use Rattle.std.proofs.lemmas.Simd.{tops_compared, length-zip2, length-sel_l, get_or-sel_l, get_or-zip2, get_or-replicate, length-replicate}
@@ -64,28 +64,53 @@ selected_at t us vs xs ys k lu lv lx ly lt =
 abbrev pub is_below : ℕ → ℕ → Bool
 is_below a b = lt_z (to_z w64 a) (to_z w64 b)
 
-below_by_bits : (x y : ℤ) → SFits w64 x → SFits w64 y → is_below (of_z w64 x) (of_z w64 y) ≡ lt_z x y
-below_by_bits x y p q = rw (to_z-of_z w64 x p, to_z-of_z w64 y q) refl
+-- differences of the bits, which wrap
+abbrev pub differences : List ℕ → List ℕ → List ℕ
+differences us vs = zip2 (λ a b. (a + (2 ^ 64 - b)) % 2 ^ 64) us vs
+
+abbrev pub zeros : List ℕ
+zeros = replicate 8 0
+
+pub length-differences : (us vs : List ℕ) → length us ≡ 8 → length vs ≡ 8 → length (differences us vs) ≡ 8
+length-differences us vs lu lv = length-zip2 (λ a b. (a + (2 ^ 64 - b)) % 2 ^ 64) us vs (lu ∙ sym lv) ∙ lu
+
+difference_at : (xs ys : List ℤ) → IsVector xs → IsVector ys → ((k : ℕ) → k < 8 → SFits w64 (number_at xs k -ℤ number_at ys k)) →
+    (k : ℕ) → k < 8 → to_z w64 (get_or (differences (bits_of xs) (bits_of ys)) k 0) ≡ number_at xs k -ℤ number_at ys k
+difference_at xs ys p q near k lt =
+    let us = bits_of xs in
+    let vs = bits_of ys in
+    let lu : length us ≡ 8 = length-bits_of xs ∙ p.count in
+    let lv : length vs ≡ 8 = length-bits_of ys ∙ q.count in
+    let countx = p.count in
+    let county = q.count in
+    let bx = bits_at xs k (omega arith) in
+    let by = bits_at ys k (omega arith) in
+    ap (to_z w64) (get_or-zip2 (λ a b. (a + (2 ^ 64 - b)) % 2 ^ 64) us vs k 0 0 0 (omega arith) (omega arith) ∙ ap (λ v. (v + (2 ^ 64 - get_or vs k 0)) % 2 ^ 64) bx ∙ ap (λ v. (of_z w64 (number_at xs k) + (2 ^ 64 - v)) % 2 ^ 64) by)
+    ∙ wrapping_sub_is w64 (number_at xs k) (number_at ys k) (p.fits k lt) (q.fits k lt)
+    ∙ int_wrap_fits w64 (number_at xs k -ℤ number_at ys k) (near k lt)
+
+-- the sign of a difference
+sign_at : (xs ys : List ℤ) → IsVector xs → IsVector ys → ((k : ℕ) → k < 8 → SFits w64 (number_at xs k -ℤ number_at ys k)) →
+    (k : ℕ) → k < 8 → is_below (get_or (differences (bits_of xs) (bits_of ys)) k 0) (get_or zeros k 0) ≡ lt_z (number_at xs k -ℤ number_at ys k) (pos 0)
+sign_at xs ys p q near k lt =
+    ap (λ z. lt_z z (to_z w64 (get_or zeros k 0))) (difference_at xs ys p q near k lt)
+    ∙ ap (λ v. lt_z (number_at xs k -ℤ number_at ys k) (to_z w64 v)) (get_or-replicate 8 k 0 0 lt)
 
 choose : (x y : ℤ) (t : Bool) → SFits w64 x → SFits w64 y → to_z w64 (cond t (of_z w64 x) (of_z w64 y)) ≡ cond t x y
 choose x y true p q = to_z-of_z w64 x p
 choose x y false p q = to_z-of_z w64 y q
 
-max_by : (x y : ℤ) (t s : Bool) → lt_z x y ≡ t → lt_z y x ≡ s → cond t y x ≡ cond s x y
-max_by x y true true e f = omega (arith, ints)
-max_by x y true false e f = refl
-max_by x y false true e f = refl
-max_by x y false false e f = omega (arith, ints)
+max_by : (x y : ℤ) (t : Bool) → lt_z (x -ℤ y) (pos 0) ≡ t → cond t y x ≡ int_max x y
+max_by x y true e = omega (arith, ints, clamps)
+max_by x y false e = omega (arith, ints, clamps)
 
-min_by : (x y : ℤ) (t s : Bool) → lt_z x y ≡ t → lt_z y x ≡ s → cond t x y ≡ cond s y x
-min_by x y true true e f = omega (arith, ints)
-min_by x y true false e f = refl
-min_by x y false true e f = refl
-min_by x y false false e f = omega (arith, ints)
+min_by : (x y : ℤ) (t : Bool) → lt_z (x -ℤ y) (pos 0) ≡ t → cond t x y ≡ int_min x y
+min_by x y true e = omega (arith, ints, clamps)
+min_by x y false e = omega (arith, ints, clamps)
 
-pub greater_at : (xs ys : List ℤ) → IsVector xs → IsVector ys →
-    HasNumbers (selected is_below (bits_of xs) (bits_of ys) (bits_of ys) (bits_of xs)) (λ k. int_max (number_at xs k) (number_at ys k))
-greater_at xs ys p q k lt =
+pub greater_at : (xs ys : List ℤ) → IsVector xs → IsVector ys → ((k : ℕ) → k < 8 → SFits w64 (number_at xs k -ℤ number_at ys k)) →
+    HasNumbers (selected is_below (differences (bits_of xs) (bits_of ys)) zeros (bits_of ys) (bits_of xs)) (λ k. int_max (number_at xs k) (number_at ys k))
+greater_at xs ys p q near k lt =
     let x = number_at xs k in
     let y = number_at ys k in
     let lx = length-bits_of xs ∙ p.count in
@@ -94,13 +119,14 @@ greater_at xs ys p q k lt =
     let county = q.count in
     let bx = bits_at xs k (omega arith) in
     let by = bits_at ys k (omega arith) in
-    selected_at is_below (bits_of xs) (bits_of ys) (bits_of ys) (bits_of xs) k lx ly ly lx lt
-    ∙ rw (bx, by, below_by_bits x y (p.fits k lt) (q.fits k lt)) (choose y x (lt_z x y) (q.fits k lt) (p.fits k lt))
-    ∙ max_by x y (lt_z x y) (lt_z y x) refl refl
+    selected_at is_below (differences (bits_of xs) (bits_of ys)) zeros (bits_of ys) (bits_of xs) k (length-differences (bits_of xs) (bits_of ys) lx ly) refl ly lx lt
+    ∙ ap (λ t. to_z w64 (cond t (get_or (bits_of ys) k 0) (get_or (bits_of xs) k 0))) (sign_at xs ys p q near k lt)
+    ∙ rw (bx, by) (choose y x (lt_z (x -ℤ y) (pos 0)) (q.fits k lt) (p.fits k lt))
+    ∙ max_by x y (lt_z (x -ℤ y) (pos 0)) refl
 
-pub lesser_at : (xs ys : List ℤ) → IsVector xs → IsVector ys →
-    HasNumbers (selected is_below (bits_of xs) (bits_of ys) (bits_of xs) (bits_of ys)) (λ k. int_min (number_at xs k) (number_at ys k))
-lesser_at xs ys p q k lt =
+pub lesser_at : (xs ys : List ℤ) → IsVector xs → IsVector ys → ((k : ℕ) → k < 8 → SFits w64 (number_at xs k -ℤ number_at ys k)) →
+    HasNumbers (selected is_below (differences (bits_of xs) (bits_of ys)) zeros (bits_of xs) (bits_of ys)) (λ k. int_min (number_at xs k) (number_at ys k))
+lesser_at xs ys p q near k lt =
     let x = number_at xs k in
     let y = number_at ys k in
     let lx = length-bits_of xs ∙ p.count in
@@ -109,9 +135,10 @@ lesser_at xs ys p q k lt =
     let county = q.count in
     let bx = bits_at xs k (omega arith) in
     let by = bits_at ys k (omega arith) in
-    selected_at is_below (bits_of xs) (bits_of ys) (bits_of xs) (bits_of ys) k lx ly lx ly lt
-    ∙ rw (bx, by, below_by_bits x y (p.fits k lt) (q.fits k lt)) (choose x y (lt_z x y) (p.fits k lt) (q.fits k lt))
-    ∙ min_by x y (lt_z x y) (lt_z y x) refl refl
+    selected_at is_below (differences (bits_of xs) (bits_of ys)) zeros (bits_of xs) (bits_of ys) k (length-differences (bits_of xs) (bits_of ys) lx ly) refl lx ly lt
+    ∙ ap (λ t. to_z w64 (cond t (get_or (bits_of xs) k 0) (get_or (bits_of ys) k 0))) (sign_at xs ys p q near k lt)
+    ∙ rw (bx, by) (choose x y (lt_z (x -ℤ y) (pos 0)) (p.fits k lt) (q.fits k lt))
+    ∙ min_by x y (lt_z (x -ℤ y) (pos 0)) refl
 
 pub SFits-int_max : (x y : ℤ) → SFits w64 x → SFits w64 y → SFits w64 (int_max x y)
 SFits-int_max x y p q = omega (arith, ints, clamps)

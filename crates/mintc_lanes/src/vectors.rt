@@ -1,29 +1,32 @@
 //! Vectors of eight lanes.
-ghost use Rattle.std.specs.Prelude.{◌+◌, ◌%◌, ◌<◌, ℕ, ◌+ℤ◌, FitsSigned};
+ghost use Rattle.std.specs.Prelude.{◌+◌, ◌%◌, ◌<◌, ℕ, ◌+ℤ◌, ◌-ℤ◌, FitsSigned};
 ghost use Rattle.std.specs.Int.{int_max, int_min, w64};
 ghost use Rattle.mintc_lanes.specs.Vectors.{IsVector, HasNumbers, number_at, where_absent_at};
 
 use crate::ABSENT;
 use std::simd::prelude::*;
 
-/// The greater of each two numbers.
+/// The greater of each two numbers. The sign of their difference says which: that takes fewer steps than to compare
+/// numbers of 64 bits on a processor that compares only those of 32.
 pub fn greater(x: i64x8, y: i64x8) -> i64x8
     requires x { IsVector x }
     requires y { IsVector y }
+    requires near { (k : ℕ) → k < 8 → FitsSigned w64 (number_at x k -ℤ number_at y k) }
     ensures vector { IsVector result }
     ensures numbers { HasNumbers result (λ k. int_max (number_at x k) (number_at y k)) }
 {
-    x.simd_max(y)
+    (x - y).simd_lt(i64x8::splat(0)).select(y, x)
 }
 
-/// The lesser of each two numbers.
+/// The lesser of each two numbers, by the sign of their difference.
 pub fn lesser(x: i64x8, y: i64x8) -> i64x8
     requires x { IsVector x }
     requires y { IsVector y }
+    requires near { (k : ℕ) → k < 8 → FitsSigned w64 (number_at x k -ℤ number_at y k) }
     ensures vector { IsVector result }
     ensures numbers { HasNumbers result (λ k. int_min (number_at x k) (number_at y k)) }
 {
-    x.simd_min(y)
+    (x - y).simd_lt(i64x8::splat(0)).select(x, y)
 }
 
 /// Each number with one number added.

@@ -34,7 +34,7 @@ Precede-last from n a b low (inl h) = ⊎_elim (λ less. inl less) (λ e. inr (e
 Precede-last from n a b low (inr h) = absurd (omega (arith, h.1))
 
 -- a list that ascends, with one more item that comes after its last
-at_last : {X : Type 0} (xs : List X) (x d : X) (k : ℕ) → k ≡ length xs → get_or (xs ++ x ∷ []) k d ≡ x
+pub at_last : {X : Type 0} (xs : List X) (x d : X) (k : ℕ) → k ≡ length xs → get_or (xs ++ x ∷ []) k d ≡ x
 at_last [] x d k e = rw e refl
 at_last (y ∷ xs) x d k e = rw e (at_last xs x d (length xs) refl)
 

@@ -9,3 +9,4 @@ pub mod Shortness
 pub mod Tracing
 pub mod Pairing
 pub mod Marking
+pub mod Rowing

@@ -1,9 +1,11 @@
 -- Sums of paths to bits, from up to eight elements at a time.
-use Rattle.std.specs.Prelude.{◌≡◌, ◌<◌, ◌≤◌, ◌+◌, ◌*◌, ℕ, None, List, [], length, slice_index_or, Bool, false}
+use Rattle.std.specs.Prelude.{◌≡◌, ◌<◌, ◌≤◌, ◌+◌, ◌*◌, ℕ, None, List, [], length, slice_index_or, map, Bool, false}
 use Rattle.mintc_timing.specs.declared.parts.TimingArc.{TimingArc}
 use Rattle.mintc_timing.specs.Paths.{output_of, arc_at}
 use Rattle.mintc_lanes.specs.Lanes.{lane_at, AreWithin}
 use Rattle.mintc_paths.specs.declared.sums.Sums.{Sums}
+use Rattle.mintc_paths.specs.declared.rows.Rows.{Rows}
+use Rattle.mintc_paths.specs.declared.rows.Course.{Course}
 use Rattle.mintc_paths.specs.declared.sums.TheConstants.{NO_SUMS}
 use Rattle.mintc_paths.specs.Among.{IsGreatestAmong, IsLeastAmong}
 
@@ -35,12 +37,40 @@ pub record AreBegun (arcs : List TimingArc) (order : List ℕ) (first lanes : �
   pub sums_so_far : AreSums arcs order 0 first lanes sums
   pub absent : (bit lane : ℕ) → bit < length sums → lanes ≤ lane → lane < 8 → (lane_at (sums_at sums bit).greatest lane ≡ None) × (lane_at (sums_at sums bit).least lane ≡ None)
 
--- The list has the arcs that the first k numbers of the order name, one for each, as they stand there.
-pub record AreAlong (arcs : List TimingArc) (order : List ℕ) (k : ℕ) (along : List TimingArc) : Type 0 where
-  pub count : length along ≡ k
-  pub each : (i : ℕ) → i < k → arc_at along i ≡ arc_at arcs (slice_index_or order i 0)
+-- the row in which a bit's sums stand
+abbrev pub row_of : List ℕ → ℕ → ℕ
+row_of rows bit = slice_index_or rows bit 0
 
--- There is a mark for each bit, and one that isn't marked as reached has no sums.
+-- The second list leads back from each number of the first.
+pub record LeadsBack (n : ℕ) (there back : List ℕ) : Type 0 where
+  pub count : length there ≡ n
+  pub inside : (x : ℕ) → x < n → row_of there x < n
+  pub leads : (x : ℕ) → x < n → row_of back (row_of there x) ≡ x
+
+-- So many bits have a row each, and each row is of one bit.
+pub record AreRows (n : ℕ) (rows : Rows) : Type 0 where
+  pub of_bits : LeadsBack n rows.of_bits.items rows.bits.items
+  pub bits : LeadsBack n rows.bits.items rows.of_bits.items
+
+-- the sums at the bits, from those in the rows
+abbrev pub placed : List ℕ → List Sums → List Sums
+placed rows sums = map (sums_at sums) rows
+
+-- the arc from row to row
+abbrev pub moved : List ℕ → TimingArc → TimingArc
+moved rows arc = record { from = row_of rows arc.from; to = row_of rows arc.to; min = arc.min; max = arc.max }
+
+-- The list has the arcs that the first k numbers of the order name, one for each, from row to row.
+pub record AreAlong (arcs : List TimingArc) (order : List ℕ) (rows : List ℕ) (k : ℕ) (along : List TimingArc) : Type 0 where
+  pub count : length along ≡ k
+  pub each : (i : ℕ) → i < k → arc_at along i ≡ moved rows (arc_at arcs (slice_index_or order i 0))
+
+-- The course has rows for so many bits, and all arcs in their order.
+pub record IsCourse (n : ℕ) (arcs : List TimingArc) (order : List ℕ) (course : Course) : Type 0 where
+  pub rows : AreRows n course.rows
+  pub along : AreAlong arcs order course.rows.of_bits.items (length order) course.along.items
+
+-- There is a mark for each row, and one that isn't marked as reached has no sums.
 pub record AreMarked (sums : List Sums) (reached : List Bool) : Type 0 where
   pub count : length reached ≡ length sums
   pub none : (bit : ℕ) → bit < length sums → slice_index_or reached bit false ≡ false → sums_at sums bit ≡ NO_SUMS

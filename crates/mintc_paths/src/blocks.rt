@@ -3,21 +3,22 @@ ghost use Rattle.std.specs.Prelude.{◌≡◌, ◌<◌, ◌≤◌, ◌+◌, ◌*
 ghost use Rattle.mintc_text.specs.Stops.{StopsAt};
 ghost use Rattle.mintc_timing.specs.Order.{IsOrder, ArePathsShort};
 ghost use Rattle.mintc_paths.specs.Found.{IsFoundBefore};
-ghost use Rattle.mintc_paths.specs.Sums.{AreAlong, AreMarked};
+ghost use Rattle.mintc_paths.specs.Sums.{IsCourse, AreMarked};
 ghost use Rattle.mintc_paths.specs.Refusals.{AreShortBefore, IsPathRange};
 
 use crate::found::Found;
 use crate::long::first_long;
-use crate::sums::{NO_SUMS, Sums, arcs_along, fill};
+use crate::rows::{Course, Rows};
+use crate::sums::{NO_SUMS, Sums, fill};
 use mintc_text::{Refusal, Stop};
-use mintc_timing::{Flat, Order, TimingArc};
-use std::alloc::Global;
+use mintc_timing::{Flat, Order};
+use std::alloc::{AllocError, Global};
 
 /// Finds the pairs from so many elements, whose sums go through `sums`.
 fn find_block(
     flat: &Flat,
     order: &Order,
-    along: &[TimingArc],
+    course: &Course,
     sums: &mut [Sums],
     reached: &mut [bool],
     found: &mut Found,
@@ -26,7 +27,7 @@ fn find_block(
 ) -> Result<(), Stop>
     requires bits { length sums.old ≡ 2 * length flat.now.elements + length flat.now.inner }
     requires order { IsOrder flat.now.arcs order.now }
-    requires along { AreAlong flat.now.arcs order.now (length order.now) along.now }
+    requires course { IsCourse (length sums.old) flat.now.arcs order.now course.now }
     requires lanes { lanes ≤ 8 }
     requires elements { first + lanes ≤ length flat.now.elements }
     requires short { AreShortBefore flat.now first }
@@ -38,17 +39,27 @@ fn find_block(
     ensures stop { IfErr result (StopsAt (IsPathRange flat.now)) }
 {
     let _elements = flat.elements();
-    fill(sums, reached, flat, order, along, first, lanes as usize);
-    if let Some(place) = first_long(sums, reached, lanes as usize) {
+    let rows = &course.rows;
+    fill(sums, reached, flat, order, course, first, lanes as usize);
+    if let Some(place) = first_long(sums, reached, rows, lanes as usize) {
         return Err(Stop::Refused(Refusal::PathRange {
             element: first + place.lane as u32,
             bit: place.bit as u32,
         }));
     }
-    match found.add_all(flat, sums, first, lanes as usize) {
+    match found.add_all(flat, sums, rows, first, lanes as usize) {
         Ok(()) => Ok(()),
         Err(_) => Err(Stop::OutOfMemory),
     }
+}
+
+/// The course over rows in the order in which the arcs come to the bits.
+fn course_of(alloc: Global, flat: &Flat, order: &Order) -> Result<Course, AllocError>
+    requires { IsOrder flat.now.arcs order.now }
+    ensures { IfOk result (λ course. IsCourse (2 * length flat.now.elements + length flat.now.inner) flat.now.arcs order.now course) }
+{
+    let rows = Rows::along(alloc, flat, order)?;
+    Course::new(alloc, flat, order, rows)
 }
 
 /// Finds the design's pairs.
@@ -61,13 +72,13 @@ pub fn find(alloc: Global, flat: &Flat, order: &Order) -> Result<Found, Stop>
 {
     let elements = flat.elements().len() as u32;
     let bits = 2 * elements as usize + flat.inner().items().len();
+    let Ok(course) = course_of(alloc, flat, order) else {
+        return Err(Stop::OutOfMemory);
+    };
     let Ok(mut sums) = vec![in alloc; NO_SUMS; bits] else {
         return Err(Stop::OutOfMemory);
     };
     let Ok(mut reached) = vec![in alloc; false; bits] else {
-        return Err(Stop::OutOfMemory);
-    };
-    let Ok(along) = arcs_along(alloc, flat, order) else {
         return Err(Stop::OutOfMemory);
     };
     let mut found = Found::new(alloc);
@@ -77,7 +88,7 @@ pub fn find(alloc: Global, flat: &Flat, order: &Order) -> Result<Found, Stop>
         find_block(
             flat,
             order,
-            &along,
+            &course,
             &mut sums,
             &mut reached,
             &mut found,

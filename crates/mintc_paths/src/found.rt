@@ -1,6 +1,7 @@
 //! Pairs as they are found.
 ghost use Rattle.std.specs.Prelude.{◌≡◌, ◌<◌, ◌≤◌, ◌^◌, ◌+◌, ◌*◌, ◌++◌, ◌∷◌, [], length, OnOk};
 
+use crate::rows::Rows;
 use crate::sums::{Sums, sum_in};
 use mintc_text::OutOfMemory;
 use mintc_timing::{Flat, Pair};
@@ -17,6 +18,7 @@ impl Found {
     ghost use Rattle.mintc_paths.specs.Found.{IsFoundBefore};
     ghost use Rattle.mintc_timing.specs.Design.{Design};
     ghost use Rattle.mintc_lanes.specs.Lanes.{lane_at};
+    ghost use Rattle.mintc_paths.specs.Sums.{AreRows, placed};
     ghost use Rattle.mintc_paths.specs.Reached.{IsPaired, IsPairedLane, AreExtremes};
 
     /// No pairs.
@@ -64,18 +66,21 @@ impl Found {
         &mut self,
         flat: &Flat,
         sums: &[Sums],
+        rows: &Rows,
         element: u32,
         lane: usize,
     ) -> Result<(), OutOfMemory>
         requires bits { 2 * length flat.now.elements ≤ length sums.now }
+        requires rows { AreRows (length sums.now) rows.now }
         requires element { element < length flat.now.elements }
         requires lane { lane < 8 }
-        requires paired { IsPairedLane flat.now sums.now element lane }
+        requires paired { IsPairedLane flat.now (placed rows.now.of_bits.items sums.now) element lane }
         requires found { IsFoundBefore flat.now element 0 self.old }
         ensures { OnOk result (IsFoundBefore flat.now (element + 1) 0 self.new) }
     {
         for to in 0..flat.elements().len() as u32 {
-            self.add_at(element, to, &sums[2 * to as usize], lane)?;
+            let row = rows.of_bits[2 * to as usize];
+            self.add_at(element, to, &sums[row as usize], lane)?;
         }
         Ok(())
     }
@@ -85,19 +90,21 @@ impl Found {
         &mut self,
         flat: &Flat,
         sums: &[Sums],
+        rows: &Rows,
         first: u32,
         lanes: usize,
     ) -> Result<(), OutOfMemory>
         requires bits { 2 * length flat.now.elements ≤ length sums.now }
+        requires rows { AreRows (length sums.now) rows.now }
         requires elements { first + lanes ≤ length flat.now.elements }
         requires lanes { lanes ≤ 8 }
-        requires extremes { AreExtremes flat.now first lanes sums.now }
+        requires extremes { AreExtremes flat.now first lanes (placed rows.now.of_bits.items sums.now) }
         requires found { IsFoundBefore flat.now first 0 self.old }
         ensures { OnOk result (IsFoundBefore flat.now (first + lanes) 0 self.new) }
     {
         let _elements = flat.elements();
         for lane in 0..lanes {
-            self.add_from(flat, sums, first + lane as u32, lane)?;
+            self.add_from(flat, sums, rows, first + lane as u32, lane)?;
         }
         Ok(())
     }

@@ -13,6 +13,7 @@ mod blocks;
 mod found;
 mod long;
 mod route;
+mod rows;
 mod sums;
 mod trace;
 

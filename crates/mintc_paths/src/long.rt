@@ -1,10 +1,11 @@
 //! The search for a sum above the limit.
-ghost use Rattle.std.specs.Prelude.{◌<◌, ◌≤◌, ℕ, length, MatchOption};
-ghost use Rattle.std.specs.Bool.{OnTrue};
-ghost use Rattle.mintc_lanes.specs.Lanes.{AreLanes};
-ghost use Rattle.mintc_paths.specs.Sums.{AreMarked, sums_at};
+ghost use Rattle.std.specs.Prelude.{◌<◌, ◌≤◌, ◌<ℤ◌, ◌≤ℤ◌, ℕ, pos, length, MatchOption, IfSome, IsSomeAnd};
+ghost use Rattle.std.specs.Bool.{OnTrue, OnFalse};
+ghost use Rattle.mintc_lanes.specs.Lanes.{lane_at, AreLanes};
+ghost use Rattle.mintc_paths.specs.Sums.{AreMarked, AreRows, placed, sums_at};
 ghost use Rattle.mintc_paths.specs.Long.{IsShortLane, IsFirstBit, IsFirstLane};
 
+use crate::rows::Rows;
 use crate::sums::Sums;
 use mintc_lanes::max_row;
 
@@ -21,12 +22,12 @@ pub struct Place {
 /// Whether no sum is above the limit.
 fn are_short(sums: &[Sums], reached: &[bool]) -> bool
     requires marked { AreMarked sums.now reached.now }
-    requires bounded { (bit : ℕ) → bit < length sums.now → AreLanes (sums_at sums.now bit).greatest }
+    requires bounded { (row : ℕ) → row < length sums.now → AreLanes (sums_at sums.now row).greatest }
     ensures { OnTrue result ((lane : ℕ) → lane < 8 → IsShortLane sums.now lane) }
 {
-    for bit in 0..sums.len() {
-        if reached[bit] {
-            if max_row(&sums[bit].greatest) > LIMIT {
+    for row in 0..sums.len() {
+        if reached[row] {
+            if max_row(&sums[row].greatest) > LIMIT {
                 return false;
             }
         }
@@ -34,13 +35,24 @@ fn are_short(sums: &[Sums], reached: &[bool]) -> bool
     true
 }
 
-/// The first bit with a sum of the lane above the limit.
-fn first_bit(sums: &[Sums], lane: usize) -> Option<usize>
+/// Whether the lane's greatest sum is above the limit.
+fn is_long(sums: &Sums, lane: usize) -> bool
     requires { lane < 8 }
-    ensures { MatchOption result (IsShortLane sums.now lane) (λ bit. IsFirstBit sums.now lane bit) }
+    ensures long { OnTrue result (IsSomeAnd (lane_at sums.now.greatest lane) (λ z. pos 1000000000 <ℤ z)) }
+    ensures short { OnFalse result (IfSome (lane_at sums.now.greatest lane) (λ z. z ≤ℤ pos 1000000000)) }
 {
-    for (bit, at) in sums.iter().enumerate() {
-        if at.greatest[lane] > LIMIT {
+    sums.greatest[lane] > LIMIT
+}
+
+/// The first bit with a sum of the lane above the limit.
+fn first_bit(sums: &[Sums], rows: &Rows, lane: usize) -> Option<usize>
+    requires rows { AreRows (length sums.now) rows.now }
+    requires lane { lane < 8 }
+    ensures { MatchOption result (IsShortLane (placed rows.now.of_bits.items sums.now) lane) (λ bit. IsFirstBit (placed rows.now.of_bits.items sums.now) lane bit) }
+{
+    for bit in 0..rows.of_bits.len() {
+        let row = rows.of_bits[bit] as usize;
+        if is_long(&sums[row], lane) {
             return Some(bit);
         }
     }
@@ -48,17 +60,19 @@ fn first_bit(sums: &[Sums], lane: usize) -> Option<usize>
 }
 
 /// The first of so many lanes with a sum above the limit, and the first such bit.
-pub fn first_long(sums: &[Sums], reached: &[bool], lanes: usize) -> Option<Place>
+pub fn first_long(sums: &[Sums], reached: &[bool], rows: &Rows, lanes: usize) -> Option<Place>
+    requires rows { AreRows (length sums.now) rows.now }
     requires marked { AreMarked sums.now reached.now }
-    requires bounded { (bit : ℕ) → bit < length sums.now → AreLanes (sums_at sums.now bit).greatest }
+    requires bounded { (row : ℕ) → row < length sums.now → AreLanes (sums_at sums.now row).greatest }
     requires lanes { lanes ≤ 8 }
-    ensures { MatchOption result ((lane : ℕ) → lane < lanes → IsShortLane sums.now lane) (λ place. IsFirstLane sums.now lanes place.lane place.bit) }
+    ensures { MatchOption result ((lane : ℕ) → lane < lanes → IsShortLane (placed rows.now.of_bits.items sums.now) lane)
+        (λ place. IsFirstLane (placed rows.now.of_bits.items sums.now) lanes place.lane place.bit) }
 {
     if are_short(sums, reached) {
         return None;
     }
     for lane in 0..lanes {
-        if let Some(bit) = first_bit(sums, lane) {
+        if let Some(bit) = first_bit(sums, rows, lane) {
             return Some(Place { lane, bit });
         }
     }

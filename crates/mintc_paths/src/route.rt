@@ -1,13 +1,26 @@
 //! A path with the sum of a pair.
-ghost use Rattle.std.specs.Prelude.{◌≡◌, ◌+◌, ◌*◌, length, IfOk};
-ghost use Rattle.mintc_paths.specs.Sums.{AreMarked};
+ghost use Rattle.std.specs.Prelude.{◌≡◌, ◌<◌, ℕ, ◌+◌, ◌*◌, length, IfOk};
+ghost use Rattle.mintc_timing.specs.Order.{IsOrder};
+ghost use Rattle.mintc_paths.specs.Sums.{row_of, IsCourse, AreMarked};
 ghost use Rattle.mintc_paths.specs.Trace.{IsPairOf, IsOfPair};
 
-use crate::sums::{NO_SUMS, Sums, arcs_along, fill};
+use crate::rows::{Course, Rows};
+use crate::sums::{NO_SUMS, Sums, fill};
 use crate::trace::{Extreme, trace};
 use mintc_text::{Numbers, OutOfMemory};
-use mintc_timing::System;
-use std::alloc::Global;
+use mintc_timing::{Flat, Order, System};
+use std::alloc::{AllocError, Global};
+
+/// The course over rows of the bits' own numbers.
+fn plain_course(alloc: Global, flat: &Flat, order: &Order) -> Result<Course, AllocError>
+    requires { IsOrder flat.now.arcs order.now }
+    ensures course { IfOk result (λ course. IsCourse (2 * length flat.now.elements + length flat.now.inner) flat.now.arcs order.now course) }
+    ensures own { IfOk result (λ course. (bit : ℕ) → bit < 2 * length flat.now.elements + length flat.now.inner → row_of course.rows.of_bits.items bit ≡ bit) }
+{
+    let bits = 2 * flat.elements().len() + flat.inner().items().len();
+    let rows = Rows::plain(alloc, bits)?;
+    Course::new(alloc, flat, order, rows)
+}
 
 /// The arcs of a listed path from one element to another with the greatest or the least sum, which go through `sums`.
 fn path_by(
@@ -27,10 +40,10 @@ fn path_by(
     let _pairs = system.pairs();
     let (flat, order) = (system.flat(), system.order());
     let _elements = flat.elements();
-    let Ok(along) = arcs_along(alloc, flat, order) else {
+    let Ok(course) = plain_course(alloc, flat, order) else {
         return Err(OutOfMemory);
     };
-    fill(sums, reached, flat, order, &along, from, 1);
+    fill(sums, reached, flat, order, &course, from, 1);
     match trace(alloc, extreme, flat, order, sums, 2 * to) {
         Ok(path) => Ok(Numbers::new(path)),
         Err(_) => Err(OutOfMemory),

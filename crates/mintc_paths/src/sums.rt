@@ -1,16 +1,16 @@
 //! Sums of paths to bits, from up to eight elements at a time.
-ghost use Rattle.std.specs.Prelude.{◌≡◌, ◌≢◌, ◌+◌, ◌*◌, ◌<◌, ◌≤◌, ℕ, List, pos, length, None, Some, IfSome, IfOk, FitsSigned};
+ghost use Rattle.std.specs.Prelude.{◌≡◌, ◌≢◌, ◌+◌, ◌*◌, ◌<◌, ◌≤◌, ℕ, List, pos, length, None, Some, IfSome, FitsSigned};
 ghost use Rattle.std.specs.Int.{int_max, int_min, w64};
 ghost use Rattle.mintc_lanes.specs.Lanes.{lane_at, AreJoined};
 ghost use Rattle.mintc_timing.specs.Limits.{IsDelay};
 ghost use Rattle.mintc_timing.specs.Order.{IsOrder};
 ghost use Rattle.mintc_timing.specs.declared.parts.TimingArc.{TimingArc};
 ghost use Rattle.mintc_paths.specs.Reached.{AreExtremes};
-ghost use Rattle.mintc_paths.specs.Sums.{sums_at, IsBounded, IsAlike, AreAlong, AreBegun, AreMarked, AreSums};
+ghost use Rattle.mintc_paths.specs.Sums.{sums_at, placed, IsBounded, IsAlike, AreRows, IsCourse, AreBegun, AreMarked, AreSums};
 
+use crate::rows::{Course, Rows};
 use mintc_lanes::{ABSENT, max_plus_row, min_plus_row};
 use mintc_timing::{Flat, Order, TimingArc};
-use std::alloc::{AllocError, Global};
 
 /// The greatest and least sums of the paths to a bit, in femtoseconds: a lane for each of eight elements, absent where no
 /// path leads from it.
@@ -36,7 +36,7 @@ pub fn sum_in(row: &[i64; 8], lane: usize) -> Option<i64>
     if sum == ABSENT { None } else { Some(sum) }
 }
 
-/// Begins a lane: the empty path leads from a bit to itself.
+/// Begins a lane in a row: the empty path leads from a bit to itself.
 fn begin(sums: &mut [Sums], bit: usize, lane: usize)
     requires bit { bit < length sums.old }
     requires lane { lane < 8 }
@@ -66,18 +66,19 @@ fn wipe(sums: &mut [Sums], reached: &mut [bool])
 }
 
 /// Makes the sums those of the empty paths from so many elements.
-fn clear(sums: &mut [Sums], reached: &mut [bool], first: u32, lanes: usize)
+fn clear(sums: &mut [Sums], reached: &mut [bool], rows: &Rows, first: u32, lanes: usize)
     requires lanes { lanes ≤ 8 }
     requires outputs { 2 * (first + lanes) ≤ length sums.old }
+    requires rows { AreRows (length sums.old) rows.now }
     requires marked { AreMarked sums.old reached.old }
-    ensures begun { (arcs : List TimingArc) (order : List ℕ) → AreBegun arcs order first lanes sums.new }
+    ensures begun { (arcs : List TimingArc) (order : List ℕ) → AreBegun arcs order first lanes (placed rows.now.of_bits.items sums.new) }
     ensures marked { AreMarked sums.new reached.new }
 {
     wipe(sums, reached);
     for lane in 0..lanes {
-        let bit = 2 * (first as usize + lane) + 1;
-        begin(sums, bit, lane);
-        reached[bit] = true;
+        let row = rows.of_bits[2 * (first as usize + lane) + 1] as usize;
+        begin(sums, row, lane);
+        reached[row] = true;
     }
 }
 
@@ -107,44 +108,30 @@ fn carry(sums: &mut [Sums], reached: &mut [bool], arc: TimingArc)
     }
 }
 
-/// The arcs in their order, one after another as they are carried along.
-pub fn arcs_along(alloc: Global, flat: &Flat, order: &Order) -> Result<Vec<TimingArc>, AllocError>
-    requires { IsOrder flat.now.arcs order.now }
-    ensures { IfOk result (λ along. AreAlong flat.now.arcs order.now (length order.now) along.items) }
-{
-    let arcs = flat.arcs();
-    let numbers = order.arcs().items();
-    let mut along = Vec::with_capacity(alloc, numbers.len())?;
-    for number in numbers {
-        along.push(arcs[*number as usize])?;
-    }
-    Ok(along)
-}
-
-/// Makes the sums those of the listed paths, and of the empty ones, from up to eight elements from `first` on. The arcs
-/// in their order are `along`. A bit without sums isn't marked as reached.
+/// Makes the sums those of the listed paths, and of the empty ones, from up to eight elements from `first` on. A row
+/// without sums isn't marked as reached.
 pub fn fill(
     sums: &mut [Sums],
     reached: &mut [bool],
     flat: &Flat,
     order: &Order,
-    along: &[TimingArc],
+    course: &Course,
     first: u32,
     lanes: usize,
 )
     requires bits { length sums.old ≡ 2 * length flat.now.elements + length flat.now.inner }
     requires order { IsOrder flat.now.arcs order.now }
-    requires along { AreAlong flat.now.arcs order.now (length order.now) along.now }
+    requires course { IsCourse (length sums.old) flat.now.arcs order.now course.now }
     requires lanes { lanes ≤ 8 }
     requires elements { first + lanes ≤ length flat.now.elements }
     requires marked { AreMarked sums.old reached.old }
     ensures marked { AreMarked sums.new reached.new }
-    ensures sums { AreSums flat.now.arcs order.now (length order.now) first lanes sums.new }
-    ensures extremes { AreExtremes flat.now first lanes sums.new }
+    ensures sums { AreSums flat.now.arcs order.now (length order.now) first lanes (placed course.now.rows.of_bits.items sums.new) }
+    ensures extremes { AreExtremes flat.now first lanes (placed course.now.rows.of_bits.items sums.new) }
 {
-    clear(sums, reached, first, lanes);
+    clear(sums, reached, &course.rows, first, lanes);
     let _elements = flat.elements();
-    for arc in along {
+    for arc in &course.along {
         carry(sums, reached, *arc);
     }
 }

@@ -3,7 +3,7 @@ use Rattle.std.specs.Int.{int_max}
 use Rattle.std.proofs.lemmas.Int.{to_z-of_z}
 use Rattle.mintc_lanes.specs.Lanes.{AreJoined}
 use Rattle.mintc_lanes.specs.Vectors.{number_at}
-use Rattle.mintc_lanes.proofs.Joining.{sum_fits, are_joined, are_present, are_within, IsChoice-int_max}
+use Rattle.mintc_lanes.proofs.Joining.{sum_fits, sum_differs, are_joined, are_present, are_within, IsChoice-int_max}
 use Rattle.mintc_lanes.proofs.Reading.{read, read_is, read_vector}
 use Rattle.mintc_lanes.proofs.row.max_plus_row.Goals as goal
 
@@ -20,6 +20,14 @@ greater-requires-clause-x c = read_vector _ c.numbers-own.ensures.vector
 
 pub greater-requires-clause-y : goal.greater-requires-clause-y
 greater-requires-clause-y c = read_vector _ c.sums-sum.ensures.vector
+
+pub greater-requires-clause-near : goal.greater-requires-clause-near
+greater-requires-clause-near c = λ k lt.
+    let own_is = read_is c.numbers-own.result c.numbers-own.ensures.vector ∙ c.numbers-own.ensures.numbers in
+    let others_is = read_is c.numbers-others.result c.numbers-others.ensures.vector ∙ c.numbers-others.ensures.numbers in
+    let sums = rw (others_is, to_z-of_z w64 c.args.add c.ranges.add) at c.sums-sum.ensures.numbers in
+    rw (own_is, read_is c.sums-sum.result c.sums-sum.ensures.vector)
+    (sum_differs (number_at c.args.row.now k) (number_at c.args.other.now k) (number_at c.sums-sum.result k) c.args.add (c.requires.row k lt) (c.requires.other k lt) c.requires.add (sums k lt))
 
 pub joined-requires-clause-row : goal.joined-requires-clause-row
 joined-requires-clause-row c = read_vector _ c.numbers-own.ensures.vector

@@ -1,5 +1,5 @@
-use Rattle.std.proofs.Common.{◌∙◌}
-use Rattle.mintc_lanes.proofs.Selecting.{length-bits_of, length-selected, IsVector-from_numbers, lesser_at, SFits-int_min, bits_of, is_below}
+use Rattle.std.proofs.Common.{◌∙◌, refl}
+use Rattle.mintc_lanes.proofs.Selecting.{length-bits_of, length-selected, length-differences, IsVector-from_numbers, lesser_at, SFits-int_min, bits_of, is_below, differences, zeros}
 use Rattle.mintc_lanes.proofs.vectors.lesser.Goals as goal
 
 pub returns-clause-vector : goal.returns-clause-vector
@@ -8,8 +8,8 @@ returns-clause-vector c =
     let y = c.args.y in
     let lx = length-bits_of x ∙ c.requires.x.count in
     let ly = length-bits_of y ∙ c.requires.y.count in
-    IsVector-from_numbers _ _ (length-selected is_below (bits_of x) (bits_of y) (bits_of x) (bits_of y) lx ly lx ly) (lesser_at x y c.requires.x c.requires.y)
+    IsVector-from_numbers _ _ (length-selected is_below (differences (bits_of x) (bits_of y)) zeros (bits_of x) (bits_of y) (length-differences (bits_of x) (bits_of y) lx ly) refl lx ly) (lesser_at x y c.requires.x c.requires.y c.requires.near)
     (λ k lt. SFits-int_min _ _ (c.requires.x.fits k lt) (c.requires.y.fits k lt))
 
 pub returns-clause-numbers : goal.returns-clause-numbers
-returns-clause-numbers c = lesser_at c.args.x c.args.y c.requires.x c.requires.y
+returns-clause-numbers c = lesser_at c.args.x c.args.y c.requires.x c.requires.y c.requires.near

@@ -1,5 +1,6 @@
 use Rattle.mintc_paths.specs.Long.{AreShortBelow}
+use Rattle.mintc_paths.specs.Sums.{placed}
 use Rattle.mintc_paths.proofs.long.first_bit.Given as goal
 
 abbrev pub invariant-loop-bit : goal.invariant-loop-bit
-invariant-loop-bit l = AreShortBelow l.sums l.lane l.bit
+invariant-loop-bit l = AreShortBelow (placed l.rows.of_bits.items l.sums) l.lane l.bit

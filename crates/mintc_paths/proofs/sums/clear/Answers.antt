@@ -1,26 +1,41 @@
-use Rattle.std.proofs.Common.{◌≡◌, ◌+◌, ◌*◌, ◌∙◌, arith, subst}
-use Rattle.mintc_paths.specs.Sums.{AreBegun}
-use Rattle.mintc_paths.proofs.Beginning.{AreBegun-none, AreBegun-more}
+use Rattle.std.proofs.Common.{◌≡◌, ◌<◌, ◌+◌, ◌*◌, ◌∙◌, ℕ, List, length, arith, subst}
+use Rattle.std.proofs.lemmas.List.{get_or_default}
+use Rattle.mintc_paths.specs.declared.sums.Sums.{Sums}
+use Rattle.mintc_paths.specs.Sums.{row_of, placed, AreBegun}
 use Rattle.mintc_paths.proofs.Marking.{marked_more}
+use Rattle.mintc_paths.proofs.Rowing.{IsBegun, AreBegun-placed_none, AreBegun-placed_more}
 use Rattle.mintc_paths.proofs.sums.clear.Goals as goal
 
 pub loop-lane-init : goal.loop-lane-init
 loop-lane-init c = record {
-  begun = λ arcs order. AreBegun-none arcs order c.args.first c.wipe.new.sums c.wipe.ensures.none;
+  begun = λ arcs order. AreBegun-placed_none arcs order c.args.first (length c.args.sums.now) c.args.rows.now c.requires.rows c.wipe.new.sums c.wipe.auto.sums c.wipe.ensures.none;
   marked = c.wipe.ensures.marked;
   count = c.wipe.auto.sums;
 }
 
 pub loop-lane-preserved : goal.loop-lane-preserved
-loop-lane-preserved c = record {
-  begun = λ arcs order.
-      AreBegun-more arcs order c.args.first c.loop-lane.lane c.loop-lane.sums c.begin.new.sums (omega arith) (omega arith)
-      c.begin.ensures.others c.begin.ensures.lanes c.begin.ensures.own (c.loop-lane.invariant.begun arcs order);
-  marked = marked_more c.loop-lane.sums c.begin.new.sums c.loop-lane.reached (2 * (c.args.first + c.loop-lane.lane) + 1) c.begin.auto.sums c.begin.ensures.others c.loop-lane.invariant.marked;
-  count = c.begin.auto.sums ∙ c.loop-lane.invariant.count;
-}
+loop-lane-preserved c =
+    let rows : List ℕ = c.args.rows.now.of_bits.items in
+    let n : ℕ = length c.args.sums.now in
+    let lane : ℕ = c.loop-lane.lane in
+    let bit : ℕ = 2 * (c.args.first + lane) + 1 in
+    let row : ℕ = c.index.result.now in
+    let old : List Sums = c.loop-lane.sums in
+    let new : List Sums = c.begin.new.sums in
+    let h = c.requires.rows.of_bits in
+    let count = h.count in
+    let inside : bit < n = omega arith in
+    let is_row : row ≡ row_of rows bit = c.index.ensures ∙ get_or_default rows bit row 0 (omega arith) in
+    let begun : IsBegun old new row lane = record { others = c.begin.ensures.others; lanes = c.begin.ensures.lanes; own = c.begin.ensures.own } in
+    record {
+      begun = λ arcs order.
+          AreBegun-placed_more arcs order c.args.first lane n c.args.rows.now c.requires.rows old new (omega arith) inside
+          (subst (λ at. IsBegun old new at lane) is_row begun) (c.loop-lane.invariant.begun arcs order);
+      marked = marked_more old new c.loop-lane.reached row c.begin.auto.sums c.begin.ensures.others c.loop-lane.invariant.marked;
+      count = c.begin.auto.sums ∙ c.loop-lane.invariant.count;
+    }
 
 pub returns-clause-begun : goal.returns-clause-begun
 returns-clause-begun c = λ arcs order.
     let done : c.loop-lane.lane ≡ c.args.lanes = omega arith in
-    subst (λ n. AreBegun arcs order c.args.first n c.loop-lane.sums) done (c.loop-lane.invariant.begun arcs order)
+    subst (λ n. AreBegun arcs order c.args.first n (placed c.args.rows.now.of_bits.items c.loop-lane.sums)) done (c.loop-lane.invariant.begun arcs order)

@@ -1,0 +1,53 @@
+use Rattle.std.proofs.Common.{◌≡◌, ◌<◌, ◌+◌, ℕ, List, [], ◌∷◌, ◌++◌, length, length-append, get_or, subst, sym, ap, ◌∙◌, ◌⊎◌, ⊎_elim, arith}
+use Rattle.std.proofs.lemmas.List.{get_or_default, get_or_append_left}
+use Rattle.mintc_timing.specs.declared.parts.TimingArc.{TimingArc}
+use Rattle.mintc_timing.specs.Design.{no_arc}
+use Rattle.mintc_timing.specs.Paths.{arc_at}
+use Rattle.mintc_paths.specs.Sums.{AreAlong, row_of, moved}
+use Rattle.mintc_paths.proofs.Filling.{arc_inside}
+use Rattle.mintc_paths.proofs.Finding.{at_last}
+use Rattle.mintc_paths.proofs.Ordered.{inside}
+use Rattle.mintc_paths.proofs.rows.Course.new.Goals as goal
+
+pub bounds-arcs-number : goal.bounds-arcs-number
+bounds-arcs-number c =
+    let items : c.items-numbers.result.now ≡ c.args.order.now = c.items-numbers.ensures ∙ c.arcs.ensures in
+    let low : c.loop-number.number-index < length c.args.order.now = subst (λ (xs : List ℕ). c.loop-number.number-index < length xs) items c.loop-number-test.true in
+    rw (c.arcs-arcs.ensures, items) (inside c.args.flat.now.arcs c.args.order.now c.requires.order c.loop-number.number-index low)
+
+-- one more arc of the list, from row to row
+pushed : (arcs : List TimingArc) (order rows : List ℕ) (k from to : ℕ) (along new : List TimingArc) → AreAlong arcs order rows k along →
+    from ≡ row_of rows (arc_at arcs (get_or order k 0)).from → to ≡ row_of rows (arc_at arcs (get_or order k 0)).to →
+    new ≡ along ++ (record (arc_at arcs (get_or order k 0)) { from = from; to = to }) ∷ [] → AreAlong arcs order rows (k + 1) new
+pushed arcs order rows k from to along new h e f is =
+    let arc : TimingArc = moved rows (arc_at arcs (get_or order k 0)) in
+    let same : new ≡ along ++ arc ∷ [] = rw (← e, ← f) is in
+    let count = h.count in
+    let count_all = length-append along (arc ∷ []) in
+    rw same record {
+      count = omega arith;
+      each = λ i low. ⊎_elim
+          (λ (below : i < k). get_or_append_left along (arc ∷ []) no_arc i (omega arith) ∙ h.each i below)
+          (λ (last : i ≡ k). at_last along arc no_arc i (last ∙ sym count) ∙ ap (λ j. moved rows (arc_at arcs (get_or order j 0))) (sym last))
+          (low_or_at i k low);
+    }
+  where
+    low_or_at : (i k : ℕ) → i < k + 1 → (i < k) ⊎ (i ≡ k)
+    low_or_at i k h = grind arith
+
+pub loop-number-preserved : goal.loop-number-preserved
+loop-number-preserved c =
+    let arcs : List TimingArc = c.args.flat.now.arcs in
+    let order : List ℕ = c.args.order.now in
+    let rows : List ℕ = c.args.rows.of_bits.items in
+    let i : ℕ = c.loop-number.number-index in
+    let items : c.items-numbers.result.now ≡ order = c.items-numbers.ensures ∙ c.arcs.ensures in
+    let low : i < length order = subst (λ (xs : List ℕ). i < length xs) items c.loop-number-test.true in
+    let arc = arc_inside arcs order c.requires.order (length c.args.flat.now.elements) (length c.args.flat.now.inner) c.elements-elements.ensures.kept.each_arc i low in
+    let count = c.requires.rows.of_bits.count in
+    let from : c.index.result.now ≡ row_of rows (arc_at arcs (get_or order i 0)).from =
+    (rw (c.arcs-arcs.ensures, items) at c.index.ensures) ∙ get_or_default rows (arc_at arcs (get_or order i 0)).from c.index.result.now 0 (omega (arith, arc.from)) in
+    let to : c.index-in-loop-number.result.now ≡ row_of rows (arc_at arcs (get_or order i 0)).to =
+    (rw (c.arcs-arcs.ensures, items) at c.index-in-loop-number.ensures) ∙ get_or_default rows (arc_at arcs (get_or order i 0)).to c.index-in-loop-number.result.now 0 (omega (arith, arc.to)) in
+    pushed arcs order rows i c.index.result.now c.index-in-loop-number.result.now c.loop-number.along.items c.push.new.self.items c.loop-number.invariant from to
+    (rw (c.arcs-arcs.ensures, items) at c.in_ok-push.ensures.items)

@@ -1,0 +1,108 @@
+//! The rows of the bits' sums. They stand in the order in which the arcs come to their bits, so that arcs that are
+//! carried along one after another find their sums near each other.
+ghost use Rattle.std.specs.Prelude.{◌≡◌, ◌+◌, ◌*◌, ◌<◌, ◌≤◌, ◌^◌, ℕ, length, IfOk};
+ghost use Rattle.mintc_timing.specs.Order.{IsOrder};
+ghost use Rattle.mintc_paths.specs.Sums.{row_of, AreRows, AreAlong, IsCourse};
+
+use mintc_timing::{Flat, Order, TimingArc};
+use std::alloc::{AllocError, Global};
+
+/// A row for each bit, and no row for two.
+#[derive(Drop)]
+pub struct Rows {
+    /// The row of each bit.
+    pub of_bits: Vec<u32>,
+    /// The bit of each row.
+    pub bits: Vec<u32>,
+}
+
+impl Rows {
+    /// For each of so many bits the row of its own number.
+    pub fn plain(alloc: Global, count: usize) -> Result<Rows, AllocError>
+        requires { count < 2 ^ 32 }
+        ensures rows { IfOk result (λ rows. AreRows count rows) }
+        ensures own { IfOk result (λ rows. (bit : ℕ) → bit < count → row_of rows.of_bits.items bit ≡ bit) }
+    {
+        let mut of_bits = Vec::with_capacity(alloc, count)?;
+        for bit in 0..count {
+            of_bits.push(bit as u32)?;
+        }
+        let bits = of_bits.clone()?;
+        Ok(Rows { of_bits, bits })
+    }
+
+    /// Gives the row to the bit, and the bit's old row to the one that had it.
+    fn give(&mut self, bit: u32, row: u32)
+        requires bit { bit < length self.old.of_bits.items }
+        requires row { row < length self.old.of_bits.items }
+        requires rows { AreRows (length self.old.of_bits.items) self.old }
+        ensures { AreRows (length self.old.of_bits.items) self.new }
+    {
+        let other = self.bits[row as usize];
+        let before = self.of_bits[bit as usize];
+        self.of_bits[bit as usize] = row;
+        self.bits[row as usize] = bit;
+        self.of_bits[other as usize] = before;
+        self.bits[before as usize] = other;
+    }
+
+    /// Gives the next row to the bit, unless it has one of those that are given. How many are given then.
+    fn meet(&mut self, bit: u32, given: u32) -> u32
+        requires few { length self.old.of_bits.items < 2 ^ 32 }
+        requires bit { bit < length self.old.of_bits.items }
+        requires rows { AreRows (length self.old.of_bits.items) self.old }
+        ensures { AreRows (length self.old.of_bits.items) self.new }
+    {
+        if self.of_bits[bit as usize] < given {
+            return given;
+        }
+        self.give(bit, given);
+        given + 1
+    }
+
+    /// The rows in the order in which the arcs come to the bits.
+    pub fn along(alloc: Global, flat: &Flat, order: &Order) -> Result<Rows, AllocError>
+        requires { IsOrder flat.now.arcs order.now }
+        ensures { IfOk result (λ rows. AreRows (2 * length flat.now.elements + length flat.now.inner) rows) }
+    {
+        let bits = 2 * flat.elements().len() + flat.inner().items().len();
+        let arcs = flat.arcs();
+        let mut rows = Rows::plain(alloc, bits)?;
+        let mut given = 0;
+        for number in order.arcs().items() {
+            let arc = arcs[*number as usize];
+            given = rows.meet(arc.from, given);
+            given = rows.meet(arc.to, given);
+        }
+        Ok(rows)
+    }
+}
+
+/// The arcs in their order, one after another as they are carried along, each from row to row.
+#[derive(Drop)]
+pub struct Course {
+    pub rows: Rows,
+    pub along: Vec<TimingArc>,
+}
+
+impl Course {
+    /// The course over these rows.
+    pub fn new(alloc: Global, flat: &Flat, order: &Order, rows: Rows) -> Result<Course, AllocError>
+        requires order { IsOrder flat.now.arcs order.now }
+        requires rows { AreRows (2 * length flat.now.elements + length flat.now.inner) rows }
+        ensures course { IfOk result (λ course. IsCourse (2 * length flat.now.elements + length flat.now.inner) flat.now.arcs order.now course) }
+        ensures rows { IfOk result (λ course. course.rows ≡ rows) }
+    {
+        let _elements = flat.elements();
+        let arcs = flat.arcs();
+        let numbers = order.arcs().items();
+        let mut along = Vec::with_capacity(alloc, numbers.len())?;
+        for number in numbers {
+            let mut arc = arcs[*number as usize];
+            arc.from = rows.of_bits[arc.from as usize];
+            arc.to = rows.of_bits[arc.to as usize];
+            along.push(arc)?;
+        }
+        Ok(Course { rows, along })
+    }
+}
