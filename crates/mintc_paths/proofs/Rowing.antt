@@ -1,5 +1,5 @@
 -- The rows of the bits.
-use Rattle.std.proofs.Common.{◌≡◌, ◌≢◌, ℕ, ◌<◌, ◌≤◌, ◌+◌, ◌*◌, ℤ, ◌≤ℤ◌, pos, Some, List, length, get_or, set, map, arith, refl, ap, ◌∙◌, sym, ⊎_elim, subst, length-set, get_or-set_same, get_or-set_other, ◌⊎◌, below_more}
+use Rattle.std.proofs.Common.{◌≡◌, ◌≢◌, ℕ, ◌<◌, ◌≤◌, ◌+◌, ◌*◌, ◌≤ℤ◌, pos, Some, List, length, get_or, set, arith, refl, ap, ◌∙◌, sym, ⊎_elim, subst, length-set, get_or-set_same, get_or-set_other, ◌⊎◌, below_more}
 use Rattle.std.proofs.lemmas.Bool.{cases_eq}
 use Rattle.std.proofs.lemmas.List.{get_or-map, get_or_past}
 use Rattle.std.proofs.Math.ListN.{length-map}

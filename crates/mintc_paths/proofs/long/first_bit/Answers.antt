@@ -1,9 +1,7 @@
 use Rattle.mintc_paths.proofs.long.first_bit.Goals as goal
-use Rattle.std.proofs.Common.{◌≡◌, ◌<◌, ◌∙◌, ℕ, ℤ, pos, ◌≤ℤ◌, List, length, arith, subst}
-use Rattle.std.specs.Prelude.{IfSome}
+use Rattle.std.proofs.Common.{◌≡◌, ◌<◌, ◌∙◌, ℕ, List, length, arith, subst}
 use Rattle.std.proofs.lemmas.List.{get_or_default}
-use Rattle.mintc_lanes.specs.Lanes.{lane_at}
-use Rattle.mintc_paths.specs.Sums.{sums_at, row_of}
+use Rattle.mintc_paths.specs.Sums.{row_of}
 use Rattle.mintc_paths.specs.Long.{IsShortAt}
 use Rattle.mintc_paths.proofs.Rowing.{AreShortBelow-more}
 

@@ -1,4 +1,4 @@
-use Rattle.std.proofs.Common.{◌≡◌, ◌∙◌, ◌<◌, ℕ, List, length, arith}
+use Rattle.std.proofs.Common.{◌≡◌, ◌∙◌, ℕ, List, length, arith}
 use Rattle.std.proofs.lemmas.List.{get_or_default}
 use Rattle.mintc_paths.specs.Sums.{row_of}
 use Rattle.mintc_paths.proofs.Rowing.{exchanged}
