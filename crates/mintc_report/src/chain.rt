@@ -1,5 +1,5 @@
 //! The lines of a chain.
-ghost use Rattle.std.specs.Prelude.{◌≡◌, ◌++◌, ◌∷◌, [], pos, negsuc, ◌≤ℤ◌, OnOk, length, All, codes, decimal, flat_map};
+ghost use Rattle.std.specs.Prelude.{◌≡◌, ◌++◌, OnOk, All, flat_map};
 ghost use Rattle.mintc_text.specs.Lines.{ended, text_of};
 ghost use Rattle.mintc_timing.specs.Links.{cycles_of, delay_of};
 ghost use Rattle.mintc_certificate.specs.CertificateText.{IsCounted};

@@ -1,14 +1,11 @@
 //! The lines of the members of a chain.
-ghost use Rattle.std.specs.Prelude.{◌≡◌, ◌<◌, ◌≤◌, ◌+◌, ◌*◌, ◌++◌, ◌∷◌, [], ℕ, pos, negsuc, ◌≤ℤ◌, OnOk, length, All, codes, decimal, flat_map, map};
+ghost use Rattle.std.specs.Prelude.{◌≡◌, ◌<◌, ◌≤◌, ◌++◌, ◌∷◌, [], OnOk, All, codes, decimal, map};
 ghost use Rattle.mintc_text.specs.Lines.{ended, text_of, words};
 ghost use Rattle.mintc_timing.specs.Design.{element_count, phase_count};
 ghost use Rattle.mintc_timing.specs.Limits.{IsPhase, IsSpan};
-ghost use Rattle.mintc_timing.specs.Links.{cycles_of, delay_of};
-ghost use Rattle.mintc_timing.specs.Paths.{arc_at};
 ghost use Rattle.mintc_certificate.specs.CertificateText.{IsCounted};
-ghost use Rattle.mintc_certificate.specs.Ranges.{IsChainInRange};
-ghost use Rattle.mintc_certificate.specs.Valid.{IsMember, link_of as link_of_member, links_of_members};
-ghost use Rattle.mintc_report.specs.Reports.{amount_words, chain_lines, element_name, inner_name, later_arcs, member_line, member_lines, member_names, phase_name, through_line, through_lines, IsInner, IsThrough};
+ghost use Rattle.mintc_certificate.specs.Valid.{IsMember, link_of as link_of_member};
+ghost use Rattle.mintc_report.specs.Reports.{amount_words, element_name, inner_name, later_arcs, member_lines, member_names, phase_name, through_line, IsInner, IsThrough};
 ghost use Rattle.mintc_report.specs.Spaced.{spaced};
 
 use crate::writing::{put_integer, put_number, put_word};
