@@ -1,5 +1,5 @@
 //! A run: words, files, one answer.
-ghost use Rattle.std.specs.Prelude.{◌≡◌, ◌≢◌, ◌⊎◌, ◌+◌, ℕ, List, Option, length};
+ghost use Rattle.std.specs.Prelude.{◌≡◌, ◌≢◌, ◌⊎◌, ℕ, List, Option, length};
 ghost use Rattle.mintc_text.specs.Outside.{Files, Rose};
 ghost use Rattle.mintc_command.specs.Answers.{HoldsAll, IsAfterReading, IsAnswer, IsComplete, IsNotRefused, IsOfNoCommand, MakesAtMost, Writes};
 ghost use Rattle.mintc_command.specs.declared.command.Command.{Command};

@@ -2,7 +2,7 @@
 ghost use Rattle.std.specs.Prelude.{◌≡◌, ◌≤◌, ◌<◌, length, MatchOption, IfOk, IfErr};
 ghost use Rattle.mintc_text.specs.Stops.{StopsAt};
 ghost use Rattle.mintc_command.specs.Commands.{source_roles};
-ghost use Rattle.mintc_command.specs.Sources.{AreShort, Gives, IsLengthRefusal, IsSourceRefused, IsTableOf, IsTableRefused, file_at, own_file};
+ghost use Rattle.mintc_command.specs.Sources.{AreShort, Gives, IsLengthRefusal, IsSourceRefused, IsTableOf, IsTableRefused, own_file};
 
 use crate::command::Source;
 use crate::reading::LONGEST;
