@@ -31,6 +31,9 @@ not_long design j bit path h g = let above = g.1 in omega (arith, ints)
 pub AreShortBefore-none : (design : Design) → AreShortBefore design 0
 AreShortBefore-none design = λ j bit path below is. absurd (omega arith)
 
+pub AreShortBefore-all : (design : Design) (n : ℕ) → n ≤ length design.elements → ArePathsShort design → AreShortBefore design n
+AreShortBefore-all design n few short = λ j bit path below is. short j bit path (omega arith) is
+
 pub ArePathsShort-from_before : (design : Design) (n : ℕ) → n ≡ length design.elements → AreShortBefore design n → ArePathsShort design
 ArePathsShort-from_before design n e h = λ j bit path below is. h j bit path (omega arith) is
 

@@ -5,3 +5,4 @@ pub mod Reached
 pub mod Refusals
 pub mod Sums
 pub mod Trace
+pub mod Longest

@@ -1,18 +1,58 @@
 //! The pairs of a design, by eight elements at a time.
-ghost use Rattle.std.specs.Prelude.{◌≡◌, ◌<◌, ◌≤◌, ◌+◌, ◌*◌, length, IfOk, IfErr, OnOk};
+ghost use Rattle.std.specs.Prelude.{◌≡◌, ◌<◌, ◌≤◌, ◌+◌, ◌*◌, ℕ, length, IfOk, IfErr, OnOk};
+ghost use Rattle.std.specs.Bool.{OnTrue};
 ghost use Rattle.mintc_text.specs.Stops.{StopsAt};
 ghost use Rattle.mintc_timing.specs.Order.{IsOrder, ArePathsShort};
 ghost use Rattle.mintc_paths.specs.Found.{IsFoundBefore};
-ghost use Rattle.mintc_paths.specs.Sums.{IsCourse, AreMarked};
+ghost use Rattle.mintc_lanes.specs.Lanes.{AreLanes};
+ghost use Rattle.mintc_paths.specs.Reached.{AreExtremes};
+ghost use Rattle.mintc_paths.specs.Sums.{AreRows, IsCourse, AreMarked, placed, sums_at};
 ghost use Rattle.mintc_paths.specs.Refusals.{AreShortBefore, IsPathRange};
 
 use crate::found::Found;
 use crate::long::first_long;
+use crate::longest::are_plainly_short;
 use crate::rows::{Course, Rows};
 use crate::sums::{NO_SUMS, Sums, fill};
 use mintc_text::{Refusal, Stop};
 use mintc_timing::{Flat, Order};
 use std::alloc::{AllocError, Global};
+
+/// Refuses the first path that is too long among those from so many elements, whose sums are in the lanes. Where it is
+/// known that no path is, there is nothing to look for.
+fn refuse_long(
+    flat: &Flat,
+    sums: &[Sums],
+    reached: &[bool],
+    rows: &Rows,
+    first: u32,
+    lanes: usize,
+    known_short: bool,
+) -> Result<(), Refusal>
+    requires bits { length sums.now ≡ 2 * length flat.now.elements + length flat.now.inner }
+    requires rows { AreRows (length sums.now) rows.now }
+    requires lanes { lanes ≤ 8 }
+    requires elements { first + lanes ≤ length flat.now.elements }
+    requires extremes { AreExtremes flat.now first lanes (placed rows.now.of_bits.items sums.now) }
+    requires bounded { (row : ℕ) → row < length sums.now → AreLanes (sums_at sums.now row).greatest }
+    requires marked { AreMarked sums.now reached.now }
+    requires short { AreShortBefore flat.now first }
+    requires known { OnTrue known_short (ArePathsShort flat.now) }
+    ensures short { OnOk result (AreShortBefore flat.now (first + lanes)) }
+    ensures refusal { IfErr result (IsPathRange flat.now) }
+{
+    if known_short {
+        return Ok(());
+    }
+    let _elements = flat.elements();
+    match first_long(sums, reached, rows, lanes) {
+        Some(place) => Err(Refusal::PathRange {
+            element: first + place.lane as u32,
+            bit: place.bit as u32,
+        }),
+        None => Ok(()),
+    }
+}
 
 /// Finds the pairs from so many elements, whose sums go through `sums`.
 fn find_block(
@@ -24,6 +64,7 @@ fn find_block(
     found: &mut Found,
     first: u32,
     lanes: u32,
+    known_short: bool,
 ) -> Result<(), Stop>
     requires bits { length sums.old ≡ 2 * length flat.now.elements + length flat.now.inner }
     requires order { IsOrder flat.now.arcs order.now }
@@ -33,6 +74,7 @@ fn find_block(
     requires short { AreShortBefore flat.now first }
     requires found { IsFoundBefore flat.now first 0 found.old }
     requires marked { AreMarked sums.old reached.old }
+    requires known { OnTrue known_short (ArePathsShort flat.now) }
     ensures marked { OnOk result (AreMarked sums.new reached.new) }
     ensures found { OnOk result (IsFoundBefore flat.now (first + lanes) 0 found.new) }
     ensures short { OnOk result (AreShortBefore flat.now (first + lanes)) }
@@ -40,14 +82,12 @@ fn find_block(
 {
     let _elements = flat.elements();
     let rows = &course.rows;
-    fill(sums, reached, flat, order, course, first, lanes as usize);
-    if let Some(place) = first_long(sums, reached, rows, lanes as usize) {
-        return Err(Stop::Refused(Refusal::PathRange {
-            element: first + place.lane as u32,
-            bit: place.bit as u32,
-        }));
+    let lanes = lanes as usize;
+    fill(sums, reached, flat, order, course, first, lanes);
+    if let Err(refusal) = refuse_long(flat, sums, reached, rows, first, lanes, known_short) {
+        return Err(Stop::Refused(refusal));
     }
-    match found.add_all(flat, sums, rows, first, lanes as usize) {
+    match found.add_all(flat, sums, rows, first, lanes) {
         Ok(()) => Ok(()),
         Err(_) => Err(Stop::OutOfMemory),
     }
@@ -72,6 +112,9 @@ pub fn find(alloc: Global, flat: &Flat, order: &Order) -> Result<Found, Stop>
 {
     let elements = flat.elements().len() as u32;
     let bits = 2 * elements as usize + flat.inner().items().len();
+    let Ok(known_short) = are_plainly_short(alloc, flat, order) else {
+        return Err(Stop::OutOfMemory);
+    };
     let Ok(course) = course_of(alloc, flat, order) else {
         return Err(Stop::OutOfMemory);
     };
@@ -94,6 +137,7 @@ pub fn find(alloc: Global, flat: &Flat, order: &Order) -> Result<Found, Stop>
             &mut found,
             first,
             lanes,
+            known_short,
         )?;
         first += lanes;
     }

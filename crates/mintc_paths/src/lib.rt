@@ -12,6 +12,7 @@ ghost use Rattle.mintc_paths.specs.Trace.{IsPairOf};
 mod blocks;
 mod found;
 mod long;
+mod longest;
 mod route;
 mod rows;
 mod sums;

@@ -10,7 +10,7 @@ use crate::sums::Sums;
 use mintc_lanes::max_row;
 
 /// The greatest sum of a path, in femtoseconds.
-const LIMIT: i64 = 1_000_000_000;
+pub const LIMIT: i64 = 1_000_000_000;
 
 /// The lane of the first element with a sum above the limit, and the first bit with such a sum of it.
 #[derive(Clone, Copy)]

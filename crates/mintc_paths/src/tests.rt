@@ -225,6 +225,14 @@ const ABOVE_LIMIT: Case = Case {
     order: &[0, 1],
 };
 
+const UNLED: Case = Case {
+    name: "arcs above 10^9 that no element leads to",
+    elements: 1,
+    inner: 3,
+    arcs: &["n0 n1 1000000000 1000000000", "n1 n2 1 1", "q0 d0 5 6"],
+    order: &[0, 1, 2],
+};
+
 const NONE: Case = Case {
     name: "no arcs",
     elements: 2,
@@ -341,7 +349,7 @@ fn pairs_are_found(rt: HostRuntime) -> Result<(), Fail> {
 fn pairs_are_those_of_a_listing(rt: HostRuntime) -> Result<(), Fail> {
     let alloc = rt.alloc();
     for case in &[
-        NINE, INNER, PATHS, NONE, PARALLEL, SELVES, ENDS, DIAMOND, ELEVEN,
+        NINE, INNER, PATHS, UNLED, NONE, PARALLEL, SELVES, ENDS, DIAMOND, ELEVEN,
     ] {
         let system = system_of(&rt, alloc, case).ok().ok_or(case.name)?;
         let arcs = system.flat().arcs();

@@ -1,0 +1,90 @@
+-- Sums that bound all paths at once.
+use Rattle.std.proofs.Common.{◌≡◌, ◌≢◌, ◌<◌, ◌≤◌, ◌+◌, ◌*◌, ◌⊎◌, ⊎_elim, ℕ, ℤ, pos, ◌+ℤ◌, ◌≤ℤ◌, List, [], ◌∷◌, length, get_or, replicate, arith, ap, ◌∙◌, sym, subst, All}
+use Rattle.std.proofs.lemmas.Int.{ints}
+use Rattle.std.proofs.lemmas.List.{get_or-replicate, get_or_past, length-replicate}
+use Rattle.mintc_timing.specs.declared.parts.TimingArc.{TimingArc}
+use Rattle.mintc_timing.specs.Design.{Design}
+use Rattle.mintc_timing.specs.Order.{IsOrder, ArePathsShort}
+use Rattle.mintc_timing.specs.Paths.{Leads, arc_at, greatest_delay, output_of}
+use Rattle.mintc_paths.specs.Longest.{bit_sum, AreCarried}
+use Rattle.mintc_paths.proofs.Ordered.{place}
+
+low_or_past : (i n : ℕ) → (i < n) ⊎ (n ≤ i)
+low_or_past i n = grind arith
+
+same_or_other : (a b : ℕ) → (a ≡ b) ⊎ (a ≢ b)
+same_or_other a b = grind arith
+
+-- before any arc
+none_at : (n bit : ℕ) → bit_sum (replicate n (pos 0)) bit ≡ pos 0
+none_at n bit = ⊎_elim (λ (low : bit < n). get_or-replicate n bit (pos 0) (pos 0) low) (λ (past : n ≤ bit). get_or_past (replicate n (pos 0)) bit (pos 0) (let count = length-replicate n (pos 0) in omega arith)) (low_or_past bit n)
+
+pub AreCarried-none : (arcs : List TimingArc) (order : List ℕ) (n : ℕ) (sums : List ℤ) → sums ≡ replicate n (pos 0) → AreCarried arcs order 0 sums
+AreCarried-none arcs order n sums same =
+    let at : (bit : ℕ) → bit_sum sums bit ≡ pos 0 = λ bit. ap (λ (x : List ℤ). bit_sum x bit) same ∙ none_at n bit in
+    record {
+      low = λ bit. let e = at bit in omega (arith, ints);
+      high = λ bit. let e = at bit in omega (arith, ints);
+      carried = λ i below. absurd (omega arith);
+    }
+
+module _ (arcs : List TimingArc) (order : List ℕ) (is_order : IsOrder arcs order) where
+  -- the arc at a place of the order
+  abbrev arc_of : ℕ → TimingArc
+  arc_of i = arc_at arcs (get_or order i 0)
+
+  -- one more arc, by which only the sum at its end changes
+  pub carried_more : (k : ℕ) (sums new : List ℤ) → k < length order → AreCarried arcs order k sums → ((bit : ℕ) → bit ≢ (arc_of k).to → bit_sum new bit ≡ bit_sum sums bit) →
+      bit_sum sums (arc_of k).to ≤ℤ bit_sum new (arc_of k).to → (bit_sum sums (arc_of k).from +ℤ (arc_of k).max) ≤ℤ bit_sum new (arc_of k).to →
+      bit_sum new (arc_of k).to ≤ℤ pos ((k + 1) * 1000000000) → AreCarried arcs order (k + 1) new
+  carried_more k sums new below h others kept raised limit = record {
+    low = λ bit. let old = h.low bit in let rest = grows bit in omega (arith, ints);
+    high = λ bit. ⊎_elim
+        (λ (is : bit ≡ (arc_of k).to). subst (λ (b : ℕ). bit_sum new b ≤ℤ pos ((k + 1) * 1000000000)) (sym is) limit)
+        (λ (other : bit ≢ (arc_of k).to). let same = others bit other in let old = h.high bit in omega (arith, ints))
+        (same_or_other bit (arc_of k).to);
+    carried = λ i low. ⊎_elim
+        (λ (before : i < k).
+        let same = unmoved i (omega arith) in
+        let old = h.carried i before in
+        let rest = grows (arc_of i).to in
+        omega (arith, ints))
+        (λ (last : k ≤ i).
+        let is : i ≡ k = omega arith in
+        let same = unmoved k (omega arith) in
+        subst (λ (j : ℕ). (bit_sum new (arc_of j).from +ℤ (arc_of j).max) ≤ℤ bit_sum new (arc_of j).to) (sym is) (omega (arith, ints)))
+        (low_or_past i k);
+  }
+    where
+      grows : (bit : ℕ) → bit_sum sums bit ≤ℤ bit_sum new bit
+      grows bit = ⊎_elim
+          (λ (is : bit ≡ (arc_of k).to). subst (λ (b : ℕ). bit_sum sums b ≤ℤ bit_sum new b) (sym is) kept)
+          (λ (other : bit ≢ (arc_of k).to). let same = others bit other in omega (arith, ints))
+          (same_or_other bit (arc_of k).to)
+
+      unmoved : (i : ℕ) → i ≤ k → bit_sum new (arc_of i).from ≡ bit_sum sums (arc_of i).from
+      unmoved i low = others (arc_of i).from (λ e. let later = is_order.ordered k i below (omega arith) (sym e) in omega (arith, later))
+
+  -- Along arcs that lead on, a sum grows by at least their delays.
+  along : (sums : List ℤ) → AreCarried arcs order (length order) sums → (from : ℕ) (path : List ℕ) (to : ℕ) → Leads arcs from path to →
+      (bit_sum sums from +ℤ greatest_delay arcs path) ≤ℤ bit_sum sums to
+  along sums h from [] to leads = let same : bit_sum sums from ≡ bit_sum sums to = ap (bit_sum sums) leads in omega (arith, ints)
+  along sums h from (n ∷ path) to (below, at, leads) =
+      let found = place arcs order is_order n below in
+      let here : (bit_sum sums (arc_at arcs n).from +ℤ (arc_at arcs n).max) ≤ℤ bit_sum sums (arc_at arcs n).to =
+      subst (λ (m : ℕ). (bit_sum sums (arc_at arcs m).from +ℤ (arc_at arcs m).max) ≤ℤ bit_sum sums (arc_at arcs m).to) found.2 (h.carried found.0 found.1) in
+      let start : bit_sum sums (arc_at arcs n).from ≡ bit_sum sums from = ap (bit_sum sums) at in
+      let rest = along sums h (arc_at arcs n).to path to leads in
+      omega (arith, ints)
+
+-- Where no sum is above the limit, no path is.
+pub ArePathsShort-carried : (design : Design) (order : List ℕ) (sums : List ℤ) → IsOrder design.arcs order → AreCarried design.arcs order (length order) sums →
+    All (λ z. z ≤ℤ pos 1000000000) sums → ArePathsShort design
+ArePathsShort-carried design order sums is_order h all = λ j bit path element is.
+    let sum = along design.arcs order is_order sums h (output_of j) path bit is.1 in
+    let low = h.low (output_of j) in
+    let high : bit_sum sums bit ≤ℤ pos 1000000000 = ⊎_elim
+    (λ (inside : bit < length sums). all bit (pos 0) inside)
+    (λ (past : length sums ≤ bit). let none = get_or_past sums bit (pos 0) past in omega (arith, ints))
+    (low_or_past bit (length sums)) in
+    omega (arith, ints)

@@ -1,0 +1,14 @@
+-- A bound above the sums of all paths.
+use Rattle.std.specs.Prelude.{◌<◌, ◌*◌, ℕ, ℤ, pos, ◌+ℤ◌, ◌≤ℤ◌, List, slice_index_or}
+use Rattle.mintc_timing.specs.declared.parts.TimingArc.{TimingArc}
+use Rattle.mintc_timing.specs.Paths.{arc_at}
+
+-- the sum at a bit
+abbrev pub bit_sum : List ℤ → ℕ → ℤ
+bit_sum sums bit = slice_index_or sums bit (pos 0)
+
+-- No sum is below 0 or above k * 10^9 femtoseconds, and none of the first k arcs of the order brings its end more than the end has.
+pub record AreCarried (arcs : List TimingArc) (order : List ℕ) (k : ℕ) (sums : List ℤ) : Type 0 where
+  pub low : (bit : ℕ) → pos 0 ≤ℤ bit_sum sums bit
+  pub high : (bit : ℕ) → bit_sum sums bit ≤ℤ pos (k * 1000000000)
+  pub carried : (i : ℕ) → i < k → (bit_sum sums (arc_at arcs (slice_index_or order i 0)).from +ℤ (arc_at arcs (slice_index_or order i 0)).max) ≤ℤ bit_sum sums (arc_at arcs (slice_index_or order i 0)).to

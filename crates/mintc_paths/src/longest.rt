@@ -1,0 +1,75 @@
+//! A bound above the sums of all paths at once, by which most designs are seen to have no path that is too long.
+ghost use Rattle.std.specs.Prelude.{◌≡◌, ◌≢◌, ◌<◌, ◌+◌, ◌*◌, ℕ, ℤ, pos, ◌+ℤ◌, ◌≤ℤ◌, IfOk, All, length};
+ghost use Rattle.std.specs.Bool.{OnTrue};
+ghost use Rattle.mintc_timing.specs.Limits.{IsDelay};
+ghost use Rattle.mintc_timing.specs.Order.{IsOrder, ArePathsShort};
+ghost use Rattle.mintc_paths.specs.Longest.{bit_sum, AreCarried};
+
+use crate::long::LIMIT;
+use mintc_timing::{Flat, Order, TimingArc};
+use std::alloc::{AllocError, Global};
+
+/// Raises the sum at the bit that an arc enters to what the arc brings.
+fn raise(sums: &mut [i64], arc: TimingArc)
+    requires from { arc.from < length sums.old }
+    requires to { arc.to < length sums.old }
+    requires low { pos 0 ≤ℤ bit_sum sums.old arc.from }
+    requires high { bit_sum sums.old arc.from ≤ℤ pos 1000000000000000 }
+    requires delay { IsDelay arc.max }
+    ensures others { (bit : ℕ) → bit ≢ arc.to → bit_sum sums.new bit ≡ bit_sum sums.old bit }
+    ensures kept { bit_sum sums.old arc.to ≤ℤ bit_sum sums.new arc.to }
+    ensures raised { (bit_sum sums.old arc.from +ℤ arc.max) ≤ℤ bit_sum sums.new arc.to }
+    ensures limit { (most : ℤ) → bit_sum sums.old arc.to ≤ℤ most → (bit_sum sums.old arc.from +ℤ arc.max) ≤ℤ most → bit_sum sums.new arc.to ≤ℤ most }
+{
+    let sum = sums[arc.from as usize] + arc.max;
+    if sums[arc.to as usize] < sum {
+        sums[arc.to as usize] = sum;
+    }
+}
+
+/// Makes the sums, which are 0 at each bit, the greatest along arcs that end there, wherever they begin, in femtoseconds.
+fn raise_all(sums: &mut [i64], flat: &Flat, order: &Order)
+    requires order { IsOrder flat.now.arcs order.now }
+    requires bits { length sums.old ≡ 2 * length flat.now.elements + length flat.now.inner }
+    requires none { AreCarried flat.now.arcs order.now 0 sums.old }
+    ensures { AreCarried flat.now.arcs order.now (length order.now) sums.new }
+{
+    let _elements = flat.elements();
+    let arcs = flat.arcs();
+    for number in order.arcs().items() {
+        raise(sums, arcs[*number as usize]);
+    }
+}
+
+/// Whether no sum is above the limit.
+fn are_within(sums: &[i64]) -> bool
+    ensures { OnTrue result (All (λ z. z ≤ℤ pos 1000000000) sums.now) }
+{
+    for sum in sums {
+        if *sum > LIMIT {
+            return false;
+        }
+    }
+    true
+}
+
+/// Whether no arcs in a row have a sum above the limit, by the sums at the bits, which are 0 at first.
+fn are_arcs_short(sums: &mut [i64], flat: &Flat, order: &Order) -> bool
+    requires order { IsOrder flat.now.arcs order.now }
+    requires bits { length sums.old ≡ 2 * length flat.now.elements + length flat.now.inner }
+    requires none { AreCarried flat.now.arcs order.now 0 sums.old }
+    ensures { OnTrue result (ArePathsShort flat.now) }
+{
+    raise_all(sums, flat, order);
+    are_within(sums)
+}
+
+/// Whether it is plain that no path is too long, since no arcs in a row are, wherever they begin.
+pub fn are_plainly_short(alloc: Global, flat: &Flat, order: &Order) -> Result<bool, AllocError>
+    requires { IsOrder flat.now.arcs order.now }
+    ensures { IfOk result (λ short. OnTrue short (ArePathsShort flat.now)) }
+{
+    let bits = 2 * flat.elements().len() + flat.inner().items().len();
+    let mut sums = vec![in alloc; 0; bits]?;
+    Ok(are_arcs_short(&mut sums, flat, order))
+}
