@@ -9,3 +9,4 @@ pub mod CertificateWritten
 pub mod CertificateVersions
 pub mod WorkedCertificate
 pub mod PathDelays
+pub mod ChainSumLaws

@@ -11,6 +11,7 @@ mod links;
 mod member_lines;
 mod members;
 mod reading;
+mod sums;
 #[cfg(test)]
 mod tests;
 mod text_laws;
@@ -22,6 +23,7 @@ pub use laws::valid_is_optimal;
 pub use links::{link_of, width_needed};
 pub use members::{Member, Members};
 pub use reading::read;
+pub use sums::{ChainSums, sums_of};
 pub use text_laws::{
     certificate_texts_are_canonical, certificate_texts_are_plain, written_certificates_are_read,
 };

@@ -9,7 +9,7 @@ ghost use Rattle.mintc_certificate.specs.declared.certificate.Certificate.{Certi
 ghost use Rattle.mintc_certificate.specs.declared.members.Member.{Member};
 ghost use Rattle.mintc_certificate.specs.declared.version.Version.{Version};
 ghost use Rattle.mintc_certificate.specs.CertificateReading.{Halts, with_chain, before_chain};
-ghost use Rattle.mintc_certificate.specs.CertificateText.{version_of, least_departure, IsMemberLine, IsOutcomeLine, NextOfCertificate, IsCertificateText, IsCertificateFault, IsCertificateRefusal, first, outcome, den, phase, departure, link};
+ghost use Rattle.mintc_certificate.specs.CertificateText.{version_of, least_departure, IsMemberLine, IsOutcomeLine, NextOfCertificate, IsCertificateText, IsCertificateFault, IsCertificateRefusal, first, den, phase, departure, link};
 ghost use Rattle.mintc_certificate.specs.CertificateText.{never as no_schedule};
 ghost use Rattle.mintc_certificate.specs.Ranges.{IsCertificateInRange};
 

@@ -1,5 +1,5 @@
 //! The text of a certificate.
-ghost use Rattle.std.specs.Prelude.{◌≡◌, ◌<◌, ◌^◌, ◌++◌, ◌∷◌, [], IfOk, OnOk, length, map, zip, codes, All};
+ghost use Rattle.std.specs.Prelude.{◌≡◌, ◌<◌, ◌^◌, ◌++◌, ◌∷◌, IfOk, OnOk, length, map, zip, codes, All};
 ghost use Rattle.mintc_text.specs.Lines.{ended, text_of, words};
 ghost use Rattle.mintc_timing.specs.Fields.{number};
 ghost use Rattle.mintc_timing.specs.Limits.{IsInRange};

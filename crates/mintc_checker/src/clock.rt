@@ -1,5 +1,5 @@
 //! What the clock and the bounds ask of a schedule, and by how much it fails.
-ghost use Rattle.std.specs.Prelude.{◌≡◌, ◌+◌, ◌-◌, ◌*◌, ◌≤◌, ◌<◌, ℕ, pos, ◌+ℤ◌, ◌-ℤ◌, ◌*ℤ◌, length};
+ghost use Rattle.std.specs.Prelude.{◌≡◌, ◌+◌, ◌-◌, ◌*◌, ◌≤◌, ◌<◌, pos, ◌+ℤ◌, ◌-ℤ◌, ◌*ℤ◌, length};
 ghost use Rattle.mintc_timing.specs.Clocking.{start_of, width_of, end_of, time_of, crosses_of, least_width};
 ghost use Rattle.mintc_timing.specs.Limits.{IsBound, IsInRange, IsModest, IsNumerator, IsPhase, IsPoint, IsTime};
 ghost use Rattle.mintc_certificate.specs.Named.{alone};

@@ -1,11 +1,10 @@
 //! Labels of phases at all bits: when data comes there at the latest.
-ghost use Rattle.std.specs.Prelude.{◌≡◌, ◌≢◌, ◌+◌, ◌*◌, ◌^◌, ◌<◌, ◌≤◌, ◌+ℤ◌, ◌*ℤ◌, ℕ, List, length, None, Some, IfOk, All, unsigned_abs};
+ghost use Rattle.std.specs.Prelude.{◌≡◌, ◌≢◌, ◌+◌, ◌*◌, ◌^◌, ◌<◌, ◌≤◌, ◌+ℤ◌, ◌*ℤ◌, ℕ, length, None, Some, IfOk, All, unsigned_abs};
 ghost use Rattle.std.specs.Int.{int_max};
 ghost use Rattle.mintc_lanes.specs.Lanes.{lane_at, AreJoined, AreLanes};
 ghost use Rattle.mintc_timing.specs.Departures.{departure};
 ghost use Rattle.mintc_timing.specs.Limits.{IsDenominator, IsTime};
 ghost use Rattle.mintc_timing.specs.Order.{IsOrder, ArePathsShort};
-ghost use Rattle.mintc_timing.specs.Paths.{output_of};
 ghost use Rattle.mintc_certificate.specs.Ranges.{IsDeparture};
 ghost use Rattle.mintc_checker.specs.Trails.{element_of};
 ghost use Rattle.mintc_checker.specs.Judged.{AreTimely};

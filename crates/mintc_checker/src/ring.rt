@@ -1,10 +1,9 @@
 //! The tests of a chain: its members, that it leads round, and its sums.
-ghost use Rattle.std.specs.Prelude.{◌≡◌, ◌<◌, ◌≤◌, pos, negsuc, ◌≤ℤ◌, length, slice_index_or, All, IsTrue, ◌↔◌};
+ghost use Rattle.std.specs.Prelude.{◌≡◌, ◌<◌, ◌≤◌, length, slice_index_or, All, IsTrue, ◌↔◌};
 ghost use Rattle.std.specs.Bool.{OnTrue};
 ghost use Rattle.mintc_timing.specs.declared.link.Link.{Link as LinkValue};
 ghost use Rattle.mintc_timing.specs.Closed.{IsClosed};
 ghost use Rattle.mintc_timing.specs.Limits.{IsDenominator, IsNumerator, IsSpan};
-ghost use Rattle.mintc_timing.specs.Links.{cycles_of, delay_of};
 ghost use Rattle.mintc_timing.specs.Order.{ArePathsShort};
 ghost use Rattle.mintc_certificate.specs.CertificateText.{IsCounted};
 ghost use Rattle.mintc_certificate.specs.Ranges.{IsChainInRange};
@@ -13,7 +12,7 @@ ghost use Rattle.mintc_certificate.specs.Named.{IsNamed, alone};
 ghost use Rattle.mintc_checker.specs.Judged.{Decides, IsFed, no_link};
 
 use crate::members::is_member;
-use mintc_certificate::{Member, link_of};
+use mintc_certificate::{Member, link_of, sums_of};
 use mintc_timing::{Flat, Link, Schedule};
 
 /// Whether all members are the design's.
@@ -71,33 +70,6 @@ pub(crate) fn are_ring(flat: &Flat, fed: &[bool], members: &[Member]) -> bool
     ensures ring { Decides flat.now result (λ t. IsRing t members.now) }
 {
     are_members(flat, fed, members) && lead_round(flat, members)
-}
-
-/// The sums over a chain: its delay in femtoseconds, and its cycles.
-#[derive(Clone, Copy)]
-pub(crate) struct ChainSums {
-    pub(crate) delay: i64,
-    pub(crate) cycles: i64,
-}
-
-/// The sums over the links of the members.
-fn sums_of(flat: &Flat, members: &[Member]) -> ChainSums
-    requires short { ArePathsShort flat.now }
-    requires named { All (IsNamed flat.now) members.now }
-    requires chain { IsChainInRange members.now }
-    ensures delay { result.delay ≡ delay_of (links_of_members (alone flat.now) members.now) }
-    ensures cycles { result.cycles ≡ cycles_of (links_of_members (alone flat.now) members.now) }
-    ensures delay_range { (negsuc 8191999999999 ≤ℤ result.delay) × (result.delay ≤ℤ pos 8192000000000) }
-    ensures cycles_range { (pos 0 ≤ℤ result.cycles) × (result.cycles ≤ℤ pos 4096) }
-{
-    let mut delay = 0;
-    let mut cycles = 0;
-    for place in 0..members.len() {
-        let link = link_at(flat, members, place);
-        delay += link.delay;
-        cycles += i64::from(link.cycles);
-    }
-    ChainSums { delay, cycles }
 }
 
 /// Whether the ring has a cycle, and takes exactly its cycles: the seventh test of a certificate with a schedule.

@@ -1,8 +1,7 @@
 //! Tests of what no clause says: certificates that pass, and for each of the seven tests some that fail it first.
-ghost use Rattle.std.specs.Prelude.{◌≡◌, ◌<◌, ◌≤◌, ◌+◌, ◌/◌, ℕ, length, map, slice_index_or, IfOk};
+ghost use Rattle.std.specs.Prelude.{◌≡◌, ◌<◌, ◌+◌, ◌/◌, ℕ, length, map, slice_index_or, IfOk};
 ghost use Rattle.std.specs.Bool.{OnTrue};
 ghost use Rattle.std.specs.List.{range_with_len};
-ghost use Rattle.mintc_timing.specs.declared.parts.Pair.{Pair as PairValue};
 ghost use Rattle.mintc_timing.specs.declared.parts.TimingArc.{TimingArc as Arc};
 ghost use Rattle.mintc_timing.specs.Design.{no_pair};
 

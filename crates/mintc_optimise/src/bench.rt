@@ -1,5 +1,5 @@
 //! The search of a design, in two steps: first all its memory, then the search, which takes none.
-ghost use Rattle.std.specs.Prelude.{◌≡◌, ◌≤◌, ◌+◌, ◌*◌, IfOk, OnOk};
+ghost use Rattle.std.specs.Prelude.{◌≡◌, ◌≤◌, ◌+◌, ◌*◌, IfOk};
 
 use mintc_constraints::{LinkList, Room, links};
 use mintc_ratio::{Outcome, search};

@@ -3,7 +3,7 @@ pub mod DeterminedLaws
 pub mod NamedLaws
 pub mod ReportLaws
 pub mod SpacedLaws
-pub mod Sums
+pub mod Alone
 pub mod Throughs
 pub mod ValidParts
 pub mod WorkedReports

@@ -7,34 +7,21 @@ ghost use Rattle.mintc_certificate.specs.Ranges.{IsChainInRange};
 ghost use Rattle.mintc_certificate.specs.Valid.{IsMember, links_of_members};
 ghost use Rattle.mintc_report.specs.Reports.{chain_line, chain_lines, member_lines};
 
-use crate::members::{link_at, put_amounts, put_member};
+use crate::members::{put_amounts, put_member};
 use crate::writing::put_number;
-use mintc_certificate::Member;
+use mintc_certificate::{ChainSums, Member, sums_of};
 use mintc_text::{Lines, OutOfMemory};
 use mintc_timing::System;
 
-/// The sums over a chain: its delay in femtoseconds, and its cycles.
-#[derive(Clone, Copy)]
-struct ChainSums {
-    delay: i64,
-    cycles: i64,
-}
-
 /// The sums over the links of the members.
-fn sums_of(system: &System, chain: &[Member]) -> ChainSums
+fn sums_in(system: &System, chain: &[Member]) -> ChainSums
     requires in_range { IsChainInRange chain.now }
     requires members { All (IsMember system.now) chain.now }
     ensures delay { result.delay ≡ delay_of (links_of_members system.now chain.now) }
     ensures cycles { result.cycles ≡ cycles_of (links_of_members system.now chain.now) }
 {
-    let mut delay = 0;
-    let mut cycles = 0;
-    for member in chain {
-        let link = link_at(system, member);
-        delay += link.delay;
-        cycles += i64::from(link.cycles);
-    }
-    ChainSums { delay, cycles }
+    let _pairs = system.pairs();
+    sums_of(system.flat(), chain)
 }
 
 /// Writes how many members a chain has, its delay and its cycles.
@@ -43,7 +30,7 @@ fn put_sums(lines: &mut Lines, system: &System, chain: &[Member]) -> Result<(), 
     requires members { All (IsMember system.now) chain.now }
     ensures { OnOk result (lines.new ≡ lines.old ++ ended (chain_line system.now chain.now)) }
 {
-    let sums = sums_of(system, chain);
+    let sums = sums_in(system, chain);
     lines.put(b"chain")?;
     put_number(lines, chain.len() as u64)?;
     put_amounts(lines, sums.delay, sums.cycles)

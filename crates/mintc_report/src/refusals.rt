@@ -1,5 +1,5 @@
 //! The line of a refusal.
-ghost use Rattle.std.specs.Prelude.{◌≡◌, ◌++◌, ◌∷◌, [], ℕ, List, IfOk, OnOk, length, map, codes, decimal};
+ghost use Rattle.std.specs.Prelude.{◌≡◌, ◌++◌, ◌∷◌, [], IfOk, OnOk, length, map, decimal};
 ghost use Rattle.mintc_text.specs.Refusals.{role_word, kind_word, refusal_number, refusal_fields, refusal_line};
 ghost use Rattle.mintc_report.specs.Spaced.{spaced};
 

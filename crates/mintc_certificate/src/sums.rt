@@ -1,0 +1,38 @@
+//! The sums over a chain.
+ghost use Rattle.std.specs.Prelude.{◌≡◌, pos, negsuc, ◌≤ℤ◌, All};
+ghost use Rattle.mintc_timing.specs.Links.{cycles_of, delay_of};
+ghost use Rattle.mintc_timing.specs.Order.{ArePathsShort};
+ghost use Rattle.mintc_certificate.specs.Named.{IsNamed, alone};
+ghost use Rattle.mintc_certificate.specs.Ranges.{IsChainInRange};
+ghost use Rattle.mintc_certificate.specs.Valid.{links_of_members};
+
+use crate::links::link_of;
+use crate::members::Member;
+use mintc_timing::Flat;
+
+/// The sums over a chain: its delay in femtoseconds, and its cycles.
+#[derive(Clone, Copy)]
+pub struct ChainSums {
+    pub delay: i64,
+    pub cycles: i64,
+}
+
+/// The sums over the links of the members.
+pub fn sums_of(flat: &Flat, members: &[Member]) -> ChainSums
+    requires short { ArePathsShort flat.now }
+    requires named { All (IsNamed flat.now) members.now }
+    requires chain { IsChainInRange members.now }
+    ensures delay { result.delay ≡ delay_of (links_of_members (alone flat.now) members.now) }
+    ensures cycles { result.cycles ≡ cycles_of (links_of_members (alone flat.now) members.now) }
+    ensures delay_range { (negsuc 8191999999999 ≤ℤ result.delay) × (result.delay ≤ℤ pos 8192000000000) }
+    ensures cycles_range { (pos 0 ≤ℤ result.cycles) × (result.cycles ≤ℤ pos 4096) }
+{
+    let mut delay = 0;
+    let mut cycles = 0;
+    for member in members {
+        let link = link_of(flat, member);
+        delay += link.delay;
+        cycles += i64::from(link.cycles);
+    }
+    ChainSums { delay, cycles }
+}
