@@ -1,14 +1,11 @@
 -- What a member's link asks of a design alone, without its pairs.
-use Rattle.std.specs.Prelude.{[], length}
-use Rattle.mintc_timing.specs.Design.{Design, Timing}
+use Rattle.std.specs.Prelude.{length}
+use Rattle.mintc_timing.specs.Design.{Design}
 use Rattle.mintc_timing.specs.Limits.{IsPhase}
+use Rattle.mintc_demands.specs.Alone.{alone}
 use Rattle.mintc_certificate.specs.declared.members.Member.{Member}
 use Rattle.mintc_certificate.specs.declared.members.Member.TheVariants as member
 use Rattle.mintc_certificate.specs.Valid.{IsMember}
-
--- a design without an order and pairs, for what asks for neither
-abbrev pub alone : Design → Timing
-alone design = record { flat = design; order = []; pairs = [] }
 
 -- The member's numbers are the design's, and a reach carries a listed path.
 abbrev pub IsNamed : Design → Member → Type 0

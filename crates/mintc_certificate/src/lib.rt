@@ -20,7 +20,7 @@ mod writing;
 
 pub use certificate::{Certificate, Departures};
 pub use laws::valid_is_optimal;
-pub use links::{link_of, width_needed};
+pub use links::link_of;
 pub use members::{Member, Members};
 pub use reading::read;
 pub use sums::{ChainSums, sums_of};

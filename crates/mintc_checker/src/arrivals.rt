@@ -7,15 +7,14 @@ ghost use Rattle.mintc_timing.specs.Design.{element_count};
 ghost use Rattle.mintc_timing.specs.Limits.{IsInRange, IsModest};
 ghost use Rattle.mintc_timing.specs.Right.{KeepsSetup};
 ghost use Rattle.mintc_certificate.specs.Ranges.{IsDeparture};
-ghost use Rattle.mintc_certificate.specs.Named.{alone};
+ghost use Rattle.mintc_demands.specs.Alone.{alone};
 ghost use Rattle.mintc_checker.specs.Judged.{AreTimely, Decides, IsArrival, IsLate, OfTiming};
 ghost use Rattle.mintc_checker.specs.Labels.{AreLabels};
 ghost use Rattle.mintc_checker.specs.Trails.{IsLastArrival};
 
-use crate::amounts::{larger, scaled};
-use crate::clock::width;
 use crate::labels::{Labels, departure_at, label_in};
 use crate::reading::element;
+use mintc_demands::{scaled, width};
 use mintc_timing::{Flat, Schedule, shift};
 
 /// The later of two times, of which the second is moved; either may be absent.
@@ -32,7 +31,7 @@ fn later(last: Option<i64>, label: Option<i64>, add: i64) -> Option<i64>
     let Some(last) = last else {
         return Some(label + add);
     };
-    Some(larger(last, label + add))
+    Some(i64::max(last, label + add))
 }
 
 /// When the last data arrives at an element, counted from the start of its phase; None where no trail leads to it.
@@ -80,7 +79,7 @@ fn late_departure(flat: &Flat, schedule: &Schedule, labels: &[Labels], number: u
     }
     let open = opening(flat, schedule, number);
     match last_arrival(flat, schedule, labels, number) {
-        Some(last) => larger(open, last),
+        Some(last) => i64::max(open, last),
         None => open,
     }
 }
@@ -146,7 +145,7 @@ fn keeps_setup(
     let element = element(flat, number);
     let setup = scaled(element.setup, schedule.den);
     if !element.flop {
-        let leaves = larger(0, departure_at(departures, number));
+        let leaves = i64::max(0, departure_at(departures, number));
         return leaves + setup <= width(schedule, element.phase);
     }
     match last_arrival(flat, schedule, labels, number) {

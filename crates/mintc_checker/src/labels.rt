@@ -10,8 +10,8 @@ ghost use Rattle.mintc_checker.specs.Trails.{element_of};
 ghost use Rattle.mintc_checker.specs.Judged.{AreTimely};
 ghost use Rattle.mintc_checker.specs.Labels.{AreLabels, AreLabelsOf, IsStart, label_at, labels_at, IsAlong};
 
-use crate::amounts::scaled;
 use crate::reading::{arc_at_place, element};
+use mintc_demands::scaled;
 use mintc_lanes::{ABSENT, max_plus_row};
 use mintc_text::OutOfMemory;
 use mintc_timing::{Flat, Order};

@@ -12,9 +12,7 @@ ghost use Rattle.mintc_timing.specs.Order.{IsOrder, ArePathsShort};
 ghost use Rattle.mintc_timing.specs.Paths.{ArePairs};
 ghost use Rattle.mintc_checker.specs.Verdicts.{IsVerdict};
 
-mod amounts;
 mod arrivals;
-mod clock;
 mod examining;
 mod labels;
 mod members;

@@ -8,7 +8,8 @@ ghost use Rattle.mintc_timing.specs.Order.{ArePathsShort};
 ghost use Rattle.mintc_certificate.specs.CertificateText.{IsCounted};
 ghost use Rattle.mintc_certificate.specs.Ranges.{IsChainInRange};
 ghost use Rattle.mintc_certificate.specs.Valid.{IsMember, IsRing, IsStuck, IsTight, links_of_members};
-ghost use Rattle.mintc_certificate.specs.Named.{IsNamed, alone};
+ghost use Rattle.mintc_demands.specs.Alone.{alone};
+ghost use Rattle.mintc_certificate.specs.Named.{IsNamed};
 ghost use Rattle.mintc_checker.specs.Judged.{Decides, IsFed, no_link};
 
 use crate::members::is_member;

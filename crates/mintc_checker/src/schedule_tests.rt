@@ -3,15 +3,15 @@ ghost use Rattle.std.specs.Prelude.{◌≡◌, ◌+◌, ◌-◌, ◌*◌, ◌<�
 ghost use Rattle.mintc_timing.specs.Clocking.{KeepsApart, KeepsBound, KeepsClock, KeepsPhase, EachPhase, crosses_of, end_of, least_width, start_of, width_of};
 ghost use Rattle.mintc_timing.specs.Limits.{IsBound, IsInRange, IsPhase};
 ghost use Rattle.mintc_certificate.specs.Valid.{SchedulePasses, counts};
-ghost use Rattle.mintc_certificate.specs.Named.{alone};
+ghost use Rattle.mintc_demands.specs.Alone.{alone};
 ghost use Rattle.mintc_checker.specs.Judged.{Decides, IsFed, IsFedAt, KeepsOwn};
 ghost use Rattle.mintc_checker.specs.Labels.{AreLabels};
 
-use crate::clock::{
-    apart_excess, bound_excess, cycle_excess, order_excess, span_excess, width_excess,
-};
 use crate::labels::{Labels, label_in};
 use crate::reading::element;
+use mintc_demands::{
+    apart_excess, bound_excess, cycle_excess, order_excess, span_excess, width_excess,
+};
 use mintc_timing::{Bound, Flat, Schedule};
 
 /// Whether the schedule has the design's phases, and the departures are as many as its elements: the first test.

@@ -5,7 +5,7 @@ mod laws;
 mod link_list;
 mod listing;
 mod lists;
-mod making;
+mod parts;
 mod room;
 #[cfg(test)]
 mod tests;

@@ -4,13 +4,14 @@ ghost use Rattle.std.specs.List.{enumerate_from, filter, range_with_len};
 ghost use Rattle.mintc_timing.specs.Clocking.{feeds_of};
 ghost use Rattle.mintc_timing.specs.Design.{element_count, phase_count};
 ghost use Rattle.mintc_timing.specs.Limits.{IsPhase};
-ghost use Rattle.mintc_timing.specs.Links.{apart_link, bound_link, cycle_link, latches_of, links_of, open_link, opened_link, order_link, reach_link, setup_link, span_link, start_link, width_link};
+ghost use Rattle.mintc_timing.specs.Links.{apart_link as apart_link_of, bound_link as bound_link_of, cycle_link as cycle_link_of, latches_of, links_of, open_link, opened_link as opened_link_of, order_link as order_link_of, reach_link, setup_link as setup_link_of, span_link as span_link_of, start_link as start_link_of, width_link as width_link_of};
 ghost use Rattle.mintc_timing.specs.Violations.{elements_of, phases_of};
 
 use crate::LinkList;
-use crate::making::{
-    apart, bound, cycle_of_phase, elements, is_latch, nodes, opened, opening, order_of_phase,
-    phases, reach, setup, span_of_phase, start_of_phase, width_of_phase,
+use crate::parts::{elements, is_latch, nodes, phases, reach};
+use mintc_demands::{
+    apart_link, bound_link, cycle_link, opened_link, opening_link, order_link, setup_link,
+    span_link, start_link, width_link,
 };
 use mintc_text::OutOfMemory;
 use mintc_timing::{Link, System, feeds};
@@ -38,50 +39,50 @@ fn append_if(items: &mut Vec<Link>, asked: bool, link: Link) -> Result<(), OutOf
 
 /// Appends the links of starts.
 fn append_starts(system: &System, items: &mut Vec<Link>) -> Result<(), OutOfMemory>
-    ensures { OnOk result (items.new.items ≡ items.old.items ++ map start_link (phases_of system.now)) }
+    ensures { OnOk result (items.new.items ≡ items.old.items ++ map start_link_of (phases_of system.now)) }
 {
     for index in 0..phases(system) {
-        append(items, start_of_phase(index + 1))?;
+        append(items, start_link(index + 1))?;
     }
     Ok(())
 }
 
 /// Appends the links of the cycle.
 fn append_cycles(system: &System, items: &mut Vec<Link>) -> Result<(), OutOfMemory>
-    ensures { OnOk result (items.new.items ≡ items.old.items ++ map cycle_link (phases_of system.now)) }
+    ensures { OnOk result (items.new.items ≡ items.old.items ++ map cycle_link_of (phases_of system.now)) }
 {
     for index in 0..phases(system) {
-        append(items, cycle_of_phase(index + 1))?;
+        append(items, cycle_link(index + 1))?;
     }
     Ok(())
 }
 
 /// Appends the links of the order.
 fn append_orders(system: &System, items: &mut Vec<Link>) -> Result<(), OutOfMemory>
-    ensures { OnOk result (items.new.items ≡ items.old.items ++ map order_link (range_with_len 1 (phase_count system.now - 1))) }
+    ensures { OnOk result (items.new.items ≡ items.old.items ++ map order_link_of (range_with_len 1 (phase_count system.now - 1))) }
 {
     for index in 0..phases(system) - 1 {
-        append(items, order_of_phase(index + 1))?;
+        append(items, order_link(index + 1))?;
     }
     Ok(())
 }
 
 /// Appends the links of spans.
 fn append_spans(system: &System, items: &mut Vec<Link>) -> Result<(), OutOfMemory>
-    ensures { OnOk result (items.new.items ≡ items.old.items ++ map span_link (phases_of system.now)) }
+    ensures { OnOk result (items.new.items ≡ items.old.items ++ map span_link_of (phases_of system.now)) }
 {
     for index in 0..phases(system) {
-        append(items, span_of_phase(index + 1))?;
+        append(items, span_link(index + 1))?;
     }
     Ok(())
 }
 
 /// Appends the links of widths.
 fn append_widths(system: &System, items: &mut Vec<Link>) -> Result<(), OutOfMemory>
-    ensures { OnOk result (items.new.items ≡ items.old.items ++ map (width_link system.now) (phases_of system.now)) }
+    ensures { OnOk result (items.new.items ≡ items.old.items ++ map (width_link_of system.now) (phases_of system.now)) }
 {
     for index in 0..phases(system) {
-        append(items, width_of_phase(system, index + 1))?;
+        append(items, width_link(system.flat(), index + 1))?;
     }
     Ok(())
 }
@@ -96,18 +97,18 @@ fn append_apart(
     requires phase { IsPhase (phase_count system.now) i }
     requires count { length fed.now ≡ 64 }
     requires table { (i j : ℕ) → IsPhase 8 i → IsPhase 8 j → slice_index_or fed.now (8 * (i - 1) + (j - 1)) false ≡ feeds_of system.now i j }
-    ensures { OnOk result (items.new.items ≡ items.old.items ++ map (apart_link i) (filter (feeds_of system.now i) (phases_of system.now))) }
+    ensures { OnOk result (items.new.items ≡ items.old.items ++ map (apart_link_of i) (filter (feeds_of system.now i) (phases_of system.now))) }
 {
     for index in 0..phases(system) {
         let asked = fed[8 * (i as usize - 1) + index as usize];
-        append_if(items, asked, apart(i, index + 1))?;
+        append_if(items, asked, apart_link(i, index + 1))?;
     }
     Ok(())
 }
 
 /// Appends the links that set phases apart.
 fn append_aparts(system: &System, items: &mut Vec<Link>) -> Result<(), OutOfMemory>
-    ensures { OnOk result (items.new.items ≡ items.old.items ++ flat_map (λ i. map (apart_link i) (filter (feeds_of system.now i) (phases_of system.now))) (phases_of system.now)) }
+    ensures { OnOk result (items.new.items ≡ items.old.items ++ flat_map (λ i. map (apart_link_of i) (filter (feeds_of system.now i) (phases_of system.now))) (phases_of system.now)) }
 {
     let fed = feeds(system);
     for index in 0..phases(system) {
@@ -121,17 +122,21 @@ fn append_openings(system: &System, items: &mut Vec<Link>) -> Result<(), OutOfMe
     ensures { OnOk result (items.new.items ≡ items.old.items ++ map (open_link system.now) (elements_of system.now)) }
 {
     for number in 0..elements(system) {
-        append(items, opening(system, number))?;
+        append(items, opening_link(system.flat(), number))?;
     }
     Ok(())
 }
 
 /// Appends the links of the latches' setups since their phases' starts.
 fn append_openeds(system: &System, items: &mut Vec<Link>) -> Result<(), OutOfMemory>
-    ensures { OnOk result (items.new.items ≡ items.old.items ++ map (opened_link system.now) (latches_of system.now)) }
+    ensures { OnOk result (items.new.items ≡ items.old.items ++ map (opened_link_of system.now) (latches_of system.now)) }
 {
     for number in 0..elements(system) {
-        append_if(items, is_latch(system, number), opened(system, number))?;
+        append_if(
+            items,
+            is_latch(system, number),
+            opened_link(system.flat(), number),
+        )?;
     }
     Ok(())
 }
@@ -148,21 +153,21 @@ fn append_reaches(system: &System, items: &mut Vec<Link>) -> Result<(), OutOfMem
 
 /// Appends the links of setups.
 fn append_setups(system: &System, items: &mut Vec<Link>) -> Result<(), OutOfMemory>
-    ensures { OnOk result (items.new.items ≡ items.old.items ++ map (setup_link system.now) (elements_of system.now)) }
+    ensures { OnOk result (items.new.items ≡ items.old.items ++ map (setup_link_of system.now) (elements_of system.now)) }
 {
     for number in 0..elements(system) {
-        append(items, setup(system, number))?;
+        append(items, setup_link(system.flat(), number))?;
     }
     Ok(())
 }
 
 /// Appends the links of the bounds.
 fn append_bounds(system: &System, items: &mut Vec<Link>) -> Result<(), OutOfMemory>
-    ensures { OnOk result (items.new.items ≡ items.old.items ++ map (λ b. bound_link b.0 b.1) (enumerate_from 0 system.now.flat.bounds)) }
+    ensures { OnOk result (items.new.items ≡ items.old.items ++ map (λ b. bound_link_of b.0 b.1) (enumerate_from 0 system.now.flat.bounds)) }
 {
     let bounds = system.flat().bounds();
     for number in 0..bounds.len() {
-        append(items, bound(number as u32, &bounds[number]))?;
+        append(items, bound_link(number as u32, &bounds[number]))?;
     }
     Ok(())
 }

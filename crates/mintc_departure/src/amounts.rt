@@ -1,30 +1,13 @@
 //! Spans of time under a schedule, as numerators over its denominator.
 ghost use Rattle.std.specs.Prelude.{◌≡◌, ◌<◌, ◌+ℤ◌, ◌*ℤ◌, length};
-ghost use Rattle.std.specs.Int.{int_max};
 ghost use Rattle.mintc_timing.specs.Clocking.{shift_of};
 ghost use Rattle.mintc_timing.specs.Design.{element_count, pair_at, phase_count};
-ghost use Rattle.mintc_timing.specs.Limits.{IsDelay, IsDenominator, IsInRange, IsModest, IsPhase, IsSpan, IsTime};
+ghost use Rattle.mintc_timing.specs.Limits.{IsDelay, IsInRange, IsModest, IsPhase, IsSpan, IsTime};
 ghost use Rattle.mintc_departure.specs.Networks.{late_start_of, late_travel};
 ghost use Rattle.mintc_departure.specs.Rounds.{early_start_of, early_travel};
 
+use mintc_demands::scaled;
 use mintc_timing::{Schedule, System, shift};
-
-/// The greater of two numbers.
-pub(crate) fn larger(a: i64, b: i64) -> i64
-    ensures { result ≡ int_max a b }
-{
-    if b < a { a } else { b }
-}
-
-/// A span of time in femtoseconds, times the denominator.
-pub(crate) fn scaled(span: i64, den: i64) -> i64
-    requires span { IsSpan span }
-    requires den { IsDenominator den }
-    ensures value { result ≡ span *ℤ den }
-    ensures range { IsModest result }
-{
-    span * den
-}
 
 /// By how much a delay from an element on phase `i` to one on phase `j` raises a time since the start of its phase.
 pub(crate) fn travel(schedule: &Schedule, delay: i64, i: u32, j: u32) -> i64

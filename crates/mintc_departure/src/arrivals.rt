@@ -15,13 +15,6 @@ use mintc_timing::{Pair, Schedule, System};
 /// The arrival at an element that no pair leads to: later than any other.
 pub const NEVER: i128 = i128::MAX;
 
-/// The lesser of two numbers.
-fn lesser(a: i128, b: i128) -> i128
-    ensures { result ≡ int_min a b }
-{
-    if b < a { b } else { a }
-}
-
 /// When data that leaves the first element of a pair reaches the second one at the earliest.
 fn arrival(system: &System, schedule: &Schedule, departures: &[i64], number: usize) -> i64
     requires in_range { IsInRange schedule.now }
@@ -50,7 +43,7 @@ fn bring(system: &System, schedule: &Schedule, room: &mut Room, number: usize)
 {
     let to = system.pair(number).to as usize;
     let time = i128::from(arrival(system, schedule, room.early(), number));
-    let earliest = lesser(time, room.values()[to]);
+    let earliest = i128::min(time, room.values()[to]);
     room.set_values(to, earliest);
 }
 

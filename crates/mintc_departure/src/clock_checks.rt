@@ -6,7 +6,7 @@ ghost use Rattle.mintc_timing.specs.Design.{phase_count};
 ghost use Rattle.mintc_timing.specs.Limits.{IsInRange, IsPhase};
 ghost use Rattle.mintc_timing.specs.Violations.{check, failed, phases_of, cycle_checks, order_checks, span_checks, width_checks, apart_checks, bound_checks, clock_checks};
 
-use crate::clock::{
+use mintc_demands::{
     apart_excess, bound_excess, cycle_excess, order_excess, span_excess, width_excess,
 };
 use mintc_text::OutOfMemory;
@@ -107,7 +107,7 @@ fn judge_widths(
         judge(
             violations,
             Broken::Width { phase },
-            width_excess(system, schedule, phase),
+            width_excess(system.flat(), schedule, phase),
         )?;
     }
     Ok(())

@@ -11,12 +11,11 @@ ghost use Rattle.mintc_departure.specs.Excesses.{IsExcess, IsLast};
 ghost use Rattle.mintc_departure.specs.Rounds.{AreSums, IsArrival, IsFirst};
 ghost use Rattle.mintc_departure.specs.Settled.{IsSum};
 
-use crate::amounts::{larger, scaled};
 use crate::arrivals::NEVER;
-use crate::clock::width;
 use crate::clock_checks::judge;
 use crate::latest::LONG_AGO;
 use mintc_constraints::Room;
+use mintc_demands::{scaled, width};
 use mintc_text::OutOfMemory;
 use mintc_timing::{Broken, Schedule, System, Violation};
 
@@ -41,7 +40,7 @@ fn setup_excess(
     let element = system.element(number);
     let setup = scaled(element.setup, schedule.den);
     if !element.flop {
-        return Some(larger(0, time) + setup - width(schedule, element.phase));
+        return Some(i64::max(0, time) + setup - width(schedule, element.phase));
     }
     if last == LONG_AGO {
         return None;

@@ -17,13 +17,6 @@ use mintc_timing::{Pair, Schedule, System};
 /// The latest arrival at an element that no pair leads to: earlier than any other.
 pub const LONG_AGO: i128 = i128::MIN;
 
-/// The greater of two numbers.
-fn greater(a: i128, b: i128) -> i128
-    ensures { result ≡ int_max a b }
-{
-    if b < a { a } else { b }
-}
-
 /// When data that leaves the first element of a pair reaches the second one at the latest.
 fn latest(system: &System, schedule: &Schedule, departures: &[i64], number: usize) -> i64
     requires in_range { IsInRange schedule.now }
@@ -52,7 +45,7 @@ fn bring_latest(system: &System, schedule: &Schedule, room: &mut Room, number: u
 {
     let to = system.pair(number).to as usize;
     let time = i128::from(latest(system, schedule, room.late(), number));
-    let last = greater(time, room.values()[to]);
+    let last = i128::max(time, room.values()[to]);
     room.set_values(to, last);
 }
 

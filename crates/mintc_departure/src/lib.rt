@@ -3,7 +3,6 @@
 
 mod amounts;
 mod arrivals;
-mod clock;
 mod clock_checks;
 mod element_checks;
 mod judging;

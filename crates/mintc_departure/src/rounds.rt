@@ -8,7 +8,7 @@ ghost use Rattle.mintc_timing.specs.Extremes.{least_of};
 ghost use Rattle.mintc_timing.specs.Limits.{IsDesign, IsInRange};
 ghost use Rattle.mintc_departure.specs.Rounds.{early_start_of, AreSums, IsArrival, IsFirst};
 
-use crate::amounts::{early_start, larger};
+use crate::amounts::early_start;
 use crate::arrivals::{NEVER, gather};
 use mintc_constraints::Room;
 use mintc_timing::{Schedule, System};
@@ -28,7 +28,7 @@ fn departs(system: &System, schedule: &Schedule, number: u32, first: i128) -> i6
     if first == NEVER {
         return start;
     }
-    larger(start, first as i64)
+    i64::max(start, first as i64)
 }
 
 /// Makes the early departures those of elements that no data reaches.

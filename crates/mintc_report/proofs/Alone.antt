@@ -4,7 +4,7 @@ use Rattle.mintc_timing.specs.declared.link.Link.{Link}
 use Rattle.mintc_timing.specs.Design.{Timing}
 use Rattle.mintc_certificate.specs.declared.members.Member.{Member}
 use Rattle.mintc_certificate.specs.declared.members.Member.TheVariants as member
-use Rattle.mintc_certificate.specs.Named.{alone}
+use Rattle.mintc_demands.specs.Alone.{alone}
 use Rattle.mintc_certificate.specs.Valid.{link_of, links_of_members}
 
 same_link : (t : Timing) (m : Member) → link_of (alone t.flat) m ≡ link_of t m

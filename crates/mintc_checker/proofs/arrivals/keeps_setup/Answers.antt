@@ -34,7 +34,7 @@ returns-then-not-element c = λ along pairs are_pairs.
     let setup = scaled_is c.scaled-setup.result e.setup s.den (IsTime-IsGap _ c.element-element.ensures.kept.setup) (IsTime-IsDenominator _ c.requires.in_range.den) c.scaled-setup.ensures.value
     ∙ ap (λ (x : Element). x.setup *ℤ s.den) here in
     test_is _ _ (int_max (pos 0) (departure c.args.departures.now l) +ℤ (element_of c.args.flat.now l).setup *ℤ s.den) (width_of s (element_of c.args.flat.now l).phase)
-    (latch_sum c.larger-leaves.result c.departure_at.result c.scaled-setup.result c.larger-leaves.ensures c.departure_at.ensures.range c.scaled-setup.ensures.range
+    (latch_sum c.max-leaves.result c.departure_at.result c.scaled-setup.result c.max-leaves.ensures.value c.departure_at.ensures.range c.scaled-setup.ensures.range
     ∙ ap (λ z. int_max (pos 0) z +ℤ c.scaled-setup.result) c.departure_at.ensures.value ∙ ap (λ z. int_max (pos 0) (departure c.args.departures.now l) +ℤ z) setup)
     (read_time c.width.result (IsTime-IsNumerator _ c.width.ensures.range) ∙ c.width.ensures.value ∙ ap (λ (x : Element). width_of s x.phase) here)
     (KeepsSetup-latch (timing_of c.args.flat.now along pairs) s c.args.departures.now l latch)

@@ -25,7 +25,7 @@ returns-in-Some c = record {
       let latch = sym (ap (λ (e : Element). e.flop) c.element.ensures.value) ∙ c.if-element.false in
       let last = subst (λ o. IsLastArrival c.args.flat.now c.args.schedule.now d c.args.number o) c.in-Some.is (c.last_arrival.ensures.last d labels) in
       let range = subst (λ (o : Option ℤ). IfSome o IsArrival) c.in-Some.is c.last_arrival.ensures.range in
-      greater c.larger.result c.opening-open.result c.in-Some.last c.larger.ensures c.opening-open.ensures.range range
+      greater c.max.result c.opening-open.result c.in-Some.last c.max.ensures.value c.opening-open.ensures.range range
       ∙ ap (λ z. int_max z c.in-Some.last) c.opening-open.ensures.value
       ∙ departs-latch c.args.flat.now c.args.schedule.now d c.args.number (Some c.in-Some.last) c.requires.in_range.den.0 c.requires.number latch last along pairs are_pairs;
 }

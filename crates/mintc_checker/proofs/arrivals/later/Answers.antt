@@ -7,24 +7,24 @@ use Rattle.mintc_lanes.specs.Lanes.{joined}
 use Rattle.mintc_checker.specs.Judged.{IsArrival, IsLate}
 use Rattle.mintc_checker.proofs.arrivals.later.Goals as goal
 
-last_range : (c : goal.After-larger) → IsArrival c.in-Some-last.last
+last_range : (c : goal.After-max) → IsArrival c.in-Some-last.last
 last_range c = subst (λ (o : Option ℤ). IfSome o IsArrival) c.in-Some-last.is c.requires.last
 
-label_range : (c : goal.After-larger) → IsLate c.in-Some.label
+label_range : (c : goal.After-max) → IsLate c.in-Some.label
 label_range c = subst (λ (o : Option ℤ). IfSome o IsLate) c.in-Some.is c.requires.label
 
-greater : (c : goal.After-larger) → c.larger.result ≡ int_max c.in-Some-last.last (c.in-Some.label +ℤ c.args.add)
+greater : (c : goal.After-max) → c.max.result ≡ int_max c.in-Some-last.last (c.in-Some.label +ℤ c.args.add)
 greater c =
     let last = last_range c in
     let label = label_range c in
     let add = c.requires.add in
-    omega (arith, ints, clamps, c.larger.ensures)
+    omega (arith, ints, clamps, c.max.ensures.value)
 
 within : (x last label add : ℤ) → x ≡ int_max last (label +ℤ add) → IsArrival last → (negsuc 199999999999999 ≤ℤ add) × (add ≤ℤ pos 200000000000000) → IsLate label → IsArrival x
 within x last label add e a b d = let b0 = b.0 in let b1 = b.1 in let a0 = a.0 in let a1 = a.1 in let d0 = d.0 in let d1 = d.1 in (omega (arith, ints, clamps), omega (arith, ints, clamps))
 
-in_range : (c : goal.After-larger) → IsArrival c.larger.result
-in_range c = within c.larger.result c.in-Some-last.last c.in-Some.label c.args.add (greater c) (last_range c) c.requires.add (label_range c)
+in_range : (c : goal.After-max) → IsArrival c.max.result
+in_range c = within c.max.result c.in-Some-last.last c.in-Some.label c.args.add (greater c) (last_range c) c.requires.add (label_range c)
 
 read : (x : ℤ) → IsArrival x → to_z w64 (of_z w64 x) ≡ x
 read x h = let low = h.0 in let high = h.1 in read_time x (omega (arith, ints), omega (arith, ints))
@@ -33,7 +33,7 @@ pub returns-clause-value : goal.returns-clause-value
 returns-clause-value c =
     let last = c.in-Some-last.last in
     let label = c.in-Some.label in
-    ap Some (read c.larger.result (in_range c) ∙ greater c) ∙ ap (λ o. joined int_max o (Some label) c.args.add) (sym c.in-Some-last.is) ∙ ap (λ o. joined int_max c.args.last o c.args.add) (sym c.in-Some.is)
+    ap Some (read c.max.result (in_range c) ∙ greater c) ∙ ap (λ o. joined int_max o (Some label) c.args.add) (sym c.in-Some-last.is) ∙ ap (λ o. joined int_max c.args.last o c.args.add) (sym c.in-Some.is)
 
 pub returns-clause-range : goal.returns-clause-range
-returns-clause-range c = subst IsArrival (sym (read c.larger.result (in_range c))) (in_range c)
+returns-clause-range c = subst IsArrival (sym (read c.max.result (in_range c))) (in_range c)

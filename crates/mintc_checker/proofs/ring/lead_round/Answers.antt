@@ -5,7 +5,7 @@ use Rattle.mintc_timing.specs.Closed.{Joins, IsClosed}
 use Rattle.mintc_timing.specs.Design.{Design}
 use Rattle.mintc_certificate.specs.declared.members.Member.{Member}
 use Rattle.mintc_certificate.specs.Valid.{link_of, links_of_members}
-use Rattle.mintc_certificate.specs.Named.{alone}
+use Rattle.mintc_demands.specs.Alone.{alone}
 use Rattle.mintc_checker.specs.Judged.{no_link}
 use Rattle.mintc_checker.proofs.Deciding.{fails, alike, same_test}
 use Rattle.mintc_checker.proofs.Rings.{Joins-rest, Joins-end, IsClosed-first}

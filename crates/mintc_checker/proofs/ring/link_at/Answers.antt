@@ -2,7 +2,8 @@ use Rattle.std.proofs.Common.{ap, ◌∙◌, sym, subst}
 use Rattle.std.proofs.lemmas.List.{get_or-map}
 use Rattle.mintc_certificate.specs.CertificateText.{IsCounted}
 use Rattle.mintc_certificate.specs.Valid.{link_of}
-use Rattle.mintc_certificate.specs.Named.{IsNamed, alone}
+use Rattle.mintc_demands.specs.Alone.{alone}
+use Rattle.mintc_certificate.specs.Named.{IsNamed}
 use Rattle.mintc_checker.specs.Judged.{no_link}
 use Rattle.mintc_checker.proofs.ring.link_at.Goals as goal
 

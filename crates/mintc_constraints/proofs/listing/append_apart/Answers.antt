@@ -19,7 +19,7 @@ loop-index-preserved c =
     let second : IsPhase 8 (n + 1) = (omega arith, omega arith) in
     let place : n ≡ (n + 1) - 1 = omega arith in
     let asked = ap (λ (k : ℕ). get_or c.args.fed.now (8 * (i - 1) + k) false) place ∙ c.requires.table i (n + 1) first second in
-    let same = ap (λ (b : Bool). now ++ cond b (c.apart.result ∷ []) []) asked ∙ ap (λ (k : Link). now ++ cond (feeds_of t i (n + 1)) (k ∷ []) []) c.apart.ensures in
+    let same = ap (λ (b : Bool). now ++ cond b (c.apart_link.result ∷ []) []) asked ∙ ap (λ (k : Link). now ++ cond (feeds_of t i (n + 1)) (k ∷ []) []) c.apart_link.ensures.value in
     passing-more (apart_link i) (feeds_of t i) 1 (phase_count t) n (n + 1) (omega arith) h _ now _ c.loop-index.invariant (c.in_ok-append_if.ensures ∙ same)
 
 pub returns : goal.returns

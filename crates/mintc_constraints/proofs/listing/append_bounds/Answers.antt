@@ -17,7 +17,7 @@ loop-number-preserved c =
     let now = c.loop-number.items.items in
     let bounds = c.bounds-bounds.ensures.value ∙ ap (λ (d : Design). d.bounds) c.flat.ensures in
     let h : n < length t.flat.bounds = rw bounds at c.loop-number-test.true in
-    let made = rw bounds at c.bound.ensures in
+    let made = rw bounds at c.bound_link.ensures.value in
     numbered-more (λ (b : ℕ × Bound). bound_link b.0 b.1) t.flat.bounds n no_bound h _ now _ c.loop-number.invariant (c.in_ok-append.ensures ∙ ap (λ (k : Link). now ++ k ∷ []) made)
 
 pub returns : goal.returns

@@ -11,7 +11,7 @@ loop-index-preserved c =
     let i = c.loop-index.index in
     let now = c.loop-index.items.items in
     let h : i < phase_count t = let test = c.loop-index-test.true in omega (arith, c.phases-index-end.ensures.value) in
-    range-more cycle_link 1 (phase_count t) i (i + 1) (omega arith) h _ now _ c.loop-index.invariant (c.in_ok-append.ensures ∙ ap (λ (k : Link). now ++ k ∷ []) c.cycle_of_phase.ensures)
+    range-more cycle_link 1 (phase_count t) i (i + 1) (omega arith) h _ now _ c.loop-index.invariant (c.in_ok-append.ensures ∙ ap (λ (k : Link). now ++ k ∷ []) c.cycle_link.ensures)
 
 pub returns : goal.returns
 returns c =

@@ -11,7 +11,7 @@ loop-number-preserved c =
     let i = c.loop-number.number in
     let now = c.loop-number.items.items in
     let h : i < element_count t = let test = c.loop-number-test.true in omega (arith, c.elements-number-end.ensures.value) in
-    let same = ap (λ (k : Link). now ++ cond c.is_latch.result (k ∷ []) []) c.opened.ensures ∙ ap (λ (b : Bool). now ++ cond b (opened_link t i ∷ []) []) c.is_latch.ensures in
+    let same = ap (λ (k : Link). now ++ cond c.is_latch.result (k ∷ []) []) (rw c.flat.ensures at c.opened_link.ensures.value) ∙ ap (λ (b : Bool). now ++ cond b (opened_link t i ∷ []) []) c.is_latch.ensures in
     passing-more (opened_link t) (λ k. not (element_at t k).flop) 0 (element_count t) i i (omega arith) h _ now _ c.loop-number.invariant (c.in_ok-append_if.ensures ∙ same)
 
 pub returns : goal.returns

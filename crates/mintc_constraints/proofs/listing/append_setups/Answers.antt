@@ -11,7 +11,7 @@ loop-number-preserved c =
     let i = c.loop-number.number in
     let now = c.loop-number.items.items in
     let h : i < element_count t = let test = c.loop-number-test.true in omega (arith, c.elements-number-end.ensures.value) in
-    range-more (setup_link t) 0 (element_count t) i i (omega arith) h _ now _ c.loop-number.invariant (c.in_ok-append.ensures ∙ ap (λ (k : Link). now ++ k ∷ []) c.setup.ensures)
+    range-more (setup_link t) 0 (element_count t) i i (omega arith) h _ now _ c.loop-number.invariant (c.in_ok-append.ensures ∙ ap (λ (k : Link). now ++ k ∷ []) (rw c.flat.ensures at c.setup_link.ensures.value))
 
 pub returns : goal.returns
 returns c =

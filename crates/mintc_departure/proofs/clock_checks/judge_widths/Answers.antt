@@ -15,7 +15,7 @@ loop-index-preserved c =
     let i = c.loop-index.index in
     let f : ℕ → Violation = λ p. check (broken.Width p) (least_width t p *ℤ s.den -ℤ width_of s p) in
     let h : i < phase_count t = let test = c.loop-index-test.true in omega (arith, ap length c.items-index-end.ensures, ap length c.phases.ensures.value, ap (λ (d : Design). length d.phases) c.flat.ensures) in
-    let amount = read_time c.width_excess.result c.width_excess.ensures.range ∙ c.width_excess.ensures.value in
+    let amount = read_time c.width_excess.result c.width_excess.ensures.range ∙ (rw c.flat-in-loop-index.ensures at c.width_excess.ensures.value) in
     range-more f 1 (phase_count t) i (i + 1) (omega arith) h _ _ _ c.loop-index.invariant (c.in_ok-judge.ensures ∙ ap (λ z. c.loop-index.violations.items ++ failed (check (broken.Width (i + 1)) z ∷ [])) amount)
 
 pub returns : goal.returns

@@ -12,8 +12,8 @@ use Rattle.mintc_departure.proofs.ElementLaws.{setup-latch, setup-flop, some-is}
 use Rattle.mintc_departure.proofs.element_checks.setup_excess.Goals as goal
 
 -- what the code reads of the greater of 0 and the departure
-opened : (c : goal.After-width) → c.larger.result ≡ int_max (pos 0) c.args.time
-opened c = let time = c.requires.time in omega (arith, ints, clamps, c.larger.ensures)
+opened : (c : goal.After-width) → c.max.result ≡ int_max (pos 0) c.args.time
+opened c = let time = c.requires.time in omega (arith, ints, clamps, c.max.ensures.value)
 
 within : (x time : ℤ) → x ≡ int_max (pos 0) time → IsSum time → (pos 0 ≤ℤ x) × (x ≤ℤ pos 1020000000000000000)
 within x time e h = let high = h.1 in (omega (arith, ints, clamps), omega (arith, ints, clamps))
@@ -43,7 +43,7 @@ returns-then-not-element-clause-value c d leaves is =
     let high = sum.1 in
     let modest = c.scaled-setup.ensures.range in
     let width = c.width.ensures.range in
-    some-is (c.larger.result +ℤ c.scaled-setup.result -ℤ c.width.result) _ _ (ap (λ z. Some (z +ℤ c.scaled-setup.result -ℤ c.width.result)) (opened c) ∙ amount) (omega (arith, ints))
+    some-is (c.max.result +ℤ c.scaled-setup.result -ℤ c.width.result) _ _ (ap (λ z. Some (z +ℤ c.scaled-setup.result -ℤ c.width.result)) (opened c) ∙ amount) (omega (arith, ints))
 
 pub returns-then-not-element-clause-range : goal.returns-then-not-element-clause-range
 returns-then-not-element-clause-range c =

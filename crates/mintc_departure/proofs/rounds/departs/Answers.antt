@@ -18,7 +18,7 @@ returns c d is =
     let r1 = range.1 in
     let start = c.early_start-start.ensures in
     let latch : (element_at t c.args.number).flop ≡ false = sym (ap (λ (e : Element). e.flop) c.element.ensures.value) ∙ c.if-element.false in
-    let larger : c.larger.result ≡ int_max c.early_start-start.result first = omega (arith, ints, clamps, c.larger.ensures) in
-    let fits : SFits w64 c.larger.result = omega (arith, ints, clamps) in
-    to_z-of_z w64 c.larger.result fits
-    ∙ departs-by_first t c.args.schedule.now d c.args.number first c.larger.result latch ne is (larger ∙ ap (λ z. int_max z first) start.value)
+    let larger : c.max.result ≡ int_max c.early_start-start.result first = omega (arith, ints, clamps, c.max.ensures.value) in
+    let fits : SFits w64 c.max.result = omega (arith, ints, clamps) in
+    to_z-of_z w64 c.max.result fits
+    ∙ departs-by_first t c.args.schedule.now d c.args.number first c.max.result latch ne is (larger ∙ ap (λ z. int_max z first) start.value)

@@ -1,0 +1,16 @@
+//! What a design demands: each constraint as a link between moments, and by how much a schedule fails those of the
+//! clock and the bounds. The search and the checker of certificates both stand on it, so that the table of links and
+//! the amounts are written once.
+#![tactic(auto)]
+
+mod excess;
+mod links;
+
+pub use excess::{
+    apart_excess, bound_excess, cycle_excess, order_excess, scaled, span_excess, width,
+    width_excess,
+};
+pub use links::{
+    apart_link, bound_link, cycle_link, opened_link, opening_link, order_link, reach_link,
+    setup_link, span_link, start_link, width_link, width_needed,
+};
