@@ -10,11 +10,12 @@ use Rattle.mintc_timing.specs.Limits.{IsArc}
 use Rattle.mintc_timing.specs.Order.{IsOrder}
 use Rattle.mintc_timing.specs.Paths.{Leads, arc_at, output_of, greatest_delay}
 use Rattle.mintc_timing.proofs.Products.{add-times}
+use Rattle.mintc_timing.specs.Among.{IsAmong, AreAmong}
+use Rattle.mintc_timing.proofs.Ordered.{total-push, Leads-push, AreAmong-push, AreAmong-more, split, inside, all_among, none_among}
 use Rattle.mintc_lanes.specs.Lanes.{lane_at, joined, AreJoined}
 use Rattle.mintc_checker.specs.declared.labels.Labels.{Labels}
 use Rattle.mintc_checker.specs.Trails.{IsGreatestTime, LeadsFrom, element_of, time_along}
-use Rattle.mintc_checker.specs.Labels.{labels_at, label_at, AreLabels, AreLabelsOf, IsStart, IsAlong, IsAmong, AreAmong}
-use Rattle.mintc_checker.proofs.Ordered.{total-push, Leads-push, AreAmong-push, AreAmong-more, split, inside, all_among, none_among}
+use Rattle.mintc_checker.specs.Labels.{labels_at, label_at, AreLabels, AreLabelsOf, IsStart, IsAlong}
 use Rattle.mintc_checker.proofs.Greatest.{greatest_alike, greatest_joined}
 
 -- an arc of the order is one of the design's

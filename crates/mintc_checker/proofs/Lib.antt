@@ -1,4 +1,3 @@
-pub mod Ordered
 pub mod Greatest
 pub mod Carrying
 pub mod Beginning

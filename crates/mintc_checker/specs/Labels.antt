@@ -1,6 +1,7 @@
 -- Labels at all bits.
-use Rattle.std.specs.Prelude.{◌≡◌, ◌<◌, ◌+◌, ◌*◌, ℕ, ℤ, Option, List, [], ◌∷◌, length, slice_index_or}
+use Rattle.std.specs.Prelude.{◌≡◌, ◌<◌, ◌+◌, ◌*◌, ℕ, ℤ, Option, List, [], length, slice_index_or}
 use Rattle.mintc_timing.specs.Design.{Design}
+use Rattle.mintc_timing.specs.Among.{AreAmong}
 use Rattle.mintc_lanes.specs.Lanes.{lane_at}
 use Rattle.mintc_checker.specs.declared.labels.Labels.{Labels}
 use Rattle.mintc_checker.specs.Trails.{IsGreatestTime, LeadsFrom, time_along, IsLabel}
@@ -30,14 +31,6 @@ pub record AreLabels (design : Design) (den : ℤ) (d : List ℤ) (labels : List
 -- the trails along no arcs from the elements below a number
 abbrev pub IsStart : ℕ → ℕ → List ℕ → Type 0
 IsStart count j path = (j < count) × (path ≡ [])
-
--- The arc stands among the first k of the order; and each arc of the path does.
-abbrev pub IsAmong : List ℕ → ℕ → ℕ → Type 0
-IsAmong order k n = (i : ℕ) × (i < k) × (i < length order) × (slice_index_or order i 0 ≡ n)
-
-abbrev pub AreAmong : List ℕ → ℕ → List ℕ → Type 0
-AreAmong order k [] = Unit {0}
-AreAmong order k (n ∷ path) = IsAmong order k n × AreAmong order k path
 
 -- the trails along the first k arcs of the order
 abbrev pub IsAlong : List ℕ → ℕ → ℕ → List ℕ → Type 0

@@ -5,7 +5,7 @@ use Rattle.std.proofs.lemmas.List.Elements.{All-nil, All-cons}
 use Rattle.mintc_timing.specs.declared.parts.TimingArc.{TimingArc}
 use Rattle.mintc_timing.specs.Paths.{Leads, arc_at}
 use Rattle.mintc_timing.specs.Order.{IsOrder}
-use Rattle.mintc_paths.proofs.Ordered.{place, follows}
+use Rattle.mintc_timing.proofs.Ordered.{place, follows}
 
 pub arcs_below : (arcs : List TimingArc) (a : ℕ) (path : List ℕ) (b most : ℕ) → length arcs ≤ most → Leads arcs a path b → All (λ n. n ≤ most) path
 arcs_below arcs a [] b most h leads = All-nil (λ n. n ≤ most)

@@ -7,9 +7,10 @@ use Rattle.mintc_timing.specs.declared.parts.TimingArc.{TimingArc}
 use Rattle.mintc_timing.specs.Closed.{total}
 use Rattle.mintc_timing.specs.Paths.{Leads, arc_at}
 use Rattle.mintc_timing.specs.Order.{IsOrder}
+use Rattle.mintc_timing.specs.Among.{IsAmong, AreAmong}
+use Rattle.mintc_timing.proofs.Ordered.{total-push, Leads-push, AreAmong-push, AreAmong-more, split, none_among}
 use Rattle.mintc_lanes.specs.Lanes.{joined}
-use Rattle.mintc_paths.specs.Among.{IsAmong, AreAmong, IsBest, AtLeast}
-use Rattle.mintc_paths.proofs.Ordered.{total-push, Leads-push, AreAmong-push, AreAmong-more, split, none_among}
+use Rattle.mintc_paths.specs.Among.{IsBest, AtLeast}
 
 -- A choice of one of two numbers, by what is at most what.
 pub record IsChoiceBy (AtMost : ℤ → ℤ → Type 0) (choose : ℤ → ℤ → ℤ) : Type 0 where

@@ -10,11 +10,11 @@ use Rattle.std.specs.List.{All}
 use Rattle.mintc_timing.specs.Design.{no_arc}
 use Rattle.mintc_timing.specs.Limits.{IsDelay, IsArc}
 use Rattle.mintc_timing.specs.Order.{IsOrder}
+use Rattle.mintc_timing.proofs.Ordered.{inside}
 use Rattle.mintc_lanes.specs.Lanes.{lane_at, joined, AreJoined, AreWithin}
 use Rattle.mintc_paths.specs.declared.sums.Sums.{Sums}
 use Rattle.mintc_paths.specs.Among.{AtLeast, max_of, min_of, IsGreatestAmong, IsLeastAmong}
 use Rattle.mintc_paths.specs.Sums.{sums_at, no_sums, IsBounded, IsAlike, AreSums}
-use Rattle.mintc_paths.proofs.Ordered.{inside}
 use Rattle.mintc_paths.proofs.Best.{greatest_choice, least_choice, IsBest-other, IsBest-joined}
 
 pub AreWithin-weaker : (m n : ℕ) (row : List ℤ) → m ≤ n → AreWithin m row → AreWithin n row

@@ -1,4 +1,3 @@
-pub mod Ordered
 pub mod Best
 pub mod Filling
 pub mod Beginning

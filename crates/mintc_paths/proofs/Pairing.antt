@@ -7,14 +7,15 @@ use Rattle.mintc_timing.specs.Closed.{total}
 use Rattle.mintc_timing.specs.Design.{Design, Timing}
 use Rattle.mintc_timing.specs.Order.{IsOrder}
 use Rattle.mintc_timing.specs.Paths.{Leads, IsPath, input_of, output_of, HasExtremes, ArePairs}
+use Rattle.mintc_timing.specs.Among.{AreAmong}
+use Rattle.mintc_timing.proofs.Ordered.{all_among, none_round}
 use Rattle.mintc_lanes.specs.Lanes.{lane_at}
 use Rattle.mintc_paths.specs.declared.sums.Sums.{Sums}
 use Rattle.mintc_paths.specs.declared.trace.Extreme.{Extreme}
 use Rattle.mintc_paths.specs.declared.trace.Extreme.TheVariants.{Greatest, Least}
-use Rattle.mintc_paths.specs.Among.{AreAmong, IsGreatestAmong, IsLeastAmong}
+use Rattle.mintc_paths.specs.Among.{IsGreatestAmong, IsLeastAmong}
 use Rattle.mintc_paths.specs.Sums.{sums_at, AreSums}
 use Rattle.mintc_paths.specs.Trace.{AtMostOf, sum_of, weight_of, extreme_of, AreBestSums, IsBestPath, IsOfPair, IsPairOf}
-use Rattle.mintc_paths.proofs.Ordered.{all_among, none_round}
 use Rattle.mintc_paths.proofs.Tracing.{some_of, at_some, at_some_and}
 
 pub AreBestSums-from_sums : (extreme : Extreme) (arcs : List TimingArc) (order : List ℕ) (first : ℕ) (sums : List Sums) → AreSums arcs order (length order) first 1 sums →

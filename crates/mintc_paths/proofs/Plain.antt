@@ -6,8 +6,8 @@ use Rattle.mintc_timing.specs.declared.parts.TimingArc.{TimingArc}
 use Rattle.mintc_timing.specs.Design.{Design}
 use Rattle.mintc_timing.specs.Order.{IsOrder, ArePathsShort}
 use Rattle.mintc_timing.specs.Paths.{Leads, arc_at, greatest_delay, output_of}
+use Rattle.mintc_timing.proofs.Ordered.{place}
 use Rattle.mintc_paths.specs.Longest.{bit_sum, AreCarried}
-use Rattle.mintc_paths.proofs.Ordered.{place}
 
 low_or_past : (i n : ℕ) → (i < n) ⊎ (n ≤ i)
 low_or_past i n = grind arith

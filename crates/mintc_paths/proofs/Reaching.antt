@@ -7,12 +7,12 @@ use Rattle.mintc_timing.specs.Design.{Design, no_arc}
 use Rattle.mintc_timing.specs.Limits.{IsArc}
 use Rattle.mintc_timing.specs.Paths.{Leads, IsPath, arc_at, input_of, output_of, greatest_delay, IsGreatestDelay, IsLeastDelay}
 use Rattle.mintc_timing.specs.Order.{IsOrder}
+use Rattle.mintc_timing.proofs.Ordered.{all_among}
 use Rattle.mintc_lanes.specs.Lanes.{lane_at}
 use Rattle.mintc_paths.specs.declared.sums.Sums.{Sums}
 use Rattle.mintc_paths.specs.Among.{IsGreatestAmong, IsLeastAmong}
 use Rattle.mintc_paths.specs.Sums.{sums_at, AreSums}
 use Rattle.mintc_paths.specs.Reached.{IsPaired, IsReached, AreExtremes}
-use Rattle.mintc_paths.proofs.Ordered.{all_among}
 
 -- A path's end is one of the bits.
 pub end_inside : (arcs : List TimingArc) (n m from n' : ℕ) (path : List ℕ) (to : ℕ) → All (IsArc n m) arcs → Leads arcs from (n' ∷ path) to → to < 2 * n + m

@@ -7,13 +7,13 @@ use Rattle.mintc_timing.specs.declared.parts.TimingArc.{TimingArc}
 use Rattle.mintc_timing.specs.Closed.{total}
 use Rattle.mintc_timing.specs.Paths.{Leads, arc_at}
 use Rattle.mintc_timing.specs.Order.{IsOrder}
+use Rattle.mintc_timing.specs.Among.{AreAmong}
+use Rattle.mintc_timing.proofs.Ordered.{split, all_among, before_among, inside, Leads-push, total-push, none_among}
 use Rattle.mintc_paths.specs.declared.sums.Sums.{Sums}
 use Rattle.mintc_paths.specs.declared.trace.Extreme.{Extreme}
 use Rattle.mintc_paths.specs.declared.trace.Extreme.TheVariants.{Greatest, Least}
-use Rattle.mintc_paths.specs.Among.{AreAmong}
 use Rattle.mintc_paths.specs.Sums.{sums_at}
 use Rattle.mintc_paths.specs.Trace.{AtMostOf, sum_of, weight_of, AreBestSums, IsThrough, IsTraced}
-use Rattle.mintc_paths.proofs.Ordered.{split, all_among, before_among, inside, Leads-push, total-push, none_among}
 
 same_sum : (x y : ℤ) → Some x ≡ Some y → x ≡ y
 same_sum x y e = cc

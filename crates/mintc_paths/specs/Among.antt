@@ -1,17 +1,9 @@
--- Paths along the first arcs of an order.
-use Rattle.std.specs.Prelude.{◌≡◌, ◌<◌, ℕ, ℤ, ◌≤ℤ◌, Option, IfSome, IsSomeAnd, List, [], ◌∷◌, length, slice_index_or}
+-- The best sum of the paths along the first arcs of an order.
+use Rattle.std.specs.Prelude.{◌≡◌, ℕ, ℤ, ◌≤ℤ◌, Option, IfSome, IsSomeAnd, List}
 use Rattle.mintc_timing.specs.declared.parts.TimingArc.{TimingArc}
 use Rattle.mintc_timing.specs.Closed.{total}
 use Rattle.mintc_timing.specs.Paths.{Leads, arc_at}
-
--- The arc stands among the first k of the order.
-abbrev pub IsAmong : List ℕ → ℕ → ℕ → Type 0
-IsAmong order k n = (i : ℕ) × (i < k) × (i < length order) × (slice_index_or order i 0 ≡ n)
-
--- Each arc of the path does.
-abbrev pub AreAmong : List ℕ → ℕ → List ℕ → Type 0
-AreAmong order k [] = Unit {0}
-AreAmong order k (n ∷ path) = IsAmong order k n × AreAmong order k path
+use Rattle.mintc_timing.specs.Among.{AreAmong}
 
 -- Of the paths from one bit to another along the first k arcs of the order, some path has this sum, and no path has a
 -- better one; there is no such path where there is no sum. The empty path leads from a bit to itself.

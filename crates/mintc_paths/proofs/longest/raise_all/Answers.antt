@@ -1,8 +1,8 @@
 use Rattle.std.proofs.Common.{◌≡◌, ◌<◌, ◌+◌, ◌*◌, pos, ℕ, List, length, get_or, subst, ◌∙◌, arith}
 use Rattle.std.proofs.lemmas.Int.{ints}
 use Rattle.mintc_timing.specs.Paths.{arc_at}
+use Rattle.mintc_timing.proofs.Ordered.{inside}
 use Rattle.mintc_paths.proofs.Filling.{arc_inside}
-use Rattle.mintc_paths.proofs.Ordered.{inside}
 use Rattle.mintc_paths.proofs.Plain.{carried_more}
 use Rattle.mintc_paths.proofs.longest.raise_all.Goals as goal
 

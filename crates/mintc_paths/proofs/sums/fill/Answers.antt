@@ -1,9 +1,9 @@
 use Rattle.std.proofs.Common.{◌≡◌, ◌<◌, ◌*◌, ◌∙◌, ℕ, List, length, get_or, arith, refl, subst, ap}
 use Rattle.mintc_timing.specs.declared.parts.TimingArc.{TimingArc}
 use Rattle.mintc_timing.specs.Paths.{arc_at}
+use Rattle.mintc_timing.proofs.Ordered.{inside}
 use Rattle.mintc_paths.specs.declared.sums.Sums.{Sums}
 use Rattle.mintc_paths.specs.Sums.{AreSums, IsBounded, IsAlike, sums_at, row_of, moved, placed}
-use Rattle.mintc_paths.proofs.Ordered.{inside}
 use Rattle.mintc_paths.proofs.Reaching.{AreExtremes-from_sums}
 use Rattle.mintc_paths.proofs.Filling.{IsBounded-weaker, IsCarried, AreSums-more, arc_inside}
 use Rattle.mintc_paths.proofs.Rowing.{length-placed, bounded_row, alike_row, IsCarried-placed}

@@ -4,8 +4,8 @@ use Rattle.mintc_timing.specs.declared.parts.TimingArc.{TimingArc}
 use Rattle.mintc_timing.specs.Paths.{Leads, arc_at}
 use Rattle.mintc_timing.specs.Closed.{total}
 use Rattle.mintc_timing.specs.Order.{IsOrder}
+use Rattle.mintc_timing.proofs.Ordered.{inside}
 use Rattle.mintc_paths.specs.Trace.{weight_of}
-use Rattle.mintc_paths.proofs.Ordered.{inside}
 use Rattle.mintc_paths.proofs.Filling.{arc_inside}
 use Rattle.mintc_paths.proofs.Tracing.{KeepsTraced, KeepsTraced-passed, KeepsTraced-taken, traced_all}
 use Rattle.mintc_paths.proofs.trace.trace.Goals as goal

@@ -3,10 +3,10 @@ use Rattle.std.proofs.lemmas.List.{get_or_default, get_or_append_left}
 use Rattle.mintc_timing.specs.declared.parts.TimingArc.{TimingArc}
 use Rattle.mintc_timing.specs.Design.{no_arc}
 use Rattle.mintc_timing.specs.Paths.{arc_at}
+use Rattle.mintc_timing.proofs.Ordered.{inside}
 use Rattle.mintc_paths.specs.Sums.{AreAlong, row_of, moved}
 use Rattle.mintc_paths.proofs.Filling.{arc_inside}
 use Rattle.mintc_paths.proofs.Finding.{at_last}
-use Rattle.mintc_paths.proofs.Ordered.{inside}
 use Rattle.mintc_paths.proofs.rows.Course.new.Goals as goal
 
 pub bounds-arcs-number : goal.bounds-arcs-number

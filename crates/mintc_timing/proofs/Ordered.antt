@@ -1,4 +1,4 @@
--- Paths and an order.
+-- An order of the arcs, the places of arcs in it, and paths along its first arcs.
 use Rattle.std.proofs.Common.{◌≡◌, ◌≢◌, ℕ, ◌<◌, ◌≤◌, ◌+◌, ℤ, ◌+ℤ◌, List, [], ◌∷◌, ◌++◌, length, get_or, arith, refl, ap, ◌∙◌, sym, ◌⊎◌, inl, inr, ⊎_elim}
 use Rattle.std.proofs.lemmas.Int.{ints}
 use Rattle.std.proofs.lemmas.List.{get_or_default, get_or_past}
@@ -7,7 +7,7 @@ use Rattle.mintc_timing.specs.Design.{no_arc}
 use Rattle.mintc_timing.specs.Closed.{total}
 use Rattle.mintc_timing.specs.Paths.{Leads, arc_at}
 use Rattle.mintc_timing.specs.Order.{IsOrder}
-use Rattle.mintc_checker.specs.Labels.{IsAmong, AreAmong}
+use Rattle.mintc_timing.specs.Among.{IsAmong, AreAmong}
 
 -- one more arc at the end of a path
 pub total-push : (weight : ℕ → ℤ) (path : List ℕ) (n : ℕ) → total weight (path ++ n ∷ []) ≡ total weight path +ℤ weight n
