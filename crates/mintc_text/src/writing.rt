@@ -1,6 +1,6 @@
 //! Writing a text.
-ghost use Rattle.std.specs.Prelude.{◌≡◌, ◌++◌, ◌∷◌, [], ℕ, List, OnOk, OnErr, take, length};
-ghost use Rattle.mintc_text.specs.Lines.{numeral_of};
+ghost use Rattle.std.specs.Prelude.{◌≡◌, ◌++◌, ◌∷◌, [], ℕ, List, OnOk, OnErr, decimal, length, map, take};
+ghost use Rattle.mintc_text.specs.Lines.{numeral_of, spaced};
 
 use crate::OutOfMemory;
 use std::alloc::Global;
@@ -75,6 +75,33 @@ impl Lines {
         }
     }
 
+    /// Appends numbers, each after a space. Err leaves a front of them.
+    fn put_numbers(&mut self, numbers: &[u32]) -> Result<(), OutOfMemory>
+        ensures ok { OnOk result (self.new ≡ self.old ++ spaced (map decimal numbers.now)) }
+        ensures err { OnErr result (take (length self.old) self.new ≡ self.old) }
+    {
+        for number in numbers {
+            self.put(b" ")?;
+            self.number(i128::from(*number))?;
+        }
+        Ok(())
+    }
+
+    /// Appends numbers, each after a space. Err leaves the text as it was.
+    pub fn numbers(&mut self, numbers: &[u32]) -> Result<(), OutOfMemory>
+        ensures ok { OnOk result (self.new ≡ self.old ++ spaced (map decimal numbers.now)) }
+        ensures err { OnErr result (self.new ≡ self.old) }
+    {
+        let len = self.bytes.len();
+        match self.put_numbers(numbers) {
+            Ok(()) => Ok(()),
+            Err(error) => {
+                self.bytes.truncate(len);
+                Err(error)
+            }
+        }
+    }
+
     /// The text.
     pub fn into_bytes(self) -> Vec<u8>
         ensures { result.items ≡ self }
@@ -97,10 +124,11 @@ mod tests {
         lines.number(0)?;
         lines.put(b"\n")?;
         lines.fraction(-12, 5)?;
+        lines.numbers(&[7, 0, u32::MAX])?;
         let bytes = lines.into_bytes();
         assert_eq!(rt;
             bytes.as_slice(),
-            b"cycle -170141183460469231731687303715884105728 0\n-12/5".as_slice()
+            b"cycle -170141183460469231731687303715884105728 0\n-12/5 7 0 4294967295".as_slice()
         );
         Ok(())
     }
