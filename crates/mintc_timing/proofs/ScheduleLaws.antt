@@ -16,7 +16,7 @@ use Rattle.mintc_timing.proofs.ScheduleReading.{plain-phase_line}
 use Rattle.mintc_timing.proofs.TextLaws.{along, IsPlainFormat, text_one_end, text_no_fault, text_one_fault, spelled_one, spelled_free}
 
 -- what is kept of a schedule while its lines come
-record IsSoFar (left : ℕ) (s : Schedule) : Type 0 where
+pub record IsSoFar (left : ℕ) (s : Schedule) : Type 0 where
   pub den : IsDenominator s.den
   pub cycle : IsNumerator s.cycle
   pub starts : All IsNumerator s.starts
@@ -25,15 +25,19 @@ record IsSoFar (left : ℕ) (s : Schedule) : Type 0 where
   pub some : 1 ≤ length s.starts + left
   pub few : length s.starts + left ≤ 8
 
-abbrev Keeps : ScheduleLines → Type 0
-Keeps first = Unit {0}
-Keeps den = Unit {0}
-Keeps (cycle d) = IsDenominator d
-Keeps (phases d t) = IsDenominator d × IsNumerator t
-Keeps (phase left s) = IsSoFar left s
-Keeps (whole s) = IsInRange s
+-- the lines before those of the phases begin it, the line of a phase keeps it, and the last of them ends it
+pub phases_begun : (d t : ℤ) (left : ℕ) → IsDenominator d → IsNumerator t → 1 ≤ left → left ≤ 8 → IsSoFar left (no_phases d t)
+phases_begun d t left den_in cycle_in some few = record {
+  den = den_in;
+  cycle = cycle_in;
+  starts = All-nil IsNumerator;
+  widths = All-nil IsNumerator;
+  alike = refl;
+  some = omega arith;
+  few = omega arith;
+}
 
-phase_kept : (left : ℕ) (s : Schedule) (p : ℤ × ℤ) (ws : List (List ℕ)) → IsSoFar (suc left) s → IsPhaseLine p ws → IsSoFar left (with_phase s p)
+pub phase_kept : (left : ℕ) (s : Schedule) (p : ℤ × ℤ) (ws : List (List ℕ)) → IsSoFar (suc left) s → IsPhaseLine p ws → IsSoFar left (with_phase s p)
 phase_kept left s p ws k h = record {
   den = k.den;
   cycle = k.cycle;
@@ -44,28 +48,31 @@ phase_kept left s p ws k h = record {
   few = omega (arith, k.few, length-append s.starts (p.0 ∷ []));
 }
 
-keeps_next : (a : ScheduleLines) (line : List ℕ) (b : ScheduleLines) → NextOfSchedule a line b → Keeps a → Keeps b
-keeps_next first line b h k = subst Keeps (sym h.2) tt
-keeps_next den line b h k = subst Keeps (sym h.2) h.1.1.0
-keeps_next (cycle d) line b h k = subst Keeps (sym h.2) (k, h.1.1.0)
-keeps_next (phases d t) line b h k = subst Keeps (sym h.2) (let n = h.1.1 in record {
-  den = k.0;
-  cycle = k.1;
-  starts = All-nil IsNumerator;
-  widths = All-nil IsNumerator;
-  alike = refl;
-  some = omega (arith, n.0);
-  few = omega (arith, n.1);
-})
-keeps_next (phase (suc left) s) line b h k = subst Keeps (sym h.2) (phase_kept left s h.0 h.1.0 k h.1.1)
-keeps_next (phase zero s) line b h k = subst Keeps (sym h.2) (record {
+pub phases_ended : (s : Schedule) → IsSoFar 0 s → IsInRange s
+phases_ended s k = record {
   den = k.den;
   cycle = k.cycle;
   starts = k.starts;
   widths = k.widths;
   phases = (omega (arith, k.some), omega (arith, k.few));
   alike = k.alike;
-})
+}
+
+abbrev Keeps : ScheduleLines → Type 0
+Keeps first = Unit {0}
+Keeps den = Unit {0}
+Keeps (cycle d) = IsDenominator d
+Keeps (phases d t) = IsDenominator d × IsNumerator t
+Keeps (phase left s) = IsSoFar left s
+Keeps (whole s) = IsInRange s
+
+keeps_next : (a : ScheduleLines) (line : List ℕ) (b : ScheduleLines) → NextOfSchedule a line b → Keeps a → Keeps b
+keeps_next first line b h k = subst Keeps (sym h.2) tt
+keeps_next den line b h k = subst Keeps (sym h.2) h.1.1.0
+keeps_next (cycle d) line b h k = subst Keeps (sym h.2) (k, h.1.1.0)
+keeps_next (phases d t) line b h k = subst Keeps (sym h.2) (phases_begun d t h.0 k.0 k.1 h.1.1.0 h.1.1.1)
+keeps_next (phase (suc left) s) line b h k = subst Keeps (sym h.2) (phase_kept left s h.0 h.1.0 k h.1.1)
+keeps_next (phase zero s) line b h k = subst Keeps (sym h.2) (phases_ended s k)
 keeps_next (whole s) line b h k = absurd h
 
 -- what a schedule's text says is in range
@@ -77,7 +84,7 @@ IsInRange-from_text text s h = along NextOfSchedule Keeps keeps_next first h.lin
 numerator_short : (z : ℤ) → IsNumerator z → IsShort z
 numerator_short z h = short (pos 0) (pos 100000000000000) z (omega (arith, ints)) (omega (arith, ints)) h
 
-phase_one : (p q : ℤ × ℤ) (ws : List (List ℕ)) → IsPhaseLine p ws → IsPhaseLine q ws → p ≡ q
+pub phase_one : (p q : ℤ × ℤ) (ws : List (List ℕ)) → IsPhaseLine p ws → IsPhaseLine q ws → p ≡ q
 phase_one p q ws h g =
     let a = h.2 in let b = g.2 in
     let starts : numeral_of p.0 ≡ numeral_of q.0 = cc in
@@ -89,10 +96,10 @@ phase_one p q ws h g =
 plain-count : (word : List ℕ) (least most : ℕ) → plain word ≡ true → most < 2 ^ 32 → (n : ℕ) (ws : List (List ℕ)) → IsCountLine word least most n ws → plain_line ws ≡ true
 plain-count = plain-count_line
 
-plain-den : (z : ℤ) (ws : List (List ℕ)) → IsNumberLine (codes "den") (pos 1) (pos 100000) z ws → plain_line ws ≡ true
+pub plain-den : (z : ℤ) (ws : List (List ℕ)) → IsNumberLine (codes "den") (pos 1) (pos 100000) z ws → plain_line ws ≡ true
 plain-den = plain-number_line (codes "den") (pos 1) (pos 100000) refl (omega (arith, ints)) (omega (arith, ints))
 
-plain-cycle : (z : ℤ) (ws : List (List ℕ)) → IsNumberLine (codes "cycle") (pos 0) (pos 100000000000000) z ws → plain_line ws ≡ true
+pub plain-cycle : (z : ℤ) (ws : List (List ℕ)) → IsNumberLine (codes "cycle") (pos 0) (pos 100000000000000) z ws → plain_line ws ≡ true
 plain-cycle = plain-number_line (codes "cycle") (pos 0) (pos 100000000000000) refl (omega (arith, ints)) (omega (arith, ints))
 
 abbrev Any : ScheduleLines → Type 0

@@ -1,11 +1,11 @@
-use Rattle.std.proofs.Common.{◌≡◌, ℕ, suc, ℤ, pos, true, List, [], refl, ap, ◌∙◌, subst, arith, codes}
+use Rattle.std.proofs.Common.{◌≡◌, ℕ, suc, ℤ, pos, true, List, [], ◌∷◌, ◌++◌, refl, ap, ◌∙◌, subst, arith, codes}
 use Rattle.std.proofs.lemmas.Int.{ints}
 use Rattle.mintc_text.specs.Lines.{numeral_of}
 use Rattle.mintc_timing.specs.declared.clocking.Schedule.{Schedule}
 use Rattle.mintc_timing.specs.Fields.{plain, plain_line, Spells, IsWordLine, IsNumberLine, IsCountLine}
 use Rattle.mintc_timing.specs.Reading.{Reading, HasRead, HasNone, IsAt, number_after}
-use Rattle.mintc_timing.specs.Limits.{IsNumerator, IsTime}
-use Rattle.mintc_timing.specs.Texts.{NextOfSchedule, IsWholeSchedule, IsPhaseLine, IsScheduleText, IsScheduleFault, ScheduleLines, first, den, cycle, phases, phase, whole, no_phases, with_phase}
+use Rattle.mintc_timing.specs.Limits.{IsNumerator}
+use Rattle.mintc_timing.specs.Texts.{NextOfSchedule, IsWholeSchedule, IsPhaseLine, IsScheduleText, IsScheduleFault, ScheduleLines, first, den, cycle, phases, phase, whole, no_phases, with_phase, schedule_of}
 use Rattle.mintc_timing.proofs.FieldsLaws.{and_both, plain-numeral, short}
 use Rattle.mintc_timing.proofs.ReadingLaws.{at_more, at_fault, at_end, at_past}
 
@@ -14,9 +14,6 @@ plain-phase_line p ws h =
     ap plain_line h.2
     ∙ and_both (plain (numeral_of p.0)) (plain (numeral_of p.1)) (plain-numeral p.0 (short (pos 0) (pos 100000000000000) p.0 (omega (arith, ints)) (omega (arith, ints)) h.0))
     (plain-numeral p.1 (short (pos 0) (pos 100000000000000) p.1 (omega (arith, ints)) (omega (arith, ints)) h.1))
-
-pub IsTime-IsNumerator : (x : ℤ) → IsNumerator x → IsTime x
-IsTime-IsNumerator x h = (omega (arith, ints), omega (arith, ints))
 
 -- where a reader of a schedule is
 abbrev pub At : List ℕ → Reading → ScheduleLines → Type 0
@@ -43,6 +40,11 @@ pub phase_fault : (text : List ℕ) (old : Reading) (number k left : ℕ) (s : S
     HasNone IsPhaseLine old.left → number ≡ number_after old.number → IsScheduleFault text number
 phase_fault text old number k left s at e none counted =
     fault text old number (phase (suc left) s) IsPhaseLine (subst (λ (n : ℕ). At text old (phase n s)) e at) none counted (λ e. e) (λ line after step. (step.0, step.1))
+
+-- the two lists that a line was added to
+pub pushed : (d t : ℤ) (p : ℤ × ℤ) (starts widths starts' widths' : List ℤ) → starts' ≡ starts ++ p.0 ∷ [] → widths' ≡ widths ++ p.1 ∷ [] →
+    with_phase (schedule_of d t starts widths) p ≡ schedule_of d t starts' widths'
+pushed d t p starts widths starts' widths' e f = cc
 
 -- the lines before those of the phases, and the last
 pub first_read : (text : List ℕ) (old new : Reading) (n : ℕ) → At text old first → HasRead (IsCountLine (codes "schedule") 1 1) old.left n new.left → new.number ≡ number_after old.number → At text new den

@@ -3,10 +3,14 @@ ghost use Rattle.std.specs.Prelude.{◌≡◌, ◌++◌, ◌∷◌, ◌≤◌, [
 ghost use Rattle.mintc_text.specs.Lines.{ended, words};
 ghost use Rattle.mintc_timing.specs.Fields.{plain, plain_line, fields_of, IsWordLine, IsNumberLine, IsCountLine, IsNameLine};
 ghost use Rattle.mintc_timing.specs.Reading.{HasNone, HasRead, number_after};
+ghost use Rattle.mintc_timing.specs.Texts.{IsPhaseLine};
 
 use crate::Fields;
 use mintc_text::Cursor;
 use std::marker::Model;
+
+/// The greatest numerator of a schedule and of a departure.
+pub const MOST_NUMERATOR: i64 = 100_000_000_000_000;
 
 /// A text from some line on, and the number of the line that was asked for last, counted from 1.
 #[derive(Drop)]
@@ -108,6 +112,17 @@ impl<'a> Reader<'a> {
         let fields = self.fields()?;
         name_of(fields, word)
     }
+
+    /// Reads a line `phase START WIDTH`: the start and the width of a phase, numerators over the schedule's denominator.
+    /// None where the next line is no such line, or where a numeral is not canonical or not from 0 to
+    /// 100,000,000,000,000.
+    pub fn phase_line(&mut self) -> Option<(i64, i64)>
+        ensures read { MatchOption result (HasNone IsPhaseLine self.old.left) (λ p. HasRead IsPhaseLine self.old.left (p.0, p.1) self.new.left) }
+        ensures counted { self.new.number ≡ number_after self.old.number }
+    {
+        let fields = self.fields()?;
+        phase_of(fields)
+    }
 }
 
 /// Passes the words of a line that is this word alone.
@@ -146,4 +161,15 @@ fn name_of<'a>(mut fields: Fields<'a>, word: &[u8]) -> Option<&'a [u8]>
     let name = fields.name()?;
     fields.end()?;
     Some(name)
+}
+
+/// The start and the width of a phase, from the words of its line.
+fn phase_of(mut fields: Fields) -> Option<(i64, i64)>
+    ensures { MatchOption result ((p : ℤ × ℤ) → IsPhaseLine p fields.entry → ⊥) (λ p. IsPhaseLine (p.0, p.1) fields.entry) }
+{
+    fields.fixed(b"phase")?;
+    let start = fields.number(0, MOST_NUMERATOR)?;
+    let width = fields.number(0, MOST_NUMERATOR)?;
+    fields.end()?;
+    Some((start, width))
 }

@@ -2,35 +2,13 @@
 ghost use Rattle.std.specs.Prelude.{◌≡◌, ◌≤◌, ◌∷◌, [], ℕ, ℤ, List, MatchOption, IfSome, IfOk, IfErr, length};
 ghost use Rattle.mintc_text.specs.declared.refusals.Role.{Role};
 ghost use Rattle.mintc_timing.specs.Limits.{IsInRange, IsDenominator, IsNumerator};
-ghost use Rattle.mintc_timing.specs.Reading.{HasNone, HasRead, IsAt, number_after};
-ghost use Rattle.mintc_timing.specs.Texts.{NextOfSchedule, IsPhaseLine, IsScheduleText, IsScheduleFault, no_phases, schedule_of, first, phase};
+ghost use Rattle.mintc_timing.specs.Reading.{IsAt};
+ghost use Rattle.mintc_timing.specs.Texts.{NextOfSchedule, IsScheduleText, IsScheduleFault, no_phases, schedule_of, first, phase};
 
-use crate::{Fields, PhaseNumbers, Reader, Schedule};
+use crate::reader::MOST_NUMERATOR;
+use crate::{PhaseNumbers, Reader, Schedule};
 use arrayvec::ArrayVec;
 use mintc_text::{Refusal, Role};
-
-/// The greatest numerator of a schedule.
-const MOST: i64 = 100_000_000_000_000;
-
-/// The start and the width of a phase, from the words of its line.
-fn phase_of(mut fields: Fields) -> Option<(i64, i64)>
-    ensures { MatchOption result ((p : ℤ × ℤ) → IsPhaseLine p fields.entry → ⊥) (λ p. IsPhaseLine (p.0, p.1) fields.entry) }
-{
-    fields.fixed(b"phase")?;
-    let start = fields.number(0, MOST)?;
-    let width = fields.number(0, MOST)?;
-    fields.end()?;
-    Some((start, width))
-}
-
-/// Reads the line of a phase.
-fn phase_line(reader: &mut Reader) -> Option<(i64, i64)>
-    ensures read { MatchOption result (HasNone IsPhaseLine reader.old.left) (λ p. HasRead IsPhaseLine reader.old.left (p.0, p.1) reader.new.left) }
-    ensures counted { reader.new.number ≡ number_after reader.old.number }
-{
-    let fields = reader.fields()?;
-    phase_of(fields)
-}
 
 /// Reads the lines of so many phases: their starts and their widths.
 fn phases(reader: &mut Reader, count: u32) -> Option<(PhaseNumbers, PhaseNumbers)>
@@ -41,7 +19,7 @@ fn phases(reader: &mut Reader, count: u32) -> Option<(PhaseNumbers, PhaseNumbers
     let mut starts = ArrayVec::new();
     let mut widths = ArrayVec::new();
     for _phase in 0..count {
-        let (start, width) = phase_line(reader)?;
+        let (start, width) = reader.phase_line()?;
         starts.push(start);
         widths.push(width);
     }
@@ -57,7 +35,7 @@ fn head(reader: &mut Reader) -> Option<(i64, i64, u32)>
 {
     reader.count_line(b"schedule", 1, 1)?;
     let den = reader.number_line(b"den", 1, 100_000)?;
-    let cycle = reader.number_line(b"cycle", 0, MOST)?;
+    let cycle = reader.number_line(b"cycle", 0, MOST_NUMERATOR)?;
     let count = reader.count_line(b"phases", 1, 8)?;
     Some((den, cycle, count))
 }

@@ -1,9 +1,9 @@
 use Rattle.std.proofs.Common.{codes}
 use Rattle.mintc_timing.specs.Fields.{IsWordLine}
 use Rattle.mintc_timing.specs.Texts.{phase, schedule_of}
-use Rattle.mintc_timing.proofs.Fitting.{read_time, IsTime-IsDenominator}
+use Rattle.mintc_timing.proofs.Fitting.{read_time, IsTime-IsDenominator, IsTime-IsNumerator}
 use Rattle.mintc_timing.proofs.ReadingLaws.{at_none}
-use Rattle.mintc_timing.proofs.ScheduleReading.{IsTime-IsNumerator, fault, end_read, end_of_schedule, past_schedule}
+use Rattle.mintc_timing.proofs.ScheduleReading.{fault, end_read, end_of_schedule, past_schedule}
 use Rattle.mintc_timing.proofs.schedule_text.schedule.Goals as goal
 
 pub returns-in_err-starts : goal.returns-in_err-starts

@@ -1,6 +1,6 @@
 use Rattle.std.proofs.Common.{[]}
 use Rattle.mintc_timing.proofs.ReadingLaws.{at_none}
-use Rattle.mintc_timing.proofs.schedule_text.phase_of.Goals as goal
+use Rattle.mintc_timing.proofs.reader.phase_of.Goals as goal
 
 pub returns-in_err-width : goal.returns-in_err-width
 returns-in_err-width c =
