@@ -3,7 +3,7 @@ use Rattle.std.proofs.lemmas.Int.{ints}
 use Rattle.std.proofs.lemmas.List.Elements.{All-push, All-nil}
 use Rattle.mintc_timing.specs.declared.clocking.Schedule.{Schedule}
 use Rattle.mintc_timing.specs.Limits.{IsNumerator, IsDenominator, IsInRange}
-use Rattle.mintc_timing.specs.Texts.{IsPhaseLine, with_phase}
+use Rattle.mintc_timing.proofs.ScheduleLaws.{IsSoFar, phases_begun, phase_kept, phases_ended}
 use Rattle.mintc_timing.proofs.TextLaws.{along}
 use Rattle.mintc_certificate.specs.declared.certificate.Certificate.{Certificate}
 use Rattle.mintc_certificate.specs.declared.certificate.Certificate.TheVariants.{Least, Never}
@@ -13,17 +13,7 @@ use Rattle.mintc_certificate.specs.declared.version.Version.TheVariants.{First, 
 use Rattle.mintc_certificate.specs.CertificateText.{NextOfCertificate, IsCertificateText, CertificateLines, first, outcome, den, cycle, phases, phase, departure, never, link, whole, least_departure, IsCounted}
 use Rattle.mintc_certificate.specs.Ranges.{IsDeparture, IsChainInRange, IsCertificateInRange}
 
--- what is kept of a schedule while its lines come
-record IsSoFar (left : ℕ) (s : Schedule) : Type 0 where
-  pub den : IsDenominator s.den
-  pub cycle : IsNumerator s.cycle
-  pub starts : All IsNumerator s.starts
-  pub widths : All IsNumerator s.widths
-  pub alike : length s.widths ≡ length s.starts
-  pub some : 1 ≤ length s.starts + left
-  pub few : length s.starts + left ≤ 8
-
--- of departures
+-- what is kept of departures while their lines come
 record AreSoFar (left : ℕ) (s : Schedule) (ds : List ℤ) : Type 0 where
   pub schedule_in : IsInRange s
   pub each : All IsDeparture ds
@@ -50,17 +40,6 @@ Keeps (departure v left s ds) = AreSoFar left s ds
 Keeps (never v) = Unit {0}
 Keeps (link v left c) = Links left c
 Keeps (whole c) = IsCertificateInRange c
-
-phase_kept : (left : ℕ) (s : Schedule) (p : ℤ × ℤ) (ws : List (List ℕ)) → IsSoFar (suc left) s → IsPhaseLine p ws → IsSoFar left (with_phase s p)
-phase_kept left s p ws k h = record {
-  den = k.den;
-  cycle = k.cycle;
-  starts = All-push IsNumerator s.starts p.0 k.starts h.0;
-  widths = All-push IsNumerator s.widths p.1 k.widths h.1;
-  alike = omega (arith, k.alike, length-append s.starts (p.0 ∷ []), length-append s.widths (p.1 ∷ []));
-  some = omega (arith, length-append s.starts (p.0 ∷ []));
-  few = omega (arith, k.few, length-append s.starts (p.0 ∷ []));
-}
 
 IsDeparture-from : (v : Version) (d : ℤ) → least_departure v ≤ℤ d → d ≤ℤ pos 100000000000000 → IsDeparture d
 IsDeparture-from First d low high = (omega (arith, ints), omega (arith, ints))
@@ -103,25 +82,10 @@ keeps_next first line b h k = subst Keeps (sym h.2) tt
 keeps_next (outcome v) line b h k = subst Keeps (sym h.2) (outcome_next v h.0)
 keeps_next (den v) line b h k = subst Keeps (sym h.2) h.1.1.0
 keeps_next (cycle v d) line b h k = subst Keeps (sym h.2) (k, h.1.1.0)
-keeps_next (phases v d t) line b h k = subst Keeps (sym h.2) (let n = h.1.1 in record {
-  den = k.0;
-  cycle = k.1;
-  starts = All-nil IsNumerator;
-  widths = All-nil IsNumerator;
-  alike = refl;
-  some = omega (arith, n.0);
-  few = omega (arith, n.1);
-})
+keeps_next (phases v d t) line b h k = subst Keeps (sym h.2) (phases_begun d t h.0 k.0 k.1 h.1.1.0 h.1.1.1)
 keeps_next (phase v (suc left) s) line b h k = subst Keeps (sym h.2) (phase_kept left s h.0 h.1.0 k h.1.1)
 keeps_next (phase v zero s) line b h k = subst Keeps (sym h.2) (let n = h.1.1 in record {
-  schedule_in = record {
-    den = k.den;
-    cycle = k.cycle;
-    starts = k.starts;
-    widths = k.widths;
-    phases = (omega (arith, k.some), omega (arith, k.few));
-    alike = k.alike;
-  };
+  schedule_in = phases_ended s k;
   each = All-nil IsDeparture;
   count = omega (arith, n.1);
 })

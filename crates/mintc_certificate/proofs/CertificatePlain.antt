@@ -1,14 +1,10 @@
 use Rattle.std.proofs.Common.{◌≡◌, ℕ, zero, suc, ℤ, pos, negsuc, ◌≤ℤ◌, ◌<◌, ◌^◌, true, false, Bool, if◌then◌else◌, List, [], ◌∷◌, ◌++◌, All, refl, ap, ◌∙◌, sym, arith, codes, eqb}
 use Rattle.std.proofs.lemmas.Int.{ints}
-use Rattle.mintc_text.specs.Lines.{numeral_of}
-use Rattle.mintc_text.specs.Words.{IsShort}
-use Rattle.mintc_text.proofs.NumeralsLaws.{same_numeral}
 use Rattle.mintc_timing.specs.Fields.{plain, plain_line, Spells, IsWordLine, IsNumberLine, IsCountLine}
-use Rattle.mintc_timing.specs.Limits.{IsNumerator}
 use Rattle.mintc_timing.specs.Texts.{IsPhaseLine, no_phases, with_phase}
-use Rattle.mintc_timing.proofs.FieldsLaws.{short}
 use Rattle.mintc_timing.proofs.LineLaws.{count_one, number_one}
 use Rattle.mintc_timing.proofs.ReadingLaws.{plain-count_line, plain-number_line, plain-word_line}
+use Rattle.mintc_timing.proofs.ScheduleLaws.{phase_one, plain-den, plain-cycle}
 use Rattle.mintc_timing.proofs.ScheduleReading.{plain-phase_line}
 use Rattle.mintc_timing.proofs.TextLaws.{IsPlainFormat, text_one_end, text_no_fault, text_one_fault, spelled_one, spelled_free}
 use Rattle.mintc_certificate.specs.declared.certificate.Certificate.{Certificate}
@@ -22,18 +18,6 @@ use Rattle.mintc_certificate.proofs.CertificateReading.{IsDepartureLine, plain-o
 use Rattle.mintc_certificate.proofs.MemberLaws.{plain-member_line, member_one}
 
 -- ---- each line has one value, and no line feed
-
-numerator_short : (z : ℤ) → IsNumerator z → IsShort z
-numerator_short z h = short (pos 0) (pos 100000000000000) z (omega (arith, ints)) (omega (arith, ints)) h
-
-phase_one : (p q : ℤ × ℤ) (ws : List (List ℕ)) → IsPhaseLine p ws → IsPhaseLine q ws → p ≡ q
-phase_one p q ws h g =
-    let a = h.2 in let b = g.2 in
-    let starts : numeral_of p.0 ≡ numeral_of q.0 = cc in
-    let widths : numeral_of p.1 ≡ numeral_of q.1 = cc in
-    let start : p.0 ≡ q.0 = same_numeral p.0 q.0 (numerator_short p.0 h.0) (numerator_short q.0 g.0) starts in
-    let width : p.1 ≡ q.1 = same_numeral p.1 q.1 (numerator_short p.1 h.1) (numerator_short q.1 g.1) widths in
-    ap (λ (x : ℤ). (x, p.1)) start ∙ ap (λ (x : ℤ). (q.0, x)) width
 
 -- the first byte of a line's words, 0 where there is none
 abbrev first_byte : List (List ℕ) → ℕ
@@ -50,12 +34,6 @@ outcome_one false true ws h g = absurd (omega (arith, ap first_byte (sym h ∙ g
 least_short : (v : Version) → negsuc 999999999999999998 ≤ℤ least_departure v
 least_short First = omega (arith, ints)
 least_short Second = omega (arith, ints)
-
-plain-den : (z : ℤ) (ws : List (List ℕ)) → IsNumberLine (codes "den") (pos 1) (pos 100000) z ws → plain_line ws ≡ true
-plain-den = plain-number_line (codes "den") (pos 1) (pos 100000) refl (omega (arith, ints)) (omega (arith, ints))
-
-plain-cycle : (z : ℤ) (ws : List (List ℕ)) → IsNumberLine (codes "cycle") (pos 0) (pos 100000000000000) z ws → plain_line ws ≡ true
-plain-cycle = plain-number_line (codes "cycle") (pos 0) (pos 100000000000000) refl (omega (arith, ints)) (omega (arith, ints))
 
 plain-departure : (v : Version) (z : ℤ) (ws : List (List ℕ)) → IsDepartureLine v z ws → plain_line ws ≡ true
 plain-departure v = plain-number_line (codes "departure") (least_departure v) (pos 100000000000000) refl (least_short v) (omega (arith, ints))

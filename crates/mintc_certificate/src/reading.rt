@@ -4,7 +4,7 @@ ghost use Rattle.mintc_text.specs.Stops.{StopsAt};
 ghost use Rattle.mintc_timing.specs.declared.clocking.Schedule.{Schedule};
 ghost use Rattle.mintc_timing.specs.Limits.{IsDenominator, IsNumerator};
 ghost use Rattle.mintc_timing.specs.Reading.{HasNone, HasRead, IsAt, number_after};
-ghost use Rattle.mintc_timing.specs.Texts.{IsPhaseLine, no_phases, schedule_of};
+ghost use Rattle.mintc_timing.specs.Texts.{no_phases, schedule_of};
 ghost use Rattle.mintc_certificate.specs.declared.certificate.Certificate.{Certificate};
 ghost use Rattle.mintc_certificate.specs.declared.members.Member.{Member};
 ghost use Rattle.mintc_certificate.specs.declared.version.Version.{Version};
@@ -19,11 +19,8 @@ use crate::version::Version;
 use crate::{Certificate, Departures, Member, Members};
 use arrayvec::ArrayVec;
 use mintc_text::{Refusal, Role, Stop};
-use mintc_timing::{Fields, PhaseNumbers, Reader, Schedule};
+use mintc_timing::{Fields, MOST_NUMERATOR, PhaseNumbers, Reader, Schedule};
 use std::alloc::Global;
-
-/// The greatest numerator of a schedule and of a departure.
-const MOST: i64 = 100_000_000_000_000;
 
 /// The version of a text whose first line has this number.
 fn version_of(number: u32) -> Version
@@ -42,7 +39,7 @@ fn least_departure(version: Version) -> i64
 {
     match version {
         Version::First => 0,
-        Version::Second => -MOST,
+        Version::Second => -MOST_NUMERATOR,
     }
 }
 
@@ -71,26 +68,6 @@ fn outcome_line(reader: &mut Reader) -> Option<bool>
     outcome_of(fields)
 }
 
-/// The start and the width of a phase, from the words of its line.
-fn phase_of(mut fields: Fields) -> Option<(i64, i64)>
-    ensures { MatchOption result ((p : ℤ × ℤ) → IsPhaseLine p fields.entry → ⊥) (λ p. IsPhaseLine (p.0, p.1) fields.entry) }
-{
-    fields.fixed(b"phase")?;
-    let start = fields.number(0, MOST)?;
-    let width = fields.number(0, MOST)?;
-    fields.end()?;
-    Some((start, width))
-}
-
-/// Reads the line of a phase.
-fn phase_line(reader: &mut Reader) -> Option<(i64, i64)>
-    ensures read { MatchOption result (HasNone IsPhaseLine reader.old.left) (λ p. HasRead IsPhaseLine reader.old.left (p.0, p.1) reader.new.left) }
-    ensures counted { reader.new.number ≡ number_after reader.old.number }
-{
-    let fields = reader.fields()?;
-    phase_of(fields)
-}
-
 /// Reads the lines of so many phases: their starts and their widths.
 fn phases(reader: &mut Reader, count: u32) -> Option<(PhaseNumbers, PhaseNumbers)>
     requires { count ≤ 8 }
@@ -100,7 +77,7 @@ fn phases(reader: &mut Reader, count: u32) -> Option<(PhaseNumbers, PhaseNumbers
     let mut starts = ArrayVec::new();
     let mut widths = ArrayVec::new();
     for _phase in 0..count {
-        let (start, width) = phase_line(reader)?;
+        let (start, width) = reader.phase_line()?;
         starts.push(start);
         widths.push(width);
     }
@@ -115,7 +92,7 @@ fn head(reader: &mut Reader) -> Option<(i64, i64, u32)>
     ensures in_range { IfSome result (λ r. IsDenominator r.0 × IsNumerator r.1) }
 {
     let den = reader.number_line(b"den", 1, 100_000)?;
-    let cycle = reader.number_line(b"cycle", 0, MOST)?;
+    let cycle = reader.number_line(b"cycle", 0, MOST_NUMERATOR)?;
     let count = reader.count_line(b"phases", 1, 8)?;
     Some((den, cycle, count))
 }
@@ -148,7 +125,7 @@ fn departures(alloc: Global, reader: &mut Reader, version: Version) -> Result<De
     };
     let mut found = Vec::new(alloc);
     for _departure in 0..count {
-        let Some(departure) = reader.number_line(b"departure", least, MOST) else {
+        let Some(departure) = reader.number_line(b"departure", least, MOST_NUMERATOR) else {
             return Err(Halt::Form);
         };
         let Ok(()) = found.push(departure) else {

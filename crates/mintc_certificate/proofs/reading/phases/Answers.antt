@@ -1,8 +1,9 @@
-use Rattle.std.proofs.Common.{◌≡◌, ◌-◌, ◌+◌, suc, List, ◌∷◌, [], ◌++◌, ℤ, arith, subst}
+use Rattle.std.proofs.Common.{◌≡◌, ◌-◌, ◌+◌, suc, arith, subst}
 use Rattle.mintc_timing.specs.declared.clocking.Schedule.{Schedule}
-use Rattle.mintc_timing.specs.Texts.{with_phase, schedule_of}
+use Rattle.mintc_timing.specs.Texts.{schedule_of}
 use Rattle.mintc_timing.proofs.Fitting.{read_time, IsTime-IsNumerator}
 use Rattle.mintc_timing.proofs.ReadingLaws.{at_none}
+use Rattle.mintc_timing.proofs.ScheduleReading.{pushed}
 use Rattle.mintc_certificate.specs.CertificateText.{phase}
 use Rattle.mintc_certificate.proofs.CertificateReading.{At, phase_more, phase_fault}
 use Rattle.mintc_certificate.proofs.reading.phases.Goals as goal
@@ -11,13 +12,8 @@ pub returns-in_err-start : goal.returns-in_err-start
 returns-in_err-start c = λ text v d t at.
     let left : c.args.count - c.loop-phase._phase ≡ suc (c.args.count - c.loop-phase._phase - 1) = omega arith in
     at_none c.from_residual.result _ _ c.from_residual.ensures
-    (phase_fault text c.loop-phase.reader c.phase_line.new.reader.number v (c.args.count - c.loop-phase._phase) (c.args.count - c.loop-phase._phase - 1) _
+    (phase_fault text c.loop-phase.reader c.phase_line.new.self.number v (c.args.count - c.loop-phase._phase) (c.args.count - c.loop-phase._phase - 1) _
     (c.loop-phase.invariant.2 text v d t at) left c.in_err-start.ensures.read c.in_err-start.ensures.counted)
-
--- the two lists that a line was added to
-pushed : (d t : ℤ) (p : ℤ × ℤ) (starts widths starts' widths' : List ℤ) → starts' ≡ starts ++ p.0 ∷ [] → widths' ≡ widths ++ p.1 ∷ [] →
-    with_phase (schedule_of d t starts widths) p ≡ schedule_of d t starts' widths'
-pushed d t p starts widths starts' widths' e f = cc
 
 pub loop-phase-preserved : goal.loop-phase-preserved
 loop-phase-preserved c = (
@@ -25,13 +21,13 @@ loop-phase-preserved c = (
   omega arith,
   λ text v d t at.
       let left : c.args.count - c.loop-phase._phase ≡ suc (c.args.count - (c.loop-phase._phase + 1)) = omega arith in
-      let next = phase_more text c.loop-phase.reader c.phase_line.new.reader v (c.args.count - c.loop-phase._phase) (c.args.count - (c.loop-phase._phase + 1))
+      let next = phase_more text c.loop-phase.reader c.phase_line.new.self v (c.args.count - c.loop-phase._phase) (c.args.count - (c.loop-phase._phase + 1))
       (schedule_of d t c.loop-phase.starts.items c.loop-phase.widths.items) (c.in_ok-start.start, c.in_ok-start.width)
       (c.loop-phase.invariant.2 text v d t at) left c.in_ok-start.ensures.read c.in_ok-start.ensures.counted in
       let ranges = c.in_ok-start.ensures.read.spells.1 in
       let start_is = rw (read_time c.in_ok-start.start (IsTime-IsNumerator c.in_ok-start.start ranges.0)) at c.push.ensures.items in
       let width_is = rw (read_time c.in_ok-start.width (IsTime-IsNumerator c.in_ok-start.width ranges.1)) at c.push-in-loop-phase.ensures.items in
-      subst (λ (s : Schedule). At text c.phase_line.new.reader (phase v (c.args.count - (c.loop-phase._phase + 1)) s))
+      subst (λ (s : Schedule). At text c.phase_line.new.self (phase v (c.args.count - (c.loop-phase._phase + 1)) s))
       (pushed d t (c.in_ok-start.start, c.in_ok-start.width) c.loop-phase.starts.items c.loop-phase.widths.items c.push.new.self.items c.push-in-loop-phase.new.self.items
       start_is width_is) next,
 )
