@@ -1,31 +1,16 @@
 use Rattle.std.proofs.Common.{◌≡◌, ℕ, ℤ, ◌+◌, ◌<◌, ◌≤◌, List, [], ◌∷◌, ◌++◌, length, get_or, map, take, ap, ◌∙◌, sym, arith, append_assoc}
 use Rattle.std.proofs.lemmas.Grind.{flat_map-append}
-use Rattle.std.proofs.lemmas.List.{append-nil, map-append, take_more, take_all}
+use Rattle.std.proofs.lemmas.List.{map-append, take_more, take_all}
 use Rattle.std.proofs.lemmas.Slice.Zip.{get_or-zip, length-zip}
 use Rattle.std.specs.List.{zip}
-use Rattle.mintc_text.specs.Lines.{ended, text_of, words}
-use Rattle.mintc_text.proofs.LinesLaws.{text_of-push}
-use Rattle.mintc_certificate.specs.Written.{spaced}
+use Rattle.mintc_text.specs.Lines.{ended, spaced, text_of, words}
+use Rattle.mintc_text.proofs.LinesLaws.{line-spaced, spaced-append, text_of-push}
 
--- words with one space between two are the first one, and the others each after a space
-pub words-spaced : (w : List ℕ) (ws : List (List ℕ)) → words (w ∷ ws) ≡ w ++ spaced ws
-words-spaced w [] = sym (append-nil w)
-words-spaced w (v ∷ ws) = ap (λ x. w ++ (32 ∷ x)) (words-spaced v ws)
-
-spaced-append : (ws xs : List (List ℕ)) → spaced (ws ++ xs) ≡ spaced ws ++ spaced xs
-spaced-append ws xs = flat_map-append (λ (w : List ℕ). 32 ∷ w) ws xs
-
--- a line that is written as its first word, the others, and its line feed
-pub line_written : (old begun all done first : List ℕ) (ws : List (List ℕ)) → begun ≡ old ++ first → all ≡ begun ++ spaced ws → done ≡ all ++ 10 ∷ [] →
-    done ≡ old ++ ended (words (first ∷ ws))
-line_written old begun all done first ws e f g =
-    rw (g, f, e, words-spaced first ws) (simp append_assoc)
-
--- the same with the other words in two parts
+-- a line that is written as its first word, the others in two parts, and its line feed
 pub line_in_parts : (old begun some all done first : List ℕ) (ws xs : List (List ℕ)) → begun ≡ old ++ first → some ≡ begun ++ spaced ws →
     all ≡ some ++ spaced xs → done ≡ all ++ 10 ∷ [] → done ≡ old ++ ended (words (first ∷ ws ++ xs))
 line_in_parts old begun some all done first ws xs e f g h =
-    line_written old begun all done first (ws ++ xs) e (g ∙ ap (λ v. v ++ spaced xs) f ∙ append_assoc begun (spaced ws) (spaced xs) ∙ ap (λ v. begun ++ v) (sym (spaced-append ws xs))) h
+    line-spaced old begun all done first (ws ++ xs) e (g ∙ ap (λ v. v ++ spaced xs) f ∙ append_assoc begun (spaced ws) (spaced xs) ∙ ap (λ v. begun ++ v) (sym (spaced-append ws xs))) h
 
 -- a text of lines and one line more
 pub text_more : (old now new line : List ℕ) (lines : List (List ℕ)) → now ≡ old ++ text_of lines → new ≡ now ++ ended line → new ≡ old ++ text_of (lines ++ line ∷ [])

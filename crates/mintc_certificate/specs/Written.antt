@@ -1,4 +1,4 @@
-use Rattle.std.specs.Prelude.{ℕ, ℤ, List, [], ◌∷◌, ◌++◌, length, map, flat_map, codes}
+use Rattle.std.specs.Prelude.{ℕ, ℤ, List, [], ◌∷◌, ◌++◌, length, map, codes}
 use Rattle.std.specs.List.{zip}
 use Rattle.mintc_text.specs.Lines.{words, numeral_of}
 use Rattle.mintc_timing.specs.declared.clocking.Schedule.{Schedule}
@@ -7,10 +7,6 @@ use Rattle.mintc_certificate.specs.declared.members.Member.{Member}
 use Rattle.mintc_certificate.specs.declared.certificate.Certificate.{Certificate}
 use Rattle.mintc_certificate.specs.declared.certificate.Certificate.TheVariants.{Least, Never}
 use Rattle.mintc_certificate.specs.CertificateText.{member_words}
-
--- words, each after a space
-abbrev pub spaced : List (List ℕ) → List ℕ
-spaced ws = flat_map (λ w. 32 ∷ w) ws
 
 -- a line of a word and a number, and of a word and a count
 abbrev pub number_line : List ℕ → ℤ → List ℕ

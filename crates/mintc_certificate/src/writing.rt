@@ -5,7 +5,7 @@ ghost use Rattle.mintc_timing.specs.Fields.{number};
 ghost use Rattle.mintc_timing.specs.Limits.{IsInRange};
 ghost use Rattle.mintc_certificate.specs.CertificateText.{IsCounted, member_words};
 ghost use Rattle.mintc_certificate.specs.Ranges.{IsCertificateInRange};
-ghost use Rattle.mintc_certificate.specs.Written.{chain_lines, count_line, departure_lines, least_lines, lines_of, never_lines, number_line, phase_line, schedule_lines, spaced};
+ghost use Rattle.mintc_certificate.specs.Written.{chain_lines, count_line, departure_lines, least_lines, lines_of, never_lines, number_line, phase_line, schedule_lines};
 
 use crate::{Certificate, Member};
 use mintc_text::{Lines, OutOfMemory};
@@ -77,23 +77,12 @@ fn put_departures(lines: &mut Lines, departures: &[i64]) -> Result<(), OutOfMemo
     Ok(())
 }
 
-/// Writes numbers, each after a space.
-fn put_numbers(lines: &mut Lines, numbers: &[u32]) -> Result<(), OutOfMemory>
-    ensures { OnOk result (lines.new ≡ lines.old ++ spaced (map number numbers.now)) }
-{
-    for number in numbers {
-        lines.put(b" ")?;
-        lines.number(i128::from(*number))?;
-    }
-    Ok(())
-}
-
 /// Writes the line of a word and numbers.
 fn put_line(lines: &mut Lines, word: &[u8], numbers: &[u32]) -> Result<(), OutOfMemory>
     ensures { OnOk result (lines.new ≡ lines.old ++ ended (words (word.now ∷ map number numbers.now))) }
 {
     lines.put(word)?;
-    put_numbers(lines, numbers)?;
+    lines.numbers(numbers)?;
     lines.put(b"\n")
 }
 
@@ -103,8 +92,8 @@ fn put_reach(lines: &mut Lines, from: u32, to: u32, arcs: &[u32]) -> Result<(), 
     ensures { OnOk result (lines.new ≡ lines.old ++ ended (words (codes "reach" ∷ number from ∷ number to ∷ number (length arcs.now) ∷ map number arcs.now))) }
 {
     lines.put(b"reach")?;
-    put_numbers(lines, &[from, to, arcs.len() as u32])?;
-    put_numbers(lines, arcs)?;
+    lines.numbers(&[from, to, arcs.len() as u32])?;
+    lines.numbers(arcs)?;
     lines.put(b"\n")
 }
 
