@@ -1,5 +1,5 @@
 //! The links of a system.
-ghost use Rattle.std.specs.Prelude.{◌≡◌, ◌<◌, ◌≤◌, ◌+◌, ◌-◌, ◌*◌, ◌++◌, ◌∷◌, [], ℕ, false, length, if◌then◌else◌, map, flat_map, slice_index_or, IfOk, OnOk};
+ghost use Rattle.std.specs.Prelude.{◌≡◌, ◌<◌, ◌+◌, ◌-◌, ◌*◌, ◌++◌, ◌∷◌, [], ℕ, false, length, if◌then◌else◌, map, flat_map, slice_index_or, IfOk, OnOk};
 ghost use Rattle.std.specs.List.{enumerate_from, filter, range_with_len};
 ghost use Rattle.mintc_timing.specs.Clocking.{feeds_of};
 ghost use Rattle.mintc_timing.specs.Design.{element_count, phase_count};

@@ -1,5 +1,4 @@
 //! A test of what no clause says: with memory, a system has its links.
-ghost use Rattle.std.specs.Prelude.{◌≡◌, [], IfSome};
 
 use crate::{Link, links};
 use mintc_text::{Name, Names, Numbers};

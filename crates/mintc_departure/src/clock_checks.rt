@@ -1,5 +1,5 @@
 //! The list of what a schedule breaks of the clock and the bounds.
-ghost use Rattle.std.specs.Prelude.{◌≡◌, ◌+◌, ◌-◌, ◌*◌, ◌≤◌, ◌<◌, ◌++◌, ◌∷◌, [], ℕ, pos, ◌+ℤ◌, ◌-ℤ◌, ◌*ℤ◌, if◌then◌else◌, map, false, OnOk, length, slice_index_or};
+ghost use Rattle.std.specs.Prelude.{◌≡◌, ◌+◌, ◌-◌, ◌*◌, ◌<◌, ◌++◌, ◌∷◌, [], ℕ, pos, ◌-ℤ◌, ◌*ℤ◌, if◌then◌else◌, map, false, OnOk, length, slice_index_or};
 ghost use Rattle.std.specs.List.{filter};
 ghost use Rattle.mintc_timing.specs.Clocking.{crosses_of, end_of, feeds_of, start_of};
 ghost use Rattle.mintc_timing.specs.Design.{phase_count};

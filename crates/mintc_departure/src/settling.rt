@@ -1,5 +1,5 @@
 //! The late departures, or a loop round which data comes later each time.
-ghost use Rattle.std.specs.Prelude.{◌≡◌, ◌<◌, ◌≤◌, ◌+◌, ◌*◌, ℕ, ℤ, List, length};
+ghost use Rattle.std.specs.Prelude.{◌≡◌, ◌<◌, ◌≤◌, ◌+◌, ◌*◌, ℕ, length};
 ghost use Rattle.mintc_walks.specs.Walks.{value_at};
 ghost use Rattle.mintc_timing.specs.Design.{element_count, phase_count};
 ghost use Rattle.mintc_timing.specs.Limits.{IsDesign, IsInRange};

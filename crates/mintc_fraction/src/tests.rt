@@ -1,4 +1,4 @@
-ghost use Rattle.std.specs.Prelude.{◌≤◌, ◌^◌, pos, ◌≤ℤ◌, unsigned_abs, IfSome};
+ghost use Rattle.std.specs.Prelude.{unsigned_abs, IfSome};
 ghost use Rattle.mintc_fraction.specs.Ratio.{IsModest};
 
 use super::*;

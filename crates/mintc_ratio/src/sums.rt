@@ -1,6 +1,5 @@
 //! The sums of a chain, and its ratio.
-ghost use Rattle.std.specs.Prelude.{◌≡◌, ◌≤◌, ◌*◌, pos, ◌≤ℤ◌, length};
-ghost use Rattle.mintc_timing.specs.Links.{cycles_of, delay_of};
+ghost use Rattle.std.specs.Prelude.{◌≡◌, ◌≤◌, ◌*◌, pos, ◌≤ℤ◌};
 ghost use Rattle.mintc_constraints.specs.Ordinary.{IsOrdinary, constraints_of};
 ghost use Rattle.mintc_fraction.specs.Ratio.{IsEqual, over};
 ghost use Rattle.mintc_ratio.specs.Chains.{NamesChain, links_at};

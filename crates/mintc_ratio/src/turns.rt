@@ -1,5 +1,5 @@
 //! One turn of the search: a test of the ratio that is held, or of the middle of what is left.
-ghost use Rattle.std.specs.Prelude.{◌≡◌, ◌<◌, ◌≤◌, ◌+◌, ◌^◌, pos, ◌≤ℤ◌, length};
+ghost use Rattle.std.specs.Prelude.{◌≡◌, ◌<◌, ◌≤◌, ◌+◌, pos, ◌≤ℤ◌, length};
 ghost use Rattle.mintc_timing.specs.Links.{delay_of};
 ghost use Rattle.mintc_ratio.specs.Chains.{NamesChain, links_at};
 ghost use Rattle.mintc_ratio.specs.Climbing.{IsHalving, IsHeld, IsJump, IsOfChain, top_of};

@@ -1,6 +1,6 @@
 //! The outside in memory: a shelf and a sink whose calls can be made to fail.
-ghost use Rattle.std.specs.Prelude.{◌≡◌, ◌≢◌, ◌++◌, ℕ, ◌≤◌, ◌+◌, List, [], Option, Some, None, MatchOption, IfOk, IfErr, OnOk, OnErr, IsTrue, length, map, take, Contains, is_ok, vec_len, vec_capacity};
-ghost use Rattle.mintc_text.specs.Outside.{Files, held, Rose, CountsCall, IsFront, Holds, Takes, TakesFront};
+ghost use Rattle.std.specs.Prelude.{◌≡◌, ◌≢◌, ◌++◌, ◌≤◌, ◌+◌, [], Option, Some, None, MatchOption, IfOk, IfErr, OnOk, OnErr, length, map, take, Contains, is_ok, vec_len, vec_capacity};
+ghost use Rattle.mintc_text.specs.Outside.{held, Rose, CountsCall, IsFront, Holds, Takes, TakesFront};
 ghost use Rattle.mintc_text.specs.Memory.{ShelfState, SinkState, IsSoundFrom, allowed, is_failing, share, takes_all};
 
 use crate::{Failed, Name, Numbers, OutOfMemory, Shelf, ShelfError, Sink};

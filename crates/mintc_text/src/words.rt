@@ -1,5 +1,5 @@
 //! The words of a line.
-ghost use Rattle.std.specs.Prelude.{◌≡◌, ℕ, IfSome, IfNone, slice_index, length, ◌≤◌, ◌<◌};
+ghost use Rattle.std.specs.Prelude.{ℕ, IfSome, IfNone, slice_index, length, ◌≤◌, ◌<◌};
 ghost use Rattle.mintc_text.specs.Lines.{IsGraphic};
 ghost use Rattle.mintc_text.specs.Words.{IsBlankAt, IsWordAt};
 
