@@ -1,5 +1,5 @@
 //! Reading a line by its words.
-ghost use Rattle.std.specs.Prelude.{◌≡◌, ◌∷◌, [], ◌≤◌, ◌<◌, ◌≢◌, ℕ, ℤ, pos, List, true, MatchOption, IfSome, IfNone, MatchBool, slice_index, length, All};
+ghost use Rattle.std.specs.Prelude.{◌≡◌, ◌∷◌, [], ◌≤◌, ◌<◌, ◌≢◌, ℕ, ℤ, List, true, MatchOption, MatchBool, slice_index, length};
 ghost use Rattle.mintc_text.specs.Lines.{numeral_of, IsWithin};
 ghost use Rattle.mintc_timing.specs.Fields.{IsName, AreDelays, number, fields_of};
 

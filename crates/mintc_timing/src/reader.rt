@@ -1,7 +1,7 @@
 //! Reading a text line by line.
-ghost use Rattle.std.specs.Prelude.{◌≡◌, ◌++◌, ◌∷◌, ◌≤◌, [], ℕ, ℤ, pos, negsuc, ◌≤ℤ◌, List, Bool, true, Option, MatchOption, MatchBool, IfSome, IfNone, Contains, length};
+ghost use Rattle.std.specs.Prelude.{◌≡◌, ◌++◌, ◌≤◌, [], ℕ, ℤ, pos, negsuc, ◌≤ℤ◌, List, true, Option, MatchOption, IfSome, IfNone};
 ghost use Rattle.mintc_text.specs.Lines.{ended, words};
-ghost use Rattle.mintc_timing.specs.Fields.{plain, plain_line, fields_of, IsWordLine, IsNumberLine, IsCountLine, IsNameLine};
+ghost use Rattle.mintc_timing.specs.Fields.{plain, plain_line, IsWordLine, IsNumberLine, IsCountLine, IsNameLine};
 ghost use Rattle.mintc_timing.specs.Reading.{HasNone, HasRead, number_after};
 ghost use Rattle.mintc_timing.specs.Texts.{IsPhaseLine};
 

@@ -1,5 +1,5 @@
 //! Reading the text of a schedule.
-ghost use Rattle.std.specs.Prelude.{◌≡◌, ◌≤◌, ◌∷◌, [], ℕ, ℤ, List, MatchOption, IfSome, IfOk, IfErr, length};
+ghost use Rattle.std.specs.Prelude.{◌≡◌, ◌≤◌, ℕ, ℤ, List, MatchOption, IfSome, IfOk, IfErr, length};
 ghost use Rattle.mintc_text.specs.declared.refusals.Role.{Role};
 ghost use Rattle.mintc_timing.specs.Limits.{IsInRange, IsDenominator, IsNumerator};
 ghost use Rattle.mintc_timing.specs.Reading.{IsAt};

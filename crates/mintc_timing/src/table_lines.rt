@@ -1,5 +1,5 @@
 //! The lines of a table, each read by its words.
-ghost use Rattle.std.specs.Prelude.{◌≡◌, ◌≤◌, ◌∷◌, [], ℕ, ℤ, List, Bool, MatchOption, IfSome, length};
+ghost use Rattle.std.specs.Prelude.{◌≡◌, ◌∷◌, [], ℕ, ℤ, List, Bool, MatchOption};
 ghost use Rattle.mintc_timing.specs.Fields.{AreDelays, IsCount, number};
 ghost use Rattle.mintc_timing.specs.declared.parts.Bound.{Bound};
 ghost use Rattle.mintc_timing.specs.declared.parts.Element.{Element};
