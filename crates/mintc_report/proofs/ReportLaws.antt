@@ -3,8 +3,8 @@ use Rattle.std.specs.Prelude.{flat_map}
 use Rattle.std.specs.List.{AllZip, range_with_len}
 use Rattle.std.proofs.lemmas.Grind.{flat_map-append}
 use Rattle.std.proofs.lemmas.List.{append-nil, take_more, get_or_default}
-use Rattle.mintc_text.specs.Lines.{ended, text_of, words}
-use Rattle.mintc_text.proofs.LinesLaws.{text_of-push}
+use Rattle.mintc_text.specs.Lines.{ended, spaced, text_of, words}
+use Rattle.mintc_text.proofs.LinesLaws.{text_of-push, words-append}
 use Rattle.mintc_fraction.specs.Ratio.{Ratio}
 use Rattle.mintc_timing.specs.declared.parts.Element.{Element}
 use Rattle.mintc_timing.specs.declared.clocking.Schedule.{Schedule}
@@ -15,9 +15,7 @@ use Rattle.mintc_certificate.specs.declared.members.Member.TheVariants as member
 use Rattle.mintc_certificate.specs.Valid.{link_of}
 use Rattle.mintc_report.specs.Answers.{IsLowestOf, fraction_word}
 use Rattle.mintc_report.specs.Reports.{IsPhaseLine, ArePhaseLines, phase_line, IsLateLine, AreLateLines, late_line, AppendsLines, IsLeastReport, cycle_line, chain_lines, amount_words, member_names, member_line, member_lines, later_arcs, through_line}
-use Rattle.mintc_report.specs.Spaced.{spaced}
 use Rattle.mintc_report.proofs.AnswerLaws.{AllZip-more, range_more, IsWordOf-lowest}
-use Rattle.mintc_report.proofs.SpacedLaws.{words-spaced}
 
 -- ---- the phases and the elements
 
@@ -69,14 +67,6 @@ late_more elements den late n old now new name other f before below is a written
     AppendsLines-more _ 0 n n old now new line (omega arith) before is_line written
 
 -- ---- the members
-
-spaced-append : (ws xs : List (List ℕ)) → spaced (ws ++ xs) ≡ spaced ws ++ spaced xs
-spaced-append ws xs = flat_map-append (λ (w : List ℕ). 32 ∷ w) ws xs
-
-words-append : (ws xs : List (List ℕ)) → 0 < length ws → words (ws ++ xs) ≡ words ws ++ spaced xs
-words-append [] xs some = absurd (omega arith)
-words-append (w ∷ ws) xs some =
-    words-spaced w (ws ++ xs) ∙ ap (λ v. w ++ v) (spaced-append ws xs) ∙ sym (append_assoc w (spaced ws) (spaced xs)) ∙ ap (λ v. v ++ spaced xs) (sym (words-spaced w ws))
 
 -- a member has a kind
 names_some : (t : Timing) (m : Member) → 0 < length (member_names t m)

@@ -1,12 +1,11 @@
 //! The lines of the members of a chain.
 ghost use Rattle.std.specs.Prelude.{◌≡◌, ◌<◌, ◌≤◌, ◌++◌, ◌∷◌, [], OnOk, All, codes, decimal, map};
-ghost use Rattle.mintc_text.specs.Lines.{ended, text_of, words};
+ghost use Rattle.mintc_text.specs.Lines.{ended, spaced, text_of, words};
 ghost use Rattle.mintc_timing.specs.Design.{element_count, phase_count};
 ghost use Rattle.mintc_timing.specs.Limits.{IsPhase, IsSpan};
 ghost use Rattle.mintc_certificate.specs.CertificateText.{IsCounted};
 ghost use Rattle.mintc_certificate.specs.Valid.{IsMember, link_of as link_of_member};
 ghost use Rattle.mintc_report.specs.Reports.{amount_words, element_name, inner_name, later_arcs, member_lines, member_names, phase_name, through_line, IsInner, IsThrough};
-ghost use Rattle.mintc_report.specs.Spaced.{spaced};
 
 use crate::writing::{put_integer, put_number, put_word};
 use mintc_certificate::{Member, link_of};

@@ -1,9 +1,9 @@
 //! The line of a refusal.
 ghost use Rattle.std.specs.Prelude.{◌≡◌, ◌++◌, ◌∷◌, [], IfOk, OnOk, length, map, decimal};
+ghost use Rattle.mintc_text.specs.Lines.{spaced};
 ghost use Rattle.mintc_text.specs.Refusals.{role_word, kind_word, refusal_number, refusal_fields, refusal_line};
-ghost use Rattle.mintc_report.specs.Spaced.{spaced};
 
-use crate::writing::{put_number, put_numbers, put_word};
+use crate::writing::{put_number, put_word};
 use mintc_text::{Kind, Lines, OutOfMemory, Refusal, Role};
 use std::alloc::Global;
 
@@ -77,7 +77,7 @@ fn put_loop(lines: &mut Lines, refusal: u64, arcs: &[u32]) -> Result<(), OutOfMe
 {
     put_number(lines, refusal)?;
     put_number(lines, arcs.len() as u64)?;
-    put_numbers(lines, arcs)
+    lines.numbers(arcs)
 }
 
 /// Writes a refusal's number, a quantity and how much it is.

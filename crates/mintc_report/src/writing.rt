@@ -1,9 +1,8 @@
 //! Words and numbers that follow a space.
-ghost use Rattle.std.specs.Prelude.{◌≡◌, ◌++◌, ◌∷◌, OnOk, map, decimal};
+ghost use Rattle.std.specs.Prelude.{◌≡◌, ◌++◌, ◌∷◌, OnOk, decimal};
 ghost use Rattle.mintc_text.specs.Lines.{numeral_of};
 ghost use Rattle.mintc_timing.specs.Limits.{IsDenominator};
 ghost use Rattle.mintc_report.specs.Answers.{fraction_word, IsLowestOf};
-ghost use Rattle.mintc_report.specs.Spaced.{spaced};
 
 use mintc_fraction::Fraction;
 use mintc_text::{Lines, OutOfMemory};
@@ -30,16 +29,6 @@ pub(crate) fn put_integer(lines: &mut Lines, number: i64) -> Result<(), OutOfMem
 {
     lines.put(b" ")?;
     lines.number(number as i128)
-}
-
-/// Writes numbers, each after a space.
-pub(crate) fn put_numbers(lines: &mut Lines, numbers: &[u32]) -> Result<(), OutOfMemory>
-    ensures { OnOk result (lines.new ≡ lines.old ++ spaced (map decimal numbers.now)) }
-{
-    for number in numbers {
-        put_number(lines, *number as u64)?;
-    }
-    Ok(())
 }
 
 /// The fraction `num / den` in lowest terms.

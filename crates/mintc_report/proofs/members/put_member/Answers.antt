@@ -2,11 +2,10 @@ use Rattle.std.proofs.Common.{◌≡◌, pos, [], ◌∷◌, ◌++◌, map, ap, 
 use Rattle.std.specs.Prelude.{All}
 use Rattle.std.proofs.lemmas.Int.{to_z-of_z}
 use Rattle.std.proofs.lemmas.Result.{on_ok_weaker}
-use Rattle.mintc_text.specs.Lines.{text_of}
+use Rattle.mintc_text.specs.Lines.{spaced, text_of}
 use Rattle.mintc_timing.specs.declared.link.Link.{Link}
 use Rattle.mintc_timing.specs.Limits.{IsDesign}
 use Rattle.mintc_report.specs.Reports.{IsThrough, amount_words, through_line}
-use Rattle.mintc_report.specs.Spaced.{spaced}
 use Rattle.mintc_report.proofs.ReportLaws.{member_written}
 use Rattle.mintc_report.proofs.Throughs.{are_through}
 use Rattle.mintc_report.proofs.members.put_member.Goals as goal
