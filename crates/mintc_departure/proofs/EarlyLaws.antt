@@ -21,7 +21,8 @@ use Rattle.mintc_departure.specs.declared.arrivals.TheConstants.{NEVER}
 use Rattle.mintc_departure.proofs.LateSizes.{late-within}
 use Rattle.mintc_departure.proofs.Lesser.{greater-mono, greater-from, greater-one, least-mono, least-some}
 use Rattle.mintc_departure.proofs.NetworkLaws.{exact-starts, start-latch}
-use Rattle.mintc_departure.proofs.Sizes.{IsWithin-product, below_or_not, element_in_range, pair_ends, pair-min_order}
+use Rattle.mintc_walks.proofs.Within.{IsWithin-product}
+use Rattle.mintc_departure.proofs.Sizes.{below_or_not, element_in_range, pair_ends, pair-min_order}
 
 -- A latch with a first arrival departs by it.
 first-greater : (start first : ℤ) (o : Option ℤ) → IsFirst o first → first ≢ NEVER → int_max start first ≡ greater_of start o

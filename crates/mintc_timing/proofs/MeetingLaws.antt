@@ -20,7 +20,7 @@ use Rattle.mintc_timing.proofs.Feeding.{latch_of}
 use Rattle.mintc_timing.proofs.LinkLaws.{meets-start, meets-cycle, meets-order, meets-span, meets-width, meets-apart, meets-open, meets-opened, meets-reach, meets-setup, meets-bound, ring-at_most}
 
 -- what holds of the numbers from a on
-All-range : (P : ℕ → Type 0) (a n : ℕ) → ((k : ℕ) → a ≤ k → k < a + n → P k) → All P (range_with_len a n)
+pub All-range : (P : ℕ → Type 0) (a n : ℕ) → ((k : ℕ) → a ≤ k → k < a + n → P k) → All P (range_with_len a n)
 All-range P a n h k d below =
     let count = length-range_with_len a n in
     let small : k < n = omega arith in
@@ -31,12 +31,12 @@ All-choice : {X : Type 0} (p : X → Bool) (P : X → Type 0) (x : X) (ys : List
 All-choice p P x ys rest here true e = All-cons P x ys (here e) rest
 All-choice p P x ys rest here false e = rest
 
-All-passing : {X : Type 0} (p : X → Bool) (P : X → Type 0) (xs : List X) → All (λ x. p x ≡ true → P x) xs → All P (filter p xs)
+pub All-passing : {X : Type 0} (p : X → Bool) (P : X → Type 0) (xs : List X) → All (λ x. p x ≡ true → P x) xs → All P (filter p xs)
 All-passing p P [] h = All-nil P
 All-passing p P (x ∷ xs) h =
     All-choice p P x (filter p xs) (All-passing p P xs (All-tail (λ x. p x ≡ true → P x) x xs h)) (All-head (λ x. p x ≡ true → P x) x xs h) (p x) refl
 
-All-pieces : {X Y : Type 0} (f : X → List Y) (P : Y → Type 0) (xs : List X) → All (λ x. All P (f x)) xs → All P (flat_map f xs)
+pub All-pieces : {X Y : Type 0} (f : X → List Y) (P : Y → Type 0) (xs : List X) → All (λ x. All P (f x)) xs → All P (flat_map f xs)
 All-pieces f P [] h = All-nil P
 All-pieces f P (x ∷ xs) h = All-append P (f x) (flat_map f xs) (All-head (λ x. All P (f x)) x xs h) (All-pieces f P xs (All-tail (λ x. All P (f x)) x xs h))
 

@@ -4,7 +4,6 @@ use Rattle.mintc_text.specs.Lines.{numeral_of}
 use Rattle.mintc_timing.specs.declared.clocking.Schedule.{Schedule}
 use Rattle.mintc_timing.specs.Fields.{plain, plain_line, Spells, IsWordLine, IsNumberLine, IsCountLine}
 use Rattle.mintc_timing.specs.Reading.{Reading, HasRead, HasNone, IsAt, number_after}
-use Rattle.mintc_timing.specs.Limits.{IsNumerator}
 use Rattle.mintc_timing.specs.Texts.{NextOfSchedule, IsWholeSchedule, IsPhaseLine, IsScheduleText, IsScheduleFault, ScheduleLines, first, den, cycle, phases, phase, whole, no_phases, with_phase, schedule_of}
 use Rattle.mintc_timing.proofs.FieldsLaws.{and_both, plain-numeral, short}
 use Rattle.mintc_timing.proofs.ReadingLaws.{at_more, at_fault, at_end, at_past}
