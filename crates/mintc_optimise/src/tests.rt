@@ -1,16 +1,14 @@
 //! Tests of what no clause says: with memory, the worked designs have the certificates that are worked out by hand.
-ghost use Rattle.std.specs.Prelude.{◌≡◌, ◌<◌, ◌≤◌, ℕ, length, slice_index, Contains, All, IfSome};
-ghost use Rattle.std.specs.Bool.{OnTrue};
-ghost use Rattle.mintc_timing.specs.Order.{IsOrder};
-ghost use Rattle.mintc_timing.specs.Paths.{arc_at};
+ghost use Rattle.std.specs.Prelude.{◌≡◌, ◌<◌, IfSome};
 ghost use Rattle.mintc_certificate.specs.Ranges.{IsCertificateInRange};
 
 use super::*;
 use mintc_certificate::{Certificate, write};
+use mintc_order::order;
 use mintc_paths::extremes;
 use mintc_ratio::Outcome;
-use mintc_text::{Numbers, Stop};
-use mintc_timing::{Order, System, TimingArc, read_table};
+use mintc_text::Stop;
+use mintc_timing::{System, read_table};
 use mintc_walks::Steps;
 use std::alloc::Global;
 use std::marker::Brand;
@@ -18,83 +16,11 @@ use std::process::Abort;
 use std::sync::ledger::{Blank, Ledger};
 use std::test::Fail;
 
-/// Whether the list has the number.
-fn has(order: &[u32], number: u32) -> bool
-    ensures { OnTrue result (Contains order.now number) }
-{
-    for place in 0..order.len() {
-        if order[place] == number {
-            return true;
-        }
-    }
-    false
-}
-
-/// Whether the list has the number of each of so many arcs.
-fn has_all(order: &[u32], count: u32) -> bool
-    ensures { OnTrue result ((n : ℕ) → n < count → Contains order.now n) }
-{
-    for number in 0..count {
-        if !has(order, number) {
-            return false;
-        }
-    }
-    true
-}
-
-/// Whether the arc at a place stands before all arcs that leave the bit that it enters.
-fn is_sooner(arcs: &[TimingArc], order: &[u32], place: usize) -> bool
-    requires place { place < length order.now }
-    requires arcs { All (λ n. n < length arcs.now) order.now }
-    ensures { OnTrue result ((j : ℕ) → j < length order.now
-        → (arc_at arcs.now (slice_index order.now place)).to ≡ (arc_at arcs.now (slice_index order.now j)).from → place < j) }
-{
-    let entered = arcs[order[place] as usize].to;
-    for j in 0..order.len() {
-        if arcs[order[j] as usize].from == entered && j <= place {
-            return false;
-        }
-    }
-    true
-}
-
-/// Whether each number is that of an arc.
-fn are_arcs(order: &[u32], count: usize) -> bool
-    ensures { OnTrue result (All (λ n. n < count) order.now) }
-{
-    for n in order {
-        if *n as usize >= count {
-            return false;
-        }
-    }
-    true
-}
-
-/// Whether the numbers are an order of the arcs.
-fn is_order(arcs: &[TimingArc], order: &[u32]) -> bool
-    requires { length arcs.now ≤ 1000 }
-    ensures { OnTrue result (IsOrder arcs.now order.now) }
-{
-    if order.len() != arcs.len()
-        || !has_all(order, arcs.len() as u32)
-        || !are_arcs(order, arcs.len())
-    {
-        return false;
-    }
-    for place in 0..order.len() {
-        if !is_sooner(arcs, order, place) {
-            return false;
-        }
-    }
-    true
-}
-
-/// A table, an order of its arcs, the text of its certificate before the chain, and the texts of the chains that are right.
+/// A table, the text of its certificate before the chain, and the texts of the chains that are right.
 #[derive(Clone, Copy)]
 struct Row {
     name: &'static str,
     table: &'static str,
-    order: &'static [u32],
     answer: &'static str,
     chains: &'static [&'static str],
 }
@@ -103,12 +29,7 @@ struct Row {
 fn system_of(rt: &impl Abort, alloc: Global, row: &Row) -> Result<System, Stop> {
     assert!(rt; row.table.len() < 100_000);
     let flat = read_table(alloc, row.table.as_bytes())?;
-    assert!(rt; flat.arcs().len() <= 1_000);
-    assert!(rt; is_order(flat.arcs(), row.order));
-    let Ok(items) = Vec::from_slice(alloc, row.order) else {
-        return Err(Stop::OutOfMemory);
-    };
-    let order = Order::new(Numbers::new(items));
+    let order = order(alloc, &flat)?;
     let pairs = extremes(alloc, &flat, &order)?;
     Ok(System::new(flat, order, pairs))
 }
@@ -128,7 +49,6 @@ fn counted<L: Ledger>(alloc: Global, system: &System, blank: Blank) -> Option<(C
 const TWO_LATCHES: Row = Row {
     name: "optimise-two-latch-loop",
     table: "table 1\nphases 2\nphase phi1\nphase phi2\nelements 2\nelement a 1 10 - 10 10 0\nelement b 2 10 - 10 10 0\ninner 0\narcs 2\narc q0 d1 20 20\narc q1 d0 60 60\nbounds 0\nend\n",
-    order: &[0, 1],
     answer: "certificate 2\nleast\nden 1\ncycle 100\nphases 2\nphase 0 10\nphase 10 30\ndepartures 2\ndeparture 0\ndeparture 20\n",
     chains: &[
         "chain 2\nreach 0 1 1 0\nreach 1 0 1 1\nend\n",
@@ -144,7 +64,6 @@ fn rows_have_their_certificates(rt: HostRuntime) -> Result<(), Fail> {
         Row {
             name: "optimise-half-step",
             table: "table 1\nphases 1\nphase p\nelements 2\nelement a 1 0 - 0 0 0\nelement b 1 0 - 0 0 0\ninner 0\narcs 2\narc q0 d1 31 31\narc q1 d0 20 20\nbounds 0\nend\n",
-            order: &[0, 1],
             answer: "certificate 2\nleast\nden 2\ncycle 51\nphases 1\nphase 0 11\ndepartures 2\ndeparture 0\ndeparture 11\n",
             chains: &[
                 "chain 2\nreach 0 1 1 0\nreach 1 0 1 1\nend\n",
@@ -154,7 +73,6 @@ fn rows_have_their_certificates(rt: HostRuntime) -> Result<(), Fail> {
         Row {
             name: "optimise-no-elements",
             table: "table 1\nphases 1\nphase p\nelements 0\ninner 0\narcs 0\nbounds 0\nend\n",
-            order: &[],
             answer: "certificate 2\nleast\nden 1\ncycle 0\nphases 1\nphase 0 0\ndepartures 0\n",
             chains: &[
                 "chain 2\nstart 1\ncycle 1\nend\n",
@@ -166,7 +84,6 @@ fn rows_have_their_certificates(rt: HostRuntime) -> Result<(), Fail> {
         Row {
             name: "optimise-never",
             table: "table 1\nphases 1\nphase p\nelements 1\nelement a 1 10 - 0 0 0\ninner 0\narcs 0\nbounds 1\nbound e1 s1 -5 0\nend\n",
-            order: &[],
             answer: "certificate 2\nnever\n",
             chains: &[
                 "chain 3\nopen 0\nsetup 0\nbound 0\nend\n",
@@ -179,7 +96,6 @@ fn rows_have_their_certificates(rt: HostRuntime) -> Result<(), Fail> {
         Row {
             name: "optimise-two-tight-chains",
             table: "table 1\nphases 2\nphase phi1\nphase phi2\nelements 2\nelement a 1 10 - 10 10 0\nelement b 2 70 - 10 10 0\ninner 0\narcs 2\narc q0 d1 20 20\narc q1 d0 60 60\nbounds 0\nend\n",
-            order: &[0, 1],
             answer: "certificate 2\nleast\nden 1\ncycle 100\nphases 2\nphase 0 10\nphase 10 90\ndepartures 2\ndeparture 0\ndeparture 20\n",
             chains: &[
                 "chain 2\nreach 0 1 1 0\nreach 1 0 1 1\nend\n",
@@ -193,7 +109,6 @@ fn rows_have_their_certificates(rt: HostRuntime) -> Result<(), Fail> {
         Row {
             name: "optimise-flops",
             table: "table 2\nphases 1\nphase p\nelements 2\nelement a 1 flop 5 - 10 10 0\nelement b 1 flop 5 - 10 10 0\ninner 0\narcs 2\narc q0 d1 85 85\narc q1 d0 35 35\nbounds 0\nend\n",
-            order: &[0, 1],
             answer: "certificate 2\nleast\nden 1\ncycle 100\nphases 1\nphase 0 0\ndepartures 2\ndeparture 0\ndeparture 0\n",
             chains: &[
                 "chain 2\nreach 0 1 1 0\nsetup 1\nend\n",
@@ -203,7 +118,6 @@ fn rows_have_their_certificates(rt: HostRuntime) -> Result<(), Fail> {
         Row {
             name: "optimise-enable-delay",
             table: "table 3\nphases 2\nphase phi1\nphase phi2\nelements 2\nelement a 1 latch 10 - 10 10 4 4 0\nelement b 2 latch 10 - 10 10 10 10 0\ninner 0\narcs 2\narc q0 d1 20 20\narc q1 d0 60 60\nbounds 0\nend\n",
-            order: &[0, 1],
             answer: "certificate 2\nleast\nden 1\ncycle 100\nphases 2\nphase 0 10\nphase 10 24\ndepartures 2\ndeparture -6\ndeparture 14\n",
             chains: &[
                 "chain 2\nreach 0 1 1 0\nreach 1 0 1 1\nend\n",

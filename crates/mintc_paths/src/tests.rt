@@ -1,86 +1,13 @@
 //! Tests of what no clause says: the worked designs, and small ones against a plain listing of all paths.
-ghost use Rattle.std.specs.Prelude.{◌≡◌, ◌<◌, ◌≤◌, ℕ, length, slice_index, Contains, All};
 ghost use Rattle.std.specs.Bool.{OnTrue};
-ghost use Rattle.mintc_timing.specs.Order.{IsOrder};
-ghost use Rattle.mintc_timing.specs.Paths.{arc_at};
 ghost use Rattle.mintc_paths.specs.Trace.{IsPairOf};
 
 use super::*;
+use mintc_order::order;
 use mintc_timing::{TimingArc, read_table};
 use std::alloc::AllocError;
 use std::process::Abort;
 use std::test::Fail;
-
-/// Whether the list has the number.
-fn has(order: &[u32], number: u32) -> bool
-    ensures { OnTrue result (Contains order.now number) }
-{
-    for place in 0..order.len() {
-        if order[place] == number {
-            return true;
-        }
-    }
-    false
-}
-
-/// Whether the list has the number of each of so many arcs.
-fn has_all(order: &[u32], count: u32) -> bool
-    ensures { OnTrue result ((n : ℕ) → n < count → Contains order.now n) }
-{
-    for number in 0..count {
-        if !has(order, number) {
-            return false;
-        }
-    }
-    true
-}
-
-/// Whether the arc at a place stands before all arcs that leave the bit that it enters.
-fn is_sooner(arcs: &[TimingArc], order: &[u32], place: usize) -> bool
-    requires place { place < length order.now }
-    requires arcs { All (λ n. n < length arcs.now) order.now }
-    ensures { OnTrue result ((j : ℕ) → j < length order.now
-        → (arc_at arcs.now (slice_index order.now place)).to ≡ (arc_at arcs.now (slice_index order.now j)).from → place < j) }
-{
-    let entered = arcs[order[place] as usize].to;
-    for j in 0..order.len() {
-        if arcs[order[j] as usize].from == entered && j <= place {
-            return false;
-        }
-    }
-    true
-}
-
-/// Whether each number is that of an arc.
-fn are_arcs(order: &[u32], count: usize) -> bool
-    ensures { OnTrue result (All (λ n. n < count) order.now) }
-{
-    for n in order {
-        if *n as usize >= count {
-            return false;
-        }
-    }
-    true
-}
-
-/// Whether the numbers are an order of the arcs.
-fn is_order(arcs: &[TimingArc], order: &[u32]) -> bool
-    requires { length arcs.now ≤ 1000 }
-    ensures { OnTrue result (IsOrder arcs.now order.now) }
-{
-    if order.len() != arcs.len()
-        || !has_all(order, arcs.len() as u32)
-        || !are_arcs(order, arcs.len())
-    {
-        return false;
-    }
-    for place in 0..order.len() {
-        if !is_sooner(arcs, order, place) {
-            return false;
-        }
-    }
-    true
-}
 
 /// Whether some pair is of these two elements.
 fn is_pair(pairs: &[Pair], from: u32, to: u32) -> bool
@@ -95,14 +22,13 @@ fn is_pair(pairs: &[Pair], from: u32, to: u32) -> bool
     false
 }
 
-/// A table with so many elements and inner bits, and these arcs in this order.
+/// A table with so many elements and inner bits, and these arcs.
 #[derive(Clone, Copy)]
 struct Case {
     name: &'static str,
     elements: u32,
     inner: u32,
     arcs: &'static [&'static str],
-    order: &'static [u32],
 }
 
 /// The text of a case's table.
@@ -128,12 +54,7 @@ fn system_of(rt: &impl Abort, alloc: Global, case: &Case) -> Result<System, Stop
     };
     assert!(rt; text.len() < 100_000);
     let flat = read_table(alloc, text.as_bytes())?;
-    assert!(rt; flat.arcs().len() <= 1_000);
-    assert!(rt; is_order(flat.arcs(), case.order));
-    let Ok(items) = Vec::from_slice(alloc, case.order) else {
-        return Err(Stop::OutOfMemory);
-    };
-    let order = Order::new(Numbers::new(items));
+    let order = order(alloc, &flat)?;
     let pairs = extremes(alloc, &flat, &order)?;
     Ok(System::new(flat, order, pairs))
 }
@@ -190,7 +111,6 @@ const NINE: Case = Case {
         "q8 n0 9 9",
         "n0 d0 0 0",
     ],
-    order: &[0, 1, 2, 3, 4, 5, 6, 7, 8, 9],
 };
 
 const INNER: Case = Case {
@@ -198,7 +118,6 @@ const INNER: Case = Case {
     elements: 2,
     inner: 1,
     arcs: &["q0 n0 15 15", "n0 d1 5 5", "q1 d0 60 60"],
-    order: &[2, 0, 1],
 };
 
 const PATHS: Case = Case {
@@ -206,7 +125,6 @@ const PATHS: Case = Case {
     elements: 2,
     inner: 1,
     arcs: &["q0 d1 20 20", "q0 n0 1 1", "n0 d1 2 2"],
-    order: &[1, 0, 2],
 };
 
 const AT_LIMIT: Case = Case {
@@ -214,7 +132,6 @@ const AT_LIMIT: Case = Case {
     elements: 1,
     inner: 1,
     arcs: &["q0 n0 1000000000 1000000000", "n0 d0 0 0"],
-    order: &[0, 1],
 };
 
 const ABOVE_LIMIT: Case = Case {
@@ -222,7 +139,6 @@ const ABOVE_LIMIT: Case = Case {
     elements: 1,
     inner: 1,
     arcs: &["q0 n0 1000000000 1000000000", "n0 d0 1 1"],
-    order: &[0, 1],
 };
 
 const UNLED: Case = Case {
@@ -230,7 +146,6 @@ const UNLED: Case = Case {
     elements: 1,
     inner: 3,
     arcs: &["n0 n1 1000000000 1000000000", "n1 n2 1 1", "q0 d0 5 6"],
-    order: &[0, 1, 2],
 };
 
 const NONE: Case = Case {
@@ -238,7 +153,6 @@ const NONE: Case = Case {
     elements: 2,
     inner: 0,
     arcs: &[],
-    order: &[],
 };
 
 const PARALLEL: Case = Case {
@@ -257,7 +171,6 @@ const PARALLEL: Case = Case {
         "q1 d0 10 40",
         "q1 d0 20 30",
     ],
-    order: &[8, 1, 0, 3, 2, 7, 6, 5, 4, 9],
 };
 
 const SELVES: Case = Case {
@@ -273,7 +186,6 @@ const SELVES: Case = Case {
         "n1 d2 7 7",
         "q2 n1 2 2",
     ],
-    order: &[6, 1, 3, 5, 4, 2, 0],
 };
 
 const ENDS: Case = Case {
@@ -287,7 +199,6 @@ const ENDS: Case = Case {
         "q0 n2 3 3",
         "q1 n1 1 5",
     ],
-    order: &[1, 4, 2, 0, 3],
 };
 
 const DIAMOND: Case = Case {
@@ -301,7 +212,6 @@ const DIAMOND: Case = Case {
         "n0 n1 1 1",
         "q0 n0 2 3",
     ],
-    order: &[4, 3, 1, 2, 0],
 };
 
 const ELEVEN: Case = Case {
@@ -326,7 +236,6 @@ const ELEVEN: Case = Case {
         "q8 d8 1 2",
         "q9 d0 3 4",
     ],
-    order: &[15, 10, 9, 8, 7, 6, 5, 4, 3, 2, 1, 0, 11, 13, 12, 14],
 };
 
 #[test]
