@@ -1,11 +1,10 @@
 use Rattle.std.proofs.Common.{◌≡◌, ℕ, zero, suc, ℤ, pos, negsuc, ◌*◌, ◌^◌, ◌+ℤ◌, ◌-ℤ◌, ◌*ℤ◌, ◌<◌, ◌≤◌, refl, ⊎_elim, ◌⊎◌, inl, inr, ap, arith}
-use Rattle.std.proofs.lemmas.Int.{ints, unsigned_abs-mul, to_z-of_z, fits_signed_from_abs}
+use Rattle.std.proofs.lemmas.Int.{ints, to_z-of_z, fits_signed_from_abs}
 use Rattle.std.proofs.Common.{SFits, to_z, of_z, lit<}
 use Rattle.std.specs.Int.{w64, w128}
 use borrow.Author.Differences.{up, down, sum_is_lem}
 use Rattle.mintc_fraction.specs.Ratio.{over}
 use Rattle.mintc_ratio.specs.Weighed.{IsTestable}
-use Rattle.std.specs.Int.RustNames.{unsigned_abs}
 use Rattle.mintc_walks.specs.Bounds.{IsWithin}
 use Rattle.mintc_walks.proofs.Within.{abs_within, IsWithin-product}
 
