@@ -1,5 +1,5 @@
 //! Tests of the calls on a system, of what no clause says: with memory they give their texts.
-ghost use Rattle.std.specs.Prelude.{◌≡◌, ◌≤◌, [], All, IfSome, length};
+ghost use Rattle.std.specs.Prelude.{◌≡◌, ◌≤◌, [], pos, false, All, IfOk, IfSome, length};
 ghost use Rattle.mintc_timing.specs.Limits.{IsBound, IsInRange};
 
 use crate::{fail_text, pass_text, report_text};
@@ -14,7 +14,9 @@ use std::alloc::Global;
 use std::test::Fail;
 
 /// A latch of this name, with no delays.
-pub(crate) fn element(alloc: Global, name: &str) -> Result<Element, OutOfMemory> {
+pub(crate) fn element(alloc: Global, name: &str) -> Result<Element, OutOfMemory>
+    ensures { IfOk result (λ e. e ≡ record { name = name.now; phase = 1; flop = false; setup = pos 0; hold = pos 0; has_hold = false; dq_min = pos 0; dq_max = pos 0; cq_min = pos 0; cq_max = pos 0; width = pos 0 }) }
+{
     Ok(Element {
         name: Name::new(alloc, name.as_bytes())?,
         phase: 1,
