@@ -1,8 +1,8 @@
 //! The rows of the bits' sums. They stand in the order in which the arcs come to their bits, so that arcs that are
 //! carried along one after another find their sums near each other.
-ghost use Rattle.std.specs.Prelude.{◌≡◌, ◌+◌, ◌*◌, ◌<◌, ◌≤◌, ◌^◌, ℕ, length, IfOk};
+ghost use Rattle.std.specs.Prelude.{◌≡◌, ◌+◌, ◌*◌, ◌<◌, ◌^◌, ℕ, length, IfOk};
 ghost use Rattle.mintc_timing.specs.Order.{IsOrder};
-ghost use Rattle.mintc_paths.specs.Sums.{row_of, AreRows, AreAlong, IsCourse};
+ghost use Rattle.mintc_paths.specs.Sums.{row_of, AreRows, IsCourse};
 
 use mintc_timing::{Flat, Order, TimingArc};
 use std::alloc::{AllocError, Global};
