@@ -6,3 +6,4 @@ pub mod Refusals
 pub mod Sums
 pub mod Trace
 pub mod Longest
+pub mod Existing

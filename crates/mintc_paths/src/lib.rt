@@ -11,6 +11,7 @@ ghost use Rattle.mintc_paths.specs.Trace.{IsPairOf};
 
 mod blocks;
 mod found;
+mod laws;
 mod long;
 mod longest;
 mod route;
@@ -20,6 +21,7 @@ mod trace;
 
 use blocks::find;
 use found::Found;
+pub use laws::pairs_exist;
 use mintc_text::{Kind, Numbers, OutOfMemory, Refusal, Stop};
 use mintc_timing::{Flat, Order, Pair, System};
 use route::best_path;
