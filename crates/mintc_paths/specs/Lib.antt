@@ -7,3 +7,4 @@ pub mod Sums
 pub mod Trace
 pub mod Longest
 pub mod Existing
+pub mod Finding
