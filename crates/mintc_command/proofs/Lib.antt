@@ -5,3 +5,4 @@ pub mod AnswerLaws
 pub mod SourceLaws
 pub mod JudgementLaws
 pub mod RefusalLaws
+pub mod OptimumLaws

@@ -14,12 +14,13 @@ use Rattle.mintc_certificate.specs.declared.certificate.Certificate.{Certificate
 use Rattle.mintc_certificate.specs.declared.certificate.Certificate.TheVariants.{Least, Never}
 use Rattle.mintc_certificate.specs.CertificateText.{IsCertificateText, IsCertificateRefusal}
 use Rattle.mintc_certificate.specs.Optimal.{IsOptimal}
+use Rattle.mintc_certificate.specs.Ranges.{IsCertificateInRange}
 use Rattle.mintc_certificate.specs.Valid.{IsValid}
 use Rattle.mintc_certificate.specs.Written.{lines_of}
 use Rattle.mintc_checker.specs.declared.verdict.Verdict.{Verdict}
 use Rattle.mintc_checker.specs.declared.verdict.Verdict.TheVariants.{Valid, Invalid}
 use Rattle.mintc_checker.specs.Verdicts.{IsVerdict}
-use Rattle.mintc_optimise.specs.Optimum.{HasEarliest}
+use Rattle.mintc_optimise.specs.Optimum.{HasEarliest, HasSimple}
 use Rattle.mintc_report.specs.Answers.{IsPassText, IsFailText}
 use Rattle.mintc_report.specs.Reports.{IsReportText, verdict_text_of}
 use Rattle.mintc_command.specs.declared.command.Job.{Job}
@@ -52,6 +53,8 @@ pub record IsOptimum (t : Timing) (certificate : Certificate) : Type 0 where
   pub valid : IsValid t certificate
   pub optimal : IsOptimal t certificate
   pub earliest : HasEarliest t certificate
+  pub simple : HasSimple t certificate
+  pub in_range : IsCertificateInRange certificate
 
 -- how a run ends that has this certificate, and one that has this verdict
 abbrev pub certificate_status : Certificate → Status

@@ -1,8 +1,8 @@
 //! What the definitions of refusals and answers say: a law is the contract of a function that only calls laws.
-ghost use Rattle.mintc_command.specs.Laws.{RefusalsAreDetermined, RefusalsExcludeAnswers};
+ghost use Rattle.mintc_command.specs.Laws.{OptimaAreVerified, RefusalsAreDetermined, RefusalsExcludeAnswers};
 
 use mintc_build::{accepted_designs_are_not_refused, design_refusals_are_determined};
-use mintc_certificate::certificate_texts_are_plain;
+use mintc_certificate::{certificate_texts_are_plain, written_certificates_are_read};
 use mintc_timing::{schedule_texts_are_plain, table_texts_are_plain};
 
 /// Where there is a first refusal, its line is the only answer.
@@ -24,4 +24,11 @@ pub fn refusals_are_determined()
     certificate_texts_are_plain();
     accepted_designs_are_not_refused();
     design_refusals_are_determined();
+}
+
+/// What `optimise` answers, `verify` calls valid.
+pub fn optima_are_verified()
+    ensures { OptimaAreVerified }
+{
+    written_certificates_are_read();
 }

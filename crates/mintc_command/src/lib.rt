@@ -16,7 +16,7 @@ mod source;
 mod status;
 mod verifying;
 
-pub use laws::{refusals_are_determined, refusals_exclude_answers};
+pub use laws::{optima_are_verified, refusals_are_determined, refusals_exclude_answers};
 pub use program::run;
 pub use status::Status;
 

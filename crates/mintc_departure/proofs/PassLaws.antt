@@ -1,4 +1,4 @@
-use Rattle.std.proofs.Common.{◌≡◌, ℕ, ◌+◌, ◌-◌, ◌<◌, ◌≤◌, ℤ, pos, ◌≤ℤ◌, ◌+ℤ◌, ◌-ℤ◌, ◌*ℤ◌, Bool, true, false, List, [], ◌∷◌, ◌++◌, map, Option, Some, None, IfSome, MatchBool, IsTrue, ◌↔◌, inl, inr, arith, sym, ◌∙◌, subst, option_map}
+use Rattle.std.proofs.Common.{◌≡◌, ℕ, ◌+◌, ◌-◌, ◌<◌, ◌≤◌, ℤ, pos, ◌≤ℤ◌, ◌+ℤ◌, ◌-ℤ◌, ◌*ℤ◌, Bool, true, false, List, [], ◌∷◌, ◌++◌, map, Option, Some, None, IfSome, MatchBool, IsTrue, ◌↔◌, inl, inr, arith, refl, sym, ◌∙◌, subst, option_map}
 use Rattle.std.proofs.lemmas.Int.{ints, clamps}
 use Rattle.std.specs.Int.{int_max}
 use Rattle.std.specs.List.{All, enumerate_from, filter, filter_map, range_with_len}
@@ -16,9 +16,9 @@ use Rattle.mintc_timing.specs.Extremes.{greatest_of}
 use Rattle.mintc_timing.specs.Right.{IsRight, KeepsHold, KeepsSetup}
 use Rattle.mintc_timing.specs.Violations.{check, failed, phases_of, elements_of, cycle_checks, order_checks, span_checks, width_checks, apart_checks, bound_checks, clock_checks, setup_amount, setup_checks, hold_amount, hold_checks}
 use Rattle.mintc_timing.proofs.AmountLaws.{setups_have_amounts_lem, holds_have_amounts_lem}
-use Rattle.mintc_timing.proofs.DeterminedLaws.{early_are_determined_lem}
+use Rattle.mintc_timing.proofs.DeterminedLaws.{early_are_determined_lem, late_are_determined_lem}
 use Rattle.mintc_timing.proofs.Loops.{no_loop}
-use Rattle.mintc_departure.specs.Laws.{InRangeIsOfPhases, IsOfPhases, IsPass, PassMeansRight}
+use Rattle.mintc_departure.specs.Laws.{InRangeIsOfPhases, IsOfPhases, IsPass, PassIsRightWithLate, PassMeansRight}
 use Rattle.mintc_departure.proofs.EarlyLaws.{everywhere}
 use Rattle.mintc_departure.proofs.Greater.{greatest-mono}
 use Rattle.mintc_departure.proofs.KeptLaws.{IsKept, moved, nil-right, kept-append, kept-map, kept-flat, kept-tested, kept-optional, range-each, each-range}
@@ -217,3 +217,11 @@ in_range_is_of_phases_lem t s range phases = record {
   from_zero = λ k d h. (range.starts k d h).0;
   not_negative = λ k d h. (range.widths k d h).0;
 }
+
+pub pass_is_right_with_late_lem : PassIsRightWithLate
+unfolding pass-from_none
+pass_is_right_with_late_lem t s late pairs plain (inl h) is =
+    absurd (no_end (failed (clock_checks t s)) (check (broken.Loop h.0) h.1) [] h.3 refl)
+pass_is_right_with_late_lem t s late pairs plain (inr h) is =
+    let pass = pass-from_none t s plain h.1.0 h.1.1 h.1.2 h.1.3 (sym h.1.4) in
+    subst (λ (d : List ℤ). IsRight t s d) (late_are_determined_lem t s h.1.0 late h.1.2 is) pass.0.1

@@ -4,7 +4,7 @@ use Rattle.mintc_timing.specs.declared.violation.Violation.{Violation}
 use Rattle.mintc_timing.specs.Design.{Timing, element_count, phase_count}
 use Rattle.mintc_timing.specs.Limits.{IsInRange}
 use Rattle.mintc_timing.specs.Paths.{ArePairs}
-use Rattle.mintc_timing.specs.Departures.{AreEarly}
+use Rattle.mintc_timing.specs.Departures.{AreEarly, AreLate}
 use Rattle.mintc_timing.specs.Right.{IsRight, KeepsHold}
 use Rattle.mintc_timing.specs.Violations.{AreViolations}
 
@@ -30,3 +30,7 @@ IsPass t s =
 -- A schedule breaks nothing exactly where it passes.
 abbrev pub PassMeansRight : Type 0
 PassMeansRight = (t : Timing) (s : Schedule) (vs : List Violation) → ArePairs t.flat t.pairs → IsOfPhases t s → AreViolations t s vs → (vs ≡ []) ↔ IsPass t s
+
+-- And then it is right with its late departures.
+abbrev pub PassIsRightWithLate : Type 0
+PassIsRightWithLate = (t : Timing) (s : Schedule) (late : List ℤ) → ArePairs t.flat t.pairs → IsOfPhases t s → AreViolations t s [] → AreLate t s late → IsRight t s late

@@ -15,7 +15,9 @@ mod settling;
 mod tests;
 
 pub use judging::violations;
-pub use laws::{a_pass_means_right, schedules_in_range_are_of_phases};
+pub use laws::{
+    a_pass_is_right_with_late_departures, a_pass_means_right, schedules_in_range_are_of_phases,
+};
 pub use mintc_timing::{Broken, Violation};
 pub use rounds::early;
 pub use settling::{Settling, late};

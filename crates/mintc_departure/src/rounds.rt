@@ -79,6 +79,8 @@ pub(crate) fn rise_early(system: &System, schedule: &Schedule, room: &mut Room)
     requires late { AreLate system.now schedule.now room.old.late }
     ensures early { AreEarly system.now schedule.now room.new.early }
     ensures late { room.new.late ≡ room.old.late }
+    ensures before { room.new.before ≡ room.old.before }
+    ensures chain { room.new.chain ≡ room.old.chain }
     ensures nodes { room.new.nodes ≡ room.old.nodes }
     ensures links { room.new.links ≡ room.old.links }
     ensures count { length room.new.values ≡ element_count system.now }
@@ -103,6 +105,8 @@ pub fn early(system: &System, schedule: &Schedule, room: &mut Room)
     requires late { AreLate system.now schedule.now room.old.late }
     ensures early { AreEarly system.now schedule.now room.new.early }
     ensures late { room.new.late ≡ room.old.late }
+    ensures before { room.new.before ≡ room.old.before }
+    ensures chain { room.new.chain ≡ room.old.chain }
     ensures nodes { room.new.nodes ≡ room.old.nodes }
     ensures links { room.new.links ≡ room.old.links }
 {

@@ -1,5 +1,5 @@
 //! The late departures, or a loop round which data comes later each time.
-ghost use Rattle.std.specs.Prelude.{◌≡◌, ◌<◌, ◌≤◌, ◌+◌, ◌*◌, ℕ, length};
+ghost use Rattle.std.specs.Prelude.{◌≡◌, [], ◌<◌, ◌≤◌, ◌+◌, ◌*◌, ℕ, length};
 ghost use Rattle.mintc_walks.specs.Walks.{value_at};
 ghost use Rattle.mintc_timing.specs.Design.{element_count, phase_count};
 ghost use Rattle.mintc_timing.specs.Limits.{IsDesign, IsInRange};
@@ -70,6 +70,9 @@ fn settle<L: Ledger>(
     requires phases { length schedule.now.starts ≡ phase_count system.now }
     requires room { element_count system.now ≤ room.old.nodes }
     ensures settled { HasSettled system.now schedule.now room.new result }
+    ensures none { result ≡ Settling.Settled → room.new.chain ≡ [] }
+    ensures late { result ≡ Settling.Loop → room.new.late ≡ room.old.late }
+    ensures early { room.new.early ≡ room.old.early }
     ensures nodes { room.new.nodes ≡ room.old.nodes }
     ensures links { room.new.links ≡ room.old.links }
 {
@@ -104,6 +107,9 @@ pub fn late(system: &System, schedule: &Schedule, room: &mut Room) -> Settling
     requires phases { length schedule.now.starts ≡ phase_count system.now }
     requires room { 1 + 2 * phase_count system.now + element_count system.now ≤ room.old.nodes }
     ensures settled { HasSettled system.now schedule.now room.new result }
+    ensures none { result ≡ Settling.Settled → room.new.chain ≡ [] }
+    ensures late { result ≡ Settling.Loop → room.new.late ≡ room.old.late }
+    ensures early { room.new.early ≡ room.old.early }
     ensures nodes { room.new.nodes ≡ room.old.nodes }
     ensures links { room.new.links ≡ room.old.links }
 {

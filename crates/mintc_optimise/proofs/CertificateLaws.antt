@@ -1,14 +1,14 @@
 -- What is made of the answer of a search over a design's links is a certificate.
-use Rattle.std.proofs.Common.{◌≡◌, ℕ, ◌-◌, ◌<◌, ◌≤◌, ℤ, pos, ◌≤ℤ◌, ◌-ℤ◌, Bool, false, cond, List, [], ◌∷◌, length, arith, refl, ap, sym, ◌∙◌, subst}
-use Rattle.std.specs.List.{All}
+use Rattle.std.proofs.Common.{◌≡◌, ◌≢◌, ℕ, ◌-◌, ◌<◌, ◌≤◌, ℤ, pos, ◌≤ℤ◌, ◌-ℤ◌, ◌+ℤ◌, ◌*ℤ◌, Bool, false, cond, List, [], ◌∷◌, length, arith, refl, ap, sym, ◌∙◌, subst}
+use Rattle.std.specs.List.{All, AllPairs, Contains}
 use Rattle.std.proofs.lemmas.Int.{ints}
-use Rattle.std.proofs.lemmas.List.{length-map}
+use Rattle.std.proofs.lemmas.List.{length-map, get_or-map}
 use Rattle.std.proofs.lemmas.List.FromFn.{get_or-map-range_with_len, length-map-range_with_len}
 use Rattle.mintc_fraction.specs.Ratio.{Ratio}
 use Rattle.mintc_walks.specs.Walks.{value_at}
 use Rattle.mintc_timing.specs.declared.link.Link.{Link}
 use Rattle.mintc_timing.specs.declared.clocking.Schedule.{Schedule}
-use Rattle.mintc_timing.specs.Clocking.{start_of, width_of}
+use Rattle.mintc_timing.specs.Clocking.{start_of, width_of, end_of}
 use Rattle.mintc_timing.specs.Closed.{IsClosed}
 use Rattle.mintc_timing.specs.Departures.{departure}
 use Rattle.mintc_timing.specs.Design.{Timing, element_at, element_count, phase_count, phase_of, no_element}
@@ -26,6 +26,7 @@ use Rattle.mintc_ratio.specs.declared.searching.Outcome.TheVariants as outcome
 use Rattle.mintc_ratio.specs.Chains.{NamesChain, links_at}
 use Rattle.mintc_ratio.specs.Searched.{HasSearched, IsLeast, IsStuck, IsTight}
 use Rattle.mintc_ratio.proofs.SumsLaws.{few_links}
+use Rattle.mintc_ratio.proofs.FinerLaws.{finer_lem}
 use Rattle.mintc_certificate.specs.declared.members.Member.{Member}
 use Rattle.mintc_certificate.specs.declared.certificate.Certificate.{Certificate}
 use Rattle.mintc_certificate.specs.declared.certificate.Certificate.TheVariants.{Least, Never}
@@ -34,7 +35,7 @@ use Rattle.mintc_certificate.specs.Ranges.{IsCertificateInRange, IsChainInRange,
 use Rattle.mintc_certificate.specs.Valid.{IsRing, IsValid, counts, clock, bounds, departures, setups, ring, sums, link_of, links_of_members}
 use Rattle.mintc_optimise.specs.Bounded.{CertifiesNeverOnlyWithBounds}
 use Rattle.mintc_optimise.specs.Making.{AreSayable, StandForAll}
-use Rattle.mintc_optimise.specs.Optimum.{HasEarliest, IsEarliest, IsSolution}
+use Rattle.mintc_optimise.specs.Optimum.{HasEarliest, HasSimple, IsEarliest, IsSimple, IsSolution}
 use Rattle.mintc_optimise.proofs.SayingLaws.{are_sayable}
 use Rattle.mintc_optimise.proofs.SolvedLaws.{solved_here}
 use Rattle.mintc_optimise.proofs.UnboundedLaws.{never_needs_a_bound_lem}
@@ -45,8 +46,15 @@ pub record IsAnswer (t : Timing) (certificate : Certificate) : Type 0 where
   pub valid : IsValid t certificate
   pub optimal : IsOptimal t certificate
   pub earliest : HasEarliest t certificate
+  pub simple : HasSimple t certificate
   pub bounded : CertifiesNeverOnlyWithBounds t certificate
   pub in_range : IsCertificateInRange certificate
+
+-- what differs by number, differs by link
+AllPairs-named : (links : List Link) (chain : List ℕ) → AllPairs (λ a b. (link_at links a).to ≢ (link_at links b).to) chain → AllPairs (λ (x y : Link). x.to ≢ y.to) (links_at links chain)
+AllPairs-named links chain h i j k less inside e =
+    let count = length-map chain (link_at links) in
+    h i j 0 less (omega arith) (ap (λ (x : Link). x.to) (sym (get_or-map (link_at links) chain i 0 k (omega arith))) ∙ e ∙ ap (λ (x : Link). x.to) (get_or-map (link_at links) chain j 0 k (omega arith)))
 
 some_closed : (ks : List Link) → IsClosed (λ k. k.from) (λ k. k.to) ks → 1 ≤ length ks
 some_closed [] h = absurd h
@@ -79,6 +87,12 @@ module _ (t : Timing) (limits : IsDesign t.flat) (kept : IsTiming t.flat t.order
 
     cycles : cycles_of (links_of_members t members) ≡ cycles_of (links_at (links_of t) chain)
     cycles = ap (λ (ks : List Link). cycles_of ks) stand.same
+
+    simple_here : IsSimple t members
+    simple_here = record {
+      listed = subst (λ (ks : List Link). All (Contains (links_of t)) ks) (sym stand.same) named.chain.listed;
+      once = subst (λ (ks : List Link). AllPairs (λ a b. a.to ≢ b.to) ks) (sym stand.same) (AllPairs-named (links_of t) chain named.once);
+    }
 
     chain_in : IsChainInRange members
     chain_in =
@@ -143,25 +157,29 @@ module _ (t : Timing) (limits : IsDesign t.flat) (kept : IsTiming t.flat t.order
         ∙ ap (λ (b : Bool). cond b (pos 0) (value_at room.values (element_node t l) -ℤ value_at room.values (start_node (phase_of t l)))) latch
 
     -- No solution has a moment before the room's value.
-    least_at : (moment : ℕ → ℤ) → IsSolution t s moment → (node : ℕ) → node < node_count t → value_at room.values node ≤ℤ moment node
-    least_at moment solution node h = found.values.least moment solution.origin solution.met node h
+    least_at : (factor : ℤ) (moment : ℕ → ℤ) → IsSolution t s factor moment → (node : ℕ) → node < node_count t → (value_at room.values node *ℤ factor) ≤ℤ moment node
+    least_at factor moment solution node h = finer_lem (constraints_of (node_count t) (links_of t)) cycle room.values factor moment found.values solution.origin solution.met node h
 
     earliest_here : IsEarliest t s d
     earliest_here = record {
       lowest = found.cycle_is.lowest;
-      starts = λ moment solution p low high.
-          let is = start_is p (low, high) in
-          let least = least_at moment solution (start_node p) (omega arith) in
+      starts = λ factor moment solution p low high.
+          let is = ap (λ x. x *ℤ factor) (start_is p (low, high)) in
+          let least = least_at factor moment solution (start_node p) (omega arith) in
           omega (arith, ints);
-      ends = λ moment solution p low high.
+      ends = λ factor moment solution p low high.
           let start = start_is p (low, high) in
           let width = width_is p (low, high) in
-          let least = least_at moment solution (end_node p) (omega arith) in
+          let ends_at : end_of s p ≡ value_at room.values (end_node p) = omega (arith, ints) in
+          let is = ap (λ x. x *ℤ factor) ends_at in
+          let least = least_at factor moment solution (end_node p) (omega arith) in
           omega (arith, ints);
-      latches = λ moment solution l h latch.
+      latches = λ factor moment solution l h latch.
           let start = start_is (phase_of t l) (limits.each_element l no_element h).phase in
-          let is = departure_is l h latch in
-          let least = least_at moment solution (element_node t l) (omega arith) in
+          let departs = departure_is l h latch in
+          let leaves : start_of s (phase_of t l) +ℤ departure d l ≡ value_at room.values (element_node t l) = omega (arith, ints) in
+          let is = ap (λ x. x *ℤ factor) leaves in
+          let least = least_at factor moment solution (element_node t l) (omega arith) in
           omega (arith, ints);
     }
 
@@ -179,6 +197,7 @@ module _ (t : Timing) (limits : IsDesign t.flat) (kept : IsTiming t.flat t.order
             valid = of_these (λ x y. IsValid t (Least x y members)) (valid_least room.chain found.chain members stand s d cycle refl refl optimal_here.1 found.tight);
             optimal = of_these (λ x y. IsOptimal t (Least x y members)) (optimal_here.1, optimal_here.0);
             earliest = of_these (IsEarliest t) earliest_here;
+            simple = simple_here room.chain found.chain members stand;
             bounded = tt;
             in_range = record { schedule_in = schedule_in; count = omega arith; each = departures_in; chain_in = chain_in room.chain found.chain members stand };
           }
@@ -204,6 +223,7 @@ module _ (t : Timing) (limits : IsDesign t.flat) (kept : IsTiming t.flat t.order
             valid = valid_never room.chain stuck.0 members stands stuck.1;
             optimal = hopeless;
             earliest = tt;
+            simple = simple_here room.chain stuck.0 members stands;
             bounded = never_needs_a_bound_lem t limits kept hopeless;
             in_range = chain_in room.chain stuck.0 members stands;
           }

@@ -1,13 +1,13 @@
 -- The member that stands for a link of a design, by the link's kind.
-use Rattle.std.proofs.Common.{◌≡◌, ℕ, ◌+◌, ◌*◌, ◌<◌, List, length, get_or, arith, refl, ap, sym, subst, ◌∙◌, ◌∷◌, [], ◌++◌, take}
+use Rattle.std.proofs.Common.{◌≡◌, ℕ, ◌+◌, ◌*◌, ◌<◌, ℤ, ◌-ℤ◌, List, length, get_or, arith, refl, ap, sym, subst, ◌∙◌, ◌∷◌, [], ◌++◌, take}
 use Rattle.std.specs.List.{All, Contains}
+use Rattle.std.proofs.lemmas.Int.{ints}
 use Rattle.std.proofs.lemmas.List.{get_or_default, take_more, map-append}
 use Rattle.std.proofs.lemmas.List.Elements.{All-contains, All-push}
-use Rattle.mintc_timing.specs.declared.parts.Pair.{Pair}
 use Rattle.mintc_timing.specs.declared.link.Link.{Link}
 use Rattle.mintc_timing.specs.declared.link.LinkKind.{LinkKind}
 use Rattle.mintc_timing.specs.declared.link.LinkKind.TheVariants as kind
-use Rattle.mintc_timing.specs.Design.{Timing, pair_at, no_pair}
+use Rattle.mintc_timing.specs.Design.{Timing, element_at, element_count, pair_at, no_pair}
 use Rattle.mintc_timing.specs.Limits.{IsDesign}
 use Rattle.mintc_timing.specs.Links.{links_of, bound_link, reach_link}
 use Rattle.mintc_timing.specs.Order.{IsTiming}
@@ -17,7 +17,8 @@ use Rattle.mintc_certificate.specs.declared.members.Member.{Member}
 use Rattle.mintc_certificate.specs.declared.members.Member.TheVariants as member
 use Rattle.mintc_certificate.specs.CertificateText.{IsCounted}
 use Rattle.mintc_certificate.specs.Valid.{IsMember, link_of, no_bound}
-use Rattle.mintc_paths.specs.Trace.{IsPairOf}
+use Rattle.mintc_paths.specs.declared.trace.Extreme.TheVariants.{Greatest}
+use Rattle.mintc_paths.specs.Finding.{IsDelayOf}
 use Rattle.mintc_constraints.specs.Ordinary.{link_at, no_link}
 use Rattle.mintc_ratio.specs.Chains.{links_at}
 use Rattle.mintc_optimise.specs.Making.{StandsFor, StandForAll}
@@ -63,13 +64,23 @@ module _ (t : Timing) (limits : IsDesign t.flat) where
   of_kind k which is listed =
       subst (λ (w : LinkKind). IsOfKind t k w) is (All-contains (λ k. IsOfKind t k k.kind) (links_of t) k (All-links t (λ k. IsOfKind t k k.kind) each_of_kind) listed)
 
-  pub pair_of_reach : (k : Link) (j l : ℕ) → IsOfKind t k (kind.Reach j l) → IsPairOf t.pairs j l
-  pair_of_reach k j l h = (pair_at t h.0, (h.0, h.1, get_or_default t.pairs h.0 (pair_at t h.0) no_pair h.1), h.2, h.3)
+  -- What a reach asks for beside its first element's delay is the greatest one of its pair.
+  pub delay_of_reach : (k : Link) (j l : ℕ) (h : IsOfKind t k (kind.Reach j l)) (delay : ℤ) → delay ≡ k.delay -ℤ (element_at t j).dq_max → delay ≡ (pair_at t h.0).max
+  delay_of_reach k j l h delay is =
+      let asked = ap (λ (x : Link). x.delay) h.4 in
+      omega (arith, ints)
+
+  pub pair_of_reach : (k : Link) (j l : ℕ) → IsOfKind t k (kind.Reach j l) → (delay : ℤ) → delay ≡ k.delay -ℤ (element_at t j).dq_max → IsDelayOf Greatest t.pairs j l delay
+  pair_of_reach k j l h delay is =
+      (pair_at t h.0, (h.0, h.1, get_or_default t.pairs h.0 (pair_at t h.0) no_pair h.1), h.2, h.3, sym (delay_of_reach k j l h delay is))
 
   module _ (kept : IsTiming t.flat t.order t.pairs) where
+    pub leaves : (k : Link) (j l : ℕ) → IsOfKind t k (kind.Reach j l) → j < element_count t
+    leaves k j l h = let from = (kept.extremes.each h.0 no_pair h.1).from in let first = h.2 in omega arith
+
     pub reach_stands : (k : Link) (j l : ℕ) (path : List ℕ) → IsOfKind t k (kind.Reach j l) → IsPath t.flat.arcs j path (input_of l) →
-        All (λ (p : Pair). p.from ≡ j → p.to ≡ l → greatest_delay t.flat.arcs path ≡ p.max) t.pairs → StandsFor t k (member.Reach j l path)
-    reach_stands k j l path h is_path delays =
+        (delay : ℤ) → delay ≡ k.delay -ℤ (element_at t j).dq_max → greatest_delay t.flat.arcs path ≡ delay → StandsFor t k (member.Reach j l path)
+    reach_stands k j l path h is_path asked asked_is summed =
         let ends = kept.extremes.each h.0 no_pair h.1 in
         let from = ends.from in
         let to = ends.to in
@@ -79,7 +90,7 @@ module _ (t : Timing) (limits : IsDesign t.flat) where
         let arcs = limits.arcs in
         let count = kept.ordered.count in
         let short = path_short t.flat.arcs t.order kept.ordered (2 * j + 1) path (2 * l) is_path.1 in
-        let delay = delays h.0 no_pair h.1 h.2 h.3 in
+        let delay = summed ∙ delay_of_reach k j l h asked asked_is in
         record {
           member = (omega arith, omega arith, is_path);
           same = ap (reach_link t j l) delay ∙ h.4;

@@ -1,4 +1,4 @@
-use Rattle.std.specs.Prelude.{◌≡◌, ◌<◌, ℕ, ℤ, pos, ◌+ℤ◌, ◌≤ℤ◌, IsFalse, List, All}
+use Rattle.std.specs.Prelude.{◌≡◌, ◌≢◌, ◌<◌, ℕ, ℤ, pos, ◌+ℤ◌, ◌*ℤ◌, ◌≤ℤ◌, IsFalse, List, All, AllPairs, Contains}
 use Rattle.mintc_fraction.specs.Ratio.{over, IsLowest}
 use Rattle.mintc_timing.specs.declared.clocking.Schedule.{Schedule}
 use Rattle.mintc_timing.specs.Clocking.{EachPhase, start_of, end_of}
@@ -8,22 +8,34 @@ use Rattle.mintc_timing.specs.Links.{links_of, start_node, end_node, element_nod
 use Rattle.mintc_ratio.specs.Greatest.{Meets}
 use Rattle.mintc_certificate.specs.declared.certificate.Certificate.{Certificate}
 use Rattle.mintc_certificate.specs.declared.certificate.Certificate.TheVariants.{Least, Never}
+use Rattle.mintc_certificate.specs.declared.members.Member.{Member}
+use Rattle.mintc_certificate.specs.Valid.{chain_of, links_of_members}
 
--- Moments of the nodes, time 0 at 0, of which each link of the design holds at the schedule's cycle time, over its
--- denominator.
-pub record IsSolution (t : Timing) (s : Schedule) (moment : ℕ → ℤ) : Type 0 where
+-- Moments of the nodes, time 0 at 0, of which each link of the design holds at the schedule's cycle time, over so many times
+-- its denominator. Any solution in fractions can be written so.
+pub record IsSolution (t : Timing) (s : Schedule) (factor : ℤ) (moment : ℕ → ℤ) : Type 0 where
+  pub positive : pos 1 ≤ℤ factor
   pub origin : moment 0 ≡ pos 0
-  pub met : All (Meets (over s.cycle s.den) moment) (links_of t)
+  pub met : All (Meets (over (s.cycle *ℤ factor) (s.den *ℤ factor)) moment) (links_of t)
 
 -- The schedule's denominator is that of its cycle time in lowest terms; and of all solutions at this cycle time its starts,
 -- its ends and the moments at which its latches depart are the least.
 pub record IsEarliest (t : Timing) (s : Schedule) (d : List ℤ) : Type 0 where
   pub lowest : IsLowest (over s.cycle s.den)
-  pub starts : (moment : ℕ → ℤ) → IsSolution t s moment → EachPhase t (λ p. start_of s p ≤ℤ moment (start_node p))
-  pub ends : (moment : ℕ → ℤ) → IsSolution t s moment → EachPhase t (λ p. end_of s p ≤ℤ moment (end_node p))
-  pub latches : (moment : ℕ → ℤ) → IsSolution t s moment → (l : ℕ) → l < element_count t → IsFalse (element_at t l).flop →
-      (start_of s (phase_of t l) +ℤ departure d l) ≤ℤ moment (element_node t l)
+  pub starts : (factor : ℤ) (moment : ℕ → ℤ) → IsSolution t s factor moment → EachPhase t (λ p. (start_of s p *ℤ factor) ≤ℤ moment (start_node p))
+  pub ends : (factor : ℤ) (moment : ℕ → ℤ) → IsSolution t s factor moment → EachPhase t (λ p. (end_of s p *ℤ factor) ≤ℤ moment (end_node p))
+  pub latches : (factor : ℤ) (moment : ℕ → ℤ) → IsSolution t s factor moment → (l : ℕ) → l < element_count t → IsFalse (element_at t l).flop →
+      ((start_of s (phase_of t l) +ℤ departure d l) *ℤ factor) ≤ℤ moment (element_node t l)
 
 abbrev pub HasEarliest : Timing → Certificate → Type 0
 HasEarliest t (Least schedule departures chain) = IsEarliest t schedule departures
 HasEarliest t (Never chain) = Unit {0}
+
+-- The members stand for links of the design, so that each reach has the greatest delay of its pair, and the chain enters
+-- no node twice.
+pub record IsSimple (t : Timing) (members : List Member) : Type 0 where
+  pub listed : All (Contains (links_of t)) (links_of_members t members)
+  pub once : AllPairs (λ a b. a.to ≢ b.to) (links_of_members t members)
+
+abbrev pub HasSimple : Timing → Certificate → Type 0
+HasSimple t certificate = IsSimple t (chain_of certificate)

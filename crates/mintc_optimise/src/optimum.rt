@@ -8,7 +8,7 @@ ghost use Rattle.mintc_certificate.specs.Ranges.{IsCertificateInRange};
 ghost use Rattle.mintc_certificate.specs.Valid.{IsValid};
 ghost use Rattle.mintc_ratio.specs.Searched.{HasSearched};
 ghost use Rattle.mintc_optimise.specs.Bounded.{CertifiesNeverOnlyWithBounds};
-ghost use Rattle.mintc_optimise.specs.Optimum.{HasEarliest};
+ghost use Rattle.mintc_optimise.specs.Optimum.{HasEarliest, HasSimple};
 
 use crate::Bench;
 use crate::chain::members;
@@ -35,6 +35,7 @@ fn certificate(
     ensures valid { IfOk result (IsValid system.now) }
     ensures optimal { IfOk result (IsOptimal system.now) }
     ensures earliest { IfOk result (HasEarliest system.now) }
+    ensures simple { IfOk result (HasSimple system.now) }
     ensures bounded { IfOk result (CertifiesNeverOnlyWithBounds system.now) }
     ensures in_range { IfOk result IsCertificateInRange }
 {
@@ -53,7 +54,8 @@ fn certificate(
 
 /// The least cycle time of a system with its certificate: a right schedule of that cycle with its departures and a chain that
 /// forbids every smaller cycle time; or, which takes a bound, a chain that forbids all. Its starts, its ends and the moments
-/// at which latches depart are the least that any solution has. Which chain is given is free.
+/// at which latches depart are the least that any solution has. The chain enters no node twice, and each of its reaches has
+/// a path with the greatest delay of its pair. Which chain is given is free.
 pub fn optimise<L: Ledger>(
     alloc: Global,
     system: &System,
@@ -62,6 +64,7 @@ pub fn optimise<L: Ledger>(
     ensures valid { IfOk result (IsValid system.now) }
     ensures optimal { IfOk result (IsOptimal system.now) }
     ensures earliest { IfOk result (HasEarliest system.now) }
+    ensures simple { IfOk result (HasSimple system.now) }
     ensures bounded { IfOk result (CertifiesNeverOnlyWithBounds system.now) }
     ensures in_range { IfOk result IsCertificateInRange }
     ensures cost { steps.new ≤ steps.old + 68 * (node_count system.now + 1) }

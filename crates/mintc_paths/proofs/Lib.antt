@@ -10,3 +10,4 @@ pub mod Pairing
 pub mod Marking
 pub mod Rowing
 pub mod Plain
+pub mod Existing

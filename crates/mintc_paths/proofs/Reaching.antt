@@ -43,7 +43,7 @@ module _ (design : Design) (order : List ℕ) (is_order : IsOrder design.arcs or
   none_listed : (j bit : ℕ) → IsGreatestAmong design.arcs order (length order) (output_of j) bit None → (path : List ℕ) → IsPath design.arcs j path bit → ⊥
   none_listed j bit h path g = h.bound path (all_among design.arcs order is_order (output_of j) path bit g.1) g.1
 
-  paired_of : (j l : ℕ) (x y : Option ℤ) → j < length design.elements → l < length design.elements → IsGreatestAmong design.arcs order (length order) (output_of j) (input_of l) x →
+  pub paired_of : (j l : ℕ) (x y : Option ℤ) → j < length design.elements → l < length design.elements → IsGreatestAmong design.arcs order (length order) (output_of j) (input_of l) x →
       IsLeastAmong design.arcs order (length order) (output_of j) (input_of l) y → IsPaired design j l x y
   paired_of j l None y from to h g = none_listed j (input_of l) h
   paired_of j l (Some x) None from to h g = let a = h.attained in g.bound a.0 a.1 a.2

@@ -6,3 +6,5 @@ pub mod Refusals
 pub mod Sums
 pub mod Trace
 pub mod Longest
+pub mod Existing
+pub mod Finding

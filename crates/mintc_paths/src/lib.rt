@@ -1,4 +1,8 @@
-//! The pairs of a design with the extremes of their listed paths.
+//! The pairs of a design with the extremes of their listed paths, and a path for each of these.
+//!
+//! The sums of eight elements at a time stand in rows, one for each bit, and are carried along an order of the arcs (the
+//! longest paths of a graph without loops; T. H. Cormen and others, "Introduction to Algorithms", 2009, section 24.2). A path
+//! is traced back from its end. A `Finder` does so for many pairs, by sweeps of what lies between their elements alone.
 #![tactic(auto)]
 
 ghost use Rattle.std.specs.Prelude.{◌≡◌, ◌≤◌, length, All, IfOk, IfErr, OnOk};
@@ -10,16 +14,23 @@ ghost use Rattle.mintc_paths.specs.Refusals.{IsExtremesRefusal};
 ghost use Rattle.mintc_paths.specs.Trace.{IsPairOf};
 
 mod blocks;
+mod finder;
 mod found;
+mod laws;
+mod listed;
 mod long;
 mod longest;
+mod reached;
 mod route;
 mod rows;
+mod steps;
 mod sums;
 mod trace;
 
 use blocks::find;
+pub use finder::Finder;
 use found::Found;
+pub use laws::pairs_exist;
 use mintc_text::{Kind, Numbers, OutOfMemory, Refusal, Stop};
 use mintc_timing::{Flat, Order, Pair, System};
 use route::best_path;

@@ -292,6 +292,26 @@ fn paths_have_the_sums(rt: HostRuntime) -> Result<(), Fail> {
 }
 
 #[test]
+fn finders_find_the_paths(rt: HostRuntime) -> Result<(), Fail> {
+    let alloc = rt.alloc();
+    for case in &[NINE, INNER, PATHS, PARALLEL, SELVES, ENDS, DIAMOND, ELEVEN] {
+        let system = system_of(&rt, alloc, case).ok().ok_or(case.name)?;
+        let mut finder = Finder::new(alloc, &system).ok().ok_or("no memory")?;
+        let pairs = system.pairs();
+        for place in 0..pairs.len() {
+            let Pair { from, to, min, max } = pairs[place];
+            assert!(rt; finder.path_of(alloc, &system, from, to, max).is_ok());
+            assert!(rt;
+                finder
+                    .shortest_path_of(alloc, &system, from, to, min)
+                    .is_ok()
+            );
+        }
+    }
+    Ok(())
+}
+
+#[test]
 fn a_sum_at_the_limit_is_none_above(rt: HostRuntime) -> Result<(), Fail> {
     let alloc = rt.alloc();
     assert!(rt; system_of(&rt, alloc, &AT_LIMIT).is_ok());

@@ -29,7 +29,7 @@ fn sum_at(extreme: Extreme, sums: &Sums) -> Option<i64>
 }
 
 /// The arc's delay.
-fn delay_at(extreme: Extreme, arc: &TimingArc) -> i64
+pub fn delay_at(extreme: Extreme, arc: &TimingArc) -> i64
     ensures { result ≡ delay_of extreme arc.now }
 {
     match extreme {

@@ -9,3 +9,5 @@ pub mod GridLaws
 pub mod ClimbLaws
 pub mod TurnedLaws
 pub mod BeginningLaws
+pub mod FinerLaws
+pub mod OutcomeLaws

@@ -5,3 +5,4 @@ pub mod Sums
 pub mod Tested
 pub mod Searched
 pub mod Climbing
+pub mod Finer

@@ -55,6 +55,8 @@ pub(crate) fn take_turn<L: Ledger>(
     ensures advanced { (start halvings : ℕ) → IsClimbing links.now start begun room.old held high halvings steps.old → IsAdvanced links.now start begun room.new steps.new result }
     ensures nodes { room.new.nodes ≡ room.old.nodes }
     ensures links { room.new.links ≡ room.old.links }
+    ensures late { room.new.late ≡ room.old.late }
+    ensures early { room.new.early ≡ room.old.early }
     ensures some { steps.old < steps.new }
 {
     let nodes = links.nodes();

@@ -3,6 +3,7 @@
 
 mod advancing;
 mod budget;
+mod laws;
 mod rest;
 mod searching;
 mod sums;
@@ -12,5 +13,6 @@ mod tests;
 mod turns;
 mod weighed;
 
+pub use laws::{least_at_each_denominator, outcomes_are_determined};
 pub use searching::{Outcome, search};
 pub use testing::{Test, test_at};

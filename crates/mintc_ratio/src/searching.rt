@@ -45,6 +45,8 @@ fn climb<L: Ledger>(
     ensures searched { HasSearched links.now room.new result }
     ensures nodes { room.new.nodes ≡ room.old.nodes }
     ensures links { room.new.links ≡ room.old.links }
+    ensures late { room.new.late ≡ room.old.late }
+    ensures early { room.new.early ≡ room.old.early }
     ensures cost { (start : ℕ) → IsClimbing links.now start begun room.old first (top_of links.now.nodes) 65 steps.old → steps.new ≤ start + 68 * (links.now.nodes + 1) }
 {
     let mut held = first;
@@ -74,6 +76,8 @@ pub fn search<L: Ledger>(links: &LinkList, room: &mut Room, steps: &mut Steps<L>
     ensures searched { HasSearched links.now room.new result }
     ensures nodes { room.new.nodes ≡ room.old.nodes }
     ensures links { room.new.links ≡ room.old.links }
+    ensures late { room.new.late ≡ room.old.late }
+    ensures early { room.new.early ≡ room.old.early }
     ensures cost { steps.new ≤ steps.old + 68 * (links.now.nodes + 1) }
 {
     let _nodes = links.nodes();

@@ -64,6 +64,8 @@ pub fn test_at<L: Ledger>(
     ensures tested { HasTested links.now at.now room.old room.new result }
     ensures nodes { room.new.nodes ≡ room.old.nodes }
     ensures links { room.new.links ≡ room.old.links }
+    ensures late { room.new.late ≡ room.old.late }
+    ensures early { room.new.early ≡ room.old.early }
     ensures some { steps.old < steps.new }
     ensures cost { steps.new ≤ steps.old + links.now.nodes + 1 }
 {

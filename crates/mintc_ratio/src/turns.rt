@@ -52,6 +52,8 @@ pub(crate) fn jump<L: Ledger>(
     ensures turn { IsJump links.now held room.new result }
     ensures nodes { room.new.nodes ≡ room.old.nodes }
     ensures links { room.new.links ≡ room.old.links }
+    ensures late { room.new.late ≡ room.old.late }
+    ensures early { room.new.early ≡ room.old.early }
     ensures some { steps.old < steps.new }
     ensures cost { steps.new ≤ steps.old + links.now.nodes + 1 }
 {
@@ -81,6 +83,8 @@ pub(crate) fn halve<L: Ledger>(
     ensures turn { IsHalving links.now middle room.old room.new result }
     ensures nodes { room.new.nodes ≡ room.old.nodes }
     ensures links { room.new.links ≡ room.old.links }
+    ensures late { room.new.late ≡ room.old.late }
+    ensures early { room.new.early ≡ room.old.early }
     ensures some { steps.old < steps.new }
     ensures cost { steps.new ≤ steps.old + links.now.nodes + 1 }
 {

@@ -1,5 +1,7 @@
+use Rattle.std.proofs.Common.{◌∙◌, w64}
+use Rattle.std.proofs.lemmas.Int.{to_z-of_z}
 use Rattle.mintc_timing.specs.declared.link.LinkKind.TheVariants as kind
-use Rattle.mintc_optimise.proofs.StandingLaws.{of_kind, pair_of_reach, reach_stands}
+use Rattle.mintc_optimise.proofs.StandingLaws.{of_kind, reach_stands}
 use Rattle.mintc_optimise.proofs.chain.member_of.Goals as goal
 
 pub returns-in-Start : goal.returns-in-Start
@@ -35,13 +37,9 @@ returns-in-Bound c = of_kind c.args.system.now c.phases-phases.ensures.kept c.ar
 pub unreachable-requires : goal.unreachable-requires
 unreachable-requires c = of_kind c.args.system.now c.phases-phases.ensures.kept c.args.link.now (kind.Other c.in-Other.index) c.in-Other.is c.requires
 
-pub path_of-requires : goal.path_of-requires
-path_of-requires c =
-    pair_of_reach c.args.system.now c.phases-phases.ensures.kept c.args.link.now c.in-Reach.from c.in-Reach.to
-    (of_kind c.args.system.now c.phases-phases.ensures.kept c.args.link.now (kind.Reach c.in-Reach.from c.in-Reach.to) c.in-Reach.is c.requires)
-
 pub returns-in_ok-arcs-in-Reach : goal.returns-in_ok-arcs-in-Reach
 returns-in_ok-arcs-in-Reach c =
     reach_stands c.args.system.now c.phases-phases.ensures.kept c.pairs-pairs.ensures.kept c.args.link.now c.in-Reach.from c.in-Reach.to c.in_ok-arcs-in-Reach.arcs
     (of_kind c.args.system.now c.phases-phases.ensures.kept c.args.link.now (kind.Reach c.in-Reach.from c.in-Reach.to) c.in-Reach.is c.requires)
-    c.in_ok-arcs-in-Reach.ensures.path c.in_ok-arcs-in-Reach.ensures.delay
+    c.in_ok-arcs-in-Reach.ensures.path c.pair_delay-delay.result c.pair_delay-delay.ensures.value
+    (c.in_ok-arcs-in-Reach.ensures.delay ∙ to_z-of_z w64 c.pair_delay-delay.result (record { sfits = c.pair_delay-delay.type_inv }))

@@ -24,10 +24,10 @@ returns-in_ok-departures-in-Least c =
     c.in-Least.cycle c.values.result.now c.values-in-Least.result.now c.schedule.result c.in_ok-departures-in-Least.field-0
     c.in-Least.is c.values.ensures c.values-in-Least.ensures c.schedule.ensures.value c.in_ok-departures-in-Least.ensures.value
     c.schedule.ensures.in_range c.in_ok-departures-in-Least.ensures.in_range
-    in record { valid = made.valid; optimal = made.optimal; earliest = made.earliest; bounded = made.bounded; in_range = made.in_range }
+    in record { valid = made.valid; optimal = made.optimal; earliest = made.earliest; simple = made.simple; bounded = made.bounded; in_range = made.in_range }
 
 pub returns-in-Never : goal.returns-in-Never
 returns-in-Never c =
     let made = made_never c.args.system.now c.phases-phases.ensures.kept c.pairs-pairs.ensures.kept c.args.list.now c.args.room.now c.args.outcome c.requires.list c.requires.searched
     c.items.result.now c.chain.result.now c.in_ok-chain.chain c.items.ensures.value c.chain.ensures c.in_ok-chain.ensures c.in-Never.is
-    in record { valid = made.valid; optimal = made.optimal; earliest = made.earliest; bounded = made.bounded; in_range = made.in_range }
+    in record { valid = made.valid; optimal = made.optimal; earliest = made.earliest; simple = made.simple; bounded = made.bounded; in_range = made.in_range }

@@ -8,7 +8,7 @@ pub loop-outcome-init : goal.loop-outcome-init
 loop-outcome-init g c =
     let kept = c.nodes.ensures.kept in
     let top = read_top c.nodes.result c.args.links.now.nodes c.top_of-high.result c.nodes.ensures.value kept.nodes.1 c.top_of-high.ensures in
-    record { climbing = λ start s. (65, rw top s); nodes = refl; links = refl; later = omega arith }
+    record { climbing = λ start s. (65, rw top s); nodes = refl; links = refl; late = refl; early = refl; later = omega arith }
 
 pub take_turn-requires-clause-nodes : goal.take_turn-requires-clause-nodes
 take_turn-requires-clause-nodes g c = rw c.loop-outcome.invariant.nodes c.requires.nodes
@@ -34,6 +34,12 @@ returns-in-Over-clause-nodes g c = c.in-Over.ensures.nodes ∙ c.loop-outcome.in
 pub returns-in-Over-clause-links : goal.returns-in-Over-clause-links
 returns-in-Over-clause-links g c = c.in-Over.ensures.links ∙ c.loop-outcome.invariant.links
 
+pub returns-in-Over-clause-late : goal.returns-in-Over-clause-late
+returns-in-Over-clause-late g c = c.in-Over.ensures.late ∙ c.loop-outcome.invariant.late
+
+pub returns-in-Over-clause-early : goal.returns-in-Over-clause-early
+returns-in-Over-clause-early g c = c.in-Over.ensures.early ∙ c.loop-outcome.invariant.early
+
 pub returns-in-Over-clause-cost : goal.returns-in-Over-clause-cost
 returns-in-Over-clause-cost g c = λ start begun.
     let s = c.loop-outcome.invariant.climbing start begun in
@@ -53,5 +59,7 @@ loop-outcome-preserved g c = let fits : SFits w128 c.in-On.lower = search rules 
   climbing = λ start begun. let s = c.loop-outcome.invariant.climbing start begun in rw (to_z-of_z w128 c.in-On.lower fits) (c.in-On.ensures.advanced start s.0 s.1);
   nodes = c.in-On.ensures.nodes ∙ c.loop-outcome.invariant.nodes;
   links = c.in-On.ensures.links ∙ c.loop-outcome.invariant.links;
+  late = c.in-On.ensures.late ∙ c.loop-outcome.invariant.late;
+  early = c.in-On.ensures.early ∙ c.loop-outcome.invariant.early;
   later = let before = c.loop-outcome.invariant.later in let more = c.in-On.ensures.some in omega arith;
 }

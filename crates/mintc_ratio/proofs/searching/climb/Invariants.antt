@@ -9,6 +9,8 @@ invariant-loop-outcome g l = record {
       (halvings : ℕ) × IsClimbing l.links start l.begun l.room l.held l.high halvings l.steps;
   nodes : l.room.nodes ≡ l.fn.room.nodes;
   links : l.room.links ≡ l.fn.room.links;
+  late : l.room.late ≡ l.fn.room.late;
+  early : l.room.early ≡ l.fn.room.early;
   later : l.fn.steps ≤ l.steps;
 }
 

@@ -1,0 +1,188 @@
+//! Paths of many pairs, one after another. The memory of the search is taken once, and each path is searched among the
+//! rows between its two elements. Nothing is promised of the search but that it ends: what it finds is checked, and where
+//! it isn't the path that is wanted, that one is found by a sweep over all arcs, as `path_of` does.
+ghost use Rattle.std.specs.Prelude.{◌≡◌, ◌<◌, ◌^◌, IfOk};
+ghost use Rattle.mintc_timing.specs.Paths.{IsPath, input_of, greatest_delay, least_delay};
+ghost use Rattle.mintc_paths.specs.Finding.{IsDelayOf, IsListedWith};
+
+use crate::listed::is_listed_with;
+use crate::reached::{Arrival, Reached};
+use crate::route::best_path;
+use crate::steps::Steps;
+use crate::trace::Extreme;
+use mintc_text::{Numbers, OutOfMemory};
+use mintc_timing::{System, TimingArc};
+use std::alloc::{AllocError, Global};
+
+/// A search for paths in a system.
+#[derive(Drop)]
+pub struct Finder {
+    steps: Steps,
+    reached: Reached,
+}
+
+impl Finder {
+    /// A search over the arcs of a system, which is to be that of each call.
+    pub fn new(alloc: Global, system: &System) -> Result<Finder, OutOfMemory> {
+        match Finder::over(alloc, system) {
+            Ok(finder) => Ok(finder),
+            Err(_) => Err(OutOfMemory),
+        }
+    }
+
+    /// `new`, with the allocator's error.
+    fn over(alloc: Global, system: &System) -> Result<Finder, AllocError> {
+        let steps = Steps::new(alloc, system.flat(), system.order())?;
+        let reached = Reached::new(alloc, steps.count())?;
+        Ok(Finder { steps, reached })
+    }
+
+    /// Takes the steps from a row to the rows up to the last one.
+    fn leave(&mut self, extreme: Extreme, row: u32, last: u32) {
+        let Some(arrival) = self.reached.at(row) else {
+            return;
+        };
+        for step in self.steps.from_row(row) {
+            if step.row <= last {
+                let sum = arrival.sum.wrapping_add(step.delay(extreme));
+                let next = Arrival { sum, arc: step.arc };
+                self.reached.bring(extreme, step.row, next);
+            }
+        }
+    }
+
+    /// Leaves the marked rows of a word, one after another, and takes their marks away.
+    fn leave_word(&mut self, extreme: Extreme, word: u32, last: u32)
+        requires { word < 2 ^ 26 }
+    {
+        let mut place = 0;
+        while let Some(next) = self.reached.next(word, place) {
+            self.leave(extreme, 64 * word + next, last);
+            place = next + 1;
+        }
+        self.reached.clear(word);
+    }
+
+    /// Finds the best sums from one bit to the bits whose rows aren't after that of another one.
+    fn sweep(&mut self, extreme: Extreme, from: u32, to: u32) {
+        let (first, last) = (self.steps.row_of(from), self.steps.row_of(to));
+        if last as usize >= self.reached.rows() {
+            return;
+        }
+        self.reached
+            .bring(extreme, first, Arrival { sum: 0, arc: 0 });
+        for word in first / 64..last / 64 + 1 {
+            self.leave_word(extreme, word, last);
+        }
+    }
+
+    /// The arc by which the best sum to a bit comes.
+    fn last_arc(&self, bit: u32) -> Option<u32> {
+        let arrival = self.reached.at(self.steps.row_of(bit))?;
+        Some(arrival.arc)
+    }
+
+    /// How many arcs lead back from one bit to another, or 0 where they don't.
+    fn count_back(&self, arcs: &[TimingArc], end: u32, start: u32) -> usize {
+        let mut bit = end;
+        for count in 0..self.reached.rows() {
+            if bit == start {
+                return count;
+            }
+            match self.last_arc(bit) {
+                Some(number) if (number as usize) < arcs.len() => bit = arcs[number as usize].from,
+                _ => return 0,
+            }
+        }
+        0
+    }
+
+    /// Makes the list the arcs that lead to a bit.
+    fn trace_back(&self, arcs: &[TimingArc], end: u32, path: &mut [u32]) {
+        let mut bit = end;
+        for place in 0..path.len() {
+            match self.last_arc(bit) {
+                Some(number) if (number as usize) < arcs.len() => {
+                    path[path.len() - 1 - place] = number;
+                    bit = arcs[number as usize].from;
+                }
+                _ => return,
+            }
+        }
+    }
+
+    /// A list of arcs that the search takes for a best path between two bits.
+    fn search(
+        &mut self,
+        alloc: Global,
+        extreme: Extreme,
+        arcs: &[TimingArc],
+        start: u32,
+        end: u32,
+    ) -> Result<Vec<u32>, AllocError> {
+        self.sweep(extreme, start, end);
+        let count = self.count_back(arcs, end, start);
+        let mut path = vec![in alloc; 0; count]?;
+        self.trace_back(arcs, end, &mut path);
+        Ok(path)
+    }
+
+    /// The arcs of a listed path from one element to another with the greatest or the least sum, which is known.
+    fn path_by(
+        &mut self,
+        alloc: Global,
+        extreme: Extreme,
+        system: &System,
+        from: u32,
+        to: u32,
+        delay: i64,
+    ) -> Result<Numbers, OutOfMemory>
+        requires { IsDelayOf extreme system.now.pairs from to delay }
+        ensures { IfOk result (IsListedWith extreme system.now.flat.arcs from to delay) }
+    {
+        let _pairs = system.pairs();
+        let _elements = system.flat().elements();
+        let arcs = system.flat().arcs();
+        let Ok(path) = self.search(alloc, extreme, arcs, 2 * from + 1, 2 * to) else {
+            return Err(OutOfMemory);
+        };
+        if is_listed_with(extreme, system.flat(), &path, from, to, delay) {
+            return Ok(Numbers::new(path));
+        }
+        best_path(alloc, extreme, system, from, to)
+    }
+
+    /// The arcs of a listed path from one element to another with the greatest sum, which is `delay`, in femtoseconds. It
+    /// is as `path_of`, and takes time for the arcs between the two elements alone.
+    pub fn path_of(
+        &mut self,
+        alloc: Global,
+        system: &System,
+        from: u32,
+        to: u32,
+        delay: i64,
+    ) -> Result<Numbers, OutOfMemory>
+        requires { IsDelayOf Extreme.Greatest system.now.pairs from to delay }
+        ensures path { IfOk result (λ path. IsPath system.now.flat.arcs from path (input_of to)) }
+        ensures delay { IfOk result (λ path. greatest_delay system.now.flat.arcs path ≡ delay) }
+    {
+        self.path_by(alloc, Extreme::Greatest, system, from, to, delay)
+    }
+
+    /// The arcs of a listed path from one element to another with the least sum, which is `delay`, in femtoseconds. It is
+    /// as `shortest_path_of`, and takes time for the arcs between the two elements alone.
+    pub fn shortest_path_of(
+        &mut self,
+        alloc: Global,
+        system: &System,
+        from: u32,
+        to: u32,
+        delay: i64,
+    ) -> Result<Numbers, OutOfMemory>
+        requires { IsDelayOf Extreme.Least system.now.pairs from to delay }
+        ensures path { IfOk result (λ path. IsPath system.now.flat.arcs from path (input_of to)) }
+        ensures delay { IfOk result (λ path. least_delay system.now.flat.arcs path ≡ delay) }
+    {
+        self.path_by(alloc, Extreme::Least, system, from, to, delay)
+    }
+}

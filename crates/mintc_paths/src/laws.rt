@@ -1,0 +1,7 @@
+//! What the definitions say of one another: each law is the contract of a function that does nothing.
+ghost use Rattle.mintc_paths.specs.Existing.{PairsExist};
+
+/// A design whose arcs have an order has a list of all its pairs, however many they are.
+pub fn pairs_exist()
+    ensures { PairsExist }
+{}
