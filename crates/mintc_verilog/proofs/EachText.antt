@@ -18,16 +18,19 @@ at-end : (text : List ℕ) (before : List (List Lexeme)) (s : State) (o : Option
 at-end text before s None f e h =
     let ends : s ≡ state_of s.done None = ap (state_of s.done) f in
     inl (netlist s, subst (λ l. Leads 1 start l (state_of s.done None)) (sym (e ∙ append-nil before)) (subst (Leads 1 start before) ends h))
-at-end text before s (Some o) f e h = inr (length before + 1, record {
-  before = before;
-  left = [];
-  state = s;
-  whole = e;
-  leads = h;
-  count = refl;
-  stuck = λ ls more form c l is step-on. absurd (cc);
-  unfinished = λ none. ap is_some f;
-})
+at-end text before s (Some o) f e h = inr (
+  length before + 1,
+  record {
+    before = before;
+    left = [];
+    state = s;
+    whole = e;
+    leads = h;
+    count = refl;
+    stuck = λ ls more form c l is step-on. absurd (cc);
+    unfinished = λ none. ap is_some f;
+  },
+)
 
 first-of : (l m : List Lexeme) (ls ms : List (List Lexeme)) → l ∷ ls ≡ m ∷ ms → l ≡ m
 first-of l m ls ms e = cc
@@ -37,16 +40,19 @@ at-next : (text : List ℕ) (before : List (List Lexeme)) (ls : List Lexeme) (mo
 at-next text before ls more s (Some c) on f e h =
     let place : 1 + length before ≡ length before + 1 = omega arith in
     on c (leads-push 1 start s c before ls h (ap (λ n. after_lexemes n s ls) place ∙ f))
-at-next text before ls more s None on f e h = inr (length before + 1, record {
-  before = before;
-  left = ls ∷ more;
-  state = s;
-  whole = e;
-  leads = h;
-  count = refl;
-  stuck = λ l rest form c w is step-on. no-step (length before + 1) s c l form (ap (after_lexemes (length before + 1) s) (first-of l ls rest more (sym w)) ∙ f) is step-on;
-  unfinished = λ none. absurd (cc);
-})
+at-next text before ls more s None on f e h = inr (
+  length before + 1,
+  record {
+    before = before;
+    left = ls ∷ more;
+    state = s;
+    whole = e;
+    leads = h;
+    count = refl;
+    stuck = λ l rest form c w is step-on. no-step (length before + 1) s c l form (ap (after_lexemes (length before + 1) s) (first-of l ls rest more (sym w)) ∙ f) is step-on;
+    unfinished = λ none. absurd (cc);
+  },
+)
 
 go-on : (text : List ℕ) (before left : List (List Lexeme)) (s : State) → lexemes_of text ≡ before ++ left → Leads 1 start before s → Answer text
 go-on text before [] s e h = at-end text before s s.current refl e h

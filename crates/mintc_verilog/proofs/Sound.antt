@@ -235,10 +235,11 @@ form-sound entry ls (opens n ps) s (list, e, is) =
 form-sound entry ls (opens_typed n ds) s (list, e, begins, are) =
     let inner = few-front list (sign 41 ∷ sign 59 ∷ []) (few-tail (sign 40) _ (few-tail (name n) _ (few-tail (key (codes "module")) _ (subst AreFew e s)))) in
     let few = listed-few IsDecl list ds are in
-    let size = length-append list (sign 41 ∷ sign 59 ∷ []) in
-    (omega (arith, ap length e, size, few, length-map ds (λ (d : Decl). d.name)),
-    omega (arith, ap length e, size, few, port_items-count entry no_header ds),
-    port_items-sound entry no_header ds tt (listed-sound IsDecl (λ (d : Decl). HasHeader d.header) decl-sound list ds inner are))
+    let size = length-append list (sign 41 ∷ sign 59 ∷ []) in (
+      omega (arith, ap length e, size, few, length-map ds (λ (d : Decl). d.name)),
+      omega (arith, ap length e, size, few, port_items-count entry no_header ds),
+      port_items-sound entry no_header ds tt (listed-sound IsDecl (λ (d : Decl). HasHeader d.header) decl-sound list ds inner are),
+    )
 form-sound entry ls (ports h ns) s (header, list, e, is, are) =
     let span = header-sound header h (sound-front header list (sound-front (header ++ list) (sign 59 ∷ []) (subst AreSound e s.sound))) is in
     let size = length-append (header ++ list) (sign 59 ∷ []) in
@@ -250,13 +251,15 @@ form-sound entry ls (nets span ns) s (word, list, w, e, are) =
     let few : length ns ≤ length ls = omega (arith, ap length e, size, length-append (range span) list, listed-few IsName list ns are) in
     (omega (arith, ap length e), All-cons IsItem (item.Wire entry span ns) [] (ranged, omega (arith, few, s.few)) (All-nil IsItem))
 form-sound entry ls (assigns pairs) s (list, e, are) =
-    let inner = few-front list (sign 59 ∷ []) (few-tail (key (codes "assign")) _ (subst AreFew e s)) in
-    (omega (arith, ap length e, length-append list (sign 59 ∷ []), listed-few IsAssign list pairs are, length-map pairs (assign_item entry)),
-    All-map IsItem (assign_item entry) pairs (listed-sound IsAssign (λ a. IsItem (assign_item entry a)) (assign-sound entry) list pairs inner are))
+    let inner = few-front list (sign 59 ∷ []) (few-tail (key (codes "assign")) _ (subst AreFew e s)) in (
+      omega (arith, ap length e, length-append list (sign 59 ∷ []), listed-few IsAssign list pairs are, length-map pairs (assign_item entry)),
+      All-map IsItem (assign_item entry) pairs (listed-sound IsAssign (λ a. IsItem (assign_item entry a)) (assign-sound entry) list pairs inner are),
+    )
 form-sound entry ls (instances cell is) s (list, e, are) =
-    let inner = few-front list (sign 59 ∷ []) (few-tail (name cell) _ (subst AreFew e s)) in
-    (omega (arith, ap length e, length-append list (sign 59 ∷ []), listed-few IsInstance list is are, length-map is (instance_item entry cell)),
-    All-map IsItem (instance_item entry cell) is (listed-sound IsInstance (λ i. IsItem (instance_item entry cell i)) (instance-sound entry cell) list is inner are))
+    let inner = few-front list (sign 59 ∷ []) (few-tail (name cell) _ (subst AreFew e s)) in (
+      omega (arith, ap length e, length-append list (sign 59 ∷ []), listed-few IsInstance list is are, length-map is (instance_item entry cell)),
+      All-map IsItem (instance_item entry cell) is (listed-sound IsInstance (λ i. IsItem (instance_item entry cell i)) (instance-sound entry cell) list is inner are),
+    )
 form-sound entry ls closes s e = omega (arith, ap length e)
 
 -- what a statement says has the statement's number
