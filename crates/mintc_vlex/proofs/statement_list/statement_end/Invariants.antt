@@ -9,7 +9,7 @@ invariant-loop-ended l = record {
   behind : l.first.to ≤ l.at;
   within : l.at ≤ length l.text;
   same : behind_statement l.text l.first (tokens_behind l.text l.first.to)
-    ≡ (if l.ended then tokens_behind l.text l.at else behind_semicolon l.text (tokens_behind l.text l.at));
+      ≡ (if l.ended then tokens_behind l.text l.at else behind_semicolon l.text (tokens_behind l.text l.at));
 }
 
 abbrev pub decreases-loop-ended : goal.decreases-loop-ended
