@@ -1,8 +1,8 @@
 -- A text gives one clock or one refusal.
-use Rattle.std.proofs.Common.{◌≡◌, ℕ, List, Option, Some, None, sym, ap, ◌∙◌}
+use Rattle.std.proofs.Common.{◌≡◌, ℕ, List, Some, None, sym, ap, ◌∙◌}
 use Rattle.toml.specs.Data.{Members}
 use Rattle.mintc_document.specs.Documents.{IsDocument}
-use Rattle.mintc_clock.specs.ClockOf.{fault_of, clock_of, IsBadClock, no_document, bad_document}
+use Rattle.mintc_clock.specs.ClockOf.{fault_of, clock_of, no_document, bad_document}
 use Rattle.mintc_clock.specs.Laws.{ClocksAreDetermined, ClocksAreNotRefused, BadClocksAreDetermined}
 
 same_some : {A : Type 0} (a b : A) → Some a ≡ Some b → a ≡ b

@@ -1,5 +1,5 @@
 -- What phases have taken tells whether a later one clashes with one of them.
-use Rattle.std.proofs.Common.{◌≡◌, ℕ, Bool, true, false, not, ◌&&◌, ◌||◌, cond, List, [], ◌∷◌, ◌++◌, bytes_eq, map, append-nil, ◌+◌, ◌<◌, length, get_or, take, drop, Some, refl, sym, ap, ◌∙◌, subst}
+use Rattle.std.proofs.Common.{◌≡◌, ℕ, Bool, true, false, ◌&&◌, ◌||◌, cond, List, [], ◌∷◌, ◌++◌, bytes_eq, append-nil, ◌+◌, ◌<◌, length, get_or, take, drop, Some, refl, sym, ap, ◌∙◌, subst}
 use Rattle.std.specs.Bool.{beq}
 use Rattle.std.specs.List.{list_any}
 use Rattle.std.proofs.lemmas.List.{map-append, drop_more, take_more}
@@ -105,7 +105,8 @@ next_clash ps n taken p inside is left are some =
 pub next_phase : (ps : List PhaseDef) (n : ℕ) (taken : Taken) (p : PhaseDef) → n < length ps → p ≡ get_or ps n p → first_clash 1 [] ps ≡ first_clash (n + 1) (take n ps) (drop n ps) →
     AreTaken (take n ps) taken → has_some taken p ≡ false → (first_clash 1 [] ps ≡ first_clash (n + 1 + 1) (take (n + 1) ps) (drop (n + 1) ps)) × AreTaken (take (n + 1) ps) (with_phase taken p)
 next_phase ps n taken p inside is left are free =
-    let more = taken_more ps n p inside is in
-    ( clash_at ps n p inside is left ∙ ap (λ b. cond b (Some (n + 1)) (first_clash (n + 1 + 1) (take n ps ++ p ∷ []) (drop (n + 1) ps))) (clashes-some p (take n ps) taken are ∙ free)
-      ∙ ap (λ (before : List PhaseDef). first_clash (n + 1 + 1) before (drop (n + 1) ps)) (sym more)
-    , subst (λ (before : List PhaseDef). AreTaken before (with_phase taken p)) (sym more) (with_one_more p (take n ps) taken are free))
+    let more = taken_more ps n p inside is in (
+      clash_at ps n p inside is left ∙ ap (λ b. cond b (Some (n + 1)) (first_clash (n + 1 + 1) (take n ps ++ p ∷ []) (drop (n + 1) ps))) (clashes-some p (take n ps) taken are ∙ free)
+          ∙ ap (λ (before : List PhaseDef). first_clash (n + 1 + 1) before (drop (n + 1) ps)) (sym more),
+      subst (λ (before : List PhaseDef). AreTaken before (with_phase taken p)) (sym more) (with_one_more p (take n ps) taken are free),
+    )

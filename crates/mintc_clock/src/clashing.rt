@@ -53,10 +53,7 @@ pub(crate) fn names_of(alloc: Global, phases: &[PhaseDef]) -> Result<NameSet, Fa
         lows: NameSet::new(alloc),
     };
     for number in 0..phases.len() {
-        let Ok(free) = taken.take(alloc, &phases[number]) else {
-            return Err(Fault::OutOfMemory);
-        };
-        if !free {
+        if !taken.take(alloc, &phases[number])? {
             return Err(Fault::Item(number as u32 + 1));
         }
     }

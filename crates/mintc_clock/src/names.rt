@@ -39,12 +39,7 @@ impl NameSet {
         if self.set.contains(name) {
             return Ok(false);
         }
-        let Ok(bytes) = Vec::from_slice(alloc, name) else {
-            return Err(OutOfMemory);
-        };
-        let Ok(_) = self.set.insert_full(bytes) else {
-            return Err(OutOfMemory);
-        };
+        self.set.insert_full(Vec::from_slice(alloc, name)?)?;
         Ok(true)
     }
 
