@@ -37,12 +37,8 @@ impl Cells {
     {
         let mut map = IndexMap::new(alloc);
         for (name, cell) in entries {
-            let Ok(bytes) = Vec::from_slice(alloc, name.bytes()) else {
-                return Err(OutOfMemory);
-            };
-            let Ok(_) = map.insert(bytes, cell) else {
-                return Err(OutOfMemory);
-            };
+            let bytes = Vec::from_slice(alloc, name.bytes())?;
+            map.insert(bytes, cell)?;
         }
         Ok(Cells { entries: map })
     }

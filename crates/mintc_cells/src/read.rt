@@ -32,25 +32,13 @@ fn read_table(alloc: Global, table: &Table) -> Result<Cell, Fault>
 {
     let kind = text(table, "kind", "");
     if kind == "gate" {
-        match tables::gate(alloc, table) {
-            Ok(cell) => judged(tables::gate_shape(table), cell),
-            Err(_) => Err(Fault::OutOfMemory),
-        }
+        judged(tables::gate_shape(table), tables::gate(alloc, table)?)
     } else if kind == "latch" {
-        match tables::latch(alloc, table) {
-            Ok(cell) => judged(tables::latch_shape(table), cell),
-            Err(_) => Err(Fault::OutOfMemory),
-        }
+        judged(tables::latch_shape(table), tables::latch(alloc, table)?)
     } else if kind == "flop" {
-        match tables::flop(alloc, table) {
-            Ok(cell) => judged(tables::flop_shape(table), cell),
-            Err(_) => Err(Fault::OutOfMemory),
-        }
+        judged(tables::flop_shape(table), tables::flop(alloc, table)?)
     } else if kind == "clock" {
-        match tables::clock(alloc, table) {
-            Ok(cell) => judged(tables::clock_shape(table), cell),
-            Err(_) => Err(Fault::OutOfMemory),
-        }
+        judged(tables::clock_shape(table), tables::clock(alloc, table)?)
     } else {
         Err(Fault::Rule(2))
     }
@@ -137,11 +125,6 @@ pub fn read_cells(alloc: Global, text: &[u8]) -> Result<Cells, Stop>
     requires { length text.now ≤ 67108864 }
     ensures { MatchResult result (AreCells text.now) (StopsAt (IsBadCellBy (IsBadCell text.now))) }
 {
-    match read_text(alloc, text) {
-        Ok(entries) => match Cells::new(alloc, entries) {
-            Ok(cells) => Ok(cells),
-            Err(_) => Err(Stop::OutOfMemory),
-        },
-        Err(stop) => Err(stop),
-    }
+    let entries = read_text(alloc, text)?;
+    Ok(Cells::new(alloc, entries)?)
 }

@@ -13,6 +13,7 @@ pub(crate) enum Fault {
 }
 
 impl From<OutOfMemory> for Fault {
+    ghost use Rattle.std.specs.Prelude.{◌≡◌};
     ghost use Rattle.mintc_clock.specs.declared.fault.Fault.TheVariants as fault;
 
     ghost from_gives = { λ _ e. e ≡ fault.OutOfMemory };
@@ -23,6 +24,7 @@ impl From<OutOfMemory> for Fault {
 }
 
 impl<T: Drop> From<AllocFailed<T>> for Fault {
+    ghost use Rattle.std.specs.Prelude.{◌≡◌};
     ghost use Rattle.mintc_clock.specs.declared.fault.Fault.TheVariants as fault;
 
     ghost from_gives = { λ _ e. e ≡ fault.OutOfMemory };
