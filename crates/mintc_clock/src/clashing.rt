@@ -53,7 +53,8 @@ pub(crate) fn names_of(alloc: Global, phases: &[PhaseDef]) -> Result<NameSet, Fa
         lows: NameSet::new(alloc),
     };
     for number in 0..phases.len() {
-        if !taken.take(alloc, &phases[number])? {
+        let free = taken.take(alloc, &phases[number])?;
+        if !free {
             return Err(Fault::Item(number as u32 + 1));
         }
     }

@@ -39,7 +39,8 @@ impl NameSet {
         if self.set.contains(name) {
             return Ok(false);
         }
-        self.set.insert_full(Vec::from_slice(alloc, name)?)?;
+        let bytes = Vec::from_slice(alloc, name)?;
+        self.set.insert_full(bytes)?;
         Ok(true)
     }
 

@@ -18,5 +18,5 @@ returns-clause-added c =
 
 pub returns-clause-names : goal.returns-clause-names
 returns-clause-names c =
-    taken c.args.name.now c.in-Ok.bytes c.self.inside.set.keys c.insert_full.new.self.keys c.args.self.now c.in-Ok.ensures.items
-    (sym c.contains.ensures ∙ c.if-contains.false) c.in-Ok-insert_full.ensures.keys c.self.view_is
+    taken c.args.name.now c.in_ok-bytes.bytes c.self.inside.set.keys c.insert_full.new.self.keys c.args.self.now c.in_ok-bytes.ensures.items
+    (sym c.contains.ensures ∙ c.if-contains.false) c.in_ok-insert_full.ensures.keys c.self.view_is
