@@ -1,12 +1,11 @@
 -- A text gives one list of cells or one refusal.
-use Rattle.std.proofs.Common.{◌≡◌, ℕ, ◌+◌, suc, zero, List, [], ◌∷◌, ◌++◌, length, Ok, Err, Result, Option, Some, None, refl, sym, ap, ◌∙◌, subst, arith}
-use Rattle.std.specs.List.{AllZip}
+use Rattle.std.proofs.Common.{◌≡◌, ℕ, ◌+◌, List, [], ◌∷◌, ◌++◌, length, Ok, Err, Result, Option, Some, None, refl, sym, ap, ◌∙◌, subst, arith}
 use Rattle.toml.specs.Data.{Members}
 use Rattle.mintc_document.specs.Documents.{IsDocument}
 use Rattle.mintc_cells.specs.declared.cell.Cell.{Cell}
 use Rattle.mintc_cells.specs.Description.{cell_of}
-use Rattle.mintc_cells.specs.Entries.{AreAscending, names_of}
-use Rattle.mintc_cells.specs.CellsOf.{Entry, described, IsReadAs, AreRead, AreDescribed, IsFirstBad, AreInTable, IsBadTable, no_table, bad_entry, AreCells, IsBadCell, no_document, bad_table}
+use Rattle.mintc_cells.specs.Entries.{AreAscending}
+use Rattle.mintc_cells.specs.CellsOf.{Entry, IsReadAs, AreRead, AreDescribed, IsFirstBad, AreInTable, IsBadTable, no_table, bad_entry, no_document, bad_table}
 use Rattle.mintc_cells.specs.Laws.{CellsAreDetermined, CellsAreNotRefused, BadCellsAreDetermined, CellsKeepRules}
 use Rattle.mintc_cells.proofs.KeptLaws.{kept, names-AreRead}
 

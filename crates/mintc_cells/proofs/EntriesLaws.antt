@@ -1,10 +1,10 @@
-use Rattle.std.proofs.Common.{◌≡◌, ℕ, suc, ◌+◌, List, [], ◌∷◌, ◌++◌, length, String, Global, string_bytes, Ok, Err, Result, Option, Some, None, Bool, true, MatchResult, codes, refl, sym, ap, ◌∙◌, subst, append_assoc, append-nil, arith, map, ◌<◌, ◌^◌, Ordering, Less, nat_cmp, IfOk}
-use Rattle.std.specs.List.{AllZip, AllByRecursion}
+use Rattle.std.proofs.Common.{◌≡◌, ℕ, suc, ◌+◌, List, [], ◌∷◌, ◌++◌, length, String, Global, string_bytes, Ok, Err, Result, Some, None, true, MatchResult, codes, refl, sym, ap, ◌∙◌, subst, append_assoc, append-nil, arith, map, ◌<◌, ◌^◌, Less, nat_cmp}
+use Rattle.std.specs.List.{AllByRecursion}
 use Rattle.std.specs.List.Sorted.{IsStrictlySortedBy}
 use Rattle.std.specs.Map.{keys_of}
 use Rattle.std.specs.String.{string_cmp}
 use Rattle.std.specs.Cmp.Lexicographic.{slice_cmp}
-use Rattle.mintc_cells.specs.Entries.{names_of, AreAscending, AreOrdered}
+use Rattle.mintc_cells.specs.Entries.{AreAscending, AreOrdered}
 use Rattle.toml.specs.declared.value.Value.{Value}
 use Rattle.toml.specs.View.{view, members_view}
 use Rattle.mintc_cells.specs.declared.cell.Cell.{Cell}
@@ -17,7 +17,7 @@ use Rattle.mintc_cells.specs.declared.shape.Fault.TheVariants as fault
 use Rattle.mintc_document.specs.Lookups.{has_only}
 use Rattle.mintc_cells.specs.Description.{cell_of, Reads}
 use Rattle.mintc_text.specs.Stops.{StopsAt}
-use Rattle.mintc_cells.specs.CellsOf.{Entry, entries, IsReadAs, AreRead, AreDescribed, AreInTable, IsFirstBad, described, IsBadCellBy}
+use Rattle.mintc_cells.specs.CellsOf.{Entry, entries, IsReadAs, AreRead, AreInTable, IsFirstBad, described, IsBadCellBy}
 use Rattle.mintc_cells.proofs.KeptLaws.{kept, names-AreRead}
 
 -- one more entry that was read

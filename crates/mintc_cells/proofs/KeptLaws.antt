@@ -1,6 +1,6 @@
 -- The cells that entries stand for keep their rules.
 use Rattle.std.proofs.Common.{◌≡◌, ℕ, ℤ, pos, negsuc, nat_le, arith, List, [], ◌∷◌, map, Bool, true, false, not, ◌&&◌, ◌||◌, cond, bytes_eq, codes, is_some, int_le, Option, Some, None, Ok, Err, Result, refl, sym, ap, ◌∙◌, subst}
-use Rattle.std.specs.List.{AllZip, list_all}
+use Rattle.std.specs.List.{list_all}
 use Rattle.std.proofs.lemmas.Bool.{and_parts}
 use Rattle.std.proofs.lemmas.Bool.Decides.{nat_tests}
 use Rattle.toml.specs.Data.{Data, Members, get_member, as_table}

@@ -1,5 +1,5 @@
 -- What the bytes of a cell description stand for.
-use Rattle.std.specs.Prelude.{◌≡◌, ℕ, ◌+◌, List, [], ◌∷◌, ◌++◌, length, map, Option, Some, None, option_map, Result, Ok, Err, codes, if◌then◌else◌}
+use Rattle.std.specs.Prelude.{◌≡◌, ℕ, ◌+◌, List, [], ◌∷◌, ◌++◌, length, map, Option, Some, None, option_map, Ok, Err, codes, if◌then◌else◌}
 use Rattle.std.specs.List.{AllZip}
 use Rattle.toml.specs.Data.{Data, Members, no_members, member, get_member, as_table}
 use Rattle.mintc_text.specs.declared.refusals.Refusal.{Refusal}

@@ -1,5 +1,5 @@
 -- The cell that a table of a description stands for, and the least of its rules that fails.
-use Rattle.std.specs.Prelude.{◌≡◌, ℕ, ℤ, pos, Bool, true, false, not, ◌&&◌, ◌||◌, is_some, if◌then◌else◌, List, [], ◌∷◌, Option, Some, None, Result, Ok, Err, codes, bytes_eq}
+use Rattle.std.specs.Prelude.{◌≡◌, ℕ, pos, Bool, true, false, not, ◌&&◌, ◌||◌, is_some, if◌then◌else◌, List, [], ◌∷◌, Option, Some, None, Result, Ok, Err, codes, bytes_eq}
 use Rattle.toml.specs.Data.{Data, Members, get_member, as_table}
 use Rattle.mintc_cells.specs.declared.shape.Shape.{Shape}
 use Rattle.mintc_cells.specs.declared.shape.Fault.{Fault}
@@ -37,7 +37,7 @@ gate_of ms =
 abbrev pub clock_of : Members → Cell
 clock_of ms =
     Clock (text_in [] (get_member (codes "input") ms)) (text_in [] (get_member (codes "output") ms)) (flag_in false (get_member (codes "invert") ms))
-      (texts_in (get_member (codes "ignored") ms))
+    (texts_in (get_member (codes "ignored") ms))
 
 -- the keys of the pins of a latch or flop
 abbrev pub has_pins : List ℕ → List ℕ → Members → Bool
@@ -64,14 +64,14 @@ latch_of ms =
     let dq_min = integer_in (pos 0) (get_member (codes "dq_min") ms) in
     let dq_max = integer_in dq_min (get_member (codes "dq_max") ms) in
     Latch (text_in [] (get_member (codes "d") ms)) (text_in [] (get_member (codes "g") ms)) (bytes_eq (text_in (codes "high") (get_member (codes "active") ms)) (codes "high")) (texts_in (get_member (codes "outputs") ms)) (texts_in (get_member (codes "ignored") ms))
-      (integer_in (pos 0) (get_member (codes "setup") ms)) (integer_in (pos 0) (get_member (codes "hold") ms)) (is_some (get_member (codes "hold") ms)) dq_min dq_max
-      (integer_in dq_min (get_member (codes "cq_min") ms)) (integer_in dq_max (get_member (codes "cq_max") ms)) (is_some (get_member (codes "cq_min") ms) || is_some (get_member (codes "cq_max") ms)) (integer_in (pos 0) (get_member (codes "width") ms))
+    (integer_in (pos 0) (get_member (codes "setup") ms)) (integer_in (pos 0) (get_member (codes "hold") ms)) (is_some (get_member (codes "hold") ms)) dq_min dq_max
+    (integer_in dq_min (get_member (codes "cq_min") ms)) (integer_in dq_max (get_member (codes "cq_max") ms)) (is_some (get_member (codes "cq_min") ms) || is_some (get_member (codes "cq_max") ms)) (integer_in (pos 0) (get_member (codes "width") ms))
 
 abbrev pub flop_of : Members → Cell
 flop_of ms =
     let cq_min = integer_in (pos 0) (get_member (codes "cq_min") ms) in
     Flop (text_in [] (get_member (codes "d") ms)) (text_in [] (get_member (codes "clock") ms)) (bytes_eq (text_in (codes "rising") (get_member (codes "edge") ms)) (codes "rising")) (texts_in (get_member (codes "outputs") ms)) (texts_in (get_member (codes "ignored") ms))
-      (integer_in (pos 0) (get_member (codes "setup") ms)) (integer_in (pos 0) (get_member (codes "hold") ms)) (is_some (get_member (codes "hold") ms)) cq_min (integer_in cq_min (get_member (codes "cq_max") ms)) (integer_in (pos 0) (get_member (codes "width") ms))
+    (integer_in (pos 0) (get_member (codes "setup") ms)) (integer_in (pos 0) (get_member (codes "hold") ms)) (is_some (get_member (codes "hold") ms)) cq_min (integer_in cq_min (get_member (codes "cq_max") ms)) (integer_in (pos 0) (get_member (codes "width") ms))
 
 -- the least rule that a cell of this shape fails
 abbrev pub least_rule : Shape → Cell → Option ℕ

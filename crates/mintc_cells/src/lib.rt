@@ -20,5 +20,7 @@ mod tests;
 
 pub use cell::Cell;
 pub use cells::Cells;
-pub use laws::{bad_cells_are_determined, cells_are_determined, cells_are_not_refused, cells_keep_rules};
+pub use laws::{
+    bad_cells_are_determined, cells_are_determined, cells_are_not_refused, cells_keep_rules,
+};
 pub use read::read_cells;

@@ -8,9 +8,8 @@ ghost use Rattle.mintc_cells.specs.CellsOf.{entries, AreRead, IsFirstBad, AreInT
 
 use crate::cell::Cell;
 use crate::cells::Cells;
-use crate::rules;
 use crate::shape::{Fault, Shape};
-use crate::tables;
+use crate::{rules, tables};
 use mintc_document::{has_only, is_name, member, text};
 use mintc_text::{Name, Refusal, Stop};
 use std::alloc::Global;

@@ -84,16 +84,37 @@ fn has_names(cell: &Cell) -> bool
     ensures { result ≡ has_names cell.now }
 {
     match cell {
-        Cell::Gate { inputs, outputs, .. } => are_names(inputs, 0, 64) && are_names(outputs, 1, 16),
-        Cell::Latch { pin_d, pin_g, outputs, ignored, .. } => {
-            (is_name(pin_d.bytes()) && is_name(pin_g.bytes())) && (are_names(outputs, 1, 2) && are_names(ignored, 0, 64))
+        Cell::Gate {
+            inputs,
+            outputs,
+            ..
+        } => are_names(inputs, 0, 64) && are_names(outputs, 1, 16),
+        Cell::Latch {
+            pin_d,
+            pin_g,
+            outputs,
+            ignored,
+            ..
+        } => {
+            (is_name(pin_d.bytes()) && is_name(pin_g.bytes()))
+                && (are_names(outputs, 1, 2) && are_names(ignored, 0, 64))
         }
-        Cell::Flop { pin_d, pin_clock, outputs, ignored, .. } => {
-            (is_name(pin_d.bytes()) && is_name(pin_clock.bytes())) && (are_names(outputs, 1, 2) && are_names(ignored, 0, 64))
+        Cell::Flop {
+            pin_d,
+            pin_clock,
+            outputs,
+            ignored,
+            ..
+        } => {
+            (is_name(pin_d.bytes()) && is_name(pin_clock.bytes()))
+                && (are_names(outputs, 1, 2) && are_names(ignored, 0, 64))
         }
-        Cell::Clock { input, output, ignored, .. } => {
-            (is_name(input.bytes()) && is_name(output.bytes())) && are_names(ignored, 0, 64)
-        }
+        Cell::Clock {
+            input,
+            output,
+            ignored,
+            ..
+        } => { (is_name(input.bytes()) && is_name(output.bytes())) && are_names(ignored, 0, 64) }
     }
 }
 
@@ -103,12 +124,24 @@ fn has_limits(cell: &Cell) -> bool
 {
     match cell {
         Cell::Gate { min, max, .. } => is_delay(*min) && is_delay(*max),
-        Cell::Latch { setup, hold, dq_min, dq_max, cq_min, cq_max, width, .. } => {
-            are_limits(setup, hold, width) && are_latch_delays(dq_min, dq_max, cq_min, cq_max)
-        }
-        Cell::Flop { setup, hold, cq_min, cq_max, width, .. } => {
-            are_limits(setup, hold, width) && are_delays(*cq_min, *cq_max)
-        }
+        Cell::Latch {
+            setup,
+            hold,
+            dq_min,
+            dq_max,
+            cq_min,
+            cq_max,
+            width,
+            ..
+        } => { are_limits(setup, hold, width) && are_latch_delays(dq_min, dq_max, cq_min, cq_max) }
+        Cell::Flop {
+            setup,
+            hold,
+            cq_min,
+            cq_max,
+            width,
+            ..
+        } => { are_limits(setup, hold, width) && are_delays(*cq_min, *cq_max) }
         Cell::Clock { .. } => true,
     }
 }
@@ -119,7 +152,13 @@ fn has_order(cell: &Cell) -> bool
 {
     match cell {
         Cell::Gate { min, max, .. } => min <= max,
-        Cell::Latch { dq_min, dq_max, cq_min, cq_max, .. } => dq_min <= dq_max && cq_min <= cq_max,
+        Cell::Latch {
+            dq_min,
+            dq_max,
+            cq_min,
+            cq_max,
+            ..
+        } => dq_min <= dq_max && cq_min <= cq_max,
         Cell::Flop { cq_min, cq_max, .. } => cq_min <= cq_max,
         Cell::Clock { .. } => true,
     }

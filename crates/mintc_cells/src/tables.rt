@@ -5,7 +5,10 @@ ghost use Rattle.mintc_cells.specs.Description.{has_pins, gate_shape, latch_shap
 
 use crate::cell::Cell;
 use crate::shape::Shape;
-use mintc_document::{are_integers, are_names, flag, has, has_only, integer, is_flag, is_integer, is_one_of, is_text, name, names, text};
+use mintc_document::{
+    are_integers, are_names, flag, has, has_only, integer, is_flag, is_integer, is_one_of, is_text,
+    name, names, text,
+};
 use mintc_text::OutOfMemory;
 use std::alloc::Global;
 use toml::Table;
@@ -48,9 +51,20 @@ pub(crate) fn latch_shape(table: &Table) -> Shape
     ensures { result ≡ latch_shape (table_view table.now) }
 {
     Shape {
-        keys: has_only(table, &["kind", "d", "g", "outputs", "active", "ignored", "setup", "hold", "dq_min", "dq_max", "cq_min", "cq_max", "width"]),
+        keys: has_only(
+            table,
+            &[
+                "kind", "d", "g", "outputs", "active", "ignored", "setup", "hold", "dq_min",
+                "dq_max", "cq_min", "cq_max", "width",
+            ],
+        ),
         pins: has_pins(table, "d", "g"),
-        numbers: are_integers(table, &["setup", "hold", "dq_min", "dq_max", "cq_min", "cq_max", "width"]),
+        numbers: are_integers(
+            table,
+            &[
+                "setup", "hold", "dq_min", "dq_max", "cq_min", "cq_max", "width",
+            ],
+        ),
         switches: is_one_of(table, "active", &["high", "low"], "high"),
     }
 }
@@ -60,7 +74,13 @@ pub(crate) fn flop_shape(table: &Table) -> Shape
     ensures { result ≡ flop_shape (table_view table.now) }
 {
     Shape {
-        keys: has_only(table, &["kind", "d", "clock", "outputs", "edge", "ignored", "setup", "hold", "cq_min", "cq_max", "width"]),
+        keys: has_only(
+            table,
+            &[
+                "kind", "d", "clock", "outputs", "edge", "ignored", "setup", "hold", "cq_min",
+                "cq_max", "width",
+            ],
+        ),
         pins: has_pins(table, "d", "clock"),
         numbers: are_integers(table, &["setup", "hold", "cq_min", "cq_max", "width"]),
         switches: is_one_of(table, "edge", &["rising", "falling"], "rising"),
@@ -127,7 +147,12 @@ pub(crate) fn gate(alloc: Global, table: &Table) -> Result<Cell, OutOfMemory>
     let outputs = names(alloc, table, "outputs")?;
     let min = integer(table, "min", 0);
     let max = integer(table, "max", min);
-    Ok(Cell::Gate { inputs, outputs, min, max })
+    Ok(Cell::Gate {
+        inputs,
+        outputs,
+        min,
+        max,
+    })
 }
 
 /// The clock cell that a table stands for.
@@ -138,5 +163,10 @@ pub(crate) fn clock(alloc: Global, table: &Table) -> Result<Cell, OutOfMemory>
     let output = name(alloc, table, "output")?;
     let invert = flag(table, "invert", false);
     let ignored = names(alloc, table, "ignored")?;
-    Ok(Cell::Clock { input, output, invert, ignored })
+    Ok(Cell::Clock {
+        input,
+        output,
+        invert,
+        ignored,
+    })
 }

@@ -27,8 +27,7 @@ const EXAMPLE_SAID: &str =
 DLL latch D GN false [Q QN] [SE] 30000 -5000 true 40000 60000 50000 70000 true 100000;";
 
 /// Cells with few keys more than those that they need.
-const PLAIN: &str =
-    "cell.h = { kind = \"gate\", inputs = [], outputs = [\"x\", \"y\"] }\n\
+const PLAIN: &str = "cell.h = { kind = \"gate\", inputs = [], outputs = [\"x\", \"y\"] }\n\
 cell.m = { kind = \"latch\", d = \"d\", g = \"g\", outputs = [\"q\"], dq_min = 3, cq_max = 8 }\n\
 cell.k = { kind = \"latch\", d = \"d\", g = \"g\", outputs = [\"q\"], active = \"high\", dq_min = 3, dq_max = 4 }\n\
 cell.e = { kind = \"flop\", d = \"d\", clock = \"c\", outputs = [\"q\"], edge = \"rising\", cq_min = 2 }\n\
@@ -47,11 +46,26 @@ const TEXTS: &[(&str, Option<(u32, u32)>)] = &[
     ("cells = {}\n", Some((0, 1))),
     ("cell = 1\n", Some((0, 1))),
     ("[[cell]]\n", Some((0, 1))),
-    ("[cell.\"a b\"]\nkind = \"clock\"\ninput = \"a\"\noutput = \"y\"\n", Some((1, 2))),
-    ("[cell.\"\"]\nkind = \"clock\"\ninput = \"a\"\noutput = \"y\"\n", Some((1, 2))),
-    ("cell.z = 1\n[cell.a]\nkind = \"clock\"\ninput = \"a\"\noutput = \"y\"\n", Some((2, 2))),
-    ("[cell.b]\nkind = \"gate\"\n[cell.B]\n[cell.a]\nkind = \"gate\"\n", Some((1, 2))),
-    ("[cell.b]\nkind = \"gate\"\n[cell.C]\nkind = \"clock\"\ninput = \"a\"\noutput = \"y\"\n[cell.a]\nkind = \"clock\"\n", Some((2, 4))),
+    (
+        "[cell.\"a b\"]\nkind = \"clock\"\ninput = \"a\"\noutput = \"y\"\n",
+        Some((1, 2)),
+    ),
+    (
+        "[cell.\"\"]\nkind = \"clock\"\ninput = \"a\"\noutput = \"y\"\n",
+        Some((1, 2)),
+    ),
+    (
+        "cell.z = 1\n[cell.a]\nkind = \"clock\"\ninput = \"a\"\noutput = \"y\"\n",
+        Some((2, 2)),
+    ),
+    (
+        "[cell.b]\nkind = \"gate\"\n[cell.B]\n[cell.a]\nkind = \"gate\"\n",
+        Some((1, 2)),
+    ),
+    (
+        "[cell.b]\nkind = \"gate\"\n[cell.C]\nkind = \"clock\"\ninput = \"a\"\noutput = \"y\"\n[cell.a]\nkind = \"clock\"\n",
+        Some((2, 4)),
+    ),
 ];
 
 /// The keys of one cell, with the rule that they fail first.
@@ -59,46 +73,148 @@ const CELLS: &[(&str, Option<u32>)] = &[
     ("inputs = []\noutputs = [\"y\"]\n", Some(2)),
     ("kind = 1\n", Some(2)),
     ("kind = \"Gate\"\ncolor = 1\n", Some(2)),
-    ("kind = \"gate\"\ninputs = []\noutputs = [\"y\"]\nwidth = 0\n", Some(3)),
-    ("kind = \"gate\"\ninput = [\"a\"]\noutputs = [\"y\"]\n", Some(3)),
-    ("kind = \"flop\"\nd = \"d\"\ng = \"g\"\noutputs = [\"q\"]\n", Some(3)),
-    ("kind = \"flop\"\nd = \"d\"\nclock = \"c\"\noutputs = [\"q\"]\ndq_min = 1\n", Some(3)),
-    ("kind = \"latch\"\nd = \"d\"\ng = \"g\"\noutputs = [\"q\"]\nedge = \"rising\"\n", Some(3)),
-    ("kind = \"clock\"\ninput = \"a\"\noutput = \"y\"\nmin = 0\n", Some(3)),
+    (
+        "kind = \"gate\"\ninputs = []\noutputs = [\"y\"]\nwidth = 0\n",
+        Some(3),
+    ),
+    (
+        "kind = \"gate\"\ninput = [\"a\"]\noutputs = [\"y\"]\n",
+        Some(3),
+    ),
+    (
+        "kind = \"flop\"\nd = \"d\"\ng = \"g\"\noutputs = [\"q\"]\n",
+        Some(3),
+    ),
+    (
+        "kind = \"flop\"\nd = \"d\"\nclock = \"c\"\noutputs = [\"q\"]\ndq_min = 1\n",
+        Some(3),
+    ),
+    (
+        "kind = \"latch\"\nd = \"d\"\ng = \"g\"\noutputs = [\"q\"]\nedge = \"rising\"\n",
+        Some(3),
+    ),
+    (
+        "kind = \"clock\"\ninput = \"a\"\noutput = \"y\"\nmin = 0\n",
+        Some(3),
+    ),
     ("kind = \"gate\"\noutputs = [\"y\"]\n", Some(4)),
     ("kind = \"gate\"\ninputs = []\n", Some(4)),
     ("kind = \"gate\"\ninputs = []\noutputs = []\n", Some(4)),
-    ("kind = \"gate\"\ninputs = \"a\"\noutputs = [\"y\"]\n", Some(4)),
-    ("kind = \"gate\"\ninputs = [1]\noutputs = [\"y\"]\n", Some(4)),
-    ("kind = \"gate\"\ninputs = [\"a b\"]\noutputs = [\"y\"]\nmin = -1\n", Some(4)),
+    (
+        "kind = \"gate\"\ninputs = \"a\"\noutputs = [\"y\"]\n",
+        Some(4),
+    ),
+    (
+        "kind = \"gate\"\ninputs = [1]\noutputs = [\"y\"]\n",
+        Some(4),
+    ),
+    (
+        "kind = \"gate\"\ninputs = [\"a b\"]\noutputs = [\"y\"]\nmin = -1\n",
+        Some(4),
+    ),
     ("kind = \"latch\"\nd = \"d\"\noutputs = [\"q\"]\n", Some(4)),
-    ("kind = \"latch\"\nd = [\"d\"]\ng = \"g\"\noutputs = [\"q\"]\n", Some(4)),
-    ("kind = \"latch\"\nd = \"d\"\ng = \"\"\noutputs = [\"q\"]\n", Some(4)),
-    ("kind = \"latch\"\nd = \"d\"\ng = \"g\"\noutputs = [\"q\", \"n\", \"m\"]\n", Some(4)),
-    ("kind = \"flop\"\nd = \"d\"\nclock = \"c\"\noutputs = [\"q\"]\nignored = 1\n", Some(4)),
+    (
+        "kind = \"latch\"\nd = [\"d\"]\ng = \"g\"\noutputs = [\"q\"]\n",
+        Some(4),
+    ),
+    (
+        "kind = \"latch\"\nd = \"d\"\ng = \"\"\noutputs = [\"q\"]\n",
+        Some(4),
+    ),
+    (
+        "kind = \"latch\"\nd = \"d\"\ng = \"g\"\noutputs = [\"q\", \"n\", \"m\"]\n",
+        Some(4),
+    ),
+    (
+        "kind = \"flop\"\nd = \"d\"\nclock = \"c\"\noutputs = [\"q\"]\nignored = 1\n",
+        Some(4),
+    ),
     ("kind = \"clock\"\ninput = \"a\"\n", Some(4)),
-    ("kind = \"gate\"\ninputs = [\"a\", \"a\"]\noutputs = [\"y\"]\n", Some(5)),
-    ("kind = \"gate\"\ninputs = [\"a\"]\noutputs = [\"a\"]\nmin = -1\n", Some(5)),
-    ("kind = \"latch\"\nd = \"d\"\ng = \"d\"\noutputs = [\"q\"]\n", Some(5)),
-    ("kind = \"flop\"\nd = \"d\"\nclock = \"c\"\noutputs = [\"q\"]\nignored = [\"q\"]\n", Some(5)),
+    (
+        "kind = \"gate\"\ninputs = [\"a\", \"a\"]\noutputs = [\"y\"]\n",
+        Some(5),
+    ),
+    (
+        "kind = \"gate\"\ninputs = [\"a\"]\noutputs = [\"a\"]\nmin = -1\n",
+        Some(5),
+    ),
+    (
+        "kind = \"latch\"\nd = \"d\"\ng = \"d\"\noutputs = [\"q\"]\n",
+        Some(5),
+    ),
+    (
+        "kind = \"flop\"\nd = \"d\"\nclock = \"c\"\noutputs = [\"q\"]\nignored = [\"q\"]\n",
+        Some(5),
+    ),
     ("kind = \"clock\"\ninput = \"a\"\noutput = \"a\"\n", Some(5)),
-    ("kind = \"gate\"\ninputs = []\noutputs = [\"y\"]\nmin = 1_000_000_000\n", None),
-    ("kind = \"gate\"\ninputs = []\noutputs = [\"y\"]\nmax = 1_000_000_001\n", Some(6)),
-    ("kind = \"gate\"\ninputs = []\noutputs = [\"y\"]\nmin = -1\nmax = -2\n", Some(6)),
-    ("kind = \"gate\"\ninputs = []\noutputs = [\"y\"]\nmin = 1.0\n", Some(6)),
-    ("kind = \"latch\"\nd = \"d\"\ng = \"g\"\noutputs = [\"q\"]\nsetup = -1_000_000_000\nhold = 1_000_000_000\nwidth = 1_000_000_000\n", None),
-    ("kind = \"latch\"\nd = \"d\"\ng = \"g\"\noutputs = [\"q\"]\nsetup = -1_000_000_001\n", Some(6)),
-    ("kind = \"latch\"\nd = \"d\"\ng = \"g\"\noutputs = [\"q\"]\nhold = 1_000_000_001\n", Some(6)),
-    ("kind = \"latch\"\nd = \"d\"\ng = \"g\"\noutputs = [\"q\"]\nwidth = -1\n", Some(6)),
-    ("kind = \"latch\"\nd = \"d\"\ng = \"g\"\noutputs = [\"q\"]\ncq_max = true\n", Some(6)),
-    ("kind = \"flop\"\nd = \"d\"\nclock = \"c\"\noutputs = [\"q\"]\ncq_max = 1_000_000_001\n", Some(6)),
-    ("kind = \"gate\"\ninputs = []\noutputs = [\"y\"]\nmin = 2\nmax = 1\n", Some(7)),
-    ("kind = \"latch\"\nd = \"d\"\ng = \"g\"\noutputs = [\"q\"]\ndq_min = 2\ndq_max = 1\nactive = \"up\"\n", Some(7)),
-    ("kind = \"latch\"\nd = \"d\"\ng = \"g\"\noutputs = [\"q\"]\ndq_max = 1\ncq_min = 2\n", Some(7)),
-    ("kind = \"flop\"\nd = \"d\"\nclock = \"c\"\noutputs = [\"q\"]\ncq_min = 2\ncq_max = 1\n", Some(7)),
-    ("kind = \"latch\"\nd = \"d\"\ng = \"g\"\noutputs = [\"q\"]\nactive = \"up\"\n", Some(8)),
-    ("kind = \"flop\"\nd = \"d\"\nclock = \"c\"\noutputs = [\"q\"]\nedge = 3\n", Some(8)),
-    ("kind = \"clock\"\ninput = \"a\"\noutput = \"y\"\ninvert = \"yes\"\n", Some(8)),
+    (
+        "kind = \"gate\"\ninputs = []\noutputs = [\"y\"]\nmin = 1_000_000_000\n",
+        None,
+    ),
+    (
+        "kind = \"gate\"\ninputs = []\noutputs = [\"y\"]\nmax = 1_000_000_001\n",
+        Some(6),
+    ),
+    (
+        "kind = \"gate\"\ninputs = []\noutputs = [\"y\"]\nmin = -1\nmax = -2\n",
+        Some(6),
+    ),
+    (
+        "kind = \"gate\"\ninputs = []\noutputs = [\"y\"]\nmin = 1.0\n",
+        Some(6),
+    ),
+    (
+        "kind = \"latch\"\nd = \"d\"\ng = \"g\"\noutputs = [\"q\"]\nsetup = -1_000_000_000\nhold = 1_000_000_000\nwidth = 1_000_000_000\n",
+        None,
+    ),
+    (
+        "kind = \"latch\"\nd = \"d\"\ng = \"g\"\noutputs = [\"q\"]\nsetup = -1_000_000_001\n",
+        Some(6),
+    ),
+    (
+        "kind = \"latch\"\nd = \"d\"\ng = \"g\"\noutputs = [\"q\"]\nhold = 1_000_000_001\n",
+        Some(6),
+    ),
+    (
+        "kind = \"latch\"\nd = \"d\"\ng = \"g\"\noutputs = [\"q\"]\nwidth = -1\n",
+        Some(6),
+    ),
+    (
+        "kind = \"latch\"\nd = \"d\"\ng = \"g\"\noutputs = [\"q\"]\ncq_max = true\n",
+        Some(6),
+    ),
+    (
+        "kind = \"flop\"\nd = \"d\"\nclock = \"c\"\noutputs = [\"q\"]\ncq_max = 1_000_000_001\n",
+        Some(6),
+    ),
+    (
+        "kind = \"gate\"\ninputs = []\noutputs = [\"y\"]\nmin = 2\nmax = 1\n",
+        Some(7),
+    ),
+    (
+        "kind = \"latch\"\nd = \"d\"\ng = \"g\"\noutputs = [\"q\"]\ndq_min = 2\ndq_max = 1\nactive = \"up\"\n",
+        Some(7),
+    ),
+    (
+        "kind = \"latch\"\nd = \"d\"\ng = \"g\"\noutputs = [\"q\"]\ndq_max = 1\ncq_min = 2\n",
+        Some(7),
+    ),
+    (
+        "kind = \"flop\"\nd = \"d\"\nclock = \"c\"\noutputs = [\"q\"]\ncq_min = 2\ncq_max = 1\n",
+        Some(7),
+    ),
+    (
+        "kind = \"latch\"\nd = \"d\"\ng = \"g\"\noutputs = [\"q\"]\nactive = \"up\"\n",
+        Some(8),
+    ),
+    (
+        "kind = \"flop\"\nd = \"d\"\nclock = \"c\"\noutputs = [\"q\"]\nedge = 3\n",
+        Some(8),
+    ),
+    (
+        "kind = \"clock\"\ninput = \"a\"\noutput = \"y\"\ninvert = \"yes\"\n",
+        Some(8),
+    ),
 ];
 
 /// The entry and the rule for which a text is refused; None where it has cells.
@@ -140,25 +256,66 @@ fn names_text(alloc: Global, names: &Names) -> Result<String, Fail> {
 /// A cell on one line.
 fn cell_text(alloc: Global, cell: &Cell) -> Result<String, Fail> {
     Ok(match cell {
-        Cell::Gate { inputs, outputs, min, max } => {
+        Cell::Gate {
+            inputs,
+            outputs,
+            min,
+            max,
+        } => {
             let (inputs, outputs) = (names_text(alloc, inputs)?, names_text(alloc, outputs)?);
             format!(in alloc; "gate {inputs} {outputs} {min} {max}")?
         }
-        Cell::Latch { pin_d, pin_g, high, outputs, ignored, setup, hold, has_hold, dq_min, dq_max, cq_min, cq_max, has_cq, width } => {
+        Cell::Latch {
+            pin_d,
+            pin_g,
+            high,
+            outputs,
+            ignored,
+            setup,
+            hold,
+            has_hold,
+            dq_min,
+            dq_max,
+            cq_min,
+            cq_max,
+            has_cq,
+            width,
+        } => {
             let d = shown(pin_d.bytes())?;
             let g = shown(pin_g.bytes())?;
             let (outputs, ignored) = (names_text(alloc, outputs)?, names_text(alloc, ignored)?);
             let delays = format!(in alloc; "{dq_min} {dq_max} {cq_min} {cq_max} {has_cq} {width}")?;
-            format!(in alloc; "latch {d} {g} {high} {outputs} {ignored} {setup} {hold} {has_hold} {delays}")?
+            format!(in alloc;
+                "latch {d} {g} {high} {outputs} {ignored} {setup} {hold} {has_hold} {delays}"
+            )?
         }
-        Cell::Flop { pin_d, pin_clock, rising, outputs, ignored, setup, hold, has_hold, cq_min, cq_max, width } => {
+        Cell::Flop {
+            pin_d,
+            pin_clock,
+            rising,
+            outputs,
+            ignored,
+            setup,
+            hold,
+            has_hold,
+            cq_min,
+            cq_max,
+            width,
+        } => {
             let d = shown(pin_d.bytes())?;
             let clock = shown(pin_clock.bytes())?;
             let (outputs, ignored) = (names_text(alloc, outputs)?, names_text(alloc, ignored)?);
             let delays = format!(in alloc; "{cq_min} {cq_max} {width}")?;
-            format!(in alloc; "flop {d} {clock} {rising} {outputs} {ignored} {setup} {hold} {has_hold} {delays}")?
+            format!(in alloc;
+                "flop {d} {clock} {rising} {outputs} {ignored} {setup} {hold} {has_hold} {delays}"
+            )?
         }
-        Cell::Clock { input, output, invert, ignored } => {
+        Cell::Clock {
+            input,
+            output,
+            invert,
+            ignored,
+        } => {
             let input = shown(input.bytes())?;
             let output = shown(output.bytes())?;
             let ignored = names_text(alloc, ignored)?;
@@ -187,7 +344,11 @@ fn pins_text(alloc: Global, cells: &Cells, name: &[u8]) -> Result<String, Fail> 
     let mut text = String::new(alloc);
     for number in 0..cells.pin_count(at) {
         let pin = shown(cells.pin(at, number).bytes())?;
-        text.push_str(if cells.is_output(at, number) { ">" } else { " " })?;
+        text.push_str(if cells.is_output(at, number) {
+            ">"
+        } else {
+            " "
+        })?;
         text.push_str(pin)?;
     }
     Ok(text)
@@ -197,15 +358,34 @@ fn pins_text(alloc: Global, cells: &Cells, name: &[u8]) -> Result<String, Fail> 
 #[test]
 fn cells_have_their_values(rt: HostRuntime) -> Result<(), Fail> {
     let two = cells(&rt, rt.alloc(), TWO).ok_or("refused")?;
-    assert_eq!(rt; cells_text(rt.alloc(), &two)?.as_str(), "BUF gate [A] [Y] 0 0;LAT latch D G true [Q] [] 10 0 false 10 10 10 10 false 0;");
+    assert_eq!(rt;
+        cells_text(rt.alloc(), &two)?.as_str(),
+        "BUF gate [A] [Y] 0 0;LAT latch D G true [Q] [] 10 0 false 10 10 10 10 false 0;"
+    );
     let all = cells(&rt, rt.alloc(), EXAMPLE).ok_or("refused")?;
     assert_eq!(rt; cells_text(rt.alloc(), &all)?.as_str(), EXAMPLE_SAID);
-    for (name, pins) in [("AOI21", " A1 A2 B>ZN"), ("DLL", " D GN SE>Q>QN"), ("DFN", " D CPN RN>Q"), ("CKINV", " I TE>ZN")] {
-        assert_eq!(rt; pins_text(rt.alloc(), &all, name.as_bytes())?.as_str(), pins);
+    for (name, pins) in [
+        ("AOI21", " A1 A2 B>ZN"),
+        ("DLL", " D GN SE>Q>QN"),
+        ("DFN", " D CPN RN>Q"),
+        ("CKINV", " I TE>ZN"),
+    ] {
+        assert_eq!(rt;
+            pins_text(rt.alloc(), &all, name.as_bytes())?.as_str(),
+            pins
+        );
     }
     let plain = cells(&rt, rt.alloc(), PLAIN).ok_or("refused")?;
     assert_eq!(rt; cells_text(rt.alloc(), &plain)?.as_str(), PLAIN_SAID);
-    assert_eq!(rt; (plain.find(b"b"), plain.find(b"m"), plain.find(b"n"), plain.find(b"")), (Some(0), Some(4), None, None));
+    assert_eq!(rt;
+        (
+            plain.find(b"b"),
+            plain.find(b"m"),
+            plain.find(b"n"),
+            plain.find(b"")
+        ),
+        (Some(0), Some(4), None, None)
+    );
     Ok(())
 }
 
@@ -218,7 +398,11 @@ fn rules_fail_in_order(rt: HostRuntime) -> Result<(), Fail> {
     }
     for (keys, rule) in CELLS {
         let text = format!(in rt.alloc(); "[cell.X]\n{keys}")?;
-        assert_eq!(rt; fault(&rt, rt.alloc(), text.as_bytes()), rule.map(|rule| (1, rule)), "at {keys}");
+        assert_eq!(rt;
+            fault(&rt, rt.alloc(), text.as_bytes()),
+            rule.map(|rule| (1, rule)),
+            "at {keys}"
+        );
     }
     Ok(())
 }
@@ -236,8 +420,15 @@ fn list_text(alloc: Global, word: &str, count: u32) -> Result<String, Fail> {
 /// Lists of pins have their limits, and names theirs.
 #[test]
 fn lists_and_names_are_short(rt: HostRuntime) -> Result<(), Fail> {
-    for (inputs, outputs, want) in [(64, 16, None), (65, 16, Some((1, 4))), (64, 17, Some((1, 4)))] {
-        let (inputs, outputs) = (list_text(rt.alloc(), "inputs", inputs)?, list_text(rt.alloc(), "outputs", outputs)?);
+    for (inputs, outputs, want) in [
+        (64, 16, None),
+        (65, 16, Some((1, 4))),
+        (64, 17, Some((1, 4))),
+    ] {
+        let (inputs, outputs) = (
+            list_text(rt.alloc(), "inputs", inputs)?,
+            list_text(rt.alloc(), "outputs", outputs)?,
+        );
         let text = format!(in rt.alloc(); "[cell.X]\nkind = \"gate\"\n{inputs}{outputs}")?;
         assert_eq!(rt; fault(&rt, rt.alloc(), text.as_bytes()), want);
     }
@@ -257,9 +448,13 @@ fn lists_and_names_are_short(rt: HostRuntime) -> Result<(), Fail> {
         for _ in 0..count {
             name.push_str("!")?;
         }
-        let text = format!(in rt.alloc(); "[cell.\"{name}\"]\nkind = \"clock\"\ninput = \"a\"\noutput = \"y\"\n")?;
+        let text = format!(in rt.alloc();
+            "[cell.\"{name}\"]\nkind = \"clock\"\ninput = \"a\"\noutput = \"y\"\n"
+        )?;
         assert_eq!(rt; fault(&rt, rt.alloc(), text.as_bytes()), cell);
-        let text = format!(in rt.alloc(); "[cell.X]\nkind = \"clock\"\ninput = \"a\"\noutput = \"{name}\"\n")?;
+        let text = format!(in rt.alloc();
+            "[cell.X]\nkind = \"clock\"\ninput = \"a\"\noutput = \"{name}\"\n"
+        )?;
         assert_eq!(rt; fault(&rt, rt.alloc(), text.as_bytes()), pin);
     }
     Ok(())

@@ -1,7 +1,7 @@
 use Rattle.std.proofs.Common.{◌≡◌, sym, rules, true, codes, [], ◌∷◌}
 use Rattle.toml.specs.View.{view, table_view}
 use Rattle.mintc_document.specs.Lookups.{has_only}
-use Rattle.mintc_cells.specs.CellsOf.{entries, AreRead, IsFirstBad, AreDescribed, AreInTable, IsBadTable, bad_entry, described}
+use Rattle.mintc_cells.specs.CellsOf.{entries, AreRead, IsFirstBad, AreDescribed, AreInTable, IsBadTable, bad_entry}
 use Rattle.mintc_cells.proofs.EntriesLaws.{described_at, carried, nothing_ordered, nothing_described}
 use Rattle.mintc_cells.proofs.read.read_document.Goals as goal
 
@@ -15,7 +15,7 @@ returns-in-Some-as_table-clause-value c =
       ascending = c.read_entries.ensures.ascending;
     } in
     carried c.read_entries.result (λ v. AreRead es v.items) (λ v. AreInTable ms v.items) (IsFirstBad es) (IsBadTable ms)
-      (λ v read. record { list = es; are_described = are; read = read }) (λ n rule first. bad_entry es are first) c.read_entries.ensures.value
+    (λ v read. record { list = es; are_described = are; read = read }) (λ n rule first. bad_entry es are first) c.read_entries.ensures.value
 
 pub returns-in-None-clause-ordered : goal.returns-in-None-clause-ordered
 returns-in-None-clause-ordered c = nothing_ordered c.new.result.items c.new.ensures.items

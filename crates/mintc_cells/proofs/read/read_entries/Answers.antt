@@ -1,8 +1,8 @@
-use Rattle.std.proofs.Common.{◌≡◌, ◌+◌, ◌++◌, [], ◌∷◌, List, length, String, Global, string_bytes, arith, rules, sym, ◌∙◌, refl, subst, Err, Ok, ap, length-append, ◌<◌, ◌^◌}
+use Rattle.std.proofs.Common.{◌≡◌, ◌+◌, ◌++◌, [], ◌∷◌, length, string_bytes, arith, rules, ◌∙◌, Err, ap, length-append, ◌<◌, ◌^◌}
 use Rattle.toml.specs.View.{view, members_view}
 use Rattle.mintc_cells.specs.Description.{cell_of}
 use Rattle.mintc_cells.specs.CellsOf.{IsReadAs, entries}
-use Rattle.mintc_cells.proofs.EntriesLaws.{AreSplit, start, next_read, next_bad, rule_of, all_read, ascending, ordered}
+use Rattle.mintc_cells.proofs.EntriesLaws.{start, next_read, next_bad, rule_of, all_read, ascending, ordered}
 use Rattle.mintc_cells.proofs.read.read_entries.Goals as goal
 
 pub loop-key-init : goal.loop-key-init
