@@ -125,3 +125,12 @@ names-AreRead [] [] h = refl
 names-AreRead [] (c ∷ cells) h = absurd h
 names-AreRead (x ∷ es) [] h = absurd h
 names-AreRead (x ∷ es) (c ∷ cells) h = ap (λ n. n ∷ names_of cells) h.0.0 ∙ ap (λ ns. x.0 ∷ ns) (names-AreRead es cells h.1)
+
+-- a table of this shape stands for a cell that keeps its rules
+pub fits : (shape : Shape) (cell : Cell) → shape.keys ≡ true → shape.pins ≡ true → shape.numbers ≡ true → shape.switches ≡ true → is_cell cell ≡ true →
+    judged cell (least_rule shape cell) ≡ Ok cell
+fits shape cell keys right_pins numbers switches is =
+    let order = and_parts ((has_names cell && is_distinct (pins cell)) && has_limits cell) (has_order cell) is in
+    let limits = and_parts (has_names cell && is_distinct (pins cell)) (has_limits cell) order.0 in
+    let names = and_parts (has_names cell) (is_distinct (pins cell)) limits.0 in
+    rw (keys, right_pins, numbers, switches, names.0, names.1, limits.1, order.1) refl

@@ -25,6 +25,15 @@ const PHASE: &str = "[[phase]]\nname = \"p\"\nport = \"c\"\n";
 /// Descriptions whose phases are in form or not, with the entry and the rule of the refusal.
 const PHASES: &[(&str, Option<(u32, u32)>)] = &[
     ("=", Some((0, 0))),
+    ("a=1", Some((0, 1))),
+    ("phase=[{}]", Some((1, 3))),
+    (
+        "phase=[{name=\"p\",port=\"c\"},{name=\"p\",port=\"c\"}]",
+        Some((2, 4)),
+    ),
+    ("phase=[{name=\"p\",port=\"c\"}]\nbound=[{}]", Some((1, 5))),
+    ("phase=[{name=\"p\",port=\"c\"}]\ninput=[{}]", Some((1, 6))),
+    ("phase=[{name=\"p\",port=\"c\"}]\noutput=[{}]", Some((1, 7))),
     ("top = \"a\"\ntop = \"b\"\n", Some((0, 0))),
     ("clock = 1\n", Some((0, 1))),
     ("phase = 1\n", Some((0, 1))),
