@@ -1,0 +1,5 @@
+pub mod CellsLaws
+pub mod DeterminedLaws
+pub mod EntriesLaws
+pub mod KeptLaws
+pub mod PinsLaws

@@ -1,0 +1,6 @@
+pub mod CellsOf
+pub mod Description
+pub mod Entries
+pub mod Laws
+pub mod Pins
+pub mod Rules
