@@ -1,0 +1,27 @@
+"""Whether the examples are what the tests run: for each line of each examples/NAME/command, `mintc WORDS > ANSWER`, the tests of
+mintc_command have the name, the words, each file that the words name with its bytes, and the answer, in this order."""
+import pathlib
+import re
+import sys
+
+TOP = pathlib.Path(__file__).resolve().parent.parent
+TESTS = TOP / "crates/mintc_command/src/tests/examples.rt"
+
+
+def wanted():
+    for folder in sorted((TOP / "examples").iterdir()):
+        for line in (folder / "command").read_text().splitlines():
+            words, answer = line.removeprefix("mintc ").split(" > ")
+            yield from (folder.name, words)
+            for name in words.split()[2:]:
+                yield from (name, (folder / name).read_text())
+            yield (folder / answer).read_text()
+
+
+def run():
+    text = re.sub(r"(?m)//.*$", "", TESTS.read_text())
+    return [it.replace("\\n", "\n") for it in re.findall(r'"((?:[^"\\]|\\.)*)"', text)]
+
+
+if run() != list(wanted()):
+    sys.exit("examples/ and crates/mintc_command/src/tests/examples.rt differ")
