@@ -66,10 +66,7 @@ pub fn condition(reader: &mut Reader, both: bool) -> Option<Layer>
 fn push(layers: &mut Vec<Layer>, layer: Layer) -> Result<(), OutOfMemory>
     ensures { OnOk result (layers.new.items ≡ layers.old.items ++ layer ∷ []) }
 {
-    match layers.push(layer) {
-        Ok(()) => Ok(()),
-        Err(_) => Err(OutOfMemory),
-    }
+    Ok(layers.push(layer)?)
 }
 
 /// Notes that an item begins in the condition of this number; those inside of it are left.
