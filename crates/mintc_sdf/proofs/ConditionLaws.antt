@@ -147,11 +147,12 @@ front-more : {A : Type 0} (both : Bool) (lst at : Items → Option A) (pre : Lis
     Walks both lst at pre (more l) one s next rest → Walks both lst at pre l any t here rest
 unfolding more_by
 front-more both lst at pre l any one t s here next rest put i some size last same w = (
-  w.0, w.1,
+  w.0,
+  w.1,
   same ∙ w.2
-  ∙ ap (λ m. walked both (pre ++ m ∷ w.0) w.1 (length pre) (closing ∷ rest)) (sym (ap (λ is. more_by (count is) l) i ∙ ap (λ n. more_by n l) (size (items next)))),
+      ∙ ap (λ m. walked both (pre ++ m ∷ w.0) w.1 (length pre) (closing ∷ rest)) (sym (ap (λ is. more_by (count is) l) i ∙ ap (λ n. more_by n l) (size (items next)))),
   w.3 ∙ sym last ∙ sym (ap lst i)
-  ∙ sym (ap (λ b. if b then value at any t else lst (items here)) (ap is_none i ∙ some (items next)))
+      ∙ sym (ap (λ b. if b then value at any t else lst (items here)) (ap is_none i ∙ some (items next))),
 )
 
 over-first : {A : Type 0} (at : Items → Option A) (l : Layer) (ls : List Layer) (t : Option (List Token)) → value at (l ∷ ls) t ≡ limited l (value at ls t)
@@ -219,10 +220,10 @@ walks {A} both lst at form (suc n) pre l any t (opening ∷ ts) rest h e =
         front-more both lst at pre l any [] t (Some (opening ∷ ts)) (opening ∷ ts) r rest (list (items ts)) o.0 (λ is. refl) (λ is. refl)
         (form.list-is (items ts) (items r) ∙ ap (λ is. if is_none (items r) then at is else lst (items r)) (sym o.0))
         (
-          step-last both (pre ++ l ∷ any) t (length pre) ts (at-seam pre any l) f
-          ∙ ap (λ ls. walked both ls (Some (opening ∷ ts)) (suc (length pre)) ts) (noted-seam pre any l)
-          ∙ quiet (length ts) (suc (length pre)) both (pre ++ more l ∷ []) (Some (opening ∷ ts)) ts size (omega arith)
-          ∙ ap (walked both (pre ++ more l ∷ []) (Some (opening ∷ ts)) (suc (length pre))) k
+        step-last both (pre ++ l ∷ any) t (length pre) ts (at-seam pre any l) f
+        ∙ ap (λ ls. walked both ls (Some (opening ∷ ts)) (suc (length pre)) ts) (noted-seam pre any l)
+        ∙ quiet (length ts) (suc (length pre)) both (pre ++ more l ∷ []) (Some (opening ∷ ts)) ts size (omega arith)
+        ∙ ap (walked both (pre ++ more l ∷ []) (Some (opening ∷ ts)) (suc (length pre))) k
         )
         w
 
@@ -237,16 +238,16 @@ walks {A} both lst at form (suc n) pre l any t (opening ∷ ts) rest h e =
         let given = over-first at last w.0 w.1 ∙ ap (limited last) (w.3 ∙ none-first lst (items us) form.nothing) in
         front-more both lst at pre l any (last ∷ w.0) t w.1 (opening ∷ ts) r rest (list (items ts)) o.0 (λ is. refl) (λ is. refl)
         (
-          form.list-is (items ts) (items r)
-          ∙ ap (λ x. if is_none (items r) then x else lst (items r)) (ap (λ j. at (list j (items r))) is ∙ form.kind-is word.0 (items us) (items r) m word.2 ∙ sym given)
+        form.list-is (items ts) (items r)
+        ∙ ap (λ x. if is_none (items r) then x else lst (items r)) (ap (λ j. at (list j (items r))) is ∙ form.kind-is word.0 (items us) (items r) m word.2 ∙ sym given)
         )
         (
-          step-in both (pre ++ l ∷ any) t (length pre) m ts us (at-seam pre any l) f
-          ∙ ap (λ ls. walked both (ls ++ m ∷ []) None (suc (length pre)) us) (noted-seam pre any l)
-          ∙ ap (λ d. walked both ((pre ++ more l ∷ []) ++ m ∷ []) None d us) (sym long)
-          ∙ w.2
-          ∙ ap (λ d. walked both ((pre ++ more l ∷ []) ++ last ∷ w.0) w.1 d (closing ∷ r)) long
-          ∙ ap (λ ls. walked both ls w.1 (length pre) r) (append_assoc pre (more l ∷ []) (last ∷ w.0))
+        step-in both (pre ++ l ∷ any) t (length pre) m ts us (at-seam pre any l) f
+        ∙ ap (λ ls. walked both (ls ++ m ∷ []) None (suc (length pre)) us) (noted-seam pre any l)
+        ∙ ap (λ d. walked both ((pre ++ more l ∷ []) ++ m ∷ []) None d us) (sym long)
+        ∙ w.2
+        ∙ ap (λ d. walked both ((pre ++ more l ∷ []) ++ last ∷ w.0) w.1 d (closing ∷ r)) long
+        ∙ ap (λ ls. walked both ls w.1 (length pre) r) (append_assoc pre (more l ∷ []) (last ∷ w.0))
         )
         (go (last ∷ w.0) w.1)
 
