@@ -64,7 +64,7 @@ none-left d h =
 times-none : (s p : ℕ) → (0 * s) * p ≡ 0
 times-none s p = grind arith
 
-near-most : (a b : ℕ) → nat_lt a b ≡ false → b ≤ a
+pub near-most : (a b : ℕ) → nat_lt a b ≡ false → b ≤ a
 near-most a b e = grind (arith, nat_tests)
 
 number-bounds : (scale : ℕ) (negative : Bool) (v : Number) → is_far scale v ≡ false → (is_below_zero v && not negative) ≡ false → Bounds negative (rounded_down scale v) (rounded_up scale v)
