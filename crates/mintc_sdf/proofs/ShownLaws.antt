@@ -5,7 +5,8 @@ use Rattle.mintc_sdf.specs.declared.numbers.Sum.{Sum}
 use Rattle.mintc_sdf.specs.Tokens.{Token}
 use Rattle.mintc_sdf.specs.Items.{Items, items}
 use Rattle.mintc_sdf.specs.Forms.{Claim, claim, list_at, inner_def}
-use Rattle.mintc_sdf.specs.Reading.{after_opening, inside, IsClaim}
+use Rattle.mintc_sdf.specs.Reading.{after_opening, inside}
+use Rattle.mintc_sdf.specs.Keeping.{IsClaim}
 use Rattle.mintc_sdf.proofs.CellLaws.{at-bad, at-some}
 
 abbrev pub shown : {A : Type 0} → List Token → Option (A × Items) → Option (A × List Token)
