@@ -1,19 +1,19 @@
 -- The numbers of delays are in range.
-use Rattle.std.proofs.Common.{int_lt, ◌≡◌, ℕ, zero, suc, ◌+◌, ◌*◌, ◌/◌, ◌%◌, ◌^◌, ◌<◌, ◌≤◌, nat_lt, Bool, true, false, true≢false, not, ◌&&◌, if◌then◌else◌, List, [], ◌∷◌, ◌++◌, flat_map, All, Option, Some, None, option_map, Result, Ok, Err, refl, sym, ap, subst, ◌∙◌, arith, ℤ, pos, negsuc, neg_ℤ, ◌≤ℤ◌}
+use Rattle.std.proofs.Common.{int_lt, ◌≡◌, ℕ, zero, suc, ◌+◌, ◌*◌, ◌/◌, ◌%◌, ◌^◌, ◌<◌, ◌≤◌, nat_lt, Bool, true, false, true≢false, not, ◌&&◌, if◌then◌else◌, List, [], ◌∷◌, ◌++◌, All, Option, Some, None, option_map, Result, Ok, Err, refl, sym, ap, subst, ◌∙◌, arith, ℤ, pos, negsuc, neg_ℤ, ◌≤ℤ◌}
 use Rattle.std.specs.Int.{int_min, int_max}
 use Rattle.std.proofs.lemmas.Int.{ints, fold-int_min_bounds, fold-int_max_bounds}
 use Rattle.std.proofs.lemmas.List.Elements.{All-cons}
 use Rattle.std.proofs.lemmas.Bool.Decides.{nat_tests}
 use Rattle.std.proofs.lemmas.Nat.{div-add-mod'}
 use Rattle.mintc_text.specs.declared.refusals.Refusal.{Refusal}
-use Rattle.mintc_text.specs.Decimals.{Number, over, under, away, floor_of, ceiling_of, IsQuotient, tens_up}
+use Rattle.mintc_text.specs.Decimals.{Number, over, under, away, floor_of, ceiling_of, tens_up}
 use Rattle.mintc_sdf.specs.declared.delays.Delay.{Delay}
 use Rattle.mintc_sdf.specs.declared.numbers.Fault.{Fault}
 use Rattle.mintc_sdf.specs.declared.numbers.Fault.TheVariants as fault
 use Rattle.mintc_sdf.specs.Numbers.{is_far, is_below_zero, rounded_down, rounded_up, least, greatest, number_fault, or_else}
 use Rattle.mintc_sdf.specs.Texts.{Said, may_be_negative, refusal_of, fault_of, first_fault, delays_by, delays_from, said_in, judged, reading, delays_of}
 use Rattle.mintc_sdf.specs.Tokens.{tokens_of}
-use Rattle.mintc_sdf.specs.Laws.{lowest, IsWithin}
+use Rattle.mintc_sdf.specs.Laws.{IsWithin}
 use Rattle.mintc_sdf.proofs.RoundLaws.{less, quotient, under-some}
 
 -- the least that a number may be, where it may be below 0 or not

@@ -1,6 +1,6 @@
-use Rattle.std.proofs.Common.{◌≡◌, ℕ, suc, ◌+◌, ◌++◌, ◌∷◌, [], Some, None, sym, ap, ◌∙◌, arith, lt-ltb}
+use Rattle.std.proofs.Common.{◌≡◌, suc, ◌+◌, ◌++◌, ◌∷◌, [], Some, None, sym, ap, ◌∙◌, arith, lt-ltb}
 use Rattle.mintc_sdf.specs.Tokens.{opening}
-use Rattle.mintc_sdf.specs.Conditions.{noted, walked}
+use Rattle.mintc_sdf.specs.Conditions.{walked}
 use Rattle.mintc_sdf.proofs.ConditionLaws.{step-in, step-last}
 use Rattle.mintc_sdf.proofs.conditions.begin.Goals as goal
 

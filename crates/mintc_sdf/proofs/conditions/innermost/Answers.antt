@@ -1,4 +1,4 @@
-use Rattle.std.proofs.Common.{◌≡◌, ℕ, suc, ◌+◌, ◌≤◌, ◌∷◌, [], length, Some, None, refl, sym, ap, ◌∙◌, arith, le-ltb}
+use Rattle.std.proofs.Common.{◌≡◌, suc, ◌+◌, ◌≤◌, ◌∷◌, length, sym, ap, ◌∙◌, arith, le-ltb}
 use Rattle.mintc_sdf.specs.Tokens.{opening}
 use Rattle.mintc_sdf.specs.Conditions.{walked}
 use Rattle.mintc_sdf.proofs.ItemLaws.{step-opening}
