@@ -1,0 +1,9 @@
+use Rattle.std.proofs.Common.{arith, ap, length, length-drop, drop}
+use Rattle.mintc_sdf.proofs.TokenLaws.{few}
+use Rattle.mintc_sdf.proofs.reader.Reader.bytes_left.Goals as goal
+
+pub returns : goal.returns
+returns c =
+    let most = few 0 (drop c.self.inside.at c.self.inside.text.now) in
+    let same = ap length c.self.view_is in
+    omega (arith, most, same, length-drop c.self.inside.at c.self.inside.text.now)
