@@ -1,4 +1,4 @@
-use Rattle.std.proofs.Common.{sym, ◌∙◌, arith}
+use Rattle.std.proofs.Common.{◌∙◌, arith}
 use Rattle.mintc_vlex.proofs.TokenLaws.{token-found, token-later, token-none}
 use Rattle.mintc_vlex.proofs.token_list.next_token.Goals as goal
 
