@@ -93,7 +93,13 @@ impl Found {
     {
         for to in 0..flat.elements().len() as u32 {
             let row = rows.of_bits[2 * to as usize];
-            self.add_at(element, to, &sums[row as usize], reached[row as usize], lane)?;
+            self.add_at(
+                element,
+                to,
+                &sums[row as usize],
+                reached[row as usize],
+                lane,
+            )?;
         }
         Ok(())
     }

@@ -297,7 +297,9 @@ fn is_found(alloc: Global, finder: &mut Finder, system: &System, place: usize) -
     requires { place < length system.now.pairs }
 {
     let pair = system.pairs()[place];
-    finder.path_of(alloc, system, pair.from, pair.to, pair.max).is_ok()
+    finder
+        .path_of(alloc, system, pair.from, pair.to, pair.max)
+        .is_ok()
 }
 
 /// Whether a path with the least sum is found for the pair at this place.
@@ -305,15 +307,15 @@ fn is_shortest_found(alloc: Global, finder: &mut Finder, system: &System, place:
     requires { place < length system.now.pairs }
 {
     let pair = system.pairs()[place];
-    finder.shortest_path_of(alloc, system, pair.from, pair.to, pair.min).is_ok()
+    finder
+        .shortest_path_of(alloc, system, pair.from, pair.to, pair.min)
+        .is_ok()
 }
 
 #[test]
 fn finders_find_the_paths(rt: HostRuntime) -> Result<(), Fail> {
     let alloc = rt.alloc();
-    for case in &[
-        NINE, INNER, PATHS, PARALLEL, SELVES, ENDS, DIAMOND, ELEVEN,
-    ] {
+    for case in &[NINE, INNER, PATHS, PARALLEL, SELVES, ENDS, DIAMOND, ELEVEN] {
         let system = system_of(&rt, alloc, case).ok().ok_or(case.name)?;
         let mut finder = Finder::new(alloc, &system).ok().ok_or("no memory")?;
         for place in 0..system.pairs().len() {
