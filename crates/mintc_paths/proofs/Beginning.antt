@@ -16,7 +16,7 @@ use Rattle.mintc_paths.specs.Sums.{sums_at, IsBounded, IsAlike, AreBegun}
 use Rattle.mintc_paths.proofs.Best.{greatest_choice, least_choice, IsBest-begun}
 
 -- a row of absent lanes
-none_at : (lane : ℕ) → lane < 8 → (lane_at NO_SUMS.greatest lane ≡ None) × (lane_at NO_SUMS.least lane ≡ None)
+pub none_at : (lane : ℕ) → lane < 8 → (lane_at NO_SUMS.greatest lane ≡ None) × (lane_at NO_SUMS.least lane ≡ None)
 none_at lane below = let e = get_or-replicate 8 lane ABSENT ABSENT below in (ap lane_of e, ap lane_of e)
 
 within_none : (x : Option ℤ) → x ≡ None → IfSome x (λ z. unsigned_abs z ≤ 0)

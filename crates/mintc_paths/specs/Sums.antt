@@ -1,5 +1,5 @@
 -- Sums of paths to bits, from up to eight elements at a time.
-use Rattle.std.specs.Prelude.{◌≡◌, ◌<◌, ◌≤◌, ◌+◌, ◌*◌, ℕ, None, List, [], length, slice_index_or, map, Bool, false}
+use Rattle.std.specs.Prelude.{◌≡◌, ◌<◌, ◌≤◌, ◌+◌, ◌*◌, ℕ, None, List, [], length, slice_index_or, map, Bool, true, false}
 use Rattle.mintc_timing.specs.declared.parts.TimingArc.{TimingArc}
 use Rattle.mintc_timing.specs.Paths.{output_of, arc_at}
 use Rattle.mintc_lanes.specs.Lanes.{lane_at, AreWithin}
@@ -8,6 +8,7 @@ use Rattle.mintc_paths.specs.declared.rows.Rows.{Rows}
 use Rattle.mintc_paths.specs.declared.rows.Course.{Course}
 use Rattle.mintc_paths.specs.declared.sums.TheConstants.{NO_SUMS}
 use Rattle.mintc_paths.specs.Among.{IsGreatestAmong, IsLeastAmong}
+use Rattle.mintc_paths.specs.Spans.{AreSpans}
 
 -- the sums at a bit; a bit past the end has none
 abbrev pub no_sums : Sums
@@ -65,12 +66,18 @@ pub record AreAlong (arcs : List TimingArc) (order : List ℕ) (rows : List ℕ)
   pub count : length along ≡ k
   pub each : (i : ℕ) → i < k → arc_at along i ≡ moved rows (arc_at arcs (slice_index_or order i 0))
 
--- The course has rows for so many bits, and all arcs in their order.
+-- The course has rows for so many bits with their spans, and all arcs in their order.
 pub record IsCourse (n : ℕ) (arcs : List TimingArc) (order : List ℕ) (course : Course) : Type 0 where
   pub rows : AreRows n course.rows
   pub along : AreAlong arcs order course.rows.of_bits.items (length order) course.along.items
+  pub spans : AreSpans course.along.items n course.spans
 
 -- There is a mark for each row, and one that isn't marked as reached has no sums.
 pub record AreMarked (sums : List Sums) (reached : List Bool) : Type 0 where
   pub count : length reached ≡ length sums
   pub none : (bit : ℕ) → bit < length sums → slice_index_or reached bit false ≡ false → sums_at sums bit ≡ NO_SUMS
+
+-- Of the rows none is marked but those of the outputs of so many elements.
+abbrev pub AreOutputs : List ℕ → ℕ → ℕ → List Bool → Type 0
+AreOutputs rows first lanes reached = (row : ℕ) → row < length reached → slice_index_or reached row false ≡ true →
+    (lane : ℕ) × (lane < lanes) × (row ≡ row_of rows (output_of (first + lane)))

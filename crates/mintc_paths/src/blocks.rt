@@ -87,7 +87,7 @@ fn find_block(
     if let Err(refusal) = refuse_long(flat, sums, reached, rows, first, lanes, known_short) {
         return Err(Stop::Refused(refusal));
     }
-    match found.add_all(flat, sums, rows, first, lanes) {
+    match found.add_all(flat, sums, reached, rows, first, lanes) {
         Ok(()) => Ok(()),
         Err(_) => Err(Stop::OutOfMemory),
     }

@@ -1,8 +1,8 @@
 //! Pairs as they are found.
-ghost use Rattle.std.specs.Prelude.{◌≡◌, ◌<◌, ◌≤◌, ◌^◌, ◌+◌, ◌*◌, ◌++◌, ◌∷◌, [], length, OnOk};
+ghost use Rattle.std.specs.Prelude.{◌≡◌, ◌<◌, ◌≤◌, ◌^◌, ◌+◌, ◌*◌, ◌++◌, ◌∷◌, [], length, IsFalse, OnOk};
 
 use crate::rows::Rows;
-use crate::sums::{Sums, sum_in};
+use crate::sums::{NO_SUMS, Sums, sum_in};
 use mintc_text::OutOfMemory;
 use mintc_timing::{Flat, Pair};
 use std::alloc::Global;
@@ -18,7 +18,7 @@ impl Found {
     ghost use Rattle.mintc_paths.specs.Found.{IsFoundBefore};
     ghost use Rattle.mintc_timing.specs.Design.{Design};
     ghost use Rattle.mintc_lanes.specs.Lanes.{lane_at};
-    ghost use Rattle.mintc_paths.specs.Sums.{AreRows, placed};
+    ghost use Rattle.mintc_paths.specs.Sums.{AreMarked, AreRows, placed};
     ghost use Rattle.mintc_paths.specs.Reached.{IsPaired, IsPairedLane, AreExtremes};
 
     /// No pairs.
@@ -45,13 +45,24 @@ impl Found {
         Ok(())
     }
 
-    /// The pair of two elements, whose sums are in this lane, if they are a pair.
-    fn add_at(&mut self, from: u32, to: u32, sums: &Sums, lane: usize) -> Result<(), OutOfMemory>
+    /// The pair of two elements, whose sums are in this lane, if they are a pair. Sums that aren't marked as reached are none.
+    fn add_at(
+        &mut self,
+        from: u32,
+        to: u32,
+        sums: &Sums,
+        reached: bool,
+        lane: usize,
+    ) -> Result<(), OutOfMemory>
+        requires marked { IsFalse reached → sums.now ≡ NO_SUMS }
         requires count { self.old.count < 2 ^ 62 }
         requires lane { lane < 8 }
         ensures { OnOk result ((design : Design) → IsPaired design from to (lane_at sums.now.greatest lane) (lane_at sums.now.least lane)
             → IsFoundBefore design from to self.old → IsFoundBefore design from (to + 1) self.new) }
     {
+        if !reached {
+            return Ok(());
+        }
         let Some(max) = sum_in(&sums.greatest, lane) else {
             return Ok(());
         };
@@ -66,12 +77,14 @@ impl Found {
         &mut self,
         flat: &Flat,
         sums: &[Sums],
+        reached: &[bool],
         rows: &Rows,
         element: u32,
         lane: usize,
     ) -> Result<(), OutOfMemory>
         requires bits { 2 * length flat.now.elements ≤ length sums.now }
         requires rows { AreRows (length sums.now) rows.now }
+        requires marked { AreMarked sums.now reached.now }
         requires element { element < length flat.now.elements }
         requires lane { lane < 8 }
         requires paired { IsPairedLane flat.now (placed rows.now.of_bits.items sums.now) element lane }
@@ -80,7 +93,13 @@ impl Found {
     {
         for to in 0..flat.elements().len() as u32 {
             let row = rows.of_bits[2 * to as usize];
-            self.add_at(element, to, &sums[row as usize], lane)?;
+            self.add_at(
+                element,
+                to,
+                &sums[row as usize],
+                reached[row as usize],
+                lane,
+            )?;
         }
         Ok(())
     }
@@ -90,12 +109,14 @@ impl Found {
         &mut self,
         flat: &Flat,
         sums: &[Sums],
+        reached: &[bool],
         rows: &Rows,
         first: u32,
         lanes: usize,
     ) -> Result<(), OutOfMemory>
         requires bits { 2 * length flat.now.elements ≤ length sums.now }
         requires rows { AreRows (length sums.now) rows.now }
+        requires marked { AreMarked sums.now reached.now }
         requires elements { first + lanes ≤ length flat.now.elements }
         requires lanes { lanes ≤ 8 }
         requires extremes { AreExtremes flat.now first lanes (placed rows.now.of_bits.items sums.now) }
@@ -104,7 +125,7 @@ impl Found {
     {
         let _elements = flat.elements();
         for lane in 0..lanes {
-            self.add_from(flat, sums, rows, first + lane as u32, lane)?;
+            self.add_from(flat, sums, reached, rows, first + lane as u32, lane)?;
         }
         Ok(())
     }

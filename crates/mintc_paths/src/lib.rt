@@ -23,6 +23,7 @@ mod longest;
 mod reached;
 mod route;
 mod rows;
+mod spans;
 mod steps;
 mod sums;
 mod trace;

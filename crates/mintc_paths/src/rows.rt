@@ -4,6 +4,7 @@ ghost use Rattle.std.specs.Prelude.{◌≡◌, ◌+◌, ◌*◌, ◌<◌, ◌^�
 ghost use Rattle.mintc_timing.specs.Order.{IsOrder};
 ghost use Rattle.mintc_paths.specs.Sums.{row_of, AreRows, IsCourse};
 
+use crate::spans::Spans;
 use mintc_timing::{Flat, Order, TimingArc};
 use std::alloc::{AllocError, Global};
 
@@ -83,6 +84,7 @@ impl Rows {
 pub struct Course {
     pub rows: Rows,
     pub along: Vec<TimingArc>,
+    pub spans: Spans,
 }
 
 impl Course {
@@ -103,6 +105,7 @@ impl Course {
             arc.to = rows.of_bits[arc.to as usize];
             along.push(arc)?;
         }
-        Ok(Course { rows, along })
+        let spans = Spans::new(alloc, &along, rows.of_bits.len())?;
+        Ok(Course { rows, along, spans })
     }
 }

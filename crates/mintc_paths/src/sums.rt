@@ -1,12 +1,14 @@
 //! Sums of paths to bits, from up to eight elements at a time.
-ghost use Rattle.std.specs.Prelude.{◌≡◌, ◌≢◌, ◌+◌, ◌*◌, ◌<◌, ◌≤◌, ℕ, List, pos, length, None, Some, IfSome, FitsSigned};
+ghost use Rattle.std.specs.Prelude.{◌≡◌, ◌≢◌, ◌+◌, ◌*◌, ◌<◌, ◌≤◌, ℕ, List, pos, length, slice_index_or, false, None, Some, IfSome, FitsSigned};
 ghost use Rattle.std.specs.Int.{int_max, int_min, w64};
 ghost use Rattle.mintc_lanes.specs.Lanes.{lane_at, AreJoined};
 ghost use Rattle.mintc_timing.specs.Limits.{IsDelay};
 ghost use Rattle.mintc_timing.specs.Order.{IsOrder};
+ghost use Rattle.mintc_timing.specs.Paths.{output_of};
 ghost use Rattle.mintc_timing.specs.declared.parts.TimingArc.{TimingArc};
 ghost use Rattle.mintc_paths.specs.Reached.{AreExtremes};
-ghost use Rattle.mintc_paths.specs.Sums.{sums_at, placed, IsBounded, IsAlike, AreRows, IsCourse, AreBegun, AreMarked, AreSums};
+ghost use Rattle.mintc_paths.specs.Spans.{AreSpans};
+ghost use Rattle.mintc_paths.specs.Sums.{sums_at, row_of, placed, IsBounded, IsAlike, AreRows, IsCourse, AreBegun, AreMarked, AreOutputs, AreSums};
 
 use crate::rows::{Course, Rows};
 use mintc_lanes::{ABSENT, max_plus_row, min_plus_row};
@@ -56,6 +58,7 @@ fn wipe(sums: &mut [Sums], reached: &mut [bool])
     requires { AreMarked sums.old reached.old }
     ensures none { (bit : ℕ) → bit < length sums.new → sums_at sums.new bit ≡ NO_SUMS }
     ensures marked { AreMarked sums.new reached.new }
+    ensures off { (bit : ℕ) → bit < length sums.new → slice_index_or reached.new bit false ≡ false }
 {
     for bit in 0..sums.len() {
         if reached[bit] {
@@ -73,6 +76,7 @@ fn clear(sums: &mut [Sums], reached: &mut [bool], rows: &Rows, first: u32, lanes
     requires marked { AreMarked sums.old reached.old }
     ensures begun { (arcs : List TimingArc) (order : List ℕ) → AreBegun arcs order first lanes (placed rows.now.of_bits.items sums.new) }
     ensures marked { AreMarked sums.new reached.new }
+    ensures outputs { AreOutputs rows.now.of_bits.items first lanes reached.new }
 {
     wipe(sums, reached);
     for lane in 0..lanes {
@@ -94,6 +98,7 @@ fn carry(sums: &mut [Sums], reached: &mut [bool], arc: TimingArc)
     requires alike { IsAlike (sums_at sums.old arc.from) }
     requires marked { AreMarked sums.old reached.old }
     ensures marked { AreMarked sums.new reached.new }
+    ensures rows { (row : ℕ) → row ≢ arc.to → slice_index_or reached.new row false ≡ slice_index_or reached.old row false }
     ensures others { (bit : ℕ) → bit ≢ arc.to → sums_at sums.new bit ≡ sums_at sums.old bit }
     ensures greatest { AreJoined int_max (sums_at sums.old arc.to).greatest (sums_at sums.old arc.from).greatest arc.max (sums_at sums.new arc.to).greatest }
     ensures least { AreJoined int_min (sums_at sums.old arc.to).least (sums_at sums.old arc.from).least arc.min (sums_at sums.new arc.to).least }
@@ -108,8 +113,27 @@ fn carry(sums: &mut [Sums], reached: &mut [bool], arc: TimingArc)
     }
 }
 
+/// Where the arcs that leave the outputs of so many elements stand: from which place on, and before which.
+fn window(course: &Course, first: u32, lanes: usize) -> (u32, u32)
+    requires outputs { 2 * (first + lanes) ≤ length course.now.rows.of_bits.items }
+    requires rows { AreRows (length course.now.rows.of_bits.items) course.now.rows }
+    requires spans { AreSpans course.now.along.items (length course.now.rows.of_bits.items) course.now.spans }
+    ensures start { (lane : ℕ) → lane < lanes → result.0 ≤ row_of course.now.spans.firsts.items (row_of course.now.rows.of_bits.items (output_of (first + lane))) }
+    ensures end { (lane : ℕ) → lane < lanes → row_of course.now.spans.ends.items (row_of course.now.rows.of_bits.items (output_of (first + lane))) ≤ result.1 }
+{
+    let mut start = u32::MAX;
+    let mut end = 0;
+    for lane in 0..lanes {
+        let row = course.rows.of_bits[2 * (first as usize + lane) + 1] as usize;
+        start = start.min(course.spans.firsts[row]);
+        end = end.max(course.spans.ends[row]);
+    }
+    (start, end)
+}
+
 /// Makes the sums those of the listed paths, and of the empty ones, from up to eight elements from `first` on. A row
-/// without sums isn't marked as reached.
+/// without sums isn't marked as reached. Arcs are passed over that stand before those of the outputs, or after those of the
+/// rows that are reached.
 pub fn fill(
     sums: &mut [Sums],
     reached: &mut [bool],
@@ -131,7 +155,14 @@ pub fn fill(
 {
     clear(sums, reached, &course.rows, first, lanes);
     let _elements = flat.elements();
-    for arc in &course.along {
-        carry(sums, reached, *arc);
+    let (start, mut end) = window(course, first, lanes);
+    let mut place = course.along.len().min(start as usize);
+    while place < course.along.len().min(end as usize) {
+        let arc = course.along[place];
+        carry(sums, reached, arc);
+        if reached[arc.to as usize] {
+            end = end.max(course.spans.ends[arc.to as usize]);
+        }
+        place += 1;
     }
 }

@@ -1,4 +1,5 @@
 //! Tests of what no clause says: the worked designs, and small ones against a plain listing of all paths.
+ghost use Rattle.std.specs.Prelude.{◌<◌, length};
 ghost use Rattle.std.specs.Bool.{OnTrue};
 ghost use Rattle.mintc_paths.specs.Trace.{IsPairOf};
 
@@ -291,21 +292,35 @@ fn paths_have_the_sums(rt: HostRuntime) -> Result<(), Fail> {
     Ok(())
 }
 
+/// Whether a path with the greatest sum is found for the pair at this place.
+fn is_found(alloc: Global, finder: &mut Finder, system: &System, place: usize) -> bool
+    requires { place < length system.now.pairs }
+{
+    let pair = system.pairs()[place];
+    finder
+        .path_of(alloc, system, pair.from, pair.to, pair.max)
+        .is_ok()
+}
+
+/// Whether a path with the least sum is found for the pair at this place.
+fn is_shortest_found(alloc: Global, finder: &mut Finder, system: &System, place: usize) -> bool
+    requires { place < length system.now.pairs }
+{
+    let pair = system.pairs()[place];
+    finder
+        .shortest_path_of(alloc, system, pair.from, pair.to, pair.min)
+        .is_ok()
+}
+
 #[test]
 fn finders_find_the_paths(rt: HostRuntime) -> Result<(), Fail> {
     let alloc = rt.alloc();
     for case in &[NINE, INNER, PATHS, PARALLEL, SELVES, ENDS, DIAMOND, ELEVEN] {
         let system = system_of(&rt, alloc, case).ok().ok_or(case.name)?;
         let mut finder = Finder::new(alloc, &system).ok().ok_or("no memory")?;
-        let pairs = system.pairs();
-        for place in 0..pairs.len() {
-            let Pair { from, to, min, max } = pairs[place];
-            assert!(rt; finder.path_of(alloc, &system, from, to, max).is_ok());
-            assert!(rt;
-                finder
-                    .shortest_path_of(alloc, &system, from, to, min)
-                    .is_ok()
-            );
+        for place in 0..system.pairs().len() {
+            assert!(rt; is_found(alloc, &mut finder, &system, place));
+            assert!(rt; is_shortest_found(alloc, &mut finder, &system, place));
         }
     }
     Ok(())

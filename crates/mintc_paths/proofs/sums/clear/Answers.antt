@@ -1,4 +1,5 @@
-use Rattle.std.proofs.Common.{◌≡◌, ◌<◌, ◌+◌, ◌*◌, ◌∙◌, ℕ, List, length, arith, subst}
+use Rattle.std.proofs.Common.{◌≡◌, ◌<◌, ◌+◌, ◌*◌, ◌∙◌, ℕ, Bool, true, false, List, length, get_or-set_other, length-set, arith, sym, subst, ⊎_elim}
+use Rattle.std.proofs.lemmas.Bool.{cases_eq}
 use Rattle.std.proofs.lemmas.List.{get_or_default}
 use Rattle.mintc_paths.specs.declared.sums.Sums.{Sums}
 use Rattle.mintc_paths.specs.Sums.{row_of, placed, AreBegun}
@@ -10,6 +11,7 @@ pub loop-lane-init : goal.loop-lane-init
 loop-lane-init c = record {
   begun = λ arcs order. AreBegun-placed_none arcs order c.args.first (length c.args.sums.now) c.args.rows.now c.requires.rows c.wipe.new.sums c.wipe.auto.sums c.wipe.ensures.none;
   marked = c.wipe.ensures.marked;
+  outputs = λ row below on. let both = c.wipe.ensures.marked.count in let off = c.wipe.ensures.off row (omega arith) in absurd (cc);
   count = c.wipe.auto.sums;
 }
 
@@ -32,6 +34,13 @@ loop-lane-preserved c =
           AreBegun-placed_more arcs order c.args.first lane n c.args.rows.now c.requires.rows old new (omega arith) inside
           (subst (λ at. IsBegun old new at lane) is_row begun) (c.loop-lane.invariant.begun arcs order);
       marked = marked_more old new c.loop-lane.reached row c.begin.auto.sums c.begin.ensures.others c.loop-lane.invariant.marked;
+      outputs = λ r below on. ⊎_elim
+          (λ (e : r ≡ row). (lane, omega arith, e ∙ is_row))
+          (λ ne.
+          let long = length-set {A = Bool} c.loop-lane.reached row true in
+          let at = c.loop-lane.invariant.outputs r (omega arith) (sym (get_or-set_other c.loop-lane.reached row r true false ne) ∙ on) in
+          (at.0, omega (arith, at.1), at.2))
+          (cases_eq r row);
       count = c.begin.auto.sums ∙ c.loop-lane.invariant.count;
     }
 

@@ -1,110 +1,180 @@
-use Rattle.std.proofs.Common.{◌≡◌, ◌<◌, ◌≤◌, ◌+◌, ◌*◌, ◌∙◌, ℕ, List, length, get_or, arith, refl, subst, ap}
+use Rattle.std.proofs.Common.{◌≡◌, ◌≢◌, ◌<◌, ◌≤◌, ◌∙◌, ℕ, false, List, length, get_or, arith, sym, subst, ap, ⊎_elim}
+use Rattle.std.proofs.lemmas.Bool.{cases_eq}
+use Rattle.std.proofs.lemmas.List.{get_or_default}
 use Rattle.mintc_timing.specs.declared.parts.TimingArc.{TimingArc}
-use Rattle.mintc_timing.specs.Design.{Design}
-use Rattle.mintc_timing.specs.Limits.{IsDesign}
+use Rattle.mintc_timing.specs.Design.{no_arc}
+use Rattle.mintc_timing.specs.Limits.{IsDelay}
 use Rattle.mintc_timing.specs.Paths.{arc_at}
-use Rattle.mintc_timing.specs.Order.{IsOrder}
-use Rattle.mintc_timing.proofs.Ordered.{inside}
-use Rattle.mintc_paths.specs.declared.sums.Sums.{Sums}
-use Rattle.mintc_paths.specs.declared.rows.Course.{Course}
-use Rattle.mintc_paths.specs.Sums.{AreSums, IsCourse, sums_at, row_of, moved, placed}
+use Rattle.mintc_paths.specs.Sums.{IsAlike, IsBounded, placed, row_of, sums_at}
+use Rattle.mintc_paths.proofs.Filling.{IsCarried}
+use Rattle.mintc_paths.proofs.Passing.{row_in, row_to_in, apart_rows, min_in, max_in, from_bounded, to_bounded, from_alike, carried_along, passed_before, passed_after}
 use Rattle.mintc_paths.proofs.Reaching.{AreExtremes-from_sums}
-use Rattle.mintc_paths.proofs.Filling.{IsBounded-weaker, IsCarried, AreSums-more, arc_inside}
-use Rattle.mintc_paths.proofs.Rowing.{length-placed, bounded_row, alike_row, IsCarried-placed}
+use Rattle.mintc_paths.proofs.Rowing.{length-placed}
 use Rattle.mintc_paths.proofs.sums.fill.Goals as goal
+use Rattle.mintc_paths.proofs.sums.fill.Goals.{then-reached-arc, else-reached-arc}
 
--- The arc that the loop reads is the one at this place of the order, moved to its rows.
-record IsRead (design : Design) (order rows : List ℕ) (n i : ℕ) (read : TimingArc) : Type 0 where
-  low : i < length order
-  few : i * 1000000000 ≤ 1000000000000000
-  from : (arc_at design.arcs (get_or order i 0)).from < n
-  to : (arc_at design.arcs (get_or order i 0)).to < n
-  same : read ≡ moved rows (arc_at design.arcs (get_or order i 0))
-
-read_at : (design : Design) (order : List ℕ) (course : Course) (n i : ℕ) (along : List TimingArc) → IsDesign design → IsOrder design.arcs order → IsCourse n design.arcs order course →
-    n ≡ 2 * length design.elements + length design.inner → along ≡ course.along.items → i < length along → IsRead design order course.rows.of_bits.items n i (arc_at along i)
-read_at design order course n i along kept is_order is_course bits items below =
-    let low : i < length order = subst (λ m. i < m) (ap (λ (xs : List TimingArc). length xs) items ∙ is_course.along.count) below in
-    let arcs_in_order = is_order.count in
-    let few = kept.arcs in
-    let arc = arc_inside design.arcs order is_order (length design.elements) (length design.inner) kept.each_arc i low in
+pub loop-place-init : goal.loop-place-init
+loop-place-init c =
+    let along = c.requires.course.along.count in
+    let begun = c.clear.ensures.begun c.args.flat.now.arcs c.args.order.now in
     record {
-      low = low;
-      few = omega arith;
-      from = omega (arith, arc.from);
-      to = omega (arith, arc.to);
-      same = ap (λ (xs : List TimingArc). arc_at xs i) items ∙ is_course.along.each i low;
+      sums_so_far = passed_before c.args.flat.now c.args.order.now c.requires.order c.elements-elements.ensures.kept c.args.course.now (length c.args.sums.now) c.requires.course c.requires.bits
+          c.args.first c.args.lanes c.requires.lanes c.clear.new.sums c.clear.auto.sums c.clear.new.reached c.clear.ensures.marked c.window-start.result.0 c.min-place.result (omega arith)
+          (omega (arith, c.args.course.now.along.ok.0)) c.clear.ensures.outputs c.window-start.ensures.start begun.sums_so_far;
+      marked = c.clear.ensures.marked;
+      count = c.clear.auto.sums;
+      inside = omega (arith, c.args.course.now.along.ok.0);
+      ends = λ row low on.
+          let both = c.clear.ensures.marked.count in
+          let at = c.clear.ensures.outputs row (omega arith) on in
+          subst (λ r. row_of c.args.course.now.spans.ends.items r ≤ c.window-start.result.1) (sym at.2) (c.window-start.ensures.end at.0 at.1);
     }
+
+pub carry-requires-clause-from : goal.carry-requires-clause-from
+carry-requires-clause-from c =
+    let i : ℕ = c.loop-place.place in
+    let along : List TimingArc = c.args.course.now.along.items in
+    let all = c.requires.course.along.count in
+    let below : i < length along = omega (arith, c.args.course.now.along.ok.0) in
+    let low : i < length c.args.order.now = omega arith in
+    let is : c.index-arc.result.now ≡ arc_at along i = c.index-arc.ensures ∙ get_or_default along i c.index-arc.result.now no_arc below in
+    subst (λ (a : TimingArc). a.from < length c.loop-place.sums) (sym is) (subst (λ n. (arc_at along i).from < n) (sym c.loop-place.invariant.count) (row_in c.args.flat.now c.args.order.now c.requires.order c.elements-elements.ensures.kept c.args.course.now (length c.args.sums.now) c.requires.course c.requires.bits i low))
+
+pub carry-requires-clause-to : goal.carry-requires-clause-to
+carry-requires-clause-to c =
+    let i : ℕ = c.loop-place.place in
+    let along : List TimingArc = c.args.course.now.along.items in
+    let all = c.requires.course.along.count in
+    let below : i < length along = omega (arith, c.args.course.now.along.ok.0) in
+    let low : i < length c.args.order.now = omega arith in
+    let is : c.index-arc.result.now ≡ arc_at along i = c.index-arc.ensures ∙ get_or_default along i c.index-arc.result.now no_arc below in
+    subst (λ (a : TimingArc). a.to < length c.loop-place.sums) (sym is) (subst (λ n. (arc_at along i).to < n) (sym c.loop-place.invariant.count) (row_to_in c.args.flat.now c.args.order.now c.requires.order c.elements-elements.ensures.kept c.args.course.now (length c.args.sums.now) c.requires.course c.requires.bits i low))
+
+pub carry-requires-clause-apart : goal.carry-requires-clause-apart
+carry-requires-clause-apart c =
+    let i : ℕ = c.loop-place.place in
+    let along : List TimingArc = c.args.course.now.along.items in
+    let all = c.requires.course.along.count in
+    let below : i < length along = omega (arith, c.args.course.now.along.ok.0) in
+    let low : i < length c.args.order.now = omega arith in
+    let is : c.index-arc.result.now ≡ arc_at along i = c.index-arc.ensures ∙ get_or_default along i c.index-arc.result.now no_arc below in
+    subst (λ (a : TimingArc). a.from ≢ a.to) (sym is) (apart_rows c.args.flat.now c.args.order.now c.requires.order c.elements-elements.ensures.kept c.args.course.now (length c.args.sums.now) c.requires.course c.requires.bits i low)
+
+pub carry-requires-clause-min : goal.carry-requires-clause-min
+carry-requires-clause-min c =
+    let i : ℕ = c.loop-place.place in
+    let along : List TimingArc = c.args.course.now.along.items in
+    let all = c.requires.course.along.count in
+    let below : i < length along = omega (arith, c.args.course.now.along.ok.0) in
+    let low : i < length c.args.order.now = omega arith in
+    let is : c.index-arc.result.now ≡ arc_at along i = c.index-arc.ensures ∙ get_or_default along i c.index-arc.result.now no_arc below in
+    subst (λ (a : TimingArc). IsDelay a.min) (sym is) (min_in c.args.flat.now c.args.order.now c.requires.order c.elements-elements.ensures.kept c.args.course.now (length c.args.sums.now) c.requires.course c.requires.bits i low)
+
+pub carry-requires-clause-max : goal.carry-requires-clause-max
+carry-requires-clause-max c =
+    let i : ℕ = c.loop-place.place in
+    let along : List TimingArc = c.args.course.now.along.items in
+    let all = c.requires.course.along.count in
+    let below : i < length along = omega (arith, c.args.course.now.along.ok.0) in
+    let low : i < length c.args.order.now = omega arith in
+    let is : c.index-arc.result.now ≡ arc_at along i = c.index-arc.ensures ∙ get_or_default along i c.index-arc.result.now no_arc below in
+    subst (λ (a : TimingArc). IsDelay a.max) (sym is) (max_in c.args.flat.now c.args.order.now c.requires.order c.elements-elements.ensures.kept c.args.course.now (length c.args.sums.now) c.requires.course c.requires.bits i low)
 
 pub carry-requires-clause-from_bounded : goal.carry-requires-clause-from_bounded
 carry-requires-clause-from_bounded c =
-    let i : ℕ = c.loop-arc.arc-index in
-    let arcs : List TimingArc = c.args.flat.now.arcs in
-    let order : List ℕ = c.args.order.now in
-    let at = read_at c.args.flat.now order c.args.course.now (length c.args.sums.now) i c.deref-arc-items.result.now c.elements-elements.ensures.kept c.requires.order c.requires.course c.requires.bits
-    c.deref-arc-items.ensures.value c.loop-arc-test.true in
-    let bit : ℕ = (arc_at arcs (get_or order i 0)).from in
-    rw at.same
-    (IsBounded-weaker (i * 1000000000) 1000000000000000 (sums_at c.loop-arc.sums (row_of c.args.course.now.rows.of_bits.items bit)) at.few
-    (bounded_row arcs order i c.args.first c.args.lanes (length c.args.sums.now) c.args.course.now.rows c.requires.course.rows c.loop-arc.sums c.loop-arc.invariant.sums_so_far bit at.from))
+    let i : ℕ = c.loop-place.place in
+    let along : List TimingArc = c.args.course.now.along.items in
+    let all = c.requires.course.along.count in
+    let below : i < length along = omega (arith, c.args.course.now.along.ok.0) in
+    let low : i < length c.args.order.now = omega arith in
+    let is : c.index-arc.result.now ≡ arc_at along i = c.index-arc.ensures ∙ get_or_default along i c.index-arc.result.now no_arc below in
+    subst (λ (a : TimingArc). IsBounded 1000000000000000 (sums_at c.loop-place.sums a.from)) (sym is) (from_bounded c.args.flat.now c.args.order.now c.requires.order c.elements-elements.ensures.kept c.args.course.now (length c.args.sums.now) c.requires.course c.requires.bits c.args.first c.args.lanes c.requires.lanes c.loop-place.sums c.loop-place.invariant.count i low c.loop-place.invariant.sums_so_far)
 
 pub carry-requires-clause-to_bounded : goal.carry-requires-clause-to_bounded
 carry-requires-clause-to_bounded c =
-    let i : ℕ = c.loop-arc.arc-index in
-    let arcs : List TimingArc = c.args.flat.now.arcs in
-    let order : List ℕ = c.args.order.now in
-    let at = read_at c.args.flat.now order c.args.course.now (length c.args.sums.now) i c.deref-arc-items.result.now c.elements-elements.ensures.kept c.requires.order c.requires.course c.requires.bits
-    c.deref-arc-items.ensures.value c.loop-arc-test.true in
-    let bit : ℕ = (arc_at arcs (get_or order i 0)).to in
-    rw at.same
-    (IsBounded-weaker (i * 1000000000) 1000000000000000 (sums_at c.loop-arc.sums (row_of c.args.course.now.rows.of_bits.items bit)) at.few
-    (bounded_row arcs order i c.args.first c.args.lanes (length c.args.sums.now) c.args.course.now.rows c.requires.course.rows c.loop-arc.sums c.loop-arc.invariant.sums_so_far bit at.to))
+    let i : ℕ = c.loop-place.place in
+    let along : List TimingArc = c.args.course.now.along.items in
+    let all = c.requires.course.along.count in
+    let below : i < length along = omega (arith, c.args.course.now.along.ok.0) in
+    let low : i < length c.args.order.now = omega arith in
+    let is : c.index-arc.result.now ≡ arc_at along i = c.index-arc.ensures ∙ get_or_default along i c.index-arc.result.now no_arc below in
+    subst (λ (a : TimingArc). IsBounded 1000000000000000 (sums_at c.loop-place.sums a.to)) (sym is) (to_bounded c.args.flat.now c.args.order.now c.requires.order c.elements-elements.ensures.kept c.args.course.now (length c.args.sums.now) c.requires.course c.requires.bits c.args.first c.args.lanes c.requires.lanes c.loop-place.sums c.loop-place.invariant.count i low c.loop-place.invariant.sums_so_far)
 
 pub carry-requires-clause-alike : goal.carry-requires-clause-alike
 carry-requires-clause-alike c =
-    let i : ℕ = c.loop-arc.arc-index in
-    let arcs : List TimingArc = c.args.flat.now.arcs in
-    let order : List ℕ = c.args.order.now in
-    let at = read_at c.args.flat.now order c.args.course.now (length c.args.sums.now) i c.deref-arc-items.result.now c.elements-elements.ensures.kept c.requires.order c.requires.course c.requires.bits
-    c.deref-arc-items.ensures.value c.loop-arc-test.true in
-    rw at.same
-    (alike_row arcs order i c.args.first c.args.lanes (length c.args.sums.now) c.args.course.now.rows c.requires.course.rows c.loop-arc.sums c.loop-arc.invariant.sums_so_far
-    (arc_at arcs (get_or order i 0)).from at.from)
+    let i : ℕ = c.loop-place.place in
+    let along : List TimingArc = c.args.course.now.along.items in
+    let all = c.requires.course.along.count in
+    let below : i < length along = omega (arith, c.args.course.now.along.ok.0) in
+    let low : i < length c.args.order.now = omega arith in
+    let is : c.index-arc.result.now ≡ arc_at along i = c.index-arc.ensures ∙ get_or_default along i c.index-arc.result.now no_arc below in
+    subst (λ (a : TimingArc). IsAlike (sums_at c.loop-place.sums a.from)) (sym is) (from_alike c.args.flat.now c.args.order.now c.requires.order c.elements-elements.ensures.kept c.args.course.now (length c.args.sums.now) c.requires.course c.requires.bits c.args.first c.args.lanes c.requires.lanes c.loop-place.sums c.loop-place.invariant.count i low c.loop-place.invariant.sums_so_far)
 
-pub loop-arc-preserved : goal.loop-arc-preserved
-loop-arc-preserved c =
-    let i : ℕ = c.loop-arc.arc-index in
-    let arcs : List TimingArc = c.args.flat.now.arcs in
-    let order : List ℕ = c.args.order.now in
-    let n : ℕ = length c.args.sums.now in
-    let rows : List ℕ = c.args.course.now.rows.of_bits.items in
-    let at = read_at c.args.flat.now order c.args.course.now n i c.deref-arc-items.result.now c.elements-elements.ensures.kept c.requires.order c.requires.course c.requires.bits
-    c.deref-arc-items.ensures.value c.loop-arc-test.true in
-    let old : List Sums = c.loop-arc.sums in
-    let new : List Sums = c.carry.new.sums in
-    let of_bits = c.requires.course.rows.of_bits in
-    let in_rows = of_bits.count in
-    let carried : IsCarried (arc_at c.deref-arc-items.result.now i) old new = record { others = c.carry.ensures.others; greatest = c.carry.ensures.greatest; least = c.carry.ensures.least; bounded = c.carry.ensures.bounded } in
-    let of_rows : IsCarried (moved rows (arc_at arcs (get_or order i 0))) old new = subst (λ (a : TimingArc). IsCarried a old new) at.same carried in
-    let done = IsCarried-placed n rows c.args.course.now.rows.bits.items of_bits old new (arc_at arcs (get_or order i 0)) at.from at.to of_rows in
-    let before = length-placed rows old in
-    let after = length-placed rows new in
+pub bounds-reached-arc : goal.bounds-reached-arc
+bounds-reached-arc c =
+    let i : ℕ = c.loop-place.place in
+    let along : List TimingArc = c.args.course.now.along.items in
+    let all = c.requires.course.along.count in
+    let below : i < length along = omega (arith, c.args.course.now.along.ok.0) in
+    let low : i < length c.args.order.now = omega arith in
+    let is : c.index-arc.result.now ≡ arc_at along i = c.index-arc.ensures ∙ get_or_default along i c.index-arc.result.now no_arc below in
+    let inside : c.index-arc.result.now.to < length c.args.sums.now = subst (λ (a : TimingArc). a.to < length c.args.sums.now) (sym is) (row_to_in c.args.flat.now c.args.order.now c.requires.order c.elements-elements.ensures.kept c.args.course.now (length c.args.sums.now) c.requires.course c.requires.bits i low) in
+    omega (arith, c.carry.ensures.marked.count, c.carry.auto.sums, c.loop-place.invariant.count)
+
+pub loop-place-preserved : goal.loop-place-preserved
+loop-place-preserved c =
+    let i : ℕ = c.loop-place.place in
+    let along : List TimingArc = c.args.course.now.along.items in
+    let all = c.requires.course.along.count in
+    let below : i < length along = omega (arith, c.args.course.now.along.ok.0) in
+    let low : i < length c.args.order.now = omega arith in
+    let is : c.index-arc.result.now ≡ arc_at along i = c.index-arc.ensures ∙ get_or_default along i c.index-arc.result.now no_arc below in
+    let carried : IsCarried c.index-arc.result.now c.loop-place.sums c.carry.new.sums =
+    record { others = c.carry.ensures.others; greatest = c.carry.ensures.greatest; least = c.carry.ensures.least; bounded = c.carry.ensures.bounded } in
     record {
-      sums_so_far = AreSums-more arcs order c.requires.order i (get_or order i 0) c.args.first c.args.lanes (placed rows old) (placed rows new) (omega arith) at.low refl
-          (inside arcs order c.requires.order i at.low) (omega (arith, at.from)) (omega (arith, at.to)) c.requires.lanes
-          done.others done.greatest done.least done.bounded c.loop-arc.invariant.sums_so_far;
+      sums_so_far = carried_along c.args.flat.now c.args.order.now c.requires.order c.elements-elements.ensures.kept c.args.course.now (length c.args.sums.now) c.requires.course c.requires.bits
+          c.args.first c.args.lanes c.requires.lanes c.loop-place.sums c.loop-place.invariant.count c.carry.new.sums c.carry.auto.sums i low (subst (λ (a : TimingArc). IsCarried a c.loop-place.sums c.carry.new.sums) is carried) c.loop-place.invariant.sums_so_far;
       marked = c.carry.ensures.marked;
-      count = c.carry.auto.sums ∙ c.loop-arc.invariant.count;
+      count = c.carry.auto.sums ∙ c.loop-place.invariant.count;
+      inside = omega arith;
+      ends = λ row inside on.
+          let to : ℕ = c.index-arc.result.now.to in
+          let ends : List ℕ = c.args.course.now.spans.ends.items in
+          let here : row < length c.loop-place.sums = omega (arith, c.carry.auto.sums) in
+          let of_old : row ≢ to → row_of ends row ≤ c.loop-place.end = λ ne. c.loop-place.invariant.ends row here (sym (c.carry.ensures.rows row ne) ∙ on) in
+          let in_to : to < length c.args.sums.now = subst (λ (a : TimingArc). a.to < length c.args.sums.now) (sym is) (row_to_in c.args.flat.now c.args.order.now c.requires.order c.elements-elements.ensures.kept c.args.course.now (length c.args.sums.now) c.requires.course c.requires.bits i low) in
+          let count = c.requires.course.spans.ends in
+          elim c.if-reached-arc.branch [
+            | then-reached-arc w ↦
+                let ended : row_of ends to ≡ w.index.result.now = sym (w.index.ensures ∙ get_or_default ends to w.index.result.now 0 (omega arith)) in
+                ⊎_elim
+                (λ (e : row ≡ to). let same = ap (row_of ends) e in omega (arith, w.end-is, w.max-end.ensures))
+                (λ ne. let old = of_old ne in omega (arith, w.end-is, w.max-end.ensures))
+                (cases_eq row to)
+            | else-reached-arc w ↦
+                ⊎_elim
+                (λ (e : row ≡ to). let same = ap (λ r. get_or c.carry.new.reached r false) e in let off = w.if-reached-arc.false in absurd (cc))
+                (λ ne. let old = of_old ne in omega (arith, w.end-is))
+                (cases_eq row to)
+          ];
     }
+
+pub returns-clause-sums : goal.returns-clause-sums
+returns-clause-sums c =
+    let all = c.requires.course.along.count in
+    let inside = c.loop-place.invariant.inside in
+    passed_after c.args.flat.now c.args.order.now c.requires.order c.elements-elements.ensures.kept c.args.course.now (length c.args.sums.now) c.requires.course c.requires.bits
+    c.args.first c.args.lanes c.requires.lanes c.loop-place.sums c.loop-place.invariant.count c.loop-place.reached c.loop-place.invariant.marked c.loop-place.end c.loop-place.place (omega arith)
+    (λ low. omega (arith, c.args.course.now.along.ok.0)) c.loop-place.invariant.ends c.loop-place.invariant.sums_so_far
 
 pub returns-clause-extremes : goal.returns-clause-extremes
 returns-clause-extremes c =
-    let items : c.deref-arc-items.result.now ≡ c.args.course.now.along.items = c.deref-arc-items.ensures.value in
-    let count = c.requires.course.along.count in
-    let all : length c.deref-arc-items.result.now ≡ length c.args.order.now = ap (λ (xs : List TimingArc). length xs) items ∙ count in
-    let done : c.loop-arc.arc-index ≡ length c.args.order.now = omega arith in
+    let all = c.requires.course.along.count in
+    let inside = c.loop-place.invariant.inside in
     let rows : List ℕ = c.args.course.now.rows.of_bits.items in
     let in_rows = c.requires.course.rows.of_bits.count in
-    let same = length-placed rows c.loop-arc.sums in
-    AreExtremes-from_sums c.args.flat.now c.args.order.now c.requires.order c.args.first c.args.lanes (placed rows c.loop-arc.sums) (omega arith) c.requires.elements c.elements-elements.ensures.kept.each_arc
-    (subst (λ n. AreSums c.args.flat.now.arcs c.args.order.now n c.args.first c.args.lanes (placed rows c.loop-arc.sums)) done c.loop-arc.invariant.sums_so_far)
+    let same = length-placed rows c.loop-place.sums in
+    AreExtremes-from_sums c.args.flat.now c.args.order.now c.requires.order c.args.first c.args.lanes (placed rows c.loop-place.sums) (omega arith) c.requires.elements c.elements-elements.ensures.kept.each_arc
+    (passed_after c.args.flat.now c.args.order.now c.requires.order c.elements-elements.ensures.kept c.args.course.now (length c.args.sums.now) c.requires.course c.requires.bits
+    c.args.first c.args.lanes c.requires.lanes c.loop-place.sums c.loop-place.invariant.count c.loop-place.reached c.loop-place.invariant.marked c.loop-place.end c.loop-place.place (omega arith)
+    (λ low. omega (arith, c.args.course.now.along.ok.0)) c.loop-place.invariant.ends c.loop-place.invariant.sums_so_far)

@@ -51,3 +51,20 @@ loop-number-preserved c =
     (rw (c.arcs-arcs.ensures, items) at c.index-in-loop-number.ensures) ∙ get_or_default rows (arc_at arcs (get_or order i 0)).to c.index-in-loop-number.result.now 0 (omega (arith, arc.to)) in
     pushed arcs order rows i c.index.result.now c.index-in-loop-number.result.now c.loop-number.along.items c.push.new.self.items c.loop-number.invariant from to
     (rw (c.arcs-arcs.ensures, items) at c.in_ok-push.ensures.items)
+
+pub new-requires-clause-inside : goal.new-requires-clause-inside
+new-requires-clause-inside c = λ k d below.
+    let arcs : List TimingArc = c.args.flat.now.arcs in
+    let order : List ℕ = c.args.order.now in
+    let rows : List ℕ = c.args.rows.of_bits.items in
+    let h = c.loop-number.invariant in
+    let items : length c.items-numbers.result.now ≡ length order = ap (λ (xs : List ℕ). length xs) (c.items-numbers.ensures ∙ c.arcs.ensures) in
+    let here : k < length c.loop-number.along.items = subst (λ (xs : List TimingArc). k < length xs) c.deref.ensures.value below in
+    let so_far = h.count in
+    let arc = arc_inside arcs order c.requires.order (length c.args.flat.now.elements) (length c.args.flat.now.inner) c.elements-elements.ensures.kept.each_arc k (omega arith) in
+    let from = arc.from in
+    let row = c.requires.rows.of_bits.inside (arc_at arcs (get_or order k 0)).from (omega arith) in
+    let count = c.requires.rows.of_bits.count in
+    let is : get_or c.deref.result.now k d ≡ moved rows (arc_at arcs (get_or order k 0)) =
+    ap (λ (xs : List TimingArc). get_or xs k d) c.deref.ensures.value ∙ get_or_default c.loop-number.along.items k d no_arc here ∙ h.each k (omega arith) in
+    subst (λ (a : TimingArc). a.from < c.len.result) (sym is) (omega (arith, c.args.rows.of_bits.ok.0))

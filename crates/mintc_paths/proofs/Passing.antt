@@ -1,0 +1,189 @@
+-- Arcs that leave no row that is reached change no sums.
+use Rattle.std.proofs.Common.{◌≡◌, ◌≢◌, ℕ, zero, suc, ◌<◌, ◌≤◌, ◌+◌, ◌-◌, ◌*◌, ℤ, Bool, true, false, List, length, get_or, arith, refl, ap, ◌∙◌, sym, Option, Some, None, subst}
+use Rattle.std.specs.Int.{int_max, int_min}
+use Rattle.mintc_timing.specs.declared.parts.TimingArc.{TimingArc}
+use Rattle.mintc_timing.specs.Design.{Design}
+use Rattle.mintc_timing.specs.Limits.{IsArc, IsDelay, IsDesign}
+use Rattle.mintc_timing.specs.Order.{IsOrder}
+use Rattle.mintc_timing.specs.Paths.{arc_at, output_of}
+use Rattle.mintc_timing.proofs.Ordered.{apart, inside}
+use Rattle.mintc_lanes.specs.Lanes.{lane_at, joined, AreJoined}
+use Rattle.mintc_paths.specs.declared.rows.Course.{Course}
+use Rattle.mintc_paths.specs.declared.sums.Sums.{Sums}
+use Rattle.mintc_paths.specs.declared.sums.TheConstants.{NO_SUMS}
+use Rattle.mintc_paths.specs.Sums.{sums_at, row_of, placed, moved, IsAlike, IsBounded, IsCourse, AreMarked, AreOutputs, AreSums}
+use Rattle.mintc_paths.proofs.Beginning.{none_at}
+use Rattle.mintc_paths.proofs.Filling.{IsBounded-weaker, IsCarried, AreSums-more, arc_inside}
+use Rattle.mintc_paths.proofs.Rowing.{length-placed, placed_at, alike_row, bounded_row, IsCarried-placed}
+
+-- a lane that gets nothing stays
+joined_absent : (choose : ℤ → ℤ → ℤ) (x y : Option ℤ) (w : ℤ) → y ≡ None → x ≡ joined choose x y w
+joined_absent choose None None w e = refl
+joined_absent choose (Some x) None w e = refl
+joined_absent choose x (Some y) w e = absurd (cc)
+
+greatest_absent : (to from : Sums) (w : ℤ) → from ≡ NO_SUMS → AreJoined int_max to.greatest from.greatest w to.greatest
+greatest_absent to from w e lane below =
+    joined_absent int_max (lane_at to.greatest lane) (lane_at from.greatest lane) w (ap (λ (s : Sums). lane_at s.greatest lane) e ∙ (none_at lane below).0)
+
+least_absent : (to from : Sums) (w : ℤ) → from ≡ NO_SUMS → AreJoined int_min to.least from.least w to.least
+least_absent to from w e lane below =
+    joined_absent int_min (lane_at to.least lane) (lane_at from.least lane) w (ap (λ (s : Sums). lane_at s.least lane) e ∙ (none_at lane below).1)
+
+not_on : (b : Bool) → (b ≡ true → ⊥) → b ≡ false
+not_on true h = absurd (h refl)
+not_on false h = refl
+
+module _ (arcs : List TimingArc) (order : List ℕ) (is_order : IsOrder arcs order) (first lanes : ℕ) (few : lanes ≤ 8) (sums : List Sums)
+    (ends_in : (i : ℕ) → i < length order → ((arc_at arcs (get_or order i 0)).from < length sums) × ((arc_at arcs (get_or order i 0)).to < length sums)) where
+  -- one arc that leaves a bit without sums
+  passed_one : (k : ℕ) → k < length order → sums_at sums (arc_at arcs (get_or order k 0)).from ≡ NO_SUMS → AreSums arcs order k first lanes sums → AreSums arcs order (k + 1) first lanes sums
+  passed_one k low none h =
+      let n : ℕ = get_or order k 0 in
+      let arc : TimingArc = arc_at arcs n in
+      AreSums-more arcs order is_order k n first lanes sums sums refl low refl (inside arcs order is_order k low) (ends_in k low).0 (ends_in k low).1 few (λ bit ne. refl)
+      (greatest_absent (sums_at sums arc.to) (sums_at sums arc.from) arc.max none) (least_absent (sums_at sums arc.to) (sums_at sums arc.from) arc.min none)
+      (λ most from to. IsBounded-weaker most (most + 1000000000) (sums_at sums arc.to) (omega arith) to) h
+
+  passed_some : (d k : ℕ) → k + d ≤ length order → ((i : ℕ) → k ≤ i → i < k + d → sums_at sums (arc_at arcs (get_or order i 0)).from ≡ NO_SUMS) →
+      AreSums arcs order k first lanes sums → AreSums arcs order (k + d) first lanes sums
+  passed_some zero k high none h = subst (λ m. AreSums arcs order m first lanes sums) (here k) h
+    where
+      here : (k : ℕ) → k ≡ k + 0
+      here k = omega arith
+  passed_some (suc d) k high none h =
+      subst (λ m. AreSums arcs order m first lanes sums) (next k d)
+      (passed_some d (k + 1) (omega arith) (λ i low below. none i (omega arith) (omega arith)) (passed_one k (omega arith) (none k (omega arith) (omega arith)) h))
+    where
+      next : (k d : ℕ) → k + 1 + d ≡ k + suc d
+      next k d = omega arith
+
+  pub passed : (k m : ℕ) → k ≤ m → m ≤ length order → ((i : ℕ) → k ≤ i → i < m → sums_at sums (arc_at arcs (get_or order i 0)).from ≡ NO_SUMS) →
+      AreSums arcs order k first lanes sums → AreSums arcs order m first lanes sums
+  passed k m low high none h =
+      let whole : k + (m - k) ≡ m = omega arith in
+      subst (λ x. AreSums arcs order x first lanes sums) whole (passed_some (m - k) k (omega arith) (λ i from below. none i from (omega arith)) h)
+
+module _ (design : Design) (order : List ℕ) (is_order : IsOrder design.arcs order) (kept : IsDesign design) (course : Course) (n : ℕ) (is_course : IsCourse n design.arcs order course)
+    (bits : n ≡ 2 * length design.elements + length design.inner) where
+  -- the arc of the design at a place of the order
+  abbrev arc_of : ℕ → TimingArc
+  arc_of i = arc_at design.arcs (get_or order i 0)
+
+  in_design : (i : ℕ) → i < length order → IsArc (length design.elements) (length design.inner) (arc_of i)
+  in_design i low = arc_inside design.arcs order is_order (length design.elements) (length design.inner) kept.each_arc i low
+
+  from_in : (i : ℕ) → i < length order → (arc_of i).from < n
+  from_in i low = let a = (in_design i low).from in omega arith
+
+  to_in : (i : ℕ) → i < length order → (arc_of i).to < n
+  to_in i low = let a = (in_design i low).to in omega arith
+
+  -- The rows that the arc at a place leaves and enters are two.
+  pub row_in : (i : ℕ) → i < length order → (arc_at course.along.items i).from < n
+  row_in i low = subst (λ (x : TimingArc). x.from < n) (sym (is_course.along.each i low)) (is_course.rows.of_bits.inside (arc_of i).from (from_in i low))
+
+  pub row_to_in : (i : ℕ) → i < length order → (arc_at course.along.items i).to < n
+  row_to_in i low = subst (λ (x : TimingArc). x.to < n) (sym (is_course.along.each i low)) (is_course.rows.of_bits.inside (arc_of i).to (to_in i low))
+
+  pub apart_rows : (i : ℕ) → i < length order → (arc_at course.along.items i).from ≢ (arc_at course.along.items i).to
+  apart_rows i low = subst (λ (x : TimingArc). x.from ≢ x.to) (sym (is_course.along.each i low))
+      (λ e. apart design.arcs order is_order (get_or order i 0) (inside design.arcs order is_order i low)
+      (sym (is_course.rows.of_bits.leads (arc_of i).from (from_in i low)) ∙ ap (row_of course.rows.bits.items) e ∙ is_course.rows.of_bits.leads (arc_of i).to (to_in i low)))
+
+  pub min_in : (i : ℕ) → i < length order → IsDelay (arc_at course.along.items i).min
+  min_in i low = subst (λ (x : TimingArc). IsDelay x.min) (sym (is_course.along.each i low)) (in_design i low).min
+
+  pub max_in : (i : ℕ) → i < length order → IsDelay (arc_at course.along.items i).max
+  max_in i low = subst (λ (x : TimingArc). IsDelay x.max) (sym (is_course.along.each i low)) (in_design i low).max
+
+  few_arcs : (i : ℕ) → i < length order → i * 1000000000 ≤ 1000000000000000
+  few_arcs i low = let count = is_order.count in let most = kept.arcs in omega arith
+
+  module _ (first lanes : ℕ) (few : lanes ≤ 8) (sums : List Sums) (count : length sums ≡ n) where
+    abbrev rows : List ℕ
+    rows = course.rows.of_bits.items
+
+    -- the row that the arc at a place leaves
+    abbrev left : ℕ → ℕ
+    left i = (arc_at course.along.items i).from
+
+    pub from_bounded : (i : ℕ) → i < length order → AreSums design.arcs order i first lanes (placed rows sums) → IsBounded 1000000000000000 (sums_at sums (left i))
+    from_bounded i low h = subst (λ (x : TimingArc). IsBounded 1000000000000000 (sums_at sums x.from)) (sym (is_course.along.each i low))
+        (IsBounded-weaker (i * 1000000000) 1000000000000000 (sums_at sums (row_of rows (arc_of i).from)) (few_arcs i low)
+        (bounded_row design.arcs order i first lanes n course.rows is_course.rows sums h (arc_of i).from (from_in i low)))
+
+    pub to_bounded : (i : ℕ) → i < length order → AreSums design.arcs order i first lanes (placed rows sums) → IsBounded 1000000000000000 (sums_at sums (arc_at course.along.items i).to)
+    to_bounded i low h = subst (λ (x : TimingArc). IsBounded 1000000000000000 (sums_at sums x.to)) (sym (is_course.along.each i low))
+        (IsBounded-weaker (i * 1000000000) 1000000000000000 (sums_at sums (row_of rows (arc_of i).to)) (few_arcs i low)
+        (bounded_row design.arcs order i first lanes n course.rows is_course.rows sums h (arc_of i).to (to_in i low)))
+
+    pub from_alike : (i : ℕ) → i < length order → AreSums design.arcs order i first lanes (placed rows sums) → IsAlike (sums_at sums (left i))
+    from_alike i low h = subst (λ (x : TimingArc). IsAlike (sums_at sums x.from)) (sym (is_course.along.each i low))
+        (alike_row design.arcs order i first lanes n course.rows is_course.rows sums h (arc_of i).from (from_in i low))
+
+    -- one more arc is carried along
+    pub carried_along : (new : List Sums) → length new ≡ length sums → (i : ℕ) → i < length order → IsCarried (arc_at course.along.items i) sums new →
+        AreSums design.arcs order i first lanes (placed rows sums) → AreSums design.arcs order (i + 1) first lanes (placed rows new)
+    carried_along new same i low carried h =
+        let of_rows : IsCarried (moved rows (arc_of i)) sums new = subst (λ (a : TimingArc). IsCarried a sums new) (is_course.along.each i low) carried in
+        let done = IsCarried-placed n rows course.rows.bits.items is_course.rows.of_bits sums new (arc_of i) (from_in i low) (to_in i low) of_rows in
+        let before = length-placed rows sums in
+        let after = length-placed rows new in
+        let of = is_course.rows.of_bits.count in
+        let a = from_in i low in
+        let b = to_in i low in
+        AreSums-more design.arcs order is_order i (get_or order i 0) first lanes (placed rows sums) (placed rows new) (omega arith) low refl (inside design.arcs order is_order i low)
+        (omega arith) (omega arith) few done.others done.greatest done.least done.bounded h
+
+    module _ (reached : List Bool) (marked : AreMarked sums reached) where
+      ends_in : (i : ℕ) → i < length order → ((arc_of i).from < length (placed rows sums)) × ((arc_of i).to < length (placed rows sums))
+      ends_in i low =
+          let a = from_in i low in
+          let b = to_in i low in
+          let all = length-placed rows sums in
+          let of = is_course.rows.of_bits.count in
+          (omega arith, omega arith)
+
+      none_from : (i : ℕ) → i < length order → get_or reached (left i) false ≡ false → sums_at (placed rows sums) (arc_of i).from ≡ NO_SUMS
+      none_from i low off =
+          let of = is_course.rows.of_bits.count in
+          let a = from_in i low in
+          let row_is : left i ≡ row_of rows (arc_of i).from = ap (λ (x : TimingArc). x.from) (is_course.along.each i low) in
+          let here = row_in i low in
+          placed_at rows sums (arc_of i).from (omega arith) ∙ ap (sums_at sums) (sym row_is) ∙ marked.none (left i) (omega arith) off
+
+      passed_along : (k m : ℕ) → k ≤ m → m ≤ length order → ((i : ℕ) → k ≤ i → i < m → get_or reached (left i) false ≡ true → ⊥) →
+          AreSums design.arcs order k first lanes (placed rows sums) → AreSums design.arcs order m first lanes (placed rows sums)
+      passed_along k m low high off h =
+          passed design.arcs order is_order first lanes few (placed rows sums) ends_in k m low high (λ i from below. none_from i (omega arith) (not_on (get_or reached (left i) false) (off i from below))) h
+
+      -- Before the first arc of the outputs none leaves a row that is reached.
+      pub passed_before : (start k : ℕ) → k ≤ start → k ≤ length order → AreOutputs rows first lanes reached →
+          ((lane : ℕ) → lane < lanes → start ≤ row_of course.spans.firsts.items (row_of rows (output_of (first + lane)))) →
+          AreSums design.arcs order 0 first lanes (placed rows sums) → AreSums design.arcs order k first lanes (placed rows sums)
+      passed_before start k low high outputs starts h =
+          passed_along 0 k (omega arith) high
+          (λ i from below on.
+          let in_row = row_in i (omega arith) in
+          let both = marked.count in
+          let all = is_course.along.count in
+          let at = outputs (left i) (omega arith) on in
+          let begins = starts at.0 at.1 in
+          let same : row_of course.spans.firsts.items (left i) ≡ row_of course.spans.firsts.items (row_of rows (output_of (first + at.0))) = ap (row_of course.spans.firsts.items) at.2 in
+          let stands = (is_course.spans.each i (omega arith)).0 in
+          absurd (omega arith)) h
+
+      -- Past the ends of the rows that are reached none leaves such a row.
+      pub passed_after : (end k : ℕ) → k ≤ length order → (k < length order → end ≤ k) →
+          ((row : ℕ) → row < length sums → get_or reached row false ≡ true → row_of course.spans.ends.items row ≤ end) →
+          AreSums design.arcs order k first lanes (placed rows sums) → AreSums design.arcs order (length order) first lanes (placed rows sums)
+      passed_after end k low past ends h =
+          passed_along k (length order) low (omega arith)
+          (λ i from below on.
+          let in_row = row_in i below in
+          let all = is_course.along.count in
+          let here = past (omega arith) in
+          let ended = ends (left i) (omega arith) on in
+          let stands = (is_course.spans.each i (omega arith)).1 in
+          absurd (omega arith)) h
