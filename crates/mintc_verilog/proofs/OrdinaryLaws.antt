@@ -1,25 +1,23 @@
 -- The netlist of a text is ordinary.
-use Rattle.std.proofs.Common.{◌≡◌, ℕ, zero, suc, ◌+◌, ◌-◌, ◌≤◌, ◌<◌, ◌^◌, Bool, true, false, ◌&&◌, ◌==◌, if◌then◌else◌, List, [], ◌∷◌, ◌++◌, length, take, drop, map, Option, Some, None, IfSome, refl, sym, ap, ◌∙◌, subst, arith, append_assoc, append-nil, length-append, length-take}
+use Rattle.std.proofs.Common.{◌≡◌, ℕ, suc, ◌+◌, ◌-◌, ◌≤◌, ◌<◌, ◌^◌, Bool, true, false, ◌&&◌, ◌==◌, if◌then◌else◌, List, [], ◌∷◌, ◌++◌, length, take, drop, map, Option, Some, None, IfSome, sym, ap, ◌∙◌, subst, arith, append_assoc, append-nil, length-append, length-take}
 use Rattle.std.specs.Prelude.{All}
 use Rattle.std.specs.List.{flat_map}
-use Rattle.std.proofs.lemmas.Bool.Decides.{nat_tests}
 use Rattle.std.proofs.lemmas.Grind.{flat_map-append}
 use Rattle.std.proofs.lemmas.List.{length-map, map-append}
-use Rattle.std.proofs.lemmas.List.Elements.{All-nil, All-cons, All-tail, All-head, All-append, All-same, All-map, All-push, All-weaker}
+use Rattle.std.proofs.lemmas.List.Elements.{All-nil, All-cons, All-tail, All-head, All-append, All-map, All-push, All-weaker}
 use Rattle.mintc_vlex.specs.declared.token_list.Token.{Token}
 use Rattle.mintc_vlex.specs.declared.statement_list.Statement.{Statement}
 use Rattle.mintc_vlex.specs.Tokens.{tokens_of}
 use Rattle.mintc_vlex.specs.Statements.{ends_statement, statements_from, statements_of}
 use Rattle.mintc_netlist.specs.declared.module.Module.{Module}
-use Rattle.mintc_netlist.specs.declared.module.Netlist.{Netlist}
-use Rattle.mintc_netlist.specs.Ordinary.{IsItem, IsModule, IsOrdinary, DontFall, entry_of, entries_of}
+use Rattle.mintc_netlist.specs.Ordinary.{IsItem, IsModule, DontFall, entry_of, entries_of}
 use Rattle.mintc_verilog.specs.declared.parts.Open.{Open}
 use Rattle.mintc_verilog.specs.declared.parts.Said.{Said}
 use Rattle.mintc_verilog.specs.declared.parts.Said.TheVariants as said
 use Rattle.mintc_verilog.specs.Lexemes.{Lexeme, lexeme_of, lexemes_within, lexemes_of}
-use Rattle.mintc_verilog.specs.Netlists.{State, start, state_of, module_of, says, next, Leads, IsNetlist}
+use Rattle.mintc_verilog.specs.Netlists.{State, start, state_of, module_of, says, next, Leads}
 use Rattle.mintc_verilog.specs.Laws.{AreOrdinary}
-use Rattle.mintc_verilog.proofs.Sound.{AreSound, AreFew, tokens-sound, IsSaid, form-sound, IsNumbered, says-numbered}
+use Rattle.mintc_verilog.proofs.Sound.{AreSound, tokens-sound, IsSaid, form-sound, IsNumbered, says-numbered}
 use Rattle.mintc_verilog.proofs.StatementLaws.{tokens-few}
 
 -- the numbers of statements so far

@@ -1,6 +1,6 @@
 -- What is written with lexemes of a text is ordinary: its numbers, widths, pieces and counts are within their limits.
-use Rattle.std.proofs.Common.{◌≡◌, ℕ, zero, suc, ◌+◌, ◌≤◌, ◌<◌, ◌^◌, Bool, true, false, ◌&&◌, nat_le, if◌then◌else◌, List, [], ◌∷◌, ◌++◌, length, take, drop, map, Option, Some, None, IfSome, is_some, refl, sym, ap, ◌∙◌, subst, arith, length-append, leb-true, codes, inl, inr}
-use Rattle.std.specs.Prelude.{All, IsSome, IsTrue, ◌↔◌}
+use Rattle.std.proofs.Common.{◌≡◌, ℕ, zero, suc, ◌+◌, ◌≤◌, Bool, true, false, ◌&&◌, nat_le, if◌then◌else◌, List, [], ◌∷◌, ◌++◌, length, take, map, Option, Some, None, IfSome, is_some, refl, sym, ap, ◌∙◌, subst, arith, length-append, leb-true, codes, inl, inr}
+use Rattle.std.specs.Prelude.{All}
 use Rattle.std.proofs.lemmas.List.{length-map}
 use Rattle.std.proofs.lemmas.List.Elements.{All-nil, All-cons, All-tail, All-head, All-append, All-same, All-map}
 use Rattle.mintc_vlex.specs.declared.bytes.Class.TheVariants as class
@@ -8,7 +8,6 @@ use Rattle.mintc_vlex.specs.Bytes.{is_in, run}
 use Rattle.mintc_vlex.specs.declared.token_list.Token.{Token}
 use Rattle.mintc_vlex.specs.declared.token_list.TokenKind.{TokenKind}
 use Rattle.mintc_vlex.specs.declared.token_list.TokenKind.TheVariants as kind
-use Rattle.mintc_vlex.specs.declared.statement_list.Statement.{Statement}
 use Rattle.mintc_netlist.specs.declared.expression.Piece.{Piece}
 use Rattle.mintc_netlist.specs.declared.expression.Piece.TheVariants as piece
 use Rattle.mintc_netlist.specs.declared.expression.Span.{Span}
@@ -20,9 +19,9 @@ use Rattle.mintc_verilog.specs.declared.parts.Header.{Header}
 use Rattle.mintc_verilog.specs.declared.parts.Decl.{Decl}
 use Rattle.mintc_verilog.specs.declared.parts.Said.{Said}
 use Rattle.mintc_verilog.specs.declared.parts.Said.TheVariants as said
-use Rattle.mintc_verilog.specs.Lexemes.{Lexeme, name, key, number, sized, sign, other, is_reserved, value_from, lexeme_by, lexeme_of, lexemes_within}
-use Rattle.mintc_verilog.specs.Expressions.{Tree, Trees, plain, concat, repeat, one, more, spell_piece, spell, spell_all, repeated, pieces, pieces_all, depth, Repeats, RepeatAll, IsExpression}
-use Rattle.mintc_verilog.specs.Forms.{Assign, Instance, Form, opens, opens_typed, ports, nets, assigns, instances, closes, Listed, IsName, range, IsWire, direction, IsHeader, IsHeaded, IsDecl, IsAssign, IsNamed, IsOrdered, AreConnections, IsInstance, IsPortList, IsNetWord, IsForm}
+use Rattle.mintc_verilog.specs.Lexemes.{Lexeme, name, key, number, sized, sign, other, is_reserved, value_from, lexeme_by, lexeme_of}
+use Rattle.mintc_verilog.specs.Expressions.{Tree, Trees, plain, concat, repeat, one, more, spell_piece, spell, spell_all, repeated, pieces, pieces_all, Repeats, RepeatAll, IsExpression}
+use Rattle.mintc_verilog.specs.Forms.{Assign, Instance, Form, opens, opens_typed, ports, nets, assigns, instances, closes, Listed, IsName, range, IsHeader, IsHeaded, IsDecl, IsAssign, IsNamed, IsOrdered, AreConnections, IsInstance, IsPortList, IsForm}
 use Rattle.mintc_verilog.specs.Netlists.{assign_item, instance_item, header_or, port_items, no_header, says}
 use Rattle.mintc_verilog.proofs.Written.{longer}
 use Rattle.mintc_verilog.proofs.Found.{both-true}
