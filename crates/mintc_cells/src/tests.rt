@@ -4,7 +4,7 @@
 mod cases;
 
 use crate::{Cell, Cells, read_cells};
-use cases::{CELLS, EXAMPLE, EXAMPLE_SAID, PLAIN, PLAIN_SAID, TEXTS, TWO};
+use cases::{CELLS, EXAMPLE, IGNORING, PINS, SAID, TEXTS};
 use mintc_text::{Names, Refusal, Stop};
 use std::alloc::Global;
 use std::process::Abort;
@@ -151,35 +151,25 @@ fn pins_text(alloc: Global, cells: &Cells, name: &[u8]) -> Result<String, Fail> 
 /// Cells have the values of their texts, with their defaults.
 #[test]
 fn cells_have_their_values(rt: HostRuntime) -> Result<(), Fail> {
-    let two = cells(&rt, rt.alloc(), TWO).ok_or("refused")?;
-    assert_eq!(rt;
-        cells_text(rt.alloc(), &two)?.as_str(),
-        "BUF gate [A] [Y] 0 0;LAT latch D G true [Q] [] 10 0 false 10 10 10 10 false 0;"
-    );
-    let all = cells(&rt, rt.alloc(), EXAMPLE).ok_or("refused")?;
-    assert_eq!(rt; cells_text(rt.alloc(), &all)?.as_str(), EXAMPLE_SAID);
-    for (name, pins) in [
-        ("AOI21", " A1 A2 B>ZN"),
-        ("DLL", " D GN SE>Q>QN"),
-        ("DFN", " D CPN RN>Q"),
-        ("CKINV", " I TE>ZN"),
-    ] {
+    for (text, want) in SAID {
+        let cells = cells(&rt, rt.alloc(), *text).ok_or("refused")?;
+        assert_eq!(rt; cells_text(rt.alloc(), &cells)?.as_str(), *want);
+    }
+    Ok(())
+}
+
+/// The pins of a cell stand in cell order, and a name finds its cell.
+#[test]
+fn pins_stand_in_order(rt: HostRuntime) -> Result<(), Fail> {
+    let cells = cells(&rt, rt.alloc(), EXAMPLE).ok_or("refused")?;
+    for (name, pins) in PINS {
         assert_eq!(rt;
-            pins_text(rt.alloc(), &all, name.as_bytes())?.as_str(),
-            pins
+            pins_text(rt.alloc(), &cells, name.as_bytes())?.as_str(),
+            *pins
         );
     }
-    let plain = cells(&rt, rt.alloc(), PLAIN).ok_or("refused")?;
-    assert_eq!(rt; cells_text(rt.alloc(), &plain)?.as_str(), PLAIN_SAID);
-    assert_eq!(rt;
-        (
-            plain.find(b"b"),
-            plain.find(b"m"),
-            plain.find(b"n"),
-            plain.find(b"")
-        ),
-        (Some(0), Some(4), None, None)
-    );
+    assert_eq!(rt; cells.find(b"DLL"), Some(3));
+    assert_eq!(rt; cells.find(b"DLK"), None);
     Ok(())
 }
 
@@ -211,45 +201,77 @@ fn list_text(alloc: Global, word: &str, count: u32) -> Result<String, Fail> {
     Ok(text)
 }
 
-/// Lists of pins have their limits, and names theirs.
+/// The fault of a gate with so many inputs and outputs.
+fn gate_fault(
+    rt: &impl Abort,
+    alloc: Global,
+    inputs: u32,
+    outputs: u32,
+) -> Result<Option<(u32, u32)>, Fail> {
+    let inputs = list_text(alloc, "inputs", inputs)?;
+    let outputs = list_text(alloc, "outputs", outputs)?;
+    let text = format!(in alloc; "[cell.X]\nkind = \"gate\"\n{inputs}{outputs}")?;
+    Ok(fault(rt, alloc, text.as_bytes()))
+}
+
+/// The fault of a cell with these keys and so many ignored pins.
+fn ignoring_fault(
+    rt: &impl Abort,
+    alloc: Global,
+    keys: &str,
+    count: u32,
+) -> Result<Option<(u32, u32)>, Fail> {
+    let ignored = list_text(alloc, "ignored", count)?;
+    let text = format!(in alloc; "[cell.X]\n{keys}{ignored}")?;
+    Ok(fault(rt, alloc, text.as_bytes()))
+}
+
+/// So many bytes of a name.
+fn long_name(alloc: Global, count: u32) -> Result<String, Fail> {
+    let mut name = String::new(alloc);
+    for _ in 0..count {
+        name.push_str("!")?;
+    }
+    Ok(name)
+}
+
+/// The fault of a cell with a name of so many bytes.
+fn name_fault(rt: &impl Abort, alloc: Global, count: u32) -> Result<Option<(u32, u32)>, Fail> {
+    let name = long_name(alloc, count)?;
+    let text = format!(in alloc;
+        "[cell.\"{name}\"]\nkind = \"clock\"\ninput = \"a\"\noutput = \"y\"\n"
+    )?;
+    Ok(fault(rt, alloc, text.as_bytes()))
+}
+
+/// The fault of a cell with a pin of so many bytes.
+fn pin_fault(rt: &impl Abort, alloc: Global, count: u32) -> Result<Option<(u32, u32)>, Fail> {
+    let name = long_name(alloc, count)?;
+    let text = format!(in alloc;
+        "[cell.X]\nkind = \"clock\"\ninput = \"a\"\noutput = \"{name}\"\n"
+    )?;
+    Ok(fault(rt, alloc, text.as_bytes()))
+}
+
+/// Lists of pins have their limits.
 #[test]
-fn lists_and_names_are_short(rt: HostRuntime) -> Result<(), Fail> {
-    for (inputs, outputs, want) in [
-        (64, 16, None),
-        (65, 16, Some((1, 4))),
-        (64, 17, Some((1, 4))),
-    ] {
-        let (inputs, outputs) = (
-            list_text(rt.alloc(), "inputs", inputs)?,
-            list_text(rt.alloc(), "outputs", outputs)?,
-        );
-        let text = format!(in rt.alloc(); "[cell.X]\nkind = \"gate\"\n{inputs}{outputs}")?;
-        assert_eq!(rt; fault(&rt, rt.alloc(), text.as_bytes()), want);
+fn lists_are_short(rt: HostRuntime) -> Result<(), Fail> {
+    assert_eq!(rt; gate_fault(&rt, rt.alloc(), 64, 16)?, None);
+    assert_eq!(rt; gate_fault(&rt, rt.alloc(), 65, 16)?, Some((1, 4)));
+    assert_eq!(rt; gate_fault(&rt, rt.alloc(), 64, 17)?, Some((1, 4)));
+    for keys in IGNORING {
+        assert_eq!(rt; ignoring_fault(&rt, rt.alloc(), *keys, 64)?, None);
+        assert_eq!(rt; ignoring_fault(&rt, rt.alloc(), *keys, 65)?, Some((1, 4)));
     }
-    for (count, want) in [(64, None), (65, Some((1, 4)))] {
-        let ignored = list_text(rt.alloc(), "ignored", count)?;
-        for keys in [
-            "kind = \"latch\"\nd = \"d\"\ng = \"g\"\noutputs = [\"q\"]\n",
-            "kind = \"flop\"\nd = \"d\"\nclock = \"c\"\noutputs = [\"q\"]\n",
-            "kind = \"clock\"\ninput = \"a\"\noutput = \"y\"\n",
-        ] {
-            let text = format!(in rt.alloc(); "[cell.X]\n{keys}{ignored}")?;
-            assert_eq!(rt; fault(&rt, rt.alloc(), text.as_bytes()), want, "at {keys}");
-        }
-    }
-    for (count, cell, pin) in [(255, None, None), (256, Some((1, 2)), Some((1, 4)))] {
-        let mut name = String::new(rt.alloc());
-        for _ in 0..count {
-            name.push_str("!")?;
-        }
-        let text = format!(in rt.alloc();
-            "[cell.\"{name}\"]\nkind = \"clock\"\ninput = \"a\"\noutput = \"y\"\n"
-        )?;
-        assert_eq!(rt; fault(&rt, rt.alloc(), text.as_bytes()), cell);
-        let text = format!(in rt.alloc();
-            "[cell.X]\nkind = \"clock\"\ninput = \"a\"\noutput = \"{name}\"\n"
-        )?;
-        assert_eq!(rt; fault(&rt, rt.alloc(), text.as_bytes()), pin);
-    }
+    Ok(())
+}
+
+/// Names have at most 255 bytes.
+#[test]
+fn names_are_short(rt: HostRuntime) -> Result<(), Fail> {
+    assert_eq!(rt; name_fault(&rt, rt.alloc(), 255)?, None);
+    assert_eq!(rt; name_fault(&rt, rt.alloc(), 256)?, Some((1, 2)));
+    assert_eq!(rt; pin_fault(&rt, rt.alloc(), 255)?, None);
+    assert_eq!(rt; pin_fault(&rt, rt.alloc(), 256)?, Some((1, 4)));
     Ok(())
 }

@@ -1,7 +1,7 @@
 //! Cell descriptions with what they say, and with the rules that they fail.
 
 /// The cells of the worked files.
-pub(super) const TWO: &str =
+const TWO: &str =
     "[cell.LAT]\nkind = \"latch\"\nd = \"D\"\ng = \"G\"\noutputs = [\"Q\"]\nsetup = 10\ndq_min = 10\n\
 [cell.BUF]\nkind = \"gate\"\ninputs = [\"A\"]\noutputs = [\"Y\"]\n";
 
@@ -14,19 +14,18 @@ dq_min = 40_000\ndq_max = 60_000\ncq_min = 50_000\ncq_max = 70_000\nwidth = 100_
 cq_min = 55_000\ncq_max = 80_000\nwidth = 90_000\n\n\
 [cell.CKINV]\nkind = \"clock\"\ninput = \"I\"\noutput = \"ZN\"\ninvert = true\nignored = [\"TE\"]\n";
 
-pub(super) const EXAMPLE_SAID: &str =
+const EXAMPLE_SAID: &str =
     "AOI21 gate [A1 A2 B] [ZN] 20000 45000;CKINV clock I ZN true [TE];DFN flop D CPN false [Q] [RN] 25000 10000 true 55000 80000 90000;\
 DLL latch D GN false [Q QN] [SE] 30000 -5000 true 40000 60000 50000 70000 true 100000;";
 
 /// Cells with few keys more than those that they need.
-pub(super) const PLAIN: &str =
-    "cell.h = { kind = \"gate\", inputs = [], outputs = [\"x\", \"y\"] }\n\
+const PLAIN: &str = "cell.h = { kind = \"gate\", inputs = [], outputs = [\"x\", \"y\"] }\n\
 cell.m = { kind = \"latch\", d = \"d\", g = \"g\", outputs = [\"q\"], dq_min = 3, cq_max = 8 }\n\
 cell.k = { kind = \"latch\", d = \"d\", g = \"g\", outputs = [\"q\"], active = \"high\", dq_min = 3, dq_max = 4 }\n\
 cell.e = { kind = \"flop\", d = \"d\", clock = \"c\", outputs = [\"q\"], edge = \"rising\", cq_min = 2 }\n\
 cell.b = { kind = \"clock\", input = \"a\", output = \"y\" }\n";
 
-pub(super) const PLAIN_SAID: &str =
+const PLAIN_SAID: &str =
     "b clock a y false [];e flop d c true [q] [] 0 0 false 2 2 0;h gate [] [x y] 0 0;k latch d g true [q] [] 0 0 false 3 4 3 4 false 0;\
 m latch d g true [q] [] 0 0 false 3 3 3 8 true 0;";
 
@@ -228,4 +227,29 @@ pub(super) const CELLS: &[(&str, Option<u32>)] = &[
         "kind = \"clock\"\ninput = \"a\"\noutput = \"y\"\ninvert = \"yes\"\n",
         Some(8),
     ),
+];
+
+/// Descriptions with what they say.
+pub(super) const SAID: &[(&str, &str)] = &[
+    (
+        TWO,
+        "BUF gate [A] [Y] 0 0;LAT latch D G true [Q] [] 10 0 false 10 10 10 10 false 0;",
+    ),
+    (EXAMPLE, EXAMPLE_SAID),
+    (PLAIN, PLAIN_SAID),
+];
+
+/// The pins of the cells of `EXAMPLE`.
+pub(super) const PINS: &[(&str, &str)] = &[
+    ("AOI21", " A1 A2 B>ZN"),
+    ("DLL", " D GN SE>Q>QN"),
+    ("DFN", " D CPN RN>Q"),
+    ("CKINV", " I TE>ZN"),
+];
+
+/// The keys of a cell of each kind that may ignore pins.
+pub(super) const IGNORING: &[&str] = &[
+    "kind = \"latch\"\nd = \"d\"\ng = \"g\"\noutputs = [\"q\"]\n",
+    "kind = \"flop\"\nd = \"d\"\nclock = \"c\"\noutputs = [\"q\"]\n",
+    "kind = \"clock\"\ninput = \"a\"\noutput = \"y\"\n",
 ];
