@@ -82,9 +82,16 @@ fn parted(alloc: Global, text: &[u8]) -> Result<(Vec<&[u8]>, Vec<&[u8]>), AllocE
 
 /// Whether two lists of lines are the same, the second one begun at some other line.
 fn is_rotation(lines: &[&[u8]], others: &[&[u8]]) -> bool {
-    let count = lines.len();
-    let begins_at = |from: usize| (0..count).all(|at| lines[at] == others[(from + at) % count]);
-    count == others.len() && (count == 0 || (0..count).any(begins_at))
+    for from in 0..others.len() {
+        let (front, back) = (&*others).split_at(from);
+        if lines.len() == others.len()
+            && (&*lines).starts_with(back)
+            && (&*lines).ends_with(front)
+        {
+            return true;
+        }
+    }
+    lines.is_empty() && others.is_empty()
 }
 
 // Where a chain begins is free, so the lines of a chain are compared as a ring.
