@@ -1,0 +1,9 @@
+pub mod FirstLaws
+pub mod ItemLaws
+pub mod TwiceLaws
+pub mod AgainLaws
+pub mod LackLaws
+pub mod WidthLaws
+pub mod DriveLaws
+pub mod SearchLaws
+pub mod ChainLaws

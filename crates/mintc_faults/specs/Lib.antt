@@ -1,0 +1,6 @@
+pub mod Firsts
+pub mod Twice
+pub mod Lacking
+pub mod Widths
+pub mod Driving
+pub mod Searching

@@ -1,0 +1,4 @@
+pub mod Named
+pub mod Orders
+pub mod Ordering
+pub mod Wired
