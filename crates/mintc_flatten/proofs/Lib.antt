@@ -1,0 +1,9 @@
+pub mod TotalLaws
+pub mod OrderLaws
+pub mod CountLaws
+pub mod LimitLaws
+pub mod TopLaws
+pub mod PortLaws
+pub mod JoinLaws
+pub mod GrowingLaws
+pub mod RefusalLaws

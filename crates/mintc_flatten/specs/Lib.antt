@@ -1,0 +1,4 @@
+pub mod Totals
+pub mod Tops
+pub mod Growing
+pub mod Joining

@@ -1,0 +1,26 @@
+-- Which modules are instantiated, as marks.
+use Rattle.std.specs.Prelude.{◌≡◌, ◌<◌, ℕ, nat_eq, Bool, false, not, ◌||◌, List, length, take, filter}
+use Rattle.std.specs.List.{list_any}
+use Rattle.mintc_hierarchy.specs.declared.targets.Target.{Target}
+use Rattle.mintc_hierarchy.specs.Sources.{Source, is_stub}
+use Rattle.mintc_hierarchy.specs.Refusals.{instantiates}
+use Rattle.mintc_hierarchy.specs.declared.targets.Target.TheVariants.{OfModule}
+use Rattle.mintc_targets.specs.Orders.{mark_at}
+
+-- whether a target is the module of a number, and whether some target is
+abbrev pub is_module : ℕ → Target → Bool
+is_module k (OfModule j) = nat_eq k j
+is_module k _ = false
+
+abbrev pub is_any_module : List Target → ℕ → Bool
+is_any_module ts k = list_any (is_module k) ts
+
+-- The marks are those before, and those of further modules.
+pub record Marks (before after : List Bool) (more : ℕ → Bool) : Type 0 where
+  pub same_length : length after ≡ length before
+  pub each : (k : ℕ) → k < length before → mark_at after k ≡ (mark_at before k || more k)
+
+-- The marks are of the modules that some of the first n modules, stubs left out, instantiate.
+pub record AreMarks (s : Source) (n : ℕ) (marks : List Bool) : Type 0 where
+  pub same_length : length marks ≡ length s.modules
+  pub each : (k : ℕ) → k < length s.modules → mark_at marks k ≡ list_any (instantiates s k) (filter (λ m. not (is_stub s m)) (take n s.modules))

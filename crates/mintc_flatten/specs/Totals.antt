@@ -1,0 +1,76 @@
+-- How many scopes, leaves and inner bits stand in a module, counted without the walk.
+use Rattle.std.specs.Prelude.{◌≡◌, ◌<◌, ℕ, zero, suc, List, [], ◌∷◌, length, min, slice_index, slice_index_or}
+use Rattle.mintc_netlist.specs.declared.module.Module.{Module}
+use Rattle.mintc_netlist.specs.Nets.{nets_of}
+use Rattle.mintc_hierarchy.specs.declared.targets.Target.{Target}
+use Rattle.mintc_hierarchy.specs.declared.targets.Target.TheVariants.{OfCell, OfModule, OfNothing}
+use Rattle.mintc_flatten.specs.declared.counts.Count.{Count}
+use Rattle.mintc_hierarchy.specs.Sources.{Source, module_at, targets_in}
+use Rattle.mintc_hierarchy.specs.Walks.{Counts, counts, plus, size_of, depth, deepest}
+
+-- some targets, each by itself and with what stands inside it
+abbrev pub sum_of : Source → (Target → Counts) → List Target → Counts
+sum_of s inside [] = counts 0 0 0
+sum_of s inside (t ∷ ts) = plus (plus (size_of s t) (inside t)) (sum_of s inside ts)
+
+abbrev pub content_by : Source → (Target → Counts) → Target → Counts
+content_by s inside (OfModule k) = sum_of s inside (targets_in s (module_at s k))
+content_by s inside _ = counts 0 0 0
+
+-- what stands inside a target, so many instances deep
+abbrev pub content : Source → ℕ → Target → Counts
+content s zero t = counts 0 0 0
+content s (suc deep) t = content_by s (content s deep) t
+
+-- what the hierarchy from a module has
+abbrev pub all_in : Source → ℕ → Counts
+all_in s top = plus (size_of s (OfModule top)) (content s (suc (length s.modules)) (OfModule top))
+
+-- what a target has with all that stands inside it
+abbrev pub part : Source → Target → Counts
+part s (OfModule k) = all_in s k
+part s t = size_of s t
+
+abbrev pub sum_parts : Source → List Target → Counts
+sum_parts s [] = counts 0 0 0
+sum_parts s (t ∷ ts) = plus (part s t) (sum_parts s ts)
+
+-- counts up to 10^9
+abbrev pub capped : ℕ → ℕ
+capped n = min n 1000000000
+
+-- counts and a depth as they are kept
+pub record IsCapped (c : Counts) (d : ℕ) (count : Count) : Type 0 where
+  pub scopes : count.scopes ≡ capped c.scopes
+  pub leaves : count.leaves ≡ capped c.leaves
+  pub inner : count.inner ≡ capped c.inner
+  pub depth : count.depth ≡ d
+
+-- what is counted of the hierarchy from a module
+abbrev pub IsCount : Source → ℕ → Count → Type 0
+IsCount s k count = IsCapped (all_in s k) (depth s (length s.modules) k) count
+
+abbrev pub no_count : Count
+no_count = record { scopes = 0; leaves = 0; inner = 0; depth = 0 }
+
+-- The target is there, and if it is a module, it is counted.
+abbrev pub IsCounted : Source → List Count → Target → Type 0
+IsCounted s table (OfCell n) = n < length s.cells
+IsCounted s table (OfModule k) = (k < length table) × IsCount s k (slice_index_or table k no_count)
+IsCounted s table OfNothing = Unit {0}
+
+-- how deep a target is
+abbrev pub depth_of : Source → Target → ℕ
+depth_of s (OfModule k) = depth s (length s.modules) k
+depth_of s _ = 0
+
+abbrev pub greatest_depth : Source → List Target → ℕ
+greatest_depth s ts = deepest (depth s (length s.modules)) ts
+
+-- how many bits the nets of a module have, capped
+abbrev pub net_count : Module → ℕ
+net_count m = capped (length (nets_of m))
+
+-- the first n modules of an order are counted
+pub record AreCounted (s : Source) (order : List ℕ) (n : ℕ) (table : List Count) : Type 0 where
+  pub each : (i : ℕ) → i < n → IsCount s (slice_index order i) (slice_index_or table (slice_index order i) no_count)

@@ -1,0 +1,74 @@
+//! The limits of a hierarchy.
+ghost use Rattle.std.specs.Prelude.{◌≡◌, ◌<◌, ◌^◌, ◌∷◌, [], None, Some, map, length, min, false, OnOk, IfErr};
+ghost use Rattle.mintc_text.specs.Stops.{StopsAt};
+ghost use Rattle.mintc_text.specs.declared.refusals.Kind.TheVariants as kind;
+ghost use Rattle.mintc_hierarchy.specs.Sources.{source_of, module_at, is_stub, targets_in};
+ghost use Rattle.mintc_nets.specs.Tables.{table_of};
+ghost use Rattle.mintc_hierarchy.specs.Refusals.{over_limit, limit_refusal};
+
+use crate::counts::{Count, count_modules, net_counts};
+use mintc_cells::Cells;
+use mintc_netlist::Module;
+use mintc_nets::Nets;
+use mintc_targets::{TargetList, modules_in_order};
+use mintc_text::{Kind, Refusal, Stop};
+use std::alloc::Global;
+
+/// The refusal of a quantity that passes its limit.
+fn limit(kind: Kind, count: u64) -> Refusal
+    ensures { result ≡ Refusal.Limit kind (min count 1000000000) }
+{
+    Refusal::Limit {
+        kind,
+        count: count.min(1_000_000_000),
+    }
+}
+
+/// The refusal of the first quantity that passes its limit.
+fn first_limit(count: Count) -> Option<Refusal>
+    ensures { result ≡ over_limit ((kind.Scopes, count.scopes, 50000) ∷ (kind.Depth, count.depth, 32) ∷ (kind.Leaves, count.leaves, 50000) ∷ (kind.Inner, count.inner, 262144) ∷ []) }
+{
+    if count.scopes > 50_000 {
+        Some(limit(Kind::Scopes, count.scopes))
+    } else if count.depth > 32 {
+        Some(limit(Kind::Depth, count.depth))
+    } else if count.leaves > 50_000 {
+        Some(limit(Kind::Leaves, count.leaves))
+    } else if count.inner > 262_144 {
+        Some(limit(Kind::Inner, count.inner))
+    } else {
+        None
+    }
+}
+
+/// Refuses a hierarchy that passes a limit.
+pub fn check_limits(
+    alloc: Global,
+    cells: &Cells,
+    modules: &[Module],
+    targets: &[TargetList],
+    nets: &[Nets],
+    top: u32,
+) -> Result<(), Stop>
+    requires nets { nets.now ≡ map table_of modules.now }
+    requires targets { targets.now ≡ map (targets_in (source_of cells.now modules.now)) modules.now }
+    requires few { length modules.now < 2 ^ 32 }
+    requires top { top < length modules.now }
+    requires live { is_stub (source_of cells.now modules.now) (module_at (source_of cells.now modules.now) top) ≡ false }
+    ensures passes { OnOk result (limit_refusal (source_of cells.now modules.now) top ≡ None) }
+    ensures stop { IfErr result (StopsAt (λ r. limit_refusal (source_of cells.now modules.now) top ≡ Some r)) }
+{
+    let Ok(order) = modules_in_order(alloc, cells, modules, targets) else {
+        return Err(Stop::OutOfMemory);
+    };
+    let Ok(bits) = net_counts(alloc, modules, nets) else {
+        return Err(Stop::OutOfMemory);
+    };
+    let Ok(table) = count_modules(alloc, cells, modules, targets, &bits, &order) else {
+        return Err(Stop::OutOfMemory);
+    };
+    match first_limit(table[top as usize]) {
+        None => Ok(()),
+        Some(refusal) => Err(Stop::Refused(refusal)),
+    }
+}

@@ -1,0 +1,131 @@
+//! The modules that may be the top.
+ghost use Rattle.std.specs.Prelude.{◌≡◌, ◌<◌, ◌^◌, ◌&&◌, ℕ, false, not, ◌++◌, ◌∷◌, [], cond, map, length, IfOk, OnOk};
+ghost use Rattle.std.specs.List.{list_any};
+ghost use Rattle.std.specs.Option.{option_copied, is_some};
+ghost use Rattle.mintc_cells.specs.Entries.{number_of};
+ghost use Rattle.mintc_hierarchy.specs.Sources.{source_of, module_at, is_stub, targets_in};
+ghost use Rattle.mintc_hierarchy.specs.Refusals.{may_be_top, tops_of};
+ghost use Rattle.mintc_flatten.specs.Tops.{is_module, is_any_module, Marks, AreMarks};
+ghost use Rattle.mintc_targets.specs.Orders.{mark_at};
+
+use mintc_cells::Cells;
+use mintc_hierarchy::Target;
+use mintc_netlist::Module;
+use mintc_targets::TargetList;
+use mintc_text::{Name, OutOfMemory};
+use std::alloc::Global;
+
+/// Marks the module that a target is.
+fn mark_one(marks: &mut [bool], target: Target)
+    ensures { Marks marks.old marks.new (λ k. is_module k target) }
+{
+    if let Target::OfModule(number) = target {
+        if (number as usize) < marks.len() {
+            marks[number as usize] = true;
+        }
+    }
+}
+
+/// Marks the modules among targets.
+fn mark_all(marks: &mut [bool], targets: &[Target])
+    ensures { Marks marks.old marks.new (is_any_module targets.now) }
+{
+    for target in targets {
+        mark_one(marks, *target);
+    }
+}
+
+/// Marks what modules that are no stubs instantiate, where nothing is marked yet.
+fn mark_modules(cells: &Cells, modules: &[Module], targets: &[TargetList], marks: &mut [bool])
+    requires targets { targets.now ≡ map (targets_in (source_of cells.now modules.now)) modules.now }
+    requires length { length marks.old ≡ length modules.now }
+    requires fresh { (k : ℕ) → mark_at marks.old k ≡ false }
+    ensures { AreMarks (source_of cells.now modules.now) (length modules.now) marks.new }
+{
+    for number in 0..modules.len() {
+        if is_stub(cells, &modules[number]) {
+            continue;
+        }
+        mark_all(marks, targets[number].items());
+    }
+}
+
+/// Which modules are instantiated by modules that are no stubs.
+fn find_marks(
+    alloc: Global,
+    cells: &Cells,
+    modules: &[Module],
+    targets: &[TargetList],
+) -> Result<Vec<bool>, OutOfMemory>
+    requires { targets.now ≡ map (targets_in (source_of cells.now modules.now)) modules.now }
+    ensures { IfOk result (λ marks. AreMarks (source_of cells.now modules.now) (length modules.now) marks.items) }
+{
+    let Ok(mut marks) = vec![in alloc; false; modules.len()] else {
+        return Err(OutOfMemory);
+    };
+    mark_modules(cells, modules, targets, &mut marks);
+    Ok(marks)
+}
+
+/// Whether a module is a stub.
+fn is_stub(cells: &Cells, part: &Module) -> bool
+    ensures { result ≡ is_some (number_of cells.now part.now.name) }
+{
+    cells.find(part.name.bytes()).is_some()
+}
+
+/// Whether a module may be the top.
+fn may_be(
+    cells: &Cells,
+    modules: &[Module],
+    number: usize,
+    marks: &[bool],
+    top: Option<&Name>,
+) -> bool
+    requires marks { AreMarks (source_of cells.now modules.now) (length modules.now) marks.now }
+    requires number { number < length modules.now }
+    ensures { result ≡ (not (is_stub (source_of cells.now modules.now) (module_at (source_of cells.now modules.now) number)) && may_be_top (source_of cells.now modules.now) (option_copied top.entry) number) }
+{
+    let part = &modules[number];
+    if is_stub(cells, part) {
+        return false;
+    }
+    match top {
+        Some(name) => name.bytes() == part.name.bytes(),
+        None => !marks[number],
+    }
+}
+
+/// Takes in a number where it passes.
+fn push_if(tops: &mut Vec<u32>, number: u32, passes: bool) -> Result<(), OutOfMemory>
+    ensures { OnOk result (tops.new.items ≡ tops.old.items ++ cond passes (number ∷ []) []) }
+{
+    if passes {
+        return match tops.push(number) {
+            Ok(()) => Ok(()),
+            Err(_) => Err(OutOfMemory),
+        };
+    }
+    Ok(())
+}
+
+/// The modules that may be the top: those of a name, or else those that none instantiates.
+pub fn find_tops(
+    alloc: Global,
+    cells: &Cells,
+    modules: &[Module],
+    targets: &[TargetList],
+    top: Option<&Name>,
+) -> Result<Vec<u32>, OutOfMemory>
+    requires targets { targets.now ≡ map (targets_in (source_of cells.now modules.now)) modules.now }
+    requires few { length modules.now < 2 ^ 32 }
+    ensures { IfOk result (λ tops. tops.items ≡ tops_of (source_of cells.now modules.now) (option_copied top.entry)) }
+{
+    let marks = find_marks(alloc, cells, modules, targets)?;
+    let mut tops = Vec::new(alloc);
+    for number in 0..modules.len() {
+        let passes = may_be(cells, modules, number, &marks, top);
+        push_if(&mut tops, number as u32, passes)?;
+    }
+    Ok(tops)
+}

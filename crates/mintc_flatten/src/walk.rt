@@ -1,0 +1,496 @@
+//! The walk from the top down, which makes the lists of a hierarchy.
+ghost use Rattle.std.specs.Prelude.{◌≡◌, ◌<◌, ◌^◌, ◌++◌, ◌∷◌, [], ℕ, map, length, slice_index_or, IfOk, OnOk};
+ghost use Rattle.mintc_cells.specs.Entries.{cell_at};
+ghost use Rattle.mintc_hierarchy.specs.Sources.{source_of, module_at, no_module, target_in, targets_in};
+ghost use Rattle.mintc_hierarchy.specs.Walks.{counts, place_at, step_at, steps_from, inside};
+ghost use Rattle.mintc_netlist.specs.Nets.{bit_of, bits_of};
+ghost use Rattle.mintc_nets.specs.Tables.{table_of};
+ghost use Rattle.mintc_hierarchy.specs.Hierarchies.{net_of, name_of, statement_of, nets_in, pins_in, joins_in, top_scope, top_port, hierarchy_of};
+ghost use Rattle.mintc_targets.specs.Orders.{IsThere};
+ghost use Rattle.mintc_flatten.specs.Growing.{lists};
+ghost use Rattle.mintc_netlist.specs.Connections.{ports_of};
+
+use crate::joins::push_joins;
+use crate::ports::top_ports;
+use mintc_cells::Cells;
+use mintc_hierarchy::{
+    Hierarchy, Inner, InnerList, Join, JoinList, Leaf, LeafList, Scope, ScopeList, Target, TopPort,
+    TopPortList,
+};
+use mintc_netlist::{Item, Module, Span};
+use mintc_nets::{Nets, bits, index_at};
+use mintc_targets::TargetList;
+use mintc_text::{Name, OutOfMemory};
+use std::alloc::Global;
+use std::marker::Model;
+
+/// The lists of a hierarchy as far as the walk has come.
+#[derive(Drop)]
+pub struct Walk {
+    scopes: Vec<Scope>,
+    leaves: Vec<Leaf>,
+    inner: Vec<Inner>,
+    joins: Vec<Join>,
+}
+
+impl Model for Walk {
+    ghost use Rattle.mintc_flatten.specs.Growing.{Lists, lists};
+
+    ghost Value = { Lists };
+
+    ghost view = { λ w. lists w.scopes.items w.leaves.items w.inner.items w.joins.items };
+}
+
+/// A number that is known to be small.
+fn small(number: usize) -> Result<u32, OutOfMemory>
+    ensures { IfOk result (λ n. n ≡ number) }
+{
+    match u32::try_from(number) {
+        Ok(number) => Ok(number),
+        Err(_) => Err(OutOfMemory),
+    }
+}
+
+/// The name of an instance; no byte for another item.
+fn item_name(alloc: Global, item: &Item) -> Result<Name, OutOfMemory>
+    ensures { IfOk result (λ name. name ≡ name_of item.now) }
+{
+    match item {
+        Item::Instance { name, .. } => name.copy(alloc),
+        _ => Name::new(alloc, &[]),
+    }
+}
+
+/// The statement of an instance; 0 for another item.
+fn item_entry(item: &Item) -> u32
+    ensures { result ≡ statement_of item.now }
+{
+    match item {
+        Item::Instance { entry, .. } => *entry,
+        _ => 0,
+    }
+}
+
+/// Takes in the pins of a leaf.
+fn push_pins(
+    alloc: Global,
+    inner: &mut Vec<Inner>,
+    cells: &Cells,
+    leaf: u32,
+    cell: u32,
+) -> Result<(), OutOfMemory>
+    requires { cell < length cells.now }
+    ensures { OnOk result (inner.new.items ≡ inner.old.items ++ pins_in leaf (cell_at cells.now cell)) }
+{
+    for number in 0..cells.pin_count(cell) {
+        let pin = cells.pin(cell, number).copy(alloc)?;
+        let Ok(()) = inner.push(Inner::Pin { leaf, pin }) else {
+            return Err(OutOfMemory);
+        };
+    }
+    Ok(())
+}
+
+/// Takes in the bits of a net of a scope from the rightmost.
+fn push_net(
+    alloc: Global,
+    inner: &mut Vec<Inner>,
+    span: Option<Span>,
+    name: &[u8],
+    scope: u32,
+) -> Result<(), OutOfMemory>
+    ensures { OnOk result (inner.new.items ≡ inner.old.items ++ map (net_of scope) (bits_of name.now span)) }
+{
+    let Some(span) = span else {
+        return push_bit(alloc, inner, scope, name, None);
+    };
+    for number in 0..bits(Some(span)) {
+        push_bit(
+            alloc,
+            inner,
+            scope,
+            name,
+            Some(index_at(span, number as u32)),
+        )?;
+    }
+    Ok(())
+}
+
+/// Takes in a bit of a net of a scope.
+fn push_bit(
+    alloc: Global,
+    inner: &mut Vec<Inner>,
+    scope: u32,
+    name: &[u8],
+    index: Option<u32>,
+) -> Result<(), OutOfMemory>
+    ensures { OnOk result (inner.new.items ≡ inner.old.items ++ net_of scope (bit_of name.now index) ∷ []) }
+{
+    let name = Name::new(alloc, name)?;
+    match inner.push(Inner::Net { scope, name, index }) {
+        Ok(()) => Ok(()),
+        Err(_) => Err(OutOfMemory),
+    }
+}
+
+/// Takes in the nets of a scope.
+fn push_nets(
+    alloc: Global,
+    inner: &mut Vec<Inner>,
+    module: &Module,
+    nets: &Nets,
+    scope: u32,
+) -> Result<(), OutOfMemory>
+    requires { nets.now ≡ table_of «module».now }
+    ensures { OnOk result (inner.new.items ≡ inner.old.items ++ nets_in scope «module».now) }
+{
+    for place in 0..nets.len() {
+        let name = nets.name(place);
+        push_net(alloc, inner, nets.range(module, name), name, scope)?;
+    }
+    Ok(())
+}
+
+impl Walk {
+    ghost use Rattle.mintc_hierarchy.specs.declared.targets.Target.TheVariants.{OfCell, OfModule, OfNothing};
+    ghost use Rattle.mintc_flatten.specs.Growing.{Lists, lists, sizes, grown, grown_by, grown_all};
+
+    /// Takes in a leaf that stands in a scope.
+    fn leaf(
+        &mut self,
+        alloc: Global,
+        cells: &Cells,
+        modules: &[Module],
+        nets: &[Nets],
+        home: &Module,
+        table: &Nets,
+        scope: u32,
+        first: u32,
+        item: &Item,
+        cell: u32,
+    ) -> Result<(), OutOfMemory>
+        requires cell { cell < length cells.now }
+        requires nets { nets.now ≡ map table_of modules.now }
+        requires table { table.now ≡ table_of home.now }
+        requires target { OfCell cell ≡ target_in (source_of cells.now modules.now) item.now }
+        ensures { OnOk result (self.new ≡ grown_by (source_of cells.now modules.now) self.old (step_at (place_at home.now scope first) (sizes self.old) item.now) (OfCell cell)) }
+    {
+        let number = small(self.leaves.len())?;
+        let own = small(self.inner.len())?;
+        let name = item_name(alloc, item)?;
+        let leaf = Leaf {
+            scope,
+            name,
+            cell,
+            first_pin: own,
+            entry: item_entry(item),
+        };
+        let Ok(()) = self.leaves.push(leaf) else {
+            return Err(OutOfMemory);
+        };
+        push_pins(alloc, &mut self.inner, cells, number, cell)?;
+        push_joins(
+            alloc,
+            &mut self.joins,
+            cells,
+            modules,
+            nets,
+            home,
+            table,
+            first,
+            own,
+            item,
+            Target::OfCell(cell),
+        )
+    }
+
+    /// Takes in a scope that stands in a scope.
+    fn scope(
+        &mut self,
+        alloc: Global,
+        cells: &Cells,
+        modules: &[Module],
+        nets: &[Nets],
+        home: &Module,
+        table: &Nets,
+        scope: u32,
+        first: u32,
+        item: &Item,
+        number: u32,
+    ) -> Result<(), OutOfMemory>
+        requires number { number < length modules.now }
+        requires nets { nets.now ≡ map table_of modules.now }
+        requires table { table.now ≡ table_of home.now }
+        requires target { OfModule number ≡ target_in (source_of cells.now modules.now) item.now }
+        ensures { OnOk result (self.new ≡ grown_by (source_of cells.now modules.now) self.old (step_at (place_at home.now scope first) (sizes self.old) item.now) (OfModule number)) }
+    {
+        let place = small(self.scopes.len())?;
+        let own = small(self.inner.len())?;
+        let name = item_name(alloc, item)?;
+        let new = Scope {
+            module: number,
+            parent: scope,
+            name,
+        };
+        let Ok(()) = self.scopes.push(new) else {
+            return Err(OutOfMemory);
+        };
+        push_nets(
+            alloc,
+            &mut self.inner,
+            &modules[number as usize],
+            &nets[number as usize],
+            place,
+        )?;
+        push_joins(
+            alloc,
+            &mut self.joins,
+            cells,
+            modules,
+            nets,
+            home,
+            table,
+            first,
+            own,
+            item,
+            Target::OfModule(number),
+        )
+    }
+
+    /// Takes in an item that is no instance.
+    fn pass(
+        &mut self,
+        alloc: Global,
+        cells: &Cells,
+        modules: &[Module],
+        nets: &[Nets],
+        home: &Module,
+        table: &Nets,
+        scope: u32,
+        first: u32,
+        item: &Item,
+    ) -> Result<(), OutOfMemory>
+        requires nets { nets.now ≡ map table_of modules.now }
+        requires table { table.now ≡ table_of home.now }
+        requires target { OfNothing ≡ target_in (source_of cells.now modules.now) item.now }
+        ensures { OnOk result (self.new ≡ grown_by (source_of cells.now modules.now) self.old (step_at (place_at home.now scope first) (sizes self.old) item.now) OfNothing) }
+    {
+        let own = small(self.inner.len())?;
+        push_joins(
+            alloc,
+            &mut self.joins,
+            cells,
+            modules,
+            nets,
+            home,
+            table,
+            first,
+            own,
+            item,
+            Target::OfNothing,
+        )
+    }
+
+    /// Takes in an item of a scope.
+    fn step(
+        &mut self,
+        alloc: Global,
+        cells: &Cells,
+        modules: &[Module],
+        nets: &[Nets],
+        home: &Module,
+        table: &Nets,
+        scope: u32,
+        first: u32,
+        item: &Item,
+        target: Target,
+    ) -> Result<(), OutOfMemory>
+        requires nets { nets.now ≡ map table_of modules.now }
+        requires table { table.now ≡ table_of home.now }
+        requires target { target ≡ target_in (source_of cells.now modules.now) item.now }
+        requires there { IsThere (source_of cells.now modules.now) target }
+        ensures { OnOk result (self.new ≡ grown (source_of cells.now modules.now) self.old (step_at (place_at home.now scope first) (sizes self.old) item.now)) }
+    {
+        match target {
+            Target::OfCell(cell) => self.leaf(
+                alloc, cells, modules, nets, home, table, scope, first, item, cell,
+            ),
+            Target::OfModule(module) => self.scope(
+                alloc, cells, modules, nets, home, table, scope, first, item, module,
+            ),
+            Target::OfNothing => self.pass(
+                alloc, cells, modules, nets, home, table, scope, first, item,
+            ),
+        }
+    }
+
+    /// Takes in an item of a scope and all that stands inside it, so many instances deep.
+    #[cycle(walk)]
+    fn visit(
+        &mut self,
+        alloc: Global,
+        cells: &Cells,
+        modules: &[Module],
+        targets: &[TargetList],
+        nets: &[Nets],
+        deep: usize,
+        home: &Module,
+        table: &Nets,
+        scope: u32,
+        first: u32,
+        item: &Item,
+        target: Target,
+    ) -> Result<(), OutOfMemory>
+        requires targets { targets.now ≡ map (targets_in (source_of cells.now modules.now)) modules.now }
+        requires nets { nets.now ≡ map table_of modules.now }
+        requires table { table.now ≡ table_of home.now }
+        requires target { target ≡ target_in (source_of cells.now modules.now) item.now }
+        requires there { IsThere (source_of cells.now modules.now) target }
+        requires deep { deep < 2 ^ 32 }
+        ensures { OnOk result (self.new ≡ grown_all (source_of cells.now modules.now) self.old
+            (step_at (place_at home.now scope first) (sizes self.old) item.now ∷ inside (source_of cells.now modules.now) deep (sizes self.old) item.now)) }
+    {
+        let place = small(self.scopes.len())?;
+        let own = small(self.inner.len())?;
+        self.step(
+            alloc, cells, modules, nets, home, table, scope, first, item, target,
+        )?;
+        if deep == 0 {
+            return Ok(());
+        }
+        match target {
+            Target::OfModule(number) => self.enter(
+                alloc,
+                cells,
+                modules,
+                targets,
+                nets,
+                deep - 1,
+                number,
+                place,
+                own,
+            ),
+            _ => Ok(()),
+        }
+    }
+
+    /// Takes in the items of a scope, each with all that stands inside it.
+    #[cycle(walk)]
+    fn enter(
+        &mut self,
+        alloc: Global,
+        cells: &Cells,
+        modules: &[Module],
+        targets: &[TargetList],
+        nets: &[Nets],
+        deep: usize,
+        number: u32,
+        scope: u32,
+        first: u32,
+    ) -> Result<(), OutOfMemory>
+        requires targets { targets.now ≡ map (targets_in (source_of cells.now modules.now)) modules.now }
+        requires nets { nets.now ≡ map table_of modules.now }
+        requires number { number < length modules.now }
+        requires deep { deep < 2 ^ 32 }
+        ensures { OnOk result (self.new ≡ grown_all (source_of cells.now modules.now) self.old
+            (steps_from (source_of cells.now modules.now) (inside (source_of cells.now modules.now) deep) (place_at (module_at (source_of cells.now modules.now) number) scope first) (sizes self.old)
+            (module_at (source_of cells.now modules.now) number).items)) }
+    {
+        let home = &modules[number as usize];
+        let table = &nets[number as usize];
+        let items = home.items.items();
+        let list = targets[number as usize].items();
+        for (at, item) in items.iter().enumerate() {
+            self.visit(
+                alloc, cells, modules, targets, nets, deep, home, table, scope, first, item,
+                list[at],
+            )?;
+        }
+        Ok(())
+    }
+}
+
+/// The lists before the walk from a module.
+fn begin(alloc: Global, modules: &[Module], nets: &[Nets], top: u32) -> Result<Walk, OutOfMemory>
+    requires top { top < length modules.now }
+    requires nets { nets.now ≡ map table_of modules.now }
+    ensures { IfOk result (λ walk. walk ≡ lists (top_scope top ∷ []) [] (nets_in 0 (slice_index_or modules.now top no_module)) []) }
+{
+    let name = Name::new(alloc, &[])?;
+    let mut scopes = Vec::new(alloc);
+    let Ok(()) = scopes.push(Scope {
+        module: top,
+        parent: 0,
+        name,
+    }) else {
+        return Err(OutOfMemory);
+    };
+    let mut inner = Vec::new(alloc);
+    push_nets(
+        alloc,
+        &mut inner,
+        &modules[top as usize],
+        &nets[top as usize],
+        0,
+    )?;
+    Ok(Walk {
+        scopes,
+        leaves: Vec::new(alloc),
+        inner,
+        joins: Vec::new(alloc),
+    })
+}
+
+/// The hierarchy from a module.
+pub fn hierarchy(
+    alloc: Global,
+    cells: &Cells,
+    modules: &[Module],
+    targets: &[TargetList],
+    nets: &[Nets],
+    top: u32,
+) -> Result<Hierarchy, OutOfMemory>
+    requires targets { targets.now ≡ map (targets_in (source_of cells.now modules.now)) modules.now }
+    requires nets { nets.now ≡ map table_of modules.now }
+    requires top { top < length modules.now }
+    requires few { length modules.now < 2 ^ 32 }
+    ensures { IfOk result (λ h. h ≡ hierarchy_of (source_of cells.now modules.now) top) }
+{
+    let ports = top_ports(alloc, &modules[top as usize], &nets[top as usize])?;
+    let mut walk = begin(alloc, modules, nets, top)?;
+    walk.enter(
+        alloc,
+        cells,
+        modules,
+        targets,
+        nets,
+        modules.len(),
+        top,
+        0,
+        0,
+    )?;
+    Ok(finish(walk, ports))
+}
+
+/// The hierarchy of a walk that is done.
+fn finish(walk: Walk, ports: Vec<TopPort>) -> Hierarchy
+    ensures scopes { result.scopes ≡ walk.scopes }
+    ensures leaves { result.leaves ≡ walk.leaves }
+    ensures inner { result.inner ≡ walk.inner }
+    ensures joins { result.joins ≡ walk.joins }
+    ensures ports { result.ports ≡ ports.items }
+{
+    let Walk {
+        scopes,
+        leaves,
+        inner,
+        joins,
+    } = walk;
+    Hierarchy {
+        scopes: ScopeList::new(scopes),
+        leaves: LeafList::new(leaves),
+        inner: InnerList::new(inner),
+        joins: JoinList::new(joins),
+        ports: TopPortList::new(ports),
+    }
+}
