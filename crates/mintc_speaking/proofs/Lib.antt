@@ -1,0 +1,13 @@
+pub mod NameLaws
+pub mod PortLaws
+pub mod RangeLaws
+pub mod RangeLimits
+pub mod FirstLaws
+pub mod TableLaws
+pub mod PathLaws
+pub mod InstanceLaws
+pub mod SpeakingLaws
+pub mod GatherLaws
+pub mod DelayLaws
+pub mod GroupLaws
+pub mod PlaceLaws
