@@ -1,0 +1,254 @@
+-- The design by what is gathered for it.
+use Rattle.std.proofs.Common.{◌≡◌, ◌<◌, ◌≤◌, ◌+◌, ◌*◌, ℕ, ℤ, pos, suc, Bool, true, false, ◌&&◌, ◌||◌, cond, List, [], ◌∷◌, ◌++◌, length, slice_index_or, map, flat_map, zip, sum_by, Option, Some, None, option_map, unwrap_or, All, Result, Ok, Err, MatchResult, refl, sym, ap, ◌∙◌, subst, arith, length-append}
+use Rattle.std.specs.Prelude.{nat_lt, int_le}
+use Rattle.std.specs.List.{range_with_len}
+use Rattle.std.proofs.lemmas.Bool.{and_parts}
+use Rattle.std.proofs.lemmas.Bool.Decides.{nat_tests}
+use Rattle.std.proofs.lemmas.Int.{ints}
+use Rattle.std.proofs.lemmas.List.{length-map, get_or_past}
+use Rattle.std.proofs.lemmas.List.FromFn.{length-range_with_len}
+use Rattle.std.proofs.lemmas.List.Sums.{sum_by-append, length-filter, count_by-le-length, AllPass-from_list_all}
+use Rattle.std.proofs.lemmas.Slice.Zip.{AllZip-long}
+use Rattle.mintc_text.specs.Stops.{StopsAt}
+use Rattle.mintc_text.specs.declared.refusals.Kind.{Kind}
+use Rattle.mintc_text.specs.declared.refusals.Refusal.{Refusal}
+use Rattle.mintc_text.specs.declared.refusals.Refusal.TheVariants as refusal
+use Rattle.mintc_text.specs.declared.refusals.Stop.{Stop}
+use Rattle.mintc_text.specs.declared.refusals.Stop.TheVariants as stop
+use Rattle.mintc_cells.specs.declared.cell.Cell.{Cell}
+use Rattle.mintc_cells.specs.declared.cell.Cell.TheVariants.{Gate, Latch, Flop, Clock}
+use Rattle.mintc_cells.specs.Rules.{is_cell, has_defaults, is_same}
+use Rattle.mintc_cells.specs.Entries.{AreKept, is_kept, cell_at, no_cell}
+use Rattle.mintc_cells.proofs.PinsLaws.{kept_at}
+use Rattle.mintc_document.specs.Rules.{is_name}
+use Rattle.mintc_clock.specs.declared.clock.Clock as clock_type
+use Rattle.mintc_clock.specs.declared.clock.Listed.{Listed}
+use Rattle.mintc_clock.specs.Laws.{KeepsLimits}
+use Rattle.mintc_sdf.specs.declared.delays.Delay.{Delay}
+use Rattle.mintc_sdf.specs.Laws.{IsWithin}
+use Rattle.mintc_hierarchy.specs.declared.hierarchy.Hierarchy.{Hierarchy}
+use Rattle.mintc_hierarchy.specs.Shape.{CellTable, IsFlattened}
+use Rattle.mintc_timing.specs.declared.parts.Element.{Element}
+use Rattle.mintc_timing.specs.declared.parts.TimingArc.{TimingArc}
+use Rattle.mintc_timing.specs.Design.{Design}
+use Rattle.mintc_timing.specs.Limits.{over_limit, quantities, limit_of, HasParts}
+use Rattle.mintc_speaking.specs.Pins.{leaf_at, leaf_cell, no_leaf, all_leaves, all_names, inner_name, is_storage, leaf_path, dotted, input_count, output_numbers}
+use Rattle.mintc_speaking.specs.Speaking.{Matter, said, range_of, first_refusal, join_into, path_on, arcs_from, dq_of, cq_of, setup_of, hold_of, width_of}
+use Rattle.mintc_annotate.specs.declared.searching.Spot.{Spot}
+use Rattle.mintc_annotate.specs.ClockPorts.{has_ports, first_false, IsPortRefusal}
+use Rattle.mintc_annotate.specs.Phases.{storage, phase_spots, AreTraced, IsUntraced, IsPhaseOf}
+use Rattle.mintc_annotate.specs.Counts.{arc_count, leaf_arc_count}
+use Rattle.mintc_annotate.specs.Made.{RangeOf, bits_of, element_of, port_element, elements_of, arc_of, no_delay, inner_bit, join_arc, gate_arc, leaf_arcs, number_in, input_arcs, output_arcs, arcs_of, arcs_with, design_with, IsMade, IsAnnotated, IsAnnotateRefusal, no_port, speaks_of_nothing, no_phase}
+use Rattle.mintc_annotate.proofs.TraceLaws.{stored}
+use Rattle.mintc_annotate.proofs.ElementLimits.{KeepsHold}
+use Rattle.mintc_annotate.proofs.PartLimits.{elements_count, made_has_parts}
+
+-- ---- refusals
+pub stops_port : (h : Hierarchy) (cells : CellTable) (clock : clock_type.Clock) (delays : List Delay) (s : Stop) → StopsAt (IsPortRefusal (has_ports h clock)) s → StopsAt (IsAnnotateRefusal h cells clock delays) s
+stops_port h cells clock delays (stop.Refused r) port = no_port port
+stops_port h cells clock delays stop.OutOfMemory port = tt
+
+pub stops_speaking : (h : Hierarchy) (cells : CellTable) (clock : clock_type.Clock) (delays : List Delay) (s : Stop) → first_false (has_ports h clock) ≡ None → StopsAt (λ r. first_refusal h cells delays ≡ Some r) s → StopsAt (IsAnnotateRefusal h cells clock delays) s
+stops_speaking h cells clock delays (stop.Refused r) ports speaks = speaks_of_nothing ports speaks
+stops_speaking h cells clock delays stop.OutOfMemory ports speaks = tt
+
+phase_refusal : (h : Hierarchy) (cells : CellTable) (clock : clock_type.Clock) (delays : List Delay) (r : Refusal) → first_false (has_ports h clock) ≡ None → first_refusal h cells delays ≡ None → IsUntraced h cells (phase_spots h clock) r →
+    IsAnnotateRefusal h cells clock delays r
+phase_refusal h cells clock delays (refusal.NoPhase e) ports speaks untraced = no_phase ports speaks e refl untraced
+phase_refusal h cells clock delays _ ports speaks untraced = absurd untraced
+
+pub stops_phase : (h : Hierarchy) (cells : CellTable) (clock : clock_type.Clock) (delays : List Delay) (s : Stop) → first_false (has_ports h clock) ≡ None → first_refusal h cells delays ≡ None → StopsAt (IsUntraced h cells (phase_spots h clock)) s →
+    StopsAt (IsAnnotateRefusal h cells clock delays) s
+stops_phase h cells clock delays (stop.Refused r) ports speaks untraced = phase_refusal h cells clock delays r ports speaks untraced
+stops_phase h cells clock delays stop.OutOfMemory ports speaks untraced = tt
+
+-- ---- how many
+product : {X : Type 0} (f : ℕ → ℕ → X) (ins outs : List ℕ) → length (flat_map (λ i. map (f i) outs) ins) ≡ length ins * length outs
+product f [] outs = let e : 0 ≡ 0 * length outs = omega arith in e
+product f (i ∷ ins) outs =
+    let rest = product f ins outs in
+    let here = length-map outs (f i) in
+    let e : length outs + length ins * length outs ≡ suc (length ins) * length outs = omega arith in
+    length-append (map (f i) outs) (flat_map (λ k. map (f k) outs) ins) ∙ ap (λ (n : ℕ). n + length (flat_map (λ k. map (f k) outs) ins)) here ∙ ap (λ (n : ℕ). length outs + n) rest ∙ e
+
+leaf_count : (h : Hierarchy) (cells : CellTable) (ranges : RangeOf) (n l : ℕ) (cell : Cell) → length (leaf_arcs h cells ranges n l cell) ≡ arc_count cell
+leaf_count h cells ranges n l (Gate inputs outputs a b) =
+    product (gate_arc h ranges n l (a, b)) (range_with_len 0 (length inputs)) (range_with_len (length inputs) (length outputs))
+    ∙ ap (λ (m : ℕ). m * length (range_with_len (length inputs) (length outputs))) (length-range_with_len 0 (length inputs)) ∙ ap (λ (m : ℕ). length inputs * m) (length-range_with_len (length inputs) (length outputs))
+leaf_count h cells ranges n l (Latch a b c outs d e f g i j k m o p) = let long = length-map (output_numbers (Latch a b c outs d e f g i j k m o p)) (λ q. arc_of (2 * number_in h cells l + 1) (inner_bit n ((leaf_at h l).first_pin + q)) no_delay) in
+    let count = length-range_with_len (input_count (Latch a b c outs d e f g i j k m o p)) (length outs) in omega (arith, long, count)
+leaf_count h cells ranges n l (Flop a b c outs d e f g i j k) = let long = length-map (output_numbers (Flop a b c outs d e f g i j k)) (λ q. arc_of (2 * number_in h cells l + 1) (inner_bit n ((leaf_at h l).first_pin + q)) no_delay) in
+    let count = length-range_with_len (input_count (Flop a b c outs d e f g i j k)) (length outs) in omega (arith, long, count)
+leaf_count h cells ranges n l (Clock a b c d) = refl
+
+leaves_count : (h : Hierarchy) (cells : CellTable) (ranges : RangeOf) (n : ℕ) (ls : List ℕ) → length (flat_map (λ l. leaf_arcs h cells ranges n l (leaf_cell h cells l)) ls) ≡ sum_by (λ l. arc_count (leaf_cell h cells l)) ls
+leaves_count h cells ranges n [] = refl
+leaves_count h cells ranges n (l ∷ ls) =
+    length-append (leaf_arcs h cells ranges n l (leaf_cell h cells l)) (flat_map (λ k. leaf_arcs h cells ranges n k (leaf_cell h cells k)) ls)
+    ∙ ap (λ (m : ℕ). m + length (flat_map (λ k. leaf_arcs h cells ranges n k (leaf_cell h cells k)) ls)) (leaf_count h cells ranges n l (leaf_cell h cells l))
+    ∙ ap (λ (m : ℕ). arc_count (leaf_cell h cells l) + m) (leaves_count h cells ranges n ls)
+    ∙ (let e : arc_count (leaf_cell h cells l) ≡ 0 + arc_count (leaf_cell h cells l) = omega arith in ap (λ (m : ℕ). m + sum_by (λ k. arc_count (leaf_cell h cells k)) ls) e)
+    ∙ sym (sum_by-append (λ k. arc_count (leaf_cell h cells k)) (l ∷ []) ls)
+
+inputs_count : (n e : ℕ) (xs : List (Listed × ℕ)) → length (input_arcs n e xs) ≡ length xs
+inputs_count n e [] = refl
+inputs_count n e (x ∷ xs) = ap suc (inputs_count n (e + 1) xs)
+
+outputs_count : (ranges : RangeOf) (n e : ℕ) (xs : List (Listed × ℕ)) → length (output_arcs ranges n e xs) ≡ length xs
+outputs_count ranges n e [] = refl
+outputs_count ranges n e (x ∷ xs) = ap suc (outputs_count ranges n (e + 1) xs)
+
+arcs_count : (h : Hierarchy) (cells : CellTable) (ranges : RangeOf) (ins outs : List (Listed × ℕ)) → length (arcs_with h cells ranges ins outs) ≡ length h.joins + leaf_arc_count h cells + length ins + length outs
+arcs_count h cells ranges ins outs =
+    let s : ℕ = length (storage h cells) in
+    let n : ℕ = s + length ins + length outs in
+    let joins : List TimingArc = map (join_arc ranges n) h.joins in
+    let leaves : List TimingArc = flat_map (λ l. leaf_arcs h cells ranges n l (leaf_cell h cells l)) (all_leaves h) in
+    let one = length-append (joins ++ leaves ++ input_arcs n s ins) (output_arcs ranges n (s + length ins) outs) in
+    let two = length-append (joins ++ leaves) (input_arcs n s ins) in
+    let three = length-append joins leaves in
+    let a = length-map h.joins (join_arc ranges n) in
+    let b = leaves_count h cells ranges n (all_leaves h) in
+    let c = inputs_count n s ins in
+    let d = outputs_count ranges n (s + length ins) outs in
+    omega (arith, one, two, three, a, b, c, d)
+
+-- the limit of the design is that of its counts
+pub limit_counts : (h : Hierarchy) (cells : CellTable) (clock : clock_type.Clock) (ranges : RangeOf) (phases : List ℕ) → length phases ≡ length (storage h cells) →
+    limit_of (design_with h cells clock ranges phases) ≡ over_limit (quantities (length h.inner) (length clock.phases) (length phases + length (bits_of h false clock.inputs) + length (bits_of h true clock.outputs))
+    (length h.joins + leaf_arc_count h cells + length (bits_of h false clock.inputs) + length (bits_of h true clock.outputs)) (length clock.bounds))
+limit_counts h cells clock ranges phases same =
+    let inner : length (all_names h) ≡ length h.inner = length-map h.inner (inner_name h) in
+    let names : length (map (λ p. p.name) clock.phases) ≡ length clock.phases = length-map clock.phases _ in
+    let elements = elements_count h cells clock ranges phases same ∙ ap (λ (n : ℕ). n + length (bits_of h false clock.inputs) + length (bits_of h true clock.outputs)) (sym same) in
+    let arcs = arcs_count h cells ranges (bits_of h false clock.inputs) (bits_of h true clock.outputs) in
+    ap (λ (n : ℕ). over_limit (quantities n (length (map (λ p. p.name) clock.phases)) (length (elements_of h cells clock ranges phases)) (length (arcs_of h cells clock ranges)) (length clock.bounds))) inner
+    ∙ ap (λ (n : ℕ). over_limit (quantities (length h.inner) n (length (elements_of h cells clock ranges phases)) (length (arcs_of h cells clock ranges)) (length clock.bounds))) names
+    ∙ ap (λ (n : ℕ). over_limit (quantities (length h.inner) (length clock.phases) n (length (arcs_of h cells clock ranges)) (length clock.bounds))) elements
+    ∙ ap (λ (n : ℕ). over_limit (quantities (length h.inner) (length clock.phases) (length phases + length (bits_of h false clock.inputs) + length (bits_of h true clock.outputs)) n (length clock.bounds))) arcs
+
+third_test : (a b c : Bool) (x y z : Kind × ℕ × ℕ) (rest : Option (Kind × ℕ × ℕ)) (f : Kind × ℕ × ℕ → Refusal) → option_map f (cond a (Some x) (cond b (Some y) (cond c (Some z) rest))) ≡ None → c ≡ false
+third_test true b c x y z rest f e = absurd (cc)
+third_test false true c x y z rest f e = absurd (cc)
+third_test false false true x y z rest f e = absurd (cc)
+third_test false false false x y z rest f e = refl
+
+pub few_elements : (inner phases elements arcs bounds : ℕ) → over_limit (quantities inner phases elements arcs bounds) ≡ None → elements ≤ 2000
+few_elements inner phases elements arcs bounds none =
+    let test = third_test (nat_lt 262144 inner) (nat_lt 8 phases) (nat_lt 2000 elements) _ _ _ _ _ none in
+    grind (arith, nat_tests, test)
+
+pub few_stored : (h : Hierarchy) (cells : CellTable) (spots : List Spot) (phases : List ℕ) → length h.leaves ≤ 50000 → AreTraced h cells spots phases → length phases ≤ 50000
+few_stored h cells spots phases few traced =
+    let same = AllZip-long (IsPhaseOf h cells spots) (storage h cells) phases traced in
+    let count = length-filter (stored h cells) (all_leaves h) in
+    let most = count_by-le-length (stored h cells) (all_leaves h) in
+    let long = length-range_with_len 0 (length h.leaves) in
+    omega (arith, same, count, most, long, few)
+
+-- ---- other ranges that are the same
+map_same : {X Y : Type 0} (f g : X → Y) (xs : List X) → ((x : X) → f x ≡ g x) → map f xs ≡ map g xs
+map_same f g [] same = refl
+map_same f g (x ∷ xs) same = ap (λ y. y ∷ map f xs) (same x) ∙ ap (λ l. g x ∷ l) (map_same f g xs same)
+
+flat_same : {X Y : Type 0} (f g : X → List Y) (xs : List X) → ((x : X) → f x ≡ g x) → flat_map f xs ≡ flat_map g xs
+flat_same f g [] same = refl
+flat_same f g (x ∷ xs) same = ap (λ l. l ++ flat_map f xs) (same x) ∙ ap (λ l. g x ++ l) (flat_same f g xs same)
+
+element_same : (r q : RangeOf) (name : List ℕ) (l phase : ℕ) (cell : Cell) → ((m : Matter) → r m ≡ q m) → element_of r name l phase cell ≡ element_of q name l phase cell
+element_same r q name l phase (Latch a b c d e f g i j k m n o p) same =
+    let s = same (setup_of l) in let t = same (hold_of l) in let u = same (width_of l) in let v = same (dq_of l) in let w = same (cq_of l) in
+    rw s (rw t (rw u (rw v (rw w refl))))
+element_same r q name l phase (Flop a b c d e f g i j k m) same =
+    let s = same (setup_of l) in let t = same (hold_of l) in let u = same (width_of l) in let v = same (dq_of l) in
+    rw s (rw t (rw u (rw v refl)))
+element_same r q name l phase (Gate a b c d) same = refl
+element_same r q name l phase (Clock a b c d) same = refl
+
+outputs_same : (r q : RangeOf) (n e : ℕ) (xs : List (Listed × ℕ)) → ((m : Matter) → r m ≡ q m) → output_arcs r n e xs ≡ output_arcs q n e xs
+outputs_same r q n e [] same = refl
+outputs_same r q n e (x ∷ xs) same =
+    ap (λ o. arc_of (inner_bit n x.1) (2 * e) (unwrap_or o no_delay) ∷ output_arcs r n (e + 1) xs) (same (arcs_from x.1))
+    ∙ ap (λ l. arc_of (inner_bit n x.1) (2 * e) (unwrap_or (q (arcs_from x.1)) no_delay) ∷ l) (outputs_same r q n (e + 1) xs same)
+
+leaf_same : (h : Hierarchy) (cells : CellTable) (r q : RangeOf) (n l : ℕ) (cell : Cell) → ((m : Matter) → r m ≡ q m) → leaf_arcs h cells r n l cell ≡ leaf_arcs h cells q n l cell
+leaf_same h cells r q n l (Gate ins outs a b) same =
+    flat_same (λ i. map (gate_arc h r n l (a, b) i) (range_with_len (length ins) (length outs))) (λ i. map (gate_arc h q n l (a, b) i) (range_with_len (length ins) (length outs))) (range_with_len 0 (length ins)) (λ i.
+    map_same (gate_arc h r n l (a, b) i) (gate_arc h q n l (a, b) i) (range_with_len (length ins) (length outs)) (λ o.
+    ap (λ x. arc_of (inner_bit n ((leaf_at h l).first_pin + i)) (inner_bit n ((leaf_at h l).first_pin + o)) (unwrap_or x (a, b))) (same (path_on l i o))))
+leaf_same h cells r q n l (Latch a b c d e f g i j k m o p s) same = refl
+leaf_same h cells r q n l (Flop a b c d e f g i j k m) same = refl
+leaf_same h cells r q n l (Clock a b c d) same = refl
+
+arcs_same : (h : Hierarchy) (cells : CellTable) (r q : RangeOf) (ins outs : List (Listed × ℕ)) → ((m : Matter) → r m ≡ q m) → arcs_with h cells r ins outs ≡ arcs_with h cells q ins outs
+arcs_same h cells r q ins outs same =
+    let s : ℕ = length (storage h cells) in
+    let n : ℕ = s + length ins + length outs in
+    let joins = map_same (join_arc r n) (join_arc q n) h.joins (λ j. ap (λ x. arc_of (inner_bit n j.from) (inner_bit n j.to) (unwrap_or x no_delay)) (same (join_into j.to))) in
+    let leaves = flat_same (λ l. leaf_arcs h cells r n l (leaf_cell h cells l)) (λ l. leaf_arcs h cells q n l (leaf_cell h cells l)) (all_leaves h) (λ l. leaf_same h cells r q n l (leaf_cell h cells l) same) in
+    ap (λ x. x ++ flat_map (λ l. leaf_arcs h cells r n l (leaf_cell h cells l)) (all_leaves h) ++ input_arcs n s ins ++ output_arcs r n (s + length ins) outs) joins
+    ∙ ap (λ x. map (join_arc q n) h.joins ++ x ++ input_arcs n s ins ++ output_arcs r n (s + length ins) outs) leaves
+    ∙ ap (λ x. map (join_arc q n) h.joins ++ flat_map (λ l. leaf_arcs h cells q n l (leaf_cell h cells l)) (all_leaves h) ++ input_arcs n s ins ++ x) (outputs_same r q n (s + length ins) outs same)
+
+pub design_same : (h : Hierarchy) (cells : CellTable) (clock : clock_type.Clock) (r q : RangeOf) (phases : List ℕ) → ((m : Matter) → r m ≡ q m) → design_with h cells clock r phases ≡ design_with h cells clock q phases
+design_same h cells clock r q phases same =
+    let stored_ones = map_same (λ (x : ℕ × ℕ). element_of r (dotted (leaf_path h x.0)) x.0 x.1 (leaf_cell h cells x.0)) (λ (x : ℕ × ℕ). element_of q (dotted (leaf_path h x.0)) x.0 x.1 (leaf_cell h cells x.0)) (zip (storage h cells) phases)
+    (λ x. element_same r q (dotted (leaf_path h x.0)) x.0 x.1 (leaf_cell h cells x.0) same) in
+    let elements : elements_of h cells clock r phases ≡ elements_of h cells clock q phases = ap (λ l. l ++ map (port_element (all_names h)) (bits_of h false clock.inputs) ++ map (port_element (all_names h)) (bits_of h true clock.outputs)) stored_ones in
+    let arcs : arcs_of h cells clock r ≡ arcs_of h cells clock q = arcs_same h cells r q (bits_of h false clock.inputs) (bits_of h true clock.outputs) same in
+    ap (λ (es : List Element). record { phases = map (λ p. p.name) clock.phases; elements = es; inner = all_names h; arcs = arcs_of h cells clock r; bounds = clock.bounds }) elements
+    ∙ ap (λ (as' : List TimingArc). record { phases = map (λ p. p.name) clock.phases; elements = elements_of h cells clock q phases; inner = all_names h; arcs = as'; bounds = clock.bounds }) arcs
+
+-- ---- what cells keep
+hold_of_defaults : (has_hold : Bool) (hold : ℤ) → (has_hold || is_same hold (pos 0)) ≡ true → has_hold ≡ false → hold ≡ pos 0
+hold_of_defaults true hold h none = absurd (cc)
+hold_of_defaults false hold h none =
+    let both = and_parts (int_le hold (pos 0)) (int_le (pos 0) hold) h in let low = both.0 in let high = both.1 in grind (arith, ints, low, high)
+
+keeps_hold : (cell : Cell) → has_defaults cell ≡ true → KeepsHold cell
+keeps_hold (Latch a b c d e f hold has_hold g h i j has_cq m) keeps = hold_of_defaults has_hold hold (and_parts (has_hold || is_same hold (pos 0)) (has_cq || (is_same i g && is_same j h)) keeps).0
+keeps_hold (Flop a b c d e f hold has_hold g h i) keeps = hold_of_defaults has_hold hold keeps
+keeps_hold (Gate a b c d) keeps = tt
+keeps_hold (Clock a b c d) keeps = tt
+
+defaults_at : (cells : CellTable) (at : ℕ) → AreKept cells → at < length cells → has_defaults (cell_at cells at) ≡ true
+defaults_at cells at kept within =
+    let here = AllPass-from_list_all is_kept cells kept at no_cell within in
+    (and_parts (is_name (slice_index_or cells at no_cell).0 && is_cell (slice_index_or cells at no_cell).1) (has_defaults (slice_index_or cells at no_cell).1) here).1
+
+-- where there is no cell, a gate stands
+by_test : (b : Bool) (P : Type 0) (at n : ℕ) → nat_lt at n ≡ b → (at < n → P) → (n ≤ at → P) → P
+by_test true P at n test under past = under (grind (arith, nat_tests, test))
+by_test false P at n test under past = past (grind (arith, nat_tests, test))
+
+within_or_gate : (P : Cell → Type 0) (cells : CellTable) (at : ℕ) → (at < length cells → P (cell_at cells at)) → P (Gate [] [] (pos 0) (pos 0)) → P (cell_at cells at)
+within_or_gate P cells at here there =
+    by_test (nat_lt at (length cells)) (P (cell_at cells at)) at (length cells) refl here (λ past. subst P (sym (ap (λ (e : List ℕ × Cell). e.1) (get_or_past cells at no_cell past))) there)
+
+pub rules_at : (h : Hierarchy) (cells : CellTable) → IsFlattened cells h → AreKept cells → (l : ℕ) → l < length h.leaves → is_cell (leaf_cell h cells l) ≡ true
+rules_at h cells shape kept l within = kept_at cells (leaf_at h l).cell kept (shape.each_leaf l no_leaf within).cell
+
+pub stored_rules : (h : Hierarchy) (cells : CellTable) → AreKept cells → (l : ℕ) → is_storage (leaf_cell h cells l) ≡ true → is_cell (leaf_cell h cells l) ≡ true
+stored_rules h cells kept l = within_or_gate (λ cell. is_storage cell ≡ true → is_cell cell ≡ true) cells (leaf_at h l).cell (λ within is. kept_at cells (leaf_at h l).cell kept within) (λ is. absurd (cc))
+
+pub holds_at : (h : Hierarchy) (cells : CellTable) → AreKept cells → (l : ℕ) → KeepsHold (leaf_cell h cells l)
+holds_at h cells kept l = within_or_gate KeepsHold cells (leaf_at h l).cell (λ within. keeps_hold (cell_at cells (leaf_at h l).cell) (defaults_at cells (leaf_at h l).cell kept within)) tt
+
+-- ---- the whole
+pub made_of : (h : Hierarchy) (cells : CellTable) (clock : clock_type.Clock) (delays : List Delay) (ranges : RangeOf) (phases : List ℕ) → first_false (has_ports h clock) ≡ None → first_refusal h cells delays ≡ None → AreTraced h cells (phase_spots h clock) phases →
+    ((m : Matter) → ranges m ≡ range_of (said h cells delays) m) → IsMade h cells clock delays (design_with h cells clock ranges phases)
+made_of h cells clock delays ranges phases ports speaks traced same =
+    record { ports = ports; speaks = speaks; phases = phases; traced = traced; made = design_same h cells clock ranges (range_of (said h cells delays)) phases same }
+
+pub parts_of : (h : Hierarchy) (cells : CellTable) (clock : clock_type.Clock) (delays : List Delay) (design : Design) → IsFlattened cells h → AreKept cells → KeepsLimits clock → All IsWithin delays → IsMade h cells clock delays design → HasParts design
+parts_of h cells clock delays design shape kept keeps sound made =
+    made_has_parts h cells clock delays design shape (rules_at h cells shape kept) (stored_rules h cells kept) (holds_at h cells kept) keeps sound made
+
+no_stop : (P : Refusal → Type 0) (s : Stop) → StopsAt (λ r. ⊥) s → StopsAt P s
+no_stop P (stop.Refused r) none = absurd none
+no_stop P stop.OutOfMemory none = tt
+
+pub built : (h : Hierarchy) (cells : CellTable) (clock : clock_type.Clock) (delays : List Delay) (design : Design) (r : Result Design Stop) → IsMade h cells clock delays design → limit_of design ≡ None → MatchResult r (λ flat. flat ≡ design) (StopsAt (λ refused. ⊥)) →
+    MatchResult r (IsAnnotated h cells clock delays) (StopsAt (IsAnnotateRefusal h cells clock delays))
+built h cells clock delays design (Ok flat) made none same = record { whole = subst (IsMade h cells clock delays) (sym same) made; within = ap limit_of same ∙ none }
+built h cells clock delays design (Err s) made none same = no_stop (IsAnnotateRefusal h cells clock delays) s same

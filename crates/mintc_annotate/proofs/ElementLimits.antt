@@ -1,0 +1,115 @@
+-- The elements that are made are within their limits.
+use Rattle.std.proofs.Common.{◌≡◌, ℕ, ℤ, pos, negsuc, ◌≤ℤ◌, Bool, true, false, ◌||◌, List, Option, Some, None, is_some, unwrap_or, IsFalse, refl, arith}
+use Rattle.std.specs.Prelude.{int_le}
+use Rattle.std.proofs.lemmas.Bool.{and_parts}
+use Rattle.std.proofs.lemmas.Int.{ints}
+use Rattle.mintc_cells.specs.declared.cell.Cell.{Cell}
+use Rattle.mintc_cells.specs.declared.cell.Cell.TheVariants.{Gate, Latch, Flop, Clock}
+use Rattle.mintc_cells.specs.Rules.{is_cell}
+use Rattle.mintc_document.specs.Rules.{is_delay, is_margin}
+use Rattle.mintc_timing.specs.Limits.{IsElement, IsDelay, IsGap, IsPhase}
+use Rattle.mintc_speaking.specs.Pins.{is_storage}
+use Rattle.mintc_speaking.specs.Speaking.{Said, range_of, dq_of, cq_of, setup_of, hold_of, width_of}
+use Rattle.mintc_annotate.specs.Made.{first_range, borrowed, greatest_or, element_of}
+use Rattle.mintc_speaking.proofs.RangeLimits.{AreSaid, range_in}
+
+pub margin_is : (z : ℤ) → is_margin z ≡ true → IsGap z
+margin_is z h = let p = and_parts (int_le (negsuc 999999999) z) (int_le z (pos 1000000000)) h in let low = p.0 in let high = p.1 in (grind (arith, ints, low), grind (arith, ints, high))
+
+pub delay_is : (z : ℤ) → is_delay z ≡ true → IsDelay z
+delay_is z h = let p = and_parts (int_le (pos 0) z) (int_le z (pos 1000000000)) h in let low = p.0 in let high = p.1 in (grind (arith, ints, low), grind (arith, ints, high))
+
+pub order_is : (x y : ℤ) → int_le x y ≡ true → x ≤ℤ y
+order_is x y h = grind (arith, ints, h)
+
+-- a least and a greatest delay
+abbrev pub AreDelays : ℤ × ℤ → Type 0
+AreDelays r = IsDelay r.0 × IsDelay r.1 × (r.0 ≤ℤ r.1)
+
+dq_said : (ss : List Said) (l : ℕ) (r : ℤ × ℤ) → AreSaid ss → range_of ss (dq_of l) ≡ Some r → AreDelays r
+dq_said ss l r are e = let i = range_in ss (dq_of l) r are e in (i.low, i.high, i.ordered)
+
+cq_said : (ss : List Said) (l : ℕ) (r : ℤ × ℤ) → AreSaid ss → range_of ss (cq_of l) ≡ Some r → AreDelays r
+cq_said ss l r are e = let i = range_in ss (cq_of l) r are e in (i.low, i.high, i.ordered)
+
+borrowed_in : (has_cq : Bool) (o : Option (ℤ × ℤ)) (r : ℤ × ℤ) → ((q : ℤ × ℤ) → o ≡ Some q → AreDelays q) → borrowed has_cq o ≡ Some r → AreDelays r
+borrowed_in true o r give e = absurd (cc)
+borrowed_in false o r give e = give r e
+
+first_in : (a b : Option (ℤ × ℤ)) (default : ℤ × ℤ) → ((q : ℤ × ℤ) → a ≡ Some q → AreDelays q) → ((q : ℤ × ℤ) → b ≡ Some q → AreDelays q) → AreDelays default → AreDelays (first_range a b default)
+first_in None None default x y z = z
+first_in None (Some r) default x y z = y r refl
+first_in (Some r) b default x y z = x r refl
+
+pub or_in : (a : Option (ℤ × ℤ)) (default : ℤ × ℤ) → ((q : ℤ × ℤ) → a ≡ Some q → AreDelays q) → AreDelays default → AreDelays (unwrap_or a default)
+or_in None default x z = z
+or_in (Some r) default x z = x r refl
+
+greatest_in : (P : ℤ → Type 0) (o : Option (ℤ × ℤ)) (default : ℤ) → ((q : ℤ × ℤ) → o ≡ Some q → P q.1) → P default → P (greatest_or o default)
+greatest_in P None default x z = z
+greatest_in P (Some r) default x z = x r refl
+
+hold_in : (o : Option (ℤ × ℤ)) (has_hold : Bool) (hold : ℤ) → (has_hold ≡ false → hold ≡ pos 0) → IsFalse (is_some o || has_hold) → greatest_or o hold ≡ pos 0
+hold_in None false hold none h = none refl
+hold_in None true hold none h = absurd (cc)
+hold_in (Some r) has_hold hold none h = absurd (cc)
+
+-- what every cell of a description keeps
+abbrev pub KeepsHold : Cell → Type 0
+KeepsHold (Latch a b c d e f hold has_hold g h i j k m) = has_hold ≡ false → hold ≡ pos 0
+KeepsHold (Flop a b c d e f hold has_hold g h i) = has_hold ≡ false → hold ≡ pos 0
+KeepsHold _ = Unit {0}
+
+-- the element of a latch or flop
+pub storage_in : (ss : List Said) (name : List ℕ) (l phase k : ℕ) (cell : Cell) → AreSaid ss → is_cell cell ≡ true → KeepsHold cell → is_storage cell ≡ true → IsPhase k phase → IsElement k (element_of (range_of ss) name l phase cell)
+storage_in ss name l phase k (Latch pin_d pin_g high outputs ignored c_setup c_hold has_hold dq_min dq_max cq_min cq_max has_cq c_width) are rules keeps stored is_phase =
+    let parts = and_parts _ _ rules in
+    let limits = and_parts _ _ (and_parts _ _ parts.0).1 in
+    let margins = and_parts _ _ limits.0 in
+    let both = and_parts _ _ margins.0 in
+    let delays = and_parts _ _ limits.1 in
+    let dqs = and_parts _ _ delays.0 in
+    let cqs = and_parts _ _ delays.1 in
+    let orders = and_parts _ _ parts.1 in
+    let dq_default : AreDelays (dq_min, dq_max) = (delay_is dq_min dqs.0, delay_is dq_max dqs.1, order_is dq_min dq_max orders.0) in
+    let cq_default : AreDelays (cq_min, cq_max) = (delay_is cq_min cqs.0, delay_is cq_max cqs.1, order_is cq_min cq_max orders.1) in
+    let dq = first_in (range_of ss (dq_of l)) (borrowed has_cq (range_of ss (cq_of l))) (dq_min, dq_max) (λ q e. dq_said ss l q are e) (λ q e. borrowed_in has_cq (range_of ss (cq_of l)) q (λ r f. cq_said ss l r are f) e) dq_default in
+    let cq = first_in (range_of ss (cq_of l)) (borrowed has_cq (range_of ss (dq_of l))) (cq_min, cq_max) (λ q e. cq_said ss l q are e) (λ q e. borrowed_in has_cq (range_of ss (dq_of l)) q (λ r f. dq_said ss l r are f) e) cq_default in
+    record {
+      phase = is_phase;
+      setup = greatest_in IsGap (range_of ss (setup_of l)) c_setup (λ q e. (range_in ss (setup_of l) q are e).high) (margin_is c_setup both.0);
+      hold = greatest_in IsGap (range_of ss (hold_of l)) c_hold (λ q e. (range_in ss (hold_of l) q are e).high) (margin_is c_hold both.1);
+      no_hold = hold_in (range_of ss (hold_of l)) has_hold c_hold keeps;
+      dq_min = dq.0;
+      dq_max = dq.1;
+      dq = dq.2;
+      cq_min = cq.0;
+      cq_max = cq.1;
+      cq = cq.2;
+      flop = λ is. absurd (cc);
+      width = greatest_in IsDelay (range_of ss (width_of l)) c_width (λ q e. (range_in ss (width_of l) q are e).high) (delay_is c_width margins.1);
+    }
+storage_in ss name l phase k (Flop pin_d pin_clock rising outputs ignored c_setup c_hold has_hold cq_min cq_max c_width) are rules keeps stored is_phase =
+    let parts = and_parts _ _ rules in
+    let limits = and_parts _ _ (and_parts _ _ parts.0).1 in
+    let margins = and_parts _ _ limits.0 in
+    let both = and_parts _ _ margins.0 in
+    let delays = and_parts _ _ limits.1 in
+    let default : AreDelays (cq_min, cq_max) = (delay_is cq_min delays.0, delay_is cq_max delays.1, order_is cq_min cq_max parts.1) in
+    let dq = or_in (range_of ss (dq_of l)) (cq_min, cq_max) (λ q e. dq_said ss l q are e) default in
+    record {
+      phase = is_phase;
+      setup = greatest_in IsGap (range_of ss (setup_of l)) c_setup (λ q e. (range_in ss (setup_of l) q are e).high) (margin_is c_setup both.0);
+      hold = greatest_in IsGap (range_of ss (hold_of l)) c_hold (λ q e. (range_in ss (hold_of l) q are e).high) (margin_is c_hold both.1);
+      no_hold = hold_in (range_of ss (hold_of l)) has_hold c_hold keeps;
+      dq_min = dq.0;
+      dq_max = dq.1;
+      dq = dq.2;
+      cq_min = dq.0;
+      cq_max = dq.1;
+      cq = dq.2;
+      flop = λ is. (refl, refl);
+      width = greatest_in IsDelay (range_of ss (width_of l)) c_width (λ q e. (range_in ss (width_of l) q are e).high) (delay_is c_width margins.1);
+    }
+storage_in ss name l phase k (Gate a b c d) are rules keeps stored is_phase = absurd (cc)
+storage_in ss name l phase k (Clock a b c d) are rules keeps stored is_phase = absurd (cc)

@@ -1,0 +1,23 @@
+use Rattle.std.proofs.Common.{◌≡◌, ◌∙◌, ◌<◌, ◌+◌, ℕ, length, slice_index_or, sum_by, sym, ap, arith}
+use Rattle.std.specs.List.{range_with_len}
+use Rattle.std.proofs.lemmas.List.{get_or_default}
+use Rattle.mintc_cells.specs.Entries.{cell_at}
+use Rattle.mintc_hierarchy.specs.declared.hierarchy.Leaf.{Leaf}
+use Rattle.mintc_speaking.specs.Pins.{leaf_cell, no_leaf}
+use Rattle.mintc_annotate.specs.Counts.{arc_count}
+use Rattle.mintc_annotate.proofs.BuildLaws.{sum_more}
+use Rattle.mintc_annotate.proofs.counting.leaf_arc_count.Goals as goal
+
+pub loop-number-preserved : goal.loop-number-preserved
+loop-number-preserved c =
+    let within : c.loop-number.number < length c.args.hierarchy.now.leaves = omega (arith, c.loop-number-test.true, ap length c.items-leaves.ensures) in
+    let at = get_or_default c.args.hierarchy.now.leaves c.loop-number.number no_leaf c.index-leaves-number.result within ∙ ap (λ ls. slice_index_or ls c.loop-number.number c.index-leaves-number.result) (sym c.items-leaves.ensures) in
+    let same : arc_count (leaf_cell c.args.hierarchy.now c.args.cells.now c.loop-number.number) ≡ c.arc_count-total.result =
+    ap (λ (x : Leaf). arc_count (cell_at c.args.cells.now x.cell)) at ∙ ap arc_count (sym c.cell.ensures) ∙ sym c.arc_count-total.ensures.value in
+    let small = c.arc_count-total.ensures.small in
+    let few = c.loop-number.invariant.1 in (
+      ap (λ (n : ℕ). n + c.arc_count-total.result) c.loop-number.invariant.0
+          ∙ ap (λ (n : ℕ). sum_by (λ k. arc_count (leaf_cell c.args.hierarchy.now c.args.cells.now k)) (range_with_len 0 c.loop-number.number) + n) (sym same)
+          ∙ sym (sum_more (λ k. arc_count (leaf_cell c.args.hierarchy.now c.args.cells.now k)) c.loop-number.number),
+      omega (arith, small, few),
+    )

@@ -1,0 +1,4 @@
+use Rattle.mintc_annotate.proofs.naming.+put_front.Given as goal
+
+abbrev pub decreases-put_front : goal.decreases-put_front
+decreases-put_front l = l.number

@@ -1,0 +1,20 @@
+-- What holds of the design that files make.
+use Rattle.std.specs.Prelude.{◌≡◌, List}
+use Rattle.mintc_text.specs.declared.refusals.Refusal.{Refusal}
+use Rattle.mintc_hierarchy.specs.declared.hierarchy.Hierarchy.{Hierarchy}
+use Rattle.mintc_clock.specs.declared.clock.Clock.{Clock}
+use Rattle.mintc_sdf.specs.declared.delays.Delay.{Delay}
+use Rattle.mintc_timing.specs.Design.{Design}
+use Rattle.mintc_hierarchy.specs.Shape.{CellTable}
+use Rattle.mintc_annotate.specs.Made.{IsAnnotated, IsAnnotateRefusal}
+
+-- There is one design at most, and none beside a refusal.
+abbrev pub DesignsAreDetermined : Type 0
+DesignsAreDetermined = (h : Hierarchy) (cells : CellTable) (clock : Clock) (delays : List Delay) (design other : Design) → IsAnnotated h cells clock delays design → IsAnnotated h cells clock delays other → design ≡ other
+
+abbrev pub DesignsAreNotRefused : Type 0
+DesignsAreNotRefused = (h : Hierarchy) (cells : CellTable) (clock : Clock) (delays : List Delay) (design : Design) (refused : Refusal) → IsAnnotated h cells clock delays design → IsAnnotateRefusal h cells clock delays refused → ⊥
+
+-- There is one refusal at most.
+abbrev pub AnnotateRefusalsAreDetermined : Type 0
+AnnotateRefusalsAreDetermined = (h : Hierarchy) (cells : CellTable) (clock : Clock) (delays : List Delay) (refused other : Refusal) → IsAnnotateRefusal h cells clock delays refused → IsAnnotateRefusal h cells clock delays other → refused ≡ other

@@ -1,0 +1,26 @@
+//! The design of files: a hierarchy with its cells, a clock and delays becomes elements and arcs.
+//!
+//! The phase of a latch or flop is found by a search back from its enable or clock pin, along joins and through the cells of the
+//! clock's tree. What drives each bit is noted first; then the ways back are doubled, round by round, until each leads to the
+//! end of its search, so that long chains before many latches cost no more than short ones. What passes a limit is found by
+//! counts, before anything is built. The design is the one of specs/Made.antt, list by list.
+//!
+//! The crates above get a design within its limits, or the first refusal.
+#![tactic(auto)]
+
+mod annotating;
+mod arcs;
+mod clocked;
+mod counting;
+mod drivers;
+mod elements;
+mod laws;
+mod listing;
+mod naming;
+mod searching;
+mod spots;
+mod tracing;
+
+pub use annotating::annotate;
+pub use laws::{annotate_refusals_are_determined, designs_are_determined, designs_are_not_refused};
+pub use tracing::trace_phases;

@@ -1,0 +1,107 @@
+//! The bits of listed ports.
+ghost use Rattle.std.specs.Prelude.{◌≡◌, ◌<◌, ◌≤◌, ◌+◌, ◌++◌, ◌&&◌, [], length, map, min, is_some, bytes_eq, unwrap_or, None, All, IfOk, OnOk, OnErr, MatchResult};
+ghost use Rattle.std.specs.Bool.{beq};
+ghost use Rattle.mintc_text.specs.Stops.{StopsAt};
+ghost use Rattle.mintc_clock.specs.ClockOf.{first_failing};
+ghost use Rattle.mintc_speaking.specs.Ports.{AreInside};
+ghost use Rattle.mintc_annotate.specs.ClockPorts.{listed_in, has_listed_in, IsEntryRefusal};
+ghost use Rattle.mintc_annotate.specs.Made.{bits_in};
+ghost use Rattle.mintc_annotate.specs.Counts.{with_port, place_bit};
+
+use mintc_clock::Listed;
+use mintc_hierarchy::TopPort;
+use mintc_text::{OutOfMemory, Refusal, Role, Stop};
+use std::alloc::Global;
+
+/// A bit of a listed port: the place of the port in its list, and the bit.
+#[derive(Clone, Copy)]
+pub(crate) struct ListedBit {
+    pub(crate) place: usize,
+    pub(crate) bit: u32,
+}
+
+/// Whether a port has this name and this direction.
+fn is_called(port: &TopPort, output: bool, text: &[u8]) -> bool
+    ensures { result ≡ (bytes_eq port.now.name text.now && beq port.now.output output) }
+{
+    port.name.bytes() == text && port.output == output
+}
+
+/// The bits of the whole port of a direction that is listed; none where there is no such port.
+fn port_bits<'a>(ports: &'a [TopPort], output: bool, listed: &Listed) -> &'a [u32]
+    ensures { result.now ≡ unwrap_or (listed_in ports.now output listed.now) [] }
+{
+    for number in 0..ports.len() {
+        if is_called(&ports[number], output, listed.port.bytes()) {
+            return ports[number].bits.items();
+        }
+    }
+    &[]
+}
+
+/// A count with more added, or 10^9 where it is larger.
+fn capped(count: u64, more: usize) -> u64
+    requires { count ≤ 1000000000 }
+    ensures { result ≡ min (count + more) 1000000000 }
+{
+    let more = (more as u64).min(1_000_000_000);
+    (count + more).min(1_000_000_000)
+}
+
+/// How many bits listed ports have, or 10^9 where there are more. The refusal is NoInstance of the clock with the first that
+/// is no whole port of this direction; entries are counted on from those before.
+pub(crate) fn count_bits(
+    ports: &[TopPort],
+    output: bool,
+    listed: &[Listed],
+    before: u32,
+) -> Result<u64, Stop>
+    requires ports { All (λ p. 1 ≤ length p.bits) ports.now }
+    requires before { before ≤ 2000000000 }
+    requires few { length listed.now < 1000000000 }
+    ensures { MatchResult result
+        (λ n. (first_failing (λ test. test) (before + 1) (has_listed_in ports.now output listed.now) ≡ None) × (n ≡ min (length (bits_in ports.now output listed.now)) 1000000000))
+        (StopsAt (IsEntryRefusal (first_failing (λ test. test) (before + 1) (has_listed_in ports.now output listed.now)))) }
+{
+    let mut total = 0;
+    for number in 0..listed.len() {
+        let bits = port_bits(ports, output, &listed[number]);
+        if bits.is_empty() {
+            return Err(Stop::Refused(Refusal::NoInstance {
+                role: Role::Clock,
+                entry: before + number as u32 + 1,
+            }));
+        }
+        total = capped(total, bits.len());
+    }
+    Ok(total)
+}
+
+/// Adds the bits of a listed port.
+fn push_bits(found: &mut Vec<ListedBit>, place: usize, bits: &[u32]) -> Result<(), OutOfMemory>
+    ensures { OnOk result (found.new.items ≡ found.old.items ++ map (place_bit place) bits.now) }
+{
+    for number in 0..bits.len() {
+        found.push(ListedBit {
+            place,
+            bit: bits[number],
+        })?;
+    }
+    Ok(())
+}
+
+/// The bits of listed ports, in file order and from the rightmost.
+pub(crate) fn listed_bits(
+    alloc: Global,
+    ports: &[TopPort],
+    output: bool,
+    listed: &[Listed],
+) -> Result<Vec<ListedBit>, OutOfMemory>
+    ensures { IfOk result (λ v. (map (with_port listed.now) v.items ≡ bits_in ports.now output listed.now) × All (λ x. x.place < length listed.now) v.items) }
+{
+    let mut found = Vec::new(alloc);
+    for place in 0..listed.len() {
+        push_bits(&mut found, place, port_bits(ports, output, &listed[place]))?;
+    }
+    Ok(found)
+}
