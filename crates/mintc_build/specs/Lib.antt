@@ -1,2 +1,3 @@
 pub mod Designs
+pub mod FilesDesign
 pub mod Laws

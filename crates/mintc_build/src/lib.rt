@@ -1,11 +1,13 @@
-//! From the bytes of a table to its design, and from a design to a system.
+//! From the bytes of files or of a table to their design, and from a design to a system.
 #![tactic(auto)]
 
 mod building;
+mod files;
 mod laws;
 
 pub use building::{from_table, system};
-pub use laws::{accepted_designs_are_not_refused, design_refusals_are_determined};
+pub use files::from_files;
+pub use laws::{accepted_designs_are_not_refused, design_refusals_are_determined, files_are_plain};
 
 #[cfg(test)]
 mod tests;

@@ -1,4 +1,6 @@
-//! Worked rows, of what no clause says: with memory a design has its system, or its refusal.
+//! Worked rows, of what no clause says: with memory a design has its system, or its refusal, and files have their design.
+mod files;
+
 use crate::{from_table, system};
 use mintc_text::{Refusal, Stop};
 use mintc_timing::System;

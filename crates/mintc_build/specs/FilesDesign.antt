@@ -1,0 +1,73 @@
+-- The design of a netlist, delays, cells and a clock, or their first refusal.
+use Rattle.std.specs.Prelude.{◌≡◌, ℕ, List, Option, Ok, Err}
+use Rattle.mintc_text.specs.declared.refusals.Refusal.{Refusal}
+use Rattle.mintc_text.specs.declared.refusals.Refusal.TheVariants as refusal
+use Rattle.mintc_text.specs.declared.refusals.Role.TheVariants as role
+use Rattle.mintc_timing.specs.Design.{Design}
+use Rattle.mintc_netlist.specs.declared.module.Netlist.{Netlist}
+use Rattle.mintc_verilog.specs.Netlists.{IsNetlist, IsFault}
+use Rattle.mintc_sdf.specs.declared.delays.Delay.{Delay}
+use Rattle.mintc_sdf.specs.Texts.{delays_of}
+use Rattle.mintc_cells.specs.CellsOf.{AreCells, IsBadCell, IsBadCellBy}
+use Rattle.mintc_clock.specs.declared.clock.Clock.{Clock}
+use Rattle.mintc_clock.specs.ClockOf.{IsClock, IsClockRefusal}
+use Rattle.mintc_hierarchy.specs.declared.hierarchy.Hierarchy.{Hierarchy}
+use Rattle.mintc_hierarchy.specs.Sources.{source_of}
+use Rattle.mintc_hierarchy.specs.Refusals.{IsHierarchy, IsRefusal}
+use Rattle.mintc_hierarchy.specs.Shape.{CellTable}
+use Rattle.mintc_annotate.specs.Made.{IsAnnotated, IsAnnotateRefusal}
+
+-- What the cells are read from: a description, or a library. A text of theirs describes cells, or gives a refusal.
+pub record CellText : Type 1 where
+  pub Describes : CellTable → Type 0
+  pub Refuses : Refusal → Type 0
+
+abbrev pub described_by : List ℕ → CellText
+described_by text = record { Describes = AreCells text; Refuses = IsBadCellBy (IsBadCell text) }
+
+-- the refusal of a netlist's text, with its first statement at fault
+abbrev pub IsNetlistRefusal : List ℕ → Refusal → Type 0
+IsNetlistRefusal text refused = (n : ℕ) × (refused ≡ refusal.Syntax role.Netlist n) × IsFault text n
+
+-- All four texts are in form, and these are what they give.
+pub record AreRead (v d : List ℕ) (c : CellText) (k : List ℕ) (netlist : Netlist) (delays : List Delay) (cells : CellTable) (clock : Clock) : Type 0 where
+  pub netlist_read : IsNetlist v netlist
+  pub delays_read : delays_of d ≡ Ok delays
+  pub cells_read : c.Describes cells
+  pub clock_read : IsClock k clock
+
+-- the hierarchy of a netlist with these cells, from the top that the clock's description names, and its refusal
+abbrev pub IsHierarchyOf : Netlist → CellTable → Clock → Hierarchy → Type 0
+IsHierarchyOf netlist cells clock h = IsHierarchy (source_of cells netlist.modules) clock.top h
+
+abbrev pub IsHierarchyRefusal : Netlist → CellTable → Clock → Refusal → Type 0
+IsHierarchyRefusal netlist cells clock refused = IsRefusal (source_of cells netlist.modules) clock.top refused
+
+-- The design of texts whose cells are those of a text of either form.
+pub record IsDesignOver (v d : List ℕ) (c : CellText) (k : List ℕ) (design : Design) : Type 0 where
+  pub netlist : Netlist
+  pub delays : List Delay
+  pub cells : CellTable
+  pub clock : Clock
+  pub hierarchy : Hierarchy
+  pub read : AreRead v d c k netlist delays cells clock
+  pub flat : IsHierarchyOf netlist cells clock hierarchy
+  pub annotated : IsAnnotated hierarchy cells clock delays design
+
+-- Their first refusal, in the order of a run: of each text after those before it, then of the hierarchy, then of the rest.
+pub data IsRefusalOver (v d : List ℕ) (c : CellText) (k : List ℕ) (refused : Refusal) : Type 0 where
+  of_netlist : IsNetlistRefusal v refused → IsRefusalOver v d c k refused
+  of_delays : (netlist : Netlist) → IsNetlist v netlist → delays_of d ≡ Err refused → IsRefusalOver v d c k refused
+  of_cells : (netlist : Netlist) (delays : List Delay) → IsNetlist v netlist → delays_of d ≡ Ok delays → c.Refuses refused → IsRefusalOver v d c k refused
+  of_clock : (netlist : Netlist) (delays : List Delay) (cells : CellTable) → IsNetlist v netlist → delays_of d ≡ Ok delays → c.Describes cells → IsClockRefusal k refused → IsRefusalOver v d c k refused
+  of_hierarchy : (netlist : Netlist) (delays : List Delay) (cells : CellTable) (clock : Clock) → AreRead v d c k netlist delays cells clock → IsHierarchyRefusal netlist cells clock refused →
+      IsRefusalOver v d c k refused
+  of_design : (netlist : Netlist) (delays : List Delay) (cells : CellTable) (clock : Clock) (hierarchy : Hierarchy) → AreRead v d c k netlist delays cells clock →
+      IsHierarchyOf netlist cells clock hierarchy → IsAnnotateRefusal hierarchy cells clock delays refused → IsRefusalOver v d c k refused
+
+-- The design of a netlist, delays, a cell description and a clock; and their first refusal.
+abbrev pub IsFilesDesign : List ℕ → List ℕ → List ℕ → List ℕ → Design → Type 0
+IsFilesDesign v d c k design = IsDesignOver v d (described_by c) k design
+
+abbrev pub IsFilesRefusal : List ℕ → List ℕ → List ℕ → List ℕ → Refusal → Type 0
+IsFilesRefusal v d c k refused = IsRefusalOver v d (described_by c) k refused
