@@ -9,8 +9,9 @@ TESTS = TOP / "crates/mintc_command/src/tests/examples.rt"
 
 
 def wanted():
-    for folder in sorted((TOP / "examples").iterdir()):
-        for line in (folder / "command").read_text().splitlines():
+    for command in sorted((TOP / "examples").glob("*/command")):
+        folder = command.parent
+        for line in command.read_text().splitlines():
             words, answer = line.removeprefix("mintc ").split(" > ")
             yield from (folder.name, words)
             for name in words.split()[2:]:
@@ -20,7 +21,8 @@ def wanted():
 
 def run():
     text = re.sub(r"(?m)//.*$", "", TESTS.read_text())
-    return [it.replace("\\n", "\n") for it in re.findall(r'"((?:[^"\\]|\\.)*)"', text)]
+    literals = re.findall(r'"((?:[^"\\]|\\.)*)"', text)
+    return [re.sub(r"\\(.)", lambda it: "\n" if it[1] == "n" else it[1], literal) for literal in literals]
 
 
 if run() != list(wanted()):

@@ -1,6 +1,6 @@
 -- Words and commands.
 use Rattle.std.proofs.Common.{◌≡◌, ◌-◌, ℕ, List, [], length, get_or, take, drop, arith, refl, ap, ◌∙◌, sym, String, length-drop}
-use Rattle.std.proofs.lemmas.List.{take_all, drop-map}
+use Rattle.std.proofs.lemmas.List.{take_all, drop-map, length-map}
 use Rattle.std.specs.String.{string_bytes}
 use Rattle.mintc_command.specs.Commands.{AreWordsOf, bytes_of, job_word, source_word}
 use Rattle.mintc_command.specs.declared.command.Command.{Command}
@@ -8,7 +8,7 @@ use Rattle.mintc_command.specs.declared.command.Command.TheVariants.{OfDesign}
 use Rattle.mintc_command.specs.declared.command.Job.{Job}
 use Rattle.mintc_command.specs.declared.command.Job.TheVariants.{Check, Optimise, Verify, Report}
 use Rattle.mintc_command.specs.declared.command.Source.{Source}
-use Rattle.mintc_command.specs.declared.command.Source.TheVariants.{Table}
+use Rattle.mintc_command.specs.declared.command.Source.TheVariants.{Table, Files}
 
 -- A word asks for one job: the words of jobs begin with letters of their own.
 letter : Job → ℕ
@@ -46,8 +46,24 @@ by_letter Report Report e = refl
 one_job : (a b : Job) → job_word a ≡ job_word b → a ≡ b
 one_job a b e = by_letter a b (sym (first_letter a) ∙ ap (λ (w : List ℕ). get_or w 0 0) e ∙ first_letter b)
 
-one_source : (a b : Source) → a ≡ b
-one_source Table Table = refl
+source_letter : Source → ℕ
+source_letter Table = 116
+source_letter Files = 102
+
+first_source_letter : (source : Source) → get_or (source_word source) 0 0 ≡ source_letter source
+unfolding source_letter
+first_source_letter Table = refl
+first_source_letter Files = refl
+
+by_source_letter : (a b : Source) → source_letter a ≡ source_letter b → a ≡ b
+unfolding source_letter
+by_source_letter Table Table e = refl
+by_source_letter Table Files e = absurd (omega arith)
+by_source_letter Files Table e = absurd (omega arith)
+by_source_letter Files Files e = refl
+
+one_source : (a b : Source) → source_word a ≡ source_word b → a ≡ b
+one_source a b e = by_source_letter a b (sym (first_source_letter a) ∙ ap (λ (w : List ℕ). get_or w 0 0) e ∙ first_source_letter b)
 
 -- The first two words say which command it is, and the others are the names of its files.
 pub record AreSaid (job : Job) (source : Source) (names words : List (List ℕ)) : Type 0 where
@@ -68,7 +84,7 @@ one_command (OfDesign job source) (OfDesign other from) names others words h g =
     let x = AreSaid-of job source names words h in
     let y = AreSaid-of other from others words g in
     let jobs : job ≡ other = one_job job other (sym x.first ∙ y.first) in
-    let sources : source ≡ from = one_source source from in
+    let sources : source ≡ from = one_source source from (sym x.second ∙ y.second) in
     cc
 
 -- The names of a command's files are the words from the third one on, as a slice has them.
@@ -78,3 +94,9 @@ read-names {Z} words (OfDesign job source) names h =
     let count : length (drop 2 words) ≡ length words - 2 = length-drop 2 words in
     let whole : take (length words - 2) (drop 2 words) ≡ drop 2 words = take_all (length words - 2) (drop 2 words) (omega arith) in
     ap (λ (ws : List (String Z)). bytes_of ws) whole ∙ sym (drop-map string_bytes 2 words) ∙ (AreSaid-of job source names (bytes_of words) h).rest
+
+-- so there are as many of these words as names
+pub read-count : {Z : Type 0} (words : List (String Z)) (command : Command) (names : List (List ℕ)) → AreWordsOf command names (bytes_of words) →
+    length (take (length words - 2) (drop 2 words)) ≡ length names
+read-count {Z} words command names h =
+    sym (length-map (take (length words - 2) (drop 2 words)) string_bytes) ∙ ap (λ (ns : List (List ℕ)). length ns) (read-names words command names h)

@@ -1,5 +1,5 @@
 -- What `optimise` answers, `verify` calls valid.
-use Rattle.std.proofs.Common.{◌≡◌, ℕ, List, refl, sym, subst}
+use Rattle.std.proofs.Common.{ℕ, List, refl, sym, subst}
 use Rattle.mintc_certificate.specs.CertificateText.{IsCertificateText}
 use Rattle.mintc_certificate.specs.TextLaws.{WrittenAreTexts}
 use Rattle.mintc_checker.specs.declared.verdict.Verdict.TheVariants.{Valid}

@@ -9,21 +9,22 @@ use Rattle.mintc_text.specs.declared.refusals.Role.TheVariants as role
 use Rattle.mintc_timing.specs.declared.clocking.Schedule.{Schedule}
 use Rattle.mintc_timing.specs.Design.{Design, Timing, phase_count}
 use Rattle.mintc_timing.specs.Limits.{IsDesign, limit_of}
+use Rattle.mintc_timing.specs.TableText.{IsTableText, IsTableRefusal}
 use Rattle.mintc_timing.specs.TextLaws.{HaveOneSchedule, HaveNoScheduleFault, HaveOneScheduleFault, HaveOneDesign, HaveNoTableFault, HaveOneTableFault}
 use Rattle.mintc_build.specs.Designs.{IsDesignRefusal}
-use Rattle.mintc_build.specs.Laws.{AcceptedAreNotRefused, DesignRefusalsAreDetermined, IsLoopRefusal}
+use Rattle.mintc_build.specs.Laws.{AcceptedAreNotRefused, DesignRefusalsAreDetermined, FilesHaveOneDesign, FilesHaveOneRefusal, FilesWithDesignAreNotRefused, IsLoopRefusal}
 use Rattle.mintc_certificate.specs.TextLaws.{HaveNoCertificateFault, HaveOneCertificateFault}
 use Rattle.mintc_command.specs.Answers.{IsContentAnswer, IsContentRefusal, IsFirstRefusal}
 use Rattle.mintc_command.specs.Commands.{roles_of}
 use Rattle.mintc_command.specs.Jobs.{IsFileRefused, IsJobAnswer, IsScheduleOf, IsScheduleRefused}
 use Rattle.mintc_command.specs.Laws.{RefusalsExcludeAnswers, RefusalsAreDetermined}
-use Rattle.mintc_command.specs.Sources.{AreShort, Gives, IsLengthRefusal, IsSourceRefused, IsTableOf, IsTableRefused, file_at, own_file}
+use Rattle.mintc_command.specs.Sources.{AreShort, Describes, Gives, HasNoDesign, IsLengthRefusal, IsSourceRefused, file_at, own_file}
 use Rattle.mintc_command.specs.declared.command.Command.{Command}
 use Rattle.mintc_command.specs.declared.command.Command.TheVariants.{OfDesign}
 use Rattle.mintc_command.specs.declared.command.Job.{Job}
 use Rattle.mintc_command.specs.declared.command.Job.TheVariants.{Check, Optimise, Verify, Report}
 use Rattle.mintc_command.specs.declared.command.Source.{Source}
-use Rattle.mintc_command.specs.declared.command.Source.TheVariants.{Table}
+use Rattle.mintc_command.specs.declared.command.Source.TheVariants.{Table, Files}
 use Rattle.mintc_command.specs.declared.reading.TheConstants.{LONGEST}
 use Rattle.mintc_command.specs.declared.status.Status.{Status}
 use Rattle.mintc_command.specs.declared.status.Status.TheVariants.{Done, Found, Refused, Usage, ReadFault, WriteFault, OutOfMemory}
@@ -39,6 +40,9 @@ pub record AreTextLaws : Type 0 where
   pub no_certificate_fault : HaveNoCertificateFault
   pub one_certificate_fault : HaveOneCertificateFault
   pub accepted : AcceptedAreNotRefused
+  pub one_files_design : FilesHaveOneDesign
+  pub no_files_refusal : FilesWithDesignAreNotRefused
+  pub one_files_refusal : FilesHaveOneRefusal
 
 -- Within the limits none is passed.
 no_limit : (design : Design) (refused : Refusal) → IsDesign design → limit_of design ≡ Some refused → ⊥
@@ -70,15 +74,38 @@ one_length (text ∷ roles) (bytes ∷ files) refused other (inl a) (inr b) = le
 one_length (text ∷ roles) (bytes ∷ files) refused other (inr a) (inl b) = let long = b.0 in let short = a.0 in absurd (omega (arith, long, short))
 one_length (text ∷ roles) (bytes ∷ files) refused other (inr a) (inr b) = one_length roles files refused other a.1 b.1
 
--- A table with an accepted design isn't refused.
-no_table : AreTextLaws → (table : List ℕ) (t : Timing) (refused : Refusal) → IsTableOf table t → IsTableRefused table refused → ⊥
-no_table law table t refused is (inl (inl (n, named, fault))) = law.no_table_fault table t.flat n is.text fault
-no_table law table t refused is (inl (inr (d, text, over))) =
-    let same : d ≡ t.flat = law.one_design table d t.flat text is.text in
-    no_limit t.flat refused is.accepted.limits (subst (λ (x : Design). limit_of x ≡ Some refused) same over)
-no_table law table t refused is (inr (d, text, limits, h)) =
-    let same : d ≡ t.flat = law.one_design table d t.flat text is.text in
-    law.accepted t.flat refused is.accepted (subst (λ (x : Design). IsDesignRefusal x refused) same h)
+-- The files of a source stand for one design. Where it is within the limits they have no refusal, and they have one at most.
+one_design : AreTextLaws → (source : Source) (files : List (List ℕ)) (design other : Design) → Describes source files design → Describes source files other → design ≡ other
+one_design law Table files design other a b = law.one_design (file_at files 0) design other a b
+one_design law Files files design other a b = law.one_files_design (file_at files 0) (file_at files 1) (file_at files 2) (file_at files 3) design other a b
+
+no_table : AreTextLaws → (table : List ℕ) (design : Design) (refused : Refusal) → IsTableText table design → IsDesign design → IsTableRefusal table refused → ⊥
+no_table law table design refused text limits (inl (n, named, fault)) = law.no_table_fault table design n text fault
+no_table law table design refused text limits (inr (d, other, over)) =
+    let same : d ≡ design = law.one_design table d design other text in
+    no_limit design refused limits (subst (λ (x : Design). limit_of x ≡ Some refused) same over)
+
+no_refusal : AreTextLaws → (source : Source) (files : List (List ℕ)) (design : Design) (refused : Refusal) → Describes source files design → IsDesign design → HasNoDesign source files refused → ⊥
+no_refusal law Table files design refused described limits h = no_table law (file_at files 0) design refused described limits h
+no_refusal law Files files design refused described limits h =
+    law.no_files_refusal (file_at files 0) (file_at files 1) (file_at files 2) (file_at files 3) design refused described h
+
+one_limit : (design : Design) (refused other : Refusal) → limit_of design ≡ Some refused → limit_of design ≡ Some other → refused ≡ other
+one_limit design refused other a b = let e : Some refused ≡ Some other = sym a ∙ b in cc
+
+one_table : AreTextLaws → (table : List ℕ) (refused other : Refusal) → IsTableRefusal table refused → IsTableRefusal table other → refused ≡ other
+one_table law table refused other (inl (n, a, fault)) (inl (m, b, other_fault)) =
+    a ∙ ap (λ (k : ℕ). refusal.Syntax role.Table k) (law.one_table_fault table n m fault other_fault) ∙ sym b
+one_table law table refused other (inl (n, a, fault)) (inr (d, text, over)) = absurd (law.no_table_fault table d n text fault)
+one_table law table refused other (inr (d, text, over)) (inl (m, b, fault)) = absurd (law.no_table_fault table d m text fault)
+one_table law table refused other (inr (d, text, over)) (inr (e, other_text, other_over)) =
+    let same : e ≡ d = law.one_design table e d other_text text in
+    one_limit d refused other over (subst (λ (x : Design). limit_of x ≡ Some other) same other_over)
+
+one_refusal : AreTextLaws → (source : Source) (files : List (List ℕ)) (refused other : Refusal) → HasNoDesign source files refused → HasNoDesign source files other → refused ≡ other
+one_refusal law Table files refused other a b = one_table law (file_at files 0) refused other a b
+one_refusal law Files files refused other a b =
+    law.one_files_refusal (file_at files 0) (file_at files 1) (file_at files 2) (file_at files 3) refused other a b
 
 -- A schedule with the design's phases isn't refused.
 no_schedule : AreTextLaws → (schedule : List ℕ) (phases : ℕ) (s : Schedule) (refused : Refusal) → IsScheduleOf schedule phases s → IsScheduleRefused schedule phases refused → ⊥
@@ -87,15 +114,15 @@ no_schedule law schedule phases s refused is (inr (other, text, apart, named)) =
     let same : s ≡ other = law.one_schedule schedule s other is.is_text text in
     apart (sym is.count ∙ ap (λ (x : Schedule). length x.starts) same)
 
--- So it is for each source, whose files give one design.
+-- Files that give a timing aren't refused, and all that they give is of one design.
 no_source : AreTextLaws → (source : Source) (files : List (List ℕ)) (t : Timing) (refused : Refusal) → Gives source files t → IsSourceRefused source files refused → ⊥
-no_source law Table files t refused is h = no_table law (file_at files 0) t refused is h
-
-one_flat : AreTextLaws → (source : Source) (files : List (List ℕ)) (t u : Timing) → Gives source files t → Gives source files u → t.flat ≡ u.flat
-one_flat law Table files t u a b = law.one_design (file_at files 0) t.flat u.flat a.text b.text
+no_source law source files t refused is (inl h) = no_refusal law source files t.flat refused is.design is.accepted.limits h
+no_source law source files t refused is (inr (d, described, limits, h)) =
+    let same : d ≡ t.flat = one_design law source files d t.flat described is.design in
+    law.accepted t.flat refused is.accepted (subst (λ (x : Design). IsDesignRefusal x refused) same h)
 
 one_count : AreTextLaws → (source : Source) (files : List (List ℕ)) (t u : Timing) → Gives source files t → Gives source files u → phase_count t ≡ phase_count u
-one_count law source files t u a b = ap (λ (d : Design). length d.phases) (one_flat law source files t u a b)
+one_count law source files t u a b = ap (λ (d : Design). length d.phases) (one_design law source files t.flat u.flat a.design b.design)
 
 -- A file that is answered isn't refused.
 no_file : AreTextLaws → (job : Job) (t u : Timing) (file : List ℕ) (refused : Refusal) (status : Status) (text : List ℕ) → phase_count u ≡ phase_count t →
@@ -126,30 +153,6 @@ exclude_lem law command files refused ReadFault text first h = absurd (exclude l
 exclude_lem law command files refused WriteFault text first h = absurd (exclude law command files refused WriteFault text first h.0 h.1)
 exclude_lem law command files refused OutOfMemory text first h = absurd (exclude law command files refused OutOfMemory text first h.0 h.1)
 
-one_limit : (design : Design) (refused other : Refusal) → limit_of design ≡ Some refused → limit_of design ≡ Some other → refused ≡ other
-one_limit design refused other a b = let e : Some refused ≡ Some other = sym a ∙ b in cc
-
-one_table : AreTextLaws → DesignRefusalsAreDetermined → (table : List ℕ) (refused other : Refusal) → IsTableRefused table refused → IsTableRefused table other →
-    (refused ≡ other) ⊎ (IsLoopRefusal refused × IsLoopRefusal other)
-one_table law one table refused other (inl (inl (n, a, fault))) (inl (inl (m, b, other_fault))) =
-    inl (a ∙ ap (λ (k : ℕ). refusal.Syntax role.Table k) (law.one_table_fault table n m fault other_fault) ∙ sym b)
-one_table law one table refused other (inl (inl (n, a, fault))) (inl (inr (d, text, over))) = absurd (law.no_table_fault table d n text fault)
-one_table law one table refused other (inl (inl (n, a, fault))) (inr (d, text, limits, h)) = absurd (law.no_table_fault table d n text fault)
-one_table law one table refused other (inl (inr (d, text, over))) (inl (inl (m, b, fault))) = absurd (law.no_table_fault table d m text fault)
-one_table law one table refused other (inl (inr (d, text, over))) (inl (inr (e, other_text, other_over))) =
-    let same : e ≡ d = law.one_design table e d other_text text in
-    inl (one_limit d refused other over (subst (λ (x : Design). limit_of x ≡ Some other) same other_over))
-one_table law one table refused other (inl (inr (d, text, over))) (inr (e, other_text, limits, h)) =
-    let same : d ≡ e = law.one_design table d e text other_text in
-    absurd (no_limit e refused limits (subst (λ (x : Design). limit_of x ≡ Some refused) same over))
-one_table law one table refused other (inr (d, text, limits, h)) (inl (inl (m, b, fault))) = absurd (law.no_table_fault table d m text fault)
-one_table law one table refused other (inr (d, text, limits, h)) (inl (inr (e, other_text, over))) =
-    let same : e ≡ d = law.one_design table e d other_text text in
-    absurd (no_limit d other limits (subst (λ (x : Design). limit_of x ≡ Some other) same over))
-one_table law one table refused other (inr (d, text, limits, h)) (inr (e, other_text, other_limits, g)) =
-    let same : e ≡ d = law.one_design table e d other_text text in
-    one d refused other h (subst (λ (x : Design). IsDesignRefusal x other) same g)
-
 one_schedule_refusal : AreTextLaws → (schedule : List ℕ) (phases : ℕ) (refused other : Refusal) → IsScheduleRefused schedule phases refused →
     IsScheduleRefused schedule phases other → refused ≡ other
 one_schedule_refusal law schedule phases refused other (inl (n, a, fault)) (inl (m, b, other_fault)) =
@@ -161,7 +164,12 @@ one_schedule_refusal law schedule phases refused other (inr (s, text, apart, a))
 
 one_source_refusal : AreTextLaws → DesignRefusalsAreDetermined → (source : Source) (files : List (List ℕ)) (refused other : Refusal) → IsSourceRefused source files refused →
     IsSourceRefused source files other → (refused ≡ other) ⊎ (IsLoopRefusal refused × IsLoopRefusal other)
-one_source_refusal law one Table files refused other a b = one_table law one (file_at files 0) refused other a b
+one_source_refusal law one source files refused other (inl a) (inl b) = inl (one_refusal law source files refused other a b)
+one_source_refusal law one source files refused other (inl a) (inr (d, described, limits, h)) = absurd (no_refusal law source files d refused described limits a)
+one_source_refusal law one source files refused other (inr (d, described, limits, h)) (inl b) = absurd (no_refusal law source files d other described limits b)
+one_source_refusal law one source files refused other (inr (d, described, limits, h)) (inr (e, other_described, other_limits, g)) =
+    let same : e ≡ d = one_design law source files e d other_described described in
+    one d refused other h (subst (λ (x : Design). IsDesignRefusal x other) same g)
 
 one_file : AreTextLaws → (job : Job) (t u : Timing) (file : List ℕ) (refused other : Refusal) → phase_count u ≡ phase_count t → IsFileRefused job t file refused →
     IsFileRefused job u file other → refused ≡ other

@@ -1,5 +1,5 @@
 -- Tables and their systems.
-use Rattle.std.proofs.Common.{◌≡◌, ◌<◌, ◌≤◌, ℕ, zero, suc, List, [], ◌∷◌, length, get_or, take, inl, inr, refl, arith}
+use Rattle.std.proofs.Common.{◌≡◌, ◌<◌, ◌≤◌, ℕ, zero, suc, List, [], ◌∷◌, length, get_or, take, inl, inr, refl, sym, subst, arith}
 use Rattle.std.proofs.lemmas.List.Elements.{All-head, All-tail}
 use Rattle.mintc_text.specs.declared.refusals.Refusal.TheVariants as refusal
 use Rattle.mintc_text.specs.declared.refusals.Role.{Role}
@@ -10,21 +10,28 @@ use Rattle.mintc_timing.specs.Accepted.{SystemsAreAccepted}
 use Rattle.mintc_timing.specs.Design.{Design, Timing}
 use Rattle.mintc_timing.specs.Limits.{IsDesign}
 use Rattle.mintc_timing.specs.Order.{IsTiming}
-use Rattle.mintc_timing.specs.TableText.{IsTableText}
 use Rattle.mintc_build.specs.Designs.{IsDesignRefusal}
-use Rattle.mintc_command.specs.Sources.{AreShort, IsLengthRefusal, IsTableOf, IsTableRefused}
+use Rattle.mintc_command.specs.Sources.{AreShort, Describes, Gives, HasNoDesign, IsLengthRefusal, IsSourceRefused}
+use Rattle.mintc_command.specs.declared.command.Source.{Source}
 use Rattle.mintc_command.specs.declared.reading.TheConstants.{LONGEST}
 
--- What stops a system of a table's design stops the table.
-pub StopsAt-system : (table : List ℕ) (design : Design) (s : Stop) → IsTableText table design → IsDesign design → StopsAt (IsDesignRefusal design) s → StopsAt (IsTableRefused table) s
-StopsAt-system table design (stop.Refused refused) text limits h = inr (design, text, limits, h)
-StopsAt-system table design stop.OutOfMemory text limits h = tt
+-- What stops a system of the design of files stops the files.
+pub StopsAt-system : (source : Source) (files : List (List ℕ)) (design : Design) (s : Stop) → Describes source files design → IsDesign design → StopsAt (IsDesignRefusal design) s → StopsAt (IsSourceRefused source files) s
+StopsAt-system source files design (stop.Refused refused) described limits h = inr (design, described, limits, h)
+StopsAt-system source files design stop.OutOfMemory described limits h = tt
 
--- A system of a table's design is the table's.
-pub IsTableOf-system : SystemsAreAccepted → (table : List ℕ) (design : Design) (t : Timing) → IsTableText table design → IsDesign design → t.flat ≡ design → IsTiming t.flat t.order t.pairs → IsTableOf table t
-IsTableOf-system accepted table design t text limits same timing =
+-- So does what stops their design.
+pub StopsAt-design : (source : Source) (files : List (List ℕ)) (s : Stop) → StopsAt (HasNoDesign source files) s → StopsAt (IsSourceRefused source files) s
+StopsAt-design source files (stop.Refused refused) h = inl h
+StopsAt-design source files stop.OutOfMemory h = tt
+
+-- A system of the design of files is theirs.
+pub Gives-system : SystemsAreAccepted → (source : Source) (files : List (List ℕ)) (design : Design) (t : Timing) → Describes source files design → IsDesign design → t.flat ≡ design →
+    IsTiming t.flat t.order t.pairs → Gives source files t
+Gives-system accepted source files design t described limits same timing =
     let limits_too : IsDesign t.flat = rw same limits in
-    record { text = rw same text; accepted = accepted t.flat t.order t.pairs limits_too timing; pairs = timing.extremes }
+    let own : Describes source files t.flat = subst (λ (d : Design). Describes source files d) (sym same) described in
+    record { design = own; accepted = accepted t.flat t.order t.pairs limits_too timing; pairs = timing.extremes }
 
 -- A file that is too long, after some that aren't, is refused by its role.
 pub IsLengthRefusal-at : (roles : List Role) (files : List (List ℕ)) (n : ℕ) (d : Role) → n < length files → n < length roles →

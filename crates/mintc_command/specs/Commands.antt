@@ -8,7 +8,7 @@ use Rattle.mintc_command.specs.declared.command.Command.TheVariants.{OfDesign}
 use Rattle.mintc_command.specs.declared.command.Job.{Job}
 use Rattle.mintc_command.specs.declared.command.Job.TheVariants.{Check, Optimise, Verify, Report}
 use Rattle.mintc_command.specs.declared.command.Source.{Source}
-use Rattle.mintc_command.specs.declared.command.Source.TheVariants.{Table}
+use Rattle.mintc_command.specs.declared.command.Source.TheVariants.{Table, Files}
 
 -- the bytes of each word
 abbrev pub bytes_of : {Z : Type 0} → List (String Z) → List (List ℕ)
@@ -23,10 +23,12 @@ job_word Report = codes "report"
 
 abbrev pub source_word : Source → List ℕ
 source_word Table = codes "table"
+source_word Files = codes "files"
 
 -- what the files of a design hold, in their order
 abbrev pub source_roles : Source → List Role
 source_roles Table = role.Table ∷ []
+source_roles Files = role.Netlist ∷ role.Delays ∷ role.Cells ∷ role.Clock ∷ []
 
 -- what the file holds that stands after those of the design, if there is one
 abbrev pub job_roles : Job → List Role

@@ -9,9 +9,10 @@ use Rattle.mintc_timing.specs.Limits.{IsDesign}
 use Rattle.mintc_timing.specs.Paths.{ArePairs}
 use Rattle.mintc_timing.specs.TableText.{IsTableText, IsTableRefusal}
 use Rattle.mintc_build.specs.Designs.{IsDesignRefusal}
+use Rattle.mintc_build.specs.FilesDesign.{IsFilesDesign, IsFilesRefusal}
 use Rattle.mintc_command.specs.Commands.{source_roles}
 use Rattle.mintc_command.specs.declared.command.Source.{Source}
-use Rattle.mintc_command.specs.declared.command.Source.TheVariants.{Table}
+use Rattle.mintc_command.specs.declared.command.Source.TheVariants.{Table, Files}
 use Rattle.mintc_command.specs.declared.reading.TheConstants.{LONGEST}
 
 -- the bytes of the file of a number, counted from 0
@@ -33,20 +34,23 @@ IsLengthRefusal (text ∷ roles) [] refused = ⊥
 IsLengthRefusal (text ∷ roles) (bytes ∷ files) refused =
     ((LONGEST < length bytes) × (refused ≡ refusal.TooLong text)) ⊎ ((length bytes ≤ LONGEST) × IsLengthRefusal roles files refused)
 
--- The table is that of this timing's design, which is accepted, and these are its pairs.
-pub record IsTableOf (table : List ℕ) (t : Timing) : Type 0 where
-  pub text : IsTableText table t.flat
+-- The files of a design, which come first, stand for it: a table, or a netlist, delays, cells and a clock.
+abbrev pub Describes : Source → List (List ℕ) → Design → Type 0
+Describes Table files design = IsTableText (file_at files 0) design
+Describes Files files design = IsFilesDesign (file_at files 0) (file_at files 1) (file_at files 2) (file_at files 3) design
+
+-- They stand for no design within the limits, and this is their first refusal.
+abbrev pub HasNoDesign : Source → List (List ℕ) → Refusal → Type 0
+HasNoDesign Table files refused = IsTableRefusal (file_at files 0) refused
+HasNoDesign Files files refused = IsFilesRefusal (file_at files 0) (file_at files 1) (file_at files 2) (file_at files 3) refused
+
+-- The files stand for this timing's design, which is accepted, and these are its pairs.
+pub record Gives (source : Source) (files : List (List ℕ)) (t : Timing) : Type 0 where
+  pub design : Describes source files t.flat
   pub accepted : IsAccepted t.flat
   pub pairs : ArePairs t.flat t.pairs
 
--- The table is out of form or past a limit, or its design, which is within the limits, has no system.
-abbrev pub IsTableRefused : List ℕ → Refusal → Type 0
-IsTableRefused table refused =
-    IsTableRefusal table refused ⊎ ((design : Design) × IsTableText table design × IsDesign design × IsDesignRefusal design refused)
-
--- The files, of which the design's come first, give this timing; or the first of them that is at fault is refused.
-abbrev pub Gives : Source → List (List ℕ) → Timing → Type 0
-Gives Table files t = IsTableOf (file_at files 0) t
-
+-- The files stand for no design, or for one within the limits that has no system.
 abbrev pub IsSourceRefused : Source → List (List ℕ) → Refusal → Type 0
-IsSourceRefused Table files refused = IsTableRefused (file_at files 0) refused
+IsSourceRefused source files refused =
+    HasNoDesign source files refused ⊎ ((design : Design) × Describes source files design × IsDesign design × IsDesignRefusal design refused)

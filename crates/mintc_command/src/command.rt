@@ -23,6 +23,8 @@ pub enum Job {
 pub enum Source {
     /// One file, a table.
     Table,
+    /// Four files: a netlist, delays, cells and a clock.
+    Files,
 }
 
 /// A command, without the names of its files.
@@ -38,11 +40,44 @@ impl Command {
         ensures { result.now ≡ roles_of self.now }
     {
         let Command::OfDesign { job, source } = *self;
-        match (source, job) {
-            (Source::Table, Job::Check) => &[Role::Table, Role::Schedule],
-            (Source::Table, Job::Verify) => &[Role::Table, Role::Certificate],
-            (Source::Table, Job::Optimise | Job::Report) => &[Role::Table],
+        match source {
+            Source::Table => table_roles(job),
+            Source::Files => files_roles(job),
         }
+    }
+}
+
+/// What the files of a table's command hold.
+fn table_roles(job: Job) -> &'static [Role]
+    ensures { result.now ≡ roles_of (Command.OfDesign job Source.Table) }
+{
+    match job {
+        Job::Check => &[Role::Table, Role::Schedule],
+        Job::Verify => &[Role::Table, Role::Certificate],
+        Job::Optimise | Job::Report => &[Role::Table],
+    }
+}
+
+/// What the files of a netlist's command hold.
+fn files_roles(job: Job) -> &'static [Role]
+    ensures { result.now ≡ roles_of (Command.OfDesign job Source.Files) }
+{
+    match job {
+        Job::Check => &[
+            Role::Netlist,
+            Role::Delays,
+            Role::Cells,
+            Role::Clock,
+            Role::Schedule,
+        ],
+        Job::Verify => &[
+            Role::Netlist,
+            Role::Delays,
+            Role::Cells,
+            Role::Clock,
+            Role::Certificate,
+        ],
+        Job::Optimise | Job::Report => &[Role::Netlist, Role::Delays, Role::Cells, Role::Clock],
     }
 }
 
@@ -65,6 +100,7 @@ fn source_of(word: &str) -> Option<Source>
 {
     match word {
         "table" => Some(Source::Table),
+        "files" => Some(Source::Files),
         _ => None,
     }
 }

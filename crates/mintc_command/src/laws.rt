@@ -1,7 +1,9 @@
 //! What the definitions of refusals and answers say: a law is the contract of a function that only calls laws.
 ghost use Rattle.mintc_command.specs.Laws.{OptimaAreVerified, RefusalsAreDetermined, RefusalsExcludeAnswers};
 
-use mintc_build::{accepted_designs_are_not_refused, design_refusals_are_determined};
+use mintc_build::{
+    accepted_designs_are_not_refused, design_refusals_are_determined, files_are_plain,
+};
 use mintc_certificate::{certificate_texts_are_plain, written_certificates_are_read};
 use mintc_timing::{schedule_texts_are_plain, table_texts_are_plain};
 
@@ -13,6 +15,7 @@ pub fn refusals_exclude_answers()
     table_texts_are_plain();
     certificate_texts_are_plain();
     accepted_designs_are_not_refused();
+    files_are_plain();
 }
 
 /// There is one first refusal, but for the choice of a loop of arcs.
@@ -23,6 +26,7 @@ pub fn refusals_are_determined()
     table_texts_are_plain();
     certificate_texts_are_plain();
     accepted_designs_are_not_refused();
+    files_are_plain();
     design_refusals_are_determined();
 }
 

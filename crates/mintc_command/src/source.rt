@@ -2,13 +2,13 @@
 ghost use Rattle.std.specs.Prelude.{◌≡◌, ◌≤◌, ◌<◌, length, MatchOption, IfOk, IfErr};
 ghost use Rattle.mintc_text.specs.Stops.{StopsAt};
 ghost use Rattle.mintc_command.specs.Commands.{source_roles};
-ghost use Rattle.mintc_command.specs.Sources.{AreShort, Gives, IsLengthRefusal, IsSourceRefused, IsTableOf, IsTableRefused, own_file};
+ghost use Rattle.mintc_command.specs.Sources.{AreShort, Describes, Gives, HasNoDesign, IsLengthRefusal, IsSourceRefused, own_file};
 
 use crate::command::Source;
 use crate::reading::LONGEST;
-use mintc_build::{from_table, system};
+use mintc_build::{from_files, from_table, system};
 use mintc_text::{Bytes, Refusal, Role, Stop};
-use mintc_timing::{System, systems_are_accepted};
+use mintc_timing::{Flat, System, systems_are_accepted};
 use std::alloc::Global;
 
 /// The refusal of the first file that is too long.
@@ -24,13 +24,33 @@ pub fn too_long(roles: &[Role], files: &[Bytes]) -> Option<Refusal>
     None
 }
 
-/// The system of a table, or its first refusal.
-fn system_of_table(alloc: Global, table: &[u8]) -> Result<System, Stop>
-    requires { length table.now ≤ LONGEST }
-    ensures value { IfOk result (λ system. IsTableOf table.now system) }
-    ensures stop { IfErr result (StopsAt (IsTableRefused table.now)) }
+/// The design that the first files stand for, or their first refusal.
+fn design_of(alloc: Global, source: Source, files: &[Bytes]) -> Result<Flat, Stop>
+    requires all { length (source_roles source) ≤ length files.now }
+    requires short { AreShort files.now }
+    ensures value { IfOk result (λ flat. Describes source files.now flat) }
+    ensures stop { IfErr result (StopsAt (HasNoDesign source files.now)) }
 {
-    let flat = match from_table(alloc, table) {
+    match source {
+        Source::Table => from_table(alloc, files[0].items()),
+        Source::Files => from_files(
+            alloc,
+            files[0].items(),
+            files[1].items(),
+            files[2].items(),
+            files[3].items(),
+        ),
+    }
+}
+
+/// The system of the design that the first files give, or the first refusal of these files.
+pub fn system_of(alloc: Global, source: Source, files: &[Bytes]) -> Result<System, Stop>
+    requires all { length (source_roles source) ≤ length files.now }
+    requires short { AreShort files.now }
+    ensures value { IfOk result (Gives source files.now) }
+    ensures stop { IfErr result (StopsAt (IsSourceRefused source files.now)) }
+{
+    let flat = match design_of(alloc, source, files) {
         Ok(flat) => flat,
         Err(stop) => return Err(stop),
     };
@@ -45,18 +65,6 @@ fn system_of_table(alloc: Global, table: &[u8]) -> Result<System, Stop>
     }
 }
 
-/// The system of the design that the first files give, or the first refusal of these files.
-pub fn system_of(alloc: Global, source: Source, files: &[Bytes]) -> Result<System, Stop>
-    requires all { length (source_roles source) ≤ length files.now }
-    requires short { AreShort files.now }
-    ensures value { IfOk result (Gives source files.now) }
-    ensures stop { IfErr result (StopsAt (IsSourceRefused source files.now)) }
-{
-    match source {
-        Source::Table => system_of_table(alloc, files[0].items()),
-    }
-}
-
 /// The bytes of the file that stands after those of the design, or none where there is no such file.
 pub fn own_file(source: Source, files: &[Bytes]) -> &[u8]
     requires { AreShort files.now }
@@ -65,6 +73,7 @@ pub fn own_file(source: Source, files: &[Bytes]) -> &[u8]
 {
     let place = match source {
         Source::Table => 1,
+        Source::Files => 4,
     };
     if place < files.len() {
         files[place].items()

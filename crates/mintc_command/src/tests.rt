@@ -2,6 +2,7 @@
 //! enough of it, so a run that always answers a want of memory fails each test.
 mod examples;
 mod files;
+mod netlists;
 mod rows;
 
 use crate::{Status, run};
@@ -226,11 +227,13 @@ fn one_past_the_limits(rt: HostRuntime) -> Result<(), Fail> {
 }
 
 /// A run of each command, and how many files it names.
-const RUNS: [(&str, u32); 4] = [
+const RUNS: [(&str, u32); 6] = [
     (CHECK, 2),
     ("optimise table TAB1", 1),
     ("verify table TAB1 CERT1", 2),
     ("report table TAB1", 1),
+    ("optimise files two.v two.sdf two.cells two.clock", 4),
+    ("check files two.v two.sdf two.cells two.clock SCH1", 5),
 ];
 
 // Rows failing-read and every-read-fails. The shelf's next calls have the numbers after the one that failed: so no read

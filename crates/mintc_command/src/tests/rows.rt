@@ -19,7 +19,7 @@ pub struct Row {
     pub ends: &'static [&'static str],
 }
 
-pub const ROWS: [Row; 37] = [
+pub const ROWS: [Row; 39] = [
     Row {
         name: "check-two-latch-loop",
         words: "check table TAB1 SCH1",
@@ -325,5 +325,22 @@ pub const ROWS: [Row; 37] = [
         status: Status::ReadFault,
         front: "",
         ends: &[""],
+    },
+    Row {
+        name: "optimise-worked-files",
+        words: "optimise files two.v two.sdf two.cells two.clock",
+        status: Status::Done,
+        front: "certificate 2\nleast\nden 1\ncycle 100\nphases 2\nphase 0 10\nphase 10 30\ndepartures 2\ndeparture 0\ndeparture 20\nchain 2\n",
+        ends: &[
+            "reach 0 1 11 22 6 7 9 23 10 8 3 12 14 24\nreach 1 0 11 25 16 17 19 26 20 18 13 2 4 21\nend\n",
+            "reach 1 0 11 25 16 17 19 26 20 18 13 2 4 21\nreach 0 1 11 22 6 7 9 23 10 8 3 12 14 24\nend\n",
+        ],
+    },
+    Row {
+        name: "check-worked-files",
+        words: "check files two.v two.sdf two.cells two.clock SCH1",
+        status: Status::Done,
+        front: "",
+        ends: &["pass\nelement u1.l[0] late 0/1 early 0/1\nelement u2.l[0] late 20/1 early 20/1\n"],
     },
 ];

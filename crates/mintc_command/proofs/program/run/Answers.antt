@@ -3,7 +3,7 @@ use Rattle.mintc_command.specs.Answers.{IsNotRefused}
 use Rattle.mintc_command.specs.declared.command.Command.{Command}
 use Rattle.mintc_command.specs.declared.status.Status.TheVariants.{Usage, WriteFault}
 use Rattle.mintc_command.proofs.AnswerLaws.{IsOfCommand-no_usage, answered, as_many, completed}
-use Rattle.mintc_command.proofs.CommandLaws.{one_command, read-names}
+use Rattle.mintc_command.proofs.CommandLaws.{one_command, read-count, read-names}
 use Rattle.mintc_command.proofs.program.run.Goals as goal
 
 pub answer_to-requires : goal.answer_to-requires
@@ -49,3 +49,7 @@ returns-in-Ok-answer_to-clause-complete g c = λ command names are sound all non
           c.in-Ok.ensures.fronts c.as_slice.ensures.value c.in-Ok-answer_to.ensures.status c.in-Ok-answer_to.ensures.defined (subst P same none) unchanged
       | inr fault ↦ absurd (quiet (c.write-in-Ok-answer_to.ensures.cause fault))
     ]
+
+pub returns-in-Ok-answer_to-clause-reads : goal.returns-in-Ok-answer_to-clause-reads
+returns-in-Ok-answer_to-clause-reads g c = λ command names are.
+    rw (read-count c.args.words.now command names are) at c.in-Ok.ensures.reads
