@@ -6,7 +6,7 @@ use mintc_hierarchy::Hierarchy;
 use mintc_text::{Refusal, Stop};
 use mintc_timing::Flat;
 use mintc_verilog::read_netlist;
-use std::alloc::Global;
+use std::alloc::{AllocError, Global};
 use std::process::Abort;
 use std::test::Fail;
 
@@ -207,6 +207,51 @@ fn phases(rt: HostRuntime) -> Result<(), Fail> {
     match designed(&rt, alloc, open, "(DELAYFILE)", ONE_PHASE) {
         Ok(flat) => assert_eq!(rt; flat.elements().len(), 1),
         Err(_) => panic!(rt; "no design"),
+    }
+    Ok(())
+}
+
+/// So many modules, each but the last with some instances of the next; the last has a body of its own.
+fn nested(alloc: Global, count: u32, instances: u32, body: &str) -> Result<String, AllocError> {
+    let mut text = String::new(alloc);
+    for number in 1..count {
+        text.push_str(format!(in alloc; "module t{number}(c); input c;")?.as_str())?;
+        for instance in 0..instances {
+            let next = number + 1;
+            text.push_str(format!(in alloc; " t{next} u{instance} (.c(c));")?.as_str())?;
+        }
+        text.push_str(" endmodule\n")?;
+    }
+    text.push_str(format!(in alloc; "module t{count}(c); input c; {body} endmodule\n")?.as_str())?;
+    Ok(text)
+}
+
+// Row limits-and-one-past: scopes, depth, leaves and inner bits, each one past its limit, and inner bits at theirs.
+#[test]
+fn limits(rt: HostRuntime) -> Result<(), Fail> {
+    let alloc = rt.alloc();
+    let wide = "wire [65535:0] w1; wire [65535:0] w2; wire [65535:0] w3;";
+    let most = format!(in alloc; "{wide} wire [65534:0] w4;")?;
+    let more = format!(in alloc; "{wide} wire [65535:0] w4;")?;
+    let leaves = "BUF a (.A(c)); BUF b (.A(c)); BUF d (.A(c)); BUF e (.A(c));";
+    let cases = [
+        (16, 2, "", (17, 65_535)),
+        (30, 2, "", (17, 1_000_000_000)),
+        (33, 1, "", (17, 33)),
+        (15, 2, leaves, (17, 65_536)),
+        (1, 0, more.as_str(), (17, 262_145)),
+    ];
+    for (count, instances, body, wanted) in &cases {
+        let netlist = nested(alloc, *count, *instances, body)?;
+        match flattened(&rt, alloc, netlist.as_str()) {
+            Err(stop) => assert_eq!(rt; shown(&stop), *wanted),
+            Ok(_) => panic!(rt; "no refusal"),
+        }
+    }
+    let netlist = nested(alloc, 1, 0, most.as_str())?;
+    match flattened(&rt, alloc, netlist.as_str()) {
+        Ok(hierarchy) => assert_eq!(rt; hierarchy.inner.items().len(), 262_144),
+        Err(_) => panic!(rt; "no hierarchy"),
     }
     Ok(())
 }
