@@ -1,5 +1,5 @@
 -- Tables and their systems.
-use Rattle.std.proofs.Common.{◌≡◌, ◌<◌, ◌≤◌, ℕ, zero, suc, List, [], ◌∷◌, length, get_or, take, inl, inr, refl, sym, subst, arith}
+use Rattle.std.proofs.Common.{Result, Ok, Err, IfOk, IfErr, ◌≡◌, ◌<◌, ◌≤◌, ℕ, zero, suc, List, [], ◌∷◌, length, get_or, take, inl, inr, refl, sym, subst, arith}
 use Rattle.std.proofs.lemmas.List.Elements.{All-head, All-tail}
 use Rattle.mintc_text.specs.declared.refusals.Refusal.TheVariants as refusal
 use Rattle.mintc_text.specs.declared.refusals.Role.{Role}
@@ -11,8 +11,10 @@ use Rattle.mintc_timing.specs.Design.{Design, Timing}
 use Rattle.mintc_timing.specs.Limits.{IsDesign}
 use Rattle.mintc_timing.specs.Order.{IsTiming}
 use Rattle.mintc_build.specs.Designs.{IsDesignRefusal}
-use Rattle.mintc_command.specs.Sources.{AreShort, Describes, Gives, HasNoDesign, IsLengthRefusal, IsSourceRefused}
+use Rattle.mintc_build.specs.FilesDesign.{IsFilesDesign, IsFilesRefusal}
+use Rattle.mintc_command.specs.Sources.{AreShort, Describes, Gives, HasNoDesign, IsLengthRefusal, IsSourceRefused, file_at}
 use Rattle.mintc_command.specs.declared.command.Source.{Source}
+use Rattle.mintc_command.specs.declared.command.Source.TheVariants.{Files}
 use Rattle.mintc_command.specs.declared.reading.TheConstants.{LONGEST}
 
 -- What stops a system of the design of files stops the files.
@@ -32,6 +34,18 @@ Gives-system accepted source files design t described limits same timing =
     let limits_too : IsDesign t.flat = rw same limits in
     let own : Describes source files t.flat = subst (λ (d : Design). Describes source files d) (sym same) described in
     record { design = own; accepted = accepted t.flat t.order t.pairs limits_too timing; pairs = timing.extremes }
+
+-- What is said of the texts of four files is said of the files that a command names.
+pub files_design : (result : Result Design Stop) (source : Source) (files : List (List ℕ)) (v d c k : List ℕ) → source ≡ Files → v ≡ file_at files 0 → d ≡ file_at files 1 → c ≡ file_at files 2 → k ≡ file_at files 3 →
+    IfOk result (IsFilesDesign v d c k) → IfOk result (Describes source files)
+files_design (Ok design) source files v d c k is a b e f h = rw (is, sym a, sym b, sym e, sym f) h
+files_design (Err stop) source files v d c k is a b e f h = tt
+
+pub files_refusal : (result : Result Design Stop) (source : Source) (files : List (List ℕ)) (v d c k : List ℕ) → source ≡ Files → v ≡ file_at files 0 → d ≡ file_at files 1 → c ≡ file_at files 2 → k ≡ file_at files 3 →
+    IfErr result (StopsAt (IsFilesRefusal v d c k)) → IfErr result (StopsAt (HasNoDesign source files))
+files_refusal (Ok design) source files v d c k is a b e f h = tt
+files_refusal (Err (stop.Refused refused)) source files v d c k is a b e f h = rw (is, sym a, sym b, sym e, sym f) h
+files_refusal (Err stop.OutOfMemory) source files v d c k is a b e f h = tt
 
 -- A file that is too long, after some that aren't, is refused by its role.
 pub IsLengthRefusal-at : (roles : List Role) (files : List (List ℕ)) (n : ℕ) (d : Role) → n < length files → n < length roles →
