@@ -2,7 +2,6 @@
 //! enough of it, so a run that always answers a want of memory fails each test.
 mod examples;
 mod files;
-mod netlists;
 mod rows;
 
 use crate::{Status, run};
