@@ -11,3 +11,5 @@ pub mod TurnedLaws
 pub mod BeginningLaws
 pub mod FinerLaws
 pub mod OutcomeLaws
+pub mod BroughtLaws
+pub mod FromLaws

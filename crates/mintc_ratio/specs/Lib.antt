@@ -6,3 +6,5 @@ pub mod Tested
 pub mod Searched
 pub mod Climbing
 pub mod Finer
+pub mod Brought
+pub mod From

@@ -3,6 +3,7 @@
 
 mod advancing;
 mod budget;
+mod from;
 mod laws;
 mod rest;
 mod searching;
@@ -13,6 +14,9 @@ mod tests;
 mod turns;
 mod weighed;
 
-pub use laws::{least_at_each_denominator, outcomes_are_determined};
+pub use from::{asked, walk_from};
+pub use laws::{
+    greatest_are_brought, greatest_are_met, least_at_each_denominator, outcomes_are_determined,
+};
 pub use searching::{Outcome, search};
 pub use testing::{Test, test_at};
