@@ -1,0 +1,60 @@
+-- What a search over a design's links says of the design.
+use Rattle.std.proofs.Common.{◌≡◌, ◌≤◌, ℤ, pos, negsuc, ◌≤ℤ◌, ◌*ℤ◌, List, length, arith, refl, subst, unsigned_abs}
+use Rattle.std.proofs.lemmas.Int.{ints}
+use Rattle.std.specs.List.{All}
+use Rattle.mintc_fraction.specs.Ratio.{Ratio, IsModest}
+use Rattle.mintc_walks.specs.Walks.{value_at}
+use Rattle.mintc_timing.specs.declared.clocking.Schedule.{Schedule}
+use Rattle.mintc_timing.specs.declared.link.Link.{Link}
+use Rattle.mintc_timing.specs.Design.{Timing}
+use Rattle.mintc_timing.specs.Limits.{IsDesign}
+use Rattle.mintc_timing.specs.Links.{IsChain, links_of}
+use Rattle.mintc_timing.specs.Right.{IsHopeless, IsLeastCycle}
+use Rattle.mintc_constraints.specs.Duality.{HasEnds, IsMet, moments_of}
+use Rattle.mintc_constraints.specs.Ordinary.{Constraints, IsOrdinary}
+use Rattle.mintc_constraints.specs.Rooms.{Space}
+use Rattle.mintc_constraints.proofs.ChainLaws.{met_chains_fit_lem, stuck_is_hopeless_lem, tight_fits_no_less_lem}
+use Rattle.mintc_constraints.proofs.ExistenceLaws.{feasible_has_right_lem}
+use Rattle.mintc_constraints.proofs.RightLaws.{right_has_moments_lem}
+use Rattle.mintc_ratio.specs.declared.searching.Outcome.{Outcome}
+use Rattle.mintc_ratio.specs.declared.searching.Outcome.TheVariants.{Least}
+use Rattle.mintc_ratio.specs.Chains.{NamesChain, links_at}
+use Rattle.mintc_ratio.specs.Searched.{HasSearched, IsCycle, IsLeast, IsStuck}
+use Rattle.mintc_ratio.proofs.BroughtLaws.{greatest_are_met_lem}
+use Rattle.mintc_ratio.proofs.SumsLaws.{few_links}
+
+pub is_modest : (cycle : Ratio) → IsCycle cycle → IsModest cycle
+is_modest cycle is = record { num = abs_low cycle.num is.low is.num; den = (let most = is.den in omega (arith, ints)) }
+  where
+    abs_low : (x : ℤ) → pos 0 ≤ℤ x → x ≤ℤ pos 4040000000000 → unsigned_abs x ≤ 10000000000000000000000
+    abs_low (pos n) low high = omega (arith, ints)
+    abs_low (negsuc n) low high = absurd (omega (arith, ints))
+
+module _ (t : Timing) (limits : IsDesign t.flat) (ends : HasEnds t) (list : Constraints) (links_are : list.links ≡ links_of t) (room : Space) where
+  pub least_of : (cycle : Ratio) → IsLeast list cycle room → IsLeastCycle t cycle.num cycle.den
+  least_of cycle found =
+      let positive = found.cycle_is.fraction in
+      let met = subst (λ (ks : List Link). All (IsMet cycle.num cycle.den room.values) ks) links_are (greatest_are_met_lem list cycle room.values found.values) in
+      let right = feasible_has_right_lem t cycle.num cycle.den (λ node. value_at room.values node) limits ends positive met in
+      let chain = subst (λ (ks : List Link). IsChain ks (links_at list.links room.chain)) links_are found.chain.chain in
+      record {
+        positive = positive;
+        attained = (right.0, right.1, right.2, same right.0 right.3 right.4);
+        least = λ s d other.
+            tight_fits_no_less_lem (links_at list.links room.chain) cycle.num cycle.den s.cycle s.den positive found.tight.turns found.tight.tight
+            (met_chains_fit_lem s.cycle s.den (moments_of t s d) (links_of t) (links_at list.links room.chain) (right_has_moments_lem t s d limits ends other).moments.met chain);
+      }
+    where
+      same : (s : Schedule) → s.cycle ≡ cycle.num → s.den ≡ cycle.den → s.cycle *ℤ cycle.den ≡ cycle.num *ℤ s.den
+      same s cycle_is den_is = rw (cycle_is, den_is) refl
+
+  pub hopeless_of : NamesChain list.links room.chain → IsStuck (links_at list.links room.chain) → IsHopeless t
+  hopeless_of named stuck =
+      stuck_is_hopeless_lem t (links_at list.links room.chain) limits ends (subst (λ (ks : List Link). IsChain ks (links_at list.links room.chain)) links_are named.chain) stuck.turns stuck.stuck
+
+pub few_in_chain : (list : Constraints) → IsOrdinary list → (room : Space) → NamesChain list.links room.chain → length room.chain ≤ list.nodes
+few_in_chain list all room named = few_links list.nodes list.links all room.chain named
+
+-- of the answer that the code has
+pub least_answer : (list : Constraints) (room : Space) (o : Outcome) (cycle : Ratio) → o ≡ Least cycle → HasSearched list room o → IsLeast list cycle room
+least_answer list room o cycle is h = subst (λ (x : Outcome). HasSearched list room x) is h
