@@ -1,5 +1,5 @@
 //! The text of a certificate.
-ghost use Rattle.std.specs.Prelude.{◌≡◌, ◌<◌, ◌^◌, ◌++◌, ◌∷◌, IfOk, OnOk, length, map, zip, codes, All};
+ghost use Rattle.std.specs.Prelude.{◌≡◌, ◌<◌, ◌^◌, ◌++◌, ◌∷◌, IfOk, OnOk, length, map, zip, All};
 ghost use Rattle.mintc_text.specs.Lines.{ended, text_of, words};
 ghost use Rattle.mintc_timing.specs.Fields.{number};
 ghost use Rattle.mintc_timing.specs.Limits.{IsInRange};
@@ -23,7 +23,7 @@ fn put_number_line(lines: &mut Lines, word: &[u8], number: i64) -> Result<(), Ou
 }
 
 /// Writes a line of a word and a count.
-fn put_count_line(lines: &mut Lines, word: &[u8], count: u64) -> Result<(), OutOfMemory>
+pub fn put_count_line(lines: &mut Lines, word: &[u8], count: u64) -> Result<(), OutOfMemory>
     ensures { OnOk result (lines.new ≡ lines.old ++ ended (count_line word.now count)) }
 {
     lines.put(word)?;
@@ -55,7 +55,7 @@ fn put_phases(lines: &mut Lines, starts: &[i64], widths: &[i64]) -> Result<(), O
 }
 
 /// Writes the lines of a schedule.
-fn put_schedule(lines: &mut Lines, schedule: &Schedule) -> Result<(), OutOfMemory>
+pub fn put_schedule(lines: &mut Lines, schedule: &Schedule) -> Result<(), OutOfMemory>
     requires { IsInRange schedule.now }
     ensures { OnOk result (lines.new ≡ lines.old ++ text_of (schedule_lines schedule.now)) }
 {
@@ -67,7 +67,7 @@ fn put_schedule(lines: &mut Lines, schedule: &Schedule) -> Result<(), OutOfMemor
 }
 
 /// Writes the lines of departures.
-fn put_departures(lines: &mut Lines, departures: &[i64]) -> Result<(), OutOfMemory>
+pub fn put_departures(lines: &mut Lines, departures: &[i64]) -> Result<(), OutOfMemory>
     ensures { OnOk result (lines.new ≡ lines.old ++ text_of (departure_lines departures.now)) }
 {
     put_count_line(lines, b"departures", departures.len() as u64)?;
@@ -86,19 +86,25 @@ fn put_line(lines: &mut Lines, word: &[u8], numbers: &[u32]) -> Result<(), OutOf
     lines.put(b"\n")
 }
 
-/// Writes the line of a reach.
-fn put_reach(lines: &mut Lines, from: u32, to: u32, arcs: &[u32]) -> Result<(), OutOfMemory>
+/// Writes the line of a word, two elements and a path between them: how many arcs it has, and then each.
+pub fn put_path(
+    lines: &mut Lines,
+    word: &[u8],
+    from: u32,
+    to: u32,
+    arcs: &[u32],
+) -> Result<(), OutOfMemory>
     requires { length arcs.now < 2 ^ 32 }
-    ensures { OnOk result (lines.new ≡ lines.old ++ ended (words (codes "reach" ∷ number from ∷ number to ∷ number (length arcs.now) ∷ map number arcs.now))) }
+    ensures { OnOk result (lines.new ≡ lines.old ++ ended (words (word.now ∷ number from ∷ number to ∷ number (length arcs.now) ∷ map number arcs.now))) }
 {
-    lines.put(b"reach")?;
+    lines.put(word)?;
     lines.numbers(&[from, to, arcs.len() as u32])?;
     lines.numbers(arcs)?;
     lines.put(b"\n")
 }
 
 /// Writes the line of a member.
-fn put_member(lines: &mut Lines, member: &Member) -> Result<(), OutOfMemory>
+pub fn put_member(lines: &mut Lines, member: &Member) -> Result<(), OutOfMemory>
     requires { IsCounted member.now }
     ensures { OnOk result (lines.new ≡ lines.old ++ ended (words (member_words member.now))) }
 {
@@ -111,7 +117,7 @@ fn put_member(lines: &mut Lines, member: &Member) -> Result<(), OutOfMemory>
         Member::Apart { i, j } => put_line(lines, b"apart", &[*i, *j]),
         Member::Opening { element } => put_line(lines, b"open", &[*element]),
         Member::Opened { element } => put_line(lines, b"opened", &[*element]),
-        Member::Reach { from, to, arcs } => put_reach(lines, *from, *to, arcs.items()),
+        Member::Reach { from, to, arcs } => put_path(lines, b"reach", *from, *to, arcs.items()),
         Member::Setup { element } => put_line(lines, b"setup", &[*element]),
         Member::Bound { index } => put_line(lines, b"bound", &[*index]),
     }

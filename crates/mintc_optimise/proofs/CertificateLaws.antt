@@ -1,19 +1,15 @@
 -- What is made of the answer of a search over a design's links is a certificate.
-use Rattle.std.proofs.Common.{◌≡◌, ◌≢◌, ℕ, ◌-◌, ◌<◌, ◌≤◌, ℤ, pos, ◌≤ℤ◌, ◌-ℤ◌, ◌+ℤ◌, ◌*ℤ◌, Bool, false, cond, List, [], ◌∷◌, length, arith, refl, ap, sym, ◌∙◌, subst}
+use Rattle.std.proofs.Common.{◌≡◌, ◌≢◌, ℕ, ◌≤◌, ℤ, List, [], ◌∷◌, length, arith, refl, ap, sym, ◌∙◌, subst}
 use Rattle.std.specs.List.{All, AllPairs, Contains}
-use Rattle.std.proofs.lemmas.Int.{ints}
 use Rattle.std.proofs.lemmas.List.{length-map, get_or-map}
-use Rattle.std.proofs.lemmas.List.FromFn.{get_or-map-range_with_len, length-map-range_with_len}
+use Rattle.std.proofs.lemmas.List.FromFn.{length-map-range_with_len}
 use Rattle.mintc_fraction.specs.Ratio.{Ratio}
-use Rattle.mintc_walks.specs.Walks.{value_at}
 use Rattle.mintc_timing.specs.declared.link.Link.{Link}
 use Rattle.mintc_timing.specs.declared.clocking.Schedule.{Schedule}
-use Rattle.mintc_timing.specs.Clocking.{start_of, width_of, end_of}
 use Rattle.mintc_timing.specs.Closed.{IsClosed}
-use Rattle.mintc_timing.specs.Departures.{departure}
-use Rattle.mintc_timing.specs.Design.{Timing, element_at, element_count, phase_count, phase_of, no_element}
-use Rattle.mintc_timing.specs.Limits.{IsDesign, IsInRange, IsPhase}
-use Rattle.mintc_timing.specs.Links.{links_of, delay_of, cycles_of, element_node, end_node, start_node}
+use Rattle.mintc_timing.specs.Design.{Timing, element_count}
+use Rattle.mintc_timing.specs.Limits.{IsDesign, IsInRange}
+use Rattle.mintc_timing.specs.Links.{links_of, delay_of, cycles_of}
 use Rattle.mintc_timing.specs.Order.{IsTiming}
 use Rattle.mintc_timing.specs.Right.{IsLeastCycle, IsRight}
 use Rattle.mintc_constraints.specs.Duality.{AreExactMoments, departure_of, departures_of, schedule_of}
@@ -26,7 +22,6 @@ use Rattle.mintc_ratio.specs.declared.searching.Outcome.TheVariants as outcome
 use Rattle.mintc_ratio.specs.Chains.{NamesChain, links_at}
 use Rattle.mintc_ratio.specs.Searched.{HasSearched, IsLeast, IsStuck, IsTight}
 use Rattle.mintc_ratio.proofs.SumsLaws.{few_links}
-use Rattle.mintc_ratio.proofs.FinerLaws.{finer_lem}
 use Rattle.mintc_certificate.specs.declared.members.Member.{Member}
 use Rattle.mintc_certificate.specs.declared.certificate.Certificate.{Certificate}
 use Rattle.mintc_certificate.specs.declared.certificate.Certificate.TheVariants.{Least, Never}
@@ -35,7 +30,8 @@ use Rattle.mintc_certificate.specs.Ranges.{IsCertificateInRange, IsChainInRange,
 use Rattle.mintc_certificate.specs.Valid.{IsRing, IsValid, counts, clock, bounds, departures, setups, ring, sums, link_of, links_of_members}
 use Rattle.mintc_optimise.specs.Bounded.{CertifiesNeverOnlyWithBounds}
 use Rattle.mintc_optimise.specs.Making.{AreSayable, StandForAll}
-use Rattle.mintc_optimise.specs.Optimum.{HasEarliest, HasSimple, IsEarliest, IsSimple, IsSolution}
+use Rattle.mintc_optimise.specs.Optimum.{HasEarliest, HasSimple, IsEarliest, IsSimple}
+use Rattle.mintc_optimise.proofs.EarliestLaws.{earliest}
 use Rattle.mintc_optimise.proofs.SayingLaws.{are_sayable}
 use Rattle.mintc_optimise.proofs.SolvedLaws.{solved_here}
 use Rattle.mintc_optimise.proofs.UnboundedLaws.{never_needs_a_bound_lem}
@@ -139,50 +135,6 @@ module _ (t : Timing) (limits : IsDesign t.flat) (kept : IsTiming t.flat t.order
     optimal_here : IsLeastCycle t cycle.num cycle.den × IsRight t s d
     optimal_here = solved_here t limits (ends_of t kept.extremes) room (outcome.Least cycle) found
 
-    start_is : (p : ℕ) → IsPhase (phase_count t) p → start_of s p ≡ value_at room.values (start_node p)
-    start_is p h =
-        let low = h.0 in
-        let high = h.1 in
-        get_or-map-range_with_len (λ p. value_at room.values (start_node p)) 1 (phase_count t) (p - 1) p (pos 0) (omega arith) (omega arith)
-
-    width_is : (p : ℕ) → IsPhase (phase_count t) p → width_of s p ≡ value_at room.values (end_node p) -ℤ value_at room.values (start_node p)
-    width_is p h =
-        let low = h.0 in
-        let high = h.1 in
-        get_or-map-range_with_len (λ p. value_at room.values (end_node p) -ℤ value_at room.values (start_node p)) 1 (phase_count t) (p - 1) p (pos 0) (omega arith) (omega arith)
-
-    departure_is : (l : ℕ) → l < element_count t → (element_at t l).flop ≡ false → departure d l ≡ value_at room.values (element_node t l) -ℤ value_at room.values (start_node (phase_of t l))
-    departure_is l h latch =
-        get_or-map-range_with_len (departure_of t room.values) 0 (element_count t) l l (pos 0) h (omega arith)
-        ∙ ap (λ (b : Bool). cond b (pos 0) (value_at room.values (element_node t l) -ℤ value_at room.values (start_node (phase_of t l)))) latch
-
-    -- No solution has a moment before the room's value.
-    least_at : (factor : ℤ) (moment : ℕ → ℤ) → IsSolution t s factor moment → (node : ℕ) → node < node_count t → (value_at room.values node *ℤ factor) ≤ℤ moment node
-    least_at factor moment solution node h = finer_lem (constraints_of (node_count t) (links_of t)) cycle room.values factor moment found.values solution.origin solution.met node h
-
-    earliest_here : IsEarliest t s d
-    earliest_here = record {
-      lowest = found.cycle_is.lowest;
-      starts = λ factor moment solution p low high.
-          let is = ap (λ x. x *ℤ factor) (start_is p (low, high)) in
-          let least = least_at factor moment solution (start_node p) (omega arith) in
-          omega (arith, ints);
-      ends = λ factor moment solution p low high.
-          let start = start_is p (low, high) in
-          let width = width_is p (low, high) in
-          let ends_at : end_of s p ≡ value_at room.values (end_node p) = omega (arith, ints) in
-          let is = ap (λ x. x *ℤ factor) ends_at in
-          let least = least_at factor moment solution (end_node p) (omega arith) in
-          omega (arith, ints);
-      latches = λ factor moment solution l h latch.
-          let start = start_is (phase_of t l) (limits.each_element l no_element h).phase in
-          let departs = departure_is l h latch in
-          let leaves : start_of s (phase_of t l) +ℤ departure d l ≡ value_at room.values (element_node t l) = omega (arith, ints) in
-          let is = ap (λ x. x *ℤ factor) leaves in
-          let least = least_at factor moment solution (element_node t l) (omega arith) in
-          omega (arith, ints);
-    }
-
     module _ (s' : Schedule) (d' : List ℤ) (members : List Member) (s_is : s' ≡ s) (d_is : d' ≡ d) (stand : StandForAll t (links_of t) room.chain members) where
       -- what holds of the schedule and its departures, holds of those that equal them
       of_these : (P : Schedule → List ℤ → Type 0) → P s d → P s' d'
@@ -196,7 +148,7 @@ module _ (t : Timing) (limits : IsDesign t.flat) (kept : IsTiming t.flat t.order
           record {
             valid = of_these (λ x y. IsValid t (Least x y members)) (valid_least room.chain found.chain members stand s d cycle refl refl optimal_here.1 found.tight);
             optimal = of_these (λ x y. IsOptimal t (Least x y members)) (optimal_here.1, optimal_here.0);
-            earliest = of_these (IsEarliest t) earliest_here;
+            earliest = of_these (IsEarliest t (links_of t)) (earliest t limits (links_of t) cycle room.values found.cycle_is.lowest found.values);
             simple = simple_here room.chain found.chain members stand;
             bounded = tt;
             in_range = record { schedule_in = schedule_in; count = omega arith; each = departures_in; chain_in = chain_in room.chain found.chain members stand };

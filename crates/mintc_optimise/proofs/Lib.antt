@@ -4,5 +4,6 @@ pub mod PathLaws
 pub mod StandingLaws
 pub mod SayingLaws
 pub mod TimesLaws
+pub mod EarliestLaws
 pub mod CertificateLaws
 pub mod UnboundedLaws

@@ -1,6 +1,7 @@
 use Rattle.std.specs.Prelude.{◌≡◌, ◌≢◌, ◌<◌, ℕ, ℤ, pos, ◌+ℤ◌, ◌*ℤ◌, ◌≤ℤ◌, IsFalse, List, All, AllPairs, Contains}
 use Rattle.mintc_fraction.specs.Ratio.{over, IsLowest}
 use Rattle.mintc_timing.specs.declared.clocking.Schedule.{Schedule}
+use Rattle.mintc_timing.specs.declared.link.Link.{Link}
 use Rattle.mintc_timing.specs.Clocking.{EachPhase, start_of, end_of}
 use Rattle.mintc_timing.specs.Departures.{departure}
 use Rattle.mintc_timing.specs.Design.{Timing, element_at, element_count, phase_of}
@@ -11,24 +12,24 @@ use Rattle.mintc_certificate.specs.declared.certificate.Certificate.TheVariants.
 use Rattle.mintc_certificate.specs.declared.members.Member.{Member}
 use Rattle.mintc_certificate.specs.Valid.{chain_of, links_of_members}
 
--- Moments of the nodes, time 0 at 0, of which each link of the design holds at the schedule's cycle time, over so many times
--- its denominator. Any solution in fractions can be written so.
-pub record IsSolution (t : Timing) (s : Schedule) (factor : ℤ) (moment : ℕ → ℤ) : Type 0 where
+-- Moments of the nodes, time 0 at 0, of which each link of a list holds at the schedule's cycle time, over so many times its
+-- denominator. Any solution in fractions can be written so.
+pub record IsSolution (links : List Link) (s : Schedule) (factor : ℤ) (moment : ℕ → ℤ) : Type 0 where
   pub positive : pos 1 ≤ℤ factor
   pub origin : moment 0 ≡ pos 0
-  pub met : All (Meets (over (s.cycle *ℤ factor) (s.den *ℤ factor)) moment) (links_of t)
+  pub met : All (Meets (over (s.cycle *ℤ factor) (s.den *ℤ factor)) moment) links
 
--- The schedule's denominator is that of its cycle time in lowest terms; and of all solutions at this cycle time its starts,
--- its ends and the moments at which its latches depart are the least.
-pub record IsEarliest (t : Timing) (s : Schedule) (d : List ℤ) : Type 0 where
+-- The schedule's denominator is that of its cycle time in lowest terms; and of all solutions of the links at this cycle time
+-- its starts, its ends and the moments at which its latches depart are the least.
+pub record IsEarliest (t : Timing) (links : List Link) (s : Schedule) (d : List ℤ) : Type 0 where
   pub lowest : IsLowest (over s.cycle s.den)
-  pub starts : (factor : ℤ) (moment : ℕ → ℤ) → IsSolution t s factor moment → EachPhase t (λ p. (start_of s p *ℤ factor) ≤ℤ moment (start_node p))
-  pub ends : (factor : ℤ) (moment : ℕ → ℤ) → IsSolution t s factor moment → EachPhase t (λ p. (end_of s p *ℤ factor) ≤ℤ moment (end_node p))
-  pub latches : (factor : ℤ) (moment : ℕ → ℤ) → IsSolution t s factor moment → (l : ℕ) → l < element_count t → IsFalse (element_at t l).flop →
+  pub starts : (factor : ℤ) (moment : ℕ → ℤ) → IsSolution links s factor moment → EachPhase t (λ p. (start_of s p *ℤ factor) ≤ℤ moment (start_node p))
+  pub ends : (factor : ℤ) (moment : ℕ → ℤ) → IsSolution links s factor moment → EachPhase t (λ p. (end_of s p *ℤ factor) ≤ℤ moment (end_node p))
+  pub latches : (factor : ℤ) (moment : ℕ → ℤ) → IsSolution links s factor moment → (l : ℕ) → l < element_count t → IsFalse (element_at t l).flop →
       ((start_of s (phase_of t l) +ℤ departure d l) *ℤ factor) ≤ℤ moment (element_node t l)
 
 abbrev pub HasEarliest : Timing → Certificate → Type 0
-HasEarliest t (Least schedule departures chain) = IsEarliest t schedule departures
+HasEarliest t (Least schedule departures chain) = IsEarliest t (links_of t) schedule departures
 HasEarliest t (Never chain) = Unit {0}
 
 -- The members stand for links of the design, so that each reach has the greatest delay of its pair, and the chain enters

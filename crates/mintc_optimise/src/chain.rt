@@ -27,7 +27,7 @@ fn pair_delay(system: &System, link: &Link, from: u32, to: u32) -> i64
 }
 
 /// The member for a link of the system. A reach has a path with the greatest sum.
-fn member_of(
+pub fn member_of(
     alloc: Global,
     system: &System,
     finder: &mut Finder,

@@ -10,5 +10,7 @@ mod tests;
 mod times;
 
 pub use bench::Bench;
+pub use chain::member_of;
 pub use laws::{never_needs_a_bound, unbounded_has_right};
 pub use optimum::optimise;
+pub use times::{departures, schedule};

@@ -74,7 +74,7 @@ fn widths(system: &System, values: &[i128]) -> PhaseNumbers
 }
 
 /// The schedule with this cycle time and these moments, as numerators over the cycle time's denominator.
-pub(crate) fn schedule(system: &System, cycle: &Fraction, values: &[i128]) -> Schedule
+pub fn schedule(system: &System, cycle: &Fraction, values: &[i128]) -> Schedule
     requires cycle { IsCycle cycle.now }
     requires sayable { AreSayable system.now values.now }
     ensures value { result ≡ schedule_of system.now cycle.now.num cycle.now.den values.now }
@@ -106,7 +106,7 @@ fn departure(system: &System, values: &[i128], number: u32) -> i64
 }
 
 /// The departures of the elements.
-pub(crate) fn departures(
+pub fn departures(
     alloc: Global,
     system: &System,
     values: &[i128],
