@@ -1,0 +1,122 @@
+-- The member that stands for a safe link, by the link's kind.
+use Rattle.std.proofs.Common.{◌≡◌, ℕ, ◌+◌, ◌*◌, ◌<◌, ℤ, true, List, length, get_or, map, arith, refl, ap, sym, subst, ◌∙◌, ◌∷◌, [], ◌++◌, take}
+use Rattle.std.specs.List.{All, Contains}
+use Rattle.std.proofs.lemmas.Int.{ints}
+use Rattle.std.proofs.lemmas.List.{get_or_default, take_more, map-append}
+use Rattle.std.proofs.lemmas.List.Elements.{All-append, All-contains, All-contains_itself, All-push}
+use Rattle.mintc_timing.specs.declared.link.Link.{Link}
+use Rattle.mintc_timing.specs.declared.link.LinkKind.{LinkKind}
+use Rattle.mintc_timing.specs.declared.link.LinkKind.TheVariants as kind
+use Rattle.mintc_timing.specs.declared.parts.Pair.{Pair}
+use Rattle.mintc_timing.specs.Design.{Timing, element_at, pair_at, no_pair}
+use Rattle.mintc_timing.specs.Limits.{IsDesign}
+use Rattle.mintc_timing.specs.Links.{links_of}
+use Rattle.mintc_timing.specs.Order.{IsTiming}
+use Rattle.mintc_timing.specs.Paths.{HasExtremes, IsPath, IsGreatestDelay, IsLeastDelay, input_of, greatest_delay, least_delay}
+use Rattle.mintc_constraints.specs.Ordinary.{link_at, no_link}
+use Rattle.mintc_ratio.specs.Chains.{links_at}
+use Rattle.mintc_certificate.specs.declared.members.Member.{Member}
+use Rattle.mintc_certificate.specs.declared.members.Member.TheVariants as member
+use Rattle.mintc_certificate.specs.Valid.{link_of}
+use Rattle.mintc_optimise.specs.Making.{StandsFor as StandsForPlain}
+use Rattle.mintc_optimise.proofs.PathLaws.{arcs_below, path_short}
+use Rattle.mintc_optimise.proofs.StandingLaws.{of_kind}
+use Rattle.mintc_safe.specs.declared.members.SafeMember.{SafeMember}
+use Rattle.mintc_safe.specs.declared.members.SafeMember.TheVariants.{Plain, Hold}
+use Rattle.mintc_safe.specs.Making.{bare, StandsFor, StandForAll}
+use Rattle.mintc_safe.specs.SafeLinks.{hold_link, hold_link_of, hold_links_of, safe_links_of}
+use Rattle.mintc_safe.specs.SafeOptimum.{IsSafeCounted}
+use Rattle.mintc_safe.specs.SafeValid.{IsSafeMember, IsSlowest, link_of_safe, links_of_safe}
+use Rattle.mintc_safe.proofs.HoldLaws.{All-holds}
+
+-- What is known of a safe link by its kind: it is the hold of a pair, or a link of the design.
+abbrev pub IsOfSafeKind : Timing → Link → LinkKind → Type 0
+IsOfSafeKind t k (kind.Other n) = (n < length t.pairs) × ((element_at t (pair_at t n).to).has_hold ≡ true) × (k ≡ hold_link_of t (n, pair_at t n))
+IsOfSafeKind t k which = Contains (links_of t) k
+
+module _ (t : Timing) (limits : IsDesign t.flat) where
+  of_design : (k : Link) (which : LinkKind) → k.kind ≡ which → Contains (links_of t) k → IsOfSafeKind t k which
+  of_design k (kind.Other n) is listed = absurd (of_kind t limits k (kind.Other n) is listed)
+  of_design k which is listed = listed
+
+  each_of_kind : All (λ k. IsOfSafeKind t k k.kind) (safe_links_of t)
+  each_of_kind = All-append (λ k. IsOfSafeKind t k k.kind) (links_of t) (hold_links_of t)
+      (λ n d h. of_design (get_or (links_of t) n d) (get_or (links_of t) n d).kind refl (All-contains_itself (links_of t) n d h))
+      (All-holds t (λ k. IsOfSafeKind t k k.kind) (λ n h held. (h, held, refl)))
+
+  pub of_safe_kind : (k : Link) (which : LinkKind) → k.kind ≡ which → Contains (safe_links_of t) k → IsOfSafeKind t k which
+  of_safe_kind k which is listed =
+      subst (λ (w : LinkKind). IsOfSafeKind t k w) is (All-contains (λ k. IsOfSafeKind t k k.kind) (safe_links_of t) k each_of_kind listed)
+
+  -- a safe link of no pair's hold is the design's
+  pub is_of_design : (k : Link) → ((n : ℕ) → k.kind ≡ kind.Other n → ⊥) → Contains (safe_links_of t) k → Contains (links_of t) k
+  is_of_design k none listed = go k.kind refl
+    where
+      go : (which : LinkKind) → k.kind ≡ which → Contains (links_of t) k
+      go (kind.Other n) is = absurd (none n is)
+      go which is = of_safe_kind k which is listed
+
+  module _ (kept : IsTiming t.flat t.order t.pairs) where
+    -- The member that stands for a listed reach has a path with the greatest delay.
+    slowest : (k : Link) (m : Member) → Contains (links_of t) k → link_of t m ≡ k → IsSlowest t m
+    slowest k (member.Reach j l path) listed same =
+        let h = of_kind t limits k (kind.Reach j l) (ap (λ (x : Link). x.kind) (sym same)) listed in
+        let greatest = (kept.extremes.each h.0 no_pair h.1).greatest in
+        let asked = ap (λ (x : Link). x.delay) (same ∙ sym h.4) in
+        let sum : (pair_at t h.0).max ≡ greatest_delay t.flat.arcs path = omega (arith, ints) in
+        subst (λ (x : ℤ). IsGreatestDelay t.flat.arcs j (input_of l) x) sum
+        (subst (λ (b : ℕ). IsGreatestDelay t.flat.arcs j (input_of b) (pair_at t h.0).max) h.3
+        (subst (λ (a : ℕ). IsGreatestDelay t.flat.arcs a (input_of (pair_at t h.0).to) (pair_at t h.0).max) h.2 greatest))
+    slowest k m listed same = tt
+
+    pub plain_stands : (k : Link) (m : Member) → Contains (links_of t) k → StandsForPlain t k m → StandsFor t k (Plain m)
+    plain_stands k m listed h = record { member = (h.member, slowest k m listed h.same); same = ap bare h.same; counted = h.counted }
+
+    -- The member for the hold of a pair, with a path that has the pair's least delay.
+    pub hold_stands : (n : ℕ) (p : Pair) (path : List ℕ) → n < length t.pairs → (element_at t (pair_at t n).to).has_hold ≡ true → p ≡ pair_at t n →
+        IsPath t.flat.arcs p.from path (input_of p.to) → least_delay t.flat.arcs path ≡ p.min → StandsFor t (hold_link_of t (n, pair_at t n)) (Hold p.from p.to path)
+    hold_stands n p path h held is is_path summed = subst (λ (q : Pair). StandsFor t (hold_link_of t (n, q)) (Hold p.from p.to path)) is stands
+      where
+        ends : HasExtremes t.flat p
+        ends = subst (λ (q : Pair). HasExtremes t.flat q) (sym is) (kept.extremes.each n no_pair h)
+
+        stands : StandsFor t (hold_link_of t (n, p)) (Hold p.from p.to path)
+        stands =
+            let from = ends.from in
+            let to = ends.to in
+            let elements = limits.elements in
+            let arcs = limits.arcs in
+            let count = kept.ordered.count in
+            let short = path_short t.flat.arcs t.order kept.ordered (2 * p.from + 1) path (2 * p.to) is_path.1 in
+            record {
+              member = (
+                from,
+                to,
+                subst (λ (q : Pair). (element_at t q.to).has_hold ≡ true) (sym is) held,
+                is_path,
+                subst (λ (x : ℤ). IsLeastDelay t.flat.arcs p.from (input_of p.to) x) (sym summed) ends.least,
+              );
+              same = ap (λ (x : ℤ). bare (hold_link t 0 p.from p.to x)) summed;
+              counted = (omega arith, omega arith, omega arith, is_path.0, arcs_below t.flat.arcs (2 * p.from + 1) path (2 * p.to) 999999999 (omega arith) is_path.1);
+            }
+
+-- one more member at the end
+stand_more : (t : Timing) (links : List Link) (chain : List ℕ) (i : ℕ) (members : List SafeMember) (m : SafeMember) → i < length chain → StandForAll t links (take i chain) members →
+    StandsFor t (link_at links (get_or chain i 0)) m → StandForAll t links (take (i + 1) chain) (members ++ m ∷ [])
+stand_more t links chain i members m h before here = record {
+  each = All-push (IsSafeMember t) members m before.each here.member;
+  same = ap (map bare) (map-append (link_of_safe t) members (m ∷ []))
+      ∙ map-append bare (links_of_safe t members) (link_of_safe t m ∷ [])
+      ∙ ap (λ (ks : List Link). ks ++ bare (link_of_safe t m) ∷ []) before.same
+      ∙ ap (λ (k : Link). map bare (links_at links (take i chain)) ++ k ∷ []) here.same
+      ∙ sym (ap (λ (ns : List ℕ). map bare (links_at links ns)) (take_more chain i 0 h)
+      ∙ ap (map bare) (map-append (link_at links) (take i chain) (get_or chain i 0 ∷ []))
+      ∙ map-append bare (links_at links (take i chain)) (link_at links (get_or chain i 0) ∷ []));
+  counted = All-push IsSafeCounted members m before.counted here.counted;
+}
+
+-- the same of the link that the code reads
+pub stand_read : (t : Timing) (links : List Link) (chain : List ℕ) (i : ℕ) (members : List SafeMember) (m : SafeMember) (d : Link) → i < length chain → All (λ e. e < length links) chain →
+    StandForAll t links (take i chain) members → StandsFor t (get_or links (get_or chain i 0) d) m → StandForAll t links (take (i + 1) chain) (members ++ m ∷ [])
+stand_read t links chain i members m d h exist before here =
+    stand_more t links chain i members m h before (subst (λ (k : Link). StandsFor t k m) (get_or_default links (get_or chain i 0) d no_link (exist i 0 h)) here)

@@ -1,0 +1,22 @@
+use Rattle.std.proofs.Common.{IfOk, sym, subst}
+use Rattle.mintc_timing.specs.declared.link.Link.{Link}
+use Rattle.mintc_timing.specs.declared.link.LinkKind.TheVariants as kind
+use Rattle.mintc_safe.specs.Making.{StandsFor}
+use Rattle.mintc_safe.proofs.StandingLaws.{is_of_design, of_safe_kind}
+use Rattle.mintc_safe.proofs.chain.safe_member_of.Goals as goal
+
+pub hold_of-requires-clause-number : goal.hold_of-requires-clause-number
+hold_of-requires-clause-number c =
+    (of_safe_kind c.args.system.now (rw c.flat.ensures at c.elements-elements.ensures.kept) c.args.link.now (kind.Other c.in-Some.number) c.in-Some.ensures c.requires).0
+
+pub hold_of-requires-clause-held : goal.hold_of-requires-clause-held
+hold_of-requires-clause-held c =
+    (of_safe_kind c.args.system.now (rw c.flat.ensures at c.elements-elements.ensures.kept) c.args.link.now (kind.Other c.in-Some.number) c.in-Some.ensures c.requires).1
+
+pub plain_of-requires : goal.plain_of-requires
+plain_of-requires c = is_of_design c.args.system.now (rw c.flat.ensures at c.elements-elements.ensures.kept) c.args.link.now c.in-None.ensures c.requires
+
+pub returns-in-Some : goal.returns-in-Some
+returns-in-Some c =
+    let is = (of_safe_kind c.args.system.now (rw c.flat.ensures at c.elements-elements.ensures.kept) c.args.link.now (kind.Other c.in-Some.number) c.in-Some.ensures c.requires).2 in
+    subst (λ (k : Link). IfOk c.hold_of.result (StandsFor c.args.system.now k)) (sym is) c.hold_of.ensures

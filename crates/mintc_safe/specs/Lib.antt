@@ -1,0 +1,7 @@
+pub mod Hold
+pub mod SafeLinks
+pub mod SafeValid
+pub mod Laws
+pub mod SafeText
+pub mod SafeOptimum
+pub mod Making
