@@ -47,7 +47,7 @@ pub record IsAnswer (t : Timing) (certificate : Certificate) : Type 0 where
   pub in_range : IsCertificateInRange certificate
 
 -- what differs by number, differs by link
-AllPairs-named : (links : List Link) (chain : List ℕ) → AllPairs (λ a b. (link_at links a).to ≢ (link_at links b).to) chain → AllPairs (λ (x y : Link). x.to ≢ y.to) (links_at links chain)
+pub AllPairs-named : (links : List Link) (chain : List ℕ) → AllPairs (λ a b. (link_at links a).to ≢ (link_at links b).to) chain → AllPairs (λ (x y : Link). x.to ≢ y.to) (links_at links chain)
 AllPairs-named links chain h i j k less inside e =
     let count = length-map chain (link_at links) in
     h i j 0 less (omega arith) (ap (λ (x : Link). x.to) (sym (get_or-map (link_at links) chain i 0 k (omega arith))) ∙ e ∙ ap (λ (x : Link). x.to) (get_or-map (link_at links) chain j 0 k (omega arith)))

@@ -1,6 +1,7 @@
 -- A chain's sums and its closing rest on no link's kind.
-use Rattle.std.proofs.Common.{◌≡◌, ℕ, ℤ, pos, ◌+ℤ◌, List, [], ◌∷◌, length, map, refl, ap, sym, ◌∙◌, subst}
-use Rattle.std.proofs.lemmas.List.{length-map}
+use Rattle.std.proofs.Common.{◌≡◌, ◌≢◌, ◌<◌, ℕ, ℤ, pos, ◌+ℤ◌, List, [], ◌∷◌, length, get_or, map, arith, refl, ap, sym, ◌∙◌, subst}
+use Rattle.std.specs.List.{AllPairs}
+use Rattle.std.proofs.lemmas.List.{length-map, get_or-map}
 use Rattle.mintc_timing.specs.declared.link.Link.{Link}
 use Rattle.mintc_timing.specs.Closed.{IsClosed, Joins}
 use Rattle.mintc_timing.specs.Links.{delay_of, cycles_of}
@@ -47,3 +48,14 @@ module _ (ks ls : List Link) (same : map bare ks ≡ map bare ls) where
 
   pub same_length : length ks ≡ length ls
   same_length = sym (length-map ks bare) ∙ ap (λ (x : List Link). length x) same ∙ length-map ls bare
+
+  -- the nodes that the links enter
+  to_at : (i : ℕ) (d : Link) → i < length ks → (get_or ks i d).to ≡ (get_or ls i d).to
+  to_at i d h =
+      let count = same_length in
+      ap (λ (k : Link). k.to) (sym (get_or-map bare ks i d d h)) ∙ ap (λ (x : List Link). (get_or x i d).to) same ∙ ap (λ (k : Link). k.to) (get_or-map bare ls i d d (omega arith))
+
+  pub same_once : AllPairs (λ (a b : Link). a.to ≢ b.to) ls → AllPairs (λ (a b : Link). a.to ≢ b.to) ks
+  same_once h i j d less inside e =
+      let count = same_length in
+      h i j d less (omega arith) (sym (to_at i d (omega arith)) ∙ e ∙ to_at j d inside)

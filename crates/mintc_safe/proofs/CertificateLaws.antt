@@ -21,6 +21,7 @@ use Rattle.mintc_ratio.specs.Searched.{HasSearched, IsLeast}
 use Rattle.mintc_ratio.proofs.SumsLaws.{few_links}
 use Rattle.mintc_certificate.specs.Ranges.{IsDeparture}
 use Rattle.mintc_optimise.specs.Making.{AreSayable}
+use Rattle.mintc_optimise.proofs.CertificateLaws.{AllPairs-named}
 use Rattle.mintc_optimise.proofs.EarliestLaws.{earliest}
 use Rattle.mintc_optimise.proofs.SayingLaws.{are_sayable}
 use Rattle.mintc_safe.specs.declared.members.SafeMember.{SafeMember}
@@ -28,9 +29,9 @@ use Rattle.mintc_safe.specs.declared.certificate.SafeCertificate.TheVariants.{Le
 use Rattle.mintc_safe.specs.Hold.{IsSafe}
 use Rattle.mintc_safe.specs.Making.{StandForAll}
 use Rattle.mintc_safe.specs.SafeLinks.{safe_links_of}
-use Rattle.mintc_safe.specs.SafeOptimum.{IsSafeChainInRange, IsSafeOptimum}
+use Rattle.mintc_safe.specs.SafeOptimum.{EntersOnce, IsSafeChainInRange, IsSafeOptimum}
 use Rattle.mintc_safe.specs.SafeValid.{IsSafeRing, link_of_safe, links_of_safe}
-use Rattle.mintc_safe.proofs.BareLaws.{AreClosed, same_closed, same_cycles, same_delay, same_length}
+use Rattle.mintc_safe.proofs.BareLaws.{AreClosed, same_closed, same_cycles, same_delay, same_length, same_once}
 use Rattle.mintc_safe.proofs.SafeLaws.{exact, greatest_are_safe_lem, safe_links_are_ordinary_lem, stuck_is_hopeless_for_hold_lem, tight_is_safe_cycle_lem}
 
 some_closed : (ks : List Link) → AreClosed ks → 1 ≤ length ks
@@ -64,6 +65,9 @@ module _ (t : Timing) (limits : IsDesign t.flat) (kept : IsTiming t.flat t.order
 
     ring : IsSafeRing t members
     ring = record { each = stand.each; closed = same_closed mine named_links stand.same named.chain.closed }
+
+    once : EntersOnce t members
+    once = same_once mine named_links stand.same (AllPairs-named (safe_links_of t) chain named.once)
 
     chain_in : IsSafeChainInRange members
     chain_in =
@@ -104,6 +108,7 @@ module _ (t : Timing) (limits : IsDesign t.flat) (kept : IsTiming t.flat t.order
                   found.chain.chain found.tight.turns found.tight.tight,
             );
             earliest = earliest t limits (safe_links_of t) cycle room.values found.cycle_is.lowest found.values;
+            simple = once room.chain found.chain members stand;
             in_range = record { schedule_in = schedule_in; count = omega arith; each = departures_in; chain_in = chain_in room.chain found.chain members stand };
           }
 
@@ -138,5 +143,6 @@ module _ (t : Timing) (limits : IsDesign t.flat) (kept : IsTiming t.flat t.order
             valid = record { ring = ring room.chain stuck.0 members stands; turns = cycles ∙ stuck.1.turns; stuck = rw delay stuck.1.stuck };
             optimal = stuck_is_hopeless_for_hold_lem t (links_at (safe_links_of t) room.chain) limits ends stuck.0.chain stuck.1.turns stuck.1.stuck;
             earliest = tt;
+            simple = once room.chain stuck.0 members stands;
             in_range = chain_in room.chain stuck.0 members stands;
           }

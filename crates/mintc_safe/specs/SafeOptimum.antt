@@ -1,4 +1,4 @@
-use Rattle.std.specs.Prelude.{◌≢◌, ◌≤◌, ℤ, List, [], length, All}
+use Rattle.std.specs.Prelude.{◌≢◌, ◌≤◌, ℤ, List, [], length, All, AllPairs}
 use Rattle.mintc_timing.specs.declared.clocking.Schedule.{Schedule}
 use Rattle.mintc_timing.specs.Design.{Timing}
 use Rattle.mintc_timing.specs.Fields.{IsCount}
@@ -11,13 +11,21 @@ use Rattle.mintc_safe.specs.declared.certificate.SafeCertificate.TheVariants.{Le
 use Rattle.mintc_safe.specs.declared.members.SafeMember.{SafeMember}
 use Rattle.mintc_safe.specs.declared.members.SafeMember.TheVariants.{Plain, Hold}
 use Rattle.mintc_safe.specs.SafeLinks.{safe_links_of}
-use Rattle.mintc_safe.specs.SafeValid.{IsSafeValid, IsSafeOptimal}
+use Rattle.mintc_safe.specs.SafeValid.{IsSafeValid, IsSafeOptimal, links_of_safe}
 
 -- Of all solutions of the safe links at its cycle time, the schedule with its departures is the earliest. The departure of a
 -- flop is 0, as it is exact.
 abbrev pub HasSafeEarliest : Timing → SafeCertificate → Type 0
 HasSafeEarliest t (Least schedule departures chain) = IsEarliest t (safe_links_of t) schedule departures
 HasSafeEarliest t (Never chain) = Unit {0}
+
+-- The chain enters no node twice.
+abbrev pub EntersOnce : Timing → List SafeMember → Type 0
+EntersOnce t chain = AllPairs (λ a b. a.to ≢ b.to) (links_of_safe t chain)
+
+abbrev pub HasSafeSimple : Timing → SafeCertificate → Type 0
+HasSafeSimple t (Least schedule departures chain) = EntersOnce t chain
+HasSafeSimple t (Never chain) = EntersOnce t chain
 
 -- The numbers of a member are counts, and a hold has an arc.
 abbrev pub IsSafeCounted : SafeMember → Type 0
@@ -47,4 +55,5 @@ pub record IsSafeOptimum (t : Timing) (certificate : SafeCertificate) : Type 0 w
   pub valid : IsSafeValid t certificate
   pub optimal : IsSafeOptimal t certificate
   pub earliest : HasSafeEarliest t certificate
+  pub simple : HasSafeSimple t certificate
   pub in_range : IsSafeInRange certificate

@@ -46,7 +46,7 @@ fn certificate(
 /// The least cycle time of a system that keeps every hold with each output as early as it can be, with its certificate: a
 /// right schedule of that cycle with its departures and a chain of safe links that forbids every smaller cycle time, or a
 /// chain that forbids all. Each such schedule passes. Its starts, its ends and the moments at which latches depart are the
-/// least that any solution of the safe links has. Which chain is given is free.
+/// least that any solution of the safe links has. The chain enters no node twice. Which chain is given is free.
 pub fn safe<L: Ledger>(
     alloc: Global,
     system: &System,
