@@ -27,6 +27,4 @@ pub use sums::{ChainSums, sums_of};
 pub use text_laws::{
     certificate_texts_are_canonical, certificate_texts_are_plain, written_certificates_are_read,
 };
-pub use writing::{
-    put_count_line, put_departures, put_member, put_path, put_schedule, write,
-};
+pub use writing::{put_count_line, put_departures, put_member, put_path, put_schedule, write};
