@@ -6,3 +6,4 @@ pub mod Alone
 pub mod Throughs
 pub mod ValidParts
 pub mod WorkedReports
+pub mod SummaryLaws

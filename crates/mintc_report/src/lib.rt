@@ -8,6 +8,7 @@ mod members;
 mod pass;
 mod refusals;
 mod report;
+mod summary;
 #[cfg(test)]
 mod tests;
 mod verdict;
@@ -18,4 +19,5 @@ pub use laws::{answers_are_determined, violations_name_pairs};
 pub use pass::pass_text;
 pub use refusals::refusal_text;
 pub use report::report_text;
+pub use summary::summary_text;
 pub use verdict::verdict_text;

@@ -17,7 +17,7 @@ use mintc_timing::{Element, Schedule, System};
 use std::alloc::Global;
 
 /// Writes the line of the cycle time.
-fn put_cycle(lines: &mut Lines, cycle: &Fraction) -> Result<(), OutOfMemory>
+pub(crate) fn put_cycle(lines: &mut Lines, cycle: &Fraction) -> Result<(), OutOfMemory>
     ensures { OnOk result (lines.new ≡ lines.old ++ ended (cycle_line (fraction_word cycle.now))) }
 {
     lines.put(b"cycle")?;
