@@ -1,9 +1,12 @@
 -- Answers over the files that a command names.
-use Rattle.std.proofs.Common.{◌≡◌, ◌≢◌, ◌+◌, ℕ, List, [], ◌∷◌, length, refl, sym, subst, arith, Option}
+use Rattle.std.proofs.Common.{◌≡◌, ◌≢◌, ◌+◌, ℕ, List, [], ◌∷◌, length, refl, sym, subst, arith, Option, Result, Ok, Err, IfOk}
 use Rattle.mintc_text.specs.Outside.{Files}
-use Rattle.mintc_command.specs.Answers.{AreFronts, IsDefined, IsNotRefused, IsComplete, IsAnswer, IsOfCommand}
+use Rattle.mintc_command.specs.Answers.{AreFronts, IsAnswerOn, IsDefined, IsNotRefused, IsComplete, IsAnswer, IsOfCommand}
 use Rattle.mintc_command.specs.Commands.{AreWordsOf}
+use Rattle.mintc_command.specs.Contents.{sample_texts}
+use Rattle.mintc_command.specs.declared.answer.Answer.{Answer}
 use Rattle.mintc_command.specs.declared.command.Command.{Command}
+use Rattle.mintc_command.specs.declared.command.Command.TheVariants.{Sample}
 use Rattle.mintc_command.specs.declared.reading.TheConstants.{LONGEST}
 use Rattle.mintc_command.specs.declared.status.Status.{Status}
 use Rattle.mintc_command.specs.declared.status.Status.TheVariants.{Done, Found, Refused, Usage, ReadFault, WriteFault, OutOfMemory}
@@ -72,3 +75,13 @@ as_many shelf most [] [] h = refl
 as_many shelf most [] (b ∷ files) h = absurd h
 as_many shelf most (a ∷ names) [] h = absurd h
 as_many shelf most (a ∷ names) (b ∷ files) h = let rest : length files ≡ length names = as_many shelf most names files h.1 in omega arith
+
+-- The answer on the texts of a sample is that of its command.
+pub sampled : {E : Type 0} (r : Result Answer E) (command : Command) (number : ℕ) (files texts : List (List ℕ)) → command ≡ Sample number → texts ≡ sample_texts number →
+    IfOk r (λ (a : Answer). IsAnswerOn (Sample number) texts a.status a.text) → IfOk r (λ (a : Answer). IsDefined command files a.status a.text)
+sampled (Err e) command number files texts is same h = tt
+sampled (Ok a) command number files texts is same h =
+    let P : List (List ℕ) → Type 0 = λ x. IsAnswerOn (Sample number) x a.status a.text in
+    let Q : Command → Type 0 = λ x. IsDefined x files a.status a.text in
+    let own : IsDefined (Sample number) files a.status a.text = subst P same h in
+    subst Q (sym is) own

@@ -6,3 +6,4 @@ pub mod SourceLaws
 pub mod JudgementLaws
 pub mod RefusalLaws
 pub mod OptimumLaws
+pub mod NumberLaws

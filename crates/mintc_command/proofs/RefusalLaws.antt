@@ -14,15 +14,15 @@ use Rattle.mintc_timing.specs.TextLaws.{HaveOneSchedule, HaveNoScheduleFault, Ha
 use Rattle.mintc_build.specs.Designs.{IsDesignRefusal}
 use Rattle.mintc_build.specs.Laws.{AcceptedAreNotRefused, DesignRefusalsAreDetermined, FilesHaveOneDesign, FilesHaveOneRefusal, FilesWithDesignAreNotRefused, IsLoopRefusal}
 use Rattle.mintc_certificate.specs.TextLaws.{HaveNoCertificateFault, HaveOneCertificateFault}
-use Rattle.mintc_command.specs.Answers.{IsContentAnswer, IsContentRefusal, IsFirstRefusal}
-use Rattle.mintc_command.specs.Commands.{roles_of}
+use Rattle.mintc_command.specs.Answers.{IsContentAnswer, IsContentRefusal, IsRefusalOn}
+use Rattle.mintc_command.specs.Contents.{content_roles, contents_of}
 use Rattle.mintc_command.specs.Jobs.{IsFileRefused, IsJobAnswer, IsScheduleOf, IsScheduleRefused}
 use Rattle.mintc_command.specs.Laws.{RefusalsExcludeAnswers, RefusalsAreDetermined}
 use Rattle.mintc_command.specs.Sources.{AreShort, Describes, Gives, HasNoDesign, IsLengthRefusal, IsSourceRefused, file_at, own_file}
 use Rattle.mintc_command.specs.declared.command.Command.{Command}
-use Rattle.mintc_command.specs.declared.command.Command.TheVariants.{OfDesign}
+use Rattle.mintc_command.specs.declared.command.Command.TheVariants.{OfDesign, Sample}
 use Rattle.mintc_command.specs.declared.command.Job.{Job}
-use Rattle.mintc_command.specs.declared.command.Job.TheVariants.{Check, Optimise, Verify, Report}
+use Rattle.mintc_command.specs.declared.command.Job.TheVariants.{Check, Optimise, Verify, Report, Safe, Slack}
 use Rattle.mintc_command.specs.declared.command.Source.{Source}
 use Rattle.mintc_command.specs.declared.command.Source.TheVariants.{Table, Files}
 use Rattle.mintc_command.specs.declared.reading.TheConstants.{LONGEST}
@@ -132,26 +132,29 @@ no_file law Check t u file refused status text same (s, is, h) g =
 no_file law Optimise t u file refused status text same h g = absurd g
 no_file law Verify t u file refused status text same (c, is, h) (n, named, fault) = law.no_certificate_fault file c n is fault
 no_file law Report t u file refused status text same h g = absurd g
+no_file law Safe t u file refused status text same h g = absurd g
+no_file law Slack t u file refused status text same h g = absurd g
 
 no_content : AreTextLaws → (command : Command) (files : List (List ℕ)) (refused : Refusal) (status : Status) (text : List ℕ) →
     IsContentAnswer command files status text → IsContentRefusal command files refused → ⊥
 no_content law (OfDesign job source) files refused status text (t, gives, h) (inl g) = no_source law source files t refused gives g
 no_content law (OfDesign job source) files refused status text (t, gives, h) (inr (u, gives_too, g)) =
     no_file law job t u (own_file source files) refused status text (one_count law source files u t gives_too gives) h g
+no_content law (Sample number) files refused status text (t, gives, h) g = no_source law Files files t refused gives g
 
-exclude : AreTextLaws → (command : Command) (files : List (List ℕ)) (refused : Refusal) (status : Status) (text : List ℕ) → IsFirstRefusal command files refused →
+exclude : AreTextLaws → (command : Command) (files : List (List ℕ)) (refused : Refusal) (status : Status) (text : List ℕ) → IsRefusalOn command files refused →
     AreShort files → IsContentAnswer command files status text → ⊥
-exclude law command files refused status text (inl h) short answer = no_length (roles_of command) files refused short h
+exclude law command files refused status text (inl h) short answer = no_length (content_roles command) files refused short h
 exclude law command files refused status text (inr (short_too, h)) short answer = no_content law command files refused status text answer h
 
 pub exclude_lem : AreTextLaws → RefusalsExcludeAnswers
 exclude_lem law command files refused Refused text first h = refl
-exclude_lem law command files refused Done text first h = absurd (exclude law command files refused Done text first h.0 h.1)
-exclude_lem law command files refused Found text first h = absurd (exclude law command files refused Found text first h.0 h.1)
-exclude_lem law command files refused Usage text first h = absurd (exclude law command files refused Usage text first h.0 h.1)
-exclude_lem law command files refused ReadFault text first h = absurd (exclude law command files refused ReadFault text first h.0 h.1)
-exclude_lem law command files refused WriteFault text first h = absurd (exclude law command files refused WriteFault text first h.0 h.1)
-exclude_lem law command files refused OutOfMemory text first h = absurd (exclude law command files refused OutOfMemory text first h.0 h.1)
+exclude_lem law command files refused Done text first h = absurd (exclude law command (contents_of command files) refused Done text first h.0 h.1)
+exclude_lem law command files refused Found text first h = absurd (exclude law command (contents_of command files) refused Found text first h.0 h.1)
+exclude_lem law command files refused Usage text first h = absurd (exclude law command (contents_of command files) refused Usage text first h.0 h.1)
+exclude_lem law command files refused ReadFault text first h = absurd (exclude law command (contents_of command files) refused ReadFault text first h.0 h.1)
+exclude_lem law command files refused WriteFault text first h = absurd (exclude law command (contents_of command files) refused WriteFault text first h.0 h.1)
+exclude_lem law command files refused OutOfMemory text first h = absurd (exclude law command (contents_of command files) refused OutOfMemory text first h.0 h.1)
 
 one_schedule_refusal : AreTextLaws → (schedule : List ℕ) (phases : ℕ) (refused other : Refusal) → IsScheduleRefused schedule phases refused →
     IsScheduleRefused schedule phases other → refused ≡ other
@@ -179,6 +182,8 @@ one_file law Optimise t u file refused other same a b = absurd a
 one_file law Verify t u file refused other same (n, a, fault) (m, b, other_fault) =
     a ∙ ap (λ (k : ℕ). refusal.Syntax role.Certificate k) (law.one_certificate_fault file n m fault other_fault) ∙ sym b
 one_file law Report t u file refused other same a b = absurd a
+one_file law Safe t u file refused other same a b = absurd a
+one_file law Slack t u file refused other same a b = absurd a
 
 one_content : AreTextLaws → DesignRefusalsAreDetermined → (command : Command) (files : List (List ℕ)) (refused other : Refusal) → IsContentRefusal command files refused →
     IsContentRefusal command files other → (refused ≡ other) ⊎ (IsLoopRefusal refused × IsLoopRefusal other)
@@ -187,9 +192,14 @@ one_content law one (OfDesign job source) files refused other (inl a) (inr (t, g
 one_content law one (OfDesign job source) files refused other (inr (t, gives, a)) (inl b) = absurd (no_source law source files t other gives b)
 one_content law one (OfDesign job source) files refused other (inr (t, gives, a)) (inr (u, gives_too, b)) =
     inl (one_file law job t u (own_file source files) refused other (one_count law source files u t gives_too gives) a b)
+one_content law one (Sample number) files refused other a b = one_source_refusal law one Files files refused other a b
+
+determined_on : AreTextLaws → DesignRefusalsAreDetermined → (command : Command) (files : List (List ℕ)) (refused other : Refusal) → IsRefusalOn command files refused →
+    IsRefusalOn command files other → (refused ≡ other) ⊎ (IsLoopRefusal refused × IsLoopRefusal other)
+determined_on law one command files refused other (inl a) (inl b) = inl (one_length (content_roles command) files refused other a b)
+determined_on law one command files refused other (inl a) (inr (short, b)) = absurd (no_length (content_roles command) files refused short a)
+determined_on law one command files refused other (inr (short, a)) (inl b) = absurd (no_length (content_roles command) files other short b)
+determined_on law one command files refused other (inr (short, a)) (inr (short_too, b)) = one_content law one command files refused other a b
 
 pub determined_lem : AreTextLaws → DesignRefusalsAreDetermined → RefusalsAreDetermined
-determined_lem law one command files refused other (inl a) (inl b) = inl (one_length (roles_of command) files refused other a b)
-determined_lem law one command files refused other (inl a) (inr (short, b)) = absurd (no_length (roles_of command) files refused short a)
-determined_lem law one command files refused other (inr (short, a)) (inl b) = absurd (no_length (roles_of command) files other short b)
-determined_lem law one command files refused other (inr (short, a)) (inr (short_too, b)) = one_content law one command files refused other a b
+determined_lem law one command files refused other a b = determined_on law one command (contents_of command files) refused other a b

@@ -6,11 +6,13 @@ use Rattle.mintc_text.specs.Outside.{Files, Holds, IsFront, Takes, TakesFront}
 use Rattle.mintc_text.specs.declared.refusals.Refusal.{Refusal}
 use Rattle.mintc_text.specs.Refusals.{refusal_line}
 use Rattle.mintc_timing.specs.Design.{Timing}
-use Rattle.mintc_command.specs.Commands.{AreWordsOf, IsCommand, roles_of}
-use Rattle.mintc_command.specs.Jobs.{IsJobAnswer, IsFileRefused}
+use Rattle.mintc_command.specs.Commands.{AreWordsOf, IsCommand}
+use Rattle.mintc_command.specs.Contents.{content_roles, contents_of}
+use Rattle.mintc_command.specs.Jobs.{IsJobAnswer, IsFileRefused, IsSummaryAnswer}
 use Rattle.mintc_command.specs.Sources.{AreShort, IsLengthRefusal, Gives, IsSourceRefused, own_file}
 use Rattle.mintc_command.specs.declared.command.Command.{Command}
-use Rattle.mintc_command.specs.declared.command.Command.TheVariants.{OfDesign}
+use Rattle.mintc_command.specs.declared.command.Command.TheVariants.{OfDesign, Sample}
+use Rattle.mintc_command.specs.declared.command.Source.TheVariants as source
 use Rattle.mintc_command.specs.declared.reading.TheConstants.{LONGEST}
 use Rattle.mintc_command.specs.declared.status.Status.{Status}
 use Rattle.mintc_command.specs.declared.status.Status.TheVariants.{Done, Found, Refused, Usage, ReadFault, WriteFault, OutOfMemory}
@@ -27,23 +29,33 @@ HoldsAll files names = All (Holds files) names
 abbrev pub AreFronts : Option Files → ℕ → List (List ℕ) → List (List ℕ) → Type 0
 AreFronts files most names fronts = AllZip (λ name front. IsFront files name most front) names fronts
 
--- The refusal of a command on files that aren't too long: of the design's, and then of the file beside them.
+-- The refusal of a command on texts that aren't too long: of the design's, and then of the file beside them.
 abbrev pub IsContentRefusal : Command → List (List ℕ) → Refusal → Type 0
-IsContentRefusal (OfDesign job source) files refused =
-    IsSourceRefused source files refused ⊎ ((t : Timing) × Gives source files t × IsFileRefused job t (own_file source files) refused)
+IsContentRefusal (OfDesign job from) texts refused =
+    IsSourceRefused from texts refused ⊎ ((t : Timing) × Gives from texts t × IsFileRefused job t (own_file from texts) refused)
+IsContentRefusal (Sample number) texts refused = IsSourceRefused source.Files texts refused
 
--- The first refusal of a command on the first bytes of its files, in the order of a run.
+-- The first refusal of a command on the texts that it works on, in the order of a run.
+abbrev pub IsRefusalOn : Command → List (List ℕ) → Refusal → Type 0
+IsRefusalOn command texts refused = IsLengthRefusal (content_roles command) texts refused ⊎ (AreShort texts × IsContentRefusal command texts refused)
+
+-- The first refusal of a command on the first bytes of its files.
 abbrev pub IsFirstRefusal : Command → List (List ℕ) → Refusal → Type 0
-IsFirstRefusal command files refused = IsLengthRefusal (roles_of command) files refused ⊎ (AreShort files × IsContentRefusal command files refused)
+IsFirstRefusal command files refused = IsRefusalOn command (contents_of command files) refused
 
--- The answer of a command on files of which none is refused: a status and a text.
+-- The answer of a command on texts of which none is refused: a status and a text.
 abbrev pub IsContentAnswer : Command → List (List ℕ) → Status → List ℕ → Type 0
-IsContentAnswer (OfDesign job source) files status text = (t : Timing) × Gives source files t × IsJobAnswer job t (own_file source files) status text
+IsContentAnswer (OfDesign job from) texts status text = (t : Timing) × Gives from texts t × IsJobAnswer job t (own_file from texts) status text
+IsContentAnswer (Sample number) texts status text = (t : Timing) × Gives source.Files texts t × IsSummaryAnswer number t status text
 
--- The defined answer of a command on the first bytes of its files: the line of the first refusal, or its answer.
+-- The answer of a command on the texts that it works on: the line of the first refusal, or what is answered where there is none.
+abbrev pub IsAnswerOn : Command → List (List ℕ) → Status → List ℕ → Type 0
+IsAnswerOn command texts Refused text = (refused : Refusal) × IsRefusalOn command texts refused × (text ≡ refusal_line refused)
+IsAnswerOn command texts status text = AreShort texts × IsContentAnswer command texts status text
+
+-- The defined answer of a command on the first bytes of its files.
 abbrev pub IsDefined : Command → List (List ℕ) → Status → List ℕ → Type 0
-IsDefined command files Refused text = (refused : Refusal) × IsFirstRefusal command files refused × (text ≡ refusal_line refused)
-IsDefined command files status text = AreShort files × IsContentAnswer command files status text
+IsDefined command files status text = IsAnswerOn command (contents_of command files) status text
 
 -- The status is that of an answer to a command.
 abbrev pub IsOfCommand : Status → Type 0

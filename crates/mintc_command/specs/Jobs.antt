@@ -23,8 +23,17 @@ use Rattle.mintc_checker.specs.Verdicts.{IsVerdict}
 use Rattle.mintc_optimise.specs.Optimum.{HasEarliest, HasSimple}
 use Rattle.mintc_report.specs.Answers.{IsPassText, IsFailText}
 use Rattle.mintc_report.specs.Reports.{IsReportText, verdict_text_of}
+use Rattle.mintc_report.specs.Summaries.{IsSummaryText}
+use Rattle.mintc_safe.specs.declared.certificate.SafeCertificate.{SafeCertificate}
+use Rattle.mintc_safe.specs.declared.certificate.SafeCertificate.TheVariants as kept
+use Rattle.mintc_safe.specs.SafeOptimum.{IsSafeOptimum}
+use Rattle.mintc_safe.specs.SafeText.{safe_lines}
+use Rattle.mintc_slack.specs.declared.finding.Slacks.{Slacks}
+use Rattle.mintc_slack.specs.declared.finding.Slacks.TheVariants as slacks
+use Rattle.mintc_slack.specs.Answers.{IsSlackAnswer}
+use Rattle.mintc_slack.specs.SlackText.{slack_lines}
 use Rattle.mintc_command.specs.declared.command.Job.{Job}
-use Rattle.mintc_command.specs.declared.command.Job.TheVariants.{Check, Optimise, Verify, Report}
+use Rattle.mintc_command.specs.declared.command.Job.TheVariants.{Check, Optimise, Verify, Report, Safe, Slack}
 use Rattle.mintc_command.specs.declared.status.Status.{Status}
 use Rattle.mintc_command.specs.declared.status.Status.TheVariants.{Done, Found}
 
@@ -56,7 +65,7 @@ pub record IsOptimum (t : Timing) (certificate : Certificate) : Type 0 where
   pub simple : HasSimple t certificate
   pub in_range : IsCertificateInRange certificate
 
--- how a run ends that has this certificate, and one that has this verdict
+-- how a run ends that has this certificate, this verdict, this safe certificate, or these slacks
 abbrev pub certificate_status : Certificate → Status
 certificate_status (Least schedule departures chain) = Done
 certificate_status (Never chain) = Found
@@ -65,12 +74,32 @@ abbrev pub verdict_status : Verdict → Status
 verdict_status Valid = Done
 verdict_status (Invalid n) = Found
 
+abbrev pub safe_status : SafeCertificate → Status
+safe_status (kept.Least schedule departures chain) = Done
+safe_status (kept.Never chain) = Found
+
+abbrev pub slack_status : Slacks → Status
+slack_status (slacks.Least cycle extra) = Done
+slack_status slacks.Never = Found
+
 -- The answers of `optimise` and `report`: the text of an optimum, and its report.
 abbrev pub IsOptimumAnswer : Timing → Status → List ℕ → Type 0
 IsOptimumAnswer t status text = (c : Certificate) × IsOptimum t c × (status ≡ certificate_status c) × (text ≡ text_of (lines_of c))
 
 abbrev pub IsReportAnswer : Timing → Status → List ℕ → Type 0
 IsReportAnswer t status text = (c : Certificate) × IsOptimum t c × (status ≡ certificate_status c) × IsReportText t c text
+
+-- The answer of `sample`: the summary of an optimum.
+abbrev pub IsSummaryAnswer : ℕ → Timing → Status → List ℕ → Type 0
+IsSummaryAnswer number t status text = (c : Certificate) × IsOptimum t c × (status ≡ certificate_status c) × IsSummaryText number t c text
+
+-- The answer of `safe`: the text of an optimum that keeps each hold.
+abbrev pub IsSafeJobAnswer : Timing → Status → List ℕ → Type 0
+IsSafeJobAnswer t status text = (c : SafeCertificate) × IsSafeOptimum t c × (status ≡ safe_status c) × (text ≡ text_of (safe_lines c))
+
+-- The answer of `slack`: the text of the slacks at the least cycle.
+abbrev pub IsSlackJobAnswer : Timing → Status → List ℕ → Type 0
+IsSlackJobAnswer t status text = (x : Slacks) × IsSlackAnswer t x × (status ≡ slack_status x) × (text ≡ text_of (slack_lines t x))
 
 -- The answer of `verify`: the verdict on a certificate.
 abbrev pub IsVerdictAnswer : Timing → Certificate → Status → List ℕ → Type 0
@@ -82,6 +111,8 @@ IsJobAnswer Check t file status text = (s : Schedule) × IsScheduleOf file (phas
 IsJobAnswer Optimise t file status text = IsOptimumAnswer t status text
 IsJobAnswer Verify t file status text = (c : Certificate) × IsCertificateText file c × IsVerdictAnswer t c status text
 IsJobAnswer Report t file status text = IsReportAnswer t status text
+IsJobAnswer Safe t file status text = IsSafeJobAnswer t status text
+IsJobAnswer Slack t file status text = IsSlackJobAnswer t status text
 
 -- Why the file that stands beside the design's is refused.
 abbrev pub IsFileRefused : Job → Timing → List ℕ → Refusal → Type 0
@@ -89,3 +120,5 @@ IsFileRefused Check t file refused = IsScheduleRefused file (phase_count t) refu
 IsFileRefused Optimise t file refused = ⊥
 IsFileRefused Verify t file refused = IsCertificateRefusal file refused
 IsFileRefused Report t file refused = ⊥
+IsFileRefused Safe t file refused = ⊥
+IsFileRefused Slack t file refused = ⊥

@@ -1,5 +1,6 @@
 pub mod Statuses
 pub mod Commands
+pub mod Contents
 pub mod Sources
 pub mod Jobs
 pub mod Answers

@@ -2,20 +2,24 @@
 ghost use Rattle.std.specs.Prelude.{◌≡◌, ◌≤◌, length, IfOk, IfErr};
 ghost use Rattle.mintc_text.specs.Refusals.{refusal_line};
 ghost use Rattle.mintc_text.specs.Stops.{StopsAt};
-ghost use Rattle.mintc_command.specs.Answers.{IsContentAnswer, IsContentRefusal, IsDefined, IsOfCommand};
+ghost use Rattle.mintc_command.specs.Answers.{IsAnswerOn, IsContentAnswer, IsContentRefusal, IsDefined, IsOfCommand};
 ghost use Rattle.mintc_command.specs.Commands.{roles_of};
+ghost use Rattle.mintc_command.specs.Contents.{content_roles, sample_texts};
 ghost use Rattle.mintc_command.specs.Jobs.{IsFileRefused, IsJobAnswer};
 ghost use Rattle.mintc_command.specs.Sources.{AreShort};
 
 use crate::answer::Answer;
 use crate::checking::checked;
-use crate::command::{Command, Job};
-use crate::optimum::{optimised, reported};
+use crate::command::{Command, Job, Source};
+use crate::keeping::kept;
+use crate::optimum::{optimised, reported, summarised};
 use crate::reading::LONGEST;
+use crate::slacks::slacked;
 use crate::source::{own_file, system_of, too_long};
 use crate::status::Status;
 use crate::verifying::verified;
 use mintc_report::refusal_text;
+use mintc_sample::files;
 use mintc_text::{Bytes, OutOfMemory, Refusal, Stop};
 use mintc_timing::System;
 use std::alloc::Global;
@@ -43,6 +47,8 @@ fn answered(alloc: Global, job: Job, system: &System, file: &[u8]) -> Result<Ans
         Job::Verify => return verified(alloc, system, file),
         Job::Optimise => optimised(alloc, system),
         Job::Report => reported(alloc, system),
+        Job::Safe => kept(alloc, system),
+        Job::Slack => slacked(alloc, system),
     };
     match answer {
         Ok(answer) => Ok(answer),
@@ -50,34 +56,86 @@ fn answered(alloc: Global, job: Job, system: &System, file: &[u8]) -> Result<Ans
     }
 }
 
-/// The answer to a command on files that aren't too long, or their first refusal.
-fn content_answer(alloc: Global, command: Command, files: &[Bytes]) -> Result<Answer, Stop>
-    requires count { length files.now ≡ length (roles_of command) }
-    requires short { AreShort files.now }
-    ensures value { IfOk result (λ answer. IsContentAnswer command files.now answer.status answer.text) }
-    ensures stop { IfErr result (StopsAt (IsContentRefusal command files.now)) }
+/// The answer to a job on the texts of a design and of the file beside them, none of them too long, or their first refusal.
+fn design_answer(alloc: Global, job: Job, source: Source, texts: &[Bytes]) -> Result<Answer, Stop>
+    requires count { length texts.now ≡ length (content_roles (Command.OfDesign job source)) }
+    requires short { AreShort texts.now }
+    ensures value { IfOk result (λ answer. IsContentAnswer (Command.OfDesign job source) texts.now answer.status answer.text) }
+    ensures stop { IfErr result (StopsAt (IsContentRefusal (Command.OfDesign job source) texts.now)) }
 {
-    let Command::OfDesign { job, source } = command;
-    let system = match system_of(alloc, source, files) {
+    let system = match system_of(alloc, source, texts) {
         Ok(system) => system,
         Err(stop) => return Err(stop),
     };
-    answered(alloc, job, &system, own_file(source, files))
+    answered(alloc, job, &system, own_file(source, texts))
 }
 
-/// The answer to a command, of the bytes of its files: the line of their first refusal, or what is answered where nothing
+/// The summary of a sample from its texts, none of them too long, or their first refusal.
+fn sample_answer(alloc: Global, number: u64, texts: &[Bytes]) -> Result<Answer, Stop>
+    requires count { length texts.now ≡ length (content_roles (Command.Sample number)) }
+    requires short { AreShort texts.now }
+    ensures value { IfOk result (λ answer. IsContentAnswer (Command.Sample number) texts.now answer.status answer.text) }
+    ensures stop { IfErr result (StopsAt (IsContentRefusal (Command.Sample number) texts.now)) }
+{
+    let system = match system_of(alloc, Source::Files, texts) {
+        Ok(system) => system,
+        Err(stop) => return Err(stop),
+    };
+    match summarised(alloc, number, &system) {
+        Ok(answer) => Ok(answer),
+        Err(OutOfMemory) => Err(Stop::OutOfMemory),
+    }
+}
+
+/// The answer to a command on texts that aren't too long, or their first refusal.
+fn content_answer(alloc: Global, command: Command, texts: &[Bytes]) -> Result<Answer, Stop>
+    requires count { length texts.now ≡ length (content_roles command) }
+    requires short { AreShort texts.now }
+    ensures value { IfOk result (λ answer. IsContentAnswer command texts.now answer.status answer.text) }
+    ensures stop { IfErr result (StopsAt (IsContentRefusal command texts.now)) }
+{
+    match command {
+        Command::OfDesign { job, source } => design_answer(alloc, job, source, texts),
+        Command::Sample { number } => sample_answer(alloc, number, texts),
+    }
+}
+
+/// The answer to a command on the texts that it works on: the line of their first refusal, or what is answered where nothing
 /// is refused.
+fn answer_on(alloc: Global, command: Command, texts: &[Bytes]) -> Result<Answer, OutOfMemory>
+    requires { length texts.now ≡ length (content_roles command) }
+    ensures value { IfOk result (λ answer. IsAnswerOn command texts.now answer.status answer.text) }
+    ensures status { IfOk result (λ answer. IsOfCommand answer.status) }
+{
+    if let Some(refusal) = too_long(command.content_roles(), texts) {
+        return refused(alloc, &refusal);
+    }
+    match content_answer(alloc, command, texts) {
+        Ok(answer) => Ok(answer),
+        Err(Stop::Refused(refusal)) => refused(alloc, &refusal),
+        Err(Stop::OutOfMemory) => Err(OutOfMemory),
+    }
+}
+
+/// The texts of the sample of a number, in the order of the files that they stand for.
+fn sample_texts(alloc: Global, number: u64) -> Result<[Bytes; 4], OutOfMemory>
+    ensures { IfOk result (λ texts. texts ≡ sample_texts number) }
+{
+    let sample = files(alloc, number)?;
+    Ok([sample.netlist, sample.delays, sample.cells, sample.clock])
+}
+
+/// The answer to a command, of the bytes of its files.
 pub fn answer_to(alloc: Global, command: Command, files: &[Bytes]) -> Result<Answer, OutOfMemory>
     requires { length files.now ≡ length (roles_of command) }
     ensures defined { IfOk result (λ answer. IsDefined command files.now answer.status answer.text) }
     ensures status { IfOk result (λ answer. IsOfCommand answer.status) }
 {
-    if let Some(refusal) = too_long(command.roles(), files) {
-        return refused(alloc, &refusal);
-    }
-    match content_answer(alloc, command, files) {
-        Ok(answer) => Ok(answer),
-        Err(Stop::Refused(refusal)) => refused(alloc, &refusal),
-        Err(Stop::OutOfMemory) => Err(OutOfMemory),
+    match command {
+        Command::OfDesign { .. } => answer_on(alloc, command, files),
+        Command::Sample { number } => {
+            let texts = sample_texts(alloc, number)?;
+            answer_on(alloc, Command::Sample { number }, texts.as_slice())
+        }
     }
 }

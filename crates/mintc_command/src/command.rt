@@ -1,7 +1,9 @@
 //! Which words are a command, and which one.
-ghost use Rattle.std.specs.Prelude.{◌≡◌, ◌≢◌, MatchOption, drop};
+ghost use Rattle.std.specs.Prelude.{◌≡◌, ◌≢◌, ◌<◌, ◌^◌, ◌∷◌, [], ℕ, MatchOption, decimal, drop};
+ghost use Rattle.mintc_command.specs.declared.command.Command.{Command};
 ghost use Rattle.mintc_command.specs.declared.command.Job.{Job};
-ghost use Rattle.mintc_command.specs.Commands.{bytes_of, job_word, source_word, roles_of, AreWordsOf, IsCommand};
+ghost use Rattle.mintc_command.specs.Commands.{bytes_of, job_word, source_word, roles_of, words_of, AreWordsOf, IsCommand, IsNumberInRange};
+ghost use Rattle.mintc_command.specs.Contents.{content_roles};
 
 use mintc_text::Role;
 
@@ -16,6 +18,10 @@ pub enum Job {
     Verify,
     /// For the least cycle time and what is critical, to be read.
     Report,
+    /// For the least cycle time that keeps every hold, as a certificate.
+    Safe,
+    /// For how much the delay of each pair may grow at the least cycle time.
+    Slack,
 }
 
 /// What a design is read from.
@@ -32,6 +38,8 @@ pub enum Source {
 pub enum Command {
     /// Something is asked of one design.
     OfDesign { job: Job, source: Source },
+    /// For a summary of the sample of a number, a large design that needs no file.
+    Sample { number: u64 },
 }
 
 impl Command {
@@ -39,11 +47,30 @@ impl Command {
     pub fn roles(&self) -> &'static [Role]
         ensures { result.now ≡ roles_of self.now }
     {
-        let Command::OfDesign { job, source } = *self;
-        match source {
-            Source::Table => table_roles(job),
-            Source::Files => files_roles(job),
+        match *self {
+            Command::OfDesign { job, source } => design_roles(job, source),
+            Command::Sample { .. } => &[],
         }
+    }
+
+    /// What each of the texts holds that it works on: those of its files, or of its sample.
+    pub fn content_roles(&self) -> &'static [Role]
+        ensures { result.now ≡ content_roles self.now }
+    {
+        match *self {
+            Command::OfDesign { job, source } => design_roles(job, source),
+            Command::Sample { .. } => files_roles(Job::Optimise),
+        }
+    }
+}
+
+/// What the files of a design hold, and the file beside them.
+fn design_roles(job: Job, source: Source) -> &'static [Role]
+    ensures { result.now ≡ roles_of (Command.OfDesign job source) }
+{
+    match source {
+        Source::Table => table_roles(job),
+        Source::Files => files_roles(job),
     }
 }
 
@@ -54,7 +81,7 @@ fn table_roles(job: Job) -> &'static [Role]
     match job {
         Job::Check => &[Role::Table, Role::Schedule],
         Job::Verify => &[Role::Table, Role::Certificate],
-        Job::Optimise | Job::Report => &[Role::Table],
+        Job::Optimise | Job::Report | Job::Safe | Job::Slack => &[Role::Table],
     }
 }
 
@@ -77,7 +104,9 @@ fn files_roles(job: Job) -> &'static [Role]
             Role::Clock,
             Role::Certificate,
         ],
-        Job::Optimise | Job::Report => &[Role::Netlist, Role::Delays, Role::Cells, Role::Clock],
+        Job::Optimise | Job::Report | Job::Safe | Job::Slack => {
+            &[Role::Netlist, Role::Delays, Role::Cells, Role::Clock]
+        }
     }
 }
 
@@ -90,6 +119,8 @@ fn job_of(word: &str) -> Option<Job>
         "optimise" => Some(Job::Optimise),
         "verify" => Some(Job::Verify),
         "report" => Some(Job::Report),
+        "safe" => Some(Job::Safe),
+        "slack" => Some(Job::Slack),
         _ => None,
     }
 }
@@ -105,6 +136,34 @@ fn source_of(word: &str) -> Option<Source>
     }
 }
 
+/// The number that a canonical numeral writes, from 0 to 18446744073709551615.
+fn sample_number(word: &str) -> Option<u64>
+    ensures { MatchOption result ((n : ℕ) → n < 2 ^ 64 → word.now ≢ decimal n) (λ n. word.now ≡ decimal n) }
+{
+    let bytes = word.as_bytes();
+    if bytes.is_empty() || bytes[0] == b'+' || (bytes[0] == b'0' && bytes.len() > 1) {
+        return None;
+    }
+    match word.parse::<u64>() {
+        Ok(number) => Some(number),
+        Err(_) => None,
+    }
+}
+
+/// The command that begins with two words.
+fn command_by(first: &str, second: &str) -> Option<Command>
+    ensures { MatchOption result ((command : Command) → IsNumberInRange command → first.now ∷ second.now ∷ [] ≢ words_of command)
+        (λ command. (first.now ∷ second.now ∷ [] ≡ words_of command) × IsNumberInRange command) }
+{
+    if first == "sample" {
+        let number = sample_number(second)?;
+        return Some(Command::Sample { number });
+    }
+    let job = job_of(first)?;
+    let source = source_of(second)?;
+    Some(Command::OfDesign { job, source })
+}
+
 /// The command that the words are. The names of its files are the words from the third one on.
 pub fn command_of(words: &[String]) -> Option<Command>
     ensures { MatchOption result (IsCommand (bytes_of words.now) → ⊥) (λ command. AreWordsOf command (bytes_of (drop 2 words.now)) (bytes_of words.now)) }
@@ -112,10 +171,7 @@ pub fn command_of(words: &[String]) -> Option<Command>
     if words.len() < 2 {
         return None;
     }
-    let command = Command::OfDesign {
-        job: job_of(words[0].as_str())?,
-        source: source_of(words[1].as_str())?,
-    };
+    let command = command_by(words[0].as_str(), words[1].as_str())?;
     if words.len() - 2 == command.roles().len() {
         Some(command)
     } else {

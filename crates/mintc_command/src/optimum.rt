@@ -1,13 +1,13 @@
-//! The answers of `optimise` and of `report`: the least cycle time with its certificate.
+//! The answers of `optimise`, of `report` and of `sample`: the least cycle time with its certificate.
 ghost use Rattle.std.specs.Prelude.{◌≡◌, ◌<◌, IfOk};
 ghost use Rattle.mintc_certificate.specs.Ranges.{IsCertificateInRange};
-ghost use Rattle.mintc_command.specs.Jobs.{IsOptimum, IsOptimumAnswer, IsReportAnswer, certificate_status};
+ghost use Rattle.mintc_command.specs.Jobs.{IsOptimum, IsOptimumAnswer, IsReportAnswer, IsSummaryAnswer, certificate_status};
 
 use crate::answer::Answer;
 use crate::status::Status;
 use mintc_certificate::{Certificate, write};
 use mintc_optimise::optimise;
-use mintc_report::report_text;
+use mintc_report::{report_text, summary_text};
 use mintc_text::{Bytes, OutOfMemory};
 use mintc_timing::System;
 use mintc_walks::Steps;
@@ -67,6 +67,18 @@ pub fn reported(alloc: Global, system: &System) -> Result<Answer, OutOfMemory>
 {
     let certificate = optimum(alloc, system)?;
     let text = report_text(alloc, system, &certificate)?;
+    Ok(Answer {
+        status: status_of(&certificate),
+        text: Bytes::new(text),
+    })
+}
+
+/// The summary of the sample of a number, whose system this is.
+pub fn summarised(alloc: Global, number: u64, system: &System) -> Result<Answer, OutOfMemory>
+    ensures { IfOk result (λ answer. IsSummaryAnswer number system.now answer.status answer.text) }
+{
+    let certificate = optimum(alloc, system)?;
+    let text = summary_text(alloc, number, system, &certificate)?;
     Ok(Answer {
         status: status_of(&certificate),
         text: Bytes::new(text),

@@ -1,5 +1,5 @@
 //! Reading the files that a command names.
-ghost use Rattle.std.specs.Prelude.{◌≡◌, ◌≢◌, ◌+◌, ◌≤◌, length, IfOk, OnOk, Err};
+ghost use Rattle.std.specs.Prelude.{◌≡◌, ◌≢◌, ◌+◌, ◌≤◌, [], length, IfOk, OnOk, Err};
 ghost use Rattle.mintc_text.specs.Outside.{Rose};
 ghost use Rattle.mintc_command.specs.Answers.{AreFronts, HoldsAll, MakesAtMost};
 ghost use Rattle.mintc_command.specs.Commands.{bytes_of};
@@ -21,6 +21,7 @@ pub fn read_files<S: Shelf>(
     ensures same { S.files shelf.new ≡ S.files shelf.old }
     ensures later { S.faults shelf.old ≤ S.faults shelf.new }
     ensures cause { result ≡ Err ShelfError.Failed → Rose (S.faults shelf.old) (S.faults shelf.new) }
+    ensures some { result ≡ Err ShelfError.Failed → bytes_of names.now ≢ [] }
     ensures sound { S.is_sound shelf.old → HoldsAll (S.files shelf.old) (bytes_of names.now) → result ≢ Err ShelfError.Failed }
     ensures reads { MakesAtMost (length names.now) (S.calls shelf.old) (S.calls shelf.new) }
 {

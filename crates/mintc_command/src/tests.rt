@@ -3,6 +3,7 @@
 mod examples;
 mod files;
 mod rows;
+mod samples;
 
 use crate::{Status, run};
 use examples::EXAMPLES;
@@ -34,7 +35,7 @@ fn run_over(
     for word in line.split_whitespace() {
         words.push(String::from_str(alloc, word)?)?;
     }
-    let mut sink = MemorySink::new(alloc, 100_000, failing_write)?;
+    let mut sink = MemorySink::new(alloc, 1_000_000, failing_write)?;
     let status = run(alloc, words.as_slice(), shelf, &mut sink);
     Ok((status, Vec::from_slice(alloc, sink.taken())?))
 }
@@ -226,13 +227,17 @@ fn one_past_the_limits(rt: HostRuntime) -> Result<(), Fail> {
 }
 
 /// A run of each command, and how many files it names.
-const RUNS: [(&str, u32); 6] = [
+const RUNS: [(&str, u32); 10] = [
     (CHECK, 2),
     ("optimise table TAB1", 1),
     ("verify table TAB1 CERT1", 2),
     ("report table TAB1", 1),
     ("optimise files two.v two.sdf two.cells two.clock", 4),
     ("check files two.v two.sdf two.cells two.clock SCH1", 5),
+    ("safe table TAB1", 1),
+    ("safe files two.v two.sdf two.cells two.clock", 4),
+    ("slack table TAB1", 1),
+    ("slack files two.v two.sdf two.cells two.clock", 4),
 ];
 
 // Rows failing-read and every-read-fails. The shelf's next calls have the numbers after the one that failed: so no read

@@ -12,7 +12,7 @@ pub struct Example {
     pub answer: &'static str,
 }
 
-pub const EXAMPLES: [Example; 19] = [
+pub const EXAMPLES: [Example; 21] = [
     Example {
         name: "borrowed-loop",
         words: "optimise table loop.table",
@@ -126,6 +126,16 @@ pub const EXAMPLES: [Example; 19] = [
         answer: "never\nchain 2 delay 5000 cycles 0\nwidth pulse delay 80000 cycles 0\nbound 1 delay -75000 cycles 0\n",
     },
     Example {
+        name: "safe",
+        words: "safe table hold.table",
+        files: &[(
+            "hold.table",
+            "table 1\nphases 1\nphase p\nelements 2\nelement a 1 0 18 0 0 0\nelement b 1 0 - 0 0 0\ninner 0\narcs 2\narc q0 d1 31 31\narc q1 d0 20 20\nbounds 0\nend\n",
+        )],
+        status: Status::Done,
+        answer: "safe 1\nleast\nden 1\ncycle 29\nphases 1\nphase 0 2\ndepartures 2\ndeparture 0\ndeparture 2\nchain 4\nopen 0\nreach 0 1 1 0\nsetup 1\nhold 1 0 1 1\nend\n",
+    },
+    Example {
         name: "shift-register",
         words: "check table shift.table shift.schedule",
         files: &[
@@ -140,6 +150,16 @@ pub const EXAMPLES: [Example; 19] = [
         ],
         status: Status::Found,
         answer: "fail\nviolated hold 1 by 110000/3\n",
+    },
+    Example {
+        name: "slack",
+        words: "slack table own.table",
+        files: &[(
+            "own.table",
+            "table 1\nphases 2\nphase phi1\nphase phi2\nelements 2\nelement a 1 10 - 10 10 0\nelement b 2 10 - 10 10 0\ninner 0\narcs 3\narc q0 d1 20 20\narc q1 d0 60 60\narc q0 d0 5 5\nbounds 0\nend\n",
+        )],
+        status: Status::Done,
+        answer: "cycle 100/1\nslack a a 85\nslack a b 0\nslack b a 0\n",
     },
     Example {
         name: "two-by-files",

@@ -1,7 +1,7 @@
 //! The files of the rows.
 
 /// The files of the rows, each a name and its bytes.
-pub const FILES: [(&str, &str); 30] = [
+pub const FILES: [(&str, &str); 34] = [
     (
         "TAB1",
         "table 1\nphases 2\nphase phi1\nphase phi2\nelements 2\nelement a 1 10 - 10 10 0\nelement b 2 10 - 10 10 0\ninner 0\narcs 2\narc q0 d1 20 20\narc q1 d0 60 60\nbounds 0\nend\n",
@@ -102,6 +102,22 @@ pub const FILES: [(&str, &str); 30] = [
     (
         "paths.table",
         "table 1\nphases 1\nphase p\nelements 2\nelement a 1 0 - 0 0 0\nelement b 1 0 - 0 0 0\ninner 1\narcs 3\narc q0 d1 20 20\narc q0 n0 1 1\narc n0 d1 2 2\nbounds 0\nend\n",
+    ),
+    (
+        "own.table",
+        "table 1\nphases 2\nphase phi1\nphase phi2\nelements 2\nelement a 1 10 - 10 10 0\nelement b 2 10 - 10 10 0\ninner 0\narcs 3\narc q0 d1 20 20\narc q1 d0 60 60\narc q0 d0 5 5\nbounds 0\nend\n",
+    ),
+    (
+        "half-own.table",
+        "table 1\nphases 1\nphase p\nelements 2\nelement a 1 0 - 0 0 0\nelement b 1 0 - 0 0 0\ninner 0\narcs 3\narc q0 d1 31 31\narc q1 d0 20 20\narc q1 d1 20 20\nbounds 0\nend\n",
+    ),
+    (
+        "half-hold.table",
+        "table 1\nphases 1\nphase p\nelements 2\nelement a 1 0 18 0 0 0\nelement b 1 0 - 0 0 0\ninner 0\narcs 2\narc q0 d1 31 31\narc q1 d0 20 20\nbounds 0\nend\n",
+    ),
+    (
+        "half-never.table",
+        "table 1\nphases 1\nphase p\nelements 2\nelement a 1 0 21 0 0 0\nelement b 1 0 - 0 0 0\ninner 0\narcs 2\narc q0 d1 31 31\narc q1 d0 20 20\nbounds 0\nend\n",
     ),
     (
         "two.v",

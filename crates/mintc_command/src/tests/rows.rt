@@ -19,7 +19,7 @@ pub struct Row {
     pub ends: &'static [&'static str],
 }
 
-pub const ROWS: [Row; 39] = [
+pub const ROWS: [Row; 51] = [
     Row {
         name: "check-two-latch-loop",
         words: "check table TAB1 SCH1",
@@ -342,5 +342,100 @@ pub const ROWS: [Row; 39] = [
         status: Status::Done,
         front: "",
         ends: &["pass\nelement u1.l[0] late 0/1 early 0/1\nelement u2.l[0] late 20/1 early 20/1\n"],
+    },
+    Row {
+        name: "safe-half-step",
+        words: "safe table half-hold.table",
+        status: Status::Done,
+        front: "safe 1\nleast\nden 1\ncycle 29\nphases 1\nphase 0 2\ndepartures 2\ndeparture 0\ndeparture 2\nchain 4\n",
+        ends: &[
+            "open 0\nreach 0 1 1 0\nsetup 1\nhold 1 0 1 1\nend\n",
+            "reach 0 1 1 0\nsetup 1\nhold 1 0 1 1\nopen 0\nend\n",
+            "setup 1\nhold 1 0 1 1\nopen 0\nreach 0 1 1 0\nend\n",
+            "hold 1 0 1 1\nopen 0\nreach 0 1 1 0\nsetup 1\nend\n",
+        ],
+    },
+    Row {
+        name: "safe-never",
+        words: "safe table half-never.table",
+        status: Status::Found,
+        front: "safe 1\nnever\nchain 2\n",
+        ends: &[
+            "width 1\nhold 1 0 1 1\nend\n",
+            "hold 1 0 1 1\nwidth 1\nend\n",
+        ],
+    },
+    Row {
+        name: "safe-of-files",
+        words: "safe files two.v two.sdf two.cells two.clock",
+        status: Status::Done,
+        front: "safe 1\nleast\nden 1\ncycle 100\nphases 2\nphase 0 10\nphase 10 30\ndepartures 2\ndeparture 0\ndeparture 20\nchain 2\n",
+        ends: &[
+            "reach 0 1 11 22 6 7 9 23 10 8 3 12 14 24\nreach 1 0 11 25 16 17 19 26 20 18 13 2 4 21\nend\n",
+            "reach 1 0 11 25 16 17 19 26 20 18 13 2 4 21\nreach 0 1 11 22 6 7 9 23 10 8 3 12 14 24\nend\n",
+        ],
+    },
+    Row {
+        name: "slack-own-loop",
+        words: "slack table own.table",
+        status: Status::Done,
+        front: "",
+        ends: &["cycle 100/1\nslack a a 85\nslack a b 0\nslack b a 0\n"],
+    },
+    Row {
+        name: "slack-half-step",
+        words: "slack table half-own.table",
+        status: Status::Done,
+        front: "",
+        ends: &["cycle 51/2\nslack a b 0\nslack b a 0\nslack b b 5\n"],
+    },
+    Row {
+        name: "slack-never",
+        words: "slack table never.table",
+        status: Status::Found,
+        front: "",
+        ends: &["never\n"],
+    },
+    Row {
+        name: "slack-of-files",
+        words: "slack files two.v two.sdf two.cells two.clock",
+        status: Status::Done,
+        front: "",
+        ends: &["cycle 100/1\nslack u1.l[0] u2.l[0] 0\nslack u2.l[0] u1.l[0] 0\n"],
+    },
+    Row {
+        name: "usage-words",
+        words: "sample",
+        status: Status::Usage,
+        front: "",
+        ends: &[USAGE],
+    },
+    Row {
+        name: "usage-words",
+        words: "sample 07",
+        status: Status::Usage,
+        front: "",
+        ends: &[USAGE],
+    },
+    Row {
+        name: "usage-words",
+        words: "sample +7",
+        status: Status::Usage,
+        front: "",
+        ends: &[USAGE],
+    },
+    Row {
+        name: "usage-words",
+        words: "sample 18446744073709551616",
+        status: Status::Usage,
+        front: "",
+        ends: &[USAGE],
+    },
+    Row {
+        name: "usage-words",
+        words: "sample 7 8",
+        status: Status::Usage,
+        front: "",
+        ends: &[USAGE],
     },
 ];
