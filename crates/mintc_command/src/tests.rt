@@ -7,9 +7,9 @@ mod samples;
 
 use crate::{Status, run};
 use examples::EXAMPLES;
-use files::{CERTIFICATES, FILES};
+use files::{CERTIFICATES, FILES, FURTHER_FILES};
 use mintc_text::{MemoryShelf, MemorySink, Name, Numbers, Shelf};
-use rows::{CHECK, PASS, ROWS, Row};
+use rows::{CHECK, FURTHER, OVER_FILES, PASS, ROWS, Row};
 use std::alloc::{AllocError, Global};
 use std::test::Fail;
 
@@ -52,6 +52,40 @@ fn is_of_row(row: &Row, text: &[u8]) -> bool {
 fn worked_rows(rt: HostRuntime) -> Result<(), Fail> {
     let alloc = rt.alloc();
     for row in &ROWS {
+        let mut shelf = shelf_of(alloc, &FILES, &[])?;
+        let (status, taken) = run_over(alloc, &mut shelf, row.words, None)?;
+        assert_eq!(rt; status, row.status, "{} {}", row.name, row.words);
+        assert!(rt;
+            is_of_row(row, taken.as_slice()),
+            "{} {}",
+            row.name,
+            row.words
+        );
+    }
+    Ok(())
+}
+
+#[test]
+fn further_rows(rt: HostRuntime) -> Result<(), Fail> {
+    let alloc = rt.alloc();
+    for row in &FURTHER {
+        let mut shelf = shelf_of(alloc, &FURTHER_FILES, &[])?;
+        let (status, taken) = run_over(alloc, &mut shelf, row.words, None)?;
+        assert_eq!(rt; status, row.status, "{} {}", row.name, row.words);
+        assert!(rt;
+            is_of_row(row, taken.as_slice()),
+            "{} {}",
+            row.name,
+            row.words
+        );
+    }
+    Ok(())
+}
+
+#[test]
+fn rows_over_files(rt: HostRuntime) -> Result<(), Fail> {
+    let alloc = rt.alloc();
+    for row in &OVER_FILES {
         let mut shelf = shelf_of(alloc, &FILES, &[])?;
         let (status, taken) = run_over(alloc, &mut shelf, row.words, None)?;
         assert_eq!(rt; status, row.status, "{} {}", row.name, row.words);

@@ -19,7 +19,7 @@ pub struct Row {
     pub ends: &'static [&'static str],
 }
 
-pub const ROWS: [Row; 51] = [
+pub const ROWS: [Row; 39] = [
     Row {
         name: "check-two-latch-loop",
         words: "check table TAB1 SCH1",
@@ -343,6 +343,10 @@ pub const ROWS: [Row; 51] = [
         front: "",
         ends: &["pass\nelement u1.l[0] late 0/1 early 0/1\nelement u2.l[0] late 20/1 early 20/1\n"],
     },
+];
+
+/// Rows of `safe` and `slack`, and words that are no command, over files of their own.
+pub const FURTHER: [Row; 9] = [
     Row {
         name: "safe-half-step",
         words: "safe table half-hold.table",
@@ -366,16 +370,6 @@ pub const ROWS: [Row; 51] = [
         ],
     },
     Row {
-        name: "safe-of-files",
-        words: "safe files two.v two.sdf two.cells two.clock",
-        status: Status::Done,
-        front: "safe 1\nleast\nden 1\ncycle 100\nphases 2\nphase 0 10\nphase 10 30\ndepartures 2\ndeparture 0\ndeparture 20\nchain 2\n",
-        ends: &[
-            "reach 0 1 11 22 6 7 9 23 10 8 3 12 14 24\nreach 1 0 11 25 16 17 19 26 20 18 13 2 4 21\nend\n",
-            "reach 1 0 11 25 16 17 19 26 20 18 13 2 4 21\nreach 0 1 11 22 6 7 9 23 10 8 3 12 14 24\nend\n",
-        ],
-    },
-    Row {
         name: "slack-own-loop",
         words: "slack table own.table",
         status: Status::Done,
@@ -388,20 +382,6 @@ pub const ROWS: [Row; 51] = [
         status: Status::Done,
         front: "",
         ends: &["cycle 51/2\nslack a b 0\nslack b a 0\nslack b b 5\n"],
-    },
-    Row {
-        name: "slack-never",
-        words: "slack table never.table",
-        status: Status::Found,
-        front: "",
-        ends: &["never\n"],
-    },
-    Row {
-        name: "slack-of-files",
-        words: "slack files two.v two.sdf two.cells two.clock",
-        status: Status::Done,
-        front: "",
-        ends: &["cycle 100/1\nslack u1.l[0] u2.l[0] 0\nslack u2.l[0] u1.l[0] 0\n"],
     },
     Row {
         name: "usage-words",
@@ -437,5 +417,33 @@ pub const ROWS: [Row; 51] = [
         status: Status::Usage,
         front: "",
         ends: &[USAGE],
+    },
+];
+
+/// Rows of `safe` and `slack` over the files of the first ones.
+pub const OVER_FILES: [Row; 3] = [
+    Row {
+        name: "safe-of-files",
+        words: "safe files two.v two.sdf two.cells two.clock",
+        status: Status::Done,
+        front: "safe 1\nleast\nden 1\ncycle 100\nphases 2\nphase 0 10\nphase 10 30\ndepartures 2\ndeparture 0\ndeparture 20\nchain 2\n",
+        ends: &[
+            "reach 0 1 11 22 6 7 9 23 10 8 3 12 14 24\nreach 1 0 11 25 16 17 19 26 20 18 13 2 4 21\nend\n",
+            "reach 1 0 11 25 16 17 19 26 20 18 13 2 4 21\nreach 0 1 11 22 6 7 9 23 10 8 3 12 14 24\nend\n",
+        ],
+    },
+    Row {
+        name: "slack-never",
+        words: "slack table never.table",
+        status: Status::Found,
+        front: "",
+        ends: &["never\n"],
+    },
+    Row {
+        name: "slack-of-files",
+        words: "slack files two.v two.sdf two.cells two.clock",
+        status: Status::Done,
+        front: "",
+        ends: &["cycle 100/1\nslack u1.l[0] u2.l[0] 0\nslack u2.l[0] u1.l[0] 0\n"],
     },
 ];

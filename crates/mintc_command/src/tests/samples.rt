@@ -25,30 +25,3 @@ fn samples_have_their_summaries(rt: HostRuntime) -> Result<(), Fail> {
     }
     Ok(())
 }
-
-// Row verify-sample-seven.
-#[test]
-fn the_optimum_of_a_sample_is_valid(rt: HostRuntime) -> Result<(), Fail> {
-    let alloc = rt.alloc();
-    let sample = mintc_sample::files(alloc, 7)?;
-    let netlist = str::from_utf8(sample.netlist.items()).map_err(|_| "no text")?;
-    let delays = str::from_utf8(sample.delays.items()).map_err(|_| "no text")?;
-    let cells = str::from_utf8(sample.cells.items()).map_err(|_| "no text")?;
-    let clock = str::from_utf8(sample.clock.items()).map_err(|_| "no text")?;
-    let files = [("v", netlist), ("d", delays), ("c", cells), ("k", clock)];
-    let mut shelf = shelf_of(alloc, &files, &[])?;
-    let (_, found) = run_over(alloc, &mut shelf, "optimise files v d c k", None)?;
-    let certificate = str::from_utf8(found.as_slice()).map_err(|_| "no text")?;
-    let judged = [
-        ("v", netlist),
-        ("d", delays),
-        ("c", cells),
-        ("k", clock),
-        ("x", certificate),
-    ];
-    let mut both = shelf_of(alloc, &judged, &[])?;
-    let (status, verdict) = run_over(alloc, &mut both, "verify files v d c k x", None)?;
-    assert_eq!(rt; status, Status::Done);
-    assert_eq!(rt; verdict.as_slice(), b"valid\n".as_slice());
-    Ok(())
-}
