@@ -11,4 +11,5 @@ pub mod Marking
 pub mod Passing
 pub mod Rowing
 pub mod Plain
+pub mod Raising
 pub mod Existing

@@ -67,16 +67,16 @@ module _ (arcs : List TimingArc) (order : List ℕ) (is_order : IsOrder arcs ord
 module _ (design : Design) (order : List ℕ) (is_order : IsOrder design.arcs order) (kept : IsDesign design) (course : Course) (n : ℕ) (is_course : IsCourse n design.arcs order course)
     (bits : n ≡ 2 * length design.elements + length design.inner) where
   -- the arc of the design at a place of the order
-  abbrev arc_of : ℕ → TimingArc
+  abbrev pub arc_of : ℕ → TimingArc
   arc_of i = arc_at design.arcs (get_or order i 0)
 
-  in_design : (i : ℕ) → i < length order → IsArc (length design.elements) (length design.inner) (arc_of i)
+  pub in_design : (i : ℕ) → i < length order → IsArc (length design.elements) (length design.inner) (arc_of i)
   in_design i low = arc_inside design.arcs order is_order (length design.elements) (length design.inner) kept.each_arc i low
 
-  from_in : (i : ℕ) → i < length order → (arc_of i).from < n
+  pub from_in : (i : ℕ) → i < length order → (arc_of i).from < n
   from_in i low = let a = (in_design i low).from in omega arith
 
-  to_in : (i : ℕ) → i < length order → (arc_of i).to < n
+  pub to_in : (i : ℕ) → i < length order → (arc_of i).to < n
   to_in i low = let a = (in_design i low).to in omega arith
 
   -- The rows that the arc at a place leaves and enters are two.
@@ -97,7 +97,7 @@ module _ (design : Design) (order : List ℕ) (is_order : IsOrder design.arcs or
   pub max_in : (i : ℕ) → i < length order → IsDelay (arc_at course.along.items i).max
   max_in i low = subst (λ (x : TimingArc). IsDelay x.max) (sym (is_course.along.each i low)) (in_design i low).max
 
-  few_arcs : (i : ℕ) → i < length order → i * 1000000000 ≤ 1000000000000000
+  pub few_arcs : (i : ℕ) → i < length order → i * 1000000000 ≤ 1000000000000000
   few_arcs i low = let count = is_order.count in let most = kept.arcs in omega arith
 
   module _ (first lanes : ℕ) (few : lanes ≤ 8) (sums : List Sums) (count : length sums ≡ n) where

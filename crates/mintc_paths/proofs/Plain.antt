@@ -1,5 +1,5 @@
 -- Sums that bound all paths at once.
-use Rattle.std.proofs.Common.{◌≡◌, ◌≢◌, ◌<◌, ◌≤◌, ◌+◌, ◌*◌, ◌⊎◌, ⊎_elim, ℕ, ℤ, pos, ◌+ℤ◌, ◌≤ℤ◌, List, [], ◌∷◌, length, get_or, replicate, arith, ap, ◌∙◌, sym, subst, All}
+use Rattle.std.proofs.Common.{◌≡◌, ◌≢◌, ◌<◌, ◌≤◌, ◌+◌, ◌*◌, ◌⊎◌, ⊎_elim, ℕ, ℤ, pos, ◌+ℤ◌, ◌≤ℤ◌, List, [], ◌∷◌, length, get_or, replicate, arith, ap, sym, subst, All}
 use Rattle.std.proofs.lemmas.Int.{ints}
 use Rattle.std.proofs.lemmas.List.{get_or-replicate, get_or_past, length-replicate}
 use Rattle.mintc_timing.specs.declared.parts.TimingArc.{TimingArc}
@@ -9,24 +9,22 @@ use Rattle.mintc_timing.specs.Paths.{Leads, arc_at, greatest_delay, output_of}
 use Rattle.mintc_timing.proofs.Ordered.{place}
 use Rattle.mintc_paths.specs.Longest.{bit_sum, AreCarried}
 
-low_or_past : (i n : ℕ) → (i < n) ⊎ (n ≤ i)
+pub low_or_past : (i n : ℕ) → (i < n) ⊎ (n ≤ i)
 low_or_past i n = grind arith
 
 same_or_other : (a b : ℕ) → (a ≡ b) ⊎ (a ≢ b)
 same_or_other a b = grind arith
 
 -- before any arc
-none_at : (n bit : ℕ) → bit_sum (replicate n (pos 0)) bit ≡ pos 0
+pub none_at : (n bit : ℕ) → bit_sum (replicate n (pos 0)) bit ≡ pos 0
 none_at n bit = ⊎_elim (λ (low : bit < n). get_or-replicate n bit (pos 0) (pos 0) low) (λ (past : n ≤ bit). get_or_past (replicate n (pos 0)) bit (pos 0) (let count = length-replicate n (pos 0) in omega arith)) (low_or_past bit n)
 
-pub AreCarried-none : (arcs : List TimingArc) (order : List ℕ) (n : ℕ) (sums : List ℤ) → sums ≡ replicate n (pos 0) → AreCarried arcs order 0 sums
-AreCarried-none arcs order n sums same =
-    let at : (bit : ℕ) → bit_sum sums bit ≡ pos 0 = λ bit. ap (λ (x : List ℤ). bit_sum x bit) same ∙ none_at n bit in
-    record {
-      low = λ bit. let e = at bit in omega (arith, ints);
-      high = λ bit. let e = at bit in omega (arith, ints);
-      carried = λ i below. absurd (omega arith);
-    }
+pub AreCarried-zeros : (arcs : List TimingArc) (order : List ℕ) (sums : List ℤ) → ((bit : ℕ) → bit_sum sums bit ≡ pos 0) → AreCarried arcs order 0 sums
+AreCarried-zeros arcs order sums zero = record {
+  low = λ bit. let e = zero bit in omega (arith, ints);
+  high = λ bit. let e = zero bit in omega (arith, ints);
+  carried = λ i below. absurd (omega arith);
+}
 
 module _ (arcs : List TimingArc) (order : List ℕ) (is_order : IsOrder arcs order) where
   -- the arc at a place of the order

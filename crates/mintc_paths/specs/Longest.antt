@@ -1,11 +1,15 @@
 -- A bound above the sums of all paths.
-use Rattle.std.specs.Prelude.{◌<◌, ◌*◌, ℕ, ℤ, pos, ◌+ℤ◌, ◌≤ℤ◌, List, slice_index_or}
+use Rattle.std.specs.Prelude.{◌<◌, ◌*◌, ℕ, ℤ, pos, ◌+ℤ◌, ◌≤ℤ◌, List, slice_index_or, map}
 use Rattle.mintc_timing.specs.declared.parts.TimingArc.{TimingArc}
 use Rattle.mintc_timing.specs.Paths.{arc_at}
 
--- the sum at a bit
+-- the sum at a bit, or in a row
 abbrev pub bit_sum : List ℤ → ℕ → ℤ
 bit_sum sums bit = slice_index_or sums bit (pos 0)
+
+-- the sums at the bits, from those in their rows
+abbrev pub bit_sums : List ℕ → List ℤ → List ℤ
+bit_sums rows sums = map (bit_sum sums) rows
 
 -- No sum is below 0 or above k * 10^9 femtoseconds, and none of the first k arcs of the order brings its end more than the end has.
 pub record AreCarried (arcs : List TimingArc) (order : List ℕ) (k : ℕ) (sums : List ℤ) : Type 0 where

@@ -112,10 +112,10 @@ pub fn find(alloc: Global, flat: &Flat, order: &Order) -> Result<Found, Stop>
 {
     let elements = flat.elements().len() as u32;
     let bits = 2 * elements as usize + flat.inner().items().len();
-    let Ok(known_short) = are_plainly_short(alloc, flat, order) else {
+    let Ok(course) = course_of(alloc, flat, order) else {
         return Err(Stop::OutOfMemory);
     };
-    let Ok(course) = course_of(alloc, flat, order) else {
+    let Ok(known_short) = are_plainly_short(alloc, flat, order, &course) else {
         return Err(Stop::OutOfMemory);
     };
     let Ok(mut sums) = vec![in alloc; NO_SUMS; bits] else {

@@ -112,7 +112,7 @@ impl Finder {
     }
 
     /// A list of arcs that the search takes for a best path between two bits.
-    fn search(
+    pub(crate) fn search(
         &mut self,
         alloc: Global,
         extreme: Extreme,

@@ -3,20 +3,22 @@ ghost use Rattle.std.specs.Prelude.{◌≡◌, ◌≢◌, ◌<◌, ◌+◌, ◌*
 ghost use Rattle.std.specs.Bool.{OnTrue};
 ghost use Rattle.mintc_timing.specs.Limits.{IsDelay};
 ghost use Rattle.mintc_timing.specs.Order.{IsOrder, ArePathsShort};
-ghost use Rattle.mintc_paths.specs.Longest.{bit_sum, AreCarried};
+ghost use Rattle.mintc_paths.specs.Longest.{bit_sum, bit_sums, AreCarried};
+ghost use Rattle.mintc_paths.specs.Sums.{IsCourse};
 
 use crate::long::LIMIT;
+use crate::rows::Course;
 use mintc_timing::{Flat, Order, TimingArc};
 use std::alloc::{AllocError, Global};
 
-/// Raises the sum at the bit that an arc enters to what the arc brings.
+/// Raises the sum in the row that an arc enters to what the arc brings.
 fn raise(sums: &mut [i64], arc: TimingArc)
     requires from { arc.from < length sums.old }
     requires to { arc.to < length sums.old }
     requires low { pos 0 ≤ℤ bit_sum sums.old arc.from }
     requires high { bit_sum sums.old arc.from ≤ℤ pos 1000000000000000 }
     requires delay { IsDelay arc.max }
-    ensures others { (bit : ℕ) → bit ≢ arc.to → bit_sum sums.new bit ≡ bit_sum sums.old bit }
+    ensures others { (row : ℕ) → row ≢ arc.to → bit_sum sums.new row ≡ bit_sum sums.old row }
     ensures kept { bit_sum sums.old arc.to ≤ℤ bit_sum sums.new arc.to }
     ensures raised { (bit_sum sums.old arc.from +ℤ arc.max) ≤ℤ bit_sum sums.new arc.to }
     ensures limit { (most : ℤ) → bit_sum sums.old arc.to ≤ℤ most → (bit_sum sums.old arc.from +ℤ arc.max) ≤ℤ most → bit_sum sums.new arc.to ≤ℤ most }
@@ -27,17 +29,17 @@ fn raise(sums: &mut [i64], arc: TimingArc)
     }
 }
 
-/// Makes the sums, which are 0 at each bit, the greatest along arcs that end there, wherever they begin, in femtoseconds.
-fn raise_all(sums: &mut [i64], flat: &Flat, order: &Order)
+/// Makes the sums, which are 0 in each row, the greatest along arcs that end there, wherever they begin, in femtoseconds.
+fn raise_all(sums: &mut [i64], flat: &Flat, order: &Order, course: &Course)
     requires order { IsOrder flat.now.arcs order.now }
     requires bits { length sums.old ≡ 2 * length flat.now.elements + length flat.now.inner }
-    requires none { AreCarried flat.now.arcs order.now 0 sums.old }
-    ensures { AreCarried flat.now.arcs order.now (length order.now) sums.new }
+    requires course { IsCourse (length sums.old) flat.now.arcs order.now course.now }
+    requires none { AreCarried flat.now.arcs order.now 0 (bit_sums course.now.rows.of_bits.items sums.old) }
+    ensures { AreCarried flat.now.arcs order.now (length order.now) (bit_sums course.now.rows.of_bits.items sums.new) }
 {
     let _elements = flat.elements();
-    let arcs = flat.arcs();
-    for number in order.arcs().items() {
-        raise(sums, arcs[*number as usize]);
+    for place in 0..course.along.len() {
+        raise(sums, course.along[place]);
     }
 }
 
@@ -53,23 +55,29 @@ fn are_within(sums: &[i64]) -> bool
     true
 }
 
-/// Whether no arcs in a row have a sum above the limit, by the sums at the bits, which are 0 at first.
-fn are_arcs_short(sums: &mut [i64], flat: &Flat, order: &Order) -> bool
+/// Whether no arcs in a row have a sum above the limit, by the sums in the rows, which are 0 at first.
+fn are_arcs_short(sums: &mut [i64], flat: &Flat, order: &Order, course: &Course) -> bool
     requires order { IsOrder flat.now.arcs order.now }
     requires bits { length sums.old ≡ 2 * length flat.now.elements + length flat.now.inner }
-    requires none { AreCarried flat.now.arcs order.now 0 sums.old }
+    requires course { IsCourse (length sums.old) flat.now.arcs order.now course.now }
+    requires none { AreCarried flat.now.arcs order.now 0 (bit_sums course.now.rows.of_bits.items sums.old) }
     ensures { OnTrue result (ArePathsShort flat.now) }
 {
-    raise_all(sums, flat, order);
+    raise_all(sums, flat, order, course);
     are_within(sums)
 }
 
 /// Whether it is plain that no path is too long, since no arcs in a row are, wherever they begin.
-pub fn are_plainly_short(alloc: Global, flat: &Flat, order: &Order) -> Result<bool, AllocError>
-    requires { IsOrder flat.now.arcs order.now }
+pub fn are_plainly_short(
+    alloc: Global,
+    flat: &Flat,
+    order: &Order,
+    course: &Course,
+) -> Result<bool, AllocError>
+    requires order { IsOrder flat.now.arcs order.now }
+    requires course { IsCourse (2 * length flat.now.elements + length flat.now.inner) flat.now.arcs order.now course.now }
     ensures { IfOk result (λ short. OnTrue short (ArePathsShort flat.now)) }
 {
-    let bits = 2 * flat.elements().len() + flat.inner().items().len();
-    let mut sums = vec![in alloc; 0; bits]?;
-    Ok(are_arcs_short(&mut sums, flat, order))
+    let mut sums = vec![in alloc; 0; course.rows.of_bits.len()]?;
+    Ok(are_arcs_short(&mut sums, flat, order, course))
 }

@@ -4,6 +4,7 @@ ghost use Rattle.std.specs.Bool.{OnTrue};
 ghost use Rattle.mintc_paths.specs.Trace.{IsPairOf};
 
 use super::*;
+use crate::listed::is_listed_with;
 use mintc_order::order;
 use mintc_timing::{TimingArc, read_table};
 use std::alloc::AllocError;
@@ -48,16 +49,21 @@ fn text_of(alloc: Global, case: &Case) -> Result<String, AllocError> {
     Ok(text)
 }
 
-/// The system of a case.
-fn system_of(rt: &impl Abort, alloc: Global, case: &Case) -> Result<System, Stop> {
-    let Ok(text) = text_of(alloc, case) else {
-        return Err(Stop::OutOfMemory);
-    };
+/// The system of a table's text.
+fn system_of_text(rt: &impl Abort, alloc: Global, text: &str) -> Result<System, Stop> {
     assert!(rt; text.len() < 100_000);
     let flat = read_table(alloc, text.as_bytes())?;
     let order = order(alloc, &flat)?;
     let pairs = extremes(alloc, &flat, &order)?;
     Ok(System::new(flat, order, pairs))
+}
+
+/// The system of a case.
+fn system_of(rt: &impl Abort, alloc: Global, case: &Case) -> Result<System, Stop> {
+    let Ok(text) = text_of(alloc, case) else {
+        return Err(Stop::OutOfMemory);
+    };
+    system_of_text(rt, alloc, &text)
 }
 
 /// What a list of pairs gives for two elements.
@@ -292,6 +298,80 @@ fn paths_have_the_sums(rt: HostRuntime) -> Result<(), Fail> {
     Ok(())
 }
 
+/// Whether the search by itself finds such a path for the pair at this place.
+fn is_searched(
+    alloc: Global,
+    finder: &mut Finder,
+    extreme: Extreme,
+    system: &System,
+    place: usize,
+) -> bool
+    requires { place < length system.now.pairs }
+{
+    let Pair { from, to, min, max } = system.pairs()[place];
+    let (start, end) = (
+        from.saturating_mul(2).saturating_add(1),
+        to.saturating_mul(2),
+    );
+    let Ok(path) = finder.search(alloc, extreme, system.flat().arcs(), start, end) else {
+        return false;
+    };
+    let sum = match extreme {
+        Extreme::Greatest => max,
+        Extreme::Least => min,
+    };
+    is_listed_with(extreme, system.flat(), &path, from, to, sum)
+}
+
+/// Whether the search by itself finds both paths for each pair of a system.
+fn are_all_searched(alloc: Global, system: &System) -> bool {
+    let Ok(mut finder) = Finder::new(alloc, system) else {
+        return false;
+    };
+    for place in 0..system.pairs().len() {
+        for extreme in [Extreme::Greatest, Extreme::Least] {
+            if !is_searched(alloc, &mut finder, extreme, system, place) {
+                return false;
+            }
+        }
+    }
+    true
+}
+
+#[test]
+fn searches_find_the_paths(rt: HostRuntime) -> Result<(), Fail> {
+    let alloc = rt.alloc();
+    for case in &[NINE, INNER, PATHS, PARALLEL, SELVES, ENDS, DIAMOND, ELEVEN] {
+        let system = system_of(&rt, alloc, case).ok().ok_or(case.name)?;
+        assert!(rt; are_all_searched(alloc, &system), "{}", case.name);
+    }
+    Ok(())
+}
+
+/// A row of 140 inner bits with arcs to the next bit and to the one after it, so that rows fill several words of marks.
+fn deep_text(alloc: Global) -> Result<String, AllocError> {
+    let mut text = String::new(alloc);
+    text.push_str("table 1\nphases 1\nphase p\nelements 2\n")?;
+    text.push_str("element a 1 0 - 0 0 0\nelement b 1 0 - 0 0 0\ninner 140\narcs 280\n")?;
+    text.push_str("arc q0 n0 3 4\narc q1 n70 0 1\narc n139 d1 2 2\narc n40 d0 7 7\n")?;
+    for bit in 0..138 {
+        let (next, other) = (bit + 1, bit + 2);
+        text.push_str(&format!(in alloc; "arc n{bit} n{next} 1 2\narc n{bit} n{other} 1 5\n")?)?;
+    }
+    text.push_str("bounds 0\nend\n")?;
+    Ok(text)
+}
+
+#[test]
+fn searches_go_through_many_rows(rt: HostRuntime) -> Result<(), Fail> {
+    let alloc = rt.alloc();
+    let text = deep_text(alloc).ok().ok_or("no memory")?;
+    let system = system_of_text(&rt, alloc, &text).ok().ok_or("refused")?;
+    assert_eq!(rt; system.pairs().len(), 3);
+    assert!(rt; are_all_searched(alloc, &system));
+    Ok(())
+}
+
 /// Whether a path with the greatest sum is found for the pair at this place.
 fn is_found(alloc: Global, finder: &mut Finder, system: &System, place: usize) -> bool
     requires { place < length system.now.pairs }
@@ -313,11 +393,12 @@ fn is_shortest_found(alloc: Global, finder: &mut Finder, system: &System, place:
 }
 
 #[test]
-fn finders_find_the_paths(rt: HostRuntime) -> Result<(), Fail> {
+fn finders_of_another_system_find_the_paths(rt: HostRuntime) -> Result<(), Fail> {
     let alloc = rt.alloc();
-    for case in &[NINE, INNER, PATHS, PARALLEL, SELVES, ENDS, DIAMOND, ELEVEN] {
+    let other = system_of(&rt, alloc, &NINE).ok().ok_or("refused")?;
+    let mut finder = Finder::new(alloc, &other).ok().ok_or("no memory")?;
+    for case in &[PARALLEL, SELVES, ELEVEN] {
         let system = system_of(&rt, alloc, case).ok().ok_or(case.name)?;
-        let mut finder = Finder::new(alloc, &system).ok().ok_or("no memory")?;
         for place in 0..system.pairs().len() {
             assert!(rt; is_found(alloc, &mut finder, &system, place));
             assert!(rt; is_shortest_found(alloc, &mut finder, &system, place));

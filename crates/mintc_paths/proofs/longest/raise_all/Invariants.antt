@@ -1,10 +1,10 @@
 use Rattle.std.proofs.Common.{◌≡◌, length}
-use Rattle.mintc_paths.specs.Longest.{AreCarried}
+use Rattle.mintc_paths.specs.Longest.{bit_sums, AreCarried}
 use Rattle.mintc_paths.proofs.longest.raise_all.Given as goal
 
 -- the arcs so far are carried along
-abbrev pub invariant-loop-number : goal.invariant-loop-number
-invariant-loop-number l = record {
+abbrev pub invariant-loop-place : goal.invariant-loop-place
+invariant-loop-place l = record {
   count : length l.sums ≡ length l.fn.sums;
-  carried : AreCarried l.flat.arcs l.order l.number-index l.sums;
+  carried : AreCarried l.flat.arcs l.order l.place (bit_sums l.course.rows.of_bits.items l.sums);
 }
