@@ -58,11 +58,11 @@ pub larger : (a b : ℕ) (x : ℤ) → a ≤ b → IsWithin a x → IsWithin b x
 larger a b x h k = let low = k.0 in let high = k.1 in (omega (arith, ints), omega (arith, ints))
 
 -- the room that the code reckons
-module _ (v a : ℤ) (v_small : IsWithin 30000000000000000 v) (a_small : IsWithin 13000000000000 a) where
-  sum-small : IsWithin 40000000000000000 (v +ℤ a)
+module _ (v a : ℤ) (v_small : IsWithin 200000000000000000 v) (a_small : IsWithin 13000000000000 a) where
+  sum-small : IsWithin 300000000000000000 (v +ℤ a)
   sum-small = let v0 = v_small.0 in let v1 = v_small.1 in let a0 = a_small.0 in let a1 = a_small.1 in (omega (arith, ints), omega (arith, ints))
 
-  pub left-small : IsWithin 50000000000000000 (neg_ℤ (v +ℤ a))
+  pub left-small : IsWithin 400000000000000000 (neg_ℤ (v +ℤ a))
   left-small = let s0 = sum-small.0 in let s1 = sum-small.1 in (omega (arith, ints), omega (arith, ints))
 
   parts : wide v +ℤ wide a ≡ v +ℤ a
@@ -99,7 +99,7 @@ floor-whole at x u floor =
     }
 
 -- the fraction that the code makes, and its whole part
-module _ (cycle : Ratio) (is : IsCycle cycle) (left d : ℤ) (made : Ratio) (small : IsWithin 50000000000000000 left) (den_is : d ≡ cycle.den) (made_is : made ≡ over (wide left) (wide d)) where
+module _ (cycle : Ratio) (is : IsCycle cycle) (left d : ℤ) (made : Ratio) (small : IsWithin 400000000000000000 left) (den_is : d ≡ cycle.den) (made_is : made ≡ over (wide left) (wide d)) where
   den-within : IsWithin 1000000000000000000 cycle.den
   den-within = let some = is.fraction in let most = is.den in (omega (arith, ints), omega (arith, ints))
 
@@ -120,9 +120,46 @@ module _ (cycle : Ratio) (is : IsCycle cycle) (left d : ℤ) (made : Ratio) (sma
 
   pub made-modest : IsModest made
   made-modest = subst IsModest (sym made-is)
-      (record { num = (let a = abs-within 50000000000000000 left small in omega arith); den = (let most = is.den in omega (arith, ints)) })
+      (record { num = (let a = abs-within 400000000000000000 left small in omega arith); den = (let most = is.den in omega (arith, ints)) })
 
   pub whole-small : (u : ℤ) → ((n k : ℕ) → unsigned_abs made.num ≤ n → pos 1 ≤ℤ pos k → unsigned_abs u ≤ n * k) → IsWithin 1000000000000000000 u
   whole-small u bound =
-      let num : unsigned_abs made.num ≤ 50000000000000000 = rw (ap (λ (f : Ratio). unsigned_abs f.num) made-is) (abs-within 50000000000000000 left small) in
-      within-abs 1000000000000000000 u (let most = bound 50000000000000000 1 num (omega (arith, ints)) in omega arith)
+      let num : unsigned_abs made.num ≤ 400000000000000000 = rw (ap (λ (f : Ratio). unsigned_abs f.num) made-is) (abs-within 400000000000000000 left small) in
+      within-abs 1000000000000000000 u (let most = bound 400000000000000000 1 num (omega (arith, ints)) in omega arith)
+
+-- a difference less a third number, that the code reckons with 128 bits
+module _ (x y a : ℤ) (x_small : IsWithin 30000000000000000 x) (y_small : IsWithin 30000000000000000 y) (a_small : IsWithin 100000000000000000 a) where
+  diff-small : IsWithin 60000000000000000 (x -ℤ y)
+  diff-small = let x0 = x_small.0 in let x1 = x_small.1 in let y0 = y_small.0 in let y1 = y_small.1 in (omega (arith, ints), omega (arith, ints))
+
+  diff-parts : wide x -ℤ wide y ≡ x -ℤ y
+  diff-parts = ap (λ (z : ℤ). z -ℤ wide y) (read_wide x (larger _ _ x (omega arith) x_small)) ∙ ap (λ (z : ℤ). x -ℤ z) (read_wide y (larger _ _ y (omega arith) y_small))
+
+  diff-read : wide (wide x -ℤ wide y) ≡ x -ℤ y
+  diff-read = ap wide diff-parts ∙ read_wide (x -ℤ y) (larger _ _ (x -ℤ y) (omega arith) diff-small)
+
+  pub less-small : IsWithin 160000000000000000 (x -ℤ y -ℤ a)
+  less-small = let d0 = diff-small.0 in let d1 = diff-small.1 in let a0 = a_small.0 in let a1 = a_small.1 in (omega (arith, ints), omega (arith, ints))
+
+  less-parts : wide (wide x -ℤ wide y) -ℤ wide a ≡ x -ℤ y -ℤ a
+  less-parts = ap (λ (z : ℤ). z -ℤ wide a) diff-read ∙ ap (λ (z : ℤ). x -ℤ y -ℤ z) (read_wide a (larger _ _ a (omega arith) a_small))
+
+  pub less-fits : SFits w128 (wide (wide x -ℤ wide y) -ℤ wide a)
+  less-fits = rw less-parts (fits_wide (x -ℤ y -ℤ a) (larger _ _ (x -ℤ y -ℤ a) (omega arith) less-small))
+
+  pub less-read : wide (wide (wide x -ℤ wide y) -ℤ wide a) ≡ x -ℤ y -ℤ a
+  less-read = ap wide less-parts ∙ read_wide (x -ℤ y -ℤ a) (larger _ _ (x -ℤ y -ℤ a) (omega arith) less-small)
+
+  pub less-fits_narrow : SFits w64 (wide (wide (wide x -ℤ wide y) -ℤ wide a))
+  less-fits_narrow = rw less-read (fits_narrow (x -ℤ y -ℤ a) (larger _ _ (x -ℤ y -ℤ a) (omega arith) less-small))
+
+  pub less-narrow : narrow (wide (wide (wide x -ℤ wide y) -ℤ wide a)) ≡ x -ℤ y -ℤ a
+  less-narrow = ap narrow less-read ∙ read_narrow (x -ℤ y -ℤ a) (larger _ _ (x -ℤ y -ℤ a) (omega arith) less-small)
+
+-- a sum of numbers from 0 to 10^17 that the code reckons with 64 bits
+module _ (x y : ℤ) (x_low : pos 0 ≤ℤ x) (x_high : x ≤ℤ pos 100000000000000000) (y_low : pos 0 ≤ℤ y) (y_high : y ≤ℤ pos 100000000000000000) where
+  added-parts : narrow x +ℤ narrow y ≡ x +ℤ y
+  added-parts = ap (λ (z : ℤ). z +ℤ narrow y) (read_narrow x (omega (arith, ints), omega (arith, ints))) ∙ ap (λ (z : ℤ). x +ℤ z) (read_narrow y (omega (arith, ints), omega (arith, ints)))
+
+  pub added-read : narrow (narrow x +ℤ narrow y) ≡ x +ℤ y
+  added-read = ap narrow added-parts ∙ read_narrow (x +ℤ y) (omega (arith, ints), omega (arith, ints))

@@ -13,12 +13,12 @@ use Rattle.mintc_constraints.specs.Ordinary.{Constraints, IsOrdinary, Leads, con
 use Rattle.mintc_constraints.proofs.ByKind.{stands}
 use Rattle.mintc_constraints.proofs.OrdinaryLaws.{number_of}
 use Rattle.mintc_walks.specs.declared.network.TheConstants.{UNREACHED}
-use Rattle.mintc_walks.specs.Bounds.{AreBounded}
+use Rattle.mintc_walks.specs.Bounds.{AreBounded, IsWithin}
 use Rattle.mintc_walks.specs.Walks.{value_at}
 use Rattle.mintc_ratio.specs.From.{AreGreatestFrom, AreHints, StayWithin}
 use Rattle.mintc_ratio.specs.Greatest.{asked_by}
 use Rattle.mintc_ratio.specs.Searched.{IsCycle}
-use Rattle.mintc_slack.specs.Answers.{AreSmall}
+use Rattle.mintc_slack.specs.Answers.{AreSettled}
 use Rattle.mintc_slack.specs.Room.{AreFrom}
 use Rattle.mintc_slack.proofs.SizeLaws.{asked-small, larger}
 
@@ -86,9 +86,16 @@ module _ (t : Timing) (list : Constraints) (list_is : list ≡ constraints_of (n
         walked = g.asked;
       }
 
-  pub are_small : IsCycle at → IsOrdinary list → AreBounded 0 starts → StayWithin list at starts values → AreSmall t values
-  are_small is all bounds stay node h =
+  pub are_within : IsCycle at → IsOrdinary list → AreBounded 0 starts → StayWithin list at starts values → (node : ℕ) → node < node_count t → IsWithin 30000000000000000 (value_at values node)
+  are_within is all bounds stay node h =
       let most = all.nodes.1 in
       let count = ap (λ (c : Constraints). c.nodes) list_is in
       larger (0 + list.nodes * 13000000000000) 30000000000000000 (value_at values node) (omega arith)
       (stay 0 13000000000000 bounds (λ n d below. let k = all.each n d below in let low = k.delay.0 in let high = k.delay.1 in asked-small at (get_or list.links n d) is (omega (arith, ints), omega (arith, ints)) k.cycles) node (omega arith))
+
+  pub are_settled : IsCycle at → IsOrdinary list → AreBounded 0 starts → StayWithin list at starts values → AreGreatestFrom list at (element_node t l) values → AreSettled t at l values
+  are_settled is all bounds stay h = record {
+    count = h.count ∙ ap (λ (c : Constraints). c.nodes) list_is;
+    small = λ node below. larger 30000000000000000 200000000000000000 (value_at values node) (omega arith) (are_within is all bounds stay node below);
+    from = are_from h;
+  }

@@ -7,6 +7,7 @@ use Rattle.mintc_timing.specs.Right.{IsHopeless, IsLeastCycle}
 use Rattle.mintc_constraints.specs.Laws.{node_count}
 use Rattle.mintc_slack.specs.declared.finding.Slacks.{Slacks}
 use Rattle.mintc_slack.specs.declared.finding.Slacks.TheVariants.{Least, Never}
+use Rattle.mintc_slack.specs.Room.{AreFrom}
 use Rattle.mintc_slack.specs.Slack.{AreSlacks}
 
 -- The least cycle in lowest terms, and the slack of each pair; or no schedule is right.
@@ -22,7 +23,13 @@ IsSlackAnswer t Never = IsHopeless t
 
 -- Numerators that are small enough to be reckoned with.
 abbrev pub AreSmall : Timing → List ℤ → Type 0
-AreSmall t values = (node : ℕ) → node < node_count t → IsWithin 30000000000000000 (value_at values node)
+AreSmall t values = (node : ℕ) → node < node_count t → IsWithin 200000000000000000 (value_at values node)
+
+-- The values of the greatest walks from the moment of element l, one for each node, and small.
+pub record AreSettled (t : Timing) (at : Ratio) (l : ℕ) (values : List ℤ) : Type 0 where
+  pub count : length values ≡ node_count t
+  pub small : AreSmall t values
+  pub from : AreFrom t at l values
 
 -- The cycle is modest, and there is a number for each pair.
 abbrev pub AreOfPairs : Timing → Slacks → Type 0

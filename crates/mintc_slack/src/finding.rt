@@ -1,18 +1,19 @@
 //! The slack of each pair.
-ghost use Rattle.std.specs.Prelude.{◌≡◌, ◌<◌, ◌≤◌, ℕ, pos, IfOk, length, slice_index_or};
-ghost use Rattle.mintc_timing.specs.Design.{element_count, pair_at};
+ghost use Rattle.std.specs.Prelude.{◌≡◌, ◌<◌, ◌≤◌, ℕ, IfOk, OnOk, length};
+ghost use Rattle.std.specs.Bool.{OnFalse};
+ghost use Rattle.mintc_timing.specs.Design.{element_count};
 ghost use Rattle.mintc_timing.specs.Links.{links_of};
 ghost use Rattle.mintc_timing.specs.Right.{IsLeastCycle};
 ghost use Rattle.mintc_constraints.specs.Laws.{node_count};
 ghost use Rattle.mintc_constraints.specs.Ordinary.{constraints_of};
 ghost use Rattle.mintc_ratio.specs.Searched.{IsCycle};
 ghost use Rattle.mintc_ratio.specs.Tested.{NoneForbids};
-ghost use Rattle.mintc_slack.specs.Answers.{AreSmall, IsSlackAnswer};
-ghost use Rattle.mintc_slack.specs.Room.{AreFrom};
-ghost use Rattle.mintc_slack.specs.Slack.{AreSlacks, IsSlack};
+ghost use Rattle.mintc_slack.specs.Answers.{AreSettled, IsSlackAnswer};
+ghost use Rattle.mintc_slack.specs.Ready.{AreEntries, HasSettled, IsReady, entry_at};
+ghost use Rattle.mintc_slack.specs.Slack.{AreSlacks};
 
 use crate::left::slack_of;
-use crate::walked::settle;
+use crate::walked::{Walker, prepare, settle};
 use mintc_certificate::Departures;
 use mintc_constraints::{LinkList, Room, links};
 use mintc_fraction::Fraction;
@@ -31,23 +32,26 @@ pub enum Slacks {
     Never,
 }
 
-/// Writes the slack of each pair into an element.
-fn fill(system: &System, cycle: &Fraction, values: &[i128], to: u32, extra: &mut Vec<i64>)
-    requires cycle { IsCycle cycle.now }
-    requires count { length values.now ≡ node_count system.now }
-    requires small { AreSmall system.now values.now }
-    requires least { IsLeastCycle system.now cycle.now.num cycle.now.den }
-    requires from { AreFrom system.now cycle.now to values.now }
-    requires extra { length extra.old.items ≡ length system.now.pairs }
-    ensures count { length extra.new.items ≡ length extra.old.items }
-    ensures into { (n : ℕ) → n < length system.now.pairs → (pair_at system.now n).to ≡ to → IsSlack system.now cycle.now.num cycle.now.den n (slice_index_or extra.new.items n (pos 0)) }
-    ensures others { (n : ℕ) → n < length system.now.pairs → ((pair_at system.now n).to ≡ to → ⊥) → slice_index_or extra.new.items n (pos 0) ≡ slice_index_or extra.old.items n (pos 0) }
+/// A pair's number behind the element that it enters.
+#[derive(Clone, Copy, PartialEq, Eq, PartialOrd, Ord, Drop)]
+pub(crate) struct Entry {
+    pub to: u32,
+    pub number: usize,
+}
+
+/// The pairs, by the elements that they enter.
+fn entries(alloc: Global, system: &System) -> Result<Vec<Entry>, OutOfMemory>
+    ensures { IfOk result (λ entries. AreEntries system.now entries.items) }
 {
-    for number in 0..extra.len() {
-        if system.pair(number).to == to {
-            extra[number] = slack_of(system, cycle, values, number);
-        }
+    let mut entries = Vec::new(alloc);
+    for number in 0..system.pairs().len() {
+        let to = system.pair(number).to;
+        let Ok(()) = entries.push(Entry { to, number }) else {
+            return Err(OutOfMemory);
+        };
     }
+    entries.sort_unstable();
+    Ok(entries)
 }
 
 /// A zero for each pair.
@@ -61,6 +65,43 @@ fn zeros(alloc: Global, system: &System) -> Result<Vec<i64>, OutOfMemory>
         };
     }
     Ok(zeros)
+}
+
+/// Whether an entry is the first one of its element.
+fn is_first(entries: &[Entry], place: usize) -> bool
+    requires { place < length entries.now }
+    ensures { OnFalse result (HasSettled entries.now place (entry_at entries.now place).to) }
+{
+    place == 0 || entries[place - 1].to != entries[place].to
+}
+
+/// Makes the room's values those of the element of an entry; entries before it may have made them so.
+fn turn_to<L: Ledger>(
+    entries: &[Entry],
+    place: usize,
+    walker: &mut Walker,
+    room: &mut Room,
+    steps: &mut Steps<L>,
+) -> Result<(), OutOfMemory>
+    requires place { place < length entries.now }
+    requires entries { AreEntries walker.old.system.now entries.now }
+    requires ready { IsReady walker.old.system.now walker.old.list.now walker.old.at.now walker.old }
+    requires free { NoneForbids walker.old.list.now.links walker.old.at.now }
+    requires nodes { walker.old.list.now.nodes ≤ room.old.nodes }
+    requires chain { length room.old.chain ≤ walker.old.list.now.nodes }
+    requires settled { (l : ℕ) → HasSettled entries.now place l → AreSettled walker.old.system.now walker.old.at.now l room.old.values }
+    ensures settled { OnOk result (AreSettled walker.old.system.now walker.old.at.now (entry_at entries.now place).to room.new.values) }
+    ensures nodes { room.new.nodes ≡ room.old.nodes }
+    ensures chain { length room.new.chain ≤ walker.old.list.now.nodes }
+    ensures kept { walker.new ≡ record walker.old { distances = walker.new.distances; ahead = walker.new.ahead } }
+    ensures count { length walker.new.distances.items ≡ length walker.old.distances.items }
+{
+    let _pairs = walker.system.pairs();
+    let _elements = walker.system.flat().elements();
+    if is_first(entries, place) {
+        settle(walker, entries[place].to, room, steps)?;
+    }
+    Ok(())
 }
 
 /// The slack of each pair.
@@ -80,11 +121,13 @@ fn extras<L: Ledger>(
     requires least { IsLeastCycle system.now cycle.now.num cycle.now.den }
     ensures { IfOk result (AreSlacks system.now cycle.now.num cycle.now.den) }
 {
-    let _pairs = system.pairs();
+    let mut walker = prepare(alloc, system, list, cycle, room, steps)?;
     let mut extra = zeros(alloc, system)?;
-    for number in 0..system.flat().elements().len() as u32 {
-        settle(system, list, cycle, number, room, steps);
-        fill(system, cycle, room.values(), number, &mut extra);
+    let entries = entries(alloc, system)?;
+    for place in 0..entries.len() {
+        turn_to(&entries, place, &mut walker, room, steps)?;
+        let number = entries[place].number;
+        extra[number] = slack_of(system, cycle, room.values(), number);
     }
     Ok(Departures::new(extra))
 }

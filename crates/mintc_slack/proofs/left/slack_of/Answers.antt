@@ -26,7 +26,7 @@ returns-clause-slack c =
     let is = made-is at c.requires.cycle left c.den.result c.new.result c.room_left-left.ensures.range c.den.ensures.value c.new.ensures in
     let floor = subst (λ (f : Ratio). IsFloor f (pos 1) u) is c.floor_at.ensures.value in
     let whole : IsWhole at (room_of t at c.args.values.now (pair_at t n)) u = subst (λ (x : ℤ). IsWhole at x u) c.room_left-left.ensures.value (floor-whole at left u floor) in
-    let slack = room_is_slack_lem t at c.args.values.now n u c.room_left-left.ensures.design c.room_left-left.ensures.ends c.requires.least c.requires.number c.requires.from whole in
+    let slack = room_is_slack_lem t at c.args.values.now n u c.room_left-left.ensures.design c.room_left-left.ensures.ends c.requires.least c.requires.number c.requires.settled.from whole in
     subst (IsSlack t at.num at.den n) (sym (ap narrow (read_wide u small) ∙ read_narrow u small)) slack
 
 pub returns-clause-range : goal.returns-clause-range

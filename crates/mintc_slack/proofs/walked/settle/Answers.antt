@@ -1,41 +1,31 @@
-use Rattle.std.proofs.Common.{◌^◌, ap, ◌∙◌, subst, arith}
+use Rattle.std.proofs.Common.{ap, ◌∙◌, sym, subst, arith}
+use Rattle.std.proofs.lemmas.Bool.{OnTrue_at}
+use Rattle.std.specs.List.{All}
 use Rattle.mintc_constraints.specs.Ordinary.{Constraints}
-use Rattle.mintc_ratio.specs.From.{AreGreatestFrom}
-use Rattle.mintc_slack.proofs.WalkedLaws.{are_from, are_small, back_of, bounded, hints}
+use Rattle.mintc_slack.specs.declared.walked.Walker.{Walker}
+use Rattle.mintc_slack.specs.Gaps.{AreShortest, IsInside}
+use Rattle.mintc_slack.proofs.GapLaws.{inside-all, settled-by}
 use Rattle.mintc_slack.proofs.walked.settle.Goals as goal
 
-pub walk_from-requires-clause-inside : goal.walk_from-requires-clause-inside
-walk_from-requires-clause-inside g c =
-    let count = ap (λ (l : Constraints). l.nodes) c.requires.list in
-    let below = c.moment-node.ensures.inside in
-    omega arith
+pub measure-requires-clause-gaps : goal.measure-requires-clause-gaps
+measure-requires-clause-gaps g c =
+    let w = c.args.walker.now in
+    let ready = c.requires.ready in
+    subst (λ n. All (IsInside n) w.gaps.items) (sym ready.count)
+    (inside-all w.list.now w.at.now w.potentials.items ready.gaps.potentials_are w.gaps.items ready.gaps.permutation)
 
-pub walk_from-requires-clause-back : goal.walk_from-requires-clause-back
-walk_from-requires-clause-back g c =
-    rw (c.moment-node.ensures.value, c.requires.list) (back_of c.args.system.now c.moment-node.ensures.design c.args.number c.requires.number)
-
-pub walk_from-requires-clause-hints : goal.walk_from-requires-clause-hints
-walk_from-requires-clause-hints g c =
-    hints c.args.list.now c.args.at.now c.moment-node.result c.begin.new.room.values (c.begin.ensures.count ∙ c.nodes.ensures.value) c.begin.ensures.here
-    (rw c.nodes.ensures.value at c.begin.ensures.others)
-
-pub walk_from-requires-clause-range : goal.walk_from-requires-clause-range
-walk_from-requires-clause-range g c =
-    bounded c.args.list.now c.args.at.now c.moment-node.result c.begin.new.room.values (c.begin.ensures.count ∙ c.nodes.ensures.value) c.begin.ensures.here
-    (rw c.nodes.ensures.value at c.begin.ensures.others) (2 ^ 80)
-
-pub returns-clause-from : goal.returns-clause-from
-returns-clause-from g c =
-    are_from c.args.system.now c.args.list.now c.requires.list c.args.at.now c.args.number c.begin.new.room.values c.walk_from.new.room.values
-    (subst (λ node. AreGreatestFrom c.args.list.now c.args.at.now node c.walk_from.new.room.values) c.moment-node.ensures.value c.walk_from.ensures.walked)
-
-pub returns-clause-small : goal.returns-clause-small
-returns-clause-small g c =
-    are_small c.args.system.now c.args.list.now c.requires.list c.args.at.now c.args.number c.begin.new.room.values c.walk_from.new.room.values
-    c.requires.cycle c.nodes.ensures.kept
-    (bounded c.args.list.now c.args.at.now c.moment-node.result c.begin.new.room.values (c.begin.ensures.count ∙ c.nodes.ensures.value) c.begin.ensures.here
-    (rw c.nodes.ensures.value at c.begin.ensures.others) 0)
-    c.walk_from.ensures.within
-
-pub returns-clause-count : goal.returns-clause-count
-returns-clause-count g c = c.walk_from.ensures.walked.count ∙ ap (λ (l : Constraints). l.nodes) c.requires.list
+pub returns-then-branch-clause-settled : goal.returns-then-branch-clause-settled
+returns-then-branch-clause-settled g c =
+    let w = c.args.walker.now in
+    let v = c.measure.new.walker in
+    let ready = c.requires.ready in
+    let kept = c.measure.ensures.kept in
+    let nodes = ap (λ (l : Constraints). l.nodes) ready.links in
+    let at_node = c.moment-node.ensures.value in
+    let inside = c.moment-node.ensures.inside in
+    let short = OnTrue_at c.if-branch.true c.in_ok-measure.ensures.shortest in
+    settled-by w.system.now w.list.now w.at.now w.potentials.items w.gaps.items c.args.number v.distances.items c.write.new.room.values ready.links ready.gaps
+    (c.measure.ensures.count ∙ ready.count) (omega arith)
+    (rw at_node at (subst (λ gaps. AreShortest gaps c.moment-node.result v.distances.items) (ap (λ (x : Walker). x.gaps.items) kept) short))
+    (rw c.deref-then-branch.ensures.value at c.write.ensures.count)
+    (rw (c.deref.ensures.value, c.deref-then-branch.ensures.value, at_node, ap (λ (x : Walker). x.potentials.items) kept) at c.write.ensures.values)

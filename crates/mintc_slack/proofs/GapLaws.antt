@@ -1,0 +1,280 @@
+-- Links weighed against potentials, and the distances of walks over them.
+use Rattle.std.proofs.Common.{◌≡◌, ◌≢◌, ℕ, ◌<◌, ◌+◌, ℤ, pos, ◌+ℤ◌, ◌-ℤ◌, ◌≤ℤ◌, ◌<ℤ◌, List, [], ◌∷◌, ◌++◌, length, get_or, map, arith, refl, ap, ◌∙◌, sym, subst, ⊎_elim}
+use Rattle.std.proofs.lemmas.Int.{ints}
+use Rattle.std.proofs.lemmas.Bool.{cases_eq}
+use Rattle.std.proofs.lemmas.List.{get_or-map, get_or-set_other, get_or-set_same, get_or_default, length-map}
+use Rattle.std.proofs.lemmas.List.Elements.{All-map}
+use Rattle.std.proofs.lemmas.List.Sorted.{All-permutation, Contains-permutation, IsPermutation-sym}
+use Rattle.std.proofs.Math.ListN.{length-set}
+use Rattle.std.specs.Prelude.{slice_set}
+use Rattle.std.specs.List.{All, Contains}
+use Rattle.std.specs.List.Sorted.{IsPermutation}
+use Rattle.mintc_fraction.specs.Ratio.{Ratio}
+use Rattle.mintc_timing.specs.declared.link.Link.{Link}
+use Rattle.mintc_timing.specs.Design.{Timing}
+use Rattle.mintc_timing.specs.Links.{element_node, links_of}
+use Rattle.mintc_constraints.specs.Laws.{node_count}
+use Rattle.mintc_constraints.specs.Ordinary.{Constraints, constraints_of, IsOrdinaryLink, Leads, link_at, no_link}
+use Rattle.mintc_constraints.specs.Rooms.{Space}
+use Rattle.mintc_ratio.specs.From.{IsAsked}
+use Rattle.mintc_ratio.specs.Greatest.{Meets, asked_by, asked_by_link}
+use Rattle.mintc_ratio.specs.Searched.{IsCycle}
+use Rattle.mintc_ratio.proofs.BroughtLaws.{asked_more}
+use Rattle.mintc_ratio.proofs.FromLaws.{Leads-on, asked-on}
+use Rattle.mintc_walks.specs.Bounds.{IsWithin}
+use Rattle.mintc_walks.specs.Walks.{value_at}
+use Rattle.mintc_slack.specs.declared.gaps.Gap.{Gap}
+use Rattle.mintc_slack.specs.declared.nearest.TheConstants.{FAR}
+use Rattle.mintc_slack.specs.Gaps.{AreDistances, AreGaps, AreInRange, ArePotentials, AreShortest, IsInside, KeepDistances, gap_of}
+use Rattle.mintc_slack.specs.Answers.{AreSettled}
+use Rattle.mintc_slack.proofs.SizeLaws.{asked-small, larger, less-small}
+use Rattle.mintc_slack.proofs.WalkedLaws.{are_from}
+
+abbrev pub made : ℕ → ℕ → ℤ → Gap
+made from to rest = record { from = from; to = to; rest = rest }
+
+pub weighed : (f : Link → Gap) (items links : List Link) (i : ℕ) (d : Link) (g : Gap) → items ≡ links → i < length links → g ≡ f (get_or items i d) → g ≡ get_or (map f links) i (f (link_at links i))
+weighed f items links i d g same h is =
+    is ∙ ap (λ (ks : List Link). f (get_or ks i d)) same ∙ ap f (get_or_default links i d no_link h) ∙ sym (get_or-map f links i no_link (f (link_at links i)) h)
+
+-- one value more of a function
+pub written : (f : ℕ → ℤ) (values : List ℤ) (i : ℕ) (z : ℤ) → i < length values → z ≡ f i → ((k : ℕ) → k < i → value_at values k ≡ f k) → (k : ℕ) → k < i + 1 → value_at (slice_set values i z) k ≡ f k
+written f values i z h is before k below = ⊎_elim
+    (λ (e : k ≡ i). ap (λ (n : ℕ). value_at (slice_set values i z) n) e ∙ get_or-set_same values i z (pos 0) h ∙ is ∙ ap f (sym e))
+    (λ (e : k ≡ i → ⊥). get_or-set_other values i k z (pos 0) e ∙ before k (omega arith))
+    (cases_eq k i)
+
+-- a room of which the values alone change
+pub room-kept : (first now new : Space) (values : List ℤ) → now ≡ record first { values = now.values } → new ≡ record now { values = values } → new ≡ record first { values = new.values }
+room-kept first now new values before step =
+    step ∙ ap (λ (r : Space). record r { values = values }) before ∙ ap (λ (v : List ℤ). record first { values = v }) (sym (ap (λ (r : Space). r.values) step))
+
+pub far_is : FAR ≡ pos 100000000000000000
+far_is = refl
+
+-- what links ask for
+pub ordinary-small : (at : Ratio) (count : ℕ) (k : Link) → IsCycle at → IsOrdinaryLink count k → IsWithin 13000000000000 (asked_by_link at k)
+ordinary-small at count k cycle o = let low = o.delay.0 in let high = o.delay.1 in asked-small at k cycle (omega (arith, ints), omega (arith, ints)) o.cycles
+
+module _ (list : Constraints) (at : Ratio) (potentials : List ℤ) (are : ArePotentials list at potentials) where
+  -- the gap of each link
+  inside-each : All (λ k. IsInside list.nodes (gap_of at potentials k)) list.links
+  inside-each e d h =
+      let k = get_or list.links e d in
+      let o = are.ordinary.each e d h in
+      let met = are.greatest.met e d h in
+      let asked = ordinary-small at list.nodes k are.cycle o in
+      let far = far_is in
+      let from = are.small k.from o.from in
+      let to = are.small k.to o.to in
+      let a0 = asked.0 in
+      let a1 = asked.1 in
+      let f0 = from.0 in
+      let f1 = from.1 in
+      let t0 = to.0 in
+      let t1 = to.1 in
+      record { from = o.from; to = o.to; low = omega (arith, ints); high = omega (arith, ints) }
+
+  module _ (gaps : List Gap) (same : IsPermutation (map (gap_of at potentials) list.links) gaps) where
+    pub inside-all : All (IsInside list.nodes) gaps
+    inside-all = All-permutation (IsInside list.nodes) (map (gap_of at potentials) list.links) gaps same (All-map (IsInside list.nodes) (gap_of at potentials) list.links inside-each)
+
+    -- each gap is a link's
+    link_of : (g : Gap) → Contains gaps g → (e : ℕ) × (e < length list.links) × (gap_of at potentials (link_at list.links e) ≡ g)
+    link_of g here =
+        let found = Contains-permutation gaps (map (gap_of at potentials) list.links) g (IsPermutation-sym (map (gap_of at potentials) list.links) gaps same) here in
+        let count = length-map list.links (gap_of at potentials) in
+        let below : found.0 < length list.links = (let b = found.1 in omega arith) in
+        (found.0, below, sym (get_or-map (gap_of at potentials) list.links found.0 no_link g below) ∙ found.2)
+
+    -- and each link has its gap
+    gap_in : (e : ℕ) → e < length list.links → Contains gaps (gap_of at potentials (link_at list.links e))
+    gap_in e below =
+        let g = gap_of at potentials (link_at list.links e) in
+        let count = length-map list.links (gap_of at potentials) in
+        Contains-permutation (map (gap_of at potentials) list.links) gaps g same
+        (e, omega arith, get_or-map (gap_of at potentials) list.links e no_link g below)
+
+asked-one : (at : Ratio) (k : Link) → asked_by at (k ∷ []) ≡ asked_by_link at k
+asked-one at k = let more = asked_more at k [] in omega (arith, ints)
+
+-- A distance that a gap shortens is that of a walk by the gap's link.
+module _ (gaps : List Gap) (g : Gap) (old : List ℤ) (inside : IsInside (length old) g) (range : AreInRange old) (x : ℤ) (is : x ≡ value_at old g.from +ℤ g.rest) (less : x <ℤ value_at old g.to) where
+  low : (pos 0 ≤ℤ x) × (value_at old g.from ≤ℤ x)
+  low = let r = inside.low in let d = (range g.from inside.from).0 in (omega (arith, ints), omega (arith, ints))
+
+  there : value_at (slice_set old g.to x) g.to ≡ x
+  there = get_or-set_same old g.to x (pos 0) inside.to
+
+  apart : (v : ℕ) → (v ≡ g.to → ⊥) → value_at (slice_set old g.to x) v ≡ value_at old v
+  apart v e = get_or-set_other old g.to v x (pos 0) e
+
+  pub shorter-range : AreInRange (slice_set old g.to x)
+  shorter-range v h = ⊎_elim
+      (λ (e : v ≡ g.to). let at_end = ap (λ (n : ℕ). value_at (slice_set old g.to x) n) e ∙ there in let l = low.0 in let most = (range g.to inside.to).1 in (omega (arith, ints), omega (arith, ints)))
+      (λ (e : v ≡ g.to → ⊥). let same = apart v e in let count = length-set old g.to x in let r = range v (omega arith) in let r0 = r.0 in let r1 = r.1 in (omega (arith, ints), omega (arith, ints)))
+      (cases_eq v g.to)
+
+  pub shorter-kept : Contains gaps g → KeepDistances gaps old (slice_set old g.to x)
+  shorter-kept within list at potentials from are count d = record { here = here; walked = walked }
+    where
+      here : value_at (slice_set old g.to x) from ≡ pos 0
+      here = ⊎_elim
+          (λ (e : from ≡ g.to). let zero = ap (λ (n : ℕ). value_at old n) (sym e) ∙ d.here in let l = low.0 in absurd (omega (arith, ints)))
+          (λ (e : from ≡ g.to → ⊥). apart from e ∙ d.here)
+          (cases_eq from g.to)
+
+      by_link : x <ℤ FAR → IsAsked list.links at from g.to (value_at potentials g.to -ℤ value_at potentials from -ℤ x)
+      by_link near =
+          let found = link_of list at potentials are.potentials_are gaps are.permutation g within in
+          let e = found.0 in
+          let k = link_at list.links e in
+          let l = low.1 in
+          let first = d.walked g.from (let f = inside.from in omega arith) (omega (arith, ints)) in
+          let from_is : k.from ≡ g.from = ap (λ (y : Gap). y.from) found.2 in
+          let to_is : k.to ≡ g.to = ap (λ (y : Gap). y.to) found.2 in
+          let rest_is : (gap_of at potentials k).rest ≡ g.rest = ap (λ (y : Gap). y.rest) found.2 in
+          let from_value : value_at potentials k.from ≡ value_at potentials g.from = ap (λ (n : ℕ). value_at potentials n) from_is in
+          let to_value : value_at potentials k.to ≡ value_at potentials g.to = ap (λ (n : ℕ). value_at potentials n) to_is in
+          let leads : Leads list.links from (first.0 ++ e ∷ []) g.to =
+          Leads-on list.links from g.from g.to first.0 (e ∷ []) first.1 (found.1, from_is, to_is) in
+          let sum = asked-on at list.links first.0 (e ∷ []) in
+          let one = asked-one at k in
+          let start = first.2 in
+          (first.0 ++ e ∷ [], leads, omega (arith, ints))
+
+      walked : (node : ℕ) → node < list.nodes → value_at (slice_set old g.to x) node <ℤ FAR →
+          IsAsked list.links at from node (value_at potentials node -ℤ value_at potentials from -ℤ value_at (slice_set old g.to x) node)
+      walked node below near = ⊎_elim
+          (λ (e : node ≡ g.to).
+          subst (λ (n : ℕ). IsAsked list.links at from n (value_at potentials n -ℤ value_at potentials from -ℤ value_at (slice_set old g.to x) n)) (sym e)
+          (subst (λ (y : ℤ). IsAsked list.links at from g.to (value_at potentials g.to -ℤ value_at potentials from -ℤ y)) (sym there)
+          (by_link (let at_end = ap (λ (n : ℕ). value_at (slice_set old g.to x) n) e ∙ there in omega (arith, ints)))))
+          (λ (e : node ≡ g.to → ⊥).
+          subst (λ (y : ℤ). IsAsked list.links at from node (value_at potentials node -ℤ value_at potentials from -ℤ y)) (sym (apart node e))
+          (d.walked node below (let same = apart node e in omega (arith, ints))))
+          (cases_eq node g.to)
+
+-- A node is at most as far as node 0, from which the walk of its potential leads to it.
+module _ (now : List ℤ) (v : ℕ) (inside : v < length now) (range : AreInRange now) (some : 0 < length now) (more : value_at now 0 <ℤ value_at now v) where
+  abbrev home : ℤ
+  home = value_at now 0
+
+  there' : value_at (slice_set now v home) v ≡ home
+  there' = get_or-set_same now v home (pos 0) inside
+
+  apart' : (u : ℕ) → (u ≡ v → ⊥) → value_at (slice_set now v home) u ≡ value_at now u
+  apart' u e = get_or-set_other now v u home (pos 0) e
+
+  pub home-range : AreInRange (slice_set now v home)
+  home-range u h = ⊎_elim
+      (λ (e : u ≡ v). let at_end = ap (λ (n : ℕ). value_at (slice_set now v home) n) e ∙ there' in let r = range 0 some in let r0 = r.0 in let r1 = r.1 in (omega (arith, ints), omega (arith, ints)))
+      (λ (e : u ≡ v → ⊥). let same = apart' u e in let count = length-set now v home in let r = range u (omega arith) in let r0 = r.0 in let r1 = r.1 in (omega (arith, ints), omega (arith, ints)))
+      (cases_eq u v)
+
+  pub home-same : value_at (slice_set now v home) 0 ≡ home
+  home-same = ⊎_elim (λ (e : 0 ≡ v). ap (λ (n : ℕ). value_at (slice_set now v home) n) e ∙ there') (λ (e : 0 ≡ v → ⊥). apart' 0 e) (cases_eq 0 v)
+
+  pub home-next : ((k : ℕ) → k < v → value_at now k ≤ℤ home) → (k : ℕ) → k < v + 1 → value_at (slice_set now v home) k ≤ℤ home
+  home-next before k h = ⊎_elim
+      (λ (e : k ≡ v). let at_end = ap (λ (n : ℕ). value_at (slice_set now v home) n) e ∙ there' in omega (arith, ints))
+      (λ (e : k ≡ v → ⊥). let same = apart' k e in let b = before k (omega arith) in omega (arith, ints))
+      (cases_eq k v)
+
+  pub home-kept : (gaps : List Gap) → KeepDistances gaps now (slice_set now v home)
+  home-kept gaps list at potentials from are count d = record { here = here; walked = walked }
+    where
+      here : value_at (slice_set now v home) from ≡ pos 0
+      here = ⊎_elim
+          (λ (e : from ≡ v). let zero = ap (λ (n : ℕ). value_at now n) (sym e) ∙ d.here in let l = (range 0 some).0 in absurd (omega (arith, ints)))
+          (λ (e : from ≡ v → ⊥). apart' from e ∙ d.here)
+          (cases_eq from v)
+
+      by_home : home <ℤ FAR → IsAsked list.links at from v (value_at potentials v -ℤ value_at potentials from -ℤ home)
+      by_home near =
+          let back = d.walked 0 (omega arith) near in
+          let forth = are.potentials_are.greatest.asked v (omega arith) in
+          let zero = are.potentials_are.greatest.here in
+          let sum = asked-on at list.links back.0 forth.0 in
+          let one = back.2 in
+          let two = forth.2 in
+          (back.0 ++ forth.0, Leads-on list.links from 0 v back.0 forth.0 back.1 forth.1, omega (arith, ints))
+
+      walked : (node : ℕ) → node < list.nodes → value_at (slice_set now v home) node <ℤ FAR →
+          IsAsked list.links at from node (value_at potentials node -ℤ value_at potentials from -ℤ value_at (slice_set now v home) node)
+      walked node below near = ⊎_elim
+          (λ (e : node ≡ v).
+          subst (λ (n : ℕ). IsAsked list.links at from n (value_at potentials n -ℤ value_at potentials from -ℤ value_at (slice_set now v home) n)) (sym e)
+          (subst (λ (y : ℤ). IsAsked list.links at from v (value_at potentials v -ℤ value_at potentials from -ℤ y)) (sym there')
+          (by_home (let at_end = ap (λ (n : ℕ). value_at (slice_set now v home) n) e ∙ there' in omega (arith, ints)))))
+          (λ (e : node ≡ v → ⊥).
+          subst (λ (y : ℤ). IsAsked list.links at from node (value_at potentials node -ℤ value_at potentials from -ℤ y)) (sym (apart' node e))
+          (d.walked node below (let same = apart' node e in omega (arith, ints))))
+          (cases_eq node v)
+
+-- distances that are the least stand for the values of the greatest walks
+module _ (list : Constraints) (at : Ratio) (potentials : List ℤ) (gaps : List Gap) (from : ℕ) (distances values : List ℤ) (are : AreGaps list at potentials gaps)
+    (count : length distances ≡ list.nodes) (inside : from < list.nodes) (short : AreShortest gaps from distances)
+    (values_are : (node : ℕ) → node < list.nodes → value_at values node ≡ value_at potentials node -ℤ value_at potentials from -ℤ value_at distances node)
+  where
+    d : AreDistances list at potentials from distances
+    d = short.walked list at potentials are count
+
+    pub start-zero : value_at values from ≡ pos 0
+    start-zero = let v = values_are from inside in let z = d.here in omega (arith, ints)
+
+    pub all-asked : (node : ℕ) → node < list.nodes → IsAsked list.links at from node (value_at values node)
+    all-asked node h = subst (λ (y : ℤ). IsAsked list.links at from node y) (sym (values_are node h)) (d.walked node h (short.near node (omega arith)).1)
+
+    pub all-met : All (Meets at (value_at values)) list.links
+    all-met e default h =
+        let same : get_or list.links e default ≡ link_at list.links e = get_or_default list.links e default no_link h in
+        let k = link_at list.links e in
+        let o = are.potentials_are.ordinary.each e no_link h in
+        let found = gap_in list at potentials are.potentials_are gaps are.permutation e h in
+        let most = short.least found.0 (gap_of at potentials k) found.1 in
+        let here : value_at distances k.to ≤ℤ (value_at distances k.from +ℤ (gap_of at potentials k).rest) =
+        subst (λ (g : Gap). value_at distances g.to ≤ℤ (value_at distances g.from +ℤ g.rest)) found.2 most in
+        let v_from = values_are k.from o.from in
+        let v_to = values_are k.to o.to in
+        rw same (omega (arith, ints))
+
+-- what walks begin with
+pub begun-distances : (list : Constraints) (at : Ratio) (potentials : List ℤ) (from : ℕ) (distances : List ℤ) → length distances ≡ list.nodes → value_at distances from ≡ pos 0 →
+    ((node : ℕ) → node < length distances → node ≢ from → value_at distances node ≡ FAR) → AreDistances list at potentials from distances
+begun-distances list at potentials from distances count here others = record {
+  here = here;
+  walked = λ node h near. ⊎_elim
+      (λ (e : node ≡ from).
+      subst (λ (n : ℕ). IsAsked list.links at from n (value_at potentials n -ℤ value_at potentials from -ℤ value_at distances n)) (sym e)
+      (let none : asked_by at [] ≡ pos 0 = omega (arith, ints) in ([], refl, omega (arith, ints))))
+      (λ (e : node ≡ from → ⊥). let far = others node (omega arith) e in absurd (omega (arith, ints)))
+      (cases_eq node from);
+}
+
+pub settled-by : (t : Timing) (list : Constraints) (at : Ratio) (potentials : List ℤ) (gaps : List Gap) (l : ℕ) (distances values : List ℤ) → list ≡ constraints_of (node_count t) (links_of t) →
+    AreGaps list at potentials gaps → length distances ≡ list.nodes → element_node t l < list.nodes → AreShortest gaps (element_node t l) distances → length values ≡ length distances →
+    ((node : ℕ) → node < length distances → value_at values node ≡ value_at potentials node -ℤ value_at potentials (element_node t l) -ℤ value_at distances node) → AreSettled t at l values
+settled-by t list at potentials gaps l distances values links are count inside short long values_are =
+    let values_at : (node : ℕ) → node < list.nodes → value_at values node ≡ value_at potentials node -ℤ value_at potentials (element_node t l) -ℤ value_at distances node =
+    λ node h. values_are node (omega arith) in
+    let nodes = ap (λ (c : Constraints). c.nodes) links in
+    let small = are.potentials_are.small in
+    let far = far_is in
+    record {
+      count = long ∙ count ∙ nodes;
+      small = λ node h.
+          let near = short.near node (omega arith) in
+          let low = near.0 in
+          let high = near.1 in
+          subst (IsWithin 200000000000000000) (sym (values_at node (omega arith)))
+          (larger _ _ _ (omega arith)
+          (less-small (value_at potentials node) (value_at potentials (element_node t l)) (value_at distances node) (small node (omega arith)) (small (element_node t l) inside) (omega (arith, ints), omega (arith, ints))));
+      from = are_from t list links at l [] values
+          (record {
+            count = long ∙ count;
+            here = start-zero list at potentials gaps (element_node t l) distances values are count inside short values_at;
+            asked = all-asked list at potentials gaps (element_node t l) distances values are count inside short values_at;
+            met = all-met list at potentials gaps (element_node t l) distances values are count inside short values_at;
+          });
+    }
