@@ -1,0 +1,12 @@
+pub mod LibraryLaws
+pub mod ValueLaws
+pub mod PinLaws
+pub mod NamedLaws
+pub mod HeldLaws
+pub mod SeenLaws
+pub mod TextLaws
+pub mod CountLaws
+pub mod ParenthesesLaws
+pub mod GroupLaws
+pub mod TableLaws
+pub mod PrintLaws

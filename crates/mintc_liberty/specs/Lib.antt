@@ -1,0 +1,10 @@
+pub mod Texts
+pub mod Expressions
+pub mod Meaning
+pub mod Passing
+pub mod Parentheses
+pub mod Seen
+pub mod Held
+pub mod Named
+pub mod Tables
+pub mod Puts

@@ -1,0 +1,8 @@
+pub mod Sizes
+pub mod TokenLaws
+pub mod SettledLaws
+pub mod FirstLaws
+pub mod StatementLaws
+pub mod PassingLaws
+pub mod NestLaws
+pub mod GrammarLaws

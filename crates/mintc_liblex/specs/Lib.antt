@@ -1,0 +1,4 @@
+pub mod Tokens
+pub mod Statements
+pub mod Reading
+pub mod Laws
