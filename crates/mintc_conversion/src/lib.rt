@@ -1,0 +1,15 @@
+//! A Liberty text to its TOML form as one call: words and a file in, a status and one text out.
+//!
+//! `convert` judges the words, reads the file that they name, works out the answer whole in memory, and writes it by one call of
+//! the sink. Statuses and refusals are those of mintc.
+#![tactic(auto)]
+
+mod answer;
+mod program;
+mod status;
+
+pub use program::convert;
+pub use status::Status;
+
+#[cfg(test)]
+mod tests;
