@@ -1,0 +1,181 @@
+-- The turns of the loops over corners.
+use Rattle.std.proofs.Common.{◌≡◌, ℕ, suc, ◌<◌, ◌≤◌, ◌+◌, ◌-◌, ◌*◌, ℤ, pos, ◌≤ℤ◌, List, [], ◌∷◌, ◌++◌, length, get_or, map, take, drop, arith, refl, ap, ◌∙◌, sym, subst, append_assoc, length-append}
+use Rattle.std.specs.List.{All, Contains, flat_map}
+use Rattle.std.specs.Int.{int_max}
+use Rattle.std.proofs.Math.ListN.{drop_of_length-le}
+use Rattle.std.proofs.lemmas.Int.{ints, clamps}
+use Rattle.std.proofs.lemmas.List.{append-nil, at_drop_more, get_or-map, get_or_default, map-append, take_more}
+use Rattle.std.proofs.lemmas.List.Elements.{All-push}
+use Rattle.mintc_timing.specs.declared.link.Link.{Link}
+use Rattle.mintc_timing.specs.declared.link.LinkKind.{LinkKind}
+use Rattle.mintc_timing.specs.declared.link.LinkKind.TheVariants as kind
+use Rattle.mintc_timing.specs.Design.{Timing, element_count, no_pair, phase_count}
+use Rattle.mintc_timing.specs.Limits.{IsDesign}
+use Rattle.mintc_timing.specs.Links.{links_of}
+use Rattle.mintc_timing.specs.Order.{IsTiming}
+use Rattle.mintc_constraints.specs.Duality.{departures_of}
+use Rattle.mintc_constraints.specs.Laws.{node_count}
+use Rattle.mintc_constraints.specs.Ordinary.{Constraints, IsOrdinary, constraints_of}
+use Rattle.mintc_constraints.proofs.ByKind.{All-links}
+use Rattle.mintc_constraints.proofs.OrdinaryLaws.{each_between, ends_of}
+use Rattle.mintc_certificate.specs.Ranges.{IsDeparture}
+use Rattle.mintc_optimise.proofs.StandingLaws.{of_kind}
+use Rattle.mintc_corners.specs.CornerOptimum.{AreDeparturesInRange}
+use Rattle.mintc_corners.specs.Joined.{HasLowKind, IsLow, IsPlace, departures_after, joined, joined_links, lifted_link, no_timing, number_at, own_list, own_values, total_links, widest}
+use Rattle.mintc_corners.specs.Joint.{AreCorners}
+use Rattle.mintc_corners.specs.JointLinks.{joint_nodes}
+use Rattle.mintc_corners.specs.Laws.{AreSystems}
+use Rattle.mintc_corners.specs.Making.{AreSayableAfter}
+use Rattle.mintc_corners.proofs.PlaceLaws.{count_is, joined_ordinary}
+use Rattle.mintc_corners.proofs.StandingLaws.{system_at}
+use Rattle.mintc_corners.proofs.ValuesLaws.{counts_are}
+
+-- the greatest least width
+pub widest_low : (ts : List Timing) (p : ℕ) → pos 0 ≤ℤ widest ts p
+widest_low [] p = omega (arith, ints)
+widest_low (t ∷ ts) p = let rest = widest_low ts p in omega (arith, ints, clamps)
+
+pub widest_begun : (ts : List Timing) (p : ℕ) → int_max (pos 0) (widest ts p) ≡ widest ts p
+widest_begun ts p = let low = widest_low ts p in omega (arith, ints, clamps)
+
+pub widest_done : (ts : List Timing) (i p : ℕ) (width : ℤ) → length ts ≤ i → pos 0 ≤ℤ width → int_max width (widest (drop i ts) p) ≡ widest ts p → width ≡ widest ts p
+widest_done ts i p width past low h =
+    let here = ap (λ (us : List Timing). int_max width (widest us p)) (drop_of_length-le ts past) in
+    let most : int_max width (pos 0) ≡ width = omega (arith, ints, clamps) in
+    sym most ∙ sym here ∙ h
+
+-- the lists of the corners
+made_list : (list : Constraints) (t : Timing) → list.nodes ≡ node_count t → list.links ≡ links_of t → list ≡ own_list t
+made_list list t nodes links = ap (λ (n : ℕ). constraints_of n list.links) nodes ∙ ap (λ (ks : List Link). constraints_of (node_count t) ks) links
+
+systems_more : (ts : List Timing) (t : Timing) → AreSystems ts → IsDesign t.flat → IsTiming t.flat t.order t.pairs → AreSystems (ts ++ t ∷ [])
+systems_more [] t h design kept = (design, kept, tt)
+systems_more (u ∷ ts) t h design kept = (h.0, h.1, systems_more ts t h.2 design kept)
+
+module _ (ts : List Timing) (i : ℕ) (t : Timing) (below : i < length ts) (is : t ≡ get_or ts i t) where
+  taken : take (i + 1) ts ≡ take i ts ++ t ∷ []
+  taken = take_more ts i t below ∙ ap (λ (u : Timing). take i ts ++ u ∷ []) (sym is)
+
+  left : {Y : Type 0} (f : List Timing → Y) → f (drop i ts) ≡ f (t ∷ drop (i + 1) ts)
+  left f = at_drop_more f ts i t below ∙ ap (λ (u : Timing). f (u ∷ drop (i + 1) ts)) (sym is)
+
+  pub lists_more : (lists new : List Constraints) (list : Constraints) → lists ≡ map own_list (take i ts) → list.nodes ≡ node_count t → list.links ≡ links_of t → new ≡ lists ++ list ∷ [] → new ≡ map own_list (take (i + 1) ts)
+  lists_more lists new list before nodes links step =
+      step ∙ ap (λ (xs : List Constraints). xs ++ list ∷ []) before ∙ ap (λ (x : Constraints). map own_list (take i ts) ++ x ∷ []) (made_list list t nodes links)
+      ∙ sym (map-append own_list (take i ts) (t ∷ [])) ∙ sym (ap (map own_list) taken)
+
+  pub systems_taken : AreSystems (take i ts) → IsDesign t.flat → IsTiming t.flat t.order t.pairs → AreSystems (take (i + 1) ts)
+  systems_taken h design kept = subst AreSystems (sym taken) (systems_more (take i ts) t h design kept)
+
+  pub joined_more : (wide : ℕ → ℤ) (clock before : ℕ) (items new all : List Link) → items ++ joined wide clock before (drop i ts) ≡ all → new ≡ items ++ map (lifted_link wide clock before) (links_of t) →
+      new ++ joined wide clock (before + element_count t) (drop (i + 1) ts) ≡ all
+  joined_more wide clock before items new all h step =
+      ap (λ (ks : List Link). ks ++ joined wide clock (before + element_count t) (drop (i + 1) ts)) step
+      ∙ append_assoc items (map (lifted_link wide clock before) (links_of t)) (joined wide clock (before + element_count t) (drop (i + 1) ts))
+      ∙ sym (left (λ us. items ++ joined wide clock before us)) ∙ h
+
+  pub elements_more : (before all : ℕ) → before + length (flat_map (λ (u : Timing). u.flat.elements) (drop i ts)) ≡ all →
+      (before + element_count t) + length (flat_map (λ (u : Timing). u.flat.elements) (drop (i + 1) ts)) ≡ all
+  elements_more before all h =
+      let step = left (λ us. length (flat_map (λ (u : Timing). u.flat.elements) us)) in
+      let sum = length-append t.flat.elements (flat_map (λ (u : Timing). u.flat.elements) (drop (i + 1) ts)) in
+      omega arith
+
+  pub sayable_here : (clock before : ℕ) (values : List ℤ) → AreSayableAfter clock before (drop i ts) values → AreSayableAfter clock before (t ∷ drop (i + 1) ts) values
+  sayable_here clock before values h = subst (λ (us : List Timing). AreSayableAfter clock before us values) (left (λ us. us)) h
+
+  pub departures_more : (clock before : ℕ) (values ds : List ℤ) (all new whole : List (List ℤ)) → all ++ departures_after clock before (drop i ts) values ≡ whole →
+      ds ≡ departures_of t (own_values clock before (element_count t) values) → new ≡ all ++ ds ∷ [] → new ++ departures_after clock (before + element_count t) (drop (i + 1) ts) values ≡ whole
+  departures_more clock before values ds all new whole h is step =
+      let rest = departures_after clock (before + element_count t) (drop (i + 1) ts) values in
+      ap (λ (xs : List (List ℤ)). xs ++ rest) step
+      ∙ append_assoc all (ds ∷ []) rest
+      ∙ ap (λ (d : List ℤ). all ++ d ∷ rest) is
+      ∙ sym (left (λ us. all ++ departures_after clock before us values)) ∙ h
+
+pub in_range_more : (t : Timing) (ds own : List ℤ) (all new : List (List ℤ)) → IsDesign t.flat → All AreDeparturesInRange all → All IsDeparture ds → ds ≡ departures_of t own → new ≡ all ++ ds ∷ [] → All AreDeparturesInRange new
+in_range_more t ds own all new limits before here is step =
+    let count = ap length is ∙ counts_are t own in
+    let few = limits.elements in
+    rw step (All-push AreDeparturesInRange all ds before (record { count = omega arith; each = here }))
+
+-- Each link of a corner has few nodes and elements.
+module _ (t : Timing) (limits : IsDesign t.flat) (kept : IsTiming t.flat t.order t.pairs) where
+  low_kind : (k : Link) (which : LinkKind) → k.kind ≡ which → Contains (links_of t) k → HasLowKind which
+  low_kind k (kind.Opening l) is listed = let h = (of_kind t limits k (kind.Opening l) is listed).member in let few = limits.elements in omega arith
+  low_kind k (kind.Opened l) is listed = let h = (of_kind t limits k (kind.Opened l) is listed).member.0 in let few = limits.elements in omega arith
+  low_kind k (kind.Reach j l) is listed =
+      let h = of_kind t limits k (kind.Reach j l) is listed in
+      let ends = kept.extremes.each h.0 no_pair h.1 in
+      let from = ends.from in
+      let to = ends.to in
+      let one = h.2 in
+      let two = h.3 in
+      let few = limits.elements in
+      (omega arith, omega arith)
+  low_kind k (kind.Setup l) is listed = let h = (of_kind t limits k (kind.Setup l) is listed).member in let few = limits.elements in omega arith
+  low_kind k which is listed = tt
+
+  low_links : All IsLow (links_of t)
+  low_links e d h =
+      let k = get_or (links_of t) e d in
+      let between = All-links t (λ x. (x.from < node_count t) × (x.to < node_count t)) (each_between t limits (ends_of t kept.extremes)) e d h in
+      let from = between.0 in
+      let to = between.1 in
+      let few = limits.elements in
+      let phases = limits.phases.1 in
+      record { from = omega arith; to = omega arith; kind = low_kind k k.kind refl (e, h, get_or_default (links_of t) e k d h) }
+
+module _ (systems : List Timing) (lists : List Constraints) (are : lists ≡ map own_list systems) (c : ℕ) (list : Constraints) (below : c < length systems) (is : list ≡ get_or lists c list) where
+  pub list_at : (none : Timing) → list ≡ own_list (get_or systems c none)
+  list_at none = is ∙ ap (λ (xs : List Constraints). get_or xs c list) are ∙ get_or-map own_list systems c none list below
+
+  pub low_at : (items : List Link) → AreSystems systems → items ≡ list.links → All IsLow items
+  low_at items kept items_are =
+      let here = system_at systems c no_timing kept below in
+      rw (items_are, list_at no_timing) (low_links (get_or systems c no_timing) here.0 here.1)
+
+-- the joint links are ordinary
+pub ordinary_of : (systems : List Timing) → 1 ≤ length systems → length systems ≤ 4 → AreCorners systems → AreSystems systems → length (flat_map (λ (u : Timing). u.flat.elements) systems) ≤ 2000 →
+    IsOrdinary (constraints_of (joint_nodes systems) (joined_links systems))
+ordinary_of [] some few are kept elements = absurd (omega arith)
+ordinary_of (t ∷ ts) some few are kept elements = let count = count_is t ts in joined_ordinary t ts are kept (omega arith) (omega arith)
+
+pub joined_done : (ts : List Timing) (i : ℕ) (wide : ℕ → ℤ) (clock before : ℕ) (items all : List Link) → length ts ≤ i → items ++ joined wide clock before (drop i ts) ≡ all → items ≡ all
+joined_done ts i wide clock before items all past h =
+    sym (append-nil items) ∙ ap (λ (us : List Timing). items ++ joined wide clock before us) (sym (drop_of_length-le ts past)) ∙ h
+
+pub elements_done : (ts : List Timing) (i before all : ℕ) → length ts ≤ i → before + length (flat_map (λ (u : Timing). u.flat.elements) (drop i ts)) ≡ all → before ≡ all
+elements_done ts i before all past h =
+    let none = ap (λ (us : List Timing). length (flat_map (λ (u : Timing). u.flat.elements) us)) (drop_of_length-le ts past) in
+    omega arith
+
+pub nodes_of : (systems : List Timing) (t : Timing) (clock before : ℕ) → 1 ≤ length systems → t ≡ get_or systems 0 t → clock ≡ 2 * phase_count t → before ≡ length (flat_map (λ (u : Timing). u.flat.elements) systems) →
+    1 + clock + before ≡ joint_nodes systems
+nodes_of [] t clock before some is clock_is before_is = absurd (omega arith)
+nodes_of (u ∷ ts) t clock before some is clock_is before_is = let same = ap (λ (x : Timing). phase_count x) is in omega arith
+
+-- the place of a number among the lists
+module _ (lists : List Constraints) (corner rest number : ℕ) (list : Constraints) (below : corner < length lists) (is : list ≡ get_or lists corner list)
+    (goes : (c i : ℕ) → number_at (drop corner lists) c i ≡ rest → number_at lists (corner + c) i ≡ number) where
+  left_lists : {Y : Type 0} (f : List Constraints → Y) → f (drop corner lists) ≡ f (list ∷ drop (corner + 1) lists)
+  left_lists f = at_drop_more f lists corner list below ∙ ap (λ (u : Constraints). f (u ∷ drop (corner + 1) lists)) (sym is)
+
+  pub place_here : rest < length list.links → IsPlace lists number corner rest
+  place_here inside = record {
+    corner = below;
+    inside = rw (get_or_default lists corner (constraints_of 0 []) list below, sym is) inside;
+    same = subst (λ (c : ℕ). number_at lists c rest ≡ number) (add_none corner) (goes 0 rest (left_lists (λ ls. number_at ls 0 rest)));
+  }
+    where
+      add_none : (c : ℕ) → c + 0 ≡ c
+      add_none c = omega arith
+
+  pub place_later : (c i : ℕ) → length list.links ≤ rest → number_at (drop (corner + 1) lists) c i ≡ rest - length list.links → number_at lists (corner + 1 + c) i ≡ number
+  place_later c i past h =
+      let one : corner + suc c ≡ corner + 1 + c = omega arith in
+      let at : length list.links + number_at (drop (corner + 1) lists) c i ≡ rest = omega arith in
+      subst (λ (x : ℕ). number_at lists x i ≡ number) one (goes (suc c) i (left_lists (λ ls. number_at ls (suc c) i) ∙ at))
+
+  pub less_left : length list.links ≤ rest → rest < total_links (drop corner lists) → rest - length list.links < total_links (drop (corner + 1) lists)
+  less_left past h = let all = left_lists (λ ls. total_links ls) in omega arith

@@ -1,0 +1,206 @@
+-- What is made of the answer of a search over the joint links is a corner certificate.
+use Rattle.std.proofs.Common.{◌≡◌, ◌≢◌, ℕ, ◌≤◌, ◌+◌, ◌*◌, ℤ, List, [], ◌∷◌, ◌++◌, length, take, drop, arith, refl, ap, sym, ◌∙◌, subst}
+use Rattle.std.specs.List.{All, AllPairs, Contains}
+use Rattle.std.proofs.Math.Seq.{drop-append_seam, take-append_seam}
+use Rattle.std.proofs.lemmas.List.{append-nil, length-map}
+use Rattle.mintc_fraction.specs.Ratio.{Ratio}
+use Rattle.mintc_timing.specs.declared.link.Link.{Link}
+use Rattle.mintc_timing.specs.declared.clocking.Schedule.{Schedule}
+use Rattle.mintc_timing.specs.Closed.{IsClosed}
+use Rattle.mintc_timing.specs.Design.{Timing, element_count, phase_count}
+use Rattle.mintc_timing.specs.Limits.{IsDesign, IsInRange}
+use Rattle.mintc_timing.specs.Links.{IsChain, cycles_of, delay_of, links_of}
+use Rattle.mintc_timing.specs.Right.{IsLeastCycle, IsRight}
+use Rattle.mintc_constraints.specs.Duality.{AreExactMoments, HasEnds, departures_of, schedule_of}
+use Rattle.mintc_constraints.specs.Laws.{node_count}
+use Rattle.mintc_constraints.specs.Ordinary.{Constraints, constraints_of, link_at}
+use Rattle.mintc_constraints.specs.Rooms.{Space}
+use Rattle.mintc_constraints.proofs.ChainLaws.{stuck_is_hopeless_lem, tight_is_least_lem}
+use Rattle.mintc_constraints.proofs.MomentLaws.{moments_are_right_lem}
+use Rattle.mintc_ratio.specs.Chains.{NamesChain, links_at}
+use Rattle.mintc_ratio.specs.Greatest.{AreGreatest}
+use Rattle.mintc_ratio.specs.Searched.{IsLeast, IsStuck}
+use Rattle.mintc_ratio.proofs.SumsLaws.{few_links}
+use Rattle.mintc_optimise.specs.Making.{AreSayable}
+use Rattle.mintc_optimise.specs.Optimum.{IsEarliest}
+use Rattle.mintc_optimise.proofs.CertificateLaws.{AllPairs-named}
+use Rattle.mintc_optimise.proofs.EarliestLaws.{earliest}
+use Rattle.mintc_optimise.proofs.SayingLaws.{are_sayable}
+use Rattle.mintc_optimise.proofs.WalkedLaws.{exact_moments}
+use Rattle.mintc_corners.specs.declared.members.CornerMember.{CornerMember}
+use Rattle.mintc_corners.specs.declared.certificate.CornerCertificate.TheVariants.{Least, Never}
+use Rattle.mintc_corners.specs.CornerOptimum.{AreDeparturesInRange, EntersOnce, IsCornerChainInRange, IsCornerOptimum, all_departures}
+use Rattle.mintc_corners.specs.CornerValid.{IsCornerRing, link_of_corner, links_of_corners}
+use Rattle.mintc_corners.specs.Joined.{departures_after, departures_of_all, joined_links}
+use Rattle.mintc_corners.specs.Joint.{AreCorners, AreJointlyRight}
+use Rattle.mintc_corners.specs.JointLinks.{joint_links_of, joint_nodes, side_by_side}
+use Rattle.mintc_corners.specs.Laws.{AreBeside, AreSystems}
+use Rattle.mintc_corners.specs.Making.{AreSayableOfAll, AreStanding}
+use Rattle.mintc_corners.proofs.BesideLaws.{beside_is_both_lem}
+use Rattle.mintc_corners.proofs.GreatestLaws.{carried_greatest}
+use Rattle.mintc_corners.proofs.JoinedLaws.{Levels, joined_listed, links_joined, phases_are}
+use Rattle.mintc_corners.proofs.JointLaws.{corners_are_modest_lem, joint_cycle_is_least_lem, jointly_hopeless_is_hopeless_lem}
+use Rattle.mintc_corners.proofs.PlaceLaws.{design, joined_ordinary, known, nodes_are}
+use Rattle.mintc_corners.proofs.ScheduleLaws.{sayable_of_all, schedule_same}
+use Rattle.mintc_corners.proofs.TransferLaws.{carried_chain}
+use Rattle.mintc_corners.proofs.ValuesLaws.{counts_are, departures_are}
+
+some_closed : (ks : List Link) → IsClosed (λ (k : Link). k.from) (λ (k : Link). k.to) ks → 1 ≤ length ks
+some_closed [] h = absurd h
+some_closed (k ∷ ks) h = omega arith
+
+-- as many departures for each corner as it has elements
+abbrev AreCounted : List Timing → List (List ℤ) → Type 0
+AreCounted [] [] = Unit {0}
+AreCounted (t ∷ ts) (d ∷ ds) = (length d ≡ element_count t) × AreCounted ts ds
+AreCounted ts ds = ⊥
+
+counted : (ts : List Timing) (clock before : ℕ) (values : List ℤ) → AreCounted ts (departures_after clock before ts values)
+counted [] clock before values = tt
+counted (t ∷ ts) clock before values = (counts_are t _, counted ts clock (before + element_count t) values)
+
+lists_count : (ts : List Timing) (clock before : ℕ) (values : List ℤ) → length (departures_after clock before ts values) ≡ length ts
+lists_count [] clock before values = refl
+lists_count (t ∷ ts) clock before values = let rest = lists_count ts clock (before + element_count t) values in omega arith
+
+-- A schedule that is right side by side, is right in each corner with its part of the departures.
+split_as : (t : Timing) (ts : List Timing) (s : Schedule) (ds : List (List ℤ)) → AreBeside t ts → AreCounted (t ∷ ts) ds → IsRight (side_by_side t ts) s (all_departures ds) → AreJointlyRight (t ∷ ts) s ds
+split_as t ts s [] are counts right = absurd counts
+split_as t [] s (d ∷ []) are counts right = (subst (IsRight t s) (append-nil d) right, tt)
+split_as t [] s (d ∷ e ∷ ds) are counts right = absurd counts.1
+split_as t (u ∷ ts) s (d ∷ ds) are counts right =
+    let both = (beside_is_both_lem t (side_by_side u ts) s (d ++ all_departures ds) are.1 are.0).0 right in
+    let front : take (element_count t) (d ++ all_departures ds) ≡ d = ap (λ (n : ℕ). take n (d ++ all_departures ds)) (sym counts.0) ∙ take-append_seam d (all_departures ds) in
+    let back : drop (element_count t) (d ++ all_departures ds) ≡ all_departures ds = ap (λ (n : ℕ). drop n (d ++ all_departures ds)) (sym counts.0) ∙ drop-append_seam d (all_departures ds) in
+    (subst (IsRight t s) front both.0, split_as u ts s ds are.2 counts.1 (subst (IsRight (side_by_side u ts) s) back both.1))
+
+module _ (t : Timing) (ts : List Timing) (are : AreCorners (t ∷ ts)) (systems : AreSystems (t ∷ ts)) (some : length ts ≤ 3) (few : element_count (side_by_side t ts) ≤ 2000) where
+  abbrev big : Timing
+  big = side_by_side t ts
+
+  abbrev own_links : List Link
+  own_links = joined_links (t ∷ ts)
+
+  abbrev list : Constraints
+  list = constraints_of (joint_nodes (t ∷ ts)) own_links
+
+  limits : IsDesign big.flat
+  limits = design t ts are systems some few
+
+  levels_here : Levels t ts
+  levels_here = known t ts are systems some few
+
+  ends : HasEnds big
+  ends = (corners_are_modest_lem t ts are systems some few).2.ends
+
+  besides : AreBeside t ts
+  besides = (corners_are_modest_lem t ts are systems some few).0
+
+  listed : All (Contains (joint_links_of t ts)) own_links
+  listed = joined_listed t ts levels_here
+
+  module _ (chain : List ℕ) (named : NamesChain own_links chain) (members : List CornerMember) (stand : AreStanding t ts chain members) where
+    abbrev mine : List Link
+    mine = links_of_corners t ts members
+
+    ring : IsCornerRing t ts members
+    ring = record { each = stand.each; closed = subst (λ (ks : List Link). IsClosed (λ (k : Link). k.from) (λ (k : Link). k.to) ks) (sym stand.same) named.chain.closed }
+
+    once : EntersOnce t ts members
+    once = subst (λ (ks : List Link). AllPairs (λ a b. a.to ≢ b.to) ks) (sym stand.same) (AllPairs-named own_links chain named.once)
+
+    of_all : IsChain (links_of big) (links_at own_links chain)
+    of_all = carried_chain own_links (links_of big) listed (links_at own_links chain) named.chain
+
+    delays : delay_of mine ≡ delay_of (links_at own_links chain)
+    delays = ap (λ (ks : List Link). delay_of ks) stand.same
+
+    cycles : cycles_of mine ≡ cycles_of (links_at own_links chain)
+    cycles = ap (λ (ks : List Link). cycles_of ks) stand.same
+
+    chain_in : IsCornerChainInRange members
+    chain_in =
+        let all = joined_ordinary t ts are systems some few in
+        let most = few_links (joint_nodes (t ∷ ts)) own_links all chain named in
+        let nodes = all.nodes.1 in
+        let one = some_closed mine ring.closed in
+        let count = ap (λ (ks : List Link). length ks) stand.same in
+        let first = length-map members (λ (m : CornerMember). link_of_corner t ts m.corner m.member) in
+        let second = length-map chain (link_at own_links) in
+        record { some = omega arith; most = omega arith; each = stand.counted }
+
+  module _ (room : Space) (cycle : Ratio) (found : IsLeast list cycle room) where
+    abbrev values : List ℤ
+    values = room.values
+
+    greatest : AreGreatest (constraints_of (node_count big) (links_of big)) cycle values
+    greatest = carried_greatest (node_count big) own_links (links_of big) listed (links_joined t ts levels_here) cycle values (subst (λ (n : ℕ). AreGreatest (constraints_of n own_links) cycle values) (nodes_are t ts) found.values)
+
+    exact : AreExactMoments big cycle.num cycle.den values
+    exact = exact_moments big limits ends cycle values greatest
+
+    sayable_big : AreSayable big values
+    sayable_big = are_sayable big limits cycle found.cycle_is values exact
+
+    pub sayable : AreSayableOfAll (t ∷ ts) values
+    sayable = sayable_of_all t ts values levels_here systems few sayable_big
+
+    abbrev s : Schedule
+    s = schedule_of big cycle.num cycle.den values
+
+    abbrev ds : List (List ℤ)
+    ds = departures_of_all (t ∷ ts) values
+
+    departs : all_departures ds ≡ departures_of big values
+    departs = departures_are t ts values levels_here systems (greatest.count ∙ node_sum)
+      where
+        node_sum : node_count big ≡ 1 + 2 * phase_count t + element_count big
+        node_sum = let phases = phases_are t ts in omega arith
+
+    right : IsRight big s (departures_of big values)
+    right = moments_are_right_lem big cycle.num cycle.den values limits ends found.cycle_is.fraction exact
+
+    jointly : AreJointlyRight (t ∷ ts) s ds
+    jointly = split_as t ts s ds besides (counted (t ∷ ts) _ 0 values) (subst (IsRight big s) (sym departs) right)
+
+    least : IsLeastCycle big cycle.num cycle.den
+    least = tight_is_least_lem big cycle.num cycle.den values (links_at own_links room.chain) limits ends found.cycle_is.fraction exact
+        (carried_chain own_links (links_of big) listed (links_at own_links room.chain) found.chain.chain) found.tight.turns found.tight.tight
+
+    earliest_here : IsEarliest big (links_of big) s (all_departures ds)
+    earliest_here = subst (IsEarliest big (links_of big) s) (sym departs) (earliest big limits (links_of big) cycle values found.cycle_is.lowest greatest)
+
+    module _ (members : List CornerMember) (stand : AreStanding t ts room.chain members) (schedule_in : IsInRange s) (departures_in : All AreDeparturesInRange ds) where
+      made_here : IsCornerOptimum t ts (Least s ds members)
+      made_here =
+          let delay = delays room.chain found.chain members stand in
+          let turns = cycles room.chain found.chain members stand in
+          let count = lists_count (t ∷ ts) (2 * phase_count t) 0 values in
+          record {
+            valid = (jointly, record { ring = ring room.chain found.chain members stand; turns = rw turns found.tight.turns; tight = rw (delay, turns) found.tight.tight });
+            optimal = (jointly, (joint_cycle_is_least_lem t ts cycle.num cycle.den besides).0 least);
+            earliest = earliest_here;
+            simple = once room.chain found.chain members stand;
+            in_range = record { schedule_in = schedule_in; count = omega arith; each = departures_in; chain_in = chain_in room.chain found.chain members stand };
+          }
+
+    pub made_least : (s' : Schedule) (ds' : List (List ℤ)) (members : List CornerMember) → s' ≡ schedule_of t cycle.num cycle.den values → ds' ≡ ds → AreStanding t ts room.chain members → IsInRange s' → All AreDeparturesInRange ds' →
+        IsCornerOptimum t ts (Least s' ds' members)
+    made_least s' ds' members s_is ds_are stand schedule_in departures_in =
+        let same = s_is ∙ sym (schedule_same t ts cycle.num cycle.den values) in
+        subst (λ (x : Schedule). IsCornerOptimum t ts (Least x ds' members)) (sym same)
+        (subst (λ (y : List (List ℤ)). IsCornerOptimum t ts (Least s y members)) (sym ds_are)
+        (made_here members stand (subst IsInRange same schedule_in) (subst (All AreDeparturesInRange) ds_are departures_in)))
+
+  pub made_never : (chain : List ℕ) (members : List CornerMember) → NamesChain own_links chain → IsStuck (links_at own_links chain) → AreStanding t ts chain members → IsCornerOptimum t ts (Never members)
+  made_never chain members named stuck stand =
+      let delay = delays chain named members stand in
+      let turns = cycles chain named members stand in
+      record {
+        valid = record { ring = ring chain named members stand; turns = turns ∙ stuck.turns; stuck = rw delay stuck.stuck };
+        optimal = (jointly_hopeless_is_hopeless_lem t ts besides).0
+            (stuck_is_hopeless_lem big (links_at own_links chain) limits ends (of_all chain named members stand) stuck.turns stuck.stuck);
+        earliest = tt;
+        simple = once chain named members stand;
+        in_range = chain_in chain named members stand;
+      }

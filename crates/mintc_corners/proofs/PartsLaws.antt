@@ -1,0 +1,95 @@
+-- What two timings side by side have: elements, pairs, and what these ask of the clock.
+use Rattle.std.proofs.Common.{◌≡◌, ℕ, ◌<◌, ◌+◌, ◌==◌, ◌&&◌, ◌||◌, not, ℤ, pos, Bool, List, [], ◌∷◌, ◌++◌, length, map, arith, refl, ap, ◌∙◌, Option, Some, None}
+use Rattle.std.proofs.Math.ListN.{get_or-append}
+use Rattle.std.proofs.lemmas.Int.{ints, clamps}
+use Rattle.std.proofs.lemmas.List.{get_or-append-add, get_or-map, map-append}
+use Rattle.std.proofs.lemmas.List.Elements.{All-head, All-tail, filter-append}
+use Rattle.std.proofs.lemmas.List.Folds.{list_any-append}
+use Rattle.std.specs.List.{All, filter, list_any}
+use Rattle.std.specs.Int.{int_max}
+use Rattle.mintc_timing.specs.declared.parts.Element.{Element}
+use Rattle.mintc_timing.specs.declared.parts.Pair.{Pair}
+use Rattle.mintc_timing.specs.Clocking.{feeds_of, is_pair_between, least_width}
+use Rattle.mintc_timing.specs.Design.{Timing, element_at, element_count, no_element, no_pair, pair_at}
+use Rattle.mintc_timing.specs.Extremes.{greater_of, greatest_of}
+use Rattle.mintc_constraints.specs.Duality.{HasEnds}
+use Rattle.mintc_corners.specs.JointLinks.{beside, shifted_pair}
+
+-- the greatest of 0 and numbers
+top : List ℤ → ℤ
+top xs = greater_of (pos 0) (greatest_of xs)
+
+top-cons : (x : ℤ) (o : Option ℤ) → int_max (pos 0) (greater_of x o) ≡ int_max x (greater_of (pos 0) o)
+top-cons x None = omega (arith, ints, clamps)
+top-cons x (Some y) = omega (arith, ints, clamps)
+
+top-append : (xs ys : List ℤ) → greater_of (pos 0) (greatest_of (xs ++ ys)) ≡ int_max (greater_of (pos 0) (greatest_of xs)) (greater_of (pos 0) (greatest_of ys))
+top-append [] ys = low (greatest_of ys)
+  where
+    low : (o : Option ℤ) → greater_of (pos 0) o ≡ int_max (pos 0) (greater_of (pos 0) o)
+    low None = omega (arith, ints, clamps)
+    low (Some y) = omega (arith, ints, clamps)
+top-append (x ∷ xs) ys =
+    let rest = top-append xs ys in
+    let a = top-cons x (greatest_of (xs ++ ys)) in
+    let b = top-cons x (greatest_of xs) in
+    omega (arith, ints, clamps)
+
+module _ (t u : Timing) where
+  abbrev n : ℕ
+  n = element_count t
+
+  abbrev b : Timing
+  b = beside t u
+
+  pub element_beside_left : (l : ℕ) → l < n → element_at b l ≡ element_at t l
+  element_beside_left l h = get_or-append t.flat.elements u.flat.elements no_element l h
+
+  pub element_beside_right : (l : ℕ) → element_at b (n + l) ≡ element_at u l
+  element_beside_right l = get_or-append-add t.flat.elements u.flat.elements l no_element
+
+  pub pair_beside_left : (m : ℕ) → m < length t.pairs → pair_at b m ≡ pair_at t m
+  pair_beside_left m h = get_or-append t.pairs (map (shifted_pair n) u.pairs) no_pair m h
+
+  pub pair_beside_right : (m : ℕ) → m < length u.pairs → pair_at b (length t.pairs + m) ≡ shifted_pair n (pair_at u m)
+  pair_beside_right m h = get_or-append-add t.pairs (map (shifted_pair n) u.pairs) m no_pair ∙ get_or-map (shifted_pair n) u.pairs m no_pair no_pair h
+
+  pub width_beside : (p : ℕ) → least_width b p ≡ int_max (least_width t p) (least_width u p)
+  width_beside p =
+      ap (λ (xs : List ℤ). greater_of (pos 0) (greatest_of xs))
+      (ap (map (λ (x : Element). x.width)) (filter-append (λ (x : Element). x.phase == p) t.flat.elements u.flat.elements)
+      ∙ map-append (λ (x : Element). x.width) (filter (λ (x : Element). x.phase == p) t.flat.elements) (filter (λ (x : Element). x.phase == p) u.flat.elements))
+      ∙ top-append (map (λ (x : Element). x.width) (filter (λ (x : Element). x.phase == p) t.flat.elements)) (map (λ (x : Element). x.width) (filter (λ (x : Element). x.phase == p) u.flat.elements))
+
+  module _ (ends : HasEnds t) where
+    abbrev HasEnd : Pair → Type 0
+    HasEnd p = (p.from < n) × (p.to < n)
+
+    abbrev feeds : ℕ → ℕ → Element → Element → Bool
+    feeds i j x y = (x.phase == i) && (y.phase == j) && not y.flop
+
+    between-left : (i j : ℕ) (p : Pair) → HasEnd p → is_pair_between b i j p ≡ is_pair_between t i j p
+    between-left i j p h =
+        ap (λ (x : Element). feeds i j x (element_at b p.to)) (element_beside_left p.from h.0) ∙ ap (λ (y : Element). feeds i j (element_at t p.from) y) (element_beside_left p.to h.1)
+
+    between-right : (i j : ℕ) (q : Pair) → is_pair_between b i j (shifted_pair n q) ≡ is_pair_between u i j q
+    between-right i j q =
+        ap (λ (x : Element). feeds i j x (element_at b (n + q.to))) (element_beside_right q.from) ∙ ap (λ (y : Element). feeds i j (element_at u q.from) y) (element_beside_right q.to)
+
+    any-left : (i j : ℕ) (ps : List Pair) → All HasEnd ps → list_any (is_pair_between b i j) ps ≡ list_any (is_pair_between t i j) ps
+    any-left i j [] h = refl
+    any-left i j (p ∷ ps) h =
+        ap (λ (c : Bool). c || list_any (is_pair_between b i j) ps) (between-left i j p (All-head HasEnd p ps h))
+        ∙ ap (λ (c : Bool). is_pair_between t i j p || c) (any-left i j ps (All-tail HasEnd p ps h))
+
+    any-right : (i j : ℕ) (qs : List Pair) → list_any (is_pair_between b i j) (map (shifted_pair n) qs) ≡ list_any (is_pair_between u i j) qs
+    any-right i j [] = refl
+    any-right i j (q ∷ qs) =
+        ap (λ (c : Bool). c || list_any (is_pair_between b i j) (map (shifted_pair n) qs)) (between-right i j q)
+        ∙ ap (λ (c : Bool). is_pair_between u i j q || c) (any-right i j qs)
+
+    pub feeds_beside : (i j : ℕ) → feeds_of b i j ≡ (feeds_of t i j || feeds_of u i j)
+    feeds_beside i j =
+        list_any-append (is_pair_between b i j) t.pairs (map (shifted_pair n) u.pairs)
+        ∙ ap (λ (c : Bool). c || list_any (is_pair_between b i j) (map (shifted_pair n) u.pairs)) (any-left i j t.pairs ends)
+        ∙ ap (λ (c : Bool). feeds_of t i j || c) (any-right i j u.pairs)

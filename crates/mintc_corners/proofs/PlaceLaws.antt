@@ -1,0 +1,104 @@
+-- Where the link of a corner stands among those of all.
+use Rattle.std.proofs.Common.{◌≡◌, ℕ, zero, suc, ◌<◌, ◌≤◌, ◌+◌, ◌*◌, ℤ, List, [], ◌∷◌, ◌++◌, length, get_or, map, arith, refl, ap, ◌∙◌, sym, length-append}
+use Rattle.std.specs.List.{flat_map}
+use Rattle.std.proofs.Math.ListN.{get_or-append}
+use Rattle.std.proofs.Math.Nat.{suc-mul}
+use Rattle.std.proofs.lemmas.List.{append-nil, get_or-append-add, get_or-map, length-map}
+use Rattle.mintc_timing.specs.declared.link.Link.{Link}
+use Rattle.mintc_timing.specs.declared.parts.Element.{Element}
+use Rattle.mintc_timing.specs.Design.{Timing, element_count}
+use Rattle.mintc_timing.specs.Limits.{IsDesign}
+use Rattle.mintc_timing.specs.Links.{links_of}
+use Rattle.mintc_constraints.specs.Laws.{node_count}
+use Rattle.mintc_constraints.specs.Ordinary.{IsOrdinary, constraints_of}
+use Rattle.mintc_constraints.proofs.OrdinaryLaws.{few_links, modest_links_are_ordinary_lem}
+use Rattle.mintc_corners.specs.JointLinks.{joint_nodes, side_by_side}
+use Rattle.mintc_corners.specs.Joined.{clock_count, joined, joined_links, lifted_link, number_at, own_list, total_links, widest}
+use Rattle.mintc_corners.specs.Joint.{AreCorners, DifferInNumbers}
+use Rattle.mintc_corners.specs.Laws.{AreSystems}
+use Rattle.mintc_corners.proofs.JointLaws.{corners_are_modest_lem, differ-from}
+use Rattle.mintc_corners.proofs.JoinedLaws.{Levels, joined_listed, levels, links_joined, phases_are}
+use Rattle.mintc_corners.proofs.TransferLaws.{carried_ordinary}
+
+-- how many elements the corners before one have
+abbrev pub elements_before : List Timing → ℕ → ℕ
+elements_before [] c = 0
+elements_before (t ∷ ts) zero = 0
+elements_before (t ∷ ts) (suc c) = element_count t + elements_before ts c
+
+pub joined_length : (wide : ℕ → ℤ) (clock before : ℕ) (ts : List Timing) → length (joined wide clock before ts) ≡ total_links (map own_list ts)
+joined_length wide clock before [] = refl
+joined_length wide clock before (t ∷ ts) =
+    length-append (map (lifted_link wide clock before) (links_of t)) (joined wide clock (before + element_count t) ts)
+    ∙ ap (λ (n : ℕ). n + length (joined wide clock (before + element_count t) ts)) (length-map (links_of t) (lifted_link wide clock before))
+    ∙ ap (λ (n : ℕ). length (links_of t) + n) (joined_length wide clock (before + element_count t) ts)
+
+pub joined_at : (wide : ℕ → ℤ) (clock before : ℕ) (ts : List Timing) (c i : ℕ) (none : Timing) (d : Link) → c < length ts → i < length (links_of (get_or ts c none)) →
+    get_or (joined wide clock before ts) (number_at (map own_list ts) c i) d ≡ lifted_link wide clock (before + elements_before ts c) (get_or (links_of (get_or ts c none)) i d)
+joined_at wide clock before [] c i none d g h = absurd (omega arith)
+joined_at wide clock before (t ∷ ts) zero i none d g h =
+    let count = length-map (links_of t) (lifted_link wide clock before) in
+    let same : before + 0 ≡ before = omega arith in
+    get_or-append (map (lifted_link wide clock before) (links_of t)) (joined wide clock (before + element_count t) ts) d i (omega arith)
+    ∙ get_or-map (lifted_link wide clock before) (links_of t) i d d h
+    ∙ ap (λ (x : ℕ). lifted_link wide clock x (get_or (links_of t) i d)) (sym same)
+joined_at wide clock before (t ∷ ts) (suc c) i none d g h =
+    let own = map (lifted_link wide clock before) (links_of t) in
+    let rest = joined wide clock (before + element_count t) ts in
+    let count = length-map (links_of t) (lifted_link wide clock before) in
+    let same : (before + element_count t) + elements_before ts c ≡ before + (element_count t + elements_before ts c) = omega arith in
+    ap (λ (n : ℕ). get_or (own ++ rest) (n + number_at (map own_list ts) c i) d) (sym count)
+    ∙ get_or-append-add own rest (number_at (map own_list ts) c i) d
+    ∙ joined_at wide clock (before + element_count t) ts c i none d (omega arith) h
+    ∙ ap (λ (x : ℕ). lifted_link wide clock x (get_or (links_of (get_or ts c none)) i d)) same
+
+-- Corners have as many elements each.
+pub alike : (t u : Timing) → DifferInNumbers t.flat u.flat → element_count u ≡ element_count t
+alike t u h = sym (length-map u.flat.elements _) ∙ ap length h.elements ∙ length-map t.flat.elements _
+
+pub before_is : (t : Timing) (ts : List Timing) (c : ℕ) → AreCorners (t ∷ ts) → c < length (t ∷ ts) → elements_before (t ∷ ts) c ≡ c * element_count t
+before_is t ts zero are h = omega arith
+before_is t [] (suc c) are h = absurd (omega arith)
+before_is t (u ∷ ts) (suc c) are h =
+    let rest = before_is u ts c (differ-from t u ts are.0 are.1) (omega arith) in
+    let same = alike t u are.0 in
+    let product = suc-mul c (element_count t) in
+    let own : c * element_count u ≡ c * element_count t = ap (λ (n : ℕ). c * n) same in
+    omega arith
+
+-- the elements of all, and the nodes
+elements_are : (t : Timing) (ts : List Timing) → (side_by_side t ts).flat.elements ≡ flat_map (λ (u : Timing). u.flat.elements) (t ∷ ts)
+elements_are t [] = sym (append-nil t.flat.elements)
+elements_are t (u ∷ ts) = ap (λ (es : List Element). t.flat.elements ++ es) (elements_are u ts)
+
+pub count_is : (t : Timing) (ts : List Timing) → element_count (side_by_side t ts) ≡ length (flat_map (λ (u : Timing). u.flat.elements) (t ∷ ts))
+count_is t ts = ap length (elements_are t ts)
+
+pub nodes_are : (t : Timing) (ts : List Timing) → joint_nodes (t ∷ ts) ≡ node_count (side_by_side t ts)
+nodes_are t ts =
+    let count = count_is t ts in
+    let phases = phases_are t ts in
+    omega arith
+
+-- few links
+few_in_turn : (wide : ℕ → ℤ) (clock before : ℕ) (ts : List Timing) → AreSystems ts → length (joined wide clock before ts) ≤ length ts * 2000000
+few_in_turn wide clock before [] h = omega arith
+few_in_turn wide clock before (t ∷ ts) h =
+    let here = few_links t h.0 (let pairs = h.1.few in omega arith) in
+    let rest = few_in_turn wide clock (before + element_count t) ts h.2 in
+    let all = length-append (map (lifted_link wide clock before) (links_of t)) (joined wide clock (before + element_count t) ts) in
+    let count = length-map (links_of t) (lifted_link wide clock before) in
+    omega arith
+
+module _ (t : Timing) (ts : List Timing) (are : AreCorners (t ∷ ts)) (systems : AreSystems (t ∷ ts)) (some : length ts ≤ 3) (few : element_count (side_by_side t ts) ≤ 2000) where
+  pub design : IsDesign (side_by_side t ts).flat
+  design = (corners_are_modest_lem t ts are systems some few).1
+
+  pub known : Levels t ts
+  known = levels t ts are systems few
+
+  pub joined_ordinary : IsOrdinary (constraints_of (joint_nodes (t ∷ ts)) (joined_links (t ∷ ts)))
+  joined_ordinary = rw (nodes_are t ts)
+      (carried_ordinary (links_of (side_by_side t ts)) (joined_links (t ∷ ts)) (links_joined t ts known) (joined_listed t ts known) (node_count (side_by_side t ts))
+      (let all = few_in_turn (widest (t ∷ ts)) (clock_count (t ∷ ts)) 0 (t ∷ ts) systems in omega arith)
+      (modest_links_are_ordinary_lem (side_by_side t ts) design (corners_are_modest_lem t ts are systems some few).2))

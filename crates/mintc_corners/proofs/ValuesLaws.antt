@@ -1,0 +1,129 @@
+-- The moments of a corner's nodes among those of all, and the departures that they are.
+use Rattle.std.proofs.Common.{◌≡◌, ℕ, ◌<◌, ◌≤◌, ◌+◌, ◌-◌, ◌*◌, ℤ, pos, ◌-ℤ◌, cond, List, [], ◌∷◌, ◌++◌, length, get_or, take, drop, arith, refl, ap, ◌∙◌, sym, subst, ⊎_elim, length-append, length-drop}
+use Rattle.std.specs.List.{flat_map}
+use Rattle.std.proofs.Math.ListN.{get_or-append}
+use Rattle.std.proofs.lemmas.Bool.{cases_lt}
+use Rattle.std.proofs.lemmas.List.{append-nil, ext_get_or, get_or-append-add, get_or-drop, get_or-take, length-take-le}
+use Rattle.std.proofs.lemmas.List.FromFn.{get_or-map-range_with_len, length-map-range_with_len}
+use Rattle.mintc_walks.specs.Walks.{value_at}
+use Rattle.mintc_timing.specs.declared.parts.Element.{Element}
+use Rattle.mintc_timing.specs.Design.{Timing, element_at, element_count, no_element, phase_count, phase_of}
+use Rattle.mintc_timing.specs.Links.{element_node, start_node}
+use Rattle.mintc_constraints.specs.Duality.{departure_of, departures_of}
+use Rattle.mintc_corners.specs.Joined.{departures_after, departures_of_all, own_values}
+use Rattle.mintc_corners.specs.JointLinks.{beside, side_by_side}
+use Rattle.mintc_corners.specs.Laws.{AreSystems}
+use Rattle.mintc_corners.proofs.JoinedLaws.{Levels, phases_are}
+use Rattle.mintc_corners.proofs.PartsLaws.{element_beside_left, element_beside_right}
+
+module _ (clock before count : ℕ) (values : List ℤ) (inside : 1 + clock + before + count ≤ length values) where
+  abbrev own : List ℤ
+  own = own_values clock before count values
+
+  front : length (take (1 + clock) values) ≡ 1 + clock
+  front = length-take-le (1 + clock) values (omega arith)
+
+  pub own_count : length own ≡ 1 + clock + count
+  own_count =
+      let all = length-append (take (1 + clock) values) (take count (drop (1 + clock + before) values)) in
+      let first = front in
+      let rest = length-drop (1 + clock + before) values in
+      let back = length-take-le count (drop (1 + clock + before) values) (omega arith) in
+      omega arith
+
+  pub own_clock : (node : ℕ) → node ≤ clock → value_at own node ≡ value_at values node
+  own_clock node h =
+      let first = front in
+      get_or-append (take (1 + clock) values) (take count (drop (1 + clock + before) values)) (pos 0) node (omega arith)
+      ∙ get_or-take (1 + clock) values node (pos 0) (omega arith)
+
+  pub own_element : (l : ℕ) → l < count → value_at own (1 + clock + l) ≡ value_at values (1 + clock + before + l)
+  own_element l h =
+      ap (λ (n : ℕ). value_at own (n + l)) (sym front)
+      ∙ get_or-append-add (take (1 + clock) values) (take count (drop (1 + clock + before) values)) l (pos 0)
+      ∙ get_or-take count (drop (1 + clock + before) values) l (pos 0) h
+      ∙ get_or-drop (1 + clock + before) values l (pos 0)
+
+-- the departure of an element that comes after so many others
+abbrev pub depart : ℕ → ℕ → Timing → List ℤ → ℕ → ℤ
+depart clock before t values l = cond (element_at t l).flop (pos 0) (value_at values (1 + clock + before + l) -ℤ value_at values (start_node (phase_of t l)))
+
+abbrev departs : ℕ → List ℤ → Element → ℤ
+departs node values e = cond e.flop (pos 0) (value_at values node -ℤ value_at values (start_node e.phase))
+
+-- Departures of each of some corners, one after the other, are those of all.
+record AreAll (ds : List ℤ) (clock before : ℕ) (t : Timing) (values : List ℤ) : Type 0 where
+  pub count : length ds ≡ element_count t
+  pub each : (l : ℕ) → l < element_count t → get_or ds l (pos 0) ≡ depart clock before t values l
+
+module _ (values : List ℤ) where
+  own_departs : (t : Timing) (ts : List Timing) (clock before : ℕ) → clock ≡ 2 * phase_count t → AreSystems (t ∷ ts) → 1 + clock + before + element_count t ≤ length values →
+      AreAll (departures_of t (own_values clock before (element_count t) values)) clock before t values
+  own_departs t ts clock before is systems inside =
+      let own = own_values clock before (element_count t) values in
+      record {
+        count = length-map-range_with_len (departure_of t own) 0 (element_count t);
+        each = λ l h.
+            let most = (systems.0.each_element l no_element h).phase.1 in
+            let start = own_clock clock before (element_count t) values inside (start_node (phase_of t l)) (omega arith) in
+            let at : element_node t l ≡ 1 + clock + l = omega arith in
+            let moment = ap (λ (x : ℕ). value_at own x) at ∙ own_element clock before (element_count t) values inside l h in
+            get_or-map-range_with_len (departure_of t own) 0 (element_count t) l l (pos 0) h (omega arith)
+            ∙ ap (λ (x : ℤ). cond (element_at t l).flop (pos 0) (x -ℤ value_at own (start_node (phase_of t l)))) moment
+            ∙ ap (λ (x : ℤ). cond (element_at t l).flop (pos 0) (value_at values (1 + clock + before + l) -ℤ x)) start;
+      }
+
+  both_depart : (t v : Timing) (ds es : List ℤ) (clock before : ℕ) → AreAll ds clock before t values → AreAll es clock (before + element_count t) v values → AreAll (ds ++ es) clock before (beside t v) values
+  both_depart t v ds es clock before first second =
+      let all = length-append t.flat.elements v.flat.elements in
+      let one = first.count in
+      let two = second.count in
+      record {
+        count = (let parts = length-append ds es in omega arith);
+        each = λ l h. ⊎_elim
+            (λ (few : l < element_count t).
+            get_or-append ds es (pos 0) l (omega arith) ∙ first.each l few
+            ∙ sym (ap (departs (1 + clock + before + l) values) (element_beside_left t v l few)))
+            (λ (many : element_count t ≤ l).
+            let m : ℕ = l - element_count t in
+            let is : element_count t + (l - element_count t) ≡ l = omega arith in
+            let node : 1 + clock + (before + element_count t) + (l - element_count t) ≡ 1 + clock + before + (element_count t + (l - element_count t)) = omega arith in
+            subst (λ (x : ℕ). get_or (ds ++ es) x (pos 0) ≡ depart clock before (beside t v) values x) is
+            (ap (λ (n : ℕ). get_or (ds ++ es) (n + (l - element_count t)) (pos 0)) (sym one)
+            ∙ get_or-append-add ds es (l - element_count t) (pos 0)
+            ∙ second.each (l - element_count t) (omega arith)
+            ∙ ap (λ (x : ℕ). departs x values (element_at v (l - element_count t))) node
+            ∙ sym (ap (departs (1 + clock + before + (element_count t + (l - element_count t))) values) (element_beside_right t v (l - element_count t)))))
+            (cases_lt l (element_count t));
+      }
+
+  all_depart : (t : Timing) (ts : List Timing) (clock before : ℕ) → clock ≡ 2 * phase_count t → Levels t ts → AreSystems (t ∷ ts) → 1 + clock + before + element_count (side_by_side t ts) ≤ length values →
+      AreAll (flat_map (λ (d : List ℤ). d) (departures_after clock before (t ∷ ts) values)) clock before (side_by_side t ts) values
+  all_depart t [] clock before is known systems inside =
+      subst (λ (ds : List ℤ). AreAll ds clock before t values) (sym (append-nil (departures_of t (own_values clock before (element_count t) values)))) (own_departs t [] clock before is systems inside)
+  all_depart t (u ∷ ts) clock before is known systems inside =
+      let v = side_by_side u ts in
+      let all = length-append t.flat.elements v.flat.elements in
+      let same = known.2.phases in
+      let phases = phases_are u ts in
+      both_depart t v (departures_of t (own_values clock before (element_count t) values)) (flat_map (λ (d : List ℤ). d) (departures_after clock (before + element_count t) (u ∷ ts) values)) clock before
+      (own_departs t (u ∷ ts) clock before is systems (omega arith))
+      (all_depart u ts clock (before + element_count t) (omega arith) known.5 systems.2 (omega arith))
+
+pub departures_are : (t : Timing) (ts : List Timing) (values : List ℤ) → Levels t ts → AreSystems (t ∷ ts) → length values ≡ 1 + 2 * phase_count t + element_count (side_by_side t ts) →
+    flat_map (λ (d : List ℤ). d) (departures_of_all (t ∷ ts) values) ≡ departures_of (side_by_side t ts) values
+departures_are t ts values known systems count =
+    let big = side_by_side t ts in
+    let all = all_depart values t ts (2 * phase_count t) 0 refl known systems (omega arith) in
+    let mine = length-map-range_with_len (departure_of big values) 0 (element_count big) in
+    ext_get_or (pos 0) (flat_map (λ (d : List ℤ). d) (departures_of_all (t ∷ ts) values)) (departures_of big values) (all.count ∙ sym mine)
+    (λ l h.
+    let few : l < element_count big = (let whole = all.count in omega arith) in
+    let node : 1 + 2 * phase_count t + 0 + l ≡ element_node big l = (let phases = phases_are t ts in omega arith) in
+    all.each l few
+    ∙ ap (λ (x : ℕ). cond (element_at big l).flop (pos 0) (value_at values x -ℤ value_at values (start_node (phase_of big l)))) node
+    ∙ sym (get_or-map-range_with_len (departure_of big values) 0 (element_count big) l l (pos 0) few (omega arith)))
+
+-- how many departures each corner has
+pub counts_are : (t : Timing) (own : List ℤ) → length (departures_of t own) ≡ element_count t
+counts_are t own = length-map-range_with_len (departure_of t own) 0 (element_count t)

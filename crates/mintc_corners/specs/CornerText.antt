@@ -1,0 +1,42 @@
+-- Corners texts.
+use Rattle.std.specs.Prelude.{ℕ, ℤ, List, [], ◌∷◌, ◌++◌, length, map, flat_map, codes}
+use Rattle.mintc_text.specs.Lines.{words}
+use Rattle.mintc_timing.specs.declared.clocking.Schedule.{Schedule}
+use Rattle.mintc_timing.specs.Fields.{number}
+use Rattle.mintc_certificate.specs.declared.members.Member.{Member}
+use Rattle.mintc_certificate.specs.declared.members.Member.TheVariants as member
+use Rattle.mintc_certificate.specs.CertificateText.{member_words}
+use Rattle.mintc_certificate.specs.Written.{count_line, schedule_lines, departure_lines}
+use Rattle.mintc_corners.specs.declared.members.CornerMember.{CornerMember}
+use Rattle.mintc_corners.specs.declared.certificate.CornerCertificate.{CornerCertificate}
+use Rattle.mintc_corners.specs.declared.certificate.CornerCertificate.TheVariants.{Least, Never}
+
+-- the words of a member: as in a certificate, but with the corner's number before those of its elements
+abbrev pub words_at : ℕ → Member → List (List ℕ)
+words_at c (member.Opening l) = codes "open" ∷ number c ∷ number l ∷ []
+words_at c (member.Opened l) = codes "opened" ∷ number c ∷ number l ∷ []
+words_at c (member.Reach j l path) = codes "reach" ∷ number c ∷ number j ∷ number l ∷ number (length path) ∷ map number path
+words_at c (member.Setup l) = codes "setup" ∷ number c ∷ number l ∷ []
+words_at c m = member_words m
+
+abbrev pub corner_words : CornerMember → List (List ℕ)
+corner_words m = words_at m.corner m.member
+
+abbrev pub corner_chain_lines : List CornerMember → List (List ℕ)
+corner_chain_lines ms = count_line (codes "chain") (length ms) ∷ map (λ m. words (corner_words m)) ms ++ codes "end" ∷ []
+
+-- the departures of each corner, in the order of the delay files
+abbrev pub all_departure_lines : List (List ℤ) → List (List ℕ)
+all_departure_lines ds = count_line (codes "corners") (length ds) ∷ flat_map departure_lines ds
+
+-- the lines with a schedule, and those without
+abbrev pub corner_least_lines : Schedule → List (List ℤ) → List CornerMember → List (List ℕ)
+corner_least_lines s ds ms = codes "corners 1" ∷ codes "least" ∷ schedule_lines s ++ all_departure_lines ds ++ corner_chain_lines ms
+
+abbrev pub corner_never_lines : List CornerMember → List (List ℕ)
+corner_never_lines ms = codes "corners 1" ∷ codes "never" ∷ corner_chain_lines ms
+
+-- the lines of a corner certificate
+abbrev pub corner_lines : CornerCertificate → List (List ℕ)
+corner_lines (Least schedule departures chain) = corner_least_lines schedule departures chain
+corner_lines (Never chain) = corner_never_lines chain

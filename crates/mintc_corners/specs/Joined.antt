@@ -1,0 +1,97 @@
+-- The joint links as they are made: those of each corner in turn, over one clock.
+use Rattle.std.specs.Prelude.{◌≡◌, ◌<◌, ◌≤◌, ◌+◌, ◌*◌, ℕ, zero, suc, ℤ, pos, nat_lt, if◌then◌else◌, List, [], ◌∷◌, ◌++◌, length, slice_index_or, map, take, drop}
+use Rattle.std.specs.Int.{int_max}
+use Rattle.mintc_timing.specs.declared.link.Link.{Link}
+use Rattle.mintc_timing.specs.declared.link.LinkKind.{LinkKind}
+use Rattle.mintc_timing.specs.declared.link.LinkKind.TheVariants as kind
+use Rattle.mintc_timing.specs.Clocking.{least_width}
+use Rattle.mintc_timing.specs.Design.{Timing, element_count, phase_count}
+use Rattle.mintc_timing.specs.Links.{link, links_of}
+use Rattle.mintc_constraints.specs.Duality.{departures_of}
+use Rattle.mintc_constraints.specs.Laws.{node_count}
+use Rattle.mintc_constraints.specs.Ordinary.{Constraints, constraints_of}
+
+-- a timing of nothing, which stands for those past the end of a list
+abbrev pub no_timing : Timing
+no_timing = record { flat = record { phases = []; elements = []; inner = []; arcs = []; bounds = [] }; order = []; pairs = [] }
+
+-- Node 0 and those of the clock are all corners'; a corner's elements are numbered after those of the corners before.
+abbrev pub lifted_node : ℕ → ℕ → ℕ → ℕ
+lifted_node clock before x = if nat_lt clock x then before + x else x
+
+abbrev pub lifted_kind : ℕ → LinkKind → LinkKind
+lifted_kind before (kind.Opening l) = kind.Opening (before + l)
+lifted_kind before (kind.Opened l) = kind.Opened (before + l)
+lifted_kind before (kind.Reach j l) = kind.Reach (before + j) (before + l)
+lifted_kind before (kind.Setup l) = kind.Setup (before + l)
+lifted_kind before which = which
+
+-- Widths are raised to those that all corners ask for.
+abbrev pub lifted_delay : (ℕ → ℤ) → LinkKind → ℤ → ℤ
+lifted_delay wide (kind.Width p) gap = wide p
+lifted_delay wide which gap = gap
+
+-- a corner's link among those of all
+abbrev pub lifted_link : (ℕ → ℤ) → ℕ → ℕ → Link → Link
+lifted_link wide clock before k = link (lifted_kind before k.kind) (lifted_node clock before k.from) (lifted_node clock before k.to) (lifted_delay wide k.kind k.delay) k.cycles
+
+-- the greatest least width of a phase
+abbrev pub widest : List Timing → ℕ → ℤ
+widest [] p = pos 0
+widest (t ∷ ts) p = int_max (least_width t p) (widest ts p)
+
+-- the links of corners that come after so many elements
+abbrev pub joined : (ℕ → ℤ) → ℕ → ℕ → List Timing → List Link
+joined wide clock before [] = []
+joined wide clock before (t ∷ ts) = map (lifted_link wide clock before) (links_of t) ++ joined wide clock (before + element_count t) ts
+
+abbrev pub clock_count : List Timing → ℕ
+clock_count [] = 0
+clock_count (t ∷ ts) = 2 * phase_count t
+
+abbrev pub joined_links : List Timing → List Link
+joined_links ts = joined (widest ts) (clock_count ts) 0 ts
+
+-- the links of one corner alone
+abbrev pub own_list : Timing → Constraints
+own_list t = constraints_of (node_count t) (links_of t)
+
+-- The link's nodes and elements are few, so that those of all corners are.
+abbrev pub HasLowKind : LinkKind → Type 0
+HasLowKind (kind.Opening l) = l < 2000
+HasLowKind (kind.Opened l) = l < 2000
+HasLowKind (kind.Reach j l) = (j < 2000) × (l < 2000)
+HasLowKind (kind.Setup l) = l < 2000
+HasLowKind which = Unit {0}
+
+pub record IsLow (k : Link) : Type 0 where
+  pub from : k.from ≤ 2016
+  pub to : k.to ≤ 2016
+  pub kind : HasLowKind k.kind
+
+-- how many links several lists have
+abbrev pub total_links : List Constraints → ℕ
+total_links [] = 0
+total_links (l ∷ ls) = length l.links + total_links ls
+
+-- the number of link i of list c, both counted from 0, among the links of all lists
+abbrev pub number_at : List Constraints → ℕ → ℕ → ℕ
+number_at [] c i = i
+number_at (l ∷ ls) zero i = i
+number_at (l ∷ ls) (suc c) i = length l.links + number_at ls c i
+
+pub record IsPlace (lists : List Constraints) (number c i : ℕ) : Type 0 where
+  pub corner : c < length lists
+  pub inside : i < length (slice_index_or lists c (constraints_of 0 [])).links
+  pub same : number_at lists c i ≡ number
+
+-- the moments of a corner's nodes
+abbrev pub own_values : ℕ → ℕ → ℕ → List ℤ → List ℤ
+own_values clock before count values = take (1 + clock) values ++ take count (drop (1 + clock + before) values)
+
+abbrev pub departures_after : ℕ → ℕ → List Timing → List ℤ → List (List ℤ)
+departures_after clock before [] values = []
+departures_after clock before (t ∷ ts) values = departures_of t (own_values clock before (element_count t) values) ∷ departures_after clock (before + element_count t) ts values
+
+abbrev pub departures_of_all : List Timing → List ℤ → List (List ℤ)
+departures_of_all ts values = departures_after (clock_count ts) 0 ts values
