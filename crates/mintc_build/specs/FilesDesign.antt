@@ -1,5 +1,5 @@
 -- The design of a netlist, delays, cells and a clock, or their first refusal.
-use Rattle.std.specs.Prelude.{◌≡◌, ℕ, List, Option, Ok, Err}
+use Rattle.std.specs.Prelude.{◌≡◌, ℕ, List, Ok, Err}
 use Rattle.mintc_text.specs.declared.refusals.Refusal.{Refusal}
 use Rattle.mintc_text.specs.declared.refusals.Refusal.TheVariants as refusal
 use Rattle.mintc_text.specs.declared.refusals.Role.TheVariants as role
@@ -9,6 +9,7 @@ use Rattle.mintc_verilog.specs.Netlists.{IsNetlist, IsFault}
 use Rattle.mintc_sdf.specs.declared.delays.Delay.{Delay}
 use Rattle.mintc_sdf.specs.Texts.{delays_of}
 use Rattle.mintc_cells.specs.CellsOf.{AreCells, IsBadCell, IsBadCellBy}
+use Rattle.mintc_liberty.specs.Meaning.{liberty_cells}
 use Rattle.mintc_clock.specs.declared.clock.Clock.{Clock}
 use Rattle.mintc_clock.specs.ClockOf.{IsClock, IsClockRefusal}
 use Rattle.mintc_hierarchy.specs.declared.hierarchy.Hierarchy.{Hierarchy}
@@ -16,14 +17,31 @@ use Rattle.mintc_hierarchy.specs.Sources.{source_of}
 use Rattle.mintc_hierarchy.specs.Refusals.{IsHierarchy, IsRefusal}
 use Rattle.mintc_hierarchy.specs.Shape.{CellTable}
 use Rattle.mintc_annotate.specs.Made.{IsAnnotated, IsAnnotateRefusal}
+use Rattle.mintc_build.specs.declared.files.CellFile.{CellFile}
+use Rattle.mintc_build.specs.declared.files.CellFile.TheVariants.{Description, Library}
 
--- What the cells are read from: a description, or a library. A text of theirs describes cells, or gives a refusal.
+-- What the cells are read from: a description, or a Liberty library. A text of theirs describes cells, or gives a refusal.
 pub record CellText : Type 1 where
   pub Describes : CellTable → Type 0
   pub Refuses : Refusal → Type 0
 
 abbrev pub described_by : List ℕ → CellText
 described_by text = record { Describes = AreCells text; Refuses = IsBadCellBy (IsBadCell text) }
+
+-- the Syntax of a library, with its first statement out of form
+abbrev pub IsLibraryRefusal : List ℕ → Refusal → Type 0
+IsLibraryRefusal text refused = (n : ℕ) × (liberty_cells text ≡ Err n) × (refused ≡ refusal.Syntax role.Cells n)
+
+abbrev pub library_by : List ℕ → CellText
+library_by text = record { Describes = λ cells. liberty_cells text ≡ Ok cells; Refuses = IsLibraryRefusal text }
+
+abbrev pub file_bytes : CellFile → List ℕ
+file_bytes (Description text) = text.now
+file_bytes (Library text) = text.now
+
+abbrev pub cell_text : CellFile → CellText
+cell_text (Description text) = described_by text.now
+cell_text (Library text) = library_by text.now
 
 -- the refusal of a netlist's text, with its first statement at fault
 abbrev pub IsNetlistRefusal : List ℕ → Refusal → Type 0
@@ -71,3 +89,10 @@ IsFilesDesign v d c k design = IsDesignOver v d (described_by c) k design
 
 abbrev pub IsFilesRefusal : List ℕ → List ℕ → List ℕ → List ℕ → Refusal → Type 0
 IsFilesRefusal v d c k refused = IsRefusalOver v d (described_by c) k refused
+
+-- The same with the cells of a Liberty library.
+abbrev pub IsLibertyDesign : List ℕ → List ℕ → List ℕ → List ℕ → Design → Type 0
+IsLibertyDesign v d l k design = IsDesignOver v d (library_by l) k design
+
+abbrev pub IsLibertyRefusal : List ℕ → List ℕ → List ℕ → List ℕ → Refusal → Type 0
+IsLibertyRefusal v d l k refused = IsRefusalOver v d (library_by l) k refused

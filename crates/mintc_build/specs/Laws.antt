@@ -1,11 +1,12 @@
--- What holds of the refusals of designs.
+-- What holds of designs and of their refusals.
 use Rattle.std.specs.Prelude.{◌≡◌, ◌⊎◌, ℕ, List}
 use Rattle.mintc_text.specs.declared.refusals.Refusal.{Refusal}
 use Rattle.mintc_text.specs.declared.refusals.Refusal.TheVariants as refusal
 use Rattle.mintc_timing.specs.Accepted.{IsAccepted}
 use Rattle.mintc_timing.specs.Design.{Design}
+use Rattle.mintc_corners.specs.Joint.{DifferInNumbers}
 use Rattle.mintc_build.specs.Designs.{IsDesignRefusal}
-use Rattle.mintc_build.specs.FilesDesign.{IsFilesDesign, IsFilesRefusal}
+use Rattle.mintc_build.specs.FilesDesign.{CellText, IsDesignOver, IsFilesDesign, IsRefusalOver}
 
 -- No accepted design is refused.
 abbrev pub AcceptedAreNotRefused : Type 0
@@ -20,14 +21,12 @@ abbrev pub DesignRefusalsAreDetermined : Type 0
 DesignRefusalsAreDetermined = (design : Design) (refused other : Refusal) → IsDesignRefusal design refused → IsDesignRefusal design other →
     (refused ≡ other) ⊎ (IsLoopRefusal refused × IsLoopRefusal other)
 
--- Files have one design at most.
-abbrev pub FilesHaveOneDesign : Type 0
-FilesHaveOneDesign = (v d c k : List ℕ) (design other : Design) → IsFilesDesign v d c k design → IsFilesDesign v d c k other → design ≡ other
+-- Texts whose cells are read in one form have one design or one refusal at most, and never both.
+pub record ArePlain (by : List ℕ → CellText) : Type 0 where
+  pub one_design : (v d c k : List ℕ) (design other : Design) → IsDesignOver v d (by c) k design → IsDesignOver v d (by c) k other → design ≡ other
+  pub no_refusal : (v d c k : List ℕ) (design : Design) (refused : Refusal) → IsDesignOver v d (by c) k design → IsRefusalOver v d (by c) k refused → ⊥
+  pub one_refusal : (v d c k : List ℕ) (refused other : Refusal) → IsRefusalOver v d (by c) k refused → IsRefusalOver v d (by c) k other → refused ≡ other
 
--- Files that have a design aren't refused.
-abbrev pub FilesWithDesignAreNotRefused : Type 0
-FilesWithDesignAreNotRefused = (v d c k : List ℕ) (design : Design) (refused : Refusal) → IsFilesDesign v d c k design → IsFilesRefusal v d c k refused → ⊥
-
--- Files have one refusal at most.
-abbrev pub FilesHaveOneRefusal : Type 0
-FilesHaveOneRefusal = (v d c k : List ℕ) (refused other : Refusal) → IsFilesRefusal v d c k refused → IsFilesRefusal v d c k other → refused ≡ other
+-- Designs of one netlist, one cell description and one clock, whatever their delays, differ in numbers alone.
+abbrev pub CornersDifferInNumbers : Type 0
+CornersDifferInNumbers = (v d e c k : List ℕ) (design other : Design) → IsFilesDesign v d c k design → IsFilesDesign v e c k other → DifferInNumbers design other

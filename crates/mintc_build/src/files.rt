@@ -1,17 +1,77 @@
 //! The design of files.
 ghost use Rattle.std.specs.Prelude.{◌≡◌, ◌≤◌, length, IfOk, IfErr};
 ghost use Rattle.mintc_text.specs.Stops.{StopsAt};
-ghost use Rattle.mintc_build.specs.FilesDesign.{IsFilesDesign, IsFilesRefusal};
+ghost use Rattle.mintc_build.specs.FilesDesign.{IsDesignOver, IsFilesDesign, IsFilesRefusal, IsLibertyDesign, IsLibertyRefusal, IsRefusalOver, cell_text, file_bytes};
 
 use mintc_annotate::annotate;
-use mintc_cells::read_cells;
+use mintc_cells::{Cells, read_cells};
 use mintc_clock::read_clock;
 use mintc_flatten::flatten;
+use mintc_liberty::read_liberty;
 use mintc_sdf::read_delays;
 use mintc_text::Stop;
 use mintc_timing::Flat;
 use mintc_verilog::read_netlist;
 use std::alloc::Global;
+
+/// What the cells are read from.
+#[derive(Clone, Copy)]
+enum CellFile<'a> {
+    /// A description of cells.
+    Description { text: &'a [u8] },
+    /// A Liberty library.
+    Library { text: &'a [u8] },
+}
+
+/// The cells of a text of either form, or its refusal.
+fn cells_of(alloc: Global, file: CellFile) -> Result<Cells, Stop>
+    requires { length (file_bytes file) ≤ 67108864 }
+    ensures value { IfOk result (cell_text file.entry).Describes }
+    ensures stop { IfErr result (StopsAt (cell_text file.entry).Refuses) }
+{
+    match file {
+        CellFile::Description { text } => read_cells(alloc, text),
+        CellFile::Library { text } => read_liberty(alloc, text),
+    }
+}
+
+/// The design of a netlist, delays, cells of either form and a clock, or their first refusal.
+fn designed(
+    alloc: Global,
+    netlist: &[u8],
+    delays: &[u8],
+    cells: CellFile,
+    clock: &[u8],
+) -> Result<Flat, Stop>
+    requires netlist { length netlist.now ≤ 67108864 }
+    requires delays { length delays.now ≤ 67108864 }
+    requires cells { length (file_bytes cells) ≤ 67108864 }
+    requires clock { length clock.now ≤ 67108864 }
+    ensures value { IfOk result (λ flat. IsDesignOver netlist.now delays.now (cell_text cells.entry) clock.now flat) }
+    ensures stop { IfErr result (StopsAt (IsRefusalOver netlist.now delays.now (cell_text cells.entry) clock.now)) }
+{
+    let modules = match read_netlist(alloc, netlist) {
+        Ok(modules) => modules,
+        Err(stop) => return Err(stop),
+    };
+    let said = match read_delays(alloc, delays) {
+        Ok(said) => said,
+        Err(stop) => return Err(stop),
+    };
+    let described = match cells_of(alloc, cells) {
+        Ok(described) => described,
+        Err(stop) => return Err(stop),
+    };
+    let clocked = match read_clock(alloc, clock) {
+        Ok(clocked) => clocked,
+        Err(stop) => return Err(stop),
+    };
+    let hierarchy = match flatten(alloc, &modules, &described, clocked.top.as_ref()) {
+        Ok(hierarchy) => hierarchy,
+        Err(stop) => return Err(stop),
+    };
+    annotate(alloc, &hierarchy, &described, &clocked, &said)
+}
 
 /// The design of a netlist, delays, cells and a clock. The refusal is the first in the order of a run: Syntax of the netlist; Syntax,
 /// Range or Negative of the delays; BadCell; BadClock; those of the hierarchy; those of the clock's ports, of what delays speak
@@ -30,25 +90,36 @@ pub fn from_files(
     ensures value { IfOk result (λ flat. IsFilesDesign netlist.now delays.now cells.now clock.now flat) }
     ensures stop { IfErr result (StopsAt (IsFilesRefusal netlist.now delays.now cells.now clock.now)) }
 {
-    let modules = match read_netlist(alloc, netlist) {
-        Ok(modules) => modules,
-        Err(stop) => return Err(stop),
-    };
-    let said = match read_delays(alloc, delays) {
-        Ok(said) => said,
-        Err(stop) => return Err(stop),
-    };
-    let described = match read_cells(alloc, cells) {
-        Ok(described) => described,
-        Err(stop) => return Err(stop),
-    };
-    let clocked = match read_clock(alloc, clock) {
-        Ok(clocked) => clocked,
-        Err(stop) => return Err(stop),
-    };
-    let hierarchy = match flatten(alloc, &modules, &described, clocked.top.as_ref()) {
-        Ok(hierarchy) => hierarchy,
-        Err(stop) => return Err(stop),
-    };
-    annotate(alloc, &hierarchy, &described, &clocked, &said)
+    designed(
+        alloc,
+        netlist,
+        delays,
+        CellFile::Description { text: cells },
+        clock,
+    )
+}
+
+/// The design of a netlist, delays, a Liberty library and a clock. The refusals are those of files, with the Syntax of the
+/// library in the place of BadCell.
+pub fn from_liberty(
+    alloc: Global,
+    netlist: &[u8],
+    delays: &[u8],
+    liberty: &[u8],
+    clock: &[u8],
+) -> Result<Flat, Stop>
+    requires netlist { length netlist.now ≤ 67108864 }
+    requires delays { length delays.now ≤ 67108864 }
+    requires liberty { length liberty.now ≤ 67108864 }
+    requires clock { length clock.now ≤ 67108864 }
+    ensures value { IfOk result (λ flat. IsLibertyDesign netlist.now delays.now liberty.now clock.now flat) }
+    ensures stop { IfErr result (StopsAt (IsLibertyRefusal netlist.now delays.now liberty.now clock.now)) }
+{
+    designed(
+        alloc,
+        netlist,
+        delays,
+        CellFile::Library { text: liberty },
+        clock,
+    )
 }

@@ -1,5 +1,6 @@
-//! What the definitions of refusals say: a law is the contract of a function that does nothing of its own.
-ghost use Rattle.mintc_build.specs.Laws.{AcceptedAreNotRefused, DesignRefusalsAreDetermined, FilesHaveOneDesign, FilesHaveOneRefusal, FilesWithDesignAreNotRefused};
+//! What the definitions of designs and refusals say: a law is the contract of a function that does nothing of its own.
+ghost use Rattle.mintc_build.specs.FilesDesign.{described_by, library_by};
+ghost use Rattle.mintc_build.specs.Laws.{AcceptedAreNotRefused, ArePlain, CornersDifferInNumbers, DesignRefusalsAreDetermined};
 
 use mintc_annotate::{
     annotate_refusals_are_determined, designs_are_determined, designs_are_not_refused,
@@ -21,11 +22,10 @@ pub fn design_refusals_are_determined()
     pairs_are_determined();
 }
 
-/// Four files have one design or one refusal at most, and never both.
+/// Four files have one design or one refusal at most, and never both, whether their cells are described or a library's.
 pub fn files_are_plain()
-    ensures design { FilesHaveOneDesign }
-    ensures no_refusal { FilesWithDesignAreNotRefused }
-    ensures refusal { FilesHaveOneRefusal }
+    ensures described { ArePlain described_by }
+    ensures library { ArePlain library_by }
 {
     texts_are_plain();
     cells_are_determined();
@@ -37,4 +37,14 @@ pub fn files_are_plain()
     designs_are_determined();
     designs_are_not_refused();
     annotate_refusals_are_determined();
+}
+
+/// Designs of one netlist, one cell description and one clock differ in numbers alone, whatever their delays.
+pub fn corners_differ_in_numbers()
+    ensures { CornersDifferInNumbers }
+{
+    texts_are_plain();
+    cells_are_determined();
+    clocks_are_determined();
+    designs_are_determined();
 }

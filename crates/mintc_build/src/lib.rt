@@ -6,8 +6,8 @@ mod files;
 mod laws;
 
 pub use building::{from_table, system};
-pub use files::from_files;
-pub use laws::{accepted_designs_are_not_refused, design_refusals_are_determined, files_are_plain};
-
-#[cfg(test)]
-mod tests;
+pub use files::{from_files, from_liberty};
+pub use laws::{
+    accepted_designs_are_not_refused, corners_differ_in_numbers, design_refusals_are_determined,
+    files_are_plain,
+};

@@ -5,5 +5,6 @@ pub mod AnswerLaws
 pub mod SourceLaws
 pub mod JudgementLaws
 pub mod RefusalLaws
+pub mod CornerLaws
 pub mod OptimumLaws
 pub mod NumberLaws

@@ -1,30 +1,34 @@
 -- A first refusal excludes other answers, and is one.
-use Rattle.std.proofs.Common.{◌≡◌, ◌≤◌, ℕ, List, [], ◌∷◌, length, Some, None, false, ltb, refl, ap, ◌∙◌, sym, subst, inl, inr, ◌⊎◌, arith}
+use Rattle.std.proofs.Common.{◌≡◌, ◌≤◌, ◌*◌, ℕ, suc, List, [], ◌∷◌, length, Some, None, false, ltb, refl, ap, ◌∙◌, sym, subst, inl, inr, ◌⊎◌, arith}
 use Rattle.std.proofs.lemmas.Bool.Decides.{nat_tests}
 use Rattle.std.proofs.lemmas.List.Elements.{All-head, All-tail}
+use Rattle.std.proofs.lemmas.Slice.Zip.{AllZip-long}
 use Rattle.mintc_text.specs.declared.refusals.Refusal.{Refusal}
 use Rattle.mintc_text.specs.declared.refusals.Refusal.TheVariants as refusal
+use Rattle.mintc_text.specs.declared.refusals.Kind.TheVariants as kind
 use Rattle.mintc_text.specs.declared.refusals.Role.{Role}
 use Rattle.mintc_text.specs.declared.refusals.Role.TheVariants as role
 use Rattle.mintc_timing.specs.declared.clocking.Schedule.{Schedule}
-use Rattle.mintc_timing.specs.Design.{Design, Timing, phase_count}
+use Rattle.mintc_timing.specs.Design.{Design, Timing, element_count, phase_count}
 use Rattle.mintc_timing.specs.Limits.{IsDesign, limit_of}
 use Rattle.mintc_timing.specs.TableText.{IsTableText, IsTableRefusal}
 use Rattle.mintc_timing.specs.TextLaws.{HaveOneSchedule, HaveNoScheduleFault, HaveOneScheduleFault, HaveOneDesign, HaveNoTableFault, HaveOneTableFault}
 use Rattle.mintc_build.specs.Designs.{IsDesignRefusal}
-use Rattle.mintc_build.specs.Laws.{AcceptedAreNotRefused, DesignRefusalsAreDetermined, FilesHaveOneDesign, FilesHaveOneRefusal, FilesWithDesignAreNotRefused, IsLoopRefusal}
+use Rattle.mintc_build.specs.FilesDesign.{described_by, library_by}
+use Rattle.mintc_build.specs.Laws.{AcceptedAreNotRefused, ArePlain, DesignRefusalsAreDetermined, IsLoopRefusal}
 use Rattle.mintc_certificate.specs.TextLaws.{HaveNoCertificateFault, HaveOneCertificateFault}
 use Rattle.mintc_command.specs.Answers.{IsContentAnswer, IsContentRefusal, IsRefusalOn}
 use Rattle.mintc_command.specs.Contents.{content_roles, contents_of}
+use Rattle.mintc_command.specs.Corners.{AreGiven, IsFirstRefused, corners_of, elements_together}
 use Rattle.mintc_command.specs.Jobs.{IsFileRefused, IsJobAnswer, IsScheduleOf, IsScheduleRefused}
 use Rattle.mintc_command.specs.Laws.{RefusalsExcludeAnswers, RefusalsAreDetermined}
 use Rattle.mintc_command.specs.Sources.{AreShort, Describes, Gives, HasNoDesign, IsLengthRefusal, IsSourceRefused, file_at, own_file}
 use Rattle.mintc_command.specs.declared.command.Command.{Command}
-use Rattle.mintc_command.specs.declared.command.Command.TheVariants.{OfDesign, Sample}
+use Rattle.mintc_command.specs.declared.command.Command.TheVariants.{OfDesign, Sample, Corners}
 use Rattle.mintc_command.specs.declared.command.Job.{Job}
 use Rattle.mintc_command.specs.declared.command.Job.TheVariants.{Check, Optimise, Verify, Report, Safe, Slack}
 use Rattle.mintc_command.specs.declared.command.Source.{Source}
-use Rattle.mintc_command.specs.declared.command.Source.TheVariants.{Table, Files}
+use Rattle.mintc_command.specs.declared.command.Source.TheVariants.{Table, Files, Liberty}
 use Rattle.mintc_command.specs.declared.reading.TheConstants.{LONGEST}
 use Rattle.mintc_command.specs.declared.status.Status.{Status}
 use Rattle.mintc_command.specs.declared.status.Status.TheVariants.{Done, Found, Refused, Usage, ReadFault, WriteFault, OutOfMemory}
@@ -40,9 +44,8 @@ pub record AreTextLaws : Type 0 where
   pub no_certificate_fault : HaveNoCertificateFault
   pub one_certificate_fault : HaveOneCertificateFault
   pub accepted : AcceptedAreNotRefused
-  pub one_files_design : FilesHaveOneDesign
-  pub no_files_refusal : FilesWithDesignAreNotRefused
-  pub one_files_refusal : FilesHaveOneRefusal
+  pub files : ArePlain described_by
+  pub liberty : ArePlain library_by
 
 -- Within the limits none is passed.
 no_limit : (design : Design) (refused : Refusal) → IsDesign design → limit_of design ≡ Some refused → ⊥
@@ -77,7 +80,8 @@ one_length (text ∷ roles) (bytes ∷ files) refused other (inr a) (inr b) = on
 -- The files of a source stand for one design. Where it is within the limits they have no refusal, and they have one at most.
 one_design : AreTextLaws → (source : Source) (files : List (List ℕ)) (design other : Design) → Describes source files design → Describes source files other → design ≡ other
 one_design law Table files design other a b = law.one_design (file_at files 0) design other a b
-one_design law Files files design other a b = law.one_files_design (file_at files 0) (file_at files 1) (file_at files 2) (file_at files 3) design other a b
+one_design law Files files design other a b = law.files.one_design (file_at files 0) (file_at files 1) (file_at files 2) (file_at files 3) design other a b
+one_design law Liberty files design other a b = law.liberty.one_design (file_at files 0) (file_at files 1) (file_at files 2) (file_at files 3) design other a b
 
 no_table : AreTextLaws → (table : List ℕ) (design : Design) (refused : Refusal) → IsTableText table design → IsDesign design → IsTableRefusal table refused → ⊥
 no_table law table design refused text limits (inl (n, named, fault)) = law.no_table_fault table design n text fault
@@ -88,7 +92,9 @@ no_table law table design refused text limits (inr (d, other, over)) =
 no_refusal : AreTextLaws → (source : Source) (files : List (List ℕ)) (design : Design) (refused : Refusal) → Describes source files design → IsDesign design → HasNoDesign source files refused → ⊥
 no_refusal law Table files design refused described limits h = no_table law (file_at files 0) design refused described limits h
 no_refusal law Files files design refused described limits h =
-    law.no_files_refusal (file_at files 0) (file_at files 1) (file_at files 2) (file_at files 3) design refused described h
+    law.files.no_refusal (file_at files 0) (file_at files 1) (file_at files 2) (file_at files 3) design refused described h
+no_refusal law Liberty files design refused described limits h =
+    law.liberty.no_refusal (file_at files 0) (file_at files 1) (file_at files 2) (file_at files 3) design refused described h
 
 one_limit : (design : Design) (refused other : Refusal) → limit_of design ≡ Some refused → limit_of design ≡ Some other → refused ≡ other
 one_limit design refused other a b = let e : Some refused ≡ Some other = sym a ∙ b in cc
@@ -105,7 +111,9 @@ one_table law table refused other (inr (d, text, over)) (inr (e, other_text, oth
 one_refusal : AreTextLaws → (source : Source) (files : List (List ℕ)) (refused other : Refusal) → HasNoDesign source files refused → HasNoDesign source files other → refused ≡ other
 one_refusal law Table files refused other a b = one_table law (file_at files 0) refused other a b
 one_refusal law Files files refused other a b =
-    law.one_files_refusal (file_at files 0) (file_at files 1) (file_at files 2) (file_at files 3) refused other a b
+    law.files.one_refusal (file_at files 0) (file_at files 1) (file_at files 2) (file_at files 3) refused other a b
+one_refusal law Liberty files refused other a b =
+    law.liberty.one_refusal (file_at files 0) (file_at files 1) (file_at files 2) (file_at files 3) refused other a b
 
 -- A schedule with the design's phases isn't refused.
 no_schedule : AreTextLaws → (schedule : List ℕ) (phases : ℕ) (s : Schedule) (refused : Refusal) → IsScheduleOf schedule phases s → IsScheduleRefused schedule phases refused → ⊥
@@ -135,12 +143,44 @@ no_file law Report t u file refused status text same h g = absurd g
 no_file law Safe t u file refused status text same h g = absurd g
 no_file law Slack t u file refused status text same h g = absurd g
 
+-- Corners that give timings have none that is refused; of others one is the first; and they have as many elements together
+-- whatever timings they give.
+no_corner : AreTextLaws → (corners : List (List (List ℕ))) (c corner : ℕ) (own : Refusal) (ts : List Timing) → AreGiven corners ts → IsFirstRefused corners c corner own → ⊥
+no_corner law [] c corner own ts given h = absurd h
+no_corner law (files ∷ corners) c corner own [] given h = absurd given
+no_corner law (files ∷ corners) c corner own (t ∷ ts) given (inl h) = no_source law Files files t own given.0 h.1
+no_corner law (files ∷ corners) c corner own (t ∷ ts) given (inr (u, gives, h)) = no_corner law corners (suc c) corner own ts given.1 h
+
+one_corner : AreTextLaws → (corners : List (List (List ℕ))) (c corner other : ℕ) (own others : Refusal) → IsFirstRefused corners c corner own → IsFirstRefused corners c other others →
+    corner ≡ other
+one_corner law [] c corner other own others h g = absurd h
+one_corner law (files ∷ corners) c corner other own others (inl h) (inl g) = h.0 ∙ sym g.0
+one_corner law (files ∷ corners) c corner other own others (inl h) (inr (t, gives, g)) = absurd (no_source law Files files t own gives h.1)
+one_corner law (files ∷ corners) c corner other own others (inr (t, gives, h)) (inl g) = absurd (no_source law Files files t others gives g.1)
+one_corner law (files ∷ corners) c corner other own others (inr (t, gives, h)) (inr (u, gives_too, g)) = one_corner law corners (suc c) corner other own others h g
+
+one_number : AreTextLaws → (corners : List (List (List ℕ))) (ts us : List Timing) → AreGiven corners ts → AreGiven corners us → elements_together ts ≡ elements_together us
+one_number law [] [] [] a b = refl
+one_number law [] [] (u ∷ us) a b = absurd b
+one_number law [] (t ∷ ts) us a b = absurd a
+one_number law (files ∷ corners) [] us a b = absurd a
+one_number law (files ∷ corners) (t ∷ ts) [] a b = absurd b
+one_number law (files ∷ corners) (t ∷ ts) (u ∷ us) a b =
+    let counts : length ts ≡ length us = AllZip-long (Gives Files) corners ts a.1 ∙ sym (AllZip-long (Gives Files) corners us b.1) in
+    let elements : element_count t ≡ element_count u = ap (λ (d : Design). length d.elements) (one_design law Files files t.flat u.flat a.0.design b.0.design) in
+    ap (λ (n : ℕ). suc n * element_count t) counts ∙ ap (λ (n : ℕ). suc (length us) * n) elements
+
 no_content : AreTextLaws → (command : Command) (files : List (List ℕ)) (refused : Refusal) (status : Status) (text : List ℕ) →
     IsContentAnswer command files status text → IsContentRefusal command files refused → ⊥
 no_content law (OfDesign job source) files refused status text (t, gives, h) (inl g) = no_source law source files t refused gives g
 no_content law (OfDesign job source) files refused status text (t, gives, h) (inr (u, gives_too, g)) =
     no_file law job t u (own_file source files) refused status text (one_count law source files u t gives_too gives) h g
 no_content law (Sample number) files refused status text (t, gives, h) g = no_source law Files files t refused gives g
+no_content law (Corners count) files refused status text (ts, given, few, h) (inl (corner, own, first, named)) = no_corner law (corners_of files) 1 corner own ts given first
+no_content law (Corners count) files refused status text (ts, given, few, h) (inr (us, given_too, many)) =
+    let same = one_number law (corners_of files) us ts given_too given in
+    let over = many.0 in
+    omega (arith, few, over, same)
 
 exclude : AreTextLaws → (command : Command) (files : List (List ℕ)) (refused : Refusal) (status : Status) (text : List ℕ) → IsRefusalOn command files refused →
     AreShort files → IsContentAnswer command files status text → ⊥
@@ -193,6 +233,14 @@ one_content law one (OfDesign job source) files refused other (inr (t, gives, a)
 one_content law one (OfDesign job source) files refused other (inr (t, gives, a)) (inr (u, gives_too, b)) =
     inl (one_file law job t u (own_file source files) refused other (one_count law source files u t gives_too gives) a b)
 one_content law one (Sample number) files refused other a b = one_source_refusal law one Files files refused other a b
+one_content law one (Corners count) files refused other (inl (corner, own, first, a)) (inl (another, others, first_too, b)) =
+    inl (a ∙ ap refusal.Corner (one_corner law (corners_of files) 1 corner another own others first first_too) ∙ sym b)
+one_content law one (Corners count) files refused other (inl (corner, own, first, a)) (inr (ts, given, b)) =
+    absurd (no_corner law (corners_of files) 1 corner own ts given first)
+one_content law one (Corners count) files refused other (inr (ts, given, a)) (inl (corner, own, first, b)) =
+    absurd (no_corner law (corners_of files) 1 corner own ts given first)
+one_content law one (Corners count) files refused other (inr (ts, given, a)) (inr (us, given_too, b)) =
+    inl (a.1 ∙ ap (λ (n : ℕ). refusal.Limit kind.Elements n) (one_number law (corners_of files) ts us given given_too) ∙ sym b.1)
 
 determined_on : AreTextLaws → DesignRefusalsAreDetermined → (command : Command) (files : List (List ℕ)) (refused other : Refusal) → IsRefusalOn command files refused →
     IsRefusalOn command files other → (refused ≡ other) ⊎ (IsLoopRefusal refused × IsLoopRefusal other)

@@ -1,24 +1,20 @@
 -- Tables and their systems.
-use Rattle.std.proofs.Common.{Result, Ok, Err, IfOk, IfErr, ◌≡◌, ◌<◌, ◌≤◌, ℕ, zero, suc, List, [], ◌∷◌, length, get_or, take, inl, inr, refl, sym, subst, arith}
+use Rattle.std.proofs.Common.{◌≡◌, ◌<◌, ◌≤◌, ℕ, zero, suc, List, [], ◌∷◌, length, get_or, take, inl, inr, refl, sym, subst, arith, Result, Ok, Err, IfOk, IfErr}
 use Rattle.std.proofs.lemmas.List.Elements.{All-head, All-tail}
 use Rattle.mintc_text.specs.declared.refusals.Refusal.TheVariants as refusal
 use Rattle.mintc_text.specs.declared.refusals.Role.{Role}
 use Rattle.mintc_text.specs.declared.refusals.Stop.{Stop}
 use Rattle.mintc_text.specs.declared.refusals.Stop.TheVariants as stop
 use Rattle.mintc_text.specs.Stops.{StopsAt}
-use Rattle.mintc_timing.specs.Accepted.{SystemsAreAccepted}
 use Rattle.mintc_timing.specs.Design.{Design, Timing}
 use Rattle.mintc_timing.specs.Limits.{IsDesign}
-use Rattle.mintc_timing.specs.Order.{IsTiming}
 use Rattle.mintc_build.specs.Designs.{IsDesignRefusal}
-use Rattle.mintc_build.specs.FilesDesign.{IsFilesDesign, IsFilesRefusal}
-use Rattle.mintc_command.specs.Sources.{AreShort, Describes, Gives, HasNoDesign, IsLengthRefusal, IsSourceRefused, file_at}
+use Rattle.mintc_command.specs.Sources.{AreShort, Describes, Gives, HasNoDesign, IsLengthRefusal, IsSourceRefused, IsSystemOf, file_at}
 use Rattle.mintc_command.specs.declared.command.Source.{Source}
-use Rattle.mintc_command.specs.declared.command.Source.TheVariants.{Files}
 use Rattle.mintc_command.specs.declared.reading.TheConstants.{LONGEST}
 
 -- What stops a system of the design of files stops the files.
-pub StopsAt-system : (source : Source) (files : List (List ℕ)) (design : Design) (s : Stop) → Describes source files design → IsDesign design → StopsAt (IsDesignRefusal design) s → StopsAt (IsSourceRefused source files) s
+StopsAt-system : (source : Source) (files : List (List ℕ)) (design : Design) (s : Stop) → Describes source files design → IsDesign design → StopsAt (IsDesignRefusal design) s → StopsAt (IsSourceRefused source files) s
 StopsAt-system source files design (stop.Refused refused) described limits h = inr (design, described, limits, h)
 StopsAt-system source files design stop.OutOfMemory described limits h = tt
 
@@ -28,24 +24,23 @@ StopsAt-design source files (stop.Refused refused) h = inl h
 StopsAt-design source files stop.OutOfMemory h = tt
 
 -- A system of the design of files is theirs.
-pub Gives-system : SystemsAreAccepted → (source : Source) (files : List (List ℕ)) (design : Design) (t : Timing) → Describes source files design → IsDesign design → t.flat ≡ design →
-    IsTiming t.flat t.order t.pairs → Gives source files t
-Gives-system accepted source files design t described limits same timing =
-    let limits_too : IsDesign t.flat = rw same limits in
-    let own : Describes source files t.flat = subst (λ (d : Design). Describes source files d) (sym same) described in
-    record { design = own; accepted = accepted t.flat t.order t.pairs limits_too timing; pairs = timing.extremes }
+pub Gives-system : (source : Source) (files : List (List ℕ)) (design : Design) (r : Result Timing Stop) → Describes source files design → IfOk r (IsSystemOf design) → IfOk r (Gives source files)
+Gives-system source files design (Ok t) described h =
+    record { design = subst (λ (d : Design). Describes source files d) (sym h.same) described; accepted = h.accepted; pairs = h.pairs }
+Gives-system source files design (Err s) described h = tt
 
--- What is said of the texts of four files is said of the files that a command names.
-pub files_design : (result : Result Design Stop) (source : Source) (files : List (List ℕ)) (v d c k : List ℕ) → source ≡ Files → v ≡ file_at files 0 → d ≡ file_at files 1 → c ≡ file_at files 2 → k ≡ file_at files 3 →
-    IfOk result (IsFilesDesign v d c k) → IfOk result (Describes source files)
-files_design (Ok design) source files v d c k is a b e f h = rw (is, sym a, sym b, sym e, sym f) h
-files_design (Err stop) source files v d c k is a b e f h = tt
+pub Refuses-system : (source : Source) (files : List (List ℕ)) (design : Design) (r : Result Timing Stop) → Describes source files design → IsDesign design →
+    IfErr r (StopsAt (IsDesignRefusal design)) → IfErr r (StopsAt (IsSourceRefused source files))
+Refuses-system source files design (Ok t) described limits h = tt
+Refuses-system source files design (Err s) described limits h = StopsAt-system source files design s described limits h
 
-pub files_refusal : (result : Result Design Stop) (source : Source) (files : List (List ℕ)) (v d c k : List ℕ) → source ≡ Files → v ≡ file_at files 0 → d ≡ file_at files 1 → c ≡ file_at files 2 → k ≡ file_at files 3 →
-    IfErr result (StopsAt (IsFilesRefusal v d c k)) → IfErr result (StopsAt (HasNoDesign source files))
-files_refusal (Ok design) source files v d c k is a b e f h = tt
-files_refusal (Err (stop.Refused refused)) source files v d c k is a b e f h = rw (is, sym a, sym b, sym e, sym f) h
-files_refusal (Err stop.OutOfMemory) source files v d c k is a b e f h = tt
+-- What is said of the texts of four files is said of the files that a command names, whose source is this one.
+pub of_four : (Q : List ℕ → List ℕ → List ℕ → List ℕ → Type 0) (R : Source → Type 0) (own source : Source) (files : List (List ℕ)) (v d c k : List ℕ) →
+    (Q (file_at files 0) (file_at files 1) (file_at files 2) (file_at files 3) → R own) → source ≡ own →
+    v ≡ file_at files 0 → d ≡ file_at files 1 → c ≡ file_at files 2 → k ≡ file_at files 3 → Q v d c k → R source
+of_four Q R own source files v d c k said is a b e f h =
+    let all : Q (file_at files 0) (file_at files 1) (file_at files 2) (file_at files 3) = rw (sym a, sym b, sym e, sym f) h in
+    subst R (sym is) (said all)
 
 -- A file that is too long, after some that aren't, is refused by its role.
 pub IsLengthRefusal-at : (roles : List Role) (files : List (List ℕ)) (n : ℕ) (d : Role) → n < length files → n < length roles →

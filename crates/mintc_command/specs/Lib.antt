@@ -3,5 +3,6 @@ pub mod Commands
 pub mod Contents
 pub mod Sources
 pub mod Jobs
+pub mod Corners
 pub mod Answers
 pub mod Laws

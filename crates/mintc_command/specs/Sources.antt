@@ -9,10 +9,10 @@ use Rattle.mintc_timing.specs.Limits.{IsDesign}
 use Rattle.mintc_timing.specs.Paths.{ArePairs}
 use Rattle.mintc_timing.specs.TableText.{IsTableText, IsTableRefusal}
 use Rattle.mintc_build.specs.Designs.{IsDesignRefusal}
-use Rattle.mintc_build.specs.FilesDesign.{IsFilesDesign, IsFilesRefusal}
+use Rattle.mintc_build.specs.FilesDesign.{IsFilesDesign, IsFilesRefusal, IsLibertyDesign, IsLibertyRefusal}
 use Rattle.mintc_command.specs.Commands.{source_roles}
 use Rattle.mintc_command.specs.declared.command.Source.{Source}
-use Rattle.mintc_command.specs.declared.command.Source.TheVariants.{Table, Files}
+use Rattle.mintc_command.specs.declared.command.Source.TheVariants.{Table, Files, Liberty}
 use Rattle.mintc_command.specs.declared.reading.TheConstants.{LONGEST}
 
 -- the bytes of the file of a number, counted from 0
@@ -34,15 +34,23 @@ IsLengthRefusal (text ∷ roles) [] refused = ⊥
 IsLengthRefusal (text ∷ roles) (bytes ∷ files) refused =
     ((LONGEST < length bytes) × (refused ≡ refusal.TooLong text)) ⊎ ((length bytes ≤ LONGEST) × IsLengthRefusal roles files refused)
 
--- The files of a design, which come first, stand for it: a table, or a netlist, delays, cells and a clock.
+-- The files of a design, which come first, stand for it: a table, or a netlist, delays, cells or a Liberty library, and a clock.
 abbrev pub Describes : Source → List (List ℕ) → Design → Type 0
 Describes Table files design = IsTableText (file_at files 0) design
 Describes Files files design = IsFilesDesign (file_at files 0) (file_at files 1) (file_at files 2) (file_at files 3) design
+Describes Liberty files design = IsLibertyDesign (file_at files 0) (file_at files 1) (file_at files 2) (file_at files 3) design
 
 -- They stand for no design within the limits, and this is their first refusal.
 abbrev pub HasNoDesign : Source → List (List ℕ) → Refusal → Type 0
 HasNoDesign Table files refused = IsTableRefusal (file_at files 0) refused
 HasNoDesign Files files refused = IsFilesRefusal (file_at files 0) (file_at files 1) (file_at files 2) (file_at files 3) refused
+HasNoDesign Liberty files refused = IsLibertyRefusal (file_at files 0) (file_at files 1) (file_at files 2) (file_at files 3) refused
+
+-- The timing is that of the design, which is accepted, and these are its pairs.
+pub record IsSystemOf (design : Design) (t : Timing) : Type 0 where
+  pub same : t.flat ≡ design
+  pub accepted : IsAccepted t.flat
+  pub pairs : ArePairs t.flat t.pairs
 
 -- The files stand for this timing's design, which is accepted, and these are its pairs.
 pub record Gives (source : Source) (files : List (List ℕ)) (t : Timing) : Type 0 where

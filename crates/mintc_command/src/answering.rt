@@ -1,9 +1,8 @@
 //! The answer to a command, from the bytes of its files.
 ghost use Rattle.std.specs.Prelude.{◌≡◌, ◌≤◌, length, IfOk, IfErr};
-ghost use Rattle.mintc_text.specs.Refusals.{refusal_line};
 ghost use Rattle.mintc_text.specs.Stops.{StopsAt};
 ghost use Rattle.mintc_command.specs.Answers.{IsAnswerOn, IsContentAnswer, IsContentRefusal, IsDefined, IsOfCommand};
-ghost use Rattle.mintc_command.specs.Commands.{roles_of};
+ghost use Rattle.mintc_command.specs.Commands.{IsNumberInRange, roles_of};
 ghost use Rattle.mintc_command.specs.Contents.{content_roles, sample_texts};
 ghost use Rattle.mintc_command.specs.Jobs.{IsFileRefused, IsJobAnswer};
 ghost use Rattle.mintc_command.specs.Sources.{AreShort};
@@ -11,30 +10,18 @@ ghost use Rattle.mintc_command.specs.Sources.{AreShort};
 use crate::answer::Answer;
 use crate::checking::checked;
 use crate::command::{Command, Job, Source};
+use crate::corners::cornered;
 use crate::keeping::kept;
 use crate::optimum::{optimised, reported, summarised};
 use crate::reading::LONGEST;
+use crate::refusing::refused;
 use crate::slacks::slacked;
 use crate::source::{own_file, system_of, too_long};
-use crate::status::Status;
 use crate::verifying::verified;
-use mintc_report::refusal_text;
 use mintc_sample::files;
 use mintc_text::{Bytes, OutOfMemory, Refusal, Stop};
 use mintc_timing::System;
 use std::alloc::Global;
-
-/// The answer that a refusal is.
-fn refused(alloc: Global, refusal: &Refusal) -> Result<Answer, OutOfMemory>
-    ensures status { IfOk result (λ answer. answer.status ≡ Status.Refused) }
-    ensures text { IfOk result (λ answer. answer.text ≡ refusal_line refusal.now) }
-{
-    let text = refusal_text(alloc, refusal)?;
-    Ok(Answer {
-        status: Status::Refused,
-        text: Bytes::new(text),
-    })
-}
 
 /// The answer to a job on a system and on the file that stands beside the design's, or why that file is refused.
 fn answered(alloc: Global, job: Job, system: &System, file: &[u8]) -> Result<Answer, Stop>
@@ -87,30 +74,23 @@ fn sample_answer(alloc: Global, number: u64, texts: &[Bytes]) -> Result<Answer, 
     }
 }
 
-/// The answer to a command on texts that aren't too long, or their first refusal.
-fn content_answer(alloc: Global, command: Command, texts: &[Bytes]) -> Result<Answer, Stop>
-    requires count { length texts.now ≡ length (content_roles command) }
-    requires short { AreShort texts.now }
-    ensures value { IfOk result (λ answer. IsContentAnswer command texts.now answer.status answer.text) }
-    ensures stop { IfErr result (StopsAt (IsContentRefusal command texts.now)) }
-{
-    match command {
-        Command::OfDesign { job, source } => design_answer(alloc, job, source, texts),
-        Command::Sample { number } => sample_answer(alloc, number, texts),
-    }
-}
-
-/// The answer to a command on the texts that it works on: the line of their first refusal, or what is answered where nothing
+/// The answer to a command on the texts that it works on: the text of their first refusal, or what is answered where nothing
 /// is refused.
 fn answer_on(alloc: Global, command: Command, texts: &[Bytes]) -> Result<Answer, OutOfMemory>
-    requires { length texts.now ≡ length (content_roles command) }
+    requires count { length texts.now ≡ length (content_roles command) }
+    requires in_range { IsNumberInRange command }
     ensures value { IfOk result (λ answer. IsAnswerOn command texts.now answer.status answer.text) }
     ensures status { IfOk result (λ answer. IsOfCommand answer.status) }
 {
     if let Some(refusal) = too_long(command.content_roles(), texts) {
         return refused(alloc, &refusal);
     }
-    match content_answer(alloc, command, texts) {
+    let answer = match command {
+        Command::OfDesign { job, source } => design_answer(alloc, job, source, texts),
+        Command::Sample { number } => sample_answer(alloc, number, texts),
+        Command::Corners { count } => return cornered(alloc, count, texts),
+    };
+    match answer {
         Ok(answer) => Ok(answer),
         Err(Stop::Refused(refusal)) => refused(alloc, &refusal),
         Err(Stop::OutOfMemory) => Err(OutOfMemory),
@@ -127,12 +107,13 @@ fn sample_texts(alloc: Global, number: u64) -> Result<[Bytes; 4], OutOfMemory>
 
 /// The answer to a command, of the bytes of its files.
 pub fn answer_to(alloc: Global, command: Command, files: &[Bytes]) -> Result<Answer, OutOfMemory>
-    requires { length files.now ≡ length (roles_of command) }
+    requires count { length files.now ≡ length (roles_of command) }
+    requires in_range { IsNumberInRange command }
     ensures defined { IfOk result (λ answer. IsDefined command files.now answer.status answer.text) }
     ensures status { IfOk result (λ answer. IsOfCommand answer.status) }
 {
     match command {
-        Command::OfDesign { .. } => answer_on(alloc, command, files),
+        Command::OfDesign { .. } | Command::Corners { .. } => answer_on(alloc, command, files),
         Command::Sample { number } => {
             let texts = sample_texts(alloc, number)?;
             answer_on(alloc, Command::Sample { number }, texts.as_slice())

@@ -1,5 +1,5 @@
 //! Which words are a command, and which one.
-ghost use Rattle.std.specs.Prelude.{◌≡◌, ◌≢◌, ◌<◌, ◌^◌, ◌∷◌, [], ℕ, MatchOption, decimal, drop};
+ghost use Rattle.std.specs.Prelude.{◌≡◌, ◌≢◌, ◌<◌, ◌+◌, ◌^◌, ◌∷◌, [], ℕ, MatchOption, decimal, drop, length};
 ghost use Rattle.mintc_command.specs.declared.command.Command.{Command};
 ghost use Rattle.mintc_command.specs.declared.command.Job.{Job};
 ghost use Rattle.mintc_command.specs.Commands.{bytes_of, job_word, source_word, roles_of, words_of, AreWordsOf, IsCommand, IsNumberInRange};
@@ -31,6 +31,8 @@ pub enum Source {
     Table,
     /// Four files: a netlist, delays, cells and a clock.
     Files,
+    /// Four files: a netlist, delays, a Liberty library, which has the cells, and a clock.
+    Liberty,
 }
 
 /// A command, without the names of its files.
@@ -40,26 +42,42 @@ pub enum Command {
     OfDesign { job: Job, source: Source },
     /// For a summary of the sample of a number, a large design that needs no file.
     Sample { number: u64 },
+    /// For the least cycle time of one schedule for so many delay files, from 2 to 4.
+    Corners { count: u32 },
 }
 
 impl Command {
+    /// How many words it begins with, before the names of its files.
+    pub fn word_count(&self) -> usize
+        ensures { result ≡ length (words_of self.now) }
+    {
+        match self {
+            Command::OfDesign { .. } | Command::Sample { .. } => 2,
+            Command::Corners { .. } => 1,
+        }
+    }
+
     /// What each of its files holds, in the order of the words.
     pub fn roles(&self) -> &'static [Role]
+        requires { IsNumberInRange self.now }
         ensures { result.now ≡ roles_of self.now }
     {
         match *self {
             Command::OfDesign { job, source } => design_roles(job, source),
             Command::Sample { .. } => &[],
+            Command::Corners { count } => corners_roles(count),
         }
     }
 
     /// What each of the texts holds that it works on: those of its files, or of its sample.
     pub fn content_roles(&self) -> &'static [Role]
+        requires { IsNumberInRange self.now }
         ensures { result.now ≡ content_roles self.now }
     {
         match *self {
             Command::OfDesign { job, source } => design_roles(job, source),
             Command::Sample { .. } => files_roles(Job::Optimise),
+            Command::Corners { count } => corners_roles(count),
         }
     }
 }
@@ -70,7 +88,7 @@ fn design_roles(job: Job, source: Source) -> &'static [Role]
 {
     match source {
         Source::Table => table_roles(job),
-        Source::Files => files_roles(job),
+        Source::Files | Source::Liberty => files_roles(job),
     }
 }
 
@@ -110,6 +128,39 @@ fn files_roles(job: Job) -> &'static [Role]
     }
 }
 
+/// What the files of `corners` with so many delay files hold.
+fn corners_roles(count: u32) -> &'static [Role]
+    requires { IsNumberInRange (Command.Corners count) }
+    ensures { result.now ≡ roles_of (Command.Corners count) }
+{
+    match count {
+        2 => &[
+            Role::Netlist,
+            Role::Cells,
+            Role::Clock,
+            Role::Delays,
+            Role::Delays,
+        ],
+        3 => &[
+            Role::Netlist,
+            Role::Cells,
+            Role::Clock,
+            Role::Delays,
+            Role::Delays,
+            Role::Delays,
+        ],
+        _ => &[
+            Role::Netlist,
+            Role::Cells,
+            Role::Clock,
+            Role::Delays,
+            Role::Delays,
+            Role::Delays,
+            Role::Delays,
+        ],
+    }
+}
+
 /// The job that a word asks for.
 fn job_of(word: &str) -> Option<Job>
     ensures { MatchOption result ((job : Job) → word.now ≢ job_word job) (λ job. word.now ≡ job_word job) }
@@ -132,6 +183,7 @@ fn source_of(word: &str) -> Option<Source>
     match word {
         "table" => Some(Source::Table),
         "files" => Some(Source::Files),
+        "liberty" => Some(Source::Liberty),
         _ => None,
     }
 }
@@ -150,6 +202,19 @@ fn sample_number(word: &str) -> Option<u64>
     }
 }
 
+/// How many delay files `corners` has as the first of so many words: the others are the netlist, the cells, the clock and from
+/// 2 to 4 delay files.
+fn delay_count(words: usize) -> Option<u32>
+    ensures { MatchOption result ((count : ℕ) → IsNumberInRange (Command.Corners count) → words ≢ count + 4)
+        (λ count. IsNumberInRange (Command.Corners count) × (words ≡ count + 4)) }
+{
+    if 6 <= words && words <= 8 {
+        Some((words - 4) as u32)
+    } else {
+        None
+    }
+}
+
 /// The command that begins with two words.
 fn command_by(first: &str, second: &str) -> Option<Command>
     ensures { MatchOption result ((command : Command) → IsNumberInRange command → first.now ∷ second.now ∷ [] ≢ words_of command)
@@ -164,14 +229,20 @@ fn command_by(first: &str, second: &str) -> Option<Command>
     Some(Command::OfDesign { job, source })
 }
 
-/// The command that the words are. The names of its files are the words from the third one on.
+/// The command that the words are. The names of its files are the words after those that it begins with.
 pub fn command_of(words: &[String]) -> Option<Command>
-    ensures { MatchOption result (IsCommand (bytes_of words.now) → ⊥) (λ command. AreWordsOf command (bytes_of (drop 2 words.now)) (bytes_of words.now)) }
+    ensures { MatchOption result (IsCommand (bytes_of words.now) → ⊥)
+        (λ command. AreWordsOf command (bytes_of (drop (length (words_of command)) words.now)) (bytes_of words.now)) }
 {
     if words.len() < 2 {
         return None;
     }
-    let command = command_by(words[0].as_str(), words[1].as_str())?;
+    let first = words[0].as_str();
+    if first == "corners" {
+        let count = delay_count(words.len())?;
+        return Some(Command::Corners { count });
+    }
+    let command = command_by(first, words[1].as_str())?;
     if words.len() - 2 == command.roles().len() {
         Some(command)
     } else {

@@ -8,11 +8,13 @@ mod answer;
 mod answering;
 mod checking;
 mod command;
+mod corners;
 mod keeping;
 mod laws;
 mod optimum;
 mod program;
 mod reading;
+mod refusing;
 mod slacks;
 mod source;
 mod status;
@@ -21,6 +23,3 @@ mod verifying;
 pub use laws::{optima_are_verified, refusals_are_determined, refusals_exclude_answers};
 pub use program::run;
 pub use status::Status;
-
-#[cfg(test)]
-mod tests;

@@ -57,7 +57,7 @@ pub fn run<S: Shelf, O: Sink>(alloc: Global, words: &[String], shelf: &mut S, ou
     let Some(command) = command_of(words) else {
         return write(out, Status::Usage, USAGE);
     };
-    match read_files(alloc, shelf, &words[2..]) {
+    match read_files(alloc, shelf, &words[command.word_count()..]) {
         Ok(files) => match answer_to(alloc, command, files.as_slice()) {
             Ok(answer) => write(out, answer.status, answer.text.items()),
             Err(OutOfMemory) => Status::OutOfMemory,

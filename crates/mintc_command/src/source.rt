@@ -2,11 +2,13 @@
 ghost use Rattle.std.specs.Prelude.{◌≡◌, ◌≤◌, ◌<◌, length, MatchOption, IfOk, IfErr};
 ghost use Rattle.mintc_text.specs.Stops.{StopsAt};
 ghost use Rattle.mintc_command.specs.Commands.{source_roles};
-ghost use Rattle.mintc_command.specs.Sources.{AreShort, Describes, Gives, HasNoDesign, IsLengthRefusal, IsSourceRefused, own_file};
+ghost use Rattle.mintc_timing.specs.Limits.{IsDesign};
+ghost use Rattle.mintc_build.specs.Designs.{IsDesignRefusal};
+ghost use Rattle.mintc_command.specs.Sources.{AreShort, Describes, Gives, HasNoDesign, IsLengthRefusal, IsSourceRefused, IsSystemOf, own_file};
 
 use crate::command::Source;
 use crate::reading::LONGEST;
-use mintc_build::{from_files, from_table, system};
+use mintc_build::{from_files, from_liberty, from_table, system};
 use mintc_text::{Bytes, Refusal, Role, Stop};
 use mintc_timing::{Flat, System, systems_are_accepted};
 use std::alloc::Global;
@@ -40,6 +42,30 @@ fn design_of(alloc: Global, source: Source, files: &[Bytes]) -> Result<Flat, Sto
             files[2].items(),
             files[3].items(),
         ),
+        Source::Liberty => from_liberty(
+            alloc,
+            files[0].items(),
+            files[1].items(),
+            files[2].items(),
+            files[3].items(),
+        ),
+    }
+}
+
+/// The system of a design, or its first refusal.
+pub fn accepted_system(alloc: Global, flat: Flat) -> Result<System, Stop>
+    ensures limits { IsDesign flat }
+    ensures value { IfOk result (IsSystemOf flat) }
+    ensures stop { IfErr result (StopsAt (IsDesignRefusal flat)) }
+{
+    systems_are_accepted();
+    let _phases = flat.phases();
+    match system(alloc, flat) {
+        Ok(system) => {
+            let _pairs = system.pairs();
+            Ok(system)
+        }
+        Err(stop) => Err(stop),
     }
 }
 
@@ -54,15 +80,7 @@ pub fn system_of(alloc: Global, source: Source, files: &[Bytes]) -> Result<Syste
         Ok(flat) => flat,
         Err(stop) => return Err(stop),
     };
-    systems_are_accepted();
-    let _phases = flat.phases();
-    match system(alloc, flat) {
-        Ok(system) => {
-            let _pairs = system.pairs();
-            Ok(system)
-        }
-        Err(stop) => Err(stop),
-    }
+    accepted_system(alloc, flat)
 }
 
 /// The bytes of the file that stands after those of the design, or none where there is no such file.
@@ -73,7 +91,7 @@ pub fn own_file(source: Source, files: &[Bytes]) -> &[u8]
 {
     let place = match source {
         Source::Table => 1,
-        Source::Files => 4,
+        Source::Files | Source::Liberty => 4,
     };
     if place < files.len() {
         files[place].items()

@@ -6,10 +6,10 @@ use Rattle.mintc_command.proofs.AnswerLaws.{IsOfCommand-no_usage, answered, as_m
 use Rattle.mintc_command.proofs.CommandLaws.{one_command, read-count, read-names}
 use Rattle.mintc_command.proofs.program.run.Goals as goal
 
-pub answer_to-requires : goal.answer_to-requires
-answer_to-requires g c =
+pub answer_to-requires-clause-count : goal.answer_to-requires-clause-count
+answer_to-requires-clause-count g c =
     let are = c.in-Some.ensures in
-    let same = read-names c.args.words.now c.in-Some.command _ are in
+    let same = read-names c.args.words.now c.word_count.result c.in-Some.command c.in-Some.command _ _ c.word_count.ensures are are in
     ap (λ (x : List (List ℕ)). length x) c.as_slice.ensures.value
     ∙ as_many (g.S.Shelf.files c.args.shelf.now) _ _ _ c.in-Ok.ensures.fronts
     ∙ ap (λ (x : List (List ℕ)). length x) same ∙ are.count
@@ -23,21 +23,21 @@ returns-in-Ok-answer_to-clause-usage_only g c = λ e h.
 
 pub returns-in-Ok-answer_to-clause-held : goal.returns-in-Ok-answer_to-clause-held
 returns-in-Ok-answer_to-clause-held g c = λ command names are after.
-    rw (read-names c.args.words.now command names are) at c.in-Ok.ensures.held
+    rw (read-names c.args.words.now c.word_count.result c.in-Some.command command _ names c.word_count.ensures c.in-Some.ensures are) at c.in-Ok.ensures.held
 
 pub returns-in-Err-Failed-clause-sound : goal.returns-in-Err-Failed-clause-sound
 returns-in-Err-Failed-clause-sound g c = λ command names are sound all e.
-    c.in-Err-Failed.ensures.sound sound (rw (read-names c.args.words.now command names are) all) (ap Err c.in-Err-Failed.field-0-is)
+    c.in-Err-Failed.ensures.sound sound (rw (read-names c.args.words.now c.word_count.result c.in-Some.command command _ names c.word_count.ensures c.in-Some.ensures are) all) (ap Err c.in-Err-Failed.field-0-is)
 
 pub returns-in-Err-Failed-clause-complete : goal.returns-in-Err-Failed-clause-complete
 returns-in-Err-Failed-clause-complete g c = λ command names are sound all none quiet.
-    c.in-Err-Failed.ensures.sound sound (rw (read-names c.args.words.now command names are) all) (ap Err c.in-Err-Failed.field-0-is)
+    c.in-Err-Failed.ensures.sound sound (rw (read-names c.args.words.now c.word_count.result c.in-Some.command command _ names c.word_count.ensures c.in-Some.ensures are) all) (ap Err c.in-Err-Failed.field-0-is)
 
 pub returns-in-Ok-answer_to-clause-written : goal.returns-in-Ok-answer_to-clause-written
 returns-in-Ok-answer_to-clause-written g c =
     let are = c.in-Some.ensures in
     c.write-in-Ok-answer_to.ensures.written _ _
-    (answered _ _ _ _ _ (g.S.Shelf.files c.args.shelf.now) c.in-Some.command _ _ _ are (read-names c.args.words.now c.in-Some.command _ are)
+    (answered _ _ _ _ _ (g.S.Shelf.files c.args.shelf.now) c.in-Some.command _ _ _ are (read-names c.args.words.now c.word_count.result c.in-Some.command c.in-Some.command _ _ c.word_count.ensures are are)
     c.in-Ok.ensures.fronts c.as_slice.ensures.value c.in-Ok-answer_to.ensures.status c.in-Ok-answer_to.ensures.defined c.items.ensures)
 
 pub returns-in-Ok-answer_to-clause-complete : goal.returns-in-Ok-answer_to-clause-complete
@@ -45,11 +45,11 @@ returns-in-Ok-answer_to-clause-complete g c = λ command names are sound all non
     let same : command ≡ c.in-Some.command = one_command command c.in-Some.command names _ _ are c.in-Some.ensures in
     let P : Command → Type 0 = λ x. IsNotRefused (g.S.Shelf.files c.args.shelf.now) x names in
     elim c.write-in-Ok-answer_to.ensures.status [
-      | inl unchanged ↦ completed names _ _ _ (g.S.Shelf.files c.args.shelf.now) c.in-Some.command _ _ _ (read-names c.args.words.now command names are)
+      | inl unchanged ↦ completed names _ _ _ (g.S.Shelf.files c.args.shelf.now) c.in-Some.command _ _ _ (read-names c.args.words.now c.word_count.result c.in-Some.command command _ names c.word_count.ensures c.in-Some.ensures are)
           c.in-Ok.ensures.fronts c.as_slice.ensures.value c.in-Ok-answer_to.ensures.status c.in-Ok-answer_to.ensures.defined (subst P same none) unchanged
       | inr fault ↦ absurd (quiet (c.write-in-Ok-answer_to.ensures.cause fault))
     ]
 
 pub returns-in-Ok-answer_to-clause-reads : goal.returns-in-Ok-answer_to-clause-reads
 returns-in-Ok-answer_to-clause-reads g c = λ command names are.
-    rw (read-count c.args.words.now command names are) at c.in-Ok.ensures.reads
+    rw (read-count c.args.words.now c.word_count.result c.in-Some.command command _ names c.word_count.ensures c.in-Some.ensures are) at c.in-Ok.ensures.reads

@@ -1,11 +1,10 @@
-use Rattle.mintc_command.proofs.SourceLaws.{Gives-system, StopsAt-system}
+use Rattle.mintc_command.proofs.SourceLaws.{Gives-system, Refuses-system}
 use Rattle.mintc_command.proofs.source.system_of.Goals as goal
 
-pub returns-in-Ok-system-clause-value : goal.returns-in-Ok-system-clause-value
-returns-in-Ok-system-clause-value c =
-    Gives-system c.systems_are_accepted.ensures c.args.source c.args.files.now c.in-Ok.flat c.in-Ok-system.system c.in-Ok.ensures.value c.phases-phases.ensures.kept
-    c.in-Ok-system.ensures.value c.pairs-pairs.ensures.kept
+pub returns-clause-value : goal.returns-clause-value
+returns-clause-value c =
+    Gives-system c.args.source c.args.files.now c.in-Ok.flat c.accepted_system.result c.in-Ok.ensures.value c.accepted_system.ensures.value
 
-pub returns-in-Err-system-clause-stop : goal.returns-in-Err-system-clause-stop
-returns-in-Err-system-clause-stop c =
-    StopsAt-system c.args.source c.args.files.now c.in-Ok.flat c.in-Err-system.stop c.in-Ok.ensures.value c.phases-phases.ensures.kept c.in-Err-system.ensures.stop
+pub returns-clause-stop : goal.returns-clause-stop
+returns-clause-stop c =
+    Refuses-system c.args.source c.args.files.now c.in-Ok.flat c.accepted_system.result c.in-Ok.ensures.value c.accepted_system.ensures.limits c.accepted_system.ensures.stop
