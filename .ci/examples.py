@@ -1,29 +1,40 @@
-"""Whether the examples are what the tests run: for each line of each examples/NAME/command, `mintc WORDS > ANSWER`, the tests of
-mintc_command have the name, the words, each file that the words name with its bytes, and the answer, in this order."""
+"""Runs the program that the gate has just proved and built on each example: for each line `mintc WORDS > ANSWER` of a file `command`
+below examples/, in its folder, the program writes what the file ANSWER has. Where a chain begins is free, so its lines are compared
+as a ring."""
 import pathlib
-import re
+import subprocess
 import sys
 
 TOP = pathlib.Path(__file__).resolve().parent.parent
-TESTS = TOP / "crates/mintc_command/src/tests/examples.rt"
+PROGRAM = TOP / "crates/mintc/out/mintc"
 
 
-def wanted():
-    for command in sorted((TOP / "examples").glob("*/command")):
-        folder = command.parent
+def parted(text):
+    """The lines up to the one that begins a chain, that one too, and the lines after it but for a last `end`."""
+    lines = text.split("\n")
+    begins = next((n for n, line in enumerate(lines) if line.startswith("chain ")), len(lines)) + 1
+    return lines[:begins], [line for line in lines[begins:] if line not in ("", "end")]
+
+
+def is_same(text, wanted):
+    front, chain = parted(text)
+    other_front, ring = parted(wanted)
+    turns = [ring[n:] + ring[:n] for n in range(len(ring))] or [ring]
+    return front == other_front and chain in turns
+
+
+def wrong():
+    for command in sorted((TOP / "examples").rglob("command")):
         for line in command.read_text().splitlines():
             words, answer = line.removeprefix("mintc ").split(" > ")
-            yield from (folder.name, words)
-            for name in words.split()[2:]:
-                yield from (name, (folder / name).read_text())
-            yield (folder / answer).read_text()
+            ran = subprocess.run([PROGRAM, *words.split()], cwd=command.parent, stdout=subprocess.PIPE, timeout=60)
+            if not is_same(ran.stdout.decode(), (command.parent / answer).read_text()):
+                yield f"{command.parent.relative_to(TOP)}: {line}"
 
 
-def run():
-    text = re.sub(r"(?m)//.*$", "", TESTS.read_text())
-    literals = re.findall(r'"((?:[^"\\]|\\.)*)"', text)
-    return [re.sub(r"\\(.)", lambda it: "\n" if it[1] == "n" else it[1], literal) for literal in literals]
-
-
-if run() != list(wanted()):
-    sys.exit("examples/ and crates/mintc_command/src/tests/examples.rt differ")
+if not PROGRAM.is_file():
+    sys.exit(f"{PROGRAM} isn't there: rt ci builds it")
+found = list(wrong())
+if found:
+    sys.exit("these examples have other answers:\n" + "\n".join(found))
+print("the examples have their answers")

@@ -15,8 +15,6 @@ mod read;
 mod rules;
 mod shape;
 mod tables;
-#[cfg(test)]
-mod tests;
 
 pub use cell::Cell;
 pub use cells::Cells;

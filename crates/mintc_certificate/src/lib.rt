@@ -12,8 +12,6 @@ mod member_lines;
 mod members;
 mod reading;
 mod sums;
-#[cfg(test)]
-mod tests;
 mod text_laws;
 mod version;
 mod writing;

@@ -19,8 +19,6 @@ mod members;
 mod reading;
 mod ring;
 mod schedule_tests;
-#[cfg(test)]
-mod tests;
 mod verdict;
 
 use examining::judge;

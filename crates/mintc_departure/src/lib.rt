@@ -11,8 +11,6 @@ mod laws;
 mod pair_network;
 mod rounds;
 mod settling;
-#[cfg(test)]
-mod tests;
 
 pub use judging::violations;
 pub use laws::{

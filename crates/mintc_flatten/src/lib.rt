@@ -17,6 +17,3 @@ pub use mintc_hierarchy::{
     Hierarchy, Inner, InnerList, Join, JoinList, Leaf, LeafList, Scope, ScopeList, TopPort,
     TopPortList,
 };
-
-#[cfg(test)]
-mod tests;

@@ -5,8 +5,6 @@ mod bench;
 mod chain;
 mod laws;
 mod optimum;
-#[cfg(test)]
-mod tests;
 mod times;
 
 pub use bench::Bench;

@@ -39,6 +39,3 @@ pub fn order(alloc: Global, flat: &Flat) -> Result<Order, Stop>
     order.reverse();
     Ok(Order::new(Numbers::new(order)))
 }
-
-#[cfg(test)]
-mod tests;

@@ -9,8 +9,6 @@ mod pass;
 mod refusals;
 mod report;
 mod summary;
-#[cfg(test)]
-mod tests;
 mod verdict;
 mod writing;
 

@@ -161,27 +161,3 @@ pub(crate) fn put_member(
     put_amounts(lines, link.delay, i64::from(link.cycles))?;
     put_throughs(lines, system, later_arcs(member))
 }
-
-#[cfg(test)]
-mod tests {
-    use super::*;
-    use std::test::Fail;
-
-    #[test]
-    fn shows_members(rt: HostRuntime) -> Result<(), Fail> {
-        let mut lines = Lines::new(rt.alloc());
-        put_two(&mut lines, b"reach", b"a", b"b.q[3]")?;
-        put_amounts(&mut lines, 30, 0)?;
-        put_through(&mut lines, b"n7")?;
-        put_one(&mut lines, b"open", b"a")?;
-        put_amounts(&mut lines, -10, 0)?;
-        put_bound(&mut lines, 63)?;
-        put_amounts(&mut lines, 1_000_000_000, 1)?;
-        let bytes = lines.into_bytes();
-        assert_eq!(rt;
-            bytes.as_slice(),
-            b"reach a b.q[3] delay 30 cycles 0\nthrough n7\nopen a delay -10 cycles 0\nbound 63 delay 1000000000 cycles 1\n".as_slice()
-        );
-        Ok(())
-    }
-}

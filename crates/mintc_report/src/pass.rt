@@ -80,26 +80,3 @@ pub fn pass_text(
     )?;
     Ok(lines.into_bytes())
 }
-
-#[cfg(test)]
-mod tests {
-    use super::*;
-    use crate::tests::element;
-    use std::test::Fail;
-
-    #[test]
-    fn shows_departures(rt: HostRuntime) -> Result<(), Fail> {
-        let alloc = rt.alloc();
-        let elements = vec![in alloc; element(alloc, "a")?, element(alloc, "b.q[3]")?]?;
-        let mut lines = Lines::new(alloc);
-        put_elements(&mut lines, &elements, 1, &[0, 20], &[0, 20])?;
-        put_elements(&mut lines, &elements, 1, &[-6, 14], &[-6, 14])?;
-        put_elements(&mut lines, &elements, 6, &[9, 100], &[-4, 0])?;
-        let bytes = lines.into_bytes();
-        assert_eq!(rt;
-            bytes.as_slice(),
-            b"element a late 0/1 early 0/1\nelement b.q[3] late 20/1 early 20/1\nelement a late -6/1 early -6/1\nelement b.q[3] late 14/1 early 14/1\nelement a late 3/2 early -2/3\nelement b.q[3] late 50/3 early 0/1\n".as_slice()
-        );
-        Ok(())
-    }
-}

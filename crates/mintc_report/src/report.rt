@@ -154,36 +154,3 @@ pub fn report_text(
         Certificate::Never { chain } => never_text(alloc, system, chain.items()),
     }
 }
-
-#[cfg(test)]
-mod tests {
-    use super::*;
-    use crate::tests::element;
-    use mintc_timing::read_schedule;
-    use std::test::Fail;
-
-    #[test]
-    fn shows_a_schedule(rt: HostRuntime) -> Result<(), Fail> {
-        let alloc = rt.alloc();
-        let Ok(schedule) = read_schedule(
-            b"schedule 1\nden 3\ncycle 300\nphases 2\nphase 0 10\nphase 10 30\nend\n",
-        ) else {
-            return Err("refused".into());
-        };
-        let names = vec![in alloc; Name::new(alloc, b"phi1")?, Name::new(alloc, b"phi2")?]?;
-        if schedule.starts.items().len() != names.len() {
-            return Err("refused".into());
-        }
-        let elements = vec![in alloc; element(alloc, "a")?, element(alloc, "b")?]?;
-        let mut lines = Lines::new(alloc);
-        put_cycle(&mut lines, &lowest(schedule.cycle, schedule.den))?;
-        put_phases(&mut lines, &names, &schedule)?;
-        put_departures(&mut lines, &elements, 3, &[0, -20])?;
-        let bytes = lines.into_bytes();
-        assert_eq!(rt;
-            bytes.as_slice(),
-            b"cycle 100/1\nphase phi1 start 0/1 width 10/3\nphase phi2 start 10/3 width 10/1\nelement a late 0/1\nelement b late -20/3\n".as_slice()
-        );
-        Ok(())
-    }
-}

@@ -28,23 +28,3 @@ pub fn verdict_text(alloc: Global, verdict: &Verdict) -> Result<Vec<u8>, OutOfMe
     }
     Ok(lines.into_bytes())
 }
-
-#[cfg(test)]
-mod tests {
-    use super::*;
-
-    fn is_shown(alloc: Global, verdict: Verdict, line: &str) -> bool {
-        match verdict_text(alloc, &verdict) {
-            Ok(text) => text.as_slice() == line.as_bytes(),
-            Err(_) => false,
-        }
-    }
-
-    #[test]
-    fn shows_verdicts(rt: HostRuntime) {
-        let alloc = rt.alloc();
-        assert!(rt; is_shown(alloc, Verdict::Valid, "valid\n"));
-        assert!(rt; is_shown(alloc, Verdict::Invalid(1), "invalid 1\n"));
-        assert!(rt; is_shown(alloc, Verdict::Invalid(7), "invalid 7\n"));
-    }
-}

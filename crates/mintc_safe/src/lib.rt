@@ -7,8 +7,6 @@ mod holds;
 mod keeping;
 mod laws;
 mod members;
-#[cfg(test)]
-mod tests;
 mod writing;
 
 pub use certificate::SafeCertificate;

@@ -1,0 +1,314 @@
+//! What no clause says: that the reader succeeds where memory is ample, and that long texts take little of the stack. Worked texts,
+//! with their cells.
+mod cases;
+
+use cases::{DESCRIPTION, GRAMMAR, KINDS, LIBRARIES, ROWS, SAYINGS, UNUSABLE_CELLS, WORKED};
+use mintc_cells::{Cell, Cells, read_cells};
+use mintc_liberty::{read_liberty, toml_form};
+use mintc_text::{Name, Names, Refusal, Role, Stop};
+use std::alloc::Global;
+use std::process::Abort;
+use std::str;
+use std::test::Fail;
+
+/// A name's text.
+fn shown(name: &[u8]) -> Result<&str, Fail> {
+    match str::from_utf8(name) {
+        Ok(text) => Ok(text),
+        Err(_) => Err("no text")?,
+    }
+}
+
+/// Names in brackets.
+fn names_text(alloc: Global, names: &Names) -> Result<String, Fail> {
+    let mut text = String::new(alloc);
+    for name in names.items() {
+        if !text.is_empty() {
+            text.push_str(" ")?;
+        }
+        text.push_str(shown(name.bytes())?)?;
+    }
+    Ok(format!(in alloc; "[{text}]")?)
+}
+
+/// A gate's kind and pins.
+fn gate_text(alloc: Global, inputs: &Names, outputs: &Names) -> Result<String, Fail> {
+    let (inputs, outputs) = (names_text(alloc, inputs)?, names_text(alloc, outputs)?);
+    Ok(format!(in alloc; "gate {inputs} {outputs}")?)
+}
+
+/// A latch's or flop's kind and pins.
+fn stored_text(
+    alloc: Global,
+    kind: &str,
+    pins: (&Name, &Name),
+    is_plain: bool,
+    lists: (&Names, &Names),
+) -> Result<String, Fail> {
+    let (data, control) = (shown(pins.0.bytes())?, shown(pins.1.bytes())?);
+    let (outputs, ignored) = (names_text(alloc, lists.0)?, names_text(alloc, lists.1)?);
+    Ok(format!(in alloc; "{kind} {data} {control} {is_plain} {outputs} {ignored}")?)
+}
+
+/// A clock cell's kind and pins.
+fn clock_text(
+    alloc: Global,
+    pins: (&Name, &Name),
+    invert: bool,
+    ignored: &Names,
+) -> Result<String, Fail> {
+    let (from, to) = (shown(pins.0.bytes())?, shown(pins.1.bytes())?);
+    let ignored = names_text(alloc, ignored)?;
+    Ok(format!(in alloc; "clock {from} {to} {invert} {ignored}")?)
+}
+
+/// A cell's kind and pins.
+fn cell_text(alloc: Global, cell: &Cell) -> Result<String, Fail> {
+    match cell {
+        Cell::Gate {
+            inputs,
+            outputs,
+            ..
+        } => gate_text(alloc, inputs, outputs),
+        Cell::Latch {
+            pin_d,
+            pin_g,
+            high,
+            outputs,
+            ignored,
+            ..
+        } => stored_text(alloc, "latch", (pin_d, pin_g), *high, (outputs, ignored)),
+        Cell::Flop {
+            pin_d,
+            pin_clock,
+            rising,
+            outputs,
+            ignored,
+            ..
+        } => stored_text(
+            alloc,
+            "flop",
+            (pin_d, pin_clock),
+            *rising,
+            (outputs, ignored),
+        ),
+        Cell::Clock {
+            input,
+            output,
+            invert,
+            ignored,
+        } => clock_text(alloc, (input, output), *invert, ignored),
+    }
+}
+
+/// The cells, each with its name and an end.
+fn cells_text(alloc: Global, cells: &Cells) -> Result<String, Fail> {
+    let mut text = String::new(alloc);
+    for number in 0..cells.count() {
+        text.push_str(shown(cells.name(number))?)?;
+        text.push_str(" ")?;
+        text.push_str(cell_text(alloc, cells.cell(number))?.as_str())?;
+        text.push_str(";")?;
+    }
+    Ok(text)
+}
+
+/// What a text is read as.
+fn read(rt: &impl Abort, alloc: Global, text: &[u8]) -> Result<String, Fail> {
+    assert!(rt; text.len() < 60_000_000);
+    match read_liberty(alloc, text) {
+        Ok(cells) => cells_text(alloc, &cells),
+        Err(
+            Stop::Refused(
+                Refusal::Syntax {
+                    role: Role::Cells,
+                    entry,
+                },
+            ),
+        ) => Ok(format!(in alloc; "syntax {entry}")?),
+        Err(_) => Err("another refusal")?,
+    }
+}
+
+/// Texts are read as what stands beside them.
+fn are_read(rt: &impl Abort, alloc: Global, cases: &[(&str, &str)]) -> Result<(), Fail> {
+    for (text, said) in cases {
+        assert_eq!(rt; read(rt, alloc, text.as_bytes())?.as_str(), *said);
+    }
+    Ok(())
+}
+
+/// A library of one cell C with this inside is read as C with what stands beside it.
+fn are_cells(rt: &impl Abort, alloc: Global, cases: &[(&str, &str)]) -> Result<(), Fail> {
+    for (inside, said) in cases {
+        let text = format!(in alloc; "library (t) {{ cell (C) {{ {inside} }} }}")?;
+        let wanted = format!(in alloc; "C {said};")?;
+        assert_eq!(rt; read(rt, alloc, text.as_bytes())?.as_str(), wanted.as_str());
+    }
+    Ok(())
+}
+
+#[test]
+fn worked_texts(rt: HostRuntime) -> Result<(), Fail> {
+    are_read(&rt, rt.alloc(), &ROWS)
+}
+
+#[test]
+fn grammar(rt: HostRuntime) -> Result<(), Fail> {
+    are_read(&rt, rt.alloc(), &GRAMMAR)
+}
+
+#[test]
+fn libraries(rt: HostRuntime) -> Result<(), Fail> {
+    are_read(&rt, rt.alloc(), &LIBRARIES)
+}
+
+#[test]
+fn kinds(rt: HostRuntime) -> Result<(), Fail> {
+    are_cells(&rt, rt.alloc(), &KINDS)
+}
+
+#[test]
+fn sayings(rt: HostRuntime) -> Result<(), Fail> {
+    are_cells(&rt, rt.alloc(), &SAYINGS)
+}
+
+#[test]
+fn unusable_cells_are_passed_over(rt: HostRuntime) -> Result<(), Fail> {
+    let alloc = rt.alloc();
+    for inside in UNUSABLE_CELLS.iter() {
+        let text = format!(in alloc;
+            "library (t) {{ cell (B) {{ {inside} }} cell (C) {{ pin (Y) {{ direction : output ; }} }} }}"
+        )?;
+        assert_eq!(rt;
+            read(&rt, alloc, text.as_bytes())?.as_str(),
+            "C gate [] [Y];"
+        );
+    }
+    Ok(())
+}
+
+/// So many pieces between a head and a tail.
+fn repeated(
+    alloc: Global,
+    head: &[u8],
+    piece: &[u8],
+    count: usize,
+    tail: &[u8],
+) -> Result<Vec<u8>, Fail> {
+    let mut text = Vec::new(alloc);
+    text.extend_from_slice(head)?;
+    for _ in 0..count {
+        text.extend_from_slice(piece)?;
+    }
+    text.extend_from_slice(tail)?;
+    Ok(text)
+}
+
+/// What a library is read as with groups that nest so deep in it.
+fn nested(rt: &impl Abort, alloc: Global, depth: usize) -> Result<String, Fail> {
+    let head = repeated(alloc, b"library (t) {", b"g(){", depth, b"")?;
+    let text = repeated(alloc, &head, b"}", depth, b"}")?;
+    read(rt, alloc, &text)
+}
+
+#[test]
+fn depth(rt: HostRuntime) -> Result<(), Fail> {
+    assert_eq!(rt; nested(&rt, rt.alloc(), 63)?.as_str(), "");
+    assert_eq!(rt; nested(&rt, rt.alloc(), 64)?.as_str(), "syntax 1");
+    assert_eq!(rt; nested(&rt, rt.alloc(), 200_000)?.as_str(), "syntax 1");
+    Ok(())
+}
+
+#[test]
+fn open_comments(rt: HostRuntime) -> Result<(), Fail> {
+    let text = repeated(rt.alloc(), b"library (t) {", b"a(/* );", 100_000, b"}")?;
+    assert_eq!(rt; read(&rt, rt.alloc(), &text)?.as_str(), "");
+    Ok(())
+}
+
+#[test]
+fn long_values(rt: HostRuntime) -> Result<(), Fail> {
+    let text = repeated(
+        rt.alloc(),
+        b"library (t) { a : ",
+        b"\"x\" ",
+        200_000,
+        b"; }",
+    )?;
+    assert_eq!(rt; read(&rt, rt.alloc(), &text)?.as_str(), "");
+    Ok(())
+}
+
+/// A cell's numbers.
+fn numbers_text(alloc: Global, cell: &Cell) -> Result<String, Fail> {
+    Ok(match cell {
+        Cell::Gate { min, max, .. } => format!(in alloc; "{min} {max}")?,
+        Cell::Latch {
+            setup,
+            hold,
+            has_hold,
+            dq_min,
+            dq_max,
+            cq_min,
+            cq_max,
+            has_cq,
+            width,
+            ..
+        } => format!(in alloc;
+            "{setup} {hold} {has_hold} {dq_min} {dq_max} {cq_min} {cq_max} {has_cq} {width}"
+        )?,
+        Cell::Flop {
+            setup,
+            hold,
+            has_hold,
+            cq_min,
+            cq_max,
+            width,
+            ..
+        } => format!(in alloc; "{setup} {hold} {has_hold} {cq_min} {cq_max} {width}")?,
+        Cell::Clock { .. } => String::new(alloc),
+    })
+}
+
+/// The cells of a description.
+fn described(rt: &impl Abort, alloc: Global, text: &[u8]) -> Result<Cells, Fail> {
+    assert!(rt; text.len() < 60_000_000);
+    match read_cells(alloc, text) {
+        Ok(cells) => Ok(cells),
+        Err(_) => Err("no cells")?,
+    }
+}
+
+/// The form of a description's cells is read as these very cells.
+fn comes_back(rt: &impl Abort, alloc: Global, text: &[u8]) -> Result<(), Fail> {
+    let cells = described(rt, alloc, text)?;
+    let back = described(rt, alloc, &toml_form(alloc, &cells)?)?;
+    assert_eq!(rt;
+        cells_text(alloc, &cells)?.as_str(),
+        cells_text(alloc, &back)?.as_str()
+    );
+    for number in 0..cells.count() {
+        assert!(rt; number < back.count());
+        assert_eq!(rt;
+            numbers_text(alloc, cells.cell(number))?.as_str(),
+            numbers_text(alloc, back.cell(number))?.as_str()
+        );
+    }
+    Ok(())
+}
+
+#[test]
+fn worked_cells_come_back(rt: HostRuntime) -> Result<(), Fail> {
+    comes_back(&rt, rt.alloc(), WORKED.as_bytes())
+}
+
+#[test]
+fn all_keys_come_back(rt: HostRuntime) -> Result<(), Fail> {
+    comes_back(&rt, rt.alloc(), DESCRIPTION.as_bytes())
+}
+
+#[test]
+fn no_cells_come_back(rt: HostRuntime) -> Result<(), Fail> {
+    comes_back(&rt, rt.alloc(), b"")
+}

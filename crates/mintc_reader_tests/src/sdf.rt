@@ -1,0 +1,370 @@
+//! What no clause says: that the reader succeeds where memory is ample. Worked texts and what is refused, with their answers.
+
+use mintc_sdf::{Delay, Place, Subject, read_delays};
+use mintc_text::{Name, Refusal, Role, Stop};
+use std::alloc::Global;
+use std::test::Fail;
+
+/// A file of two buffers.
+const TWO: &str =
+    "(DELAYFILE (SDFVERSION \"3.0\") (DIVIDER /) (TIMESCALE 1ps)\n(CELL (CELLTYPE \"BUF\") (INSTANCE u1/s/b)\n (DELAY (ABSOLUTE (IOPATH A Y (0.020:0.020:0.020)))))\n(CELL (CELLTYPE \"BUF\") (INSTANCE u2/s/b)\n (DELAY (ABSOLUTE (IOPATH A Y (0.060) (0.050))))))\n";
+
+/// Adds a word and its names.
+fn add_names(out: &mut Vec<u8>, word: &[u8], names: &[Name]) -> Result<(), Fail> {
+    out.extend_from_slice(word)?;
+    for name in names {
+        out.push(b' ')?;
+        out.extend_from_slice(name.bytes())?;
+    }
+    Ok(())
+}
+
+/// Adds a line that a delay is.
+fn add_delay(out: &mut Vec<u8>, alloc: Global, delay: &Delay) -> Result<(), Fail> {
+    let Delay {
+        entry,
+        least,
+        greatest,
+        ..
+    } = delay;
+    out.extend_from_slice(format!(in alloc; "{entry} ")?.as_bytes())?;
+    out.extend_from_slice(delay.celltype.bytes())?;
+    match &delay.place {
+        Place::Top => add_names(out, b" top", &[])?,
+        Place::Every => add_names(out, b" every", &[])?,
+        Place::Path(names) => add_names(out, b" at", names.items())?,
+    }
+    let (word, pin) = match &delay.subject {
+        Subject::Iopath { from, to } => {
+            out.extend_from_slice(b" from ")?;
+            out.extend_from_slice(from.bytes())?;
+            (b" to ".as_slice(), to)
+        }
+        Subject::Interconnect { to } => {
+            add_names(out, b" wire", to.items())?;
+            (b" type ".as_slice(), &delay.celltype)
+        }
+        Subject::Port { pin } => (b" port ".as_slice(), pin),
+        Subject::Setup { pin } => (b" setup ".as_slice(), pin),
+        Subject::Hold { pin } => (b" hold ".as_slice(), pin),
+        Subject::Width { pin } => (b" width ".as_slice(), pin),
+    };
+    out.extend_from_slice(word)?;
+    out.extend_from_slice(pin.bytes())?;
+    out.extend_from_slice(format!(in alloc; " {least} {greatest}")?.as_bytes())?;
+    Ok(())
+}
+
+/// What a text gives: its delays with a stroke between them, or its refusal.
+fn answer(alloc: Global, text: &[u8]) -> Result<Vec<u8>, Fail> {
+    let mut out = Vec::new(alloc);
+    if text.len() > 67_108_864 {
+        return Ok(out);
+    }
+    let line = match read_delays(alloc, text) {
+        Ok(delays) => {
+            for delay in delays.items.items() {
+                if !out.is_empty() {
+                    out.extend_from_slice(b" | ")?;
+                }
+                add_delay(&mut out, alloc, delay)?;
+            }
+            return Ok(out);
+        }
+        Err(
+            Stop::Refused(
+                Refusal::Syntax {
+                    role: Role::Delays,
+                    entry,
+                },
+            ),
+        ) => format!(in alloc; "syntax {entry}")?,
+        Err(Stop::Refused(Refusal::Range { entry })) => format!(in alloc; "range {entry}")?,
+        Err(Stop::Refused(Refusal::Negative { entry })) => format!(in alloc; "negative {entry}")?,
+        Err(Stop::OutOfMemory) => format!(in alloc; "no memory")?,
+        Err(Stop::Refused(_)) => format!(in alloc; "other")?,
+    };
+    out.extend_from_slice(line.as_bytes())?;
+    Ok(out)
+}
+
+/// A file with one CELL of a leaf, its second entry, in femtoseconds.
+fn leaf(alloc: Global, parts: &str) -> Result<String, Fail> {
+    Ok(format!(in alloc; "(DELAYFILE(TIMESCALE 1 fs)(CELL(CELLTYPE \"C\")(INSTANCE i){parts}))")?)
+}
+
+/// A file with one definition.
+fn definition(alloc: Global, text: &str) -> Result<String, Fail> {
+    leaf(
+        alloc,
+        format!(in alloc; "(DELAY(ABSOLUTE {text}))")?.as_str(),
+    )
+}
+
+#[test]
+fn reads_whole_files(rt: HostRuntime) -> Result<(), Fail> {
+    let alloc = rt.alloc();
+    for (text, wanted) in [
+        (
+            TWO,
+            "4 BUF at u1 s b from A to Y 20 20 | 5 BUF at u2 s b from A to Y 50 60",
+        ),
+        (
+            "(DELAYFILE (TIMESCALE 1 ns)\n(CELL (CELLTYPE \"BUF\") (INSTANCE b) (DELAY (ABSOLUTE (IOPATH A Y (0.0123456::0.0123457))))))\n",
+            "2 BUF at b from A to Y 12345 12346",
+        ),
+        (
+            "(DELAYFILE (TIMESCALE 1 ns)\n(CELL (CELLTYPE \"LAT\") (INSTANCE l) (TIMINGCHECK (HOLD D G (-0.000003)))))\n",
+            "2 LAT at l hold D -3 -3",
+        ),
+        (
+            "(DELAYFILE (SDFVERSION \"3.0\") (DIVIDER /) (TIMESCALE 1 ns)\n(CELL (CELLTYPE \"BUF\") (INSTANCE b) (DELAY (ABSOLUTE (IOPATH A Y (-0.1))))))\n",
+            "negative 4",
+        ),
+        (
+            "(DELAYFILE (DIVIDER /) (TIMESCALE 1 fs)\n(CELL (CELLTYPE \"BUF\") (INSTANCE u1/s/b) (DELAY (ABSOLUTE (IOPATH A Y (5)))))\n(CELL (CELLTYPE \"BUF\") (INSTANCE u1/s/b) (DELAY (ABSOLUTE (IOPATH A Y (3))))))\n",
+            "3 BUF at u1 s b from A to Y 5 5 | 4 BUF at u1 s b from A to Y 3 3",
+        ),
+        (
+            "(DELAYFILE (TIMESCALE 1 us)(CELL (CELLTYPE \"BUF\") (INSTANCE b) (DELAY (ABSOLUTE (IOPATH A Y (1.0000000000000001))))))",
+            "range 2",
+        ),
+        (
+            "(DELAYFILE (TIMESCALE 1 us)(CELL (CELLTYPE \"BUF\") (INSTANCE b) (DELAY (ABSOLUTE (IOPATH A Y (1.0))))))",
+            "2 BUF at b from A to Y 1000000000 1000000000",
+        ),
+        ("(DELAYFILE)", ""),
+        (
+            "(delayfile (Cell (celltype \"C\") (instance) (delay (absolute (port p (1))))))",
+            "1 C top port p 1000000 1000000",
+        ),
+        (
+            "(DELAYFILE (DIVIDER .) (TIMESCALE 100us) (TIMESCALE 10.0 ps) (DIVIDER /) (CELL (CELLTYPE \"C\") (INSTANCE *) (DELAY (ABSOLUTE (PORT p (1))))))",
+            "5 C every port p 10000 10000",
+        ),
+        (
+            "(DELAYFILE // (DATE\n/* ( \" */ (DATE \")\\\"\" (a (b)) c) (CELL (CELLTYPE \"a\\\"b\") (INSTANCE a/*) /**/ ) )",
+            "",
+        ),
+        ("", "syntax 0"),
+        ("DELAYFILE", "syntax 0"),
+        ("(DELAYFILES)", "syntax 0"),
+        ("(DELAYFILE) x", "syntax 1"),
+        ("(DELAYFILE (DATE) ))", "syntax 2"),
+        ("(DELAYFILE (DATE) (DATE", "syntax 2"),
+        ("(DELAYFILE (DATE) x (DIVIDER !))", "syntax 2"),
+        ("(DELAYFILE (DIVIDER !) (DATE \"))", "syntax 1"),
+        ("(DELAYFILE (DIVIDER ..))", "syntax 1"),
+        ("(DELAYFILE (TIMESCALE 2 ns))", "syntax 1"),
+        ("(DELAYFILE (TIMESCALE 1 NS))", "syntax 1"),
+        ("(DELAYFILE (TIMESCALE 1 n s))", "syntax 1"),
+        (
+            "(DELAYFILE (CELL (CELLTYPE \"C\") (INSTANCE)) (DATE))",
+            "syntax 2",
+        ),
+        ("(DELAYFILE (CELL (CELLTYPE C) (INSTANCE)))", "syntax 1"),
+        ("(DELAYFILE (CELL (INSTANCE) (CELLTYPE \"C\")))", "syntax 1"),
+        (
+            "(DELAYFILE (CELL (CELLTYPE \"C\") (INSTANCE a b)))",
+            "syntax 1",
+        ),
+    ] {
+        assert_eq!(rt;
+            answer(alloc, text.as_bytes())?.as_slice(),
+            wanted.as_bytes(),
+            "{text}"
+        );
+    }
+    Ok(())
+}
+
+#[test]
+fn a_cut_text_has_its_fault_at_the_cut(rt: HostRuntime) -> Result<(), Fail> {
+    let alloc = rt.alloc();
+    let text = TWO.as_bytes();
+    let mut depth: u32 = 0;
+    let mut whole: u32 = 0;
+    for (cut, byte) in text.iter().enumerate() {
+        let entry = if cut < 10 { 0 } else { whole.saturating_add(1) };
+        let wanted = if cut + 1 == text.len() {
+            answer(alloc, text)?
+        } else {
+            Vec::from_slice(alloc, format!(in alloc; "syntax {entry}")?.as_bytes())?
+        };
+        assert_eq!(rt;
+            answer(alloc, &text[..cut])?.as_slice(),
+            wanted.as_slice(),
+            "{cut}"
+        );
+        if *byte == b'(' {
+            depth = depth.saturating_add(1);
+        }
+        if *byte == b')' {
+            depth = depth.saturating_sub(1);
+            whole = whole.saturating_add((depth == 1) as u32);
+        }
+    }
+    Ok(())
+}
+
+#[test]
+fn reads_definitions(rt: HostRuntime) -> Result<(), Fail> {
+    let alloc = rt.alloc();
+    for (text, wanted) in [
+        (
+            "(IOPATH A Y (1:2:3) (:5:) () (4))",
+            "2 C at i from A to Y 1 5",
+        ),
+        ("(IOPATH A Y (1 :2\t: 3))", "2 C at i from A to Y 1 3"),
+        ("(IOPATH A Y (::) ())", ""),
+        ("(IOPATH A Y (-0.0) (1e-1))", "2 C at i from A to Y 0 1"),
+        (
+            "(IOPATH A Y (1)(1)(1)(1)(1)(1)(1)(1)(1)(1)(1)(1))",
+            "2 C at i from A to Y 1 1",
+        ),
+        (
+            "(IOPATH A Y (1)(1)(1)(1)(1)(1)(1)(1)(1)(1)(1)(1)(1))",
+            "syntax 2",
+        ),
+        ("(IOPATH A Y)", "syntax 2"),
+        ("(IOPATH A Y (1 2))", "syntax 2"),
+        ("(IOPATH A Y (1:2))", "syntax 2"),
+        ("(IOPATH A Y (:))", "syntax 2"),
+        ("(IOPATH A Y (1:2:3:4))", "syntax 2"),
+        ("(IOPATH A Y (x))", "syntax 2"),
+        ("(IOPATH A Y (\"1\"))", "syntax 2"),
+        (
+            "(IOPATH (posedge A\\[1\\]) (NEGEDGE Y) (1))",
+            "2 C at i from A[1] to Y 1 1",
+        ),
+        (
+            "(PORT (01 p) (1))(PORT (10 q) (2))(PORT (0z r) (3))",
+            "2 C at i port p 1 1 | 2 C at i port q 2 2 | 2 C at i port r 3 3",
+        ),
+        (
+            "(PORT (z1 p) (1))(PORT (1z q) (2))(PORT (z0 r) (3))",
+            "2 C at i port p 1 1 | 2 C at i port q 2 2 | 2 C at i port r 3 3",
+        ),
+        ("(PORT (0Z p) (1))", "syntax 2"),
+        ("(PORT (posedge p q) (1))", "syntax 2"),
+        (
+            "(INTERCONNECT a.b.c d\\.e.f (1))",
+            "2 C at i wire d.e f type C 1 1",
+        ),
+        ("(INTERCONNECT (posedge a) b (1))", "syntax 2"),
+        ("(RETAIN (1))", "syntax 2"),
+        ("(IOPATH A Y (RETAIN (1)) (1))", "syntax 2"),
+        ("(NETDELAY a (1))", "syntax 2"),
+        ("(DEVICE (1))", "syntax 2"),
+        (
+            "(IOPATH A Y (1000000000))",
+            "2 C at i from A to Y 1000000000 1000000000",
+        ),
+        ("(IOPATH A Y (-1000000001))", "range 2"),
+        ("(IOPATH A Y (-1) (1e10))", "negative 2"),
+        ("(IOPATH A Y (-1)) (PORT p (x))", "syntax 2"),
+    ] {
+        assert_eq!(rt;
+            answer(alloc, definition(alloc, text)?.as_bytes())?.as_slice(),
+            wanted.as_bytes(),
+            "{text}"
+        );
+    }
+    Ok(())
+}
+
+#[test]
+fn conditions_stand_for_their_last_item(rt: HostRuntime) -> Result<(), Fail> {
+    let alloc = rt.alloc();
+    for (text, wanted) in [
+        ("(COND a && (b) \"c\" (PORT p (1)))", "2 C at i port p 1 1"),
+        ("(COND (PORT q (-1)) (PORT p (1)))", "2 C at i port p 1 1"),
+        (
+            "(COND (CONDELSE a b) (COND (x) (CONDELSE (PORT p (1)))))",
+            "2 C at i port p 1 1",
+        ),
+        ("(CONDELSE (PORT p (1)))", "2 C at i port p 1 1"),
+        (
+            "(CONDELSE (COND a (COND b c (PORT p (1)))))",
+            "2 C at i port p 1 1",
+        ),
+        ("(COND a (PORT p (1)) b)", "syntax 2"),
+        ("(COND a (COND b (PORT p (1)) ()))", "syntax 2"),
+        ("(COND a (CONDELSE b (PORT p (1))))", "syntax 2"),
+        ("(CONDELSE (PORT q (1)) (PORT p (1)))", "syntax 2"),
+        (
+            "(COND a (CONDELSE (COND a b) (COND c (PORT p (1)))))",
+            "syntax 2",
+        ),
+        ("(COND)", "syntax 2"),
+        ("(CONDELSE)", "syntax 2"),
+        ("(CONDELSE PORT)", "syntax 2"),
+        ("(COND (COND))", "syntax 2"),
+        ("(PORT (COND a (b) (COND c d)) (1))", "2 C at i port d 1 1"),
+        ("(PORT (COND d) (1))", "2 C at i port d 1 1"),
+        ("(PORT (COND a (negedge d)) (1))", "2 C at i port d 1 1"),
+        ("(PORT (COND a \"d\") (1))", "syntax 2"),
+        ("(PORT (COND a (CONDELSE d)) (1))", "syntax 2"),
+        ("(PORT (COND) (1))", "syntax 2"),
+        ("(PORT (COND a (COND)) (1))", "syntax 2"),
+        ("(PORT (CONDELSE d) (1))", "syntax 2"),
+    ] {
+        assert_eq!(rt;
+            answer(alloc, definition(alloc, text)?.as_bytes())?.as_slice(),
+            wanted.as_bytes(),
+            "{text}"
+        );
+    }
+    let mut text = String::new(alloc);
+    for _ in 0..200 {
+        text.push_str("(COND a (CONDELSE ")?;
+    }
+    text.push_str("(PORT (COND b (COND c d)) (1))")?;
+    for _ in 0..200 {
+        text.push_str("))")?;
+    }
+    assert_eq!(rt;
+        answer(alloc, definition(alloc, text.as_str())?.as_bytes())?.as_slice(),
+        b"2 C at i port d 1 1".as_slice()
+    );
+    Ok(())
+}
+
+#[test]
+fn reads_checks_and_parts(rt: HostRuntime) -> Result<(), Fail> {
+    let alloc = rt.alloc();
+    for (text, wanted) in [
+        (
+            "(TIMINGCHECK (SETUP d (posedge g) (1::2)) (HOLD d g (-3)) (WIDTH (posedge g) (4)))",
+            "2 C at i setup d 1 2 | 2 C at i hold d -3 -3 | 2 C at i width g 4 4",
+        ),
+        (
+            "(TIMINGCHECK (SETUPHOLD d g (-1.5) (2.5)))",
+            "2 C at i setup d -2 -1 | 2 C at i hold d 2 3",
+        ),
+        (
+            "(TIMINGCHECK (SETUPHOLD d g () ()) (RECREM x) (SKEW) (NOCHANGE (\")\")) (PERIOD) (RECOVERY) (REMOVAL) (BIDIRECTSKEW))",
+            "",
+        ),
+        ("(TIMINGCHECK (SETUPHOLD d g (-1000000001) (0)))", "range 2"),
+        ("(TIMINGCHECK (WIDTH g (-1)))", "negative 2"),
+        ("(TIMINGCHECK (SETUP d g (1) (2)))", "syntax 2"),
+        ("(TIMINGCHECK (SETUPHOLD d g (1)))", "syntax 2"),
+        ("(TIMINGCHECK (COND a (SETUP d g (1))))", "syntax 2"),
+        (
+            "(LABEL (ABSOLUTE)) (TIMINGENV x) (DELAY (PATHPULSE (1)) (PATHPULSEPERCENT x) (ABSOLUTE (PORT p (1))))",
+            "2 C at i port p 1 1",
+        ),
+        ("(DELAY (INCREMENT (PORT p (1))))", "syntax 2"),
+        ("(DELAY (PORT p (1)))", "syntax 2"),
+        ("(ABSOLUTE)", "syntax 2"),
+        ("x", "syntax 2"),
+    ] {
+        assert_eq!(rt;
+            answer(alloc, leaf(alloc, text)?.as_bytes())?.as_slice(),
+            wanted.as_bytes(),
+            "{text}"
+        );
+    }
+    Ok(())
+}

@@ -1,0 +1,206 @@
+//! Tables and schedules.
+
+use mintc_text::{Kind, Refusal, Role, Stop};
+use mintc_timing::{Flat, read_schedule, read_table};
+use std::alloc::Global;
+use std::process::Abort;
+use std::test::Fail;
+
+/// Two latches in a ring, as a table of each version, and two flops.
+const RING: &str =
+    "table 1\nphases 2\nphase phi1\nphase phi2\nelements 2\nelement a 1 10 - 10 10 0\nelement b 2 10 - 10 10 0\ninner 0\narcs 2\narc q0 d1 20 20\narc q1 d0 60 60\nbounds 0\nend\n";
+
+const FLOPS: &str =
+    "table 2\nphases 1\nphase p\nelements 2\nelement a 1 flop 5 - 10 10 0\nelement b 1 flop 5 - 10 10 0\ninner 0\narcs 2\narc q0 d1 85 85\narc q1 d0 35 35\nbounds 0\nend\n";
+
+const ENABLE: &str =
+    "table 3\nphases 2\nphase phi1\nphase phi2\nelements 2\nelement a 1 latch 10 - 10 10 4 4 0\nelement b 2 latch 10 - 10 10 10 10 0\ninner 0\narcs 2\narc q0 d1 20 20\narc q1 d0 60 60\nbounds 0\nend\n";
+
+const SCHEDULE: &str = "schedule 1\nden 1\ncycle 100\nphases 2\nphase 0 10\nphase 10 30\nend\n";
+
+/// The faulty line of a table, 0 where there is none.
+fn table_fault(alloc: Global, text: &[u8]) -> u32 {
+    if text.len() > 67_108_864 {
+        return 0;
+    }
+    match read_table(alloc, text) {
+        Err(
+            Stop::Refused(
+                Refusal::Syntax {
+                    role: Role::Table,
+                    entry,
+                },
+            ),
+        ) => entry,
+        _ => 0,
+    }
+}
+
+/// The faulty line of a schedule, 0 where there is none.
+fn schedule_fault(text: &[u8]) -> u32 {
+    if text.len() > 67_108_864 {
+        return 0;
+    }
+    match read_schedule(text) {
+        Err(
+            Refusal::Syntax {
+                role: Role::Schedule,
+                entry,
+            },
+        ) => entry,
+        _ => 0,
+    }
+}
+
+/// The quantity for which a table is refused, and its count.
+fn table_limit(alloc: Global, text: &[u8]) -> Option<(Kind, u64)> {
+    if text.len() > 67_108_864 {
+        return None;
+    }
+    match read_table(alloc, text) {
+        Err(Stop::Refused(Refusal::Limit { kind, count })) => Some((kind, count)),
+        _ => None,
+    }
+}
+
+/// The design of a table.
+fn design(rt: &impl Abort, alloc: Global, text: &str) -> Option<Flat> {
+    assert!(rt; text.len() < 1_000);
+    read_table(alloc, text.as_bytes()).ok()
+}
+
+/// A table with so many phases, elements and bounds.
+fn table_of(alloc: Global, phases: u32, elements: u32, bounds: u32) -> Result<String, Fail> {
+    let mut text = format!(in alloc; "table 1\nphases {phases}\n")?;
+    for _ in 0..phases {
+        text.push_str("phase p\n")?;
+    }
+    text.push_str(&format!(in alloc; "elements {elements}\n")?)?;
+    for _ in 0..elements {
+        text.push_str("element e 1 0 - 0 0 0\n")?;
+    }
+    text.push_str(&format!(in alloc; "inner 0\narcs 0\nbounds {bounds}\n")?)?;
+    for _ in 0..bounds {
+        text.push_str("bound o s1 5 1\n")?;
+    }
+    text.push_str("end\n")?;
+    Ok(text)
+}
+
+#[test]
+fn tables_are_read(rt: HostRuntime) -> Result<(), Fail> {
+    let alloc = rt.alloc();
+    let ring = design(&rt, alloc, RING).ok_or("refused")?;
+    assert_eq!(rt; ring.phases().items().len(), 2);
+    assert_eq!(rt; ring.elements().len(), 2);
+    let b = &ring.elements()[1];
+    assert_eq!(rt; b.name.bytes(), b"b".as_slice());
+    assert_eq!(rt;
+        (b.phase, b.flop, b.setup, b.has_hold),
+        (2, false, 10, false)
+    );
+    assert_eq!(rt;
+        (b.dq_min, b.dq_max, b.cq_min, b.cq_max, b.width),
+        (10, 10, 10, 10, 0)
+    );
+    assert_eq!(rt; ring.arcs().len(), 2);
+    let arc = ring.arcs()[1];
+    assert_eq!(rt; (arc.from, arc.to, arc.min, arc.max), (3, 0, 60, 60));
+    let flops = design(&rt, alloc, FLOPS).ok_or("refused")?;
+    assert!(rt; flops.elements().iter().all(|e| e.flop));
+    let enable = design(&rt, alloc, ENABLE).ok_or("refused")?;
+    assert_eq!(rt; enable.elements().len(), 2);
+    let a = &enable.elements()[0];
+    assert_eq!(rt; (a.dq_max, a.cq_min, a.cq_max), (10, 4, 4));
+    Ok(())
+}
+
+#[test]
+fn a_cut_text_has_its_fault_at_the_cut(rt: HostRuntime) -> Result<(), Fail> {
+    let alloc = rt.alloc();
+    for text in [RING.as_bytes(), FLOPS.as_bytes(), ENABLE.as_bytes()] {
+        let mut line = 1;
+        for (cut, byte) in text.iter().enumerate() {
+            assert_eq!(rt; table_fault(alloc, &text[..cut]), line);
+            if *byte == b'\n' {
+                assert!(rt; line < 100);
+                line += 1;
+            }
+        }
+        assert_eq!(rt; table_fault(alloc, text), 0);
+    }
+    let mut line = 1;
+    let text = SCHEDULE.as_bytes();
+    for (cut, byte) in text.iter().enumerate() {
+        assert_eq!(rt; schedule_fault(&text[..cut]), line);
+        if *byte == b'\n' {
+            assert!(rt; line < 100);
+            line += 1;
+        }
+    }
+    assert_eq!(rt; schedule_fault(text), 0);
+    Ok(())
+}
+
+#[test]
+fn a_faulty_line_is_named(rt: HostRuntime) -> Result<(), Fail> {
+    let alloc = rt.alloc();
+    for (old, new, line) in [
+        ("table 1", "table 4", 1),
+        ("phases 2", "phases 0", 2),
+        ("phase phi2", "phase  phi2", 4),
+        ("b 2 10", "b 3 10", 7),
+        ("b 2 10", "b 2 010", 7),
+        ("- 10 10 0\nel", "- 11 10 0\nel", 6),
+        ("- 10 10 0\nel", "-0 10 10 0\nel", 6),
+        ("element a 1 10", "element a 1 latch 10", 6),
+        ("arc q0 d1", "arc d0 d1", 10),
+        ("arc q0 d1", "arc q2 d1", 10),
+        ("arc q0 d1", "arc n0 d1", 10),
+        ("end\n", "end\n\n", 14),
+        ("end\n", "end \n", 13),
+    ] {
+        let text = RING.replacen(alloc, old, new, 1)?;
+        assert_eq!(rt; table_fault(alloc, text.as_bytes()), line, "{new}");
+    }
+    assert_eq!(rt;
+        table_fault(
+            alloc,
+            ENABLE.replacen(alloc, "1 latch", "1 flop", 1)?.as_bytes()
+        ),
+        6
+    );
+    for (old, new, line) in [
+        ("den 1", "den 0", 2),
+        ("den 1", "den 100001", 2),
+        ("cycle 100", "cycle 100000000000001", 3),
+        ("cycle 100", "cycle -1", 3),
+        ("phases 2", "phases 9", 4),
+        ("end\n", "end\nend\n", 8),
+    ] {
+        let text = SCHEDULE.replacen(alloc, old, new, 1)?;
+        assert_eq!(rt; schedule_fault(text.as_bytes()), line, "{new}");
+    }
+    Ok(())
+}
+
+#[test]
+fn limits_are_refused_with_their_count(rt: HostRuntime) -> Result<(), Fail> {
+    let alloc = rt.alloc();
+    for (phases, elements, bounds, limit) in [
+        (8, 2_000, 64, None),
+        (9, 0, 0, Some((Kind::Phases, 9))),
+        (1, 2_001, 65, Some((Kind::Elements, 2_001))),
+        (1, 0, 65, Some((Kind::Bounds, 65))),
+    ] {
+        let text = table_of(alloc, phases, elements, bounds)?;
+        assert_eq!(rt; table_fault(alloc, text.as_bytes()), 0);
+        assert_eq!(rt; table_limit(alloc, text.as_bytes()), limit);
+    }
+    let inner = RING.replacen(alloc, "inner 0", "inner 999999999", 1)?;
+    assert_eq!(rt;
+        table_limit(alloc, inner.as_bytes()),
+        Some((Kind::Inner, 999_999_999))
+    );
+    Ok(())
+}

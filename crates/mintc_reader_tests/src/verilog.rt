@@ -1,0 +1,230 @@
+//! Tests of what no clause says: that netlists are read where memory is ample, and the first statement at fault.
+use mintc_netlist::{Connection, Item};
+use mintc_text::{Refusal, Role, Stop};
+use mintc_verilog::read_netlist;
+use mintc_vlex::{statements, tokens};
+use std::alloc::Global;
+use std::test::Fail;
+
+/// Three modules in the style of a synthesis tool.
+const TWO: &[u8] =
+    b"/* in the style of Yosys */\n(* src = \"two.v:1.1-9.10\" *)\nmodule two(phi1, phi2, y);\n  input phi1;\n  wire phi1;\n  input phi2;\n  wire phi2;\n  output y;\n  wire y;\n  wire \\loop.back ;\n  wire mid;\n  assign y = \\loop.back ;\n  half u1 ( .c(phi1), .i(\\loop.back ), .o(mid) );\n  half u2 ( .c(phi2), .i(mid), .o(\\loop.back ) );\nendmodule\nmodule half(c, i, o);\n  input c;\n  input i;\n  output o;\n  wire q;\n  LAT \\l[0]  ( .D(i), .G(c), .Q(q) );\n  slice s ( .a(q), .t(1'h0), .z(o) );\nendmodule\nmodule slice(a, t, z);\n  input a;\n  input t;\n  output z;\n  BUF b ( .A(a), .Y(z) );\nendmodule\n";
+
+/// Where its statements end.
+const ENDS: [usize; 27] = [
+    83, 97, 110, 124, 137, 149, 159, 179, 191, 217, 267, 317, 327, 349, 360, 371, 383, 393, 431,
+    469, 479, 502, 513, 524, 536, 562, 572,
+];
+
+/// How many bytes of it end outside of every module, with no token behind the last whole statement.
+const ACCEPTED: [usize; 11] = [0, 27, 28, 56, 57, 327, 328, 479, 480, 572, 573];
+
+/// The statement at fault, 0 where there is none, and 1,000,000,000 where memory was wanting.
+fn fault(alloc: Global, text: &[u8]) -> u32 {
+    if text.len() > 67_108_864 {
+        return 1_000_000_000;
+    }
+    match read_netlist(alloc, text) {
+        Ok(_) => 0,
+        Err(
+            Stop::Refused(
+                Refusal::Syntax {
+                    role: Role::Netlist,
+                    entry,
+                },
+            ),
+        ) => entry,
+        Err(_) => 1_000_000_000,
+    }
+}
+
+#[test]
+fn reads_the_worked_netlist(rt: HostRuntime) -> Result<(), Fail> {
+    let alloc = rt.alloc();
+    let all = tokens(alloc, TWO)?;
+    assert_eq!(rt; statements(alloc, TWO, &all)?.len(), 27);
+    let Ok(netlist) = read_netlist(alloc, TWO) else {
+        assert!(rt; false);
+        return Ok(());
+    };
+    let modules = netlist.modules.items();
+    assert_eq!(rt; modules.len(), 3);
+    for (at, name, entry, ports, items) in [
+        (0, b"two".as_slice(), 1, 3, 11),
+        (1, b"half".as_slice(), 14, 3, 6),
+        (2, b"slice".as_slice(), 22, 3, 4),
+    ] {
+        assert!(rt; modules[at].name.bytes() == name);
+        assert_eq!(rt; modules[at].entry, entry);
+        assert_eq!(rt; modules[at].ports.items().len(), ports);
+        assert_eq!(rt; modules[at].items.items().len(), items);
+    }
+    Ok(())
+}
+
+#[test]
+fn cuts_the_worked_netlist(rt: HostRuntime) -> Result<(), Fail> {
+    let alloc = rt.alloc();
+    for size in 0..=TWO.len() {
+        let mut want = 1;
+        for at in 0..ENDS.len() {
+            if ENDS[at] <= size {
+                want = at + 2;
+            }
+        }
+        if ACCEPTED.contains(&size) {
+            want = 0;
+        }
+        assert_eq!(rt;
+            fault(alloc, &TWO[..size]) as usize,
+            want,
+            "of {size} bytes"
+        );
+    }
+    Ok(())
+}
+
+#[test]
+fn names_the_first_fault(rt: HostRuntime) -> Result<(), Fail> {
+    let alloc = rt.alloc();
+    for (text, want) in [
+        (b"".as_slice(), 0),
+        (b"module m(c); input c; inout d; endmodule".as_slice(), 3),
+        (b"module m(c); input c; LAT a (.D(c)".as_slice(), 3),
+        (b"module m(c); input c;".as_slice(), 3),
+        (b"module m(c); input c; FOO a (); endmodule".as_slice(), 0),
+        (
+            b"module m(c); input c; m u (.c(c)); endmodule".as_slice(),
+            0,
+        ),
+        (
+            b"module m(c); input c; LAT a (.D(1'b0), .G(c), .E(c)); endmodule".as_slice(),
+            0,
+        ),
+        (
+            b"module m(c); input c; wire [1:0] w; assign w = c; endmodule".as_slice(),
+            0,
+        ),
+        (
+            b"module m(c); input c; assign c = 1'b0; endmodule".as_slice(),
+            0,
+        ),
+        (
+            b"module m(c); input c; wire w; wire w; endmodule".as_slice(),
+            0,
+        ),
+        (
+            b"module m(c); input c; LAT a (.D(w), .G(c), .Q()); BUF b (.A(c), .Y(w)); endmodule".as_slice(),
+            0,
+        ),
+        (
+            b"module m; assign a = {{{{{{{{{{{{{{{{{{{{{{{{{{{{{{{{b}}}}}}}}}}}}}}}}}}}}}}}}}}}}}}}}; endmodule".as_slice(),
+            0,
+        ),
+        (
+            b"module m; assign a = {{{{{{{{{{{{{{{{{{{{{{{{{{{{{{{{{b}}}}}}}}}}}}}}}}}}}}}}}}}}}}}}}}}; endmodule".as_slice(),
+            2,
+        ),
+        (
+            b"module m; assign a = {{{{{{{{{{{{{{{{{{{{{{{{{{{{{{{2{b}}}}}}}}}}}}}}}}}}}}}}}}}}}}}}}}; endmodule".as_slice(),
+            0,
+        ),
+        (
+            b"module m; assign a = {{{{{{{{{{{{{{{{{{{{{{{{{{{{{{{{2{b}}}}}}}}}}}}}}}}}}}}}}}}}}}}}}}}}; endmodule".as_slice(),
+            2,
+        ),
+        (
+            b"module m; assign a = {{65535{b}}, c}; endmodule".as_slice(),
+            0,
+        ),
+        (
+            b"module m; assign a = {{65535{b}}, c, d}; endmodule".as_slice(),
+            2,
+        ),
+        (b"module m; assign a = {65536{b}}; endmodule".as_slice(), 2),
+        (b"module m; assign a = {0{b}}; endmodule".as_slice(), 2),
+        (b"module m; assign a = 65536'd0; endmodule".as_slice(), 0),
+        (b"module m; assign a = 65537'd0; endmodule".as_slice(), 2),
+        (b"module m; assign a = 0'd0; endmodule".as_slice(), 2),
+        (b"module m; wire [65535:0] a; endmodule".as_slice(), 0),
+        (b"module m; wire [65536:0] a; endmodule".as_slice(), 2),
+        (b"module m(input c); input d; endmodule".as_slice(), 2),
+        (
+            b"module m(input wire [3:0] c, d, output e); wire x; endmodule".as_slice(),
+            0,
+        ),
+        (b"module m(c, input d); endmodule".as_slice(), 1),
+        (b"module m(input c, wire d); endmodule".as_slice(), 1),
+        (b"module m; module n; endmodule".as_slice(), 2),
+        (b"module m; endmodule wire a;".as_slice(), 3),
+        (b"endmodule".as_slice(), 1),
+        (b"module m; endmodule endmodule".as_slice(), 3),
+        (b"module m; endmodule;".as_slice(), 3),
+        (b"module m(); ; endmodule".as_slice(), 2),
+        (b"module \\m ; wire \\endmodule ; endmodule".as_slice(), 0),
+        (b"module m; wire inout; endmodule".as_slice(), 2),
+        (b"module m; wire \\inout ; endmodule".as_slice(), 0),
+        (
+            b"`timescale 1ns/1ps\nmodule m; // wire ;\nendmodule".as_slice(),
+            0,
+        ),
+        (b"`timescales 1ns\nmodule m; endmodule".as_slice(), 1),
+        (
+            b"module m; (* keep = \"*)\" *) wire a; endmodule".as_slice(),
+            0,
+        ),
+        (b"module m; wire a; /* endmodule".as_slice(), 3),
+        (
+            b"module m; A a (b, {c, d[3]}, e[4:5], 1'bx); endmodule".as_slice(),
+            0,
+        ),
+        (b"module m; A a (b, .c(d)); endmodule".as_slice(), 2),
+        (b"module m; A a (.b(c), d); endmodule".as_slice(), 2),
+        (b"module m; A #(1) a (b); endmodule".as_slice(), 2),
+    ] {
+        assert_eq!(rt; fault(alloc, text), want);
+    }
+    Ok(())
+}
+
+/// A pin of this name, with an expression or with none.
+fn is_pin(connection: &Connection, name: &[u8], connected: bool) -> bool {
+    match &connection.pin {
+        Some(pin) => pin.bytes() == name && connection.expr.is_some() == connected,
+        None => false,
+    }
+}
+
+#[test]
+fn reads_a_pin_with_nothing(rt: HostRuntime) -> Result<(), Fail> {
+    let text = b"module m(c); input c; LAT \\a;  (.D(w), .G(c), .Q()); endmodule";
+    let Ok(netlist) = read_netlist(rt.alloc(), text.as_slice()) else {
+        assert!(rt; false);
+        return Ok(());
+    };
+    let Some(module) = netlist.modules.items().first() else {
+        assert!(rt; false);
+        return Ok(());
+    };
+    match module.items.items().get(1) {
+        Some(
+            Item::Instance {
+                entry,
+                name,
+                by_name,
+                connections,
+                ..
+            },
+        ) => {
+            assert_eq!(rt; *entry, 3);
+            assert!(rt; name.bytes() == b"a;".as_slice());
+            assert!(rt; *by_name);
+            let connections = connections.items();
+            assert_eq!(rt; connections.len(), 3);
+            assert!(rt; is_pin(&connections[1], b"G", true));
+            assert!(rt; is_pin(&connections[2], b"Q", false));
+        }
+        _ => assert!(rt; false),
+    }
+    Ok(())
+}

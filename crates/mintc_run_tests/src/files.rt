@@ -1,0 +1,252 @@
+//! The files of the rows.
+
+/// A worked design of four files: two latches in a loop, over three levels.
+pub const TWO_V: &str =
+    "/* in the style of Yosys */\n(* src = \"two.v:1.1-9.10\" *)\nmodule two(phi1, phi2, y);\n  input phi1;\n  wire phi1;\n  input phi2;\n  wire phi2;\n  output y;\n  wire y;\n  wire \\loop.back ;\n  wire mid;\n  assign y = \\loop.back ;\n  half u1 ( .c(phi1), .i(\\loop.back ), .o(mid) );\n  half u2 ( .c(phi2), .i(mid), .o(\\loop.back ) );\nendmodule\nmodule half(c, i, o);\n  input c;\n  input i;\n  output o;\n  wire q;\n  LAT \\l[0]  ( .D(i), .G(c), .Q(q) );\n  slice s ( .a(q), .t(1'h0), .z(o) );\nendmodule\nmodule slice(a, t, z);\n  input a;\n  input t;\n  output z;\n  BUF b ( .A(a), .Y(z) );\nendmodule\n";
+
+pub const TWO_SDF: &str =
+    "(DELAYFILE (SDFVERSION \"3.0\") (DIVIDER /) (TIMESCALE 1ps)\n(CELL (CELLTYPE \"BUF\") (INSTANCE u1/s/b)\n (DELAY (ABSOLUTE (IOPATH A Y (0.020:0.020:0.020)))))\n(CELL (CELLTYPE \"BUF\") (INSTANCE u2/s/b)\n (DELAY (ABSOLUTE (IOPATH A Y (0.060) (0.050))))))\n";
+
+pub const TWO_CELLS: &str =
+    "[cell.LAT]\nkind = \"latch\"\nd = \"D\"\ng = \"G\"\noutputs = [\"Q\"]\nsetup = 10\ndq_min = 10\n[cell.BUF]\nkind = \"gate\"\ninputs = [\"A\"]\noutputs = [\"Y\"]\n";
+
+pub const TWO_CLOCK: &str =
+    "[[phase]]\nname = \"p1\"\nport = \"phi1\"\n[[phase]]\nname = \"p2\"\nport = \"phi2\"\n";
+
+/// A Liberty library with the same cells, without numbers.
+const TWO_LIB: &str =
+    "library (t) { cell (BUF) { area : 1.0 ; pin (A) { direction : input ; } pin (Y) { direction : output ; function : \"A\" ; } } cell (LAT) { latch (IQ, IQN) { enable : \"G\" ; data_in : \"D\" ; } pin (D) { direction : input ; } pin (G) { direction : input ; clock : true ; } pin (Q) { direction : output ; function : \"IQ\" ; } } }";
+
+/// A netlist of two flops in a ring, each of another phase.
+const PAIR_V: &str =
+    "module m(c1, c2); input c1, c2; wire p, q, r, s; FF a (.D(s), .C(c1), .Q(p)); BUF x (.A(p), .Y(q)); FF b (.D(q), .C(c2), .Q(r)); BUF y (.A(r), .Y(s)); endmodule\n";
+
+pub const PAIR_CELLS: &str =
+    "[cell.FF]\nkind = \"flop\"\nd = \"D\"\nclock = \"C\"\noutputs = [\"Q\"]\n[cell.BUF]\nkind = \"gate\"\ninputs = [\"A\"]\noutputs = [\"Y\"]\n";
+
+pub const PAIR_CLOCK: &str =
+    "[[phase]]\nname = \"p1\"\nport = \"c1\"\n[[phase]]\nname = \"p2\"\nport = \"c2\"\n";
+
+const FIRST_SDF: &str =
+    "(DELAYFILE (TIMESCALE 1 fs)\n(CELL (CELLTYPE \"BUF\") (INSTANCE x) (DELAY (ABSOLUTE (IOPATH A Y (60)))))\n(CELL (CELLTYPE \"BUF\") (INSTANCE y) (DELAY (ABSOLUTE (IOPATH A Y (40))))))\n";
+
+const SECOND_SDF: &str =
+    "(DELAYFILE (TIMESCALE 1 fs)\n(CELL (CELLTYPE \"BUF\") (INSTANCE x) (DELAY (ABSOLUTE (IOPATH A Y (30)))))\n(CELL (CELLTYPE \"BUF\") (INSTANCE y) (DELAY (ABSOLUTE (IOPATH A Y (70))))))\n";
+
+/// The files of the rows, each a name and its bytes.
+pub const FILES: [(&str, &str); 36] = [
+    (
+        "TAB1",
+        "table 1\nphases 2\nphase phi1\nphase phi2\nelements 2\nelement a 1 10 - 10 10 0\nelement b 2 10 - 10 10 0\ninner 0\narcs 2\narc q0 d1 20 20\narc q1 d0 60 60\nbounds 0\nend\n",
+    ),
+    (
+        "SCH1",
+        "schedule 1\nden 1\ncycle 100\nphases 2\nphase 0 10\nphase 10 30\nend\n",
+    ),
+    (
+        "short.schedule",
+        "schedule 1\nden 1\ncycle 99\nphases 2\nphase 0 10\nphase 10 30\nend\n",
+    ),
+    (
+        "overlap.schedule",
+        "schedule 1\nden 1\ncycle 100\nphases 2\nphase 0 12\nphase 10 25\nend\n",
+    ),
+    (
+        "hold.table",
+        "table 1\nphases 1\nphase p\nelements 1\nelement a 1 0 5 0 0 0\ninner 0\narcs 1\narc q0 d0 20 20\nbounds 0\nend\n",
+    ),
+    (
+        "one.schedule",
+        "schedule 1\nden 1\ncycle 100\nphases 1\nphase 0 50\nend\n",
+    ),
+    (
+        "early.table",
+        "table 1\nphases 1\nphase p\nelements 3\nelement a 1 0 - 0 0 0\nelement b 1 0 - 0 0 0\nelement c 1 0 8 0 0 0\ninner 0\narcs 2\narc q0 d1 120 120\narc q1 d2 40 40\nbounds 0\nend\n",
+    ),
+    (
+        "bound.table",
+        "table 1\nphases 2\nphase phi1\nphase phi2\nelements 2\nelement a 1 10 - 10 10 0\nelement b 2 10 - 10 10 0\ninner 0\narcs 2\narc q0 d1 20 20\narc q1 d0 60 60\nbounds 1\nbound o o 101 1\nend\n",
+    ),
+    (
+        "inner.table",
+        "table 1\nphases 2\nphase phi1\nphase phi2\nelements 2\nelement a 1 10 - 10 10 0\nelement b 2 10 - 10 10 0\ninner 1\narcs 3\narc q0 n0 15 15\narc n0 d1 5 5\narc q1 d0 60 60\nbounds 0\nend\n",
+    ),
+    (
+        "flops.table",
+        "table 2\nphases 1\nphase p\nelements 2\nelement a 1 flop 5 - 10 10 0\nelement b 1 flop 5 - 10 10 0\ninner 0\narcs 2\narc q0 d1 85 85\narc q1 d0 35 35\nbounds 0\nend\n",
+    ),
+    (
+        "flops.schedule",
+        "schedule 1\nden 1\ncycle 95\nphases 1\nphase 0 0\nend\n",
+    ),
+    (
+        "race.table",
+        "table 2\nphases 1\nphase p\nelements 2\nelement a 1 flop 0 - 2 2 0\nelement b 1 flop 0 10 2 2 0\ninner 0\narcs 1\narc q0 d1 3 3\nbounds 0\nend\n",
+    ),
+    (
+        "race.schedule",
+        "schedule 1\nden 1\ncycle 100\nphases 1\nphase 0 0\nend\n",
+    ),
+    (
+        "enable.table",
+        "table 3\nphases 2\nphase phi1\nphase phi2\nelements 2\nelement a 1 latch 10 - 10 10 4 4 0\nelement b 2 latch 10 - 10 10 10 10 0\ninner 0\narcs 2\narc q0 d1 20 20\narc q1 d0 60 60\nbounds 0\nend\n",
+    ),
+    (
+        "sum.table",
+        "table 1\nphases 1\nphase p\nelements 1\nelement a 1 0 - 0 0 0\ninner 1\narcs 2\narc q0 n0 1000000000 1000000000\narc n0 d0 0 0\nbounds 0\nend\n",
+    ),
+    (
+        "long.table",
+        "table 1\nphases 1\nphase p\nelements 1\nelement a 1 0 - 0 0 0\ninner 1\narcs 2\narc q0 n0 1000000000 1000000000\narc n0 d0 1 1\nbounds 0\nend\n",
+    ),
+    (
+        "slow.schedule",
+        "schedule 1\nden 1\ncycle 1000000000\nphases 1\nphase 0 50\nend\n",
+    ),
+    (
+        "closed.table",
+        "table 1\nphases 1\nphase p\nelements 0\ninner 2\narcs 2\narc n0 n1 0 0\narc n1 n0 0 0\nbounds 0\nend\n",
+    ),
+    (
+        "cut.table",
+        "table 1\nphases 2\nphase phi1\nphase phi2\nelements 2\n",
+    ),
+    ("empty.schedule", ""),
+    (
+        "half.table",
+        "table 1\nphases 1\nphase p\nelements 2\nelement a 1 0 - 0 0 0\nelement b 1 0 - 0 0 0\ninner 0\narcs 2\narc q0 d1 31 31\narc q1 d0 20 20\nbounds 0\nend\n",
+    ),
+    (
+        "empty.table",
+        "table 1\nphases 1\nphase p\nelements 0\ninner 0\narcs 0\nbounds 0\nend\n",
+    ),
+    (
+        "never.table",
+        "table 1\nphases 1\nphase p\nelements 1\nelement a 1 10 - 0 0 0\ninner 0\narcs 0\nbounds 1\nbound e1 s1 -5 0\nend\n",
+    ),
+    (
+        "tight.table",
+        "table 1\nphases 2\nphase phi1\nphase phi2\nelements 2\nelement a 1 10 - 10 10 0\nelement b 2 70 - 10 10 0\ninner 0\narcs 2\narc q0 d1 20 20\narc q1 d0 60 60\nbounds 0\nend\n",
+    ),
+    (
+        "CERT1",
+        "certificate 2\nleast\nden 1\ncycle 100\nphases 2\nphase 0 10\nphase 10 30\ndepartures 2\ndeparture 0\ndeparture 20\nchain 2\nreach 0 1 1 0\nreach 1 0 1 1\nend\n",
+    ),
+    (
+        "paths.table",
+        "table 1\nphases 1\nphase p\nelements 2\nelement a 1 0 - 0 0 0\nelement b 1 0 - 0 0 0\ninner 1\narcs 3\narc q0 d1 20 20\narc q0 n0 1 1\narc n0 d1 2 2\nbounds 0\nend\n",
+    ),
+    ("two.v", TWO_V),
+    ("two.sdf", TWO_SDF),
+    ("two.cells", TWO_CELLS),
+    ("two.clock", TWO_CLOCK),
+    ("two.lib", TWO_LIB),
+    ("pair.v", PAIR_V),
+    ("pair.cells", PAIR_CELLS),
+    ("pair.clock", PAIR_CLOCK),
+    ("first.sdf", FIRST_SDF),
+    ("second.sdf", SECOND_SDF),
+];
+
+/// Certificates of the first table, each the name of its row, the text after its first line, and what `verify` answers.
+pub const CERTIFICATES: [(&str, &str, &str); 7] = [
+    (
+        "verify-valid",
+        "least\nden 1\ncycle 100\nphases 2\nphase 0 10\nphase 10 30\ndepartures 2\ndeparture 0\ndeparture 20\nchain 2\nreach 0 1 1 0\nreach 1 0 1 1\nend\n",
+        "valid\n",
+    ),
+    (
+        "verify-wrong-departure",
+        "least\nden 1\ncycle 100\nphases 2\nphase 0 10\nphase 10 30\ndepartures 2\ndeparture 0\ndeparture 21\nchain 2\nreach 0 1 1 0\nreach 1 0 1 1\nend\n",
+        "invalid 4\n",
+    ),
+    (
+        "verify-open-chain",
+        "least\nden 1\ncycle 100\nphases 2\nphase 0 10\nphase 10 30\ndepartures 2\ndeparture 0\ndeparture 20\nchain 1\nreach 0 1 1 0\nend\n",
+        "invalid 6\n",
+    ),
+    (
+        "verify-later-departures",
+        "least\nden 1\ncycle 100\nphases 2\nphase 0 15\nphase 15 30\ndepartures 2\ndeparture 5\ndeparture 20\nchain 2\nreach 0 1 1 0\nreach 1 0 1 1\nend\n",
+        "valid\n",
+    ),
+    (
+        "verify-missing-departure",
+        "least\nden 1\ncycle 100\nphases 2\nphase 0 10\nphase 10 30\ndepartures 1\ndeparture 0\nchain 2\nreach 0 1 1 0\nreach 1 0 1 1\nend\n",
+        "invalid 1\n",
+    ),
+    (
+        "verify-above-least",
+        "least\nden 1\ncycle 101\nphases 2\nphase 0 10\nphase 10 30\ndepartures 2\ndeparture 0\ndeparture 20\nchain 2\nreach 0 1 1 0\nreach 1 0 1 1\nend\n",
+        "invalid 7\n",
+    ),
+    (
+        "certificate-without-end",
+        "least\nden 1\ncycle 100\nphases 2\nphase 0 10\nphase 10 30\ndepartures 2\ndeparture 0\ndeparture 20\nchain 2\nreach 0 1 1 0\nreach 1 0 1 1\n",
+        "refused 1 certificate 14\n",
+    ),
+];
+
+/// The files of the further rows.
+pub const FURTHER_FILES: [(&str, &str); 4] = [
+    (
+        "own.table",
+        "table 1\nphases 2\nphase phi1\nphase phi2\nelements 2\nelement a 1 10 - 10 10 0\nelement b 2 10 - 10 10 0\ninner 0\narcs 3\narc q0 d1 20 20\narc q1 d0 60 60\narc q0 d0 5 5\nbounds 0\nend\n",
+    ),
+    (
+        "half-own.table",
+        "table 1\nphases 1\nphase p\nelements 2\nelement a 1 0 - 0 0 0\nelement b 1 0 - 0 0 0\ninner 0\narcs 3\narc q0 d1 31 31\narc q1 d0 20 20\narc q1 d1 20 20\nbounds 0\nend\n",
+    ),
+    (
+        "half-hold.table",
+        "table 1\nphases 1\nphase p\nelements 2\nelement a 1 0 18 0 0 0\nelement b 1 0 - 0 0 0\ninner 0\narcs 2\narc q0 d1 31 31\narc q1 d0 20 20\nbounds 0\nend\n",
+    ),
+    (
+        "half-never.table",
+        "table 1\nphases 1\nphase p\nelements 2\nelement a 1 0 21 0 0 0\nelement b 1 0 - 0 0 0\ninner 0\narcs 2\narc q0 d1 31 31\narc q1 d0 20 20\nbounds 0\nend\n",
+    ),
+];
+
+/// The files of the rows on libraries: the worked one with a definition, with a cell that can't be used, and one that isn't
+/// closed.
+pub const LIBRARIES: [(&str, &str); 6] = [
+    ("two.v", TWO_V),
+    ("two.sdf", TWO_SDF),
+    ("two.clock", TWO_CLOCK),
+    (
+        "define.lib",
+        "library (t) { define (x, cell, float) ; cell (BUF) { area : 1.0 ; pin (A) { direction : input ; } pin (Y) { direction : output ; function : \"A\" ; } } cell (LAT) { latch (IQ, IQN) { enable : \"G\" ; data_in : \"D\" ; } pin (D) { direction : input ; } pin (G) { direction : input ; clock : true ; } pin (Q) { direction : output ; function : \"IQ\" ; } } }",
+    ),
+    (
+        "unusable.lib",
+        "library (t) { cell (BUF) { bus (B) { } area : 1.0 ; pin (A) { direction : input ; } pin (Y) { direction : output ; function : \"A\" ; } } cell (LAT) { latch (IQ, IQN) { enable : \"G\" ; data_in : \"D\" ; } pin (D) { direction : input ; } pin (G) { direction : input ; clock : true ; } pin (Q) { direction : output ; function : \"IQ\" ; } } }",
+    ),
+    ("open.lib", "library (t) { cell (A) {"),
+];
+
+/// The files of the rows on corners, beside those that all rows have: delays under which x and y are faster, or x slower; a text
+/// that is cut off; delays of an instance that isn't there; and a clock whose second phase begins too late for any cycle.
+pub const CORNER_FILES: [(&str, &str); 10] = [
+    ("pair.v", PAIR_V),
+    ("pair.cells", PAIR_CELLS),
+    ("pair.clock", PAIR_CLOCK),
+    ("first.sdf", FIRST_SDF),
+    ("second.sdf", SECOND_SDF),
+    (
+        "fast.sdf",
+        "(DELAYFILE (TIMESCALE 1 fs)\n(CELL (CELLTYPE \"BUF\") (INSTANCE x) (DELAY (ABSOLUTE (IOPATH A Y (10)))))\n(CELL (CELLTYPE \"BUF\") (INSTANCE y) (DELAY (ABSOLUTE (IOPATH A Y (10))))))\n",
+    ),
+    (
+        "slow.sdf",
+        "(DELAYFILE (TIMESCALE 1 fs)\n(CELL (CELLTYPE \"BUF\") (INSTANCE x) (DELAY (ABSOLUTE (IOPATH A Y (80)))))\n(CELL (CELLTYPE \"BUF\") (INSTANCE y) (DELAY (ABSOLUTE (IOPATH A Y (10))))))\n",
+    ),
+    ("cut.sdf", "(DELAYFILE"),
+    (
+        "stray.sdf",
+        "(DELAYFILE (TIMESCALE 1 fs)\n(CELL (CELLTYPE \"BUF\") (INSTANCE z) (DELAY (ABSOLUTE (IOPATH A Y (10))))))\n",
+    ),
+    (
+        "never.clock",
+        "[[phase]]\nname = \"p1\"\nport = \"c1\"\n[[phase]]\nname = \"p2\"\nport = \"c2\"\n[[bound]]\nfrom = \"start p2\"\nto = \"start p1\"\ngap = 1\ncycles = 0\n",
+    ),
+];

@@ -1,0 +1,50 @@
+//! Runs over a shelf and a sink in memory.
+use mintc_command::{Status, run};
+use mintc_text::{MemoryShelf, MemorySink, Name, Numbers};
+use std::alloc::Global;
+use std::test::Fail;
+
+/// Files for a shelf, each a name and its bytes.
+pub type Held = Vec<(Name, Vec<u8>)>;
+
+/// Adds a file to those for a shelf.
+pub fn hold(alloc: Global, held: &mut Held, name: &str, text: &[u8]) -> Result<(), Fail> {
+    let name = Name::new(alloc, name.as_bytes())?;
+    held.push((name, Vec::from_slice(alloc, text)?))?;
+    Ok(())
+}
+
+/// A shelf of files, none of whose calls fail.
+pub fn sound_shelf(alloc: Global, held: Held) -> MemoryShelf {
+    MemoryShelf::new(held, Numbers::new(Vec::new(alloc)))
+}
+
+/// A shelf of these files, whose calls of these numbers fail.
+pub fn shelf_of(
+    alloc: Global,
+    files: &[(&str, &str)],
+    failing: &[u32],
+) -> Result<MemoryShelf, Fail> {
+    let mut held = Vec::new(alloc);
+    for file in files {
+        hold(alloc, &mut held, file.0, file.1.as_bytes())?;
+    }
+    let failing = Vec::from_slice(alloc, failing)?;
+    Ok(MemoryShelf::new(held, Numbers::new(failing)))
+}
+
+/// A run over this shelf, and a sink whose first write may be made to fail: its status and what the sink took.
+pub fn run_over(
+    alloc: Global,
+    shelf: &mut MemoryShelf,
+    line: &str,
+    failing_write: Option<(u32, usize)>,
+) -> Result<(Status, Vec<u8>), Fail> {
+    let mut words = Vec::new(alloc);
+    for word in line.split_whitespace() {
+        words.push(String::from_str(alloc, word)?)?;
+    }
+    let mut sink = MemorySink::new(alloc, 1_000_000, failing_write)?;
+    let status = run(alloc, words.as_slice(), shelf, &mut sink);
+    Ok((status, Vec::from_slice(alloc, sink.taken())?))
+}

@@ -1,0 +1,125 @@
+//! Tables at the limits and one past them.
+use super::files::{FILES, PAIR_CELLS, PAIR_CLOCK};
+use super::harness::{run_over, shelf_of};
+use super::rows::{CHECK, PASS};
+use mintc_command::Status;
+use std::alloc::{AllocError, Global};
+use std::test::Fail;
+
+/// The first two elements of the file TAB1, and so many more that are as the first one.
+fn many_elements(alloc: Global, count: usize) -> Result<String, AllocError> {
+    let mut text = format!(in alloc;
+        "table 1\nphases 2\nphase phi1\nphase phi2\nelements {count}\nelement a 1 10 - 10 10 0\nelement b 2 10 - 10 10 0\n"
+    )?;
+    for _ in 2..count {
+        text.push_str("element a 1 10 - 10 10 0\n")?;
+    }
+    text.push_str("inner 0\narcs 2\narc q0 d1 20 20\narc q1 d0 60 60\nbounds 0\nend\n")?;
+    Ok(text)
+}
+
+// Row element-limit.
+#[test]
+fn as_many_elements_as_there_may_be(rt: HostRuntime) -> Result<(), Fail> {
+    let alloc = rt.alloc();
+    let table = many_elements(alloc, 2_000)?;
+    let mut pass = String::from_str(alloc, PASS)?;
+    for _ in 2..2_000 {
+        pass.push_str("element a late 0/1 early 0/1\n")?;
+    }
+    let mut shelf = shelf_of(
+        alloc,
+        &[("TAB1", table.as_str()), ("SCH1", FILES[1].1)],
+        &[],
+    )?;
+    let (status, taken) = run_over(alloc, &mut shelf, CHECK, None)?;
+    assert_eq!(rt; status, Status::Done);
+    assert_eq!(rt; taken.as_slice(), pass.as_bytes());
+    Ok(())
+}
+
+/// A table with nothing in it but so many phases and bounds.
+fn empty_table(alloc: Global, phases: usize, bounds: usize) -> Result<String, AllocError> {
+    let mut text = format!(in alloc; "table 1\nphases {phases}\n")?;
+    for _ in 0..phases {
+        text.push_str("phase p\n")?;
+    }
+    text.push_str("elements 0\ninner 0\narcs 0\n")?;
+    text.push_str(format!(in alloc; "bounds {bounds}\n")?.as_str())?;
+    for _ in 0..bounds {
+        text.push_str("bound o o 0 0\n")?;
+    }
+    text.push_str("end\n")?;
+    Ok(text)
+}
+
+// An element, a phase and a bound too many; and as many phases and bounds as there may be.
+#[test]
+fn one_past_the_limits(rt: HostRuntime) -> Result<(), Fail> {
+    let alloc = rt.alloc();
+    let elements = many_elements(alloc, 2_001)?;
+    let phases = empty_table(alloc, 9, 64)?;
+    let bounds = empty_table(alloc, 8, 65)?;
+    let most = empty_table(alloc, 8, 64)?;
+    let cases = [
+        (elements.as_str(), "refused 17 elements 2001\n"),
+        (phases.as_str(), "refused 17 phases 9\n"),
+        (bounds.as_str(), "refused 17 bounds 65\n"),
+        (most.as_str(), "refused 19 8 2\n"),
+    ];
+    for (table, answer) in &cases {
+        let mut shelf = shelf_of(alloc, &[("TAB1", *table), ("SCH1", FILES[1].1)], &[])?;
+        let (status, taken) = run_over(alloc, &mut shelf, CHECK, None)?;
+        assert_eq!(rt; status, Status::Refused, "{answer}");
+        assert_eq!(rt; taken.as_slice(), answer.as_bytes());
+    }
+    Ok(())
+}
+
+/// A netlist of so many flops, none of which is fed by another.
+fn many_flops(alloc: Global, count: usize) -> Result<String, AllocError> {
+    let mut text = String::from_str(alloc, "module m(c1, c2); input c1, c2; wire p;")?;
+    for number in 0..count {
+        text.push_str(format!(in alloc; " FF f{number} (.D(p), .C(c1));")?.as_str())?;
+    }
+    text.push_str(" endmodule\n")?;
+    Ok(text)
+}
+
+// Two corners have as many elements together as a design may have, or two more; but a corner that is refused comes before.
+#[test]
+fn corners_at_the_limit_of_elements(rt: HostRuntime) -> Result<(), Fail> {
+    let alloc = rt.alloc();
+    let most = many_flops(alloc, 1_000)?;
+    let over = many_flops(alloc, 1_001)?;
+    let cases = [
+        (most.as_str(), "no.sdf", Status::Done, "corners 1\nleast\n"),
+        (
+            over.as_str(),
+            "no.sdf",
+            Status::Refused,
+            "refused 17 elements 2002\n",
+        ),
+        (
+            over.as_str(),
+            "cut.sdf",
+            Status::Refused,
+            "refused 22 2\nrefused 1 delays 1\n",
+        ),
+    ];
+    for (netlist, second, status, front) in cases {
+        let files = [
+            ("many.v", netlist),
+            ("pair.cells", PAIR_CELLS),
+            ("pair.clock", PAIR_CLOCK),
+            ("no.sdf", "(DELAYFILE)\n"),
+            ("cut.sdf", "(DELAYFILE"),
+        ];
+        let mut shelf = shelf_of(alloc, &files, &[])?;
+        let words = format!(in alloc; "corners many.v pair.cells pair.clock no.sdf {second}")?;
+        let (answered, taken) = run_over(alloc, &mut shelf, words.as_str(), None)?;
+        assert_eq!(rt; answered, status, "{front}");
+        assert!(rt; taken.as_slice().starts_with(front.as_bytes()), "{front}");
+    }
+    Ok(())
+}

@@ -1,0 +1,172 @@
+//! Runs on files: netlists that are refused, in which order bits are joined, and the limits.
+use super::files::TWO_CELLS;
+use super::harness::{hold, run_over, sound_shelf};
+use mintc_command::Status;
+use std::alloc::{AllocError, Global};
+use std::test::Fail;
+
+/// One phase on the port `c`.
+const CLOCK: &str = "[[phase]]\nname = \"p\"\nport = \"c\"\n";
+
+/// A run of `optimise` on a netlist with these delays and this clock.
+fn optimised(
+    alloc: Global,
+    netlist: &str,
+    delays: &str,
+    clock: &str,
+) -> Result<(Status, Vec<u8>), Fail> {
+    let mut held = Vec::new(alloc);
+    hold(alloc, &mut held, "v", netlist.as_bytes())?;
+    hold(alloc, &mut held, "d", delays.as_bytes())?;
+    hold(alloc, &mut held, "c", TWO_CELLS.as_bytes())?;
+    hold(alloc, &mut held, "k", clock.as_bytes())?;
+    let mut shelf = sound_shelf(alloc, held);
+    run_over(alloc, &mut shelf, "optimise files v d c k", None)
+}
+
+/// What stands in the module `m`, and the answers of which one comes.
+const BODIES: [(&str, &[&str]); 13] = [
+    ("FOO a ();", &["refused 4 3\n"]),
+    ("m u (.c(c));", &["refused 5 3\n"]),
+    ("LAT a (.D(1'b0), .G(c), .E(c));", &["refused 6 3\n"]),
+    ("wire [1:0] w; assign w = c;", &["refused 7 4\n"]),
+    ("assign c = 1'b0;", &["refused 8 3\n"]),
+    ("wire w; wire w;", &["refused 3 4\n"]),
+    ("LAT a (.D(c), .G(1'b1));", &["refused 15 0\n"]),
+    (
+        "wire a, b; assign a = b; assign b = a;",
+        &["refused 16 2 0 1\n", "refused 16 2 1 0\n"],
+    ),
+    ("inout d;", &["refused 1 netlist 3\n"]),
+    ("FOO a (); wire w; wire w;", &["refused 3 5\n"]),
+    ("assign c = 1'b0; FOO a ();", &["refused 4 4\n"]),
+    ("wire w; assign {w, w} = 2'b0;", &["refused 8 4\n"]),
+    ("LAT a (.D(c), .G(c), .Q(), .Q());", &["refused 3 3\n"]),
+];
+
+/// Whole texts, and their answers.
+const TEXTS: [(&str, &str); 3] = [
+    ("", "refused 9 0\n"),
+    (
+        "module m(c); input c; LAT a (.D(c)",
+        "refused 1 netlist 3\n",
+    ),
+    ("module m(c); input c;", "refused 1 netlist 3\n"),
+];
+
+#[test]
+fn refused_netlists(rt: HostRuntime) -> Result<(), Fail> {
+    let alloc = rt.alloc();
+    for (body, answers) in &BODIES {
+        let netlist = format!(in alloc; "module m(c); input c; {body} endmodule")?;
+        let (status, taken) = optimised(alloc, netlist.as_str(), "(DELAYFILE)", CLOCK)?;
+        assert_eq!(rt; status, Status::Refused, "{body}");
+        assert!(rt;
+            answers
+                .iter()
+                .any(|answer| answer.as_bytes() == taken.as_slice()),
+            "{body}"
+        );
+    }
+    for (text, answer) in &TEXTS {
+        let (status, taken) = optimised(alloc, text, "(DELAYFILE)", CLOCK)?;
+        assert_eq!(rt; status, Status::Refused, "{text}");
+        assert_eq!(rt; taken.as_slice(), answer.as_bytes(), "{text}");
+    }
+    Ok(())
+}
+
+#[test]
+fn an_output_that_is_connected_to_nothing(rt: HostRuntime) -> Result<(), Fail> {
+    let alloc = rt.alloc();
+    let netlist =
+        "module m(c); input c; LAT a (.D(w), .G(c), .Q()); BUF b (.A(c), .Y(w)); endmodule";
+    let (status, taken) = optimised(alloc, netlist, "(DELAYFILE)", CLOCK)?;
+    assert_eq!(rt; status, Status::Done);
+    assert!(rt; taken.as_slice().starts_with(b"certificate 2\nleast\n"));
+    Ok(())
+}
+
+/// So many modules, each but the last with some instances of the next; the last has a body of its own.
+fn modules(
+    alloc: Global,
+    count: usize,
+    instances: usize,
+    body: &str,
+) -> Result<String, AllocError> {
+    let mut text = String::new(alloc);
+    for number in 1..count {
+        text.push_str(format!(in alloc; "module t{number}(c); input c;")?.as_str())?;
+        for instance in 0..instances {
+            let next = number + 1;
+            text.push_str(format!(in alloc; " t{next} u{instance} (.c(c));")?.as_str())?;
+        }
+        text.push_str(" endmodule\n")?;
+    }
+    text.push_str(format!(in alloc; "module t{count}(c); input c; {body} endmodule\n")?.as_str())?;
+    Ok(text)
+}
+
+// Row limits-and-one-past: scopes, depth, leaves.
+#[test]
+fn too_many_scopes_and_leaves(rt: HostRuntime) -> Result<(), Fail> {
+    let alloc = rt.alloc();
+    let leaves = "BUF a (.A(c)); BUF b (.A(c)); BUF d (.A(c)); BUF e (.A(c));";
+    let cases = [
+        (16, 2, "", "refused 17 scopes 65535\n"),
+        (30, 2, "", "refused 17 scopes 1000000000\n"),
+        (33, 1, "", "refused 17 depth 33\n"),
+        (15, 2, leaves, "refused 17 leaves 65536\n"),
+    ];
+    for (count, instances, body, answer) in cases {
+        let netlist = modules(alloc, count, instances, body)?;
+        let (status, taken) = optimised(alloc, netlist.as_str(), "(DELAYFILE)", CLOCK)?;
+        assert_eq!(rt; status, Status::Refused, "{answer}");
+        assert_eq!(rt; taken.as_slice(), answer.as_bytes());
+    }
+    Ok(())
+}
+
+/// A module with four nets of many bits beside its port.
+fn wide(alloc: Global, last: u32) -> Result<String, AllocError> {
+    format!(in alloc;
+        "module m(c); input c; wire [65535:0] w1; wire [65535:0] w2; wire [65535:0] w3; wire [{last}:0] w4; endmodule"
+    )
+}
+
+// Row limits-and-one-past: inner bits, elements, numbers of delays; and braces.
+#[test]
+fn too_many_bits_and_too_large_numbers(rt: HostRuntime) -> Result<(), Fail> {
+    let alloc = rt.alloc();
+    let most = wide(alloc, 65_534)?;
+    let more = wide(alloc, 65_535)?;
+    let listed = "module m(c, x); input c; input [2000:0] x; endmodule";
+    let ports = format!(in alloc; "{CLOCK}[[input]]\nport = \"x\"\nphase = \"p\"\n")?;
+    let leaf = "module m(c); input c; BUF b (.A(c)); endmodule";
+    let far =
+        "(DELAYFILE (TIMESCALE 1 us) (CELL (CELLTYPE \"BUF\") (INSTANCE b) (DELAY (ABSOLUTE (IOPATH A Y (1.0000000000000001))))))";
+    let near =
+        "(DELAYFILE (TIMESCALE 1 us) (CELL (CELLTYPE \"BUF\") (INSTANCE b) (DELAY (ABSOLUTE (IOPATH A Y (1.0))))))";
+    let cases = [
+        (
+            more.as_str(),
+            "(DELAYFILE)",
+            CLOCK,
+            "refused 17 inner 262145\n",
+        ),
+        (most.as_str(), "(DELAYFILE)", CLOCK, "certificate 2\n"),
+        (
+            listed,
+            "(DELAYFILE)",
+            ports.as_str(),
+            "refused 17 elements 2001\n",
+        ),
+        (leaf, far, CLOCK, "refused 18 2\n"),
+        (leaf, near, CLOCK, "certificate 2\n"),
+    ];
+    for (netlist, delays, clock, answer) in &cases {
+        let (_, taken) = optimised(alloc, netlist, delays, clock)?;
+        assert!(rt; taken.as_slice().starts_with(answer.as_bytes()), "{answer}");
+    }
+    Ok(())
+}

@@ -1,0 +1,105 @@
+//! Runs on the sample, and on the worked files cut.
+use super::files::{TWO_CELLS, TWO_CLOCK, TWO_SDF, TWO_V};
+use super::harness::{hold, run_over, shelf_of, sound_shelf};
+use mintc_command::Status;
+use mintc_sample::SampleFiles;
+use mintc_text::MemoryShelf;
+use std::alloc::Global;
+use std::test::Fail;
+
+// Rows sample-seven and sample-zero.
+#[test]
+fn samples_have_their_summaries(rt: HostRuntime) -> Result<(), Fail> {
+    let alloc = rt.alloc();
+    let cases = [
+        (
+            "sample 7",
+            "sample 7\nphases 2\nelements 2000\ninner 16002\narcs 20000\npairs 4000\ncycle 2041013/1\n",
+        ),
+        (
+            "sample 0",
+            "sample 0\nphases 2\nelements 2000\ninner 16002\narcs 20000\npairs 4000\ncycle 2040999/1\n",
+        ),
+    ];
+    for (words, summary) in cases {
+        let mut shelf = shelf_of(alloc, &[], &[])?;
+        let (status, taken) = run_over(alloc, &mut shelf, words, None)?;
+        assert_eq!(rt; status, Status::Done, "{words}");
+        assert_eq!(rt; taken.as_slice(), summary.as_bytes(), "{words}");
+    }
+    Ok(())
+}
+
+/// The files of a sample, and a certificate beside them.
+fn sample_shelf(
+    alloc: Global,
+    sample: &SampleFiles,
+    certificate: &[u8],
+) -> Result<MemoryShelf, Fail> {
+    let mut held = Vec::new(alloc);
+    hold(alloc, &mut held, "v", sample.netlist.items())?;
+    hold(alloc, &mut held, "d", sample.delays.items())?;
+    hold(alloc, &mut held, "c", sample.cells.items())?;
+    hold(alloc, &mut held, "k", sample.clock.items())?;
+    hold(alloc, &mut held, "x", certificate)?;
+    Ok(sound_shelf(alloc, held))
+}
+
+// Row verify-sample-seven.
+#[test]
+fn the_optimum_of_a_sample_is_valid(rt: HostRuntime) -> Result<(), Fail> {
+    let alloc = rt.alloc();
+    let sample = mintc_sample::files(alloc, 7)?;
+    let mut shelf = sample_shelf(alloc, &sample, b"")?;
+    let (_, found) = run_over(alloc, &mut shelf, "optimise files v d c k", None)?;
+    let mut both = sample_shelf(alloc, &sample, found.as_slice())?;
+    let (status, verdict) = run_over(alloc, &mut both, "verify files v d c k x", None)?;
+    assert_eq!(rt; status, Status::Done);
+    assert_eq!(rt; verdict.as_slice(), b"valid\n".as_slice());
+    Ok(())
+}
+
+/// The worked files, and how the answer begins where one of them is cut: delays are out of form until they are whole, and of the
+/// others a front may be in form, so that something later is refused.
+const WORKED: [(&str, &str, &str); 4] = [
+    ("two.v", TWO_V, "refused "),
+    ("two.sdf", TWO_SDF, "refused 1 delays "),
+    ("two.cells", TWO_CELLS, "refused "),
+    ("two.clock", TWO_CLOCK, "refused "),
+];
+
+/// What `optimise` answers on the worked files, the one of this name cut to so many bytes.
+fn cut_answer(alloc: Global, cut: &str, length: usize) -> Result<Vec<u8>, Fail> {
+    let mut held = Vec::new(alloc);
+    for (name, text, _) in &WORKED {
+        let bytes = text.as_bytes();
+        let kept = if *name == cut {
+            length.min(bytes.len())
+        } else {
+            bytes.len()
+        };
+        hold(alloc, &mut held, name, &bytes[..kept])?;
+    }
+    let mut shelf = sound_shelf(alloc, held);
+    let words = "optimise files two.v two.sdf two.cells two.clock";
+    let (_, taken) = run_over(alloc, &mut shelf, words, None)?;
+    Ok(taken)
+}
+
+// Each of the worked files, cut at each byte. Some ends are white space alone.
+#[test]
+fn files_cut_at_each_byte(rt: HostRuntime) -> Result<(), Fail> {
+    let alloc = rt.alloc();
+    let whole = cut_answer(alloc, "", 0)?;
+    for (name, text, refusal) in &WORKED {
+        for length in 0..text.len() {
+            let taken = cut_answer(alloc, name, length)?;
+            let answer = taken.as_slice();
+            assert!(rt;
+                answer.starts_with(refusal.as_bytes()) || answer == whole.as_slice(),
+                "{name} {length}"
+            );
+        }
+    }
+    Ok(())
+}

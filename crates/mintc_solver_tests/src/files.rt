@@ -1,0 +1,162 @@
+//! Worked files: their hierarchy, and their design.
+use mintc_build::from_files;
+use mintc_cells::read_cells;
+use mintc_flatten::flatten;
+use mintc_hierarchy::Hierarchy;
+use mintc_text::Stop;
+use mintc_timing::Flat;
+use mintc_verilog::read_netlist;
+use std::alloc::Global;
+use std::process::Abort;
+use std::test::Fail;
+
+/// Two latches in a loop, over three levels.
+const NETLIST: &str =
+    "/* in the style of Yosys */\n(* src = \"two.v:1.1-9.10\" *)\nmodule two(phi1, phi2, y);\n  input phi1;\n  wire phi1;\n  input phi2;\n  wire phi2;\n  output y;\n  wire y;\n  wire \\loop.back ;\n  wire mid;\n  assign y = \\loop.back ;\n  half u1 ( .c(phi1), .i(\\loop.back ), .o(mid) );\n  half u2 ( .c(phi2), .i(mid), .o(\\loop.back ) );\nendmodule\nmodule half(c, i, o);\n  input c;\n  input i;\n  output o;\n  wire q;\n  LAT \\l[0]  ( .D(i), .G(c), .Q(q) );\n  slice s ( .a(q), .t(1'h0), .z(o) );\nendmodule\nmodule slice(a, t, z);\n  input a;\n  input t;\n  output z;\n  BUF b ( .A(a), .Y(z) );\nendmodule\n";
+
+const DELAYS: &str =
+    "(DELAYFILE (SDFVERSION \"3.0\") (DIVIDER /) (TIMESCALE 1ps)\n(CELL (CELLTYPE \"BUF\") (INSTANCE u1/s/b)\n (DELAY (ABSOLUTE (IOPATH A Y (0.020:0.020:0.020)))))\n(CELL (CELLTYPE \"BUF\") (INSTANCE u2/s/b)\n (DELAY (ABSOLUTE (IOPATH A Y (0.060) (0.050))))))\n";
+
+const CELLS: &str =
+    "[cell.LAT]\nkind = \"latch\"\nd = \"D\"\ng = \"G\"\noutputs = [\"Q\"]\nsetup = 10\ndq_min = 10\n[cell.BUF]\nkind = \"gate\"\ninputs = [\"A\"]\noutputs = [\"Y\"]\n";
+
+const CLOCK: &str =
+    "[[phase]]\nname = \"p1\"\nport = \"phi1\"\n[[phase]]\nname = \"p2\"\nport = \"phi2\"\n";
+
+/// The hierarchy of a netlist with these cells.
+fn flattened(rt: &impl Abort, alloc: Global, netlist: &str) -> Result<Hierarchy, Stop> {
+    assert!(rt; netlist.len() < 10_000 && CELLS.len() < 10_000);
+    let modules = read_netlist(alloc, netlist.as_bytes())?;
+    let cells = read_cells(alloc, CELLS.as_bytes())?;
+    flatten(alloc, &modules, &cells, None)
+}
+
+/// The design of files with these cells.
+fn designed(
+    rt: &impl Abort,
+    alloc: Global,
+    netlist: &str,
+    delays: &str,
+    clock: &str,
+) -> Result<Flat, Stop> {
+    assert!(rt; netlist.len() < 10_000 && delays.len() < 10_000);
+    assert!(rt; CELLS.len() < 10_000 && clock.len() < 10_000);
+    from_files(
+        alloc,
+        netlist.as_bytes(),
+        delays.as_bytes(),
+        CELLS.as_bytes(),
+        clock.as_bytes(),
+    )
+}
+
+/// Whether these are the joins of a hierarchy, in their order.
+fn has_joins(hierarchy: &Hierarchy, wanted: &[(u32, u32)]) -> bool {
+    let joins = hierarchy.joins.items();
+    joins.len() == wanted.len()
+        && joins
+            .iter()
+            .zip(wanted)
+            .all(|(join, ends)| join.from == ends.0 && join.to == ends.1)
+}
+
+// Row worked-netlist-bits.
+#[test]
+fn worked_netlist(rt: HostRuntime) -> Result<(), Fail> {
+    let wanted = [
+        (3, 2),
+        (0, 5),
+        (3, 6),
+        (7, 4),
+        (6, 9),
+        (5, 10),
+        (11, 8),
+        (8, 12),
+        (14, 7),
+        (12, 15),
+        (16, 14),
+        (1, 17),
+        (4, 18),
+        (19, 3),
+        (18, 21),
+        (17, 22),
+        (23, 20),
+        (20, 24),
+        (26, 19),
+        (24, 27),
+        (28, 26),
+    ];
+    match flattened(&rt, rt.alloc(), NETLIST) {
+        Ok(hierarchy) => {
+            assert_eq!(rt; hierarchy.scopes.items().len(), 5);
+            assert_eq!(rt; hierarchy.leaves.items().len(), 4);
+            assert_eq!(rt; hierarchy.inner.items().len(), 29);
+            assert!(rt; has_joins(&hierarchy, &wanted));
+        }
+        Err(_) => panic!(rt; "no hierarchy"),
+    }
+    Ok(())
+}
+
+// Row bit-order: bits are joined from the right, whatever their indexes.
+#[test]
+fn bits_are_joined_from_the_right(rt: HostRuntime) -> Result<(), Fail> {
+    let alloc = rt.alloc();
+    let cases = [
+        ("x", [(0, 3), (1, 4), (2, 5)]),
+        ("{x[1], x[0]}", [(0, 3), (2, 4), (1, 5)]),
+    ];
+    for (expr, wanted) in &cases {
+        let netlist = format!(in alloc;
+            "module t(c, x); input c; input [0:1] x; pair p (.c(c), .i({expr})); endmodule module pair(c, i); input c; input [1:0] i; endmodule"
+        )?;
+        match flattened(&rt, alloc, netlist.as_str()) {
+            Ok(hierarchy) => assert!(rt; has_joins(&hierarchy, wanted), "{expr}"),
+            Err(_) => panic!(rt; "no hierarchy"),
+        }
+    }
+    Ok(())
+}
+
+// Two vectors with an inverter in a module, and an instance of it. The inner bits are p[0], p[1], q[1] and q[0] of t, a[0], a[1], y[0]
+// and y[1] of m, and the inverter's pins.
+#[test]
+fn joins_from_the_top(rt: HostRuntime) -> Result<(), Fail> {
+    let netlist =
+        "module m(a, y); input [1:0] a; output [1:0] y; BUF u (.A(a[0]), .Y(y[1])); endmodule module t(p); input [1:0] p; wire [0:1] q; m i (.y(q), .a({1'b0, p[1]})); endmodule";
+    match flattened(&rt, rt.alloc(), netlist) {
+        Ok(hierarchy) => {
+            assert!(rt; has_joins(&hierarchy, &[(1, 4), (6, 2), (7, 3), (4, 8), (9, 7)]));
+        }
+        Err(_) => panic!(rt; "no hierarchy"),
+    }
+    Ok(())
+}
+
+/// The least and the greatest delay of an arc.
+fn arc(flat: &Flat, number: usize) -> Option<(i64, i64)> {
+    flat.arcs().get(number).map(|arc| (arc.min, arc.max))
+}
+
+// Rows worked-files-design and two-entries-one-arc.
+#[test]
+fn worked_files(rt: HostRuntime) -> Result<(), Fail> {
+    let alloc = rt.alloc();
+    match designed(&rt, alloc, NETLIST, DELAYS, CLOCK) {
+        Ok(flat) => {
+            assert_eq!(rt; flat.elements().len(), 2);
+            assert_eq!(rt; flat.inner().items().len(), 29);
+            assert_eq!(rt; flat.arcs().len(), 27);
+            assert_eq!(rt; arc(&flat, 23), Some((20, 20)));
+            assert_eq!(rt; arc(&flat, 26), Some((50, 60)));
+        }
+        Err(_) => panic!(rt; "no design"),
+    }
+    let twice =
+        "(DELAYFILE (DIVIDER /) (TIMESCALE 1 fs)\n(CELL (CELLTYPE \"BUF\") (INSTANCE u1/s/b) (DELAY (ABSOLUTE (IOPATH A Y (5)))))\n(CELL (CELLTYPE \"BUF\") (INSTANCE u1/s/b) (DELAY (ABSOLUTE (IOPATH A Y (3))))))\n";
+    match designed(&rt, alloc, NETLIST, twice, CLOCK) {
+        Ok(flat) => assert_eq!(rt; arc(&flat, 23), Some((3, 5))),
+        Err(_) => panic!(rt; "no design"),
+    }
+    Ok(())
+}
