@@ -8,9 +8,10 @@ use std::test::Fail;
 /// One phase on the port `c`.
 const CLOCK: &str = "[[phase]]\nname = \"p\"\nport = \"c\"\n";
 
-/// A run of `optimise` on a netlist with these delays and this clock.
-fn optimised(
+/// A run with these words on a netlist `v` with these delays `d`, cells `c`, and this clock `k`.
+fn answered(
     alloc: Global,
+    words: &str,
     netlist: &str,
     delays: &str,
     clock: &str,
@@ -21,11 +22,21 @@ fn optimised(
     hold(alloc, &mut held, "c", TWO_CELLS.as_bytes())?;
     hold(alloc, &mut held, "k", clock.as_bytes())?;
     let mut shelf = sound_shelf(alloc, held);
-    run_over(alloc, &mut shelf, "optimise files v d c k", None)
+    run_over(alloc, &mut shelf, words, None)
+}
+
+/// A run of `optimise` on these.
+fn optimised(
+    alloc: Global,
+    netlist: &str,
+    delays: &str,
+    clock: &str,
+) -> Result<(Status, Vec<u8>), Fail> {
+    answered(alloc, "optimise files v d c k", netlist, delays, clock)
 }
 
 /// What stands in the module `m`, and the answers of which one comes.
-const BODIES: [(&str, &[&str]); 13] = [
+const BODIES: [(&str, &[&str]); 14] = [
     ("FOO a ();", &["refused 4 3\n"]),
     ("m u (.c(c));", &["refused 5 3\n"]),
     ("LAT a (.D(1'b0), .G(c), .E(c));", &["refused 6 3\n"]),
@@ -38,6 +49,10 @@ const BODIES: [(&str, &[&str]); 13] = [
         &["refused 16 2 0 1\n", "refused 16 2 1 0\n"],
     ),
     ("inout d;", &["refused 1 netlist 3\n"]),
+    (
+        "wire w; assign w = {{{{{{{{{{{{{{{{{{{{{{{{{{{{{{{{{c}}}}}}}}}}}}}}}}}}}}}}}}}}}}}}}}};",
+        &["refused 1 netlist 4\n"],
+    ),
     ("FOO a (); wire w; wire w;", &["refused 3 5\n"]),
     ("assign c = 1'b0; FOO a ();", &["refused 4 4\n"]),
     ("wire w; assign {w, w} = 2'b0;", &["refused 8 4\n"]),
@@ -134,6 +149,10 @@ fn wide(alloc: Global, last: u32) -> Result<String, AllocError> {
     )
 }
 
+/// Braces as deep as they may be.
+const BRACES: &str =
+    "module m(c); input c; wire w; assign w = {{{{{{{{{{{{{{{{{{{{{{{{{{{{{{{{c}}}}}}}}}}}}}}}}}}}}}}}}}}}}}}}}; endmodule";
+
 // Row limits-and-one-past: inner bits, elements, numbers of delays; and braces.
 #[test]
 fn too_many_bits_and_too_large_numbers(rt: HostRuntime) -> Result<(), Fail> {
@@ -161,12 +180,43 @@ fn too_many_bits_and_too_large_numbers(rt: HostRuntime) -> Result<(), Fail> {
             ports.as_str(),
             "refused 17 elements 2001\n",
         ),
+        (BRACES, "(DELAYFILE)", CLOCK, "certificate 2\n"),
         (leaf, far, CLOCK, "refused 18 2\n"),
         (leaf, near, CLOCK, "certificate 2\n"),
     ];
     for (netlist, delays, clock, answer) in &cases {
         let (_, taken) = optimised(alloc, netlist, delays, clock)?;
         assert!(rt; taken.as_slice().starts_with(answer.as_bytes()), "{answer}");
+    }
+    Ok(())
+}
+
+// Row bit-order: bits are joined from the right, whatever their indexes.
+#[test]
+fn pairs_follow_the_order_of_bits(rt: HostRuntime) -> Result<(), Fail> {
+    let alloc = rt.alloc();
+    let clock = format!(in alloc; "{CLOCK}[[input]]\nport = \"x\"\nphase = \"p\"\n")?;
+    let cases = [
+        ("x", "cycle 10/1\nslack x[1] p.b 10\nslack x[0] p.a 10\n"),
+        (
+            "{x[1], x[0]}",
+            "cycle 10/1\nslack x[1] p.a 10\nslack x[0] p.b 10\n",
+        ),
+    ];
+    for (expr, answer) in &cases {
+        let netlist = format!(in alloc;
+            "module t(c, x); input c; input [0:1] x; pair p (.c(c), .i({expr})); endmodule module pair(c, i); input c; input [1:0] i; LAT a (.D(i[1]), .G(c)); LAT b (.D(i[0]), .G(c)); endmodule"
+        )?;
+        let words = "slack files v d c k";
+        let (status, taken) = answered(
+            alloc,
+            words,
+            netlist.as_str(),
+            "(DELAYFILE)",
+            clock.as_str(),
+        )?;
+        assert_eq!(rt; status, Status::Done, "{expr}");
+        assert_eq!(rt; taken.as_slice(), answer.as_bytes(), "{expr}");
     }
     Ok(())
 }
