@@ -34,7 +34,7 @@ const SECOND_SDF: &str =
     "(DELAYFILE (TIMESCALE 1 fs)\n(CELL (CELLTYPE \"BUF\") (INSTANCE x) (DELAY (ABSOLUTE (IOPATH A Y (30)))))\n(CELL (CELLTYPE \"BUF\") (INSTANCE y) (DELAY (ABSOLUTE (IOPATH A Y (70))))))\n";
 
 /// The files of the rows, each a name and its bytes.
-pub const FILES: [(&str, &str); 36] = [
+pub const FILES: [(&str, &str); 38] = [
     (
         "TAB1",
         "table 1\nphases 2\nphase phi1\nphase phi2\nelements 2\nelement a 1 10 - 10 10 0\nelement b 2 10 - 10 10 0\ninner 0\narcs 2\narc q0 d1 20 20\narc q1 d0 60 60\nbounds 0\nend\n",
@@ -140,7 +140,15 @@ pub const FILES: [(&str, &str); 36] = [
     ("two.sdf", TWO_SDF),
     ("two.cells", TWO_CELLS),
     ("two.clock", TWO_CLOCK),
+    (
+        "two.certificate",
+        "certificate 2\nleast\nden 1\ncycle 100\nphases 2\nphase 0 10\nphase 10 30\ndepartures 2\ndeparture 0\ndeparture 20\nchain 2\nreach 0 1 11 22 6 7 9 23 10 8 3 12 14 24\nreach 1 0 11 25 16 17 19 26 20 18 13 2 4 21\nend\n",
+    ),
     ("two.lib", TWO_LIB),
+    (
+        "library.certificate",
+        "certificate 2\nleast\nden 1\ncycle 80\nphases 2\nphase 0 0\nphase 0 20\ndepartures 2\ndeparture 0\ndeparture 20\nchain 2\nreach 0 1 11 22 6 7 9 23 10 8 3 12 14 24\nreach 1 0 11 25 16 17 19 26 20 18 13 2 4 21\nend\n",
+    ),
     ("pair.v", PAIR_V),
     ("pair.cells", PAIR_CELLS),
     ("pair.clock", PAIR_CLOCK),
