@@ -5,13 +5,13 @@ ghost use Rattle.mintc_constraints.specs.Walked.{HasWalked};
 
 use crate::lists::{fill, grow};
 use mintc_text::OutOfMemory;
-use mintc_walks::{Answer, Network, Steps, greatest_walks};
+use mintc_walks::{Answer, NONE, Network, Steps, greatest_walks};
 use std::alloc::Global;
 use std::marker::Model;
 use std::sync::ledger::Ledger;
 
-/// Memory for walks through a network of so many nodes and links: five lists, each of at most one number a node. Calls
-/// other than `reserve` take no memory.
+/// Memory for walks through a network of so many nodes and links: five lists, each of at most one number a node, and two more
+/// for work, of which one keeps what makes the next walk short. Calls other than `reserve` take no memory.
 #[derive(Debug, Drop)]
 pub struct Room {
     nodes: usize,
@@ -22,6 +22,7 @@ pub struct Room {
     early: Vec<i64>,
     chain: Vec<u32>,
     marks: Vec<u32>,
+    tree: Vec<u32>,
 }
 
 impl Model for Room {
@@ -34,7 +35,8 @@ impl Model for Room {
 
     ghost invariant = { λ r.
         (r.nodes ≤ vec_capacity r.values) × (r.nodes ≤ vec_capacity r.before) × (r.nodes ≤ vec_capacity r.late)
-        × (r.nodes ≤ vec_capacity r.early) × (r.nodes ≤ vec_capacity r.chain) × (r.nodes ≤ vec_capacity r.marks) };
+        × (r.nodes ≤ vec_capacity r.early) × (r.nodes ≤ vec_capacity r.chain) × (r.nodes ≤ vec_capacity r.marks)
+        × (r.nodes ≤ vec_capacity r.tree) };
 }
 
 impl Room {
@@ -66,6 +68,9 @@ impl Room {
         let Ok(marks) = Vec::with_capacity(alloc, nodes) else {
             return Err(OutOfMemory);
         };
+        let Ok(tree) = Vec::with_capacity(alloc, nodes) else {
+            return Err(OutOfMemory);
+        };
         Ok(Room {
             nodes,
             links,
@@ -75,6 +80,7 @@ impl Room {
             early,
             chain,
             marks,
+            tree,
         })
     }
 
@@ -231,11 +237,14 @@ impl Room {
         grow(&mut self.chain, count, 0);
         fill(&mut self.before, count, 0);
         fill(&mut self.marks, count, 0);
+        self.tree.truncate(count);
+        grow(&mut self.tree, count, NONE);
         let answer = greatest_walks(
             net,
             self.values.as_mut_slice(),
             self.before.as_mut_slice(),
             self.marks.as_mut_slice(),
+            self.tree.as_mut_slice(),
             self.chain.as_mut_slice(),
             steps,
         );
