@@ -1,17 +1,17 @@
 -- Pairs that are counted one after another.
-use Rattle.std.proofs.Common.{min, ◌≡◌, ◌≢◌, ◌<◌, ◌≤◌, ◌+◌, ◌*◌, ℕ, List, [], ◌∷◌, ◌++◌, length, length-append, arith, refl, ap, ◌∙◌, sym, subst, ⊎_elim}
+use Rattle.std.proofs.Common.{◌≡◌, ◌≢◌, ◌<◌, ◌≤◌, ◌+◌, ◌*◌, ℕ, List, [], ◌∷◌, ◌++◌, length, length-append, arith, refl, ap, ◌∙◌, sym, subst, ⊎_elim}
 use Rattle.mintc_timing.specs.declared.parts.Pair.{Pair}
 use Rattle.mintc_timing.specs.Design.{Design}
 use Rattle.mintc_timing.specs.Order.{IsOrder}
-use Rattle.mintc_timing.specs.Paths.{Leads, IsPath, ArePairs, HasExtremes, input_of, output_of}
+use Rattle.mintc_timing.specs.Paths.{Leads, IsPath, HasExtremes, input_of, output_of}
 use Rattle.mintc_timing.proofs.Ordered.{all_among}
-use Rattle.mintc_paths.specs.Count.{AreEndsOf, IsCountBefore, IsPairCount, IsPairMark}
+use Rattle.mintc_paths.specs.Count.{AreEndsOf, IsCountBefore, IsPairMark}
 use Rattle.mintc_paths.specs.declared.marks.Marks.{Marks}
 use Rattle.mintc_paths.specs.Found.{ArePairsBefore}
 use Rattle.mintc_paths.specs.Marks.{AreMarksAlong, mark_in, marks_at}
 use Rattle.mintc_paths.specs.Sums.{row_of}
 use Rattle.mintc_paths.proofs.Existing.{pairs_exist_lem}
-use Rattle.mintc_paths.proofs.Finding.{ArePairs-from_before, ArePairsBefore-next, ArePairsBefore-none, ArePairsBefore-push, ArePairsBefore-skip}
+use Rattle.mintc_paths.proofs.Finding.{ArePairsBefore-next, ArePairsBefore-none, ArePairsBefore-push, ArePairsBefore-skip}
 use Rattle.mintc_paths.proofs.Leading.{mark_is}
 
 pub IsCountBefore-none : (design : Design) → IsCountBefore design 0 0 0
@@ -75,14 +75,3 @@ IsCountBefore-next design from to count end limit h = let few = h.few in record 
   is_count = h.is_count;
   few = omega arith;
 }
-
--- the count in the end
-pub IsPairCount-from_before : (design : Design) (count : ℕ) → IsCountBefore design (length design.elements) 0 count → IsPairCount design count
-IsPairCount-from_before design count h = record { pairs = h.pairs; are_pairs = ArePairs-from_before design h.pairs h.are_pairs; is_count = h.is_count }
-
-pub IsPairCount-from_list : (design : Design) (pairs : List Pair) (count : ℕ) → ArePairs design pairs → length pairs ≡ count → IsPairCount design count
-IsPairCount-from_list design pairs count are_pairs same = record { pairs = pairs; are_pairs = are_pairs; is_count = same }
-
-pub many_counted : (design : Design) (count : ℕ) → IsPairCount design count → 200000 < count → count ≤ 4000000 →
-    (pairs : List Pair) × ArePairs design pairs × (200000 < length pairs) × (count ≡ min (length pairs) 1000000000)
-many_counted design count h many few = let same = h.is_count in (h.pairs, h.are_pairs, omega arith, omega arith)
