@@ -1,7 +1,9 @@
 use Rattle.std.specs.Prelude.{◌⊎◌, ℕ, List}
 use Rattle.mintc_text.specs.declared.refusals.Refusal.{Refusal}
 use Rattle.mintc_timing.specs.Design.{Design}
+use Rattle.mintc_timing.specs.declared.parts.Pair.{Pair}
 use Rattle.mintc_timing.specs.Accepted.{IsArcLoop}
+use Rattle.mintc_timing.specs.Order.{IsTiming}
 use Rattle.mintc_order.specs.Refusals.{NamesLoop}
 use Rattle.mintc_paths.specs.Refusals.{IsExtremesRefusal}
 
@@ -10,3 +12,7 @@ abbrev pub IsDesignRefusal : Design → Refusal → Type 0
 IsDesignRefusal design refused =
     NamesLoop design.arcs refused
     ⊎ (((loop : List ℕ) → IsArcLoop design.arcs loop → ⊥) × IsExtremesRefusal design refused)
+
+-- The design has a system with this order of its arcs.
+abbrev pub HasSystem : Design → List ℕ → Type 0
+HasSystem design order = (pairs : List Pair) × IsTiming design order pairs

@@ -2,12 +2,12 @@
 ghost use Rattle.std.specs.Prelude.{◌≡◌, ◌≤◌, length, IfOk, IfErr};
 ghost use Rattle.mintc_text.specs.Stops.{StopsAt};
 ghost use Rattle.mintc_timing.specs.TableText.{IsTableRefusal, IsTableText};
-ghost use Rattle.mintc_build.specs.Designs.{IsDesignRefusal};
+ghost use Rattle.mintc_build.specs.Designs.{HasSystem, IsDesignRefusal};
 
 use mintc_order::{order, orders_exclude_loops};
-use mintc_paths::extremes;
+use mintc_paths::{count_pairs, extremes};
 use mintc_text::Stop;
-use mintc_timing::{Flat, System, read_table};
+use mintc_timing::{Flat, Order, System, read_table};
 use std::alloc::Global;
 
 /// The design of a table. The refusal is Syntax with the first line out of form, counted from 1, or Limit of the first
@@ -33,6 +33,20 @@ pub fn system(alloc: Global, flat: Flat) -> Result<System, Stop>
     orders_exclude_loops();
     match extremes(alloc, &flat, &order) {
         Ok(pairs) => Ok(System::new(flat, order, pairs)),
+        Err(stop) => Err(stop),
+    }
+}
+
+/// An order of the design's arcs, for a design that has a system, whose pairs are counted and not listed. The refusals are
+/// those of `system`.
+pub fn system_order(alloc: Global, flat: &Flat) -> Result<Order, Stop>
+    ensures system { IfOk result (HasSystem flat.now) }
+    ensures stop { IfErr result (StopsAt (IsDesignRefusal flat.now)) }
+{
+    let order = order(alloc, flat)?;
+    orders_exclude_loops();
+    match count_pairs(alloc, flat, &order) {
+        Ok(_) => Ok(order),
         Err(stop) => Err(stop),
     }
 }

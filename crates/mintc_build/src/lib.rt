@@ -5,7 +5,7 @@ mod building;
 mod files;
 mod laws;
 
-pub use building::{from_table, system};
+pub use building::{from_table, system, system_order};
 pub use files::{from_files, from_liberty};
 pub use laws::{
     accepted_designs_are_not_refused, corners_differ_in_numbers, design_refusals_are_determined,

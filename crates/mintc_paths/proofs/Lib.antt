@@ -13,3 +13,6 @@ pub mod Rowing
 pub mod Plain
 pub mod Raising
 pub mod Existing
+pub mod Setting
+pub mod Leading
+pub mod Counting

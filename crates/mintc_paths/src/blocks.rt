@@ -94,7 +94,7 @@ fn find_block(
 }
 
 /// The course over rows in the order in which the arcs come to the bits.
-fn course_of(alloc: Global, flat: &Flat, order: &Order) -> Result<Course, AllocError>
+pub fn course_of(alloc: Global, flat: &Flat, order: &Order) -> Result<Course, AllocError>
     requires { IsOrder flat.now.arcs order.now }
     ensures { IfOk result (λ course. IsCourse (2 * length flat.now.elements + length flat.now.inner) flat.now.arcs order.now course) }
 {

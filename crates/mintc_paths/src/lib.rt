@@ -14,12 +14,14 @@ ghost use Rattle.mintc_paths.specs.Refusals.{IsExtremesRefusal};
 ghost use Rattle.mintc_paths.specs.Trace.{IsPairOf};
 
 mod blocks;
+mod count;
 mod finder;
 mod found;
 mod laws;
 mod listed;
 mod long;
 mod longest;
+mod marks;
 mod reached;
 mod route;
 mod rows;
@@ -29,6 +31,7 @@ mod sums;
 mod trace;
 
 use blocks::find;
+pub use count::count_pairs;
 pub use finder::Finder;
 use found::Found;
 pub use laws::pairs_exist;

@@ -421,3 +421,65 @@ fn a_sum_at_the_limit_is_none_above(rt: HostRuntime) -> Result<(), Fail> {
     assert_eq!(rt; (element, bit), (0, 0));
     Ok(())
 }
+
+/// A table where so many elements lead to one inner bit, which leads to each of them.
+fn crowd_text(alloc: Global, elements: usize) -> Result<String, AllocError> {
+    let mut text = String::new(alloc);
+    text.push_str(&format!(in alloc; "table 1\nphases 1\nphase p\nelements {elements}\n")?)?;
+    for element in 0..elements {
+        text.push_str(&format!(in alloc; "element e{element} 1 0 - 0 0 0\n")?)?;
+    }
+    let arcs = elements.saturating_mul(2);
+    text.push_str(&format!(in alloc; "inner 1\narcs {arcs}\n")?)?;
+    for element in 0..elements {
+        text.push_str(&format!(in alloc; "arc q{element} n0 1 1\narc n0 d{element} 1 1\n")?)?;
+    }
+    text.push_str("bounds 0\nend\n")?;
+    Ok(text)
+}
+
+/// What `count_pairs` gives for a table.
+fn counted(rt: &impl Abort, alloc: Global, text: &str) -> Result<u64, Stop> {
+    assert!(rt; text.len() < 100_000);
+    let flat = read_table(alloc, text.as_bytes())?;
+    let order = order(alloc, &flat)?;
+    count_pairs(alloc, &flat, &order)
+}
+
+#[test]
+fn pairs_are_counted(rt: HostRuntime) -> Result<(), Fail> {
+    let alloc = rt.alloc();
+    for case in &[
+        NINE, INNER, PATHS, AT_LIMIT, UNLED, NONE, PARALLEL, SELVES, ENDS, DIAMOND, ELEVEN,
+    ] {
+        let text = text_of(alloc, case).ok().ok_or("no memory")?;
+        let system = system_of_text(&rt, alloc, &text).ok().ok_or(case.name)?;
+        let count = counted(&rt, alloc, &text).ok().ok_or(case.name)?;
+        assert!(rt; count == system.pairs().len() as u64, "{}", case.name);
+    }
+    Ok(())
+}
+
+#[test]
+fn too_many_pairs_are_counted(rt: HostRuntime) -> Result<(), Fail> {
+    let alloc = rt.alloc();
+    let most = crowd_text(alloc, 447).ok().ok_or("no memory")?;
+    assert_eq!(rt; counted(&rt, alloc, &most).ok(), Some(199_809));
+    let more = crowd_text(alloc, 448).ok().ok_or("no memory")?;
+    let Err(Stop::Refused(Refusal::Limit { kind: _, count })) = counted(&rt, alloc, &more) else {
+        return Err("accepted".into());
+    };
+    assert_eq!(rt; count, 200_704);
+    Ok(())
+}
+
+#[test]
+fn a_long_path_is_not_counted(rt: HostRuntime) -> Result<(), Fail> {
+    let alloc = rt.alloc();
+    let text = text_of(alloc, &ABOVE_LIMIT).ok().ok_or("no memory")?;
+    let Err(Stop::Refused(Refusal::PathRange { element, bit })) = counted(&rt, alloc, &text) else {
+        return Err("accepted".into());
+    };
+    assert_eq!(rt; (element, bit), (0, 0));
+    Ok(())
+}

@@ -1,0 +1,14 @@
+use Rattle.std.proofs.Common.{◌≡◌, ◌≤◌, ◌+◌, ◌*◌, ◌-◌, length}
+use Rattle.mintc_paths.specs.Count.{IsCountBefore}
+use Rattle.mintc_paths.proofs.count.count_along.Given as goal
+
+abbrev pub invariant-loop-first : goal.invariant-loop-first
+invariant-loop-first l = record {
+  count : IsCountBefore l.flat l.first 0 l.count;
+  inside : l.first ≤ l.elements;
+  bits : length l.marks.items ≡ 2 * length l.flat.elements + length l.flat.inner;
+  inputs : length l.ends.items ≡ length l.flat.elements;
+}
+
+abbrev pub decreases-loop-first : goal.decreases-loop-first
+decreases-loop-first l = l.elements - l.first
