@@ -160,7 +160,8 @@ impl<'a> Scanner<'a> {
 
     /// The same place once more.
     pub fn copy(&self) -> Scanner<'a>
-        ensures { result ≡ self.now }
+        ensures same { result ≡ self.now }
+        ensures tokens { self.now.tokens ≡ tokens_of (drop self.now.place self.now.text) }
     {
         Scanner {
             text: self.text,
