@@ -3,7 +3,7 @@ use Rattle.std.proofs.Common.{◌≡◌, ℕ, zero, suc, ◌-◌, ◌<◌, List,
 use Rattle.mintc_liblex.specs.Tokens.{Token, opening, closing, left, right, colon, semicolon, comma, word, string, bad, is_value, is_item, names_in, after_left, after_closing}
 use Rattle.mintc_liblex.specs.Statements.{Statement, Statements, more, attribute, plain, group, Step, Front, taken, left_over, valued, grouped, nested, called, and_more, statement_by, front}
 use Rattle.mintc_liberty.specs.Meaning.{Group, groups}
-use Rattle.mintc_liberty.specs.Passing.{group_from, group_at}
+use Rattle.mintc_liberty.specs.Passing.{group_from, group_at, body_at}
 use Rattle.mintc_liblex.specs.Reading.{word_at, items_rest, step_rest, statement_rest}
 use Rattle.mintc_liblex.proofs.NestLaws.{word-there}
 use Rattle.mintc_liblex.proofs.StatementLaws.{front-turn, beginnings}
@@ -119,19 +119,9 @@ group-end room ts e = ap (λ (f : Front). groups f.statements) (front-turn room 
     by None e = refl
     by (Some s) e = absurd (cc)
 
--- the group that comes next, and none
-pub group-there : (ts us vs inside : List Token) (w : List ℕ) → word_at ts ≡ Some (w, us) → us ≡ opening ∷ vs → items_rest vs ≡ Some (left ∷ inside) →
-    group_at ts ≡ Some (w, vs, inside)
-group-there ts us vs inside w e f g =
-    ap group_at (word-there ts us w e ∙ ap (λ l. word w ∷ l) f) ∙ ap (λ o. group_from w vs (option_and_then after_left o)) g
-
-pub no-group-items : (ts us vs : List Token) (w : List ℕ) → word_at ts ≡ Some (w, us) → us ≡ opening ∷ vs → items_rest vs ≡ None → group_at ts ≡ None
-no-group-items ts us vs w e f g =
-    ap group_at (word-there ts us w e ∙ ap (λ l. word w ∷ l) f) ∙ ap (λ o. group_from w vs (option_and_then after_left o)) g
-
-pub no-group-left : (ts us vs rest : List Token) (w : List ℕ) → word_at ts ≡ Some (w, us) → us ≡ opening ∷ vs → items_rest vs ≡ Some rest → after_left rest ≡ None → group_at ts ≡ None
-no-group-left ts us vs rest w e f g h =
-    ap group_at (word-there ts us w e ∙ ap (λ l. word w ∷ l) f) ∙ ap (λ o. group_from w vs (option_and_then after_left o)) g ∙ ap (group_from w vs) h
+-- the group that comes next, by what stands behind its items
+pub group-by : (ts us vs : List Token) (w : List ℕ) (o : Option (List Token)) → word_at ts ≡ Some (w, us) → us ≡ opening ∷ vs → body_at vs ≡ o → group_at ts ≡ group_from w vs o
+group-by ts us vs w o e f g = ap group_at (word-there ts us w e ∙ ap (λ l. word w ∷ l) f) ∙ ap (group_from w vs) g
 
 -- Names among items
 

@@ -1,7 +1,9 @@
 pub mod LibraryLaws
 pub mod ValueLaws
 pub mod PinLaws
-pub mod NamedLaws
+pub mod NextLaws
+pub mod PlaceLaws
+pub mod SortLaws
 pub mod HeldLaws
 pub mod SeenLaws
 pub mod TextLaws

@@ -5,6 +5,6 @@ pub mod Passing
 pub mod Parentheses
 pub mod Seen
 pub mod Held
-pub mod Named
+pub mod Places
 pub mod Tables
 pub mod Puts

@@ -18,11 +18,15 @@ abbrev pub value_if : List ℕ → Option (List ℕ × List Token) → Option (L
 value_if k None = None
 value_if k (Some p) = if bytes_eq p.0 k then Some (value_bytes p.1) else None
 
+-- behind items, the tokens inside of a group's braces
+abbrev pub body_at : List Token → Option (List Token)
+body_at ts = option_and_then after_left (items_rest ts)
+
 -- the group that comes next: its name, the tokens from its items on, and those inside
 abbrev pub group_from : List ℕ → List Token → Option (List Token) → Option (List ℕ × List Token × List Token)
 group_from w ts None = None
 group_from w ts (Some inside) = Some (w, ts, inside)
 
 abbrev pub group_at : List Token → Option (List ℕ × List Token × List Token)
-group_at (word w ∷ opening ∷ ts) = group_from w ts (option_and_then after_left (items_rest ts))
+group_at (word w ∷ opening ∷ ts) = group_from w ts (body_at ts)
 group_at _ = None

@@ -3,7 +3,7 @@ ghost use Rattle.std.specs.Prelude.{◌≡◌, ◌<◌, ◌-◌, ◌∷◌, [], 
 ghost use Rattle.mintc_liblex.specs.Tokens.{is_item, names_in};
 ghost use Rattle.mintc_liblex.specs.Statements.{front, taken};
 ghost use Rattle.mintc_liberty.specs.Meaning.{groups, only_name};
-ghost use Rattle.mintc_liberty.specs.Passing.{group_at};
+ghost use Rattle.mintc_liberty.specs.Passing.{group_at, body_at};
 ghost use Rattle.mintc_liberty.specs.Seen.{group_seen};
 
 use mintc_liblex::{Kind, Reader, item, items, mark, statement};
@@ -16,30 +16,41 @@ pub struct Group<'a> {
     pub inside: Reader<'a>,
 }
 
-/// The group that comes next, if one does.
-fn group_at<'a>(reader: &Reader<'a>) -> Option<Group<'a>>
-    ensures none { IfNone result (group_at reader.now ≡ None) }
-    ensures some { IfSome result (λ g. group_at reader.now ≡ Some (g.name.now, g.items, g.inside)) }
+/// Behind the items that come next, what begins with the statements inside of a group's braces.
+pub fn body<'a>(items_here: &Reader<'a>) -> Option<Reader<'a>>
+    ensures { MatchOption result (body_at items_here.now ≡ None) (λ inside. body_at items_here.now ≡ Some inside) }
 {
-    let mut inside = reader.copy();
-    let Some(name) = inside.word() else {
-        return None;
-    };
-    if !mark(&mut inside, Kind::Opening) {
-        return None;
-    }
-    let begin = inside.copy();
+    let mut inside = items_here.copy();
     if !items(&mut inside) {
         return None;
     }
-    if !mark(&mut inside, Kind::Left) {
+    if mark(&mut inside, Kind::Left) {
+        Some(inside)
+    } else {
+        None
+    }
+}
+
+/// The group that comes next, if one does.
+pub fn group_at<'a>(reader: &Reader<'a>) -> Option<Group<'a>>
+    ensures none { IfNone result (group_at reader.now ≡ None) }
+    ensures some { IfSome result (λ g. group_at reader.now ≡ Some (g.name.now, g.items, g.inside)) }
+{
+    let mut items = reader.copy();
+    let Some(name) = items.word() else {
+        return None;
+    };
+    if !mark(&mut items, Kind::Opening) {
         return None;
     }
-    Some(Group {
-        name,
-        items: begin,
-        inside,
-    })
+    match body(&items) {
+        Some(inside) => Some(Group {
+            name,
+            items,
+            inside,
+        }),
+        None => None,
+    }
 }
 
 /// Passes the statements up to the next group, and that one.

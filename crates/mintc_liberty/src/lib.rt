@@ -10,6 +10,7 @@ mod expressions;
 mod groups;
 mod parts;
 mod pins;
+mod places;
 mod tables;
 mod texts;
 mod values;

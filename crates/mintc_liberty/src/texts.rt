@@ -1,56 +1,53 @@
 //! The cells of a text: one group `library`.
-ghost use Rattle.std.specs.Prelude.{◌≡◌, ◌≤◌, ◌+◌, ◌++◌, ℕ, List, [], length, Some, None, Ok, Err, IsOk, IfOk, OnOk, MatchBool, MatchOption, MatchResult};
-ghost use Rattle.std.specs.Ordering.{nat_cmp};
-ghost use Rattle.std.specs.Cmp.Lexicographic.{slice_cmp};
+ghost use Rattle.std.specs.Prelude.{◌≡◌, ◌≤◌, ◌++◌, ◌∷◌, ℕ, [], filter_map, length, Some, None, Ok, Err, IsOk, IfOk, OnOk, MatchBool, MatchOption, MatchResult};
 ghost use Rattle.mintc_text.specs.declared.refusals.Refusal.TheVariants.{Syntax};
 ghost use Rattle.mintc_text.specs.declared.refusals.Role.TheVariants as role;
 ghost use Rattle.mintc_text.specs.Stops.{StopsAt};
 ghost use Rattle.mintc_cells.specs.Entries.{AreOrdered};
-ghost use Rattle.mintc_liberty.specs.Texts.{behind_name, behind_head, is_empty, library_of};
 ghost use Rattle.mintc_liblex.specs.Statements.{past_semicolon, front};
-ghost use Rattle.mintc_liberty.specs.Seen.{group_seen};
-ghost use Rattle.mintc_liberty.specs.Named.{named_seen, IsAscending};
-ghost use Rattle.mintc_liberty.specs.Meaning.{cell_in, cells_in, put_all, usable, groups, cells_of_library, liberty_cells};
+ghost use Rattle.mintc_liberty.specs.Texts.{behind_name, behind_head, is_empty, library_of};
+ghost use Rattle.mintc_liberty.specs.Places.{entry_at, entries_at};
+ghost use Rattle.mintc_liberty.specs.Meaning.{usable, cells_of_library, liberty_cells};
 
 use crate::cells::cell_of;
-use crate::groups::{Group, next_group, only_name};
+use crate::groups::body;
+use crate::places::{is_same, name_from, sorted_places};
 use mintc_cells::{Cell, Cells};
 use mintc_document::is_name;
-use mintc_liblex::{Kind, Reader, item, mark, semicolon, statement};
+use mintc_liblex::{Kind, Reader, Scanner, mark, semicolon, statement, statements};
 use mintc_text::{Name, OutOfMemory, Refusal, Role, Stop};
 use std::alloc::Global;
-use std::collections::BTreeMap;
 
 /// How deep groups nest in the library, which is the first of 64.
 const ROOM: u32 = 63;
 
 /// Behind `library`, passes `( item ) {`.
-fn behind_name(reader: &mut Reader) -> bool
-    ensures { MatchBool result (behind_name reader.old ≡ Some reader.new) (behind_name reader.old ≡ None) }
+fn behind_name(scanner: &mut Scanner) -> bool
+    ensures { MatchBool result (behind_name scanner.old.tokens ≡ Some scanner.new.tokens) (behind_name scanner.old.tokens ≡ None) }
 {
-    if !mark(reader, Kind::Opening) {
+    if !statements::mark(scanner, Kind::Opening) {
         return false;
     }
-    if !item(reader) {
+    if !statements::item(scanner) {
         return false;
     }
-    if !mark(reader, Kind::Closing) {
+    if !statements::mark(scanner, Kind::Closing) {
         return false;
     }
-    mark(reader, Kind::Left)
+    statements::mark(scanner, Kind::Left)
 }
 
 /// Passes `library ( item ) {`.
-fn head(reader: &mut Reader) -> bool
-    ensures { MatchBool result (behind_head reader.old ≡ Some reader.new) (behind_head reader.old ≡ None) }
+fn head(scanner: &mut Scanner) -> bool
+    ensures { MatchBool result (behind_head scanner.old.tokens ≡ Some scanner.new.tokens) (behind_head scanner.old.tokens ≡ None) }
 {
-    let Some(name) = reader.word() else {
+    let Some(name) = scanner.word() else {
         return false;
     };
     if name != b"library".as_slice() {
         return false;
     }
-    behind_name(reader)
+    behind_name(scanner)
 }
 
 /// Behind the library's `}`, whether the text ends there; a `;` may come before.
@@ -65,10 +62,11 @@ fn ends(reader: &mut Reader) -> bool
 pub fn syntax_of(text: &[u8]) -> Option<usize>
     ensures { MatchOption result (IsOk (library_of text.now)) (λ n. library_of text.now ≡ Err n) }
 {
-    let mut reader = Reader::new(text);
-    if !head(&mut reader) {
+    let mut scanner = Scanner::new(text);
+    if !head(&mut scanner) {
         return Some(0);
     }
+    let mut reader = Reader::at(&scanner);
     let mut count = 0;
     loop {
         if mark(&mut reader, Kind::Right) {
@@ -85,65 +83,52 @@ pub fn syntax_of(text: &[u8]) -> Option<usize>
     }
 }
 
-/// Puts a group `cell` under its name, unless one is there.
-fn put<'a>(named: &mut BTreeMap<&'a [u8], Reader<'a>>, group: Group<'a>) -> Result<(), OutOfMemory>
-    requires { IsAscending named.old.entries }
-    ensures put { (room : ℕ) → OnOk result (named_seen room named.new.entries ≡ put_all (cell_in (group_seen room group.entry)) (named_seen room named.old.entries)) }
-    ensures ascending { IsAscending named.new.entries }
+/// The cell at a place, if it is one that can be used.
+fn usable(alloc: Global, library: &Scanner, place: u32) -> Result<Option<(Name, Cell)>, OutOfMemory>
+    ensures { IfOk result (λ o. o ≡ usable (entry_at library.now.text place)) }
 {
-    if group.name != b"cell".as_slice() {
-        return Ok(());
-    }
-    let Some(name) = only_name(&group.items) else {
-        return Ok(());
-    };
-    if named.contains_key(name) {
-        return Ok(());
-    }
-    named.insert(name, group.inside)?;
-    Ok(())
-}
-
-/// The groups `cell` of a library under their names, of each name the first.
-fn named_cells<'a>(
-    alloc: Global,
-    library: &Reader<'a>,
-) -> Result<BTreeMap<&'a [u8], Reader<'a>>, OutOfMemory>
-    ensures named { IfOk result (λ m. named_seen 62 m.entries ≡ put_all (cells_in (groups (front 63 library.now).statements)) []) }
-    ensures ascending { IfOk result (λ m. IsAscending m.entries) }
-{
-    let mut named = BTreeMap::new(alloc);
-    let mut reader = library.copy();
-    while let Some(group) = next_group(&mut reader, ROOM) {
-        put(&mut named, group)?;
-    }
-    Ok(named)
-}
-
-/// The cell of a name, if it is one that can be used.
-fn usable(alloc: Global, name: &[u8], inside: &Reader) -> Result<Option<(Name, Cell)>, OutOfMemory>
-    ensures { IfOk result (λ o. o ≡ usable (name.now, (front 62 inside.now).statements)) }
-{
+    let name = name_from(library, place);
     if !is_name(name) {
         return Ok(None);
     }
-    match cell_of(alloc, inside, ROOM - 1)? {
+    let Some(inside) = body(&Reader::at(&library.from_place(place as usize))) else {
+        return Ok(None);
+    };
+    match cell_of(alloc, &inside, ROOM - 1)? {
         Some(cell) => Ok(Some((Name::new(alloc, name)?, cell))),
         None => Ok(None),
     }
 }
 
+/// Adds the cell at a place, if it is one that can be used.
+fn add(
+    alloc: Global,
+    cells: &mut Vec<(Name, Cell)>,
+    library: &Scanner,
+    place: u32,
+) -> Result<(), OutOfMemory>
+    ensures { OnOk result (cells.new.items ≡ cells.old.items ++ filter_map usable (entries_at library.now.text (place ∷ []))) }
+{
+    if let Some(entry) = usable(alloc, library, place)? {
+        cells.push(entry)?;
+    }
+    Ok(())
+}
+
 /// The cells of a library.
-fn library_cells(alloc: Global, library: &Reader) -> Result<Vec<(Name, Cell)>, OutOfMemory>
-    ensures cells { IfOk result (λ cells. cells.items ≡ cells_of_library (front 63 library.now).statements) }
+fn library_cells(alloc: Global, library: &Scanner) -> Result<Vec<(Name, Cell)>, OutOfMemory>
+    ensures cells { IfOk result (λ cells. cells.items ≡ cells_of_library (front 63 library.now.tokens).statements) }
     ensures ordered { IfOk result (λ cells. AreOrdered cells.items) }
 {
-    let named = named_cells(alloc, library)?;
+    let places = sorted_places(alloc, library)?;
     let mut cells = Vec::new(alloc);
-    for (name, inside) in named {
-        if let Some(entry) = usable(alloc, name, &inside)? {
-            cells.push(entry)?;
+    let mut before = None;
+    for place in places {
+        let name = name_from(library, place);
+        if !is_same(before, name) {
+            add(alloc, &mut cells, library, place)?;
         }
+        before = Some(name);
     }
     match u32::try_from(cells.len()) {
         Ok(_) => Ok(cells),
@@ -157,11 +142,11 @@ fn cells_of(alloc: Global, text: &[u8]) -> Result<Vec<(Name, Cell)>, OutOfMemory
     ensures cells { IfOk result (λ cells. liberty_cells text.now ≡ Ok cells.items) }
     ensures ordered { IfOk result (λ cells. AreOrdered cells.items) }
 {
-    let mut reader = Reader::new(text);
-    if !head(&mut reader) {
+    let mut library = Scanner::new(text);
+    if !head(&mut library) {
         return Ok(Vec::new(alloc));
     }
-    library_cells(alloc, &reader)
+    library_cells(alloc, &library)
 }
 
 /// The cells of a Liberty text, or its Syntax: 0 where it doesn't begin `library ( item ) {`, else the number of the first

@@ -3,7 +3,7 @@ use Rattle.std.proofs.Common.{◌≡◌, ℕ, zero, suc, ◌-◌, ◌<◌, List,
 use Rattle.mintc_liblex.specs.declared.reader.Kind.TheVariants as kind
 use Rattle.mintc_liblex.specs.Tokens.{Token, opening, closing, left, right, colon, semicolon, comma, word, string, bad, is_value, is_item}
 use Rattle.mintc_liblex.specs.Statements.{Statements, Step, taken, left_over, past_semicolon, valued, grouped, nested, called, statement_by, front}
-use Rattle.mintc_liblex.specs.Reading.{kind_of, word_at, after_closing, after_right, past_value, value_rest, items_rest, call_rest, called_rest, group_rest, step_rest, statement_rest}
+use Rattle.mintc_liblex.specs.Reading.{kind_of, word_at, string_at, name_at, after_closing, after_right, past_value, value_rest, items_rest, call_rest, called_rest, group_rest, step_rest, statement_rest}
 use Rattle.mintc_liblex.proofs.StatementLaws.{statement-short, fronts-short}
 use Rattle.mintc_liblex.proofs.PassingLaws.{group-end}
 
@@ -27,6 +27,36 @@ word-there (comma ∷ ts) us w e = absurd (cc)
 word-there (word v ∷ ts) us w e = let p : (v, ts) ≡ (w, us) = cc in ap (λ (q : List ℕ × List Token). word q.0 ∷ q.1) p
 word-there (string v ∷ ts) us w e = absurd (cc)
 word-there (bad ∷ ts) us w e = absurd (cc)
+
+-- the name at the front
+pub word-name : (ts us : List Token) (w : List ℕ) → word_at ts ≡ Some (w, us) → name_at ts ≡ Some w
+word-name ts us w e = ap name_at (word-there ts us w e)
+
+pub string-name : (ts us : List Token) (w : List ℕ) → string_at ts ≡ Some (w, us) → name_at ts ≡ Some w
+string-name [] us w e = absurd (cc)
+string-name (opening ∷ ts) us w e = absurd (cc)
+string-name (closing ∷ ts) us w e = absurd (cc)
+string-name (left ∷ ts) us w e = absurd (cc)
+string-name (right ∷ ts) us w e = absurd (cc)
+string-name (colon ∷ ts) us w e = absurd (cc)
+string-name (semicolon ∷ ts) us w e = absurd (cc)
+string-name (comma ∷ ts) us w e = absurd (cc)
+string-name (word v ∷ ts) us w e = absurd (cc)
+string-name (string v ∷ ts) us w e = let p : (v, ts) ≡ (w, us) = cc in ap (λ (q : List ℕ × List Token). Some q.0) p
+string-name (bad ∷ ts) us w e = absurd (cc)
+
+pub no-name : (ts : List Token) → kind_of ts ≡ kind.Text → string_at ts ≡ None → name_at ts ≡ None
+no-name [] k e = refl
+no-name (opening ∷ ts) k e = refl
+no-name (closing ∷ ts) k e = refl
+no-name (left ∷ ts) k e = refl
+no-name (right ∷ ts) k e = refl
+no-name (colon ∷ ts) k e = refl
+no-name (semicolon ∷ ts) k e = refl
+no-name (comma ∷ ts) k e = refl
+no-name (word v ∷ ts) k e = absurd (cc)
+no-name (string v ∷ ts) k e = absurd (cc)
+no-name (bad ∷ ts) k e = refl
 
 -- behind the word, neither a colon nor a parenthesis
 pub neither : (room : ℕ) (w : List ℕ) (ts : List Token) → (kind.Colon ≡ kind_of ts → ⊥) → (kind.Opening ≡ kind_of ts → ⊥) → statement_rest room (word w ∷ ts) ≡ None

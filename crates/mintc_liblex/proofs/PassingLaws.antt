@@ -1,7 +1,8 @@
 -- What a reader passes.
-use Rattle.std.proofs.Common.{◌≡◌, ℕ, Bool, true, false, if◌then◌else◌, List, [], ◌∷◌, Option, Some, None, IfSome, MatchBool, refl, ap, subst, ◌∙◌}
+use Rattle.std.proofs.Common.{◌≡◌, ℕ, Bool, true, false, if◌then◌else◌, List, [], ◌∷◌, Option, Some, None, IfSome, MatchBool, refl, ap, subst, ◌∙◌, arith}
 use Rattle.mintc_liblex.specs.declared.reader.Kind.TheVariants as kind
 use Rattle.mintc_liblex.specs.Tokens.{Token, opening, closing, left, right, colon, semicolon, comma, word, string, bad}
+use Rattle.mintc_liblex.specs.Scans.{Scan, IsAhead}
 use Rattle.mintc_liblex.specs.Statements.{left_over, past_semicolon, front, and_more, statement_by, Step, Front}
 use Rattle.mintc_liblex.specs.Reading.{kind_of, past, after_closing, after_right, after_semicolon, group_rest, statement_rest, step_rest}
 use Rattle.mintc_liblex.proofs.StatementLaws.{front-turn}
@@ -81,6 +82,13 @@ group-end room ts e = ap (λ (f : Front). after_right f.after) (front-turn room 
     by : (o : Option Step) → step_rest o ≡ None → after_right (and_more (front room) ts o).after ≡ after_right ts
     by None e = refl
     by (Some s) e = absurd (cc)
+
+-- scanners at one place have the same tokens
+pub same-tokens : (s t : Scan) → s ≡ t → s.tokens ≡ t.tokens
+same-tokens s t e = ap (λ (r : Scan). r.tokens) e
+
+pub ahead-then : (r s t : Scan) → IsAhead r s → IsAhead s t → IsAhead r t
+ahead-then r s t a b = record { same = b.same ∙ a.same; later = omega (arith, a.later, b.later) }
 
 -- either way, with what each way gives
 pub both-ways : {P Q X Y : Type 0} (b : Bool) → MatchBool b P Q → (P → X) → (Q → Y) → MatchBool b X Y

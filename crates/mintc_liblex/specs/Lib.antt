@@ -1,4 +1,5 @@
 pub mod Tokens
 pub mod Statements
+pub mod Scans
 pub mod Reading
 pub mod Laws

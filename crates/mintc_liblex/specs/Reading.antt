@@ -78,6 +78,12 @@ abbrev pub string_at : List Token → Option (List ℕ × List Token)
 string_at (string s ∷ ts) = Some (s, ts)
 string_at _ = None
 
+-- what the word or string at the front stands for
+abbrev pub name_at : List Token → Option (List ℕ)
+name_at (word w ∷ ts) = Some w
+name_at (string s ∷ ts) = Some s
+name_at _ = None
+
 -- the bytes of the token of a value at the front, and the tokens behind it
 abbrev pub value_at : List Token → Option (List ℕ × List Token)
 value_at [] = None

@@ -8,10 +8,11 @@
 mod bytes;
 mod laws;
 mod reader;
+mod scanner;
 mod settling;
-mod statements;
+pub mod statements;
 
 pub use bytes::{byte_at, is_white, rest_from};
 pub use laws::statements_are_the_tokens;
-pub use reader::{Kind, Reader};
-pub use statements::{item, items, mark, semicolon, statement, value_token};
+pub use reader::{Kind, Reader, item, items, mark, semicolon, statement, value_token};
+pub use scanner::Scanner;

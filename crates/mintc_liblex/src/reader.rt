@@ -1,10 +1,11 @@
 //! The tokens that are left of a text, read one by one.
-ghost use Rattle.std.specs.Prelude.{◌≡◌, ◌≤◌, ◌<◌, ◌+◌, ◌∷◌, true, drop, length, Some, None, IfSome, IfNone, List, ℕ};
-ghost use Rattle.mintc_liblex.specs.Tokens.{Token, tokens_of};
-ghost use Rattle.mintc_liblex.specs.Reading.{kind_of, kind_by, token_of, is_sign_kind, word_at, string_at};
+ghost use Rattle.std.specs.Prelude.{◌≡◌, ◌∷◌, true, Some, None, IfSome, IfNone, MatchBool, List, ℕ};
+ghost use Rattle.mintc_liblex.specs.Tokens.{Token, is_item, tokens_of};
+ghost use Rattle.mintc_liblex.specs.Statements.{past_semicolon};
+ghost use Rattle.mintc_liblex.specs.Reading.{kind_of, token_of, is_sign_kind, word_at, string_at, past, value_at, items_rest, statement_rest};
 
-use crate::bytes::{rest_from, string_size, word_size};
-use crate::settling::{last_end, settle};
+use crate::scanner::Scanner;
+use crate::statements;
 use std::marker::Model;
 
 /// The kind of a token, or the end.
@@ -25,42 +26,16 @@ pub enum Kind {
 /// The tokens that are left, seen as their list.
 #[derive(Drop)]
 pub struct Reader<'a> {
-    text: &'a [u8],
-    last: usize,
-    at: usize,
+    scanner: Scanner<'a>,
 }
 
 impl<'a> Model for Reader<'a> {
-    ghost use Rattle.std.specs.Prelude.{List, drop, length, true, ◌≡◌, ◌≤◌};
-    ghost use Rattle.mintc_liblex.specs.Tokens.{Token, tokens_of};
-    ghost use Rattle.mintc_liblex.specs.Reading.{is_settled, EndsBefore};
+    ghost use Rattle.std.specs.Prelude.{List};
+    ghost use Rattle.mintc_liblex.specs.Tokens.{Token};
 
     ghost Value = { List Token };
 
-    ghost view = { λ r. tokens_of (drop r.at r.text.now) };
-
-    ghost invariant = { λ r. (r.at ≤ length r.text.now) × (is_settled (drop r.at r.text.now) ≡ true) × EndsBefore r.text.now r.last };
-}
-
-/// What the first byte says that comes next.
-fn kind_at(text: &[u8], at: usize) -> Kind
-    requires { at ≤ length text.now }
-    ensures { result ≡ kind_by (drop at text.now) }
-{
-    if at == text.len() {
-        return Kind::End;
-    }
-    match text[at] {
-        b'(' => Kind::Opening,
-        b')' => Kind::Closing,
-        b'{' => Kind::Left,
-        b'}' => Kind::Right,
-        b':' => Kind::Colon,
-        b';' => Kind::Semicolon,
-        b',' => Kind::Comma,
-        b'"' => Kind::Text,
-        _ => Kind::Word,
-    }
+    ghost view = { λ r. r.scanner.tokens };
 }
 
 impl<'a> Reader<'a> {
@@ -68,16 +43,25 @@ impl<'a> Reader<'a> {
     pub fn new(text: &'a [u8]) -> Reader<'a>
         ensures { result ≡ tokens_of text.now }
     {
-        let last = last_end(text);
-        let at = settle(text, 0, last);
-        Reader { text, last, at }
+        Reader {
+            scanner: Scanner::new(text),
+        }
+    }
+
+    /// The tokens from a scanner's place on.
+    pub fn at(scanner: &Scanner<'a>) -> Reader<'a>
+        ensures { result ≡ scanner.now.tokens }
+    {
+        Reader {
+            scanner: scanner.copy(),
+        }
     }
 
     /// The kind of what comes next.
     pub fn kind(&self) -> Kind
         ensures { result ≡ kind_of self.now }
     {
-        kind_at(self.text, self.at)
+        self.scanner.kind()
     }
 
     /// Passes a word, if it comes next.
@@ -85,15 +69,7 @@ impl<'a> Reader<'a> {
         ensures none { IfNone result ((word_at self.old ≡ None) × (self.new ≡ self.old)) }
         ensures some { IfSome result (λ w. word_at self.old ≡ Some (w.now, self.new)) }
     {
-        match self.kind() {
-            Kind::Word => {
-                let rest = rest_from(self.text, self.at);
-                let size = word_size(rest);
-                self.at = settle(self.text, self.at + size, self.last);
-                Some(&rest[..size])
-            }
-            _ => None,
-        }
+        self.scanner.word()
     }
 
     /// Passes a string, if it comes next.
@@ -101,19 +77,7 @@ impl<'a> Reader<'a> {
         ensures none { IfNone result ((string_at self.old ≡ None) × (self.new ≡ self.old)) }
         ensures some { IfSome result (λ s. string_at self.old ≡ Some (s.now, self.new)) }
     {
-        match self.kind() {
-            Kind::Text => {
-                let rest = rest_from(self.text, self.at + 1);
-                match string_size(rest) {
-                    Some(size) => {
-                        self.at = settle(self.text, self.at + (size + 2), self.last);
-                        Some(&rest[..size])
-                    }
-                    None => None,
-                }
-            }
-            _ => None,
-        }
+        self.scanner.string()
     }
 
     /// Passes the sign that comes next, which is of this kind.
@@ -122,7 +86,7 @@ impl<'a> Reader<'a> {
         requires sign { is_sign_kind kind ≡ true }
         ensures { (w : List ℕ) → self.old ≡ token_of kind w ∷ self.new }
     {
-        self.at = settle(self.text, self.at + 1, self.last);
+        self.scanner.sign(kind);
     }
 
     /// The same place once more.
@@ -130,9 +94,51 @@ impl<'a> Reader<'a> {
         ensures { result ≡ self.now }
     {
         Reader {
-            text: self.text,
-            last: self.last,
-            at: self.at,
+            scanner: self.scanner.copy(),
         }
     }
+}
+
+/// Passes a sign of this kind, if it comes next.
+pub fn mark(reader: &mut Reader, kind: Kind) -> bool
+    requires { is_sign_kind kind ≡ true }
+    ensures { MatchBool result ((w : List ℕ) → reader.old ≡ token_of kind w ∷ reader.new) ((kind ≡ kind_of reader.old → ⊥) × (reader.new ≡ reader.old)) }
+{
+    statements::mark(&mut reader.scanner, kind)
+}
+
+/// Passes a token of a value, if one comes next, and gives what it stands for.
+pub fn value_token<'a>(reader: &mut Reader<'a>) -> Option<&'a [u8]>
+    ensures none { IfNone result ((value_at reader.old ≡ None) × (reader.new ≡ reader.old)) }
+    ensures some { IfSome result (λ bytes. value_at reader.old ≡ Some (bytes.now, reader.new)) }
+{
+    statements::value_token(&mut reader.scanner)
+}
+
+/// Passes an item, if one comes next.
+pub fn item(reader: &mut Reader) -> bool
+    ensures { MatchBool result (past is_item reader.old ≡ Some reader.new) ((past is_item reader.old ≡ None) × (reader.new ≡ reader.old)) }
+{
+    statements::item(&mut reader.scanner)
+}
+
+/// Behind `WORD (`, passes the items and their parenthesis.
+pub fn items(reader: &mut Reader) -> bool
+    ensures { MatchBool result (items_rest reader.old ≡ Some reader.new) (items_rest reader.old ≡ None) }
+{
+    statements::items(&mut reader.scanner)
+}
+
+/// Passes a `;`, if it comes next.
+pub fn semicolon(reader: &mut Reader)
+    ensures { reader.new ≡ past_semicolon reader.old }
+{
+    statements::semicolon(&mut reader.scanner);
+}
+
+/// Passes one statement.
+pub fn statement(reader: &mut Reader, room: u32) -> bool
+    ensures { MatchBool result (statement_rest room reader.old ≡ Some reader.new) (statement_rest room reader.old ≡ None) }
+{
+    statements::statement(&mut reader.scanner, room)
 }

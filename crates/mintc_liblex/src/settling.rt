@@ -92,6 +92,7 @@ pub fn settle(text: &[u8], from: usize, last: usize) -> usize
     ensures same { tokens_of (drop result text.now) ≡ tokens_of (drop from text.now) }
     ensures settled { is_settled (drop result text.now) ≡ true }
     ensures within { result ≤ length text.now }
+    ensures ahead { from ≤ result }
 {
     let mut at = from;
     while at < text.len() {

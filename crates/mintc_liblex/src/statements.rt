@@ -1,18 +1,21 @@
 //! Statements passed one by one.
 ghost use Rattle.std.specs.Prelude.{◌≡◌, ◌<◌, ◌≤◌, ◌+◌, ◌∷◌, true, Some, None, IfSome, IfNone, MatchBool, List, ℕ};
 ghost use Rattle.mintc_liblex.specs.Tokens.{Token, is_value, is_item};
+ghost use Rattle.mintc_liblex.specs.Scans.{IsAhead};
 ghost use Rattle.mintc_liblex.specs.Statements.{past_semicolon};
 ghost use Rattle.mintc_liblex.specs.Reading.{kind_of, token_of, is_sign_kind, past, value_at, value_rest, items_rest, call_rest, group_rest, statement_rest};
 
-use crate::reader::{Kind, Reader};
+use crate::reader::Kind;
+use crate::scanner::Scanner;
 
 /// Passes a sign of this kind, if it comes next.
-pub fn mark(reader: &mut Reader, kind: Kind) -> bool
+pub fn mark(scanner: &mut Scanner, kind: Kind) -> bool
     requires { is_sign_kind kind ≡ true }
-    ensures { MatchBool result ((w : List ℕ) → reader.old ≡ token_of kind w ∷ reader.new) ((kind ≡ kind_of reader.old → ⊥) × (reader.new ≡ reader.old)) }
+    ensures passed { MatchBool result ((w : List ℕ) → scanner.old.tokens ≡ token_of kind w ∷ scanner.new.tokens) ((kind ≡ kind_of scanner.old.tokens → ⊥) × (scanner.new ≡ scanner.old)) }
+    ensures ahead { IsAhead scanner.old scanner.new }
 {
-    if reader.kind() == kind {
-        reader.sign(kind);
+    if scanner.kind() == kind {
+        scanner.sign(kind);
         true
     } else {
         false
@@ -20,27 +23,28 @@ pub fn mark(reader: &mut Reader, kind: Kind) -> bool
 }
 
 /// Passes a token of a value, if one comes next, and gives what it stands for.
-pub fn value_token<'a>(reader: &mut Reader<'a>) -> Option<&'a [u8]>
-    ensures none { IfNone result ((value_at reader.old ≡ None) × (reader.new ≡ reader.old)) }
-    ensures some { IfSome result (λ bytes. value_at reader.old ≡ Some (bytes.now, reader.new)) }
+pub fn value_token<'a>(scanner: &mut Scanner<'a>) -> Option<&'a [u8]>
+    ensures none { IfNone result ((value_at scanner.old.tokens ≡ None) × (scanner.new ≡ scanner.old)) }
+    ensures some { IfSome result (λ bytes. value_at scanner.old.tokens ≡ Some (bytes.now, scanner.new.tokens)) }
+    ensures ahead { IsAhead scanner.old scanner.new }
 {
-    match reader.kind() {
-        Kind::Word => reader.word(),
-        Kind::Text => reader.string(),
+    match scanner.kind() {
+        Kind::Word => scanner.word(),
+        Kind::Text => scanner.string(),
         Kind::Opening => {
-            reader.sign(Kind::Opening);
+            scanner.sign(Kind::Opening);
             Some(b"(")
         }
         Kind::Closing => {
-            reader.sign(Kind::Closing);
+            scanner.sign(Kind::Closing);
             Some(b")")
         }
         Kind::Colon => {
-            reader.sign(Kind::Colon);
+            scanner.sign(Kind::Colon);
             Some(b":")
         }
         Kind::Comma => {
-            reader.sign(Kind::Comma);
+            scanner.sign(Kind::Comma);
             Some(b",")
         }
         _ => None,
@@ -48,25 +52,27 @@ pub fn value_token<'a>(reader: &mut Reader<'a>) -> Option<&'a [u8]>
 }
 
 /// Passes a token of a value, if one comes next.
-fn pass_value(reader: &mut Reader) -> bool
-    ensures { MatchBool result (past is_value reader.old ≡ Some reader.new) ((past is_value reader.old ≡ None) × (reader.new ≡ reader.old)) }
+fn pass_value(scanner: &mut Scanner) -> bool
+    ensures passed { MatchBool result (past is_value scanner.old.tokens ≡ Some scanner.new.tokens) ((past is_value scanner.old.tokens ≡ None) × (scanner.new ≡ scanner.old)) }
+    ensures ahead { IsAhead scanner.old scanner.new }
 {
-    value_token(reader).is_some()
+    value_token(scanner).is_some()
 }
 
 /// Passes an item, if one comes next.
-pub fn item(reader: &mut Reader) -> bool
-    ensures { MatchBool result (past is_item reader.old ≡ Some reader.new) ((past is_item reader.old ≡ None) × (reader.new ≡ reader.old)) }
+pub fn item(scanner: &mut Scanner) -> bool
+    ensures passed { MatchBool result (past is_item scanner.old.tokens ≡ Some scanner.new.tokens) ((past is_item scanner.old.tokens ≡ None) × (scanner.new ≡ scanner.old)) }
+    ensures ahead { IsAhead scanner.old scanner.new }
 {
-    match reader.kind() {
-        Kind::Word => reader.word().is_some(),
-        Kind::Text => reader.string().is_some(),
+    match scanner.kind() {
+        Kind::Word => scanner.word().is_some(),
+        Kind::Text => scanner.string().is_some(),
         Kind::Colon => {
-            reader.sign(Kind::Colon);
+            scanner.sign(Kind::Colon);
             true
         }
         Kind::Comma => {
-            reader.sign(Kind::Comma);
+            scanner.sign(Kind::Comma);
             true
         }
         _ => false,
@@ -74,80 +80,86 @@ pub fn item(reader: &mut Reader) -> bool
 }
 
 /// Behind `WORD :`, passes the value and its `;`.
-fn value(reader: &mut Reader) -> bool
-    ensures { MatchBool result (value_rest reader.old ≡ Some reader.new) (value_rest reader.old ≡ None) }
+fn value(scanner: &mut Scanner) -> bool
+    ensures passed { MatchBool result (value_rest scanner.old.tokens ≡ Some scanner.new.tokens) (value_rest scanner.old.tokens ≡ None) }
+    ensures ahead { IsAhead scanner.old scanner.new }
 {
-    if !pass_value(reader) {
+    if !pass_value(scanner) {
         return false;
     }
-    while pass_value(reader) {}
-    mark(reader, Kind::Semicolon)
+    while pass_value(scanner) {}
+    mark(scanner, Kind::Semicolon)
 }
 
 /// Behind `WORD (`, passes the items and their parenthesis.
-pub fn items(reader: &mut Reader) -> bool
-    ensures { MatchBool result (items_rest reader.old ≡ Some reader.new) (items_rest reader.old ≡ None) }
+pub fn items(scanner: &mut Scanner) -> bool
+    ensures passed { MatchBool result (items_rest scanner.old.tokens ≡ Some scanner.new.tokens) (items_rest scanner.old.tokens ≡ None) }
+    ensures ahead { IsAhead scanner.old scanner.new }
 {
-    while item(reader) {}
-    mark(reader, Kind::Closing)
+    while item(scanner) {}
+    mark(scanner, Kind::Closing)
 }
 
 /// Passes a `;`, if it comes next.
-pub fn semicolon(reader: &mut Reader)
-    ensures { reader.new ≡ past_semicolon reader.old }
+pub fn semicolon(scanner: &mut Scanner)
+    ensures passed { scanner.new.tokens ≡ past_semicolon scanner.old.tokens }
+    ensures ahead { IsAhead scanner.old scanner.new }
 {
-    mark(reader, Kind::Semicolon);
+    mark(scanner, Kind::Semicolon);
 }
 
 /// Behind `WORD (`, passes the rest of a group or of a statement of the second form.
 #[cycle(nest)]
-fn call(reader: &mut Reader, room: u32) -> bool
-    ensures { MatchBool result (call_rest room reader.old ≡ Some reader.new) (call_rest room reader.old ≡ None) }
+pub fn call(scanner: &mut Scanner, room: u32) -> bool
+    ensures passed { MatchBool result (call_rest room scanner.old.tokens ≡ Some scanner.new.tokens) (call_rest room scanner.old.tokens ≡ None) }
+    ensures ahead { IsAhead scanner.old scanner.new }
 {
-    if !items(reader) {
+    if !items(scanner) {
         return false;
     }
-    if !mark(reader, Kind::Left) {
-        semicolon(reader);
+    if !mark(scanner, Kind::Left) {
+        semicolon(scanner);
         return true;
     }
     if room == 0 {
         return false;
     }
-    if !statements(reader, room - 1) {
+    if !statements(scanner, room - 1) {
         return false;
     }
-    semicolon(reader);
+    semicolon(scanner);
     true
 }
 
 /// Passes one statement.
 #[cycle(nest)]
-pub fn statement(reader: &mut Reader, room: u32) -> bool
-    ensures { MatchBool result (statement_rest room reader.old ≡ Some reader.new) (statement_rest room reader.old ≡ None) }
+pub fn statement(scanner: &mut Scanner, room: u32) -> bool
+    ensures passed { MatchBool result (statement_rest room scanner.old.tokens ≡ Some scanner.new.tokens) (statement_rest room scanner.old.tokens ≡ None) }
+    ensures ahead { IsAhead scanner.old scanner.new }
 {
-    let Some(_) = reader.word() else {
+    let Some(_) = scanner.word() else {
         return false;
     };
-    if mark(reader, Kind::Colon) {
-        return value(reader);
+    if mark(scanner, Kind::Colon) {
+        return value(scanner);
     }
-    if !mark(reader, Kind::Opening) {
+    if !mark(scanner, Kind::Opening) {
         return false;
     }
-    call(reader, room)
+    call(scanner, room)
 }
 
 /// Behind `{`, passes the statements and their `}`.
 #[cycle(nest)]
-fn statements(reader: &mut Reader, room: u32) -> bool
-    ensures { MatchBool result (group_rest room reader.old ≡ Some reader.new) (group_rest room reader.old ≡ None) }
+fn statements(scanner: &mut Scanner, room: u32) -> bool
+    ensures passed { MatchBool result (group_rest room scanner.old.tokens ≡ Some scanner.new.tokens) (group_rest room scanner.old.tokens ≡ None) }
+    ensures ahead { IsAhead scanner.old scanner.new }
 {
     loop {
-        if mark(reader, Kind::Right) {
+        if mark(scanner, Kind::Right) {
             return true;
         }
-        if !statement(reader, room) {
+        if !statement(scanner, room) {
             return false;
         }
     }

@@ -1,23 +1,55 @@
-use Rattle.std.proofs.Common.{◌≡◌, ◌++◌, [], List, filter_map, sym, ap, ◌∙◌, subst, arith}
+use Rattle.std.proofs.Common.{◌≡◌, ◌++◌, ℕ, [], List, None, option_map, filter_map, length, sym, ap, ◌∙◌, subst, arith}
+use Rattle.std.proofs.lemmas.Bool.Decides.{nat_tests}
+use Rattle.std.proofs.lemmas.List.{nil_from_length}
+use Rattle.std.specs.Borrow.{Bor}
 use Rattle.mintc_cells.specs.Entries.{AreAscending, AreKept, names_of, is_kept}
-use Rattle.mintc_liblex.specs.Tokens.{Token}
 use Rattle.mintc_liblex.specs.Statements.{front}
-use Rattle.mintc_liberty.specs.Meaning.{usable}
-use Rattle.mintc_liberty.specs.Named.{named_seen}
-use Rattle.mintc_liberty.proofs.NamedLaws.{ascending-kept, all-kept, with-none}
+use Rattle.mintc_liberty.specs.Meaning.{usable, put_all, groups, cells_in}
+use Rattle.mintc_liberty.specs.Places.{is_same, named_cells}
+use Rattle.mintc_liberty.proofs.PlaceLaws.{cells_from, next-same, next-other, named-cells, ascending-kept, all-kept, all-in-order, with-none}
 use Rattle.mintc_liberty.proofs.CountLaws.{usable-name, usable-kept}
 use Rattle.mintc_liberty.proofs.texts.library_cells.Goals as goal
+use Rattle.mintc_liberty.proofs.texts.library_cells.Goals.{then-not-is_same+in_ok-add, else-not-is_same}
+
+pub loop-place-init : goal.loop-place-init
+loop-place-init c = ap (λ xs. xs ++ cells_from c.args.library.now.text None c.into_iter-place-iterator.result.rest.items) (sym c.new-cells.ensures.items)
+
+pub loop-place-preserved : goal.loop-place-preserved
+loop-place-preserved c =
+    let text = c.args.library.now.text in
+    let o = option_map (λ (b : Bor (List ℕ)). b.now) c.loop-place.before in
+    let named = ap (is_same o) (sym c.name_from-name.ensures) ∙ sym c.is_same.ensures in
+    let before = c.loop-place.invariant ∙ ap (λ ps. c.loop-place.cells.items ++ cells_from text o ps) c.in-Some.ensures.steps.0 in
+    elim c.if-not-is_same.branch [
+      | then-not-is_same+in_ok-add w ↦
+          before ∙ next-other text o c.in-Some.place _ c.next.new.self.rest.items c.loop-place.cells.items _ c.name_from-name.ensures (named ∙ w.if-not-is_same.true)
+          (ap (λ v. v.items) w.cells-is ∙ w.in_ok-add.ensures)
+      | else-not-is_same w ↦
+          before ∙ next-same text o c.in-Some.place _ c.next.new.self.rest.items c.loop-place.cells.items _ c.name_from-name.ensures (named ∙ w.if-not-is_same.false)
+          (ap (λ v. v.items) w.cells-is)
+    ]
+
+pub returns-in-Ok-clause-cells : goal.returns-in-Ok-clause-cells
+returns-in-Ok-clause-cells c =
+    let text = c.args.library.now.text in
+    let o = option_map (λ (b : Bor (List ℕ)). b.now) c.loop-place.before in
+    let none : length c.loop-place.place-iterator.rest.items ≡ 0 = grind (arith, nat_tests, c.loop-place.place-iterator.rest.ok, c.in-None.ensures.steps.0) in
+    let all : cells_from text None c.in_ok-places.places.items ≡ c.loop-place.cells.items =
+    ap (cells_from text None) (sym c.into_iter-place-iterator.ensures.into_iter_gives.0) ∙ c.loop-place.invariant
+    ∙ ap (λ ps. c.loop-place.cells.items ++ cells_from text o ps) (nil_from_length c.loop-place.place-iterator.rest.items none) ∙ with-none c.loop-place.cells.items in
+    sym all ∙ sym (ap (filter_map usable) c.in_ok-places.ensures) ∙ sym (named-cells (cells_in (groups (front 63 c.args.library.now.tokens).statements)))
 
 pub returns-in-Ok-clause-ordered : goal.returns-in-Ok-clause-ordered
 returns-in-Ok-clause-ordered c =
-    let f = λ (ts : List Token). (front 62 ts).statements in
-    let es = c.in_ok-named.named.entries in
-    let begins : c.into_iter-name-iterator.result ≡ es = c.into_iter-name-iterator.ensures.into_iter_gives.0 in
-    let ends : c.loop-name.name-iterator ≡ [] = c.in-None.ensures.steps.0 in
-    let all : filter_map usable (named_seen 62 es) ≡ c.loop-name.cells.items =
-    ap (λ ds. filter_map usable (named_seen 62 ds)) (sym begins) ∙ c.loop-name.invariant ∙ ap (λ ds. c.loop-name.cells.items ++ filter_map usable (named_seen 62 ds)) ends ∙ with-none c.loop-name.cells.items in
+    let text = c.args.library.now.text in
+    let o = option_map (λ (b : Bor (List ℕ)). b.now) c.loop-place.before in
+    let es = put_all (named_cells c.args.library.now.tokens) [] in
+    let none : length c.loop-place.place-iterator.rest.items ≡ 0 = grind (arith, nat_tests, c.loop-place.place-iterator.rest.ok, c.in-None.ensures.steps.0) in
+    let all : filter_map usable es ≡ c.loop-place.cells.items =
+    ap (filter_map usable) c.in_ok-places.ensures ∙ ap (cells_from text None) (sym c.into_iter-place-iterator.ensures.into_iter_gives.0) ∙ c.loop-place.invariant
+    ∙ ap (λ ps. c.loop-place.cells.items ++ cells_from text o ps) (nil_from_length c.loop-place.place-iterator.rest.items none) ∙ with-none c.loop-place.cells.items in
     record {
       few = omega (arith, c.in-Ok.ensures.0, c.len.ensures);
-      ascending = subst (λ cells. AreAscending (names_of cells)) all (ascending-kept f usable usable-name es c.in_ok-named.ensures.ascending);
-      each = subst AreKept all (all-kept usable is_kept usable-kept (named_seen 62 es));
+      ascending = subst (λ cells. AreAscending (names_of cells)) all (ascending-kept usable usable-name es (all-in-order (named_cells c.args.library.now.tokens) [] tt));
+      each = subst AreKept all (all-kept usable is_kept usable-kept es);
     }

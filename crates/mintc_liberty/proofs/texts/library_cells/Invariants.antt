@@ -1,8 +1,10 @@
-use Rattle.std.proofs.Common.{◌≡◌, ◌++◌, filter_map}
-use Rattle.mintc_liberty.specs.Meaning.{usable}
-use Rattle.mintc_liberty.specs.Named.{named_seen}
+use Rattle.std.proofs.Common.{◌≡◌, ◌++◌, List, ℕ, None, option_map}
+use Rattle.std.specs.Borrow.{Bor}
+use Rattle.mintc_liberty.proofs.PlaceLaws.{cells_from}
 use Rattle.mintc_liberty.proofs.texts.library_cells.Given as goal
 
 -- the cells that are found, and those that are left
-abbrev pub invariant-loop-name : goal.invariant-loop-name
-invariant-loop-name l = filter_map usable (named_seen 62 l.initial.name-iterator) ≡ l.cells.items ++ filter_map usable (named_seen 62 l.name-iterator)
+abbrev pub invariant-loop-place : goal.invariant-loop-place
+invariant-loop-place l =
+    cells_from l.library.text None l.initial.place-iterator.rest.items
+    ≡ l.cells.items ++ cells_from l.library.text (option_map (λ (b : Bor (List ℕ)). b.now) l.before) l.place-iterator.rest.items

@@ -9,47 +9,50 @@ use Rattle.mintc_liberty.proofs.texts.syntax_of.Goals as goal
 
 pub overflow_add-result : goal.overflow_add-result
 overflow_add-result c =
-    let less = head-shorter c.new-reader.result c.head.new.reader c.if-not-head.ensures in
-    let tokens = ap length c.new-reader.ensures in
-    omega (arith, less, tokens, few 0 c.args.text.now, c.loop-reader.invariant.few)
+    let less = head-shorter c.new-scanner.result.tokens c.head.new.scanner.tokens c.if-not-head.ensures in
+    let tokens = ap length c.new-scanner.ensures.tokens in
+    let start = ap length c.at-reader.ensures in
+    omega (arith, less, tokens, start, few 0 c.args.text.now, c.loop-reader.invariant.few)
 
 pub overflow_add-result-then-not-statement : goal.overflow_add-result-then-not-statement
 overflow_add-result-then-not-statement c =
-    let less = head-shorter c.new-reader.result c.head.new.reader c.if-not-head.ensures in
-    let tokens = ap length c.new-reader.ensures in
-    omega (arith, less, tokens, few 0 c.args.text.now, c.loop-reader.invariant.few)
+    let less = head-shorter c.new-scanner.result.tokens c.head.new.scanner.tokens c.if-not-head.ensures in
+    let tokens = ap length c.new-scanner.ensures.tokens in
+    let start = ap length c.at-reader.ensures in
+    omega (arith, less, tokens, start, few 0 c.args.text.now, c.loop-reader.invariant.few)
 
 pub overflow_add-count : goal.overflow_add-count
 overflow_add-count c =
-    let less = head-shorter c.new-reader.result c.head.new.reader c.if-not-head.ensures in
-    let tokens = ap length c.new-reader.ensures in
-    omega (arith, less, tokens, few 0 c.args.text.now, c.loop-reader.invariant.few)
+    let less = head-shorter c.new-scanner.result.tokens c.head.new.scanner.tokens c.if-not-head.ensures in
+    let tokens = ap length c.new-scanner.ensures.tokens in
+    let start = ap length c.at-reader.ensures in
+    omega (arith, less, tokens, start, few 0 c.args.text.now, c.loop-reader.invariant.few)
 
 pub returns-then-ends : goal.returns-then-ends
 returns-then-ends c =
-    let init = c.head.new.reader in
+    let init = c.at-reader.result in
     let here = stops 63 c.loop-reader.reader (ap (statement_rest 63) (c.if-mark.ensures [])) in
     let ending : is_end (front 63 init).after ≡ true = ap is_end (c.loop-reader.invariant.same ∙ here.0 ∙ c.if-mark.ensures []) ∙ sym c.ends.ensures ∙ c.if-ends.true in
-    let lib : library_of c.args.text.now ≡ whole (front 63 init) = ap (λ ts. within (behind_head ts)) (sym c.new-reader.ensures) ∙ ap within c.if-not-head.ensures in
+    let lib : library_of c.args.text.now ≡ whole (front 63 init) = ap (λ ts. within (behind_head ts)) (sym c.new-scanner.ensures.tokens) ∙ ap within (c.if-not-head.ensures ∙ ap Some (sym c.at-reader.ensures)) in
     subst IsOk (sym lib) (is-whole (front 63 init) ending)
 
 pub returns-else-ends : goal.returns-else-ends
 returns-else-ends c =
-    let init = c.head.new.reader in
+    let init = c.at-reader.result in
     let here = stops 63 c.loop-reader.reader (ap (statement_rest 63) (c.if-mark.ensures [])) in
     let ending : is_end (front 63 init).after ≡ false = ap is_end (c.loop-reader.invariant.same ∙ here.0 ∙ c.if-mark.ensures []) ∙ sym c.ends.ensures ∙ c.if-ends.false in
     let number : count (front 63 init).statements ≡ c.loop-reader.count = omega (arith, c.loop-reader.invariant.counted, here.1) in
-    let lib : library_of c.args.text.now ≡ whole (front 63 init) = ap (λ ts. within (behind_head ts)) (sym c.new-reader.ensures) ∙ ap within c.if-not-head.ensures in
+    let lib : library_of c.args.text.now ≡ whole (front 63 init) = ap (λ ts. within (behind_head ts)) (sym c.new-scanner.ensures.tokens) ∙ ap within (c.if-not-head.ensures ∙ ap Some (sym c.at-reader.ensures)) in
     lib ∙ is-broken (front 63 init) c.loop-reader.count ending number
 
 pub returns-then-not-statement : goal.returns-then-not-statement
 returns-then-not-statement c =
-    let init = c.head.new.reader in
+    let init = c.at-reader.result in
     let n = c.if-mark.ensures in
     let here = stops 63 c.loop-reader.reader (ap (statement_rest 63) (sym n.1) ∙ c.if-not-statement.ensures) in
     let ending : is_end (front 63 init).after ≡ false = ap is_end (c.loop-reader.invariant.same ∙ here.0) ∙ no-end c.loop-reader.reader n.0 in
     let number : count (front 63 init).statements ≡ c.loop-reader.count = omega (arith, c.loop-reader.invariant.counted, here.1) in
-    let lib : library_of c.args.text.now ≡ whole (front 63 init) = ap (λ ts. within (behind_head ts)) (sym c.new-reader.ensures) ∙ ap within c.if-not-head.ensures in
+    let lib : library_of c.args.text.now ≡ whole (front 63 init) = ap (λ ts. within (behind_head ts)) (sym c.new-scanner.ensures.tokens) ∙ ap within (c.if-not-head.ensures ∙ ap Some (sym c.at-reader.ensures)) in
     lib ∙ is-broken (front 63 init) c.loop-reader.count ending number
 
 pub loop-reader-smaller : goal.loop-reader-smaller

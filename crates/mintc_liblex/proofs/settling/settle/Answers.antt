@@ -15,4 +15,4 @@ pub loop-at-preserved : goal.loop-at-preserved
 loop-at-preserved c =
     let some : 0 < c.passed_at-size.result = omega (arith, c.if-size-eq0.false) in
     let p = pass _ _ _ c.loop-at-test.true c.passed_at-size.ensures some in
-    record { within = p.1; same = p.0 ∙ c.loop-at.invariant.same }
+    record { within = p.1; ahead = omega (arith, c.loop-at.invariant.ahead); same = p.0 ∙ c.loop-at.invariant.same }

@@ -1,4 +1,5 @@
 use Rattle.std.proofs.Common.{◌≡◌, ◌+◌, ◌*◌, length}
+use Rattle.mintc_liblex.specs.Scans.{IsAhead}
 use Rattle.mintc_liblex.specs.Reading.{group_rest}
 use Rattle.mintc_liblex.proofs.statements.«+nest».Given as goal
 
@@ -13,7 +14,10 @@ decreases-statements l = 3 * l.room + 2
 
 -- what is left closes the group
 abbrev pub invariant-statements-loop-room : goal.invariant-statements-loop-room
-invariant-statements-loop-room l = group_rest l.initial.room l.initial.reader ≡ group_rest l.room l.reader
+invariant-statements-loop-room l = record {
+  same : group_rest l.initial.room l.initial.scanner.tokens ≡ group_rest l.room l.scanner.tokens;
+  ahead : IsAhead l.initial.scanner l.scanner;
+}
 
 abbrev pub decreases-statements-loop-room : goal.decreases-statements-loop-room
-decreases-statements-loop-room l = length l.reader
+decreases-statements-loop-room l = length l.scanner.tokens

@@ -1,0 +1,8 @@
+use Rattle.std.proofs.Common.{[]}
+use Rattle.mintc_liblex.proofs.PassingLaws.{both-ways}
+use Rattle.mintc_liberty.proofs.NextLaws.{opened-there, opened-not}
+use Rattle.mintc_liberty.proofs.places.opens.Goals as goal
+
+pub returns-in-Some-clause-passed : goal.returns-in-Some-clause-passed
+returns-in-Some-clause-passed c =
+    both-ways c.mark.result c.mark.ensures.passed (λ f. opened-there _ _ _ _ c.in-Some.ensures.some (f [])) (λ n. opened-not _ _ _ c.in-Some.ensures.some n.0)
