@@ -13,3 +13,7 @@ pub mod Rowing
 pub mod Plain
 pub mod Raising
 pub mod Existing
+pub mod Turning
+pub mod TurnedPaths
+pub mod TurnedCourse
+pub mod TurnedPairs

@@ -9,3 +9,5 @@ pub mod Trace
 pub mod Longest
 pub mod Existing
 pub mod Finding
+pub mod Turned
+pub mod Ordered
