@@ -16,3 +16,7 @@ pub mod Existing
 pub mod Setting
 pub mod Leading
 pub mod Counting
+pub mod Turning
+pub mod TurnedPaths
+pub mod TurnedCourse
+pub mod TurnedPairs

@@ -7,7 +7,7 @@ use Rattle.mintc_timing.specs.Design.{Design}
 use Rattle.mintc_timing.specs.Order.{IsOrder, ArePathsShort}
 use Rattle.mintc_timing.specs.Paths.{Leads, arc_at, greatest_delay, output_of}
 use Rattle.mintc_timing.proofs.Ordered.{place}
-use Rattle.mintc_paths.specs.Longest.{bit_sum, AreCarried}
+use Rattle.mintc_paths.specs.Longest.{bit_sum, AreCarried, AreRunsShort}
 
 pub low_or_past : (i n : ℕ) → (i < n) ⊎ (n ≤ i)
 low_or_past i n = grind arith
@@ -75,14 +75,17 @@ module _ (arcs : List TimingArc) (order : List ℕ) (is_order : IsOrder arcs ord
       let rest = along sums h (arc_at arcs n).to path to leads in
       omega (arith, ints)
 
--- Where no sum is above the limit, no path is.
-pub ArePathsShort-carried : (design : Design) (order : List ℕ) (sums : List ℤ) → IsOrder design.arcs order → AreCarried design.arcs order (length order) sums →
-    All (λ z. z ≤ℤ pos 1000000000) sums → ArePathsShort design
-ArePathsShort-carried design order sums is_order h all = λ j bit path element is.
-    let sum = along design.arcs order is_order sums h (output_of j) path bit is.1 in
-    let low = h.low (output_of j) in
+-- Where no sum is above the limit, no run of arcs is.
+pub AreRunsShort-carried : (arcs : List TimingArc) (order : List ℕ) (sums : List ℤ) → IsOrder arcs order → AreCarried arcs order (length order) sums →
+    All (λ z. z ≤ℤ pos 1000000000) sums → AreRunsShort arcs
+AreRunsShort-carried arcs order sums is_order h all = λ from path bit is.
+    let sum = along arcs order is_order sums h from path bit is in
+    let low = h.low from in
     let high : bit_sum sums bit ≤ℤ pos 1000000000 = ⊎_elim
     (λ (inside : bit < length sums). all bit (pos 0) inside)
     (λ (past : length sums ≤ bit). let none = get_or_past sums bit (pos 0) past in omega (arith, ints))
     (low_or_past bit (length sums)) in
     omega (arith, ints)
+
+pub ArePathsShort-runs : (design : Design) → AreRunsShort design.arcs → ArePathsShort design
+ArePathsShort-runs design short = λ j bit path element is. short (output_of j) path bit is.1

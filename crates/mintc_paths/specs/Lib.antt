@@ -11,3 +11,5 @@ pub mod Existing
 pub mod Finding
 pub mod Marks
 pub mod Count
+pub mod Turned
+pub mod Ordered

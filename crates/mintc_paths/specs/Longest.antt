@@ -1,7 +1,7 @@
 -- A bound above the sums of all paths.
 use Rattle.std.specs.Prelude.{◌<◌, ◌*◌, ℕ, ℤ, pos, ◌+ℤ◌, ◌≤ℤ◌, List, slice_index_or, map}
 use Rattle.mintc_timing.specs.declared.parts.TimingArc.{TimingArc}
-use Rattle.mintc_timing.specs.Paths.{arc_at}
+use Rattle.mintc_timing.specs.Paths.{Leads, arc_at, greatest_delay}
 
 -- the sum at a bit, or in a row
 abbrev pub bit_sum : List ℤ → ℕ → ℤ
@@ -16,3 +16,7 @@ pub record AreCarried (arcs : List TimingArc) (order : List ℕ) (k : ℕ) (sums
   pub low : (bit : ℕ) → pos 0 ≤ℤ bit_sum sums bit
   pub high : (bit : ℕ) → bit_sum sums bit ≤ℤ pos (k * 1000000000)
   pub carried : (i : ℕ) → i < k → (bit_sum sums (arc_at arcs (slice_index_or order i 0)).from +ℤ (arc_at arcs (slice_index_or order i 0)).max) ≤ℤ bit_sum sums (arc_at arcs (slice_index_or order i 0)).to
+
+-- No arcs in a row have a sum above 10^9 femtoseconds, wherever they begin.
+abbrev pub AreRunsShort : List TimingArc → Type 0
+AreRunsShort arcs = (from : ℕ) (path : List ℕ) (to : ℕ) → Leads arcs from path to → greatest_delay arcs path ≤ℤ pos 1000000000

@@ -1,17 +1,18 @@
 //! The pairs of a design, by eight elements at a time.
-ghost use Rattle.std.specs.Prelude.{◌≡◌, ◌<◌, ◌≤◌, ◌+◌, ◌*◌, ℕ, length, IfOk, IfErr, OnOk};
+ghost use Rattle.std.specs.Prelude.{◌≡◌, ◌<◌, ◌≤◌, ◌+◌, ◌*◌, ◌^◌, ℕ, length, IfOk, IfErr, OnOk};
 ghost use Rattle.std.specs.Bool.{OnTrue};
 ghost use Rattle.mintc_text.specs.Stops.{StopsAt};
+ghost use Rattle.mintc_timing.specs.Design.{Design};
 ghost use Rattle.mintc_timing.specs.Order.{IsOrder, ArePathsShort};
 ghost use Rattle.mintc_paths.specs.Found.{IsFoundBefore};
 ghost use Rattle.mintc_lanes.specs.Lanes.{AreLanes};
+ghost use Rattle.mintc_paths.specs.Ordered.{Ordered, IsCourseOf, ordered};
 ghost use Rattle.mintc_paths.specs.Reached.{AreExtremes};
 ghost use Rattle.mintc_paths.specs.Sums.{AreRows, IsCourse, AreMarked, placed, sums_at};
 ghost use Rattle.mintc_paths.specs.Refusals.{AreShortBefore, IsPathRange};
 
 use crate::found::Found;
 use crate::long::first_long;
-use crate::longest::are_plainly_short;
 use crate::rows::{Course, Rows};
 use crate::sums::{NO_SUMS, Sums, fill};
 use mintc_text::{Refusal, Stop};
@@ -21,30 +22,32 @@ use std::alloc::{AllocError, Global};
 /// Refuses the first path that is too long among those from so many elements, whose sums are in the lanes. Where it is
 /// known that no path is, there is nothing to look for.
 fn refuse_long(
-    flat: &Flat,
     sums: &[Sums],
     reached: &[bool],
     rows: &Rows,
+    elements: u32,
     first: u32,
     lanes: usize,
     known_short: bool,
 ) -> Result<(), Refusal>
-    requires bits { length sums.now ≡ 2 * length flat.now.elements + length flat.now.inner }
+    ghost design: { Design }
+    requires count { elements ≡ length design.elements }
+    requires few { elements ≤ 2000 }
+    requires some { length sums.now ≤ 2 ^ 20 }
     requires rows { AreRows (length sums.now) rows.now }
     requires lanes { lanes ≤ 8 }
-    requires elements { first + lanes ≤ length flat.now.elements }
-    requires extremes { AreExtremes flat.now first lanes (placed rows.now.of_bits.items sums.now) }
+    requires elements { first + lanes ≤ elements }
+    requires extremes { AreExtremes design first lanes (placed rows.now.of_bits.items sums.now) }
     requires bounded { (row : ℕ) → row < length sums.now → AreLanes (sums_at sums.now row).greatest }
     requires marked { AreMarked sums.now reached.now }
-    requires short { AreShortBefore flat.now first }
-    requires known { OnTrue known_short (ArePathsShort flat.now) }
-    ensures short { OnOk result (AreShortBefore flat.now (first + lanes)) }
-    ensures refusal { IfErr result (IsPathRange flat.now) }
+    requires short { AreShortBefore design first }
+    requires known { OnTrue known_short (ArePathsShort design) }
+    ensures short { OnOk result (AreShortBefore design (first + lanes)) }
+    ensures refusal { IfErr result (IsPathRange design) }
 {
     if known_short {
         return Ok(());
     }
-    let _elements = flat.elements();
     match first_long(sums, reached, rows, lanes) {
         Some(place) => Err(Refusal::PathRange {
             element: first + place.lane as u32,
@@ -56,38 +59,36 @@ fn refuse_long(
 
 /// Finds the pairs from so many elements, whose sums go through `sums`.
 fn find_block(
-    flat: &Flat,
-    order: &Order,
     course: &Course,
     sums: &mut [Sums],
     reached: &mut [bool],
     found: &mut Found,
+    elements: u32,
     first: u32,
     lanes: u32,
     known_short: bool,
 ) -> Result<(), Stop>
-    requires bits { length sums.old ≡ 2 * length flat.now.elements + length flat.now.inner }
-    requires order { IsOrder flat.now.arcs order.now }
-    requires course { IsCourse (length sums.old) flat.now.arcs order.now course.now }
+    ghost of: { Ordered }
+    requires course { IsCourseOf (length sums.old) of course.now }
+    requires count { elements ≡ length of.design.elements }
     requires lanes { lanes ≤ 8 }
-    requires elements { first + lanes ≤ length flat.now.elements }
-    requires short { AreShortBefore flat.now first }
-    requires found { IsFoundBefore flat.now first 0 found.old }
+    requires elements { first + lanes ≤ elements }
+    requires short { AreShortBefore of.design first }
+    requires found { IsFoundBefore of.design first 0 found.old }
     requires marked { AreMarked sums.old reached.old }
-    requires known { OnTrue known_short (ArePathsShort flat.now) }
+    requires known { OnTrue known_short (ArePathsShort of.design) }
     ensures marked { OnOk result (AreMarked sums.new reached.new) }
-    ensures found { OnOk result (IsFoundBefore flat.now (first + lanes) 0 found.new) }
-    ensures short { OnOk result (AreShortBefore flat.now (first + lanes)) }
-    ensures stop { IfErr result (StopsAt (IsPathRange flat.now)) }
+    ensures found { OnOk result (IsFoundBefore of.design (first + lanes) 0 found.new) }
+    ensures short { OnOk result (AreShortBefore of.design (first + lanes)) }
+    ensures stop { IfErr result (StopsAt (IsPathRange of.design)) }
 {
-    let _elements = flat.elements();
     let rows = &course.rows;
     let lanes = lanes as usize;
-    fill(sums, reached, flat, order, course, first, lanes);
-    if let Err(refusal) = refuse_long(flat, sums, reached, rows, first, lanes, known_short) {
+    fill(sums, reached, course, first, lanes);
+    if let Err(refusal) = refuse_long(sums, reached, rows, elements, first, lanes, known_short) {
         return Err(Stop::Refused(refusal));
     }
-    match found.add_all(flat, sums, reached, rows, first, lanes) {
+    match found.add_all(sums, reached, rows, elements, first, lanes) {
         Ok(()) => Ok(()),
         Err(_) => Err(Stop::OutOfMemory),
     }
@@ -102,22 +103,23 @@ pub fn course_of(alloc: Global, flat: &Flat, order: &Order) -> Result<Course, Al
     Course::new(alloc, flat, order, rows)
 }
 
-/// Finds the design's pairs.
-pub fn find(alloc: Global, flat: &Flat, order: &Order) -> Result<Found, Stop>
-    requires { IsOrder flat.now.arcs order.now }
-    ensures found { IfOk result (IsFoundBefore flat.now (length flat.now.elements) 0) }
+/// Finds the pairs of a design with so many elements along a course of its arcs.
+pub fn find_along(
+    alloc: Global,
+    course: &Course,
+    elements: u32,
+    known_short: bool,
+) -> Result<Found, Stop>
+    ghost of: { Ordered }
+    requires course { IsCourseOf (length course.now.rows.of_bits.items) of course.now }
+    requires count { elements ≡ length of.design.elements }
+    requires known { OnTrue known_short (ArePathsShort of.design) }
+    ensures found { IfOk result (IsFoundBefore of.design (length of.design.elements) 0) }
     ensures few { IfOk result (λ found. found.count ≤ 4000000) }
-    ensures short { OnOk result (ArePathsShort flat.now) }
-    ensures stop { IfErr result (StopsAt (IsPathRange flat.now)) }
+    ensures short { OnOk result (ArePathsShort of.design) }
+    ensures stop { IfErr result (StopsAt (IsPathRange of.design)) }
 {
-    let elements = flat.elements().len() as u32;
-    let bits = 2 * elements as usize + flat.inner().items().len();
-    let Ok(course) = course_of(alloc, flat, order) else {
-        return Err(Stop::OutOfMemory);
-    };
-    let Ok(known_short) = are_plainly_short(alloc, flat, order, &course) else {
-        return Err(Stop::OutOfMemory);
-    };
+    let bits = course.rows.of_bits.len();
     let Ok(mut sums) = vec![in alloc; NO_SUMS; bits] else {
         return Err(Stop::OutOfMemory);
     };
@@ -129,12 +131,11 @@ pub fn find(alloc: Global, flat: &Flat, order: &Order) -> Result<Found, Stop>
     while first < elements {
         let lanes = (elements - first).min(8);
         find_block(
-            flat,
-            order,
-            &course,
+            course,
             &mut sums,
             &mut reached,
             &mut found,
+            elements,
             first,
             lanes,
             known_short,
@@ -142,4 +143,26 @@ pub fn find(alloc: Global, flat: &Flat, order: &Order) -> Result<Found, Stop>
         first += lanes;
     }
     Ok(found)
+}
+
+/// Finds the pairs from the outputs on.
+pub fn find_forth(
+    alloc: Global,
+    flat: &Flat,
+    order: &Order,
+    course: &Course,
+    known_short: bool,
+) -> Result<Found, Stop>
+    ghost of: { Ordered }
+    requires of { of ≡ ordered flat.now order.now }
+    requires order { IsOrder flat.now.arcs order.now }
+    requires course { IsCourse (2 * length flat.now.elements + length flat.now.inner) flat.now.arcs order.now course.now }
+    requires known { OnTrue known_short (ArePathsShort flat.now) }
+    ensures found { IfOk result (IsFoundBefore flat.now (length flat.now.elements) 0) }
+    ensures few { IfOk result (λ found. found.count ≤ 4000000) }
+    ensures short { OnOk result (ArePathsShort flat.now) }
+    ensures stop { IfErr result (StopsAt (IsPathRange flat.now)) }
+{
+    let elements = flat.elements().len() as u32;
+    find_along(alloc, course, elements, known_short)
 }

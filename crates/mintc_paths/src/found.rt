@@ -4,7 +4,7 @@ ghost use Rattle.std.specs.Prelude.{◌≡◌, ◌<◌, ◌≤◌, ◌^◌, ◌+
 use crate::rows::Rows;
 use crate::sums::{NO_SUMS, Sums, sum_in};
 use mintc_text::OutOfMemory;
-use mintc_timing::{Flat, Pair};
+use mintc_timing::Pair;
 use std::alloc::Global;
 
 /// The first 200,000 pairs found, and the number of all.
@@ -75,23 +75,26 @@ impl Found {
     /// The pairs from an element, whose sums are in this lane.
     fn add_from(
         &mut self,
-        flat: &Flat,
         sums: &[Sums],
         reached: &[bool],
         rows: &Rows,
+        elements: u32,
         element: u32,
         lane: usize,
     ) -> Result<(), OutOfMemory>
-        requires bits { 2 * length flat.now.elements ≤ length sums.now }
+        ghost design: { Design }
+        requires elements { elements ≡ length design.elements }
+        requires limit { elements ≤ 2000 }
+        requires bits { 2 * elements ≤ length sums.now }
         requires rows { AreRows (length sums.now) rows.now }
         requires marked { AreMarked sums.now reached.now }
-        requires element { element < length flat.now.elements }
+        requires element { element < elements }
         requires lane { lane < 8 }
-        requires paired { IsPairedLane flat.now (placed rows.now.of_bits.items sums.now) element lane }
-        requires found { IsFoundBefore flat.now element 0 self.old }
-        ensures { OnOk result (IsFoundBefore flat.now (element + 1) 0 self.new) }
+        requires paired { IsPairedLane design (placed rows.now.of_bits.items sums.now) element lane }
+        requires found { IsFoundBefore design element 0 self.old }
+        ensures { OnOk result (IsFoundBefore design (element + 1) 0 self.new) }
     {
-        for to in 0..flat.elements().len() as u32 {
+        for to in 0..elements {
             let row = rows.of_bits[2 * to as usize];
             self.add_at(
                 element,
@@ -107,25 +110,27 @@ impl Found {
     /// The pairs from so many elements, whose sums are in the lanes.
     pub fn add_all(
         &mut self,
-        flat: &Flat,
         sums: &[Sums],
         reached: &[bool],
         rows: &Rows,
+        elements: u32,
         first: u32,
         lanes: usize,
     ) -> Result<(), OutOfMemory>
-        requires bits { 2 * length flat.now.elements ≤ length sums.now }
+        ghost design: { Design }
+        requires elements { elements ≡ length design.elements }
+        requires limit { elements ≤ 2000 }
+        requires bits { 2 * elements ≤ length sums.now }
         requires rows { AreRows (length sums.now) rows.now }
         requires marked { AreMarked sums.now reached.now }
-        requires elements { first + lanes ≤ length flat.now.elements }
+        requires inside { first + lanes ≤ elements }
         requires lanes { lanes ≤ 8 }
-        requires extremes { AreExtremes flat.now first lanes (placed rows.now.of_bits.items sums.now) }
-        requires found { IsFoundBefore flat.now first 0 self.old }
-        ensures { OnOk result (IsFoundBefore flat.now (first + lanes) 0 self.new) }
+        requires extremes { AreExtremes design first lanes (placed rows.now.of_bits.items sums.now) }
+        requires found { IsFoundBefore design first 0 self.old }
+        ensures { OnOk result (IsFoundBefore design (first + lanes) 0 self.new) }
     {
-        let _elements = flat.elements();
         for lane in 0..lanes {
-            self.add_from(flat, sums, reached, rows, first + lane as u32, lane)?;
+            self.add_from(sums, reached, rows, elements, first + lane as u32, lane)?;
         }
         Ok(())
     }

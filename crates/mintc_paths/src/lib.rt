@@ -13,6 +13,7 @@ ghost use Rattle.mintc_timing.specs.Paths.{ArePairs, IsPath, input_of, greatest_
 ghost use Rattle.mintc_paths.specs.Refusals.{IsExtremesRefusal};
 ghost use Rattle.mintc_paths.specs.Trace.{IsPairOf};
 
+mod back;
 mod blocks;
 mod count;
 mod finder;
@@ -29,8 +30,9 @@ mod spans;
 mod steps;
 mod sums;
 mod trace;
+mod turned;
+mod ways;
 
-use blocks::find;
 pub use count::count_pairs;
 pub use finder::Finder;
 use found::Found;
@@ -40,6 +42,7 @@ use mintc_timing::{Flat, Order, Pair, System};
 use route::best_path;
 use std::alloc::Global;
 use trace::Extreme;
+use ways::find;
 
 /// All pairs of the design, in ascending order of their elements, with the least and the greatest sum of the listed
 /// paths between them, in femtoseconds. The refusal is PathRange with the first element that a listed path with a

@@ -3,7 +3,7 @@ ghost use Rattle.std.specs.Prelude.{◌≡◌, ◌≢◌, ◌<◌, ◌+◌, ◌*
 ghost use Rattle.std.specs.Bool.{OnTrue};
 ghost use Rattle.mintc_timing.specs.Limits.{IsDelay};
 ghost use Rattle.mintc_timing.specs.Order.{IsOrder, ArePathsShort};
-ghost use Rattle.mintc_paths.specs.Longest.{bit_sum, bit_sums, AreCarried};
+ghost use Rattle.mintc_paths.specs.Longest.{bit_sum, bit_sums, AreCarried, AreRunsShort};
 ghost use Rattle.mintc_paths.specs.Sums.{IsCourse};
 
 use crate::long::LIMIT;
@@ -61,10 +61,25 @@ fn are_arcs_short(sums: &mut [i64], flat: &Flat, order: &Order, course: &Course)
     requires bits { length sums.old ≡ 2 * length flat.now.elements + length flat.now.inner }
     requires course { IsCourse (length sums.old) flat.now.arcs order.now course.now }
     requires none { AreCarried flat.now.arcs order.now 0 (bit_sums course.now.rows.of_bits.items sums.old) }
-    ensures { OnTrue result (ArePathsShort flat.now) }
+    ensures { OnTrue result (AreRunsShort flat.now.arcs) }
 {
     raise_all(sums, flat, order, course);
     are_within(sums)
+}
+
+/// Whether no arcs in a row have a sum above the limit, wherever they begin.
+pub fn are_runs_short(
+    alloc: Global,
+    flat: &Flat,
+    order: &Order,
+    course: &Course,
+) -> Result<bool, AllocError>
+    requires order { IsOrder flat.now.arcs order.now }
+    requires course { IsCourse (2 * length flat.now.elements + length flat.now.inner) flat.now.arcs order.now course.now }
+    ensures { IfOk result (λ short. OnTrue short (AreRunsShort flat.now.arcs)) }
+{
+    let mut sums = vec![in alloc; 0; course.rows.of_bits.len()]?;
+    Ok(are_arcs_short(&mut sums, flat, order, course))
 }
 
 /// Whether it is plain that no path is too long, since no arcs in a row are, wherever they begin.
@@ -78,6 +93,5 @@ pub fn are_plainly_short(
     requires course { IsCourse (2 * length flat.now.elements + length flat.now.inner) flat.now.arcs order.now course.now }
     ensures { IfOk result (λ short. OnTrue short (ArePathsShort flat.now)) }
 {
-    let mut sums = vec![in alloc; 0; course.rows.of_bits.len()]?;
-    Ok(are_arcs_short(&mut sums, flat, order, course))
+    are_runs_short(alloc, flat, order, course)
 }

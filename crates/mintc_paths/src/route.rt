@@ -1,6 +1,7 @@
 //! A path with the sum of a pair.
 ghost use Rattle.std.specs.Prelude.{◌≡◌, ◌<◌, ℕ, ◌+◌, ◌*◌, length, IfOk};
 ghost use Rattle.mintc_timing.specs.Order.{IsOrder};
+ghost use Rattle.mintc_paths.specs.Ordered.{Ordered, ordered};
 ghost use Rattle.mintc_paths.specs.Sums.{row_of, IsCourse, AreMarked};
 ghost use Rattle.mintc_paths.specs.Trace.{IsPairOf, IsOfPair};
 
@@ -32,6 +33,8 @@ fn path_by(
     from: u32,
     to: u32,
 ) -> Result<Numbers, OutOfMemory>
+    ghost of: { Ordered }
+    requires of { of ≡ ordered system.now.flat system.now.order }
     requires marked { AreMarked sums.old reached.old }
     requires bits { length sums.old ≡ 2 * length system.now.flat.elements + length system.now.flat.inner }
     requires pair { IsPairOf system.now.pairs from to }
@@ -43,7 +46,7 @@ fn path_by(
     let Ok(course) = plain_course(alloc, flat, order) else {
         return Err(OutOfMemory);
     };
-    fill(sums, reached, flat, order, &course, from, 1);
+    fill(sums, reached, &course, from, 1);
     match trace(alloc, extreme, flat, order, sums, 2 * to) {
         Ok(path) => Ok(Numbers::new(path)),
         Err(_) => Err(OutOfMemory),

@@ -48,7 +48,7 @@ impl Rows {
     }
 
     /// Gives the next row to the bit, unless it has one of those that are given. How many are given then.
-    fn meet(&mut self, bit: u32, given: u32) -> u32
+    pub fn meet(&mut self, bit: u32, given: u32) -> u32
         requires few { length self.old.of_bits.items < 2 ^ 32 }
         requires bit { bit < length self.old.of_bits.items }
         requires rows { AreRows (length self.old.of_bits.items) self.old }

@@ -3,16 +3,16 @@ ghost use Rattle.std.specs.Prelude.{◌≡◌, ◌≢◌, ◌+◌, ◌*◌, ◌<
 ghost use Rattle.std.specs.Int.{int_max, int_min, w64};
 ghost use Rattle.mintc_lanes.specs.Lanes.{lane_at, AreJoined};
 ghost use Rattle.mintc_timing.specs.Limits.{IsDelay};
-ghost use Rattle.mintc_timing.specs.Order.{IsOrder};
 ghost use Rattle.mintc_timing.specs.Paths.{output_of};
 ghost use Rattle.mintc_timing.specs.declared.parts.TimingArc.{TimingArc};
+ghost use Rattle.mintc_paths.specs.Ordered.{Ordered, IsCourseOf};
 ghost use Rattle.mintc_paths.specs.Reached.{AreExtremes};
 ghost use Rattle.mintc_paths.specs.Spans.{AreSpans};
-ghost use Rattle.mintc_paths.specs.Sums.{sums_at, row_of, placed, IsBounded, IsAlike, AreRows, IsCourse, AreBegun, AreMarked, AreOutputs, AreSums};
+ghost use Rattle.mintc_paths.specs.Sums.{sums_at, row_of, placed, IsBounded, IsAlike, AreRows, AreBegun, AreMarked, AreOutputs, AreSums};
 
 use crate::rows::{Course, Rows};
 use mintc_lanes::{ABSENT, max_plus_row, min_plus_row};
-use mintc_timing::{Flat, Order, TimingArc};
+use mintc_timing::TimingArc;
 
 /// The greatest and least sums of the paths to a bit, in femtoseconds: a lane for each of eight elements, absent where no
 /// path leads from it.
@@ -137,24 +137,20 @@ fn window(course: &Course, first: u32, lanes: usize) -> (u32, u32)
 pub fn fill(
     sums: &mut [Sums],
     reached: &mut [bool],
-    flat: &Flat,
-    order: &Order,
     course: &Course,
     first: u32,
     lanes: usize,
 )
-    requires bits { length sums.old ≡ 2 * length flat.now.elements + length flat.now.inner }
-    requires order { IsOrder flat.now.arcs order.now }
-    requires course { IsCourse (length sums.old) flat.now.arcs order.now course.now }
+    ghost of: { Ordered }
+    requires course { IsCourseOf (length sums.old) of course.now }
     requires lanes { lanes ≤ 8 }
-    requires elements { first + lanes ≤ length flat.now.elements }
+    requires elements { first + lanes ≤ length of.design.elements }
     requires marked { AreMarked sums.old reached.old }
     ensures marked { AreMarked sums.new reached.new }
-    ensures sums { AreSums flat.now.arcs order.now (length order.now) first lanes (placed course.now.rows.of_bits.items sums.new) }
-    ensures extremes { AreExtremes flat.now first lanes (placed course.now.rows.of_bits.items sums.new) }
+    ensures sums { AreSums of.design.arcs of.order (length of.order) first lanes (placed course.now.rows.of_bits.items sums.new) }
+    ensures extremes { AreExtremes of.design first lanes (placed course.now.rows.of_bits.items sums.new) }
 {
     clear(sums, reached, &course.rows, first, lanes);
-    let _elements = flat.elements();
     let (start, mut end) = window(course, first, lanes);
     let mut place = course.along.len().min(start as usize);
     while place < course.along.len().min(end as usize) {

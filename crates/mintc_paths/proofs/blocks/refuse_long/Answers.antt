@@ -6,29 +6,28 @@ use Rattle.mintc_paths.proofs.Shortness.{AreShortBefore-all, AreShortBefore-more
 use Rattle.mintc_paths.proofs.blocks.refuse_long.Goals as goal
 
 pub returns-then-known_short-clause-short : goal.returns-then-known_short-clause-short
-returns-then-known_short-clause-short c = AreShortBefore-all c.args.flat.now _ c.requires.elements (OnTrue_at c.if-known_short.true c.requires.known)
+returns-then-known_short-clause-short g c = AreShortBefore-all g.design _ (omega (arith, c.requires.1.1.1.1.1.0, c.requires.0)) (OnTrue_at c.if-known_short.true c.requires.1.1.1.1.1.1.1.1.1.1)
 
 pub overflow_add-result : goal.overflow_add-result
-overflow_add-result c =
+overflow_add-result g c =
     let below = c.in-Some.ensures.inside in
-    let limit = c.elements-elements.ensures.kept.elements in
+    let inside = c.requires.1.1.1.1.1.0 in
+    let limit = c.requires.1.0 in
     omega arith
 
 pub overflow_cast-result-in-Some : goal.overflow_cast-result-in-Some
-overflow_cast-result-in-Some c =
+overflow_cast-result-in-Some g c =
     let inside = c.in-Some.ensures.at_bit.inside in
-    let rows = c.requires.rows.of_bits.count in
+    let rows = c.requires.1.1.1.0.of_bits.count in
     let same = length-placed c.args.rows.now.of_bits.items c.args.sums.now in
-    let bits = c.requires.bits in
-    let elements = c.elements-elements.ensures.kept.elements in
-    let inner = c.elements-elements.ensures.kept.inner in
+    let some = c.requires.1.1.0 in
     omega arith
 
 pub returns-in-Some-clause-refusal : goal.returns-in-Some-clause-refusal
-returns-in-Some-clause-refusal c =
-    IsFirstLong-from_lane c.args.flat.now c.args.first c.args.lanes (placed c.args.rows.now.of_bits.items c.args.sums.now) c.requires.extremes c.requires.short
-    c.in-Some.place.lane c.in-Some.place.bit c.requires.elements c.in-Some.ensures
+returns-in-Some-clause-refusal g c =
+    IsFirstLong-from_lane g.design c.args.first c.args.lanes (placed c.args.rows.now.of_bits.items c.args.sums.now) c.requires.1.1.1.1.1.1.0 c.requires.1.1.1.1.1.1.1.1.1.0
+    c.in-Some.place.lane c.in-Some.place.bit (omega (arith, c.requires.1.1.1.1.1.0, c.requires.0)) c.in-Some.ensures
 
 pub returns-in-None-clause-short : goal.returns-in-None-clause-short
-returns-in-None-clause-short c =
-    AreShortBefore-more c.args.flat.now c.args.first c.args.lanes (placed c.args.rows.now.of_bits.items c.args.sums.now) c.requires.extremes c.requires.short c.in-None.ensures
+returns-in-None-clause-short g c =
+    AreShortBefore-more g.design c.args.first c.args.lanes (placed c.args.rows.now.of_bits.items c.args.sums.now) c.requires.1.1.1.1.1.1.0 c.requires.1.1.1.1.1.1.1.1.1.0 c.in-None.ensures

@@ -2,16 +2,19 @@ use Rattle.std.proofs.Common.{◌≡◌, ◌≤◌, ◌+◌, ◌*◌, ◌-◌, l
 use Rattle.mintc_paths.specs.Found.{IsFoundBefore}
 use Rattle.mintc_paths.specs.Sums.{AreMarked}
 use Rattle.mintc_paths.specs.Refusals.{AreShortBefore}
-use Rattle.mintc_paths.proofs.blocks.find.Given as goal
+use Rattle.mintc_paths.proofs.blocks.find_along.Given as goal
 
 abbrev pub invariant-loop-first : goal.invariant-loop-first
-invariant-loop-first l = record {
+invariant-loop-first g l = record {
   marked : AreMarked l.sums.items l.reached.items;
-  found : IsFoundBefore l.flat l.first 0 l.found;
-  short : AreShortBefore l.flat l.first;
+  found : IsFoundBefore g.of.design l.first 0 l.found;
+  short : AreShortBefore g.of.design l.first;
   inside : l.first ≤ l.elements;
-  bits : length l.sums.items ≡ 2 * length l.flat.elements + length l.flat.inner;
+  bits : length l.sums.items ≡ length l.course.rows.of_bits.items;
 }
 
 abbrev pub decreases-loop-first : goal.decreases-loop-first
-decreases-loop-first l = l.elements - l.first
+decreases-loop-first g l = l.elements - l.first
+
+abbrev pub ghost-find_block : goal.ghost-find_block
+ghost-find_block g a = g.of

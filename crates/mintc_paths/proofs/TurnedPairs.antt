@@ -1,0 +1,186 @@
+-- Pairs turned back are those of the design.
+use Rattle.std.proofs.Common.{◌≡◌, ◌≢◌, ℕ, zero, suc, ◌<◌, ◌≤◌, ◌+◌, ◌-◌, ◌*◌, List, length, get_or, map, reverse, arith, refl, ap, ◌∙◌, sym, subst, ◌⊎◌, inl, inr, ⊎_elim}
+use Rattle.std.proofs.lemmas.Bool.{cases_eq}
+use Rattle.std.proofs.lemmas.List.{get_or-map, get_or_default}
+use Rattle.std.proofs.lemmas.List.Edits.{length-swap, swapped_from_swap}
+use Rattle.std.proofs.lemmas.List.Sorted.{IsPermutation-keeps, All-permutation, Contains-permutation, length_permutation}
+use Rattle.std.proofs.Math.ListN.{length-map}
+use Rattle.std.specs.List.{All, AllAdjacentBelow, Contains, swap}
+use Rattle.std.specs.List.Sorted.{IsPermutation, IsNonDecreasingBy}
+use Rattle.mintc_timing.specs.declared.parts.Pair.{Pair}
+use Rattle.mintc_timing.specs.Design.{Design}
+use Rattle.mintc_timing.specs.Limits.{IsDesign}
+use Rattle.mintc_timing.specs.Paths.{IsPath, input_of, HasExtremes, ComesBefore}
+use Rattle.mintc_paths.specs.declared.found.Found.{Found}
+use Rattle.mintc_paths.specs.Found.{Precede, ArePairsBefore, IsFoundBefore}
+use Rattle.mintc_paths.specs.Sums.{row_of, LeadsBack}
+use Rattle.mintc_paths.specs.Turned.{turned_design, pair_back, key_of}
+use Rattle.mintc_paths.proofs.TurnedPaths.{forth, HasExtremes-back}
+
+-- No two pairs of the list have one key.
+abbrev AreApart : List Pair → Type 0
+AreApart pairs = (i j : ℕ) (d : Pair) → i < length pairs → j < length pairs → key_of (get_or pairs i d) ≡ key_of (get_or pairs j d) → i ≡ j
+
+-- where an item comes from as two are exchanged
+came_from : (pairs : List Pair) (a b : ℕ) (d : Pair) → a < length pairs → b < length pairs → (i : ℕ) → i < length pairs →
+    (k : ℕ) × (k < length pairs) × (get_or (swap pairs a b) i d ≡ get_or pairs k d) × (((i ≡ a) × (k ≡ b)) ⊎ ((i ≡ b) × (k ≡ a)) ⊎ ((i ≢ a) × (i ≢ b) × (k ≡ i)))
+came_from pairs a b d in_a in_b i low =
+    let swapped = swapped_from_swap pairs (swap pairs a b) a b d in_a in_b refl in
+    ⊎_elim
+    (λ (e : i ≡ a). (b, in_b, ap (λ m. get_or (swap pairs a b) m d) e ∙ swapped.0, inl (e, refl)))
+    (λ (ne : i ≢ a). ⊎_elim
+    (λ (e : i ≡ b). (a, in_a, ap (λ m. get_or (swap pairs a b) m d) e ∙ swapped.1, inr (inl (e, refl))))
+    (λ (other : i ≢ b). (i, low, swapped.2 i ne other, inr (inr (ne, other, refl))))
+    (cases_eq i b))
+    (cases_eq i a)
+
+AreApart-swap : (pairs : List Pair) (a b : ℕ) → a < length pairs → b < length pairs → AreApart pairs → AreApart (swap pairs a b)
+AreApart-swap pairs a b in_a in_b h i j d low_i low_j e =
+    let count = length-swap pairs a b in
+    let from = came_from pairs a b d in_a in_b i (omega arith) in
+    let to = came_from pairs a b d in_a in_b j (omega arith) in
+    let same : from.0 ≡ to.0 = h from.0 to.0 d from.1 to.1 (ap key_of (sym from.2) ∙ e ∙ ap key_of to.2) in
+    at from.0 to.0 same from.3 to.3
+  where
+    at : (k l : ℕ) → k ≡ l → ((i ≡ a) × (k ≡ b)) ⊎ ((i ≡ b) × (k ≡ a)) ⊎ ((i ≢ a) × (i ≢ b) × (k ≡ i)) → ((j ≡ a) × (l ≡ b)) ⊎ ((j ≡ b) × (l ≡ a)) ⊎ ((j ≢ a) × (j ≢ b) × (l ≡ j)) → i ≡ j
+    at k l s (inl f) (inl g) = f.0 ∙ sym g.0
+    at k l s (inl f) (inr (inl g)) = f.0 ∙ sym g.1 ∙ sym s ∙ f.1 ∙ sym g.0
+    at k l s (inl f) (inr (inr g)) = absurd (g.1 (sym g.2 ∙ sym s ∙ f.1))
+    at k l s (inr (inl f)) (inl g) = f.0 ∙ sym g.1 ∙ sym s ∙ f.1 ∙ sym g.0
+    at k l s (inr (inl f)) (inr (inl g)) = f.0 ∙ sym g.0
+    at k l s (inr (inl f)) (inr (inr g)) = absurd (g.0 (sym g.2 ∙ sym s ∙ f.1))
+    at k l s (inr (inr f)) (inl g) = absurd (f.1 (sym f.2 ∙ s ∙ g.1))
+    at k l s (inr (inr f)) (inr (inl g)) = absurd (f.0 (sym f.2 ∙ s ∙ g.1))
+    at k l s (inr (inr f)) (inr (inr g)) = sym f.2 ∙ s ∙ g.2
+
+AreApart-permutation : (xs ys : List Pair) → IsPermutation xs ys → AreApart xs → AreApart ys
+AreApart-permutation xs ys moved h = IsPermutation-keeps xs AreApart h (λ l i j low_i low_j g. AreApart-swap l i j low_i low_j g) ys moved
+
+module _ (n : ℕ) (few : n ≤ 2000) (elements places : List ℕ) (back : LeadsBack n elements places) (pairs : List Pair)
+    (inside : All (λ (p : Pair). (p.from < n) × (p.to < n)) pairs) (ascending : AllAdjacentBelow ComesBefore pairs (length pairs)) where
+  key_rises : (p q : Pair) → q.to < 2048 → p.to < 2048 → ComesBefore p q → key_of p < key_of q
+  key_rises p q low lower (inl h) = omega arith
+  key_rises p q low lower (inr h) = omega (arith, h.0, h.1)
+
+  -- keys rise along the list
+  rises : (k i : ℕ) (d : Pair) → i + suc k < length pairs → key_of (get_or pairs i d) < key_of (get_or pairs (i + suc k) d)
+  rises zero i d low =
+      let here = inside i d (omega arith) in
+      let there = inside (i + 1) d (omega arith) in
+      key_rises (get_or pairs i d) (get_or pairs (i + 1) d) (omega (arith, there.1)) (omega (arith, here.1)) (ascending i d low)
+  rises (suc k) i d low =
+      let before = rises k i d (omega arith) in
+      let next : i + suc (suc k) ≡ i + suc k + 1 = omega arith in
+      let here = inside (i + suc k) d (omega arith) in
+      let there = inside (i + suc k + 1) d (omega arith) in
+      let step = key_rises (get_or pairs (i + suc k) d) (get_or pairs (i + suc k + 1) d) (omega (arith, there.1)) (omega (arith, here.1)) (ascending (i + suc k) d (omega arith)) in
+      subst (λ m. key_of (get_or pairs i d) < key_of (get_or pairs m d)) (sym next) (omega arith)
+
+  one_place : (i j : ℕ) (d : Pair) → i < length pairs → j < length pairs → key_of (get_or pairs i d) ≡ key_of (get_or pairs j d) → i ≡ j
+  one_place i j d low_i low_j e = by_order (order_of i j)
+    where
+      order_of : (i j : ℕ) → (i ≡ j) ⊎ (i < j) ⊎ (j < i)
+      order_of i j = grind arith
+      far : (i j : ℕ) → i < j → i + suc (j - i - 1) ≡ j
+      far i j h = omega arith
+      by_order : (i ≡ j) ⊎ (i < j) ⊎ (j < i) → i ≡ j
+      by_order (inl same) = same
+      by_order (inr (inl less)) = let up = subst (λ m. key_of (get_or pairs i d) < key_of (get_or pairs m d)) (far i j less) (rises (j - i - 1) i d (subst (λ m. m < length pairs) (sym (far i j less)) low_j)) in absurd (omega arith)
+      by_order (inr (inr more)) = let up = subst (λ m. key_of (get_or pairs j d) < key_of (get_or pairs m d)) (far j i more) (rises (i - j - 1) j d (subst (λ m. m < length pairs) (sym (far j i more)) low_i)) in absurd (omega arith)
+
+  -- a pair's key says that of the pair that it is turned back from
+  same_key : (p q : Pair) → p.from < n → q.from < n → key_of (pair_back elements p) ≡ key_of (pair_back elements q) → key_of p ≡ key_of q
+  same_key p q in_p in_q e =
+      let to_p = back.inside p.from in_p in
+      let to_q = back.inside q.from in_q in
+      let to : p.to ≡ q.to = omega arith in
+      let at : row_of elements p.from ≡ row_of elements q.from = omega arith in
+      let from : p.from ≡ q.from = sym (back.leads p.from in_p) ∙ ap (row_of places) at ∙ back.leads q.from in_q in
+      omega arith
+
+  AreApart-back : AreApart (map (pair_back elements) pairs)
+  AreApart-back i j d low_i low_j e =
+      let count = length-map pairs (pair_back elements) in
+      let in_i : i < length pairs = omega arith in
+      let in_j : j < length pairs = omega arith in
+      let at_i = get_or-map (pair_back elements) pairs i d d in_i in
+      let at_j = get_or-map (pair_back elements) pairs j d d in_j in
+      one_place i j d in_i in_j (same_key (get_or pairs i d) (get_or pairs j d) (inside i d in_i).0 (inside j d in_j).0 (ap key_of (sym at_i) ∙ e ∙ ap key_of at_j))
+
+-- keys that don't fall, of pairs apart, rise
+ascends : (n : ℕ) → n ≤ 2000 → (pairs : List Pair) → All (λ (p : Pair). p.to < n) pairs → AreApart pairs → IsNonDecreasingBy key_of pairs → AllAdjacentBelow ComesBefore pairs (length pairs)
+ascends n few pairs inside apart sorted k d below =
+    let low : k < length pairs = omega arith in
+    let order = sorted k (k + 1) d (omega arith) below in
+    let here = inside k d low in
+    let there = inside (k + 1) d below in
+    comes (get_or pairs k d) (get_or pairs (k + 1) d) (omega arith) (omega arith) order (λ e. let same = apart k (k + 1) d low below e in omega arith)
+  where
+    split : (a b x y : ℕ) → x < 2048 → y < 2048 → 2048 * a + x < 2048 * b + y → (a < b) ⊎ ((a ≡ b) × (x < y))
+    split a b x y in_x in_y h = ⊎_elim (λ (low : a < b). inl low) (λ (high : b ≤ a). let same : a ≡ b = omega arith in inr (same, omega arith)) (low_or_high a b)
+      where
+        low_or_high : (i n : ℕ) → (i < n) ⊎ (n ≤ i)
+        low_or_high i n = grind arith
+    comes : (p q : Pair) → p.to < 2048 → q.to < 2048 → key_of p ≤ key_of q → (key_of p ≡ key_of q → ⊥) → ComesBefore p q
+    comes p q in_p in_q order ne = split p.from q.from p.to q.to in_p in_q (less (key_of p) (key_of q) order ne)
+      where
+        less : (x y : ℕ) → x ≤ y → (x ≡ y → ⊥) → x < y
+        less x y h ne = ⊎_elim (λ (low : x < y). low) (λ (high : y ≤ x). absurd (ne (omega arith))) (low_or_high x y)
+          where
+            low_or_high : (i n : ℕ) → (i < n) ⊎ (n ≤ i)
+            low_or_high i n = grind arith
+
+module _ (design : Design) (kept : IsDesign design) (places elements : List ℕ) (there : LeadsBack (length design.elements) places elements) (back : LeadsBack (length design.elements) elements places)
+    (found : Found) (pairs : List Pair) (h : IsFoundBefore (turned_design places design) (length design.elements) 0 found) (few : found.count ≤ 200000)
+    (moved : IsPermutation (map (pair_back elements) found.pairs.items) pairs) (sorted : IsNonDecreasingBy key_of pairs) where
+  is : found.pairs.items ≡ h.pairs
+  is = let count = h.has_pairs.count in h.has_pairs.kept (omega arith)
+
+  pub each_inside : All (λ (p : Pair). (p.from < length design.elements) × (p.to < length design.elements)) found.pairs.items
+  each_inside k d low = let at = subst (λ ps. All (HasExtremes (turned_design places design)) ps) (sym is) h.are_pairs.each in let extremes = at k d low in (extremes.from, extremes.to)
+
+  each_back : All (HasExtremes design) (map (pair_back elements) found.pairs.items)
+  each_back k d low =
+      let count = length-map found.pairs.items (pair_back elements) in
+      let at = subst (λ ps. All (HasExtremes (turned_design places design)) ps) (sym is) h.are_pairs.each in
+      let inside : k < length found.pairs.items = omega arith in
+      subst (λ p. HasExtremes design p) (sym (get_or-map (pair_back elements) found.pairs.items k d d inside)) (HasExtremes-back design places elements kept there back (get_or found.pairs.items k d) (at k d inside))
+
+  each_sorted : All (HasExtremes design) pairs
+  each_sorted = All-permutation (HasExtremes design) (map (pair_back elements) found.pairs.items) pairs moved each_back
+
+  apart : AreApart pairs
+  apart = AreApart-permutation (map (pair_back elements) found.pairs.items) pairs moved
+      (AreApart-back (length design.elements) kept.elements elements places back found.pairs.items each_inside (subst (λ ps. AllAdjacentBelow ComesBefore ps (length ps)) (sym is) h.are_pairs.ascending))
+
+  whole : (j l : ℕ) (path : List ℕ) → Precede (length design.elements) 0 j l → l < length design.elements → IsPath design.arcs j path (input_of l) →
+      (pair : Pair) × Contains pairs pair × (pair.from ≡ j) × (pair.to ≡ l)
+  whole j l path (inr g) below is_path = absurd (omega (arith, g.1))
+  whole j l path (inl from) below is_path =
+      let n : ℕ = length design.elements in
+      let turned = forth n (length design.inner) places elements there back design.arcs kept.each_arc j l path from below is_path in
+      let at = h.are_pairs.whole (row_of places l) j (reverse path) (inl (there.inside l below)) from turned in
+      let listed : Contains found.pairs.items at.0 = subst (λ ps. Contains ps at.0) (sym is) at.1 in
+      let in_map : Contains (map (pair_back elements) found.pairs.items) (pair_back elements at.0) =
+      (listed.0, omega (arith, listed.1, length-map found.pairs.items (pair_back elements)),
+      get_or-map (pair_back elements) found.pairs.items listed.0 at.0 (pair_back elements at.0) listed.1 ∙ ap (pair_back elements) listed.2) in
+      (pair_back elements at.0, Contains-permutation (map (pair_back elements) found.pairs.items) pairs (pair_back elements at.0) moved in_map, at.3, ap (row_of elements) at.2 ∙ there.leads l below)
+
+  pub IsFoundBefore-back : (new : Found) → new.count ≡ found.count → new.pairs.items ≡ pairs → IsFoundBefore design (length design.elements) 0 new
+  IsFoundBefore-back new same_count items = record {
+    pairs = pairs;
+    are_pairs = record {
+      each = each_sorted;
+      ascending = ascends (length design.elements) kept.elements pairs (λ k d low. (each_sorted k d low).to) apart sorted;
+      earlier = λ k d low. inl (each_sorted k d low).from;
+      whole = whole;
+    };
+    has_pairs = record {
+      count = let count = h.has_pairs.count in let same = counts in omega arith;
+      kept = λ few. items;
+    };
+    few = let most = h.few in let same = counts in omega arith;
+  }
+    where
+      counts : length pairs ≡ length h.pairs
+      counts = length_permutation (map (pair_back elements) found.pairs.items) pairs moved ∙ length-map found.pairs.items (pair_back elements) ∙ ap (λ (ps : List Pair). length ps) is

@@ -1,0 +1,32 @@
+use Rattle.std.proofs.Common.{◌≡◌, ◌≤◌, ℕ, List, length, map, arith, refl, subst, ap}
+use Rattle.std.specs.Vec.{with_items}
+use Rattle.std.specs.List.Sorted.{IsPermutation}
+use Rattle.std.proofs.lemmas.List.{with_items_is}
+use Rattle.mintc_timing.specs.declared.parts.Element.{Element}
+use Rattle.mintc_timing.specs.declared.parts.Pair.{Pair}
+use Rattle.mintc_timing.specs.Design.{Design}
+use Rattle.mintc_paths.specs.declared.found.Found.{Found}
+use Rattle.mintc_paths.specs.Sums.{AreRows}
+use Rattle.mintc_paths.specs.Turned.{pair_back}
+use Rattle.mintc_paths.proofs.TurnedPairs.{IsFoundBefore-back}
+use Rattle.mintc_paths.proofs.back.find_back.Goals as goal
+
+pub returns : goal.returns
+returns c =
+    let design : Design = c.args.flat.now in
+    let places : List ℕ = c.in-Ok.places.of_bits.items in
+    let elements : List ℕ = c.in-Ok.places.bits.items in
+    let count = ap (λ (xs : List Element). length xs) c.elements.ensures.value in
+    let rows : AreRows (length design.elements) c.in-Ok.places = subst (λ n. AreRows n c.in-Ok.places) count c.in-Ok.ensures in
+    let found : Found = c.in_ok-found.found in
+    let pairs : List Pair = c.turn_pairs.new.pairs in
+    let was = c.deref_mut.ensures.value in
+    let same_was = ap (λ (ps : List Pair). length ps) was in
+    let kept_count = c.turn_pairs.auto.pairs in
+    let filled = found.pairs.ok.0 in
+    let is : (with_items found.pairs pairs).items ≡ pairs = with_items_is found.pairs pairs (omega arith) in
+    let moved : IsPermutation (map (pair_back elements) found.pairs.items) pairs = subst (λ ps. IsPermutation (map (pair_back elements) ps) pairs) was c.turn_pairs.ensures.permutation in
+    record {
+      found = λ few. IsFoundBefore-back design c.elements.ensures.kept places elements rows.of_bits rows.bits found pairs c.in_ok-found.ensures.found few moved c.turn_pairs.ensures.sorted
+          (record { pairs = with_items found.pairs pairs; count = found.count }) refl is;
+    }

@@ -1,0 +1,6 @@
+use Rattle.std.proofs.Common.{◌≡◌, length}
+use Rattle.mintc_paths.specs.Sums.{AreRows}
+use Rattle.mintc_paths.proofs.turned.places_along.Given as goal
+
+abbrev pub invariant-loop-bit : goal.invariant-loop-bit
+invariant-loop-bit l = AreRows l.elements l.places

@@ -1,0 +1,85 @@
+//! The pairs of a design, by the way that has less to carry.
+ghost use Rattle.std.specs.Prelude.{◌≡◌, ◌≤◌, length, IfOk, IfErr, OnOk};
+ghost use Rattle.mintc_text.specs.Stops.{StopsAt};
+ghost use Rattle.mintc_timing.specs.Order.{IsOrder, ArePathsShort};
+ghost use Rattle.mintc_paths.specs.Found.{IsFoundBefore};
+ghost use Rattle.mintc_paths.specs.Refusals.{IsPathRange};
+
+use crate::back::find_back;
+use crate::blocks::{course_of, find_forth};
+use crate::found::Found;
+use crate::longest::are_runs_short;
+use mintc_text::Stop;
+use mintc_timing::{Flat, Order};
+use std::alloc::{AllocError, Global};
+
+/// How many are marked.
+fn count_marked(marks: &[bool]) -> usize {
+    let mut count = 0;
+    for mark in marks {
+        if *mark {
+            count += 1;
+        }
+    }
+    count
+}
+
+/// Whether inner bits enter the inputs of less than half as many elements as the outputs that enter inner bits.
+fn are_few_entered(alloc: Global, flat: &Flat) -> Result<bool, AllocError> {
+    let elements = flat.elements().len();
+    let mut entered = vec![in alloc; false; elements]?;
+    let mut left = vec![in alloc; false; elements]?;
+    for arc in flat.arcs() {
+        let (from, to) = (arc.from as usize, arc.to as usize);
+        if from < 2 * elements && to >= 2 * elements {
+            left[from / 2] = true;
+        }
+        if from >= 2 * elements && to < 2 * elements {
+            entered[to / 2] = true;
+        }
+    }
+    Ok(count_marked(&entered) < count_marked(&left) / 2)
+}
+
+/// Finds the pairs from the outputs on, along a course made anew.
+fn find_anew(alloc: Global, flat: &Flat, order: &Order) -> Result<Found, Stop>
+    requires { IsOrder flat.now.arcs order.now }
+    ensures found { IfOk result (IsFoundBefore flat.now (length flat.now.elements) 0) }
+    ensures few { IfOk result (λ found. found.count ≤ 4000000) }
+    ensures short { OnOk result (ArePathsShort flat.now) }
+    ensures stop { IfErr result (StopsAt (IsPathRange flat.now)) }
+{
+    let Ok(course) = course_of(alloc, flat, order) else {
+        return Err(Stop::OutOfMemory);
+    };
+    find_forth(alloc, flat, order, &course, false)
+}
+
+/// Finds the design's pairs. Where no path can be too long and few inputs are entered, sums are carried from there.
+pub fn find(alloc: Global, flat: &Flat, order: &Order) -> Result<Found, Stop>
+    requires { IsOrder flat.now.arcs order.now }
+    ensures found { IfOk result (IsFoundBefore flat.now (length flat.now.elements) 0) }
+    ensures few { IfOk result (λ found. found.count ≤ 4000000) }
+    ensures short { OnOk result (ArePathsShort flat.now) }
+    ensures stop { IfErr result (StopsAt (IsPathRange flat.now)) }
+{
+    let Ok(course) = course_of(alloc, flat, order) else {
+        return Err(Stop::OutOfMemory);
+    };
+    let Ok(known_short) = are_runs_short(alloc, flat, order, &course) else {
+        return Err(Stop::OutOfMemory);
+    };
+    let Ok(few) = are_few_entered(alloc, flat) else {
+        return Err(Stop::OutOfMemory);
+    };
+    if !known_short || !few {
+        return find_forth(alloc, flat, order, &course, known_short);
+    }
+    let Ok(found) = find_back(alloc, flat, order, course) else {
+        return Err(Stop::OutOfMemory);
+    };
+    if found.count > 200_000 {
+        return find_anew(alloc, flat, order);
+    }
+    Ok(found)
+}
