@@ -8,3 +8,4 @@ pub mod RefusalLaws
 pub mod CornerLaws
 pub mod OptimumLaws
 pub mod NumberLaws
+pub mod VerdictLaws

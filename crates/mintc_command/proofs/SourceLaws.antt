@@ -7,14 +7,15 @@ use Rattle.mintc_text.specs.declared.refusals.Stop.{Stop}
 use Rattle.mintc_text.specs.declared.refusals.Stop.TheVariants as stop
 use Rattle.mintc_text.specs.Stops.{StopsAt}
 use Rattle.mintc_timing.specs.Design.{Design, Timing}
+use Rattle.mintc_timing.specs.Accepted.{SystemsAreAccepted}
 use Rattle.mintc_timing.specs.Limits.{IsDesign}
-use Rattle.mintc_build.specs.Designs.{IsDesignRefusal}
-use Rattle.mintc_command.specs.Sources.{AreShort, Describes, Gives, HasNoDesign, IsLengthRefusal, IsSourceRefused, IsSystemOf, file_at}
+use Rattle.mintc_build.specs.Designs.{HasSystem, IsDesignRefusal}
+use Rattle.mintc_command.specs.Sources.{AreShort, Describes, Gives, GivesOrdered, HasNoDesign, IsLengthRefusal, IsSourceRefused, IsSystemOf, file_at}
 use Rattle.mintc_command.specs.declared.command.Source.{Source}
 use Rattle.mintc_command.specs.declared.reading.TheConstants.{LONGEST}
 
 -- What stops a system of the design of files stops the files.
-StopsAt-system : (source : Source) (files : List (List ℕ)) (design : Design) (s : Stop) → Describes source files design → IsDesign design → StopsAt (IsDesignRefusal design) s → StopsAt (IsSourceRefused source files) s
+pub StopsAt-system : (source : Source) (files : List (List ℕ)) (design : Design) (s : Stop) → Describes source files design → IsDesign design → StopsAt (IsDesignRefusal design) s → StopsAt (IsSourceRefused source files) s
 StopsAt-system source files design (stop.Refused refused) described limits h = inr (design, described, limits, h)
 StopsAt-system source files design stop.OutOfMemory described limits h = tt
 
@@ -33,6 +34,16 @@ pub Refuses-system : (source : Source) (files : List (List ℕ)) (design : Desig
     IfErr r (StopsAt (IsDesignRefusal design)) → IfErr r (StopsAt (IsSourceRefused source files))
 Refuses-system source files design (Ok t) described limits h = tt
 Refuses-system source files design (Err s) described limits h = StopsAt-system source files design s described limits h
+
+-- So is a design that has a system with an order of its arcs.
+pub GivesOrdered-system : SystemsAreAccepted → (source : Source) (files : List (List ℕ)) (design : Design) (order : List ℕ) → Describes source files design → IsDesign design →
+    HasSystem design order → GivesOrdered source files design order
+GivesOrdered-system accepted source files design order described limits h = record {
+  timing = record { flat = design; order = order; pairs = h.0 };
+  given = record { design = described; accepted = accepted design order h.0 limits h.1; pairs = h.1.extremes };
+  same = refl;
+  ordered = h.1.ordered;
+}
 
 -- What is said of the texts of four files is said of the files that a command names, whose source is this one.
 pub of_four : (Q : List ℕ → List ℕ → List ℕ → List ℕ → Type 0) (R : Source → Type 0) (own source : Source) (files : List (List ℕ)) (v d c k : List ℕ) →

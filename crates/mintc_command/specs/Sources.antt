@@ -6,6 +6,7 @@ use Rattle.mintc_text.specs.declared.refusals.Role.{Role}
 use Rattle.mintc_timing.specs.Design.{Design, Timing}
 use Rattle.mintc_timing.specs.Accepted.{IsAccepted}
 use Rattle.mintc_timing.specs.Limits.{IsDesign}
+use Rattle.mintc_timing.specs.Order.{IsOrder}
 use Rattle.mintc_timing.specs.Paths.{ArePairs}
 use Rattle.mintc_timing.specs.TableText.{IsTableText, IsTableRefusal}
 use Rattle.mintc_build.specs.Designs.{IsDesignRefusal}
@@ -57,6 +58,13 @@ pub record Gives (source : Source) (files : List (List ℕ)) (t : Timing) : Type
   pub design : Describes source files t.flat
   pub accepted : IsAccepted t.flat
   pub pairs : ArePairs t.flat t.pairs
+
+-- The files stand for this design, which is accepted, and this is an order of its arcs. The timing has its pairs.
+pub record GivesOrdered (source : Source) (files : List (List ℕ)) (design : Design) (order : List ℕ) : Type 0 where
+  pub timing : Timing
+  pub given : Gives source files timing
+  pub same : timing.flat ≡ design
+  pub ordered : IsOrder design.arcs order
 
 -- The files stand for no design, or for one within the limits that has no system.
 abbrev pub IsSourceRefused : Source → List (List ℕ) → Refusal → Type 0

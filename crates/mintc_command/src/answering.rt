@@ -16,7 +16,7 @@ use crate::optimum::{optimised, reported, summarised};
 use crate::reading::LONGEST;
 use crate::refusing::refused;
 use crate::slacks::slacked;
-use crate::source::{own_file, system_of, too_long};
+use crate::source::{Ordered, ordered_of, own_file, system_of, too_long};
 use crate::verifying::verified;
 use mintc_sample::files;
 use mintc_text::{Bytes, OutOfMemory, Refusal, Stop};
@@ -29,9 +29,10 @@ fn answered(alloc: Global, job: Job, system: &System, file: &[u8]) -> Result<Ans
     ensures value { IfOk result (λ answer. IsJobAnswer job system.now file.now answer.status answer.text) }
     ensures stop { IfErr result (StopsAt (IsFileRefused job system.now file.now)) }
 {
+    let _pairs = system.pairs();
     let answer = match job {
         Job::Check => return checked(alloc, system, file),
-        Job::Verify => return verified(alloc, system, file),
+        Job::Verify => return verified(alloc, system.flat(), system.order(), file),
         Job::Optimise => optimised(alloc, system),
         Job::Report => reported(alloc, system),
         Job::Safe => kept(alloc, system),
@@ -43,6 +44,21 @@ fn answered(alloc: Global, job: Job, system: &System, file: &[u8]) -> Result<Ans
     }
 }
 
+/// The verdict on a certificate, from the texts of a design and of the certificate, none of them too long, or their first
+/// refusal.
+fn verdict_answer(alloc: Global, source: Source, texts: &[Bytes]) -> Result<Answer, Stop>
+    requires count { length texts.now ≡ length (content_roles (Command.OfDesign Job.Verify source)) }
+    requires short { AreShort texts.now }
+    ensures value { IfOk result (λ answer. IsContentAnswer (Command.OfDesign Job.Verify source) texts.now answer.status answer.text) }
+    ensures stop { IfErr result (StopsAt (IsContentRefusal (Command.OfDesign Job.Verify source) texts.now)) }
+{
+    let Ordered { flat, order } = match ordered_of(alloc, source, texts) {
+        Ok(ordered) => ordered,
+        Err(stop) => return Err(stop),
+    };
+    verified(alloc, &flat, &order, own_file(source, texts))
+}
+
 /// The answer to a job on the texts of a design and of the file beside them, none of them too long, or their first refusal.
 fn design_answer(alloc: Global, job: Job, source: Source, texts: &[Bytes]) -> Result<Answer, Stop>
     requires count { length texts.now ≡ length (content_roles (Command.OfDesign job source)) }
@@ -50,6 +66,9 @@ fn design_answer(alloc: Global, job: Job, source: Source, texts: &[Bytes]) -> Re
     ensures value { IfOk result (λ answer. IsContentAnswer (Command.OfDesign job source) texts.now answer.status answer.text) }
     ensures stop { IfErr result (StopsAt (IsContentRefusal (Command.OfDesign job source) texts.now)) }
 {
+    if let Job::Verify = job {
+        return verdict_answer(alloc, source, texts);
+    }
     let system = match system_of(alloc, source, texts) {
         Ok(system) => system,
         Err(stop) => return Err(stop),

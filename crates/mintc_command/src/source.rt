@@ -4,13 +4,13 @@ ghost use Rattle.mintc_text.specs.Stops.{StopsAt};
 ghost use Rattle.mintc_command.specs.Commands.{source_roles};
 ghost use Rattle.mintc_timing.specs.Limits.{IsDesign};
 ghost use Rattle.mintc_build.specs.Designs.{IsDesignRefusal};
-ghost use Rattle.mintc_command.specs.Sources.{AreShort, Describes, Gives, HasNoDesign, IsLengthRefusal, IsSourceRefused, IsSystemOf, own_file};
+ghost use Rattle.mintc_command.specs.Sources.{AreShort, Describes, Gives, GivesOrdered, HasNoDesign, IsLengthRefusal, IsSourceRefused, IsSystemOf, own_file};
 
 use crate::command::Source;
 use crate::reading::LONGEST;
-use mintc_build::{from_files, from_liberty, from_table, system};
+use mintc_build::{from_files, from_liberty, from_table, system, system_order};
 use mintc_text::{Bytes, Refusal, Role, Stop};
-use mintc_timing::{Flat, System, systems_are_accepted};
+use mintc_timing::{Flat, Order, System, systems_are_accepted};
 use std::alloc::Global;
 
 /// The refusal of the first file that is too long.
@@ -81,6 +81,32 @@ pub fn system_of(alloc: Global, source: Source, files: &[Bytes]) -> Result<Syste
         Err(stop) => return Err(stop),
     };
     accepted_system(alloc, flat)
+}
+
+/// A design and an order of its arcs.
+#[derive(Drop)]
+pub struct Ordered {
+    pub flat: Flat,
+    pub order: Order,
+}
+
+/// The design that the first files give, where it has a system, or the first refusal of these files. Its pairs aren't listed.
+pub fn ordered_of(alloc: Global, source: Source, files: &[Bytes]) -> Result<Ordered, Stop>
+    requires all { length (source_roles source) ≤ length files.now }
+    requires short { AreShort files.now }
+    ensures value { IfOk result (λ ordered. GivesOrdered source files.now ordered.flat ordered.order) }
+    ensures stop { IfErr result (StopsAt (IsSourceRefused source files.now)) }
+{
+    let flat = match design_of(alloc, source, files) {
+        Ok(flat) => flat,
+        Err(stop) => return Err(stop),
+    };
+    systems_are_accepted();
+    let _phases = flat.phases();
+    match system_order(alloc, &flat) {
+        Ok(order) => Ok(Ordered { flat, order }),
+        Err(stop) => Err(stop),
+    }
 }
 
 /// The bytes of the file that stands after those of the design, or none where there is no such file.

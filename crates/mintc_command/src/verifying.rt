@@ -1,18 +1,22 @@
 //! The answer of `verify`: the verdict on a certificate.
 ghost use Rattle.std.specs.Prelude.{◌≡◌, ◌≤◌, length, IfOk, IfErr};
 ghost use Rattle.mintc_text.specs.Stops.{StopsAt};
+ghost use Rattle.mintc_timing.specs.Design.{Timing};
+ghost use Rattle.mintc_timing.specs.Order.{ArePathsShort, IsOrder};
+ghost use Rattle.mintc_timing.specs.Paths.{ArePairs};
+ghost use Rattle.mintc_certificate.specs.CertificateText.{IsCertificateRefusal};
 ghost use Rattle.mintc_certificate.specs.Ranges.{IsCertificateInRange};
-ghost use Rattle.mintc_command.specs.Jobs.{IsFileRefused, IsJobAnswer, IsVerdictAnswer, verdict_status};
+ghost use Rattle.mintc_command.specs.Jobs.{IsJobAnswer, IsVerdictAnswer, verdict_status};
 
 use crate::answer::Answer;
 use crate::command::Job;
 use crate::reading::LONGEST;
 use crate::status::Status;
 use mintc_certificate::{Certificate, read};
-use mintc_checker::{Verdict, examine};
+use mintc_checker::{Verdict, examine_flat};
 use mintc_report::verdict_text;
 use mintc_text::{Bytes, OutOfMemory, Stop};
-use mintc_timing::System;
+use mintc_timing::{Flat, Order};
 use std::alloc::Global;
 
 /// How a run ends that has this verdict.
@@ -25,16 +29,19 @@ fn status_of(verdict: Verdict) -> Status
     }
 }
 
-/// The verdict on a certificate of a system.
+/// The verdict on a certificate of a design.
 fn examined(
     alloc: Global,
-    system: &System,
+    flat: &Flat,
+    order: &Order,
     certificate: &Certificate,
 ) -> Result<Answer, OutOfMemory>
-    requires { IsCertificateInRange certificate.now }
-    ensures { IfOk result (λ answer. IsVerdictAnswer system.now certificate.now answer.status answer.text) }
+    requires order { IsOrder flat.now.arcs order.now }
+    requires short { ArePathsShort flat.now }
+    requires in_range { IsCertificateInRange certificate.now }
+    ensures { IfOk result (λ answer. (t : Timing) → t.flat ≡ flat.now → ArePairs t.flat t.pairs → IsVerdictAnswer t certificate.now answer.status answer.text) }
 {
-    let verdict = examine(alloc, system, certificate)?;
+    let verdict = examine_flat(alloc, flat, order, certificate)?;
     let text = verdict_text(alloc, &verdict)?;
     Ok(Answer {
         status: status_of(verdict),
@@ -42,17 +49,19 @@ fn examined(
     })
 }
 
-/// The verdict on the certificate of a text, or why the text is refused.
-pub fn verified(alloc: Global, system: &System, file: &[u8]) -> Result<Answer, Stop>
-    requires { length file.now ≤ LONGEST }
-    ensures value { IfOk result (λ answer. IsJobAnswer Job.Verify system.now file.now answer.status answer.text) }
-    ensures stop { IfErr result (StopsAt (IsFileRefused Job.Verify system.now file.now)) }
+/// The verdict on the certificate of a text, or why the text is refused. It is the same for each list of the design's pairs.
+pub fn verified(alloc: Global, flat: &Flat, order: &Order, file: &[u8]) -> Result<Answer, Stop>
+    requires order { IsOrder flat.now.arcs order.now }
+    requires short { ArePathsShort flat.now }
+    requires file { length file.now ≤ LONGEST }
+    ensures value { IfOk result (λ answer. (t : Timing) → t.flat ≡ flat.now → ArePairs t.flat t.pairs → IsJobAnswer Job.Verify t file.now answer.status answer.text) }
+    ensures stop { IfErr result (StopsAt (IsCertificateRefusal file.now)) }
 {
     let certificate = match read(alloc, file) {
         Ok(certificate) => certificate,
         Err(stop) => return Err(stop),
     };
-    match examined(alloc, system, &certificate) {
+    match examined(alloc, flat, order, &certificate) {
         Ok(answer) => Ok(answer),
         Err(OutOfMemory) => Err(Stop::OutOfMemory),
     }
