@@ -1,16 +1,16 @@
 -- The cells of a library, statement by statement.
-use Rattle.std.proofs.Common.{◌≡◌, ℕ, suc, ◌<◌, Bool, true, false, not, cond, ◌&&◌, if◌then◌else◌, List, [], ◌∷◌, ◌++◌, length, filter, flat_map, Option, Some, None, MatchBool, MatchOption, bytes_eq, codes, refl, sym, ap, ◌∙◌, arith, true≢false, append_assoc}
+use Rattle.std.proofs.Common.{◌≡◌, ℕ, Bool, true, false, not, cond, List, [], ◌∷◌, ◌++◌, filter, Option, Some, None, MatchBool, MatchOption, bytes_eq, codes, refl, sym, ap, ◌∙◌, true≢false}
 use Rattle.std.proofs.lemmas.Grind.{flat_map-append}
 use Rattle.std.proofs.lemmas.List.Elements.{filter-append}
 use Rattle.mintc_document.specs.Rules.{is_name}
 use Rattle.mintc_liblex.specs.declared.reader.Kind.TheVariants as kind
-use Rattle.mintc_liblex.specs.Tokens.{Token, opening, closing, left, right, colon, semicolon, comma, word, string, bad, is_item, after_left}
+use Rattle.mintc_liblex.specs.Tokens.{Token, opening, closing, left, right, colon, semicolon, comma, word, string, bad, is_item}
 use Rattle.mintc_liblex.specs.Statements.{taken, front}
-use Rattle.mintc_liblex.specs.Reading.{kind_of, word_at, name_at, items_rest, call_rest, statement_rest}
-use Rattle.mintc_liblex.proofs.NestLaws.{word-there, call-same}
+use Rattle.mintc_liblex.specs.Reading.{kind_of, word_at, name_at, statement_rest}
+use Rattle.mintc_liblex.proofs.NestLaws.{word-there}
 use Rattle.mintc_liberty.specs.Meaning.{Group, groups, cells_in, cell_in, only_name, under}
 use Rattle.mintc_liberty.specs.Passing.{group_from, group_at, body_at}
-use Rattle.mintc_liberty.specs.Places.{Entry, is_named, named_in, named_cells, next_in, cells_next, opened, entry_from, statements_in, name_or_none}
+use Rattle.mintc_liberty.specs.Places.{is_named, named_in, named_cells, next_in, cells_next, opened, entry_from, statements_in, name_or_none}
 use Rattle.mintc_liberty.proofs.GroupLaws.{group_if, group-step, group-end}
 
 pub opened-there : (ts us vs : List Token) (w : List ℕ) → word_at ts ≡ Some (w, us) → us ≡ opening ∷ vs → opened ts ≡ Some vs
@@ -31,19 +31,6 @@ unopened w (bad ∷ ts) n = refl
 
 pub opened-not : (ts us : List Token) (w : List ℕ) → word_at ts ≡ Some (w, us) → (kind.Opening ≡ kind_of us → ⊥) → opened ts ≡ None
 opened-not ts us w e n = ap opened (word-there ts us w e) ∙ unopened w us n
-
-pub opened-none : (ts : List Token) → word_at ts ≡ None → opened ts ≡ None
-opened-none [] e = refl
-opened-none (opening ∷ ts) e = refl
-opened-none (closing ∷ ts) e = refl
-opened-none (left ∷ ts) e = refl
-opened-none (right ∷ ts) e = refl
-opened-none (colon ∷ ts) e = refl
-opened-none (semicolon ∷ ts) e = refl
-opened-none (comma ∷ ts) e = refl
-opened-none (word v ∷ ts) e = absurd (cc)
-opened-none (string v ∷ ts) e = refl
-opened-none (bad ∷ ts) e = refl
 
 -- what opens, and with which word
 abbrev Opens : List Token → List Token → Type 0
@@ -75,13 +62,6 @@ opened-is (word v ∷ ts) us e = opened-word v ts us e
 opened-is (string v ∷ ts) us e = absurd (cc)
 opened-is (bad ∷ ts) us e = absurd (cc)
 
-pub opened-shorter : (ts us : List Token) → opened ts ≡ Some us → length us < length ts
-opened-shorter ts us e = let o = opened-is ts us e in let l = ap length o.1 in omega (arith, l)
-
--- a statement that opens is what follows its parenthesis
-pub opened-rest : (room : ℕ) (ts us : List Token) → opened ts ≡ Some us → statement_rest room ts ≡ call_rest room us
-opened-rest room ts us e = let o = opened-is ts us e in ap (statement_rest room) o.1 ∙ call-same room o.0 us
-
 -- Groups, of which cells are some
 
 named-append : (gs hs : List Group) → named_in (gs ++ hs) ≡ named_in gs ++ named_in hs
@@ -104,16 +84,6 @@ cells-end ts e = ap named_in (group-end 63 ts e)
 
 -- Whether the next group is a cell
 
-pub no-group : (ts : List Token) → group_at ts ≡ None → cells_next ts ≡ []
-no-group ts e = ap next_in e
-
-other-by : (b : Bool) (es : List Entry) → true ≡ not b → filter is_named (cond b es [] ++ []) ≡ []
-other-by true es e = absurd (true≢false e)
-other-by false es e = refl
-
-pub other-group : (ts : List Token) (w : List ℕ) (items inside : List Token) → group_at ts ≡ Some (w, items, inside) → true ≡ not (bytes_eq w (codes "cell")) → cells_next ts ≡ []
-other-group ts w items inside e n = ap next_in e ∙ other-by (bytes_eq w (codes "cell")) (under (front 62 inside).statements (only_name (taken is_item items))) n
-
 cell-is : (b : Bool) → false ≡ not b → b ≡ true
 cell-is true e = refl
 cell-is false e = absurd (true≢false (sym e))
@@ -123,10 +93,6 @@ cell-next : (ts : List Token) (w : List ℕ) (items inside : List Token) → gro
     cells_next ts ≡ filter is_named (under (front 62 inside).statements (only_name (taken is_item items)) ++ [])
 cell-next ts w items inside e n =
     ap next_in e ∙ ap (λ b. filter is_named (cond b (under (front 62 inside).statements (only_name (taken is_item items))) [] ++ [])) (cell-is (bytes_eq w (codes "cell")) n)
-
-pub no-name : (ts : List Token) (w : List ℕ) (items inside : List Token) → group_at ts ≡ Some (w, items, inside) → false ≡ not (bytes_eq w (codes "cell")) →
-    only_name (taken is_item items) ≡ None → cells_next ts ≡ []
-no-name ts w items inside e n o = cell-next ts w items inside e n ∙ ap (λ m. filter is_named (under (front 62 inside).statements m ++ [])) o
 
 named-next : (ts : List Token) (w name : List ℕ) (items inside : List Token) → group_at ts ≡ Some (w, items, inside) → false ≡ not (bytes_eq w (codes "cell")) →
     only_name (taken is_item items) ≡ Some name → cells_next ts ≡ cond (is_name name) ((name, (front 62 inside).statements) ∷ []) []

@@ -19,7 +19,7 @@ use mintc_text::{Name, OutOfMemory, Refusal, Role, Stop};
 use std::alloc::Global;
 
 /// How deep groups nest in the library, which is the first of 64.
-const ROOM: u32 = 63;
+pub const ROOM: u32 = 63;
 
 /// Behind `library`, passes `( item ) {`.
 fn behind_name(scanner: &mut Scanner) -> bool

@@ -103,12 +103,22 @@ fn add_stripped(out: &mut Vec<u8>, bytes: &[u8]) -> Result<(), OutOfMemory>
     Ok(())
 }
 
+/// How many bytes a value has.
+fn size(value: &Reader) -> usize {
+    let mut reader = value.copy();
+    let mut size: usize = 0;
+    while let Some(piece) = value_token(&mut reader) {
+        size = size.saturating_add(piece.len());
+    }
+    size
+}
+
 /// A value's bytes without white space.
 pub fn stripped(alloc: Global, value: &Reader) -> Result<Vec<u8>, OutOfMemory>
     ensures { IfOk result (λ bytes. bytes.items ≡ stripped (value_bytes value.now)) }
 {
     let mut reader = value.copy();
-    let mut out = Vec::new(alloc);
+    let mut out = Vec::with_capacity(alloc, size(value))?;
     while let Some(piece) = value_token(&mut reader) {
         add_stripped(&mut out, piece)?;
     }

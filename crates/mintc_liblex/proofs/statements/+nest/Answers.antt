@@ -53,7 +53,7 @@ statements-loop-room-preserved t c =
     record {
       same =
           c.loop-room.invariant.same ∙ ap (group_rest c.args.room) (sym (same-tokens _ _ c.if-mark.ensures.passed.1))
-      ∙ group-more c.args.room c.mark.new.scanner.tokens c.statement.new.scanner.tokens c.if-not-statement.ensures.passed;
+          ∙ group-more c.args.room c.mark.new.scanner.tokens c.statement.new.scanner.tokens c.if-not-statement.ensures.passed;
       ahead = ahead-then _ _ _ c.loop-room.invariant.ahead (ahead-then _ _ _ c.if-mark.ensures.ahead c.if-not-statement.ensures.ahead);
     }
 
