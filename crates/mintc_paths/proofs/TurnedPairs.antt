@@ -1,7 +1,7 @@
 -- Pairs turned back are those of the design.
 use Rattle.std.proofs.Common.{◌≡◌, ◌≢◌, ℕ, zero, suc, ◌<◌, ◌≤◌, ◌+◌, ◌-◌, ◌*◌, List, length, get_or, map, reverse, arith, refl, ap, ◌∙◌, sym, subst, ◌⊎◌, inl, inr, ⊎_elim}
 use Rattle.std.proofs.lemmas.Bool.{cases_eq}
-use Rattle.std.proofs.lemmas.List.{get_or-map, get_or_default}
+use Rattle.std.proofs.lemmas.List.{get_or-map}
 use Rattle.std.proofs.lemmas.List.Edits.{length-swap, swapped_from_swap}
 use Rattle.std.proofs.lemmas.List.Sorted.{IsPermutation-keeps, All-permutation, Contains-permutation, length_permutation}
 use Rattle.std.proofs.Math.ListN.{length-map}
@@ -12,7 +12,7 @@ use Rattle.mintc_timing.specs.Design.{Design}
 use Rattle.mintc_timing.specs.Limits.{IsDesign}
 use Rattle.mintc_timing.specs.Paths.{IsPath, input_of, HasExtremes, ComesBefore}
 use Rattle.mintc_paths.specs.declared.found.Found.{Found}
-use Rattle.mintc_paths.specs.Found.{Precede, ArePairsBefore, IsFoundBefore}
+use Rattle.mintc_paths.specs.Found.{Precede, IsFoundBefore}
 use Rattle.mintc_paths.specs.Sums.{row_of, LeadsBack}
 use Rattle.mintc_paths.specs.Turned.{turned_design, pair_back, key_of}
 use Rattle.mintc_paths.proofs.TurnedPaths.{forth, HasExtremes-back}
@@ -81,8 +81,10 @@ module _ (n : ℕ) (few : n ≤ 2000) (elements places : List ℕ) (back : Leads
     where
       order_of : (i j : ℕ) → (i ≡ j) ⊎ (i < j) ⊎ (j < i)
       order_of i j = grind arith
+
       far : (i j : ℕ) → i < j → i + suc (j - i - 1) ≡ j
       far i j h = omega arith
+
       by_order : (i ≡ j) ⊎ (i < j) ⊎ (j < i) → i ≡ j
       by_order (inl same) = same
       by_order (inr (inl less)) = let up = subst (λ m. key_of (get_or pairs i d) < key_of (get_or pairs m d)) (far i j less) (rises (j - i - 1) i d (subst (λ m. m < length pairs) (sym (far i j less)) low_j)) in absurd (omega arith)
@@ -121,6 +123,7 @@ ascends n few pairs inside apart sorted k d below =
       where
         low_or_high : (i n : ℕ) → (i < n) ⊎ (n ≤ i)
         low_or_high i n = grind arith
+
     comes : (p q : Pair) → p.to < 2048 → q.to < 2048 → key_of p ≤ key_of q → (key_of p ≡ key_of q → ⊥) → ComesBefore p q
     comes p q in_p in_q order ne = split p.from q.from p.to q.to in_p in_q (less (key_of p) (key_of q) order ne)
       where
@@ -161,9 +164,11 @@ module _ (design : Design) (kept : IsDesign design) (places elements : List ℕ)
       let turned = forth n (length design.inner) places elements there back design.arcs kept.each_arc j l path from below is_path in
       let at = h.are_pairs.whole (row_of places l) j (reverse path) (inl (there.inside l below)) from turned in
       let listed : Contains found.pairs.items at.0 = subst (λ ps. Contains ps at.0) (sym is) at.1 in
-      let in_map : Contains (map (pair_back elements) found.pairs.items) (pair_back elements at.0) =
-      (listed.0, omega (arith, listed.1, length-map found.pairs.items (pair_back elements)),
-      get_or-map (pair_back elements) found.pairs.items listed.0 at.0 (pair_back elements at.0) listed.1 ∙ ap (pair_back elements) listed.2) in
+      let in_map : Contains (map (pair_back elements) found.pairs.items) (pair_back elements at.0) = (
+        listed.0,
+        omega (arith, listed.1, length-map found.pairs.items (pair_back elements)),
+        get_or-map (pair_back elements) found.pairs.items listed.0 at.0 (pair_back elements at.0) listed.1 ∙ ap (pair_back elements) listed.2,
+      ) in
       (pair_back elements at.0, Contains-permutation (map (pair_back elements) found.pairs.items) pairs (pair_back elements at.0) moved in_map, at.3, ap (row_of elements) at.2 ∙ there.leads l below)
 
   pub IsFoundBefore-back : (new : Found) → new.count ≡ found.count → new.pairs.items ≡ pairs → IsFoundBefore design (length design.elements) 0 new

@@ -1,4 +1,4 @@
-use Rattle.std.proofs.Common.{◌≡◌, ◌≤◌, ℕ, List, length, map, arith, refl, subst, ap}
+use Rattle.std.proofs.Common.{◌≡◌, ℕ, List, length, map, arith, refl, subst, ap}
 use Rattle.std.specs.Vec.{with_items}
 use Rattle.std.specs.List.Sorted.{IsPermutation}
 use Rattle.std.proofs.lemmas.List.{with_items_is}
