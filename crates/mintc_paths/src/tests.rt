@@ -483,3 +483,40 @@ fn a_sum_at_the_limit_is_none_above(rt: HostRuntime) -> Result<(), Fail> {
     assert_eq!(rt; (element, bit), (1, 4));
     Ok(())
 }
+
+/// An inner bit that 2,000 outputs enter and that leads to 101 inputs.
+fn many_text(alloc: Global) -> Result<String, AllocError> {
+    let mut text = String::new(alloc);
+    text.push_str("table 1\nphases 1\nphase p\nelements 2000\n")?;
+    for _ in 0..2000 {
+        text.push_str("element a 1 0 - 0 0 0\n")?;
+    }
+    text.push_str("inner 1\narcs 2101\n")?;
+    for from in 0..2000 {
+        text.push_str(&format!(in alloc; "arc q{from} n0 1 2\n")?)?;
+    }
+    for to in 0..101 {
+        text.push_str(&format!(in alloc; "arc n0 d{to} 3 4\n")?)?;
+    }
+    text.push_str("bounds 0\nend\n")?;
+    Ok(text)
+}
+
+#[test]
+fn pairs_beyond_the_limit_are_counted_from_the_inputs(rt: HostRuntime) -> Result<(), Fail> {
+    let alloc = rt.alloc();
+    let text = many_text(alloc).ok().ok_or("no memory")?;
+    let Err(
+        Stop::Refused(
+            Refusal::Limit {
+                kind: Kind::Pairs,
+                count,
+            },
+        ),
+    ) = system_of_text(&rt, alloc, &text)
+    else {
+        return Err("accepted".into());
+    };
+    assert_eq!(rt; count, 202_000);
+    Ok(())
+}
