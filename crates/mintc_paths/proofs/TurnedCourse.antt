@@ -2,14 +2,14 @@
 use Rattle.std.proofs.Common.{◌≡◌, ℕ, ◌<◌, ◌≤◌, ◌+◌, ◌-◌, ◌*◌, List, length, get_or, reverse, arith, refl, ap, ◌∙◌, sym, subst}
 use Rattle.std.proofs.lemmas.List.{length-reverse}
 use Rattle.mintc_timing.specs.declared.parts.TimingArc.{TimingArc}
-use Rattle.mintc_timing.specs.Design.{Design, no_arc}
+use Rattle.mintc_timing.specs.Design.{Design}
 use Rattle.mintc_timing.specs.Limits.{IsArc, IsDesign}
 use Rattle.mintc_timing.specs.Order.{IsOrder}
 use Rattle.mintc_timing.specs.Paths.{arc_at}
 use Rattle.mintc_paths.specs.declared.rows.Rows.{Rows}
 use Rattle.mintc_paths.specs.declared.rows.Course.{Course}
 use Rattle.mintc_paths.specs.Spans.{AreSpans}
-use Rattle.mintc_paths.specs.Sums.{row_of, moved, LeadsBack, AreRows, AreAlong, IsCourse}
+use Rattle.mintc_paths.specs.Sums.{row_of, moved, AreRows, IsCourse}
 use Rattle.mintc_paths.specs.Turned.{turned_bit, bit_before, flipped, turned_arc, turned_arcs}
 use Rattle.mintc_paths.proofs.Filling.{arc_inside}
 use Rattle.mintc_paths.proofs.Turning.{before_turned, turned_before, turned_below, before_below}

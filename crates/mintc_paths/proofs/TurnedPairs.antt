@@ -1,9 +1,10 @@
 -- Pairs turned back are those of the design.
-use Rattle.std.proofs.Common.{◌≡◌, ◌≢◌, ℕ, zero, suc, ◌<◌, ◌≤◌, ◌+◌, ◌-◌, ◌*◌, List, length, get_or, map, reverse, arith, refl, ap, ◌∙◌, sym, subst, ◌⊎◌, inl, inr, ⊎_elim}
+use Rattle.std.proofs.Common.{◌≡◌, ◌≢◌, ℕ, zero, suc, ◌<◌, ◌≤◌, ◌+◌, ◌-◌, ◌*◌, List, [], ◌∷◌, length, get_or, map, reverse, arith, refl, ap, ◌∙◌, sym, subst, ◌⊎◌, inl, inr, ⊎_elim}
 use Rattle.std.proofs.lemmas.Bool.{cases_eq}
-use Rattle.std.proofs.lemmas.List.{get_or-map, get_or_default}
+use Rattle.std.proofs.lemmas.List.{get_or-map}
 use Rattle.std.proofs.lemmas.List.Edits.{length-swap, swapped_from_swap}
-use Rattle.std.proofs.lemmas.List.Sorted.{IsPermutation-keeps, All-permutation, Contains-permutation, length_permutation}
+use Rattle.std.proofs.lemmas.List.Sorted.{IsPermutation-keeps, IsPermutation-refl, IsPermutation-cons, IsPermutation-swap, IsPermutation-trans, All-permutation, Contains-permutation, length_permutation}
+use Rattle.std.proofs.lemmas.List.Elements.{All-cons}
 use Rattle.std.proofs.Math.ListN.{length-map}
 use Rattle.std.specs.List.{All, AllAdjacentBelow, Contains, swap}
 use Rattle.std.specs.List.Sorted.{IsPermutation, IsNonDecreasingBy}
@@ -12,7 +13,7 @@ use Rattle.mintc_timing.specs.Design.{Design}
 use Rattle.mintc_timing.specs.Limits.{IsDesign}
 use Rattle.mintc_timing.specs.Paths.{IsPath, input_of, HasExtremes, ComesBefore}
 use Rattle.mintc_paths.specs.declared.found.Found.{Found}
-use Rattle.mintc_paths.specs.Found.{Precede, ArePairsBefore, IsFoundBefore}
+use Rattle.mintc_paths.specs.Found.{Precede, IsFoundBefore}
 use Rattle.mintc_paths.specs.Sums.{row_of, LeadsBack}
 use Rattle.mintc_paths.specs.Turned.{turned_design, pair_back, key_of}
 use Rattle.mintc_paths.proofs.TurnedPaths.{forth, HasExtremes-back}
@@ -81,8 +82,10 @@ module _ (n : ℕ) (few : n ≤ 2000) (elements places : List ℕ) (back : Leads
     where
       order_of : (i j : ℕ) → (i ≡ j) ⊎ (i < j) ⊎ (j < i)
       order_of i j = grind arith
+
       far : (i j : ℕ) → i < j → i + suc (j - i - 1) ≡ j
       far i j h = omega arith
+
       by_order : (i ≡ j) ⊎ (i < j) ⊎ (j < i) → i ≡ j
       by_order (inl same) = same
       by_order (inr (inl less)) = let up = subst (λ m. key_of (get_or pairs i d) < key_of (get_or pairs m d)) (far i j less) (rises (j - i - 1) i d (subst (λ m. m < length pairs) (sym (far i j less)) low_j)) in absurd (omega arith)
@@ -121,6 +124,7 @@ ascends n few pairs inside apart sorted k d below =
       where
         low_or_high : (i n : ℕ) → (i < n) ⊎ (n ≤ i)
         low_or_high i n = grind arith
+
     comes : (p q : Pair) → p.to < 2048 → q.to < 2048 → key_of p ≤ key_of q → (key_of p ≡ key_of q → ⊥) → ComesBefore p q
     comes p q in_p in_q order ne = split p.from q.from p.to q.to in_p in_q (less (key_of p) (key_of q) order ne)
       where
@@ -130,57 +134,117 @@ ascends n few pairs inside apart sorted k d below =
             low_or_high : (i n : ℕ) → (i < n) ⊎ (n ≤ i)
             low_or_high i n = grind arith
 
+-- Keys don't fall along the list.
+Rising : List Pair → Type 0
+Rising [] = Unit {0}
+Rising (x ∷ xs) = All (λ (y : Pair). key_of x ≤ key_of y) xs × Rising xs
+
+not_above_or_below : (x y : ℕ) → (x ≤ y) ⊎ (y ≤ x)
+not_above_or_below x y = grind arith
+
+inserted : (x : Pair) (ys : List Pair) → Rising ys → (zs : List Pair) × IsPermutation (x ∷ ys) zs × Rising zs
+unfolding Rising
+inserted x [] h = (x ∷ [], IsPermutation-refl (x ∷ []), ((λ k d low. absurd (omega arith)), tt))
+inserted x (y ∷ ys) h = ⊎_elim
+    (λ (low : key_of x ≤ key_of y).
+    let above : All (λ (z : Pair). key_of x ≤ key_of z) ys = λ k d inside. let order = h.0 k d inside in omega arith in
+    (x ∷ y ∷ ys, IsPermutation-refl (x ∷ y ∷ ys), (All-cons (λ (z : Pair). key_of x ≤ key_of z) y ys low above, h)))
+    (λ (high : key_of y ≤ key_of x).
+    let rest = inserted x ys h.1 in
+    let swapped : IsPermutation (x ∷ y ∷ ys) (y ∷ x ∷ ys) = IsPermutation-swap (x ∷ y ∷ ys) (y ∷ x ∷ ys) 0 1 (omega arith) (omega arith) refl in (
+      y ∷ rest.0,
+      IsPermutation-trans (x ∷ y ∷ ys) (y ∷ x ∷ ys) (y ∷ rest.0) swapped (IsPermutation-cons y (x ∷ ys) rest.0 rest.1),
+      (All-permutation (λ (z : Pair). key_of y ≤ key_of z) (x ∷ ys) rest.0 rest.1 (All-cons (λ (z : Pair). key_of y ≤ key_of z) x ys high h.0), rest.2),
+    ))
+    (not_above_or_below (key_of x) (key_of y))
+
+-- Each list has an order by keys.
+sorted_of : (xs : List Pair) → (ys : List Pair) × IsPermutation xs ys × Rising ys
+unfolding Rising
+sorted_of [] = ([], IsPermutation-refl [], tt)
+sorted_of (x ∷ xs) =
+    let rest = sorted_of xs in
+    let more = inserted x rest.0 rest.2 in
+    (more.0, IsPermutation-trans (x ∷ xs) (x ∷ rest.0) more.0 (IsPermutation-cons x xs rest.0 rest.1) more.1, more.2)
+
+sorted_from_rising : (xs : List Pair) → Rising xs → IsNonDecreasingBy key_of xs
+unfolding Rising
+sorted_from_rising [] h i j d order low = absurd (omega arith)
+sorted_from_rising (x ∷ xs) h zero zero d order low = omega arith
+sorted_from_rising (x ∷ xs) h zero (suc j) d order low = h.0 j d (omega arith)
+sorted_from_rising (x ∷ xs) h (suc i) zero d order low = absurd (omega arith)
+sorted_from_rising (x ∷ xs) h (suc i) (suc j) d order low = sorted_from_rising xs h.1 i j d (omega arith) (omega arith)
+
 module _ (design : Design) (kept : IsDesign design) (places elements : List ℕ) (there : LeadsBack (length design.elements) places elements) (back : LeadsBack (length design.elements) elements places)
-    (found : Found) (pairs : List Pair) (h : IsFoundBefore (turned_design places design) (length design.elements) 0 found) (few : found.count ≤ 200000)
-    (moved : IsPermutation (map (pair_back elements) found.pairs.items) pairs) (sorted : IsNonDecreasingBy key_of pairs) where
-  is : found.pairs.items ≡ h.pairs
-  is = let count = h.has_pairs.count in h.has_pairs.kept (omega arith)
+    (found : Found) (h : IsFoundBefore (turned_design places design) (length design.elements) 0 found) where
+  pub in_reach : found.count ≤ 200000 → All (λ (p : Pair). p.from < length design.elements) found.pairs.items
+  in_reach few k d low =
+      let count = h.has_pairs.count in
+      let at = subst (λ ps. All (HasExtremes (turned_design places design)) ps) (sym (h.has_pairs.kept (omega arith))) h.are_pairs.each in
+      (at k d low).from
 
-  pub each_inside : All (λ (p : Pair). (p.from < length design.elements) × (p.to < length design.elements)) found.pairs.items
-  each_inside k d low = let at = subst (λ ps. All (HasExtremes (turned_design places design)) ps) (sym is) h.are_pairs.each in let extremes = at k d low in (extremes.from, extremes.to)
+  module _ (pairs : List Pair) (moved : IsPermutation (map (pair_back elements) h.pairs) pairs) (sorted : IsNonDecreasingBy key_of pairs) where
+    each_inside : All (λ (p : Pair). (p.from < length design.elements) × (p.to < length design.elements)) h.pairs
+    each_inside k d low = let extremes = h.are_pairs.each k d low in (extremes.from, extremes.to)
 
-  each_back : All (HasExtremes design) (map (pair_back elements) found.pairs.items)
-  each_back k d low =
-      let count = length-map found.pairs.items (pair_back elements) in
-      let at = subst (λ ps. All (HasExtremes (turned_design places design)) ps) (sym is) h.are_pairs.each in
-      let inside : k < length found.pairs.items = omega arith in
-      subst (λ p. HasExtremes design p) (sym (get_or-map (pair_back elements) found.pairs.items k d d inside)) (HasExtremes-back design places elements kept there back (get_or found.pairs.items k d) (at k d inside))
+    each_back : All (HasExtremes design) (map (pair_back elements) h.pairs)
+    each_back k d low =
+        let count = length-map h.pairs (pair_back elements) in
+        let inside : k < length h.pairs = omega arith in
+        subst (λ p. HasExtremes design p) (sym (get_or-map (pair_back elements) h.pairs k d d inside)) (HasExtremes-back design places elements kept there back (get_or h.pairs k d) (h.are_pairs.each k d inside))
 
-  each_sorted : All (HasExtremes design) pairs
-  each_sorted = All-permutation (HasExtremes design) (map (pair_back elements) found.pairs.items) pairs moved each_back
+    each_sorted : All (HasExtremes design) pairs
+    each_sorted = All-permutation (HasExtremes design) (map (pair_back elements) h.pairs) pairs moved each_back
 
-  apart : AreApart pairs
-  apart = AreApart-permutation (map (pair_back elements) found.pairs.items) pairs moved
-      (AreApart-back (length design.elements) kept.elements elements places back found.pairs.items each_inside (subst (λ ps. AllAdjacentBelow ComesBefore ps (length ps)) (sym is) h.are_pairs.ascending))
+    apart : AreApart pairs
+    apart = AreApart-permutation (map (pair_back elements) h.pairs) pairs moved
+        (AreApart-back (length design.elements) kept.elements elements places back h.pairs each_inside h.are_pairs.ascending)
 
-  whole : (j l : ℕ) (path : List ℕ) → Precede (length design.elements) 0 j l → l < length design.elements → IsPath design.arcs j path (input_of l) →
-      (pair : Pair) × Contains pairs pair × (pair.from ≡ j) × (pair.to ≡ l)
-  whole j l path (inr g) below is_path = absurd (omega (arith, g.1))
-  whole j l path (inl from) below is_path =
-      let n : ℕ = length design.elements in
-      let turned = forth n (length design.inner) places elements there back design.arcs kept.each_arc j l path from below is_path in
-      let at = h.are_pairs.whole (row_of places l) j (reverse path) (inl (there.inside l below)) from turned in
-      let listed : Contains found.pairs.items at.0 = subst (λ ps. Contains ps at.0) (sym is) at.1 in
-      let in_map : Contains (map (pair_back elements) found.pairs.items) (pair_back elements at.0) =
-      (listed.0, omega (arith, listed.1, length-map found.pairs.items (pair_back elements)),
-      get_or-map (pair_back elements) found.pairs.items listed.0 at.0 (pair_back elements at.0) listed.1 ∙ ap (pair_back elements) listed.2) in
-      (pair_back elements at.0, Contains-permutation (map (pair_back elements) found.pairs.items) pairs (pair_back elements at.0) moved in_map, at.3, ap (row_of elements) at.2 ∙ there.leads l below)
+    whole : (j l : ℕ) (path : List ℕ) → Precede (length design.elements) 0 j l → l < length design.elements → IsPath design.arcs j path (input_of l) →
+        (pair : Pair) × Contains pairs pair × (pair.from ≡ j) × (pair.to ≡ l)
+    whole j l path (inr g) below is_path = absurd (omega (arith, g.1))
+    whole j l path (inl from) below is_path =
+        let n : ℕ = length design.elements in
+        let turned = forth n (length design.inner) places elements there back design.arcs kept.each_arc j l path from below is_path in
+        let at = h.are_pairs.whole (row_of places l) j (reverse path) (inl (there.inside l below)) from turned in
+        let in_map : Contains (map (pair_back elements) h.pairs) (pair_back elements at.0) = (
+          at.1.0,
+          omega (arith, at.1.1, length-map h.pairs (pair_back elements)),
+          get_or-map (pair_back elements) h.pairs at.1.0 at.0 (pair_back elements at.0) at.1.1 ∙ ap (pair_back elements) at.1.2,
+        ) in
+        (pair_back elements at.0, Contains-permutation (map (pair_back elements) h.pairs) pairs (pair_back elements at.0) moved in_map, at.3, ap (row_of elements) at.2 ∙ there.leads l below)
 
-  pub IsFoundBefore-back : (new : Found) → new.count ≡ found.count → new.pairs.items ≡ pairs → IsFoundBefore design (length design.elements) 0 new
-  IsFoundBefore-back new same_count items = record {
-    pairs = pairs;
-    are_pairs = record {
-      each = each_sorted;
-      ascending = ascends (length design.elements) kept.elements pairs (λ k d low. (each_sorted k d low).to) apart sorted;
-      earlier = λ k d low. inl (each_sorted k d low).from;
-      whole = whole;
-    };
-    has_pairs = record {
-      count = let count = h.has_pairs.count in let same = counts in omega arith;
-      kept = λ few. items;
-    };
-    few = let most = h.few in let same = counts in omega arith;
-  }
-    where
-      counts : length pairs ≡ length h.pairs
-      counts = length_permutation (map (pair_back elements) found.pairs.items) pairs moved ∙ length-map found.pairs.items (pair_back elements) ∙ ap (λ (ps : List Pair). length ps) is
+    IsFoundBefore-moved : (new : Found) → new.count ≡ found.count → (length pairs ≤ 200000 → new.pairs.items ≡ pairs) → IsFoundBefore design (length design.elements) 0 new
+    IsFoundBefore-moved new same_count items = record {
+      pairs = pairs;
+      are_pairs = record {
+        each = each_sorted;
+        ascending = ascends (length design.elements) kept.elements pairs (λ k d low. (each_sorted k d low).to) apart sorted;
+        earlier = λ k d low. inl (each_sorted k d low).from;
+        whole = whole;
+      };
+      has_pairs = record {
+        count = let count = h.has_pairs.count in let same = counts in omega arith;
+        kept = items;
+      };
+      few = let most = h.few in let same = counts in omega arith;
+    }
+      where
+        counts : length pairs ≡ length h.pairs
+        counts = length_permutation (map (pair_back elements) h.pairs) pairs moved ∙ length-map h.pairs (pair_back elements)
+
+  pub IsFoundBefore-back : found.count ≤ 200000 → (pairs : List Pair) → IsPermutation (map (pair_back elements) found.pairs.items) pairs → IsNonDecreasingBy key_of pairs →
+      (new : Found) → new.count ≡ found.count → new.pairs.items ≡ pairs → IsFoundBefore design (length design.elements) 0 new
+  IsFoundBefore-back few pairs moved sorted new same_count items =
+      let count = h.has_pairs.count in
+      let is = h.has_pairs.kept (omega arith) in
+      IsFoundBefore-moved pairs (subst (λ ps. IsPermutation (map (pair_back elements) ps) pairs) is moved) sorted new same_count (λ g. items)
+
+  -- where the pairs are more than are kept
+  pub IsFoundBefore-many : 200000 < found.count → IsFoundBefore design (length design.elements) 0 found
+  IsFoundBefore-many many =
+      let back_pairs : List Pair = map (pair_back elements) h.pairs in
+      let order = sorted_of back_pairs in
+      let count = h.has_pairs.count in
+      let same = length_permutation back_pairs order.0 order.1 ∙ length-map h.pairs (pair_back elements) in
+      IsFoundBefore-moved order.0 order.1 (sorted_from_rising order.0 order.2) found refl (λ g. absurd (omega arith))

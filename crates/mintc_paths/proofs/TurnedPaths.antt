@@ -1,5 +1,5 @@
 -- A design turned round has the same paths, from the back.
-use Rattle.std.proofs.Common.{◌≡◌, ◌≢◌, ℕ, ◌<◌, ◌≤◌, ◌+◌, ◌-◌, ◌*◌, ℤ, ◌+ℤ◌, ◌≤ℤ◌, pos, List, [], ◌∷◌, ◌++◌, length, get_or, map, reverse, arith, refl, ap, ◌∙◌, sym, subst, ◌⊎◌, ⊎_elim}
+use Rattle.std.proofs.Common.{◌≡◌, ◌≢◌, ℕ, ◌<◌, ◌≤◌, ◌+◌, ◌-◌, ◌*◌, ℤ, ◌≤ℤ◌, pos, List, [], ◌∷◌, ◌++◌, length, get_or, reverse, arith, refl, ap, ◌∙◌, sym, subst, ◌⊎◌, ⊎_elim}
 use Rattle.std.proofs.lemmas.Int.{ints}
 use Rattle.std.proofs.lemmas.List.{get_or-map, get_or_past, get_or-reverse, length-reverse, reverse-append}
 use Rattle.std.proofs.lemmas.List.Sorted.{Contains-permutation, IsPermutation-reverse}
@@ -141,10 +141,11 @@ module _ (n m : ℕ) (places elements : List ℕ) (there : LeadsBack n places el
   pub from_back : (a b : ℕ) (path : List ℕ) → a < n → b < n → IsPath turned a path (input_of b) → IsPath arcs b (reverse path) (input_of (row_of elements a))
   from_back a b path from to h =
       let at = back.inside a from in
-      let is : goes (input_of (row_of elements a)) ≡ output_of a = turned_input n places (row_of elements a) at ∙ ap (λ k. 2 * k + 1) (back.leads a from) in
-      (some-reverse path h.0,
-      Leads-back (output_of b) (input_of (row_of elements a)) path
-      (subst (λ x. Leads turned x path (goes (output_of b))) (sym is) (subst (λ x. Leads turned (output_of a) path x) (sym (turned_output n places b to)) h.1)))
+      let is : goes (input_of (row_of elements a)) ≡ output_of a = turned_input n places (row_of elements a) at ∙ ap (λ k. 2 * k + 1) (back.leads a from) in (
+        some-reverse path h.0,
+        Leads-back (output_of b) (input_of (row_of elements a)) path
+            (subst (λ x. Leads turned x path (goes (output_of b))) (sym is) (subst (λ x. Leads turned (output_of a) path x) (sym (turned_output n places b to)) h.1)),
+      )
 
   back_again : (a b : ℕ) (path : List ℕ) → a < n → b < n → IsPath arcs b path (input_of (row_of elements a)) → IsPath turned a (reverse path) (input_of b)
   back_again a b path from to h =

@@ -1,5 +1,5 @@
 -- A design turned round.
-use Rattle.std.proofs.Common.{◌≡◌, ◌==◌, ◌≢◌, ℕ, ◌<◌, ◌≤◌, ◌+◌, ◌-◌, ◌*◌, ◌/◌, ◌%◌, List, length, get_or, arith, refl, ap, ◌∙◌, sym, ◌⊎◌, inl, inr, ⊎_elim, subst, cond, nat_lt, true, false}
+use Rattle.std.proofs.Common.{◌≡◌, ℕ, ◌<◌, ◌≤◌, ◌+◌, ◌*◌, ◌/◌, List, arith, ap, ◌∙◌, sym, ◌⊎◌, ⊎_elim}
 use Rattle.mintc_paths.specs.Sums.{row_of, LeadsBack}
 use Rattle.mintc_paths.specs.Turned.{turned_bit, bit_before}
 
@@ -38,6 +38,7 @@ is_bit n bit = ⊎_elim
   where
     even_or_odd : (k : ℕ) → (k ≡ 2 * (k / 2)) ⊎ (k ≡ 2 * (k / 2) + 1)
     even_or_odd k = grind arith
+
     low_or_high : (i n : ℕ) → (i < n) ⊎ (n ≤ i)
     low_or_high i n = grind arith
 

@@ -72,7 +72,7 @@ fn find_turned(
     }
 }
 
-/// Finds the pairs from the inputs back, or how many there are where they are more than 200,000.
+/// Finds the pairs from the inputs back. Where they are more than are kept, their number alone counts.
 pub fn find_back(
     alloc: Global,
     flat: &Flat,
@@ -82,7 +82,8 @@ pub fn find_back(
     requires order { IsOrder flat.now.arcs order.now }
     requires course { IsCourse (2 * length flat.now.elements + length flat.now.inner) flat.now.arcs order.now course }
     requires short { AreRunsShort flat.now.arcs }
-    ensures found { IfOk result (λ found. found.count ≤ 200000 → IsFoundBefore flat.now (length flat.now.elements) 0 found) }
+    ensures found { IfOk result (IsFoundBefore flat.now (length flat.now.elements) 0) }
+    ensures few { IfOk result (λ found. found.count ≤ 4000000) }
 {
     let elements = flat.elements().len() as u32;
     let Ok(places) = places_along(alloc, elements, &course.rows) else {

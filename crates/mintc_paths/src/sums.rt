@@ -134,13 +134,7 @@ fn window(course: &Course, first: u32, lanes: usize) -> (u32, u32)
 /// Makes the sums those of the listed paths, and of the empty ones, from up to eight elements from `first` on. A row
 /// without sums isn't marked as reached. Arcs are passed over that stand before those of the outputs, or after those of the
 /// rows that are reached.
-pub fn fill(
-    sums: &mut [Sums],
-    reached: &mut [bool],
-    course: &Course,
-    first: u32,
-    lanes: usize,
-)
+pub fn fill(sums: &mut [Sums], reached: &mut [bool], course: &Course, first: u32, lanes: usize)
     ghost of: { Ordered }
     requires course { IsCourseOf (length sums.old) of course.now }
     requires lanes { lanes ≤ 8 }

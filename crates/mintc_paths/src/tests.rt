@@ -245,6 +245,50 @@ const ELEVEN: Case = Case {
     ],
 };
 
+/// Inner bits enter 3 inputs and are entered by 9 outputs, so sums are carried from the inputs back.
+const FEW_ENTERED: Case = Case {
+    name: "few inputs that inner bits enter",
+    elements: 10,
+    inner: 5,
+    arcs: &[
+        "q0 n0 0 1",
+        "q1 n1 1 2",
+        "q2 n2 2 4",
+        "q3 n0 3 4",
+        "q4 n3 4 8",
+        "q5 n1 5 6",
+        "q6 n4 6 9",
+        "q7 n2 7 7",
+        "q9 n3 8 8",
+        "n0 n1 1 5",
+        "n0 n2 2 2",
+        "n1 n3 0 9",
+        "n2 n3 3 3",
+        "n3 n4 1 2",
+        "n4 d7 2 2",
+        "n3 d2 0 1",
+        "n1 d9 4 6",
+        "q2 d0 1 9",
+        "q7 d1 2 3",
+        "q9 d7 1 1",
+        "q8 d8 5 5",
+    ],
+};
+
+/// The same with an arc of 10^9 femtoseconds, so that the first path that is too long is looked for.
+const FEW_ENTERED_TOO_LONG: Case = Case {
+    name: "few inputs that inner bits enter, and a path that is too long",
+    elements: 3,
+    inner: 2,
+    arcs: &[
+        "q0 n0 1 1",
+        "q1 n0 5 6",
+        "q2 n0 3 3",
+        "n0 n1 999999996 999999996",
+        "n1 d2 0 0",
+    ],
+};
+
 #[test]
 fn pairs_are_found(rt: HostRuntime) -> Result<(), Fail> {
     let alloc = rt.alloc();
@@ -265,7 +309,17 @@ fn pairs_are_found(rt: HostRuntime) -> Result<(), Fail> {
 fn pairs_are_those_of_a_listing(rt: HostRuntime) -> Result<(), Fail> {
     let alloc = rt.alloc();
     for case in &[
-        NINE, INNER, PATHS, UNLED, NONE, PARALLEL, SELVES, ENDS, DIAMOND, ELEVEN,
+        NINE,
+        INNER,
+        PATHS,
+        UNLED,
+        NONE,
+        PARALLEL,
+        SELVES,
+        ENDS,
+        DIAMOND,
+        ELEVEN,
+        FEW_ENTERED,
     ] {
         let system = system_of(&rt, alloc, case).ok().ok_or(case.name)?;
         let arcs = system.flat().arcs();
@@ -419,6 +473,51 @@ fn a_sum_at_the_limit_is_none_above(rt: HostRuntime) -> Result<(), Fail> {
         return Err("accepted".into());
     };
     assert_eq!(rt; (element, bit), (0, 0));
+    let Err(Stop::Refused(Refusal::PathRange { element, bit })) = system_of(
+        &rt,
+        alloc,
+        &FEW_ENTERED_TOO_LONG,
+    ) else {
+        return Err("accepted".into());
+    };
+    assert_eq!(rt; (element, bit), (1, 4));
+    Ok(())
+}
+
+/// An inner bit that 2,000 outputs enter and that leads to 101 inputs.
+fn many_text(alloc: Global) -> Result<String, AllocError> {
+    let mut text = String::new(alloc);
+    text.push_str("table 1\nphases 1\nphase p\nelements 2000\n")?;
+    for _ in 0..2000 {
+        text.push_str("element a 1 0 - 0 0 0\n")?;
+    }
+    text.push_str("inner 1\narcs 2101\n")?;
+    for from in 0..2000 {
+        text.push_str(&format!(in alloc; "arc q{from} n0 1 2\n")?)?;
+    }
+    for to in 0..101 {
+        text.push_str(&format!(in alloc; "arc n0 d{to} 3 4\n")?)?;
+    }
+    text.push_str("bounds 0\nend\n")?;
+    Ok(text)
+}
+
+#[test]
+fn pairs_beyond_the_limit_are_counted_from_the_inputs(rt: HostRuntime) -> Result<(), Fail> {
+    let alloc = rt.alloc();
+    let text = many_text(alloc).ok().ok_or("no memory")?;
+    let Err(
+        Stop::Refused(
+            Refusal::Limit {
+                kind: Kind::Pairs,
+                count,
+            },
+        ),
+    ) = system_of_text(&rt, alloc, &text)
+    else {
+        return Err("accepted".into());
+    };
+    assert_eq!(rt; count, 202_000);
     Ok(())
 }
 

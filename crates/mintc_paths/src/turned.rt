@@ -91,12 +91,7 @@ fn turn_bits(bits: &mut [u32], elements: u32, places: &Rows)
 }
 
 /// The rows of the bits where they go as a design is turned round.
-fn turned_rows(
-    alloc: Global,
-    rows: Rows,
-    elements: u32,
-    places: &Rows,
-) -> Result<Rows, AllocError>
+fn turned_rows(alloc: Global, rows: Rows, elements: u32, places: &Rows) -> Result<Rows, AllocError>
     requires few { elements ≤ 2000 }
     requires some { length rows.of_bits.items ≤ 2 ^ 20 }
     requires all { 2 * elements ≤ length rows.of_bits.items }
@@ -144,7 +139,11 @@ pub fn turned_course(
     ensures { IfOk result (λ turned. IsCourse (2 * length flat.now.elements + length flat.now.inner) (turned_arcs (length flat.now.elements) places.now.of_bits.items flat.now.arcs) (reverse order.now) turned) }
 {
     let elements = flat.elements().len() as u32;
-    let Course { rows, mut along, spans } = course;
+    let Course {
+        rows,
+        mut along,
+        spans,
+    } = course;
     drop(spans);
     let rows = turned_rows(alloc, rows, elements, places)?;
     turn_arcs(&mut along);

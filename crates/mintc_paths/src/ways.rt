@@ -41,20 +41,6 @@ fn are_few_entered(alloc: Global, flat: &Flat) -> Result<bool, AllocError> {
     Ok(count_marked(&entered) < count_marked(&left) / 2)
 }
 
-/// Finds the pairs from the outputs on, along a course made anew.
-fn find_anew(alloc: Global, flat: &Flat, order: &Order) -> Result<Found, Stop>
-    requires { IsOrder flat.now.arcs order.now }
-    ensures found { IfOk result (IsFoundBefore flat.now (length flat.now.elements) 0) }
-    ensures few { IfOk result (λ found. found.count ≤ 4000000) }
-    ensures short { OnOk result (ArePathsShort flat.now) }
-    ensures stop { IfErr result (StopsAt (IsPathRange flat.now)) }
-{
-    let Ok(course) = course_of(alloc, flat, order) else {
-        return Err(Stop::OutOfMemory);
-    };
-    find_forth(alloc, flat, order, &course, false)
-}
-
 /// Finds the design's pairs. Where no path can be too long and few inputs are entered, sums are carried from there.
 pub fn find(alloc: Global, flat: &Flat, order: &Order) -> Result<Found, Stop>
     requires { IsOrder flat.now.arcs order.now }
@@ -75,11 +61,8 @@ pub fn find(alloc: Global, flat: &Flat, order: &Order) -> Result<Found, Stop>
     if !known_short || !few {
         return find_forth(alloc, flat, order, &course, known_short);
     }
-    let Ok(found) = find_back(alloc, flat, order, course) else {
-        return Err(Stop::OutOfMemory);
-    };
-    if found.count > 200_000 {
-        return find_anew(alloc, flat, order);
+    match find_back(alloc, flat, order, course) {
+        Ok(found) => Ok(found),
+        Err(_) => Err(Stop::OutOfMemory),
     }
-    Ok(found)
 }

@@ -1,4 +1,5 @@
-use Rattle.std.proofs.Common.{◌≡◌, ◌≤◌, ℕ, List, length, map, arith, refl, subst, ap}
+use Rattle.std.proofs.Common.{◌≡◌, ◌<◌, ℕ, List, length, map, arith, refl, subst, ap, sym}
+use Rattle.std.specs.List.{All}
 use Rattle.std.specs.Vec.{with_items}
 use Rattle.std.specs.List.Sorted.{IsPermutation}
 use Rattle.std.proofs.lemmas.List.{with_items_is}
@@ -7,12 +8,41 @@ use Rattle.mintc_timing.specs.declared.parts.Pair.{Pair}
 use Rattle.mintc_timing.specs.Design.{Design}
 use Rattle.mintc_paths.specs.declared.found.Found.{Found}
 use Rattle.mintc_paths.specs.Sums.{AreRows}
-use Rattle.mintc_paths.specs.Turned.{pair_back}
-use Rattle.mintc_paths.proofs.TurnedPairs.{IsFoundBefore-back}
+use Rattle.mintc_paths.specs.Turned.{pair_back, turned_design}
+use Rattle.mintc_paths.proofs.TurnedPairs.{IsFoundBefore-back, IsFoundBefore-many, in_reach}
+use Rattle.mintc_paths.proofs.Finding.{count_found}
 use Rattle.mintc_paths.proofs.back.find_back.Goals as goal
 
-pub returns : goal.returns
-returns c =
+pub turn_pairs-requires : goal.turn_pairs-requires
+turn_pairs-requires c =
+    let design : Design = c.args.flat.now in
+    let places : List ℕ = c.in-Ok.places.of_bits.items in
+    let elements : List ℕ = c.in-Ok.places.bits.items in
+    let count = ap (λ (xs : List Element). length xs) c.elements.ensures.value in
+    let rows : AreRows (length design.elements) c.in-Ok.places = subst (λ n. AreRows n c.in-Ok.places) count c.in-Ok.ensures in
+    let in_places = rows.bits.count in
+    let found : Found = c.in_ok-found.found in
+    let below = c.if-found-gt200000.false in
+    let reach = in_reach design c.elements.ensures.kept places elements rows.of_bits rows.bits found c.in_ok-found.ensures.found (omega arith) in
+    record { inside = subst (λ (ps : List Pair). All (λ (pair : Pair). pair.from < length elements) ps) (sym c.deref_mut.ensures.value) (λ k d low. let at = reach k d low in omega arith) }
+
+pub returns-then-found-gt200000-clause-found : goal.returns-then-found-gt200000-clause-found
+returns-then-found-gt200000-clause-found c =
+    let design : Design = c.args.flat.now in
+    let places : List ℕ = c.in-Ok.places.of_bits.items in
+    let elements : List ℕ = c.in-Ok.places.bits.items in
+    let count = ap (λ (xs : List Element). length xs) c.elements.ensures.value in
+    let rows : AreRows (length design.elements) c.in-Ok.places = subst (λ n. AreRows n c.in-Ok.places) count c.in-Ok.ensures in
+    IsFoundBefore-many design c.elements.ensures.kept places elements rows.of_bits rows.bits c.in_ok-found.found c.in_ok-found.ensures.found c.if-found-gt200000.true
+
+pub returns-then-found-gt200000-clause-few : goal.returns-then-found-gt200000-clause-few
+returns-then-found-gt200000-clause-few c = count_found (turned_design c.in-Ok.places.of_bits.items c.args.flat.now) (length c.args.flat.now.elements) c.in_ok-found.found c.elements.ensures.kept.elements c.in_ok-found.ensures.found
+
+pub returns-clause-few : goal.returns-clause-few
+returns-clause-few c = let below = c.if-found-gt200000.false in omega arith
+
+pub returns-clause-found : goal.returns-clause-found
+returns-clause-found c =
     let design : Design = c.args.flat.now in
     let places : List ℕ = c.in-Ok.places.of_bits.items in
     let elements : List ℕ = c.in-Ok.places.bits.items in
@@ -26,7 +56,6 @@ returns c =
     let filled = found.pairs.ok.0 in
     let is : (with_items found.pairs pairs).items ≡ pairs = with_items_is found.pairs pairs (omega arith) in
     let moved : IsPermutation (map (pair_back elements) found.pairs.items) pairs = subst (λ ps. IsPermutation (map (pair_back elements) ps) pairs) was c.turn_pairs.ensures.permutation in
-    record {
-      found = λ few. IsFoundBefore-back design c.elements.ensures.kept places elements rows.of_bits rows.bits found pairs c.in_ok-found.ensures.found few moved c.turn_pairs.ensures.sorted
-          (record { pairs = with_items found.pairs pairs; count = found.count }) refl is;
-    }
+    let below = c.if-found-gt200000.false in
+    IsFoundBefore-back design c.elements.ensures.kept places elements rows.of_bits rows.bits found c.in_ok-found.ensures.found (omega arith) pairs moved c.turn_pairs.ensures.sorted
+    (record { pairs = with_items found.pairs pairs; count = found.count }) refl is

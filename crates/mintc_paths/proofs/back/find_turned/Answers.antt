@@ -1,4 +1,4 @@
-use Rattle.std.proofs.Common.{◌≡◌, ◌+◌, ◌*◌, ℕ, List, length, reverse, arith, subst, sym, ap, true}
+use Rattle.std.proofs.Common.{ℕ, List, length, reverse, arith, subst, sym, ap, true}
 use Rattle.std.specs.Bool.{OnTrue}
 use Rattle.mintc_timing.specs.declared.parts.Element.{Element}
 use Rattle.mintc_timing.specs.Design.{Design}
@@ -30,8 +30,11 @@ find_along-requires g c =
       is_course = subst (λ k. IsCourse k (turned_arcs n places design.arcs) (reverse c.args.order.now) c.args.course.now) (sym bits) c.requires.1.1.0;
     } in
     let count = ap (λ (xs : List Element). length xs) c.elements.ensures.value in
-    let own = ap (λ (o : Ordered). length o.design.elements) c.requires.0 in
-    (subst (λ (o : Ordered). IsCourseOf rows o c.args.course.now) (sym c.requires.0) course,
-    (omega arith,
-    subst (λ (o : Ordered). OnTrue true (ArePathsShort o.design)) (sym c.requires.0)
-    (ArePathsShort-turned design places elements kept there back c.requires.1.1.1.1)))
+    let own = ap (λ (o : Ordered). length o.design.elements) c.requires.0 in (
+      subst (λ (o : Ordered). IsCourseOf rows o c.args.course.now) (sym c.requires.0) course,
+      (
+        omega arith,
+        subst (λ (o : Ordered). OnTrue true (ArePathsShort o.design)) (sym c.requires.0)
+            (ArePathsShort-turned design places elements kept there back c.requires.1.1.1.1),
+      ),
+    )

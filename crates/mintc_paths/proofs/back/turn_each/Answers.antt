@@ -1,4 +1,4 @@
-use Rattle.std.proofs.Common.{◌≡◌, ◌<◌, ◌∙◌, List, length, get_or, map, arith, sym}
+use Rattle.std.proofs.Common.{◌<◌, ◌∙◌, List, length, map, arith, sym}
 use Rattle.std.proofs.lemmas.List.{same_lists, get_or_default, get_or-map}
 use Rattle.std.proofs.Math.ListN.{length-map}
 use Rattle.mintc_timing.specs.declared.parts.Pair.{Pair}

@@ -1,4 +1,4 @@
-use Rattle.std.proofs.Common.{◌≡◌, ◌≤◌, ◌+◌, ◌*◌, ◌-◌, length}
+use Rattle.std.proofs.Common.{◌≡◌, ◌≤◌, ◌-◌, length}
 use Rattle.mintc_paths.specs.Found.{IsFoundBefore}
 use Rattle.mintc_paths.specs.Sums.{AreMarked}
 use Rattle.mintc_paths.specs.Refusals.{AreShortBefore}

@@ -1,4 +1,4 @@
-use Rattle.std.proofs.Common.{◌≡◌, ◌+◌, ◌*◌, ◌∙◌, ℕ, length, arith, subst, sym, ap, rules}
+use Rattle.std.proofs.Common.{ℕ, length, subst, sym, rules}
 use Rattle.std.specs.Bool.{OnTrue}
 use Rattle.mintc_timing.specs.Order.{ArePathsShort}
 use Rattle.mintc_paths.specs.Sums.{IsCourse}
@@ -14,6 +14,7 @@ find_along-requires g c =
       is_ordered = record { kept = c.elements.ensures.kept; order = c.requires.1.0 };
       bits = bits;
       is_course = subst (λ k. IsCourse k c.args.flat.now.arcs c.args.order.now c.args.course.now) (sym bits) c.requires.1.1.0;
-    } in
-    (subst (λ (o : Ordered). IsCourseOf n o c.args.course.now) (sym c.requires.0) course,
-    (search rules, subst (λ (o : Ordered). OnTrue c.args.known_short (ArePathsShort o.design)) (sym c.requires.0) c.requires.1.1.1))
+    } in (
+      subst (λ (o : Ordered). IsCourseOf n o c.args.course.now) (sym c.requires.0) course,
+      (search rules, subst (λ (o : Ordered). OnTrue c.args.known_short (ArePathsShort o.design)) (sym c.requires.0) c.requires.1.1.1),
+    )

@@ -3,7 +3,6 @@ use Rattle.mintc_timing.specs.declared.parts.TimingArc.{TimingArc}
 use Rattle.mintc_timing.specs.Design.{Design, Timing}
 use Rattle.mintc_timing.specs.Order.{IsOrder}
 use Rattle.mintc_timing.specs.Paths.{Leads, input_of, output_of}
-use Rattle.mintc_timing.specs.Limits.{IsDesign}
 use Rattle.mintc_paths.specs.Sums.{sums_at, placed, AreSums, IsCourse}
 use Rattle.mintc_paths.specs.Ordered.{Ordered, ordered, IsCourseOf}
 use Rattle.mintc_paths.specs.Trace.{IsBestPath, IsOfPair}

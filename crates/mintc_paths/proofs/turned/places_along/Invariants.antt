@@ -1,4 +1,3 @@
-use Rattle.std.proofs.Common.{◌≡◌, length}
 use Rattle.mintc_paths.specs.Sums.{AreRows}
 use Rattle.mintc_paths.proofs.turned.places_along.Given as goal
 

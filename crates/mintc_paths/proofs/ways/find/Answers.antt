@@ -1,2 +1,0 @@
-use Rattle.mintc_paths.proofs.Plain.{ArePathsShort-runs}
-use Rattle.mintc_paths.proofs.ways.find.Goals as goal
