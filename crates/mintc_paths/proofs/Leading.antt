@@ -1,22 +1,15 @@
 -- Marks along one more arc of the order.
-use Rattle.std.proofs.Common.{◌≡◌, ◌≢◌, ◌<◌, ◌≤◌, ◌+◌, ◌*◌, ◌/◌, ◌%◌, ℕ, max, List, [], ◌∷◌, ◌++◌, length, get_or, arith, refl, ap, ◌∙◌, sym, subst, ◌⊎◌, inl, inr, ⊎_elim}
+use Rattle.std.proofs.Common.{◌≡◌, ◌≢◌, ◌<◌, ◌≤◌, ◌+◌, ◌/◌, ◌%◌, ℕ, max, List, [], ◌∷◌, ◌++◌, length, get_or, arith, refl, ap, ◌∙◌, sym, subst, ◌⊎◌, inl, inr, ⊎_elim}
 use Rattle.std.proofs.lemmas.Bool.{cases_eq}
-use Rattle.std.proofs.lemmas.List.{get_or-replicate}
-use Rattle.std.proofs.lemmas.Nat.Bits.{bit_at-lt, bit_at-zero}
-use Rattle.std.specs.Int.{bit_at}
-use Rattle.mintc_paths.specs.declared.marks.TheConstants.{NO_MARKS}
+use Rattle.std.proofs.lemmas.Nat.Bits.{bit_at-lt}
 use Rattle.mintc_timing.specs.declared.parts.TimingArc.{TimingArc}
-use Rattle.mintc_timing.specs.Among.{IsAmong, AreAmong}
-use Rattle.mintc_timing.specs.Design.{Design}
-use Rattle.mintc_timing.specs.Limits.{IsDesign}
+use Rattle.mintc_timing.specs.Among.{IsAmong}
 use Rattle.mintc_timing.specs.Order.{IsOrder}
-use Rattle.mintc_timing.specs.Paths.{Leads, IsPath, arc_at, input_of, output_of}
-use Rattle.mintc_timing.proofs.Ordered.{AreAmong-push, AreAmong-more, Leads-push, all_among, inside, none_among, split}
+use Rattle.mintc_timing.specs.Paths.{Leads, arc_at, output_of}
+use Rattle.mintc_timing.proofs.Ordered.{AreAmong-push, AreAmong-more, Leads-push, inside, none_among, split}
 use Rattle.mintc_paths.specs.declared.marks.Marks.{Marks}
-use Rattle.mintc_paths.specs.declared.rows.Course.{Course}
-use Rattle.mintc_paths.specs.declared.rows.Rows.{Rows}
 use Rattle.mintc_paths.specs.Marks.{AreMarksAlong, AreMarksBegun, IsMarkOf, IsReachedAlong, mark_in, marks_at}
-use Rattle.mintc_paths.specs.Sums.{AreRows, IsCourse, LeadsBack, moved, row_of}
+use Rattle.mintc_paths.specs.Sums.{LeadsBack, moved, row_of}
 
 -- a mark is 0 or 1
 pub mark_is : (marks : Marks) (lane : ℕ) → (mark_in marks lane ≡ 0) ⊎ (mark_in marks lane ≡ 1)

@@ -1,4 +1,4 @@
-use Rattle.std.proofs.Common.{◌*◌, ◌≤◌, length, arith}
+use Rattle.std.proofs.Common.{length, arith}
 use Rattle.mintc_paths.proofs.Counting.{AreEndsOf-marks}
 use Rattle.mintc_paths.proofs.count.count_block.Goals as goal
 

@@ -1,4 +1,4 @@
-use Rattle.std.proofs.Common.{◌≡◌, ◌<◌, ℕ, length}
+use Rattle.std.proofs.Common.{◌≡◌, ◌<◌, ℕ}
 use Rattle.mintc_timing.specs.Paths.{input_of}
 use Rattle.mintc_paths.specs.Marks.{marks_at}
 use Rattle.mintc_paths.specs.Sums.{row_of}

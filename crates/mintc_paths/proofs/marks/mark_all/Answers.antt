@@ -3,9 +3,8 @@ use Rattle.std.proofs.lemmas.List.{get_or_default}
 use Rattle.mintc_timing.specs.declared.parts.TimingArc.{TimingArc}
 use Rattle.mintc_timing.specs.Design.{no_arc}
 use Rattle.mintc_timing.specs.Paths.{arc_at}
-use Rattle.mintc_paths.specs.Sums.{moved}
 use Rattle.mintc_paths.proofs.Leading.{AreCarriedMarks, AreMarksAlong-begun, AreMarksAlong-more}
-use Rattle.mintc_paths.proofs.Passing.{arc_of, from_in, to_in, row_in, row_to_in}
+use Rattle.mintc_paths.proofs.Passing.{from_in, to_in, row_in, row_to_in}
 use Rattle.mintc_paths.proofs.marks.mark_all.Goals as goal
 
 pub loop-place-init : goal.loop-place-init

@@ -1,4 +1,4 @@
-use Rattle.std.proofs.Common.{◌≡◌, ◌<◌, ◌/◌, ◌%◌, ◌∙◌, List, length, arith, ap, get_or-set_same}
+use Rattle.std.proofs.Common.{◌<◌, ◌/◌, ◌%◌, ◌∙◌, length, arith, ap, get_or-set_same}
 use Rattle.mintc_paths.specs.declared.marks.Marks.{Marks}
 use Rattle.mintc_paths.specs.Marks.{mark_in, marks_at, no_marks}
 use Rattle.mintc_paths.proofs.Setting.{with_bit, set_own, set_other}
