@@ -4,7 +4,7 @@ use Rattle.mintc_liblex.specs.Tokens.{Token, opening, closing, left, right, colo
 use Rattle.mintc_liblex.specs.Statements.{Statement, Statements, more, attribute, plain, group, Step, Front, taken, left_over, valued, grouped, nested, called, and_more, statement_by, front}
 use Rattle.mintc_liberty.specs.Meaning.{Group, groups}
 use Rattle.mintc_liberty.specs.Passing.{group_from, group_at, body_at}
-use Rattle.mintc_liblex.specs.Reading.{word_at, items_rest, step_rest, statement_rest}
+use Rattle.mintc_liblex.specs.Reading.{word_at, step_rest, statement_rest}
 use Rattle.mintc_liblex.proofs.NestLaws.{word-there}
 use Rattle.mintc_liblex.proofs.StatementLaws.{front-turn, beginnings}
 

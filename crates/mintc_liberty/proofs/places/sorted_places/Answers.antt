@@ -1,4 +1,4 @@
-use Rattle.std.proofs.Common.{rules, ◌≡◌}
+use Rattle.std.proofs.Common.{rules}
 use Rattle.mintc_liberty.proofs.SortLaws.{sorted-firsts, sorted-rises}
 use Rattle.mintc_liberty.proofs.places.sorted_places.Goals as goal
 
