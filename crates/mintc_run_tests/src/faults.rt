@@ -9,7 +9,7 @@ use std::process::Abort;
 use std::test::Fail;
 
 /// A command, and how many files it names.
-type Run = (&'static str, u32);
+type Run = (&'static str, u8);
 
 const ON_TABLES: [Run; 6] = [
     (CHECK, 2),
@@ -52,7 +52,7 @@ const ON_LIBRARIES: [Run; 6] = [
 /// made after it.
 fn each_read_fails(rt: &impl Abort, alloc: Global, runs: &[Run]) -> Result<(), Fail> {
     for (words, count) in runs {
-        for number in 0..*count {
+        for number in 0..u32::from(*count) {
             let mut shelf = shelf_of(alloc, &FILES, &[number, number + 2])?;
             let (status, taken) = run_over(alloc, &mut shelf, words, None)?;
             assert_eq!(rt; status, Status::ReadFault, "{words}");
@@ -107,7 +107,7 @@ fn the_next_call_answers(rt: &impl Abort, alloc: Global, runs: &[Run]) -> Result
     for (words, count) in runs {
         let mut sound = shelf_of(alloc, &FILES, &[])?;
         let (_, text) = run_over(alloc, &mut sound, words, None)?;
-        for number in 0..*count {
+        for number in 0..u32::from(*count) {
             let mut shelf = shelf_of(alloc, &FILES, &[number])?;
             let (failed, _) = run_over(alloc, &mut shelf, words, None)?;
             assert_eq!(rt; failed, Status::ReadFault, "{words}");
