@@ -1,0 +1,24 @@
+use super::*;
+
+/// The places that are in the set before the room's end, one after another.
+#[test]
+fn places_come_in_order(rt: HostRuntime) {
+    let Ok(mut places) = Places::new(rt.alloc(), 200) else {
+        assert!(rt; false, "no memory");
+        return;
+    };
+    places.insert_all(63, 66);
+    places.insert_all(127, 128);
+    places.insert_all(199, 200);
+    places.insert_all(9, 9);
+    places.remove(65);
+    places.remove(1_000_000);
+    let mut at = 0;
+    for next in [63, 64, 127, 199, 256] {
+        at = places.next(at);
+        assert!(rt; at == next, "the place {next}");
+        at += 1;
+    }
+    assert!(rt; places.next(1000) == 1000, "past the room");
+    assert!(rt; places.next(64) == 64, "the place itself");
+}
