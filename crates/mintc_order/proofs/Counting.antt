@@ -9,19 +9,27 @@ use Rattle.std.proofs.lemmas.Map.Steps.{length-le_from_distinct_below, le-length
 use Rattle.std.proofs.lemmas.Map.Views.{Contains-from_any}
 use Rattle.mintc_timing.specs.declared.parts.TimingArc.{TimingArc}
 use Rattle.mintc_timing.specs.Paths.{arc_at}
+use Rattle.mintc_order.specs.Listings.{AreListed}
 use Rattle.mintc_order.specs.Searches.{IsSearch}
 
 -- numbers below n, no two of them equal, are at most n
-pub few_distinct : (n : ℕ) (xs : List ℕ) → AllPairs (λ x y. x ≢ y) xs → All (λ x. x < n) xs → length xs ≤ n
+few_distinct : (n : ℕ) (xs : List ℕ) → AllPairs (λ x y. x ≢ y) xs → All (λ x. x < n) xs → length xs ≤ n
 few_distinct n xs apart below =
     length-le_from_distinct_below xs n (IsDistinct-from_AllPairs Decides-eqb xs apart)
     (λ q h. let at = Contains-from_any (λ x y e. (Decides-eqb x y).0 e) q xs h in let b : get_or xs at.0 q < n = below at.0 q at.1 in let e : get_or xs at.0 q ≡ q = at.2 in omega arith)
 
 -- a list with each number below n is at least n long
-pub many_listed : (n : ℕ) (xs : List ℕ) → ((q : ℕ) → q < n → Contains xs q) → n ≤ length xs
+many_listed : (n : ℕ) (xs : List ℕ) → ((q : ℕ) → q < n → Contains xs q) → n ≤ length xs
 many_listed n xs each =
     le-length_from_below xs n
     (λ q h. let at = each q h in list_any_at (eqb q) xs at.0 q at.1 ((Decides-eqb q (get_or xs at.0 q)).1 (sym at.2)))
+
+-- a list with all arcs is as long as these
+pub AreListed-count : {arcs : List TimingArc} {left given : List ℕ} → AreListed arcs left given → ((n : ℕ) → n < length arcs → Contains given n) → length given ≡ length arcs
+AreListed-count {arcs} {left} {given} listed whole =
+    let few = few_distinct (length arcs) given (λ i j d b h e. listed.once i j b h (get_or_default given i 0 d (omega arith) ∙ e ∙ get_or_default given j d 0 h)) (λ k d h. let n = listed.number k h in let e = get_or_default given k d 0 h in omega arith) in
+    let many = many_listed (length arcs) given whole in
+    omega arith
 
 module _ {arcs : List TimingArc} {bits : ℕ} {left places path given : List ℕ} (s : IsSearch arcs bits left places path given) where
   in_path : (i d : ℕ) → i < length path → get_or (path ++ given) i d ≡ get_or path i 0
@@ -35,7 +43,7 @@ module _ {arcs : List TimingArc} {bits : ℕ} {left places path given : List ℕ
   waits i j h l = λ e.
       let w = s.is_path.waiting i h in
       let a = w.next in
-      let b = s.are_given.out j l in
+      let b = s.are_given.listed.out j l in
       let same = ap (λ (n : ℕ). get_or left (arc_at arcs n).from 0) e in
       omega arith
 
@@ -57,7 +65,7 @@ module _ {arcs : List TimingArc} {bits : ℕ} {left places path given : List ℕ
       (λ q. apart_in_path i j l q (sym (in_path i d p) ∙ e ∙ in_path j d q))
       (λ q. waits i (j - length path) p (omega arith) (sym (in_path i d p) ∙ e ∙ in_given j d q (omega arith)))
       (cases_lt j (length path)))
-      (λ p. s.are_given.once (i - length path) (j - length path) (omega arith) (omega arith) (sym (in_given i d p (omega arith)) ∙ e ∙ in_given j d (omega arith) (omega arith)))
+      (λ p. s.are_given.listed.once (i - length path) (j - length path) (omega arith) (omega arith) (sym (in_given i d p (omega arith)) ∙ e ∙ in_given j d (omega arith) (omega arith)))
       (cases_lt i (length path))
 
   below : All (λ x. x < length arcs) (path ++ given)
@@ -65,7 +73,7 @@ module _ {arcs : List TimingArc} {bits : ℕ} {left places path given : List ℕ
       let len = length-append path given in
       ⊎_elim
       (λ p. let w = s.is_path.waiting k p in let a = w.number in let e = in_path k d p in omega arith)
-      (λ p. let a = s.are_given.number (k - length path) (omega arith) in let e = in_given k d p (omega arith) in omega arith)
+      (λ p. let a = s.are_given.listed.number (k - length path) (omega arith) in let e = in_given k d p (omega arith) in omega arith)
       (cases_lt k (length path))
 
   -- An arc waits or is given out once, so all of these are at most as many as the arcs.

@@ -1,12 +1,12 @@
-use Rattle.std.proofs.Common.{◌≡◌, ◌≢◌, ℕ, ◌+◌, ◌<◌, ◌≤◌, ◌⊎◌, inl, inr, List, [], ◌∷◌, ◌++◌, length, get_or, set, refl, sym, ap, ◌∙◌, ⊎_elim, arith, get_or-set_same, get_or-set_other}
-use Rattle.std.specs.List.{Contains}
+use Rattle.std.proofs.Common.{◌≡◌, ◌≢◌, ℕ, ◌+◌, ◌<◌, ◌≤◌, ◌⊎◌, List, [], ◌∷◌, ◌++◌, length, get_or, set, refl, sym, ap, ◌∙◌, ⊎_elim, arith, get_or-set_same, get_or-set_other}
 use Rattle.std.proofs.lemmas.Bool.{cases_eq, cases_lt}
 use Rattle.std.proofs.lemmas.List.{get_or_append_left, get_or_push, length_push, length-set}
-use Rattle.std.proofs.lemmas.List.Elements.{Contains-push, Contains-append_left}
 use Rattle.mintc_timing.specs.declared.parts.TimingArc.{TimingArc}
 use Rattle.mintc_timing.specs.Paths.{arc_at}
 use Rattle.mintc_order.specs.Indexes.{IsLast}
-use Rattle.mintc_order.specs.Searches.{IsGiven, AreLeft, IsWaiting, IsSearch}
+use Rattle.mintc_order.specs.Listings.{IsGiven, AreListed}
+use Rattle.mintc_order.specs.Searches.{IsWaiting, IsSearch}
+use Rattle.mintc_order.proofs.Listing.{other_left, not_same, zero_still, IsGiven-cases, listed_before, listed_last, AreLeft-given, AreListed-given}
 
 pub at_end : {arcs : List TimingArc} {bits : ℕ} {left places given : List ℕ} (path : List ℕ) (e : ℕ) → IsSearch arcs bits left places (path ++ e ∷ []) given → e < length arcs
 at_end path e s =
@@ -43,36 +43,29 @@ module _ {arcs : List TimingArc} {bits : ℕ} {left places given : List ℕ} (pa
   in_bits : bit < bits
   in_bits = let w = s.within e top.number in w.0
 
-  left_same : get_or left' bit 0 ≡ x
-  left_same = get_or-set_same left bit x 0 (let l = s.each_left in let b = in_bits in omega arith)
+  listed : AreListed arcs left given
+  listed = s.are_given.listed
 
-  left_other : (v : ℕ) → v ≢ bit → get_or left' v 0 ≡ get_or left v 0
-  left_other v ne = get_or-set_other left bit v x 0 ne
+  pub zero_stays : (v : ℕ) → get_or left v 0 ≡ 0 → get_or left' v 0 ≡ 0
+  zero_stays = zero_still s.are_left listed top.next last
+
+  not_bit : (v : ℕ) → get_or left v 0 ≡ 0 → v ≢ bit
+  not_bit = not_same s.are_left listed top.next last
+
+  cases : (n : ℕ) → IsGiven arcs left' n → IsGiven arcs left n ⊎ (n ≡ e)
+  cases = IsGiven-cases s.are_left listed top.next last
+
+  given_before : (i : ℕ) → i < length given → get_or given' i 0 ≡ get_or given i 0
+  given_before = listed_before s.are_left listed top.next last
+
+  given_last : (i : ℕ) → i < length given' → length given ≤ i → get_or given' i 0 ≡ e
+  given_last = listed_last s.are_left listed top.next last
 
   place_same : get_or places' bit 0 ≡ 0
   place_same = get_or-set_same places bit 0 0 (let l = s.each_place in let b = in_bits in omega arith)
 
   place_other : (v : ℕ) → v ≢ bit → get_or places' v 0 ≡ get_or places v 0
   place_other v ne = get_or-set_other places bit v 0 0 ne
-
-  -- a bit all of whose arcs are given out is another one
-  not_bit : (v : ℕ) → get_or left v 0 ≡ 0 → v ≢ bit
-  not_bit v z = λ q. let n = top.next in let same = ap (λ (v' : ℕ). get_or left v' 0) q in omega arith
-
-  pub zero_stays : (v : ℕ) → get_or left v 0 ≡ 0 → get_or left' v 0 ≡ 0
-  zero_stays v z = left_other v (not_bit v z) ∙ z
-
-  are_left : AreLeft arcs left'
-  are_left v n h =
-      ⊎_elim
-      (λ q.
-      let same = ap (λ (v' : ℕ). get_or left' v' 0) q in
-      let z = left_same in
-      let f = last.fits in
-      let m = top.number in
-      (omega arith, last.leaves n (omega arith) ∙ sym q))
-      (λ ne. s.are_left v n (sym (left_other v ne) ∙ h))
-      (cases_eq v bit)
 
   waiting : (i : ℕ) → i < length path → IsWaiting arcs left' places' i (get_or path i 0)
   waiting i h =
@@ -81,7 +74,7 @@ module _ {arcs : List TimingArc} {bits : ℕ} {left places given : List ℕ} (pa
       let ne : (arc_at arcs (get_or path i 0)).from ≢ bit = λ q. let same = ap (λ (v : ℕ). get_or places v 0) q in let a = w.place in let b = top.place in omega arith in
       record {
         number = w.number;
-        next = left_other (arc_at arcs (get_or path i 0)).from ne ∙ w.next;
+        next = other_left s.are_left listed top.next last (arc_at arcs (get_or path i 0)).from ne ∙ w.next;
         place = place_other (arc_at arcs (get_or path i 0)).from ne ∙ w.place;
       }
 
@@ -104,76 +97,18 @@ module _ {arcs : List TimingArc} {bits : ℕ} {left places given : List ℕ} (pa
       (cases_lt i (length path)))
       (cases_eq v bit)
 
-  IsGiven-still : (n : ℕ) → IsGiven arcs left n → IsGiven arcs left' n
-  IsGiven-still n g =
-      ⊎_elim
-      (λ q.
-      let old = ap (λ (v : ℕ). get_or left v 0) q in
-      let new = ap (λ (v : ℕ). get_or left' v 0) q in
-      let a = top.next in
-      let b = left_same in
-      let f = last.fits in
-      omega arith)
-      (λ ne. let same = left_other (arc_at arcs n).from ne in omega arith)
-      (cases_eq (arc_at arcs n).from bit)
-
-  IsGiven-cases : (n : ℕ) → IsGiven arcs left' n → IsGiven arcs left n ⊎ (n ≡ e)
-  IsGiven-cases n g =
-      ⊎_elim
-      (λ q.
-      let old = ap (λ (v : ℕ). get_or left v 0) q in
-      let new = ap (λ (v : ℕ). get_or left' v 0) q in
-      let a = top.next in
-      let b = left_same in
-      ⊎_elim
-      (λ same. inr same)
-      (λ ne. ⊎_elim (λ l. absurd (last.last n (omega arith) l q)) (λ l. inl (omega arith)) (cases_lt n e))
-      (cases_eq n e))
-      (λ ne. let same = left_other (arc_at arcs n).from ne in inl (omega arith))
-      (cases_eq (arc_at arcs n).from bit)
-
-  IsGiven-last : IsGiven arcs left' e
-  IsGiven-last = let b = left_same in let f = last.fits in omega arith
-
-  given_before : (i : ℕ) → i < length given → get_or given' i 0 ≡ get_or given i 0
-  given_before i h = get_or_append_left given (e ∷ []) 0 i h
-
-  given_last : (i : ℕ) → i < length given' → length given ≤ i → get_or given' i 0 ≡ e
-  given_last i h l = get_or_push given e 0 i (let len = length_push given e in omega arith)
-
-  number : (i : ℕ) → i < length given' → get_or given' i 0 < length arcs
-  number i h =
-      ⊎_elim
-      (λ l. rw (given_before i l) (s.are_given.number i l))
-      (λ l. rw (given_last i h l) top.number)
-      (cases_lt i (length given))
-
-  out : (i : ℕ) → i < length given' → IsGiven arcs left' (get_or given' i 0)
-  out i h =
-      ⊎_elim
-      (λ l. rw (given_before i l) (IsGiven-still (get_or given i 0) (s.are_given.out i l)))
-      (λ l. rw (given_last i h l) IsGiven-last)
-      (cases_lt i (length given))
-
-  whole : (n : ℕ) → n < length arcs → IsGiven arcs left' n → Contains given' n
-  whole n h g =
-      ⊎_elim
-      (λ old. Contains-append_left given (e ∷ []) n (s.are_given.whole n h old))
-      (λ q. rw q (Contains-push given e))
-      (IsGiven-cases n g)
-
   ended : (n : ℕ) → n < length arcs → IsGiven arcs left' n → get_or left' (arc_at arcs n).to 0 ≡ 0
   ended n h g =
       ⊎_elim
       (λ old. zero_stays (arc_at arcs n).to (s.are_given.ended n h old))
       (λ q. rw q (zero_stays (arc_at arcs e).to end))
-      (IsGiven-cases n g)
+      (cases n g)
 
   -- no arc that is given out ends at the bit
   end_elsewhere : (i : ℕ) → i < length given' → (arc_at arcs (get_or given' i 0)).to ≢ bit
   end_elsewhere i h =
       ⊎_elim
-      (λ l. rw (given_before i l) (not_bit (arc_at arcs (get_or given i 0)).to (s.are_given.ended (get_or given i 0) (s.are_given.number i l) (s.are_given.out i l))))
+      (λ l. rw (given_before i l) (not_bit (arc_at arcs (get_or given i 0)).to (s.are_given.ended (get_or given i 0) (listed.number i l) (listed.out i l))))
       (λ l. rw (given_last i h l) (not_bit (arc_at arcs e).to end))
       (cases_lt i (length given))
 
@@ -189,28 +124,14 @@ module _ {arcs : List TimingArc} {bits : ℕ} {left places given : List ℕ} (pa
       (λ l. absurd (end_elsewhere i h (q ∙ ap (λ (n : ℕ). (arc_at arcs n).from) (given_last j k l))))
       (cases_lt j (length given))
 
-  once : (i j : ℕ) → i < j → j < length given' → get_or given' i 0 ≢ get_or given' j 0
-  once i j l k = λ q.
-      let len = length_push given e in
-      let old : i < length given = omega arith in
-      ⊎_elim
-      (λ m. s.are_given.once i j l m (sym (given_before i old) ∙ q ∙ given_before j m))
-      (λ m.
-      let same : get_or given i 0 ≡ e = sym (given_before i old) ∙ q ∙ given_last j k m in
-      let g = s.are_given.out i old in
-      let a = ap (λ (n : ℕ). get_or left (arc_at arcs n).from 0) same in
-      let b = top.next in
-      omega arith)
-      (cases_lt j (length given))
-
   pub IsSearch-given : IsSearch arcs bits left' places' path given'
   IsSearch-given = record {
     within = s.within;
     each_left = length-set left bit x ∙ s.each_left;
     each_place = length-set places bit 0 ∙ s.each_place;
-    are_left = are_left;
+    are_left = AreLeft-given s.are_left listed top.next last;
     is_path = record { waiting = waiting; joined = joined; placed = placed };
-    are_given = record { number = number; out = out; whole = whole; ended = ended; after = after; once = once };
+    are_given = record { listed = AreListed-given s.are_left listed top.next last; ended = ended; after = after };
   }
 
   -- the same, of what the code wrote

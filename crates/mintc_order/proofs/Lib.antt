@@ -1,7 +1,9 @@
 pub mod Counting
 pub mod Indexing
+pub mod Listing
 pub mod Entering
 pub mod Giving
+pub mod GatheringLaws
 pub mod Closing
 pub mod Placing
 pub mod LoopLaws

@@ -1,3 +1,5 @@
+pub mod Gatherings
 pub mod Indexes
+pub mod Listings
 pub mod Refusals
 pub mod Searches

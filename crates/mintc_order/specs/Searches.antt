@@ -1,19 +1,10 @@
--- What holds while a search along arcs gives out each arc after all arcs that leave its end. `left` has for each bit one
--- more than the number of the last arc that leaves it and isn't given out, or 0 where all are. Arcs of one bit are given
--- out from the last one down.
-use Rattle.std.specs.Prelude.{◌≡◌, ◌≢◌, ◌<◌, ◌≤◌, ◌+◌, ◌*◌, ℕ, List, length, slice_index, Contains}
+-- What holds while a search along arcs gives out each arc after all arcs that leave its end.
+use Rattle.std.specs.Prelude.{◌≡◌, ◌<◌, ◌+◌, ◌*◌, ℕ, List, length, slice_index}
 use Rattle.mintc_timing.specs.declared.parts.TimingArc.{TimingArc}
 use Rattle.mintc_timing.specs.Paths.{arc_at}
 use Rattle.mintc_order.specs.declared.search.Search.{Search}
 use Rattle.mintc_order.specs.Indexes.{AreWithin}
-
--- Arc e is given out.
-abbrev pub IsGiven : List TimingArc → List ℕ → ℕ → Type 0
-IsGiven arcs left e = slice_index left (arc_at arcs e).from ≤ e
-
--- The bits' numbers in `left` are of arcs that leave them.
-abbrev pub AreLeft : List TimingArc → List ℕ → Type 0
-AreLeft arcs left = (bit e : ℕ) → slice_index left bit ≡ e + 1 → (e < length arcs) × ((arc_at arcs e).from ≡ bit)
+use Rattle.mintc_order.specs.Listings.{IsGiven, AreLeft, AreListed}
 
 -- Arc e stands at place i of the path: it is the next to be given out of those that leave its bit, and the bit knows
 -- the place.
@@ -31,13 +22,10 @@ pub record IsSearchPath (arcs : List TimingArc) (left places path : List ℕ) : 
 
 -- The list has each arc that is given out once, and each stands after all arcs that leave its end.
 pub record AreGiven (arcs : List TimingArc) (left given : List ℕ) : Type 0 where
-  pub number : (i : ℕ) → i < length given → slice_index given i < length arcs
-  pub out : (i : ℕ) → i < length given → IsGiven arcs left (slice_index given i)
-  pub whole : (e : ℕ) → e < length arcs → IsGiven arcs left e → Contains given e
+  pub listed : AreListed arcs left given
   pub ended : (e : ℕ) → e < length arcs → IsGiven arcs left e → slice_index left (arc_at arcs e).to ≡ 0
   pub after : (i j : ℕ) → i < length given → j < length given →
       (arc_at arcs (slice_index given i)).to ≡ (arc_at arcs (slice_index given j)).from → j < i
-  pub once : (i j : ℕ) → i < j → j < length given → slice_index given i ≢ slice_index given j
 
 -- A search along arcs between so many bits, at any moment.
 pub record IsSearch (arcs : List TimingArc) (bits : ℕ) (left places path given : List ℕ) : Type 0 where

@@ -6,10 +6,12 @@ ghost use Rattle.mintc_text.specs.Stops.{StopsAt};
 ghost use Rattle.mintc_timing.specs.Order.{IsOrder};
 ghost use Rattle.mintc_order.specs.Refusals.{NamesLoop};
 
+mod gathering;
 mod laws;
 mod leaving;
 mod search;
 
+use gathering::gathered;
 pub use laws::orders_exclude_loops;
 use leaving::Leaving;
 use mintc_text::{Numbers, Stop};
@@ -19,7 +21,8 @@ use std::alloc::Global;
 
 /// All arc numbers of the design, each once, every arc after all arcs into the bit that it leaves. The refusal is
 /// CombinationalLoop with a closed list of arcs that leaves no bit twice, exactly where arcs lead round; only a want of
-/// memory stops the call otherwise. The search looks at each bit and each arc once, which no clause says.
+/// memory stops the call otherwise. The search looks at each bit and each arc once, which no clause says. Arcs that leave a
+/// bit stand together, in falling order of their numbers, which no clause says.
 pub fn order(alloc: Global, flat: &Flat) -> Result<Order, Stop>
     ensures order { IfOk result (λ order. IsOrder flat.now.arcs order) }
     ensures stop { IfErr result (StopsAt (NamesLoop flat.now.arcs)) }
@@ -27,6 +30,9 @@ pub fn order(alloc: Global, flat: &Flat) -> Result<Order, Stop>
     let bits = 2 * flat.elements().len() + flat.inner().items().len();
     let arcs = flat.arcs();
     let Ok(Leaving { lasts, nexts }) = Leaving::new(alloc, arcs, bits) else {
+        return Err(Stop::OutOfMemory);
+    };
+    let Ok(mut unmet) = lasts.clone() else {
         return Err(Stop::OutOfMemory);
     };
     let Ok(mut search) = Search::new(alloc, lasts) else {
@@ -37,5 +43,8 @@ pub fn order(alloc: Global, flat: &Flat) -> Result<Order, Stop>
     }
     let mut order = search.given;
     order.reverse();
-    Ok(Order::new(Numbers::new(order)))
+    match gathered(alloc, arcs, &order, &mut unmet, &nexts) {
+        Ok(order) => Ok(Order::new(Numbers::new(order))),
+        Err(_) => Err(Stop::OutOfMemory),
+    }
 }

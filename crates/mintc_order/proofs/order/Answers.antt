@@ -14,7 +14,7 @@ loop-root-init c =
       through = λ bit h. absurd (omega arith);
     }
 
-pub returns-clause-order : goal.returns-clause-order
-returns-clause-order c =
+pub gathered-requires-clause-order : goal.gathered-requires-clause-order
+gathered-requires-clause-order c =
     let order = IsOrder-from_search c.loop-root.invariant.search (λ bit h. c.loop-root.invariant.through bit (omega arith)) in
-    rw (c.new-4.ensures, c.new-3.ensures, c.reverse.ensures.items, ← c.arcs-arcs.ensures) order
+    rw (c.deref-2.ensures.value, c.reverse.ensures.items) order
