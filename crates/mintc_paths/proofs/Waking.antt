@@ -1,6 +1,7 @@
 -- The arcs that are awake along a course.
-use Rattle.std.proofs.Common.{◌≡◌, ◌≢◌, ℕ, ◌<◌, ◌≤◌, ◌+◌, ◌^◌, Bool, true, false, List, [], length, get_or, replicate, ◌⊎◌, ⊎_elim, arith, sym, subst}
+use Rattle.std.proofs.Common.{◌≡◌, ◌≢◌, ℕ, ◌<◌, ◌≤◌, ◌+◌, ◌^◌, Bool, true, false, List, [], length, get_or, replicate, take, drop, ◌++◌, ap, ◌∙◌, ◌⊎◌, ⊎_elim, arith, sym, subst}
 use Rattle.std.proofs.lemmas.List.{get_or-replicate, length-replicate, get_or_past}
+use Rattle.std.proofs.Math.Seq.{take-append_seam}
 use Rattle.std.specs.Prelude.{All}
 use Rattle.mintc_places.specs.Places.{IsIn, room}
 use Rattle.mintc_places.specs.declared.places.Places.{Places}
@@ -52,3 +53,10 @@ all_off count reached same row =
   where
     low_or_past : (i n : ℕ) → (i < n) ⊎ (n ≤ i)
     low_or_past i n = grind arith
+
+pub IsReady-fewer : (few many : ℕ) (reached : List Bool) (awake : Awake) → few ≤ many → IsReady many reached awake → IsReady few reached awake
+IsReady-fewer few many reached awake less h = record { listed = h.listed; room = let before = h.room in omega arith; few = h.few }
+
+-- a list that is written over the whole of another
+pub written_over : {X : Type 0} (n : ℕ) (new old : List X) → n ≡ length new → take n (new ++ drop (length new) old) ≡ new
+written_over n new old e = ap (λ k. take k (new ++ drop (length new) old)) e ∙ take-append_seam new (drop (length new) old)
