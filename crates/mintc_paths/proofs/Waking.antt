@@ -1,5 +1,5 @@
 -- The arcs that are awake along a course.
-use Rattle.std.proofs.Common.{◌≡◌, ◌≢◌, ℕ, ◌<◌, ◌≤◌, ◌+◌, ◌^◌, Bool, true, false, List, [], length, get_or, replicate, take, drop, ◌++◌, ap, ◌∙◌, ◌⊎◌, ⊎_elim, arith, sym, subst}
+use Rattle.std.proofs.Common.{◌≡◌, ◌≢◌, ℕ, ◌<◌, ◌≤◌, ◌+◌, ◌^◌, Bool, false, List, [], length, get_or, replicate, take, drop, ◌++◌, ap, ◌∙◌, ◌⊎◌, ⊎_elim, arith, sym, subst}
 use Rattle.std.proofs.lemmas.List.{get_or-replicate, length-replicate, get_or_past}
 use Rattle.std.proofs.Math.Seq.{take-append_seam}
 use Rattle.std.specs.Prelude.{All}

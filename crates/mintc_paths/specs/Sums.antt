@@ -1,5 +1,5 @@
 -- Sums of paths to bits, from up to eight elements at a time.
-use Rattle.std.specs.Prelude.{◌≡◌, ◌<◌, ◌≤◌, ◌+◌, ◌*◌, ℕ, None, List, [], length, slice_index_or, map, Bool, true, false}
+use Rattle.std.specs.Prelude.{◌≡◌, ◌<◌, ◌≤◌, ◌+◌, ◌*◌, ℕ, None, List, [], length, slice_index_or, map, Bool, false}
 use Rattle.mintc_timing.specs.declared.parts.TimingArc.{TimingArc}
 use Rattle.mintc_timing.specs.Paths.{output_of, arc_at}
 use Rattle.mintc_lanes.specs.Lanes.{lane_at, AreWithin}

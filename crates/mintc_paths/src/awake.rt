@@ -1,4 +1,5 @@
-//! The rows that are reached, and the arcs that leave them, so that no others are looked at.
+//! The rows that are reached, and the arcs that leave them, so that no others are looked at. The arcs stand in a set of their
+//! places along a course.
 ghost use Rattle.std.specs.Prelude.{◌≡◌, ◌<◌, ◌^◌, ℕ, List, Bool, true, false, length, slice_index_or, slice_set, IfOk, OnOk};
 ghost use Rattle.mintc_paths.specs.Awake.{IsReady, IsAwake};
 ghost use Rattle.mintc_paths.specs.Spans.{AreSpans};
@@ -7,7 +8,7 @@ use crate::rows::Course;
 use mintc_places::Places;
 use std::alloc::{AllocError, Global};
 
-/// What is awake along a course.
+/// The rows that are reached along a course, and the arcs that are awake.
 #[derive(Drop)]
 pub struct Awake {
     /// The rows that are reached.
@@ -17,7 +18,7 @@ pub struct Awake {
 }
 
 impl Awake {
-    /// Nothing, with room for so many arcs.
+    /// No rows and no arcs, with room for so many.
     pub fn new(alloc: Global, arcs: usize) -> Result<Awake, AllocError>
         requires { arcs < 2 ^ 32 }
         ensures ready { IfOk result (λ awake. (reached : List Bool) → ((row : ℕ) → slice_index_or reached row false ≡ false) → IsReady arcs reached awake) }

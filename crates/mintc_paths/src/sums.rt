@@ -101,7 +101,7 @@ fn clear(
     Ok(())
 }
 
-/// Carries the sums in the row that the arc leaves to the row that it enters, if that was reached.
+/// Carries the sums in the row that the arc leaves, if it is reached, to the row that it enters.
 fn carry(
     sums: &mut [Sums],
     reached: &mut [bool],

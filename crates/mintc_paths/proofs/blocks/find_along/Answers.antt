@@ -1,4 +1,4 @@
-use Rattle.std.proofs.Common.{◌≡◌, ◌++◌, ◌∙◌, List, Bool, take, drop, length, arith, rules, subst, sym}
+use Rattle.std.proofs.Common.{◌≡◌, ◌++◌, List, Bool, take, drop, length, arith, rules, subst, sym}
 use Rattle.mintc_paths.specs.declared.sums.Sums.{Sums}
 use Rattle.mintc_paths.specs.Awake.{IsReady}
 use Rattle.mintc_paths.specs.Sums.{AreMarked}

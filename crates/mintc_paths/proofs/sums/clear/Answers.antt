@@ -1,5 +1,4 @@
-use Rattle.std.proofs.Common.{◌≡◌, ◌<◌, ◌+◌, ◌*◌, ◌∙◌, ℕ, Bool, true, false, List, length, get_or-set_other, length-set, arith, sym, subst, ⊎_elim}
-use Rattle.std.proofs.lemmas.Bool.{cases_eq}
+use Rattle.std.proofs.Common.{◌≡◌, ◌<◌, ◌+◌, ◌*◌, ◌∙◌, ℕ, List, length, arith, sym, subst}
 use Rattle.std.proofs.lemmas.List.{get_or_default}
 use Rattle.mintc_paths.specs.declared.sums.Sums.{Sums}
 use Rattle.mintc_paths.specs.Sums.{row_of, placed, AreBegun, AreMarked}
