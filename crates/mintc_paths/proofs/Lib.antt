@@ -20,3 +20,4 @@ pub mod Turning
 pub mod TurnedPaths
 pub mod TurnedCourse
 pub mod TurnedPairs
+pub mod Waking

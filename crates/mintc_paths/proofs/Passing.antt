@@ -1,17 +1,20 @@
 -- Arcs that leave no row that is reached change no sums.
-use Rattle.std.proofs.Common.{◌≡◌, ◌≢◌, ℕ, zero, suc, ◌<◌, ◌≤◌, ◌+◌, ◌-◌, ◌*◌, ℤ, Bool, true, false, List, length, get_or, arith, refl, ap, ◌∙◌, sym, Option, Some, None, subst}
+use Rattle.std.proofs.Common.{◌≡◌, ◌≢◌, ℕ, zero, suc, ◌<◌, ◌≤◌, ◌+◌, ◌-◌, ◌*◌, min, ℤ, Bool, true, false, List, length, get_or, arith, refl, ap, ◌∙◌, sym, Option, Some, None, subst}
 use Rattle.std.specs.Int.{int_max, int_min}
 use Rattle.mintc_timing.specs.declared.parts.TimingArc.{TimingArc}
 use Rattle.mintc_timing.specs.Design.{Design}
 use Rattle.mintc_timing.specs.Limits.{IsArc, IsDelay, IsDesign}
 use Rattle.mintc_timing.specs.Order.{IsOrder}
-use Rattle.mintc_timing.specs.Paths.{arc_at, output_of}
+use Rattle.mintc_timing.specs.Paths.{arc_at}
 use Rattle.mintc_timing.proofs.Ordered.{apart, inside}
 use Rattle.mintc_lanes.specs.Lanes.{lane_at, joined, AreJoined}
+use Rattle.mintc_places.specs.Places.{IsIn}
+use Rattle.mintc_paths.specs.Awake.{IsAwake}
+use Rattle.mintc_paths.specs.declared.awake.Awake.{Awake}
 use Rattle.mintc_paths.specs.declared.rows.Course.{Course}
 use Rattle.mintc_paths.specs.declared.sums.Sums.{Sums}
 use Rattle.mintc_paths.specs.declared.sums.TheConstants.{NO_SUMS}
-use Rattle.mintc_paths.specs.Sums.{sums_at, row_of, placed, moved, IsAlike, IsBounded, IsCourse, AreMarked, AreOutputs, AreSums}
+use Rattle.mintc_paths.specs.Sums.{sums_at, row_of, placed, moved, IsAlike, IsBounded, IsCourse, AreMarked, AreSums}
 use Rattle.mintc_paths.proofs.Beginning.{none_at}
 use Rattle.mintc_paths.proofs.Filling.{IsBounded-weaker, IsCarried, AreSums-more, arc_inside}
 use Rattle.mintc_paths.proofs.Rowing.{length-placed, placed_at, alike_row, bounded_row, IsCarried-placed}
@@ -29,6 +32,13 @@ greatest_absent to from w e lane below =
 least_absent : (to from : Sums) (w : ℤ) → from ≡ NO_SUMS → AreJoined int_min to.least from.least w to.least
 least_absent to from w e lane below =
     joined_absent int_min (lane_at to.least lane) (lane_at from.least lane) w (ap (λ (s : Sums). lane_at s.least lane) e ∙ (none_at lane below).1)
+
+-- what a place before the end and a place past it are cut to
+pub at_place : (i n : ℕ) → i < n → min i n ≡ i
+at_place i n low = omega arith
+
+pub at_end : (i n : ℕ) → n ≤ i → min i n ≡ n
+at_end i n past = omega arith
 
 not_on : (b : Bool) → (b ≡ true → ⊥) → b ≡ false
 not_on true h = absurd (h refl)
@@ -158,32 +168,10 @@ module _ (design : Design) (order : List ℕ) (is_order : IsOrder design.arcs or
       passed_along k m low high off h =
           passed design.arcs order is_order first lanes few (placed rows sums) ends_in k m low high (λ i from below. none_from i (omega arith) (not_on (get_or reached (left i) false) (off i from below))) h
 
-      -- Before the first arc of the outputs none leaves a row that is reached.
-      pub passed_before : (start k : ℕ) → k ≤ start → k ≤ length order → AreOutputs rows first lanes reached →
-          ((lane : ℕ) → lane < lanes → start ≤ row_of course.spans.firsts.items (row_of rows (output_of (first + lane)))) →
-          AreSums design.arcs order 0 first lanes (placed rows sums) → AreSums design.arcs order k first lanes (placed rows sums)
-      passed_before start k low high outputs starts h =
-          passed_along 0 k (omega arith) high
-          (λ i from below on.
-          let in_row = row_in i (omega arith) in
-          let both = marked.count in
+      -- Where none is awake from one place on and before the next, no arc there leaves a row that is reached.
+      pub passed_next : (awake : Awake) (k next : ℕ) → k ≤ next → k ≤ length order → IsAwake course.along.items k reached awake →
+          ((other : ℕ) → k ≤ other → other < next → IsIn awake.places.words.items other → ⊥) →
+          AreSums design.arcs order k first lanes (placed rows sums) → AreSums design.arcs order (min next (length order)) first lanes (placed rows sums)
+      passed_next awake k next low high is_awake none h =
           let all = is_course.along.count in
-          let at = outputs (left i) (omega arith) on in
-          let begins = starts at.0 at.1 in
-          let same : row_of course.spans.firsts.items (left i) ≡ row_of course.spans.firsts.items (row_of rows (output_of (first + at.0))) = ap (row_of course.spans.firsts.items) at.2 in
-          let stands = (is_course.spans.each i (omega arith)).0 in
-          absurd (omega arith)) h
-
-      -- Past the ends of the rows that are reached none leaves such a row.
-      pub passed_after : (end k : ℕ) → k ≤ length order → (k < length order → end ≤ k) →
-          ((row : ℕ) → row < length sums → get_or reached row false ≡ true → row_of course.spans.ends.items row ≤ end) →
-          AreSums design.arcs order k first lanes (placed rows sums) → AreSums design.arcs order (length order) first lanes (placed rows sums)
-      passed_after end k low past ends h =
-          passed_along k (length order) low (omega arith)
-          (λ i from below on.
-          let in_row = row_in i below in
-          let all = is_course.along.count in
-          let here = past (omega arith) in
-          let ended = ends (left i) (omega arith) on in
-          let stands = (is_course.spans.each i (omega arith)).1 in
-          absurd (omega arith)) h
+          passed_along k (min next (length order)) (omega arith) (omega arith) (λ i from below on. none i from (omega arith) (is_awake.each i from (omega arith) on)) h

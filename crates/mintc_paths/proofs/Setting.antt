@@ -1,5 +1,5 @@
 -- Marks that are set, and that are joined.
-use Rattle.std.proofs.Common.{◌≡◌, ◌≢◌, ◌<◌, ◌*◌, ◌^◌, ◌/◌, ◌%◌, ℕ, List, length, get_or, set, arith, ap, ◌∙◌, sym, subst, ⊎_elim, get_or-set_same, get_or-set_other, bit_or, w64, ◌⊎◌}
+use Rattle.std.proofs.Common.{◌≡◌, ◌≢◌, ◌<◌, ◌*◌, ◌^◌, ◌/◌, ◌%◌, ℕ, List, length, get_or, set, arith, ap, ◌∙◌, sym, subst, ⊎_elim, get_or-set_same, get_or-set_other, bit_or, w64}
 use Rattle.std.proofs.lemmas.Bool.{cases_eq}
 use Rattle.std.proofs.lemmas.Nat.Bits.{bit_at_set_same, bit_at_set_other}
 use Rattle.std.specs.Int.{bit_at}

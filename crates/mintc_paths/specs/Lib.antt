@@ -13,3 +13,4 @@ pub mod Marks
 pub mod Count
 pub mod Turned
 pub mod Ordered
+pub mod Awake

@@ -1,5 +1,5 @@
 -- Sums of paths to bits, from up to eight elements at a time.
-use Rattle.std.specs.Prelude.{◌≡◌, ◌<◌, ◌≤◌, ◌+◌, ◌*◌, ℕ, None, List, [], length, slice_index_or, map, Bool, true, false}
+use Rattle.std.specs.Prelude.{◌≡◌, ◌<◌, ◌≤◌, ◌+◌, ◌*◌, ℕ, None, List, [], length, slice_index_or, map, Bool, false}
 use Rattle.mintc_timing.specs.declared.parts.TimingArc.{TimingArc}
 use Rattle.mintc_timing.specs.Paths.{output_of, arc_at}
 use Rattle.mintc_lanes.specs.Lanes.{lane_at, AreWithin}
@@ -76,8 +76,3 @@ pub record IsCourse (n : ℕ) (arcs : List TimingArc) (order : List ℕ) (course
 pub record AreMarked (sums : List Sums) (reached : List Bool) : Type 0 where
   pub count : length reached ≡ length sums
   pub none : (bit : ℕ) → bit < length sums → slice_index_or reached bit false ≡ false → sums_at sums bit ≡ NO_SUMS
-
--- Of the rows none is marked but those of the outputs of so many elements.
-abbrev pub AreOutputs : List ℕ → ℕ → ℕ → List Bool → Type 0
-AreOutputs rows first lanes reached = (row : ℕ) → row < length reached → slice_index_or reached row false ≡ true →
-    (lane : ℕ) × (lane < lanes) × (row ≡ row_of rows (output_of (first + lane)))

@@ -4,6 +4,7 @@ ghost use Rattle.std.specs.Bool.{OnTrue};
 ghost use Rattle.mintc_text.specs.Stops.{StopsAt};
 ghost use Rattle.mintc_timing.specs.Design.{Design};
 ghost use Rattle.mintc_timing.specs.Order.{IsOrder, ArePathsShort};
+ghost use Rattle.mintc_paths.specs.Awake.{IsReady};
 ghost use Rattle.mintc_paths.specs.Found.{IsFoundBefore};
 ghost use Rattle.mintc_lanes.specs.Lanes.{AreLanes};
 ghost use Rattle.mintc_paths.specs.Ordered.{Ordered, IsCourseOf, ordered};
@@ -11,6 +12,7 @@ ghost use Rattle.mintc_paths.specs.Reached.{AreExtremes};
 ghost use Rattle.mintc_paths.specs.Sums.{AreRows, IsCourse, AreMarked, placed, sums_at};
 ghost use Rattle.mintc_paths.specs.Refusals.{AreShortBefore, IsPathRange};
 
+use crate::awake::Awake;
 use crate::found::Found;
 use crate::long::first_long;
 use crate::rows::{Course, Rows};
@@ -62,6 +64,7 @@ fn find_block(
     course: &Course,
     sums: &mut [Sums],
     reached: &mut [bool],
+    awake: &mut Awake,
     found: &mut Found,
     elements: u32,
     first: u32,
@@ -76,15 +79,19 @@ fn find_block(
     requires short { AreShortBefore of.design first }
     requires found { IsFoundBefore of.design first 0 found.old }
     requires marked { AreMarked sums.old reached.old }
+    requires ready { IsReady (length course.now.along.items) reached.old awake.old }
     requires known { OnTrue known_short (ArePathsShort of.design) }
     ensures marked { OnOk result (AreMarked sums.new reached.new) }
+    ensures ready { OnOk result (IsReady (length course.now.along.items) reached.new awake.new) }
     ensures found { OnOk result (IsFoundBefore of.design (first + lanes) 0 found.new) }
     ensures short { OnOk result (AreShortBefore of.design (first + lanes)) }
     ensures stop { IfErr result (StopsAt (IsPathRange of.design)) }
 {
     let rows = &course.rows;
     let lanes = lanes as usize;
-    fill(sums, reached, course, first, lanes);
+    let Ok(()) = fill(sums, reached, awake, course, first, lanes) else {
+        return Err(Stop::OutOfMemory);
+    };
     if let Err(refusal) = refuse_long(sums, reached, rows, elements, first, lanes, known_short) {
         return Err(Stop::Refused(refusal));
     }
@@ -126,6 +133,9 @@ pub fn find_along(
     let Ok(mut reached) = vec![in alloc; false; bits] else {
         return Err(Stop::OutOfMemory);
     };
+    let Ok(mut awake) = Awake::new(alloc, course.along.len()) else {
+        return Err(Stop::OutOfMemory);
+    };
     let mut found = Found::new(alloc);
     let mut first = 0;
     while first < elements {
@@ -134,6 +144,7 @@ pub fn find_along(
             course,
             &mut sums,
             &mut reached,
+            &mut awake,
             &mut found,
             elements,
             first,

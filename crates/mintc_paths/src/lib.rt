@@ -13,6 +13,7 @@ ghost use Rattle.mintc_timing.specs.Paths.{ArePairs, IsPath, input_of, greatest_
 ghost use Rattle.mintc_paths.specs.Refusals.{IsExtremesRefusal};
 ghost use Rattle.mintc_paths.specs.Trace.{IsPairOf};
 
+mod awake;
 mod back;
 mod blocks;
 mod count;

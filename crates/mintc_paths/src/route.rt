@@ -1,10 +1,11 @@
 //! A path with the sum of a pair.
-ghost use Rattle.std.specs.Prelude.{◌≡◌, ◌<◌, ℕ, ◌+◌, ◌*◌, length, IfOk};
+ghost use Rattle.std.specs.Prelude.{◌≡◌, ◌<◌, ℕ, ◌+◌, ◌*◌, length, slice_index_or, false, IfOk};
 ghost use Rattle.mintc_timing.specs.Order.{IsOrder};
 ghost use Rattle.mintc_paths.specs.Ordered.{Ordered, ordered};
 ghost use Rattle.mintc_paths.specs.Sums.{row_of, IsCourse, AreMarked};
 ghost use Rattle.mintc_paths.specs.Trace.{IsPairOf, IsOfPair};
 
+use crate::awake::Awake;
 use crate::rows::{Course, Rows};
 use crate::sums::{NO_SUMS, Sums, fill};
 use crate::trace::{Extreme, trace};
@@ -36,6 +37,7 @@ fn path_by(
     ghost of: { Ordered }
     requires of { of ≡ ordered system.now.flat system.now.order }
     requires marked { AreMarked sums.old reached.old }
+    requires off { (row : ℕ) → slice_index_or reached.old row false ≡ false }
     requires bits { length sums.old ≡ 2 * length system.now.flat.elements + length system.now.flat.inner }
     requires pair { IsPairOf system.now.pairs from to }
     ensures { IfOk result (IsOfPair extreme system.now from to) }
@@ -46,7 +48,12 @@ fn path_by(
     let Ok(course) = plain_course(alloc, flat, order) else {
         return Err(OutOfMemory);
     };
-    fill(sums, reached, &course, from, 1);
+    let Ok(mut awake) = Awake::new(alloc, course.along.len()) else {
+        return Err(OutOfMemory);
+    };
+    let Ok(()) = fill(sums, reached, &mut awake, &course, from, 1) else {
+        return Err(OutOfMemory);
+    };
     match trace(alloc, extreme, flat, order, sums, 2 * to) {
         Ok(path) => Ok(Numbers::new(path)),
         Err(_) => Err(OutOfMemory),

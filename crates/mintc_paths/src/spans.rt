@@ -1,4 +1,4 @@
-//! Where the arcs that leave a row stand, so that arcs before and after those of the rows that are reached are passed over.
+//! Where the arcs that leave a row stand, so that they are found once the row is reached.
 ghost use Rattle.std.specs.Prelude.{◌≡◌, ◌<◌, ◌≤◌, ◌^◌, ℕ, length, IfOk, All};
 ghost use Rattle.mintc_paths.specs.Spans.{AreSpans, HaveSpans};
 ghost use Rattle.mintc_paths.specs.Sums.{row_of};

@@ -1,18 +1,20 @@
 //! Sums of paths to bits, from up to eight elements at a time.
-ghost use Rattle.std.specs.Prelude.{◌≡◌, ◌≢◌, ◌+◌, ◌*◌, ◌<◌, ◌≤◌, ℕ, List, pos, length, slice_index_or, false, None, Some, IfSome, FitsSigned};
+ghost use Rattle.std.specs.Prelude.{◌≡◌, ◌≢◌, ◌+◌, ◌*◌, ◌<◌, ◌≤◌, ℕ, List, [], pos, length, slice_index_or, false, None, Some, IfSome, OnOk, FitsSigned};
 ghost use Rattle.std.specs.Int.{int_max, int_min, w64};
 ghost use Rattle.mintc_lanes.specs.Lanes.{lane_at, AreJoined};
 ghost use Rattle.mintc_timing.specs.Limits.{IsDelay};
-ghost use Rattle.mintc_timing.specs.Paths.{output_of};
 ghost use Rattle.mintc_timing.specs.declared.parts.TimingArc.{TimingArc};
+ghost use Rattle.mintc_paths.specs.Awake.{AreListed, IsReady, IsAwake};
 ghost use Rattle.mintc_paths.specs.Ordered.{Ordered, IsCourseOf};
 ghost use Rattle.mintc_paths.specs.Reached.{AreExtremes};
 ghost use Rattle.mintc_paths.specs.Spans.{AreSpans};
-ghost use Rattle.mintc_paths.specs.Sums.{sums_at, row_of, placed, IsBounded, IsAlike, AreRows, AreBegun, AreMarked, AreOutputs, AreSums};
+ghost use Rattle.mintc_paths.specs.Sums.{sums_at, placed, IsBounded, IsAlike, AreRows, AreBegun, AreMarked, AreSums};
 
-use crate::rows::{Course, Rows};
+use crate::awake::Awake;
+use crate::rows::Course;
 use mintc_lanes::{ABSENT, max_plus_row, min_plus_row};
 use mintc_timing::TimingArc;
+use std::alloc::AllocError;
 
 /// The greatest and least sums of the paths to a bit, in femtoseconds: a lane for each of eight elements, absent where no
 /// path leads from it.
@@ -53,41 +55,60 @@ fn begin(sums: &mut [Sums], bit: usize, lane: usize)
     at.least[lane] = 0;
 }
 
-/// Takes away the sums at the bits that were reached.
-fn wipe(sums: &mut [Sums], reached: &mut [bool])
-    requires { AreMarked sums.old reached.old }
-    ensures none { (bit : ℕ) → bit < length sums.new → sums_at sums.new bit ≡ NO_SUMS }
+/// Takes away the sums in the rows that were reached.
+fn wipe(sums: &mut [Sums], reached: &mut [bool], awake: &mut Awake)
+    requires marked { AreMarked sums.old reached.old }
+    requires listed { AreListed reached.old awake.old.rows.items }
+    ensures none { (row : ℕ) → row < length sums.new → sums_at sums.new row ≡ NO_SUMS }
     ensures marked { AreMarked sums.new reached.new }
-    ensures off { (bit : ℕ) → bit < length sums.new → slice_index_or reached.new bit false ≡ false }
+    ensures off { (row : ℕ) → slice_index_or reached.new row false ≡ false }
+    ensures rows { awake.new.rows.items ≡ [] }
+    ensures places { awake.new.places ≡ awake.old.places }
 {
-    for bit in 0..sums.len() {
-        if reached[bit] {
-            sums[bit] = NO_SUMS;
-            reached[bit] = false;
-        }
+    for number in 0..awake.rows.len() {
+        let row = awake.rows[number] as usize;
+        sums[row] = NO_SUMS;
+        reached[row] = false;
     }
+    awake.rows.clear();
 }
 
 /// Makes the sums those of the empty paths from so many elements.
-fn clear(sums: &mut [Sums], reached: &mut [bool], rows: &Rows, first: u32, lanes: usize)
+fn clear(
+    sums: &mut [Sums],
+    reached: &mut [bool],
+    awake: &mut Awake,
+    course: &Course,
+    first: u32,
+    lanes: usize,
+) -> Result<(), AllocError>
     requires lanes { lanes ≤ 8 }
     requires outputs { 2 * (first + lanes) ≤ length sums.old }
-    requires rows { AreRows (length sums.old) rows.now }
+    requires rows { AreRows (length sums.old) course.now.rows }
+    requires spans { AreSpans course.now.along.items (length sums.old) course.now.spans }
     requires marked { AreMarked sums.old reached.old }
-    ensures begun { (arcs : List TimingArc) (order : List ℕ) → AreBegun arcs order first lanes (placed rows.now.of_bits.items sums.new) }
-    ensures marked { AreMarked sums.new reached.new }
-    ensures outputs { AreOutputs rows.now.of_bits.items first lanes reached.new }
+    requires ready { IsReady (length course.now.along.items) reached.old awake.old }
+    ensures begun { OnOk result ((arcs : List TimingArc) (order : List ℕ) → AreBegun arcs order first lanes (placed course.now.rows.of_bits.items sums.new)) }
+    ensures marked { OnOk result (AreMarked sums.new reached.new) }
+    ensures awake { OnOk result (IsAwake course.now.along.items 0 reached.new awake.new) }
 {
-    wipe(sums, reached);
+    wipe(sums, reached, awake);
     for lane in 0..lanes {
-        let row = rows.of_bits[2 * (first as usize + lane) + 1] as usize;
-        begin(sums, row, lane);
-        reached[row] = true;
+        let row = course.rows.of_bits[2 * (first as usize + lane) + 1];
+        begin(sums, row as usize, lane);
+        awake.reach(reached, course, row)?;
     }
+    Ok(())
 }
 
-/// Carries the sums at the bit that the arc leaves to the bit that it enters, if that was reached.
-fn carry(sums: &mut [Sums], reached: &mut [bool], arc: TimingArc)
+/// Carries the sums in the row that the arc leaves, if it is reached, to the row that it enters.
+fn carry(
+    sums: &mut [Sums],
+    reached: &mut [bool],
+    awake: &mut Awake,
+    course: &Course,
+    arc: TimingArc,
+) -> Result<(), AllocError>
     requires from { arc.from < length sums.old }
     requires to { arc.to < length sums.old }
     requires apart { arc.from ≢ arc.to }
@@ -97,62 +118,54 @@ fn carry(sums: &mut [Sums], reached: &mut [bool], arc: TimingArc)
     requires to_bounded { IsBounded 1000000000000000 (sums_at sums.old arc.to) }
     requires alike { IsAlike (sums_at sums.old arc.from) }
     requires marked { AreMarked sums.old reached.old }
-    ensures marked { AreMarked sums.new reached.new }
-    ensures rows { (row : ℕ) → row ≢ arc.to → slice_index_or reached.new row false ≡ slice_index_or reached.old row false }
+    requires spans { AreSpans course.now.along.items (length sums.old) course.now.spans }
+    requires ready { IsReady (length course.now.along.items) reached.old awake.old }
+    ensures marked { OnOk result (AreMarked sums.new reached.new) }
+    ensures awake { OnOk result ((place : ℕ) → IsAwake course.now.along.items place reached.old awake.old
+        → IsAwake course.now.along.items place reached.new awake.new) }
     ensures others { (bit : ℕ) → bit ≢ arc.to → sums_at sums.new bit ≡ sums_at sums.old bit }
-    ensures greatest { AreJoined int_max (sums_at sums.old arc.to).greatest (sums_at sums.old arc.from).greatest arc.max (sums_at sums.new arc.to).greatest }
-    ensures least { AreJoined int_min (sums_at sums.old arc.to).least (sums_at sums.old arc.from).least arc.min (sums_at sums.new arc.to).least }
-    ensures bounded { (most : ℕ) → IsBounded most (sums_at sums.old arc.from) → IsBounded most (sums_at sums.old arc.to) → IsBounded (most + 1000000000) (sums_at sums.new arc.to) }
+    ensures greatest { OnOk result (AreJoined int_max (sums_at sums.old arc.to).greatest (sums_at sums.old arc.from).greatest arc.max (sums_at sums.new arc.to).greatest) }
+    ensures least { OnOk result (AreJoined int_min (sums_at sums.old arc.to).least (sums_at sums.old arc.from).least arc.min (sums_at sums.new arc.to).least) }
+    ensures bounded { OnOk result ((most : ℕ) → IsBounded most (sums_at sums.old arc.from) → IsBounded most (sums_at sums.old arc.to) → IsBounded (most + 1000000000) (sums_at sums.new arc.to)) }
 {
     if reached[arc.from as usize] {
-        reached[arc.to as usize] = true;
+        awake.reach(reached, course, arc.to)?;
         let from = sums[arc.from as usize];
         let to = &mut sums[arc.to as usize];
         max_plus_row(&mut to.greatest, &from.greatest, arc.max);
         min_plus_row(&mut to.least, &from.least, arc.min);
     }
-}
-
-/// Where the arcs that leave the outputs of so many elements stand: from which place on, and before which.
-fn window(course: &Course, first: u32, lanes: usize) -> (u32, u32)
-    requires outputs { 2 * (first + lanes) ≤ length course.now.rows.of_bits.items }
-    requires rows { AreRows (length course.now.rows.of_bits.items) course.now.rows }
-    requires spans { AreSpans course.now.along.items (length course.now.rows.of_bits.items) course.now.spans }
-    ensures start { (lane : ℕ) → lane < lanes → result.0 ≤ row_of course.now.spans.firsts.items (row_of course.now.rows.of_bits.items (output_of (first + lane))) }
-    ensures end { (lane : ℕ) → lane < lanes → row_of course.now.spans.ends.items (row_of course.now.rows.of_bits.items (output_of (first + lane))) ≤ result.1 }
-{
-    let mut start = u32::MAX;
-    let mut end = 0;
-    for lane in 0..lanes {
-        let row = course.rows.of_bits[2 * (first as usize + lane) + 1] as usize;
-        start = start.min(course.spans.firsts[row]);
-        end = end.max(course.spans.ends[row]);
-    }
-    (start, end)
+    Ok(())
 }
 
 /// Makes the sums those of the listed paths, and of the empty ones, from up to eight elements from `first` on. A row
-/// without sums isn't marked as reached. Arcs are passed over that stand before those of the outputs, or after those of the
-/// rows that are reached.
-pub fn fill(sums: &mut [Sums], reached: &mut [bool], course: &Course, first: u32, lanes: usize)
+/// without sums isn't marked as reached. Only the arcs that leave rows that are reached are looked at.
+pub fn fill(
+    sums: &mut [Sums],
+    reached: &mut [bool],
+    awake: &mut Awake,
+    course: &Course,
+    first: u32,
+    lanes: usize,
+) -> Result<(), AllocError>
     ghost of: { Ordered }
     requires course { IsCourseOf (length sums.old) of course.now }
     requires lanes { lanes ≤ 8 }
     requires elements { first + lanes ≤ length of.design.elements }
     requires marked { AreMarked sums.old reached.old }
-    ensures marked { AreMarked sums.new reached.new }
-    ensures sums { AreSums of.design.arcs of.order (length of.order) first lanes (placed course.now.rows.of_bits.items sums.new) }
-    ensures extremes { AreExtremes of.design first lanes (placed course.now.rows.of_bits.items sums.new) }
+    requires ready { IsReady (length course.now.along.items) reached.old awake.old }
+    ensures marked { OnOk result (AreMarked sums.new reached.new) }
+    ensures ready { OnOk result (IsReady (length course.now.along.items) reached.new awake.new) }
+    ensures sums { OnOk result (AreSums of.design.arcs of.order (length of.order) first lanes (placed course.now.rows.of_bits.items sums.new)) }
+    ensures extremes { OnOk result (AreExtremes of.design first lanes (placed course.now.rows.of_bits.items sums.new)) }
 {
-    clear(sums, reached, &course.rows, first, lanes);
-    let (start, mut end) = window(course, first, lanes);
-    let mut place = course.along.len().min(start as usize);
-    while place < course.along.len().min(end as usize) {
+    clear(sums, reached, awake, course, first, lanes)?;
+    let mut place = awake.places.next(0);
+    while place < course.along.len() {
+        awake.places.remove(place);
         let arc = course.along[place];
-        carry(sums, reached, arc);
-        if reached[arc.to as usize] {
-            end = end.max(course.spans.ends[arc.to as usize]);
-        }
-        place += 1;
+        carry(sums, reached, awake, course, arc)?;
+        place = awake.places.next(place + 1);
     }
+    Ok(())
 }

@@ -1,4 +1,5 @@
 use Rattle.std.proofs.Common.{◌≡◌, ◌≤◌, ◌-◌, length}
+use Rattle.mintc_paths.specs.Awake.{IsReady}
 use Rattle.mintc_paths.specs.Found.{IsFoundBefore}
 use Rattle.mintc_paths.specs.Sums.{AreMarked}
 use Rattle.mintc_paths.specs.Refusals.{AreShortBefore}
@@ -7,6 +8,7 @@ use Rattle.mintc_paths.proofs.blocks.find_along.Given as goal
 abbrev pub invariant-loop-first : goal.invariant-loop-first
 invariant-loop-first g l = record {
   marked : AreMarked l.sums.items l.reached.items;
+  ready : IsReady (length l.course.along.items) l.reached.items l.awake;
   found : IsFoundBefore g.of.design l.first 0 l.found;
   short : AreShortBefore g.of.design l.first;
   inside : l.first ≤ l.elements;

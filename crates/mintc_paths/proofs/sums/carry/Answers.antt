@@ -3,8 +3,8 @@ use Rattle.std.proofs.lemmas.Int.{ints}
 use Rattle.mintc_paths.proofs.Filling.{bounded_write}
 use Rattle.mintc_paths.proofs.sums.carry.Goals as goal
 
-pub returns-then-reached-arc-clause-bounded : goal.returns-then-reached-arc-clause-bounded
-returns-then-reached-arc-clause-bounded c = λ most from to.
+pub returns-in_ok-reach-clause-bounded : goal.returns-in_ok-reach-clause-bounded
+returns-in_ok-reach-clause-bounded c = λ most from to.
     let min_low = c.requires.min.0 in
     let min_high = c.requires.min.1 in
     let max_low = c.requires.max.0 in

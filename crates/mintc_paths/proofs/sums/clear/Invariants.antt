@@ -1,13 +1,14 @@
 use Rattle.std.proofs.Common.{◌≡◌, ℕ, List, length}
 use Rattle.mintc_timing.specs.declared.parts.TimingArc.{TimingArc}
-use Rattle.mintc_paths.specs.Sums.{placed, AreBegun, AreMarked, AreOutputs}
+use Rattle.mintc_paths.specs.Awake.{IsAwake}
+use Rattle.mintc_paths.specs.Sums.{placed, AreBegun, AreMarked}
 use Rattle.mintc_paths.proofs.sums.clear.Given as goal
 
 -- the lanes so far are begun
 abbrev pub invariant-loop-lane : goal.invariant-loop-lane
 invariant-loop-lane l = record {
-  begun : (arcs : List TimingArc) (order : List ℕ) → AreBegun arcs order l.first l.lane (placed l.rows.of_bits.items l.sums);
+  begun : (arcs : List TimingArc) (order : List ℕ) → AreBegun arcs order l.first l.lane (placed l.course.rows.of_bits.items l.sums);
   marked : AreMarked l.sums l.reached;
-  outputs : AreOutputs l.rows.of_bits.items l.first l.lane l.reached;
+  awake : IsAwake l.course.along.items 0 l.reached l.awake;
   count : length l.sums ≡ length l.fn.sums;
 }

@@ -1,13 +1,13 @@
-use Rattle.std.proofs.Common.{◌≡◌, ◌<◌, ℕ, false, length, get_or}
-use Rattle.mintc_paths.specs.declared.sums.TheConstants.{NO_SUMS}
-use Rattle.mintc_paths.specs.Sums.{sums_at, AreMarked}
+use Rattle.std.proofs.Common.{◌≡◌, ◌<◌, ◌≤◌, ℕ, true, false, length, get_or}
+use Rattle.std.specs.Prelude.{All}
+use Rattle.mintc_paths.specs.Sums.{AreMarked}
 use Rattle.mintc_paths.proofs.sums.wipe.Given as goal
 
--- the bits so far have no sums
-abbrev pub invariant-loop-bit : goal.invariant-loop-bit
-invariant-loop-bit l = record {
+-- a row that is still marked comes in the list later
+abbrev pub invariant-loop-number : goal.invariant-loop-number
+invariant-loop-number l = record {
   marked : AreMarked l.sums l.reached;
-  off : (k : ℕ) → k < l.bit → get_or l.reached k false ≡ false;
-  none : (k : ℕ) → k < l.bit → sums_at l.sums k ≡ NO_SUMS;
+  inside : All (λ row. row < length l.reached) l.awake.rows.items;
+  later : (row : ℕ) → get_or l.reached row false ≡ true → (k : ℕ) × (l.number ≤ k) × (k < length l.awake.rows.items) × (get_or l.awake.rows.items k row ≡ row);
   count : length l.sums ≡ length l.fn.sums;
 }
