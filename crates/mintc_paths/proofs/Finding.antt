@@ -230,15 +230,6 @@ pub record IsFoundToEnd (design : Design) (from : ℕ) (ends : List ℕ) (number
   pub after : (i : ℕ) → number ≤ i → i < length ends → place ≤ end_at ends i
   pub is_found : IsFoundBefore design from place found
 
-pub IsFoundToEnd-begun : (design : Design) (from : ℕ) (ends : List ℕ) (found : Found) → IsFoundBefore design from 0 found → IsFoundToEnd design from ends 0 found
-IsFoundToEnd-begun design from ends found h = record {
-  place = 0;
-  inside = omega arith;
-  before = λ i low. absurd (omega arith);
-  after = λ i low high. omega arith;
-  is_found = h;
-}
-
 module _ (design : Design) (rows : Rows) (sums : List Sums) (ends : List ℕ) (are : AreRows (length sums) rows) (bits : 2 * length design.elements ≤ length sums)
     (are_ends : AreEnds rows.of_bits.items sums (length design.elements) ends) (from lane : ℕ) (low : lane < 8)
     (paired : IsPairedLane design (placed rows.of_bits.items sums) from lane) where
@@ -275,7 +266,7 @@ module _ (design : Design) (rows : Rows) (sums : List Sums) (ends : List ℕ) (a
   pub IsFoundToEnd-at : (number : ℕ) (found : Found) → number < length ends → IsFoundToEnd design from ends number found → IsFoundBefore design from (end_at ends number) found
   IsFoundToEnd-at number found inside h =
       let below = are_ends.inside number inside in
-      up_to number (end_at ends number) found h (h.after number (omega arith) inside) (omega arith) (λ i high low. at_or_after i high low)
+      up_to number (end_at ends number) found h (h.after number (omega arith) inside) (omega arith) at_or_after
     where
       at_or_after : (i : ℕ) → number ≤ i → i < length ends → end_at ends number ≤ end_at ends i
       at_or_after i high low = ⊎_elim

@@ -1,7 +1,6 @@
 use Rattle.std.proofs.Common.{◌≡◌, ◌<◌, ◌*◌, ◌+◌, ◌∙◌, ℕ, List, length, arith, ap, subst, sym, get_or}
 use Rattle.std.proofs.lemmas.List.{get_or_default}
 use Rattle.mintc_lanes.specs.Lanes.{lane_at}
-use Rattle.mintc_paths.specs.declared.found.Found.{Found}
 use Rattle.mintc_paths.specs.Reached.{IsPaired}
 use Rattle.mintc_paths.specs.Found.{IsFoundBefore, end_at}
 use Rattle.mintc_paths.specs.Sums.{sums_at, row_of}
