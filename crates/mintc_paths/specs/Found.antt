@@ -1,10 +1,13 @@
 -- Pairs as they are found.
-use Rattle.std.specs.Prelude.{◌≡◌, ◌<◌, ◌≤◌, ◌+◌, ◌*◌, ◌⊎◌, ℕ, List, length, All, Contains}
+use Rattle.std.specs.Prelude.{◌≡◌, ◌≢◌, ◌<◌, ◌≤◌, ◌+◌, ◌*◌, ◌⊎◌, ℕ, List, length, slice_index_or, All, Contains}
 use Rattle.std.specs.List.{AllAdjacentBelow}
 use Rattle.mintc_timing.specs.declared.parts.Pair.{Pair}
 use Rattle.mintc_timing.specs.Design.{Design}
 use Rattle.mintc_timing.specs.Paths.{IsPath, input_of, HasExtremes, ComesBefore}
 use Rattle.mintc_paths.specs.declared.found.Found.{Found}
+use Rattle.mintc_paths.specs.declared.sums.Sums.{Sums}
+use Rattle.mintc_paths.specs.declared.sums.TheConstants.{NO_SUMS}
+use Rattle.mintc_paths.specs.Sums.{sums_at, row_of}
 
 -- elements a and b come before elements `from` and `to`
 abbrev pub Precede : ℕ → ℕ → ℕ → ℕ → Type 0
@@ -29,3 +32,13 @@ pub record IsFoundBefore (design : Design) (from to : ℕ) (found : Found) : Typ
   pub are_pairs : ArePairsBefore design from to pairs
   pub has_pairs : HasPairs found pairs
   pub few : length pairs ≤ 2000 * from + to
+
+-- the element whose input is the end of this number
+abbrev pub end_at : List ℕ → ℕ → ℕ
+end_at ends number = slice_index_or ends number 0
+
+-- The list of elements below n ascends, and where an element below n isn't listed, there are no sums at its input.
+pub record AreEnds (rows : List ℕ) (sums : List Sums) (n : ℕ) (ends : List ℕ) : Type 0 where
+  pub ascending : (i k : ℕ) → i < k → k < length ends → end_at ends i < end_at ends k
+  pub inside : (i : ℕ) → i < length ends → end_at ends i < n
+  pub others : (to : ℕ) → to < n → ((i : ℕ) → i < length ends → end_at ends i ≢ to) → sums_at sums (row_of rows (input_of to)) ≡ NO_SUMS

@@ -1,8 +1,8 @@
 //! Pairs as they are found.
-ghost use Rattle.std.specs.Prelude.{◌≡◌, ◌<◌, ◌≤◌, ◌^◌, ◌+◌, ◌*◌, ◌++◌, ◌∷◌, [], length, IsFalse, OnOk};
+ghost use Rattle.std.specs.Prelude.{◌≡◌, ◌<◌, ◌≤◌, ◌^◌, ◌+◌, ◌*◌, ◌++◌, ◌∷◌, List, [], length, OnOk};
 
 use crate::rows::Rows;
-use crate::sums::{NO_SUMS, Sums, sum_in};
+use crate::sums::{Sums, sum_in};
 use mintc_text::OutOfMemory;
 use mintc_timing::Pair;
 use std::alloc::Global;
@@ -12,10 +12,12 @@ use std::alloc::Global;
 pub struct Found {
     pub pairs: Vec<Pair>,
     pub count: u64,
+    /// The elements whose inputs are reached in the block at hand, in ascending order.
+    pub ends: Vec<u32>,
 }
 
 impl Found {
-    ghost use Rattle.mintc_paths.specs.Found.{IsFoundBefore};
+    ghost use Rattle.mintc_paths.specs.Found.{AreEnds, IsFoundBefore};
     ghost use Rattle.mintc_timing.specs.Design.{Design};
     ghost use Rattle.mintc_lanes.specs.Lanes.{lane_at};
     ghost use Rattle.mintc_paths.specs.Sums.{AreMarked, AreRows, placed};
@@ -29,6 +31,7 @@ impl Found {
         Found {
             pairs: Vec::new(alloc),
             count: 0,
+            ends: Vec::new(alloc),
         }
     }
 
@@ -37,6 +40,7 @@ impl Found {
         requires { self.old.count < 2 ^ 62 }
         ensures count { OnOk result (self.new.count ≡ self.old.count + 1) }
         ensures pairs { OnOk result (self.old.count < 200000 → self.new.pairs.items ≡ self.old.pairs.items ++ pair ∷ []) }
+        ensures ends { self.new.ends.items ≡ self.old.ends.items }
     {
         if self.count < 200_000 && self.pairs.push(pair).is_err() {
             return Err(OutOfMemory);
@@ -45,24 +49,14 @@ impl Found {
         Ok(())
     }
 
-    /// The pair of two elements, whose sums are in this lane, if they are a pair. Sums that aren't marked as reached are none.
-    fn add_at(
-        &mut self,
-        from: u32,
-        to: u32,
-        sums: &Sums,
-        reached: bool,
-        lane: usize,
-    ) -> Result<(), OutOfMemory>
-        requires marked { IsFalse reached → sums.now ≡ NO_SUMS }
+    /// The pair of two elements, whose sums are in this lane, if they are a pair.
+    fn add_at(&mut self, from: u32, to: u32, sums: &Sums, lane: usize) -> Result<(), OutOfMemory>
         requires count { self.old.count < 2 ^ 62 }
         requires lane { lane < 8 }
-        ensures { OnOk result ((design : Design) → IsPaired design from to (lane_at sums.now.greatest lane) (lane_at sums.now.least lane)
+        ensures found { OnOk result ((design : Design) → IsPaired design from to (lane_at sums.now.greatest lane) (lane_at sums.now.least lane)
             → IsFoundBefore design from to self.old → IsFoundBefore design from (to + 1) self.new) }
+        ensures ends { self.new.ends.items ≡ self.old.ends.items }
     {
-        if !reached {
-            return Ok(());
-        }
         let Some(max) = sum_in(&sums.greatest, lane) else {
             return Ok(());
         };
@@ -72,37 +66,49 @@ impl Found {
         self.add(Pair { from, to, min, max })
     }
 
-    /// The pairs from an element, whose sums are in this lane.
+    /// The pairs from an element, whose sums are in this lane. It leads to none but the ends.
     fn add_from(
         &mut self,
         sums: &[Sums],
-        reached: &[bool],
         rows: &Rows,
-        elements: u32,
         element: u32,
         lane: usize,
     ) -> Result<(), OutOfMemory>
         ghost design: { Design }
-        requires elements { elements ≡ length design.elements }
-        requires limit { elements ≤ 2000 }
-        requires bits { 2 * elements ≤ length sums.now }
+        requires limit { length design.elements ≤ 2000 }
+        requires bits { 2 * length design.elements ≤ length sums.now }
         requires rows { AreRows (length sums.now) rows.now }
-        requires marked { AreMarked sums.now reached.now }
-        requires element { element < elements }
+        requires ends { AreEnds rows.now.of_bits.items sums.now (length design.elements) self.old.ends.items }
+        requires element { element < length design.elements }
         requires lane { lane < 8 }
         requires paired { IsPairedLane design (placed rows.now.of_bits.items sums.now) element lane }
         requires found { IsFoundBefore design element 0 self.old }
-        ensures { OnOk result (IsFoundBefore design (element + 1) 0 self.new) }
+        ensures found { OnOk result (IsFoundBefore design (element + 1) 0 self.new) }
+        ensures ends { self.new.ends.items ≡ self.old.ends.items }
     {
+        for number in 0..self.ends.len() {
+            let to = self.ends[number];
+            let row = rows.of_bits[2 * to as usize];
+            self.add_at(element, to, &sums[row as usize], lane)?;
+        }
+        Ok(())
+    }
+
+    /// Lists the elements whose inputs are reached.
+    fn list_ends(&mut self, reached: &[bool], rows: &Rows, elements: u32) -> Result<(), OutOfMemory>
+        requires limit { elements ≤ 2000 }
+        requires bits { 2 * elements ≤ length reached.now }
+        requires rows { AreRows (length reached.now) rows.now }
+        ensures count { self.new.count ≡ self.old.count }
+        ensures pairs { self.new.pairs.items ≡ self.old.pairs.items }
+        ensures ends { OnOk result ((sums : List Sums) → AreMarked sums reached.now → AreEnds rows.now.of_bits.items sums elements self.new.ends.items) }
+    {
+        self.ends.clear();
         for to in 0..elements {
             let row = rows.of_bits[2 * to as usize];
-            self.add_at(
-                element,
-                to,
-                &sums[row as usize],
-                reached[row as usize],
-                lane,
-            )?;
+            if reached[row as usize] && self.ends.push(to).is_err() {
+                return Err(OutOfMemory);
+            }
         }
         Ok(())
     }
@@ -129,8 +135,9 @@ impl Found {
         requires found { IsFoundBefore design first 0 self.old }
         ensures { OnOk result (IsFoundBefore design (first + lanes) 0 self.new) }
     {
+        self.list_ends(reached, rows, elements)?;
         for lane in 0..lanes {
-            self.add_from(sums, reached, rows, elements, first + lane as u32, lane)?;
+            self.add_from(sums, rows, first + lane as u32, lane)?;
         }
         Ok(())
     }

@@ -56,7 +56,7 @@ pub fn extremes(alloc: Global, flat: &Flat, order: &Order) -> Result<Vec<Pair>, 
     ensures short { OnOk result (ArePathsShort flat.now) }
     ensures stop { IfErr result (StopsAt (IsExtremesRefusal flat.now)) }
 {
-    let Found { pairs, count } = find(alloc, flat, order)?;
+    let Found { pairs, count, .. } = find(alloc, flat, order)?;
     if count > 200_000 {
         return Err(Stop::Refused(Refusal::Limit {
             kind: Kind::Pairs,

@@ -58,4 +58,4 @@ returns-clause-found c =
     let moved : IsPermutation (map (pair_back elements) found.pairs.items) pairs = subst (λ ps. IsPermutation (map (pair_back elements) ps) pairs) was c.turn_pairs.ensures.permutation in
     let below = c.if-found-gt200000.false in
     IsFoundBefore-back design c.elements.ensures.kept places elements rows.of_bits rows.bits found c.in_ok-found.ensures.found (omega arith) pairs moved c.turn_pairs.ensures.sorted
-    (record { pairs = with_items found.pairs pairs; count = found.count }) refl is
+    (record { pairs = with_items found.pairs pairs; count = found.count; ends = found.ends }) refl is

@@ -1,9 +1,13 @@
-use Rattle.std.proofs.Common.{◌+◌}
-use Rattle.mintc_paths.specs.Found.{IsFoundBefore}
+use Rattle.std.proofs.Common.{◌+◌, length}
+use Rattle.mintc_paths.specs.Found.{AreEnds, IsFoundBefore}
 use Rattle.mintc_paths.proofs.found.Found.add_all.Given as goal
 
+-- the pairs of the lanes so far
 abbrev pub invariant-loop-lane : goal.invariant-loop-lane
-invariant-loop-lane g l = IsFoundBefore g.design (l.first + l.lane) 0 l.self
+invariant-loop-lane g l = record {
+  found : IsFoundBefore g.design (l.first + l.lane) 0 l.self;
+  ends : AreEnds l.rows.of_bits.items l.sums (length g.design.elements) l.self.ends.items;
+}
 
 abbrev pub ghost-add_from : goal.ghost-add_from
 ghost-add_from g a = g.design

@@ -1,23 +1,15 @@
-use Rattle.std.proofs.Common.{◌∙◌, ap, rules, sym, w64, to_z, of_z}
+use Rattle.std.proofs.Common.{◌∙◌, sym, w64, to_z, of_z}
 use Rattle.std.proofs.lemmas.Int.{to_z-of_z}
 use Rattle.mintc_lanes.specs.Lanes.{lane_at}
-use Rattle.mintc_paths.specs.declared.sums.Sums.{Sums}
-use Rattle.mintc_paths.proofs.Beginning.{none_at}
 use Rattle.mintc_paths.proofs.Finding.{IsAdded-none, IsAdded-some}
 use Rattle.mintc_paths.proofs.found.Found.add_at.Goals as goal
 
-pub returns-then-not-reached : goal.returns-then-not-reached
-returns-then-not-reached c =
-    let none = c.requires.marked (search rules) in
-    IsAdded-none c.args.from c.args.to (lane_at c.args.sums.now.greatest c.args.lane) (lane_at c.args.sums.now.least c.args.lane) c.args.self.now
-    (ap (λ (s : Sums). lane_at s.greatest c.args.lane) none ∙ (none_at c.args.lane c.requires.lane).0)
-
-pub returns-in_default : goal.returns-in_default
-returns-in_default c =
+pub returns-in_default-clause-found : goal.returns-in_default-clause-found
+returns-in_default-clause-found c =
     IsAdded-none c.args.from c.args.to (lane_at c.args.sums.now.greatest c.args.lane) (lane_at c.args.sums.now.least c.args.lane) c.args.self.now (sym c.sum_in.ensures.value ∙ c.in_default.is)
 
-pub returns : goal.returns
-returns c =
+pub returns-clause-found : goal.returns-clause-found
+returns-clause-found c =
     let max = c.in-Some.max in
     let min = c.in-Some-sum_in.min in
     IsAdded-some c.add.result c.args.from c.args.to (lane_at c.args.sums.now.greatest c.args.lane) (lane_at c.args.sums.now.least c.args.lane) max min

@@ -1,5 +1,10 @@
-use Rattle.mintc_paths.specs.Found.{IsFoundBefore}
+use Rattle.std.proofs.Common.{◌≡◌}
+use Rattle.mintc_paths.proofs.Finding.{IsFoundToEnd}
 use Rattle.mintc_paths.proofs.found.Found.add_from.Given as goal
 
-abbrev pub invariant-loop-to : goal.invariant-loop-to
-invariant-loop-to g l = IsFoundBefore g.design l.element l.to l.self
+-- the pairs before this end
+abbrev pub invariant-loop-number : goal.invariant-loop-number
+invariant-loop-number g l = record {
+  found : IsFoundToEnd g.design l.element l.fn.self.ends.items l.number l.self;
+  ends : l.self.ends.items ≡ l.fn.self.ends.items;
+}
