@@ -1,5 +1,5 @@
 -- The bytes that are left of a value.
-use Rattle.std.proofs.Common.{◌≡◌, ℕ, zero, suc, ◌==◌, ◌+◌, ◌-◌, ◌<◌, Bool, true, false, List, [], ◌∷◌, ◌++◌, length, take, drop, get_or, refl, sym, ap, ◌∙◌, arith, true≢false, true-eqb, append_assoc}
+use Rattle.std.proofs.Common.{◌≡◌, ℕ, suc, ◌==◌, ◌+◌, ◌-◌, ◌<◌, true, false, List, [], ◌∷◌, ◌++◌, length, take, drop, get_or, refl, sym, ap, ◌∙◌, arith, true≢false, true-eqb, append_assoc}
 use Rattle.std.proofs.lemmas.List.{take_all}
 
 pub empty : (xs : List ℕ) → true ≡ (length xs == 0) → xs ≡ []

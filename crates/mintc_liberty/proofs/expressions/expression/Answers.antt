@@ -1,5 +1,5 @@
-use Rattle.std.proofs.Common.{◌≡◌, ◌+◌, ◌≤◌, IfNone, IfSome, None, Some, length, option_map, ap, sym, subst, ◌∙◌, arith}
-use Rattle.mintc_liberty.specs.Expressions.{stripped, literal, peeled, expression}
+use Rattle.std.proofs.Common.{◌≡◌, IfNone, IfSome, None, Some, option_map, ap, sym, subst, ◌∙◌, arith}
+use Rattle.mintc_liberty.specs.Expressions.{stripped, literal, expression}
 use Rattle.mintc_liberty.specs.Meaning.{inputs}
 use Rattle.mintc_liberty.specs.Passing.{value_bytes}
 use Rattle.mintc_liberty.specs.Seen.{pins_seen}

@@ -1,4 +1,4 @@
-use Rattle.std.proofs.Common.{◌≡◌, ◌+◌, ◌<◌, All, length, drop}
+use Rattle.std.proofs.Common.{◌+◌, ◌<◌, All, length, drop}
 use Rattle.mintc_liberty.specs.Meaning.{inputs}
 use Rattle.mintc_liberty.specs.Seen.{pins_seen}
 use Rattle.mintc_liberty.proofs.expressions.fits.Given as goal

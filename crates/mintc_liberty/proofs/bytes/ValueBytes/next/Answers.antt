@@ -1,4 +1,4 @@
-use Rattle.std.proofs.Common.{sym, ap, ◌∙◌, length, ◌∷◌, arith}
+use Rattle.std.proofs.Common.{sym, ap, ◌∙◌, length, arith}
 use Rattle.mintc_liberty.specs.Expressions.{stripped}
 use Rattle.mintc_liberty.proofs.TextLaws.{stripped-white, stripped-other}
 use Rattle.mintc_liberty.proofs.bytes.ValueBytes.next.Goals as goal
