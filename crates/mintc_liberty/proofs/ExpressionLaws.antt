@@ -1,11 +1,15 @@
 -- How many bytes an expression over an input may have.
-use Rattle.std.proofs.Common.{◌≡◌, ℕ, zero, suc, ◌+◌, ◌-◌, ◌<◌, ◌≤◌, Bool, true, false, cond, ◌&&◌, ◌==◌, List, ◌∷◌, All, length, take, drop, slice_index, slice_index_or, bytes_eq, option_map, Some, None, refl, sym, ap, ◌∙◌, arith, length-drop}
+use Rattle.std.proofs.Common.{◌≡◌, ℕ, zero, suc, ◌+◌, ◌-◌, ◌<◌, ◌≤◌, Bool, true, false, cond, ◌&&◌, ◌||◌, ◌==◌, nat_le, List, [], ◌∷◌, All, length, take, drop, slice_index, slice_index_or, bytes_eq, option_map, Some, None, refl, sym, ap, ◌∙◌, arith, length-drop, true≢false}
+use Rattle.std.specs.List.{list_any}
+use Rattle.std.proofs.lemmas.Bool.Decides.{nat_tests}
 use Rattle.std.proofs.lemmas.List.{length-take-le}
 use Rattle.std.proofs.lemmas.List.Folds.{list_any_none}
+use Rattle.mintc_liberty.specs.declared.pins.Pin.{Pin as PinRead}
 use Rattle.mintc_liberty.specs.declared.pins.Role.TheVariants as role
+use Rattle.mintc_liberty.specs.Seen.{pin_seen}
 use Rattle.mintc_liberty.specs.Expressions.{is_among, without_last, inverted, literal, peeled}
 use Rattle.mintc_liberty.specs.Parentheses.{pairs}
-use Rattle.mintc_liberty.specs.Meaning.{Pin, names, inputs, with_role, has_role}
+use Rattle.mintc_liberty.specs.Meaning.{Pin, names, inputs, with_role, is_as}
 use Rattle.mintc_liberty.proofs.ParenthesesLaws.{peeled-is, peeled-size}
 use Rattle.mintc_liberty.proofs.TextLaws.{longer}
 
@@ -13,13 +17,26 @@ all-more : (P : List ℕ → Type 0) (x : List ℕ) (xs : List (List ℕ)) → P
 all-more P x xs h t zero d l = h
 all-more P x xs h t (suc k) d l = t k d (omega (arith, l))
 
--- what holds of a pin and of the inputs behind it
-pub inputs-more : (P : List ℕ → Type 0) (p : Pin) (ps : List Pin) → P p.name → All P (inputs ps) → All P (inputs (p ∷ ps))
-inputs-more P p ps h t = by (has_role role.Input p.has)
+-- whether a test holds of a pin that is an input, or of an input behind it
+pub inputs-any : (test : List ℕ → Bool) (p : PinRead) (ps : List Pin) →
+    list_any test (inputs (pin_seen p ∷ ps)) ≡ ((is_as role.Input p.role && test p.name.now) || list_any test (inputs ps))
+inputs-any test p ps = by (is_as role.Input p.role)
   where
-    by : (v : Bool) → All P (names (cond v (p ∷ with_role role.Input ps) (with_role role.Input ps)))
-    by true = all-more P p.name (inputs ps) h t
-    by false = t
+    by : (v : Bool) → list_any test (names (cond v (pin_seen p ∷ with_role role.Input ps) (with_role role.Input ps))) ≡ ((v && test p.name.now) || list_any test (inputs ps))
+    by true = refl
+    by false = refl
+
+not-le : (m n : ℕ) → nat_le m n ≡ false → n < m
+not-le m n e = grind (arith, nat_tests)
+
+all-short : (names : List (List ℕ)) (size : ℕ) → list_any (λ name. nat_le size (length name + 1)) names ≡ false → All (λ name. length name + 1 < size) names
+all-short [] size h = λ k d l. absurd (omega (arith, l))
+all-short (n ∷ ns) size h = by (nat_le size (length n + 1)) refl h (λ g. all-short ns size g)
+  where
+    by : (v : Bool) → nat_le size (length n + 1) ≡ v → (v || list_any (λ name. nat_le size (length name + 1)) ns) ≡ false →
+        (list_any (λ name. nat_le size (length name + 1)) ns ≡ false → All (λ name. length name + 1 < size) ns) → All (λ name. length name + 1 < size) (n ∷ ns)
+    by true e g rec = absurd (true≢false g)
+    by false e g rec = all-more (λ name. length name + 1 < size) n ns (not-le size (length n + 1) e) (rec g)
 
 none-among : (names : List (List ℕ)) (size : ℕ) (e : List ℕ) → All (λ name. length name + 1 < size) names → size ≤ length e + 1 → is_among names e ≡ false
 none-among names size e short h =
@@ -43,9 +60,10 @@ literal-none names e short =
 
 -- bytes of which so many are left without outer parentheses
 pub too-long : (names : List (List ℕ)) (bs : List ℕ) (count size : ℕ) → count ≡ pairs bs → size ≡ length bs →
-    All (λ name. length name + 1 < size - count - count) names → literal names (peeled bs) ≡ None
-too-long names bs count size e s short =
+    list_any (λ name. nat_le (size - count - count) (length name + 1)) names ≡ false → literal names (peeled bs) ≡ None
+too-long names bs count size e s h =
     let all = peeled-size bs in
+    let short = all-short names (size - count - count) h in
     literal-none names (peeled bs) (λ k d l. let less = short k d l in omega (arith, less, all, e, s))
 
 pub peeled-part : (bs : List ℕ) (count size : ℕ) → count ≡ pairs bs → size ≡ length bs → take (size - count - count) (drop count bs) ≡ peeled bs

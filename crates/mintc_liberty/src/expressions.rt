@@ -1,13 +1,15 @@
 //! Expressions over one pin.
-ghost use Rattle.std.specs.Prelude.{◌≡◌, ◌+◌, ◌<◌, ◌&&◌, All, take, drop, length, IfOk, IfSome, IfNone, Some, None, true, false, option_map};
+ghost use Rattle.std.specs.Prelude.{◌≡◌, ◌+◌, ◌&&◌, nat_le, take, drop, length, IfOk, IfSome, IfNone, Some, None, true, false, option_map};
 ghost use Rattle.mintc_liberty.specs.Expressions.{stripped, is_among, literal, inverted, expression};
-ghost use Rattle.mintc_liberty.specs.Meaning.{inputs};
+ghost use Rattle.std.specs.List.{list_any};
+ghost use Rattle.mintc_liberty.specs.Meaning.{inputs, is_as};
+ghost use Rattle.mintc_liberty.specs.declared.pins.Role.TheVariants as role;
 ghost use Rattle.mintc_liberty.specs.Parentheses.{leading, outer, pairs};
 ghost use Rattle.mintc_liberty.specs.Passing.{value_bytes};
 ghost use Rattle.mintc_liberty.specs.Seen.{pins_seen};
 
 use crate::bytes::{ValueBytes, bytes_from};
-use crate::pins::{Pin, is_input};
+use crate::pins::{Pin, Role, is_as, is_input};
 use mintc_liblex::{Reader, byte_at, rest_from};
 use mintc_text::OutOfMemory;
 use std::alloc::Global;
@@ -87,12 +89,19 @@ fn pairs(value: &Reader) -> Result<usize, OutOfMemory>
     outer(value, from)
 }
 
+/// Whether a pin is an input, and so many bytes are no more than its name and a mark.
+fn is_near(pin: &Pin, size: usize) -> bool
+    ensures { result ≡ (is_as role.Input pin.now.role && nat_le size (length pin.now.name.now + 1)) }
+{
+    is_as(Role::Input, pin.role) && size <= pin.name.len() + 1
+}
+
 /// Whether so many bytes can be an expression: no more than an input's name and a mark.
 fn fits(pins: &[Pin], size: usize) -> bool
-    ensures { result ≡ false → All (λ name. length name + 1 < size) (inputs (pins_seen pins.now)) }
+    ensures { result ≡ list_any (λ name. nat_le size (length name + 1)) (inputs (pins_seen pins.now)) }
 {
     for pin in pins {
-        if size <= pin.name.len() + 1 {
+        if is_near(pin, size) {
             return true;
         }
     }

@@ -27,7 +27,7 @@ returns-then-not-fits-clause-none c =
     let ins = inputs (pins_seen c.args.pins.now) in
     ap (λ o. expression ins (option_map value_bytes o)) c.in-Some.is
     ∙ too-long ins (stripped (value_bytes c.in-Some.value)) c.in_ok-count-in-Some.count c.in_ok-size-in-Some.field-0
-    c.in_ok-count-in-Some.ensures c.in_ok-size-in-Some.ensures (c.fits.ensures c.if-not-fits.true)
+    c.in_ok-count-in-Some.ensures c.in_ok-size-in-Some.ensures (sym c.if-not-fits.ensures)
 
 same : (c : After-drop-bytes) → literal (inputs (pins_seen c.args.pins.now)) c.deref.result.now ≡ expression (inputs (pins_seen c.args.pins.now)) (option_map value_bytes c.args.value.now)
 same c =
