@@ -7,6 +7,8 @@ pub mod SortLaws
 pub mod HeldLaws
 pub mod SeenLaws
 pub mod TextLaws
+pub mod BytesLaws
+pub mod ExpressionLaws
 pub mod CountLaws
 pub mod ParenthesesLaws
 pub mod GroupLaws

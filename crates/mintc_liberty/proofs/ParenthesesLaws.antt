@@ -348,3 +348,8 @@ peeled-is bs =
     let room = pairs-room bs in
     let all : inner 0 bs ≡ bs = take_all (length bs - 0 - 0) bs (omega arith) in
     ap (peeled_within (length bs)) (sym all) ∙ peel bs (length bs) 0 (omega arith) (omega (arith, room.1))
+
+pub peeled-size : (bs : List ℕ) → length (peeled bs) ≡ length bs - pairs bs - pairs bs
+peeled-size bs =
+    let room = pairs-room bs in
+    ap length (peeled-is bs) ∙ length-take-le (length bs - pairs bs - pairs bs) (drop (pairs bs) bs) (omega (arith, room.1, length-drop (pairs bs) bs))

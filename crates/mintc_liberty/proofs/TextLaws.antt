@@ -1,5 +1,5 @@
 -- A value's bytes, piece by piece.
-use Rattle.std.proofs.Common.{◌≡◌, ℕ, zero, suc, ◌+◌, ◌<◌, Bool, true, false, not, cond, ◌&&◌, List, [], ◌∷◌, ◌++◌, length, take, drop, get_or, bytes_eq, refl, sym, ap, ◌∙◌, arith, true≢false}
+use Rattle.std.proofs.Common.{◌≡◌, ℕ, ◌<◌, Bool, true, false, not, cond, ◌&&◌, List, [], ◌∷◌, ◌++◌, length, take, drop, bytes_eq, refl, sym, ap, ◌∙◌, arith, true≢false}
 use Rattle.std.proofs.lemmas.List.{take-append-drop}
 use Rattle.std.proofs.lemmas.Slice.Eq.{bytes_eq-Decides}
 use Rattle.std.proofs.lemmas.Bool.Decides.{Decides-eqb}
@@ -28,37 +28,17 @@ pub text-front : (p q l : List ℕ) → take (length p) l ≡ p → bytes_eq (p 
 text-front p q l e =
     ap (bytes_eq (p ++ q)) (sym (take-append-drop (length p) l) ∙ ap (λ xs. xs ++ drop (length p) l) e) ∙ same-front p q (drop (length p) l)
 
+-- a text that is longer than another one
+pub longer : (a b : List ℕ) → length b < length a → bytes_eq a b ≡ false
+longer a b h = false-if (bytes_eq a b) (λ e. let s = ap length ((bytes_eq-Decides a b).0 e) in omega (arith, s, h))
+
 -- Without white space
 
-pub stripped-append : (xs ys : List ℕ) → stripped (xs ++ ys) ≡ stripped xs ++ stripped ys
-stripped-append [] ys = refl
-stripped-append (x ∷ xs) ys = by (is_white x) (stripped-append xs ys)
-  where
-    by : (v : Bool) → stripped (xs ++ ys) ≡ stripped xs ++ stripped ys →
-        cond v (stripped (xs ++ ys)) (x ∷ stripped (xs ++ ys)) ≡ cond v (stripped xs) (x ∷ stripped xs) ++ stripped ys
-    by true e = e
-    by false e = ap (λ zs. x ∷ zs) e
+pub stripped-white : (b : ℕ) (bs : List ℕ) → is_white b ≡ true → stripped (b ∷ bs) ≡ stripped bs
+stripped-white b bs e = ap (λ v. cond v (stripped bs) (b ∷ stripped bs)) e
 
-take-one-more : (i : ℕ) (bs : List ℕ) → i < length bs → take (i + 1) bs ≡ take i bs ++ (get_or bs i 0 ∷ [])
-take-one-more i [] h = absurd (omega (arith, h))
-take-one-more zero (b ∷ bs) h = refl
-take-one-more (suc i) (b ∷ bs) h =
-    let more : suc i + 1 ≡ suc (i + 1) = omega arith in
-    ap (λ n. take n (b ∷ bs)) more ∙ ap (λ xs. b ∷ xs) (take-one-more i bs (omega (arith, h)))
-
-pub stripped-white : (i : ℕ) (bs : List ℕ) → i < length bs → is_white (get_or bs i 0) ≡ true → stripped (take (i + 1) bs) ≡ stripped (take i bs)
-stripped-white i bs h e =
-    ap stripped (take-one-more i bs h) ∙ stripped-append (take i bs) (get_or bs i 0 ∷ [])
-    ∙ ap (λ v. stripped (take i bs) ++ cond v [] (get_or bs i 0 ∷ [])) e ∙ none (stripped (take i bs))
-  where
-    none : (xs : List ℕ) → xs ++ [] ≡ xs
-    none [] = refl
-    none (x ∷ xs) = ap (λ ys. x ∷ ys) (none xs)
-
-pub stripped-more : (i : ℕ) (bs : List ℕ) → i < length bs → is_white (get_or bs i 0) ≡ false → stripped (take (i + 1) bs) ≡ stripped (take i bs) ++ get_or bs i 0 ∷ []
-stripped-more i bs h e =
-    ap stripped (take-one-more i bs h) ∙ stripped-append (take i bs) (get_or bs i 0 ∷ [])
-    ∙ ap (λ v. stripped (take i bs) ++ cond v [] (get_or bs i 0 ∷ [])) e
+pub stripped-other : (b : ℕ) (bs : List ℕ) → is_white b ≡ false → stripped (b ∷ bs) ≡ b ∷ stripped bs
+stripped-other b bs e = ap (λ v. cond v (stripped bs) (b ∷ stripped bs)) e
 
 -- two texts that the test tells apart, and two that it doesn't
 pub apart : (a b : List ℕ) → true ≡ not (bytes_eq a b) → a ≡ b → ⊥

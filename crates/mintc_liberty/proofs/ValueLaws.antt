@@ -130,3 +130,11 @@ value-there (t ∷ ts) us bytes e = by (is_value t) e
         let l = ap length rest in
         (ap Some rest, ap (λ bs. bs ++ value_bytes ts) same ∙ ap (λ vs. bytes ++ value_bytes vs) rest, omega (arith, l))
     by false e = absurd (cc)
+
+pub value-none : (ts : List Token) → value_at ts ≡ None → value_bytes ts ≡ []
+value-none [] e = refl
+value-none (t ∷ ts) e = by (is_value t) e
+  where
+    by : (b : Bool) → (if b then Some (read (bytes_of t) ts) else None) ≡ None → flat_map bytes_of (if b then t ∷ taken is_value ts else []) ≡ []
+    by true e = absurd (cc)
+    by false e = refl

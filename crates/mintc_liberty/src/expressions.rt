@@ -1,13 +1,15 @@
 //! Expressions over one pin.
-ghost use Rattle.std.specs.Prelude.{◌≡◌, ◌+◌, ◌≤◌, ◌&&◌, drop, length, IfOk, IfSome, IfNone, Some, None, true, false, option_map};
-ghost use Rattle.mintc_liberty.specs.Expressions.{peeled, is_among, literal, inverted, expression};
-ghost use Rattle.mintc_liberty.specs.Meaning.{inputs};
+ghost use Rattle.std.specs.Prelude.{◌≡◌, ◌+◌, ◌&&◌, nat_le, take, drop, length, IfOk, IfSome, IfNone, Some, None, true, false, option_map};
+ghost use Rattle.mintc_liberty.specs.Expressions.{stripped, is_among, literal, inverted, expression};
+ghost use Rattle.std.specs.List.{list_any};
+ghost use Rattle.mintc_liberty.specs.Meaning.{inputs, is_as};
+ghost use Rattle.mintc_liberty.specs.declared.pins.Role.TheVariants as role;
 ghost use Rattle.mintc_liberty.specs.Parentheses.{leading, outer, pairs};
 ghost use Rattle.mintc_liberty.specs.Passing.{value_bytes};
 ghost use Rattle.mintc_liberty.specs.Seen.{pins_seen};
 
-use crate::pins::{Pin, is_input};
-use crate::values::stripped;
+use crate::bytes::{ValueBytes, bytes_from};
+use crate::pins::{Pin, Role, is_as, is_input};
 use mintc_liblex::{Reader, byte_at, rest_from};
 use mintc_text::OutOfMemory;
 use std::alloc::Global;
@@ -19,56 +21,106 @@ pub struct Literal<'a> {
     pub is_plain: bool,
 }
 
-/// How many parentheses open at the front.
-fn leading(bytes: &[u8]) -> usize
-    ensures value { result ≡ leading bytes.now }
-    ensures within { result ≤ length bytes.now }
+/// One more, unless it can't be counted.
+fn one_more(count: usize) -> Result<usize, OutOfMemory>
+    ensures { IfOk result (λ more. more ≡ count + 1) }
 {
-    for at in 0..bytes.len() {
-        if bytes[at] != b'(' {
-            return at;
-        }
+    match count.checked_add(1) {
+        Some(more) => Ok(more),
+        None => Err(OutOfMemory),
     }
-    bytes.len()
+}
+
+/// How many bytes a value has, white space not counted.
+fn size(value: &Reader) -> Result<usize, OutOfMemory>
+    ensures { IfOk result (λ size. size ≡ length (stripped (value_bytes value.now))) }
+{
+    let mut bytes = ValueBytes::new(value);
+    let mut size = 0;
+    while let Some(_) = bytes.next() {
+        size = one_more(size)?;
+    }
+    Ok(size)
+}
+
+/// How many parentheses open at the front.
+fn leading(value: &Reader) -> Result<usize, OutOfMemory>
+    ensures { IfOk result (λ count. count ≡ leading (stripped (value_bytes value.now))) }
+{
+    let mut bytes = ValueBytes::new(value);
+    let mut count = 0;
+    while let Some(byte) = bytes.next() {
+        if byte != b'(' {
+            return Ok(count);
+        }
+        count = one_more(count)?;
+    }
+    Ok(count)
 }
 
 /// How many pairs of outer parentheses there are, behind those that open at the front.
-fn outer(bytes: &[u8], from: usize) -> usize
-    requires { from ≤ length bytes.now }
-    ensures { result ≡ outer from from (drop from bytes.now) }
+fn outer(value: &Reader, from: usize) -> Result<usize, OutOfMemory>
+    ensures { IfOk result (λ pairs. pairs ≡ outer from from (drop from (stripped (value_bytes value.now)))) }
 {
+    let mut bytes = bytes_from(value, from);
     let mut open = from;
     let mut pairs = from;
-    for at in from..bytes.len() {
-        if bytes[at] == b')' {
+    while let Some(byte) = bytes.next() {
+        if byte == b')' {
             if open == 0 {
-                return 0;
+                return Ok(0);
             }
             open -= 1;
         } else {
             pairs = pairs.min(open);
-            if bytes[at] == b'(' {
-                open += 1;
+            if byte == b'(' {
+                open = one_more(open)?;
             }
         }
     }
-    if open == 0 { pairs } else { 0 }
+    Ok(if open == 0 { pairs } else { 0 })
 }
 
 /// How many pairs of outer parentheses there are.
-fn pairs(bytes: &[u8]) -> usize
-    ensures value { result ≡ pairs bytes.now }
-    ensures within { result + result ≤ length bytes.now }
+fn pairs(value: &Reader) -> Result<usize, OutOfMemory>
+    ensures { IfOk result (λ count. count ≡ pairs (stripped (value_bytes value.now))) }
 {
-    outer(bytes, leading(bytes))
+    let from = leading(value)?;
+    outer(value, from)
 }
 
-/// Without outer parentheses.
-fn peeled(bytes: &[u8]) -> &[u8]
-    ensures { result.now ≡ peeled bytes.now }
+/// Whether a pin is an input, and so many bytes are no more than its name and a mark.
+fn is_near(pin: &Pin, size: usize) -> bool
+    ensures { result ≡ (is_as role.Input pin.now.role && nat_le size (length pin.now.name.now + 1)) }
 {
-    let count = pairs(bytes);
-    &bytes[count..bytes.len() - count]
+    is_as(Role::Input, pin.role) && size <= pin.name.len() + 1
+}
+
+/// Whether so many bytes can be an expression: no more than an input's name and a mark.
+fn fits(pins: &[Pin], size: usize) -> bool
+    ensures { result ≡ list_any (λ name. nat_le size (length name + 1)) (inputs (pins_seen pins.now)) }
+{
+    for pin in pins {
+        if is_near(pin, size) {
+            return true;
+        }
+    }
+    false
+}
+
+/// So many bytes of a value from a place on, white space not counted.
+fn part(alloc: Global, value: &Reader, from: usize, size: usize) -> Result<Vec<u8>, OutOfMemory>
+    ensures { IfOk result (λ part. part.items ≡ take size (drop from (stripped (value_bytes value.now)))) }
+{
+    let mut bytes = bytes_from(value, from);
+    let mut part = Vec::with_capacity(alloc, size)?;
+    for _ in 0..size {
+        let Some(byte) = bytes.next() else {
+            return Ok(part);
+        };
+        part.push(byte)?;
+    }
+    Ok(part)
 }
 
 /// The input of a name.
@@ -139,8 +191,13 @@ pub fn expression<'a>(
 {
     match value {
         Some(value) => {
-            let bytes = stripped(alloc, value)?;
-            Ok(literal_of(pins, peeled(&bytes)))
+            let count = pairs(value)?;
+            let size = size(value)? - count - count;
+            if !fits(pins, size) {
+                return Ok(None);
+            }
+            let bytes = part(alloc, value, count, size)?;
+            Ok(literal_of(pins, &bytes))
         }
         None => Ok(None),
     }

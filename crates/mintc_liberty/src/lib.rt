@@ -5,6 +5,7 @@
 //! what is said of them. A cell that can't be used is passed over, so one such cell refuses nothing.
 #![tactic(auto)]
 
+mod bytes;
 mod cells;
 mod expressions;
 mod groups;

@@ -1,13 +1,10 @@
 //! The values of attributes, read while statements are passed.
-ghost use Rattle.std.specs.Prelude.{◌≡◌, Some, None, IfSome, IfNone, IfOk, OnOk, ◌++◌, option_map, bytes_eq};
+ghost use Rattle.std.specs.Prelude.{◌≡◌, Some, None, IfSome, IfNone, option_map, bytes_eq};
 ghost use Rattle.mintc_liberty.specs.Passing.{value_bytes, attribute_at, value_if};
 ghost use Rattle.mintc_liblex.specs.Statements.{front};
-ghost use Rattle.mintc_liberty.specs.Expressions.{stripped};
 ghost use Rattle.mintc_liberty.specs.Meaning.{or_else, last_value, says};
 
-use mintc_liblex::{Kind, Reader, is_white, mark, statement, value_token};
-use mintc_text::OutOfMemory;
-use std::alloc::Global;
+use mintc_liblex::{Kind, Reader, mark, statement, value_token};
 
 /// An attribute's name and what begins with its value.
 #[derive(Drop)]
@@ -89,38 +86,4 @@ pub fn says(inside: &Reader, name: &[u8], text: &[u8], room: u32) -> bool
         Some(value) => is_text(&value, text),
         None => false,
     }
-}
-
-/// Adds bytes to others, without white space.
-fn add_stripped(out: &mut Vec<u8>, bytes: &[u8]) -> Result<(), OutOfMemory>
-    ensures { OnOk result (out.new.items ≡ out.old.items ++ stripped bytes.now) }
-{
-    for at in 0..bytes.len() {
-        if !is_white(bytes[at]) {
-            out.push(bytes[at])?;
-        }
-    }
-    Ok(())
-}
-
-/// How many bytes a value has.
-fn size(value: &Reader) -> usize {
-    let mut reader = value.copy();
-    let mut size: usize = 0;
-    while let Some(piece) = value_token(&mut reader) {
-        size = size.saturating_add(piece.len());
-    }
-    size
-}
-
-/// A value's bytes without white space.
-pub fn stripped(alloc: Global, value: &Reader) -> Result<Vec<u8>, OutOfMemory>
-    ensures { IfOk result (λ bytes. bytes.items ≡ stripped (value_bytes value.now)) }
-{
-    let mut reader = value.copy();
-    let mut out = Vec::with_capacity(alloc, size(value))?;
-    while let Some(piece) = value_token(&mut reader) {
-        add_stripped(&mut out, piece)?;
-    }
-    Ok(out)
 }

@@ -1,6 +1,11 @@
-use Rattle.std.proofs.Common.{◌≡◌, ◌+◌, drop}
+use Rattle.std.proofs.Common.{◌≡◌, ◌+◌, length}
+use Rattle.mintc_liberty.specs.Expressions.{stripped}
 use Rattle.mintc_liberty.specs.Parentheses.{leading}
+use Rattle.mintc_liberty.specs.Passing.{value_bytes}
 use Rattle.mintc_liberty.proofs.expressions.leading.Given as goal
 
-abbrev pub invariant-loop-at : goal.invariant-loop-at
-invariant-loop-at l = leading l.bytes ≡ l.at + leading (drop l.at l.bytes)
+abbrev pub invariant-loop-byte : goal.invariant-loop-byte
+invariant-loop-byte l = leading (stripped (value_bytes l.value)) ≡ l.count + leading (stripped l.bytes)
+
+abbrev pub decreases-loop-byte : goal.decreases-loop-byte
+decreases-loop-byte l = length (stripped l.bytes)

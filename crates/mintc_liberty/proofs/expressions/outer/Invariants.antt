@@ -1,10 +1,12 @@
-use Rattle.std.proofs.Common.{◌≡◌, ◌≤◌, drop}
+use Rattle.std.proofs.Common.{◌≡◌, length, drop}
+use Rattle.mintc_liberty.specs.Expressions.{stripped}
 use Rattle.mintc_liberty.specs.Parentheses.{outer}
+use Rattle.mintc_liberty.specs.Passing.{value_bytes}
 use Rattle.mintc_liberty.proofs.expressions.outer.Given as goal
 
--- the pairs of what is left, and no more is open than was passed
-abbrev pub invariant-loop-at : goal.invariant-loop-at
-invariant-loop-at l = record {
-  same : outer l.from l.from (drop l.from l.bytes) ≡ outer l.open l.pairs (drop l.at l.bytes);
-  few : l.open ≤ l.at;
-}
+-- the pairs of what is left
+abbrev pub invariant-loop-byte : goal.invariant-loop-byte
+invariant-loop-byte l = outer l.from l.from (drop l.from (stripped (value_bytes l.value))) ≡ outer l.open l.pairs (stripped l.bytes)
+
+abbrev pub decreases-loop-byte : goal.decreases-loop-byte
+decreases-loop-byte l = length (stripped l.bytes)
