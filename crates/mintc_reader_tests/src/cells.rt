@@ -3,12 +3,12 @@
 
 mod cases;
 
+use super::texts::{cell_text, numbers_text, shown};
 use cases::{CELLS, EXAMPLE, IGNORING, PINS, SAID, TEXTS};
 use mintc_cells::{Cell, Cells, read_cells};
-use mintc_text::{Names, Refusal, Stop};
+use mintc_text::{Refusal, Stop};
 use std::alloc::Global;
 use std::process::Abort;
-use std::str;
 use std::test::Fail;
 
 /// The entry and the rule for which a text is refused; None where it has cells.
@@ -27,95 +27,20 @@ fn cells(rt: &impl Abort, alloc: Global, text: &str) -> Option<Cells> {
     read_cells(alloc, text.as_bytes()).ok()
 }
 
-/// A name's text.
-fn shown(name: &[u8]) -> Result<&str, Fail> {
-    match str::from_utf8(name) {
-        Ok(text) => Ok(text),
-        Err(_) => Err("no text")?,
-    }
-}
-
-/// Names in brackets.
-fn names_text(alloc: Global, names: &Names) -> Result<String, Fail> {
-    let mut text = String::new(alloc);
-    for name in names.items() {
-        if !text.is_empty() {
-            text.push_str(" ")?;
-        }
-        text.push_str(shown(name.bytes())?)?;
-    }
-    Ok(format!(in alloc; "[{text}]")?)
+/// A text is refused for this entry and rule, or for none.
+fn has_fault(rt: &impl Abort, alloc: Global, text: &str, want: Option<(u32, u32)>) {
+    assert_eq!(rt; fault(rt, alloc, text.as_bytes()), want, "at {text}");
 }
 
 /// A cell on one line.
-fn cell_text(alloc: Global, cell: &Cell) -> Result<String, Fail> {
-    Ok(match cell {
-        Cell::Gate {
-            inputs,
-            outputs,
-            min,
-            max,
-        } => {
-            let (inputs, outputs) = (names_text(alloc, inputs)?, names_text(alloc, outputs)?);
-            format!(in alloc; "gate {inputs} {outputs} {min} {max}")?
-        }
-        Cell::Latch {
-            pin_d,
-            pin_g,
-            high,
-            outputs,
-            ignored,
-            setup,
-            hold,
-            has_hold,
-            dq_min,
-            dq_max,
-            cq_min,
-            cq_max,
-            has_cq,
-            width,
-        } => {
-            let d = shown(pin_d.bytes())?;
-            let g = shown(pin_g.bytes())?;
-            let (outputs, ignored) = (names_text(alloc, outputs)?, names_text(alloc, ignored)?);
-            let delays = format!(in alloc; "{dq_min} {dq_max} {cq_min} {cq_max} {has_cq} {width}")?;
-            format!(in alloc;
-                "latch {d} {g} {high} {outputs} {ignored} {setup} {hold} {has_hold} {delays}"
-            )?
-        }
-        Cell::Flop {
-            pin_d,
-            pin_clock,
-            rising,
-            outputs,
-            ignored,
-            setup,
-            hold,
-            has_hold,
-            cq_min,
-            cq_max,
-            width,
-        } => {
-            let d = shown(pin_d.bytes())?;
-            let clock = shown(pin_clock.bytes())?;
-            let (outputs, ignored) = (names_text(alloc, outputs)?, names_text(alloc, ignored)?);
-            let delays = format!(in alloc; "{cq_min} {cq_max} {width}")?;
-            format!(in alloc;
-                "flop {d} {clock} {rising} {outputs} {ignored} {setup} {hold} {has_hold} {delays}"
-            )?
-        }
-        Cell::Clock {
-            input,
-            output,
-            invert,
-            ignored,
-        } => {
-            let input = shown(input.bytes())?;
-            let output = shown(output.bytes())?;
-            let ignored = names_text(alloc, ignored)?;
-            format!(in alloc; "clock {input} {output} {invert} {ignored}")?
-        }
-    })
+fn line_of(alloc: Global, cell: &Cell) -> Result<String, Fail> {
+    let mut text = cell_text(alloc, cell)?;
+    let numbers = numbers_text(alloc, cell)?;
+    if !numbers.is_empty() {
+        text.push_str(" ")?;
+        text.push_str(numbers.as_str())?;
+    }
+    Ok(text)
 }
 
 /// All cells, each with its name.
@@ -123,7 +48,7 @@ fn cells_text(alloc: Global, cells: &Cells) -> Result<String, Fail> {
     let mut text = String::new(alloc);
     for at in 0..cells.count() {
         let name = shown(cells.name(at))?;
-        let cell = cell_text(alloc, cells.cell(at))?;
+        let cell = line_of(alloc, cells.cell(at))?;
         text.push_str(&format!(in alloc; "{name} {cell};")?)?;
     }
     Ok(text)
@@ -148,13 +73,33 @@ fn pins_text(alloc: Global, cells: &Cells, name: &[u8]) -> Result<String, Fail> 
     Ok(text)
 }
 
+/// A text has cells that are these.
+fn has_cells(rt: &impl Abort, alloc: Global, text: &str, want: &str) -> Result<(), Fail> {
+    let cells = cells(rt, alloc, text).ok_or("refused")?;
+    let said = cells_text(alloc, &cells)?;
+    assert_eq!(rt; said.as_str(), want);
+    Ok(())
+}
+
 /// Cells have the values of their texts, with their defaults.
 #[test]
 fn cells_have_their_values(rt: HostRuntime) -> Result<(), Fail> {
     for (text, want) in SAID {
-        let cells = cells(&rt, rt.alloc(), *text).ok_or("refused")?;
-        assert_eq!(rt; cells_text(rt.alloc(), &cells)?.as_str(), *want);
+        has_cells(&rt, rt.alloc(), text, want)?;
     }
+    Ok(())
+}
+
+/// The cell of this name has these pins.
+fn has_pins(
+    rt: &impl Abort,
+    alloc: Global,
+    cells: &Cells,
+    name: &str,
+    pins: &str,
+) -> Result<(), Fail> {
+    let found = pins_text(alloc, cells, name.as_bytes())?;
+    assert_eq!(rt; found.as_str(), pins);
     Ok(())
 }
 
@@ -163,10 +108,7 @@ fn cells_have_their_values(rt: HostRuntime) -> Result<(), Fail> {
 fn pins_stand_in_order(rt: HostRuntime) -> Result<(), Fail> {
     let cells = cells(&rt, rt.alloc(), EXAMPLE).ok_or("refused")?;
     for (name, pins) in PINS {
-        assert_eq!(rt;
-            pins_text(rt.alloc(), &cells, name.as_bytes())?.as_str(),
-            *pins
-        );
+        has_pins(&rt, rt.alloc(), &cells, name, pins)?;
     }
     assert_eq!(rt; cells.find(b"DLL"), Some(3));
     assert_eq!(rt; cells.find(b"DLK"), None);
@@ -178,15 +120,11 @@ fn pins_stand_in_order(rt: HostRuntime) -> Result<(), Fail> {
 fn rules_fail_in_order(rt: HostRuntime) -> Result<(), Fail> {
     assert_eq!(rt; fault(&rt, rt.alloc(), b"\xff"), Some((0, 0)));
     for (text, want) in TEXTS {
-        assert_eq!(rt; fault(&rt, rt.alloc(), text.as_bytes()), *want, "at {text}");
+        has_fault(&rt, rt.alloc(), text, *want);
     }
     for (keys, rule) in CELLS {
         let text = format!(in rt.alloc(); "[cell.X]\n{keys}")?;
-        assert_eq!(rt;
-            fault(&rt, rt.alloc(), text.as_bytes()),
-            rule.map(|rule| (1, rule)),
-            "at {keys}"
-        );
+        has_fault(&rt, rt.alloc(), text.as_str(), rule.map(|rule| (1, rule)));
     }
     Ok(())
 }
@@ -201,29 +139,17 @@ fn list_text(alloc: Global, word: &str, count: u32) -> Result<String, Fail> {
     Ok(text)
 }
 
-/// The fault of a gate with so many inputs and outputs.
-fn gate_fault(
-    rt: &impl Abort,
-    alloc: Global,
-    inputs: u32,
-    outputs: u32,
-) -> Result<Option<(u32, u32)>, Fail> {
+/// A gate with so many inputs and outputs.
+fn gate(alloc: Global, inputs: u32, outputs: u32) -> Result<String, Fail> {
     let inputs = list_text(alloc, "inputs", inputs)?;
     let outputs = list_text(alloc, "outputs", outputs)?;
-    let text = format!(in alloc; "[cell.X]\nkind = \"gate\"\n{inputs}{outputs}")?;
-    Ok(fault(rt, alloc, text.as_bytes()))
+    Ok(format!(in alloc; "[cell.X]\nkind = \"gate\"\n{inputs}{outputs}")?)
 }
 
-/// The fault of a cell with these keys and so many ignored pins.
-fn ignoring_fault(
-    rt: &impl Abort,
-    alloc: Global,
-    keys: &str,
-    count: u32,
-) -> Result<Option<(u32, u32)>, Fail> {
+/// A cell with these keys and so many ignored pins.
+fn ignoring(alloc: Global, keys: &str, count: u32) -> Result<String, Fail> {
     let ignored = list_text(alloc, "ignored", count)?;
-    let text = format!(in alloc; "[cell.X]\n{keys}{ignored}")?;
-    Ok(fault(rt, alloc, text.as_bytes()))
+    Ok(format!(in alloc; "[cell.X]\n{keys}{ignored}")?)
 }
 
 /// So many bytes of a name.
@@ -235,33 +161,28 @@ fn long_name(alloc: Global, count: u32) -> Result<String, Fail> {
     Ok(name)
 }
 
-/// The fault of a cell with a name of so many bytes.
-fn name_fault(rt: &impl Abort, alloc: Global, count: u32) -> Result<Option<(u32, u32)>, Fail> {
+/// A cell whose name has so many bytes.
+fn named(alloc: Global, count: u32) -> Result<String, Fail> {
     let name = long_name(alloc, count)?;
-    let text = format!(in alloc;
-        "[cell.\"{name}\"]\nkind = \"clock\"\ninput = \"a\"\noutput = \"y\"\n"
-    )?;
-    Ok(fault(rt, alloc, text.as_bytes()))
+    Ok(format!(in alloc; "[cell.\"{name}\"]\nkind = \"clock\"\ninput = \"a\"\noutput = \"y\"\n")?)
 }
 
-/// The fault of a cell with a pin of so many bytes.
-fn pin_fault(rt: &impl Abort, alloc: Global, count: u32) -> Result<Option<(u32, u32)>, Fail> {
+/// A cell with a pin whose name has so many bytes.
+fn with_pin(alloc: Global, count: u32) -> Result<String, Fail> {
     let name = long_name(alloc, count)?;
-    let text = format!(in alloc;
-        "[cell.X]\nkind = \"clock\"\ninput = \"a\"\noutput = \"{name}\"\n"
-    )?;
-    Ok(fault(rt, alloc, text.as_bytes()))
+    Ok(format!(in alloc; "[cell.X]\nkind = \"clock\"\ninput = \"a\"\noutput = \"{name}\"\n")?)
 }
 
 /// Lists of pins have their limits.
 #[test]
 fn lists_are_short(rt: HostRuntime) -> Result<(), Fail> {
-    assert_eq!(rt; gate_fault(&rt, rt.alloc(), 64, 16)?, None);
-    assert_eq!(rt; gate_fault(&rt, rt.alloc(), 65, 16)?, Some((1, 4)));
-    assert_eq!(rt; gate_fault(&rt, rt.alloc(), 64, 17)?, Some((1, 4)));
+    let alloc = rt.alloc();
+    has_fault(&rt, alloc, &gate(alloc, 64, 16)?, None);
+    has_fault(&rt, alloc, &gate(alloc, 65, 16)?, Some((1, 4)));
+    has_fault(&rt, alloc, &gate(alloc, 64, 17)?, Some((1, 4)));
     for keys in IGNORING {
-        assert_eq!(rt; ignoring_fault(&rt, rt.alloc(), *keys, 64)?, None);
-        assert_eq!(rt; ignoring_fault(&rt, rt.alloc(), *keys, 65)?, Some((1, 4)));
+        has_fault(&rt, alloc, &ignoring(alloc, keys, 64)?, None);
+        has_fault(&rt, alloc, &ignoring(alloc, keys, 65)?, Some((1, 4)));
     }
     Ok(())
 }
@@ -269,9 +190,10 @@ fn lists_are_short(rt: HostRuntime) -> Result<(), Fail> {
 /// Names have at most 255 bytes.
 #[test]
 fn names_are_short(rt: HostRuntime) -> Result<(), Fail> {
-    assert_eq!(rt; name_fault(&rt, rt.alloc(), 255)?, None);
-    assert_eq!(rt; name_fault(&rt, rt.alloc(), 256)?, Some((1, 2)));
-    assert_eq!(rt; pin_fault(&rt, rt.alloc(), 255)?, None);
-    assert_eq!(rt; pin_fault(&rt, rt.alloc(), 256)?, Some((1, 4)));
+    let alloc = rt.alloc();
+    has_fault(&rt, alloc, &named(alloc, 255)?, None);
+    has_fault(&rt, alloc, &named(alloc, 256)?, Some((1, 2)));
+    has_fault(&rt, alloc, &with_pin(alloc, 255)?, None);
+    has_fault(&rt, alloc, &with_pin(alloc, 256)?, Some((1, 4)));
     Ok(())
 }

@@ -3,6 +3,7 @@
 use mintc_certificate::{Certificate, Member, read, write};
 use mintc_text::{Refusal, Role, Stop};
 use std::alloc::Global;
+use std::process::Abort;
 use std::test::Fail;
 
 /// The certificate of two latches in a ring.
@@ -52,51 +53,62 @@ fn members(alloc: Global, count: u32) -> Result<String, Fail> {
     Ok(text)
 }
 
+/// What a text is read as is written as that other text.
+fn is_rewritten(rt: &impl Abort, alloc: Global, text: &str, wanted: &str) -> Result<(), Fail> {
+    let again = rewritten(alloc, text.as_bytes()).ok_or("refused")?;
+    assert_eq!(rt; again.as_slice(), wanted.as_bytes());
+    Ok(())
+}
+
 #[test]
 fn certificates_are_read_and_written_again(rt: HostRuntime) -> Result<(), Fail> {
     let alloc = rt.alloc();
-    for text in [RING, NEVER] {
-        let again = rewritten(alloc, text.as_bytes()).ok_or("refused")?;
-        assert_eq!(rt; again.as_slice(), text.as_bytes());
-    }
+    is_rewritten(&rt, alloc, RING, RING)?;
+    is_rewritten(&rt, alloc, NEVER, NEVER)?;
     let early = RING.replacen(alloc, "departure 0", "departure -100000000000000", 1)?;
-    let again = rewritten(alloc, early.as_bytes()).ok_or("refused")?;
-    assert_eq!(rt; again.as_slice(), early.as_bytes());
+    is_rewritten(&rt, alloc, &early, &early)?;
     let many = members(alloc, 4_096)?;
-    let again = rewritten(alloc, many.as_bytes()).ok_or("refused")?;
-    assert_eq!(rt; again.as_slice(), many.as_bytes());
-    Ok(())
+    is_rewritten(&rt, alloc, &many, &many)
 }
 
 #[test]
 fn both_versions_are_read_as_one_value(rt: HostRuntime) -> Result<(), Fail> {
-    let alloc = rt.alloc();
-    let first = RING.replacen(alloc, "certificate 2", "certificate 1", 1)?;
-    let again = rewritten(alloc, first.as_bytes()).ok_or("refused")?;
-    assert_eq!(rt; again.as_slice(), RING.as_bytes());
-    Ok(())
+    let first = RING.replacen(rt.alloc(), "certificate 2", "certificate 1", 1)?;
+    is_rewritten(&rt, rt.alloc(), &first, RING)
+}
+
+/// Whether these are the members of `NEVER`, of one kind each.
+fn are_of_never(items: &[Member]) -> bool {
+    match items {
+        [
+            _,
+            _,
+            Member::Order { phase: 3 },
+            _,
+            _,
+            Member::Apart { i: 6, j: 7 },
+            Member::Opening { element: 8 },
+            Member::Opened { element: 9 },
+            Member::Reach {
+                from: 10,
+                to: 11,
+                arcs,
+            },
+            _,
+            _,
+        ] => arcs.items() == [12, 13].as_slice(),
+        _ => false,
+    }
 }
 
 #[test]
 fn members_have_their_numbers(rt: HostRuntime) -> Result<(), Fail> {
-    let alloc = rt.alloc();
     let text = NEVER.as_bytes();
     assert!(rt; text.len() < 1_000);
-    let certificate = read(alloc, text).ok().ok_or("refused")?;
-    let Certificate::Never { chain } = &certificate else {
-        return Err(Fail::from("least"));
-    };
-    let items = chain.items();
-    assert_eq!(rt; items.len(), 11);
-    assert!(rt; matches!(&items[2], Member::Order { phase: 3 }));
-    assert!(rt; matches!(&items[5], Member::Apart { i: 6, j: 7 }));
-    assert!(rt; matches!(&items[6], Member::Opening { element: 8 }));
-    assert!(rt; matches!(&items[7], Member::Opened { element: 9 }));
-    let Member::Reach { from, to, arcs } = &items[8] else {
-        return Err(Fail::from("no reach"));
-    };
-    assert_eq!(rt; (*from, *to), (10, 11));
-    assert_eq!(rt; arcs.items(), [12, 13].as_slice());
+    match read(rt.alloc(), text) {
+        Ok(Certificate::Never { chain }) => assert!(rt; are_of_never(chain.items())),
+        _ => panic!(rt; "no chain alone"),
+    }
     Ok(())
 }
 
@@ -119,10 +131,15 @@ fn a_cut_text_has_its_fault_at_the_cut(rt: HostRuntime) -> Result<(), Fail> {
     Ok(())
 }
 
+/// A text has its fault at this line, or none.
+fn has_fault(rt: &impl Abort, alloc: Global, text: &str, line: u32) {
+    assert_eq!(rt; fault(alloc, text.as_bytes()), line, "{text}");
+}
+
 #[test]
 fn a_faulty_line_is_named(rt: HostRuntime) -> Result<(), Fail> {
     let alloc = rt.alloc();
-    for (old, new, line) in [
+    for (old, new, line) in &[
         ("certificate 2", "certificate 0", 1),
         ("certificate 2", "certificate 3", 1),
         ("least", "most", 2),
@@ -155,18 +172,24 @@ fn a_faulty_line_is_named(rt: HostRuntime) -> Result<(), Fail> {
         ("end\n", "end\nend\n", 15),
     ] {
         let text = RING.replacen(alloc, old, new, 1)?;
-        assert_eq!(rt; fault(alloc, text.as_bytes()), line, "{new}");
+        has_fault(&rt, alloc, &text, *line);
     }
-    for (old, new, line) in [
+    let many = members(alloc, 4_097)?;
+    has_fault(&rt, alloc, &many, 3);
+    Ok(())
+}
+
+#[test]
+fn a_line_of_version_2_is_faulty_in_version_1(rt: HostRuntime) -> Result<(), Fail> {
+    let alloc = rt.alloc();
+    for (old, new, line) in &[
         ("departure 0", "departure -1", 9),
         ("reach 0 1 1 0", "opened 0", 12),
     ] {
         let second = RING.replacen(alloc, old, new, 1)?;
-        assert_eq!(rt; fault(alloc, second.as_bytes()), 0);
+        has_fault(&rt, alloc, &second, 0);
         let first = second.replacen(alloc, "certificate 2", "certificate 1", 1)?;
-        assert_eq!(rt; fault(alloc, first.as_bytes()), line, "{new}");
+        has_fault(&rt, alloc, &first, *line);
     }
-    let many = members(alloc, 4_097)?;
-    assert_eq!(rt; fault(alloc, many.as_bytes()), 3);
     Ok(())
 }

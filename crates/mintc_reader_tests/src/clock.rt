@@ -1,11 +1,11 @@
 //! Tests of clock descriptions: the value of one that has every key, and each rule at its limit and one past it.
 
-use mintc_clock::{Clock, read_clock};
+use super::texts::shown;
+use mintc_clock::{Clock, Listed, PhaseDef, read_clock};
 use mintc_text::{Refusal, Stop};
-use mintc_timing::Point;
+use mintc_timing::{Bound, Point};
 use std::alloc::Global;
 use std::process::Abort;
-use std::str;
 use std::test::Fail;
 
 /// The clock of the worked files.
@@ -241,12 +241,9 @@ fn clock(rt: &impl Abort, alloc: Global, text: &str) -> Option<Clock> {
     read_clock(alloc, text.as_bytes()).ok()
 }
 
-/// A name's text.
-fn shown(name: &[u8]) -> Result<&str, Fail> {
-    match str::from_utf8(name) {
-        Ok(text) => Ok(text),
-        Err(_) => Err("no text")?,
-    }
+/// A text is refused for this entry and rule, or for none.
+fn has_fault(rt: &impl Abort, alloc: Global, text: &str, want: Option<(u32, u32)>) {
+    assert_eq!(rt; fault(rt, alloc, text.as_bytes()), want, "at {text}");
 }
 
 /// A point in words.
@@ -258,51 +255,79 @@ fn point_text(alloc: Global, point: &Point) -> Result<String, Fail> {
     })
 }
 
+/// A phase on one line.
+fn phase_text(alloc: Global, phase: &PhaseDef) -> Result<String, Fail> {
+    let name = shown(phase.name.bytes())?;
+    let port = shown(phase.port.bytes())?;
+    let high = phase.high;
+    Ok(format!(in alloc; "phase {name} {port} {high};")?)
+}
+
+/// A bound on one line.
+fn bound_text(alloc: Global, bound: &Bound) -> Result<String, Fail> {
+    let from = point_text(alloc, &bound.from)?;
+    let to = point_text(alloc, &bound.to)?;
+    let (gap, cycles) = (bound.gap, bound.cycles);
+    Ok(format!(in alloc; "bound {from} {to} {gap} {cycles};")?)
+}
+
+/// A listed port on one line.
+fn listed_text(alloc: Global, word: &str, listed: &Listed) -> Result<String, Fail> {
+    let port = shown(listed.port.bytes())?;
+    let (phase, min, max) = (listed.phase, listed.min, listed.max);
+    let (setup, hold, has_hold) = (listed.setup, listed.hold, listed.has_hold);
+    Ok(format!(in alloc; "{word} {port} {phase} {min} {max} {setup} {hold} {has_hold};")?)
+}
+
+/// Adds the listed ports of a list.
+fn add_listed(text: &mut String, alloc: Global, word: &str, list: &[Listed]) -> Result<(), Fail> {
+    for listed in list {
+        text.push_str(&listed_text(alloc, word, listed)?)?;
+    }
+    Ok(())
+}
+
+/// The top of a clock, where it is named.
+fn top_text(alloc: Global, clock: &Clock) -> Result<String, Fail> {
+    match &clock.top {
+        Some(top) => {
+            let name = shown(top.bytes())?;
+            Ok(format!(in alloc; "top {name};")?)
+        }
+        None => Ok(String::new(alloc)),
+    }
+}
+
 /// All that a clock says, on one line.
 fn clock_text(alloc: Global, clock: &Clock) -> Result<String, Fail> {
-    let mut text = String::new(alloc);
-    if let Some(top) = &clock.top {
-        let name = shown(top.bytes())?;
-        text.push_str(&format!(in alloc; "top {name};")?)?;
-    }
+    let mut text = top_text(alloc, clock)?;
     for phase in clock.phases.items() {
-        let name = shown(phase.name.bytes())?;
-        let port = shown(phase.port.bytes())?;
-        let high = phase.high;
-        text.push_str(&format!(in alloc; "phase {name} {port} {high};")?)?;
+        text.push_str(&phase_text(alloc, phase)?)?;
     }
     for bound in clock.bounds.items() {
-        let from = point_text(alloc, &bound.from)?;
-        let to = point_text(alloc, &bound.to)?;
-        let (gap, cycles) = (bound.gap, bound.cycles);
-        text.push_str(&format!(in alloc; "bound {from} {to} {gap} {cycles};")?)?;
+        text.push_str(&bound_text(alloc, bound)?)?;
     }
-    for (word, list) in [("input", &clock.inputs), ("output", &clock.outputs)] {
-        for listed in list.items() {
-            let port = shown(listed.port.bytes())?;
-            let (phase, min, max) = (listed.phase, listed.min, listed.max);
-            let (setup, hold, has_hold) = (listed.setup, listed.hold, listed.has_hold);
-            text.push_str(&format!(in alloc;
-                "{word} {port} {phase} {min} {max} {setup} {hold} {has_hold};"
-            )?)?;
-        }
-    }
+    add_listed(&mut text, alloc, "input", clock.inputs.items())?;
+    add_listed(&mut text, alloc, "output", clock.outputs.items())?;
     Ok(text)
+}
+
+/// A text has a clock that says this.
+fn has_clock(rt: &impl Abort, alloc: Global, text: &str, want: &str) -> Result<(), Fail> {
+    let clock = clock(rt, alloc, text).ok_or("refused")?;
+    let said = clock_text(alloc, &clock)?;
+    assert_eq!(rt; said.as_str(), want);
+    Ok(())
 }
 
 /// A clock's values are those of its text, with its defaults.
 #[test]
 fn clocks_have_their_values(rt: HostRuntime) -> Result<(), Fail> {
-    let two = clock(&rt, rt.alloc(), TWO).ok_or("refused")?;
-    assert_eq!(rt;
-        clock_text(rt.alloc(), &two)?.as_str(),
-        "phase p1 phi1 true;phase p2 phi2 true;"
-    );
-    let full = clock(&rt, rt.alloc(), FULL).ok_or("refused")?;
-    let want = "top chip;phase p c[0] true;phase q c[0] false;bound s1 e2 -5 1;bound o s2 16 0;\
+    let two = "phase p1 phi1 true;phase p2 phi2 true;";
+    let full = "top chip;phase p c[0] true;phase q c[0] false;bound s1 e2 -5 1;bound o s2 16 0;\
 input x 2 3 4 0 0 false;input x 1 7 7 0 0 false;output y 1 0 0 -1 0 true;output z 2 0 0 0 0 false;";
-    assert_eq!(rt; clock_text(rt.alloc(), &full)?.as_str(), want);
-    Ok(())
+    has_clock(&rt, rt.alloc(), TWO, two)?;
+    has_clock(&rt, rt.alloc(), FULL, full)
 }
 
 /// Each rule fails first where it should, at its limit and one past it.
@@ -310,42 +335,47 @@ input x 2 3 4 0 0 false;input x 1 7 7 0 0 false;output y 1 0 0 -1 0 true;output 
 fn rules_fail_in_order(rt: HostRuntime) -> Result<(), Fail> {
     assert_eq!(rt; fault(&rt, rt.alloc(), b"\xff"), Some((0, 0)));
     for (text, want) in PHASES {
-        assert_eq!(rt; fault(&rt, rt.alloc(), text.as_bytes()), *want, "at {text}");
+        has_fault(&rt, rt.alloc(), text, *want);
     }
     for (items, want) in ITEMS {
         let text = format!(in rt.alloc(); "{PHASE}{items}")?;
-        assert_eq!(rt;
-            fault(&rt, rt.alloc(), text.as_bytes()),
-            *want,
-            "at {items}"
-        );
+        has_fault(&rt, rt.alloc(), text.as_str(), *want);
     }
     Ok(())
+}
+
+/// Descriptions with a name `*`, and the entry and the rule of the refusal where that is too long.
+const NAMED: &[(&str, (u32, u32))] = &[
+    ("[[phase]]\nname = \"*\"\nport = \"c\"\n", (1, 3)),
+    (
+        "top = \"*\"\n[[phase]]\nname = \"p\"\nport = \"c\"\n",
+        (0, 1),
+    ),
+    (
+        "[[phase]]\nname = \"p\"\nport = \"c\"\n[[input]]\nport = \"*\"\nphase = \"p\"\n",
+        (1, 6),
+    ),
+];
+
+/// A description with a name of so many bytes.
+fn named(alloc: Global, text: &str, count: u32) -> Result<String, Fail> {
+    let mut name = String::new(alloc);
+    for _ in 0..count {
+        name.push_str("~")?;
+    }
+    Ok(text.replacen(alloc, "*", name.as_str(), 1)?)
 }
 
 /// A name has at most 255 bytes.
 #[test]
 fn names_are_short(rt: HostRuntime) -> Result<(), Fail> {
-    for (count, wrong) in [(255, false), (256, true)] {
-        let mut name = String::new(rt.alloc());
-        for _ in 0..count {
-            name.push_str("~")?;
-        }
-        let name = name.as_str();
-        let phase = format!(in rt.alloc(); "[[phase]]\nname = \"{name}\"\nport = \"c\"\n")?;
-        assert_eq!(rt;
-            fault(&rt, rt.alloc(), phase.as_bytes()),
-            if wrong { Some((1, 3)) } else { None }
-        );
-        let top = format!(in rt.alloc(); "top = \"{name}\"\n{PHASE}")?;
-        assert_eq!(rt;
-            fault(&rt, rt.alloc(), top.as_bytes()),
-            if wrong { Some((0, 1)) } else { None }
-        );
-        let input = format!(in rt.alloc(); "{PHASE}[[input]]\nport = \"{name}\"\nphase = \"p\"\n")?;
-        assert_eq!(rt;
-            fault(&rt, rt.alloc(), input.as_bytes()),
-            if wrong { Some((1, 6)) } else { None }
+    for (text, fault) in NAMED {
+        has_fault(&rt, rt.alloc(), &named(rt.alloc(), text, 255)?, None);
+        has_fault(
+            &rt,
+            rt.alloc(),
+            &named(rt.alloc(), text, 256)?,
+            Some(*fault),
         );
     }
     Ok(())

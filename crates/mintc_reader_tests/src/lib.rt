@@ -12,6 +12,8 @@ mod liberty;
 #[cfg(test)]
 mod sdf;
 #[cfg(test)]
+mod texts;
+#[cfg(test)]
 mod timing;
 #[cfg(test)]
 mod verilog;

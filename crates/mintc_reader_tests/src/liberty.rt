@@ -2,104 +2,14 @@
 //! with their cells.
 mod cases;
 
+use super::texts::{cell_text, numbers_text, shown};
 use cases::{DESCRIPTION, GRAMMAR, KINDS, LIBRARIES, ROWS, SAYINGS, UNUSABLE_CELLS, WORKED};
 use mintc_cells::{Cell, Cells, read_cells};
 use mintc_liberty::{read_liberty, toml_form};
-use mintc_text::{Name, Names, Refusal, Role, Stop};
+use mintc_text::{Refusal, Role, Stop};
 use std::alloc::Global;
 use std::process::Abort;
-use std::str;
 use std::test::Fail;
-
-/// A name's text.
-fn shown(name: &[u8]) -> Result<&str, Fail> {
-    match str::from_utf8(name) {
-        Ok(text) => Ok(text),
-        Err(_) => Err("no text")?,
-    }
-}
-
-/// Names in brackets.
-fn names_text(alloc: Global, names: &Names) -> Result<String, Fail> {
-    let mut text = String::new(alloc);
-    for name in names.items() {
-        if !text.is_empty() {
-            text.push_str(" ")?;
-        }
-        text.push_str(shown(name.bytes())?)?;
-    }
-    Ok(format!(in alloc; "[{text}]")?)
-}
-
-/// A gate's kind and pins.
-fn gate_text(alloc: Global, inputs: &Names, outputs: &Names) -> Result<String, Fail> {
-    let (inputs, outputs) = (names_text(alloc, inputs)?, names_text(alloc, outputs)?);
-    Ok(format!(in alloc; "gate {inputs} {outputs}")?)
-}
-
-/// A latch's or flop's kind and pins.
-fn stored_text(
-    alloc: Global,
-    kind: &str,
-    pins: (&Name, &Name),
-    is_plain: bool,
-    lists: (&Names, &Names),
-) -> Result<String, Fail> {
-    let (data, control) = (shown(pins.0.bytes())?, shown(pins.1.bytes())?);
-    let (outputs, ignored) = (names_text(alloc, lists.0)?, names_text(alloc, lists.1)?);
-    Ok(format!(in alloc; "{kind} {data} {control} {is_plain} {outputs} {ignored}")?)
-}
-
-/// A clock cell's kind and pins.
-fn clock_text(
-    alloc: Global,
-    pins: (&Name, &Name),
-    invert: bool,
-    ignored: &Names,
-) -> Result<String, Fail> {
-    let (from, to) = (shown(pins.0.bytes())?, shown(pins.1.bytes())?);
-    let ignored = names_text(alloc, ignored)?;
-    Ok(format!(in alloc; "clock {from} {to} {invert} {ignored}")?)
-}
-
-/// A cell's kind and pins.
-fn cell_text(alloc: Global, cell: &Cell) -> Result<String, Fail> {
-    match cell {
-        Cell::Gate {
-            inputs,
-            outputs,
-            ..
-        } => gate_text(alloc, inputs, outputs),
-        Cell::Latch {
-            pin_d,
-            pin_g,
-            high,
-            outputs,
-            ignored,
-            ..
-        } => stored_text(alloc, "latch", (pin_d, pin_g), *high, (outputs, ignored)),
-        Cell::Flop {
-            pin_d,
-            pin_clock,
-            rising,
-            outputs,
-            ignored,
-            ..
-        } => stored_text(
-            alloc,
-            "flop",
-            (pin_d, pin_clock),
-            *rising,
-            (outputs, ignored),
-        ),
-        Cell::Clock {
-            input,
-            output,
-            invert,
-            ignored,
-        } => clock_text(alloc, (input, output), *invert, ignored),
-    }
-}
 
 /// The cells, each with its name and an end.
 fn cells_text(alloc: Global, cells: &Cells) -> Result<String, Fail> {
@@ -240,37 +150,6 @@ fn long_values(rt: HostRuntime) -> Result<(), Fail> {
     Ok(())
 }
 
-/// A cell's numbers.
-fn numbers_text(alloc: Global, cell: &Cell) -> Result<String, Fail> {
-    Ok(match cell {
-        Cell::Gate { min, max, .. } => format!(in alloc; "{min} {max}")?,
-        Cell::Latch {
-            setup,
-            hold,
-            has_hold,
-            dq_min,
-            dq_max,
-            cq_min,
-            cq_max,
-            has_cq,
-            width,
-            ..
-        } => format!(in alloc;
-            "{setup} {hold} {has_hold} {dq_min} {dq_max} {cq_min} {cq_max} {has_cq} {width}"
-        )?,
-        Cell::Flop {
-            setup,
-            hold,
-            has_hold,
-            cq_min,
-            cq_max,
-            width,
-            ..
-        } => format!(in alloc; "{setup} {hold} {has_hold} {cq_min} {cq_max} {width}")?,
-        Cell::Clock { .. } => String::new(alloc),
-    })
-}
-
 /// The cells of a description.
 fn described(rt: &impl Abort, alloc: Global, text: &[u8]) -> Result<Cells, Fail> {
     assert!(rt; text.len() < 60_000_000);
@@ -280,20 +159,35 @@ fn described(rt: &impl Abort, alloc: Global, text: &[u8]) -> Result<Cells, Fail>
     }
 }
 
+/// Both have the same cells, but for their numbers.
+fn are_alike(rt: &impl Abort, alloc: Global, cells: &Cells, back: &Cells) -> Result<(), Fail> {
+    let wanted = cells_text(alloc, cells)?;
+    let found = cells_text(alloc, back)?;
+    assert_eq!(rt; wanted.as_str(), found.as_str());
+    Ok(())
+}
+
+/// Both cells have the same numbers.
+fn have_equal_numbers(
+    rt: &impl Abort,
+    alloc: Global,
+    cell: &Cell,
+    back: &Cell,
+) -> Result<(), Fail> {
+    let wanted = numbers_text(alloc, cell)?;
+    let found = numbers_text(alloc, back)?;
+    assert_eq!(rt; wanted.as_str(), found.as_str());
+    Ok(())
+}
+
 /// The form of a description's cells is read as these very cells.
 fn comes_back(rt: &impl Abort, alloc: Global, text: &[u8]) -> Result<(), Fail> {
     let cells = described(rt, alloc, text)?;
     let back = described(rt, alloc, &toml_form(alloc, &cells)?)?;
-    assert_eq!(rt;
-        cells_text(alloc, &cells)?.as_str(),
-        cells_text(alloc, &back)?.as_str()
-    );
+    are_alike(rt, alloc, &cells, &back)?;
     for number in 0..cells.count() {
         assert!(rt; number < back.count());
-        assert_eq!(rt;
-            numbers_text(alloc, cells.cell(number))?.as_str(),
-            numbers_text(alloc, back.cell(number))?.as_str()
-        );
+        have_equal_numbers(rt, alloc, cells.cell(number), back.cell(number))?;
     }
     Ok(())
 }

@@ -3,6 +3,7 @@
 use mintc_sdf::{Delay, Place, Subject, read_delays};
 use mintc_text::{Name, Refusal, Role, Stop};
 use std::alloc::Global;
+use std::process::Abort;
 use std::test::Fail;
 
 /// A file of two buffers.
@@ -19,6 +20,40 @@ fn add_names(out: &mut Vec<u8>, word: &[u8], names: &[Name]) -> Result<(), Fail>
     Ok(())
 }
 
+/// Adds a word and a pin.
+fn add_pin(out: &mut Vec<u8>, word: &[u8], pin: &Name) -> Result<(), Fail> {
+    out.extend_from_slice(word)?;
+    out.extend_from_slice(pin.bytes())?;
+    Ok(())
+}
+
+/// Adds where a delay is.
+fn add_place(out: &mut Vec<u8>, place: &Place) -> Result<(), Fail> {
+    match place {
+        Place::Top => add_names(out, b" top", &[]),
+        Place::Every => add_names(out, b" every", &[]),
+        Place::Path(names) => add_names(out, b" at", names.items()),
+    }
+}
+
+/// Adds what a delay is of.
+fn add_subject(out: &mut Vec<u8>, delay: &Delay) -> Result<(), Fail> {
+    match &delay.subject {
+        Subject::Iopath { from, to } => {
+            add_pin(out, b" from ", from)?;
+            add_pin(out, b" to ", to)
+        }
+        Subject::Interconnect { to } => {
+            add_names(out, b" wire", to.items())?;
+            add_pin(out, b" type ", &delay.celltype)
+        }
+        Subject::Port { pin } => add_pin(out, b" port ", pin),
+        Subject::Setup { pin } => add_pin(out, b" setup ", pin),
+        Subject::Hold { pin } => add_pin(out, b" hold ", pin),
+        Subject::Width { pin } => add_pin(out, b" width ", pin),
+    }
+}
+
 /// Adds a line that a delay is.
 fn add_delay(out: &mut Vec<u8>, alloc: Global, delay: &Delay) -> Result<(), Fail> {
     let Delay {
@@ -29,63 +64,56 @@ fn add_delay(out: &mut Vec<u8>, alloc: Global, delay: &Delay) -> Result<(), Fail
     } = delay;
     out.extend_from_slice(format!(in alloc; "{entry} ")?.as_bytes())?;
     out.extend_from_slice(delay.celltype.bytes())?;
-    match &delay.place {
-        Place::Top => add_names(out, b" top", &[])?,
-        Place::Every => add_names(out, b" every", &[])?,
-        Place::Path(names) => add_names(out, b" at", names.items())?,
-    }
-    let (word, pin) = match &delay.subject {
-        Subject::Iopath { from, to } => {
-            out.extend_from_slice(b" from ")?;
-            out.extend_from_slice(from.bytes())?;
-            (b" to ".as_slice(), to)
-        }
-        Subject::Interconnect { to } => {
-            add_names(out, b" wire", to.items())?;
-            (b" type ".as_slice(), &delay.celltype)
-        }
-        Subject::Port { pin } => (b" port ".as_slice(), pin),
-        Subject::Setup { pin } => (b" setup ".as_slice(), pin),
-        Subject::Hold { pin } => (b" hold ".as_slice(), pin),
-        Subject::Width { pin } => (b" width ".as_slice(), pin),
-    };
-    out.extend_from_slice(word)?;
-    out.extend_from_slice(pin.bytes())?;
+    add_place(out, &delay.place)?;
+    add_subject(out, delay)?;
     out.extend_from_slice(format!(in alloc; " {least} {greatest}")?.as_bytes())?;
     Ok(())
 }
 
+/// Delays with a stroke between them.
+fn delays_text(alloc: Global, delays: &[Delay]) -> Result<Vec<u8>, Fail> {
+    let mut out = Vec::new(alloc);
+    for delay in delays {
+        if !out.is_empty() {
+            out.extend_from_slice(b" | ")?;
+        }
+        add_delay(&mut out, alloc, delay)?;
+    }
+    Ok(out)
+}
+
+/// Why there are no delays: a word and an entry.
+fn stop_text(alloc: Global, stop: &Stop) -> Result<Vec<u8>, Fail> {
+    let (word, entry) = match stop {
+        Stop::Refused(
+            Refusal::Syntax {
+                role: Role::Delays,
+                entry,
+            },
+        ) => ("syntax", *entry),
+        Stop::Refused(Refusal::Range { entry }) => ("range", *entry),
+        Stop::Refused(Refusal::Negative { entry }) => ("negative", *entry),
+        _ => ("other", 0),
+    };
+    Ok(format!(in alloc; "{word} {entry}")?.into_bytes())
+}
+
 /// What a text gives: its delays with a stroke between them, or its refusal.
 fn answer(alloc: Global, text: &[u8]) -> Result<Vec<u8>, Fail> {
-    let mut out = Vec::new(alloc);
     if text.len() > 67_108_864 {
-        return Ok(out);
+        return Ok(Vec::new(alloc));
     }
-    let line = match read_delays(alloc, text) {
-        Ok(delays) => {
-            for delay in delays.items.items() {
-                if !out.is_empty() {
-                    out.extend_from_slice(b" | ")?;
-                }
-                add_delay(&mut out, alloc, delay)?;
-            }
-            return Ok(out);
-        }
-        Err(
-            Stop::Refused(
-                Refusal::Syntax {
-                    role: Role::Delays,
-                    entry,
-                },
-            ),
-        ) => format!(in alloc; "syntax {entry}")?,
-        Err(Stop::Refused(Refusal::Range { entry })) => format!(in alloc; "range {entry}")?,
-        Err(Stop::Refused(Refusal::Negative { entry })) => format!(in alloc; "negative {entry}")?,
-        Err(Stop::OutOfMemory) => format!(in alloc; "no memory")?,
-        Err(Stop::Refused(_)) => format!(in alloc; "other")?,
-    };
-    out.extend_from_slice(line.as_bytes())?;
-    Ok(out)
+    match read_delays(alloc, text) {
+        Ok(delays) => delays_text(alloc, delays.items.items()),
+        Err(stop) => stop_text(alloc, &stop),
+    }
+}
+
+/// A text gives what is wanted.
+fn is_answered(rt: &impl Abort, alloc: Global, text: &str, wanted: &str) -> Result<(), Fail> {
+    let found = answer(alloc, text.as_bytes())?;
+    assert_eq!(rt; found.as_slice(), wanted.as_bytes(), "{text}");
+    Ok(())
 }
 
 /// A file with one CELL of a leaf, its second entry, in femtoseconds.
@@ -104,7 +132,7 @@ fn definition(alloc: Global, text: &str) -> Result<String, Fail> {
 #[test]
 fn reads_whole_files(rt: HostRuntime) -> Result<(), Fail> {
     let alloc = rt.alloc();
-    for (text, wanted) in [
+    for (text, wanted) in &[
         (
             TWO,
             "4 BUF at u1 s b from A to Y 20 20 | 5 BUF at u2 s b from A to Y 50 60",
@@ -169,11 +197,7 @@ fn reads_whole_files(rt: HostRuntime) -> Result<(), Fail> {
             "syntax 1",
         ),
     ] {
-        assert_eq!(rt;
-            answer(alloc, text.as_bytes())?.as_slice(),
-            wanted.as_bytes(),
-            "{text}"
-        );
+        is_answered(&rt, alloc, text, wanted)?;
     }
     Ok(())
 }
@@ -210,7 +234,7 @@ fn a_cut_text_has_its_fault_at_the_cut(rt: HostRuntime) -> Result<(), Fail> {
 #[test]
 fn reads_definitions(rt: HostRuntime) -> Result<(), Fail> {
     let alloc = rt.alloc();
-    for (text, wanted) in [
+    for (text, wanted) in &[
         (
             "(IOPATH A Y (1:2:3) (:5:) () (4))",
             "2 C at i from A to Y 1 5",
@@ -264,11 +288,8 @@ fn reads_definitions(rt: HostRuntime) -> Result<(), Fail> {
         ("(IOPATH A Y (-1) (1e10))", "negative 2"),
         ("(IOPATH A Y (-1)) (PORT p (x))", "syntax 2"),
     ] {
-        assert_eq!(rt;
-            answer(alloc, definition(alloc, text)?.as_bytes())?.as_slice(),
-            wanted.as_bytes(),
-            "{text}"
-        );
+        let text = definition(alloc, text)?;
+        is_answered(&rt, alloc, text.as_str(), wanted)?;
     }
     Ok(())
 }
@@ -276,7 +297,7 @@ fn reads_definitions(rt: HostRuntime) -> Result<(), Fail> {
 #[test]
 fn conditions_stand_for_their_last_item(rt: HostRuntime) -> Result<(), Fail> {
     let alloc = rt.alloc();
-    for (text, wanted) in [
+    for (text, wanted) in &[
         ("(COND a && (b) \"c\" (PORT p (1)))", "2 C at i port p 1 1"),
         ("(COND (PORT q (-1)) (PORT p (1)))", "2 C at i port p 1 1"),
         (
@@ -309,11 +330,8 @@ fn conditions_stand_for_their_last_item(rt: HostRuntime) -> Result<(), Fail> {
         ("(PORT (COND a (COND)) (1))", "syntax 2"),
         ("(PORT (CONDELSE d) (1))", "syntax 2"),
     ] {
-        assert_eq!(rt;
-            answer(alloc, definition(alloc, text)?.as_bytes())?.as_slice(),
-            wanted.as_bytes(),
-            "{text}"
-        );
+        let text = definition(alloc, text)?;
+        is_answered(&rt, alloc, text.as_str(), wanted)?;
     }
     let mut text = String::new(alloc);
     for _ in 0..200 {
@@ -323,17 +341,14 @@ fn conditions_stand_for_their_last_item(rt: HostRuntime) -> Result<(), Fail> {
     for _ in 0..200 {
         text.push_str("))")?;
     }
-    assert_eq!(rt;
-        answer(alloc, definition(alloc, text.as_str())?.as_bytes())?.as_slice(),
-        b"2 C at i port d 1 1".as_slice()
-    );
-    Ok(())
+    let text = definition(alloc, text.as_str())?;
+    is_answered(&rt, alloc, text.as_str(), "2 C at i port d 1 1")
 }
 
 #[test]
 fn reads_checks_and_parts(rt: HostRuntime) -> Result<(), Fail> {
     let alloc = rt.alloc();
-    for (text, wanted) in [
+    for (text, wanted) in &[
         (
             "(TIMINGCHECK (SETUP d (posedge g) (1::2)) (HOLD d g (-3)) (WIDTH (posedge g) (4)))",
             "2 C at i setup d 1 2 | 2 C at i hold d -3 -3 | 2 C at i width g 4 4",
@@ -360,11 +375,8 @@ fn reads_checks_and_parts(rt: HostRuntime) -> Result<(), Fail> {
         ("(ABSOLUTE)", "syntax 2"),
         ("x", "syntax 2"),
     ] {
-        assert_eq!(rt;
-            answer(alloc, leaf(alloc, text)?.as_bytes())?.as_slice(),
-            wanted.as_bytes(),
-            "{text}"
-        );
+        let text = leaf(alloc, text)?;
+        is_answered(&rt, alloc, text.as_str(), wanted)?;
     }
     Ok(())
 }

@@ -1,7 +1,7 @@
 //! Tables and schedules.
 
 use mintc_text::{Kind, Refusal, Role, Stop};
-use mintc_timing::{Flat, read_schedule, read_table};
+use mintc_timing::{Element, Flat, TimingArc, read_schedule, read_table};
 use std::alloc::Global;
 use std::process::Abort;
 use std::test::Fail;
@@ -87,36 +87,67 @@ fn table_of(alloc: Global, phases: u32, elements: u32, bounds: u32) -> Result<St
     Ok(text)
 }
 
+/// Whether this is the second latch of the ring.
+fn is_second(element: &Element) -> bool {
+    element.name.bytes() == b"b".as_slice()
+        && matches!(
+            element,
+            Element {
+                phase: 2,
+                flop: false,
+                setup: 10,
+                has_hold: false,
+                dq_min: 10,
+                dq_max: 10,
+                cq_min: 10,
+                cq_max: 10,
+                width: 0,
+                ..
+            }
+        )
+}
+
+/// Whether this is the second arc of the ring.
+fn is_second_arc(arc: &TimingArc) -> bool {
+    arc.from == 3 && arc.to == 0 && arc.min == 60 && arc.max == 60
+}
+
 #[test]
-fn tables_are_read(rt: HostRuntime) -> Result<(), Fail> {
-    let alloc = rt.alloc();
-    let ring = design(&rt, alloc, RING).ok_or("refused")?;
+fn a_ring_is_read(rt: HostRuntime) -> Result<(), Fail> {
+    let ring = design(&rt, rt.alloc(), RING).ok_or("refused")?;
+    let ([_, element], [_, arc]) = (ring.elements(), ring.arcs()) else {
+        return Err(Fail::from("other elements or arcs"));
+    };
     assert_eq!(rt; ring.phases().items().len(), 2);
-    assert_eq!(rt; ring.elements().len(), 2);
-    let b = &ring.elements()[1];
-    assert_eq!(rt; b.name.bytes(), b"b".as_slice());
-    assert_eq!(rt;
-        (b.phase, b.flop, b.setup, b.has_hold),
-        (2, false, 10, false)
-    );
-    assert_eq!(rt;
-        (b.dq_min, b.dq_max, b.cq_min, b.cq_max, b.width),
-        (10, 10, 10, 10, 0)
-    );
-    assert_eq!(rt; ring.arcs().len(), 2);
-    let arc = ring.arcs()[1];
-    assert_eq!(rt; (arc.from, arc.to, arc.min, arc.max), (3, 0, 60, 60));
-    let flops = design(&rt, alloc, FLOPS).ok_or("refused")?;
-    assert!(rt; flops.elements().iter().all(|e| e.flop));
-    let enable = design(&rt, alloc, ENABLE).ok_or("refused")?;
-    assert_eq!(rt; enable.elements().len(), 2);
-    let a = &enable.elements()[0];
-    assert_eq!(rt; (a.dq_max, a.cq_min, a.cq_max), (10, 4, 4));
+    assert!(rt; is_second(element));
+    assert!(rt; is_second_arc(arc));
     Ok(())
 }
 
 #[test]
-fn a_cut_text_has_its_fault_at_the_cut(rt: HostRuntime) -> Result<(), Fail> {
+fn flops_are_read(rt: HostRuntime) -> Result<(), Fail> {
+    let flops = design(&rt, rt.alloc(), FLOPS).ok_or("refused")?;
+    assert!(rt; flops.elements().iter().all(|e| e.flop));
+    Ok(())
+}
+
+/// Whether a latch has these delays from its data at most, and from its opening edge.
+fn has_delays(element: &Element, dq_max: i64, cq_min: i64, cq_max: i64) -> bool {
+    element.dq_max == dq_max && element.cq_min == cq_min && element.cq_max == cq_max
+}
+
+#[test]
+fn enable_delays_are_read(rt: HostRuntime) -> Result<(), Fail> {
+    let enable = design(&rt, rt.alloc(), ENABLE).ok_or("refused")?;
+    let [element, _] = enable.elements() else {
+        return Err(Fail::from("other elements"));
+    };
+    assert!(rt; has_delays(element, 10, 4, 4));
+    Ok(())
+}
+
+#[test]
+fn a_cut_table_has_its_fault_at_the_cut(rt: HostRuntime) -> Result<(), Fail> {
     let alloc = rt.alloc();
     for text in [RING.as_bytes(), FLOPS.as_bytes(), ENABLE.as_bytes()] {
         let mut line = 1;
@@ -129,6 +160,11 @@ fn a_cut_text_has_its_fault_at_the_cut(rt: HostRuntime) -> Result<(), Fail> {
         }
         assert_eq!(rt; table_fault(alloc, text), 0);
     }
+    Ok(())
+}
+
+#[test]
+fn a_cut_schedule_has_its_fault_at_the_cut(rt: HostRuntime) -> Result<(), Fail> {
     let mut line = 1;
     let text = SCHEDULE.as_bytes();
     for (cut, byte) in text.iter().enumerate() {
@@ -142,10 +178,24 @@ fn a_cut_text_has_its_fault_at_the_cut(rt: HostRuntime) -> Result<(), Fail> {
     Ok(())
 }
 
+/// A table in which one text stands for another has its fault at this line.
+fn has_fault(
+    rt: &impl Abort,
+    alloc: Global,
+    table: &str,
+    old: &str,
+    new: &str,
+    line: u32,
+) -> Result<(), Fail> {
+    let text = table.replacen(alloc, old, new, 1)?;
+    assert_eq!(rt; table_fault(alloc, text.as_bytes()), line, "{new}");
+    Ok(())
+}
+
 #[test]
 fn a_faulty_line_is_named(rt: HostRuntime) -> Result<(), Fail> {
     let alloc = rt.alloc();
-    for (old, new, line) in [
+    for (old, new, line) in &[
         ("table 1", "table 4", 1),
         ("phases 2", "phases 0", 2),
         ("phase phi2", "phase  phi2", 4),
@@ -160,17 +210,15 @@ fn a_faulty_line_is_named(rt: HostRuntime) -> Result<(), Fail> {
         ("end\n", "end\n\n", 14),
         ("end\n", "end \n", 13),
     ] {
-        let text = RING.replacen(alloc, old, new, 1)?;
-        assert_eq!(rt; table_fault(alloc, text.as_bytes()), line, "{new}");
+        has_fault(&rt, alloc, RING, old, new, *line)?;
     }
-    assert_eq!(rt;
-        table_fault(
-            alloc,
-            ENABLE.replacen(alloc, "1 latch", "1 flop", 1)?.as_bytes()
-        ),
-        6
-    );
-    for (old, new, line) in [
+    has_fault(&rt, alloc, ENABLE, "1 latch", "1 flop", 6)
+}
+
+#[test]
+fn a_faulty_line_of_a_schedule_is_named(rt: HostRuntime) -> Result<(), Fail> {
+    let alloc = rt.alloc();
+    for (old, new, line) in &[
         ("den 1", "den 0", 2),
         ("den 1", "den 100001", 2),
         ("cycle 100", "cycle 100000000000001", 3),
@@ -179,23 +227,28 @@ fn a_faulty_line_is_named(rt: HostRuntime) -> Result<(), Fail> {
         ("end\n", "end\nend\n", 8),
     ] {
         let text = SCHEDULE.replacen(alloc, old, new, 1)?;
-        assert_eq!(rt; schedule_fault(text.as_bytes()), line, "{new}");
+        assert_eq!(rt; schedule_fault(text.as_bytes()), *line, "{new}");
     }
     Ok(())
+}
+
+/// A table in form is refused for this quantity and its count, or for none.
+fn has_limit(rt: &impl Abort, alloc: Global, text: &str, limit: Option<(Kind, u64)>) {
+    assert_eq!(rt; table_fault(alloc, text.as_bytes()), 0);
+    assert_eq!(rt; table_limit(alloc, text.as_bytes()), limit);
 }
 
 #[test]
 fn limits_are_refused_with_their_count(rt: HostRuntime) -> Result<(), Fail> {
     let alloc = rt.alloc();
-    for (phases, elements, bounds, limit) in [
+    for (phases, elements, bounds, limit) in &[
         (8, 2_000, 64, None),
         (9, 0, 0, Some((Kind::Phases, 9))),
         (1, 2_001, 65, Some((Kind::Elements, 2_001))),
         (1, 0, 65, Some((Kind::Bounds, 65))),
     ] {
-        let text = table_of(alloc, phases, elements, bounds)?;
-        assert_eq!(rt; table_fault(alloc, text.as_bytes()), 0);
-        assert_eq!(rt; table_limit(alloc, text.as_bytes()), limit);
+        let text = table_of(alloc, *phases, *elements, *bounds)?;
+        has_limit(&rt, alloc, text.as_str(), *limit);
     }
     let inner = RING.replacen(alloc, "inner 0", "inner 999999999", 1)?;
     assert_eq!(rt;

@@ -1,5 +1,5 @@
 //! Tests of what no clause says: that netlists are read where memory is ample, and the first statement at fault.
-use mintc_netlist::{Connection, Item};
+use mintc_netlist::{Connection, Item, Module};
 use mintc_text::{Refusal, Role, Stop};
 use mintc_verilog::read_netlist;
 use mintc_vlex::{statements, tokens};
@@ -38,26 +38,34 @@ fn fault(alloc: Global, text: &[u8]) -> u32 {
     }
 }
 
+/// Whether a module has this name, begins at this statement, and has so many ports and items.
+fn is_module(module: &Module, name: &[u8], entry: u32, ports: usize, items: usize) -> bool {
+    module.name.bytes() == name
+        && module.entry == entry
+        && module.ports.items().len() == ports
+        && module.items.items().len() == items
+}
+
+/// Whether these are the modules of the worked netlist.
+fn are_worked(modules: &[Module]) -> bool {
+    match modules {
+        [two, half, slice] => {
+            is_module(two, b"two", 1, 3, 11)
+                && is_module(half, b"half", 14, 3, 6)
+                && is_module(slice, b"slice", 22, 3, 4)
+        }
+        _ => false,
+    }
+}
+
 #[test]
 fn reads_the_worked_netlist(rt: HostRuntime) -> Result<(), Fail> {
     let alloc = rt.alloc();
     let all = tokens(alloc, TWO)?;
     assert_eq!(rt; statements(alloc, TWO, &all)?.len(), 27);
-    let Ok(netlist) = read_netlist(alloc, TWO) else {
-        assert!(rt; false);
-        return Ok(());
-    };
-    let modules = netlist.modules.items();
-    assert_eq!(rt; modules.len(), 3);
-    for (at, name, entry, ports, items) in [
-        (0, b"two".as_slice(), 1, 3, 11),
-        (1, b"half".as_slice(), 14, 3, 6),
-        (2, b"slice".as_slice(), 22, 3, 4),
-    ] {
-        assert!(rt; modules[at].name.bytes() == name);
-        assert_eq!(rt; modules[at].entry, entry);
-        assert_eq!(rt; modules[at].ports.items().len(), ports);
-        assert_eq!(rt; modules[at].items.items().len(), items);
+    match read_netlist(alloc, TWO) {
+        Ok(netlist) => assert!(rt; are_worked(netlist.modules.items())),
+        Err(_) => panic!(rt; "no netlist"),
     }
     Ok(())
 }
@@ -87,102 +95,78 @@ fn cuts_the_worked_netlist(rt: HostRuntime) -> Result<(), Fail> {
 #[test]
 fn names_the_first_fault(rt: HostRuntime) -> Result<(), Fail> {
     let alloc = rt.alloc();
-    for (text, want) in [
-        (b"".as_slice(), 0),
-        (b"module m(c); input c; inout d; endmodule".as_slice(), 3),
-        (b"module m(c); input c; LAT a (.D(c)".as_slice(), 3),
-        (b"module m(c); input c;".as_slice(), 3),
-        (b"module m(c); input c; FOO a (); endmodule".as_slice(), 0),
+    for (text, want) in &[
+        ("", 0),
+        ("module m(c); input c; inout d; endmodule", 3),
+        ("module m(c); input c; LAT a (.D(c)", 3),
+        ("module m(c); input c;", 3),
+        ("module m(c); input c; FOO a (); endmodule", 0),
+        ("module m(c); input c; m u (.c(c)); endmodule", 0),
         (
-            b"module m(c); input c; m u (.c(c)); endmodule".as_slice(),
+            "module m(c); input c; LAT a (.D(1'b0), .G(c), .E(c)); endmodule",
             0,
         ),
         (
-            b"module m(c); input c; LAT a (.D(1'b0), .G(c), .E(c)); endmodule".as_slice(),
+            "module m(c); input c; wire [1:0] w; assign w = c; endmodule",
+            0,
+        ),
+        ("module m(c); input c; assign c = 1'b0; endmodule", 0),
+        ("module m(c); input c; wire w; wire w; endmodule", 0),
+        (
+            "module m(c); input c; LAT a (.D(w), .G(c), .Q()); BUF b (.A(c), .Y(w)); endmodule",
             0,
         ),
         (
-            b"module m(c); input c; wire [1:0] w; assign w = c; endmodule".as_slice(),
+            "module m; assign a = {{{{{{{{{{{{{{{{{{{{{{{{{{{{{{{{b}}}}}}}}}}}}}}}}}}}}}}}}}}}}}}}}; endmodule",
             0,
         ),
         (
-            b"module m(c); input c; assign c = 1'b0; endmodule".as_slice(),
-            0,
-        ),
-        (
-            b"module m(c); input c; wire w; wire w; endmodule".as_slice(),
-            0,
-        ),
-        (
-            b"module m(c); input c; LAT a (.D(w), .G(c), .Q()); BUF b (.A(c), .Y(w)); endmodule".as_slice(),
-            0,
-        ),
-        (
-            b"module m; assign a = {{{{{{{{{{{{{{{{{{{{{{{{{{{{{{{{b}}}}}}}}}}}}}}}}}}}}}}}}}}}}}}}}; endmodule".as_slice(),
-            0,
-        ),
-        (
-            b"module m; assign a = {{{{{{{{{{{{{{{{{{{{{{{{{{{{{{{{{b}}}}}}}}}}}}}}}}}}}}}}}}}}}}}}}}}; endmodule".as_slice(),
+            "module m; assign a = {{{{{{{{{{{{{{{{{{{{{{{{{{{{{{{{{b}}}}}}}}}}}}}}}}}}}}}}}}}}}}}}}}}; endmodule",
             2,
         ),
         (
-            b"module m; assign a = {{{{{{{{{{{{{{{{{{{{{{{{{{{{{{{2{b}}}}}}}}}}}}}}}}}}}}}}}}}}}}}}}}; endmodule".as_slice(),
+            "module m; assign a = {{{{{{{{{{{{{{{{{{{{{{{{{{{{{{{2{b}}}}}}}}}}}}}}}}}}}}}}}}}}}}}}}}; endmodule",
             0,
         ),
         (
-            b"module m; assign a = {{{{{{{{{{{{{{{{{{{{{{{{{{{{{{{{2{b}}}}}}}}}}}}}}}}}}}}}}}}}}}}}}}}}; endmodule".as_slice(),
+            "module m; assign a = {{{{{{{{{{{{{{{{{{{{{{{{{{{{{{{{2{b}}}}}}}}}}}}}}}}}}}}}}}}}}}}}}}}}; endmodule",
             2,
         ),
+        ("module m; assign a = {{65535{b}}, c}; endmodule", 0),
+        ("module m; assign a = {{65535{b}}, c, d}; endmodule", 2),
+        ("module m; assign a = {65536{b}}; endmodule", 2),
+        ("module m; assign a = {0{b}}; endmodule", 2),
+        ("module m; assign a = 65536'd0; endmodule", 0),
+        ("module m; assign a = 65537'd0; endmodule", 2),
+        ("module m; assign a = 0'd0; endmodule", 2),
+        ("module m; wire [65535:0] a; endmodule", 0),
+        ("module m; wire [65536:0] a; endmodule", 2),
+        ("module m(input c); input d; endmodule", 2),
         (
-            b"module m; assign a = {{65535{b}}, c}; endmodule".as_slice(),
+            "module m(input wire [3:0] c, d, output e); wire x; endmodule",
             0,
         ),
-        (
-            b"module m; assign a = {{65535{b}}, c, d}; endmodule".as_slice(),
-            2,
-        ),
-        (b"module m; assign a = {65536{b}}; endmodule".as_slice(), 2),
-        (b"module m; assign a = {0{b}}; endmodule".as_slice(), 2),
-        (b"module m; assign a = 65536'd0; endmodule".as_slice(), 0),
-        (b"module m; assign a = 65537'd0; endmodule".as_slice(), 2),
-        (b"module m; assign a = 0'd0; endmodule".as_slice(), 2),
-        (b"module m; wire [65535:0] a; endmodule".as_slice(), 0),
-        (b"module m; wire [65536:0] a; endmodule".as_slice(), 2),
-        (b"module m(input c); input d; endmodule".as_slice(), 2),
-        (
-            b"module m(input wire [3:0] c, d, output e); wire x; endmodule".as_slice(),
-            0,
-        ),
-        (b"module m(c, input d); endmodule".as_slice(), 1),
-        (b"module m(input c, wire d); endmodule".as_slice(), 1),
-        (b"module m; module n; endmodule".as_slice(), 2),
-        (b"module m; endmodule wire a;".as_slice(), 3),
-        (b"endmodule".as_slice(), 1),
-        (b"module m; endmodule endmodule".as_slice(), 3),
-        (b"module m; endmodule;".as_slice(), 3),
-        (b"module m(); ; endmodule".as_slice(), 2),
-        (b"module \\m ; wire \\endmodule ; endmodule".as_slice(), 0),
-        (b"module m; wire inout; endmodule".as_slice(), 2),
-        (b"module m; wire \\inout ; endmodule".as_slice(), 0),
-        (
-            b"`timescale 1ns/1ps\nmodule m; // wire ;\nendmodule".as_slice(),
-            0,
-        ),
-        (b"`timescales 1ns\nmodule m; endmodule".as_slice(), 1),
-        (
-            b"module m; (* keep = \"*)\" *) wire a; endmodule".as_slice(),
-            0,
-        ),
-        (b"module m; wire a; /* endmodule".as_slice(), 3),
-        (
-            b"module m; A a (b, {c, d[3]}, e[4:5], 1'bx); endmodule".as_slice(),
-            0,
-        ),
-        (b"module m; A a (b, .c(d)); endmodule".as_slice(), 2),
-        (b"module m; A a (.b(c), d); endmodule".as_slice(), 2),
-        (b"module m; A #(1) a (b); endmodule".as_slice(), 2),
+        ("module m(c, input d); endmodule", 1),
+        ("module m(input c, wire d); endmodule", 1),
+        ("module m; module n; endmodule", 2),
+        ("module m; endmodule wire a;", 3),
+        ("endmodule", 1),
+        ("module m; endmodule endmodule", 3),
+        ("module m; endmodule;", 3),
+        ("module m(); ; endmodule", 2),
+        ("module \\m ; wire \\endmodule ; endmodule", 0),
+        ("module m; wire inout; endmodule", 2),
+        ("module m; wire \\inout ; endmodule", 0),
+        ("`timescale 1ns/1ps\nmodule m; // wire ;\nendmodule", 0),
+        ("`timescales 1ns\nmodule m; endmodule", 1),
+        ("module m; (* keep = \"*)\" *) wire a; endmodule", 0),
+        ("module m; wire a; /* endmodule", 3),
+        ("module m; A a (b, {c, d[3]}, e[4:5], 1'bx); endmodule", 0),
+        ("module m; A a (b, .c(d)); endmodule", 2),
+        ("module m; A a (.b(c), d); endmodule", 2),
+        ("module m; A #(1) a (b); endmodule", 2),
     ] {
-        assert_eq!(rt; fault(alloc, text), want);
+        assert_eq!(rt; fault(alloc, text.as_bytes()), *want, "{text}");
     }
     Ok(())
 }

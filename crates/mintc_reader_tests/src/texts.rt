@@ -1,0 +1,127 @@
+//! Cells as texts.
+use mintc_cells::Cell;
+use mintc_text::{Name, Names};
+use std::alloc::Global;
+use std::str;
+use std::test::Fail;
+
+/// A name's text.
+pub fn shown(name: &[u8]) -> Result<&str, Fail> {
+    match str::from_utf8(name) {
+        Ok(text) => Ok(text),
+        Err(_) => Err("no text")?,
+    }
+}
+
+/// Names in brackets.
+pub fn names_text(alloc: Global, names: &Names) -> Result<String, Fail> {
+    let mut text = String::new(alloc);
+    for name in names.items() {
+        if !text.is_empty() {
+            text.push_str(" ")?;
+        }
+        text.push_str(shown(name.bytes())?)?;
+    }
+    Ok(format!(in alloc; "[{text}]")?)
+}
+
+/// A gate's kind and pins.
+fn gate_text(alloc: Global, inputs: &Names, outputs: &Names) -> Result<String, Fail> {
+    let (inputs, outputs) = (names_text(alloc, inputs)?, names_text(alloc, outputs)?);
+    Ok(format!(in alloc; "gate {inputs} {outputs}")?)
+}
+
+/// A latch's or flop's kind and pins.
+fn stored_text(
+    alloc: Global,
+    kind: &str,
+    pins: (&Name, &Name),
+    is_plain: bool,
+    lists: (&Names, &Names),
+) -> Result<String, Fail> {
+    let (data, control) = (shown(pins.0.bytes())?, shown(pins.1.bytes())?);
+    let (outputs, ignored) = (names_text(alloc, lists.0)?, names_text(alloc, lists.1)?);
+    Ok(format!(in alloc; "{kind} {data} {control} {is_plain} {outputs} {ignored}")?)
+}
+
+/// A clock cell's kind and pins.
+fn clock_text(
+    alloc: Global,
+    pins: (&Name, &Name),
+    invert: bool,
+    ignored: &Names,
+) -> Result<String, Fail> {
+    let (from, to) = (shown(pins.0.bytes())?, shown(pins.1.bytes())?);
+    let ignored = names_text(alloc, ignored)?;
+    Ok(format!(in alloc; "clock {from} {to} {invert} {ignored}")?)
+}
+
+/// A cell's kind and pins.
+pub fn cell_text(alloc: Global, cell: &Cell) -> Result<String, Fail> {
+    match cell {
+        Cell::Gate {
+            inputs,
+            outputs,
+            ..
+        } => gate_text(alloc, inputs, outputs),
+        Cell::Latch {
+            pin_d,
+            pin_g,
+            high,
+            outputs,
+            ignored,
+            ..
+        } => stored_text(alloc, "latch", (pin_d, pin_g), *high, (outputs, ignored)),
+        Cell::Flop {
+            pin_d,
+            pin_clock,
+            rising,
+            outputs,
+            ignored,
+            ..
+        } => stored_text(
+            alloc,
+            "flop",
+            (pin_d, pin_clock),
+            *rising,
+            (outputs, ignored),
+        ),
+        Cell::Clock {
+            input,
+            output,
+            invert,
+            ignored,
+        } => clock_text(alloc, (input, output), *invert, ignored),
+    }
+}
+
+/// A cell's numbers; a clock cell has none.
+pub fn numbers_text(alloc: Global, cell: &Cell) -> Result<String, Fail> {
+    Ok(match cell {
+        Cell::Gate { min, max, .. } => format!(in alloc; "{min} {max}")?,
+        Cell::Latch {
+            setup,
+            hold,
+            has_hold,
+            dq_min,
+            dq_max,
+            cq_min,
+            cq_max,
+            has_cq,
+            width,
+            ..
+        } => format!(in alloc;
+            "{setup} {hold} {has_hold} {dq_min} {dq_max} {cq_min} {cq_max} {has_cq} {width}"
+        )?,
+        Cell::Flop {
+            setup,
+            hold,
+            has_hold,
+            cq_min,
+            cq_max,
+            width,
+            ..
+        } => format!(in alloc; "{setup} {hold} {has_hold} {cq_min} {cq_max} {width}")?,
+        Cell::Clock { .. } => String::new(alloc),
+    })
+}
