@@ -1,6 +1,6 @@
 //! The arcs that leave each bit.
-ghost use Rattle.std.specs.Prelude.{◌≡◌, ◌<◌, ◌^◌, ◌-◌, length, IfOk};
-ghost use Rattle.mintc_order.specs.Indexes.{AreWithin, IsIndex};
+ghost use Rattle.std.specs.Prelude.{◌≡◌, ◌<◌, ◌^◌, ◌-◌, length, IfOk, All};
+ghost use Rattle.mintc_order.specs.Indexes.{IsIndex};
 
 use mintc_timing::TimingArc;
 use std::alloc::{AllocError, Global};
@@ -18,7 +18,7 @@ impl Leaving {
     /// The chains of these arcs, which join so many bits.
     pub fn new(alloc: Global, arcs: &[TimingArc], bits: usize) -> Result<Leaving, AllocError>
         requires few { length arcs.now < 2 ^ 32 - 1 }
-        requires within { AreWithin bits arcs.now }
+        requires inside { All (λ arc. arc.from < bits) arcs.now }
         ensures bits { IfOk result (λ l. length l.lasts.items ≡ bits) }
         ensures arcs { IfOk result (λ l. length l.nexts.items ≡ length arcs.now) }
         ensures index { IfOk result (λ l. IsIndex arcs.now (length arcs.now) l.lasts.items l.nexts.items) }

@@ -13,7 +13,7 @@ mod search;
 
 use gathering::gathered;
 pub use laws::orders_exclude_loops;
-use leaving::Leaving;
+pub use leaving::Leaving;
 use mintc_text::{Numbers, Stop};
 use mintc_timing::{Flat, Order};
 use search::Search;

@@ -8,7 +8,7 @@ use Rattle.mintc_timing.specs.Order.{IsOrder}
 use Rattle.mintc_timing.specs.Paths.{arc_at}
 use Rattle.mintc_paths.specs.declared.rows.Rows.{Rows}
 use Rattle.mintc_paths.specs.declared.rows.Course.{Course}
-use Rattle.mintc_paths.specs.Spans.{AreSpans}
+use Rattle.mintc_paths.specs.Leaving.{AreLeaving}
 use Rattle.mintc_paths.specs.Sums.{row_of, moved, AreRows, IsCourse}
 use Rattle.mintc_paths.specs.Turned.{turned_bit, bit_before, flipped, turned_arc, turned_arcs}
 use Rattle.mintc_paths.proofs.Filling.{arc_inside}
@@ -69,7 +69,7 @@ module _ (design : Design) (order : List ℕ) (is_order : IsOrder design.arcs or
     (each : (bit : ℕ) → bit < 2 * n + m → row_of new.rows.of_bits.items (turned_bit n places.of_bits.items bit) ≡ row_of course.rows.of_bits.items bit)
     (count : length new.along.items ≡ length course.along.items)
     (flips : (i : ℕ) → i < length course.along.items → arc_at new.along.items i ≡ flipped (arc_at course.along.items (length course.along.items - 1 - i)))
-    (spans : AreSpans new.along.items (2 * n + m) new.spans) where
+    (leaving : AreLeaving new.along.items (2 * n + m) new.leaving) where
   each_arc : (k : ℕ) (d : TimingArc) → k < length design.arcs → IsArc n m (get_or design.arcs k d)
   each_arc k d low = rw (elements, inner) (kept.each_arc k d low)
 
@@ -92,5 +92,5 @@ module _ (design : Design) (order : List ℕ) (is_order : IsOrder design.arcs or
   IsCourse-turned = record {
     rows = rows;
     along = record { count = count ∙ is_course.along.count ∙ sym (length-reverse order); each = at_place };
-    spans = spans;
+    leaving = leaving;
   }

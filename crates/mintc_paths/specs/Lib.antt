@@ -3,7 +3,7 @@ pub mod Found
 pub mod Long
 pub mod Reached
 pub mod Refusals
-pub mod Spans
+pub mod Leaving
 pub mod Sums
 pub mod Trace
 pub mod Longest

@@ -8,7 +8,7 @@ use Rattle.mintc_paths.specs.declared.rows.Rows.{Rows}
 use Rattle.mintc_paths.specs.declared.rows.Course.{Course}
 use Rattle.mintc_paths.specs.declared.sums.TheConstants.{NO_SUMS}
 use Rattle.mintc_paths.specs.Among.{IsGreatestAmong, IsLeastAmong}
-use Rattle.mintc_paths.specs.Spans.{AreSpans}
+use Rattle.mintc_paths.specs.Leaving.{AreLeaving}
 
 -- the sums at a bit; a bit past the end has none
 abbrev pub no_sums : Sums
@@ -66,11 +66,11 @@ pub record AreAlong (arcs : List TimingArc) (order : List ℕ) (rows : List ℕ)
   pub count : length along ≡ k
   pub each : (i : ℕ) → i < k → arc_at along i ≡ moved rows (arc_at arcs (slice_index_or order i 0))
 
--- The course has rows for so many bits with their spans, and all arcs in their order.
+-- The course has rows for so many bits with the arcs that leave them, and all arcs in their order.
 pub record IsCourse (n : ℕ) (arcs : List TimingArc) (order : List ℕ) (course : Course) : Type 0 where
   pub rows : AreRows n course.rows
   pub along : AreAlong arcs order course.rows.of_bits.items (length order) course.along.items
-  pub spans : AreSpans course.along.items n course.spans
+  pub leaving : AreLeaving course.along.items n course.leaving
 
 -- There is a mark for each row, and one that isn't marked as reached has no sums.
 pub record AreMarked (sums : List Sums) (reached : List Bool) : Type 0 where

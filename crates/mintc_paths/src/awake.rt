@@ -1,8 +1,10 @@
 //! The rows that are reached, and the arcs that leave them, so that no others are looked at. The arcs stand in a set of their
 //! places along a course.
-ghost use Rattle.std.specs.Prelude.{◌≡◌, ◌<◌, ◌^◌, ℕ, List, Bool, true, false, length, slice_index_or, slice_set, IfOk, OnOk};
+ghost use Rattle.std.specs.Prelude.{◌≡◌, ◌<◌, ◌≤◌, ◌^◌, ℕ, List, Bool, true, false, length, slice_index_or, slice_set, IfOk, OnOk};
 ghost use Rattle.mintc_paths.specs.Awake.{IsReady, IsAwake};
-ghost use Rattle.mintc_paths.specs.Spans.{AreSpans};
+ghost use Rattle.mintc_places.specs.Places.{IsIn, room};
+ghost use Rattle.mintc_timing.specs.Paths.{arc_at};
+ghost use Rattle.mintc_paths.specs.Leaving.{AreLeaving};
 
 use crate::rows::Course;
 use mintc_places::Places;
@@ -15,6 +17,23 @@ pub struct Awake {
     pub rows: Vec<u32>,
     /// The places of the arcs that leave them and are still to come.
     pub places: Places,
+}
+
+/// Takes in the arcs that leave a row.
+fn wake(places: &mut Places, course: &Course, row: usize)
+    requires room { length course.now.along.items ≤ room places.old.words.items }
+    requires row { row < length course.now.leaving.lasts.items }
+    requires leaving { AreLeaving course.now.along.items (length course.now.leaving.lasts.items) course.now.leaving }
+    ensures count { length places.new.words.items ≡ length places.old.words.items }
+    ensures kept { (place : ℕ) → IsIn places.old.words.items place → IsIn places.new.words.items place }
+    ensures awake { (place : ℕ) → place < length course.now.along.items → (arc_at course.now.along.items place).from ≡ row → IsIn places.new.words.items place }
+{
+    let mut next = course.leaving.lasts[row];
+    while next > 0 {
+        let place = next as usize - 1;
+        places.insert(place);
+        next = course.leaving.nexts[place];
+    }
 }
 
 impl Awake {
@@ -36,7 +55,7 @@ impl Awake {
         row: u32,
     ) -> Result<(), AllocError>
         requires row { row < length reached.old }
-        requires spans { AreSpans course.now.along.items (length reached.old) course.now.spans }
+        requires leaving { AreLeaving course.now.along.items (length reached.old) course.now.leaving }
         requires ready { IsReady (length course.now.along.items) reached.old self.old }
         ensures reached { OnOk result (reached.new ≡ slice_set reached.old row true) }
         ensures awake { OnOk result ((place : ℕ) → IsAwake course.now.along.items place reached.old self.old
@@ -48,9 +67,7 @@ impl Awake {
         }
         reached[at] = true;
         self.rows.push(row)?;
-        let first = course.spans.firsts[at] as usize;
-        let end = course.spans.ends[at] as usize;
-        self.places.insert_all(first, end.min(course.along.len()));
+        wake(&mut self.places, course, at);
         Ok(())
     }
 }

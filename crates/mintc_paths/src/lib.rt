@@ -27,7 +27,6 @@ mod marks;
 mod reached;
 mod route;
 mod rows;
-mod spans;
 mod steps;
 mod sums;
 mod trace;

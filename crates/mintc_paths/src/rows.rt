@@ -4,7 +4,7 @@ ghost use Rattle.std.specs.Prelude.{◌≡◌, ◌+◌, ◌*◌, ◌<◌, ◌^�
 ghost use Rattle.mintc_timing.specs.Order.{IsOrder};
 ghost use Rattle.mintc_paths.specs.Sums.{row_of, AreRows, IsCourse};
 
-use crate::spans::Spans;
+use mintc_order::Leaving;
 use mintc_timing::{Flat, Order, TimingArc};
 use std::alloc::{AllocError, Global};
 
@@ -84,7 +84,7 @@ impl Rows {
 pub struct Course {
     pub rows: Rows,
     pub along: Vec<TimingArc>,
-    pub spans: Spans,
+    pub leaving: Leaving,
 }
 
 impl Course {
@@ -105,7 +105,11 @@ impl Course {
             arc.to = rows.of_bits[arc.to as usize];
             along.push(arc)?;
         }
-        let spans = Spans::new(alloc, &along, rows.of_bits.len())?;
-        Ok(Course { rows, along, spans })
+        let leaving = Leaving::new(alloc, &along, rows.of_bits.len())?;
+        Ok(Course {
+            rows,
+            along,
+            leaving,
+        })
     }
 }

@@ -7,7 +7,7 @@ ghost use Rattle.mintc_timing.specs.declared.parts.TimingArc.{TimingArc};
 ghost use Rattle.mintc_paths.specs.Awake.{AreListed, IsReady, IsAwake};
 ghost use Rattle.mintc_paths.specs.Ordered.{Ordered, IsCourseOf};
 ghost use Rattle.mintc_paths.specs.Reached.{AreExtremes};
-ghost use Rattle.mintc_paths.specs.Spans.{AreSpans};
+ghost use Rattle.mintc_paths.specs.Leaving.{AreLeaving};
 ghost use Rattle.mintc_paths.specs.Sums.{sums_at, placed, IsBounded, IsAlike, AreRows, AreBegun, AreMarked, AreSums};
 
 use crate::awake::Awake;
@@ -85,7 +85,7 @@ fn clear(
     requires lanes { lanes ≤ 8 }
     requires outputs { 2 * (first + lanes) ≤ length sums.old }
     requires rows { AreRows (length sums.old) course.now.rows }
-    requires spans { AreSpans course.now.along.items (length sums.old) course.now.spans }
+    requires leaving { AreLeaving course.now.along.items (length sums.old) course.now.leaving }
     requires marked { AreMarked sums.old reached.old }
     requires ready { IsReady (length course.now.along.items) reached.old awake.old }
     ensures begun { OnOk result ((arcs : List TimingArc) (order : List ℕ) → AreBegun arcs order first lanes (placed course.now.rows.of_bits.items sums.new)) }
@@ -118,7 +118,7 @@ fn carry(
     requires to_bounded { IsBounded 1000000000000000 (sums_at sums.old arc.to) }
     requires alike { IsAlike (sums_at sums.old arc.from) }
     requires marked { AreMarked sums.old reached.old }
-    requires spans { AreSpans course.now.along.items (length sums.old) course.now.spans }
+    requires leaving { AreLeaving course.now.along.items (length sums.old) course.now.leaving }
     requires ready { IsReady (length course.now.along.items) reached.old awake.old }
     ensures marked { OnOk result (AreMarked sums.new reached.new) }
     ensures awake { OnOk result ((place : ℕ) → IsAwake course.now.along.items place reached.old awake.old

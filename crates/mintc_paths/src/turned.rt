@@ -6,7 +6,7 @@ ghost use Rattle.mintc_paths.specs.Sums.{AreRows, IsCourse, row_of};
 ghost use Rattle.mintc_paths.specs.Turned.{turned_bit, bit_before, flipped, turned_arcs};
 
 use crate::rows::{Course, Rows};
-use crate::spans::Spans;
+use mintc_order::Leaving;
 use mintc_timing::{Flat, Order, TimingArc};
 use std::alloc::{AllocError, Global};
 
@@ -142,11 +142,15 @@ pub fn turned_course(
     let Course {
         rows,
         mut along,
-        spans,
+        leaving,
     } = course;
-    drop(spans);
+    drop(leaving);
     let rows = turned_rows(alloc, rows, elements, places)?;
     turn_arcs(&mut along);
-    let spans = Spans::new(alloc, &along, rows.of_bits.len())?;
-    Ok(Course { rows, along, spans })
+    let leaving = Leaving::new(alloc, &along, rows.of_bits.len())?;
+    Ok(Course {
+        rows,
+        along,
+        leaving,
+    })
 }

@@ -1,5 +1,5 @@
 //! The set and its calls.
-ghost use Rattle.std.specs.Prelude.{◌≡◌, ◌≢◌, ◌<◌, ◌≤◌, ◌*◌, ◌^◌, ◌⊎◌, ℕ, length, IfOk};
+ghost use Rattle.std.specs.Prelude.{◌≡◌, ◌≢◌, ◌<◌, ◌≤◌, ◌*◌, ◌^◌, ℕ, length, IfOk};
 ghost use Rattle.mintc_places.specs.Places.{IsIn, room};
 
 use std::alloc::{AllocError, Global};
@@ -80,17 +80,15 @@ impl Places {
         Ok(Places { words })
     }
 
-    /// Takes in the places from `start` on and before `end`.
-    pub fn insert_all(&mut self, start: usize, end: usize)
-        requires { end ≤ room self.old.words.items }
+    /// Takes a place in.
+    pub fn insert(&mut self, place: usize)
+        requires { place < room self.old.words.items }
         ensures count { length self.new.words.items ≡ length self.old.words.items }
-        ensures inserted { (place : ℕ) → start ≤ place → place < end → IsIn self.new.words.items place }
-        ensures kept { (place : ℕ) → IsIn self.old.words.items place → IsIn self.new.words.items place }
-        ensures only { (place : ℕ) → IsIn self.new.words.items place → IsIn self.old.words.items place ⊎ ((start ≤ place) × (place < end)) }
+        ensures inserted { IsIn self.new.words.items place }
+        ensures kept { (other : ℕ) → IsIn self.old.words.items other → IsIn self.new.words.items other }
+        ensures only { (other : ℕ) → other ≢ place → IsIn self.new.words.items other → IsIn self.old.words.items other }
     {
-        for place in start..end {
-            insert(&mut self.words, place);
-        }
+        insert(&mut self.words, place);
     }
 
     /// Takes a place out.

@@ -7,10 +7,12 @@ fn places_come_in_order(rt: HostRuntime) {
         assert!(rt; false, "no memory");
         return;
     };
-    places.insert_all(63, 66);
-    places.insert_all(127, 128);
-    places.insert_all(199, 200);
-    places.insert_all(9, 9);
+    places.insert(199);
+    places.insert(63);
+    places.insert(65);
+    places.insert(64);
+    places.insert(127);
+    places.insert(63);
     places.remove(65);
     places.remove(1_000_000);
     let mut at = 0;
