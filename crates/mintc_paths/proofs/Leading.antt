@@ -62,7 +62,7 @@ module _ (arcs : List TimingArc) (order : List ℕ) (is_order : IsOrder arcs ord
       (split arcs order is_order from h.0 to k low h.2 h.1)
 
 -- two bits have two rows
-rows_apart : (n : ℕ) (rows bits : List ℕ) → LeadsBack n rows bits → (a b : ℕ) → a < n → b < n → a ≢ b → row_of rows a ≢ row_of rows b
+pub rows_apart : (n : ℕ) (rows bits : List ℕ) → LeadsBack n rows bits → (a b : ℕ) → a < n → b < n → a ≢ b → row_of rows a ≢ row_of rows b
 rows_apart n rows bits h a b in_a in_b ne e = ne (sym (h.leads a in_a) ∙ ap (row_of bits) e ∙ h.leads b in_b)
 
 -- before any arc

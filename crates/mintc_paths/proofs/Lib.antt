@@ -8,6 +8,7 @@ pub mod Shortness
 pub mod Tracing
 pub mod Pairing
 pub mod Marking
+pub mod Noting
 pub mod Passing
 pub mod Rowing
 pub mod Plain

@@ -40,7 +40,7 @@ at_place i n low = omega arith
 pub at_end : (i n : ℕ) → n ≤ i → min i n ≡ n
 at_end i n past = omega arith
 
-not_on : (b : Bool) → (b ≡ true → ⊥) → b ≡ false
+pub not_on : (b : Bool) → (b ≡ true → ⊥) → b ≡ false
 not_on true h = absurd (h refl)
 not_on false h = refl
 

@@ -1,10 +1,11 @@
 -- Marks at bits: whether a path leads there from each of up to 256 elements.
-use Rattle.std.specs.Prelude.{◌≡◌, ◌<◌, ◌≤◌, ◌+◌, ◌/◌, ◌%◌, ℕ, List, [], slice_index_or}
+use Rattle.std.specs.Prelude.{◌≡◌, ◌<◌, ◌≤◌, ◌+◌, ◌/◌, ◌%◌, ℕ, List, [], length, slice_index_or, Bool, false}
 use Rattle.std.specs.Int.{bit_at}
 use Rattle.mintc_timing.specs.declared.parts.TimingArc.{TimingArc}
 use Rattle.mintc_timing.specs.Paths.{Leads, output_of}
 use Rattle.mintc_timing.specs.Among.{AreAmong}
 use Rattle.mintc_paths.specs.declared.marks.Marks.{Marks}
+use Rattle.mintc_paths.specs.declared.marks.TheConstants.{NO_MARKS}
 use Rattle.mintc_paths.specs.Sums.{row_of}
 
 -- the marks in a row; a row past the end has none
@@ -36,3 +37,8 @@ AreMarksAlong n arcs order k rows first lanes marks = (bit lane : ℕ) → bit <
 pub record AreMarksBegun (n : ℕ) (rows : List ℕ) (first lanes : ℕ) (marks : List Marks) : Type 0 where
   pub begun : (bit lane : ℕ) → bit < n → lane < lanes → IsMarkOf (bit ≡ output_of (first + lane)) (mark_in (marks_at marks (row_of rows bit)) lane)
   pub absent : (bit lane : ℕ) → bit < n → lanes ≤ lane → lane < 256 → mark_in (marks_at marks (row_of rows bit)) lane ≡ 0
+
+-- There is a place for each row, and a row that isn't marked as reached has no marks.
+pub record AreMarksReached (marks : List Marks) (reached : List Bool) : Type 0 where
+  pub count : length reached ≡ length marks
+  pub none : (row : ℕ) → row < length marks → slice_index_or reached row false ≡ false → marks_at marks row ≡ NO_MARKS

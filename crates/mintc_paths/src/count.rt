@@ -2,10 +2,13 @@
 ghost use Rattle.std.specs.Prelude.{◌≡◌, ◌<◌, ◌≤◌, ◌+◌, ◌*◌, length, IfOk, IfErr, OnOk};
 ghost use Rattle.mintc_text.specs.Stops.{StopsAt};
 ghost use Rattle.mintc_timing.specs.Order.{IsOrder, ArePathsShort};
+ghost use Rattle.mintc_paths.specs.Awake.{IsReady};
 ghost use Rattle.mintc_paths.specs.Count.{AreEndsOf, IsCountBefore, IsPairCount};
+ghost use Rattle.mintc_paths.specs.Marks.{AreMarksReached};
 ghost use Rattle.mintc_paths.specs.Refusals.{IsExtremesRefusal};
 ghost use Rattle.mintc_paths.specs.Sums.{IsCourse};
 
+use crate::awake::Awake;
 use crate::blocks::course_of;
 use crate::extremes;
 use crate::longest::are_plainly_short;
@@ -39,10 +42,12 @@ fn count_block(
     order: &Order,
     course: &Course,
     marks: &mut [Marks],
+    reached: &mut [bool],
+    awake: &mut Awake,
     ends: &mut [Marks],
     first: u32,
     lanes: usize,
-) -> u64
+) -> Result<u64, AllocError>
     requires bits { length marks.old ≡ 2 * length flat.now.elements + length flat.now.inner }
     requires inputs { length ends.old ≡ length flat.now.elements }
     requires order { IsOrder flat.now.arcs order.now }
@@ -50,16 +55,20 @@ fn count_block(
     requires lanes { lanes ≤ 256 }
     requires elements { first + lanes ≤ length flat.now.elements }
     requires count { IsCountBefore flat.now first 0 count }
-    ensures { IsCountBefore flat.now (first + lanes) 0 result }
+    requires marked { AreMarksReached marks.old reached.old }
+    requires ready { IsReady (length course.now.along.items) reached.old awake.old }
+    ensures marked { OnOk result (AreMarksReached marks.new reached.new) }
+    ensures ready { OnOk result (IsReady (length course.now.along.items) reached.new awake.new) }
+    ensures count { IfOk result (IsCountBefore flat.now (first + lanes) 0) }
 {
     let _elements = flat.elements();
-    mark_all(marks, flat, order, course, first, lanes);
+    mark_all(marks, reached, awake, flat, order, course, first, lanes)?;
     gather(ends, marks, &course.rows);
     let mut count = count;
     for lane in 0..lanes {
         count = count_from(count, flat, ends, first + lane as u32, lane);
     }
-    count
+    Ok(count)
 }
 
 /// The number of all pairs, along the course.
@@ -75,7 +84,10 @@ fn count_along(
     ensures few { IfOk result (λ count. count ≤ 4000000) }
 {
     let elements = flat.elements().len();
-    let mut marks = vec![in alloc; NO_MARKS; 2 * elements + flat.inner().items().len()]?;
+    let bits = 2 * elements + flat.inner().items().len();
+    let mut marks = vec![in alloc; NO_MARKS; bits]?;
+    let mut reached = vec![in alloc; false; bits]?;
+    let mut awake = Awake::new(alloc, course.along.len())?;
     let mut ends = vec![in alloc; NO_MARKS; elements]?;
     let mut count = 0;
     let mut first = 0;
@@ -87,10 +99,12 @@ fn count_along(
             order,
             course,
             &mut marks,
+            &mut reached,
+            &mut awake,
             &mut ends,
             first as u32,
             lanes,
-        );
+        )?;
         first += lanes;
     }
     Ok(count)

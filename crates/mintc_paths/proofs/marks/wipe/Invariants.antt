@@ -1,8 +1,13 @@
-use Rattle.std.proofs.Common.{◌≡◌, ◌<◌, ℕ}
-use Rattle.mintc_paths.specs.declared.marks.TheConstants.{NO_MARKS}
-use Rattle.mintc_paths.specs.Marks.{marks_at}
+use Rattle.std.proofs.Common.{◌≡◌, ◌<◌, ◌≤◌, ℕ, true, false, length, get_or}
+use Rattle.std.specs.Prelude.{All}
+use Rattle.mintc_paths.specs.Marks.{AreMarksReached}
 use Rattle.mintc_paths.proofs.marks.wipe.Given as goal
 
--- the rows so far have no marks
-abbrev pub invariant-loop-row : goal.invariant-loop-row
-invariant-loop-row l = (k : ℕ) → k < l.row → marks_at l.marks k ≡ NO_MARKS
+-- a row that is still reached comes in the list later
+abbrev pub invariant-loop-number : goal.invariant-loop-number
+invariant-loop-number l = record {
+  marked : AreMarksReached l.marks l.reached;
+  inside : All (λ row. row < length l.reached) l.awake.rows.items;
+  later : (row : ℕ) → get_or l.reached row false ≡ true → (k : ℕ) × (l.number ≤ k) × (k < length l.awake.rows.items) × (get_or l.awake.rows.items k row ≡ row);
+  count : length l.marks ≡ length l.fn.marks;
+}
