@@ -4,7 +4,7 @@ ghost use Rattle.mintc_timing.specs.Order.{IsOrder};
 ghost use Rattle.mintc_timing.specs.Paths.{input_of};
 ghost use Rattle.mintc_timing.specs.declared.parts.TimingArc.{TimingArc};
 ghost use Rattle.mintc_paths.specs.Awake.{AreListed, IsReady, IsAwake};
-ghost use Rattle.mintc_paths.specs.Spans.{AreSpans};
+ghost use Rattle.mintc_paths.specs.Leaving.{AreLeaving};
 ghost use Rattle.mintc_paths.specs.Sums.{row_of, AreRows, IsCourse};
 ghost use Rattle.mintc_paths.specs.Marks.{mark_in, marks_at, AreMarksBegun, AreMarksAlong, AreMarksReached};
 
@@ -72,7 +72,7 @@ fn begin(
     requires lanes { lanes ≤ 256 }
     requires outputs { 2 * (first + lanes) ≤ length marks.old }
     requires rows { AreRows (length marks.old) course.now.rows }
-    requires spans { AreSpans course.now.along.items (length marks.old) course.now.spans }
+    requires leaving { AreLeaving course.now.along.items (length marks.old) course.now.leaving }
     requires marked { AreMarksReached marks.old reached.old }
     requires ready { IsReady (length course.now.along.items) reached.old awake.old }
     ensures begun { OnOk result (AreMarksBegun (length marks.old) course.now.rows.of_bits.items first lanes marks.new) }
@@ -113,7 +113,7 @@ fn carry(
     requires from { arc.from < length marks.old }
     requires to { arc.to < length marks.old }
     requires marked { AreMarksReached marks.old reached.old }
-    requires spans { AreSpans course.now.along.items (length marks.old) course.now.spans }
+    requires leaving { AreLeaving course.now.along.items (length marks.old) course.now.leaving }
     requires ready { IsReady (length course.now.along.items) reached.old awake.old }
     ensures marked { OnOk result (AreMarksReached marks.new reached.new) }
     ensures awake { OnOk result ((place : ℕ) → IsAwake course.now.along.items place reached.old awake.old

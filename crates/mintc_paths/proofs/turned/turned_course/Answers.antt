@@ -29,7 +29,7 @@ returns c =
     let rows : AreRows (2 * n + m) new.rows = subst (λ k. AreRows k new.rows) in_rows c.in_ok-rows.ensures.rows in
     let elements = ap (λ (xs : List Element). length xs) c.elements.ensures.value in
     let leaving_in : c.len.result ≡ 2 * n + m = let filled_rows = c.in_ok-rows.rows.of_bits.ok.0 in let count = rows.of_bits.count in let len = c.len.ensures in omega arith in
-    let leaving : AreLeaving new.along.items (2 * n + m) new.leaving = subst (λ k. AreLeaving new.along.items k new.leaving) leaving_in (subst (λ xs. AreLeaving xs c.len.result new.leaving) c.deref.ensures.value c.in_ok-leaving.ensures) in
+    let leaving : AreLeaving new.along.items (2 * n + m) new.leaving = subst (λ k. AreLeaving new.along.items k new.leaving) leaving_in (subst (λ xs. AreLeaving xs c.len.result new.leaving) c.deref.ensures.value (record { rows_have = c.in_ok-leaving.ensures.bits; arcs_have = c.in_ok-leaving.ensures.arcs; index = c.in_ok-leaving.ensures.index })) in
     IsCourse-turned design c.args.order.now c.requires.order c.elements.ensures.kept old new n m refl refl c.requires.course c.args.places.now c.requires.places rows
     (λ bit low. subst (λ k. row_of new.rows.of_bits.items (turned_bit k c.args.places.now.of_bits.items bit) ≡ row_of old.rows.of_bits.items bit) elements (c.in_ok-rows.ensures.each bit (omega arith)))
     (ap (λ (xs : List TimingArc). length xs) is ∙ kept ∙ same_was)
