@@ -34,13 +34,10 @@ fn has_fault(rt: &impl Abort, alloc: Global, text: &str, want: Option<(u32, u32)
 
 /// A cell on one line.
 fn line_of(alloc: Global, cell: &Cell) -> Result<String, Fail> {
-    let mut text = cell_text(alloc, cell)?;
+    let pins = cell_text(alloc, cell)?;
     let numbers = numbers_text(alloc, cell)?;
-    if !numbers.is_empty() {
-        text.push_str(" ")?;
-        text.push_str(numbers.as_str())?;
-    }
-    Ok(text)
+    let between = if numbers.is_empty() { "" } else { " " };
+    Ok(format!(in alloc; "{pins}{between}{numbers}")?)
 }
 
 /// All cells, each with its name.

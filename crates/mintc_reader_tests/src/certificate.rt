@@ -79,24 +79,22 @@ fn both_versions_are_read_as_one_value(rt: HostRuntime) -> Result<(), Fail> {
 
 /// Whether these are the members of `NEVER`, of one kind each.
 fn are_of_never(items: &[Member]) -> bool {
-    match items {
-        [
-            _,
-            _,
-            Member::Order { phase: 3 },
-            _,
-            _,
-            Member::Apart { i: 6, j: 7 },
-            Member::Opening { element: 8 },
-            Member::Opened { element: 9 },
-            Member::Reach {
-                from: 10,
-                to: 11,
-                arcs,
-            },
-            _,
-            _,
-        ] => arcs.items() == [12, 13].as_slice(),
+    items.len() == 11
+        && matches!(&items[2], Member::Order { phase: 3 })
+        && matches!(&items[5], Member::Apart { i: 6, j: 7 })
+        && matches!(&items[6], Member::Opening { element: 8 })
+        && matches!(&items[7], Member::Opened { element: 9 })
+        && is_reach(&items[8])
+}
+
+/// Whether this is the member of `NEVER` with a path.
+fn is_reach(member: &Member) -> bool {
+    match member {
+        Member::Reach {
+            from: 10,
+            to: 11,
+            arcs,
+        } => arcs.items() == [12, 13].as_slice(),
         _ => false,
     }
 }

@@ -159,14 +159,6 @@ fn described(rt: &impl Abort, alloc: Global, text: &[u8]) -> Result<Cells, Fail>
     }
 }
 
-/// Both have the same cells, but for their numbers.
-fn are_alike(rt: &impl Abort, alloc: Global, cells: &Cells, back: &Cells) -> Result<(), Fail> {
-    let wanted = cells_text(alloc, cells)?;
-    let found = cells_text(alloc, back)?;
-    assert_eq!(rt; wanted.as_str(), found.as_str());
-    Ok(())
-}
-
 /// Both cells have the same numbers.
 fn have_equal_numbers(
     rt: &impl Abort,
@@ -180,16 +172,23 @@ fn have_equal_numbers(
     Ok(())
 }
 
-/// The form of a description's cells is read as these very cells.
-fn comes_back(rt: &impl Abort, alloc: Global, text: &[u8]) -> Result<(), Fail> {
-    let cells = described(rt, alloc, text)?;
-    let back = described(rt, alloc, &toml_form(alloc, &cells)?)?;
-    are_alike(rt, alloc, &cells, &back)?;
+/// Both have the same cells.
+fn are_alike(rt: &impl Abort, alloc: Global, cells: &Cells, back: &Cells) -> Result<(), Fail> {
+    let wanted = cells_text(alloc, cells)?;
+    let found = cells_text(alloc, back)?;
+    assert_eq!(rt; wanted.as_str(), found.as_str());
     for number in 0..cells.count() {
         assert!(rt; number < back.count());
         have_equal_numbers(rt, alloc, cells.cell(number), back.cell(number))?;
     }
     Ok(())
+}
+
+/// The form of a description's cells is read as these very cells.
+fn comes_back(rt: &impl Abort, alloc: Global, text: &[u8]) -> Result<(), Fail> {
+    let cells = described(rt, alloc, text)?;
+    let back = described(rt, alloc, &toml_form(alloc, &cells)?)?;
+    are_alike(rt, alloc, &cells, &back)
 }
 
 #[test]
@@ -205,4 +204,49 @@ fn all_keys_come_back(rt: HostRuntime) -> Result<(), Fail> {
 #[test]
 fn no_cells_come_back(rt: HostRuntime) -> Result<(), Fail> {
     comes_back(&rt, rt.alloc(), b"")
+}
+
+/// A clock cell whose function is in so many parentheses.
+fn enclosed(
+    rt: &impl Abort,
+    alloc: Global,
+    opening: usize,
+    inside: &str,
+    closing: usize,
+) -> Result<String, Fail> {
+    let head = repeated(
+        alloc,
+        b"library (t) { cell (C) { pin (AB) { direction : input ; clock : true ; } pin (Y) { direction : output ; function : \"",
+        b"(",
+        opening,
+        inside.as_bytes(),
+    )?;
+    let text = repeated(alloc, &head, b")", closing, b"\" ; } } }")?;
+    read(rt, alloc, &text)
+}
+
+/// How many parentheses open, what stands in them, how many close, and what the cell is read as.
+const ENCLOSED: &[(usize, &str, usize, &str)] = &[
+    (4_000, "AB", 4_000, "C clock AB Y false [];"),
+    (4_000, "A B", 4_000, "C clock AB Y false [];"),
+    (4_000, "! AB", 4_000, "C clock AB Y true [];"),
+    (4_000, "AB '", 4_000, "C clock AB Y true [];"),
+    (4_000, "\" ( AB ) \"", 4_000, "C clock AB Y false [];"),
+    (4_000, "AB", 3_999, "C gate [AB] [Y];"),
+    (3_999, "AB", 4_000, "C gate [AB] [Y];"),
+    (4_000, "A", 4_000, "C gate [AB] [Y];"),
+    (4_000, "!AB'", 4_000, "C gate [AB] [Y];"),
+    (4_000, "", 4_000, "C gate [AB] [Y];"),
+    (4_000, "AB)(AB", 4_000, "C gate [AB] [Y];"),
+    (400_000, "!AB", 400_000, "C clock AB Y true [];"),
+];
+
+/// Long expressions mean what short ones do.
+#[test]
+fn long_expressions(rt: HostRuntime) -> Result<(), Fail> {
+    for (opening, inside, closing, wanted) in ENCLOSED {
+        let found = enclosed(&rt, rt.alloc(), *opening, inside, *closing)?;
+        assert_eq!(rt; found.as_str(), *wanted, "with {inside}");
+    }
+    Ok(())
 }

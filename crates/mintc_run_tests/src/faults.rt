@@ -1,9 +1,9 @@
 //! Reads and writes that fail.
 use super::files::FILES;
-use super::harness::{run_over, shelf_of};
+use super::harness::{is_answered, run_over, shelf_of, succeeds};
 use super::rows::CHECK;
 use mintc_command::Status;
-use mintc_text::Shelf;
+use mintc_text::{MemoryShelf, Shelf};
 use std::alloc::Global;
 use std::process::Abort;
 use std::test::Fail;
@@ -11,7 +11,7 @@ use std::test::Fail;
 /// A command, and how many files it names.
 type Run = (&'static str, u8);
 
-const ON_TABLES: [Run; 6] = [
+const ON_TABLES: &[Run] = &[
     (CHECK, 2),
     ("optimise table TAB1", 1),
     ("verify table TAB1 CERT1", 2),
@@ -20,7 +20,7 @@ const ON_TABLES: [Run; 6] = [
     ("slack table TAB1", 1),
 ];
 
-const ON_FILES: [Run; 7] = [
+const ON_FILES: &[Run] = &[
     ("check files two.v two.sdf two.cells two.clock SCH1", 5),
     ("optimise files two.v two.sdf two.cells two.clock", 4),
     (
@@ -36,7 +36,7 @@ const ON_FILES: [Run; 7] = [
     ),
 ];
 
-const ON_LIBRARIES: [Run; 6] = [
+const ON_LIBRARIES: &[Run] = &[
     ("check liberty two.v two.sdf two.lib two.clock SCH1", 5),
     ("optimise liberty two.v two.sdf two.lib two.clock", 4),
     (
@@ -48,17 +48,27 @@ const ON_LIBRARIES: [Run; 6] = [
     ("slack liberty two.v two.sdf two.lib two.clock", 4),
 ];
 
-/// Each read is made to fail, of each run. The shelf's next calls have the numbers after the one that failed: so no read was
-/// made after it.
+/// Whether a file can be read.
+fn is_read(alloc: Global, shelf: &mut MemoryShelf) -> bool {
+    shelf.read(alloc, "TAB1", 1).is_ok()
+}
+
+/// A read is made to fail, and so is the one after the next. The shelf's next calls have the numbers after the one that failed:
+/// so no read was made after it.
+fn read_fails(rt: &impl Abort, alloc: Global, words: &str, number: u32) -> Result<(), Fail> {
+    let mut shelf = shelf_of(alloc, FILES, &[number, number.saturating_add(2)])?;
+    let wanted = (Status::ReadFault, b"".as_slice());
+    is_answered(rt, alloc, &mut shelf, words, None, wanted)?;
+    assert!(rt; is_read(alloc, &mut shelf), "{words}");
+    assert!(rt; !is_read(alloc, &mut shelf), "{words}");
+    Ok(())
+}
+
+/// Each read is made to fail, of each run.
 fn each_read_fails(rt: &impl Abort, alloc: Global, runs: &[Run]) -> Result<(), Fail> {
     for (words, count) in runs {
         for number in 0..u32::from(*count) {
-            let mut shelf = shelf_of(alloc, &FILES, &[number, number + 2])?;
-            let (status, taken) = run_over(alloc, &mut shelf, words, None)?;
-            assert_eq!(rt; status, Status::ReadFault, "{words}");
-            assert_eq!(rt; taken.len(), 0, "{words}");
-            assert!(rt; shelf.read(alloc, "TAB1", 1).is_ok(), "{words}");
-            assert!(rt; shelf.read(alloc, "TAB1", 1).is_err(), "{words}");
+            read_fails(rt, alloc, words, number)?;
         }
     }
     Ok(())
@@ -67,20 +77,19 @@ fn each_read_fails(rt: &impl Abort, alloc: Global, runs: &[Run]) -> Result<(), F
 // Rows failing-read and every-read-fails.
 #[test]
 fn every_read_fails(rt: HostRuntime) -> Result<(), Fail> {
-    each_read_fails(&rt, rt.alloc(), &ON_TABLES)?;
-    each_read_fails(&rt, rt.alloc(), &ON_FILES)?;
-    each_read_fails(&rt, rt.alloc(), &ON_LIBRARIES)
+    each_read_fails(&rt, rt.alloc(), ON_TABLES)?;
+    each_read_fails(&rt, rt.alloc(), ON_FILES)?;
+    each_read_fails(&rt, rt.alloc(), ON_LIBRARIES)
 }
 
 /// Each write is made to fail after each number of bytes, of each run.
 fn each_write_fails(rt: &impl Abort, alloc: Global, runs: &[Run]) -> Result<(), Fail> {
     for (words, _) in runs {
-        let mut shelf = shelf_of(alloc, &FILES, &[])?;
+        let mut shelf = shelf_of(alloc, FILES, &[])?;
         let (_, text) = run_over(alloc, &mut shelf, words, None)?;
         for length in 0..text.len() {
-            let (status, taken) = run_over(alloc, &mut shelf, words, Some((0, length)))?;
-            assert_eq!(rt; status, Status::WriteFault, "{words}");
-            assert_eq!(rt; taken.as_slice(), &text.as_slice()[..length], "{words}");
+            let wanted = (Status::WriteFault, &text.as_slice()[..length]);
+            is_answered(rt, alloc, &mut shelf, words, Some((0, length)), wanted)?;
         }
     }
     Ok(())
@@ -89,31 +98,40 @@ fn each_write_fails(rt: &impl Abort, alloc: Global, runs: &[Run]) -> Result<(), 
 // Rows failing-write and every-write-length.
 #[test]
 fn every_write_fails_on_tables(rt: HostRuntime) -> Result<(), Fail> {
-    each_write_fails(&rt, rt.alloc(), &ON_TABLES)
+    each_write_fails(&rt, rt.alloc(), ON_TABLES)
 }
 
 #[test]
 fn every_write_fails_on_files(rt: HostRuntime) -> Result<(), Fail> {
-    each_write_fails(&rt, rt.alloc(), &ON_FILES)
+    each_write_fails(&rt, rt.alloc(), ON_FILES)
 }
 
 #[test]
 fn every_write_fails_on_libraries(rt: HostRuntime) -> Result<(), Fail> {
-    each_write_fails(&rt, rt.alloc(), &ON_LIBRARIES)
+    each_write_fails(&rt, rt.alloc(), ON_LIBRARIES)
 }
 
-/// A run is made again over the shelf on which one of its reads failed.
+/// A run is made again over the shelf on which its read of this number failed, and has its answer.
+fn answers_again(
+    rt: &impl Abort,
+    alloc: Global,
+    words: &str,
+    number: u32,
+    answer: &[u8],
+) -> Result<(), Fail> {
+    let mut shelf = shelf_of(alloc, FILES, &[number])?;
+    let (failed, _) = run_over(alloc, &mut shelf, words, None)?;
+    assert_eq!(rt; failed, Status::ReadFault, "{words}");
+    succeeds(rt, alloc, &mut shelf, words, answer)
+}
+
+/// Each run is made again after each of its reads failed.
 fn the_next_call_answers(rt: &impl Abort, alloc: Global, runs: &[Run]) -> Result<(), Fail> {
     for (words, count) in runs {
-        let mut sound = shelf_of(alloc, &FILES, &[])?;
+        let mut sound = shelf_of(alloc, FILES, &[])?;
         let (_, text) = run_over(alloc, &mut sound, words, None)?;
         for number in 0..u32::from(*count) {
-            let mut shelf = shelf_of(alloc, &FILES, &[number])?;
-            let (failed, _) = run_over(alloc, &mut shelf, words, None)?;
-            assert_eq!(rt; failed, Status::ReadFault, "{words}");
-            let (status, taken) = run_over(alloc, &mut shelf, words, None)?;
-            assert_eq!(rt; status, Status::Done, "{words}");
-            assert_eq!(rt; taken.as_slice(), text.as_slice(), "{words}");
+            answers_again(rt, alloc, words, number, text.as_slice())?;
         }
     }
     Ok(())
@@ -122,7 +140,7 @@ fn the_next_call_answers(rt: &impl Abort, alloc: Global, runs: &[Run]) -> Result
 // Row same-call-after-a-fault.
 #[test]
 fn the_same_call_after_a_fault(rt: HostRuntime) -> Result<(), Fail> {
-    the_next_call_answers(&rt, rt.alloc(), &ON_TABLES)?;
-    the_next_call_answers(&rt, rt.alloc(), &ON_FILES)?;
-    the_next_call_answers(&rt, rt.alloc(), &ON_LIBRARIES)
+    the_next_call_answers(&rt, rt.alloc(), ON_TABLES)?;
+    the_next_call_answers(&rt, rt.alloc(), ON_FILES)?;
+    the_next_call_answers(&rt, rt.alloc(), ON_LIBRARIES)
 }

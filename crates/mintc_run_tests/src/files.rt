@@ -33,16 +33,16 @@ const FIRST_SDF: &str =
 const SECOND_SDF: &str =
     "(DELAYFILE (TIMESCALE 1 fs)\n(CELL (CELLTYPE \"BUF\") (INSTANCE x) (DELAY (ABSOLUTE (IOPATH A Y (30)))))\n(CELL (CELLTYPE \"BUF\") (INSTANCE y) (DELAY (ABSOLUTE (IOPATH A Y (70))))))\n";
 
+/// Two latches in a ring, and a schedule of them.
+pub const TAB1: &str =
+    "table 1\nphases 2\nphase phi1\nphase phi2\nelements 2\nelement a 1 10 - 10 10 0\nelement b 2 10 - 10 10 0\ninner 0\narcs 2\narc q0 d1 20 20\narc q1 d0 60 60\nbounds 0\nend\n";
+
+pub const SCH1: &str = "schedule 1\nden 1\ncycle 100\nphases 2\nphase 0 10\nphase 10 30\nend\n";
+
 /// The files of the rows, each a name and its bytes.
-pub const FILES: [(&str, &str); 38] = [
-    (
-        "TAB1",
-        "table 1\nphases 2\nphase phi1\nphase phi2\nelements 2\nelement a 1 10 - 10 10 0\nelement b 2 10 - 10 10 0\ninner 0\narcs 2\narc q0 d1 20 20\narc q1 d0 60 60\nbounds 0\nend\n",
-    ),
-    (
-        "SCH1",
-        "schedule 1\nden 1\ncycle 100\nphases 2\nphase 0 10\nphase 10 30\nend\n",
-    ),
+pub const FILES: &[(&str, &str)] = &[
+    ("TAB1", TAB1),
+    ("SCH1", SCH1),
     (
         "short.schedule",
         "schedule 1\nden 1\ncycle 99\nphases 2\nphase 0 10\nphase 10 30\nend\n",
@@ -157,7 +157,7 @@ pub const FILES: [(&str, &str); 38] = [
 ];
 
 /// Certificates of the first table, each the name of its row, the text after its first line, and what `verify` answers.
-pub const CERTIFICATES: [(&str, &str, &str); 7] = [
+pub const CERTIFICATES: &[(&str, &str, &str)] = &[
     (
         "verify-valid",
         "least\nden 1\ncycle 100\nphases 2\nphase 0 10\nphase 10 30\ndepartures 2\ndeparture 0\ndeparture 20\nchain 2\nreach 0 1 1 0\nreach 1 0 1 1\nend\n",
@@ -196,7 +196,7 @@ pub const CERTIFICATES: [(&str, &str, &str); 7] = [
 ];
 
 /// The files of the further rows.
-pub const FURTHER_FILES: [(&str, &str); 4] = [
+pub const FURTHER_FILES: &[(&str, &str)] = &[
     (
         "own.table",
         "table 1\nphases 2\nphase phi1\nphase phi2\nelements 2\nelement a 1 10 - 10 10 0\nelement b 2 10 - 10 10 0\ninner 0\narcs 3\narc q0 d1 20 20\narc q1 d0 60 60\narc q0 d0 5 5\nbounds 0\nend\n",
@@ -217,7 +217,7 @@ pub const FURTHER_FILES: [(&str, &str); 4] = [
 
 /// The files of the rows on libraries: the worked one with a definition, with a cell that can't be used, and one that isn't
 /// closed.
-pub const LIBRARIES: [(&str, &str); 6] = [
+pub const LIBRARIES: &[(&str, &str)] = &[
     ("two.v", TWO_V),
     ("two.sdf", TWO_SDF),
     ("two.clock", TWO_CLOCK),
@@ -234,7 +234,7 @@ pub const LIBRARIES: [(&str, &str); 6] = [
 
 /// The files of the rows on corners, beside those that all rows have: delays under which x and y are faster, or x slower; a text
 /// that is cut off; delays of an instance that isn't there; and a clock whose second phase begins too late for any cycle.
-pub const CORNER_FILES: [(&str, &str); 10] = [
+pub const CORNER_FILES: &[(&str, &str)] = &[
     ("pair.v", PAIR_V),
     ("pair.cells", PAIR_CELLS),
     ("pair.clock", PAIR_CLOCK),

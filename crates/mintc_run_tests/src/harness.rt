@@ -2,6 +2,7 @@
 use mintc_command::{Status, run};
 use mintc_text::{MemoryShelf, MemorySink, Name, Numbers};
 use std::alloc::Global;
+use std::process::Abort;
 use std::test::Fail;
 
 /// Files for a shelf, each a name and its bytes.
@@ -47,4 +48,30 @@ pub fn run_over(
     let mut sink = MemorySink::new(alloc, 1_000_000, failing_write)?;
     let status = run(alloc, words.as_slice(), shelf, &mut sink);
     Ok((status, Vec::from_slice(alloc, sink.taken())?))
+}
+
+/// A run over this shelf, and a sink whose first write may be made to fail, has this status, and the sink took this text.
+pub fn is_answered(
+    rt: &impl Abort,
+    alloc: Global,
+    shelf: &mut MemoryShelf,
+    line: &str,
+    failing_write: Option<(u32, usize)>,
+    wanted: (Status, &[u8]),
+) -> Result<(), Fail> {
+    let (status, taken) = run_over(alloc, shelf, line, failing_write)?;
+    assert_eq!(rt; status, wanted.0, "{line}");
+    assert_eq!(rt; taken.as_slice(), wanted.1, "{line}");
+    Ok(())
+}
+
+/// A run over this shelf succeeds with this text.
+pub fn succeeds(
+    rt: &impl Abort,
+    alloc: Global,
+    shelf: &mut MemoryShelf,
+    line: &str,
+    text: &[u8],
+) -> Result<(), Fail> {
+    is_answered(rt, alloc, shelf, line, None, (Status::Done, text))
 }

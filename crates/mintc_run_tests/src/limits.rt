@@ -1,9 +1,10 @@
 //! Tables at the limits and one past them.
-use super::files::{FILES, PAIR_CELLS, PAIR_CLOCK};
-use super::harness::{run_over, shelf_of};
+use super::files::{PAIR_CELLS, PAIR_CLOCK, SCH1};
+use super::harness::{is_answered, run_over, shelf_of};
 use super::rows::{CHECK, PASS};
 use mintc_command::Status;
 use std::alloc::{AllocError, Global};
+use std::process::Abort;
 use std::test::Fail;
 
 /// The first two elements of the file TAB1, and so many more that are as the first one.
@@ -18,6 +19,19 @@ fn many_elements(alloc: Global, count: usize) -> Result<String, AllocError> {
     Ok(text)
 }
 
+/// The table in place of TAB1 is checked with this answer.
+fn is_checked(
+    rt: &impl Abort,
+    alloc: Global,
+    table: &str,
+    status: Status,
+    answer: &str,
+) -> Result<(), Fail> {
+    let mut shelf = shelf_of(alloc, &[("TAB1", table), ("SCH1", SCH1)], &[])?;
+    let wanted = (status, answer.as_bytes());
+    is_answered(rt, alloc, &mut shelf, CHECK, None, wanted)
+}
+
 // Row element-limit.
 #[test]
 fn as_many_elements_as_there_may_be(rt: HostRuntime) -> Result<(), Fail> {
@@ -27,15 +41,7 @@ fn as_many_elements_as_there_may_be(rt: HostRuntime) -> Result<(), Fail> {
     for _ in 2..2_000 {
         pass.push_str("element a late 0/1 early 0/1\n")?;
     }
-    let mut shelf = shelf_of(
-        alloc,
-        &[("TAB1", table.as_str()), ("SCH1", FILES[1].1)],
-        &[],
-    )?;
-    let (status, taken) = run_over(alloc, &mut shelf, CHECK, None)?;
-    assert_eq!(rt; status, Status::Done);
-    assert_eq!(rt; taken.as_slice(), pass.as_bytes());
-    Ok(())
+    is_checked(&rt, alloc, table.as_str(), Status::Done, pass.as_str())
 }
 
 /// A table with nothing in it but so many phases and bounds.
@@ -61,19 +67,11 @@ fn one_past_the_limits(rt: HostRuntime) -> Result<(), Fail> {
     let phases = empty_table(alloc, 9, 64)?;
     let bounds = empty_table(alloc, 8, 65)?;
     let most = empty_table(alloc, 8, 64)?;
-    let cases = [
-        (elements.as_str(), "refused 17 elements 2001\n"),
-        (phases.as_str(), "refused 17 phases 9\n"),
-        (bounds.as_str(), "refused 17 bounds 65\n"),
-        (most.as_str(), "refused 19 8 2\n"),
-    ];
-    for (table, answer) in &cases {
-        let mut shelf = shelf_of(alloc, &[("TAB1", *table), ("SCH1", FILES[1].1)], &[])?;
-        let (status, taken) = run_over(alloc, &mut shelf, CHECK, None)?;
-        assert_eq!(rt; status, Status::Refused, "{answer}");
-        assert_eq!(rt; taken.as_slice(), answer.as_bytes());
-    }
-    Ok(())
+    let refused = Status::Refused;
+    is_checked(&rt, alloc, &elements, refused, "refused 17 elements 2001\n")?;
+    is_checked(&rt, alloc, &phases, refused, "refused 17 phases 9\n")?;
+    is_checked(&rt, alloc, &bounds, refused, "refused 17 bounds 65\n")?;
+    is_checked(&rt, alloc, &most, refused, "refused 19 8 2\n")
 }
 
 /// A netlist of so many flops, none of which is fed by another.
@@ -86,40 +84,40 @@ fn many_flops(alloc: Global, count: usize) -> Result<String, AllocError> {
     Ok(text)
 }
 
+/// Two corners of a netlist, the second with these delays, are answered with this status and front.
+fn are_answered(
+    rt: &impl Abort,
+    alloc: Global,
+    netlist: &str,
+    second: &str,
+    status: Status,
+    front: &str,
+) -> Result<(), Fail> {
+    let files = [
+        ("many.v", netlist),
+        ("pair.cells", PAIR_CELLS),
+        ("pair.clock", PAIR_CLOCK),
+        ("no.sdf", "(DELAYFILE)\n"),
+        ("cut.sdf", "(DELAYFILE"),
+    ];
+    let mut shelf = shelf_of(alloc, &files, &[])?;
+    let words = format!(in alloc; "corners many.v pair.cells pair.clock no.sdf {second}")?;
+    let (answered, taken) = run_over(alloc, &mut shelf, words.as_str(), None)?;
+    assert_eq!(rt; answered, status, "{front}");
+    assert!(rt; taken.as_slice().starts_with(front.as_bytes()), "{front}");
+    Ok(())
+}
+
 // Two corners have as many elements together as a design may have, or two more; but a corner that is refused comes before.
 #[test]
 fn corners_at_the_limit_of_elements(rt: HostRuntime) -> Result<(), Fail> {
     let alloc = rt.alloc();
     let most = many_flops(alloc, 1_000)?;
     let over = many_flops(alloc, 1_001)?;
-    let cases = [
-        (most.as_str(), "no.sdf", Status::Done, "corners 1\nleast\n"),
-        (
-            over.as_str(),
-            "no.sdf",
-            Status::Refused,
-            "refused 17 elements 2002\n",
-        ),
-        (
-            over.as_str(),
-            "cut.sdf",
-            Status::Refused,
-            "refused 22 2\nrefused 1 delays 1\n",
-        ),
-    ];
-    for (netlist, second, status, front) in cases {
-        let files = [
-            ("many.v", netlist),
-            ("pair.cells", PAIR_CELLS),
-            ("pair.clock", PAIR_CLOCK),
-            ("no.sdf", "(DELAYFILE)\n"),
-            ("cut.sdf", "(DELAYFILE"),
-        ];
-        let mut shelf = shelf_of(alloc, &files, &[])?;
-        let words = format!(in alloc; "corners many.v pair.cells pair.clock no.sdf {second}")?;
-        let (answered, taken) = run_over(alloc, &mut shelf, words.as_str(), None)?;
-        assert_eq!(rt; answered, status, "{front}");
-        assert!(rt; taken.as_slice().starts_with(front.as_bytes()), "{front}");
-    }
-    Ok(())
+    let least = "corners 1\nleast\n";
+    are_answered(&rt, alloc, &most, "no.sdf", Status::Done, least)?;
+    let limit = "refused 17 elements 2002\n";
+    are_answered(&rt, alloc, &over, "no.sdf", Status::Refused, limit)?;
+    let corner = "refused 22 2\nrefused 1 delays 1\n";
+    are_answered(&rt, alloc, &over, "cut.sdf", Status::Refused, corner)
 }

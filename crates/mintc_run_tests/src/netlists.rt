@@ -3,6 +3,7 @@ use super::files::TWO_CELLS;
 use super::harness::{hold, run_over, sound_shelf};
 use mintc_command::Status;
 use std::alloc::{AllocError, Global};
+use std::process::Abort;
 use std::test::Fail;
 
 /// One phase on the port `c`.
@@ -36,7 +37,7 @@ fn optimised(
 }
 
 /// What stands in the module `m`, and the answers of which one comes.
-const BODIES: [(&str, &[&str]); 14] = [
+const BODIES: &[(&str, &[&str])] = &[
     ("FOO a ();", &["refused 4 3\n"]),
     ("m u (.c(c));", &["refused 5 3\n"]),
     ("LAT a (.D(1'b0), .G(c), .E(c));", &["refused 6 3\n"]),
@@ -60,7 +61,7 @@ const BODIES: [(&str, &[&str]); 14] = [
 ];
 
 /// Whole texts, and their answers.
-const TEXTS: [(&str, &str); 3] = [
+const TEXTS: &[(&str, &str)] = &[
     ("", "refused 9 0\n"),
     (
         "module m(c); input c; LAT a (.D(c)",
@@ -69,24 +70,28 @@ const TEXTS: [(&str, &str); 3] = [
     ("module m(c); input c;", "refused 1 netlist 3\n"),
 ];
 
+/// A netlist is refused with one of these answers.
+fn is_refused(rt: &impl Abort, alloc: Global, netlist: &str, answers: &[&str]) -> Result<(), Fail> {
+    let (status, taken) = optimised(alloc, netlist, "(DELAYFILE)", CLOCK)?;
+    assert_eq!(rt; status, Status::Refused, "{netlist}");
+    assert!(rt;
+        answers
+            .iter()
+            .any(|answer| answer.as_bytes() == taken.as_slice()),
+        "{netlist}"
+    );
+    Ok(())
+}
+
 #[test]
 fn refused_netlists(rt: HostRuntime) -> Result<(), Fail> {
     let alloc = rt.alloc();
-    for (body, answers) in &BODIES {
+    for (body, answers) in BODIES {
         let netlist = format!(in alloc; "module m(c); input c; {body} endmodule")?;
-        let (status, taken) = optimised(alloc, netlist.as_str(), "(DELAYFILE)", CLOCK)?;
-        assert_eq!(rt; status, Status::Refused, "{body}");
-        assert!(rt;
-            answers
-                .iter()
-                .any(|answer| answer.as_bytes() == taken.as_slice()),
-            "{body}"
-        );
+        is_refused(&rt, alloc, netlist.as_str(), answers)?;
     }
-    for (text, answer) in &TEXTS {
-        let (status, taken) = optimised(alloc, text, "(DELAYFILE)", CLOCK)?;
-        assert_eq!(rt; status, Status::Refused, "{text}");
-        assert_eq!(rt; taken.as_slice(), answer.as_bytes(), "{text}");
+    for (text, answer) in TEXTS {
+        is_refused(&rt, alloc, text, &[*answer])?;
     }
     Ok(())
 }
@@ -122,22 +127,21 @@ fn modules(
     Ok(text)
 }
 
+/// Four leaves.
+const LEAVES: &str = "BUF a (.A(c)); BUF b (.A(c)); BUF d (.A(c)); BUF e (.A(c));";
+
 // Row limits-and-one-past: scopes, depth, leaves.
 #[test]
 fn too_many_scopes_and_leaves(rt: HostRuntime) -> Result<(), Fail> {
     let alloc = rt.alloc();
-    let leaves = "BUF a (.A(c)); BUF b (.A(c)); BUF d (.A(c)); BUF e (.A(c));";
-    let cases = [
+    for (count, instances, body, answer) in &[
         (16, 2, "", "refused 17 scopes 65535\n"),
         (30, 2, "", "refused 17 scopes 1000000000\n"),
         (33, 1, "", "refused 17 depth 33\n"),
-        (15, 2, leaves, "refused 17 leaves 65536\n"),
-    ];
-    for (count, instances, body, answer) in cases {
-        let netlist = modules(alloc, count, instances, body)?;
-        let (status, taken) = optimised(alloc, netlist.as_str(), "(DELAYFILE)", CLOCK)?;
-        assert_eq!(rt; status, Status::Refused, "{answer}");
-        assert_eq!(rt; taken.as_slice(), answer.as_bytes());
+        (15, 2, LEAVES, "refused 17 leaves 65536\n"),
+    ] {
+        let netlist = modules(alloc, *count, *instances, body)?;
+        is_refused(&rt, alloc, netlist.as_str(), &[*answer])?;
     }
     Ok(())
 }
@@ -153,41 +157,65 @@ fn wide(alloc: Global, last: u32) -> Result<String, AllocError> {
 const BRACES: &str =
     "module m(c); input c; wire w; assign w = {{{{{{{{{{{{{{{{{{{{{{{{{{{{{{{{c}}}}}}}}}}}}}}}}}}}}}}}}}}}}}}}}; endmodule";
 
-// Row limits-and-one-past: inner bits, elements, numbers of delays; and braces.
+/// The answer on these begins so.
+fn begins(
+    rt: &impl Abort,
+    alloc: Global,
+    netlist: &str,
+    delays: &str,
+    clock: &str,
+    front: &str,
+) -> Result<(), Fail> {
+    let (_, taken) = optimised(alloc, netlist, delays, clock)?;
+    assert!(rt; taken.as_slice().starts_with(front.as_bytes()), "{front}");
+    Ok(())
+}
+
+// Row limits-and-one-past: inner bits, elements; and braces.
 #[test]
-fn too_many_bits_and_too_large_numbers(rt: HostRuntime) -> Result<(), Fail> {
+fn too_many_bits(rt: HostRuntime) -> Result<(), Fail> {
     let alloc = rt.alloc();
-    let most = wide(alloc, 65_534)?;
+    let none = "(DELAYFILE)";
     let more = wide(alloc, 65_535)?;
+    begins(&rt, alloc, &more, none, CLOCK, "refused 17 inner 262145\n")?;
+    let most = wide(alloc, 65_534)?;
+    begins(&rt, alloc, &most, none, CLOCK, "certificate 2\n")?;
     let listed = "module m(c, x); input c; input [2000:0] x; endmodule";
     let ports = format!(in alloc; "{CLOCK}[[input]]\nport = \"x\"\nphase = \"p\"\n")?;
+    begins(
+        &rt,
+        alloc,
+        listed,
+        none,
+        &ports,
+        "refused 17 elements 2001\n",
+    )?;
+    begins(&rt, alloc, BRACES, none, CLOCK, "certificate 2\n")
+}
+
+// Row limits-and-one-past: numbers of delays.
+#[test]
+fn too_large_numbers(rt: HostRuntime) -> Result<(), Fail> {
+    let alloc = rt.alloc();
     let leaf = "module m(c); input c; BUF b (.A(c)); endmodule";
     let far =
         "(DELAYFILE (TIMESCALE 1 us) (CELL (CELLTYPE \"BUF\") (INSTANCE b) (DELAY (ABSOLUTE (IOPATH A Y (1.0000000000000001))))))";
     let near =
         "(DELAYFILE (TIMESCALE 1 us) (CELL (CELLTYPE \"BUF\") (INSTANCE b) (DELAY (ABSOLUTE (IOPATH A Y (1.0))))))";
-    let cases = [
-        (
-            more.as_str(),
-            "(DELAYFILE)",
-            CLOCK,
-            "refused 17 inner 262145\n",
-        ),
-        (most.as_str(), "(DELAYFILE)", CLOCK, "certificate 2\n"),
-        (
-            listed,
-            "(DELAYFILE)",
-            ports.as_str(),
-            "refused 17 elements 2001\n",
-        ),
-        (BRACES, "(DELAYFILE)", CLOCK, "certificate 2\n"),
-        (leaf, far, CLOCK, "refused 18 2\n"),
-        (leaf, near, CLOCK, "certificate 2\n"),
-    ];
-    for (netlist, delays, clock, answer) in &cases {
-        let (_, taken) = optimised(alloc, netlist, delays, clock)?;
-        assert!(rt; taken.as_slice().starts_with(answer.as_bytes()), "{answer}");
-    }
+    begins(&rt, alloc, leaf, far, CLOCK, "refused 18 2\n")?;
+    begins(&rt, alloc, leaf, near, CLOCK, "certificate 2\n")
+}
+
+/// The slacks of a netlist whose module of two latches is connected to this.
+fn has_slacks(rt: &impl Abort, alloc: Global, expr: &str, answer: &str) -> Result<(), Fail> {
+    let netlist = format!(in alloc;
+        "module t(c, x); input c; input [0:1] x; pair p (.c(c), .i({expr})); endmodule module pair(c, i); input c; input [1:0] i; LAT a (.D(i[1]), .G(c)); LAT b (.D(i[0]), .G(c)); endmodule"
+    )?;
+    let clock = format!(in alloc; "{CLOCK}[[input]]\nport = \"x\"\nphase = \"p\"\n")?;
+    let words = "slack files v d c k";
+    let (status, taken) = answered(alloc, words, &netlist, "(DELAYFILE)", &clock)?;
+    assert_eq!(rt; status, Status::Done, "{expr}");
+    assert_eq!(rt; taken.as_slice(), answer.as_bytes(), "{expr}");
     Ok(())
 }
 
@@ -195,28 +223,8 @@ fn too_many_bits_and_too_large_numbers(rt: HostRuntime) -> Result<(), Fail> {
 #[test]
 fn pairs_follow_the_order_of_bits(rt: HostRuntime) -> Result<(), Fail> {
     let alloc = rt.alloc();
-    let clock = format!(in alloc; "{CLOCK}[[input]]\nport = \"x\"\nphase = \"p\"\n")?;
-    let cases = [
-        ("x", "cycle 10/1\nslack x[1] p.b 10\nslack x[0] p.a 10\n"),
-        (
-            "{x[1], x[0]}",
-            "cycle 10/1\nslack x[1] p.a 10\nslack x[0] p.b 10\n",
-        ),
-    ];
-    for (expr, answer) in &cases {
-        let netlist = format!(in alloc;
-            "module t(c, x); input c; input [0:1] x; pair p (.c(c), .i({expr})); endmodule module pair(c, i); input c; input [1:0] i; LAT a (.D(i[1]), .G(c)); LAT b (.D(i[0]), .G(c)); endmodule"
-        )?;
-        let words = "slack files v d c k";
-        let (status, taken) = answered(
-            alloc,
-            words,
-            netlist.as_str(),
-            "(DELAYFILE)",
-            clock.as_str(),
-        )?;
-        assert_eq!(rt; status, Status::Done, "{expr}");
-        assert_eq!(rt; taken.as_slice(), answer.as_bytes(), "{expr}");
-    }
-    Ok(())
+    let plain = "cycle 10/1\nslack x[1] p.b 10\nslack x[0] p.a 10\n";
+    has_slacks(&rt, alloc, "x", plain)?;
+    let turned = "cycle 10/1\nslack x[1] p.a 10\nslack x[0] p.b 10\n";
+    has_slacks(&rt, alloc, "{x[1], x[0]}", turned)
 }

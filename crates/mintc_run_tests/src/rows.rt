@@ -19,7 +19,7 @@ pub struct Row {
     pub ends: &'static [&'static str],
 }
 
-pub const ROWS: [Row; 39] = [
+pub const ROWS: &[Row] = &[
     Row {
         name: "check-two-latch-loop",
         words: "check table TAB1 SCH1",
@@ -346,7 +346,7 @@ pub const ROWS: [Row; 39] = [
 ];
 
 /// Rows of `safe` and `slack`, and words that are no command, over files of their own.
-pub const FURTHER: [Row; 9] = [
+pub const FURTHER: &[Row] = &[
     Row {
         name: "safe-half-step",
         words: "safe table half-hold.table",
@@ -421,7 +421,7 @@ pub const FURTHER: [Row; 9] = [
 ];
 
 /// Rows over the worked files.
-pub const OVER_FILES: [Row; 6] = [
+pub const OVER_FILES: &[Row] = &[
     Row {
         name: "optimise-liberty",
         words: "optimise liberty two.v two.sdf two.lib two.clock",
@@ -476,7 +476,7 @@ pub const OVER_FILES: [Row; 6] = [
 ];
 
 /// Rows over the libraries.
-pub const OVER_LIBRARIES: [Row; 3] = [
+pub const OVER_LIBRARIES: &[Row] = &[
     Row {
         name: "liberty-define",
         words: "optimise liberty two.v two.sdf define.lib two.clock",
@@ -504,7 +504,7 @@ pub const OVER_LIBRARIES: [Row; 3] = [
 ];
 
 /// Rows over the files on corners.
-pub const OVER_CORNERS: [Row; 13] = [
+pub const OVER_CORNERS: &[Row] = &[
     Row {
         name: "corners-two-files",
         words: "corners pair.v pair.cells pair.clock first.sdf second.sdf",

@@ -1,33 +1,33 @@
 //! Runs on the sample, and on the worked files cut.
 use super::files::{TWO_CELLS, TWO_CLOCK, TWO_SDF, TWO_V};
-use super::harness::{hold, run_over, shelf_of, sound_shelf};
-use mintc_command::Status;
+use super::harness::{hold, run_over, shelf_of, sound_shelf, succeeds};
 use mintc_sample::SampleFiles;
 use mintc_text::MemoryShelf;
 use std::alloc::Global;
+use std::process::Abort;
 use std::test::Fail;
+
+/// The sample of these words has this summary.
+fn has_summary(rt: &impl Abort, alloc: Global, words: &str, summary: &str) -> Result<(), Fail> {
+    let mut shelf = shelf_of(alloc, &[], &[])?;
+    succeeds(rt, alloc, &mut shelf, words, summary.as_bytes())
+}
 
 // Rows sample-seven and sample-zero.
 #[test]
 fn samples_have_their_summaries(rt: HostRuntime) -> Result<(), Fail> {
-    let alloc = rt.alloc();
-    let cases = [
-        (
-            "sample 7",
-            "sample 7\nphases 2\nelements 2000\ninner 16002\narcs 20000\npairs 4000\ncycle 2041013/1\n",
-        ),
-        (
-            "sample 0",
-            "sample 0\nphases 2\nelements 2000\ninner 16002\narcs 20000\npairs 4000\ncycle 2040999/1\n",
-        ),
-    ];
-    for (words, summary) in cases {
-        let mut shelf = shelf_of(alloc, &[], &[])?;
-        let (status, taken) = run_over(alloc, &mut shelf, words, None)?;
-        assert_eq!(rt; status, Status::Done, "{words}");
-        assert_eq!(rt; taken.as_slice(), summary.as_bytes(), "{words}");
-    }
-    Ok(())
+    has_summary(
+        &rt,
+        rt.alloc(),
+        "sample 7",
+        "sample 7\nphases 2\nelements 2000\ninner 16002\narcs 20000\npairs 4000\ncycle 2041013/1\n",
+    )?;
+    has_summary(
+        &rt,
+        rt.alloc(),
+        "sample 0",
+        "sample 0\nphases 2\nelements 2000\ninner 16002\narcs 20000\npairs 4000\ncycle 2040999/1\n",
+    )
 }
 
 /// The files of a sample, and a certificate beside them.
@@ -53,15 +53,13 @@ fn the_optimum_of_a_sample_is_valid(rt: HostRuntime) -> Result<(), Fail> {
     let mut shelf = sample_shelf(alloc, &sample, b"")?;
     let (_, found) = run_over(alloc, &mut shelf, "optimise files v d c k", None)?;
     let mut both = sample_shelf(alloc, &sample, found.as_slice())?;
-    let (status, verdict) = run_over(alloc, &mut both, "verify files v d c k x", None)?;
-    assert_eq!(rt; status, Status::Done);
-    assert_eq!(rt; verdict.as_slice(), b"valid\n".as_slice());
-    Ok(())
+    let words = "verify files v d c k x";
+    succeeds(&rt, alloc, &mut both, words, b"valid\n")
 }
 
 /// The worked files, and how the answer begins where one of them is cut: delays are out of form until they are whole, and of the
 /// others a front may be in form, so that something later is refused.
-const WORKED: [(&str, &str, &str); 4] = [
+const WORKED: &[(&str, &str, &str)] = &[
     ("two.v", TWO_V, "refused "),
     ("two.sdf", TWO_SDF, "refused 1 delays "),
     ("two.cells", TWO_CELLS, "refused "),
@@ -71,7 +69,7 @@ const WORKED: [(&str, &str, &str); 4] = [
 /// What `optimise` answers on the worked files, the one of this name cut to so many bytes.
 fn cut_answer(alloc: Global, cut: &str, length: usize) -> Result<Vec<u8>, Fail> {
     let mut held = Vec::new(alloc);
-    for (name, text, _) in &WORKED {
+    for (name, text, _) in WORKED {
         let bytes = text.as_bytes();
         let kept = if *name == cut {
             length.min(bytes.len())
@@ -91,7 +89,7 @@ fn cut_answer(alloc: Global, cut: &str, length: usize) -> Result<Vec<u8>, Fail> 
 fn files_cut_at_each_byte(rt: HostRuntime) -> Result<(), Fail> {
     let alloc = rt.alloc();
     let whole = cut_answer(alloc, "", 0)?;
-    for (name, text, refusal) in &WORKED {
+    for (name, text, refusal) in WORKED {
         for length in 0..text.len() {
             let taken = cut_answer(alloc, name, length)?;
             let answer = taken.as_slice();

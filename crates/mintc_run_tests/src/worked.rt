@@ -1,9 +1,10 @@
 //! The worked rows.
-use super::files::{CERTIFICATES, CORNER_FILES, FILES, FURTHER_FILES, LIBRARIES};
-use super::harness::{run_over, shelf_of};
+use super::files::{CERTIFICATES, CORNER_FILES, FILES, FURTHER_FILES, LIBRARIES, TAB1};
+use super::harness::{hold, is_answered, run_over, shelf_of, sound_shelf, succeeds};
 use super::rows::{FURTHER, OVER_CORNERS, OVER_FILES, OVER_LIBRARIES, ROWS, Row};
 use mintc_command::Status;
 use std::alloc::Global;
+use std::process::Abort;
 use std::test::Fail;
 
 /// Whether the text is one that may come of the row.
@@ -14,128 +15,125 @@ fn is_of_row(row: &Row, text: &[u8]) -> bool {
     }
 }
 
-#[test]
-fn worked_rows(rt: HostRuntime) -> Result<(), Fail> {
-    let alloc = rt.alloc();
-    for row in &ROWS {
-        let mut shelf = shelf_of(alloc, &FILES, &[])?;
-        let (status, taken) = run_over(alloc, &mut shelf, row.words, None)?;
-        assert_eq!(rt; status, row.status, "{} {}", row.name, row.words);
-        assert!(rt;
-            is_of_row(row, taken.as_slice()),
-            "{} {}",
-            row.name,
-            row.words
-        );
+/// A run of the row over these files ends as it may.
+fn row_is_answered(
+    rt: &impl Abort,
+    alloc: Global,
+    files: &[(&str, &str)],
+    row: &Row,
+) -> Result<(), Fail> {
+    let mut shelf = shelf_of(alloc, files, &[])?;
+    let (status, taken) = run_over(alloc, &mut shelf, row.words, None)?;
+    assert_eq!(rt; status, row.status, "{} {}", row.name, row.words);
+    assert!(rt;
+        is_of_row(row, taken.as_slice()),
+        "{} {}",
+        row.name,
+        row.words
+    );
+    Ok(())
+}
+
+/// Each row over these files ends as it may.
+fn rows_are_answered(
+    rt: &impl Abort,
+    alloc: Global,
+    files: &[(&str, &str)],
+    rows: &[Row],
+) -> Result<(), Fail> {
+    for row in rows {
+        row_is_answered(rt, alloc, files, row)?;
     }
     Ok(())
+}
+
+#[test]
+fn worked_rows(rt: HostRuntime) -> Result<(), Fail> {
+    rows_are_answered(&rt, rt.alloc(), FILES, ROWS)
 }
 
 #[test]
 fn further_rows(rt: HostRuntime) -> Result<(), Fail> {
-    let alloc = rt.alloc();
-    for row in &FURTHER {
-        let mut shelf = shelf_of(alloc, &FURTHER_FILES, &[])?;
-        let (status, taken) = run_over(alloc, &mut shelf, row.words, None)?;
-        assert_eq!(rt; status, row.status, "{} {}", row.name, row.words);
-        assert!(rt;
-            is_of_row(row, taken.as_slice()),
-            "{} {}",
-            row.name,
-            row.words
-        );
-    }
-    Ok(())
+    rows_are_answered(&rt, rt.alloc(), FURTHER_FILES, FURTHER)
 }
 
 #[test]
 fn rows_over_libraries(rt: HostRuntime) -> Result<(), Fail> {
-    let alloc = rt.alloc();
-    for row in &OVER_LIBRARIES {
-        let mut shelf = shelf_of(alloc, &LIBRARIES, &[])?;
-        let (status, taken) = run_over(alloc, &mut shelf, row.words, None)?;
-        assert_eq!(rt; status, row.status, "{} {}", row.name, row.words);
-        assert!(rt;
-            is_of_row(row, taken.as_slice()),
-            "{} {}",
-            row.name,
-            row.words
-        );
-    }
-    Ok(())
+    rows_are_answered(&rt, rt.alloc(), LIBRARIES, OVER_LIBRARIES)
 }
 
 #[test]
 fn rows_over_corners(rt: HostRuntime) -> Result<(), Fail> {
-    let alloc = rt.alloc();
-    for row in &OVER_CORNERS {
-        let mut shelf = shelf_of(alloc, &CORNER_FILES, &[])?;
-        let (status, taken) = run_over(alloc, &mut shelf, row.words, None)?;
-        assert_eq!(rt; status, row.status, "{} {}", row.name, row.words);
-        assert!(rt;
-            is_of_row(row, taken.as_slice()),
-            "{} {}",
-            row.name,
-            row.words
-        );
-    }
-    Ok(())
+    rows_are_answered(&rt, rt.alloc(), CORNER_FILES, OVER_CORNERS)
 }
 
 #[test]
 fn rows_over_files(rt: HostRuntime) -> Result<(), Fail> {
-    let alloc = rt.alloc();
-    for row in &OVER_FILES {
-        let mut shelf = shelf_of(alloc, &FILES, &[])?;
-        let (status, taken) = run_over(alloc, &mut shelf, row.words, None)?;
-        assert_eq!(rt; status, row.status, "{} {}", row.name, row.words);
-        assert!(rt;
-            is_of_row(row, taken.as_slice()),
-            "{} {}",
-            row.name,
-            row.words
-        );
+    rows_are_answered(&rt, rt.alloc(), FILES, OVER_FILES)
+}
+
+/// The status with which `verify` gives this answer.
+fn status_of(answer: &[u8]) -> Status {
+    if answer.starts_with(b"v") {
+        Status::Done
+    } else if answer.starts_with(b"i") {
+        Status::Found
+    } else {
+        Status::Refused
     }
-    Ok(())
+}
+
+/// A certificate of the first table, in this version, is judged so.
+fn is_judged(
+    rt: &impl Abort,
+    alloc: Global,
+    version: u32,
+    rest: &str,
+    answer: &[u8],
+) -> Result<(), Fail> {
+    let text = format!(in alloc; "certificate {version}\n{rest}")?;
+    let files = [("TAB1", TAB1), ("judged", text.as_str())];
+    let mut shelf = shelf_of(alloc, &files, &[])?;
+    let words = "verify table TAB1 judged";
+    let wanted = (status_of(answer), answer);
+    is_answered(rt, alloc, &mut shelf, words, None, wanted)
 }
 
 // The rows on certificates, in both versions.
 #[test]
 fn certificates_of_both_versions(rt: HostRuntime) -> Result<(), Fail> {
-    let alloc = rt.alloc();
-    for (name, rest, answer) in &CERTIFICATES {
-        for version in 1..3 {
-            let text = format!(in alloc; "certificate {version}\n{rest}")?;
-            let files = [("TAB1", FILES[0].1), ("judged", text.as_str())];
-            let mut shelf = shelf_of(alloc, &files, &[])?;
-            let (status, taken) = run_over(alloc, &mut shelf, "verify table TAB1 judged", None)?;
-            let wanted = match answer.as_bytes() {
-                [b'v', ..] => Status::Done,
-                [b'i', ..] => Status::Found,
-                _ => Status::Refused,
-            };
-            assert_eq!(rt; status, wanted, "{name}");
-            assert_eq!(rt; taken.as_slice(), answer.as_bytes(), "{name}");
-        }
+    for (_, rest, answer) in CERTIFICATES {
+        is_judged(&rt, rt.alloc(), 1, rest, answer.as_bytes())?;
+        is_judged(&rt, rt.alloc(), 2, rest, answer.as_bytes())?;
     }
     Ok(())
+}
+
+/// A certificate that is found for a table is valid.
+fn is_valid(rt: &impl Abort, alloc: Global, table: &str, found: &[u8]) -> Result<(), Fail> {
+    let mut held = Vec::new(alloc);
+    hold(alloc, &mut held, "a.table", table.as_bytes())?;
+    hold(alloc, &mut held, "found", found)?;
+    let mut shelf = sound_shelf(alloc, held);
+    succeeds(
+        rt,
+        alloc,
+        &mut shelf,
+        "verify table a.table found",
+        b"valid\n",
+    )
 }
 
 // What `optimise` writes is what `verify` calls valid.
 #[test]
 fn optima_are_valid(rt: HostRuntime) -> Result<(), Fail> {
     let alloc = rt.alloc();
-    for (name, text) in &FILES {
+    for (_, text) in FILES {
         let mut shelf = shelf_of(alloc, &[("a.table", *text)], &[])?;
         let (status, taken) = run_over(alloc, &mut shelf, "optimise table a.table", None)?;
-        if status == Status::Refused {
-            continue;
+        if status != Status::Refused {
+            is_valid(&rt, alloc, text, taken.as_slice())?;
         }
-        let certificate = str::from_utf8(taken.as_slice()).map_err(|_| "no text")?;
-        let mut both = shelf_of(alloc, &[("a.table", *text), ("found", certificate)], &[])?;
-        let (judged, verdict) = run_over(alloc, &mut both, "verify table a.table found", None)?;
-        assert_eq!(rt; judged, Status::Done, "{name}");
-        assert_eq!(rt; verdict.as_slice(), b"valid\n".as_slice(), "{name}");
     }
     Ok(())
 }

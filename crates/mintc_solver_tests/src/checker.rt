@@ -4,6 +4,7 @@ use mintc_certificate::read;
 use mintc_checker::{Verdict, examine, examine_flat};
 use mintc_timing::System;
 use std::alloc::Global;
+use std::process::Abort;
 use std::test::Fail;
 
 /// The system of a table.
@@ -43,6 +44,40 @@ fn judged_in_both(alloc: Global, system: &System, text: &str) -> Option<Verdict>
     }
 }
 
+/// A certificate with one text in place of another, and its verdict.
+type Edit = (&'static str, &'static str, Verdict);
+
+/// An edited certificate has its verdict.
+fn is_judged(
+    rt: &impl Abort,
+    alloc: Global,
+    system: &System,
+    certificate: &str,
+    edit: &Edit,
+) -> Result<(), Fail> {
+    let (old, new, verdict) = edit;
+    let text = certificate.replacen(alloc, old, new, 1)?;
+    assert!(rt; judged(alloc, system, &text) == Some(*verdict), "{new}");
+    Ok(())
+}
+
+/// An edited certificate has its verdict in both versions.
+fn is_judged_in_both(
+    rt: &impl Abort,
+    alloc: Global,
+    system: &System,
+    certificate: &str,
+    edit: &Edit,
+) -> Result<(), Fail> {
+    let (old, new, verdict) = edit;
+    let text = certificate.replacen(alloc, old, new, 1)?;
+    assert!(rt;
+        judged_in_both(alloc, system, &text) == Some(*verdict),
+        "{new}"
+    );
+    Ok(())
+}
+
 /// Two latches in a ring.
 const RING: &str =
     "table 1\nphases 2\nphase phi1\nphase phi2\nelements 2\nelement a 1 10 - 10 10 0\nelement b 2 10 - 10 10 0\ninner 0\narcs 2\narc q0 d1 20 20\narc q1 d0 60 60\nbounds 0\nend\n";
@@ -51,56 +86,55 @@ const RING: &str =
 const RING_LEAST: &str =
     "certificate 2\nleast\nden 1\ncycle 100\nphases 2\nphase 0 10\nphase 10 30\ndepartures 2\ndeparture 0\ndeparture 20\nchain 2\nreach 0 1 1 0\nreach 1 0 1 1\nend\n";
 
+/// Edits of that.
+const OF_LATCHES: &[Edit] = &[
+    ("least", "least", Verdict::Valid),
+    (
+        "phase 0 10\nphase 10 30\ndepartures 2\ndeparture 0\n",
+        "phase 0 15\nphase 15 30\ndepartures 2\ndeparture 5\n",
+        Verdict::Valid,
+    ),
+    (
+        "den 1\ncycle 100\nphases 2\nphase 0 10\nphase 10 30\ndepartures 2\ndeparture 0\ndeparture 20\n",
+        "den 3\ncycle 300\nphases 2\nphase 0 30\nphase 30 90\ndepartures 2\ndeparture 0\ndeparture 60\n",
+        Verdict::Valid,
+    ),
+    (
+        "departures 2\ndeparture 0\ndeparture 20\n",
+        "departures 1\ndeparture 0\n",
+        Verdict::Invalid(1),
+    ),
+    ("phases 2\nphase 0 10\n", "phases 1\n", Verdict::Invalid(1)),
+    ("phase 10 30", "phase 5 30", Verdict::Invalid(2)),
+    ("phase 10 30", "phase 10 101", Verdict::Invalid(2)),
+    ("departure 20", "departure 21", Verdict::Invalid(4)),
+    ("departure 20", "departure 19", Verdict::Invalid(4)),
+    ("phase 10 30", "phase 10 29", Verdict::Invalid(5)),
+    (
+        "chain 2\nreach 0 1 1 0\nreach 1 0 1 1\n",
+        "chain 1\nreach 0 1 1 0\n",
+        Verdict::Invalid(6),
+    ),
+    ("reach 0 1 1 0", "reach 0 1 1 1", Verdict::Invalid(6)),
+    (
+        "reach 0 1 1 0\nreach 1 0 1 1",
+        "apart 1 1\ncycle 1",
+        Verdict::Invalid(6),
+    ),
+    ("cycle 100", "cycle 101", Verdict::Invalid(7)),
+    (
+        "reach 0 1 1 0\nreach 1 0 1 1",
+        "start 1\ncycle 1",
+        Verdict::Invalid(7),
+    ),
+];
+
 #[test]
 fn latches_are_judged(rt: HostRuntime) -> Result<(), Fail> {
     let alloc = rt.alloc();
     let system = system_of(alloc, RING).ok_or("no system")?;
-    for (old, new, verdict) in [
-        ("least", "least", Verdict::Valid),
-        (
-            "phase 0 10\nphase 10 30\ndepartures 2\ndeparture 0\n",
-            "phase 0 15\nphase 15 30\ndepartures 2\ndeparture 5\n",
-            Verdict::Valid,
-        ),
-        (
-            "den 1\ncycle 100\nphases 2\nphase 0 10\nphase 10 30\ndepartures 2\ndeparture 0\ndeparture 20\n",
-            "den 3\ncycle 300\nphases 2\nphase 0 30\nphase 30 90\ndepartures 2\ndeparture 0\ndeparture 60\n",
-            Verdict::Valid,
-        ),
-        (
-            "departures 2\ndeparture 0\ndeparture 20\n",
-            "departures 1\ndeparture 0\n",
-            Verdict::Invalid(1),
-        ),
-        ("phases 2\nphase 0 10\n", "phases 1\n", Verdict::Invalid(1)),
-        ("phase 10 30", "phase 5 30", Verdict::Invalid(2)),
-        ("phase 10 30", "phase 10 101", Verdict::Invalid(2)),
-        ("departure 20", "departure 21", Verdict::Invalid(4)),
-        ("departure 20", "departure 19", Verdict::Invalid(4)),
-        ("phase 10 30", "phase 10 29", Verdict::Invalid(5)),
-        (
-            "chain 2\nreach 0 1 1 0\nreach 1 0 1 1\n",
-            "chain 1\nreach 0 1 1 0\n",
-            Verdict::Invalid(6),
-        ),
-        ("reach 0 1 1 0", "reach 0 1 1 1", Verdict::Invalid(6)),
-        (
-            "reach 0 1 1 0\nreach 1 0 1 1",
-            "apart 1 1\ncycle 1",
-            Verdict::Invalid(6),
-        ),
-        ("cycle 100", "cycle 101", Verdict::Invalid(7)),
-        (
-            "reach 0 1 1 0\nreach 1 0 1 1",
-            "start 1\ncycle 1",
-            Verdict::Invalid(7),
-        ),
-    ] {
-        let text = RING_LEAST.replacen(alloc, old, new, 1)?;
-        assert!(rt;
-            judged_in_both(alloc, &system, &text) == Some(verdict),
-            "{new}"
-        );
+    for edit in OF_LATCHES {
+        is_judged_in_both(&rt, alloc, &system, RING_LEAST, edit)?;
     }
     Ok(())
 }
@@ -113,69 +147,70 @@ const FLOPS: &str =
 const FLOPS_LEAST: &str =
     "certificate 2\nleast\nden 1\ncycle 100\nphases 1\nphase 0 0\ndepartures 2\ndeparture 0\ndeparture 0\nchain 2\nreach 0 1 1 0\nsetup 1\nend\n";
 
+/// Edits of that, which both versions may say.
+const OF_FLOPS: &[Edit] = &[
+    ("least", "least", Verdict::Valid),
+    ("phase 0 0", "phase 100 100", Verdict::Valid),
+    (
+        "departures 2\ndeparture 0\n",
+        "departures 1\n",
+        Verdict::Invalid(1),
+    ),
+    ("phase 0 0", "phase 101 0", Verdict::Invalid(2)),
+    (
+        "departures 2\ndeparture 0\n",
+        "departures 2\ndeparture 5\n",
+        Verdict::Invalid(4),
+    ),
+    ("cycle 100", "cycle 99", Verdict::Invalid(5)),
+    ("reach 0 1 1 0", "reach 0 1 1 1", Verdict::Invalid(6)),
+    ("reach 0 1 1 0", "reach 0 1 2 0 1", Verdict::Invalid(6)),
+    (
+        "reach 0 1 1 0\nsetup 1",
+        "width 1\napart 1 1",
+        Verdict::Invalid(6),
+    ),
+    (
+        "chain 2\nreach 0 1 1 0\nsetup 1\n",
+        "chain 1\nsetup 1\n",
+        Verdict::Invalid(6),
+    ),
+    ("cycle 100", "cycle 101", Verdict::Invalid(7)),
+    (
+        "reach 0 1 1 0\nsetup 1",
+        "reach 1 0 1 1\nsetup 0",
+        Verdict::Invalid(7),
+    ),
+    (
+        "reach 0 1 1 0\nsetup 1",
+        "open 0\nsetup 0",
+        Verdict::Invalid(7),
+    ),
+];
+
+/// Edits of that, which version 2 alone may say.
+const OF_FLOPS_IN_2: &[Edit] = &[
+    (
+        "departures 2\ndeparture 0\n",
+        "departures 2\ndeparture -5\n",
+        Verdict::Invalid(4),
+    ),
+    (
+        "reach 0 1 1 0\nsetup 1",
+        "opened 0\nspan 1",
+        Verdict::Invalid(6),
+    ),
+];
+
 #[test]
 fn flops_are_judged(rt: HostRuntime) -> Result<(), Fail> {
     let alloc = rt.alloc();
     let system = system_of(alloc, FLOPS).ok_or("no system")?;
-    for (old, new, verdict) in [
-        ("least", "least", Verdict::Valid),
-        ("phase 0 0", "phase 100 100", Verdict::Valid),
-        (
-            "departures 2\ndeparture 0\n",
-            "departures 1\n",
-            Verdict::Invalid(1),
-        ),
-        ("phase 0 0", "phase 101 0", Verdict::Invalid(2)),
-        (
-            "departures 2\ndeparture 0\n",
-            "departures 2\ndeparture 5\n",
-            Verdict::Invalid(4),
-        ),
-        ("cycle 100", "cycle 99", Verdict::Invalid(5)),
-        ("reach 0 1 1 0", "reach 0 1 1 1", Verdict::Invalid(6)),
-        ("reach 0 1 1 0", "reach 0 1 2 0 1", Verdict::Invalid(6)),
-        (
-            "reach 0 1 1 0\nsetup 1",
-            "width 1\napart 1 1",
-            Verdict::Invalid(6),
-        ),
-        (
-            "chain 2\nreach 0 1 1 0\nsetup 1\n",
-            "chain 1\nsetup 1\n",
-            Verdict::Invalid(6),
-        ),
-        ("cycle 100", "cycle 101", Verdict::Invalid(7)),
-        (
-            "reach 0 1 1 0\nsetup 1",
-            "reach 1 0 1 1\nsetup 0",
-            Verdict::Invalid(7),
-        ),
-        (
-            "reach 0 1 1 0\nsetup 1",
-            "open 0\nsetup 0",
-            Verdict::Invalid(7),
-        ),
-    ] {
-        let text = FLOPS_LEAST.replacen(alloc, old, new, 1)?;
-        assert!(rt;
-            judged_in_both(alloc, &system, &text) == Some(verdict),
-            "{new}"
-        );
+    for edit in OF_FLOPS {
+        is_judged_in_both(&rt, alloc, &system, FLOPS_LEAST, edit)?;
     }
-    for (old, new, verdict) in [
-        (
-            "departures 2\ndeparture 0\n",
-            "departures 2\ndeparture -5\n",
-            Verdict::Invalid(4),
-        ),
-        (
-            "reach 0 1 1 0\nsetup 1",
-            "opened 0\nspan 1",
-            Verdict::Invalid(6),
-        ),
-    ] {
-        let text = FLOPS_LEAST.replacen(alloc, old, new, 1)?;
-        assert!(rt; judged(alloc, &system, &text) == Some(verdict), "{new}");
+    for edit in OF_FLOPS_IN_2 {
+        is_judged(&rt, alloc, &system, FLOPS_LEAST, edit)?;
     }
     Ok(())
 }
@@ -188,75 +223,82 @@ const ENABLE: &str =
 const ENABLE_LEAST: &str =
     "certificate 2\nleast\nden 1\ncycle 100\nphases 2\nphase 0 10\nphase 10 24\ndepartures 2\ndeparture -6\ndeparture 14\nchain 2\nreach 0 1 1 0\nreach 1 0 1 1\nend\n";
 
+/// Edits of that.
+const OF_ENABLE: &[Edit] = &[
+    ("least", "least", Verdict::Valid),
+    (
+        "departure -6\ndeparture 14\n",
+        "departure -5\ndeparture 15\n",
+        Verdict::Invalid(5),
+    ),
+    (
+        "24\ndepartures 2\ndeparture -6\ndeparture 14\n",
+        "25\ndepartures 2\ndeparture -5\ndeparture 15\n",
+        Verdict::Valid,
+    ),
+    (
+        "departures 2\ndeparture -6\n",
+        "departures 1\n",
+        Verdict::Invalid(1),
+    ),
+    ("phase 10 24", "phase 9 24", Verdict::Invalid(2)),
+    (
+        "departure -6\ndeparture 14\n",
+        "departure -7\ndeparture 13\n",
+        Verdict::Invalid(4),
+    ),
+    ("departure -6", "departure 0", Verdict::Invalid(4)),
+    ("phase 10 24", "phase 10 23", Verdict::Invalid(5)),
+    ("phase 0 10", "phase 0 9", Verdict::Invalid(5)),
+    ("reach 1 0 1 1", "reach 1 0 1 0", Verdict::Invalid(6)),
+    ("chain 2\nreach 0 1 1 0\n", "chain 1\n", Verdict::Invalid(6)),
+    ("cycle 100", "cycle 101", Verdict::Invalid(7)),
+    (
+        "reach 0 1 1 0\nreach 1 0 1 1",
+        "opened 0\nspan 1",
+        Verdict::Invalid(7),
+    ),
+];
+
 #[test]
 fn enable_delays_are_judged(rt: HostRuntime) -> Result<(), Fail> {
     let alloc = rt.alloc();
     let system = system_of(alloc, ENABLE).ok_or("no system")?;
-    for (old, new, verdict) in [
-        ("least", "least", Verdict::Valid),
-        (
-            "departure -6\ndeparture 14\n",
-            "departure -5\ndeparture 15\n",
-            Verdict::Invalid(5),
-        ),
-        (
-            "24\ndepartures 2\ndeparture -6\ndeparture 14\n",
-            "25\ndepartures 2\ndeparture -5\ndeparture 15\n",
-            Verdict::Valid,
-        ),
-        (
-            "departures 2\ndeparture -6\n",
-            "departures 1\n",
-            Verdict::Invalid(1),
-        ),
-        ("phase 10 24", "phase 9 24", Verdict::Invalid(2)),
-        (
-            "departure -6\ndeparture 14\n",
-            "departure -7\ndeparture 13\n",
-            Verdict::Invalid(4),
-        ),
-        ("departure -6", "departure 0", Verdict::Invalid(4)),
-        ("phase 10 24", "phase 10 23", Verdict::Invalid(5)),
-        ("phase 0 10", "phase 0 9", Verdict::Invalid(5)),
-        ("reach 1 0 1 1", "reach 1 0 1 0", Verdict::Invalid(6)),
-        ("chain 2\nreach 0 1 1 0\n", "chain 1\n", Verdict::Invalid(6)),
-        ("cycle 100", "cycle 101", Verdict::Invalid(7)),
-        (
-            "reach 0 1 1 0\nreach 1 0 1 1",
-            "opened 0\nspan 1",
-            Verdict::Invalid(7),
-        ),
-    ] {
-        let text = ENABLE_LEAST.replacen(alloc, old, new, 1)?;
-        assert!(rt; judged(alloc, &system, &text) == Some(verdict), "{new}");
+    for edit in OF_ENABLE {
+        is_judged(&rt, alloc, &system, ENABLE_LEAST, edit)?;
     }
     assert!(rt; judged_in_both(alloc, &system, RING_LEAST) == Some(Verdict::Valid));
     Ok(())
 }
 
+/// The certificate of a table with a bound that it meets, one that is a loop by itself, and one that it breaks.
+fn bound_is_judged(
+    rt: &impl Abort,
+    alloc: Global,
+    table: &str,
+    certificate: &str,
+) -> Result<(), Fail> {
+    let met = table.replacen(alloc, "bounds 0\n", "bounds 1\nbound o o 100 1\n", 1)?;
+    let system = system_of(alloc, &met).ok_or("no system")?;
+    let same = ("least", "least", Verdict::Valid);
+    is_judged(rt, alloc, &system, certificate, &same)?;
+    let round = (
+        "chain 2\nreach 0 1 1 0\n",
+        "chain 2\nbound 0\n",
+        Verdict::Invalid(6),
+    );
+    is_judged(rt, alloc, &system, certificate, &round)?;
+    let broken = table.replacen(alloc, "bounds 0\n", "bounds 1\nbound o o 101 1\n", 1)?;
+    let system = system_of(alloc, &broken).ok_or("no system")?;
+    let same = ("least", "least", Verdict::Invalid(3));
+    is_judged(rt, alloc, &system, certificate, &same)
+}
+
 #[test]
 fn bounds_are_judged(rt: HostRuntime) -> Result<(), Fail> {
-    let alloc = rt.alloc();
-    for (table, certificate) in [
-        (RING, RING_LEAST),
-        (FLOPS, FLOPS_LEAST),
-        (ENABLE, ENABLE_LEAST),
-    ] {
-        let met = table.replacen(alloc, "bounds 0\n", "bounds 1\nbound o o 100 1\n", 1)?;
-        let system = system_of(alloc, &met).ok_or("no system")?;
-        assert!(rt; judged(alloc, &system, certificate) == Some(Verdict::Valid));
-        let round = certificate.replacen(
-            alloc,
-            "chain 2\nreach 0 1 1 0\n",
-            "chain 2\nbound 0\n",
-            1,
-        )?;
-        assert!(rt; judged(alloc, &system, &round) == Some(Verdict::Invalid(6)));
-        let broken = table.replacen(alloc, "bounds 0\n", "bounds 1\nbound o o 101 1\n", 1)?;
-        let system = system_of(alloc, &broken).ok_or("no system")?;
-        assert!(rt; judged(alloc, &system, certificate) == Some(Verdict::Invalid(3)));
-    }
-    Ok(())
+    bound_is_judged(&rt, rt.alloc(), RING, RING_LEAST)?;
+    bound_is_judged(&rt, rt.alloc(), FLOPS, FLOPS_LEAST)?;
+    bound_is_judged(&rt, rt.alloc(), ENABLE, ENABLE_LEAST)
 }
 
 /// One latch that a bound leaves no room.
@@ -266,45 +308,53 @@ const STUCK: &str =
 /// The certificate of that latch.
 const STUCK_NEVER: &str = "certificate 2\nnever\nchain 3\nopen 0\nsetup 0\nbound 0\nend\n";
 
+/// The certificate of that latch is judged so on its edited table.
+fn is_judged_on(rt: &impl Abort, alloc: Global, edit: &Edit) -> Result<(), Fail> {
+    let (old, new, verdict) = edit;
+    let table = STUCK.replacen(alloc, old, new, 1)?;
+    let system = system_of(alloc, &table).ok_or("no system")?;
+    assert!(rt;
+        judged_in_both(alloc, &system, STUCK_NEVER) == Some(*verdict),
+        "{new}"
+    );
+    Ok(())
+}
+
+/// Edits of that.
+const OF_STUCK: &[Edit] = &[
+    ("never", "never", Verdict::Valid),
+    ("bound 0", "bound 1", Verdict::Invalid(6)),
+    ("chain 3\nopen 0\n", "chain 2\n", Verdict::Invalid(6)),
+    ("bound 0", "span 1", Verdict::Invalid(7)),
+];
+
+/// Edits of the table, and the verdict on that certificate.
+const OF_STUCK_TABLE: &[Edit] = &[
+    ("5 5 0\n", "9 9 0\n", Verdict::Valid),
+    ("-9", "-10", Verdict::Invalid(7)),
+    (
+        "5 5 0\ninner 0\narcs 0\nbounds 1\nbound e1 s1 -9",
+        "6 6 0\ninner 0\narcs 0\nbounds 1\nbound e1 s1 -10",
+        Verdict::Valid,
+    ),
+    ("5 5 0\n", "4 4 0\n", Verdict::Invalid(7)),
+];
+
 #[test]
 fn chains_alone_are_judged(rt: HostRuntime) -> Result<(), Fail> {
     let alloc = rt.alloc();
     let system = system_of(alloc, STUCK).ok_or("no system")?;
-    for (old, new, verdict) in [
-        ("never", "never", Verdict::Valid),
-        ("bound 0", "bound 1", Verdict::Invalid(6)),
-        ("chain 3\nopen 0\n", "chain 2\n", Verdict::Invalid(6)),
-        ("bound 0", "span 1", Verdict::Invalid(7)),
-    ] {
-        let text = STUCK_NEVER.replacen(alloc, old, new, 1)?;
-        assert!(rt;
-            judged_in_both(alloc, &system, &text) == Some(verdict),
-            "{new}"
-        );
+    for edit in OF_STUCK {
+        is_judged_in_both(&rt, alloc, &system, STUCK_NEVER, edit)?;
     }
-    let opened = STUCK_NEVER.replacen(
-        alloc,
+    let opened = (
         "chain 3\nopen 0\nsetup 0\n",
         "chain 2\nopened 0\n",
-        1,
-    )?;
-    assert!(rt; judged(alloc, &system, &opened) == Some(Verdict::Valid));
-    for (old, new, verdict) in [
-        ("5 5 0\n", "9 9 0\n", Verdict::Valid),
-        ("-9", "-10", Verdict::Invalid(7)),
-        (
-            "5 5 0\ninner 0\narcs 0\nbounds 1\nbound e1 s1 -9",
-            "6 6 0\ninner 0\narcs 0\nbounds 1\nbound e1 s1 -10",
-            Verdict::Valid,
-        ),
-        ("5 5 0\n", "4 4 0\n", Verdict::Invalid(7)),
-    ] {
-        let table = STUCK.replacen(alloc, old, new, 1)?;
-        let system = system_of(alloc, &table).ok_or("no system")?;
-        assert!(rt;
-            judged_in_both(alloc, &system, STUCK_NEVER) == Some(verdict),
-            "{new}"
-        );
+        Verdict::Valid,
+    );
+    is_judged(&rt, alloc, &system, STUCK_NEVER, &opened)?;
+    for edit in OF_STUCK_TABLE {
+        is_judged_on(&rt, alloc, edit)?;
     }
     Ok(())
 }

@@ -60,38 +60,45 @@ fn has_joins(hierarchy: &Hierarchy, wanted: &[(u32, u32)]) -> bool {
             .all(|(join, ends)| join.from == ends.0 && join.to == ends.1)
 }
 
+/// The joins of the worked netlist.
+const WORKED_JOINS: &[(u32, u32)] = &[
+    (3, 2),
+    (0, 5),
+    (3, 6),
+    (7, 4),
+    (6, 9),
+    (5, 10),
+    (11, 8),
+    (8, 12),
+    (14, 7),
+    (12, 15),
+    (16, 14),
+    (1, 17),
+    (4, 18),
+    (19, 3),
+    (18, 21),
+    (17, 22),
+    (23, 20),
+    (20, 24),
+    (26, 19),
+    (24, 27),
+    (28, 26),
+];
+
+/// Whether a hierarchy has so many scopes, leaves and inner bits.
+fn has_counts(hierarchy: &Hierarchy, scopes: usize, leaves: usize, inner: usize) -> bool {
+    hierarchy.scopes.items().len() == scopes
+        && hierarchy.leaves.items().len() == leaves
+        && hierarchy.inner.items().len() == inner
+}
+
 // Row worked-netlist-bits.
 #[test]
 fn worked_netlist(rt: HostRuntime) -> Result<(), Fail> {
-    let wanted = [
-        (3, 2),
-        (0, 5),
-        (3, 6),
-        (7, 4),
-        (6, 9),
-        (5, 10),
-        (11, 8),
-        (8, 12),
-        (14, 7),
-        (12, 15),
-        (16, 14),
-        (1, 17),
-        (4, 18),
-        (19, 3),
-        (18, 21),
-        (17, 22),
-        (23, 20),
-        (20, 24),
-        (26, 19),
-        (24, 27),
-        (28, 26),
-    ];
     match flattened(&rt, rt.alloc(), NETLIST) {
         Ok(hierarchy) => {
-            assert_eq!(rt; hierarchy.scopes.items().len(), 5);
-            assert_eq!(rt; hierarchy.leaves.items().len(), 4);
-            assert_eq!(rt; hierarchy.inner.items().len(), 29);
-            assert!(rt; has_joins(&hierarchy, &wanted));
+            assert!(rt; has_counts(&hierarchy, 5, 4, 29));
+            assert!(rt; has_joins(&hierarchy, WORKED_JOINS));
         }
         Err(_) => panic!(rt; "no hierarchy"),
     }
@@ -138,23 +145,33 @@ fn arc(flat: &Flat, number: usize) -> Option<(i64, i64)> {
     flat.arcs().get(number).map(|arc| (arc.min, arc.max))
 }
 
-// Rows worked-files-design and two-entries-one-arc.
+/// Whether a design has so many elements, inner bits and arcs.
+fn has_sizes(flat: &Flat, elements: usize, inner: usize, arcs: usize) -> bool {
+    flat.elements().len() == elements
+        && flat.inner().items().len() == inner
+        && flat.arcs().len() == arcs
+}
+
+// Row worked-files-design.
 #[test]
 fn worked_files(rt: HostRuntime) -> Result<(), Fail> {
-    let alloc = rt.alloc();
-    match designed(&rt, alloc, NETLIST, DELAYS, CLOCK) {
+    match designed(&rt, rt.alloc(), NETLIST, DELAYS, CLOCK) {
         Ok(flat) => {
-            assert_eq!(rt; flat.elements().len(), 2);
-            assert_eq!(rt; flat.inner().items().len(), 29);
-            assert_eq!(rt; flat.arcs().len(), 27);
+            assert!(rt; has_sizes(&flat, 2, 29, 27));
             assert_eq!(rt; arc(&flat, 23), Some((20, 20)));
             assert_eq!(rt; arc(&flat, 26), Some((50, 60)));
         }
         Err(_) => panic!(rt; "no design"),
     }
+    Ok(())
+}
+
+// Row two-entries-one-arc.
+#[test]
+fn two_entries_of_one_arc(rt: HostRuntime) -> Result<(), Fail> {
     let twice =
         "(DELAYFILE (DIVIDER /) (TIMESCALE 1 fs)\n(CELL (CELLTYPE \"BUF\") (INSTANCE u1/s/b) (DELAY (ABSOLUTE (IOPATH A Y (5)))))\n(CELL (CELLTYPE \"BUF\") (INSTANCE u1/s/b) (DELAY (ABSOLUTE (IOPATH A Y (3))))))\n";
-    match designed(&rt, alloc, NETLIST, twice, CLOCK) {
+    match designed(&rt, rt.alloc(), NETLIST, twice, CLOCK) {
         Ok(flat) => assert_eq!(rt; arc(&flat, 23), Some((3, 5))),
         Err(_) => panic!(rt; "no design"),
     }

@@ -48,95 +48,102 @@ struct Case {
     loops: &'static [&'static [u32]],
 }
 
+const CASES: &[Case] = &[
+    Case {
+        name: "no arcs",
+        arcs: &[],
+        before: &[],
+        loops: &[],
+    },
+    Case {
+        name: "a chain, the last arc first",
+        arcs: &[(3, 4), (2, 3), (1, 2), (0, 1)],
+        before: &[(3, 2), (2, 1), (1, 0)],
+        loops: &[],
+    },
+    Case {
+        name: "a chain, the first arc first",
+        arcs: &[(0, 1), (1, 2), (2, 3), (3, 4)],
+        before: &[(0, 1), (1, 2), (2, 3)],
+        loops: &[],
+    },
+    Case {
+        name: "a chain of bits that descend",
+        arcs: &[(1, 0), (4, 3), (2, 1), (3, 2)],
+        before: &[(1, 3), (3, 2), (2, 0)],
+        loops: &[],
+    },
+    Case {
+        name: "a diamond",
+        arcs: &[(1, 3), (0, 2), (2, 3), (0, 1), (3, 4)],
+        before: &[(3, 0), (1, 2), (0, 4), (2, 4)],
+        loops: &[],
+    },
+    Case {
+        name: "two arcs from one bit to the same other",
+        arcs: &[(1, 2), (0, 1), (0, 1)],
+        before: &[(1, 0), (2, 0)],
+        loops: &[],
+    },
+    Case {
+        name: "a self loop",
+        arcs: &[(0, 1), (1, 1), (1, 2)],
+        before: &[],
+        loops: &[&[1]],
+    },
+    Case {
+        name: "a closed list of two arcs",
+        arcs: &[(0, 1), (1, 0)],
+        before: &[],
+        loops: &[&[0, 1], &[1, 0]],
+    },
+    Case {
+        name: "two loops, with arcs to, from and between them",
+        arcs: &[(0, 1), (1, 2), (2, 1), (2, 3), (3, 4), (4, 3), (4, 0)],
+        before: &[],
+        loops: &[&[1, 2], &[2, 1], &[4, 5], &[5, 4], &[0, 1, 3, 4, 6]],
+    },
+    Case {
+        name: "a loop beside a bit that arcs leave and enter",
+        arcs: &[(0, 1), (1, 2), (2, 3), (3, 1), (0, 3), (2, 4)],
+        before: &[],
+        loops: &[&[1, 2, 3], &[2, 3, 1], &[3, 1, 2]],
+    },
+];
+
+/// An order of a case's arcs has each arc, and those of `before` in their order.
+fn is_ordered(rt: &impl Abort, case: &Case, numbers: &[u32]) {
+    assert!(rt; case.loops.is_empty(), "{}", case.name);
+    assert_eq!(rt; numbers.len(), case.arcs.len(), "{}", case.name);
+    for &(first, second) in case.before {
+        assert!(rt;
+            place(numbers, first) < place(numbers, second),
+            "{}",
+            case.name
+        );
+    }
+}
+
+/// The arcs are one of a case's loops.
+fn is_loop(rt: &impl Abort, case: &Case, arcs: &[u32]) {
+    assert!(rt; case.loops.iter().any(|l| *l == arcs), "{}", case.name);
+}
+
+/// A case is answered as it says.
+fn is_answered(rt: &impl Abort, alloc: Global, case: &Case) -> Result<(), Fail> {
+    let text = table(alloc, 5, case.arcs)?;
+    match answer(rt, alloc, &text) {
+        Ok(order) => is_ordered(rt, case, order.arcs().items()),
+        Err(Stop::Refused(Refusal::CombinationalLoop { arcs })) => is_loop(rt, case, arcs.items()),
+        Err(_) => panic!(rt; "{}", case.name),
+    }
+    Ok(())
+}
+
 #[test]
 fn small_designs(rt: HostRuntime) -> Result<(), Fail> {
-    let cases = [
-        Case {
-            name: "no arcs",
-            arcs: &[],
-            before: &[],
-            loops: &[],
-        },
-        Case {
-            name: "a chain, the last arc first",
-            arcs: &[(3, 4), (2, 3), (1, 2), (0, 1)],
-            before: &[(3, 2), (2, 1), (1, 0)],
-            loops: &[],
-        },
-        Case {
-            name: "a chain, the first arc first",
-            arcs: &[(0, 1), (1, 2), (2, 3), (3, 4)],
-            before: &[(0, 1), (1, 2), (2, 3)],
-            loops: &[],
-        },
-        Case {
-            name: "a chain of bits that descend",
-            arcs: &[(1, 0), (4, 3), (2, 1), (3, 2)],
-            before: &[(1, 3), (3, 2), (2, 0)],
-            loops: &[],
-        },
-        Case {
-            name: "a diamond",
-            arcs: &[(1, 3), (0, 2), (2, 3), (0, 1), (3, 4)],
-            before: &[(3, 0), (1, 2), (0, 4), (2, 4)],
-            loops: &[],
-        },
-        Case {
-            name: "two arcs from one bit to the same other",
-            arcs: &[(1, 2), (0, 1), (0, 1)],
-            before: &[(1, 0), (2, 0)],
-            loops: &[],
-        },
-        Case {
-            name: "a self loop",
-            arcs: &[(0, 1), (1, 1), (1, 2)],
-            before: &[],
-            loops: &[&[1]],
-        },
-        Case {
-            name: "a closed list of two arcs",
-            arcs: &[(0, 1), (1, 0)],
-            before: &[],
-            loops: &[&[0, 1], &[1, 0]],
-        },
-        Case {
-            name: "two loops, with arcs to, from and between them",
-            arcs: &[(0, 1), (1, 2), (2, 1), (2, 3), (3, 4), (4, 3), (4, 0)],
-            before: &[],
-            loops: &[&[1, 2], &[2, 1], &[4, 5], &[5, 4], &[0, 1, 3, 4, 6]],
-        },
-        Case {
-            name: "a loop beside a bit that arcs leave and enter",
-            arcs: &[(0, 1), (1, 2), (2, 3), (3, 1), (0, 3), (2, 4)],
-            before: &[],
-            loops: &[&[1, 2, 3], &[2, 3, 1], &[3, 1, 2]],
-        },
-    ];
-    let alloc = rt.alloc();
-    for case in &cases {
-        let text = table(alloc, 5, case.arcs)?;
-        match answer(&rt, alloc, &text) {
-            Ok(order) => {
-                let numbers = order.arcs().items();
-                assert!(rt; case.loops.is_empty(), "{}", case.name);
-                assert_eq!(rt; numbers.len(), case.arcs.len(), "{}", case.name);
-                for &(first, second) in case.before {
-                    assert!(rt;
-                        place(numbers, first) < place(numbers, second),
-                        "{}",
-                        case.name
-                    );
-                }
-            }
-            Err(Stop::Refused(Refusal::CombinationalLoop { arcs })) => {
-                assert!(rt;
-                    case.loops.iter().any(|l| *l == arcs.items()),
-                    "{}",
-                    case.name
-                );
-            }
-            Err(_) => panic!(rt; "{}", case.name),
-        }
+    for case in CASES {
+        is_answered(&rt, rt.alloc(), case)?;
     }
     Ok(())
 }
@@ -154,6 +161,32 @@ fn an_inner_bit_between_latches(rt: HostRuntime) -> Result<(), Fail> {
     Ok(())
 }
 
+/// The order of these arcs is from the last to the first.
+fn is_turned(rt: &impl Abort, alloc: Global, bits: u32, arcs: &[(u32, u32)]) -> Result<(), Fail> {
+    let text = table(alloc, bits, arcs)?;
+    match answer(rt, alloc, &text) {
+        Ok(order) => {
+            let numbers = order.arcs().items();
+            assert_eq!(rt; numbers.len(), arcs.len());
+            assert!(rt; numbers.is_sorted_by(|a, b| a > b));
+        }
+        Err(_) => panic!(rt; "an order is there"),
+    }
+    Ok(())
+}
+
+/// All these arcs are a loop.
+fn is_closed(rt: &impl Abort, alloc: Global, bits: u32, arcs: &[(u32, u32)]) -> Result<(), Fail> {
+    let text = table(alloc, bits, arcs)?;
+    match answer(rt, alloc, &text) {
+        Err(Stop::Refused(Refusal::CombinationalLoop { arcs: closed })) => {
+            assert_eq!(rt; closed.items().len(), arcs.len());
+        }
+        _ => panic!(rt; "a loop is there"),
+    }
+    Ok(())
+}
+
 // Each arc's end is left by the arc before it in the table, so that all arcs wait on the path at once.
 #[test]
 fn a_long_chain(rt: HostRuntime) -> Result<(), Fail> {
@@ -163,22 +196,7 @@ fn a_long_chain(rt: HostRuntime) -> Result<(), Fail> {
     for from in (1..bits).rev() {
         arcs.push((from - 1, from))?;
     }
-    let text = table(alloc, bits, &arcs)?;
-    match answer(&rt, alloc, &text) {
-        Ok(order) => {
-            let numbers = order.arcs().items();
-            assert_eq!(rt; numbers.len(), arcs.len());
-            assert!(rt; numbers.is_sorted_by(|a, b| a > b));
-        }
-        Err(_) => panic!(rt; "an order is there"),
-    }
+    is_turned(&rt, alloc, bits, &arcs)?;
     arcs.push((bits - 1, 0))?;
-    let text = table(alloc, bits, &arcs)?;
-    match answer(&rt, alloc, &text) {
-        Err(Stop::Refused(Refusal::CombinationalLoop { arcs: closed })) => {
-            assert_eq!(rt; closed.items().len(), arcs.len());
-        }
-        _ => panic!(rt; "a loop is there"),
-    }
-    Ok(())
+    is_closed(&rt, alloc, bits, &arcs)
 }
