@@ -1,10 +1,10 @@
-use Rattle.std.proofs.Common.{◌≡◌, ℕ, ℤ, pos, negsuc, neg_ℤ, ◌<◌, ◌≤◌, ◌^◌, List, ◌∷◌, length, get_or, take, length-take, refl, ap, ◌∙◌, sym, subst, arith, zero, suc, decimal}
+use Rattle.std.proofs.Common.{◌≡◌, ℕ, ℤ, pos, negsuc, neg_ℤ, ◌≤ℤ◌, ◌<◌, ◌≤◌, ◌^◌, List, ◌∷◌, length, get_or, take, length-take, refl, ap, ◌∙◌, sym, subst, arith, zero, suc, decimal}
 use Rattle.std.proofs.lemmas.Int.{ints}
 use Rattle.std.proofs.lemmas.Int.Digits.{digits_value-lt}
 use Rattle.std.proofs.lemmas.Fmt.{digits_decimal, decimal_digit, decimal_nonempty, first_decimal, length-decimal-le, decimal-digits_value, decimal_injective}
 use Rattle.std.proofs.lemmas.Str.Parse.{IsNumeralModel, numerals_by_value, tells_digits, digit_at}
 use Rattle.std.specs.Str.Parse.{AllDigits, digits_value}
-use Rattle.mintc_text.specs.Lines.{numeral_of}
+use Rattle.mintc_text.specs.Lines.{numeral_of, IsWithin}
 use Rattle.mintc_text.specs.Words.{IsShort}
 use Rattle.mintc_text.proofs.DigitsLaws.{ten_to-le}
 
@@ -49,14 +49,10 @@ numeral_minus (suc n) h = refl
 no_sign : (n : ℕ) → n < 10 ^ 19 → get_or (decimal n) 0 0 ≡ 45 → ⊥
 no_sign n small first = let d = digit_here (decimal n) 0 (decimal_is_plain n small) (decimal_nonempty n (omega arith)) in omega (arith, d)
 
--- a numeral that begins with a minus, and one that doesn't
-pub after_minus : (word digits : List ℕ) (z : ℤ) → IsShort z → word ≡ 45 ∷ digits → word ≡ numeral_of z → (n : ℕ) × (0 < n) × (n < 10 ^ 19) × (digits ≡ decimal n)
-after_minus word digits (pos n) short w e = absurd (no_sign n (omega (arith, ints, short.1)) (ap (λ (v : List ℕ). get_or v 0 0) (sym e ∙ w)))
-after_minus word digits (negsuc n) short w e = (suc n, omega arith, omega (arith, ints, short.0), cc)
-
-pub without_minus : (word : List ℕ) (z : ℤ) → IsShort z → (get_or word 0 0 ≡ 45 → ⊥) → word ≡ numeral_of z → (n : ℕ) × (n < 10 ^ 19) × (word ≡ decimal n)
-without_minus word (pos n) short plain e = (n, omega (arith, ints, short.1), e)
-without_minus word (negsuc n) short plain e = absurd (plain (ap (λ (v : List ℕ). get_or v 0 0) e))
+-- a numeral that begins with a minus
+below_minus : (digits : List ℕ) (z : ℤ) → IsShort z → 45 ∷ digits ≡ numeral_of z → (n : ℕ) × (0 < n) × (n < 10 ^ 19) × (digits ≡ decimal n) × (z ≡ neg_ℤ (pos n))
+below_minus digits (pos n) short e = absurd (no_sign n (omega (arith, ints, short.1)) (ap (λ (v : List ℕ). get_or v 0 0) (sym e)))
+below_minus digits (negsuc n) short e = (suc n, omega arith, omega (arith, ints, short.0), cc, refl)
 
 pub same_decimal : (m n : ℕ) → m < 10 ^ 19 → n < 10 ^ 19 → decimal m ≡ decimal n → m ≡ n
 same_decimal m n small little e = decimal_injective m n (omega arith) (omega arith) e
@@ -75,3 +71,30 @@ same_numeral (negsuc m) (negsuc n) short little e =
     let same : suc m ≡ suc n = same_decimal (suc m) (suc n) (omega (arith, ints, short.0)) (omega (arith, ints, little.0)) cc in
     let equal : m ≡ n = omega arith in
     ap negsuc equal
+
+-- bounds of 64 bits
+pub record AreNarrow (least most : ℤ) : Type 0 where
+  pub low : negsuc 9223372036854775807 ≤ℤ least
+  pub high : most ≤ℤ pos 9223372036854775807
+
+short_within : (least most z : ℤ) → AreNarrow least most → IsWithin least most z → IsShort z
+short_within least most z b h = let low = b.low in let high = b.high in (omega (arith, ints, h.0), omega (arith, ints, h.1))
+
+-- digits after a minus write at most one number
+pub none_below : (digits : List ℕ) (least most : ℤ) → AreNarrow least most → ((n : ℕ) → n < 10 ^ 19 → digits ≡ decimal n → ⊥) →
+    (z : ℤ) → IsWithin least most z → 45 ∷ digits ≡ numeral_of z → ⊥
+none_below digits least most b none z h e = let n = below_minus digits z (short_within least most z b h) e in none n.0 n.2 n.3
+
+pub one_below : (digits : List ℕ) (least most : ℤ) (size : ℕ) → AreNarrow least most → size < 10 ^ 19 → digits ≡ decimal size →
+    (z : ℤ) → IsWithin least most z → 45 ∷ digits ≡ numeral_of z → (0 < size) × (z ≡ neg_ℤ (pos size))
+one_below digits least most size b small is z h e =
+    let n = below_minus digits z (short_within least most z b h) e in
+    let same : n.0 ≡ size = same_decimal n.0 size n.2 small (sym n.3 ∙ is) in
+    (subst (λ (m : ℕ). 0 < m) same n.1, n.4 ∙ ap (λ (m : ℕ). neg_ℤ (pos m)) same)
+
+-- and so do digits with no sign
+pub one_from : (digits : List ℕ) (least most : ℤ) (size : ℕ) → AreNarrow least most → size < 10 ^ 19 → digits ≡ decimal size →
+    (n : ℕ) → IsWithin least most (pos n) → digits ≡ decimal n → n ≡ size
+one_from digits least most size b small is n h e =
+    let high = b.high in
+    same_decimal n size (omega (arith, ints, h.1)) small (sym e ∙ is)

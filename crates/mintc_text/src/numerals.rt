@@ -1,5 +1,5 @@
 //! Canonical numerals.
-ghost use Rattle.std.specs.Prelude.{◌≡◌, ◌∷◌, ℕ, ℤ, ◌<◌, ◌^◌, Option, MatchOption, IfSome, IsTrue, ◌↔◌, slice_index, length, decimal};
+ghost use Rattle.std.specs.Prelude.{◌≡◌, ◌∷◌, ℕ, ℤ, pos, ◌<◌, ◌^◌, Option, MatchOption, IfSome, IsTrue, ◌↔◌, slice_index, length, decimal};
 ghost use Rattle.mintc_text.specs.Lines.{numeral_of, IsWithin};
 ghost use Rattle.mintc_text.specs.Words.{IsShort};
 
@@ -20,37 +20,48 @@ fn magnitude(digits: &[u8]) -> Option<u64>
     }
     let mut value = 0u64;
     for byte in digits {
-        if *byte < b'0' || *byte > b'9' {
+        let digit = u64::from(*byte).wrapping_sub(48);
+        if digit > 9 {
             return None;
         }
-        value = value * 10 + (*byte - b'0') as u64;
+        value = value * 10 + digit;
     }
     Some(value)
 }
 
-/// Minus the number that digits without a leading zero write. None of `0` and of other bytes.
-fn below_zero(digits: &[u8]) -> Option<i128>
-    ensures value { MatchOption result ((n : ℕ) → 0 < n → n < 10 ^ 19 → digits.now ≡ decimal n → ⊥) (λ z. 45 ∷ digits.now ≡ numeral_of z) }
-    ensures small { IfSome result (λ z. IsShort z) }
+/// The number that digits write after a minus, from `least` to `most`. None of `0` and of other bytes.
+fn below_zero(digits: &[u8], least: i64, most: i64) -> Option<i64>
+    ensures { MatchOption result ((z : ℤ) → IsWithin least most z → 45 ∷ digits.now ≡ numeral_of z → ⊥)
+        (λ v. IsWithin least most v × (45 ∷ digits.now ≡ numeral_of v)) }
 {
-    let size = magnitude(digits)?;
-    match size {
-        0 => None,
-        _ => Some(-(size as i128)),
+    match magnitude(digits) {
+        Some(size) if 0 < size && size <= 1 << 63 => {
+            let value = -1 - (size - 1) as i64;
+            if least <= value && value <= most {
+                Some(value)
+            } else {
+                None
+            }
+        }
+        _ => None,
     }
 }
 
-/// The number of a canonical numeral of at most 19 digits. None of other bytes.
-fn read_numeral(word: &[u8]) -> Option<i128>
-    ensures value { MatchOption result ((z : ℤ) → IsShort z → word.now ≡ numeral_of z → ⊥) (λ z. word.now ≡ numeral_of z) }
-    ensures small { IfSome result (λ z. IsShort z) }
+/// The number that digits write, from `least` to `most`. None of other bytes.
+fn from_zero(digits: &[u8], least: i64, most: i64) -> Option<i64>
+    ensures { MatchOption result ((n : ℕ) → IsWithin least most (pos n) → digits.now ≡ decimal n → ⊥)
+        (λ v. IsWithin least most v × (digits.now ≡ numeral_of v)) }
 {
-    match word {
-        [b'-', digits @ ..] => below_zero(digits),
-        _ => match magnitude(word) {
-            Some(size) => Some(size as i128),
-            None => None,
-        },
+    match magnitude(digits) {
+        Some(size) if size <= i64::MAX as u64 => {
+            let value = size as i64;
+            if least <= value && value <= most {
+                Some(value)
+            } else {
+                None
+            }
+        }
+        _ => None,
     }
 }
 
@@ -60,11 +71,10 @@ pub fn numeral(word: &[u8], least: i64, most: i64) -> Option<i64>
     ensures { MatchOption result ((z : ℤ) → IsWithin least most z → word.now ≡ numeral_of z → ⊥)
         (λ v. IsWithin least most v × (word.now ≡ numeral_of v)) }
 {
-    let value = read_numeral(word)?;
-    if value < least as i128 || value > most as i128 {
-        return None;
+    match word {
+        [b'-', digits @ ..] => below_zero(digits, least, most),
+        _ => from_zero(word, least, most),
     }
-    Some(value as i64)
 }
 
 #[cfg(test)]

@@ -3,7 +3,7 @@ ghost use Rattle.std.specs.Prelude.{◌≡◌, ◌∷◌, [], ◌≤◌, ◌<◌
 ghost use Rattle.mintc_text.specs.Lines.{numeral_of, IsWithin};
 ghost use Rattle.mintc_timing.specs.Fields.{IsName, AreDelays, number, fields_of};
 
-use mintc_text::numeral;
+use mintc_text::{numeral, place_of};
 use std::marker::Model;
 
 /// The words of a line that are not yet read, seen as their list. One space stands between two words.
@@ -20,20 +20,6 @@ impl<'a> Model for Fields<'a> {
     ghost Value = { List (List ℕ) };
 
     ghost view = { λ f. fields_left f.done f.rest.now };
-}
-
-/// Where the first space is, or the length.
-fn space(bytes: &[u8]) -> usize
-    ensures within { result ≤ length bytes.now }
-    ensures none_before { (k : ℕ) → k < result → slice_index bytes.now k ≢ 32 }
-    ensures here { result < length bytes.now → slice_index bytes.now result ≡ 32 }
-{
-    for at in 0..bytes.len() {
-        if bytes[at] == b' ' {
-            return at;
-        }
-    }
-    bytes.len()
 }
 
 /// Whether a word is a name: 1 to 1,000 bytes from 33 to 126.
@@ -63,6 +49,7 @@ impl<'a> Fields<'a> {
     }
 
     /// The next word. None where the last one was read.
+    #[inline(always)]
     pub fn word(&mut self) -> Option<&'a [u8]>
         ensures { MatchOption result (self.old ≡ []) (λ word. self.old ≡ word.now ∷ self.new) }
     {
@@ -70,7 +57,7 @@ impl<'a> Fields<'a> {
             return None;
         }
         let rest = self.rest;
-        let end = space(rest);
+        let end = place_of(b' ', rest, 0);
         if end == rest.len() {
             self.done = true;
             return Some(rest);

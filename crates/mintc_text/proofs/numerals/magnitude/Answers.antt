@@ -8,7 +8,7 @@ use Rattle.std.specs.Char.{digit_value}
 use Rattle.std.specs.Str.Parse.{AllDigits, digits_value}
 use Rattle.mintc_text.proofs.NumeralsLaws.{plain_from_decimal, small_front, small_from_plain, decimal_from_plain, digit_here}
 use Rattle.mintc_text.proofs.numerals.magnitude.Goals as goal
-use Rattle.mintc_text.proofs.numerals.magnitude.Goals.{then-is_empty-via-then-is_empty, then-is_empty-via-else-is_empty+then-digits-gt19, then-is_empty-via-else-is_empty+else-digits-gt19+then-has_leading_zero, then-byte-lt48-via-then-byte-lt48, then-byte-lt48-via-else-byte-lt48+then-byte-gt57}
+use Rattle.mintc_text.proofs.numerals.magnitude.Goals.{then-is_empty-via-then-is_empty, then-is_empty-via-else-is_empty+then-digits-gt19, then-is_empty-via-else-is_empty+else-digits-gt19+then-has_leading_zero}
 
 pub returns-then-is_empty-clause-value : goal.returns-then-is_empty-clause-value
 returns-then-is_empty-clause-value c = λ n small e.
@@ -23,13 +23,10 @@ returns-then-is_empty-clause-value c = λ n small e.
           omega (arith, leads, plain.first leads.0)
     ]
 
-pub returns-then-byte-lt48-clause-value : goal.returns-then-byte-lt48-clause-value
-returns-then-byte-lt48-clause-value c = λ n small e.
+pub returns-then-digit-gt9-clause-value : goal.returns-then-digit-gt9-clause-value
+returns-then-digit-gt9-clause-value c = λ n small e.
     let digit = digit_here _ c.loop-byte.byte-index (plain_from_decimal c.args.digits.now n small e) (omega arith) in
-    elim c.then-byte-lt48.branch [
-      | then-byte-lt48-via-then-byte-lt48 w ↦ omega (arith, digit)
-      | then-byte-lt48-via-else-byte-lt48+then-byte-gt57 w ↦ omega (arith, digit)
-    ]
+    omega (arith, digit)
 
 pub overflow_mul-value : goal.overflow_mul-value
 overflow_mul-value c = omega (arith, c.loop-byte.invariant.1, small_front c.args.digits.now c.loop-byte.byte-index (omega arith) c.loop-byte.invariant.0)
