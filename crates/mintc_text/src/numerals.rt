@@ -1,7 +1,7 @@
 //! Canonical numerals.
-ghost use Rattle.std.specs.Prelude.{◌≡◌, ◌∷◌, ℕ, ℤ, pos, ◌<◌, ◌^◌, Option, MatchOption, IfSome, IsTrue, ◌↔◌, slice_index, length, decimal};
+ghost use Rattle.std.specs.Prelude.{◌≡◌, ◌∷◌, ℕ, ℤ, pos, ◌<◌, ◌^◌, Option, MatchOption, IfSome, IsTrue, ◌↔◌, slice_index, length, take, decimal, ◌≤◌};
+ghost use Rattle.std.specs.Str.Parse.{AllDigits, digits_value};
 ghost use Rattle.mintc_text.specs.Lines.{numeral_of, IsWithin};
-ghost use Rattle.mintc_text.specs.Words.{IsShort};
 
 /// Whether some bytes begin with a zero and go on.
 fn has_leading_zero(digits: &[u8]) -> bool
@@ -27,6 +27,27 @@ fn magnitude(digits: &[u8]) -> Option<u64>
         value = value * 10 + digit;
     }
     Some(value)
+}
+
+/// The digits that some bytes begin with, at most 18 of them: the number that they write, and how many they are.
+pub fn leading_digits(bytes: &[u8]) -> (u64, usize)
+    ensures few { result.1 ≤ 18 }
+    ensures within { result.1 ≤ length bytes.now }
+    ensures digits { AllDigits 10 (take result.1 bytes.now) }
+    ensures ends { result.1 < 18 → result.1 < length bytes.now → (48 ≤ slice_index bytes.now result.1)
+        × (slice_index bytes.now result.1 ≤ 57) → ⊥ }
+    ensures value { result.0 ≡ digits_value 10 (take result.1 bytes.now) }
+{
+    let most = bytes.len().min(18);
+    let mut value = 0u64;
+    for at in 0..most {
+        let digit = u64::from(bytes[at]).wrapping_sub(48);
+        if digit > 9 {
+            return (value, at);
+        }
+        value = value * 10 + digit;
+    }
+    (value, most)
 }
 
 /// The number that digits write after a minus, from `least` to `most`. None of `0` and of other bytes.

@@ -8,7 +8,10 @@ use Rattle.std.proofs.lemmas.List.Splits.{slice_split_none, slice_split_at, join
 use Rattle.std.proofs.Math.Seq.{split_at}
 use Rattle.mintc_text.specs.Lines.{words, numeral_of, IsGraphic, IsWithin}
 use Rattle.mintc_text.specs.Words.{IsShort}
-use Rattle.mintc_text.proofs.NumeralsLaws.{IsPlain, plain_from_decimal, digit_here}
+use Rattle.std.proofs.lemmas.Int.Digits.{digits_value-lt}
+use Rattle.std.specs.Str.Parse.{AllDigits, digits_value}
+use Rattle.mintc_text.proofs.DigitsLaws.{ten_to-le}
+use Rattle.mintc_text.proofs.NumeralsLaws.{IsPlain, plain_from_decimal, digit_here, decimal_from_plain}
 use Rattle.mintc_timing.specs.Fields.{fields_of, plain, plain_line}
 use Rattle.mintc_timing.specs.Limits.{IsDelay}
 
@@ -96,3 +99,22 @@ fields_some bytes h = omega (arith, ap length h, length-slice_split (λ b. eqb b
 
 pub short_delay : (z : ℤ) → IsDelay z → IsShort z
 short_delay z d = short (pos 0) (pos 1000000000) z (omega (arith, ints)) (omega (arith, ints)) d
+
+-- digits at the front of a line, of which the first is no zero before others, are the numeral of a number and have no space
+pub record IsFront (rest : List ℕ) (end value : ℕ) : Type 0 where
+  pub small : value < 10 ^ 17
+  pub word : take end rest ≡ decimal value
+  pub free : (k : ℕ) → k < end → get_or rest k 0 ≡ 32 → ⊥
+
+pub front_number : (rest : List ℕ) (end value : ℕ) → end ≤ length rest → 1 ≤ end → end ≤ 17 → (get_or rest 0 0 ≡ 48 → end ≡ 1) →
+    AllDigits 10 (take end rest) → value ≡ digits_value 10 (take end rest) → IsFront rest end value
+front_number rest end value within some few first digits is =
+    let ds = take end rest in
+    let long : length ds ≡ end = omega (arith, length-take end rest) in
+    let same : (k : ℕ) → k < end → get_or ds k 0 ≡ get_or rest k 0 = λ k low. get_or-take end rest k 0 low in
+    let plain : IsPlain ds = record { some = omega arith; few = omega arith; first = λ e. long ∙ first (sym (same 0 (omega arith)) ∙ e); digits = digits } in
+    record {
+      small = omega (arith, is, digits_value-lt 10 ds digits, ten_to-le (length ds) 17 (omega arith));
+      word = decimal_from_plain ds plain ∙ ap decimal (sym is);
+      free = λ k low e. let d = digit_here ds k plain (omega arith) in omega (arith, d, same k low, e);
+    }

@@ -1,9 +1,9 @@
 //! Reading a line by its words.
-ghost use Rattle.std.specs.Prelude.{◌≡◌, ◌∷◌, [], ◌≤◌, ◌<◌, ◌≢◌, ℕ, ℤ, List, true, MatchOption, MatchBool, slice_index, length};
+ghost use Rattle.std.specs.Prelude.{◌≡◌, ◌∷◌, [], ◌≤◌, ◌<◌, ◌≢◌, ℕ, ℤ, List, true, MatchOption, MatchBool, IfSome, IfNone, IsTrue, ◌↔◌, ◌^◌, slice_index, length};
 ghost use Rattle.mintc_text.specs.Lines.{numeral_of, IsWithin};
 ghost use Rattle.mintc_timing.specs.Fields.{IsName, AreDelays, number, fields_of};
 
-use mintc_text::{numeral, place_of};
+use mintc_text::{leading_digits, numeral, place_of};
 use std::marker::Model;
 
 /// The words of a line that are not yet read, seen as their list. One space stands between two words.
@@ -20,6 +20,14 @@ impl<'a> Model for Fields<'a> {
     ghost Value = { List (List ℕ) };
 
     ghost view = { λ f. fields_left f.done f.rest.now };
+}
+
+/// Whether the digits up to a place are 1 to 17, with no zero before others, and end a word.
+fn is_short_number(rest: &[u8], end: usize) -> bool
+    requires { end ≤ length rest.now }
+    ensures { IsTrue result ↔ ((1 ≤ end) × (end ≤ 17) × (slice_index rest.now 0 ≡ 48 → end ≡ 1) × (end < length rest.now → slice_index rest.now end ≡ 32)) }
+{
+    1 <= end && end <= 17 && (rest[0] != b'0' || end == 1) && (end == rest.len() || rest[end] == b' ')
 }
 
 /// Whether a word is a name: 1 to 1,000 bytes from 33 to 126.
@@ -49,7 +57,6 @@ impl<'a> Fields<'a> {
     }
 
     /// The next word. None where the last one was read.
-    #[inline(always)]
     pub fn word(&mut self) -> Option<&'a [u8]>
         ensures { MatchOption result (self.old ≡ []) (λ word. self.old ≡ word.now ∷ self.new) }
     {
@@ -64,6 +71,28 @@ impl<'a> Fields<'a> {
         }
         self.rest = &rest[end + 1..];
         Some(&rest[..end])
+    }
+
+    /// The next word as a number that is written in 1 to 17 digits, with no zero before others. None where none comes,
+    /// and then that word is left.
+    fn short_number(&mut self) -> Option<u64>
+        ensures some { IfSome result (λ n. (n < 10 ^ 17) × (self.old ≡ number n ∷ self.new)) }
+        ensures left { IfNone result (self.new ≡ self.old) }
+    {
+        if self.done {
+            return None;
+        }
+        let rest = self.rest;
+        let (value, end) = leading_digits(rest);
+        if !is_short_number(rest, end) {
+            return None;
+        }
+        if end == rest.len() {
+            self.done = true;
+        } else {
+            self.rest = &rest[end + 1..];
+        }
+        Some(value)
     }
 }
 
@@ -84,6 +113,10 @@ impl<'a> Fields<'a> {
             ((z : ℤ) (more : List (List ℕ)) → IsWithin least most z → self.old ≡ numeral_of z ∷ more → ⊥)
             (λ z. IsWithin least most z × (self.old ≡ numeral_of z ∷ self.new)) }
     {
+        if let Some(value) = self.short_number() {
+            let value = value as i64;
+            return if least <= value && value <= most { Some(value) } else { None };
+        }
         let found = self.word()?;
         numeral(found, least, most)
     }

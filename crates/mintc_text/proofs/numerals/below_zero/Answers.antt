@@ -1,4 +1,4 @@
-use Rattle.std.proofs.Common.{◌≡◌, ◌≤◌, arith}
+use Rattle.std.proofs.Common.{arith}
 use Rattle.std.proofs.lemmas.Int.{ints}
 use Rattle.mintc_text.proofs.NumeralsLaws.{AreNarrow, none_below, one_below}
 use Rattle.mintc_text.proofs.numerals.below_zero.Goals as goal

@@ -1,4 +1,4 @@
-use Rattle.std.proofs.Common.{◌≡◌, ◌≤◌, arith}
+use Rattle.std.proofs.Common.{arith}
 use Rattle.std.proofs.lemmas.Int.{ints}
 use Rattle.mintc_text.proofs.NumeralsLaws.{AreNarrow, one_from}
 use Rattle.mintc_text.proofs.numerals.from_zero.Goals as goal

@@ -1,4 +1,4 @@
-use Rattle.std.proofs.Common.{◌≡◌, ◌≤◌, arith}
+use Rattle.std.proofs.Common.{arith}
 use Rattle.mintc_text.proofs.SearchLaws.{none_marked, first_marked}
 use Rattle.mintc_text.proofs.search.ahead_in_16.Goals as goal
 

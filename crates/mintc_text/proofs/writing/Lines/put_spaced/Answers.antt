@@ -1,4 +1,4 @@
-use Rattle.std.proofs.Common.{◌≡◌, ◌≤◌, ◌<◌, ◌^◌, ◌∷◌, ◌++◌, List, ℕ, OnOk, arith, decimal, length, subst, ap, ◌∙◌, refl, replicate, ◌-◌}
+use Rattle.std.proofs.Common.{◌≡◌, ◌≤◌, ◌∷◌, ◌++◌, List, ℕ, OnOk, arith, decimal, length, subst, ap, ◌∙◌, refl, replicate, ◌-◌}
 use Rattle.std.proofs.lemmas.Fmt.{length-decimal-le}
 use Rattle.std.proofs.lemmas.List.{get_or-replicate}
 use Rattle.mintc_text.proofs.WritingLaws.{after_space}
