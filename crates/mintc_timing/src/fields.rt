@@ -27,7 +27,10 @@ fn is_short_number(rest: &[u8], end: usize) -> bool
     requires { end ≤ length rest.now }
     ensures { IsTrue result ↔ ((1 ≤ end) × (end ≤ 17) × (slice_index rest.now 0 ≡ 48 → end ≡ 1) × (end < length rest.now → slice_index rest.now end ≡ 32)) }
 {
-    1 <= end && end <= 17 && (rest[0] != b'0' || end == 1) && (end == rest.len() || rest[end] == b' ')
+    1 <= end
+        && end <= 17
+        && (rest[0] != b'0' || end == 1)
+        && (end == rest.len() || rest[end] == b' ')
 }
 
 /// Whether a word is a name: 1 to 1,000 bytes from 33 to 126.
@@ -115,7 +118,11 @@ impl<'a> Fields<'a> {
     {
         if let Some(value) = self.short_number() {
             let value = value as i64;
-            return if least <= value && value <= most { Some(value) } else { None };
+            return if least <= value && value <= most {
+                Some(value)
+            } else {
+                None
+            };
         }
         let found = self.word()?;
         numeral(found, least, most)
