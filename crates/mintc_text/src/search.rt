@@ -54,7 +54,7 @@ fn place_by_one(byte: u8, bytes: &[u8], from: usize) -> usize
     bytes.len()
 }
 
-/// The same, where fewer than 16 bytes are left or so: the next 8 come first.
+/// The same, of the next 8 bytes at once, and then by one after another.
 #[inline(always)]
 fn place_near(byte: u8, bytes: &[u8], from: usize) -> usize
     requires { from ≤ length bytes.now }
