@@ -2,7 +2,7 @@ use Rattle.std.proofs.Common.{◌≡◌, ℕ, ℤ, pos, negsuc, ◌≤ℤ◌, su
 use Rattle.std.proofs.lemmas.Int.{ints}
 use Rattle.std.proofs.lemmas.Bool.{ne_eqb}
 use Rattle.std.proofs.lemmas.Bool.Decides.{nat_tests}
-use Rattle.std.proofs.lemmas.List.{get_or-take}
+use Rattle.std.proofs.lemmas.List.{get_or-take, ext_get_or}
 use Rattle.std.proofs.lemmas.List.Elements.{All-from_get_or, All-head, All-tail, All-cons, All-nil}
 use Rattle.std.proofs.lemmas.List.Splits.{slice_split_none, slice_split_at, join_with_byte-slice_split, length-slice_split}
 use Rattle.std.proofs.Math.Seq.{split_at}
@@ -118,3 +118,11 @@ front_number rest end value within some few first digits is =
       word = decimal_from_plain ds plain ∙ ap decimal (sym is);
       free = λ k low e. let d = digit_here ds k plain (omega arith) in omega (arith, d, same k low, e);
     }
+
+-- a word at the front of a line, byte by byte
+pub front_word : (rest word : List ℕ) → length word ≤ length rest → ((k : ℕ) → k < length word → (get_or rest k 0 ≡ get_or word k 0) × (get_or rest k 0 ≡ 32 → ⊥)) →
+    take (length word) rest ≡ word
+front_word rest word within each =
+    let long : length (take (length word) rest) ≡ length word = omega (arith, length-take (length word) rest) in
+    ext_get_or 0 (take (length word) rest) word long
+    (λ k h. let low : k < length word = omega arith in get_or-take (length word) rest k 0 low ∙ (each k low).0)

@@ -33,6 +33,23 @@ fn is_short_number(rest: &[u8], end: usize) -> bool
         && (end == rest.len() || rest[end] == b' ')
 }
 
+/// Whether a word without a space stands at the front of a line.
+fn begins_with(rest: &[u8], word: &[u8]) -> bool
+    ensures { IsTrue result → (length word.now ≤ length rest.now)
+        × ((k : ℕ) → k < length word.now → (slice_index rest.now k ≡ slice_index word.now k) × (slice_index rest.now k ≢ 32))
+        × (length word.now < length rest.now → slice_index rest.now (length word.now) ≡ 32) }
+{
+    if rest.len() < word.len() {
+        return false;
+    }
+    for at in 0..word.len() {
+        if rest[at] != word[at] || rest[at] == b' ' {
+            return false;
+        }
+    }
+    rest.len() == word.len() || rest[word.len()] == b' '
+}
+
 /// Whether a word is a name: 1 to 1,000 bytes from 33 to 126.
 fn is_name(word: &[u8]) -> bool
     ensures { MatchBool result (IsName word.now) (IsName word.now → ⊥) }
@@ -76,8 +93,8 @@ impl<'a> Fields<'a> {
         Some(&rest[..end])
     }
 
-    /// The next word as a number that is written in 1 to 17 digits, with no zero before others. None where none comes,
-    /// and then that word is left.
+    /// The next word as a number that is written in 1 to 17 digits, with no zero before others. Where it gives none,
+    /// the word is left.
     fn short_number(&mut self) -> Option<u64>
         ensures some { IfSome result (λ n. (n < 10 ^ 17) × (self.old ≡ number n ∷ self.new)) }
         ensures left { IfNone result (self.new ≡ self.old) }
@@ -100,12 +117,34 @@ impl<'a> Fields<'a> {
 }
 
 impl<'a> Fields<'a> {
+    /// Passes this word where it has no space. Where it gives none, the word is left.
+    fn pass(&mut self, word: &[u8]) -> Option<()>
+        ensures some { IfSome result (λ _. self.old ≡ word.now ∷ self.new) }
+        ensures left { IfNone result (self.new ≡ self.old) }
+    {
+        let rest = self.rest;
+        if self.done || !begins_with(rest, word) {
+            return None;
+        }
+        if word.len() == rest.len() {
+            self.done = true;
+        } else {
+            self.rest = &rest[word.len() + 1..];
+        }
+        Some(())
+    }
+}
+
+impl<'a> Fields<'a> {
     /// Passes this word. None where another comes, or none.
     pub fn fixed(&mut self, word: &[u8]) -> Option<()>
         ensures { MatchOption result
             ((more : List (List ℕ)) → self.old ≡ word.now ∷ more → ⊥)
             (λ _. self.old ≡ word.now ∷ self.new) }
     {
+        if self.pass(word).is_some() {
+            return Some(());
+        }
         let found = self.word()?;
         if found == word { Some(()) } else { None }
     }
