@@ -22,3 +22,4 @@ pub mod TurnedPaths
 pub mod TurnedCourse
 pub mod TurnedPairs
 pub mod Waking
+pub mod Holding

@@ -97,7 +97,7 @@ length-placed rows sums = length-map rows (sums_at sums)
 pub placed_at : (rows : List ℕ) (sums : List Sums) (bit : ℕ) → bit < length rows → sums_at (placed rows sums) bit ≡ sums_at sums (row_of rows bit)
 placed_at rows sums bit below = get_or-map (sums_at sums) rows bit 0 no_sums below
 
-placed_past : (rows : List ℕ) (sums : List Sums) (bit : ℕ) → length rows ≤ bit → sums_at (placed rows sums) bit ≡ no_sums
+pub placed_past : (rows : List ℕ) (sums : List Sums) (bit : ℕ) → length rows ≤ bit → sums_at (placed rows sums) bit ≡ no_sums
 placed_past rows sums bit past = get_or_past (placed rows sums) bit no_sums (omega (arith, length-placed rows sums))
 
 module _ (n : ℕ) (rows bits : List ℕ) (h : LeadsBack n rows bits) (old new : List Sums) where

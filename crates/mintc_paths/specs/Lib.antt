@@ -14,3 +14,4 @@ pub mod Count
 pub mod Turned
 pub mod Ordered
 pub mod Awake
+pub mod Held

@@ -14,9 +14,10 @@ ghost use Rattle.mintc_paths.specs.Refusals.{AreShortBefore, IsPathRange};
 
 use crate::awake::Awake;
 use crate::found::Found;
+use crate::held::Held;
 use crate::long::first_long;
 use crate::rows::{Course, Rows};
-use crate::sums::{NO_SUMS, Sums, fill};
+use crate::sums::fill;
 use mintc_text::{Refusal, Stop};
 use mintc_timing::{Flat, Order};
 use std::alloc::{AllocError, Global};
@@ -24,7 +25,7 @@ use std::alloc::{AllocError, Global};
 /// Refuses the first path that is too long among those from so many elements, whose sums are in the lanes. Where it is
 /// known that no path is, there is nothing to look for.
 fn refuse_long(
-    sums: &[Sums],
+    sums: &Held,
     reached: &[bool],
     rows: &Rows,
     elements: u32,
@@ -62,7 +63,7 @@ fn refuse_long(
 /// Finds the pairs from so many elements, whose sums go through `sums`.
 fn find_block(
     course: &Course,
-    sums: &mut [Sums],
+    sums: &mut Held,
     reached: &mut [bool],
     awake: &mut Awake,
     found: &mut Found,
@@ -127,7 +128,7 @@ pub fn find_along(
     ensures stop { IfErr result (StopsAt (IsPathRange of.design)) }
 {
     let bits = course.rows.of_bits.len();
-    let Ok(mut sums) = vec![in alloc; NO_SUMS; bits] else {
+    let Ok(mut sums) = Held::new(alloc, bits) else {
         return Err(Stop::OutOfMemory);
     };
     let Ok(mut reached) = vec![in alloc; false; bits] else {

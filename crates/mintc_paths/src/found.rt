@@ -1,6 +1,7 @@
 //! Pairs as they are found.
 ghost use Rattle.std.specs.Prelude.{◌≡◌, ◌<◌, ◌≤◌, ◌^◌, ◌+◌, ◌*◌, ◌++◌, ◌∷◌, List, [], length, OnOk};
 
+use crate::held::Held;
 use crate::rows::Rows;
 use crate::sums::{Sums, sum_in};
 use mintc_text::OutOfMemory;
@@ -69,7 +70,7 @@ impl Found {
     /// The pairs from an element, whose sums are in this lane. It leads to none but the ends.
     fn add_from(
         &mut self,
-        sums: &[Sums],
+        sums: &Held,
         rows: &Rows,
         element: u32,
         lane: usize,
@@ -89,7 +90,7 @@ impl Found {
         for number in 0..self.ends.len() {
             let to = self.ends[number];
             let row = rows.of_bits[2 * to as usize];
-            self.add_at(element, to, &sums[row as usize], lane)?;
+            self.add_at(element, to, sums.at(row as usize), lane)?;
         }
         Ok(())
     }
@@ -116,7 +117,7 @@ impl Found {
     /// The pairs from so many elements, whose sums are in the lanes.
     pub fn add_all(
         &mut self,
-        sums: &[Sums],
+        sums: &Held,
         reached: &[bool],
         rows: &Rows,
         elements: u32,

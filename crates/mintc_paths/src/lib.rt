@@ -19,6 +19,7 @@ mod blocks;
 mod count;
 mod finder;
 mod found;
+mod held;
 mod laws;
 mod listed;
 mod long;

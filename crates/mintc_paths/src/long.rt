@@ -5,6 +5,7 @@ ghost use Rattle.mintc_lanes.specs.Lanes.{lane_at, AreLanes};
 ghost use Rattle.mintc_paths.specs.Sums.{AreMarked, AreRows, placed, sums_at};
 ghost use Rattle.mintc_paths.specs.Long.{IsShortLane, IsFirstBit, IsFirstLane};
 
+use crate::held::Held;
 use crate::rows::Rows;
 use crate::sums::Sums;
 use mintc_lanes::max_row;
@@ -20,14 +21,14 @@ pub struct Place {
 }
 
 /// Whether no sum is above the limit.
-fn are_short(sums: &[Sums], reached: &[bool]) -> bool
+fn are_short(sums: &Held, reached: &[bool]) -> bool
     requires marked { AreMarked sums.now reached.now }
     requires bounded { (row : ℕ) → row < length sums.now → AreLanes (sums_at sums.now row).greatest }
     ensures { OnTrue result ((lane : ℕ) → lane < 8 → IsShortLane sums.now lane) }
 {
     for row in 0..sums.len() {
         if reached[row] {
-            if max_row(&sums[row].greatest) > LIMIT {
+            if max_row(&sums.at(row).greatest) > LIMIT {
                 return false;
             }
         }
@@ -45,14 +46,14 @@ fn is_long(sums: &Sums, lane: usize) -> bool
 }
 
 /// The first bit with a sum of the lane above the limit.
-fn first_bit(sums: &[Sums], rows: &Rows, lane: usize) -> Option<usize>
+fn first_bit(sums: &Held, rows: &Rows, lane: usize) -> Option<usize>
     requires rows { AreRows (length sums.now) rows.now }
     requires lane { lane < 8 }
     ensures { MatchOption result (IsShortLane (placed rows.now.of_bits.items sums.now) lane) (λ bit. IsFirstBit (placed rows.now.of_bits.items sums.now) lane bit) }
 {
     for bit in 0..rows.of_bits.len() {
         let row = rows.of_bits[bit] as usize;
-        if is_long(&sums[row], lane) {
+        if is_long(sums.at(row), lane) {
             return Some(bit);
         }
     }
@@ -60,7 +61,7 @@ fn first_bit(sums: &[Sums], rows: &Rows, lane: usize) -> Option<usize>
 }
 
 /// The first of so many lanes with a sum above the limit, and the first such bit.
-pub fn first_long(sums: &[Sums], reached: &[bool], rows: &Rows, lanes: usize) -> Option<Place>
+pub fn first_long(sums: &Held, reached: &[bool], rows: &Rows, lanes: usize) -> Option<Place>
     requires rows { AreRows (length sums.now) rows.now }
     requires marked { AreMarked sums.now reached.now }
     requires bounded { (row : ℕ) → row < length sums.now → AreLanes (sums_at sums.now row).greatest }

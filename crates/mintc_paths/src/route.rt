@@ -6,8 +6,9 @@ ghost use Rattle.mintc_paths.specs.Sums.{row_of, IsCourse, AreMarked};
 ghost use Rattle.mintc_paths.specs.Trace.{IsPairOf, IsOfPair};
 
 use crate::awake::Awake;
+use crate::held::Held;
 use crate::rows::{Course, Rows};
-use crate::sums::{NO_SUMS, Sums, fill};
+use crate::sums::fill;
 use crate::trace::{Extreme, trace};
 use mintc_text::{Numbers, OutOfMemory};
 use mintc_timing::{Flat, Order, System};
@@ -29,7 +30,7 @@ fn path_by(
     alloc: Global,
     extreme: Extreme,
     system: &System,
-    sums: &mut [Sums],
+    sums: &mut Held,
     reached: &mut [bool],
     from: u32,
     to: u32,
@@ -73,7 +74,7 @@ pub fn best_path(
 {
     let flat = system.flat();
     let bits = 2 * flat.elements().len() + flat.inner().items().len();
-    let Ok(mut sums) = vec![in alloc; NO_SUMS; bits] else {
+    let Ok(mut sums) = Held::new(alloc, bits) else {
         return Err(OutOfMemory);
     };
     let Ok(mut reached) = vec![in alloc; false; bits] else {

@@ -11,8 +11,9 @@ ghost use Rattle.mintc_paths.specs.Leaving.{AreLeaving};
 ghost use Rattle.mintc_paths.specs.Sums.{sums_at, placed, IsBounded, IsAlike, AreRows, AreBegun, AreMarked, AreSums};
 
 use crate::awake::Awake;
+use crate::held::Held;
 use crate::rows::Course;
-use mintc_lanes::{ABSENT, max_plus_row, min_plus_row};
+use mintc_lanes::ABSENT;
 use mintc_timing::TimingArc;
 use std::alloc::AllocError;
 
@@ -40,34 +41,20 @@ pub fn sum_in(row: &[i64; 8], lane: usize) -> Option<i64>
     if sum == ABSENT { None } else { Some(sum) }
 }
 
-/// Begins a lane in a row: the empty path leads from a bit to itself.
-fn begin(sums: &mut [Sums], bit: usize, lane: usize)
-    requires bit { bit < length sums.old }
-    requires lane { lane < 8 }
-    ensures others { (other : ℕ) → other ≢ bit → sums_at sums.new other ≡ sums_at sums.old other }
-    ensures lanes { (other : ℕ) → other ≢ lane
-        → (lane_at (sums_at sums.new bit).greatest other ≡ lane_at (sums_at sums.old bit).greatest other)
-        × (lane_at (sums_at sums.new bit).least other ≡ lane_at (sums_at sums.old bit).least other) }
-    ensures own { (lane_at (sums_at sums.new bit).greatest lane ≡ Some (pos 0)) × (lane_at (sums_at sums.new bit).least lane ≡ Some (pos 0)) }
-{
-    let at = &mut sums[bit];
-    at.greatest[lane] = 0;
-    at.least[lane] = 0;
-}
-
 /// Takes away the sums in the rows that were reached.
-fn wipe(sums: &mut [Sums], reached: &mut [bool], awake: &mut Awake)
+fn wipe(sums: &mut Held, reached: &mut [bool], awake: &mut Awake)
     requires marked { AreMarked sums.old reached.old }
     requires listed { AreListed reached.old awake.old.rows.items }
+    ensures count { length sums.new ≡ length sums.old }
     ensures none { (row : ℕ) → row < length sums.new → sums_at sums.new row ≡ NO_SUMS }
     ensures marked { AreMarked sums.new reached.new }
     ensures off { (row : ℕ) → slice_index_or reached.new row false ≡ false }
     ensures rows { awake.new.rows.items ≡ [] }
     ensures places { awake.new.places ≡ awake.old.places }
 {
+    sums.clear();
     for number in 0..awake.rows.len() {
         let row = awake.rows[number] as usize;
-        sums[row] = NO_SUMS;
         reached[row] = false;
     }
     awake.rows.clear();
@@ -75,7 +62,7 @@ fn wipe(sums: &mut [Sums], reached: &mut [bool], awake: &mut Awake)
 
 /// Makes the sums those of the empty paths from so many elements.
 fn clear(
-    sums: &mut [Sums],
+    sums: &mut Held,
     reached: &mut [bool],
     awake: &mut Awake,
     course: &Course,
@@ -88,6 +75,7 @@ fn clear(
     requires leaving { AreLeaving course.now.along.items (length sums.old) course.now.leaving }
     requires marked { AreMarked sums.old reached.old }
     requires ready { IsReady (length course.now.along.items) reached.old awake.old }
+    ensures count { length sums.new ≡ length sums.old }
     ensures begun { OnOk result ((arcs : List TimingArc) (order : List ℕ) → AreBegun arcs order first lanes (placed course.now.rows.of_bits.items sums.new)) }
     ensures marked { OnOk result (AreMarked sums.new reached.new) }
     ensures awake { OnOk result (IsAwake course.now.along.items 0 reached.new awake.new) }
@@ -95,7 +83,7 @@ fn clear(
     wipe(sums, reached, awake);
     for lane in 0..lanes {
         let row = course.rows.of_bits[2 * (first as usize + lane) + 1];
-        begin(sums, row as usize, lane);
+        sums.begin(row, lane)?;
         awake.reach(reached, course, row)?;
     }
     Ok(())
@@ -103,7 +91,7 @@ fn clear(
 
 /// Carries the sums in the row that the arc leaves, if it is reached, to the row that it enters.
 fn carry(
-    sums: &mut [Sums],
+    sums: &mut Held,
     reached: &mut [bool],
     awake: &mut Awake,
     course: &Course,
@@ -120,6 +108,7 @@ fn carry(
     requires marked { AreMarked sums.old reached.old }
     requires leaving { AreLeaving course.now.along.items (length sums.old) course.now.leaving }
     requires ready { IsReady (length course.now.along.items) reached.old awake.old }
+    ensures count { length sums.new ≡ length sums.old }
     ensures marked { OnOk result (AreMarked sums.new reached.new) }
     ensures awake { OnOk result ((place : ℕ) → IsAwake course.now.along.items place reached.old awake.old
         → IsAwake course.now.along.items place reached.new awake.new) }
@@ -130,10 +119,7 @@ fn carry(
 {
     if reached[arc.from as usize] {
         awake.reach(reached, course, arc.to)?;
-        let from = sums[arc.from as usize];
-        let to = &mut sums[arc.to as usize];
-        max_plus_row(&mut to.greatest, &from.greatest, arc.max);
-        min_plus_row(&mut to.least, &from.least, arc.min);
+        sums.join(arc)?;
     }
     Ok(())
 }
@@ -141,7 +127,7 @@ fn carry(
 /// Makes the sums those of the listed paths, and of the empty ones, from up to eight elements from `first` on. A row
 /// without sums isn't marked as reached. Only the arcs that leave rows that are reached are looked at.
 pub fn fill(
-    sums: &mut [Sums],
+    sums: &mut Held,
     reached: &mut [bool],
     awake: &mut Awake,
     course: &Course,
@@ -154,6 +140,7 @@ pub fn fill(
     requires elements { first + lanes ≤ length of.design.elements }
     requires marked { AreMarked sums.old reached.old }
     requires ready { IsReady (length course.now.along.items) reached.old awake.old }
+    ensures count { length sums.new ≡ length sums.old }
     ensures marked { OnOk result (AreMarked sums.new reached.new) }
     ensures ready { OnOk result (IsReady (length course.now.along.items) reached.new awake.new) }
     ensures sums { OnOk result (AreSums of.design.arcs of.order (length of.order) first lanes (placed course.now.rows.of_bits.items sums.new)) }

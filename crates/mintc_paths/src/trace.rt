@@ -7,6 +7,7 @@ ghost use Rattle.mintc_timing.specs.Paths.{Leads};
 ghost use Rattle.mintc_paths.specs.Sums.{sums_at, IsBounded};
 ghost use Rattle.mintc_paths.specs.Trace.{sum_of, delay_of, weight_of, AreBestSums, IsThrough};
 
+use crate::held::Held;
 use crate::sums::{Sums, sum_in};
 use mintc_timing::{Flat, Order, TimingArc};
 use std::alloc::{AllocError, Global};
@@ -39,7 +40,7 @@ pub fn delay_at(extreme: Extreme, arc: &TimingArc) -> i64
 }
 
 /// Whether the best sum to the bit that the arc enters goes through the arc.
-fn is_through(extreme: Extreme, sums: &[Sums], arc: &TimingArc) -> bool
+fn is_through(extreme: Extreme, sums: &Held, arc: &TimingArc) -> bool
     requires from { arc.now.from < length sums.now }
     requires to { arc.now.to < length sums.now }
     requires min { IsDelay arc.now.min }
@@ -47,17 +48,17 @@ fn is_through(extreme: Extreme, sums: &[Sums], arc: &TimingArc) -> bool
     requires bounded { IsBounded 1000000000000000 (sums_at sums.now arc.now.from) }
     ensures { IsTrue result ↔ IsThrough extreme sums.now arc.now }
 {
-    let Some(before) = sum_at(extreme, &sums[arc.from as usize]) else {
+    let Some(before) = sum_at(extreme, sums.at(arc.from as usize)) else {
         return false;
     };
-    let Some(after) = sum_at(extreme, &sums[arc.to as usize]) else {
+    let Some(after) = sum_at(extreme, sums.at(arc.to as usize)) else {
         return false;
     };
     before + delay_at(extreme, arc) == after
 }
 
 /// Whether a best path to the bit can end with the arc.
-fn is_last(extreme: Extreme, sums: &[Sums], arc: &TimingArc, bit: u32) -> bool
+fn is_last(extreme: Extreme, sums: &Held, arc: &TimingArc, bit: u32) -> bool
     requires from { arc.now.from < length sums.now }
     requires to { arc.now.to < length sums.now }
     requires min { IsDelay arc.now.min }
@@ -74,7 +75,7 @@ pub fn trace(
     extreme: Extreme,
     flat: &Flat,
     order: &Order,
-    sums: &[Sums],
+    sums: &Held,
     end: u32,
 ) -> Result<Vec<u32>, AllocError>
     requires bits { length sums.now ≡ 2 * length flat.now.elements + length flat.now.inner }

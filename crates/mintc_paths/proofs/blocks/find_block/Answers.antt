@@ -14,7 +14,7 @@ refuse_long-requires g c =
     let arcs = kept.arcs in
     let count = c.requires.0.is_ordered.order.count in
     let own = c.requires.1.0 in
-    let same : length c.fill.new.sums ≡ length c.args.sums.now = c.fill.auto.sums in
+    let same : length c.fill.new.sums ≡ length c.args.sums.now = c.in-Ok.ensures.count in
     let bounded : (row : ℕ) → row < length c.fill.new.sums → AreLanes (sums_at c.fill.new.sums row).greatest = λ row inside.
     let each = bounded_each g.of.design.arcs g.of.order (length g.of.order) c.args.first c.args.lanes (length c.args.sums.now) c.args.course.now.rows c.requires.0.is_course.rows c.fill.new.sums
     c.in-Ok.ensures.sums row (omega arith) in

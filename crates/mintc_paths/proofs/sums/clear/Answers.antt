@@ -9,11 +9,11 @@ use Rattle.mintc_paths.proofs.sums.clear.Goals as goal
 
 pub loop-lane-init : goal.loop-lane-init
 loop-lane-init c = record {
-  begun = λ arcs order. AreBegun-placed_none arcs order c.args.first (length c.args.sums.now) c.args.course.now.rows c.requires.rows c.wipe.new.sums c.wipe.auto.sums c.wipe.ensures.none;
+  begun = λ arcs order. AreBegun-placed_none arcs order c.args.first (length c.args.sums.now) c.args.course.now.rows c.requires.rows c.wipe.new.sums c.wipe.ensures.count c.wipe.ensures.none;
   marked = c.wipe.ensures.marked;
   awake = IsAwake-none c.args.course.now.along.items 0 c.wipe.new.reached c.wipe.new.awake
       (IsReady-none (length c.args.course.now.along.items) c.args.reached.now c.wipe.new.reached c.args.awake.now c.wipe.new.awake c.wipe.ensures.places c.wipe.ensures.rows c.wipe.ensures.off c.requires.ready) c.wipe.ensures.off;
-  count = c.wipe.auto.sums;
+  count = c.wipe.ensures.count;
 }
 
 pub loop-lane-preserved : goal.loop-lane-preserved
@@ -24,19 +24,19 @@ loop-lane-preserved c =
     let bit : ℕ = 2 * (c.args.first + lane) + 1 in
     let row : ℕ = c.index-row.result.now in
     let old : List Sums = c.loop-lane.sums in
-    let new : List Sums = c.begin.new.sums in
+    let new : List Sums = c.begin.new.self in
     let h = c.requires.rows.of_bits in
     let count = h.count in
     let inside : bit < n = omega arith in
     let is_row : row ≡ row_of rows bit = c.index-row.ensures ∙ get_or_default rows bit row 0 (omega arith) in
-    let begun : IsBegun old new row lane = record { others = c.begin.ensures.others; lanes = c.begin.ensures.lanes; own = c.begin.ensures.own } in
+    let begun : IsBegun old new row lane = record { others = c.begin.ensures.others; lanes = c.in_ok-begin.ensures.lanes; own = c.in_ok-begin.ensures.own } in
     record {
       begun = λ arcs order.
           AreBegun-placed_more arcs order c.args.first lane n c.args.course.now.rows c.requires.rows old new (omega arith) inside
           (subst (λ at. IsBegun old new at lane) is_row begun) (c.loop-lane.invariant.begun arcs order);
-      marked = subst (λ marks. AreMarked new marks) (sym c.in_ok-reach.ensures.reached) (marked_more old new c.loop-lane.reached row c.begin.auto.sums c.begin.ensures.others c.loop-lane.invariant.marked);
+      marked = subst (λ marks. AreMarked new marks) (sym c.in_ok-reach.ensures.reached) (marked_more old new c.loop-lane.reached row c.begin.ensures.count c.begin.ensures.others c.loop-lane.invariant.marked);
       awake = c.in_ok-reach.ensures.awake 0 c.loop-lane.invariant.awake;
-      count = c.begin.auto.sums ∙ c.loop-lane.invariant.count;
+      count = c.begin.ensures.count ∙ c.loop-lane.invariant.count;
     }
 
 pub returns-clause-begun : goal.returns-clause-begun

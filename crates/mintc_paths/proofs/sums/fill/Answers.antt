@@ -18,11 +18,11 @@ loop-place-init g c =
     let begun = c.in_ok-clear.ensures.begun g.of.design.arcs g.of.order in
     record {
       sums_so_far = passed_next g.of.design g.of.order c.requires.0.is_ordered.order c.requires.0.is_ordered.kept c.args.course.now (length c.args.sums.now) c.requires.0.is_course c.requires.0.bits
-          c.args.first c.args.lanes c.requires.1.0 c.clear.new.sums c.clear.auto.sums c.clear.new.reached c.in_ok-clear.ensures.marked c.clear.new.awake 0 c.next-place.result (omega arith)
+          c.args.first c.args.lanes c.requires.1.0 c.clear.new.sums c.in_ok-clear.ensures.count c.clear.new.reached c.in_ok-clear.ensures.marked c.clear.new.awake 0 c.next-place.result (omega arith)
           (omega arith) c.in_ok-clear.ensures.awake c.next-place.ensures.none begun.sums_so_far;
       marked = c.in_ok-clear.ensures.marked;
       awake = IsAwake-later c.args.course.now.along.items 0 c.next-place.result c.clear.new.reached c.clear.new.awake (omega arith) c.in_ok-clear.ensures.awake;
-      count = c.clear.auto.sums;
+      count = c.in_ok-clear.ensures.count;
     }
 
 pub carry-requires-clause-from : goal.carry-requires-clause-from
@@ -121,13 +121,13 @@ loop-place-preserved g c =
     let carried : IsCarried c.index-arc.result.now c.loop-place.sums c.carry.new.sums = record { others = h.others; greatest = h.greatest; least = h.least; bounded = h.bounded } in
     let awake : IsAwake along (i + 1) c.carry.new.reached c.carry.new.awake = h.awake (i + 1)
     (IsAwake-next along i c.loop-place.reached c.loop-place.awake _ refl c.remove.ensures.count c.remove.ensures.others c.loop-place.invariant.awake) in
-    let same : length c.carry.new.sums ≡ length c.args.sums.now = c.carry.auto.sums ∙ c.loop-place.invariant.count in
+    let same : length c.carry.new.sums ≡ length c.args.sums.now = h.count ∙ c.loop-place.invariant.count in
     record {
       sums_so_far = passed_next g.of.design g.of.order c.requires.0.is_ordered.order c.requires.0.is_ordered.kept c.args.course.now (length c.args.sums.now) c.requires.0.is_course c.requires.0.bits
           c.args.first c.args.lanes c.requires.1.0 c.carry.new.sums same c.carry.new.reached h.marked c.carry.new.awake (i + 1) c.next-place-in-loop-place.result (omega arith)
           (omega arith) awake c.next-place-in-loop-place.ensures.none
           (carried_along g.of.design g.of.order c.requires.0.is_ordered.order c.requires.0.is_ordered.kept c.args.course.now (length c.args.sums.now) c.requires.0.is_course c.requires.0.bits
-          c.args.first c.args.lanes c.requires.1.0 c.loop-place.sums c.loop-place.invariant.count c.carry.new.sums c.carry.auto.sums i low (subst (λ (a : TimingArc). IsCarried a c.loop-place.sums c.carry.new.sums) is carried) so_far);
+          c.args.first c.args.lanes c.requires.1.0 c.loop-place.sums c.loop-place.invariant.count c.carry.new.sums h.count i low (subst (λ (a : TimingArc). IsCarried a c.loop-place.sums c.carry.new.sums) is carried) so_far);
       marked = h.marked;
       awake = IsAwake-later along (i + 1) c.next-place-in-loop-place.result c.carry.new.reached c.carry.new.awake (omega arith) awake;
       count = same;

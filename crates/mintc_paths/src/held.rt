@@ -1,0 +1,171 @@
+//! The sums in the rows that are reached. Memory is taken for these rows alone.
+ghost use Rattle.std.specs.Prelude.{◌≡◌, ◌≢◌, ◌<◌, ◌≤◌, ◌+◌, ℕ, Some, pos, length, replicate, IfOk, OnOk};
+ghost use Rattle.std.specs.Int.{int_max, int_min};
+ghost use Rattle.mintc_lanes.specs.Lanes.{lane_at, AreJoined};
+ghost use Rattle.mintc_timing.specs.Limits.{IsDelay};
+ghost use Rattle.mintc_paths.specs.Held.{AreHeld, place_at};
+ghost use Rattle.mintc_paths.specs.Sums.{sums_at, placed, IsBounded};
+
+use crate::sums::{NO_SUMS, Sums};
+use mintc_lanes::{max_plus_row, min_plus_row};
+use mintc_timing::TimingArc;
+use std::alloc::{AllocError, Global};
+use std::marker::Model;
+
+/// Sums in rows, seen as the list of them.
+#[derive(Drop)]
+pub struct Held {
+    /// For each row the place of its sums among those that are held, 0 where it has none.
+    places: Vec<u32>,
+    /// The rows that have a place.
+    rows: Vec<u32>,
+    /// The sums that are held. Those at place 0 are none.
+    sums: Vec<Sums>,
+}
+
+impl Model for Held {
+    ghost use Rattle.std.specs.Prelude.{List};
+    ghost use Rattle.mintc_paths.specs.declared.sums.Sums.{Sums};
+    ghost use Rattle.mintc_paths.specs.Held.{AreHeld};
+    ghost use Rattle.mintc_paths.specs.Sums.{placed};
+
+    ghost Value = { List Sums };
+
+    ghost view = { λ h. placed h.places.items h.sums.items };
+
+    ghost invariant = { λ h. AreHeld h.places.items h.rows.items h.sums.items };
+}
+
+/// The place of a row, which gets one if it has none.
+fn hold(
+    places: &mut Vec<u32>,
+    rows: &mut Vec<u32>,
+    sums: &mut Vec<Sums>,
+    row: u32,
+) -> Result<usize, AllocError>
+    requires row { row < length places.old.items }
+    requires held { AreHeld places.old.items rows.old.items sums.old.items }
+    ensures held { AreHeld places.new.items rows.new.items sums.new.items }
+    ensures kept { (other : ℕ) → sums_at (placed places.new.items sums.new.items) other ≡ sums_at (placed places.old.items sums.old.items) other }
+    ensures count { length places.new.items ≡ length places.old.items }
+    ensures place { IfOk result (λ place. place ≡ place_at places.new.items row) }
+    ensures some { IfOk result (λ place. place ≢ 0) }
+{
+    let at = row as usize;
+    if places[at] > 0 {
+        return Ok(places[at] as usize);
+    }
+    let place = sums.len();
+    if place > u32::MAX as usize {
+        return Err(AllocError);
+    }
+    sums.push(NO_SUMS)?;
+    rows.push(row)?;
+    places[at] = place as u32;
+    Ok(place)
+}
+
+/// Begins a lane: the empty path leads from a bit to itself.
+fn begin_lane(sums: &mut Sums, lane: usize)
+    requires lane { lane < 8 }
+    ensures lanes { (other : ℕ) → other ≢ lane
+        → (lane_at sums.new.greatest other ≡ lane_at sums.old.greatest other) × (lane_at sums.new.least other ≡ lane_at sums.old.least other) }
+    ensures own { (lane_at sums.new.greatest lane ≡ Some (pos 0)) × (lane_at sums.new.least lane ≡ Some (pos 0)) }
+{
+    sums.greatest[lane] = 0;
+    sums.least[lane] = 0;
+}
+
+/// Joins sums, along an arc, to those in the row that it enters.
+fn join_rows(sums: &mut Sums, others: &Sums, arc: TimingArc)
+    requires min { IsDelay arc.min }
+    requires max { IsDelay arc.max }
+    requires bounded { IsBounded 1000000000000000 sums.old }
+    requires others_bounded { IsBounded 1000000000000000 others.now }
+    ensures greatest { AreJoined int_max sums.old.greatest others.now.greatest arc.max sums.new.greatest }
+    ensures least { AreJoined int_min sums.old.least others.now.least arc.min sums.new.least }
+    ensures bounded { (most : ℕ) → IsBounded most others.now → IsBounded most sums.old → IsBounded (most + 1000000000) sums.new }
+{
+    max_plus_row(&mut sums.greatest, &others.greatest, arc.max);
+    min_plus_row(&mut sums.least, &others.least, arc.min);
+}
+
+impl Held {
+    /// No sums in so many rows.
+    pub fn new(alloc: Global, rows: usize) -> Result<Held, AllocError>
+        ensures count { IfOk result (λ held. length held ≡ rows) }
+        ensures none { IfOk result (λ held. (row : ℕ) → row < rows → sums_at held row ≡ NO_SUMS) }
+    {
+        Ok(Held {
+            places: vec![in alloc; 0; rows]?,
+            rows: Vec::new(alloc),
+            sums: vec![in alloc; NO_SUMS; 1]?,
+        })
+    }
+
+    /// How many rows there are.
+    pub fn len(&self) -> usize
+        ensures { result ≡ length self.now }
+    {
+        self.places.len()
+    }
+
+    /// The sums in a row.
+    pub fn at(&self, row: usize) -> &Sums
+        requires { row < length self.now }
+        ensures { result.now ≡ sums_at self.now row }
+    {
+        let place = self.places[row] as usize;
+        &self.sums[place]
+    }
+
+    /// Takes all sums away.
+    pub fn clear(&mut self)
+        ensures count { length self.new ≡ length self.old }
+        ensures none { (row : ℕ) → row < length self.new → sums_at self.new row ≡ NO_SUMS }
+    {
+        for number in 0..self.rows.len() {
+            let row = self.rows[number] as usize;
+            self.places[row] = 0;
+        }
+        self.rows.clear();
+        self.sums.truncate(1);
+    }
+
+    /// Begins a lane in a row: the empty path leads from a bit to itself.
+    pub fn begin(&mut self, row: u32, lane: usize) -> Result<(), AllocError>
+        requires row { row < length self.old }
+        requires lane { lane < 8 }
+        ensures count { length self.new ≡ length self.old }
+        ensures others { (other : ℕ) → other ≢ row → sums_at self.new other ≡ sums_at self.old other }
+        ensures lanes { OnOk result ((other : ℕ) → other ≢ lane
+            → (lane_at (sums_at self.new row).greatest other ≡ lane_at (sums_at self.old row).greatest other)
+            × (lane_at (sums_at self.new row).least other ≡ lane_at (sums_at self.old row).least other)) }
+        ensures own { OnOk result ((lane_at (sums_at self.new row).greatest lane ≡ Some (pos 0)) × (lane_at (sums_at self.new row).least lane ≡ Some (pos 0))) }
+    {
+        let place = hold(&mut self.places, &mut self.rows, &mut self.sums, row)?;
+        begin_lane(&mut self.sums[place], lane);
+        Ok(())
+    }
+
+    /// Joins the sums in the row that the arc leaves, along the arc, to those in the row that it enters.
+    pub fn join(&mut self, arc: TimingArc) -> Result<(), AllocError>
+        requires from { arc.from < length self.old }
+        requires to { arc.to < length self.old }
+        requires min { IsDelay arc.min }
+        requires max { IsDelay arc.max }
+        requires from_bounded { IsBounded 1000000000000000 (sums_at self.old arc.from) }
+        requires to_bounded { IsBounded 1000000000000000 (sums_at self.old arc.to) }
+        ensures count { length self.new ≡ length self.old }
+        ensures others { (row : ℕ) → row ≢ arc.to → sums_at self.new row ≡ sums_at self.old row }
+        ensures greatest { OnOk result (AreJoined int_max (sums_at self.old arc.to).greatest (sums_at self.old arc.from).greatest arc.max (sums_at self.new arc.to).greatest) }
+        ensures least { OnOk result (AreJoined int_min (sums_at self.old arc.to).least (sums_at self.old arc.from).least arc.min (sums_at self.new arc.to).least) }
+        ensures bounded { OnOk result ((most : ℕ) → IsBounded most (sums_at self.old arc.from) → IsBounded most (sums_at self.old arc.to) → IsBounded (most + 1000000000) (sums_at self.new arc.to)) }
+    {
+        let place = hold(&mut self.places, &mut self.rows, &mut self.sums, arc.to)?;
+        let left = self.places[arc.from as usize] as usize;
+        let from = self.sums[left];
+        join_rows(&mut self.sums[place], &from, arc);
+        Ok(())
+    }
+}
