@@ -31,10 +31,8 @@ marked_less old reached bit m = record {
 }
 
 -- at first there are no sums, and no bit is marked
-pub AreMarked-none : (count : ℕ) (sums : List Sums) (reached : List Bool) → sums ≡ replicate count NO_SUMS → reached ≡ replicate count false → AreMarked sums reached
-AreMarked-none count sums reached s r =
-    let long : length sums ≡ count = ap (λ (xs : List Sums). length xs) s ∙ length-replicate {A = Sums} count NO_SUMS in
-    record {
-      count = ap (λ (xs : List Bool). length xs) r ∙ length-replicate {A = Bool} count false ∙ sym long;
-      none = λ bit below _. rw s (get_or-replicate {A = Sums} count bit NO_SUMS no_sums (omega (arith, long, below)));
-    }
+pub AreMarked-none : (count : ℕ) (sums : List Sums) (reached : List Bool) → length sums ≡ count → ((bit : ℕ) → bit < count → sums_at sums bit ≡ NO_SUMS) → reached ≡ replicate count false → AreMarked sums reached
+AreMarked-none count sums reached long none r = record {
+  count = ap (λ (xs : List Bool). length xs) r ∙ length-replicate {A = Bool} count false ∙ sym long;
+  none = λ bit below _. none bit (omega arith);
+}

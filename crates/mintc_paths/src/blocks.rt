@@ -82,6 +82,7 @@ fn find_block(
     requires marked { AreMarked sums.old reached.old }
     requires ready { IsReady (length course.now.along.items) reached.old awake.old }
     requires known { OnTrue known_short (ArePathsShort of.design) }
+    ensures count { length sums.new ≡ length sums.old }
     ensures marked { OnOk result (AreMarked sums.new reached.new) }
     ensures ready { OnOk result (IsReady (length course.now.along.items) reached.new awake.new) }
     ensures found { OnOk result (IsFoundBefore of.design (first + lanes) 0 found.new) }
@@ -111,6 +112,47 @@ pub fn course_of(alloc: Global, flat: &Flat, order: &Order) -> Result<Course, Al
     Course::new(alloc, flat, order, rows)
 }
 
+/// Finds the pairs from all elements, whose sums go through `sums`.
+fn find_each(
+    alloc: Global,
+    course: &Course,
+    sums: &mut Held,
+    reached: &mut [bool],
+    awake: &mut Awake,
+    elements: u32,
+    known_short: bool,
+) -> Result<Found, Stop>
+    ghost of: { Ordered }
+    requires course { IsCourseOf (length sums.old) of course.now }
+    requires count { elements ≡ length of.design.elements }
+    requires marked { AreMarked sums.old reached.old }
+    requires ready { IsReady (length course.now.along.items) reached.old awake.old }
+    requires known { OnTrue known_short (ArePathsShort of.design) }
+    ensures found { IfOk result (IsFoundBefore of.design (length of.design.elements) 0) }
+    ensures few { IfOk result (λ found. found.count ≤ 4000000) }
+    ensures short { OnOk result (ArePathsShort of.design) }
+    ensures stop { IfErr result (StopsAt (IsPathRange of.design)) }
+{
+    let mut found = Found::new(alloc);
+    let mut first = 0;
+    while first < elements {
+        let lanes = (elements - first).min(8);
+        find_block(
+            course,
+            sums,
+            reached,
+            awake,
+            &mut found,
+            elements,
+            first,
+            lanes,
+            known_short,
+        )?;
+        first += lanes;
+    }
+    Ok(found)
+}
+
 /// Finds the pairs of a design with so many elements along a course of its arcs.
 pub fn find_along(
     alloc: Global,
@@ -137,24 +179,15 @@ pub fn find_along(
     let Ok(mut awake) = Awake::new(alloc, course.along.len()) else {
         return Err(Stop::OutOfMemory);
     };
-    let mut found = Found::new(alloc);
-    let mut first = 0;
-    while first < elements {
-        let lanes = (elements - first).min(8);
-        find_block(
-            course,
-            &mut sums,
-            &mut reached,
-            &mut awake,
-            &mut found,
-            elements,
-            first,
-            lanes,
-            known_short,
-        )?;
-        first += lanes;
-    }
-    Ok(found)
+    find_each(
+        alloc,
+        course,
+        &mut sums,
+        &mut reached,
+        &mut awake,
+        elements,
+        known_short,
+    )
 }
 
 /// Finds the pairs from the outputs on.

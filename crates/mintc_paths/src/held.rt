@@ -3,7 +3,7 @@ ghost use Rattle.std.specs.Prelude.{◌≡◌, ◌≢◌, ◌<◌, ◌≤◌, �
 ghost use Rattle.std.specs.Int.{int_max, int_min};
 ghost use Rattle.mintc_lanes.specs.Lanes.{lane_at, AreJoined};
 ghost use Rattle.mintc_timing.specs.Limits.{IsDelay};
-ghost use Rattle.mintc_paths.specs.Held.{AreHeld, place_at};
+ghost use Rattle.mintc_paths.specs.Held.{places_of, place_at, AreNumbered};
 ghost use Rattle.mintc_paths.specs.Sums.{sums_at, placed, IsBounded};
 
 use crate::sums::{NO_SUMS, Sums};
@@ -15,10 +15,10 @@ use std::marker::Model;
 /// Sums in rows, seen as the list of them.
 #[derive(Drop)]
 pub struct Held {
-    /// For each row the place of its sums among those that are held, 0 where it has none.
-    places: Vec<u32>,
-    /// The rows that have a place.
-    rows: Vec<u32>,
+    /// For each row a number. By how much it is above the base is the place of the row's sums, 0 where there are none.
+    numbers: Vec<u32>,
+    /// It is raised where all sums are taken away. Sums that are held for 250 blocks of 2^20 rows raise it to 2^28.
+    base: u32,
     /// The sums that are held. Those at place 0 are none.
     sums: Vec<Sums>,
 }
@@ -26,43 +26,70 @@ pub struct Held {
 impl Model for Held {
     ghost use Rattle.std.specs.Prelude.{List};
     ghost use Rattle.mintc_paths.specs.declared.sums.Sums.{Sums};
-    ghost use Rattle.mintc_paths.specs.Held.{AreHeld};
+    ghost use Rattle.mintc_paths.specs.Held.{places_of, AreNumbered};
     ghost use Rattle.mintc_paths.specs.Sums.{placed};
 
     ghost Value = { List Sums };
 
-    ghost view = { λ h. placed h.places.items h.sums.items };
+    ghost view = { λ h. placed (places_of h.base h.numbers.items) h.sums.items };
 
-    ghost invariant = { λ h. AreHeld h.places.items h.rows.items h.sums.items };
+    ghost invariant = { λ h. AreNumbered h.base h.numbers.items h.sums.items };
+}
+
+/// The place of a row, 0 where it has none.
+fn place_of(numbers: &[u32], base: u32, row: usize) -> usize
+    requires { row < length numbers.now }
+    ensures { result ≡ place_at (places_of base numbers.now) row }
+{
+    numbers[row].saturating_sub(base) as usize
+}
+
+/// Gives the next place to a row that has none.
+fn give(
+    numbers: &mut Vec<u32>,
+    base: u32,
+    sums: &mut Vec<Sums>,
+    row: u32,
+) -> Result<usize, AllocError>
+    requires row { row < length numbers.old.items }
+    requires held { AreNumbered base numbers.old.items sums.old.items }
+    requires none { place_at (places_of base numbers.old.items) row ≡ 0 }
+    ensures held { AreNumbered base numbers.new.items sums.new.items }
+    ensures kept { (other : ℕ) → sums_at (placed (places_of base numbers.new.items) sums.new.items) other ≡ sums_at (placed (places_of base numbers.old.items) sums.old.items) other }
+    ensures count { length numbers.new.items ≡ length numbers.old.items }
+    ensures place { IfOk result (λ place. place ≡ place_at (places_of base numbers.new.items) row) }
+    ensures some { IfOk result (λ place. place ≢ 0) }
+{
+    let place = sums.len();
+    let number = base as usize + place;
+    if number >= u32::MAX as usize {
+        return Err(AllocError);
+    }
+    sums.push(NO_SUMS)?;
+    numbers[row as usize] = number as u32;
+    Ok(place)
 }
 
 /// The place of a row, which gets one if it has none.
 fn hold(
-    places: &mut Vec<u32>,
-    rows: &mut Vec<u32>,
+    numbers: &mut Vec<u32>,
+    base: u32,
     sums: &mut Vec<Sums>,
     row: u32,
 ) -> Result<usize, AllocError>
-    requires row { row < length places.old.items }
-    requires held { AreHeld places.old.items rows.old.items sums.old.items }
-    ensures held { AreHeld places.new.items rows.new.items sums.new.items }
-    ensures kept { (other : ℕ) → sums_at (placed places.new.items sums.new.items) other ≡ sums_at (placed places.old.items sums.old.items) other }
-    ensures count { length places.new.items ≡ length places.old.items }
-    ensures place { IfOk result (λ place. place ≡ place_at places.new.items row) }
+    requires row { row < length numbers.old.items }
+    requires held { AreNumbered base numbers.old.items sums.old.items }
+    ensures held { AreNumbered base numbers.new.items sums.new.items }
+    ensures kept { (other : ℕ) → sums_at (placed (places_of base numbers.new.items) sums.new.items) other ≡ sums_at (placed (places_of base numbers.old.items) sums.old.items) other }
+    ensures count { length numbers.new.items ≡ length numbers.old.items }
+    ensures place { IfOk result (λ place. place ≡ place_at (places_of base numbers.new.items) row) }
     ensures some { IfOk result (λ place. place ≢ 0) }
 {
-    let at = row as usize;
-    if places[at] > 0 {
-        return Ok(places[at] as usize);
+    let place = place_of(numbers, base, row as usize);
+    if place > 0 {
+        return Ok(place);
     }
-    let place = sums.len();
-    if place > u32::MAX as usize {
-        return Err(AllocError);
-    }
-    sums.push(NO_SUMS)?;
-    rows.push(row)?;
-    places[at] = place as u32;
-    Ok(place)
+    give(numbers, base, sums, row)
 }
 
 /// Begins a lane: the empty path leads from a bit to itself.
@@ -97,8 +124,8 @@ impl Held {
         ensures none { IfOk result (λ held. (row : ℕ) → row < rows → sums_at held row ≡ NO_SUMS) }
     {
         Ok(Held {
-            places: vec![in alloc; 0; rows]?,
-            rows: Vec::new(alloc),
+            numbers: vec![in alloc; 0; rows]?,
+            base: 0,
             sums: vec![in alloc; NO_SUMS; 1]?,
         })
     }
@@ -107,7 +134,7 @@ impl Held {
     pub fn len(&self) -> usize
         ensures { result ≡ length self.now }
     {
-        self.places.len()
+        self.numbers.len()
     }
 
     /// The sums in a row.
@@ -115,7 +142,7 @@ impl Held {
         requires { row < length self.now }
         ensures { result.now ≡ sums_at self.now row }
     {
-        let place = self.places[row] as usize;
+        let place = place_of(&self.numbers, self.base, row);
         &self.sums[place]
     }
 
@@ -124,11 +151,7 @@ impl Held {
         ensures count { length self.new ≡ length self.old }
         ensures none { (row : ℕ) → row < length self.new → sums_at self.new row ≡ NO_SUMS }
     {
-        for number in 0..self.rows.len() {
-            let row = self.rows[number] as usize;
-            self.places[row] = 0;
-        }
-        self.rows.clear();
+        self.base += (self.sums.len() - 1) as u32;
         self.sums.truncate(1);
     }
 
@@ -143,7 +166,7 @@ impl Held {
             × (lane_at (sums_at self.new row).least other ≡ lane_at (sums_at self.old row).least other)) }
         ensures own { OnOk result ((lane_at (sums_at self.new row).greatest lane ≡ Some (pos 0)) × (lane_at (sums_at self.new row).least lane ≡ Some (pos 0))) }
     {
-        let place = hold(&mut self.places, &mut self.rows, &mut self.sums, row)?;
+        let place = hold(&mut self.numbers, self.base, &mut self.sums, row)?;
         begin_lane(&mut self.sums[place], lane);
         Ok(())
     }
@@ -162,8 +185,8 @@ impl Held {
         ensures least { OnOk result (AreJoined int_min (sums_at self.old arc.to).least (sums_at self.old arc.from).least arc.min (sums_at self.new arc.to).least) }
         ensures bounded { OnOk result ((most : ℕ) → IsBounded most (sums_at self.old arc.from) → IsBounded most (sums_at self.old arc.to) → IsBounded (most + 1000000000) (sums_at self.new arc.to)) }
     {
-        let place = hold(&mut self.places, &mut self.rows, &mut self.sums, arc.to)?;
-        let left = self.places[arc.from as usize] as usize;
+        let place = hold(&mut self.numbers, self.base, &mut self.sums, arc.to)?;
+        let left = place_of(&self.numbers, self.base, arc.from as usize);
         let from = self.sums[left];
         join_rows(&mut self.sums[place], &from, arc);
         Ok(())

@@ -1,37 +1,25 @@
-use Rattle.std.proofs.Common.{◌≡◌, ◌++◌, List, Bool, take, drop, length, arith, rules, subst, sym}
-use Rattle.mintc_paths.specs.declared.sums.Sums.{Sums}
-use Rattle.mintc_paths.specs.Awake.{IsReady}
-use Rattle.mintc_paths.specs.Sums.{AreMarked}
+use Rattle.std.proofs.Common.{◌≡◌, ◌∙◌, ℕ, List, Bool, false, length, replicate, arith, rules, subst, sym}
+use Rattle.mintc_paths.specs.Ordered.{IsCourseOf}
 use Rattle.mintc_paths.proofs.Marking.{AreMarked-none}
-use Rattle.mintc_paths.proofs.Waking.{all_off, written_over, IsReady-fewer}
+use Rattle.mintc_paths.proofs.Waking.{all_off, IsReady-fewer}
 use Rattle.mintc_paths.proofs.blocks.find_along.Goals as goal
 
-pub loop-first-init : goal.loop-first-init
-loop-first-init g c =
-    let sums : List Sums = c.in-Ok.sums.items in
-    let reached : List Bool = c.in-Ok-vec.reached.items in
-    record {
-      marked = AreMarked-none c.len-bits.result sums reached (search rules) (search rules);
-      ready = IsReady-fewer (length c.args.course.now.along.items) c.len.result reached c.in-Ok-new.awake (omega (arith, c.len.ensures, c.args.course.now.along.ok.0))
-          (c.in-Ok-new.ensures.ready reached (all_off c.len-bits.result reached (search rules)));
-      found = search rules;
-      short = search rules;
-      inside = search rules;
-      bits = search rules;
-    }
-
-pub loop-first-preserved : goal.loop-first-preserved
-loop-first-preserved g c =
-    let sums : List Sums = c.find_block.new.sums in
-    let reached : List Bool = c.find_block.new.reached in
-    let same_sums : take c.loop-first.sums.len (sums ++ drop (length sums) c.loop-first.sums.items) ≡ sums = written_over c.loop-first.sums.len sums c.loop-first.sums.items (omega (arith, c.find_block.auto.sums, c.loop-first.sums.ok.0)) in
-    let same : take c.loop-first.reached.len (reached ++ drop (length reached) c.loop-first.reached.items) ≡ reached = written_over c.loop-first.reached.len reached c.loop-first.reached.items (omega (arith, c.find_block.auto.reached, c.loop-first.reached.ok.0)) in
-    record {
-      marked = subst (λ xs. AreMarked xs (take c.loop-first.reached.len (reached ++ drop (length reached) c.loop-first.reached.items))) (sym same_sums)
-          (subst (λ marks. AreMarked sums marks) (sym same) c.in_ok-find_block.ensures.marked);
-      ready = subst (λ marks. IsReady (length c.args.course.now.along.items) marks c.find_block.new.awake) (sym same) c.in_ok-find_block.ensures.ready;
-      found = search rules;
-      short = search rules;
-      inside = search rules;
-      bits = search rules;
-    }
+pub find_each-requires : goal.find_each-requires
+find_each-requires g c =
+    let reached : List Bool = c.deref_mut.result.now in
+    let bits : ℕ = c.len-bits.result in
+    let count : bits ≡ length c.args.course.now.rows.of_bits.items = omega (arith, c.len-bits.ensures, c.args.course.now.rows.of_bits.ok.0) in
+    let off : reached ≡ replicate bits false = c.deref_mut.ensures.value ∙ search rules in
+    let course : IsCourseOf (length c.in-Ok.sums) g.of c.args.course.now = subst (λ n. IsCourseOf n g.of c.args.course.now) (sym (c.in-Ok.ensures.count ∙ count)) c.requires.0 in (
+      course,
+      (
+        c.requires.1.0,
+        (
+          AreMarked-none bits c.in-Ok.sums reached c.in-Ok.ensures.count c.in-Ok.ensures.none off,
+          (
+            IsReady-fewer (length c.args.course.now.along.items) c.len.result reached c.in-Ok-new.awake (omega (arith, c.len.ensures, c.args.course.now.along.ok.0)) (c.in-Ok-new.ensures.ready reached (all_off bits reached off)),
+            c.requires.1.1,
+          ),
+        ),
+      ),
+    )

@@ -1,22 +1,4 @@
-use Rattle.std.proofs.Common.{◌≡◌, ◌≤◌, ◌-◌, length}
-use Rattle.mintc_paths.specs.Awake.{IsReady}
-use Rattle.mintc_paths.specs.Found.{IsFoundBefore}
-use Rattle.mintc_paths.specs.Sums.{AreMarked}
-use Rattle.mintc_paths.specs.Refusals.{AreShortBefore}
 use Rattle.mintc_paths.proofs.blocks.find_along.Given as goal
 
-abbrev pub invariant-loop-first : goal.invariant-loop-first
-invariant-loop-first g l = record {
-  marked : AreMarked l.sums.items l.reached.items;
-  ready : IsReady (length l.course.along.items) l.reached.items l.awake;
-  found : IsFoundBefore g.of.design l.first 0 l.found;
-  short : AreShortBefore g.of.design l.first;
-  inside : l.first ≤ l.elements;
-  bits : length l.sums.items ≡ length l.course.rows.of_bits.items;
-}
-
-abbrev pub decreases-loop-first : goal.decreases-loop-first
-decreases-loop-first g l = l.elements - l.first
-
-abbrev pub ghost-find_block : goal.ghost-find_block
-ghost-find_block g a = g.of
+abbrev pub ghost-find_each : goal.ghost-find_each
+ghost-find_each g a = g.of

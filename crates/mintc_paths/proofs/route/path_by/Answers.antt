@@ -20,7 +20,7 @@ trace-requires-clause-bounded g c = λ bit inside.
     let few = c.elements-elements.ensures.kept.arcs in
     let design : Design = c.flat-flat.result.now in
     let bits : ℕ = 2 * length design.elements + length design.inner in
-    let same : length c.fill.new.sums ≡ bits = c.fill.auto.sums ∙ c.requires.1.1.1.0 ∙ sym (ap (λ (f : Design). 2 * length f.elements + length f.inner) c.flat-flat.ensures) in
+    let same : length c.fill.new.sums ≡ bits = c.in-Ok-fill.ensures.count ∙ c.requires.1.1.1.0 ∙ sym (ap (λ (f : Design). 2 * length f.elements + length f.inner) c.flat-flat.ensures) in
     let of_is : g.of ≡ ordered c.flat-flat.result.now c.order-order.result.now = rw (c.flat-flat.ensures, c.order-order.ensures) c.requires.0 in
     let sums_are = AreSums-plain design.arcs c.order-order.result.now (length c.order-order.result.now) c.args.from 1 bits c.in-Ok.course.rows c.in-Ok.ensures.course.rows c.in-Ok.ensures.own
     c.fill.new.sums same (subst (λ (o : Ordered). AreSums o.design.arcs o.order (length o.order) c.args.from 1 (placed c.in-Ok.course.rows.of_bits.items c.fill.new.sums)) of_is c.in-Ok-fill.ensures.sums) in
@@ -38,7 +38,7 @@ returns-in-Ok-trace g c =
     let is_order : IsOrder arcs order = rw (c.flat-flat.ensures, c.order-order.ensures) kept.ordered in
     let design : Design = c.flat-flat.result.now in
     let bits : ℕ = 2 * length design.elements + length design.inner in
-    let same : length c.fill.new.sums ≡ bits = c.fill.auto.sums ∙ c.requires.1.1.1.0 ∙ sym (ap (λ (f : Design). 2 * length f.elements + length f.inner) c.flat-flat.ensures) in
+    let same : length c.fill.new.sums ≡ bits = c.in-Ok-fill.ensures.count ∙ c.requires.1.1.1.0 ∙ sym (ap (λ (f : Design). 2 * length f.elements + length f.inner) c.flat-flat.ensures) in
     let of_is : g.of ≡ ordered c.flat-flat.result.now c.order-order.result.now = rw (c.flat-flat.ensures, c.order-order.ensures) c.requires.0 in
     let sums_are = AreSums-plain design.arcs c.order-order.result.now (length c.order-order.result.now) c.args.from 1 bits c.in-Ok.course.rows c.in-Ok.ensures.course.rows c.in-Ok.ensures.own
     c.fill.new.sums same (subst (λ (o : Ordered). AreSums o.design.arcs o.order (length o.order) c.args.from 1 (placed c.in-Ok.course.rows.of_bits.items c.fill.new.sums)) of_is c.in-Ok-fill.ensures.sums) in

@@ -1,6 +1,7 @@
 use Rattle.std.proofs.Common.{◌≡◌, ◌<◌, ◌*◌, ◌+◌, ◌∙◌, ℕ, List, length, arith, ap, subst, sym, get_or}
 use Rattle.std.proofs.lemmas.List.{get_or_default}
 use Rattle.mintc_lanes.specs.Lanes.{lane_at}
+use Rattle.mintc_paths.specs.declared.sums.Sums.{Sums}
 use Rattle.mintc_paths.specs.Reached.{IsPaired}
 use Rattle.mintc_paths.specs.Found.{IsFoundBefore, end_at}
 use Rattle.mintc_paths.specs.Sums.{sums_at, row_of}
@@ -30,7 +31,8 @@ loop-number-preserved g c =
     let before = IsFoundToEnd-at g.design c.args.rows.now c.args.sums.now ends c.requires.1.1.0 bits c.requires.1.1.1.0 c.args.element c.args.lane c.requires.1.1.1.1.1.0 c.requires.1.1.1.1.1.1.0 number c.loop-number.self inside
     c.loop-number.invariant.found in
     let after = c.in_ok-add_at.ensures.found g.design
-    (subst (λ r. IsPaired g.design c.args.element to (lane_at (sums_at c.args.sums.now r).greatest c.args.lane) (lane_at (sums_at c.args.sums.now r).least c.args.lane)) (sym is_row) paired)
+    (subst (λ (s : Sums). IsPaired g.design c.args.element to (lane_at s.greatest c.args.lane) (lane_at s.least c.args.lane)) (sym c.at.ensures)
+    (subst (λ r. IsPaired g.design c.args.element to (lane_at (sums_at c.args.sums.now r).greatest c.args.lane) (lane_at (sums_at c.args.sums.now r).least c.args.lane)) (sym is_row) paired))
     (subst (λ k. IsFoundBefore g.design c.args.element k c.loop-number.self) (sym is_to) before) in
     record {
       found = IsFoundToEnd-more g.design c.args.rows.now c.args.sums.now ends c.requires.1.1.0 bits c.requires.1.1.1.0 c.args.element c.args.lane c.requires.1.1.1.1.1.0 c.requires.1.1.1.1.1.1.0 number c.add_at.new.self inside

@@ -1,7 +1,15 @@
-use Rattle.std.proofs.Common.{arith, rules}
-use Rattle.mintc_paths.proofs.Holding.{placed_none, all_zero}
+use Rattle.std.proofs.Common.{◌<◌, ℕ, List, length, replicate, arith, rules, subst, sym}
+use Rattle.std.proofs.lemmas.List.{length-replicate}
+use Rattle.mintc_paths.specs.Held.{places_of}
+use Rattle.mintc_paths.proofs.Holding.{placed_none, all_zero, AreHeld-none, length-places}
 use Rattle.mintc_paths.proofs.held.Held.new.Goals as goal
 
+pub invariant_of-result : goal.invariant_of-result
+invariant_of-result c =
+    let numbers : List ℕ = c.in_ok-vec.field-0.items in
+    record { held = AreHeld-none (places_of 0 numbers) c.in_ok-vec-2.field-0.items (all_zero c.args.rows numbers (search rules)) (search rules) (search rules); few = search rules }
+
 pub returns-clause-none : goal.returns-clause-none
-returns-clause-none c = λ row low.
-    placed_none c.in_ok-vec.field-0.items c.new.result.items c.in_ok-vec-2.field-0.items (all_zero c.args.rows c.in_ok-vec.field-0.items (search rules)) (search rules) row (search rules)
+returns-clause-none c =
+    let numbers : List ℕ = c.in_ok-vec.field-0.items in
+    λ row low. placed_none (places_of 0 numbers) c.in_ok-vec-2.field-0.items (all_zero c.args.rows numbers (search rules)) (search rules) row (subst (λ n. row < n) (sym (length-places 0 numbers)) (search rules))

@@ -1,0 +1,38 @@
+use Rattle.std.proofs.Common.{◌≡◌, ◌≢◌, ◌+◌, ◌<◌, ◌≤◌, ◌^◌, ◌∙◌, ◌∷◌, [], ℕ, List, length, set, arith, sym, subst, ap, refl}
+use Rattle.std.proofs.lemmas.List.{length-append}
+use Rattle.mintc_paths.specs.declared.sums.TheConstants.{NO_SUMS}
+use Rattle.mintc_paths.specs.Held.{place_at, places_of, AreHeld, AreNumbered}
+use Rattle.mintc_paths.proofs.Holding.{given_kept, AreHeld-given, number_own, number_other, number_count}
+use Rattle.mintc_paths.proofs.held.give.Goals as goal
+
+pub returns-clause-held : goal.returns-clause-held
+returns-clause-held c =
+    let numbers : List ℕ = c.args.numbers.now.items in
+    let base : ℕ = c.args.base in
+    let row : ℕ = c.args.row in
+    let sums = c.args.sums.now.items in
+    let number : ℕ = base + length sums in
+    let place : c.len-place.result ≡ length sums = omega (arith, c.len-place.ensures, c.args.sums.now.ok.0) in
+    let few : base + c.len-place.result < 4294967295 = c.if-number.false in
+    let more = length-append sums (NO_SUMS ∷ []) in
+    rw (place, c.in_ok-push.ensures.items) (record { held = AreHeld-given (places_of base numbers) (places_of base (set numbers row number)) sums c.requires.held.held row c.requires.none (number_count base numbers row number) (number_own base numbers row (length sums) c.requires.row) (number_other base numbers row number); few = omega arith })
+
+pub returns-clause-kept : goal.returns-clause-kept
+returns-clause-kept c =
+    let numbers : List ℕ = c.args.numbers.now.items in
+    let base : ℕ = c.args.base in
+    let row : ℕ = c.args.row in
+    let sums = c.args.sums.now.items in
+    let number : ℕ = base + length sums in
+    let place : c.len-place.result ≡ length sums = omega (arith, c.len-place.ensures, c.args.sums.now.ok.0) in
+    rw (place, c.in_ok-push.ensures.items) (given_kept (places_of base numbers) (places_of base (set numbers row number)) sums c.requires.held.held row c.requires.none (number_count base numbers row number) (number_own base numbers row (length sums) c.requires.row) (number_other base numbers row number))
+
+pub returns-clause-place : goal.returns-clause-place
+returns-clause-place c =
+    let numbers : List ℕ = c.args.numbers.now.items in
+    let base : ℕ = c.args.base in
+    let row : ℕ = c.args.row in
+    let sums = c.args.sums.now.items in
+    let number : ℕ = base + length sums in
+    let place : c.len-place.result ≡ length sums = omega (arith, c.len-place.ensures, c.args.sums.now.ok.0) in
+    rw place (sym (number_own base numbers row (length sums) c.requires.row))
