@@ -8,7 +8,7 @@ use Rattle.mintc_paths.specs.declared.sums.Sums.{Sums}
 use Rattle.mintc_paths.specs.declared.sums.TheConstants.{NO_SUMS}
 use Rattle.mintc_paths.specs.Held.{place_at, places_of, AreHeld}
 use Rattle.mintc_paths.specs.Sums.{sums_at, no_sums, placed}
-use Rattle.mintc_paths.proofs.Rowing.{length-placed, placed_at, placed_past}
+use Rattle.mintc_paths.proofs.Rowing.{placed_at, placed_past}
 
 low_or_past : (i n : ℕ) → (i < n) ⊎ (n ≤ i)
 low_or_past i n = grind arith

@@ -1,6 +1,6 @@
 use Rattle.std.proofs.Common.{◌≡◌, ◌≢◌, ◌<◌, ℕ, Bool, true, false, List, length, get_or, set, length-set, get_or-set_same, get_or-set_other, ⊎_elim, arith, sym, ◌∙◌, ap, replicate}
 use Rattle.std.proofs.lemmas.Bool.{cases_eq}
-use Rattle.std.proofs.lemmas.List.{get_or-replicate, length-replicate}
+use Rattle.std.proofs.lemmas.List.{length-replicate}
 use Rattle.mintc_paths.specs.declared.sums.Sums.{Sums}
 use Rattle.mintc_paths.specs.declared.sums.TheConstants.{NO_SUMS}
 use Rattle.mintc_paths.specs.Sums.{sums_at, no_sums, AreMarked}

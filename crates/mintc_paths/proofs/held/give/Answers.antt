@@ -1,7 +1,7 @@
-use Rattle.std.proofs.Common.{◌≡◌, ◌≢◌, ◌+◌, ◌<◌, ◌≤◌, ◌^◌, ◌∙◌, ◌∷◌, [], ℕ, List, length, set, arith, sym, subst, ap, refl}
+use Rattle.std.proofs.Common.{◌≡◌, ◌+◌, ◌<◌, ◌∷◌, [], ℕ, List, length, set, arith, sym}
 use Rattle.std.proofs.lemmas.List.{length-append}
 use Rattle.mintc_paths.specs.declared.sums.TheConstants.{NO_SUMS}
-use Rattle.mintc_paths.specs.Held.{place_at, places_of, AreHeld, AreNumbered}
+use Rattle.mintc_paths.specs.Held.{places_of}
 use Rattle.mintc_paths.proofs.Holding.{given_kept, AreHeld-given, number_own, number_other, number_count}
 use Rattle.mintc_paths.proofs.held.give.Goals as goal
 

@@ -1,10 +1,9 @@
-use Rattle.std.proofs.Common.{◌≡◌, ◌<◌, ◌∙◌, ℕ, List, length, arith, ap, sym}
+use Rattle.std.proofs.Common.{◌≡◌, ◌∙◌, ℕ, List, length, arith, ap, sym}
 use Rattle.std.proofs.lemmas.List.{get_or_default}
 use Rattle.mintc_paths.specs.declared.sums.Sums.{Sums}
 use Rattle.mintc_paths.specs.Held.{place_at, places_of}
-use Rattle.mintc_paths.specs.Sums.{sums_at, no_sums, placed}
+use Rattle.mintc_paths.specs.Sums.{sums_at, no_sums}
 use Rattle.mintc_paths.proofs.Rowing.{placed_at, length-placed}
-use Rattle.mintc_paths.proofs.Holding.{length-places}
 use Rattle.mintc_paths.proofs.held.Held.at.Goals as goal
 
 pub index-requires : goal.index-requires

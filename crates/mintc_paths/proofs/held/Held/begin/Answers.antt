@@ -1,9 +1,8 @@
-use Rattle.std.proofs.Common.{◌≡◌, ◌≢◌, ◌<◌, ◌+◌, ◌∙◌, ℕ, List, length, get_or, arith, ap, sym, subst}
-use Rattle.std.specs.Int.{int_max, int_min}
-use Rattle.mintc_lanes.specs.Lanes.{lane_at, joined}
+use Rattle.std.proofs.Common.{◌≡◌, ◌<◌, ◌∙◌, ℕ, List, length, arith, ap, sym}
+use Rattle.mintc_lanes.specs.Lanes.{lane_at}
 use Rattle.mintc_paths.specs.declared.sums.Sums.{Sums}
-use Rattle.mintc_paths.specs.Held.{place_at, places_of}
-use Rattle.mintc_paths.specs.Sums.{sums_at, placed, IsBounded}
+use Rattle.mintc_paths.specs.Held.{places_of}
+use Rattle.mintc_paths.specs.Sums.{sums_at, placed}
 use Rattle.mintc_paths.proofs.Rowing.{length-placed}
 use Rattle.mintc_paths.proofs.Holding.{put_own, put_others, there, length-places}
 use Rattle.mintc_paths.proofs.held.Held.begin.Goals as goal

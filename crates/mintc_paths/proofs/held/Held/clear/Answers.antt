@@ -1,7 +1,7 @@
-use Rattle.std.proofs.Common.{◌≡◌, ◌<◌, ◌≤◌, ◌+◌, ◌-◌, ◌∙◌, ℕ, List, length, arith, ap, sym, subst}
+use Rattle.std.proofs.Common.{◌≡◌, ◌<◌, ◌+◌, ◌-◌, ◌∙◌, ℕ, List, length, arith, ap, subst}
 use Rattle.mintc_paths.specs.declared.sums.Sums.{Sums}
 use Rattle.mintc_paths.specs.declared.sums.TheConstants.{NO_SUMS}
-use Rattle.mintc_paths.specs.Held.{place_at, places_of, AreNumbered}
+use Rattle.mintc_paths.specs.Held.{places_of}
 use Rattle.mintc_paths.specs.Sums.{sums_at}
 use Rattle.mintc_paths.proofs.Rowing.{length-placed}
 use Rattle.mintc_paths.proofs.Holding.{placed_none, AreHeld-none, none_above, first_alone}

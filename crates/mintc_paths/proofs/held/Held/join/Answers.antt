@@ -1,4 +1,4 @@
-use Rattle.std.proofs.Common.{◌≡◌, ◌≢◌, ◌<◌, ◌+◌, ◌∙◌, ℕ, List, length, get_or, arith, ap, sym, subst}
+use Rattle.std.proofs.Common.{◌≡◌, ◌<◌, ◌+◌, ◌∙◌, ℕ, List, length, arith, ap, sym, subst}
 use Rattle.std.specs.Int.{int_max, int_min}
 use Rattle.mintc_lanes.specs.Lanes.{lane_at, joined}
 use Rattle.mintc_paths.specs.declared.sums.Sums.{Sums}

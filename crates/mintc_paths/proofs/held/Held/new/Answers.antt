@@ -1,5 +1,4 @@
-use Rattle.std.proofs.Common.{◌<◌, ℕ, List, length, replicate, arith, rules, subst, sym}
-use Rattle.std.proofs.lemmas.List.{length-replicate}
+use Rattle.std.proofs.Common.{◌<◌, ℕ, List, rules, subst, sym}
 use Rattle.mintc_paths.specs.Held.{places_of}
 use Rattle.mintc_paths.proofs.Holding.{placed_none, all_zero, AreHeld-none, length-places}
 use Rattle.mintc_paths.proofs.held.Held.new.Goals as goal
