@@ -69,7 +69,7 @@ fn find_block(
     found: &mut Found,
     elements: u32,
     first: u32,
-    lanes: u32,
+    lanes: usize,
     known_short: bool,
 ) -> Result<(), Stop>
     ghost of: { Ordered }
@@ -90,7 +90,6 @@ fn find_block(
     ensures stop { IfErr result (StopsAt (IsPathRange of.design)) }
 {
     let rows = &course.rows;
-    let lanes = lanes as usize;
     let Ok(()) = fill(sums, reached, awake, course, first, lanes) else {
         return Err(Stop::OutOfMemory);
     };
@@ -145,7 +144,7 @@ fn find_each(
             &mut found,
             elements,
             first,
-            lanes,
+            lanes as usize,
             known_short,
         )?;
         first += lanes;
