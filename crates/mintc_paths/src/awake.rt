@@ -20,7 +20,6 @@ pub struct Awake {
 }
 
 /// Takes in the arcs that leave a row.
-#[inline(never)]
 fn wake(places: &mut Places, course: &Course, row: usize)
     requires room { length course.now.along.items ≤ room places.old.words.items }
     requires row { row < length course.now.leaving.lasts.items }
@@ -49,7 +48,6 @@ impl Awake {
     }
 
     /// Marks a row as reached, and wakes the arcs that leave it.
-    #[inline]
     pub fn reach(
         &mut self,
         reached: &mut [bool],

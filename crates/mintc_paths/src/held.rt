@@ -37,7 +37,6 @@ impl Model for Held {
 }
 
 /// The place of a row, 0 where it has none.
-#[inline]
 fn place_of(numbers: &[u32], base: u32, row: usize) -> usize
     requires { row < length numbers.now }
     ensures { result ≡ place_at (places_of base numbers.now) row }
@@ -46,7 +45,6 @@ fn place_of(numbers: &[u32], base: u32, row: usize) -> usize
 }
 
 /// Gives the next place to a row that has none.
-#[inline(never)]
 fn give(
     numbers: &mut Vec<u32>,
     base: u32,
@@ -73,7 +71,6 @@ fn give(
 }
 
 /// The place of a row, which gets one if it has none.
-#[inline]
 fn hold(
     numbers: &mut Vec<u32>,
     base: u32,
