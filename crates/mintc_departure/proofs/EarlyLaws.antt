@@ -1,4 +1,4 @@
-use Rattle.std.proofs.Common.{◌≡◌, ◌≢◌, ℕ, ◌<◌, ◌==◌, ℤ, pos, ◌+ℤ◌, ◌-ℤ◌, ◌*ℤ◌, ◌≤ℤ◌, Bool, true, false, cond, List, length, get_or, arith, refl, sym, ap, ◌∙◌, Option, Some, None, ⊎_elim, subst}
+use Rattle.std.proofs.Common.{◌≡◌, ◌≢◌, ℕ, ◌<◌, ◌==◌, ℤ, pos, ◌+ℤ◌, ◌-ℤ◌, ◌*ℤ◌, ◌≤ℤ◌, Bool, true, false, cond, List, length, get_or, arith, refl, sym, ap, ◌∙◌, Option, Some, None, ◌⊎◌, inl, ⊎_elim, subst}
 use Rattle.std.proofs.lemmas.Int.{ints}
 use Rattle.std.proofs.lemmas.Bool.{cases_Bool, eqb-true}
 use Rattle.std.proofs.lemmas.List.{get_or_past, ext_get_or}
@@ -198,17 +198,28 @@ module _ (t : Timing) (s : Schedule) (design : IsDesign t.flat) (timing : IsTimi
     before = λ l h. rw (starts l h) (start-before l h);
   }
 
-  -- .. and each goes on from the one before.
-  pub rising-more : (d e : List ℤ) → AreRising t s late d → length e ≡ element_count t → ((l : ℕ) → l < element_count t → departure e l ≡ early_departure t s d l) → AreRising t s late e
-  rising-more d e rising count round =
-      let up : AreAtMost t d e = λ l h. rw (round l h) (rising.rises l h) in
+  -- .. and go on where each departure is what the others made it, or stays.
+  pub rising-part : (d e : List ℤ) → AreRising t s late d → length e ≡ element_count t →
+      ((l : ℕ) → l < element_count t → (departure e l ≡ early_departure t s d l) ⊎ (departure e l ≡ departure d l)) → AreRising t s late e
+  rising-part d e rising count part =
+      let up : AreAtMost t d e = λ l h. ⊎_elim (λ is. rw is (rising.rises l h)) (λ is. rw is (omega (arith, ints))) (part l h) in
+      let mono : (l : ℕ) → early_departure t s d l ≤ℤ early_departure t s e l = early-mono t s d e (everywhere t s d e rising.count count up) in
       record {
         count = count;
-        above = λ l h. rw (round l h) (start-least t s d l);
-        rises = λ l h. rw (round l h) (early-mono t s d e (everywhere t s d e rising.count count up) l);
-        least = λ f exact l h. rw (round l h, exact.each l h) (early-mono t s d f (everywhere t s d f rising.count exact.count (rising.least f exact)) l);
-        before = λ l h. rw (round l h) (round-before d rising.before l h);
+        above = λ l h. le_trans (rising.above l h) (up l h);
+        rises = λ l h. ⊎_elim (λ is. rw is (mono l)) (λ is. rw is (le_trans (rising.rises l h) (mono l))) (part l h);
+        least = λ f exact l h. ⊎_elim
+            (λ is. rw (is, exact.each l h) (early-mono t s d f (everywhere t s d f rising.count exact.count (rising.least f exact)) l))
+            (λ is. rw is (rising.least f exact l h))
+            (part l h);
+        before = λ l h. ⊎_elim (λ is. rw is (round-before d rising.before l h)) (λ is. rw is (rising.before l h)) (part l h);
       }
+    where
+      le_trans : {x y z : ℤ} → x ≤ℤ y → y ≤ℤ z → x ≤ℤ z
+      le_trans h k = omega (arith, ints)
+
+  pub rising-more : (d e : List ℤ) → AreRising t s late d → length e ≡ element_count t → ((l : ℕ) → l < element_count t → departure e l ≡ early_departure t s d l) → AreRising t s late e
+  rising-more d e rising count round = rising-part d e rising count (λ l h. inl (round l h))
 
   -- Where a round changes nothing, it leaves the departures, and they are the early ones.
   pub rising-same : (d e : List ℤ) → AreRising t s late d → length e ≡ element_count t → ((l : ℕ) → l < element_count t → departure e l ≡ early_departure t s d l) →

@@ -6,7 +6,9 @@ pub mod Filling
 pub mod Ladders
 pub mod LateSizes
 pub mod Lesser
+pub mod ChainLaws
 pub mod EarlyLaws
+pub mod SweepLaws
 pub mod Missing
 pub mod FailedLaws
 pub mod Gathering

@@ -1,5 +1,6 @@
 pub mod Networks
 pub mod Settled
 pub mod Rounds
+pub mod Chains
 pub mod Excesses
 pub mod Laws

@@ -1,9 +1,10 @@
-use Rattle.std.specs.Prelude.{◌≡◌, ◌<◌, ℕ, ℤ, pos, negsuc, ◌+ℤ◌, ◌*ℤ◌, ◌≤ℤ◌, if◌then◌else◌, List, length, Option, Some, None}
+use Rattle.std.specs.Prelude.{◌≡◌, ◌<◌, ◌≤◌, ◌^◌, ℕ, ℤ, pos, negsuc, ◌+ℤ◌, ◌*ℤ◌, ◌≤ℤ◌, if◌then◌else◌, List, length, Option, Some, None}
 use Rattle.mintc_timing.specs.declared.parts.Pair.{Pair}
 use Rattle.mintc_timing.specs.declared.clocking.Schedule.{Schedule}
 use Rattle.mintc_timing.specs.Design.{Timing, element_at, element_count, phase_of}
 use Rattle.mintc_timing.specs.Clocking.{shift_of}
 use Rattle.mintc_timing.specs.Departures.{departure, early_opening, early_departure, AreExactEarly, AreAtMost}
+use Rattle.mintc_places.specs.Places.{IsIn, room}
 use Rattle.mintc_departure.specs.declared.arrivals.TheConstants.{NEVER}
 use Rattle.mintc_departure.specs.Settled.{IsSum}
 
@@ -30,7 +31,7 @@ pub record AreSums (t : Timing) (d : List ℤ) : Type 0 where
   pub count : length d ≡ element_count t
   pub each : (l : ℕ) → l < element_count t → IsSum (departure d l)
 
--- What each round of the early departures keeps: they rise from where no data reaches an element, are at most every
+-- What each round, and each write, of the early departures keeps: they rise from where no data reaches an element, are at most every
 -- solution, and leave no output later than the late departures do.
 pub record AreRising (t : Timing) (s : Schedule) (late d : List ℤ) : Type 0 where
   pub count : length d ≡ element_count t
@@ -39,3 +40,11 @@ pub record AreRising (t : Timing) (s : Schedule) (late d : List ℤ) : Type 0 wh
   pub least : (e : List ℤ) → AreExactEarly t s e → AreAtMost t d e
   pub before : (l : ℕ) → l < element_count t →
       (departure d l +ℤ (element_at t l).dq_min *ℤ s.den) ≤ℤ (departure late l +ℤ (element_at t l).dq_max *ℤ s.den)
+
+-- What each sweep over the stale elements keeps: the departures rise, and an element that isn't stale departs when the
+-- others make it depart.
+pub record AreSwept (t : Timing) (s : Schedule) (late d : List ℤ) (stale : List ℕ) : Type 0 where
+  pub rising : AreRising t s late d
+  pub met : (l : ℕ) → l < element_count t → (IsIn stale l → ⊥) → departure d l ≡ early_departure t s d l
+  pub places : element_count t ≤ room stale
+  pub few : length stale ≤ 2 ^ 32

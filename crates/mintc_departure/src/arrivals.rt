@@ -16,7 +16,12 @@ use mintc_timing::{Pair, Schedule, System};
 pub const NEVER: i128 = i128::MAX;
 
 /// When data that leaves the first element of a pair reaches the second one at the earliest.
-fn arrival(system: &System, schedule: &Schedule, departures: &[i64], number: usize) -> i64
+pub(crate) fn arrival(
+    system: &System,
+    schedule: &Schedule,
+    departures: &[i64],
+    number: usize,
+) -> i64
     requires in_range { IsInRange schedule.now }
     requires phases { length schedule.now.starts ≡ phase_count system.now }
     requires departures { AreSums system.now departures.now }

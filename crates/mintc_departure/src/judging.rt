@@ -10,7 +10,7 @@ use crate::amounts::late_delay;
 use crate::clock_checks::judge_clock;
 use crate::element_checks::{judge_holds, judge_setups};
 use crate::latest::gather_latest;
-use crate::rounds::rise_early;
+use crate::rising::rise_early;
 use crate::settling::{Settling, late};
 use mintc_constraints::Room;
 use mintc_text::{Numbers, OutOfMemory};
@@ -68,6 +68,7 @@ fn push_loop(
 
 /// Appends the setups and the holds that aren't kept, by the room's late departures. The early ones are then in the room.
 fn judge_elements(
+    alloc: Global,
     system: &System,
     schedule: &Schedule,
     room: &mut Room,
@@ -87,7 +88,7 @@ fn judge_elements(
 {
     gather_latest(system, system.pairs(), schedule, room);
     judge_setups(system, schedule, room, violations)?;
-    rise_early(system, schedule, room);
+    rise_early(alloc, system, schedule, room)?;
     judge_holds(system, schedule, room, violations)
 }
 
@@ -114,7 +115,7 @@ pub fn violations(
     let _pairs = system.pairs();
     match late(system, schedule, room) {
         Settling::Settled => {
-            judge_elements(system, schedule, room, &mut violations)?;
+            judge_elements(alloc, system, schedule, room, &mut violations)?;
             Ok(violations)
         }
         Settling::Loop => {

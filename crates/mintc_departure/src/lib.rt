@@ -3,12 +3,14 @@
 
 mod amounts;
 mod arrivals;
+mod chains;
 mod clock_checks;
 mod element_checks;
 mod judging;
 mod latest;
 mod laws;
 mod pair_network;
+mod rising;
 mod rounds;
 mod settling;
 

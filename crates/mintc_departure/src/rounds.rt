@@ -14,7 +14,7 @@ use mintc_constraints::Room;
 use mintc_timing::{Schedule, System};
 
 /// When an element's data leaves at the earliest, by its earliest arrival.
-fn departs(system: &System, schedule: &Schedule, number: u32, first: i128) -> i64
+pub(crate) fn departs(system: &System, schedule: &Schedule, number: u32, first: i128) -> i64
     requires in_range { IsInRange schedule.now }
     requires number { number < element_count system.now }
     requires first { (first ≡ NEVER) ⊎ IsArrival first }
@@ -32,7 +32,7 @@ fn departs(system: &System, schedule: &Schedule, number: u32, first: i128) -> i6
 }
 
 /// Makes the early departures those of elements that no data reaches.
-fn fill_early_starts(system: &System, schedule: &Schedule, room: &mut Room)
+pub(crate) fn fill_early_starts(system: &System, schedule: &Schedule, room: &mut Room)
     requires in_range { IsInRange schedule.now }
     requires nodes { element_count system.now ≤ room.old.nodes }
     ensures kept { room.new ≡ record room.old { early = room.new.early } }

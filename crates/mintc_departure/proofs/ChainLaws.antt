@@ -1,0 +1,92 @@
+use Rattle.std.proofs.Common.{◌≡◌, ◌≢◌, ℕ, zero, suc, ◌+◌, ◌-◌, ◌<◌, ◌≤◌, ◌==◌, Bool, true, false, cond, ℤ, List, [], ◌∷◌, length, get_or, map, drop, arith, refl, sym, ap, ◌∙◌, Some, subst, ⊎_elim, eq-eqb, ne_eqb}
+use Rattle.std.proofs.Math.Seq.{drop-cons}
+use Rattle.std.proofs.lemmas.List.{get_or_default}
+use Rattle.std.proofs.lemmas.Bool.{cases_eq}
+use Rattle.std.specs.List.{filter}
+use Rattle.mintc_places.specs.Places.{IsIn}
+use Rattle.std.specs.Int.{int_min}
+use Rattle.mintc_timing.specs.declared.parts.Pair.{Pair}
+use Rattle.mintc_timing.specs.Design.{no_pair}
+use Rattle.mintc_timing.specs.Extremes.{least_of, lesser_of}
+use Rattle.mintc_departure.specs.declared.arrivals.TheConstants.{NEVER}
+use Rattle.mintc_departure.specs.Rounds.{IsArrival, IsFirst}
+use Rattle.mintc_departure.specs.Chains.{end_of, IsLastOf, AreChains}
+use Rattle.mintc_departure.specs.declared.chains.Chains.{Chains}
+use Rattle.mintc_departure.specs.declared.chains.End.{End}
+use Rattle.mintc_departure.specs.declared.chains.End.TheVariants.{First, Second}
+use Rattle.mintc_departure.proofs.Lesser.{first-more}
+use Rattle.mintc_departure.proofs.Sizes.{below_or_not}
+
+module _ (test : Pair → Bool) (pairs : List Pair) where
+  -- a pair that passes, and one that doesn't
+  filter-hit : (n : ℕ) → n < length pairs → test (get_or pairs n no_pair) ≡ true →
+      filter test (drop n pairs) ≡ get_or pairs n no_pair ∷ filter test (drop (suc n) pairs)
+  filter-hit n h e =
+      let p = get_or pairs n no_pair in
+      let rest = filter test (drop (suc n) pairs) in
+      ap (λ ps. filter test ps) (drop-cons pairs n no_pair h) ∙ ap (λ (b : Bool). cond b (p ∷ rest) rest) e
+
+  filter-miss : (n : ℕ) → n < length pairs → test (get_or pairs n no_pair) ≡ false → filter test (drop n pairs) ≡ filter test (drop (suc n) pairs)
+  filter-miss n h e =
+      let p = get_or pairs n no_pair in
+      let rest = filter test (drop (suc n) pairs) in
+      ap (λ ps. filter test ps) (drop-cons pairs n no_pair h) ∙ ap (λ (b : Bool). cond b (p ∷ rest) rest) e
+
+  filter-skip : (k x i : ℕ) → i ≡ k + x → i ≤ length pairs → ((n : ℕ) → x ≤ n → n < i → test (get_or pairs n no_pair) ≡ false) →
+      filter test (drop x pairs) ≡ filter test (drop i pairs)
+  filter-skip zero x i e h none = ap (λ (j : ℕ). filter test (drop j pairs)) (omega arith)
+  filter-skip (suc k) x i e h none =
+      filter-miss x (omega arith) (none x (omega arith) (omega arith)) ∙ filter-skip k (suc x) i (omega arith) h (λ n a b. none n (omega arith) b)
+
+-- the pairs into an element from the last one of the first i on
+pub into-skip : (pairs : List Pair) (l i x : ℕ) → i ≤ length pairs → IsLastOf pairs Second l i x →
+    filter (λ (p : Pair). p.to == l) (drop x pairs) ≡ filter (λ (p : Pair). p.to == l) (drop i pairs)
+into-skip pairs l i x h is =
+    let fits = is.fits in
+    filter-skip (λ (p : Pair). p.to == l) pairs (i - x) x i (omega arith) h (λ n a b. ne_eqb _ l (is.last n a b))
+
+-- no pair comes after the last one
+pub into-none : (f : Pair → ℤ) (pairs : List Pair) (l x : ℕ) → IsLastOf pairs Second l (length pairs) x →
+    IsFirst (least_of (map f (filter (λ (p : Pair). p.to == l) (drop x pairs)))) NEVER
+into-none f pairs l x is =
+    rw (into-skip pairs l (length pairs) x (omega arith) is, drop-all pairs) refl
+  where
+    drop-all : (ps : List Pair) → drop (length ps) ps ≡ []
+    drop-all [] = refl
+    drop-all (p ∷ ps) = drop-all ps
+
+-- one more pair of a chain
+pub into-more : (f : Pair → ℤ) (pairs : List Pair) (l n x : ℕ) (v w : ℤ) → n < length pairs → (get_or pairs n no_pair).to ≡ l → IsLastOf pairs Second l n x →
+    IsArrival (f (get_or pairs n no_pair)) → w ≡ int_min (f (get_or pairs n no_pair)) v →
+    IsFirst (least_of (map f (filter (λ (p : Pair). p.to == l) (drop (n + 1) pairs)))) v →
+    IsFirst (least_of (map f (filter (λ (p : Pair). p.to == l) (drop x pairs)))) w
+into-more f pairs l n x v w h to is range e first =
+    let more : n + 1 ≡ suc n = omega arith in
+    let now : IsFirst (least_of (map f (filter (λ (p : Pair). p.to == l) (drop (suc n) pairs)))) v = rw more at first in
+    let whole = into-skip pairs l n x (omega arith) is ∙ filter-hit (λ (p : Pair). p.to == l) pairs n h (eq-eqb _ l to) in
+    rw (whole, e) (first-more (least_of (map f (filter (λ (p : Pair). p.to == l) (drop (suc n) pairs)))) v (f (get_or pairs n no_pair)) range now)
+
+-- what the chains give at an element, and behind a pair
+module _ (pairs : List Pair) (side : End) (elements : ℕ) (chains : Chains) (are : AreChains pairs side elements chains) where
+  pub chain-head : (l x : ℕ) → l < elements → x ≡ get_or chains.lasts.items l x → IsLastOf pairs side l (length pairs) x
+  chain-head l x h e =
+      let inside : l < length chains.lasts.items = rw are.lasts_count h in
+      subst (λ y. IsLastOf pairs side l (length pairs) y) (sym (e ∙ get_or_default chains.lasts.items l x 0 inside)) (are.linked.each_element l inside)
+
+  pub chain-next : (n x : ℕ) → n < length pairs → x ≡ get_or chains.nexts.items n x → IsLastOf pairs side (end_of side (get_or pairs n no_pair)) n x
+  chain-next n x h e =
+      let inside : n < length chains.nexts.items = rw are.nexts_count h in
+      subst (λ y. IsLastOf pairs side (end_of side (get_or pairs n no_pair)) n y) (sym (e ∙ get_or_default chains.nexts.items n x 0 inside)) (are.linked.each_pair n h)
+
+-- one more pair of a chain that is followed
+pub woken-more : (pairs : List Pair) (l n x : ℕ) (stale : List ℕ) → IsLastOf pairs First l n x → IsIn stale (get_or pairs n no_pair).to →
+    ((m : ℕ) → n < m → m < length pairs → (get_or pairs m no_pair).from ≡ l → IsIn stale (get_or pairs m no_pair).to) →
+    (m : ℕ) → x ≤ m → m < length pairs → (get_or pairs m no_pair).from ≡ l → IsIn stale (get_or pairs m no_pair).to
+woken-more pairs l n x stale last here later m low high is =
+    ⊎_elim
+    (λ below. absurd (last.last m low below is))
+    (λ past. ⊎_elim
+      (λ e. subst (λ (j : ℕ). IsIn stale (get_or pairs j no_pair).to) (sym e) here)
+      (λ ne. later m (omega arith) high is)
+      (cases_eq m n))
+    (below_or_not m n)

@@ -1,0 +1,207 @@
+//! The early departures: each rises to what the others make it, and only elements that may change are looked at.
+ghost use Rattle.std.specs.Prelude.{◌≡◌, ◌≢◌, ◌<◌, ◌≤◌, ◌<ℤ◌, ◌≤ℤ◌, ◌+◌, ◌*◌, ◌^◌, ℕ, length, slice_set, IfOk, OnOk};
+ghost use Rattle.std.specs.Bool.{OnTrue, OnFalse};
+ghost use Rattle.mintc_walks.specs.Walks.{value_at};
+ghost use Rattle.mintc_places.specs.Places.{IsIn, room};
+ghost use Rattle.mintc_timing.specs.Departures.{departure, early_arrivals, early_departure, AreEarly, AreLate};
+ghost use Rattle.mintc_timing.specs.Design.{element_count, pair_at, phase_count};
+ghost use Rattle.mintc_timing.specs.Extremes.{least_of};
+ghost use Rattle.mintc_timing.specs.Limits.{IsInRange};
+ghost use Rattle.mintc_departure.specs.Chains.{AreChains};
+ghost use Rattle.mintc_departure.specs.Rounds.{AreSums, AreSwept, IsFirst};
+
+use crate::arrivals::{NEVER, arrival, gather};
+use crate::chains::{Chains, End};
+use crate::rounds::{departs, fill_early_starts};
+use mintc_constraints::Room;
+use mintc_places::Places;
+use mintc_text::OutOfMemory;
+use mintc_timing::{Schedule, System};
+use std::alloc::Global;
+
+/// The earliest arrival at an element, by these departures.
+fn earliest(
+    system: &System,
+    schedule: &Schedule,
+    into: &Chains,
+    departures: &[i64],
+    element: usize,
+) -> i128
+    requires in_range { IsInRange schedule.now }
+    requires phases { length schedule.now.starts ≡ phase_count system.now }
+    requires into { AreChains system.now.pairs End.Second (element_count system.now) into.now }
+    requires departures { AreSums system.now departures.now }
+    requires element { element < element_count system.now }
+    ensures { IsFirst (least_of (early_arrivals system.now schedule.now departures.now element)) result }
+{
+    let mut first = NEVER;
+    let mut next = into.lasts[element];
+    while next > 0 {
+        let number = next as usize - 1;
+        let time = i128::from(arrival(system, schedule, departures, number));
+        first = i128::min(time, first);
+        next = into.nexts[number];
+    }
+    first
+}
+
+/// Makes an element's departure what its earliest arrival makes it. Whether it's another one.
+fn renew(
+    system: &System,
+    schedule: &Schedule,
+    into: &Chains,
+    room: &mut Room,
+    element: usize,
+) -> bool
+    requires in_range { IsInRange schedule.now }
+    requires phases { length schedule.now.starts ≡ phase_count system.now }
+    requires into { AreChains system.now.pairs End.Second (element_count system.now) into.now }
+    requires departures { AreSums system.now room.old.early }
+    requires element { element < element_count system.now }
+    ensures kept { room.new ≡ record room.old { early = room.new.early } }
+    ensures same { OnFalse result (room.new.early ≡ room.old.early) }
+    ensures still { OnFalse result (departure room.old.early element ≡ early_departure system.now schedule.now room.old.early element) }
+    ensures written { OnTrue result (room.new.early ≡ slice_set room.old.early element (early_departure system.now schedule.now room.old.early element)) }
+    ensures changed { OnTrue result (departure room.old.early element ≢ early_departure system.now schedule.now room.old.early element) }
+{
+    let _elements = system.flat().elements();
+    let first = earliest(system, schedule, into, room.early(), element);
+    let before = room.early()[element];
+    let time = departs(system, schedule, element as u32, first);
+    if time == before {
+        return false;
+    }
+    room.set_early(element, time);
+    true
+}
+
+/// Takes in each element that a pair from this one leads to.
+fn wake(system: &System, out: &Chains, stale: &mut Places, element: usize)
+    requires out { AreChains system.now.pairs End.First (element_count system.now) out.now }
+    requires element { element < element_count system.now }
+    requires places { element_count system.now ≤ room stale.old.words.items }
+    ensures count { length stale.new.words.items ≡ length stale.old.words.items }
+    ensures kept { (l : ℕ) → IsIn stale.old.words.items l → IsIn stale.new.words.items l }
+    ensures woken { (n : ℕ) → n < length system.now.pairs → (pair_at system.now n).from ≡ element → IsIn stale.new.words.items (pair_at system.now n).to }
+{
+    let mut next = out.lasts[element];
+    while next > 0 {
+        let number = next as usize - 1;
+        stale.insert(system.pair(number).to as usize);
+        next = out.nexts[number];
+    }
+}
+
+/// Renews an element, which is then stale only where a pair leads from it to itself. Whether it has another departure.
+fn touch(
+    system: &System,
+    schedule: &Schedule,
+    into: &Chains,
+    out: &Chains,
+    room: &mut Room,
+    stale: &mut Places,
+    element: usize,
+) -> bool
+    requires in_range { IsInRange schedule.now }
+    requires phases { length schedule.now.starts ≡ phase_count system.now }
+    requires into { AreChains system.now.pairs End.Second (element_count system.now) into.now }
+    requires out { AreChains system.now.pairs End.First (element_count system.now) out.now }
+    requires late { AreLate system.now schedule.now room.old.late }
+    requires swept { AreSwept system.now schedule.now room.old.late room.old.early stale.old.words.items }
+    requires element { element < element_count system.now }
+    ensures kept { room.new ≡ record room.old { early = room.new.early } }
+    ensures swept { AreSwept system.now schedule.now room.old.late room.new.early stale.new.words.items }
+    ensures up { (l : ℕ) → l < element_count system.now → departure room.old.early l ≤ℤ departure room.new.early l }
+    ensures changed { OnTrue result (departure room.old.early element <ℤ departure room.new.early element) }
+    ensures out { OnFalse result (IsIn stale.new.words.items element → ⊥) }
+    ensures only { OnFalse result ((l : ℕ) → IsIn stale.new.words.items l → IsIn stale.old.words.items l) }
+{
+    let _pairs = system.pairs();
+    let _elements = system.flat().elements();
+    stale.remove(element);
+    if !renew(system, schedule, into, room, element) {
+        return false;
+    }
+    wake(system, out, stale, element);
+    true
+}
+
+/// Renews the stale elements, once each from the first one on. Whether any has another departure.
+fn sweep(
+    system: &System,
+    schedule: &Schedule,
+    into: &Chains,
+    out: &Chains,
+    room: &mut Room,
+    stale: &mut Places,
+) -> bool
+    requires in_range { IsInRange schedule.now }
+    requires phases { length schedule.now.starts ≡ phase_count system.now }
+    requires into { AreChains system.now.pairs End.Second (element_count system.now) into.now }
+    requires out { AreChains system.now.pairs End.First (element_count system.now) out.now }
+    requires late { AreLate system.now schedule.now room.old.late }
+    requires swept { AreSwept system.now schedule.now room.old.late room.old.early stale.old.words.items }
+    ensures kept { room.new ≡ record room.old { early = room.new.early } }
+    ensures swept { AreSwept system.now schedule.now room.old.late room.new.early stale.new.words.items }
+    ensures up { (l : ℕ) → l < element_count system.now → departure room.old.early l ≤ℤ departure room.new.early l }
+    ensures changed { OnTrue result ((l : ℕ) × (l < element_count system.now) × (departure room.old.early l <ℤ departure room.new.early l)) }
+    ensures none { OnFalse result ((l : ℕ) → l < element_count system.now → IsIn stale.new.words.items l → ⊥) }
+{
+    let count = system.flat().elements().len();
+    let mut changed = false;
+    let mut at = stale.next(0);
+    while at < count {
+        if touch(system, schedule, into, out, room, stale, at) {
+            changed = true;
+        }
+        at = stale.next(at + 1);
+    }
+    changed
+}
+
+/// The places of so many elements, all in it.
+fn all_of(alloc: Global, count: usize) -> Result<Places, OutOfMemory>
+    requires { count < 2 ^ 32 }
+    ensures places { IfOk result (λ places. count ≤ room places.words.items) }
+    ensures few { IfOk result (λ places. length places.words.items ≤ 2 ^ 32) }
+    ensures all { IfOk result (λ places. (l : ℕ) → l < count → IsIn places.words.items l) }
+{
+    let Ok(mut places) = Places::new(alloc, count) else {
+        return Err(OutOfMemory);
+    };
+    for place in 0..count {
+        places.insert(place);
+    }
+    Ok(places)
+}
+
+/// The early departures, by the room's late ones. The earliest arrivals by them are then the room's values.
+pub(crate) fn rise_early(
+    alloc: Global,
+    system: &System,
+    schedule: &Schedule,
+    room: &mut Room,
+) -> Result<(), OutOfMemory>
+    requires in_range { IsInRange schedule.now }
+    requires phases { length schedule.now.starts ≡ phase_count system.now }
+    requires room { 1 + 2 * phase_count system.now + element_count system.now ≤ room.old.nodes }
+    requires late { AreLate system.now schedule.now room.old.late }
+    ensures kept { room.new ≡ record room.old { early = room.new.early; values = room.new.values } }
+    ensures early { OnOk result (AreEarly system.now schedule.now room.new.early) }
+    ensures count { OnOk result (length room.new.values ≡ element_count system.now) }
+    ensures firsts { OnOk result ((l : ℕ) → l < element_count system.now → IsFirst (least_of (early_arrivals system.now schedule.now room.new.early l)) (value_at room.new.values l)) }
+{
+    let pairs = system.pairs();
+    let count = system.flat().elements().len();
+    let Ok(into) = Chains::new(alloc, pairs, End::Second, count) else {
+        return Err(OutOfMemory);
+    };
+    let Ok(out) = Chains::new(alloc, pairs, End::First, count) else {
+        return Err(OutOfMemory);
+    };
+    let mut stale = all_of(alloc, count)?;
+    fill_early_starts(system, schedule, room);
+    while sweep(system, schedule, &into, &out, room, &mut stale) {}
+    gather(system, pairs, schedule, room);
+    Ok(())
+}
