@@ -209,7 +209,9 @@ module _ (t : Timing) (s : Schedule) (design : IsDesign t.flat) (timing : IsTimi
         above = λ l h. le_trans (rising.above l h) (up l h);
         rises = λ l h. ⊎_elim (λ is. rw is (mono l)) (λ is. rw is (le_trans (rising.rises l h) (mono l))) (part l h);
         least = λ f exact l h. ⊎_elim
-            (λ is. rw (is, exact.each l h) (early-mono t s d f (everywhere t s d f rising.count exact.count (rising.least f exact)) l))
+            (λ is.
+            subst (λ z. z ≤ℤ departure f l) (sym is)
+            (subst (λ z. early_departure t s d l ≤ℤ z) (sym (exact.each l h)) (early-mono t s d f (everywhere t s d f rising.count exact.count (rising.least f exact)) l)))
             (λ is. rw is (rising.least f exact l h))
             (part l h);
         before = λ l h. ⊎_elim (λ is. rw is (round-before d rising.before l h)) (λ is. rw is (rising.before l h)) (part l h);

@@ -38,7 +38,7 @@ module _ (t : Timing) (s : Schedule) (late d e : List ℤ) where
       ((departure late n +ℤ (element_at t n).dq_max *ℤ s.den) -ℤ (departure d n +ℤ (element_at t n).dq_min *ℤ s.den)) (omega (arith, ints)) in
       omega arith
 
-  missing-falls : (n j : ℕ) → ((l : ℕ) → l < n → departure d l ≤ℤ departure e l) →
+  pub missing-falls : (n j : ℕ) → ((l : ℕ) → l < n → departure d l ≤ℤ departure e l) →
       ((l : ℕ) → l < n → (departure e l +ℤ (element_at t l).dq_min *ℤ s.den) ≤ℤ (departure late l +ℤ (element_at t l).dq_max *ℤ s.den)) →
       j < n → departure d j <ℤ departure e j → missing t s late e n < missing t s late d n
   missing-falls zero j h k lt up = absurd (omega arith)

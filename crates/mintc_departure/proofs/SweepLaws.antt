@@ -1,4 +1,4 @@
-use Rattle.std.proofs.Common.{◌≡◌, ◌≢◌, ℕ, suc, ◌<◌, ◌≤◌, ◌*◌, ◌==◌, ℤ, pos, ◌+ℤ◌, ◌≤ℤ◌, ◌<ℤ◌, Bool, true, false, cond, List, [], ◌∷◌, length, get_or, set, map, arith, refl, sym, ap, ◌∙◌, subst, ◌⊎◌, inl, inr, ⊎_elim, eqb-true, length-set, get_or-set_same, get_or-set_other}
+use Rattle.std.proofs.Common.{◌≡◌, ◌≢◌, ℕ, suc, ◌+◌, ◌<◌, ◌≤◌, ◌*◌, ◌==◌, ℤ, pos, ◌+ℤ◌, ◌≤ℤ◌, ◌<ℤ◌, Bool, true, false, cond, List, [], ◌∷◌, length, get_or, set, map, arith, refl, sym, ap, ◌∙◌, subst, ◌⊎◌, inl, inr, ⊎_elim, eqb-true, length-set, get_or-set_same, get_or-set_other}
 use Rattle.std.proofs.lemmas.Int.{ints, by_lt_z}
 use Rattle.std.proofs.lemmas.Bool.{cases_eq}
 use Rattle.std.specs.List.{filter}
@@ -12,6 +12,7 @@ use Rattle.mintc_timing.specs.Limits.{IsDesign, IsInRange}
 use Rattle.mintc_timing.specs.Order.{IsTiming}
 use Rattle.mintc_departure.specs.Rounds.{early_travel, AreRising, AreSwept}
 use Rattle.mintc_departure.proofs.EarlyLaws.{early-arrival-is, rising-part}
+use Rattle.mintc_departure.proofs.Sizes.{below_or_not}
 
 -- Two functions that agree on what passes give the same lists.
 module _ (f g : Pair → ℤ) (test : Pair → Bool) where
@@ -39,8 +40,7 @@ module _ (t : Timing) (s : Schedule) where
       ∙ ap (λ z. z +ℤ early_travel t s (pair_at t m)) (others (pair_at t m).from (none m lt (eqb-true _ _ is)))
       ∙ sym (early-arrival-is t s d (pair_at t m))))
 
-module _ (t : Timing) (s : Schedule) (design : IsDesign t.flat) (timing : IsTiming t.flat t.order t.pairs) (range : IsInRange s) (phases : length s.starts ≡ phase_count t)
-    (late : List ℤ) (are_late : AreLate t s late) where
+module _ (t : Timing) (s : Schedule) (late : List ℤ) where
   -- An element that departs as before is no more stale.
   pub swept-still : (d : List ℤ) (n : ℕ) (old new : List ℕ) → AreSwept t s late d old → departure d n ≡ early_departure t s d n → length new ≡ length old →
       ((k : ℕ) → k ≢ n → IsIn old k → IsIn new k) → AreSwept t s late d new
@@ -51,42 +51,11 @@ module _ (t : Timing) (s : Schedule) (design : IsDesign t.flat) (timing : IsTimi
         rising = swept.rising;
         met = λ l h out. ⊎_elim
             (λ (e : l ≡ n). subst (λ (k : ℕ). departure d k ≡ early_departure t s d k) (sym e) is)
-            (λ ne. swept.met l h (λ in. out (others l ne in)))
+            (λ ne. swept.met l h (λ held. out (others l ne held)))
             (cases_eq l n);
         places = rw count places;
         few = rw count few;
       }
-
-  -- One that departs later makes those stale that pairs lead to from there.
-  pub swept-more : (d e : List ℤ) (n : ℕ) (old mid new : List ℕ) → AreSwept t s late d old → n < element_count t → e ≡ set d n (early_departure t s d n) →
-      length mid ≡ length old → ((k : ℕ) → k ≢ n → IsIn old k → IsIn mid k) → length new ≡ length mid → ((k : ℕ) → IsIn mid k → IsIn new k) →
-      ((m : ℕ) → m < length t.pairs → (pair_at t m).from ≡ n → IsIn new (pair_at t m).to) → AreSwept t s late e new
-  swept-more d e n old mid new swept inside write mid_count others new_count kept woken =
-      let places = swept.places in
-      let few = swept.few in
-      let count = new_count ∙ mid_count in
-      record {
-        rising = rising-part t s design timing range phases late are_late d e swept.rising (ap length write ∙ length-set d n _ ∙ swept.rising.count)
-            (λ l h. ⊎_elim (λ is. inl (at_place l is)) (λ ne. inr (elsewhere l ne)) (cases_eq l n));
-        met = λ l h out.
-            let same = unmoved t s d e n l elsewhere (λ m lt to from. out (subst (λ k. IsIn new k) to (woken m lt from))) in
-            ⊎_elim
-            (λ is. at_place l is ∙ sym same)
-            (λ ne. elsewhere l ne ∙ swept.met l h (λ in. out (kept l (others l ne in))) ∙ sym same)
-            (cases_eq l n);
-        places = rw count places;
-        few = rw count few;
-      }
-    where
-      at_place : (l : ℕ) → l ≡ n → departure e l ≡ early_departure t s d l
-      at_place l is =
-          let x = early_departure t s d n in
-          let count = swept.rising.count in
-          let here : departure e n ≡ x = ap (λ (xs : List ℤ). departure xs n) write ∙ get_or-set_same d n x (pos 0) (rw count inside) in
-          subst (λ (k : ℕ). departure e k ≡ early_departure t s d k) (sym is) here
-
-      elsewhere : (k : ℕ) → k ≢ n → departure e k ≡ departure d k
-      elsewhere k ne = ap (λ (xs : List ℤ). departure xs k) write ∙ get_or-set_other d n k (early_departure t s d n) (pos 0) ne
 
   -- by how much departures rise where one of them is written
   pub written-up : (d e : List ℤ) (n : ℕ) → AreRising t s late d → n < element_count t → e ≡ set d n (early_departure t s d n) →
@@ -114,3 +83,48 @@ module _ (t : Timing) (s : Schedule) (design : IsDesign t.flat) (timing : IsTimi
   -- The departures are the early ones where none is stale.
   pub swept-last : (d : List ℤ) (stale : List ℕ) → AreSwept t s late d stale → ((l : ℕ) → l < element_count t → IsIn stale l → ⊥) → AreEarly t s d
   swept-last d stale swept none = record { exact = record { count = swept.rising.count; each = λ l h. swept.met l h (none l h) }; least = swept.rising.least }
+
+module _ (t : Timing) (s : Schedule) (design : IsDesign t.flat) (timing : IsTiming t.flat t.order t.pairs) (range : IsInRange s) (phases : length s.starts ≡ phase_count t)
+    (late : List ℤ) (are_late : AreLate t s late) where
+  -- One that departs later makes those stale that pairs lead to from there.
+  pub swept-more : (d e : List ℤ) (n : ℕ) (old mid new : List ℕ) → AreSwept t s late d old → n < element_count t → e ≡ set d n (early_departure t s d n) →
+      length mid ≡ length old → ((k : ℕ) → k ≢ n → IsIn old k → IsIn mid k) → length new ≡ length mid → ((k : ℕ) → IsIn mid k → IsIn new k) →
+      ((m : ℕ) → m < length t.pairs → (pair_at t m).from ≡ n → IsIn new (pair_at t m).to) → AreSwept t s late e new
+  swept-more d e n old mid new swept inside write mid_count others new_count kept woken =
+      let places = swept.places in
+      let few = swept.few in
+      let count = new_count ∙ mid_count in
+      record {
+        rising = rising-part t s design timing range phases late are_late d e swept.rising (ap length write ∙ length-set d n _ ∙ swept.rising.count)
+            (λ l h. ⊎_elim (λ is. inl (at_place l is)) (λ ne. inr (elsewhere l ne)) (cases_eq l n));
+        met = λ l h out.
+            let same = unmoved t s d e n l elsewhere (λ m lt to from. out (subst (λ k. IsIn new k) to (woken m lt from))) in
+            ⊎_elim
+            (λ is. at_place l is ∙ sym same)
+            (λ ne. elsewhere l ne ∙ swept.met l h (λ held. out (kept l (others l ne held))) ∙ sym same)
+            (cases_eq l n);
+        places = rw count places;
+        few = rw count few;
+      }
+    where
+      at_place : (l : ℕ) → l ≡ n → departure e l ≡ early_departure t s d l
+      at_place l is =
+          let x = early_departure t s d n in
+          let count = swept.rising.count in
+          let here : departure e n ≡ x = ap (λ (xs : List ℤ). departure xs n) write ∙ get_or-set_same d n x (pos 0) (rw count inside) in
+          subst (λ (k : ℕ). departure e k ≡ early_departure t s d k) (sym is) here
+
+      elsewhere : (k : ℕ) → k ≢ n → departure e k ≡ departure d k
+      elsewhere k ne = ap (λ (xs : List ℤ). departure xs k) write ∙ get_or-set_other d n k (early_departure t s d n) (pos 0) ne
+
+-- None is stale before the next stale place where an element is no more stale, and none was before it.
+pub none-before : (at next : ℕ) (old new : List ℕ) → ((k : ℕ) → k < at → IsIn old k → ⊥) → (IsIn new at → ⊥) → ((k : ℕ) → IsIn new k → IsIn old k) →
+    ((k : ℕ) → at + 1 ≤ k → k < next → IsIn new k → ⊥) → (k : ℕ) → k < next → IsIn new k → ⊥
+none-before at next old new before out only later k lt held =
+    ⊎_elim
+    (λ below. before k below (only k held))
+    (λ past. ⊎_elim
+      (λ (is : k ≡ at). out (subst (λ j. IsIn new j) is held))
+      (λ ne. later k (omega arith) lt held)
+      (cases_eq k at))
+    (below_or_not k at)

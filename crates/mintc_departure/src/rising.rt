@@ -151,10 +151,11 @@ fn sweep(
     let mut changed = false;
     let mut at = stale.next(0);
     while at < count {
-        if touch(system, schedule, into, out, room, stale, at) {
+        let rose = touch(system, schedule, into, out, room, stale, at);
+        at = stale.next(at + 1);
+        if rose {
             changed = true;
         }
-        at = stale.next(at + 1);
     }
     changed
 }
@@ -173,6 +174,30 @@ fn all_of(alloc: Global, count: usize) -> Result<Places, OutOfMemory>
         places.insert(place);
     }
     Ok(places)
+}
+
+/// Sweeps until none is stale.
+fn rise(
+    system: &System,
+    schedule: &Schedule,
+    into: &Chains,
+    out: &Chains,
+    room: &mut Room,
+    stale: &mut Places,
+)
+    requires in_range { IsInRange schedule.now }
+    requires phases { length schedule.now.starts ≡ phase_count system.now }
+    requires into { AreChains system.now.pairs End.Second (element_count system.now) into.now }
+    requires out { AreChains system.now.pairs End.First (element_count system.now) out.now }
+    requires late { AreLate system.now schedule.now room.old.late }
+    requires swept { AreSwept system.now schedule.now room.old.late room.old.early stale.old.words.items }
+    ensures kept { room.new ≡ record room.old { early = room.new.early } }
+    ensures early { AreEarly system.now schedule.now room.new.early }
+    ensures sums { AreSums system.now room.new.early }
+{
+    let _pairs = system.pairs();
+    let _elements = system.flat().elements();
+    while sweep(system, schedule, into, out, room, stale) {}
 }
 
 /// The early departures, by the room's late ones. The earliest arrivals by them are then the room's values.
@@ -201,7 +226,7 @@ pub(crate) fn rise_early(
     };
     let mut stale = all_of(alloc, count)?;
     fill_early_starts(system, schedule, room);
-    while sweep(system, schedule, &into, &out, room, &mut stale) {}
+    rise(system, schedule, &into, &out, room, &mut stale);
     gather(system, pairs, schedule, room);
     Ok(())
 }
