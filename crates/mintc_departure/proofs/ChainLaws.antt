@@ -86,7 +86,7 @@ woken-more pairs l n x stale last here later m low high is =
     ⊎_elim
     (λ below. absurd (last.last m low below is))
     (λ past. ⊎_elim
-      (λ e. subst (λ (j : ℕ). IsIn stale (get_or pairs j no_pair).to) (sym e) here)
-      (λ ne. later m (omega arith) high is)
-      (cases_eq m n))
+    (λ e. subst (λ (j : ℕ). IsIn stale (get_or pairs j no_pair).to) (sym e) here)
+    (λ ne. later m (omega arith) high is)
+    (cases_eq m n))
     (below_or_not m n)

@@ -124,7 +124,7 @@ none-before at next old new before out only later k lt held =
     ⊎_elim
     (λ below. before k below (only k held))
     (λ past. ⊎_elim
-      (λ (is : k ≡ at). out (subst (λ j. IsIn new j) is held))
-      (λ ne. later k (omega arith) lt held)
-      (cases_eq k at))
+    (λ (is : k ≡ at). out (subst (λ j. IsIn new j) is held))
+    (λ ne. later k (omega arith) lt held)
+    (cases_eq k at))
     (below_or_not k at)
