@@ -1,4 +1,4 @@
-use Rattle.std.proofs.Common.{◌≡◌, ◌≢◌, ℕ, zero, suc, ◌+◌, ◌-◌, ◌<◌, ◌≤◌, ◌==◌, Bool, true, false, cond, ℤ, List, [], ◌∷◌, length, get_or, map, drop, arith, refl, sym, ap, ◌∙◌, Some, subst, ⊎_elim, eq-eqb, ne_eqb}
+use Rattle.std.proofs.Common.{◌≡◌, ℕ, zero, suc, ◌+◌, ◌-◌, ◌<◌, ◌≤◌, ◌==◌, Bool, true, false, cond, ℤ, List, [], ◌∷◌, length, get_or, map, drop, arith, refl, sym, ap, ◌∙◌, subst, ⊎_elim, eq-eqb, ne_eqb}
 use Rattle.std.proofs.Math.Seq.{drop-cons}
 use Rattle.std.proofs.lemmas.List.{get_or_default}
 use Rattle.std.proofs.lemmas.Bool.{cases_eq}
@@ -7,7 +7,7 @@ use Rattle.mintc_places.specs.Places.{IsIn}
 use Rattle.std.specs.Int.{int_min}
 use Rattle.mintc_timing.specs.declared.parts.Pair.{Pair}
 use Rattle.mintc_timing.specs.Design.{no_pair}
-use Rattle.mintc_timing.specs.Extremes.{least_of, lesser_of}
+use Rattle.mintc_timing.specs.Extremes.{least_of}
 use Rattle.mintc_departure.specs.declared.arrivals.TheConstants.{NEVER}
 use Rattle.mintc_departure.specs.Rounds.{IsArrival, IsFirst}
 use Rattle.mintc_departure.specs.Chains.{end_of, IsLastOf, AreChains}

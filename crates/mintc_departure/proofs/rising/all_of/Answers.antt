@@ -1,5 +1,5 @@
-use Rattle.std.proofs.Common.{◌<◌, ◌+◌, ◌*◌, ◌^◌, ℕ, length, arith, below_more}
-use Rattle.mintc_places.specs.Places.{IsIn, room}
+use Rattle.std.proofs.Common.{arith, below_more}
+use Rattle.mintc_places.specs.Places.{IsIn}
 use Rattle.mintc_departure.proofs.rising.all_of.Goals as goal
 
 pub loop-place-preserved : goal.loop-place-preserved

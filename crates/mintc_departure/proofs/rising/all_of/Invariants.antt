@@ -1,4 +1,4 @@
-use Rattle.std.proofs.Common.{◌≤◌, ◌<◌, ◌^◌, ◌*◌, ℕ, length}
+use Rattle.std.proofs.Common.{◌≤◌, ◌<◌, ◌^◌, ℕ, length}
 use Rattle.mintc_places.specs.Places.{IsIn, room}
 use Rattle.mintc_departure.proofs.rising.all_of.Given as goal
 

@@ -1,5 +1,5 @@
-use Rattle.std.proofs.Common.{◌≡◌, ◌<◌, ◌≤◌, ◌+◌, ◌-◌, ◌==◌, ℕ, ℤ, List, [], length, drop, map, arith, refl, sym, ap, ◌∙◌, subst, SFits, w64, to_z}
-use Rattle.std.proofs.lemmas.Int.{ints, to_z-of_z, clamps}
+use Rattle.std.proofs.Common.{◌≡◌, ◌<◌, ◌+◌, ◌-◌, ◌==◌, length, drop, map, arith, sym, ap, ◌∙◌, subst, SFits, w64, to_z}
+use Rattle.std.proofs.lemmas.Int.{to_z-of_z}
 use Rattle.std.specs.Int.{w128, int_min}
 use Rattle.std.specs.List.{filter}
 use Rattle.mintc_timing.specs.declared.parts.Pair.{Pair}

@@ -1,4 +1,4 @@
-use Rattle.std.proofs.Common.{◌≡◌, ◌<◌, ◌≤◌, ℤ, List, length, arith, ap, ◌∙◌, sym, subst}
+use Rattle.std.proofs.Common.{◌≡◌, ◌≤◌, ℤ, List, length, arith, ap, ◌∙◌, sym, subst}
 use Rattle.mintc_constraints.specs.Rooms.{Space}
 use Rattle.mintc_places.specs.Places.{room}
 use Rattle.mintc_timing.specs.Design.{Design, element_count}

@@ -1,14 +1,12 @@
-use Rattle.std.proofs.Common.{◌≡◌, ◌<◌, ◌≤◌, ◌+◌, ◌≤ℤ◌, ◌<ℤ◌, ℕ, ℤ, List, Bool, true, false, length, arith, sym, ap, ◌∙◌, subst, ⊎_elim, refl}
+use Rattle.std.proofs.Common.{◌≡◌, ◌<◌, ◌≤ℤ◌, ◌<ℤ◌, ℤ, Bool, true, false, length, arith, sym, ap, subst, refl}
 use Rattle.std.proofs.lemmas.Int.{ints}
-use Rattle.std.proofs.lemmas.Bool.{OnTrue_at, OnFalse_at, cases_eq}
+use Rattle.std.proofs.lemmas.Bool.{OnTrue_at, OnFalse_at}
 use Rattle.mintc_constraints.specs.Rooms.{Space}
-use Rattle.mintc_places.specs.Places.{IsIn}
 use Rattle.mintc_timing.specs.Design.{Design, element_count}
-use Rattle.mintc_timing.specs.Departures.{departure, AreLate}
+use Rattle.mintc_timing.specs.Departures.{AreLate}
 use Rattle.mintc_departure.specs.Rounds.{AreSwept}
 use Rattle.mintc_departure.proofs.Filling.{kept-early}
 use Rattle.mintc_departure.proofs.SweepLaws.{none-before}
-use Rattle.mintc_departure.proofs.Sizes.{below_or_not}
 use Rattle.mintc_departure.proofs.rising.sweep.Goals as goal
 
 not_both : (b : Bool) → b ≡ true → b ≡ false → ⊥

@@ -1,7 +1,7 @@
-use Rattle.std.proofs.Common.{◌≡◌, ◌≢◌, ◌≤ℤ◌, ℕ, ℤ, List, length, set, arith, sym, ap, ◌∙◌, subst}
+use Rattle.std.proofs.Common.{◌≤ℤ◌, ℤ, List, arith, sym, subst}
 use Rattle.std.proofs.lemmas.Int.{ints}
-use Rattle.mintc_timing.specs.Design.{Design, element_count}
-use Rattle.mintc_timing.specs.Departures.{departure, early_departure}
+use Rattle.mintc_timing.specs.Design.{Design}
+use Rattle.mintc_timing.specs.Departures.{departure}
 use Rattle.mintc_timing.specs.Limits.{IsDesign}
 use Rattle.mintc_departure.specs.Rounds.{AreSwept}
 use Rattle.mintc_departure.proofs.EarlyLaws.{rising-sums}

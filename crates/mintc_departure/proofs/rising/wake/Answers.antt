@@ -1,5 +1,5 @@
-use Rattle.std.proofs.Common.{◌≡◌, ◌<◌, ◌≤◌, ◌+◌, ◌-◌, ◌*◌, ℕ, List, length, arith, refl, sym, ap, ◌∙◌, subst, ⊎_elim}
-use Rattle.mintc_places.specs.Places.{IsIn, room}
+use Rattle.std.proofs.Common.{◌≡◌, ◌-◌, length, arith, refl, ◌∙◌, subst}
+use Rattle.mintc_places.specs.Places.{IsIn}
 use Rattle.mintc_timing.specs.declared.parts.Pair.{Pair}
 use Rattle.mintc_timing.specs.Design.{element_count, pair_at}
 use Rattle.mintc_departure.specs.Chains.{IsLastOf}
