@@ -1,13 +1,14 @@
 //! Building designs and systems.
 ghost use Rattle.std.specs.Prelude.{◌≡◌, ◌≤◌, length, IfOk, IfErr};
 ghost use Rattle.mintc_text.specs.Stops.{StopsAt};
-ghost use Rattle.mintc_timing.specs.TableText.{IsTableRefusal, IsTableText};
+ghost use Rattle.mintc_lines.specs.TableText.{IsTableRefusal, IsTableText};
 ghost use Rattle.mintc_build.specs.Designs.{HasSystem, IsDesignRefusal};
 
 use mintc_order::{order, orders_exclude_loops};
 use mintc_paths::{count_pairs, extremes};
 use mintc_text::Stop;
-use mintc_timing::{Flat, Order, System, read_table};
+use mintc_lines::read_table;
+use mintc_timing::{Flat, Order, System};
 use std::alloc::Global;
 
 /// The design of a table. The refusal is Syntax with the first line out of form, counted from 1, or Limit of the first

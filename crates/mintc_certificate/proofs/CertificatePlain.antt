@@ -1,12 +1,12 @@
 use Rattle.std.proofs.Common.{◌≡◌, ℕ, zero, suc, ℤ, pos, negsuc, ◌≤ℤ◌, ◌<◌, ◌^◌, true, false, Bool, if◌then◌else◌, List, [], ◌∷◌, ◌++◌, All, refl, ap, ◌∙◌, sym, arith, codes, eqb}
 use Rattle.std.proofs.lemmas.Int.{ints}
-use Rattle.mintc_timing.specs.Fields.{plain, plain_line, Spells, IsWordLine, IsNumberLine, IsCountLine}
-use Rattle.mintc_timing.specs.Texts.{IsPhaseLine, no_phases, with_phase}
-use Rattle.mintc_timing.proofs.LineLaws.{count_one, number_one}
-use Rattle.mintc_timing.proofs.ReadingLaws.{plain-count_line, plain-number_line, plain-word_line}
-use Rattle.mintc_timing.proofs.ScheduleLaws.{phase_one, plain-den, plain-cycle}
-use Rattle.mintc_timing.proofs.ScheduleReading.{plain-phase_line}
-use Rattle.mintc_timing.proofs.TextLaws.{IsPlainFormat, text_one_end, text_no_fault, text_one_fault, spelled_one, spelled_free}
+use Rattle.mintc_lines.specs.Fields.{plain, plain_line, Spells, IsWordLine, IsNumberLine, IsCountLine}
+use Rattle.mintc_lines.specs.Texts.{IsPhaseLine, no_phases, with_phase}
+use Rattle.mintc_lines.proofs.LineLaws.{count_one, number_one}
+use Rattle.mintc_lines.proofs.ReadingLaws.{plain-count_line, plain-number_line, plain-word_line}
+use Rattle.mintc_lines.proofs.ScheduleLaws.{phase_one, plain-den, plain-cycle}
+use Rattle.mintc_lines.proofs.ScheduleReading.{plain-phase_line}
+use Rattle.mintc_lines.proofs.TextLaws.{IsPlainFormat, text_one_end, text_no_fault, text_one_fault, spelled_one, spelled_free}
 use Rattle.mintc_certificate.specs.declared.certificate.Certificate.{Certificate}
 use Rattle.mintc_certificate.specs.declared.certificate.Certificate.TheVariants.{Least, Never}
 use Rattle.mintc_certificate.specs.declared.members.Member.{Member}

@@ -1,11 +1,11 @@
 use Rattle.std.proofs.Common.{◌≡◌, ℕ, zero, suc, ℤ, pos, Bool, true, false, if◌then◌else◌, List, [], ◌∷◌, ◌++◌, Contains, refl, ap, ◌∙◌, sym, subst, codes}
 use Rattle.mintc_text.specs.Lines.{Follows, ended, text_of, words}
 use Rattle.mintc_timing.specs.declared.clocking.Schedule.{Schedule}
-use Rattle.mintc_timing.specs.Fields.{Spells, IsWordLine, IsNumberLine, IsCountLine}
-use Rattle.mintc_timing.specs.Texts.{IsPhaseLine, no_phases, with_phase}
-use Rattle.mintc_timing.proofs.LineLaws.{spelled_same}
-use Rattle.mintc_timing.proofs.ReadingLaws.{one_line, line_free}
-use Rattle.mintc_timing.proofs.Spelling.{Rest, rest_none, rest_back, rest_same, rest_count, IsSpelled, one_text}
+use Rattle.mintc_lines.specs.Fields.{Spells, IsWordLine, IsNumberLine, IsCountLine}
+use Rattle.mintc_lines.specs.Texts.{IsPhaseLine, no_phases, with_phase}
+use Rattle.mintc_lines.proofs.LineLaws.{spelled_same}
+use Rattle.mintc_lines.proofs.ReadingLaws.{one_line, line_free}
+use Rattle.mintc_lines.proofs.Spelling.{Rest, rest_none, rest_back, rest_same, rest_count, IsSpelled, one_text}
 use Rattle.mintc_certificate.specs.declared.certificate.Certificate.{Certificate}
 use Rattle.mintc_certificate.specs.declared.certificate.Certificate.TheVariants.{Least, Never}
 use Rattle.mintc_certificate.specs.declared.members.Member.{Member}

@@ -2,7 +2,7 @@ use Rattle.std.proofs.Common.{◌≡◌, ℕ, zero, suc, ℤ, pos, Bool, true, f
 use Rattle.std.proofs.lemmas.Int.{ints}
 use Rattle.std.specs.Fmt.{digits}
 use Rattle.mintc_text.specs.Lines.{Follows, IsWithin, ended}
-use Rattle.mintc_timing.specs.Fields.{number}
+use Rattle.mintc_lines.specs.Fields.{number}
 use Rattle.mintc_certificate.specs.declared.version.Version.{Version}
 use Rattle.mintc_certificate.specs.declared.version.Version.TheVariants.{First, Second}
 use Rattle.mintc_certificate.specs.CertificateText.{NextOfCertificate, CertificateLines, first, outcome, den, cycle, phases, phase, departure, never, link, whole, least_departure}

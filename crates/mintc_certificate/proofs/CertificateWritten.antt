@@ -5,9 +5,9 @@ use Rattle.std.specs.Fmt.{digits}
 use Rattle.std.specs.List.{zip}
 use Rattle.mintc_text.specs.Lines.{Follows, ended, text_of, words}
 use Rattle.mintc_timing.specs.declared.clocking.Schedule.{Schedule}
-use Rattle.mintc_timing.specs.Fields.{number, Spells}
+use Rattle.mintc_lines.specs.Fields.{number, Spells}
 use Rattle.mintc_timing.specs.Limits.{IsNumerator, IsInRange}
-use Rattle.mintc_timing.specs.Texts.{schedule_of, no_phases}
+use Rattle.mintc_lines.specs.Texts.{schedule_of, no_phases}
 use Rattle.mintc_certificate.specs.declared.certificate.Certificate.{Certificate}
 use Rattle.mintc_certificate.specs.declared.certificate.Certificate.TheVariants.{Least, Never}
 use Rattle.mintc_certificate.specs.declared.members.Member.{Member}

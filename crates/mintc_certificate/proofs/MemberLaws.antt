@@ -5,9 +5,9 @@ use Rattle.std.proofs.lemmas.List.Elements.{All-head, All-tail, All-push, All-ni
 use Rattle.std.specs.List.{All}
 use Rattle.std.specs.Str.{bytes_eq}
 use Rattle.mintc_text.specs.Lines.{ended, words}
-use Rattle.mintc_timing.specs.Fields.{IsCount, number, plain, plain_line}
-use Rattle.mintc_timing.specs.Reading.{HasRead, HasNone}
-use Rattle.mintc_timing.proofs.FieldsLaws.{and_both, plain-number}
+use Rattle.mintc_lines.specs.Fields.{IsCount, number, plain, plain_line}
+use Rattle.mintc_lines.specs.Reading.{HasRead, HasNone}
+use Rattle.mintc_lines.proofs.FieldsLaws.{and_both, plain-number}
 use Rattle.mintc_certificate.specs.declared.halt.Halt.{Halt}
 use Rattle.mintc_certificate.specs.declared.halt.Halt.TheVariants.{Form, Memory}
 use Rattle.mintc_certificate.specs.declared.member_lines.MemberWord.{MemberWord}

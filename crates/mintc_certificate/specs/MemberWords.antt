@@ -1,5 +1,5 @@
 use Rattle.std.specs.Prelude.{◌≡◌, ℕ, List, [], ◌∷◌, length, map, codes, All}
-use Rattle.mintc_timing.specs.Fields.{IsCount, number}
+use Rattle.mintc_lines.specs.Fields.{IsCount, number}
 use Rattle.mintc_certificate.specs.declared.member_lines.MemberWord.{MemberWord}
 use Rattle.mintc_certificate.specs.declared.member_lines.MemberWord.TheVariants.{One, Apart, Reach}
 use Rattle.mintc_certificate.specs.declared.member_lines.Single.{Single}

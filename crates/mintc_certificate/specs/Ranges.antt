@@ -2,7 +2,7 @@ use Rattle.std.specs.Prelude.{◌≤◌, ℤ, pos, negsuc, List, length, All}
 use Rattle.mintc_text.specs.Lines.{IsWithin}
 use Rattle.mintc_timing.specs.declared.clocking.Schedule.{Schedule}
 use Rattle.mintc_timing.specs.Limits.{IsInRange}
-use Rattle.mintc_timing.specs.Fields.{IsCount}
+use Rattle.mintc_lines.specs.Fields.{IsCount}
 use Rattle.mintc_certificate.specs.declared.members.Member.{Member}
 use Rattle.mintc_certificate.specs.declared.certificate.Certificate.{Certificate}
 use Rattle.mintc_certificate.specs.declared.certificate.Certificate.TheVariants.{Least, Never}

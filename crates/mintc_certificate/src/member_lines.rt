@@ -1,6 +1,6 @@
 //! The lines of members, each read by its words.
 ghost use Rattle.std.specs.Prelude.{◌≡◌, ◌≤◌, ◌∷◌, ℕ, List, MatchOption, MatchResult, MatchBool, Ok, Err, codes};
-ghost use Rattle.mintc_timing.specs.Fields.{IsCount, number};
+ghost use Rattle.mintc_lines.specs.Fields.{IsCount, number};
 ghost use Rattle.mintc_certificate.specs.declared.member_lines.MemberWord.{MemberWord};
 ghost use Rattle.mintc_certificate.specs.declared.member_lines.Single.{Single};
 ghost use Rattle.mintc_certificate.specs.declared.members.Member.{Member};
@@ -13,7 +13,7 @@ use crate::Member;
 use crate::halt::Halt;
 use crate::version::Version;
 use mintc_text::Numbers;
-use mintc_timing::Fields;
+use mintc_lines::Fields;
 use std::alloc::Global;
 
 /// The greatest number of a member.

@@ -3,8 +3,8 @@ ghost use Rattle.std.specs.Prelude.{◌≡◌, ◌≤◌, ℕ, ℤ, List, Bool, 
 ghost use Rattle.mintc_text.specs.Stops.{StopsAt};
 ghost use Rattle.mintc_timing.specs.declared.clocking.Schedule.{Schedule};
 ghost use Rattle.mintc_timing.specs.Limits.{IsDenominator, IsNumerator};
-ghost use Rattle.mintc_timing.specs.Reading.{HasNone, HasRead, IsAt, number_after};
-ghost use Rattle.mintc_timing.specs.Texts.{no_phases, schedule_of};
+ghost use Rattle.mintc_lines.specs.Reading.{HasNone, HasRead, IsAt, number_after};
+ghost use Rattle.mintc_lines.specs.Texts.{no_phases, schedule_of};
 ghost use Rattle.mintc_certificate.specs.declared.certificate.Certificate.{Certificate};
 ghost use Rattle.mintc_certificate.specs.declared.members.Member.{Member};
 ghost use Rattle.mintc_certificate.specs.declared.version.Version.{Version};
@@ -19,7 +19,8 @@ use crate::version::Version;
 use crate::{Certificate, Departures, Member, Members};
 use arrayvec::ArrayVec;
 use mintc_text::{Refusal, Role, Stop};
-use mintc_timing::{Fields, MOST_NUMERATOR, PhaseNumbers, Reader, Schedule};
+use mintc_lines::{Fields, MOST_NUMERATOR, Reader};
+use mintc_timing::{PhaseNumbers, Schedule};
 use std::alloc::Global;
 
 /// The version of a text whose first line has this number.

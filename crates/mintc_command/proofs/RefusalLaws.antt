@@ -11,8 +11,8 @@ use Rattle.mintc_text.specs.declared.refusals.Role.TheVariants as role
 use Rattle.mintc_timing.specs.declared.clocking.Schedule.{Schedule}
 use Rattle.mintc_timing.specs.Design.{Design, Timing, element_count, phase_count}
 use Rattle.mintc_timing.specs.Limits.{IsDesign, limit_of}
-use Rattle.mintc_timing.specs.TableText.{IsTableText, IsTableRefusal}
-use Rattle.mintc_timing.specs.TextLaws.{HaveOneSchedule, HaveNoScheduleFault, HaveOneScheduleFault, HaveOneDesign, HaveNoTableFault, HaveOneTableFault}
+use Rattle.mintc_lines.specs.TableText.{IsTableText, IsTableRefusal}
+use Rattle.mintc_lines.specs.TextLaws.{HaveOneSchedule, HaveNoScheduleFault, HaveOneScheduleFault, HaveOneDesign, HaveNoTableFault, HaveOneTableFault}
 use Rattle.mintc_build.specs.Designs.{IsDesignRefusal}
 use Rattle.mintc_build.specs.FilesDesign.{described_by, library_by}
 use Rattle.mintc_build.specs.Laws.{AcceptedAreNotRefused, ArePlain, DesignRefusalsAreDetermined, IsLoopRefusal}

@@ -9,7 +9,7 @@ use Rattle.mintc_timing.specs.declared.violation.Violation.{Violation}
 use Rattle.mintc_timing.specs.Design.{Timing, phase_count}
 use Rattle.mintc_timing.specs.Departures.{AreLate, AreEarly}
 use Rattle.mintc_timing.specs.Violations.{AreViolations}
-use Rattle.mintc_timing.specs.Texts.{IsScheduleText, IsScheduleFault}
+use Rattle.mintc_lines.specs.Texts.{IsScheduleText, IsScheduleFault}
 use Rattle.mintc_certificate.specs.declared.certificate.Certificate.{Certificate}
 use Rattle.mintc_certificate.specs.declared.certificate.Certificate.TheVariants.{Least, Never}
 use Rattle.mintc_certificate.specs.CertificateText.{IsCertificateText, IsCertificateRefusal}

@@ -8,7 +8,7 @@ use Rattle.mintc_timing.specs.Accepted.{IsAccepted}
 use Rattle.mintc_timing.specs.Limits.{IsDesign}
 use Rattle.mintc_timing.specs.Order.{IsOrder}
 use Rattle.mintc_timing.specs.Paths.{ArePairs}
-use Rattle.mintc_timing.specs.TableText.{IsTableText, IsTableRefusal}
+use Rattle.mintc_lines.specs.TableText.{IsTableText, IsTableRefusal}
 use Rattle.mintc_build.specs.Designs.{IsDesignRefusal}
 use Rattle.mintc_build.specs.FilesDesign.{IsFilesDesign, IsFilesRefusal, IsLibertyDesign, IsLibertyRefusal}
 use Rattle.mintc_command.specs.Commands.{source_roles}

@@ -13,7 +13,8 @@ use mintc_constraints::Room;
 use mintc_departure::violations;
 use mintc_report::{fail_text, pass_text, violations_name_pairs};
 use mintc_text::{Bytes, OutOfMemory, Refusal, Stop};
-use mintc_timing::{Schedule, System, read_schedule};
+use mintc_lines::read_schedule;
+use mintc_timing::{Schedule, System};
 use std::alloc::Global;
 
 /// The schedule of a text, which is to have so many phases, or its first refusal.

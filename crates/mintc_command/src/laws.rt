@@ -5,7 +5,7 @@ use mintc_build::{
     accepted_designs_are_not_refused, design_refusals_are_determined, files_are_plain,
 };
 use mintc_certificate::{certificate_texts_are_plain, written_certificates_are_read};
-use mintc_timing::{schedule_texts_are_plain, table_texts_are_plain};
+use mintc_lines::{schedule_texts_are_plain, table_texts_are_plain};
 
 /// Where there is a first refusal, its line is the only answer.
 pub fn refusals_exclude_answers()

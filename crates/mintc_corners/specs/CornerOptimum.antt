@@ -2,7 +2,7 @@
 use Rattle.std.specs.Prelude.{◌≢◌, ◌≤◌, ℤ, List, [], ◌∷◌, length, flat_map, All, AllPairs}
 use Rattle.mintc_timing.specs.declared.clocking.Schedule.{Schedule}
 use Rattle.mintc_timing.specs.Design.{Timing}
-use Rattle.mintc_timing.specs.Fields.{IsCount}
+use Rattle.mintc_lines.specs.Fields.{IsCount}
 use Rattle.mintc_timing.specs.Limits.{IsInRange}
 use Rattle.mintc_certificate.specs.CertificateText.{IsCounted}
 use Rattle.mintc_certificate.specs.Ranges.{IsDeparture}

@@ -1,7 +1,8 @@
 //! Tables and schedules.
 
 use mintc_text::{Kind, Refusal, Role, Stop};
-use mintc_timing::{Element, Flat, TimingArc, read_schedule, read_table};
+use mintc_lines::{read_schedule, read_table};
+use mintc_timing::{Element, Flat, TimingArc};
 use std::alloc::Global;
 use std::process::Abort;
 use std::test::Fail;

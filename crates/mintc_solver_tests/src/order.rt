@@ -2,7 +2,8 @@
 
 use mintc_order::order;
 use mintc_text::{Refusal, Stop};
-use mintc_timing::{Order, read_table};
+use mintc_lines::read_table;
+use mintc_timing::Order;
 use std::alloc::{AllocError, Global};
 use std::process::Abort;
 use std::test::Fail;

@@ -1,5 +1,5 @@
 use Rattle.std.proofs.Common.{codes, subst, sym, if◌then◌else◌, Bool}
-use Rattle.mintc_timing.specs.Fields.{IsCountLine}
+use Rattle.mintc_lines.specs.Fields.{IsCountLine}
 use Rattle.mintc_certificate.specs.declared.version.Version.{Version}
 use Rattle.mintc_certificate.specs.CertificateText.{first, outcome, den, never, version_of, IsOutcomeLine}
 use Rattle.mintc_certificate.proofs.CertificateReading.{At, fault, first_read, outcome_read}

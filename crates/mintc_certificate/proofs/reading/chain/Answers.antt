@@ -1,6 +1,6 @@
 use Rattle.std.proofs.Common.{codes}
 use Rattle.std.proofs.lemmas.Result.{err_from_is_err_and}
-use Rattle.mintc_timing.specs.Fields.{IsWordLine}
+use Rattle.mintc_lines.specs.Fields.{IsWordLine}
 use Rattle.mintc_certificate.specs.CertificateReading.{with_chain}
 use Rattle.mintc_certificate.specs.CertificateText.{link}
 use Rattle.mintc_certificate.proofs.CertificateReading.{fault, end_read, end_of_certificate, past_certificate, at_halt}

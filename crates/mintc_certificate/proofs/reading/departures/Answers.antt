@@ -1,6 +1,6 @@
 use Rattle.std.proofs.Common.{◌≡◌, ℤ, List, SFits, w64, codes, refl, arith, subst, sym}
 use Rattle.std.proofs.lemmas.Int.{to_z-of_z}
-use Rattle.mintc_timing.specs.Fields.{IsCountLine}
+use Rattle.mintc_lines.specs.Fields.{IsCountLine}
 use Rattle.mintc_timing.proofs.Fitting.{read_time}
 use Rattle.mintc_certificate.specs.declared.version.Version.{Version}
 use Rattle.mintc_certificate.specs.CertificateText.{phase, departure, least_departure}

@@ -1,5 +1,5 @@
 use Rattle.std.proofs.Common.{◌≡◌, ◌-◌, ℕ, ℤ, List, length}
-use Rattle.mintc_timing.specs.Texts.{no_phases, schedule_of}
+use Rattle.mintc_lines.specs.Texts.{no_phases, schedule_of}
 use Rattle.mintc_certificate.specs.declared.version.Version.{Version}
 use Rattle.mintc_certificate.specs.CertificateText.{phase}
 use Rattle.mintc_certificate.proofs.CertificateReading.{At}

@@ -1,0 +1,15 @@
+pub mod WorkedTexts
+pub mod FieldsLaws
+pub mod ReadingLaws
+pub mod ScheduleReading
+pub mod TextLaws
+pub mod ScheduleLaws
+pub mod TableLineLaws
+pub mod TableReading
+pub mod TableLaws
+pub mod LineLaws
+pub mod TableOne
+pub mod TablePlain
+pub mod Spelling
+pub mod ScheduleSpelling
+pub mod TableSpelling

@@ -1,0 +1,18 @@
+use Rattle.std.proofs.Common.{◌≡◌, arith, rules, codes}
+use Rattle.mintc_lines.proofs.ReadingLaws.{at_none}
+use Rattle.mintc_lines.proofs.TableLineLaws.{point_none, point_past}
+use Rattle.mintc_lines.proofs.table_lines.point.Goals as goal
+use Rattle.mintc_lines.proofs.table_lines.point.Goals.{then-phase-lt1-via-then-phase-lt1, then-phase-lt1-via-else-phase-lt1+then-phase-phases}
+
+pub returns-in_err-letter : goal.returns-in_err-letter
+returns-in_err-letter c =
+    let other : c.args.word.now ≡ codes "o" → ⊥ = search rules in
+    at_none c.from_residual.result _ _ c.from_residual.ensures
+    (λ p. point_none c.args.phases c.args.word.now p c.requires other c.in_err-letter.ensures)
+
+pub returns-then-phase-lt1 : goal.returns-then-phase-lt1
+returns-then-phase-lt1 c = λ p.
+    let other : c.args.word.now ≡ codes "o" → ⊥ = search rules in
+    let told = c.in_ok-letter.ensures in
+    point_past c.args.phases c.args.word.now c.in_ok-letter.letter c.in_ok-letter.phase p c.requires told.0 other told.1
+    (λ low high. elim c.then-phase-lt1.branch [ then-phase-lt1-via-then-phase-lt1 w ↦ omega arith | then-phase-lt1-via-else-phase-lt1+then-phase-phases w ↦ omega arith ])

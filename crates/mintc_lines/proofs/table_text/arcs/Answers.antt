@@ -1,0 +1,27 @@
+use Rattle.std.proofs.Common.{ℕ, [], length, arith, codes, subst, sym, refl}
+use Rattle.mintc_timing.specs.Design.{design_of}
+use Rattle.mintc_lines.specs.Fields.{Spells, IsCountLine}
+use Rattle.mintc_lines.specs.TableText.{arcs, IsArcLine}
+use Rattle.mintc_lines.proofs.TableReading.{fault, arcs_read, so_far_more, so_far_fault, so_far_all, arc_states}
+use Rattle.mintc_lines.proofs.table_text.arcs.Goals as goal
+
+pub returns-in_default : goal.returns-in_default
+returns-in_default c = λ text ps es ns counted inner at.
+    fault text c.args.reader.now c.count_line.new.self.number (arcs (design_of ps es ns [] [])) (IsCountLine (codes "arcs") 0 999999999) at c.in_default.ensures.read c.in_default.ensures.counted (λ e. e) (λ line after step. (step.0, step.1))
+
+pub returns-in_default-arc_line : goal.returns-in_default-arc_line
+returns-in_default-arc_line c = λ text ps es ns counted inner at.
+    let begun = arcs_read text c.args.reader.now c.count_line.new.self (design_of ps es ns [] []) c.in-Some.count at c.in-Some.ensures.read c.in-Some.ensures.counted in
+    so_far_fault (arc_states ps es ns) (IsArcLine c.args.elements c.args.inner) 524288 text c.loop-arc.reader c.arc_line.new.reader.number c.loop-arc.kept.items c.loop-arc._arc c.in-Some.count
+    (c.loop-arc.invariant text ps es ns counted inner begun) (omega arith) c.in_default-arc_line.ensures.read c.in_default-arc_line.ensures.counted (λ left all e. e) (λ left all line after step. (step.0, subst (λ (k : ℕ). Spells (IsArcLine c.args.elements k) step.0 line) inner (subst (λ (k : ℕ). Spells (IsArcLine k (length ns)) step.0 line) counted step.1)))
+
+pub loop-arc-preserved : goal.loop-arc-preserved
+loop-arc-preserved c = λ text ps es ns counted inner at.
+    so_far_more (arc_states ps es ns) (IsArcLine c.args.elements c.args.inner) 524288 text c.loop-arc.reader c.arc_line.new.reader c.loop-arc.kept.items c.keep.new.items.items c.loop-arc._arc c.in-Some.count c.in-Some-arc_line.arc
+    (c.loop-arc.invariant text ps es ns counted inner at) (omega arith) c.in-Some-arc_line.ensures.read c.in-Some-arc_line.ensures.counted c.in-Ok.ensures (λ left all line spells. (c.in-Some-arc_line.arc, subst (λ (k : ℕ). Spells (IsArcLine k (length ns)) c.in-Some-arc_line.arc line) (sym counted) (subst (λ (k : ℕ). Spells (IsArcLine c.args.elements k) c.in-Some-arc_line.arc line) (sym inner) spells), refl))
+
+pub returns : goal.returns
+returns c = λ text ps es ns counted inner at.
+    let begun = arcs_read text c.args.reader.now c.count_line.new.self (design_of ps es ns [] []) c.in-Some.count at c.in-Some.ensures.read c.in-Some.ensures.counted in
+    let all = so_far_all (arc_states ps es ns) 524288 text c.loop-arc.reader c.loop-arc.kept.items c.loop-arc._arc c.in-Some.count (c.loop-arc.invariant text ps es ns counted inner begun) (omega arith) (omega arith) in
+    all

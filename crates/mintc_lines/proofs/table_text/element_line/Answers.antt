@@ -1,0 +1,17 @@
+use Rattle.std.proofs.Common.{arith}
+use Rattle.mintc_lines.specs.ElementWords.{named}
+use Rattle.mintc_lines.specs.TableText.{IsElementLine}
+use Rattle.mintc_lines.proofs.ReadingLaws.{at_none, none_there, read_there}
+use Rattle.mintc_lines.proofs.TableReading.{plain-element_line}
+use Rattle.mintc_lines.proofs.table_text.element_line.Goals as goal
+
+pub returns-in_err-fields-clause-read : goal.returns-in_err-fields-clause-read
+returns-in_err-fields-clause-read c =
+    at_none c.from_residual.result _ _ c.from_residual.ensures
+    (none_there (IsElementLine c.args.version c.args.phases) c.args.reader.now.left (plain-element_line c.args.version c.args.phases (omega arith)) c.in_err-fields.ensures.none)
+
+pub returns-clause-read : goal.returns-clause-read
+returns-clause-read c =
+    let told = c.in_ok-fields.ensures in
+    read_there (IsElementLine c.args.version c.args.phases) (λ found. named found.0.now found.1) c.args.reader.now.left c.fields.new.self.left c.in_ok-fields.fields c.element_of.result
+    (plain-element_line c.args.version c.args.phases (omega arith)) told.whole told.only c.element_of.ensures

@@ -1,0 +1,26 @@
+use Rattle.std.proofs.Common.{◌≡◌, ℕ, List, [], ◌∷◌, arith, codes, subst, refl, take, ◌++◌}
+use Rattle.mintc_lines.specs.Fields.{IsCountLine, IsNameLine}
+use Rattle.mintc_lines.specs.TableText.{phases}
+use Rattle.mintc_lines.proofs.TableReading.{fault, phases_read, so_far_more, so_far_fault, so_far_all, phase_states}
+use Rattle.mintc_lines.proofs.table_text.phases.Goals as goal
+
+pub returns-in_default-clause-read : goal.returns-in_default-clause-read
+returns-in_default-clause-read c = λ text v at.
+    fault text c.args.reader.now c.count_line.new.self.number (phases v) (IsCountLine (codes "phases") 1 999999999) at c.in_default.ensures.read c.in_default.ensures.counted (λ e. e) (λ line after step. (step.0, step.1))
+
+pub returns-in_default-name_line-clause-read : goal.returns-in_default-name_line-clause-read
+returns-in_default-name_line-clause-read c = λ text v at.
+    let begun = phases_read text c.args.reader.now c.count_line.new.self v c.in-Some.count at c.in-Some.ensures.read c.in-Some.ensures.counted in
+    so_far_fault (phase_states v) (IsNameLine (codes "phase")) 8 text c.loop-phase.reader c.name_line.new.self.number c.loop-phase.kept.items c.loop-phase._phase c.in-Some.count
+    (c.loop-phase.invariant text v begun) (omega arith) c.in_default-name_line.ensures.read c.in_default-name_line.ensures.counted (λ left all e. e) (λ left all line after step. (step.0, step.1))
+
+pub loop-phase-preserved : goal.loop-phase-preserved
+loop-phase-preserved c = λ text v at.
+    so_far_more (phase_states v) (IsNameLine (codes "phase")) 8 text c.loop-phase.reader c.name_line.new.self c.loop-phase.kept.items c.keep.new.items.items c.loop-phase._phase c.in-Some.count c.in-Some-name_line.name.now
+    (c.loop-phase.invariant text v at) (omega arith) c.in-Some-name_line.ensures.read c.in-Some-name_line.ensures.counted (subst (λ (x : List ℕ). (all : List (List ℕ)) → c.loop-phase.kept.items ≡ take 8 all → c.keep.new.items.items ≡ take 8 (all ++ x ∷ [])) c.in-Ok.ensures c.in-Ok-keep.ensures) (λ left all line spells. (c.in-Some-name_line.name.now, spells, refl))
+
+pub returns-clause-read : goal.returns-clause-read
+returns-clause-read c = λ text v at.
+    let begun = phases_read text c.args.reader.now c.count_line.new.self v c.in-Some.count at c.in-Some.ensures.read c.in-Some.ensures.counted in
+    let all = so_far_all (phase_states v) 8 text c.loop-phase.reader c.loop-phase.kept.items c.loop-phase._phase c.in-Some.count (c.loop-phase.invariant text v begun) (omega arith) (omega arith) in
+    (all.0, omega (arith, all.1.counted, c.in-Some.ensures.read.spells.1.0), all.1, all.2)

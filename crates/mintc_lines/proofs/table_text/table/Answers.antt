@@ -1,0 +1,57 @@
+use Rattle.std.proofs.Common.{codes, refl}
+use Rattle.std.proofs.lemmas.Result.{err_from_is_err_and}
+use Rattle.mintc_timing.specs.Design.{design_of}
+use Rattle.mintc_lines.specs.Fields.{IsWordLine}
+use Rattle.mintc_lines.specs.TableText.{bound, inner_names}
+use Rattle.mintc_lines.proofs.TableReading.{fault, end_read, end_of_table, past_table, at_halt, length-inner_names}
+use Rattle.mintc_lines.proofs.table_text.table.Goals as goal
+
+pub returns-in_err-names : goal.returns-in_err-names
+returns-in_err-names c = λ text at.
+    at_halt c.from_residual.result c.in_err-names.field-0.0 _ _ (err_from_is_err_and c.from_residual.result c.from_residual.ensures.1) (c.in_err-names.ensures.read text at)
+
+pub returns-in_err-joined : goal.returns-in_err-joined
+returns-in_err-joined c = λ text at.
+    let one = c.in_ok-names.ensures.read text at in
+    at_halt c.from_residual-in_err-joined.result c.in_err-joined.field-0.0 _ _ (err_from_is_err_and c.from_residual-in_err-joined.result c.from_residual-in_err-joined.ensures.1)
+    (c.in_err-joined.ensures text one.0 one.1 (inner_names c.in_ok-names.inner) one.3.counted (length-inner_names c.in_ok-names.inner) one.4)
+
+pub returns-in_err-demands : goal.returns-in_err-demands
+returns-in_err-demands c = λ text at.
+    let one = c.in_ok-names.ensures.read text at in
+    let ns = inner_names c.in_ok-names.inner in
+    let two = c.in_ok-joined.ensures text one.0 one.1 ns one.3.counted (length-inner_names c.in_ok-names.inner) one.4 in
+    at_halt c.from_residual-in_err-demands.result c.in_err-demands.field-0.0 _ _ (err_from_is_err_and c.from_residual-in_err-demands.result c.from_residual-in_err-demands.ensures.1)
+    (c.in_err-demands.ensures text one.0 one.1 ns two.0 one.2.counted two.2)
+
+pub returns-in_default : goal.returns-in_default
+returns-in_default c = λ text at.
+    let one = c.in_ok-names.ensures.read text at in
+    let ns = inner_names c.in_ok-names.inner in
+    let two = c.in_ok-joined.ensures text one.0 one.1 ns one.3.counted (length-inner_names c.in_ok-names.inner) one.4 in
+    let three = c.in_ok-demands.ensures text one.0 one.1 ns two.0 one.2.counted two.2 in
+    fault text c.bounds.new.reader c.word_line.new.self.number (bound 0 (design_of one.0 one.1 ns two.0 three.0)) (IsWordLine (codes "end")) three.2
+    c.in_default.ensures.read c.in_default.ensures.counted (λ e. e) (λ line after step. (step.0, step.1))
+
+pub returns-in_default-end : goal.returns-in_default-end
+returns-in_default-end c = λ text at.
+    let one = c.in_ok-names.ensures.read text at in
+    let ns = inner_names c.in_ok-names.inner in
+    let two = c.in_ok-joined.ensures text one.0 one.1 ns one.3.counted (length-inner_names c.in_ok-names.inner) one.4 in
+    let three = c.in_ok-demands.ensures text one.0 one.1 ns two.0 one.2.counted two.2 in
+    let d = design_of one.0 one.1 ns two.0 three.0 in
+    let four = end_read text c.bounds.new.reader c.word_line.new.self d three.2 c.in-Some.ensures.read c.in-Some.ensures.counted in
+    past_table text c.word_line.new.self c.end.new.self.number d four c.in_default-end.ensures.read c.in_default-end.ensures.counted
+
+pub returns : goal.returns
+returns c = λ text at.
+    let one = c.in_ok-names.ensures.read text at in
+    let ns = inner_names c.in_ok-names.inner in
+    let two = c.in_ok-joined.ensures text one.0 one.1 ns one.3.counted (length-inner_names c.in_ok-names.inner) one.4 in
+    let three = c.in_ok-demands.ensures text one.0 one.1 ns two.0 one.2.counted two.2 in
+    let d = design_of one.0 one.1 ns two.0 three.0 in
+    let four = end_read text c.bounds.new.reader c.word_line.new.self d three.2 c.in-Some.ensures.read c.in-Some.ensures.counted in (
+      d,
+      end_of_table text c.word_line.new.self d four c.in-Some-end.ensures.read,
+      record { phases = one.2; elements = one.3; inner = refl; arcs = two.1; bounds = three.1 },
+    )

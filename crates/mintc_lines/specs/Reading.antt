@@ -1,0 +1,30 @@
+use Rattle.std.specs.Prelude.{◌≡◌, ◌≤◌, ◌+◌, ℕ, List, ◌++◌, length, min}
+use Rattle.mintc_text.specs.Lines.{ended, text_of, Follows}
+use Rattle.mintc_lines.specs.Fields.{Spells}
+
+-- What a reader has yet to read of a text, and the number of the line that it asked for last, 0 at first.
+pub record Reading : Type 0 where
+  pub left : List ℕ
+  pub number : ℕ
+
+-- The number of the next line, as 32 bits hold it.
+abbrev pub number_after : ℕ → ℕ
+number_after n = min (n + 1) 4294967295
+
+-- The next line spells the value, and is read.
+pub record HasRead {V : Type 0} (F : V → List (List ℕ) → Type 0) (old : List ℕ) (v : V) (new : List ℕ) : Type 0 where
+  pub line : List ℕ
+  pub spells : Spells F v line
+  pub whole : old ≡ ended line ++ new
+
+-- No line comes next that spells a value.
+abbrev pub HasNone : {V : Type 0} → (V → List (List ℕ) → Type 0) → List ℕ → Type 0
+HasNone {V} F left = (v : V) (line more : List ℕ) → left ≡ ended line ++ more → Spells F v line → ⊥
+
+-- The lines that were read of a short text lead to this state.
+pub record IsAt {S : Type 0} (next : S → List ℕ → S → Type 0) (start : S) (text : List ℕ) (reading : Reading) (state : S) : Type 0 where
+  pub short : length text ≤ 67108864
+  pub before : List (List ℕ)
+  pub whole : text ≡ text_of before ++ reading.left
+  pub follows : Follows next start before state
+  pub count : reading.number ≡ length before

@@ -1,0 +1,24 @@
+use Rattle.std.specs.Prelude.{◌≡◌, ℕ, List, length, take}
+use Rattle.mintc_lines.specs.declared.table_text.Halt.{Halt}
+use Rattle.mintc_lines.specs.declared.table_text.Halt.TheVariants.{Form, Memory}
+use Rattle.mintc_lines.specs.declared.table_text.Parts.{Parts}
+use Rattle.mintc_timing.specs.Design.{Design}
+use Rattle.mintc_lines.specs.TableText.{inner_names}
+
+-- Where reading stops at a line's form, this is said. A want of memory says nothing.
+abbrev pub Halts : Type 0 → Halt → Type 0
+Halts fault Form = fault
+Halts fault Memory = Unit {0}
+
+-- The kept are the first of all, at most so many, and all are counted.
+pub record AreKept {X : Type 0} (most : ℕ) (all kept : List X) (count : ℕ) : Type 0 where
+  pub front : kept ≡ take most all
+  pub counted : length all ≡ count
+
+-- what was read of a design
+pub record ArePartsOf (d : Design) (parts : Parts) : Type 0 where
+  pub phases : AreKept 8 d.phases parts.phases.kept.items parts.phases.count
+  pub elements : AreKept 2000 d.elements parts.elements.kept.items parts.elements.count
+  pub inner : d.inner ≡ inner_names parts.inner
+  pub arcs : AreKept 524288 d.arcs parts.arcs.kept.items parts.arcs.count
+  pub bounds : AreKept 64 d.bounds parts.bounds.kept.items parts.bounds.count

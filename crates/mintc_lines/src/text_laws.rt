@@ -1,0 +1,22 @@
+//! Laws of the texts of schedules and tables.
+ghost use Rattle.mintc_lines.specs.TextLaws.{HaveOneSchedule, HaveNoScheduleFault, HaveOneScheduleFault, HaveOneDesign, HaveNoTableFault, HaveOneTableFault, HaveOneScheduleText, HaveOneTableText};
+
+/// A text is that of at most one schedule; where it is that of one, no line is at fault; and at most one line is.
+pub fn schedule_texts_are_plain()
+    ensures value { HaveOneSchedule }
+    ensures no_fault { HaveNoScheduleFault }
+    ensures fault { HaveOneScheduleFault }
+{}
+
+/// A text is that of at most one design; where it is that of one, no line is at fault; and at most one line is.
+pub fn table_texts_are_plain()
+    ensures value { HaveOneDesign }
+    ensures no_fault { HaveNoTableFault }
+    ensures fault { HaveOneTableFault }
+{}
+
+/// A schedule has one text, and a design one with a given first line, which is its version.
+pub fn texts_are_canonical()
+    ensures schedule { HaveOneScheduleText }
+    ensures table { HaveOneTableText }
+{}
