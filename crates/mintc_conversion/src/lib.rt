@@ -10,6 +10,3 @@ mod status;
 
 pub use program::convert;
 pub use status::Status;
-
-#[cfg(test)]
-mod tests;

@@ -15,5 +15,4 @@ pub mod TextLaws
 pub mod ScheduleLaws
 pub mod MadeLaws
 pub mod AnswerLaws
-pub mod AlikeLaws
 pub mod WorkedCorners

@@ -9,8 +9,6 @@ mod laws;
 mod lifting;
 mod members;
 mod searching;
-#[cfg(test)]
-mod tests;
 mod writing;
 
 pub use certificate::{CornerCertificate, DeparturesList};

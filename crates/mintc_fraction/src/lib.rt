@@ -6,6 +6,3 @@ mod fraction;
 pub mod laws;
 
 pub use fraction::Fraction;
-
-#[cfg(test)]
-mod tests;

@@ -5,8 +5,8 @@ ghost use Rattle.mintc_timing.specs.Limits.{IsInRange, IsDenominator, IsNumerato
 ghost use Rattle.mintc_lines.specs.Reading.{IsAt};
 ghost use Rattle.mintc_lines.specs.Texts.{NextOfSchedule, IsScheduleText, IsScheduleFault, no_phases, schedule_of, first, phase};
 
-use crate::reader::MOST_NUMERATOR;
 use crate::Reader;
+use crate::reader::MOST_NUMERATOR;
 use arrayvec::ArrayVec;
 use mintc_text::{Refusal, Role};
 use mintc_timing::{PhaseNumbers, Schedule};

@@ -14,8 +14,8 @@ ghost use Rattle.mintc_lines.specs.TableReading.{Halts, AreKept, ArePartsOf};
 ghost use Rattle.mintc_lines.specs.TableText.{NextOfTable, IsElementLine, IsArcLine, IsBoundLine, IsTableText, IsTableFault, IsTableRefusal, inner_names, first, phase, element, arc, bound};
 ghost use Rattle.mintc_lines.specs.TableText.{phases as before_phases, arcs as before_arcs};
 
-use crate::table_lines::{ElementNumbers, Version, arc_of, bound_of, element_of, version_of};
 use crate::Reader;
+use crate::table_lines::{ElementNumbers, Version, arc_of, bound_of, element_of, version_of};
 use mintc_text::{Kind, Lines, Name, Names, OutOfMemory, Refusal, Role, Stop};
 use mintc_timing::{Bound, Element, Flat, TimingArc};
 use std::alloc::Global;

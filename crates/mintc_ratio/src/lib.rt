@@ -9,8 +9,6 @@ mod rest;
 mod searching;
 mod sums;
 mod testing;
-#[cfg(test)]
-mod tests;
 mod turns;
 mod weighed;
 

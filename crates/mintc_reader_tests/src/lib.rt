@@ -8,6 +8,8 @@ mod certificate;
 #[cfg(test)]
 mod clock;
 #[cfg(test)]
+mod conversion;
+#[cfg(test)]
 mod liberty;
 #[cfg(test)]
 mod sdf;

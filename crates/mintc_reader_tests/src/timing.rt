@@ -1,7 +1,7 @@
 //! Tables and schedules.
 
-use mintc_text::{Kind, Refusal, Role, Stop};
 use mintc_lines::{read_schedule, read_table};
+use mintc_text::{Kind, Refusal, Role, Stop};
 use mintc_timing::{Element, Flat, TimingArc};
 use std::alloc::Global;
 use std::process::Abort;
