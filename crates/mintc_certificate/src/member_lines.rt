@@ -12,8 +12,8 @@ ghost use Rattle.mintc_certificate.specs.MemberWords.{single, single_word, membe
 use crate::Member;
 use crate::halt::Halt;
 use crate::version::Version;
-use mintc_text::Numbers;
 use mintc_lines::Fields;
+use mintc_text::Numbers;
 use std::alloc::Global;
 
 /// The greatest number of a member.

@@ -18,8 +18,8 @@ use crate::member_lines::member_of;
 use crate::version::Version;
 use crate::{Certificate, Departures, Member, Members};
 use arrayvec::ArrayVec;
-use mintc_text::{Refusal, Role, Stop};
 use mintc_lines::{Fields, MOST_NUMERATOR, Reader};
+use mintc_text::{Refusal, Role, Stop};
 use mintc_timing::{PhaseNumbers, Schedule};
 use std::alloc::Global;
 

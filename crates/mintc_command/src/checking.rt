@@ -11,9 +11,9 @@ use crate::reading::LONGEST;
 use crate::status::Status;
 use mintc_constraints::Room;
 use mintc_departure::violations;
+use mintc_lines::read_schedule;
 use mintc_report::{fail_text, pass_text, violations_name_pairs};
 use mintc_text::{Bytes, OutOfMemory, Refusal, Stop};
-use mintc_lines::read_schedule;
 use mintc_timing::{Schedule, System};
 use std::alloc::Global;
 

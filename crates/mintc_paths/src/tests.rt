@@ -5,8 +5,8 @@ ghost use Rattle.mintc_paths.specs.Trace.{IsPairOf};
 
 use super::*;
 use crate::listed::is_listed_with;
-use mintc_order::order;
 use mintc_lines::read_table;
+use mintc_order::order;
 use mintc_timing::TimingArc;
 use std::alloc::AllocError;
 use std::process::Abort;

@@ -4,8 +4,8 @@ ghost use Rattle.mintc_timing.specs.Limits.{IsInRange};
 
 use mintc_constraints::Room;
 use mintc_departure::{Broken, Settling, Violation, early, late, violations};
-use mintc_text::{Name, Names, Numbers};
 use mintc_lines::read_schedule;
+use mintc_text::{Name, Names, Numbers};
 use mintc_timing::{Flat, Order, Schedule, System};
 use std::alloc::Global;
 use std::test::Fail;

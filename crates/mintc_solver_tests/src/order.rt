@@ -1,8 +1,8 @@
 //! Tests of what no clause says: that orders and loops are found, on small designs and on a long chain.
 
+use mintc_lines::read_table;
 use mintc_order::order;
 use mintc_text::{Refusal, Stop};
-use mintc_lines::read_table;
 use mintc_timing::Order;
 use std::alloc::{AllocError, Global};
 use std::process::Abort;
