@@ -1,4 +1,5 @@
-//! What the lexers of three languages share: bytes at a place, white space, strings with backslashes, and the comments `// ..` and `/* .. */`.
+//! What the lexers of Verilog, SDF and Liberty share: bytes at a place, white space, strings with backslashes, and the
+//! comments `// ..` and `/* .. */`.
 //!
 //! The end of a comment is looked for only where a `*/` is still to come, so that a text is passed in the time of its length.
 #![tactic(auto)]
