@@ -3,7 +3,7 @@ use Rattle.std.proofs.Common.{◌≡◌, ℕ, ◌<◌, Bool, true, false, not, c
 use Rattle.std.proofs.lemmas.List.{take-append-drop}
 use Rattle.std.proofs.lemmas.Slice.Eq.{bytes_eq-Decides}
 use Rattle.std.proofs.lemmas.Bool.Decides.{Decides-eqb}
-use Rattle.mintc_liblex.specs.Tokens.{is_white}
+use Rattle.mintc_scan.specs.Bytes.{is_white}
 use Rattle.mintc_liberty.specs.Expressions.{stripped}
 
 false-if : (b : Bool) → (b ≡ true → ⊥) → b ≡ false

@@ -1,7 +1,7 @@
 -- Expressions over one pin: plain or inverted.
 use Rattle.std.specs.Prelude.{ℕ, zero, suc, ◌-◌, Bool, true, false, ◌&&◌, ◌==◌, if◌then◌else◌, List, [], ◌∷◌, length, take, drop, slice_index, Option, Some, None, option_map, bytes_eq}
 use Rattle.std.specs.List.{list_any}
-use Rattle.mintc_liblex.specs.Tokens.{is_white}
+use Rattle.mintc_scan.specs.Bytes.{is_white}
 
 -- without white space
 abbrev pub stripped : List ℕ → List ℕ

@@ -3,7 +3,8 @@ ghost use Rattle.std.specs.Prelude.{◌≡◌, ◌∷◌, [], drop, IfSome, IfNo
 ghost use Rattle.mintc_liberty.specs.Expressions.{stripped};
 ghost use Rattle.mintc_liberty.specs.Passing.{value_bytes};
 
-use mintc_liblex::{Reader, is_white, value_token};
+use mintc_liblex::{Reader, value_token};
+use mintc_scan::is_white;
 use std::marker::Model;
 
 /// The bytes that are left of a value: those of a token, and the tokens behind it.

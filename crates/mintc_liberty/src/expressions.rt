@@ -10,7 +10,8 @@ ghost use Rattle.mintc_liberty.specs.Seen.{pins_seen};
 
 use crate::bytes::{ValueBytes, bytes_from};
 use crate::pins::{Pin, Role, is_as, is_input};
-use mintc_liblex::{Reader, byte_at, rest_from};
+use mintc_liblex::Reader;
+use mintc_scan::{byte_at, rest_from};
 use mintc_text::OutOfMemory;
 use std::alloc::Global;
 

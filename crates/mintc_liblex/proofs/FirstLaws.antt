@@ -1,25 +1,24 @@
 -- The first token of a text that begins with one.
 use Rattle.std.proofs.Common.{◌≡◌, ℕ, ◌+◌, ◌<◌, ◌≤◌, Bool, true, false, if◌then◌else◌, ◌==◌, List, [], ◌∷◌, ◌++◌, length, get_or, take, drop, refl, sym, ap, ◌∙◌, arith, length-drop, drop-drop, drop_of_length-le, Option, Some, None, true≢false, true-eqb}
+use Rattle.mintc_scan.specs.Bytes.{is_white, string_size, comment_size}
+use Rattle.mintc_scan.specs.Pieces.{Piece, passed, token, front_token, tokens_from, is_token, is_settled}
+use Rattle.mintc_scan.proofs.Sizes.{either, byte-some}
+use Rattle.mintc_scan.proofs.TokenLaws.{turn}
 use Rattle.mintc_liblex.specs.declared.reader.Kind.{Kind}
 use Rattle.mintc_liblex.specs.declared.reader.Kind.TheVariants as kind
-use Rattle.mintc_liblex.specs.Tokens.{Token, opening, closing, left, right, colon, semicolon, comma, word, string, bad, Piece, token, passed, word_piece, string_piece, comment_piece, slash_piece, backslash_piece, sign_of, sign_piece, comment_end, line_size, word_size, string_size, is_white, piece_of, front_token, tokens_from, tokens_of}
-use Rattle.mintc_liblex.specs.Reading.{is_token, is_settled, kind_of, kind_by, token_of, is_sign_kind, word_at, string_at}
-use Rattle.mintc_liblex.proofs.Sizes.{either}
-use Rattle.mintc_liblex.proofs.TokenLaws.{turn}
+use Rattle.mintc_liblex.specs.Tokens.{Token, opening, closing, left, right, colon, semicolon, comma, word, string, bad, word_piece, string_piece, comment_piece, slash_piece, backslash_piece, sign_of, sign_piece, word_size, piece_of, tokens_of}
+use Rattle.mintc_liblex.specs.Reading.{kind_of, kind_by, token_of, is_sign_kind, word_at, string_at}
+use Rattle.mintc_liblex.proofs.Sizes.{piece-fits}
 
 -- from a piece that is known
-pub by_piece : (bs : List ℕ) (p : Piece) → 0 < length bs → piece_of bs ≡ p → tokens_of bs ≡ front_token p.token ++ tokens_of (drop p.size bs)
-by_piece bs p h e = turn bs h ∙ ap (λ (q : Piece). front_token q.token ++ tokens_of (drop q.size bs)) e
+pub by_piece : (bs : List ℕ) (p : Piece Token) → 0 < length bs → piece_of bs ≡ p → tokens_of bs ≡ front_token p.token ++ tokens_of (drop p.size bs)
+by_piece bs p h e = turn piece_of piece-fits bs h ∙ ap (λ (q : Piece Token). front_token q.token ++ tokens_of (drop q.size bs)) e
 
 byte-is : (bs : List ℕ) (v : ℕ) → (get_or bs 0 0 == v) ≡ true → get_or bs 0 0 ≡ v
 byte-is bs v e = true-eqb _ v (sym e)
 
-byte-some : (bs : List ℕ) (v : ℕ) → 0 < v → (get_or bs 0 0 == v) ≡ true → 0 < length bs
-byte-some [] v h e = let same : 0 ≡ v = true-eqb 0 v (sym e) in absurd (omega arith)
-byte-some (b ∷ bs) v h e = omega arith
-
 -- the piece at the front, by its first byte
-abbrev piece_by : ℕ → List ℕ → Piece
+abbrev piece_by : ℕ → List ℕ → Piece Token
 piece_by b bs =
     if is_white b then passed 1
     else (if b == 34 then string_piece (drop 1 bs) (string_size false 0 (drop 1 bs))
@@ -49,14 +48,14 @@ at-bad bs e f =
     at-quote bs None e f ∙ ap (λ l. bad ∷ tokens_of l) (drop_of_length-le bs (omega (arith, length-drop 1 bs)))
 
 -- a piece that is passed over is no token
-no-token : (p : Piece) (n : ℕ) → p ≡ passed n → is_token p.token ≡ true → ⊥
-no-token p n e h = true≢false (sym h ∙ ap (λ (q : Piece). is_token q.token) e)
+no-token : (p : Piece Token) (n : ℕ) → p ≡ passed n → is_token p.token ≡ true → ⊥
+no-token p n e h = true≢false (sym h ∙ ap (λ (q : Piece Token). is_token q.token) e)
 
 slash-word : (bs : List ℕ) (o : Option ℕ) → is_token (comment_piece bs o).token ≡ true → comment_piece bs o ≡ word_piece bs
 slash-word bs None h = refl
 slash-word bs (Some n) h = absurd (no-token (comment_piece bs (Some n)) n refl h)
 
-abbrev Holds : List ℕ → Piece → Type 0
+abbrev Holds : List ℕ → Piece Token → Type 0
 Holds bs p = is_token p.token ≡ true → p ≡ word_piece bs
 
 word-piece : (bs : List ℕ) → sign_of (get_or bs 0 0) ≡ None → (get_or bs 0 0 == 34) ≡ false → is_token (piece_of bs).token ≡ true → piece_of bs ≡ word_piece bs
@@ -67,13 +66,12 @@ word-piece bs e g =
     either H (is_white b) _ _ (λ _. λ h. absurd (no-token (passed 1) 1 refl h))
     (λ _. either H (b == 34) _ _ (λ x. absurd (true≢false (sym x ∙ g)))
     (λ _. either H (b == 47) _ _
-    (λ _. either H (get_or bs 1 0 == 47) _ _ (λ _. λ h. absurd (no-token (passed (line_size bs)) (line_size bs) refl h))
-    (λ _. either H (get_or bs 1 0 == 42) _ _ (λ _. λ h. slash-word bs (comment_end 2 (drop 2 bs)) h) (λ _. λ h. refl)))
+    (λ _. λ h. slash-word bs (comment_size bs) h)
     (λ _. either H (b == 92) _ _
     (λ _. either H (get_or bs 1 0 == 10) _ _ (λ _. λ h. absurd (no-token (passed 2) 2 refl h)) (λ _. λ h. refl))
     (λ _. λ h. ap (sign_piece bs) e))))
 
-pub at-word : (bs : List ℕ) → 0 < length bs → is_settled bs ≡ true → sign_of (get_or bs 0 0) ≡ None → (get_or bs 0 0 == 34) ≡ false →
+pub at-word : (bs : List ℕ) → 0 < length bs → is_settled piece_of bs ≡ true → sign_of (get_or bs 0 0) ≡ None → (get_or bs 0 0 == 34) ≡ false →
     tokens_of bs ≡ word (take (word_size bs) bs) ∷ tokens_of (drop (word_size bs) bs)
 at-word [] h s e g = absurd (omega arith)
 at-word (b ∷ bs) h s e g = by_piece (b ∷ bs) (word_piece (b ∷ bs)) h (word-piece (b ∷ bs) e g s)
@@ -87,7 +85,7 @@ quote-kind : (bs : List ℕ) (o : Option ℕ) → (get_or bs 0 0 == 34) ≡ true
 quote-kind bs None e f = ap kind_of (at-bad bs e f)
 quote-kind bs (Some n) e f = ap kind_of (at-string bs n e f)
 
-pub kinds : (bs : List ℕ) → is_settled bs ≡ true → kind_by bs ≡ kind_of (tokens_of bs)
+pub kinds : (bs : List ℕ) → is_settled piece_of bs ≡ true → kind_by bs ≡ kind_of (tokens_of bs)
 unfolding tokens_from
 kinds [] s = refl
 kinds (b ∷ bs) s =
@@ -148,22 +146,22 @@ word-byte (b ∷ bs) e0 =
     (λ x6. either P (b == 34) _ _ (λ _ f. absurd (cc))
     (λ x7. λ _. (omega arith, (no-sign b x0 x1 x2 x3 x4 x5 x6, x7)))))))))) e0
 
-pub is-word : (bs : List ℕ) → is_settled bs ≡ true → kind_of (tokens_of bs) ≡ kind.Word →
+pub is-word : (bs : List ℕ) → is_settled piece_of bs ≡ true → kind_of (tokens_of bs) ≡ kind.Word →
     tokens_of bs ≡ word (take (word_size bs) bs) ∷ tokens_of (drop (word_size bs) bs)
 is-word bs s e = let b = word-byte bs (kinds bs s ∙ e) in at-word bs b.0 s b.1.0 b.1.1
 
-pub is-quote : (bs : List ℕ) → is_settled bs ≡ true → kind_of (tokens_of bs) ≡ kind.Text → (1 ≤ length bs) × Byte bs 34 true
+pub is-quote : (bs : List ℕ) → is_settled piece_of bs ≡ true → kind_of (tokens_of bs) ≡ kind.Text → (1 ≤ length bs) × Byte bs 34 true
 is-quote bs s e = let b = quote-byte bs (kinds bs s ∙ e) in (byte-some bs 34 (omega arith) b, b)
 
 -- the signs, words and strings that a reader passes
-pub sign-front : (text : List ℕ) (at : ℕ) (w : List ℕ) (k : Kind) → is_settled (drop at text) ≡ true → k ≡ kind_of (tokens_of (drop at text)) → is_sign_kind k ≡ true →
+pub sign-front : (text : List ℕ) (at : ℕ) (w : List ℕ) (k : Kind) → is_settled piece_of (drop at text) ≡ true → k ≡ kind_of (tokens_of (drop at text)) → is_sign_kind k ≡ true →
     (at + 1 ≤ length text) × (tokens_of (drop at text) ≡ token_of k w ∷ tokens_of (drop (at + 1) text))
 sign-front text at w k s e h =
     let same : kind_by (drop at text) ≡ k = kinds (drop at text) s ∙ sym e in
     let f = sign-first w (drop at text) (ap is_sign_kind same ∙ h) in
     (omega (arith, f.0, length-drop at text), f.1 ∙ ap (λ m. token_of m w ∷ tokens_of (drop 1 (drop at text))) same ∙ ap (λ l. token_of k w ∷ tokens_of l) (drop-drop 1 at text))
 
-pub word-front : (text : List ℕ) (at : ℕ) (rest : List ℕ) (n : ℕ) → is_settled (drop at text) ≡ true → kind_of (tokens_of (drop at text)) ≡ kind.Word →
+pub word-front : (text : List ℕ) (at : ℕ) (rest : List ℕ) (n : ℕ) → is_settled piece_of (drop at text) ≡ true → kind_of (tokens_of (drop at text)) ≡ kind.Word →
     rest ≡ drop at text → n ≡ word_size rest → word_at (tokens_of (drop at text)) ≡ Some (take n rest, tokens_of (drop (at + n) text))
 word-front text at rest n s m r e =
     let size : n ≡ word_size (drop at text) = e ∙ ap (word_size) r in
@@ -175,13 +173,13 @@ word-front text at rest n s m r e =
 behind : (text : List ℕ) (at : ℕ) (rest : List ℕ) (o : Option ℕ) → rest ≡ drop (at + 1) text → o ≡ string_size false 0 rest → string_size false 0 (drop 1 (drop at text)) ≡ o
 behind text at rest o r e = ap (string_size false 0) (drop-drop 1 at text ∙ sym r) ∙ sym e
 
-pub string-front : (text : List ℕ) (at : ℕ) (rest : List ℕ) (n : ℕ) → is_settled (drop at text) ≡ true → kind_of (tokens_of (drop at text)) ≡ kind.Text →
+pub string-front : (text : List ℕ) (at : ℕ) (rest : List ℕ) (n : ℕ) → is_settled piece_of (drop at text) ≡ true → kind_of (tokens_of (drop at text)) ≡ kind.Text →
     rest ≡ drop (at + 1) text → Some n ≡ string_size false 0 rest → string_at (tokens_of (drop at text)) ≡ Some (take n rest, tokens_of (drop (at + (n + 2)) text))
 string-front text at rest n s m r e =
     ap string_at (at-string (drop at text) n (is-quote (drop at text) s m).1 (behind text at rest (Some n) r e))
     ∙ ap (λ l. Some (take n l, tokens_of (drop (n + 2) (drop at text)))) (drop-drop 1 at text ∙ sym r)
     ∙ ap (λ l. Some (take n rest, tokens_of l)) (drop-drop (n + 2) at text)
 
-pub no-string : (text : List ℕ) (at : ℕ) (rest : List ℕ) → is_settled (drop at text) ≡ true → kind_of (tokens_of (drop at text)) ≡ kind.Text →
+pub no-string : (text : List ℕ) (at : ℕ) (rest : List ℕ) → is_settled piece_of (drop at text) ≡ true → kind_of (tokens_of (drop at text)) ≡ kind.Text →
     rest ≡ drop (at + 1) text → None ≡ string_size false 0 rest → string_at (tokens_of (drop at text)) ≡ None
 no-string text at rest s m r e = ap string_at (at-bad (drop at text) (is-quote (drop at text) s m).1 (behind text at rest None r e))

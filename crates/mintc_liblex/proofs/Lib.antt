@@ -1,6 +1,4 @@
 pub mod Sizes
-pub mod TokenLaws
-pub mod SettledLaws
 pub mod FirstLaws
 pub mod StatementLaws
 pub mod PassingLaws

@@ -1,18 +1,9 @@
 -- A piece has at least one byte, and lies within the text.
-use Rattle.std.proofs.Common.{◌≡◌, ℕ, suc, ◌+◌, ◌<◌, ◌≤◌, Bool, true, false, cond, not, ◌&&◌, ◌||◌, ◌==◌, List, [], ◌∷◌, length, get_or, drop, Option, Some, None, IfSome, refl, sym, ap, ◌∙◌, arith, length-drop, true-eqb, true≢false}
-use Rattle.mintc_liblex.specs.Tokens.{Token, is_white, is_sign, is_joint, ends_word, word_size, string_size, line_size, comment_end, Piece, passed, word_piece, string_piece, comment_piece, slash_piece, backslash_piece, sign_of, sign_piece, piece_of}
-
--- either way, with what the test says
-pub either : {X : Type 0} (P : X → Type 0) (b : Bool) (x y : X) → (b ≡ true → P x) → (b ≡ false → P y) → P (cond b x y)
-either P true x y f g = f refl
-either P false x y f g = g refl
-
-abbrev pub Fits : List ℕ → Piece → Type 0
-Fits bs p = (0 < p.size) × (p.size ≤ length bs)
-
-and-right : (a b : Bool) → (a && b) ≡ true → b ≡ true
-and-right true b e = e
-and-right false b e = absurd (true≢false (sym e))
+use Rattle.std.proofs.Common.{◌≡◌, ℕ, ◌+◌, ◌<◌, ◌≤◌, Bool, true, false, ◌&&◌, ◌||◌, ◌==◌, List, [], ◌∷◌, length, get_or, drop, Option, Some, None, IfSome, refl, sym, ap, ◌∙◌, arith, length-drop, true-eqb, true≢false}
+use Rattle.mintc_scan.specs.Bytes.{is_white, string_size, comment_size}
+use Rattle.mintc_scan.proofs.Sizes.{either, Ends, string-within, comment-within}
+use Rattle.mintc_scan.proofs.TokenLaws.{Fits}
+use Rattle.mintc_liblex.specs.Tokens.{Token, is_sign, is_joint, ends_word, word_size, word_piece, string_piece, comment_piece, slash_piece, backslash_piece, sign_of, sign_piece, piece_of}
 
 word-within : (bs : List ℕ) → word_size bs ≤ length bs
 word-within [] = omega arith
@@ -30,72 +21,16 @@ word-fits (b ∷ bs) h e = (some, word-within (b ∷ bs))
     some : 0 < word_size (b ∷ bs)
     some = either (λ n. 0 < n) (ends_word b || is_joint b bs) _ _ (λ f. absurd (true≢false (sym f ∙ e))) (λ _. omega arith)
 
-string-within : (kept : Bool) (at : ℕ) (bs : List ℕ) → IfSome (string_size kept at bs) (λ n. n < at + length bs)
-string-within kept at [] = tt
-string-within kept at (b ∷ bs) =
-    either (λ o. IfSome o (λ n. n < at + suc (length bs))) (not kept && (b == 34)) (Some at) (string_size (not kept && (b == 92)) (at + 1) bs)
-    (λ _. omega arith)
-    (λ _. later (string_size (not kept && (b == 92)) (at + 1) bs) (string-within (not kept && (b == 92)) (at + 1) bs))
-  where
-    later : (o : Option ℕ) → IfSome o (λ n. n < (at + 1) + length bs) → IfSome o (λ n. n < at + suc (length bs))
-    later None h = tt
-    later (Some n) h = omega (arith, h)
-
 string-fits : (bs : List ℕ) → 0 < length bs → (o : Option ℕ) → IfSome o (λ n. n < 0 + length (drop 1 bs)) → Fits bs (string_piece (drop 1 bs) o)
 string-fits bs h None e = (omega arith, omega (arith, length-drop 1 bs))
 string-fits bs h (Some n) e = (omega arith, omega (arith, length-drop 1 bs, e))
-
-line-fits : (bs : List ℕ) → 0 < length bs → (get_or bs 0 0 == 47) ≡ true → Fits bs (passed (line_size bs))
-line-fits bs h e = (some bs h (ap (λ n. n == 10) (true-eqb _ 47 (sym e))), within bs)
-  where
-    within : (bs : List ℕ) → line_size bs ≤ length bs
-    within [] = omega arith
-    within (b ∷ bs) = let more = within bs in either (λ n. n ≤ length (b ∷ bs)) (b == 10) _ _ (λ _. omega arith) (λ _. omega arith)
-
-    some : (bs : List ℕ) → 0 < length bs → (get_or bs 0 0 == 10) ≡ false → 0 < line_size bs
-    some [] h e = omega arith
-    some (b ∷ bs) h e = either (λ n. 0 < n) (b == 10) _ _ (λ f. absurd (true≢false (sym f ∙ e))) (λ _. omega arith)
-
--- a byte that isn't 0 is there
-byte-some : (bs : List ℕ) (v : ℕ) → 0 < v → (get_or bs 0 0 == v) ≡ true → 0 < length bs
-byte-some [] v h e = let same : 0 ≡ v = true-eqb 0 v (sym e) in absurd (omega arith)
-byte-some (b ∷ bs) v h e = omega arith
-
-abbrev Ends : ℕ → Option ℕ → Type 0
-Ends most o = IfSome o (λ n. (0 < n) × (n ≤ most))
-
-ends-later : (most more : ℕ) (o : Option ℕ) → most ≤ more → Ends most o → Ends more o
-ends-later most more None h e = tt
-ends-later most more (Some n) h e = (e.0, omega (arith, e.1))
-
-pair-ends : (at v : ℕ) (b : Bool) (bs : List ℕ) → 0 < v → (b && (get_or bs 0 0 == v)) ≡ true → (0 < at + 2) × (at + 2 ≤ at + suc (length bs))
-pair-ends at v b bs h e = let some = byte-some bs v h (and-right b _ e) in (omega arith, omega arith)
-
-comment_end-within : (at : ℕ) (bs : List ℕ) → Ends (at + length bs) (comment_end at bs)
-comment_end-within at [] = tt
-comment_end-within at (b ∷ bs) =
-    either (Ends (at + suc (length bs))) ((b == 42) && (get_or bs 0 0 == 47)) (Some (at + 2)) (comment_end (at + 1) bs)
-    (λ e. pair-ends at 47 (b == 42) bs (omega arith) e)
-    (λ _. ends-later (at + 1 + length bs) _ _ (omega arith) (comment_end-within (at + 1) bs))
-
--- behind two bytes
-end-within : (bs : List ℕ) (o : Option ℕ) → (get_or bs 1 0 == 42) ≡ true → Ends (2 + length (drop 2 bs)) o → Ends (length bs) o
-end-within [] o e h = absurd (omega (arith, true-eqb 0 42 (sym e)))
-end-within (a ∷ []) o e h = absurd (omega (arith, true-eqb 0 42 (sym e)))
-end-within (a ∷ b ∷ bs) o e h = ends-later _ _ o (omega arith) h
 
 comment-fits : (bs : List ℕ) (o : Option ℕ) → Fits bs (word_piece bs) → Ends (length bs) o → Fits bs (comment_piece bs o)
 comment-fits bs None w h = w
 comment-fits bs (Some n) w h = h
 
 slash-fits : (bs : List ℕ) → 0 < length bs → (get_or bs 0 0 == 47) ≡ true → Fits bs (slash_piece bs)
-slash-fits bs h e =
-    let w = word-fits bs h (ap (λ b. ends_word b || is_joint b (drop 1 bs)) (true-eqb _ 47 (sym e))) in
-    either (Fits bs) (get_or bs 1 0 == 47) _ _
-    (λ _. line-fits bs h e)
-    (λ _. either (Fits bs) (get_or bs 1 0 == 42) _ _
-    (λ f. comment-fits bs (comment_end 2 (drop 2 bs)) w (end-within bs _ f (comment_end-within 2 (drop 2 bs))))
-    (λ _. w))
+slash-fits bs h e = comment-fits bs (comment_size bs) (word-fits bs h (ap (λ b. ends_word b || is_joint b (drop 1 bs)) (true-eqb _ 47 (sym e)))) (comment-within bs e)
 
 -- the second byte is there
 second-some : (bs : List ℕ) → (get_or bs 1 0 == 10) ≡ true → 2 ≤ length bs

@@ -2,7 +2,7 @@
 use Rattle.std.proofs.Common.{◌≡◌, ℕ, zero, suc, ◌<◌, ◌≤◌, Bool, List, [], ◌∷◌, length, Option, Some, None, IfSome, refl, sym, ap, subst, ◌∙◌, arith}
 use Rattle.mintc_liblex.specs.Tokens.{Token, opening, closing, left, right, colon, semicolon, comma, word, string, bad, is_value, is_item}
 use Rattle.mintc_liblex.specs.Statements.{Statements, more, plain, Step, Front, taken, left_over, past_semicolon, valued, grouped, nested, called, statement_by, and_more, fronts, front}
-use Rattle.mintc_liblex.proofs.Sizes.{either}
+use Rattle.mintc_scan.proofs.Sizes.{either}
 
 abbrev Fronts : Type 0
 Fronts = ℕ → List Token → Front

@@ -1,31 +1,10 @@
 -- What stands at the front of tokens, and where a reader stands.
 pub use Rattle.mintc_liblex.specs.Tokens.{word_at, past, after_opening, after_closing, after_left, after_right}
-use Rattle.std.specs.Prelude.{◌≡◌, ℕ, ◌+◌, ◌<◌, Bool, true, false, ◌&&◌, ◌==◌, if◌then◌else◌, List, [], ◌∷◌, slice_index, Option, Some, None, option_map}
+use Rattle.std.specs.Prelude.{ℕ, Bool, true, false, ◌==◌, if◌then◌else◌, List, [], ◌∷◌, Option, Some, None, option_map}
 use Rattle.mintc_liblex.specs.declared.reader.Kind.{Kind}
 use Rattle.mintc_liblex.specs.declared.reader.Kind.TheVariants as kind
-use Rattle.mintc_liblex.specs.Tokens.{Token, opening, closing, left, right, colon, semicolon, comma, word, string, bad, is_value, is_item, bytes_of, piece_of}
+use Rattle.mintc_liblex.specs.Tokens.{Token, opening, closing, left, right, colon, semicolon, comma, word, string, bad, is_value, is_item, bytes_of}
 use Rattle.mintc_liblex.specs.Statements.{Step, taken, left_over, called, statement_by, front}
-
--- how many bytes of a piece are passed over
-abbrev pub passed_by : Option Token → ℕ → ℕ
-passed_by None size = size
-passed_by (Some t) size = 0
-
-abbrev pub passed_size : List ℕ → ℕ
-passed_size bs = passed_by (piece_of bs).token (piece_of bs).size
-
-abbrev pub is_token : Option Token → Bool
-is_token None = false
-is_token (Some t) = true
-
--- A text ends, or begins with a token.
-abbrev pub is_settled : List ℕ → Bool
-is_settled [] = true
-is_settled (b ∷ bs) = is_token (piece_of (b ∷ bs)).token
-
--- No `*/` stands so far behind in a text that it ends behind this place.
-abbrev pub EndsBefore : List ℕ → ℕ → Type 0
-EndsBefore text last = (k : ℕ) → last < k + 2 → ((slice_index text k == 42) && (slice_index text (k + 1) == 47)) ≡ false
 
 -- the kind of what comes next: at an open string it is a text too
 abbrev pub kind_of : List Token → Kind

@@ -12,7 +12,6 @@ mod scanner;
 mod settling;
 pub mod statements;
 
-pub use bytes::{byte_at, is_white, rest_from};
 pub use laws::statements_are_the_tokens;
 pub use reader::{Kind, Reader, item, items, mark, semicolon, statement, value_token};
 pub use scanner::Scanner;

@@ -4,9 +4,10 @@ ghost use Rattle.mintc_liblex.specs.Tokens.{Token, tokens_of};
 ghost use Rattle.mintc_liblex.specs.Scans.{Scan, IsAhead};
 ghost use Rattle.mintc_liblex.specs.Reading.{kind_of, kind_by, token_of, is_sign_kind, word_at, string_at, name_at};
 
-use crate::bytes::{rest_from, string_size, word_size};
+use crate::bytes::word_size;
 use crate::reader::Kind;
-use crate::settling::{last_end, settle};
+use crate::settling::settle;
+use mintc_scan::{last_end, rest_from, string_size};
 use std::marker::Model;
 
 /// A text and the tokens from a place on.
@@ -20,13 +21,15 @@ pub struct Scanner<'a> {
 impl<'a> Model for Scanner<'a> {
     ghost use Rattle.std.specs.Prelude.{drop, length, true, ◌≡◌, ◌≤◌};
     ghost use Rattle.mintc_liblex.specs.Scans.{Scan, scan_at};
-    ghost use Rattle.mintc_liblex.specs.Reading.{is_settled, EndsBefore};
+    ghost use Rattle.mintc_scan.specs.Bytes.{EndsBefore};
+    ghost use Rattle.mintc_scan.specs.Pieces.{is_settled};
+    ghost use Rattle.mintc_liblex.specs.Tokens.{piece_of};
 
     ghost Value = { Scan };
 
     ghost view = { λ r. scan_at r.text.now r.at };
 
-    ghost invariant = { λ r. (r.at ≤ length r.text.now) × (is_settled (drop r.at r.text.now) ≡ true) × EndsBefore r.text.now r.last };
+    ghost invariant = { λ r. (r.at ≤ length r.text.now) × (is_settled piece_of (drop r.at r.text.now) ≡ true) × EndsBefore r.text.now r.last };
 }
 
 /// What the first byte says that comes next.

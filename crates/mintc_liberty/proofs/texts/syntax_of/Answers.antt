@@ -2,7 +2,8 @@ use Rattle.std.proofs.Common.{◌≡◌, [], length, true, false, Some, IsOk, sy
 use Rattle.mintc_liblex.specs.Statements.{front, count}
 use Rattle.mintc_liberty.specs.Texts.{behind_head, is_end, whole, within, library_of}
 use Rattle.mintc_liblex.specs.Reading.{statement_rest}
-use Rattle.mintc_liblex.proofs.TokenLaws.{few}
+use Rattle.mintc_scan.proofs.TokenLaws.{few}
+use Rattle.mintc_liblex.specs.Tokens.{piece_of}
 use Rattle.mintc_liblex.proofs.NestLaws.{step-shorter}
 use Rattle.mintc_liberty.proofs.LibraryLaws.{goes, stops, is-whole, is-broken, no-end, head-shorter}
 use Rattle.mintc_liberty.proofs.texts.syntax_of.Goals as goal
@@ -12,21 +13,21 @@ overflow_add-result c =
     let less = head-shorter c.new-scanner.result.tokens c.head.new.scanner.tokens c.if-not-head.ensures in
     let tokens = ap length c.new-scanner.ensures.tokens in
     let start = ap length c.at-reader.ensures in
-    omega (arith, less, tokens, start, few 0 c.args.text.now, c.loop-reader.invariant.few)
+    omega (arith, less, tokens, start, few piece_of 0 c.args.text.now, c.loop-reader.invariant.few)
 
 pub overflow_add-result-then-not-statement : goal.overflow_add-result-then-not-statement
 overflow_add-result-then-not-statement c =
     let less = head-shorter c.new-scanner.result.tokens c.head.new.scanner.tokens c.if-not-head.ensures in
     let tokens = ap length c.new-scanner.ensures.tokens in
     let start = ap length c.at-reader.ensures in
-    omega (arith, less, tokens, start, few 0 c.args.text.now, c.loop-reader.invariant.few)
+    omega (arith, less, tokens, start, few piece_of 0 c.args.text.now, c.loop-reader.invariant.few)
 
 pub overflow_add-count : goal.overflow_add-count
 overflow_add-count c =
     let less = head-shorter c.new-scanner.result.tokens c.head.new.scanner.tokens c.if-not-head.ensures in
     let tokens = ap length c.new-scanner.ensures.tokens in
     let start = ap length c.at-reader.ensures in
-    omega (arith, less, tokens, start, few 0 c.args.text.now, c.loop-reader.invariant.few)
+    omega (arith, less, tokens, start, few piece_of 0 c.args.text.now, c.loop-reader.invariant.few)
 
 pub returns-then-ends : goal.returns-then-ends
 returns-then-ends c =

@@ -1,5 +1,5 @@
 use Rattle.std.proofs.Common.{◌≡◌, ℕ, ◌+◌, ◌<◌, ◌≤◌, ◌==◌, ◌&&◌, false, get_or}
-use Rattle.mintc_liblex.proofs.settling.last_end.Given as goal
+use Rattle.mintc_scan.proofs.comments.last_end.Given as goal
 
 -- no `*/` before the place that ends behind the last one
 abbrev pub invariant-loop-at : goal.invariant-loop-at

@@ -1,6 +1,0 @@
-use Rattle.std.proofs.Common.{◌≡◌, false, drop}
-use Rattle.mintc_liblex.specs.Tokens.{string_size}
-use Rattle.mintc_liblex.proofs.bytes.string_size.Given as goal
-
-abbrev pub invariant-loop-at : goal.invariant-loop-at
-invariant-loop-at l = string_size false 0 l.bytes ≡ string_size l.kept l.at (drop l.at l.bytes)

@@ -1,0 +1,3 @@
+pub mod Sizes
+pub mod EndLaws
+pub mod TokenLaws
