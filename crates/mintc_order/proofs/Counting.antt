@@ -8,7 +8,7 @@ use Rattle.std.proofs.lemmas.Map.Made.{IsDistinct-from_AllPairs}
 use Rattle.std.proofs.lemmas.Map.Steps.{length-le_from_distinct_below, le-length_from_below}
 use Rattle.std.proofs.lemmas.Map.Views.{Contains-from_any}
 use Rattle.mintc_timing.specs.declared.parts.TimingArc.{TimingArc}
-use Rattle.mintc_order.specs.Listings.{AreListed, AreAll}
+use Rattle.mintc_order.specs.Listings.{AreAll}
 use Rattle.mintc_order.specs.Searches.{IsSearch}
 
 -- numbers below n, no two of them equal, are at most n
@@ -27,9 +27,6 @@ many_listed n xs each =
 few_once : (n : ℕ) (xs : List ℕ) → ((i j : ℕ) → i < j → j < length xs → get_or xs i 0 ≢ get_or xs j 0) → ((i : ℕ) → i < length xs → get_or xs i 0 < n) → length xs ≤ n
 few_once n xs once number =
     few_distinct n xs (λ i j d b h e. once i j b h (get_or_default xs i 0 d (omega arith) ∙ e ∙ get_or_default xs j d 0 h)) (λ k d h. let n = number k h in let e = get_or_default xs k d 0 h in omega arith)
-
-pub AreListed-few : {arcs : List TimingArc} {left given : List ℕ} → AreListed arcs left given → length given ≤ length arcs
-AreListed-few {arcs} {left} {given} listed = few_once (length arcs) given listed.once listed.number
 
 -- a list with each arc once is as long as these
 pub AreAll-count : {arcs : List TimingArc} {numbers : List ℕ} → AreAll arcs numbers → length numbers ≡ length arcs

@@ -1,10 +1,10 @@
-use Rattle.std.proofs.Common.{◌≡◌, ◌≢◌, ℕ, ◌+◌, ◌-◌, ◌<◌, ◌≤◌, List, [], ◌∷◌, ◌++◌, length, get_or, set, take, refl, sym, ap, ◌∙◌, ⊎_elim, arith, get_or-set_same, get_or-set_other}
+use Rattle.std.proofs.Common.{◌≡◌, ◌≢◌, ℕ, ◌+◌, ◌-◌, ◌<◌, ◌≤◌, List, [], ◌∷◌, ◌++◌, length, get_or, set, take, sym, ap, ◌∙◌, ⊎_elim, arith, get_or-set_same, get_or-set_other}
 use Rattle.std.specs.List.{Contains}
 use Rattle.std.proofs.lemmas.Bool.{cases_eq, cases_lt}
 use Rattle.std.proofs.lemmas.List.{get_or_append_left, get_or_default, get_or_push, get_or-take, length_push, length-set, length-take-le}
 use Rattle.std.proofs.lemmas.List.Elements.{Contains-push, Contains-append_left}
 use Rattle.mintc_order.specs.Ranges.{AreParts, IsPlace}
-use Rattle.mintc_order.specs.Searches.{ArePassed, IsOpen, IsSearch}
+use Rattle.mintc_order.specs.Searches.{IsOpen, IsSearch}
 
 -- The path's last bit, all of whose arcs are passed, is given out.
 module _ {bits : ℕ} {starts ends marks path nexts given : List ℕ} (s : IsSearch bits starts ends marks path nexts given) (bit : ℕ) (path' nexts' : List ℕ)
@@ -140,13 +140,12 @@ pub IsSearch-given_as : {bits : ℕ} {starts numbers ends marks path nexts given
 IsSearch-given_as {path = path} {nexts = nexts} {m = m} {n = n} s bit some last through path' nexts' given' of_path of_nexts a b c =
     let l = s.1.is_path.each_next in
     let q : length path' ≡ m = ap (λ (xs : List ℕ). length xs) a ∙ length-take-le m path (omega arith) in
-    let r : length nexts' ≡ n = ap (λ (xs : List ℕ). length xs) b ∙ length-take-le n nexts (omega arith) in
-    (
+    let r : length nexts' ≡ n = ap (λ (xs : List ℕ). length xs) b ∙ length-take-le n nexts (omega arith) in (
       s.0,
       rw c
-      (IsSearch-given s.1 bit path' nexts' (omega arith) (omega arith)
-      (λ i h. ap (λ (xs : List ℕ). get_or xs i 0) a ∙ get_or-take m path i 0 (omega arith))
-      (λ i h. ap (λ (xs : List ℕ). get_or xs i 0) b ∙ get_or-take n nexts i 0 (omega arith))
-      (ap (λ (i : ℕ). get_or path i 0) (q ∙ of_path) ∙ last)
-      (ap (λ (i : ℕ). get_or nexts i 0) (q ∙ of_path) ∙ through)),
+          (IsSearch-given s.1 bit path' nexts' (omega arith) (omega arith)
+          (λ i h. ap (λ (xs : List ℕ). get_or xs i 0) a ∙ get_or-take m path i 0 (omega arith))
+          (λ i h. ap (λ (xs : List ℕ). get_or xs i 0) b ∙ get_or-take n nexts i 0 (omega arith))
+          (ap (λ (i : ℕ). get_or path i 0) (q ∙ of_path) ∙ last)
+          (ap (λ (i : ℕ). get_or nexts i 0) (q ∙ of_path) ∙ through)),
     )

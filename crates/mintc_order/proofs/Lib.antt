@@ -1,7 +1,7 @@
 pub mod Counting
-pub mod Indexing
-pub mod Listing
-pub mod Taking
+pub mod Beginning
+pub mod CountLaws
+pub mod FillLaws
 pub mod Entering
 pub mod Giving
 pub mod Passing

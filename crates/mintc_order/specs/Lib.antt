@@ -1,3 +1,4 @@
+pub mod Counts
 pub mod Gatherings
 pub mod Indexes
 pub mod Listings

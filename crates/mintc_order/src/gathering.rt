@@ -42,7 +42,12 @@ pub fn gathered(
         rest -= 1;
         let bit = given[rest] as usize;
         let start = ranges.starts[bit];
-        add(&ranges.numbers, start, ranges.starts[bit + 1], &mut gathered)?;
+        add(
+            &ranges.numbers,
+            start,
+            ranges.starts[bit + 1],
+            &mut gathered,
+        )?;
     }
     Ok(gathered)
 }

@@ -8,6 +8,7 @@ use std::alloc::{AllocError, Global};
 
 /// The mark of a bit that isn't met, and of one that is given out.
 const UNMET: u32 = 0;
+
 const GIVEN: u32 = 1;
 
 /// What a search has found.
@@ -143,7 +144,11 @@ impl Search {
         ensures next { result < slice_index ranges.now.starts.items (bit + 1) → slice_index self.old.marks.items (slice_index ranges.now.ends.items result) ≢ 1 }
     {
         let last = self.nexts.len() - 1;
-        let next = self.pass(&ranges.ends, self.nexts[last], ranges.starts[bit as usize + 1]);
+        let next = self.pass(
+            &ranges.ends,
+            self.nexts[last],
+            ranges.starts[bit as usize + 1],
+        );
         self.nexts[last] = next;
         next
     }

@@ -1,4 +1,4 @@
-use Rattle.std.proofs.Common.{◌≡◌, ◌+◌, ◌-◌, ℕ, get_or, length, refl, subst, arith}
+use Rattle.std.proofs.Common.{◌≡◌, ◌+◌, ◌-◌, ℕ, get_or, subst, arith}
 use Rattle.std.proofs.lemmas.List.{get_or_default}
 use Rattle.mintc_order.proofs.GatheringLaws.{AreGathered, AreGathered-none, AreGathered-more, IsOrder-gathered}
 use Rattle.mintc_order.proofs.gathering.gathered.Goals as goal

@@ -1,4 +1,4 @@
-use Rattle.std.proofs.Common.{◌≡◌, ◌≢◌, ◌*◌, ◌-◌, ℕ, length, slice_index}
+use Rattle.std.proofs.Common.{◌≢◌, ◌*◌, ◌-◌, ℕ, length, slice_index}
 use Rattle.mintc_order.specs.Searches.{IsSearching, steps_of}
 use Rattle.mintc_order.proofs.search.Search.follow.Given as goal
 

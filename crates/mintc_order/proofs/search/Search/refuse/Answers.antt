@@ -1,4 +1,4 @@
-use Rattle.std.proofs.Common.{◌≡◌, ◌+◌, ◌-◌, length, get_or, arith, refl}
+use Rattle.std.proofs.Common.{◌≡◌, ◌+◌, ◌-◌, get_or, arith, refl}
 use Rattle.std.proofs.lemmas.List.{get_or_default}
 use Rattle.mintc_order.proofs.Closing.{at_place, IsArcLoop-closing, LeavesOnce-closing}
 use Rattle.mintc_order.proofs.search.Search.refuse.Goals as goal
