@@ -23,8 +23,8 @@ use std::alloc::Global;
 
 /// All arc numbers of the design, each once, every arc after all arcs into the bit that it leaves. The refusal is
 /// CombinationalLoop with a closed list of arcs that leaves no bit twice, exactly where arcs lead round; only a want of
-/// memory stops the call otherwise. The search takes in each bit once and looks at each arc at most twice, which no clause says. Arcs that leave a
-/// bit stand together, in falling order of their numbers, which no clause says.
+/// memory stops the call otherwise. The search takes in each bit once and looks at each arc at most twice, which no clause
+/// says. Arcs that leave a bit stand together, in falling order of their numbers, which no clause says.
 pub fn order(alloc: Global, flat: &Flat) -> Result<Order, Stop>
     ensures order { IfOk result (λ order. IsOrder flat.now.arcs order) }
     ensures stop { IfErr result (StopsAt (NamesLoop flat.now.arcs)) }
