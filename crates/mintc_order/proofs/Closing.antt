@@ -1,9 +1,12 @@
-use Rattle.std.proofs.Common.{◌≡◌, ℕ, suc, ◌+◌, ◌-◌, ◌<◌, List, [], ◌∷◌, length, get_or, drop, refl, sym, ap, ◌∙◌, arith, length-drop}
-use Rattle.std.proofs.lemmas.List.{get_or-drop, get_or_default}
+use Rattle.std.proofs.Common.{◌≡◌, ℕ, suc, ◌+◌, ◌<◌, List, [], ◌∷◌, length, get_or, refl, sym, ap, ◌∙◌, ⊎_elim, arith}
+use Rattle.std.proofs.lemmas.Bool.{cases_lt}
+use Rattle.std.proofs.lemmas.List.{get_or_default}
 use Rattle.mintc_timing.specs.declared.parts.TimingArc.{TimingArc}
 use Rattle.mintc_timing.specs.Paths.{arc_at, Leads}
 use Rattle.mintc_timing.specs.Accepted.{IsArcLoop, LeavesOnce}
-use Rattle.mintc_order.specs.Searches.{EndsAt, IsSearch}
+use Rattle.mintc_order.specs.Listings.{AreAll}
+use Rattle.mintc_order.specs.Ranges.{AreParts, AreLeaving}
+use Rattle.mintc_order.specs.Searches.{EndsAt, IsClosing, IsSearch}
 
 -- Arcs of which each enters the bit that the next one leaves lead on.
 leads : (arcs : List TimingArc) (xs : List ℕ) (start end : ℕ) → 0 < length xs → ((i : ℕ) → i < length xs → get_or xs i 0 < length arcs) →
@@ -17,56 +20,85 @@ leads arcs (n ∷ (n' ∷ xs)) start end some number first joined ends = (
   leads arcs (n' ∷ xs) (arc_at arcs n).to end (omega arith) (λ i h. number (suc i) (omega arith)) (sym (joined 0 (omega arith))) (λ i h. joined (suc i) (omega arith)) (λ i q. ends (suc i) (omega arith)),
 )
 
--- From the place of the arc that leaves the path's end, the path is a loop.
-module _ {arcs : List TimingArc} {bits : ℕ} {left places path given : List ℕ} (s : IsSearch arcs bits left places path given) (bit d : ℕ)
-    (placed : get_or places bit 0 ≡ d + 1) (ends : EndsAt arcs path bit) where
+-- From the place of the bit to which the path leads, the next arcs of the path's bits are a loop.
+module _ {bits : ℕ} {starts numbers ends marks path nexts given : List ℕ} (p : AreParts bits starts numbers ends) (s : IsSearch bits starts ends marks path nexts given) (bit d : ℕ)
+    (mark : get_or marks bit 0 ≡ d + 2) (closes : EndsAt starts ends path nexts bit) where
   pub at_place : d < length path
-  at_place = (s.is_path.placed bit d placed).0
+  at_place = (s.is_path.placed bit d mark).0
 
-  abbrev loop : List ℕ
-  loop = drop d path
+  -- the next arc of each is one of the bit's
+  pub below_stop : (i : ℕ) → i < length path → get_or nexts i 0 < get_or starts (get_or path i 0 + 1) 0
+  below_stop i h =
+      ⊎_elim
+      (λ l. (s.is_path.joined i l).0)
+      (λ l. (closes i (omega arith)).0)
+      (cases_lt (i + 1) (length path))
 
-  len : length loop ≡ length path - d
-  len = length-drop d path
-
-  at : (i k : ℕ) → i < length loop → get_or loop i k ≡ get_or path (d + i) 0
-  at i k h = get_or-drop d path i k ∙ get_or_default path (d + i) k 0 (let l = len in omega arith)
-
-  number : (i : ℕ) → i < length loop → get_or loop i 0 < length arcs
-  number i h = let l = len in let w = s.is_path.waiting (d + i) (omega arith) in let n = w.number in let e = at i 0 h in omega arith
-
-  some : 0 < length loop
-  some = let l = len in let p = at_place in omega arith
-
-  first : (arc_at arcs (get_or loop 0 0)).from ≡ bit
-  first =
-      let z : d + 0 ≡ d = omega arith in
-      ap (λ (n : ℕ). (arc_at arcs n).from) (at 0 0 some ∙ ap (λ (i : ℕ). get_or path i 0) z) ∙ (s.is_path.placed bit d placed).1
-
-  joined : (i : ℕ) → suc i < length loop → (arc_at arcs (get_or loop i 0)).to ≡ (arc_at arcs (get_or loop (suc i) 0)).from
-  joined i h =
-      let l = len in
-      let z : d + i + 1 ≡ d + suc i = omega arith in
-      ap (λ (n : ℕ). (arc_at arcs n).to) (at i 0 (omega arith)) ∙ s.is_path.joined (d + i) (omega arith)
-      ∙ sym (ap (λ (n : ℕ). (arc_at arcs n).from) (at (suc i) 0 h ∙ sym (ap (λ (k : ℕ). get_or path k 0) z)))
-
-  closes : (i : ℕ) → length loop ≡ suc i → (arc_at arcs (get_or loop i 0)).to ≡ bit
-  closes i q = let l = len in ap (λ (n : ℕ). (arc_at arcs n).to) (at i 0 (omega arith)) ∙ ends (d + i) (omega arith)
-
-  pub IsArcLoop-from_place : IsArcLoop arcs loop
-  IsArcLoop-from_place = record {
-    some = λ e. let z : length loop ≡ 0 = ap (λ (xs : List ℕ). length xs) e in let p = some in omega arith;
-    closed = (bit, leads arcs loop bit bit some number first joined closes);
-  }
-
-  pub LeavesOnce-from_place : LeavesOnce arcs loop
-  LeavesOnce-from_place i j k l h = λ q.
-      let n = len in
-      let a = s.is_path.waiting (d + i) (omega arith) in
-      let b = s.is_path.waiting (d + j) (omega arith) in
-      let a' = a.place in
-      let b' = b.place in
-      let e : (arc_at arcs (get_or path (d + i) 0)).from ≡ (arc_at arcs (get_or path (d + j) 0)).from =
-      sym (ap (λ (n' : ℕ). (arc_at arcs n').from) (at i k (omega arith))) ∙ q ∙ ap (λ (n' : ℕ). (arc_at arcs n').from) (at j k h) in
-      let same = ap (λ (v : ℕ). get_or places v 0) e in
+  pub inside : (i : ℕ) → i < length path → get_or nexts i 0 < length numbers
+  inside i h =
+      let o = s.is_path.each_bit i h in
+      let w = o.within in
+      let b = below_stop i h in
+      let t = p.inside (get_or path i 0 + 1) (omega arith) in
       omega arith
+
+  module _ {arcs : List TimingArc} (leaving : AreLeaving arcs bits starts numbers ends) (all : AreAll arcs numbers) (loop : List ℕ) (closing : IsClosing numbers nexts d (length nexts) loop) where
+    len : d + length loop ≡ length path
+    len = let c = closing.count in let l = s.is_path.each_next in omega arith
+
+    abbrev arc : ℕ → ℕ
+    arc i = get_or numbers (get_or nexts (d + i) 0) 0
+
+    at : (i : ℕ) → i < length loop → get_or loop i 0 ≡ arc i
+    at i h = closing.each i h
+
+    from : (i : ℕ) → i < length loop → (arc_at arcs (get_or loop i 0)).from ≡ get_or path (d + i) 0
+    from i h =
+        let l = len in
+        let o = s.is_path.each_bit (d + i) (omega arith) in
+        ap (λ (n : ℕ). (arc_at arcs n).from) (at i h) ∙ leaving.leaves (get_or path (d + i) 0) (get_or nexts (d + i) 0) o.within (o.first, below_stop (d + i) (omega arith))
+
+    to : (i : ℕ) → i < length loop → (arc_at arcs (get_or loop i 0)).to ≡ get_or ends (get_or nexts (d + i) 0) 0
+    to i h =
+        let l = len in
+        ap (λ (n : ℕ). (arc_at arcs n).to) (at i h) ∙ sym (leaving.enters (get_or nexts (d + i) 0) (inside (d + i) (omega arith)))
+
+    number : (i : ℕ) → i < length loop → get_or loop i 0 < length arcs
+    number i h = let l = len in rw (at i h) (all.number (get_or nexts (d + i) 0) (inside (d + i) (omega arith)))
+
+    some : 0 < length loop
+    some = let l = len in let q = at_place in omega arith
+
+    first : (arc_at arcs (get_or loop 0 0)).from ≡ bit
+    first =
+        let z : d + 0 ≡ d = omega arith in
+        from 0 some ∙ ap (λ (i : ℕ). get_or path i 0) z ∙ (s.is_path.placed bit d mark).1
+
+    joined : (i : ℕ) → suc i < length loop → (arc_at arcs (get_or loop i 0)).to ≡ (arc_at arcs (get_or loop (suc i) 0)).from
+    joined i h =
+        let l = len in
+        let z : d + i + 1 ≡ d + suc i = omega arith in
+        to i (omega arith) ∙ (s.is_path.joined (d + i) (omega arith)).1 ∙ ap (λ (k : ℕ). get_or path k 0) z ∙ sym (from (suc i) h)
+
+    ends_at : (i : ℕ) → length loop ≡ suc i → (arc_at arcs (get_or loop i 0)).to ≡ bit
+    ends_at i q = let l = len in to i (omega arith) ∙ (closes (d + i) (omega arith)).1
+
+    pub IsArcLoop-closing : IsArcLoop arcs loop
+    IsArcLoop-closing = record {
+      some = λ e. let z : length loop ≡ 0 = ap (λ (xs : List ℕ). length xs) e in let q = some in omega arith;
+      closed = (bit, leads arcs loop bit bit some number first joined ends_at);
+    }
+
+    pub LeavesOnce-closing : LeavesOnce arcs loop
+    LeavesOnce-closing i j k l h = λ q.
+        let n = len in
+        let a = s.is_path.each_bit (d + i) (omega arith) in
+        let b = s.is_path.each_bit (d + j) (omega arith) in
+        let a' = a.mark in
+        let b' = b.mark in
+        let i' = get_or_default loop i k 0 (omega arith) in
+        let j' = get_or_default loop j k 0 h in
+        let e : get_or path (d + i) 0 ≡ get_or path (d + j) 0 =
+        sym (from i (omega arith)) ∙ sym (ap (λ (n' : ℕ). (arc_at arcs n').from) i') ∙ q ∙ ap (λ (n' : ℕ). (arc_at arcs n').from) j' ∙ from j h in
+        let same = ap (λ (v : ℕ). get_or marks v 0) e in
+        omega arith

@@ -8,8 +8,7 @@ use Rattle.std.proofs.lemmas.Map.Made.{IsDistinct-from_AllPairs}
 use Rattle.std.proofs.lemmas.Map.Steps.{length-le_from_distinct_below, le-length_from_below}
 use Rattle.std.proofs.lemmas.Map.Views.{Contains-from_any}
 use Rattle.mintc_timing.specs.declared.parts.TimingArc.{TimingArc}
-use Rattle.mintc_timing.specs.Paths.{arc_at}
-use Rattle.mintc_order.specs.Listings.{AreListed}
+use Rattle.mintc_order.specs.Listings.{AreAll}
 use Rattle.mintc_order.specs.Searches.{IsSearch}
 
 -- numbers below n, no two of them equal, are at most n
@@ -24,36 +23,41 @@ many_listed n xs each =
     le-length_from_below xs n
     (λ q h. let at = each q h in list_any_at (eqb q) xs at.0 q at.1 ((Decides-eqb q (get_or xs at.0 q)).1 (sym at.2)))
 
--- a list with all arcs is as long as these
-pub AreListed-count : {arcs : List TimingArc} {left given : List ℕ} → AreListed arcs left given → ((n : ℕ) → n < length arcs → Contains given n) → length given ≡ length arcs
-AreListed-count {arcs} {left} {given} listed whole =
-    let few = few_distinct (length arcs) given (λ i j d b h e. listed.once i j b h (get_or_default given i 0 d (omega arith) ∙ e ∙ get_or_default given j d 0 h)) (λ k d h. let n = listed.number k h in let e = get_or_default given k d 0 h in omega arith) in
-    let many = many_listed (length arcs) given whole in
+-- numbers of arcs, no two of them equal, are at most as many as the arcs
+few_once : (n : ℕ) (xs : List ℕ) → ((i j : ℕ) → i < j → j < length xs → get_or xs i 0 ≢ get_or xs j 0) → ((i : ℕ) → i < length xs → get_or xs i 0 < n) → length xs ≤ n
+few_once n xs once number =
+    few_distinct n xs (λ i j d b h e. once i j b h (get_or_default xs i 0 d (omega arith) ∙ e ∙ get_or_default xs j d 0 h)) (λ k d h. let n = number k h in let e = get_or_default xs k d 0 h in omega arith)
+
+-- a list with each arc once is as long as these
+pub AreAll-count : {arcs : List TimingArc} {numbers : List ℕ} → AreAll arcs numbers → length numbers ≡ length arcs
+AreAll-count {arcs} {numbers} all =
+    let few = few_once (length arcs) numbers all.once all.number in
+    let many = many_listed (length arcs) numbers all.whole in
     omega arith
 
-module _ {arcs : List TimingArc} {bits : ℕ} {left places path given : List ℕ} (s : IsSearch arcs bits left places path given) where
+module _ {bits : ℕ} {starts ends marks path nexts given : List ℕ} (s : IsSearch bits starts ends marks path nexts given) where
   in_path : (i d : ℕ) → i < length path → get_or (path ++ given) i d ≡ get_or path i 0
   in_path i d h = get_or_append_left path given d i h ∙ get_or_default path i d 0 h
 
   in_given : (i d : ℕ) → length path ≤ i → i < length path + length given → get_or (path ++ given) i d ≡ get_or given (i - length path) 0
   in_given i d h l = get_or-append_right path given (length path) i d refl h ∙ get_or_default given (i - length path) d 0 (omega arith)
 
-  -- a waiting arc isn't given out
+  -- a bit of the path isn't given out
   waits : (i j : ℕ) → i < length path → j < length given → get_or path i 0 ≢ get_or given j 0
   waits i j h l = λ e.
-      let w = s.is_path.waiting i h in
-      let a = w.next in
-      let b = s.are_given.listed.out j l in
-      let same = ap (λ (n : ℕ). get_or left (arc_at arcs n).from 0) e in
+      let w = s.is_path.each_bit i h in
+      let a = w.mark in
+      let b = s.are_given.out j l in
+      let same = ap (λ (n : ℕ). get_or marks n 0) e in
       omega arith
 
   apart_in_path : (i j : ℕ) → i < j → j < length path → get_or path i 0 ≢ get_or path j 0
   apart_in_path i j l h = λ e.
-      let a = s.is_path.waiting i (omega arith) in
-      let p = a.place in
-      let b = s.is_path.waiting j h in
-      let q = b.place in
-      let same = ap (λ (n : ℕ). get_or places (arc_at arcs n).from 0) e in
+      let a = s.is_path.each_bit i (omega arith) in
+      let p = a.mark in
+      let b = s.is_path.each_bit j h in
+      let q = b.mark in
+      let same = ap (λ (n : ℕ). get_or marks n 0) e in
       omega arith
 
   distinct : AllPairs (λ x y. x ≢ y) (path ++ given)
@@ -65,17 +69,17 @@ module _ {arcs : List TimingArc} {bits : ℕ} {left places path given : List ℕ
       (λ q. apart_in_path i j l q (sym (in_path i d p) ∙ e ∙ in_path j d q))
       (λ q. waits i (j - length path) p (omega arith) (sym (in_path i d p) ∙ e ∙ in_given j d q (omega arith)))
       (cases_lt j (length path)))
-      (λ p. s.are_given.listed.once (i - length path) (j - length path) (omega arith) (omega arith) (sym (in_given i d p (omega arith)) ∙ e ∙ in_given j d (omega arith) (omega arith)))
+      (λ p. s.are_given.ordered.once (i - length path) (j - length path) (omega arith) (omega arith) (sym (in_given i d p (omega arith)) ∙ e ∙ in_given j d (omega arith) (omega arith)))
       (cases_lt i (length path))
 
-  below : All (λ x. x < length arcs) (path ++ given)
+  below : All (λ x. x < bits) (path ++ given)
   below k d h =
       let len = length-append path given in
       ⊎_elim
-      (λ p. let w = s.is_path.waiting k p in let a = w.number in let e = in_path k d p in omega arith)
-      (λ p. let a = s.are_given.listed.number (k - length path) (omega arith) in let e = in_given k d p (omega arith) in omega arith)
+      (λ p. let w = s.is_path.each_bit k p in let a = w.within in let e = in_path k d p in omega arith)
+      (λ p. let a = s.are_given.ordered.within (k - length path) (omega arith) in let e = in_given k d p (omega arith) in omega arith)
       (cases_lt k (length path))
 
-  -- An arc waits or is given out once, so all of these are at most as many as the arcs.
-  pub IsSearch-few : length path + length given ≤ length arcs
-  IsSearch-few = let len = length-append path given in let few = few_distinct (length arcs) (path ++ given) distinct below in omega arith
+  -- A bit is on the path or is given out once, so all of these are at most as many as the bits.
+  pub IsSearch-few : length path + length given ≤ bits
+  IsSearch-few = let len = length-append path given in let few = few_distinct bits (path ++ given) distinct below in omega arith

@@ -1,89 +1,127 @@
 use Rattle.std.proofs.Common.{◌≡◌, ◌≢◌, ℕ, ◌+◌, ◌<◌, List, [], ◌∷◌, ◌++◌, length, get_or, set, sym, ap, ◌∙◌, ⊎_elim, arith, get_or-set_same, get_or-set_other}
+use Rattle.std.specs.List.{Contains}
 use Rattle.std.proofs.lemmas.Bool.{cases_eq, cases_lt}
 use Rattle.std.proofs.lemmas.List.{get_or_append_left, get_or_push, length_push, length-set}
-use Rattle.mintc_timing.specs.declared.parts.TimingArc.{TimingArc}
-use Rattle.mintc_timing.specs.Paths.{arc_at}
-use Rattle.mintc_order.specs.Searches.{EndsAt, IsWaiting, IsSearch}
+use Rattle.mintc_order.specs.Ranges.{AreParts}
+use Rattle.mintc_order.specs.Searches.{EndsAt, IsOpen, IsSearch}
 
--- The next arc that leaves the path's end goes to the path.
-module _ {arcs : List TimingArc} {bits : ℕ} {left places path given : List ℕ} (s : IsSearch arcs bits left places path given) (bit e : ℕ)
-    (in_bits : bit < bits) (next : get_or left bit 0 ≡ e + 1) (apart : get_or places bit 0 ≡ 0) (ends : EndsAt arcs path bit) where
-  abbrev places' : List ℕ
-  places' = set places bit (length path + 1)
+-- A bit that isn't met, and that the next arc of the path's last bit enters, goes to the path.
+module _ {bits : ℕ} {starts numbers ends marks path nexts given : List ℕ} (p : AreParts bits starts numbers ends) (s : IsSearch bits starts ends marks path nexts given) (bit : ℕ)
+    (in_bits : bit < bits) (unmet : get_or marks bit 0 ≡ 0) (leads : EndsAt starts ends path nexts bit) where
+  abbrev marks' : List ℕ
+  marks' = set marks bit (length path + 2)
 
   abbrev path' : List ℕ
-  path' = path ++ e ∷ []
+  path' = path ++ bit ∷ []
 
-  known : (e < length arcs) × ((arc_at arcs e).from ≡ bit)
-  known = s.are_left bit e next
+  abbrev nexts' : List ℕ
+  nexts' = nexts ++ get_or starts bit 0 ∷ []
 
-  place_same : get_or places' bit 0 ≡ length path + 1
-  place_same = get_or-set_same places bit (length path + 1) 0 (let l = s.each_place in omega arith)
+  mark_same : get_or marks' bit 0 ≡ length path + 2
+  mark_same = get_or-set_same marks bit (length path + 2) 0 (let l = s.each_mark in omega arith)
 
-  place_other : (v : ℕ) → v ≢ bit → get_or places' v 0 ≡ get_or places v 0
-  place_other v ne = get_or-set_other places bit v (length path + 1) 0 ne
+  mark_other : (v : ℕ) → v ≢ bit → get_or marks' v 0 ≡ get_or marks v 0
+  mark_other v ne = get_or-set_other marks bit v (length path + 2) 0 ne
 
-  before : (i : ℕ) → i < length path → get_or path' i 0 ≡ get_or path i 0
-  before i h = get_or_append_left path (e ∷ []) 0 i h
+  -- a bit that is met is another one
+  other : (v m : ℕ) → get_or marks v 0 ≡ m + 1 → v ≢ bit
+  other v m h = λ q. let same = ap (λ (v' : ℕ). get_or marks v' 0) q in omega arith
 
-  at_last : (i : ℕ) → i ≡ length path → get_or path' i 0 ≡ e
-  at_last i q = get_or_push path e 0 i (sym q)
+  still : (v m : ℕ) → get_or marks v 0 ≡ m + 1 → get_or marks' v 0 ≡ m + 1
+  still v m h = mark_other v (other v m h) ∙ h
 
-  IsWaiting-still : (i n : ℕ) → IsWaiting arcs left places i n → IsWaiting arcs left places' i n
-  IsWaiting-still i n w = record {
-    number = w.number;
-    next = w.next;
-    place = place_other (arc_at arcs n).from (λ q. let z = ap (λ (v : ℕ). get_or places v 0) q in let p = w.place in omega arith) ∙ w.place;
+  old : (i : ℕ) → i < length path → get_or path' i 0 ≡ get_or path i 0
+  old i h = get_or_append_left path (bit ∷ []) 0 i h
+
+  at_last : (i : ℕ) → i ≡ length path → get_or path' i 0 ≡ bit
+  at_last i q = get_or_push path bit 0 i (sym q)
+
+  old_next : (i : ℕ) → i < length path → get_or nexts' i 0 ≡ get_or nexts i 0
+  old_next i h = get_or_append_left nexts (get_or starts bit 0 ∷ []) 0 i (let l = s.is_path.each_next in omega arith)
+
+  next_last : (i : ℕ) → i ≡ length path → get_or nexts' i 0 ≡ get_or starts bit 0
+  next_last i q = get_or_push nexts (get_or starts bit 0) 0 i (let l = s.is_path.each_next in omega arith)
+
+  IsOpen-still : (i v n : ℕ) → IsOpen bits starts ends marks i v n → IsOpen bits starts ends marks' i v n
+  IsOpen-still i v n o = record {
+    within = o.within;
+    mark = let m = o.mark in let t = still v (i + 1) (omega arith) in omega arith;
+    first = o.first;
+    last = o.last;
+    passed = λ k l h. still (get_or ends k 0) 0 (o.passed k l h);
   }
 
-  IsWaiting-last : (i : ℕ) → i ≡ length path → IsWaiting arcs left places' i e
-  IsWaiting-last i q = record {
-    number = known.0;
-    next = rw known.1 next;
-    place = rw (known.1, q) place_same;
+  IsOpen-last : (i : ℕ) → i ≡ length path → IsOpen bits starts ends marks' i bit (get_or starts bit 0)
+  IsOpen-last i q = record {
+    within = in_bits;
+    mark = let m = mark_same in omega arith;
+    first = omega arith;
+    last = p.rising bit in_bits;
+    passed = λ k l h. absurd (omega arith);
   }
 
-  waiting : (i : ℕ) → i < length path' → IsWaiting arcs left places' i (get_or path' i 0)
-  waiting i h =
+  each_bit : (i : ℕ) → i < length path' → IsOpen bits starts ends marks' i (get_or path' i 0) (get_or nexts' i 0)
+  each_bit i h =
       ⊎_elim
-      (λ l. rw (before i l) (IsWaiting-still i (get_or path i 0) (s.is_path.waiting i l)))
-      (λ l. let q : i ≡ length path = omega (arith, length_push path e) in rw (at_last i q) (IsWaiting-last i q))
+      (λ l. rw (old i l, old_next i l) (IsOpen-still i (get_or path i 0) (get_or nexts i 0) (s.is_path.each_bit i l)))
+      (λ l. let q : i ≡ length path = omega (arith, length_push path bit) in rw (at_last i q, next_last i q) (IsOpen-last i q))
       (cases_lt i (length path))
 
-  joined : (i : ℕ) → i + 1 < length path' → (arc_at arcs (get_or path' i 0)).to ≡ (arc_at arcs (get_or path' (i + 1) 0)).from
-  joined i h =
-      let len = length_push path e in
-      ap (λ (n : ℕ). (arc_at arcs n).to) (before i (omega arith))
-      ∙ ⊎_elim
-      (λ l. s.is_path.joined i l ∙ sym (ap (λ (n : ℕ). (arc_at arcs n).from) (before (i + 1) l)))
-      (λ l. let q : i + 1 ≡ length path = omega arith in ends i (sym q) ∙ sym known.1 ∙ sym (ap (λ (n : ℕ). (arc_at arcs n).from) (at_last (i + 1) q)))
-      (cases_lt (i + 1) (length path))
+  abbrev Joins : ℕ → ℕ → ℕ → Type 0
+  Joins n v w = (n < get_or starts (v + 1) 0) × (get_or ends n 0 ≡ w)
 
-  placed : (v i : ℕ) → get_or places' v 0 ≡ i + 1 → (i < length path') × ((arc_at arcs (get_or path' i 0)).from ≡ v)
+  joined : (i : ℕ) → i + 1 < length path' → Joins (get_or nexts' i 0) (get_or path' i 0) (get_or path' (i + 1) 0)
+  joined i h =
+      let len = length_push path bit in
+      rw (old i (omega arith), old_next i (omega arith))
+      (⊎_elim
+      (λ l. rw (old (i + 1) l) (s.is_path.joined i l))
+      (λ l. let q : i + 1 ≡ length path = omega arith in rw (at_last (i + 1) q) (leads i (sym q)))
+      (cases_lt (i + 1) (length path)))
+
+  placed : (v i : ℕ) → get_or marks' v 0 ≡ i + 2 → (i < length path') × (get_or path' i 0 ≡ v)
   placed v i h =
-      let len = length_push path e in
+      let len = length_push path bit in
       ⊎_elim
       (λ q.
-      let z = ap (λ (v' : ℕ). get_or places' v' 0) q in
-      let same = place_same in
+      let z = ap (λ (v' : ℕ). get_or marks' v' 0) q in
+      let same = mark_same in
       let at : i ≡ length path = omega arith in
-      (omega arith, ap (λ (n : ℕ). (arc_at arcs n).from) (at_last i at) ∙ known.1 ∙ sym q))
+      (omega arith, at_last i at ∙ sym q))
       (λ ne.
-      let old = s.is_path.placed v i (sym (place_other v ne) ∙ h) in
-      let below = old.0 in
-      (omega arith, ap (λ (n : ℕ). (arc_at arcs n).from) (before i below) ∙ old.1))
+      let found = s.is_path.placed v i (sym (mark_other v ne) ∙ h) in
+      let below = found.0 in
+      (omega arith, old i below ∙ found.1))
       (cases_eq v bit)
 
-  pub IsSearch-entered : IsSearch arcs bits left places' path' given
+  whole : (v : ℕ) → get_or marks' v 0 ≡ 1 → Contains given v
+  whole v h =
+      ⊎_elim
+      (λ q. let z = ap (λ (v' : ℕ). get_or marks' v' 0) q in let same = mark_same in absurd (omega arith))
+      (λ ne. s.are_given.whole v (sym (mark_other v ne) ∙ h))
+      (cases_eq v bit)
+
+  pub IsSearch-entered : IsSearch bits starts ends marks' path' nexts' given
   IsSearch-entered = record {
-    within = s.within;
-    each_left = s.each_left;
-    each_place = length-set places bit (length path + 1) ∙ s.each_place;
-    are_left = s.are_left;
-    is_path = record { waiting = waiting; joined = joined; placed = placed };
-    are_given = s.are_given;
+    each_mark = length-set marks bit (length path + 2) ∙ s.each_mark;
+    is_path = record {
+      each_next = let l = s.is_path.each_next in let a = length_push path bit in let b = length_push nexts (get_or starts bit 0) in omega arith;
+      each_bit = each_bit;
+      joined = joined;
+      placed = placed;
+    };
+    are_given = record { ordered = s.are_given.ordered; out = λ i h. still (get_or given i 0) 0 (s.are_given.out i h); whole = whole };
   }
 
-  -- the same, of what the code wrote
-  pub IsSearch-entered_as : (written : List ℕ) (place : ℕ) → written ≡ path' → place ≡ length path + 1 → IsSearch arcs bits left (set places bit place) written given
-  IsSearch-entered_as written place q r = rw (q, r) IsSearch-entered
+  pub met : get_or marks' bit 0 ≢ 0
+  met = λ q. let m = mark_same in omega arith
+
+  pub stays_met : (v : ℕ) → get_or marks v 0 ≢ 0 → get_or marks' v 0 ≢ 0
+  stays_met v h = ⊎_elim (λ q. rw q met) (λ ne. rw (mark_other v ne) h) (cases_eq v bit)
+
+-- the same, of what the code wrote
+pub IsSearch-entered_as : {bits : ℕ} {starts numbers ends marks path nexts given : List ℕ} (p : AreParts bits starts numbers ends) (s : IsSearch bits starts ends marks path nexts given) (bit : ℕ) →
+    bit < bits → get_or marks bit 0 ≡ 0 → EndsAt starts ends path nexts bit → (path' nexts' : List ℕ) (start mark : ℕ) →
+    path' ≡ path ++ bit ∷ [] → nexts' ≡ nexts ++ start ∷ [] → start ≡ get_or starts bit 0 → mark ≡ length path + 2 →
+    AreParts bits starts numbers ends × IsSearch bits starts ends (set marks bit mark) path' nexts' given
+IsSearch-entered_as p s bit in_bits unmet leads path' nexts' start mark a b c d = (p, rw (a, b, c, d) (IsSearch-entered p s bit in_bits unmet leads))

@@ -1,119 +1,169 @@
-use Rattle.std.proofs.Common.{◌≡◌, ℕ, ◌+◌, ◌<◌, ◌≤◌, List, [], ◌∷◌, ◌++◌, length, get_or, set, refl, subst, sym, ap, ◌∙◌, ⊎_elim, arith}
+use Rattle.std.proofs.Common.{◌≡◌, ◌≢◌, ℕ, ◌+◌, ◌-◌, ◌<◌, ◌≤◌, List, [], length, get_or, sym, ap, ◌∙◌, ⊎_elim, arith}
 use Rattle.std.specs.List.{Contains}
-use borrow.Author.Count.{below_more}
 use Rattle.std.proofs.lemmas.Bool.{cases_lt}
-use Rattle.std.proofs.lemmas.List.{length_push}
+use Rattle.std.proofs.lemmas.List.{get_or_default}
 use Rattle.mintc_timing.specs.declared.parts.TimingArc.{TimingArc}
 use Rattle.mintc_timing.specs.Paths.{arc_at}
 use Rattle.mintc_timing.specs.Order.{IsOrder}
-use Rattle.mintc_timing.proofs.Ordered.{place, follows}
-use Rattle.mintc_order.specs.Gatherings.{AreGathered, IsReady}
-use Rattle.mintc_order.specs.Indexes.{IsLast}
-use Rattle.mintc_order.specs.Listings.{IsGiven}
-use Rattle.mintc_order.proofs.Counting.{AreListed-count}
-use Rattle.mintc_order.proofs.Listing.{zero_still, IsGiven-still, IsGiven-cases, listed_before, listed_last, AreLeft-given, AreListed-given}
+use Rattle.mintc_order.specs.Gatherings.{IsAdded}
+use Rattle.mintc_order.specs.Listings.{AreAll}
+use Rattle.mintc_order.specs.Ranges.{AreLeaving, AreParts, IsPlace}
+use Rattle.mintc_order.specs.Searches.{AreAfterEnds}
+use Rattle.mintc_order.proofs.Counting.{AreAll-count}
 
--- The next arc of a bit is gathered, where all arcs into the bit are.
-module _ {arcs : List TimingArc} {unmet gathered : List ℕ} {e x : ℕ} (g : AreGathered arcs unmet gathered) (is_ready : IsReady arcs unmet (arc_at arcs e).from)
-    (next : get_or unmet (arc_at arcs e).from 0 ≡ e + 1) (last : IsLast arcs (arc_at arcs e).from e x) where
-  abbrev unmet' : List ℕ
-  unmet' = set unmet (arc_at arcs e).from x
+-- The arc leaves a bit that stands at this place or behind it.
+abbrev pub IsOut : List TimingArc → List ℕ → ℕ → ℕ → Type 0
+IsOut arcs given rest e = (j : ℕ) × (rest ≤ j) × (j < length given) × (get_or given j 0 ≡ (arc_at arcs e).from)
 
-  abbrev gathered' : List ℕ
-  gathered' = gathered ++ e ∷ []
+-- The list has the arcs of the bits that stand at this place or behind it, each once and after all arcs into the bit that it leaves.
+pub record AreGathered (arcs : List TimingArc) (given : List ℕ) (rest : ℕ) (gathered : List ℕ) : Type 0 where
+  pub number : (i : ℕ) → i < length gathered → get_or gathered i 0 < length arcs
+  pub out : (i : ℕ) → i < length gathered → IsOut arcs given rest (get_or gathered i 0)
+  pub whole : (e j : ℕ) → e < length arcs → rest ≤ j → j < length given → get_or given j 0 ≡ (arc_at arcs e).from → Contains gathered e
+  pub once : (i j : ℕ) → i < j → j < length gathered → get_or gathered i 0 ≢ get_or gathered j 0
+  pub after : (i j : ℕ) → i < length gathered → j < length gathered →
+      (arc_at arcs (get_or gathered i 0)).to ≡ (arc_at arcs (get_or gathered j 0)).from → i < j
 
-  below : e < length arcs
-  below = (g.are_left (arc_at arcs e).from e next).0
+pub AreGathered-none : (arcs : List TimingArc) (given : List ℕ) → AreGathered arcs given (length given) []
+AreGathered-none arcs given = record {
+  number = λ i h. absurd (omega arith);
+  out = λ i h. absurd (omega arith);
+  whole = λ e j h l m q. absurd (omega arith);
+  once = λ i j l h. absurd (omega arith);
+  after = λ i j h l q. absurd (omega arith);
+}
 
-  still : (n : ℕ) → IsGiven arcs unmet n → IsGiven arcs unmet' n
-  still = IsGiven-still g.are_left g.listed next last
+module _ {arcs : List TimingArc} {bits : ℕ} {starts numbers ends given : List ℕ} (p : AreParts bits starts numbers ends) (leaving : AreLeaving arcs bits starts numbers ends)
+    (all : AreAll arcs numbers) (ordered : AreAfterEnds bits starts ends given) where
+  -- where an arc is among the numbers
+  place : (e : ℕ) → e < length arcs → (k : ℕ) × (k < length numbers) × (get_or numbers k 0 ≡ e)
+  place e h =
+      let found = all.whole e h in
+      (found.0, found.1, get_or_default numbers found.0 0 e found.1 ∙ found.2)
 
-  before : (i : ℕ) → i < length gathered → get_or gathered' i 0 ≡ get_or gathered i 0
-  before = listed_before g.are_left g.listed next last
+  -- two places of one bit are the same
+  apart : (i j : ℕ) → i < j → j < length given → get_or given i 0 ≡ get_or given j 0 → ⊥
+  apart i j l h q = ordered.once i j l h q
 
-  at_last : (i : ℕ) → i < length gathered' → length gathered ≤ i → get_or gathered' i 0 ≡ e
-  at_last = listed_last g.are_left g.listed next last
+  -- The arcs of the bit at the place before are added.
+  module _ {rest : ℕ} {before after : List ℕ} (g : AreGathered arcs given (rest + 1) before) (in_given : rest < length given)
+      (a : IsAdded numbers (get_or starts (get_or given rest 0) 0) (get_or starts (get_or given rest 0 + 1) 0) before after) where
+    abbrev bit : ℕ
+    bit = get_or given rest 0
 
-  pub IsReady-still : (bit : ℕ) → IsReady arcs unmet bit → IsReady arcs unmet' bit
-  IsReady-still bit h n b q = still n (h n b q)
+    abbrev start : ℕ
+    start = get_or starts bit 0
 
-  ready : (n : ℕ) → n < length arcs → IsGiven arcs unmet' n → IsReady arcs unmet' (arc_at arcs n).from
-  ready n h out =
-      ⊎_elim
-      (λ old. IsReady-still (arc_at arcs n).from (g.ready n h old))
-      (λ q. rw q (IsReady-still (arc_at arcs e).from is_ready))
-      (IsGiven-cases g.are_left g.listed next last n out)
+    in_bits : bit < bits
+    in_bits = ordered.within rest in_given
 
-  -- the arc doesn't enter a bit of which an arc is gathered, nor the bit that it leaves
-  enters_none : (bit : ℕ) → IsReady arcs unmet bit → (arc_at arcs e).to ≡ bit → ⊥
-  enters_none bit h q = let out = h e below q in omega arith
+    rises : start ≤ get_or starts (bit + 1) 0
+    rises = p.rising bit in_bits
 
-  ready_at : (j : ℕ) → j < length gathered' → IsReady arcs unmet (arc_at arcs (get_or gathered' j 0)).from
-  ready_at j h =
-      ⊎_elim
-      (λ l. rw (before j l) (g.ready (get_or gathered j 0) (g.listed.number j l) (g.listed.out j l)))
-      (λ l. rw (at_last j h l) is_ready)
-      (cases_lt j (length gathered))
+    grows : length before ≤ length after
+    grows = let c = a.count in let r = rises in omega arith
 
-  after : (i j : ℕ) → i < length gathered' → j < length gathered' → (arc_at arcs (get_or gathered' i 0)).to ≡ (arc_at arcs (get_or gathered' j 0)).from → i < j
-  after i j h k q =
-      let len = length_push gathered e in
-      ⊎_elim
-      (λ l.
-      ⊎_elim
-      (λ m. g.after i j l m (sym (ap (λ (n : ℕ). (arc_at arcs n).to) (before i l)) ∙ q ∙ ap (λ (n : ℕ). (arc_at arcs n).from) (before j m)))
-      (λ m. omega arith)
-      (cases_lt j (length gathered)))
-      (λ l. absurd (enters_none (arc_at arcs (get_or gathered' j 0)).from (ready_at j k) (sym (ap (λ (n : ℕ). (arc_at arcs n).to) (at_last i h l)) ∙ q)))
-      (cases_lt i (length gathered))
+    -- a new one, and its place
+    new : (i : ℕ) → i < length after → length before ≤ i → get_or after i 0 ≡ get_or numbers (start + (i - length before)) 0
+    new i h l =
+        let z : length before + (i - length before) ≡ i = omega arith in
+        ap (λ (n : ℕ). get_or after n 0) (sym z) ∙ a.added (i - length before) (omega arith)
 
-  pub AreGathered-more : AreGathered arcs unmet' gathered'
-  AreGathered-more = record {
-    are_left = AreLeft-given g.are_left g.listed next last;
-    listed = AreListed-given g.are_left g.listed next last;
-    ready = ready;
-    after = after;
-  }
+    is_place : (i : ℕ) → i < length after → length before ≤ i → IsPlace starts bit (start + (i - length before))
+    is_place i h l = let c = a.count in (omega arith, omega arith)
 
--- the same, of the bit
-pub AreGathered-next : {arcs : List TimingArc} {unmet gathered : List ℕ} (bit e x : ℕ) → AreGathered arcs unmet gathered → IsReady arcs unmet bit → get_or unmet bit 0 ≡ e + 1 →
-    IsLast arcs (arc_at arcs e).from e x →
-    IsReady arcs (set unmet bit x) bit × AreGathered arcs (set unmet bit x) (gathered ++ e ∷ []) × ((v : ℕ) → get_or unmet v 0 ≡ 0 → get_or (set unmet bit x) v 0 ≡ 0)
-AreGathered-next {arcs} {unmet} {gathered} bit e x g is_ready next last =
-    let same = (g.are_left bit e next).1 in
-    let ready' : IsReady arcs unmet (arc_at arcs e).from = subst (λ (b : ℕ). IsReady arcs unmet b) (sym same) is_ready in
-    let next' = ap (λ (b : ℕ). get_or unmet b 0) same ∙ next in
-    subst
-    (λ (b : ℕ). IsReady arcs (set unmet b x) b × AreGathered arcs (set unmet b x) (gathered ++ e ∷ []) × ((v : ℕ) → get_or unmet v 0 ≡ 0 → get_or (set unmet b x) v 0 ≡ 0))
-    same
-    (IsReady-still g ready' next' last (arc_at arcs e).from ready', AreGathered-more g ready' next' last, zero_still g.are_left g.listed next' last)
+    below : (i : ℕ) → i < length after → length before ≤ i → start + (i - length before) < length numbers
+    below i h l = let at = (is_place i h l).1 in let b = in_bits in let t = p.inside (bit + 1) (omega arith) in omega arith
 
--- All arcs of the bits are gathered that the first so many arcs of an order leave.
-abbrev pub AreMet : List TimingArc → List ℕ → ℕ → List ℕ → Type 0
-AreMet arcs order count unmet = (i : ℕ) → i < count → get_or unmet (arc_at arcs (get_or order i 0)).from 0 ≡ 0
+    from_new : (i : ℕ) → i < length after → length before ≤ i → (arc_at arcs (get_or after i 0)).from ≡ bit
+    from_new i h l = ap (λ (n : ℕ). (arc_at arcs n).from) (new i h l) ∙ leaving.leaves bit (start + (i - length before)) in_bits (is_place i h l)
 
-module _ (arcs : List TimingArc) (order : List ℕ) (is_order : IsOrder arcs order) where
-  -- The bit that the next arc leaves is ready.
-  pub IsReady-next : (count : ℕ) (unmet : List ℕ) → count < length order → AreMet arcs order count unmet → IsReady arcs unmet (arc_at arcs (get_or order count 0)).from
-  IsReady-next count unmet below met n h q =
-      let at = place arcs order is_order n h in
-      let earlier = follows arcs order is_order n (get_or order count 0) at.0 count at.1 at.2 below refl q in
-      let zero = met at.0 earlier in
-      let same = ap (λ (m : ℕ). get_or unmet (arc_at arcs m).from 0) at.2 in
-      omega arith
+    to_new : (i : ℕ) → i < length after → length before ≤ i → (arc_at arcs (get_or after i 0)).to ≡ get_or ends (start + (i - length before)) 0
+    to_new i h l = ap (λ (n : ℕ). (arc_at arcs n).to) (new i h l) ∙ sym (leaving.enters (start + (i - length before)) (below i h l))
 
-  -- Where all arcs of an order are passed, what is gathered is an order.
-  pub IsOrder-gathered : (unmet gathered : List ℕ) → AreMet arcs order (length order) unmet → AreGathered arcs unmet gathered → IsOrder arcs gathered
-  IsOrder-gathered unmet gathered met g =
-      let whole : (n : ℕ) → n < length arcs → Contains gathered n =
-      λ n h.
-      let at = place arcs order is_order n h in
-      let zero = met at.0 at.1 in
-      let same = ap (λ (m : ℕ). get_or unmet (arc_at arcs m).from 0) at.2 in
-      g.listed.whole n h (omega arith) in
-      record { count = AreListed-count g.listed whole; whole = whole; ordered = g.after }
+    number : (i : ℕ) → i < length after → get_or after i 0 < length arcs
+    number i h =
+        ⊎_elim
+        (λ l. rw (a.same i l) (g.number i l))
+        (λ l. rw (new i h l) (all.number (start + (i - length before)) (below i h l)))
+        (cases_lt i (length before))
 
-  pub AreMet-next : (count : ℕ) (unmet unmet' : List ℕ) → AreMet arcs order count unmet → ((bit : ℕ) → get_or unmet bit 0 ≡ 0 → get_or unmet' bit 0 ≡ 0) →
-      get_or unmet' (arc_at arcs (get_or order count 0)).from 0 ≡ 0 → AreMet arcs order (count + 1) unmet'
-  AreMet-next count unmet unmet' met stays here =
-      below_more (λ (i : ℕ). get_or unmet' (arc_at arcs (get_or order i 0)).from 0 ≡ 0) count (λ i h. stays (arc_at arcs (get_or order i 0)).from (met i h)) here
+    out_old : (i : ℕ) → i < length before → IsOut arcs given (rest + 1) (get_or after i 0)
+    out_old i h = rw (a.same i h) (g.out i h)
+
+    out : (i : ℕ) → i < length after → IsOut arcs given rest (get_or after i 0)
+    out i h =
+        ⊎_elim
+        (λ l. let o = out_old i l in let least = o.1 in (o.0, omega arith, o.2, o.3))
+        (λ l. (rest, omega arith, in_given, sym (from_new i h l)))
+        (cases_lt i (length before))
+
+    whole : (e j : ℕ) → e < length arcs → rest ≤ j → j < length given → get_or given j 0 ≡ (arc_at arcs e).from → Contains after e
+    whole e j h l m q =
+        let grown = grows in
+        ⊎_elim
+        (λ here.
+        let same : j ≡ rest = omega arith in
+        let from : (arc_at arcs e).from ≡ bit = sym q ∙ ap (λ (i : ℕ). get_or given i 0) same in
+        let at = place e h in
+        let k : ℕ = at.0 in
+        let placed : IsPlace starts bit k = rw (at.2, from) at (leaving.placed k at.1).1 in
+        let first = placed.0 in
+        let last = placed.1 in
+        let c = a.count in
+        let z : start + (k - start) ≡ k = omega arith in (
+          length before + (k - start),
+          omega arith,
+          get_or_default after (length before + (k - start)) e 0 (omega arith) ∙ a.added (k - start) (omega arith) ∙ ap (λ (n : ℕ). get_or numbers n 0) z ∙ at.2,
+        ))
+        (λ later.
+        let found = g.whole e j h later m q in
+        let low = found.1 in
+        (found.0, omega arith, get_or_default after found.0 e 0 (omega arith) ∙ a.same found.0 low ∙ get_or_default before found.0 0 e low ∙ found.2))
+        (cases_lt j (rest + 1))
+
+    once : (i j : ℕ) → i < j → j < length after → get_or after i 0 ≢ get_or after j 0
+    once i j l h = λ q.
+        ⊎_elim
+        (λ (m : j < length before). g.once i j l m (sym (a.same i (omega arith)) ∙ q ∙ a.same j m))
+        (λ (m : length before ≤ j).
+        ⊎_elim
+        (λ (n : i < length before).
+        let o = out_old i n in
+        let least = o.1 in
+        apart rest o.0 (omega arith) o.2 (sym (from_new j h m) ∙ sym (ap (λ (e : ℕ). (arc_at arcs e).from) q) ∙ sym o.3))
+        (λ (n : length before ≤ i).
+        all.once (start + (i - length before)) (start + (j - length before)) (omega arith) (below j h m) (sym (new i (omega arith) n) ∙ q ∙ new j h m))
+        (cases_lt i (length before)))
+        (cases_lt j (length before))
+
+    after_all : (i j : ℕ) → i < length after → j < length after → (arc_at arcs (get_or after i 0)).to ≡ (arc_at arcs (get_or after j 0)).from → i < j
+    after_all i j h k q =
+        ⊎_elim
+        (λ (l : i < length before).
+        ⊎_elim
+        (λ (m : j < length before). g.after i j l m (sym (ap (λ (n : ℕ). (arc_at arcs n).to) (a.same i l)) ∙ q ∙ ap (λ (n : ℕ). (arc_at arcs n).from) (a.same j m)))
+        (λ (m : length before ≤ j). omega arith)
+        (cases_lt j (length before)))
+        (λ (l : length before ≤ i).
+        let earlier = ordered.after rest (start + (i - length before)) in_given (is_place i h l) in
+        let less = earlier.1 in
+        let o = out j k in
+        let least = o.1 in
+        absurd (apart earlier.0 o.0 (omega arith) o.2 (earlier.2 ∙ sym (to_new i h l) ∙ q ∙ sym o.3)))
+        (cases_lt i (length before))
+
+    pub AreGathered-more : AreGathered arcs given rest after
+    AreGathered-more = record { number = number; out = out; whole = whole; once = once; after = after_all }
+
+  -- Once the arcs of all bits are gathered, they are an order.
+  pub IsOrder-gathered : (gathered : List ℕ) → ((b : ℕ) → b < bits → Contains given b) → AreGathered arcs given 0 gathered → IsOrder arcs gathered
+  IsOrder-gathered gathered each g =
+      let whole : (e : ℕ) → e < length arcs → Contains gathered e =
+      λ e h.
+      let at = place e h in
+      let from : (arc_at arcs e).from < bits = rw at.2 at (leaving.placed at.0 at.1).0 in
+      let found = each (arc_at arcs e).from from in
+      g.whole e found.0 h (omega arith) found.1 (get_or_default given found.0 0 (arc_at arcs e).from found.1 ∙ found.2) in
+      let full : AreAll arcs gathered = record { number = g.number; whole = whole; once = g.once } in
+      record { count = AreAll-count full; whole = whole; ordered = g.after }

@@ -1,139 +1,151 @@
-use Rattle.std.proofs.Common.{◌≡◌, ◌≢◌, ℕ, ◌+◌, ◌<◌, ◌≤◌, ◌⊎◌, List, [], ◌∷◌, ◌++◌, length, get_or, set, refl, sym, ap, ◌∙◌, ⊎_elim, arith, get_or-set_same, get_or-set_other}
+use Rattle.std.proofs.Common.{◌≡◌, ◌≢◌, ℕ, ◌+◌, ◌-◌, ◌<◌, ◌≤◌, List, [], ◌∷◌, ◌++◌, length, get_or, set, take, sym, ap, ◌∙◌, ⊎_elim, arith, get_or-set_same, get_or-set_other}
+use Rattle.std.specs.List.{Contains}
 use Rattle.std.proofs.lemmas.Bool.{cases_eq, cases_lt}
-use Rattle.std.proofs.lemmas.List.{get_or_append_left, get_or_push, length_push, length-set}
-use Rattle.mintc_timing.specs.declared.parts.TimingArc.{TimingArc}
-use Rattle.mintc_timing.specs.Paths.{arc_at}
-use Rattle.mintc_order.specs.Indexes.{IsLast}
-use Rattle.mintc_order.specs.Listings.{IsGiven, AreListed}
-use Rattle.mintc_order.specs.Searches.{IsWaiting, IsSearch}
-use Rattle.mintc_order.proofs.Listing.{other_left, not_same, zero_still, IsGiven-cases, listed_before, listed_last, AreLeft-given, AreListed-given}
+use Rattle.std.proofs.lemmas.List.{get_or_append_left, get_or_default, get_or_push, get_or-take, length_push, length-set, length-take-le}
+use Rattle.std.proofs.lemmas.List.Elements.{Contains-push, Contains-append_left}
+use Rattle.mintc_order.specs.Ranges.{AreParts, IsPlace}
+use Rattle.mintc_order.specs.Searches.{IsOpen, IsSearch}
 
-pub at_end : {arcs : List TimingArc} {bits : ℕ} {left places given : List ℕ} (path : List ℕ) (e : ℕ) → IsSearch arcs bits left places (path ++ e ∷ []) given → e < length arcs
-at_end path e s =
-    let len = length_push path e in
-    let w = s.is_path.waiting (length path) (omega arith) in
-    let n = w.number in
-    let q = get_or_push path e 0 (length path) refl in
-    omega arith
-
--- The path's last arc is given out, where all arcs that leave its end are.
-module _ {arcs : List TimingArc} {bits : ℕ} {left places given : List ℕ} (path : List ℕ) {e x : ℕ} (s : IsSearch arcs bits left places (path ++ e ∷ []) given)
-    (last : IsLast arcs (arc_at arcs e).from e x) (end : get_or left (arc_at arcs e).to 0 ≡ 0) where
-  abbrev bit : ℕ
-  bit = (arc_at arcs e).from
-
-  abbrev left' : List ℕ
-  left' = set left bit x
-
-  abbrev places' : List ℕ
-  places' = set places bit 0
+-- The path's last bit, all of whose arcs are passed, is given out.
+module _ {bits : ℕ} {starts ends marks path nexts given : List ℕ} (s : IsSearch bits starts ends marks path nexts given) (bit : ℕ) (path' nexts' : List ℕ)
+    (shorter : length path ≡ length path' + 1) (each_next : length nexts' ≡ length path') (old : (i : ℕ) → i < length path' → get_or path' i 0 ≡ get_or path i 0)
+    (old_next : (i : ℕ) → i < length path' → get_or nexts' i 0 ≡ get_or nexts i 0) (last : get_or path (length path') 0 ≡ bit)
+    (through : get_or nexts (length path') 0 ≡ get_or starts (bit + 1) 0) where
+  abbrev marks' : List ℕ
+  marks' = set marks bit 1
 
   abbrev given' : List ℕ
-  given' = given ++ e ∷ []
+  given' = given ++ bit ∷ []
 
-  before : (i : ℕ) → i < length path → get_or (path ++ e ∷ []) i 0 ≡ get_or path i 0
-  before i h = get_or_append_left path (e ∷ []) 0 i h
+  top : IsOpen bits starts ends marks (length path') bit (get_or starts (bit + 1) 0)
+  top = rw (last, through) at (s.is_path.each_bit (length path') (omega arith))
 
-  at_last : (i : ℕ) → i ≡ length path → get_or (path ++ e ∷ []) i 0 ≡ e
-  at_last i q = get_or_push path e 0 i (sym q)
+  mark_same : get_or marks' bit 0 ≡ 1
+  mark_same = get_or-set_same marks bit 1 0 (let l = s.each_mark in let w = top.within in omega arith)
 
-  top : IsWaiting arcs left places (length path) e
-  top = let len = length_push path e in let w = s.is_path.waiting (length path) (omega arith) in rw (at_last (length path) refl) at w
+  mark_other : (v : ℕ) → v ≢ bit → get_or marks' v 0 ≡ get_or marks v 0
+  mark_other v ne = get_or-set_other marks bit v 1 0 ne
 
-  in_bits : bit < bits
-  in_bits = let w = s.within e top.number in w.0
+  still : (v : ℕ) → get_or marks v 0 ≡ 1 → get_or marks' v 0 ≡ 1
+  still v h = ⊎_elim (λ q. rw q mark_same) (λ ne. mark_other v ne ∙ h) (cases_eq v bit)
 
-  listed : AreListed arcs left given
-  listed = s.are_given.listed
+  each_bit : (i : ℕ) → i < length path' → IsOpen bits starts ends marks' i (get_or path' i 0) (get_or nexts' i 0)
+  each_bit i h =
+      let o = s.is_path.each_bit i (omega arith) in
+      let ne : get_or path i 0 ≢ bit = λ q. let same = ap (λ (v : ℕ). get_or marks v 0) q in let a = o.mark in let b = top.mark in omega arith in
+      rw (old i h, old_next i h)
+      (record {
+        within = o.within;
+        mark = mark_other (get_or path i 0) ne ∙ o.mark;
+        first = o.first;
+        last = o.last;
+        passed = λ k l m. still (get_or ends k 0) (o.passed k l m);
+      })
 
-  pub zero_stays : (v : ℕ) → get_or left v 0 ≡ 0 → get_or left' v 0 ≡ 0
-  zero_stays = zero_still s.are_left listed top.next last
+  abbrev Joins : ℕ → ℕ → ℕ → Type 0
+  Joins n v w = (n < get_or starts (v + 1) 0) × (get_or ends n 0 ≡ w)
 
-  not_bit : (v : ℕ) → get_or left v 0 ≡ 0 → v ≢ bit
-  not_bit = not_same s.are_left listed top.next last
+  joined : (i : ℕ) → i + 1 < length path' → Joins (get_or nexts' i 0) (get_or path' i 0) (get_or path' (i + 1) 0)
+  joined i h = rw (old i (omega arith), old_next i (omega arith), old (i + 1) h) (s.is_path.joined i (omega arith))
 
-  cases : (n : ℕ) → IsGiven arcs left' n → IsGiven arcs left n ⊎ (n ≡ e)
-  cases = IsGiven-cases s.are_left listed top.next last
-
-  given_before : (i : ℕ) → i < length given → get_or given' i 0 ≡ get_or given i 0
-  given_before = listed_before s.are_left listed top.next last
-
-  given_last : (i : ℕ) → i < length given' → length given ≤ i → get_or given' i 0 ≡ e
-  given_last = listed_last s.are_left listed top.next last
-
-  place_same : get_or places' bit 0 ≡ 0
-  place_same = get_or-set_same places bit 0 0 (let l = s.each_place in let b = in_bits in omega arith)
-
-  place_other : (v : ℕ) → v ≢ bit → get_or places' v 0 ≡ get_or places v 0
-  place_other v ne = get_or-set_other places bit v 0 0 ne
-
-  waiting : (i : ℕ) → i < length path → IsWaiting arcs left' places' i (get_or path i 0)
-  waiting i h =
-      let len = length_push path e in
-      let w : IsWaiting arcs left places i (get_or path i 0) = rw (before i h) at (s.is_path.waiting i (omega arith)) in
-      let ne : (arc_at arcs (get_or path i 0)).from ≢ bit = λ q. let same = ap (λ (v : ℕ). get_or places v 0) q in let a = w.place in let b = top.place in omega arith in
-      record {
-        number = w.number;
-        next = other_left s.are_left listed top.next last (arc_at arcs (get_or path i 0)).from ne ∙ w.next;
-        place = place_other (arc_at arcs (get_or path i 0)).from ne ∙ w.place;
-      }
-
-  joined : (i : ℕ) → i + 1 < length path → (arc_at arcs (get_or path i 0)).to ≡ (arc_at arcs (get_or path (i + 1) 0)).from
-  joined i h =
-      let len = length_push path e in
-      sym (ap (λ (n : ℕ). (arc_at arcs n).to) (before i (omega arith))) ∙ s.is_path.joined i (omega arith) ∙ ap (λ (n : ℕ). (arc_at arcs n).from) (before (i + 1) h)
-
-  placed : (v i : ℕ) → get_or places' v 0 ≡ i + 1 → (i < length path) × ((arc_at arcs (get_or path i 0)).from ≡ v)
+  placed : (v i : ℕ) → get_or marks' v 0 ≡ i + 2 → (i < length path') × (get_or path' i 0 ≡ v)
   placed v i h =
-      let len = length_push path e in
       ⊎_elim
-      (λ q. let same = ap (λ (v' : ℕ). get_or places' v' 0) q in let z = place_same in absurd (omega arith))
+      (λ q. let same = ap (λ (v' : ℕ). get_or marks' v' 0) q in let z = mark_same in absurd (omega arith))
       (λ ne.
-      let old = s.is_path.placed v i (sym (place_other v ne) ∙ h) in
-      let below = old.0 in
+      let found = s.is_path.placed v i (sym (mark_other v ne) ∙ h) in
+      let below = found.0 in
       ⊎_elim
-      (λ l. (l, sym (ap (λ (n : ℕ). (arc_at arcs n).from) (before i l)) ∙ old.1))
-      (λ l. let at : i ≡ length path = omega arith in absurd (ne (sym old.1 ∙ ap (λ (n : ℕ). (arc_at arcs n).from) (at_last i at))))
-      (cases_lt i (length path)))
+      (λ l. (l, old i l ∙ found.1))
+      (λ l. let at : i ≡ length path' = omega arith in absurd (ne (sym found.1 ∙ ap (λ (n : ℕ). get_or path n 0) at ∙ last)))
+      (cases_lt i (length path')))
       (cases_eq v bit)
 
-  ended : (n : ℕ) → n < length arcs → IsGiven arcs left' n → get_or left' (arc_at arcs n).to 0 ≡ 0
-  ended n h g =
-      ⊎_elim
-      (λ old. zero_stays (arc_at arcs n).to (s.are_given.ended n h old))
-      (λ q. rw q (zero_stays (arc_at arcs e).to end))
-      (cases n g)
+  before : (i : ℕ) → i < length given → get_or given' i 0 ≡ get_or given i 0
+  before i h = get_or_append_left given (bit ∷ []) 0 i h
 
-  -- no arc that is given out ends at the bit
-  end_elsewhere : (i : ℕ) → i < length given' → (arc_at arcs (get_or given' i 0)).to ≢ bit
-  end_elsewhere i h =
+  at_last : (i : ℕ) → i < length given' → length given ≤ i → get_or given' i 0 ≡ bit
+  at_last i h l = get_or_push given bit 0 i (let len = length_push given bit in omega arith)
+
+  -- the bit isn't given out before
+  apart : (i : ℕ) → i < length given → get_or given i 0 ≢ bit
+  apart i h = λ q. let same = ap (λ (v : ℕ). get_or marks v 0) q in let a = s.are_given.out i h in let b = top.mark in omega arith
+
+  within : (i : ℕ) → i < length given' → get_or given' i 0 < bits
+  within i h =
       ⊎_elim
-      (λ l. rw (given_before i l) (not_bit (arc_at arcs (get_or given i 0)).to (s.are_given.ended (get_or given i 0) (listed.number i l) (listed.out i l))))
-      (λ l. rw (given_last i h l) (not_bit (arc_at arcs e).to end))
+      (λ l. rw (before i l) (s.are_given.ordered.within i l))
+      (λ l. rw (at_last i h l) top.within)
       (cases_lt i (length given))
 
-  after : (i j : ℕ) → i < length given' → j < length given' → (arc_at arcs (get_or given' i 0)).to ≡ (arc_at arcs (get_or given' j 0)).from → j < i
-  after i j h k q =
-      let len = length_push given e in
+  once : (i j : ℕ) → i < j → j < length given' → get_or given' i 0 ≢ get_or given' j 0
+  once i j l h = λ q.
+      let len = length_push given bit in
+      let known : i < length given = omega arith in
       ⊎_elim
-      (λ l.
-      ⊎_elim
-      (λ m. s.are_given.after i j m l (sym (ap (λ (n : ℕ). (arc_at arcs n).to) (given_before i m)) ∙ q ∙ ap (λ (n : ℕ). (arc_at arcs n).from) (given_before j l)))
-      (λ m. omega arith)
-      (cases_lt i (length given)))
-      (λ l. absurd (end_elsewhere i h (q ∙ ap (λ (n : ℕ). (arc_at arcs n).from) (given_last j k l))))
+      (λ m. s.are_given.ordered.once i j l m (sym (before i known) ∙ q ∙ before j m))
+      (λ m. apart i known (sym (before i known) ∙ q ∙ at_last j h m))
       (cases_lt j (length given))
 
-  pub IsSearch-given : IsSearch arcs bits left' places' path given'
+  abbrev Follows : ℕ → ℕ → Type 0
+  Follows i k = (j : ℕ) × (j < i) × (get_or given' j 0 ≡ get_or ends k 0)
+
+  after : (i k : ℕ) → i < length given' → IsPlace starts (get_or given' i 0) k → Follows i k
+  after i k h p =
+      ⊎_elim
+      (λ l.
+      let found = s.are_given.ordered.after i k l (rw (before i l) at p) in
+      let earlier = found.1 in
+      (found.0, earlier, before found.0 (omega arith) ∙ found.2))
+      (λ l.
+      let here : IsPlace starts bit k = rw (at_last i h l) at p in
+      let found = s.are_given.whole (get_or ends k 0) (top.passed k here.0 here.1) in
+      let below = found.1 in
+      (found.0, omega arith, before found.0 below ∙ get_or_default given found.0 0 (get_or ends k 0) below ∙ found.2))
+      (cases_lt i (length given))
+
+  out : (i : ℕ) → i < length given' → get_or marks' (get_or given' i 0) 0 ≡ 1
+  out i h =
+      ⊎_elim
+      (λ l. rw (before i l) (still (get_or given i 0) (s.are_given.out i l)))
+      (λ l. rw (at_last i h l) mark_same)
+      (cases_lt i (length given))
+
+  whole : (v : ℕ) → get_or marks' v 0 ≡ 1 → Contains given' v
+  whole v h =
+      ⊎_elim
+      (λ q. rw q (Contains-push given bit))
+      (λ ne. Contains-append_left given (bit ∷ []) v (s.are_given.whole v (sym (mark_other v ne) ∙ h)))
+      (cases_eq v bit)
+
+  pub IsSearch-given : IsSearch bits starts ends marks' path' nexts' given'
   IsSearch-given = record {
-    within = s.within;
-    each_left = length-set left bit x ∙ s.each_left;
-    each_place = length-set places bit 0 ∙ s.each_place;
-    are_left = AreLeft-given s.are_left listed top.next last;
-    is_path = record { waiting = waiting; joined = joined; placed = placed };
-    are_given = record { listed = AreListed-given s.are_left listed top.next last; ended = ended; after = after };
+    each_mark = length-set marks bit 1 ∙ s.each_mark;
+    is_path = record { each_next = each_next; each_bit = each_bit; joined = joined; placed = placed };
+    are_given = record { ordered = record { within = within; once = once; after = after }; out = out; whole = whole };
   }
 
-  -- the same, of what the code wrote
-  pub IsSearch-given_as : (written : List ℕ) → written ≡ given' → IsSearch arcs bits left' places' path written
-  IsSearch-given_as written q = rw q IsSearch-given
+  pub stays_met : (v : ℕ) → get_or marks v 0 ≢ 0 → get_or marks' v 0 ≢ 0
+  stays_met v h =
+      ⊎_elim
+      (λ e. rw e (λ q. let m = mark_same in omega arith))
+      (λ ne. rw (mark_other v ne) h)
+      (cases_eq v bit)
+
+-- the same, of what the code wrote
+pub IsSearch-given_as : {bits : ℕ} {starts numbers ends marks path nexts given : List ℕ} {m n : ℕ} → AreParts bits starts numbers ends × IsSearch bits starts ends marks path nexts given → (bit : ℕ) →
+    0 < length path → get_or path (length path - 1) 0 ≡ bit → get_or nexts (length path - 1) 0 ≡ get_or starts (bit + 1) 0 → (path' nexts' given' : List ℕ) →
+    m ≡ length path - 1 → n ≡ length nexts - 1 → path' ≡ take m path → nexts' ≡ take n nexts → given' ≡ given ++ bit ∷ [] →
+    AreParts bits starts numbers ends × IsSearch bits starts ends (set marks bit 1) path' nexts' given'
+IsSearch-given_as {path = path} {nexts = nexts} {m = m} {n = n} s bit some last through path' nexts' given' of_path of_nexts a b c =
+    let l = s.1.is_path.each_next in
+    let q : length path' ≡ m = ap (λ (xs : List ℕ). length xs) a ∙ length-take-le m path (omega arith) in
+    let r : length nexts' ≡ n = ap (λ (xs : List ℕ). length xs) b ∙ length-take-le n nexts (omega arith) in (
+      s.0,
+      rw c
+          (IsSearch-given s.1 bit path' nexts' (omega arith) (omega arith)
+          (λ i h. ap (λ (xs : List ℕ). get_or xs i 0) a ∙ get_or-take m path i 0 (omega arith))
+          (λ i h. ap (λ (xs : List ℕ). get_or xs i 0) b ∙ get_or-take n nexts i 0 (omega arith))
+          (ap (λ (i : ℕ). get_or path i 0) (q ∙ of_path) ∙ last)
+          (ap (λ (i : ℕ). get_or nexts i 0) (q ∙ of_path) ∙ through)),
+    )

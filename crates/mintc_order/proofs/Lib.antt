@@ -1,9 +1,11 @@
 pub mod Counting
-pub mod Indexing
-pub mod Listing
+pub mod Beginning
+pub mod CountLaws
+pub mod FillLaws
 pub mod Entering
 pub mod Giving
-pub mod GatheringLaws
+pub mod Passing
 pub mod Closing
-pub mod Placing
+pub mod GatheringLaws
+pub mod Ending
 pub mod LoopLaws

@@ -1,18 +1,8 @@
--- What holds while the arcs of an order are gathered, those that leave a bit together. `unmet` has for each bit one more
--- than the number of the last arc that leaves it and isn't gathered, or 0 where all are.
-use Rattle.std.specs.Prelude.{◌≡◌, ◌<◌, ℕ, List, length, slice_index}
-use Rattle.mintc_timing.specs.declared.parts.TimingArc.{TimingArc}
-use Rattle.mintc_timing.specs.Paths.{arc_at}
-use Rattle.mintc_order.specs.Listings.{IsGiven, AreLeft, AreListed}
+-- what is added to a list of arcs
+use Rattle.std.specs.Prelude.{◌≡◌, ◌<◌, ◌+◌, ℕ, List, length, slice_index}
 
--- All arcs into the bit are gathered.
-abbrev pub IsReady : List TimingArc → List ℕ → ℕ → Type 0
-IsReady arcs unmet bit = (e : ℕ) → e < length arcs → (arc_at arcs e).to ≡ bit → IsGiven arcs unmet e
-
--- The list has each arc that is gathered once, and each stands after all arcs into the bit that it leaves.
-pub record AreGathered (arcs : List TimingArc) (unmet gathered : List ℕ) : Type 0 where
-  pub are_left : AreLeft arcs unmet
-  pub listed : AreListed arcs unmet gathered
-  pub ready : (e : ℕ) → e < length arcs → IsGiven arcs unmet e → IsReady arcs unmet (arc_at arcs e).from
-  pub after : (i j : ℕ) → i < length gathered → j < length gathered →
-      (arc_at arcs (slice_index gathered i)).to ≡ (arc_at arcs (slice_index gathered j)).from → i < j
+-- The list is that of before and then the numbers from one place to before another.
+pub record IsAdded (numbers : List ℕ) (start stop : ℕ) (before after : List ℕ) : Type 0 where
+  pub count : length after + start ≡ length before + stop
+  pub same : (i : ℕ) → i < length before → slice_index after i ≡ slice_index before i
+  pub added : (i : ℕ) → length before + i < length after → slice_index after (length before + i) ≡ slice_index numbers (start + i)

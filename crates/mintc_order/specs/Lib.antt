@@ -1,5 +1,7 @@
+pub mod Counts
 pub mod Gatherings
 pub mod Indexes
 pub mod Listings
+pub mod Ranges
 pub mod Refusals
 pub mod Searches

@@ -1,48 +1,63 @@
--- What holds while a search along arcs gives out each arc after all arcs that leave its end.
-use Rattle.std.specs.Prelude.{◌≡◌, ◌<◌, ◌+◌, ◌*◌, ℕ, List, length, slice_index}
-use Rattle.mintc_timing.specs.declared.parts.TimingArc.{TimingArc}
-use Rattle.mintc_timing.specs.Paths.{arc_at}
+-- What holds while a search from bit to bit gives out each bit after all bits that its arcs enter. `marks` has 0 for a bit that
+-- isn't met, 1 for one that is given out, and for one of the path its place there, counted from 2.
+use Rattle.std.specs.Prelude.{◌≡◌, ◌≢◌, ◌<◌, ◌≤◌, ◌+◌, ◌*◌, ℕ, List, length, slice_index, Contains}
+use Rattle.mintc_order.specs.declared.ranges.Ranges.{Ranges}
 use Rattle.mintc_order.specs.declared.search.Search.{Search}
-use Rattle.mintc_order.specs.Indexes.{AreWithin}
-use Rattle.mintc_order.specs.Listings.{IsGiven, AreLeft, AreListed}
+use Rattle.mintc_order.specs.Ranges.{IsPlace, AreParts}
 
--- Arc e stands at place i of the path: it is the next to be given out of those that leave its bit, and the bit knows
--- the place.
-pub record IsWaiting (arcs : List TimingArc) (left places : List ℕ) (i e : ℕ) : Type 0 where
-  pub number : e < length arcs
-  pub next : slice_index left (arc_at arcs e).from ≡ e + 1
-  pub place : slice_index places (arc_at arcs e).from ≡ i + 1
+-- The bits that the bit's arcs enter from one place to before another are given out.
+abbrev pub ArePassed : List ℕ → List ℕ → ℕ → ℕ → Type 0
+ArePassed ends marks first next = (k : ℕ) → first ≤ k → k < next → slice_index marks (slice_index ends k) ≡ 1
 
--- The path's arcs wait, each entering the bit that the one after it leaves. `places` has for each bit one more than the
--- place of the path's arc that leaves it, or 0 where none does.
-pub record IsSearchPath (arcs : List TimingArc) (left places path : List ℕ) : Type 0 where
-  pub waiting : (i : ℕ) → i < length path → IsWaiting arcs left places i (slice_index path i)
-  pub joined : (i : ℕ) → i + 1 < length path → (arc_at arcs (slice_index path i)).to ≡ (arc_at arcs (slice_index path (i + 1))).from
-  pub placed : (bit i : ℕ) → slice_index places bit ≡ i + 1 → (i < length path) × ((arc_at arcs (slice_index path i)).from ≡ bit)
+-- The bit stands at place i of the path, and its arcs are passed up to the next.
+pub record IsOpen (bits : ℕ) (starts ends marks : List ℕ) (i bit next : ℕ) : Type 0 where
+  pub within : bit < bits
+  pub mark : slice_index marks bit ≡ i + 2
+  pub first : slice_index starts bit ≤ next
+  pub last : next ≤ slice_index starts (bit + 1)
+  pub passed : ArePassed ends marks (slice_index starts bit) next
 
--- The list has each arc that is given out once, and each stands after all arcs that leave its end.
-pub record AreGiven (arcs : List TimingArc) (left given : List ℕ) : Type 0 where
-  pub listed : AreListed arcs left given
-  pub ended : (e : ℕ) → e < length arcs → IsGiven arcs left e → slice_index left (arc_at arcs e).to ≡ 0
-  pub after : (i j : ℕ) → i < length given → j < length given →
-      (arc_at arcs (slice_index given i)).to ≡ (arc_at arcs (slice_index given j)).from → j < i
+-- The path's bits are open, and the next arc of each enters the bit after it.
+pub record IsSearchPath (bits : ℕ) (starts ends marks path nexts : List ℕ) : Type 0 where
+  pub each_next : length nexts ≡ length path
+  pub each_bit : (i : ℕ) → i < length path → IsOpen bits starts ends marks i (slice_index path i) (slice_index nexts i)
+  pub joined : (i : ℕ) → i + 1 < length path →
+      (slice_index nexts i < slice_index starts (slice_index path i + 1)) × (slice_index ends (slice_index nexts i) ≡ slice_index path (i + 1))
+  pub placed : (bit i : ℕ) → slice_index marks bit ≡ i + 2 → (i < length path) × (slice_index path i ≡ bit)
 
--- A search along arcs between so many bits, at any moment.
-pub record IsSearch (arcs : List TimingArc) (bits : ℕ) (left places path given : List ℕ) : Type 0 where
-  pub within : AreWithin bits arcs
-  pub each_left : length left ≡ bits
-  pub each_place : length places ≡ bits
-  pub are_left : AreLeft arcs left
-  pub is_path : IsSearchPath arcs left places path
-  pub are_given : AreGiven arcs left given
+-- Bits in an order of which each stands once, after all that its arcs enter.
+pub record AreAfterEnds (bits : ℕ) (starts ends given : List ℕ) : Type 0 where
+  pub within : (i : ℕ) → i < length given → slice_index given i < bits
+  pub once : (i j : ℕ) → i < j → j < length given → slice_index given i ≢ slice_index given j
+  pub after : (i k : ℕ) → i < length given → IsPlace starts (slice_index given i) k → (j : ℕ) × (j < i) × (slice_index given j ≡ slice_index ends k)
 
-abbrev pub IsSearching : List TimingArc → ℕ → Search → Type 0
-IsSearching arcs bits search = IsSearch arcs bits search.left.items search.places.items search.path.items search.given.items
+-- The list has each bit that is given out.
+pub record AreGiven (bits : ℕ) (starts ends marks given : List ℕ) : Type 0 where
+  pub ordered : AreAfterEnds bits starts ends given
+  pub out : (i : ℕ) → i < length given → slice_index marks (slice_index given i) ≡ 1
+  pub whole : (bit : ℕ) → slice_index marks bit ≡ 1 → Contains given bit
 
--- Where the path has an arc, the last one enters the bit.
-abbrev pub EndsAt : List TimingArc → List ℕ → ℕ → Type 0
-EndsAt arcs path bit = (i : ℕ) → length path ≡ i + 1 → (arc_at arcs (slice_index path i)).to ≡ bit
+-- A search between so many bits, at any moment.
+pub record IsSearch (bits : ℕ) (starts ends marks path nexts given : List ℕ) : Type 0 where
+  pub each_mark : length marks ≡ bits
+  pub is_path : IsSearchPath bits starts ends marks path nexts
+  pub are_given : AreGiven bits starts ends marks given
 
--- How many steps a search has taken: one for each arc on the path, two for each that is given out.
+abbrev pub IsSearching : ℕ → Ranges → Search → Type 0
+IsSearching bits ranges search =
+    AreParts bits ranges.starts.items ranges.numbers.items ranges.ends.items
+    × IsSearch bits ranges.starts.items ranges.ends.items search.marks.items search.path.items search.nexts.items search.given.items
+
+-- Where the path has a bit, the next arc of its last one enters the bit.
+abbrev pub EndsAt : List ℕ → List ℕ → List ℕ → List ℕ → ℕ → Type 0
+EndsAt starts ends path nexts bit = (i : ℕ) → length path ≡ i + 1 →
+    (slice_index nexts i < slice_index starts (slice_index path i + 1)) × (slice_index ends (slice_index nexts i) ≡ bit)
+
+-- How many steps a search has taken: one for each bit of the path, two for each that is given out.
 abbrev pub steps_of : Search → ℕ
 steps_of search = length search.path.items + 2 * length search.given.items
+
+-- The list has the arcs at the next places of the path's bits from one place to before another.
+pub record IsClosing (numbers nexts : List ℕ) (first stop : ℕ) (closed : List ℕ) : Type 0 where
+  pub count : first + length closed ≡ stop
+  pub each : (i : ℕ) → i < length closed → slice_index closed i ≡ slice_index numbers (slice_index nexts (first + i))

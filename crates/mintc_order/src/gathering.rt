@@ -1,57 +1,53 @@
-//! An order in which arcs that leave a bit stand together.
-ghost use Rattle.std.specs.Prelude.{◌≡◌, ◌<◌, ℕ, length, IfOk, OnOk, slice_index};
+//! An order of arcs, from an order of the bits that they leave.
+ghost use Rattle.std.specs.Prelude.{◌≡◌, ◌<◌, ◌≤◌, ◌-◌, ℕ, length, Contains, IfOk, OnOk};
 ghost use Rattle.mintc_timing.specs.Order.{IsOrder};
-ghost use Rattle.mintc_timing.specs.Paths.{arc_at};
-ghost use Rattle.mintc_order.specs.Gatherings.{AreGathered, IsReady};
-ghost use Rattle.mintc_order.specs.Indexes.{AreNexts, AreWithin, IsIndex};
+ghost use Rattle.mintc_order.specs.Gatherings.{IsAdded};
+ghost use Rattle.mintc_order.specs.Listings.{AreAll};
+ghost use Rattle.mintc_order.specs.Ranges.{AreLeaving, AreParts};
+ghost use Rattle.mintc_order.specs.Searches.{AreAfterEnds};
 
+use crate::ranges::Ranges;
 use mintc_timing::TimingArc;
 use std::alloc::{AllocError, Global};
 
-/// Gathers the arcs that leave the bit that this one leaves, the last of them first.
-fn gather(
-    arcs: &[TimingArc],
-    nexts: &[u32],
-    number: u32,
-    unmet: &mut [u32],
-    gathered: &mut Vec<u32>,
-) -> Result<(), AllocError>
-    requires number { number < length arcs.now }
-    requires within { AreWithin (length unmet.old) arcs.now }
-    requires arcs { length nexts.now ≡ length arcs.now }
-    requires nexts { AreNexts arcs.now (length arcs.now) nexts.now }
-    requires ready { IsReady arcs.now unmet.old (arc_at arcs.now number).from }
-    requires gathered { AreGathered arcs.now unmet.old gathered.old.items }
-    ensures gathered { OnOk result (AreGathered arcs.now unmet.new gathered.new.items) }
-    ensures met { OnOk result (slice_index unmet.new (arc_at arcs.now number).from ≡ 0) }
-    ensures stays { OnOk result ((bit : ℕ) → slice_index unmet.old bit ≡ 0 → slice_index unmet.new bit ≡ 0) }
+/// Adds the numbers from one place to before another.
+fn add(numbers: &[u32], start: u32, stop: u32, gathered: &mut Vec<u32>) -> Result<(), AllocError>
+    requires start { start ≤ stop }
+    requires stop { stop ≤ length numbers.now }
+    ensures { OnOk result (IsAdded numbers.now start stop gathered.old.items gathered.new.items) }
 {
-    let bit = arcs[number as usize].from as usize;
-    while unmet[bit] > 0 {
-        let next = unmet[bit] - 1;
-        gathered.push(next)?;
-        unmet[bit] = nexts[next as usize];
+    for place in start..stop {
+        gathered.push(numbers[place as usize])?;
     }
     Ok(())
 }
 
-/// The arcs of an order, those that leave a bit where the first of them stood.
+/// The arcs that leave each bit, from the bit that is given out last to the first.
 pub fn gathered(
     alloc: Global,
     arcs: &[TimingArc],
-    order: &[u32],
-    unmet: &mut [u32],
-    nexts: &[u32],
+    ranges: &Ranges,
+    given: &[u32],
 ) -> Result<Vec<u32>, AllocError>
-    requires within { AreWithin (length unmet.old) arcs.now }
-    requires arcs { length nexts.now ≡ length arcs.now }
-    requires index { IsIndex arcs.now (length arcs.now) unmet.old nexts.now }
-    requires order { IsOrder arcs.now order.now }
+    requires parts { AreParts (length ranges.now.starts.items - 1) ranges.now.starts.items ranges.now.numbers.items ranges.now.ends.items }
+    requires leaving { AreLeaving arcs.now (length ranges.now.starts.items - 1) ranges.now.starts.items ranges.now.numbers.items ranges.now.ends.items }
+    requires all { AreAll arcs.now ranges.now.numbers.items }
+    requires ordered { AreAfterEnds (length ranges.now.starts.items - 1) ranges.now.starts.items ranges.now.ends.items given.now }
+    requires whole { (bit : ℕ) → bit < length ranges.now.starts.items - 1 → Contains given.now bit }
     ensures { IfOk result (λ gathered. IsOrder arcs.now gathered.items) }
 {
-    let mut gathered = Vec::with_capacity(alloc, order.len())?;
-    for number in order {
-        gather(arcs, nexts, *number, unmet, &mut gathered)?;
+    let mut gathered = Vec::with_capacity(alloc, arcs.len())?;
+    let mut rest = given.len();
+    while rest > 0 {
+        rest -= 1;
+        let bit = given[rest] as usize;
+        let start = ranges.starts[bit];
+        add(
+            &ranges.numbers,
+            start,
+            ranges.starts[bit + 1],
+            &mut gathered,
+        )?;
     }
     Ok(gathered)
 }

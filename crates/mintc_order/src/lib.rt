@@ -9,6 +9,7 @@ ghost use Rattle.mintc_order.specs.Refusals.{NamesLoop};
 mod gathering;
 mod laws;
 mod leaving;
+mod ranges;
 mod search;
 
 use gathering::gathered;
@@ -16,34 +17,29 @@ pub use laws::orders_exclude_loops;
 pub use leaving::Leaving;
 use mintc_text::{Numbers, Stop};
 use mintc_timing::{Flat, Order};
+use ranges::Ranges;
 use search::Search;
 use std::alloc::Global;
 
 /// All arc numbers of the design, each once, every arc after all arcs into the bit that it leaves. The refusal is
 /// CombinationalLoop with a closed list of arcs that leaves no bit twice, exactly where arcs lead round; only a want of
-/// memory stops the call otherwise. The search looks at each bit and each arc once, which no clause says. Arcs that leave a
-/// bit stand together, in falling order of their numbers, which no clause says.
+/// memory stops the call otherwise. The search takes in each bit once and looks at each arc at most twice, which no clause
+/// says. Arcs that leave a bit stand together, in falling order of their numbers, which no clause says.
 pub fn order(alloc: Global, flat: &Flat) -> Result<Order, Stop>
     ensures order { IfOk result (λ order. IsOrder flat.now.arcs order) }
     ensures stop { IfErr result (StopsAt (NamesLoop flat.now.arcs)) }
 {
     let bits = 2 * flat.elements().len() + flat.inner().items().len();
-    let arcs = flat.arcs();
-    let Ok(Leaving { lasts, nexts }) = Leaving::new(alloc, arcs, bits) else {
+    let Ok(ranges) = Ranges::new(alloc, flat.arcs(), bits) else {
         return Err(Stop::OutOfMemory);
     };
-    let Ok(mut unmet) = lasts.clone() else {
-        return Err(Stop::OutOfMemory);
-    };
-    let Ok(mut search) = Search::new(alloc, lasts) else {
+    let Ok(mut search) = Search::new(alloc, bits) else {
         return Err(Stop::OutOfMemory);
     };
     for root in 0..bits {
-        search.follow(alloc, arcs, &nexts, root as u32)?;
+        search.follow(alloc, &ranges, root as u32)?;
     }
-    let mut order = search.given;
-    order.reverse();
-    match gathered(alloc, arcs, &order, &mut unmet, &nexts) {
+    match gathered(alloc, flat.arcs(), &ranges, &search.given) {
         Ok(order) => Ok(Order::new(Numbers::new(order))),
         Err(_) => Err(Stop::OutOfMemory),
     }

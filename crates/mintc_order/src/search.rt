@@ -1,107 +1,128 @@
-//! A depth-first search along arcs (R. E. Tarjan, "Depth-first search and linear graph algorithms", 1972), which gives
-//! out each arc after all arcs that leave its end.
-ghost use Rattle.std.specs.Prelude.{◌≡◌, ◌<◌, ◌^◌, ◌-◌, ◌+◌, ◌++◌, ◌∷◌, [], ℕ, length, IfOk, IfErr, OnOk, IsTrue, IsFalse, slice_index, replicate};
+//! A depth-first search from bit to bit (R. E. Tarjan, "Depth-first search and linear graph algorithms", 1972), which gives
+//! out each bit after all bits that its arcs enter.
+ghost use Rattle.std.specs.Prelude.{◌≡◌, ◌≢◌, ◌<◌, ◌≤◌, ◌^◌, ◌-◌, ◌+◌, [], ℕ, List, length, IfOk, IfErr, OnOk, IsTrue, IsFalse, slice_index, slice_set, replicate};
 
+use crate::ranges::Ranges;
 use mintc_text::{Numbers, Refusal, Stop};
-use mintc_timing::TimingArc;
 use std::alloc::{AllocError, Global};
+
+/// The mark of a bit that isn't met, and of one that is given out.
+const UNMET: u32 = 0;
+
+const GIVEN: u32 = 1;
 
 /// What a search has found.
 #[derive(Drop)]
 pub struct Search {
-    /// For each bit the last arc that leaves it and isn't given out, counted from 1, or 0 where all are given out.
-    pub left: Vec<u32>,
-    /// For each bit the place in the path of an arc that leaves it, counted from 1, or 0 where there is none.
-    pub places: Vec<u32>,
-    /// Arcs that aren't given out, each entering the bit that the one after it leaves.
+    /// For each bit its mark, or its place in the path, counted from 2.
+    pub marks: Vec<u32>,
+    /// Bits that aren't given out, each but the first entered by the next arc of the one before.
     pub path: Vec<u32>,
-    /// The arcs that are given out.
+    /// For each bit of the path the place of its next arc: all bits that the arcs before it enter are given out.
+    pub nexts: Vec<u32>,
+    /// The bits that are given out.
     pub given: Vec<u32>,
 }
 
 impl Search {
     ghost use Rattle.mintc_text.specs.Stops.{StopsAt};
-    ghost use Rattle.mintc_timing.specs.Paths.{arc_at};
-    ghost use Rattle.mintc_order.specs.Indexes.{AreNexts};
+    ghost use Rattle.mintc_timing.specs.declared.parts.TimingArc.{TimingArc};
+    ghost use Rattle.mintc_order.specs.Ranges.{AreLeaving, AreParts};
     ghost use Rattle.mintc_order.specs.Refusals.{NamesLoop};
-    ghost use Rattle.mintc_order.specs.Searches.{EndsAt, IsSearch, IsSearching, steps_of};
+    ghost use Rattle.mintc_order.specs.Listings.{AreAll};
+    ghost use Rattle.mintc_order.specs.Searches.{ArePassed, EndsAt, IsClosing, IsSearch, IsSearching, steps_of};
 
-    /// A search that has given out none, from the last arc that leaves each bit.
-    pub fn new(alloc: Global, lasts: Vec<u32>) -> Result<Search, AllocError>
-        ensures left { IfOk result (λ s. s.left.items ≡ lasts.items) }
-        ensures places { IfOk result (λ s. s.places.items ≡ replicate (length lasts.items) 0) }
+    /// A search that has met no bit.
+    pub fn new(alloc: Global, bits: usize) -> Result<Search, AllocError>
+        ensures marks { IfOk result (λ s. s.marks.items ≡ replicate bits 0) }
         ensures path { IfOk result (λ s. s.path.items ≡ []) }
+        ensures nexts { IfOk result (λ s. s.nexts.items ≡ []) }
         ensures given { IfOk result (λ s. s.given.items ≡ []) }
     {
         Ok(Search {
-            places: vec![in alloc; 0; lasts.len()]?,
-            left: lasts,
+            marks: vec![in alloc; 0; bits]?,
             path: Vec::new(alloc),
-            given: Vec::new(alloc),
+            nexts: Vec::new(alloc),
+            given: Vec::with_capacity(alloc, bits)?,
         })
     }
 
-    /// The bit that the path leads to, or the root where it is empty.
-    fn end(&self, arcs: &[TimingArc], root: u32) -> u32
-        requires search { IsSearching arcs.now (length self.now.left.items) self.now }
-        requires root { root < length self.now.left.items }
-        ensures within { result < length self.now.left.items }
-        ensures root { self.now.path.items ≡ [] → result ≡ root }
-        ensures ends { EndsAt arcs.now self.now.path.items result }
-    {
-        match self.path.last() {
-            Some(&number) => arcs[number as usize].to,
-            None => root,
-        }
-    }
-
-    /// Takes the next arc that leaves the bit to the path.
-    fn enter(&mut self, arcs: &[TimingArc], bit: u32) -> Result<(), Stop>
-        requires few { length arcs.now < 2 ^ 32 - 1 }
-        requires search { IsSearching arcs.now (length self.old.left.items) self.old }
-        requires bit { bit < length self.old.left.items }
-        requires some { 0 < slice_index self.old.left.items bit }
-        requires apart { slice_index self.old.places.items bit ≡ 0 }
-        requires ends { EndsAt arcs.now self.old.path.items bit }
-        ensures search { OnOk result (IsSearching arcs.now (length self.old.left.items) self.new) }
-        ensures left { OnOk result (self.new.left.items ≡ self.old.left.items) }
+    /// Takes a bit that isn't met to the path.
+    fn enter(&mut self, ranges: &Ranges, bit: u32) -> Result<(), AllocError>
+        requires few { length self.old.marks.items < 2 ^ 32 - 2 }
+        requires search { IsSearching (length self.old.marks.items) ranges.now self.old }
+        requires bit { bit < length self.old.marks.items }
+        requires unmet { slice_index self.old.marks.items bit ≡ 0 }
+        requires ends { EndsAt ranges.now.starts.items ranges.now.ends.items self.old.path.items self.old.nexts.items bit }
+        ensures search { OnOk result (IsSearching (length self.old.marks.items) ranges.now self.new) }
+        ensures stays { OnOk result ((v : ℕ) → slice_index self.old.marks.items v ≢ 0 → slice_index self.new.marks.items v ≢ 0) }
+        ensures met { OnOk result (slice_index self.new.marks.items bit ≢ 0) }
         ensures step { OnOk result (steps_of self.new ≡ steps_of self.old + 1) }
-        ensures stop { IfErr result (λ stop. stop ≡ Stop.OutOfMemory) }
     {
-        let number = self.left[bit as usize] - 1;
-        self.path.push(number).map_err(|_| Stop::OutOfMemory)?;
-        self.places[bit as usize] = self.path.len() as u32;
+        self.path.push(bit)?;
+        self.nexts.push(ranges.starts[bit as usize])?;
+        self.marks[bit as usize] = self.path.len() as u32 + 1;
         Ok(())
     }
 
-    /// Gives out the arc that was the path's last, where all arcs that leave its end are given out.
-    fn give_out(&mut self, arcs: &[TimingArc], nexts: &[u32], number: u32) -> Result<(), Stop>
-        requires search { IsSearch arcs.now (length self.old.left.items) self.old.left.items self.old.places.items (self.old.path.items ++ number ∷ []) self.old.given.items }
-        requires arcs { length nexts.now ≡ length arcs.now }
-        requires nexts { AreNexts arcs.now (length arcs.now) nexts.now }
-        requires ended { slice_index self.old.left.items (arc_at arcs.now number).to ≡ 0 }
-        ensures search { OnOk result (IsSearching arcs.now (length self.old.left.items) self.new) }
-        ensures stays { OnOk result ((bit : ℕ) → slice_index self.old.left.items bit ≡ 0 → slice_index self.new.left.items bit ≡ 0) }
-        ensures step { OnOk result (steps_of self.new ≡ steps_of self.old + 2) }
-        ensures stop { IfErr result (λ stop. stop ≡ Stop.OutOfMemory) }
+    /// The first place from this one on whose arc enters a bit that isn't given out, or where the arcs stop.
+    fn pass(&self, ends: &[u32], first: u32, stop: u32) -> u32
+        requires first { first ≤ stop }
+        requires stop { stop ≤ length ends.now }
+        requires ends { (k : ℕ) → k < length ends.now → slice_index ends.now k < length self.now.marks.items }
+        ensures first { first ≤ result }
+        ensures stop { result ≤ stop }
+        ensures passed { ArePassed ends.now self.now.marks.items first result }
+        ensures next { result < stop → slice_index self.now.marks.items (slice_index ends.now result) ≢ 1 }
     {
-        let from = arcs[number as usize].from as usize;
-        self.left[from] = nexts[number as usize];
-        self.places[from] = 0;
-        self.given.push(number).map_err(|_| Stop::OutOfMemory)?;
+        let mut next = first;
+        while next < stop && self.marks[ends[next as usize] as usize] == GIVEN {
+            next += 1;
+        }
+        next
+    }
+
+    /// Gives out the path's last bit, where all bits that its arcs enter are given out.
+    fn give_out(&mut self, ranges: &Ranges, bit: u32) -> Result<(), AllocError>
+        requires search { IsSearching (length self.old.marks.items) ranges.now self.old }
+        requires some { 0 < length self.old.path.items }
+        requires last { slice_index self.old.path.items (length self.old.path.items - 1) ≡ bit }
+        requires through { slice_index self.old.nexts.items (length self.old.path.items - 1) ≡ slice_index ranges.now.starts.items (bit + 1) }
+        ensures search { OnOk result (IsSearching (length self.old.marks.items) ranges.now self.new) }
+        ensures stays { OnOk result ((v : ℕ) → slice_index self.old.marks.items v ≢ 0 → slice_index self.new.marks.items v ≢ 0) }
+        ensures step { OnOk result (steps_of self.new ≡ steps_of self.old + 1) }
+    {
+        let _ = self.path.pop();
+        let _ = self.nexts.pop();
+        self.marks[bit as usize] = GIVEN;
+        self.given.push(bit)?;
         Ok(())
     }
 
-    /// The refusal with a loop: the path's arcs from the one that leaves the bit, to which the path leads back.
-    fn refuse(&self, alloc: Global, arcs: &[TimingArc], bit: u32) -> Stop
-        requires search { IsSearching arcs.now (length self.now.left.items) self.now }
-        requires bit { bit < length self.now.left.items }
-        requires some { 0 < slice_index self.now.places.items bit }
-        requires ends { EndsAt arcs.now self.now.path.items bit }
-        ensures { StopsAt (NamesLoop arcs.now) result }
+    /// The next arcs of the path's bits from this place on.
+    fn closed(&self, alloc: Global, numbers: &[u32], first: usize) -> Result<Vec<u32>, AllocError>
+        requires inside { (i : ℕ) → i < length self.now.nexts.items → slice_index self.now.nexts.items i < length numbers.now }
+        requires first { first ≤ length self.now.nexts.items }
+        ensures { IfOk result (λ arcs. IsClosing numbers.now self.now.nexts.items first (length self.now.nexts.items) arcs.items) }
     {
-        let first = self.places[bit as usize] as usize - 1;
-        match Vec::from_slice(alloc, &self.path[first..]) {
+        let mut arcs = Vec::new(alloc);
+        for place in first..self.nexts.len() {
+            arcs.push(numbers[self.nexts[place] as usize])?;
+        }
+        Ok(arcs)
+    }
+
+    /// The refusal with a loop: the next arcs of the path's bits from the one of this mark, to which the path leads back.
+    fn refuse(&self, alloc: Global, ranges: &Ranges, bit: u32) -> Stop
+        requires search { IsSearching (length self.now.marks.items) ranges.now self.now }
+        requires bit { bit < length self.now.marks.items }
+        requires met { slice_index self.now.marks.items bit ≢ 0 }
+        requires waits { slice_index self.now.marks.items bit ≢ 1 }
+        requires ends { EndsAt ranges.now.starts.items ranges.now.ends.items self.now.path.items self.now.nexts.items bit }
+        ensures { (arcs : List TimingArc) → AreLeaving arcs (length self.now.marks.items) ranges.now.starts.items ranges.now.numbers.items ranges.now.ends.items → AreAll arcs ranges.now.numbers.items → StopsAt (NamesLoop arcs) result }
+    {
+        let first = self.marks[bit as usize] as usize - 2;
+        match self.closed(alloc, &ranges.numbers, first) {
             Ok(arcs) => Stop::Refused(Refusal::CombinationalLoop {
                 arcs: Numbers::new(arcs),
             }),
@@ -109,60 +130,72 @@ impl Search {
         }
     }
 
-    /// Takes an arc to the path, or gives out the path's last, or says that there is none to be taken or given out.
-    fn step(
-        &mut self,
-        alloc: Global,
-        arcs: &[TimingArc],
-        nexts: &[u32],
-        root: u32,
-    ) -> Result<bool, Stop>
-        requires few { length arcs.now < 2 ^ 32 - 1 }
-        requires search { IsSearching arcs.now (length self.old.left.items) self.old }
-        requires arcs { length nexts.now ≡ length arcs.now }
-        requires nexts { AreNexts arcs.now (length arcs.now) nexts.now }
-        requires root { root < length self.old.left.items }
-        ensures search { OnOk result (IsSearching arcs.now (length self.old.left.items) self.new) }
-        ensures stays { OnOk result ((bit : ℕ) → slice_index self.old.left.items bit ≡ 0 → slice_index self.new.left.items bit ≡ 0) }
+    /// Passes the arcs of the path's last bit, as far as the bits that they enter are given out, and gives the next one's place.
+    fn go_on(&mut self, ranges: &Ranges, bit: u32) -> u32
+        requires search { IsSearching (length self.old.marks.items) ranges.now self.old }
+        requires some { 0 < length self.old.path.items }
+        requires last { slice_index self.old.path.items (length self.old.path.items - 1) ≡ bit }
+        ensures search { IsSearching (length self.old.marks.items) ranges.now self.new }
+        ensures marks { self.new.marks.items ≡ self.old.marks.items }
+        ensures path { self.new.path.items ≡ self.old.path.items }
+        ensures given { self.new.given.items ≡ self.old.given.items }
+        ensures at { slice_index self.new.nexts.items (length self.old.path.items - 1) ≡ result }
+        ensures stop { result ≤ slice_index ranges.now.starts.items (bit + 1) }
+        ensures next { result < slice_index ranges.now.starts.items (bit + 1) → slice_index self.old.marks.items (slice_index ranges.now.ends.items result) ≢ 1 }
+    {
+        let last = self.nexts.len() - 1;
+        let next = self.pass(
+            &ranges.ends,
+            self.nexts[last],
+            ranges.starts[bit as usize + 1],
+        );
+        self.nexts[last] = next;
+        next
+    }
+
+    /// Takes a bit to the path, or gives out the path's last, or says that there is none.
+    fn step(&mut self, alloc: Global, ranges: &Ranges) -> Result<bool, Stop>
+        requires few { length self.old.marks.items < 2 ^ 32 - 2 }
+        requires search { IsSearching (length self.old.marks.items) ranges.now self.old }
+        ensures search { OnOk result (IsSearching (length self.old.marks.items) ranges.now self.new) }
+        ensures stays { OnOk result ((v : ℕ) → slice_index self.old.marks.items v ≢ 0 → slice_index self.new.marks.items v ≢ 0) }
         ensures step { IfOk result (λ more. IsTrue more → steps_of self.new ≡ steps_of self.old + 1) }
         ensures empty { IfOk result (λ more. IsFalse more → self.new.path.items ≡ []) }
-        ensures through { IfOk result (λ more. IsFalse more → slice_index self.new.left.items root ≡ 0) }
-        ensures stop { IfErr result (StopsAt (NamesLoop arcs.now)) }
+        ensures stop { (arcs : List TimingArc) → AreLeaving arcs (length self.old.marks.items) ranges.now.starts.items ranges.now.numbers.items ranges.now.ends.items → AreAll arcs ranges.now.numbers.items → IfErr result (StopsAt (NamesLoop arcs)) }
     {
-        let bit = self.end(arcs, root);
-        if self.left[bit as usize] == 0 {
-            let Some(number) = self.path.pop() else {
-                return Ok(false);
-            };
-            self.give_out(arcs, nexts, number)?;
-        } else if self.places[bit as usize] > 0 {
-            return Err(self.refuse(alloc, arcs, bit));
-        } else {
-            self.enter(arcs, bit)?;
+        let Some(&bit) = self.path.last() else {
+            return Ok(false);
+        };
+        let next = self.go_on(ranges, bit);
+        if next == ranges.starts[bit as usize + 1] {
+            self.give_out(ranges, bit).map_err(|_| Stop::OutOfMemory)?;
+            return Ok(true);
         }
+        let end = ranges.ends[next as usize];
+        if self.marks[end as usize] > UNMET {
+            return Err(self.refuse(alloc, ranges, end));
+        }
+        self.enter(ranges, end).map_err(|_| Stop::OutOfMemory)?;
         Ok(true)
     }
 
-    /// Gives out all arcs to which arcs lead from the root.
-    pub fn follow(
-        &mut self,
-        alloc: Global,
-        arcs: &[TimingArc],
-        nexts: &[u32],
-        root: u32,
-    ) -> Result<(), Stop>
-        requires few { length arcs.now < 2 ^ 32 - 1 }
-        requires search { IsSearching arcs.now (length self.old.left.items) self.old }
-        requires arcs { length nexts.now ≡ length arcs.now }
-        requires nexts { AreNexts arcs.now (length arcs.now) nexts.now }
-        requires root { root < length self.old.left.items }
-        ensures search { OnOk result (IsSearching arcs.now (length self.old.left.items) self.new) }
-        ensures stays { OnOk result ((bit : ℕ) → slice_index self.old.left.items bit ≡ 0 → slice_index self.new.left.items bit ≡ 0) }
+    /// Gives out all bits to which arcs lead from the root, and the root.
+    pub fn follow(&mut self, alloc: Global, ranges: &Ranges, root: u32) -> Result<(), Stop>
+        requires few { length self.old.marks.items < 2 ^ 32 - 2 }
+        requires search { IsSearching (length self.old.marks.items) ranges.now self.old }
+        requires root { root < length self.old.marks.items }
+        requires empty { self.old.path.items ≡ [] }
+        ensures search { OnOk result (IsSearching (length self.old.marks.items) ranges.now self.new) }
+        ensures stays { OnOk result ((v : ℕ) → slice_index self.old.marks.items v ≢ 0 → slice_index self.new.marks.items v ≢ 0) }
         ensures empty { OnOk result (self.new.path.items ≡ []) }
-        ensures through { OnOk result (slice_index self.new.left.items root ≡ 0) }
-        ensures stop { IfErr result (StopsAt (NamesLoop arcs.now)) }
+        ensures met { OnOk result (slice_index self.new.marks.items root ≢ 0) }
+        ensures stop { (arcs : List TimingArc) → AreLeaving arcs (length self.old.marks.items) ranges.now.starts.items ranges.now.numbers.items ranges.now.ends.items → AreAll arcs ranges.now.numbers.items → IfErr result (StopsAt (NamesLoop arcs)) }
     {
-        while self.step(alloc, arcs, nexts, root)? {}
+        if self.marks[root as usize] > UNMET {
+            return Ok(());
+        }
+        self.enter(ranges, root).map_err(|_| Stop::OutOfMemory)?;
+        while self.step(alloc, ranges)? {}
         Ok(())
     }
 }

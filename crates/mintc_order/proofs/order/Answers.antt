@@ -1,20 +1,10 @@
-use Rattle.std.proofs.Common.{◌+◌, ◌*◌, length, arith, rules}
-use Rattle.mintc_order.specs.Indexes.{AreWithin}
-use Rattle.mintc_order.proofs.Indexing.{IsSearch-none}
-use Rattle.mintc_order.proofs.Placing.{IsOrder-from_search}
+use Rattle.std.proofs.Common.{arith}
+use Rattle.mintc_order.proofs.Ending.{ordered_at_end, whole_at_end}
 use Rattle.mintc_order.proofs.order.Goals as goal
 
-pub loop-root-init : goal.loop-root-init
-loop-root-init c =
-    let within : AreWithin (2 * length c.elements.result.now + length c.items.result.now) c.arcs-arcs.result.now = search rules in
-    let made = c.in-Ok-new.ensures in
-    record {
-      search = rw (made.left, made.places, made.path, made.given) (IsSearch-none c.in-Ok.ensures.index within c.in-Ok.ensures.bits);
-      empty = made.path;
-      through = λ bit h. absurd (omega arith);
-    }
+pub gathered-requires-clause-ordered : goal.gathered-requires-clause-ordered
+gathered-requires-clause-ordered c = ordered_at_end c.loop-root.invariant.search c.deref.result.now c.deref.ensures.value
 
-pub gathered-requires-clause-order : goal.gathered-requires-clause-order
-gathered-requires-clause-order c =
-    let order = IsOrder-from_search c.loop-root.invariant.search (λ bit h. c.loop-root.invariant.through bit (omega arith)) in
-    rw (c.deref-2.ensures.value, c.reverse.ensures.items) order
+pub gathered-requires-clause-whole : goal.gathered-requires-clause-whole
+gathered-requires-clause-whole c =
+    whole_at_end c.loop-root.invariant.search c.deref.result.now c.deref.ensures.value c.loop-root.invariant.empty (λ bit h. c.loop-root.invariant.met bit (omega arith))

@@ -1,32 +1,33 @@
-use Rattle.std.proofs.Common.{refl, arith}
-use Rattle.mintc_timing.proofs.Ordered.{inside}
-use Rattle.mintc_order.proofs.Indexing.{AreGathered-none}
-use Rattle.mintc_order.proofs.GatheringLaws.{AreMet-next, IsReady-next, IsOrder-gathered}
+use Rattle.std.proofs.Common.{◌≡◌, ◌+◌, ◌-◌, ℕ, get_or, subst, arith}
+use Rattle.std.proofs.lemmas.List.{get_or_default}
+use Rattle.mintc_order.proofs.GatheringLaws.{AreGathered, AreGathered-none, AreGathered-more, IsOrder-gathered}
 use Rattle.mintc_order.proofs.gathering.gathered.Goals as goal
 
-pub loop-number-init : goal.loop-number-init
-loop-number-init c = record {
-  met = λ i h. absurd (omega arith);
-  gathered = rw c.in_ok-gathered.ensures.items (AreGathered-none c.requires.index c.requires.within refl);
-  count = refl;
-}
+pub loop-rest-init : goal.loop-rest-init
+loop-rest-init c = record { rest = omega arith; gathered = rw c.in_ok-gathered.ensures.items (AreGathered-none c.args.arcs.now c.args.given.now) }
 
-pub gather-requires-clause-number : goal.gather-requires-clause-number
-gather-requires-clause-number c = inside c.args.arcs.now c.args.order.now c.requires.order c.loop-number.number-index c.loop-number-test.true
-
-pub gather-requires-clause-ready : goal.gather-requires-clause-ready
-gather-requires-clause-ready c =
-    IsReady-next c.args.arcs.now c.args.order.now c.requires.order c.loop-number.number-index c.loop-number.unmet c.loop-number-test.true c.loop-number.invariant.met
-
-pub loop-number-preserved : goal.loop-number-preserved
-loop-number-preserved c = record {
-  met = AreMet-next c.args.arcs.now c.args.order.now c.requires.order c.loop-number.number-index c.loop-number.unmet c.gather.new.unmet c.loop-number.invariant.met
-      c.in_ok-gather.ensures.stays c.in_ok-gather.ensures.met;
-  gathered = c.in_ok-gather.ensures.gathered;
-  count = omega arith;
-}
+pub loop-rest-preserved : goal.loop-rest-preserved
+loop-rest-preserved c =
+    let rest : ℕ = c.loop-rest.rest - 1 in
+    let back : c.loop-rest.rest ≡ rest + 1 = omega arith in
+    let low = c.loop-rest.invariant.rest in
+    let starts = c.args.ranges.now.starts.items in
+    let bit : ℕ = get_or c.args.given.now rest 0 in
+    let in_bits = c.requires.ordered.within rest (omega arith) in
+    let each = c.requires.parts.each_start in
+    let read = get_or_default starts bit 0 c.index-start.result.now (omega arith) in
+    let read' = get_or_default starts (bit + 1) 0 c.index.result.now (omega arith) in
+    let start : c.index-start.result.now ≡ get_or starts bit 0 = let e = c.index-start.ensures in omega arith in
+    let stop : c.index.result.now ≡ get_or starts (bit + 1) 0 = let e = c.index.ensures in omega arith in
+    let added = rw (c.deref.ensures.value, start, stop) at c.in_ok-add.ensures in
+    record {
+      rest = omega arith;
+      gathered = AreGathered-more c.requires.parts c.requires.leaving c.requires.all c.requires.ordered
+          (subst (λ (n : ℕ). AreGathered c.args.arcs.now c.args.given.now n c.loop-rest.gathered.items) back c.loop-rest.invariant.gathered) (omega arith) added;
+    }
 
 pub returns : goal.returns
 returns c =
-    IsOrder-gathered c.args.arcs.now c.args.order.now c.requires.order c.loop-number.unmet c.loop-number.gathered.items
-    (λ i h. c.loop-number.invariant.met i (omega arith)) c.loop-number.invariant.gathered
+    let z : c.loop-rest.rest ≡ 0 = omega arith in
+    IsOrder-gathered c.requires.parts c.requires.leaving c.requires.all c.requires.ordered c.loop-rest.gathered.items c.requires.whole
+    (subst (λ (n : ℕ). AreGathered c.args.arcs.now c.args.given.now n c.loop-rest.gathered.items) z c.loop-rest.invariant.gathered)

@@ -1,11 +1,12 @@
-use Rattle.std.proofs.Common.{◌≡◌, length}
-use Rattle.mintc_order.specs.Gatherings.{AreGathered}
-use Rattle.mintc_order.proofs.GatheringLaws.{AreMet}
+use Rattle.std.proofs.Common.{◌≤◌, length}
+use Rattle.mintc_order.proofs.GatheringLaws.{AreGathered}
 use Rattle.mintc_order.proofs.gathering.gathered.Given as goal
 
-abbrev pub invariant-loop-number : goal.invariant-loop-number
-invariant-loop-number l = record {
-  met : AreMet l.arcs l.order l.number-index l.unmet;
-  gathered : AreGathered l.arcs l.unmet l.gathered.items;
-  count : length l.unmet ≡ length l.fn.unmet;
+abbrev pub invariant-loop-rest : goal.invariant-loop-rest
+invariant-loop-rest l = record {
+  rest : l.rest ≤ length l.given;
+  gathered : AreGathered l.arcs l.given l.rest l.gathered.items;
 }
+
+abbrev pub decreases-loop-rest : goal.decreases-loop-rest
+decreases-loop-rest l = l.rest

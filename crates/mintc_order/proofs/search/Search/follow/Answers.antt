@@ -4,6 +4,6 @@ use Rattle.mintc_order.proofs.search.Search.follow.Goals as goal
 
 pub loop-smaller : goal.loop-smaller
 loop-smaller c =
-    let few = IsSearch-few c.in_ok-step.ensures.search in
+    let few = IsSearch-few c.in_ok-step.ensures.search.1 in
     let step = c.in_ok-step.ensures.step c.if-branch.true in
     omega (arith, few, step)
