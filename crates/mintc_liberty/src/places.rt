@@ -11,6 +11,7 @@ use crate::texts::ROOM;
 use mintc_document::is_name;
 use mintc_liblex::statements::{call, mark, statement};
 use mintc_liblex::{Kind, Reader, Scanner};
+use mintc_sorting::{Names, bring_near};
 use mintc_text::OutOfMemory;
 use std::alloc::Global;
 use std::cmp::Ordering;
@@ -120,6 +121,18 @@ pub fn name_from<'a>(library: &Scanner<'a>, place: u32) -> &'a [u8]
     }
 }
 
+/// A library as the names of its cells by their places.
+#[derive(Drop)]
+struct Named<'a, 'b> {
+    library: &'b Scanner<'a>,
+}
+
+impl<'a, 'b> Names for Named<'a, 'b> {
+    fn name(&self, place: u32) -> &[u8] {
+        name_from(self.library, place)
+    }
+}
+
 /// By names, and by places where the names are the same.
 fn compare(library: &Scanner, one: u32, two: u32) -> Ordering
     ensures { result ≡ place_cmp library.now.text one two }
@@ -134,6 +147,7 @@ pub fn sorted_places(alloc: Global, library: &Scanner) -> Result<Vec<u32>, OutOf
     ensures { IfOk result (λ places. put_all (named_cells library.now.tokens) [] ≡ entries_at library.now.text (firsts library.now.text None places.items)) }
 {
     let mut places = places_of(alloc, library)?;
+    bring_near(alloc, &Named { library }, &mut places)?;
     places.sort_unstable_by(
         |one: &u32, two: &u32| -> Ordering
             ensures { result ≡ place_cmp library.entry.now.text one.now two.now }
