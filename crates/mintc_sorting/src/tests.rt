@@ -15,7 +15,11 @@ impl Names for Cuttings {
         let from = (place as usize).saturating_mul(7) % self.text.len().max(1);
         let size = place as usize % self.longest.max(1);
         let end = from.saturating_add(size).min(self.text.len());
-        if from <= end { &self.text[from..end] } else { &[] }
+        if from <= end {
+            &self.text[from..end]
+        } else {
+            &[]
+        }
     }
 }
 
@@ -40,7 +44,12 @@ fn are_in_order<N: Names>(names: &N, places: &[u32]) -> bool {
 }
 
 /// Whether so many places, from the last to the first, come in order.
-fn comes_in_order<N: Names>(alloc: Global, names: &N, count: u32, room: usize) -> Result<bool, AllocError> {
+fn comes_in_order<N: Names>(
+    alloc: Global,
+    names: &N,
+    count: u32,
+    room: usize,
+) -> Result<bool, AllocError> {
     let mut places = Vec::new(alloc);
     for place in 0..count {
         places.push(count - 1 - place)?;
@@ -68,17 +77,32 @@ const EQUAL: Cuttings = Cuttings {
 #[test]
 fn few_places_come_in_order(rt: HostRuntime) {
     for count in [0, 1, 2, 3, 40, 5_000, 65_536] {
-        assert!(rt; comes_in_order(rt.alloc(), &MIXED, count, 100_000) == Ok(true), "{count} mixed");
-        assert!(rt; comes_in_order(rt.alloc(), &ALIKE, count, 100_000) == Ok(true), "{count} alike");
+        assert!(rt;
+            comes_in_order(rt.alloc(), &MIXED, count, 100_000) == Ok(true),
+            "{count} mixed"
+        );
+        assert!(rt;
+            comes_in_order(rt.alloc(), &ALIKE, count, 100_000) == Ok(true),
+            "{count} alike"
+        );
     }
 }
 
 #[test]
 fn many_places_come_in_order(rt: HostRuntime) {
     for count in [65_537, 300_000] {
-        assert!(rt; comes_in_order(rt.alloc(), &MIXED, count, 100_000) == Ok(true), "{count} mixed");
-        assert!(rt; comes_in_order(rt.alloc(), &ALIKE, count, 300_000) == Ok(true), "{count} alike");
-        assert!(rt; comes_in_order(rt.alloc(), &EQUAL, count, 100_000) == Ok(true), "{count} equal");
+        assert!(rt;
+            comes_in_order(rt.alloc(), &MIXED, count, 100_000) == Ok(true),
+            "{count} mixed"
+        );
+        assert!(rt;
+            comes_in_order(rt.alloc(), &ALIKE, count, 300_000) == Ok(true),
+            "{count} alike"
+        );
+        assert!(rt;
+            comes_in_order(rt.alloc(), &EQUAL, count, 100_000) == Ok(true),
+            "{count} equal"
+        );
     }
 }
 
