@@ -11,6 +11,7 @@ use crate::texts::ROOM;
 use mintc_document::is_name;
 use mintc_liblex::statements::{call, mark, statement};
 use mintc_liblex::{Kind, Reader, Scanner};
+use mintc_sorting::bring_near;
 use mintc_text::OutOfMemory;
 use std::alloc::Global;
 use std::cmp::Ordering;
@@ -84,22 +85,23 @@ fn next_cell(scanner: &mut Scanner) -> Option<usize>
     }
 }
 
-/// How many cells with a name a library has.
-fn count(library: &Scanner) -> usize {
-    let mut scanner = library.copy();
-    let mut count: usize = 0;
-    while let Some(_) = next_cell(&mut scanner) {
-        count = count.saturating_add(1);
+/// How many cells with a name a text has at most: each has a brace, and nine bytes or more.
+fn most_cells(text: &[u8]) -> usize {
+    let mut braces: usize = 0;
+    for byte in text {
+        if *byte == b'{' {
+            braces = braces.saturating_add(1);
+        }
     }
-    count
+    braces.min(text.len() / 9)
 }
 
-/// The places of the cells with a name, as they come.
-fn places_of(alloc: Global, library: &Scanner) -> Result<Vec<u32>, OutOfMemory>
+/// The places of the cells with a name, as they come. There is room for `most` of them.
+fn places_of(alloc: Global, library: &Scanner, most: usize) -> Result<Vec<u32>, OutOfMemory>
     ensures cells { IfOk result (λ places. named_cells library.now.tokens ≡ entries_at library.now.text places.items) }
     ensures ascending { IfOk result (λ places. Ascends places.items) }
 {
-    let mut places = Vec::with_capacity(alloc, count(library))?;
+    let mut places = Vec::with_capacity(alloc, most)?;
     let mut scanner = library.copy();
     while let Some(place) = next_cell(&mut scanner) {
         let Ok(place) = u32::try_from(place) else {
@@ -129,11 +131,14 @@ fn compare(library: &Scanner, one: u32, two: u32) -> Ordering
         .then(one.cmp(&two))
 }
 
-/// The places of the cells with a name, in byte order of the names, and as they come where names are the same.
-pub fn sorted_places(alloc: Global, library: &Scanner) -> Result<Vec<u32>, OutOfMemory>
+/// The places of the cells with a name, in byte order of the names, and as they come where names are the same. What is kept to sort
+/// them takes no more than half of the text with them.
+pub fn sorted_places(alloc: Global, text: &[u8], library: &Scanner) -> Result<Vec<u32>, OutOfMemory>
     ensures { IfOk result (λ places. put_all (named_cells library.now.tokens) [] ≡ entries_at library.now.text (firsts library.now.text None places.items)) }
 {
-    let mut places = places_of(alloc, library)?;
+    let mut places = places_of(alloc, library, most_cells(text))?;
+    let room = (text.len() / 2).saturating_sub(places.len().saturating_mul(4)) / 16;
+    bring_near(alloc, library, &mut places, room)?;
     places.sort_unstable_by(
         |one: &u32, two: &u32| -> Ordering
             ensures { result ≡ place_cmp library.entry.now.text one.now two.now }

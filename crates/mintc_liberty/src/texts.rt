@@ -115,12 +115,16 @@ fn add(
     Ok(())
 }
 
-/// The cells of a library.
-fn library_cells(alloc: Global, library: &Scanner) -> Result<Vec<(Name, Cell)>, OutOfMemory>
+/// The cells of a library in a text.
+fn library_cells(
+    alloc: Global,
+    text: &[u8],
+    library: &Scanner,
+) -> Result<Vec<(Name, Cell)>, OutOfMemory>
     ensures cells { IfOk result (λ cells. cells.items ≡ cells_of_library (front 63 library.now.tokens).statements) }
     ensures ordered { IfOk result (λ cells. AreOrdered cells.items) }
 {
-    let places = sorted_places(alloc, library)?;
+    let places = sorted_places(alloc, text, library)?;
     let mut cells = Vec::new(alloc);
     let mut before = None;
     for place in places {
@@ -146,7 +150,7 @@ fn cells_of(alloc: Global, text: &[u8]) -> Result<Vec<(Name, Cell)>, OutOfMemory
     if !head(&mut library) {
         return Ok(Vec::new(alloc));
     }
-    library_cells(alloc, &library)
+    library_cells(alloc, text, &library)
 }
 
 /// The cells of a Liberty text, or its Syntax: 0 where it doesn't begin `library ( item ) {`, else the number of the first

@@ -1,0 +1,117 @@
+use super::*;
+use mintc_liblex::Scanner;
+use std::alloc::{AllocError, Global};
+use std::cmp::Ordering;
+
+/// Names cut out of a text: each begins and ends by its place.
+#[derive(Drop)]
+struct Cuttings {
+    text: &'static [u8],
+    longest: usize,
+}
+
+impl Names for Cuttings {
+    fn name(&self, place: u32) -> &[u8] {
+        let from = (place as usize).saturating_mul(7) % self.text.len().max(1);
+        let size = place as usize % self.longest.max(1);
+        let end = from.saturating_add(size).min(self.text.len());
+        if from <= end {
+            &self.text[from..end]
+        } else {
+            &[]
+        }
+    }
+}
+
+/// By names, and by places where the names are the same.
+fn compare<N: Names>(names: &N, one: u32, two: u32) -> Ordering {
+    names.name(one).cmp(names.name(two)).then(one.cmp(&two))
+}
+
+/// Whether each place comes before the next by its name, and by itself where names are the same.
+fn are_in_order<N: Names>(names: &N, places: &[u32]) -> bool {
+    let Some(first) = places.first() else {
+        return true;
+    };
+    let mut before = *first;
+    for place in &places[1..] {
+        if compare(names, before, *place) != Ordering::Less {
+            return false;
+        }
+        before = *place;
+    }
+    true
+}
+
+/// Whether so many places, from the last to the first, come in order.
+fn comes_in_order<N: Names>(
+    alloc: Global,
+    names: &N,
+    count: u32,
+    room: usize,
+) -> Result<bool, AllocError> {
+    let mut places = Vec::new(alloc);
+    for place in 0..count {
+        places.push(count - 1 - place)?;
+    }
+    bring_near(alloc, names, &mut places, room)?;
+    Ok(are_in_order(names, &places))
+}
+
+const MIXED: Cuttings = Cuttings {
+    text: b"the quick brown fox jumps over 13 lazy dogs & 2 cats; 2 cats_and_2_cats were the quick ones, brown_fox_7 not",
+    longest: 12,
+};
+
+/// Long beginnings in common, names that are beginnings of others, and empty names.
+const ALIKE: Cuttings = Cuttings {
+    text: b"aaaaaaaaaaaaaaaaaaaaaaaaaaaaaaaaaaaaaaaaaaaaaaaaaaaaaaaaaaaaaaaaaaaaaaaaaaaaaaaaaaaaaaaaaaab",
+    longest: 90,
+};
+
+const EQUAL: Cuttings = Cuttings {
+    text: b"a",
+    longest: 2,
+};
+
+#[test]
+fn few_places_come_in_order(rt: HostRuntime) {
+    for count in [0, 1, 2, 3, 40, 5_000, 65_536] {
+        assert!(rt;
+            comes_in_order(rt.alloc(), &MIXED, count, 100_000) == Ok(true),
+            "{count} mixed"
+        );
+        assert!(rt;
+            comes_in_order(rt.alloc(), &ALIKE, count, 100_000) == Ok(true),
+            "{count} alike"
+        );
+    }
+}
+
+#[test]
+fn many_places_come_in_order(rt: HostRuntime) {
+    for count in [65_537, 300_000] {
+        assert!(rt;
+            comes_in_order(rt.alloc(), &MIXED, count, 100_000) == Ok(true),
+            "{count} mixed"
+        );
+        assert!(rt;
+            comes_in_order(rt.alloc(), &ALIKE, count, 300_000) == Ok(true),
+            "{count} alike"
+        );
+        assert!(rt;
+            comes_in_order(rt.alloc(), &EQUAL, count, 100_000) == Ok(true),
+            "{count} equal"
+        );
+    }
+}
+
+/// The places of `c`, `a`, `b` and `a` in a library.
+#[test]
+fn cells_come_in_order(rt: HostRuntime) {
+    let library = Scanner::new(b"library(l){cell(c){}cell(\"a\"){}cell(b){}cell(a){}}");
+    let mut places = [16, 25, 36, 45];
+    let done = bring_near(rt.alloc(), &library, &mut places, 4);
+    assert!(rt; done == Ok(()), "no memory");
+    assert!(rt; places == [25, 45, 36, 16], "{places:?}");
+}
