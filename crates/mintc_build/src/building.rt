@@ -4,8 +4,9 @@ ghost use Rattle.mintc_text.specs.Stops.{StopsAt};
 ghost use Rattle.mintc_timing.specs.TableText.{IsTableRefusal, IsTableText};
 ghost use Rattle.mintc_build.specs.Designs.{HasSystem, IsDesignRefusal};
 
+use mintc_count::count_pairs;
 use mintc_order::{order, orders_exclude_loops};
-use mintc_paths::{count_pairs, extremes};
+use mintc_paths::extremes;
 use mintc_text::Stop;
 use mintc_timing::{Flat, Order, System, read_table};
 use std::alloc::Global;

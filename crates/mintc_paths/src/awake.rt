@@ -47,7 +47,25 @@ impl Awake {
         Ok(Awake { rows, places })
     }
 
+    /// Marks a row that isn't reached as reached, and wakes the arcs that leave it.
+    #[inline(never)]
+    fn enter(&mut self, reached: &mut [bool], course: &Course, row: u32) -> Result<(), AllocError>
+        requires row { row < length reached.old }
+        requires leaving { AreLeaving course.now.along.items (length reached.old) course.now.leaving }
+        requires ready { IsReady (length course.now.along.items) reached.old self.old }
+        ensures reached { OnOk result (reached.new ≡ slice_set reached.old row true) }
+        ensures awake { OnOk result ((place : ℕ) → IsAwake course.now.along.items place reached.old self.old
+            → IsAwake course.now.along.items place reached.new self.new) }
+    {
+        let at = row as usize;
+        reached[at] = true;
+        self.rows.push(row)?;
+        wake(&mut self.places, course, at);
+        Ok(())
+    }
+
     /// Marks a row as reached, and wakes the arcs that leave it.
+    #[inline(always)]
     pub fn reach(
         &mut self,
         reached: &mut [bool],
@@ -61,13 +79,9 @@ impl Awake {
         ensures awake { OnOk result ((place : ℕ) → IsAwake course.now.along.items place reached.old self.old
             → IsAwake course.now.along.items place reached.new self.new) }
     {
-        let at = row as usize;
-        if reached[at] {
+        if reached[row as usize] {
             return Ok(());
         }
-        reached[at] = true;
-        self.rows.push(row)?;
-        wake(&mut self.places, course, at);
-        Ok(())
+        self.enter(reached, course, row)
     }
 }

@@ -50,7 +50,6 @@ fn give(
     base: u32,
     sums: &mut Vec<Sums>,
     row: u32,
-    first: Sums,
 ) -> Result<usize, AllocError>
     requires row { row < length numbers.old.items }
     requires held { AreNumbered base numbers.old.items sums.old.items }
@@ -66,7 +65,7 @@ fn give(
     if number >= u32::MAX as usize {
         return Err(AllocError);
     }
-    sums.push(first)?;
+    sums.push(NO_SUMS)?;
     numbers[row as usize] = number as u32;
     Ok(place)
 }
@@ -90,7 +89,7 @@ fn hold(
     if place > 0 {
         return Ok(place);
     }
-    give(numbers, base, sums, row, NO_SUMS)
+    give(numbers, base, sums, row)
 }
 
 /// Begins a lane: the empty path leads from a bit to itself.
@@ -204,11 +203,12 @@ impl Held {
         let left = place_of(&self.numbers, self.base, arc.from as usize);
         let from = self.sums[left];
         let place = place_of(&self.numbers, self.base, arc.to as usize);
-        if place == 0 {
-            give(&mut self.numbers, self.base, &mut self.sums, arc.to, led_on(&from, arc))?;
+        if place > 0 {
+            join_rows(&mut self.sums[place], &from, arc);
             return Ok(());
         }
-        join_rows(&mut self.sums[place], &from, arc);
+        let place = give(&mut self.numbers, self.base, &mut self.sums, arc.to)?;
+        self.sums[place] = led_on(&from, arc);
         Ok(())
     }
 }
