@@ -43,7 +43,7 @@ fn count_block(
     ends: &mut [Marks],
     first: u32,
     lanes: usize,
-) -> Result<u64, AllocError>
+) -> u64
     requires bits { length marks.old ≡ 2 * length flat.now.elements + length flat.now.inner }
     requires inputs { length ends.old ≡ length flat.now.elements }
     requires order { IsOrder flat.now.arcs order.now }
@@ -52,19 +52,19 @@ fn count_block(
     requires elements { first + lanes ≤ length flat.now.elements }
     requires count { IsCountBefore flat.now first 0 count }
     requires marked { AreMarksReached marks.old reached.old }
-    requires ready { IsReady (length course.now.along.items) reached.old awake.old }
-    ensures marked { OnOk result (AreMarksReached marks.new reached.new) }
-    ensures ready { OnOk result (IsReady (length course.now.along.items) reached.new awake.new) }
-    ensures count { IfOk result (IsCountBefore flat.now (first + lanes) 0) }
+    requires ready { IsReady (length course.now.along.items) awake.old }
+    ensures marked { AreMarksReached marks.new reached.new }
+    ensures ready { IsReady (length course.now.along.items) awake.new }
+    ensures count { IsCountBefore flat.now (first + lanes) 0 result }
 {
     let _elements = flat.elements();
-    mark_all(marks, reached, awake, flat, order, course, first, lanes)?;
+    mark_all(marks, reached, awake, flat, order, course, first, lanes);
     gather(ends, marks, &course.rows);
     let mut count = count;
     for lane in 0..lanes {
         count = count_from(count, flat, ends, first + lane as u32, lane);
     }
-    Ok(count)
+    count
 }
 
 /// The number of all pairs, along the course.
@@ -100,7 +100,7 @@ fn count_along(
             &mut ends,
             first as u32,
             lanes,
-        )?;
+        );
         first += lanes;
     }
     Ok(count)

@@ -1,16 +1,15 @@
 //! Marks at bits, of up to 256 elements at a time: whether a path leads there from each of them.
-ghost use Rattle.std.specs.Prelude.{◌≡◌, ◌≢◌, ◌+◌, ◌*◌, ◌<◌, ◌≤◌, ℕ, List, [], length, max, slice_index_or, false, OnOk};
+ghost use Rattle.std.specs.Prelude.{◌≡◌, ◌≢◌, ◌+◌, ◌*◌, ◌<◌, ◌≤◌, ℕ, length, max, slice_index_or, false};
 ghost use Rattle.mintc_timing.specs.Order.{IsOrder};
 ghost use Rattle.mintc_timing.specs.Paths.{input_of};
 ghost use Rattle.mintc_timing.specs.declared.parts.TimingArc.{TimingArc};
-ghost use Rattle.mintc_paths.specs.Awake.{AreListed, IsReady, IsAwake};
+ghost use Rattle.mintc_paths.specs.Awake.{IsReady, IsAwake};
 ghost use Rattle.mintc_paths.specs.Leaving.{AreLeaving};
 ghost use Rattle.mintc_paths.specs.Sums.{row_of, AreRows, IsCourse};
 ghost use Rattle.mintc_count.specs.Marks.{mark_in, marks_at, AreMarksBegun, AreMarksAlong, AreMarksReached};
 
 use mintc_paths::{Awake, Course, Rows};
 use mintc_timing::{Flat, Order, TimingArc};
-use std::alloc::AllocError;
 
 /// The marks of 256 elements, a bit for each.
 #[derive(Clone, Copy)]
@@ -42,21 +41,18 @@ fn set(marks: &mut [Marks], row: usize, lane: usize)
 }
 
 /// Takes away the marks in the rows that were reached.
-fn wipe(marks: &mut [Marks], reached: &mut [bool], awake: &mut Awake)
+fn wipe(marks: &mut [Marks], reached: &mut [bool])
     requires marked { AreMarksReached marks.old reached.old }
-    requires listed { AreListed reached.old awake.old.rows.items }
     ensures none { (row : ℕ) → row < length marks.new → marks_at marks.new row ≡ NO_MARKS }
     ensures marked { AreMarksReached marks.new reached.new }
     ensures off { (row : ℕ) → slice_index_or reached.new row false ≡ false }
-    ensures rows { awake.new.rows.items ≡ [] }
-    ensures places { awake.new.places ≡ awake.old.places }
 {
-    for number in 0..awake.rows.len() {
-        let row = awake.rows[number] as usize;
-        marks[row] = NO_MARKS;
-        reached[row] = false;
+    for row in 0..marks.len() {
+        if reached[row] {
+            marks[row] = NO_MARKS;
+            reached[row] = false;
+        }
     }
-    awake.rows.clear();
 }
 
 /// Sets the marks of so many elements, each at its own output, and no others.
@@ -67,24 +63,23 @@ fn begin(
     course: &Course,
     first: u32,
     lanes: usize,
-) -> Result<(), AllocError>
+)
     requires lanes { lanes ≤ 256 }
     requires outputs { 2 * (first + lanes) ≤ length marks.old }
     requires rows { AreRows (length marks.old) course.now.rows }
     requires leaving { AreLeaving course.now.along.items (length marks.old) course.now.leaving }
     requires marked { AreMarksReached marks.old reached.old }
-    requires ready { IsReady (length course.now.along.items) reached.old awake.old }
-    ensures begun { OnOk result (AreMarksBegun (length marks.old) course.now.rows.of_bits.items first lanes marks.new) }
-    ensures marked { OnOk result (AreMarksReached marks.new reached.new) }
-    ensures awake { OnOk result (IsAwake course.now.along.items 0 reached.new awake.new) }
+    requires ready { IsReady (length course.now.along.items) awake.old }
+    ensures begun { AreMarksBegun (length marks.old) course.now.rows.of_bits.items first lanes marks.new }
+    ensures marked { AreMarksReached marks.new reached.new }
+    ensures awake { IsAwake course.now.along.items 0 reached.new awake.new }
 {
-    wipe(marks, reached, awake);
+    wipe(marks, reached);
     for lane in 0..lanes {
         let row = course.rows.of_bits[2 * (first as usize + lane) + 1];
         set(marks, row as usize, lane);
-        awake.reach(reached, course, row)?;
+        awake.reach(reached, course, row);
     }
-    Ok(())
 }
 
 /// The marks that are set in one of two rows.
@@ -108,25 +103,24 @@ fn carry(
     awake: &mut Awake,
     course: &Course,
     arc: TimingArc,
-) -> Result<(), AllocError>
+)
     requires from { arc.from < length marks.old }
     requires to { arc.to < length marks.old }
     requires marked { AreMarksReached marks.old reached.old }
     requires leaving { AreLeaving course.now.along.items (length marks.old) course.now.leaving }
-    requires ready { IsReady (length course.now.along.items) reached.old awake.old }
-    ensures marked { OnOk result (AreMarksReached marks.new reached.new) }
-    ensures awake { OnOk result ((place : ℕ) → IsAwake course.now.along.items place reached.old awake.old
-        → IsAwake course.now.along.items place reached.new awake.new) }
+    requires ready { IsReady (length course.now.along.items) awake.old }
+    ensures marked { AreMarksReached marks.new reached.new }
+    ensures awake { (place : ℕ) → IsAwake course.now.along.items place reached.old awake.old
+        → IsAwake course.now.along.items place reached.new awake.new }
     ensures others { (row : ℕ) → row ≢ arc.to → marks_at marks.new row ≡ marks_at marks.old row }
-    ensures joined { OnOk result ((lane : ℕ) → lane < 256
-        → mark_in (marks_at marks.new arc.to) lane ≡ max (mark_in (marks_at marks.old arc.to) lane) (mark_in (marks_at marks.old arc.from) lane)) }
+    ensures joined { (lane : ℕ) → lane < 256
+        → mark_in (marks_at marks.new arc.to) lane ≡ max (mark_in (marks_at marks.old arc.to) lane) (mark_in (marks_at marks.old arc.from) lane) }
 {
     if reached[arc.from as usize] {
-        awake.reach(reached, course, arc.to)?;
+        awake.reach(reached, course, arc.to);
         let to = arc.to as usize;
         marks[to] = joined(&marks[to], &marks[arc.from as usize]);
     }
-    Ok(())
 }
 
 /// Makes the marks those of the listed paths, and of the empty ones, from so many elements. A row without marks isn't
@@ -140,28 +134,27 @@ pub fn mark_all(
     course: &Course,
     first: u32,
     lanes: usize,
-) -> Result<(), AllocError>
+)
     requires bits { length marks.old ≡ 2 * length flat.now.elements + length flat.now.inner }
     requires order { IsOrder flat.now.arcs order.now }
     requires course { IsCourse (length marks.old) flat.now.arcs order.now course.now }
     requires lanes { lanes ≤ 256 }
     requires elements { first + lanes ≤ length flat.now.elements }
     requires marked { AreMarksReached marks.old reached.old }
-    requires ready { IsReady (length course.now.along.items) reached.old awake.old }
-    ensures marked { OnOk result (AreMarksReached marks.new reached.new) }
-    ensures ready { OnOk result (IsReady (length course.now.along.items) reached.new awake.new) }
-    ensures along { OnOk result (AreMarksAlong (length marks.old) flat.now.arcs order.now (length order.now) course.now.rows.of_bits.items first lanes marks.new) }
+    requires ready { IsReady (length course.now.along.items) awake.old }
+    ensures marked { AreMarksReached marks.new reached.new }
+    ensures ready { IsReady (length course.now.along.items) awake.new }
+    ensures along { AreMarksAlong (length marks.old) flat.now.arcs order.now (length order.now) course.now.rows.of_bits.items first lanes marks.new }
 {
     let _elements = flat.elements();
-    begin(marks, reached, awake, course, first, lanes)?;
+    begin(marks, reached, awake, course, first, lanes);
     let mut place = awake.places.next(0);
     while place < course.along.len() {
         awake.places.remove(place);
         let arc = course.along[place];
-        carry(marks, reached, awake, course, arc)?;
+        carry(marks, reached, awake, course, arc);
         place = awake.places.next(place + 1);
     }
-    Ok(())
 }
 
 /// The marks at the inputs of the elements.

@@ -8,7 +8,7 @@ abbrev pub invariant-loop-first : goal.invariant-loop-first
 invariant-loop-first l = record {
   count : IsCountBefore l.flat l.first 0 l.count;
   marked : AreMarksReached l.marks.items l.reached.items;
-  ready : IsReady (length l.course.along.items) l.reached.items l.awake;
+  ready : IsReady (length l.course.along.items) l.awake;
   inside : l.first ≤ l.elements;
   bits : length l.marks.items ≡ 2 * length l.flat.elements + length l.flat.inner;
   inputs : length l.ends.items ≡ length l.flat.elements;

@@ -23,7 +23,7 @@ loop-lane-preserved c =
     record {
       begun = AreMarksBegun-more n rows c.args.course.now.rows.bits.items h c.args.first lane (omega arith) old new inside
           (subst (λ at. IsBegunMark old new at lane) is_row begun) c.loop-lane.invariant.begun;
-      marked = subst (λ marks. AreMarksReached new marks) (sym c.in_ok-reach.ensures.reached) (noted_more old new c.loop-lane.reached row c.set.auto.marks c.set.ensures.others c.loop-lane.invariant.marked);
-      awake = c.in_ok-reach.ensures.awake 0 c.loop-lane.invariant.awake;
+      marked = subst (λ marks. AreMarksReached new marks) (sym c.reach.ensures.reached) (noted_more old new c.loop-lane.reached row c.set.auto.marks c.set.ensures.others c.loop-lane.invariant.marked);
+      awake = c.reach.ensures.awake 0 c.loop-lane.invariant.awake;
       count = c.set.auto.marks ∙ c.loop-lane.invariant.count;
     }

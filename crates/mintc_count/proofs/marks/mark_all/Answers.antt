@@ -13,7 +13,7 @@ use Rattle.mintc_count.proofs.marks.mark_all.Goals as goal
 
 pub loop-place-init : goal.loop-place-init
 loop-place-init c =
-    let h = c.in_ok-begin.ensures in
+    let h = c.begin.ensures in
     record {
       along = unmarked_next c.args.flat.now c.args.order.now c.requires.order c.elements-elements.ensures.kept c.args.course.now (length c.args.marks.now) c.requires.course c.requires.bits
           c.args.first c.args.lanes c.requires.lanes c.begin.new.marks c.begin.auto.marks c.begin.new.reached h.marked c.begin.new.awake 0 c.next-place.result (omega arith)
@@ -50,8 +50,8 @@ pub next-place-requires-in-loop-place : goal.next-place-requires-in-loop-place
 next-place-requires-in-loop-place c =
     let i : ℕ = c.loop-place.place in
     let along : List TimingArc = c.args.course.now.along.items in
-    let awake = c.in_ok-carry.ensures.awake (i + 1)
-    (IsAwake-next along i c.loop-place.reached c.loop-place.awake _ refl c.remove.ensures.count c.remove.ensures.others c.loop-place.invariant.awake) in
+    let awake = c.carry.ensures.awake (i + 1)
+    (IsAwake-next along i c.loop-place.reached c.loop-place.awake _ c.remove.ensures.count c.remove.ensures.others c.loop-place.invariant.awake) in
     awake.ready.few
 
 pub loop-place-preserved : goal.loop-place-preserved
@@ -65,10 +65,10 @@ loop-place-preserved c =
     let is : c.index-arc.result.now ≡ arc_at along i = c.index-arc.ensures ∙ get_or_default along i c.index-arc.result.now no_arc below in
     let kept = c.elements-elements.ensures.kept in
     let so_far = subst (λ k. AreMarksAlong n c.args.flat.now.arcs c.args.order.now k c.args.course.now.rows.of_bits.items c.args.first c.args.lanes c.loop-place.marks) (at_place i (length c.args.order.now) low) c.loop-place.invariant.along in
-    let h = c.in_ok-carry.ensures in
+    let h = c.carry.ensures in
     let carried : AreCarriedMarks c.index-arc.result.now c.loop-place.marks c.carry.new.marks = record { others = h.others; joined = h.joined } in
     let awake : IsAwake along (i + 1) c.carry.new.reached c.carry.new.awake = h.awake (i + 1)
-    (IsAwake-next along i c.loop-place.reached c.loop-place.awake _ refl c.remove.ensures.count c.remove.ensures.others c.loop-place.invariant.awake) in
+    (IsAwake-next along i c.loop-place.reached c.loop-place.awake _ c.remove.ensures.count c.remove.ensures.others c.loop-place.invariant.awake) in
     let same : length c.carry.new.marks ≡ n = c.carry.auto.marks ∙ c.loop-place.invariant.count in
     record {
       along = unmarked_next c.args.flat.now c.args.order.now c.requires.order kept c.args.course.now n c.requires.course c.requires.bits

@@ -1,13 +1,12 @@
-use Rattle.std.proofs.Common.{◌≡◌, ◌<◌, ◌≤◌, ℕ, true, false, length, get_or}
-use Rattle.std.specs.Prelude.{All}
-use Rattle.mintc_count.specs.Marks.{AreMarksReached}
+use Rattle.std.proofs.Common.{◌≡◌, ◌<◌, ℕ, false, length, get_or}
+use Rattle.mintc_count.specs.Marks.{marks_at, AreMarksReached}
+use Rattle.mintc_count.specs.declared.marks.TheConstants.{NO_MARKS}
 use Rattle.mintc_count.proofs.marks.wipe.Given as goal
 
--- a row that is still reached comes in the list later
-abbrev pub invariant-loop-number : goal.invariant-loop-number
-invariant-loop-number l = record {
+-- the rows so far are no longer reached
+abbrev pub invariant-loop-row : goal.invariant-loop-row
+invariant-loop-row l = record {
   marked : AreMarksReached l.marks l.reached;
-  inside : All (λ row. row < length l.reached) l.awake.rows.items;
-  later : (row : ℕ) → get_or l.reached row false ≡ true → (k : ℕ) × (l.number ≤ k) × (k < length l.awake.rows.items) × (get_or l.awake.rows.items k row ≡ row);
+  off : (row : ℕ) → row < l.row → get_or l.reached row false ≡ false;
   count : length l.marks ≡ length l.fn.marks;
 }
