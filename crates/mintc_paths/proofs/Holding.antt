@@ -91,6 +91,14 @@ module _ (base : ℕ) (numbers : List ℕ) (sums old : List Sums) (held : AreHel
       let count = rows_count in
       x_is ∙ get_or_default sums at x no_sums (omega arith) ∙ ap (λ k. sums_at sums k) is ∙ sym (placed_at places sums row (omega arith)) ∙ rows_kept row
 
+  -- the same once another row is given a place
+  pub given_at : (given : List ℕ) (more : List Sums) → AreHeld given more → ((other : ℕ) → sums_at (placed given more) other ≡ sums_at (placed places sums) other) →
+      length given ≡ length places → (row at : ℕ) (x : Sums) → row < length old → at ≡ place_at given row → x ≡ get_or more at x → x ≡ sums_at old row
+  given_at given more given_held kept given_count row at x low is x_is =
+      let below = given_held.below row in
+      let count = rows_count in
+      x_is ∙ get_or_default more at x no_sums (omega arith) ∙ ap (λ k. sums_at more k) is ∙ sym (placed_at given more row (omega arith)) ∙ kept row ∙ rows_kept row
+
   held_none : (row : ℕ) → row < length old → place_at places row ≡ 0 → NO_SUMS ≡ sums_at old row
   held_none row low none =
       let count = rows_count in

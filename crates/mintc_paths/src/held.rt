@@ -200,15 +200,17 @@ impl Held {
         ensures least { OnOk result (AreJoined int_min (sums_at self.old arc.to).least (sums_at self.old arc.from).least arc.min (sums_at self.new arc.to).least) }
         ensures bounded { OnOk result ((most : ℕ) → IsBounded most (sums_at self.old arc.from) → IsBounded most (sums_at self.old arc.to) → IsBounded (most + 1000000000) (sums_at self.new arc.to)) }
     {
-        let left = place_of(&self.numbers, self.base, arc.from as usize);
-        let from = self.sums[left];
         let place = place_of(&self.numbers, self.base, arc.to as usize);
         if place > 0 {
+            let left = place_of(&self.numbers, self.base, arc.from as usize);
+            let from = self.sums[left];
             join_rows(&mut self.sums[place], &from, arc);
             return Ok(());
         }
         let place = give(&mut self.numbers, self.base, &mut self.sums, arc.to)?;
-        self.sums[place] = led_on(&from, arc);
+        let left = place_of(&self.numbers, self.base, arc.from as usize);
+        let others = self.sums[left];
+        self.sums[place] = led_on(&others, arc);
         Ok(())
     }
 }

@@ -3,7 +3,7 @@ use Rattle.mintc_timing.specs.declared.parts.TimingArc.{TimingArc}
 use Rattle.mintc_paths.specs.declared.sums.Sums.{Sums}
 use Rattle.mintc_paths.specs.Held.{place_at, places_of}
 use Rattle.mintc_paths.specs.Sums.{sums_at, placed, IsBounded}
-use Rattle.mintc_paths.proofs.Holding.{IsJoinedOne, held_at, joined_at, joined_given, length-places}
+use Rattle.mintc_paths.proofs.Holding.{IsJoinedOne, held_at, given_at, joined_at, joined_given, length-places}
 use Rattle.mintc_paths.proofs.held.Held.join.Goals as goal
 
 pub returns-then-place-gt0-clause-others : goal.returns-then-place-gt0-clause-others
@@ -13,10 +13,10 @@ returns-then-place-gt0-clause-others c =
     let sums : List Sums = c.self.inside.sums.items in
     let old : List Sums = c.args.self.now in
     let arc : TimingArc = c.args.arc in
-    let left_is = c.place_of-left.ensures ∙ ap (λ (xs : List ℕ). place_at (places_of base xs) arc.from) c.deref.ensures.value in
+    let place_is = c.place_of-place.ensures ∙ ap (λ (xs : List ℕ). place_at (places_of base xs) arc.to) c.deref.ensures.value in
+    let left_is = c.place_of-left.ensures ∙ ap (λ (xs : List ℕ). place_at (places_of base xs) arc.from) c.deref-then-place-gt0.ensures.value in
     let from_is : c.index.result.now ≡ sums_at old arc.from =
     held_at base numbers sums old c.self.invariant.held c.self.view_is arc.from c.place_of-left.result c.index.result.now c.requires.from left_is c.index.ensures in
-    let place_is = c.place_of-place.ensures ∙ ap (λ (xs : List ℕ). place_at (places_of base xs) arc.to) c.deref-2.ensures.value in
     let h = c.join_rows.ensures in
     let done : IsJoinedOne arc old (placed (places_of base numbers) (set sums c.place_of-place.result c.join_rows.new.sums)) =
     joined_at base numbers sums old c.self.invariant.held c.self.view_is arc c.requires.from c.requires.to c.index.result.now from_is c.place_of-place.result c.index_mut.result.now c.join_rows.new.sums
@@ -30,10 +30,10 @@ returns-then-place-gt0-clause-greatest c =
     let sums : List Sums = c.self.inside.sums.items in
     let old : List Sums = c.args.self.now in
     let arc : TimingArc = c.args.arc in
-    let left_is = c.place_of-left.ensures ∙ ap (λ (xs : List ℕ). place_at (places_of base xs) arc.from) c.deref.ensures.value in
+    let place_is = c.place_of-place.ensures ∙ ap (λ (xs : List ℕ). place_at (places_of base xs) arc.to) c.deref.ensures.value in
+    let left_is = c.place_of-left.ensures ∙ ap (λ (xs : List ℕ). place_at (places_of base xs) arc.from) c.deref-then-place-gt0.ensures.value in
     let from_is : c.index.result.now ≡ sums_at old arc.from =
     held_at base numbers sums old c.self.invariant.held c.self.view_is arc.from c.place_of-left.result c.index.result.now c.requires.from left_is c.index.ensures in
-    let place_is = c.place_of-place.ensures ∙ ap (λ (xs : List ℕ). place_at (places_of base xs) arc.to) c.deref-2.ensures.value in
     let h = c.join_rows.ensures in
     let done : IsJoinedOne arc old (placed (places_of base numbers) (set sums c.place_of-place.result c.join_rows.new.sums)) =
     joined_at base numbers sums old c.self.invariant.held c.self.view_is arc c.requires.from c.requires.to c.index.result.now from_is c.place_of-place.result c.index_mut.result.now c.join_rows.new.sums
@@ -47,10 +47,10 @@ returns-then-place-gt0-clause-least c =
     let sums : List Sums = c.self.inside.sums.items in
     let old : List Sums = c.args.self.now in
     let arc : TimingArc = c.args.arc in
-    let left_is = c.place_of-left.ensures ∙ ap (λ (xs : List ℕ). place_at (places_of base xs) arc.from) c.deref.ensures.value in
+    let place_is = c.place_of-place.ensures ∙ ap (λ (xs : List ℕ). place_at (places_of base xs) arc.to) c.deref.ensures.value in
+    let left_is = c.place_of-left.ensures ∙ ap (λ (xs : List ℕ). place_at (places_of base xs) arc.from) c.deref-then-place-gt0.ensures.value in
     let from_is : c.index.result.now ≡ sums_at old arc.from =
     held_at base numbers sums old c.self.invariant.held c.self.view_is arc.from c.place_of-left.result c.index.result.now c.requires.from left_is c.index.ensures in
-    let place_is = c.place_of-place.ensures ∙ ap (λ (xs : List ℕ). place_at (places_of base xs) arc.to) c.deref-2.ensures.value in
     let h = c.join_rows.ensures in
     let done : IsJoinedOne arc old (placed (places_of base numbers) (set sums c.place_of-place.result c.join_rows.new.sums)) =
     joined_at base numbers sums old c.self.invariant.held c.self.view_is arc c.requires.from c.requires.to c.index.result.now from_is c.place_of-place.result c.index_mut.result.now c.join_rows.new.sums
@@ -64,10 +64,10 @@ returns-then-place-gt0-clause-bounded c =
     let sums : List Sums = c.self.inside.sums.items in
     let old : List Sums = c.args.self.now in
     let arc : TimingArc = c.args.arc in
-    let left_is = c.place_of-left.ensures ∙ ap (λ (xs : List ℕ). place_at (places_of base xs) arc.from) c.deref.ensures.value in
+    let place_is = c.place_of-place.ensures ∙ ap (λ (xs : List ℕ). place_at (places_of base xs) arc.to) c.deref.ensures.value in
+    let left_is = c.place_of-left.ensures ∙ ap (λ (xs : List ℕ). place_at (places_of base xs) arc.from) c.deref-then-place-gt0.ensures.value in
     let from_is : c.index.result.now ≡ sums_at old arc.from =
     held_at base numbers sums old c.self.invariant.held c.self.view_is arc.from c.place_of-left.result c.index.result.now c.requires.from left_is c.index.ensures in
-    let place_is = c.place_of-place.ensures ∙ ap (λ (xs : List ℕ). place_at (places_of base xs) arc.to) c.deref-2.ensures.value in
     let h = c.join_rows.ensures in
     let done : IsJoinedOne arc old (placed (places_of base numbers) (set sums c.place_of-place.result c.join_rows.new.sums)) =
     joined_at base numbers sums old c.self.invariant.held c.self.view_is arc c.requires.from c.requires.to c.index.result.now from_is c.place_of-place.result c.index_mut.result.now c.join_rows.new.sums
@@ -81,16 +81,18 @@ returns-clause-others c =
     let sums : List Sums = c.self.inside.sums.items in
     let old : List Sums = c.args.self.now in
     let arc : TimingArc = c.args.arc in
-    let left_is = c.place_of-left.ensures ∙ ap (λ (xs : List ℕ). place_at (places_of base xs) arc.from) c.deref.ensures.value in
-    let from_is : c.index.result.now ≡ sums_at old arc.from =
-    held_at base numbers sums old c.self.invariant.held c.self.view_is arc.from c.place_of-left.result c.index.result.now c.requires.from left_is c.index.ensures in
-    let place_is = c.place_of-place.ensures ∙ ap (λ (xs : List ℕ). place_at (places_of base xs) arc.to) c.deref-2.ensures.value in
+    let place_is = c.place_of-place.ensures ∙ ap (λ (xs : List ℕ). place_at (places_of base xs) arc.to) c.deref.ensures.value in
     let given = c.in_ok-place.ensures in
-    let h = c.led_on.ensures in
+    let more : List Sums = c.give.new.sums.items in
+    let places : List ℕ = places_of base c.give.new.numbers.items in
     let count = length-places base c.give.new.numbers.items ∙ given.count ∙ sym (length-places base numbers) in
+    let left_is = c.place_of-left-2.ensures ∙ ap (λ (xs : List ℕ). place_at (places_of base xs) arc.from) c.deref-2.ensures.value in
+    let from_is : c.index-2.result.now ≡ sums_at old arc.from =
+    given_at base numbers sums old c.self.invariant.held c.self.view_is places more given.held.held given.kept count arc.from c.place_of-left-2.result c.index-2.result.now c.requires.from left_is c.index-2.ensures in
+    let h = c.led_on.ensures in
     let none = c.if-place-gt0.false in
-    let done : IsJoinedOne arc old (placed (places_of base c.give.new.numbers.items) (set c.give.new.sums.items c.in_ok-place.place c.led_on.result)) =
-    joined_given base numbers sums old c.self.invariant.held c.self.view_is arc c.requires.from c.requires.to c.index.result.now from_is (places_of base c.give.new.numbers.items) c.give.new.sums.items
+    let done : IsJoinedOne arc old (placed places (set more c.in_ok-place.place c.led_on.result)) =
+    joined_given base numbers sums old c.self.invariant.held c.self.view_is arc c.requires.from c.requires.to c.index-2.result.now from_is places more
     given.held.held given.kept count c.in_ok-place.place c.led_on.result (omega arith) given.place given.some
     (record { greatest = h.greatest; least = h.least; bounded = λ most from to. h.bounded most from }) in
     done.others
@@ -102,16 +104,18 @@ returns-clause-greatest c =
     let sums : List Sums = c.self.inside.sums.items in
     let old : List Sums = c.args.self.now in
     let arc : TimingArc = c.args.arc in
-    let left_is = c.place_of-left.ensures ∙ ap (λ (xs : List ℕ). place_at (places_of base xs) arc.from) c.deref.ensures.value in
-    let from_is : c.index.result.now ≡ sums_at old arc.from =
-    held_at base numbers sums old c.self.invariant.held c.self.view_is arc.from c.place_of-left.result c.index.result.now c.requires.from left_is c.index.ensures in
-    let place_is = c.place_of-place.ensures ∙ ap (λ (xs : List ℕ). place_at (places_of base xs) arc.to) c.deref-2.ensures.value in
+    let place_is = c.place_of-place.ensures ∙ ap (λ (xs : List ℕ). place_at (places_of base xs) arc.to) c.deref.ensures.value in
     let given = c.in_ok-place.ensures in
-    let h = c.led_on.ensures in
+    let more : List Sums = c.give.new.sums.items in
+    let places : List ℕ = places_of base c.give.new.numbers.items in
     let count = length-places base c.give.new.numbers.items ∙ given.count ∙ sym (length-places base numbers) in
+    let left_is = c.place_of-left-2.ensures ∙ ap (λ (xs : List ℕ). place_at (places_of base xs) arc.from) c.deref-2.ensures.value in
+    let from_is : c.index-2.result.now ≡ sums_at old arc.from =
+    given_at base numbers sums old c.self.invariant.held c.self.view_is places more given.held.held given.kept count arc.from c.place_of-left-2.result c.index-2.result.now c.requires.from left_is c.index-2.ensures in
+    let h = c.led_on.ensures in
     let none = c.if-place-gt0.false in
-    let done : IsJoinedOne arc old (placed (places_of base c.give.new.numbers.items) (set c.give.new.sums.items c.in_ok-place.place c.led_on.result)) =
-    joined_given base numbers sums old c.self.invariant.held c.self.view_is arc c.requires.from c.requires.to c.index.result.now from_is (places_of base c.give.new.numbers.items) c.give.new.sums.items
+    let done : IsJoinedOne arc old (placed places (set more c.in_ok-place.place c.led_on.result)) =
+    joined_given base numbers sums old c.self.invariant.held c.self.view_is arc c.requires.from c.requires.to c.index-2.result.now from_is places more
     given.held.held given.kept count c.in_ok-place.place c.led_on.result (omega arith) given.place given.some
     (record { greatest = h.greatest; least = h.least; bounded = λ most from to. h.bounded most from }) in
     done.joined.greatest
@@ -123,16 +127,18 @@ returns-clause-least c =
     let sums : List Sums = c.self.inside.sums.items in
     let old : List Sums = c.args.self.now in
     let arc : TimingArc = c.args.arc in
-    let left_is = c.place_of-left.ensures ∙ ap (λ (xs : List ℕ). place_at (places_of base xs) arc.from) c.deref.ensures.value in
-    let from_is : c.index.result.now ≡ sums_at old arc.from =
-    held_at base numbers sums old c.self.invariant.held c.self.view_is arc.from c.place_of-left.result c.index.result.now c.requires.from left_is c.index.ensures in
-    let place_is = c.place_of-place.ensures ∙ ap (λ (xs : List ℕ). place_at (places_of base xs) arc.to) c.deref-2.ensures.value in
+    let place_is = c.place_of-place.ensures ∙ ap (λ (xs : List ℕ). place_at (places_of base xs) arc.to) c.deref.ensures.value in
     let given = c.in_ok-place.ensures in
-    let h = c.led_on.ensures in
+    let more : List Sums = c.give.new.sums.items in
+    let places : List ℕ = places_of base c.give.new.numbers.items in
     let count = length-places base c.give.new.numbers.items ∙ given.count ∙ sym (length-places base numbers) in
+    let left_is = c.place_of-left-2.ensures ∙ ap (λ (xs : List ℕ). place_at (places_of base xs) arc.from) c.deref-2.ensures.value in
+    let from_is : c.index-2.result.now ≡ sums_at old arc.from =
+    given_at base numbers sums old c.self.invariant.held c.self.view_is places more given.held.held given.kept count arc.from c.place_of-left-2.result c.index-2.result.now c.requires.from left_is c.index-2.ensures in
+    let h = c.led_on.ensures in
     let none = c.if-place-gt0.false in
-    let done : IsJoinedOne arc old (placed (places_of base c.give.new.numbers.items) (set c.give.new.sums.items c.in_ok-place.place c.led_on.result)) =
-    joined_given base numbers sums old c.self.invariant.held c.self.view_is arc c.requires.from c.requires.to c.index.result.now from_is (places_of base c.give.new.numbers.items) c.give.new.sums.items
+    let done : IsJoinedOne arc old (placed places (set more c.in_ok-place.place c.led_on.result)) =
+    joined_given base numbers sums old c.self.invariant.held c.self.view_is arc c.requires.from c.requires.to c.index-2.result.now from_is places more
     given.held.held given.kept count c.in_ok-place.place c.led_on.result (omega arith) given.place given.some
     (record { greatest = h.greatest; least = h.least; bounded = λ most from to. h.bounded most from }) in
     done.joined.least
@@ -144,16 +150,18 @@ returns-clause-bounded c =
     let sums : List Sums = c.self.inside.sums.items in
     let old : List Sums = c.args.self.now in
     let arc : TimingArc = c.args.arc in
-    let left_is = c.place_of-left.ensures ∙ ap (λ (xs : List ℕ). place_at (places_of base xs) arc.from) c.deref.ensures.value in
-    let from_is : c.index.result.now ≡ sums_at old arc.from =
-    held_at base numbers sums old c.self.invariant.held c.self.view_is arc.from c.place_of-left.result c.index.result.now c.requires.from left_is c.index.ensures in
-    let place_is = c.place_of-place.ensures ∙ ap (λ (xs : List ℕ). place_at (places_of base xs) arc.to) c.deref-2.ensures.value in
+    let place_is = c.place_of-place.ensures ∙ ap (λ (xs : List ℕ). place_at (places_of base xs) arc.to) c.deref.ensures.value in
     let given = c.in_ok-place.ensures in
-    let h = c.led_on.ensures in
+    let more : List Sums = c.give.new.sums.items in
+    let places : List ℕ = places_of base c.give.new.numbers.items in
     let count = length-places base c.give.new.numbers.items ∙ given.count ∙ sym (length-places base numbers) in
+    let left_is = c.place_of-left-2.ensures ∙ ap (λ (xs : List ℕ). place_at (places_of base xs) arc.from) c.deref-2.ensures.value in
+    let from_is : c.index-2.result.now ≡ sums_at old arc.from =
+    given_at base numbers sums old c.self.invariant.held c.self.view_is places more given.held.held given.kept count arc.from c.place_of-left-2.result c.index-2.result.now c.requires.from left_is c.index-2.ensures in
+    let h = c.led_on.ensures in
     let none = c.if-place-gt0.false in
-    let done : IsJoinedOne arc old (placed (places_of base c.give.new.numbers.items) (set c.give.new.sums.items c.in_ok-place.place c.led_on.result)) =
-    joined_given base numbers sums old c.self.invariant.held c.self.view_is arc c.requires.from c.requires.to c.index.result.now from_is (places_of base c.give.new.numbers.items) c.give.new.sums.items
+    let done : IsJoinedOne arc old (placed places (set more c.in_ok-place.place c.led_on.result)) =
+    joined_given base numbers sums old c.self.invariant.held c.self.view_is arc c.requires.from c.requires.to c.index-2.result.now from_is places more
     given.held.held given.kept count c.in_ok-place.place c.led_on.result (omega arith) given.place given.some
     (record { greatest = h.greatest; least = h.least; bounded = λ most from to. h.bounded most from }) in
     done.joined.bounded
@@ -165,7 +173,11 @@ led_on-requires-clause-others_bounded c =
     let sums : List Sums = c.self.inside.sums.items in
     let old : List Sums = c.args.self.now in
     let arc : TimingArc = c.args.arc in
-    let left_is = c.place_of-left.ensures ∙ ap (λ (xs : List ℕ). place_at (places_of base xs) arc.from) c.deref.ensures.value in
-    let from_is : c.index.result.now ≡ sums_at old arc.from =
-    held_at base numbers sums old c.self.invariant.held c.self.view_is arc.from c.place_of-left.result c.index.result.now c.requires.from left_is c.index.ensures in
+    let given = c.in_ok-place.ensures in
+    let more : List Sums = c.give.new.sums.items in
+    let places : List ℕ = places_of base c.give.new.numbers.items in
+    let count = length-places base c.give.new.numbers.items ∙ given.count ∙ sym (length-places base numbers) in
+    let left_is = c.place_of-left-2.ensures ∙ ap (λ (xs : List ℕ). place_at (places_of base xs) arc.from) c.deref-2.ensures.value in
+    let from_is : c.index-2.result.now ≡ sums_at old arc.from =
+    given_at base numbers sums old c.self.invariant.held c.self.view_is places more given.held.held given.kept count arc.from c.place_of-left-2.result c.index-2.result.now c.requires.from left_is c.index-2.ensures in
     subst (λ (s : Sums). IsBounded 1000000000000000 s) (sym from_is) c.requires.from_bounded
