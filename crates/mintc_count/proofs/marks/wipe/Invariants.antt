@@ -1,6 +1,5 @@
 use Rattle.std.proofs.Common.{◌≡◌, ◌<◌, ℕ, false, length, get_or}
-use Rattle.mintc_count.specs.Marks.{marks_at, AreMarksReached}
-use Rattle.mintc_count.specs.declared.marks.TheConstants.{NO_MARKS}
+use Rattle.mintc_count.specs.Marks.{AreMarksReached}
 use Rattle.mintc_count.proofs.marks.wipe.Given as goal
 
 -- the rows so far are no longer reached
