@@ -4,9 +4,10 @@ ghost use Rattle.mintc_text.specs.Stops.{StopsAt};
 ghost use Rattle.mintc_lines.specs.TableText.{IsTableRefusal, IsTableText};
 ghost use Rattle.mintc_build.specs.Designs.{HasSystem, IsDesignRefusal};
 
+use mintc_count::count_pairs;
 use mintc_lines::read_table;
 use mintc_order::{order, orders_exclude_loops};
-use mintc_paths::{count_pairs, extremes};
+use mintc_paths::extremes;
 use mintc_text::Stop;
 use mintc_timing::{Flat, Order, System};
 use std::alloc::Global;

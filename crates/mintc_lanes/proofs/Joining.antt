@@ -8,7 +8,7 @@ use Rattle.std.proofs.lemmas.Bool.Decides.{Decides-int_eq}
 use Rattle.std.proofs.lemmas.Int.{ints, clamps, by_lt_z}
 use Rattle.mintc_lanes.specs.declared.TheConstants.{ABSENT}
 use Rattle.mintc_lanes.specs.Lanes.{lane_of, lane_at, joined, AreJoined, AreWithin, AreLanes}
-use Rattle.mintc_lanes.specs.Vectors.{IsVector, HasNumbers, number_at, joined_at}
+use Rattle.mintc_lanes.specs.Vectors.{IsVector, HasNumbers, number_at, joined_at, where_absent_at}
 
 false_of : (b : Bool) → (b ≡ true → ⊥) → b ≡ false
 false_of true n = absurd (n refl)
@@ -121,6 +121,47 @@ are_joined choose row other sum chosen new add choice lanes others few sums choi
     let s = number_at sum k in
     ap lane_of (is k lt ∙ ap (λ v. cond (int_eq y ABSENT) x (cond (int_eq x ABSENT) s v)) (choices k lt))
     ∙ joined_lane choose x y s add choice (sums k lt) few (lanes k lt) (others k lt)
+
+-- the greater of an absent lane's number and of a sum is the sum, so that the row needn't be looked at
+greater_by : (x y s : ℤ) (tx : Bool) → int_eq x ABSENT ≡ tx → (int_eq y ABSENT ≡ false → ABSENT <ℤ s) →
+    cond (int_eq y ABSENT) x (int_max x s) ≡ cond (int_eq y ABSENT) x (cond tx s (int_max x s))
+greater_by x y s false e above = refl
+greater_by x y s true e above = greater_beside (int_eq y ABSENT) refl
+  where
+    greater_beside : (ty : Bool) → int_eq y ABSENT ≡ ty → cond ty x (int_max x s) ≡ cond ty x s
+    greater_beside true f = refl
+    greater_beside false f = let more = above f in let same = (Decides-int_eq x ABSENT).0 e in (max_by x s).1 (omega (arith, ints))
+
+pub greater_joined : (row other sum chosen new : List ℤ) (add : ℤ) → AreLanes other → unsigned_abs add ≤ 10 ^ 18 → HasNumbers sum (λ k. number_at other k +ℤ add) →
+    HasNumbers chosen (λ k. int_max (number_at row k) (number_at sum k)) → HasNumbers new (where_absent_at other row chosen) → HasNumbers new (joined_at row other sum chosen)
+greater_joined row other sum chosen new add others few sums choices is k lt =
+    let x = number_at row k in
+    let y = number_at other k in
+    let s = number_at sum k in
+    is k lt ∙ ap (λ v. cond (int_eq y ABSENT) x v) (choices k lt)
+    ∙ greater_by x y s (int_eq x ABSENT) refl (λ ey. let small = size_of_present y (others k lt) ey in let e = sums k lt in omega (arith, ints))
+    ∙ sym (ap (λ v. cond (int_eq y ABSENT) x (cond (int_eq x ABSENT) s v)) (choices k lt))
+
+-- the number of a lane beside an absent one
+plus_by : (choose : ℤ → ℤ → ℤ) (y s add : ℤ) (ty : Bool) → int_eq y ABSENT ≡ ty → s ≡ y +ℤ add → (int_eq y ABSENT ≡ false → int_eq s ABSENT ≡ false) →
+    lane_of (cond ty y s) ≡ joined choose None (cond ty None (Some y)) add
+plus_by choose y s add true ey es hs = ap (λ b. cond b None (Some y)) ey
+plus_by choose y s add false ey es hs = ap (λ b. cond b None (Some s)) (hs ey) ∙ ap (λ v. Some v) es
+
+pub are_plus : (other sum new : List ℤ) (add : ℤ) → AreLanes other → unsigned_abs add ≤ 10 ^ 18 → HasNumbers sum (λ k. number_at other k +ℤ add) →
+    HasNumbers new (where_absent_at other other sum) → (choose : ℤ → ℤ → ℤ) (k : ℕ) → k < 8 → lane_at new k ≡ joined choose None (lane_at other k) add
+are_plus other sum new add others few sums is choose k lt =
+    let y = number_at other k in
+    let s = number_at sum k in
+    ap lane_of (is k lt)
+    ∙ plus_by choose y s add (int_eq y ABSENT) refl (sums k lt) (λ ey. let small = size_of_present y (others k lt) ey in let e = sums k lt in present s (omega (arith, ints)))
+
+pub plus_within : (other new : List ℤ) (add : ℤ) → ((choose : ℤ → ℤ → ℤ) (k : ℕ) → k < 8 → lane_at new k ≡ joined choose None (lane_at other k) add) →
+    (n b : ℕ) → AreWithin n other → unsigned_abs add ≤ b → AreWithin (n + b) new
+plus_within other new add is n b g few k lt =
+    subst (λ (lane : Option ℤ). IfSome lane (λ v. unsigned_abs v ≤ n + b)) (sym (is int_max k lt))
+    (let same : max 0 (n + b) ≡ n + b = omega arith in
+    subst (λ most. IfSome (joined int_max None (lane_at other k) add) (λ v. unsigned_abs v ≤ most)) same (joined_within int_max None (lane_at other k) add 0 n b IsChoice-int_max tt (g k lt) few))
 
 pub are_present : (choose : ℤ → ℤ → ℤ) (row other new : List ℤ) (add : ℤ) → AreJoined choose row other add new →
     (k : ℕ) → k < 8 → IsSome (lane_at row k) → IsSome (lane_at new k)

@@ -4,7 +4,7 @@
 mod row;
 mod vectors;
 
-pub use row::{max_plus_row, max_row, min_plus_row};
+pub use row::{max_plus_row, max_row, min_plus_row, plus_row};
 
 /// What an absent lane holds.
 pub const ABSENT: i64 = -4_000_000_000_000_000_000;

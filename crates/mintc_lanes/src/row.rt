@@ -1,7 +1,7 @@
 //! The calls on rows.
-ghost use Rattle.std.specs.Prelude.{◌≡◌, ◌+◌, ◌^◌, ◌<◌, ◌≤◌, ℕ, max, unsigned_abs, IsSome};
+ghost use Rattle.std.specs.Prelude.{◌≡◌, ◌+◌, ◌^◌, ◌<◌, ◌≤◌, ℕ, ℤ, max, None, unsigned_abs, IsSome};
 ghost use Rattle.std.specs.Int.{int_max, int_min};
-ghost use Rattle.mintc_lanes.specs.Lanes.{lane_at, AreJoined, AreWithin, AreLanes, IsGreatestLane};
+ghost use Rattle.mintc_lanes.specs.Lanes.{joined, lane_at, AreJoined, AreWithin, AreLanes, IsGreatestLane};
 ghost use Rattle.mintc_lanes.specs.Vectors.{IsVector, HasNumbers, joined_at};
 
 use crate::vectors::{
@@ -45,7 +45,7 @@ pub fn max_plus_row(row: &mut [i64; 8], other: &[i64; 8], add: i64)
     let own = numbers(row);
     let others = numbers(other);
     let sum = sums(others, add);
-    *row = joined(own, others, sum, greater(own, sum)).to_array();
+    *row = where_absent(others, own, greater(own, sum)).to_array();
 }
 
 /// Each lane becomes the lesser of itself and the lane of `other` with `add`. An absent lane of `other`
@@ -64,6 +64,18 @@ pub fn min_plus_row(row: &mut [i64; 8], other: &[i64; 8], add: i64)
     let others = numbers(other);
     let sum = sums(others, add);
     *row = joined(own, others, sum, lesser(own, sum)).to_array();
+}
+
+/// The lanes of `other` with `add`: what a row whose lanes are all absent becomes beside it.
+pub fn plus_row(other: &[i64; 8], add: i64) -> [i64; 8]
+    requires other { AreLanes other.now }
+    requires add { unsigned_abs add ≤ 10 ^ 18 }
+    ensures lanes { (choose : ℤ → ℤ → ℤ) (k : ℕ) → k < 8 → lane_at result k ≡ joined choose None (lane_at other.now k) add }
+    // The lanes of the other row are at most n in absolute value, the added number at most b.
+    ensures bounds { (n b : ℕ) → AreWithin n other.now → unsigned_abs add ≤ b → AreWithin (n + b) result }
+{
+    let others = numbers(other);
+    where_absent(others, others, sums(others, add)).to_array()
 }
 
 /// The greatest lane, `ABSENT` where all are.

@@ -36,10 +36,13 @@ fn check(rt: &impl Abort, case: &Case) {
     assert!(rt; are_lanes(&row));
     assert!(rt; are_lanes(&other));
     assert!(rt; add.unsigned_abs() <= 1_000_000_000_000_000_000);
-    let (mut greater, mut lesser) = (row, row);
+    let (mut greater, mut lesser, mut alone) = (row, row, [ABSENT; 8]);
+    assert!(rt; are_lanes(&alone));
     max_plus_row(&mut greater, &other, add);
     min_plus_row(&mut lesser, &other, add);
+    max_plus_row(&mut alone, &other, add);
     assert!(rt; greater == case.greater, "the greater, {}", case.name);
+    assert!(rt; plus_row(&other, add) == alone, "alone, {}", case.name);
     assert!(rt; lesser == case.lesser, "the lesser, {}", case.name);
     assert!(rt;
         max_row(&row) == case.greatest,

@@ -4,11 +4,14 @@ use Rattle.std.proofs.lemmas.Bool.{cases_eq}
 use Rattle.std.proofs.lemmas.List.{length-append, get_or_append_left, get_or-replicate, get_or_default, get_or_past, length-replicate, get_or-map}
 use Rattle.std.proofs.Math.ListN.{length-map}
 use Rattle.std.proofs.Math.Seq.{get_or-append_seam}
+use Rattle.std.specs.Int.{int_max, int_min}
+use Rattle.mintc_lanes.specs.Lanes.{AreJoined}
+use Rattle.mintc_timing.specs.declared.parts.TimingArc.{TimingArc}
 use Rattle.mintc_paths.specs.declared.sums.Sums.{Sums}
 use Rattle.mintc_paths.specs.declared.sums.TheConstants.{NO_SUMS}
 use Rattle.mintc_paths.specs.Held.{place_at, places_of, AreHeld}
-use Rattle.mintc_paths.specs.Sums.{sums_at, no_sums, placed}
-use Rattle.mintc_paths.proofs.Rowing.{placed_at, placed_past}
+use Rattle.mintc_paths.specs.Sums.{sums_at, no_sums, placed, IsBounded}
+use Rattle.mintc_paths.proofs.Rowing.{length-placed, placed_at, placed_past}
 
 low_or_past : (i n : ℕ) → (i < n) ⊎ (n ≤ i)
 low_or_past i n = grind arith
@@ -59,6 +62,74 @@ module _ (places : List ℕ) (sums old : List Sums) (held : AreHeld places sums)
     below = λ other. let low = held.below other in let count = length-set {A = Sums} sums place new in omega arith;
     apart = held.apart;
   }
+
+-- what the sums in a row become, along an arc that leaves another one
+pub record IsJoined (arc : TimingArc) (to from new : Sums) : Type 0 where
+  pub greatest : AreJoined int_max to.greatest from.greatest arc.max new.greatest
+  pub least : AreJoined int_min to.least from.least arc.min new.least
+  pub bounded : (most : ℕ) → IsBounded most from → IsBounded most to → IsBounded (most + 1000000000) new
+
+-- and what the rows hold then
+pub record IsJoinedOne (arc : TimingArc) (old new : List Sums) : Type 0 where
+  pub others : (row : ℕ) → row ≢ arc.to → sums_at new row ≡ sums_at old row
+  pub joined : IsJoined arc (sums_at old arc.to) (sums_at old arc.from) (sums_at new arc.to)
+
+-- What the rows hold, by their numbers.
+module _ (base : ℕ) (numbers : List ℕ) (sums old : List Sums) (held : AreHeld (places_of base numbers) sums) (view_is : placed (places_of base numbers) sums ≡ old) where
+  abbrev places : List ℕ
+  places = places_of base numbers
+
+  rows_count : length places ≡ length old
+  rows_count = sym (length-placed places sums) ∙ ap (λ (v : List Sums). length v) view_is
+
+  rows_kept : (other : ℕ) → sums_at (placed places sums) other ≡ sums_at old other
+  rows_kept other = ap (λ (v : List Sums). sums_at v other) view_is
+
+  pub held_at : (row at : ℕ) (x : Sums) → row < length old → at ≡ place_at places row → x ≡ get_or sums at x → x ≡ sums_at old row
+  held_at row at x low is x_is =
+      let below = held.below row in
+      let count = rows_count in
+      x_is ∙ get_or_default sums at x no_sums (omega arith) ∙ ap (λ k. sums_at sums k) is ∙ sym (placed_at places sums row (omega arith)) ∙ rows_kept row
+
+  -- the same once another row is given a place
+  pub given_at : (given : List ℕ) (more : List Sums) → AreHeld given more → ((other : ℕ) → sums_at (placed given more) other ≡ sums_at (placed places sums) other) →
+      length given ≡ length places → (row at : ℕ) (x : Sums) → row < length old → at ≡ place_at given row → x ≡ get_or more at x → x ≡ sums_at old row
+  given_at given more given_held kept given_count row at x low is x_is =
+      let below = given_held.below row in
+      let count = rows_count in
+      x_is ∙ get_or_default more at x no_sums (omega arith) ∙ ap (λ k. sums_at more k) is ∙ sym (placed_at given more row (omega arith)) ∙ kept row ∙ rows_kept row
+
+  held_none : (row : ℕ) → row < length old → place_at places row ≡ 0 → NO_SUMS ≡ sums_at old row
+  held_none row low none =
+      let count = rows_count in
+      sym held.none ∙ ap (λ k. sums_at sums k) (sym none) ∙ sym (placed_at places sums row (omega arith)) ∙ rows_kept row
+
+  module _ (arc : TimingArc) (from_low : arc.from < length old) (to_low : arc.to < length old) (from : Sums) (from_is : from ≡ sums_at old arc.from) where
+    -- the row has a place
+    pub joined_at : (place : ℕ) (to new : Sums) → place ≡ place_at places arc.to → place ≢ 0 → to ≡ get_or sums place to → IsJoined arc to from new →
+        IsJoinedOne arc old (placed places (set sums place new))
+    joined_at place to new is some to_is h =
+        let count = rows_count in
+        let inside : arc.to < length places = omega arith in
+        record {
+          others = put_others places sums old held rows_kept arc.to place inside is some new;
+          joined = subst (λ s. IsJoined arc (sums_at old arc.to) (sums_at old arc.from) s) (sym (put_own places sums old held rows_kept arc.to place inside is some new))
+              (subst (λ s. IsJoined arc s (sums_at old arc.from) new) (held_at arc.to place to to_low is to_is) (subst (λ s. IsJoined arc to s new) from_is h));
+        }
+
+    -- the row has none, and is given one
+    pub joined_given : (given : List ℕ) (more : List Sums) → AreHeld given more → ((other : ℕ) → sums_at (placed given more) other ≡ sums_at (placed places sums) other) →
+        length given ≡ length places → (place : ℕ) (new : Sums) → place_at places arc.to ≡ 0 → place ≡ place_at given arc.to → place ≢ 0 → IsJoined arc NO_SUMS from new →
+        IsJoinedOne arc old (placed given (set more place new))
+    joined_given given more given_held kept given_count place new none is some h =
+        let count = rows_count in
+        let inside : arc.to < length given = omega arith in
+        let all_kept : (other : ℕ) → sums_at (placed given more) other ≡ sums_at old other = λ other. kept other ∙ rows_kept other in
+        record {
+          others = put_others given more old given_held all_kept arc.to place inside is some new;
+          joined = subst (λ s. IsJoined arc (sums_at old arc.to) (sums_at old arc.from) s) (sym (put_own given more old given_held all_kept arc.to place inside is some new))
+              (subst (λ s. IsJoined arc s (sums_at old arc.from) new) (held_none arc.to to_low none) (subst (λ s. IsJoined arc NO_SUMS s new) from_is h));
+        }
 
 -- a row without a place gets the next one
 module _ (places given : List ℕ) (sums : List Sums) (held : AreHeld places sums) (row : ℕ) (none : place_at places row ≡ 0) (count : length given ≡ length places)

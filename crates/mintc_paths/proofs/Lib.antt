@@ -8,15 +8,11 @@ pub mod Shortness
 pub mod Tracing
 pub mod Pairing
 pub mod Marking
-pub mod Noting
 pub mod Passing
 pub mod Rowing
 pub mod Plain
 pub mod Raising
 pub mod Existing
-pub mod Setting
-pub mod Leading
-pub mod Counting
 pub mod Turning
 pub mod TurnedPaths
 pub mod TurnedCourse

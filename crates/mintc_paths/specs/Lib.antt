@@ -9,8 +9,6 @@ pub mod Trace
 pub mod Longest
 pub mod Existing
 pub mod Finding
-pub mod Marks
-pub mod Count
 pub mod Turned
 pub mod Ordered
 pub mod Awake

@@ -1,6 +1,6 @@
-//! The rows that are reached, and the arcs that leave them, so that no others are looked at. The arcs stand in a set of their
-//! places along a course.
-ghost use Rattle.std.specs.Prelude.{◌≡◌, ◌<◌, ◌≤◌, ◌^◌, ℕ, List, Bool, true, false, length, slice_index_or, slice_set, IfOk, OnOk};
+//! The arcs that leave the rows that are reached, so that no others are looked at. They stand in a set of their places along a
+//! course.
+ghost use Rattle.std.specs.Prelude.{◌≡◌, ◌<◌, ◌≤◌, ◌^◌, ℕ, true, length, slice_set, IfOk};
 ghost use Rattle.mintc_paths.specs.Awake.{IsReady, IsAwake};
 ghost use Rattle.mintc_places.specs.Places.{IsIn, room};
 ghost use Rattle.mintc_timing.specs.Paths.{arc_at};
@@ -10,16 +10,15 @@ use crate::rows::Course;
 use mintc_places::Places;
 use std::alloc::{AllocError, Global};
 
-/// The rows that are reached along a course, and the arcs that are awake.
+/// The arcs along a course that are awake.
 #[derive(Drop)]
 pub struct Awake {
-    /// The rows that are reached.
-    pub rows: Vec<u32>,
-    /// The places of the arcs that leave them and are still to come.
+    /// The places of the arcs that leave rows which are reached and are still to come.
     pub places: Places,
 }
 
 /// Takes in the arcs that leave a row.
+#[inline(never)]
 fn wake(places: &mut Places, course: &Course, row: usize)
     requires room { length course.now.along.items ≤ room places.old.words.items }
     requires row { row < length course.now.leaving.lasts.items }
@@ -37,37 +36,29 @@ fn wake(places: &mut Places, course: &Course, row: usize)
 }
 
 impl Awake {
-    /// No rows and no arcs, with room for so many.
+    /// No arcs, with room for so many.
     pub fn new(alloc: Global, arcs: usize) -> Result<Awake, AllocError>
         requires { arcs < 2 ^ 32 }
-        ensures ready { IfOk result (λ awake. (reached : List Bool) → ((row : ℕ) → slice_index_or reached row false ≡ false) → IsReady arcs reached awake) }
+        ensures ready { IfOk result (IsReady arcs) }
     {
         let places = Places::new(alloc, arcs)?;
-        let rows = Vec::new(alloc);
-        Ok(Awake { rows, places })
+        Ok(Awake { places })
     }
 
     /// Marks a row as reached, and wakes the arcs that leave it.
-    pub fn reach(
-        &mut self,
-        reached: &mut [bool],
-        course: &Course,
-        row: u32,
-    ) -> Result<(), AllocError>
+    #[inline(always)]
+    pub fn reach(&mut self, reached: &mut [bool], course: &Course, row: u32)
         requires row { row < length reached.old }
         requires leaving { AreLeaving course.now.along.items (length reached.old) course.now.leaving }
-        requires ready { IsReady (length course.now.along.items) reached.old self.old }
-        ensures reached { OnOk result (reached.new ≡ slice_set reached.old row true) }
-        ensures awake { OnOk result ((place : ℕ) → IsAwake course.now.along.items place reached.old self.old
-            → IsAwake course.now.along.items place reached.new self.new) }
+        requires ready { IsReady (length course.now.along.items) self.old }
+        ensures reached { reached.new ≡ slice_set reached.old row true }
+        ensures awake { (place : ℕ) → IsAwake course.now.along.items place reached.old self.old
+            → IsAwake course.now.along.items place reached.new self.new }
     {
         let at = row as usize;
-        if reached[at] {
-            return Ok(());
+        if !reached[at] {
+            reached[at] = true;
+            wake(&mut self.places, course, at);
         }
-        reached[at] = true;
-        self.rows.push(row)?;
-        wake(&mut self.places, course, at);
-        Ok(())
     }
 }

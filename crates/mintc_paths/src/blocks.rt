@@ -80,11 +80,11 @@ fn find_block(
     requires short { AreShortBefore of.design first }
     requires found { IsFoundBefore of.design first 0 found.old }
     requires marked { AreMarked sums.old reached.old }
-    requires ready { IsReady (length course.now.along.items) reached.old awake.old }
+    requires ready { IsReady (length course.now.along.items) awake.old }
     requires known { OnTrue known_short (ArePathsShort of.design) }
     ensures count { length sums.new ≡ length sums.old }
     ensures marked { OnOk result (AreMarked sums.new reached.new) }
-    ensures ready { OnOk result (IsReady (length course.now.along.items) reached.new awake.new) }
+    ensures ready { OnOk result (IsReady (length course.now.along.items) awake.new) }
     ensures found { OnOk result (IsFoundBefore of.design (first + lanes) 0 found.new) }
     ensures short { OnOk result (AreShortBefore of.design (first + lanes)) }
     ensures stop { IfErr result (StopsAt (IsPathRange of.design)) }
@@ -125,7 +125,7 @@ fn find_each(
     requires course { IsCourseOf (length sums.old) of course.now }
     requires count { elements ≡ length of.design.elements }
     requires marked { AreMarked sums.old reached.old }
-    requires ready { IsReady (length course.now.along.items) reached.old awake.old }
+    requires ready { IsReady (length course.now.along.items) awake.old }
     requires known { OnTrue known_short (ArePathsShort of.design) }
     ensures found { IfOk result (IsFoundBefore of.design (length of.design.elements) 0) }
     ensures few { IfOk result (λ found. found.count ≤ 4000000) }

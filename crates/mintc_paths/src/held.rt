@@ -7,7 +7,7 @@ ghost use Rattle.mintc_paths.specs.Held.{places_of, place_at, AreNumbered};
 ghost use Rattle.mintc_paths.specs.Sums.{sums_at, placed, IsBounded};
 
 use crate::sums::{NO_SUMS, Sums};
-use mintc_lanes::{max_plus_row, min_plus_row};
+use mintc_lanes::{max_plus_row, min_plus_row, plus_row};
 use mintc_timing::TimingArc;
 use std::alloc::{AllocError, Global};
 use std::marker::Model;
@@ -117,6 +117,21 @@ fn join_rows(sums: &mut Sums, others: &Sums, arc: TimingArc)
     min_plus_row(&mut sums.least, &others.least, arc.min);
 }
 
+/// The sums, along an arc, to a row that has none.
+fn led_on(others: &Sums, arc: TimingArc) -> Sums
+    requires min { IsDelay arc.min }
+    requires max { IsDelay arc.max }
+    requires others_bounded { IsBounded 1000000000000000 others.now }
+    ensures greatest { AreJoined int_max NO_SUMS.greatest others.now.greatest arc.max result.greatest }
+    ensures least { AreJoined int_min NO_SUMS.least others.now.least arc.min result.least }
+    ensures bounded { (most : ℕ) → IsBounded most others.now → IsBounded (most + 1000000000) result }
+{
+    Sums {
+        greatest: plus_row(&others.greatest, arc.max),
+        least: plus_row(&others.least, arc.min),
+    }
+}
+
 impl Held {
     /// No sums in so many rows.
     pub fn new(alloc: Global, rows: usize) -> Result<Held, AllocError>
@@ -185,10 +200,17 @@ impl Held {
         ensures least { OnOk result (AreJoined int_min (sums_at self.old arc.to).least (sums_at self.old arc.from).least arc.min (sums_at self.new arc.to).least) }
         ensures bounded { OnOk result ((most : ℕ) → IsBounded most (sums_at self.old arc.from) → IsBounded most (sums_at self.old arc.to) → IsBounded (most + 1000000000) (sums_at self.new arc.to)) }
     {
-        let place = hold(&mut self.numbers, self.base, &mut self.sums, arc.to)?;
+        let place = place_of(&self.numbers, self.base, arc.to as usize);
+        if place > 0 {
+            let left = place_of(&self.numbers, self.base, arc.from as usize);
+            let from = self.sums[left];
+            join_rows(&mut self.sums[place], &from, arc);
+            return Ok(());
+        }
+        let place = give(&mut self.numbers, self.base, &mut self.sums, arc.to)?;
         let left = place_of(&self.numbers, self.base, arc.from as usize);
-        let from = self.sums[left];
-        join_rows(&mut self.sums[place], &from, arc);
+        let others = self.sums[left];
+        self.sums[place] = led_on(&others, arc);
         Ok(())
     }
 }

@@ -1,5 +1,5 @@
 //! A path with the sum of a pair.
-ghost use Rattle.std.specs.Prelude.{◌≡◌, ◌<◌, ℕ, ◌+◌, ◌*◌, length, slice_index_or, false, IfOk};
+ghost use Rattle.std.specs.Prelude.{◌≡◌, ◌<◌, ℕ, ◌+◌, ◌*◌, length, IfOk};
 ghost use Rattle.mintc_timing.specs.Order.{IsOrder};
 ghost use Rattle.mintc_paths.specs.Ordered.{Ordered, ordered};
 ghost use Rattle.mintc_paths.specs.Sums.{row_of, IsCourse, AreMarked};
@@ -38,7 +38,6 @@ fn path_by(
     ghost of: { Ordered }
     requires of { of ≡ ordered system.now.flat system.now.order }
     requires marked { AreMarked sums.old reached.old }
-    requires off { (row : ℕ) → slice_index_or reached.old row false ≡ false }
     requires bits { length sums.old ≡ 2 * length system.now.flat.elements + length system.now.flat.inner }
     requires pair { IsPairOf system.now.pairs from to }
     ensures { IfOk result (IsOfPair extreme system.now from to) }

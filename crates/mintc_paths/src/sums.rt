@@ -1,10 +1,10 @@
 //! Sums of paths to bits, from up to eight elements at a time.
-ghost use Rattle.std.specs.Prelude.{◌≡◌, ◌≢◌, ◌+◌, ◌*◌, ◌<◌, ◌≤◌, ℕ, List, [], pos, length, slice_index_or, false, None, Some, IfSome, OnOk, FitsSigned};
+ghost use Rattle.std.specs.Prelude.{◌≡◌, ◌≢◌, ◌+◌, ◌*◌, ◌<◌, ◌≤◌, ℕ, List, pos, length, slice_index_or, false, None, Some, IfSome, OnOk, FitsSigned};
 ghost use Rattle.std.specs.Int.{int_max, int_min, w64};
 ghost use Rattle.mintc_lanes.specs.Lanes.{lane_at, AreJoined};
 ghost use Rattle.mintc_timing.specs.Limits.{IsDelay};
 ghost use Rattle.mintc_timing.specs.declared.parts.TimingArc.{TimingArc};
-ghost use Rattle.mintc_paths.specs.Awake.{AreListed, IsReady, IsAwake};
+ghost use Rattle.mintc_paths.specs.Awake.{IsReady, IsAwake};
 ghost use Rattle.mintc_paths.specs.Ordered.{Ordered, IsCourseOf};
 ghost use Rattle.mintc_paths.specs.Reached.{AreExtremes};
 ghost use Rattle.mintc_paths.specs.Leaving.{AreLeaving};
@@ -42,22 +42,15 @@ pub fn sum_in(row: &[i64; 8], lane: usize) -> Option<i64>
 }
 
 /// Takes away the sums in the rows that were reached.
-fn wipe(sums: &mut Held, reached: &mut [bool], awake: &mut Awake)
+fn wipe(sums: &mut Held, reached: &mut [bool])
     requires marked { AreMarked sums.old reached.old }
-    requires listed { AreListed reached.old awake.old.rows.items }
     ensures count { length sums.new ≡ length sums.old }
     ensures none { (row : ℕ) → row < length sums.new → sums_at sums.new row ≡ NO_SUMS }
     ensures marked { AreMarked sums.new reached.new }
     ensures off { (row : ℕ) → slice_index_or reached.new row false ≡ false }
-    ensures rows { awake.new.rows.items ≡ [] }
-    ensures places { awake.new.places ≡ awake.old.places }
 {
     sums.clear();
-    for number in 0..awake.rows.len() {
-        let row = awake.rows[number] as usize;
-        reached[row] = false;
-    }
-    awake.rows.clear();
+    reached.fill(false);
 }
 
 /// Makes the sums those of the empty paths from so many elements.
@@ -74,17 +67,17 @@ fn clear(
     requires rows { AreRows (length sums.old) course.now.rows }
     requires leaving { AreLeaving course.now.along.items (length sums.old) course.now.leaving }
     requires marked { AreMarked sums.old reached.old }
-    requires ready { IsReady (length course.now.along.items) reached.old awake.old }
+    requires ready { IsReady (length course.now.along.items) awake.old }
     ensures count { length sums.new ≡ length sums.old }
     ensures begun { OnOk result ((arcs : List TimingArc) (order : List ℕ) → AreBegun arcs order first lanes (placed course.now.rows.of_bits.items sums.new)) }
     ensures marked { OnOk result (AreMarked sums.new reached.new) }
     ensures awake { OnOk result (IsAwake course.now.along.items 0 reached.new awake.new) }
 {
-    wipe(sums, reached, awake);
+    wipe(sums, reached);
     for lane in 0..lanes {
         let row = course.rows.of_bits[2 * (first as usize + lane) + 1];
         sums.begin(row, lane)?;
-        awake.reach(reached, course, row)?;
+        awake.reach(reached, course, row);
     }
     Ok(())
 }
@@ -107,7 +100,7 @@ fn carry(
     requires alike { IsAlike (sums_at sums.old arc.from) }
     requires marked { AreMarked sums.old reached.old }
     requires leaving { AreLeaving course.now.along.items (length sums.old) course.now.leaving }
-    requires ready { IsReady (length course.now.along.items) reached.old awake.old }
+    requires ready { IsReady (length course.now.along.items) awake.old }
     ensures count { length sums.new ≡ length sums.old }
     ensures marked { OnOk result (AreMarked sums.new reached.new) }
     ensures awake { OnOk result ((place : ℕ) → IsAwake course.now.along.items place reached.old awake.old
@@ -118,7 +111,7 @@ fn carry(
     ensures bounded { OnOk result ((most : ℕ) → IsBounded most (sums_at sums.old arc.from) → IsBounded most (sums_at sums.old arc.to) → IsBounded (most + 1000000000) (sums_at sums.new arc.to)) }
 {
     if reached[arc.from as usize] {
-        awake.reach(reached, course, arc.to)?;
+        awake.reach(reached, course, arc.to);
         sums.join(arc)?;
     }
     Ok(())
@@ -139,10 +132,10 @@ pub fn fill(
     requires lanes { lanes ≤ 8 }
     requires elements { first + lanes ≤ length of.design.elements }
     requires marked { AreMarked sums.old reached.old }
-    requires ready { IsReady (length course.now.along.items) reached.old awake.old }
+    requires ready { IsReady (length course.now.along.items) awake.old }
     ensures count { length sums.new ≡ length sums.old }
     ensures marked { OnOk result (AreMarked sums.new reached.new) }
-    ensures ready { OnOk result (IsReady (length course.now.along.items) reached.new awake.new) }
+    ensures ready { OnOk result (IsReady (length course.now.along.items) awake.new) }
     ensures sums { OnOk result (AreSums of.design.arcs of.order (length of.order) first lanes (placed course.now.rows.of_bits.items sums.new)) }
     ensures extremes { OnOk result (AreExtremes of.design first lanes (placed course.now.rows.of_bits.items sums.new)) }
 {

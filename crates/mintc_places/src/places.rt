@@ -12,6 +12,7 @@ pub struct Places {
 }
 
 /// Takes a place in.
+#[inline(always)]
 fn insert(words: &mut [u64], place: usize)
     requires { place < room words.old }
     ensures inserted { IsIn words.new place }
@@ -22,6 +23,7 @@ fn insert(words: &mut [u64], place: usize)
 }
 
 /// Takes a place out.
+#[inline(always)]
 fn take_out(words: &mut [u64], place: usize)
     requires { place < room words.old }
     ensures removed { IsIn words.new place → ⊥ }
@@ -32,6 +34,7 @@ fn take_out(words: &mut [u64], place: usize)
 }
 
 /// The first place that is in the words from this one on, or the room's end where there is none.
+#[inline(never)]
 fn next_from(words: &[u64], word: usize) -> usize
     requires few { length words.now ≤ 2 ^ 32 }
     requires word { word ≤ length words.now }
@@ -51,6 +54,7 @@ fn next_from(words: &[u64], word: usize) -> usize
 }
 
 /// The first place that is in the words from this place on. Where there is none, a place at the room's end or past it.
+#[inline(always)]
 fn next_in(words: &[u64], place: usize) -> usize
     requires { length words.now ≤ 2 ^ 32 }
     ensures from { place ≤ result }
@@ -81,6 +85,7 @@ impl Places {
     }
 
     /// Takes a place in.
+    #[inline(always)]
     pub fn insert(&mut self, place: usize)
         requires { place < room self.old.words.items }
         ensures count { length self.new.words.items ≡ length self.old.words.items }
@@ -92,6 +97,7 @@ impl Places {
     }
 
     /// Takes a place out.
+    #[inline(always)]
     pub fn remove(&mut self, place: usize)
         ensures count { length self.new.words.items ≡ length self.old.words.items }
         ensures removed { IsIn self.new.words.items place → ⊥ }
@@ -104,6 +110,7 @@ impl Places {
     }
 
     /// The first place that is in the set from this one on. Where there is none, a place at the room's end or past it.
+    #[inline(always)]
     pub fn next(&self, place: usize) -> usize
         requires { length self.now.words.items ≤ 2 ^ 32 }
         ensures from { place ≤ result }

@@ -1,9 +1,9 @@
-use Rattle.std.proofs.Common.{◌≡◌, ◌∙◌, w64}
+use Rattle.std.proofs.Common.{◌≡◌, ◌∙◌, ◌+ℤ◌, w64}
 use Rattle.std.specs.Int.{int_max}
 use Rattle.std.proofs.lemmas.Int.{to_z-of_z}
 use Rattle.mintc_lanes.specs.Lanes.{AreJoined}
-use Rattle.mintc_lanes.specs.Vectors.{number_at}
-use Rattle.mintc_lanes.proofs.Joining.{sum_fits, sum_differs, are_joined, are_present, are_within, IsChoice-int_max}
+use Rattle.mintc_lanes.specs.Vectors.{HasNumbers, number_at}
+use Rattle.mintc_lanes.proofs.Joining.{sum_fits, sum_differs, greater_joined, are_joined, are_present, are_within, IsChoice-int_max}
 use Rattle.mintc_lanes.proofs.Reading.{read, read_is, read_vector}
 use Rattle.mintc_lanes.proofs.row.max_plus_row.Goals as goal
 
@@ -29,17 +29,14 @@ greater-requires-clause-near c = λ k lt.
     rw (own_is, read_is c.sums-sum.result c.sums-sum.ensures.vector)
     (sum_differs (number_at c.args.row.now k) (number_at c.args.other.now k) (number_at c.sums-sum.result k) c.args.add (c.requires.row k lt) (c.requires.other k lt) c.requires.add (sums k lt))
 
-pub joined-requires-clause-row : goal.joined-requires-clause-row
-joined-requires-clause-row c = read_vector _ c.numbers-own.ensures.vector
+pub where_absent-requires-clause-x : goal.where_absent-requires-clause-x
+where_absent-requires-clause-x c = read_vector _ c.numbers-others.ensures.vector
 
-pub joined-requires-clause-other : goal.joined-requires-clause-other
-joined-requires-clause-other c = read_vector _ c.numbers-others.ensures.vector
+pub where_absent-requires-clause-absent : goal.where_absent-requires-clause-absent
+where_absent-requires-clause-absent c = read_vector _ c.numbers-own.ensures.vector
 
-pub joined-requires-clause-sum : goal.joined-requires-clause-sum
-joined-requires-clause-sum c = read_vector _ c.sums-sum.ensures.vector
-
-pub joined-requires-clause-chosen : goal.joined-requires-clause-chosen
-joined-requires-clause-chosen c = read_vector _ c.greater.ensures.vector
+pub where_absent-requires-clause-present : goal.where_absent-requires-clause-present
+where_absent-requires-clause-present c = read_vector _ c.greater.ensures.vector
 
 pub returns : goal.returns
 returns c =
@@ -49,14 +46,16 @@ returns c =
     let others_is : read c.numbers-others.result ≡ other = read_is c.numbers-others.result c.numbers-others.ensures.vector ∙ c.numbers-others.ensures.numbers in
     let sum_is = read_is c.sums-sum.result c.sums-sum.ensures.vector in
     let chosen_is = read_is c.greater.result c.greater.ensures.vector in
-    let lanes : AreJoined int_max row other c.args.add c.joined.result =
-    are_joined int_max row other c.sums-sum.result c.greater.result c.joined.result c.args.add IsChoice-int_max c.requires.row c.requires.other c.requires.add
-    (rw (others_is, to_z-of_z w64 c.args.add c.ranges.add) at c.sums-sum.ensures.numbers)
-    (rw (own_is, sum_is) at c.greater.ensures.numbers)
-    (rw (own_is, others_is, sum_is, chosen_is) at c.joined.ensures.numbers) in
-    rw (read_is c.joined.result c.joined.ensures.vector)
+    let new = c.where_absent.result in
+    let sums : HasNumbers c.sums-sum.result (λ k. number_at other k +ℤ c.args.add) = rw (others_is, to_z-of_z w64 c.args.add c.ranges.add) at c.sums-sum.ensures.numbers in
+    let choices : HasNumbers c.greater.result (λ k. int_max (number_at row k) (number_at c.sums-sum.result k)) = rw (own_is, sum_is) at c.greater.ensures.numbers in
+    let lanes : AreJoined int_max row other c.args.add new =
+    are_joined int_max row other c.sums-sum.result c.greater.result new c.args.add IsChoice-int_max c.requires.row c.requires.other c.requires.add sums choices
+    (greater_joined row other c.sums-sum.result c.greater.result new c.args.add c.requires.other c.requires.add sums choices
+    (rw (others_is, own_is, chosen_is) at c.where_absent.ensures.numbers)) in
+    rw (read_is new c.where_absent.ensures.vector)
     record {
       lanes = lanes;
-      present = are_present int_max row other c.joined.result c.args.add lanes;
-      bounds = are_within int_max row other c.joined.result c.args.add IsChoice-int_max lanes;
+      present = are_present int_max row other new c.args.add lanes;
+      bounds = are_within int_max row other new c.args.add IsChoice-int_max lanes;
     }

@@ -1,7 +1,7 @@
 use Rattle.std.proofs.Common.{◌≡◌, ◌∙◌, ℕ, List, Bool, false, length, replicate, arith, rules, subst, sym}
 use Rattle.mintc_paths.specs.Ordered.{IsCourseOf}
 use Rattle.mintc_paths.proofs.Marking.{AreMarked-none}
-use Rattle.mintc_paths.proofs.Waking.{all_off, IsReady-fewer}
+use Rattle.mintc_paths.proofs.Waking.{IsReady-fewer}
 use Rattle.mintc_paths.proofs.blocks.find_along.Goals as goal
 
 pub find_each-requires : goal.find_each-requires
@@ -17,7 +17,7 @@ find_each-requires g c =
         (
           AreMarked-none bits c.in-Ok.sums reached c.in-Ok.ensures.count c.in-Ok.ensures.none off,
           (
-            IsReady-fewer (length c.args.course.now.along.items) c.len.result reached c.in-Ok-new.awake (omega (arith, c.len.ensures, c.args.course.now.along.ok.0)) (c.in-Ok-new.ensures.ready reached (all_off bits reached off)),
+            IsReady-fewer (length c.args.course.now.along.items) c.len.result c.in-Ok-new.awake (omega (arith, c.len.ensures, c.args.course.now.along.ok.0)) c.in-Ok-new.ensures.ready,
             c.requires.1.1,
           ),
         ),

@@ -20,7 +20,7 @@ trace-requires-clause-bounded g c = λ bit inside.
     let few = c.elements-elements.ensures.kept.arcs in
     let design : Design = c.flat-flat.result.now in
     let bits : ℕ = 2 * length design.elements + length design.inner in
-    let same : length c.fill.new.sums ≡ bits = c.in-Ok-fill.ensures.count ∙ c.requires.1.1.1.0 ∙ sym (ap (λ (f : Design). 2 * length f.elements + length f.inner) c.flat-flat.ensures) in
+    let same : length c.fill.new.sums ≡ bits = c.in-Ok-fill.ensures.count ∙ c.requires.1.1.0 ∙ sym (ap (λ (f : Design). 2 * length f.elements + length f.inner) c.flat-flat.ensures) in
     let of_is : g.of ≡ ordered c.flat-flat.result.now c.order-order.result.now = rw (c.flat-flat.ensures, c.order-order.ensures) c.requires.0 in
     let sums_are = AreSums-plain design.arcs c.order-order.result.now (length c.order-order.result.now) c.args.from 1 bits c.in-Ok.course.rows c.in-Ok.ensures.course.rows c.in-Ok.ensures.own
     c.fill.new.sums same (subst (λ (o : Ordered). AreSums o.design.arcs o.order (length o.order) c.args.from 1 (placed c.in-Ok.course.rows.of_bits.items c.fill.new.sums)) of_is c.in-Ok-fill.ensures.sums) in
@@ -38,12 +38,12 @@ returns-in-Ok-trace g c =
     let is_order : IsOrder arcs order = rw (c.flat-flat.ensures, c.order-order.ensures) kept.ordered in
     let design : Design = c.flat-flat.result.now in
     let bits : ℕ = 2 * length design.elements + length design.inner in
-    let same : length c.fill.new.sums ≡ bits = c.in-Ok-fill.ensures.count ∙ c.requires.1.1.1.0 ∙ sym (ap (λ (f : Design). 2 * length f.elements + length f.inner) c.flat-flat.ensures) in
+    let same : length c.fill.new.sums ≡ bits = c.in-Ok-fill.ensures.count ∙ c.requires.1.1.0 ∙ sym (ap (λ (f : Design). 2 * length f.elements + length f.inner) c.flat-flat.ensures) in
     let of_is : g.of ≡ ordered c.flat-flat.result.now c.order-order.result.now = rw (c.flat-flat.ensures, c.order-order.ensures) c.requires.0 in
     let sums_are = AreSums-plain design.arcs c.order-order.result.now (length c.order-order.result.now) c.args.from 1 bits c.in-Ok.course.rows c.in-Ok.ensures.course.rows c.in-Ok.ensures.own
     c.fill.new.sums same (subst (λ (o : Ordered). AreSums o.design.arcs o.order (length o.order) c.args.from 1 (placed c.in-Ok.course.rows.of_bits.items c.fill.new.sums)) of_is c.in-Ok-fill.ensures.sums) in
     let best_sums = AreBestSums-from_sums c.args.extreme arcs order from c.fill.new.sums sums_are in
-    let some = path_of_pair t from to kept.extremes c.requires.1.1.1.1 in
+    let some = path_of_pair t from to kept.extremes c.requires.1.1.1 in
     let from_in = some.0 in
     let to_in = some.1 in
     let lead : Leads arcs (output_of from) some.2.0 (input_of to) = rw c.flat-flat.ensures some.2.1 in
@@ -58,14 +58,14 @@ fill-requires g c =
     let order : List ℕ = c.order-order.result.now in
     let is_order : IsOrder design.arcs order = rw (c.flat-flat.ensures, c.order-order.ensures) kept.ordered in
     let of_is : g.of ≡ ordered design order = rw (c.flat-flat.ensures, c.order-order.ensures) c.requires.0 in
-    let bits : length c.args.sums.now ≡ 2 * length design.elements + length design.inner = c.requires.1.1.1.0 ∙ sym (ap (λ (f : Design). 2 * length f.elements + length f.inner) c.flat-flat.ensures) in
+    let bits : length c.args.sums.now ≡ 2 * length design.elements + length design.inner = c.requires.1.1.0 ∙ sym (ap (λ (f : Design). 2 * length f.elements + length f.inner) c.flat-flat.ensures) in
     let course : IsCourseOf (length c.args.sums.now) g.of c.in-Ok.course = subst (λ (o : Ordered). IsCourseOf (length c.args.sums.now) o c.in-Ok.course) (sym of_is) record {
       is_ordered = record { kept = c.elements-elements.ensures.kept; order = is_order };
       bits = bits;
       is_course = subst (λ n. IsCourse n design.arcs order c.in-Ok.course) (sym bits) c.in-Ok.ensures.course;
     } in
-    let some = path_of_pair c.args.system.now c.args.from c.args.to kept.extremes c.requires.1.1.1.1 in
+    let some = path_of_pair c.args.system.now c.args.from c.args.to kept.extremes c.requires.1.1.1 in
     let is = ap (λ (o : Ordered). length o.design.elements) c.requires.0 in
     let below = some.0 in
-    let ready = IsReady-fewer (length c.in-Ok.course.along.items) c.len.result c.args.reached.now c.in-Ok-new.awake (omega (arith, c.len.ensures, c.in-Ok.course.along.ok.0)) (c.in-Ok-new.ensures.ready c.args.reached.now c.requires.1.1.0) in
+    let ready = IsReady-fewer (length c.in-Ok.course.along.items) c.len.result c.in-Ok-new.awake (omega (arith, c.len.ensures, c.in-Ok.course.along.ok.0)) c.in-Ok-new.ensures.ready in
     (course, (omega arith, (omega arith, (c.requires.1.0, ready))))

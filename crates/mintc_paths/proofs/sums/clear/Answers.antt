@@ -3,7 +3,7 @@ use Rattle.std.proofs.lemmas.List.{get_or_default}
 use Rattle.mintc_paths.specs.declared.sums.Sums.{Sums}
 use Rattle.mintc_paths.specs.Sums.{row_of, placed, AreBegun, AreMarked}
 use Rattle.mintc_paths.proofs.Marking.{marked_more}
-use Rattle.mintc_paths.proofs.Waking.{IsReady-none, IsAwake-none}
+use Rattle.mintc_paths.proofs.Waking.{IsAwake-none}
 use Rattle.mintc_paths.proofs.Rowing.{IsBegun, AreBegun-placed_none, AreBegun-placed_more}
 use Rattle.mintc_paths.proofs.sums.clear.Goals as goal
 
@@ -11,8 +11,7 @@ pub loop-lane-init : goal.loop-lane-init
 loop-lane-init c = record {
   begun = λ arcs order. AreBegun-placed_none arcs order c.args.first (length c.args.sums.now) c.args.course.now.rows c.requires.rows c.wipe.new.sums c.wipe.ensures.count c.wipe.ensures.none;
   marked = c.wipe.ensures.marked;
-  awake = IsAwake-none c.args.course.now.along.items 0 c.wipe.new.reached c.wipe.new.awake
-      (IsReady-none (length c.args.course.now.along.items) c.args.reached.now c.wipe.new.reached c.args.awake.now c.wipe.new.awake c.wipe.ensures.places c.wipe.ensures.rows c.wipe.ensures.off c.requires.ready) c.wipe.ensures.off;
+  awake = IsAwake-none c.args.course.now.along.items 0 c.wipe.new.reached c.args.awake.now c.requires.ready c.wipe.ensures.off;
   count = c.wipe.ensures.count;
 }
 
@@ -34,8 +33,8 @@ loop-lane-preserved c =
       begun = λ arcs order.
           AreBegun-placed_more arcs order c.args.first lane n c.args.course.now.rows c.requires.rows old new (omega arith) inside
           (subst (λ at. IsBegun old new at lane) is_row begun) (c.loop-lane.invariant.begun arcs order);
-      marked = subst (λ marks. AreMarked new marks) (sym c.in_ok-reach.ensures.reached) (marked_more old new c.loop-lane.reached row c.begin.ensures.count c.begin.ensures.others c.loop-lane.invariant.marked);
-      awake = c.in_ok-reach.ensures.awake 0 c.loop-lane.invariant.awake;
+      marked = subst (λ marks. AreMarked new marks) (sym c.reach.ensures.reached) (marked_more old new c.loop-lane.reached row c.begin.ensures.count c.begin.ensures.others c.loop-lane.invariant.marked);
+      awake = c.reach.ensures.awake 0 c.loop-lane.invariant.awake;
       count = c.begin.ensures.count ∙ c.loop-lane.invariant.count;
     }
 

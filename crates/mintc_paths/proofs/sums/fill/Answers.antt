@@ -120,7 +120,7 @@ loop-place-preserved g c =
     let h = c.in_ok-carry.ensures in
     let carried : IsCarried c.index-arc.result.now c.loop-place.sums c.carry.new.sums = record { others = h.others; greatest = h.greatest; least = h.least; bounded = h.bounded } in
     let awake : IsAwake along (i + 1) c.carry.new.reached c.carry.new.awake = h.awake (i + 1)
-    (IsAwake-next along i c.loop-place.reached c.loop-place.awake _ refl c.remove.ensures.count c.remove.ensures.others c.loop-place.invariant.awake) in
+    (IsAwake-next along i c.loop-place.reached c.loop-place.awake _ c.remove.ensures.count c.remove.ensures.others c.loop-place.invariant.awake) in
     let same : length c.carry.new.sums ≡ length c.args.sums.now = h.count ∙ c.loop-place.invariant.count in
     record {
       sums_so_far = passed_next g.of.design g.of.order c.requires.0.is_ordered.order c.requires.0.is_ordered.kept c.args.course.now (length c.args.sums.now) c.requires.0.is_course c.requires.0.bits
@@ -154,5 +154,5 @@ next-place-requires-in-loop-place g c =
     let i : ℕ = c.loop-place.place in
     let along : List TimingArc = c.args.course.now.along.items in
     let awake = c.in_ok-carry.ensures.awake (i + 1)
-    (IsAwake-next along i c.loop-place.reached c.loop-place.awake _ refl c.remove.ensures.count c.remove.ensures.others c.loop-place.invariant.awake) in
+    (IsAwake-next along i c.loop-place.reached c.loop-place.awake _ c.remove.ensures.count c.remove.ensures.others c.loop-place.invariant.awake) in
     awake.ready.few

@@ -1,132 +1,183 @@
-use Rattle.std.proofs.Common.{◌≡◌, ◌<◌, ◌+◌, ◌∙◌, ℕ, List, length, arith, ap, sym, subst}
-use Rattle.std.specs.Int.{int_max, int_min}
-use Rattle.mintc_lanes.specs.Lanes.{lane_at, joined}
+use Rattle.std.proofs.Common.{◌≡◌, ◌∙◌, ℕ, List, length, set, arith, ap, sym, subst}
+use Rattle.mintc_timing.specs.declared.parts.TimingArc.{TimingArc}
 use Rattle.mintc_paths.specs.declared.sums.Sums.{Sums}
 use Rattle.mintc_paths.specs.Held.{place_at, places_of}
 use Rattle.mintc_paths.specs.Sums.{sums_at, placed, IsBounded}
-use Rattle.mintc_paths.proofs.Rowing.{length-placed}
-use Rattle.mintc_paths.proofs.Holding.{put_own, put_others, there, length-places}
+use Rattle.mintc_paths.proofs.Holding.{IsJoinedOne, held_at, given_at, joined_at, joined_given, length-places}
 use Rattle.mintc_paths.proofs.held.Held.join.Goals as goal
 
-pub index-requires : goal.index-requires
-index-requires c =
-    let below = c.in_ok-place.ensures.held.held.below c.args.arc.from in
-    let is = c.place_of-left.ensures ∙ ap (λ (xs : List ℕ). place_at (places_of c.self.inside.base xs) c.args.arc.from) c.deref.ensures.value in
-    omega (arith, c.hold.new.sums.ok.0)
-
-pub join_rows-requires-clause-bounded : goal.join_rows-requires-clause-bounded
-join_rows-requires-clause-bounded c =
-    let h = c.in_ok-place.ensures in
+pub returns-then-place-gt0-clause-others : goal.returns-then-place-gt0-clause-others
+returns-then-place-gt0-clause-others c =
     let base : ℕ = c.self.inside.base in
-    let before : List ℕ = places_of base c.self.inside.numbers.items in
-    let places : List ℕ = places_of base c.hold.new.numbers.items in
-    let sums : List Sums = c.hold.new.sums.items in
+    let numbers : List ℕ = c.self.inside.numbers.items in
+    let sums : List Sums = c.self.inside.sums.items in
     let old : List Sums = c.args.self.now in
-    let place : ℕ = c.in_ok-place.place in
-    let kept : (other : ℕ) → sums_at (placed places sums) other ≡ sums_at old other = λ other. h.kept other ∙ ap (λ (v : List Sums). sums_at v other) c.self.view_is in
-    let count : length places ≡ length old =
-    length-places base c.hold.new.numbers.items ∙ h.count ∙ sym (length-places base c.self.inside.numbers.items) ∙ sym (length-placed before c.self.inside.sums.items) ∙ ap (λ (v : List Sums). length v) c.self.view_is in
-    let inside : c.args.arc.to < length places = let here = c.requires.to in omega arith in
-    let to = there places sums old h.held.held kept c.args.arc.to place inside h.place h.some c.args.arc.to place c.index_mut.result.now inside h.place c.index_mut.ensures.value in
-    subst (λ (s : Sums). IsBounded 1000000000000000 s) (sym to) c.requires.to_bounded
+    let arc : TimingArc = c.args.arc in
+    let place_is = c.place_of-place.ensures ∙ ap (λ (xs : List ℕ). place_at (places_of base xs) arc.to) c.deref.ensures.value in
+    let left_is = c.place_of-left.ensures ∙ ap (λ (xs : List ℕ). place_at (places_of base xs) arc.from) c.deref-then-place-gt0.ensures.value in
+    let from_is : c.index.result.now ≡ sums_at old arc.from =
+    held_at base numbers sums old c.self.invariant.held c.self.view_is arc.from c.place_of-left.result c.index.result.now c.requires.from left_is c.index.ensures in
+    let h = c.join_rows.ensures in
+    let done : IsJoinedOne arc old (placed (places_of base numbers) (set sums c.place_of-place.result c.join_rows.new.sums)) =
+    joined_at base numbers sums old c.self.invariant.held c.self.view_is arc c.requires.from c.requires.to c.index.result.now from_is c.place_of-place.result c.index_mut.result.now c.join_rows.new.sums
+    place_is (λ e. let some = c.if-place-gt0.true in omega arith) c.index_mut.ensures.value (record { greatest = h.greatest; least = h.least; bounded = h.bounded }) in
+    done.others
 
-pub join_rows-requires-clause-others_bounded : goal.join_rows-requires-clause-others_bounded
-join_rows-requires-clause-others_bounded c =
-    let h = c.in_ok-place.ensures in
+pub returns-then-place-gt0-clause-greatest : goal.returns-then-place-gt0-clause-greatest
+returns-then-place-gt0-clause-greatest c =
     let base : ℕ = c.self.inside.base in
-    let before : List ℕ = places_of base c.self.inside.numbers.items in
-    let places : List ℕ = places_of base c.hold.new.numbers.items in
-    let sums : List Sums = c.hold.new.sums.items in
+    let numbers : List ℕ = c.self.inside.numbers.items in
+    let sums : List Sums = c.self.inside.sums.items in
     let old : List Sums = c.args.self.now in
-    let place : ℕ = c.in_ok-place.place in
-    let kept : (other : ℕ) → sums_at (placed places sums) other ≡ sums_at old other = λ other. h.kept other ∙ ap (λ (v : List Sums). sums_at v other) c.self.view_is in
-    let count : length places ≡ length old =
-    length-places base c.hold.new.numbers.items ∙ h.count ∙ sym (length-places base c.self.inside.numbers.items) ∙ sym (length-placed before c.self.inside.sums.items) ∙ ap (λ (v : List Sums). length v) c.self.view_is in
-    let inside : c.args.arc.to < length places = let here = c.requires.to in omega arith in
-    let from_inside : c.args.arc.from < length places = let here = c.requires.from in omega arith in
-    let from = there places sums old h.held.held kept c.args.arc.to place inside h.place h.some c.args.arc.from c.place_of-left.result c.index.result.now from_inside
-    (c.place_of-left.ensures ∙ ap (λ (xs : List ℕ). place_at (places_of base xs) c.args.arc.from) c.deref.ensures.value) c.index.ensures in
-    subst (λ (s : Sums). IsBounded 1000000000000000 s) (sym from) c.requires.from_bounded
+    let arc : TimingArc = c.args.arc in
+    let place_is = c.place_of-place.ensures ∙ ap (λ (xs : List ℕ). place_at (places_of base xs) arc.to) c.deref.ensures.value in
+    let left_is = c.place_of-left.ensures ∙ ap (λ (xs : List ℕ). place_at (places_of base xs) arc.from) c.deref-then-place-gt0.ensures.value in
+    let from_is : c.index.result.now ≡ sums_at old arc.from =
+    held_at base numbers sums old c.self.invariant.held c.self.view_is arc.from c.place_of-left.result c.index.result.now c.requires.from left_is c.index.ensures in
+    let h = c.join_rows.ensures in
+    let done : IsJoinedOne arc old (placed (places_of base numbers) (set sums c.place_of-place.result c.join_rows.new.sums)) =
+    joined_at base numbers sums old c.self.invariant.held c.self.view_is arc c.requires.from c.requires.to c.index.result.now from_is c.place_of-place.result c.index_mut.result.now c.join_rows.new.sums
+    place_is (λ e. let some = c.if-place-gt0.true in omega arith) c.index_mut.ensures.value (record { greatest = h.greatest; least = h.least; bounded = h.bounded }) in
+    done.joined.greatest
+
+pub returns-then-place-gt0-clause-least : goal.returns-then-place-gt0-clause-least
+returns-then-place-gt0-clause-least c =
+    let base : ℕ = c.self.inside.base in
+    let numbers : List ℕ = c.self.inside.numbers.items in
+    let sums : List Sums = c.self.inside.sums.items in
+    let old : List Sums = c.args.self.now in
+    let arc : TimingArc = c.args.arc in
+    let place_is = c.place_of-place.ensures ∙ ap (λ (xs : List ℕ). place_at (places_of base xs) arc.to) c.deref.ensures.value in
+    let left_is = c.place_of-left.ensures ∙ ap (λ (xs : List ℕ). place_at (places_of base xs) arc.from) c.deref-then-place-gt0.ensures.value in
+    let from_is : c.index.result.now ≡ sums_at old arc.from =
+    held_at base numbers sums old c.self.invariant.held c.self.view_is arc.from c.place_of-left.result c.index.result.now c.requires.from left_is c.index.ensures in
+    let h = c.join_rows.ensures in
+    let done : IsJoinedOne arc old (placed (places_of base numbers) (set sums c.place_of-place.result c.join_rows.new.sums)) =
+    joined_at base numbers sums old c.self.invariant.held c.self.view_is arc c.requires.from c.requires.to c.index.result.now from_is c.place_of-place.result c.index_mut.result.now c.join_rows.new.sums
+    place_is (λ e. let some = c.if-place-gt0.true in omega arith) c.index_mut.ensures.value (record { greatest = h.greatest; least = h.least; bounded = h.bounded }) in
+    done.joined.least
+
+pub returns-then-place-gt0-clause-bounded : goal.returns-then-place-gt0-clause-bounded
+returns-then-place-gt0-clause-bounded c =
+    let base : ℕ = c.self.inside.base in
+    let numbers : List ℕ = c.self.inside.numbers.items in
+    let sums : List Sums = c.self.inside.sums.items in
+    let old : List Sums = c.args.self.now in
+    let arc : TimingArc = c.args.arc in
+    let place_is = c.place_of-place.ensures ∙ ap (λ (xs : List ℕ). place_at (places_of base xs) arc.to) c.deref.ensures.value in
+    let left_is = c.place_of-left.ensures ∙ ap (λ (xs : List ℕ). place_at (places_of base xs) arc.from) c.deref-then-place-gt0.ensures.value in
+    let from_is : c.index.result.now ≡ sums_at old arc.from =
+    held_at base numbers sums old c.self.invariant.held c.self.view_is arc.from c.place_of-left.result c.index.result.now c.requires.from left_is c.index.ensures in
+    let h = c.join_rows.ensures in
+    let done : IsJoinedOne arc old (placed (places_of base numbers) (set sums c.place_of-place.result c.join_rows.new.sums)) =
+    joined_at base numbers sums old c.self.invariant.held c.self.view_is arc c.requires.from c.requires.to c.index.result.now from_is c.place_of-place.result c.index_mut.result.now c.join_rows.new.sums
+    place_is (λ e. let some = c.if-place-gt0.true in omega arith) c.index_mut.ensures.value (record { greatest = h.greatest; least = h.least; bounded = h.bounded }) in
+    done.joined.bounded
 
 pub returns-clause-others : goal.returns-clause-others
 returns-clause-others c =
-    let h = c.in_ok-place.ensures in
     let base : ℕ = c.self.inside.base in
-    let before : List ℕ = places_of base c.self.inside.numbers.items in
-    let places : List ℕ = places_of base c.hold.new.numbers.items in
-    let sums : List Sums = c.hold.new.sums.items in
+    let numbers : List ℕ = c.self.inside.numbers.items in
+    let sums : List Sums = c.self.inside.sums.items in
     let old : List Sums = c.args.self.now in
-    let place : ℕ = c.in_ok-place.place in
-    let kept : (other : ℕ) → sums_at (placed places sums) other ≡ sums_at old other = λ other. h.kept other ∙ ap (λ (v : List Sums). sums_at v other) c.self.view_is in
-    let count : length places ≡ length old =
-    length-places base c.hold.new.numbers.items ∙ h.count ∙ sym (length-places base c.self.inside.numbers.items) ∙ sym (length-placed before c.self.inside.sums.items) ∙ ap (λ (v : List Sums). length v) c.self.view_is in
-    let inside : c.args.arc.to < length places = let here = c.requires.to in omega arith in
-    put_others places sums old h.held.held kept c.args.arc.to place inside h.place h.some c.join_rows.new.sums
+    let arc : TimingArc = c.args.arc in
+    let place_is = c.place_of-place.ensures ∙ ap (λ (xs : List ℕ). place_at (places_of base xs) arc.to) c.deref.ensures.value in
+    let given = c.in_ok-place.ensures in
+    let more : List Sums = c.give.new.sums.items in
+    let places : List ℕ = places_of base c.give.new.numbers.items in
+    let count = length-places base c.give.new.numbers.items ∙ given.count ∙ sym (length-places base numbers) in
+    let left_is = c.place_of-left-2.ensures ∙ ap (λ (xs : List ℕ). place_at (places_of base xs) arc.from) c.deref-2.ensures.value in
+    let from_is : c.index-2.result.now ≡ sums_at old arc.from =
+    given_at base numbers sums old c.self.invariant.held c.self.view_is places more given.held.held given.kept count arc.from c.place_of-left-2.result c.index-2.result.now c.requires.from left_is c.index-2.ensures in
+    let h = c.led_on.ensures in
+    let none = c.if-place-gt0.false in
+    let done : IsJoinedOne arc old (placed places (set more c.in_ok-place.place c.led_on.result)) =
+    joined_given base numbers sums old c.self.invariant.held c.self.view_is arc c.requires.from c.requires.to c.index-2.result.now from_is places more
+    given.held.held given.kept count c.in_ok-place.place c.led_on.result (omega arith) given.place given.some
+    (record { greatest = h.greatest; least = h.least; bounded = λ most from to. h.bounded most from }) in
+    done.others
 
 pub returns-clause-greatest : goal.returns-clause-greatest
 returns-clause-greatest c =
-    let h = c.in_ok-place.ensures in
     let base : ℕ = c.self.inside.base in
-    let before : List ℕ = places_of base c.self.inside.numbers.items in
-    let places : List ℕ = places_of base c.hold.new.numbers.items in
-    let sums : List Sums = c.hold.new.sums.items in
+    let numbers : List ℕ = c.self.inside.numbers.items in
+    let sums : List Sums = c.self.inside.sums.items in
     let old : List Sums = c.args.self.now in
-    let place : ℕ = c.in_ok-place.place in
-    let kept : (other : ℕ) → sums_at (placed places sums) other ≡ sums_at old other = λ other. h.kept other ∙ ap (λ (v : List Sums). sums_at v other) c.self.view_is in
-    let count : length places ≡ length old =
-    length-places base c.hold.new.numbers.items ∙ h.count ∙ sym (length-places base c.self.inside.numbers.items) ∙ sym (length-placed before c.self.inside.sums.items) ∙ ap (λ (v : List Sums). length v) c.self.view_is in
-    let inside : c.args.arc.to < length places = let here = c.requires.to in omega arith in
-    let own = put_own places sums old h.held.held kept c.args.arc.to place inside h.place h.some c.join_rows.new.sums in
-    let to = there places sums old h.held.held kept c.args.arc.to place inside h.place h.some c.args.arc.to place c.index_mut.result.now inside h.place c.index_mut.ensures.value in
-    let from_inside : c.args.arc.from < length places = let here = c.requires.from in omega arith in
-    let from = there places sums old h.held.held kept c.args.arc.to place inside h.place h.some c.args.arc.from c.place_of-left.result c.index.result.now from_inside
-    (c.place_of-left.ensures ∙ ap (λ (xs : List ℕ). place_at (places_of base xs) c.args.arc.from) c.deref.ensures.value) c.index.ensures in
-    λ k low.
-    ap (λ (s : Sums). lane_at s.greatest k) own ∙ c.join_rows.ensures.greatest k low
-    ∙ ap (λ (s : Sums). joined int_max (lane_at s.greatest k) (lane_at c.index.result.now.greatest k) c.args.arc.max) to
-    ∙ ap (λ (s : Sums). joined int_max (lane_at (sums_at old c.args.arc.to).greatest k) (lane_at s.greatest k) c.args.arc.max) from
+    let arc : TimingArc = c.args.arc in
+    let place_is = c.place_of-place.ensures ∙ ap (λ (xs : List ℕ). place_at (places_of base xs) arc.to) c.deref.ensures.value in
+    let given = c.in_ok-place.ensures in
+    let more : List Sums = c.give.new.sums.items in
+    let places : List ℕ = places_of base c.give.new.numbers.items in
+    let count = length-places base c.give.new.numbers.items ∙ given.count ∙ sym (length-places base numbers) in
+    let left_is = c.place_of-left-2.ensures ∙ ap (λ (xs : List ℕ). place_at (places_of base xs) arc.from) c.deref-2.ensures.value in
+    let from_is : c.index-2.result.now ≡ sums_at old arc.from =
+    given_at base numbers sums old c.self.invariant.held c.self.view_is places more given.held.held given.kept count arc.from c.place_of-left-2.result c.index-2.result.now c.requires.from left_is c.index-2.ensures in
+    let h = c.led_on.ensures in
+    let none = c.if-place-gt0.false in
+    let done : IsJoinedOne arc old (placed places (set more c.in_ok-place.place c.led_on.result)) =
+    joined_given base numbers sums old c.self.invariant.held c.self.view_is arc c.requires.from c.requires.to c.index-2.result.now from_is places more
+    given.held.held given.kept count c.in_ok-place.place c.led_on.result (omega arith) given.place given.some
+    (record { greatest = h.greatest; least = h.least; bounded = λ most from to. h.bounded most from }) in
+    done.joined.greatest
 
 pub returns-clause-least : goal.returns-clause-least
 returns-clause-least c =
-    let h = c.in_ok-place.ensures in
     let base : ℕ = c.self.inside.base in
-    let before : List ℕ = places_of base c.self.inside.numbers.items in
-    let places : List ℕ = places_of base c.hold.new.numbers.items in
-    let sums : List Sums = c.hold.new.sums.items in
+    let numbers : List ℕ = c.self.inside.numbers.items in
+    let sums : List Sums = c.self.inside.sums.items in
     let old : List Sums = c.args.self.now in
-    let place : ℕ = c.in_ok-place.place in
-    let kept : (other : ℕ) → sums_at (placed places sums) other ≡ sums_at old other = λ other. h.kept other ∙ ap (λ (v : List Sums). sums_at v other) c.self.view_is in
-    let count : length places ≡ length old =
-    length-places base c.hold.new.numbers.items ∙ h.count ∙ sym (length-places base c.self.inside.numbers.items) ∙ sym (length-placed before c.self.inside.sums.items) ∙ ap (λ (v : List Sums). length v) c.self.view_is in
-    let inside : c.args.arc.to < length places = let here = c.requires.to in omega arith in
-    let own = put_own places sums old h.held.held kept c.args.arc.to place inside h.place h.some c.join_rows.new.sums in
-    let to = there places sums old h.held.held kept c.args.arc.to place inside h.place h.some c.args.arc.to place c.index_mut.result.now inside h.place c.index_mut.ensures.value in
-    let from_inside : c.args.arc.from < length places = let here = c.requires.from in omega arith in
-    let from = there places sums old h.held.held kept c.args.arc.to place inside h.place h.some c.args.arc.from c.place_of-left.result c.index.result.now from_inside
-    (c.place_of-left.ensures ∙ ap (λ (xs : List ℕ). place_at (places_of base xs) c.args.arc.from) c.deref.ensures.value) c.index.ensures in
-    λ k low.
-    ap (λ (s : Sums). lane_at s.least k) own ∙ c.join_rows.ensures.least k low
-    ∙ ap (λ (s : Sums). joined int_min (lane_at s.least k) (lane_at c.index.result.now.least k) c.args.arc.min) to
-    ∙ ap (λ (s : Sums). joined int_min (lane_at (sums_at old c.args.arc.to).least k) (lane_at s.least k) c.args.arc.min) from
+    let arc : TimingArc = c.args.arc in
+    let place_is = c.place_of-place.ensures ∙ ap (λ (xs : List ℕ). place_at (places_of base xs) arc.to) c.deref.ensures.value in
+    let given = c.in_ok-place.ensures in
+    let more : List Sums = c.give.new.sums.items in
+    let places : List ℕ = places_of base c.give.new.numbers.items in
+    let count = length-places base c.give.new.numbers.items ∙ given.count ∙ sym (length-places base numbers) in
+    let left_is = c.place_of-left-2.ensures ∙ ap (λ (xs : List ℕ). place_at (places_of base xs) arc.from) c.deref-2.ensures.value in
+    let from_is : c.index-2.result.now ≡ sums_at old arc.from =
+    given_at base numbers sums old c.self.invariant.held c.self.view_is places more given.held.held given.kept count arc.from c.place_of-left-2.result c.index-2.result.now c.requires.from left_is c.index-2.ensures in
+    let h = c.led_on.ensures in
+    let none = c.if-place-gt0.false in
+    let done : IsJoinedOne arc old (placed places (set more c.in_ok-place.place c.led_on.result)) =
+    joined_given base numbers sums old c.self.invariant.held c.self.view_is arc c.requires.from c.requires.to c.index-2.result.now from_is places more
+    given.held.held given.kept count c.in_ok-place.place c.led_on.result (omega arith) given.place given.some
+    (record { greatest = h.greatest; least = h.least; bounded = λ most from to. h.bounded most from }) in
+    done.joined.least
 
 pub returns-clause-bounded : goal.returns-clause-bounded
 returns-clause-bounded c =
-    let h = c.in_ok-place.ensures in
     let base : ℕ = c.self.inside.base in
-    let before : List ℕ = places_of base c.self.inside.numbers.items in
-    let places : List ℕ = places_of base c.hold.new.numbers.items in
-    let sums : List Sums = c.hold.new.sums.items in
+    let numbers : List ℕ = c.self.inside.numbers.items in
+    let sums : List Sums = c.self.inside.sums.items in
     let old : List Sums = c.args.self.now in
-    let place : ℕ = c.in_ok-place.place in
-    let kept : (other : ℕ) → sums_at (placed places sums) other ≡ sums_at old other = λ other. h.kept other ∙ ap (λ (v : List Sums). sums_at v other) c.self.view_is in
-    let count : length places ≡ length old =
-    length-places base c.hold.new.numbers.items ∙ h.count ∙ sym (length-places base c.self.inside.numbers.items) ∙ sym (length-placed before c.self.inside.sums.items) ∙ ap (λ (v : List Sums). length v) c.self.view_is in
-    let inside : c.args.arc.to < length places = let here = c.requires.to in omega arith in
-    let own = put_own places sums old h.held.held kept c.args.arc.to place inside h.place h.some c.join_rows.new.sums in
-    let to = there places sums old h.held.held kept c.args.arc.to place inside h.place h.some c.args.arc.to place c.index_mut.result.now inside h.place c.index_mut.ensures.value in
-    let from_inside : c.args.arc.from < length places = let here = c.requires.from in omega arith in
-    let from = there places sums old h.held.held kept c.args.arc.to place inside h.place h.some c.args.arc.from c.place_of-left.result c.index.result.now from_inside
-    (c.place_of-left.ensures ∙ ap (λ (xs : List ℕ). place_at (places_of base xs) c.args.arc.from) c.deref.ensures.value) c.index.ensures in
-    λ most from_most to_most.
-    subst (λ (s : Sums). IsBounded (most + 1000000000) s) (sym own)
-    (c.join_rows.ensures.bounded most (subst (λ (s : Sums). IsBounded most s) (sym from) from_most) (subst (λ (s : Sums). IsBounded most s) (sym to) to_most))
+    let arc : TimingArc = c.args.arc in
+    let place_is = c.place_of-place.ensures ∙ ap (λ (xs : List ℕ). place_at (places_of base xs) arc.to) c.deref.ensures.value in
+    let given = c.in_ok-place.ensures in
+    let more : List Sums = c.give.new.sums.items in
+    let places : List ℕ = places_of base c.give.new.numbers.items in
+    let count = length-places base c.give.new.numbers.items ∙ given.count ∙ sym (length-places base numbers) in
+    let left_is = c.place_of-left-2.ensures ∙ ap (λ (xs : List ℕ). place_at (places_of base xs) arc.from) c.deref-2.ensures.value in
+    let from_is : c.index-2.result.now ≡ sums_at old arc.from =
+    given_at base numbers sums old c.self.invariant.held c.self.view_is places more given.held.held given.kept count arc.from c.place_of-left-2.result c.index-2.result.now c.requires.from left_is c.index-2.ensures in
+    let h = c.led_on.ensures in
+    let none = c.if-place-gt0.false in
+    let done : IsJoinedOne arc old (placed places (set more c.in_ok-place.place c.led_on.result)) =
+    joined_given base numbers sums old c.self.invariant.held c.self.view_is arc c.requires.from c.requires.to c.index-2.result.now from_is places more
+    given.held.held given.kept count c.in_ok-place.place c.led_on.result (omega arith) given.place given.some
+    (record { greatest = h.greatest; least = h.least; bounded = λ most from to. h.bounded most from }) in
+    done.joined.bounded
+
+pub led_on-requires-clause-others_bounded : goal.led_on-requires-clause-others_bounded
+led_on-requires-clause-others_bounded c =
+    let base : ℕ = c.self.inside.base in
+    let numbers : List ℕ = c.self.inside.numbers.items in
+    let sums : List Sums = c.self.inside.sums.items in
+    let old : List Sums = c.args.self.now in
+    let arc : TimingArc = c.args.arc in
+    let given = c.in_ok-place.ensures in
+    let more : List Sums = c.give.new.sums.items in
+    let places : List ℕ = places_of base c.give.new.numbers.items in
+    let count = length-places base c.give.new.numbers.items ∙ given.count ∙ sym (length-places base numbers) in
+    let left_is = c.place_of-left-2.ensures ∙ ap (λ (xs : List ℕ). place_at (places_of base xs) arc.from) c.deref-2.ensures.value in
+    let from_is : c.index-2.result.now ≡ sums_at old arc.from =
+    given_at base numbers sums old c.self.invariant.held c.self.view_is places more given.held.held given.kept count arc.from c.place_of-left-2.result c.index-2.result.now c.requires.from left_is c.index-2.ensures in
+    subst (λ (s : Sums). IsBounded 1000000000000000 s) (sym from_is) c.requires.from_bounded

@@ -1,0 +1,4 @@
+pub mod Setting
+pub mod Leading
+pub mod Noting
+pub mod Counting

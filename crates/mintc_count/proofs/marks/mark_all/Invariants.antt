@@ -1,0 +1,16 @@
+use Rattle.std.proofs.Common.{◌≡◌, ◌-◌, min, length}
+use Rattle.mintc_paths.specs.Awake.{IsAwake}
+use Rattle.mintc_count.specs.Marks.{AreMarksAlong, AreMarksReached}
+use Rattle.mintc_count.proofs.marks.mark_all.Given as goal
+
+-- the marks along the arcs so far, and what is awake from here on
+abbrev pub invariant-loop-place : goal.invariant-loop-place
+invariant-loop-place l = record {
+  along : AreMarksAlong (length l.fn.marks) l.flat.arcs l.order (min l.place (length l.order)) l.course.rows.of_bits.items l.first l.lanes l.marks;
+  marked : AreMarksReached l.marks l.reached;
+  awake : IsAwake l.course.along.items l.place l.reached l.awake;
+  count : length l.marks ≡ length l.fn.marks;
+}
+
+abbrev pub decreases-loop-place : goal.decreases-loop-place
+decreases-loop-place l = length l.course.along.items - l.place

@@ -1,0 +1,30 @@
+-- How many pairs a design has.
+use Rattle.std.specs.Prelude.{◌≡◌, ◌<◌, ◌≤◌, ◌+◌, ◌*◌, ℕ, List, length}
+use Rattle.mintc_timing.specs.declared.parts.Pair.{Pair}
+use Rattle.mintc_timing.specs.Design.{Design}
+use Rattle.mintc_timing.specs.Paths.{IsPath, ArePairs, HasExtremes, input_of}
+use Rattle.mintc_count.specs.declared.marks.Marks.{Marks}
+use Rattle.mintc_paths.specs.Found.{ArePairsBefore}
+use Rattle.mintc_count.specs.Marks.{mark_in, marks_at}
+
+-- The design has so many pairs.
+pub record IsPairCount (design : Design) (count : ℕ) : Type 0 where
+  pub pairs : List Pair
+  pub are_pairs : ArePairs design pairs
+  pub is_count : length pairs ≡ count
+
+-- The design has so many pairs before elements `from` and `to`.
+pub record IsCountBefore (design : Design) (from to count : ℕ) : Type 0 where
+  pub pairs : List Pair
+  pub are_pairs : ArePairsBefore design from to pairs
+  pub is_count : length pairs ≡ count
+  pub few : count ≤ 2000 * from + to
+
+-- The mark is set exactly where the design has a pair of elements `from` and `to`.
+pub record IsPairMark (design : Design) (from to mark : ℕ) : Type 0 where
+  pub sound : mark ≡ 1 → (pair : Pair) × HasExtremes design pair × (pair.from ≡ from) × (pair.to ≡ to)
+  pub whole : (path : List ℕ) → IsPath design.arcs from path (input_of to) → mark ≡ 1
+
+-- The marks at the inputs are those of the pairs from an element, in this lane.
+abbrev pub AreEndsOf : Design → ℕ → ℕ → List Marks → Type 0
+AreEndsOf design from lane ends = (to : ℕ) → to < length design.elements → IsPairMark design from to (mark_in (marks_at ends to) lane)

@@ -1,5 +1,0 @@
-use Rattle.mintc_paths.specs.Count.{IsCountBefore}
-use Rattle.mintc_paths.proofs.count.count_from.Given as goal
-
-abbrev pub invariant-loop-to : goal.invariant-loop-to
-invariant-loop-to l = IsCountBefore l.flat l.element l.to l.count
