@@ -2,3 +2,4 @@ pub mod Setting
 pub mod Leading
 pub mod Noting
 pub mod Counting
+pub mod Listing

@@ -3,29 +3,39 @@ ghost use Rattle.std.specs.Prelude.{◌≡◌, ◌<◌, ◌≤◌, ◌+◌, ◌*
 ghost use Rattle.mintc_text.specs.Stops.{StopsAt};
 ghost use Rattle.mintc_timing.specs.Order.{IsOrder, ArePathsShort};
 ghost use Rattle.mintc_paths.specs.Awake.{IsReady};
-ghost use Rattle.mintc_count.specs.Count.{AreEndsOf, IsCountBefore, IsPairCount};
-ghost use Rattle.mintc_count.specs.Marks.{AreMarksReached};
+ghost use Rattle.mintc_count.specs.Count.{AreEndsOf, AreListed, IsCountBefore, IsPairCount};
+ghost use Rattle.mintc_count.specs.Marks.{marks_at, AreMarksReached};
 ghost use Rattle.mintc_paths.specs.Refusals.{IsExtremesRefusal};
 ghost use Rattle.mintc_paths.specs.Sums.{IsCourse};
 
-use crate::marks::{Marks, NO_MARKS, gather, mark_all, mark_of};
+use crate::marks::{Marks, NO_MARKS, gather, list_reached, mark_all, mark_of};
 use mintc_paths::{Awake, Course, are_plainly_short, course_of, extremes};
 use mintc_text::{Kind, Refusal, Stop};
 use mintc_timing::{Flat, Order};
 use std::alloc::{AllocError, Global};
 
-/// The number of pairs before and from an element, whose marks at the inputs are in this lane.
-fn count_from(count: u64, flat: &Flat, ends: &[Marks], element: u32, lane: usize) -> u64
+/// The number of pairs before and from an element, whose marks at the inputs are in this lane. No path leads to an input that
+/// isn't listed.
+fn count_from(
+    count: u64,
+    flat: &Flat,
+    ends: &[Marks],
+    listed: &[u32],
+    element: u32,
+    lane: usize,
+) -> u64
     requires inputs { length ends.now ≡ length flat.now.elements }
     requires element { element < length flat.now.elements }
     requires lane { lane < 256 }
     requires ends { AreEndsOf flat.now element lane ends.now }
+    requires listed { AreListed (λ to. marks_at ends.now to ≡ NO_MARKS) (length flat.now.elements) listed.now }
     requires count { IsCountBefore flat.now element 0 count }
     ensures { IsCountBefore flat.now (element + 1) 0 result }
 {
     let _elements = flat.elements();
     let mut count = count;
-    for to in 0..ends.len() {
+    for number in 0..listed.len() {
+        let to = listed[number] as usize;
         count += mark_of(&ends[to], lane);
     }
     count
@@ -41,9 +51,10 @@ fn count_block(
     reached: &mut [bool],
     awake: &mut Awake,
     ends: &mut [Marks],
+    listed: &mut Vec<u32>,
     first: u32,
     lanes: usize,
-) -> u64
+) -> Result<u64, AllocError>
     requires bits { length marks.old ≡ 2 * length flat.now.elements + length flat.now.inner }
     requires inputs { length ends.old ≡ length flat.now.elements }
     requires order { IsOrder flat.now.arcs order.now }
@@ -55,16 +66,17 @@ fn count_block(
     requires ready { IsReady (length course.now.along.items) awake.old }
     ensures marked { AreMarksReached marks.new reached.new }
     ensures ready { IsReady (length course.now.along.items) awake.new }
-    ensures count { IsCountBefore flat.now (first + lanes) 0 result }
+    ensures count { IfOk result (IsCountBefore flat.now (first + lanes) 0) }
 {
-    let _elements = flat.elements();
+    let elements = flat.elements().len() as u32;
     mark_all(marks, reached, awake, flat, order, course, first, lanes);
     gather(ends, marks, &course.rows);
+    list_reached(listed, reached, &course.rows, elements)?;
     let mut count = count;
     for lane in 0..lanes {
-        count = count_from(count, flat, ends, first + lane as u32, lane);
+        count = count_from(count, flat, ends, listed, first + lane as u32, lane);
     }
-    count
+    Ok(count)
 }
 
 /// The number of all pairs, along the course.
@@ -85,6 +97,7 @@ fn count_along(
     let mut reached = vec![in alloc; false; bits]?;
     let mut awake = Awake::new(alloc, course.along.len())?;
     let mut ends = vec![in alloc; NO_MARKS; elements]?;
+    let mut listed = Vec::new(alloc);
     let mut count = 0;
     let mut first = 0;
     while first < elements {
@@ -98,9 +111,10 @@ fn count_along(
             &mut reached,
             &mut awake,
             &mut ends,
+            &mut listed,
             first as u32,
             lanes,
-        );
+        )?;
         first += lanes;
     }
     Ok(count)

@@ -1,15 +1,17 @@
 //! Marks at bits, of up to 256 elements at a time: whether a path leads there from each of them.
-ghost use Rattle.std.specs.Prelude.{◌≡◌, ◌≢◌, ◌+◌, ◌*◌, ◌<◌, ◌≤◌, ℕ, length, max, slice_index_or, false};
+ghost use Rattle.std.specs.Prelude.{◌≡◌, ◌≢◌, ◌+◌, ◌*◌, ◌<◌, ◌≤◌, ℕ, List, length, max, slice_index_or, false, OnOk};
 ghost use Rattle.mintc_timing.specs.Order.{IsOrder};
 ghost use Rattle.mintc_timing.specs.Paths.{input_of};
 ghost use Rattle.mintc_timing.specs.declared.parts.TimingArc.{TimingArc};
 ghost use Rattle.mintc_paths.specs.Awake.{IsReady, IsAwake};
 ghost use Rattle.mintc_paths.specs.Leaving.{AreLeaving};
 ghost use Rattle.mintc_paths.specs.Sums.{row_of, AreRows, IsCourse};
+ghost use Rattle.mintc_count.specs.Count.{AreListed};
 ghost use Rattle.mintc_count.specs.Marks.{mark_in, marks_at, AreMarksBegun, AreMarksAlong, AreMarksReached};
 
 use mintc_paths::{Awake, Course, Rows};
 use mintc_timing::{Flat, Order, TimingArc};
+use std::alloc::AllocError;
 
 /// The marks of 256 elements, a bit for each.
 #[derive(Clone, Copy)]
@@ -166,4 +168,27 @@ pub fn gather(ends: &mut [Marks], marks: &[Marks], rows: &Rows)
     for to in 0..ends.len() {
         ends[to] = marks[rows.of_bits[2 * to] as usize];
     }
+}
+
+/// Lists the elements whose inputs are reached, in ascending order.
+pub fn list_reached(
+    listed: &mut Vec<u32>,
+    reached: &[bool],
+    rows: &Rows,
+    elements: u32,
+) -> Result<(), AllocError>
+    requires limit { elements ≤ 2000 }
+    requires inputs { 2 * elements ≤ length reached.now }
+    requires rows { AreRows (length reached.now) rows.now }
+    ensures { OnOk result ((marks : List Marks) → AreMarksReached marks reached.now
+        → AreListed (λ to. marks_at marks (row_of rows.now.of_bits.items (input_of to)) ≡ NO_MARKS) elements listed.new.items) }
+{
+    listed.clear();
+    for to in 0..elements {
+        let row = rows.of_bits[2 * to as usize];
+        if reached[row as usize] {
+            listed.push(to)?;
+        }
+    }
+    Ok(())
 }

@@ -1,19 +1,25 @@
-use Rattle.std.proofs.Common.{◌<◌, ◌+◌, ℕ, length, arith, sym, subst}
-use Rattle.mintc_count.specs.Count.{IsCountBefore}
-use Rattle.mintc_count.specs.Marks.{marks_at}
-use Rattle.mintc_count.proofs.Counting.{IsCountBefore-next, IsCountBefore-more}
+use Rattle.std.proofs.Common.{◌≡◌, ◌<◌, ◌+◌, ◌∙◌, ℕ, List, length, get_or, arith, sym, subst, ap}
+use Rattle.std.proofs.lemmas.List.{get_or_default}
+use Rattle.mintc_count.specs.declared.marks.Marks.{Marks}
+use Rattle.mintc_count.specs.Marks.{marks_at, mark_in}
+use Rattle.mintc_count.proofs.Listing.{IsCountToEnd, IsCountToEnd-more, IsCountToEnd-next}
+use Rattle.mintc_paths.specs.Found.{end_at}
 use Rattle.mintc_count.proofs.count.count_from.Goals as goal
 
-pub loop-to-preserved : goal.loop-to-preserved
-loop-to-preserved c =
-    let to : ℕ = c.loop-to.to in
-    let inputs = c.requires.inputs in
-    let inside : to < length c.args.flat.now.elements = omega arith in
-    subst (λ k. IsCountBefore c.args.flat.now c.args.element (to + 1) (c.loop-to.count + k)) (sym c.mark_of-count.ensures)
-    (IsCountBefore-more c.args.flat.now c.args.element to c.loop-to.count c.loop-to.invariant (marks_at c.args.ends.now to) c.args.lane (c.requires.ends to inside))
+pub loop-number-preserved : goal.loop-number-preserved
+loop-number-preserved c =
+    let listed : List ℕ = c.args.listed.now in
+    let number : ℕ = c.loop-number.number in
+    let inside : number < length listed = c.loop-number-test.true in
+    subst (λ k. IsCountToEnd c.args.flat.now c.args.element listed (number + 1) (c.loop-number.count + k)) (sym c.mark_of-count.ensures)
+    (IsCountToEnd-more c.args.flat.now c.args.element c.args.lane c.requires.lane c.args.ends.now listed c.requires.ends c.requires.listed number c.loop-number.count inside c.loop-number.invariant)
 
 pub returns : goal.returns
 returns c =
-    let inputs = c.requires.inputs in
+    let listed : List ℕ = c.args.listed.now in
+    let test = c.loop-number-test.false in
+    let bound = c.loop-number.auto.number-end in
+    let is : c.loop-number.number ≡ length listed = omega arith in
     let limit = c.elements-elements.ensures.kept.elements in
-    IsCountBefore-next c.args.flat.now c.args.element c.loop-to.to c.loop-to.count (omega arith) (omega arith) c.loop-to.invariant
+    IsCountToEnd-next c.args.flat.now c.args.element c.args.lane c.requires.lane c.args.ends.now listed c.requires.ends c.requires.listed c.loop-number.count limit
+    (subst (λ k. IsCountToEnd c.args.flat.now c.args.element listed k c.loop-number.count) is c.loop-number.invariant)

@@ -1,5 +1,6 @@
-use Rattle.mintc_count.specs.Count.{IsCountBefore}
+use Rattle.mintc_count.proofs.Listing.{IsCountToEnd}
 use Rattle.mintc_count.proofs.count.count_from.Given as goal
 
-abbrev pub invariant-loop-to : goal.invariant-loop-to
-invariant-loop-to l = IsCountBefore l.flat l.element l.to l.count
+-- the pairs before this listed element
+abbrev pub invariant-loop-number : goal.invariant-loop-number
+invariant-loop-number l = IsCountToEnd l.flat l.element l.listed l.number l.count
