@@ -2,6 +2,7 @@
 use Rattle.std.proofs.Common.{◌≡◌, ◌≢◌, ◌<◌, ◌≤◌, ◌+◌, ◌*◌, ℕ, List, [], ◌∷◌, ◌++◌, length, length-append, arith, refl, ap, ◌∙◌, sym, subst, ⊎_elim}
 use Rattle.mintc_timing.specs.declared.parts.Pair.{Pair}
 use Rattle.mintc_timing.specs.Design.{Design}
+use Rattle.mintc_timing.specs.Limits.{IsDesign}
 use Rattle.mintc_timing.specs.Order.{IsOrder}
 use Rattle.mintc_timing.specs.Paths.{Leads, IsPath, HasExtremes, input_of, output_of}
 use Rattle.mintc_timing.proofs.Ordered.{all_among}
@@ -9,9 +10,11 @@ use Rattle.mintc_count.specs.Count.{AreEndsOf, IsCountBefore, IsPairMark}
 use Rattle.mintc_count.specs.declared.marks.Marks.{Marks}
 use Rattle.mintc_paths.specs.Found.{ArePairsBefore}
 use Rattle.mintc_count.specs.Marks.{AreMarksAlong, mark_in, marks_at}
-use Rattle.mintc_paths.specs.Sums.{row_of}
+use Rattle.mintc_paths.specs.Sums.{row_of, LeadsBack}
+use Rattle.mintc_paths.specs.Turned.{turned_design}
 use Rattle.mintc_paths.proofs.Existing.{pairs_exist_lem}
 use Rattle.mintc_paths.proofs.Finding.{ArePairsBefore-next, ArePairsBefore-none, ArePairsBefore-push, ArePairsBefore-skip}
+use Rattle.mintc_paths.proofs.TurnedPairs.{ArePairsBefore-back}
 use Rattle.mintc_count.proofs.Leading.{mark_is}
 
 pub IsCountBefore-none : (design : Design) → IsCountBefore design 0 0 0
@@ -75,3 +78,10 @@ IsCountBefore-next design from to count end limit h = let few = h.few in record 
   is_count = h.is_count;
   few = omega arith;
 }
+
+-- the pairs of the design turned round are as many as the design's
+pub IsCountBefore-back : (design : Design) → IsDesign design → (places elements : List ℕ) → LeadsBack (length design.elements) places elements → LeadsBack (length design.elements) elements places →
+    (count : ℕ) → IsCountBefore (turned_design places design) (length design.elements) 0 count → IsCountBefore design (length design.elements) 0 count
+IsCountBefore-back design kept places elements there back count h =
+    let turned = ArePairsBefore-back design kept places elements there back h.pairs h.are_pairs in
+    record { pairs = turned.0; are_pairs = turned.1; is_count = turned.2 ∙ h.is_count; few = h.few }

@@ -2,6 +2,7 @@
 //! along the arcs as `mintc_paths` carries sums.
 #![tactic(auto)]
 
+mod back;
 mod count;
 mod marks;
 

@@ -1,16 +1,16 @@
 //! Marks at bits, of up to 256 elements at a time: whether a path leads there from each of them.
 ghost use Rattle.std.specs.Prelude.{◌≡◌, ◌≢◌, ◌+◌, ◌*◌, ◌<◌, ◌≤◌, ℕ, List, length, max, slice_index_or, false, OnOk};
-ghost use Rattle.mintc_timing.specs.Order.{IsOrder};
 ghost use Rattle.mintc_timing.specs.Paths.{input_of};
 ghost use Rattle.mintc_timing.specs.declared.parts.TimingArc.{TimingArc};
 ghost use Rattle.mintc_paths.specs.Awake.{IsReady, IsAwake};
 ghost use Rattle.mintc_paths.specs.Leaving.{AreLeaving};
-ghost use Rattle.mintc_paths.specs.Sums.{row_of, AreRows, IsCourse};
+ghost use Rattle.mintc_paths.specs.Ordered.{Ordered, IsCourseOf};
+ghost use Rattle.mintc_paths.specs.Sums.{row_of, AreRows};
 ghost use Rattle.mintc_count.specs.Count.{AreListed};
 ghost use Rattle.mintc_count.specs.Marks.{mark_in, marks_at, AreMarksBegun, AreMarksAlong, AreMarksReached};
 
 use mintc_paths::{Awake, Course, Rows};
-use mintc_timing::{Flat, Order, TimingArc};
+use mintc_timing::TimingArc;
 use std::alloc::AllocError;
 
 /// The marks of 256 elements, a bit for each.
@@ -131,24 +131,20 @@ pub fn mark_all(
     marks: &mut [Marks],
     reached: &mut [bool],
     awake: &mut Awake,
-    flat: &Flat,
-    order: &Order,
     course: &Course,
     first: u32,
     lanes: usize,
 )
-    requires bits { length marks.old ≡ 2 * length flat.now.elements + length flat.now.inner }
-    requires order { IsOrder flat.now.arcs order.now }
-    requires course { IsCourse (length marks.old) flat.now.arcs order.now course.now }
+    ghost of: { Ordered }
+    requires course { IsCourseOf (length marks.old) of course.now }
     requires lanes { lanes ≤ 256 }
-    requires elements { first + lanes ≤ length flat.now.elements }
+    requires elements { first + lanes ≤ length of.design.elements }
     requires marked { AreMarksReached marks.old reached.old }
     requires ready { IsReady (length course.now.along.items) awake.old }
     ensures marked { AreMarksReached marks.new reached.new }
     ensures ready { IsReady (length course.now.along.items) awake.new }
-    ensures along { AreMarksAlong (length marks.old) flat.now.arcs order.now (length order.now) course.now.rows.of_bits.items first lanes marks.new }
+    ensures along { AreMarksAlong (length marks.old) of.design.arcs of.order (length of.order) course.now.rows.of_bits.items first lanes marks.new }
 {
-    let _elements = flat.elements();
     begin(marks, reached, awake, course, first, lanes);
     let mut place = awake.places.next(0);
     while place < course.along.len() {

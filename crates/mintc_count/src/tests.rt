@@ -42,6 +42,24 @@ fn listed(rt: &impl Abort, alloc: Global, text: &str) -> Result<u64, Stop> {
     Ok(pairs.len() as u64)
 }
 
+const FEW: Case = Case {
+    name: "few inputs",
+    elements: 6,
+    inner: 1,
+    arcs: &[
+        "q0 n0 1 1",
+        "q1 n0 2 2",
+        "q2 n0 3 3",
+        "q3 n0 4 4",
+        "q4 n0 5 5",
+        "q5 n0 6 6",
+        "n0 d1 0 0",
+        "n0 d4 7 8",
+        "q2 d3 9 9",
+        "q2 d4 1 1",
+    ],
+};
+
 const NINE: Case = Case {
     name: "nine elements",
     elements: 9,
@@ -220,6 +238,14 @@ fn pairs_are_counted(rt: HostRuntime) -> Result<(), Fail> {
         let count = counted(&rt, alloc, &text).ok().ok_or(case.name)?;
         assert!(rt; count == pairs, "{}", case.name);
     }
+    Ok(())
+}
+
+#[test]
+fn pairs_are_counted_from_few_inputs_back(rt: HostRuntime) -> Result<(), Fail> {
+    let alloc = rt.alloc();
+    let text = text_of(alloc, &FEW).ok().ok_or("no memory")?;
+    assert_eq!(rt; counted(&rt, alloc, &text).ok(), Some(13));
     Ok(())
 }
 

@@ -13,7 +13,7 @@ use Rattle.mintc_timing.specs.Design.{Design}
 use Rattle.mintc_timing.specs.Limits.{IsDesign}
 use Rattle.mintc_timing.specs.Paths.{IsPath, input_of, HasExtremes, ComesBefore}
 use Rattle.mintc_paths.specs.declared.found.Found.{Found}
-use Rattle.mintc_paths.specs.Found.{Precede, IsFoundBefore}
+use Rattle.mintc_paths.specs.Found.{Precede, ArePairsBefore, IsFoundBefore}
 use Rattle.mintc_paths.specs.Sums.{row_of, LeadsBack}
 use Rattle.mintc_paths.specs.Turned.{turned_design, pair_back, key_of}
 use Rattle.mintc_paths.proofs.TurnedPaths.{forth, HasExtremes-back}
@@ -176,29 +176,23 @@ sorted_from_rising (x ∷ xs) h (suc i) zero d order low = absurd (omega arith)
 sorted_from_rising (x ∷ xs) h (suc i) (suc j) d order low = sorted_from_rising xs h.1 i j d (omega arith) (omega arith)
 
 module _ (design : Design) (kept : IsDesign design) (places elements : List ℕ) (there : LeadsBack (length design.elements) places elements) (back : LeadsBack (length design.elements) elements places)
-    (found : Found) (h : IsFoundBefore (turned_design places design) (length design.elements) 0 found) where
-  pub in_reach : found.count ≤ 200000 → All (λ (p : Pair). p.from < length design.elements) found.pairs.items
-  in_reach few k d low =
-      let count = h.has_pairs.count in
-      let at = subst (λ ps. All (HasExtremes (turned_design places design)) ps) (sym (h.has_pairs.kept (omega arith))) h.are_pairs.each in
-      (at k d low).from
+    (old : List Pair) (h : ArePairsBefore (turned_design places design) (length design.elements) 0 old) where
+  module _ (pairs : List Pair) (moved : IsPermutation (map (pair_back elements) old) pairs) (sorted : IsNonDecreasingBy key_of pairs) where
+    each_inside : All (λ (p : Pair). (p.from < length design.elements) × (p.to < length design.elements)) old
+    each_inside k d low = let extremes = h.each k d low in (extremes.from, extremes.to)
 
-  module _ (pairs : List Pair) (moved : IsPermutation (map (pair_back elements) h.pairs) pairs) (sorted : IsNonDecreasingBy key_of pairs) where
-    each_inside : All (λ (p : Pair). (p.from < length design.elements) × (p.to < length design.elements)) h.pairs
-    each_inside k d low = let extremes = h.are_pairs.each k d low in (extremes.from, extremes.to)
-
-    each_back : All (HasExtremes design) (map (pair_back elements) h.pairs)
+    each_back : All (HasExtremes design) (map (pair_back elements) old)
     each_back k d low =
-        let count = length-map h.pairs (pair_back elements) in
-        let inside : k < length h.pairs = omega arith in
-        subst (λ p. HasExtremes design p) (sym (get_or-map (pair_back elements) h.pairs k d d inside)) (HasExtremes-back design places elements kept there back (get_or h.pairs k d) (h.are_pairs.each k d inside))
+        let count = length-map old (pair_back elements) in
+        let inside : k < length old = omega arith in
+        subst (λ p. HasExtremes design p) (sym (get_or-map (pair_back elements) old k d d inside)) (HasExtremes-back design places elements kept there back (get_or old k d) (h.each k d inside))
 
     each_sorted : All (HasExtremes design) pairs
-    each_sorted = All-permutation (HasExtremes design) (map (pair_back elements) h.pairs) pairs moved each_back
+    each_sorted = All-permutation (HasExtremes design) (map (pair_back elements) old) pairs moved each_back
 
     apart : AreApart pairs
-    apart = AreApart-permutation (map (pair_back elements) h.pairs) pairs moved
-        (AreApart-back (length design.elements) kept.elements elements places back h.pairs each_inside h.are_pairs.ascending)
+    apart = AreApart-permutation (map (pair_back elements) old) pairs moved
+        (AreApart-back (length design.elements) kept.elements elements places back old each_inside h.ascending)
 
     whole : (j l : ℕ) (path : List ℕ) → Precede (length design.elements) 0 j l → l < length design.elements → IsPath design.arcs j path (input_of l) →
         (pair : Pair) × Contains pairs pair × (pair.from ≡ j) × (pair.to ≡ l)
@@ -206,45 +200,65 @@ module _ (design : Design) (kept : IsDesign design) (places elements : List ℕ)
     whole j l path (inl from) below is_path =
         let n : ℕ = length design.elements in
         let turned = forth n (length design.inner) places elements there back design.arcs kept.each_arc j l path from below is_path in
-        let at = h.are_pairs.whole (row_of places l) j (reverse path) (inl (there.inside l below)) from turned in
-        let in_map : Contains (map (pair_back elements) h.pairs) (pair_back elements at.0) = (
+        let at = h.whole (row_of places l) j (reverse path) (inl (there.inside l below)) from turned in
+        let in_map : Contains (map (pair_back elements) old) (pair_back elements at.0) = (
           at.1.0,
-          omega (arith, at.1.1, length-map h.pairs (pair_back elements)),
-          get_or-map (pair_back elements) h.pairs at.1.0 at.0 (pair_back elements at.0) at.1.1 ∙ ap (pair_back elements) at.1.2,
+          omega (arith, at.1.1, length-map old (pair_back elements)),
+          get_or-map (pair_back elements) old at.1.0 at.0 (pair_back elements at.0) at.1.1 ∙ ap (pair_back elements) at.1.2,
         ) in
-        (pair_back elements at.0, Contains-permutation (map (pair_back elements) h.pairs) pairs (pair_back elements at.0) moved in_map, at.3, ap (row_of elements) at.2 ∙ there.leads l below)
+        (pair_back elements at.0, Contains-permutation (map (pair_back elements) old) pairs (pair_back elements at.0) moved in_map, at.3, ap (row_of elements) at.2 ∙ there.leads l below)
 
-    IsFoundBefore-moved : (new : Found) → new.count ≡ found.count → (length pairs ≤ 200000 → new.pairs.items ≡ pairs) → IsFoundBefore design (length design.elements) 0 new
-    IsFoundBefore-moved new same_count items = record {
-      pairs = pairs;
-      are_pairs = record {
-        each = each_sorted;
-        ascending = ascends (length design.elements) kept.elements pairs (λ k d low. (each_sorted k d low).to) apart sorted;
-        earlier = λ k d low. inl (each_sorted k d low).from;
-        whole = whole;
-      };
-      has_pairs = record {
-        count = let count = h.has_pairs.count in let same = counts in omega arith;
-        kept = items;
-      };
-      few = let most = h.few in let same = counts in omega arith;
+    ArePairsBefore-moved : ArePairsBefore design (length design.elements) 0 pairs
+    ArePairsBefore-moved = record {
+      each = each_sorted;
+      ascending = ascends (length design.elements) kept.elements pairs (λ k d low. (each_sorted k d low).to) apart sorted;
+      earlier = λ k d low. inl (each_sorted k d low).from;
+      whole = whole;
     }
-      where
-        counts : length pairs ≡ length h.pairs
-        counts = length_permutation (map (pair_back elements) h.pairs) pairs moved ∙ length-map h.pairs (pair_back elements)
+
+    count_moved : length pairs ≡ length old
+    count_moved = length_permutation (map (pair_back elements) old) pairs moved ∙ length-map old (pair_back elements)
+
+  -- The design has as many pairs as the one turned round.
+  pub ArePairsBefore-back : (pairs : List Pair) × ArePairsBefore design (length design.elements) 0 pairs × (length pairs ≡ length old)
+  ArePairsBefore-back =
+      let order = sorted_of (map (pair_back elements) old) in
+      let sorted = sorted_from_rising order.0 order.2 in
+      (order.0, ArePairsBefore-moved order.0 order.1 sorted, count_moved order.0 order.1 sorted)
+
+module _ (design : Design) (kept : IsDesign design) (places elements : List ℕ) (there : LeadsBack (length design.elements) places elements) (back : LeadsBack (length design.elements) elements places)
+    (found : Found) (h : IsFoundBefore (turned_design places design) (length design.elements) 0 found) where
+  pub in_reach : found.count ≤ 200000 → All (λ (p : Pair). p.from < length design.elements) found.pairs.items
+  in_reach few k d low =
+      let count = h.has_pairs.count in
+      let at = subst (λ ps. All (HasExtremes (turned_design places design)) ps) (sym (h.has_pairs.kept (omega arith))) h.are_pairs.each in
+      (at k d low).from
+
+  IsFoundBefore-moved : (pairs : List Pair) → ArePairsBefore design (length design.elements) 0 pairs → length pairs ≡ length h.pairs →
+      (new : Found) → new.count ≡ found.count → (length pairs ≤ 200000 → new.pairs.items ≡ pairs) → IsFoundBefore design (length design.elements) 0 new
+  IsFoundBefore-moved pairs are_pairs same new same_count items = record {
+    pairs = pairs;
+    are_pairs = are_pairs;
+    has_pairs = record {
+      count = let count = h.has_pairs.count in omega arith;
+      kept = items;
+    };
+    few = let most = h.few in omega arith;
+  }
 
   pub IsFoundBefore-back : found.count ≤ 200000 → (pairs : List Pair) → IsPermutation (map (pair_back elements) found.pairs.items) pairs → IsNonDecreasingBy key_of pairs →
       (new : Found) → new.count ≡ found.count → new.pairs.items ≡ pairs → IsFoundBefore design (length design.elements) 0 new
   IsFoundBefore-back few pairs moved sorted new same_count items =
       let count = h.has_pairs.count in
       let is = h.has_pairs.kept (omega arith) in
-      IsFoundBefore-moved pairs (subst (λ ps. IsPermutation (map (pair_back elements) ps) pairs) is moved) sorted new same_count (λ g. items)
+      let back_moved : IsPermutation (map (pair_back elements) h.pairs) pairs = subst (λ ps. IsPermutation (map (pair_back elements) ps) pairs) is moved in
+      IsFoundBefore-moved pairs (ArePairsBefore-moved design kept places elements there back h.pairs h.are_pairs pairs back_moved sorted)
+      (count_moved design kept places elements there back h.pairs h.are_pairs pairs back_moved sorted) new same_count (λ g. items)
 
   -- where the pairs are more than are kept
   pub IsFoundBefore-many : 200000 < found.count → IsFoundBefore design (length design.elements) 0 found
   IsFoundBefore-many many =
-      let back_pairs : List Pair = map (pair_back elements) h.pairs in
-      let order = sorted_of back_pairs in
+      let back_pairs = ArePairsBefore-back design kept places elements there back h.pairs h.are_pairs in
       let count = h.has_pairs.count in
-      let same = length_permutation back_pairs order.0 order.1 ∙ length-map h.pairs (pair_back elements) in
-      IsFoundBefore-moved order.0 order.1 (sorted_from_rising order.0 order.2) found refl (λ g. absurd (omega arith))
+      let same = back_pairs.2 in
+      IsFoundBefore-moved back_pairs.0 back_pairs.1 same found refl (λ g. absurd (omega arith))

@@ -44,6 +44,8 @@ use route::best_path;
 pub use rows::{Course, Rows};
 use std::alloc::Global;
 use trace::Extreme;
+pub use turned::{places_along, turned_course};
+pub use ways::are_few_entered;
 use ways::find;
 
 /// All pairs of the design, in ascending order of their elements, with the least and the greatest sum of the listed

@@ -25,7 +25,7 @@ fn count_marked(marks: &[bool]) -> usize {
 }
 
 /// Whether inner bits enter the inputs of less than half as many elements as the outputs that enter inner bits.
-fn are_few_entered(alloc: Global, flat: &Flat) -> Result<bool, AllocError> {
+pub fn are_few_entered(alloc: Global, flat: &Flat) -> Result<bool, AllocError> {
     let elements = flat.elements().len();
     let mut entered = vec![in alloc; false; elements]?;
     let mut left = vec![in alloc; false; elements]?;
