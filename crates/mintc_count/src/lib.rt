@@ -7,6 +7,3 @@ mod count;
 mod marks;
 
 pub use count::count_pairs;
-
-#[cfg(test)]
-mod tests;

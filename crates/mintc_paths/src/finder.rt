@@ -19,6 +19,8 @@ use std::alloc::{AllocError, Global};
 pub struct Finder {
     steps: Steps,
     reached: Reached,
+    /// How many of the paths that were asked for the search hasn't found.
+    missed: u64,
 }
 
 impl Finder {
@@ -34,7 +36,11 @@ impl Finder {
     fn over(alloc: Global, system: &System) -> Result<Finder, AllocError> {
         let steps = Steps::new(alloc, system.flat(), system.order())?;
         let reached = Reached::new(alloc, steps.count())?;
-        Ok(Finder { steps, reached })
+        Ok(Finder {
+            steps,
+            reached,
+            missed: 0,
+        })
     }
 
     /// Takes the steps from a row to the rows up to the last one.
@@ -112,7 +118,7 @@ impl Finder {
     }
 
     /// A list of arcs that the search takes for a best path between two bits.
-    pub(crate) fn search(
+    fn search(
         &mut self,
         alloc: Global,
         extreme: Extreme,
@@ -149,7 +155,14 @@ impl Finder {
         if is_listed_with(extreme, system.flat(), &path, from, to, delay) {
             return Ok(Numbers::new(path));
         }
+        self.missed = self.missed.saturating_add(1);
         best_path(alloc, extreme, system, from, to)
+    }
+
+    /// How many of the paths that were asked for the search hasn't found, so that a sweep over all arcs had to. Nothing is
+    /// promised of it; tests see that it stays 0.
+    pub fn missed(&self) -> u64 {
+        self.missed
     }
 
     /// The arcs of a listed path from one element to another with the greatest sum, which is `delay`, in femtoseconds. It

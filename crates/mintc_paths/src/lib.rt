@@ -93,6 +93,3 @@ pub fn shortest_path_of(
 {
     best_path(alloc, Extreme::Least, system, from, to)
 }
-
-#[cfg(test)]
-mod tests;

@@ -1,9 +1,9 @@
 //! Tests of what no clause says: small designs whose pairs are listed and counted, and refusals.
-use super::*;
+use mintc_count::count_pairs;
+use mintc_lines::read_table;
 use mintc_order::order;
 use mintc_paths::extremes;
 use mintc_text::{Refusal, Stop};
-use mintc_timing::read_table;
 use std::alloc::{AllocError, Global};
 use std::process::Abort;
 use std::test::Fail;

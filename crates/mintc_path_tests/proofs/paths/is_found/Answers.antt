@@ -4,7 +4,7 @@ use Rattle.std.proofs.lemmas.Int.{to_z-of_z}
 use Rattle.std.proofs.lemmas.List.{get_or_default}
 use Rattle.mintc_timing.specs.declared.parts.Pair.{Pair}
 use Rattle.mintc_timing.specs.Design.{no_pair}
-use Rattle.mintc_paths.proofs.tests.is_found.Goals as goal
+use Rattle.mintc_path_tests.proofs.paths.is_found.Goals as goal
 
 -- a pair that is read is listed
 listed : (pairs all : List Pair) (n : ℕ) → pairs ≡ all → n < length all → Contains all (get_or pairs n no_pair)

@@ -3,12 +3,12 @@ ghost use Rattle.std.specs.Prelude.{◌<◌, length};
 ghost use Rattle.std.specs.Bool.{OnTrue};
 ghost use Rattle.mintc_paths.specs.Trace.{IsPairOf};
 
-use super::*;
-use crate::listed::is_listed_with;
 use mintc_lines::read_table;
 use mintc_order::order;
-use mintc_timing::TimingArc;
-use std::alloc::AllocError;
+use mintc_paths::{Finder, extremes, path_of, shortest_path_of};
+use mintc_text::{Kind, Refusal, Stop};
+use mintc_timing::{Pair, System, TimingArc};
+use std::alloc::{AllocError, Global};
 use std::process::Abort;
 use std::test::Fail;
 
@@ -353,29 +353,24 @@ fn paths_have_the_sums(rt: HostRuntime) -> Result<(), Fail> {
     Ok(())
 }
 
-/// Whether the search by itself finds such a path for the pair at this place.
-fn is_searched(
-    alloc: Global,
-    finder: &mut Finder,
-    extreme: Extreme,
-    system: &System,
-    place: usize,
-) -> bool
+/// Whether a path with the greatest sum is found for the pair at this place.
+fn is_found(alloc: Global, finder: &mut Finder, system: &System, place: usize) -> bool
     requires { place < length system.now.pairs }
 {
-    let Pair { from, to, min, max } = system.pairs()[place];
-    let (start, end) = (
-        from.saturating_mul(2).saturating_add(1),
-        to.saturating_mul(2),
-    );
-    let Ok(path) = finder.search(alloc, extreme, system.flat().arcs(), start, end) else {
-        return false;
-    };
-    let sum = match extreme {
-        Extreme::Greatest => max,
-        Extreme::Least => min,
-    };
-    is_listed_with(extreme, system.flat(), &path, from, to, sum)
+    let pair = system.pairs()[place];
+    finder
+        .path_of(alloc, system, pair.from, pair.to, pair.max)
+        .is_ok()
+}
+
+/// Whether a path with the least sum is found for the pair at this place.
+fn is_shortest_found(alloc: Global, finder: &mut Finder, system: &System, place: usize) -> bool
+    requires { place < length system.now.pairs }
+{
+    let pair = system.pairs()[place];
+    finder
+        .shortest_path_of(alloc, system, pair.from, pair.to, pair.min)
+        .is_ok()
 }
 
 /// Whether the search by itself finds both paths for each pair of a system.
@@ -384,13 +379,14 @@ fn are_all_searched(alloc: Global, system: &System) -> bool {
         return false;
     };
     for place in 0..system.pairs().len() {
-        for extreme in [Extreme::Greatest, Extreme::Least] {
-            if !is_searched(alloc, &mut finder, extreme, system, place) {
-                return false;
-            }
+        if !is_found(alloc, &mut finder, system, place) {
+            return false;
+        }
+        if !is_shortest_found(alloc, &mut finder, system, place) {
+            return false;
         }
     }
-    true
+    finder.missed() == 0
 }
 
 #[test]
@@ -425,26 +421,6 @@ fn searches_go_through_many_rows(rt: HostRuntime) -> Result<(), Fail> {
     assert_eq!(rt; system.pairs().len(), 3);
     assert!(rt; are_all_searched(alloc, &system));
     Ok(())
-}
-
-/// Whether a path with the greatest sum is found for the pair at this place.
-fn is_found(alloc: Global, finder: &mut Finder, system: &System, place: usize) -> bool
-    requires { place < length system.now.pairs }
-{
-    let pair = system.pairs()[place];
-    finder
-        .path_of(alloc, system, pair.from, pair.to, pair.max)
-        .is_ok()
-}
-
-/// Whether a path with the least sum is found for the pair at this place.
-fn is_shortest_found(alloc: Global, finder: &mut Finder, system: &System, place: usize) -> bool
-    requires { place < length system.now.pairs }
-{
-    let pair = system.pairs()[place];
-    finder
-        .shortest_path_of(alloc, system, pair.from, pair.to, pair.min)
-        .is_ok()
 }
 
 #[test]

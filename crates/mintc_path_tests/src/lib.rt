@@ -1,0 +1,8 @@
+//! Tests of pairs, their number and their paths, of what no clause says. They stand in a crate of their own, so that nothing is
+//! proved twice.
+#![tactic(auto)]
+
+#[cfg(test)]
+mod count;
+#[cfg(test)]
+mod paths;
