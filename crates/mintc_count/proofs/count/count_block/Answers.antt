@@ -1,4 +1,4 @@
-use Rattle.std.proofs.Common.{◌≡◌, ◌∙◌, length, arith}
+use Rattle.std.proofs.Common.{◌≡◌, ◌∙◌, length, arith, subst, sym}
 use Rattle.mintc_count.specs.declared.marks.TheConstants.{NO_MARKS}
 use Rattle.mintc_count.specs.Count.{AreListed}
 use Rattle.mintc_count.specs.Marks.{marks_at}
@@ -22,4 +22,5 @@ count_from-count-requires g c =
       inside = λ i low. let at = near.inside i low in omega arith;
       others = λ to low apart. c.gather.ensures to (omega arith) ∙ near.others to (omega arith) apart;
     } in
-    (omega arith, (limit, (omega arith, (omega arith, (ends, (listed, c.loop-lane.invariant))))))
+    (omega arith, (limit, (omega arith, (omega arith, (ends,
+      (subst (λ xs. AreListed (λ to. marks_at c.gather.new.ends to ≡ NO_MARKS) (length g.of.design.elements) xs) (sym c.deref.ensures.value) listed, c.loop-lane.invariant))))))
