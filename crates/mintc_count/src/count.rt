@@ -122,7 +122,7 @@ fn count_forth(
     count_along(alloc, course, elements)
 }
 
-/// The number of all pairs, by the way that has less to carry.
+/// The number of all pairs, by the way that has less to carry. Without inner bits that is from the outputs on.
 fn count_all(alloc: Global, flat: &Flat, order: &Order, course: Course) -> Result<u64, AllocError>
     requires order { IsOrder flat.now.arcs order.now }
     requires course { IsCourse (2 * length flat.now.elements + length flat.now.inner) flat.now.arcs order.now course }
@@ -130,7 +130,7 @@ fn count_all(alloc: Global, flat: &Flat, order: &Order, course: Course) -> Resul
     ensures few { IfOk result (λ count. count ≤ 4000000) }
 {
     let _elements = flat.elements();
-    if are_few_entered(alloc, flat)? {
+    if !flat.inner().items().is_empty() && are_few_entered(alloc, flat)? {
         return count_back(alloc, flat, order, course);
     }
     count_forth(alloc, flat, order, &course)
