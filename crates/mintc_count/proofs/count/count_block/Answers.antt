@@ -21,6 +21,19 @@ count_from-count-requires g c =
       ascending = near.ascending;
       inside = λ i low. let at = near.inside i low in omega arith;
       others = λ to low apart. c.gather.ensures to (omega arith) ∙ near.others to (omega arith) apart;
-    } in
-    (omega arith, (limit, (omega arith, (omega arith, (ends,
-      (subst (λ xs. AreListed (λ to. marks_at c.gather.new.ends to ≡ NO_MARKS) (length g.of.design.elements) xs) (sym c.deref.ensures.value) listed, c.loop-lane.invariant))))))
+    } in (
+      omega arith,
+      (
+        limit,
+        (
+          omega arith,
+          (
+            omega arith,
+            (
+              ends,
+              (subst (λ xs. AreListed (λ to. marks_at c.gather.new.ends to ≡ NO_MARKS) (length g.of.design.elements) xs) (sym c.deref.ensures.value) listed, c.loop-lane.invariant),
+            ),
+          ),
+        ),
+      ),
+    )
