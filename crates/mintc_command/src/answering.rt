@@ -46,11 +46,11 @@ fn answered(alloc: Global, job: Job, system: &System, file: &[u8]) -> Result<Ans
 
 /// The verdict on a certificate, from the texts of a design and of the certificate, none of them too long, or their first
 /// refusal.
-fn verdict_answer(alloc: Global, source: Source, texts: &[Bytes]) -> Result<Answer, Stop>
-    requires count { length texts.now ≡ length (content_roles (Command.OfDesign Job.Verify source)) }
-    requires short { AreShort texts.now }
-    ensures value { IfOk result (λ answer. IsContentAnswer (Command.OfDesign Job.Verify source) texts.now answer.status answer.text) }
-    ensures stop { IfErr result (StopsAt (IsContentRefusal (Command.OfDesign Job.Verify source) texts.now)) }
+fn verdict_answer(alloc: Global, source: Source, texts: &mut [Bytes]) -> Result<Answer, Stop>
+    requires count { length texts.old ≡ length (content_roles (Command.OfDesign Job.Verify source)) }
+    requires short { AreShort texts.old }
+    ensures value { IfOk result (λ answer. IsContentAnswer (Command.OfDesign Job.Verify source) texts.old answer.status answer.text) }
+    ensures stop { IfErr result (StopsAt (IsContentRefusal (Command.OfDesign Job.Verify source) texts.old)) }
 {
     let Ordered { flat, order } = match ordered_of(alloc, source, texts) {
         Ok(ordered) => ordered,
@@ -60,11 +60,16 @@ fn verdict_answer(alloc: Global, source: Source, texts: &[Bytes]) -> Result<Answ
 }
 
 /// The answer to a job on the texts of a design and of the file beside them, none of them too long, or their first refusal.
-fn design_answer(alloc: Global, job: Job, source: Source, texts: &[Bytes]) -> Result<Answer, Stop>
-    requires count { length texts.now ≡ length (content_roles (Command.OfDesign job source)) }
-    requires short { AreShort texts.now }
-    ensures value { IfOk result (λ answer. IsContentAnswer (Command.OfDesign job source) texts.now answer.status answer.text) }
-    ensures stop { IfErr result (StopsAt (IsContentRefusal (Command.OfDesign job source) texts.now)) }
+fn design_answer(
+    alloc: Global,
+    job: Job,
+    source: Source,
+    texts: &mut [Bytes],
+) -> Result<Answer, Stop>
+    requires count { length texts.old ≡ length (content_roles (Command.OfDesign job source)) }
+    requires short { AreShort texts.old }
+    ensures value { IfOk result (λ answer. IsContentAnswer (Command.OfDesign job source) texts.old answer.status answer.text) }
+    ensures stop { IfErr result (StopsAt (IsContentRefusal (Command.OfDesign job source) texts.old)) }
 {
     if let Job::Verify = job {
         return verdict_answer(alloc, source, texts);
@@ -77,11 +82,11 @@ fn design_answer(alloc: Global, job: Job, source: Source, texts: &[Bytes]) -> Re
 }
 
 /// The summary of a sample from its texts, none of them too long, or their first refusal.
-fn sample_answer(alloc: Global, number: u64, texts: &[Bytes]) -> Result<Answer, Stop>
-    requires count { length texts.now ≡ length (content_roles (Command.Sample number)) }
-    requires short { AreShort texts.now }
-    ensures value { IfOk result (λ answer. IsContentAnswer (Command.Sample number) texts.now answer.status answer.text) }
-    ensures stop { IfErr result (StopsAt (IsContentRefusal (Command.Sample number) texts.now)) }
+fn sample_answer(alloc: Global, number: u64, texts: &mut [Bytes]) -> Result<Answer, Stop>
+    requires count { length texts.old ≡ length (content_roles (Command.Sample number)) }
+    requires short { AreShort texts.old }
+    ensures value { IfOk result (λ answer. IsContentAnswer (Command.Sample number) texts.old answer.status answer.text) }
+    ensures stop { IfErr result (StopsAt (IsContentRefusal (Command.Sample number) texts.old)) }
 {
     let system = match system_of(alloc, Source::Files, texts) {
         Ok(system) => system,
@@ -95,10 +100,10 @@ fn sample_answer(alloc: Global, number: u64, texts: &[Bytes]) -> Result<Answer, 
 
 /// The answer to a command on the texts that it works on: the text of their first refusal, or what is answered where nothing
 /// is refused.
-fn answer_on(alloc: Global, command: Command, texts: &[Bytes]) -> Result<Answer, OutOfMemory>
-    requires count { length texts.now ≡ length (content_roles command) }
+fn answer_on(alloc: Global, command: Command, texts: &mut [Bytes]) -> Result<Answer, OutOfMemory>
+    requires count { length texts.old ≡ length (content_roles command) }
     requires in_range { IsNumberInRange command }
-    ensures value { IfOk result (λ answer. IsAnswerOn command texts.now answer.status answer.text) }
+    ensures value { IfOk result (λ answer. IsAnswerOn command texts.old answer.status answer.text) }
     ensures status { IfOk result (λ answer. IsOfCommand answer.status) }
 {
     if let Some(refusal) = too_long(command.content_roles(), texts) {
@@ -125,17 +130,21 @@ fn sample_texts(alloc: Global, number: u64) -> Result<[Bytes; 4], OutOfMemory>
 }
 
 /// The answer to a command, of the bytes of its files.
-pub fn answer_to(alloc: Global, command: Command, files: &[Bytes]) -> Result<Answer, OutOfMemory>
-    requires count { length files.now ≡ length (roles_of command) }
+pub fn answer_to(
+    alloc: Global,
+    command: Command,
+    files: &mut [Bytes],
+) -> Result<Answer, OutOfMemory>
+    requires count { length files.old ≡ length (roles_of command) }
     requires in_range { IsNumberInRange command }
-    ensures defined { IfOk result (λ answer. IsDefined command files.now answer.status answer.text) }
+    ensures defined { IfOk result (λ answer. IsDefined command files.old answer.status answer.text) }
     ensures status { IfOk result (λ answer. IsOfCommand answer.status) }
 {
     match command {
         Command::OfDesign { .. } | Command::Corners { .. } => answer_on(alloc, command, files),
         Command::Sample { number } => {
-            let texts = sample_texts(alloc, number)?;
-            answer_on(alloc, Command::Sample { number }, texts.as_slice())
+            let mut texts = sample_texts(alloc, number)?;
+            answer_on(alloc, Command::Sample { number }, texts.as_mut_slice())
         }
     }
 }

@@ -58,7 +58,7 @@ pub fn run<S: Shelf, O: Sink>(alloc: Global, words: &[String], shelf: &mut S, ou
         return write(out, Status::Usage, USAGE);
     };
     match read_files(alloc, shelf, &words[command.word_count()..]) {
-        Ok(files) => match answer_to(alloc, command, files.as_slice()) {
+        Ok(mut files) => match answer_to(alloc, command, files.as_mut_slice()) {
             Ok(answer) => write(out, answer.status, answer.text.items()),
             Err(OutOfMemory) => Status::OutOfMemory,
         },

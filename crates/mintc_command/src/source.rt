@@ -69,17 +69,36 @@ pub fn accepted_system(alloc: Global, flat: Flat) -> Result<System, Stop>
     }
 }
 
-/// The system of the design that the first files give, or the first refusal of these files.
-pub fn system_of(alloc: Global, source: Source, files: &[Bytes]) -> Result<System, Stop>
-    requires all { length (source_roles source) ≤ length files.now }
-    requires short { AreShort files.now }
-    ensures value { IfOk result (Gives source files.now) }
-    ensures stop { IfErr result (StopsAt (IsSourceRefused source files.now)) }
+/// Gives back the memory of the files of a design, which comes first. The file that stands after them stays.
+fn give_back(alloc: Global, source: Source, files: &mut [Bytes])
+    requires { AreShort files.old }
+    ensures own { own_file source files.new ≡ own_file source files.old }
+    ensures short { AreShort files.new }
+{
+    let count = match source {
+        Source::Table => 1,
+        Source::Files | Source::Liberty => 4,
+    };
+    for place in 0..files.len().min(count) {
+        files[place] = Bytes::new(Vec::new(alloc));
+    }
+}
+
+/// The system of the design that the first files give, or the first refusal of these files. The memory of these files is given
+/// back once the design is read.
+pub fn system_of(alloc: Global, source: Source, files: &mut [Bytes]) -> Result<System, Stop>
+    requires all { length (source_roles source) ≤ length files.old }
+    requires short { AreShort files.old }
+    ensures value { IfOk result (Gives source files.old) }
+    ensures stop { IfErr result (StopsAt (IsSourceRefused source files.old)) }
+    ensures own { own_file source files.new ≡ own_file source files.old }
+    ensures short { AreShort files.new }
 {
     let flat = match design_of(alloc, source, files) {
         Ok(flat) => flat,
         Err(stop) => return Err(stop),
     };
+    give_back(alloc, source, files);
     accepted_system(alloc, flat)
 }
 
@@ -91,16 +110,20 @@ pub struct Ordered {
 }
 
 /// The design that the first files give, where it has a system, or the first refusal of these files. Its pairs aren't listed.
-pub fn ordered_of(alloc: Global, source: Source, files: &[Bytes]) -> Result<Ordered, Stop>
-    requires all { length (source_roles source) ≤ length files.now }
-    requires short { AreShort files.now }
-    ensures value { IfOk result (λ ordered. GivesOrdered source files.now ordered.flat ordered.order) }
-    ensures stop { IfErr result (StopsAt (IsSourceRefused source files.now)) }
+/// The memory of these files is given back once the design is read.
+pub fn ordered_of(alloc: Global, source: Source, files: &mut [Bytes]) -> Result<Ordered, Stop>
+    requires all { length (source_roles source) ≤ length files.old }
+    requires short { AreShort files.old }
+    ensures value { IfOk result (λ ordered. GivesOrdered source files.old ordered.flat ordered.order) }
+    ensures stop { IfErr result (StopsAt (IsSourceRefused source files.old)) }
+    ensures own { own_file source files.new ≡ own_file source files.old }
+    ensures short { AreShort files.new }
 {
     let flat = match design_of(alloc, source, files) {
         Ok(flat) => flat,
         Err(stop) => return Err(stop),
     };
+    give_back(alloc, source, files);
     systems_are_accepted();
     let _phases = flat.phases();
     match system_order(alloc, &flat) {

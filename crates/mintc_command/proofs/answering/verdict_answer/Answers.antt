@@ -1,3 +1,4 @@
+use Rattle.std.proofs.Common.{◌∙◌}
 use Rattle.mintc_command.proofs.VerdictLaws.{answer_on_ordered, refusal_on_ordered, short_paths, stop_on_source}
 use Rattle.mintc_command.proofs.answering.verdict_answer.Goals as goal
 
@@ -12,8 +13,8 @@ returns-in-Err-clause-stop c = stop_on_source c.args.source c.args.texts.now c.i
 
 pub returns-clause-value : goal.returns-clause-value
 returns-clause-value c =
-    answer_on_ordered c.verified.result c.args.source c.args.texts.now c.in-Ok.ordered.flat c.in-Ok.ordered.order c.own_file.result.now c.in-Ok.ensures.value c.own_file.ensures.value c.verified.ensures.value
+    answer_on_ordered c.verified.result c.args.source c.args.texts.now c.in-Ok.ordered.flat c.in-Ok.ordered.order c.own_file.result.now c.in-Ok.ensures.value (c.own_file.ensures.value ∙ c.in-Ok.ensures.own) c.verified.ensures.value
 
 pub returns-clause-stop : goal.returns-clause-stop
 returns-clause-stop c =
-    refusal_on_ordered c.verified.result c.args.source c.args.texts.now c.in-Ok.ordered.flat c.in-Ok.ordered.order c.own_file.result.now c.in-Ok.ensures.value c.own_file.ensures.value c.verified.ensures.stop
+    refusal_on_ordered c.verified.result c.args.source c.args.texts.now c.in-Ok.ordered.flat c.in-Ok.ordered.order c.own_file.result.now c.in-Ok.ensures.value (c.own_file.ensures.value ∙ c.in-Ok.ensures.own) c.verified.ensures.stop

@@ -10,7 +10,7 @@ pub answer_to-requires-clause-count : goal.answer_to-requires-clause-count
 answer_to-requires-clause-count g c =
     let are = c.in-Some.ensures in
     let same = read-names c.args.words.now c.word_count.result c.in-Some.command c.in-Some.command _ _ c.word_count.ensures are are in
-    ap (λ (x : List (List ℕ)). length x) c.as_slice.ensures.value
+    ap (λ (x : List (List ℕ)). length x) c.as_mut_slice.ensures.value
     ∙ as_many (g.S.Shelf.files c.args.shelf.now) _ _ _ c.in-Ok.ensures.fronts
     ∙ ap (λ (x : List (List ℕ)). length x) same ∙ are.count
 
@@ -38,7 +38,7 @@ returns-in-Ok-answer_to-clause-written g c =
     let are = c.in-Some.ensures in
     c.write-in-Ok-answer_to.ensures.written _ _
     (answered _ _ _ _ _ (g.S.Shelf.files c.args.shelf.now) c.in-Some.command _ _ _ are (read-names c.args.words.now c.word_count.result c.in-Some.command c.in-Some.command _ _ c.word_count.ensures are are)
-    c.in-Ok.ensures.fronts c.as_slice.ensures.value c.in-Ok-answer_to.ensures.status c.in-Ok-answer_to.ensures.defined c.items.ensures)
+    c.in-Ok.ensures.fronts c.as_mut_slice.ensures.value c.in-Ok-answer_to.ensures.status c.in-Ok-answer_to.ensures.defined c.items.ensures)
 
 pub returns-in-Ok-answer_to-clause-complete : goal.returns-in-Ok-answer_to-clause-complete
 returns-in-Ok-answer_to-clause-complete g c = λ command names are sound all none quiet.
@@ -46,7 +46,7 @@ returns-in-Ok-answer_to-clause-complete g c = λ command names are sound all non
     let P : Command → Type 0 = λ x. IsNotRefused (g.S.Shelf.files c.args.shelf.now) x names in
     elim c.write-in-Ok-answer_to.ensures.status [
       | inl unchanged ↦ completed names _ _ _ (g.S.Shelf.files c.args.shelf.now) c.in-Some.command _ _ _ (read-names c.args.words.now c.word_count.result c.in-Some.command command _ names c.word_count.ensures c.in-Some.ensures are)
-          c.in-Ok.ensures.fronts c.as_slice.ensures.value c.in-Ok-answer_to.ensures.status c.in-Ok-answer_to.ensures.defined (subst P same none) unchanged
+          c.in-Ok.ensures.fronts c.as_mut_slice.ensures.value c.in-Ok-answer_to.ensures.status c.in-Ok-answer_to.ensures.defined (subst P same none) unchanged
       | inr fault ↦ absurd (quiet (c.write-in-Ok-answer_to.ensures.cause fault))
     ]
 
