@@ -9,7 +9,7 @@ use Rattle.mintc_timing.specs.Design.{Design, no_arc}
 use Rattle.mintc_timing.specs.Limits.{IsDelay, IsDesign}
 use Rattle.mintc_timing.specs.Order.{ArePathsShort}
 use Rattle.mintc_timing.specs.Paths.{Leads, arc_at, output_of, greatest_delay}
-use Rattle.mintc_timing.proofs.DeterminedLaws.{total-append}
+use Rattle.mintc_rings.proofs.RingLaws.{total-append}
 
 -- one more arc of a sum
 pub delay-more : (arcs : List TimingArc) (path : List ℕ) (i : ℕ) → i < length path →

@@ -2,7 +2,7 @@
 use Rattle.std.proofs.Common.{◌≡◌, ◌<◌, ◌≤◌, ◌+◌, ℕ, ◌↔◌, List, [], ◌∷◌, length, get_or, drop, arith, sym, subst, add-one}
 use Rattle.std.proofs.Math.Seq.{drop-cons}
 use Rattle.std.proofs.lemmas.List.{drop_all}
-use Rattle.mintc_timing.specs.Closed.{Joins, IsClosed}
+use Rattle.mintc_rings.specs.Rings.{Joins, IsClosed}
 
 module _ {X : Type 0} (from to : X → ℕ) where
   rest-cons : (xs : List X) (i : ℕ) (d : X) → i < length xs → drop i xs ≡ get_or xs i d ∷ drop (i + 1) xs

@@ -2,7 +2,7 @@
 ghost use Rattle.std.specs.Prelude.{◌≡◌, ◌<◌, ◌≤◌, length, slice_index_or, All, IsTrue, ◌↔◌};
 ghost use Rattle.std.specs.Bool.{OnTrue};
 ghost use Rattle.mintc_timing.specs.declared.link.Link.{Link as LinkValue};
-ghost use Rattle.mintc_timing.specs.Closed.{IsClosed};
+ghost use Rattle.mintc_rings.specs.Rings.{IsClosed};
 ghost use Rattle.mintc_timing.specs.Limits.{IsDenominator, IsNumerator, IsSpan};
 ghost use Rattle.mintc_timing.specs.Order.{ArePathsShort};
 ghost use Rattle.mintc_certificate.specs.CertificateText.{IsCounted};

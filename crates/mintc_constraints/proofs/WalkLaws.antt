@@ -6,7 +6,7 @@ use Rattle.mintc_walks.specs.declared.network.Arc.{Arc}
 use Rattle.mintc_walks.specs.Walks.{arc_at}
 use Rattle.mintc_walks.specs.Walks.{Leads as LeadsByArcs}
 use Rattle.mintc_timing.specs.declared.link.Link.{Link}
-use Rattle.mintc_timing.specs.Closed.{Joins, IsClosed}
+use Rattle.mintc_rings.specs.Rings.{Joins, IsClosed}
 use Rattle.mintc_constraints.specs.Ordinary.{link_at, no_link, Leads}
 use Rattle.mintc_constraints.specs.Laws.{WalksAreOfArcs, ClosedWalksAreChains}
 

@@ -7,7 +7,7 @@ use Rattle.mintc_walks.specs.declared.network.Arc.{Arc}
 use Rattle.mintc_walks.specs.Walks.{arc_at, Leads, weight_of}
 use Rattle.mintc_walks.specs.Answers.{IsPositiveChain}
 use Rattle.mintc_timing.specs.declared.clocking.Schedule.{Schedule}
-use Rattle.mintc_timing.specs.Closed.{Joins, IsClosed}
+use Rattle.mintc_rings.specs.Rings.{Joins, IsClosed}
 use Rattle.mintc_timing.specs.Design.{Timing, element_at, pair_at}
 use Rattle.mintc_timing.specs.Violations.{HasLoop, loop_amount}
 use Rattle.mintc_departure.specs.Networks.{late_travel, arcs_of}

@@ -7,12 +7,12 @@ use Rattle.std.proofs.lemmas.Map.Made.{IsDistinct-from_AllPairs}
 use Rattle.std.proofs.lemmas.Map.Steps.{length-le_from_distinct_below}
 use Rattle.std.proofs.lemmas.Map.Views.{Contains-from_any}
 use Rattle.mintc_walks.specs.Bounds.{IsWithin}
-use Rattle.mintc_timing.specs.Closed.{total}
+use Rattle.mintc_rings.specs.Rings.{total}
 use Rattle.mintc_timing.specs.Design.{Timing, element_count, pair_at, no_pair}
 use Rattle.mintc_timing.specs.Limits.{IsTime}
 use Rattle.mintc_timing.specs.Paths.{HasExtremes}
 use Rattle.mintc_timing.specs.Violations.{IsLoop}
-use Rattle.mintc_timing.proofs.DeterminedLaws.{total-append}
+use Rattle.mintc_rings.proofs.RingLaws.{total-append}
 use Rattle.mintc_timing.proofs.Fitting.{read_time}
 
 -- numbers below n, no two of them equal, are at most n

@@ -4,11 +4,12 @@ use Rattle.std.specs.Prelude.{IfSome, IsSomeAnd}
 use Rattle.std.specs.Int.{int_max, int_min}
 use Rattle.std.proofs.lemmas.Int.{ints, clamps, by_lt_z}
 use Rattle.mintc_timing.specs.declared.parts.TimingArc.{TimingArc}
-use Rattle.mintc_timing.specs.Closed.{total}
+use Rattle.mintc_rings.specs.Rings.{total}
 use Rattle.mintc_timing.specs.Paths.{Leads, arc_at}
 use Rattle.mintc_timing.specs.Order.{IsOrder}
 use Rattle.mintc_timing.specs.Among.{IsAmong, AreAmong}
-use Rattle.mintc_timing.proofs.Ordered.{total-push, Leads-push, AreAmong-push, AreAmong-more, split, none_among}
+use Rattle.mintc_timing.proofs.Ordered.{Leads-push, AreAmong-push, AreAmong-more, split, none_among}
+use Rattle.mintc_rings.proofs.RingLaws.{total-push}
 use Rattle.mintc_lanes.specs.Lanes.{joined}
 use Rattle.mintc_paths.specs.Among.{IsBest, AtLeast}
 

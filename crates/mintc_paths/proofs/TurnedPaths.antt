@@ -7,12 +7,13 @@ use Rattle.std.proofs.Math.ListN.{length-map}
 use Rattle.std.specs.List.{All}
 use Rattle.mintc_timing.specs.declared.parts.TimingArc.{TimingArc}
 use Rattle.mintc_timing.specs.declared.parts.Pair.{Pair}
-use Rattle.mintc_timing.specs.Closed.{total}
+use Rattle.mintc_rings.specs.Rings.{total}
 use Rattle.mintc_timing.specs.Design.{Design, no_arc}
 use Rattle.mintc_timing.specs.Limits.{IsArc, IsDesign}
 use Rattle.mintc_timing.specs.Order.{IsOrder}
 use Rattle.mintc_timing.specs.Paths.{Leads, IsPath, arc_at, input_of, output_of, HasExtremes, IsGreatestDelay, IsLeastDelay}
-use Rattle.mintc_timing.proofs.Ordered.{inside, total-push, Leads-push}
+use Rattle.mintc_timing.proofs.Ordered.{inside, Leads-push}
+use Rattle.mintc_rings.proofs.RingLaws.{total-push}
 use Rattle.mintc_timing.specs.Order.{ArePathsShort}
 use Rattle.mintc_paths.specs.Longest.{AreRunsShort}
 use Rattle.mintc_paths.specs.Sums.{row_of, LeadsBack}

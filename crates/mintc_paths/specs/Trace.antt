@@ -2,7 +2,7 @@
 use Rattle.std.specs.Prelude.{◌≡◌, ◌<◌, ℕ, ℤ, ◌+ℤ◌, ◌≤ℤ◌, Option, Some, List, length, IsSomeAnd, All, Contains}
 use Rattle.mintc_timing.specs.declared.parts.TimingArc.{TimingArc}
 use Rattle.mintc_timing.specs.declared.parts.Pair.{Pair}
-use Rattle.mintc_timing.specs.Closed.{total}
+use Rattle.mintc_rings.specs.Rings.{total}
 use Rattle.mintc_timing.specs.Design.{Timing}
 use Rattle.mintc_timing.specs.Paths.{Leads, IsPath, arc_at, input_of}
 use Rattle.mintc_timing.specs.Among.{AreAmong}

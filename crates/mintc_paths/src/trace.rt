@@ -1,6 +1,6 @@
 //! A path with the greatest or the least sum, traced back along the order.
 ghost use Rattle.std.specs.Prelude.{◌≡◌, ◌<◌, ◌+◌, ◌*◌, ◌↔◌, ℕ, ℤ, pos, length, Some, IfOk, IsTrue};
-ghost use Rattle.mintc_timing.specs.Closed.{total};
+ghost use Rattle.mintc_rings.specs.Rings.{total};
 ghost use Rattle.mintc_timing.specs.Limits.{IsDelay};
 ghost use Rattle.mintc_timing.specs.Order.{IsOrder};
 ghost use Rattle.mintc_timing.specs.Paths.{Leads};

@@ -9,9 +9,9 @@ use Rattle.std.proofs.lemmas.Map.Views.{Contains-from_any}
 use Rattle.mintc_walks.specs.Bounds.{IsWithin}
 use Rattle.mintc_timing.specs.declared.link.Link.{Link}
 use Rattle.mintc_timing.specs.declared.link.LinkKind.TheVariants as kind
-use Rattle.mintc_timing.specs.Closed.{total}
+use Rattle.mintc_rings.specs.Rings.{total}
 use Rattle.mintc_timing.specs.Links.{link, delay_of, cycles_of}
-use Rattle.mintc_timing.proofs.DeterminedLaws.{total-append}
+use Rattle.mintc_rings.proofs.RingLaws.{total-append}
 use Rattle.mintc_constraints.specs.Ordinary.{link_at, IsOrdinary, IsOrdinaryLink, constraints_of}
 use Rattle.mintc_ratio.specs.Chains.{NamesChain, links_at}
 use Rattle.mintc_ratio.specs.Sums.{IsSmall}

@@ -7,7 +7,7 @@ use Rattle.std.proofs.lemmas.Bool.{cases_eq}
 use Rattle.mintc_fraction.specs.Ratio.{Ratio, over}
 use Rattle.mintc_timing.specs.declared.link.Link.{Link}
 use Rattle.mintc_timing.specs.declared.link.LinkKind.TheVariants as kind
-use Rattle.mintc_timing.specs.Closed.{Joins, IsClosed}
+use Rattle.mintc_rings.specs.Rings.{Joins, IsClosed}
 use Rattle.mintc_timing.specs.Links.{link, Forbids}
 use Rattle.mintc_constraints.specs.Ordinary.{link_at, Leads, IsOrdinaryLink}
 use Rattle.mintc_walks.specs.declared.network.TheConstants.{UNREACHED}

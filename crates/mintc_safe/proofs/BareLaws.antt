@@ -3,7 +3,7 @@ use Rattle.std.proofs.Common.{◌≡◌, ◌≢◌, ◌<◌, ℕ, ℤ, pos, ◌+
 use Rattle.std.specs.List.{AllPairs}
 use Rattle.std.proofs.lemmas.List.{length-map, get_or-map}
 use Rattle.mintc_timing.specs.declared.link.Link.{Link}
-use Rattle.mintc_timing.specs.Closed.{IsClosed, Joins}
+use Rattle.mintc_rings.specs.Rings.{IsClosed, Joins}
 use Rattle.mintc_timing.specs.Links.{delay_of, cycles_of}
 use Rattle.mintc_safe.specs.Making.{bare}
 

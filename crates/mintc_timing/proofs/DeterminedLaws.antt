@@ -3,8 +3,8 @@ use Rattle.std.proofs.Math.IntN.{zero-*ℤ}
 use Rattle.std.proofs.lemmas.Int.{ints}
 use Rattle.std.proofs.lemmas.List.{same_lists, get_or_default}
 use Rattle.mintc_timing.specs.declared.parts.TimingArc.{TimingArc}
-use Rattle.mintc_timing.specs.Design.{element_count}
-use Rattle.mintc_timing.specs.Closed.{total}
+use Rattle.mintc_rings.proofs.RingLaws.{total-append, LeadsBy-append}
+use Rattle.mintc_timing.specs.Design.{element_count, no_arc}
 use Rattle.mintc_timing.specs.Links.{delay_of}
 use Rattle.mintc_timing.specs.Paths.{arc_at, Leads}
 use Rattle.mintc_timing.specs.Departures.{departure}
@@ -24,23 +24,13 @@ pub early_are_determined_lem : EarlyAreDetermined
 early_are_determined_lem t s d e a b = same_numbers d e (element_count t) a.exact.count b.exact.count
     (λ l h. let low = a.least e b.exact l h in let high = b.least d a.exact l h in omega (arith, ints))
 
--- sums and arcs of lists joined
-pub total-append : {X : Type 0} (f : X → ℤ) (xs ys : List X) → total f (xs ++ ys) ≡ total f xs +ℤ total f ys
-total-append f [] ys = omega (arith, ints)
-total-append f (x ∷ xs) ys = let rest = total-append f xs ys in omega (arith, ints)
-
-pub Leads-append : (arcs : List TimingArc) (from : ℕ) (front : List ℕ) (between : ℕ) (back : List ℕ) (to : ℕ) →
-    Leads arcs from front between → Leads arcs between back to → Leads arcs from (front ++ back) to
-Leads-append arcs from [] between back to h g = rw h g
-Leads-append arcs from (n ∷ front) between back to h g = (h.0, h.1, Leads-append arcs (arc_at arcs n).to front between back to h.2 g)
-
 some_front : (front back : List ℕ) → front ≢ [] → (front ++ back) ≢ []
 some_front [] back h = λ _. h refl
 some_front (n ∷ front) back h = λ e. cc
 
 pub paths_join_lem : PathsJoin
 paths_join_lem arcs j between bit front back h g = record {
-  is_path = (some_front front back h.0, Leads-append arcs _ front between back bit h.1 g);
+  is_path = (some_front front back h.0, LeadsBy-append (λ (a : TimingArc). a.from) (λ (a : TimingArc). a.to) no_arc arcs _ front between back bit h.1 g);
   greatest = total-append (λ n. (arc_at arcs n).max) front back;
   least = total-append (λ n. (arc_at arcs n).min) front back;
 }
@@ -55,8 +45,8 @@ pub least_cycle_is_no_hopelessness_lem : LeastCycleIsNoHopelessness
 least_cycle_is_no_hopelessness_lem t n m least hopeless = let some = least.attained in hopeless some.0 some.1 some.2
 
 pub forbids_all_lem : ForbidsAll
-forbids_all_lem chain num den none some positive =
+forbids_all_lem chain num den none positive =
     let zero_cycles : pos 0 *ℤ num ≡ pos 0 = zero-*ℤ num in
-    let more : (pos 1 *ℤ den) ≤ℤ (delay_of chain *ℤ den) = times-mono_positive (pos 1) (delay_of chain) den (omega (arith, ints)) positive in
+    let more : (pos 1 *ℤ den) ≤ℤ (delay_of chain *ℤ den) = times-mono_positive (pos 1) (delay_of chain) den (omega (arith, ints, none.stuck)) positive in
     let one : pos 1 *ℤ den ≡ den = omega (arith, ints) in
-    rw (none, zero_cycles) (omega (arith, ints))
+    rw (none.turns, zero_cycles) (omega (arith, ints))

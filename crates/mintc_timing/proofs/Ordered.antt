@@ -4,20 +4,15 @@ use Rattle.std.proofs.lemmas.Int.{ints}
 use Rattle.std.proofs.lemmas.List.{get_or_default, get_or_past}
 use Rattle.mintc_timing.specs.declared.parts.TimingArc.{TimingArc}
 use Rattle.mintc_timing.specs.Design.{no_arc}
-use Rattle.mintc_timing.specs.Closed.{total}
+use Rattle.mintc_rings.proofs.RingLaws.{LeadsBy-push}
 use Rattle.mintc_timing.specs.Paths.{Leads, arc_at}
 use Rattle.mintc_timing.specs.Order.{IsOrder}
 use Rattle.mintc_timing.specs.Among.{IsAmong, AreAmong}
 
 -- one more arc at the end of a path
-pub total-push : (weight : ℕ → ℤ) (path : List ℕ) (n : ℕ) → total weight (path ++ n ∷ []) ≡ total weight path +ℤ weight n
-total-push weight [] n = omega (arith, ints)
-total-push weight (m ∷ path) n = let rest = total-push weight path n in omega (arith, ints)
-
 pub Leads-push : (arcs : List TimingArc) (from : ℕ) (path : List ℕ) (n : ℕ) → n < length arcs → Leads arcs from path (arc_at arcs n).from →
     Leads arcs from (path ++ n ∷ []) (arc_at arcs n).to
-Leads-push arcs from [] n below h = (below, sym h, refl)
-Leads-push arcs from (m ∷ path) n below h = (h.0, h.1, Leads-push arcs (arc_at arcs m).to path n below h.2)
+Leads-push arcs from path n below h = LeadsBy-push (λ (a : TimingArc). a.from) (λ (a : TimingArc). a.to) no_arc arcs from path n (arc_at arcs n).to below h refl
 
 pub AreAmong-push : (order : List ℕ) (k : ℕ) (path : List ℕ) (n : ℕ) → AreAmong order k path → IsAmong order k n → AreAmong order k (path ++ n ∷ [])
 AreAmong-push order k [] n h g = (g, tt)

@@ -1,4 +1,4 @@
-use Rattle.std.specs.Prelude.{◌≡◌, ℕ, ℤ, pos, ◌+ℤ◌, ◌*ℤ◌, ◌≤ℤ◌, ◌<ℤ◌, List, ◌++◌, map, All, ◌⊎◌, ◌↔◌, IfSome}
+use Rattle.std.specs.Prelude.{◌≡◌, ℕ, ℤ, pos, ◌+ℤ◌, ◌*ℤ◌, ◌≤ℤ◌, List, ◌++◌, map, All, ◌⊎◌, ◌↔◌, IfSome}
 use Rattle.mintc_timing.specs.declared.parts.TimingArc.{TimingArc}
 use Rattle.mintc_timing.specs.declared.parts.Pair.{Pair}
 use Rattle.mintc_timing.specs.declared.clocking.Schedule.{Schedule}
@@ -7,7 +7,7 @@ use Rattle.mintc_timing.specs.Design.{Design, Timing}
 use Rattle.mintc_timing.specs.Paths.{Leads, IsPath, greatest_delay, least_delay, ArePairs}
 use Rattle.mintc_timing.specs.Departures.{AreLate, AreEarly}
 use Rattle.mintc_timing.specs.Limits.{IsDesign}
-use Rattle.mintc_timing.specs.Links.{links_of, IsChain, delay_of, cycles_of, Forbids}
+use Rattle.mintc_timing.specs.Links.{links_of, IsChain, Forbids, IsStuck}
 use Rattle.mintc_timing.specs.Times.{Meets}
 use Rattle.mintc_timing.specs.Right.{IsRight, IsLeastCycle, IsHopeless, KeepsSetup, KeepsHold}
 use Rattle.mintc_timing.specs.Violations.{AreViolations, EndInLoop, setup_amount, hold_amount}
@@ -61,7 +61,7 @@ LeastCycleIsNoHopelessness = (t : Timing) (num den : ℤ) → IsLeastCycle t num
 
 -- A chain that has no cycle and takes time forbids every cycle time.
 abbrev pub ForbidsAll : Type 0
-ForbidsAll = (chain : List Link) (num den : ℤ) → cycles_of chain ≡ pos 0 → pos 0 <ℤ delay_of chain → pos 1 ≤ℤ den → Forbids chain num den
+ForbidsAll = (chain : List Link) (num den : ℤ) → IsStuck chain → pos 1 ≤ℤ den → Forbids chain num den
 
 -- The moments of a right schedule and its departures meet each link of the design.
 abbrev pub RightMeetsLinks : Type 0

@@ -1,7 +1,7 @@
 use Rattle.std.proofs.Common.{◌≡◌, ◌<◌, ◌≤◌, ◌+◌, ◌↔◌, ℕ, List, length, get_or, drop, arith, sym, subst}
 use Rattle.std.proofs.lemmas.List.{length-map}
 use Rattle.mintc_timing.specs.declared.link.Link.{Link}
-use Rattle.mintc_timing.specs.Closed.{Joins, IsClosed}
+use Rattle.mintc_rings.specs.Rings.{Joins, IsClosed}
 use Rattle.mintc_timing.specs.Design.{Design}
 use Rattle.mintc_certificate.specs.declared.members.Member.{Member}
 use Rattle.mintc_certificate.specs.Valid.{link_of, links_of_members}
