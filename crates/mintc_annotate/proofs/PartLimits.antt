@@ -6,7 +6,7 @@ use Rattle.std.proofs.lemmas.Bool.{and_parts}
 use Rattle.std.proofs.lemmas.List.{length-map}
 use Rattle.std.proofs.lemmas.List.Elements.{All-head, All-tail, All-nil, All-cons, All-append, All-map, All-weaker}
 use Rattle.std.proofs.lemmas.List.FromFn.{length-range_with_len, get_or-range_with_len}
-use Rattle.mintc_timing.proofs.MeetingLaws.{All-range}
+use Rattle.mintc_timing.proofs.Members.{All-range}
 use Rattle.std.proofs.lemmas.List.Sums.{length-filter, count_by_more_yes, sum_by-take-le}
 use Rattle.std.proofs.lemmas.Slice.Zip.{AllZip-long, length-zip}
 use Rattle.mintc_cells.specs.declared.cell.Cell.{Cell}

@@ -17,9 +17,10 @@ use Rattle.mintc_timing.proofs.DepartureLaws.{late_departure-latch, late_departu
 use Rattle.mintc_timing.proofs.Products.{times-mono_positive}
 use Rattle.mintc_timing.proofs.SetupLaws.{KeepsSetup-latch}
 use Rattle.mintc_constraints.specs.Ordinary.{link_at, no_link}
-use Rattle.mintc_constraints.specs.Duality.{brought, IsMet, AreExactMoments, schedule_of, departure_of, departures_of, HasEnds, MomentsAreRight}
-use Rattle.mintc_constraints.proofs.Arrivals.{latest, ArrivesBy, latest-opens, latest-arrives, latest-attained, greatest-from_each}
-use Rattle.mintc_constraints.proofs.ByKind.{EachKind, All-links, EachKind-from_all}
+use Rattle.mintc_constraints.specs.Duality.{brought, IsMet, AreExactMoments, schedule_of, departure_of, departures_of, MomentsAreRight}
+use Rattle.mintc_timing.specs.Paths.{HasEnds}
+use Rattle.mintc_timing.proofs.Arrivals.{latest, ArrivesBy, latest-opens, latest-arrives, latest-attained, greatest-from_each}
+use Rattle.mintc_timing.proofs.ByKind.{EachKind, All-links, EachKind-from_all}
 use Rattle.mintc_constraints.proofs.OrdinaryLaws.{least_width-range}
 
 -- The links into the moment of an element: that of its opening, and those of the pairs that lead to it.

@@ -16,9 +16,10 @@ use Rattle.mintc_timing.proofs.DepartureLaws.{late_departure-latch, late_departu
 use Rattle.mintc_timing.proofs.LinkLaws.{meets-start, meets-cycle, meets-order, meets-span, meets-width, meets-apart, meets-open, meets-opened, meets-setup, meets-bound}
 use Rattle.mintc_timing.proofs.TimesLaws.{node_time-start, node_time-element}
 use Rattle.mintc_constraints.specs.Laws.{node_count}
-use Rattle.mintc_constraints.specs.Duality.{brought, IsMet, IsBrought, AreExactMoments, moments_of, HasEnds, RightHasMoments}
-use Rattle.mintc_constraints.proofs.Arrivals.{latest, ArrivesBy, latest-arrives, latest-attained, each-from_greatest}
-use Rattle.mintc_constraints.proofs.ByKind.{EachKind, All-links, stands}
+use Rattle.mintc_constraints.specs.Duality.{brought, IsMet, IsBrought, AreExactMoments, moments_of, RightHasMoments}
+use Rattle.mintc_timing.specs.Paths.{HasEnds}
+use Rattle.mintc_timing.proofs.Arrivals.{latest, ArrivesBy, latest-arrives, latest-attained, each-from_greatest}
+use Rattle.mintc_timing.proofs.ByKind.{EachKind, All-links, stands}
 use Rattle.mintc_constraints.proofs.OrdinaryLaws.{each_between, number_of}
 
 module _ (t : Timing) (s : Schedule) (d : List ℤ) (limits : IsDesign t.flat) (ends : HasEnds t) (right : IsRight t s d) where

@@ -12,25 +12,17 @@ use Rattle.mintc_timing.specs.Violations.{phases_of, elements_of}
 use Rattle.mintc_constraints.specs.Ordinary.{link_at}
 use Rattle.mintc_constraints.specs.Laws.{node_count}
 
--- Values of the nodes are moments, in femtoseconds times den, at a cycle time of num / den femtoseconds.
--- What a link brings its end: the value of the node that it leaves and its delay, less its cycles.
-abbrev pub brought : ℤ → ℤ → List ℤ → Link → ℤ
-brought num den values k = value_at values k.from +ℤ k.delay *ℤ den -ℤ pos k.cycles *ℤ num
-
--- The link holds of the values.
-abbrev pub IsMet : ℤ → ℤ → List ℤ → Link → Type 0
-IsMet num den values k = brought num den values k ≤ℤ value_at values k.to
-
--- Some link of the list brings the node its value.
+-- Values of the nodes are moments, in femtoseconds times den, at a cycle time of num / den femtoseconds. Some link of the list
+-- brings the node its value.
 abbrev pub IsBrought : List Link → ℤ → ℤ → List ℤ → ℕ → Type 0
 IsBrought links num den values node =
-    (e : ℕ) × (e < length links) × ((link_at links e).to ≡ node) × (value_at values node ≡ brought num den values (link_at links e))
+    (e : ℕ) × (e < length links) × ((link_at links e).to ≡ node) × (value_at values node ≡ earliest_end num den (value_at values) (link_at links e))
 
 -- There is a value for each node, that of time 0 is 0, and each link of the design holds of them.
 pub record AreMoments (t : Timing) (num den : ℤ) (values : List ℤ) : Type 0 where
   pub count : length values ≡ node_count t
   pub origin : value_at values 0 ≡ pos 0
-  pub met : All (IsMet num den values) (links_of t)
+  pub met : All (IsMet num den (value_at values)) (links_of t)
 
 -- And the moment of each latch is no later than some link asks: it is the greatest that a link brings.
 pub record AreExactMoments (t : Timing) (num den : ℤ) (values : List ℤ) : Type 0 where
@@ -56,10 +48,6 @@ departures_of t values = map (departure_of t values) (elements_of t)
 -- the moments of the nodes under a schedule with its departures
 abbrev pub moments_of : Timing → Schedule → List ℤ → List ℤ
 moments_of t s d = map (node_time t s d) (range_with_len 0 (node_count t))
-
--- The pairs are between elements of the design, as those of each system are, also with delays changed.
-abbrev pub HasEnds : Timing → Type 0
-HasEnds t = All (λ p. (p.from < element_count t) × (p.to < element_count t)) t.pairs
 
 -- Moments that meet each link, exact at the latches, are a right schedule with its departures.
 abbrev pub MomentsAreRight : Type 0

@@ -17,7 +17,7 @@ use Rattle.mintc_timing.specs.Design.{Timing, element_at, element_count}
 use Rattle.mintc_timing.specs.Extremes.{greater_of, greatest_of}
 use Rattle.mintc_timing.specs.Right.{IsRight, KeepsSetup}
 use Rattle.mintc_timing.proofs.Products.{times-mono_positive}
-use Rattle.mintc_constraints.specs.Duality.{HasEnds}
+use Rattle.mintc_timing.specs.Paths.{HasEnds}
 use Rattle.mintc_corners.specs.JointLinks.{beside, shifted_pair}
 use Rattle.mintc_corners.specs.Laws.{BesideIsBoth, HaveOneClock}
 use Rattle.mintc_corners.proofs.PartsLaws.{element_beside_left, element_beside_right, feeds_beside, width_beside}

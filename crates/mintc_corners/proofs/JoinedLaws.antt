@@ -14,9 +14,9 @@ use Rattle.mintc_timing.specs.Design.{Timing, element_count, pair_at, phase_coun
 use Rattle.mintc_timing.specs.Extremes.{greater_of, greatest_of}
 use Rattle.mintc_timing.specs.Limits.{IsDesign}
 use Rattle.mintc_timing.specs.Links.{links_of, open_link, opened_link, reach_link, setup_link}
-use Rattle.mintc_constraints.specs.Duality.{HasEnds}
-use Rattle.mintc_constraints.proofs.ByKind.{All-links, EachKind, EachKind-from_all}
-use Rattle.mintc_constraints.proofs.Members.{All-back, All-front}
+use Rattle.mintc_timing.specs.Paths.{HasEnds}
+use Rattle.mintc_timing.proofs.ByKind.{All-links, EachKind, EachKind-from_all}
+use Rattle.mintc_timing.proofs.Members.{All-back, All-front}
 use Rattle.mintc_corners.specs.Joined.{joined, joined_links, lifted_link, lifted_node, widest}
 use Rattle.mintc_corners.specs.Joint.{AreCorners}
 use Rattle.mintc_corners.specs.JointLinks.{joint_links_of, side_by_side}

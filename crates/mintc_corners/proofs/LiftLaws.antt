@@ -16,8 +16,8 @@ use Rattle.mintc_timing.specs.Clocking.{crosses_of, feeds_of}
 use Rattle.mintc_timing.specs.Design.{Timing, element_at, element_count, no_element, no_pair, pair_at, phase_count, phase_of}
 use Rattle.mintc_timing.specs.Limits.{IsDesign, IsPoint}
 use Rattle.mintc_timing.specs.Links.{apart_link, bound_link, cycle_link, element_node, end_node, link, open_link, opened_link, order_link, point_node, reach_link, setup_link, span_link, start_link, start_node, width_link}
-use Rattle.mintc_constraints.specs.Duality.{HasEnds}
-use Rattle.mintc_constraints.proofs.ByKind.{EachKind}
+use Rattle.mintc_timing.specs.Paths.{HasEnds}
+use Rattle.mintc_timing.proofs.ByKind.{EachKind}
 use Rattle.mintc_corners.specs.Joined.{lifted_link, lifted_node}
 use Rattle.mintc_corners.specs.JointLinks.{beside, shifted_pair}
 use Rattle.mintc_corners.specs.Laws.{HaveOneClock}

@@ -6,7 +6,7 @@ use Rattle.mintc_timing.specs.Clocking.{feeds_of}
 use Rattle.mintc_timing.specs.Design.{Timing, element_count, phase_count}
 use Rattle.mintc_timing.specs.Limits.{IsDesign}
 use Rattle.mintc_timing.specs.Links.{open_link, opened_link, reach_link, setup_link}
-use Rattle.mintc_constraints.specs.Duality.{HasEnds}
+use Rattle.mintc_timing.specs.Paths.{HasEnds}
 use Rattle.mintc_corners.specs.Joined.{lifted_link, widest}
 use Rattle.mintc_corners.specs.JointLinks.{beside, side_by_side}
 use Rattle.mintc_corners.specs.Laws.{HaveOneClock}

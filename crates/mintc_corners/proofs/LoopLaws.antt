@@ -16,7 +16,7 @@ use Rattle.mintc_timing.specs.Order.{IsTiming}
 use Rattle.mintc_constraints.specs.Duality.{departures_of}
 use Rattle.mintc_constraints.specs.Laws.{node_count}
 use Rattle.mintc_constraints.specs.Ordinary.{Constraints, IsOrdinary, constraints_of}
-use Rattle.mintc_constraints.proofs.ByKind.{All-links}
+use Rattle.mintc_timing.proofs.ByKind.{All-links}
 use Rattle.mintc_constraints.proofs.OrdinaryLaws.{each_between, ends_of}
 use Rattle.mintc_certificate.specs.Ranges.{IsDeparture}
 use Rattle.mintc_optimise.proofs.StandingLaws.{of_kind}

@@ -12,7 +12,7 @@ use Rattle.mintc_timing.specs.declared.parts.Pair.{Pair}
 use Rattle.mintc_timing.specs.Clocking.{feeds_of, is_pair_between, least_width}
 use Rattle.mintc_timing.specs.Design.{Timing, element_at, element_count, no_element, no_pair, pair_at}
 use Rattle.mintc_timing.specs.Extremes.{greater_of, greatest_of}
-use Rattle.mintc_constraints.specs.Duality.{HasEnds}
+use Rattle.mintc_timing.specs.Paths.{HasEnds}
 use Rattle.mintc_corners.specs.JointLinks.{beside, shifted_pair}
 
 -- the greatest of 0 and numbers

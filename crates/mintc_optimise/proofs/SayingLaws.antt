@@ -8,7 +8,7 @@ use Rattle.mintc_timing.specs.Limits.{IsDesign, IsGap, IsDelay, IsNumerator, IsP
 use Rattle.mintc_timing.specs.Links.{element_node, end_node, setup_link, open_link, start_node}
 use Rattle.mintc_timing.proofs.Products.{times-mono_positive}
 use Rattle.mintc_constraints.specs.Duality.{AreExactMoments, IsMet}
-use Rattle.mintc_constraints.proofs.ByKind.{EachKind, EachKind-from_all}
+use Rattle.mintc_timing.proofs.ByKind.{EachKind, EachKind-from_all}
 use Rattle.mintc_constraints.proofs.OrdinaryLaws.{least_width-range}
 use Rattle.mintc_certificate.specs.Ranges.{IsDeparture}
 use Rattle.mintc_ratio.specs.Searched.{IsCycle}

@@ -12,7 +12,7 @@ use Rattle.mintc_timing.specs.Limits.{IsDesign}
 use Rattle.mintc_timing.specs.Links.{links_of, bound_link, reach_link}
 use Rattle.mintc_timing.specs.Order.{IsTiming}
 use Rattle.mintc_timing.specs.Paths.{IsPath, input_of, greatest_delay}
-use Rattle.mintc_constraints.proofs.ByKind.{EachKind, All-links}
+use Rattle.mintc_timing.proofs.ByKind.{EachKind, All-links}
 use Rattle.mintc_certificate.specs.declared.members.Member.{Member}
 use Rattle.mintc_certificate.specs.declared.members.Member.TheVariants as member
 use Rattle.mintc_certificate.specs.CertificateText.{IsCounted}

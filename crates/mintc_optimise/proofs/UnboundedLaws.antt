@@ -15,11 +15,11 @@ use Rattle.mintc_timing.specs.Violations.{phases_of, elements_of}
 use Rattle.mintc_timing.proofs.DepartureLaws.{late_departure-latch, late_departure-flop}
 use Rattle.mintc_timing.proofs.SetupLaws.{KeepsSetup-latch}
 use Rattle.mintc_timing.proofs.Shifts.{crosses-below, crosses-not_below}
-use Rattle.mintc_constraints.specs.Duality.{HasEnds}
+use Rattle.mintc_timing.specs.Paths.{HasEnds}
 use Rattle.mintc_constraints.specs.Laws.{node_count}
 use Rattle.mintc_constraints.specs.Ordinary.{IsOrdinary, IsOrdinaryLink, constraints_of}
-use Rattle.mintc_constraints.proofs.Arrivals.{latest, ArrivesBy, latest-opens, latest-attained, greatest-from_each}
-use Rattle.mintc_constraints.proofs.ByKind.{EachKind-from_all}
+use Rattle.mintc_timing.proofs.Arrivals.{latest, ArrivesBy, latest-opens, latest-attained, greatest-from_each}
+use Rattle.mintc_timing.proofs.ByKind.{EachKind-from_all}
 use Rattle.mintc_constraints.proofs.OrdinaryLaws.{ends_of, least_width-range, ordinary}
 use Rattle.mintc_optimise.specs.Bounded.{UnboundedHasRight, NeverNeedsABound}
 

@@ -6,10 +6,11 @@ use Rattle.mintc_timing.specs.declared.link.Link.{Link}
 use Rattle.mintc_timing.specs.Design.{Timing}
 use Rattle.mintc_timing.specs.Limits.{IsDesign}
 use Rattle.mintc_timing.specs.Links.{links_of, element_node}
-use Rattle.mintc_constraints.specs.Duality.{AreExactMoments, HasEnds}
+use Rattle.mintc_constraints.specs.Duality.{AreExactMoments}
+use Rattle.mintc_timing.specs.Paths.{HasEnds}
 use Rattle.mintc_constraints.specs.Laws.{node_count}
 use Rattle.mintc_constraints.specs.Ordinary.{constraints_of}
-use Rattle.mintc_constraints.proofs.ByKind.{All-links}
+use Rattle.mintc_timing.proofs.ByKind.{All-links}
 use Rattle.mintc_constraints.proofs.OrdinaryLaws.{each_between}
 use Rattle.mintc_ratio.specs.Greatest.{AreGreatest}
 use Rattle.mintc_ratio.proofs.BroughtLaws.{greatest_are_brought_lem, greatest_are_met_lem}

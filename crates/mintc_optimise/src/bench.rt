@@ -28,7 +28,7 @@ impl Model for Bench {
 }
 
 impl Bench {
-    ghost use Rattle.mintc_constraints.specs.Duality.{HasEnds};
+    ghost use Rattle.mintc_timing.specs.Paths.{HasEnds};
     ghost use Rattle.mintc_constraints.specs.Laws.{node_count};
     ghost use Rattle.mintc_constraints.specs.Ordinary.{constraints_of};
     ghost use Rattle.mintc_ratio.specs.Searched.{HasSearched};

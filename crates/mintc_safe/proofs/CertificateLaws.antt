@@ -9,7 +9,8 @@ use Rattle.mintc_timing.specs.declared.clocking.Schedule.{Schedule}
 use Rattle.mintc_timing.specs.Design.{Timing, element_count}
 use Rattle.mintc_timing.specs.Limits.{IsDesign, IsInRange}
 use Rattle.mintc_timing.specs.Order.{IsTiming}
-use Rattle.mintc_constraints.specs.Duality.{HasEnds, departure_of, departures_of, schedule_of}
+use Rattle.mintc_constraints.specs.Duality.{departure_of, departures_of, schedule_of}
+use Rattle.mintc_timing.specs.Paths.{HasEnds}
 use Rattle.mintc_constraints.specs.Laws.{node_count}
 use Rattle.mintc_constraints.specs.Ordinary.{Constraints, constraints_of, link_at}
 use Rattle.mintc_constraints.specs.Rooms.{Space}

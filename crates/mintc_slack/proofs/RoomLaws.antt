@@ -16,11 +16,12 @@ use Rattle.mintc_timing.specs.Links.{links_of, delay_of, cycles_of, element_node
 use Rattle.mintc_timing.specs.Right.{IsRight, IsLeastCycle, IsHopeless}
 use Rattle.mintc_timing.proofs.DeterminedLaws.{least_cycle_is_determined_lem}
 use Rattle.mintc_timing.proofs.Products.{add-times, swap-times, times-mono, times-mono_positive, times-cancel_positive}
-use Rattle.mintc_constraints.specs.Duality.{HasEnds, IsMet, moments_of}
+use Rattle.mintc_constraints.specs.Duality.{IsMet, moments_of}
+use Rattle.mintc_timing.specs.Paths.{HasEnds}
 use Rattle.mintc_constraints.specs.Existence.{HoldsOf}
 use Rattle.mintc_constraints.specs.Laws.{node_count}
 use Rattle.mintc_constraints.specs.Ordinary.{Leads, link_at, no_link}
-use Rattle.mintc_constraints.proofs.ByKind.{EachKind, All-links, EachKind-from_all}
+use Rattle.mintc_timing.proofs.ByKind.{EachKind, All-links, EachKind-from_all}
 use Rattle.mintc_constraints.proofs.ExistenceLaws.{feasible_has_right_lem, has_least_or_is_hopeless_lem}
 use Rattle.mintc_constraints.proofs.RightLaws.{right_has_moments_lem}
 use Rattle.mintc_ratio.specs.Chains.{links_at}

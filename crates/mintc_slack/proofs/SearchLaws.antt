@@ -10,7 +10,8 @@ use Rattle.mintc_timing.specs.Design.{Timing}
 use Rattle.mintc_timing.specs.Limits.{IsDesign}
 use Rattle.mintc_timing.specs.Links.{IsChain, links_of}
 use Rattle.mintc_timing.specs.Right.{IsHopeless, IsLeastCycle}
-use Rattle.mintc_constraints.specs.Duality.{HasEnds, IsMet, moments_of}
+use Rattle.mintc_constraints.specs.Duality.{IsMet, moments_of}
+use Rattle.mintc_timing.specs.Paths.{HasEnds}
 use Rattle.mintc_constraints.specs.Ordinary.{Constraints, IsOrdinary}
 use Rattle.mintc_constraints.specs.Rooms.{Space}
 use Rattle.mintc_constraints.proofs.ChainLaws.{met_chains_fit_lem, stuck_is_hopeless_lem, tight_fits_no_less_lem}

@@ -10,7 +10,7 @@ use Rattle.mintc_timing.specs.Limits.{IsDesign, IsPhase}
 use Rattle.mintc_timing.specs.Links.{links_of, element_node, start_node, end_node, cycle_link, setup_link, span_link}
 use Rattle.mintc_constraints.specs.Laws.{node_count}
 use Rattle.mintc_constraints.specs.Ordinary.{Constraints, IsOrdinary, Leads, constraints_of, link_at}
-use Rattle.mintc_constraints.proofs.ByKind.{stands}
+use Rattle.mintc_timing.proofs.ByKind.{stands}
 use Rattle.mintc_constraints.proofs.OrdinaryLaws.{number_of}
 use Rattle.mintc_walks.specs.declared.network.TheConstants.{UNREACHED}
 use Rattle.mintc_walks.specs.Bounds.{AreBounded, IsWithin}

@@ -4,7 +4,7 @@ use Rattle.mintc_timing.specs.declared.parts.Pair.{Pair}
 use Rattle.mintc_timing.specs.declared.clocking.Schedule.{Schedule}
 use Rattle.mintc_timing.specs.declared.link.Link.{Link}
 use Rattle.mintc_timing.specs.Design.{Design, Timing}
-use Rattle.mintc_timing.specs.Paths.{Leads, IsPath, greatest_delay, least_delay, ArePairs}
+use Rattle.mintc_timing.specs.Paths.{Leads, IsPath, greatest_delay, least_delay, ArePairs, HasEnds}
 use Rattle.mintc_timing.specs.Departures.{AreLate, AreEarly}
 use Rattle.mintc_timing.specs.Limits.{IsDesign}
 use Rattle.mintc_timing.specs.Links.{links_of, IsChain, Forbids, IsStuck}
@@ -65,11 +65,11 @@ ForbidsAll = (chain : List Link) (num den : ℤ) → IsStuck chain → pos 1 ≤
 
 -- The moments of a right schedule and its departures meet each link of the design.
 abbrev pub RightMeetsLinks : Type 0
-RightMeetsLinks = (t : Timing) (s : Schedule) (d : List ℤ) → IsDesign t.flat → ArePairs t.flat t.pairs → IsRight t s d → All (Meets t s d) (links_of t)
+RightMeetsLinks = (t : Timing) (s : Schedule) (d : List ℤ) → IsDesign t.flat → HasEnds t → IsRight t s d → All (Meets t s d) (links_of t)
 
 -- So no chain of its links forbids a cycle time that a right schedule has.
 abbrev pub NoChainForbidsRight : Type 0
-NoChainForbidsRight = (t : Timing) (s : Schedule) (d : List ℤ) (chain : List Link) → IsDesign t.flat → ArePairs t.flat t.pairs → IsRight t s d → IsChain (links_of t) chain → Forbids chain s.cycle s.den → ⊥
+NoChainForbidsRight = (t : Timing) (s : Schedule) (d : List ℤ) (chain : List Link) → IsDesign t.flat → HasEnds t → IsRight t s d → IsChain (links_of t) chain → Forbids chain s.cycle s.den → ⊥
 
 -- Two lists of the pairs of a design are one list.
 abbrev pub PairsAreDetermined : Type 0

@@ -1,7 +1,8 @@
+-- What holds of the items of a list, and where they stand, in lists that are joined, mapped, filtered and numbered.
 use Rattle.std.proofs.Common.{◌≡◌, ℕ, zero, suc, ◌<◌, ◌≤◌, ◌+◌, ◌-◌, ◌*◌, Bool, true, false, cond, List, [], ◌∷◌, ◌++◌, length, get_or, map, arith, refl, ap, ◌∙◌, sym, ◌⊎◌, inl, inr, ⊎_elim, length-append}
 use Rattle.std.proofs.lemmas.List.{length-map, get_or-map, get_or_default}
 use Rattle.std.proofs.lemmas.List.FromFn.{get_or-range_with_len, length-range_with_len, get_or-enumerate_from, length-enumerate_from}
-use Rattle.std.proofs.lemmas.List.Elements.{All-contains, Contains-append_left, Contains-append_right}
+use Rattle.std.proofs.lemmas.List.Elements.{All-nil, All-cons, All-head, All-tail, All-append, All-contains, Contains-append_left, Contains-append_right}
 use Rattle.std.specs.List.{All, Contains, range_with_len, enumerate_from, filter, flat_map}
 
 -- what holds of each item of two lists, one after the other
@@ -72,3 +73,24 @@ length-flat_map_at_most f most (x ∷ xs) h =
     let rest = length-flat_map_at_most f most xs h in
     let sum = length-append (f x) (flat_map f xs) in
     omega arith
+
+-- what holds of the numbers from a on
+pub All-range : (P : ℕ → Type 0) (a n : ℕ) → ((k : ℕ) → a ≤ k → k < a + n → P k) → All P (range_with_len a n)
+All-range P a n h k d below =
+    let count = length-range_with_len a n in
+    let small : k < n = omega arith in
+    rw (get_or-range_with_len a n k d small) (h (a + k) (omega arith) (omega arith))
+
+-- what holds of those that pass
+All-choice : {X : Type 0} (p : X → Bool) (P : X → Type 0) (x : X) (ys : List X) → All P ys → (p x ≡ true → P x) → (b : Bool) → p x ≡ b → All P (cond b (x ∷ ys) ys)
+All-choice p P x ys rest here true e = All-cons P x ys (here e) rest
+All-choice p P x ys rest here false e = rest
+
+pub All-passing : {X : Type 0} (p : X → Bool) (P : X → Type 0) (xs : List X) → All (λ x. p x ≡ true → P x) xs → All P (filter p xs)
+All-passing p P [] h = All-nil P
+All-passing p P (x ∷ xs) h =
+    All-choice p P x (filter p xs) (All-passing p P xs (All-tail (λ x. p x ≡ true → P x) x xs h)) (All-head (λ x. p x ≡ true → P x) x xs h) (p x) refl
+
+pub All-pieces : {X Y : Type 0} (f : X → List Y) (P : Y → Type 0) (xs : List X) → All (λ x. All P (f x)) xs → All P (flat_map f xs)
+All-pieces f P [] h = All-nil P
+All-pieces f P (x ∷ xs) h = All-append P (f x) (flat_map f xs) (All-head (λ x. All P (f x)) x xs h) (All-pieces f P xs (All-tail (λ x. All P (f x)) x xs h))

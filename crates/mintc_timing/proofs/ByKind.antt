@@ -12,8 +12,7 @@ use Rattle.mintc_timing.specs.Limits.{IsPhase}
 use Rattle.mintc_timing.specs.Links.{links_of, start_link, cycle_link, order_link, span_link, width_link, apart_link, open_link, opened_link, reach_link, setup_link, bound_link, latches_of}
 use Rattle.mintc_timing.specs.Violations.{phases_of, elements_of}
 use Rattle.mintc_timing.proofs.Feeding.{latch_of}
-use Rattle.mintc_timing.proofs.MeetingLaws.{All-range, All-passing, All-pieces}
-use Rattle.mintc_constraints.proofs.Members.{All-front, All-back, Contains-map, Contains-filter, Contains-flat_map, Contains-range, Contains-enumerate}
+use Rattle.mintc_timing.proofs.Members.{All-front, All-back, Contains-map, Contains-filter, Contains-flat_map, Contains-range, Contains-enumerate, All-range, All-passing, All-pieces}
 
 -- What holds of each link of a design, kind by kind.
 pub record EachKind (t : Timing) (P : Link → Type 0) : Type 0 where
