@@ -11,13 +11,12 @@ use Rattle.mintc_timing.specs.Design.{Timing, phase_count, element_count, elemen
 use Rattle.mintc_timing.specs.Clocking.{start_of, width_of, end_of, least_width, time_of, KeepsApart, KeepsPhase, KeepsClock, KeepsBound}
 use Rattle.mintc_timing.specs.Departures.{departure, late_arrival, late_opening, late_departure, AreExact}
 use Rattle.mintc_timing.specs.Limits.{IsPhase, IsDesign, IsPoint}
-use Rattle.mintc_timing.specs.Links.{links_of, start_node, end_node, element_node, output_node, point_node, open_link, reach_link, setup_link}
+use Rattle.mintc_timing.specs.Links.{links_of, start_node, end_node, element_node, output_node, point_node, open_link, reach_link, setup_link, IsMet, earliest_end, no_link, link_at}
 use Rattle.mintc_timing.specs.Right.{IsRight, KeepsSetup}
 use Rattle.mintc_timing.proofs.DepartureLaws.{late_departure-latch, late_departure-flop}
 use Rattle.mintc_timing.proofs.Products.{times-mono_positive}
 use Rattle.mintc_timing.proofs.SetupLaws.{KeepsSetup-latch}
-use Rattle.mintc_constraints.specs.Ordinary.{link_at, no_link}
-use Rattle.mintc_constraints.specs.Duality.{brought, IsMet, AreExactMoments, schedule_of, departure_of, departures_of, MomentsAreRight}
+use Rattle.mintc_constraints.specs.Duality.{AreExactMoments, schedule_of, departure_of, departures_of, MomentsAreRight}
 use Rattle.mintc_timing.specs.Paths.{HasEnds}
 use Rattle.mintc_timing.proofs.Arrivals.{latest, ArrivesBy, latest-opens, latest-arrives, latest-attained, greatest-from_each}
 use Rattle.mintc_timing.proofs.ByKind.{EachKind, All-links, EachKind-from_all}
@@ -69,8 +68,8 @@ module _ (t : Timing) (limits : IsDesign t.flat) (ends : HasEnds t) where
     abbrev d : List ℤ
     d = departures_of t values
 
-    met : EachKind t (IsMet num den values)
-    met = EachKind-from_all t (IsMet num den values) exact.moments.met
+    met : EachKind t (IsMet num den (value_at values))
+    met = EachKind-from_all t (IsMet num den (value_at values)) exact.moments.met
 
     start_is : (p : ℕ) → IsPhase (phase_count t) p → start_of s p ≡ value_at values (start_node p)
     start_is p h =
@@ -171,7 +170,7 @@ module _ (t : Timing) (limits : IsDesign t.flat) (ends : HasEnds t) where
             ap (λ (b : Bool). value_at values (cond b (start_node (phase_of t j)) (element_node t j))) flop ∙ omega (arith, ints)
 
     arrival_is : (n : ℕ) → n < length t.pairs →
-        brought num den values (reach_link t (pair_at t n).from (pair_at t n).to (pair_at t n).max) ≡ late_arrival t s d (pair_at t n) +ℤ start_of s (phase_of t (pair_at t n).to)
+        earliest_end num den (value_at values) (reach_link t (pair_at t n).from (pair_at t n).to (pair_at t n).max) ≡ late_arrival t s d (pair_at t n) +ℤ start_of s (phase_of t (pair_at t n).to)
     arrival_is n h =
         let out = output_is (pair_at t n).from (ends n no_pair h).0 in
         omega (arith, ints)
@@ -183,7 +182,7 @@ module _ (t : Timing) (limits : IsDesign t.flat) (ends : HasEnds t) where
         let start = start_is (phase_of t l) (phase_is l h) in
         omega (arith, ints)
 
-    opening_is-latch : (l : ℕ) → l < element_count t → (element_at t l).flop ≡ false → brought num den values (open_link t l) ≡ late_opening t s l +ℤ start_of s (phase_of t l)
+    opening_is-latch : (l : ℕ) → l < element_count t → (element_at t l).flop ≡ false → earliest_end num den (value_at values) (open_link t l) ≡ late_opening t s l +ℤ start_of s (phase_of t l)
     opening_is-latch l h latch =
         let start = start_is (phase_of t l) (phase_is l h) in
         rw latch (omega (arith, ints))
@@ -214,16 +213,16 @@ module _ (t : Timing) (limits : IsDesign t.flat) (ends : HasEnds t) where
         (latest-attained t s d l)
 
     -- and no later than one of these asks.
-    entered : (l : ℕ) → l < element_count t → (element_at t l).flop ≡ false → (k : Link) → EntersBy t l k → value_at values (element_node t l) ≡ brought num den values k → departure d l ≤ℤ latest t s d l
+    entered : (l : ℕ) → l < element_count t → (element_at t l).flop ≡ false → (k : Link) → EntersBy t l k → value_at values (element_node t l) ≡ earliest_end num den (value_at values) k → departure d l ≤ℤ latest t s d l
     entered l h latch k (inl is) brings =
         let moment = moment_is-latch l h latch in
         let opening = opening_is-latch l h latch in
-        let same : brought num den values k ≡ brought num den values (open_link t l) = ap (brought num den values) is in
+        let same : earliest_end num den (value_at values) k ≡ earliest_end num den (value_at values) (open_link t l) = ap (earliest_end num den (value_at values)) is in
         let least = latest-opens t s d l in
         omega (arith, ints)
     entered l h latch k (inr (n, below, to, is)) brings =
         let moment = moment_is-latch l h latch in
-        let same : brought num den values k ≡ brought num den values (reach_link t (pair_at t n).from (pair_at t n).to (pair_at t n).max) = ap (brought num den values) is in
+        let same : earliest_end num den (value_at values) k ≡ earliest_end num den (value_at values) (reach_link t (pair_at t n).from (pair_at t n).to (pair_at t n).max) = ap (earliest_end num den (value_at values)) is in
         let arrival = arrival_is n below in
         let phase : start_of s (phase_of t (pair_at t n).to) ≡ start_of s (phase_of t l) = ap (λ (m : ℕ). start_of s (phase_of t m)) to in
         let bound = latest-arrives t s d l n below to in
@@ -258,7 +257,7 @@ module _ (t : Timing) (limits : IsDesign t.flat) (ends : HasEnds t) where
         let setup : ((value_at values (element_node t l) +ℤ (element_at t l).setup *ℤ den) ≤ℤ value_at values (end_node p)) = setup_of-latch (met.setup l h) in
         (KeepsSetup-latch t s d l latch).1 (omega (arith, ints, clamps))
       where
-        setup_of-latch : IsMet num den values (setup_link t l) → (value_at values (element_node t l) +ℤ (element_at t l).setup *ℤ den) ≤ℤ value_at values (end_node (phase_of t l))
+        setup_of-latch : IsMet num den (value_at values) (setup_link t l) → (value_at values (element_node t l) +ℤ (element_at t l).setup *ℤ den) ≤ℤ value_at values (end_node (phase_of t l))
         setup_of-latch k = let k' = rw latch at k in omega (arith, ints)
 
     keeps_setup-flop : (l : ℕ) → l < element_count t → (element_at t l).flop ≡ true → KeepsSetup t s d l

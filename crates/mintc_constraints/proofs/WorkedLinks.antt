@@ -14,7 +14,7 @@ use Rattle.mintc_timing.specs.Worked.{latch, pair, ring, of_100}
 use Rattle.mintc_timing.proofs.WorkedPairs.{pairs_of_ring}
 use Rattle.mintc_timing.proofs.WorkedRows.{right_100}
 use Rattle.mintc_constraints.specs.Duality.{AreExactMoments, moments_of, schedule_of, departures_of}
-use Rattle.mintc_constraints.proofs.OrdinaryLaws.{ends_of}
+use Rattle.mintc_timing.proofs.LinkLaws.{ends_of}
 use Rattle.mintc_constraints.proofs.RightLaws.{right_has_moments_lem}
 use Rattle.mintc_constraints.proofs.ChainLaws.{tight_is_least_lem}
 

@@ -5,11 +5,11 @@ use Rattle.mintc_timing.specs.declared.clocking.Schedule.{Schedule}
 use Rattle.mintc_timing.specs.declared.link.Link.{Link}
 use Rattle.mintc_timing.specs.Design.{Timing, element_count, element_at, phase_of}
 use Rattle.mintc_timing.specs.Limits.{IsDesign}
-use Rattle.mintc_timing.specs.Links.{links_of, start_node, end_node, element_node, IsChain, delay_of, cycles_of, Forbids}
+use Rattle.mintc_timing.specs.Links.{links_of, start_node, end_node, element_node, IsChain, Forbids, IsTight, IsStuck, IsMet, earliest_end, link_at}
+use Rattle.mintc_timing.specs.Paths.{HasEnds}
 use Rattle.mintc_timing.specs.Right.{IsRight, IsLeastCycle, IsHopeless}
 use Rattle.mintc_timing.specs.Times.{node_time}
 use Rattle.mintc_timing.specs.Violations.{phases_of, elements_of}
-use Rattle.mintc_constraints.specs.Ordinary.{link_at}
 use Rattle.mintc_constraints.specs.Laws.{node_count}
 
 -- Values of the nodes are moments, in femtoseconds times den, at a cycle time of num / den femtoseconds. Some link of the list
@@ -65,9 +65,9 @@ ForbiddenIsNotRight = (t : Timing) (num den : ℤ) (chain : List Link) → IsDes
 
 -- A chain that has no cycle and takes time leaves no right schedule at all.
 abbrev pub StuckIsHopeless : Type 0
-StuckIsHopeless = (t : Timing) (chain : List Link) → IsDesign t.flat → HasEnds t → IsChain (links_of t) chain → cycles_of chain ≡ pos 0 → pos 0 <ℤ delay_of chain → IsHopeless t
+StuckIsHopeless = (t : Timing) (chain : List Link) → IsDesign t.flat → HasEnds t → IsChain (links_of t) chain → IsStuck chain → IsHopeless t
 
 -- A cycle time with exact moments, at which a chain of some cycles takes exactly its cycles, is the least.
 abbrev pub TightIsLeast : Type 0
 TightIsLeast = (t : Timing) (num den : ℤ) (values : List ℤ) (chain : List Link) → IsDesign t.flat → HasEnds t → pos 1 ≤ℤ den → AreExactMoments t num den values →
-    IsChain (links_of t) chain → pos 1 ≤ℤ cycles_of chain → delay_of chain *ℤ den ≡ cycles_of chain *ℤ num → IsLeastCycle t num den
+    IsChain (links_of t) chain → IsTight chain num den → IsLeastCycle t num den

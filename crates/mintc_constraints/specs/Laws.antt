@@ -5,8 +5,8 @@ use Rattle.mintc_timing.specs.declared.link.Link.{Link}
 use Rattle.mintc_timing.specs.Design.{Timing, phase_count, element_count}
 use Rattle.mintc_timing.specs.Limits.{IsDesign}
 use Rattle.mintc_timing.specs.Order.{IsTiming}
-use Rattle.mintc_timing.specs.Links.{links_of, IsChain}
-use Rattle.mintc_constraints.specs.Ordinary.{IsOrdinary, Leads, constraints_of, link_at}
+use Rattle.mintc_timing.specs.Links.{links_of, IsChain, link_at}
+use Rattle.mintc_constraints.specs.Ordinary.{IsOrdinary, Leads, constraints_of}
 
 -- How many nodes a design has: time 0, the start and the end of each phase, and a moment for each element.
 abbrev pub node_count : Timing → ℕ

@@ -1,7 +1,7 @@
 use Rattle.std.specs.Prelude.{◌≡◌, ◌<◌, ◌≤◌, ◌^◌, ℕ, pos, negsuc, ◌≤ℤ◌, List, [], ◌∷◌, length, slice_index_or, All}
 use Rattle.mintc_timing.specs.declared.link.Link.{Link}
-use Rattle.mintc_timing.specs.declared.link.LinkKind.TheVariants as kind
-use Rattle.mintc_timing.specs.Links.{link}
+use Rattle.mintc_rings.specs.Rings.{LeadsBy}
+use Rattle.mintc_timing.specs.Links.{no_link, link_at}
 
 -- What a list of links is seen as: how many nodes there are, and the links between them. Nodes are counted from 0.
 pub record Constraints : Type 0 where
@@ -11,18 +11,9 @@ pub record Constraints : Type 0 where
 abbrev pub constraints_of : ℕ → List Link → Constraints
 constraints_of count items = record { nodes = count; links = items }
 
--- a link from node 0 to itself, which stands for those past the end of a list
-abbrev pub no_link : Link
-no_link = link (kind.Other 0) 0 0 (pos 0) 0
-
--- the link of a number, counted from 0
-abbrev pub link_at : List Link → ℕ → Link
-link_at links e = slice_index_or links e no_link
-
 -- A walk is a list of link numbers, each link leaving the node where the one before ends. This one leads from a to b.
 abbrev pub Leads : List Link → ℕ → List ℕ → ℕ → Type 0
-Leads links a [] b = a ≡ b
-Leads links a (e ∷ es) b = (e < length links) × ((link_at links e).from ≡ a) × Leads links (link_at links e).to es b
+Leads links = LeadsBy (λ (k : Link). k.from) (λ (k : Link). k.to) no_link links
 
 -- A link of delay 0 and so many cycles leads from a to b.
 pub record HasPlainLink (links : List Link) (a b laps : ℕ) : Type 0 where

@@ -17,7 +17,8 @@ use Rattle.mintc_constraints.specs.Duality.{departures_of}
 use Rattle.mintc_constraints.specs.Laws.{node_count}
 use Rattle.mintc_constraints.specs.Ordinary.{Constraints, IsOrdinary, constraints_of}
 use Rattle.mintc_timing.proofs.ByKind.{All-links}
-use Rattle.mintc_constraints.proofs.OrdinaryLaws.{each_between, ends_of}
+use Rattle.mintc_constraints.proofs.OrdinaryLaws.{each_between}
+use Rattle.mintc_timing.proofs.LinkLaws.{ends_of}
 use Rattle.mintc_certificate.specs.Ranges.{IsDeparture}
 use Rattle.mintc_optimise.proofs.StandingLaws.{of_kind}
 use Rattle.mintc_corners.specs.CornerOptimum.{AreDeparturesInRange}

@@ -9,12 +9,12 @@ use Rattle.mintc_timing.specs.declared.clocking.Schedule.{Schedule}
 use Rattle.mintc_rings.specs.Rings.{IsClosed}
 use Rattle.mintc_timing.specs.Design.{Timing, element_count, phase_count}
 use Rattle.mintc_timing.specs.Limits.{IsDesign, IsInRange}
-use Rattle.mintc_timing.specs.Links.{IsChain, cycles_of, delay_of, links_of}
+use Rattle.mintc_timing.specs.Links.{IsChain, cycles_of, delay_of, links_of, link_at}
 use Rattle.mintc_timing.specs.Right.{IsLeastCycle, IsRight}
 use Rattle.mintc_constraints.specs.Duality.{AreExactMoments, departures_of, schedule_of}
 use Rattle.mintc_timing.specs.Paths.{HasEnds}
 use Rattle.mintc_constraints.specs.Laws.{node_count}
-use Rattle.mintc_constraints.specs.Ordinary.{Constraints, constraints_of, link_at}
+use Rattle.mintc_constraints.specs.Ordinary.{Constraints, constraints_of}
 use Rattle.mintc_constraints.specs.Rooms.{Space}
 use Rattle.mintc_constraints.proofs.ChainLaws.{stuck_is_hopeless_lem, tight_is_least_lem}
 use Rattle.mintc_constraints.proofs.MomentLaws.{moments_are_right_lem}

@@ -11,10 +11,9 @@ use Rattle.mintc_timing.specs.declared.parts.Point.{Point}
 use Rattle.mintc_timing.specs.declared.parts.Point.TheVariants as point
 use Rattle.mintc_timing.specs.Design.{Timing, element_count, no_pair, pair_at, phase_count}
 use Rattle.mintc_timing.specs.Limits.{IsDesign, IsPoint}
-use Rattle.mintc_timing.specs.Links.{bound_link, end_node, links_of, open_link, opened_link, point_node, reach_link, setup_link, start_node}
+use Rattle.mintc_timing.specs.Links.{bound_link, end_node, links_of, open_link, opened_link, point_node, reach_link, setup_link, start_node, link_at}
 use Rattle.mintc_timing.specs.Order.{IsTiming}
 use Rattle.mintc_timing.specs.Paths.{IsGreatestDelay, greatest_delay, input_of}
-use Rattle.mintc_constraints.specs.Ordinary.{link_at}
 use Rattle.mintc_ratio.specs.Chains.{links_at}
 use Rattle.mintc_certificate.specs.declared.members.Member.{Member}
 use Rattle.mintc_certificate.specs.declared.members.Member.TheVariants as member

@@ -1,6 +1,6 @@
 //! The members for a chain of joint links.
 ghost use Rattle.std.specs.Prelude.{◌≡◌, ◌<◌, ◌≤◌, ◌+◌, IfOk, All, length, map, flat_map};
-ghost use Rattle.mintc_constraints.specs.Ordinary.{link_at};
+ghost use Rattle.mintc_timing.specs.Links.{link_at};
 ghost use Rattle.mintc_corners.specs.Joined.{IsPlace, joined_links, own_list, total_links};
 ghost use Rattle.mintc_corners.specs.Joint.{AreCorners};
 ghost use Rattle.mintc_corners.specs.Laws.{AreSystems};

@@ -5,9 +5,9 @@ use Rattle.mintc_fraction.specs.Ratio.{Ratio}
 use Rattle.mintc_walks.specs.Walks.{value_at}
 use Rattle.mintc_timing.specs.Design.{Timing, element_at, element_count, phase_count, phase_of, no_element}
 use Rattle.mintc_timing.specs.Limits.{IsDesign, IsGap, IsDelay, IsNumerator, IsPhase}
-use Rattle.mintc_timing.specs.Links.{element_node, end_node, setup_link, open_link, start_node}
+use Rattle.mintc_timing.specs.Links.{element_node, end_node, setup_link, open_link, start_node, IsMet}
 use Rattle.mintc_timing.proofs.Products.{times-mono_positive}
-use Rattle.mintc_constraints.specs.Duality.{AreExactMoments, IsMet}
+use Rattle.mintc_constraints.specs.Duality.{AreExactMoments}
 use Rattle.mintc_timing.proofs.ByKind.{EachKind, EachKind-from_all}
 use Rattle.mintc_constraints.proofs.OrdinaryLaws.{least_width-range}
 use Rattle.mintc_certificate.specs.Ranges.{IsDeparture}
@@ -31,8 +31,8 @@ gap_between : (x y : ℤ) → IsDelay x → IsDelay y → IsGap (x -ℤ y)
 gap_between x y g h = let a = g.0 in let b = g.1 in let c = h.0 in let d = h.1 in (omega (arith, ints), omega (arith, ints))
 
 module _ (t : Timing) (limits : IsDesign t.flat) (cycle : Ratio) (is_cycle : IsCycle cycle) (values : List ℤ) (exact : AreExactMoments t cycle.num cycle.den values) where
-  met : EachKind t (IsMet cycle.num cycle.den values)
-  met = EachKind-from_all t (IsMet cycle.num cycle.den values) exact.moments.met
+  met : EachKind t (IsMet cycle.num cycle.den (value_at values))
+  met = EachKind-from_all t (IsMet cycle.num cycle.den (value_at values)) exact.moments.met
 
   start_range : (p : ℕ) → IsPhase (phase_count t) p → IsNumerator (value_at values (start_node p))
   start_range p h =
@@ -64,11 +64,11 @@ module _ (t : Timing) (limits : IsDesign t.flat) (cycle : Ratio) (is_cycle : IsC
       let closes = setup (met.setup l h) in
       (omega (arith, ints), omega (arith, ints))
     where
-      opening : IsMet cycle.num cycle.den values (open_link t l) →
+      opening : IsMet cycle.num cycle.den (value_at values) (open_link t l) →
           (value_at values (start_node (phase_of t l)) +ℤ ((element_at t l).cq_max -ℤ (element_at t l).dq_max) *ℤ cycle.den) ≤ℤ value_at values (element_node t l)
       opening k = let here = rw latch at k in omega (arith, ints)
 
-      setup : IsMet cycle.num cycle.den values (setup_link t l) →
+      setup : IsMet cycle.num cycle.den (value_at values) (setup_link t l) →
           (value_at values (element_node t l) +ℤ (element_at t l).setup *ℤ cycle.den) ≤ℤ value_at values (end_node (phase_of t l))
       setup k = let here = rw latch at k in omega (arith, ints)
 

@@ -9,7 +9,7 @@ use Rattle.mintc_timing.specs.declared.link.LinkKind.{LinkKind}
 use Rattle.mintc_timing.specs.declared.link.LinkKind.TheVariants as kind
 use Rattle.mintc_timing.specs.Design.{Timing, element_at, element_count, pair_at, no_pair}
 use Rattle.mintc_timing.specs.Limits.{IsDesign}
-use Rattle.mintc_timing.specs.Links.{links_of, bound_link, reach_link}
+use Rattle.mintc_timing.specs.Links.{links_of, bound_link, reach_link, no_link, link_at}
 use Rattle.mintc_timing.specs.Order.{IsTiming}
 use Rattle.mintc_timing.specs.Paths.{IsPath, input_of, greatest_delay}
 use Rattle.mintc_timing.proofs.ByKind.{EachKind, All-links}
@@ -19,7 +19,6 @@ use Rattle.mintc_certificate.specs.CertificateText.{IsCounted}
 use Rattle.mintc_certificate.specs.Valid.{IsMember, link_of, no_bound}
 use Rattle.mintc_paths.specs.declared.trace.Extreme.TheVariants.{Greatest}
 use Rattle.mintc_paths.specs.Finding.{IsDelayOf}
-use Rattle.mintc_constraints.specs.Ordinary.{link_at, no_link}
 use Rattle.mintc_ratio.specs.Chains.{links_at}
 use Rattle.mintc_optimise.specs.Making.{StandsFor, StandForAll}
 use Rattle.mintc_optimise.proofs.PathLaws.{arcs_below, path_short}

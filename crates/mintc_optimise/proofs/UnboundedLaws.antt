@@ -20,7 +20,8 @@ use Rattle.mintc_constraints.specs.Laws.{node_count}
 use Rattle.mintc_constraints.specs.Ordinary.{IsOrdinary, IsOrdinaryLink, constraints_of}
 use Rattle.mintc_timing.proofs.Arrivals.{latest, ArrivesBy, latest-opens, latest-attained, greatest-from_each}
 use Rattle.mintc_timing.proofs.ByKind.{EachKind-from_all}
-use Rattle.mintc_constraints.proofs.OrdinaryLaws.{ends_of, least_width-range, ordinary}
+use Rattle.mintc_constraints.proofs.OrdinaryLaws.{least_width-range, ordinary}
+use Rattle.mintc_timing.proofs.LinkLaws.{ends_of}
 use Rattle.mintc_optimise.specs.Bounded.{UnboundedHasRight, NeverNeedsABound}
 
 -- Phase p starts at p * 10^10 femtoseconds.

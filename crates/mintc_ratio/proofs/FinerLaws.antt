@@ -3,10 +3,10 @@ use Rattle.std.proofs.lemmas.Int.{ints}
 use Rattle.mintc_fraction.specs.Ratio.{Ratio, over}
 use Rattle.mintc_timing.specs.declared.link.Link.{Link}
 use Rattle.mintc_timing.specs.declared.link.LinkKind.TheVariants as kind
-use Rattle.mintc_timing.specs.Links.{link, delay_of, cycles_of}
+use Rattle.mintc_timing.specs.Links.{link, delay_of, cycles_of, link_at}
 use Rattle.mintc_timing.proofs.Products.{add-times, neg-times}
 use Rattle.mintc_fraction.proofs.Products.{times-assoc}
-use Rattle.mintc_constraints.specs.Ordinary.{link_at, Leads}
+use Rattle.mintc_constraints.specs.Ordinary.{Leads}
 use Rattle.mintc_ratio.specs.Chains.{links_at}
 use Rattle.mintc_ratio.specs.Greatest.{asked_by, asked_by_link, Meets}
 use Rattle.mintc_ratio.specs.Finer.{LeastAtEachDenominator}

@@ -6,8 +6,8 @@ use Rattle.std.proofs.lemmas.Bool.{cases_eq}
 use Rattle.std.proofs.lemmas.List.{get_or_default}
 use Rattle.mintc_timing.specs.declared.link.Link.{Link}
 use Rattle.mintc_timing.specs.declared.link.LinkKind.TheVariants as kind
-use Rattle.mintc_timing.specs.Links.{link}
-use Rattle.mintc_constraints.specs.Ordinary.{link_at, HasPlainLink}
+use Rattle.mintc_timing.specs.Links.{link, link_at}
+use Rattle.mintc_constraints.specs.Ordinary.{HasPlainLink}
 use Rattle.mintc_ratio.specs.Chains.{NamesChain}
 use Rattle.mintc_ratio.specs.Climbing.{IsPlainAt}
 use Rattle.mintc_ratio.proofs.TestedLaws.{listed}

@@ -10,9 +10,9 @@ use Rattle.mintc_walks.specs.Bounds.{IsWithin}
 use Rattle.mintc_timing.specs.declared.link.Link.{Link}
 use Rattle.mintc_timing.specs.declared.link.LinkKind.TheVariants as kind
 use Rattle.mintc_rings.specs.Rings.{total}
-use Rattle.mintc_timing.specs.Links.{link, delay_of, cycles_of}
+use Rattle.mintc_timing.specs.Links.{link, delay_of, cycles_of, link_at}
 use Rattle.mintc_rings.proofs.RingLaws.{total-append}
-use Rattle.mintc_constraints.specs.Ordinary.{link_at, IsOrdinary, IsOrdinaryLink, constraints_of}
+use Rattle.mintc_constraints.specs.Ordinary.{IsOrdinary, IsOrdinaryLink, constraints_of}
 use Rattle.mintc_ratio.specs.Chains.{NamesChain, links_at}
 use Rattle.mintc_ratio.specs.Sums.{IsSmall}
 

@@ -8,8 +8,8 @@ use Rattle.mintc_fraction.specs.Ratio.{Ratio, over}
 use Rattle.mintc_timing.specs.declared.link.Link.{Link}
 use Rattle.mintc_timing.specs.declared.link.LinkKind.TheVariants as kind
 use Rattle.mintc_rings.specs.Rings.{Joins, IsClosed}
-use Rattle.mintc_timing.specs.Links.{link, Forbids}
-use Rattle.mintc_constraints.specs.Ordinary.{link_at, Leads, IsOrdinaryLink}
+use Rattle.mintc_timing.specs.Links.{link, Forbids, link_at}
+use Rattle.mintc_constraints.specs.Ordinary.{Leads, IsOrdinaryLink}
 use Rattle.mintc_walks.specs.declared.network.TheConstants.{UNREACHED}
 use Rattle.mintc_walks.specs.Bounds.{AreBounded, IsWithin}
 use Rattle.mintc_walks.specs.Walks.{value_at, IsStart, IsReached}

@@ -5,8 +5,8 @@ use Rattle.std.proofs.lemmas.List.{get_or-map, length-map}
 use Rattle.mintc_fraction.specs.Ratio.{Ratio}
 use Rattle.mintc_timing.specs.declared.link.Link.{Link}
 use Rattle.mintc_timing.specs.declared.link.LinkKind.TheVariants as kind
-use Rattle.mintc_timing.specs.Links.{link, delay_of, cycles_of}
-use Rattle.mintc_constraints.specs.Ordinary.{link_at, Leads, IsOrdinaryLink}
+use Rattle.mintc_timing.specs.Links.{link, delay_of, cycles_of, link_at}
+use Rattle.mintc_constraints.specs.Ordinary.{Leads, IsOrdinaryLink}
 use Rattle.mintc_walks.specs.declared.network.Arc.{Arc}
 use Rattle.mintc_walks.specs.Bounds.{IsWithin, AreOrdinary}
 use Rattle.mintc_walks.specs.Walks.{arc_at, weight_of}

@@ -1,7 +1,6 @@
 use Rattle.std.specs.Prelude.{◌≢◌, ◌<◌, ℕ, List, length, map, All, AllPairs}
 use Rattle.mintc_timing.specs.declared.link.Link.{Link}
-use Rattle.mintc_timing.specs.Links.{IsChain}
-use Rattle.mintc_constraints.specs.Ordinary.{link_at}
+use Rattle.mintc_timing.specs.Links.{IsChain, link_at}
 
 -- the links of these numbers, counted from 0
 abbrev pub links_at : List Link → List ℕ → List Link

@@ -10,10 +10,9 @@ use Rattle.mintc_timing.specs.declared.link.LinkKind.TheVariants as kind
 use Rattle.mintc_timing.specs.declared.parts.Pair.{Pair}
 use Rattle.mintc_timing.specs.Design.{Timing, element_at, pair_at, no_pair}
 use Rattle.mintc_timing.specs.Limits.{IsDesign}
-use Rattle.mintc_timing.specs.Links.{links_of}
+use Rattle.mintc_timing.specs.Links.{links_of, no_link, link_at}
 use Rattle.mintc_timing.specs.Order.{IsTiming}
 use Rattle.mintc_timing.specs.Paths.{HasExtremes, IsPath, IsGreatestDelay, IsLeastDelay, input_of, greatest_delay, least_delay}
-use Rattle.mintc_constraints.specs.Ordinary.{link_at, no_link}
 use Rattle.mintc_ratio.specs.Chains.{links_at}
 use Rattle.mintc_certificate.specs.declared.members.Member.{Member}
 use Rattle.mintc_certificate.specs.declared.members.Member.TheVariants as member

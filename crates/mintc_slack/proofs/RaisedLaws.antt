@@ -10,10 +10,9 @@ use Rattle.mintc_timing.specs.declared.parts.Pair.{Pair}
 use Rattle.mintc_timing.specs.declared.link.Link.{Link}
 use Rattle.mintc_timing.specs.Clocking.{feeds_of, is_pair_between}
 use Rattle.mintc_timing.specs.Design.{Timing, element_at, pair_at, phase_of, no_pair}
-use Rattle.mintc_timing.specs.Links.{links_of, reach_link}
+use Rattle.mintc_timing.specs.Links.{links_of, reach_link, IsMet}
 use Rattle.mintc_timing.proofs.Products.{times-mono_positive}
 use Rattle.mintc_timing.specs.Paths.{HasEnds}
-use Rattle.mintc_constraints.specs.Existence.{HoldsOf}
 use Rattle.mintc_timing.proofs.ByKind.{EachKind, All-links, EachKind-from_all}
 use Rattle.mintc_slack.specs.Raised.{raised, raised_pair, with_pairs}
 
@@ -76,11 +75,11 @@ module _ (t : Timing) (ps qs : List Pair) (alike : AreAlike ps qs) where
 
   -- What meets each link with greater delays, meets each with less.
   pub holds-less : (num den : ℤ) (f : ℕ → ℤ) → pos 1 ≤ℤ den → ((n : ℕ) → n < length ps → (get_or qs n no_pair).max ≤ℤ (get_or ps n no_pair).max) →
-      All (HoldsOf num den f) (links_of (with_pairs t ps)) → All (HoldsOf num den f) (links_of (with_pairs t qs))
+      All (IsMet num den f) (links_of (with_pairs t ps)) → All (IsMet num den f) (links_of (with_pairs t qs))
   holds-less num den f some less all =
-      let each = EachKind-from_all (with_pairs t ps) (HoldsOf num den f) all in
-      All-links (with_pairs t qs) (HoldsOf num den f)
-      (each-alike (HoldsOf num den f) each
+      let each = EachKind-from_all (with_pairs t ps) (IsMet num den f) all in
+      All-links (with_pairs t qs) (IsMet num den f)
+      (each-alike (IsMet num den f) each
       (λ n h.
       let here = each.reach n h in
       let most = less n h in

@@ -12,15 +12,14 @@ use Rattle.mintc_timing.specs.declared.link.Link.{Link}
 use Rattle.mintc_timing.specs.Design.{Timing, element_at, element_count, pair_at, phase_of, no_element, no_pair}
 use Rattle.mintc_timing.specs.Clocking.{crosses_of}
 use Rattle.mintc_timing.specs.Limits.{IsDesign}
-use Rattle.mintc_timing.specs.Links.{links_of, delay_of, cycles_of, element_node, output_node, reach_link, start_node}
+use Rattle.mintc_timing.specs.Links.{links_of, delay_of, cycles_of, element_node, output_node, reach_link, start_node, IsMet, no_link, link_at}
 use Rattle.mintc_timing.specs.Right.{IsRight, IsLeastCycle, IsHopeless}
 use Rattle.mintc_timing.proofs.DeterminedLaws.{least_cycle_is_determined_lem}
 use Rattle.mintc_timing.proofs.Products.{add-times, swap-times, times-mono, times-mono_positive, times-cancel_positive}
-use Rattle.mintc_constraints.specs.Duality.{IsMet, moments_of}
+use Rattle.mintc_constraints.specs.Duality.{moments_of}
 use Rattle.mintc_timing.specs.Paths.{HasEnds}
-use Rattle.mintc_constraints.specs.Existence.{HoldsOf}
 use Rattle.mintc_constraints.specs.Laws.{node_count}
-use Rattle.mintc_constraints.specs.Ordinary.{Leads, link_at, no_link}
+use Rattle.mintc_constraints.specs.Ordinary.{Leads}
 use Rattle.mintc_timing.proofs.ByKind.{EachKind, All-links, EachKind-from_all}
 use Rattle.mintc_constraints.proofs.ExistenceLaws.{feasible_has_right_lem, has_least_or_is_hopeless_lem}
 use Rattle.mintc_constraints.proofs.RightLaws.{right_has_moments_lem}
@@ -34,7 +33,7 @@ use Rattle.mintc_slack.specs.Laws.{RoomIsSlack, RoomIsThere, SlackIsDetermined}
 use Rattle.mintc_slack.proofs.RaisedLaws.{AreAlike, alike-back, each-alike, ends-alike, holds-less, raised-alike, raised-else, raised-here, raised-less, raised-more}
 
 -- Moments that meet links rise along a walk at least as it asks.
-along : (at : Ratio) (f : ℕ → ℤ) (links : List Link) (walk : List ℕ) (a b : ℕ) → All (HoldsOf at.num at.den f) links → Leads links a walk b →
+along : (at : Ratio) (f : ℕ → ℤ) (links : List Link) (walk : List ℕ) (a b : ℕ) → All (IsMet at.num at.den f) links → Leads links a walk b →
     (f a +ℤ asked_by at (links_at links walk)) ≤ℤ f b
 along at f links [] a b met leads = rw leads (omega (arith, ints))
 along at f links (e ∷ es) a b met leads =
@@ -79,7 +78,7 @@ module _ (t : Timing) (limits : IsDesign t.flat) (ends : HasEnds t) (n : ℕ) (b
   raised-ends u = ends-alike t t.pairs (raised t n u).pairs (raised-alike t n below u) ends
 
   -- The moments of a right schedule, as a function, meet each link.
-  right-meets : (u : ℤ) (s : Schedule) (d : List ℤ) → IsRight (raised t n u) s d → All (HoldsOf s.cycle s.den (λ node. value_at (moments_of (raised t n u) s d) node)) (links_of (raised t n u))
+  right-meets : (u : ℤ) (s : Schedule) (d : List ℤ) → IsRight (raised t n u) s d → All (IsMet s.cycle s.den (λ node. value_at (moments_of (raised t n u) s d) node)) (links_of (raised t n u))
   right-meets u s d right = (right_has_moments_lem (raised t n u) s d limits (raised-ends u) right).moments.met
 
   -- A right schedule of the raised timing leaves one of the timing itself, and of those that are raised by less.
@@ -116,20 +115,20 @@ module _ (t : Timing) (limits : IsDesign t.flat) (ends : HasEnds t) (n : ℕ) (b
 
     pub there : pos 0 ≤ℤ room_of t at values p
     there =
-        let each = EachKind-from_all t (IsMet at.num at.den values) from.met in
+        let each = EachKind-from_all t (IsMet at.num at.den (value_at values)) from.met in
         let here = each.reach n below in
         let zero = from.zero in
         omega (arith, ints)
 
     -- Raised by what there is room for, the pair's link still holds of the values.
-    raised-holds : (u : ℤ) → pos 0 ≤ℤ u → (u *ℤ at.den) ≤ℤ room_of t at values p → All (HoldsOf at.num at.den f) (links_of (raised t n u))
+    raised-holds : (u : ℤ) → pos 0 ≤ℤ u → (u *ℤ at.den) ≤ℤ room_of t at values p → All (IsMet at.num at.den f) (links_of (raised t n u))
     raised-holds u low fits =
-        All-links (raised t n u) (HoldsOf at.num at.den f) (each-alike t t.pairs (raised t n u).pairs (raised-alike t n below u) (HoldsOf at.num at.den f) each reaches)
+        All-links (raised t n u) (IsMet at.num at.den f) (each-alike t t.pairs (raised t n u).pairs (raised-alike t n below u) (IsMet at.num at.den f) each reaches)
       where
-        each : EachKind t (HoldsOf at.num at.den f)
-        each = EachKind-from_all t (HoldsOf at.num at.den f) from.met
+        each : EachKind t (IsMet at.num at.den f)
+        each = EachKind-from_all t (IsMet at.num at.den f) from.met
 
-        here : HoldsOf at.num at.den f (reach_link t p.from p.to (p.max +ℤ u))
+        here : IsMet at.num at.den f (reach_link t p.from p.to (p.max +ℤ u))
         here =
             let sum : (element_at t p.from).dq_max +ℤ (p.max +ℤ u) ≡ ((element_at t p.from).dq_max +ℤ p.max) +ℤ u = omega (arith, ints) in
             let same = ap (λ (x : ℤ). x *ℤ at.den) sum in
@@ -137,11 +136,11 @@ module _ (t : Timing) (limits : IsDesign t.flat) (ends : HasEnds t) (n : ℕ) (b
             let zero = from.zero in
             omega (arith, ints)
 
-        reaches : (m : ℕ) → m < length t.pairs → HoldsOf at.num at.den f (reach_link t (pair_at t m).from (pair_at t m).to (pair_at (raised t n u) m).max)
+        reaches : (m : ℕ) → m < length t.pairs → IsMet at.num at.den f (reach_link t (pair_at t m).from (pair_at t m).to (pair_at (raised t n u) m).max)
         reaches m h = ⊎_elim
-            (λ (e : m ≡ n). subst (λ (k : ℕ). HoldsOf at.num at.den f (reach_link t (pair_at t k).from (pair_at t k).to (pair_at (raised t n u) k).max)) (sym e)
-            (subst (λ (x : ℤ). HoldsOf at.num at.den f (reach_link t p.from p.to x)) (sym (ap (λ (q : Pair). q.max) (raised-here t n below u))) here))
-            (λ (e : m ≡ n → ⊥). subst (λ (x : ℤ). HoldsOf at.num at.den f (reach_link t (pair_at t m).from (pair_at t m).to x)) (sym (ap (λ (q : Pair). q.max) (raised-else t n below u m e))) (each.reach m h))
+            (λ (e : m ≡ n). subst (λ (k : ℕ). IsMet at.num at.den f (reach_link t (pair_at t k).from (pair_at t k).to (pair_at (raised t n u) k).max)) (sym e)
+            (subst (λ (x : ℤ). IsMet at.num at.den f (reach_link t p.from p.to x)) (sym (ap (λ (q : Pair). q.max) (raised-here t n below u))) here))
+            (λ (e : m ≡ n → ⊥). subst (λ (x : ℤ). IsMet at.num at.den f (reach_link t (pair_at t m).from (pair_at t m).to x)) (sym (ap (λ (q : Pair). q.max) (raised-else t n below u m e))) (each.reach m h))
             (cases_eq m n)
 
     pub kept : (u : ℤ) → pos 0 ≤ℤ u → (u *ℤ at.den) ≤ℤ room_of t at values p → IsLeastCycle (raised t n u) at.num at.den
@@ -181,7 +180,7 @@ module _ (t : Timing) (limits : IsDesign t.flat) (ends : HasEnds t) (n : ℕ) (b
       abbrev g : ℕ → ℤ
       g node = value_at (moments_of (raised t n u) s d) node
 
-      met : All (HoldsOf s.cycle s.den g) (links_of (raised t n u))
+      met : All (IsMet s.cycle s.den g) (links_of (raised t n u))
       met = right-meets u s d right
 
       around : (g (element_node t p.to) +ℤ asked_by (over_of s.cycle s.den) back) ≤ℤ g (output_node t p.from)
@@ -191,9 +190,9 @@ module _ (t : Timing) (limits : IsDesign t.flat) (ends : HasEnds t) (n : ℕ) (b
 
       reach : (g (output_node t p.from) +ℤ (((element_at t p.from).dq_max +ℤ p.max) +ℤ u) *ℤ s.den -ℤ pos c *ℤ s.cycle) ≤ℤ g (element_node t p.to)
       reach =
-          let each = EachKind-from_all (raised t n u) (HoldsOf s.cycle s.den g) met in
+          let each = EachKind-from_all (raised t n u) (IsMet s.cycle s.den g) met in
           let inside : n < length (raised t n u).pairs = (let count = (raised-alike t n below u).count in omega arith) in
-          let here = subst (λ (q : Pair). HoldsOf s.cycle s.den g (reach_link t q.from q.to q.max)) (raised-here t n below u) (each.reach n inside) in
+          let here = subst (λ (q : Pair). IsMet s.cycle s.den g (reach_link t q.from q.to q.max)) (raised-here t n below u) (each.reach n inside) in
           let sum : (element_at t p.from).dq_max +ℤ (p.max +ℤ u) ≡ ((element_at t p.from).dq_max +ℤ p.max) +ℤ u = omega (arith, ints) in
           let same = ap (λ (x : ℤ). x *ℤ s.den) sum in
           omega (arith, ints)

@@ -8,9 +8,9 @@ use Rattle.mintc_timing.specs.declared.clocking.Schedule.{Schedule}
 use Rattle.mintc_timing.specs.declared.link.Link.{Link}
 use Rattle.mintc_timing.specs.Design.{Timing}
 use Rattle.mintc_timing.specs.Limits.{IsDesign}
-use Rattle.mintc_timing.specs.Links.{IsChain, links_of}
+use Rattle.mintc_timing.specs.Links.{IsChain, links_of, IsMet}
 use Rattle.mintc_timing.specs.Right.{IsHopeless, IsLeastCycle}
-use Rattle.mintc_constraints.specs.Duality.{IsMet, moments_of}
+use Rattle.mintc_constraints.specs.Duality.{moments_of}
 use Rattle.mintc_timing.specs.Paths.{HasEnds}
 use Rattle.mintc_constraints.specs.Ordinary.{Constraints, IsOrdinary}
 use Rattle.mintc_constraints.specs.Rooms.{Space}
@@ -35,7 +35,7 @@ module _ (t : Timing) (limits : IsDesign t.flat) (ends : HasEnds t) (list : Cons
   pub least_of : (cycle : Ratio) → IsLeast list cycle room → IsLeastCycle t cycle.num cycle.den
   least_of cycle found =
       let positive = found.cycle_is.fraction in
-      let met = subst (λ (ks : List Link). All (IsMet cycle.num cycle.den room.values) ks) links_are (greatest_are_met_lem list cycle room.values found.values) in
+      let met = subst (λ (ks : List Link). All (IsMet cycle.num cycle.den (value_at room.values)) ks) links_are (greatest_are_met_lem list cycle room.values found.values) in
       let right = feasible_has_right_lem t cycle.num cycle.den (λ node. value_at room.values node) limits ends positive met in
       let chain = subst (λ (ks : List Link). IsChain ks (links_at list.links room.chain)) links_are found.chain.chain in
       record {

@@ -1,7 +1,7 @@
 use Rattle.std.proofs.Common.{◌<◌, ◌∷◌, ◌++◌, [], List, length, map, take, arith, ap, ◌∙◌, sym, subst}
 use Rattle.std.proofs.lemmas.List.{length-map, take_all, take_more}
 use Rattle.std.specs.List.Sorted.{IsPermutation}
-use Rattle.mintc_constraints.specs.Ordinary.{link_at}
+use Rattle.mintc_timing.specs.Links.{link_at}
 use Rattle.mintc_slack.specs.declared.gaps.Gap.{Gap}
 use Rattle.mintc_slack.specs.Gaps.{gap_of}
 use Rattle.mintc_slack.proofs.GapLaws.{weighed}
