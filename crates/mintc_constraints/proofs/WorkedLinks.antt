@@ -155,4 +155,4 @@ chain_of_ring = record {
 
 least_of_ring : IsLeastCycle ring (pos 100) (pos 1)
 least_of_ring =
-    tight_is_least_lem ring (pos 100) (pos 1) moments_of_ring round limits_of_ring (ends_of ring pairs_of_ring) (omega (arith, ints)) exact_of_ring chain_of_ring (omega (arith, ints)) refl
+    tight_is_least_lem ring (pos 100) (pos 1) moments_of_ring round limits_of_ring (ends_of ring pairs_of_ring) (omega (arith, ints)) exact_of_ring chain_of_ring (record { turns = omega (arith, ints); tight = refl })
