@@ -13,7 +13,7 @@ use Rattle.mintc_constraints.specs.Ordinary.{constraints_of}
 use Rattle.mintc_timing.proofs.ByKind.{All-links}
 use Rattle.mintc_constraints.proofs.OrdinaryLaws.{each_between}
 use Rattle.mintc_ratio.specs.Greatest.{AreGreatest}
-use Rattle.mintc_ratio.proofs.BroughtLaws.{greatest_are_brought_lem, greatest_are_met_lem}
+use Rattle.mintc_ratio.proofs.BroughtLaws.{greatest_are_brought_lem}
 
 module _ (t : Timing) (limits : IsDesign t.flat) (ends : HasEnds t) (at : Ratio) (values : List ℤ) (g : AreGreatest (constraints_of (node_count t) (links_of t)) at values) where
   from_below : All (λ (k : Link). k.from < node_count t) (links_of t)
@@ -21,6 +21,6 @@ module _ (t : Timing) (limits : IsDesign t.flat) (ends : HasEnds t) (at : Ratio)
 
   pub exact_moments : AreExactMoments t at.num at.den values
   exact_moments = record {
-    moments = record { count = g.count; origin = g.origin; met = greatest_are_met_lem (constraints_of (node_count t) (links_of t)) at values g };
+    moments = record { count = g.count; origin = g.origin; met = g.met };
     latches = λ l h latch. greatest_are_brought_lem (constraints_of (node_count t) (links_of t)) at values from_below g (element_node t l) (omega arith) (λ e. omega arith);
   }

@@ -17,7 +17,7 @@ use Rattle.mintc_certificate.specs.Valid.{chain_of, links_of_members}
 pub record IsSolution (links : List Link) (s : Schedule) (factor : ℤ) (moment : ℕ → ℤ) : Type 0 where
   pub positive : pos 1 ≤ℤ factor
   pub origin : moment 0 ≡ pos 0
-  pub met : All (Meets (over (s.cycle *ℤ factor) (s.den *ℤ factor)) moment) links
+  pub met : All (IsMet (s.cycle *ℤ factor) (s.den *ℤ factor) moment) links
 
 -- The schedule's denominator is that of its cycle time in lowest terms; and of all solutions of the links at this cycle time
 -- its starts, its ends and the moments at which its latches depart are the least.

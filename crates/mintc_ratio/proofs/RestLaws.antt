@@ -6,11 +6,11 @@ use Rattle.std.proofs.lemmas.Bool.{cases_eq}
 use Rattle.std.proofs.lemmas.List.{get_or_default}
 use Rattle.mintc_timing.specs.declared.link.Link.{Link}
 use Rattle.mintc_timing.specs.declared.link.LinkKind.TheVariants as kind
-use Rattle.mintc_timing.specs.Links.{link, link_at}
+use Rattle.mintc_timing.specs.Links.{link, link_at, no_link}
 use Rattle.mintc_constraints.specs.Ordinary.{HasPlainLink}
 use Rattle.mintc_ratio.specs.Chains.{NamesChain}
 use Rattle.mintc_ratio.specs.Climbing.{IsPlainAt}
-use Rattle.mintc_ratio.proofs.TestedLaws.{listed}
+use Rattle.mintc_rings.proofs.RingLaws.{listed}
 
 abbrev pub IsPlain : Link → ℕ → ℕ → ℕ → Type 0
 IsPlain k a b laps = (k.from ≡ a) × (k.to ≡ b) × (k.delay ≡ pos 0) × (k.cycles ≡ laps)
@@ -47,7 +47,7 @@ rest_named links forth back f b =
     let apart : (link_at links forth).to ≢ (link_at links back).to = λ e. let p = f.to in let q = b.to in absurd (omega arith) in
     record {
       exist = exist;
-      chain = record { listed = listed links (forth ∷ back ∷ []) exist; closed = (b.from ∙ sym f.to, b.to ∙ sym f.from) };
+      chain = record { listed = listed no_link links (forth ∷ back ∷ []) exist; closed = (b.from ∙ sym f.to, b.to ∙ sym f.from) };
       once = two_apart apart;
     }
   where

@@ -1,3 +1,4 @@
+-- What a walk over the weighed links of a list leaves: their greatest walks, or a chain.
 use Rattle.std.proofs.Common.{◌≡◌, ◌≢◌, ℕ, ℤ, pos, ◌^◌, ◌≤ℤ◌, ◌<ℤ◌, ◌<◌, List, [], ◌∷◌, length, take, get_or, ⊎_elim, refl, sym, ap, subst, arith, ◌∙◌, All, Contains, to_z, of_z, lit<}
 use Rattle.std.specs.Int.{w128}
 use Rattle.std.proofs.lemmas.Int.{ints, to_z-of_z}
@@ -6,9 +7,9 @@ use Rattle.std.proofs.lemmas.List.Elements.{All-nil, All-cons, All-head, All-tai
 use Rattle.std.proofs.lemmas.Bool.{cases_eq}
 use Rattle.mintc_fraction.specs.Ratio.{Ratio, over}
 use Rattle.mintc_timing.specs.declared.link.Link.{Link}
-use Rattle.mintc_timing.specs.declared.link.LinkKind.TheVariants as kind
-use Rattle.mintc_rings.specs.Rings.{Joins, IsClosed}
-use Rattle.mintc_timing.specs.Links.{link, Forbids, link_at}
+use Rattle.mintc_rings.specs.Rings.{IsClosed}
+use Rattle.mintc_timing.specs.Links.{Forbids, IsMet, no_link, link_at}
+use Rattle.mintc_rings.proofs.RingLaws.{listed, numbers_of, exist-leads, closed-leads, leads-closed}
 use Rattle.mintc_constraints.specs.Ordinary.{Leads, IsOrdinaryLink}
 use Rattle.mintc_walks.specs.declared.network.TheConstants.{UNREACHED}
 use Rattle.mintc_walks.specs.Bounds.{AreBounded, IsWithin}
@@ -16,14 +17,10 @@ use Rattle.mintc_walks.specs.Walks.{value_at, IsStart, IsReached}
 use Rattle.mintc_walks.specs.Answers.{Meets, HasGreatest, HasChain}
 use Rattle.mintc_ratio.specs.Chains.{links_at, NamesChain}
 use Rattle.mintc_ratio.specs.Greatest.{asked_by, asked_by_link, AreGreatest}
-use Rattle.mintc_ratio.specs.Greatest as greatest
 use Rattle.mintc_ratio.specs.Tested.{NoneForbids}
 use Rattle.mintc_ratio.specs.Weighed.{IsTestable, arcs_of}
 use Rattle.mintc_ratio.proofs.Weights.{fits_128, num_within, den_within}
 use Rattle.mintc_ratio.proofs.Weighing.{from_is, to_is, weight_is, arcs-from_links, links-from_arcs, weight-asked}
-
-abbrev no_link : Link
-no_link = link (kind.Other 0) 0 0 (pos 0) 0
 
 -- the time at which the code weighs the links
 pub time_same : (at : Ratio) (n d : ℤ) → n ≡ at.num → d ≡ at.den → IsTestable at → over (to_z w128 (of_z w128 n)) (to_z w128 (of_z w128 d)) ≡ at
@@ -37,51 +34,6 @@ time_same at n d e f t =
   where
     zero_within : IsWithin 4000000000 (pos 0)
     zero_within = (omega (arith, ints), omega (arith, ints))
-
--- ---- chains by number, and chains of links
-
--- what leads by number joins as links, and the way back
-pub Joins-leads : (links : List Link) (es : List ℕ) (u v : ℕ) → Leads links u es v → Joins (λ k. k.from) (λ k. k.to) u (links_at links es) v
-Joins-leads links [] u v h = h
-Joins-leads links (e ∷ es) u v h = (h.1, Joins-leads links es (link_at links e).to v h.2)
-
-pub exist-leads : (links : List Link) (es : List ℕ) (u v : ℕ) → Leads links u es v → All (λ e. e < length links) es
-exist-leads links [] u v h = All-nil (λ e. e < length links)
-exist-leads links (e ∷ es) u v h = All-cons (λ e. e < length links) e es h.0 (exist-leads links es (link_at links e).to v h.2)
-
-pub listed : (links : List Link) (es : List ℕ) → All (λ e. e < length links) es → All (Contains links) (links_at links es)
-listed links [] h = All-nil (Contains links)
-listed links (e ∷ es) h =
-    All-cons (Contains links) (link_at links e) (links_at links es) (Contains-get_or links e no_link (All-head (λ e. e < length links) e es h))
-    (listed links es (All-tail (λ e. e < length links) e es h))
-
--- each listed link has a number
-numbers_of : (links chain : List Link) → All (Contains links) chain → (es : List ℕ) × (links_at links es ≡ chain) × All (λ e. e < length links) es
-numbers_of links [] h = ([], refl, All-nil (λ e. e < length links))
-numbers_of links (k ∷ chain) h =
-    let here : Contains links k = All-head (Contains links) k chain h in
-    let rest = numbers_of links chain (All-tail (Contains links) k chain h) in
-    let is : link_at links here.0 ≡ k = get_or_default links here.0 no_link k here.1 ∙ here.2 in
-    let same : link_at links here.0 ∷ links_at links rest.0 ≡ k ∷ chain = let e = rest.1 in cc in
-    (here.0 ∷ rest.0, same, All-cons (λ e. e < length links) here.0 rest.0 here.1 rest.2)
-
-leads-joins : (links : List Link) (es : List ℕ) (u v : ℕ) → All (λ e. e < length links) es → Joins (λ k. k.from) (λ k. k.to) u (links_at links es) v → Leads links u es v
-leads-joins links [] u v h j = j
-leads-joins links (e ∷ es) u v h j =
-    (All-head (λ e. e < length links) e es h, j.0, leads-joins links es (link_at links e).to v (All-tail (λ e. e < length links) e es h) j.1)
-
--- a closed list of links by number is a chain, and a chain is such a list
-closed-leads : (links : List Link) (es : List ℕ) (v : ℕ) → es ≢ [] → Leads links v es v → IsClosed (λ k. k.from) (λ k. k.to) (links_at links es)
-closed-leads links [] v some h = absurd (some refl)
-closed-leads links (e ∷ es) v some h =
-    rw h.1 (Joins-leads links es (link_at links e).to v h.2)
-
-leads-closed : (links : List Link) (es : List ℕ) → All (λ e. e < length links) es → IsClosed (λ k. k.from) (λ k. k.to) (links_at links es) → (v : ℕ) × (v ≡ (link_at links (get_or es 0 0)).from) × (es ≢ []) × Leads links v es v
-leads-closed links [] h c = absurd c
-leads-closed links (e ∷ es) h c =
-    let below = All-head (λ e. e < length links) e es h in
-    let some : e ∷ es ≢ [] = λ q. cc q in
-    ((link_at links e).from, refl, some, (below, refl, leads-joins links es (link_at links e).to (link_at links e).from (All-tail (λ e. e < length links) e es h) c))
 
 first-exists : (P : ℕ → Type 0) (es : List ℕ) → es ≢ [] → All P es → P (get_or es 0 0)
 first-exists P [] some h = absurd (some refl)
@@ -112,10 +64,10 @@ module _ (at : Ratio) (links : List Link) where
       let positive = p.positive in
       let asked : pos 0 <ℤ asked_by at (links_at links chain) = omega (arith, ints) in
       let some : chain ≢ [] = λ e. let none : asked_by at (links_at links chain) ≡ pos 0 = ap (λ (x : List ℕ). asked_by at (links_at links x)) e ∙ asked-nothing in absurd (omega (arith, ints)) in
-      let exist = exist-leads links chain v v leads in (
+      let exist = exist-leads (λ (k : Link). k.from) (λ (k : Link). k.to) no_link links v chain v leads in (
         record {
           exist = exist;
-          chain = record { listed = listed links chain exist; closed = closed-leads links chain v some leads };
+          chain = record { listed = listed no_link links chain exist; closed = closed-leads (λ (k : Link). k.from) (λ (k : Link). k.to) no_link links v chain some leads };
           once = λ i j d l m. λ q. p.apart i j d l m (to_is at links (get_or chain i d) ∙ q ∙ sym (to_is at links (get_or chain j d)));
         },
         forbids-asked chain asked,
@@ -168,7 +120,7 @@ module _ (at : Ratio) (links : List Link) where
           let e = a.2 in
           omega (arith, ints)
 
-      met : All (greatest.Meets at (value_at values)) links
+      met : All (IsMet at.num at.den (value_at values)) links
       met e d h =
           let is : get_or links e d ≡ link_at links e = get_or_default links e d no_link h in
           let r = all_reached (link_at links e).from (ordinary e h).from in
@@ -176,10 +128,10 @@ module _ (at : Ratio) (links : List Link) where
           let w = weight_is at links e h in
           let f = ap (value_at values) (from_is at links e) in
           let t = ap (value_at values) (to_is at links e) in
-          let holds : greatest.Meets at (value_at values) (link_at links e) = omega (arith, ints) in
+          let holds : IsMet at.num at.den (value_at values) (link_at links e) = omega (arith, ints) in
           rw is holds
 
-      least : (value : ℕ → ℤ) → value 0 ≡ pos 0 → All (greatest.Meets at value) links → (v : ℕ) → v < n → value_at values v ≤ℤ value v
+      least : (value : ℕ → ℤ) → value 0 ≡ pos 0 → All (IsMet at.num at.den value) links → (v : ℕ) → v < n → value_at values v ≤ℤ value v
       least x z m v h =
           let meets : Meets (arcs_of at links) x = λ e l.
           let l' : e < length links = simp length-map at l in
@@ -193,9 +145,9 @@ module _ (at : Ratio) (links : List Link) where
 
       none : NoneForbids links at
       none chain is_chain forbids =
-          let ns = numbers_of links chain is_chain.listed in
+          let ns = numbers_of no_link links chain is_chain.listed in
           let es = ns.0 in
-          let closed = leads-closed links es ns.2 (subst (λ (x : List Link). IsClosed (λ k. k.from) (λ k. k.to) x) (sym ns.1) is_chain.closed) in
+          let closed = leads-closed (λ (k : Link). k.from) (λ (k : Link). k.to) no_link links es ns.2 (subst (λ (x : List Link). IsClosed (λ k. k.from) (λ k. k.to) x) (sym ns.1) is_chain.closed) in
           let v = closed.0 in
           let asked = asked-forbids es (subst (λ (x : List Link). Forbids x at.num at.den) (sym ns.1) forbids) in
           let inside : v < n = rw closed.1 (ordinary (get_or es 0 0) (first-exists (λ e. e < length links) es closed.2 ns.2)).from in

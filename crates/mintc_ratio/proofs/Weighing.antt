@@ -1,15 +1,16 @@
+-- Links as arcs that weigh what they ask for at a cycle time.
 use Rattle.std.proofs.Common.{◌≡◌, ℕ, zero, suc, ℤ, pos, ◌^◌, ◌<◌, List, [], ◌∷◌, length, refl, sym, arith, ◌∙◌, to_z, of_z, lit<, All}
 use Rattle.std.specs.Int.{w128}
 use Rattle.std.proofs.lemmas.Int.{ints, to_z-of_z}
 use Rattle.std.proofs.lemmas.List.{get_or-map, length-map}
 use Rattle.mintc_fraction.specs.Ratio.{Ratio}
 use Rattle.mintc_timing.specs.declared.link.Link.{Link}
-use Rattle.mintc_timing.specs.declared.link.LinkKind.TheVariants as kind
-use Rattle.mintc_timing.specs.Links.{link, delay_of, cycles_of, link_at}
+use Rattle.mintc_timing.specs.Links.{no_link, delay_of, cycles_of, link_at}
 use Rattle.mintc_constraints.specs.Ordinary.{Leads, IsOrdinaryLink}
+use Rattle.mintc_rings.proofs.RingLaws.{LeadsBy-map, LeadsBy-of_map}
 use Rattle.mintc_walks.specs.declared.network.Arc.{Arc}
 use Rattle.mintc_walks.specs.Bounds.{IsWithin, AreOrdinary}
-use Rattle.mintc_walks.specs.Walks.{arc_at, weight_of}
+use Rattle.mintc_walks.specs.Walks.{arc_at, no_arc, weight_of}
 use Rattle.mintc_walks.specs.Walks as walks
 use Rattle.mintc_ratio.specs.Chains.{links_at}
 use Rattle.mintc_ratio.specs.Greatest.{asked_by, asked_by_link}
@@ -41,16 +42,14 @@ module _ (at : Ratio) where
       ◌≡◌ {A = Arc} (record { from = (link_at links e).from; to = (link_at links e).to; weight = to_z w128 (of_z w128 w) }) (arc_at (arcs_of at links) e)
   arc_is links e w h q small =
       rw (to_z-of_z w128 w (fits_128 (2 ^ 80) w (lit< tt) small), q)
-      (sym (get_or-map (weighed at) links e (link (kind.Other 0) 0 0 (pos 0) 0) (record { from = 0; to = 0; weight = pos 0 }) h))
+      (sym (get_or-map (weighed at) links e no_link no_arc h))
 
   module _ (links : List Link) where
     pub arcs-from_links : (es : List ℕ) (u v : ℕ) → Leads links u es v → walks.Leads (arcs_of at links) u es v
-    arcs-from_links [] u v h = h
-    arcs-from_links (e ∷ es) u v h = (simp length-map h.0, from_is links e ∙ h.1, rw to_is (arcs-from_links es (link_at links e).to v h.2))
+    arcs-from_links = LeadsBy-map (λ (k : Link). k.from) (λ (k : Link). k.to) no_link (λ (x : Arc). x.from) (λ (x : Arc). x.to) no_arc (weighed at) links (λ k. (refl, refl))
 
     pub links-from_arcs : (es : List ℕ) (u v : ℕ) → walks.Leads (arcs_of at links) u es v → Leads links u es v
-    links-from_arcs [] u v h = h
-    links-from_arcs (e ∷ es) u v h = (simp length-map at h.0, sym (from_is links e) ∙ h.1, links-from_arcs es (link_at links e).to v (rw to_is at h.2))
+    links-from_arcs = LeadsBy-of_map (λ (k : Link). k.from) (λ (k : Link). k.to) no_link (λ (x : Arc). x.from) (λ (x : Arc). x.to) no_arc (weighed at) links (λ k. (refl, refl))
 
     -- what a walk asks for is its weight
     pub weight-asked : (es : List ℕ) (u v : ℕ) → Leads links u es v → weight_of (arcs_of at links) es ≡ asked_by at (links_at links es)
@@ -63,6 +62,6 @@ module _ (at : Ratio) where
     pub AreOrdinary-from_links : (n : ℕ) → All (IsOrdinaryLink n) links → IsTestable at → AreOrdinary n (arcs_of at links)
     AreOrdinary-from_links n each t e h =
         let h' : e < length links = simp length-map at h in
-        let f : IsOrdinaryLink n (link_at links e) = each e (link (kind.Other 0) 0 0 (pos 0) 0) h' in
+        let f : IsOrdinaryLink n (link_at links e) = each e no_link h' in
         let delay = delay-within n (link_at links e) f in
         (rw from_is f.from, rw to_is f.to, rw (weight_is links e h') (weight_small (link_at links e).delay at.num at.den (link_at links e).cycles f.cycles delay t))

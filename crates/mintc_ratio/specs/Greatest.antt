@@ -1,7 +1,7 @@
 use Rattle.std.specs.Prelude.{◌≡◌, ◌<◌, ℕ, ℤ, pos, ◌+ℤ◌, ◌-ℤ◌, ◌*ℤ◌, ◌≤ℤ◌, List, length, All}
 use Rattle.mintc_fraction.specs.Ratio.{Ratio}
 use Rattle.mintc_timing.specs.declared.link.Link.{Link}
-use Rattle.mintc_timing.specs.Links.{delay_of, cycles_of}
+use Rattle.mintc_timing.specs.Links.{delay_of, cycles_of, IsMet}
 use Rattle.mintc_constraints.specs.Ordinary.{Constraints, Leads}
 use Rattle.mintc_walks.specs.Walks.{value_at}
 use Rattle.mintc_ratio.specs.Chains.{links_at}
@@ -14,10 +14,6 @@ asked_by at links = delay_of links *ℤ at.den -ℤ cycles_of links *ℤ at.num
 abbrev pub asked_by_link : Ratio → Link → ℤ
 asked_by_link at k = k.delay *ℤ at.den -ℤ pos k.cycles *ℤ at.num
 
--- The values of the nodes meet a link: its end has at least the value of its beginning and what it asks for.
-abbrev pub Meets : Ratio → (ℕ → ℤ) → Link → Type 0
-Meets at value k = (value k.from +ℤ asked_by_link at k) ≤ℤ value k.to
-
 -- Some walk from node 0 to the node asks for x, and none for more.
 pub record IsGreatestWalk (links : List Link) (at : Ratio) (node : ℕ) (x : ℤ) : Type 0 where
   pub attained : (walk : List ℕ) × Leads links 0 walk node × (asked_by at (links_at links walk) ≡ x)
@@ -29,6 +25,6 @@ pub record AreGreatest (list : Constraints) (at : Ratio) (values : List ℤ) : T
   pub count : length values ≡ list.nodes
   pub origin : value_at values 0 ≡ pos 0
   pub greatest : (node : ℕ) → node < list.nodes → IsGreatestWalk list.links at node (value_at values node)
-  pub met : All (Meets at (value_at values)) list.links
-  pub least : (value : ℕ → ℤ) → value 0 ≡ pos 0 → All (Meets at value) list.links →
+  pub met : All (IsMet at.num at.den (value_at values)) list.links
+  pub least : (value : ℕ → ℤ) → value 0 ≡ pos 0 → All (IsMet at.num at.den value) list.links →
       (node : ℕ) → node < list.nodes → value_at values node ≤ℤ value node

@@ -1,7 +1,7 @@
 use Rattle.std.specs.Prelude.{◌≡◌, pos, ◌*ℤ◌, ◌≤ℤ◌, ◌<ℤ◌, List}
 use Rattle.mintc_fraction.specs.Ratio.{Ratio, IsFraction, IsLowest}
 use Rattle.mintc_timing.specs.declared.link.Link.{Link}
-use Rattle.mintc_timing.specs.Links.{delay_of, cycles_of}
+use Rattle.mintc_timing.specs.Links.{IsTight, IsStuck}
 use Rattle.mintc_constraints.specs.Ordinary.{Constraints}
 use Rattle.mintc_constraints.specs.Rooms.{Space}
 use Rattle.mintc_ratio.specs.declared.searching.Outcome.{Outcome}
@@ -9,16 +9,6 @@ use Rattle.mintc_ratio.specs.declared.searching.Outcome.TheVariants.{Least, Neve
 use Rattle.mintc_ratio.specs.Chains.{links_at, NamesChain}
 use Rattle.mintc_ratio.specs.Greatest.{AreGreatest}
 use Rattle.mintc_ratio.specs.Tested.{NoneForbids}
-
--- The chain has a cycle, and its delay is its cycles times the cycle time: it forbids every smaller one.
-pub record IsTight (chain : List Link) (cycle : Ratio) : Type 0 where
-  pub turns : pos 1 ≤ℤ cycles_of chain
-  pub tight : delay_of chain *ℤ cycle.den ≡ cycles_of chain *ℤ cycle.num
-
--- The chain has no cycle, and takes time: it forbids every cycle time.
-pub record IsStuck (chain : List Link) : Type 0 where
-  pub turns : cycles_of chain ≡ pos 0
-  pub stuck : pos 0 <ℤ delay_of chain
 
 -- A cycle time in lowest terms that is a chain's delay over its cycles: at most 4.04 * 10^12 over at most 2,017.
 pub record IsCycle (cycle : Ratio) : Type 0 where
@@ -35,7 +25,7 @@ pub record IsLeast (list : Constraints) (cycle : Ratio) (room : Space) : Type 0 
   pub none_forbids : NoneForbids list.links cycle
   pub values : AreGreatest list cycle room.values
   pub chain : NamesChain list.links room.chain
-  pub tight : IsTight (links_at list.links room.chain) cycle
+  pub tight : IsTight (links_at list.links room.chain) cycle.num cycle.den
 
 -- What a search leaves in a room: the least cycle time, or a chain that forbids every one.
 abbrev pub HasSearched : Constraints → Space → Outcome → Type 0

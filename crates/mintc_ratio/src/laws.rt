@@ -1,5 +1,5 @@
 //! What the definitions say of one another: each law is the contract of a function that does nothing.
-ghost use Rattle.mintc_ratio.specs.Brought.{GreatestAreBrought, GreatestAreMet};
+ghost use Rattle.mintc_ratio.specs.Brought.{GreatestAreBrought};
 ghost use Rattle.mintc_ratio.specs.Finer.{LeastAtEachDenominator, OutcomesAreDetermined};
 
 /// The greatest walk values are the least of all solutions, also of those over a multiple of the denominator.
@@ -10,11 +10,6 @@ pub fn least_at_each_denominator()
 /// Two searches of one list of links have the same outcome, whatever they leave in their rooms.
 pub fn outcomes_are_determined()
     ensures { OutcomesAreDetermined }
-{}
-
-/// The values of greatest walks meet each link.
-pub fn greatest_are_met()
-    ensures { GreatestAreMet }
 {}
 
 /// Some link brings each node its value, other than node 0.

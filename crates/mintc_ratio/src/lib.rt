@@ -13,8 +13,6 @@ mod turns;
 mod weighed;
 
 pub use from::{asked, walk_from};
-pub use laws::{
-    greatest_are_brought, greatest_are_met, least_at_each_denominator, outcomes_are_determined,
-};
+pub use laws::{greatest_are_brought, least_at_each_denominator, outcomes_are_determined};
 pub use searching::{Outcome, search};
 pub use testing::{Test, test_at};

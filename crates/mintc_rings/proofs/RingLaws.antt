@@ -15,6 +15,23 @@ pub total-push : {X : Type 0} (f : X → ℤ) (xs : List X) (x : X) → total f 
 total-push f [] x = omega (arith, ints)
 total-push f (y ∷ xs) x = let rest = total-push f xs x in omega (arith, ints)
 
+module _ {X : Type 0} (none : X) (items : List X) where
+  -- the items of numbers that exist are of the list, and items of the list have numbers
+  pub listed : (walk : List ℕ) → All (λ e. e < length items) walk → All (Contains items) (map (λ e. slice_index_or items e none) walk)
+  listed [] h = All-nil (Contains items)
+  listed (e ∷ walk) h =
+      All-cons (Contains items) (slice_index_or items e none) (map (λ e. slice_index_or items e none) walk) (Contains-get_or items e none (All-head (λ e. e < length items) e walk h))
+      (listed walk (All-tail (λ e. e < length items) e walk h))
+
+  pub numbers_of : (chain : List X) → All (Contains items) chain → (walk : List ℕ) × (map (λ e. slice_index_or items e none) walk ≡ chain) × All (λ e. e < length items) walk
+  numbers_of [] h = ([], refl, All-nil (λ e. e < length items))
+  numbers_of (x ∷ chain) h =
+      let here : Contains items x = All-head (Contains items) x chain h in
+      let rest = numbers_of chain (All-tail (Contains items) x chain h) in
+      let is : slice_index_or items here.0 none ≡ x = get_or_default items here.0 none x here.1 ∙ here.2 in
+      let same : slice_index_or items here.0 none ∷ map (λ e. slice_index_or items e none) rest.0 ≡ x ∷ chain = let e = rest.1 in cc in
+      (here.0 ∷ rest.0, same, All-cons (λ e. e < length items) here.0 rest.0 here.1 rest.2)
+
 module _ {X : Type 0} (from to : X → ℕ) (none : X) (items : List X) where
   abbrev item_at : ℕ → X
   item_at e = slice_index_or items e none
@@ -43,22 +60,6 @@ module _ {X : Type 0} (from to : X → ℕ) (none : X) (items : List X) where
   leads-joins a [] b h j = j
   leads-joins a (e ∷ walk) b h j =
       (All-head (λ e. e < length items) e walk h, j.0, leads-joins (to (item_at e)) walk b (All-tail (λ e. e < length items) e walk h) j.1)
-
-  -- the items of numbers that exist are of the list, and items of the list have numbers
-  pub listed : (walk : List ℕ) → All (λ e. e < length items) walk → All (Contains items) (map item_at walk)
-  listed [] h = All-nil (Contains items)
-  listed (e ∷ walk) h =
-      All-cons (Contains items) (item_at e) (map item_at walk) (Contains-get_or items e none (All-head (λ e. e < length items) e walk h))
-      (listed walk (All-tail (λ e. e < length items) e walk h))
-
-  pub numbers_of : (chain : List X) → All (Contains items) chain → (walk : List ℕ) × (map item_at walk ≡ chain) × All (λ e. e < length items) walk
-  numbers_of [] h = ([], refl, All-nil (λ e. e < length items))
-  numbers_of (x ∷ chain) h =
-      let here : Contains items x = All-head (Contains items) x chain h in
-      let rest = numbers_of chain (All-tail (Contains items) x chain h) in
-      let is : item_at here.0 ≡ x = get_or_default items here.0 none x here.1 ∙ here.2 in
-      let same : item_at here.0 ∷ map item_at rest.0 ≡ x ∷ chain = let e = rest.1 in cc in
-      (here.0 ∷ rest.0, same, All-cons (λ e. e < length items) here.0 rest.0 here.1 rest.2)
 
   -- A walk back to where it begins closes, and what closes is such a walk.
   pub closed-leads : (a : ℕ) (walk : List ℕ) → walk ≢ [] → LeadsBy from to none items a walk a → IsClosed from to (map item_at walk)

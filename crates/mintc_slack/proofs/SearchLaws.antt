@@ -21,7 +21,6 @@ use Rattle.mintc_ratio.specs.declared.searching.Outcome.{Outcome}
 use Rattle.mintc_ratio.specs.declared.searching.Outcome.TheVariants.{Least}
 use Rattle.mintc_ratio.specs.Chains.{NamesChain, links_at}
 use Rattle.mintc_ratio.specs.Searched.{HasSearched, IsCycle, IsLeast, IsStuck}
-use Rattle.mintc_ratio.proofs.BroughtLaws.{greatest_are_met_lem}
 use Rattle.mintc_ratio.proofs.SumsLaws.{few_links}
 
 pub is_modest : (cycle : Ratio) → IsCycle cycle → IsModest cycle
@@ -35,7 +34,7 @@ module _ (t : Timing) (limits : IsDesign t.flat) (ends : HasEnds t) (list : Cons
   pub least_of : (cycle : Ratio) → IsLeast list cycle room → IsLeastCycle t cycle.num cycle.den
   least_of cycle found =
       let positive = found.cycle_is.fraction in
-      let met = subst (λ (ks : List Link). All (IsMet cycle.num cycle.den (value_at room.values)) ks) links_are (greatest_are_met_lem list cycle room.values found.values) in
+      let met = subst (λ (ks : List Link). All (IsMet cycle.num cycle.den (value_at room.values)) ks) links_are found.values.met in
       let right = feasible_has_right_lem t cycle.num cycle.den (λ node. value_at room.values node) limits ends positive met in
       let chain = subst (λ (ks : List Link). IsChain ks (links_at list.links room.chain)) links_are found.chain.chain in
       record {
