@@ -1,4 +1,5 @@
-use Rattle.std.proofs.Common.{◌≡◌, ℤ, pos, ◌≤ℤ◌, ◌*ℤ◌, List, arith, refl, ap, ◌∙◌}
+-- A valid certificate shows the least cycle, or that there is none.
+use Rattle.std.proofs.Common.{ℤ, ◌≤ℤ◌, ◌*ℤ◌, List, arith, refl}
 use Rattle.std.proofs.lemmas.Int.{ints}
 use Rattle.std.proofs.lemmas.List.Elements.{All-map}
 use Rattle.mintc_timing.specs.declared.clocking.Schedule.{Schedule}
@@ -10,23 +11,12 @@ use Rattle.mintc_timing.specs.Limits.{IsDesign}
 use Rattle.mintc_timing.specs.Paths.{ArePairs}
 use Rattle.mintc_timing.specs.Right.{IsRight, IsLeastCycle, IsHopeless}
 use Rattle.mintc_timing.specs.Links.{delay_of, cycles_of}
-use Rattle.mintc_timing.specs.Times.{Meets}
+use Rattle.mintc_timing.specs.Times.{Meets, node_time}
 use Rattle.mintc_certificate.specs.Valid.{IsMember, link_of, links_of_members, IsRing, IsValid, clock, bounds, departures, setups, ring, sums, no_bound}
 use Rattle.mintc_certificate.specs.Optimal.{ValidIsOptimal}
-use Rattle.mintc_timing.proofs.LinkLaws.{meets-start, meets-cycle, meets-order, meets-span, meets-width, meets-apart, meets-open, meets-opened, meets-reach, meets-setup, meets-bound, ring-at_most}
-use Rattle.mintc_timing.proofs.Products.{times-cancel_positive, times-mono_positive, swap-times}
-use Rattle.std.proofs.Math.IntN.{*ℤ_comm}
-
--- A ring with a cycle that one schedule just keeps bounds the cycle time of each that keeps it.
-smaller : (delay turns cycle den cycle' den' : ℤ) → pos 1 ≤ℤ den → pos 1 ≤ℤ turns → delay *ℤ den ≡ turns *ℤ cycle →
-    (delay *ℤ den') ≤ℤ (turns *ℤ cycle') → (cycle *ℤ den') ≤ℤ (cycle' *ℤ den)
-smaller delay turns cycle den cycle' den' p q tight asked =
-    let more : ((delay *ℤ den') *ℤ den) ≤ℤ ((turns *ℤ cycle') *ℤ den) = times-mono_positive _ _ den asked p in
-    let left : (delay *ℤ den') *ℤ den ≡ (cycle *ℤ den') *ℤ turns =
-    swap-times delay den' den ∙ ap (λ v. v *ℤ den') (tight ∙ *ℤ_comm turns cycle) ∙ swap-times cycle turns den' in
-    let right : (turns *ℤ cycle') *ℤ den ≡ (cycle' *ℤ den) *ℤ turns =
-    ap (λ v. v *ℤ den) (*ℤ_comm turns cycle') ∙ swap-times cycle' turns den in
-    times-cancel_positive (cycle *ℤ den') (cycle' *ℤ den) turns q (rw (left, right) at more)
+use Rattle.mintc_timing.proofs.LinkLaws.{meets-start, meets-cycle, meets-order, meets-span, meets-width, meets-apart, meets-open, meets-opened, meets-reach, meets-setup, meets-bound}
+use Rattle.mintc_timing.proofs.Chains.{ring-at_most, no_less}
+use Rattle.mintc_timing.proofs.DeterminedLaws.{forbids_all_lem}
 
 module _ (t : Timing) (limits : IsDesign t.flat) (pairs_are : ArePairs t.flat t.pairs) where
   -- Each member's link holds of every right schedule.
@@ -47,7 +37,7 @@ module _ (t : Timing) (limits : IsDesign t.flat) (pairs_are : ArePairs t.flat t.
   ring-of_right : (s : Schedule) (d : List ℤ) → IsRight t s d → (ms : List Member) → IsRing t ms →
       (delay_of (links_of_members t ms) *ℤ s.den) ≤ℤ (cycles_of (links_of_members t ms) *ℤ s.cycle)
   ring-of_right s d right ms is_ring =
-      ring-at_most t s d limits right pairs_are (links_of_members t ms)
+      ring-at_most s.cycle s.den (node_time t s d) (links_of_members t ms)
       (All-map (Meets t s d) (link_of t) ms (λ k e h. meets-member s d right _ (is_ring.0 k e h)))
       is_ring.1
 
@@ -55,10 +45,7 @@ module _ (t : Timing) (limits : IsDesign t.flat) (pairs_are : ArePairs t.flat t.
   pub hopeless-by : (ms : List Member) → IsValid t (Never ms) → IsHopeless t
   hopeless-by ms valid s d right =
       let asked = ring-of_right s d right ms (valid ring) in
-      let none = (valid sums).turns in
-      let some = (valid sums).stuck in
-      let low : (delay_of (links_of_members t ms) *ℤ s.den) ≤ℤ (pos 0 *ℤ s.den) = let e = rw none at asked in omega (arith, ints) in
-      let at_most : delay_of (links_of_members t ms) ≤ℤ pos 0 = times-cancel_positive _ _ s.den right.clock.den low in
+      let more = forbids_all_lem (links_of_members t ms) s.cycle s.den (valid sums) right.clock.den in
       omega (arith, ints)
 
   -- A valid certificate with a schedule has a right one, and its cycle is the least.
@@ -70,7 +57,7 @@ module _ (t : Timing) (limits : IsDesign t.flat) (pairs_are : ArePairs t.flat t.
     positive = (valid clock).den;
     attained = (s, d, right-by s d ms valid, refl);
     least = λ s' d' right'.
-        smaller (delay_of (links_of_members t ms)) (cycles_of (links_of_members t ms)) s.cycle s.den s'.cycle s'.den
+        no_less (delay_of (links_of_members t ms)) (cycles_of (links_of_members t ms)) s.cycle s.den s'.cycle s'.den
         (valid clock).den (valid sums).turns (valid sums).tight (ring-of_right s' d' right' ms (valid ring));
   }
 

@@ -14,7 +14,7 @@ use Rattle.mintc_timing.specs.Paths.{IsPath, input_of, greatest_delay}
 use Rattle.mintc_timing.specs.Clocking.{KeepsClock, KeepsBound, feeds_of}
 use Rattle.mintc_timing.specs.Departures.{AreExact}
 use Rattle.mintc_timing.specs.Right.{KeepsSetup}
-use Rattle.mintc_timing.specs.Links.{start_link, cycle_link, order_link, span_link, width_link, apart_link, open_link, opened_link, reach_link, setup_link, bound_link, delay_of, cycles_of}
+use Rattle.mintc_timing.specs.Links.{start_link, cycle_link, order_link, span_link, width_link, apart_link, open_link, opened_link, reach_link, setup_link, bound_link, IsTight, IsStuck}
 
 abbrev pub no_bound : Bound
 no_bound = record { from = Origin; to = Origin; gap = pos 0; cycles = 0 }
@@ -89,22 +89,12 @@ SchedulePasses t s d sums = Unit {0}
 abbrev pub IsRing : Timing → List Member → Type 0
 IsRing t members = All (IsMember t) members × IsClosed (λ k. k.from) (λ k. k.to) (links_of_members t members)
 
--- The ring's delay, in femtoseconds, is its cycles times the schedule's cycle, and it has a cycle.
-pub record IsTight (t : Timing) (s : Schedule) (members : List Member) : Type 0 where
-  pub turns : pos 1 ≤ℤ cycles_of (links_of_members t members)
-  pub tight : delay_of (links_of_members t members) *ℤ s.den ≡ cycles_of (links_of_members t members) *ℤ s.cycle
-
--- The ring asks for time, and has no cycle to take it from.
-pub record IsStuck (t : Timing) (members : List Member) : Type 0 where
-  pub turns : cycles_of (links_of_members t members) ≡ pos 0
-  pub stuck : pos 0 <ℤ delay_of (links_of_members t members)
-
 abbrev pub Passes : Timing → Certificate → Test → Type 0
 Passes t (Least s d chain) ring = IsRing t chain
-Passes t (Least s d chain) sums = IsTight t s chain
+Passes t (Least s d chain) sums = IsTight (links_of_members t chain) s.cycle s.den
 Passes t (Least s d chain) test = SchedulePasses t s d test
 Passes t (Never chain) ring = IsRing t chain
-Passes t (Never chain) sums = IsStuck t chain
+Passes t (Never chain) sums = IsStuck (links_of_members t chain)
 Passes t (Never chain) test = Unit {0}
 
 -- Every test passes.
