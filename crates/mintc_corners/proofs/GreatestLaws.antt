@@ -5,7 +5,8 @@ use Rattle.mintc_fraction.specs.Ratio.{Ratio}
 use Rattle.mintc_walks.specs.Walks.{value_at}
 use Rattle.mintc_timing.specs.declared.link.Link.{Link}
 use Rattle.mintc_constraints.specs.Ordinary.{constraints_of}
-use Rattle.mintc_ratio.specs.Greatest.{AreGreatest, Meets, asked_by}
+use Rattle.mintc_ratio.specs.Greatest.{AreGreatest, asked_by}
+use Rattle.mintc_timing.specs.Links.{IsMet}
 use Rattle.mintc_corners.proofs.TransferLaws.{carried, carried_all}
 
 module _ (count : ℕ) (xs ys : List Link) (sub : All (Contains ys) xs) (back : All (Contains xs) ys) (at : Ratio) (values : List ℤ) where
@@ -21,6 +22,6 @@ module _ (count : ℕ) (xs ys : List Link) (sub : All (Contains ys) xs) (back : 
               let other = carried ys xs back walk 0 node leads in
               subst (λ (ks : List Link). asked_by at ks ≤ℤ value_at values node) other.2 (here.bound other.0 other.1);
         };
-    met = carried_all xs ys sub back (Meets at (value_at values)) g.met;
-    least = λ value origin met. g.least value origin (carried_all ys xs back sub (Meets at value) met);
+    met = carried_all xs ys sub back (IsMet at.num at.den (value_at values)) g.met;
+    least = λ value origin met. g.least value origin (carried_all ys xs back sub (IsMet at.num at.den value) met);
   }

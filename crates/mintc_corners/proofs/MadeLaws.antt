@@ -9,7 +9,7 @@ use Rattle.mintc_timing.specs.declared.clocking.Schedule.{Schedule}
 use Rattle.mintc_rings.specs.Rings.{IsClosed}
 use Rattle.mintc_timing.specs.Design.{Timing, element_count, phase_count}
 use Rattle.mintc_timing.specs.Limits.{IsDesign, IsInRange}
-use Rattle.mintc_timing.specs.Links.{IsChain, cycles_of, delay_of, links_of, link_at}
+use Rattle.mintc_timing.specs.Links.{IsChain, cycles_of, delay_of, links_of, link_at, IsStuck}
 use Rattle.mintc_timing.specs.Right.{IsLeastCycle, IsRight}
 use Rattle.mintc_constraints.specs.Duality.{AreExactMoments, departures_of, schedule_of}
 use Rattle.mintc_timing.specs.Paths.{HasEnds}
@@ -20,7 +20,7 @@ use Rattle.mintc_constraints.proofs.ChainLaws.{stuck_is_hopeless_lem, tight_is_l
 use Rattle.mintc_constraints.proofs.MomentLaws.{moments_are_right_lem}
 use Rattle.mintc_ratio.specs.Chains.{NamesChain, links_at}
 use Rattle.mintc_ratio.specs.Greatest.{AreGreatest}
-use Rattle.mintc_ratio.specs.Searched.{IsLeast, IsStuck}
+use Rattle.mintc_ratio.specs.Searched.{IsLeast}
 use Rattle.mintc_ratio.proofs.SumsLaws.{few_links}
 use Rattle.mintc_optimise.specs.Making.{AreSayable}
 use Rattle.mintc_optimise.specs.Optimum.{IsEarliest}
@@ -166,7 +166,7 @@ module _ (t : Timing) (ts : List Timing) (are : AreCorners (t ∷ ts)) (systems 
 
     least : IsLeastCycle big cycle.num cycle.den
     least = tight_is_least_lem big cycle.num cycle.den values (links_at own_links room.chain) limits ends found.cycle_is.fraction exact
-        (carried_chain own_links (links_of big) listed (links_at own_links room.chain) found.chain.chain) found.tight.turns found.tight.tight
+        (carried_chain own_links (links_of big) listed (links_at own_links room.chain) found.chain.chain) found.tight
 
     earliest_here : IsEarliest big (links_of big) s (all_departures ds)
     earliest_here = subst (IsEarliest big (links_of big) s) (sym departs) (earliest big limits (links_of big) cycle values found.cycle_is.lowest greatest)
@@ -178,7 +178,7 @@ module _ (t : Timing) (ts : List Timing) (are : AreCorners (t ∷ ts)) (systems 
           let turns = cycles room.chain found.chain members stand in
           let count = lists_count (t ∷ ts) (2 * phase_count t) 0 values in
           record {
-            valid = (jointly, record { ring = ring room.chain found.chain members stand; turns = rw turns found.tight.turns; tight = rw (delay, turns) found.tight.tight });
+            valid = (jointly, ring room.chain found.chain members stand, record { turns = rw turns found.tight.turns; tight = rw (delay, turns) found.tight.tight });
             optimal = (jointly, (joint_cycle_is_least_lem t ts cycle.num cycle.den besides).0 least);
             earliest = earliest_here;
             simple = once room.chain found.chain members stand;
@@ -198,9 +198,9 @@ module _ (t : Timing) (ts : List Timing) (are : AreCorners (t ∷ ts)) (systems 
       let delay = delays chain named members stand in
       let turns = cycles chain named members stand in
       record {
-        valid = record { ring = ring chain named members stand; turns = turns ∙ stuck.turns; stuck = rw delay stuck.stuck };
+        valid = (ring chain named members stand, record { turns = turns ∙ stuck.turns; stuck = rw delay stuck.stuck });
         optimal = (jointly_hopeless_is_hopeless_lem t ts besides).0
-            (stuck_is_hopeless_lem big (links_at own_links chain) limits ends (of_all chain named members stand) stuck.turns stuck.stuck);
+            (stuck_is_hopeless_lem big (links_at own_links chain) limits ends (of_all chain named members stand) stuck);
         earliest = tt;
         simple = once chain named members stand;
         in_range = chain_in chain named members stand;

@@ -5,7 +5,7 @@ use Rattle.mintc_timing.specs.declared.link.Link.{Link}
 use Rattle.mintc_rings.specs.Rings.{IsClosed}
 use Rattle.mintc_timing.specs.Design.{Timing, element_count}
 use Rattle.mintc_timing.specs.Paths.{input_of, greatest_delay, IsGreatestDelay}
-use Rattle.mintc_timing.specs.Links.{delay_of, cycles_of, open_link, opened_link, reach_link, setup_link}
+use Rattle.mintc_timing.specs.Links.{IsTight, IsStuck, open_link, opened_link, reach_link, setup_link}
 use Rattle.mintc_certificate.specs.declared.members.Member.{Member}
 use Rattle.mintc_certificate.specs.declared.members.Member.TheVariants as member
 use Rattle.mintc_certificate.specs.Valid.{IsMember, link_of}
@@ -62,22 +62,10 @@ pub record IsCornerRing (t : Timing) (ts : List Timing) (members : List CornerMe
   pub each : All (λ m. IsOfCorner t ts m.corner m.member) members
   pub closed : IsClosed (λ k. k.from) (λ k. k.to) (links_of_corners t ts members)
 
--- The ring's delay is its cycles times the schedule's cycle, and it has a cycle; so it forbids each smaller one.
-pub record IsTightRing (t : Timing) (ts : List Timing) (s : Schedule) (members : List CornerMember) : Type 0 where
-  pub ring : IsCornerRing t ts members
-  pub turns : pos 1 ≤ℤ cycles_of (links_of_corners t ts members)
-  pub tight : delay_of (links_of_corners t ts members) *ℤ s.den ≡ cycles_of (links_of_corners t ts members) *ℤ s.cycle
-
--- The ring asks for time, and has no cycle to take it from; so it forbids all.
-pub record IsStuckRing (t : Timing) (ts : List Timing) (members : List CornerMember) : Type 0 where
-  pub ring : IsCornerRing t ts members
-  pub turns : cycles_of (links_of_corners t ts members) ≡ pos 0
-  pub stuck : pos 0 <ℤ delay_of (links_of_corners t ts members)
-
 -- The schedule is right in each corner, and a ring shows that its cycle is the least; or a ring shows that none is.
 abbrev pub IsCornerValid : Timing → List Timing → CornerCertificate → Type 0
-IsCornerValid t ts (Least schedule departures chain) = AreJointlyRight (t ∷ ts) schedule departures × IsTightRing t ts schedule chain
-IsCornerValid t ts (Never chain) = IsStuckRing t ts chain
+IsCornerValid t ts (Least schedule departures chain) = AreJointlyRight (t ∷ ts) schedule departures × IsCornerRing t ts chain × IsTight (links_of_corners t ts chain) schedule.cycle schedule.den
+IsCornerValid t ts (Never chain) = IsCornerRing t ts chain × IsStuck (links_of_corners t ts chain)
 
 abbrev pub IsCornerOptimal : Timing → List Timing → CornerCertificate → Type 0
 IsCornerOptimal t ts (Least schedule departures chain) = AreJointlyRight (t ∷ ts) schedule departures × IsJointCycle (t ∷ ts) schedule.cycle schedule.den

@@ -9,7 +9,7 @@ use Rattle.mintc_timing.specs.declared.clocking.Schedule.{Schedule}
 use Rattle.mintc_rings.specs.Rings.{IsClosed}
 use Rattle.mintc_timing.specs.Design.{Timing, element_count}
 use Rattle.mintc_timing.specs.Limits.{IsDesign, IsInRange}
-use Rattle.mintc_timing.specs.Links.{links_of, delay_of, cycles_of, link_at}
+use Rattle.mintc_timing.specs.Links.{links_of, delay_of, cycles_of, link_at, IsTight, IsStuck}
 use Rattle.mintc_timing.specs.Order.{IsTiming}
 use Rattle.mintc_timing.specs.Right.{IsLeastCycle, IsRight}
 use Rattle.mintc_constraints.specs.Duality.{AreExactMoments, departure_of, departures_of, schedule_of}
@@ -21,7 +21,7 @@ use Rattle.mintc_timing.proofs.LinkLaws.{ends_of}
 use Rattle.mintc_ratio.specs.declared.searching.Outcome.{Outcome}
 use Rattle.mintc_ratio.specs.declared.searching.Outcome.TheVariants as outcome
 use Rattle.mintc_ratio.specs.Chains.{NamesChain, links_at}
-use Rattle.mintc_ratio.specs.Searched.{HasSearched, IsLeast, IsStuck, IsTight}
+use Rattle.mintc_ratio.specs.Searched.{HasSearched, IsLeast}
 use Rattle.mintc_ratio.proofs.SumsLaws.{few_links}
 use Rattle.mintc_certificate.specs.declared.members.Member.{Member}
 use Rattle.mintc_certificate.specs.declared.certificate.Certificate.{Certificate}
@@ -111,7 +111,7 @@ module _ (t : Timing) (limits : IsDesign t.flat) (kept : IsTiming t.flat t.order
     valid_never stuck departures = tt
     valid_never stuck setups = tt
 
-    valid_least : (s : Schedule) (d : List ℤ) (cycle : Ratio) → s.den ≡ cycle.den → s.cycle ≡ cycle.num → IsRight t s d → IsTight (links_at (links_of t) chain) cycle → IsValid t (Least s d members)
+    valid_least : (s : Schedule) (d : List ℤ) (cycle : Ratio) → s.den ≡ cycle.den → s.cycle ≡ cycle.num → IsRight t s d → IsTight (links_at (links_of t) chain) cycle.num cycle.den → IsValid t (Least s d members)
     valid_least s d cycle den_is cycle_is right tight counts = (right.clock.starts, right.clock.widths, right.exact.count)
     valid_least s d cycle den_is cycle_is right tight clock = right.clock
     valid_least s d cycle den_is cycle_is right tight bounds = right.bounds

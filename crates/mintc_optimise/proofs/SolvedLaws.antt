@@ -23,10 +23,10 @@ module _ (t : Timing) (limits : IsDesign t.flat) (ends : HasEnds t) (room : Spac
       let exact = exact_moments t limits ends cycle room.values h.values in
       let positive = h.cycle_is.fraction in
       let chain = links_at (links_of t) room.chain in (
-        tight_is_least_lem t cycle.num cycle.den room.values chain limits ends positive exact h.chain.chain h.tight.turns h.tight.tight,
+        tight_is_least_lem t cycle.num cycle.den room.values chain limits ends positive exact h.chain.chain h.tight,
         moments_are_right_lem t cycle.num cycle.den room.values limits ends positive exact,
       )
-  solved_here Never h = stuck_is_hopeless_lem t (links_at (links_of t) room.chain) limits ends h.0.chain h.1.turns h.1.stuck
+  solved_here Never h = stuck_is_hopeless_lem t (links_at (links_of t) room.chain) limits ends h.0.chain h.1
 
   -- What a search over the links of a design finds is solved of the design.
   pub solved : (list : Constraints) (outcome : Outcome) → list ≡ constraints_of (node_count t) (links_of t) → HasSearched list room outcome → IsSolved t room outcome

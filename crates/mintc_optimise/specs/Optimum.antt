@@ -5,8 +5,7 @@ use Rattle.mintc_timing.specs.declared.link.Link.{Link}
 use Rattle.mintc_timing.specs.Clocking.{EachPhase, start_of, end_of}
 use Rattle.mintc_timing.specs.Departures.{departure}
 use Rattle.mintc_timing.specs.Design.{Timing, element_at, element_count, phase_of}
-use Rattle.mintc_timing.specs.Links.{links_of, start_node, end_node, element_node}
-use Rattle.mintc_ratio.specs.Greatest.{Meets}
+use Rattle.mintc_timing.specs.Links.{links_of, start_node, end_node, element_node, IsMet}
 use Rattle.mintc_certificate.specs.declared.certificate.Certificate.{Certificate}
 use Rattle.mintc_certificate.specs.declared.certificate.Certificate.TheVariants.{Least, Never}
 use Rattle.mintc_certificate.specs.declared.members.Member.{Member}

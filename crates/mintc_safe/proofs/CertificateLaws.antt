@@ -103,11 +103,11 @@ module _ (t : Timing) (limits : IsDesign t.flat) (kept : IsTiming t.flat t.order
           let elements = limits.elements in
           let all = length-map-range_with_len (departure_of t room.values) 0 (element_count t) in
           record {
-            valid = (is_safe, record { ring = ring room.chain found.chain members stand; turns = rw cycles found.tight.turns; tight = rw (delay, cycles) found.tight.tight });
+            valid = (is_safe, ring room.chain found.chain members stand, record { turns = rw cycles found.tight.turns; tight = rw (delay, cycles) found.tight.tight });
             optimal = (
               is_safe,
               tight_is_safe_cycle_lem t cycle room.values (links_at (safe_links_of t) room.chain) limits ends found.cycle_is.fraction found.values
-                  found.chain.chain found.tight.turns found.tight.tight,
+                  found.chain.chain found.tight,
             );
             earliest = earliest t limits (safe_links_of t) cycle room.values found.cycle_is.lowest found.values;
             simple = once room.chain found.chain members stand;
@@ -142,8 +142,8 @@ module _ (t : Timing) (limits : IsDesign t.flat) (kept : IsTiming t.flat t.order
           let delay = same_delay (links_of_safe t members) (links_at (safe_links_of t) room.chain) stands.same in
           let cycles = same_cycles (links_of_safe t members) (links_at (safe_links_of t) room.chain) stands.same in
           record {
-            valid = record { ring = ring room.chain stuck.0 members stands; turns = cycles ∙ stuck.1.turns; stuck = rw delay stuck.1.stuck };
-            optimal = stuck_is_hopeless_for_hold_lem t (links_at (safe_links_of t) room.chain) limits ends stuck.0.chain stuck.1.turns stuck.1.stuck;
+            valid = (ring room.chain stuck.0 members stands, record { turns = cycles ∙ stuck.1.turns; stuck = rw delay stuck.1.stuck });
+            optimal = stuck_is_hopeless_for_hold_lem t (links_at (safe_links_of t) room.chain) limits ends stuck.0.chain stuck.1;
             earliest = tt;
             simple = once room.chain stuck.0 members stands;
             in_range = chain_in room.chain stuck.0 members stands;

@@ -12,15 +12,16 @@ use Rattle.std.specs.List.Sorted.{IsPermutation}
 use Rattle.mintc_fraction.specs.Ratio.{Ratio}
 use Rattle.mintc_timing.specs.declared.link.Link.{Link}
 use Rattle.mintc_timing.specs.Design.{Timing}
-use Rattle.mintc_timing.specs.Links.{element_node, links_of, no_link, link_at}
+use Rattle.mintc_timing.specs.Links.{element_node, links_of, no_link, link_at, IsMet}
 use Rattle.mintc_constraints.specs.Laws.{node_count}
 use Rattle.mintc_constraints.specs.Ordinary.{Constraints, constraints_of, IsOrdinaryLink, Leads}
 use Rattle.mintc_constraints.specs.Rooms.{Space}
 use Rattle.mintc_ratio.specs.From.{IsAsked}
-use Rattle.mintc_ratio.specs.Greatest.{Meets, asked_by, asked_by_link}
+use Rattle.mintc_ratio.specs.Greatest.{asked_by, asked_by_link}
 use Rattle.mintc_ratio.specs.Searched.{IsCycle}
 use Rattle.mintc_ratio.proofs.BroughtLaws.{asked_more}
-use Rattle.mintc_ratio.proofs.FromLaws.{Leads-on, asked-on}
+use Rattle.mintc_ratio.proofs.FromLaws.{asked-on}
+use Rattle.mintc_rings.proofs.RingLaws.{LeadsBy-append}
 use Rattle.mintc_walks.specs.Bounds.{IsWithin}
 use Rattle.mintc_walks.specs.Walks.{value_at}
 use Rattle.mintc_slack.specs.declared.gaps.Gap.{Gap}
@@ -137,7 +138,7 @@ module _ (gaps : List Gap) (g : Gap) (old : List ℤ) (inside : IsInside (length
           let from_value : value_at potentials k.from ≡ value_at potentials g.from = ap (λ (n : ℕ). value_at potentials n) from_is in
           let to_value : value_at potentials k.to ≡ value_at potentials g.to = ap (λ (n : ℕ). value_at potentials n) to_is in
           let leads : Leads list.links from (first.0 ++ e ∷ []) g.to =
-          Leads-on list.links from g.from g.to first.0 (e ∷ []) first.1 (found.1, from_is, to_is) in
+          LeadsBy-append (λ (k : Link). k.from) (λ (k : Link). k.to) no_link list.links from first.0 g.from (e ∷ []) g.to first.1 (found.1, from_is, to_is) in
           let sum = asked-on at list.links first.0 (e ∷ []) in
           let one = asked-one at k in
           let start = first.2 in
@@ -198,7 +199,7 @@ module _ (now : List ℤ) (v : ℕ) (inside : v < length now) (range : AreInRang
           let sum = asked-on at list.links back.0 forth.0 in
           let one = back.2 in
           let two = forth.2 in
-          (back.0 ++ forth.0, Leads-on list.links from 0 v back.0 forth.0 back.1 forth.1, omega (arith, ints))
+          (back.0 ++ forth.0, LeadsBy-append (λ (k : Link). k.from) (λ (k : Link). k.to) no_link list.links from back.0 0 forth.0 v back.1 forth.1, omega (arith, ints))
 
       walked : (node : ℕ) → node < list.nodes → value_at (slice_set now v home) node <ℤ FAR →
           IsAsked list.links at from node (value_at potentials node -ℤ value_at potentials from -ℤ value_at (slice_set now v home) node)
@@ -226,7 +227,7 @@ module _ (list : Constraints) (at : Ratio) (potentials : List ℤ) (gaps : List 
     pub all-asked : (node : ℕ) → node < list.nodes → IsAsked list.links at from node (value_at values node)
     all-asked node h = subst (λ (y : ℤ). IsAsked list.links at from node y) (sym (values_are node h)) (d.walked node h (short.near node (omega arith)).1)
 
-    pub all-met : All (Meets at (value_at values)) list.links
+    pub all-met : All (IsMet at.num at.den (value_at values)) list.links
     all-met e default h =
         let same : get_or list.links e default ≡ link_at list.links e = get_or_default list.links e default no_link h in
         let k = link_at list.links e in

@@ -25,24 +25,12 @@ use Rattle.mintc_constraints.proofs.ExistenceLaws.{feasible_has_right_lem, has_l
 use Rattle.mintc_constraints.proofs.RightLaws.{right_has_moments_lem}
 use Rattle.mintc_ratio.specs.Chains.{links_at}
 use Rattle.mintc_ratio.specs.Greatest.{asked_by}
-use Rattle.mintc_ratio.proofs.BroughtLaws.{asked_more}
+use Rattle.mintc_constraints.proofs.WalkLaws.{walked}
 use Rattle.mintc_slack.specs.Raised.{raised}
 use Rattle.mintc_slack.specs.Room.{AreFrom, IsWhole, room_of}
 use Rattle.mintc_slack.specs.Slack.{IsSlack, IsSlower}
 use Rattle.mintc_slack.specs.Laws.{RoomIsSlack, RoomIsThere, SlackIsDetermined}
 use Rattle.mintc_slack.proofs.RaisedLaws.{AreAlike, alike-back, each-alike, ends-alike, holds-less, raised-alike, raised-else, raised-here, raised-less, raised-more}
-
--- Moments that meet links rise along a walk at least as it asks.
-along : (at : Ratio) (f : ℕ → ℤ) (links : List Link) (walk : List ℕ) (a b : ℕ) → All (IsMet at.num at.den f) links → Leads links a walk b →
-    (f a +ℤ asked_by at (links_at links walk)) ≤ℤ f b
-along at f links [] a b met leads = rw leads (omega (arith, ints))
-along at f links (e ∷ es) a b met leads =
-    let k = link_at links e in
-    let here = met e no_link leads.0 in
-    let rest = along at f links es k.to b met leads.2 in
-    let more = asked_more at k (links_at links es) in
-    let from : f k.from ≡ f a = ap f leads.1 in
-    omega (arith, ints)
 
 cycles_low : (ks : List Link) → pos 0 ≤ℤ cycles_of ks
 cycles_low [] = omega (arith, ints)
@@ -184,9 +172,10 @@ module _ (t : Timing) (limits : IsDesign t.flat) (ends : HasEnds t) (n : ℕ) (b
       met = right-meets u s d right
 
       around : (g (element_node t p.to) +ℤ asked_by (over_of s.cycle s.den) back) ≤ℤ g (output_node t p.from)
-      around = along (over_of s.cycle s.den) g (links_of t) walk.0 (element_node t p.to) (output_node t p.from)
-          (holds-less t (raised t n u).pairs t.pairs (alike-back t.pairs (raised t n u).pairs (raised-alike t n below u)) s.cycle s.den g right.clock.den (λ m h. raised-more t n below u low m) met)
-          walk.1
+      around =
+          let meets = holds-less t (raised t n u).pairs t.pairs (alike-back t.pairs (raised t n u).pairs (raised-alike t n below u)) s.cycle s.den g right.clock.den (λ m h. raised-more t n below u low m) met in
+          let risen = walked s.cycle s.den g (links_of t) meets (element_node t p.to) walk.0 (output_node t p.from) walk.1 in
+          omega (arith, ints)
 
       reach : (g (output_node t p.from) +ℤ (((element_at t p.from).dq_max +ℤ p.max) +ℤ u) *ℤ s.den -ℤ pos c *ℤ s.cycle) ≤ℤ g (element_node t p.to)
       reach =

@@ -8,19 +8,21 @@ use Rattle.mintc_timing.specs.declared.clocking.Schedule.{Schedule}
 use Rattle.mintc_timing.specs.declared.link.Link.{Link}
 use Rattle.mintc_timing.specs.Design.{Timing}
 use Rattle.mintc_timing.specs.Limits.{IsDesign}
-use Rattle.mintc_timing.specs.Links.{IsChain, links_of, IsMet}
+use Rattle.mintc_timing.specs.Links.{IsChain, links_of, IsMet, IsStuck}
 use Rattle.mintc_timing.specs.Right.{IsHopeless, IsLeastCycle}
 use Rattle.mintc_constraints.specs.Duality.{moments_of}
 use Rattle.mintc_timing.specs.Paths.{HasEnds}
 use Rattle.mintc_constraints.specs.Ordinary.{Constraints, IsOrdinary}
 use Rattle.mintc_constraints.specs.Rooms.{Space}
+use Rattle.mintc_timing.specs.Times.{node_time}
+use Rattle.mintc_timing.proofs.MeetingLaws.{right_meets_links_lem}
 use Rattle.mintc_constraints.proofs.ChainLaws.{met_chains_fit_lem, stuck_is_hopeless_lem, tight_fits_no_less_lem}
 use Rattle.mintc_constraints.proofs.ExistenceLaws.{feasible_has_right_lem}
 use Rattle.mintc_constraints.proofs.RightLaws.{right_has_moments_lem}
 use Rattle.mintc_ratio.specs.declared.searching.Outcome.{Outcome}
 use Rattle.mintc_ratio.specs.declared.searching.Outcome.TheVariants.{Least}
 use Rattle.mintc_ratio.specs.Chains.{NamesChain, links_at}
-use Rattle.mintc_ratio.specs.Searched.{HasSearched, IsCycle, IsLeast, IsStuck}
+use Rattle.mintc_ratio.specs.Searched.{HasSearched, IsCycle, IsLeast}
 use Rattle.mintc_ratio.proofs.SumsLaws.{few_links}
 
 pub is_modest : (cycle : Ratio) → IsCycle cycle → IsModest cycle
@@ -41,8 +43,8 @@ module _ (t : Timing) (limits : IsDesign t.flat) (ends : HasEnds t) (list : Cons
         positive = positive;
         attained = (right.0, right.1, right.2, same right.0 right.3 right.4);
         least = λ s d other.
-            tight_fits_no_less_lem (links_at list.links room.chain) cycle.num cycle.den s.cycle s.den positive found.tight.turns found.tight.tight
-            (met_chains_fit_lem s.cycle s.den (moments_of t s d) (links_of t) (links_at list.links room.chain) (right_has_moments_lem t s d limits ends other).moments.met chain);
+            tight_fits_no_less_lem (links_at list.links room.chain) cycle.num cycle.den s.cycle s.den positive found.tight
+            (met_chains_fit_lem s.cycle s.den (node_time t s d) (links_of t) (links_at list.links room.chain) (right_meets_links_lem t s d limits ends other) chain);
       }
     where
       same : (s : Schedule) → s.cycle ≡ cycle.num → s.den ≡ cycle.den → s.cycle *ℤ cycle.den ≡ cycle.num *ℤ s.den
@@ -50,7 +52,7 @@ module _ (t : Timing) (limits : IsDesign t.flat) (ends : HasEnds t) (list : Cons
 
   pub hopeless_of : NamesChain list.links room.chain → IsStuck (links_at list.links room.chain) → IsHopeless t
   hopeless_of named stuck =
-      stuck_is_hopeless_lem t (links_at list.links room.chain) limits ends (subst (λ (ks : List Link). IsChain ks (links_at list.links room.chain)) links_are named.chain) stuck.turns stuck.stuck
+      stuck_is_hopeless_lem t (links_at list.links room.chain) limits ends (subst (λ (ks : List Link). IsChain ks (links_at list.links room.chain)) links_are named.chain) stuck
 
 pub few_in_chain : (list : Constraints) → IsOrdinary list → (room : Space) → NamesChain list.links room.chain → length room.chain ≤ list.nodes
 few_in_chain list all room named = few_links list.nodes list.links all room.chain named
