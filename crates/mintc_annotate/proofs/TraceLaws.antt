@@ -1,3 +1,4 @@
+-- Where a storage element's clock comes from.
 use Rattle.std.proofs.Common.{◌≡◌, ◌<◌, ◌≤◌, ◌+◌, ℕ, zero, suc, Bool, true, cond, List, [], ◌∷◌, ◌++◌, length, take, drop, filter, get_or, Option, Some, None, sym, ap, ◌∙◌, subst, arith, zero-add, MatchOption, map, is_some, Result, Ok, Err, MatchResult}
 use Rattle.std.proofs.lemmas.List.{take_all, drop_more, take-append-drop}
 use Rattle.std.proofs.lemmas.List.Elements.{filter_more, filter-append}

@@ -1,3 +1,4 @@
+-- Designs that are accepted, and refusals that are determined.
 use Rattle.std.proofs.Common.{◌≡◌, ◌<◌, ℕ, List, length, min, ap, ◌∙◌, sym, subst, inl, inr, arith}
 use Rattle.std.proofs.lemmas.Int.{ints}
 use Rattle.mintc_text.specs.declared.refusals.Kind.TheVariants as kind

@@ -1,3 +1,4 @@
+-- What stops a design on its way to a system.
 use Rattle.std.proofs.Common.{ℕ, List, inr, Result, Ok, Err, IfOk, IfErr, MatchResult}
 use Rattle.mintc_text.specs.declared.refusals.Stop.{Stop}
 use Rattle.mintc_text.specs.declared.refusals.Stop.TheVariants as stop

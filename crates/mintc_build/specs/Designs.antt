@@ -1,3 +1,4 @@
+-- The system of a design, or its refusal.
 use Rattle.std.specs.Prelude.{◌⊎◌, ℕ, List}
 use Rattle.mintc_text.specs.declared.refusals.Refusal.{Refusal}
 use Rattle.mintc_timing.specs.Design.{Design}

@@ -1,3 +1,4 @@
+-- Cells by their names, in ascending order.
 use Rattle.std.proofs.Common.{◌≡◌, ℕ, suc, ◌++◌, List, [], ◌∷◌, map, length, None, Some, Bool, true, false, ◌&&◌, Vec, Global, Less, Equal, nat_cmp, nat_eq, bytes_eq, position, not, cond, nat_lt, ◌+◌, ◌<◌, ◌^◌, arith, append_assoc, refl, sym, ap, ◌∙◌, subst}
 use Rattle.std.proofs.lemmas.Bool.{false_from_ne_true}
 use Rattle.std.proofs.lemmas.Cmp.{nat_list_cmp_total}

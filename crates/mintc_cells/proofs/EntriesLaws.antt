@@ -1,3 +1,4 @@
+-- Entries read one after the other.
 use Rattle.std.proofs.Common.{◌≡◌, ℕ, suc, ◌+◌, List, [], ◌∷◌, ◌++◌, length, String, Global, string_bytes, Ok, Err, Result, Some, None, true, MatchResult, codes, refl, sym, ap, ◌∙◌, subst, append_assoc, append-nil, arith, map, ◌<◌, ◌^◌, Less, nat_cmp}
 use Rattle.std.specs.List.{AllByRecursion}
 use Rattle.std.specs.List.Sorted.{IsStrictlySortedBy}

@@ -1,3 +1,4 @@
+-- What the reader of certificates has read up to each line, and where it halts.
 use Rattle.std.proofs.Common.{◌≡◌, ℕ, suc, ◌<◌, ◌≤◌, ◌+◌, ◌-◌, ℤ, pos, SFits, w64, Bool, true, false, if◌then◌else◌, Result, Ok, Err, MatchResult, List, [], ◌∷◌, ◌++◌, refl, ap, sym, subst, arith, codes}
 use Rattle.std.proofs.lemmas.Int.{ints}
 use Rattle.mintc_text.specs.Lines.{IsWithin}

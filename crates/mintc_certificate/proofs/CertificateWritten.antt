@@ -1,3 +1,4 @@
+-- What is written of a certificate is its text, and texts of other certificates are others.
 use Rattle.std.proofs.Common.{◌≡◌, ℕ, ℤ, ◌≤◌, List, [], ◌∷◌, ◌++◌, length, map, All, Contains, refl, ap, ◌∙◌, sym, subst, arith, codes, eqb, true, false, append_assoc}
 use Rattle.std.proofs.lemmas.List.{append-nil}
 use Rattle.std.proofs.lemmas.List.Elements.{All-head, All-tail}

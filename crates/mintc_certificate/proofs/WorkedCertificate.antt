@@ -1,3 +1,4 @@
+-- A certificate of the two latches by computation.
 use Rattle.std.proofs.Common.{◌≢◌, ℕ, pos, List, [], ◌∷◌, arith, refl}
 use Rattle.std.proofs.lemmas.Int.{ints}
 use Rattle.std.proofs.lemmas.List.Elements.{All-nil, All-cons}

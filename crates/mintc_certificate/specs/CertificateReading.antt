@@ -1,3 +1,4 @@
+-- Where the reader of certificates halts.
 use Rattle.std.specs.Prelude.{List}
 use Rattle.mintc_certificate.specs.declared.certificate.Certificate.{Certificate}
 use Rattle.mintc_certificate.specs.declared.certificate.Certificate.TheVariants.{Least, Never}

@@ -1,3 +1,4 @@
+-- The text of a certificate, line by line, and its first line out of form.
 use Rattle.std.specs.Prelude.{◌≡◌, ◌≢◌, ◌==◌, ℕ, zero, suc, ℤ, pos, negsuc, Bool, if◌then◌else◌, List, [], ◌∷◌, ◌++◌, length, map, codes}
 use Rattle.mintc_text.specs.Lines.{IsText, IsFault}
 use Rattle.mintc_text.specs.declared.refusals.Refusal.{Refusal}

@@ -1,3 +1,4 @@
+-- The words that name a member of a chain.
 use Rattle.std.specs.Prelude.{◌≡◌, ℕ, List, [], ◌∷◌, length, map, codes, All}
 use Rattle.mintc_lines.specs.Fields.{IsCount, number}
 use Rattle.mintc_certificate.specs.declared.member_lines.MemberWord.{MemberWord}

@@ -1,3 +1,4 @@
+-- What a valid certificate claims.
 use Rattle.mintc_certificate.specs.declared.certificate.Certificate.{Certificate}
 use Rattle.mintc_certificate.specs.declared.certificate.Certificate.TheVariants.{Least, Never}
 use Rattle.mintc_timing.specs.Design.{Timing}

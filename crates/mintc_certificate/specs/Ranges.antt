@@ -1,3 +1,4 @@
+-- Certificates whose numbers and counts are in their ranges.
 use Rattle.std.specs.Prelude.{◌≤◌, ℤ, pos, negsuc, List, length, All}
 use Rattle.mintc_text.specs.Lines.{IsWithin}
 use Rattle.mintc_timing.specs.declared.clocking.Schedule.{Schedule}

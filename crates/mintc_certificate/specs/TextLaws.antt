@@ -1,3 +1,4 @@
+-- What the definitions of certificates and their texts say of one another.
 use Rattle.std.specs.Prelude.{◌≡◌, ◌++◌, ℕ, List, Contains, codes}
 use Rattle.mintc_text.specs.Lines.{ended, text_of}
 use Rattle.mintc_certificate.specs.declared.certificate.Certificate.{Certificate}

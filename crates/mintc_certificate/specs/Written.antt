@@ -1,3 +1,4 @@
+-- The lines that are written of a certificate.
 use Rattle.std.specs.Prelude.{ℕ, ℤ, List, [], ◌∷◌, ◌++◌, length, map, codes}
 use Rattle.std.specs.List.{zip}
 use Rattle.mintc_text.specs.Lines.{words, numeral_of}

@@ -1,3 +1,4 @@
+-- How many calls of the outside are made.
 use Rattle.std.proofs.Common.{◌≡◌, ℕ, ◌+◌, ◌≤◌, ◌^◌, ◌-◌, Option, Some, None, arith, refl, min}
 use Rattle.mintc_text.specs.Outside.{CountsCall}
 use Rattle.mintc_command.specs.Answers.{MakesAtMost}

@@ -1,3 +1,4 @@
+-- What is held of the files after each read.
 use Rattle.std.proofs.Common.{◌≡◌, ◌≤◌, ◌<◌, ◌+◌, ℕ, List, [], ◌∷◌, ◌++◌, take, length, get_or, arith, refl, ap, ◌∙◌, sym, Option, Some, None, String}
 use Rattle.std.specs.List.{AllZip}
 use Rattle.std.specs.String.{string_bytes}

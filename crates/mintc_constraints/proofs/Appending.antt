@@ -1,3 +1,4 @@
+-- Lists of links that grow by one item.
 use Rattle.std.proofs.Common.{◌≡◌, ℕ, ◌+◌, ◌<◌, ◌≤◌, List, [], ◌∷◌, ◌++◌, length, get_or, take, map, Bool, true, false, cond, refl, sym, ap, ◌∙◌, append_assoc, zero-add}
 use Rattle.std.proofs.lemmas.List.{take_more, take_all, map-append, append-nil, length-map, get_or-map}
 use Rattle.std.specs.List.{range_with_len, enumerate_from, filter, flat_map}

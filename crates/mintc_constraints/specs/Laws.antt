@@ -1,3 +1,4 @@
+-- The nodes of a design, and what walks over its links are.
 use Rattle.std.specs.Prelude.{◌≡◌, ◌≢◌, ◌+◌, ◌*◌, ◌↔◌, ℕ, List, [], map}
 use Rattle.mintc_walks.specs.declared.network.Arc.{Arc}
 use Rattle.mintc_walks.specs.Walks.{Leads as LeadsByArcs}

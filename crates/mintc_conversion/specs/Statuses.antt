@@ -1,3 +1,4 @@
+-- The number of each status.
 use Rattle.std.specs.Prelude.{ℕ}
 use Rattle.mintc_conversion.specs.declared.status.Status.{Status}
 use Rattle.mintc_conversion.specs.declared.status.Status.TheVariants.{Done, Refused, Usage, ReadFault, WriteFault, OutOfMemory}

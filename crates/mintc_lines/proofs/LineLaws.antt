@@ -1,3 +1,4 @@
+-- Lines of one count, name or number have one spelling.
 use Rattle.std.proofs.Common.{◌≡◌, ℕ, ℤ, pos, negsuc, ◌≤ℤ◌, ◌<◌, ◌^◌, List, ap, ◌∙◌, sym, subst, arith, decimal}
 use Rattle.std.proofs.lemmas.Fmt.{decimal_injective}
 use Rattle.mintc_text.specs.Lines.{numeral_of, words}

@@ -1,3 +1,4 @@
+-- What is read as a schedule is in range, and its lines are plain.
 use Rattle.std.proofs.Common.{◌≡◌, ℕ, zero, suc, ℤ, pos, ◌<◌, ◌^◌, ◌≤◌, ◌+◌, true, false, List, [], ◌∷◌, length, length-append, All, refl, ap, ◌∙◌, sym, subst, arith, codes, eqb}
 use Rattle.std.proofs.lemmas.Int.{ints}
 use Rattle.std.proofs.lemmas.List.Elements.{All-push, All-nil}

@@ -1,3 +1,4 @@
+-- What the reader of schedules has read up to each line.
 use Rattle.std.proofs.Common.{◌≡◌, ℕ, suc, ℤ, pos, true, List, [], ◌∷◌, ◌++◌, refl, ap, ◌∙◌, subst, arith, codes}
 use Rattle.std.proofs.lemmas.Int.{ints}
 use Rattle.mintc_text.specs.Lines.{numeral_of}

@@ -1,3 +1,4 @@
+-- Schedules that are one value have one text.
 use Rattle.std.proofs.Common.{◌≡◌, ℕ, zero, suc, ℤ, pos, List, [], refl, ap, ◌∙◌, sym, subst, codes, arith}
 use Rattle.mintc_text.specs.Lines.{text_of, words}
 use Rattle.mintc_timing.specs.declared.clocking.Schedule.{Schedule}

@@ -1,3 +1,4 @@
+-- What is read as a table has its parts in range.
 use Rattle.std.proofs.Common.{◌≡◌, ◌≢◌, ℕ, zero, suc, ◌<◌, ◌≤◌, ◌+◌, ◌*◌, List, [], ◌∷◌, length, length-append, All, refl, ap, ◌∙◌, sym, subst, arith, inl, inr}
 use Rattle.std.proofs.lemmas.List.{take_all}
 use Rattle.std.proofs.lemmas.List.Elements.{All-push, All-nil}

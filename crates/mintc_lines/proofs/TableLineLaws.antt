@@ -1,3 +1,4 @@
+-- The words of an element's line.
 use Rattle.std.proofs.Common.{◌≡◌, ℕ, ℤ, ◌≤◌, ◌-◌, Bool, true, false, IsTrue, List, [], ◌∷◌, length, take, drop, refl, ap, ◌∙◌, sym, subst, arith, codes, decimal, inl, inr}
 use Rattle.std.proofs.lemmas.Fmt.{decimal_injective}
 use Rattle.std.proofs.lemmas.List.{take_rest}

@@ -1,3 +1,4 @@
+-- Tables that are one value have one text.
 use Rattle.std.proofs.Common.{◌≡◌, ℕ, zero, suc, List, [], ◌∷◌, ◌++◌, length, Contains, refl, ap, ◌∙◌, sym, subst, codes}
 use Rattle.mintc_text.specs.Lines.{Follows, ended, text_of, words}
 use Rattle.mintc_timing.specs.declared.parts.Element.{Element}

@@ -1,3 +1,4 @@
+-- Texts of plain lines have one end and one fault.
 use Rattle.std.proofs.Common.{◌≡◌, ◌≢◌, ℕ, suc, true, false, List, [], ◌∷◌, ◌++◌, length, length-append, append_assoc, All, eqb, refl, ap, ◌∙◌, sym, subst, arith}
 use Rattle.mintc_text.specs.Lines.{Follows, IsText, IsFault, IsStuck, text_of, ended, words}
 use Rattle.mintc_lines.specs.Fields.{fields_of, plain_line, Spells}

@@ -1,3 +1,4 @@
+-- The words of an element's line.
 use Rattle.std.specs.Prelude.{◌≡◌, ℕ, ℤ, pos, Bool, true, IsTrue, IsFalse, List}
 use Rattle.mintc_timing.specs.declared.parts.Element.{Element}
 use Rattle.mintc_lines.specs.declared.table_lines.ElementNumbers.{ElementNumbers}

@@ -1,3 +1,4 @@
+-- Words, names, numbers and counts of a line.
 use Rattle.std.specs.Prelude.{◌≡◌, ◌≤◌, ◌==◌, ◌&&◌, ℕ, ℤ, ◌≤ℤ◌, Bool, true, false, if◌then◌else◌, nat_le, List, [], ◌∷◌, length, All, decimal}
 use Rattle.std.specs.List.{slice_split}
 use Rattle.mintc_text.specs.Lines.{words, numeral_of, IsGraphic, IsWithin}

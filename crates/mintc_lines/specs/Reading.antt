@@ -1,3 +1,4 @@
+-- Where a reader of lines stands in a text.
 use Rattle.std.specs.Prelude.{◌≡◌, ◌≤◌, ◌+◌, ℕ, List, ◌++◌, length, min}
 use Rattle.mintc_text.specs.Lines.{ended, text_of, Follows}
 use Rattle.mintc_lines.specs.Fields.{Spells}

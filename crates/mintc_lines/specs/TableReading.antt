@@ -1,3 +1,4 @@
+-- Where the reader of tables halts, and what it keeps.
 use Rattle.std.specs.Prelude.{◌≡◌, ℕ, List, length, take}
 use Rattle.mintc_lines.specs.declared.table_text.Halt.{Halt}
 use Rattle.mintc_lines.specs.declared.table_text.Halt.TheVariants.{Form, Memory}

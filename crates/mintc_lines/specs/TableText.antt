@@ -1,3 +1,4 @@
+-- The text of a table, line by line, and its first line out of form.
 use Rattle.std.specs.Prelude.{◌≡◌, ◌<◌, ◌+◌, ◌*◌, ◌==◌, ◌⊎◌, ℕ, zero, suc, ℤ, Bool, IsFalse, if◌then◌else◌, List, [], ◌∷◌, ◌++◌, length, map, codes, Some}
 use Rattle.std.specs.List.{range_with_len}
 use Rattle.mintc_text.specs.Lines.{numeral_of, IsText, IsFault}

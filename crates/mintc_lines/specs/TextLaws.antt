@@ -1,3 +1,4 @@
+-- What the definitions of these texts say of one another.
 use Rattle.std.specs.Prelude.{◌≡◌, ◌++◌, ℕ, List, Contains}
 use Rattle.mintc_text.specs.Lines.{ended}
 use Rattle.mintc_timing.specs.declared.clocking.Schedule.{Schedule}

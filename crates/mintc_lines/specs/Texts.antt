@@ -1,3 +1,4 @@
+-- The text of a schedule, line by line, and its first line out of form.
 use Rattle.std.specs.Prelude.{◌≡◌, ℕ, zero, suc, ℤ, pos, List, [], ◌∷◌, ◌++◌, codes}
 use Rattle.mintc_text.specs.Lines.{numeral_of, IsText, IsFault}
 use Rattle.mintc_timing.specs.declared.clocking.Schedule.{Schedule}

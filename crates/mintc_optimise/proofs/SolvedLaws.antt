@@ -1,3 +1,4 @@
+-- What a search over the links of a design finds is its least cycle.
 use Rattle.std.proofs.Common.{◌≡◌, subst}
 use Rattle.mintc_timing.specs.Design.{Timing}
 use Rattle.mintc_timing.specs.Limits.{IsDesign}

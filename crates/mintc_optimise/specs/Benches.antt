@@ -1,3 +1,4 @@
+-- The memory in which a design is solved.
 use Rattle.std.specs.Prelude.{◌≤◌, length}
 use Rattle.mintc_timing.specs.Design.{Timing}
 use Rattle.mintc_timing.specs.Right.{IsRight, IsLeastCycle, IsHopeless}

@@ -1,3 +1,4 @@
+-- Certificates that are the earliest and meet no node twice.
 use Rattle.std.specs.Prelude.{◌≡◌, ◌≢◌, ◌<◌, ℕ, ℤ, pos, ◌+ℤ◌, ◌*ℤ◌, ◌≤ℤ◌, IsFalse, List, All, AllPairs, Contains}
 use Rattle.mintc_fraction.specs.Ratio.{over, IsLowest}
 use Rattle.mintc_timing.specs.declared.clocking.Schedule.{Schedule}

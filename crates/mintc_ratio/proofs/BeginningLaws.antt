@@ -1,3 +1,4 @@
+-- Where the search begins.
 use Rattle.std.proofs.Common.{◌≡◌, ◌≤◌, ◌*◌, ◌+◌, ◌-◌, ◌^◌, ℕ, zero, suc, ℤ, pos, negsuc, ◌*ℤ◌, ◌<ℤ◌, arith, min}
 use Rattle.std.proofs.lemmas.Int.{ints}
 use Rattle.mintc_fraction.specs.Ratio.{Ratio, over}

@@ -1,3 +1,4 @@
+-- Points of the grid on which the search halves.
 use Rattle.std.proofs.Common.{◌≡◌, ◌≤◌, ◌*◌, ◌^◌, ℕ, ℤ, pos, ◌≤ℤ◌, arith, lit<, to_z, of_z, ◌∙◌}
 use Rattle.std.specs.Int.{w128}
 use Rattle.mintc_fraction.specs.Ratio.{Ratio, over}

@@ -1,3 +1,4 @@
+-- Two searches of one list end alike.
 use Rattle.std.proofs.Common.{◌≡◌, ℤ, pos, ◌*ℤ◌, ◌≤ℤ◌, ◌<ℤ◌, arith, ap, refl, ◌∙◌}
 use Rattle.std.proofs.lemmas.Int.{ints}
 use Rattle.mintc_fraction.specs.Ratio.{Ratio}

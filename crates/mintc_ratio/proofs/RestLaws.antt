@@ -1,3 +1,4 @@
+-- The chain that the search begins with: from node 0 to node 1 and back.
 use Rattle.std.proofs.Common.{◌≡◌, ◌≢◌, ◌<◌, ◌≤◌, ◌+◌, ℕ, zero, suc, pos, List, [], ◌∷◌, length, get_or, ⊎_elim, arith, sym, ap, ◌∙◌, subst, All}
 use Rattle.std.specs.Prelude.{replicate, slice_set}
 use Rattle.std.specs.List.{AllPairs}

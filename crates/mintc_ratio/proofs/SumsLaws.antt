@@ -1,3 +1,4 @@
+-- The sums of a chain, added one link at a time, are small.
 use Rattle.std.proofs.Common.{◌≡◌, ◌≢◌, ℕ, zero, suc, ◌+◌, ◌*◌, ◌<◌, ◌≤◌, ℤ, pos, ◌+ℤ◌, ◌≤ℤ◌, List, [], ◌∷◌, length, get_or, take, map, arith, refl, sym, ap, ◌∙◌, SFits, w64, All}
 use Rattle.std.specs.List.{AllPairs}
 use Rattle.std.proofs.lemmas.Int.{ints}

@@ -1,3 +1,4 @@
+-- What one turn of the search keeps.
 use Rattle.std.proofs.Common.{◌≡◌, ◌≤◌, ◌<◌, ◌*◌, ◌+◌, ◌-◌, ◌/◌, ◌^◌, ℕ, zero, suc, ℤ, pos, ◌+ℤ◌, ◌-ℤ◌, ◌*ℤ◌, ◌≤ℤ◌, ◌<ℤ◌, arith, ⊎_elim, ◌⊎◌, min, lit<, to_z, of_z}
 use Rattle.std.specs.Int.{w128}
 use Rattle.mintc_walks.specs.Bounds.{IsWithin}

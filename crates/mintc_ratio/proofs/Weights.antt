@@ -1,3 +1,4 @@
+-- Sizes of what links ask for, in 64 and in 128 bits.
 use Rattle.std.proofs.Common.{◌≡◌, ℕ, zero, suc, ℤ, pos, negsuc, ◌*◌, ◌^◌, ◌+ℤ◌, ◌-ℤ◌, ◌*ℤ◌, ◌<◌, ◌≤◌, refl, ⊎_elim, ◌⊎◌, inl, inr, ap, arith}
 use Rattle.std.proofs.lemmas.Int.{ints, to_z-of_z, fits_signed_from_abs}
 use Rattle.std.proofs.Common.{SFits, to_z, of_z, lit<}

@@ -1,3 +1,4 @@
+-- Where the search stands between two turns.
 use Rattle.std.specs.Prelude.{◌≡◌, ◌<◌, ◌≤◌, ◌*◌, ◌+◌, ◌-◌, ◌^◌, ℕ, ℤ, pos, ◌-ℤ◌, ◌*ℤ◌, ◌≤ℤ◌, ◌<ℤ◌, List, length, min}
 use Rattle.mintc_fraction.specs.Ratio.{over, IsFloor}
 use Rattle.mintc_timing.specs.declared.link.Link.{Link}

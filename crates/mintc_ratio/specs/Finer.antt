@@ -1,3 +1,4 @@
+-- Solutions over a multiple of the denominator, and two searches of one list.
 use Rattle.std.specs.Prelude.{◌≡◌, ◌<◌, ℕ, ℤ, pos, ◌*ℤ◌, ◌≤ℤ◌, List, All}
 use Rattle.mintc_fraction.specs.Ratio.{Ratio}
 use Rattle.mintc_timing.specs.Links.{IsMet}

@@ -1,3 +1,4 @@
+-- What the search for the least cycle time leaves.
 use Rattle.std.specs.Prelude.{◌≡◌, pos, ◌*ℤ◌, ◌≤ℤ◌, ◌<ℤ◌, List}
 use Rattle.mintc_fraction.specs.Ratio.{Ratio, IsFraction, IsLowest}
 use Rattle.mintc_timing.specs.declared.link.Link.{Link}

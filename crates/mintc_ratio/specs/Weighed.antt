@@ -1,3 +1,4 @@
+-- Links as arcs that weigh what they ask for.
 use Rattle.std.specs.Prelude.{◌^◌, pos, ◌≤ℤ◌, List, map}
 use Rattle.mintc_fraction.specs.Ratio.{Ratio}
 use Rattle.mintc_timing.specs.declared.link.Link.{Link}

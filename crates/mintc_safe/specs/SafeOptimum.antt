@@ -1,3 +1,4 @@
+-- Safe certificates that are the earliest and meet no node twice.
 use Rattle.std.specs.Prelude.{◌≢◌, ◌≤◌, ℤ, List, [], length, All, AllPairs}
 use Rattle.mintc_timing.specs.declared.clocking.Schedule.{Schedule}
 use Rattle.mintc_timing.specs.Design.{Timing}

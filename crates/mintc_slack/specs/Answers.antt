@@ -1,3 +1,4 @@
+-- The list of slacks, or why there is none.
 use Rattle.std.specs.Prelude.{◌≡◌, ◌<◌, ℕ, ℤ, List, length}
 use Rattle.mintc_fraction.specs.Ratio.{Ratio, IsLowest, IsModest}
 use Rattle.mintc_walks.specs.Bounds.{IsWithin}

@@ -1,3 +1,4 @@
+-- Bits of ports, and what they are called.
 use Rattle.std.proofs.Common.{◌≡◌, ◌<◌, ◌+◌, [], ℕ, List, length, map, find, drop, get_or, slice_index_or, bytes_eq, Option, ap, ◌∙◌}
 use Rattle.std.specs.Option.{option_or}
 use Rattle.std.proofs.lemmas.List.{drop_more}

@@ -1,3 +1,4 @@
+-- Numerals, their signs and their digits.
 use Rattle.std.proofs.Common.{◌≡◌, ℕ, ℤ, pos, negsuc, neg_ℤ, ◌≤ℤ◌, ◌<◌, ◌≤◌, ◌^◌, List, ◌∷◌, length, get_or, take, length-take, refl, ap, ◌∙◌, sym, subst, arith, zero, suc, decimal}
 use Rattle.std.proofs.lemmas.Int.{ints}
 use Rattle.std.proofs.lemmas.Int.Digits.{digits_value-lt}

@@ -1,3 +1,4 @@
+-- What calls of the outside leave.
 use Rattle.std.proofs.Common.{◌≡◌, ℕ, ◌≤◌, Bool, true, false, Result, Ok, Err, IfOk, OnOk, OnErr, is_ok, arith}
 use Rattle.std.proofs.lemmas.Bool.Decides.{nat_tests}
 use Rattle.mintc_text.specs.Outside.{Rose, faults_after}

@@ -1,3 +1,4 @@
+-- Shelves and sinks in memory.
 use Rattle.std.specs.Prelude.{ℕ, ◌+◌, ◌-◌, ◌≤◌, ◌==◌, ◌&&◌, not, nat_le, List, length, Option, Some, None, Bool, false, if◌then◌else◌, min, Contains}
 use Rattle.mintc_text.specs.Outside.{Files}
 

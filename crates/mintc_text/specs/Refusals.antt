@@ -1,3 +1,4 @@
+-- The words and the line of a refusal.
 use Rattle.std.specs.Prelude.{ℕ, List, [], ◌∷◌, map, length, codes, decimal}
 use Rattle.mintc_text.specs.declared.refusals.Role.{Role}
 use Rattle.mintc_text.specs.declared.refusals.Role.TheVariants as role

@@ -1,3 +1,4 @@
+-- The words of a line of bytes.
 use Rattle.std.specs.Prelude.{◌≡◌, ◌≤◌, ◌<◌, ℕ, ℤ, pos, negsuc, List, length, slice_index}
 use Rattle.mintc_text.specs.Lines.{IsGraphic, IsWithin}
 

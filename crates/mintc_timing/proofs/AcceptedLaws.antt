@@ -1,3 +1,4 @@
+-- The systems that can be made are the accepted designs.
 use Rattle.std.proofs.Common.{List, length, arith, ap}
 use Rattle.mintc_timing.specs.declared.parts.Pair.{Pair}
 use Rattle.mintc_timing.specs.Accepted.{SystemsAreAccepted}

@@ -1,3 +1,4 @@
+-- Setups, holds and their amounts; the violations are determined.
 use Rattle.std.proofs.Common.{ℤ, pos, ◌≤ℤ◌, ◌+ℤ◌, ◌-ℤ◌, ◌*ℤ◌, Bool, true, false, cond, IsTrue, List, ◌++◌, arith, refl, ap, ◌∙◌, sym, Option, Some, None, IfSome, option_map, MatchBool, ◌↔◌, inl, inr}
 use Rattle.std.proofs.lemmas.Int.{ints}
 use Rattle.std.specs.Int.{int_max}

@@ -1,3 +1,4 @@
+-- The latest arrival at an element, and the pair by which it comes.
 use Rattle.std.proofs.Common.{◌≡◌, ℕ, ◌<◌, ◌==◌, ℤ, ◌≤ℤ◌, Bool, true, false, List, length, arith, ap, ◌∙◌, eq-eqb, inl, inr, ◌⊎◌, ⊎_elim, Option, Some, None, IfSome}
 use Rattle.std.proofs.lemmas.Bool.Decides.{nat_tests}
 use Rattle.std.proofs.lemmas.List.{get_or_default}

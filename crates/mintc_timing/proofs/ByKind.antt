@@ -1,3 +1,4 @@
+-- What holds of each link of a design, from its kinds to the list and back.
 use Rattle.std.proofs.Common.{◌≡◌, ℕ, ◌<◌, ◌≤◌, ◌-◌, true, false, not, List, ◌++◌, length, get_or, map, arith, refl, ap, zero-add}
 use Rattle.std.proofs.lemmas.List.{get_or_default}
 use Rattle.std.proofs.lemmas.List.FromFn.{get_or-enumerate_from, length-enumerate_from}

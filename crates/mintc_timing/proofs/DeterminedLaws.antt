@@ -1,3 +1,4 @@
+-- Departures and least cycles are determined; paths join.
 use Rattle.std.proofs.Common.{◌≡◌, ◌≢◌, ℕ, ◌<◌, ℤ, pos, ◌≤ℤ◌, ◌+ℤ◌, ◌*ℤ◌, List, [], ◌∷◌, ◌++◌, length, arith, refl, ◌∙◌, sym}
 use Rattle.std.proofs.Math.IntN.{zero-*ℤ}
 use Rattle.std.proofs.lemmas.Int.{ints}

@@ -1,3 +1,4 @@
+-- The pairs of a design are determined.
 use Rattle.std.proofs.Common.{◌≡◌, ℕ, zero, suc, ◌<◌, ◌+◌, ℤ, List, [], ◌∷◌, length, get_or, arith, refl, ap, ◌∙◌, sym, ◌⊎◌, inl, inr}
 use Rattle.std.proofs.lemmas.Int.{ints}
 use Rattle.std.specs.List.{Contains, AllAdjacentBelow}

@@ -1,3 +1,4 @@
+-- A right schedule is right over each denominator.
 use Rattle.std.proofs.Common.{◌≡◌, ℕ, ◌+◌, ◌-◌, ℤ, pos, ◌≤ℤ◌, ◌+ℤ◌, ◌-ℤ◌, ◌*ℤ◌, Bool, true, false, cond, List, [], ◌∷◌, get_or, map, arith, refl, ap, ◌∙◌, sym, Option, Some, None, IfSome, option_map, MatchBool}
 use Rattle.std.proofs.Math.IntN.{*ℤ_comm, zero-*ℤ}
 use Rattle.std.proofs.lemmas.Int.{ints, clamps, by_lt_z}

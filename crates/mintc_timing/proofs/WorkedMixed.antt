@@ -1,3 +1,4 @@
+-- A design with a flop, a hold, a bound and an inner bit by computation.
 use Rattle.std.proofs.Common.{◌≡◌, ℕ, ◌<◌, pos, negsuc, true, false, List, [], ◌∷◌, ◌++◌, ◌≢◌, ◌+ℤ◌, ◌-ℤ◌, ◌*ℤ◌, ◌≤ℤ◌, map, arith, refl}
 use Rattle.std.specs.Int.{int_max}
 use Rattle.std.proofs.lemmas.Int.{ints, clamps}

@@ -1,3 +1,4 @@
+-- Designs within the limits, without a closed list of arcs or an overlong path.
 use Rattle.std.specs.Prelude.{◌≢◌, ◌≤◌, ℕ, List, [], length, AllPairs}
 use Rattle.mintc_timing.specs.declared.parts.TimingArc.{TimingArc}
 use Rattle.mintc_timing.specs.declared.parts.Pair.{Pair}

@@ -1,3 +1,4 @@
+-- A closed list of last arcs is a chain of positive weight.
 use Rattle.std.proofs.Common.{◌≡◌, ◌≢◌, ℕ, ℤ, ◌+◌, ◌^◌, ◌+ℤ◌, ◌≤ℤ◌, ◌<◌, ◌≤◌, List, [], ◌∷◌, length, get_or, take, ap, arith}
 use Rattle.std.proofs.lemmas.Int.{ints}
 use Rattle.mintc_walks.specs.declared.network.Arc.{Arc}

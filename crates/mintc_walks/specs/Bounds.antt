@@ -1,3 +1,4 @@
+-- Weights and values within bounds.
 use Rattle.std.specs.Prelude.{ℕ, ℤ, pos, neg_ℤ, ◌^◌, ◌≤ℤ◌, ◌<ℤ◌, ◌<◌, List, length}
 use Rattle.mintc_walks.specs.declared.network.Arc.{Arc}
 use Rattle.mintc_walks.specs.declared.network.TheConstants.{UNREACHED}
