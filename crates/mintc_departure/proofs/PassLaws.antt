@@ -18,6 +18,7 @@ use Rattle.mintc_timing.specs.Violations.{check, failed, phases_of, elements_of,
 use Rattle.mintc_timing.proofs.AmountLaws.{setups_have_amounts_lem, holds_have_amounts_lem}
 use Rattle.mintc_timing.proofs.DeterminedLaws.{early_are_determined_lem, late_are_determined_lem}
 use Rattle.mintc_timing.proofs.Loops.{no_loop}
+use Rattle.mintc_departure.specs.Checks.{apart_check, bound_check, fed_checks}
 use Rattle.mintc_departure.specs.Laws.{InRangeIsOfPhases, IsOfPhases, IsPass, PassIsRightWithLate, PassMeansRight}
 use Rattle.mintc_departure.proofs.EarlyLaws.{everywhere}
 use Rattle.mintc_departure.proofs.Greater.{greatest-mono}
@@ -27,10 +28,10 @@ use Rattle.mintc_departure.proofs.NetworkLaws.{arrival-is}
 
 -- the checks of bounds, whatever their numbers
 bounds-kept : (s : Schedule) (n : ℕ) (bounds : List Bound) →
-    All (λ (b : ℕ × Bound). IsKept (check (broken.Bound b.0) (time_of s b.1.from +ℤ b.1.gap *ℤ s.den -ℤ pos b.1.cycles *ℤ s.cycle -ℤ time_of s b.1.to))) (enumerate_from n bounds) ↔ All (KeepsBound s) bounds
-bounds-kept s n [] = ((λ h. All-nil (KeepsBound s)), (λ h. All-nil (λ (b : ℕ × Bound). IsKept (check (broken.Bound b.0) (time_of s b.1.from +ℤ b.1.gap *ℤ s.den -ℤ pos b.1.cycles *ℤ s.cycle -ℤ time_of s b.1.to)))))
+    All (λ (b : ℕ × Bound). IsKept (bound_check s b)) (enumerate_from n bounds) ↔ All (KeepsBound s) bounds
+bounds-kept s n [] = ((λ h. All-nil (KeepsBound s)), (λ h. All-nil (λ (b : ℕ × Bound). IsKept (bound_check s b))))
 bounds-kept s n (b ∷ bounds) =
-    let Kept : ℕ × Bound → Type 0 = λ (b : ℕ × Bound). IsKept (check (broken.Bound b.0) (time_of s b.1.from +ℤ b.1.gap *ℤ s.den -ℤ pos b.1.cycles *ℤ s.cycle -ℤ time_of s b.1.to)) in
+    let Kept : ℕ × Bound → Type 0 = λ (b : ℕ × Bound). IsKept (bound_check s b) in
     let one = moved (time_of s b.from +ℤ b.gap *ℤ s.den -ℤ pos b.cycles *ℤ s.cycle) (time_of s b.to) in
     let rest = bounds-kept s (n + 1) bounds in (
       (λ h. All-cons (KeepsBound s) b bounds (one.0 (All-head Kept (n, b) (enumerate_from (n + 1) bounds) h)) (rest.0 (All-tail Kept (n, b) (enumerate_from (n + 1) bounds) h))),
@@ -47,9 +48,6 @@ module _ (t : Timing) (s : Schedule) where
     apart : (i : ℕ) → 1 ≤ i → i ≤ phase_count t → EachPhase t (KeepsApart t s i)
     bounds : All (KeepsBound s) t.flat.bounds
 
-  abbrev apart_check : ℕ → ℕ → Violation
-  apart_check i j = check (broken.Apart i j) (end_of s j -ℤ pos (crosses_of j i) *ℤ s.cycle -ℤ start_of s i)
-
   phases-kept : (f : ℕ → Violation) (n : ℕ) → (failed (map f (range_with_len 1 n)) ≡ []) ↔ ((p : ℕ) → 1 ≤ p → p ≤ n → IsKept (f p))
   phases-kept f n =
       let each = kept-map f (range_with_len 1 n) in (
@@ -60,18 +58,18 @@ module _ (t : Timing) (s : Schedule) where
   aparts-kept : (failed (apart_checks t s) ≡ []) ↔ ((i : ℕ) → 1 ≤ i → i ≤ phase_count t → EachPhase t (KeepsApart t s i))
   aparts-kept =
       let n : ℕ = phase_count t in
-      let list : ℕ → List Violation = λ i. map (apart_check i) (filter (feeds_of t i) (phases_of t)) in
+      let list : ℕ → List Violation = λ i. fed_checks t s i in
       let all = kept-flat list (phases_of t) in
-      let one = λ (i : ℕ). kept-tested (apart_check i) (feeds_of t i) (phases_of t) in
+      let one = λ (i : ℕ). kept-tested (apart_check s i) (feeds_of t i) (phases_of t) in
       let move = λ (i j : ℕ). moved (end_of s j -ℤ pos (crosses_of j i) *ℤ s.cycle) (start_of s i) in (
         (λ e i low high j low' high' fed.
-            (move i j).0 (range-each (λ k. IsTrue (feeds_of t i k) → IsKept (apart_check i k)) 1 n ((one i).0 (range-each (λ k. failed (list k) ≡ []) 1 n (all.0 e) i low (omega arith))) j low' (omega arith) fed)),
-        (λ h. all.1 (each-range (λ k. failed (list k) ≡ []) 1 n (λ i low high. (one i).1 (each-range (λ k. IsTrue (feeds_of t i k) → IsKept (apart_check i k)) 1 n (λ j low' high' fed. (move i j).1 (h i low (omega arith) j low' (omega arith) fed)))))),
+            (move i j).0 (range-each (λ k. IsTrue (feeds_of t i k) → IsKept (apart_check s i k)) 1 n ((one i).0 (range-each (λ k. failed (list k) ≡ []) 1 n (all.0 e) i low (omega arith))) j low' (omega arith) fed)),
+        (λ h. all.1 (each-range (λ k. failed (list k) ≡ []) 1 n (λ i low high. (one i).1 (each-range (λ k. IsTrue (feeds_of t i k) → IsKept (apart_check s i k)) 1 n (λ j low' high' fed. (move i j).1 (h i low (omega arith) j low' (omega arith) fed)))))),
       )
 
   bounds-none : (failed (bound_checks t s) ≡ []) ↔ All (KeepsBound s) t.flat.bounds
   bounds-none =
-      let each = kept-map (λ (b : ℕ × Bound). check (broken.Bound b.0) (time_of s b.1.from +ℤ b.1.gap *ℤ s.den -ℤ pos b.1.cycles *ℤ s.cycle -ℤ time_of s b.1.to)) (enumerate_from 0 t.flat.bounds) in
+      let each = kept-map (λ (b : ℕ × Bound). bound_check s b) (enumerate_from 0 t.flat.bounds) in
       let all = bounds-kept s 0 t.flat.bounds in
       ((λ e. all.0 (each.0 e)), (λ h. each.1 (all.1 h)))
 

@@ -9,11 +9,12 @@ use Rattle.mintc_timing.specs.declared.parts.TimingArc.{TimingArc}
 use Rattle.mintc_timing.specs.Design.{Design, Timing, element_at, element_count, pair_at, phase_count, no_element, no_pair, no_arc}
 use Rattle.mintc_timing.specs.Clocking.{start_of, shift_of}
 use Rattle.mintc_timing.specs.Departures.{late_opening}
-use Rattle.mintc_timing.specs.Limits.{IsDesign, IsElement, IsInRange, IsPhase, IsNumerator, IsDenominator, IsDelay}
+use Rattle.mintc_timing.specs.Limits.{IsDesign, IsElement, IsPhase, IsNumerator, IsDenominator, IsDelay}
 use Rattle.mintc_timing.specs.Order.{IsTiming}
 use Rattle.mintc_timing.specs.Paths.{HasExtremes, Leads, arc_at, greatest_delay, least_delay}
 use Rattle.mintc_timing.proofs.Ranges.{pair-max_range}
 use Rattle.mintc_timing.proofs.Shifts.{shift-below, shift-not_below}
+use Rattle.mintc_departure.specs.Clocked.{IsClocked}
 use Rattle.mintc_departure.specs.Networks.{late_start_of, late_travel, arc_of}
 
 pub below_or_not : (i j : ℕ) → (i < j) ⊎ (j ≤ i)
@@ -27,21 +28,21 @@ scaled-within x den h d =
     let k : IsWithin 100000 den = (omega (arith, ints), omega (arith, ints)) in
     IsWithin-product 2000000000 100000 x den h k
 
-module _ (t : Timing) (s : Schedule) (design : IsDesign t.flat) (timing : IsTiming t.flat t.order t.pairs) (range : IsInRange s) (phases : length s.starts ≡ phase_count t) where
+module _ (t : Timing) (s : Schedule) (fits : IsClocked t s) where
   pub element_in_range : (l : ℕ) → l < element_count t → IsElement (phase_count t) (element_at t l)
-  element_in_range l h = design.each_element l no_element h
+  element_in_range l h = fits.design.each_element l no_element h
 
   pub pair_ends : (n : ℕ) → n < length t.pairs → HasExtremes t.flat (pair_at t n)
-  pair_ends n h = timing.extremes.each n no_pair h
+  pair_ends n h = fits.timing.extremes.each n no_pair h
 
   pub start-range : (p : ℕ) → IsPhase (phase_count t) p → IsNumerator (start_of s p)
-  start-range p h = range.starts (p - 1) (pos 0) (omega arith)
+  start-range p h = fits.range.starts (p - 1) (pos 0) (omega arith)
 
   pub shift-within : (i j : ℕ) → IsPhase (phase_count t) i → IsPhase (phase_count t) j → IsWithin 200000000000000 (shift_of s i j)
   shift-within i j h k =
       let a = start-range i h in
       let b = start-range j k in
-      let c = range.cycle in
+      let c = fits.range.cycle in
       ⊎_elim
       (λ e. rw (shift-below s i j e) (omega (arith, ints), omega (arith, ints)))
       (λ e. rw (shift-not_below s i j e) (omega (arith, ints), omega (arith, ints)))
@@ -53,9 +54,9 @@ module _ (t : Timing) (s : Schedule) (design : IsDesign t.flat) (timing : IsTimi
       let from = element_in_range (pair_at t n).from ends.from in
       let to = element_in_range (pair_at t n).to ends.to in
       let dq = from.dq_max in
-      let max : IsDelay (pair_at t n).max = pair-max_range t.flat t.order t.pairs design timing n no_pair h in
+      let max : IsDelay (pair_at t n).max = pair-max_range t.flat t.order t.pairs fits.design fits.timing n no_pair h in
       let delay : IsWithin 2000000000 ((element_at t (pair_at t n).from).dq_max +ℤ (pair_at t n).max) = (omega (arith, ints), omega (arith, ints)) in
-      let span = scaled-within _ s.den delay range.den in
+      let span = scaled-within _ s.den delay fits.range.den in
       let shift = shift-within _ _ from.phase to.phase in
       (omega (arith, ints), omega (arith, ints))
 
@@ -65,7 +66,7 @@ module _ (t : Timing) (s : Schedule) (design : IsDesign t.flat) (timing : IsTimi
       let dq = e.dq_max in
       let cq = e.cq_max in
       let delay : IsWithin 1000000000 ((element_at t l).cq_max -ℤ (element_at t l).dq_max) = (omega (arith, ints), omega (arith, ints)) in
-      let d = range.den in
+      let d = fits.range.den in
       let den : IsWithin 100000 s.den = (omega (arith, ints), omega (arith, ints)) in
       IsWithin-product 1000000000 100000 _ s.den delay den
 

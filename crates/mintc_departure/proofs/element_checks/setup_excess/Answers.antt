@@ -29,13 +29,13 @@ overflow_sub-result c =
 
 pub returns-then-not-element-clause-value : goal.returns-then-not-element-clause-value
 returns-then-not-element-clause-value c d leaves is =
-    let t = c.args.system.now in
-    let s = c.args.schedule.now in
+    let t = c.args.clocked.now.system.now in
+    let s = c.args.clocked.now.schedule.now in
     let e : Element = c.element-element.result.now in
     let here : e ≡ element_at t c.args.number = c.element-element.ensures.value in
     let latch : (element_at t c.args.number).flop ≡ false = sym (ap (λ (x : Element). x.flop) here) ∙ c.if-not-element.true in
     let setup : c.scaled-setup.result ≡ (element_at t c.args.number).setup *ℤ s.den =
-    rw (read_time e.setup (IsTime-IsGap _ c.element-element.ensures.kept.setup), read_time s.den (IsTime-IsDenominator _ c.requires.in_range.den)) at c.scaled-setup.ensures.value ∙ ap (λ (x : Element). x.setup *ℤ s.den) here in
+    rw (read_time e.setup (IsTime-IsGap _ c.element-element.ensures.kept.setup), read_time s.den (IsTime-IsDenominator _ c.args.clocked.now.in_range.den)) at c.scaled-setup.ensures.value ∙ ap (λ (x : Element). x.setup *ℤ s.den) here in
     let wide : c.width.result ≡ width_of s (phase_of t c.args.number) = c.width.ensures.value ∙ ap (λ (x : Element). width_of s x.phase) here in
     let amount = setup-latch t s d c.args.number c.args.time c.scaled-setup.result c.width.result latch leaves setup wide in
     let sum = within _ _ (opened c) c.requires.time in
@@ -70,13 +70,13 @@ overflow_add-result-2 c =
 
 pub returns-clause-value : goal.returns-clause-value
 returns-clause-value c d leaves is =
-    let t = c.args.system.now in
-    let s = c.args.schedule.now in
+    let t = c.args.clocked.now.system.now in
+    let s = c.args.clocked.now.schedule.now in
     let e : Element = c.element-element.result.now in
     let here : e ≡ element_at t c.args.number = c.element-element.ensures.value in
     let flop : (element_at t c.args.number).flop ≡ true = sym (ap (λ (x : Element). x.flop) here) ∙ c.if-not-element.false in
     let setup : c.scaled-setup.result ≡ (element_at t c.args.number).setup *ℤ s.den =
-    rw (read_time e.setup (IsTime-IsGap _ c.element-element.ensures.kept.setup), read_time s.den (IsTime-IsDenominator _ c.requires.in_range.den)) at c.scaled-setup.ensures.value ∙ ap (λ (x : Element). x.setup *ℤ s.den) here in
+    rw (read_time e.setup (IsTime-IsGap _ c.element-element.ensures.kept.setup), read_time s.den (IsTime-IsDenominator _ c.args.clocked.now.in_range.den)) at c.scaled-setup.ensures.value ∙ ap (λ (x : Element). x.setup *ℤ s.den) here in
     let amount = setup-flop t s d c.args.number c.args.last c.scaled-setup.result flop is (comes c) setup in
     let a = arrives c in
     let a0 = a.0 in

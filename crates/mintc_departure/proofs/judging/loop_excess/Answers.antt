@@ -8,10 +8,10 @@ use Rattle.mintc_departure.proofs.judging.loop_excess.Goals as goal
 
 few : (c : goal.After-late_delay-amount) → c.loop-pair.pair-index < 2000
 few c =
-    let pairs = few_pairs c.args.system.now c.args.pairs.now c.pairs-pairs.ensures.kept.extremes.each c.requires.closed in
-    let elements = c.elements-elements.ensures.kept.elements in
+    let pairs = few_pairs c.args.clocked.now.system.now c.args.pairs.now c.count-count.ensures.kept.timing.extremes.each c.requires.closed in
+    let elements = c.count-count.ensures.kept.design.elements in
     let test = c.loop-pair-test.true in
-    omega (arith, ap (λ (d : Design). length d.elements) c.flat.ensures)
+    omega arith
 
 pub overflow_add-amount : goal.overflow_add-amount
 overflow_add-amount c =
@@ -20,8 +20,8 @@ overflow_add-amount c =
 
 pub loop-pair-preserved : goal.loop-pair-preserved
 loop-pair-preserved c =
-    let t = c.args.system.now in
-    let s = c.args.schedule.now in
+    let t = c.args.clocked.now.system.now in
+    let s = c.args.clocked.now.schedule.now in
     let i = c.loop-pair.pair-index in
     let loop = c.args.pairs.now in
     let y = c.late_delay-amount.result in

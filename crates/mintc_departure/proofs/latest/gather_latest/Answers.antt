@@ -14,15 +14,15 @@ use Rattle.mintc_departure.proofs.latest.gather_latest.Goals as goal
 
 pub loop-number-preserved : goal.loop-number-preserved
 loop-number-preserved c =
-    let t = c.args.system.now in
-    let s = c.args.schedule.now in
+    let t = c.args.clocked.now.system.now in
+    let s = c.args.clocked.now.schedule.now in
     let n = c.loop-number.number in
     let i = c.loop-number.invariant in
     let xs = c.loop-number.room.values in
     let p = pair_at t n in
     let f = late_arrival t s c.args.room.now.late in
     let late : c.loop-number.room.late ≡ c.args.room.now.late = ap (λ (r : Space). r.late) i.kept in
-    let h : n < length t.pairs = rw c.requires.pairs at c.loop-number-test.true in
+    let h : n < length t.pairs = rw c.pairs-number-end.ensures.value at c.loop-number-test.true in
     let range : IsArrival (f p) = rw late at c.bring_latest.ensures.range in
     let inside : p.to < length xs = omega (arith, i.count, c.bring_latest.ensures.inside) in
     let write = ap (λ (r : Space). r.values) c.bring_latest.ensures.value in

@@ -14,24 +14,24 @@ use Rattle.mintc_departure.proofs.rising.earliest.Goals as goal
 
 pub loop-next-init : goal.loop-next-init
 loop-next-init c =
-    let t = c.args.system.now in
+    let t = c.args.clocked.now.system.now in
     let last : IsLastOf t.pairs Second c.args.element (length t.pairs) c.index-next.result.now =
     chain-head t.pairs Second (element_count t) c.args.into.now c.requires.into c.args.element _ c.requires.element c.index-next.ensures in
     record {
       within = last.fits;
       into = last.has;
-      first = into-none (early_arrival t c.args.schedule.now c.args.departures.now) t.pairs c.args.element _ last;
+      first = into-none (early_arrival t c.args.clocked.now.schedule.now c.args.departures.now) t.pairs c.args.element _ last;
     }
 
-number : (c : goal.After-min-first) → c.loop-next.next - 1 < length c.args.system.now.pairs
+number : (c : goal.After-min-first) → c.loop-next.next - 1 < length c.args.clocked.now.system.now.pairs
 number c = let h = c.loop-next.invariant.within in let test = c.loop-next-test.true in omega arith
 
 pub index-next-requires-in-loop-next : goal.index-next-requires-in-loop-next
 index-next-requires-in-loop-next c = let h = number c in let same = c.requires.into.nexts_count in omega (arith, c.args.into.now.nexts.ok.0)
 
-next-last : (c : goal.After-row_known-in-loop-next-2-1) → IsLastOf c.args.system.now.pairs Second c.args.element (c.loop-next.next - 1) c.index-next-in-loop-next.result.now
+next-last : (c : goal.After-row_known-in-loop-next-2-1) → IsLastOf c.args.clocked.now.system.now.pairs Second c.args.element (c.loop-next.next - 1) c.index-next-in-loop-next.result.now
 next-last c =
-    let t = c.args.system.now in
+    let t = c.args.clocked.now.system.now in
     let n = c.loop-next.next - 1 in
     let test = c.loop-next-test.true in
     let to : (pair_at t n).to ≡ c.args.element = c.loop-next.invariant.into n (omega arith) in
@@ -44,9 +44,9 @@ loop-next-smaller c = let last = next-last c in let fits = last.fits in let test
 
 pub loop-next-preserved : goal.loop-next-preserved
 loop-next-preserved c =
-    let t = c.args.system.now in
+    let t = c.args.clocked.now.system.now in
     let n = c.loop-next.next - 1 in
-    let f = early_arrival t c.args.schedule.now c.args.departures.now in
+    let f = early_arrival t c.args.clocked.now.schedule.now c.args.departures.now in
     let test = c.loop-next-test.true in
     let h = c.loop-next.invariant.within in
     let last = next-last c in
@@ -71,7 +71,7 @@ loop-next-preserved c =
 
 pub returns : goal.returns
 returns c =
-    let t = c.args.system.now in
-    let f = early_arrival t c.args.schedule.now c.args.departures.now in
+    let t = c.args.clocked.now.system.now in
+    let f = early_arrival t c.args.clocked.now.schedule.now c.args.departures.now in
     let none : c.loop-next.next ≡ 0 = let test = c.loop-next-test.false in omega arith in
     subst (λ k. IsFirst (least_of (map f (filter (λ (p : Pair). p.to == c.args.element) (drop k t.pairs)))) (to_z w128 c.loop-next.first-bits)) none c.loop-next.invariant.first

@@ -22,15 +22,15 @@ loop-at-init c = record {
 }
 
 pub touch-rose-requires-clause-late : goal.touch-rose-requires-clause-late
-touch-rose-requires-clause-late c = subst (λ xs. AreLate c.args.system.now c.args.schedule.now xs) (sym (ap (λ (r : Space). r.late) c.loop-at.invariant.kept)) c.requires.late
+touch-rose-requires-clause-late c = subst (λ xs. AreLate c.args.clocked.now.system.now c.args.clocked.now.schedule.now xs) (sym (ap (λ (r : Space). r.late) c.loop-at.invariant.kept)) c.requires.late
 
 pub touch-rose-requires-clause-swept : goal.touch-rose-requires-clause-swept
 touch-rose-requires-clause-swept c =
-    subst (λ xs. AreSwept c.args.system.now c.args.schedule.now xs c.loop-at.room.early c.loop-at.stale.words.items) (sym (ap (λ (r : Space). r.late) c.loop-at.invariant.kept)) c.loop-at.invariant.swept
+    subst (λ xs. AreSwept c.args.clocked.now.system.now c.args.clocked.now.schedule.now xs c.loop-at.room.early c.loop-at.stale.words.items) (sym (ap (λ (r : Space). r.late) c.loop-at.invariant.kept)) c.loop-at.invariant.swept
 
 pub touch-rose-requires-clause-element : goal.touch-rose-requires-clause-element
 touch-rose-requires-clause-element c =
-    let test = c.loop-at-test.true in omega (arith, ap length c.elements-count.ensures.value, ap (λ (d : Design). length d.elements) c.flat.ensures)
+    let test = c.loop-at-test.true in omega (arith, c.count-count.ensures.value)
 
 pub next-at-requires-in-loop-at : goal.next-at-requires-in-loop-at
 next-at-requires-in-loop-at c = c.touch-rose.ensures.swept.few
@@ -39,7 +39,7 @@ pub loop-at-smaller : goal.loop-at-smaller
 loop-at-smaller c =
     let test = c.loop-at-test.true in
     let from = c.next-at-in-loop-at.ensures.from in
-    omega (arith, ap length c.elements-count.ensures.value, ap (λ (d : Design). length d.elements) c.flat.ensures)
+    omega (arith, c.count-count.ensures.value)
 
 le_trans : {x y z : ℤ} → x ≤ℤ y → y ≤ℤ z → x ≤ℤ z
 le_trans h k = omega (arith, ints)
@@ -52,8 +52,8 @@ lt_le h k = omega (arith, ints)
 
 pub loop-at-preserved-then-rose : goal.loop-at-preserved-then-rose
 loop-at-preserved-then-rose c =
-    let t = c.args.system.now in
-    let s = c.args.schedule.now in
+    let t = c.args.clocked.now.system.now in
+    let s = c.args.clocked.now.schedule.now in
     let i = c.loop-at.invariant in
     let room = c.touch-rose.new.room in
     let stale = c.touch-rose.new.stale.words.items in
@@ -63,15 +63,15 @@ loop-at-preserved-then-rose c =
       swept = subst (λ xs. AreSwept t s xs room.early stale) (ap (λ (r : Space). r.late) i.kept) touched.swept;
       up = λ k lt. le_trans (i.up k lt) (touched.up k lt);
       differs = λ e.
-          let h : c.loop-at.at < element_count t = let test = c.loop-at-test.true in omega (arith, ap length c.elements-count.ensures.value, ap (λ (d : Design). length d.elements) c.flat.ensures) in
+          let h : c.loop-at.at < element_count t = let test = c.loop-at-test.true in omega (arith, c.count-count.ensures.value) in
           (c.loop-at.at, h, le_lt (i.up c.loop-at.at h) (OnTrue_at c.if-rose.true touched.changed));
       none = λ e. absurd (not_both _ refl e);
     }
 
 pub loop-at-preserved : goal.loop-at-preserved
 loop-at-preserved c =
-    let t = c.args.system.now in
-    let s = c.args.schedule.now in
+    let t = c.args.clocked.now.system.now in
+    let s = c.args.clocked.now.schedule.now in
     let i = c.loop-at.invariant in
     let room = c.touch-rose.new.room in
     let stale = c.touch-rose.new.stale.words.items in

@@ -10,7 +10,7 @@ use Rattle.mintc_departure.proofs.rounds.departs.Goals as goal
 
 pub returns : goal.returns
 returns c d is =
-    let t = c.args.system.now in
+    let t = c.args.clocked.now.system.now in
     let first = c.args.first in
     let ne : first ≢ NEVER = λ e. c.if-first-eq-NEVER.false (ap (of_z w128) e) in
     let range : IsArrival first = ⊎_elim (λ e. absurd (ne e)) (λ r. r) c.requires.first in
@@ -21,4 +21,4 @@ returns c d is =
     let larger : c.max.result ≡ int_max c.early_start-start.result first = omega (arith, ints, clamps, c.max.ensures.value) in
     let fits : SFits w64 c.max.result = omega (arith, ints, clamps) in
     to_z-of_z w64 c.max.result fits
-    ∙ departs-by_first t c.args.schedule.now d c.args.number first c.max.result latch ne is (larger ∙ ap (λ z. int_max z first) start.value)
+    ∙ departs-by_first t c.args.clocked.now.schedule.now d c.args.number first c.max.result latch ne is (larger ∙ ap (λ z. int_max z first) start.value)

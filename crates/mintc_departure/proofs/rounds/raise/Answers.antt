@@ -22,15 +22,15 @@ rest-more old xs ys n y e rest k h = let ne : k ≢ n = omega arith in rw e (get
 
 pub loop-number-preserved : goal.loop-number-preserved
 loop-number-preserved c =
-    let t = c.args.system.now in
-    let s = c.args.schedule.now in
+    let t = c.args.clocked.now.system.now in
+    let s = c.args.clocked.now.schedule.now in
     let old = c.args.room.now.early in
     let i = c.loop-number.invariant in
     let n = c.loop-number.number in
     let xs = c.loop-number.room.early in
     let x = c.departs-time.result in
     let h : n < element_count t =
-    let test = c.loop-number-test.true in omega (arith, ap length c.elements-number-end.ensures.value, ap (λ (d : Design). length d.elements) c.flat.ensures) in
+    let test = c.loop-number-test.true in omega (arith, c.count-number-end.ensures.value) in
     let value = ap (λ (vs : List ℤ). value_at vs n) (c.values.ensures ∙ ap (λ (r : Space). r.values) i.kept) in
     let first : IsFirst (least_of (early_arrivals t s old n)) (value_at c.args.room.now.values n) = c.requires.firsts n h in
     let time_is : x ≡ early_departure t s old n = c.departs-time.ensures old (rw (value, to_z-of_z w128 _ (first-fits _ _ first)) first) in

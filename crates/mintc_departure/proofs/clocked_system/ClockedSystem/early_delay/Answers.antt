@@ -1,11 +1,11 @@
 use Rattle.std.proofs.Common.{◌≡◌, ◌+ℤ◌, ◌*ℤ◌, arith, SFits, w64}
 use Rattle.std.proofs.lemmas.Int.{ints, to_z-of_z}
 use Rattle.mintc_timing.specs.Clocking.{shift_of}
-use Rattle.mintc_departure.proofs.amounts.early_delay.Goals as goal
+use Rattle.mintc_departure.proofs.clocked_system.ClockedSystem.early_delay.Goals as goal
 
 pub returns-clause-value : goal.returns-clause-value
 returns-clause-value c =
-    let s = c.args.schedule.now in
+    let s = c.args.self.now.schedule.now in
     let from = c.element-from.result.now in
     let to = c.element-to.result.now in
     let min = c.least_delay.result in
