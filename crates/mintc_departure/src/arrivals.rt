@@ -5,7 +5,7 @@ ghost use Rattle.mintc_walks.specs.Walks.{value_at};
 ghost use Rattle.mintc_timing.specs.Departures.{early_arrival, early_arrivals};
 ghost use Rattle.mintc_timing.specs.Design.{element_count, pair_at};
 ghost use Rattle.mintc_timing.specs.Extremes.{least_of};
-ghost use Rattle.mintc_departure.specs.Rounds.{AreSums, IsArrival, IsFirst};
+ghost use Rattle.mintc_departure.specs.Rounds.{AreSums, IsArrivalSum, IsFirst};
 
 use crate::clocked_system::ClockedSystem;
 use mintc_constraints::Room;
@@ -18,7 +18,7 @@ pub(crate) fn arrival(clocked: &ClockedSystem<'_>, departures: &[i64], number: u
     requires departures { AreSums clocked.now.system.now departures.now }
     requires number { number < length clocked.now.system.now.pairs }
     ensures value { result ≡ early_arrival clocked.now.system.now clocked.now.schedule.now departures.now (pair_at clocked.now.system.now number) }
-    ensures range { IsArrival result }
+    ensures range { IsArrivalSum result }
 {
     departures[clocked.system.pair(number).from as usize] + clocked.early_delay(number)
 }
@@ -29,7 +29,7 @@ fn bring(clocked: &ClockedSystem<'_>, room: &mut Room, number: usize)
     requires number { number < length clocked.now.system.now.pairs }
     requires count { length room.old.values ≡ element_count clocked.now.system.now }
     ensures inside { (pair_at clocked.now.system.now number).to < element_count clocked.now.system.now }
-    ensures range { IsArrival (early_arrival clocked.now.system.now clocked.now.schedule.now room.old.early (pair_at clocked.now.system.now number)) }
+    ensures range { IsArrivalSum (early_arrival clocked.now.system.now clocked.now.schedule.now room.old.early (pair_at clocked.now.system.now number)) }
     ensures value { let pair = pair_at clocked.now.system.now number in room.new ≡ record room.old {
       values = slice_set room.old.values pair.to
           (int_min (early_arrival clocked.now.system.now clocked.now.schedule.now room.old.early pair) (value_at room.old.values pair.to));

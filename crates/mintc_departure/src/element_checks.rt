@@ -8,7 +8,7 @@ ghost use Rattle.mintc_timing.specs.Extremes.{greatest_of, least_of};
 ghost use Rattle.mintc_timing.specs.Limits.{IsNumerator};
 ghost use Rattle.mintc_timing.specs.Violations.{check, failed, hold_amount, hold_checks, setup_amount, setup_checks};
 ghost use Rattle.mintc_departure.specs.Excesses.{IsExcess, IsLast};
-ghost use Rattle.mintc_departure.specs.Rounds.{AreSums, IsArrival, IsFirst};
+ghost use Rattle.mintc_departure.specs.Rounds.{AreSums, IsArrivalSum, IsFirst};
 ghost use Rattle.mintc_departure.specs.Settled.{IsSum};
 
 use crate::arrivals::NEVER;
@@ -25,7 +25,7 @@ use mintc_timing::{Broken, Violation};
 fn setup_excess(clocked: &ClockedSystem<'_>, time: i64, last: i128, number: u32) -> Option<i64>
     requires number { number < element_count clocked.now.system.now }
     requires time { IsSum time }
-    requires last { (last ≡ LONG_AGO) ⊎ IsArrival last }
+    requires last { (last ≡ LONG_AGO) ⊎ IsArrivalSum last }
     ensures value { (d : List ℤ) → departure d number ≡ time → IsLast (greatest_of (late_arrivals clocked.now.system.now clocked.now.schedule.now d number)) last →
         result ≡ setup_amount clocked.now.system.now clocked.now.schedule.now d number }
     ensures range { IfSome result IsExcess }
@@ -98,7 +98,7 @@ fn hold_start(clocked: &ClockedSystem<'_>, number: u32) -> i64
 /// to keep.
 fn hold_excess(clocked: &ClockedSystem<'_>, first: i128, number: u32) -> Option<i64>
     requires number { number < element_count clocked.now.system.now }
-    requires first { (first ≡ NEVER) ⊎ IsArrival first }
+    requires first { (first ≡ NEVER) ⊎ IsArrivalSum first }
     ensures value { (d : List ℤ) → IsFirst (least_of (early_arrivals clocked.now.system.now clocked.now.schedule.now d number)) first →
         result ≡ hold_amount clocked.now.system.now clocked.now.schedule.now d number }
     ensures range { IfSome result IsExcess }

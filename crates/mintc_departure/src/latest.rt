@@ -6,7 +6,7 @@ ghost use Rattle.mintc_timing.specs.Departures.{late_arrival, late_arrivals};
 ghost use Rattle.mintc_timing.specs.Design.{element_count, pair_at};
 ghost use Rattle.mintc_timing.specs.Extremes.{greatest_of};
 ghost use Rattle.mintc_departure.specs.Excesses.{IsLast};
-ghost use Rattle.mintc_departure.specs.Rounds.{AreSums, IsArrival};
+ghost use Rattle.mintc_departure.specs.Rounds.{AreSums, IsArrivalSum};
 
 use crate::arrivals::fill;
 use crate::clocked_system::ClockedSystem;
@@ -20,7 +20,7 @@ fn latest(clocked: &ClockedSystem<'_>, departures: &[i64], number: usize) -> i64
     requires departures { AreSums clocked.now.system.now departures.now }
     requires number { number < length clocked.now.system.now.pairs }
     ensures value { result ≡ late_arrival clocked.now.system.now clocked.now.schedule.now departures.now (pair_at clocked.now.system.now number) }
-    ensures range { IsArrival result }
+    ensures range { IsArrivalSum result }
 {
     departures[clocked.system.pair(number).from as usize] + clocked.late_delay(number)
 }
@@ -31,7 +31,7 @@ fn bring_latest(clocked: &ClockedSystem<'_>, room: &mut Room, number: usize)
     requires number { number < length clocked.now.system.now.pairs }
     requires count { length room.old.values ≡ element_count clocked.now.system.now }
     ensures inside { (pair_at clocked.now.system.now number).to < element_count clocked.now.system.now }
-    ensures range { IsArrival (late_arrival clocked.now.system.now clocked.now.schedule.now room.old.late (pair_at clocked.now.system.now number)) }
+    ensures range { IsArrivalSum (late_arrival clocked.now.system.now clocked.now.schedule.now room.old.late (pair_at clocked.now.system.now number)) }
     ensures value { let pair = pair_at clocked.now.system.now number in room.new ≡ record room.old {
       values = slice_set room.old.values pair.to
           (int_max (late_arrival clocked.now.system.now clocked.now.schedule.now room.old.late pair) (value_at room.old.values pair.to));

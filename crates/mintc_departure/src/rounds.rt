@@ -6,7 +6,7 @@ ghost use Rattle.mintc_timing.specs.Departures.{departure, early_arrivals, early
 ghost use Rattle.mintc_timing.specs.Design.{element_count, phase_count};
 ghost use Rattle.mintc_timing.specs.Extremes.{least_of};
 ghost use Rattle.mintc_timing.specs.Limits.{IsInRange};
-ghost use Rattle.mintc_departure.specs.Rounds.{early_start_of, AreSums, IsArrival, IsFirst};
+ghost use Rattle.mintc_departure.specs.Rounds.{early_start_of, AreSums, IsArrivalSum, IsFirst};
 
 use crate::arrivals::{NEVER, gather};
 use crate::clocked_system::ClockedSystem;
@@ -16,7 +16,7 @@ use mintc_timing::{Schedule, System};
 /// When an element's data leaves at the earliest, by its earliest arrival.
 pub(crate) fn departs(clocked: &ClockedSystem<'_>, number: u32, first: i128) -> i64
     requires number { number < element_count clocked.now.system.now }
-    requires first { (first ≡ NEVER) ⊎ IsArrival first }
+    requires first { (first ≡ NEVER) ⊎ IsArrivalSum first }
     ensures { (d : List ℤ) → IsFirst (least_of (early_arrivals clocked.now.system.now clocked.now.schedule.now d number)) first →
         result ≡ early_departure clocked.now.system.now clocked.now.schedule.now d number }
 {

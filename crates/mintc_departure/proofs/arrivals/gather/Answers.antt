@@ -4,7 +4,7 @@ use Rattle.mintc_constraints.specs.Rooms.{Space}
 use Rattle.mintc_timing.specs.Departures.{early_arrival}
 use Rattle.mintc_timing.specs.Design.{pair_at}
 use Rattle.mintc_timing.specs.Extremes.{least_of, lesser_of}
-use Rattle.mintc_departure.specs.Rounds.{IsArrival, IsFirst}
+use Rattle.mintc_departure.specs.Rounds.{IsArrivalSum, IsFirst}
 use Rattle.mintc_departure.proofs.Filling.{kept-values}
 use Rattle.mintc_departure.proofs.Gathering.{gathered-more}
 use Rattle.mintc_departure.proofs.Lesser.{first-more, least_of-push}
@@ -21,7 +21,7 @@ loop-number-preserved c =
     let f = early_arrival t s c.args.room.now.early in
     let early : c.loop-number.room.early ≡ c.args.room.now.early = ap (λ (r : Space). r.early) i.kept in
     let h : n < length t.pairs = rw c.pairs-number-end.ensures.value at c.loop-number-test.true in
-    let range : IsArrival (f p) = rw early at c.bring.ensures.range in
+    let range : IsArrivalSum (f p) = rw early at c.bring.ensures.range in
     let inside : p.to < length xs = omega (arith, i.count, c.bring.ensures.inside) in
     let write = ap (λ (r : Space). r.values) c.bring.ensures.value in
     let written : c.bring.new.room.values ≡ set xs p.to (int_min (f p) (get_or xs p.to (pos 0))) = rw early at write in

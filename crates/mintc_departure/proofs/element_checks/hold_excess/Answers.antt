@@ -5,14 +5,14 @@ use Rattle.mintc_timing.specs.declared.parts.Element.{Element}
 use Rattle.mintc_timing.specs.Design.{element_at}
 use Rattle.mintc_timing.proofs.Fitting.{read_time, IsTime-IsGap, IsTime-IsDenominator}
 use Rattle.mintc_departure.specs.declared.arrivals.TheConstants.{NEVER}
-use Rattle.mintc_departure.specs.Rounds.{IsArrival}
+use Rattle.mintc_departure.specs.Rounds.{IsArrivalSum}
 use Rattle.mintc_departure.proofs.ElementLaws.{hold-some, some-is}
 use Rattle.mintc_departure.proofs.element_checks.hold_excess.Goals as goal
 
 comes : (c : goal.After-result-1) → c.args.first ≡ NEVER → ⊥
 comes c = λ e. c.if-first-eq-NEVER.false (ap (of_z w128) e)
 
-arrives : (c : goal.After-result-1) → IsArrival c.args.first
+arrives : (c : goal.After-result-1) → IsArrivalSum c.args.first
 arrives c = ⊎_elim (λ e. absurd (comes c e)) (λ r. r) c.requires.first
 
 pub overflow_add-result-2 : goal.overflow_add-result-2

@@ -6,7 +6,7 @@ use Rattle.mintc_timing.specs.Clocking.{width_of}
 use Rattle.mintc_timing.specs.Design.{element_at, phase_of}
 use Rattle.mintc_timing.proofs.Fitting.{read_time, IsTime-IsGap, IsTime-IsDenominator}
 use Rattle.mintc_departure.specs.declared.latest.TheConstants.{LONG_AGO}
-use Rattle.mintc_departure.specs.Rounds.{IsArrival}
+use Rattle.mintc_departure.specs.Rounds.{IsArrivalSum}
 use Rattle.mintc_departure.specs.Settled.{IsSum}
 use Rattle.mintc_departure.proofs.ElementLaws.{setup-latch, setup-flop, some-is}
 use Rattle.mintc_departure.proofs.element_checks.setup_excess.Goals as goal
@@ -57,7 +57,7 @@ returns-then-not-element-clause-range c =
 comes : (c : goal.Else-last-eq-LONG_AGO) → c.args.last ≡ LONG_AGO → ⊥
 comes c = λ e. c.if-last-eq-LONG_AGO.false (ap (of_z w128) e)
 
-arrives : (c : goal.Else-last-eq-LONG_AGO) → IsArrival c.args.last
+arrives : (c : goal.Else-last-eq-LONG_AGO) → IsArrivalSum c.args.last
 arrives c = ⊎_elim (λ e. absurd (comes c e)) (λ r. r) c.requires.last
 
 pub overflow_add-result-2 : goal.overflow_add-result-2

@@ -8,7 +8,7 @@ use Rattle.mintc_timing.specs.Design.{element_count, pair_at}
 use Rattle.mintc_timing.specs.Extremes.{least_of}
 use Rattle.mintc_departure.specs.Chains.{IsLastOf}
 use Rattle.mintc_departure.specs.declared.chains.End.TheVariants.{Second}
-use Rattle.mintc_departure.specs.Rounds.{IsArrival, IsFirst}
+use Rattle.mintc_departure.specs.Rounds.{IsArrivalSum, IsFirst}
 use Rattle.mintc_departure.proofs.ChainLaws.{chain-head, chain-next, into-none, into-more}
 use Rattle.mintc_departure.proofs.rising.earliest.Goals as goal
 
@@ -52,7 +52,7 @@ loop-next-preserved c =
     let last = next-last c in
     let fits = last.fits in
     let one : n + 1 ≡ c.loop-next.next = omega arith in
-    let range : IsArrival (f (pair_at t n)) = subst (λ z. IsArrival z) c.arrival.ensures.value c.arrival.ensures.range in
+    let range : IsArrivalSum (f (pair_at t n)) = subst (λ z. IsArrivalSum z) c.arrival.ensures.value c.arrival.ensures.range in
     let r0 = range.0 in
     let r1 = range.1 in
     let value = c.arrival.ensures.value in

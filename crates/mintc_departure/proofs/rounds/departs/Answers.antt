@@ -4,7 +4,7 @@ use Rattle.std.proofs.lemmas.Int.{ints, clamps, to_z-of_z}
 use Rattle.mintc_timing.specs.declared.parts.Element.{Element}
 use Rattle.mintc_timing.specs.Design.{element_at}
 use Rattle.mintc_departure.specs.declared.arrivals.TheConstants.{NEVER}
-use Rattle.mintc_departure.specs.Rounds.{IsArrival}
+use Rattle.mintc_departure.specs.Rounds.{IsArrivalSum}
 use Rattle.mintc_departure.proofs.EarlyLaws.{departs-by_first}
 use Rattle.mintc_departure.proofs.rounds.departs.Goals as goal
 
@@ -13,7 +13,7 @@ returns c d is =
     let t = c.args.clocked.now.system.now in
     let first = c.args.first in
     let ne : first ≢ NEVER = λ e. c.if-first-eq-NEVER.false (ap (of_z w128) e) in
-    let range : IsArrival first = ⊎_elim (λ e. absurd (ne e)) (λ r. r) c.requires.first in
+    let range : IsArrivalSum first = ⊎_elim (λ e. absurd (ne e)) (λ r. r) c.requires.first in
     let r0 = range.0 in
     let r1 = range.1 in
     let start = c.early_start-start.ensures in
