@@ -30,7 +30,7 @@ first-greater start first (Some a) is ne = ap (λ z. int_max start z) is.0
 
 first-none : (start first : ℤ) (o : Option ℤ) → IsFirst o first → first ≡ NEVER → start ≡ greater_of start o
 first-none start first None is e = refl
-first-none start first (Some a) is e = let h = is.0 in let r = is.1 in let r1 = r.1 in absurd (omega (arith, ints))
+first-none start first (Some a) is e = let h = is.0 in let r = is.1 in absurd (omega (arith, ints))
 
 module _ (t : Timing) (s : Schedule) where
   pub early-arrival-is : (d : List ℤ) (p : Pair) → early_arrival t s d p ≡ departure d p.from +ℤ early_travel t s p
@@ -247,10 +247,6 @@ module _ (t : Timing) (s : Schedule) (fits : IsClocked t s)
 
       within : (x first z q r : ℤ) → first ≤ℤ x → (x +ℤ q) ≤ℤ (z +ℤ r) → IsWithin 100000000000000 first → IsWithin 100000000000000 q → IsWithin 100000000000000 r → IsWithin 900100000000000000 z → IsSum x
       within x first z q r h k a b c e =
-          let a0 = a.0 in
-          let b0 = b.0 in
-          let c1 = c.1 in
-          let e1 = e.1 in
           (omega (arith, ints), omega (arith, ints))
 
       sum : (l : ℕ) → l < element_count t → IsSum (departure d l)

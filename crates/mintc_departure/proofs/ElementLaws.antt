@@ -20,7 +20,7 @@ last-some (Some a) last is ne = ap Some (sym is.0)
 
 last-none : (o : Option ℤ) (last : ℤ) → IsLast o last → last ≡ LONG_AGO → o ≡ None
 last-none None last is e = refl
-last-none (Some a) last is e = let h = is.0 in let r = is.1 in let r0 = r.0 in absurd (omega (arith, ints))
+last-none (Some a) last is e = let h = is.0 in let r = is.1 in absurd (omega (arith, ints))
 
 first-some : (o : Option ℤ) (first : ℤ) → IsFirst o first → (first ≡ NEVER → ⊥) → o ≡ Some first
 first-some None first is ne = absurd (ne is)
@@ -28,7 +28,7 @@ first-some (Some a) first is ne = ap Some (sym is.0)
 
 first-none : (o : Option ℤ) (first : ℤ) → IsFirst o first → first ≡ NEVER → o ≡ None
 first-none None first is e = refl
-first-none (Some a) first is e = let h = is.0 in let r = is.1 in let r1 = r.1 in absurd (omega (arith, ints))
+first-none (Some a) first is e = let h = is.0 in let r = is.1 in absurd (omega (arith, ints))
 
 module _ (t : Timing) (s : Schedule) (d : List ℤ) (l : ℕ) where
   setup-by : (b : Bool) → (element_at t l).flop ≡ b →

@@ -12,10 +12,6 @@ last-more None v y r is = let a = r.0 in let b = r.1 in (omega (arith, ints, cla
 last-more (Some a) v y r is =
     let e = is.0 in
     let p = is.1 in
-    let p0 = p.0 in
-    let p1 = p.1 in
-    let r0 = r.0 in
-    let r1 = r.1 in
     (omega (arith, ints, clamps), (omega (arith, ints, clamps), omega (arith, ints, clamps)))
 
 greater_of-mono : (x y : ℤ) (o p : Option ℤ) → x ≤ℤ y → IsNoLater o p → greater_of x o ≤ℤ greater_of y p

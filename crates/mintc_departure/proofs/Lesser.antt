@@ -81,8 +81,4 @@ first-more None v y r is = let a = r.0 in let b = r.1 in (omega (arith, ints, cl
 first-more (Some a) v y r is =
     let e = is.0 in
     let p = is.1 in
-    let p0 = p.0 in
-    let p1 = p.1 in
-    let r0 = r.0 in
-    let r1 = r.1 in
     (omega (arith, ints, clamps), (omega (arith, ints, clamps), omega (arith, ints, clamps)))

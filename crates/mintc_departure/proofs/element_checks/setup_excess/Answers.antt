@@ -63,8 +63,6 @@ arrives c = ⊎_elim (λ e. absurd (comes c e)) (λ r. r) c.requires.last
 pub overflow_add-result-2 : goal.overflow_add-result-2
 overflow_add-result-2 c =
     let a = arrives c in
-    let a0 = a.0 in
-    let a1 = a.1 in
     let setup = c.scaled-setup.ensures.range in
     omega (arith, ints)
 
@@ -79,15 +77,11 @@ returns-clause-value c d leaves is =
     rw (read_time e.setup (IsTime-IsGap _ c.element-element.ensures.kept.setup), read_time s.den (IsTime-IsDenominator _ c.args.clocked.now.in_range.den)) at c.scaled-setup.ensures.value ∙ ap (λ (x : Element). x.setup *ℤ s.den) here in
     let amount = setup-flop t s d c.args.number c.args.last c.scaled-setup.result flop is (comes c) setup in
     let a = arrives c in
-    let a0 = a.0 in
-    let a1 = a.1 in
     let modest = c.scaled-setup.ensures.range in
     some-is (c.args.last +ℤ c.scaled-setup.result) _ _ amount (omega (arith, ints))
 
 pub returns-clause-range : goal.returns-clause-range
 returns-clause-range c =
     let a = arrives c in
-    let a0 = a.0 in
-    let a1 = a.1 in
     let setup = c.scaled-setup.ensures.range in
     (omega (arith, ints), omega (arith, ints))

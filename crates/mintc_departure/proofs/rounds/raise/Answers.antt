@@ -15,7 +15,7 @@ use Rattle.mintc_departure.proofs.rounds.raise.Goals.{then-time-before, else-tim
 
 first-fits : (o : Option ℤ) (v : ℤ) → IsFirst o v → SFits w128 v
 first-fits None v is = rw is (omega (arith, ints))
-first-fits (Some a) v is = let e = is.0 in let r = is.1 in let r0 = r.0 in let r1 = r.1 in omega (arith, ints)
+first-fits (Some a) v is = let e = is.0 in let r = is.1 in omega (arith, ints)
 
 rest-more : (old xs ys : List ℤ) (n : ℕ) (y : ℤ) → ys ≡ set xs n y → ((k : ℕ) → n ≤ k → departure xs k ≡ departure old k) → (k : ℕ) → n + 1 ≤ k → departure ys k ≡ departure old k
 rest-more old xs ys n y e rest k h = let ne : k ≢ n = omega arith in rw e (get_or-set_other xs n k y (pos 0) ne ∙ rest k (omega arith))
