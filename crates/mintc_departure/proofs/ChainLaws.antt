@@ -42,7 +42,6 @@ module _ (test : Pair → Bool) (pairs : List Pair) where
 pub into-skip : (pairs : List Pair) (l i x : ℕ) → i ≤ length pairs → IsLastOf pairs Second l i x →
     filter (λ (p : Pair). p.to == l) (drop x pairs) ≡ filter (λ (p : Pair). p.to == l) (drop i pairs)
 into-skip pairs l i x h is =
-    let fits = is.fits in
     filter-skip (λ (p : Pair). p.to == l) pairs (i - x) x i (omega arith) h (λ n a b. ne_eqb _ l (is.last n a b))
 
 -- no pair comes after the last one

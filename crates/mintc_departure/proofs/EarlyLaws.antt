@@ -237,8 +237,6 @@ module _ (t : Timing) (s : Schedule) (fits : IsClocked t s)
       start : (l : ℕ) → l < element_count t → IsWithin 100000000000000 (early_start_of t s l)
       start l h =
           let e = element_in_range t s fits l h in
-          let cq = e.cq_min in
-          let dq = e.dq_min in
           let delay : IsWithin 1000000000 ((element_at t l).cq_min -ℤ (element_at t l).dq_min) = (omega (arith, ints), omega (arith, ints)) in
           ⊎_elim
           (λ flop. rw (start-flop_early t s l flop) (omega (arith, ints), omega (arith, ints)))
@@ -252,8 +250,6 @@ module _ (t : Timing) (s : Schedule) (fits : IsClocked t s)
       sum : (l : ℕ) → l < element_count t → IsSum (departure d l)
       sum l h =
           let e = element_in_range t s fits l h in
-          let low = e.dq_min in
-          let high = e.dq_max in
           let q : IsWithin 1000000000 (element_at t l).dq_min = (omega (arith, ints), omega (arith, ints)) in
           let r : IsWithin 1000000000 (element_at t l).dq_max = (omega (arith, ints), omega (arith, ints)) in
           within (departure d l) (early_start_of t s l) (departure late l) ((element_at t l).dq_min *ℤ s.den) ((element_at t l).dq_max *ℤ s.den) (rising.above l h) (rising.before l h) (start l h) (times_den _ q) (times_den _ r)

@@ -10,8 +10,6 @@ use Rattle.mintc_departure.proofs.Lesser.{IsNoLater}
 pub last-more : (o : Option ℤ) (v y : ℤ) → IsArrivalSum y → IsLast o v → IsLast (Some (greater_of y o)) (int_max y v)
 last-more None v y r is = let a = r.0 in let b = r.1 in (omega (arith, ints, clamps), r)
 last-more (Some a) v y r is =
-    let e = is.0 in
-    let p = is.1 in
     (omega (arith, ints, clamps), (omega (arith, ints, clamps), omega (arith, ints, clamps)))
 
 greater_of-mono : (x y : ℤ) (o p : Option ℤ) → x ≤ℤ y → IsNoLater o p → greater_of x o ≤ℤ greater_of y p

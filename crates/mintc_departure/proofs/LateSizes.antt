@@ -141,7 +141,6 @@ module _ (t : Timing) (s : Schedule) (fits : IsClocked t s) where
   pub late-within : (d : List ℤ) → AreLate t s d → (l : ℕ) → l < element_count t → IsWithin 900100000000000000 (departure d l)
   late-within d late l h =
       let top = all_below (departure d) 100000000000000 400000000000000 (element_count t) (λ low e gap. stays d late.exact low e gap late.least) l h in
-      let few = fits.design.elements in
       let low = exact-starts t s d late.exact fits.timing.extremes.each l h in
       let start = start-within t s fits l h in
       (omega (arith, ints), omega (arith, ints))

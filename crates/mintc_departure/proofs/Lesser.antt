@@ -79,6 +79,4 @@ module _ {X : Type 0} (f : X → ℤ) (test : X → Bool) (d : X) where
 pub first-more : (o : Option ℤ) (v y : ℤ) → IsArrivalSum y → IsFirst o v → IsFirst (Some (lesser_of y o)) (int_min y v)
 first-more None v y r is = let a = r.0 in let b = r.1 in (omega (arith, ints, clamps), r)
 first-more (Some a) v y r is =
-    let e = is.0 in
-    let p = is.1 in
     (omega (arith, ints, clamps), (omega (arith, ints, clamps), omega (arith, ints, clamps)))

@@ -61,7 +61,6 @@ module _ (t : Timing) (s : Schedule) where
       let to : (pair_at t n).to ≡ v = sym (to_is t s n k) ∙ rest.0 in
       let flop : (element_at t (pair_at t n).to).flop ≡ true = ap (λ (m : ℕ). (element_at t m).flop) to ∙ e in
       let w = flop-weight t s n k flop in
-      let r = rest.1 in
       (sym h.1 ∙ flop-from t s n k flop ∙ to, omega (arith, ints))
 
   -- A walk from a latch meets latches alone.

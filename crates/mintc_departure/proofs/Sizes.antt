@@ -42,7 +42,6 @@ module _ (t : Timing) (s : Schedule) (fits : IsClocked t s) where
   shift-within i j h k =
       let a = start-range i h in
       let b = start-range j k in
-      let c = fits.range.cycle in
       ⊎_elim
       (λ e. rw (shift-below s i j e) (omega (arith, ints), omega (arith, ints)))
       (λ e. rw (shift-not_below s i j e) (omega (arith, ints), omega (arith, ints)))
@@ -53,7 +52,6 @@ module _ (t : Timing) (s : Schedule) (fits : IsClocked t s) where
       let ends = pair_ends n h in
       let from = element_in_range (pair_at t n).from ends.from in
       let to = element_in_range (pair_at t n).to ends.to in
-      let dq = from.dq_max in
       let max : IsDelay (pair_at t n).max = pair-max_range t.flat t.order t.pairs fits.design fits.timing n no_pair h in
       let delay : IsWithin 2000000000 ((element_at t (pair_at t n).from).dq_max +ℤ (pair_at t n).max) = (omega (arith, ints), omega (arith, ints)) in
       let span = scaled-within _ s.den delay fits.range.den in
@@ -63,10 +61,7 @@ module _ (t : Timing) (s : Schedule) (fits : IsClocked t s) where
   pub opening-within : (l : ℕ) → l < element_count t → IsWithin 100000000000000 (late_opening t s l)
   opening-within l h =
       let e = element_in_range l h in
-      let dq = e.dq_max in
-      let cq = e.cq_max in
       let delay : IsWithin 1000000000 ((element_at t l).cq_max -ℤ (element_at t l).dq_max) = (omega (arith, ints), omega (arith, ints)) in
-      let d = fits.range.den in
       let den : IsWithin 100000 s.den = (omega (arith, ints), omega (arith, ints)) in
       IsWithin-product 1000000000 100000 _ s.den delay den
 
@@ -84,10 +79,6 @@ delays_ordered arcs each from [] to h = (omega (arith, ints), omega (arith, ints
 delays_ordered arcs each from (n ∷ path) to h =
     let here = each n h.0 in
     let rest = delays_ordered arcs each (arc_at arcs n).to path to h.2 in
-    let a = here.0 in
-    let b = here.1 in
-    let c = rest.0 in
-    let e = rest.1 in
     (omega (arith, ints), omega (arith, ints))
 
 pub pair-min_order : (flat : Design) (order : List ℕ) (pairs : List Pair) → IsDesign flat → IsTiming flat order pairs → (n : ℕ) (d : Pair) → n < length pairs →
@@ -97,16 +88,10 @@ pair-min_order flat order pairs limits kept n d h =
     let some = named.least.attained in
     let ordered = delays_ordered flat.arcs (λ k g. let arc = limits.each_arc k no_arc g in (arc.min.0, arc.ordered)) _ some.0 _ some.1.1 in
     let most = named.greatest.bound some.0 some.1 in
-    let is = some.2 in
-    let a = ordered.0 in
-    let b = ordered.1 in
     (omega (arith, ints), omega (arith, ints))
 
 pub pair-min_range : (flat : Design) (order : List ℕ) (pairs : List Pair) → IsDesign flat → IsTiming flat order pairs → (n : ℕ) (d : Pair) → n < length pairs → IsDelay (get_or pairs n d).min
 pair-min_range flat order pairs limits kept n d h =
     let ordered = pair-min_order flat order pairs limits kept n d h in
     let max : IsDelay (get_or pairs n d).max = pair-max_range flat order pairs limits kept n d h in
-    let a = ordered.0 in
-    let b = ordered.1 in
-    let e = max.1 in
     (omega (arith, ints), omega (arith, ints))

@@ -35,9 +35,6 @@ loop-index-preserved c =
     let s = c.args.clocked.now.schedule.now in
     let i = c.args.i in
     let n = c.loop-index.index in
-    let count = c.phase_count-index-end.ensures.value in
-    let test = c.loop-index-test.true in
-    let phase = c.requires.phase in
     let first : IsPhase 8 i = (omega arith, omega arith) in
     let second : IsPhase 8 (n + 1) = (omega arith, omega arith) in
     let place : n ≡ (n + 1) - 1 = omega arith in
@@ -50,6 +47,4 @@ pub returns : goal.returns
 returns c =
     let t = c.args.clocked.now.system.now in
     let s = c.args.clocked.now.schedule.now in
-    let count = c.phase_count-index-end.ensures.value in
-    let test = c.loop-index-test.false in
     range-all (checks t s c.args.i) (parts t s c.args.i) 1 (phase_count t) c.loop-index.index (omega arith) _ _ c.loop-index.invariant

@@ -18,15 +18,11 @@ arrives c = ⊎_elim (λ e. absurd (comes c e)) (λ r. r) c.requires.first
 pub overflow_add-result-2 : goal.overflow_add-result-2
 overflow_add-result-2 c =
     let a = arrives c in
-    let cycle = c.args.clocked.now.in_range.cycle in
     omega (arith, ints)
 
 pub overflow_sub-result : goal.overflow_sub-result
 overflow_sub-result c =
     let a = arrives c in
-    let cycle = c.args.clocked.now.in_range.cycle in
-    let start = c.hold_start.ensures.range in
-    let hold = c.scaled-hold.ensures.range in
     omega (arith, ints)
 
 pub returns-clause-value : goal.returns-clause-value
@@ -40,15 +36,9 @@ returns-clause-value c d is =
     rw (read_time e.hold (IsTime-IsGap _ c.element-element.ensures.kept.hold), read_time s.den (IsTime-IsDenominator _ c.args.clocked.now.in_range.den)) at c.scaled-hold.ensures.value ∙ ap (λ (x : Element). x.hold *ℤ s.den) here in
     let amount = hold-some t s d c.args.number c.args.first c.hold_start.result c.scaled-hold.result has is (comes c) c.hold_start.ensures.value hold in
     let a = arrives c in
-    let cycle = c.args.clocked.now.in_range.cycle in
-    let start = c.hold_start.ensures.range in
-    let modest = c.scaled-hold.ensures.range in
     some-is (c.hold_start.result +ℤ c.scaled-hold.result -ℤ (c.args.first +ℤ s.cycle)) _ _ amount (omega (arith, ints))
 
 pub returns-clause-range : goal.returns-clause-range
 returns-clause-range c =
     let a = arrives c in
-    let cycle = c.args.clocked.now.in_range.cycle in
-    let start = c.hold_start.ensures.range in
-    let hold = c.scaled-hold.ensures.range in
     (omega (arith, ints), omega (arith, ints))

@@ -9,8 +9,6 @@ use Rattle.mintc_departure.proofs.judging.loop_excess.Goals as goal
 few : (c : goal.After-late_delay-amount) → c.loop-pair.pair-index < 2000
 few c =
     let pairs = few_pairs c.args.clocked.now.system.now c.args.pairs.now c.count-count.ensures.kept.timing.extremes.each c.requires.closed in
-    let elements = c.count-count.ensures.kept.design.elements in
-    let test = c.loop-pair-test.true in
     omega arith
 
 pub overflow_add-amount : goal.overflow_add-amount

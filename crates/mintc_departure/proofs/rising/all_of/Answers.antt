@@ -5,7 +5,6 @@ use Rattle.mintc_departure.proofs.rising.all_of.Goals as goal
 pub loop-place-preserved : goal.loop-place-preserved
 loop-place-preserved c =
     let i = c.loop-place.invariant in
-    let same = c.insert.ensures.count in
     let places = i.places in
     let few = i.few in
     record {

@@ -30,15 +30,13 @@ touch-rose-requires-clause-swept c =
 
 pub touch-rose-requires-clause-element : goal.touch-rose-requires-clause-element
 touch-rose-requires-clause-element c =
-    let test = c.loop-at-test.true in omega (arith, c.count-count.ensures.value)
+    omega (arith, c.count-count.ensures.value)
 
 pub next-at-requires-in-loop-at : goal.next-at-requires-in-loop-at
 next-at-requires-in-loop-at c = c.touch-rose.ensures.swept.few
 
 pub loop-at-smaller : goal.loop-at-smaller
 loop-at-smaller c =
-    let test = c.loop-at-test.true in
-    let from = c.next-at-in-loop-at.ensures.from in
     omega (arith, c.count-count.ensures.value)
 
 le_trans : {x y z : ℤ} → x ≤ℤ y → y ≤ℤ z → x ≤ℤ z
@@ -63,7 +61,7 @@ loop-at-preserved-then-rose c =
       swept = subst (λ xs. AreSwept t s xs room.early stale) (ap (λ (r : Space). r.late) i.kept) touched.swept;
       up = λ k lt. le_trans (i.up k lt) (touched.up k lt);
       differs = λ e.
-          let h : c.loop-at.at < element_count t = let test = c.loop-at-test.true in omega (arith, c.count-count.ensures.value) in
+          let h : c.loop-at.at < element_count t = omega (arith, c.count-count.ensures.value) in
           (c.loop-at.at, h, le_lt (i.up c.loop-at.at h) (OnTrue_at c.if-rose.true touched.changed));
       none = λ e. absurd (not_both _ refl e);
     }

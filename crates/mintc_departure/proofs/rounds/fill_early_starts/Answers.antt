@@ -15,7 +15,7 @@ loop-number-preserved c =
     let fits : SFits w64 x = let r = c.early_start.ensures.range in omega (arith, ints) in
     let write = ap (λ (r : Space). r.early) c.set_early.ensures in
     let written : c.set_early.new.self.early ≡ set xs n x = write ∙ ap (λ z. set xs n z) (to_z-of_z w64 x fits) in
-    let inside : n < length xs = let h = c.loop-number-test.true in omega (arith, i.count, c.count-count.ensures.value) in
+    let inside : n < length xs = omega (arith, i.count, c.count-count.ensures.value) in
     record {
       kept = kept-early c.args.room.now c.loop-number.room c.set_early.new.self _ c.set_early.ensures i.kept;
       count = ap length written ∙ length-set xs n x ∙ i.count;

@@ -30,7 +30,7 @@ loop-number-preserved c =
     let xs = c.loop-number.room.early in
     let x = c.departs-time.result in
     let h : n < element_count t =
-    let test = c.loop-number-test.true in omega (arith, c.count-number-end.ensures.value) in
+    omega (arith, c.count-number-end.ensures.value) in
     let value = ap (λ (vs : List ℤ). value_at vs n) (c.values.ensures ∙ ap (λ (r : Space). r.values) i.kept) in
     let first : IsFirst (least_of (early_arrivals t s old n)) (value_at c.args.room.now.values n) = c.requires.firsts n h in
     let time_is : x ≡ early_departure t s old n = c.departs-time.ensures old (rw (value, to_z-of_z w128 _ (first-fits _ _ first)) first) in

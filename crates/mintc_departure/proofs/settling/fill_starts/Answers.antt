@@ -17,7 +17,7 @@ loop-number-preserved c =
     let wide : SFits w128 c.from.result = let r = c.late_start.ensures.range in omega (arith, ints) in
     let write = ap (λ (r : Space). r.values) c.set_values.ensures in
     let written : c.set_values.new.self.values ≡ set xs n c.from.result = write ∙ ap (λ x. set xs n x) (to_z-of_z w128 c.from.result wide) in
-    let inside : n < length xs = let h = c.loop-number-test.true in omega (arith, i.count, c.count-count.ensures.value) in
+    let inside : n < length xs = omega (arith, i.count, c.count-count.ensures.value) in
     record {
       kept = kept-values c.args.room.now c.loop-number.room c.set_values.new.self _ c.set_values.ensures i.kept;
       count = ap length written ∙ length-set xs n c.from.result ∙ i.count;

@@ -5,11 +5,10 @@ use Rattle.mintc_departure.proofs.SettledLaws.{sums, settled-from_greatest, loop
 use Rattle.mintc_departure.proofs.settling.settle.Goals as goal
 
 pub walk-requires-clause-bound : goal.walk-requires-clause-bound
-walk-requires-clause-bound g c = let few = c.count.ensures.kept.design.elements in omega (arith, c.fill_starts.ensures.count)
+walk-requires-clause-bound g c = omega (arith, c.fill_starts.ensures.count)
 
 pub walk-requires-clause-few : goal.walk-requires-clause-few
 walk-requires-clause-few g c =
-    let few = c.count.ensures.kept.timing.few in
     let count = arcs-count c.args.clocked.now.system.now c.args.clocked.now.schedule.now in
     omega arith
 
