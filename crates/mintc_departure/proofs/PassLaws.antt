@@ -1,7 +1,7 @@
 use Rattle.std.proofs.Common.{◌≡◌, ℕ, ◌+◌, ◌-◌, ◌<◌, ◌≤◌, ℤ, pos, ◌≤ℤ◌, ◌+ℤ◌, ◌-ℤ◌, ◌*ℤ◌, Bool, true, false, List, [], ◌∷◌, ◌++◌, map, Option, Some, None, IfSome, MatchBool, IsTrue, ◌↔◌, inl, inr, arith, refl, sym, ◌∙◌, subst, option_map}
 use Rattle.std.proofs.lemmas.Int.{ints, clamps}
 use Rattle.std.specs.Int.{int_max}
-use Rattle.std.specs.List.{All, enumerate_from, filter, filter_map, range_with_len}
+use Rattle.std.specs.List.{All, enumerate_from, filter_map, range_with_len}
 use Rattle.std.proofs.lemmas.List.Elements.{All-nil, All-cons, All-head, All-tail}
 use Rattle.mintc_timing.specs.declared.parts.Bound.{Bound}
 use Rattle.mintc_timing.specs.declared.parts.Pair.{Pair}

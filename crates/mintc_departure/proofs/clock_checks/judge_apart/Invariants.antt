@@ -1,4 +1,4 @@
-use Rattle.std.proofs.Common.{◌≡◌, ◌++◌, ◌-ℤ◌, ◌*ℤ◌, pos, take, map}
+use Rattle.std.proofs.Common.{◌≡◌, ◌++◌, take, map}
 use Rattle.std.specs.List.{filter}
 use Rattle.mintc_timing.specs.Violations.{failed, phases_of}
 use Rattle.mintc_timing.specs.Clocking.{feeds_of}

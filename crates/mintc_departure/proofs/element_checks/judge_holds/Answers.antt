@@ -1,4 +1,4 @@
-use Rattle.std.proofs.Common.{◌+◌, ℕ, option_map, Option, arith, refl}
+use Rattle.std.proofs.Common.{ℕ, option_map, Option, arith}
 use Rattle.std.specs.List.{filter_map}
 use Rattle.std.proofs.lemmas.List.Elements.{filter_map-append}
 use Rattle.mintc_timing.specs.declared.violation.Violation.{Violation}

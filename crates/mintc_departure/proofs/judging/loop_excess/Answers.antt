@@ -1,5 +1,5 @@
-use Rattle.std.proofs.Common.{◌<◌, ◌+ℤ◌, take, length, arith, ap, ◌∙◌, sym}
-use Rattle.mintc_timing.specs.Design.{Design, pair_at}
+use Rattle.std.proofs.Common.{◌<◌, ◌+ℤ◌, take, arith, ap, ◌∙◌, sym}
+use Rattle.mintc_timing.specs.Design.{pair_at}
 use Rattle.mintc_timing.specs.Violations.{loop_amount}
 use Rattle.mintc_timing.proofs.Fitting.{read_time}
 use Rattle.mintc_departure.specs.Networks.{late_travel}

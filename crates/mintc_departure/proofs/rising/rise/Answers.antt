@@ -1,8 +1,7 @@
 use Rattle.std.proofs.Common.{ap, sym, subst, refl}
 use Rattle.mintc_constraints.specs.Rooms.{Space}
-use Rattle.mintc_timing.specs.Design.{Design, element_count}
+use Rattle.mintc_timing.specs.Design.{element_count}
 use Rattle.mintc_timing.specs.Departures.{AreLate}
-use Rattle.mintc_timing.specs.Limits.{IsDesign}
 use Rattle.mintc_departure.specs.Rounds.{AreSwept}
 use Rattle.mintc_departure.proofs.EarlyLaws.{rising-sums}
 use Rattle.mintc_departure.proofs.Filling.{kept-early}

@@ -1,7 +1,6 @@
-use Rattle.std.proofs.Common.{◌≡◌, ◌≤◌, ℤ, List, length, arith, ap, ◌∙◌, sym, subst}
+use Rattle.std.proofs.Common.{◌≤◌, ℤ, List, arith, ap, sym, subst}
 use Rattle.mintc_constraints.specs.Rooms.{Space}
 use Rattle.mintc_places.specs.Places.{room}
-use Rattle.mintc_timing.specs.Design.{Design, element_count}
 use Rattle.mintc_departure.specs.Rounds.{AreRising}
 use Rattle.mintc_departure.proofs.EarlyLaws.{rising-first}
 use Rattle.mintc_departure.proofs.rising.rise_early.Goals as goal

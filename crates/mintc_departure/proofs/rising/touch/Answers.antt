@@ -1,8 +1,6 @@
 use Rattle.std.proofs.Common.{◌≤ℤ◌, ℤ, List, arith, sym, subst}
 use Rattle.std.proofs.lemmas.Int.{ints}
-use Rattle.mintc_timing.specs.Design.{Design}
 use Rattle.mintc_timing.specs.Departures.{departure}
-use Rattle.mintc_timing.specs.Limits.{IsDesign}
 use Rattle.mintc_departure.specs.Rounds.{AreSwept}
 use Rattle.mintc_departure.proofs.EarlyLaws.{rising-sums}
 use Rattle.mintc_departure.proofs.SweepLaws.{swept-still, swept-more, written-up, written-above}

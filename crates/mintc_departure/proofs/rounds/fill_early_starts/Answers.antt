@@ -1,7 +1,6 @@
 use Rattle.std.proofs.Common.{◌≡◌, ◌<◌, length, set, arith, ap, ◌∙◌, SFits, w64, length-set}
 use Rattle.std.proofs.lemmas.Int.{ints, to_z-of_z}
 use Rattle.mintc_constraints.specs.Rooms.{Space}
-use Rattle.mintc_timing.specs.Design.{Design}
 use Rattle.mintc_departure.specs.Rounds.{early_start_of}
 use Rattle.mintc_departure.proofs.Filling.{filled-more, kept-early}
 use Rattle.mintc_departure.proofs.rounds.fill_early_starts.Goals as goal

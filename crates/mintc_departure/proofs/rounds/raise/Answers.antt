@@ -3,7 +3,7 @@ use Rattle.std.specs.Int.{w128}
 use Rattle.std.proofs.lemmas.Int.{ints, to_z-of_z}
 use Rattle.mintc_constraints.specs.Rooms.{Space}
 use Rattle.mintc_walks.specs.Walks.{value_at}
-use Rattle.mintc_timing.specs.Design.{Design, element_count}
+use Rattle.mintc_timing.specs.Design.{element_count}
 use Rattle.mintc_timing.specs.Departures.{departure, early_departure, early_arrivals}
 use Rattle.mintc_timing.specs.Extremes.{least_of}
 use Rattle.mintc_timing.proofs.Fitting.{same_bits}

@@ -2,7 +2,6 @@ use Rattle.std.proofs.Common.{◌≡◌, ◌<◌, length, set, arith, ap, ◌∙
 use Rattle.std.specs.Int.{w128}
 use Rattle.std.proofs.lemmas.Int.{ints, to_z-of_z}
 use Rattle.mintc_constraints.specs.Rooms.{Space}
-use Rattle.mintc_timing.specs.Design.{Design}
 use Rattle.mintc_departure.specs.Networks.{late_start_of}
 use Rattle.mintc_departure.proofs.Filling.{filled-more, kept-values}
 use Rattle.mintc_departure.proofs.settling.fill_starts.Goals as goal
