@@ -28,10 +28,6 @@ first-greater : (start first : ℤ) (o : Option ℤ) → IsFirst o first → fir
 first-greater start first None is ne = absurd (ne is)
 first-greater start first (Some a) is ne = ap (λ z. int_max start z) is.0
 
-first-none : (start first : ℤ) (o : Option ℤ) → IsFirst o first → first ≡ NEVER → start ≡ greater_of start o
-first-none start first None is e = refl
-first-none start first (Some a) is e = let h = is.0 in let r = is.1 in absurd (omega (arith, ints))
-
 module _ (t : Timing) (s : Schedule) where
   pub early-arrival-is : (d : List ℤ) (p : Pair) → early_arrival t s d p ≡ departure d p.from +ℤ early_travel t s p
   early-arrival-is d p = omega (arith, ints)
@@ -54,17 +50,6 @@ module _ (t : Timing) (s : Schedule) where
   departs-by_first d l first x latch ne is e =
       e ∙ first-greater (early_start_of t s l) first (least_of (early_arrivals t s d l)) is ne
       ∙ ap (λ z. greater_of z (least_of (early_arrivals t s d l))) (start-latch_early l latch) ∙ sym (early-latch d l latch)
-
-  pub departs-at_start : (d : List ℤ) (l : ℕ) (first : ℤ) → first ≡ NEVER → IsFirst (least_of (early_arrivals t s d l)) first → early_start_of t s l ≡ early_departure t s d l
-  departs-at_start d l first e is =
-      ⊎_elim
-      (λ flop. start-flop_early l flop ∙ sym (early-flop d l flop))
-      (λ latch.
-      start-latch_early l latch ∙ first-none (early_opening t s l) first (least_of (early_arrivals t s d l)) is e ∙ sym (early-latch d l latch))
-      (cases_Bool (element_at t l).flop)
-
-  pub departs-flop : (d : List ℤ) (l : ℕ) → (element_at t l).flop ≡ true → early_start_of t s l ≡ early_departure t s d l
-  departs-flop d l flop = start-flop_early l flop ∙ sym (early-flop d l flop)
 
   -- Departures that are nowhere later make departures that are nowhere later.
   arrival-mono : (d e : List ℤ) (p : Pair) → departure d p.from ≤ℤ departure e p.from → early_arrival t s d p ≤ℤ early_arrival t s e p

@@ -19,7 +19,7 @@ use Rattle.mintc_timing.proofs.AmountLaws.{setups_have_amounts_lem, holds_have_a
 use Rattle.mintc_timing.proofs.DeterminedLaws.{early_are_determined_lem, late_are_determined_lem}
 use Rattle.mintc_timing.proofs.Loops.{no_loop}
 use Rattle.mintc_departure.specs.Checks.{apart_check, bound_check, fed_checks}
-use Rattle.mintc_departure.specs.Laws.{InRangeIsOfPhases, IsOfPhases, IsPass, PassIsRightWithLate, PassMeansRight}
+use Rattle.mintc_departure.specs.Laws.{IsOfPhases, IsPass, PassIsRightWithLate, PassMeansRight}
 use Rattle.mintc_departure.proofs.EarlyLaws.{everywhere}
 use Rattle.mintc_departure.proofs.Greater.{greatest-mono}
 use Rattle.mintc_departure.proofs.KeptLaws.{IsKept, moved, nil-right, kept-cons, kept-append, kept-map, kept-flat, kept-tested, kept-optional, on_range}
@@ -184,15 +184,6 @@ pass_means_right_lem t s vs pairs plain (inr h) = (
   (λ e. pass-from_none t s plain h.1.0 h.1.1 h.1.2 h.1.3 (sym h.1.4 ∙ e)),
   (λ pass. h.1.4 ∙ none-from_pass t s h.1.0 h.1.1 h.1.2 h.1.3 pass),
 )
-
-pub in_range_is_of_phases_lem : InRangeIsOfPhases
-in_range_is_of_phases_lem t s range phases = record {
-  den = range.den.0;
-  starts = phases;
-  widths = range.alike ∙ phases;
-  from_zero = λ k d h. (range.starts k d h).0;
-  not_negative = λ k d h. (range.widths k d h).0;
-}
 
 pub pass_is_right_with_late_lem : PassIsRightWithLate
 unfolding pass-from_none

@@ -16,16 +16,6 @@ use Rattle.mintc_departure.proofs.NetworkLaws.{exact-meets, greatest-late}
 use Rattle.mintc_departure.proofs.LateSizes.{late-within}
 use Rattle.mintc_departure.proofs.LoopLaws.{loop-from_chain}
 
--- with no element there is nothing to settle
-pub none-late : (t : Timing) (s : Schedule) (d : List ℤ) → element_count t ≡ 0 → length d ≡ 0 → AreLate t s d × All IsSum d
-none-late t s d none empty = (
-  record {
-    exact = record { count = empty ∙ sym none; each = λ l h. absurd (omega arith) };
-    least = λ e exact l h. absurd (omega arith);
-  },
-  λ k x h. absurd (omega arith),
-)
-
 module _ (t : Timing) (s : Schedule) (fits : IsClocked t s) (starts : List ℤ) (count : length starts ≡ element_count t) (each : (l : ℕ) → l < element_count t → value_at starts l ≡ late_start_of t s l) where
   pub sums : (values : List ℤ) → length values ≡ length starts → HasGreatest (arcs_of t s) starts values → (l : ℕ) → l < length values → IsSum (value_at values l)
   sums values same g l h =

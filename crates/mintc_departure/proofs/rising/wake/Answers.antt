@@ -7,19 +7,6 @@ use Rattle.mintc_departure.specs.declared.chains.End.TheVariants.{First}
 use Rattle.mintc_departure.proofs.ChainLaws.{chain-head, chain-next, woken-more}
 use Rattle.mintc_departure.proofs.rising.wake.Goals as goal
 
-pub loop-next-init : goal.loop-next-init
-loop-next-init c =
-    let t = c.args.system.now in
-    let last : IsLastOf t.pairs First c.args.element (length t.pairs) c.index-next.result.now =
-    chain-head t.pairs First (element_count t) c.args.out.now c.requires.out c.args.element _ c.requires.element c.index-next.ensures in
-    record {
-      within = last.fits;
-      from = last.has;
-      count = refl;
-      kept = λ k h. h;
-      woken = λ n a b is. absurd (last.last n a b is);
-    }
-
 pub pair-requires : goal.pair-requires
 pair-requires c = omega arith
 
