@@ -70,14 +70,11 @@ module _ (t : Timing) (s : Schedule) where
       let k : n < length t.pairs = rw (arcs-count t s) at h.0 in
       let latch : (element_at t (pair_at t n).to).flop ≡ false =
       ⊎_elim
-      (λ flop. absurd (not_both _ flop (ap (λ (m : ℕ). (element_at t m).flop) (sym (flop-from t s n k flop) ∙ h.1) ∙ e)))
+      (λ flop. let b = ap (λ (m : ℕ). (element_at t m).flop) (sym (flop-from t s n k flop) ∙ h.1) ∙ e in absurd (cc))
       (λ latch. latch)
       (cases_Bool (element_at t (pair_at t n).to).flop) in
       All-cons (λ n. (element_at t (pair_at t n).to).flop ≡ false) n es latch
       (walk_from_latch es (arc_at (arcs_of t s) n).to v h.2 (ap (λ (m : ℕ). (element_at t m).flop) (to_is t s n k) ∙ latch))
-    where
-      not_both : (b : Bool) → b ≡ true → b ≡ false → ⊥
-      not_both b g h = cc
 
   pairs_exist : (es : List ℕ) (u v : ℕ) → Leads (arcs_of t s) u es v → All (λ n. n < length t.pairs) es
   pairs_exist [] u v h = All-nil (λ n. n < length t.pairs)

@@ -9,15 +9,12 @@ use Rattle.mintc_departure.proofs.Filling.{kept-early}
 use Rattle.mintc_departure.proofs.SweepLaws.{none-before}
 use Rattle.mintc_departure.proofs.rising.sweep.Goals as goal
 
-not_both : (b : Bool) → b ≡ true → b ≡ false → ⊥
-not_both b g k = cc
-
 pub loop-at-init : goal.loop-at-init
 loop-at-init c = record {
   kept = refl;
   swept = c.requires.swept;
   up = λ k h. omega (arith, ints);
-  differs = λ e. absurd (not_both _ e refl);
+  differs = λ e. absurd (cc);
   none = λ e k h. c.next-at.ensures.none k (omega arith) h;
 }
 
@@ -39,15 +36,6 @@ pub loop-at-smaller : goal.loop-at-smaller
 loop-at-smaller c =
     omega (arith, c.count-count.ensures.value)
 
-le_trans : {x y z : ℤ} → x ≤ℤ y → y ≤ℤ z → x ≤ℤ z
-le_trans h k = omega (arith, ints)
-
-le_lt : {x y z : ℤ} → x ≤ℤ y → y <ℤ z → x <ℤ z
-le_lt h k = omega (arith, ints)
-
-lt_le : {x y z : ℤ} → x <ℤ y → y ≤ℤ z → x <ℤ z
-lt_le h k = omega (arith, ints)
-
 pub loop-at-preserved-then-rose : goal.loop-at-preserved-then-rose
 loop-at-preserved-then-rose c =
     let t = c.args.clocked.now.system.now in
@@ -59,11 +47,11 @@ loop-at-preserved-then-rose c =
     record {
       kept = kept-early c.args.room.now c.loop-at.room room _ touched.kept i.kept;
       swept = subst (λ xs. AreSwept t s xs room.early stale) (ap (λ (r : Space). r.late) i.kept) touched.swept;
-      up = λ k lt. le_trans (i.up k lt) (touched.up k lt);
+      up = λ k lt. omega (arith, ints, i.up k lt, touched.up k lt);
       differs = λ e.
           let h : c.loop-at.at < element_count t = omega (arith, c.count-count.ensures.value) in
-          (c.loop-at.at, h, le_lt (i.up c.loop-at.at h) (OnTrue_at c.if-rose.true touched.changed));
-      none = λ e. absurd (not_both _ refl e);
+          (c.loop-at.at, h, let rose = OnTrue_at c.if-rose.true touched.changed in omega (arith, ints, i.up c.loop-at.at h));
+      none = λ e. absurd (cc);
     }
 
 pub loop-at-preserved : goal.loop-at-preserved
@@ -77,7 +65,7 @@ loop-at-preserved c =
     record {
       kept = kept-early c.args.room.now c.loop-at.room room _ touched.kept i.kept;
       swept = subst (λ xs. AreSwept t s xs room.early stale) (ap (λ (r : Space). r.late) i.kept) touched.swept;
-      up = λ k lt. le_trans (i.up k lt) (touched.up k lt);
-      differs = λ e. let before = i.differs e in (before.0, before.1, lt_le before.2 (touched.up before.0 before.1));
+      up = λ k lt. omega (arith, ints, i.up k lt, touched.up k lt);
+      differs = λ e. let before = i.differs e in (before.0, before.1, let rose = before.2 in omega (arith, ints, touched.up before.0 before.1));
       none = λ e. none-before c.loop-at.at _ c.loop-at.stale.words.items stale (i.none e) (OnFalse_at c.if-rose.false touched.out) (OnFalse_at c.if-rose.false touched.only) c.next-at-in-loop-at.ensures.none;
     }

@@ -29,8 +29,7 @@ loop-number-preserved c =
     let n = c.loop-number.number in
     let xs = c.loop-number.room.early in
     let x = c.departs-time.result in
-    let h : n < element_count t =
-    omega (arith, c.count-number-end.ensures.value) in
+    let h : n < element_count t = omega (arith, c.count-number-end.ensures.value) in
     let value = ap (λ (vs : List ℤ). value_at vs n) (c.values.ensures ∙ ap (λ (r : Space). r.values) i.kept) in
     let first : IsFirst (least_of (early_arrivals t s old n)) (value_at c.args.room.now.values n) = c.requires.firsts n h in
     let time_is : x ≡ early_departure t s old n = c.departs-time.ensures old (rw (value, to_z-of_z w128 _ (first-fits _ _ first)) first) in
@@ -49,7 +48,7 @@ loop-number-preserved c =
         count = count;
         done = done;
         rest = rest;
-        still = λ e. absurd (not_both _ w.changed-is e);
+        still = λ e. absurd (cc);
         differs = λ e. (n, h, λ same. w.if-time-before.true (ap (of_z w64) (time_is ∙ same ∙ sym before)));
       }
       | else-time-before w ↦ record {
@@ -62,6 +61,3 @@ loop-number-preserved c =
         differs = λ e. i.differs (sym w.changed-is ∙ e);
       }
     ]
-  where
-    not_both : (b : Bool) → b ≡ true → b ≡ false → ⊥
-    not_both b g k = cc
