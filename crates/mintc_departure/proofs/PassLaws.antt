@@ -1,3 +1,4 @@
+-- a schedule breaks nothing exactly where it is right and keeps every hold
 use Rattle.std.proofs.Common.{◌≡◌, ℕ, ◌+◌, ◌-◌, ◌<◌, ◌≤◌, ℤ, pos, ◌≤ℤ◌, ◌+ℤ◌, ◌-ℤ◌, ◌*ℤ◌, Bool, true, false, List, [], ◌∷◌, ◌++◌, map, Option, Some, None, IfSome, MatchBool, IsTrue, ◌↔◌, inl, inr, arith, refl, sym, ◌∙◌, subst, option_map}
 use Rattle.std.proofs.lemmas.Int.{ints, clamps}
 use Rattle.std.specs.Int.{int_max}

@@ -1,3 +1,4 @@
+-- the latest arrivals as numbers, and the sizes of excesses
 use Rattle.std.specs.Prelude.{◌≡◌, ℤ, pos, negsuc, ◌≤ℤ◌, Option, Some, None}
 use Rattle.mintc_departure.specs.declared.latest.TheConstants.{LONG_AGO}
 use Rattle.mintc_departure.specs.Rounds.{IsArrivalSum}
