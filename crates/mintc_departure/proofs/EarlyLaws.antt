@@ -166,11 +166,8 @@ module _ (t : Timing) (s : Schedule) (fits : IsClocked t s)
           let P : ℕ → Type 0 = λ m. late_arrival t s late (pair_at t n) ≤ℤ departure late m in
           let there = subst P to (arrival-at_most t s late are_late.exact fits.timing.extremes.each n no_pair w.1 (ap (λ (m : ℕ). (element_at t m).flop) to ∙ latch)) in
           let first = arrival-before d n w.1 (before (pair_at t n).from ends.from) in
-          let both : early_arrival t s d (pair_at t n) ≤ℤ departure late l = le_trans first there in
+          let both : early_arrival t s d (pair_at t n) ≤ℤ departure late l = omega (arith, ints) in
           rises _ _ (departure late l) ((element_at t l).dq_min *ℤ s.den) ((element_at t l).dq_max *ℤ s.den) (is ∙ w.3) both (dq-grow l h)
-        where
-          le_trans : {x y z : ℤ} → x ≤ℤ y → y ≤ℤ z → x ≤ℤ z
-          le_trans h k = omega (arith, ints)
 
   -- The rounds begin where no data reaches an element ..
   pub rising-first : (d : List ℤ) → length d ≡ element_count t → ((l : ℕ) → l < element_count t → departure d l ≡ early_start_of t s l) → AreRising t s late d
@@ -190,8 +187,8 @@ module _ (t : Timing) (s : Schedule) (fits : IsClocked t s)
       let mono : (l : ℕ) → early_departure t s d l ≤ℤ early_departure t s e l = early-mono t s d e (everywhere t s d e rising.count count up) in
       record {
         count = count;
-        above = λ l h. le_trans (rising.above l h) (up l h);
-        rises = λ l h. ⊎_elim (λ is. rw is (mono l)) (λ is. rw is (le_trans (rising.rises l h) (mono l))) (part l h);
+        above = λ l h. omega (arith, ints, rising.above l h, up l h);
+        rises = λ l h. ⊎_elim (λ is. rw is (mono l)) (λ is. rw is (omega (arith, ints, rising.rises l h, mono l))) (part l h);
         least = λ f exact l h. ⊎_elim
             (λ is.
             subst (λ z. z ≤ℤ departure f l) (sym is)
@@ -200,9 +197,6 @@ module _ (t : Timing) (s : Schedule) (fits : IsClocked t s)
             (part l h);
         before = λ l h. ⊎_elim (λ is. rw is (round-before d rising.before l h)) (λ is. rw is (rising.before l h)) (part l h);
       }
-    where
-      le_trans : {x y z : ℤ} → x ≤ℤ y → y ≤ℤ z → x ≤ℤ z
-      le_trans h k = omega (arith, ints)
 
   pub rising-more : (d e : List ℤ) → AreRising t s late d → length e ≡ element_count t → IsRound t s d e → AreRising t s late e
   rising-more d e rising count round = rising-part d e rising count (λ l h. inl (round l h))

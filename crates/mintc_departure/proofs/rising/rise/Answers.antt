@@ -9,9 +9,6 @@ use Rattle.mintc_departure.proofs.Missing.{missing-falls}
 use Rattle.mintc_departure.proofs.SweepLaws.{swept-last}
 use Rattle.mintc_departure.proofs.rising.rise.Goals as goal
 
-pub loop-init : goal.loop-init
-loop-init c = record { kept = refl; swept = c.requires.swept }
-
 pub sweep-requires-clause-late : goal.sweep-requires-clause-late
 sweep-requires-clause-late c = subst (λ xs. AreLate c.args.clocked.now.system.now c.args.clocked.now.schedule.now xs) (sym (ap (λ (r : Space). r.late) c.loop.invariant.kept)) c.requires.late
 

@@ -7,12 +7,6 @@ use Rattle.mintc_departure.specs.declared.chains.End.TheVariants.{First}
 use Rattle.mintc_departure.proofs.ChainLaws.{chain-head, chain-next, woken-more}
 use Rattle.mintc_departure.proofs.rising.wake.Goals as goal
 
-pub pair-requires : goal.pair-requires
-pair-requires c = omega arith
-
-pub insert-requires : goal.insert-requires
-insert-requires c = omega arith
-
 pub index-next-requires-in-loop-next : goal.index-next-requires-in-loop-next
 index-next-requires-in-loop-next c =
     omega (arith, c.args.out.now.nexts.ok.0)
@@ -42,12 +36,6 @@ loop-next-preserved c =
       kept = λ k g. c.insert.ensures.kept k (i.kept k g);
       woken = woken-more t.pairs c.args.element n _ c.insert.new.self.words.items last there (λ m a b is. c.insert.ensures.kept _ (i.woken m (omega arith) b is));
     }
-
-pub returns-clause-count : goal.returns-clause-count
-returns-clause-count c = c.loop-next.invariant.count
-
-pub returns-clause-kept : goal.returns-clause-kept
-returns-clause-kept c = c.loop-next.invariant.kept
 
 pub returns-clause-woken : goal.returns-clause-woken
 returns-clause-woken c n h is = c.loop-next.invariant.woken n (omega arith) h is
