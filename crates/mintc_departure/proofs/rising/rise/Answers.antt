@@ -32,9 +32,6 @@ loop-preserved c = record {
   swept = subst (λ xs. AreSwept c.args.clocked.now.system.now c.args.clocked.now.schedule.now xs c.sweep.new.room.early c.sweep.new.stale.words.items) (ap (λ (r : Space). r.late) c.loop.invariant.kept) c.sweep.ensures.swept;
 }
 
-pub returns-clause-kept : goal.returns-clause-kept
-returns-clause-kept c = kept-early c.args.room.now c.loop.room c.sweep.new.room _ c.sweep.ensures.kept c.loop.invariant.kept
-
 pub returns-clause-early : goal.returns-clause-early
 returns-clause-early c =
     swept-last c.args.clocked.now.system.now c.args.clocked.now.schedule.now c.loop.room.late c.sweep.new.room.early c.sweep.new.stale.words.items c.sweep.ensures.swept c.loop-test.ensures.none

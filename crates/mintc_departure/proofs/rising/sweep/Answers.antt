@@ -25,10 +25,6 @@ pub touch-rose-requires-clause-swept : goal.touch-rose-requires-clause-swept
 touch-rose-requires-clause-swept c =
     subst (λ xs. AreSwept c.args.clocked.now.system.now c.args.clocked.now.schedule.now xs c.loop-at.room.early c.loop-at.stale.words.items) (sym (ap (λ (r : Space). r.late) c.loop-at.invariant.kept)) c.loop-at.invariant.swept
 
-pub loop-at-smaller : goal.loop-at-smaller
-loop-at-smaller c =
-    omega (arith, c.count-count.ensures.value)
-
 pub loop-at-preserved-then-rose : goal.loop-at-preserved-then-rose
 loop-at-preserved-then-rose c =
     let t = c.args.clocked.now.system.now in

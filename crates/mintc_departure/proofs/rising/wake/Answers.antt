@@ -36,6 +36,3 @@ loop-next-preserved c =
       kept = λ k g. c.insert.ensures.kept k (i.kept k g);
       woken = woken-more t.pairs c.args.element n _ c.insert.new.self.words.items last there (λ m a b is. c.insert.ensures.kept _ (i.woken m (omega arith) b is));
     }
-
-pub returns-clause-woken : goal.returns-clause-woken
-returns-clause-woken c n h is = c.loop-next.invariant.woken n (omega arith) h is

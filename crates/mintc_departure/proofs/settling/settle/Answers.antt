@@ -7,11 +7,6 @@ use Rattle.mintc_departure.proofs.settling.settle.Goals as goal
 pub walk-requires-clause-bound : goal.walk-requires-clause-bound
 walk-requires-clause-bound g c = omega (arith, c.fill_starts.ensures.count)
 
-pub walk-requires-clause-few : goal.walk-requires-clause-few
-walk-requires-clause-few g c =
-    let count = arcs-count c.args.clocked.now.system.now c.args.clocked.now.schedule.now in
-    omega arith
-
 pub walk-requires-clause-arcs : goal.walk-requires-clause-arcs
 walk-requires-clause-arcs g c =
     rw c.fill_starts.ensures.count (arcs-ordinary c.args.clocked.now.system.now c.args.clocked.now.schedule.now c.count.ensures.kept)
