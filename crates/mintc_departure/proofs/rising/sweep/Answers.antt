@@ -1,4 +1,4 @@
-use Rattle.std.proofs.Common.{◌≡◌, ◌<◌, ◌≤ℤ◌, ◌<ℤ◌, ℤ, Bool, true, false, arith, sym, ap, subst, refl}
+use Rattle.std.proofs.Common.{◌<◌, arith, sym, ap, subst, refl}
 use Rattle.std.proofs.lemmas.Int.{ints}
 use Rattle.std.proofs.lemmas.Bool.{OnTrue_at, OnFalse_at}
 use Rattle.mintc_constraints.specs.Rooms.{Space}

@@ -1,10 +1,10 @@
-use Rattle.std.proofs.Common.{◌≡◌, ◌-◌, length, arith, refl, ◌∙◌, subst}
+use Rattle.std.proofs.Common.{◌≡◌, ◌-◌, arith, ◌∙◌, subst}
 use Rattle.mintc_places.specs.Places.{IsIn}
 use Rattle.mintc_timing.specs.declared.parts.Pair.{Pair}
 use Rattle.mintc_timing.specs.Design.{element_count, pair_at}
 use Rattle.mintc_departure.specs.Chains.{IsLastOf}
 use Rattle.mintc_departure.specs.declared.chains.End.TheVariants.{First}
-use Rattle.mintc_departure.proofs.ChainLaws.{chain-head, chain-next, woken-more}
+use Rattle.mintc_departure.proofs.ChainLaws.{chain-next, woken-more}
 use Rattle.mintc_departure.proofs.rising.wake.Goals as goal
 
 pub index-next-requires-in-loop-next : goal.index-next-requires-in-loop-next

@@ -1,4 +1,4 @@
-use Rattle.std.proofs.Common.{◌≡◌, ◌≢◌, ◌<◌, ◌+◌, ◌≤◌, ℕ, ℤ, List, pos, Bool, true, false, length, set, arith, sym, ap, ◌∙◌, SFits, w64, of_z, length-set, below_more, get_or-set_other, Option, Some, None}
+use Rattle.std.proofs.Common.{◌≡◌, ◌≢◌, ◌<◌, ◌+◌, ◌≤◌, ℕ, ℤ, List, pos, length, set, arith, sym, ap, ◌∙◌, SFits, w64, of_z, length-set, below_more, get_or-set_other, Option, Some, None}
 use Rattle.std.specs.Int.{w128}
 use Rattle.std.proofs.lemmas.Int.{ints, to_z-of_z}
 use Rattle.mintc_constraints.specs.Rooms.{Space}

@@ -1,6 +1,6 @@
 use Rattle.std.proofs.Common.{arith, ap}
 use Rattle.mintc_constraints.specs.Rooms.{Space}
-use Rattle.mintc_departure.proofs.NetworkLaws.{arcs-count, arcs-ordinary, starts-ordinary}
+use Rattle.mintc_departure.proofs.NetworkLaws.{arcs-ordinary, starts-ordinary}
 use Rattle.mintc_departure.proofs.SettledLaws.{sums, settled-from_greatest, loop-from_walk}
 use Rattle.mintc_departure.proofs.settling.settle.Goals as goal
 
