@@ -1,3 +1,4 @@
+-- chains of pairs, followed from the last one down
 use Rattle.std.proofs.Common.{◌≡◌, ℕ, zero, suc, ◌+◌, ◌-◌, ◌<◌, ◌≤◌, ◌==◌, Bool, true, false, cond, ℤ, List, [], ◌∷◌, length, get_or, map, drop, arith, refl, sym, ap, ◌∙◌, subst, ⊎_elim, eq-eqb, ne_eqb}
 use Rattle.std.proofs.Math.Seq.{drop-cons}
 use Rattle.std.proofs.lemmas.List.{get_or_default}
@@ -9,7 +10,7 @@ use Rattle.mintc_timing.specs.declared.parts.Pair.{Pair}
 use Rattle.mintc_timing.specs.Design.{no_pair}
 use Rattle.mintc_timing.specs.Extremes.{least_of}
 use Rattle.mintc_departure.specs.declared.arrivals.TheConstants.{NEVER}
-use Rattle.mintc_departure.specs.Rounds.{IsArrival, IsFirst}
+use Rattle.mintc_departure.specs.Rounds.{IsArrivalSum, IsFirst}
 use Rattle.mintc_departure.specs.Chains.{end_of, IsLastOf, AreChains}
 use Rattle.mintc_departure.specs.declared.chains.Chains.{Chains}
 use Rattle.mintc_departure.specs.declared.chains.End.{End}
@@ -42,7 +43,6 @@ module _ (test : Pair → Bool) (pairs : List Pair) where
 pub into-skip : (pairs : List Pair) (l i x : ℕ) → i ≤ length pairs → IsLastOf pairs Second l i x →
     filter (λ (p : Pair). p.to == l) (drop x pairs) ≡ filter (λ (p : Pair). p.to == l) (drop i pairs)
 into-skip pairs l i x h is =
-    let fits = is.fits in
     filter-skip (λ (p : Pair). p.to == l) pairs (i - x) x i (omega arith) h (λ n a b. ne_eqb _ l (is.last n a b))
 
 -- no pair comes after the last one
@@ -57,7 +57,7 @@ into-none f pairs l x is =
 
 -- one more pair of a chain
 pub into-more : (f : Pair → ℤ) (pairs : List Pair) (l n x : ℕ) (v w : ℤ) → n < length pairs → (get_or pairs n no_pair).to ≡ l → IsLastOf pairs Second l n x →
-    IsArrival (f (get_or pairs n no_pair)) → w ≡ int_min (f (get_or pairs n no_pair)) v →
+    IsArrivalSum (f (get_or pairs n no_pair)) → w ≡ int_min (f (get_or pairs n no_pair)) v →
     IsFirst (least_of (map f (filter (λ (p : Pair). p.to == l) (drop (n + 1) pairs)))) v →
     IsFirst (least_of (map f (filter (λ (p : Pair). p.to == l) (drop x pairs)))) w
 into-more f pairs l n x v w h to is range e first =

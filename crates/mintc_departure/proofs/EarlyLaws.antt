@@ -1,4 +1,5 @@
-use Rattle.std.proofs.Common.{◌≡◌, ◌≢◌, ℕ, ◌<◌, ◌==◌, ℤ, pos, ◌+ℤ◌, ◌-ℤ◌, ◌*ℤ◌, ◌≤ℤ◌, Bool, true, false, cond, List, length, get_or, arith, refl, sym, ap, ◌∙◌, Option, Some, None, ◌⊎◌, inl, ⊎_elim, subst}
+-- early departures: what a round makes of them, and why they rise to the least solution
+use Rattle.std.proofs.Common.{◌≡◌, ◌≢◌, ℕ, ◌<◌, ◌==◌, ℤ, pos, ◌+ℤ◌, ◌-ℤ◌, ◌*ℤ◌, ◌≤ℤ◌, Bool, true, false, cond, List, length, arith, sym, ap, ◌∙◌, Option, Some, None, ◌⊎◌, inl, ⊎_elim, subst}
 use Rattle.std.proofs.lemmas.Int.{ints}
 use Rattle.std.proofs.lemmas.Bool.{cases_Bool, eqb-true}
 use Rattle.std.proofs.lemmas.List.{get_or_past, ext_get_or}
@@ -6,15 +7,14 @@ use Rattle.std.specs.Int.{int_max}
 use Rattle.mintc_walks.specs.Bounds.{IsWithin}
 use Rattle.mintc_timing.specs.declared.parts.Pair.{Pair}
 use Rattle.mintc_timing.specs.declared.clocking.Schedule.{Schedule}
-use Rattle.mintc_timing.specs.Design.{Timing, element_at, element_count, pair_at, phase_count, phase_of, no_pair}
+use Rattle.mintc_timing.specs.Design.{Timing, element_at, element_count, pair_at, phase_of, no_pair}
 use Rattle.mintc_timing.specs.Clocking.{shift_of}
 use Rattle.mintc_timing.specs.Departures.{departure, into, early_arrival, early_arrivals, early_opening, early_departure, late_arrival, late_opening, AreEarly, AreAtMost, AreLate}
 use Rattle.mintc_timing.specs.Extremes.{greater_of, least_of}
-use Rattle.mintc_timing.specs.Limits.{IsDesign, IsInRange}
-use Rattle.mintc_timing.specs.Order.{IsTiming}
 use Rattle.mintc_timing.proofs.DepartureLaws.{late_departure-flop}
 use Rattle.mintc_timing.proofs.Loops.{arrival-at_most}
 use Rattle.mintc_timing.proofs.Products.{add-times, times-mono_positive}
+use Rattle.mintc_departure.specs.Clocked.{IsClocked}
 use Rattle.mintc_departure.specs.Rounds.{early_start_of, early_travel, IsFirst, AreSums, AreRising}
 use Rattle.mintc_departure.specs.Settled.{IsSum}
 use Rattle.mintc_departure.specs.declared.arrivals.TheConstants.{NEVER}
@@ -28,10 +28,6 @@ use Rattle.mintc_departure.proofs.Sizes.{below_or_not, element_in_range, pair_en
 first-greater : (start first : ℤ) (o : Option ℤ) → IsFirst o first → first ≢ NEVER → int_max start first ≡ greater_of start o
 first-greater start first None is ne = absurd (ne is)
 first-greater start first (Some a) is ne = ap (λ z. int_max start z) is.0
-
-first-none : (start first : ℤ) (o : Option ℤ) → IsFirst o first → first ≡ NEVER → start ≡ greater_of start o
-first-none start first None is e = refl
-first-none start first (Some a) is e = let h = is.0 in let r = is.1 in let r1 = r.1 in absurd (omega (arith, ints))
 
 module _ (t : Timing) (s : Schedule) where
   pub early-arrival-is : (d : List ℤ) (p : Pair) → early_arrival t s d p ≡ departure d p.from +ℤ early_travel t s p
@@ -55,17 +51,6 @@ module _ (t : Timing) (s : Schedule) where
   departs-by_first d l first x latch ne is e =
       e ∙ first-greater (early_start_of t s l) first (least_of (early_arrivals t s d l)) is ne
       ∙ ap (λ z. greater_of z (least_of (early_arrivals t s d l))) (start-latch_early l latch) ∙ sym (early-latch d l latch)
-
-  pub departs-at_start : (d : List ℤ) (l : ℕ) (first : ℤ) → first ≡ NEVER → IsFirst (least_of (early_arrivals t s d l)) first → early_start_of t s l ≡ early_departure t s d l
-  departs-at_start d l first e is =
-      ⊎_elim
-      (λ flop. start-flop_early l flop ∙ sym (early-flop d l flop))
-      (λ latch.
-      start-latch_early l latch ∙ first-none (early_opening t s l) first (least_of (early_arrivals t s d l)) is e ∙ sym (early-latch d l latch))
-      (cases_Bool (element_at t l).flop)
-
-  pub departs-flop : (d : List ℤ) (l : ℕ) → (element_at t l).flop ≡ true → early_start_of t s l ≡ early_departure t s d l
-  departs-flop d l flop = start-flop_early l flop ∙ sym (early-flop d l flop)
 
   -- Departures that are nowhere later make departures that are nowhere later.
   arrival-mono : (d e : List ℤ) (p : Pair) → departure d p.from ≤ℤ departure e p.from → early_arrival t s d p ≤ℤ early_arrival t s e p
@@ -93,10 +78,9 @@ module _ (t : Timing) (s : Schedule) where
       (λ past. rw (get_or_past d l (pos 0) (rw p past), get_or_past e l (pos 0) (rw q past)) (omega (arith, ints)))
       (below_or_not l (element_count t))
 
--- what stands for the first arrivals, at the same departures and values
-pub firsts-kept : (t : Timing) (s : Schedule) (l : ℕ) (d e : List ℤ) (xs ys : List ℤ) → e ≡ d → ys ≡ xs →
-    IsFirst (least_of (early_arrivals t s d l)) (get_or xs l (pos 0)) → IsFirst (least_of (early_arrivals t s e l)) (get_or ys l (pos 0))
-firsts-kept t s l d e xs ys p q h = rw (p, q) h
+-- The second departures are what the first make them.
+abbrev pub IsRound : Timing → Schedule → List ℤ → List ℤ → Type 0
+IsRound t s d e = (l : ℕ) → l < element_count t → departure e l ≡ early_departure t s d l
 
 -- a delay and the one before it, times the denominator
 opening-sum : (cq dq den : ℤ) → (cq -ℤ dq) *ℤ den +ℤ dq *ℤ den ≡ cq *ℤ den
@@ -110,16 +94,16 @@ carry x y q z e h = rw e h
 latch-before : (start q late opens cq_low cq_high dq_high : ℤ) → start +ℤ q ≡ cq_low → cq_low ≤ℤ cq_high → opens +ℤ dq_high ≡ cq_high → opens ≤ℤ late → (start +ℤ q) ≤ℤ (late +ℤ dq_high)
 latch-before start q late opens cq_low cq_high dq_high e h f k = omega (arith, ints)
 
-module _ (t : Timing) (s : Schedule) (design : IsDesign t.flat) (timing : IsTiming t.flat t.order t.pairs) (range : IsInRange s) (phases : length s.starts ≡ phase_count t)
+module _ (t : Timing) (s : Schedule) (fits : IsClocked t s)
     (late : List ℤ) (are_late : AreLate t s late) where
   dq-grow : (l : ℕ) → l < element_count t → ((element_at t l).dq_min *ℤ s.den) ≤ℤ ((element_at t l).dq_max *ℤ s.den)
-  dq-grow l h = times-mono_positive _ _ s.den (element_in_range t s design timing range phases l h).dq range.den.0
+  dq-grow l h = times-mono_positive _ _ s.den (element_in_range t s fits l h).dq fits.range.den.0
 
   start-before : (l : ℕ) → l < element_count t →
       (early_start_of t s l +ℤ (element_at t l).dq_min *ℤ s.den) ≤ℤ (departure late l +ℤ (element_at t l).dq_max *ℤ s.den)
   start-before l h =
       let e = element_at t l in
-      let starts = exact-starts t s late are_late.exact timing.extremes.each l h in
+      let starts = exact-starts t s late are_late.exact fits.timing.extremes.each l h in
       let grow = dq-grow l h in
       ⊎_elim
       (λ flop.
@@ -129,7 +113,7 @@ module _ (t : Timing) (s : Schedule) (design : IsDesign t.flat) (timing : IsTimi
       rw (start-latch_early t s l latch)
       (latch-before (early_opening t s l) (e.dq_min *ℤ s.den) (departure late l) (late_opening t s l) (e.cq_min *ℤ s.den) (e.cq_max *ℤ s.den) (e.dq_max *ℤ s.den)
       (opening-sum e.cq_min e.dq_min s.den)
-      (times-mono_positive e.cq_min e.cq_max s.den (element_in_range t s design timing range phases l h).cq range.den.0)
+      (times-mono_positive e.cq_min e.cq_max s.den (element_in_range t s fits l h).cq fits.range.den.0)
       (opening-sum e.cq_max e.dq_max s.den)
       (rw (start-latch t s l latch) at starts)))
       (cases_Bool e.flop)
@@ -143,7 +127,7 @@ module _ (t : Timing) (s : Schedule) (design : IsDesign t.flat) (timing : IsTimi
       let from = element_at t p.from in
       sums-before (departure d p.from) (departure late p.from) (from.dq_min *ℤ s.den) (from.dq_max *ℤ s.den) (p.min *ℤ s.den) (p.max *ℤ s.den) ((from.dq_min +ℤ p.min) *ℤ s.den) ((from.dq_max +ℤ p.max) *ℤ s.den) (shift_of s (phase_of t p.from) (phase_of t p.to))
       (add-times from.dq_min p.min s.den) (add-times from.dq_max p.max s.den) before
-      (times-mono_positive p.min p.max s.den (pair-min_order t.flat t.order t.pairs design timing n no_pair h).1 range.den.0)
+      (times-mono_positive p.min p.max s.den (pair-min_order t.flat t.order t.pairs fits.design fits.timing n no_pair h).1 fits.range.den.0)
     where
       sums-before : (d e q r x y low high shift : ℤ) → low ≡ q +ℤ x → high ≡ r +ℤ y → (d +ℤ q) ≤ℤ (e +ℤ r) → x ≤ℤ y → (d +ℤ low +ℤ shift) ≤ℤ (e +ℤ high +ℤ shift)
       sums-before d e q r x y low high shift a b h k = omega (arith, ints)
@@ -178,15 +162,12 @@ module _ (t : Timing) (s : Schedule) (design : IsDesign t.flat) (timing : IsTimi
       by_arrival latch a is w =
           let n = w.0 in
           let to : (pair_at t n).to ≡ l = eqb-true _ _ w.2 in
-          let ends = pair_ends t s design timing range phases n w.1 in
+          let ends = pair_ends t s fits n w.1 in
           let P : ℕ → Type 0 = λ m. late_arrival t s late (pair_at t n) ≤ℤ departure late m in
-          let there = subst P to (arrival-at_most t s late are_late.exact timing.extremes.each n no_pair w.1 (ap (λ (m : ℕ). (element_at t m).flop) to ∙ latch)) in
+          let there = subst P to (arrival-at_most t s late are_late.exact fits.timing.extremes.each n no_pair w.1 (ap (λ (m : ℕ). (element_at t m).flop) to ∙ latch)) in
           let first = arrival-before d n w.1 (before (pair_at t n).from ends.from) in
-          let both : early_arrival t s d (pair_at t n) ≤ℤ departure late l = le_trans first there in
+          let both : early_arrival t s d (pair_at t n) ≤ℤ departure late l = omega (arith, ints) in
           rises _ _ (departure late l) ((element_at t l).dq_min *ℤ s.den) ((element_at t l).dq_max *ℤ s.den) (is ∙ w.3) both (dq-grow l h)
-        where
-          le_trans : {x y z : ℤ} → x ≤ℤ y → y ≤ℤ z → x ≤ℤ z
-          le_trans h k = omega (arith, ints)
 
   -- The rounds begin where no data reaches an element ..
   pub rising-first : (d : List ℤ) → length d ≡ element_count t → ((l : ℕ) → l < element_count t → departure d l ≡ early_start_of t s l) → AreRising t s late d
@@ -206,8 +187,8 @@ module _ (t : Timing) (s : Schedule) (design : IsDesign t.flat) (timing : IsTimi
       let mono : (l : ℕ) → early_departure t s d l ≤ℤ early_departure t s e l = early-mono t s d e (everywhere t s d e rising.count count up) in
       record {
         count = count;
-        above = λ l h. le_trans (rising.above l h) (up l h);
-        rises = λ l h. ⊎_elim (λ is. rw is (mono l)) (λ is. rw is (le_trans (rising.rises l h) (mono l))) (part l h);
+        above = λ l h. omega (arith, ints, rising.above l h, up l h);
+        rises = λ l h. ⊎_elim (λ is. rw is (mono l)) (λ is. rw is (omega (arith, ints, rising.rises l h, mono l))) (part l h);
         least = λ f exact l h. ⊎_elim
             (λ is.
             subst (λ z. z ≤ℤ departure f l) (sym is)
@@ -216,36 +197,26 @@ module _ (t : Timing) (s : Schedule) (design : IsDesign t.flat) (timing : IsTimi
             (part l h);
         before = λ l h. ⊎_elim (λ is. rw is (round-before d rising.before l h)) (λ is. rw is (rising.before l h)) (part l h);
       }
-    where
-      le_trans : {x y z : ℤ} → x ≤ℤ y → y ≤ℤ z → x ≤ℤ z
-      le_trans h k = omega (arith, ints)
 
-  pub rising-more : (d e : List ℤ) → AreRising t s late d → length e ≡ element_count t → ((l : ℕ) → l < element_count t → departure e l ≡ early_departure t s d l) → AreRising t s late e
+  pub rising-more : (d e : List ℤ) → AreRising t s late d → length e ≡ element_count t → IsRound t s d e → AreRising t s late e
   rising-more d e rising count round = rising-part d e rising count (λ l h. inl (round l h))
 
   -- Where a round changes nothing, it leaves the departures, and they are the early ones.
-  pub rising-same : (d e : List ℤ) → AreRising t s late d → length e ≡ element_count t → ((l : ℕ) → l < element_count t → departure e l ≡ early_departure t s d l) →
-      ((l : ℕ) → l < element_count t → early_departure t s d l ≡ departure d l) → e ≡ d
-  rising-same d e rising count round still =
-      ext_get_or (pos 0) e d (count ∙ sym rising.count) (λ l h. let k : l < element_count t = rw count at h in round l k ∙ still l k)
-
-  pub rising-last : (d e : List ℤ) → AreRising t s late d → length e ≡ element_count t → ((l : ℕ) → l < element_count t → departure e l ≡ early_departure t s d l) →
-      ((l : ℕ) → l < element_count t → early_departure t s d l ≡ departure d l) → AreEarly t s e
+  pub rising-last : (d e : List ℤ) → AreRising t s late d → length e ≡ element_count t → IsRound t s d e → IsRound t s d d → AreEarly t s e
   rising-last d e rising count round still =
-      rw (rising-same d e rising count round still) (record { exact = record { count = rising.count; each = λ l h. sym (still l h) }; least = rising.least })
+      let same : e ≡ d = ext_get_or (pos 0) e d (count ∙ sym rising.count) (λ l h. let k : l < element_count t = rw count at h in round l k ∙ sym (still l k)) in
+      rw same (record { exact = record { count = rising.count; each = still }; least = rising.least })
 
   -- The numbers of each round are sums of few delays.
   pub rising-sums : (d : List ℤ) → AreRising t s late d → AreSums t d
   rising-sums d rising = record { count = rising.count; each = sum }
     where
       times_den : (x : ℤ) → IsWithin 1000000000 x → IsWithin 100000000000000 (x *ℤ s.den)
-      times_den x h = let r = range.den in let den : IsWithin 100000 s.den = (omega (arith, ints), omega (arith, ints)) in IsWithin-product 1000000000 100000 x s.den h den
+      times_den x h = let r = fits.range.den in let den : IsWithin 100000 s.den = (omega (arith, ints), omega (arith, ints)) in IsWithin-product 1000000000 100000 x s.den h den
 
       start : (l : ℕ) → l < element_count t → IsWithin 100000000000000 (early_start_of t s l)
       start l h =
-          let e = element_in_range t s design timing range phases l h in
-          let cq = e.cq_min in
-          let dq = e.dq_min in
+          let e = element_in_range t s fits l h in
           let delay : IsWithin 1000000000 ((element_at t l).cq_min -ℤ (element_at t l).dq_min) = (omega (arith, ints), omega (arith, ints)) in
           ⊎_elim
           (λ flop. rw (start-flop_early t s l flop) (omega (arith, ints), omega (arith, ints)))
@@ -254,18 +225,12 @@ module _ (t : Timing) (s : Schedule) (design : IsDesign t.flat) (timing : IsTimi
 
       within : (x first z q r : ℤ) → first ≤ℤ x → (x +ℤ q) ≤ℤ (z +ℤ r) → IsWithin 100000000000000 first → IsWithin 100000000000000 q → IsWithin 100000000000000 r → IsWithin 900100000000000000 z → IsSum x
       within x first z q r h k a b c e =
-          let a0 = a.0 in
-          let b0 = b.0 in
-          let c1 = c.1 in
-          let e1 = e.1 in
           (omega (arith, ints), omega (arith, ints))
 
       sum : (l : ℕ) → l < element_count t → IsSum (departure d l)
       sum l h =
-          let e = element_in_range t s design timing range phases l h in
-          let low = e.dq_min in
-          let high = e.dq_max in
+          let e = element_in_range t s fits l h in
           let q : IsWithin 1000000000 (element_at t l).dq_min = (omega (arith, ints), omega (arith, ints)) in
           let r : IsWithin 1000000000 (element_at t l).dq_max = (omega (arith, ints), omega (arith, ints)) in
           within (departure d l) (early_start_of t s l) (departure late l) ((element_at t l).dq_min *ℤ s.den) ((element_at t l).dq_max *ℤ s.den) (rising.above l h) (rising.before l h) (start l h) (times_den _ q) (times_den _ r)
-          (late-within t s design timing range phases late are_late l h)
+          (late-within t s fits late are_late l h)

@@ -1,6 +1,5 @@
-use Rattle.std.proofs.Common.{◌≡◌, ℕ, ℤ, pos, ◌+ℤ◌, ◌-ℤ◌, ◌*ℤ◌, Bool, true, false, cond, List, Option, Some, None, option_map, arith, sym, ap, ◌∙◌, ⊎_elim, refl}
-use Rattle.std.proofs.lemmas.Int.{ints}
-use Rattle.std.proofs.lemmas.Bool.{cases_Bool}
+-- the amounts of setups and holds, case by case
+use Rattle.std.proofs.Common.{◌≡◌, ℕ, ℤ, pos, ◌+ℤ◌, ◌-ℤ◌, ◌*ℤ◌, Bool, true, false, cond, List, Option, Some, None, option_map, sym, ap, ◌∙◌}
 use Rattle.std.specs.Int.{int_max}
 use Rattle.mintc_timing.specs.declared.clocking.Schedule.{Schedule}
 use Rattle.mintc_timing.specs.Design.{Timing, element_at, phase_of}
@@ -18,17 +17,9 @@ last-some : (o : Option ℤ) (last : ℤ) → IsLast o last → (last ≡ LONG_A
 last-some None last is ne = absurd (ne is)
 last-some (Some a) last is ne = ap Some (sym is.0)
 
-last-none : (o : Option ℤ) (last : ℤ) → IsLast o last → last ≡ LONG_AGO → o ≡ None
-last-none None last is e = refl
-last-none (Some a) last is e = let h = is.0 in let r = is.1 in let r0 = r.0 in absurd (omega (arith, ints))
-
 first-some : (o : Option ℤ) (first : ℤ) → IsFirst o first → (first ≡ NEVER → ⊥) → o ≡ Some first
 first-some None first is ne = absurd (ne is)
 first-some (Some a) first is ne = ap Some (sym is.0)
-
-first-none : (o : Option ℤ) (first : ℤ) → IsFirst o first → first ≡ NEVER → o ≡ None
-first-none None first is e = refl
-first-none (Some a) first is e = let h = is.0 in let r = is.1 in let r1 = r.1 in absurd (omega (arith, ints))
 
 module _ (t : Timing) (s : Schedule) (d : List ℤ) (l : ℕ) where
   setup-by : (b : Bool) → (element_at t l).flop ≡ b →
@@ -51,9 +42,6 @@ module _ (t : Timing) (s : Schedule) (d : List ℤ) (l : ℕ) where
   setup-flop last setup e is ne q =
       ap (λ z. Some (last +ℤ z)) q ∙ sym (setup-by true e ∙ ap (option_map (λ a. a +ℤ (element_at t l).setup *ℤ s.den)) (last-some _ last is ne))
 
-  pub setup-none : (last : ℤ) → (element_at t l).flop ≡ true → IsLast (greatest_of (late_arrivals t s d l)) last → last ≡ LONG_AGO → None ≡ setup_amount t s d l
-  setup-none last e is a = sym (setup-by true e ∙ ap (option_map (λ a. a +ℤ (element_at t l).setup *ℤ s.den)) (last-none _ last is a))
-
   abbrev start : ℤ
   start = cond (element_at t l).flop (pos 0) (width_of s (phase_of t l))
 
@@ -68,16 +56,6 @@ module _ (t : Timing) (s : Schedule) (d : List ℤ) (l : ℕ) where
   hold-some first begin hold e is ne p q =
       ap (λ z. Some (z +ℤ hold -ℤ (first +ℤ s.cycle))) p ∙ ap (λ z. Some (start +ℤ z -ℤ (first +ℤ s.cycle))) q
       ∙ sym (hold-by true e ∙ ap (option_map (λ a. start +ℤ (element_at t l).hold *ℤ s.den -ℤ (a +ℤ s.cycle))) (first-some _ first is ne))
-
-  pub hold-never : (first : ℤ) → IsFirst (least_of (early_arrivals t s d l)) first → first ≡ NEVER → None ≡ hold_amount t s d l
-  hold-never first is e =
-      ⊎_elim
-      (λ has. sym (hold-by true has ∙ ap (option_map (λ a. start +ℤ (element_at t l).hold *ℤ s.den -ℤ (a +ℤ s.cycle))) (first-none _ first is e)))
-      (λ none. sym (hold-by false none))
-      (cases_Bool (element_at t l).has_hold)
-
-  pub hold-none : (element_at t l).has_hold ≡ false → None ≡ hold_amount t s d l
-  hold-none e = sym (hold-by false e)
 
 -- a number in an option, and another way to write it
 pub some-is : (y : ℤ) (o : Option ℤ) (x : ℤ) → Some y ≡ o → x ≡ y → Some x ≡ o

@@ -1,3 +1,4 @@
+-- writes to a list that is filled from the front, and to a room
 use Rattle.std.proofs.Common.{◌≡◌, ◌<◌, ◌≢◌, ℕ, ◌+◌, ℤ, pos, List, length, set, get_or, arith, sym, ap, ◌∙◌, get_or-set_same, get_or-set_other, below_more}
 use Rattle.mintc_constraints.specs.Rooms.{Space}
 

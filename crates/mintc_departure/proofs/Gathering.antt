@@ -1,3 +1,4 @@
+-- a loop over pairs that keeps the best number for each element
 use Rattle.std.proofs.Common.{◌≡◌, ℕ, ◌+◌, ◌<◌, ◌==◌, ℤ, pos, Bool, true, false, cond, List, [], ◌∷◌, ◌++◌, length, get_or, set, take, map, sym, ap, ◌∙◌, Option, Some, ⊎_elim, eq-eqb, ne_eqb, get_or-set_same, get_or-set_other}
 use Rattle.std.proofs.lemmas.Bool.{cases_eq}
 use Rattle.std.proofs.lemmas.List.{map-append, append-nil}
@@ -5,14 +6,14 @@ use Rattle.std.proofs.lemmas.List.Elements.{filter_more}
 use Rattle.std.specs.List.{filter}
 use Rattle.mintc_timing.specs.declared.parts.Pair.{Pair}
 use Rattle.mintc_timing.specs.Design.{no_pair}
-use Rattle.mintc_departure.specs.Rounds.{IsArrival}
+use Rattle.mintc_departure.specs.Rounds.{IsArrivalSum}
 
 -- A loop over pairs that keeps, for each element, the best number that the pairs so far bring to it: `best` finds it in a
 -- list, `pick` puts one more number to what was found, `join` does so among numbers, and `Stands` says which number
 -- stands for what was found.
 module _ (best : List ℤ → Option ℤ) (pick : ℤ → Option ℤ → ℤ) (join : ℤ → ℤ → ℤ) (Stands : Option ℤ → ℤ → Type 0)
     (push : (xs : List ℤ) (y : ℤ) → best (xs ++ y ∷ []) ≡ Some (pick y (best xs)))
-    (more : (o : Option ℤ) (v y : ℤ) → IsArrival y → Stands o v → Stands (Some (pick y o)) (join y v))
+    (more : (o : Option ℤ) (v y : ℤ) → IsArrivalSum y → Stands o v → Stands (Some (pick y o)) (join y v))
     (f : Pair → ℤ) where
   -- one more item, as at a turn of a loop
   best-more : (test : Pair → Bool) (xs : List Pair) (n : ℕ) → n < length xs →
@@ -26,7 +27,7 @@ module _ (best : List ℤ → Option ℤ) (pick : ℤ → Option ℤ → ℤ) (j
       pushed ys y false = ap (λ zs. best (map f zs)) (append-nil ys)
 
   -- a turn of the loop, at each element
-  pub gathered-more : (pairs : List Pair) (n m : ℕ) (xs ys : List ℤ) → n < length pairs → IsArrival (f (get_or pairs n no_pair)) →
+  pub gathered-more : (pairs : List Pair) (n m : ℕ) (xs ys : List ℤ) → n < length pairs → IsArrivalSum (f (get_or pairs n no_pair)) →
       (get_or pairs n no_pair).to < length xs →
       ys ≡ set xs (get_or pairs n no_pair).to (join (f (get_or pairs n no_pair)) (get_or xs (get_or pairs n no_pair).to (pos 0))) →
       ((k : ℕ) → k < m → Stands (best (map f (filter (λ (p : Pair). p.to == k) (take n pairs)))) (get_or xs k (pos 0))) →

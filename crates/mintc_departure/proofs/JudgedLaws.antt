@@ -1,3 +1,4 @@
+-- the violations where departures settle
 use Rattle.std.proofs.Common.{◌≡◌, ℤ, List, [], ◌++◌, ap, ◌∙◌, sym, append_assoc, inr}
 use Rattle.std.specs.List.{All}
 use Rattle.mintc_timing.specs.declared.clocking.Schedule.{Schedule}

@@ -1,11 +1,13 @@
-use Rattle.std.proofs.Common.{◌≡◌, ℕ, suc, zero, ◌+◌, ◌<◌, ◌≤◌, ℤ, pos, ◌≤ℤ◌, ◌-ℤ◌, Bool, true, false, cond, List, [], ◌∷◌, ◌++◌, map, Option, Some, None, option_map, IfSome, IsTrue, ◌↔◌, arith, int_lt, refl, sym, ap, ◌∙◌, ⊎_elim}
+-- checks of which none is failed
+use Rattle.std.proofs.Common.{◌≡◌, ℕ, ◌+◌, ◌-◌, ◌<◌, ◌≤◌, ℤ, pos, ◌≤ℤ◌, ◌-ℤ◌, Bool, true, false, cond, List, [], ◌∷◌, ◌++◌, map, Option, Some, None, option_map, IfSome, IsTrue, ◌↔◌, arith, int_lt, refl, sym, ap, ◌∙◌, subst}
 use Rattle.std.proofs.lemmas.Int.{ints}
+use Rattle.std.proofs.lemmas.List.FromFn.{length-range_with_len, get_or-range_with_len}
 use Rattle.std.specs.List.{All, cons_option, filter, filter_map, flat_map, range_with_len}
 use Rattle.std.proofs.lemmas.List.Elements.{All-nil, All-cons, All-head, All-tail, filter-append}
 use Rattle.mintc_timing.specs.declared.violation.Broken.{Broken}
 use Rattle.mintc_timing.specs.declared.violation.Violation.{Violation}
 use Rattle.mintc_timing.specs.Violations.{check, failed}
-use Rattle.mintc_departure.proofs.Sizes.{below_or_not}
+use Rattle.mintc_timing.proofs.MeetingLaws.{All-range}
 
 -- a number moved to the other side
 pub moved : (x y : ℤ) → ((x -ℤ y) ≤ℤ pos 0) ↔ (x ≤ℤ y)
@@ -33,7 +35,7 @@ kept-step : (v : Violation) (vs : List Violation) (b : Bool) → int_lt (pos 0) 
 kept-step v vs true h = ((λ e. absurd (cc)), (λ k. absurd (above v.amount h k.0)))
 kept-step v vs false h = ((λ e. (not_above v.amount h, e)), (λ k. k.1))
 
-kept-cons : (v : Violation) (vs : List Violation) → (failed (v ∷ vs) ≡ []) ↔ (IsKept v × (failed vs ≡ []))
+pub kept-cons : (v : Violation) (vs : List Violation) → (failed (v ∷ vs) ≡ []) ↔ (IsKept v × (failed vs ≡ []))
 kept-cons v vs = kept-step v vs (int_lt (pos 0) v.amount) refl
 
 pub kept-append : (xs ys : List Violation) → (failed (xs ++ ys) ≡ []) ↔ ((failed xs ≡ []) × (failed ys ≡ []))
@@ -45,55 +47,43 @@ optional-step : (constraint : Broken) (o : Option ℤ) (vs : List Violation) →
 optional-step constraint None vs = ((λ e. (tt, e)), (λ h. h.1))
 optional-step constraint (Some x) vs = kept-cons (check constraint x) vs
 
+tested-step : {X : Type 0} (f : X → Violation) (x : X) (ys : List X) (b : Bool) → (failed (map f (cond b (x ∷ ys) ys)) ≡ []) ↔ ((IsTrue b → IsKept (f x)) × (failed (map f ys) ≡ []))
+tested-step f x ys true =
+    let first = kept-cons (f x) (map f ys) in
+    ((λ e. let h = first.0 e in (λ _. h.0, h.1)), (λ h. first.1 (h.0 refl, h.1)))
+tested-step f x ys false = ((λ e. (λ h. absurd (cc), e)), (λ h. h.1))
+
+-- checks that are made item by item
 module _ {X : Type 0} where
+  kept-each : (checks : List X → List Violation) (P : X → Type 0) → checks [] ≡ [] → ((x : X) (xs : List X) → (failed (checks (x ∷ xs)) ≡ []) ↔ (P x × (failed (checks xs) ≡ []))) →
+      (xs : List X) → (failed (checks xs) ≡ []) ↔ All P xs
+  kept-each checks P none step [] = ((λ e. All-nil P), (λ h. ap failed none))
+  kept-each checks P none step (x ∷ xs) =
+      let first = step x xs in
+      let rest = kept-each checks P none step xs in
+      ((λ e. let h = first.0 e in All-cons P x xs h.0 (rest.0 h.1)), (λ h. first.1 (All-head P x xs h, rest.1 (All-tail P x xs h))))
+
   pub kept-map : (f : X → Violation) (xs : List X) → (failed (map f xs) ≡ []) ↔ All (λ x. IsKept (f x)) xs
-  kept-map f [] = ((λ e. All-nil (λ x. IsKept (f x))), (λ h. refl))
-  kept-map f (x ∷ xs) =
-      let first = kept-cons (f x) (map f xs) in
-      let rest = kept-map f xs in
-      ((λ e. let h = first.0 e in All-cons (λ x. IsKept (f x)) x xs h.0 (rest.0 h.1)), (λ h. first.1 (All-head (λ x. IsKept (f x)) x xs h, rest.1 (All-tail (λ x. IsKept (f x)) x xs h))))
+  kept-map f = kept-each (map f) (λ x. IsKept (f x)) refl (λ x xs. kept-cons (f x) (map f xs))
 
   pub kept-flat : (g : X → List Violation) (xs : List X) → (failed (flat_map g xs) ≡ []) ↔ All (λ x. failed (g x) ≡ []) xs
-  kept-flat g [] = ((λ e. All-nil (λ x. failed (g x) ≡ [])), (λ h. refl))
-  kept-flat g (x ∷ xs) =
-      let first = kept-append (g x) (flat_map g xs) in
-      let rest = kept-flat g xs in
-      ((λ e. let h = first.0 e in All-cons (λ x. failed (g x) ≡ []) x xs h.0 (rest.0 h.1)), (λ h. first.1 (All-head (λ x. failed (g x) ≡ []) x xs h, rest.1 (All-tail (λ x. failed (g x) ≡ []) x xs h))))
-
-  tested-step : (f : X → Violation) (x : X) (ys : List X) (b : Bool) → (failed (map f (cond b (x ∷ ys) ys)) ≡ []) ↔ ((IsTrue b → IsKept (f x)) × (failed (map f ys) ≡ []))
-  tested-step f x ys true =
-      let first = kept-cons (f x) (map f ys) in
-      ((λ e. let h = first.0 e in (λ _. h.0, h.1)), (λ h. first.1 (h.0 refl, h.1)))
-  tested-step f x ys false = ((λ e. (λ h. absurd (cc), e)), (λ h. h.1))
+  kept-flat g = kept-each (flat_map g) (λ x. failed (g x) ≡ []) refl (λ x xs. kept-append (g x) (flat_map g xs))
 
   pub kept-tested : (f : X → Violation) (test : X → Bool) (xs : List X) → (failed (map f (filter test xs)) ≡ []) ↔ All (λ x. IsTrue (test x) → IsKept (f x)) xs
-  kept-tested f test [] = ((λ e. All-nil (λ x. IsTrue (test x) → IsKept (f x))), (λ h. refl))
-  kept-tested f test (x ∷ xs) =
-      let first = tested-step f x (filter test xs) (test x) in
-      let rest = kept-tested f test xs in (
-        (λ e. let h = first.0 e in All-cons (λ x. IsTrue (test x) → IsKept (f x)) x xs h.0 (rest.0 h.1)),
-        (λ h. first.1 (All-head (λ x. IsTrue (test x) → IsKept (f x)) x xs h, rest.1 (All-tail (λ x. IsTrue (test x) → IsKept (f x)) x xs h))),
-      )
+  kept-tested f test = kept-each (λ xs. map f (filter test xs)) (λ x. IsTrue (test x) → IsKept (f x)) refl (λ x xs. tested-step f x (filter test xs) (test x))
 
   pub kept-optional : (constraint : X → Broken) (amount : X → Option ℤ) (xs : List X) →
       (failed (filter_map (λ x. option_map (check (constraint x)) (amount x)) xs) ≡ []) ↔ All (λ x. IfSome (amount x) (λ z. z ≤ℤ pos 0)) xs
-  kept-optional constraint amount [] = ((λ e. All-nil (λ x. IfSome (amount x) (λ z. z ≤ℤ pos 0))), (λ h. refl))
-  kept-optional constraint amount (x ∷ xs) =
-      let first = optional-step (constraint x) (amount x) (filter_map (λ x. option_map (check (constraint x)) (amount x)) xs) in
-      let rest = kept-optional constraint amount xs in (
-        (λ e. let h = first.0 e in All-cons (λ x. IfSome (amount x) (λ z. z ≤ℤ pos 0)) x xs h.0 (rest.0 h.1)),
-        (λ h. first.1 (All-head (λ x. IfSome (amount x) (λ z. z ≤ℤ pos 0)) x xs h, rest.1 (All-tail (λ x. IfSome (amount x) (λ z. z ≤ℤ pos 0)) x xs h))),
-      )
+  kept-optional constraint amount =
+      kept-each (filter_map (λ x. option_map (check (constraint x)) (amount x))) (λ x. IfSome (amount x) (λ z. z ≤ℤ pos 0)) refl
+      (λ x xs. optional-step (constraint x) (amount x) (filter_map (λ x. option_map (check (constraint x)) (amount x)) xs))
 
 -- what holds of each number of a range
-pub range-each : (P : ℕ → Type 0) (a n : ℕ) → All P (range_with_len a n) → (p : ℕ) → a ≤ p → p < a + n → P p
-range-each P a zero h p low high = absurd (omega arith)
-range-each P a (suc n) h p low high =
-    ⊎_elim
-    (λ after. range-each P (a + 1) n (All-tail P a (range_with_len (a + 1) n) h) p (omega arith) (omega arith))
-    (λ upto. let e : a ≡ p = omega arith in rw (← e) (All-head P a (range_with_len (a + 1) n) h))
-    (below_or_not a p)
-
-pub each-range : (P : ℕ → Type 0) (a n : ℕ) → ((p : ℕ) → a ≤ p → p < a + n → P p) → All P (range_with_len a n)
-each-range P a zero h = All-nil P
-each-range P a (suc n) h = All-cons P a (range_with_len (a + 1) n) (h a (omega arith) (omega arith)) (each-range P (a + 1) n (λ p low high. h p (omega arith) (omega arith)))
+pub on_range : (P : ℕ → Type 0) (a n : ℕ) → All P (range_with_len a n) ↔ ((p : ℕ) → a ≤ p → p < a + n → P p)
+on_range P a n = (
+  (λ h p low high.
+      let inside : p - a < n = omega arith in
+      let is : a + (p - a) ≡ p = omega arith in
+      subst P (get_or-range_with_len a n (p - a) 0 inside ∙ is) (h (p - a) 0 (rw (length-range_with_len a n) inside))),
+  All-range P a n,
+)

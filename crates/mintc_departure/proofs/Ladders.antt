@@ -1,3 +1,4 @@
+-- numbers that leave no wide gap stay below a bound
 use Rattle.std.proofs.Common.{◌≡◌, ℕ, zero, suc, ◌+◌, ◌*◌, ◌<◌, ◌≤◌, ℤ, pos, ◌≤ℤ◌, ◌<ℤ◌, cond, arith, ◌⊎◌, inl, inr, ⊎_elim, below_more}
 use Rattle.std.proofs.lemmas.Int.{ints, by_lt_z}
 use lib.Signed.{lt_z}

@@ -1,3 +1,4 @@
+-- the sizes of late departures
 use Rattle.std.proofs.Common.{◌≡◌, ℕ, ◌+◌, ◌<◌, ◌≤◌, ℤ, pos, ◌+ℤ◌, ◌-ℤ◌, ◌≤ℤ◌, ◌<ℤ◌, ◌==◌, Bool, true, false, cond, List, length, get_or, map, arith, sym, ap, ◌∙◌, ◌⊎◌, inl, inr, ⊎_elim, subst}
 use Rattle.std.proofs.lemmas.Int.{ints}
 use Rattle.std.proofs.lemmas.Bool.{cases_Bool, eqb-true}
@@ -7,14 +8,13 @@ use lib.Signed.{lt_z}
 use Rattle.mintc_walks.specs.Bounds.{IsWithin}
 use Rattle.mintc_timing.specs.declared.parts.Pair.{Pair}
 use Rattle.mintc_timing.specs.declared.clocking.Schedule.{Schedule}
-use Rattle.mintc_timing.specs.Design.{Timing, element_at, element_count, pair_at, phase_count, no_pair}
+use Rattle.mintc_timing.specs.Design.{Timing, element_at, element_count, pair_at, no_pair}
 use Rattle.mintc_timing.specs.Departures.{departure, late_arrival, late_arrivals, late_opening, late_departure, AreExact, AreLate}
 use Rattle.mintc_timing.specs.Extremes.{greater_of, greatest_of}
-use Rattle.mintc_timing.specs.Limits.{IsDesign, IsInRange}
-use Rattle.mintc_timing.specs.Order.{IsTiming}
 use Rattle.mintc_timing.proofs.DepartureLaws.{late_departure-latch, late_departure-flop}
 use Rattle.mintc_timing.proofs.ExtremesLaws.{greatest_is, greater-attained}
 use Rattle.mintc_timing.proofs.Loops.{arrival-at_most}
+use Rattle.mintc_departure.specs.Clocked.{IsClocked}
 use Rattle.mintc_departure.specs.Networks.{late_travel}
 use Rattle.mintc_departure.proofs.Ladders.{IsGap, all_below}
 use Rattle.mintc_departure.proofs.NetworkLaws.{greater-is, arrival-is, start-latch, exact-starts}
@@ -42,31 +42,31 @@ IsLowered low high y z = ((y ≤ℤ low) × (z ≡ y)) ⊎ ((high <ℤ y) × (z 
 -- What an arrival keeps when all high numbers are lowered, across a gap that is as wide as any delay.
 arrival-kept : (low width : ℕ) (a a' b b' w : ℤ) → IsWithin width w → IsLowered (pos low) (pos (low + width)) a a' → IsLowered (pos low) (pos (low + width)) b b' →
     (a +ℤ w) ≤ℤ b → (a' +ℤ w) ≤ℤ b'
-arrival-kept low width a a' b b' w r (inl p) (inl q) h = let p0 = p.0 in let p1 = p.1 in let q0 = q.0 in let q1 = q.1 in let r0 = r.0 in let r1 = r.1 in omega (arith, ints)
-arrival-kept low width a a' b b' w r (inl p) (inr q) h = let p0 = p.0 in let p1 = p.1 in let q0 = q.0 in let q1 = q.1 in let r0 = r.0 in let r1 = r.1 in omega (arith, ints)
-arrival-kept low width a a' b b' w r (inr p) (inl q) h = let p0 = p.0 in let p1 = p.1 in let q0 = q.0 in let q1 = q.1 in let r0 = r.0 in let r1 = r.1 in omega (arith, ints)
-arrival-kept low width a a' b b' w r (inr p) (inr q) h = let p0 = p.0 in let p1 = p.1 in let q0 = q.0 in let q1 = q.1 in let r0 = r.0 in let r1 = r.1 in omega (arith, ints)
+arrival-kept low width a a' b b' w r (inl p) (inl q) h = omega (arith, ints)
+arrival-kept low width a a' b b' w r (inl p) (inr q) h = omega (arith, ints)
+arrival-kept low width a a' b b' w r (inr p) (inl q) h = omega (arith, ints)
+arrival-kept low width a a' b b' w r (inr p) (inr q) h = omega (arith, ints)
 
 arrival-brought : (low width : ℕ) (a a' b b' w : ℤ) → IsWithin width w → IsLowered (pos low) (pos (low + width)) a a' → IsLowered (pos low) (pos (low + width)) b b' →
     b ≡ a +ℤ w → b' ≡ a' +ℤ w
-arrival-brought low width a a' b b' w r (inl p) (inl q) h = let p0 = p.0 in let p1 = p.1 in let q0 = q.0 in let q1 = q.1 in let r0 = r.0 in let r1 = r.1 in omega (arith, ints)
-arrival-brought low width a a' b b' w r (inl p) (inr q) h = let p0 = p.0 in let p1 = p.1 in let q0 = q.0 in let q1 = q.1 in let r0 = r.0 in let r1 = r.1 in absurd (omega (arith, ints))
-arrival-brought low width a a' b b' w r (inr p) (inl q) h = let p0 = p.0 in let p1 = p.1 in let q0 = q.0 in let q1 = q.1 in let r0 = r.0 in let r1 = r.1 in absurd (omega (arith, ints))
-arrival-brought low width a a' b b' w r (inr p) (inr q) h = let p0 = p.0 in let p1 = p.1 in let q0 = q.0 in let q1 = q.1 in let r0 = r.0 in let r1 = r.1 in omega (arith, ints)
+arrival-brought low width a a' b b' w r (inl p) (inl q) h = omega (arith, ints)
+arrival-brought low width a a' b b' w r (inl p) (inr q) h = absurd (omega (arith, ints))
+arrival-brought low width a a' b b' w r (inr p) (inl q) h = absurd (omega (arith, ints))
+arrival-brought low width a a' b b' w r (inr p) (inr q) h = omega (arith, ints)
 
 start-kept : (low width : ℕ) (start b b' : ℤ) → start ≤ℤ pos low → IsLowered (pos low) (pos (low + width)) b b' → start ≤ℤ b → start ≤ℤ b'
-start-kept low width start b b' s (inl p) h = let p0 = p.0 in let p1 = p.1 in omega (arith, ints)
-start-kept low width start b b' s (inr p) h = let p0 = p.0 in let p1 = p.1 in omega (arith, ints)
+start-kept low width start b b' s (inl p) h = omega (arith, ints)
+start-kept low width start b b' s (inr p) h = omega (arith, ints)
 
 start-same : (low width : ℕ) (start b b' : ℤ) → start ≤ℤ pos low → IsLowered (pos low) (pos (low + width)) b b' → b ≡ start → b' ≡ start
-start-same low width start b b' s (inl p) h = let p0 = p.0 in let p1 = p.1 in omega (arith, ints)
-start-same low width start b b' s (inr p) h = let p0 = p.0 in let p1 = p.1 in absurd (omega (arith, ints))
+start-same low width start b b' s (inl p) h = omega (arith, ints)
+start-same low width start b b' s (inr p) h = absurd (omega (arith, ints))
 
 high-fell : (low width : ℕ) (b b' : ℤ) → IsLowered (pos low) (pos (low + width)) b b' → b ≤ℤ b' → b ≤ℤ pos low
 high-fell low width b b' (inl p) h = p.0
-high-fell low width b b' (inr p) h = let p0 = p.0 in let p1 = p.1 in absurd (omega (arith, ints))
+high-fell low width b b' (inr p) h = absurd (omega (arith, ints))
 
-module _ (t : Timing) (s : Schedule) (design : IsDesign t.flat) (timing : IsTiming t.flat t.order t.pairs) (range : IsInRange s) (phases : length s.starts ≡ phase_count t) where
+module _ (t : Timing) (s : Schedule) (fits : IsClocked t s) where
   module _ (d : List ℤ) (exact : AreExact t s d) where
     -- A latch departs when it opens, or when the data of some pair is there.
     attained : (l : ℕ) → l < element_count t → (element_at t l).flop ≡ false →
@@ -102,10 +102,10 @@ module _ (t : Timing) (s : Schedule) (design : IsDesign t.flat) (timing : IsTimi
       down-latch : (l : ℕ) → l < element_count t → (element_at t l).flop ≡ false → departure down l ≡ late_departure t s down l
       down-latch l h e =
           let test : Pair → Bool = λ p. p.to == l in
-          let w = opening-within t s design timing range phases l h in
+          let w = opening-within t s fits l h in
           let opens : late_opening t s l ≤ℤ pos low = let b = w.1 in omega (arith, ints) in
           greater-is (late_arrival t s down) test t.pairs no_pair (late_opening t s l) (departure down l)
-          (start-kept low 400000000000000 (late_opening t s l) (departure d l) (departure down l) opens (down-is l h) (rw (start-latch t s l e) at (exact-starts t s d exact timing.extremes.each l h)))
+          (start-kept low 400000000000000 (late_opening t s l) (departure d l) (departure down l) opens (down-is l h) (rw (start-latch t s l e) at (exact-starts t s d exact fits.timing.extremes.each l h)))
           (λ n k to. kept n k (eqb-true _ _ to))
           (⊎_elim
           (λ a. inl (start-same low 400000000000000 (late_opening t s l) (departure d l) (departure down l) opens (down-is l h) a))
@@ -115,18 +115,18 @@ module _ (t : Timing) (s : Schedule) (design : IsDesign t.flat) (timing : IsTimi
         where
           kept : (n : ℕ) → n < length t.pairs → (pair_at t n).to ≡ l → late_arrival t s down (pair_at t n) ≤ℤ departure down l
           kept n k to =
-              let ends = pair_ends t s design timing range phases n k in
+              let ends = pair_ends t s fits n k in
               let P : ℕ → Type 0 = λ m. late_arrival t s d (pair_at t n) ≤ℤ departure d m in
-              let a = subst P to (arrival-at_most t s d exact timing.extremes.each n no_pair k (ap (λ (m : ℕ). (element_at t m).flop) to ∙ e)) in
+              let a = subst P to (arrival-at_most t s d exact fits.timing.extremes.each n no_pair k (ap (λ (m : ℕ). (element_at t m).flop) to ∙ e)) in
               rw (arrival-is t s down (pair_at t n))
               (arrival-kept low 400000000000000 (departure d (pair_at t n).from) (departure down (pair_at t n).from) (departure d l) (departure down l) (late_travel t s (pair_at t n))
-              (travel-within t s design timing range phases n k) (down-is (pair_at t n).from ends.from) (down-is l h) (rw (arrival-is t s d (pair_at t n)) at a))
+              (travel-within t s fits n k) (down-is (pair_at t n).from ends.from) (down-is l h) (rw (arrival-is t s d (pair_at t n)) at a))
 
           brought : (n : ℕ) → n < length t.pairs → (pair_at t n).to ≡ l → departure d l ≡ late_arrival t s d (pair_at t n) → departure down l ≡ late_arrival t s down (pair_at t n)
           brought n k to is =
-              let ends = pair_ends t s design timing range phases n k in
+              let ends = pair_ends t s fits n k in
               arrival-brought low 400000000000000 (departure d (pair_at t n).from) (departure down (pair_at t n).from) (departure d l) (departure down l) (late_travel t s (pair_at t n))
-              (travel-within t s design timing range phases n k) (down-is (pair_at t n).from ends.from) (down-is l h) (is ∙ arrival-is t s d (pair_at t n))
+              (travel-within t s fits n k) (down-is (pair_at t n).from ends.from) (down-is l h) (is ∙ arrival-is t s d (pair_at t n))
               ∙ sym (arrival-is t s down (pair_at t n))
 
       down-exact : AreExact t s down
@@ -142,8 +142,6 @@ module _ (t : Timing) (s : Schedule) (design : IsDesign t.flat) (timing : IsTimi
   pub late-within : (d : List ℤ) → AreLate t s d → (l : ℕ) → l < element_count t → IsWithin 900100000000000000 (departure d l)
   late-within d late l h =
       let top = all_below (departure d) 100000000000000 400000000000000 (element_count t) (λ low e gap. stays d late.exact low e gap late.least) l h in
-      let few = design.elements in
-      let low = exact-starts t s d late.exact timing.extremes.each l h in
-      let start = start-within t s design timing range phases l h in
-      let start0 = start.0 in
+      let low = exact-starts t s d late.exact fits.timing.extremes.each l h in
+      let start = start-within t s fits l h in
       (omega (arith, ints), omega (arith, ints))

@@ -1,9 +1,10 @@
+-- least numbers: one more, which item has them, and of greater ones
 use Rattle.std.proofs.Common.{◌≡◌, ℕ, suc, ◌<◌, ℤ, ◌≤ℤ◌, Bool, true, false, cond, List, [], ◌∷◌, ◌++◌, length, get_or, map, arith, refl, ap, ◌∙◌, Option, Some, None, ◌⊎◌, inl, inr, ⊎_elim}
 use Rattle.std.proofs.lemmas.Int.{ints, clamps, by_lt_z}
 use Rattle.std.specs.List.{filter}
 use Rattle.std.specs.Int.{int_min}
 use Rattle.mintc_timing.specs.Extremes.{lesser_of, least_of, greater_of}
-use Rattle.mintc_departure.specs.Rounds.{IsArrival, IsFirst}
+use Rattle.mintc_departure.specs.Rounds.{IsArrivalSum, IsFirst}
 
 -- one more number at the end
 pub least_of-push : (xs : List ℤ) (y : ℤ) → least_of (xs ++ y ∷ []) ≡ Some (lesser_of y (least_of xs))
@@ -76,13 +77,7 @@ module _ {X : Type 0} (f : X → ℤ) (test : X → Bool) (d : X) where
   least-some (x ∷ xs) = some-step x xs (test x) refl (least-some xs)
 
 -- an arrival more
-pub first-more : (o : Option ℤ) (v y : ℤ) → IsArrival y → IsFirst o v → IsFirst (Some (lesser_of y o)) (int_min y v)
+pub first-more : (o : Option ℤ) (v y : ℤ) → IsArrivalSum y → IsFirst o v → IsFirst (Some (lesser_of y o)) (int_min y v)
 first-more None v y r is = let a = r.0 in let b = r.1 in (omega (arith, ints, clamps), r)
 first-more (Some a) v y r is =
-    let e = is.0 in
-    let p = is.1 in
-    let p0 = p.0 in
-    let p1 = p.1 in
-    let r0 = r.0 in
-    let r1 = r.1 in
     (omega (arith, ints, clamps), (omega (arith, ints, clamps), omega (arith, ints, clamps)))

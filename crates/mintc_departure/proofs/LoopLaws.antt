@@ -1,4 +1,5 @@
-use Rattle.std.proofs.Common.{◌≡◌, ℕ, zero, suc, ◌-◌, ◌<◌, ◌≢◌, ℤ, pos, ◌+ℤ◌, ◌≤ℤ◌, ◌<ℤ◌, Bool, true, false, List, [], ◌∷◌, length, get_or, arith, refl, sym, ap, ◌∙◌, ⊎_elim, subst, IsFalse}
+-- a closed chain of positive weight is a loop of pairs of latches
+use Rattle.std.proofs.Common.{◌≡◌, ℕ, zero, suc, ◌-◌, ◌<◌, ◌≢◌, ℤ, pos, ◌+ℤ◌, ◌≤ℤ◌, ◌<ℤ◌, true, false, List, [], ◌∷◌, length, get_or, arith, refl, sym, ap, ◌∙◌, ⊎_elim, subst, IsFalse}
 use Rattle.std.proofs.lemmas.Int.{ints}
 use Rattle.std.proofs.lemmas.Bool.{cases_Bool}
 use Rattle.std.proofs.lemmas.List.Elements.{All-nil, All-cons, All-head, All-tail}
@@ -61,7 +62,6 @@ module _ (t : Timing) (s : Schedule) where
       let to : (pair_at t n).to ≡ v = sym (to_is t s n k) ∙ rest.0 in
       let flop : (element_at t (pair_at t n).to).flop ≡ true = ap (λ (m : ℕ). (element_at t m).flop) to ∙ e in
       let w = flop-weight t s n k flop in
-      let r = rest.1 in
       (sym h.1 ∙ flop-from t s n k flop ∙ to, omega (arith, ints))
 
   -- A walk from a latch meets latches alone.
@@ -71,14 +71,11 @@ module _ (t : Timing) (s : Schedule) where
       let k : n < length t.pairs = rw (arcs-count t s) at h.0 in
       let latch : (element_at t (pair_at t n).to).flop ≡ false =
       ⊎_elim
-      (λ flop. absurd (not_both _ flop (ap (λ (m : ℕ). (element_at t m).flop) (sym (flop-from t s n k flop) ∙ h.1) ∙ e)))
+      (λ flop. let b = ap (λ (m : ℕ). (element_at t m).flop) (sym (flop-from t s n k flop) ∙ h.1) ∙ e in absurd (cc))
       (λ latch. latch)
       (cases_Bool (element_at t (pair_at t n).to).flop) in
       All-cons (λ n. (element_at t (pair_at t n).to).flop ≡ false) n es latch
       (walk_from_latch es (arc_at (arcs_of t s) n).to v h.2 (ap (λ (m : ℕ). (element_at t m).flop) (to_is t s n k) ∙ latch))
-    where
-      not_both : (b : Bool) → b ≡ true → b ≡ false → ⊥
-      not_both b g h = cc
 
   pairs_exist : (es : List ℕ) (u v : ℕ) → Leads (arcs_of t s) u es v → All (λ n. n < length t.pairs) es
   pairs_exist [] u v h = All-nil (λ n. n < length t.pairs)

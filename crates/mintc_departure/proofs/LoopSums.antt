@@ -1,3 +1,4 @@
+-- the sum round a loop, which has few pairs
 use Rattle.std.proofs.Common.{◌≡◌, ◌≢◌, ℕ, ◌+◌, ◌<◌, ◌≤◌, ℤ, ◌+ℤ◌, ◌*◌, List, [], ◌∷◌, length, get_or, take, map, arith, sym, ap, ◌∙◌, SFits, w64, to_z, of_z}
 use Rattle.std.specs.List.{All, AllPairs}
 use Rattle.std.proofs.lemmas.Int.{ints, to_z-of_z}

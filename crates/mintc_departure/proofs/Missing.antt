@@ -1,9 +1,11 @@
+-- by how much outputs are early, which falls with each round
 use Rattle.std.proofs.Common.{◌≡◌, ◌≢◌, ℕ, zero, suc, ◌+◌, ◌<◌, ◌≤◌, ℤ, pos, negsuc, ◌+ℤ◌, ◌-ℤ◌, ◌*ℤ◌, ◌≤ℤ◌, ◌<ℤ◌, List, arith, sym, ◌∙◌, ⊎_elim}
 use Rattle.std.proofs.lemmas.Int.{ints, by_lt_z}
 use Rattle.mintc_timing.specs.declared.clocking.Schedule.{Schedule}
 use Rattle.mintc_timing.specs.Design.{Timing, element_at, element_count}
 use Rattle.mintc_timing.specs.Departures.{departure, early_departure}
 use Rattle.mintc_departure.specs.Rounds.{AreRising}
+use Rattle.mintc_departure.proofs.EarlyLaws.{IsRound}
 use Rattle.mintc_departure.proofs.Sizes.{below_or_not}
 
 -- a number that is not negative, and 0 for any other
@@ -61,7 +63,7 @@ module _ (t : Timing) (s : Schedule) (late d e : List ℤ) where
       (below_or_not j n)
 
 -- A round that changes something leaves less to rise.
-pub round-falls : (t : Timing) (s : Schedule) (late d e : List ℤ) → AreRising t s late d → AreRising t s late e → ((l : ℕ) → l < element_count t → departure e l ≡ early_departure t s d l) →
+pub round-falls : (t : Timing) (s : Schedule) (late d e : List ℤ) → AreRising t s late d → AreRising t s late e → IsRound t s d e →
     (l : ℕ) × (l < element_count t) × (early_departure t s d l ≢ departure d l) → missing t s late e (element_count t) < missing t s late d (element_count t)
 round-falls t s late d e old new round changed =
     let j = changed.0 in

@@ -1,3 +1,4 @@
+-- the greatest walks of the network are the late departures
 use Rattle.std.proofs.Common.{◌≡◌, ℕ, ◌<◌, ◌^◌, ℤ, pos, negsuc, ◌+ℤ◌, ◌≤ℤ◌, ◌==◌, Bool, true, false, cond, List, [], length, get_or, map, arith, refl, sym, ap, ◌∙◌, ◌⊎◌, inl, inr, ⊎_elim, eq-eqb, Option, subst}
 use Rattle.std.proofs.lemmas.Int.{ints}
 use Rattle.std.proofs.lemmas.Bool.{cases_Bool, eqb-true}
@@ -9,15 +10,14 @@ use Rattle.mintc_walks.specs.Walks.{arc_at, value_at, IsStart, IsReached}
 use Rattle.mintc_walks.specs.Answers.{Meets, HasGreatest}
 use Rattle.mintc_timing.specs.declared.parts.Pair.{Pair}
 use Rattle.mintc_timing.specs.declared.clocking.Schedule.{Schedule}
-use Rattle.mintc_timing.specs.Design.{Timing, element_at, element_count, pair_at, phase_count, no_pair}
+use Rattle.mintc_timing.specs.Design.{Timing, element_at, element_count, pair_at, no_pair}
 use Rattle.mintc_timing.specs.Departures.{departure, late_arrival, late_arrivals, late_opening, AreExact, AreLate}
 use Rattle.mintc_timing.specs.Extremes.{greater_of, greatest_of}
-use Rattle.mintc_timing.specs.Limits.{IsDesign, IsInRange}
-use Rattle.mintc_timing.specs.Order.{IsTiming}
 use Rattle.mintc_timing.specs.Paths.{HasExtremes}
 use Rattle.mintc_timing.proofs.DepartureLaws.{late_departure-latch, late_departure-flop}
 use Rattle.mintc_timing.proofs.ExtremesLaws.{greatest_is, greater-least, greater-bound, greater-attained}
 use Rattle.mintc_timing.proofs.Loops.{arrival-at_most}
+use Rattle.mintc_departure.specs.Clocked.{IsClocked}
 use Rattle.mintc_departure.specs.Networks.{late_start_of, late_travel, arc_of, arcs_of}
 use Rattle.mintc_departure.proofs.Sizes.{pair_ends, start-within, weight-within}
 
@@ -102,12 +102,12 @@ module _ (t : Timing) (s : Schedule) where
         (λ e. rw (start-latch l e, is, late_departure-latch t s d l e) (greater-least (late_arrival t s d) (λ p. p.to == l) (late_opening t s l) (greatest_of (late_arrivals t s d l))))
         (cases_Bool (element_at t l).flop)
 
-module _ (t : Timing) (s : Schedule) (design : IsDesign t.flat) (timing : IsTiming t.flat t.order t.pairs) (range : IsInRange s) (phases : length s.starts ≡ phase_count t) where
+module _ (t : Timing) (s : Schedule) (fits : IsClocked t s) where
   pub arcs-ordinary : AreOrdinary (element_count t) (arcs_of t s)
   arcs-ordinary n h' =
       let h : n < length t.pairs = rw (arcs-count t s) at h' in
-      let ends = pair_ends t s design timing range phases n h in
-      let w = weight-within t s design timing range phases n h in
+      let ends = pair_ends t s fits n h in
+      let w = weight-within t s fits n h in
       let wide : IsWithin (2 ^ 80) (arc_of t s (pair_at t n)).weight = let a = w.0 in let b = w.1 in (omega (arith, ints), omega (arith, ints)) in
       let from : (arc_of t s (pair_at t n)).from < element_count t = ⊎_elim (λ e. rw e ends.to) (λ e. rw e ends.from) (cases_Bool (element_at t (pair_at t n).to).flop) in
       rw (arc_is t s n h) (from, ends.to, wide)
@@ -116,12 +116,12 @@ module _ (t : Timing) (s : Schedule) (design : IsDesign t.flat) (timing : IsTimi
     pub starts-ordinary : AreBounded (2 ^ 80) starts
     starts-ordinary v h =
         let h' : v < element_count t = rw count at h in
-        let w = start-within t s design timing range phases v h' in
+        let w = start-within t s fits v h' in
         rw (each v h') (let a = w.0 in let b = w.1 in (omega (arith, ints), λ r. (omega (arith, ints), omega (arith, ints))))
 
     pub is_start : (l : ℕ) → l < element_count t → IsStart starts l
     is_start l h =
-        let w = start-within t s design timing range phases l h in
+        let w = start-within t s fits l h in
         (rw count h, rw (each l h) (let a = w.0 in let b = w.1 in omega (arith, ints)))
 
     module _ (values : List ℤ) (same : length values ≡ length starts) (g : HasGreatest (arcs_of t s) starts values) where
@@ -149,7 +149,7 @@ module _ (t : Timing) (s : Schedule) (design : IsDesign t.flat) (timing : IsTimi
 
       met : (n : ℕ) → n < length t.pairs → (element_at t (pair_at t n).to).flop ≡ false → late_arrival t s values (pair_at t n) ≤ℤ value_at values (pair_at t n).to
       met n h latch =
-          let ends = pair_ends t s design timing range phases n h in
+          let ends = pair_ends t s fits n h in
           let from : IsReached values (arc_at (arcs_of t s) n).from = rw (latch-from t s n h latch) (reached (pair_at t n).from ends.from) in
           let m = (g.met n (rw (arcs-count t s) h) from).1 in
           rw (arrival-is t s values (pair_at t n)) (rw (latch-from t s n h latch, latch-weight t s n h latch, to_is t s n h) at m)
@@ -185,7 +185,7 @@ module _ (t : Timing) (s : Schedule) (design : IsDesign t.flat) (timing : IsTimi
               (cases_Bool (element_at t l).flop);
         };
         least = λ d exact l h.
-            g.least (departure d) (exact-meets t s d exact timing.extremes.each)
-            (λ u start. let k : u < element_count t = rw count at start.0 in rw (each u k) (exact-starts t s d exact timing.extremes.each u k))
+            g.least (departure d) (exact-meets t s d exact fits.timing.extremes.each)
+            (λ u start. let k : u < element_count t = rw count at start.0 in rw (each u k) (exact-starts t s d exact fits.timing.extremes.each u k))
             l (rw count h) (reached l h);
       }

@@ -1,7 +1,8 @@
+-- a schedule breaks nothing exactly where it is right and keeps every hold
 use Rattle.std.proofs.Common.{◌≡◌, ℕ, ◌+◌, ◌-◌, ◌<◌, ◌≤◌, ℤ, pos, ◌≤ℤ◌, ◌+ℤ◌, ◌-ℤ◌, ◌*ℤ◌, Bool, true, false, List, [], ◌∷◌, ◌++◌, map, Option, Some, None, IfSome, MatchBool, IsTrue, ◌↔◌, inl, inr, arith, refl, sym, ◌∙◌, subst, option_map}
 use Rattle.std.proofs.lemmas.Int.{ints, clamps}
 use Rattle.std.specs.Int.{int_max}
-use Rattle.std.specs.List.{All, enumerate_from, filter, filter_map, range_with_len}
+use Rattle.std.specs.List.{All, enumerate_from, filter_map, range_with_len}
 use Rattle.std.proofs.lemmas.List.Elements.{All-nil, All-cons, All-head, All-tail}
 use Rattle.mintc_timing.specs.declared.parts.Bound.{Bound}
 use Rattle.mintc_timing.specs.declared.parts.Pair.{Pair}
@@ -18,23 +19,32 @@ use Rattle.mintc_timing.specs.Violations.{check, failed, phases_of, elements_of,
 use Rattle.mintc_timing.proofs.AmountLaws.{setups_have_amounts_lem, holds_have_amounts_lem}
 use Rattle.mintc_timing.proofs.DeterminedLaws.{early_are_determined_lem, late_are_determined_lem}
 use Rattle.mintc_timing.proofs.Loops.{no_loop}
-use Rattle.mintc_departure.specs.Laws.{InRangeIsOfPhases, IsOfPhases, IsPass, PassIsRightWithLate, PassMeansRight}
+use Rattle.mintc_departure.specs.Checks.{apart_check, bound_check, fed_checks}
+use Rattle.mintc_departure.specs.Laws.{IsOfPhases, IsPass, PassIsRightWithLate, PassMeansRight}
 use Rattle.mintc_departure.proofs.EarlyLaws.{everywhere}
 use Rattle.mintc_departure.proofs.Greater.{greatest-mono}
-use Rattle.mintc_departure.proofs.KeptLaws.{IsKept, moved, nil-right, kept-append, kept-map, kept-flat, kept-tested, kept-optional, range-each, each-range}
+use Rattle.mintc_departure.proofs.KeptLaws.{IsKept, moved, nil-right, kept-cons, kept-append, kept-map, kept-flat, kept-tested, kept-optional, on_range}
 use Rattle.mintc_departure.proofs.Lesser.{IsNoLater}
 use Rattle.mintc_departure.proofs.NetworkLaws.{arrival-is}
 
 -- the checks of bounds, whatever their numbers
-bounds-kept : (s : Schedule) (n : ℕ) (bounds : List Bound) →
-    All (λ (b : ℕ × Bound). IsKept (check (broken.Bound b.0) (time_of s b.1.from +ℤ b.1.gap *ℤ s.den -ℤ pos b.1.cycles *ℤ s.cycle -ℤ time_of s b.1.to))) (enumerate_from n bounds) ↔ All (KeepsBound s) bounds
-bounds-kept s n [] = ((λ h. All-nil (KeepsBound s)), (λ h. All-nil (λ (b : ℕ × Bound). IsKept (check (broken.Bound b.0) (time_of s b.1.from +ℤ b.1.gap *ℤ s.den -ℤ pos b.1.cycles *ℤ s.cycle -ℤ time_of s b.1.to)))))
+bounds-kept : (s : Schedule) (n : ℕ) (bounds : List Bound) → (failed (map (bound_check s) (enumerate_from n bounds)) ≡ []) ↔ All (KeepsBound s) bounds
+bounds-kept s n [] = ((λ e. All-nil (KeepsBound s)), (λ h. refl))
 bounds-kept s n (b ∷ bounds) =
-    let Kept : ℕ × Bound → Type 0 = λ (b : ℕ × Bound). IsKept (check (broken.Bound b.0) (time_of s b.1.from +ℤ b.1.gap *ℤ s.den -ℤ pos b.1.cycles *ℤ s.cycle -ℤ time_of s b.1.to)) in
+    let first = kept-cons (bound_check s (n, b)) (map (bound_check s) (enumerate_from (n + 1) bounds)) in
     let one = moved (time_of s b.from +ℤ b.gap *ℤ s.den -ℤ pos b.cycles *ℤ s.cycle) (time_of s b.to) in
     let rest = bounds-kept s (n + 1) bounds in (
-      (λ h. All-cons (KeepsBound s) b bounds (one.0 (All-head Kept (n, b) (enumerate_from (n + 1) bounds) h)) (rest.0 (All-tail Kept (n, b) (enumerate_from (n + 1) bounds) h))),
-      (λ h. All-cons Kept (n, b) (enumerate_from (n + 1) bounds) (one.1 (All-head (KeepsBound s) b bounds h)) (rest.1 (All-tail (KeepsBound s) b bounds h))),
+      (λ e. let h = first.0 e in All-cons (KeepsBound s) b bounds (one.0 h.0) (rest.0 h.1)),
+      (λ h. first.1 (one.1 (All-head (KeepsBound s) b bounds h), rest.1 (All-tail (KeepsBound s) b bounds h))),
+    )
+
+-- the checks of a rule at each of the first n phases
+rule-kept : (rule : ℕ → Broken) (x y : ℕ → ℤ) (n : ℕ) → (failed (map (λ p. check (rule p) (x p -ℤ y p)) (range_with_len 1 n)) ≡ []) ↔ ((p : ℕ) → 1 ≤ p → p ≤ n → x p ≤ℤ y p)
+rule-kept rule x y n =
+    let each = kept-map (λ p. check (rule p) (x p -ℤ y p)) (range_with_len 1 n) in
+    let all = on_range (λ p. IsKept (check (rule p) (x p -ℤ y p))) 1 n in (
+      (λ e p low high. (moved (x p) (y p)).0 (all.0 (each.0 e) p low (omega arith))),
+      (λ h. each.1 (all.1 (λ p low high. (moved (x p) (y p)).1 (h p low (omega arith))))),
     )
 
 module _ (t : Timing) (s : Schedule) where
@@ -47,73 +57,41 @@ module _ (t : Timing) (s : Schedule) where
     apart : (i : ℕ) → 1 ≤ i → i ≤ phase_count t → EachPhase t (KeepsApart t s i)
     bounds : All (KeepsBound s) t.flat.bounds
 
-  abbrev apart_check : ℕ → ℕ → Violation
-  apart_check i j = check (broken.Apart i j) (end_of s j -ℤ pos (crosses_of j i) *ℤ s.cycle -ℤ start_of s i)
-
-  phases-kept : (f : ℕ → Violation) (n : ℕ) → (failed (map f (range_with_len 1 n)) ≡ []) ↔ ((p : ℕ) → 1 ≤ p → p ≤ n → IsKept (f p))
-  phases-kept f n =
-      let each = kept-map f (range_with_len 1 n) in (
-        (λ e p low high. range-each (λ k. IsKept (f k)) 1 n (each.0 e) p low (omega arith)),
-        (λ h. each.1 (each-range (λ k. IsKept (f k)) 1 n (λ p low high. h p low (omega arith)))),
-      )
-
   aparts-kept : (failed (apart_checks t s) ≡ []) ↔ ((i : ℕ) → 1 ≤ i → i ≤ phase_count t → EachPhase t (KeepsApart t s i))
   aparts-kept =
-      let n : ℕ = phase_count t in
-      let list : ℕ → List Violation = λ i. map (apart_check i) (filter (feeds_of t i) (phases_of t)) in
-      let all = kept-flat list (phases_of t) in
-      let one = λ (i : ℕ). kept-tested (apart_check i) (feeds_of t i) (phases_of t) in
+      let all = kept-flat (fed_checks t s) (phases_of t) in
+      let each = on_range (λ i. failed (fed_checks t s i) ≡ []) 1 (phase_count t) in
+      let one = λ (i : ℕ). kept-tested (apart_check s i) (feeds_of t i) (phases_of t) in
+      let some = λ (i : ℕ). on_range (λ j. IsTrue (feeds_of t i j) → IsKept (apart_check s i j)) 1 (phase_count t) in
       let move = λ (i j : ℕ). moved (end_of s j -ℤ pos (crosses_of j i) *ℤ s.cycle) (start_of s i) in (
-        (λ e i low high j low' high' fed.
-            (move i j).0 (range-each (λ k. IsTrue (feeds_of t i k) → IsKept (apart_check i k)) 1 n ((one i).0 (range-each (λ k. failed (list k) ≡ []) 1 n (all.0 e) i low (omega arith))) j low' (omega arith) fed)),
-        (λ h. all.1 (each-range (λ k. failed (list k) ≡ []) 1 n (λ i low high. (one i).1 (each-range (λ k. IsTrue (feeds_of t i k) → IsKept (apart_check i k)) 1 n (λ j low' high' fed. (move i j).1 (h i low (omega arith) j low' (omega arith) fed)))))),
+        (λ e i low high j low' high' fed. (move i j).0 ((some i).0 ((one i).0 (each.0 (all.0 e) i low (omega arith))) j low' (omega arith) fed)),
+        (λ h. all.1 (each.1 (λ i low high. (one i).1 ((some i).1 (λ j low' high' fed. (move i j).1 (h i low (omega arith) j low' (omega arith) fed)))))),
       )
 
-  bounds-none : (failed (bound_checks t s) ≡ []) ↔ All (KeepsBound s) t.flat.bounds
-  bounds-none =
-      let each = kept-map (λ (b : ℕ × Bound). check (broken.Bound b.0) (time_of s b.1.from +ℤ b.1.gap *ℤ s.den -ℤ pos b.1.cycles *ℤ s.cycle -ℤ time_of s b.1.to)) (enumerate_from 0 t.flat.bounds) in
-      let all = bounds-kept s 0 t.flat.bounds in
-      ((λ e. all.0 (each.0 e)), (λ h. each.1 (all.1 h)))
-
-  abbrev two : List Violation
-  two = cycle_checks t s ++ order_checks t s
-
-  abbrev three : List Violation
-  three = two ++ span_checks t s
-
-  abbrev four : List Violation
-  four = three ++ width_checks t s
-
-  abbrev five : List Violation
-  five = four ++ apart_checks t s
-
-  keeps-from_none : failed (clock_checks t s) ≡ [] → Keeps
-  keeps-from_none e =
-      let f = (kept-append five (bound_checks t s)).0 e in
-      let d = (kept-append four (apart_checks t s)).0 f.0 in
-      let c = (kept-append three (width_checks t s)).0 d.0 in
-      let b = (kept-append two (span_checks t s)).0 c.0 in
-      let a = (kept-append (cycle_checks t s) (order_checks t s)).0 b.0 in
-      record {
-        cycle = λ p low high. (moved (start_of s p) s.cycle).0 ((phases-kept (λ k. check (broken.Cycle k) (start_of s k -ℤ s.cycle)) (phase_count t)).0 a.0 p low high);
-        order = λ p low high. (moved (start_of s p) (start_of s (p + 1))).0 ((phases-kept (λ k. check (broken.Order k) (start_of s k -ℤ start_of s (k + 1))) (phase_count t - 1)).0 a.1 p low (omega arith));
-        span = λ p low high. (moved (width_of s p) s.cycle).0 ((phases-kept (λ k. check (broken.Span k) (width_of s k -ℤ s.cycle)) (phase_count t)).0 b.1 p low high);
-        wide = λ p low high. (moved (least_width t p *ℤ s.den) (width_of s p)).0 ((phases-kept (λ k. check (broken.Width k) (least_width t k *ℤ s.den -ℤ width_of s k)) (phase_count t)).0 c.1 p low high);
-        apart = aparts-kept.0 d.1;
-        bounds = bounds-none.0 f.1;
-      }
-
-  none-from_keeps : Keeps → failed (clock_checks t s) ≡ []
-  none-from_keeps k =
-      let cycles = (phases-kept (λ k. check (broken.Cycle k) (start_of s k -ℤ s.cycle)) (phase_count t)).1 (λ p low high. (moved (start_of s p) s.cycle).1 (k.cycle p low high)) in
-      let orders = (phases-kept (λ k. check (broken.Order k) (start_of s k -ℤ start_of s (k + 1))) (phase_count t - 1)).1 (λ p low high. (moved (start_of s p) (start_of s (p + 1))).1 (k.order p low (omega arith))) in
-      let spans = (phases-kept (λ k. check (broken.Span k) (width_of s k -ℤ s.cycle)) (phase_count t)).1 (λ p low high. (moved (width_of s p) s.cycle).1 (k.span p low high)) in
-      let widths = (phases-kept (λ k. check (broken.Width k) (least_width t k *ℤ s.den -ℤ width_of s k)) (phase_count t)).1 (λ p low high. (moved (least_width t p *ℤ s.den) (width_of s p)).1 (k.wide p low high)) in
-      let a = (kept-append (cycle_checks t s) (order_checks t s)).1 (cycles, orders) in
-      let b = (kept-append two (span_checks t s)).1 (a, spans) in
-      let c = (kept-append three (width_checks t s)).1 (b, widths) in
-      let d = (kept-append four (apart_checks t s)).1 (c, aparts-kept.1 k.apart) in
-      (kept-append five (bound_checks t s)).1 (d, bounds-none.1 k.bounds)
+  clock-kept : (failed (clock_checks t s) ≡ []) ↔ Keeps
+  clock-kept =
+      let n : ℕ = phase_count t in
+      let cycle = rule-kept (λ p. broken.Cycle p) (start_of s) (λ p. s.cycle) n in
+      let order = rule-kept (λ p. broken.Order p) (start_of s) (λ p. start_of s (p + 1)) (n - 1) in
+      let span = rule-kept (λ p. broken.Span p) (width_of s) (λ p. s.cycle) n in
+      let wide = rule-kept (λ p. broken.Width p) (λ p. least_width t p *ℤ s.den) (width_of s) n in
+      let bounds = bounds-kept s 0 t.flat.bounds in
+      let two = kept-append (cycle_checks t s) (order_checks t s) in
+      let three = kept-append (cycle_checks t s ++ order_checks t s) (span_checks t s) in
+      let four = kept-append (cycle_checks t s ++ order_checks t s ++ span_checks t s) (width_checks t s) in
+      let five = kept-append (cycle_checks t s ++ order_checks t s ++ span_checks t s ++ width_checks t s) (apart_checks t s) in
+      let six = kept-append (cycle_checks t s ++ order_checks t s ++ span_checks t s ++ width_checks t s ++ apart_checks t s) (bound_checks t s) in (
+        (λ e.
+            let f = six.0 e in
+            let d = five.0 f.0 in
+            let c = four.0 d.0 in
+            let b = three.0 c.0 in
+            let a = two.0 b.0 in
+            record { cycle = cycle.0 a.0; order = λ p low high. order.0 a.1 p low (omega arith); span = span.0 b.1; wide = wide.0 c.1; apart = aparts-kept.0 d.1; bounds = bounds.0 f.1 }),
+        (λ k.
+            let orders = order.1 (λ p low high. k.order p low (omega arith)) in
+            six.1 (five.1 (four.1 (three.1 (two.1 (cycle.1 k.cycle, orders), span.1 k.span), wide.1 k.wide), aparts-kept.1 k.apart), bounds.1 k.bounds)),
+      )
 
   clock-from_keeps : IsOfPhases t s → Keeps → KeepsClock t s
   clock-from_keeps plain k = record {
@@ -142,10 +120,9 @@ module _ (t : Timing) (s : Schedule) where
   elements-kept : (amount : ℕ → Option ℤ) (constraint : ℕ → Broken) →
       (failed (filter_map (λ l. option_map (check (constraint l)) (amount l)) (elements_of t)) ≡ []) ↔ ((l : ℕ) → l < element_count t → IfSome (amount l) (λ x. x ≤ℤ pos 0))
   elements-kept amount constraint =
-      let each = kept-optional constraint amount (elements_of t) in (
-        (λ e l h. range-each (λ k. IfSome (amount k) (λ x. x ≤ℤ pos 0)) 0 (element_count t) (each.0 e) l (omega arith) (omega arith)),
-        (λ h. each.1 (each-range (λ k. IfSome (amount k) (λ x. x ≤ℤ pos 0)) 0 (element_count t) (λ l low high. h l (omega arith)))),
-      )
+      let each = kept-optional constraint amount (elements_of t) in
+      let all = on_range (λ l. IfSome (amount l) (λ x. x ≤ℤ pos 0)) 0 (element_count t) in
+      ((λ e l h. all.0 (each.0 e) l (omega arith) (omega arith)), (λ h. each.1 (all.1 (λ l low high. h l (omega arith)))))
 
   setups-kept : (late : List ℤ) → (failed (setup_checks t s late) ≡ []) ↔ ((l : ℕ) → l < element_count t → KeepsSetup t s late l)
   setups-kept late =
@@ -181,7 +158,7 @@ module _ (t : Timing) (s : Schedule) where
   pass-from_none plain late early are_late are_early e =
       let b = (kept-append (clock_checks t s ++ setup_checks t s late) (hold_checks t s early)).0 e in
       let a = (kept-append (clock_checks t s) (setup_checks t s late)).0 b.0 in
-      let k = keeps-from_none a.0 in (
+      let k = clock-kept.0 a.0 in (
         (late, record { clock = clock-from_keeps plain k; bounds = k.bounds; exact = are_late.exact; setup = (setups-kept late).0 a.1 }),
         (early, are_early, (holds-kept early).0 b.1),
       )
@@ -190,7 +167,7 @@ module _ (t : Timing) (s : Schedule) where
   none-from_pass late early are_late are_early pass =
       let right : IsRight t s pass.0.0 = pass.0.1 in
       let below : (l : ℕ) → departure late l ≤ℤ departure pass.0.0 l = everywhere t s late pass.0.0 are_late.exact.count right.exact.count (are_late.least pass.0.0 right.exact) in
-      let clock = none-from_keeps (keeps-from_clock right.clock right.bounds) in
+      let clock = clock-kept.1 (keeps-from_clock right.clock right.bounds) in
       let setups = (setups-kept late).1 (λ l h. KeepsSetup-mono late pass.0.0 below l (right.setup l h)) in
       let same : pass.1.0 ≡ early = early_are_determined_lem t s pass.1.0 early pass.1.1 are_early in
       let holds = (holds-kept early).1 (λ l h. let P : List ℤ → Type 0 = λ d. KeepsHold t s d l in subst P same (pass.1.2 l h)) in
@@ -208,15 +185,6 @@ pass_means_right_lem t s vs pairs plain (inr h) = (
   (λ e. pass-from_none t s plain h.1.0 h.1.1 h.1.2 h.1.3 (sym h.1.4 ∙ e)),
   (λ pass. h.1.4 ∙ none-from_pass t s h.1.0 h.1.1 h.1.2 h.1.3 pass),
 )
-
-pub in_range_is_of_phases_lem : InRangeIsOfPhases
-in_range_is_of_phases_lem t s range phases = record {
-  den = range.den.0;
-  starts = phases;
-  widths = range.alike ∙ phases;
-  from_zero = λ k d h. (range.starts k d h).0;
-  not_negative = λ k d h. (range.widths k d h).0;
-}
 
 pub pass_is_right_with_late_lem : PassIsRightWithLate
 unfolding pass-from_none

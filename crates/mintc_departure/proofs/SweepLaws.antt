@@ -1,3 +1,4 @@
+-- sweeps over stale elements
 use Rattle.std.proofs.Common.{◌≡◌, ◌≢◌, ℕ, suc, ◌+◌, ◌<◌, ◌≤◌, ◌==◌, ℤ, pos, ◌+ℤ◌, ◌≤ℤ◌, ◌<ℤ◌, Bool, true, false, cond, List, [], ◌∷◌, length, get_or, set, map, arith, refl, sym, ap, ◌∙◌, subst, inl, inr, ⊎_elim, eqb-true, length-set, get_or-set_same, get_or-set_other}
 use Rattle.std.proofs.lemmas.Int.{ints, by_lt_z}
 use Rattle.std.proofs.lemmas.Bool.{cases_eq}
@@ -5,11 +6,10 @@ use Rattle.std.specs.List.{filter}
 use Rattle.mintc_places.specs.Places.{IsIn}
 use Rattle.mintc_timing.specs.declared.parts.Pair.{Pair}
 use Rattle.mintc_timing.specs.declared.clocking.Schedule.{Schedule}
-use Rattle.mintc_timing.specs.Design.{Timing, element_at, element_count, pair_at, phase_count, no_pair}
+use Rattle.mintc_timing.specs.Design.{Timing, element_at, element_count, pair_at, no_pair}
 use Rattle.mintc_timing.specs.Departures.{departure, early_arrival, early_opening, early_departure, AreEarly, AreLate}
 use Rattle.mintc_timing.specs.Extremes.{greater_of, least_of}
-use Rattle.mintc_timing.specs.Limits.{IsDesign, IsInRange}
-use Rattle.mintc_timing.specs.Order.{IsTiming}
+use Rattle.mintc_departure.specs.Clocked.{IsClocked}
 use Rattle.mintc_departure.specs.Rounds.{early_travel, AreRising, AreSwept}
 use Rattle.mintc_departure.proofs.EarlyLaws.{early-arrival-is, rising-part}
 use Rattle.mintc_departure.proofs.Sizes.{below_or_not}
@@ -84,7 +84,7 @@ module _ (t : Timing) (s : Schedule) (late : List ℤ) where
   pub swept-last : (d : List ℤ) (stale : List ℕ) → AreSwept t s late d stale → ((l : ℕ) → l < element_count t → IsIn stale l → ⊥) → AreEarly t s d
   swept-last d stale swept none = record { exact = record { count = swept.rising.count; each = λ l h. swept.met l h (none l h) }; least = swept.rising.least }
 
-module _ (t : Timing) (s : Schedule) (design : IsDesign t.flat) (timing : IsTiming t.flat t.order t.pairs) (range : IsInRange s) (phases : length s.starts ≡ phase_count t)
+module _ (t : Timing) (s : Schedule) (fits : IsClocked t s)
     (late : List ℤ) (are_late : AreLate t s late) where
   -- One that departs later makes those stale that pairs lead to from there.
   pub swept-more : (d e : List ℤ) (n : ℕ) (old mid new : List ℕ) → AreSwept t s late d old → n < element_count t → e ≡ set d n (early_departure t s d n) →
@@ -95,7 +95,7 @@ module _ (t : Timing) (s : Schedule) (design : IsDesign t.flat) (timing : IsTimi
       let few = swept.few in
       let count = new_count ∙ mid_count in
       record {
-        rising = rising-part t s design timing range phases late are_late d e swept.rising (ap length write ∙ length-set d n _ ∙ swept.rising.count)
+        rising = rising-part t s fits late are_late d e swept.rising (ap length write ∙ length-set d n _ ∙ swept.rising.count)
             (λ l h. ⊎_elim (λ is. inl (at_place l is)) (λ ne. inr (elsewhere l ne)) (cases_eq l n));
         met = λ l h out.
             let same = unmoved t s d e n l elsewhere (λ m lt to from. out (subst (λ k. IsIn new k) to (woken m lt from))) in

@@ -1,3 +1,4 @@
+-- what the laws of passes say
 use Rattle.std.specs.Prelude.{◌≡◌, ◌<◌, ℕ, ℤ, pos, ◌≤ℤ◌, List, [], length, All, ◌↔◌}
 use Rattle.mintc_timing.specs.declared.clocking.Schedule.{Schedule}
 use Rattle.mintc_timing.specs.declared.violation.Violation.{Violation}

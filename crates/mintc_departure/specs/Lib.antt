@@ -1,3 +1,5 @@
+pub mod Clocked
+pub mod Checks
 pub mod Networks
 pub mod Settled
 pub mod Rounds

@@ -1,3 +1,4 @@
+-- the network whose greatest walks are the late departures
 use Rattle.std.specs.Prelude.{ℕ, ℤ, pos, negsuc, ◌+ℤ◌, ◌*ℤ◌, if◌then◌else◌, List, map}
 use Rattle.mintc_walks.specs.declared.network.Arc.{Arc}
 use Rattle.mintc_timing.specs.declared.parts.Pair.{Pair}

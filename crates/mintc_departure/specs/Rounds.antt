@@ -1,3 +1,4 @@
+-- the early departures: the sizes of sums, and what rounds and sweeps keep
 use Rattle.std.specs.Prelude.{◌≡◌, ◌<◌, ◌≤◌, ◌^◌, ℕ, ℤ, pos, negsuc, ◌+ℤ◌, ◌*ℤ◌, ◌≤ℤ◌, if◌then◌else◌, List, length, Option, Some, None}
 use Rattle.mintc_timing.specs.declared.parts.Pair.{Pair}
 use Rattle.mintc_timing.specs.declared.clocking.Schedule.{Schedule}
@@ -18,13 +19,13 @@ abbrev pub early_travel : Timing → Schedule → Pair → ℤ
 early_travel t s p = ((element_at t p.from).dq_min +ℤ p.min) *ℤ s.den +ℤ shift_of s (phase_of t p.from) (phase_of t p.to)
 
 -- a departure with the delay of one pair added
-abbrev pub IsArrival : ℤ → Type 0
-IsArrival x = (negsuc 1029999999999999999 ≤ℤ x) × (x ≤ℤ pos 1030000000000000000)
+abbrev pub IsArrivalSum : ℤ → Type 0
+IsArrivalSum x = (negsuc 1029999999999999999 ≤ℤ x) × (x ≤ℤ pos 1030000000000000000)
 
 -- v stands for the earliest arrival, if any comes
 abbrev pub IsFirst : Option ℤ → ℤ → Type 0
 IsFirst None v = v ≡ NEVER
-IsFirst (Some a) v = (v ≡ a) × IsArrival a
+IsFirst (Some a) v = (v ≡ a) × IsArrivalSum a
 
 -- A number for each element, each a sum of few delays.
 pub record AreSums (t : Timing) (d : List ℤ) : Type 0 where

@@ -1,3 +1,4 @@
+-- what the search for late departures leaves
 use Rattle.std.specs.Prelude.{ℤ, pos, negsuc, ◌≤ℤ◌, List, All}
 use Rattle.mintc_constraints.specs.Rooms.{Space}
 use Rattle.mintc_timing.specs.declared.clocking.Schedule.{Schedule}

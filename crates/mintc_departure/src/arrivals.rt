@@ -3,51 +3,40 @@ ghost use Rattle.std.specs.Prelude.{◌≡◌, ◌<◌, ◌≤◌, ℕ, length, 
 ghost use Rattle.std.specs.Int.{int_min};
 ghost use Rattle.mintc_walks.specs.Walks.{value_at};
 ghost use Rattle.mintc_timing.specs.Departures.{early_arrival, early_arrivals};
-ghost use Rattle.mintc_timing.specs.Design.{element_count, pair_at, phase_count};
+ghost use Rattle.mintc_timing.specs.Design.{element_count, pair_at};
 ghost use Rattle.mintc_timing.specs.Extremes.{least_of};
-ghost use Rattle.mintc_timing.specs.Limits.{IsInRange};
-ghost use Rattle.mintc_departure.specs.Rounds.{AreSums, IsArrival, IsFirst};
+ghost use Rattle.mintc_departure.specs.Rounds.{AreSums, IsArrivalSum, IsFirst};
 
-use crate::amounts::early_delay;
+use crate::clocked_system::ClockedSystem;
 use mintc_constraints::Room;
-use mintc_timing::{Pair, Schedule, System};
 
 /// The arrival at an element that no pair leads to: later than any other.
 pub const NEVER: i128 = i128::MAX;
 
 /// When data that leaves the first element of a pair reaches the second one at the earliest.
-pub(crate) fn arrival(
-    system: &System,
-    schedule: &Schedule,
-    departures: &[i64],
-    number: usize,
-) -> i64
-    requires in_range { IsInRange schedule.now }
-    requires phases { length schedule.now.starts ≡ phase_count system.now }
-    requires departures { AreSums system.now departures.now }
-    requires number { number < length system.now.pairs }
-    ensures value { result ≡ early_arrival system.now schedule.now departures.now (pair_at system.now number) }
-    ensures range { IsArrival result }
+pub(crate) fn arrival(clocked: &ClockedSystem<'_>, departures: &[i64], number: usize) -> i64
+    requires departures { AreSums clocked.now.system.now departures.now }
+    requires number { number < length clocked.now.system.now.pairs }
+    ensures value { result ≡ early_arrival clocked.now.system.now clocked.now.schedule.now departures.now (pair_at clocked.now.system.now number) }
+    ensures range { IsArrivalSum result }
 {
-    departures[system.pair(number).from as usize] + early_delay(system, schedule, number)
+    departures[clocked.system.pair(number).from as usize] + clocked.early_delay(number)
 }
 
 /// Lowers the value of a pair's second element to the pair's arrival.
-fn bring(system: &System, schedule: &Schedule, room: &mut Room, number: usize)
-    requires in_range { IsInRange schedule.now }
-    requires phases { length schedule.now.starts ≡ phase_count system.now }
-    requires departures { AreSums system.now room.old.early }
-    requires number { number < length system.now.pairs }
-    requires count { length room.old.values ≡ element_count system.now }
-    ensures inside { (pair_at system.now number).to < element_count system.now }
-    ensures range { IsArrival (early_arrival system.now schedule.now room.old.early (pair_at system.now number)) }
-    ensures value { let pair = pair_at system.now number in room.new ≡ record room.old {
+fn bring(clocked: &ClockedSystem<'_>, room: &mut Room, number: usize)
+    requires departures { AreSums clocked.now.system.now room.old.early }
+    requires number { number < length clocked.now.system.now.pairs }
+    requires count { length room.old.values ≡ element_count clocked.now.system.now }
+    ensures inside { (pair_at clocked.now.system.now number).to < element_count clocked.now.system.now }
+    ensures range { IsArrivalSum (early_arrival clocked.now.system.now clocked.now.schedule.now room.old.early (pair_at clocked.now.system.now number)) }
+    ensures value { let pair = pair_at clocked.now.system.now number in room.new ≡ record room.old {
       values = slice_set room.old.values pair.to
-          (int_min (early_arrival system.now schedule.now room.old.early pair) (value_at room.old.values pair.to));
+          (int_min (early_arrival clocked.now.system.now clocked.now.schedule.now room.old.early pair) (value_at room.old.values pair.to));
     } }
 {
-    let to = system.pair(number).to as usize;
-    let time = i128::from(arrival(system, schedule, room.early(), number));
+    let to = clocked.system.pair(number).to as usize;
+    let time = i128::from(arrival(clocked, room.early(), number));
     let earliest = i128::min(time, room.values()[to]);
     room.set_values(to, earliest);
 }
@@ -66,18 +55,15 @@ pub(crate) fn fill(room: &mut Room, count: usize, item: i128)
 }
 
 /// Makes the values the earliest arrivals at the elements, by the room's early departures.
-pub(crate) fn gather(system: &System, pairs: &[Pair], schedule: &Schedule, room: &mut Room)
-    requires in_range { IsInRange schedule.now }
-    requires phases { length schedule.now.starts ≡ phase_count system.now }
-    requires pairs { pairs.now ≡ system.now.pairs }
-    requires nodes { element_count system.now ≤ room.old.nodes }
-    requires departures { AreSums system.now room.old.early }
+pub(crate) fn gather(clocked: &ClockedSystem<'_>, room: &mut Room)
+    requires nodes { element_count clocked.now.system.now ≤ room.old.nodes }
+    requires departures { AreSums clocked.now.system.now room.old.early }
     ensures kept { room.new ≡ record room.old { values = room.new.values } }
-    ensures count { length room.new.values ≡ element_count system.now }
-    ensures each { (l : ℕ) → l < element_count system.now → IsFirst (least_of (early_arrivals system.now schedule.now room.old.early l)) (value_at room.new.values l) }
+    ensures count { length room.new.values ≡ element_count clocked.now.system.now }
+    ensures each { (l : ℕ) → l < element_count clocked.now.system.now → IsFirst (least_of (early_arrivals clocked.now.system.now clocked.now.schedule.now room.old.early l)) (value_at room.new.values l) }
 {
-    fill(room, system.flat().elements().len(), NEVER);
-    for number in 0..pairs.len() {
-        bring(system, schedule, room, number);
+    fill(room, clocked.count(), NEVER);
+    for number in 0..clocked.system.pairs().len() {
+        bring(clocked, room, number);
     }
 }

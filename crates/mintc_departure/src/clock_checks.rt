@@ -1,16 +1,18 @@
 //! The list of what a schedule breaks of the clock and the bounds.
-ghost use Rattle.std.specs.Prelude.{◌≡◌, ◌+◌, ◌-◌, ◌*◌, ◌<◌, ◌++◌, ◌∷◌, [], ℕ, pos, ◌-ℤ◌, ◌*ℤ◌, if◌then◌else◌, map, false, OnOk, length, slice_index_or};
-ghost use Rattle.std.specs.List.{filter};
-ghost use Rattle.mintc_timing.specs.Clocking.{crosses_of, end_of, feeds_of, start_of};
+ghost use Rattle.std.specs.Prelude.{◌≡◌, ◌+◌, ◌-◌, ◌*◌, ◌<◌, ◌≤◌, ◌++◌, ◌∷◌, [], ℕ, if◌then◌else◌, map, false, OnOk, length, slice_index_or};
+ghost use Rattle.std.specs.List.{range_with_len};
+ghost use Rattle.mintc_timing.specs.Clocking.{feeds_of};
 ghost use Rattle.mintc_timing.specs.Design.{phase_count};
-ghost use Rattle.mintc_timing.specs.Limits.{IsInRange, IsPhase};
-ghost use Rattle.mintc_timing.specs.Violations.{check, failed, phases_of, cycle_checks, order_checks, span_checks, width_checks, apart_checks, bound_checks, clock_checks};
+ghost use Rattle.mintc_timing.specs.Limits.{IsPhase};
+ghost use Rattle.mintc_timing.specs.Violations.{check, failed, apart_checks, bound_checks, clock_checks};
+ghost use Rattle.mintc_departure.specs.Checks.{fed_checks, phase_check};
 
+use crate::clocked_system::ClockedSystem;
 use mintc_demands::{
     apart_excess, bound_excess, cycle_excess, order_excess, span_excess, width_excess,
 };
 use mintc_text::OutOfMemory;
-use mintc_timing::{Broken, Schedule, System, Violation, feeds};
+use mintc_timing::{Broken, Violation, feeds};
 
 /// Appends a constraint with its amount, if that is above 0.
 pub(crate) fn judge(
@@ -29,86 +31,69 @@ pub(crate) fn judge(
     Ok(())
 }
 
-/// Appends the phases that start after the cycle.
-fn judge_cycles(
-    system: &System,
-    schedule: &Schedule,
+/// What is asked of each phase by itself, or with the next one.
+#[derive(Clone, Copy)]
+pub(crate) enum PhaseRule {
+    /// It starts within the cycle.
+    Cycle,
+    /// It starts no later than the next one.
+    Order,
+    /// It is no wider than the cycle.
+    Span,
+    /// It is as wide as its elements ask.
+    Width,
+}
+
+/// Appends a phase, if it breaks a rule.
+fn judge_phase(
+    clocked: &ClockedSystem<'_>,
+    rule: PhaseRule,
+    phase: u32,
     violations: &mut Vec<Violation>,
 ) -> Result<(), OutOfMemory>
-    requires in_range { IsInRange schedule.now }
-    requires phases { length schedule.now.starts ≡ phase_count system.now }
-    ensures { OnOk result (violations.new.items ≡ violations.old.items ++ failed (cycle_checks system.now schedule.now)) }
+    requires phase { IsPhase (phase_count clocked.now.system.now) phase }
+    requires next { rule ≡ PhaseRule.Order → phase < phase_count clocked.now.system.now }
+    ensures { OnOk result (violations.new.items ≡ violations.old.items ++ failed (phase_check clocked.now.system.now clocked.now.schedule.now rule phase ∷ [])) }
 {
-    for index in 0..system.flat().phases().items().len() {
-        let phase = index as u32 + 1;
-        judge(
+    let schedule = clocked.schedule;
+    let flat = clocked.system.flat();
+    match rule {
+        PhaseRule::Cycle => judge(
             violations,
             Broken::Cycle { phase },
             cycle_excess(schedule, phase),
-        )?;
-    }
-    Ok(())
-}
-
-/// Appends the phases that start after the next one.
-fn judge_orders(
-    system: &System,
-    schedule: &Schedule,
-    violations: &mut Vec<Violation>,
-) -> Result<(), OutOfMemory>
-    requires in_range { IsInRange schedule.now }
-    requires phases { length schedule.now.starts ≡ phase_count system.now }
-    ensures { OnOk result (violations.new.items ≡ violations.old.items ++ failed (order_checks system.now schedule.now)) }
-{
-    for index in 0..system.flat().phases().items().len() - 1 {
-        let phase = index as u32 + 1;
-        judge(
+        ),
+        PhaseRule::Order => judge(
             violations,
             Broken::Order { phase },
             order_excess(schedule, phase),
-        )?;
-    }
-    Ok(())
-}
-
-/// Appends the phases that are wider than the cycle.
-fn judge_spans(
-    system: &System,
-    schedule: &Schedule,
-    violations: &mut Vec<Violation>,
-) -> Result<(), OutOfMemory>
-    requires in_range { IsInRange schedule.now }
-    requires phases { length schedule.now.starts ≡ phase_count system.now }
-    ensures { OnOk result (violations.new.items ≡ violations.old.items ++ failed (span_checks system.now schedule.now)) }
-{
-    for index in 0..system.flat().phases().items().len() {
-        let phase = index as u32 + 1;
-        judge(
+        ),
+        PhaseRule::Span => judge(
             violations,
             Broken::Span { phase },
             span_excess(schedule, phase),
-        )?;
-    }
-    Ok(())
-}
-
-/// Appends the phases that are narrower than their elements ask.
-fn judge_widths(
-    system: &System,
-    schedule: &Schedule,
-    violations: &mut Vec<Violation>,
-) -> Result<(), OutOfMemory>
-    requires in_range { IsInRange schedule.now }
-    requires phases { length schedule.now.starts ≡ phase_count system.now }
-    ensures { OnOk result (violations.new.items ≡ violations.old.items ++ failed (width_checks system.now schedule.now)) }
-{
-    for index in 0..system.flat().phases().items().len() {
-        let phase = index as u32 + 1;
-        judge(
+        ),
+        PhaseRule::Width => judge(
             violations,
             Broken::Width { phase },
-            width_excess(system.flat(), schedule, phase),
-        )?;
+            width_excess(flat, schedule, phase),
+        ),
+    }
+}
+
+/// Appends those of the first so many phases that break a rule.
+fn judge_phases(
+    clocked: &ClockedSystem<'_>,
+    rule: PhaseRule,
+    count: usize,
+    violations: &mut Vec<Violation>,
+) -> Result<(), OutOfMemory>
+    requires count { count ≤ phase_count clocked.now.system.now }
+    requires next { rule ≡ PhaseRule.Order → count < phase_count clocked.now.system.now }
+    ensures { OnOk result (violations.new.items ≡ violations.old.items ++ failed (map (phase_check clocked.now.system.now clocked.now.schedule.now rule) (range_with_len 1 count))) }
+{
+    for index in 0..count {
+        judge_phase(clocked, rule, index as u32 + 1, violations)?;
     }
     Ok(())
 }
@@ -130,29 +115,24 @@ fn judge_if(
 
 /// Appends the phases, fed by phase `i`, that end after it starts.
 fn judge_apart(
-    system: &System,
-    schedule: &Schedule,
+    clocked: &ClockedSystem<'_>,
     fed: &[bool],
     i: u32,
     violations: &mut Vec<Violation>,
 ) -> Result<(), OutOfMemory>
-    requires in_range { IsInRange schedule.now }
-    requires phases { length schedule.now.starts ≡ phase_count system.now }
-    requires phase { IsPhase (phase_count system.now) i }
+    requires phase { IsPhase (phase_count clocked.now.system.now) i }
     requires count { length fed.now ≡ 64 }
-    requires table { (i j : ℕ) → IsPhase 8 i → IsPhase 8 j → slice_index_or fed.now (8 * (i - 1) + (j - 1)) false ≡ feeds_of system.now i j }
-    ensures { OnOk result (violations.new.items ≡ violations.old.items
-        ++ failed (map (λ j. check (Broken.Apart i j) (end_of schedule.now j -ℤ pos (crosses_of j i) *ℤ schedule.now.cycle -ℤ start_of schedule.now i))
-        (filter (feeds_of system.now i) (phases_of system.now)))) }
+    requires table { (i j : ℕ) → IsPhase 8 i → IsPhase 8 j → slice_index_or fed.now (8 * (i - 1) + (j - 1)) false ≡ feeds_of clocked.now.system.now i j }
+    ensures { OnOk result (violations.new.items ≡ violations.old.items ++ failed (fed_checks clocked.now.system.now clocked.now.schedule.now i)) }
 {
-    for index in 0..system.flat().phases().items().len() {
+    for index in 0..clocked.phase_count() {
         let j = index as u32 + 1;
         let asked = fed[8 * (i as usize - 1) + index];
         judge_if(
             violations,
             asked,
             Broken::Apart { i, j },
-            apart_excess(schedule, i, j),
+            apart_excess(clocked.schedule, i, j),
         )?;
     }
     Ok(())
@@ -160,44 +140,32 @@ fn judge_apart(
 
 /// Appends the pairs of phases that aren't apart.
 fn judge_aparts(
-    system: &System,
-    schedule: &Schedule,
+    clocked: &ClockedSystem<'_>,
     violations: &mut Vec<Violation>,
 ) -> Result<(), OutOfMemory>
-    requires in_range { IsInRange schedule.now }
-    requires phases { length schedule.now.starts ≡ phase_count system.now }
-    ensures { OnOk result (violations.new.items ≡ violations.old.items ++ failed (apart_checks system.now schedule.now)) }
+    ensures { OnOk result (violations.new.items ≡ violations.old.items ++ failed (apart_checks clocked.now.system.now clocked.now.schedule.now)) }
 {
-    let fed = feeds(system);
-    for index in 0..system.flat().phases().items().len() {
-        judge_apart(
-            system,
-            schedule,
-            fed.as_slice(),
-            index as u32 + 1,
-            violations,
-        )?;
+    let fed = feeds(clocked.system);
+    for index in 0..clocked.phase_count() {
+        judge_apart(clocked, fed.as_slice(), index as u32 + 1, violations)?;
     }
     Ok(())
 }
 
 /// Appends the bounds that aren't kept.
 fn judge_bounds(
-    system: &System,
-    schedule: &Schedule,
+    clocked: &ClockedSystem<'_>,
     violations: &mut Vec<Violation>,
 ) -> Result<(), OutOfMemory>
-    requires in_range { IsInRange schedule.now }
-    requires phases { length schedule.now.starts ≡ phase_count system.now }
-    ensures { OnOk result (violations.new.items ≡ violations.old.items ++ failed (bound_checks system.now schedule.now)) }
+    ensures { OnOk result (violations.new.items ≡ violations.old.items ++ failed (bound_checks clocked.now.system.now clocked.now.schedule.now)) }
 {
-    let bounds = system.flat().bounds();
+    let bounds = clocked.system.flat().bounds();
     for number in 0..bounds.len() {
         let index = number as u32;
         judge(
             violations,
             Broken::Bound { index },
-            bound_excess(schedule, &bounds[number]),
+            bound_excess(clocked.schedule, &bounds[number]),
         )?;
     }
     Ok(())
@@ -205,18 +173,17 @@ fn judge_bounds(
 
 /// Appends what the schedule breaks of the clock and the bounds.
 pub(crate) fn judge_clock(
-    system: &System,
-    schedule: &Schedule,
+    clocked: &ClockedSystem<'_>,
     violations: &mut Vec<Violation>,
 ) -> Result<(), OutOfMemory>
-    requires in_range { IsInRange schedule.now }
-    requires phases { length schedule.now.starts ≡ phase_count system.now }
-    ensures { OnOk result (violations.new.items ≡ violations.old.items ++ failed (clock_checks system.now schedule.now)) }
+    ensures { OnOk result (violations.new.items ≡ violations.old.items ++ failed (clock_checks clocked.now.system.now clocked.now.schedule.now)) }
 {
-    judge_cycles(system, schedule, violations)?;
-    judge_orders(system, schedule, violations)?;
-    judge_spans(system, schedule, violations)?;
-    judge_widths(system, schedule, violations)?;
-    judge_aparts(system, schedule, violations)?;
-    judge_bounds(system, schedule, violations)
+    let count = clocked.phase_count();
+    judge_phases(clocked, PhaseRule::Cycle, count, violations)?;
+    judge_phases(clocked, PhaseRule::Order, count - 1, violations)?;
+    judge_phases(clocked, PhaseRule::Span, count, violations)?;
+    judge_phases(clocked, PhaseRule::Width, count, violations)?;
+    judge_aparts(clocked, violations)?;
+    judge_bounds(clocked, violations)?;
+    Ok(())
 }

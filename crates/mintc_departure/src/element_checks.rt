@@ -3,44 +3,37 @@ ghost use Rattle.std.specs.Prelude.{◌≡◌, ◌<◌, ◌++◌, ◌∷◌, [],
 ghost use Rattle.mintc_walks.specs.Walks.{value_at};
 ghost use Rattle.mintc_timing.specs.Clocking.{width_of};
 ghost use Rattle.mintc_timing.specs.Departures.{departure, early_arrivals, late_arrivals};
-ghost use Rattle.mintc_timing.specs.Design.{element_at, element_count, phase_count, phase_of};
+ghost use Rattle.mintc_timing.specs.Design.{element_at, element_count, phase_of};
 ghost use Rattle.mintc_timing.specs.Extremes.{greatest_of, least_of};
-ghost use Rattle.mintc_timing.specs.Limits.{IsInRange, IsNumerator};
+ghost use Rattle.mintc_timing.specs.Limits.{IsNumerator};
 ghost use Rattle.mintc_timing.specs.Violations.{check, failed, hold_amount, hold_checks, setup_amount, setup_checks};
 ghost use Rattle.mintc_departure.specs.Excesses.{IsExcess, IsLast};
-ghost use Rattle.mintc_departure.specs.Rounds.{AreSums, IsArrival, IsFirst};
+ghost use Rattle.mintc_departure.specs.Rounds.{AreSums, IsArrivalSum, IsFirst};
 ghost use Rattle.mintc_departure.specs.Settled.{IsSum};
 
 use crate::arrivals::NEVER;
 use crate::clock_checks::judge;
+use crate::clocked_system::ClockedSystem;
 use crate::latest::LONG_AGO;
 use mintc_constraints::Room;
 use mintc_demands::{scaled, width};
 use mintc_text::OutOfMemory;
-use mintc_timing::{Broken, Schedule, System, Violation};
+use mintc_timing::{Broken, Violation};
 
 /// By how much an element fails its setup, by its late departure and its latest arrival; a flop that no pair leads to has
 /// no setup to keep.
-fn setup_excess(
-    system: &System,
-    schedule: &Schedule,
-    time: i64,
-    last: i128,
-    number: u32,
-) -> Option<i64>
-    requires in_range { IsInRange schedule.now }
-    requires phases { length schedule.now.starts ≡ phase_count system.now }
-    requires number { number < element_count system.now }
+fn setup_excess(clocked: &ClockedSystem<'_>, time: i64, last: i128, number: u32) -> Option<i64>
+    requires number { number < element_count clocked.now.system.now }
     requires time { IsSum time }
-    requires last { (last ≡ LONG_AGO) ⊎ IsArrival last }
-    ensures value { (d : List ℤ) → departure d number ≡ time → IsLast (greatest_of (late_arrivals system.now schedule.now d number)) last →
-        result ≡ setup_amount system.now schedule.now d number }
+    requires last { (last ≡ LONG_AGO) ⊎ IsArrivalSum last }
+    ensures value { (d : List ℤ) → departure d number ≡ time → IsLast (greatest_of (late_arrivals clocked.now.system.now clocked.now.schedule.now d number)) last →
+        result ≡ setup_amount clocked.now.system.now clocked.now.schedule.now d number }
     ensures range { IfSome result IsExcess }
 {
-    let element = system.element(number);
-    let setup = scaled(element.setup, schedule.den);
+    let element = clocked.system.element(number);
+    let setup = scaled(element.setup, clocked.schedule.den);
     if !element.flop {
-        return Some(i64::max(0, time) + setup - width(schedule, element.phase));
+        return Some(i64::max(0, time) + setup - width(clocked.schedule, element.phase));
     }
     if last == LONG_AGO {
         return None;
@@ -50,24 +43,21 @@ fn setup_excess(
 
 /// Appends an element's setup, if the element fails it.
 fn judge_setup(
-    system: &System,
-    schedule: &Schedule,
+    clocked: &ClockedSystem<'_>,
     room: &Room,
     number: u32,
     violations: &mut Vec<Violation>,
 ) -> Result<(), OutOfMemory>
-    requires in_range { IsInRange schedule.now }
-    requires phases { length schedule.now.starts ≡ phase_count system.now }
-    requires number { number < element_count system.now }
-    requires departures { AreSums system.now room.now.late }
-    requires count { length room.now.values ≡ element_count system.now }
-    requires last { IsLast (greatest_of (late_arrivals system.now schedule.now room.now.late number)) (value_at room.now.values number) }
+    requires number { number < element_count clocked.now.system.now }
+    requires departures { AreSums clocked.now.system.now room.now.late }
+    requires count { length room.now.values ≡ element_count clocked.now.system.now }
+    requires last { IsLast (greatest_of (late_arrivals clocked.now.system.now clocked.now.schedule.now room.now.late number)) (value_at room.now.values number) }
     ensures { OnOk result (violations.new.items ≡ violations.old.items
-        ++ failed (filter_map (λ l. option_map (check (Broken.Setup l)) (setup_amount system.now schedule.now room.now.late l)) (number ∷ []))) }
+        ++ failed (filter_map (λ l. option_map (check (Broken.Setup l)) (setup_amount clocked.now.system.now clocked.now.schedule.now room.now.late l)) (number ∷ []))) }
 {
     let time = room.late()[number as usize];
     let last = room.values()[number as usize];
-    match setup_excess(system, schedule, time, last, number) {
+    match setup_excess(clocked, time, last, number) {
         Some(amount) => judge(violations, Broken::Setup { element: number }, amount),
         None => Ok(()),
     }
@@ -75,80 +65,70 @@ fn judge_setup(
 
 /// Appends the setups that aren't kept. The room's values have to be the latest arrivals by its late departures.
 pub(crate) fn judge_setups(
-    system: &System,
-    schedule: &Schedule,
+    clocked: &ClockedSystem<'_>,
     room: &Room,
     violations: &mut Vec<Violation>,
 ) -> Result<(), OutOfMemory>
-    requires in_range { IsInRange schedule.now }
-    requires phases { length schedule.now.starts ≡ phase_count system.now }
-    requires departures { AreSums system.now room.now.late }
-    requires count { length room.now.values ≡ element_count system.now }
-    requires lasts { (l : ℕ) → l < element_count system.now → IsLast (greatest_of (late_arrivals system.now schedule.now room.now.late l)) (value_at room.now.values l) }
-    ensures { OnOk result (violations.new.items ≡ violations.old.items ++ failed (setup_checks system.now schedule.now room.now.late)) }
+    requires departures { AreSums clocked.now.system.now room.now.late }
+    requires count { length room.now.values ≡ element_count clocked.now.system.now }
+    requires lasts { (l : ℕ) → l < element_count clocked.now.system.now → IsLast (greatest_of (late_arrivals clocked.now.system.now clocked.now.schedule.now room.now.late l)) (value_at room.now.values l) }
+    ensures { OnOk result (violations.new.items ≡ violations.old.items ++ failed (setup_checks clocked.now.system.now clocked.now.schedule.now room.now.late)) }
 {
-    for number in 0..system.flat().elements().len() {
-        judge_setup(system, schedule, room, number as u32, violations)?;
+    for number in 0..clocked.count() {
+        judge_setup(clocked, room, number as u32, violations)?;
     }
     Ok(())
 }
 
 /// How long after the start of its phase an element's data has to hold, its hold aside.
-fn hold_start(system: &System, schedule: &Schedule, number: u32) -> i64
-    requires in_range { IsInRange schedule.now }
-    requires phases { length schedule.now.starts ≡ phase_count system.now }
-    requires number { number < element_count system.now }
-    ensures value { result ≡ (if (element_at system.now number).flop then pos 0 else width_of schedule.now (phase_of system.now number)) }
+fn hold_start(clocked: &ClockedSystem<'_>, number: u32) -> i64
+    requires number { number < element_count clocked.now.system.now }
+    ensures value { result ≡ (if (element_at clocked.now.system.now number).flop then pos 0 else width_of clocked.now.schedule.now (phase_of clocked.now.system.now number)) }
     ensures range { IsNumerator result }
 {
-    let element = system.element(number);
+    let element = clocked.system.element(number);
     if element.flop {
         0
     } else {
-        width(schedule, element.phase)
+        width(clocked.schedule, element.phase)
     }
 }
 
 /// By how much an element fails its hold, by its earliest arrival; one that has no hold, or that no pair leads to, has none
 /// to keep.
-fn hold_excess(system: &System, schedule: &Schedule, first: i128, number: u32) -> Option<i64>
-    requires in_range { IsInRange schedule.now }
-    requires phases { length schedule.now.starts ≡ phase_count system.now }
-    requires number { number < element_count system.now }
-    requires first { (first ≡ NEVER) ⊎ IsArrival first }
-    ensures value { (d : List ℤ) → IsFirst (least_of (early_arrivals system.now schedule.now d number)) first →
-        result ≡ hold_amount system.now schedule.now d number }
+fn hold_excess(clocked: &ClockedSystem<'_>, first: i128, number: u32) -> Option<i64>
+    requires number { number < element_count clocked.now.system.now }
+    requires first { (first ≡ NEVER) ⊎ IsArrivalSum first }
+    ensures value { (d : List ℤ) → IsFirst (least_of (early_arrivals clocked.now.system.now clocked.now.schedule.now d number)) first →
+        result ≡ hold_amount clocked.now.system.now clocked.now.schedule.now d number }
     ensures range { IfSome result IsExcess }
 {
-    let element = system.element(number);
+    let element = clocked.system.element(number);
     if !element.has_hold {
         return None;
     }
     if first == NEVER {
         return None;
     }
-    let hold = scaled(element.hold, schedule.den);
-    Some(hold_start(system, schedule, number) + hold - (first as i64 + schedule.cycle))
+    let hold = scaled(element.hold, clocked.schedule.den);
+    Some(hold_start(clocked, number) + hold - (first as i64 + clocked.schedule.cycle))
 }
 
 /// Appends an element's hold, if the element fails it.
 fn judge_hold(
-    system: &System,
-    schedule: &Schedule,
+    clocked: &ClockedSystem<'_>,
     room: &Room,
     number: u32,
     violations: &mut Vec<Violation>,
 ) -> Result<(), OutOfMemory>
-    requires in_range { IsInRange schedule.now }
-    requires phases { length schedule.now.starts ≡ phase_count system.now }
-    requires number { number < element_count system.now }
-    requires count { length room.now.values ≡ element_count system.now }
-    requires first { IsFirst (least_of (early_arrivals system.now schedule.now room.now.early number)) (value_at room.now.values number) }
+    requires number { number < element_count clocked.now.system.now }
+    requires count { length room.now.values ≡ element_count clocked.now.system.now }
+    requires first { IsFirst (least_of (early_arrivals clocked.now.system.now clocked.now.schedule.now room.now.early number)) (value_at room.now.values number) }
     ensures { OnOk result (violations.new.items ≡ violations.old.items
-        ++ failed (filter_map (λ l. option_map (check (Broken.Hold l)) (hold_amount system.now schedule.now room.now.early l)) (number ∷ []))) }
+        ++ failed (filter_map (λ l. option_map (check (Broken.Hold l)) (hold_amount clocked.now.system.now clocked.now.schedule.now room.now.early l)) (number ∷ []))) }
 {
     let first = room.values()[number as usize];
-    match hold_excess(system, schedule, first, number) {
+    match hold_excess(clocked, first, number) {
         Some(amount) => judge(violations, Broken::Hold { element: number }, amount),
         None => Ok(()),
     }
@@ -156,19 +136,16 @@ fn judge_hold(
 
 /// Appends the holds that aren't kept. The room's values have to be the earliest arrivals by its early departures.
 pub(crate) fn judge_holds(
-    system: &System,
-    schedule: &Schedule,
+    clocked: &ClockedSystem<'_>,
     room: &Room,
     violations: &mut Vec<Violation>,
 ) -> Result<(), OutOfMemory>
-    requires in_range { IsInRange schedule.now }
-    requires phases { length schedule.now.starts ≡ phase_count system.now }
-    requires count { length room.now.values ≡ element_count system.now }
-    requires firsts { (l : ℕ) → l < element_count system.now → IsFirst (least_of (early_arrivals system.now schedule.now room.now.early l)) (value_at room.now.values l) }
-    ensures { OnOk result (violations.new.items ≡ violations.old.items ++ failed (hold_checks system.now schedule.now room.now.early)) }
+    requires count { length room.now.values ≡ element_count clocked.now.system.now }
+    requires firsts { (l : ℕ) → l < element_count clocked.now.system.now → IsFirst (least_of (early_arrivals clocked.now.system.now clocked.now.schedule.now room.now.early l)) (value_at room.now.values l) }
+    ensures { OnOk result (violations.new.items ≡ violations.old.items ++ failed (hold_checks clocked.now.system.now clocked.now.schedule.now room.now.early)) }
 {
-    for number in 0..system.flat().elements().len() {
-        judge_hold(system, schedule, room, number as u32, violations)?;
+    for number in 0..clocked.count() {
+        judge_hold(clocked, room, number as u32, violations)?;
     }
     Ok(())
 }

@@ -6,8 +6,8 @@ ghost use Rattle.mintc_timing.specs.Limits.{IsInRange};
 ghost use Rattle.mintc_timing.specs.Violations.{AreViolations, IsLoop, check, failed, hold_checks, loop_amount, setup_checks};
 ghost use Rattle.mintc_departure.specs.Settled.{IsSum};
 
-use crate::amounts::late_delay;
 use crate::clock_checks::judge_clock;
+use crate::clocked_system::ClockedSystem;
 use crate::element_checks::{judge_holds, judge_setups};
 use crate::latest::gather_latest;
 use crate::rising::rise_early;
@@ -18,17 +18,14 @@ use mintc_timing::{Broken, Schedule, System, Violation};
 use std::alloc::Global;
 
 /// By how much data comes later each time that it goes round a loop.
-fn loop_excess(system: &System, schedule: &Schedule, pairs: &[u32]) -> i64
-    requires in_range { IsInRange schedule.now }
-    requires phases { length schedule.now.starts ≡ phase_count system.now }
-    requires closed { IsLoop system.now pairs.now }
-    ensures { result ≡ loop_amount system.now schedule.now pairs.now }
+fn loop_excess(clocked: &ClockedSystem<'_>, pairs: &[u32]) -> i64
+    requires closed { IsLoop clocked.now.system.now pairs.now }
+    ensures { result ≡ loop_amount clocked.now.system.now clocked.now.schedule.now pairs.now }
 {
-    let _elements = system.flat().elements();
-    let _pairs = system.pairs();
+    let _count = clocked.count();
     let mut amount = 0;
     for pair in pairs {
-        amount += late_delay(system, schedule, *pair as usize);
+        amount += clocked.late_delay(*pair as usize);
     }
     amount
 }
@@ -46,18 +43,15 @@ fn copy(alloc: Global, numbers: &[u32]) -> Result<Numbers, OutOfMemory>
 /// Appends a loop with its amount.
 fn push_loop(
     alloc: Global,
-    system: &System,
-    schedule: &Schedule,
+    clocked: &ClockedSystem<'_>,
     pairs: &[u32],
     violations: &mut Vec<Violation>,
 ) -> Result<(), OutOfMemory>
-    requires in_range { IsInRange schedule.now }
-    requires phases { length schedule.now.starts ≡ phase_count system.now }
-    requires closed { IsLoop system.now pairs.now }
+    requires closed { IsLoop clocked.now.system.now pairs.now }
     ensures { OnOk result (violations.new.items ≡ violations.old.items
-        ++ check (Broken.Loop pairs.now) (loop_amount system.now schedule.now pairs.now) ∷ []) }
+        ++ check (Broken.Loop pairs.now) (loop_amount clocked.now.system.now clocked.now.schedule.now pairs.now) ∷ []) }
 {
-    let amount = loop_excess(system, schedule, pairs);
+    let amount = loop_excess(clocked, pairs);
     let pairs = copy(alloc, pairs)?;
     let broken = Broken::Loop { pairs };
     let Ok(()) = violations.push(Violation { broken, amount }) else {
@@ -69,27 +63,24 @@ fn push_loop(
 /// Appends the setups and the holds that aren't kept, by the room's late departures. The early ones are then in the room.
 fn judge_elements(
     alloc: Global,
-    system: &System,
-    schedule: &Schedule,
+    clocked: &ClockedSystem<'_>,
     room: &mut Room,
     violations: &mut Vec<Violation>,
 ) -> Result<(), OutOfMemory>
-    requires in_range { IsInRange schedule.now }
-    requires phases { length schedule.now.starts ≡ phase_count system.now }
-    requires room { 1 + 2 * phase_count system.now + element_count system.now ≤ room.old.nodes }
-    requires late { AreLate system.now schedule.now room.old.late }
+    requires room { 1 + 2 * phase_count clocked.now.system.now + element_count clocked.now.system.now ≤ room.old.nodes }
+    requires late { AreLate clocked.now.system.now clocked.now.schedule.now room.old.late }
     requires sums { All IsSum room.old.late }
-    ensures early { OnOk result (AreEarly system.now schedule.now room.new.early) }
+    ensures early { OnOk result (AreEarly clocked.now.system.now clocked.now.schedule.now room.new.early) }
     ensures late { OnOk result (room.new.late ≡ room.old.late) }
     ensures nodes { room.new.nodes ≡ room.old.nodes }
     ensures links { room.new.links ≡ room.old.links }
     ensures violations { OnOk result (violations.new.items ≡ violations.old.items
-        ++ failed (setup_checks system.now schedule.now room.old.late ++ hold_checks system.now schedule.now room.new.early)) }
+        ++ failed (setup_checks clocked.now.system.now clocked.now.schedule.now room.old.late ++ hold_checks clocked.now.system.now clocked.now.schedule.now room.new.early)) }
 {
-    gather_latest(system, system.pairs(), schedule, room);
-    judge_setups(system, schedule, room, violations)?;
-    rise_early(alloc, system, schedule, room)?;
-    judge_holds(system, schedule, room, violations)
+    gather_latest(clocked, room);
+    judge_setups(clocked, room, violations)?;
+    rise_early(alloc, clocked, room)?;
+    judge_holds(clocked, room, violations)
 }
 
 /// What a schedule breaks, in this order: cycle, order, span, width, apart, bound, then either one loop, or all setups and then
@@ -110,16 +101,17 @@ pub fn violations(
     ensures nodes { room.new.nodes ≡ room.old.nodes }
     ensures links { room.new.links ≡ room.old.links }
 {
+    let clocked = ClockedSystem { system, schedule };
     let mut violations = Vec::new(alloc);
-    judge_clock(system, schedule, &mut violations)?;
+    judge_clock(&clocked, &mut violations)?;
     let _pairs = system.pairs();
     match late(system, schedule, room) {
         Settling::Settled => {
-            judge_elements(alloc, system, schedule, room, &mut violations)?;
+            judge_elements(alloc, &clocked, room, &mut violations)?;
             Ok(violations)
         }
         Settling::Loop => {
-            push_loop(alloc, system, schedule, room.chain(), &mut violations)?;
+            push_loop(alloc, &clocked, room.chain(), &mut violations)?;
             Ok(violations)
         }
     }

@@ -3,65 +3,56 @@ ghost use Rattle.std.specs.Prelude.{◌≡◌, ◌<◌, ◌≤◌, ℕ, length, 
 ghost use Rattle.std.specs.Int.{int_max};
 ghost use Rattle.mintc_walks.specs.Walks.{value_at};
 ghost use Rattle.mintc_timing.specs.Departures.{late_arrival, late_arrivals};
-ghost use Rattle.mintc_timing.specs.Design.{element_count, pair_at, phase_count};
+ghost use Rattle.mintc_timing.specs.Design.{element_count, pair_at};
 ghost use Rattle.mintc_timing.specs.Extremes.{greatest_of};
-ghost use Rattle.mintc_timing.specs.Limits.{IsInRange};
 ghost use Rattle.mintc_departure.specs.Excesses.{IsLast};
-ghost use Rattle.mintc_departure.specs.Rounds.{AreSums, IsArrival};
+ghost use Rattle.mintc_departure.specs.Rounds.{AreSums, IsArrivalSum};
 
-use crate::amounts::late_delay;
 use crate::arrivals::fill;
+use crate::clocked_system::ClockedSystem;
 use mintc_constraints::Room;
-use mintc_timing::{Pair, Schedule, System};
 
 /// The latest arrival at an element that no pair leads to: earlier than any other.
 pub const LONG_AGO: i128 = i128::MIN;
 
 /// When data that leaves the first element of a pair reaches the second one at the latest.
-fn latest(system: &System, schedule: &Schedule, departures: &[i64], number: usize) -> i64
-    requires in_range { IsInRange schedule.now }
-    requires phases { length schedule.now.starts ≡ phase_count system.now }
-    requires departures { AreSums system.now departures.now }
-    requires number { number < length system.now.pairs }
-    ensures value { result ≡ late_arrival system.now schedule.now departures.now (pair_at system.now number) }
-    ensures range { IsArrival result }
+fn latest(clocked: &ClockedSystem<'_>, departures: &[i64], number: usize) -> i64
+    requires departures { AreSums clocked.now.system.now departures.now }
+    requires number { number < length clocked.now.system.now.pairs }
+    ensures value { result ≡ late_arrival clocked.now.system.now clocked.now.schedule.now departures.now (pair_at clocked.now.system.now number) }
+    ensures range { IsArrivalSum result }
 {
-    departures[system.pair(number).from as usize] + late_delay(system, schedule, number)
+    departures[clocked.system.pair(number).from as usize] + clocked.late_delay(number)
 }
 
 /// Raises the value of a pair's second element to the pair's arrival.
-fn bring_latest(system: &System, schedule: &Schedule, room: &mut Room, number: usize)
-    requires in_range { IsInRange schedule.now }
-    requires phases { length schedule.now.starts ≡ phase_count system.now }
-    requires departures { AreSums system.now room.old.late }
-    requires number { number < length system.now.pairs }
-    requires count { length room.old.values ≡ element_count system.now }
-    ensures inside { (pair_at system.now number).to < element_count system.now }
-    ensures range { IsArrival (late_arrival system.now schedule.now room.old.late (pair_at system.now number)) }
-    ensures value { let pair = pair_at system.now number in room.new ≡ record room.old {
+fn bring_latest(clocked: &ClockedSystem<'_>, room: &mut Room, number: usize)
+    requires departures { AreSums clocked.now.system.now room.old.late }
+    requires number { number < length clocked.now.system.now.pairs }
+    requires count { length room.old.values ≡ element_count clocked.now.system.now }
+    ensures inside { (pair_at clocked.now.system.now number).to < element_count clocked.now.system.now }
+    ensures range { IsArrivalSum (late_arrival clocked.now.system.now clocked.now.schedule.now room.old.late (pair_at clocked.now.system.now number)) }
+    ensures value { let pair = pair_at clocked.now.system.now number in room.new ≡ record room.old {
       values = slice_set room.old.values pair.to
-          (int_max (late_arrival system.now schedule.now room.old.late pair) (value_at room.old.values pair.to));
+          (int_max (late_arrival clocked.now.system.now clocked.now.schedule.now room.old.late pair) (value_at room.old.values pair.to));
     } }
 {
-    let to = system.pair(number).to as usize;
-    let time = i128::from(latest(system, schedule, room.late(), number));
+    let to = clocked.system.pair(number).to as usize;
+    let time = i128::from(latest(clocked, room.late(), number));
     let last = i128::max(time, room.values()[to]);
     room.set_values(to, last);
 }
 
 /// Makes the values the latest arrivals at the elements, by the room's late departures.
-pub(crate) fn gather_latest(system: &System, pairs: &[Pair], schedule: &Schedule, room: &mut Room)
-    requires in_range { IsInRange schedule.now }
-    requires phases { length schedule.now.starts ≡ phase_count system.now }
-    requires pairs { pairs.now ≡ system.now.pairs }
-    requires nodes { element_count system.now ≤ room.old.nodes }
-    requires departures { AreSums system.now room.old.late }
+pub(crate) fn gather_latest(clocked: &ClockedSystem<'_>, room: &mut Room)
+    requires nodes { element_count clocked.now.system.now ≤ room.old.nodes }
+    requires departures { AreSums clocked.now.system.now room.old.late }
     ensures kept { room.new ≡ record room.old { values = room.new.values } }
-    ensures count { length room.new.values ≡ element_count system.now }
-    ensures each { (l : ℕ) → l < element_count system.now → IsLast (greatest_of (late_arrivals system.now schedule.now room.old.late l)) (value_at room.new.values l) }
+    ensures count { length room.new.values ≡ element_count clocked.now.system.now }
+    ensures each { (l : ℕ) → l < element_count clocked.now.system.now → IsLast (greatest_of (late_arrivals clocked.now.system.now clocked.now.schedule.now room.old.late l)) (value_at room.new.values l) }
 {
-    fill(room, system.flat().elements().len(), LONG_AGO);
-    for number in 0..pairs.len() {
-        bring_latest(system, schedule, room, number);
+    fill(room, clocked.count(), LONG_AGO);
+    for number in 0..clocked.system.pairs().len() {
+        bring_latest(clocked, room, number);
     }
 }

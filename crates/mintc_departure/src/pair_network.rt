@@ -1,31 +1,16 @@
 //! The network whose greatest walks are the late departures.
-ghost use Rattle.std.specs.Prelude.{◌≡◌, length};
-ghost use Rattle.mintc_timing.specs.Design.{phase_count};
-ghost use Rattle.mintc_timing.specs.Limits.{IsInRange};
-
-use crate::amounts::late_delay;
-use mintc_timing::{Pair, Schedule, System};
+use crate::clocked_system::ClockedSystem;
 use mintc_walks::{Arc, Network};
 
 /// The elements as nodes, and the arc of each pair under its number. An arc into a latch weighs by how much later data
 /// arrives; one into a flop, whose departure no data changes, is a closed arc there that no greatest walk takes.
-#[derive(Clone, Copy)]
-pub(crate) struct PairNetwork<'a> {
-    pub system: &'a System,
-    pub pairs: &'a [Pair],
-    pub schedule: &'a Schedule,
-    ghost listed: { pairs.now ≡ system.now.pairs },
-    ghost in_range: { IsInRange schedule.now },
-    ghost phases: { length schedule.now.starts ≡ phase_count system.now },
-}
-
-impl Network for PairNetwork<'_> {
+impl Network for ClockedSystem<'_> {
     ghost use Rattle.mintc_departure.specs.Networks.{arcs_of};
 
     ghost arcs = { λ n. arcs_of n.system.now n.schedule.now };
 
     fn len(&self) -> usize {
-        self.pairs.len()
+        self.system.pairs().len()
     }
 
     fn arc(&self, number: usize) -> Arc {
@@ -40,7 +25,7 @@ impl Network for PairNetwork<'_> {
             Arc {
                 from: pair.from,
                 to: pair.to,
-                weight: i128::from(late_delay(self.system, self.schedule, number)),
+                weight: i128::from(self.late_delay(number)),
             }
         }
     }

@@ -6,39 +6,31 @@ ghost use Rattle.mintc_places.specs.Places.{IsIn, room};
 ghost use Rattle.mintc_timing.specs.Departures.{departure, early_arrivals, early_departure, AreEarly, AreLate};
 ghost use Rattle.mintc_timing.specs.Design.{element_count, pair_at, phase_count};
 ghost use Rattle.mintc_timing.specs.Extremes.{least_of};
-ghost use Rattle.mintc_timing.specs.Limits.{IsInRange};
 ghost use Rattle.mintc_departure.specs.Chains.{AreChains};
 ghost use Rattle.mintc_departure.specs.Rounds.{AreSums, AreSwept, IsFirst};
 
 use crate::arrivals::{NEVER, arrival, gather};
 use crate::chains::{Chains, End};
+use crate::clocked_system::ClockedSystem;
 use crate::rounds::{departs, fill_early_starts};
 use mintc_constraints::Room;
 use mintc_places::Places;
 use mintc_text::OutOfMemory;
-use mintc_timing::{Schedule, System};
+use mintc_timing::System;
 use std::alloc::Global;
 
 /// The earliest arrival at an element, by these departures.
-fn earliest(
-    system: &System,
-    schedule: &Schedule,
-    into: &Chains,
-    departures: &[i64],
-    element: usize,
-) -> i128
-    requires in_range { IsInRange schedule.now }
-    requires phases { length schedule.now.starts ≡ phase_count system.now }
-    requires into { AreChains system.now.pairs End.Second (element_count system.now) into.now }
-    requires departures { AreSums system.now departures.now }
-    requires element { element < element_count system.now }
-    ensures { IsFirst (least_of (early_arrivals system.now schedule.now departures.now element)) result }
+fn earliest(clocked: &ClockedSystem<'_>, into: &Chains, departures: &[i64], element: usize) -> i128
+    requires into { AreChains clocked.now.system.now.pairs End.Second (element_count clocked.now.system.now) into.now }
+    requires departures { AreSums clocked.now.system.now departures.now }
+    requires element { element < element_count clocked.now.system.now }
+    ensures { IsFirst (least_of (early_arrivals clocked.now.system.now clocked.now.schedule.now departures.now element)) result }
 {
     let mut first = NEVER;
     let mut next = into.lasts[element];
     while next > 0 {
         let number = next as usize - 1;
-        let time = i128::from(arrival(system, schedule, departures, number));
+        let time = i128::from(arrival(clocked, departures, number));
         first = i128::min(time, first);
         next = into.nexts[number];
     }
@@ -46,28 +38,20 @@ fn earliest(
 }
 
 /// Makes an element's departure what its earliest arrival makes it. Whether it's another one.
-fn renew(
-    system: &System,
-    schedule: &Schedule,
-    into: &Chains,
-    room: &mut Room,
-    element: usize,
-) -> bool
-    requires in_range { IsInRange schedule.now }
-    requires phases { length schedule.now.starts ≡ phase_count system.now }
-    requires into { AreChains system.now.pairs End.Second (element_count system.now) into.now }
-    requires departures { AreSums system.now room.old.early }
-    requires element { element < element_count system.now }
+fn renew(clocked: &ClockedSystem<'_>, into: &Chains, room: &mut Room, element: usize) -> bool
+    requires into { AreChains clocked.now.system.now.pairs End.Second (element_count clocked.now.system.now) into.now }
+    requires departures { AreSums clocked.now.system.now room.old.early }
+    requires element { element < element_count clocked.now.system.now }
     ensures kept { room.new ≡ record room.old { early = room.new.early } }
     ensures same { OnFalse result (room.new.early ≡ room.old.early) }
-    ensures still { OnFalse result (departure room.old.early element ≡ early_departure system.now schedule.now room.old.early element) }
-    ensures written { OnTrue result (room.new.early ≡ slice_set room.old.early element (early_departure system.now schedule.now room.old.early element)) }
-    ensures changed { OnTrue result (departure room.old.early element ≢ early_departure system.now schedule.now room.old.early element) }
+    ensures still { OnFalse result (departure room.old.early element ≡ early_departure clocked.now.system.now clocked.now.schedule.now room.old.early element) }
+    ensures written { OnTrue result (room.new.early ≡ slice_set room.old.early element (early_departure clocked.now.system.now clocked.now.schedule.now room.old.early element)) }
+    ensures changed { OnTrue result (departure room.old.early element ≢ early_departure clocked.now.system.now clocked.now.schedule.now room.old.early element) }
 {
-    let _elements = system.flat().elements();
-    let first = earliest(system, schedule, into, room.early(), element);
+    let _count = clocked.count();
+    let first = earliest(clocked, into, room.early(), element);
     let before = room.early()[element];
-    let time = departs(system, schedule, element as u32, first);
+    let time = departs(clocked, element as u32, first);
     if time == before {
         return false;
     }
@@ -94,64 +78,57 @@ fn wake(system: &System, out: &Chains, stale: &mut Places, element: usize)
 
 /// Renews an element, which is then stale only where a pair leads from it to itself. Whether it has another departure.
 fn touch(
-    system: &System,
-    schedule: &Schedule,
+    clocked: &ClockedSystem<'_>,
     into: &Chains,
     out: &Chains,
     room: &mut Room,
     stale: &mut Places,
     element: usize,
 ) -> bool
-    requires in_range { IsInRange schedule.now }
-    requires phases { length schedule.now.starts ≡ phase_count system.now }
-    requires into { AreChains system.now.pairs End.Second (element_count system.now) into.now }
-    requires out { AreChains system.now.pairs End.First (element_count system.now) out.now }
-    requires late { AreLate system.now schedule.now room.old.late }
-    requires swept { AreSwept system.now schedule.now room.old.late room.old.early stale.old.words.items }
-    requires element { element < element_count system.now }
+    requires into { AreChains clocked.now.system.now.pairs End.Second (element_count clocked.now.system.now) into.now }
+    requires out { AreChains clocked.now.system.now.pairs End.First (element_count clocked.now.system.now) out.now }
+    requires late { AreLate clocked.now.system.now clocked.now.schedule.now room.old.late }
+    requires swept { AreSwept clocked.now.system.now clocked.now.schedule.now room.old.late room.old.early stale.old.words.items }
+    requires element { element < element_count clocked.now.system.now }
     ensures kept { room.new ≡ record room.old { early = room.new.early } }
-    ensures swept { AreSwept system.now schedule.now room.old.late room.new.early stale.new.words.items }
-    ensures up { (l : ℕ) → l < element_count system.now → departure room.old.early l ≤ℤ departure room.new.early l }
+    ensures swept { AreSwept clocked.now.system.now clocked.now.schedule.now room.old.late room.new.early stale.new.words.items }
+    ensures up { (l : ℕ) → l < element_count clocked.now.system.now → departure room.old.early l ≤ℤ departure room.new.early l }
     ensures changed { OnTrue result (departure room.old.early element <ℤ departure room.new.early element) }
     ensures out { OnFalse result (IsIn stale.new.words.items element → ⊥) }
     ensures only { OnFalse result ((l : ℕ) → IsIn stale.new.words.items l → IsIn stale.old.words.items l) }
 {
-    let _pairs = system.pairs();
-    let _elements = system.flat().elements();
+    let _count = clocked.count();
     stale.remove(element);
-    if !renew(system, schedule, into, room, element) {
+    if !renew(clocked, into, room, element) {
         return false;
     }
-    wake(system, out, stale, element);
+    wake(clocked.system, out, stale, element);
     true
 }
 
 /// Renews the stale elements, once each from the first one on. Whether any has another departure.
 fn sweep(
-    system: &System,
-    schedule: &Schedule,
+    clocked: &ClockedSystem<'_>,
     into: &Chains,
     out: &Chains,
     room: &mut Room,
     stale: &mut Places,
 ) -> bool
-    requires in_range { IsInRange schedule.now }
-    requires phases { length schedule.now.starts ≡ phase_count system.now }
-    requires into { AreChains system.now.pairs End.Second (element_count system.now) into.now }
-    requires out { AreChains system.now.pairs End.First (element_count system.now) out.now }
-    requires late { AreLate system.now schedule.now room.old.late }
-    requires swept { AreSwept system.now schedule.now room.old.late room.old.early stale.old.words.items }
+    requires into { AreChains clocked.now.system.now.pairs End.Second (element_count clocked.now.system.now) into.now }
+    requires out { AreChains clocked.now.system.now.pairs End.First (element_count clocked.now.system.now) out.now }
+    requires late { AreLate clocked.now.system.now clocked.now.schedule.now room.old.late }
+    requires swept { AreSwept clocked.now.system.now clocked.now.schedule.now room.old.late room.old.early stale.old.words.items }
     ensures kept { room.new ≡ record room.old { early = room.new.early } }
-    ensures swept { AreSwept system.now schedule.now room.old.late room.new.early stale.new.words.items }
-    ensures up { (l : ℕ) → l < element_count system.now → departure room.old.early l ≤ℤ departure room.new.early l }
-    ensures changed { OnTrue result ((l : ℕ) × (l < element_count system.now) × (departure room.old.early l <ℤ departure room.new.early l)) }
-    ensures none { OnFalse result ((l : ℕ) → l < element_count system.now → IsIn stale.new.words.items l → ⊥) }
+    ensures swept { AreSwept clocked.now.system.now clocked.now.schedule.now room.old.late room.new.early stale.new.words.items }
+    ensures up { (l : ℕ) → l < element_count clocked.now.system.now → departure room.old.early l ≤ℤ departure room.new.early l }
+    ensures changed { OnTrue result ((l : ℕ) × (l < element_count clocked.now.system.now) × (departure room.old.early l <ℤ departure room.new.early l)) }
+    ensures none { OnFalse result ((l : ℕ) → l < element_count clocked.now.system.now → IsIn stale.new.words.items l → ⊥) }
 {
-    let count = system.flat().elements().len();
+    let count = clocked.count();
     let mut changed = false;
     let mut at = stale.next(0);
     while at < count {
-        let rose = touch(system, schedule, into, out, room, stale, at);
+        let rose = touch(clocked, into, out, room, stale, at);
         at = stale.next(at + 1);
         if rose {
             changed = true;
@@ -178,46 +155,39 @@ fn all_of(alloc: Global, count: usize) -> Result<Places, OutOfMemory>
 
 /// Sweeps until none is stale.
 fn rise(
-    system: &System,
-    schedule: &Schedule,
+    clocked: &ClockedSystem<'_>,
     into: &Chains,
     out: &Chains,
     room: &mut Room,
     stale: &mut Places,
 )
-    requires in_range { IsInRange schedule.now }
-    requires phases { length schedule.now.starts ≡ phase_count system.now }
-    requires into { AreChains system.now.pairs End.Second (element_count system.now) into.now }
-    requires out { AreChains system.now.pairs End.First (element_count system.now) out.now }
-    requires late { AreLate system.now schedule.now room.old.late }
-    requires swept { AreSwept system.now schedule.now room.old.late room.old.early stale.old.words.items }
+    requires into { AreChains clocked.now.system.now.pairs End.Second (element_count clocked.now.system.now) into.now }
+    requires out { AreChains clocked.now.system.now.pairs End.First (element_count clocked.now.system.now) out.now }
+    requires late { AreLate clocked.now.system.now clocked.now.schedule.now room.old.late }
+    requires swept { AreSwept clocked.now.system.now clocked.now.schedule.now room.old.late room.old.early stale.old.words.items }
     ensures kept { room.new ≡ record room.old { early = room.new.early } }
-    ensures early { AreEarly system.now schedule.now room.new.early }
-    ensures sums { AreSums system.now room.new.early }
+    ensures early { AreEarly clocked.now.system.now clocked.now.schedule.now room.new.early }
+    ensures sums { AreSums clocked.now.system.now room.new.early }
 {
-    let _pairs = system.pairs();
-    let _elements = system.flat().elements();
-    while sweep(system, schedule, into, out, room, stale) {}
+    let _count = clocked.count();
+    while sweep(clocked, into, out, room, stale) {}
 }
 
 /// The early departures, by the room's late ones. The earliest arrivals by them are then the room's values.
 pub(crate) fn rise_early(
     alloc: Global,
-    system: &System,
-    schedule: &Schedule,
+    clocked: &ClockedSystem<'_>,
     room: &mut Room,
 ) -> Result<(), OutOfMemory>
-    requires in_range { IsInRange schedule.now }
-    requires phases { length schedule.now.starts ≡ phase_count system.now }
-    requires room { 1 + 2 * phase_count system.now + element_count system.now ≤ room.old.nodes }
-    requires late { AreLate system.now schedule.now room.old.late }
+    requires room { 1 + 2 * phase_count clocked.now.system.now + element_count clocked.now.system.now ≤ room.old.nodes }
+    requires late { AreLate clocked.now.system.now clocked.now.schedule.now room.old.late }
     ensures kept { room.new ≡ record room.old { early = room.new.early; values = room.new.values } }
-    ensures early { OnOk result (AreEarly system.now schedule.now room.new.early) }
-    ensures count { OnOk result (length room.new.values ≡ element_count system.now) }
-    ensures firsts { OnOk result ((l : ℕ) → l < element_count system.now → IsFirst (least_of (early_arrivals system.now schedule.now room.new.early l)) (value_at room.new.values l)) }
+    ensures early { OnOk result (AreEarly clocked.now.system.now clocked.now.schedule.now room.new.early) }
+    ensures count { OnOk result (length room.new.values ≡ element_count clocked.now.system.now) }
+    ensures firsts { OnOk result ((l : ℕ) → l < element_count clocked.now.system.now → IsFirst (least_of (early_arrivals clocked.now.system.now clocked.now.schedule.now room.new.early l)) (value_at room.new.values l)) }
 {
-    let pairs = system.pairs();
-    let count = system.flat().elements().len();
+    let pairs = clocked.system.pairs();
+    let count = clocked.count();
     let Ok(into) = Chains::new(alloc, pairs, End::Second, count) else {
         return Err(OutOfMemory);
     };
@@ -225,8 +195,8 @@ pub(crate) fn rise_early(
         return Err(OutOfMemory);
     };
     let mut stale = all_of(alloc, count)?;
-    fill_early_starts(system, schedule, room);
-    rise(system, schedule, &into, &out, room, &mut stale);
-    gather(system, pairs, schedule, room);
+    fill_early_starts(clocked, room);
+    rise(clocked, &into, &out, room, &mut stale);
+    gather(clocked, room);
     Ok(())
 }

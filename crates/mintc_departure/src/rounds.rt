@@ -5,24 +5,23 @@ ghost use Rattle.mintc_walks.specs.Walks.{value_at};
 ghost use Rattle.mintc_timing.specs.Departures.{departure, early_arrivals, early_departure, AreEarly, AreLate};
 ghost use Rattle.mintc_timing.specs.Design.{element_count, phase_count};
 ghost use Rattle.mintc_timing.specs.Extremes.{least_of};
-ghost use Rattle.mintc_timing.specs.Limits.{IsDesign, IsInRange};
-ghost use Rattle.mintc_departure.specs.Rounds.{early_start_of, AreSums, IsArrival, IsFirst};
+ghost use Rattle.mintc_timing.specs.Limits.{IsInRange};
+ghost use Rattle.mintc_departure.specs.Rounds.{early_start_of, AreSums, IsArrivalSum, IsFirst};
 
-use crate::amounts::early_start;
 use crate::arrivals::{NEVER, gather};
+use crate::clocked_system::ClockedSystem;
 use mintc_constraints::Room;
 use mintc_timing::{Schedule, System};
 
 /// When an element's data leaves at the earliest, by its earliest arrival.
-pub(crate) fn departs(system: &System, schedule: &Schedule, number: u32, first: i128) -> i64
-    requires in_range { IsInRange schedule.now }
-    requires number { number < element_count system.now }
-    requires first { (first ≡ NEVER) ⊎ IsArrival first }
-    ensures { (d : List ℤ) → IsFirst (least_of (early_arrivals system.now schedule.now d number)) first →
-        result ≡ early_departure system.now schedule.now d number }
+pub(crate) fn departs(clocked: &ClockedSystem<'_>, number: u32, first: i128) -> i64
+    requires number { number < element_count clocked.now.system.now }
+    requires first { (first ≡ NEVER) ⊎ IsArrivalSum first }
+    ensures { (d : List ℤ) → IsFirst (least_of (early_arrivals clocked.now.system.now clocked.now.schedule.now d number)) first →
+        result ≡ early_departure clocked.now.system.now clocked.now.schedule.now d number }
 {
-    let start = early_start(system, schedule, number);
-    if system.element(number).flop {
+    let start = clocked.early_start(number);
+    if clocked.system.element(number).flop {
         return start;
     }
     if first == NEVER {
@@ -32,37 +31,34 @@ pub(crate) fn departs(system: &System, schedule: &Schedule, number: u32, first: 
 }
 
 /// Makes the early departures those of elements that no data reaches.
-pub(crate) fn fill_early_starts(system: &System, schedule: &Schedule, room: &mut Room)
-    requires in_range { IsInRange schedule.now }
-    requires nodes { element_count system.now ≤ room.old.nodes }
+pub(crate) fn fill_early_starts(clocked: &ClockedSystem<'_>, room: &mut Room)
+    requires nodes { element_count clocked.now.system.now ≤ room.old.nodes }
     ensures kept { room.new ≡ record room.old { early = room.new.early } }
-    ensures design { IsDesign system.now.flat }
-    ensures count { length room.new.early ≡ element_count system.now }
-    ensures each { (l : ℕ) → l < element_count system.now → departure room.new.early l ≡ early_start_of system.now schedule.now l }
+    ensures count { length room.new.early ≡ element_count clocked.now.system.now }
+    ensures each { (l : ℕ) → l < element_count clocked.now.system.now → departure room.new.early l ≡ early_start_of clocked.now.system.now clocked.now.schedule.now l }
 {
-    let count = system.flat().elements().len();
+    let count = clocked.count();
     room.fill_early(count);
     for number in 0..count {
-        room.set_early(number, early_start(system, schedule, number as u32));
+        room.set_early(number, clocked.early_start(number as u32));
     }
 }
 
 /// Makes the early departures what the earliest arrivals make them, which are the values. Whether any changed.
-fn raise(system: &System, schedule: &Schedule, room: &mut Room) -> bool
-    requires in_range { IsInRange schedule.now }
-    requires departures { AreSums system.now room.old.early }
-    requires values { length room.old.values ≡ element_count system.now }
-    requires firsts { (l : ℕ) → l < element_count system.now → IsFirst (least_of (early_arrivals system.now schedule.now room.old.early l)) (value_at room.old.values l) }
+fn raise(clocked: &ClockedSystem<'_>, room: &mut Room) -> bool
+    requires departures { AreSums clocked.now.system.now room.old.early }
+    requires values { length room.old.values ≡ element_count clocked.now.system.now }
+    requires firsts { (l : ℕ) → l < element_count clocked.now.system.now → IsFirst (least_of (early_arrivals clocked.now.system.now clocked.now.schedule.now room.old.early l)) (value_at room.old.values l) }
     ensures kept { room.new ≡ record room.old { early = room.new.early } }
-    ensures count { length room.new.early ≡ element_count system.now }
-    ensures each { (l : ℕ) → l < element_count system.now → departure room.new.early l ≡ early_departure system.now schedule.now room.old.early l }
-    ensures still { OnFalse result ((l : ℕ) → l < element_count system.now → early_departure system.now schedule.now room.old.early l ≡ departure room.old.early l) }
-    ensures changed { OnTrue result ((l : ℕ) × (l < element_count system.now) × (early_departure system.now schedule.now room.old.early l ≢ departure room.old.early l)) }
+    ensures count { length room.new.early ≡ element_count clocked.now.system.now }
+    ensures each { (l : ℕ) → l < element_count clocked.now.system.now → departure room.new.early l ≡ early_departure clocked.now.system.now clocked.now.schedule.now room.old.early l }
+    ensures still { OnFalse result ((l : ℕ) → l < element_count clocked.now.system.now → early_departure clocked.now.system.now clocked.now.schedule.now room.old.early l ≡ departure room.old.early l) }
+    ensures changed { OnTrue result ((l : ℕ) × (l < element_count clocked.now.system.now) × (early_departure clocked.now.system.now clocked.now.schedule.now room.old.early l ≢ departure room.old.early l)) }
 {
     let mut changed = false;
-    for number in 0..system.flat().elements().len() {
+    for number in 0..clocked.count() {
         let before = room.early()[number];
-        let time = departs(system, schedule, number as u32, room.values()[number]);
+        let time = departs(clocked, number as u32, room.values()[number]);
         room.set_early(number, time);
         if time != before {
             changed = true;
@@ -71,26 +67,18 @@ fn raise(system: &System, schedule: &Schedule, room: &mut Room) -> bool
     changed
 }
 
-/// `early`, which leaves the earliest arrivals by the early departures in the room's values.
-pub(crate) fn rise_early(system: &System, schedule: &Schedule, room: &mut Room)
-    requires in_range { IsInRange schedule.now }
-    requires phases { length schedule.now.starts ≡ phase_count system.now }
-    requires room { 1 + 2 * phase_count system.now + element_count system.now ≤ room.old.nodes }
-    requires late { AreLate system.now schedule.now room.old.late }
-    ensures early { AreEarly system.now schedule.now room.new.early }
-    ensures late { room.new.late ≡ room.old.late }
-    ensures before { room.new.before ≡ room.old.before }
-    ensures chain { room.new.chain ≡ room.old.chain }
-    ensures nodes { room.new.nodes ≡ room.old.nodes }
-    ensures links { room.new.links ≡ room.old.links }
-    ensures count { length room.new.values ≡ element_count system.now }
-    ensures firsts { (l : ℕ) → l < element_count system.now → IsFirst (least_of (early_arrivals system.now schedule.now room.new.early l)) (value_at room.new.values l) }
+/// Raises the early departures by rounds until one changes nothing.
+fn rise_in_rounds(clocked: &ClockedSystem<'_>, room: &mut Room)
+    requires nodes { element_count clocked.now.system.now ≤ room.old.nodes }
+    requires late { AreLate clocked.now.system.now clocked.now.schedule.now room.old.late }
+    ensures kept { room.new ≡ record room.old { early = room.new.early; values = room.new.values } }
+    ensures early { AreEarly clocked.now.system.now clocked.now.schedule.now room.new.early }
 {
-    fill_early_starts(system, schedule, room);
-    let pairs = system.pairs();
+    let _count = clocked.count();
+    fill_early_starts(clocked, room);
     loop {
-        gather(system, pairs, schedule, room);
-        if !raise(system, schedule, room) {
+        gather(clocked, room);
+        if !raise(clocked, room) {
             return;
         }
     }
@@ -110,5 +98,5 @@ pub fn early(system: &System, schedule: &Schedule, room: &mut Room)
     ensures nodes { room.new.nodes ≡ room.old.nodes }
     ensures links { room.new.links ≡ room.old.links }
 {
-    rise_early(system, schedule, room);
+    rise_in_rounds(&ClockedSystem { system, schedule }, room);
 }

@@ -2,12 +2,11 @@
 ghost use Rattle.std.specs.Prelude.{◌≡◌, [], ◌<◌, ◌≤◌, ◌+◌, ◌*◌, ℕ, length};
 ghost use Rattle.mintc_walks.specs.Walks.{value_at};
 ghost use Rattle.mintc_timing.specs.Design.{element_count, phase_count};
-ghost use Rattle.mintc_timing.specs.Limits.{IsDesign, IsInRange};
+ghost use Rattle.mintc_timing.specs.Limits.{IsInRange};
 ghost use Rattle.mintc_departure.specs.Networks.{late_start_of};
 ghost use Rattle.mintc_departure.specs.Settled.{HasSettled, IsSum};
 
-use crate::amounts::late_start;
-use crate::pair_network::PairNetwork;
+use crate::clocked_system::ClockedSystem;
 use mintc_constraints::Room;
 use mintc_timing::{Schedule, System};
 use mintc_walks::{Answer, Steps};
@@ -24,21 +23,16 @@ pub enum Settling {
 }
 
 /// Makes the values the departures of elements that no data reaches.
-fn fill_starts(system: &System, schedule: &Schedule, room: &mut Room)
-    requires in_range { IsInRange schedule.now }
-    requires nodes { element_count system.now ≤ room.old.nodes }
+fn fill_starts(clocked: &ClockedSystem<'_>, room: &mut Room)
+    requires nodes { element_count clocked.now.system.now ≤ room.old.nodes }
     ensures kept { room.new ≡ record room.old { values = room.new.values } }
-    ensures design { IsDesign system.now.flat }
-    ensures count { length room.new.values ≡ element_count system.now }
-    ensures each { (l : ℕ) → l < element_count system.now → value_at room.new.values l ≡ late_start_of system.now schedule.now l }
+    ensures count { length room.new.values ≡ element_count clocked.now.system.now }
+    ensures each { (l : ℕ) → l < element_count clocked.now.system.now → value_at room.new.values l ≡ late_start_of clocked.now.system.now clocked.now.schedule.now l }
 {
-    let count = system.flat().elements().len();
+    let count = clocked.count();
     room.fill_values(count);
     for number in 0..count {
-        room.set_values(
-            number,
-            i128::from(late_start(system, schedule, number as u32)),
-        );
+        room.set_values(number, i128::from(clocked.late_start(number as u32)));
     }
 }
 
@@ -57,19 +51,12 @@ fn keep_late(room: &mut Room)
 }
 
 /// `late` with a blank for its counter of steps.
-fn settle<L: Ledger>(
-    system: &System,
-    schedule: &Schedule,
-    room: &mut Room,
-    blank: Blank,
-) -> Settling
+fn settle<L: Ledger>(clocked: &ClockedSystem<'_>, room: &mut Room, blank: Blank) -> Settling
     requires name { blank.name ≡ L.name }
     requires parts { blank.parts ≡ L.parts }
     requires part { 0 < L.parts }
-    requires in_range { IsInRange schedule.now }
-    requires phases { length schedule.now.starts ≡ phase_count system.now }
-    requires room { element_count system.now ≤ room.old.nodes }
-    ensures settled { HasSettled system.now schedule.now room.new result }
+    requires room { element_count clocked.now.system.now ≤ room.old.nodes }
+    ensures settled { HasSettled clocked.now.system.now clocked.now.schedule.now room.new result }
     ensures none { result ≡ Settling.Settled → room.new.chain ≡ [] }
     ensures late { result ≡ Settling.Loop → room.new.late ≡ room.old.late }
     ensures early { room.new.early ≡ room.old.early }
@@ -77,18 +64,13 @@ fn settle<L: Ledger>(
     ensures links { room.new.links ≡ room.old.links }
 {
     room.fill_chain(0);
-    fill_starts(system, schedule, room);
-    if room.values().is_empty() {
+    fill_starts(clocked, room);
+    if clocked.count() == 0 {
         keep_late(room);
         return Settling::Settled;
     }
     let mut steps = Steps::<L>::open(blank);
-    let network = PairNetwork {
-        system,
-        pairs: system.pairs(),
-        schedule,
-    };
-    match room.walk(&network, &mut steps) {
+    match room.walk(clocked, &mut steps) {
         Answer::Values => {
             keep_late(room);
             Settling::Settled
@@ -113,5 +95,5 @@ pub fn late(system: &System, schedule: &Schedule, room: &mut Room) -> Settling
     ensures nodes { room.new.nodes ≡ room.old.nodes }
     ensures links { room.new.links ≡ room.old.links }
 {
-    settle::<Brand>(system, schedule, room, Blank::new(1))
+    settle::<Brand>(&ClockedSystem { system, schedule }, room, Blank::new(1))
 }

@@ -4,7 +4,7 @@ use Rattle.mintc_constraints.specs.Rooms.{Space}
 use Rattle.mintc_timing.specs.Departures.{early_arrival}
 use Rattle.mintc_timing.specs.Design.{pair_at}
 use Rattle.mintc_timing.specs.Extremes.{least_of, lesser_of}
-use Rattle.mintc_departure.specs.Rounds.{IsArrival, IsFirst}
+use Rattle.mintc_departure.specs.Rounds.{IsArrivalSum, IsFirst}
 use Rattle.mintc_departure.proofs.Filling.{kept-values}
 use Rattle.mintc_departure.proofs.Gathering.{gathered-more}
 use Rattle.mintc_departure.proofs.Lesser.{first-more, least_of-push}
@@ -12,16 +12,16 @@ use Rattle.mintc_departure.proofs.arrivals.gather.Goals as goal
 
 pub loop-number-preserved : goal.loop-number-preserved
 loop-number-preserved c =
-    let t = c.args.system.now in
-    let s = c.args.schedule.now in
+    let t = c.args.clocked.now.system.now in
+    let s = c.args.clocked.now.schedule.now in
     let n = c.loop-number.number in
     let i = c.loop-number.invariant in
     let xs = c.loop-number.room.values in
     let p = pair_at t n in
     let f = early_arrival t s c.args.room.now.early in
     let early : c.loop-number.room.early ≡ c.args.room.now.early = ap (λ (r : Space). r.early) i.kept in
-    let h : n < length t.pairs = rw c.requires.pairs at c.loop-number-test.true in
-    let range : IsArrival (f p) = rw early at c.bring.ensures.range in
+    let h : n < length t.pairs = rw c.pairs-number-end.ensures.value at c.loop-number-test.true in
+    let range : IsArrivalSum (f p) = rw early at c.bring.ensures.range in
     let inside : p.to < length xs = omega (arith, i.count, c.bring.ensures.inside) in
     let write = ap (λ (r : Space). r.values) c.bring.ensures.value in
     let written : c.bring.new.room.values ≡ set xs p.to (int_min (f p) (get_or xs p.to (pos 0))) = rw early at write in

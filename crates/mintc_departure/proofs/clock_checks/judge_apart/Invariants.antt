@@ -1,10 +1,11 @@
-use Rattle.std.proofs.Common.{◌≡◌, ◌++◌, ◌-ℤ◌, ◌*ℤ◌, pos, take, map}
+use Rattle.std.proofs.Common.{◌≡◌, ◌++◌, take, map}
 use Rattle.std.specs.List.{filter}
-use Rattle.mintc_timing.specs.declared.violation.Broken.TheVariants as broken
-use Rattle.mintc_timing.specs.Clocking.{crosses_of, end_of, feeds_of, start_of}
-use Rattle.mintc_timing.specs.Violations.{check, failed, phases_of}
+use Rattle.mintc_timing.specs.Violations.{failed, phases_of}
+use Rattle.mintc_timing.specs.Clocking.{feeds_of}
+use Rattle.mintc_departure.specs.Checks.{apart_check}
 use Rattle.mintc_departure.proofs.clock_checks.judge_apart.Given as goal
 
 -- the checks with the phases so far are judged
 abbrev pub invariant-loop-index : goal.invariant-loop-index
-invariant-loop-index l = l.violations.items ≡ l.fn.violations.items ++ failed (map (λ j. check (broken.Apart l.i j) (end_of l.schedule j -ℤ pos (crosses_of j l.i) *ℤ l.schedule.cycle -ℤ start_of l.schedule l.i)) (filter (feeds_of l.system l.i) (take l.index (phases_of l.system))))
+invariant-loop-index l =
+    l.violations.items ≡ l.fn.violations.items ++ failed (map (apart_check l.clocked.schedule.now l.i) (filter (feeds_of l.clocked.system.now l.i) (take l.index (phases_of l.clocked.system.now))))

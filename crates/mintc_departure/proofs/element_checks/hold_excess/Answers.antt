@@ -5,58 +5,40 @@ use Rattle.mintc_timing.specs.declared.parts.Element.{Element}
 use Rattle.mintc_timing.specs.Design.{element_at}
 use Rattle.mintc_timing.proofs.Fitting.{read_time, IsTime-IsGap, IsTime-IsDenominator}
 use Rattle.mintc_departure.specs.declared.arrivals.TheConstants.{NEVER}
-use Rattle.mintc_departure.specs.Rounds.{IsArrival}
+use Rattle.mintc_departure.specs.Rounds.{IsArrivalSum}
 use Rattle.mintc_departure.proofs.ElementLaws.{hold-some, some-is}
 use Rattle.mintc_departure.proofs.element_checks.hold_excess.Goals as goal
 
 comes : (c : goal.After-result-1) → c.args.first ≡ NEVER → ⊥
 comes c = λ e. c.if-first-eq-NEVER.false (ap (of_z w128) e)
 
-arrives : (c : goal.After-result-1) → IsArrival c.args.first
+arrives : (c : goal.After-result-1) → IsArrivalSum c.args.first
 arrives c = ⊎_elim (λ e. absurd (comes c e)) (λ r. r) c.requires.first
 
 pub overflow_add-result-2 : goal.overflow_add-result-2
 overflow_add-result-2 c =
     let a = arrives c in
-    let a0 = a.0 in
-    let a1 = a.1 in
-    let cycle = c.requires.in_range.cycle in
     omega (arith, ints)
 
 pub overflow_sub-result : goal.overflow_sub-result
 overflow_sub-result c =
     let a = arrives c in
-    let a0 = a.0 in
-    let a1 = a.1 in
-    let cycle = c.requires.in_range.cycle in
-    let start = c.hold_start.ensures.range in
-    let hold = c.scaled-hold.ensures.range in
     omega (arith, ints)
 
 pub returns-clause-value : goal.returns-clause-value
 returns-clause-value c d is =
-    let t = c.args.system.now in
-    let s = c.args.schedule.now in
+    let t = c.args.clocked.now.system.now in
+    let s = c.args.clocked.now.schedule.now in
     let e : Element = c.element-element.result.now in
     let here : e ≡ element_at t c.args.number = c.element-element.ensures.value in
     let has : (element_at t c.args.number).has_hold ≡ true = sym (ap (λ (x : Element). x.has_hold) here) ∙ c.if-not-element.false in
     let hold : c.scaled-hold.result ≡ (element_at t c.args.number).hold *ℤ s.den =
-    rw (read_time e.hold (IsTime-IsGap _ c.element-element.ensures.kept.hold), read_time s.den (IsTime-IsDenominator _ c.requires.in_range.den)) at c.scaled-hold.ensures.value ∙ ap (λ (x : Element). x.hold *ℤ s.den) here in
+    rw (read_time e.hold (IsTime-IsGap _ c.element-element.ensures.kept.hold), read_time s.den (IsTime-IsDenominator _ c.args.clocked.now.in_range.den)) at c.scaled-hold.ensures.value ∙ ap (λ (x : Element). x.hold *ℤ s.den) here in
     let amount = hold-some t s d c.args.number c.args.first c.hold_start.result c.scaled-hold.result has is (comes c) c.hold_start.ensures.value hold in
     let a = arrives c in
-    let a0 = a.0 in
-    let a1 = a.1 in
-    let cycle = c.requires.in_range.cycle in
-    let start = c.hold_start.ensures.range in
-    let modest = c.scaled-hold.ensures.range in
     some-is (c.hold_start.result +ℤ c.scaled-hold.result -ℤ (c.args.first +ℤ s.cycle)) _ _ amount (omega (arith, ints))
 
 pub returns-clause-range : goal.returns-clause-range
 returns-clause-range c =
     let a = arrives c in
-    let a0 = a.0 in
-    let a1 = a.1 in
-    let cycle = c.requires.in_range.cycle in
-    let start = c.hold_start.ensures.range in
-    let hold = c.scaled-hold.ensures.range in
     (omega (arith, ints), omega (arith, ints))

@@ -1,5 +1,5 @@
-use Rattle.std.proofs.Common.{◌<◌, ◌+ℤ◌, take, length, arith, ap, ◌∙◌, sym}
-use Rattle.mintc_timing.specs.Design.{Design, pair_at}
+use Rattle.std.proofs.Common.{◌<◌, ◌+ℤ◌, take, arith, ap, ◌∙◌, sym}
+use Rattle.mintc_timing.specs.Design.{pair_at}
 use Rattle.mintc_timing.specs.Violations.{loop_amount}
 use Rattle.mintc_timing.proofs.Fitting.{read_time}
 use Rattle.mintc_departure.specs.Networks.{late_travel}
@@ -8,10 +8,8 @@ use Rattle.mintc_departure.proofs.judging.loop_excess.Goals as goal
 
 few : (c : goal.After-late_delay-amount) → c.loop-pair.pair-index < 2000
 few c =
-    let pairs = few_pairs c.args.system.now c.args.pairs.now c.pairs-pairs.ensures.kept.extremes.each c.requires.closed in
-    let elements = c.elements-elements.ensures.kept.elements in
-    let test = c.loop-pair-test.true in
-    omega (arith, ap (λ (d : Design). length d.elements) c.flat.ensures)
+    let pairs = few_pairs c.args.clocked.now.system.now c.args.pairs.now c.count-count.ensures.kept.timing.extremes.each c.requires.closed in
+    omega arith
 
 pub overflow_add-amount : goal.overflow_add-amount
 overflow_add-amount c =
@@ -20,8 +18,8 @@ overflow_add-amount c =
 
 pub loop-pair-preserved : goal.loop-pair-preserved
 loop-pair-preserved c =
-    let t = c.args.system.now in
-    let s = c.args.schedule.now in
+    let t = c.args.clocked.now.system.now in
+    let s = c.args.clocked.now.schedule.now in
     let i = c.loop-pair.pair-index in
     let loop = c.args.pairs.now in
     let y = c.late_delay-amount.result in

@@ -6,7 +6,7 @@ use Rattle.mintc_timing.specs.Design.{pair_at}
 use Rattle.mintc_timing.specs.Extremes.{greater_of, greatest_of}
 use Rattle.mintc_timing.proofs.ExtremesLaws.{greatest_of-push}
 use Rattle.mintc_departure.specs.Excesses.{IsLast}
-use Rattle.mintc_departure.specs.Rounds.{IsArrival}
+use Rattle.mintc_departure.specs.Rounds.{IsArrivalSum}
 use Rattle.mintc_departure.proofs.Filling.{kept-values}
 use Rattle.mintc_departure.proofs.Gathering.{gathered-more}
 use Rattle.mintc_departure.proofs.Greater.{last-more}
@@ -14,16 +14,16 @@ use Rattle.mintc_departure.proofs.latest.gather_latest.Goals as goal
 
 pub loop-number-preserved : goal.loop-number-preserved
 loop-number-preserved c =
-    let t = c.args.system.now in
-    let s = c.args.schedule.now in
+    let t = c.args.clocked.now.system.now in
+    let s = c.args.clocked.now.schedule.now in
     let n = c.loop-number.number in
     let i = c.loop-number.invariant in
     let xs = c.loop-number.room.values in
     let p = pair_at t n in
     let f = late_arrival t s c.args.room.now.late in
     let late : c.loop-number.room.late ≡ c.args.room.now.late = ap (λ (r : Space). r.late) i.kept in
-    let h : n < length t.pairs = rw c.requires.pairs at c.loop-number-test.true in
-    let range : IsArrival (f p) = rw late at c.bring_latest.ensures.range in
+    let h : n < length t.pairs = rw c.pairs-number-end.ensures.value at c.loop-number-test.true in
+    let range : IsArrivalSum (f p) = rw late at c.bring_latest.ensures.range in
     let inside : p.to < length xs = omega (arith, i.count, c.bring_latest.ensures.inside) in
     let write = ap (λ (r : Space). r.values) c.bring_latest.ensures.value in
     let written : c.bring_latest.new.room.values ≡ set xs p.to (int_max (f p) (get_or xs p.to (pos 0))) = rw late at write in

@@ -8,53 +8,46 @@ use Rattle.mintc_timing.specs.Design.{element_count, pair_at}
 use Rattle.mintc_timing.specs.Extremes.{least_of}
 use Rattle.mintc_departure.specs.Chains.{IsLastOf}
 use Rattle.mintc_departure.specs.declared.chains.End.TheVariants.{Second}
-use Rattle.mintc_departure.specs.Rounds.{IsArrival, IsFirst}
+use Rattle.mintc_departure.specs.Rounds.{IsArrivalSum, IsFirst}
 use Rattle.mintc_departure.proofs.ChainLaws.{chain-head, chain-next, into-none, into-more}
 use Rattle.mintc_departure.proofs.rising.earliest.Goals as goal
 
 pub loop-next-init : goal.loop-next-init
 loop-next-init c =
-    let t = c.args.system.now in
+    let t = c.args.clocked.now.system.now in
     let last : IsLastOf t.pairs Second c.args.element (length t.pairs) c.index-next.result.now =
     chain-head t.pairs Second (element_count t) c.args.into.now c.requires.into c.args.element _ c.requires.element c.index-next.ensures in
     record {
       within = last.fits;
       into = last.has;
-      first = into-none (early_arrival t c.args.schedule.now c.args.departures.now) t.pairs c.args.element _ last;
+      first = into-none (early_arrival t c.args.clocked.now.schedule.now c.args.departures.now) t.pairs c.args.element _ last;
     }
 
-number : (c : goal.After-min-first) → c.loop-next.next - 1 < length c.args.system.now.pairs
-number c = let h = c.loop-next.invariant.within in let test = c.loop-next-test.true in omega arith
+number : (c : goal.After-min-first) → c.loop-next.next - 1 < length c.args.clocked.now.system.now.pairs
+number c = omega arith
 
 pub index-next-requires-in-loop-next : goal.index-next-requires-in-loop-next
-index-next-requires-in-loop-next c = let h = number c in let same = c.requires.into.nexts_count in omega (arith, c.args.into.now.nexts.ok.0)
+index-next-requires-in-loop-next c = let h = number c in omega (arith, c.args.into.now.nexts.ok.0)
 
-next-last : (c : goal.After-row_known-in-loop-next-2-1) → IsLastOf c.args.system.now.pairs Second c.args.element (c.loop-next.next - 1) c.index-next-in-loop-next.result.now
+next-last : (c : goal.After-row_known-in-loop-next-2-1) → IsLastOf c.args.clocked.now.system.now.pairs Second c.args.element (c.loop-next.next - 1) c.index-next-in-loop-next.result.now
 next-last c =
-    let t = c.args.system.now in
+    let t = c.args.clocked.now.system.now in
     let n = c.loop-next.next - 1 in
-    let test = c.loop-next-test.true in
     let to : (pair_at t n).to ≡ c.args.element = c.loop-next.invariant.into n (omega arith) in
-    let h = c.loop-next.invariant.within in
     subst (λ l. IsLastOf t.pairs Second l n c.index-next-in-loop-next.result.now) to
     (chain-next t.pairs Second (element_count t) c.args.into.now c.requires.into n _ (omega arith) c.index-next-in-loop-next.ensures)
 
 pub loop-next-smaller : goal.loop-next-smaller
-loop-next-smaller c = let last = next-last c in let fits = last.fits in let test = c.loop-next-test.true in omega arith
+loop-next-smaller c = let last = next-last c in let fits = last.fits in omega arith
 
 pub loop-next-preserved : goal.loop-next-preserved
 loop-next-preserved c =
-    let t = c.args.system.now in
+    let t = c.args.clocked.now.system.now in
     let n = c.loop-next.next - 1 in
-    let f = early_arrival t c.args.schedule.now c.args.departures.now in
-    let test = c.loop-next-test.true in
-    let h = c.loop-next.invariant.within in
+    let f = early_arrival t c.args.clocked.now.schedule.now c.args.departures.now in
     let last = next-last c in
-    let fits = last.fits in
     let one : n + 1 ≡ c.loop-next.next = omega arith in
-    let range : IsArrival (f (pair_at t n)) = subst (λ z. IsArrival z) c.arrival.ensures.value c.arrival.ensures.range in
-    let r0 = range.0 in
-    let r1 = range.1 in
+    let range : IsArrivalSum (f (pair_at t n)) = subst (λ z. IsArrivalSum z) c.arrival.ensures.value c.arrival.ensures.range in
     let value = c.arrival.ensures.value in
     let small : SFits w64 c.arrival.result = record { sfits = c.arrival.type_inv } in
     let time : c.from-time.result ≡ f (pair_at t n) = c.from-time.ensures ∙ to_z-of_z w64 _ small ∙ value in
@@ -71,7 +64,7 @@ loop-next-preserved c =
 
 pub returns : goal.returns
 returns c =
-    let t = c.args.system.now in
-    let f = early_arrival t c.args.schedule.now c.args.departures.now in
-    let none : c.loop-next.next ≡ 0 = let test = c.loop-next-test.false in omega arith in
+    let t = c.args.clocked.now.system.now in
+    let f = early_arrival t c.args.clocked.now.schedule.now c.args.departures.now in
+    let none : c.loop-next.next ≡ 0 = omega arith in
     subst (λ k. IsFirst (least_of (map f (filter (λ (p : Pair). p.to == c.args.element) (drop k t.pairs)))) (to_z w128 c.loop-next.first-bits)) none c.loop-next.invariant.first

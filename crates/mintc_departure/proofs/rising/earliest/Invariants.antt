@@ -10,9 +10,9 @@ use Rattle.mintc_departure.proofs.rising.earliest.Given as goal
 -- the number stands for the earliest arrival by the pairs from the chain's next one on
 abbrev pub invariant-loop-next : goal.invariant-loop-next
 invariant-loop-next l = record {
-  within : l.next ≤ length l.system.pairs;
-  into : (n : ℕ) → l.next ≡ n + 1 → (pair_at l.system n).to ≡ l.element;
-  first : IsFirst (least_of (map (early_arrival l.system l.schedule l.departures) (filter (λ (p : Pair). p.to == l.element) (drop l.next l.system.pairs)))) l.first;
+  within : l.next ≤ length l.clocked.system.now.pairs;
+  into : (n : ℕ) → l.next ≡ n + 1 → (pair_at l.clocked.system.now n).to ≡ l.element;
+  first : IsFirst (least_of (map (early_arrival l.clocked.system.now l.clocked.schedule.now l.departures) (filter (λ (p : Pair). p.to == l.element) (drop l.next l.clocked.system.now.pairs)))) l.first;
 }
 
 abbrev pub decreases-loop-next : goal.decreases-loop-next

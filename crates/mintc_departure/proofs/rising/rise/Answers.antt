@@ -1,8 +1,7 @@
-use Rattle.std.proofs.Common.{ap, sym, subst, refl}
+use Rattle.std.proofs.Common.{ap, sym, subst}
 use Rattle.mintc_constraints.specs.Rooms.{Space}
-use Rattle.mintc_timing.specs.Design.{Design, element_count}
+use Rattle.mintc_timing.specs.Design.{element_count}
 use Rattle.mintc_timing.specs.Departures.{AreLate}
-use Rattle.mintc_timing.specs.Limits.{IsDesign}
 use Rattle.mintc_departure.specs.Rounds.{AreSwept}
 use Rattle.mintc_departure.proofs.EarlyLaws.{rising-sums}
 use Rattle.mintc_departure.proofs.Filling.{kept-early}
@@ -10,21 +9,18 @@ use Rattle.mintc_departure.proofs.Missing.{missing-falls}
 use Rattle.mintc_departure.proofs.SweepLaws.{swept-last}
 use Rattle.mintc_departure.proofs.rising.rise.Goals as goal
 
-pub loop-init : goal.loop-init
-loop-init c = record { kept = refl; swept = c.requires.swept }
-
 pub sweep-requires-clause-late : goal.sweep-requires-clause-late
-sweep-requires-clause-late c = subst (λ xs. AreLate c.args.system.now c.args.schedule.now xs) (sym (ap (λ (r : Space). r.late) c.loop.invariant.kept)) c.requires.late
+sweep-requires-clause-late c = subst (λ xs. AreLate c.args.clocked.now.system.now c.args.clocked.now.schedule.now xs) (sym (ap (λ (r : Space). r.late) c.loop.invariant.kept)) c.requires.late
 
 pub sweep-requires-clause-swept : goal.sweep-requires-clause-swept
 sweep-requires-clause-swept c =
-    subst (λ xs. AreSwept c.args.system.now c.args.schedule.now xs c.loop.room.early c.loop.stale.words.items) (sym (ap (λ (r : Space). r.late) c.loop.invariant.kept))
+    subst (λ xs. AreSwept c.args.clocked.now.system.now c.args.clocked.now.schedule.now xs c.loop.room.early c.loop.stale.words.items) (sym (ap (λ (r : Space). r.late) c.loop.invariant.kept))
     c.loop.invariant.swept
 
 pub loop-smaller : goal.loop-smaller
 loop-smaller c =
-    let t = c.args.system.now in
-    let s = c.args.schedule.now in
+    let t = c.args.clocked.now.system.now in
+    let s = c.args.clocked.now.schedule.now in
     let swept : AreSwept t s c.args.room.now.late c.sweep.new.room.early c.sweep.new.stale.words.items =
     subst (λ xs. AreSwept t s xs c.sweep.new.room.early c.sweep.new.stale.words.items) (ap (λ (r : Space). r.late) c.loop.invariant.kept) c.sweep.ensures.swept in
     let changed = c.loop-test.ensures.changed in
@@ -33,18 +29,15 @@ loop-smaller c =
 pub loop-preserved : goal.loop-preserved
 loop-preserved c = record {
   kept = kept-early c.args.room.now c.loop.room c.sweep.new.room _ c.sweep.ensures.kept c.loop.invariant.kept;
-  swept = subst (λ xs. AreSwept c.args.system.now c.args.schedule.now xs c.sweep.new.room.early c.sweep.new.stale.words.items) (ap (λ (r : Space). r.late) c.loop.invariant.kept) c.sweep.ensures.swept;
+  swept = subst (λ xs. AreSwept c.args.clocked.now.system.now c.args.clocked.now.schedule.now xs c.sweep.new.room.early c.sweep.new.stale.words.items) (ap (λ (r : Space). r.late) c.loop.invariant.kept) c.sweep.ensures.swept;
 }
-
-pub returns-clause-kept : goal.returns-clause-kept
-returns-clause-kept c = kept-early c.args.room.now c.loop.room c.sweep.new.room _ c.sweep.ensures.kept c.loop.invariant.kept
 
 pub returns-clause-early : goal.returns-clause-early
 returns-clause-early c =
-    swept-last c.args.system.now c.args.schedule.now c.loop.room.late c.sweep.new.room.early c.sweep.new.stale.words.items c.sweep.ensures.swept c.loop-test.ensures.none
+    swept-last c.args.clocked.now.system.now c.args.clocked.now.schedule.now c.loop.room.late c.sweep.new.room.early c.sweep.new.stale.words.items c.sweep.ensures.swept c.loop-test.ensures.none
 
 pub returns-clause-sums : goal.returns-clause-sums
 returns-clause-sums c =
-    rising-sums c.args.system.now c.args.schedule.now (subst (λ (d : Design). IsDesign d) c.flat.ensures c.elements-elements.ensures.kept) c.pairs-pairs.ensures.kept c.requires.in_range c.requires.phases
+    rising-sums c.args.clocked.now.system.now c.args.clocked.now.schedule.now c.count-count.ensures.kept
     c.args.room.now.late c.requires.late c.sweep.new.room.early
-    (subst (λ xs. AreSwept c.args.system.now c.args.schedule.now xs c.sweep.new.room.early c.sweep.new.stale.words.items) (ap (λ (r : Space). r.late) c.loop.invariant.kept) c.sweep.ensures.swept).rising
+    (subst (λ xs. AreSwept c.args.clocked.now.system.now c.args.clocked.now.schedule.now xs c.sweep.new.room.early c.sweep.new.stale.words.items) (ap (λ (r : Space). r.late) c.loop.invariant.kept) c.sweep.ensures.swept).rising

@@ -8,8 +8,8 @@ use Rattle.mintc_departure.proofs.rising.rise.Given as goal
 abbrev pub invariant-loop : goal.invariant-loop
 invariant-loop l = record {
   kept : l.room ≡ record l.fn.room { early = l.room.early };
-  swept : AreSwept l.system l.schedule l.fn.room.late l.room.early l.stale.words.items;
+  swept : AreSwept l.clocked.system.now l.clocked.schedule.now l.fn.room.late l.room.early l.stale.words.items;
 }
 
 abbrev pub decreases-loop : goal.decreases-loop
-decreases-loop l = missing l.system l.schedule l.fn.room.late l.room.early (element_count l.system)
+decreases-loop l = missing l.clocked.system.now l.clocked.schedule.now l.fn.room.late l.room.early (element_count l.clocked.system.now)

@@ -1,59 +1,34 @@
-use Rattle.std.proofs.Common.{◌≡◌, ◌<◌, ◌≤ℤ◌, ◌<ℤ◌, ℤ, Bool, true, false, length, arith, sym, ap, subst, refl}
+use Rattle.std.proofs.Common.{◌<◌, arith, sym, ap, subst, refl}
 use Rattle.std.proofs.lemmas.Int.{ints}
 use Rattle.std.proofs.lemmas.Bool.{OnTrue_at, OnFalse_at}
 use Rattle.mintc_constraints.specs.Rooms.{Space}
-use Rattle.mintc_timing.specs.Design.{Design, element_count}
+use Rattle.mintc_timing.specs.Design.{element_count}
 use Rattle.mintc_timing.specs.Departures.{AreLate}
 use Rattle.mintc_departure.specs.Rounds.{AreSwept}
 use Rattle.mintc_departure.proofs.Filling.{kept-early}
 use Rattle.mintc_departure.proofs.SweepLaws.{none-before}
 use Rattle.mintc_departure.proofs.rising.sweep.Goals as goal
 
-not_both : (b : Bool) → b ≡ true → b ≡ false → ⊥
-not_both b g k = cc
-
 pub loop-at-init : goal.loop-at-init
 loop-at-init c = record {
   kept = refl;
   swept = c.requires.swept;
   up = λ k h. omega (arith, ints);
-  differs = λ e. absurd (not_both _ e refl);
+  differs = λ e. absurd (cc);
   none = λ e k h. c.next-at.ensures.none k (omega arith) h;
 }
 
 pub touch-rose-requires-clause-late : goal.touch-rose-requires-clause-late
-touch-rose-requires-clause-late c = subst (λ xs. AreLate c.args.system.now c.args.schedule.now xs) (sym (ap (λ (r : Space). r.late) c.loop-at.invariant.kept)) c.requires.late
+touch-rose-requires-clause-late c = subst (λ xs. AreLate c.args.clocked.now.system.now c.args.clocked.now.schedule.now xs) (sym (ap (λ (r : Space). r.late) c.loop-at.invariant.kept)) c.requires.late
 
 pub touch-rose-requires-clause-swept : goal.touch-rose-requires-clause-swept
 touch-rose-requires-clause-swept c =
-    subst (λ xs. AreSwept c.args.system.now c.args.schedule.now xs c.loop-at.room.early c.loop-at.stale.words.items) (sym (ap (λ (r : Space). r.late) c.loop-at.invariant.kept)) c.loop-at.invariant.swept
-
-pub touch-rose-requires-clause-element : goal.touch-rose-requires-clause-element
-touch-rose-requires-clause-element c =
-    let test = c.loop-at-test.true in omega (arith, ap length c.elements-count.ensures.value, ap (λ (d : Design). length d.elements) c.flat.ensures)
-
-pub next-at-requires-in-loop-at : goal.next-at-requires-in-loop-at
-next-at-requires-in-loop-at c = c.touch-rose.ensures.swept.few
-
-pub loop-at-smaller : goal.loop-at-smaller
-loop-at-smaller c =
-    let test = c.loop-at-test.true in
-    let from = c.next-at-in-loop-at.ensures.from in
-    omega (arith, ap length c.elements-count.ensures.value, ap (λ (d : Design). length d.elements) c.flat.ensures)
-
-le_trans : {x y z : ℤ} → x ≤ℤ y → y ≤ℤ z → x ≤ℤ z
-le_trans h k = omega (arith, ints)
-
-le_lt : {x y z : ℤ} → x ≤ℤ y → y <ℤ z → x <ℤ z
-le_lt h k = omega (arith, ints)
-
-lt_le : {x y z : ℤ} → x <ℤ y → y ≤ℤ z → x <ℤ z
-lt_le h k = omega (arith, ints)
+    subst (λ xs. AreSwept c.args.clocked.now.system.now c.args.clocked.now.schedule.now xs c.loop-at.room.early c.loop-at.stale.words.items) (sym (ap (λ (r : Space). r.late) c.loop-at.invariant.kept)) c.loop-at.invariant.swept
 
 pub loop-at-preserved-then-rose : goal.loop-at-preserved-then-rose
 loop-at-preserved-then-rose c =
-    let t = c.args.system.now in
-    let s = c.args.schedule.now in
+    let t = c.args.clocked.now.system.now in
+    let s = c.args.clocked.now.schedule.now in
     let i = c.loop-at.invariant in
     let room = c.touch-rose.new.room in
     let stale = c.touch-rose.new.stale.words.items in
@@ -61,17 +36,17 @@ loop-at-preserved-then-rose c =
     record {
       kept = kept-early c.args.room.now c.loop-at.room room _ touched.kept i.kept;
       swept = subst (λ xs. AreSwept t s xs room.early stale) (ap (λ (r : Space). r.late) i.kept) touched.swept;
-      up = λ k lt. le_trans (i.up k lt) (touched.up k lt);
+      up = λ k lt. omega (arith, ints, i.up k lt, touched.up k lt);
       differs = λ e.
-          let h : c.loop-at.at < element_count t = let test = c.loop-at-test.true in omega (arith, ap length c.elements-count.ensures.value, ap (λ (d : Design). length d.elements) c.flat.ensures) in
-          (c.loop-at.at, h, le_lt (i.up c.loop-at.at h) (OnTrue_at c.if-rose.true touched.changed));
-      none = λ e. absurd (not_both _ refl e);
+          let h : c.loop-at.at < element_count t = omega (arith, c.count-count.ensures.value) in
+          (c.loop-at.at, h, let rose = OnTrue_at c.if-rose.true touched.changed in omega (arith, ints, i.up c.loop-at.at h));
+      none = λ e. absurd (cc);
     }
 
 pub loop-at-preserved : goal.loop-at-preserved
 loop-at-preserved c =
-    let t = c.args.system.now in
-    let s = c.args.schedule.now in
+    let t = c.args.clocked.now.system.now in
+    let s = c.args.clocked.now.schedule.now in
     let i = c.loop-at.invariant in
     let room = c.touch-rose.new.room in
     let stale = c.touch-rose.new.stale.words.items in
@@ -79,7 +54,7 @@ loop-at-preserved c =
     record {
       kept = kept-early c.args.room.now c.loop-at.room room _ touched.kept i.kept;
       swept = subst (λ xs. AreSwept t s xs room.early stale) (ap (λ (r : Space). r.late) i.kept) touched.swept;
-      up = λ k lt. le_trans (i.up k lt) (touched.up k lt);
-      differs = λ e. let before = i.differs e in (before.0, before.1, lt_le before.2 (touched.up before.0 before.1));
+      up = λ k lt. omega (arith, ints, i.up k lt, touched.up k lt);
+      differs = λ e. let before = i.differs e in (before.0, before.1, let rose = before.2 in omega (arith, ints, touched.up before.0 before.1));
       none = λ e. none-before c.loop-at.at _ c.loop-at.stale.words.items stale (i.none e) (OnFalse_at c.if-rose.false touched.out) (OnFalse_at c.if-rose.false touched.only) c.next-at-in-loop-at.ensures.none;
     }

@@ -1,8 +1,6 @@
 use Rattle.std.proofs.Common.{◌≤ℤ◌, ℤ, List, arith, sym, subst}
 use Rattle.std.proofs.lemmas.Int.{ints}
-use Rattle.mintc_timing.specs.Design.{Design}
 use Rattle.mintc_timing.specs.Departures.{departure}
-use Rattle.mintc_timing.specs.Limits.{IsDesign}
 use Rattle.mintc_departure.specs.Rounds.{AreSwept}
 use Rattle.mintc_departure.proofs.EarlyLaws.{rising-sums}
 use Rattle.mintc_departure.proofs.SweepLaws.{swept-still, swept-more, written-up, written-above}
@@ -10,13 +8,13 @@ use Rattle.mintc_departure.proofs.rising.touch.Goals as goal
 
 pub renew-requires-clause-departures : goal.renew-requires-clause-departures
 renew-requires-clause-departures c =
-    rising-sums c.args.system.now c.args.schedule.now (subst (λ (d : Design). IsDesign d) c.flat.ensures c.elements-elements.ensures.kept) c.pairs-pairs.ensures.kept c.requires.in_range c.requires.phases
+    rising-sums c.args.clocked.now.system.now c.args.clocked.now.schedule.now c.count-count.ensures.kept
     c.args.room.now.late c.requires.late c.args.room.now.early c.requires.swept.rising
 
 pub returns-then-not-renew-clause-swept : goal.returns-then-not-renew-clause-swept
 returns-then-not-renew-clause-swept c =
-    let t = c.args.system.now in
-    let s = c.args.schedule.now in
+    let t = c.args.clocked.now.system.now in
+    let s = c.args.clocked.now.schedule.now in
     let late = c.args.room.now.late in
     subst (λ (d : List ℤ). AreSwept t s late d c.remove.new.self.words.items) (sym c.if-not-renew.ensures.same)
     (swept-still t s late c.args.room.now.early c.args.element c.args.stale.now.words.items c.remove.new.self.words.items c.requires.swept c.if-not-renew.ensures.still c.remove.ensures.count c.remove.ensures.others)
@@ -27,15 +25,15 @@ returns-then-not-renew-clause-up c l h =
 
 pub returns-clause-swept : goal.returns-clause-swept
 returns-clause-swept c =
-    swept-more c.args.system.now c.args.schedule.now (subst (λ (d : Design). IsDesign d) c.flat.ensures c.elements-elements.ensures.kept) c.pairs-pairs.ensures.kept c.requires.in_range c.requires.phases
+    swept-more c.args.clocked.now.system.now c.args.clocked.now.schedule.now c.count-count.ensures.kept
     c.args.room.now.late c.requires.late c.args.room.now.early c.renew.new.room.early c.args.element c.args.stale.now.words.items c.remove.new.self.words.items c.wake.new.stale.words.items
     c.requires.swept c.requires.element c.if-not-renew.ensures.written c.remove.ensures.count c.remove.ensures.others c.wake.ensures.count c.wake.ensures.kept c.wake.ensures.woken
 
 pub returns-clause-up : goal.returns-clause-up
 returns-clause-up c =
-    written-up c.args.system.now c.args.schedule.now c.args.room.now.late c.args.room.now.early c.renew.new.room.early c.args.element c.requires.swept.rising c.requires.element c.if-not-renew.ensures.written
+    written-up c.args.clocked.now.system.now c.args.clocked.now.schedule.now c.args.room.now.late c.args.room.now.early c.renew.new.room.early c.args.element c.requires.swept.rising c.requires.element c.if-not-renew.ensures.written
 
 pub returns-clause-changed : goal.returns-clause-changed
 returns-clause-changed c =
-    written-above c.args.system.now c.args.schedule.now c.args.room.now.late c.args.room.now.early c.renew.new.room.early c.args.element c.requires.swept.rising c.requires.element c.if-not-renew.ensures.written
+    written-above c.args.clocked.now.system.now c.args.clocked.now.schedule.now c.args.room.now.late c.args.room.now.early c.renew.new.room.early c.args.element c.requires.swept.rising c.requires.element c.if-not-renew.ensures.written
     c.if-not-renew.ensures.changed

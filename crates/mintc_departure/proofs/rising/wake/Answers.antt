@@ -1,60 +1,33 @@
-use Rattle.std.proofs.Common.{◌≡◌, ◌-◌, length, arith, refl, ◌∙◌, subst}
+use Rattle.std.proofs.Common.{◌≡◌, ◌-◌, arith, ◌∙◌, subst}
 use Rattle.mintc_places.specs.Places.{IsIn}
 use Rattle.mintc_timing.specs.declared.parts.Pair.{Pair}
 use Rattle.mintc_timing.specs.Design.{element_count, pair_at}
 use Rattle.mintc_departure.specs.Chains.{IsLastOf}
 use Rattle.mintc_departure.specs.declared.chains.End.TheVariants.{First}
-use Rattle.mintc_departure.proofs.ChainLaws.{chain-head, chain-next, woken-more}
+use Rattle.mintc_departure.proofs.ChainLaws.{chain-next, woken-more}
 use Rattle.mintc_departure.proofs.rising.wake.Goals as goal
-
-pub loop-next-init : goal.loop-next-init
-loop-next-init c =
-    let t = c.args.system.now in
-    let last : IsLastOf t.pairs First c.args.element (length t.pairs) c.index-next.result.now =
-    chain-head t.pairs First (element_count t) c.args.out.now c.requires.out c.args.element _ c.requires.element c.index-next.ensures in
-    record {
-      within = last.fits;
-      from = last.has;
-      count = refl;
-      kept = λ k h. h;
-      woken = λ n a b is. absurd (last.last n a b is);
-    }
-
-pub pair-requires : goal.pair-requires
-pair-requires c = let h = c.loop-next.invariant.within in let test = c.loop-next-test.true in omega arith
-
-pub insert-requires : goal.insert-requires
-insert-requires c = let to = c.pair.ensures.to in let all = c.requires.places in let same = c.loop-next.invariant.count in omega arith
 
 pub index-next-requires-in-loop-next : goal.index-next-requires-in-loop-next
 index-next-requires-in-loop-next c =
-    let h = c.loop-next.invariant.within in
-    let test = c.loop-next-test.true in
-    let same = c.requires.out.nexts_count in
     omega (arith, c.args.out.now.nexts.ok.0)
 
 next-last : (c : goal.After-row_known-in-loop-next-3-1) → IsLastOf c.args.system.now.pairs First c.args.element (c.loop-next.next - 1) c.index-next-in-loop-next.result.now
 next-last c =
     let t = c.args.system.now in
     let n = c.loop-next.next - 1 in
-    let test = c.loop-next-test.true in
     let from : (pair_at t n).from ≡ c.args.element = c.loop-next.invariant.from n (omega arith) in
-    let h = c.loop-next.invariant.within in
     subst (λ l. IsLastOf t.pairs First l n c.index-next-in-loop-next.result.now) from
     (chain-next t.pairs First (element_count t) c.args.out.now c.requires.out n _ (omega arith) c.index-next-in-loop-next.ensures)
 
 pub loop-next-smaller : goal.loop-next-smaller
-loop-next-smaller c = let last = next-last c in let fits = last.fits in let test = c.loop-next-test.true in omega arith
+loop-next-smaller c = let last = next-last c in let fits = last.fits in omega arith
 
 pub loop-next-preserved : goal.loop-next-preserved
 loop-next-preserved c =
     let t = c.args.system.now in
     let i = c.loop-next.invariant in
-    let h = i.within in
     let n = c.loop-next.next - 1 in
-    let test = c.loop-next-test.true in
     let last = next-last c in
-    let fits = last.fits in
     let there : IsIn c.insert.new.self.words.items (pair_at t n).to = subst (λ (p : Pair). IsIn c.insert.new.self.words.items p.to) c.pair.ensures.value c.insert.ensures.inserted in
     record {
       within = omega arith;
@@ -63,12 +36,3 @@ loop-next-preserved c =
       kept = λ k g. c.insert.ensures.kept k (i.kept k g);
       woken = woken-more t.pairs c.args.element n _ c.insert.new.self.words.items last there (λ m a b is. c.insert.ensures.kept _ (i.woken m (omega arith) b is));
     }
-
-pub returns-clause-count : goal.returns-clause-count
-returns-clause-count c = c.loop-next.invariant.count
-
-pub returns-clause-kept : goal.returns-clause-kept
-returns-clause-kept c = c.loop-next.invariant.kept
-
-pub returns-clause-woken : goal.returns-clause-woken
-returns-clause-woken c n h is = let test = c.loop-next-test.false in c.loop-next.invariant.woken n (omega arith) h is

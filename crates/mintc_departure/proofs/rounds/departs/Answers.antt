@@ -4,21 +4,19 @@ use Rattle.std.proofs.lemmas.Int.{ints, clamps, to_z-of_z}
 use Rattle.mintc_timing.specs.declared.parts.Element.{Element}
 use Rattle.mintc_timing.specs.Design.{element_at}
 use Rattle.mintc_departure.specs.declared.arrivals.TheConstants.{NEVER}
-use Rattle.mintc_departure.specs.Rounds.{IsArrival}
+use Rattle.mintc_departure.specs.Rounds.{IsArrivalSum}
 use Rattle.mintc_departure.proofs.EarlyLaws.{departs-by_first}
 use Rattle.mintc_departure.proofs.rounds.departs.Goals as goal
 
 pub returns : goal.returns
 returns c d is =
-    let t = c.args.system.now in
+    let t = c.args.clocked.now.system.now in
     let first = c.args.first in
     let ne : first ≢ NEVER = λ e. c.if-first-eq-NEVER.false (ap (of_z w128) e) in
-    let range : IsArrival first = ⊎_elim (λ e. absurd (ne e)) (λ r. r) c.requires.first in
-    let r0 = range.0 in
-    let r1 = range.1 in
+    let range : IsArrivalSum first = ⊎_elim (λ e. absurd (ne e)) (λ r. r) c.requires.first in
     let start = c.early_start-start.ensures in
     let latch : (element_at t c.args.number).flop ≡ false = sym (ap (λ (e : Element). e.flop) c.element.ensures.value) ∙ c.if-element.false in
     let larger : c.max.result ≡ int_max c.early_start-start.result first = omega (arith, ints, clamps, c.max.ensures.value) in
     let fits : SFits w64 c.max.result = omega (arith, ints, clamps) in
     to_z-of_z w64 c.max.result fits
-    ∙ departs-by_first t c.args.schedule.now d c.args.number first c.max.result latch ne is (larger ∙ ap (λ z. int_max z first) start.value)
+    ∙ departs-by_first t c.args.clocked.now.schedule.now d c.args.number first c.max.result latch ne is (larger ∙ ap (λ z. int_max z first) start.value)

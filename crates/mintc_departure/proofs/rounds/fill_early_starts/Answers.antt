@@ -1,7 +1,6 @@
 use Rattle.std.proofs.Common.{◌≡◌, ◌<◌, length, set, arith, ap, ◌∙◌, SFits, w64, length-set}
 use Rattle.std.proofs.lemmas.Int.{ints, to_z-of_z}
 use Rattle.mintc_constraints.specs.Rooms.{Space}
-use Rattle.mintc_timing.specs.Design.{Design}
 use Rattle.mintc_departure.specs.Rounds.{early_start_of}
 use Rattle.mintc_departure.proofs.Filling.{filled-more, kept-early}
 use Rattle.mintc_departure.proofs.rounds.fill_early_starts.Goals as goal
@@ -15,9 +14,9 @@ loop-number-preserved c =
     let fits : SFits w64 x = let r = c.early_start.ensures.range in omega (arith, ints) in
     let write = ap (λ (r : Space). r.early) c.set_early.ensures in
     let written : c.set_early.new.self.early ≡ set xs n x = write ∙ ap (λ z. set xs n z) (to_z-of_z w64 x fits) in
-    let inside : n < length xs = let h = c.loop-number-test.true in omega (arith, i.count, ap length c.elements-count.ensures.value, ap (λ (d : Design). length d.elements) c.flat.ensures) in
+    let inside : n < length xs = omega (arith, i.count, c.count-count.ensures.value) in
     record {
       kept = kept-early c.args.room.now c.loop-number.room c.set_early.new.self _ c.set_early.ensures i.kept;
       count = ap length written ∙ length-set xs n x ∙ i.count;
-      filled = filled-more (early_start_of c.args.system.now c.args.schedule.now) xs c.set_early.new.self.early n x written inside c.early_start.ensures.value i.filled;
+      filled = filled-more (early_start_of c.args.clocked.now.system.now c.args.clocked.now.schedule.now) xs c.set_early.new.self.early n x written inside c.early_start.ensures.value i.filled;
     }

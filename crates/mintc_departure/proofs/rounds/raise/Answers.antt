@@ -1,9 +1,9 @@
-use Rattle.std.proofs.Common.{◌≡◌, ◌≢◌, ◌<◌, ◌+◌, ◌≤◌, ℕ, ℤ, List, pos, Bool, true, false, length, set, arith, sym, ap, ◌∙◌, SFits, w64, of_z, length-set, below_more, get_or-set_other, Option, Some, None}
+use Rattle.std.proofs.Common.{◌≡◌, ◌≢◌, ◌<◌, ◌+◌, ◌≤◌, ℕ, ℤ, List, pos, length, set, arith, sym, ap, ◌∙◌, SFits, w64, of_z, length-set, below_more, get_or-set_other, Option, Some, None}
 use Rattle.std.specs.Int.{w128}
 use Rattle.std.proofs.lemmas.Int.{ints, to_z-of_z}
 use Rattle.mintc_constraints.specs.Rooms.{Space}
 use Rattle.mintc_walks.specs.Walks.{value_at}
-use Rattle.mintc_timing.specs.Design.{Design, element_count}
+use Rattle.mintc_timing.specs.Design.{element_count}
 use Rattle.mintc_timing.specs.Departures.{departure, early_departure, early_arrivals}
 use Rattle.mintc_timing.specs.Extremes.{least_of}
 use Rattle.mintc_timing.proofs.Fitting.{same_bits}
@@ -15,22 +15,21 @@ use Rattle.mintc_departure.proofs.rounds.raise.Goals.{then-time-before, else-tim
 
 first-fits : (o : Option ℤ) (v : ℤ) → IsFirst o v → SFits w128 v
 first-fits None v is = rw is (omega (arith, ints))
-first-fits (Some a) v is = let e = is.0 in let r = is.1 in let r0 = r.0 in let r1 = r.1 in omega (arith, ints)
+first-fits (Some a) v is = let e = is.0 in let r = is.1 in omega (arith, ints)
 
 rest-more : (old xs ys : List ℤ) (n : ℕ) (y : ℤ) → ys ≡ set xs n y → ((k : ℕ) → n ≤ k → departure xs k ≡ departure old k) → (k : ℕ) → n + 1 ≤ k → departure ys k ≡ departure old k
 rest-more old xs ys n y e rest k h = let ne : k ≢ n = omega arith in rw e (get_or-set_other xs n k y (pos 0) ne ∙ rest k (omega arith))
 
 pub loop-number-preserved : goal.loop-number-preserved
 loop-number-preserved c =
-    let t = c.args.system.now in
-    let s = c.args.schedule.now in
+    let t = c.args.clocked.now.system.now in
+    let s = c.args.clocked.now.schedule.now in
     let old = c.args.room.now.early in
     let i = c.loop-number.invariant in
     let n = c.loop-number.number in
     let xs = c.loop-number.room.early in
     let x = c.departs-time.result in
-    let h : n < element_count t =
-    let test = c.loop-number-test.true in omega (arith, ap length c.elements-number-end.ensures.value, ap (λ (d : Design). length d.elements) c.flat.ensures) in
+    let h : n < element_count t = omega (arith, c.count-number-end.ensures.value) in
     let value = ap (λ (vs : List ℤ). value_at vs n) (c.values.ensures ∙ ap (λ (r : Space). r.values) i.kept) in
     let first : IsFirst (least_of (early_arrivals t s old n)) (value_at c.args.room.now.values n) = c.requires.firsts n h in
     let time_is : x ≡ early_departure t s old n = c.departs-time.ensures old (rw (value, to_z-of_z w128 _ (first-fits _ _ first)) first) in
@@ -49,7 +48,7 @@ loop-number-preserved c =
         count = count;
         done = done;
         rest = rest;
-        still = λ e. absurd (not_both _ w.changed-is e);
+        still = λ e. absurd (cc);
         differs = λ e. (n, h, λ same. w.if-time-before.true (ap (of_z w64) (time_is ∙ same ∙ sym before)));
       }
       | else-time-before w ↦ record {
@@ -62,6 +61,3 @@ loop-number-preserved c =
         differs = λ e. i.differs (sym w.changed-is ∙ e);
       }
     ]
-  where
-    not_both : (b : Bool) → b ≡ true → b ≡ false → ⊥
-    not_both b g k = cc

@@ -2,7 +2,6 @@ use Rattle.std.proofs.Common.{◌≡◌, ◌<◌, length, set, arith, ap, ◌∙
 use Rattle.std.specs.Int.{w128}
 use Rattle.std.proofs.lemmas.Int.{ints, to_z-of_z}
 use Rattle.mintc_constraints.specs.Rooms.{Space}
-use Rattle.mintc_timing.specs.Design.{Design}
 use Rattle.mintc_departure.specs.Networks.{late_start_of}
 use Rattle.mintc_departure.proofs.Filling.{filled-more, kept-values}
 use Rattle.mintc_departure.proofs.settling.fill_starts.Goals as goal
@@ -17,9 +16,9 @@ loop-number-preserved c =
     let wide : SFits w128 c.from.result = let r = c.late_start.ensures.range in omega (arith, ints) in
     let write = ap (λ (r : Space). r.values) c.set_values.ensures in
     let written : c.set_values.new.self.values ≡ set xs n c.from.result = write ∙ ap (λ x. set xs n x) (to_z-of_z w128 c.from.result wide) in
-    let inside : n < length xs = let h = c.loop-number-test.true in omega (arith, i.count, ap length c.elements-count.ensures.value, ap (λ (d : Design). length d.elements) c.flat.ensures) in
+    let inside : n < length xs = omega (arith, i.count, c.count-count.ensures.value) in
     record {
       kept = kept-values c.args.room.now c.loop-number.room c.set_values.new.self _ c.set_values.ensures i.kept;
       count = ap length written ∙ length-set xs n c.from.result ∙ i.count;
-      filled = filled-more (late_start_of c.args.system.now c.args.schedule.now) xs c.set_values.new.self.values n c.from.result written inside (from ∙ c.late_start.ensures.value) i.filled;
+      filled = filled-more (late_start_of c.args.clocked.now.system.now c.args.clocked.now.schedule.now) xs c.set_values.new.self.values n c.from.result written inside (from ∙ c.late_start.ensures.value) i.filled;
     }

@@ -1,0 +1,9 @@
+use Rattle.std.proofs.Common.{◌≡◌, ◌++◌, take, map}
+use Rattle.std.specs.List.{range_with_len}
+use Rattle.mintc_timing.specs.Violations.{failed}
+use Rattle.mintc_departure.specs.Checks.{phase_check}
+use Rattle.mintc_departure.proofs.clock_checks.judge_phases.Given as goal
+
+-- the phases so far are judged
+abbrev pub invariant-loop-index : goal.invariant-loop-index
+invariant-loop-index l = l.violations.items ≡ l.fn.violations.items ++ failed (map (phase_check l.clocked.system.now l.clocked.schedule.now l.rule) (take l.index (range_with_len 1 l.count)))

@@ -1,7 +1,0 @@
-use Rattle.std.proofs.Common.{◌≡◌, ◌++◌, take}
-use Rattle.mintc_timing.specs.Violations.{failed, span_checks}
-use Rattle.mintc_departure.proofs.clock_checks.judge_spans.Given as goal
-
--- the checks so far are judged
-abbrev pub invariant-loop-index : goal.invariant-loop-index
-invariant-loop-index l = l.violations.items ≡ l.fn.violations.items ++ failed (take l.index (span_checks l.system l.schedule))
