@@ -42,8 +42,8 @@ abbrev pub AreTimely : List Labels → Type 0
 AreTimely labels = (bit lane : ℕ) → bit < length labels → lane < 8 → IfSome (label_at labels bit lane) IsLate
 
 -- an arrival
-abbrev pub IsArrival : ℤ → Type 0
-IsArrival x = (negsuc 299999999999999 ≤ℤ x) × (x ≤ℤ pos 500000000000000)
+abbrev pub IsArrivalTime : ℤ → Type 0
+IsArrivalTime x = (negsuc 299999999999999 ≤ℤ x) × (x ≤ℤ pos 500000000000000)
 
 -- Element l is a latch on phase j, and data of phase i reaches it.
 abbrev pub IsFedAt : Design → List Labels → ℕ → ℕ → ℕ → Type 0

@@ -13,6 +13,7 @@ ghost use Rattle.mintc_timing.specs.Paths.{ArePairs};
 ghost use Rattle.mintc_checker.specs.Verdicts.{IsVerdict};
 
 mod arrivals;
+mod designs;
 mod examining;
 mod labels;
 mod members;
