@@ -1,14 +1,13 @@
 //! The last arrivals at elements, and what they ask.
-ghost use Rattle.std.specs.Prelude.{◌≡◌, ◌<◌, ◌+◌, ◌*◌, ℕ, ℤ, List, length, IfSome, All};
+ghost use Rattle.std.specs.Prelude.{◌≡◌, ◌<◌, ◌+◌, ◌*◌, ℕ, ℤ, List, length, IfSome};
 ghost use Rattle.std.specs.Int.{int_max};
 ghost use Rattle.mintc_lanes.specs.Lanes.{joined};
 ghost use Rattle.mintc_timing.specs.Departures.{AreExact, departure, late_departure as departure_of, late_opening};
 ghost use Rattle.mintc_timing.specs.Design.{element_count};
 ghost use Rattle.mintc_timing.specs.Limits.{IsModest};
 ghost use Rattle.mintc_timing.specs.Right.{KeepsSetup};
-ghost use Rattle.mintc_certificate.specs.Ranges.{IsDeparture};
 ghost use Rattle.mintc_demands.specs.Alone.{alone};
-ghost use Rattle.mintc_checker.specs.Judged.{AreTimely, Decides, IsArrivalTime, IsLate, OfTiming};
+ghost use Rattle.mintc_checker.specs.Judged.{AreTimely, AreTimelyLabels, Decides, IsArrivalTime, IsLate, OfTiming};
 ghost use Rattle.mintc_checker.specs.Labels.{AreLabels};
 ghost use Rattle.mintc_checker.specs.Trails.{IsLastArrival};
 
@@ -88,9 +87,7 @@ fn is_exact(
     number: usize,
 ) -> bool
     requires number { number < length clocked.now.flat.now.elements }
-    requires departures { All IsDeparture departures.now }
-    requires labels { AreLabels clocked.now.flat.now clocked.now.schedule.now.den departures.now labels.now }
-    requires timely { AreTimely labels.now }
+    requires labels { AreTimelyLabels clocked.now.flat.now clocked.now.schedule.now.den departures.now labels.now }
     ensures { Decides clocked.now.flat.now result (λ t. departure departures.now number ≡ departure_of t clocked.now.schedule.now departures.now number) }
 {
     departure_at(departures, number) == late_departure(clocked, labels, number)
@@ -98,10 +95,8 @@ fn is_exact(
 
 /// Whether all departures are exact: the fourth test.
 pub(crate) fn are_exact(clocked: &ClockedDesign<'_>, labels: &[Labels], departures: &[i64]) -> bool
-    requires departures { All IsDeparture departures.now }
     requires elements { length departures.now ≡ length clocked.now.flat.now.elements }
-    requires labels { AreLabels clocked.now.flat.now clocked.now.schedule.now.den departures.now labels.now }
-    requires timely { AreTimely labels.now }
+    requires labels { AreTimelyLabels clocked.now.flat.now clocked.now.schedule.now.den departures.now labels.now }
     ensures { Decides clocked.now.flat.now result (λ t. AreExact t clocked.now.schedule.now departures.now) }
 {
     for number in 0..clocked.flat.elements().len() {
@@ -120,9 +115,7 @@ fn keeps_setup(
     number: usize,
 ) -> bool
     requires number { number < length clocked.now.flat.now.elements }
-    requires departures { All IsDeparture departures.now }
-    requires labels { AreLabels clocked.now.flat.now clocked.now.schedule.now.den departures.now labels.now }
-    requires timely { AreTimely labels.now }
+    requires labels { AreTimelyLabels clocked.now.flat.now clocked.now.schedule.now.den departures.now labels.now }
     ensures { Decides clocked.now.flat.now result (λ t. KeepsSetup t clocked.now.schedule.now departures.now number) }
 {
     let element = element(clocked.flat, number);
@@ -143,9 +136,7 @@ pub(crate) fn keep_setups(
     labels: &[Labels],
     departures: &[i64],
 ) -> bool
-    requires departures { All IsDeparture departures.now }
-    requires labels { AreLabels clocked.now.flat.now clocked.now.schedule.now.den departures.now labels.now }
-    requires timely { AreTimely labels.now }
+    requires labels { AreTimelyLabels clocked.now.flat.now clocked.now.schedule.now.den departures.now labels.now }
     ensures { Decides clocked.now.flat.now result (λ t. (l : ℕ) → l < element_count t → KeepsSetup t clocked.now.schedule.now departures.now l) }
 {
     for number in 0..clocked.flat.elements().len() {

@@ -1,11 +1,10 @@
 //! The seven tests in their order.
-ghost use Rattle.std.specs.Prelude.{All, IfOk};
+ghost use Rattle.std.specs.Prelude.{IfOk};
 ghost use Rattle.mintc_timing.specs.Order.{IsOrder, ArePathsShort};
-ghost use Rattle.mintc_certificate.specs.Ranges.{IsCertificateInRange, IsChainInRange, IsDeparture, IsLeastInRange};
+ghost use Rattle.mintc_certificate.specs.Ranges.{IsCertificateInRange, IsChainInRange, IsLeastInRange};
 ghost use Rattle.mintc_certificate.specs.Valid.{SchedulePasses, counts};
 ghost use Rattle.mintc_demands.specs.Alone.{alone};
-ghost use Rattle.mintc_checker.specs.Judged.{AreTimely, IsFed, OfTiming};
-ghost use Rattle.mintc_checker.specs.Labels.{AreLabels};
+ghost use Rattle.mintc_checker.specs.Judged.{AreTimelyLabels, IsFed, OfTiming};
 ghost use Rattle.mintc_checker.specs.Verdicts.{IsFirstOfSchedule, IsVerdict};
 
 use crate::Verdict;
@@ -26,10 +25,8 @@ fn first_of_schedule(
     labels: &[Labels],
     fed: &[bool],
 ) -> Option<u32>
-    requires departures { All IsDeparture departures.now }
     requires counts { SchedulePasses (alone clocked.now.flat.now) clocked.now.schedule.now departures.now counts }
-    requires labels { AreLabels clocked.now.flat.now clocked.now.schedule.now.den departures.now labels.now }
-    requires timely { AreTimely labels.now }
+    requires labels { AreTimelyLabels clocked.now.flat.now clocked.now.schedule.now.den departures.now labels.now }
     requires fed { IsFed clocked.now.flat.now fed.now }
     ensures { OfTiming clocked.now.flat.now (λ t. IsFirstOfSchedule t clocked.now.schedule.now departures.now result) }
 {

@@ -7,8 +7,8 @@ ghost use Rattle.mintc_timing.specs.Limits.{IsTime};
 ghost use Rattle.mintc_timing.specs.Order.{IsOrder};
 ghost use Rattle.mintc_certificate.specs.Ranges.{IsDeparture};
 ghost use Rattle.mintc_checker.specs.Trails.{element_of};
-ghost use Rattle.mintc_checker.specs.Judged.{AreTimely};
-ghost use Rattle.mintc_checker.specs.Labels.{AreLabels, AreLabelsOf, IsStart, label_at, labels_at, IsAlong};
+ghost use Rattle.mintc_checker.specs.Judged.{AreTimelyLabels};
+ghost use Rattle.mintc_checker.specs.Labels.{AreLabelsOf, IsStart, label_at, labels_at, IsAlong};
 
 use crate::designs::DepartingDesign;
 use crate::reading::{arc_at_place, element};
@@ -147,8 +147,7 @@ fn fill(labels: &mut [Labels], departing: &DepartingDesign<'_>, order: &Order)
     requires order { IsOrder departing.now.flat.now.arcs order.now }
     requires count { length labels.old ≡ 2 * length departing.now.flat.now.elements + length departing.now.flat.now.inner }
     requires absent { (bit : ℕ) → bit < length labels.old → labels_at labels.old bit ≡ NO_LABELS }
-    ensures labels { AreLabels departing.now.flat.now departing.now.den departing.now.departures.now labels.new }
-    ensures timely { AreTimely labels.new }
+    ensures { AreTimelyLabels departing.now.flat.now departing.now.den departing.now.departures.now labels.new }
 {
     let _elements = departing.flat.elements();
     begin_all(labels, departing);
@@ -162,8 +161,7 @@ pub(crate) fn labels_of(
     order: &Order,
 ) -> Result<Vec<Labels>, OutOfMemory>
     requires order { IsOrder departing.now.flat.now.arcs order.now }
-    ensures labels { IfOk result (λ labels. AreLabels departing.now.flat.now departing.now.den departing.now.departures.now labels.items) }
-    ensures timely { IfOk result (λ labels. AreTimely labels.items) }
+    ensures { IfOk result (λ labels. AreTimelyLabels departing.now.flat.now departing.now.den departing.now.departures.now labels.items) }
 {
     let bits = 2 * departing.flat.elements().len() + departing.flat.inner().items().len();
     match vec![in alloc; NO_LABELS; bits] {

@@ -42,7 +42,7 @@ returns-then-not-element c = λ along pairs are_pairs.
 pub returns-in-Some : goal.returns-in-Some
 returns-in-Some c = λ along pairs are_pairs.
     let flop = sym (ap (λ (e : Element). e.flop) c.element-element.ensures.value) ∙ c.if-not-element.false in
-    let last = subst (λ o. IsLastArrival c.args.clocked.now.flat.now c.args.clocked.now.schedule.now c.args.departures.now c.args.number o) c.in-Some.is (c.last_arrival.ensures.last c.args.departures.now c.requires.labels) in
+    let last = subst (λ o. IsLastArrival c.args.clocked.now.flat.now c.args.clocked.now.schedule.now c.args.departures.now c.args.number o) c.in-Some.is (c.last_arrival.ensures.last c.args.departures.now c.requires.labels.each) in
     let range = subst (λ (o : Option ℤ). IfSome o IsArrivalTime) c.in-Some.is c.last_arrival.ensures.range in
     let setup = scaled_is c.scaled-setup.result c.element-element.result.now.setup c.args.clocked.now.schedule.now.den (IsTime-IsGap _ c.element-element.ensures.kept.setup) (IsTime-IsDenominator _ c.args.clocked.now.in_range.den) c.scaled-setup.ensures.value
     ∙ ap (λ (x : Element). x.setup *ℤ c.args.clocked.now.schedule.now.den) c.element-element.ensures.value in
@@ -54,5 +54,5 @@ returns-in-Some c = λ along pairs are_pairs.
 pub returns-in-None : goal.returns-in-None
 returns-in-None c = λ along pairs are_pairs.
     let flop = sym (ap (λ (e : Element). e.flop) c.element-element.ensures.value) ∙ c.if-not-element.false in
-    let last = subst (λ o. IsLastArrival c.args.clocked.now.flat.now c.args.clocked.now.schedule.now c.args.departures.now c.args.number o) c.in-None.is (c.last_arrival.ensures.last c.args.departures.now c.requires.labels) in
+    let last = subst (λ o. IsLastArrival c.args.clocked.now.flat.now c.args.clocked.now.schedule.now c.args.departures.now c.args.number o) c.in-None.is (c.last_arrival.ensures.last c.args.departures.now c.requires.labels.each) in
     holds (setup-none c.args.clocked.now.flat.now c.args.clocked.now.schedule.now c.args.departures.now c.args.number c.args.clocked.now.in_range.den.0 c.requires.number flop last along pairs are_pairs)

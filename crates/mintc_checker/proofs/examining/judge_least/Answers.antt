@@ -15,7 +15,7 @@ returns-then-not-has_counts c = λ along pairs are_pairs.
 pub first_of_schedule-requires-clause-fed : goal.first_of_schedule-requires-clause-fed
 first_of_schedule-requires-clause-fed c =
     c.feeds_table-fed.ensures c.args.departures.now (to_z w64 (of_z w64 c.args.schedule.now.den))
-    (subst (λ ls. AreLabels c.args.flat.now (to_z w64 (of_z w64 c.args.schedule.now.den)) c.args.departures.now ls) (sym c.deref.ensures.value) c.in_ok-labels.ensures.labels)
+    (subst (λ ls. AreLabels c.args.flat.now (to_z w64 (of_z w64 c.args.schedule.now.den)) c.args.departures.now ls) (sym c.deref.ensures.value) c.in_ok-labels.ensures.each)
 
 pub returns-in-Some : goal.returns-in-Some
 returns-in-Some c = λ along pairs are_pairs.
@@ -24,7 +24,7 @@ returns-in-Some c = λ along pairs are_pairs.
 pub are_ring-requires-clause-fed : goal.are_ring-requires-clause-fed
 are_ring-requires-clause-fed c =
     c.feeds_table-fed.ensures c.args.departures.now (to_z w64 (of_z w64 c.args.schedule.now.den))
-    (subst (λ ls. AreLabels c.args.flat.now (to_z w64 (of_z w64 c.args.schedule.now.den)) c.args.departures.now ls) (sym c.deref.ensures.value) c.in_ok-labels.ensures.labels)
+    (subst (λ ls. AreLabels c.args.flat.now (to_z w64 (of_z w64 c.args.schedule.now.den)) c.args.departures.now ls) (sym c.deref.ensures.value) c.in_ok-labels.ensures.each)
 
 pub returns-then-not-are_ring : goal.returns-then-not-are_ring
 returns-then-not-are_ring c = λ along pairs are_pairs.

@@ -13,7 +13,7 @@ invariant_of-departing c = record { short = c.requires.short; in_range = λ k d 
 
 pub are_ring-requires-clause-fed : goal.are_ring-requires-clause-fed
 are_ring-requires-clause-fed c =
-    c.feeds_table-fed.ensures [] (pos 1) (subst (λ ls. AreLabels c.args.flat.now (pos 1) [] ls) (sym c.deref.ensures.value) c.in_ok-labels.ensures.labels)
+    c.feeds_table-fed.ensures [] (pos 1) (subst (λ ls. AreLabels c.args.flat.now (pos 1) [] ls) (sym c.deref.ensures.value) c.in_ok-labels.ensures.each)
 
 pub returns-then-not-are_ring : goal.returns-then-not-are_ring
 returns-then-not-are_ring c = λ along pairs are_pairs.
