@@ -14,9 +14,3 @@ pub loop-number-preserved : goal.loop-number-preserved
 loop-number-preserved c = λ along pairs are_pairs.
     below_more (λ k. departure c.args.departures.now k ≡ late_departure (timing_of c.args.clocked.now.flat.now along pairs) c.args.clocked.now.schedule.now c.args.departures.now k) c.loop-number.number
     (c.loop-number.invariant along pairs are_pairs) ((c.is_exact.ensures along pairs are_pairs).0 c.if-not-is_exact.false)
-
-pub returns : goal.returns
-returns c = λ along pairs are_pairs.
-    let high = c.loop-number-test.false in
-    let count = ap length c.elements-number-end.ensures.value in
-    holds (record { count = c.requires.elements; each = λ l below. c.loop-number.invariant along pairs are_pairs l (omega arith) })

@@ -9,12 +9,6 @@ use Rattle.mintc_checker.specs.Trails.{IsLastUpTo}
 use Rattle.mintc_checker.proofs.Arriving.{last-none, last-more, last-all}
 use Rattle.mintc_checker.proofs.arrivals.last_arrival.Goals as goal
 
-pub loop-lane-init : goal.loop-lane-init
-loop-lane-init c = record {
-  last_so_far = λ d labels. last-none c.args.clocked.now.flat.now c.elements-elements.ensures.kept c.args.clocked.now.schedule.now d c.args.number c.element.result.now.phase;
-  range = tt;
-}
-
 pub loop-lane-preserved : goal.loop-lane-preserved
 loop-lane-preserved c = record {
   last_so_far = λ d labels.

@@ -10,12 +10,6 @@ use Rattle.mintc_checker.specs.Trails.{IsLastArrival}
 use Rattle.mintc_checker.proofs.Exact.{departs-flop, departs-latch}
 use Rattle.mintc_checker.proofs.arrivals.late_departure.Goals as goal
 
-pub returns-then-element : goal.returns-then-element
-returns-then-element c = record {
-  value = λ d labels along pairs are_pairs.
-      departs-flop c.args.clocked.now.flat.now c.args.clocked.now.schedule.now d c.args.number (sym (ap (λ (e : Element). e.flop) c.element.ensures.value) ∙ c.if-element.true) along pairs are_pairs;
-}
-
 greater : (x opens last : ℤ) → x ≡ int_max (to_z w64 (of_z w64 opens)) (to_z w64 (of_z w64 last)) → IsModest opens → IsArrivalTime last → to_z w64 (of_z w64 x) ≡ int_max opens last
 greater x opens last e h g = let h0 = h.0 in let h1 = h.1 in let g0 = g.0 in let g1 = g.1 in omega (arith, ints, clamps, e)
 

@@ -17,10 +17,6 @@ first_of_schedule-requires-clause-fed c =
     c.feeds_table-fed.ensures c.args.departures.now (to_z w64 (of_z w64 c.args.schedule.now.den))
     (subst (λ ls. AreLabels c.args.flat.now (to_z w64 (of_z w64 c.args.schedule.now.den)) c.args.departures.now ls) (sym c.deref.ensures.value) c.in_ok-labels.ensures.each)
 
-pub returns-in-Some : goal.returns-in-Some
-returns-in-Some c = λ along pairs are_pairs.
-    subst (λ (o : Option ℕ). IsFirstOfSchedule (timing_of c.args.flat.now along pairs) c.args.schedule.now c.args.departures.now o) c.in-Some.is (c.first_of_schedule.ensures along pairs are_pairs) c.args.chain.now
-
 pub are_ring-requires-clause-fed : goal.are_ring-requires-clause-fed
 are_ring-requires-clause-fed c =
     c.feeds_table-fed.ensures c.args.departures.now (to_z w64 (of_z w64 c.args.schedule.now.den))

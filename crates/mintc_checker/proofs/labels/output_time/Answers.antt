@@ -15,9 +15,3 @@ returns-clause-value c =
     let a = c.departure_at.ensures.range in
     let b = c.scaled.ensures.range in
     rw (← product, ← c.departure_at.ensures.value) (omega (arith, ints))
-
-pub returns-clause-range : goal.returns-clause-range
-returns-clause-range c =
-    let a = c.departure_at.ensures.range in
-    let b = c.scaled.ensures.range in
-    (omega (arith, ints), omega (arith, ints))
