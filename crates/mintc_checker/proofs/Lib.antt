@@ -8,7 +8,6 @@ pub mod Deciding
 pub mod Scaled
 pub mod Fed
 pub mod Bounds
-pub mod Rests
 pub mod Exact
 pub mod Firsts
 pub mod Answering

@@ -1,7 +1,7 @@
 use Rattle.std.proofs.Common.{◌<◌, length, arith, ap}
 use Rattle.mintc_timing.specs.Right.{KeepsSetup}
 use Rattle.mintc_checker.specs.Judged.{timing_of}
-use Rattle.mintc_checker.proofs.Deciding.{denied, holds}
+use Rattle.mintc_checker.proofs.Deciding.{denied}
 use borrow.Author.Count.{below_more}
 use Rattle.mintc_checker.proofs.arrivals.keep_setups.Goals as goal
 

@@ -6,7 +6,7 @@ use Rattle.mintc_timing.proofs.Fitting.{read_time, IsTime-IsModest}
 use Rattle.mintc_lanes.specs.Lanes.{joined}
 use Rattle.mintc_checker.specs.Labels.{label_at}
 use Rattle.mintc_checker.specs.Trails.{IsLastUpTo}
-use Rattle.mintc_checker.proofs.Arriving.{last-none, last-more, last-all}
+use Rattle.mintc_checker.proofs.Arriving.{last-more, last-all}
 use Rattle.mintc_checker.proofs.arrivals.last_arrival.Goals as goal
 
 pub loop-lane-preserved : goal.loop-lane-preserved

@@ -7,7 +7,7 @@ use Rattle.mintc_timing.specs.Limits.{IsModest}
 use Rattle.mintc_timing.proofs.Fitting.{read_time, IsTime-IsModest}
 use Rattle.mintc_checker.specs.Judged.{IsArrivalTime}
 use Rattle.mintc_checker.specs.Trails.{IsLastArrival}
-use Rattle.mintc_checker.proofs.Exact.{departs-flop, departs-latch}
+use Rattle.mintc_checker.proofs.Exact.{departs-latch}
 use Rattle.mintc_checker.proofs.arrivals.late_departure.Goals as goal
 
 greater : (x opens last : ℤ) → x ≡ int_max (to_z w64 (of_z w64 opens)) (to_z w64 (of_z w64 last)) → IsModest opens → IsArrivalTime last → to_z w64 (of_z w64 x) ≡ int_max opens last
