@@ -12,10 +12,6 @@ one_of x y = by_lt_z x y (λ h. inr (omega (arith, ints, clamps))) (λ h. inl (o
 abbrev Attains : (ℕ → List ℕ → Type 0) → (ℕ → List ℕ → ℤ) → ℤ → Type 0
 Attains IsTrail time z = (j : ℕ) × (path : List ℕ) × IsTrail j path × (time j path ≡ z)
 
--- where no trail is
-pub greatest_of_none : (IsTrail : ℕ → List ℕ → Type 0) (time : ℕ → List ℕ → ℤ) → ((j : ℕ) (path : List ℕ) → IsTrail j path → ⊥) → IsGreatestTime IsTrail time None
-greatest_of_none IsTrail time none = record { attained = tt; bound = λ j path h. none j path h }
-
 -- where one trail is
 pub greatest_of_one : (IsTrail : ℕ → List ℕ → Type 0) (time : ℕ → List ℕ → ℤ) (i : ℕ) (p : List ℕ) (z : ℤ) → IsTrail i p → time i p ≡ z →
     ((j : ℕ) (path : List ℕ) → IsTrail j path → time j path ≡ z) → IsGreatestTime IsTrail time (Some z)
