@@ -9,16 +9,7 @@ use Rattle.mintc_certificate.specs.Valid.{link_of, links_of_members}
 
 same_link : (t : Timing) (m : Member) → link_of (alone t.flat) m ≡ link_of t m
 same_link t (member.Start p) = refl
-same_link t (member.Cycle p) = refl
-same_link t (member.Order p) = refl
-same_link t (member.Span p) = refl
-same_link t (member.Width p) = refl
-same_link t (member.Apart i j) = refl
-same_link t (member.Opening l) = refl
-same_link t (member.Opened l) = refl
-same_link t (member.Reach j l path) = refl
-same_link t (member.Setup l) = refl
-same_link t (member.Bound n) = refl
+same_link t m = refl
 
 pub same_links : (t : Timing) (ms : List Member) → links_of_members (alone t.flat) ms ≡ links_of_members t ms
 same_links t [] = refl

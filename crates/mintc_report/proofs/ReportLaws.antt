@@ -71,16 +71,7 @@ late_more elements den late n old now new name other f before below is a written
 -- a member has a kind
 names_some : (t : Timing) (m : Member) → 0 < length (member_names t m)
 names_some t (member.Start p) = omega arith
-names_some t (member.Cycle p) = omega arith
-names_some t (member.Order p) = omega arith
-names_some t (member.Span p) = omega arith
-names_some t (member.Width p) = omega arith
-names_some t (member.Apart i j) = omega arith
-names_some t (member.Opening l) = omega arith
-names_some t (member.Opened l) = omega arith
-names_some t (member.Reach j l path) = omega arith
-names_some t (member.Setup l) = omega arith
-names_some t (member.Bound n) = omega arith
+names_some t m = omega arith
 
 -- a line that is written as some words, others after them, and its line feed
 line_written : (old begun all front back : List ℕ) → begun ≡ old ++ front → all ≡ begun ++ (back ++ 10 ∷ []) → all ≡ old ++ ended (front ++ back)
