@@ -1,4 +1,5 @@
-use Rattle.std.proofs.Common.{◌≡◌, ◌<◌, ◌+◌, ◌-◌, ℕ, ℤ, pos, ◌+ℤ◌, ◌-ℤ◌, ◌*ℤ◌, inl, inr, List, [], ◌∷◌, ◌++◌, length, map, Option, Some, None}
+-- Violations name pairs that the design has.
+use Rattle.std.proofs.Common.{◌<◌, ◌+◌, ◌-◌, ℕ, ℤ, pos, ◌+ℤ◌, ◌-ℤ◌, ◌*ℤ◌, inl, inr, List, [], ◌∷◌, ◌++◌, length, map, Option, Some, None}
 use Rattle.std.specs.Prelude.{filter, filter_map, flat_map, option_map, int_lt, All}
 use Rattle.std.specs.List.{range_with_len, enumerate_from, cons_option}
 use Rattle.std.specs.Option.{IfSome}
@@ -37,10 +38,6 @@ All-filter_map P f (x ∷ xs) each = All-cons_option P (f x) (filter_map f xs) (
 IfSome-option_map : {X A : Type 0} (P : A → Type 0) (f : X → A) (o : Option X) → ((x : X) → P (f x)) → IfSome (option_map f o) P
 IfSome-option_map P f None each = tt
 IfSome-option_map P f (Some x) each = each x
-
--- A constraint that is no loop names no pairs.
-none_named : (count : ℕ) (v : Violation) → ring_of v.broken ≡ [] → NamesPairs count v
-none_named count v none = All-same (λ n. n < count) (ring_of v.broken) [] none (All-nil (λ n. n < count))
 
 checks_named : {X : Type 0} (count : ℕ) (f : X → Violation) (xs : List X) → ((x : X) → NamesPairs count (f x)) → All (NamesPairs count) (map f xs)
 checks_named count f xs each = All-map (NamesPairs count) f xs (All-each (λ x. NamesPairs count (f x)) xs each)

@@ -1,8 +1,8 @@
 use Rattle.std.proofs.Common.{length, ◌∙◌, ap, SFits, w64, rules}
 use Rattle.std.proofs.lemmas.Int.{to_z-of_z}
 use Rattle.mintc_timing.specs.Design.{Design}
-use Rattle.mintc_report.specs.Answers.{IsLowestOf}
-use Rattle.mintc_report.specs.Reports.{AppendsLines, AreLateLines}
+use Rattle.mintc_report.specs.Answers.{AppendsLines, IsLowestOf}
+use Rattle.mintc_report.specs.Reports.{AreLateLines}
 use Rattle.mintc_report.proofs.ReportLaws.{least_written}
 use Rattle.mintc_report.proofs.report.least_text.Goals as goal
 
