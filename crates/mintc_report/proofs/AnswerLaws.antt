@@ -84,21 +84,15 @@ violation-written pairs den violation f old begun first all h e g i = record {
   appended = violation_written old (broken_words violation.broken) (fraction_word f) (text_of (reach_lines pairs (ring_of violation.broken))) begun first all e g i;
 }
 
-AppendsViolations-push : (pairs : List Pair) (den : ℤ) (violations : List Violation) (violation : Violation) (old now new : List ℕ) →
-    AppendsViolations pairs den violations old now → AppendsLines (AreViolationLines pairs den violation) now new →
-    AppendsViolations pairs den (violations ++ violation ∷ []) old new
-AppendsViolations-push pairs den violations violation old now new before h =
-    let joined : flat_map text_of (before.answers ++ h.lines ∷ []) ≡ flat_map text_of before.answers ++ text_of h.lines =
-    flat_map-append text_of before.answers (h.lines ∷ []) ∙ ap (λ v. flat_map text_of before.answers ++ v) (append-nil (text_of h.lines)) in
-    record {
-      answers = before.answers ++ h.lines ∷ [];
-      each = AllZip-more _ violations before.answers violation h.lines before.each h.are_lines;
-      appended = h.appended ∙ ap (λ v. v ++ text_of h.lines) before.appended ∙ append_assoc old _ _ ∙ ap (λ v. old ++ v) (sym joined);
-    }
-
 -- a violation is appended to the text of those before it
 pub AppendsViolations-more : (pairs : List Pair) (den : ℤ) (violations : List Violation) (i : ℕ) (violation : Violation) (old now new : List ℕ) →
     AppendsViolations pairs den (take i violations) old now → i < length violations → violation ≡ get_or violations i violation →
     AppendsLines (AreViolationLines pairs den violation) now new → AppendsViolations pairs den (take (i + 1) violations) old new
 AppendsViolations-more pairs den violations i violation old now new before below is h =
-    rw (take_more violations i violation below, ← is) (AppendsViolations-push pairs den (take i violations) violation old now new before h)
+    let joined : flat_map text_of (before.answers ++ h.lines ∷ []) ≡ flat_map text_of before.answers ++ text_of h.lines =
+    flat_map-append text_of before.answers (h.lines ∷ []) ∙ ap (λ v. flat_map text_of before.answers ++ v) (append-nil (text_of h.lines)) in
+    rw (take_more violations i violation below, ← is) (record {
+      answers = before.answers ++ h.lines ∷ [];
+      each = AllZip-more _ (take i violations) before.answers violation h.lines before.each h.are_lines;
+      appended = h.appended ∙ ap (λ v. v ++ text_of h.lines) before.appended ∙ append_assoc old _ _ ∙ ap (λ v. old ++ v) (sym joined);
+    })
