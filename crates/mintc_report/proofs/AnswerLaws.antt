@@ -1,5 +1,6 @@
 -- What the writers of a pass and of a fail append.
-use Rattle.std.proofs.Common.{◌≡◌, ℕ, zero, suc, ◌+◌, ◌<◌, ℤ, List, [], ◌∷◌, ◌++◌, length, get_or, take, refl, ap, ◌∙◌, sym, arith, add-one, append_assoc}
+use Rattle.std.proofs.Common.{◌≡◌, ℕ, zero, suc, ◌+◌, ◌<◌, ℤ, List, [], ◌∷◌, ◌++◌, length, get_or, take, refl, ap, ◌∙◌, sym, arith, add-one, append_assoc, SFits, w64, to_z, of_z}
+use Rattle.std.proofs.lemmas.Int.{to_z-of_z}
 use Rattle.std.specs.Prelude.{codes, flat_map}
 use Rattle.std.specs.List.{AllZip, range_with_len}
 use Rattle.std.proofs.lemmas.Grind.{flat_map-append}
@@ -27,6 +28,10 @@ range_more a zero j e = let same : a ≡ j = omega arith in ap (λ (k : ℕ). k 
 range_more a (suc n) j e = ap (λ (v : List ℕ). a ∷ v) (range_more (a + 1) n j (omega arith))
 
 -- ---- the elements of a pass
+
+-- what `lowest` ensures of numbers that fit
+pub lowest_as : (num den : ℤ) (f : Ratio) → SFits w64 num → SFits w64 den → IsLowestOf (to_z w64 (of_z w64 num)) (to_z w64 (of_z w64 den)) f → IsLowestOf num den f
+lowest_as num den f num_fits den_fits h = rw (to_z-of_z w64 num num_fits, to_z-of_z w64 den den_fits) at h
 
 pub IsWordOf-lowest : (num den : ℤ) (f : Ratio) → IsLowestOf num den f → IsWordOf num den (fraction_word f)
 IsWordOf-lowest num den f h = record { lowest = f; is_lowest = h; written = refl }

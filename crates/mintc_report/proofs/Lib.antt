@@ -3,6 +3,5 @@ pub mod DeterminedLaws
 pub mod NamedLaws
 pub mod ReportLaws
 pub mod Throughs
-pub mod ValidParts
 pub mod WorkedReports
 pub mod SummaryLaws
