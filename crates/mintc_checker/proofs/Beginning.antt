@@ -9,7 +9,7 @@ use Rattle.mintc_lanes.specs.Lanes.{lane_at}
 use Rattle.mintc_checker.specs.declared.labels.Labels.{Labels}
 use Rattle.mintc_checker.specs.Trails.{IsGreatestTime, LeadsFrom, element_of, time_along}
 use Rattle.mintc_checker.specs.Labels.{labels_at, label_at, AreLabelsOf, IsStart}
-use Rattle.mintc_checker.proofs.Greatest.{greatest_of_one, greatest_alike}
+use Rattle.mintc_checker.proofs.Greatest.{greatest_of_one, greatest_same}
 
 -- the time of an empty path
 pub time-empty : (design : Design) (den : ℤ) (d : List ℤ) (j : ℕ) → time_along design den d j [] ≡ departure d j +ℤ (element_of design j).dq_max *ℤ den
@@ -39,12 +39,12 @@ module _ (design : Design) (den : ℤ) (d : List ℤ) (i lane : ℕ) (time : ℤ
       (λ ne. let below = g.1.0 in inl (g.0, (omega arith, g.1.1)))
       (cases_eq j i)
 
-  more : (l bit j : ℕ) (path : List ℕ) → Starts i l bit j path → Starts (i + 1) l bit j path × (time_along design den d j path ≡ time_along design den d j path)
-  more l bit j path g = let below = g.1.0 in ((g.0, (omega arith, g.1.1)), refl)
+  more : (l bit j : ℕ) (path : List ℕ) → Starts i l bit j path → Starts (i + 1) l bit j path
+  more l bit j path g = let below = g.1.0 in (g.0, (omega arith, g.1.1))
 
   label-other : (l bit : ℕ) (x : Option ℤ) → (bit ≡ output_of i → l ≡ lane → ⊥) → IsGreatestTime (Starts i l bit) (time_along design den d) x → IsGreatestTime (Starts (i + 1) l bit) (time_along design den d) x
   label-other l bit x ne g =
-      greatest_alike (Starts i l bit) (Starts (i + 1) l bit) (time_along design den d) (time_along design den d) (more l bit)
+      greatest_same (Starts i l bit) (Starts (i + 1) l bit) (time_along design den d) (more l bit)
       (λ j path k. ⊎_elim (λ old. old) (λ new. absurd (ne new.0 new.1)) (last l bit j path k)) x g
 
   label-own : IsGreatestTime (Starts (i + 1) lane (output_of i)) (time_along design den d) (Some time)

@@ -13,22 +13,12 @@ tests = counts ∷ clock ∷ bounds ∷ departures ∷ setups ∷ ring ∷ sums 
 
 place_of : (test : Test) → get_or tests (number_of test - 1) counts ≡ test
 place_of counts = refl
-place_of clock = refl
-place_of bounds = refl
-place_of departures = refl
-place_of setups = refl
-place_of ring = refl
-place_of sums = refl
+place_of test = refl
 
 -- the numbers of tests
 pub number-range : (test : Test) → (1 ≤ number_of test) × (number_of test ≤ 7)
 number-range counts = (omega arith, omega arith)
-number-range clock = (omega arith, omega arith)
-number-range bounds = (omega arith, omega arith)
-number-range departures = (omega arith, omega arith)
-number-range setups = (omega arith, omega arith)
-number-range ring = (omega arith, omega arith)
-number-range sums = (omega arith, omega arith)
+number-range test = (omega arith, omega arith)
 
 module _ (t : Timing) (certificate : Certificate) where
   none_below : PassesBelow t certificate 1
