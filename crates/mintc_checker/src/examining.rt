@@ -68,7 +68,7 @@ fn judge_least(
         den: schedule.den,
     };
     let labels = labels_of(alloc, &departing, order)?;
-    let fed = feeds_table(flat, &labels);
+    let fed = feeds_table(&departing, &labels);
     let clocked = ClockedDesign { flat, schedule };
     if let Some(test) = first_of_schedule(&clocked, departures, &labels, &fed) {
         return Ok(Verdict::Invalid(test));
@@ -100,7 +100,7 @@ fn judge_never(
         den: 1,
     };
     let labels = labels_of(alloc, &departing, order)?;
-    let fed = feeds_table(flat, &labels);
+    let fed = feeds_table(&departing, &labels);
     if !are_ring(flat, &fed, chain) {
         return Ok(Verdict::Invalid(6));
     }

@@ -1,13 +1,12 @@
 //! The tests of a schedule against the counts, the clock and the bounds.
-ghost use Rattle.std.specs.Prelude.{◌≡◌, ◌+◌, ◌-◌, ◌*◌, ◌<◌, ◌≤◌, ◌≤ℤ◌, ◌-ℤ◌, ◌*ℤ◌, pos, ℕ, ℤ, List, length, IsTrue, ◌↔◌, All};
+ghost use Rattle.std.specs.Prelude.{◌≡◌, ◌+◌, ◌-◌, ◌*◌, ◌<◌, ◌≤◌, ◌≤ℤ◌, ◌-ℤ◌, ◌*ℤ◌, pos, ℕ, length, IsTrue, ◌↔◌, All};
 ghost use Rattle.mintc_timing.specs.Clocking.{KeepsApart, KeepsBound, KeepsClock, KeepsPhase, EachPhase, crosses_of, end_of, least_width, start_of, width_of};
 ghost use Rattle.mintc_timing.specs.Limits.{IsBound, IsPhase};
 ghost use Rattle.mintc_certificate.specs.Valid.{SchedulePasses, counts};
 ghost use Rattle.mintc_demands.specs.Alone.{alone};
-ghost use Rattle.mintc_checker.specs.Judged.{Decides, IsFed, IsFedAt, KeepsOwn};
-ghost use Rattle.mintc_checker.specs.Labels.{AreLabels};
+ghost use Rattle.mintc_checker.specs.Judged.{AreTimelyLabels, Decides, IsFed, IsFedAt, KeepsOwn};
 
-use crate::designs::ClockedDesign;
+use crate::designs::{ClockedDesign, DepartingDesign};
 use crate::labels::{Labels, label_in};
 use crate::reading::element;
 use mintc_demands::{
@@ -56,13 +55,18 @@ fn feeds(flat: &Flat, labels: &[Labels], i: u32, j: u32) -> bool
 }
 
 /// Which phase feeds which: `i` feeds `j` at place `8 * (i - 1) + (j - 1)`.
-pub(crate) fn feeds_table(flat: &Flat, labels: &[Labels]) -> [bool; 64]
-    requires count { length labels.now ≡ 2 * length flat.now.elements + length flat.now.inner }
-    ensures { (d : List ℤ) (den : ℤ) → AreLabels flat.now den d labels.now → IsFed flat.now result }
+pub(crate) fn feeds_table(departing: &DepartingDesign<'_>, labels: &[Labels]) -> [bool; 64]
+    requires { AreTimelyLabels departing.now.flat.now departing.now.den departing.now.departures.now labels.now }
+    ensures { IsFed departing.now.flat.now result }
 {
     let mut fed = [false; 64];
     for place in 0..64 {
-        fed[place] = feeds(flat, labels, place as u32 / 8 + 1, place as u32 % 8 + 1);
+        fed[place] = feeds(
+            departing.flat,
+            labels,
+            place as u32 / 8 + 1,
+            place as u32 % 8 + 1,
+        );
     }
     fed
 }

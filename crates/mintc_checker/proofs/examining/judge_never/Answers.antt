@@ -1,8 +1,7 @@
-use Rattle.std.proofs.Common.{pos, [], sym, subst, arith}
+use Rattle.std.proofs.Common.{arith}
 use Rattle.std.proofs.lemmas.Int.{ints}
 use Rattle.mintc_certificate.specs.declared.certificate.Certificate.TheVariants.{Never}
 use Rattle.mintc_certificate.specs.Valid.{ring, sums}
-use Rattle.mintc_checker.specs.Labels.{AreLabels}
 use Rattle.mintc_checker.specs.Judged.{timing_of}
 use Rattle.mintc_checker.proofs.Firsts.{after_setups, fails_first, passes_more, valid_of}
 use Rattle.mintc_checker.proofs.Deciding.{refused}
@@ -10,10 +9,6 @@ use Rattle.mintc_checker.proofs.examining.judge_never.Goals as goal
 
 pub invariant_of-departing : goal.invariant_of-departing
 invariant_of-departing c = record { short = c.requires.short; in_range = λ k d below. absurd (omega arith); is_den = (omega (arith, ints), omega (arith, ints)) }
-
-pub are_ring-requires-clause-fed : goal.are_ring-requires-clause-fed
-are_ring-requires-clause-fed c =
-    c.feeds_table-fed.ensures [] (pos 1) (subst (λ ls. AreLabels c.args.flat.now (pos 1) [] ls) (sym c.deref.ensures.value) c.in_ok-labels.ensures.each)
 
 pub returns-then-not-are_ring : goal.returns-then-not-are_ring
 returns-then-not-are_ring c = λ along pairs are_pairs.
