@@ -1,5 +1,5 @@
 -- The last arrival at an element, phase by phase.
-use Rattle.std.proofs.Common.{◌≡◌, ℕ, ◌+◌, ℤ, ◌+ℤ◌, List, length, arith, refl, ap, ◌∙◌, sym, inl, inr, ⊎_elim, Option, None}
+use Rattle.std.proofs.Common.{◌≡◌, ℕ, ◌+◌, ℤ, ◌+ℤ◌, List, length, arith, refl, ap, ◌∙◌, sym, inl, inr, ⊎_elim, Option}
 use Rattle.std.specs.Int.{int_max}
 use Rattle.std.proofs.lemmas.Bool.{cases_eq}
 use Rattle.mintc_timing.specs.declared.clocking.Schedule.{Schedule}
@@ -9,16 +9,9 @@ use Rattle.mintc_timing.specs.Limits.{IsDesign}
 use Rattle.mintc_timing.specs.Paths.{input_of}
 use Rattle.mintc_lanes.specs.Lanes.{joined}
 use Rattle.mintc_checker.specs.Trails.{LeadsTo, LeadsFrom, LeadsFromUpTo, element_of, time_along, arrival_along, IsLabel, IsLastArrival, IsLastUpTo}
-use Rattle.mintc_checker.proofs.Greatest.{greatest_of_none, greatest_alike, greatest_joined}
+use Rattle.mintc_checker.proofs.Greatest.{greatest_alike, greatest_joined}
 
 module _ (design : Design) (limits : IsDesign design) (s : Schedule) (d : List ℤ) (l q : ℕ) where
-  pub last-none : IsLastUpTo design s d 0 l q None
-  last-none = greatest_of_none (LeadsFromUpTo design 0 (input_of l)) (arrival_along design s d q)
-      (λ j path h.
-      let low = h.phase in
-      let named = (limits.each_element j no_element h.trail.element).phase in
-      omega (arith, named.0))
-
   pub last-more : (p : ℕ) (last label : Option ℤ) (w : ℤ) → w ≡ shift_of s (p + 1) q → IsLastUpTo design s d p l q last → IsLabel design s.den d (p + 1) (input_of l) label →
       IsLastUpTo design s d (p + 1) l q (joined int_max last label w)
   last-more p last label w is h g =

@@ -1,31 +1,15 @@
 -- Labels along no arcs.
-use Rattle.std.proofs.Common.{◌≡◌, ◌≢◌, ℕ, ◌<◌, ◌+◌, ◌*◌, ℤ, pos, ◌+ℤ◌, ◌*ℤ◌, List, [], length, arith, refl, ap, ◌∙◌, sym, ◌⊎◌, inl, inr, ⊎_elim, Option, Some, None, subst}
+use Rattle.std.proofs.Common.{◌≡◌, ◌≢◌, ℕ, ◌<◌, ◌+◌, ℤ, pos, ◌+ℤ◌, ◌*ℤ◌, List, [], length, arith, refl, ap, ◌∙◌, sym, ◌⊎◌, inl, inr, ⊎_elim, Option, Some, subst}
 use Rattle.std.proofs.lemmas.Int.{ints}
-use Rattle.std.proofs.lemmas.List.{get_or-replicate}
 use Rattle.std.proofs.lemmas.Bool.{cases_eq}
 use Rattle.mintc_timing.specs.Departures.{departure}
 use Rattle.mintc_timing.specs.Design.{Design}
 use Rattle.mintc_timing.specs.Paths.{Leads, output_of}
-use Rattle.mintc_lanes.specs.declared.TheConstants.{ABSENT}
-use Rattle.mintc_lanes.specs.Lanes.{lane_of, lane_at}
-use Rattle.mintc_checker.specs.declared.labels.TheConstants.{NO_LABELS}
+use Rattle.mintc_lanes.specs.Lanes.{lane_at}
 use Rattle.mintc_checker.specs.declared.labels.Labels.{Labels}
 use Rattle.mintc_checker.specs.Trails.{IsGreatestTime, LeadsFrom, element_of, time_along}
 use Rattle.mintc_checker.specs.Labels.{labels_at, label_at, AreLabelsOf, IsStart}
-use Rattle.mintc_checker.proofs.Greatest.{greatest_of_none, greatest_of_one, greatest_alike}
-
-none_at : (lane : ℕ) → lane < 8 → lane_at NO_LABELS.lanes lane ≡ None
-none_at lane below = let e = get_or-replicate 8 lane ABSENT ABSENT below in ap lane_of e
-
-pub AreStarts-none : (design : Design) (den : ℤ) (d : List ℤ) (labels : List Labels) → length labels ≡ 2 * length design.elements + length design.inner →
-    ((bit : ℕ) → bit < length labels → labels_at labels bit ≡ NO_LABELS) → AreLabelsOf design den d (IsStart 0) labels
-AreStarts-none design den d labels count absent = record {
-  count = count;
-  each = λ bit lane within eight.
-      let none : label_at labels bit lane ≡ None = ap (λ (s : Labels). lane_at s.lanes lane) (absent bit within) ∙ none_at lane eight in
-      subst (λ o. IsGreatestTime (λ j path. LeadsFrom design (lane + 1) bit j path × IsStart 0 j path) (time_along design den d) o) (sym none)
-      (greatest_of_none (λ j path. LeadsFrom design (lane + 1) bit j path × IsStart 0 j path) (time_along design den d) (λ j path h. let low = h.1.0 in omega arith));
-}
+use Rattle.mintc_checker.proofs.Greatest.{greatest_of_one, greatest_same}
 
 -- the time of an empty path
 pub time-empty : (design : Design) (den : ℤ) (d : List ℤ) (j : ℕ) → time_along design den d j [] ≡ departure d j +ℤ (element_of design j).dq_max *ℤ den
@@ -55,12 +39,12 @@ module _ (design : Design) (den : ℤ) (d : List ℤ) (i lane : ℕ) (time : ℤ
       (λ ne. let below = g.1.0 in inl (g.0, (omega arith, g.1.1)))
       (cases_eq j i)
 
-  more : (l bit j : ℕ) (path : List ℕ) → Starts i l bit j path → Starts (i + 1) l bit j path × (time_along design den d j path ≡ time_along design den d j path)
-  more l bit j path g = let below = g.1.0 in ((g.0, (omega arith, g.1.1)), refl)
+  more : (l bit j : ℕ) (path : List ℕ) → Starts i l bit j path → Starts (i + 1) l bit j path
+  more l bit j path g = let below = g.1.0 in (g.0, (omega arith, g.1.1))
 
   label-other : (l bit : ℕ) (x : Option ℤ) → (bit ≡ output_of i → l ≡ lane → ⊥) → IsGreatestTime (Starts i l bit) (time_along design den d) x → IsGreatestTime (Starts (i + 1) l bit) (time_along design den d) x
   label-other l bit x ne g =
-      greatest_alike (Starts i l bit) (Starts (i + 1) l bit) (time_along design den d) (time_along design den d) (more l bit)
+      greatest_same (Starts i l bit) (Starts (i + 1) l bit) (time_along design den d) (more l bit)
       (λ j path k. ⊎_elim (λ old. old) (λ new. absurd (ne new.0 new.1)) (last l bit j path k)) x g
 
   label-own : IsGreatestTime (Starts (i + 1) lane (output_of i)) (time_along design den d) (Some time)

@@ -17,7 +17,7 @@ use Rattle.mintc_lanes.specs.Lanes.{lane_at, joined, AreJoined}
 use Rattle.mintc_checker.specs.declared.labels.Labels.{Labels}
 use Rattle.mintc_checker.specs.Trails.{IsGreatestTime, LeadsFrom, element_of, time_along}
 use Rattle.mintc_checker.specs.Labels.{labels_at, label_at, AreLabels, AreLabelsOf, IsStart, IsAlong}
-use Rattle.mintc_checker.proofs.Greatest.{greatest_alike, greatest_joined}
+use Rattle.mintc_checker.proofs.Greatest.{greatest_same, greatest_joined}
 
 -- an arc of the order is one of the design's
 pub arc_inside : (arcs : List TimingArc) (order : List ℕ) → IsOrder arcs order → (n m : ℕ) → All (IsArc n m) arcs → (i : ℕ) → i < length order → IsArc n m (arc_at arcs (get_or order i 0))
@@ -54,8 +54,8 @@ module _ (design : Design) (den : ℤ) (d : List ℤ) where
     below : n < length design.arcs
     below = subst (λ m. m < length design.arcs) is (inside design.arcs order is_order k low)
 
-    more : (p bit j : ℕ) (path : List ℕ) → Trails k p bit j path → Trails (k + 1) p bit j path × (time_along design den d j path ≡ time_along design den d j path)
-    more p bit j path h = ((h.0, AreAmong-more order k path h.1), refl)
+    more : (p bit j : ℕ) (path : List ℕ) → Trails k p bit j path → Trails (k + 1) p bit j path
+    more p bit j path h = (h.0, AreAmong-more order k path h.1)
 
     longer : (p j : ℕ) (path : List ℕ) → Trails k p from j path → (after : List ℕ) × Trails (k + 1) p to j after × (time_along design den d j after ≡ time_along design den d j path +ℤ (arc_at design.arcs n).max *ℤ den)
     longer p j path h =
@@ -77,14 +77,14 @@ module _ (design : Design) (den : ℤ) (d : List ℤ) where
     -- A bit that the arc doesn't enter keeps its labels; the one that it enters takes those of the other end.
     label-other : (p bit : ℕ) (x : Option ℤ) → bit ≢ to → IsGreatestTime (Trails k p bit) (time_along design den d) x → IsGreatestTime (Trails (k + 1) p bit) (time_along design den d) x
     label-other p bit x ne h =
-        greatest_alike (Trails k p bit) (Trails (k + 1) p bit) (time_along design den d) (time_along design den d) (more p bit)
+        greatest_same (Trails k p bit) (Trails (k + 1) p bit) (time_along design den d) (more p bit)
         (λ j path g. ⊎_elim (λ old. old) (λ new. absurd (ne new.0)) (last p bit j path g)) x h
 
     label-joined : (p : ℕ) (x y : Option ℤ) → IsGreatestTime (Trails k p to) (time_along design den d) x → IsGreatestTime (Trails k p from) (time_along design den d) y →
         IsGreatestTime (Trails (k + 1) p to) (time_along design den d) (joined int_max x y ((arc_at design.arcs n).max *ℤ den))
     label-joined p x y h g =
         greatest_joined (Trails k p to) (Trails k p from) (Trails (k + 1) p to) (time_along design den d) (time_along design den d) (time_along design den d) ((arc_at design.arcs n).max *ℤ den)
-        (more p to) (longer p) (λ j path t. ⊎_elim (λ old. inl (old, refl)) (λ new. inr new.1) (last p to j path t)) x y h g
+        (λ j path t. (more p to j path t, refl)) (longer p) (λ j path t. ⊎_elim (λ old. inl (old, refl)) (λ new. inr new.1) (last p to j path t)) x y h g
 
     -- the same of the arc by its number
     carried_at : (old new : List Labels) (w : ℤ) → length new ≡ length old → from < length old → to < length old → w ≡ (arc_at design.arcs n).max *ℤ den →
@@ -121,9 +121,8 @@ pub along_none : (design : Design) (den : ℤ) (d : List ℤ) (order : List ℕ)
 along_none design den d order labels h = record {
   count = h.count;
   each = λ bit lane within eight.
-      greatest_alike (λ j path. LeadsFrom design (lane + 1) bit j path × IsStart (length design.elements) j path) (λ j path. LeadsFrom design (lane + 1) bit j path × IsAlong order 0 j path)
-      (time_along design den d) (time_along design den d)
-      (λ j path g. ((g.0, subst (λ xs. AreAmong order 0 xs) (sym g.1.1) tt), refl))
+      greatest_same (λ j path. LeadsFrom design (lane + 1) bit j path × IsStart (length design.elements) j path) (λ j path. LeadsFrom design (lane + 1) bit j path × IsAlong order 0 j path) (time_along design den d)
+      (λ j path g. (g.0, subst (λ xs. AreAmong order 0 xs) (sym g.1.1) tt))
       (λ j path g. (g.0, (g.0.trail.element, none_among order path g.1)))
       (label_at labels bit lane) (h.each bit lane within eight);
 }
@@ -134,9 +133,8 @@ pub along_all : (design : Design) (den : ℤ) (d : List ℤ) (order : List ℕ) 
 along_all design den d order is_order labels h = record {
   count = h.count;
   each = λ bit lane within eight.
-      greatest_alike (λ j path. LeadsFrom design (lane + 1) bit j path × IsAlong order (length order) j path) (LeadsFrom design (lane + 1) bit)
-      (time_along design den d) (time_along design den d)
-      (λ j path g. (g.0, refl))
+      greatest_same (λ j path. LeadsFrom design (lane + 1) bit j path × IsAlong order (length order) j path) (LeadsFrom design (lane + 1) bit) (time_along design den d)
+      (λ j path g. g.0)
       (λ j path g. (g, all_among design.arcs order is_order (output_of j) path bit g.trail.leads))
       (label_at labels bit lane) (h.each bit lane within eight);
 }

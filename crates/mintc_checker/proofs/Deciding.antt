@@ -2,7 +2,7 @@
 use Rattle.std.proofs.Common.{◌≡◌, Bool, true, false, IsTrue, ◌↔◌, refl, ℕ, ◌==◌, arith}
 use Rattle.std.proofs.lemmas.Bool.Decides.{nat_tests}
 
-true_or_false : (b : Bool) → b ≡ false → b ≡ true → ⊥
+pub true_or_false : (b : Bool) → b ≡ false → b ≡ true → ⊥
 true_or_false b h g = cc
 
 not_true : IsTrue false → ⊥

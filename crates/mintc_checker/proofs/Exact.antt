@@ -12,10 +12,7 @@ use Rattle.mintc_checker.specs.Trails.{element_of, IsLastArrival}
 use Rattle.mintc_checker.proofs.Pairing.{arrivals_are}
 
 module _ (design : Design) (s : Schedule) (d : List ℤ) (l : ℕ) where
-  -- a flop's departure, and a latch's by its last arrival
-  pub departs-flop : (element_of design l).flop ≡ true → OfTiming design (λ t. pos 0 ≡ late_departure t s d l)
-  departs-flop flop along pairs are_pairs = sym (ap (λ b. cond b (pos 0) (greater_of (late_opening (alone design) s l) (greatest_of (late_arrivals (timing_of design along pairs) s d l)))) flop)
-
+  -- a latch's departure, by its last arrival
   pub departs-latch : (last : Option ℤ) → pos 1 ≤ℤ s.den → l < length design.elements → (element_of design l).flop ≡ false → IsLastArrival design s d l last →
       OfTiming design (λ t. greater_of (late_opening (alone design) s l) last ≡ late_departure t s d l)
   departs-latch last positive inside latch h along pairs are_pairs =

@@ -1,5 +1,5 @@
 -- The greatest time of trails, as trails are added.
-use Rattle.std.proofs.Common.{◌≡◌, ℕ, ℤ, ◌+ℤ◌, ◌≤ℤ◌, List, arith, ap, ◌∙◌, sym, ◌⊎◌, inl, inr, ⊎_elim, Option, Some, None, subst}
+use Rattle.std.proofs.Common.{◌≡◌, ℕ, ℤ, ◌+ℤ◌, ◌≤ℤ◌, List, arith, refl, ap, ◌∙◌, sym, ◌⊎◌, inl, inr, ⊎_elim, Option, Some, None, subst}
 use Rattle.std.specs.Prelude.{IfSome, IsSomeAnd}
 use Rattle.std.specs.Int.{int_max}
 use Rattle.std.proofs.lemmas.Int.{ints, clamps, by_lt_z}
@@ -11,10 +11,6 @@ one_of x y = by_lt_z x y (λ h. inr (omega (arith, ints, clamps))) (λ h. inl (o
 
 abbrev Attains : (ℕ → List ℕ → Type 0) → (ℕ → List ℕ → ℤ) → ℤ → Type 0
 Attains IsTrail time z = (j : ℕ) × (path : List ℕ) × IsTrail j path × (time j path ≡ z)
-
--- where no trail is
-pub greatest_of_none : (IsTrail : ℕ → List ℕ → Type 0) (time : ℕ → List ℕ → ℤ) → ((j : ℕ) (path : List ℕ) → IsTrail j path → ⊥) → IsGreatestTime IsTrail time None
-greatest_of_none IsTrail time none = record { attained = tt; bound = λ j path h. none j path h }
 
 -- where one trail is
 pub greatest_of_one : (IsTrail : ℕ → List ℕ → Type 0) (time : ℕ → List ℕ → ℤ) (i : ℕ) (p : List ℕ) (z : ℤ) → IsTrail i p → time i p ≡ z →
@@ -40,6 +36,11 @@ module _ (A B : ℕ → List ℕ → Type 0) (f g : ℕ → List ℕ → ℤ)
     attained = attained_alike best h.attained;
     bound = λ j path k. let a = back j path k in bound_alike best (g j path) (f j path) (there j path a).1 (h.bound j path a);
   }
+
+-- the same trails, said otherwise
+pub greatest_same : (A B : ℕ → List ℕ → Type 0) (f : ℕ → List ℕ → ℤ) → ((j : ℕ) (path : List ℕ) → A j path → B j path) → ((j : ℕ) (path : List ℕ) → B j path → A j path) →
+    (best : Option ℤ) → IsGreatestTime A f best → IsGreatestTime B f best
+greatest_same A B f there back = greatest_alike A B f f (λ j path h. (there j path h, refl)) back
 
 -- Trails that are of one kind, or go on from trails of another one and so take longer.
 module _ (A B C : ℕ → List ℕ → Type 0) (f g h : ℕ → List ℕ → ℤ) (w : ℤ)

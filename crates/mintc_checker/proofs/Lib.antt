@@ -8,9 +8,6 @@ pub mod Deciding
 pub mod Scaled
 pub mod Fed
 pub mod Bounds
-pub mod Leading
-pub mod Rings
 pub mod Exact
 pub mod Firsts
 pub mod Answering
-pub mod Direct

@@ -1,9 +1,8 @@
 -- What labels say of a design with all its pairs.
-use Rattle.std.proofs.Common.{◌≡◌, ℕ, ◌<◌, ◌+◌, ◌*◌, ℤ, pos, ◌+ℤ◌, ◌*ℤ◌, ◌≤ℤ◌, ◌==◌, Bool, true, false, List, length, arith, refl, ap, ◌∙◌, sym, Option, Some, None, subst, eq-eqb}
+use Rattle.std.proofs.Common.{◌≡◌, ℕ, ◌<◌, ◌+◌, ◌*◌, ℤ, pos, ◌+ℤ◌, ◌*ℤ◌, ◌≤ℤ◌, ◌==◌, false, List, length, arith, refl, ap, ◌∙◌, sym, Option, Some, None, subst, eq-eqb}
 use Rattle.std.specs.Prelude.{IsSomeAnd}
 use Rattle.std.specs.List.{Contains}
 use Rattle.std.proofs.lemmas.Int.{ints}
-use Rattle.std.proofs.lemmas.Bool.Decides.{nat_tests}
 use Rattle.mintc_timing.specs.declared.parts.Pair.{Pair}
 use Rattle.mintc_timing.specs.declared.clocking.Schedule.{Schedule}
 use Rattle.mintc_timing.specs.Clocking.{shift_of}
@@ -13,17 +12,12 @@ use Rattle.mintc_timing.specs.Extremes.{greatest_of, IsGreatest}
 use Rattle.mintc_timing.specs.Paths.{IsPath, Leads, ArePairs, HasExtremes, input_of, output_of, greatest_delay}
 use Rattle.mintc_timing.proofs.ExtremesLaws.{greatest_is}
 use Rattle.mintc_timing.proofs.Products.{times-mono_positive}
+use Rattle.mintc_checker.proofs.Deciding.{same_test, true_or_false}
 use Rattle.mintc_checker.specs.Judged.{timing_of}
 use Rattle.mintc_checker.specs.Trails.{LeadsTo, element_of, arrival_along, IsLastArrival}
 
 not_odd : (j l : ℕ) → 2 * j + 1 ≡ 2 * l → ⊥
 not_odd j l e = omega arith
-
-same_numbers : (m n : ℕ) → (m == n) ≡ true → m ≡ n
-same_numbers m n h = grind (arith, nat_tests)
-
-not_both_ways : (b : Bool) → b ≡ true → b ≡ false → ⊥
-not_both_ways b g h = cc
 
 module _ (design : Design) (along : List ℕ) (pairs : List Pair) (are_pairs : ArePairs design pairs) where
   abbrev t : Timing
@@ -77,17 +71,17 @@ module _ (design : Design) (along : List ℕ) (pairs : List Pair) (are_pairs : A
         let found = pair_of_trail l a.0 a.1 inside a.2 in
         let at = found.1 in
         let none : (found.0.to == l) ≡ false = rw at.2 at (h at.0 found.0 at.1) in
-        absurd (not_both_ways (found.0.to == l) (eq-eqb found.0.to l found.4) none)
+        absurd (true_or_false (found.0.to == l) none (eq-eqb found.0.to l found.4))
     same (Some y) None h g =
         let some = h.attained in
         let p : Pair = some.1 in
         let extremes : HasExtremes design p = rw some.3 at (are_pairs.each some.0 p some.2) in
-        absurd (pair_bound None g p extremes (same_numbers p.to l some.4.0))
+        absurd (pair_bound None g p extremes ((same_test p.to l).0 some.4.0))
     same (Some y) (Some z) h g =
         let some = h.attained in
         let p : Pair = some.1 in
         let extremes : HasExtremes design p = rw some.3 at (are_pairs.each some.0 p some.2) in
-        let low : late_arrival t s d p ≤ℤ z = pair_bound (Some z) g p extremes (same_numbers p.to l some.4.0) in
+        let low : late_arrival t s d p ≤ℤ z = pair_bound (Some z) g p extremes ((same_test p.to l).0 some.4.0) in
         let is = some.4.1 in
         let a = g.attained in
         let found = pair_of_trail l a.0 a.1 inside a.2 in

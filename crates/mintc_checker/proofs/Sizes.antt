@@ -16,7 +16,7 @@ use Rattle.mintc_lanes.specs.Lanes.{AreLanes}
 use Rattle.mintc_checker.specs.declared.labels.Labels.{Labels}
 use Rattle.mintc_checker.specs.Trails.{IsGreatestTime, LeadsTo, LeadsFrom, element_of, time_along}
 use Rattle.mintc_checker.specs.Labels.{labels_at, label_at, AreLabels, AreLabelsOf}
-use Rattle.mintc_checker.specs.Judged.{IsLate, AreTimely}
+use Rattle.mintc_checker.specs.Judged.{IsLate, AreTimelyLabels}
 
 low_or_high : (i n : ℕ) → (i < n) ⊎ (n ≤ i)
 low_or_high i n = grind arith
@@ -52,9 +52,13 @@ module _ (design : Design) (limits : IsDesign design) (short : ArePathsShort des
       let a = h.attained in
       subst IsLate a.3 (trail-range den d is_den each bit a.0 a.1 (leads a.0 a.1 a.2).trail)
 
-  pub AreTimely-from_labels : (den : ℤ) (d : List ℤ) (labels : List Labels) → IsDenominator den → All IsDeparture d → AreLabels design den d labels → AreTimely labels
-  AreTimely-from_labels den d labels is_den each h bit lane within eight =
-      attained-range den d is_den each (lane + 1) bit (LeadsFrom design (lane + 1) bit) (λ j path g. g) (label_at labels bit lane) (h.each bit lane within eight)
+  pub AreTimelyLabels-from_labels : (den : ℤ) (d : List ℤ) (labels : List Labels) → IsDenominator den → All IsDeparture d → AreLabels design den d labels → AreTimelyLabels design den d labels
+  AreTimelyLabels-from_labels den d labels is_den each h = record {
+    departures = each;
+    each = h;
+    timely = λ bit lane within eight.
+        attained-range den d is_den each (lane + 1) bit (LeadsFrom design (lane + 1) bit) (λ j path g. g) (label_at labels bit lane) (h.each bit lane within eight);
+  }
 
   IsLate-small : (x : Option ℤ) → IfSome x IsLate → IfSome x (λ z. unsigned_abs z ≤ 2 * 10 ^ 18)
   IsLate-small None h = tt

@@ -1,5 +1,5 @@
 -- What the tests speak of: the design with all its pairs.
-use Rattle.std.specs.Prelude.{◌≡◌, ◌+◌, ◌-◌, ◌*◌, ◌<◌, ℕ, ℤ, pos, negsuc, ◌≤ℤ◌, IfSome, Bool, false, List, length, slice_index_or, IsTrue, IsFalse, IsSome, ◌↔◌, ◌*ℤ◌}
+use Rattle.std.specs.Prelude.{◌≡◌, ◌+◌, ◌-◌, ◌*◌, ◌<◌, ℕ, ℤ, pos, negsuc, ◌≤ℤ◌, IfSome, Bool, false, List, length, slice_index_or, IsTrue, IsFalse, IsSome, All, ◌↔◌, ◌*ℤ◌}
 use Rattle.mintc_timing.specs.declared.parts.Pair.{Pair}
 use Rattle.mintc_timing.specs.declared.link.LinkKind.TheVariants.{Other}
 use Rattle.mintc_timing.specs.declared.link.Link.{Link}
@@ -8,8 +8,9 @@ use Rattle.mintc_timing.specs.Design.{Design, Timing, phase_count}
 use Rattle.mintc_timing.specs.Limits.{IsPhase}
 use Rattle.mintc_timing.specs.Paths.{ArePairs, input_of}
 use Rattle.mintc_timing.specs.declared.clocking.Schedule.{Schedule}
+use Rattle.mintc_certificate.specs.Ranges.{IsDeparture}
 use Rattle.mintc_checker.specs.declared.labels.Labels.{Labels}
-use Rattle.mintc_checker.specs.Labels.{label_at}
+use Rattle.mintc_checker.specs.Labels.{AreLabels, label_at}
 use Rattle.mintc_checker.specs.Trails.{element_of}
 
 -- the timing of a design, an order of its arcs and pairs
@@ -41,9 +42,15 @@ IsLate x = (negsuc 99999999999999 ≤ℤ x) × (x ≤ℤ pos 300000000000000)
 abbrev pub AreTimely : List Labels → Type 0
 AreTimely labels = (bit lane : ℕ) → bit < length labels → lane < 8 → IfSome (label_at labels bit lane) IsLate
 
+-- the labels of departures in range, each of which is a time
+pub record AreTimelyLabels (design : Design) (den : ℤ) (d : List ℤ) (labels : List Labels) : Type 0 where
+  pub departures : All IsDeparture d
+  pub each : AreLabels design den d labels
+  pub timely : AreTimely labels
+
 -- an arrival
-abbrev pub IsArrival : ℤ → Type 0
-IsArrival x = (negsuc 299999999999999 ≤ℤ x) × (x ≤ℤ pos 500000000000000)
+abbrev pub IsArrivalTime : ℤ → Type 0
+IsArrivalTime x = (negsuc 299999999999999 ≤ℤ x) × (x ≤ℤ pos 500000000000000)
 
 -- Element l is a latch on phase j, and data of phase i reaches it.
 abbrev pub IsFedAt : Design → List Labels → ℕ → ℕ → ℕ → Type 0

@@ -1,29 +1,29 @@
 //! The last arrivals at elements, and what they ask.
-ghost use Rattle.std.specs.Prelude.{◌≡◌, ◌<◌, ◌+◌, ◌*◌, ℕ, ℤ, List, length, IfSome, All};
+ghost use Rattle.std.specs.Prelude.{◌≡◌, ◌<◌, ◌+◌, ◌*◌, ℕ, ℤ, List, length, IfSome};
 ghost use Rattle.std.specs.Int.{int_max};
 ghost use Rattle.mintc_lanes.specs.Lanes.{joined};
 ghost use Rattle.mintc_timing.specs.Departures.{AreExact, departure, late_departure as departure_of, late_opening};
 ghost use Rattle.mintc_timing.specs.Design.{element_count};
-ghost use Rattle.mintc_timing.specs.Limits.{IsInRange, IsModest};
+ghost use Rattle.mintc_timing.specs.Limits.{IsModest};
 ghost use Rattle.mintc_timing.specs.Right.{KeepsSetup};
-ghost use Rattle.mintc_certificate.specs.Ranges.{IsDeparture};
 ghost use Rattle.mintc_demands.specs.Alone.{alone};
-ghost use Rattle.mintc_checker.specs.Judged.{AreTimely, Decides, IsArrival, IsLate, OfTiming};
+ghost use Rattle.mintc_checker.specs.Judged.{AreTimely, AreTimelyLabels, Decides, IsArrivalTime, IsLate, OfTiming};
 ghost use Rattle.mintc_checker.specs.Labels.{AreLabels};
 ghost use Rattle.mintc_checker.specs.Trails.{IsLastArrival};
 
+use crate::designs::ClockedDesign;
 use crate::labels::{Labels, departure_at, label_in};
 use crate::reading::element;
 use mintc_demands::{scaled, width};
-use mintc_timing::{Flat, Schedule, shift};
+use mintc_timing::shift;
 
 /// The later of two times, of which the second is moved; either may be absent.
 fn later(last: Option<i64>, label: Option<i64>, add: i64) -> Option<i64>
-    requires last { IfSome last IsArrival }
+    requires last { IfSome last IsArrivalTime }
     requires label { IfSome label IsLate }
     requires add { IsModest add }
     ensures value { result ≡ joined int_max last label add }
-    ensures range { IfSome result IsArrival }
+    ensures range { IfSome result IsArrivalTime }
 {
     let Some(label) = label else {
         return last;
@@ -35,50 +35,45 @@ fn later(last: Option<i64>, label: Option<i64>, add: i64) -> Option<i64>
 }
 
 /// When the last data arrives at an element, counted from the start of its phase; None where no trail leads to it.
-fn last_arrival(flat: &Flat, schedule: &Schedule, labels: &[Labels], number: usize) -> Option<i64>
-    requires in_range { IsInRange schedule.now }
-    requires phases { length schedule.now.starts ≡ length flat.now.phases }
-    requires number { number < length flat.now.elements }
-    requires count { length labels.now ≡ 2 * length flat.now.elements + length flat.now.inner }
+fn last_arrival(clocked: &ClockedDesign<'_>, labels: &[Labels], number: usize) -> Option<i64>
+    requires number { number < length clocked.now.flat.now.elements }
+    requires count { length labels.now ≡ 2 * length clocked.now.flat.now.elements + length clocked.now.flat.now.inner }
     requires timely { AreTimely labels.now }
-    ensures last { (d : List ℤ) → AreLabels flat.now schedule.now.den d labels.now → IsLastArrival flat.now schedule.now d number result }
-    ensures range { IfSome result IsArrival }
+    ensures last { (d : List ℤ) → AreLabels clocked.now.flat.now clocked.now.schedule.now.den d labels.now → IsLastArrival clocked.now.flat.now clocked.now.schedule.now d number result }
+    ensures range { IfSome result IsArrivalTime }
 {
-    let _elements = flat.elements();
-    let phase = element(flat, number).phase;
+    let _elements = clocked.flat.elements();
+    let phase = element(clocked.flat, number).phase;
     let mut last = None;
-    for lane in 0..flat.phases().items().len() {
-        let add = shift(schedule, lane as u32 + 1, phase);
+    for lane in 0..clocked.flat.phases().items().len() {
+        let add = shift(clocked.schedule, lane as u32 + 1, phase);
         last = later(last, label_in(labels, 2 * number, lane), add);
     }
     last
 }
 
 /// When an element opens.
-fn opening(flat: &Flat, schedule: &Schedule, number: usize) -> i64
-    requires in_range { IsInRange schedule.now }
-    requires number { number < length flat.now.elements }
-    ensures value { result ≡ late_opening (alone flat.now) schedule.now number }
+fn opening(clocked: &ClockedDesign<'_>, number: usize) -> i64
+    requires number { number < length clocked.now.flat.now.elements }
+    ensures value { result ≡ late_opening (alone clocked.now.flat.now) clocked.now.schedule.now number }
     ensures range { IsModest result }
 {
-    let element = element(flat, number);
-    scaled(element.cq_max - element.dq_max, schedule.den)
+    let element = element(clocked.flat, number);
+    scaled(element.cq_max - element.dq_max, clocked.schedule.den)
 }
 
 /// When an element's data leaves, as the labels make it.
-fn late_departure(flat: &Flat, schedule: &Schedule, labels: &[Labels], number: usize) -> i64
-    requires in_range { IsInRange schedule.now }
-    requires phases { length schedule.now.starts ≡ length flat.now.phases }
-    requires number { number < length flat.now.elements }
-    requires count { length labels.now ≡ 2 * length flat.now.elements + length flat.now.inner }
+fn late_departure(clocked: &ClockedDesign<'_>, labels: &[Labels], number: usize) -> i64
+    requires number { number < length clocked.now.flat.now.elements }
+    requires count { length labels.now ≡ 2 * length clocked.now.flat.now.elements + length clocked.now.flat.now.inner }
     requires timely { AreTimely labels.now }
-    ensures value { (d : List ℤ) → AreLabels flat.now schedule.now.den d labels.now → OfTiming flat.now (λ t. result ≡ departure_of t schedule.now d number) }
+    ensures value { (d : List ℤ) → AreLabels clocked.now.flat.now clocked.now.schedule.now.den d labels.now → OfTiming clocked.now.flat.now (λ t. result ≡ departure_of t clocked.now.schedule.now d number) }
 {
-    if element(flat, number).flop {
+    if element(clocked.flat, number).flop {
         return 0;
     }
-    let open = opening(flat, schedule, number);
-    match last_arrival(flat, schedule, labels, number) {
+    let open = opening(clocked, number);
+    match last_arrival(clocked, labels, number) {
         Some(last) => i64::max(open, last),
         None => open,
     }
@@ -86,40 +81,26 @@ fn late_departure(flat: &Flat, schedule: &Schedule, labels: &[Labels], number: u
 
 /// Whether an element's departure is what the labels make it.
 fn is_exact(
-    flat: &Flat,
-    schedule: &Schedule,
+    clocked: &ClockedDesign<'_>,
     labels: &[Labels],
     departures: &[i64],
     number: usize,
 ) -> bool
-    requires in_range { IsInRange schedule.now }
-    requires phases { length schedule.now.starts ≡ length flat.now.phases }
-    requires number { number < length flat.now.elements }
-    requires departures { All IsDeparture departures.now }
-    requires labels { AreLabels flat.now schedule.now.den departures.now labels.now }
-    requires timely { AreTimely labels.now }
-    ensures { Decides flat.now result (λ t. departure departures.now number ≡ departure_of t schedule.now departures.now number) }
+    requires number { number < length clocked.now.flat.now.elements }
+    requires labels { AreTimelyLabels clocked.now.flat.now clocked.now.schedule.now.den departures.now labels.now }
+    ensures { Decides clocked.now.flat.now result (λ t. departure departures.now number ≡ departure_of t clocked.now.schedule.now departures.now number) }
 {
-    departure_at(departures, number) == late_departure(flat, schedule, labels, number)
+    departure_at(departures, number) == late_departure(clocked, labels, number)
 }
 
 /// Whether all departures are exact: the fourth test.
-pub(crate) fn are_exact(
-    flat: &Flat,
-    schedule: &Schedule,
-    labels: &[Labels],
-    departures: &[i64],
-) -> bool
-    requires in_range { IsInRange schedule.now }
-    requires phases { length schedule.now.starts ≡ length flat.now.phases }
-    requires departures { All IsDeparture departures.now }
-    requires elements { length departures.now ≡ length flat.now.elements }
-    requires labels { AreLabels flat.now schedule.now.den departures.now labels.now }
-    requires timely { AreTimely labels.now }
-    ensures { Decides flat.now result (λ t. AreExact t schedule.now departures.now) }
+pub(crate) fn are_exact(clocked: &ClockedDesign<'_>, labels: &[Labels], departures: &[i64]) -> bool
+    requires elements { length departures.now ≡ length clocked.now.flat.now.elements }
+    requires labels { AreTimelyLabels clocked.now.flat.now clocked.now.schedule.now.den departures.now labels.now }
+    ensures { Decides clocked.now.flat.now result (λ t. AreExact t clocked.now.schedule.now departures.now) }
 {
-    for number in 0..flat.elements().len() {
-        if !is_exact(flat, schedule, labels, departures, number) {
+    for number in 0..clocked.flat.elements().len() {
+        if !is_exact(clocked, labels, departures, number) {
             return false;
         }
     }
@@ -128,27 +109,22 @@ pub(crate) fn are_exact(
 
 /// Whether an element keeps its setup.
 fn keeps_setup(
-    flat: &Flat,
-    schedule: &Schedule,
+    clocked: &ClockedDesign<'_>,
     labels: &[Labels],
     departures: &[i64],
     number: usize,
 ) -> bool
-    requires in_range { IsInRange schedule.now }
-    requires phases { length schedule.now.starts ≡ length flat.now.phases }
-    requires number { number < length flat.now.elements }
-    requires departures { All IsDeparture departures.now }
-    requires labels { AreLabels flat.now schedule.now.den departures.now labels.now }
-    requires timely { AreTimely labels.now }
-    ensures { Decides flat.now result (λ t. KeepsSetup t schedule.now departures.now number) }
+    requires number { number < length clocked.now.flat.now.elements }
+    requires labels { AreTimelyLabels clocked.now.flat.now clocked.now.schedule.now.den departures.now labels.now }
+    ensures { Decides clocked.now.flat.now result (λ t. KeepsSetup t clocked.now.schedule.now departures.now number) }
 {
-    let element = element(flat, number);
-    let setup = scaled(element.setup, schedule.den);
+    let element = element(clocked.flat, number);
+    let setup = scaled(element.setup, clocked.schedule.den);
     if !element.flop {
         let leaves = i64::max(0, departure_at(departures, number));
-        return leaves + setup <= width(schedule, element.phase);
+        return leaves + setup <= width(clocked.schedule, element.phase);
     }
-    match last_arrival(flat, schedule, labels, number) {
+    match last_arrival(clocked, labels, number) {
         Some(last) => last + setup <= 0,
         None => true,
     }
@@ -156,20 +132,15 @@ fn keeps_setup(
 
 /// Whether all elements keep their setups: the fifth test.
 pub(crate) fn keep_setups(
-    flat: &Flat,
-    schedule: &Schedule,
+    clocked: &ClockedDesign<'_>,
     labels: &[Labels],
     departures: &[i64],
 ) -> bool
-    requires in_range { IsInRange schedule.now }
-    requires phases { length schedule.now.starts ≡ length flat.now.phases }
-    requires departures { All IsDeparture departures.now }
-    requires labels { AreLabels flat.now schedule.now.den departures.now labels.now }
-    requires timely { AreTimely labels.now }
-    ensures { Decides flat.now result (λ t. (l : ℕ) → l < element_count t → KeepsSetup t schedule.now departures.now l) }
+    requires labels { AreTimelyLabels clocked.now.flat.now clocked.now.schedule.now.den departures.now labels.now }
+    ensures { Decides clocked.now.flat.now result (λ t. (l : ℕ) → l < element_count t → KeepsSetup t clocked.now.schedule.now departures.now l) }
 {
-    for number in 0..flat.elements().len() {
-        if !keeps_setup(flat, schedule, labels, departures, number) {
+    for number in 0..clocked.flat.elements().len() {
+        if !keeps_setup(clocked, labels, departures, number) {
             return false;
         }
     }

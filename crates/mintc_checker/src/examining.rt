@@ -1,14 +1,15 @@
 //! The seven tests in their order.
-ghost use Rattle.std.specs.Prelude.{◌≡◌, length, All, IfOk};
-ghost use Rattle.mintc_timing.specs.Limits.{IsInRange};
+ghost use Rattle.std.specs.Prelude.{IfOk};
 ghost use Rattle.mintc_timing.specs.Order.{IsOrder, ArePathsShort};
-ghost use Rattle.mintc_certificate.specs.Ranges.{IsCertificateInRange, IsChainInRange, IsDeparture, IsLeastInRange};
-ghost use Rattle.mintc_checker.specs.Judged.{AreTimely, IsFed, OfTiming};
-ghost use Rattle.mintc_checker.specs.Labels.{AreLabels};
+ghost use Rattle.mintc_certificate.specs.Ranges.{IsCertificateInRange, IsChainInRange, IsLeastInRange};
+ghost use Rattle.mintc_certificate.specs.Valid.{SchedulePasses, counts};
+ghost use Rattle.mintc_demands.specs.Alone.{alone};
+ghost use Rattle.mintc_checker.specs.Judged.{AreTimelyLabels, IsFed, OfTiming};
 ghost use Rattle.mintc_checker.specs.Verdicts.{IsFirstOfSchedule, IsVerdict};
 
 use crate::Verdict;
 use crate::arrivals::{are_exact, keep_setups};
+use crate::designs::{ClockedDesign, DepartingDesign};
 use crate::labels::{Labels, labels_of};
 use crate::ring::{are_ring, is_stuck, is_tight};
 use crate::schedule_tests::{feeds_table, has_counts, keeps_bounds, keeps_clock};
@@ -19,31 +20,26 @@ use std::alloc::Global;
 
 /// The number of the first test from the second to the fifth that a schedule with departures fails.
 fn first_of_schedule(
-    flat: &Flat,
-    schedule: &Schedule,
+    clocked: &ClockedDesign<'_>,
     departures: &[i64],
     labels: &[Labels],
     fed: &[bool],
 ) -> Option<u32>
-    requires in_range { IsInRange schedule.now }
-    requires phases { length schedule.now.starts ≡ length flat.now.phases }
-    requires departures { All IsDeparture departures.now }
-    requires elements { length departures.now ≡ length flat.now.elements }
-    requires labels { AreLabels flat.now schedule.now.den departures.now labels.now }
-    requires timely { AreTimely labels.now }
-    requires fed { IsFed flat.now fed.now }
-    ensures { OfTiming flat.now (λ t. IsFirstOfSchedule t schedule.now departures.now result) }
+    requires counts { SchedulePasses (alone clocked.now.flat.now) clocked.now.schedule.now departures.now counts }
+    requires labels { AreTimelyLabels clocked.now.flat.now clocked.now.schedule.now.den departures.now labels.now }
+    requires fed { IsFed clocked.now.flat.now fed.now }
+    ensures { OfTiming clocked.now.flat.now (λ t. IsFirstOfSchedule t clocked.now.schedule.now departures.now result) }
 {
-    if !keeps_clock(flat, schedule, fed) {
+    if !keeps_clock(clocked, fed) {
         return Some(2);
     }
-    if !keeps_bounds(flat, schedule) {
+    if !keeps_bounds(clocked) {
         return Some(3);
     }
-    if !are_exact(flat, schedule, labels, departures) {
+    if !are_exact(clocked, labels, departures) {
         return Some(4);
     }
-    if !keep_setups(flat, schedule, labels, departures) {
+    if !keep_setups(clocked, labels, departures) {
         return Some(5);
     }
     None
@@ -66,15 +62,21 @@ fn judge_least(
     if !has_counts(flat, schedule, departures) {
         return Ok(Verdict::Invalid(1));
     }
-    let labels = labels_of(alloc, flat, order, departures, schedule.den)?;
-    let fed = feeds_table(flat, &labels);
-    if let Some(test) = first_of_schedule(flat, schedule, departures, &labels, &fed) {
+    let departing = DepartingDesign {
+        flat,
+        departures,
+        den: schedule.den,
+    };
+    let labels = labels_of(alloc, &departing, order)?;
+    let fed = feeds_table(&departing, &labels);
+    let clocked = ClockedDesign { flat, schedule };
+    if let Some(test) = first_of_schedule(&clocked, departures, &labels, &fed) {
         return Ok(Verdict::Invalid(test));
     }
     if !are_ring(flat, &fed, chain) {
         return Ok(Verdict::Invalid(6));
     }
-    if !is_tight(flat, schedule, chain) {
+    if !is_tight(&clocked, chain) {
         return Ok(Verdict::Invalid(7));
     }
     Ok(Verdict::Valid)
@@ -92,8 +94,13 @@ fn judge_never(
     requires in_range { IsChainInRange chain.now }
     ensures { IfOk result (λ verdict. OfTiming flat.now (λ t. IsVerdict t (Certificate.Never chain.now) verdict)) }
 {
-    let labels = labels_of(alloc, flat, order, &[], 1)?;
-    let fed = feeds_table(flat, &labels);
+    let departing = DepartingDesign {
+        flat,
+        departures: &[],
+        den: 1,
+    };
+    let labels = labels_of(alloc, &departing, order)?;
+    let fed = feeds_table(&departing, &labels);
     if !are_ring(flat, &fed, chain) {
         return Ok(Verdict::Invalid(6));
     }

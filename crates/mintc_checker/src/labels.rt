@@ -3,18 +3,19 @@ ghost use Rattle.std.specs.Prelude.{◌≡◌, ◌≢◌, ◌+◌, ◌*◌, ◌^
 ghost use Rattle.std.specs.Int.{int_max};
 ghost use Rattle.mintc_lanes.specs.Lanes.{lane_at, AreJoined, AreLanes};
 ghost use Rattle.mintc_timing.specs.Departures.{departure};
-ghost use Rattle.mintc_timing.specs.Limits.{IsDenominator, IsTime};
-ghost use Rattle.mintc_timing.specs.Order.{IsOrder, ArePathsShort};
+ghost use Rattle.mintc_timing.specs.Limits.{IsTime};
+ghost use Rattle.mintc_timing.specs.Order.{IsOrder};
 ghost use Rattle.mintc_certificate.specs.Ranges.{IsDeparture};
 ghost use Rattle.mintc_checker.specs.Trails.{element_of};
-ghost use Rattle.mintc_checker.specs.Judged.{AreTimely};
-ghost use Rattle.mintc_checker.specs.Labels.{AreLabels, AreLabelsOf, IsStart, label_at, labels_at, IsAlong};
+ghost use Rattle.mintc_checker.specs.Judged.{AreTimelyLabels};
+ghost use Rattle.mintc_checker.specs.Labels.{AreLabelsOf, IsStart, label_at, labels_at, IsAlong};
 
+use crate::designs::DepartingDesign;
 use crate::reading::{arc_at_place, element};
 use mintc_demands::scaled;
 use mintc_lanes::{ABSENT, max_plus_row};
 use mintc_text::OutOfMemory;
-use mintc_timing::{Flat, Order};
+use mintc_timing::Order;
 use std::alloc::Global;
 
 /// A label for each phase at a bit, in femtoseconds times a denominator; that of phase p in lane p - 1.
@@ -58,14 +59,13 @@ pub(crate) fn departure_at(departures: &[i64], number: usize) -> i64
 }
 
 /// When an element's data leaves its output.
-fn output_time(flat: &Flat, departures: &[i64], den: i64, number: usize) -> i64
-    requires number { number < length flat.now.elements }
-    requires departures { All IsDeparture departures.now }
-    requires den { IsDenominator den }
-    ensures value { result ≡ departure departures.now number +ℤ (element_of flat.now number).dq_max *ℤ den }
+fn output_time(departing: &DepartingDesign<'_>, number: usize) -> i64
+    requires number { number < length departing.now.flat.now.elements }
+    ensures value { result ≡ departure departing.now.departures.now number +ℤ (element_of departing.now.flat.now number).dq_max *ℤ departing.now.den }
     ensures range { IsTime result }
 {
-    departure_at(departures, number) + scaled(element(flat, number).dq_max, den)
+    departure_at(departing.departures, number)
+        + scaled(element(departing.flat, number).dq_max, departing.den)
 }
 
 /// Begins a lane at a bit.
@@ -82,29 +82,25 @@ fn begin(labels: &mut [Labels], bit: usize, lane: usize, time: i64)
 }
 
 /// Begins the lane of an element's phase at its output.
-fn begin_element(labels: &mut [Labels], flat: &Flat, departures: &[i64], den: i64, number: usize)
-    requires number { number < length flat.now.elements }
-    requires departures { All IsDeparture departures.now }
-    requires den { IsDenominator den }
-    requires labels { AreLabelsOf flat.now den departures.now (IsStart number) labels.old }
-    ensures { AreLabelsOf flat.now den departures.now (IsStart (number + 1)) labels.new }
+fn begin_element(labels: &mut [Labels], departing: &DepartingDesign<'_>, number: usize)
+    requires number { number < length departing.now.flat.now.elements }
+    requires labels { AreLabelsOf departing.now.flat.now departing.now.den departing.now.departures.now (IsStart number) labels.old }
+    ensures { AreLabelsOf departing.now.flat.now departing.now.den departing.now.departures.now (IsStart (number + 1)) labels.new }
 {
-    let _elements = flat.elements();
-    let lane = element(flat, number).phase as usize - 1;
-    let time = output_time(flat, departures, den, number);
+    let _elements = departing.flat.elements();
+    let lane = element(departing.flat, number).phase as usize - 1;
+    let time = output_time(departing, number);
     begin(labels, 2 * number + 1, lane, time);
 }
 
 /// Makes the labels those of the empty paths.
-fn begin_all(labels: &mut [Labels], flat: &Flat, departures: &[i64], den: i64)
-    requires departures { All IsDeparture departures.now }
-    requires den { IsDenominator den }
-    requires count { length labels.old ≡ 2 * length flat.now.elements + length flat.now.inner }
+fn begin_all(labels: &mut [Labels], departing: &DepartingDesign<'_>)
+    requires count { length labels.old ≡ 2 * length departing.now.flat.now.elements + length departing.now.flat.now.inner }
     requires absent { (bit : ℕ) → bit < length labels.old → labels_at labels.old bit ≡ NO_LABELS }
-    ensures { AreLabelsOf flat.now den departures.now (IsStart (length flat.now.elements)) labels.new }
+    ensures { AreLabelsOf departing.now.flat.now departing.now.den departing.now.departures.now (IsStart (length departing.now.flat.now.elements)) labels.new }
 {
-    for number in 0..flat.elements().len() {
-        begin_element(labels, flat, departures, den, number);
+    for number in 0..departing.flat.elements().len() {
+        begin_element(labels, departing, number);
     }
 }
 
@@ -124,76 +120,53 @@ fn carry(labels: &mut [Labels], from: u32, to: u32, add: i64)
 }
 
 /// Carries the labels along the arc at a place of the order.
-fn carry_arc(
-    labels: &mut [Labels],
-    flat: &Flat,
-    order: &Order,
-    departures: &[i64],
-    den: i64,
-    place: usize,
-)
-    requires order { IsOrder flat.now.arcs order.now }
-    requires short { ArePathsShort flat.now }
-    requires departures { All IsDeparture departures.now }
-    requires den { IsDenominator den }
+fn carry_arc(labels: &mut [Labels], departing: &DepartingDesign<'_>, order: &Order, place: usize)
+    requires order { IsOrder departing.now.flat.now.arcs order.now }
     requires place { place < length order.now }
-    requires labels { AreLabelsOf flat.now den departures.now (IsAlong order.now place) labels.old }
-    ensures { AreLabelsOf flat.now den departures.now (IsAlong order.now (place + 1)) labels.new }
+    requires labels { AreLabelsOf departing.now.flat.now departing.now.den departing.now.departures.now (IsAlong order.now place) labels.old }
+    ensures { AreLabelsOf departing.now.flat.now departing.now.den departing.now.departures.now (IsAlong order.now (place + 1)) labels.new }
 {
-    let _elements = flat.elements();
-    let arc = arc_at_place(flat, order, place);
-    carry(labels, arc.from, arc.to, scaled(arc.max, den));
+    let _elements = departing.flat.elements();
+    let arc = arc_at_place(departing.flat, order, place);
+    carry(labels, arc.from, arc.to, scaled(arc.max, departing.den));
 }
 
 /// Carries the labels along all arcs.
-fn carry_all(labels: &mut [Labels], flat: &Flat, order: &Order, departures: &[i64], den: i64)
-    requires order { IsOrder flat.now.arcs order.now }
-    requires short { ArePathsShort flat.now }
-    requires departures { All IsDeparture departures.now }
-    requires den { IsDenominator den }
-    requires labels { AreLabelsOf flat.now den departures.now (IsAlong order.now 0) labels.old }
-    ensures { AreLabelsOf flat.now den departures.now (IsAlong order.now (length order.now)) labels.new }
+fn carry_all(labels: &mut [Labels], departing: &DepartingDesign<'_>, order: &Order)
+    requires order { IsOrder departing.now.flat.now.arcs order.now }
+    requires labels { AreLabelsOf departing.now.flat.now departing.now.den departing.now.departures.now (IsAlong order.now 0) labels.old }
+    ensures { AreLabelsOf departing.now.flat.now departing.now.den departing.now.departures.now (IsAlong order.now (length order.now)) labels.new }
 {
     for place in 0..order.arcs().items().len() {
-        carry_arc(labels, flat, order, departures, den, place);
+        carry_arc(labels, departing, order, place);
     }
 }
 
 /// Makes the labels those of the design.
-fn fill(labels: &mut [Labels], flat: &Flat, order: &Order, departures: &[i64], den: i64)
-    requires order { IsOrder flat.now.arcs order.now }
-    requires short { ArePathsShort flat.now }
-    requires departures { All IsDeparture departures.now }
-    requires den { IsDenominator den }
-    requires count { length labels.old ≡ 2 * length flat.now.elements + length flat.now.inner }
+fn fill(labels: &mut [Labels], departing: &DepartingDesign<'_>, order: &Order)
+    requires order { IsOrder departing.now.flat.now.arcs order.now }
+    requires count { length labels.old ≡ 2 * length departing.now.flat.now.elements + length departing.now.flat.now.inner }
     requires absent { (bit : ℕ) → bit < length labels.old → labels_at labels.old bit ≡ NO_LABELS }
-    ensures labels { AreLabels flat.now den departures.now labels.new }
-    ensures timely { AreTimely labels.new }
+    ensures { AreTimelyLabels departing.now.flat.now departing.now.den departing.now.departures.now labels.new }
 {
-    let _elements = flat.elements();
-    begin_all(labels, flat, departures, den);
-    carry_all(labels, flat, order, departures, den);
+    let _elements = departing.flat.elements();
+    begin_all(labels, departing);
+    carry_all(labels, departing, order);
 }
 
 /// The labels at all bits.
 pub(crate) fn labels_of(
     alloc: Global,
-    flat: &Flat,
+    departing: &DepartingDesign<'_>,
     order: &Order,
-    departures: &[i64],
-    den: i64,
 ) -> Result<Vec<Labels>, OutOfMemory>
-    requires order { IsOrder flat.now.arcs order.now }
-    requires short { ArePathsShort flat.now }
-    requires departures { All IsDeparture departures.now }
-    requires den { IsDenominator den }
-    ensures labels { IfOk result (λ labels. AreLabels flat.now den departures.now labels.items) }
-    ensures timely { IfOk result (λ labels. AreTimely labels.items) }
+    requires order { IsOrder departing.now.flat.now.arcs order.now }
+    ensures { IfOk result (λ labels. AreTimelyLabels departing.now.flat.now departing.now.den departing.now.departures.now labels.items) }
 {
-    let bits = 2 * flat.elements().len() + flat.inner().items().len();
+    let bits = 2 * departing.flat.elements().len() + departing.flat.inner().items().len();
     match vec![in alloc; NO_LABELS; bits] {
         Ok(mut labels) => {
-            fill(&mut labels, flat, order, departures, den);
+            fill(&mut labels, departing, order);
             Ok(labels)
         }
         Err(_) => Err(OutOfMemory),

@@ -1,7 +1,13 @@
 //! The judgement of a certificate by itself: seven tests, without a search.
 //!
-//! It needs no list of pairs. Data that leaves the elements of a phase is carried along the arcs in their order, so that
-//! each bit has the last time at which some comes there from each phase.
+//! A certificate of a least cycle is a schedule with departures, and a chain of links that forbids each smaller cycle.
+//! The tests ask in turn for its counts, the clock, the bounds, exact departures, the setups, that the chain is a ring
+//! of the design's links, and its sums. It needs no list of pairs: data that leaves the elements of a phase is carried
+//! along the arcs in their order, so that each bit has a label for each phase, the last time at which data comes there
+//! from it. Departures, setups and which phase feeds which are read off the labels. This is the longest path by levels
+//! of static timing analysis, once for each phase. So that a mistake of the search can't hide in its own judge, the
+//! crate stands on none of the search's crates; of a certificate it takes what its members are and their links.
+//! The crates above get a verdict, and that a valid certificate is that of the least cycle time.
 #![tactic(auto)]
 
 ghost use Rattle.std.specs.Prelude.{◌≡◌, IfOk};
@@ -13,6 +19,7 @@ ghost use Rattle.mintc_timing.specs.Paths.{ArePairs};
 ghost use Rattle.mintc_checker.specs.Verdicts.{IsVerdict};
 
 mod arrivals;
+mod designs;
 mod examining;
 mod labels;
 mod members;

@@ -3,7 +3,7 @@ ghost use Rattle.std.specs.Prelude.{◌≡◌, ◌<◌, ◌≤◌, length, slice
 ghost use Rattle.std.specs.Bool.{OnTrue};
 ghost use Rattle.mintc_timing.specs.declared.link.Link.{Link as LinkValue};
 ghost use Rattle.mintc_rings.specs.Rings.{IsClosed};
-ghost use Rattle.mintc_timing.specs.Limits.{IsDenominator, IsNumerator, IsSpan};
+ghost use Rattle.mintc_timing.specs.Limits.{IsSpan};
 ghost use Rattle.mintc_timing.specs.Order.{ArePathsShort};
 ghost use Rattle.mintc_certificate.specs.CertificateText.{IsCounted};
 ghost use Rattle.mintc_certificate.specs.Ranges.{IsChainInRange};
@@ -13,9 +13,10 @@ ghost use Rattle.mintc_demands.specs.Alone.{alone};
 ghost use Rattle.mintc_certificate.specs.Named.{IsNamed};
 ghost use Rattle.mintc_checker.specs.Judged.{Decides, IsFed, no_link};
 
+use crate::designs::ClockedDesign;
 use crate::members::is_member;
 use mintc_certificate::{Member, link_of, sums_of};
-use mintc_timing::{Flat, Link, Schedule};
+use mintc_timing::{Flat, Link};
 
 /// Whether all members are the design's.
 fn are_members(flat: &Flat, fed: &[bool], members: &[Member]) -> bool
@@ -75,16 +76,14 @@ pub(crate) fn are_ring(flat: &Flat, fed: &[bool], members: &[Member]) -> bool
 }
 
 /// Whether the ring has a cycle, and takes exactly its cycles: the seventh test of a certificate with a schedule.
-pub(crate) fn is_tight(flat: &Flat, schedule: &Schedule, members: &[Member]) -> bool
-    requires short { ArePathsShort flat.now }
-    requires named { All (IsNamed flat.now) members.now }
+pub(crate) fn is_tight(clocked: &ClockedDesign<'_>, members: &[Member]) -> bool
+    requires short { ArePathsShort clocked.now.flat.now }
+    requires named { All (IsNamed clocked.now.flat.now) members.now }
     requires chain { IsChainInRange members.now }
-    requires den { IsDenominator schedule.now.den }
-    requires cycle { IsNumerator schedule.now.cycle }
-    ensures { IsTrue result ↔ IsTight (alone flat.now) schedule.now members.now }
+    ensures { IsTrue result ↔ IsTight (links_of_members (alone clocked.now.flat.now) members.now) clocked.now.schedule.now.cycle clocked.now.schedule.now.den }
 {
-    let sums = sums_of(flat, members);
-    1 <= sums.cycles && sums.delay * schedule.den == sums.cycles * schedule.cycle
+    let sums = sums_of(clocked.flat, members);
+    1 <= sums.cycles && sums.delay * clocked.schedule.den == sums.cycles * clocked.schedule.cycle
 }
 
 /// Whether the ring asks for time and has no cycle: the seventh test of a certificate without a schedule.
@@ -92,7 +91,7 @@ pub(crate) fn is_stuck(flat: &Flat, members: &[Member]) -> bool
     requires short { ArePathsShort flat.now }
     requires named { All (IsNamed flat.now) members.now }
     requires chain { IsChainInRange members.now }
-    ensures { IsTrue result ↔ IsStuck (alone flat.now) members.now }
+    ensures { IsTrue result ↔ IsStuck (links_of_members (alone flat.now) members.now) }
 {
     let sums = sums_of(flat, members);
     sums.cycles == 0 && 0 < sums.delay

@@ -1,12 +1,12 @@
 //! The tests of a schedule against the counts, the clock and the bounds.
-ghost use Rattle.std.specs.Prelude.{◌≡◌, ◌+◌, ◌-◌, ◌*◌, ◌<◌, ◌≤◌, ◌≤ℤ◌, ◌-ℤ◌, ◌*ℤ◌, pos, ℕ, ℤ, List, length, IsTrue, ◌↔◌, All};
+ghost use Rattle.std.specs.Prelude.{◌≡◌, ◌+◌, ◌-◌, ◌*◌, ◌<◌, ◌≤◌, ◌≤ℤ◌, ◌-ℤ◌, ◌*ℤ◌, pos, ℕ, length, IsTrue, ◌↔◌, All};
 ghost use Rattle.mintc_timing.specs.Clocking.{KeepsApart, KeepsBound, KeepsClock, KeepsPhase, EachPhase, crosses_of, end_of, least_width, start_of, width_of};
-ghost use Rattle.mintc_timing.specs.Limits.{IsBound, IsInRange, IsPhase};
+ghost use Rattle.mintc_timing.specs.Limits.{IsBound, IsPhase};
 ghost use Rattle.mintc_certificate.specs.Valid.{SchedulePasses, counts};
 ghost use Rattle.mintc_demands.specs.Alone.{alone};
-ghost use Rattle.mintc_checker.specs.Judged.{Decides, IsFed, IsFedAt, KeepsOwn};
-ghost use Rattle.mintc_checker.specs.Labels.{AreLabels};
+ghost use Rattle.mintc_checker.specs.Judged.{AreTimelyLabels, Decides, IsFed, IsFedAt, KeepsOwn};
 
+use crate::designs::{ClockedDesign, DepartingDesign};
 use crate::labels::{Labels, label_in};
 use crate::reading::element;
 use mintc_demands::{
@@ -55,38 +55,40 @@ fn feeds(flat: &Flat, labels: &[Labels], i: u32, j: u32) -> bool
 }
 
 /// Which phase feeds which: `i` feeds `j` at place `8 * (i - 1) + (j - 1)`.
-pub(crate) fn feeds_table(flat: &Flat, labels: &[Labels]) -> [bool; 64]
-    requires count { length labels.now ≡ 2 * length flat.now.elements + length flat.now.inner }
-    ensures { (d : List ℤ) (den : ℤ) → AreLabels flat.now den d labels.now → IsFed flat.now result }
+pub(crate) fn feeds_table(departing: &DepartingDesign<'_>, labels: &[Labels]) -> [bool; 64]
+    requires { AreTimelyLabels departing.now.flat.now departing.now.den departing.now.departures.now labels.now }
+    ensures { IsFed departing.now.flat.now result }
 {
     let mut fed = [false; 64];
     for place in 0..64 {
-        fed[place] = feeds(flat, labels, place as u32 / 8 + 1, place as u32 % 8 + 1);
+        fed[place] = feeds(
+            departing.flat,
+            labels,
+            place as u32 / 8 + 1,
+            place as u32 % 8 + 1,
+        );
     }
     fed
 }
 
 /// Whether phase `i` starts no sooner than phase `j` ends, the cycles taken off, where that is asked.
-fn keeps_apart(schedule: &Schedule, asked: bool, i: u32, j: u32) -> bool
-    requires in_range { IsInRange schedule.now }
-    requires first { IsPhase (length schedule.now.starts) i }
-    requires second { IsPhase (length schedule.now.starts) j }
-    ensures { IsTrue result ↔ (IsTrue asked → (end_of schedule.now j -ℤ pos (crosses_of j i) *ℤ schedule.now.cycle) ≤ℤ start_of schedule.now i) }
+fn keeps_apart(clocked: &ClockedDesign<'_>, asked: bool, i: u32, j: u32) -> bool
+    requires first { IsPhase (length clocked.now.schedule.now.starts) i }
+    requires second { IsPhase (length clocked.now.schedule.now.starts) j }
+    ensures { IsTrue result ↔ (IsTrue asked → (end_of clocked.now.schedule.now j -ℤ pos (crosses_of j i) *ℤ clocked.now.schedule.now.cycle) ≤ℤ start_of clocked.now.schedule.now i) }
 {
-    !asked || apart_excess(schedule, i, j) <= 0
+    !asked || apart_excess(clocked.schedule, i, j) <= 0
 }
 
 /// Whether phase `i` is apart from all phases that it feeds.
-fn keeps_aparts(flat: &Flat, schedule: &Schedule, fed: &[bool], i: u32) -> bool
-    requires in_range { IsInRange schedule.now }
-    requires phases { length schedule.now.starts ≡ length flat.now.phases }
-    requires phase { IsPhase (length schedule.now.starts) i }
-    requires fed { IsFed flat.now fed.now }
-    ensures { Decides flat.now result (λ t. EachPhase t (KeepsApart t schedule.now i)) }
+fn keeps_aparts(clocked: &ClockedDesign<'_>, fed: &[bool], i: u32) -> bool
+    requires phase { IsPhase (length clocked.now.schedule.now.starts) i }
+    requires fed { IsFed clocked.now.flat.now fed.now }
+    ensures { Decides clocked.now.flat.now result (λ t. EachPhase t (KeepsApart t clocked.now.schedule.now i)) }
 {
-    for index in 0..flat.phases().items().len() {
+    for index in 0..clocked.flat.phases().items().len() {
         let asked = fed[8 * (i as usize - 1) + index];
-        if !keeps_apart(schedule, asked, i, index as u32 + 1) {
+        if !keeps_apart(clocked, asked, i, index as u32 + 1) {
             return false;
         }
     }
@@ -94,74 +96,65 @@ fn keeps_aparts(flat: &Flat, schedule: &Schedule, fed: &[bool], i: u32) -> bool
 }
 
 /// Whether a phase starts no later than the cycle.
-fn starts_in_cycle(schedule: &Schedule, phase: u32) -> bool
-    requires in_range { IsInRange schedule.now }
-    requires phase { IsPhase (length schedule.now.starts) phase }
-    ensures { IsTrue result ↔ (start_of schedule.now phase ≤ℤ schedule.now.cycle) }
+fn starts_in_cycle(clocked: &ClockedDesign<'_>, phase: u32) -> bool
+    requires phase { IsPhase (length clocked.now.schedule.now.starts) phase }
+    ensures { IsTrue result ↔ (start_of clocked.now.schedule.now phase ≤ℤ clocked.now.schedule.now.cycle) }
 {
-    cycle_excess(schedule, phase) <= 0
+    cycle_excess(clocked.schedule, phase) <= 0
 }
 
 /// Whether a phase is no wider than the cycle.
-fn fits_cycle(schedule: &Schedule, phase: u32) -> bool
-    requires in_range { IsInRange schedule.now }
-    requires phase { IsPhase (length schedule.now.starts) phase }
-    ensures { IsTrue result ↔ (width_of schedule.now phase ≤ℤ schedule.now.cycle) }
+fn fits_cycle(clocked: &ClockedDesign<'_>, phase: u32) -> bool
+    requires phase { IsPhase (length clocked.now.schedule.now.starts) phase }
+    ensures { IsTrue result ↔ (width_of clocked.now.schedule.now phase ≤ℤ clocked.now.schedule.now.cycle) }
 {
-    span_excess(schedule, phase) <= 0
+    span_excess(clocked.schedule, phase) <= 0
 }
 
 /// Whether a phase starts no later than the next one, if there is one.
-fn starts_in_order(schedule: &Schedule, phase: u32) -> bool
-    requires in_range { IsInRange schedule.now }
-    requires phase { IsPhase (length schedule.now.starts) phase }
-    ensures { IsTrue result ↔ (phase < length schedule.now.starts → start_of schedule.now phase ≤ℤ start_of schedule.now (phase + 1)) }
+fn starts_in_order(clocked: &ClockedDesign<'_>, phase: u32) -> bool
+    requires phase { IsPhase (length clocked.now.schedule.now.starts) phase }
+    ensures { IsTrue result ↔ (phase < length clocked.now.schedule.now.starts → start_of clocked.now.schedule.now phase ≤ℤ start_of clocked.now.schedule.now (phase + 1)) }
 {
-    phase as usize == schedule.starts.items().len() || order_excess(schedule, phase) <= 0
+    phase as usize == clocked.schedule.starts.items().len()
+        || order_excess(clocked.schedule, phase) <= 0
 }
 
 /// Whether a phase is as wide as its elements ask.
-fn is_wide(flat: &Flat, schedule: &Schedule, phase: u32) -> bool
-    requires in_range { IsInRange schedule.now }
-    requires phase { IsPhase (length schedule.now.starts) phase }
-    ensures { IsTrue result ↔ ((least_width (alone flat.now) phase *ℤ schedule.now.den) ≤ℤ width_of schedule.now phase) }
+fn is_wide(clocked: &ClockedDesign<'_>, phase: u32) -> bool
+    requires phase { IsPhase (length clocked.now.schedule.now.starts) phase }
+    ensures { IsTrue result ↔ ((least_width (alone clocked.now.flat.now) phase *ℤ clocked.now.schedule.now.den) ≤ℤ width_of clocked.now.schedule.now phase) }
 {
-    width_excess(flat, schedule, phase) <= 0
+    width_excess(clocked.flat, clocked.schedule, phase) <= 0
 }
 
 /// Whether a phase is in range, starts no later than the next one, and is as wide as its elements ask.
-fn keeps_own(flat: &Flat, schedule: &Schedule, phase: u32) -> bool
-    requires in_range { IsInRange schedule.now }
-    requires phases { length schedule.now.starts ≡ length flat.now.phases }
-    requires phase { IsPhase (length schedule.now.starts) phase }
-    ensures { IsTrue result ↔ KeepsOwn (alone flat.now) schedule.now phase }
+fn keeps_own(clocked: &ClockedDesign<'_>, phase: u32) -> bool
+    requires phase { IsPhase (length clocked.now.schedule.now.starts) phase }
+    ensures { IsTrue result ↔ KeepsOwn (alone clocked.now.flat.now) clocked.now.schedule.now phase }
 {
-    starts_in_cycle(schedule, phase)
-        && fits_cycle(schedule, phase)
-        && starts_in_order(schedule, phase)
-        && is_wide(flat, schedule, phase)
+    starts_in_cycle(clocked, phase)
+        && fits_cycle(clocked, phase)
+        && starts_in_order(clocked, phase)
+        && is_wide(clocked, phase)
 }
 
 /// Whether a schedule keeps what the clock asks at a phase.
-fn keeps_phase(flat: &Flat, schedule: &Schedule, fed: &[bool], phase: u32) -> bool
-    requires in_range { IsInRange schedule.now }
-    requires phases { length schedule.now.starts ≡ length flat.now.phases }
-    requires phase { IsPhase (length schedule.now.starts) phase }
-    requires fed { IsFed flat.now fed.now }
-    ensures { Decides flat.now result (λ t. KeepsPhase t schedule.now phase) }
+fn keeps_phase(clocked: &ClockedDesign<'_>, fed: &[bool], phase: u32) -> bool
+    requires phase { IsPhase (length clocked.now.schedule.now.starts) phase }
+    requires fed { IsFed clocked.now.flat.now fed.now }
+    ensures { Decides clocked.now.flat.now result (λ t. KeepsPhase t clocked.now.schedule.now phase) }
 {
-    keeps_own(flat, schedule, phase) && keeps_aparts(flat, schedule, fed, phase)
+    keeps_own(clocked, phase) && keeps_aparts(clocked, fed, phase)
 }
 
 /// Whether a schedule keeps the clock: the second test.
-pub(crate) fn keeps_clock(flat: &Flat, schedule: &Schedule, fed: &[bool]) -> bool
-    requires in_range { IsInRange schedule.now }
-    requires phases { length schedule.now.starts ≡ length flat.now.phases }
-    requires fed { IsFed flat.now fed.now }
-    ensures { Decides flat.now result (λ t. KeepsClock t schedule.now) }
+pub(crate) fn keeps_clock(clocked: &ClockedDesign<'_>, fed: &[bool]) -> bool
+    requires fed { IsFed clocked.now.flat.now fed.now }
+    ensures { Decides clocked.now.flat.now result (λ t. KeepsClock t clocked.now.schedule.now) }
 {
-    for index in 0..flat.phases().items().len() {
-        if !keeps_phase(flat, schedule, fed, index as u32 + 1) {
+    for index in 0..clocked.flat.phases().items().len() {
+        if !keeps_phase(clocked, fed, index as u32 + 1) {
             return false;
         }
     }
@@ -169,23 +162,20 @@ pub(crate) fn keeps_clock(flat: &Flat, schedule: &Schedule, fed: &[bool]) -> boo
 }
 
 /// Whether a schedule keeps a bound.
-fn keeps_bound(schedule: &Schedule, bound: &Bound) -> bool
-    requires in_range { IsInRange schedule.now }
-    requires bound { IsBound (length schedule.now.starts) bound.now }
-    ensures { IsTrue result ↔ KeepsBound schedule.now bound.now }
+fn keeps_bound(clocked: &ClockedDesign<'_>, bound: &Bound) -> bool
+    requires bound { IsBound (length clocked.now.schedule.now.starts) bound.now }
+    ensures { IsTrue result ↔ KeepsBound clocked.now.schedule.now bound.now }
 {
-    bound_excess(schedule, bound) <= 0
+    bound_excess(clocked.schedule, bound) <= 0
 }
 
 /// Whether a schedule keeps all bounds: the third test.
-pub(crate) fn keeps_bounds(flat: &Flat, schedule: &Schedule) -> bool
-    requires in_range { IsInRange schedule.now }
-    requires phases { length schedule.now.starts ≡ length flat.now.phases }
-    ensures { IsTrue result ↔ All (KeepsBound schedule.now) flat.now.bounds }
+pub(crate) fn keeps_bounds(clocked: &ClockedDesign<'_>) -> bool
+    ensures { IsTrue result ↔ All (KeepsBound clocked.now.schedule.now) clocked.now.flat.now.bounds }
 {
-    let bounds = flat.bounds();
+    let bounds = clocked.flat.bounds();
     for number in 0..bounds.len() {
-        if !keeps_bound(schedule, &bounds[number]) {
+        if !keeps_bound(clocked, &bounds[number]) {
             return false;
         }
     }

@@ -1,4 +1,6 @@
-use Rattle.std.proofs.Common.{◌≡◌, ℕ, zero, suc, ◌+◌, ◌<◌, ℤ, List, [], ◌∷◌, ◌++◌, length, get_or, take, refl, ap, ◌∙◌, sym, arith, add-one, append_assoc}
+-- What the writers of a pass and of a fail append.
+use Rattle.std.proofs.Common.{◌≡◌, ℕ, zero, suc, ◌+◌, ◌<◌, ℤ, List, [], ◌∷◌, ◌++◌, length, get_or, take, refl, ap, ◌∙◌, sym, arith, add-one, append_assoc, SFits, w64, to_z, of_z}
+use Rattle.std.proofs.lemmas.Int.{to_z-of_z}
 use Rattle.std.specs.Prelude.{codes, flat_map}
 use Rattle.std.specs.List.{AllZip, range_with_len}
 use Rattle.std.proofs.lemmas.Grind.{flat_map-append}
@@ -11,7 +13,7 @@ use Rattle.mintc_timing.specs.declared.parts.Pair.{Pair}
 use Rattle.mintc_timing.specs.declared.violation.Violation.{Violation}
 use Rattle.mintc_timing.specs.Design.{no_element}
 use Rattle.mintc_timing.specs.Departures.{departure}
-use Rattle.mintc_report.specs.Answers.{IsLowestOf, IsWordOf, fraction_word, element_line, IsElementLine, broken_words, ring_of, reach_lines, AppendsElements, AppendsViolation, AppendsViolations}
+use Rattle.mintc_report.specs.Answers.{IsLowestOf, IsWordOf, fraction_word, element_line, IsLineOfTwo, AreElementLines, AreViolationLines, broken_words, ring_of, reach_lines, AppendsLines, AppendsViolations}
 
 -- ---- one more item, of lists that go with one another, and of numbers in a row
 
@@ -27,31 +29,46 @@ range_more a (suc n) j e = ap (λ (v : List ℕ). a ∷ v) (range_more (a + 1) n
 
 -- ---- the elements of a pass
 
+-- what `lowest` ensures of numbers that fit
+pub lowest_as : (num den : ℤ) (f : Ratio) → SFits w64 num → SFits w64 den → IsLowestOf (to_z w64 (of_z w64 num)) (to_z w64 (of_z w64 den)) f → IsLowestOf num den f
+lowest_as num den f num_fits den_fits h = rw (to_z-of_z w64 num num_fits, to_z-of_z w64 den den_fits) at h
+
 pub IsWordOf-lowest : (num den : ℤ) (f : Ratio) → IsLowestOf num den f → IsWordOf num den (fraction_word f)
 IsWordOf-lowest num den f h = record { lowest = f; is_lowest = h; written = refl }
 
--- the line of an element is appended to the lines of those before it
-pub AppendsElements-more : (elements : List Element) (den : ℤ) (late early : List ℤ) (n : ℕ) (old now new name : List ℕ) (other : Element) (f g : Ratio) →
-    AppendsElements elements den late early n old now → n < length elements → name ≡ (get_or elements n other).name →
-    IsLowestOf (departure late n) den f → IsLowestOf (departure early n) den g →
-    new ≡ now ++ ended (element_line name (fraction_word f) (fraction_word g)) →
-    AppendsElements elements den late early (n + 1) old new
-AppendsElements-more elements den late early n old now new name other f g before below is a b written =
-    let line = element_line name (fraction_word f) (fraction_word g) in
-    let same : name ≡ (get_or elements n no_element).name = is ∙ ap (λ (e : Element). e.name) (get_or_default elements n other no_element below) in
-    let is_line : IsElementLine den (get_or elements n no_element) (departure late n) (departure early n) line = record {
-      late_word = fraction_word f;
-      early_word = fraction_word g;
-      is_late = IsWordOf-lowest (departure late n) den f a;
-      is_early = IsWordOf-lowest (departure early n) den g b;
-      written = ap (λ v. element_line v (fraction_word f) (fraction_word g)) same;
-    } in
-    let numbers : range_with_len 0 (n + 1) ≡ range_with_len 0 n ++ n ∷ [] = rw add-one (range_more 0 n n (omega arith)) in
+pub IsLineOfTwo-lowest : (line_of : List ℕ → List ℕ → List ℕ) (den x y : ℤ) (f g : Ratio) → IsLowestOf x den f → IsLowestOf y den g →
+    IsLineOfTwo line_of den x y (line_of (fraction_word f) (fraction_word g))
+IsLineOfTwo-lowest line_of den x y f g a b = record {
+  first_word = fraction_word f;
+  second_word = fraction_word g;
+  is_first = IsWordOf-lowest x den f a;
+  is_second = IsWordOf-lowest y den g b;
+  written = refl;
+}
+
+-- one line more, of lines that go with numbers in a row
+pub AppendsLines-more : (R : ℕ → List ℕ → Type 0) (a n j : ℕ) (old now new line : List ℕ) → a + n ≡ j →
+    AppendsLines (AllZip R (range_with_len a n)) old now → R j line → new ≡ now ++ ended line →
+    AppendsLines (AllZip R (range_with_len a (n + 1))) old new
+AppendsLines-more R a n j old now new line e before is_line written =
+    let numbers : range_with_len a (n + 1) ≡ range_with_len a n ++ j ∷ [] = rw add-one (range_more a n j e) in
     record {
       lines = before.lines ++ line ∷ [];
-      are_lines = rw numbers (AllZip-more _ (range_with_len 0 n) before.lines n line before.are_lines is_line);
+      are_lines = rw numbers (AllZip-more R (range_with_len a n) before.lines j line before.are_lines is_line);
       appended = written ∙ ap (λ v. v ++ ended line) before.appended ∙ append_assoc old _ _ ∙ ap (λ v. old ++ v) (sym (text_of-push before.lines line));
     }
+
+-- the line of an element is appended to the lines of those before it
+pub elements_more : (elements : List Element) (den : ℤ) (late early : List ℤ) (n : ℕ) (old now new name : List ℕ) (other : Element) (f g : Ratio) →
+    AppendsLines (AreElementLines elements den late early n) old now → n < length elements → name ≡ (get_or elements n other).name →
+    IsLowestOf (departure late n) den f → IsLowestOf (departure early n) den g →
+    new ≡ now ++ ended (element_line name (fraction_word f) (fraction_word g)) →
+    AppendsLines (AreElementLines elements den late early (n + 1)) old new
+elements_more elements den late early n old now new name other f g before below is a b written =
+    let same : name ≡ (get_or elements n no_element).name = is ∙ ap (λ (e : Element). e.name) (get_or_default elements n other no_element below) in
+    AppendsLines-more _ 0 n n old now new _ (omega arith) before
+    (IsLineOfTwo-lowest (element_line (get_or elements n no_element).name) den (departure late n) (departure early n) f g a b)
+    (written ∙ ap (λ v. now ++ ended (element_line v (fraction_word f) (fraction_word g))) same)
 
 -- ---- the violations of a fail
 
@@ -61,32 +78,26 @@ violation_written : (old broken amount ring begun first all : List ℕ) → begu
 violation_written old broken amount ring begun first all e f g = rw (g, f, e) (simp append_assoc)
 
 -- a violation is appended as its constraint, its amount and its ring
-pub AppendsViolation-written : (pairs : List Pair) (den : ℤ) (violation : Violation) (f : Ratio) (old begun first all : List ℕ) →
+pub violation-written : (pairs : List Pair) (den : ℤ) (violation : Violation) (f : Ratio) (old begun first all : List ℕ) →
     IsLowestOf violation.amount den f → begun ≡ old ++ broken_words violation.broken →
     first ≡ begun ++ 32 ∷ ended (words (codes "by" ∷ fraction_word f ∷ [])) →
     all ≡ first ++ text_of (reach_lines pairs (ring_of violation.broken)) →
-    AppendsViolation pairs den violation old all
-AppendsViolation-written pairs den violation f old begun first all h e g i = record {
+    AppendsLines (AreViolationLines pairs den violation) old all
+violation-written pairs den violation f old begun first all h e g i = record {
   lines = words (broken_words violation.broken ∷ codes "by" ∷ fraction_word f ∷ []) ∷ reach_lines pairs (ring_of violation.broken);
   are_lines = record { amount_word = fraction_word f; is_amount = IsWordOf-lowest violation.amount den f h; written = refl };
   appended = violation_written old (broken_words violation.broken) (fraction_word f) (text_of (reach_lines pairs (ring_of violation.broken))) begun first all e g i;
 }
 
-AppendsViolations-push : (pairs : List Pair) (den : ℤ) (violations : List Violation) (violation : Violation) (old now new : List ℕ) →
-    AppendsViolations pairs den violations old now → AppendsViolation pairs den violation now new →
-    AppendsViolations pairs den (violations ++ violation ∷ []) old new
-AppendsViolations-push pairs den violations violation old now new before h =
-    let joined : flat_map text_of (before.answers ++ h.lines ∷ []) ≡ flat_map text_of before.answers ++ text_of h.lines =
-    flat_map-append text_of before.answers (h.lines ∷ []) ∙ ap (λ v. flat_map text_of before.answers ++ v) (append-nil (text_of h.lines)) in
-    record {
-      answers = before.answers ++ h.lines ∷ [];
-      each = AllZip-more _ violations before.answers violation h.lines before.each h.are_lines;
-      appended = h.appended ∙ ap (λ v. v ++ text_of h.lines) before.appended ∙ append_assoc old _ _ ∙ ap (λ v. old ++ v) (sym joined);
-    }
-
 -- a violation is appended to the text of those before it
 pub AppendsViolations-more : (pairs : List Pair) (den : ℤ) (violations : List Violation) (i : ℕ) (violation : Violation) (old now new : List ℕ) →
     AppendsViolations pairs den (take i violations) old now → i < length violations → violation ≡ get_or violations i violation →
-    AppendsViolation pairs den violation now new → AppendsViolations pairs den (take (i + 1) violations) old new
+    AppendsLines (AreViolationLines pairs den violation) now new → AppendsViolations pairs den (take (i + 1) violations) old new
 AppendsViolations-more pairs den violations i violation old now new before below is h =
-    rw (take_more violations i violation below, ← is) (AppendsViolations-push pairs den (take i violations) violation old now new before h)
+    let joined : flat_map text_of (before.answers ++ h.lines ∷ []) ≡ flat_map text_of before.answers ++ text_of h.lines =
+    flat_map-append text_of before.answers (h.lines ∷ []) ∙ ap (λ v. flat_map text_of before.answers ++ v) (append-nil (text_of h.lines)) in
+    rw (take_more violations i violation below, ← is) (record {
+      answers = before.answers ++ h.lines ∷ [];
+      each = AllZip-more _ (take i violations) before.answers violation h.lines before.each h.are_lines;
+      appended = h.appended ∙ ap (λ v. v ++ text_of h.lines) before.appended ∙ append_assoc old _ _ ∙ ap (λ v. old ++ v) (sym joined);
+    })

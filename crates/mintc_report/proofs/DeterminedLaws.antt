@@ -1,3 +1,4 @@
+-- Answers have one text.
 use Rattle.std.proofs.Common.{◌≡◌, ◌≤◌, ℕ, ℤ, pos, ◌≤ℤ◌, ◌*ℤ◌, List, [], ◌∷◌, ◌++◌, get_or, drop, decimal, refl, ap, ◌∙◌, sym, subst, arith}
 use Rattle.std.specs.Prelude.{codes, flat_map}
 use Rattle.std.specs.List.{AllZip}
@@ -6,18 +7,17 @@ use Rattle.std.proofs.lemmas.List.{append_cancel_right}
 use Rattle.mintc_text.specs.Lines.{ended, text_of, words}
 use Rattle.mintc_fraction.proofs.Lowest.{IsLowest-unique}
 use Rattle.mintc_fraction.proofs.Products.{swap-times, times-cancel_equal}
-use Rattle.mintc_timing.specs.declared.parts.Element.{Element}
 use Rattle.mintc_timing.specs.declared.parts.Pair.{Pair}
 use Rattle.mintc_timing.specs.declared.violation.Violation.{Violation}
 use Rattle.mintc_timing.specs.Design.{Timing}
 use Rattle.mintc_certificate.specs.declared.certificate.Certificate.{Certificate}
 use Rattle.mintc_certificate.specs.declared.certificate.Certificate.TheVariants.{Least, Never}
-use Rattle.mintc_certificate.specs.Valid.{Test, counts, clock, bounds, departures, setups, ring, sums, number_of}
 use Rattle.mintc_checker.specs.declared.verdict.Verdict.{Verdict}
 use Rattle.mintc_checker.specs.declared.verdict.Verdict.TheVariants.{Valid, Invalid}
 use Rattle.mintc_checker.specs.Verdicts.{IsVerdict}
-use Rattle.mintc_report.specs.Answers.{fraction_word, IsWordOf, element_line, IsElementLine, broken_words, ring_of, reach_lines, AreViolationLines}
-use Rattle.mintc_report.specs.Reports.{verdict_text_of, cycle_line, phase_line, IsPhaseLine, late_line, IsLateLine, chain_lines, IsReportText}
+use Rattle.mintc_checker.proofs.Firsts.{number-range}
+use Rattle.mintc_report.specs.Answers.{fraction_word, IsWordOf, IsLineOfTwo, broken_words, ring_of, reach_lines, AreViolationLines}
+use Rattle.mintc_report.specs.Reports.{verdict_text_of, cycle_line, late_line, IsLateLine, chain_lines, IsReportText}
 use Rattle.mintc_report.specs.Laws.{HasDenominator, AnswersAreDetermined}
 
 -- two fractions of one value are equal
@@ -32,12 +32,12 @@ IsWordOf-unique num den word other some a b =
     let same : f ≡ g = IsLowest-unique f g a.is_lowest.positive b.is_lowest.positive a.is_lowest.reduced b.is_lowest.reduced value in
     a.written ∙ ap fraction_word same ∙ sym b.written
 
-IsElementLine-unique : (den : ℤ) (element : Element) (late early : ℤ) (line other : List ℕ) → pos 1 ≤ℤ den →
-    IsElementLine den element late early line → IsElementLine den element late early other → line ≡ other
-IsElementLine-unique den element late early line other some a b =
+IsLineOfTwo-unique : (line_of : List ℕ → List ℕ → List ℕ) (den x y : ℤ) (line other : List ℕ) → pos 1 ≤ℤ den →
+    IsLineOfTwo line_of den x y line → IsLineOfTwo line_of den x y other → line ≡ other
+IsLineOfTwo-unique line_of den x y line other some a b =
     a.written
-    ∙ ap (λ v. element_line element.name v a.early_word) (IsWordOf-unique late den a.late_word b.late_word some a.is_late b.is_late)
-    ∙ ap (λ v. element_line element.name b.late_word v) (IsWordOf-unique early den a.early_word b.early_word some a.is_early b.is_early)
+    ∙ ap (λ v. line_of v a.second_word) (IsWordOf-unique x den a.first_word b.first_word some a.is_first b.is_first)
+    ∙ ap (λ v. line_of b.first_word v) (IsWordOf-unique y den a.second_word b.second_word some a.is_second b.is_second)
     ∙ sym b.written
 
 AreViolationLines-unique : (pairs : List Pair) (den : ℤ) (violation : Violation) (lines others : List (List ℕ)) → pos 1 ≤ℤ den →
@@ -61,14 +61,6 @@ AllZip-unique R one (x ∷ xs) (y ∷ ys) (z ∷ zs) h g =
     let rest = AllZip-unique R one xs ys zs h.1 g.1 in
     cc
 
-IsPhaseLine-unique : (den : ℤ) (name : List ℕ) (start width : ℤ) (line other : List ℕ) → pos 1 ≤ℤ den →
-    IsPhaseLine den name start width line → IsPhaseLine den name start width other → line ≡ other
-IsPhaseLine-unique den name start width line other some a b =
-    a.written
-    ∙ ap (λ v. phase_line name v a.width_word) (IsWordOf-unique start den a.start_word b.start_word some a.is_start b.is_start)
-    ∙ ap (λ v. phase_line name b.start_word v) (IsWordOf-unique width den a.width_word b.width_word some a.is_width b.is_width)
-    ∙ sym b.written
-
 IsLateLine-unique : (den : ℤ) (name : List ℕ) (late : ℤ) (line other : List ℕ) → pos 1 ≤ℤ den →
     IsLateLine den name late line → IsLateLine den name late other → line ≡ other
 IsLateLine-unique den name late line other some a b =
@@ -84,7 +76,7 @@ unfolding report_lines
 report_one t (Least s d chain) text other some a b =
     let rest : List (List ℕ) = chain_lines t chain in
     let time = IsWordOf-unique s.cycle s.den a.cycle_word b.cycle_word some a.is_cycle b.is_cycle in
-    let phases = AllZip-unique _ (λ p line more h g. IsPhaseLine-unique s.den _ _ _ line more some h g) _ a.phase_lines b.phase_lines a.phases b.phases in
+    let phases = AllZip-unique _ (λ p line more h g. IsLineOfTwo-unique _ s.den _ _ line more some h g) _ a.phase_lines b.phase_lines a.phases b.phases in
     let lates = AllZip-unique _ (λ l line more h g. IsLateLine-unique s.den _ _ line more some h g) _ a.late_lines b.late_lines a.elements b.elements in
     a.whole
     ∙ ap (λ v. report_lines rest v a.phase_lines a.late_lines) time
@@ -92,16 +84,6 @@ report_one t (Least s d chain) text other some a b =
     ∙ ap (λ v. report_lines rest b.cycle_word b.phase_lines v) lates
     ∙ sym b.whole
 report_one t (Never chain) text other some a b = a ∙ sym b
-
--- a test has a number up to 7
-number_small : (test : Test) → number_of test ≤ 7
-number_small counts = omega arith
-number_small clock = omega arith
-number_small bounds = omega arith
-number_small departures = omega arith
-number_small setups = omega arith
-number_small ring = omega arith
-number_small sums = omega arith
 
 -- the first byte of a verdict's text, and what comes after the word `invalid`
 valid_first : (n : ℕ) → verdict_text_of Valid ≡ verdict_text_of (Invalid n) → ⊥
@@ -118,14 +100,14 @@ verdict_one t u certificate another Valid Valid h g e = refl
 verdict_one t u certificate another Valid (Invalid n) h g e = absurd (valid_first n e)
 verdict_one t u certificate another (Invalid m) Valid h g e = absurd (valid_first m (sym e))
 verdict_one t u certificate another (Invalid m) (Invalid n) h g e =
-    ap Invalid (same_test m n (subst (λ k. k ≤ 7) h.1 (number_small h.0)) (subst (λ k. k ≤ 7) g.1 (number_small g.0)) e)
+    ap Invalid (same_test m n (subst (λ k. k ≤ 7) h.1 (number-range h.0).1) (subst (λ k. k ≤ 7) g.1 (number-range g.0).1) e)
 
 pub answers_are_determined_lem : AnswersAreDetermined
 answers_are_determined_lem = record {
   pass = λ t s late early text other some a b.
       a.whole
       ∙ ap (λ (v : List (List ℕ)). text_of (codes "pass" ∷ v))
-      (AllZip-unique _ (λ l line more h g. IsElementLine-unique s.den _ _ _ line more some h g) _ a.lines b.lines a.elements b.elements)
+      (AllZip-unique _ (λ l line more h g. IsLineOfTwo-unique _ s.den _ _ line more some h g) _ a.lines b.lines a.elements b.elements)
       ∙ sym b.whole;
   fail = λ t s violations text other some a b.
       a.whole

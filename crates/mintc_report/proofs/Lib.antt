@@ -2,8 +2,6 @@ pub mod AnswerLaws
 pub mod DeterminedLaws
 pub mod NamedLaws
 pub mod ReportLaws
-pub mod Alone
 pub mod Throughs
-pub mod ValidParts
 pub mod WorkedReports
 pub mod SummaryLaws

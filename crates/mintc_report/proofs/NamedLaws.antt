@@ -1,13 +1,13 @@
-use Rattle.std.proofs.Common.{◌≡◌, ◌<◌, ◌+◌, ◌-◌, ℕ, ℤ, pos, ◌+ℤ◌, ◌-ℤ◌, ◌*ℤ◌, inl, inr, List, [], ◌∷◌, ◌++◌, length, map, Option, Some, None}
+-- Violations name pairs that the design has.
+use Rattle.std.proofs.Common.{◌<◌, ◌-◌, ℕ, ℤ, pos, inl, inr, List, [], ◌∷◌, ◌++◌, length, map, Option, Some, None}
 use Rattle.std.specs.Prelude.{filter, filter_map, flat_map, option_map, int_lt, All}
 use Rattle.std.specs.List.{range_with_len, enumerate_from, cons_option}
 use Rattle.std.specs.Option.{IfSome}
 use Rattle.std.proofs.lemmas.List.Elements.{All-nil, All-cons, All-append, All-push, All-map, All-filter, All-same}
-use Rattle.mintc_timing.specs.declared.parts.Bound.{Bound}
 use Rattle.mintc_timing.specs.declared.clocking.Schedule.{Schedule}
 use Rattle.mintc_timing.specs.declared.violation.Broken.TheVariants as broken
 use Rattle.mintc_timing.specs.declared.violation.Violation.{Violation}
-use Rattle.mintc_timing.specs.Clocking.{start_of, width_of, feeds_of, least_width, time_of}
+use Rattle.mintc_timing.specs.Clocking.{feeds_of}
 use Rattle.mintc_timing.specs.Design.{Timing, phase_count}
 use Rattle.mintc_timing.specs.Violations.{check, phases_of, elements_of, cycle_checks, order_checks, span_checks, width_checks, apart_checks, bound_checks, clock_checks, setup_amount, hold_amount, setup_checks, hold_checks, failed, EndInLoop, AreSettled}
 use Rattle.mintc_report.specs.Answers.{ring_of, NamePairs}
@@ -38,10 +38,6 @@ IfSome-option_map : {X A : Type 0} (P : A → Type 0) (f : X → A) (o : Option 
 IfSome-option_map P f None each = tt
 IfSome-option_map P f (Some x) each = each x
 
--- A constraint that is no loop names no pairs.
-none_named : (count : ℕ) (v : Violation) → ring_of v.broken ≡ [] → NamesPairs count v
-none_named count v none = All-same (λ n. n < count) (ring_of v.broken) [] none (All-nil (λ n. n < count))
-
 checks_named : {X : Type 0} (count : ℕ) (f : X → Violation) (xs : List X) → ((x : X) → NamesPairs count (f x)) → All (NamesPairs count) (map f xs)
 checks_named count f xs each = All-map (NamesPairs count) f xs (All-each (λ x. NamesPairs count (f x)) xs each)
 
@@ -52,19 +48,13 @@ aparts_named count t s =
 clock_named : (count : ℕ) (t : Timing) (s : Schedule) → All (NamesPairs count) (clock_checks t s)
 clock_named count t s =
     let none : All (λ n. n < count) [] = All-nil (λ n. n < count) in
-    let spans : All (NamesPairs count) (span_checks t s) = checks_named count (λ p. check (broken.Span p) (width_of s p -ℤ s.cycle)) (phases_of t) (λ p. none) in
-    let widths : All (NamesPairs count) (width_checks t s) =
-    checks_named count (λ p. check (broken.Width p) (least_width t p *ℤ s.den -ℤ width_of s p)) (phases_of t) (λ p. none) in
-    let cycles : All (NamesPairs count) (cycle_checks t s) = checks_named count (λ p. check (broken.Cycle p) (start_of s p -ℤ s.cycle)) (phases_of t) (λ p. none) in
-    let orders : All (NamesPairs count) (order_checks t s) =
-    checks_named count (λ p. check (broken.Order p) (start_of s p -ℤ start_of s (p + 1))) (range_with_len 1 (phase_count t - 1)) (λ p. none) in
-    let bounds : All (NamesPairs count) (bound_checks t s) =
-    checks_named count (λ (b : ℕ × Bound). check (broken.Bound b.0) (time_of s b.1.from +ℤ b.1.gap *ℤ s.den -ℤ pos b.1.cycles *ℤ s.cycle -ℤ time_of s b.1.to)) (enumerate_from 0 t.flat.bounds) (λ b. none) in
-    All-append (NamesPairs count) (cycle_checks t s ++ order_checks t s ++ span_checks t s ++ width_checks t s ++ apart_checks t s) (bound_checks t s)
-    (All-append (NamesPairs count) (cycle_checks t s ++ order_checks t s ++ span_checks t s ++ width_checks t s) (apart_checks t s)
-    (All-append (NamesPairs count) (cycle_checks t s ++ order_checks t s ++ span_checks t s) (width_checks t s)
-    (All-append (NamesPairs count) (cycle_checks t s ++ order_checks t s) (span_checks t s)
-    (All-append (NamesPairs count) (cycle_checks t s) (order_checks t s) cycles orders) spans) widths) (aparts_named count t s)) bounds
+    let cycles : All (NamesPairs count) (cycle_checks t s) = checks_named count _ (phases_of t) (λ p. none) in
+    let orders : All (NamesPairs count) (order_checks t s) = checks_named count _ (range_with_len 1 (phase_count t - 1)) (λ p. none) in
+    let spans : All (NamesPairs count) (span_checks t s) = checks_named count _ (phases_of t) (λ p. none) in
+    let widths : All (NamesPairs count) (width_checks t s) = checks_named count _ (phases_of t) (λ p. none) in
+    let bounds : All (NamesPairs count) (bound_checks t s) = checks_named count _ (enumerate_from 0 t.flat.bounds) (λ b. none) in
+    let All-both = All-append (NamesPairs count) in
+    All-both _ _ (All-both _ _ (All-both _ _ (All-both _ _ (All-both _ _ cycles orders) spans) widths) (aparts_named count t s)) bounds
 
 setups_named : (count : ℕ) (t : Timing) (s : Schedule) (late : List ℤ) → All (NamesPairs count) (setup_checks t s late)
 setups_named count t s late =

@@ -1,10 +1,9 @@
-use Rattle.std.proofs.Common.{◌≡◌, ℕ, ◌+◌, ◌-◌, ◌<◌, ℤ, pos, List, [], ◌∷◌, ◌++◌, length, map, get_or, take, refl, ap, ◌∙◌, sym, subst, arith, add-one, append_assoc}
-use Rattle.std.specs.Prelude.{flat_map}
-use Rattle.std.specs.List.{AllZip, range_with_len}
+-- What the writers of a report append.
+use Rattle.std.proofs.Common.{◌≡◌, ℕ, ◌+◌, ◌-◌, ◌<◌, ℤ, pos, List, [], ◌∷◌, ◌++◌, length, map, get_or, refl, ap, ◌∙◌, sym, subst, arith, append_assoc}
 use Rattle.std.proofs.lemmas.Grind.{flat_map-append}
-use Rattle.std.proofs.lemmas.List.{append-nil, take_more, get_or_default}
+use Rattle.std.proofs.lemmas.List.{get_or_default}
 use Rattle.mintc_text.specs.Lines.{ended, spaced, text_of, words}
-use Rattle.mintc_text.proofs.LinesLaws.{text_of-push, words-append}
+use Rattle.mintc_text.proofs.LinesLaws.{words-append}
 use Rattle.mintc_fraction.specs.Ratio.{Ratio}
 use Rattle.mintc_timing.specs.declared.parts.Element.{Element}
 use Rattle.mintc_timing.specs.declared.clocking.Schedule.{Schedule}
@@ -13,23 +12,11 @@ use Rattle.mintc_timing.specs.Departures.{departure}
 use Rattle.mintc_certificate.specs.declared.members.Member.{Member}
 use Rattle.mintc_certificate.specs.declared.members.Member.TheVariants as member
 use Rattle.mintc_certificate.specs.Valid.{link_of}
-use Rattle.mintc_report.specs.Answers.{IsLowestOf, fraction_word}
-use Rattle.mintc_report.specs.Reports.{IsPhaseLine, ArePhaseLines, phase_line, IsLateLine, AreLateLines, late_line, AppendsLines, IsLeastReport, cycle_line, chain_lines, amount_words, member_names, member_line, member_lines, later_arcs, through_line}
-use Rattle.mintc_report.proofs.AnswerLaws.{AllZip-more, range_more, IsWordOf-lowest}
+use Rattle.mintc_report.specs.Answers.{AppendsLines, IsLineOfTwo, IsLowestOf, fraction_word}
+use Rattle.mintc_report.specs.Reports.{ArePhaseLines, phase_line, IsLateLine, AreLateLines, late_line, IsLeastReport, cycle_line, chain_lines, amount_words, member_names, member_line, member_lines, later_arcs, through_line}
+use Rattle.mintc_report.proofs.AnswerLaws.{AppendsLines-more, IsLineOfTwo-lowest, IsWordOf-lowest}
 
 -- ---- the phases and the elements
-
--- one line more, of lines that go with numbers in a row
-AppendsLines-more : (R : ℕ → List ℕ → Type 0) (a n j : ℕ) (old now new line : List ℕ) → a + n ≡ j →
-    AppendsLines (AllZip R (range_with_len a n)) old now → R j line → new ≡ now ++ ended line →
-    AppendsLines (AllZip R (range_with_len a (n + 1))) old new
-AppendsLines-more R a n j old now new line e before is_line written =
-    let numbers : range_with_len a (n + 1) ≡ range_with_len a n ++ j ∷ [] = rw add-one (range_more a n j e) in
-    record {
-      lines = before.lines ++ line ∷ [];
-      are_lines = rw numbers (AllZip-more R (range_with_len a n) before.lines j line before.are_lines is_line);
-      appended = written ∙ ap (λ v. v ++ ended line) before.appended ∙ append_assoc old _ _ ∙ ap (λ v. old ++ v) (sym (text_of-push before.lines line));
-    }
 
 -- the line of a phase is appended to the lines of those before it
 pub phases_more : (names : List (List ℕ)) (s : Schedule) (n : ℕ) (old now new name other : List ℕ) (f g : Ratio) →
@@ -38,18 +25,11 @@ pub phases_more : (names : List (List ℕ)) (s : Schedule) (n : ℕ) (old now ne
     new ≡ now ++ ended (phase_line name (fraction_word f) (fraction_word g)) →
     AppendsLines (ArePhaseLines names s (n + 1)) old new
 phases_more names s n old now new name other f g before below is a b written =
-    let line = phase_line name (fraction_word f) (fraction_word g) in
-    let same : name ≡ get_or names n [] = is ∙ get_or_default names n other [] below in
-    let is_line : IsPhaseLine s.den (get_or names n []) (get_or s.starts n (pos 0)) (get_or s.widths n (pos 0)) line = record {
-      start_word = fraction_word f;
-      width_word = fraction_word g;
-      is_start = IsWordOf-lowest (get_or s.starts n (pos 0)) s.den f a;
-      is_width = IsWordOf-lowest (get_or s.widths n (pos 0)) s.den g b;
-      written = ap (λ v. phase_line v (fraction_word f) (fraction_word g)) same;
-    } in
     let back : n ≡ 1 + n - 1 = omega arith in
-    AppendsLines-more _ 1 n (1 + n) old now new line refl before
-    (subst (λ k. IsPhaseLine s.den (get_or names k []) (get_or s.starts k (pos 0)) (get_or s.widths k (pos 0)) line) back is_line) written
+    AppendsLines-more _ 1 n (1 + n) old now new _ refl before
+    (subst (λ k. IsLineOfTwo (phase_line (get_or names k [])) s.den (get_or s.starts k (pos 0)) (get_or s.widths k (pos 0)) (phase_line (get_or names n []) (fraction_word f) (fraction_word g))) back
+    (IsLineOfTwo-lowest (phase_line (get_or names n [])) s.den (get_or s.starts n (pos 0)) (get_or s.widths n (pos 0)) f g a b))
+    (written ∙ ap (λ v. now ++ ended (phase_line v (fraction_word f) (fraction_word g))) (is ∙ get_or_default names n other [] below))
 
 -- the line of an element is appended to the lines of those before it
 pub late_more : (elements : List Element) (den : ℤ) (late : List ℤ) (n : ℕ) (old now new name : List ℕ) (other : Element) (f : Ratio) →
@@ -71,16 +51,7 @@ late_more elements den late n old now new name other f before below is a written
 -- a member has a kind
 names_some : (t : Timing) (m : Member) → 0 < length (member_names t m)
 names_some t (member.Start p) = omega arith
-names_some t (member.Cycle p) = omega arith
-names_some t (member.Order p) = omega arith
-names_some t (member.Span p) = omega arith
-names_some t (member.Width p) = omega arith
-names_some t (member.Apart i j) = omega arith
-names_some t (member.Opening l) = omega arith
-names_some t (member.Opened l) = omega arith
-names_some t (member.Reach j l path) = omega arith
-names_some t (member.Setup l) = omega arith
-names_some t (member.Bound n) = omega arith
+names_some t m = omega arith
 
 -- a line that is written as some words, others after them, and its line feed
 line_written : (old begun all front back : List ℕ) → begun ≡ old ++ front → all ≡ begun ++ (back ++ 10 ∷ []) → all ≡ old ++ ended (front ++ back)
@@ -98,15 +69,6 @@ member_written t m old begun first all e f g =
     let line : first ≡ old ++ ended (member_line t m) =
     line_written old begun first (words (member_names t m)) (spaced amounts) e f ∙ ap (λ v. old ++ ended v) (sym (words-append (member_names t m) amounts (names_some t m))) in
     lines_written old first all (ended (member_line t m)) (text_of (map (through_line t) (later_arcs m))) line g
-
--- the lines of an item are appended to those of the items before it
-pub items_more : {X : Type 0} (f : X → List (List ℕ)) (xs : List X) (i : ℕ) (x : X) (old now new : List ℕ) → i < length xs → x ≡ get_or xs i x →
-    now ≡ old ++ text_of (flat_map f (take i xs)) → new ≡ now ++ text_of (f x) → new ≡ old ++ text_of (flat_map f (take (i + 1) xs))
-items_more f xs i x old now new below is before more =
-    let step = take_more xs i x below ∙ ap (λ y. take i xs ++ y ∷ []) (sym is) in
-    let joined = ap (flat_map f) step ∙ flat_map-append f (take i xs) (x ∷ []) ∙ ap (λ v. flat_map f (take i xs) ++ v) (append-nil (f x)) in
-    let lines = ap text_of joined ∙ flat_map-append ended (flat_map f (take i xs)) (f x) in
-    more ∙ ap (λ v. v ++ text_of (f x)) before ∙ append_assoc old _ _ ∙ ap (λ v. old ++ v) (sym lines)
 
 -- ---- the whole report
 

@@ -39,15 +39,6 @@ later_inner t a to (n ∷ path) design below h =
 
 -- The arcs of a member after the first leave inner bits.
 pub are_through : (t : Timing) (m : Member) → IsDesign t.flat → IsMember t m → All (IsThrough t) (later_arcs m)
-are_through t (member.Start p) design h = All-nil (IsThrough t)
-are_through t (member.Cycle p) design h = All-nil (IsThrough t)
-are_through t (member.Order p) design h = All-nil (IsThrough t)
-are_through t (member.Span p) design h = All-nil (IsThrough t)
-are_through t (member.Width p) design h = All-nil (IsThrough t)
-are_through t (member.Apart i j) design h = All-nil (IsThrough t)
-are_through t (member.Opening l) design h = All-nil (IsThrough t)
-are_through t (member.Opened l) design h = All-nil (IsThrough t)
 are_through t (member.Reach j l []) design h = All-nil (IsThrough t)
 are_through t (member.Reach j l (n ∷ path)) design h = later_inner t n (input_of l) path design h.2.1.0 h.2.1.2
-are_through t (member.Setup l) design h = All-nil (IsThrough t)
-are_through t (member.Bound n) design h = All-nil (IsThrough t)
+are_through t m design h = All-nil (IsThrough t)

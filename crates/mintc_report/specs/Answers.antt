@@ -28,21 +28,22 @@ pub record IsWordOf (num den : ℤ) (word : List ℕ) : Type 0 where
   pub is_lowest : IsLowestOf num den lowest
   pub written : word ≡ fraction_word lowest
 
+-- A line with two numbers over a denominator, each as the word of its lowest terms.
+pub record IsLineOfTwo (line_of : List ℕ → List ℕ → List ℕ) (den first second : ℤ) (line : List ℕ) : Type 0 where
+  pub first_word : List ℕ
+  pub second_word : List ℕ
+  pub is_first : IsWordOf first den first_word
+  pub is_second : IsWordOf second den second_word
+  pub written : line ≡ line_of first_word second_word
+
 -- An element with its late and its early departure, which count femtoseconds times the denominator.
 abbrev pub element_line : List ℕ → List ℕ → List ℕ → List ℕ
 element_line name late early = words (codes "element" ∷ name ∷ codes "late" ∷ late ∷ codes "early" ∷ early ∷ [])
 
-pub record IsElementLine (den : ℤ) (element : Element) (late early : ℤ) (line : List ℕ) : Type 0 where
-  pub late_word : List ℕ
-  pub early_word : List ℕ
-  pub is_late : IsWordOf late den late_word
-  pub is_early : IsWordOf early den early_word
-  pub written : line ≡ element_line element.name late_word early_word
-
 -- the line of each of the first n elements, in order
 abbrev pub AreElementLines : List Element → ℤ → List ℤ → List ℤ → ℕ → List (List ℕ) → Type 0
 AreElementLines elements den late early n lines =
-    AllZip (λ l. IsElementLine den (slice_index_or elements l no_element) (departure late l) (departure early l)) (range_with_len 0 n) lines
+    AllZip (λ l. IsLineOfTwo (element_line (slice_index_or elements l no_element).name) den (departure late l) (departure early l)) (range_with_len 0 n) lines
 
 -- The text of a pass with these departures: `pass`, and the line of each element.
 pub record IsPassText (t : Timing) (s : Schedule) (late early : List ℤ) (text : List ℕ) : Type 0 where
@@ -99,16 +100,13 @@ NamePairs count violations = All (λ v. All (λ n. n < count) (ring_of v.broken)
 
 -- ---- what the writers of these texts append to the text so far
 
-pub record AppendsElements (elements : List Element) (den : ℤ) (late early : List ℤ) (n : ℕ) (old new : List ℕ) : Type 0 where
+-- lines of which the claim holds
+pub record AppendsLines (Are : List (List ℕ) → Type 0) (old new : List ℕ) : Type 0 where
   pub lines : List (List ℕ)
-  pub are_lines : AreElementLines elements den late early n lines
+  pub are_lines : Are lines
   pub appended : new ≡ old ++ text_of lines
 
-pub record AppendsViolation (pairs : List Pair) (den : ℤ) (violation : Violation) (old new : List ℕ) : Type 0 where
-  pub lines : List (List ℕ)
-  pub are_lines : AreViolationLines pairs den violation lines
-  pub appended : new ≡ old ++ text_of lines
-
+-- the lines of each violation
 pub record AppendsViolations (pairs : List Pair) (den : ℤ) (violations : List Violation) (old new : List ℕ) : Type 0 where
   pub answers : List (List (List ℕ))
   pub each : AllZip (AreViolationLines pairs den) violations answers

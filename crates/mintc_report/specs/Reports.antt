@@ -16,7 +16,7 @@ use Rattle.mintc_certificate.specs.declared.members.Member.TheVariants as member
 use Rattle.mintc_certificate.specs.Valid.{link_of, links_of_members}
 use Rattle.mintc_checker.specs.declared.verdict.Verdict.{Verdict}
 use Rattle.mintc_checker.specs.declared.verdict.Verdict.TheVariants.{Valid, Invalid}
-use Rattle.mintc_report.specs.Answers.{IsWordOf}
+use Rattle.mintc_report.specs.Answers.{IsWordOf, IsLineOfTwo}
 
 -- A verdict in words. An invalid certificate has the number of the first test that it fails.
 abbrev pub verdict_text_of : Verdict → List ℕ
@@ -31,17 +31,10 @@ cycle_line time = words (codes "cycle" ∷ time ∷ [])
 abbrev pub phase_line : List ℕ → List ℕ → List ℕ → List ℕ
 phase_line name start width = words (codes "phase" ∷ name ∷ codes "start" ∷ start ∷ codes "width" ∷ width ∷ [])
 
-pub record IsPhaseLine (den : ℤ) (name : List ℕ) (start width : ℤ) (line : List ℕ) : Type 0 where
-  pub start_word : List ℕ
-  pub width_word : List ℕ
-  pub is_start : IsWordOf start den start_word
-  pub is_width : IsWordOf width den width_word
-  pub written : line ≡ phase_line name start_word width_word
-
 -- the line of each of the first n phases, in order
 abbrev pub ArePhaseLines : List (List ℕ) → Schedule → ℕ → List (List ℕ) → Type 0
 ArePhaseLines names s n lines =
-    AllZip (λ p. IsPhaseLine s.den (slice_index_or names (p - 1) []) (start_of s p) (width_of s p)) (range_with_len 1 n) lines
+    AllZip (λ p. IsLineOfTwo (phase_line (slice_index_or names (p - 1) [])) s.den (start_of s p) (width_of s p)) (range_with_len 1 n) lines
 
 -- An element with its late departure, which counts femtoseconds times the denominator.
 abbrev pub late_line : List ℕ → List ℕ → List ℕ
@@ -134,11 +127,3 @@ IsInner t bit = (2 * element_count t ≤ bit) × (bit < 2 * element_count t + le
 
 abbrev pub IsThrough : Timing → ℕ → Type 0
 IsThrough t n = (n < length t.flat.arcs) × IsInner t (arc_at t.flat.arcs n).from
-
--- ---- what the writers of a report append to the text so far
-
--- lines of which the claim holds
-pub record AppendsLines (Are : List (List ℕ) → Type 0) (old new : List ℕ) : Type 0 where
-  pub lines : List (List ℕ)
-  pub are_lines : Are lines
-  pub appended : new ≡ old ++ text_of lines

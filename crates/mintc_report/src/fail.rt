@@ -2,7 +2,7 @@
 ghost use Rattle.std.specs.Prelude.{◌≡◌, ◌≢◌, ◌<◌, ◌++◌, ◌∷◌, [], IfOk, OnOk, length, All, codes, decimal};
 ghost use Rattle.mintc_text.specs.Lines.{ended, text_of, words};
 ghost use Rattle.mintc_timing.specs.Limits.{IsDenominator, IsInRange};
-ghost use Rattle.mintc_report.specs.Answers.{broken_words, fraction_word, reach_line, reach_lines, ring_of, AppendsViolation, AppendsViolations, IsFailText, NamePairs};
+ghost use Rattle.mintc_report.specs.Answers.{broken_words, fraction_word, reach_line, reach_lines, ring_of, AppendsLines, AppendsViolations, AreViolationLines, IsFailText, NamePairs};
 
 use crate::writing::{lowest, put_fraction, put_number, put_word};
 use mintc_fraction::Fraction;
@@ -101,7 +101,7 @@ fn put_violation(
 ) -> Result<(), OutOfMemory>
     requires den { IsDenominator den }
     requires named { All (λ n. n < length pairs.now) (ring_of violation.now.broken) }
-    ensures { OnOk result (AppendsViolation pairs.now den violation.now lines.old lines.new) }
+    ensures { OnOk result (AppendsLines (AreViolationLines pairs.now den violation.now) lines.old lines.new) }
 {
     put_broken(lines, &violation.broken)?;
     put_amount(lines, &lowest(violation.amount, den))?;

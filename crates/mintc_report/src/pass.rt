@@ -4,7 +4,7 @@ ghost use Rattle.mintc_text.specs.Lines.{ended};
 ghost use Rattle.mintc_timing.specs.Departures.{AreLate, AreEarly};
 ghost use Rattle.mintc_timing.specs.Design.{phase_count};
 ghost use Rattle.mintc_timing.specs.Limits.{IsDenominator, IsInRange};
-ghost use Rattle.mintc_report.specs.Answers.{element_line, fraction_word, AppendsElements, IsPassText};
+ghost use Rattle.mintc_report.specs.Answers.{element_line, fraction_word, AppendsLines, AreElementLines, IsPassText};
 
 use crate::writing::{lowest, put_fraction, put_word};
 use mintc_constraints::Room;
@@ -42,7 +42,7 @@ fn put_elements(
     requires den { IsDenominator den }
     requires late { length late.now ≡ length elements.now }
     requires early { length early.now ≡ length elements.now }
-    ensures { OnOk result (AppendsElements elements.now den late.now early.now (length elements.now) lines.old lines.new) }
+    ensures { OnOk result (AppendsLines (AreElementLines elements.now den late.now early.now (length elements.now)) lines.old lines.new) }
 {
     for number in 0..elements.len() {
         put_element(

@@ -5,8 +5,8 @@ ghost use Rattle.mintc_timing.specs.Design.{element_count, phase_count};
 ghost use Rattle.mintc_timing.specs.Limits.{IsDenominator, IsInRange};
 ghost use Rattle.mintc_certificate.specs.Ranges.{IsCertificateInRange, IsChainInRange};
 ghost use Rattle.mintc_certificate.specs.Valid.{IsMember, IsValid};
-ghost use Rattle.mintc_report.specs.Answers.{fraction_word};
-ghost use Rattle.mintc_report.specs.Reports.{chain_lines, cycle_line, late_line, phase_line, AppendsLines, ArePhaseLines, AreLateLines, IsLeastReport, IsReportText};
+ghost use Rattle.mintc_report.specs.Answers.{fraction_word, AppendsLines};
+ghost use Rattle.mintc_report.specs.Reports.{chain_lines, cycle_line, late_line, phase_line, ArePhaseLines, AreLateLines, IsLeastReport, IsReportText};
 
 use crate::chain::put_chain;
 use crate::writing::{lowest, put_fraction, put_word};

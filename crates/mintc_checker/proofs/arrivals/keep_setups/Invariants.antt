@@ -5,4 +5,4 @@ use Rattle.mintc_checker.proofs.arrivals.keep_setups.Given as goal
 
 -- the elements so far keep their setups
 abbrev pub invariant-loop-number : goal.invariant-loop-number
-invariant-loop-number l = OfTiming l.flat (λ t. (k : ℕ) → k < l.number → KeepsSetup t l.schedule l.departures k)
+invariant-loop-number l = OfTiming l.clocked.flat.now (λ t. (k : ℕ) → k < l.number → KeepsSetup t l.clocked.schedule.now l.departures k)

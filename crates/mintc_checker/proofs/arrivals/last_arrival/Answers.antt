@@ -6,14 +6,8 @@ use Rattle.mintc_timing.proofs.Fitting.{read_time, IsTime-IsModest}
 use Rattle.mintc_lanes.specs.Lanes.{joined}
 use Rattle.mintc_checker.specs.Labels.{label_at}
 use Rattle.mintc_checker.specs.Trails.{IsLastUpTo}
-use Rattle.mintc_checker.proofs.Arriving.{last-none, last-more, last-all}
+use Rattle.mintc_checker.proofs.Arriving.{last-more, last-all}
 use Rattle.mintc_checker.proofs.arrivals.last_arrival.Goals as goal
-
-pub loop-lane-init : goal.loop-lane-init
-loop-lane-init c = record {
-  last_so_far = λ d labels. last-none c.args.flat.now c.elements-elements.ensures.kept c.args.schedule.now d c.args.number c.element.result.now.phase;
-  range = tt;
-}
 
 pub loop-lane-preserved : goal.loop-lane-preserved
 loop-lane-preserved c = record {
@@ -21,13 +15,13 @@ loop-lane-preserved c = record {
       let lane : ℕ = c.loop-lane.lane in
       let inside : input_of c.args.number < length c.args.labels.now = let a = c.requires.number in let b = c.requires.count in omega arith in
       let eight = c.elements-elements.ensures.kept.phases in
-      let phases = c.requires.phases in
+      let phases = c.args.clocked.now.phases in
       let count = ap length c.items-lane-end.ensures in
       let test = c.loop-lane-test.true in
       let named = ap length c.phases.ensures.value in
       let below : lane < 8 = omega arith in
-      subst (λ o. IsLastUpTo c.args.flat.now c.args.schedule.now d (lane + 1) c.args.number c.element.result.now.phase o) (sym (c.later-last.ensures.value ∙ ap (λ o. joined int_max c.loop-lane.last o (to_z w64 (of_z w64 c.shift-add.result))) c.label_in.ensures))
-      (last-more c.args.flat.now c.elements-elements.ensures.kept c.args.schedule.now d c.args.number c.element.result.now.phase lane c.loop-lane.last (label_at c.args.labels.now (input_of c.args.number) lane) _
+      subst (λ o. IsLastUpTo c.args.clocked.now.flat.now c.args.clocked.now.schedule.now d (lane + 1) c.args.number c.element.result.now.phase o) (sym (c.later-last.ensures.value ∙ ap (λ o. joined int_max c.loop-lane.last o (to_z w64 (of_z w64 c.shift-add.result))) c.label_in.ensures))
+      (last-more c.args.clocked.now.flat.now c.elements-elements.ensures.kept c.args.clocked.now.schedule.now d c.args.number c.element.result.now.phase lane c.loop-lane.last (label_at c.args.labels.now (input_of c.args.number) lane) _
       (read_time c.shift-add.result (IsTime-IsModest _ c.shift-add.ensures.range) ∙ c.shift-add.ensures.value)
       (c.loop-lane.invariant.last_so_far d labels) (labels.each (input_of c.args.number) lane inside below));
   range = c.later-last.ensures.range;
@@ -38,6 +32,6 @@ returns-clause-last c = λ d labels.
     let count = ap length (c.items-lane-end.ensures ∙ c.phases.ensures.value) in
     let low = c.loop-lane.auto.lane-end in
     let high = c.loop-lane-test.false in
-    let all : c.loop-lane.lane ≡ length c.args.flat.now.phases = omega arith in
-    last-all c.args.flat.now c.elements-elements.ensures.kept c.args.schedule.now d c.args.number c.element.result.now.phase c.loop-lane.lane c.loop-lane.last all
+    let all : c.loop-lane.lane ≡ length c.args.clocked.now.flat.now.phases = omega arith in
+    last-all c.args.clocked.now.flat.now c.elements-elements.ensures.kept c.args.clocked.now.schedule.now d c.args.number c.element.result.now.phase c.loop-lane.lane c.loop-lane.last all
     (ap (λ (e : Element). e.phase) c.element.ensures.value) (c.loop-lane.invariant.last_so_far d labels)

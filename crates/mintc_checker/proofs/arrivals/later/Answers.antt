@@ -4,11 +4,11 @@ use Rattle.std.specs.Int.{int_max}
 use Rattle.std.proofs.lemmas.Int.{ints, clamps}
 use Rattle.mintc_timing.proofs.Fitting.{read_time}
 use Rattle.mintc_lanes.specs.Lanes.{joined}
-use Rattle.mintc_checker.specs.Judged.{IsArrival, IsLate}
+use Rattle.mintc_checker.specs.Judged.{IsArrivalTime, IsLate}
 use Rattle.mintc_checker.proofs.arrivals.later.Goals as goal
 
-last_range : (c : goal.After-max) → IsArrival c.in-Some-last.last
-last_range c = subst (λ (o : Option ℤ). IfSome o IsArrival) c.in-Some-last.is c.requires.last
+last_range : (c : goal.After-max) → IsArrivalTime c.in-Some-last.last
+last_range c = subst (λ (o : Option ℤ). IfSome o IsArrivalTime) c.in-Some-last.is c.requires.last
 
 label_range : (c : goal.After-max) → IsLate c.in-Some.label
 label_range c = subst (λ (o : Option ℤ). IfSome o IsLate) c.in-Some.is c.requires.label
@@ -20,13 +20,13 @@ greater c =
     let add = c.requires.add in
     omega (arith, ints, clamps, c.max.ensures.value)
 
-within : (x last label add : ℤ) → x ≡ int_max last (label +ℤ add) → IsArrival last → (negsuc 199999999999999 ≤ℤ add) × (add ≤ℤ pos 200000000000000) → IsLate label → IsArrival x
+within : (x last label add : ℤ) → x ≡ int_max last (label +ℤ add) → IsArrivalTime last → (negsuc 199999999999999 ≤ℤ add) × (add ≤ℤ pos 200000000000000) → IsLate label → IsArrivalTime x
 within x last label add e a b d = let b0 = b.0 in let b1 = b.1 in let a0 = a.0 in let a1 = a.1 in let d0 = d.0 in let d1 = d.1 in (omega (arith, ints, clamps), omega (arith, ints, clamps))
 
-in_range : (c : goal.After-max) → IsArrival c.max.result
+in_range : (c : goal.After-max) → IsArrivalTime c.max.result
 in_range c = within c.max.result c.in-Some-last.last c.in-Some.label c.args.add (greater c) (last_range c) c.requires.add (label_range c)
 
-read : (x : ℤ) → IsArrival x → to_z w64 (of_z w64 x) ≡ x
+read : (x : ℤ) → IsArrivalTime x → to_z w64 (of_z w64 x) ≡ x
 read x h = let low = h.0 in let high = h.1 in read_time x (omega (arith, ints), omega (arith, ints))
 
 pub returns-clause-value : goal.returns-clause-value
@@ -36,4 +36,4 @@ returns-clause-value c =
     ap Some (read c.max.result (in_range c) ∙ greater c) ∙ ap (λ o. joined int_max o (Some label) c.args.add) (sym c.in-Some-last.is) ∙ ap (λ o. joined int_max c.args.last o c.args.add) (sym c.in-Some.is)
 
 pub returns-clause-range : goal.returns-clause-range
-returns-clause-range c = subst IsArrival (sym (read c.max.result (in_range c))) (in_range c)
+returns-clause-range c = subst IsArrivalTime (sym (read c.max.result (in_range c))) (in_range c)

@@ -1,46 +1,33 @@
-use Rattle.std.proofs.Common.{ℕ, Option, sym, subst, to_z, of_z, w64}
+use Rattle.mintc_certificate.specs.declared.certificate.Certificate.TheVariants.{Least}
+use Rattle.mintc_certificate.specs.Valid.{ring, sums}
 use Rattle.mintc_checker.specs.Judged.{timing_of}
-use Rattle.mintc_checker.specs.Labels.{AreLabels}
-use Rattle.mintc_checker.specs.Verdicts.{IsFirstOfSchedule}
-use Rattle.mintc_checker.proofs.Firsts.{invalid-counts, invalid-schedule, invalid-ring, invalid-sums, valid-least}
+use Rattle.mintc_checker.proofs.Firsts.{fails_counts, fails_first, passes_more, valid_of}
 use Rattle.mintc_checker.proofs.Deciding.{refused}
 use Rattle.mintc_checker.proofs.examining.judge_least.Goals as goal
 
 pub returns-then-not-has_counts : goal.returns-then-not-has_counts
 returns-then-not-has_counts c = λ along pairs are_pairs.
-    invalid-counts (timing_of c.args.flat.now along pairs) c.args.schedule.now c.args.departures.now c.args.chain.now (refused _ c.if-not-has_counts.true c.has_counts.ensures)
-
-pub first_of_schedule-requires-clause-fed : goal.first_of_schedule-requires-clause-fed
-first_of_schedule-requires-clause-fed c =
-    c.feeds_table-fed.ensures c.args.departures.now (to_z w64 (of_z w64 c.args.schedule.now.den))
-    (subst (λ ls. AreLabels c.args.flat.now (to_z w64 (of_z w64 c.args.schedule.now.den)) c.args.departures.now ls) (sym c.deref.ensures.value) c.in_ok-labels.ensures.labels)
-
-pub returns-in-Some : goal.returns-in-Some
-returns-in-Some c = λ along pairs are_pairs.
-    invalid-schedule (timing_of c.args.flat.now along pairs) c.args.schedule.now c.args.departures.now c.args.chain.now c.in-Some.test (c.has_counts.ensures.0 c.if-not-has_counts.false)
-    (subst (λ (o : Option ℕ). IsFirstOfSchedule (timing_of c.args.flat.now along pairs) c.args.schedule.now c.args.departures.now o) c.in-Some.is (c.first_of_schedule.ensures along pairs are_pairs))
-
-pub are_ring-requires-clause-fed : goal.are_ring-requires-clause-fed
-are_ring-requires-clause-fed c =
-    c.feeds_table-fed.ensures c.args.departures.now (to_z w64 (of_z w64 c.args.schedule.now.den))
-    (subst (λ ls. AreLabels c.args.flat.now (to_z w64 (of_z w64 c.args.schedule.now.den)) c.args.departures.now ls) (sym c.deref.ensures.value) c.in_ok-labels.ensures.labels)
+    fails_counts (timing_of c.args.flat.now along pairs) (Least c.args.schedule.now c.args.departures.now c.args.chain.now) (refused _ c.if-not-has_counts.true c.has_counts.ensures)
 
 pub returns-then-not-are_ring : goal.returns-then-not-are_ring
 returns-then-not-are_ring c = λ along pairs are_pairs.
-    invalid-ring (timing_of c.args.flat.now along pairs) c.args.schedule.now c.args.departures.now c.args.chain.now (c.has_counts.ensures.0 c.if-not-has_counts.false)
-    (subst (λ (o : Option ℕ). IsFirstOfSchedule (timing_of c.args.flat.now along pairs) c.args.schedule.now c.args.departures.now o) c.in_default.is (c.first_of_schedule.ensures along pairs are_pairs))
+    fails_first (timing_of c.args.flat.now along pairs) (Least c.args.schedule.now c.args.departures.now c.args.chain.now) ring
+    ((rw c.in_default.is at c.first_of_schedule.ensures) along pairs are_pairs c.args.chain.now)
     (refused _ c.if-not-are_ring.true (c.are_ring.ensures.ring along pairs are_pairs))
 
 pub returns-then-not-is_tight : goal.returns-then-not-is_tight
 returns-then-not-is_tight c = λ along pairs are_pairs.
-    invalid-sums (timing_of c.args.flat.now along pairs) c.args.schedule.now c.args.departures.now c.args.chain.now (c.has_counts.ensures.0 c.if-not-has_counts.false)
-    (subst (λ (o : Option ℕ). IsFirstOfSchedule (timing_of c.args.flat.now along pairs) c.args.schedule.now c.args.departures.now o) c.in_default.is (c.first_of_schedule.ensures along pairs are_pairs))
-    ((c.are_ring.ensures.ring along pairs are_pairs).0 c.if-not-are_ring.false)
+    let t = timing_of c.args.flat.now along pairs in
+    let certificate = Least c.args.schedule.now c.args.departures.now c.args.chain.now in
+    fails_first t certificate sums
+    (passes_more t certificate ring
+    ((rw c.in_default.is at c.first_of_schedule.ensures) along pairs are_pairs c.args.chain.now)
+    ((c.are_ring.ensures.ring along pairs are_pairs).0 c.if-not-are_ring.false))
     (λ tight. refused _ c.if-not-is_tight.true c.is_tight.ensures (record { turns = tight.turns; tight = tight.tight }))
 
 pub returns : goal.returns
 returns c = λ along pairs are_pairs.
-    valid-least (timing_of c.args.flat.now along pairs) c.args.schedule.now c.args.departures.now c.args.chain.now (c.has_counts.ensures.0 c.if-not-has_counts.false)
-    (subst (λ (o : Option ℕ). IsFirstOfSchedule (timing_of c.args.flat.now along pairs) c.args.schedule.now c.args.departures.now o) c.in_default.is (c.first_of_schedule.ensures along pairs are_pairs))
-    ((c.are_ring.ensures.ring along pairs are_pairs).0 c.if-not-are_ring.false)
-    (let tight = c.is_tight.ensures.0 c.if-not-is_tight.false in record { turns = tight.turns; tight = tight.tight })
+    let tight = c.is_tight.ensures.0 c.if-not-is_tight.false in
+    valid_of (timing_of c.args.flat.now along pairs) (Least c.args.schedule.now c.args.departures.now c.args.chain.now)
+    ((rw c.in_default.is at c.first_of_schedule.ensures) along pairs are_pairs c.args.chain.now)
+    ((c.are_ring.ensures.ring along pairs are_pairs).0 c.if-not-are_ring.false) (record { turns = tight.turns; tight = tight.tight })

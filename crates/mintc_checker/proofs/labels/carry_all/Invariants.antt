@@ -3,4 +3,4 @@ use Rattle.mintc_checker.proofs.labels.carry_all.Given as goal
 
 -- the labels along the arcs so far
 abbrev pub invariant-loop-place : goal.invariant-loop-place
-invariant-loop-place l = AreLabelsOf l.flat l.fn.den l.departures (IsAlong l.order l.place) l.labels
+invariant-loop-place l = AreLabelsOf l.departing.flat.now l.departing.den l.departing.departures.now (IsAlong l.order l.place) l.labels

@@ -7,17 +7,11 @@ use Rattle.mintc_checker.proofs.labels.output_time.Goals as goal
 
 pub returns-clause-value : goal.returns-clause-value
 returns-clause-value c =
-    let den = c.args.den in
+    let den = c.args.departing.now.den in
     let e : Element = c.element.result.now in
-    let product : c.scaled.result ≡ (element_of c.args.flat.now c.args.number).dq_max *ℤ den =
-    rw (read_time e.dq_max (IsTime-IsDelay _ c.element.ensures.kept.dq_max), read_time den (IsTime-IsDenominator _ c.requires.den)) at c.scaled.ensures.value
+    let product : c.scaled.result ≡ (element_of c.args.departing.now.flat.now c.args.number).dq_max *ℤ den =
+    rw (read_time e.dq_max (IsTime-IsDelay _ c.element.ensures.kept.dq_max), read_time den (IsTime-IsDenominator _ c.args.departing.now.is_den)) at c.scaled.ensures.value
     ∙ ap (λ (x : Element). x.dq_max *ℤ den) c.element.ensures.value in
     let a = c.departure_at.ensures.range in
     let b = c.scaled.ensures.range in
     rw (← product, ← c.departure_at.ensures.value) (omega (arith, ints))
-
-pub returns-clause-range : goal.returns-clause-range
-returns-clause-range c =
-    let a = c.departure_at.ensures.range in
-    let b = c.scaled.ensures.range in
-    (omega (arith, ints), omega (arith, ints))

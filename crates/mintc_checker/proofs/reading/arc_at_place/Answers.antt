@@ -15,9 +15,6 @@ bounds-arcs-number c =
 is_arc : (arcs arcs' : List TimingArc) (order order' : List ℕ) (place : ℕ) → arcs' ≡ arcs → order' ≡ order → arc_at arcs' (get_or order' place 0) ≡ arc_at arcs (get_or order place 0)
 is_arc arcs arcs' order order' place e f = ap (λ xs. arc_at xs (get_or order' place 0)) e ∙ ap (λ ys. arc_at arcs (get_or ys place 0)) f
 
-pub returns-clause-value : goal.returns-clause-value
-returns-clause-value c = is_arc c.args.flat.now.arcs c.arcs-2.result.now c.args.order.now c.items.result.now c.args.place c.arcs-2.ensures (c.items.ensures ∙ c.arcs.ensures)
-
 pub returns-clause-kept : goal.returns-clause-kept
 returns-clause-kept c =
     subst (λ (a : TimingArc). IsArc (length c.args.flat.now.elements) (length c.args.flat.now.inner) a)

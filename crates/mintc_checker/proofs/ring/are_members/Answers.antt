@@ -16,19 +16,11 @@ loop-place-preserved c =
           (c.loop-place.invariant.members_so_far along pairs are_pairs) ((c.is_member.ensures.member along pairs are_pairs).0 c.if-not-is_member.false);
     }
 
-pub returns-then-not-is_member : goal.returns-then-not-is_member
-returns-then-not-is_member c = record {
-  named = tt;
-  members = λ along pairs are_pairs.
-      let item = c.index-members-place.result in
-      denied _ c.if-not-is_member.true (c.is_member.ensures.member along pairs are_pairs)
-      (λ all. subst (IsMember (timing_of c.args.flat.now along pairs)) (item_at c.args.members.now c.loop-place.place item item c.loop-place-test.true c.index-members-place.is) (all c.loop-place.place item c.loop-place-test.true));
-}
+pub returns-then-not-is_member-clause-members : goal.returns-then-not-is_member-clause-members
+returns-then-not-is_member-clause-members c = λ along pairs are_pairs.
+    let item = c.index-members-place.result in
+    denied _ c.if-not-is_member.true (c.is_member.ensures.member along pairs are_pairs)
+    (λ all. subst (IsMember (timing_of c.args.flat.now along pairs)) (item_at c.args.members.now c.loop-place.place item item c.loop-place-test.true c.index-members-place.is) (all c.loop-place.place item c.loop-place-test.true))
 
-pub returns : goal.returns
-returns c =
-    let high = c.loop-place-test.false in
-    record {
-      named = λ k d below. c.loop-place.invariant.named k d (omega arith);
-      members = λ along pairs are_pairs. holds (λ k d below. c.loop-place.invariant.members_so_far along pairs are_pairs k d (omega arith));
-    }
+pub returns-clause-members : goal.returns-clause-members
+returns-clause-members c = λ along pairs are_pairs. let high = c.loop-place-test.false in holds (λ k d below. c.loop-place.invariant.members_so_far along pairs are_pairs k d (omega arith))

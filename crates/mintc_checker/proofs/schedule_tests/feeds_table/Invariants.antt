@@ -6,5 +6,5 @@ use Rattle.mintc_checker.proofs.schedule_tests.feeds_table.Given as goal
 abbrev pub invariant-loop-place : goal.invariant-loop-place
 invariant-loop-place l = record {
   count : length l.fed ≡ 64;
-  each : (k : ℕ) → k < l.place → IsTrue (get_or l.fed k false) ↔ IsFedFrom l.flat l.labels (k / 8 + 1) (k % 8 + 1);
+  each : (k : ℕ) → k < l.place → IsTrue (get_or l.fed k false) ↔ IsFedFrom l.departing.flat.now l.labels (k / 8 + 1) (k % 8 + 1);
 }

@@ -8,11 +8,11 @@ use Rattle.mintc_checker.proofs.schedule_tests.keeps_bounds.Goals as goal
 
 pub loop-number-preserved : goal.loop-number-preserved
 loop-number-preserved c =
-    below_more (λ k. KeepsBound c.args.schedule.now (get_or c.args.flat.now.bounds k no_bound)) c.loop-number.number c.loop-number.invariant
+    below_more (λ k. KeepsBound c.args.clocked.now.schedule.now (get_or c.args.clocked.now.flat.now.bounds k no_bound)) c.loop-number.number c.loop-number.invariant
     ((rw c.bounds-bounds.ensures.value at c.keeps_bound.ensures).0 c.if-not-keeps_bound.false)
 
 pub returns : goal.returns
 returns c =
     let high = c.loop-number-test.false in
     let count = ap length c.bounds-bounds.ensures.value in
-    holds (All-from_places (KeepsBound c.args.schedule.now) c.args.flat.now.bounds c.loop-number.number no_bound (omega arith) c.loop-number.invariant)
+    holds (All-from_places (KeepsBound c.args.clocked.now.schedule.now) c.args.clocked.now.flat.now.bounds c.loop-number.number no_bound (omega arith) c.loop-number.invariant)

@@ -5,4 +5,4 @@ use Rattle.mintc_checker.proofs.schedule_tests.keeps_bounds.Given as goal
 
 -- the bounds so far are kept
 abbrev pub invariant-loop-number : goal.invariant-loop-number
-invariant-loop-number l = (k : ℕ) → k < l.number → KeepsBound l.schedule (slice_index_or l.flat.bounds k no_bound)
+invariant-loop-number l = (k : ℕ) → k < l.number → KeepsBound l.clocked.schedule.now (slice_index_or l.clocked.flat.now.bounds k no_bound)

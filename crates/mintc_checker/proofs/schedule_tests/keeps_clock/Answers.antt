@@ -10,13 +10,13 @@ returns-then-not-keeps_phase c = λ along pairs are_pairs.
     let test = c.loop-index-test.true in
     let count = ap length c.items-index-end.ensures in
     let named = ap length c.phases.ensures.value in
-    let below : c.loop-index.index + 1 ≤ length c.args.flat.now.phases = omega arith in
+    let below : c.loop-index.index + 1 ≤ length c.args.clocked.now.flat.now.phases = omega arith in
     let one : 1 ≤ c.loop-index.index + 1 = omega arith in
     denied _ c.if-not-keeps_phase.true (c.keeps_phase.ensures along pairs are_pairs) (λ clock. clock.each (c.loop-index.index + 1) one below)
 
 pub loop-index-preserved : goal.loop-index-preserved
 loop-index-preserved c = λ along pairs are_pairs.
-    below_more (λ k. KeepsPhase (timing_of c.args.flat.now along pairs) c.args.schedule.now (k + 1)) c.loop-index.index
+    below_more (λ k. KeepsPhase (timing_of c.args.clocked.now.flat.now along pairs) c.args.clocked.now.schedule.now (k + 1)) c.loop-index.index
     (c.loop-index.invariant along pairs are_pairs) ((c.keeps_phase.ensures along pairs are_pairs).0 c.if-not-keeps_phase.false)
 
 pub returns : goal.returns
@@ -25,10 +25,10 @@ returns c = λ along pairs are_pairs.
     let count = ap length c.items-index-end.ensures in
     let named = ap length c.phases.ensures.value in
     holds (record {
-      den = c.requires.in_range.den.0;
-      starts = c.requires.phases;
-      widths = c.requires.in_range.alike ∙ c.requires.phases;
+      den = c.args.clocked.now.in_range.den.0;
+      starts = c.args.clocked.now.phases;
+      widths = c.args.clocked.now.in_range.alike ∙ c.args.clocked.now.phases;
       each = λ p one most.
           let same : (p - 1) + 1 ≡ p = omega arith in
-          subst (λ q. KeepsPhase (timing_of c.args.flat.now along pairs) c.args.schedule.now q) same (c.loop-index.invariant along pairs are_pairs (p - 1) (omega arith));
+          subst (λ q. KeepsPhase (timing_of c.args.clocked.now.flat.now along pairs) c.args.clocked.now.schedule.now q) same (c.loop-index.invariant along pairs are_pairs (p - 1) (omega arith));
     })

@@ -1,17 +1,17 @@
 use Rattle.std.proofs.Common.{length, ◌∙◌, ap, SFits, w64, rules}
 use Rattle.std.proofs.lemmas.Int.{to_z-of_z}
 use Rattle.mintc_timing.specs.Design.{Design}
-use Rattle.mintc_report.specs.Answers.{IsLowestOf}
-use Rattle.mintc_report.specs.Reports.{AppendsLines, AreLateLines}
+use Rattle.mintc_report.specs.Answers.{AppendsLines}
+use Rattle.mintc_report.specs.Reports.{AreLateLines}
+use Rattle.mintc_report.proofs.AnswerLaws.{lowest_as}
 use Rattle.mintc_report.proofs.ReportLaws.{least_written}
 use Rattle.mintc_report.proofs.report.least_text.Goals as goal
 
 pub returns : goal.returns
 returns c =
     let s = c.args.schedule.now in
-    let cycle_fits : SFits w64 c.args.schedule.now.cycle = search rules in
     let den_fits : SFits w64 c.args.schedule.now.den = search rules in
-    let cycle : IsLowestOf s.cycle s.den c.lowest.result = rw (to_z-of_z w64 s.cycle cycle_fits, to_z-of_z w64 s.den den_fits) at c.lowest.ensures in
+    let cycle = lowest_as c.args.schedule.now.cycle c.args.schedule.now.den c.lowest.result (search rules) (search rules) c.lowest.ensures in
     let lates : AppendsLines (AreLateLines c.elements.result.now s.den c.args.departures.now (length c.elements.result.now)) c.put_phases.new.lines c.put_departures.new.lines =
     rw (to_z-of_z w64 s.den den_fits) at c.in_ok-put_departures.ensures in
     least_written c.args.system.now s c.args.departures.now c.args.chain.now c.lowest.result c.items.result.now c.elements.result.now

@@ -1,4 +1,5 @@
-use Rattle.mintc_report.specs.Reports.{AppendsLines, AreLateLines}
+use Rattle.mintc_report.specs.Answers.{AppendsLines}
+use Rattle.mintc_report.specs.Reports.{AreLateLines}
 use Rattle.mintc_report.proofs.report.put_departures.Given as goal
 
 -- the lines so far are written

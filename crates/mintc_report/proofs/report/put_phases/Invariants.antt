@@ -1,4 +1,5 @@
-use Rattle.mintc_report.specs.Reports.{AppendsLines, ArePhaseLines}
+use Rattle.mintc_report.specs.Answers.{AppendsLines}
+use Rattle.mintc_report.specs.Reports.{ArePhaseLines}
 use Rattle.mintc_report.proofs.report.put_phases.Given as goal
 
 -- the lines so far are written
