@@ -27,20 +27,6 @@ AreWithin-weaker m n row h g k below = weaker (lane_at row k) (g k below)
 pub IsBounded-weaker : (m n : ℕ) (sums : Sums) → m ≤ n → IsBounded m sums → IsBounded n sums
 IsBounded-weaker m n sums h g = record { greatest = AreWithin-weaker m n sums.greatest h g.greatest; least = AreWithin-weaker m n sums.least h g.least }
 
-pub is_small : (x : ℤ) → IsDelay x → unsigned_abs x ≤ 1000000000
-is_small x h = let low = h.0 in let high = h.1 in omega (arith, ints)
-
-pub bounded_write : (sums : List Sums) (bit : ℕ) (greatest least : List ℤ) (most : ℕ) → bit < length sums → AreWithin (max most (most + 1000000000)) greatest →
-    AreWithin (max most (most + 1000000000)) least → IsBounded (most + 1000000000) (sums_at (slice_set sums bit (record { greatest = greatest; least = least })) bit)
-bounded_write sums bit greatest least most below h g =
-    let new : Sums = record { greatest = greatest; least = least } in
-    let read : new ≡ sums_at (slice_set sums bit new) bit = sym (get_or-set_same sums bit new no_sums below) in
-    let bounded : IsBounded (most + 1000000000) new = record {
-      greatest = AreWithin-weaker (max most (most + 1000000000)) (most + 1000000000) greatest (omega arith) h;
-      least = AreWithin-weaker (max most (most + 1000000000)) (most + 1000000000) least (omega arith) g;
-    } in
-    subst (λ s. IsBounded (most + 1000000000) s) read bounded
-
 joined_none : (choose : ℤ → ℤ → ℤ) (x y : Option ℤ) (w : ℤ) → joined choose x y w ≡ None → (x ≡ None) × (y ≡ None)
 joined_none choose None None w h = (refl, refl)
 joined_none choose (Some x) None w h = absurd (cc)

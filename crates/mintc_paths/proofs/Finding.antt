@@ -129,14 +129,6 @@ HasPairs-push old new pairs pair h count kept = record {
       kept (omega arith) ∙ ap (λ xs. xs ++ pair ∷ []) (h.kept (omega arith));
 }
 
-pub IsFoundBefore-none : (design : Design) (found : Found) → found.count ≡ 0 → found.pairs.items ≡ [] → IsFoundBefore design 0 0 found
-IsFoundBefore-none design found count items = record {
-  pairs = [];
-  are_pairs = ArePairsBefore-none design;
-  has_pairs = record { count = count; kept = λ few. items };
-  few = omega arith;
-}
-
 pub IsFoundBefore-skip : (design : Design) (from to : ℕ) (found : Found) → ((path : List ℕ) → IsPath design.arcs from path (input_of to) → ⊥) →
     IsFoundBefore design from to found → IsFoundBefore design from (to + 1) found
 IsFoundBefore-skip design from to found none h = let few = h.few in record {
@@ -183,10 +175,6 @@ IsAdded-some (Ok v) from to x y max min max' min' old new e f same_max same_min 
     IsFoundBefore-push design from to old new (pair_of from to min' max')
     (extremes_of design from to x y max' min' (e ∙ ap Some (sym same_max)) (f ∙ ap Some (sym same_min)) paired) refl refl count kept h
 IsAdded-some (Err v) from to x y max min max' min' old new e f same_max same_min count kept = kept
-
-pub IsAdded-half : (from to : ℕ) (x y : Option ℤ) (max : ℤ) (found : Found) → x ≡ Some max → y ≡ None → IsAdded from to x y found found
-IsAdded-half from to x y max found e f = λ design paired h.
-    absurd (subst (λ o. IsPaired design from to (Some max) o) f (subst (λ o. IsPaired design from to o y) e paired))
 
 -- what is found in the end
 pub pairs_found : (design : Design) (found : Found) → IsFoundBefore design (length design.elements) 0 found → found.count ≤ 200000 → ArePairs design found.pairs.items

@@ -56,13 +56,6 @@ module _ (places : List ℕ) (sums old : List Sums) (held : AreHeld places sums)
       let below = held.below other in
       x_is ∙ get_or_default sums at x no_sums (omega arith) ∙ ap (λ k. sums_at sums k) at_is ∙ sym (placed_at places sums other low) ∙ kept other
 
-  pub AreHeld-put : (new : Sums) → AreHeld places (set sums place new)
-  AreHeld-put new = record {
-    none = get_or-set_other sums place 0 new no_sums (λ e. some (sym e)) ∙ held.none;
-    below = λ other. let low = held.below other in let count = length-set {A = Sums} sums place new in omega arith;
-    apart = held.apart;
-  }
-
 -- what the sums in a row become, along an arc that leaves another one
 pub record IsJoined (arc : TimingArc) (to from new : Sums) : Type 0 where
   pub greatest : AreJoined int_max to.greatest from.greatest arc.max new.greatest
@@ -71,6 +64,7 @@ pub record IsJoined (arc : TimingArc) (to from new : Sums) : Type 0 where
 
 -- and what the rows hold then
 pub record IsJoinedOne (arc : TimingArc) (old new : List Sums) : Type 0 where
+  pub count : length new ≡ length old
   pub others : (row : ℕ) → row ≢ arc.to → sums_at new row ≡ sums_at old row
   pub joined : IsJoined arc (sums_at old arc.to) (sums_at old arc.from) (sums_at new arc.to)
 
@@ -112,6 +106,7 @@ module _ (base : ℕ) (numbers : List ℕ) (sums old : List Sums) (held : AreHel
         let count = rows_count in
         let inside : arc.to < length places = omega arith in
         record {
+          count = length-placed places (set sums place new) ∙ count;
           others = put_others places sums old held rows_kept arc.to place inside is some new;
           joined = subst (λ s. IsJoined arc (sums_at old arc.to) (sums_at old arc.from) s) (sym (put_own places sums old held rows_kept arc.to place inside is some new))
               (subst (λ s. IsJoined arc s (sums_at old arc.from) new) (held_at arc.to place to to_low is to_is) (subst (λ s. IsJoined arc to s new) from_is h));
@@ -126,6 +121,7 @@ module _ (base : ℕ) (numbers : List ℕ) (sums old : List Sums) (held : AreHel
         let inside : arc.to < length given = omega arith in
         let all_kept : (other : ℕ) → sums_at (placed given more) other ≡ sums_at old other = λ other. kept other ∙ rows_kept other in
         record {
+          count = length-placed given (set more place new) ∙ given_count ∙ count;
           others = put_others given more old given_held all_kept arc.to place inside is some new;
           joined = subst (λ s. IsJoined arc (sums_at old arc.to) (sums_at old arc.from) s) (sym (put_own given more old given_held all_kept arc.to place inside is some new))
               (subst (λ s. IsJoined arc s (sums_at old arc.from) new) (held_none arc.to to_low none) (subst (λ s. IsJoined arc NO_SUMS s new) from_is h));

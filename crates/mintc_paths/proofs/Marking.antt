@@ -17,19 +17,6 @@ marked_more old new reached bit same others m = record {
       (cases_eq b bit);
 }
 
--- a bit whose sums and mark are taken away
-pub marked_less : (old : List Sums) (reached : List Bool) (bit : ℕ) → AreMarked old reached → AreMarked (set old bit NO_SUMS) (set reached bit false)
-marked_less old reached bit m = record {
-  count = length-set {A = Bool} reached bit false ∙ m.count ∙ sym (length-set {A = Sums} old bit NO_SUMS);
-  none = λ b below off.
-      let long : length (set old bit NO_SUMS) ≡ length old = length-set {A = Sums} old bit NO_SUMS in
-      let inside : b < length old = omega (arith, long, below) in
-      ⊎_elim
-      (λ e. rw e (get_or-set_same old bit NO_SUMS no_sums (omega (arith, inside, e))))
-      (λ e. get_or-set_other old bit b NO_SUMS no_sums e ∙ m.none b inside (sym (get_or-set_other reached bit b false false e) ∙ off))
-      (cases_eq b bit);
-}
-
 -- at first there are no sums, and no bit is marked
 pub AreMarked-none : (count : ℕ) (sums : List Sums) (reached : List Bool) → length sums ≡ count → ((bit : ℕ) → bit < count → sums_at sums bit ≡ NO_SUMS) → reached ≡ replicate count false → AreMarked sums reached
 AreMarked-none count sums reached long none r = record {

@@ -86,6 +86,3 @@ AreRunsShort-carried arcs order sums is_order h all = λ from path bit is.
     (λ (past : length sums ≤ bit). let none = get_or_past sums bit (pos 0) past in omega (arith, ints))
     (low_or_past bit (length sums)) in
     omega (arith, ints)
-
-pub ArePathsShort-runs : (design : Design) → AreRunsShort design.arcs → ArePathsShort design
-ArePathsShort-runs design short = λ j bit path element is. short (output_of j) path bit is.1

@@ -83,14 +83,6 @@ pub exchanged : (n : ℕ) (there back : List ℕ) (a b other before : ℕ) → a
     LeadsBack n (set (set there a b) other before) (set (set back b a) before other)
 exchanged n there back a b other before in_a in_b h g e f = rw (e, f) (LeadsBack-exchanged n there back a b in_a in_b h g)
 
--- a list of which each number is its place leads back by itself
-pub LeadsBack-plain : (n : ℕ) (xs ys : List ℕ) → length xs ≡ n → ((k : ℕ) → k < n → row_of xs k ≡ k) → ((k : ℕ) → k < n → row_of ys k ≡ k) → LeadsBack n xs ys
-LeadsBack-plain n xs ys count own owns = record {
-  count = count;
-  inside = λ x below. subst (λ k. k < n) (sym (own x below)) below;
-  leads = λ x below. ap (λ k. row_of ys k) (own x below) ∙ owns x below;
-}
-
 pub length-placed : (rows : List ℕ) (sums : List Sums) → length (placed rows sums) ≡ length rows
 length-placed rows sums = length-map rows (sums_at sums)
 

@@ -28,14 +28,8 @@ long_path design j bit (Some z) h g =
 not_long : (design : Design) (j bit : ℕ) (path : List ℕ) → greatest_delay design.arcs path ≤ℤ pos 1000000000 → IsLong design j bit path → ⊥
 not_long design j bit path h g = let above = g.1 in omega (arith, ints)
 
-pub AreShortBefore-none : (design : Design) → AreShortBefore design 0
-AreShortBefore-none design = λ j bit path below is. absurd (omega arith)
-
 pub AreShortBefore-all : (design : Design) (n : ℕ) → n ≤ length design.elements → ArePathsShort design → AreShortBefore design n
 AreShortBefore-all design n few short = λ j bit path below is. short j bit path (omega arith) is
-
-pub ArePathsShort-from_before : (design : Design) (n : ℕ) → n ≡ length design.elements → AreShortBefore design n → ArePathsShort design
-ArePathsShort-from_before design n e h = λ j bit path below is. h j bit path (omega arith) is
 
 module _ (design : Design) (first lanes : ℕ) (sums : List Sums) (h : AreExtremes design first lanes sums) (before : AreShortBefore design first) where
   -- no path from the element of a short lane is long

@@ -33,7 +33,3 @@ IsAwake-none along place reached awake ready off = record { ready = ready; each 
 
 pub IsReady-fewer : (few many : ℕ) (awake : Awake) → few ≤ many → IsReady many awake → IsReady few awake
 IsReady-fewer few many awake less h = record { room = let before = h.room in omega arith; few = h.few }
-
--- a list that is written over the whole of another
-pub written_over : {X : Type 0} (n : ℕ) (new old : List X) → n ≡ length new → take n (new ++ drop (length new) old) ≡ new
-written_over n new old e = ap (λ k. take k (new ++ drop (length new) old)) e ∙ take-append_seam new (drop (length new) old)

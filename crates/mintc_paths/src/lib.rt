@@ -16,6 +16,7 @@ ghost use Rattle.mintc_paths.specs.Trace.{IsPairOf};
 mod awake;
 mod back;
 mod blocks;
+mod filled;
 mod finder;
 mod found;
 mod held;
