@@ -1,6 +1,6 @@
 -- One more pair.
 use Rattle.std.proofs.Common.{min, ◌≡◌, ◌≢◌, ℕ, zero, suc, ◌<◌, ◌≤◌, ◌+◌, ◌-◌, ◌*◌, ℤ, List, [], ◌∷◌, ◌++◌, length, get_or, arith, refl, ap, ◌∙◌, sym, ◌⊎◌, inl, inr, ⊎_elim, subst, length-append, Option, Some, None}
-use Rattle.std.proofs.lemmas.Bool.{cases_eq}
+use Rattle.std.proofs.lemmas.Bool.{cases_eq, cases_lt}
 use Rattle.std.proofs.lemmas.List.{get_or_append_left}
 use Rattle.std.specs.Prelude.{Result, Ok, Err, OnOk}
 use Rattle.mintc_lanes.specs.Lanes.{lane_at}
@@ -18,6 +18,9 @@ use Rattle.mintc_paths.specs.Found.{Precede, ArePairsBefore, HasPairs, IsFoundBe
 use Rattle.mintc_paths.proofs.Beginning.{none_at}
 use Rattle.mintc_paths.proofs.Rowing.{IsPaired-row}
 
+pub low_or_at : (i k : ℕ) → i < k + 1 → (i < k) ⊎ (i ≡ k)
+low_or_at i k h = grind arith
+
 Precede-more : (from to a b : ℕ) → Precede from to a b → Precede from (to + 1) a b
 Precede-more from to a b (inl h) = inl h
 Precede-more from to a b (inr h) = inr (h.0, omega (arith, h.1))
@@ -25,9 +28,6 @@ Precede-more from to a b (inr h) = inr (h.0, omega (arith, h.1))
 Precede-split : (from to a b : ℕ) → Precede from (to + 1) a b → Precede from to a b ⊎ ((a ≡ from) × (b ≡ to))
 Precede-split from to a b (inl h) = inl (inl h)
 Precede-split from to a b (inr h) = ⊎_elim (λ low. inl (inr (h.0, low))) (λ e. inr (h.0, e)) (low_or_at b to h.1)
-  where
-    low_or_at : (i k : ℕ) → i < k + 1 → (i < k) ⊎ (i ≡ k)
-    low_or_at i k h = grind arith
 
 Precede-next : (from n a b : ℕ) → Precede from n a b → Precede (from + 1) 0 a b
 Precede-next from n a b (inl h) = inl (omega arith)
@@ -35,9 +35,6 @@ Precede-next from n a b (inr h) = inl (omega (arith, h.0))
 
 Precede-last : (from n a b : ℕ) → b < n → Precede (from + 1) 0 a b → Precede from n a b
 Precede-last from n a b low (inl h) = ⊎_elim (λ less. inl less) (λ e. inr (e, low)) (low_or_at a from h)
-  where
-    low_or_at : (i k : ℕ) → i < k + 1 → (i < k) ⊎ (i ≡ k)
-    low_or_at i k h = grind arith
 Precede-last from n a b low (inr h) = absurd (omega (arith, h.1))
 
 -- a list that ascends, with one more item that comes after its last
@@ -56,9 +53,6 @@ ascending_push {X} R xs x h g k d below =
     (λ (low : k + 1 < length xs). rw (before_last xs x d k inside, before_last xs x d (k + 1) low) (h k d low))
     (λ (e : k + 1 ≡ length xs). rw (before_last xs x d k inside, at_last xs x d (k + 1) e) (g k d inside))
     (low_or_at (k + 1) (length xs) (omega arith))
-  where
-    low_or_at : (i k : ℕ) → i < k + 1 → (i < k) ⊎ (i ≡ k)
-    low_or_at i k h = grind arith
 
 All-weaker : {X : Type 0} (P Q : X → Type 0) (xs : List X) → ((x : X) → P x → Q x) → All P xs → All Q xs
 All-weaker P Q xs weaker h = λ k d g. weaker (get_or xs k d) (h k d g)
@@ -237,10 +231,7 @@ module _ (design : Design) (rows : Rows) (sums : List Sums) (ends : List ℕ) (a
   apart_before number place end before after to high low i inside e = ⊎_elim
       (λ (h : i < number). let b = before i h in omega arith)
       (λ (h : number ≤ i). let b = after i h inside in omega arith)
-      (low_or_high i number)
-    where
-      low_or_high : (i k : ℕ) → (i < k) ⊎ (k ≤ i)
-      low_or_high i k = grind arith
+      (cases_lt i number)
 
   up_to : (number end : ℕ) (found : Found) (h : IsFoundToEnd design from ends number found) → h.place ≤ end → end ≤ length design.elements →
       ((i : ℕ) → number ≤ i → i < length ends → end ≤ end_at ends i) → IsFoundBefore design from end found

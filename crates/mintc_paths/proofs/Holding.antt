@@ -1,6 +1,6 @@
 -- Sums that are held at places.
-use Rattle.std.proofs.Common.{◌≡◌, ◌≢◌, ◌<◌, ◌≤◌, ◌+◌, ◌-◌, ◌++◌, ◌∷◌, [], ℕ, List, length, get_or, set, take, replicate, arith, ap, ◌∙◌, sym, subst, ◌⊎◌, ⊎_elim, length-set, get_or-set_same, get_or-set_other}
-use Rattle.std.proofs.lemmas.Bool.{cases_eq}
+use Rattle.std.proofs.Common.{◌≡◌, ◌≢◌, ◌<◌, ◌≤◌, ◌+◌, ◌-◌, ◌++◌, ◌∷◌, [], ℕ, List, length, get_or, set, take, replicate, arith, ap, ◌∙◌, sym, subst, ⊎_elim, length-set, get_or-set_same, get_or-set_other}
+use Rattle.std.proofs.lemmas.Bool.{cases_eq, cases_lt}
 use Rattle.std.proofs.lemmas.List.{length-append, get_or_append_left, get_or-replicate, get_or_default, get_or_past, length-replicate, get_or-map}
 use Rattle.std.proofs.Math.ListN.{length-map}
 use Rattle.std.proofs.Math.Seq.{get_or-append_seam}
@@ -13,9 +13,6 @@ use Rattle.mintc_paths.specs.Held.{place_at, places_of, AreHeld}
 use Rattle.mintc_paths.specs.Sums.{sums_at, no_sums, placed, IsBounded}
 use Rattle.mintc_paths.proofs.Rowing.{length-placed, placed_at, placed_past}
 
-low_or_past : (i n : ℕ) → (i < n) ⊎ (n ≤ i)
-low_or_past i n = grind arith
-
 -- the place of a row, by its number
 pub place_is : (base : ℕ) (numbers : List ℕ) (row : ℕ) → place_at (places_of base numbers) row ≡ get_or numbers row 0 - base
 place_is base numbers row = ⊎_elim
@@ -24,7 +21,7 @@ place_is base numbers row = ⊎_elim
     let none = get_or_past (places_of base numbers) row 0 (omega (arith, length-map numbers (λ (number : ℕ). number - base))) in
     let zero = get_or_past numbers row 0 past in
     omega arith)
-    (low_or_past row (length numbers))
+    (cases_lt row (length numbers))
 
 pub length-places : (base : ℕ) (numbers : List ℕ) → length (places_of base numbers) ≡ length numbers
 length-places base numbers = length-map numbers (λ (number : ℕ). number - base)
@@ -35,7 +32,7 @@ placed_same : (places olds : List ℕ) (new old : List Sums) → length places �
 placed_same places olds new old count row same = ⊎_elim
     (λ (low : row < length places). placed_at places new row low ∙ same low ∙ sym (placed_at olds old row (omega arith)))
     (λ (past : length places ≤ row). placed_past places new row past ∙ sym (placed_past olds old row (omega arith)))
-    (low_or_past row (length places))
+    (cases_lt row (length places))
 
 -- What the rows hold is as before, and one has this place: what is there is what the row held, and what is written there the row holds then.
 module _ (places : List ℕ) (sums old : List Sums) (held : AreHeld places sums) (kept : (other : ℕ) → sums_at (placed places sums) other ≡ sums_at old other)
@@ -193,7 +190,7 @@ all_zero count numbers same row = ⊎_elim
     let long = length-replicate {A = ℕ} count 0 in
     let zero : get_or numbers row 0 ≡ 0 = rw same (get_or_past (replicate count 0) row 0 (omega arith)) in
     omega arith)
-    (low_or_past row count)
+    (cases_lt row count)
 
 -- a base above the numbers leaves no places
 pub none_above : (base next : ℕ) (numbers : List ℕ) (sums : List Sums) → AreHeld (places_of base numbers) sums → next ≡ base + (length sums - 1) →

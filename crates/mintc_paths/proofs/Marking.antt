@@ -3,7 +3,7 @@ use Rattle.std.proofs.lemmas.Bool.{cases_eq}
 use Rattle.std.proofs.lemmas.List.{length-replicate}
 use Rattle.mintc_paths.specs.declared.sums.Sums.{Sums}
 use Rattle.mintc_paths.specs.declared.sums.TheConstants.{NO_SUMS}
-use Rattle.mintc_paths.specs.Sums.{sums_at, no_sums, AreMarked}
+use Rattle.mintc_paths.specs.Sums.{sums_at, AreMarked}
 
 -- a bit that gets sums, and its mark
 pub marked_more : (old new : List Sums) (reached : List Bool) (bit : ℕ) → length new ≡ length old → ((other : ℕ) → other ≢ bit → sums_at new other ≡ sums_at old other) →

@@ -1,5 +1,6 @@
 -- Sums that are raised from row to row along a course are raised from bit to bit.
 use Rattle.std.proofs.Common.{◌≡◌, ◌≢◌, ◌<◌, ◌≤◌, ◌+◌, ◌*◌, ⊎_elim, ℕ, ℤ, pos, ◌+ℤ◌, ◌≤ℤ◌, List, length, get_or, replicate, arith, ap, ◌∙◌, sym, subst, All}
+use Rattle.std.proofs.lemmas.Bool.{cases_lt}
 use Rattle.std.proofs.lemmas.Int.{ints}
 use Rattle.std.proofs.lemmas.List.{get_or-map, get_or_past}
 use Rattle.std.proofs.lemmas.List.Elements.{All-map}
@@ -13,7 +14,7 @@ use Rattle.mintc_paths.specs.declared.rows.Course.{Course}
 use Rattle.mintc_paths.specs.Longest.{bit_sum, bit_sums, AreCarried}
 use Rattle.mintc_paths.specs.Sums.{row_of, moved, IsCourse}
 use Rattle.mintc_paths.proofs.Passing.{arc_of, from_in, to_in, in_design, few_arcs}
-use Rattle.mintc_paths.proofs.Plain.{AreCarried-zeros, carried_more, none_at, low_or_past}
+use Rattle.mintc_paths.proofs.Plain.{AreCarried-zeros, carried_more, none_at}
 
 -- what a call of raise leaves in the rows
 pub record IsRaised (arc : TimingArc) (old new : List ℤ) : Type 0 where
@@ -34,14 +35,14 @@ AreCarried-no_rows arcs order rows n sums same =
     AreCarried-zeros arcs order (bit_sums rows sums) (λ bit. ⊎_elim
     (λ (low : bit < length rows). sum_placed rows sums bit low ∙ ap (λ (x : List ℤ). bit_sum x (row_of rows bit)) same ∙ none_at n (row_of rows bit))
     (λ (past : length rows ≤ bit). sum_past rows sums bit past)
-    (low_or_past bit (length rows)))
+    (cases_lt bit (length rows)))
 
 -- where no row has a sum above the limit, no bit has
 within_at : (sums : List ℤ) (row : ℕ) → All (λ z. z ≤ℤ pos 1000000000) sums → bit_sum sums row ≤ℤ pos 1000000000
 within_at sums row all = ⊎_elim
     (λ (low : row < length sums). all row (pos 0) low)
     (λ (past : length sums ≤ row). let none = get_or_past sums row (pos 0) past in omega (arith, ints))
-    (low_or_past row (length sums))
+    (cases_lt row (length sums))
 
 pub within_placed : (rows : List ℕ) (sums : List ℤ) → All (λ z. z ≤ℤ pos 1000000000) sums → All (λ z. z ≤ℤ pos 1000000000) (bit_sums rows sums)
 within_placed rows sums all = All-map (λ (z : ℤ). z ≤ℤ pos 1000000000) (bit_sum sums) rows (λ i d below. within_at sums (get_or rows i d) all)
@@ -83,7 +84,7 @@ module _ (design : Design) (order : List ℕ) (is_order : IsOrder design.arcs or
       ∙ others (row_of rows bit) (λ same. ne (sym (leads bit (omega arith)) ∙ ap (λ k. row_of course.rows.bits.items k) same ∙ leads end below))
       ∙ sym (sum_placed rows old bit low))
       (λ (past : length rows ≤ bit). sum_past rows new bit past ∙ sym (sum_past rows old bit past))
-      (low_or_past bit (length rows))
+      (cases_lt bit (length rows))
 
   pub raised_along : (old new : List ℤ) (k : ℕ) → k < length order → IsRaised (arc_at course.along.items k) old new →
       AreCarried design.arcs order k (bit_sums rows old) → AreCarried design.arcs order (k + 1) (bit_sums rows new)

@@ -1,6 +1,6 @@
 -- The rows of the bits.
-use Rattle.std.proofs.Common.{◌≡◌, ◌≢◌, ℕ, ◌<◌, ◌≤◌, ◌+◌, ◌*◌, ◌≤ℤ◌, pos, Some, List, length, get_or, set, arith, refl, ap, ◌∙◌, sym, ⊎_elim, subst, length-set, get_or-set_same, get_or-set_other, ◌⊎◌, below_more}
-use Rattle.std.proofs.lemmas.Bool.{cases_eq}
+use Rattle.std.proofs.Common.{◌≡◌, ◌≢◌, ℕ, ◌<◌, ◌≤◌, ◌+◌, ◌*◌, ◌≤ℤ◌, pos, Some, List, length, get_or, set, arith, refl, ap, ◌∙◌, sym, ⊎_elim, subst, length-set, get_or-set_same, get_or-set_other, below_more}
+use Rattle.std.proofs.lemmas.Bool.{cases_eq, cases_lt}
 use Rattle.std.proofs.lemmas.List.{get_or-map, get_or_past}
 use Rattle.std.proofs.Math.ListN.{length-map}
 use Rattle.mintc_timing.specs.declared.parts.TimingArc.{TimingArc}
@@ -105,10 +105,7 @@ module _ (n : ℕ) (rows bits : List ℕ) (h : LeadsBack n rows bits) (old new :
       ∙ others (row_of rows bit) (λ same. ne (sym (h.leads bit low) ∙ ap (λ k. row_of bits k) same ∙ h.leads end below))
       ∙ sym (placed_at rows old bit here))
       (λ (high : n ≤ bit). let past : length rows ≤ bit = omega arith in placed_past rows new bit past ∙ sym (placed_past rows old bit past))
-      (low_or_high bit n)
-    where
-      low_or_high : (i n : ℕ) → (i < n) ⊎ (n ≤ i)
-      low_or_high i n = grind arith
+      (cases_lt bit n)
 
   -- what is carried from row to row is carried from bit to bit
   pub IsCarried-placed : (arc : TimingArc) → arc.from < n → arc.to < n → IsCarried (moved rows arc) old new → IsCarried arc (placed rows old) (placed rows new)

@@ -1,6 +1,7 @@
 -- Long paths and long sums.
-use Rattle.std.proofs.Common.{◌≡◌, ℕ, ◌<◌, ◌≤◌, ◌+◌, ◌-◌, ℤ, ◌≤ℤ◌, ◌<ℤ◌, pos, List, length, arith, sym, ◌⊎◌, ⊎_elim, Option, Some, None, subst}
+use Rattle.std.proofs.Common.{◌≡◌, ℕ, ◌<◌, ◌≤◌, ◌+◌, ◌-◌, ℤ, ◌≤ℤ◌, ◌<ℤ◌, pos, List, length, arith, sym, ⊎_elim, Option, Some, None, subst}
 use Rattle.std.specs.Prelude.{IfSome, IsSomeAnd}
+use Rattle.std.proofs.lemmas.Bool.{cases_lt}
 use Rattle.std.proofs.lemmas.Int.{ints}
 use Rattle.mintc_timing.specs.Design.{Design}
 use Rattle.mintc_timing.specs.Order.{ArePathsShort}
@@ -44,10 +45,7 @@ module _ (design : Design) (first lanes : ℕ) (sums : List Sums) (h : AreExtrem
       (λ (high : first ≤ j).
       let same : first + (j - first) ≡ j = omega arith in
       short_lane (j - first) (omega arith) (short (j - first) (omega arith)) bit path (subst (λ i. IsPath design.arcs i path bit) (sym same) is))
-      (low_or_high j first)
-    where
-      low_or_high : (i n : ℕ) → (i < n) ⊎ (n ≤ i)
-      low_or_high i n = grind arith
+      (cases_lt j first)
 
   pub AreShortBefore-more : ((lane : ℕ) → lane < lanes → IsShortLane sums lane) → AreShortBefore design (first + lanes)
   AreShortBefore-more short = short_from lanes (omega arith) short

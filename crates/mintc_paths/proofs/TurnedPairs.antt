@@ -1,6 +1,6 @@
 -- Pairs turned back are those of the design.
 use Rattle.std.proofs.Common.{◌≡◌, ◌≢◌, ℕ, zero, suc, ◌<◌, ◌≤◌, ◌+◌, ◌-◌, ◌*◌, List, [], ◌∷◌, length, get_or, map, reverse, arith, refl, ap, ◌∙◌, sym, subst, ◌⊎◌, inl, inr, ⊎_elim}
-use Rattle.std.proofs.lemmas.Bool.{cases_eq}
+use Rattle.std.proofs.lemmas.Bool.{cases_eq, cases_lt}
 use Rattle.std.proofs.lemmas.List.{get_or-map}
 use Rattle.std.proofs.lemmas.List.Edits.{length-swap, swapped_from_swap}
 use Rattle.std.proofs.lemmas.List.Sorted.{IsPermutation-keeps, IsPermutation-refl, IsPermutation-cons, IsPermutation-swap, IsPermutation-trans, All-permutation, Contains-permutation, length_permutation}
@@ -120,19 +120,13 @@ ascends n few pairs inside apart sorted k d below =
     comes (get_or pairs k d) (get_or pairs (k + 1) d) (omega arith) (omega arith) order (λ e. let same = apart k (k + 1) d low below e in omega arith)
   where
     split : (a b x y : ℕ) → x < 2048 → y < 2048 → 2048 * a + x < 2048 * b + y → (a < b) ⊎ ((a ≡ b) × (x < y))
-    split a b x y in_x in_y h = ⊎_elim (λ (low : a < b). inl low) (λ (high : b ≤ a). let same : a ≡ b = omega arith in inr (same, omega arith)) (low_or_high a b)
-      where
-        low_or_high : (i n : ℕ) → (i < n) ⊎ (n ≤ i)
-        low_or_high i n = grind arith
+    split a b x y in_x in_y h = ⊎_elim (λ (low : a < b). inl low) (λ (high : b ≤ a). let same : a ≡ b = omega arith in inr (same, omega arith)) (cases_lt a b)
 
     comes : (p q : Pair) → p.to < 2048 → q.to < 2048 → key_of p ≤ key_of q → (key_of p ≡ key_of q → ⊥) → ComesBefore p q
     comes p q in_p in_q order ne = split p.from q.from p.to q.to in_p in_q (less (key_of p) (key_of q) order ne)
       where
         less : (x y : ℕ) → x ≤ y → (x ≡ y → ⊥) → x < y
-        less x y h ne = ⊎_elim (λ (low : x < y). low) (λ (high : y ≤ x). absurd (ne (omega arith))) (low_or_high x y)
-          where
-            low_or_high : (i n : ℕ) → (i < n) ⊎ (n ≤ i)
-            low_or_high i n = grind arith
+        less x y h ne = ⊎_elim (λ (low : x < y). low) (λ (high : y ≤ x). absurd (ne (omega arith))) (cases_lt x y)
 
 -- Keys don't fall along the list.
 Rising : List Pair → Type 0

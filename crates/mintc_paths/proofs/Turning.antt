@@ -1,5 +1,6 @@
 -- A design turned round.
 use Rattle.std.proofs.Common.{◌≡◌, ℕ, ◌<◌, ◌≤◌, ◌+◌, ◌*◌, ◌/◌, List, arith, ap, ◌∙◌, sym, ◌⊎◌, ⊎_elim}
+use Rattle.std.proofs.lemmas.Bool.{cases_lt}
 use Rattle.mintc_paths.specs.Sums.{row_of, LeadsBack}
 use Rattle.mintc_paths.specs.Turned.{turned_bit, bit_before}
 
@@ -34,13 +35,10 @@ is_bit n bit = ⊎_elim
     (λ (e : bit ≡ 2 * (bit / 2) + 1). output (bit / 2) (omega arith) e)
     (even_or_odd bit))
     (λ (high : 2 * n ≤ bit). inner high)
-    (low_or_high bit (2 * n))
+    (cases_lt bit (2 * n))
   where
     even_or_odd : (k : ℕ) → (k ≡ 2 * (k / 2)) ⊎ (k ≡ 2 * (k / 2) + 1)
     even_or_odd k = grind arith
-
-    low_or_high : (i n : ℕ) → (i < n) ⊎ (n ≤ i)
-    low_or_high i n = grind arith
 
 module _ (n : ℕ) (places elements : List ℕ) (there : LeadsBack n places elements) (back : LeadsBack n elements places) where
   pub before_turned : (bit : ℕ) → bit_before n elements (turned_bit n places bit) ≡ bit

@@ -1,10 +1,6 @@
 -- The arcs that are awake along a course.
-use Rattle.std.proofs.Common.{◌≡◌, ◌≢◌, ℕ, ◌<◌, ◌≤◌, ◌+◌, ◌^◌, Bool, false, List, [], length, get_or, replicate, take, drop, ◌++◌, ap, ◌∙◌, ◌⊎◌, ⊎_elim, arith, sym, subst}
-use Rattle.std.proofs.lemmas.List.{get_or-replicate, length-replicate, get_or_past}
-use Rattle.std.proofs.Math.Seq.{take-append_seam}
-use Rattle.std.specs.Prelude.{All}
-use Rattle.mintc_places.specs.Places.{IsIn, room}
-use Rattle.mintc_places.specs.declared.places.Places.{Places}
+use Rattle.std.proofs.Common.{◌≡◌, ◌≢◌, ℕ, ◌≤◌, ◌+◌, Bool, false, List, length, get_or, arith}
+use Rattle.mintc_places.specs.Places.{IsIn}
 use Rattle.mintc_timing.specs.declared.parts.TimingArc.{TimingArc}
 use Rattle.mintc_timing.specs.Paths.{arc_at}
 use Rattle.mintc_paths.specs.Awake.{IsReady, IsAwake}

@@ -29,7 +29,7 @@ impl Finder {
         let Ok(steps) = Steps::new(alloc, system.flat(), system.order()) else {
             return Err(OutOfMemory);
         };
-        let Ok(reached) = Reached::new(alloc, steps.count()) else {
+        let Ok(reached) = Reached::new(alloc, steps.given as usize) else {
             return Err(OutOfMemory);
         };
         Ok(Finder {

@@ -1,4 +1,4 @@
-use Rattle.std.proofs.Common.{◌≡◌, ◌∙◌, ℕ, List, Bool, false, length, replicate, arith, rules, subst, sym}
+use Rattle.std.proofs.Common.{◌≡◌, ◌∙◌, ℕ, false, length, replicate, arith, rules, subst, sym}
 use Rattle.mintc_paths.specs.Plans.{IsPlanOf}
 use Rattle.mintc_paths.proofs.Marking.{AreMarked-none}
 use Rattle.mintc_paths.proofs.Waking.{IsReady-fewer}
