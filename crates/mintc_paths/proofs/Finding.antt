@@ -1,6 +1,5 @@
 -- One more pair.
-use Rattle.std.proofs.Common.{min, ◌≡◌, ◌≢◌, ℕ, zero, suc, ◌<◌, ◌≤◌, ◌+◌, ◌-◌, ◌*◌, ℤ, List, [], ◌∷◌, ◌++◌, length, get_or, arith, refl, ap, ◌∙◌, sym, ◌⊎◌, inl, inr, ⊎_elim, subst, length-append, Option, Some, None}
-use Rattle.std.proofs.lemmas.Bool.{cases_eq, cases_lt}
+use Rattle.std.proofs.Common.{min, ◌≡◌, ◌≢◌, ℕ, ◌<◌, ◌≤◌, ◌+◌, ◌*◌, ℤ, List, [], ◌∷◌, ◌++◌, length, get_or, arith, refl, ap, ◌∙◌, sym, ◌⊎◌, inl, inr, ⊎_elim, subst, length-append, Option, Some, None}
 use Rattle.std.proofs.lemmas.List.{get_or_append_left}
 use Rattle.std.specs.Prelude.{Result, Ok, Err, OnOk}
 use Rattle.mintc_lanes.specs.Lanes.{lane_at}
@@ -16,6 +15,7 @@ use Rattle.mintc_paths.specs.declared.sums.Sums.{Sums}
 use Rattle.mintc_paths.specs.Sums.{sums_at, row_of, AreRows, placed}
 use Rattle.mintc_paths.specs.Found.{Precede, ArePairsBefore, HasPairs, IsFoundBefore, AreEnds, end_at}
 use Rattle.mintc_paths.proofs.Beginning.{none_at}
+use Rattle.mintc_paths.proofs.Climbing.{IsToEnd, IsToEnd-at, IsToEnd-more, IsToEnd-all}
 use Rattle.mintc_paths.proofs.Rowing.{IsPaired-row}
 
 pub low_or_at : (i k : ℕ) → i < k + 1 → (i < k) ⊎ (i ≡ k)
@@ -194,23 +194,9 @@ count_found design n found limit h =
     let few = h.few in
     omega arith
 
--- no path leads to any of so many elements
-IsFoundBefore-over : (design : Design) (from to n : ℕ) (found : Found) → ((l : ℕ) → to ≤ l → l < to + n → (path : List ℕ) → IsPath design.arcs from path (input_of l) → ⊥) →
-    IsFoundBefore design from to found → IsFoundBefore design from (to + n) found
-IsFoundBefore-over design from to zero found none h = let e : to ≡ to + 0 = omega arith in subst (λ k. IsFoundBefore design from k found) e h
-IsFoundBefore-over design from to (suc n) found none h =
-    let e : to + n + 1 ≡ to + suc n = omega arith in
-    subst (λ k. IsFoundBefore design from k found) e
-    (IsFoundBefore-skip design from (to + n) found (none (to + n) (omega arith) (omega arith))
-    (IsFoundBefore-over design from to n found (λ l low high. none l low (omega arith)) h))
-
 -- What is found are the pairs before some element, which comes after the ends before this one and not after this one.
-pub record IsFoundToEnd (design : Design) (from : ℕ) (ends : List ℕ) (number : ℕ) (found : Found) : Type 0 where
-  pub place : ℕ
-  pub inside : place ≤ length design.elements
-  pub before : (i : ℕ) → i < number → end_at ends i < place
-  pub after : (i : ℕ) → number ≤ i → i < length ends → place ≤ end_at ends i
-  pub is_found : IsFoundBefore design from place found
+abbrev pub IsFoundToEnd : Design → ℕ → List ℕ → ℕ → Found → Type 0
+IsFoundToEnd design from ends number found = IsToEnd (λ to. IsFoundBefore design from to found) (length design.elements) ends number
 
 module _ (design : Design) (rows : Rows) (sums : List Sums) (ends : List ℕ) (are : AreRows (length sums) rows) (bits : 2 * length design.elements ≤ length sums)
     (are_ends : AreEnds rows.of_bits.items sums (length design.elements) ends) (from lane : ℕ) (low : lane < 8)
@@ -225,47 +211,17 @@ module _ (design : Design) (rows : Rows) (sums : List Sums) (ends : List ℕ) (a
       none_of design from to (lane_at (sums_at sums row).greatest lane) (lane_at (sums_at sums row).least lane)
       (ap (λ (s : Sums). lane_at s.greatest lane) (are_ends.others to below apart) ∙ (none_at lane low).0) (paired_at to below)
 
-  -- no path leads to an element from the place on, up to the next end
-  apart_before : (number place end : ℕ) → ((i : ℕ) → i < number → end_at ends i < place) → ((i : ℕ) → number ≤ i → i < length ends → end ≤ end_at ends i) →
-      (to : ℕ) → place ≤ to → to < end → (i : ℕ) → i < length ends → end_at ends i ≢ to
-  apart_before number place end before after to high low i inside e = ⊎_elim
-      (λ (h : i < number). let b = before i h in omega arith)
-      (λ (h : number ≤ i). let b = after i h inside in omega arith)
-      (cases_lt i number)
-
-  up_to : (number end : ℕ) (found : Found) (h : IsFoundToEnd design from ends number found) → h.place ≤ end → end ≤ length design.elements →
-      ((i : ℕ) → number ≤ i → i < length ends → end ≤ end_at ends i) → IsFoundBefore design from end found
-  up_to number end found h some few after =
-      let e : h.place + (end - h.place) ≡ end = omega arith in
-      subst (λ k. IsFoundBefore design from k found) e
-      (IsFoundBefore-over design from h.place (end - h.place) found
-      (λ to high low. none_between to (omega arith) (apart_before number h.place end h.before after to high (omega arith))) h.is_found)
+  skip : (found : Found) (to : ℕ) → to < length design.elements → ((i : ℕ) → i < length ends → end_at ends i ≢ to) → IsFoundBefore design from to found → IsFoundBefore design from (to + 1) found
+  skip found to below apart = IsFoundBefore-skip design from to found (none_between to below apart)
 
   -- the end itself
   pub IsFoundToEnd-at : (number : ℕ) (found : Found) → number < length ends → IsFoundToEnd design from ends number found → IsFoundBefore design from (end_at ends number) found
-  IsFoundToEnd-at number found inside h =
-      let below = are_ends.inside number inside in
-      up_to number (end_at ends number) found h (h.after number (omega arith) inside) (omega arith) at_or_after
-    where
-      at_or_after : (i : ℕ) → number ≤ i → i < length ends → end_at ends number ≤ end_at ends i
-      at_or_after i high low = ⊎_elim
-          (λ (e : i ≡ number). let same = ap (end_at ends) e in omega arith)
-          (λ (ne : i ≢ number). let more = are_ends.ascending number i (omega arith) low in omega arith)
-          (cases_eq i number)
+  IsFoundToEnd-at number found = IsToEnd-at (length design.elements) ends are_ends.ascending are_ends.inside (λ to. IsFoundBefore design from to found) (skip found) number
 
   pub IsFoundToEnd-more : (number : ℕ) (found : Found) → number < length ends → IsFoundBefore design from (end_at ends number + 1) found → IsFoundToEnd design from ends (number + 1) found
-  IsFoundToEnd-more number found inside h = record {
-    place = end_at ends number + 1;
-    inside = let below = are_ends.inside number inside in omega arith;
-    before = λ i low. ⊎_elim
-        (λ (e : i ≡ number). let same = ap (end_at ends) e in omega arith)
-        (λ (ne : i ≢ number). let less = are_ends.ascending i number (omega arith) inside in omega arith)
-        (cases_eq i number);
-    after = λ i high low. let more = are_ends.ascending number i (omega arith) low in omega arith;
-    is_found = h;
-  }
+  IsFoundToEnd-more number found = IsToEnd-more (length design.elements) ends are_ends.ascending are_ends.inside (λ to. IsFoundBefore design from to found) number
 
   pub IsFoundToEnd-next : (found : Found) → length design.elements ≤ 2000 → IsFoundToEnd design from ends (length ends) found → IsFoundBefore design (from + 1) 0 found
   IsFoundToEnd-next found limit h =
       IsFoundBefore-next design from (length design.elements) found refl limit
-      (up_to (length ends) (length design.elements) found h h.inside (omega arith) (λ i high low. absurd (omega arith)))
+      (IsToEnd-all (length design.elements) ends are_ends.ascending are_ends.inside (λ to. IsFoundBefore design from to found) (skip found) h)

@@ -1,5 +1,5 @@
 -- Arcs that leave no row that is reached change no sums.
-use Rattle.std.proofs.Common.{◌≡◌, ◌≢◌, ℕ, zero, suc, ◌<◌, ◌≤◌, ◌+◌, ◌-◌, ◌*◌, min, ℤ, Bool, true, false, List, length, get_or, arith, refl, ap, ◌∙◌, sym, Option, Some, None, subst}
+use Rattle.std.proofs.Common.{◌≡◌, ◌≢◌, ℕ, ◌<◌, ◌≤◌, ◌+◌, ◌*◌, min, ℤ, Bool, true, false, List, length, get_or, arith, refl, ap, ◌∙◌, sym, Option, Some, None, subst}
 use Rattle.std.specs.Int.{int_max, int_min}
 use Rattle.mintc_timing.specs.declared.parts.TimingArc.{TimingArc}
 use Rattle.mintc_timing.specs.Design.{Design}
@@ -16,6 +16,7 @@ use Rattle.mintc_paths.specs.declared.sums.Sums.{Sums}
 use Rattle.mintc_paths.specs.declared.sums.TheConstants.{NO_SUMS}
 use Rattle.mintc_paths.specs.Sums.{sums_at, row_of, placed, moved, IsAlike, IsBounded, IsCourse, AreMarked, AreSums}
 use Rattle.mintc_paths.proofs.Beginning.{none_at}
+use Rattle.mintc_paths.proofs.Climbing.{climb}
 use Rattle.mintc_paths.proofs.Filling.{IsBounded-weaker, IsCarried, AreSums-more, arc_inside}
 use Rattle.mintc_paths.proofs.Rowing.{length-placed, placed_at, alike_row, bounded_row, IsCarried-placed}
 
@@ -55,24 +56,9 @@ module _ (arcs : List TimingArc) (order : List ℕ) (is_order : IsOrder arcs ord
       (greatest_absent (sums_at sums arc.to) (sums_at sums arc.from) arc.max none) (least_absent (sums_at sums arc.to) (sums_at sums arc.from) arc.min none)
       (λ most from to. IsBounded-weaker most (most + 1000000000) (sums_at sums arc.to) (omega arith) to) h
 
-  passed_some : (d k : ℕ) → k + d ≤ length order → ((i : ℕ) → k ≤ i → i < k + d → sums_at sums (arc_at arcs (get_or order i 0)).from ≡ NO_SUMS) →
-      AreSums arcs order k first lanes sums → AreSums arcs order (k + d) first lanes sums
-  passed_some zero k high none h = subst (λ m. AreSums arcs order m first lanes sums) (here k) h
-    where
-      here : (k : ℕ) → k ≡ k + 0
-      here k = omega arith
-  passed_some (suc d) k high none h =
-      subst (λ m. AreSums arcs order m first lanes sums) (next k d)
-      (passed_some d (k + 1) (omega arith) (λ i low below. none i (omega arith) (omega arith)) (passed_one k (omega arith) (none k (omega arith) (omega arith)) h))
-    where
-      next : (k d : ℕ) → k + 1 + d ≡ k + suc d
-      next k d = omega arith
-
   pub passed : (k m : ℕ) → k ≤ m → m ≤ length order → ((i : ℕ) → k ≤ i → i < m → sums_at sums (arc_at arcs (get_or order i 0)).from ≡ NO_SUMS) →
       AreSums arcs order k first lanes sums → AreSums arcs order m first lanes sums
-  passed k m low high none h =
-      let whole : k + (m - k) ≡ m = omega arith in
-      subst (λ x. AreSums arcs order x first lanes sums) whole (passed_some (m - k) k (omega arith) (λ i from below. none i from (omega arith)) h)
+  passed k m low high none h = climb (λ x. AreSums arcs order x first lanes sums) k m low (λ i from below. passed_one i (omega arith) (none i from below)) h
 
 module _ (design : Design) (order : List ℕ) (is_order : IsOrder design.arcs order) (kept : IsDesign design) (course : Course) (n : ℕ) (is_course : IsCourse n design.arcs order course)
     (bits : n ≡ 2 * length design.elements + length design.inner) where
