@@ -1,11 +1,11 @@
 -- One more pair.
-use Rattle.std.proofs.Common.{min, ◌≡◌, ◌≢◌, ℕ, ◌<◌, ◌≤◌, ◌+◌, ◌*◌, ℤ, List, [], ◌∷◌, ◌++◌, length, get_or, arith, refl, ap, ◌∙◌, sym, ◌⊎◌, inl, inr, ⊎_elim, subst, length-append, Option, Some, None}
-use Rattle.std.proofs.lemmas.List.{get_or_append_left}
+use Rattle.std.proofs.Common.{min, ◌≡◌, ◌≢◌, ℕ, ◌<◌, ◌≤◌, ◌+◌, ◌*◌, ℤ, List, [], ◌∷◌, ◌++◌, length, arith, refl, ap, ◌∙◌, sym, ◌⊎◌, inl, inr, ⊎_elim, subst, length-append, Option, Some, None}
+use Rattle.std.proofs.lemmas.List.{get_or_append_left, get_or_push}
 use Rattle.std.specs.Prelude.{Result, Ok, Err, OnOk}
 use Rattle.mintc_lanes.specs.Lanes.{lane_at}
 use Rattle.mintc_paths.specs.Reached.{IsPaired, IsPairedLane, pair_of}
 use Rattle.std.specs.List.{All, AllAdjacentBelow}
-use Rattle.std.proofs.lemmas.List.Elements.{All-push, Contains-append_left}
+use Rattle.std.proofs.lemmas.List.Elements.{All-push, All-weaker, Contains-append_left, Contains-push}
 use Rattle.mintc_timing.specs.declared.parts.Pair.{Pair}
 use Rattle.mintc_timing.specs.Design.{Design}
 use Rattle.mintc_timing.specs.Paths.{IsPath, input_of, HasExtremes, ComesBefore, ArePairs}
@@ -38,24 +38,14 @@ Precede-last from n a b low (inl h) = ⊎_elim (λ less. inl less) (λ e. inr (e
 Precede-last from n a b low (inr h) = absurd (omega (arith, h.1))
 
 -- a list that ascends, with one more item that comes after its last
-pub at_last : {X : Type 0} (xs : List X) (x d : X) (k : ℕ) → k ≡ length xs → get_or (xs ++ x ∷ []) k d ≡ x
-at_last [] x d k e = rw e refl
-at_last (y ∷ xs) x d k e = rw e (at_last xs x d (length xs) refl)
-
-before_last : {X : Type 0} (xs : List X) (x d : X) (k : ℕ) → k < length xs → get_or (xs ++ x ∷ []) k d ≡ get_or xs k d
-before_last xs x d k h = get_or_append_left xs (x ∷ []) d k h
-
 ascending_push : {X : Type 0} (R : X → X → Type 0) (xs : List X) (x : X) → AllAdjacentBelow R xs (length xs) → All (λ y. R y x) xs → AllAdjacentBelow R (xs ++ x ∷ []) (length (xs ++ x ∷ []))
 ascending_push {X} R xs x h g k d below =
     let count : length (xs ++ x ∷ []) ≡ length xs + 1 = length-append xs (x ∷ []) in
     let inside : k < length xs = omega arith in
     ⊎_elim
-    (λ (low : k + 1 < length xs). rw (before_last xs x d k inside, before_last xs x d (k + 1) low) (h k d low))
-    (λ (e : k + 1 ≡ length xs). rw (before_last xs x d k inside, at_last xs x d (k + 1) e) (g k d inside))
+    (λ (low : k + 1 < length xs). rw (get_or_append_left xs (x ∷ []) d k inside, get_or_append_left xs (x ∷ []) d (k + 1) low) (h k d low))
+    (λ (e : k + 1 ≡ length xs). rw (get_or_append_left xs (x ∷ []) d k inside, get_or_push xs x d (k + 1) (sym e)) (g k d inside))
     (low_or_at (k + 1) (length xs) (omega arith))
-
-All-weaker : {X : Type 0} (P Q : X → Type 0) (xs : List X) → ((x : X) → P x → Q x) → All P xs → All Q xs
-All-weaker P Q xs weaker h = λ k d g. weaker (get_or xs k d) (h k d g)
 
 pub ArePairsBefore-none : (design : Design) → ArePairsBefore design 0 0 []
 ArePairsBefore-none design = record {
@@ -74,7 +64,7 @@ module _ (design : Design) (from to : ℕ) (pairs : List Pair) (h : ArePairsBefo
   ArePairsBefore-skip none = record {
     each = h.each;
     ascending = h.ascending;
-    earlier = All-weaker (λ (p : Pair). Precede from to p.from p.to) (λ (p : Pair). Precede from (to + 1) p.from p.to) pairs (λ p g. Precede-more from to p.from p.to g) h.earlier;
+    earlier = All-weaker (λ (p : Pair). Precede from to p.from p.to) (λ (p : Pair). Precede from (to + 1) p.from p.to) (λ p g. Precede-more from to p.from p.to g) pairs h.earlier;
     whole = λ j l path g below is. ⊎_elim (λ old. h.whole j l path old below is)
         (λ new. absurd (none path (subst (λ b. IsPath design.arcs from path (input_of b)) new.1 (subst (λ a. IsPath design.arcs a path (input_of l)) new.0 is))))
         (Precede-split from to j l g);
@@ -84,13 +74,13 @@ module _ (design : Design) (from to : ℕ) (pairs : List Pair) (h : ArePairsBefo
   ArePairsBefore-push pair extremes is_from is_to = record {
     each = All-push (HasExtremes design) pairs pair h.each extremes;
     ascending = ascending_push ComesBefore pairs pair h.ascending
-        (All-weaker (λ (p : Pair). Precede from to p.from p.to) (λ p. ComesBefore p pair) pairs (λ p g. comes_before p g) h.earlier);
+        (All-weaker (λ (p : Pair). Precede from to p.from p.to) (λ p. ComesBefore p pair) comes_before pairs h.earlier);
     earlier = All-push (λ (p : Pair). Precede from (to + 1) p.from p.to) pairs pair
-        (All-weaker (λ (p : Pair). Precede from to p.from p.to) (λ (p : Pair). Precede from (to + 1) p.from p.to) pairs (λ p g. Precede-more from to p.from p.to g) h.earlier)
+        (All-weaker (λ (p : Pair). Precede from to p.from p.to) (λ (p : Pair). Precede from (to + 1) p.from p.to) (λ p g. Precede-more from to p.from p.to g) pairs h.earlier)
         (inr (is_from, omega arith));
     whole = λ j l path g below is. ⊎_elim
         (λ old. let found = h.whole j l path old below is in (found.0, Contains-append_left pairs (pair ∷ []) found.0 found.1, found.2, found.3))
-        (λ new. (pair, (length pairs, omega (arith, length-append pairs (pair ∷ [])), at_last pairs pair pair (length pairs) refl), is_from ∙ sym new.0, is_to ∙ sym new.1))
+        (λ new. (pair, Contains-push pairs pair, is_from ∙ sym new.0, is_to ∙ sym new.1))
         (Precede-split from to j l g);
   }
     where
@@ -102,7 +92,7 @@ pub ArePairsBefore-next : (design : Design) (from : ℕ) (pairs : List Pair) →
 ArePairsBefore-next design from pairs h = record {
   each = h.each;
   ascending = h.ascending;
-  earlier = All-weaker (λ (p : Pair). Precede from (length design.elements) p.from p.to) (λ (p : Pair). Precede (from + 1) 0 p.from p.to) pairs (λ p g. Precede-next from (length design.elements) p.from p.to g) h.earlier;
+  earlier = All-weaker (λ (p : Pair). Precede from (length design.elements) p.from p.to) (λ (p : Pair). Precede (from + 1) 0 p.from p.to) (λ p g. Precede-next from (length design.elements) p.from p.to g) pairs h.earlier;
   whole = λ j l path g below is. h.whole j l path (Precede-last from (length design.elements) j l below g) below is;
 }
 

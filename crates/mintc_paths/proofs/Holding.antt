@@ -1,5 +1,5 @@
 -- Sums that are held at places.
-use Rattle.std.proofs.Common.{◌≡◌, ◌≢◌, ◌<◌, ◌≤◌, ◌+◌, ◌-◌, ◌++◌, ◌∷◌, [], ℕ, List, length, get_or, set, take, replicate, arith, ap, ◌∙◌, sym, subst, ⊎_elim, length-set, get_or-set_same, get_or-set_other}
+use Rattle.std.proofs.Common.{◌≡◌, ◌≢◌, ◌<◌, ◌≤◌, ◌+◌, ◌-◌, ◌++◌, ◌∷◌, [], ℕ, List, length, get_or, set, take, replicate, arith, refl, ap, ◌∙◌, sym, subst, ⊎_elim, length-set, get_or-set_same, get_or-set_other}
 use Rattle.std.proofs.lemmas.Bool.{cases_eq, cases_lt}
 use Rattle.std.proofs.lemmas.List.{length-append, get_or_append_left, get_or-replicate, get_or_default, get_or_past, length-replicate, get_or-map}
 use Rattle.std.proofs.Math.ListN.{length-map}
@@ -76,13 +76,7 @@ module _ (base : ℕ) (numbers : List ℕ) (sums old : List Sums) (held : AreHel
   rows_kept : (other : ℕ) → sums_at (placed places sums) other ≡ sums_at old other
   rows_kept other = ap (λ (v : List Sums). sums_at v other) view_is
 
-  pub held_at : (row at : ℕ) (x : Sums) → row < length old → at ≡ place_at places row → x ≡ get_or sums at x → x ≡ sums_at old row
-  held_at row at x low is x_is =
-      let below = held.below row in
-      let count = rows_count in
-      x_is ∙ get_or_default sums at x no_sums (omega arith) ∙ ap (λ k. sums_at sums k) is ∙ sym (placed_at places sums row (omega arith)) ∙ rows_kept row
-
-  -- the same once another row is given a place
+  -- what is read at a row's place, also once another row is given one
   pub given_at : (given : List ℕ) (more : List Sums) → AreHeld given more → ((other : ℕ) → sums_at (placed given more) other ≡ sums_at (placed places sums) other) →
       length given ≡ length places → (row at : ℕ) (x : Sums) → row < length old → at ≡ place_at given row → x ≡ get_or more at x → x ≡ sums_at old row
   given_at given more given_held kept given_count row at x low is x_is =
@@ -90,30 +84,20 @@ module _ (base : ℕ) (numbers : List ℕ) (sums old : List Sums) (held : AreHel
       let count = rows_count in
       x_is ∙ get_or_default more at x no_sums (omega arith) ∙ ap (λ k. sums_at more k) is ∙ sym (placed_at given more row (omega arith)) ∙ kept row ∙ rows_kept row
 
-  held_none : (row : ℕ) → row < length old → place_at places row ≡ 0 → NO_SUMS ≡ sums_at old row
+  pub held_at : (row at : ℕ) (x : Sums) → row < length old → at ≡ place_at places row → x ≡ get_or sums at x → x ≡ sums_at old row
+  held_at = given_at places sums held (λ other. refl) refl
+
+  pub held_none : (row : ℕ) → row < length old → place_at places row ≡ 0 → NO_SUMS ≡ sums_at old row
   held_none row low none =
       let count = rows_count in
       sym held.none ∙ ap (λ k. sums_at sums k) (sym none) ∙ sym (placed_at places sums row (omega arith)) ∙ rows_kept row
 
   module _ (arc : TimingArc) (from_low : arc.from < length old) (to_low : arc.to < length old) (from : Sums) (from_is : from ≡ sums_at old arc.from) where
-    -- the row has a place
-    pub joined_at : (place : ℕ) (to new : Sums) → place ≡ place_at places arc.to → place ≢ 0 → to ≡ get_or sums place to → IsJoined arc to from new →
-        IsJoinedOne arc old (placed places (set sums place new))
-    joined_at place to new is some to_is h =
-        let count = rows_count in
-        let inside : arc.to < length places = omega arith in
-        record {
-          count = length-placed places (set sums place new) ∙ count;
-          others = put_others places sums old held rows_kept arc.to place inside is some new;
-          joined = subst (λ s. IsJoined arc (sums_at old arc.to) (sums_at old arc.from) s) (sym (put_own places sums old held rows_kept arc.to place inside is some new))
-              (subst (λ s. IsJoined arc s (sums_at old arc.from) new) (held_at arc.to place to to_low is to_is) (subst (λ s. IsJoined arc to s new) from_is h));
-        }
-
-    -- the row has none, and is given one
-    pub joined_given : (given : List ℕ) (more : List Sums) → AreHeld given more → ((other : ℕ) → sums_at (placed given more) other ≡ sums_at (placed places sums) other) →
-        length given ≡ length places → (place : ℕ) (new : Sums) → place_at places arc.to ≡ 0 → place ≡ place_at given arc.to → place ≢ 0 → IsJoined arc NO_SUMS from new →
+    -- the row that the arc enters has this place, maybe a new one
+    pub joined_at : (given : List ℕ) (more : List Sums) → AreHeld given more → ((other : ℕ) → sums_at (placed given more) other ≡ sums_at (placed places sums) other) →
+        length given ≡ length places → (place : ℕ) (to new : Sums) → to ≡ sums_at old arc.to → place ≡ place_at given arc.to → place ≢ 0 → IsJoined arc to from new →
         IsJoinedOne arc old (placed given (set more place new))
-    joined_given given more given_held kept given_count place new none is some h =
+    joined_at given more given_held kept given_count place to new to_is is some h =
         let count = rows_count in
         let inside : arc.to < length given = omega arith in
         let all_kept : (other : ℕ) → sums_at (placed given more) other ≡ sums_at old other = λ other. kept other ∙ rows_kept other in
@@ -121,7 +105,7 @@ module _ (base : ℕ) (numbers : List ℕ) (sums old : List Sums) (held : AreHel
           count = length-placed given (set more place new) ∙ given_count ∙ count;
           others = put_others given more old given_held all_kept arc.to place inside is some new;
           joined = subst (λ s. IsJoined arc (sums_at old arc.to) (sums_at old arc.from) s) (sym (put_own given more old given_held all_kept arc.to place inside is some new))
-              (subst (λ s. IsJoined arc s (sums_at old arc.from) new) (held_none arc.to to_low none) (subst (λ s. IsJoined arc NO_SUMS s new) from_is h));
+              (subst (λ s. IsJoined arc s (sums_at old arc.from) new) to_is (subst (λ s. IsJoined arc to s new) from_is h));
         }
 
 -- a row without a place gets the next one

@@ -1,9 +1,10 @@
-use Rattle.std.proofs.Common.{◌≡◌, ◌∙◌, ℕ, List, set, arith, ap, sym, subst}
+use Rattle.std.proofs.Common.{◌≡◌, ◌∙◌, ℕ, List, set, arith, refl, ap, sym, subst}
 use Rattle.mintc_timing.specs.declared.parts.TimingArc.{TimingArc}
 use Rattle.mintc_paths.specs.declared.sums.Sums.{Sums}
+use Rattle.mintc_paths.specs.declared.sums.TheConstants.{NO_SUMS}
 use Rattle.mintc_paths.specs.Held.{place_at, places_of}
 use Rattle.mintc_paths.specs.Sums.{sums_at, placed, IsBounded}
-use Rattle.mintc_paths.proofs.Holding.{IsJoinedOne, held_at, given_at, joined_at, joined_given, length-places}
+use Rattle.mintc_paths.proofs.Holding.{IsJoinedOne, held_at, held_none, given_at, joined_at, length-places}
 use Rattle.mintc_paths.proofs.held.Held.join.Goals as goal
 use Rattle.mintc_paths.proofs.held.Held.join.Goals.{After-index-2}
 
@@ -20,8 +21,9 @@ returns-then-place-gt0 c =
     held_at base numbers sums old c.self.invariant.held c.self.view_is arc.from c.place_of-left.result c.index.result.now c.requires.from left_is c.index.ensures in
     let h = c.join_rows.ensures in
     let done : IsJoinedOne arc old (placed (places_of base numbers) (set sums c.place_of-place.result c.join_rows.new.sums)) =
-    joined_at base numbers sums old c.self.invariant.held c.self.view_is arc c.requires.from c.requires.to c.index.result.now from_is c.place_of-place.result c.index_mut.result.now c.join_rows.new.sums
-    place_is (λ e. let some = c.if-place-gt0.true in omega arith) c.index_mut.ensures.value (record { greatest = h.greatest; least = h.least; bounded = h.bounded }) in
+    joined_at base numbers sums old c.self.invariant.held c.self.view_is arc c.requires.from c.requires.to c.index.result.now from_is (places_of base numbers) sums c.self.invariant.held (λ other. refl) refl
+    c.place_of-place.result c.index_mut.result.now c.join_rows.new.sums (held_at base numbers sums old c.self.invariant.held c.self.view_is arc.to c.place_of-place.result c.index_mut.result.now c.requires.to place_is c.index_mut.ensures.value)
+    place_is (λ e. let some = c.if-place-gt0.true in omega arith) (record { greatest = h.greatest; least = h.least; bounded = h.bounded }) in
     record { count = done.count; others = done.others; greatest = done.joined.greatest; least = done.joined.least; bounded = done.joined.bounded }
 
 -- the row's sums, once the other row has a place
@@ -48,8 +50,8 @@ returns c =
     let h = c.led_on.ensures in
     let none = c.if-place-gt0.false in
     let done : IsJoinedOne arc old (placed places (set more c.in_ok-place.place c.led_on.result)) =
-    joined_given base numbers c.self.inside.sums.items old c.self.invariant.held c.self.view_is arc c.requires.from c.requires.to c.index-2.result.now (from_is (goal.at.returns c).After-index-2) places more
-    given.held.held given.kept count c.in_ok-place.place c.led_on.result (omega arith) given.place given.some
+    joined_at base numbers c.self.inside.sums.items old c.self.invariant.held c.self.view_is arc c.requires.from c.requires.to c.index-2.result.now (from_is (goal.at.returns c).After-index-2) places more
+    given.held.held given.kept count c.in_ok-place.place NO_SUMS c.led_on.result (held_none base numbers c.self.inside.sums.items old c.self.invariant.held c.self.view_is arc.to c.requires.to (omega arith)) given.place given.some
     (record { greatest = h.greatest; least = h.least; bounded = λ most from to. h.bounded most from }) in
     record { count = done.count; others = done.others; greatest = done.joined.greatest; least = done.joined.least; bounded = done.joined.bounded }
 
