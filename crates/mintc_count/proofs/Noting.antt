@@ -117,18 +117,14 @@ module _ (design : Design) (order : List ℕ) (is_order : IsOrder design.arcs or
     abbrev left : ℕ → ℕ
     left k = (arc_at course.along.items k).from
 
-    unmarked_one : (k : ℕ) → k < length order → get_or reached (left k) false ≡ false → Along k marks → Along (k + 1) marks
-    unmarked_one k low off h =
-        let here = row_in design order is_order kept course n is_course bits k low in
-        marked_along k low marks marks (carried_none (arc_at course.along.items k) marks (marked.none (left k) (omega arith) off)) h
-
-    unmarked : (k m : ℕ) → k ≤ m → m ≤ length order → ((i : ℕ) → k ≤ i → i < m → get_or reached (left i) false ≡ false) → Along k marks → Along m marks
-    unmarked k m low high off h = climb (λ x. Along x marks) k m low (λ i from below. unmarked_one i (omega arith) (off i from below)) h
-
     -- Where none is awake from one place on and before the next, no arc there leaves a row that is reached.
     pub unmarked_next : (awake : Awake) (k next : ℕ) → k ≤ next → k ≤ length order → IsAwake course.along.items k reached awake →
         ((other : ℕ) → k ≤ other → other < next → IsIn awake.places.words.items other → ⊥) → Along k marks → Along (min next (length order)) marks
-    unmarked_next awake k next low high is_awake none h =
-        let all = is_course.along.count in
-        unmarked k (min next (length order)) (omega arith) (omega arith)
-        (λ i from below. not_on (get_or reached (left i) false) (λ on. none i from (omega arith) (is_awake.each i from (omega arith) on))) h
+    unmarked_next awake k next low high is_awake none h = climb (λ x. Along x marks) k (min next (length order)) (omega arith) step h
+      where
+        step : (i : ℕ) → k ≤ i → i < min next (length order) → Along i marks → Along (i + 1) marks
+        step i from below =
+            let all = is_course.along.count in
+            let inside = row_in design order is_order kept course n is_course bits i (omega arith) in
+            let off = not_on (get_or reached (left i) false) (λ on. none i from (omega arith) (is_awake.each i from (omega arith) on)) in
+            marked_along i (omega arith) marks marks (carried_none (arc_at course.along.items i) marks (marked.none (left i) (omega arith) off))

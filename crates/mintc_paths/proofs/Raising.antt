@@ -14,6 +14,7 @@ use Rattle.mintc_paths.specs.declared.rows.Course.{Course}
 use Rattle.mintc_paths.specs.Longest.{bit_sum, bit_sums, AreCarried}
 use Rattle.mintc_paths.specs.Sums.{row_of, moved, IsCourse}
 use Rattle.mintc_paths.proofs.Passing.{arc_of, from_in, to_in, in_design, few_arcs}
+use Rattle.mintc_paths.proofs.Rowing.{moved_others}
 use Rattle.mintc_paths.proofs.Plain.{AreCarried-zeros, carried_more, none_at}
 
 -- what a call of raise leaves in the rows
@@ -72,20 +73,6 @@ module _ (design : Design) (order : List ℕ) (is_order : IsOrder design.arcs or
       let same = at_from sums k low in
       omega (arith, ints))
 
-  -- where one row alone has changed, one bit alone has
-  others_placed : (old new : List ℤ) (end : ℕ) → end < n → ((row : ℕ) → row ≢ row_of rows end → bit_sum new row ≡ bit_sum old row) →
-      (bit : ℕ) → bit ≢ end → bit_sum (bit_sums rows new) bit ≡ bit_sum (bit_sums rows old) bit
-  others_placed old new end below others bit ne =
-      let count = is_course.rows.of_bits.count in
-      let leads = is_course.rows.of_bits.leads in
-      ⊎_elim
-      (λ (low : bit < length rows).
-      sum_placed rows new bit low
-      ∙ others (row_of rows bit) (λ same. ne (sym (leads bit (omega arith)) ∙ ap (λ k. row_of course.rows.bits.items k) same ∙ leads end below))
-      ∙ sym (sum_placed rows old bit low))
-      (λ (past : length rows ≤ bit). sum_past rows new bit past ∙ sym (sum_past rows old bit past))
-      (cases_lt bit (length rows))
-
   pub raised_along : (old new : List ℤ) (k : ℕ) → k < length order → IsRaised (arc_at course.along.items k) old new →
       AreCarried design.arcs order k (bit_sums rows old) → AreCarried design.arcs order (k + 1) (bit_sums rows new)
   raised_along old new k low g h =
@@ -102,5 +89,5 @@ module _ (design : Design) (order : List ℕ) (is_order : IsOrder design.arcs or
       let more = raised.raised in
       let limit = raised.limit (pos ((k + 1) * 1000000000)) (omega (arith, ints)) (omega (arith, ints)) in
       carried_more design.arcs order is_order k (bit_sums rows old) (bit_sums rows new) low h
-      (others_placed old new arc.to (to_in design order is_order kept course n is_course bits k low) raised.others)
+      (moved_others n rows course.rows.bits.items is_course.rows.of_bits (bit_sum new) (bit_sum old) (pos 0) arc.to (to_in design order is_order kept course n is_course bits k low) raised.others)
       (omega (arith, ints)) (omega (arith, ints)) (omega (arith, ints))

@@ -1,5 +1,5 @@
 -- The rows of the bits.
-use Rattle.std.proofs.Common.{◌≡◌, ◌≢◌, ℕ, ◌<◌, ◌≤◌, ◌+◌, ◌*◌, ◌≤ℤ◌, pos, Some, List, length, get_or, set, arith, refl, ap, ◌∙◌, sym, ⊎_elim, subst, length-set, get_or-set_same, get_or-set_other, below_more}
+use Rattle.std.proofs.Common.{◌≡◌, ◌≢◌, ℕ, ◌<◌, ◌≤◌, ◌+◌, ◌*◌, ◌≤ℤ◌, pos, Some, List, length, get_or, map, set, arith, refl, ap, ◌∙◌, sym, ⊎_elim, subst, length-set, get_or-set_same, get_or-set_other, below_more}
 use Rattle.std.proofs.lemmas.Bool.{cases_eq, cases_lt}
 use Rattle.std.proofs.lemmas.List.{get_or-map, get_or_past}
 use Rattle.std.proofs.Math.ListN.{length-map}
@@ -91,20 +91,23 @@ placed_at rows sums bit below = get_or-map (sums_at sums) rows bit 0 no_sums bel
 pub placed_past : (rows : List ℕ) (sums : List Sums) (bit : ℕ) → length rows ≤ bit → sums_at (placed rows sums) bit ≡ no_sums
 placed_past rows sums bit past = get_or_past (placed rows sums) bit no_sums (omega (arith, length-placed rows sums))
 
+-- where one row alone has changed, one bit alone has
+pub moved_others : {X : Type 0} (n : ℕ) (rows bits : List ℕ) → LeadsBack n rows bits → (new old : ℕ → X) (d : X) (end : ℕ) → end < n → ((row : ℕ) → row ≢ row_of rows end → new row ≡ old row) →
+    (bit : ℕ) → bit ≢ end → get_or (map new rows) bit d ≡ get_or (map old rows) bit d
+moved_others n rows bits h new old d end below others bit ne =
+    let count = h.count in
+    ⊎_elim
+    (λ (low : bit < length rows).
+    get_or-map new rows bit 0 d low
+    ∙ others (row_of rows bit) (λ same. ne (sym (h.leads bit (omega arith)) ∙ ap (λ k. row_of bits k) same ∙ h.leads end below))
+    ∙ sym (get_or-map old rows bit 0 d low))
+    (λ (past : length rows ≤ bit). get_or_past (map new rows) bit d (omega (arith, length-map rows new)) ∙ sym (get_or_past (map old rows) bit d (omega (arith, length-map rows old))))
+    (cases_lt bit (length rows))
+
 module _ (n : ℕ) (rows bits : List ℕ) (h : LeadsBack n rows bits) (old new : List Sums) where
-  -- where one row alone has changed, one bit alone has
   pub placed_others : (end : ℕ) → end < n → ((row : ℕ) → row ≢ row_of rows end → sums_at new row ≡ sums_at old row) →
       (bit : ℕ) → bit ≢ end → sums_at (placed rows new) bit ≡ sums_at (placed rows old) bit
-  placed_others end below others bit ne =
-      let count = h.count in
-      ⊎_elim
-      (λ (low : bit < n).
-      let here : bit < length rows = omega arith in
-      placed_at rows new bit here
-      ∙ others (row_of rows bit) (λ same. ne (sym (h.leads bit low) ∙ ap (λ k. row_of bits k) same ∙ h.leads end below))
-      ∙ sym (placed_at rows old bit here))
-      (λ (high : n ≤ bit). let past : length rows ≤ bit = omega arith in placed_past rows new bit past ∙ sym (placed_past rows old bit past))
-      (cases_lt bit n)
+  placed_others = moved_others n rows bits h (sums_at new) (sums_at old) no_sums
 
   -- what is carried from row to row is carried from bit to bit
   pub IsCarried-placed : (arc : TimingArc) → arc.from < n → arc.to < n → IsCarried (moved rows arc) old new → IsCarried arc (placed rows old) (placed rows new)
