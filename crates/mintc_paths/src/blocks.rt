@@ -56,18 +56,17 @@ fn find_each(
     ensures short { OnOk result (ArePathsShort of.design) }
     ensures stop { IfErr result (StopsAt (IsPathRange of.design)) }
 {
-    let course = plan.course;
     let mut found = Found::new(alloc);
     let mut first = 0;
     while first < plan.elements {
         let lanes = (plan.elements - first).min(8);
-        let Ok(()) = fill(sums, reached, awake, course, first, lanes as usize) else {
+        let Ok(()) = fill(sums, reached, awake, plan.course, first, lanes as usize) else {
             return Err(Stop::OutOfMemory);
         };
         let block = Filled {
             sums,
             reached,
-            rows: &course.rows,
+            rows: &plan.course.rows,
             first,
             lanes: lanes as usize,
         };
