@@ -1,3 +1,4 @@
+-- Lemmas by topic.
 pub mod Setting
 pub mod Leading
 pub mod Noting

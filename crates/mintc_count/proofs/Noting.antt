@@ -1,5 +1,5 @@
 -- Rows that are reached and their marks. Arcs that leave no row that is reached change no marks.
-use Rattle.std.proofs.Common.{◌≡◌, ◌≢◌, ◌<◌, ◌≤◌, ◌+◌, ◌-◌, ◌*◌, ◌/◌, ◌%◌, ℕ, zero, suc, min, Bool, true, false, List, length, get_or, set, length-set, get_or-set_same, get_or-set_other, ⊎_elim, arith, refl, sym, ◌∙◌, ap, subst, replicate}
+use Rattle.std.proofs.Common.{◌≡◌, ◌≢◌, ◌<◌, ◌≤◌, ◌+◌, ◌*◌, ◌/◌, ◌%◌, ℕ, min, Bool, true, false, List, length, get_or, set, length-set, get_or-set_same, get_or-set_other, ⊎_elim, arith, refl, sym, ◌∙◌, ap, subst, replicate}
 use Rattle.std.proofs.lemmas.Bool.{cases_eq}
 use Rattle.std.proofs.lemmas.List.{get_or-replicate, length-replicate}
 use Rattle.std.proofs.lemmas.Nat.Bits.{bit_at-zero}
@@ -18,6 +18,7 @@ use Rattle.mintc_paths.specs.declared.rows.Course.{Course}
 use Rattle.mintc_count.specs.Marks.{marks_at, no_marks, mark_in, IsMarkOf, AreMarksAlong, AreMarksBegun, AreMarksReached}
 use Rattle.mintc_paths.specs.Sums.{row_of, LeadsBack, IsCourse}
 use Rattle.mintc_count.proofs.Leading.{AreCarriedMarks, AreMarksAlong-more, IsMarkOf-same, rows_apart}
+use Rattle.mintc_paths.proofs.Climbing.{climb}
 use Rattle.mintc_paths.proofs.Passing.{from_in, to_in, row_in, not_on}
 use Rattle.mintc_count.proofs.Setting.{by_word}
 
@@ -116,32 +117,14 @@ module _ (design : Design) (order : List ℕ) (is_order : IsOrder design.arcs or
     abbrev left : ℕ → ℕ
     left k = (arc_at course.along.items k).from
 
-    unmarked_one : (k : ℕ) → k < length order → get_or reached (left k) false ≡ false → Along k marks → Along (k + 1) marks
-    unmarked_one k low off h =
-        let here = row_in design order is_order kept course n is_course bits k low in
-        marked_along k low marks marks (carried_none (arc_at course.along.items k) marks (marked.none (left k) (omega arith) off)) h
-
-    unmarked_some : (d k : ℕ) → k + d ≤ length order → ((i : ℕ) → k ≤ i → i < k + d → get_or reached (left i) false ≡ false) → Along k marks → Along (k + d) marks
-    unmarked_some zero k high off h = subst (λ m. Along m marks) (here k) h
-      where
-        here : (k : ℕ) → k ≡ k + 0
-        here k = omega arith
-    unmarked_some (suc d) k high off h =
-        subst (λ m. Along m marks) (next k d)
-        (unmarked_some d (k + 1) (omega arith) (λ i low below. off i (omega arith) (omega arith)) (unmarked_one k (omega arith) (off k (omega arith) (omega arith)) h))
-      where
-        next : (k d : ℕ) → k + 1 + d ≡ k + suc d
-        next k d = omega arith
-
-    unmarked : (k m : ℕ) → k ≤ m → m ≤ length order → ((i : ℕ) → k ≤ i → i < m → get_or reached (left i) false ≡ false) → Along k marks → Along m marks
-    unmarked k m low high off h =
-        let whole : k + (m - k) ≡ m = omega arith in
-        subst (λ x. Along x marks) whole (unmarked_some (m - k) k (omega arith) (λ i from below. off i from (omega arith)) h)
-
     -- Where none is awake from one place on and before the next, no arc there leaves a row that is reached.
     pub unmarked_next : (awake : Awake) (k next : ℕ) → k ≤ next → k ≤ length order → IsAwake course.along.items k reached awake →
         ((other : ℕ) → k ≤ other → other < next → IsIn awake.places.words.items other → ⊥) → Along k marks → Along (min next (length order)) marks
-    unmarked_next awake k next low high is_awake none h =
-        let all = is_course.along.count in
-        unmarked k (min next (length order)) (omega arith) (omega arith)
-        (λ i from below. not_on (get_or reached (left i) false) (λ on. none i from (omega arith) (is_awake.each i from (omega arith) on))) h
+    unmarked_next awake k next low high is_awake none h = climb (λ x. Along x marks) k (min next (length order)) (omega arith) step h
+      where
+        step : (i : ℕ) → k ≤ i → i < min next (length order) → Along i marks → Along (i + 1) marks
+        step i from below =
+            let all = is_course.along.count in
+            let inside = row_in design order is_order kept course n is_course bits i (omega arith) in
+            let off = not_on (get_or reached (left i) false) (λ on. none i from (omega arith) (is_awake.each i from (omega arith) on)) in
+            marked_along i (omega arith) marks marks (carried_none (arc_at course.along.items i) marks (marked.none (left i) (omega arith) off))

@@ -38,36 +38,35 @@ fn count_from(count: u64, ends: &[Marks], listed: &[u32], element: u32, lane: us
     count
 }
 
-/// The number of pairs before and from so many elements, which are marked one after another.
-fn count_block(
-    count: u64,
+/// The number of all pairs of a design with as many elements as there are ends, which are marked by 256 at a time.
+fn count_each(
+    alloc: Global,
     course: &Course,
     marks: &mut [Marks],
     reached: &mut [bool],
     awake: &mut Awake,
     ends: &mut [Marks],
-    listed: &mut Vec<u32>,
-    first: u32,
-    lanes: usize,
 ) -> Result<u64, AllocError>
     ghost of: { Ordered }
     requires course { IsCourseOf (length marks.old) of course.now }
     requires inputs { length ends.old ≡ length of.design.elements }
-    requires lanes { lanes ≤ 256 }
-    requires elements { first + lanes ≤ length of.design.elements }
-    requires count { IsCountBefore of.design first 0 count }
     requires marked { AreMarksReached marks.old reached.old }
     requires ready { IsReady (length course.now.along.items) awake.old }
-    ensures marked { AreMarksReached marks.new reached.new }
-    ensures ready { IsReady (length course.now.along.items) awake.new }
-    ensures count { IfOk result (IsCountBefore of.design (first + lanes) 0) }
+    ensures { IfOk result (IsCountBefore of.design (length of.design.elements) 0) }
 {
-    mark_all(marks, reached, awake, course, first, lanes);
-    gather(ends, marks, &course.rows);
-    list_reached(listed, reached, &course.rows, ends.len() as u32)?;
-    let mut count = count;
-    for lane in 0..lanes {
-        count = count_from(count, ends, listed, first + lane as u32, lane);
+    let elements = ends.len() as u32;
+    let mut listed = Vec::new(alloc);
+    let mut count = 0;
+    let mut first = 0;
+    while first < elements {
+        let lanes = (elements - first).min(256);
+        mark_all(marks, reached, awake, course, first, lanes as usize);
+        gather(ends, marks, &course.rows);
+        list_reached(&mut listed, reached, &course.rows, elements)?;
+        for lane in 0..lanes {
+            count = count_from(count, ends, &listed, first + lane, lane as usize);
+        }
+        first += lanes;
     }
     Ok(count)
 }
@@ -84,25 +83,14 @@ pub fn count_along(alloc: Global, course: &Course, elements: u32) -> Result<u64,
     let mut reached = vec![in alloc; false; bits]?;
     let mut awake = Awake::new(alloc, course.along.len())?;
     let mut ends = vec![in alloc; NO_MARKS; elements as usize]?;
-    let mut listed = Vec::new(alloc);
-    let mut count = 0;
-    let mut first = 0;
-    while first < elements {
-        let lanes = (elements - first).min(256);
-        count = count_block(
-            count,
-            course,
-            &mut marks,
-            &mut reached,
-            &mut awake,
-            &mut ends,
-            &mut listed,
-            first,
-            lanes as usize,
-        )?;
-        first += lanes;
-    }
-    Ok(count)
+    count_each(
+        alloc,
+        course,
+        &mut marks,
+        &mut reached,
+        &mut awake,
+        &mut ends,
+    )
 }
 
 /// The number of all pairs, from the outputs on.

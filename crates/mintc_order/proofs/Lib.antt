@@ -1,10 +1,9 @@
+-- Lemmas by topic.
 pub mod Counting
-pub mod Beginning
 pub mod CountLaws
 pub mod FillLaws
 pub mod Entering
 pub mod Giving
-pub mod Passing
 pub mod Closing
 pub mod GatheringLaws
 pub mod Ending

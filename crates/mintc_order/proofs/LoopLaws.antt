@@ -1,3 +1,4 @@
+-- An order of arcs leaves no loop among them.
 use Rattle.mintc_timing.proofs.Ordered.{none_round}
 use Rattle.mintc_order.specs.Refusals.{OrdersExcludeLoops}
 

@@ -1,4 +1,10 @@
 //! An order of a design's arcs, or a closed list of them.
+//!
+//! The arcs that leave each bit stand side by side in one list. A depth-first search goes from bit to bit along them and gives
+//! out each bit after all bits that its arcs enter; where it comes back to a bit of its path, the arcs since then are the loop
+//! that is refused (R. E. Tarjan, "Depth-first search and linear graph algorithms", 1972). The bits from the last one given out
+//! to the first, with the arcs that leave each, are the order. The crates above get that order, in which one pass finds the
+//! longest paths, the refusal with a loop, and `Leaving`, the arcs that leave each bit as chains.
 #![tactic(auto)]
 
 ghost use Rattle.std.specs.Prelude.{IfOk, IfErr};

@@ -1,6 +1,7 @@
 -- The pairs of a design, found one after another.
-use Rattle.std.proofs.Common.{◌≡◌, ◌≢◌, ℕ, zero, suc, ◌<◌, ◌≤◌, ◌+◌, ℤ, pos, ◌≤ℤ◌, List, [], ◌∷◌, ◌++◌, length, get_or, arith, refl, sym, ◌⊎◌, ⊎_elim, Option, Some, None, subst}
+use Rattle.std.proofs.Common.{◌≡◌, ◌≢◌, ℕ, zero, suc, ◌<◌, ◌≤◌, ◌+◌, ℤ, pos, ◌≤ℤ◌, List, [], ◌∷◌, ◌++◌, length, get_or, arith, refl, sym, ⊎_elim, Option, Some, None, subst}
 use Rattle.std.specs.Int.{int_max, int_min}
+use Rattle.std.proofs.lemmas.Bool.{cases_eq}
 use Rattle.mintc_timing.specs.declared.parts.Pair.{Pair}
 use Rattle.mintc_timing.specs.declared.parts.TimingArc.{TimingArc}
 use Rattle.mintc_timing.specs.Design.{Design}
@@ -16,8 +17,8 @@ use Rattle.mintc_paths.proofs.Best.{IsChoiceBy, greatest_choice, least_choice, I
 use Rattle.mintc_paths.proofs.Finding.{ArePairsBefore-none, ArePairsBefore-skip, ArePairsBefore-push, ArePairsBefore-next, ArePairs-from_before}
 use Rattle.mintc_paths.proofs.Reaching.{paired_of}
 
-same_or_apart : (i k : ℕ) → (i ≡ k) ⊎ (i ≢ k)
-same_or_apart i k = grind arith
+next : (k : ℕ) → k + 1 ≡ suc k
+next k = omega arith
 
 module _ (AtMost : ℤ → ℤ → Type 0) (choose : ℤ → ℤ → ℤ) (choice : IsChoiceBy AtMost choose) (weight : ℕ → ℤ) (arcs : List TimingArc) (order : List ℕ) (is_order : IsOrder arcs order) where
   -- there is a best sum, or no path
@@ -25,7 +26,7 @@ module _ (AtMost : ℤ → ℤ → Type 0) (choose : ℤ → ℤ → ℤ) (choic
   best zero few from to = ⊎_elim
       (λ (e : from ≡ to). (Some (pos 0), subst (λ (b : ℕ). IsBest AtMost weight arcs order 0 from b (Some (pos 0))) e (IsBest-here AtMost choose choice weight arcs order from)))
       (λ (ne : from ≢ to). (None, IsBest-none AtMost choose choice weight arcs order from to ne))
-      (same_or_apart from to)
+      (cases_eq from to)
   best (suc k) few from to =
       let low : k < length order = omega arith in
       let n : ℕ = get_or order k 0 in
@@ -45,10 +46,7 @@ module _ (AtMost : ℤ → ℤ → Type 0) (choose : ℤ → ℤ → ℤ) (choic
         subst (λ (m : ℕ). IsBest AtMost weight arcs order m from to there.0) (next k)
             (IsBest-other AtMost choose choice weight arcs order is_order k from to there.0 low ne there.1),
       ))
-      (same_or_apart to (arc_at arcs n).to)
-    where
-      next : (k : ℕ) → k + 1 ≡ suc k
-      next k = omega arith
+      (cases_eq to (arc_at arcs n).to)
 
 module _ (design : Design) (order : List ℕ) (is_order : IsOrder design.arcs order) where
   -- one more pair, if the two elements are one
@@ -71,9 +69,6 @@ module _ (design : Design) (order : List ℕ) (is_order : IsOrder design.arcs or
       let old = from_one from from_in pairs before to (omega arith) in
       let new = one_more from to from_in (omega arith) old.0 old.1 in
       (new.0, subst (λ (m : ℕ). ArePairsBefore design from m new.0) (next to) new.1)
-    where
-      next : (k : ℕ) → k + 1 ≡ suc k
-      next k = omega arith
 
   from_all : (from : ℕ) → from ≤ length design.elements → (pairs : List Pair) × ArePairsBefore design from 0 pairs
   from_all zero few = ([], ArePairsBefore-none design)
@@ -81,9 +76,6 @@ module _ (design : Design) (order : List ℕ) (is_order : IsOrder design.arcs or
       let old = from_all from (omega arith) in
       let row = from_one from (omega arith) old.0 old.1 (length design.elements) (omega arith) in
       (row.0, subst (λ (m : ℕ). ArePairsBefore design m 0 row.0) (next from) (ArePairsBefore-next design from row.0 row.1))
-    where
-      next : (k : ℕ) → k + 1 ≡ suc k
-      next k = omega arith
 
 pub pairs_exist_lem : PairsExist
 pairs_exist_lem design order is_order =

@@ -1,21 +1,20 @@
 -- Sums along one more arc.
-use Rattle.std.proofs.Common.{◌≡◌, ◌≢◌, ℕ, ◌<◌, ◌≤◌, ◌+◌, ◌*◌, max, ℤ, ◌≤ℤ◌, List, length, get_or, arith, refl, ap, ◌∙◌, sym, ⊎_elim, Option, Some, None, subst, get_or-set_same}
-use Rattle.std.specs.Prelude.{IfSome, unsigned_abs, slice_set}
+use Rattle.std.proofs.Common.{◌≡◌, ◌≢◌, ℕ, ◌<◌, ◌≤◌, ◌+◌, ◌*◌, max, ℤ, ◌≤ℤ◌, List, length, get_or, arith, refl, ap, ◌∙◌, sym, ⊎_elim, Option, Some, None, subst}
+use Rattle.std.specs.Prelude.{IfSome, unsigned_abs}
 use Rattle.std.specs.Int.{int_max, int_min}
-use Rattle.std.proofs.lemmas.Int.{ints}
 use Rattle.std.proofs.lemmas.Bool.{cases_eq}
 use Rattle.mintc_timing.specs.declared.parts.TimingArc.{TimingArc}
 use Rattle.mintc_timing.specs.Paths.{arc_at, output_of}
 use Rattle.std.specs.List.{All}
 use Rattle.mintc_timing.specs.Design.{no_arc}
-use Rattle.mintc_timing.specs.Limits.{IsDelay, IsArc}
+use Rattle.mintc_timing.specs.Limits.{IsArc}
 use Rattle.mintc_timing.specs.Order.{IsOrder}
 use Rattle.mintc_timing.proofs.Ordered.{inside}
 use Rattle.mintc_lanes.specs.Lanes.{lane_at, joined, AreJoined, AreWithin}
 use Rattle.mintc_paths.specs.declared.sums.Sums.{Sums}
-use Rattle.mintc_paths.specs.Among.{AtLeast, max_of, min_of, IsGreatestAmong, IsLeastAmong}
-use Rattle.mintc_paths.specs.Sums.{sums_at, no_sums, IsBounded, IsAlike, AreSums}
-use Rattle.mintc_paths.proofs.Best.{greatest_choice, least_choice, IsBest-other, IsBest-joined}
+use Rattle.mintc_paths.specs.Among.{IsBest, AtLeast, max_of, min_of}
+use Rattle.mintc_paths.specs.Sums.{sums_at, IsBounded, IsAlike, AreSums}
+use Rattle.mintc_paths.proofs.Best.{IsChoiceBy, greatest_choice, least_choice, IsBest-other, IsBest-joined}
 
 pub AreWithin-weaker : (m n : ℕ) (row : List ℤ) → m ≤ n → AreWithin m row → AreWithin n row
 AreWithin-weaker m n row h g k below = weaker (lane_at row k) (g k below)
@@ -26,20 +25,6 @@ AreWithin-weaker m n row h g k below = weaker (lane_at row k) (g k below)
 
 pub IsBounded-weaker : (m n : ℕ) (sums : Sums) → m ≤ n → IsBounded m sums → IsBounded n sums
 IsBounded-weaker m n sums h g = record { greatest = AreWithin-weaker m n sums.greatest h g.greatest; least = AreWithin-weaker m n sums.least h g.least }
-
-pub is_small : (x : ℤ) → IsDelay x → unsigned_abs x ≤ 1000000000
-is_small x h = let low = h.0 in let high = h.1 in omega (arith, ints)
-
-pub bounded_write : (sums : List Sums) (bit : ℕ) (greatest least : List ℤ) (most : ℕ) → bit < length sums → AreWithin (max most (most + 1000000000)) greatest →
-    AreWithin (max most (most + 1000000000)) least → IsBounded (most + 1000000000) (sums_at (slice_set sums bit (record { greatest = greatest; least = least })) bit)
-bounded_write sums bit greatest least most below h g =
-    let new : Sums = record { greatest = greatest; least = least } in
-    let read : new ≡ sums_at (slice_set sums bit new) bit = sym (get_or-set_same sums bit new no_sums below) in
-    let bounded : IsBounded (most + 1000000000) new = record {
-      greatest = AreWithin-weaker (max most (most + 1000000000)) (most + 1000000000) greatest (omega arith) h;
-      least = AreWithin-weaker (max most (most + 1000000000)) (most + 1000000000) least (omega arith) g;
-    } in
-    subst (λ s. IsBounded (most + 1000000000) s) read bounded
 
 joined_none : (choose : ℤ → ℤ → ℤ) (x y : Option ℤ) (w : ℤ) → joined choose x y w ≡ None → (x ≡ None) × (y ≡ None)
 joined_none choose None None w h = (refl, refl)
@@ -75,34 +60,26 @@ module _ (arcs : List TimingArc) (order : List ℕ) (is_order : IsOrder arcs ord
   at_end : (P : ℕ → Type 0) (bit : ℕ) → bit ≡ to → P to → P bit
   at_end P bit e p = subst P (sym e) p
 
-  greatest_more : (bit lane : ℕ) → bit < length new → lane < lanes → IsGreatestAmong arcs order (k + 1) (output_of (first + lane)) bit (lane_at (sums_at new bit).greatest lane)
-  greatest_more bit lane inside g =
+  -- the best sums at the bits, by what is at most what
+  best_more : (AtMost : ℤ → ℤ → Type 0) (choose : ℤ → ℤ → ℤ) → IsChoiceBy AtMost choose → (weight : ℕ → ℤ) (row : Sums → List ℤ) →
+      AreJoined choose (row (sums_at old to)) (row (sums_at old from)) (weight n) (row (sums_at new to)) →
+      ((bit lane : ℕ) → bit < length old → lane < lanes → IsBest AtMost weight arcs order k (output_of (first + lane)) bit (lane_at (row (sums_at old bit)) lane)) →
+      (bit lane : ℕ) → bit < length new → lane < lanes → IsBest AtMost weight arcs order (k + 1) (output_of (first + lane)) bit (lane_at (row (sums_at new bit)) lane)
+  best_more AtMost choose choice weight row joins best bit lane inside g =
       ⊎_elim
-      (λ e. at_end (λ b. IsGreatestAmong arcs order (k + 1) (output_of (first + lane)) b (lane_at (sums_at new b).greatest lane)) bit e
-      (subst (λ o. IsGreatestAmong arcs order (k + 1) (output_of (first + lane)) to o) (sym (greatest lane (omega arith)))
-      (IsBest-joined ◌≤ℤ◌ int_max greatest_choice (max_of arcs) arcs order is_order k n (output_of (first + lane))
-      (lane_at (sums_at old to).greatest lane) (lane_at (sums_at old from).greatest lane) low is below (h.greatest to lane to_in g) (h.greatest from lane from_in g))))
-      (λ ne. subst (λ (s : Sums). IsGreatestAmong arcs order (k + 1) (output_of (first + lane)) bit (lane_at s.greatest lane)) (sym (others bit ne))
-      (IsBest-other ◌≤ℤ◌ int_max greatest_choice (max_of arcs) arcs order is_order k (output_of (first + lane)) bit (lane_at (sums_at old bit).greatest lane) low
-      (not_entered bit ne) (h.greatest bit lane (omega arith) g)))
-      (cases_eq bit to)
-
-  least_more : (bit lane : ℕ) → bit < length new → lane < lanes → IsLeastAmong arcs order (k + 1) (output_of (first + lane)) bit (lane_at (sums_at new bit).least lane)
-  least_more bit lane inside g =
-      ⊎_elim
-      (λ e. at_end (λ b. IsLeastAmong arcs order (k + 1) (output_of (first + lane)) b (lane_at (sums_at new b).least lane)) bit e
-      (subst (λ o. IsLeastAmong arcs order (k + 1) (output_of (first + lane)) to o) (sym (least lane (omega arith)))
-      (IsBest-joined AtLeast int_min least_choice (min_of arcs) arcs order is_order k n (output_of (first + lane))
-      (lane_at (sums_at old to).least lane) (lane_at (sums_at old from).least lane) low is below (h.least to lane to_in g) (h.least from lane from_in g))))
-      (λ ne. subst (λ (s : Sums). IsLeastAmong arcs order (k + 1) (output_of (first + lane)) bit (lane_at s.least lane)) (sym (others bit ne))
-      (IsBest-other AtLeast int_min least_choice (min_of arcs) arcs order is_order k (output_of (first + lane)) bit (lane_at (sums_at old bit).least lane) low
-      (not_entered bit ne) (h.least bit lane (omega arith) g)))
+      (λ e. at_end (λ b. IsBest AtMost weight arcs order (k + 1) (output_of (first + lane)) b (lane_at (row (sums_at new b)) lane)) bit e
+      (subst (λ o. IsBest AtMost weight arcs order (k + 1) (output_of (first + lane)) to o) (sym (joins lane (omega arith)))
+      (IsBest-joined AtMost choose choice weight arcs order is_order k n (output_of (first + lane))
+      (lane_at (row (sums_at old to)) lane) (lane_at (row (sums_at old from)) lane) low is below (best to lane to_in g) (best from lane from_in g))))
+      (λ ne. subst (λ (s : Sums). IsBest AtMost weight arcs order (k + 1) (output_of (first + lane)) bit (lane_at (row s) lane)) (sym (others bit ne))
+      (IsBest-other AtMost choose choice weight arcs order is_order k (output_of (first + lane)) bit (lane_at (row (sums_at old bit)) lane) low
+      (not_entered bit ne) (best bit lane (omega arith) g)))
       (cases_eq bit to)
 
   pub AreSums-more : AreSums arcs order (k + 1) first lanes new
   AreSums-more = record {
-    greatest = greatest_more;
-    least = least_more;
+    greatest = best_more ◌≤ℤ◌ int_max greatest_choice (max_of arcs) (λ (s : Sums). s.greatest) greatest h.greatest;
+    least = best_more AtLeast int_min least_choice (min_of arcs) (λ (s : Sums). s.least) least h.least;
     bounded = λ bit inside. ⊎_elim
         (λ e. at_end (λ b. IsBounded ((k + 1) * 1000000000) (sums_at new b)) bit e
         (IsBounded-weaker (k * 1000000000 + 1000000000) ((k + 1) * 1000000000) (sums_at new to) (omega arith) (bounded (k * 1000000000) (h.bounded from from_in) (h.bounded to to_in))))

@@ -1,12 +1,11 @@
 -- One more pair.
-use Rattle.std.proofs.Common.{min, ◌≡◌, ◌≢◌, ℕ, zero, suc, ◌<◌, ◌≤◌, ◌+◌, ◌-◌, ◌*◌, ℤ, List, [], ◌∷◌, ◌++◌, length, get_or, arith, refl, ap, ◌∙◌, sym, ◌⊎◌, inl, inr, ⊎_elim, subst, length-append, Option, Some, None}
-use Rattle.std.proofs.lemmas.Bool.{cases_eq}
-use Rattle.std.proofs.lemmas.List.{get_or_append_left}
+use Rattle.std.proofs.Common.{min, ◌≡◌, ◌≢◌, ℕ, ◌<◌, ◌≤◌, ◌+◌, ◌*◌, ℤ, List, [], ◌∷◌, ◌++◌, length, arith, refl, ap, ◌∙◌, sym, ◌⊎◌, inl, inr, ⊎_elim, subst, length-append, Option, Some, None}
+use Rattle.std.proofs.lemmas.List.{get_or_append_left, get_or_push}
 use Rattle.std.specs.Prelude.{Result, Ok, Err, OnOk}
 use Rattle.mintc_lanes.specs.Lanes.{lane_at}
 use Rattle.mintc_paths.specs.Reached.{IsPaired, IsPairedLane, pair_of}
 use Rattle.std.specs.List.{All, AllAdjacentBelow}
-use Rattle.std.proofs.lemmas.List.Elements.{All-push, Contains-append_left}
+use Rattle.std.proofs.lemmas.List.Elements.{All-push, All-weaker, Contains-append_left, Contains-push}
 use Rattle.mintc_timing.specs.declared.parts.Pair.{Pair}
 use Rattle.mintc_timing.specs.Design.{Design}
 use Rattle.mintc_timing.specs.Paths.{IsPath, input_of, HasExtremes, ComesBefore, ArePairs}
@@ -16,7 +15,11 @@ use Rattle.mintc_paths.specs.declared.sums.Sums.{Sums}
 use Rattle.mintc_paths.specs.Sums.{sums_at, row_of, AreRows, placed}
 use Rattle.mintc_paths.specs.Found.{Precede, ArePairsBefore, HasPairs, IsFoundBefore, AreEnds, end_at}
 use Rattle.mintc_paths.proofs.Beginning.{none_at}
+use Rattle.mintc_paths.proofs.Climbing.{IsToEnd, IsToEnd-at, IsToEnd-more, IsToEnd-all}
 use Rattle.mintc_paths.proofs.Rowing.{IsPaired-row}
+
+pub low_or_at : (i k : ℕ) → i < k + 1 → (i < k) ⊎ (i ≡ k)
+low_or_at i k h = grind arith
 
 Precede-more : (from to a b : ℕ) → Precede from to a b → Precede from (to + 1) a b
 Precede-more from to a b (inl h) = inl h
@@ -25,9 +28,6 @@ Precede-more from to a b (inr h) = inr (h.0, omega (arith, h.1))
 Precede-split : (from to a b : ℕ) → Precede from (to + 1) a b → Precede from to a b ⊎ ((a ≡ from) × (b ≡ to))
 Precede-split from to a b (inl h) = inl (inl h)
 Precede-split from to a b (inr h) = ⊎_elim (λ low. inl (inr (h.0, low))) (λ e. inr (h.0, e)) (low_or_at b to h.1)
-  where
-    low_or_at : (i k : ℕ) → i < k + 1 → (i < k) ⊎ (i ≡ k)
-    low_or_at i k h = grind arith
 
 Precede-next : (from n a b : ℕ) → Precede from n a b → Precede (from + 1) 0 a b
 Precede-next from n a b (inl h) = inl (omega arith)
@@ -35,33 +35,17 @@ Precede-next from n a b (inr h) = inl (omega (arith, h.0))
 
 Precede-last : (from n a b : ℕ) → b < n → Precede (from + 1) 0 a b → Precede from n a b
 Precede-last from n a b low (inl h) = ⊎_elim (λ less. inl less) (λ e. inr (e, low)) (low_or_at a from h)
-  where
-    low_or_at : (i k : ℕ) → i < k + 1 → (i < k) ⊎ (i ≡ k)
-    low_or_at i k h = grind arith
 Precede-last from n a b low (inr h) = absurd (omega (arith, h.1))
 
 -- a list that ascends, with one more item that comes after its last
-pub at_last : {X : Type 0} (xs : List X) (x d : X) (k : ℕ) → k ≡ length xs → get_or (xs ++ x ∷ []) k d ≡ x
-at_last [] x d k e = rw e refl
-at_last (y ∷ xs) x d k e = rw e (at_last xs x d (length xs) refl)
-
-before_last : {X : Type 0} (xs : List X) (x d : X) (k : ℕ) → k < length xs → get_or (xs ++ x ∷ []) k d ≡ get_or xs k d
-before_last xs x d k h = get_or_append_left xs (x ∷ []) d k h
-
 ascending_push : {X : Type 0} (R : X → X → Type 0) (xs : List X) (x : X) → AllAdjacentBelow R xs (length xs) → All (λ y. R y x) xs → AllAdjacentBelow R (xs ++ x ∷ []) (length (xs ++ x ∷ []))
 ascending_push {X} R xs x h g k d below =
     let count : length (xs ++ x ∷ []) ≡ length xs + 1 = length-append xs (x ∷ []) in
     let inside : k < length xs = omega arith in
     ⊎_elim
-    (λ (low : k + 1 < length xs). rw (before_last xs x d k inside, before_last xs x d (k + 1) low) (h k d low))
-    (λ (e : k + 1 ≡ length xs). rw (before_last xs x d k inside, at_last xs x d (k + 1) e) (g k d inside))
+    (λ (low : k + 1 < length xs). rw (get_or_append_left xs (x ∷ []) d k inside, get_or_append_left xs (x ∷ []) d (k + 1) low) (h k d low))
+    (λ (e : k + 1 ≡ length xs). rw (get_or_append_left xs (x ∷ []) d k inside, get_or_push xs x d (k + 1) (sym e)) (g k d inside))
     (low_or_at (k + 1) (length xs) (omega arith))
-  where
-    low_or_at : (i k : ℕ) → i < k + 1 → (i < k) ⊎ (i ≡ k)
-    low_or_at i k h = grind arith
-
-All-weaker : {X : Type 0} (P Q : X → Type 0) (xs : List X) → ((x : X) → P x → Q x) → All P xs → All Q xs
-All-weaker P Q xs weaker h = λ k d g. weaker (get_or xs k d) (h k d g)
 
 pub ArePairsBefore-none : (design : Design) → ArePairsBefore design 0 0 []
 ArePairsBefore-none design = record {
@@ -80,7 +64,7 @@ module _ (design : Design) (from to : ℕ) (pairs : List Pair) (h : ArePairsBefo
   ArePairsBefore-skip none = record {
     each = h.each;
     ascending = h.ascending;
-    earlier = All-weaker (λ (p : Pair). Precede from to p.from p.to) (λ (p : Pair). Precede from (to + 1) p.from p.to) pairs (λ p g. Precede-more from to p.from p.to g) h.earlier;
+    earlier = All-weaker (λ (p : Pair). Precede from to p.from p.to) (λ (p : Pair). Precede from (to + 1) p.from p.to) (λ p g. Precede-more from to p.from p.to g) pairs h.earlier;
     whole = λ j l path g below is. ⊎_elim (λ old. h.whole j l path old below is)
         (λ new. absurd (none path (subst (λ b. IsPath design.arcs from path (input_of b)) new.1 (subst (λ a. IsPath design.arcs a path (input_of l)) new.0 is))))
         (Precede-split from to j l g);
@@ -90,13 +74,13 @@ module _ (design : Design) (from to : ℕ) (pairs : List Pair) (h : ArePairsBefo
   ArePairsBefore-push pair extremes is_from is_to = record {
     each = All-push (HasExtremes design) pairs pair h.each extremes;
     ascending = ascending_push ComesBefore pairs pair h.ascending
-        (All-weaker (λ (p : Pair). Precede from to p.from p.to) (λ p. ComesBefore p pair) pairs (λ p g. comes_before p g) h.earlier);
+        (All-weaker (λ (p : Pair). Precede from to p.from p.to) (λ p. ComesBefore p pair) comes_before pairs h.earlier);
     earlier = All-push (λ (p : Pair). Precede from (to + 1) p.from p.to) pairs pair
-        (All-weaker (λ (p : Pair). Precede from to p.from p.to) (λ (p : Pair). Precede from (to + 1) p.from p.to) pairs (λ p g. Precede-more from to p.from p.to g) h.earlier)
+        (All-weaker (λ (p : Pair). Precede from to p.from p.to) (λ (p : Pair). Precede from (to + 1) p.from p.to) (λ p g. Precede-more from to p.from p.to g) pairs h.earlier)
         (inr (is_from, omega arith));
     whole = λ j l path g below is. ⊎_elim
         (λ old. let found = h.whole j l path old below is in (found.0, Contains-append_left pairs (pair ∷ []) found.0 found.1, found.2, found.3))
-        (λ new. (pair, (length pairs, omega (arith, length-append pairs (pair ∷ [])), at_last pairs pair pair (length pairs) refl), is_from ∙ sym new.0, is_to ∙ sym new.1))
+        (λ new. (pair, Contains-push pairs pair, is_from ∙ sym new.0, is_to ∙ sym new.1))
         (Precede-split from to j l g);
   }
     where
@@ -108,7 +92,7 @@ pub ArePairsBefore-next : (design : Design) (from : ℕ) (pairs : List Pair) →
 ArePairsBefore-next design from pairs h = record {
   each = h.each;
   ascending = h.ascending;
-  earlier = All-weaker (λ (p : Pair). Precede from (length design.elements) p.from p.to) (λ (p : Pair). Precede (from + 1) 0 p.from p.to) pairs (λ p g. Precede-next from (length design.elements) p.from p.to g) h.earlier;
+  earlier = All-weaker (λ (p : Pair). Precede from (length design.elements) p.from p.to) (λ (p : Pair). Precede (from + 1) 0 p.from p.to) (λ p g. Precede-next from (length design.elements) p.from p.to g) pairs h.earlier;
   whole = λ j l path g below is. h.whole j l path (Precede-last from (length design.elements) j l below g) below is;
 }
 
@@ -127,14 +111,6 @@ HasPairs-push old new pairs pair h count kept = record {
       let n = length-append pairs (pair ∷ []) in
       let e = h.count in
       kept (omega arith) ∙ ap (λ xs. xs ++ pair ∷ []) (h.kept (omega arith));
-}
-
-pub IsFoundBefore-none : (design : Design) (found : Found) → found.count ≡ 0 → found.pairs.items ≡ [] → IsFoundBefore design 0 0 found
-IsFoundBefore-none design found count items = record {
-  pairs = [];
-  are_pairs = ArePairsBefore-none design;
-  has_pairs = record { count = count; kept = λ few. items };
-  few = omega arith;
 }
 
 pub IsFoundBefore-skip : (design : Design) (from to : ℕ) (found : Found) → ((path : List ℕ) → IsPath design.arcs from path (input_of to) → ⊥) →
@@ -184,10 +160,6 @@ IsAdded-some (Ok v) from to x y max min max' min' old new e f same_max same_min 
     (extremes_of design from to x y max' min' (e ∙ ap Some (sym same_max)) (f ∙ ap Some (sym same_min)) paired) refl refl count kept h
 IsAdded-some (Err v) from to x y max min max' min' old new e f same_max same_min count kept = kept
 
-pub IsAdded-half : (from to : ℕ) (x y : Option ℤ) (max : ℤ) (found : Found) → x ≡ Some max → y ≡ None → IsAdded from to x y found found
-IsAdded-half from to x y max found e f = λ design paired h.
-    absurd (subst (λ o. IsPaired design from to (Some max) o) f (subst (λ o. IsPaired design from to o y) e paired))
-
 -- what is found in the end
 pub pairs_found : (design : Design) (found : Found) → IsFoundBefore design (length design.elements) 0 found → found.count ≤ 200000 → ArePairs design found.pairs.items
 pairs_found design found h few =
@@ -212,23 +184,9 @@ count_found design n found limit h =
     let few = h.few in
     omega arith
 
--- no path leads to any of so many elements
-IsFoundBefore-over : (design : Design) (from to n : ℕ) (found : Found) → ((l : ℕ) → to ≤ l → l < to + n → (path : List ℕ) → IsPath design.arcs from path (input_of l) → ⊥) →
-    IsFoundBefore design from to found → IsFoundBefore design from (to + n) found
-IsFoundBefore-over design from to zero found none h = let e : to ≡ to + 0 = omega arith in subst (λ k. IsFoundBefore design from k found) e h
-IsFoundBefore-over design from to (suc n) found none h =
-    let e : to + n + 1 ≡ to + suc n = omega arith in
-    subst (λ k. IsFoundBefore design from k found) e
-    (IsFoundBefore-skip design from (to + n) found (none (to + n) (omega arith) (omega arith))
-    (IsFoundBefore-over design from to n found (λ l low high. none l low (omega arith)) h))
-
 -- What is found are the pairs before some element, which comes after the ends before this one and not after this one.
-pub record IsFoundToEnd (design : Design) (from : ℕ) (ends : List ℕ) (number : ℕ) (found : Found) : Type 0 where
-  pub place : ℕ
-  pub inside : place ≤ length design.elements
-  pub before : (i : ℕ) → i < number → end_at ends i < place
-  pub after : (i : ℕ) → number ≤ i → i < length ends → place ≤ end_at ends i
-  pub is_found : IsFoundBefore design from place found
+abbrev pub IsFoundToEnd : Design → ℕ → List ℕ → ℕ → Found → Type 0
+IsFoundToEnd design from ends number found = IsToEnd (λ to. IsFoundBefore design from to found) (length design.elements) ends number
 
 module _ (design : Design) (rows : Rows) (sums : List Sums) (ends : List ℕ) (are : AreRows (length sums) rows) (bits : 2 * length design.elements ≤ length sums)
     (are_ends : AreEnds rows.of_bits.items sums (length design.elements) ends) (from lane : ℕ) (low : lane < 8)
@@ -243,50 +201,17 @@ module _ (design : Design) (rows : Rows) (sums : List Sums) (ends : List ℕ) (a
       none_of design from to (lane_at (sums_at sums row).greatest lane) (lane_at (sums_at sums row).least lane)
       (ap (λ (s : Sums). lane_at s.greatest lane) (are_ends.others to below apart) ∙ (none_at lane low).0) (paired_at to below)
 
-  -- no path leads to an element from the place on, up to the next end
-  apart_before : (number place end : ℕ) → ((i : ℕ) → i < number → end_at ends i < place) → ((i : ℕ) → number ≤ i → i < length ends → end ≤ end_at ends i) →
-      (to : ℕ) → place ≤ to → to < end → (i : ℕ) → i < length ends → end_at ends i ≢ to
-  apart_before number place end before after to high low i inside e = ⊎_elim
-      (λ (h : i < number). let b = before i h in omega arith)
-      (λ (h : number ≤ i). let b = after i h inside in omega arith)
-      (low_or_high i number)
-    where
-      low_or_high : (i k : ℕ) → (i < k) ⊎ (k ≤ i)
-      low_or_high i k = grind arith
-
-  up_to : (number end : ℕ) (found : Found) (h : IsFoundToEnd design from ends number found) → h.place ≤ end → end ≤ length design.elements →
-      ((i : ℕ) → number ≤ i → i < length ends → end ≤ end_at ends i) → IsFoundBefore design from end found
-  up_to number end found h some few after =
-      let e : h.place + (end - h.place) ≡ end = omega arith in
-      subst (λ k. IsFoundBefore design from k found) e
-      (IsFoundBefore-over design from h.place (end - h.place) found
-      (λ to high low. none_between to (omega arith) (apart_before number h.place end h.before after to high (omega arith))) h.is_found)
+  skip : (found : Found) (to : ℕ) → to < length design.elements → ((i : ℕ) → i < length ends → end_at ends i ≢ to) → IsFoundBefore design from to found → IsFoundBefore design from (to + 1) found
+  skip found to below apart = IsFoundBefore-skip design from to found (none_between to below apart)
 
   -- the end itself
   pub IsFoundToEnd-at : (number : ℕ) (found : Found) → number < length ends → IsFoundToEnd design from ends number found → IsFoundBefore design from (end_at ends number) found
-  IsFoundToEnd-at number found inside h =
-      let below = are_ends.inside number inside in
-      up_to number (end_at ends number) found h (h.after number (omega arith) inside) (omega arith) at_or_after
-    where
-      at_or_after : (i : ℕ) → number ≤ i → i < length ends → end_at ends number ≤ end_at ends i
-      at_or_after i high low = ⊎_elim
-          (λ (e : i ≡ number). let same = ap (end_at ends) e in omega arith)
-          (λ (ne : i ≢ number). let more = are_ends.ascending number i (omega arith) low in omega arith)
-          (cases_eq i number)
+  IsFoundToEnd-at number found = IsToEnd-at (length design.elements) ends are_ends.ascending are_ends.inside (λ to. IsFoundBefore design from to found) (skip found) number
 
   pub IsFoundToEnd-more : (number : ℕ) (found : Found) → number < length ends → IsFoundBefore design from (end_at ends number + 1) found → IsFoundToEnd design from ends (number + 1) found
-  IsFoundToEnd-more number found inside h = record {
-    place = end_at ends number + 1;
-    inside = let below = are_ends.inside number inside in omega arith;
-    before = λ i low. ⊎_elim
-        (λ (e : i ≡ number). let same = ap (end_at ends) e in omega arith)
-        (λ (ne : i ≢ number). let less = are_ends.ascending i number (omega arith) inside in omega arith)
-        (cases_eq i number);
-    after = λ i high low. let more = are_ends.ascending number i (omega arith) low in omega arith;
-    is_found = h;
-  }
+  IsFoundToEnd-more number found = IsToEnd-more (length design.elements) ends are_ends.ascending are_ends.inside (λ to. IsFoundBefore design from to found) number
 
   pub IsFoundToEnd-next : (found : Found) → length design.elements ≤ 2000 → IsFoundToEnd design from ends (length ends) found → IsFoundBefore design (from + 1) 0 found
   IsFoundToEnd-next found limit h =
       IsFoundBefore-next design from (length design.elements) found refl limit
-      (up_to (length ends) (length design.elements) found h h.inside (omega arith) (λ i high low. absurd (omega arith)))
+      (IsToEnd-all (length design.elements) ends are_ends.ascending are_ends.inside (λ to. IsFoundBefore design from to found) (skip found) h)

@@ -1,6 +1,6 @@
 -- Sums that are held at places.
-use Rattle.std.proofs.Common.{◌≡◌, ◌≢◌, ◌<◌, ◌≤◌, ◌+◌, ◌-◌, ◌++◌, ◌∷◌, [], ℕ, List, length, get_or, set, take, replicate, arith, ap, ◌∙◌, sym, subst, ◌⊎◌, ⊎_elim, length-set, get_or-set_same, get_or-set_other}
-use Rattle.std.proofs.lemmas.Bool.{cases_eq}
+use Rattle.std.proofs.Common.{◌≡◌, ◌≢◌, ◌<◌, ◌≤◌, ◌+◌, ◌-◌, ◌++◌, ◌∷◌, [], ℕ, List, length, get_or, set, take, replicate, arith, refl, ap, ◌∙◌, sym, subst, ⊎_elim, length-set, get_or-set_same, get_or-set_other}
+use Rattle.std.proofs.lemmas.Bool.{cases_eq, cases_lt}
 use Rattle.std.proofs.lemmas.List.{length-append, get_or_append_left, get_or-replicate, get_or_default, get_or_past, length-replicate, get_or-map}
 use Rattle.std.proofs.Math.ListN.{length-map}
 use Rattle.std.proofs.Math.Seq.{get_or-append_seam}
@@ -13,9 +13,6 @@ use Rattle.mintc_paths.specs.Held.{place_at, places_of, AreHeld}
 use Rattle.mintc_paths.specs.Sums.{sums_at, no_sums, placed, IsBounded}
 use Rattle.mintc_paths.proofs.Rowing.{length-placed, placed_at, placed_past}
 
-low_or_past : (i n : ℕ) → (i < n) ⊎ (n ≤ i)
-low_or_past i n = grind arith
-
 -- the place of a row, by its number
 pub place_is : (base : ℕ) (numbers : List ℕ) (row : ℕ) → place_at (places_of base numbers) row ≡ get_or numbers row 0 - base
 place_is base numbers row = ⊎_elim
@@ -24,7 +21,7 @@ place_is base numbers row = ⊎_elim
     let none = get_or_past (places_of base numbers) row 0 (omega (arith, length-map numbers (λ (number : ℕ). number - base))) in
     let zero = get_or_past numbers row 0 past in
     omega arith)
-    (low_or_past row (length numbers))
+    (cases_lt row (length numbers))
 
 pub length-places : (base : ℕ) (numbers : List ℕ) → length (places_of base numbers) ≡ length numbers
 length-places base numbers = length-map numbers (λ (number : ℕ). number - base)
@@ -35,7 +32,7 @@ placed_same : (places olds : List ℕ) (new old : List Sums) → length places �
 placed_same places olds new old count row same = ⊎_elim
     (λ (low : row < length places). placed_at places new row low ∙ same low ∙ sym (placed_at olds old row (omega arith)))
     (λ (past : length places ≤ row). placed_past places new row past ∙ sym (placed_past olds old row (omega arith)))
-    (low_or_past row (length places))
+    (cases_lt row (length places))
 
 -- What the rows hold is as before, and one has this place: what is there is what the row held, and what is written there the row holds then.
 module _ (places : List ℕ) (sums old : List Sums) (held : AreHeld places sums) (kept : (other : ℕ) → sums_at (placed places sums) other ≡ sums_at old other)
@@ -56,13 +53,6 @@ module _ (places : List ℕ) (sums old : List Sums) (held : AreHeld places sums)
       let below = held.below other in
       x_is ∙ get_or_default sums at x no_sums (omega arith) ∙ ap (λ k. sums_at sums k) at_is ∙ sym (placed_at places sums other low) ∙ kept other
 
-  pub AreHeld-put : (new : Sums) → AreHeld places (set sums place new)
-  AreHeld-put new = record {
-    none = get_or-set_other sums place 0 new no_sums (λ e. some (sym e)) ∙ held.none;
-    below = λ other. let low = held.below other in let count = length-set {A = Sums} sums place new in omega arith;
-    apart = held.apart;
-  }
-
 -- what the sums in a row become, along an arc that leaves another one
 pub record IsJoined (arc : TimingArc) (to from new : Sums) : Type 0 where
   pub greatest : AreJoined int_max to.greatest from.greatest arc.max new.greatest
@@ -71,6 +61,7 @@ pub record IsJoined (arc : TimingArc) (to from new : Sums) : Type 0 where
 
 -- and what the rows hold then
 pub record IsJoinedOne (arc : TimingArc) (old new : List Sums) : Type 0 where
+  pub count : length new ≡ length old
   pub others : (row : ℕ) → row ≢ arc.to → sums_at new row ≡ sums_at old row
   pub joined : IsJoined arc (sums_at old arc.to) (sums_at old arc.from) (sums_at new arc.to)
 
@@ -85,13 +76,7 @@ module _ (base : ℕ) (numbers : List ℕ) (sums old : List Sums) (held : AreHel
   rows_kept : (other : ℕ) → sums_at (placed places sums) other ≡ sums_at old other
   rows_kept other = ap (λ (v : List Sums). sums_at v other) view_is
 
-  pub held_at : (row at : ℕ) (x : Sums) → row < length old → at ≡ place_at places row → x ≡ get_or sums at x → x ≡ sums_at old row
-  held_at row at x low is x_is =
-      let below = held.below row in
-      let count = rows_count in
-      x_is ∙ get_or_default sums at x no_sums (omega arith) ∙ ap (λ k. sums_at sums k) is ∙ sym (placed_at places sums row (omega arith)) ∙ rows_kept row
-
-  -- the same once another row is given a place
+  -- what is read at a row's place, also once another row is given one
   pub given_at : (given : List ℕ) (more : List Sums) → AreHeld given more → ((other : ℕ) → sums_at (placed given more) other ≡ sums_at (placed places sums) other) →
       length given ≡ length places → (row at : ℕ) (x : Sums) → row < length old → at ≡ place_at given row → x ≡ get_or more at x → x ≡ sums_at old row
   given_at given more given_held kept given_count row at x low is x_is =
@@ -99,36 +84,28 @@ module _ (base : ℕ) (numbers : List ℕ) (sums old : List Sums) (held : AreHel
       let count = rows_count in
       x_is ∙ get_or_default more at x no_sums (omega arith) ∙ ap (λ k. sums_at more k) is ∙ sym (placed_at given more row (omega arith)) ∙ kept row ∙ rows_kept row
 
-  held_none : (row : ℕ) → row < length old → place_at places row ≡ 0 → NO_SUMS ≡ sums_at old row
+  pub held_at : (row at : ℕ) (x : Sums) → row < length old → at ≡ place_at places row → x ≡ get_or sums at x → x ≡ sums_at old row
+  held_at = given_at places sums held (λ other. refl) refl
+
+  pub held_none : (row : ℕ) → row < length old → place_at places row ≡ 0 → NO_SUMS ≡ sums_at old row
   held_none row low none =
       let count = rows_count in
       sym held.none ∙ ap (λ k. sums_at sums k) (sym none) ∙ sym (placed_at places sums row (omega arith)) ∙ rows_kept row
 
   module _ (arc : TimingArc) (from_low : arc.from < length old) (to_low : arc.to < length old) (from : Sums) (from_is : from ≡ sums_at old arc.from) where
-    -- the row has a place
-    pub joined_at : (place : ℕ) (to new : Sums) → place ≡ place_at places arc.to → place ≢ 0 → to ≡ get_or sums place to → IsJoined arc to from new →
-        IsJoinedOne arc old (placed places (set sums place new))
-    joined_at place to new is some to_is h =
-        let count = rows_count in
-        let inside : arc.to < length places = omega arith in
-        record {
-          others = put_others places sums old held rows_kept arc.to place inside is some new;
-          joined = subst (λ s. IsJoined arc (sums_at old arc.to) (sums_at old arc.from) s) (sym (put_own places sums old held rows_kept arc.to place inside is some new))
-              (subst (λ s. IsJoined arc s (sums_at old arc.from) new) (held_at arc.to place to to_low is to_is) (subst (λ s. IsJoined arc to s new) from_is h));
-        }
-
-    -- the row has none, and is given one
-    pub joined_given : (given : List ℕ) (more : List Sums) → AreHeld given more → ((other : ℕ) → sums_at (placed given more) other ≡ sums_at (placed places sums) other) →
-        length given ≡ length places → (place : ℕ) (new : Sums) → place_at places arc.to ≡ 0 → place ≡ place_at given arc.to → place ≢ 0 → IsJoined arc NO_SUMS from new →
+    -- the row that the arc enters has this place, maybe a new one
+    pub joined_at : (given : List ℕ) (more : List Sums) → AreHeld given more → ((other : ℕ) → sums_at (placed given more) other ≡ sums_at (placed places sums) other) →
+        length given ≡ length places → (place : ℕ) (to new : Sums) → to ≡ sums_at old arc.to → place ≡ place_at given arc.to → place ≢ 0 → IsJoined arc to from new →
         IsJoinedOne arc old (placed given (set more place new))
-    joined_given given more given_held kept given_count place new none is some h =
+    joined_at given more given_held kept given_count place to new to_is is some h =
         let count = rows_count in
         let inside : arc.to < length given = omega arith in
         let all_kept : (other : ℕ) → sums_at (placed given more) other ≡ sums_at old other = λ other. kept other ∙ rows_kept other in
         record {
+          count = length-placed given (set more place new) ∙ given_count ∙ count;
           others = put_others given more old given_held all_kept arc.to place inside is some new;
           joined = subst (λ s. IsJoined arc (sums_at old arc.to) (sums_at old arc.from) s) (sym (put_own given more old given_held all_kept arc.to place inside is some new))
-              (subst (λ s. IsJoined arc s (sums_at old arc.from) new) (held_none arc.to to_low none) (subst (λ s. IsJoined arc NO_SUMS s new) from_is h));
+              (subst (λ s. IsJoined arc s (sums_at old arc.from) new) to_is (subst (λ s. IsJoined arc to s new) from_is h));
         }
 
 -- a row without a place gets the next one
@@ -197,7 +174,7 @@ all_zero count numbers same row = ⊎_elim
     let long = length-replicate {A = ℕ} count 0 in
     let zero : get_or numbers row 0 ≡ 0 = rw same (get_or_past (replicate count 0) row 0 (omega arith)) in
     omega arith)
-    (low_or_past row count)
+    (cases_lt row count)
 
 -- a base above the numbers leaves no places
 pub none_above : (base next : ℕ) (numbers : List ℕ) (sums : List Sums) → AreHeld (places_of base numbers) sums → next ≡ base + (length sums - 1) →

@@ -1,3 +1,4 @@
+-- Lemmas by topic.
 pub mod Best
 pub mod Filling
 pub mod Beginning
@@ -19,3 +20,4 @@ pub mod TurnedCourse
 pub mod TurnedPairs
 pub mod Waking
 pub mod Holding
+pub mod Climbing

@@ -1,9 +1,10 @@
+-- Rows that are reached, and their sums.
 use Rattle.std.proofs.Common.{◌≡◌, ◌≢◌, ◌<◌, ℕ, Bool, true, false, List, length, get_or, set, length-set, get_or-set_same, get_or-set_other, ⊎_elim, arith, sym, ◌∙◌, ap, replicate}
 use Rattle.std.proofs.lemmas.Bool.{cases_eq}
 use Rattle.std.proofs.lemmas.List.{length-replicate}
 use Rattle.mintc_paths.specs.declared.sums.Sums.{Sums}
 use Rattle.mintc_paths.specs.declared.sums.TheConstants.{NO_SUMS}
-use Rattle.mintc_paths.specs.Sums.{sums_at, no_sums, AreMarked}
+use Rattle.mintc_paths.specs.Sums.{sums_at, AreMarked}
 
 -- a bit that gets sums, and its mark
 pub marked_more : (old new : List Sums) (reached : List Bool) (bit : ℕ) → length new ≡ length old → ((other : ℕ) → other ≢ bit → sums_at new other ≡ sums_at old other) →
@@ -14,19 +15,6 @@ marked_more old new reached bit same others m = record {
       ⊎_elim
       (λ e. let on : get_or (set reached bit true) b false ≡ true = rw e (get_or-set_same reached bit true false (omega (arith, m.count, e))) in absurd (cc on))
       (λ e. others b e ∙ m.none b (omega arith) (sym (get_or-set_other reached bit b true false e) ∙ off))
-      (cases_eq b bit);
-}
-
--- a bit whose sums and mark are taken away
-pub marked_less : (old : List Sums) (reached : List Bool) (bit : ℕ) → AreMarked old reached → AreMarked (set old bit NO_SUMS) (set reached bit false)
-marked_less old reached bit m = record {
-  count = length-set {A = Bool} reached bit false ∙ m.count ∙ sym (length-set {A = Sums} old bit NO_SUMS);
-  none = λ b below off.
-      let long : length (set old bit NO_SUMS) ≡ length old = length-set {A = Sums} old bit NO_SUMS in
-      let inside : b < length old = omega (arith, long, below) in
-      ⊎_elim
-      (λ e. rw e (get_or-set_same old bit NO_SUMS no_sums (omega (arith, inside, e))))
-      (λ e. get_or-set_other old bit b NO_SUMS no_sums e ∙ m.none b inside (sym (get_or-set_other reached bit b false false e) ∙ off))
       (cases_eq b bit);
 }
 

@@ -1,5 +1,5 @@
 -- Arcs that leave no row that is reached change no sums.
-use Rattle.std.proofs.Common.{◌≡◌, ◌≢◌, ℕ, zero, suc, ◌<◌, ◌≤◌, ◌+◌, ◌-◌, ◌*◌, min, ℤ, Bool, true, false, List, length, get_or, arith, refl, ap, ◌∙◌, sym, Option, Some, None, subst}
+use Rattle.std.proofs.Common.{◌≡◌, ◌≢◌, ℕ, ◌<◌, ◌≤◌, ◌+◌, ◌*◌, min, ℤ, Bool, true, false, List, length, get_or, arith, refl, ap, ◌∙◌, sym, Option, Some, None, subst}
 use Rattle.std.specs.Int.{int_max, int_min}
 use Rattle.mintc_timing.specs.declared.parts.TimingArc.{TimingArc}
 use Rattle.mintc_timing.specs.Design.{Design}
@@ -16,8 +16,9 @@ use Rattle.mintc_paths.specs.declared.sums.Sums.{Sums}
 use Rattle.mintc_paths.specs.declared.sums.TheConstants.{NO_SUMS}
 use Rattle.mintc_paths.specs.Sums.{sums_at, row_of, placed, moved, IsAlike, IsBounded, IsCourse, AreMarked, AreSums}
 use Rattle.mintc_paths.proofs.Beginning.{none_at}
+use Rattle.mintc_paths.proofs.Climbing.{climb}
 use Rattle.mintc_paths.proofs.Filling.{IsBounded-weaker, IsCarried, AreSums-more, arc_inside}
-use Rattle.mintc_paths.proofs.Rowing.{length-placed, placed_at, alike_row, bounded_row, IsCarried-placed}
+use Rattle.mintc_paths.proofs.Rowing.{length-placed, alike_row, bounded_row, IsCarried-placed}
 
 -- a lane that gets nothing stays
 joined_absent : (choose : ℤ → ℤ → ℤ) (x y : Option ℤ) (w : ℤ) → y ≡ None → x ≡ joined choose x y w
@@ -44,35 +45,14 @@ pub not_on : (b : Bool) → (b ≡ true → ⊥) → b ≡ false
 not_on true h = absurd (h refl)
 not_on false h = refl
 
-module _ (arcs : List TimingArc) (order : List ℕ) (is_order : IsOrder arcs order) (first lanes : ℕ) (few : lanes ≤ 8) (sums : List Sums)
-    (ends_in : (i : ℕ) → i < length order → ((arc_at arcs (get_or order i 0)).from < length sums) × ((arc_at arcs (get_or order i 0)).to < length sums)) where
-  -- one arc that leaves a bit without sums
-  passed_one : (k : ℕ) → k < length order → sums_at sums (arc_at arcs (get_or order k 0)).from ≡ NO_SUMS → AreSums arcs order k first lanes sums → AreSums arcs order (k + 1) first lanes sums
-  passed_one k low none h =
-      let n : ℕ = get_or order k 0 in
-      let arc : TimingArc = arc_at arcs n in
-      AreSums-more arcs order is_order k n first lanes sums sums refl low refl (inside arcs order is_order k low) (ends_in k low).0 (ends_in k low).1 few (λ bit ne. refl)
-      (greatest_absent (sums_at sums arc.to) (sums_at sums arc.from) arc.max none) (least_absent (sums_at sums arc.to) (sums_at sums arc.from) arc.min none)
-      (λ most from to. IsBounded-weaker most (most + 1000000000) (sums_at sums arc.to) (omega arith) to) h
-
-  passed_some : (d k : ℕ) → k + d ≤ length order → ((i : ℕ) → k ≤ i → i < k + d → sums_at sums (arc_at arcs (get_or order i 0)).from ≡ NO_SUMS) →
-      AreSums arcs order k first lanes sums → AreSums arcs order (k + d) first lanes sums
-  passed_some zero k high none h = subst (λ m. AreSums arcs order m first lanes sums) (here k) h
-    where
-      here : (k : ℕ) → k ≡ k + 0
-      here k = omega arith
-  passed_some (suc d) k high none h =
-      subst (λ m. AreSums arcs order m first lanes sums) (next k d)
-      (passed_some d (k + 1) (omega arith) (λ i low below. none i (omega arith) (omega arith)) (passed_one k (omega arith) (none k (omega arith) (omega arith)) h))
-    where
-      next : (k d : ℕ) → k + 1 + d ≡ k + suc d
-      next k d = omega arith
-
-  pub passed : (k m : ℕ) → k ≤ m → m ≤ length order → ((i : ℕ) → k ≤ i → i < m → sums_at sums (arc_at arcs (get_or order i 0)).from ≡ NO_SUMS) →
-      AreSums arcs order k first lanes sums → AreSums arcs order m first lanes sums
-  passed k m low high none h =
-      let whole : k + (m - k) ≡ m = omega arith in
-      subst (λ x. AreSums arcs order x first lanes sums) whole (passed_some (m - k) k (omega arith) (λ i from below. none i from (omega arith)) h)
+-- an arc from a row without sums carries none
+carried_none : (arc : TimingArc) (sums : List Sums) → sums_at sums arc.from ≡ NO_SUMS → IsCarried arc sums sums
+carried_none arc sums none = record {
+  others = λ bit ne. refl;
+  greatest = greatest_absent (sums_at sums arc.to) (sums_at sums arc.from) arc.max none;
+  least = least_absent (sums_at sums arc.to) (sums_at sums arc.from) arc.min none;
+  bounded = λ most from to. IsBounded-weaker most (most + 1000000000) (sums_at sums arc.to) (omega arith) to;
+}
 
 module _ (design : Design) (order : List ℕ) (is_order : IsOrder design.arcs order) (kept : IsDesign design) (course : Course) (n : ℕ) (is_course : IsCourse n design.arcs order course)
     (bits : n ≡ 2 * length design.elements + length design.inner) where
@@ -147,31 +127,15 @@ module _ (design : Design) (order : List ℕ) (is_order : IsOrder design.arcs or
         (omega arith) (omega arith) few done.others done.greatest done.least done.bounded h
 
     module _ (reached : List Bool) (marked : AreMarked sums reached) where
-      ends_in : (i : ℕ) → i < length order → ((arc_of i).from < length (placed rows sums)) × ((arc_of i).to < length (placed rows sums))
-      ends_in i low =
-          let a = from_in i low in
-          let b = to_in i low in
-          let all = length-placed rows sums in
-          let of = is_course.rows.of_bits.count in
-          (omega arith, omega arith)
-
-      none_from : (i : ℕ) → i < length order → get_or reached (left i) false ≡ false → sums_at (placed rows sums) (arc_of i).from ≡ NO_SUMS
-      none_from i low off =
-          let of = is_course.rows.of_bits.count in
-          let a = from_in i low in
-          let row_is : left i ≡ row_of rows (arc_of i).from = ap (λ (x : TimingArc). x.from) (is_course.along.each i low) in
-          let here = row_in i low in
-          placed_at rows sums (arc_of i).from (omega arith) ∙ ap (sums_at sums) (sym row_is) ∙ marked.none (left i) (omega arith) off
-
-      passed_along : (k m : ℕ) → k ≤ m → m ≤ length order → ((i : ℕ) → k ≤ i → i < m → get_or reached (left i) false ≡ true → ⊥) →
-          AreSums design.arcs order k first lanes (placed rows sums) → AreSums design.arcs order m first lanes (placed rows sums)
-      passed_along k m low high off h =
-          passed design.arcs order is_order first lanes few (placed rows sums) ends_in k m low high (λ i from below. none_from i (omega arith) (not_on (get_or reached (left i) false) (off i from below))) h
-
       -- Where none is awake from one place on and before the next, no arc there leaves a row that is reached.
       pub passed_next : (awake : Awake) (k next : ℕ) → k ≤ next → k ≤ length order → IsAwake course.along.items k reached awake →
           ((other : ℕ) → k ≤ other → other < next → IsIn awake.places.words.items other → ⊥) →
           AreSums design.arcs order k first lanes (placed rows sums) → AreSums design.arcs order (min next (length order)) first lanes (placed rows sums)
-      passed_next awake k next low high is_awake none h =
-          let all = is_course.along.count in
-          passed_along k (min next (length order)) (omega arith) (omega arith) (λ i from below on. none i from (omega arith) (is_awake.each i from (omega arith) on)) h
+      passed_next awake k next low high is_awake none h = climb (λ x. AreSums design.arcs order x first lanes (placed rows sums)) k (min next (length order)) (omega arith) step h
+        where
+          step : (i : ℕ) → k ≤ i → i < min next (length order) → AreSums design.arcs order i first lanes (placed rows sums) → AreSums design.arcs order (i + 1) first lanes (placed rows sums)
+          step i from below =
+              let all = is_course.along.count in
+              let inside = row_in i (omega arith) in
+              let off = not_on (get_or reached (left i) false) (λ on. none i from (omega arith) (is_awake.each i from (omega arith) on)) in
+              carried_along sums refl i (omega arith) (carried_none (arc_at course.along.items i) sums (marked.none (left i) (omega arith) off))

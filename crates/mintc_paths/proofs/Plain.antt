@@ -1,23 +1,17 @@
 -- Sums that bound all paths at once.
-use Rattle.std.proofs.Common.{◌≡◌, ◌≢◌, ◌<◌, ◌≤◌, ◌+◌, ◌*◌, ◌⊎◌, ⊎_elim, ℕ, ℤ, pos, ◌+ℤ◌, ◌≤ℤ◌, List, [], ◌∷◌, length, get_or, replicate, arith, ap, sym, subst, All}
+use Rattle.std.proofs.Common.{◌≡◌, ◌≢◌, ◌<◌, ◌≤◌, ◌+◌, ◌*◌, ⊎_elim, ℕ, ℤ, pos, ◌+ℤ◌, ◌≤ℤ◌, List, [], ◌∷◌, length, get_or, replicate, arith, ap, sym, subst, All}
+use Rattle.std.proofs.lemmas.Bool.{cases_eq, cases_lt}
 use Rattle.std.proofs.lemmas.Int.{ints}
 use Rattle.std.proofs.lemmas.List.{get_or-replicate, get_or_past, length-replicate}
 use Rattle.mintc_timing.specs.declared.parts.TimingArc.{TimingArc}
-use Rattle.mintc_timing.specs.Design.{Design}
-use Rattle.mintc_timing.specs.Order.{IsOrder, ArePathsShort}
-use Rattle.mintc_timing.specs.Paths.{Leads, arc_at, greatest_delay, output_of}
+use Rattle.mintc_timing.specs.Order.{IsOrder}
+use Rattle.mintc_timing.specs.Paths.{Leads, arc_at, greatest_delay}
 use Rattle.mintc_timing.proofs.Ordered.{place}
 use Rattle.mintc_paths.specs.Longest.{bit_sum, AreCarried, AreRunsShort}
 
-pub low_or_past : (i n : ℕ) → (i < n) ⊎ (n ≤ i)
-low_or_past i n = grind arith
-
-same_or_other : (a b : ℕ) → (a ≡ b) ⊎ (a ≢ b)
-same_or_other a b = grind arith
-
 -- before any arc
 pub none_at : (n bit : ℕ) → bit_sum (replicate n (pos 0)) bit ≡ pos 0
-none_at n bit = ⊎_elim (λ (low : bit < n). get_or-replicate n bit (pos 0) (pos 0) low) (λ (past : n ≤ bit). get_or_past (replicate n (pos 0)) bit (pos 0) (let count = length-replicate n (pos 0) in omega arith)) (low_or_past bit n)
+none_at n bit = ⊎_elim (λ (low : bit < n). get_or-replicate n bit (pos 0) (pos 0) low) (λ (past : n ≤ bit). get_or_past (replicate n (pos 0)) bit (pos 0) (let count = length-replicate n (pos 0) in omega arith)) (cases_lt bit n)
 
 pub AreCarried-zeros : (arcs : List TimingArc) (order : List ℕ) (sums : List ℤ) → ((bit : ℕ) → bit_sum sums bit ≡ pos 0) → AreCarried arcs order 0 sums
 AreCarried-zeros arcs order sums zero = record {
@@ -40,7 +34,7 @@ module _ (arcs : List TimingArc) (order : List ℕ) (is_order : IsOrder arcs ord
     high = λ bit. ⊎_elim
         (λ (is : bit ≡ (arc_of k).to). subst (λ (b : ℕ). bit_sum new b ≤ℤ pos ((k + 1) * 1000000000)) (sym is) limit)
         (λ (other : bit ≢ (arc_of k).to). let same = others bit other in let old = h.high bit in omega (arith, ints))
-        (same_or_other bit (arc_of k).to);
+        (cases_eq bit (arc_of k).to);
     carried = λ i low. ⊎_elim
         (λ (before : i < k).
         let same = unmoved i (omega arith) in
@@ -51,14 +45,14 @@ module _ (arcs : List TimingArc) (order : List ℕ) (is_order : IsOrder arcs ord
         let is : i ≡ k = omega arith in
         let same = unmoved k (omega arith) in
         subst (λ (j : ℕ). (bit_sum new (arc_of j).from +ℤ (arc_of j).max) ≤ℤ bit_sum new (arc_of j).to) (sym is) (omega (arith, ints)))
-        (low_or_past i k);
+        (cases_lt i k);
   }
     where
       grows : (bit : ℕ) → bit_sum sums bit ≤ℤ bit_sum new bit
       grows bit = ⊎_elim
           (λ (is : bit ≡ (arc_of k).to). subst (λ (b : ℕ). bit_sum sums b ≤ℤ bit_sum new b) (sym is) kept)
           (λ (other : bit ≢ (arc_of k).to). let same = others bit other in omega (arith, ints))
-          (same_or_other bit (arc_of k).to)
+          (cases_eq bit (arc_of k).to)
 
       unmoved : (i : ℕ) → i ≤ k → bit_sum new (arc_of i).from ≡ bit_sum sums (arc_of i).from
       unmoved i low = others (arc_of i).from (λ e. let later = is_order.ordered k i below (omega arith) (sym e) in omega (arith, later))
@@ -84,8 +78,5 @@ AreRunsShort-carried arcs order sums is_order h all = λ from path bit is.
     let high : bit_sum sums bit ≤ℤ pos 1000000000 = ⊎_elim
     (λ (inside : bit < length sums). all bit (pos 0) inside)
     (λ (past : length sums ≤ bit). let none = get_or_past sums bit (pos 0) past in omega (arith, ints))
-    (low_or_past bit (length sums)) in
+    (cases_lt bit (length sums)) in
     omega (arith, ints)
-
-pub ArePathsShort-runs : (design : Design) → AreRunsShort design.arcs → ArePathsShort design
-ArePathsShort-runs design short = λ j bit path element is. short (output_of j) path bit is.1

@@ -1,5 +1,6 @@
 -- Sums that are raised from row to row along a course are raised from bit to bit.
 use Rattle.std.proofs.Common.{◌≡◌, ◌≢◌, ◌<◌, ◌≤◌, ◌+◌, ◌*◌, ⊎_elim, ℕ, ℤ, pos, ◌+ℤ◌, ◌≤ℤ◌, List, length, get_or, replicate, arith, ap, ◌∙◌, sym, subst, All}
+use Rattle.std.proofs.lemmas.Bool.{cases_lt}
 use Rattle.std.proofs.lemmas.Int.{ints}
 use Rattle.std.proofs.lemmas.List.{get_or-map, get_or_past}
 use Rattle.std.proofs.lemmas.List.Elements.{All-map}
@@ -13,7 +14,8 @@ use Rattle.mintc_paths.specs.declared.rows.Course.{Course}
 use Rattle.mintc_paths.specs.Longest.{bit_sum, bit_sums, AreCarried}
 use Rattle.mintc_paths.specs.Sums.{row_of, moved, IsCourse}
 use Rattle.mintc_paths.proofs.Passing.{arc_of, from_in, to_in, in_design, few_arcs}
-use Rattle.mintc_paths.proofs.Plain.{AreCarried-zeros, carried_more, none_at, low_or_past}
+use Rattle.mintc_paths.proofs.Rowing.{moved_others}
+use Rattle.mintc_paths.proofs.Plain.{AreCarried-zeros, carried_more, none_at}
 
 -- what a call of raise leaves in the rows
 pub record IsRaised (arc : TimingArc) (old new : List ℤ) : Type 0 where
@@ -34,14 +36,14 @@ AreCarried-no_rows arcs order rows n sums same =
     AreCarried-zeros arcs order (bit_sums rows sums) (λ bit. ⊎_elim
     (λ (low : bit < length rows). sum_placed rows sums bit low ∙ ap (λ (x : List ℤ). bit_sum x (row_of rows bit)) same ∙ none_at n (row_of rows bit))
     (λ (past : length rows ≤ bit). sum_past rows sums bit past)
-    (low_or_past bit (length rows)))
+    (cases_lt bit (length rows)))
 
 -- where no row has a sum above the limit, no bit has
 within_at : (sums : List ℤ) (row : ℕ) → All (λ z. z ≤ℤ pos 1000000000) sums → bit_sum sums row ≤ℤ pos 1000000000
 within_at sums row all = ⊎_elim
     (λ (low : row < length sums). all row (pos 0) low)
     (λ (past : length sums ≤ row). let none = get_or_past sums row (pos 0) past in omega (arith, ints))
-    (low_or_past row (length sums))
+    (cases_lt row (length sums))
 
 pub within_placed : (rows : List ℕ) (sums : List ℤ) → All (λ z. z ≤ℤ pos 1000000000) sums → All (λ z. z ≤ℤ pos 1000000000) (bit_sums rows sums)
 within_placed rows sums all = All-map (λ (z : ℤ). z ≤ℤ pos 1000000000) (bit_sum sums) rows (λ i d below. within_at sums (get_or rows i d) all)
@@ -71,20 +73,6 @@ module _ (design : Design) (order : List ℕ) (is_order : IsOrder design.arcs or
       let same = at_from sums k low in
       omega (arith, ints))
 
-  -- where one row alone has changed, one bit alone has
-  others_placed : (old new : List ℤ) (end : ℕ) → end < n → ((row : ℕ) → row ≢ row_of rows end → bit_sum new row ≡ bit_sum old row) →
-      (bit : ℕ) → bit ≢ end → bit_sum (bit_sums rows new) bit ≡ bit_sum (bit_sums rows old) bit
-  others_placed old new end below others bit ne =
-      let count = is_course.rows.of_bits.count in
-      let leads = is_course.rows.of_bits.leads in
-      ⊎_elim
-      (λ (low : bit < length rows).
-      sum_placed rows new bit low
-      ∙ others (row_of rows bit) (λ same. ne (sym (leads bit (omega arith)) ∙ ap (λ k. row_of course.rows.bits.items k) same ∙ leads end below))
-      ∙ sym (sum_placed rows old bit low))
-      (λ (past : length rows ≤ bit). sum_past rows new bit past ∙ sym (sum_past rows old bit past))
-      (low_or_past bit (length rows))
-
   pub raised_along : (old new : List ℤ) (k : ℕ) → k < length order → IsRaised (arc_at course.along.items k) old new →
       AreCarried design.arcs order k (bit_sums rows old) → AreCarried design.arcs order (k + 1) (bit_sums rows new)
   raised_along old new k low g h =
@@ -101,5 +89,5 @@ module _ (design : Design) (order : List ℕ) (is_order : IsOrder design.arcs or
       let more = raised.raised in
       let limit = raised.limit (pos ((k + 1) * 1000000000)) (omega (arith, ints)) (omega (arith, ints)) in
       carried_more design.arcs order is_order k (bit_sums rows old) (bit_sums rows new) low h
-      (others_placed old new arc.to (to_in design order is_order kept course n is_course bits k low) raised.others)
+      (moved_others n rows course.rows.bits.items is_course.rows.of_bits (bit_sum new) (bit_sum old) (pos 0) arc.to (to_in design order is_order kept course n is_course bits k low) raised.others)
       (omega (arith, ints)) (omega (arith, ints)) (omega (arith, ints))

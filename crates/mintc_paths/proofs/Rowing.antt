@@ -1,6 +1,6 @@
 -- The rows of the bits.
-use Rattle.std.proofs.Common.{◌≡◌, ◌≢◌, ℕ, ◌<◌, ◌≤◌, ◌+◌, ◌*◌, ◌≤ℤ◌, pos, Some, List, length, get_or, set, arith, refl, ap, ◌∙◌, sym, ⊎_elim, subst, length-set, get_or-set_same, get_or-set_other, ◌⊎◌, below_more}
-use Rattle.std.proofs.lemmas.Bool.{cases_eq}
+use Rattle.std.proofs.Common.{◌≡◌, ◌≢◌, ℕ, ◌<◌, ◌≤◌, ◌+◌, ◌*◌, ◌≤ℤ◌, pos, Some, List, length, get_or, map, set, arith, refl, ap, ◌∙◌, sym, ⊎_elim, subst, length-set, get_or-set_same, get_or-set_other, below_more}
+use Rattle.std.proofs.lemmas.Bool.{cases_eq, cases_lt}
 use Rattle.std.proofs.lemmas.List.{get_or-map, get_or_past}
 use Rattle.std.proofs.Math.ListN.{length-map}
 use Rattle.mintc_timing.specs.declared.parts.TimingArc.{TimingArc}
@@ -18,6 +18,17 @@ use Rattle.mintc_paths.specs.Reached.{IsPaired}
 use Rattle.mintc_paths.proofs.Beginning.{AreBegun-none, AreBegun-more}
 use Rattle.mintc_paths.proofs.Filling.{IsCarried}
 
+-- a list of which two numbers are written
+module _ (xs : List ℕ) (i x j y : ℕ) where
+  at_second : j < length xs → row_of (set (set xs i x) j y) j ≡ y
+  at_second low = get_or-set_same (set xs i x) j y 0 (omega (arith, length-set {A = ℕ} xs i x))
+
+  at_first : (k : ℕ) → i < length xs → k ≢ j → k ≡ i → row_of (set (set xs i x) j y) k ≡ x
+  at_first k low ne e = get_or-set_other (set xs i x) j k y 0 ne ∙ ap (λ m. get_or (set xs i x) m 0) e ∙ get_or-set_same xs i x 0 low
+
+  at_rest : (k : ℕ) → k ≢ j → k ≢ i → row_of (set (set xs i x) j y) k ≡ row_of xs k
+  at_rest k ne apart = get_or-set_other (set xs i x) j k y 0 ne ∙ get_or-set_other xs i k x 0 apart
+
 -- One number of each list is exchanged: a leads to b, and what led to b leads to where a led.
 module _ (n : ℕ) (there back : List ℕ) (a b : ℕ) (in_a : a < n) (in_b : b < n) (h : LeadsBack n there back) (g : LeadsBack n back there) where
   abbrev other : ℕ
@@ -32,44 +43,32 @@ module _ (n : ℕ) (there back : List ℕ) (a b : ℕ) (in_a : a < n) (in_b : b 
   abbrev back_now : List ℕ
   back_now = set (set back b a) before other
 
-  same_count : (xs : List ℕ) (i j x y : ℕ) → length (set (set xs i x) j y) ≡ length xs
-  same_count xs i j x y = length-set {A = ℕ} (set xs i x) j y ∙ length-set {A = ℕ} xs i x
+  in_there : (x : ℕ) → x < n → x < length there
+  in_there x low = let count = h.count in omega arith
+
+  in_back : (y : ℕ) → y < n → y < length back
+  in_back y low = let count = g.count in omega arith
 
   at_other : row_of there_now other ≡ before
-  at_other = let count = h.count in let in_other = g.inside b in_b in get_or-set_same (set there a b) other before 0 (omega (arith, length-set {A = ℕ} there a b))
-
-  at_first : (x : ℕ) → x ≢ other → x ≡ a → row_of there_now x ≡ b
-  at_first x ne e = let count = h.count in get_or-set_other (set there a b) other x before 0 ne ∙ ap (λ k. get_or (set there a b) k 0) e ∙ get_or-set_same there a b 0 (omega arith)
-
-  at_rest : (x : ℕ) → x ≢ other → x ≢ a → row_of there_now x ≡ row_of there x
-  at_rest x ne apart = get_or-set_other (set there a b) other x before 0 ne ∙ get_or-set_other there a x b 0 apart
-
-  back_before : row_of back_now before ≡ other
-  back_before = let count = g.count in let in_before = h.inside a in_a in get_or-set_same (set back b a) before other 0 (omega (arith, length-set {A = ℕ} back b a))
-
-  back_second : (y : ℕ) → y ≢ before → y ≡ b → row_of back_now y ≡ a
-  back_second y ne e = let count = g.count in get_or-set_other (set back b a) before y other 0 ne ∙ ap (λ k. get_or (set back b a) k 0) e ∙ get_or-set_same back b a 0 (omega arith)
-
-  back_rest : (y : ℕ) → y ≢ before → y ≢ b → row_of back_now y ≡ row_of back y
-  back_rest y ne apart = get_or-set_other (set back b a) before y other 0 ne ∙ get_or-set_other back b y a 0 apart
+  at_other = at_second there a b other before (in_there other (g.inside b in_b))
 
   is_inside : (x : ℕ) → x < n → row_of there_now x < n
   is_inside x below = ⊎_elim
       (λ e. subst (λ k. row_of there_now k < n) (sym e) (subst (λ k. k < n) (sym at_other) (h.inside a in_a)))
       (λ ne. ⊎_elim
-      (λ e. subst (λ k. k < n) (sym (at_first x ne e)) in_b)
-      (λ apart. subst (λ k. k < n) (sym (at_rest x ne apart)) (h.inside x below))
+      (λ e. subst (λ k. k < n) (sym (at_first there a b other before x (in_there a in_a) ne e)) in_b)
+      (λ apart. subst (λ k. k < n) (sym (at_rest there a b other before x ne apart)) (h.inside x below))
       (cases_eq x a))
       (cases_eq x other)
 
   leads : (x : ℕ) → x < n → row_of back_now (row_of there_now x) ≡ x
   leads x below = ⊎_elim
-      (λ e. ap (λ k. row_of back_now (row_of there_now k)) e ∙ ap (λ k. row_of back_now k) at_other ∙ back_before ∙ sym e)
+      (λ e. ap (λ k. row_of back_now (row_of there_now k)) e ∙ ap (λ k. row_of back_now k) at_other ∙ at_second back b a before other (in_back before (h.inside a in_a)) ∙ sym e)
       (λ ne. ⊎_elim
-      (λ e. ap (λ k. row_of back_now k) (at_first x ne e)
-      ∙ back_second b (λ same. ne (e ∙ sym (h.leads a in_a) ∙ ap (λ k. row_of back k) (sym same))) refl ∙ sym e)
-      (λ apart. ap (λ k. row_of back_now k) (at_rest x ne apart)
-      ∙ back_rest (row_of there x)
+      (λ e. ap (λ k. row_of back_now k) (at_first there a b other before x (in_there a in_a) ne e)
+      ∙ at_first back b a before other b (in_back b in_b) (λ same. ne (e ∙ sym (h.leads a in_a) ∙ ap (λ k. row_of back k) (sym same))) refl ∙ sym e)
+      (λ apart. ap (λ k. row_of back_now k) (at_rest there a b other before x ne apart)
+      ∙ at_rest back b a before other (row_of there x)
       (λ same. apart (sym (h.leads x below) ∙ ap (λ k. row_of back k) same ∙ h.leads a in_a))
       (λ same. ne (sym (h.leads x below) ∙ ap (λ k. row_of back k) same))
       ∙ h.leads x below)
@@ -77,19 +76,11 @@ module _ (n : ℕ) (there back : List ℕ) (a b : ℕ) (in_a : a < n) (in_b : b 
       (cases_eq x other)
 
   LeadsBack-exchanged : LeadsBack n there_now back_now
-  LeadsBack-exchanged = record { count = same_count there a other b before ∙ h.count; inside = is_inside; leads = leads }
+  LeadsBack-exchanged = record { count = length-set {A = ℕ} (set there a b) other before ∙ length-set {A = ℕ} there a b ∙ h.count; inside = is_inside; leads = leads }
 
 pub exchanged : (n : ℕ) (there back : List ℕ) (a b other before : ℕ) → a < n → b < n → LeadsBack n there back → LeadsBack n back there → other ≡ row_of back b → before ≡ row_of there a →
     LeadsBack n (set (set there a b) other before) (set (set back b a) before other)
 exchanged n there back a b other before in_a in_b h g e f = rw (e, f) (LeadsBack-exchanged n there back a b in_a in_b h g)
-
--- a list of which each number is its place leads back by itself
-pub LeadsBack-plain : (n : ℕ) (xs ys : List ℕ) → length xs ≡ n → ((k : ℕ) → k < n → row_of xs k ≡ k) → ((k : ℕ) → k < n → row_of ys k ≡ k) → LeadsBack n xs ys
-LeadsBack-plain n xs ys count own owns = record {
-  count = count;
-  inside = λ x below. subst (λ k. k < n) (sym (own x below)) below;
-  leads = λ x below. ap (λ k. row_of ys k) (own x below) ∙ owns x below;
-}
 
 pub length-placed : (rows : List ℕ) (sums : List Sums) → length (placed rows sums) ≡ length rows
 length-placed rows sums = length-map rows (sums_at sums)
@@ -100,23 +91,23 @@ placed_at rows sums bit below = get_or-map (sums_at sums) rows bit 0 no_sums bel
 pub placed_past : (rows : List ℕ) (sums : List Sums) (bit : ℕ) → length rows ≤ bit → sums_at (placed rows sums) bit ≡ no_sums
 placed_past rows sums bit past = get_or_past (placed rows sums) bit no_sums (omega (arith, length-placed rows sums))
 
+-- where one row alone has changed, one bit alone has
+pub moved_others : {X : Type 0} (n : ℕ) (rows bits : List ℕ) → LeadsBack n rows bits → (new old : ℕ → X) (d : X) (end : ℕ) → end < n → ((row : ℕ) → row ≢ row_of rows end → new row ≡ old row) →
+    (bit : ℕ) → bit ≢ end → get_or (map new rows) bit d ≡ get_or (map old rows) bit d
+moved_others n rows bits h new old d end below others bit ne =
+    let count = h.count in
+    ⊎_elim
+    (λ (low : bit < length rows).
+    get_or-map new rows bit 0 d low
+    ∙ others (row_of rows bit) (λ same. ne (sym (h.leads bit (omega arith)) ∙ ap (λ k. row_of bits k) same ∙ h.leads end below))
+    ∙ sym (get_or-map old rows bit 0 d low))
+    (λ (past : length rows ≤ bit). get_or_past (map new rows) bit d (omega (arith, length-map rows new)) ∙ sym (get_or_past (map old rows) bit d (omega (arith, length-map rows old))))
+    (cases_lt bit (length rows))
+
 module _ (n : ℕ) (rows bits : List ℕ) (h : LeadsBack n rows bits) (old new : List Sums) where
-  -- where one row alone has changed, one bit alone has
   pub placed_others : (end : ℕ) → end < n → ((row : ℕ) → row ≢ row_of rows end → sums_at new row ≡ sums_at old row) →
       (bit : ℕ) → bit ≢ end → sums_at (placed rows new) bit ≡ sums_at (placed rows old) bit
-  placed_others end below others bit ne =
-      let count = h.count in
-      ⊎_elim
-      (λ (low : bit < n).
-      let here : bit < length rows = omega arith in
-      placed_at rows new bit here
-      ∙ others (row_of rows bit) (λ same. ne (sym (h.leads bit low) ∙ ap (λ k. row_of bits k) same ∙ h.leads end below))
-      ∙ sym (placed_at rows old bit here))
-      (λ (high : n ≤ bit). let past : length rows ≤ bit = omega arith in placed_past rows new bit past ∙ sym (placed_past rows old bit past))
-      (low_or_high bit n)
-    where
-      low_or_high : (i n : ℕ) → (i < n) ⊎ (n ≤ i)
-      low_or_high i n = grind arith
+  placed_others = moved_others n rows bits h (sums_at new) (sums_at old) no_sums
 
   -- what is carried from row to row is carried from bit to bit
   pub IsCarried-placed : (arc : TimingArc) → arc.from < n → arc.to < n → IsCarried (moved rows arc) old new → IsCarried arc (placed rows old) (placed rows new)

@@ -1,6 +1,7 @@
 -- Long paths and long sums.
-use Rattle.std.proofs.Common.{◌≡◌, ℕ, ◌<◌, ◌≤◌, ◌+◌, ◌-◌, ℤ, ◌≤ℤ◌, ◌<ℤ◌, pos, List, length, arith, sym, ◌⊎◌, ⊎_elim, Option, Some, None, subst}
+use Rattle.std.proofs.Common.{◌≡◌, ℕ, ◌<◌, ◌≤◌, ◌+◌, ◌-◌, ℤ, ◌≤ℤ◌, ◌<ℤ◌, pos, List, length, arith, sym, ⊎_elim, Option, Some, None, subst}
 use Rattle.std.specs.Prelude.{IfSome, IsSomeAnd}
+use Rattle.std.proofs.lemmas.Bool.{cases_lt}
 use Rattle.std.proofs.lemmas.Int.{ints}
 use Rattle.mintc_timing.specs.Design.{Design}
 use Rattle.mintc_timing.specs.Order.{ArePathsShort}
@@ -28,14 +29,8 @@ long_path design j bit (Some z) h g =
 not_long : (design : Design) (j bit : ℕ) (path : List ℕ) → greatest_delay design.arcs path ≤ℤ pos 1000000000 → IsLong design j bit path → ⊥
 not_long design j bit path h g = let above = g.1 in omega (arith, ints)
 
-pub AreShortBefore-none : (design : Design) → AreShortBefore design 0
-AreShortBefore-none design = λ j bit path below is. absurd (omega arith)
-
 pub AreShortBefore-all : (design : Design) (n : ℕ) → n ≤ length design.elements → ArePathsShort design → AreShortBefore design n
 AreShortBefore-all design n few short = λ j bit path below is. short j bit path (omega arith) is
-
-pub ArePathsShort-from_before : (design : Design) (n : ℕ) → n ≡ length design.elements → AreShortBefore design n → ArePathsShort design
-ArePathsShort-from_before design n e h = λ j bit path below is. h j bit path (omega arith) is
 
 module _ (design : Design) (first lanes : ℕ) (sums : List Sums) (h : AreExtremes design first lanes sums) (before : AreShortBefore design first) where
   -- no path from the element of a short lane is long
@@ -50,10 +45,7 @@ module _ (design : Design) (first lanes : ℕ) (sums : List Sums) (h : AreExtrem
       (λ (high : first ≤ j).
       let same : first + (j - first) ≡ j = omega arith in
       short_lane (j - first) (omega arith) (short (j - first) (omega arith)) bit path (subst (λ i. IsPath design.arcs i path bit) (sym same) is))
-      (low_or_high j first)
-    where
-      low_or_high : (i n : ℕ) → (i < n) ⊎ (n ≤ i)
-      low_or_high i n = grind arith
+      (cases_lt j first)
 
   pub AreShortBefore-more : ((lane : ℕ) → lane < lanes → IsShortLane sums lane) → AreShortBefore design (first + lanes)
   AreShortBefore-more short = short_from lanes (omega arith) short

@@ -112,17 +112,6 @@ module _ (extreme : Extreme) (arcs : List TimingArc) (order : List ℕ) (is_orde
       let all = b.4 in
       (subst (λ e. Leads arcs e traced end) (sym here) h.leads, omega (arith, ints))
 
-  -- before any arc is looked at
-  pub IsTraced-none : end < length sums → sum end ≡ Some best → IsTraced extreme arcs order sums from end best (length order) end []
-  IsTraced-none end_in is =
-      let found = at_some (sum end) (λ z. (path : List ℕ) × AreAmong order (length order) path × Leads arcs from path end × (total weight path ≡ z)) best is (best_sums end end_in).attained in
-      let whole = found.3 in
-      record {
-        inside = end_in;
-        leads = refl;
-        before = (found.0, found.1, found.2, ap Some found.3 ∙ sym is, omega (arith, ints));
-      }
-
 -- what a turn of the trace leaves
 abbrev pub KeepsTraced : Extreme → List TimingArc → List ℕ → List Sums → ℕ → ℕ → ℕ → List ℕ → Type 0
 KeepsTraced extreme arcs order sums end k bit path = (from : ℕ) (best : ℤ) → AreBestSums extreme arcs order from sums → sum_of extreme (sums_at sums end) ≡ Some best →

@@ -1,15 +1,17 @@
 -- Pairs turned back are those of the design.
-use Rattle.std.proofs.Common.{◌≡◌, ◌≢◌, ℕ, zero, suc, ◌<◌, ◌≤◌, ◌+◌, ◌-◌, ◌*◌, List, [], ◌∷◌, length, get_or, map, reverse, arith, refl, ap, ◌∙◌, sym, subst, ◌⊎◌, inl, inr, ⊎_elim}
-use Rattle.std.proofs.lemmas.Bool.{cases_eq}
+use Rattle.std.proofs.Common.{◌≡◌, ◌≢◌, ℕ, zero, suc, ◌<◌, ◌≤◌, ◌+◌, ◌-◌, ◌*◌, List, [], ◌∷◌, length, get_or, eqb, map, reverse, arith, refl, ap, ◌∙◌, sym, subst, ◌⊎◌, inl, inr, ⊎_elim}
+use Rattle.std.proofs.lemmas.Bool.{cases_lt}
+use Rattle.std.proofs.lemmas.Bool.Decides.{Decides-eqb}
 use Rattle.std.proofs.lemmas.List.{get_or-map}
-use Rattle.std.proofs.lemmas.List.Edits.{length-swap, swapped_from_swap}
-use Rattle.std.proofs.lemmas.List.Sorted.{IsPermutation-keeps, IsPermutation-refl, IsPermutation-cons, IsPermutation-swap, IsPermutation-trans, All-permutation, Contains-permutation, length_permutation}
+use Rattle.std.proofs.lemmas.Map.Keys.{IsDistinct-IsPermutation}
+use Rattle.std.proofs.lemmas.Map.Made.{AllPairs-from_IsDistinct, IsDistinct-from_AllPairs}
+use Rattle.std.proofs.lemmas.List.Sorted.{IsPermutation-map, IsPermutation-refl, IsPermutation-cons, IsPermutation-swap, IsPermutation-trans, All-permutation, Contains-permutation, length_permutation}
 use Rattle.std.proofs.lemmas.List.Elements.{All-cons}
 use Rattle.std.proofs.Math.ListN.{length-map}
-use Rattle.std.specs.List.{All, AllAdjacentBelow, Contains, swap}
+use Rattle.std.specs.List.{All, AllAdjacentBelow, AllPairs, Contains}
 use Rattle.std.specs.List.Sorted.{IsPermutation, IsNonDecreasingBy}
 use Rattle.mintc_timing.specs.declared.parts.Pair.{Pair}
-use Rattle.mintc_timing.specs.Design.{Design}
+use Rattle.mintc_timing.specs.Design.{Design, no_pair}
 use Rattle.mintc_timing.specs.Limits.{IsDesign}
 use Rattle.mintc_timing.specs.Paths.{IsPath, input_of, HasExtremes, ComesBefore}
 use Rattle.mintc_paths.specs.declared.found.Found.{Found}
@@ -20,42 +22,15 @@ use Rattle.mintc_paths.proofs.TurnedPaths.{forth, HasExtremes-back}
 
 -- No two pairs of the list have one key.
 abbrev AreApart : List Pair → Type 0
-AreApart pairs = (i j : ℕ) (d : Pair) → i < length pairs → j < length pairs → key_of (get_or pairs i d) ≡ key_of (get_or pairs j d) → i ≡ j
-
--- where an item comes from as two are exchanged
-came_from : (pairs : List Pair) (a b : ℕ) (d : Pair) → a < length pairs → b < length pairs → (i : ℕ) → i < length pairs →
-    (k : ℕ) × (k < length pairs) × (get_or (swap pairs a b) i d ≡ get_or pairs k d) × (((i ≡ a) × (k ≡ b)) ⊎ ((i ≡ b) × (k ≡ a)) ⊎ ((i ≢ a) × (i ≢ b) × (k ≡ i)))
-came_from pairs a b d in_a in_b i low =
-    let swapped = swapped_from_swap pairs (swap pairs a b) a b d in_a in_b refl in
-    ⊎_elim
-    (λ (e : i ≡ a). (b, in_b, ap (λ m. get_or (swap pairs a b) m d) e ∙ swapped.0, inl (e, refl)))
-    (λ (ne : i ≢ a). ⊎_elim
-    (λ (e : i ≡ b). (a, in_a, ap (λ m. get_or (swap pairs a b) m d) e ∙ swapped.1, inr (inl (e, refl))))
-    (λ (other : i ≢ b). (i, low, swapped.2 i ne other, inr (inr (ne, other, refl))))
-    (cases_eq i b))
-    (cases_eq i a)
-
-AreApart-swap : (pairs : List Pair) (a b : ℕ) → a < length pairs → b < length pairs → AreApart pairs → AreApart (swap pairs a b)
-AreApart-swap pairs a b in_a in_b h i j d low_i low_j e =
-    let count = length-swap pairs a b in
-    let from = came_from pairs a b d in_a in_b i (omega arith) in
-    let to = came_from pairs a b d in_a in_b j (omega arith) in
-    let same : from.0 ≡ to.0 = h from.0 to.0 d from.1 to.1 (ap key_of (sym from.2) ∙ e ∙ ap key_of to.2) in
-    at from.0 to.0 same from.3 to.3
-  where
-    at : (k l : ℕ) → k ≡ l → ((i ≡ a) × (k ≡ b)) ⊎ ((i ≡ b) × (k ≡ a)) ⊎ ((i ≢ a) × (i ≢ b) × (k ≡ i)) → ((j ≡ a) × (l ≡ b)) ⊎ ((j ≡ b) × (l ≡ a)) ⊎ ((j ≢ a) × (j ≢ b) × (l ≡ j)) → i ≡ j
-    at k l s (inl f) (inl g) = f.0 ∙ sym g.0
-    at k l s (inl f) (inr (inl g)) = f.0 ∙ sym g.1 ∙ sym s ∙ f.1 ∙ sym g.0
-    at k l s (inl f) (inr (inr g)) = absurd (g.1 (sym g.2 ∙ sym s ∙ f.1))
-    at k l s (inr (inl f)) (inl g) = f.0 ∙ sym g.1 ∙ sym s ∙ f.1 ∙ sym g.0
-    at k l s (inr (inl f)) (inr (inl g)) = f.0 ∙ sym g.0
-    at k l s (inr (inl f)) (inr (inr g)) = absurd (g.0 (sym g.2 ∙ sym s ∙ f.1))
-    at k l s (inr (inr f)) (inl g) = absurd (f.1 (sym f.2 ∙ s ∙ g.1))
-    at k l s (inr (inr f)) (inr (inl g)) = absurd (f.0 (sym f.2 ∙ s ∙ g.1))
-    at k l s (inr (inr f)) (inr (inr g)) = sym f.2 ∙ s ∙ g.2
+AreApart pairs = AllPairs (λ x y. x ≢ y) (map key_of pairs)
 
 AreApart-permutation : (xs ys : List Pair) → IsPermutation xs ys → AreApart xs → AreApart ys
-AreApart-permutation xs ys moved h = IsPermutation-keeps xs AreApart h (λ l i j low_i low_j g. AreApart-swap l i j low_i low_j g) ys moved
+AreApart-permutation xs ys moved h =
+    AllPairs-from_IsDistinct Decides-eqb (map key_of ys)
+    (IsDistinct-IsPermutation eqb eqb_flips (map key_of xs) (map key_of ys) (IsPermutation-map key_of xs ys moved) (IsDistinct-from_AllPairs Decides-eqb (map key_of xs) h))
+  where
+    eqb_flips : (x y : ℕ) → eqb x y ≡ eqb y x
+    eqb_flips x y = grind arith
 
 module _ (n : ℕ) (few : n ≤ 2000) (elements places : List ℕ) (back : LeadsBack n elements places) (pairs : List Pair)
     (inside : All (λ (p : Pair). (p.from < n) × (p.to < n)) pairs) (ascending : AllAdjacentBelow ComesBefore pairs (length pairs)) where
@@ -102,13 +77,16 @@ module _ (n : ℕ) (few : n ≤ 2000) (elements places : List ℕ) (back : Leads
       omega arith
 
   AreApart-back : AreApart (map (pair_back elements) pairs)
-  AreApart-back i j d low_i low_j e =
+  AreApart-back i j d less low_j e =
+      let turned : List Pair = map (pair_back elements) pairs in
       let count = length-map pairs (pair_back elements) in
+      let keys = length-map turned key_of in
       let in_i : i < length pairs = omega arith in
       let in_j : j < length pairs = omega arith in
-      let at_i = get_or-map (pair_back elements) pairs i d d in_i in
-      let at_j = get_or-map (pair_back elements) pairs j d d in_j in
-      one_place i j d in_i in_j (same_key (get_or pairs i d) (get_or pairs j d) (inside i d in_i).0 (inside j d in_j).0 (ap key_of (sym at_i) ∙ e ∙ ap key_of at_j))
+      let at_i = get_or-map key_of turned i no_pair d (omega arith) ∙ ap key_of (get_or-map (pair_back elements) pairs i no_pair no_pair in_i) in
+      let at_j = get_or-map key_of turned j no_pair d (omega arith) ∙ ap key_of (get_or-map (pair_back elements) pairs j no_pair no_pair in_j) in
+      let same = one_place i j no_pair in_i in_j (same_key (get_or pairs i no_pair) (get_or pairs j no_pair) (inside i no_pair in_i).0 (inside j no_pair in_j).0 (sym at_i ∙ e ∙ at_j)) in
+      omega arith
 
 -- keys that don't fall, of pairs apart, rise
 ascends : (n : ℕ) → n ≤ 2000 → (pairs : List Pair) → All (λ (p : Pair). p.to < n) pairs → AreApart pairs → IsNonDecreasingBy key_of pairs → AllAdjacentBelow ComesBefore pairs (length pairs)
@@ -117,22 +95,16 @@ ascends n few pairs inside apart sorted k d below =
     let order = sorted k (k + 1) d (omega arith) below in
     let here = inside k d low in
     let there = inside (k + 1) d below in
-    comes (get_or pairs k d) (get_or pairs (k + 1) d) (omega arith) (omega arith) order (λ e. let same = apart k (k + 1) d low below e in omega arith)
+    comes (get_or pairs k d) (get_or pairs (k + 1) d) (omega arith) (omega arith) order (λ e. apart k (k + 1) 0 (omega arith) (omega (arith, length-map pairs key_of)) (get_or-map key_of pairs k d 0 low ∙ e ∙ sym (get_or-map key_of pairs (k + 1) d 0 below)))
   where
     split : (a b x y : ℕ) → x < 2048 → y < 2048 → 2048 * a + x < 2048 * b + y → (a < b) ⊎ ((a ≡ b) × (x < y))
-    split a b x y in_x in_y h = ⊎_elim (λ (low : a < b). inl low) (λ (high : b ≤ a). let same : a ≡ b = omega arith in inr (same, omega arith)) (low_or_high a b)
-      where
-        low_or_high : (i n : ℕ) → (i < n) ⊎ (n ≤ i)
-        low_or_high i n = grind arith
+    split a b x y in_x in_y h = ⊎_elim (λ (low : a < b). inl low) (λ (high : b ≤ a). let same : a ≡ b = omega arith in inr (same, omega arith)) (cases_lt a b)
 
     comes : (p q : Pair) → p.to < 2048 → q.to < 2048 → key_of p ≤ key_of q → (key_of p ≡ key_of q → ⊥) → ComesBefore p q
     comes p q in_p in_q order ne = split p.from q.from p.to q.to in_p in_q (less (key_of p) (key_of q) order ne)
       where
         less : (x y : ℕ) → x ≤ y → (x ≡ y → ⊥) → x < y
-        less x y h ne = ⊎_elim (λ (low : x < y). low) (λ (high : y ≤ x). absurd (ne (omega arith))) (low_or_high x y)
-          where
-            low_or_high : (i n : ℕ) → (i < n) ⊎ (n ≤ i)
-            low_or_high i n = grind arith
+        less x y h ne = ⊎_elim (λ (low : x < y). low) (λ (high : y ≤ x). absurd (ne (omega arith))) (cases_lt x y)
 
 -- Keys don't fall along the list.
 Rising : List Pair → Type 0

@@ -1,5 +1,6 @@
 -- A design turned round has the same paths, from the back.
-use Rattle.std.proofs.Common.{◌≡◌, ◌≢◌, ℕ, ◌<◌, ◌≤◌, ◌+◌, ◌-◌, ◌*◌, ℤ, ◌≤ℤ◌, pos, List, [], ◌∷◌, ◌++◌, length, get_or, reverse, arith, refl, ap, ◌∙◌, sym, subst, ◌⊎◌, ⊎_elim}
+use Rattle.std.proofs.Common.{◌≡◌, ◌≢◌, ℕ, ◌<◌, ◌+◌, ◌-◌, ◌*◌, ℤ, ◌≤ℤ◌, pos, List, [], ◌∷◌, ◌++◌, length, get_or, reverse, arith, refl, ap, ◌∙◌, sym, subst, ⊎_elim}
+use Rattle.std.proofs.lemmas.Bool.{cases_lt}
 use Rattle.std.proofs.lemmas.Int.{ints}
 use Rattle.std.proofs.lemmas.List.{get_or-map, get_or_past, get_or-reverse, length-reverse, reverse-append}
 use Rattle.std.proofs.lemmas.List.Sorted.{Contains-permutation, IsPermutation-reverse}
@@ -38,9 +39,6 @@ some-reverse : (path : List ℕ) → path ≢ [] → reverse path ≢ []
 some-reverse [] some e = some refl
 some-reverse (n ∷ path) some e = let same = length-reverse (n ∷ path) in let none = ap (λ (xs : List ℕ). length xs) e in absurd (omega arith)
 
-low_or_high : (i n : ℕ) → (i < n) ⊎ (n ≤ i)
-low_or_high i n = grind arith
-
 module _ (n m : ℕ) (places elements : List ℕ) (there : LeadsBack n places elements) (back : LeadsBack n elements places) (arcs : List TimingArc)
     (each : All (IsArc n m) arcs) where
   abbrev turned : List TimingArc
@@ -55,15 +53,11 @@ module _ (n m : ℕ) (places elements : List ℕ) (there : LeadsBack n places el
   count_turned : length turned ≡ length arcs
   count_turned = length-map arcs (turned_arc n places)
 
-  max_turned : (k : ℕ) → (arc_at turned k).max ≡ (arc_at arcs k).max
-  max_turned k = ⊎_elim (λ low. ap (λ (a : TimingArc). a.max) (arc_turned k low))
-      (λ high. ap (λ (a : TimingArc). a.max) (get_or_past turned k no_arc (omega (arith, count_turned)) ∙ sym (get_or_past arcs k no_arc high)))
-      (low_or_high k (length arcs))
-
-  min_turned : (k : ℕ) → (arc_at turned k).min ≡ (arc_at arcs k).min
-  min_turned k = ⊎_elim (λ low. ap (λ (a : TimingArc). a.min) (arc_turned k low))
-      (λ high. ap (λ (a : TimingArc). a.min) (get_or_past turned k no_arc (omega (arith, count_turned)) ∙ sym (get_or_past arcs k no_arc high)))
-      (low_or_high k (length arcs))
+  -- what the turning leaves of an arc
+  same_turned : (of : TimingArc → ℤ) → ((arc : TimingArc) → of (turned_arc n places arc) ≡ of arc) → (k : ℕ) → of (arc_at turned k) ≡ of (arc_at arcs k)
+  same_turned of kept k = ⊎_elim (λ low. ap of (arc_turned k low) ∙ kept (arc_at arcs k))
+      (λ high. ap of (get_or_past turned k no_arc (omega (arith, count_turned)) ∙ sym (get_or_past arcs k no_arc high)))
+      (cases_lt k (length arcs))
 
   -- A path of the one is a path of the other, from the back.
   pub Leads-forth : (from to : ℕ) (path : List ℕ) → Leads arcs from path to → Leads turned (goes to) (reverse path) (goes from)
@@ -152,17 +146,19 @@ module _ (n m : ℕ) (places elements : List ℕ) (there : LeadsBack n places el
   back_again a b path from to h =
       subst (λ x. IsPath turned x (reverse path) (input_of b)) (back.leads a from) (forth b (row_of elements a) path to (back.inside a from) h)
 
+  sum_turned : (of : TimingArc → ℤ) → ((arc : TimingArc) → of (turned_arc n places arc) ≡ of arc) → (path : List ℕ) →
+      total (λ k. of (arc_at turned k)) (reverse path) ≡ total (λ k. of (arc_at arcs k)) path
+  sum_turned of kept path = total-reverse (λ k. of (arc_at turned k)) path ∙ total-alike (λ k. of (arc_at turned k)) (λ k. of (arc_at arcs k)) path (same_turned of kept)
+
+  sum_back : (of : TimingArc → ℤ) → ((arc : TimingArc) → of (turned_arc n places arc) ≡ of arc) → (path : List ℕ) →
+      total (λ k. of (arc_at arcs k)) (reverse path) ≡ total (λ k. of (arc_at turned k)) path
+  sum_back of kept path = total-reverse (λ k. of (arc_at arcs k)) path ∙ sym (total-alike (λ k. of (arc_at turned k)) (λ k. of (arc_at arcs k)) path (same_turned of kept))
+
   max_sum : (path : List ℕ) → total (λ k. (arc_at turned k).max) (reverse path) ≡ total (λ k. (arc_at arcs k).max) path
-  max_sum path = total-reverse (λ k. (arc_at turned k).max) path ∙ total-alike (λ k. (arc_at turned k).max) (λ k. (arc_at arcs k).max) path max_turned
+  max_sum = sum_turned (λ (a : TimingArc). a.max) (λ arc. refl)
 
   max_sum_back : (path : List ℕ) → total (λ k. (arc_at arcs k).max) (reverse path) ≡ total (λ k. (arc_at turned k).max) path
-  max_sum_back path = total-reverse (λ k. (arc_at arcs k).max) path ∙ sym (total-alike (λ k. (arc_at turned k).max) (λ k. (arc_at arcs k).max) path max_turned)
-
-  min_sum : (path : List ℕ) → total (λ k. (arc_at turned k).min) (reverse path) ≡ total (λ k. (arc_at arcs k).min) path
-  min_sum path = total-reverse (λ k. (arc_at turned k).min) path ∙ total-alike (λ k. (arc_at turned k).min) (λ k. (arc_at arcs k).min) path min_turned
-
-  min_sum_back : (path : List ℕ) → total (λ k. (arc_at arcs k).min) (reverse path) ≡ total (λ k. (arc_at turned k).min) path
-  min_sum_back path = total-reverse (λ k. (arc_at arcs k).min) path ∙ sym (total-alike (λ k. (arc_at turned k).min) (λ k. (arc_at arcs k).min) path min_turned)
+  max_sum_back = sum_back (λ (a : TimingArc). a.max) (λ arc. refl)
 
   pub greatest_back : (a b : ℕ) (x : ℤ) → a < n → b < n → IsGreatestDelay turned a (input_of b) x → IsGreatestDelay arcs b (input_of (row_of elements a)) x
   greatest_back a b x from to h = record {
@@ -172,8 +168,8 @@ module _ (n m : ℕ) (places elements : List ℕ) (there : LeadsBack n places el
 
   pub least_back : (a b : ℕ) (x : ℤ) → a < n → b < n → IsLeastDelay turned a (input_of b) x → IsLeastDelay arcs b (input_of (row_of elements a)) x
   least_back a b x from to h = record {
-    attained = let at = h.attained in (reverse at.0, from_back a b at.0 from to at.1, min_sum_back at.0 ∙ at.2);
-    bound = λ path g. subst (λ z. x ≤ℤ z) (min_sum path) (h.bound (reverse path) (back_again a b path from to g));
+    attained = let at = h.attained in (reverse at.0, from_back a b at.0 from to at.1, sum_back (λ (a : TimingArc). a.min) (λ arc. refl) at.0 ∙ at.2);
+    bound = λ path g. subst (λ z. x ≤ℤ z) (sum_turned (λ (a : TimingArc). a.min) (λ arc. refl) path) (h.bound (reverse path) (back_again a b path from to g));
   }
 
 module _ (design : Design) (places elements : List ℕ) (kept : IsDesign design) (there : LeadsBack (length design.elements) places elements) (back : LeadsBack (length design.elements) elements places) where

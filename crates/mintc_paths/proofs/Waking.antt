@@ -1,10 +1,6 @@
 -- The arcs that are awake along a course.
-use Rattle.std.proofs.Common.{◌≡◌, ◌≢◌, ℕ, ◌<◌, ◌≤◌, ◌+◌, ◌^◌, Bool, false, List, [], length, get_or, replicate, take, drop, ◌++◌, ap, ◌∙◌, ◌⊎◌, ⊎_elim, arith, sym, subst}
-use Rattle.std.proofs.lemmas.List.{get_or-replicate, length-replicate, get_or_past}
-use Rattle.std.proofs.Math.Seq.{take-append_seam}
-use Rattle.std.specs.Prelude.{All}
-use Rattle.mintc_places.specs.Places.{IsIn, room}
-use Rattle.mintc_places.specs.declared.places.Places.{Places}
+use Rattle.std.proofs.Common.{◌≡◌, ◌≢◌, ℕ, ◌≤◌, ◌+◌, Bool, false, List, length, get_or, arith}
+use Rattle.mintc_places.specs.Places.{IsIn}
 use Rattle.mintc_timing.specs.declared.parts.TimingArc.{TimingArc}
 use Rattle.mintc_timing.specs.Paths.{arc_at}
 use Rattle.mintc_paths.specs.Awake.{IsReady, IsAwake}
@@ -33,7 +29,3 @@ IsAwake-none along place reached awake ready off = record { ready = ready; each 
 
 pub IsReady-fewer : (few many : ℕ) (awake : Awake) → few ≤ many → IsReady many awake → IsReady few awake
 IsReady-fewer few many awake less h = record { room = let before = h.room in omega arith; few = h.few }
-
--- a list that is written over the whole of another
-pub written_over : {X : Type 0} (n : ℕ) (new old : List X) → n ≡ length new → take n (new ++ drop (length new) old) ≡ new
-written_over n new old e = ap (λ k. take k (new ++ drop (length new) old)) e ∙ take-append_seam new (drop (length new) old)

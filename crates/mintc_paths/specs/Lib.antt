@@ -11,5 +11,6 @@ pub mod Existing
 pub mod Finding
 pub mod Turned
 pub mod Ordered
+pub mod Plans
 pub mod Awake
 pub mod Held

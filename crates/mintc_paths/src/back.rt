@@ -8,7 +8,7 @@ ghost use Rattle.mintc_paths.specs.Ordered.{Ordered, ordered};
 ghost use Rattle.mintc_paths.specs.Sums.{AreRows, IsCourse};
 ghost use Rattle.mintc_paths.specs.Turned.{turned_design, turned_arcs, pair_back, key_of};
 
-use crate::blocks::find_along;
+use crate::blocks::{Plan, find_along};
 use crate::found::Found;
 use crate::rows::{Course, Rows};
 use crate::turned::{places_along, turned_course};
@@ -66,7 +66,12 @@ fn find_turned(
     ensures found { IfOk result (IsFoundBefore (turned_design places.now.of_bits.items flat.now) (length flat.now.elements) 0) }
 {
     let elements = flat.elements().len() as u32;
-    match find_along(alloc, course, elements, true) {
+    let plan = Plan {
+        course,
+        elements,
+        known_short: true,
+    };
+    match find_along(alloc, &plan) {
         Ok(found) => Ok(found),
         Err(_) => Err(OutOfMemory),
     }

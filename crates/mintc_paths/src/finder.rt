@@ -5,7 +5,7 @@ ghost use Rattle.std.specs.Prelude.{◌≡◌, ◌<◌, ◌^◌, IfOk};
 ghost use Rattle.mintc_timing.specs.Paths.{IsPath, input_of, greatest_delay, least_delay};
 ghost use Rattle.mintc_paths.specs.Finding.{IsDelayOf, IsListedWith};
 
-use crate::listed::is_listed_with;
+use crate::listed::{Wanted, is_listed_with};
 use crate::reached::{Arrival, Reached};
 use crate::route::best_path;
 use crate::steps::Steps;
@@ -26,16 +26,12 @@ pub struct Finder {
 impl Finder {
     /// A search over the arcs of a system, which is to be that of each call.
     pub fn new(alloc: Global, system: &System) -> Result<Finder, OutOfMemory> {
-        match Finder::over(alloc, system) {
-            Ok(finder) => Ok(finder),
-            Err(_) => Err(OutOfMemory),
-        }
-    }
-
-    /// `new`, with the allocator's error.
-    fn over(alloc: Global, system: &System) -> Result<Finder, AllocError> {
-        let steps = Steps::new(alloc, system.flat(), system.order())?;
-        let reached = Reached::new(alloc, steps.count())?;
+        let Ok(steps) = Steps::new(alloc, system.flat(), system.order()) else {
+            return Err(OutOfMemory);
+        };
+        let Ok(reached) = Reached::new(alloc, steps.given as usize) else {
+            return Err(OutOfMemory);
+        };
         Ok(Finder {
             steps,
             reached,
@@ -133,30 +129,28 @@ impl Finder {
         Ok(path)
     }
 
-    /// The arcs of a listed path from one element to another with the greatest or the least sum, which is known.
+    /// The arcs of a path that is asked for.
     fn path_by(
         &mut self,
         alloc: Global,
-        extreme: Extreme,
         system: &System,
-        from: u32,
-        to: u32,
-        delay: i64,
+        wanted: Wanted,
     ) -> Result<Numbers, OutOfMemory>
-        requires { IsDelayOf extreme system.now.pairs from to delay }
-        ensures { IfOk result (IsListedWith extreme system.now.flat.arcs from to delay) }
+        requires { IsDelayOf wanted.extreme system.now.pairs wanted.from wanted.to wanted.delay }
+        ensures { IfOk result (IsListedWith wanted.extreme system.now.flat.arcs wanted.from wanted.to wanted.delay) }
     {
         let _pairs = system.pairs();
         let _elements = system.flat().elements();
         let arcs = system.flat().arcs();
-        let Ok(path) = self.search(alloc, extreme, arcs, 2 * from + 1, 2 * to) else {
+        let (start, end) = (2 * wanted.from + 1, 2 * wanted.to);
+        let Ok(path) = self.search(alloc, wanted.extreme, arcs, start, end) else {
             return Err(OutOfMemory);
         };
-        if is_listed_with(extreme, system.flat(), &path, from, to, delay) {
+        if is_listed_with(system.flat(), &path, wanted) {
             return Ok(Numbers::new(path));
         }
         self.missed = self.missed.saturating_add(1);
-        best_path(alloc, extreme, system, from, to)
+        best_path(alloc, wanted.extreme, system, wanted.from, wanted.to)
     }
 
     /// How many of the paths that were asked for the search hasn't found, so that a sweep over all arcs had to. Nothing is
@@ -179,7 +173,13 @@ impl Finder {
         ensures path { IfOk result (λ path. IsPath system.now.flat.arcs from path (input_of to)) }
         ensures delay { IfOk result (λ path. greatest_delay system.now.flat.arcs path ≡ delay) }
     {
-        self.path_by(alloc, Extreme::Greatest, system, from, to, delay)
+        let wanted = Wanted {
+            extreme: Extreme::Greatest,
+            from,
+            to,
+            delay,
+        };
+        self.path_by(alloc, system, wanted)
     }
 
     /// The arcs of a listed path from one element to another with the least sum, which is `delay`, in femtoseconds. It is
@@ -196,6 +196,12 @@ impl Finder {
         ensures path { IfOk result (λ path. IsPath system.now.flat.arcs from path (input_of to)) }
         ensures delay { IfOk result (λ path. least_delay system.now.flat.arcs path ≡ delay) }
     {
-        self.path_by(alloc, Extreme::Least, system, from, to, delay)
+        let wanted = Wanted {
+            extreme: Extreme::Least,
+            from,
+            to,
+            delay,
+        };
+        self.path_by(alloc, system, wanted)
     }
 }

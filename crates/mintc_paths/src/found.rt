@@ -1,6 +1,7 @@
 //! Pairs as they are found.
 ghost use Rattle.std.specs.Prelude.{◌≡◌, ◌<◌, ◌≤◌, ◌^◌, ◌+◌, ◌*◌, ◌++◌, ◌∷◌, List, [], length, OnOk};
 
+use crate::filled::Filled;
 use crate::held::Held;
 use crate::rows::Rows;
 use crate::sums::{Sums, sum_in};
@@ -114,31 +115,20 @@ impl Found {
         Ok(())
     }
 
-    /// The pairs from so many elements, whose sums are in the lanes.
-    pub fn add_all(
-        &mut self,
-        sums: &Held,
-        reached: &[bool],
-        rows: &Rows,
-        elements: u32,
-        first: u32,
-        lanes: usize,
-    ) -> Result<(), OutOfMemory>
+    /// The pairs from a block's elements, of a design with so many.
+    pub fn add_all(&mut self, block: &Filled, elements: u32) -> Result<(), OutOfMemory>
         ghost design: { Design }
         requires elements { elements ≡ length design.elements }
         requires limit { elements ≤ 2000 }
-        requires bits { 2 * elements ≤ length sums.now }
-        requires rows { AreRows (length sums.now) rows.now }
-        requires marked { AreMarked sums.now reached.now }
-        requires inside { first + lanes ≤ elements }
-        requires lanes { lanes ≤ 8 }
-        requires extremes { AreExtremes design first lanes (placed rows.now.of_bits.items sums.now) }
-        requires found { IsFoundBefore design first 0 self.old }
-        ensures { OnOk result (IsFoundBefore design (first + lanes) 0 self.new) }
+        requires bits { 2 * elements ≤ length block.now.sums.now }
+        requires inside { block.now.first + block.now.lanes ≤ elements }
+        requires extremes { AreExtremes design block.now.first block.now.lanes (placed block.now.rows.now.of_bits.items block.now.sums.now) }
+        requires found { IsFoundBefore design block.now.first 0 self.old }
+        ensures { OnOk result (IsFoundBefore design (block.now.first + block.now.lanes) 0 self.new) }
     {
-        self.list_ends(reached, rows, elements)?;
-        for lane in 0..lanes {
-            self.add_from(sums, rows, first + lane as u32, lane)?;
+        self.list_ends(block.reached, block.rows, elements)?;
+        for lane in 0..block.lanes {
+            self.add_from(block.sums, block.rows, block.first + lane as u32, lane)?;
         }
         Ok(())
     }

@@ -1,8 +1,12 @@
 //! The pairs of a design with the extremes of their listed paths, and a path for each of these.
 //!
-//! The sums of eight elements at a time stand in rows, one for each bit, and are carried along an order of the arcs (the
-//! longest paths of a graph without loops; T. H. Cormen and others, "Introduction to Algorithms", 2009, section 24.2). A path
-//! is traced back from its end. A `Finder` does so for many pairs, by sweeps of what lies between their elements alone.
+//! The greatest and the least sums from eight elements stand in rows of eight, one for each bit, a lane for each element. The
+//! rows are filled by one pass over the arcs in their order, each after all arcs into the bit that it leaves: so are the longest
+//! and the shortest paths of a graph without loops found (the order after A. B. Kahn, "Topological sorting of large networks",
+//! 1962; the pass in T. H. Cormen and others, "Introduction to Algorithms", 2009, section 24.2). Only arcs that leave rows that
+//! are reached are looked at. Where few inputs are entered, sums are carried from there back, through the design turned round. A
+//! path is traced back from its end. A `Finder` does so for many pairs, by sweeps of what lies between their elements alone.
+//! The crates above get all pairs, or the first path that is too long, and a path with the sum that they ask for.
 #![tactic(auto)]
 
 ghost use Rattle.std.specs.Prelude.{◌≡◌, ◌≤◌, length, All, IfOk, IfErr, OnOk};
@@ -16,6 +20,7 @@ ghost use Rattle.mintc_paths.specs.Trace.{IsPairOf};
 mod awake;
 mod back;
 mod blocks;
+mod filled;
 mod finder;
 mod found;
 mod held;

@@ -6,23 +6,25 @@ ghost use Rattle.mintc_paths.specs.Finding.{IsListedWith};
 use crate::trace::{Extreme, delay_at};
 use mintc_timing::Flat;
 
-/// Whether the arcs are a listed path from one element to another that has this sum, in femtoseconds.
-pub fn is_listed_with(
-    extreme: Extreme,
-    flat: &Flat,
-    path: &[u32],
-    from: u32,
-    to: u32,
-    sum: i64,
-) -> bool
-    ensures { OnTrue result (IsListedWith extreme flat.now.arcs from to sum path.now) }
+/// A path that is asked for: from one element to another, with the greatest or the least sum, which is known, in femtoseconds.
+#[derive(Clone, Copy)]
+pub struct Wanted {
+    pub extreme: Extreme,
+    pub from: u32,
+    pub to: u32,
+    pub delay: i64,
+}
+
+/// Whether the arcs are a path that is asked for.
+pub fn is_listed_with(flat: &Flat, path: &[u32], wanted: Wanted) -> bool
+    ensures { OnTrue result (IsListedWith wanted.extreme flat.now.arcs wanted.from wanted.to wanted.delay path.now) }
 {
     let _elements = flat.elements();
     let arcs = flat.arcs();
     if path.is_empty() || path.len() > arcs.len() {
         return false;
     }
-    let mut bit = 2 * u64::from(from) + 1;
+    let mut bit = 2 * u64::from(wanted.from) + 1;
     let mut summed = 0;
     for number in path {
         if *number as usize >= arcs.len() {
@@ -33,7 +35,7 @@ pub fn is_listed_with(
             return false;
         }
         bit = u64::from(arc.to);
-        summed += delay_at(extreme, arc);
+        summed += delay_at(wanted.extreme, arc);
     }
-    bit == 2 * u64::from(to) && summed == sum
+    bit == 2 * u64::from(wanted.to) && summed == wanted.delay
 }

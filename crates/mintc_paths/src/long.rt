@@ -1,24 +1,23 @@
 //! The search for a sum above the limit.
-ghost use Rattle.std.specs.Prelude.{◌<◌, ◌≤◌, ◌<ℤ◌, ◌≤ℤ◌, ℕ, pos, length, MatchOption, IfSome, IsSomeAnd};
+ghost use Rattle.std.specs.Prelude.{◌<◌, ◌≤◌, ◌+◌, ◌^◌, ◌<ℤ◌, ◌≤ℤ◌, ℕ, pos, length, MatchOption, IfSome, IfErr, OnOk, IsSomeAnd};
 ghost use Rattle.std.specs.Bool.{OnTrue, OnFalse};
 ghost use Rattle.mintc_lanes.specs.Lanes.{lane_at, AreLanes};
 ghost use Rattle.mintc_paths.specs.Sums.{AreMarked, AreRows, placed, sums_at};
-ghost use Rattle.mintc_paths.specs.Long.{IsShortLane, IsFirstBit, IsFirstLane};
+ghost use Rattle.mintc_paths.specs.Long.{IsShortLane, IsFirstBit};
+ghost use Rattle.mintc_paths.specs.Reached.{AreExtremes};
+ghost use Rattle.mintc_paths.specs.Refusals.{AreShortBefore, IsPathRange};
+ghost use Rattle.mintc_timing.specs.Design.{Design};
+ghost use Rattle.mintc_timing.specs.Order.{ArePathsShort};
 
+use crate::filled::Filled;
 use crate::held::Held;
 use crate::rows::Rows;
 use crate::sums::Sums;
 use mintc_lanes::max_row;
+use mintc_text::Refusal;
 
 /// The greatest sum of a path, in femtoseconds.
 pub const LIMIT: i64 = 1_000_000_000;
-
-/// The lane of the first element with a sum above the limit, and the first bit with such a sum of it.
-#[derive(Clone, Copy)]
-pub struct Place {
-    pub lane: usize,
-    pub bit: usize,
-}
 
 /// Whether no sum is above the limit.
 fn are_short(sums: &Held, reached: &[bool]) -> bool
@@ -60,22 +59,33 @@ fn first_bit(sums: &Held, rows: &Rows, lane: usize) -> Option<usize>
     None
 }
 
-/// The first of so many lanes with a sum above the limit, and the first such bit.
-pub fn first_long(sums: &Held, reached: &[bool], rows: &Rows, lanes: usize) -> Option<Place>
-    requires rows { AreRows (length sums.now) rows.now }
-    requires marked { AreMarked sums.now reached.now }
-    requires bounded { (row : ℕ) → row < length sums.now → AreLanes (sums_at sums.now row).greatest }
-    requires lanes { lanes ≤ 8 }
-    ensures { MatchOption result ((lane : ℕ) → lane < lanes → IsShortLane (placed rows.now.of_bits.items sums.now) lane)
-        (λ place. IsFirstLane (placed rows.now.of_bits.items sums.now) lanes place.lane place.bit) }
+/// Refuses the first path that is too long among those from a block's elements. Where it is known that no path is, there is
+/// nothing to look for.
+pub fn refuse_long(block: &Filled, known_short: bool) -> Result<(), Refusal>
+    ghost design: { Design }
+    requires few { length design.elements ≤ 2000 }
+    requires some { length block.now.sums.now ≤ 2 ^ 20 }
+    requires elements { block.now.first + block.now.lanes ≤ length design.elements }
+    requires extremes { AreExtremes design block.now.first block.now.lanes (placed block.now.rows.now.of_bits.items block.now.sums.now) }
+    requires bounded { (row : ℕ) → row < length block.now.sums.now → AreLanes (sums_at block.now.sums.now row).greatest }
+    requires short { AreShortBefore design block.now.first }
+    requires known { OnTrue known_short (ArePathsShort design) }
+    ensures short { OnOk result (AreShortBefore design (block.now.first + block.now.lanes)) }
+    ensures refusal { IfErr result (IsPathRange design) }
 {
-    if are_short(sums, reached) {
-        return None;
+    if known_short {
+        return Ok(());
     }
-    for lane in 0..lanes {
-        if let Some(bit) = first_bit(sums, rows, lane) {
-            return Some(Place { lane, bit });
+    if are_short(block.sums, block.reached) {
+        return Ok(());
+    }
+    for lane in 0..block.lanes {
+        if let Some(bit) = first_bit(block.sums, block.rows, lane) {
+            return Err(Refusal::PathRange {
+                element: block.first + lane as u32,
+                bit: bit as u32,
+            });
         }
     }
-    None
+    Ok(())
 }

@@ -55,18 +55,6 @@ fn are_within(sums: &[i64]) -> bool
     true
 }
 
-/// Whether no arcs in a row have a sum above the limit, by the sums in the rows, which are 0 at first.
-fn are_arcs_short(sums: &mut [i64], flat: &Flat, order: &Order, course: &Course) -> bool
-    requires order { IsOrder flat.now.arcs order.now }
-    requires bits { length sums.old ≡ 2 * length flat.now.elements + length flat.now.inner }
-    requires course { IsCourse (length sums.old) flat.now.arcs order.now course.now }
-    requires none { AreCarried flat.now.arcs order.now 0 (bit_sums course.now.rows.of_bits.items sums.old) }
-    ensures { OnTrue result (AreRunsShort flat.now.arcs) }
-{
-    raise_all(sums, flat, order, course);
-    are_within(sums)
-}
-
 /// Whether no arcs in a row have a sum above the limit, wherever they begin.
 pub fn are_runs_short(
     alloc: Global,
@@ -79,7 +67,8 @@ pub fn are_runs_short(
     ensures { IfOk result (λ short. OnTrue short (AreRunsShort flat.now.arcs)) }
 {
     let mut sums = vec![in alloc; 0; course.rows.of_bits.len()]?;
-    Ok(are_arcs_short(&mut sums, flat, order, course))
+    raise_all(&mut sums, flat, order, course);
+    Ok(are_within(&sums))
 }
 
 /// Whether it is plain that no path is too long, since no arcs in a row are, wherever they begin.

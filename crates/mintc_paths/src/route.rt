@@ -2,7 +2,7 @@
 ghost use Rattle.std.specs.Prelude.{◌≡◌, ◌<◌, ℕ, ◌+◌, ◌*◌, length, IfOk};
 ghost use Rattle.mintc_timing.specs.Order.{IsOrder};
 ghost use Rattle.mintc_paths.specs.Ordered.{Ordered, ordered};
-ghost use Rattle.mintc_paths.specs.Sums.{row_of, IsCourse, AreMarked};
+ghost use Rattle.mintc_paths.specs.Sums.{row_of, IsCourse};
 ghost use Rattle.mintc_paths.specs.Trace.{IsPairOf, IsOfPair};
 
 use crate::awake::Awake;
@@ -25,41 +25,6 @@ fn plain_course(alloc: Global, flat: &Flat, order: &Order) -> Result<Course, All
     Course::new(alloc, flat, order, rows)
 }
 
-/// The arcs of a listed path from one element to another with the greatest or the least sum, which go through `sums`.
-fn path_by(
-    alloc: Global,
-    extreme: Extreme,
-    system: &System,
-    sums: &mut Held,
-    reached: &mut [bool],
-    from: u32,
-    to: u32,
-) -> Result<Numbers, OutOfMemory>
-    ghost of: { Ordered }
-    requires of { of ≡ ordered system.now.flat system.now.order }
-    requires marked { AreMarked sums.old reached.old }
-    requires bits { length sums.old ≡ 2 * length system.now.flat.elements + length system.now.flat.inner }
-    requires pair { IsPairOf system.now.pairs from to }
-    ensures { IfOk result (IsOfPair extreme system.now from to) }
-{
-    let _pairs = system.pairs();
-    let (flat, order) = (system.flat(), system.order());
-    let _elements = flat.elements();
-    let Ok(course) = plain_course(alloc, flat, order) else {
-        return Err(OutOfMemory);
-    };
-    let Ok(mut awake) = Awake::new(alloc, course.along.len()) else {
-        return Err(OutOfMemory);
-    };
-    let Ok(()) = fill(sums, reached, &mut awake, &course, from, 1) else {
-        return Err(OutOfMemory);
-    };
-    match trace(alloc, extreme, flat, order, sums, 2 * to) {
-        Ok(path) => Ok(Numbers::new(path)),
-        Err(_) => Err(OutOfMemory),
-    }
-}
-
 /// The arcs of a listed path from one element to another with the greatest or the least sum.
 pub fn best_path(
     alloc: Global,
@@ -68,10 +33,13 @@ pub fn best_path(
     from: u32,
     to: u32,
 ) -> Result<Numbers, OutOfMemory>
-    requires { IsPairOf system.now.pairs from to }
+    ghost of: { Ordered }
+    requires of { of ≡ ordered system.now.flat system.now.order }
+    requires pair { IsPairOf system.now.pairs from to }
     ensures { IfOk result (IsOfPair extreme system.now from to) }
 {
-    let flat = system.flat();
+    let _pairs = system.pairs();
+    let (flat, order) = (system.flat(), system.order());
     let bits = 2 * flat.elements().len() + flat.inner().items().len();
     let Ok(mut sums) = Held::new(alloc, bits) else {
         return Err(OutOfMemory);
@@ -79,5 +47,17 @@ pub fn best_path(
     let Ok(mut reached) = vec![in alloc; false; bits] else {
         return Err(OutOfMemory);
     };
-    path_by(alloc, extreme, system, &mut sums, &mut reached, from, to)
+    let Ok(course) = plain_course(alloc, flat, order) else {
+        return Err(OutOfMemory);
+    };
+    let Ok(mut awake) = Awake::new(alloc, course.along.len()) else {
+        return Err(OutOfMemory);
+    };
+    let Ok(()) = fill(&mut sums, &mut reached, &mut awake, &course, from, 1) else {
+        return Err(OutOfMemory);
+    };
+    match trace(alloc, extreme, flat, order, &sums, 2 * to) {
+        Ok(path) => Ok(Numbers::new(path)),
+        Err(_) => Err(OutOfMemory),
+    }
 }

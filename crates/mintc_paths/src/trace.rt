@@ -39,25 +39,7 @@ pub fn delay_at(extreme: Extreme, arc: &TimingArc) -> i64
     }
 }
 
-/// Whether the best sum to the bit that the arc enters goes through the arc.
-fn is_through(extreme: Extreme, sums: &Held, arc: &TimingArc) -> bool
-    requires from { arc.now.from < length sums.now }
-    requires to { arc.now.to < length sums.now }
-    requires min { IsDelay arc.now.min }
-    requires max { IsDelay arc.now.max }
-    requires bounded { IsBounded 1000000000000000 (sums_at sums.now arc.now.from) }
-    ensures { IsTrue result ↔ IsThrough extreme sums.now arc.now }
-{
-    let Some(before) = sum_at(extreme, sums.at(arc.from as usize)) else {
-        return false;
-    };
-    let Some(after) = sum_at(extreme, sums.at(arc.to as usize)) else {
-        return false;
-    };
-    before + delay_at(extreme, arc) == after
-}
-
-/// Whether a best path to the bit can end with the arc.
+/// Whether a best path to the bit can end with the arc: whether it enters the bit, and the best sum there goes through it.
 fn is_last(extreme: Extreme, sums: &Held, arc: &TimingArc, bit: u32) -> bool
     requires from { arc.now.from < length sums.now }
     requires to { arc.now.to < length sums.now }
@@ -66,7 +48,16 @@ fn is_last(extreme: Extreme, sums: &Held, arc: &TimingArc, bit: u32) -> bool
     requires bounded { IsBounded 1000000000000000 (sums_at sums.now arc.now.from) }
     ensures { IsTrue result ↔ ((arc.now.to ≡ bit) × IsThrough extreme sums.now arc.now) }
 {
-    arc.to == bit && is_through(extreme, sums, arc)
+    if arc.to != bit {
+        return false;
+    }
+    let Some(before) = sum_at(extreme, sums.at(arc.from as usize)) else {
+        return false;
+    };
+    let Some(after) = sum_at(extreme, sums.at(arc.to as usize)) else {
+        return false;
+    };
+    before + delay_at(extreme, arc) == after
 }
 
 /// The arcs of a path to a bit with the best sum.

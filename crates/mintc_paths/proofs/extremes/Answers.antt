@@ -3,14 +3,8 @@ use Rattle.mintc_paths.proofs.Finding.{pairs_found, few_found, many_found}
 use Rattle.mintc_paths.proofs.Refusing.{stop_passed_on}
 use Rattle.mintc_paths.proofs.extremes.Goals as goal
 
-pub find-requires : goal.find-requires
-find-requires c = c.requires
-
 pub returns-in_err-pairs-clause-stop : goal.returns-in_err-pairs-clause-stop
 returns-in_err-pairs-clause-stop c = stop_passed_on c.args.flat.now c.in_err-pairs.field-0.0 c.from_residual.result c.in_err-pairs.ensures.stop c.from_residual.ensures.1
-
-pub returns-then-count-gt200000-clause-short : goal.returns-then-count-gt200000-clause-short
-returns-then-count-gt200000-clause-short c = tt
 
 pub returns-then-count-gt200000-clause-stop : goal.returns-then-count-gt200000-clause-stop
 returns-then-count-gt200000-clause-stop c =
@@ -23,9 +17,3 @@ returns-clause-pairs c = pairs_found c.args.flat.now c.in_ok-pairs.field-0 c.in_
 
 pub returns-clause-few : goal.returns-clause-few
 returns-clause-few c = few_found c.args.flat.now c.in_ok-pairs.field-0 c.in_ok-pairs.ensures.found (omega arith)
-
-pub returns-clause-short : goal.returns-clause-short
-returns-clause-short c = c.in_ok-pairs.ensures.short
-
-pub returns-clause-stop : goal.returns-clause-stop
-returns-clause-stop c = tt

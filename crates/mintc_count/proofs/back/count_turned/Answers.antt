@@ -1,9 +1,8 @@
-use Rattle.std.proofs.Common.{ℕ, List, length, reverse, arith, subst, sym, ap}
-use Rattle.mintc_timing.specs.declared.parts.Element.{Element}
+use Rattle.std.proofs.Common.{ℕ, List, length, reverse, rules, subst, sym}
 use Rattle.mintc_timing.specs.Design.{Design}
 use Rattle.mintc_paths.specs.Sums.{IsCourse}
-use Rattle.mintc_paths.specs.Ordered.{Ordered, ordered, IsCourseOf}
-use Rattle.mintc_paths.specs.Turned.{turned_design, turned_arcs}
+use Rattle.mintc_paths.specs.Ordered.{Ordered, IsCourseOf}
+use Rattle.mintc_paths.specs.Turned.{turned_arcs}
 use Rattle.mintc_paths.proofs.TurnedPaths.{IsDesign-turned, IsOrder-turned}
 use Rattle.mintc_count.proofs.back.count_turned.Goals as goal
 
@@ -17,16 +16,14 @@ count_along-requires g c =
     let places : List ℕ = c.args.places.now.of_bits.items in
     let elements : List ℕ = c.args.places.now.bits.items in
     let rows : ℕ = length c.args.course.now.rows.of_bits.items in
-    let bits = c.requires.1.1.0.rows.of_bits.count in
-    let of : Ordered = ordered (turned_design places design) (reverse c.args.order.now) in
-    let course : IsCourseOf rows of c.args.course.now = record {
-      is_ordered = record {
-        kept = IsDesign-turned design places elements kept there back;
-        order = IsOrder-turned n (length design.inner) places elements there back design.arcs kept.each_arc c.args.order.now c.requires.1.0;
-      };
-      bits = bits;
-      is_course = subst (λ k. IsCourse k (turned_arcs n places design.arcs) (reverse c.args.order.now) c.args.course.now) (sym bits) c.requires.1.1.0;
-    } in
-    let count = ap (λ (xs : List Element). length xs) c.elements.ensures.value in
-    let own = ap (λ (o : Ordered). length o.design.elements) c.requires.0 in
-    (subst (λ (o : Ordered). IsCourseOf rows o c.args.course.now) (sym c.requires.0) course, omega arith)
+    let bits = c.requires.1.1.0.rows.of_bits.count in (
+      subst (λ (o : Ordered). IsCourseOf rows o c.args.course.now) (sym c.requires.0) record {
+        is_ordered = record {
+          kept = IsDesign-turned design places elements kept there back;
+          order = IsOrder-turned n (length design.inner) places elements there back design.arcs kept.each_arc c.args.order.now c.requires.1.0;
+        };
+        bits = bits;
+        is_course = subst (λ k. IsCourse k (turned_arcs n places design.arcs) (reverse c.args.order.now) c.args.course.now) (sym bits) c.requires.1.1.0;
+      },
+      search rules,
+    )

@@ -1,9 +1,5 @@
-use Rattle.std.proofs.Common.{◌≡◌, ◌<◌, ◌+◌, ◌∙◌, ℕ, List, length, get_or, arith, sym, subst, ap}
-use Rattle.std.proofs.lemmas.List.{get_or_default}
-use Rattle.mintc_count.specs.declared.marks.Marks.{Marks}
-use Rattle.mintc_count.specs.Marks.{marks_at, mark_in}
+use Rattle.std.proofs.Common.{◌≡◌, ◌<◌, ◌+◌, ℕ, List, length, arith, sym, subst}
 use Rattle.mintc_count.proofs.Listing.{IsCountToEnd, IsCountToEnd-more, IsCountToEnd-next}
-use Rattle.mintc_paths.specs.Found.{end_at}
 use Rattle.mintc_count.proofs.count.count_from.Goals as goal
 
 pub loop-number-preserved : goal.loop-number-preserved

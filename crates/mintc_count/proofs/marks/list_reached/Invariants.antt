@@ -1,4 +1,4 @@
-use Rattle.std.proofs.Common.{◌≡◌, ℕ, List}
+use Rattle.std.proofs.Common.{◌≡◌, List}
 use Rattle.mintc_timing.specs.Paths.{input_of}
 use Rattle.mintc_paths.specs.Sums.{row_of}
 use Rattle.mintc_count.specs.declared.marks.Marks.{Marks}

@@ -1,4 +1,4 @@
-use Rattle.std.proofs.Common.{◌≡◌, ◌<◌, ◌≤◌, ◌+◌, ◌∙◌, ℕ, List, length, arith, refl, sym, subst}
+use Rattle.std.proofs.Common.{◌≡◌, ◌<◌, ◌≤◌, ◌+◌, ◌∙◌, ℕ, List, length, arith, rules, sym, subst}
 use Rattle.std.proofs.lemmas.List.{get_or_default}
 use Rattle.mintc_timing.specs.declared.parts.TimingArc.{TimingArc}
 use Rattle.mintc_timing.specs.Design.{no_arc}
@@ -9,7 +9,9 @@ use Rattle.mintc_count.proofs.Leading.{AreCarriedMarks, AreMarksAlong-begun}
 use Rattle.mintc_count.proofs.Noting.{marked_along, unmarked_next}
 use Rattle.mintc_paths.proofs.Passing.{row_in, row_to_in, at_place, at_end}
 use Rattle.mintc_paths.proofs.Waking.{IsAwake-later, IsAwake-next}
+use Rattle.mintc_count.proofs.marks.mark_all.Given.{Over}
 use Rattle.mintc_count.proofs.marks.mark_all.Goals as goal
+use Rattle.mintc_count.proofs.marks.mark_all.Goals.{After-index-arc}
 
 pub loop-place-init : goal.loop-place-init
 loop-place-init g c =
@@ -24,27 +26,26 @@ loop-place-init g c =
       count = c.begin.auto.marks;
     }
 
-pub carry-requires-clause-from : goal.carry-requires-clause-from
-carry-requires-clause-from g c =
-    let i : ℕ = c.loop-place.place in
-    let along : List TimingArc = c.args.course.now.along.items in
-    let all = c.requires.0.is_course.along.count in
-    let below : i < length along = omega (arith, c.args.course.now.along.ok.0) in
-    let low : i < length g.of.order = omega arith in
-    let is : c.index-arc.result.now ≡ arc_at along i = c.index-arc.ensures ∙ get_or_default along i c.index-arc.result.now no_arc below in
-    let inside = row_in g.of.design g.of.order c.requires.0.is_ordered.order c.requires.0.is_ordered.kept c.args.course.now (length c.args.marks.now) c.requires.0.is_course c.requires.0.bits i low in
-    subst (λ (a : TimingArc). a.from < length c.loop-place.marks) (sym is) (omega (arith, c.loop-place.invariant.count))
+-- the arc that the loop reads
+arc_is : (g : Over) (c : After-index-arc g) → c.index-arc.result.now ≡ arc_at c.args.course.now.along.items c.loop-place.place
+arc_is g c = c.index-arc.ensures ∙ get_or_default c.args.course.now.along.items c.loop-place.place c.index-arc.result.now no_arc (omega (arith, c.args.course.now.along.ok.0))
 
-pub carry-requires-clause-to : goal.carry-requires-clause-to
-carry-requires-clause-to g c =
+pub carry-requires : goal.carry-requires
+carry-requires g c =
     let i : ℕ = c.loop-place.place in
-    let along : List TimingArc = c.args.course.now.along.items in
-    let all = c.requires.0.is_course.along.count in
-    let below : i < length along = omega (arith, c.args.course.now.along.ok.0) in
-    let low : i < length g.of.order = omega arith in
-    let is : c.index-arc.result.now ≡ arc_at along i = c.index-arc.ensures ∙ get_or_default along i c.index-arc.result.now no_arc below in
-    let inside = row_to_in g.of.design g.of.order c.requires.0.is_ordered.order c.requires.0.is_ordered.kept c.args.course.now (length c.args.marks.now) c.requires.0.is_course c.requires.0.bits i low in
-    subst (λ (a : TimingArc). a.to < length c.loop-place.marks) (sym is) (omega (arith, c.loop-place.invariant.count))
+    let h = c.requires.0 in
+    let all = h.is_course.along.count in
+    let low : i < length g.of.order = omega (arith, c.args.course.now.along.ok.0) in
+    let is = sym (arc_is g (goal.at.carry-requires g c).After-index-arc) in
+    let inside = row_in g.of.design g.of.order h.is_ordered.order h.is_ordered.kept c.args.course.now (length c.args.marks.now) h.is_course h.bits i low in
+    let inside_to = row_to_in g.of.design g.of.order h.is_ordered.order h.is_ordered.kept c.args.course.now (length c.args.marks.now) h.is_course h.bits i low in
+    record {
+      from = subst (λ (a : TimingArc). a.from < length c.loop-place.marks) is (omega (arith, c.loop-place.invariant.count));
+      to = subst (λ (a : TimingArc). a.to < length c.loop-place.marks) is (omega (arith, c.loop-place.invariant.count));
+      marked = c.loop-place.invariant.marked;
+      leaving = search rules;
+      ready = search rules;
+    }
 
 pub next-place-requires-in-loop-place : goal.next-place-requires-in-loop-place
 next-place-requires-in-loop-place g c =
@@ -60,9 +61,8 @@ loop-place-preserved g c =
     let n : ℕ = length c.args.marks.now in
     let along : List TimingArc = c.args.course.now.along.items in
     let all = c.requires.0.is_course.along.count in
-    let below : i < length along = omega (arith, c.args.course.now.along.ok.0) in
-    let low : i < length g.of.order = omega arith in
-    let is : c.index-arc.result.now ≡ arc_at along i = c.index-arc.ensures ∙ get_or_default along i c.index-arc.result.now no_arc below in
+    let low : i < length g.of.order = omega (arith, c.args.course.now.along.ok.0) in
+    let is = arc_is g (goal.at.loop-place-preserved g c).After-index-arc in
     let so_far = subst (λ k. AreMarksAlong n g.of.design.arcs g.of.order k c.args.course.now.rows.of_bits.items c.args.first c.args.lanes c.loop-place.marks) (at_place i (length g.of.order) low) c.loop-place.invariant.along in
     let h = c.carry.ensures in
     let carried : AreCarriedMarks c.index-arc.result.now c.loop-place.marks c.carry.new.marks = record { others = h.others; joined = h.joined } in

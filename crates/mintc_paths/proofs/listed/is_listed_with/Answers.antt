@@ -38,7 +38,7 @@ loop-number-preserved c =
     let high = h.high in
     let in_design : IsArc (length c.args.flat.now.elements) (length c.args.flat.now.inner) (arc_at arcs n) =
     rw c.arcs-arcs.ensures (c.elements-elements.ensures.kept.each_arc n no_arc (rw c.arcs-arcs.ensures at below)) in
-    let delay : IsDelay c.delay_at-summed.result = rw c.delay_at-summed.ensures (is_delay c.args.extreme (arc_at arcs n) (length c.args.flat.now.elements) (length c.args.flat.now.inner) in_design) in
+    let delay : IsDelay c.delay_at-summed.result = rw c.delay_at-summed.ensures (is_delay c.args.wanted.extreme (arc_at arcs n) (length c.args.flat.now.elements) (length c.args.flat.now.inner) in_design) in
     let lowest = delay.0 in
     let highest = delay.1 in
     let whole : to_z w64 (of_z w64 c.delay_at-summed.result) ≡ c.delay_at-summed.result = to_z-of_z w64 c.delay_at-summed.result (omega (arith, ints)) in
@@ -50,8 +50,8 @@ loop-number-preserved c =
     let sum_is : to_z w64 (of_z w64 (summed +ℤ to_z w64 (of_z w64 c.delay_at-summed.result))) ≡ summed +ℤ c.delay_at-summed.result = rw whole sum in
     let new : ℤ = to_z w64 (of_z w64 (summed +ℤ to_z w64 (of_z w64 c.delay_at-summed.result))) in
     record {
-      leads = rw c.from-bit.ensures (leads_more arcs (output_of c.args.from) path i n c.loop-number.bit few refl below (sym c.from-in-loop-number.ensures ∙ c.if-from-bit.false) h.leads);
-      summed = total_more (weight_of c.args.extreme arcs) path i few ∙ ap (λ z. z +ℤ weight_of c.args.extreme arcs n) h.summed ∙ ap (λ z. summed +ℤ z) (sym c.delay_at-summed.ensures) ∙ sym sum_is;
+      leads = rw c.from-bit.ensures (leads_more arcs (output_of c.args.wanted.from) path i n c.loop-number.bit few refl below (sym c.from-in-loop-number.ensures ∙ c.if-from-bit.false) h.leads);
+      summed = total_more (weight_of c.args.wanted.extreme arcs) path i few ∙ ap (λ z. z +ℤ weight_of c.args.wanted.extreme arcs n) h.summed ∙ ap (λ z. summed +ℤ z) (sym c.delay_at-summed.ensures) ∙ sym sum_is;
       low = subst (λ z. pos 0 ≤ℤ z) (sym sum_is) (omega (arith, ints));
       high = subst (λ z. z ≤ℤ pos ((i + 1) * 1000000000)) (sym sum_is) (omega (arith, ints));
     }

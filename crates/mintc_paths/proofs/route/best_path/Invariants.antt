@@ -1,5 +1,4 @@
-use Rattle.mintc_paths.specs.Ordered.{ordered}
 use Rattle.mintc_paths.proofs.route.best_path.Given as goal
 
-abbrev pub ghost-path_by : goal.ghost-path_by
-ghost-path_by a = ordered a.system.now.flat a.system.now.order
+abbrev pub ghost-fill : goal.ghost-fill
+ghost-fill g a = g.of

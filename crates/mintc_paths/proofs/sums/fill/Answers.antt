@@ -1,4 +1,4 @@
-use Rattle.std.proofs.Common.{◌≡◌, ◌≢◌, ◌<◌, ◌≤◌, ◌+◌, ◌∙◌, ℕ, List, length, arith, refl, sym, subst}
+use Rattle.std.proofs.Common.{◌≡◌, ◌≢◌, ◌<◌, ◌≤◌, ◌+◌, ◌∙◌, ℕ, List, length, arith, rules, sym, subst}
 use Rattle.std.proofs.lemmas.List.{get_or_default}
 use Rattle.mintc_timing.specs.declared.parts.TimingArc.{TimingArc}
 use Rattle.mintc_timing.specs.Design.{no_arc}
@@ -10,7 +10,9 @@ use Rattle.mintc_paths.proofs.Filling.{IsCarried}
 use Rattle.mintc_paths.proofs.Passing.{row_in, row_to_in, apart_rows, min_in, max_in, from_bounded, to_bounded, from_alike, carried_along, passed_next, at_place, at_end}
 use Rattle.mintc_paths.proofs.Reaching.{AreExtremes-from_sums}
 use Rattle.mintc_paths.proofs.Rowing.{length-placed}
+use Rattle.mintc_paths.proofs.sums.fill.Given.{Over}
 use Rattle.mintc_paths.proofs.sums.fill.Goals as goal
+use Rattle.mintc_paths.proofs.sums.fill.Goals.{After-index-arc}
 use Rattle.mintc_paths.proofs.Waking.{IsAwake-later, IsAwake-next}
 
 pub loop-place-init : goal.loop-place-init
@@ -25,97 +27,44 @@ loop-place-init g c =
       count = c.in_ok-clear.ensures.count;
     }
 
-pub carry-requires-clause-from : goal.carry-requires-clause-from
-carry-requires-clause-from g c =
-    let i : ℕ = c.loop-place.place in
-    let along : List TimingArc = c.args.course.now.along.items in
-    let all = c.requires.0.is_course.along.count in
-    let below : i < length along = omega (arith, c.args.course.now.along.ok.0) in
-    let low : i < length g.of.order = omega arith in
-    let is : c.index-arc.result.now ≡ arc_at along i = c.index-arc.ensures ∙ get_or_default along i c.index-arc.result.now no_arc below in
-    subst (λ (a : TimingArc). a.from < length c.loop-place.sums) (sym is) (subst (λ n. (arc_at along i).from < n) (sym c.loop-place.invariant.count) (row_in g.of.design g.of.order c.requires.0.is_ordered.order c.requires.0.is_ordered.kept c.args.course.now (length c.args.sums.now) c.requires.0.is_course c.requires.0.bits i low))
+-- the arc that the loop reads
+arc_is : (g : Over) (c : After-index-arc g) → c.index-arc.result.now ≡ arc_at c.args.course.now.along.items c.loop-place.place
+arc_is g c = c.index-arc.ensures ∙ get_or_default c.args.course.now.along.items c.loop-place.place c.index-arc.result.now no_arc (omega (arith, c.args.course.now.along.ok.0))
 
-pub carry-requires-clause-to : goal.carry-requires-clause-to
-carry-requires-clause-to g c =
+pub carry-requires : goal.carry-requires
+carry-requires g c =
     let i : ℕ = c.loop-place.place in
     let along : List TimingArc = c.args.course.now.along.items in
-    let all = c.requires.0.is_course.along.count in
-    let below : i < length along = omega (arith, c.args.course.now.along.ok.0) in
-    let low : i < length g.of.order = omega arith in
-    let is : c.index-arc.result.now ≡ arc_at along i = c.index-arc.ensures ∙ get_or_default along i c.index-arc.result.now no_arc below in
-    subst (λ (a : TimingArc). a.to < length c.loop-place.sums) (sym is) (subst (λ n. (arc_at along i).to < n) (sym c.loop-place.invariant.count) (row_to_in g.of.design g.of.order c.requires.0.is_ordered.order c.requires.0.is_ordered.kept c.args.course.now (length c.args.sums.now) c.requires.0.is_course c.requires.0.bits i low))
-
-pub carry-requires-clause-apart : goal.carry-requires-clause-apart
-carry-requires-clause-apart g c =
-    let i : ℕ = c.loop-place.place in
-    let along : List TimingArc = c.args.course.now.along.items in
-    let all = c.requires.0.is_course.along.count in
-    let below : i < length along = omega (arith, c.args.course.now.along.ok.0) in
-    let low : i < length g.of.order = omega arith in
-    let is : c.index-arc.result.now ≡ arc_at along i = c.index-arc.ensures ∙ get_or_default along i c.index-arc.result.now no_arc below in
-    subst (λ (a : TimingArc). a.from ≢ a.to) (sym is) (apart_rows g.of.design g.of.order c.requires.0.is_ordered.order c.requires.0.is_ordered.kept c.args.course.now (length c.args.sums.now) c.requires.0.is_course c.requires.0.bits i low)
-
-pub carry-requires-clause-min : goal.carry-requires-clause-min
-carry-requires-clause-min g c =
-    let i : ℕ = c.loop-place.place in
-    let along : List TimingArc = c.args.course.now.along.items in
-    let all = c.requires.0.is_course.along.count in
-    let below : i < length along = omega (arith, c.args.course.now.along.ok.0) in
-    let low : i < length g.of.order = omega arith in
-    let is : c.index-arc.result.now ≡ arc_at along i = c.index-arc.ensures ∙ get_or_default along i c.index-arc.result.now no_arc below in
-    subst (λ (a : TimingArc). IsDelay a.min) (sym is) (min_in g.of.design g.of.order c.requires.0.is_ordered.order c.requires.0.is_ordered.kept c.args.course.now (length c.args.sums.now) c.requires.0.is_course c.requires.0.bits i low)
-
-pub carry-requires-clause-max : goal.carry-requires-clause-max
-carry-requires-clause-max g c =
-    let i : ℕ = c.loop-place.place in
-    let along : List TimingArc = c.args.course.now.along.items in
-    let all = c.requires.0.is_course.along.count in
-    let below : i < length along = omega (arith, c.args.course.now.along.ok.0) in
-    let low : i < length g.of.order = omega arith in
-    let is : c.index-arc.result.now ≡ arc_at along i = c.index-arc.ensures ∙ get_or_default along i c.index-arc.result.now no_arc below in
-    subst (λ (a : TimingArc). IsDelay a.max) (sym is) (max_in g.of.design g.of.order c.requires.0.is_ordered.order c.requires.0.is_ordered.kept c.args.course.now (length c.args.sums.now) c.requires.0.is_course c.requires.0.bits i low)
-
-pub carry-requires-clause-from_bounded : goal.carry-requires-clause-from_bounded
-carry-requires-clause-from_bounded g c =
-    let i : ℕ = c.loop-place.place in
-    let along : List TimingArc = c.args.course.now.along.items in
-    let all = c.requires.0.is_course.along.count in
-    let below : i < length along = omega (arith, c.args.course.now.along.ok.0) in
-    let low : i < length g.of.order = omega arith in
-    let is : c.index-arc.result.now ≡ arc_at along i = c.index-arc.ensures ∙ get_or_default along i c.index-arc.result.now no_arc below in
+    let h = c.requires.0 in
+    let n : ℕ = length c.args.sums.now in
+    let all = h.is_course.along.count in
+    let low : i < length g.of.order = omega (arith, c.args.course.now.along.ok.0) in
+    let is = sym (arc_is g (goal.at.carry-requires g c).After-index-arc) in
     let so_far = subst (λ k. AreSums g.of.design.arcs g.of.order k c.args.first c.args.lanes (placed c.args.course.now.rows.of_bits.items c.loop-place.sums)) (at_place i (length g.of.order) low) c.loop-place.invariant.sums_so_far in
-    subst (λ (a : TimingArc). IsBounded 1000000000000000 (sums_at c.loop-place.sums a.from)) (sym is) (from_bounded g.of.design g.of.order c.requires.0.is_ordered.order c.requires.0.is_ordered.kept c.args.course.now (length c.args.sums.now) c.requires.0.is_course c.requires.0.bits c.args.first c.args.lanes c.requires.1.0 c.loop-place.sums c.loop-place.invariant.count i low so_far)
-
-pub carry-requires-clause-to_bounded : goal.carry-requires-clause-to_bounded
-carry-requires-clause-to_bounded g c =
-    let i : ℕ = c.loop-place.place in
-    let along : List TimingArc = c.args.course.now.along.items in
-    let all = c.requires.0.is_course.along.count in
-    let below : i < length along = omega (arith, c.args.course.now.along.ok.0) in
-    let low : i < length g.of.order = omega arith in
-    let is : c.index-arc.result.now ≡ arc_at along i = c.index-arc.ensures ∙ get_or_default along i c.index-arc.result.now no_arc below in
-    let so_far = subst (λ k. AreSums g.of.design.arcs g.of.order k c.args.first c.args.lanes (placed c.args.course.now.rows.of_bits.items c.loop-place.sums)) (at_place i (length g.of.order) low) c.loop-place.invariant.sums_so_far in
-    subst (λ (a : TimingArc). IsBounded 1000000000000000 (sums_at c.loop-place.sums a.to)) (sym is) (to_bounded g.of.design g.of.order c.requires.0.is_ordered.order c.requires.0.is_ordered.kept c.args.course.now (length c.args.sums.now) c.requires.0.is_course c.requires.0.bits c.args.first c.args.lanes c.requires.1.0 c.loop-place.sums c.loop-place.invariant.count i low so_far)
-
-pub carry-requires-clause-alike : goal.carry-requires-clause-alike
-carry-requires-clause-alike g c =
-    let i : ℕ = c.loop-place.place in
-    let along : List TimingArc = c.args.course.now.along.items in
-    let all = c.requires.0.is_course.along.count in
-    let below : i < length along = omega (arith, c.args.course.now.along.ok.0) in
-    let low : i < length g.of.order = omega arith in
-    let is : c.index-arc.result.now ≡ arc_at along i = c.index-arc.ensures ∙ get_or_default along i c.index-arc.result.now no_arc below in
-    let so_far = subst (λ k. AreSums g.of.design.arcs g.of.order k c.args.first c.args.lanes (placed c.args.course.now.rows.of_bits.items c.loop-place.sums)) (at_place i (length g.of.order) low) c.loop-place.invariant.sums_so_far in
-    subst (λ (a : TimingArc). IsAlike (sums_at c.loop-place.sums a.from)) (sym is) (from_alike g.of.design g.of.order c.requires.0.is_ordered.order c.requires.0.is_ordered.kept c.args.course.now (length c.args.sums.now) c.requires.0.is_course c.requires.0.bits c.args.first c.args.lanes c.requires.1.0 c.loop-place.sums c.loop-place.invariant.count i low so_far)
+    record {
+      from = subst (λ (a : TimingArc). a.from < length c.loop-place.sums) is (subst (λ m. (arc_at along i).from < m) (sym c.loop-place.invariant.count) (row_in g.of.design g.of.order h.is_ordered.order h.is_ordered.kept c.args.course.now n h.is_course h.bits i low));
+      to = subst (λ (a : TimingArc). a.to < length c.loop-place.sums) is (subst (λ m. (arc_at along i).to < m) (sym c.loop-place.invariant.count) (row_to_in g.of.design g.of.order h.is_ordered.order h.is_ordered.kept c.args.course.now n h.is_course h.bits i low));
+      apart = subst (λ (a : TimingArc). a.from ≢ a.to) is (apart_rows g.of.design g.of.order h.is_ordered.order h.is_ordered.kept c.args.course.now n h.is_course h.bits i low);
+      min = subst (λ (a : TimingArc). IsDelay a.min) is (min_in g.of.design g.of.order h.is_ordered.order h.is_ordered.kept c.args.course.now n h.is_course h.bits i low);
+      max = subst (λ (a : TimingArc). IsDelay a.max) is (max_in g.of.design g.of.order h.is_ordered.order h.is_ordered.kept c.args.course.now n h.is_course h.bits i low);
+      from_bounded = subst (λ (a : TimingArc). IsBounded 1000000000000000 (sums_at c.loop-place.sums a.from)) is
+          (from_bounded g.of.design g.of.order h.is_ordered.order h.is_ordered.kept c.args.course.now n h.is_course h.bits c.args.first c.args.lanes c.requires.1.0 c.loop-place.sums c.loop-place.invariant.count i low so_far);
+      to_bounded = subst (λ (a : TimingArc). IsBounded 1000000000000000 (sums_at c.loop-place.sums a.to)) is
+          (to_bounded g.of.design g.of.order h.is_ordered.order h.is_ordered.kept c.args.course.now n h.is_course h.bits c.args.first c.args.lanes c.requires.1.0 c.loop-place.sums c.loop-place.invariant.count i low so_far);
+      alike = subst (λ (a : TimingArc). IsAlike (sums_at c.loop-place.sums a.from)) is
+          (from_alike g.of.design g.of.order h.is_ordered.order h.is_ordered.kept c.args.course.now n h.is_course h.bits c.args.first c.args.lanes c.requires.1.0 c.loop-place.sums c.loop-place.invariant.count i low so_far);
+      marked = c.loop-place.invariant.marked;
+      leaving = search rules;
+      ready = search rules;
+    }
 
 pub loop-place-preserved : goal.loop-place-preserved
 loop-place-preserved g c =
     let i : ℕ = c.loop-place.place in
     let along : List TimingArc = c.args.course.now.along.items in
     let all = c.requires.0.is_course.along.count in
-    let below : i < length along = omega (arith, c.args.course.now.along.ok.0) in
-    let low : i < length g.of.order = omega arith in
-    let is : c.index-arc.result.now ≡ arc_at along i = c.index-arc.ensures ∙ get_or_default along i c.index-arc.result.now no_arc below in
+    let low : i < length g.of.order = omega (arith, c.args.course.now.along.ok.0) in
+    let is = arc_is g (goal.at.loop-place-preserved g c).After-index-arc in
     let so_far = subst (λ k. AreSums g.of.design.arcs g.of.order k c.args.first c.args.lanes (placed c.args.course.now.rows.of_bits.items c.loop-place.sums)) (at_place i (length g.of.order) low) c.loop-place.invariant.sums_so_far in
     let h = c.in_ok-carry.ensures in
     let carried : IsCarried c.index-arc.result.now c.loop-place.sums c.carry.new.sums = record { others = h.others; greatest = h.greatest; least = h.least; bounded = h.bounded } in

@@ -1,22 +1,19 @@
-use Rattle.std.proofs.Common.{◌≡◌, ◌+◌, get_or, length, arith}
+use Rattle.std.proofs.Common.{◌≡◌, ◌<◌, ◌+◌, get_or, length, arith}
 use Rattle.std.proofs.lemmas.List.{get_or_default}
 use Rattle.mintc_order.proofs.Counting.{IsSearch-few}
 use Rattle.mintc_order.proofs.Entering.{IsSearch-entered_as}
 use Rattle.mintc_order.proofs.search.Search.enter.Goals as goal
+use Rattle.mintc_order.proofs.search.Search.enter.Goals.{After-len}
+
+-- There is room for one bit more.
+room : (c : After-len) → c.len.result + 1 < 4294967296
+room c = omega (arith, IsSearch-few c.requires.search.1, c.len.ensures, c.in_ok-push.ensures.len, c.requires.few)
 
 pub overflow_cast-len : goal.overflow_cast-len
-overflow_cast-len c =
-    let few = IsSearch-few c.requires.search.1 in
-    let len' = c.len.ensures in
-    let pushed = c.in_ok-push.ensures.len in
-    omega arith
+overflow_cast-len c = omega (arith, room (goal.at.overflow_cast-len c).After-len)
 
 pub overflow_add-len : goal.overflow_add-len
-overflow_add-len c =
-    let few = IsSearch-few c.requires.search.1 in
-    let len' = c.len.ensures in
-    let pushed = c.in_ok-push.ensures.len in
-    omega arith
+overflow_add-len c = omega (arith, room (goal.at.overflow_add-len c).After-len)
 
 pub returns-clause-search : goal.returns-clause-search
 returns-clause-search c =

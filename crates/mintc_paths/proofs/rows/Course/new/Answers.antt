@@ -1,12 +1,12 @@
-use Rattle.std.proofs.Common.{◌≡◌, ◌<◌, ◌+◌, ℕ, List, [], ◌∷◌, ◌++◌, length, length-append, get_or, subst, sym, ap, ◌∙◌, ◌⊎◌, ⊎_elim, arith}
-use Rattle.std.proofs.lemmas.List.{get_or_default, get_or_append_left}
+use Rattle.std.proofs.Common.{◌≡◌, ◌<◌, ◌+◌, ℕ, List, [], ◌∷◌, ◌++◌, length, length-append, get_or, subst, sym, ap, ◌∙◌, ⊎_elim, arith}
+use Rattle.std.proofs.lemmas.List.{get_or_default, get_or_append_left, get_or_push}
 use Rattle.mintc_timing.specs.declared.parts.TimingArc.{TimingArc}
 use Rattle.mintc_timing.specs.Design.{no_arc}
 use Rattle.mintc_timing.specs.Paths.{arc_at}
 use Rattle.mintc_timing.proofs.Ordered.{inside}
 use Rattle.mintc_paths.specs.Sums.{AreAlong, row_of, moved}
 use Rattle.mintc_paths.proofs.Filling.{arc_inside}
-use Rattle.mintc_paths.proofs.Finding.{at_last}
+use Rattle.mintc_paths.proofs.Finding.{low_or_at}
 use Rattle.mintc_paths.proofs.rows.Course.new.Goals as goal
 
 pub bounds-arcs-number : goal.bounds-arcs-number
@@ -28,12 +28,9 @@ pushed arcs order rows k from to along new h e f is =
       count = omega arith;
       each = λ i low. ⊎_elim
           (λ (below : i < k). get_or_append_left along (arc ∷ []) no_arc i (omega arith) ∙ h.each i below)
-          (λ (last : i ≡ k). at_last along arc no_arc i (last ∙ sym count) ∙ ap (λ j. moved rows (arc_at arcs (get_or order j 0))) (sym last))
+          (λ (last : i ≡ k). get_or_push along arc no_arc i (count ∙ sym last) ∙ ap (λ j. moved rows (arc_at arcs (get_or order j 0))) (sym last))
           (low_or_at i k low);
     }
-  where
-    low_or_at : (i k : ℕ) → i < k + 1 → (i < k) ⊎ (i ≡ k)
-    low_or_at i k h = grind arith
 
 pub loop-number-preserved : goal.loop-number-preserved
 loop-number-preserved c =

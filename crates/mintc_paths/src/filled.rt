@@ -1,0 +1,19 @@
+//! What a block of elements has once its sums are filled in.
+ghost use Rattle.std.specs.Prelude.{◌≤◌, length};
+ghost use Rattle.mintc_paths.specs.Sums.{AreMarked, AreRows};
+
+use crate::held::Held;
+use crate::rows::Rows;
+
+/// The sums from so many elements, from the first of them on, a lane for each, and the rows that are reached.
+#[derive(Clone, Copy)]
+pub struct Filled<'a> {
+    pub sums: &'a Held,
+    pub reached: &'a [bool],
+    pub rows: &'a Rows,
+    pub first: u32,
+    pub lanes: usize,
+    ghost few: { lanes ≤ 8 },
+    ghost marked: { AreMarked sums.now reached.now },
+    ghost are_rows: { AreRows (length sums.now) rows.now },
+}
