@@ -19,7 +19,7 @@ use Rattle.mintc_cells.specs.declared.cell.Cell.{Cell}
 use Rattle.mintc_cells.specs.declared.cell.Cell.TheVariants.{Gate, Latch, Flop, Clock}
 use Rattle.mintc_cells.specs.Rules.{is_cell, has_defaults, is_same}
 use Rattle.mintc_cells.specs.Entries.{AreKept, is_kept, cell_at, no_cell}
-use Rattle.mintc_cells.proofs.PinsLaws.{kept_at}
+use Rattle.mintc_cells.proofs.SharedPinsLaws.{kept_at}
 use Rattle.mintc_document.specs.Rules.{is_name}
 use Rattle.mintc_clock.specs.declared.clock.Clock as clock_type
 use Rattle.mintc_clock.specs.declared.clock.Listed.{Listed}

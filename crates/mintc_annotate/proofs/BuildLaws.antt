@@ -22,7 +22,7 @@ use Rattle.mintc_timing.specs.declared.parts.Bound.{Bound}
 use Rattle.mintc_timing.specs.Design.{design_of}
 use Rattle.mintc_speaking.specs.Pins.{leaf_at, leaf_cell, all_leaves, is_storage, scope_at, scope_path, leaf_path, dotted, all_names, inner_name}
 use Rattle.mintc_speaking.specs.Names.{front_of}
-use Rattle.mintc_speaking.proofs.NameLaws.{HasParents, path_below}
+use Rattle.mintc_speaking.proofs.SharedNameLaws.{HasParents, path_below}
 use Rattle.mintc_annotate.specs.declared.listing.ListedBit.{ListedBit}
 use Rattle.mintc_annotate.specs.ClockPorts.{listed_in}
 use Rattle.mintc_annotate.specs.Phases.{storage}

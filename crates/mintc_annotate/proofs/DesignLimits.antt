@@ -26,7 +26,7 @@ use Rattle.mintc_annotate.specs.Phases.{storage, first_at, same_spot, IsPhaseOf}
 use Rattle.mintc_speaking.specs.Pins.{is_storage}
 use Rattle.mintc_speaking.specs.Speaking.{Said, range_of}
 use Rattle.mintc_annotate.specs.Made.{element_of, port_element, bits_of, elements_of}
-use Rattle.mintc_speaking.proofs.RangeLimits.{AreSaid}
+use Rattle.mintc_speaking.proofs.SharedRangeLimits.{AreSaid}
 use Rattle.mintc_annotate.proofs.ElementLimits.{margin_is, delay_is, order_is, KeepsHold, storage_in}
 
 phase_is : (k p : ℕ) → is_phase k p ≡ true → IsPhase k p

@@ -4,7 +4,7 @@ use Rattle.std.specs.List.{range_with_len}
 use Rattle.std.proofs.lemmas.List.{length-map, get_or-map}
 use Rattle.std.proofs.lemmas.List.FromFn.{length-range_with_len, get_or-map-range_with_len}
 use Rattle.std.proofs.lemmas.List.Elements.{All-map, All-weaker, All-get_or}
-use Rattle.mintc_timing.proofs.Members.{All-range}
+use Rattle.mintc_timing.proofs.SharedMembers.{All-range}
 use Rattle.mintc_annotate.specs.declared.searching.Drive.{Drive}
 use Rattle.mintc_annotate.specs.declared.searching.Spot.{Spot}
 use Rattle.mintc_annotate.specs.declared.searching.Jump.{Jump}

@@ -1,12 +1,12 @@
-pub mod AnnotateLaws
-pub mod ArcLimits
-pub mod BuildLaws
-pub mod DesignLaws
-pub mod DesignLimits
-pub mod ElementLimits
-pub mod ListingLaws
-pub mod PartLimits
-pub mod JumpLaws
-pub mod SearchLaws
-pub mod TraceLaws
-pub mod WorkedFiles
+mod AnnotateLaws
+mod ArcLimits
+mod BuildLaws
+mod DesignLaws
+mod DesignLimits
+mod ElementLimits
+mod ListingLaws
+mod PartLimits
+mod JumpLaws
+mod SearchLaws
+mod TraceLaws
+mod WorkedFiles

@@ -6,7 +6,7 @@ use Rattle.std.proofs.lemmas.Bool.{and_parts}
 use Rattle.std.proofs.lemmas.List.{length-map}
 use Rattle.std.proofs.lemmas.List.Elements.{All-head, All-tail, All-nil, All-cons, All-append, All-map, All-weaker}
 use Rattle.std.proofs.lemmas.List.FromFn.{length-range_with_len, get_or-range_with_len}
-use Rattle.mintc_timing.proofs.Members.{All-range}
+use Rattle.mintc_timing.proofs.SharedMembers.{All-range}
 use Rattle.std.proofs.lemmas.List.Sums.{length-filter, count_by_more_yes, sum_by-take-le}
 use Rattle.std.proofs.lemmas.Slice.Zip.{AllZip-long, length-zip}
 use Rattle.mintc_cells.specs.declared.cell.Cell.{Cell}
@@ -31,7 +31,7 @@ use Rattle.mintc_annotate.specs.Phases.{storage, phase_spots, IsPhaseOf}
 use Rattle.mintc_speaking.specs.Pins.{is_storage}
 use Rattle.mintc_speaking.specs.Speaking.{Said, said, range_of, path_on}
 use Rattle.mintc_annotate.specs.Made.{RangeOf, bits_of, no_delay, gate_arc, gate_arcs, storage_arcs, leaf_arcs, number_in, arcs_of, elements_of, element_of, port_element, IsMade}
-use Rattle.mintc_speaking.proofs.RangeLimits.{AreSaid, range_in, all_said}
+use Rattle.mintc_speaking.proofs.SharedRangeLimits.{AreSaid, range_in, all_said}
 use Rattle.mintc_annotate.proofs.ElementLimits.{AreDelays, delay_is, order_is, or_in, KeepsHold}
 use Rattle.mintc_annotate.proofs.ArcLimits.{none_delays, inner_arc, data_arc, output_arc, joins_in, inputs_in, outputs_in, pins_count}
 use Rattle.mintc_annotate.proofs.DesignLimits.{elements_in, bound_is}

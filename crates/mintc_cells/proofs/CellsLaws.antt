@@ -15,7 +15,7 @@ use Rattle.mintc_cells.specs.declared.cell.Cell.{Cell}
 use Rattle.std.specs.List.{list_all}
 use Rattle.std.proofs.lemmas.List.Folds.{list_all-append}
 use Rattle.mintc_cells.specs.Entries.{names_of, AreAscending, AreKept, is_kept}
-use Rattle.mintc_cells.proofs.PinsLaws.{both_left}
+use Rattle.mintc_cells.proofs.SharedPinsLaws.{both_left}
 
 abbrev pub KeyEntry : Type 0
 KeyEntry = Vec ℕ Global × Cell

@@ -7,7 +7,7 @@ use Rattle.mintc_cells.specs.Description.{cell_of}
 use Rattle.mintc_cells.specs.Entries.{AreAscending}
 use Rattle.mintc_cells.specs.CellsOf.{Entry, IsReadAs, AreRead, AreDescribed, IsFirstBad, AreInTable, IsBadTable, no_table, bad_entry, no_document, bad_table}
 use Rattle.mintc_cells.specs.Laws.{CellsAreDetermined, CellsAreNotRefused, BadCellsAreDetermined, CellsKeepRules}
-use Rattle.mintc_cells.proofs.KeptLaws.{kept, names-AreRead}
+use Rattle.mintc_cells.proofs.SharedKeptLaws.{kept, names-AreRead}
 
 -- the number, counted on from n, and the rule of the first entry that stands for no cell
 bad_here : Result Cell ℕ → ℕ → Option (ℕ × ℕ) → Option (ℕ × ℕ)

@@ -19,7 +19,7 @@ use Rattle.mintc_document.specs.Lookups.{has_only}
 use Rattle.mintc_cells.specs.Description.{cell_of, Reads}
 use Rattle.mintc_text.specs.Stops.{StopsAt}
 use Rattle.mintc_cells.specs.CellsOf.{Entry, entries, IsReadAs, AreRead, AreInTable, IsFirstBad, described, IsBadCellBy}
-use Rattle.mintc_cells.proofs.KeptLaws.{kept, names-AreRead}
+use Rattle.mintc_cells.proofs.SharedKeptLaws.{kept, names-AreRead}
 
 -- one more entry that was read
 pub AreRead-push : (es : List Entry) (cells : List (List ℕ × Cell)) (e : Entry) (cell : List ℕ × Cell) → AreRead es cells → IsReadAs e cell → AreRead (es ++ e ∷ []) (cells ++ cell ∷ [])

@@ -1,5 +1,5 @@
-pub mod CellsLaws
-pub mod DeterminedLaws
-pub mod EntriesLaws
-pub mod KeptLaws
-pub mod PinsLaws
+pub mod SharedKeptLaws
+pub mod SharedPinsLaws
+mod CellsLaws
+mod DeterminedLaws
+mod EntriesLaws

@@ -4,8 +4,8 @@ use Rattle.std.proofs.lemmas.Int.{ints}
 use Rattle.std.proofs.lemmas.List.Elements.{All-push, All-nil}
 use Rattle.mintc_timing.specs.declared.clocking.Schedule.{Schedule}
 use Rattle.mintc_timing.specs.Limits.{IsNumerator, IsDenominator, IsInRange}
-use Rattle.mintc_lines.proofs.ScheduleLaws.{IsSoFar, phases_begun, phase_kept, phases_ended}
-use Rattle.mintc_lines.proofs.TextLaws.{along}
+use Rattle.mintc_lines.proofs.SharedScheduleLaws.{IsSoFar, phases_begun, phase_kept, phases_ended}
+use Rattle.mintc_lines.proofs.SharedTextLaws.{along}
 use Rattle.mintc_certificate.specs.declared.certificate.Certificate.{Certificate}
 use Rattle.mintc_certificate.specs.declared.certificate.Certificate.TheVariants.{Least, Never}
 use Rattle.mintc_certificate.specs.declared.members.Member.{Member}

@@ -3,11 +3,11 @@ use Rattle.std.proofs.Common.{◌≡◌, ℕ, zero, suc, ℤ, pos, negsuc, ◌�
 use Rattle.std.proofs.lemmas.Int.{ints}
 use Rattle.mintc_lines.specs.Fields.{plain, plain_line, Spells, IsWordLine, IsNumberLine, IsCountLine}
 use Rattle.mintc_lines.specs.Texts.{IsPhaseLine, no_phases, with_phase}
-use Rattle.mintc_lines.proofs.LineLaws.{count_one, number_one}
-use Rattle.mintc_lines.proofs.ReadingLaws.{plain-count_line, plain-number_line, plain-word_line}
-use Rattle.mintc_lines.proofs.ScheduleLaws.{phase_one, plain-den, plain-cycle}
-use Rattle.mintc_lines.proofs.ScheduleReading.{plain-phase_line}
-use Rattle.mintc_lines.proofs.TextLaws.{IsPlainFormat, text_one_end, text_no_fault, text_one_fault, spelled_one, spelled_free}
+use Rattle.mintc_lines.proofs.SharedLineLaws.{count_one, number_one}
+use Rattle.mintc_lines.proofs.SharedReadingLaws.{plain-count_line, plain-number_line, plain-word_line}
+use Rattle.mintc_lines.proofs.SharedScheduleLaws.{phase_one, plain-den, plain-cycle}
+use Rattle.mintc_lines.proofs.SharedScheduleReading.{plain-phase_line}
+use Rattle.mintc_lines.proofs.SharedTextLaws.{IsPlainFormat, text_one_end, text_no_fault, text_one_fault, spelled_one, spelled_free}
 use Rattle.mintc_certificate.specs.declared.certificate.Certificate.{Certificate}
 use Rattle.mintc_certificate.specs.declared.certificate.Certificate.TheVariants.{Least, Never}
 use Rattle.mintc_certificate.specs.declared.members.Member.{Member}

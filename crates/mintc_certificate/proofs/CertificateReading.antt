@@ -7,7 +7,7 @@ use Rattle.mintc_timing.specs.declared.clocking.Schedule.{Schedule}
 use Rattle.mintc_lines.specs.Fields.{plain_line, Spells, IsWordLine, IsNumberLine, IsCountLine}
 use Rattle.mintc_lines.specs.Reading.{Reading, HasRead, HasNone, IsAt, number_after}
 use Rattle.mintc_lines.specs.Texts.{IsPhaseLine, no_phases, with_phase}
-use Rattle.mintc_lines.proofs.ReadingLaws.{at_more, at_fault, at_end, at_past}
+use Rattle.mintc_lines.proofs.SharedReadingLaws.{at_more, at_fault, at_end, at_past}
 use Rattle.mintc_certificate.specs.declared.certificate.Certificate.{Certificate}
 use Rattle.mintc_certificate.specs.declared.certificate.Certificate.TheVariants.{Least, Never}
 use Rattle.mintc_certificate.specs.declared.halt.Halt.{Halt}

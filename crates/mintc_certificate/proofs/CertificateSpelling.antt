@@ -4,9 +4,9 @@ use Rattle.mintc_text.specs.Lines.{Follows, ended, text_of, words}
 use Rattle.mintc_timing.specs.declared.clocking.Schedule.{Schedule}
 use Rattle.mintc_lines.specs.Fields.{Spells, IsWordLine, IsNumberLine, IsCountLine}
 use Rattle.mintc_lines.specs.Texts.{IsPhaseLine, no_phases, with_phase}
-use Rattle.mintc_lines.proofs.LineLaws.{spelled_same}
-use Rattle.mintc_lines.proofs.ReadingLaws.{one_line, line_free}
-use Rattle.mintc_lines.proofs.Spelling.{Rest, rest_none, rest_back, rest_same, rest_count, IsSpelled, one_text}
+use Rattle.mintc_lines.proofs.SharedLineLaws.{spelled_same}
+use Rattle.mintc_lines.proofs.SharedReadingLaws.{one_line, line_free}
+use Rattle.mintc_lines.proofs.SharedSpelling.{Rest, rest_none, rest_back, rest_same, rest_count, IsSpelled, one_text}
 use Rattle.mintc_certificate.specs.declared.certificate.Certificate.{Certificate}
 use Rattle.mintc_certificate.specs.declared.certificate.Certificate.TheVariants.{Least, Never}
 use Rattle.mintc_certificate.specs.declared.members.Member.{Member}

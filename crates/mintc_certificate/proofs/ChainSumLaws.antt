@@ -6,7 +6,7 @@ use Rattle.mintc_timing.specs.declared.link.Link.{Link}
 use Rattle.mintc_rings.specs.Rings.{total}
 use Rattle.mintc_timing.specs.Design.{Timing}
 use Rattle.mintc_timing.specs.Limits.{IsSpan}
-use Rattle.mintc_rings.proofs.RingLaws.{total-append}
+use Rattle.mintc_rings.proofs.SharedRingLaws.{total-append}
 use Rattle.mintc_certificate.specs.declared.members.Member.{Member}
 use Rattle.mintc_certificate.specs.Valid.{link_of, links_of_members}
 

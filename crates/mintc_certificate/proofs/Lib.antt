@@ -1,12 +1,12 @@
-pub mod OptimalLaws
-pub mod WritingLaws
-pub mod MemberLaws
-pub mod CertificateReading
-pub mod CertificateLaws
-pub mod CertificatePlain
-pub mod CertificateSpelling
-pub mod CertificateWritten
-pub mod CertificateVersions
-pub mod WorkedCertificate
-pub mod PathDelays
-pub mod ChainSumLaws
+pub mod SharedWritingLaws
+pub mod SharedPathDelays
+mod OptimalLaws
+mod MemberLaws
+mod CertificateReading
+mod CertificateLaws
+mod CertificatePlain
+mod CertificateSpelling
+mod CertificateWritten
+mod CertificateVersions
+mod WorkedCertificate
+mod ChainSumLaws

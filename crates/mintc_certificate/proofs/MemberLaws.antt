@@ -8,7 +8,7 @@ use Rattle.std.specs.Str.{bytes_eq}
 use Rattle.mintc_text.specs.Lines.{ended, words}
 use Rattle.mintc_lines.specs.Fields.{IsCount, number, plain, plain_line}
 use Rattle.mintc_lines.specs.Reading.{HasRead, HasNone}
-use Rattle.mintc_lines.proofs.FieldsLaws.{and_both, plain-number}
+use Rattle.mintc_lines.proofs.SharedFieldsLaws.{and_both, plain-number}
 use Rattle.mintc_certificate.specs.declared.halt.Halt.{Halt}
 use Rattle.mintc_certificate.specs.declared.halt.Halt.TheVariants.{Form, Memory}
 use Rattle.mintc_certificate.specs.declared.member_lines.MemberWord.{MemberWord}

@@ -14,9 +14,9 @@ use Rattle.mintc_timing.specs.Links.{delay_of, cycles_of}
 use Rattle.mintc_timing.specs.Times.{Meets, node_time}
 use Rattle.mintc_certificate.specs.Valid.{IsMember, link_of, links_of_members, IsRing, IsValid, clock, bounds, departures, setups, ring, sums, no_bound}
 use Rattle.mintc_certificate.specs.Optimal.{ValidIsOptimal}
-use Rattle.mintc_timing.proofs.LinkLaws.{meets-start, meets-cycle, meets-order, meets-span, meets-width, meets-apart, meets-open, meets-opened, meets-reach, meets-setup, meets-bound}
-use Rattle.mintc_timing.proofs.Chains.{ring-at_most, no_less}
-use Rattle.mintc_timing.proofs.DeterminedLaws.{forbids_all_lem}
+use Rattle.mintc_timing.proofs.SharedLinkLaws.{meets-start, meets-cycle, meets-order, meets-span, meets-width, meets-apart, meets-open, meets-opened, meets-reach, meets-setup, meets-bound}
+use Rattle.mintc_timing.proofs.SharedChains.{ring-at_most, no_less}
+use Rattle.mintc_timing.proofs.SharedDeterminedLaws.{forbids_all_lem}
 
 module _ (t : Timing) (limits : IsDesign t.flat) (pairs_are : ArePairs t.flat t.pairs) where
   -- Each member's link holds of every right schedule.

@@ -8,7 +8,7 @@ use Rattle.mintc_certificate.specs.declared.certificate.Certificate.TheVariants.
 use Rattle.mintc_certificate.specs.Valid.{IsMember, IsValid, counts, clock, bounds, departures, setups, ring, sums}
 use Rattle.mintc_timing.specs.Worked.{of_100}
 use Rattle.mintc_timing.specs.Worked as worked
-use Rattle.mintc_timing.proofs.WorkedRows.{right_100}
+use Rattle.mintc_timing.proofs.SharedWorkedRows.{right_100}
 
 some_path : (n : ℕ) (path : List ℕ) → (n ∷ path) ≢ []
 some_path n path h = cc

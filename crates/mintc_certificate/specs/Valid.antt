@@ -15,7 +15,7 @@ use Rattle.mintc_timing.specs.Paths.{IsPath, input_of, greatest_delay}
 use Rattle.mintc_timing.specs.Clocking.{KeepsClock, KeepsBound, feeds_of}
 use Rattle.mintc_timing.specs.Departures.{AreExact}
 use Rattle.mintc_timing.specs.Right.{KeepsSetup}
-use Rattle.mintc_timing.specs.Links.{start_link, cycle_link, order_link, span_link, width_link, apart_link, open_link, opened_link, reach_link, setup_link, bound_link, IsTight, IsStuck}
+use Rattle.mintc_timing.specs.Links.{start_link, cycle_link, order_link, span_link, width_link, apart_link, opening_link, opened_link, reach_link, setup_link, bound_link, IsTight, IsStuck}
 
 abbrev pub no_bound : Bound
 no_bound = record { from = Origin; to = Origin; gap = pos 0; cycles = 0 }
@@ -42,7 +42,7 @@ link_of t (member.Order p) = order_link p
 link_of t (member.Span p) = span_link p
 link_of t (member.Width p) = width_link t p
 link_of t (member.Apart i j) = apart_link i j
-link_of t (member.Opening l) = open_link t l
+link_of t (member.Opening l) = opening_link t l
 link_of t (member.Opened l) = opened_link t l
 link_of t (member.Reach j l path) = reach_link t j l (greatest_delay t.flat.arcs path)
 link_of t (member.Setup l) = setup_link t l

@@ -5,13 +5,13 @@ ghost use Rattle.mintc_timing.specs.Limits.{IsDelay, IsSpan};
 ghost use Rattle.mintc_timing.specs.Links.{bound_link as bound_link_of, reach_link as reach_link_of};
 ghost use Rattle.mintc_timing.specs.Order.{ArePathsShort};
 ghost use Rattle.mintc_timing.specs.Paths.{IsPath, greatest_delay, input_of};
-ghost use Rattle.mintc_demands.specs.Alone.{alone};
+ghost use Rattle.mintc_links.specs.Alone.{alone};
 ghost use Rattle.mintc_certificate.specs.CertificateText.{IsCounted};
 ghost use Rattle.mintc_certificate.specs.Named.{IsNamed};
 ghost use Rattle.mintc_certificate.specs.Valid.{no_bound, link_of as link_of_member};
 
 use crate::Member;
-use mintc_demands::{
+use mintc_links::{
     apart_link, bound_link, cycle_link, opened_link, opening_link, order_link, reach_link,
     setup_link, span_link, start_link, width_link,
 };

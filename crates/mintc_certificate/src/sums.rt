@@ -2,7 +2,7 @@
 ghost use Rattle.std.specs.Prelude.{◌≡◌, pos, negsuc, ◌≤ℤ◌, All};
 ghost use Rattle.mintc_timing.specs.Links.{cycles_of, delay_of};
 ghost use Rattle.mintc_timing.specs.Order.{ArePathsShort};
-ghost use Rattle.mintc_demands.specs.Alone.{alone};
+ghost use Rattle.mintc_links.specs.Alone.{alone};
 ghost use Rattle.mintc_certificate.specs.Named.{IsNamed};
 ghost use Rattle.mintc_certificate.specs.Ranges.{IsChainInRange};
 ghost use Rattle.mintc_certificate.specs.Valid.{links_of_members};

@@ -9,10 +9,10 @@ use Rattle.mintc_timing.specs.Design.{Design, no_arc}
 use Rattle.mintc_timing.specs.Limits.{IsArc}
 use Rattle.mintc_timing.specs.Order.{IsOrder}
 use Rattle.mintc_timing.specs.Paths.{Leads, arc_at, output_of, greatest_delay}
-use Rattle.mintc_timing.proofs.Products.{add-times}
+use Rattle.mintc_timing.proofs.SharedProducts.{add-times}
 use Rattle.mintc_timing.specs.Among.{IsAmong, AreAmong}
-use Rattle.mintc_timing.proofs.Ordered.{Leads-push, AreAmong-push, AreAmong-more, split, inside, all_among, none_among}
-use Rattle.mintc_rings.proofs.RingLaws.{total-push}
+use Rattle.mintc_timing.proofs.SharedOrdered.{Leads-push, AreAmong-push, AreAmong-more, split, inside, all_among, none_among}
+use Rattle.mintc_rings.proofs.SharedRingLaws.{total-push}
 use Rattle.mintc_lanes.specs.Lanes.{lane_at, joined, AreJoined}
 use Rattle.mintc_checker.specs.declared.labels.Labels.{Labels}
 use Rattle.mintc_checker.specs.Trails.{IsGreatestTime, LeadsFrom, element_of, time_along}

@@ -5,8 +5,8 @@ use Rattle.mintc_timing.specs.Departures.{late_arrivals, late_departure, late_op
 use Rattle.mintc_timing.specs.Design.{Design}
 use Rattle.mintc_timing.specs.Extremes.{greater_of, greatest_of}
 use Rattle.mintc_timing.specs.Right.{KeepsSetup}
-use Rattle.mintc_timing.proofs.SetupLaws.{KeepsSetup-flop}
-use Rattle.mintc_demands.specs.Alone.{alone}
+use Rattle.mintc_timing.proofs.SharedSetupLaws.{KeepsSetup-flop}
+use Rattle.mintc_links.specs.Alone.{alone}
 use Rattle.mintc_checker.specs.Judged.{OfTiming, timing_of}
 use Rattle.mintc_checker.specs.Trails.{element_of, IsLastArrival}
 use Rattle.mintc_checker.proofs.Pairing.{arrivals_are}

@@ -1,13 +1,13 @@
-pub mod Greatest
-pub mod Carrying
-pub mod Beginning
-pub mod Sizes
-pub mod Arriving
-pub mod Pairing
-pub mod Deciding
-pub mod Scaled
-pub mod Fed
-pub mod Bounds
-pub mod Exact
-pub mod Firsts
-pub mod Answering
+pub mod SharedFirsts
+mod Greatest
+mod Carrying
+mod Beginning
+mod Sizes
+mod Arriving
+mod Pairing
+mod Deciding
+mod Scaled
+mod Fed
+mod Bounds
+mod Exact
+mod Answering

@@ -10,8 +10,8 @@ use Rattle.mintc_timing.specs.Departures.{departure, late_arrival, late_arrivals
 use Rattle.mintc_timing.specs.Design.{Design, Timing}
 use Rattle.mintc_timing.specs.Extremes.{greatest_of, IsGreatest}
 use Rattle.mintc_timing.specs.Paths.{IsPath, Leads, ArePairs, HasExtremes, input_of, output_of, greatest_delay}
-use Rattle.mintc_timing.proofs.ExtremesLaws.{greatest_is}
-use Rattle.mintc_timing.proofs.Products.{times-mono_positive}
+use Rattle.mintc_timing.proofs.SharedExtremesLaws.{greatest_is}
+use Rattle.mintc_timing.proofs.SharedProducts.{times-mono_positive}
 use Rattle.mintc_checker.proofs.Deciding.{same_test, true_or_false}
 use Rattle.mintc_checker.specs.Judged.{timing_of}
 use Rattle.mintc_checker.specs.Trails.{LeadsTo, element_of, arrival_along, IsLastArrival}

@@ -3,8 +3,8 @@ use Rattle.std.proofs.Common.{◌≡◌, ◌==◌, ◌↔◌, IsTrue, ℤ, pos, 
 use Rattle.std.proofs.lemmas.Int.{ints}
 use Rattle.std.proofs.Math.IntN.{*ℤ_comm}
 use Rattle.mintc_timing.specs.Limits.{IsTime, IsDenominator, IsNumerator}
-use Rattle.mintc_timing.proofs.Fitting.{read_time, same_bits}
-use Rattle.mintc_timing.proofs.Products.{times-mono_positive}
+use Rattle.mintc_timing.proofs.SharedFitting.{read_time, same_bits}
+use Rattle.mintc_timing.proofs.SharedProducts.{times-mono_positive}
 use Rattle.mintc_checker.proofs.Deciding.{same_test}
 
 -- a product as the code computes it

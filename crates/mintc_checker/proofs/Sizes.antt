@@ -9,9 +9,9 @@ use Rattle.mintc_timing.specs.Design.{Design, no_element}
 use Rattle.mintc_timing.specs.Limits.{IsDesign, IsDenominator}
 use Rattle.mintc_timing.specs.Order.{ArePathsShort}
 use Rattle.mintc_timing.specs.Paths.{greatest_delay}
-use Rattle.mintc_timing.proofs.Products.{times-mono_positive}
+use Rattle.mintc_timing.proofs.SharedProducts.{times-mono_positive}
 use Rattle.mintc_certificate.specs.Ranges.{IsDeparture}
-use Rattle.mintc_certificate.proofs.PathDelays.{path-range}
+use Rattle.mintc_certificate.proofs.SharedPathDelays.{path-range}
 use Rattle.mintc_lanes.specs.Lanes.{AreLanes}
 use Rattle.mintc_checker.specs.declared.labels.Labels.{Labels}
 use Rattle.mintc_checker.specs.Trails.{IsGreatestTime, LeadsTo, LeadsFrom, element_of, time_along}

@@ -31,10 +31,6 @@ pub record IsFed (design : Design) (fed : List Bool) : Type 0 where
   pub each : (i j : ℕ) → IsPhase 8 i → IsPhase 8 j →
       OfTiming design (λ t. slice_index_or fed (8 * (i - 1) + (j - 1)) false ≡ feeds_of t i j)
 
--- a link of zeros, which stands for one past the end of a list
-abbrev pub no_link : Link
-no_link = record { kind = Other 0; from = 0; to = 0; delay = pos 0; cycles = 0 }
-
 -- Each label is a time.
 abbrev pub IsLate : ℤ → Type 0
 IsLate x = (negsuc 99999999999999 ≤ℤ x) × (x ≤ℤ pos 300000000000000)

@@ -6,7 +6,7 @@ ghost use Rattle.mintc_timing.specs.Departures.{AreExact, departure, late_depart
 ghost use Rattle.mintc_timing.specs.Design.{element_count};
 ghost use Rattle.mintc_timing.specs.Limits.{IsModest};
 ghost use Rattle.mintc_timing.specs.Right.{KeepsSetup};
-ghost use Rattle.mintc_demands.specs.Alone.{alone};
+ghost use Rattle.mintc_links.specs.Alone.{alone};
 ghost use Rattle.mintc_checker.specs.Judged.{AreTimely, AreTimelyLabels, Decides, IsArrivalTime, IsLate, OfTiming};
 ghost use Rattle.mintc_checker.specs.Labels.{AreLabels};
 ghost use Rattle.mintc_checker.specs.Trails.{IsLastArrival};
@@ -14,7 +14,7 @@ ghost use Rattle.mintc_checker.specs.Trails.{IsLastArrival};
 use crate::designs::ClockedDesign;
 use crate::labels::{Labels, departure_at, label_in};
 use crate::reading::element;
-use mintc_demands::{scaled, width};
+use mintc_links::{scaled, width};
 use mintc_timing::shift;
 
 /// The later of two times, of which the second is moved; either may be absent.

@@ -3,7 +3,7 @@ ghost use Rattle.std.specs.Prelude.{IfOk};
 ghost use Rattle.mintc_timing.specs.Order.{IsOrder, ArePathsShort};
 ghost use Rattle.mintc_certificate.specs.Ranges.{IsCertificateInRange, IsChainInRange, IsLeastInRange};
 ghost use Rattle.mintc_certificate.specs.Valid.{SchedulePasses, counts};
-ghost use Rattle.mintc_demands.specs.Alone.{alone};
+ghost use Rattle.mintc_links.specs.Alone.{alone};
 ghost use Rattle.mintc_checker.specs.Judged.{AreTimelyLabels, IsFed, OfTiming};
 ghost use Rattle.mintc_checker.specs.Verdicts.{IsFirstOfSchedule, IsVerdict};
 

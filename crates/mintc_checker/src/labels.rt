@@ -12,8 +12,8 @@ ghost use Rattle.mintc_checker.specs.Labels.{AreLabelsOf, IsStart, label_at, lab
 
 use crate::designs::DepartingDesign;
 use crate::reading::{arc_at_place, element};
-use mintc_demands::scaled;
 use mintc_lanes::{ABSENT, max_plus_row};
+use mintc_links::scaled;
 use mintc_text::OutOfMemory;
 use mintc_timing::Order;
 use std::alloc::Global;

@@ -8,10 +8,10 @@ ghost use Rattle.mintc_timing.specs.Order.{ArePathsShort};
 ghost use Rattle.mintc_certificate.specs.CertificateText.{IsCounted};
 ghost use Rattle.mintc_certificate.specs.Ranges.{IsChainInRange};
 ghost use Rattle.mintc_certificate.specs.Valid.{IsMember, IsRing, links_of_members};
-ghost use Rattle.mintc_timing.specs.Links.{IsTight, IsStuck};
-ghost use Rattle.mintc_demands.specs.Alone.{alone};
+ghost use Rattle.mintc_timing.specs.Links.{IsTight, IsStuck, no_link};
+ghost use Rattle.mintc_links.specs.Alone.{alone};
 ghost use Rattle.mintc_certificate.specs.Named.{IsNamed};
-ghost use Rattle.mintc_checker.specs.Judged.{Decides, IsFed, no_link};
+ghost use Rattle.mintc_checker.specs.Judged.{Decides, IsFed};
 
 use crate::designs::ClockedDesign;
 use crate::members::is_member;

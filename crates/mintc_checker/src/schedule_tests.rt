@@ -3,13 +3,13 @@ ghost use Rattle.std.specs.Prelude.{◌≡◌, ◌+◌, ◌-◌, ◌*◌, ◌<�
 ghost use Rattle.mintc_timing.specs.Clocking.{KeepsApart, KeepsBound, KeepsClock, KeepsPhase, EachPhase, crosses_of, end_of, least_width, start_of, width_of};
 ghost use Rattle.mintc_timing.specs.Limits.{IsBound, IsPhase};
 ghost use Rattle.mintc_certificate.specs.Valid.{SchedulePasses, counts};
-ghost use Rattle.mintc_demands.specs.Alone.{alone};
+ghost use Rattle.mintc_links.specs.Alone.{alone};
 ghost use Rattle.mintc_checker.specs.Judged.{AreTimelyLabels, Decides, IsFed, IsFedAt, KeepsOwn};
 
 use crate::designs::{ClockedDesign, DepartingDesign};
 use crate::labels::{Labels, label_in};
 use crate::reading::element;
-use mintc_demands::{
+use mintc_links::{
     apart_excess, bound_excess, cycle_excess, order_excess, span_excess, width_excess,
 };
 use mintc_timing::{Bound, Flat, Schedule};

@@ -1,11 +1,11 @@
-pub mod Calls
-pub mod CommandLaws
-pub mod ReadingLaws
-pub mod AnswerLaws
-pub mod SourceLaws
-pub mod JudgementLaws
-pub mod RefusalLaws
-pub mod CornerLaws
-pub mod OptimumLaws
-pub mod NumberLaws
-pub mod VerdictLaws
+mod Calls
+mod CommandLaws
+mod ReadingLaws
+mod AnswerLaws
+mod SourceLaws
+mod JudgementLaws
+mod RefusalLaws
+mod CornerLaws
+mod OptimumLaws
+mod NumberLaws
+mod VerdictLaws

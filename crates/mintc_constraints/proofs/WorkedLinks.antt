@@ -12,12 +12,12 @@ use Rattle.mintc_timing.specs.Limits.{IsElement, IsArc, IsDesign}
 use Rattle.mintc_timing.specs.Links.{link, links_of, IsChain, reach_link}
 use Rattle.mintc_timing.specs.Right.{IsLeastCycle}
 use Rattle.mintc_timing.specs.Worked.{latch, pair, ring, of_100}
-use Rattle.mintc_timing.proofs.WorkedPairs.{pairs_of_ring}
-use Rattle.mintc_timing.proofs.WorkedRows.{right_100}
+use Rattle.mintc_timing.proofs.SharedWorkedPairs.{pairs_of_ring}
+use Rattle.mintc_timing.proofs.SharedWorkedRows.{right_100}
 use Rattle.mintc_constraints.specs.Duality.{AreExactMoments, moments_of, schedule_of, departures_of}
-use Rattle.mintc_timing.proofs.LinkLaws.{ends_of}
-use Rattle.mintc_constraints.proofs.RightLaws.{right_has_moments_lem}
-use Rattle.mintc_constraints.proofs.ChainLaws.{tight_is_least_lem}
+use Rattle.mintc_timing.proofs.SharedLinkLaws.{ends_of}
+use Rattle.mintc_constraints.proofs.SharedRightLaws.{right_has_moments_lem}
+use Rattle.mintc_constraints.proofs.SharedChainLaws.{tight_is_least_lem}
 
 -- Two flops in a ring on one phase, 85 and 35 femtoseconds apart. Their data leaves at the phase's start.
 abbrev flop : List ℕ → Element

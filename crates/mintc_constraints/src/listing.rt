@@ -4,12 +4,12 @@ ghost use Rattle.std.specs.List.{enumerate_from, filter, range_with_len};
 ghost use Rattle.mintc_timing.specs.Clocking.{feeds_of};
 ghost use Rattle.mintc_timing.specs.Design.{element_count, phase_count};
 ghost use Rattle.mintc_timing.specs.Limits.{IsPhase};
-ghost use Rattle.mintc_timing.specs.Links.{apart_link as apart_link_of, bound_link as bound_link_of, cycle_link as cycle_link_of, latches_of, links_of, open_link, opened_link as opened_link_of, order_link as order_link_of, reach_link, setup_link as setup_link_of, span_link as span_link_of, start_link as start_link_of, width_link as width_link_of};
+ghost use Rattle.mintc_timing.specs.Links.{apart_link as apart_link_of, bound_link as bound_link_of, cycle_link as cycle_link_of, latches_of, links_of, opening_link as opening_link_of, opened_link as opened_link_of, order_link as order_link_of, reach_link, setup_link as setup_link_of, span_link as span_link_of, start_link as start_link_of, width_link as width_link_of};
 ghost use Rattle.mintc_timing.specs.Violations.{elements_of, phases_of};
 
 use crate::LinkList;
 use crate::parts::{elements, is_latch, nodes, phases, reach};
-use mintc_demands::{
+use mintc_links::{
     apart_link, bound_link, cycle_link, opened_link, opening_link, order_link, setup_link,
     span_link, start_link, width_link,
 };
@@ -119,7 +119,7 @@ fn append_aparts(system: &System, items: &mut Vec<Link>) -> Result<(), OutOfMemo
 
 /// Appends the links of openings.
 fn append_openings(system: &System, items: &mut Vec<Link>) -> Result<(), OutOfMemory>
-    ensures { OnOk result (items.new.items ≡ items.old.items ++ map (open_link system.now) (elements_of system.now)) }
+    ensures { OnOk result (items.new.items ≡ items.old.items ++ map (opening_link_of system.now) (elements_of system.now)) }
 {
     for number in 0..elements(system) {
         append(items, opening_link(system.flat(), number))?;

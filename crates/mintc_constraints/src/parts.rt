@@ -6,7 +6,7 @@ ghost use Rattle.mintc_timing.specs.Order.{IsTiming};
 ghost use Rattle.mintc_timing.specs.Links.{reach_link as reach_link_of};
 ghost use Rattle.mintc_constraints.specs.Laws.{node_count};
 
-use mintc_demands::reach_link;
+use mintc_links::reach_link;
 use mintc_timing::{Link, System};
 
 /// How many phases there are.

@@ -1,2 +1,2 @@
-pub mod LineLaws
-pub mod RunLaws
+mod LineLaws
+mod RunLaws

@@ -16,7 +16,7 @@ use Rattle.mintc_timing.specs.Departures.{departure, late_arrival, late_arrivals
 use Rattle.mintc_timing.specs.Design.{Timing, element_at, element_count}
 use Rattle.mintc_timing.specs.Extremes.{greater_of, greatest_of}
 use Rattle.mintc_timing.specs.Right.{IsRight, KeepsSetup}
-use Rattle.mintc_timing.proofs.Products.{times-mono_positive}
+use Rattle.mintc_timing.proofs.SharedProducts.{times-mono_positive}
 use Rattle.mintc_timing.specs.Paths.{HasEnds}
 use Rattle.mintc_corners.specs.JointLinks.{beside, shifted_pair}
 use Rattle.mintc_corners.specs.Laws.{BesideIsBoth, HaveOneClock}

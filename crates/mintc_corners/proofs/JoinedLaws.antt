@@ -13,10 +13,10 @@ use Rattle.mintc_timing.specs.Clocking.{least_width}
 use Rattle.mintc_timing.specs.Design.{Timing, element_count, pair_at, phase_count}
 use Rattle.mintc_timing.specs.Extremes.{greater_of, greatest_of}
 use Rattle.mintc_timing.specs.Limits.{IsDesign}
-use Rattle.mintc_timing.specs.Links.{links_of, open_link, opened_link, reach_link, setup_link}
+use Rattle.mintc_timing.specs.Links.{links_of, opening_link, opened_link, reach_link, setup_link}
 use Rattle.mintc_timing.specs.Paths.{HasEnds}
-use Rattle.mintc_timing.proofs.ByKind.{All-links, EachKind, EachKind-from_all}
-use Rattle.mintc_timing.proofs.Members.{All-back, All-front}
+use Rattle.mintc_timing.proofs.SharedByKind.{All-links, EachKind, EachKind-from_all}
+use Rattle.mintc_timing.proofs.SharedMembers.{All-back, All-front}
 use Rattle.mintc_corners.specs.Joined.{joined, joined_links, lifted_link, lifted_node, widest}
 use Rattle.mintc_corners.specs.Joint.{AreCorners}
 use Rattle.mintc_corners.specs.JointLinks.{joint_links_of, side_by_side}
@@ -94,7 +94,7 @@ node-itself : (clock x : ℕ) → lifted_node clock 0 x ≡ x
 node-itself clock x = grind (arith, nat_tests)
 
 module _ (wide : ℕ → ℤ) (clock : ℕ) (t : Timing) (same : (p : ℕ) → wide p ≡ least_width t p) where
-  pub open-itself : (l : ℕ) → lifted_link wide clock 0 (open_link t l) ≡ open_link t l
+  pub open-itself : (l : ℕ) → lifted_link wide clock 0 (opening_link t l) ≡ opening_link t l
   open-itself l = crossed_link (kind.Opening (0 + l)) (kind.Opening l) _ _ _ _ _ _ 0 0 (ap (λ (x : ℕ). kind.Opening x) (zero-add l)) (node-itself clock _) (node-itself clock _) refl refl
 
   pub opened-itself : (l : ℕ) → lifted_link wide clock 0 (opened_link t l) ≡ opened_link t l

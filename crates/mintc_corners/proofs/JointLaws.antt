@@ -10,9 +10,9 @@ use Rattle.mintc_timing.specs.Design.{Timing, element_count, phase_count}
 use Rattle.mintc_timing.specs.Limits.{IsArc, IsDelay, IsDesign, IsElement}
 use Rattle.mintc_timing.specs.Order.{IsTiming}
 use Rattle.mintc_timing.specs.Right.{IsRight}
-use Rattle.mintc_timing.proofs.Ranges.{pair-max_range}
+use Rattle.mintc_timing.proofs.SharedRanges.{pair-max_range}
 use Rattle.mintc_timing.specs.Paths.{HasEnds}
-use Rattle.mintc_timing.proofs.LinkLaws.{ends_of}
+use Rattle.mintc_timing.proofs.SharedLinkLaws.{ends_of}
 use Rattle.mintc_corners.specs.Joint.{AreCorners, AreJointlyRight, DifferInNumbers}
 use Rattle.mintc_corners.specs.JointLinks.{beside, shifted_pair, side_by_side}
 use Rattle.mintc_corners.specs.Laws.{AreBeside, AreSystems, CornersAreModest, HaveOneClock, JointCycleIsLeast, JointlyHopelessIsHopeless}

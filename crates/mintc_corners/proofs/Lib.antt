@@ -1,18 +1,18 @@
-pub mod PartsLaws
-pub mod BesideLaws
-pub mod JointLaws
-pub mod LiftLaws
-pub mod TransferLaws
-pub mod JoinedLaws
-pub mod PlaceLaws
-pub mod LiftedLaws
-pub mod ValuesLaws
-pub mod GreatestLaws
-pub mod StandingLaws
-pub mod LoopLaws
-pub mod MemberLaws
-pub mod TextLaws
-pub mod ScheduleLaws
-pub mod MadeLaws
-pub mod AnswerLaws
-pub mod WorkedCorners
+mod PartsLaws
+mod BesideLaws
+mod JointLaws
+mod LiftLaws
+mod TransferLaws
+mod JoinedLaws
+mod PlaceLaws
+mod LiftedLaws
+mod ValuesLaws
+mod GreatestLaws
+mod StandingLaws
+mod LoopLaws
+mod MemberLaws
+mod TextLaws
+mod ScheduleLaws
+mod MadeLaws
+mod AnswerLaws
+mod WorkedCorners

@@ -15,9 +15,9 @@ use Rattle.mintc_timing.specs.declared.parts.Point.TheVariants as point
 use Rattle.mintc_timing.specs.Clocking.{crosses_of, feeds_of}
 use Rattle.mintc_timing.specs.Design.{Timing, element_at, element_count, no_element, no_pair, pair_at, phase_count, phase_of}
 use Rattle.mintc_timing.specs.Limits.{IsDesign, IsPoint}
-use Rattle.mintc_timing.specs.Links.{apart_link, bound_link, cycle_link, element_node, end_node, link, open_link, opened_link, order_link, point_node, reach_link, setup_link, span_link, start_link, start_node, width_link}
+use Rattle.mintc_timing.specs.Links.{apart_link, bound_link, cycle_link, element_node, end_node, link, opening_link, opened_link, order_link, point_node, reach_link, setup_link, span_link, start_link, start_node, width_link}
 use Rattle.mintc_timing.specs.Paths.{HasEnds}
-use Rattle.mintc_timing.proofs.ByKind.{EachKind}
+use Rattle.mintc_timing.proofs.SharedByKind.{EachKind}
 use Rattle.mintc_corners.specs.Joined.{lifted_link, lifted_node}
 use Rattle.mintc_corners.specs.JointLinks.{beside, shifted_pair}
 use Rattle.mintc_corners.specs.Laws.{HaveOneClock}
@@ -97,7 +97,7 @@ module _ (wide : ℕ → ℤ) (before : ℕ) (t u : Timing) (clock : HaveOneCloc
   reaches j l x z gap d e = link (kind.Reach j l) (output x d) z (d.dq_max +ℤ gap) (crosses_of d.phase e.phase)
 
   -- of the first, links are as they are
-  pub open-left : (l : ℕ) → l < n → open_link b l ≡ open_link t l
+  pub open-left : (l : ℕ) → l < n → opening_link b l ≡ opening_link t l
   open-left l h = ap (opens l (element_node t l)) (element_beside_left t u l h)
 
   pub opened-left : (l : ℕ) → l < n → opened_link b l ≡ opened_link t l
@@ -115,7 +115,7 @@ module _ (wide : ℕ → ℤ) (before : ℕ) (t u : Timing) (clock : HaveOneCloc
   more-is : (l : ℕ) → before + (n + l) ≡ (before + n) + l
   more-is l = omega arith
 
-  pub open-right : (l : ℕ) → l < element_count u → low (open_link b (n + l)) ≡ high (open_link u l)
+  pub open-right : (l : ℕ) → l < element_count u → low (opening_link b (n + l)) ≡ high (opening_link u l)
   open-right l h =
       ap (λ (e : Element). low (opens (n + l) (element_node b (n + l)) e)) (element_beside_right t u l)
       ∙ same_link (kind.Opening (before + (n + l))) (kind.Opening ((before + n) + l)) _ _ _ _ _ 0
@@ -226,7 +226,7 @@ module _ (wide : ℕ → ℤ) (before : ℕ) (t u : Timing) (clock : HaveOneCloc
           let h1 = h.1 in
           subst P (sym (apart-same i j g.1 h.1)) (two.apart i j (g.0, omega arith) (h.0, omega arith) its))
           (or_cases (feeds_of t i j) (feeds_of u i j) (sym (feeds_beside t u ends i j) ∙ fed));
-      opening = each-element (λ l. One (open_link b l)) (λ l h. subst One (sym (open-left l h)) (one.opening l h)) (λ l h. subst P (sym (open-right l h)) (two.opening l h));
+      opening = each-element (λ l. One (opening_link b l)) (λ l h. subst One (sym (open-left l h)) (one.opening l h)) (λ l h. subst P (sym (open-right l h)) (two.opening l h));
       opened = each-element (λ l. (element_at b l).flop ≡ false → One (opened_link b l))
           (λ l h latch. subst One (sym (opened-left l h)) (one.opened l h (sym (flop-left l h) ∙ latch)))
           (λ l h latch. subst P (sym (opened-right l h)) (two.opened l h (sym (flop-right l) ∙ latch)));

@@ -5,7 +5,7 @@ use Rattle.mintc_timing.specs.declared.link.Link.{Link}
 use Rattle.mintc_timing.specs.Clocking.{feeds_of}
 use Rattle.mintc_timing.specs.Design.{Timing, element_count, phase_count}
 use Rattle.mintc_timing.specs.Limits.{IsDesign}
-use Rattle.mintc_timing.specs.Links.{open_link, opened_link, reach_link, setup_link}
+use Rattle.mintc_timing.specs.Links.{opening_link, opened_link, reach_link, setup_link}
 use Rattle.mintc_timing.specs.Paths.{HasEnds}
 use Rattle.mintc_corners.specs.Joined.{lifted_link, widest}
 use Rattle.mintc_corners.specs.JointLinks.{beside, side_by_side}
@@ -18,7 +18,7 @@ use Rattle.mintc_corners.proofs.PlaceLaws.{elements_before}
 -- the links of a timing's elements are those of another, whose elements come after so many others
 record AreLifted (wide : ℕ → ℤ) (clock before off : ℕ) (all own : Timing) : Type 0 where
   pub inside : off + element_count own ≤ element_count all
-  pub opening : (l : ℕ) → l < element_count own → lifted_link wide clock before (open_link all (off + l)) ≡ lifted_link wide clock (before + off) (open_link own l)
+  pub opening : (l : ℕ) → l < element_count own → lifted_link wide clock before (opening_link all (off + l)) ≡ lifted_link wide clock (before + off) (opening_link own l)
   pub opened : (l : ℕ) → l < element_count own → lifted_link wide clock before (opened_link all (off + l)) ≡ lifted_link wide clock (before + off) (opened_link own l)
   pub reach : (j l : ℕ) (gap : ℤ) → j < element_count own → l < element_count own →
       lifted_link wide clock before (reach_link all (off + j) (off + l) gap) ≡ lifted_link wide clock (before + off) (reach_link own j l gap)
@@ -122,10 +122,10 @@ module _ (t : Timing) (ts : List Timing) (known : Levels t ts) (c : ℕ) (none :
   pub elements_inside : off + element_count own ≤ element_count all
   elements_inside = lifted_here.inside
 
-  pub open_of_all : (l : ℕ) → l < element_count own → open_link all (off + l) ≡ lifted_to_all (open_link own l)
+  pub open_of_all : (l : ℕ) → l < element_count own → opening_link all (off + l) ≡ lifted_to_all (opening_link own l)
   open_of_all l h =
       sym (open-itself wide (2 * phase_count t) all (widest_is t ts) (off + l)) ∙ lifted_here.opening l h
-      ∙ ap (λ (x : ℕ). lifted_link wide (2 * phase_count t) x (open_link own l)) (zero-add off)
+      ∙ ap (λ (x : ℕ). lifted_link wide (2 * phase_count t) x (opening_link own l)) (zero-add off)
 
   pub opened_of_all : (l : ℕ) → l < element_count own → opened_link all (off + l) ≡ lifted_to_all (opened_link own l)
   opened_of_all l h =

@@ -16,11 +16,11 @@ use Rattle.mintc_timing.specs.Order.{IsTiming}
 use Rattle.mintc_constraints.specs.Duality.{departures_of}
 use Rattle.mintc_constraints.specs.Laws.{node_count}
 use Rattle.mintc_constraints.specs.Ordinary.{Constraints, IsOrdinary, constraints_of}
-use Rattle.mintc_timing.proofs.ByKind.{All-links}
-use Rattle.mintc_constraints.proofs.OrdinaryLaws.{each_between}
-use Rattle.mintc_timing.proofs.LinkLaws.{ends_of}
+use Rattle.mintc_timing.proofs.SharedByKind.{All-links}
+use Rattle.mintc_constraints.proofs.SharedOrdinaryLaws.{each_between}
+use Rattle.mintc_timing.proofs.SharedLinkLaws.{ends_of}
 use Rattle.mintc_certificate.specs.Ranges.{IsDeparture}
-use Rattle.mintc_optimise.proofs.StandingLaws.{of_kind}
+use Rattle.mintc_optimise.proofs.SharedStandingLaws.{of_kind}
 use Rattle.mintc_corners.specs.CornerOptimum.{AreDeparturesInRange}
 use Rattle.mintc_corners.specs.Joined.{HasLowKind, IsLow, IsPlace, departures_after, joined, joined_links, lifted_link, no_timing, number_at, own_list, own_values, total_links, widest}
 use Rattle.mintc_corners.specs.Joint.{AreCorners}

@@ -16,18 +16,18 @@ use Rattle.mintc_timing.specs.Paths.{HasEnds}
 use Rattle.mintc_constraints.specs.Laws.{node_count}
 use Rattle.mintc_constraints.specs.Ordinary.{Constraints, constraints_of}
 use Rattle.mintc_constraints.specs.Rooms.{Space}
-use Rattle.mintc_constraints.proofs.ChainLaws.{stuck_is_hopeless_lem, tight_is_least_lem}
-use Rattle.mintc_constraints.proofs.MomentLaws.{moments_are_right_lem}
+use Rattle.mintc_constraints.proofs.SharedChainLaws.{stuck_is_hopeless_lem, tight_is_least_lem}
+use Rattle.mintc_constraints.proofs.SharedMomentLaws.{moments_are_right_lem}
 use Rattle.mintc_ratio.specs.Chains.{NamesChain, links_at}
 use Rattle.mintc_ratio.specs.Greatest.{AreGreatest}
 use Rattle.mintc_ratio.specs.Searched.{IsLeast}
-use Rattle.mintc_ratio.proofs.SumsLaws.{few_links}
+use Rattle.mintc_ratio.proofs.SharedSumsLaws.{few_links}
 use Rattle.mintc_optimise.specs.Making.{AreSayable}
 use Rattle.mintc_optimise.specs.Optimum.{IsEarliest}
-use Rattle.mintc_optimise.proofs.CertificateLaws.{AllPairs-named}
-use Rattle.mintc_optimise.proofs.EarliestLaws.{earliest}
-use Rattle.mintc_optimise.proofs.SayingLaws.{are_sayable}
-use Rattle.mintc_optimise.proofs.WalkedLaws.{exact_moments}
+use Rattle.mintc_optimise.proofs.SharedCertificateLaws.{AllPairs-named}
+use Rattle.mintc_optimise.proofs.SharedEarliestLaws.{earliest}
+use Rattle.mintc_optimise.proofs.SharedSayingLaws.{are_sayable}
+use Rattle.mintc_optimise.proofs.SharedWalkedLaws.{exact_moments}
 use Rattle.mintc_corners.specs.declared.members.CornerMember.{CornerMember}
 use Rattle.mintc_corners.specs.declared.certificate.CornerCertificate.TheVariants.{Least, Never}
 use Rattle.mintc_corners.specs.CornerOptimum.{AreDeparturesInRange, EntersOnce, IsCornerChainInRange, IsCornerOptimum, all_departures}

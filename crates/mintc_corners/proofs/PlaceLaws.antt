@@ -11,7 +11,7 @@ use Rattle.mintc_timing.specs.Limits.{IsDesign}
 use Rattle.mintc_timing.specs.Links.{links_of}
 use Rattle.mintc_constraints.specs.Laws.{node_count}
 use Rattle.mintc_constraints.specs.Ordinary.{IsOrdinary, constraints_of}
-use Rattle.mintc_constraints.proofs.OrdinaryLaws.{few_links, modest_links_are_ordinary_lem}
+use Rattle.mintc_constraints.proofs.SharedOrdinaryLaws.{few_links, modest_links_are_ordinary_lem}
 use Rattle.mintc_corners.specs.JointLinks.{joint_nodes, side_by_side}
 use Rattle.mintc_corners.specs.Joined.{clock_count, joined, joined_links, lifted_link, number_at, own_list, total_links, widest}
 use Rattle.mintc_corners.specs.Joint.{AreCorners, DifferInNumbers}

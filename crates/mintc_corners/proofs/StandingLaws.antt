@@ -11,7 +11,7 @@ use Rattle.mintc_timing.specs.declared.parts.Point.{Point}
 use Rattle.mintc_timing.specs.declared.parts.Point.TheVariants as point
 use Rattle.mintc_timing.specs.Design.{Timing, element_count, no_pair, pair_at, phase_count}
 use Rattle.mintc_timing.specs.Limits.{IsDesign, IsPoint}
-use Rattle.mintc_timing.specs.Links.{bound_link, end_node, links_of, open_link, opened_link, point_node, reach_link, setup_link, start_node, link_at}
+use Rattle.mintc_timing.specs.Links.{bound_link, end_node, links_of, opening_link, opened_link, point_node, reach_link, setup_link, start_node, link_at}
 use Rattle.mintc_timing.specs.Order.{IsTiming}
 use Rattle.mintc_timing.specs.Paths.{IsGreatestDelay, greatest_delay, input_of}
 use Rattle.mintc_ratio.specs.Chains.{links_at}
@@ -19,7 +19,7 @@ use Rattle.mintc_certificate.specs.declared.members.Member.{Member}
 use Rattle.mintc_certificate.specs.declared.members.Member.TheVariants as member
 use Rattle.mintc_certificate.specs.Valid.{IsMember, link_of, no_bound}
 use Rattle.mintc_optimise.specs.Making.{StandsFor as StandsForOwn}
-use Rattle.mintc_optimise.proofs.StandingLaws.{of_kind}
+use Rattle.mintc_optimise.proofs.SharedStandingLaws.{of_kind}
 use Rattle.mintc_corners.specs.declared.members.CornerMember.{CornerMember}
 use Rattle.mintc_corners.specs.CornerOptimum.{IsCornerCounted}
 use Rattle.mintc_corners.specs.CornerValid.{IsOfCorner, corner_of, link_of_corner}
@@ -129,7 +129,7 @@ module _ (t : Timing) (ts : List Timing) (are : AreCorners (t ∷ ts)) (systems 
       let one = h.0.1 in
       let two = h.1.1 in
       crossed_link (kind.Apart i j) (kind.Apart i j) _ _ _ _ _ _ _ _ refl (stays (end_node j) (omega arith)) (stays (start_node i) (omega arith)) refl refl
-  lifted_member (member.Opening l) h = subst (λ (x : ℕ). open_link big (x + l) ≡ lifted (open_link own l)) off-is (open_of_all t ts known c t below l h)
+  lifted_member (member.Opening l) h = subst (λ (x : ℕ). opening_link big (x + l) ≡ lifted (opening_link own l)) off-is (open_of_all t ts known c t below l h)
   lifted_member (member.Opened l) h = subst (λ (x : ℕ). opened_link big (x + l) ≡ lifted (opened_link own l)) off-is (opened_of_all t ts known c t below l h.0)
   lifted_member (member.Reach j l path) h =
       subst (λ (x : ℕ). reach_link big (x + j) (x + l) (greatest_delay own.flat.arcs path) ≡ lifted (reach_link own j l (greatest_delay own.flat.arcs path))) off-is

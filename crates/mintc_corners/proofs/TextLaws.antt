@@ -5,7 +5,7 @@ use Rattle.std.proofs.lemmas.Grind.{flat_map-append}
 use Rattle.std.proofs.lemmas.List.{append-nil, take_more}
 use Rattle.mintc_text.specs.Lines.{text_of}
 use Rattle.mintc_certificate.specs.Written.{count_line, departure_lines}
-use Rattle.mintc_certificate.proofs.WritingLaws.{texts_joined}
+use Rattle.mintc_certificate.proofs.SharedWritingLaws.{texts_joined}
 
 pub corner_more : (corners : List (List ℤ)) (i : ℕ) (d : List ℤ) (old now new : List ℕ) → i < length corners → d ≡ get_or corners i d →
     now ≡ old ++ text_of (count_line (codes "corners") (length corners) ∷ flat_map departure_lines (take i corners)) → new ≡ now ++ text_of (departure_lines d) →

@@ -5,7 +5,7 @@ use Rattle.mintc_timing.specs.declared.link.Link.{Link}
 use Rattle.mintc_rings.specs.Rings.{IsClosed}
 use Rattle.mintc_timing.specs.Design.{Timing, element_count}
 use Rattle.mintc_timing.specs.Paths.{input_of, greatest_delay, IsGreatestDelay}
-use Rattle.mintc_timing.specs.Links.{IsTight, IsStuck, open_link, opened_link, reach_link, setup_link}
+use Rattle.mintc_timing.specs.Links.{IsTight, IsStuck, opening_link, opened_link, reach_link, setup_link}
 use Rattle.mintc_certificate.specs.declared.members.Member.{Member}
 use Rattle.mintc_certificate.specs.declared.members.Member.TheVariants as member
 use Rattle.mintc_certificate.specs.Valid.{IsMember, link_of}
@@ -44,7 +44,7 @@ abbrev pub among : Timing → ℕ → ℕ → ℕ
 among t c l = c * element_count t + l
 
 abbrev pub link_in : Timing → List Timing → ℕ → Member → Link
-link_in t ts c (member.Opening l) = open_link (side_by_side t ts) (among t c l)
+link_in t ts c (member.Opening l) = opening_link (side_by_side t ts) (among t c l)
 link_in t ts c (member.Opened l) = opened_link (side_by_side t ts) (among t c l)
 link_in t ts c (member.Reach j l path) = reach_link (side_by_side t ts) (among t c j) (among t c l) (greatest_delay (corner_of t ts c).flat.arcs path)
 link_in t ts c (member.Setup l) = setup_link (side_by_side t ts) (among t c l)

@@ -3,7 +3,7 @@ ghost use Rattle.std.specs.Prelude.{◌≡◌, ◌≤◌};
 ghost use Rattle.mintc_corners.specs.Joined.{HasLowKind, IsLow, lifted_delay as lifted_delay_of, lifted_kind as lifted_kind_of, lifted_link, lifted_node as lifted_node_of, widest};
 
 use mintc_constraints::{Link, LinkKind};
-use mintc_demands::width_needed;
+use mintc_links::width_needed;
 use mintc_timing::System;
 
 /// The number of a corner's node among those of all: time 0 and the nodes of the clock keep theirs, and the elements come

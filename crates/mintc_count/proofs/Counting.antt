@@ -5,16 +5,16 @@ use Rattle.mintc_timing.specs.Design.{Design}
 use Rattle.mintc_timing.specs.Limits.{IsDesign}
 use Rattle.mintc_timing.specs.Order.{IsOrder}
 use Rattle.mintc_timing.specs.Paths.{Leads, IsPath, HasExtremes, input_of, output_of}
-use Rattle.mintc_timing.proofs.Ordered.{all_among}
+use Rattle.mintc_timing.proofs.SharedOrdered.{all_among}
 use Rattle.mintc_count.specs.Count.{AreEndsOf, IsCountBefore, IsPairMark}
 use Rattle.mintc_count.specs.declared.marks.Marks.{Marks}
 use Rattle.mintc_paths.specs.Found.{ArePairsBefore}
 use Rattle.mintc_count.specs.Marks.{AreMarksAlong, mark_in, marks_at}
 use Rattle.mintc_paths.specs.Sums.{row_of, LeadsBack}
 use Rattle.mintc_paths.specs.Turned.{turned_design}
-use Rattle.mintc_paths.proofs.Existing.{pairs_exist_lem}
-use Rattle.mintc_paths.proofs.Finding.{ArePairsBefore-next, ArePairsBefore-none, ArePairsBefore-push, ArePairsBefore-skip}
-use Rattle.mintc_paths.proofs.TurnedPairs.{ArePairsBefore-back}
+use Rattle.mintc_paths.proofs.SharedExisting.{pairs_exist_lem}
+use Rattle.mintc_paths.proofs.SharedFinding.{ArePairsBefore-next, ArePairsBefore-none, ArePairsBefore-push, ArePairsBefore-skip}
+use Rattle.mintc_paths.proofs.SharedTurnedPairs.{ArePairsBefore-back}
 use Rattle.mintc_count.proofs.Leading.{mark_is}
 
 pub IsCountBefore-none : (design : Design) → IsCountBefore design 0 0 0

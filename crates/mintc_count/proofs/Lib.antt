@@ -1,6 +1,6 @@
 -- Lemmas by topic.
-pub mod Setting
-pub mod Leading
-pub mod Noting
-pub mod Counting
-pub mod Listing
+mod Setting
+mod Leading
+mod Noting
+mod Counting
+mod Listing

@@ -8,7 +8,7 @@ use Rattle.mintc_count.specs.Marks.{mark_in, marks_at}
 use Rattle.mintc_count.proofs.Counting.{IsCountBefore-more, IsCountBefore-next}
 use Rattle.mintc_count.proofs.Noting.{none_in}
 use Rattle.mintc_paths.specs.Found.{end_at}
-use Rattle.mintc_paths.proofs.Climbing.{IsToEnd, IsToEnd-at, IsToEnd-more, IsToEnd-all}
+use Rattle.mintc_paths.proofs.SharedClimbing.{IsToEnd, IsToEnd-at, IsToEnd-more, IsToEnd-all}
 
 -- The count is that of the pairs before some element, which comes after the listed ones before this one and not after this one.
 abbrev pub IsCountToEnd : Design → ℕ → List ℕ → ℕ → ℕ → Type 0

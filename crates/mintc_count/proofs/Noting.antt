@@ -18,8 +18,8 @@ use Rattle.mintc_paths.specs.declared.rows.Course.{Course}
 use Rattle.mintc_count.specs.Marks.{marks_at, no_marks, mark_in, IsMarkOf, AreMarksAlong, AreMarksBegun, AreMarksReached}
 use Rattle.mintc_paths.specs.Sums.{row_of, LeadsBack, IsCourse}
 use Rattle.mintc_count.proofs.Leading.{AreCarriedMarks, AreMarksAlong-more, IsMarkOf-same, rows_apart}
-use Rattle.mintc_paths.proofs.Climbing.{climb}
-use Rattle.mintc_paths.proofs.Passing.{from_in, to_in, row_in, not_on}
+use Rattle.mintc_paths.proofs.SharedClimbing.{climb}
+use Rattle.mintc_paths.proofs.SharedPassing.{from_in, to_in, row_in, not_on}
 use Rattle.mintc_count.proofs.Setting.{by_word}
 
 -- a row that gets marks and is reached

@@ -15,8 +15,8 @@ use Rattle.mintc_departure.specs.Chains.{end_of, IsLastOf, AreChains}
 use Rattle.mintc_departure.specs.declared.chains.Chains.{Chains}
 use Rattle.mintc_departure.specs.declared.chains.End.{End}
 use Rattle.mintc_departure.specs.declared.chains.End.TheVariants.{First, Second}
-use Rattle.mintc_departure.proofs.Lesser.{first-more}
-use Rattle.mintc_departure.proofs.Sizes.{below_or_not}
+use Rattle.mintc_departure.proofs.SharedLesser.{first-more}
+use Rattle.mintc_departure.proofs.SharedSizes.{below_or_not}
 
 module _ (test : Pair → Bool) (pairs : List Pair) where
   -- a pair that passes, and one that doesn't

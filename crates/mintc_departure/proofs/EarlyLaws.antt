@@ -11,18 +11,18 @@ use Rattle.mintc_timing.specs.Design.{Timing, element_at, element_count, pair_at
 use Rattle.mintc_timing.specs.Clocking.{shift_of}
 use Rattle.mintc_timing.specs.Departures.{departure, into, early_arrival, early_arrivals, early_opening, early_departure, late_arrival, late_opening, AreEarly, AreAtMost, AreLate}
 use Rattle.mintc_timing.specs.Extremes.{greater_of, least_of}
-use Rattle.mintc_timing.proofs.DepartureLaws.{late_departure-flop}
-use Rattle.mintc_timing.proofs.Loops.{arrival-at_most}
-use Rattle.mintc_timing.proofs.Products.{add-times, times-mono_positive}
+use Rattle.mintc_timing.proofs.SharedDepartureLaws.{late_departure-flop}
+use Rattle.mintc_timing.proofs.SharedLoops.{arrival-at_most}
+use Rattle.mintc_timing.proofs.SharedProducts.{add-times, times-mono_positive}
 use Rattle.mintc_departure.specs.Clocked.{IsClocked}
 use Rattle.mintc_departure.specs.Rounds.{early_start_of, early_travel, IsFirst, AreSums, AreRising}
 use Rattle.mintc_departure.specs.Settled.{IsSum}
 use Rattle.mintc_departure.specs.declared.arrivals.TheConstants.{NEVER}
 use Rattle.mintc_departure.proofs.LateSizes.{late-within}
-use Rattle.mintc_departure.proofs.Lesser.{greater-mono, greater-from, greater-one, least-mono, least-some}
+use Rattle.mintc_departure.proofs.SharedLesser.{greater-mono, greater-from, greater-one, least-mono, least-some}
 use Rattle.mintc_departure.proofs.NetworkLaws.{exact-starts, start-latch}
-use Rattle.mintc_walks.proofs.Within.{IsWithin-product}
-use Rattle.mintc_departure.proofs.Sizes.{below_or_not, element_in_range, pair_ends, pair-min_order}
+use Rattle.mintc_walks.proofs.SharedWithin.{IsWithin-product}
+use Rattle.mintc_departure.proofs.SharedSizes.{below_or_not, element_in_range, pair_ends, pair-min_order}
 
 -- A latch with a first arrival departs by it.
 first-greater : (start first : ℤ) (o : Option ℤ) → IsFirst o first → first ≢ NEVER → int_max start first ≡ greater_of start o

@@ -5,7 +5,7 @@ use Rattle.std.specs.Int.{int_max}
 use Rattle.mintc_timing.specs.Extremes.{greater_of, greatest_of}
 use Rattle.mintc_departure.specs.Excesses.{IsLast}
 use Rattle.mintc_departure.specs.Rounds.{IsArrivalSum}
-use Rattle.mintc_departure.proofs.Lesser.{IsNoLater}
+use Rattle.mintc_departure.proofs.SharedLesser.{IsNoLater}
 
 -- an arrival more
 pub last-more : (o : Option ℤ) (v y : ℤ) → IsArrivalSum y → IsLast o v → IsLast (Some (greater_of y o)) (int_max y v)

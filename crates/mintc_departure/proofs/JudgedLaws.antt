@@ -7,7 +7,7 @@ use Rattle.mintc_timing.specs.Departures.{AreEarly, AreLate}
 use Rattle.mintc_timing.specs.Design.{Timing}
 use Rattle.mintc_timing.specs.Paths.{HasExtremes}
 use Rattle.mintc_timing.specs.Violations.{AreViolations, failed, clock_checks, setup_checks, hold_checks}
-use Rattle.mintc_timing.proofs.Loops.{no_loop}
+use Rattle.mintc_timing.proofs.SharedLoops.{no_loop}
 use Rattle.mintc_departure.proofs.FailedLaws.{joined}
 
 -- Where departures settle, no loop is above 0, and the list is that of the clock, then that of the elements.

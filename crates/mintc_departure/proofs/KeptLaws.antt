@@ -7,7 +7,7 @@ use Rattle.std.proofs.lemmas.List.Elements.{All-nil, All-cons, All-head, All-tai
 use Rattle.mintc_timing.specs.declared.violation.Broken.{Broken}
 use Rattle.mintc_timing.specs.declared.violation.Violation.{Violation}
 use Rattle.mintc_timing.specs.Violations.{check, failed}
-use Rattle.mintc_timing.proofs.MeetingLaws.{All-range}
+use Rattle.mintc_timing.proofs.SharedMembers.{All-range}
 
 -- a number moved to the other side
 pub moved : (x y : ℤ) → ((x -ℤ y) ≤ℤ pos 0) ↔ (x ≤ℤ y)

@@ -11,14 +11,14 @@ use Rattle.mintc_timing.specs.declared.clocking.Schedule.{Schedule}
 use Rattle.mintc_timing.specs.Design.{Timing, element_at, element_count, pair_at, no_pair}
 use Rattle.mintc_timing.specs.Departures.{departure, late_arrival, late_arrivals, late_opening, late_departure, AreExact, AreLate}
 use Rattle.mintc_timing.specs.Extremes.{greater_of, greatest_of}
-use Rattle.mintc_timing.proofs.DepartureLaws.{late_departure-latch, late_departure-flop}
-use Rattle.mintc_timing.proofs.ExtremesLaws.{greatest_is, greater-attained}
-use Rattle.mintc_timing.proofs.Loops.{arrival-at_most}
+use Rattle.mintc_timing.proofs.SharedDepartureLaws.{late_departure-latch, late_departure-flop}
+use Rattle.mintc_timing.proofs.SharedExtremesLaws.{greatest_is, greater-attained}
+use Rattle.mintc_timing.proofs.SharedLoops.{arrival-at_most}
 use Rattle.mintc_departure.specs.Clocked.{IsClocked}
 use Rattle.mintc_departure.specs.Networks.{late_travel}
 use Rattle.mintc_departure.proofs.Ladders.{IsGap, all_below}
 use Rattle.mintc_departure.proofs.NetworkLaws.{greater-is, arrival-is, start-latch, exact-starts}
-use Rattle.mintc_departure.proofs.Sizes.{start-within, opening-within, travel-within, pair_ends}
+use Rattle.mintc_departure.proofs.SharedSizes.{start-within, opening-within, travel-within, pair_ends}
 
 -- a number above a bound less 1, and any other as it is
 abbrev lowered : ℤ → ℤ → ℤ

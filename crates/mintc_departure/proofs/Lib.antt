@@ -1,20 +1,20 @@
-pub mod Sizes
-pub mod NetworkLaws
-pub mod LoopLaws
-pub mod SettledLaws
-pub mod Filling
-pub mod Ladders
-pub mod LateSizes
-pub mod Lesser
-pub mod ChainLaws
-pub mod EarlyLaws
-pub mod SweepLaws
-pub mod Missing
-pub mod FailedLaws
-pub mod Gathering
-pub mod Greater
-pub mod ElementLaws
-pub mod LoopSums
-pub mod JudgedLaws
-pub mod KeptLaws
-pub mod PassLaws
+pub mod SharedSizes
+pub mod SharedLesser
+pub mod SharedPassLaws
+mod NetworkLaws
+mod LoopLaws
+mod SettledLaws
+mod Filling
+mod Ladders
+mod LateSizes
+mod ChainLaws
+mod EarlyLaws
+mod SweepLaws
+mod Missing
+mod FailedLaws
+mod Gathering
+mod Greater
+mod ElementLaws
+mod LoopSums
+mod JudgedLaws
+mod KeptLaws

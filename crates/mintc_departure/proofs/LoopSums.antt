@@ -13,8 +13,8 @@ use Rattle.mintc_timing.specs.Design.{Timing, element_count, pair_at, no_pair}
 use Rattle.mintc_timing.specs.Limits.{IsTime}
 use Rattle.mintc_timing.specs.Paths.{HasExtremes}
 use Rattle.mintc_timing.specs.Violations.{IsLoop}
-use Rattle.mintc_rings.proofs.RingLaws.{total-append}
-use Rattle.mintc_timing.proofs.Fitting.{read_time}
+use Rattle.mintc_rings.proofs.SharedRingLaws.{total-append}
+use Rattle.mintc_timing.proofs.SharedFitting.{read_time}
 
 -- numbers below n, no two of them equal, are at most n
 few_distinct : (n : ℕ) (xs : List ℕ) → AllPairs (λ x y. x ≢ y) xs → All (λ x. x < n) xs → length xs ≤ n

@@ -6,7 +6,7 @@ use Rattle.mintc_timing.specs.Design.{Timing, element_at, element_count}
 use Rattle.mintc_timing.specs.Departures.{departure, early_departure}
 use Rattle.mintc_departure.specs.Rounds.{AreRising}
 use Rattle.mintc_departure.proofs.EarlyLaws.{IsRound}
-use Rattle.mintc_departure.proofs.Sizes.{below_or_not}
+use Rattle.mintc_departure.proofs.SharedSizes.{below_or_not}
 
 -- a number that is not negative, and 0 for any other
 abbrev pub count_of : ℤ → ℕ

@@ -14,12 +14,12 @@ use Rattle.mintc_timing.specs.Design.{Timing, element_at, element_count, pair_at
 use Rattle.mintc_timing.specs.Departures.{departure, late_arrival, late_arrivals, late_opening, AreExact, AreLate}
 use Rattle.mintc_timing.specs.Extremes.{greater_of, greatest_of}
 use Rattle.mintc_timing.specs.Paths.{HasExtremes}
-use Rattle.mintc_timing.proofs.DepartureLaws.{late_departure-latch, late_departure-flop}
-use Rattle.mintc_timing.proofs.ExtremesLaws.{greatest_is, greater-least, greater-bound, greater-attained}
-use Rattle.mintc_timing.proofs.Loops.{arrival-at_most}
+use Rattle.mintc_timing.proofs.SharedDepartureLaws.{late_departure-latch, late_departure-flop}
+use Rattle.mintc_timing.proofs.SharedExtremesLaws.{greatest_is, greater-least, greater-bound, greater-attained}
+use Rattle.mintc_timing.proofs.SharedLoops.{arrival-at_most}
 use Rattle.mintc_departure.specs.Clocked.{IsClocked}
 use Rattle.mintc_departure.specs.Networks.{late_start_of, late_travel, arc_of, arcs_of}
-use Rattle.mintc_departure.proofs.Sizes.{pair_ends, start-within, weight-within}
+use Rattle.mintc_departure.proofs.SharedSizes.{pair_ends, start-within, weight-within}
 
 le_antisym : (x y : ℤ) → x ≤ℤ y → y ≤ℤ x → x ≡ y
 le_antisym x y h k = omega (arith, ints)

@@ -12,7 +12,7 @@ use Rattle.mintc_timing.specs.Extremes.{greater_of, least_of}
 use Rattle.mintc_departure.specs.Clocked.{IsClocked}
 use Rattle.mintc_departure.specs.Rounds.{early_travel, AreRising, AreSwept}
 use Rattle.mintc_departure.proofs.EarlyLaws.{early-arrival-is, rising-part}
-use Rattle.mintc_departure.proofs.Sizes.{below_or_not}
+use Rattle.mintc_departure.proofs.SharedSizes.{below_or_not}
 
 -- Two functions that agree on what passes give the same lists.
 module _ (f g : Pair → ℤ) (test : Pair → Bool) where

@@ -7,7 +7,7 @@ ghost use Rattle.mintc_departure.specs.Networks.{late_start_of, late_travel};
 ghost use Rattle.mintc_departure.specs.Rounds.{early_start_of, early_travel};
 
 use crate::clocked_system::ClockedSystem;
-use mintc_demands::scaled;
+use mintc_links::scaled;
 use mintc_timing::{System, shift};
 
 /// The least delay of a pair.

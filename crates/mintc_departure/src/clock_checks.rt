@@ -8,7 +8,7 @@ ghost use Rattle.mintc_timing.specs.Violations.{check, failed, apart_checks, bou
 ghost use Rattle.mintc_departure.specs.Checks.{fed_checks, phase_check};
 
 use crate::clocked_system::ClockedSystem;
-use mintc_demands::{
+use mintc_links::{
     apart_excess, bound_excess, cycle_excess, order_excess, span_excess, width_excess,
 };
 use mintc_text::OutOfMemory;

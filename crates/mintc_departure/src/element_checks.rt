@@ -16,7 +16,7 @@ use crate::clock_checks::judge;
 use crate::clocked_system::ClockedSystem;
 use crate::latest::LONG_AGO;
 use mintc_constraints::Room;
-use mintc_demands::{scaled, width};
+use mintc_links::{scaled, width};
 use mintc_text::OutOfMemory;
 use mintc_timing::{Broken, Violation};
 

@@ -23,7 +23,7 @@ use Rattle.mintc_targets.specs.Orders.{Stands, IsOrder, HoldsAll}
 use Rattle.mintc_faults.specs.Twice.{first_again, first_again_of}
 use Rattle.mintc_faults.proofs.AgainLaws.{first_again-is}
 use Rattle.mintc_faults.proofs.FirstLaws.{first_at_fault-is, first_in-is}
-use Rattle.mintc_targets.proofs.OrderingLaws.{each}
+use Rattle.mintc_targets.proofs.SharedOrderingLaws.{each}
 use Rattle.mintc_faults.proofs.SearchLaws.{none_of, or_none}
 
 -- What an instance is of, as it is kept.

@@ -20,7 +20,7 @@ use Rattle.mintc_netlist.specs.Statements.{statement_of}
 use Rattle.mintc_hierarchy.specs.declared.targets.Target.{Target}
 use Rattle.mintc_hierarchy.specs.Sources.{Source, pins_at, target_in, target_pins}
 use Rattle.mintc_hierarchy.specs.Faults.{drives_in, is_second_driver}
-use Rattle.mintc_targets.proofs.BoolLaws.{or_assoc}
+use Rattle.mintc_targets.proofs.SharedBoolLaws.{or_assoc}
 use Rattle.mintc_faults.specs.Driving.{HasSame, Drives, TakesIn, port_drives, pin_drives, drives_from}
 
 -- Places that come again, by what was seen as a set.

@@ -15,13 +15,13 @@ use Rattle.mintc_netlist.specs.Nets.{port_names, declares_port}
 use Rattle.mintc_netlist.specs.Connections.{Pin, pin_names, port_of}
 use Rattle.mintc_netlist.specs.Statements.{statement_of}
 use Rattle.mintc_nets.specs.Named.{with_name}
-use Rattle.mintc_nets.proofs.NetLaws.{among_last}
+use Rattle.mintc_nets.proofs.SharedNetLaws.{among_last}
 use Rattle.mintc_hierarchy.specs.declared.targets.Target.{Target}
 use Rattle.mintc_hierarchy.specs.declared.targets.Target.TheVariants.{OfCell, OfModule}
 use Rattle.mintc_hierarchy.specs.Sources.{Source, module_at, cell_at, pins_from, pins_of}
 use Rattle.mintc_hierarchy.specs.Faults.{is_no_pin}
 use Rattle.mintc_faults.specs.Firsts.{IsOfModule}
-use Rattle.mintc_targets.proofs.BoolLaws.{or_assoc, or_false}
+use Rattle.mintc_targets.proofs.SharedBoolLaws.{or_assoc, or_false}
 use Rattle.mintc_faults.specs.Lacking.{name_set, port_set, declared_set, lacks_any, is_pin}
 
 pub any_same : {X : Type 0} (p q : X → Bool) → ((x : X) → p x ≡ q x) → (xs : List X) → list_any p xs ≡ list_any q xs

@@ -1,9 +1,9 @@
-pub mod FirstLaws
-pub mod ItemLaws
-pub mod TwiceLaws
-pub mod AgainLaws
-pub mod LackLaws
-pub mod WidthLaws
-pub mod DriveLaws
-pub mod SearchLaws
-pub mod ChainLaws
+mod FirstLaws
+mod ItemLaws
+mod TwiceLaws
+mod AgainLaws
+mod LackLaws
+mod WidthLaws
+mod DriveLaws
+mod SearchLaws
+mod ChainLaws

@@ -11,8 +11,8 @@ use Rattle.mintc_hierarchy.specs.Faults.{leads}
 use Rattle.mintc_targets.specs.Orders.{mark_at}
 use Rattle.mintc_targets.specs.Orders.{IsThere}
 use Rattle.mintc_faults.specs.Searching.{Found, with_module, with_target, with_targets, IsMarked, IsBehind, IsFound, ArePassed}
-use Rattle.mintc_targets.proofs.ThereLaws.{there}
-use Rattle.mintc_targets.proofs.OrderingLaws.{each, last_or_before}
+use Rattle.mintc_targets.proofs.SharedThereLaws.{there}
+use Rattle.mintc_targets.proofs.SharedOrderingLaws.{each, last_or_before}
 
 -- Within more instantiations a module leads to what it leads to.
 or_left : (a b : Bool) → a ≡ true → (a || b) ≡ true

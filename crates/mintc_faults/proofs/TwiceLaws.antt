@@ -17,7 +17,7 @@ use Rattle.mintc_hierarchy.specs.Faults.{is_name_twice}
 use Rattle.mintc_faults.specs.Firsts.{first_after}
 use Rattle.mintc_faults.proofs.FirstLaws.{first_after-turn}
 use Rattle.mintc_faults.specs.Twice.{AddsPin, IsSeen, gives_item}
-use Rattle.mintc_nets.proofs.NetLaws.{among_last}
+use Rattle.mintc_nets.proofs.SharedNetLaws.{among_last}
 
 comes_same : (seen seen' xs : List (List ℕ)) → ((name : List ℕ) → is_among name seen ≡ is_among name seen') → comes_again bytes_eq seen xs ≡ comes_again bytes_eq seen' xs
 comes_same seen seen' [] same = refl

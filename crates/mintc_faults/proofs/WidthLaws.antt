@@ -11,7 +11,7 @@ use Rattle.mintc_netlist.specs.Statements.{statement_of}
 use Rattle.mintc_netlist.specs.Nets.{declares_port, declares_net}
 use Rattle.mintc_netlist.specs.Connections.{Pin, Wiring, wiring_of, expression_at, wirings_from}
 use Rattle.mintc_nets.specs.declared.declared.Declaration.{Declaration}
-use Rattle.mintc_nets.proofs.LookLaws.{look-ports, look-nets}
+use Rattle.mintc_nets.proofs.SharedLookLaws.{look-ports, look-nets}
 use Rattle.mintc_hierarchy.specs.declared.targets.Target.{Target}
 use Rattle.mintc_hierarchy.specs.Sources.{Source, target_pins}
 use Rattle.mintc_hierarchy.specs.Faults.{is_of_other_range, is_misfit}

@@ -13,10 +13,10 @@ use Rattle.mintc_hierarchy.specs.Sources.{Source, module_at, cell_at, target_in,
 use Rattle.mintc_hierarchy.specs.Walks.{Counts, counts, plus, deepest, depth}
 use Rattle.mintc_flatten.specs.Totals.{part, sum_parts, capped, IsCapped, IsCount, no_count, IsCounted, AreCounted, depth_of, greatest_depth}
 use Rattle.mintc_targets.specs.Orders.{IsThere, Stands, IsOrder}
-use Rattle.mintc_targets.proofs.ThereLaws.{there}
+use Rattle.mintc_targets.proofs.SharedThereLaws.{there}
 use Rattle.mintc_flatten.proofs.OrderLaws.{all_in-parts, depth-parts}
-use Rattle.mintc_hierarchy.proofs.OrderedLaws.{plus_assoc, none_plus, plus_none}
-use Rattle.mintc_hierarchy.proofs.LengthLaws.{length-pins_of}
+use Rattle.mintc_hierarchy.proofs.SharedOrderedLaws.{plus_assoc, none_plus, plus_none}
+use Rattle.mintc_hierarchy.proofs.SharedLengthLaws.{length-pins_of}
 
 pub capped_sum : (a b : ℕ) → capped (capped a + capped b) ≡ capped (a + b)
 capped_sum a b = omega arith

@@ -20,8 +20,8 @@ use Rattle.mintc_hierarchy.specs.Sources.{Source, module_at, cell_at, target_in}
 use Rattle.mintc_hierarchy.specs.Walks.{Counts, counts, plus, size_of, Place, place_at, Step, step_at, total, after, steps_from, inside, walk}
 use Rattle.mintc_hierarchy.specs.Hierarchies.{scope_in, leaf_in, inner_in, joins_in, net_of, nets_in, hierarchy_of, top_scope, top_port}
 use Rattle.mintc_flatten.specs.Growing.{Lists, lists, sizes, grown_by, grown, grown_all}
-use Rattle.mintc_hierarchy.proofs.OrderedLaws.{plus_assoc, plus_none, none_plus}
-use Rattle.mintc_hierarchy.proofs.LengthLaws.{length-pins_of}
+use Rattle.mintc_hierarchy.proofs.SharedOrderedLaws.{plus_assoc, plus_none, none_plus}
+use Rattle.mintc_hierarchy.proofs.SharedLengthLaws.{length-pins_of}
 
 same_counts : (a b c x y z : ℕ) → a ≡ x → b ≡ y → c ≡ z → counts a b c ≡ counts x y z
 same_counts a b c x y z p q r = ap (λ n. counts n b c) p ∙ ap (λ n. counts x n c) q ∙ ap (λ n. counts x y n) r

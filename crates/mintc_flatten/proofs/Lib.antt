@@ -1,9 +1,9 @@
-pub mod TotalLaws
-pub mod OrderLaws
-pub mod CountLaws
-pub mod LimitLaws
-pub mod TopLaws
-pub mod PortLaws
-pub mod JoinLaws
-pub mod GrowingLaws
-pub mod RefusalLaws
+mod TotalLaws
+mod OrderLaws
+mod CountLaws
+mod LimitLaws
+mod TopLaws
+mod PortLaws
+mod JoinLaws
+mod GrowingLaws
+mod RefusalLaws

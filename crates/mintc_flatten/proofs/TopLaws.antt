@@ -9,7 +9,7 @@ use Rattle.mintc_hierarchy.specs.declared.targets.Target.{Target}
 use Rattle.mintc_hierarchy.specs.declared.targets.Target.TheVariants.{OfCell, OfModule, OfNothing}
 use Rattle.mintc_hierarchy.specs.Sources.{Source, module_at, is_stub, scope_number, target_in, targets_in}
 use Rattle.mintc_hierarchy.specs.Refusals.{instantiates}
-use Rattle.mintc_targets.proofs.BoolLaws.{or_assoc, or_false}
+use Rattle.mintc_targets.proofs.SharedBoolLaws.{or_assoc, or_false}
 use Rattle.mintc_flatten.specs.Tops.{is_module, is_any_module, Marks, AreMarks}
 
 any_one : (k : ℕ) (t : Target) (xs : List ℕ) (b : Bool) → list_any (nat_eq k) xs ≡ b → list_any (nat_eq k) (cons_option (scope_number t) xs) ≡ (is_module k t || b)

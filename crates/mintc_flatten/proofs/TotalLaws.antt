@@ -9,8 +9,8 @@ use Rattle.mintc_hierarchy.specs.declared.targets.Target.TheVariants.{OfCell, Of
 use Rattle.mintc_hierarchy.specs.Sources.{Source, module_at, target_in}
 use Rattle.mintc_hierarchy.specs.Walks.{Counts, counts, plus, size_of, Place, place_at, Step, step_at, total, after, steps_from, steps_inside, inside, walk}
 use Rattle.mintc_hierarchy.specs.Hierarchies.{inner_in, net_of, nets_in, hierarchy_of}
-use Rattle.mintc_hierarchy.proofs.OrderedLaws.{plus_assoc, none_plus}
-use Rattle.mintc_hierarchy.proofs.LengthLaws.{scopes-length, leaves-length, inner-length}
+use Rattle.mintc_hierarchy.proofs.SharedOrderedLaws.{plus_assoc, none_plus}
+use Rattle.mintc_hierarchy.proofs.SharedLengthLaws.{scopes-length, leaves-length, inner-length}
 use Rattle.mintc_flatten.specs.Totals.{sum_of, content_by, content, all_in}
 
 pub total-append : (s : Source) (xs ys : List Step) → total s (xs ++ ys) ≡ plus (total s xs) (total s ys)

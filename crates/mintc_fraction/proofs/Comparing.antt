@@ -6,7 +6,7 @@ use Rattle.std.specs.Prelude.{◌↔◌}
 use Rattle.std.specs.Int.Signed.{lt_z}
 use Rattle.std.proofs.lemmas.Int.{ints, by_lt_z}
 use Rattle.mintc_fraction.specs.Ratio.{Ratio, IsFraction, IsAtMost, IsEqual}
-use Rattle.mintc_fraction.proofs.Products.{swap-times, times-mono_positive, times-cancel_positive, times-cancel_equal}
+use Rattle.mintc_fraction.proofs.SharedProducts.{swap-times, times-mono_positive, times-cancel_positive, times-cancel_equal}
 
 by_tests : (x y : ℤ) (s t : Bool) → lt_z x y ≡ s → lt_z y x ≡ t → MatchOrdering (cond s Less (cond t Greater Equal)) (x <ℤ y) (x ≡ y) (y <ℤ x)
 by_tests x y true t e f = omega (arith, ints)

@@ -1,8 +1,8 @@
-pub mod Comparing
-pub mod Dividing
-pub mod Lowest
-pub mod Products
-pub mod Reading
-pub mod Reducing
-pub mod Rounding
-pub mod Summing
+pub mod SharedLowest
+pub mod SharedProducts
+mod Comparing
+mod Dividing
+mod Reading
+mod Reducing
+mod Rounding
+mod Summing

@@ -6,7 +6,7 @@ use Rattle.std.proofs.lemmas.Int.{ints, unsigned_abs-mul}
 use Rattle.std.proofs.lemmas.Nat.Gcd.{le_from_IsGcd}
 use Rattle.std.proofs.Math.Nat.{dvd-mul_left, mul-le-mul_left, mul-le-mul_right}
 use Rattle.mintc_fraction.specs.Ratio.{Ratio, IsFraction, IsEqual, Divides, IsLowest, IsWithin}
-use Rattle.mintc_fraction.proofs.Products.{times-assoc, swap-times}
+use Rattle.mintc_fraction.proofs.SharedProducts.{times-assoc, swap-times}
 
 -- the fraction b is a with both numbers divided by g
 pub record IsDivided (a b : Ratio) (g : ℤ) : Type 0 where

@@ -5,7 +5,7 @@ use Rattle.std.proofs.lemmas.Int.{ints, by_lt_z}
 use Rattle.mintc_fraction.specs.Ratio.{Ratio, IsFraction, IsFloor, IsCeiling}
 use Rattle.mintc_fraction.specs.Laws.{IsOnGrid}
 use Rattle.std.proofs.Math.IntN.{zero-*ℤ}
-use Rattle.mintc_fraction.proofs.Products.{add-times, times-mono_positive, times-cancel_positive}
+use Rattle.mintc_fraction.proofs.SharedProducts.{add-times, times-mono_positive, times-cancel_positive}
 use Rattle.mintc_fraction.proofs.Dividing.{size_of_floor}
 use Rattle.mintc_fraction.proofs.Summing.{size_of_product, size_of_den}
 

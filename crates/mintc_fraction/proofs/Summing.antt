@@ -6,7 +6,7 @@ use Rattle.std.proofs.lemmas.Nat.{mul-le}
 use Rattle.std.proofs.Math.IntN.{*ℤ_comm, +ℤ_comm, +ℤ_assoc}
 use Rattle.mintc_fraction.specs.Ratio.{Ratio, IsFraction, IsEqual, sum_of, product_of, IsWithin}
 use Rattle.mintc_fraction.specs.Laws.{IsSum}
-use Rattle.mintc_fraction.proofs.Products.{times-assoc, add-times, swap-times, medial-times, times-positive}
+use Rattle.mintc_fraction.proofs.SharedProducts.{times-assoc, add-times, swap-times, medial-times, times-positive}
 use Rattle.mintc_fraction.proofs.Comparing.{IsEqual-trans, IsEqual-sym}
 
 -- the size of a product

@@ -28,9 +28,9 @@ use Rattle.mintc_hierarchy.specs.Refusals.{tops_of, refused_by, name_twice_refus
 use Rattle.mintc_hierarchy.specs.Shape.{CellTable}
 use Rattle.mintc_hierarchy.specs.Driven.{IsOutputPin}
 use Rattle.mintc_hierarchy.proofs.CountLaws.{how_many, how_many-append, how_many-map, once_apart, none_at, found, below, below_most, below_rises, below_next, between, between_fills, between_there}
-use Rattle.mintc_hierarchy.proofs.LengthLaws.{length-pins_of}
+use Rattle.mintc_hierarchy.proofs.SharedLengthLaws.{length-pins_of}
 use Rattle.mintc_hierarchy.proofs.PassedLaws.{HasPlacedItems, all_placed, none_found, kept_at, not_stub, IsThere, target_there}
-use Rattle.mintc_hierarchy.proofs.ShapeLaws.{all_recursion, none_left, mapped_none, top_there, top_live}
+use Rattle.mintc_hierarchy.proofs.SharedShapeLaws.{all_recursion, none_left, mapped_none, top_there, top_live}
 use Rattle.mintc_hierarchy.proofs.OnceLaws.{input_places, HasPortsOnce, DrivesOnce, modules_once, modules_drive, FillsNets, fills_nets}
 
 -- how many joins end at a number

@@ -1,10 +1,10 @@
+pub mod SharedOrderedLaws
+pub mod SharedLengthLaws
+pub mod SharedShapeLaws
 mod WorkedSmall
 mod WorkedTwo
-pub mod PlacedLaws
-pub mod OrderedLaws
-pub mod LengthLaws
-pub mod PassedLaws
-pub mod ShapeLaws
-pub mod CountLaws
-pub mod OnceLaws
-pub mod DrivenLaws
+mod PlacedLaws
+mod PassedLaws
+mod CountLaws
+mod OnceLaws
+mod DrivenLaws

@@ -19,7 +19,7 @@ use Rattle.mintc_hierarchy.specs.Faults.{is_name_twice, drives_in, is_second_dri
 use Rattle.mintc_hierarchy.proofs.CountLaws.{tally, how_many, how_many-append, how_many-map, how_many-weaker, how_many-reverse, again_once, same_nat, range_once, found, below, fills}
 use Rattle.mintc_hierarchy.proofs.PlacedLaws.{IsPlace}
 use Rattle.mintc_hierarchy.proofs.PassedLaws.{IsPlacedWiring, IsPlacedItem, HasPlacedItems, ports_known, at_found, front_of, rest_of, or_right}
-use Rattle.mintc_hierarchy.proofs.ShapeLaws.{HasPlaces, ports_placed}
+use Rattle.mintc_hierarchy.proofs.SharedShapeLaws.{HasPlaces, ports_placed}
 
 -- the places of input pins
 abbrev pub input_places : List Pin → List ℕ

@@ -17,13 +17,13 @@ use Rattle.mintc_netlist.specs.Nets.{net_names, piece_names, mentions}
 use Rattle.mintc_netlist.specs.Expressions.{expression_places, width_of, selects_fit, has_constant}
 use Rattle.mintc_netlist.specs.Connections.{Pin, is_to, connection_at, expression_at, Wiring, wiring_of, wirings_from, wirings_of}
 use Rattle.mintc_netlist.specs.Statements.{statement_of, items_from, module_statements, statements_from, statements_of, number_of, first_at_fault}
-use Rattle.mintc_nets.proofs.TableLaws.{found_place}
+use Rattle.mintc_nets.proofs.SharedTableLaws.{found_place}
 use Rattle.mintc_hierarchy.specs.declared.targets.Target.{Target}
 use Rattle.mintc_hierarchy.specs.declared.targets.Target.TheVariants.{OfCell, OfModule, OfNothing}
 use Rattle.mintc_hierarchy.specs.Sources.{Source, no_module, module_at, is_stub, modules_of, is_called, chosen, target_in, pins_at}
 use Rattle.mintc_hierarchy.specs.Faults.{is_wired_badly, is_misfit}
 use Rattle.mintc_hierarchy.proofs.PlacedLaws.{IsPlace, IsKnown, all_left, all_right, expression_placed, firsts-among}
-use Rattle.mintc_hierarchy.proofs.OrderedLaws.{KnowsTarget}
+use Rattle.mintc_hierarchy.proofs.SharedOrderedLaws.{KnowsTarget}
 
 -- The bits of an item's expressions have places: both sides of an assign, and what an instance connects.
 abbrev pub IsPlacedWiring : Module → Wiring → Type 0

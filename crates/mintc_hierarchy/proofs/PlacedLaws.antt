@@ -17,9 +17,9 @@ use Rattle.mintc_netlist.specs.Again.{is_among, firsts_after}
 use Rattle.mintc_netlist.specs.Nets.{Bit, bit_of, is_bit, bits_of, indexes, range_of, names_of, nets_of, place_of, piece_names}
 use Rattle.mintc_netlist.specs.Expressions.{span_from, piece_bits, expression_places, is_inside, runs_alike, is_part, piece_fits}
 use Rattle.mintc_nets.specs.Tables.{bit_count, offset_of}
-use Rattle.mintc_nets.proofs.IndexLaws.{any_below}
-use Rattle.mintc_nets.proofs.SpanLaws.{bits_count, offset_below}
-use Rattle.mintc_nets.proofs.TableLaws.{any_at, within_place}
+use Rattle.mintc_nets.proofs.SharedIndexLaws.{any_below}
+use Rattle.mintc_nets.proofs.SharedSpanLaws.{bits_count, offset_below}
+use Rattle.mintc_nets.proofs.SharedTableLaws.{any_at, within_place}
 
 -- a place of a bit of the module's nets, and a name of one of them
 abbrev pub IsPlace : Module → Option ℕ → Type 0

@@ -1,5 +1,5 @@
-pub mod Greatest
-pub mod Joining
-pub mod Reading
-pub mod Selecting
-pub mod Turning
+mod Greatest
+mod Joining
+mod Reading
+mod Selecting
+mod Turning

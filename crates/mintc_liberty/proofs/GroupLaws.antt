@@ -5,8 +5,8 @@ use Rattle.mintc_liblex.specs.Statements.{Statement, Statements, more, attribute
 use Rattle.mintc_liberty.specs.Meaning.{Group, groups}
 use Rattle.mintc_liberty.specs.Passing.{group_from, group_at, body_at}
 use Rattle.mintc_liblex.specs.Reading.{word_at, step_rest, statement_rest}
-use Rattle.mintc_liblex.proofs.NestLaws.{word-there}
-use Rattle.mintc_liblex.proofs.StatementLaws.{front-turn, beginnings}
+use Rattle.mintc_liblex.proofs.SharedNestLaws.{word-there}
+use Rattle.mintc_liblex.proofs.SharedStatementLaws.{front-turn, beginnings}
 
 abbrev Next : Type 0
 Next = Option (List ℕ × List Token × List Token)

@@ -1,16 +1,16 @@
-pub mod LibraryLaws
-pub mod ValueLaws
-pub mod PinLaws
-pub mod NextLaws
-pub mod PlaceLaws
-pub mod SortLaws
-pub mod HeldLaws
-pub mod SeenLaws
-pub mod TextLaws
-pub mod BytesLaws
-pub mod ExpressionLaws
-pub mod CountLaws
-pub mod ParenthesesLaws
-pub mod GroupLaws
-pub mod TableLaws
-pub mod PrintLaws
+mod LibraryLaws
+mod ValueLaws
+mod PinLaws
+mod NextLaws
+mod PlaceLaws
+mod SortLaws
+mod HeldLaws
+mod SeenLaws
+mod TextLaws
+mod BytesLaws
+mod ExpressionLaws
+mod CountLaws
+mod ParenthesesLaws
+mod GroupLaws
+mod TableLaws
+mod PrintLaws

@@ -5,7 +5,7 @@ use Rattle.mintc_liblex.specs.Tokens.{Token, opening, closing, left, right, colo
 use Rattle.mintc_liblex.specs.Statements.{Step, Front, and_more, statement_by, front, count}
 use Rattle.mintc_liberty.specs.Texts.{behind_name, behind_head, is_end, whole}
 use Rattle.mintc_liblex.specs.Reading.{kind_of, step_rest, statement_rest}
-use Rattle.mintc_liblex.proofs.StatementLaws.{front-turn}
+use Rattle.mintc_liblex.proofs.SharedStatementLaws.{front-turn}
 
 -- From one statement to the next: what is left in the end, and one more.
 abbrev Goes : ℕ → List Token → List Token → Type 0

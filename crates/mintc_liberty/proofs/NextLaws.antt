@@ -7,7 +7,7 @@ use Rattle.mintc_liblex.specs.declared.reader.Kind.TheVariants as kind
 use Rattle.mintc_liblex.specs.Tokens.{Token, opening, closing, left, right, colon, semicolon, comma, word, string, bad, is_item}
 use Rattle.mintc_liblex.specs.Statements.{taken, front}
 use Rattle.mintc_liblex.specs.Reading.{kind_of, word_at, name_at, statement_rest}
-use Rattle.mintc_liblex.proofs.NestLaws.{word-there}
+use Rattle.mintc_liblex.proofs.SharedNestLaws.{word-there}
 use Rattle.mintc_liberty.specs.Meaning.{Group, groups, cells_in, cell_in, only_name, under}
 use Rattle.mintc_liberty.specs.Passing.{group_from, group_at, body_at}
 use Rattle.mintc_liberty.specs.Places.{is_named, named_in, named_cells, next_in, cells_next, opened, entry_from, statements_in, name_or_none}

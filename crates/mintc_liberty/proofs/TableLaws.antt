@@ -10,7 +10,7 @@ use Rattle.mintc_cells.specs.Rules.{has_defaults, is_cell, is_same}
 use Rattle.mintc_cells.specs.Description.{judged, least_rule, cell_of, read_table, gate_shape, clock_shape, latch_shape, flop_shape, latch_of, flop_of}
 use Rattle.mintc_cells.specs.CellsOf.{entries, AreInTable, AreRead}
 use Rattle.mintc_cells.specs.Entries.{is_kept, names_of, AreAscending}
-use Rattle.mintc_cells.proofs.KeptLaws.{fits, names-AreRead}
+use Rattle.mintc_cells.proofs.SharedKeptLaws.{fits, names-AreRead}
 use Rattle.mintc_liberty.specs.Tables.{text_items, table_of, tables_of, document_of}
 
 -- texts come back

@@ -5,8 +5,8 @@ use Rattle.mintc_liblex.specs.Statements.{Statement, Statements, more, attribute
 use Rattle.mintc_liberty.specs.Meaning.{or_else, last_value}
 use Rattle.mintc_liberty.specs.Passing.{attribute_at, value_if, value_bytes}
 use Rattle.mintc_liblex.specs.Reading.{word_at, past, value_at, step_rest, statement_rest}
-use Rattle.mintc_liblex.proofs.NestLaws.{word-there}
-use Rattle.mintc_liblex.proofs.StatementLaws.{front-turn, beginnings, endings}
+use Rattle.mintc_liblex.proofs.SharedNestLaws.{word-there}
+use Rattle.mintc_liblex.proofs.SharedStatementLaws.{front-turn, beginnings, endings}
 
 -- what a statement adds
 abbrev value_of : List ℕ → Statement → Option (List ℕ)

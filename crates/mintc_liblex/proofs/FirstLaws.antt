@@ -2,8 +2,8 @@
 use Rattle.std.proofs.Common.{◌≡◌, ℕ, ◌+◌, ◌<◌, ◌≤◌, Bool, true, false, if◌then◌else◌, ◌==◌, List, [], ◌∷◌, ◌++◌, length, get_or, take, drop, refl, sym, ap, ◌∙◌, arith, length-drop, drop-drop, drop_of_length-le, Option, Some, None, true≢false, true-eqb}
 use Rattle.mintc_scan.specs.Bytes.{is_white, string_size, comment_size}
 use Rattle.mintc_scan.specs.Pieces.{Piece, passed, token, front_token, tokens_from, is_token, is_settled}
-use Rattle.mintc_scan.proofs.Sizes.{either, byte-some}
-use Rattle.mintc_scan.proofs.TokenLaws.{turn}
+use Rattle.mintc_scan.proofs.SharedSizes.{either, byte-some}
+use Rattle.mintc_scan.proofs.SharedTokenLaws.{turn}
 use Rattle.mintc_liblex.specs.declared.reader.Kind.{Kind}
 use Rattle.mintc_liblex.specs.declared.reader.Kind.TheVariants as kind
 use Rattle.mintc_liblex.specs.Tokens.{Token, opening, closing, left, right, colon, semicolon, comma, word, string, bad, word_piece, string_piece, comment_piece, slash_piece, backslash_piece, sign_of, sign_piece, word_size, piece_of, tokens_of}

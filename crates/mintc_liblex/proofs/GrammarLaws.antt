@@ -4,7 +4,7 @@ use Rattle.std.specs.List.{list_all}
 use Rattle.std.proofs.lemmas.Bool.{and_parts}
 use Rattle.mintc_liblex.specs.Tokens.{Token, opening, closing, left, right, colon, semicolon, comma, word, string, bad, is_value, is_item}
 use Rattle.mintc_liblex.specs.Statements.{Statement, Statements, more, attribute, plain, group, Step, Front, taken, left_over, past_semicolon, valued, grouped, nested, called, and_more, statement_by, fronts, front, are_value, is_optional, depth, depth_of, Writes, no_more, an_attribute, a_plain, a_group}
-use Rattle.mintc_liblex.proofs.StatementLaws.{beginnings, endings, front-turn}
+use Rattle.mintc_liblex.proofs.SharedStatementLaws.{beginnings, endings, front-turn}
 
 both-left : (a b : Bool) → (a && b) ≡ true → a ≡ true
 both-left a b h = (and_parts a b h).0

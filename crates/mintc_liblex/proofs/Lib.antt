@@ -1,6 +1,6 @@
-pub mod Sizes
-pub mod FirstLaws
-pub mod StatementLaws
-pub mod PassingLaws
-pub mod NestLaws
-pub mod GrammarLaws
+pub mod SharedStatementLaws
+pub mod SharedPassingLaws
+pub mod SharedNestLaws
+mod Sizes
+mod FirstLaws
+mod GrammarLaws

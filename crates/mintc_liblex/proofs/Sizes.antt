@@ -1,8 +1,8 @@
 -- A piece has at least one byte, and lies within the text.
 use Rattle.std.proofs.Common.{◌≡◌, ℕ, ◌+◌, ◌<◌, ◌≤◌, Bool, true, false, ◌&&◌, ◌||◌, ◌==◌, List, [], ◌∷◌, length, get_or, drop, Option, Some, None, IfSome, refl, sym, ap, ◌∙◌, arith, length-drop, true-eqb, true≢false}
 use Rattle.mintc_scan.specs.Bytes.{is_white, string_size, comment_size}
-use Rattle.mintc_scan.proofs.Sizes.{either, Ends, string-within, comment-within}
-use Rattle.mintc_scan.proofs.TokenLaws.{Fits}
+use Rattle.mintc_scan.proofs.SharedSizes.{either, Ends, string-within, comment-within}
+use Rattle.mintc_scan.proofs.SharedTokenLaws.{Fits}
 use Rattle.mintc_liblex.specs.Tokens.{Token, is_sign, is_joint, ends_word, word_size, word_piece, string_piece, comment_piece, slash_piece, backslash_piece, sign_of, sign_piece, piece_of}
 
 word-within : (bs : List ℕ) → word_size bs ≤ length bs

@@ -1,15 +1,15 @@
-pub mod WorkedTexts
-pub mod FieldsLaws
-pub mod ReadingLaws
-pub mod ScheduleReading
-pub mod TextLaws
-pub mod ScheduleLaws
-pub mod TableLineLaws
-pub mod TableReading
-pub mod TableLaws
-pub mod LineLaws
-pub mod TableOne
-pub mod TablePlain
-pub mod Spelling
-pub mod ScheduleSpelling
-pub mod TableSpelling
+pub mod SharedFieldsLaws
+pub mod SharedReadingLaws
+pub mod SharedScheduleReading
+pub mod SharedTextLaws
+pub mod SharedScheduleLaws
+pub mod SharedLineLaws
+pub mod SharedSpelling
+mod WorkedTexts
+mod TableLineLaws
+mod TableReading
+mod TableLaws
+mod TableOne
+mod TablePlain
+mod ScheduleSpelling
+mod TableSpelling

@@ -5,8 +5,8 @@ use Rattle.mintc_timing.specs.declared.clocking.Schedule.{Schedule}
 use Rattle.mintc_lines.specs.Fields.{IsNumberLine, IsCountLine}
 use Rattle.mintc_lines.specs.TextLaws.{HaveOneScheduleText}
 use Rattle.mintc_lines.specs.Texts.{NextOfSchedule, IsPhaseLine, ScheduleLines, first, den, cycle, phases, phase, whole, no_phases, with_phase}
-use Rattle.mintc_lines.proofs.LineLaws.{spelled_same}
-use Rattle.mintc_lines.proofs.Spelling.{Rest, rest_none, rest_back, rest_same, rest_count, IsSpelled, one_text}
+use Rattle.mintc_lines.proofs.SharedLineLaws.{spelled_same}
+use Rattle.mintc_lines.proofs.SharedSpelling.{Rest, rest_none, rest_back, rest_same, rest_count, IsSpelled, one_text}
 
 -- what a state knows of the schedule to which it leads
 record Agrees (left : ℕ) (p s : Schedule) : Type 0 where

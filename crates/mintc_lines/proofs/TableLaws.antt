@@ -15,7 +15,7 @@ use Rattle.mintc_timing.specs.Limits.{IsElement, IsArc, IsBound, HasParts, limit
 use Rattle.mintc_lines.specs.TableReading.{AreKept, ArePartsOf}
 use Rattle.mintc_lines.specs.TableText.{NextOfTable, IsTableText, TableLines, first, phases, phase, element, arcs, arc, bound, whole, inner_names, IsFromWord, IsToWord, IsArcLine}
 use Rattle.mintc_lines.proofs.TableReading.{length-inner_names}
-use Rattle.mintc_lines.proofs.TextLaws.{along}
+use Rattle.mintc_lines.proofs.SharedTextLaws.{along}
 
 -- ---- what a table says is in range
 

@@ -3,7 +3,7 @@ use Rattle.std.proofs.Common.{◌≡◌, ℕ, ℤ, ◌≤◌, ◌-◌, Bool, tru
 use Rattle.std.proofs.lemmas.Fmt.{decimal_injective}
 use Rattle.std.proofs.lemmas.List.{take_rest}
 use Rattle.mintc_text.specs.Lines.{numeral_of}
-use Rattle.mintc_text.proofs.NumeralsLaws.{same_numeral}
+use Rattle.mintc_text.proofs.SharedNumeralsLaws.{same_numeral}
 use Rattle.mintc_timing.specs.declared.parts.Element.{Element}
 use Rattle.mintc_timing.specs.declared.parts.Point.{Point}
 use Rattle.mintc_timing.specs.declared.parts.Point.TheVariants.{Origin, Start, End}
@@ -14,7 +14,7 @@ use Rattle.mintc_lines.specs.Fields.{IsName, AreDelays, IsCount, number}
 use Rattle.mintc_timing.specs.Limits.{IsElement, IsDelay, IsGap, IsPoint}
 use Rattle.mintc_lines.specs.ElementWords.{named, IsKind, IsHold, are_equal, IsOpening}
 use Rattle.mintc_lines.specs.TableText.{kind_word, hold_word, with_kind, with_openings, element_words, IsOfVersion, IsElementLine, IsFromWord, IsToWord, point_word}
-use Rattle.mintc_lines.proofs.FieldsLaws.{short_delay}
+use Rattle.mintc_lines.proofs.SharedFieldsLaws.{short_delay}
 
 -- ---- a letter and a number
 

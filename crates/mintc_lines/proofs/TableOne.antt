@@ -4,7 +4,7 @@ use Rattle.std.proofs.lemmas.Fmt.{decimal_injective, decimal_nonempty}
 use Rattle.std.proofs.lemmas.Int.{ints}
 use Rattle.mintc_text.specs.Lines.{numeral_of}
 use Rattle.mintc_text.specs.Words.{IsShort}
-use Rattle.mintc_text.proofs.NumeralsLaws.{same_numeral, plain_from_decimal, digit_here}
+use Rattle.mintc_text.proofs.SharedNumeralsLaws.{same_numeral, plain_from_decimal, digit_here}
 use Rattle.mintc_timing.specs.declared.parts.Element.{Element}
 use Rattle.mintc_timing.specs.declared.parts.TimingArc.{TimingArc}
 use Rattle.mintc_timing.specs.declared.parts.Bound.{Bound}
@@ -16,7 +16,7 @@ use Rattle.mintc_lines.specs.Fields.{IsCount, number}
 use Rattle.mintc_timing.specs.Limits.{IsElement, IsDelay, IsGap, IsPoint}
 use Rattle.mintc_lines.specs.ElementWords.{IsHold}
 use Rattle.mintc_lines.specs.TableText.{hold_word, with_kind, element_words, IsOfVersion, IsElementLine, IsFromWord, IsToWord, IsArcLine, IsBoundLine, point_word}
-use Rattle.mintc_lines.proofs.FieldsLaws.{short, short_delay}
+use Rattle.mintc_lines.proofs.SharedFieldsLaws.{short, short_delay}
 use Rattle.mintc_lines.proofs.TableLineLaws.{lettered_same, kind_of, kind_same, after_kind, after_dq}
 
 -- ---- the words of an element have one value

@@ -7,11 +7,11 @@ use Rattle.mintc_timing.specs.Design.{Design}
 use Rattle.mintc_lines.specs.Fields.{IsCount, plain, plain_line, Spells, IsWordLine, IsCountLine, IsNameLine}
 use Rattle.mintc_lines.specs.TableText.{NextOfTable, IsWholeTable, TableLines, first, phases, phase, element, arcs, arc, bound, whole, empty, version_of, inner_names, IsElementLine, IsArcLine, IsBoundLine}
 use Rattle.mintc_lines.specs.TextLaws.{HaveOneDesign, HaveNoTableFault, HaveOneTableFault}
-use Rattle.mintc_lines.proofs.LineLaws.{count_one, name_one}
-use Rattle.mintc_lines.proofs.ReadingLaws.{plain-count_line, plain-name_line, plain-word_line}
+use Rattle.mintc_lines.proofs.SharedLineLaws.{count_one, name_one}
+use Rattle.mintc_lines.proofs.SharedReadingLaws.{plain-count_line, plain-name_line, plain-word_line}
 use Rattle.mintc_lines.proofs.TableOne.{element_one, arc_one, bound_one}
 use Rattle.mintc_lines.proofs.TableReading.{plain-element_line, plain-arc_line, plain-bound_line, length-inner_names}
-use Rattle.mintc_lines.proofs.TextLaws.{IsPlainFormat, text_one_end, text_no_fault, text_one_fault, spelled_one, spelled_free}
+use Rattle.mintc_lines.proofs.SharedTextLaws.{IsPlainFormat, text_one_end, text_no_fault, text_one_fault, spelled_one, spelled_free}
 
 -- the counts of a design whose lists are counted in its text
 pub record IsCounted (d : Design) : Type 0 where

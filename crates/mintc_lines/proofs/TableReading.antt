@@ -17,8 +17,8 @@ use Rattle.mintc_lines.specs.Reading.{Reading, HasRead, HasNone, IsAt, number_af
 use Rattle.mintc_lines.specs.declared.table_text.Halt.{Halt}
 use Rattle.mintc_lines.specs.TableReading.{AreKept, Halts}
 use Rattle.mintc_lines.specs.TableText.{NextOfTable, IsWholeTable, IsTableText, IsTableFault, TableLines, first, phases, phase, element, arcs, arc, bound, whole, empty, version_of, inner_names, kind_word, hold_word, element_words, IsElementLine, IsFromWord, IsToWord, IsArcLine, IsBoundLine, point_word}
-use Rattle.mintc_lines.proofs.FieldsLaws.{plain-numeral, plain-number, plain-from_graphic, short}
-use Rattle.mintc_lines.proofs.ReadingLaws.{at_more, at_fault, at_end, at_past}
+use Rattle.mintc_lines.proofs.SharedFieldsLaws.{plain-numeral, plain-number, plain-from_graphic, short}
+use Rattle.mintc_lines.proofs.SharedReadingLaws.{at_more, at_fault, at_end, at_past}
 
 -- ---- words that can be seen
 

@@ -8,9 +8,9 @@ use Rattle.mintc_timing.specs.Design.{Design}
 use Rattle.mintc_lines.specs.Fields.{Spells, IsCountLine, IsNameLine}
 use Rattle.mintc_lines.specs.TextLaws.{HaveOneTableText}
 use Rattle.mintc_lines.specs.TableText.{NextOfTable, TableLines, first, phases, phase, element, arcs, arc, bound, whole, empty, inner_names, IsElementLine, IsArcLine, IsBoundLine}
-use Rattle.mintc_lines.proofs.LineLaws.{spelled_same}
-use Rattle.mintc_lines.proofs.ReadingLaws.{one_line, line_free}
-use Rattle.mintc_lines.proofs.Spelling.{Rest, rest_none, rest_back, rest_same, rest_count, IsSpelled, one_text}
+use Rattle.mintc_lines.proofs.SharedLineLaws.{spelled_same}
+use Rattle.mintc_lines.proofs.SharedReadingLaws.{one_line, line_free}
+use Rattle.mintc_lines.proofs.SharedSpelling.{Rest, rest_none, rest_back, rest_same, rest_count, IsSpelled, one_text}
 use Rattle.mintc_lines.proofs.TableOne.{arc_words}
 use Rattle.mintc_lines.proofs.TablePlain.{table_plain}
 use Rattle.mintc_lines.proofs.TableReading.{length-inner_names}

@@ -1,8 +1,8 @@
-pub mod NamesLaws
-pub mod NetLaws
-pub mod IndexLaws
-pub mod PlaceLaws
-pub mod SpanLaws
-pub mod LookLaws
-pub mod TableLaws
-pub mod ExpressionLaws
+pub mod SharedNetLaws
+pub mod SharedIndexLaws
+pub mod SharedPlaceLaws
+pub mod SharedSpanLaws
+pub mod SharedLookLaws
+pub mod SharedTableLaws
+mod NamesLaws
+mod ExpressionLaws

@@ -1,9 +1,9 @@
-pub mod WalkedLaws
-pub mod SolvedLaws
-pub mod PathLaws
-pub mod StandingLaws
-pub mod SayingLaws
-pub mod TimesLaws
-pub mod EarliestLaws
-pub mod CertificateLaws
-pub mod UnboundedLaws
+pub mod SharedWalkedLaws
+pub mod SharedPathLaws
+pub mod SharedStandingLaws
+pub mod SharedSayingLaws
+pub mod SharedEarliestLaws
+pub mod SharedCertificateLaws
+mod SolvedLaws
+mod TimesLaws
+mod UnboundedLaws

@@ -7,8 +7,8 @@ use Rattle.mintc_timing.specs.Paths.{HasEnds}
 use Rattle.mintc_constraints.specs.Laws.{node_count}
 use Rattle.mintc_constraints.specs.Ordinary.{Constraints, IsOrdinary, constraints_of}
 use Rattle.mintc_constraints.specs.Rooms.{Space}
-use Rattle.mintc_constraints.proofs.ChainLaws.{stuck_is_hopeless_lem, tight_is_least_lem}
-use Rattle.mintc_constraints.proofs.MomentLaws.{moments_are_right_lem}
+use Rattle.mintc_constraints.proofs.SharedChainLaws.{stuck_is_hopeless_lem, tight_is_least_lem}
+use Rattle.mintc_constraints.proofs.SharedMomentLaws.{moments_are_right_lem}
 use Rattle.mintc_ratio.specs.declared.searching.Outcome.{Outcome}
 use Rattle.mintc_ratio.specs.declared.searching.Outcome.TheVariants.{Least, Never}
 use Rattle.mintc_ratio.specs.Chains.{links_at}
@@ -16,7 +16,7 @@ use Rattle.mintc_ratio.specs.Searched.{HasSearched}
 use Rattle.mintc_optimise.specs.Benches.{IsSolved}
 use Rattle.mintc_optimise.specs.Bounded.{NeverOnlyWithBounds}
 use Rattle.mintc_optimise.proofs.UnboundedLaws.{hopeless_is_bounded}
-use Rattle.mintc_optimise.proofs.WalkedLaws.{exact_moments}
+use Rattle.mintc_optimise.proofs.SharedWalkedLaws.{exact_moments}
 
 module _ (t : Timing) (limits : IsDesign t.flat) (ends : HasEnds t) (room : Space) where
   pub solved_here : (outcome : Outcome) → HasSearched (constraints_of (node_count t) (links_of t)) room outcome → IsSolved t room outcome

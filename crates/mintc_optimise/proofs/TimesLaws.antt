@@ -11,7 +11,7 @@ use Rattle.mintc_timing.specs.declared.parts.Element.{Element}
 use Rattle.mintc_timing.specs.Design.{Timing, element_at, element_count, phase_count, phase_of, no_element}
 use Rattle.mintc_timing.specs.Limits.{IsDesign, IsInRange, IsNumerator, IsDenominator, IsPhase, IsTime}
 use Rattle.mintc_timing.specs.Links.{element_node, end_node, start_node}
-use Rattle.mintc_timing.proofs.Fitting.{read_time, SFits-IsTime}
+use Rattle.mintc_timing.proofs.SharedFitting.{read_time, SFits-IsTime}
 use Rattle.mintc_constraints.specs.Duality.{departure_of, schedule_of}
 use Rattle.mintc_certificate.specs.Ranges.{IsDeparture}
 use Rattle.mintc_ratio.specs.Searched.{IsCycle}

@@ -12,16 +12,16 @@ use Rattle.mintc_timing.specs.Limits.{IsPhase, IsDesign}
 use Rattle.mintc_timing.specs.Links.{links_of}
 use Rattle.mintc_timing.specs.Right.{IsRight, IsHopeless, KeepsSetup}
 use Rattle.mintc_timing.specs.Violations.{phases_of, elements_of}
-use Rattle.mintc_timing.proofs.DepartureLaws.{late_departure-latch, late_departure-flop}
-use Rattle.mintc_timing.proofs.SetupLaws.{KeepsSetup-latch}
-use Rattle.mintc_timing.proofs.Shifts.{crosses-below, crosses-not_below}
+use Rattle.mintc_timing.proofs.SharedDepartureLaws.{late_departure-latch, late_departure-flop}
+use Rattle.mintc_timing.proofs.SharedSetupLaws.{KeepsSetup-latch}
+use Rattle.mintc_timing.proofs.SharedShifts.{crosses-below, crosses-not_below}
 use Rattle.mintc_timing.specs.Paths.{HasEnds}
 use Rattle.mintc_constraints.specs.Laws.{node_count}
 use Rattle.mintc_constraints.specs.Ordinary.{IsOrdinary, IsOrdinaryLink, constraints_of}
-use Rattle.mintc_timing.proofs.Arrivals.{latest, ArrivesBy, latest-opens, latest-attained, greatest-from_each}
-use Rattle.mintc_timing.proofs.ByKind.{EachKind-from_all}
-use Rattle.mintc_constraints.proofs.OrdinaryLaws.{least_width-range, ordinary}
-use Rattle.mintc_timing.proofs.LinkLaws.{ends_of}
+use Rattle.mintc_timing.proofs.SharedArrivals.{latest, ArrivesBy, latest-opens, latest-attained, greatest-from_each}
+use Rattle.mintc_timing.proofs.SharedByKind.{EachKind-from_all}
+use Rattle.mintc_constraints.proofs.SharedOrdinaryLaws.{least_width-range, ordinary}
+use Rattle.mintc_timing.proofs.SharedLinkLaws.{ends_of}
 use Rattle.mintc_optimise.specs.Bounded.{UnboundedHasRight, NeverNeedsABound}
 
 -- Phase p starts at p * 10^10 femtoseconds.

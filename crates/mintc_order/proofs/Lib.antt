@@ -1,10 +1,10 @@
 -- Lemmas by topic.
-pub mod Counting
-pub mod CountLaws
-pub mod FillLaws
-pub mod Entering
-pub mod Giving
-pub mod Closing
-pub mod GatheringLaws
-pub mod Ending
-pub mod LoopLaws
+mod Counting
+mod CountLaws
+mod FillLaws
+mod Entering
+mod Giving
+mod Closing
+mod GatheringLaws
+mod Ending
+mod LoopLaws

@@ -1,5 +1,5 @@
 -- An order of arcs leaves no loop among them.
-use Rattle.mintc_timing.proofs.Ordered.{none_round}
+use Rattle.mintc_timing.proofs.SharedOrdered.{none_round}
 use Rattle.mintc_order.specs.Refusals.{OrdersExcludeLoops}
 
 pub orders_exclude_loops_lem : OrdersExcludeLoops

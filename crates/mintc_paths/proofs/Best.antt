@@ -8,8 +8,8 @@ use Rattle.mintc_rings.specs.Rings.{total}
 use Rattle.mintc_timing.specs.Paths.{Leads, arc_at}
 use Rattle.mintc_timing.specs.Order.{IsOrder}
 use Rattle.mintc_timing.specs.Among.{IsAmong, AreAmong}
-use Rattle.mintc_timing.proofs.Ordered.{Leads-push, AreAmong-push, AreAmong-more, split, none_among}
-use Rattle.mintc_rings.proofs.RingLaws.{total-push}
+use Rattle.mintc_timing.proofs.SharedOrdered.{Leads-push, AreAmong-push, AreAmong-more, split, none_among}
+use Rattle.mintc_rings.proofs.SharedRingLaws.{total-push}
 use Rattle.mintc_lanes.specs.Lanes.{joined}
 use Rattle.mintc_paths.specs.Among.{IsBest, AtLeast}
 

@@ -9,7 +9,7 @@ use Rattle.std.specs.List.{All}
 use Rattle.mintc_timing.specs.Design.{no_arc}
 use Rattle.mintc_timing.specs.Limits.{IsArc}
 use Rattle.mintc_timing.specs.Order.{IsOrder}
-use Rattle.mintc_timing.proofs.Ordered.{inside}
+use Rattle.mintc_timing.proofs.SharedOrdered.{inside}
 use Rattle.mintc_lanes.specs.Lanes.{lane_at, joined, AreJoined, AreWithin}
 use Rattle.mintc_paths.specs.declared.sums.Sums.{Sums}
 use Rattle.mintc_paths.specs.Among.{IsBest, AtLeast, max_of, min_of}

@@ -1,23 +1,23 @@
+pub mod SharedFinding
+pub mod SharedPassing
+pub mod SharedExisting
+pub mod SharedTurnedPaths
+pub mod SharedTurnedPairs
+pub mod SharedWaking
+pub mod SharedClimbing
 -- Lemmas by topic.
-pub mod Best
-pub mod Filling
-pub mod Beginning
-pub mod Finding
-pub mod Refusing
-pub mod Reaching
-pub mod Shortness
-pub mod Tracing
-pub mod Pairing
-pub mod Marking
-pub mod Passing
-pub mod Rowing
-pub mod Plain
-pub mod Raising
-pub mod Existing
-pub mod Turning
-pub mod TurnedPaths
-pub mod TurnedCourse
-pub mod TurnedPairs
-pub mod Waking
-pub mod Holding
-pub mod Climbing
+mod Best
+mod Filling
+mod Beginning
+mod Refusing
+mod Reaching
+mod Shortness
+mod Tracing
+mod Pairing
+mod Marking
+mod Rowing
+mod Plain
+mod Raising
+mod Turning
+mod TurnedCourse
+mod Holding

@@ -8,7 +8,7 @@ use Rattle.mintc_timing.specs.Design.{Design, Timing}
 use Rattle.mintc_timing.specs.Order.{IsOrder}
 use Rattle.mintc_timing.specs.Paths.{Leads, IsPath, input_of, output_of, HasExtremes, ArePairs}
 use Rattle.mintc_timing.specs.Among.{AreAmong}
-use Rattle.mintc_timing.proofs.Ordered.{all_among, none_round}
+use Rattle.mintc_timing.proofs.SharedOrdered.{all_among, none_round}
 use Rattle.mintc_lanes.specs.Lanes.{lane_at}
 use Rattle.mintc_paths.specs.declared.sums.Sums.{Sums}
 use Rattle.mintc_paths.specs.declared.trace.Extreme.{Extreme}

@@ -6,7 +6,7 @@ use Rattle.std.proofs.lemmas.List.{get_or-replicate, get_or_past, length-replica
 use Rattle.mintc_timing.specs.declared.parts.TimingArc.{TimingArc}
 use Rattle.mintc_timing.specs.Order.{IsOrder}
 use Rattle.mintc_timing.specs.Paths.{Leads, arc_at, greatest_delay}
-use Rattle.mintc_timing.proofs.Ordered.{place}
+use Rattle.mintc_timing.proofs.SharedOrdered.{place}
 use Rattle.mintc_paths.specs.Longest.{bit_sum, AreCarried, AreRunsShort}
 
 -- before any arc

@@ -7,7 +7,7 @@ use Rattle.mintc_timing.specs.Design.{Design, no_arc}
 use Rattle.mintc_timing.specs.Limits.{IsArc}
 use Rattle.mintc_timing.specs.Paths.{Leads, IsPath, arc_at, input_of, output_of, greatest_delay, IsGreatestDelay, IsLeastDelay}
 use Rattle.mintc_timing.specs.Order.{IsOrder}
-use Rattle.mintc_timing.proofs.Ordered.{all_among}
+use Rattle.mintc_timing.proofs.SharedOrdered.{all_among}
 use Rattle.mintc_lanes.specs.Lanes.{lane_at}
 use Rattle.mintc_paths.specs.declared.sums.Sums.{Sums}
 use Rattle.mintc_paths.specs.Among.{IsGreatestAmong, IsLeastAmong}

@@ -8,8 +8,8 @@ use Rattle.mintc_rings.specs.Rings.{total}
 use Rattle.mintc_timing.specs.Paths.{Leads, arc_at}
 use Rattle.mintc_timing.specs.Order.{IsOrder}
 use Rattle.mintc_timing.specs.Among.{AreAmong}
-use Rattle.mintc_timing.proofs.Ordered.{split, all_among, before_among, inside, Leads-push, none_among}
-use Rattle.mintc_rings.proofs.RingLaws.{total-push}
+use Rattle.mintc_timing.proofs.SharedOrdered.{split, all_among, before_among, inside, Leads-push, none_among}
+use Rattle.mintc_rings.proofs.SharedRingLaws.{total-push}
 use Rattle.mintc_paths.specs.declared.sums.Sums.{Sums}
 use Rattle.mintc_paths.specs.declared.trace.Extreme.{Extreme}
 use Rattle.mintc_paths.specs.declared.trace.Extreme.TheVariants.{Greatest, Least}

@@ -13,7 +13,7 @@ use Rattle.mintc_paths.specs.Sums.{row_of, moved, AreRows, IsCourse}
 use Rattle.mintc_paths.specs.Turned.{turned_bit, bit_before, flipped, turned_arc, turned_arcs}
 use Rattle.mintc_paths.proofs.Filling.{arc_inside}
 use Rattle.mintc_paths.proofs.Turning.{before_turned, turned_before, turned_below, before_below}
-use Rattle.mintc_paths.proofs.TurnedPaths.{turned_at}
+use Rattle.mintc_paths.proofs.SharedTurnedPaths.{turned_at}
 
 module _ (n total : ℕ) (all : 2 * n ≤ total) (places : Rows) (are_places : AreRows n places) (old new : Rows) (h : AreRows total old)
     (count : length new.of_bits.items ≡ length old.of_bits.items)

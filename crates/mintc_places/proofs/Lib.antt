@@ -1,2 +1,2 @@
-pub mod Setting
-pub mod Shifting
+mod Setting
+mod Shifting

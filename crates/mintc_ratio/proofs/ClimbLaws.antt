@@ -4,7 +4,7 @@ use Rattle.std.proofs.lemmas.Int.{ints}
 use Rattle.std.proofs.Math.IntN.{*ℤ_comm}
 use Rattle.mintc_fraction.specs.Ratio.{over}
 use Rattle.mintc_timing.specs.Links.{delay_of, cycles_of}
-use Rattle.mintc_timing.proofs.Products.{times-mono, times-mono_positive, times-cancel_positive, swap-times, add-times}
+use Rattle.mintc_timing.proofs.SharedProducts.{times-mono, times-mono_positive, times-cancel_positive, swap-times, add-times}
 use Rattle.mintc_constraints.specs.Ordinary.{Constraints, IsOrdinary}
 use Rattle.mintc_constraints.specs.Rooms.{Space}
 use Rattle.mintc_ratio.specs.declared.sums.Sums.{Sums}
@@ -12,7 +12,7 @@ use Rattle.mintc_ratio.specs.Chains.{links_at}
 use Rattle.mintc_ratio.specs.Climbing.{IsHeld, IsHigh, IsLow, IsSteeper, grid_of, top_of}
 use Rattle.mintc_ratio.specs.Tested.{NoneForbids}
 use Rattle.mintc_ratio.proofs.GridLaws.{grid_some}
-use Rattle.mintc_ratio.proofs.SumsLaws.{small-named}
+use Rattle.mintc_ratio.proofs.SharedSumsLaws.{small-named}
 use Rattle.mintc_ratio.proofs.TurnLaws.{product_low, int_cases}
 
 -- a product of three, in another order

@@ -3,7 +3,7 @@ use Rattle.std.proofs.Common.{◌≡◌, ◌≤◌, ℕ, ℤ, pos, negsuc, ◌*�
 use Rattle.std.proofs.lemmas.Int.{ints}
 use Rattle.std.specs.Int.RustNames.{unsigned_abs}
 use Rattle.mintc_fraction.specs.Ratio.{Ratio, over, IsEqual, IsFraction, IsLowest, IsWithin}
-use Rattle.mintc_timing.proofs.Products.{times-mono_positive, times-cancel_positive}
+use Rattle.mintc_timing.proofs.SharedProducts.{times-mono_positive, times-cancel_positive}
 use Rattle.mintc_ratio.specs.Searched.{IsCycle}
 
 -- the absolute value of a number that isn't negative

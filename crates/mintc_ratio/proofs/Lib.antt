@@ -1,15 +1,15 @@
-pub mod Weights
-pub mod Weighing
-pub mod TestedLaws
-pub mod RestLaws
-pub mod SumsLaws
-pub mod CycleLaws
-pub mod TurnLaws
-pub mod GridLaws
-pub mod ClimbLaws
-pub mod TurnedLaws
-pub mod BeginningLaws
-pub mod FinerLaws
-pub mod OutcomeLaws
-pub mod BroughtLaws
-pub mod FromLaws
+pub mod SharedSumsLaws
+pub mod SharedFinerLaws
+pub mod SharedBroughtLaws
+pub mod SharedFromLaws
+mod Weights
+mod Weighing
+mod TestedLaws
+mod RestLaws
+mod CycleLaws
+mod TurnLaws
+mod GridLaws
+mod ClimbLaws
+mod TurnedLaws
+mod BeginningLaws
+mod OutcomeLaws

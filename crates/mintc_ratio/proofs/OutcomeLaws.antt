@@ -3,15 +3,15 @@ use Rattle.std.proofs.Common.{◌≡◌, ℤ, pos, ◌*ℤ◌, ◌≤ℤ◌, ◌
 use Rattle.std.proofs.lemmas.Int.{ints}
 use Rattle.mintc_fraction.specs.Ratio.{Ratio}
 use Rattle.mintc_timing.specs.Links.{delay_of, cycles_of}
-use Rattle.mintc_timing.proofs.Products.{times-mono_positive, times-cancel_positive, swap-times}
+use Rattle.mintc_timing.proofs.SharedProducts.{times-mono_positive, times-cancel_positive, swap-times}
 use Rattle.mintc_constraints.specs.Ordinary.{Constraints}
 use Rattle.mintc_constraints.specs.Rooms.{Space}
 use Rattle.mintc_ratio.specs.declared.searching.Outcome.TheVariants.{Least, Never}
 use Rattle.mintc_ratio.specs.Chains.{links_at}
 use Rattle.mintc_ratio.specs.Searched.{IsLeast}
 use Rattle.mintc_ratio.specs.Finer.{OutcomesAreDetermined}
-use Rattle.mintc_fraction.proofs.Lowest.{IsLowest-unique}
-use Rattle.mintc_fraction.proofs.Products.{times-assoc}
+use Rattle.mintc_fraction.proofs.SharedLowest.{IsLowest-unique}
+use Rattle.mintc_fraction.proofs.SharedProducts.{times-assoc}
 use Rattle.std.proofs.Math.IntN.{*ℤ_comm}
 
 -- a chain that doesn't forbid a time, and is tight at another one

@@ -11,7 +11,7 @@ use Rattle.mintc_timing.specs.Links.{link, link_at, no_link}
 use Rattle.mintc_constraints.specs.Ordinary.{HasPlainLink}
 use Rattle.mintc_ratio.specs.Chains.{NamesChain}
 use Rattle.mintc_ratio.specs.Climbing.{IsPlainAt}
-use Rattle.mintc_rings.proofs.RingLaws.{listed}
+use Rattle.mintc_rings.proofs.SharedRingLaws.{listed}
 
 abbrev pub IsPlain : Link → ℕ → ℕ → ℕ → Type 0
 IsPlain k a b laps = (k.from ≡ a) × (k.to ≡ b) × (k.delay ≡ pos 0) × (k.cycles ≡ laps)

@@ -7,7 +7,7 @@ use Rattle.std.proofs.Math.IntN.{*ℤ_comm}
 use Rattle.mintc_fraction.specs.Ratio.{Ratio}
 use Rattle.mintc_timing.specs.declared.link.Link.{Link}
 use Rattle.mintc_timing.specs.Links.{delay_of, cycles_of, Forbids}
-use Rattle.mintc_timing.proofs.Products.{times-mono_positive, swap-times, add-times}
+use Rattle.mintc_timing.proofs.SharedProducts.{times-mono_positive, swap-times, add-times}
 use Rattle.mintc_constraints.specs.Ordinary.{Constraints, IsOrdinary}
 use Rattle.mintc_constraints.specs.Rooms.{Space}
 use Rattle.mintc_ratio.specs.declared.sums.Sums.{Sums}
@@ -18,7 +18,7 @@ use Rattle.mintc_ratio.specs.Climbing.{IsHeld, IsOfChain, IsJump, IsHalving, gri
 use Rattle.mintc_ratio.specs.Greatest.{AreGreatest}
 use Rattle.mintc_ratio.specs.Searched.{IsCycle, IsLeast}
 use Rattle.mintc_ratio.specs.Tested.{NoneForbids}
-use Rattle.mintc_ratio.proofs.SumsLaws.{few_links}
+use Rattle.mintc_ratio.proofs.SharedSumsLaws.{few_links}
 
 -- a chain's cycles aren't negative
 pub cycles_low : (chain : List Link) → pos 0 ≤ℤ cycles_of chain

@@ -7,7 +7,7 @@ use borrow.Author.Differences.{up, down, sum_is_lem}
 use Rattle.mintc_fraction.specs.Ratio.{over}
 use Rattle.mintc_ratio.specs.Weighed.{IsTestable}
 use Rattle.mintc_walks.specs.Bounds.{IsWithin}
-use Rattle.mintc_walks.proofs.Within.{abs_within, IsWithin-product}
+use Rattle.mintc_walks.proofs.SharedWithin.{abs_within, IsWithin-product}
 
 pub fits_128 : (b : ℕ) (z : ℤ) → b < 2 ^ 127 → IsWithin b z → SFits w128 z
 fits_128 b z h k = let a = abs_within b z k in fits_signed_from_abs w128 z (omega arith)

@@ -6,7 +6,7 @@ use Rattle.std.specs.List.{AllZip, range_with_len}
 use Rattle.std.proofs.lemmas.Grind.{flat_map-append}
 use Rattle.std.proofs.lemmas.List.{append-nil, take_more, get_or_default}
 use Rattle.mintc_text.specs.Lines.{ended, text_of, words}
-use Rattle.mintc_text.proofs.LinesLaws.{text_of-push}
+use Rattle.mintc_text.proofs.SharedLinesLaws.{text_of-push}
 use Rattle.mintc_fraction.specs.Ratio.{Ratio}
 use Rattle.mintc_timing.specs.declared.parts.Element.{Element}
 use Rattle.mintc_timing.specs.declared.parts.Pair.{Pair}

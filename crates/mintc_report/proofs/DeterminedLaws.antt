@@ -5,8 +5,8 @@ use Rattle.std.specs.List.{AllZip}
 use Rattle.std.proofs.lemmas.Fmt.{decimal_injective}
 use Rattle.std.proofs.lemmas.List.{append_cancel_right}
 use Rattle.mintc_text.specs.Lines.{ended, text_of, words}
-use Rattle.mintc_fraction.proofs.Lowest.{IsLowest-unique}
-use Rattle.mintc_fraction.proofs.Products.{swap-times, times-cancel_equal}
+use Rattle.mintc_fraction.proofs.SharedLowest.{IsLowest-unique}
+use Rattle.mintc_fraction.proofs.SharedProducts.{swap-times, times-cancel_equal}
 use Rattle.mintc_timing.specs.declared.parts.Pair.{Pair}
 use Rattle.mintc_timing.specs.declared.violation.Violation.{Violation}
 use Rattle.mintc_timing.specs.Design.{Timing}
@@ -15,7 +15,7 @@ use Rattle.mintc_certificate.specs.declared.certificate.Certificate.TheVariants.
 use Rattle.mintc_checker.specs.declared.verdict.Verdict.{Verdict}
 use Rattle.mintc_checker.specs.declared.verdict.Verdict.TheVariants.{Valid, Invalid}
 use Rattle.mintc_checker.specs.Verdicts.{IsVerdict}
-use Rattle.mintc_checker.proofs.Firsts.{number-range}
+use Rattle.mintc_checker.proofs.SharedFirsts.{number-range}
 use Rattle.mintc_report.specs.Answers.{fraction_word, IsWordOf, IsLineOfTwo, broken_words, ring_of, reach_lines, AreViolationLines}
 use Rattle.mintc_report.specs.Reports.{verdict_text_of, cycle_line, late_line, IsLateLine, chain_lines, IsReportText}
 use Rattle.mintc_report.specs.Laws.{HasDenominator, AnswersAreDetermined}

@@ -1,7 +1,7 @@
-pub mod AnswerLaws
-pub mod DeterminedLaws
-pub mod NamedLaws
-pub mod ReportLaws
-pub mod Throughs
-pub mod WorkedReports
-pub mod SummaryLaws
+mod AnswerLaws
+mod DeterminedLaws
+mod NamedLaws
+mod ReportLaws
+mod Throughs
+mod WorkedReports
+mod SummaryLaws

@@ -3,7 +3,7 @@ use Rattle.std.proofs.Common.{◌≡◌, ℕ, ◌+◌, ◌-◌, ◌<◌, ℤ, po
 use Rattle.std.proofs.lemmas.Grind.{flat_map-append}
 use Rattle.std.proofs.lemmas.List.{get_or_default}
 use Rattle.mintc_text.specs.Lines.{ended, spaced, text_of, words}
-use Rattle.mintc_text.proofs.LinesLaws.{words-append}
+use Rattle.mintc_text.proofs.SharedLinesLaws.{words-append}
 use Rattle.mintc_fraction.specs.Ratio.{Ratio}
 use Rattle.mintc_timing.specs.declared.parts.Element.{Element}
 use Rattle.mintc_timing.specs.declared.clocking.Schedule.{Schedule}

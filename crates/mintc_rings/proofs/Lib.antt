@@ -1,1 +1,1 @@
-pub mod RingLaws
+pub mod SharedRingLaws

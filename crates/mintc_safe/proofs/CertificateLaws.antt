@@ -15,17 +15,17 @@ use Rattle.mintc_constraints.specs.Laws.{node_count}
 use Rattle.mintc_constraints.specs.Ordinary.{Constraints, constraints_of}
 use Rattle.mintc_timing.specs.Links.{link_at}
 use Rattle.mintc_constraints.specs.Rooms.{Space}
-use Rattle.mintc_timing.proofs.LinkLaws.{ends_of}
+use Rattle.mintc_timing.proofs.SharedLinkLaws.{ends_of}
 use Rattle.mintc_ratio.specs.declared.searching.Outcome.{Outcome}
 use Rattle.mintc_ratio.specs.declared.searching.Outcome.TheVariants as outcome
 use Rattle.mintc_ratio.specs.Chains.{NamesChain, links_at}
 use Rattle.mintc_ratio.specs.Searched.{HasSearched, IsLeast}
-use Rattle.mintc_ratio.proofs.SumsLaws.{few_links}
+use Rattle.mintc_ratio.proofs.SharedSumsLaws.{few_links}
 use Rattle.mintc_certificate.specs.Ranges.{IsDeparture}
 use Rattle.mintc_optimise.specs.Making.{AreSayable}
-use Rattle.mintc_optimise.proofs.CertificateLaws.{AllPairs-named}
-use Rattle.mintc_optimise.proofs.EarliestLaws.{earliest}
-use Rattle.mintc_optimise.proofs.SayingLaws.{are_sayable}
+use Rattle.mintc_optimise.proofs.SharedCertificateLaws.{AllPairs-named}
+use Rattle.mintc_optimise.proofs.SharedEarliestLaws.{earliest}
+use Rattle.mintc_optimise.proofs.SharedSayingLaws.{are_sayable}
 use Rattle.mintc_safe.specs.declared.members.SafeMember.{SafeMember}
 use Rattle.mintc_safe.specs.declared.certificate.SafeCertificate.TheVariants.{Least, Never}
 use Rattle.mintc_safe.specs.Hold.{IsSafe}

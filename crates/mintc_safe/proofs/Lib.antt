@@ -1,8 +1,8 @@
-pub mod HoldLaws
-pub mod SafeLaws
-pub mod PassLaws
-pub mod ListingLaws
-pub mod StandingLaws
-pub mod BareLaws
-pub mod CertificateLaws
-pub mod WorkedSafe
+mod HoldLaws
+mod SafeLaws
+mod PassLaws
+mod ListingLaws
+mod StandingLaws
+mod BareLaws
+mod CertificateLaws
+mod WorkedSafe

@@ -18,8 +18,8 @@ use Rattle.mintc_certificate.specs.declared.members.Member.{Member}
 use Rattle.mintc_certificate.specs.declared.members.Member.TheVariants as member
 use Rattle.mintc_certificate.specs.Valid.{link_of}
 use Rattle.mintc_optimise.specs.Making.{StandsFor as StandsForPlain}
-use Rattle.mintc_optimise.proofs.PathLaws.{arcs_below, path_short}
-use Rattle.mintc_optimise.proofs.StandingLaws.{of_kind}
+use Rattle.mintc_optimise.proofs.SharedPathLaws.{arcs_below, path_short}
+use Rattle.mintc_optimise.proofs.SharedStandingLaws.{of_kind}
 use Rattle.mintc_safe.specs.declared.members.SafeMember.{SafeMember}
 use Rattle.mintc_safe.specs.declared.members.SafeMember.TheVariants.{Plain, Hold}
 use Rattle.mintc_safe.specs.Making.{bare, StandsFor, StandForAll}

@@ -1,1 +1,1 @@
-pub mod SampleLaws
+mod SampleLaws

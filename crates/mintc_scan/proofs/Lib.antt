@@ -1,3 +1,3 @@
-pub mod Sizes
-pub mod EndLaws
-pub mod TokenLaws
+pub mod SharedSizes
+pub mod SharedTokenLaws
+mod EndLaws

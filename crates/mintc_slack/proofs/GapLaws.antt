@@ -19,9 +19,9 @@ use Rattle.mintc_constraints.specs.Rooms.{Space}
 use Rattle.mintc_ratio.specs.From.{IsAsked}
 use Rattle.mintc_ratio.specs.Greatest.{asked_by, asked_by_link}
 use Rattle.mintc_ratio.specs.Searched.{IsCycle}
-use Rattle.mintc_ratio.proofs.BroughtLaws.{asked_more}
-use Rattle.mintc_ratio.proofs.FromLaws.{asked-on}
-use Rattle.mintc_rings.proofs.RingLaws.{LeadsBy-append}
+use Rattle.mintc_ratio.proofs.SharedBroughtLaws.{asked_more}
+use Rattle.mintc_ratio.proofs.SharedFromLaws.{asked-on}
+use Rattle.mintc_rings.proofs.SharedRingLaws.{LeadsBy-append}
 use Rattle.mintc_walks.specs.Bounds.{IsWithin}
 use Rattle.mintc_walks.specs.Walks.{value_at}
 use Rattle.mintc_slack.specs.declared.gaps.Gap.{Gap}

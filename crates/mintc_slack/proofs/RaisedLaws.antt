@@ -11,9 +11,9 @@ use Rattle.mintc_timing.specs.declared.link.Link.{Link}
 use Rattle.mintc_timing.specs.Clocking.{feeds_of, is_pair_between}
 use Rattle.mintc_timing.specs.Design.{Timing, element_at, pair_at, phase_of, no_pair}
 use Rattle.mintc_timing.specs.Links.{links_of, reach_link, IsMet}
-use Rattle.mintc_timing.proofs.Products.{times-mono_positive}
+use Rattle.mintc_timing.proofs.SharedProducts.{times-mono_positive}
 use Rattle.mintc_timing.specs.Paths.{HasEnds}
-use Rattle.mintc_timing.proofs.ByKind.{EachKind, All-links, EachKind-from_all}
+use Rattle.mintc_timing.proofs.SharedByKind.{EachKind, All-links, EachKind-from_all}
 use Rattle.mintc_slack.specs.Raised.{raised, raised_pair, with_pairs}
 
 -- The lists have pairs of the same elements.

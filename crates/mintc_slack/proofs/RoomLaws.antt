@@ -14,18 +14,18 @@ use Rattle.mintc_timing.specs.Clocking.{crosses_of}
 use Rattle.mintc_timing.specs.Limits.{IsDesign}
 use Rattle.mintc_timing.specs.Links.{links_of, delay_of, cycles_of, element_node, output_node, reach_link, start_node, IsMet, no_link, link_at}
 use Rattle.mintc_timing.specs.Right.{IsRight, IsLeastCycle, IsHopeless}
-use Rattle.mintc_timing.proofs.DeterminedLaws.{least_cycle_is_determined_lem}
-use Rattle.mintc_timing.proofs.Products.{add-times, swap-times, times-mono, times-mono_positive, times-cancel_positive}
+use Rattle.mintc_timing.proofs.SharedDeterminedLaws.{least_cycle_is_determined_lem}
+use Rattle.mintc_timing.proofs.SharedProducts.{add-times, swap-times, times-mono, times-mono_positive, times-cancel_positive}
 use Rattle.mintc_constraints.specs.Duality.{moments_of}
 use Rattle.mintc_timing.specs.Paths.{HasEnds}
 use Rattle.mintc_constraints.specs.Laws.{node_count}
 use Rattle.mintc_constraints.specs.Ordinary.{Leads}
-use Rattle.mintc_timing.proofs.ByKind.{EachKind, All-links, EachKind-from_all}
-use Rattle.mintc_constraints.proofs.ExistenceLaws.{feasible_has_right_lem, has_least_or_is_hopeless_lem}
-use Rattle.mintc_constraints.proofs.RightLaws.{right_has_moments_lem}
+use Rattle.mintc_timing.proofs.SharedByKind.{EachKind, All-links, EachKind-from_all}
+use Rattle.mintc_constraints.proofs.SharedExistenceLaws.{feasible_has_right_lem, has_least_or_is_hopeless_lem}
+use Rattle.mintc_constraints.proofs.SharedRightLaws.{right_has_moments_lem}
 use Rattle.mintc_ratio.specs.Chains.{links_at}
 use Rattle.mintc_ratio.specs.Greatest.{asked_by}
-use Rattle.mintc_constraints.proofs.WalkLaws.{walked}
+use Rattle.mintc_constraints.proofs.SharedWalkLaws.{walked}
 use Rattle.mintc_slack.specs.Raised.{raised}
 use Rattle.mintc_slack.specs.Room.{AreFrom, IsWhole, room_of}
 use Rattle.mintc_slack.specs.Slack.{IsSlack, IsSlower}

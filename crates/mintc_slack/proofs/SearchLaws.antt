@@ -15,15 +15,15 @@ use Rattle.mintc_timing.specs.Paths.{HasEnds}
 use Rattle.mintc_constraints.specs.Ordinary.{Constraints, IsOrdinary}
 use Rattle.mintc_constraints.specs.Rooms.{Space}
 use Rattle.mintc_timing.specs.Times.{node_time}
-use Rattle.mintc_timing.proofs.MeetingLaws.{right_meets_links_lem}
-use Rattle.mintc_constraints.proofs.ChainLaws.{met_chains_fit_lem, stuck_is_hopeless_lem, tight_fits_no_less_lem}
-use Rattle.mintc_constraints.proofs.ExistenceLaws.{feasible_has_right_lem}
-use Rattle.mintc_constraints.proofs.RightLaws.{right_has_moments_lem}
+use Rattle.mintc_timing.proofs.SharedMeetingLaws.{right_meets_links_lem}
+use Rattle.mintc_constraints.proofs.SharedChainLaws.{met_chains_fit_lem, stuck_is_hopeless_lem, tight_fits_no_less_lem}
+use Rattle.mintc_constraints.proofs.SharedExistenceLaws.{feasible_has_right_lem}
+use Rattle.mintc_constraints.proofs.SharedRightLaws.{right_has_moments_lem}
 use Rattle.mintc_ratio.specs.declared.searching.Outcome.{Outcome}
 use Rattle.mintc_ratio.specs.declared.searching.Outcome.TheVariants.{Least}
 use Rattle.mintc_ratio.specs.Chains.{NamesChain, links_at}
 use Rattle.mintc_ratio.specs.Searched.{HasSearched, IsCycle, IsLeast}
-use Rattle.mintc_ratio.proofs.SumsLaws.{few_links}
+use Rattle.mintc_ratio.proofs.SharedSumsLaws.{few_links}
 
 pub is_modest : (cycle : Ratio) → IsCycle cycle → IsModest cycle
 is_modest cycle is = record { num = abs_low cycle.num is.low is.num; den = (let most = is.den in omega (arith, ints)) }

@@ -8,7 +8,7 @@ use Rattle.mintc_timing.specs.Limits.{IsSpan}
 use Rattle.mintc_ratio.specs.Greatest.{asked_by_link}
 use Rattle.mintc_ratio.specs.Searched.{IsCycle}
 use Rattle.mintc_walks.specs.Bounds.{IsWithin}
-use Rattle.mintc_walks.proofs.Within.{IsWithin-product}
+use Rattle.mintc_walks.proofs.SharedWithin.{IsWithin-product}
 use Rattle.mintc_slack.specs.Room.{IsWhole}
 
 -- what a link asks for

@@ -1,1 +1,1 @@
-pub mod Moving
+mod Moving

@@ -14,7 +14,7 @@ use Rattle.mintc_speaking.specs.Speaking.{same_path, leaf_called}
 use Rattle.mintc_speaking.specs.Instances.{key_of, IsKey, seen, called, scope_called, IsFirst, AreFirst, AreSeen, IsAt}
 use Rattle.mintc_speaking.proofs.FirstLaws.{range_more}
 use Rattle.mintc_speaking.proofs.PathLaws.{Path, same_self, same_differs, snoc_same, snoc_not_nil, called_is, is_called, none_called, first_of, one_first}
-use Rattle.mintc_speaking.proofs.NameLaws.{path_below}
+use Rattle.mintc_speaking.proofs.SharedNameLaws.{path_below}
 
 -- ---- keys
 key_parts : (s t : ℕ) (n m : List ℕ) → key_of s n ≡ key_of t m → (s ≡ t) × (n ≡ m)

@@ -1,13 +1,13 @@
-pub mod NameLaws
-pub mod PortLaws
-pub mod RangeLaws
-pub mod RangeLimits
-pub mod FirstLaws
-pub mod TableLaws
-pub mod PathLaws
-pub mod InstanceLaws
-pub mod SpeakingLaws
-pub mod GatherLaws
-pub mod DelayLaws
-pub mod GroupLaws
-pub mod PlaceLaws
+pub mod SharedNameLaws
+pub mod SharedRangeLimits
+mod PortLaws
+mod RangeLaws
+mod FirstLaws
+mod TableLaws
+mod PathLaws
+mod InstanceLaws
+mod SpeakingLaws
+mod GatherLaws
+mod DelayLaws
+mod GroupLaws
+mod PlaceLaws

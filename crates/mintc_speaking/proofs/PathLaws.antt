@@ -8,7 +8,7 @@ use Rattle.mintc_speaking.specs.Names.{HasNames}
 use Rattle.mintc_speaking.specs.Pins.{no_scope, no_leaf, scope_at, leaf_at, scope_path, leaf_path}
 use Rattle.mintc_speaking.specs.Speaking.{same_path, leaf_called}
 use Rattle.mintc_speaking.specs.Instances.{called, scope_called, IsFirst}
-use Rattle.mintc_speaking.proofs.NameLaws.{path_below}
+use Rattle.mintc_speaking.proofs.SharedNameLaws.{path_below}
 use Rattle.mintc_speaking.proofs.FirstLaws.{range_found, range_first, range_none, range_missing}
 
 abbrev pub Path : Type 0

@@ -1,6 +1,6 @@
-pub mod IndexLaws
-pub mod ThereLaws
-pub mod BoolLaws
-pub mod OrderingLaws
-pub mod PinLaws
-pub mod ConnectedLaws
+pub mod SharedThereLaws
+pub mod SharedBoolLaws
+pub mod SharedOrderingLaws
+mod IndexLaws
+mod PinLaws
+mod ConnectedLaws

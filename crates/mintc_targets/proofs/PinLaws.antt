@@ -14,7 +14,7 @@ use Rattle.mintc_hierarchy.specs.declared.targets.Target.TheVariants.{OfCell, Of
 use Rattle.mintc_hierarchy.specs.Sources.{Source, module_at, cell_at, pins_from, pins_of, target_pins}
 use Rattle.std.proofs.lemmas.Simd.{map-map}
 use Rattle.mintc_targets.specs.Wired.{no_pin, pin_at}
-use Rattle.mintc_hierarchy.proofs.LengthLaws.{length-pins_of}
+use Rattle.mintc_hierarchy.proofs.SharedLengthLaws.{length-pins_of}
 
 length-pins_from : (output : Bool) (n : ℕ) (names : List (List ℕ)) → length (pins_from output n names) ≡ length names
 length-pins_from output n [] = refl

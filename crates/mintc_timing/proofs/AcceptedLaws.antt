@@ -3,7 +3,7 @@ use Rattle.std.proofs.Common.{List, length, arith, ap}
 use Rattle.mintc_timing.specs.declared.parts.Pair.{Pair}
 use Rattle.mintc_timing.specs.Accepted.{SystemsAreAccepted}
 use Rattle.mintc_timing.proofs.PairLaws.{pairs_are_determined_lem}
-use Rattle.mintc_timing.proofs.Ordered.{none_round}
+use Rattle.mintc_timing.proofs.SharedOrdered.{none_round}
 
 pub systems_are_accepted_lem : SystemsAreAccepted
 systems_are_accepted_lem flat order pairs limits kept = record {

@@ -16,7 +16,7 @@ use Rattle.mintc_timing.specs.Clocking.{start_of, width_of, end_of, shift_of, cr
 use Rattle.mintc_timing.specs.Departures.{departure, into, late_arrival, late_arrivals, late_opening, late_departure, AreExact}
 use Rattle.mintc_timing.specs.Right.{KeepsSetup, IsRight}
 use Rattle.mintc_timing.specs.Laws.{times, times_schedule, RightAtEachDenominator}
-use Rattle.mintc_timing.proofs.Products.{add-times, swap-times, times-mono_positive}
+use Rattle.mintc_timing.proofs.SharedProducts.{add-times, swap-times, times-mono_positive}
 
 -- a product of a product, and of a difference
 times_assoc : (x y z : ℤ) → x *ℤ (y *ℤ z) ≡ (x *ℤ y) *ℤ z

@@ -1,5 +1,5 @@
 use Rattle.std.proofs.Common.{◌≤◌, arith}
-use Rattle.mintc_paths.proofs.Finding.{pairs_found, few_found, many_found}
+use Rattle.mintc_paths.proofs.SharedFinding.{pairs_found, few_found, many_found}
 use Rattle.mintc_paths.proofs.Refusing.{stop_passed_on}
 use Rattle.mintc_paths.proofs.extremes.Goals as goal
 

@@ -3,7 +3,7 @@ use Rattle.std.proofs.lemmas.Int.{ints}
 use Rattle.mintc_timing.specs.Design.{no_arc}
 use Rattle.mintc_timing.specs.Limits.{IsDelay}
 use Rattle.mintc_timing.specs.Paths.{arc_at}
-use Rattle.mintc_certificate.proofs.PathDelays.{delay-more, delay-all}
+use Rattle.mintc_certificate.proofs.SharedPathDelays.{delay-more, delay-all}
 use Rattle.mintc_certificate.proofs.links.path_delay.Goals as goal
 
 fits : (old part : ℤ) (i : ℕ) → pos 0 ≤ℤ old → old ≤ℤ pos (i * 1000000000) → i < 1000000000 → IsDelay part → SFits w64 (old +ℤ to_z w64 (of_z w64 part))

@@ -2,7 +2,7 @@ use Rattle.std.proofs.Common.{◌≡◌, arith}
 use Rattle.std.proofs.lemmas.Int.{ints}
 use Rattle.mintc_timing.specs.Limits.{IsDelay}
 use Rattle.mintc_timing.specs.Paths.{input_of, output_of, greatest_delay}
-use Rattle.mintc_certificate.proofs.PathDelays.{Leads-inside, path-range}
+use Rattle.mintc_certificate.proofs.SharedPathDelays.{Leads-inside, path-range}
 use Rattle.mintc_certificate.proofs.links.path_link.Goals as goal
 
 pub path_delay-requires-clause-path : goal.path_delay-requires-clause-path

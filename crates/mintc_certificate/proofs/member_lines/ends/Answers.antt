@@ -1,6 +1,6 @@
 use Rattle.std.proofs.Common.{◌∷◌, arith}
 use Rattle.mintc_lines.specs.Fields.{number}
-use Rattle.mintc_lines.proofs.ReadingLaws.{at_none}
+use Rattle.mintc_lines.proofs.SharedReadingLaws.{at_none}
 use Rattle.mintc_certificate.proofs.member_lines.ends.Goals as goal
 
 pub returns-in_err-to : goal.returns-in_err-to

@@ -1,4 +1,4 @@
-use Rattle.mintc_lines.proofs.ReadingLaws.{at_none}
+use Rattle.mintc_lines.proofs.SharedReadingLaws.{at_none}
 use Rattle.mintc_certificate.proofs.MemberLaws.{one_none, one_unknown, one_some}
 use Rattle.mintc_certificate.proofs.member_lines.single_of.Goals as goal
 

@@ -1,7 +1,7 @@
 use Rattle.std.proofs.Common.{◌≡◌, ℤ, List, SFits, w64, codes, refl, arith, subst, sym}
 use Rattle.std.proofs.lemmas.Int.{to_z-of_z}
 use Rattle.mintc_lines.specs.Fields.{IsCountLine}
-use Rattle.mintc_timing.proofs.Fitting.{read_time}
+use Rattle.mintc_timing.proofs.SharedFitting.{read_time}
 use Rattle.mintc_certificate.specs.declared.version.Version.{Version}
 use Rattle.mintc_certificate.specs.CertificateText.{phase, departure, least_departure}
 use Rattle.mintc_certificate.proofs.CertificateReading.{fault, departures_read, list_none, list_more, list_fault, list_all, departure_states, IsDepartureLine, IsTime-departure, least_fits, At}

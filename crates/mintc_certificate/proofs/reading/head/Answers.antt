@@ -1,7 +1,7 @@
 use Rattle.std.proofs.Common.{codes, pos}
 use Rattle.mintc_lines.specs.Fields.{IsNumberLine, IsCountLine}
-use Rattle.mintc_timing.proofs.Fitting.{read_time, IsTime-IsDenominator, IsTime-IsNumerator}
-use Rattle.mintc_lines.proofs.ReadingLaws.{at_none}
+use Rattle.mintc_timing.proofs.SharedFitting.{read_time, IsTime-IsDenominator, IsTime-IsNumerator}
+use Rattle.mintc_lines.proofs.SharedReadingLaws.{at_none}
 use Rattle.mintc_certificate.specs.CertificateText.{den, cycle, phases}
 use Rattle.mintc_certificate.proofs.CertificateReading.{fault, den_read, cycle_read, phases_read}
 use Rattle.mintc_certificate.proofs.reading.head.Goals as goal

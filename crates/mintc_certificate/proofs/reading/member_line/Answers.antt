@@ -1,4 +1,4 @@
-use Rattle.mintc_lines.proofs.ReadingLaws.{none_there}
+use Rattle.mintc_lines.proofs.SharedReadingLaws.{none_there}
 use Rattle.mintc_certificate.specs.CertificateText.{IsMemberLine}
 use Rattle.mintc_certificate.proofs.MemberLaws.{plain-member_line, member_there}
 use Rattle.mintc_certificate.proofs.reading.member_line.Goals as goal

@@ -1,4 +1,4 @@
-use Rattle.mintc_lines.proofs.ReadingLaws.{at_none, none_there, read_there}
+use Rattle.mintc_lines.proofs.SharedReadingLaws.{at_none, none_there, read_there}
 use Rattle.mintc_certificate.specs.CertificateText.{IsOutcomeLine}
 use Rattle.mintc_certificate.proofs.CertificateReading.{plain-outcome_line}
 use Rattle.mintc_certificate.proofs.reading.outcome_line.Goals as goal

@@ -1,9 +1,9 @@
 use Rattle.std.proofs.Common.{◌≡◌, ◌-◌, ◌+◌, suc, arith, subst}
 use Rattle.mintc_timing.specs.declared.clocking.Schedule.{Schedule}
 use Rattle.mintc_lines.specs.Texts.{schedule_of}
-use Rattle.mintc_timing.proofs.Fitting.{read_time, IsTime-IsNumerator}
-use Rattle.mintc_lines.proofs.ReadingLaws.{at_none}
-use Rattle.mintc_lines.proofs.ScheduleReading.{pushed}
+use Rattle.mintc_timing.proofs.SharedFitting.{read_time, IsTime-IsNumerator}
+use Rattle.mintc_lines.proofs.SharedReadingLaws.{at_none}
+use Rattle.mintc_lines.proofs.SharedScheduleReading.{pushed}
 use Rattle.mintc_certificate.specs.CertificateText.{phase}
 use Rattle.mintc_certificate.proofs.CertificateReading.{At, phase_more, phase_fault}
 use Rattle.mintc_certificate.proofs.reading.phases.Goals as goal

@@ -1,7 +1,7 @@
 use Rattle.std.proofs.Common.{subst, sym, refl}
 use Rattle.mintc_certificate.specs.CertificateReading.{Halts}
 use Rattle.mintc_certificate.specs.CertificateText.{NextOfCertificate, first, IsCertificateFault}
-use Rattle.mintc_lines.proofs.ReadingLaws.{at_start}
+use Rattle.mintc_lines.proofs.SharedReadingLaws.{at_start}
 use Rattle.mintc_certificate.proofs.CertificateLaws.{IsCertificateInRange-from_text}
 use Rattle.mintc_certificate.proofs.reading.read.Goals as goal
 

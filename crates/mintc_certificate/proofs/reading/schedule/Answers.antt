@@ -1,5 +1,5 @@
-use Rattle.mintc_timing.proofs.Fitting.{read_time, IsTime-IsDenominator, IsTime-IsNumerator}
-use Rattle.mintc_lines.proofs.ReadingLaws.{at_none}
+use Rattle.mintc_timing.proofs.SharedFitting.{read_time, IsTime-IsDenominator, IsTime-IsNumerator}
+use Rattle.mintc_lines.proofs.SharedReadingLaws.{at_none}
 use Rattle.mintc_certificate.proofs.reading.schedule.Goals as goal
 
 pub returns-in_err-den : goal.returns-in_err-den

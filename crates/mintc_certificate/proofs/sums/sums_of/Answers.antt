@@ -1,6 +1,6 @@
 use Rattle.std.proofs.Common.{◌<◌, pos, arith, ◌∙◌}
 use Rattle.mintc_timing.specs.declared.link.Link.{Link}
-use Rattle.mintc_demands.specs.Alone.{alone}
+use Rattle.mintc_links.specs.Alone.{alone}
 use Rattle.mintc_certificate.proofs.ChainSumLaws.{sum_step, more_delay, more_cycles}
 use Rattle.mintc_certificate.proofs.sums.sums_of.Goals as goal
 

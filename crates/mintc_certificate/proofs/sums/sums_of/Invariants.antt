@@ -1,6 +1,6 @@
 use Rattle.std.proofs.Common.{◌≡◌, ◌*◌, pos, neg_ℤ, ◌≤ℤ◌, take}
 use Rattle.mintc_timing.specs.Links.{cycles_of, delay_of}
-use Rattle.mintc_demands.specs.Alone.{alone}
+use Rattle.mintc_links.specs.Alone.{alone}
 use Rattle.mintc_certificate.specs.Valid.{links_of_members}
 use Rattle.mintc_certificate.proofs.sums.sums_of.Given as goal
 

@@ -2,7 +2,7 @@ use Rattle.std.proofs.Common.{◌∷◌, [], ℤ, pos, length, codes, get_or, SF
 use Rattle.std.proofs.lemmas.Int.{to_z-of_z}
 use Rattle.std.proofs.lemmas.List.{get_or_default}
 use Rattle.mintc_certificate.specs.Written.{count_line, number_line}
-use Rattle.mintc_certificate.proofs.WritingLaws.{item_more}
+use Rattle.mintc_certificate.proofs.SharedWritingLaws.{item_more}
 use Rattle.mintc_certificate.proofs.writing.put_departures.Goals as goal
 
 pub loop-departure-preserved : goal.loop-departure-preserved

@@ -1,7 +1,7 @@
 use Rattle.std.proofs.Common.{map}
 use Rattle.std.proofs.lemmas.Result.{on_ok_weaker}
 use Rattle.mintc_lines.specs.Fields.{number}
-use Rattle.mintc_text.proofs.LinesLaws.{line-spaced}
+use Rattle.mintc_text.proofs.SharedLinesLaws.{line-spaced}
 use Rattle.mintc_certificate.proofs.writing.put_line.Goals as goal
 
 pub returns : goal.returns

@@ -2,7 +2,7 @@ use Rattle.std.proofs.Common.{ℤ, pos, get_or, SFits, w64, rules, arith}
 use Rattle.std.proofs.lemmas.Int.{to_z-of_z}
 use Rattle.std.proofs.lemmas.List.{get_or_default}
 use Rattle.mintc_certificate.specs.Written.{phase_line}
-use Rattle.mintc_certificate.proofs.WritingLaws.{pair_more, pairs_all}
+use Rattle.mintc_certificate.proofs.SharedWritingLaws.{pair_more, pairs_all}
 use Rattle.mintc_certificate.proofs.writing.put_phases.Goals as goal
 
 pub loop-index-preserved : goal.loop-index-preserved

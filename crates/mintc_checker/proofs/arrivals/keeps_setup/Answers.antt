@@ -6,8 +6,8 @@ use Rattle.mintc_timing.specs.declared.parts.Element.{Element}
 use Rattle.mintc_timing.specs.Clocking.{width_of}
 use Rattle.mintc_timing.specs.Departures.{departure}
 use Rattle.mintc_timing.specs.Limits.{IsModest}
-use Rattle.mintc_timing.proofs.Fitting.{read_time, test_is, IsTime-IsGap, IsTime-IsDenominator, IsTime-IsNumerator}
-use Rattle.mintc_timing.proofs.SetupLaws.{KeepsSetup-latch}
+use Rattle.mintc_timing.proofs.SharedFitting.{read_time, test_is, IsTime-IsGap, IsTime-IsDenominator, IsTime-IsNumerator}
+use Rattle.mintc_timing.proofs.SharedSetupLaws.{KeepsSetup-latch}
 use Rattle.mintc_certificate.specs.Ranges.{IsDeparture}
 use Rattle.mintc_checker.specs.Judged.{IsArrivalTime, timing_of}
 use Rattle.mintc_checker.specs.Trails.{IsLastArrival, element_of}

@@ -2,7 +2,7 @@ use Rattle.std.proofs.Common.{◌≡◌, ◌<◌, ◌+◌, ℕ, length, arith, a
 use Rattle.std.specs.Int.{int_max}
 use Rattle.mintc_timing.specs.declared.parts.Element.{Element}
 use Rattle.mintc_timing.specs.Paths.{input_of}
-use Rattle.mintc_timing.proofs.Fitting.{read_time, IsTime-IsModest}
+use Rattle.mintc_timing.proofs.SharedFitting.{read_time, IsTime-IsModest}
 use Rattle.mintc_lanes.specs.Lanes.{joined}
 use Rattle.mintc_checker.specs.Labels.{label_at}
 use Rattle.mintc_checker.specs.Trails.{IsLastUpTo}

@@ -4,7 +4,7 @@ use Rattle.std.specs.Int.{int_max}
 use Rattle.std.proofs.lemmas.Int.{ints, clamps}
 use Rattle.mintc_timing.specs.declared.parts.Element.{Element}
 use Rattle.mintc_timing.specs.Limits.{IsModest}
-use Rattle.mintc_timing.proofs.Fitting.{read_time, IsTime-IsModest}
+use Rattle.mintc_timing.proofs.SharedFitting.{read_time, IsTime-IsModest}
 use Rattle.mintc_checker.specs.Judged.{IsArrivalTime}
 use Rattle.mintc_checker.specs.Trails.{IsLastArrival}
 use Rattle.mintc_checker.proofs.Exact.{departs-latch}

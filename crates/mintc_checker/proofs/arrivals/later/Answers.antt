@@ -2,7 +2,7 @@ use Rattle.std.proofs.Common.{◌≡◌, ℤ, pos, negsuc, ◌+ℤ◌, ◌≤ℤ
 use Rattle.std.specs.Prelude.{IfSome}
 use Rattle.std.specs.Int.{int_max}
 use Rattle.std.proofs.lemmas.Int.{ints, clamps}
-use Rattle.mintc_timing.proofs.Fitting.{read_time}
+use Rattle.mintc_timing.proofs.SharedFitting.{read_time}
 use Rattle.mintc_lanes.specs.Lanes.{joined}
 use Rattle.mintc_checker.specs.Judged.{IsArrivalTime, IsLate}
 use Rattle.mintc_checker.proofs.arrivals.later.Goals as goal

@@ -1,7 +1,7 @@
 use Rattle.mintc_certificate.specs.declared.certificate.Certificate.TheVariants.{Least}
 use Rattle.mintc_certificate.specs.Valid.{clock, bounds, departures, setups}
 use Rattle.mintc_checker.specs.Judged.{timing_of}
-use Rattle.mintc_checker.proofs.Firsts.{fails_first, after_counts, after_clock, after_bounds, after_departures, after_setups}
+use Rattle.mintc_checker.proofs.SharedFirsts.{fails_first, after_counts, after_clock, after_bounds, after_departures, after_setups}
 use Rattle.mintc_checker.proofs.Deciding.{refused}
 use Rattle.mintc_checker.proofs.examining.first_of_schedule.Goals as goal
 

@@ -1,7 +1,7 @@
 use Rattle.mintc_certificate.specs.declared.certificate.Certificate.TheVariants.{Least}
 use Rattle.mintc_certificate.specs.Valid.{ring, sums}
 use Rattle.mintc_checker.specs.Judged.{timing_of}
-use Rattle.mintc_checker.proofs.Firsts.{fails_counts, fails_first, passes_more, valid_of}
+use Rattle.mintc_checker.proofs.SharedFirsts.{fails_counts, fails_first, passes_more, valid_of}
 use Rattle.mintc_checker.proofs.Deciding.{refused}
 use Rattle.mintc_checker.proofs.examining.judge_least.Goals as goal
 

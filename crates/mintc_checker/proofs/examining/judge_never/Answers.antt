@@ -3,7 +3,7 @@ use Rattle.std.proofs.lemmas.Int.{ints}
 use Rattle.mintc_certificate.specs.declared.certificate.Certificate.TheVariants.{Never}
 use Rattle.mintc_certificate.specs.Valid.{ring, sums}
 use Rattle.mintc_checker.specs.Judged.{timing_of}
-use Rattle.mintc_checker.proofs.Firsts.{after_setups, fails_first, passes_more, valid_of}
+use Rattle.mintc_checker.proofs.SharedFirsts.{after_setups, fails_first, passes_more, valid_of}
 use Rattle.mintc_checker.proofs.Deciding.{refused}
 use Rattle.mintc_checker.proofs.examining.judge_never.Goals as goal
 

@@ -1,6 +1,6 @@
 use Rattle.std.proofs.Common.{◌≡◌, ◌+◌, ◌-◌, arith, ap, ◌∙◌, length}
 use Rattle.mintc_timing.specs.declared.parts.Element.{Element}
-use Rattle.mintc_timing.proofs.Fitting.{read_time}
+use Rattle.mintc_timing.proofs.SharedFitting.{read_time}
 use Rattle.mintc_checker.proofs.Beginning.{AreStarts-more}
 use Rattle.mintc_checker.proofs.labels.begin_element.Goals as goal
 

@@ -1,6 +1,6 @@
 use Rattle.std.proofs.Common.{◌≡◌, ◌*ℤ◌, get_or, arith, refl, ◌∙◌}
 use Rattle.mintc_timing.specs.declared.parts.TimingArc.{TimingArc}
-use Rattle.mintc_timing.proofs.Fitting.{read_time, IsTime-IsDelay, IsTime-IsDenominator, IsTime-IsModest}
+use Rattle.mintc_timing.proofs.SharedFitting.{read_time, IsTime-IsDelay, IsTime-IsDenominator, IsTime-IsModest}
 use Rattle.mintc_checker.specs.Labels.{IsAlong}
 use Rattle.mintc_checker.proofs.Carrying.{carried}
 use Rattle.mintc_checker.proofs.Sizes.{AreLanes-from_labels}

@@ -2,7 +2,7 @@ use Rattle.std.proofs.Common.{◌≡◌, ℕ, List, length, get_or, subst, ◌�
 use Rattle.mintc_timing.specs.declared.parts.TimingArc.{TimingArc}
 use Rattle.mintc_timing.specs.Limits.{IsArc}
 use Rattle.mintc_timing.specs.Paths.{arc_at}
-use Rattle.mintc_timing.proofs.Ordered.{inside}
+use Rattle.mintc_timing.proofs.SharedOrdered.{inside}
 use Rattle.mintc_checker.proofs.Carrying.{arc_inside}
 use Rattle.mintc_checker.proofs.reading.arc_at_place.Goals as goal
 

@@ -1,9 +1,9 @@
 use Rattle.std.proofs.Common.{ℤ, pos, ◌*ℤ◌, ◌≤ℤ◌, arith, refl, ap, ◌∙◌, sym, subst}
 use Rattle.std.proofs.lemmas.Int.{ints}
 use Rattle.mintc_timing.specs.Limits.{IsTime}
-use Rattle.mintc_timing.proofs.Fitting.{read_time, test_is, IsTime-IsDenominator, IsTime-IsNumerator}
+use Rattle.mintc_timing.proofs.SharedFitting.{read_time, test_is, IsTime-IsDenominator, IsTime-IsNumerator}
 use Rattle.mintc_certificate.specs.Valid.{links_of_members}
-use Rattle.mintc_demands.specs.Alone.{alone}
+use Rattle.mintc_links.specs.Alone.{alone}
 use Rattle.mintc_checker.proofs.Deciding.{alike}
 use Rattle.mintc_checker.proofs.Scaled.{scaled_is, equal_bits, delay_fits, turns_fit}
 use Rattle.mintc_checker.proofs.ring.is_tight.Goals as goal

@@ -1,4 +1,4 @@
-use Rattle.mintc_constraints.proofs.OrdinaryLaws.{links_are_ordinary_lem}
+use Rattle.mintc_constraints.proofs.SharedOrdinaryLaws.{links_are_ordinary_lem}
 use Rattle.mintc_constraints.proofs.laws.links_are_ordinary.Goals as goal
 
 pub returns : goal.returns

@@ -1,4 +1,4 @@
-use Rattle.mintc_constraints.proofs.ChainLaws.{stuck_is_hopeless_lem}
+use Rattle.mintc_constraints.proofs.SharedChainLaws.{stuck_is_hopeless_lem}
 use Rattle.mintc_constraints.proofs.laws.stuck_is_hopeless.Goals as goal
 
 pub returns : goal.returns

@@ -1,6 +1,6 @@
 use Rattle.std.proofs.Common.{◌≡◌}
 use Rattle.mintc_timing.specs.Links.{links_of}
-use Rattle.mintc_constraints.proofs.OrdinaryLaws.{links_are_ordinary_lem}
+use Rattle.mintc_constraints.proofs.SharedOrdinaryLaws.{links_are_ordinary_lem}
 use Rattle.mintc_constraints.proofs.listing.links.Goals as goal
 
 pub new-requires : goal.new-requires

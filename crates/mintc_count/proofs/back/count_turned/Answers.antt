@@ -3,7 +3,7 @@ use Rattle.mintc_timing.specs.Design.{Design}
 use Rattle.mintc_paths.specs.Sums.{IsCourse}
 use Rattle.mintc_paths.specs.Ordered.{Ordered, IsCourseOf}
 use Rattle.mintc_paths.specs.Turned.{turned_arcs}
-use Rattle.mintc_paths.proofs.TurnedPaths.{IsDesign-turned, IsOrder-turned}
+use Rattle.mintc_paths.proofs.SharedTurnedPaths.{IsDesign-turned, IsOrder-turned}
 use Rattle.mintc_count.proofs.back.count_turned.Goals as goal
 
 pub count_along-requires : goal.count_along-requires

@@ -3,7 +3,7 @@ use Rattle.mintc_count.specs.declared.marks.TheConstants.{NO_MARKS}
 use Rattle.mintc_count.specs.Marks.{AreMarksReached}
 use Rattle.mintc_count.proofs.Noting.{AreMarksReached-none}
 use Rattle.mintc_paths.specs.Ordered.{IsCourseOf}
-use Rattle.mintc_paths.proofs.Waking.{IsReady-fewer}
+use Rattle.mintc_paths.proofs.SharedWaking.{IsReady-fewer}
 use Rattle.mintc_count.proofs.count.count_along.Goals as goal
 
 pub count_each-requires : goal.count_each-requires

@@ -7,8 +7,8 @@ use Rattle.mintc_paths.specs.Awake.{IsAwake}
 use Rattle.mintc_count.specs.Marks.{AreMarksAlong}
 use Rattle.mintc_count.proofs.Leading.{AreCarriedMarks, AreMarksAlong-begun}
 use Rattle.mintc_count.proofs.Noting.{marked_along, unmarked_next}
-use Rattle.mintc_paths.proofs.Passing.{row_in, row_to_in, at_place, at_end}
-use Rattle.mintc_paths.proofs.Waking.{IsAwake-later, IsAwake-next}
+use Rattle.mintc_paths.proofs.SharedPassing.{row_in, row_to_in, at_place, at_end}
+use Rattle.mintc_paths.proofs.SharedWaking.{IsAwake-later, IsAwake-next}
 use Rattle.mintc_count.proofs.marks.mark_all.Given.{Over}
 use Rattle.mintc_count.proofs.marks.mark_all.Goals as goal
 use Rattle.mintc_count.proofs.marks.mark_all.Goals.{After-index-arc}

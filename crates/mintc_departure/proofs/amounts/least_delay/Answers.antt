@@ -3,7 +3,7 @@ use Rattle.std.proofs.lemmas.Int.{ints, to_z-of_z}
 use Rattle.mintc_timing.specs.declared.parts.Pair.{Pair}
 use Rattle.mintc_timing.specs.Design.{pair_at, no_pair}
 use Rattle.mintc_timing.specs.Limits.{IsDelay, IsDesign}
-use Rattle.mintc_departure.proofs.Sizes.{pair-min_range}
+use Rattle.mintc_departure.proofs.SharedSizes.{pair-min_range}
 use Rattle.mintc_departure.proofs.amounts.least_delay.Goals as goal
 
 pub returns : goal.returns

@@ -9,7 +9,7 @@ use Rattle.mintc_timing.specs.Clocking.{feeds_of}
 use Rattle.mintc_timing.specs.Design.{Timing, phase_count}
 use Rattle.mintc_timing.specs.Limits.{IsPhase}
 use Rattle.mintc_timing.specs.Violations.{check, failed}
-use Rattle.mintc_timing.proofs.Fitting.{read_time}
+use Rattle.mintc_timing.proofs.SharedFitting.{read_time}
 use Rattle.mintc_departure.specs.Checks.{apart_check}
 use Rattle.mintc_departure.proofs.FailedLaws.{range-more, range-all}
 use Rattle.mintc_departure.proofs.clock_checks.judge_apart.Goals as goal

@@ -7,7 +7,7 @@ use Rattle.mintc_timing.specs.declared.parts.Point.TheVariants as point
 use Rattle.mintc_timing.specs.declared.violation.Broken.TheVariants as broken
 use Rattle.mintc_timing.specs.Design.{Design}
 use Rattle.mintc_timing.specs.Violations.{check, failed}
-use Rattle.mintc_timing.proofs.Fitting.{read_time}
+use Rattle.mintc_timing.proofs.SharedFitting.{read_time}
 use Rattle.mintc_departure.specs.Checks.{bound_check}
 use Rattle.mintc_departure.proofs.FailedLaws.{failed-more, failed-all}
 use Rattle.mintc_departure.proofs.clock_checks.judge_bounds.Goals as goal

@@ -3,7 +3,7 @@ use Rattle.std.specs.Int.{w128}
 use Rattle.std.proofs.lemmas.Int.{ints}
 use Rattle.mintc_timing.specs.declared.parts.Element.{Element}
 use Rattle.mintc_timing.specs.Design.{element_at}
-use Rattle.mintc_timing.proofs.Fitting.{read_time, IsTime-IsGap, IsTime-IsDenominator}
+use Rattle.mintc_timing.proofs.SharedFitting.{read_time, IsTime-IsGap, IsTime-IsDenominator}
 use Rattle.mintc_departure.specs.declared.arrivals.TheConstants.{NEVER}
 use Rattle.mintc_departure.specs.Rounds.{IsArrivalSum}
 use Rattle.mintc_departure.proofs.ElementLaws.{hold-some, some-is}

@@ -4,7 +4,7 @@ use Rattle.std.proofs.lemmas.Int.{ints, clamps}
 use Rattle.mintc_timing.specs.declared.parts.Element.{Element}
 use Rattle.mintc_timing.specs.Clocking.{width_of}
 use Rattle.mintc_timing.specs.Design.{element_at, phase_of}
-use Rattle.mintc_timing.proofs.Fitting.{read_time, IsTime-IsGap, IsTime-IsDenominator}
+use Rattle.mintc_timing.proofs.SharedFitting.{read_time, IsTime-IsGap, IsTime-IsDenominator}
 use Rattle.mintc_departure.specs.declared.latest.TheConstants.{LONG_AGO}
 use Rattle.mintc_departure.specs.Rounds.{IsArrivalSum}
 use Rattle.mintc_departure.specs.Settled.{IsSum}

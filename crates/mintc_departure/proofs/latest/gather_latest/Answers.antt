@@ -4,7 +4,7 @@ use Rattle.mintc_constraints.specs.Rooms.{Space}
 use Rattle.mintc_timing.specs.Departures.{late_arrival}
 use Rattle.mintc_timing.specs.Design.{pair_at}
 use Rattle.mintc_timing.specs.Extremes.{greater_of, greatest_of}
-use Rattle.mintc_timing.proofs.ExtremesLaws.{greatest_of-push}
+use Rattle.mintc_timing.proofs.SharedExtremesLaws.{greatest_of-push}
 use Rattle.mintc_departure.specs.Excesses.{IsLast}
 use Rattle.mintc_departure.specs.Rounds.{IsArrivalSum}
 use Rattle.mintc_departure.proofs.Filling.{kept-values}

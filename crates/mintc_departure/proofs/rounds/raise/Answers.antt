@@ -6,7 +6,7 @@ use Rattle.mintc_walks.specs.Walks.{value_at}
 use Rattle.mintc_timing.specs.Design.{element_count}
 use Rattle.mintc_timing.specs.Departures.{departure, early_departure, early_arrivals}
 use Rattle.mintc_timing.specs.Extremes.{least_of}
-use Rattle.mintc_timing.proofs.Fitting.{same_bits}
+use Rattle.mintc_timing.proofs.SharedFitting.{same_bits}
 use Rattle.mintc_departure.specs.Rounds.{IsFirst}
 use Rattle.mintc_departure.specs.Settled.{IsSum}
 use Rattle.mintc_departure.proofs.Filling.{filled-more, kept-early}

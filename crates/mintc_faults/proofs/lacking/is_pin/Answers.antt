@@ -1,7 +1,7 @@
 use Rattle.std.proofs.Common.{◌∙◌}
 use Rattle.mintc_hierarchy.specs.Sources.{source_of}
 use Rattle.mintc_faults.specs.Lacking.{port_set}
-use Rattle.mintc_targets.proofs.ThereLaws.{kept_at}
+use Rattle.mintc_targets.proofs.SharedThereLaws.{kept_at}
 use Rattle.mintc_faults.proofs.LackLaws.{is_pin_of_cell, is_pin_of_module}
 use Rattle.std.proofs.Common.{subst}
 use Rattle.mintc_targets.specs.Orders.{IsThere}

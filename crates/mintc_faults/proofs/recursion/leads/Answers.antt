@@ -4,7 +4,7 @@ use Rattle.mintc_netlist.specs.declared.module.Module.{Module}
 use Rattle.mintc_hierarchy.specs.declared.targets.Target.{Target}
 use Rattle.mintc_hierarchy.specs.Sources.{source_of, module_at, no_module, is_called, targets_in}
 use Rattle.mintc_faults.specs.Searching.{with_targets}
-use Rattle.mintc_targets.proofs.ThereLaws.{kept_at}
+use Rattle.mintc_targets.proofs.SharedThereLaws.{kept_at}
 use Rattle.mintc_faults.proofs.SearchLaws.{begun, passed_one, leads_to, leads_not}
 use Rattle.mintc_faults.proofs.recursion.leads.Goals as goal
 

@@ -8,7 +8,7 @@ use Rattle.mintc_hierarchy.specs.Sources.{source_of, module_at, no_module, targe
 use Rattle.mintc_hierarchy.specs.Walks.{counts, plus}
 use Rattle.mintc_flatten.specs.Totals.{IsCounted, IsCapped, IsCount, sum_parts, greatest_depth, net_count, capped}
 use Rattle.mintc_flatten.proofs.CountLaws.{counted_targets, greatest_depth-le, module_counted, counted_step}
-use Rattle.mintc_targets.proofs.ThereLaws.{kept_at}
+use Rattle.mintc_targets.proofs.SharedThereLaws.{kept_at}
 use Rattle.mintc_flatten.proofs.counts.count_modules.Goals as goal
 
 pub module_count-requires-clause-counted : goal.module_count-requires-clause-counted

@@ -1,4 +1,4 @@
-use Rattle.mintc_hierarchy.proofs.ShapeLaws.{in_shape}
+use Rattle.mintc_hierarchy.proofs.SharedShapeLaws.{in_shape}
 use Rattle.mintc_hierarchy.proofs.laws.hierarchies_are_in_shape.Goals as goal
 
 pub returns : goal.returns

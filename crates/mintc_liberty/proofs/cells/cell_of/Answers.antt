@@ -3,7 +3,7 @@ use Rattle.mintc_liberty.specs.declared.parts.Parts.{Parts}
 use Rattle.mintc_liberty.specs.Meaning.{are_pins}
 use Rattle.mintc_liberty.specs.Seen.{pins_seen}
 use Rattle.mintc_liberty.specs.Held.{held}
-use Rattle.mintc_liblex.proofs.PassingLaws.{if-some}
+use Rattle.mintc_liblex.proofs.SharedPassingLaws.{if-some}
 use Rattle.mintc_liberty.proofs.CountLaws.{CountedIf, counted, the-counts}
 use Rattle.mintc_liberty.proofs.cells.cell_of.Goals as goal
 

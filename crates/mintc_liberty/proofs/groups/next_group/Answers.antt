@@ -2,7 +2,7 @@ use Rattle.std.proofs.Common.{◌≡◌, None, ap, ◌∙◌, ◌++◌, arith}
 use Rattle.mintc_liblex.specs.Statements.{front}
 use Rattle.mintc_liberty.specs.Meaning.{groups}
 use Rattle.mintc_liberty.specs.Passing.{group_at}
-use Rattle.mintc_liblex.proofs.NestLaws.{step-shorter}
+use Rattle.mintc_liblex.proofs.SharedNestLaws.{step-shorter}
 use Rattle.mintc_liberty.proofs.GroupLaws.{group_if, group-step, group-end, none-next}
 use Rattle.mintc_liberty.proofs.groups.next_group.Goals as goal
 

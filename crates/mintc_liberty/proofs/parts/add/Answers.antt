@@ -1,6 +1,6 @@
 use Rattle.mintc_liberty.specs.Seen.{group_seen}
 use Rattle.mintc_liberty.specs.Held.{held}
-use Rattle.mintc_liblex.proofs.PassingLaws.{second-way}
+use Rattle.mintc_liblex.proofs.SharedPassingLaws.{second-way}
 use Rattle.mintc_liberty.proofs.HeldLaws.{broken}
 use Rattle.mintc_liberty.proofs.parts.add.Goals as goal
 

@@ -5,7 +5,7 @@ use Rattle.mintc_liberty.specs.Passing.{value_bytes}
 use Rattle.mintc_liberty.specs.Meaning.{are_pins, pin_with}
 use Rattle.mintc_liberty.specs.Seen.{pins_seen, group_seen}
 use Rattle.mintc_liberty.proofs.PinLaws.{fails-with-more}
-use Rattle.mintc_liblex.proofs.PassingLaws.{second-way}
+use Rattle.mintc_liblex.proofs.SharedPassingLaws.{second-way}
 use Rattle.mintc_liberty.proofs.SeenLaws.{group-pins, name-step}
 use Rattle.mintc_liberty.proofs.pins.add_pins.Goals as goal
 

@@ -2,9 +2,9 @@ use Rattle.std.proofs.Common.{◌≡◌, [], length, true, false, Some, IsOk, sy
 use Rattle.mintc_liblex.specs.Statements.{front, count}
 use Rattle.mintc_liberty.specs.Texts.{behind_head, is_end, whole, within, library_of}
 use Rattle.mintc_liblex.specs.Reading.{statement_rest}
-use Rattle.mintc_scan.proofs.TokenLaws.{few}
+use Rattle.mintc_scan.proofs.SharedTokenLaws.{few}
 use Rattle.mintc_liblex.specs.Tokens.{piece_of}
-use Rattle.mintc_liblex.proofs.NestLaws.{step-shorter}
+use Rattle.mintc_liblex.proofs.SharedNestLaws.{step-shorter}
 use Rattle.mintc_liberty.proofs.LibraryLaws.{goes, stops, is-whole, is-broken, no-end, head-shorter}
 use Rattle.mintc_liberty.proofs.texts.syntax_of.Goals as goal
 

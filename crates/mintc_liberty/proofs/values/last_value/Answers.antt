@@ -3,7 +3,7 @@ use Rattle.mintc_liberty.specs.declared.values.Found.{Found}
 use Rattle.mintc_liblex.specs.Statements.{front}
 use Rattle.mintc_liberty.specs.Meaning.{or_else, last_value}
 use Rattle.mintc_liberty.specs.Passing.{value_bytes, attribute_at, value_if}
-use Rattle.mintc_liblex.proofs.NestLaws.{step-shorter}
+use Rattle.mintc_liblex.proofs.SharedNestLaws.{step-shorter}
 use Rattle.mintc_liberty.proofs.ValueLaws.{last-step, last-end, or_else-chain, later-is}
 use Rattle.mintc_liberty.proofs.values.last_value.Goals as goal
 

@@ -1,5 +1,5 @@
 use Rattle.std.proofs.Common.{arith, ◌<◌, ◌∙◌}
-use Rattle.mintc_scan.proofs.TokenLaws.{pass, settled-at}
+use Rattle.mintc_scan.proofs.SharedTokenLaws.{pass, settled-at}
 use Rattle.mintc_liblex.specs.Tokens.{piece_of}
 use Rattle.mintc_liblex.proofs.Sizes.{piece-fits}
 use Rattle.mintc_liblex.proofs.settling.settle.Goals as goal

@@ -2,8 +2,8 @@ use Rattle.std.proofs.Common.{◌≡◌, ◌∷◌, [], Some, option_map, length
 use Rattle.mintc_liblex.specs.Tokens.{closing, word}
 use Rattle.mintc_liblex.specs.Statements.{past_semicolon}
 use Rattle.mintc_liblex.specs.Reading.{kind_of, value_rest, call_rest, called_rest, group_rest, statement_rest}
-use Rattle.mintc_liblex.proofs.PassingLaws.{same-tokens, ahead-then, both-ways, group-more, group-end, not-right}
-use Rattle.mintc_liblex.proofs.NestLaws.{step-shorter, word-there, attribute-rest, call-same, items-there, no-group, no-room, inside, right-here}
+use Rattle.mintc_liblex.proofs.SharedPassingLaws.{same-tokens, ahead-then, both-ways, group-more, group-end, not-right}
+use Rattle.mintc_liblex.proofs.SharedNestLaws.{step-shorter, word-there, attribute-rest, call-same, items-there, no-group, no-room, inside, right-here}
 use Rattle.mintc_liblex.proofs.statements.«+nest».Goals as goal
 
 pub call-returns-then-room-eq0-clause-passed : goal.call-returns-then-room-eq0-clause-passed

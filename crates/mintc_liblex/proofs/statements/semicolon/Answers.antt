@@ -1,6 +1,6 @@
 use Rattle.std.proofs.Common.{[], sym, ap, ◌∙◌}
 use Rattle.mintc_liblex.specs.Statements.{past_semicolon}
-use Rattle.mintc_liblex.proofs.PassingLaws.{same-tokens, no-semicolon, one-way}
+use Rattle.mintc_liblex.proofs.SharedPassingLaws.{same-tokens, no-semicolon, one-way}
 use Rattle.mintc_liblex.proofs.statements.semicolon.Goals as goal
 
 pub returns-clause-passed : goal.returns-clause-passed

@@ -1,7 +1,7 @@
 use Rattle.std.proofs.Common.{◌≡◌, [], sym, ap, ◌∙◌}
 use Rattle.mintc_liblex.specs.Tokens.{is_value}
 use Rattle.mintc_liblex.specs.Reading.{after_semicolon, value_rest}
-use Rattle.mintc_liblex.proofs.PassingLaws.{same-tokens, past-none, not-semicolon, both-ways}
+use Rattle.mintc_liblex.proofs.SharedPassingLaws.{same-tokens, past-none, not-semicolon, both-ways}
 use Rattle.mintc_liblex.proofs.statements.value.Goals as goal
 
 pub returns-clause-passed : goal.returns-clause-passed

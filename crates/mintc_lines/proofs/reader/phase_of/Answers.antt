@@ -1,5 +1,5 @@
 use Rattle.std.proofs.Common.{[]}
-use Rattle.mintc_lines.proofs.ReadingLaws.{at_none}
+use Rattle.mintc_lines.proofs.SharedReadingLaws.{at_none}
 use Rattle.mintc_lines.proofs.reader.phase_of.Goals as goal
 
 pub returns-in_err-width : goal.returns-in_err-width

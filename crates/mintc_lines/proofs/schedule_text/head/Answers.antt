@@ -1,9 +1,9 @@
 use Rattle.std.proofs.Common.{codes, pos}
 use Rattle.mintc_lines.specs.Fields.{IsNumberLine, IsCountLine}
 use Rattle.mintc_lines.specs.Texts.{first, den, cycle, phases}
-use Rattle.mintc_timing.proofs.Fitting.{read_time, IsTime-IsDenominator, IsTime-IsNumerator}
-use Rattle.mintc_lines.proofs.ReadingLaws.{at_none}
-use Rattle.mintc_lines.proofs.ScheduleReading.{fault, first_read, den_read, cycle_read, phases_read}
+use Rattle.mintc_timing.proofs.SharedFitting.{read_time, IsTime-IsDenominator, IsTime-IsNumerator}
+use Rattle.mintc_lines.proofs.SharedReadingLaws.{at_none}
+use Rattle.mintc_lines.proofs.SharedScheduleReading.{fault, first_read, den_read, cycle_read, phases_read}
 use Rattle.mintc_lines.proofs.schedule_text.head.Goals as goal
 
 pub returns-in_err-count_line-clause-read : goal.returns-in_err-count_line-clause-read

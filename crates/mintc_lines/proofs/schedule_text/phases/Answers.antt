@@ -1,9 +1,9 @@
 use Rattle.std.proofs.Common.{◌≡◌, ◌-◌, ◌+◌, suc, arith, subst}
 use Rattle.mintc_timing.specs.declared.clocking.Schedule.{Schedule}
 use Rattle.mintc_lines.specs.Texts.{phase, schedule_of}
-use Rattle.mintc_timing.proofs.Fitting.{read_time, IsTime-IsNumerator}
-use Rattle.mintc_lines.proofs.ReadingLaws.{at_none}
-use Rattle.mintc_lines.proofs.ScheduleReading.{At, phase_more, phase_fault, pushed}
+use Rattle.mintc_timing.proofs.SharedFitting.{read_time, IsTime-IsNumerator}
+use Rattle.mintc_lines.proofs.SharedReadingLaws.{at_none}
+use Rattle.mintc_lines.proofs.SharedScheduleReading.{At, phase_more, phase_fault, pushed}
 use Rattle.mintc_lines.proofs.schedule_text.phases.Goals as goal
 
 pub returns-in_err-start : goal.returns-in_err-start

@@ -1,6 +1,6 @@
 use Rattle.std.proofs.Common.{◌≡◌, ◌-◌, ℕ, ℤ, List, length}
 use Rattle.mintc_lines.specs.Texts.{phase, no_phases, schedule_of}
-use Rattle.mintc_lines.proofs.ScheduleReading.{At}
+use Rattle.mintc_lines.proofs.SharedScheduleReading.{At}
 use Rattle.mintc_lines.proofs.schedule_text.phases.Given as goal
 
 -- the lines so far gave these starts and widths

@@ -1,6 +1,6 @@
 use Rattle.mintc_lines.specs.Texts.{NextOfSchedule, first}
-use Rattle.mintc_lines.proofs.ReadingLaws.{at_start}
-use Rattle.mintc_lines.proofs.ScheduleLaws.{IsInRange-from_text}
+use Rattle.mintc_lines.proofs.SharedReadingLaws.{at_start}
+use Rattle.mintc_lines.proofs.SharedScheduleLaws.{IsInRange-from_text}
 use Rattle.mintc_lines.proofs.schedule_text.read_schedule.Goals as goal
 
 pub returns-in-Some-clause-in_range : goal.returns-in-Some-clause-in_range

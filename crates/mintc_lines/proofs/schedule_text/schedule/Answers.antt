@@ -1,9 +1,9 @@
 use Rattle.std.proofs.Common.{codes}
 use Rattle.mintc_lines.specs.Fields.{IsWordLine}
 use Rattle.mintc_lines.specs.Texts.{phase, schedule_of}
-use Rattle.mintc_timing.proofs.Fitting.{read_time, IsTime-IsDenominator, IsTime-IsNumerator}
-use Rattle.mintc_lines.proofs.ReadingLaws.{at_none}
-use Rattle.mintc_lines.proofs.ScheduleReading.{fault, end_read, end_of_schedule, past_schedule}
+use Rattle.mintc_timing.proofs.SharedFitting.{read_time, IsTime-IsDenominator, IsTime-IsNumerator}
+use Rattle.mintc_lines.proofs.SharedReadingLaws.{at_none}
+use Rattle.mintc_lines.proofs.SharedScheduleReading.{fault, end_read, end_of_schedule, past_schedule}
 use Rattle.mintc_lines.proofs.schedule_text.schedule.Goals as goal
 
 pub returns-in_err-starts : goal.returns-in_err-starts

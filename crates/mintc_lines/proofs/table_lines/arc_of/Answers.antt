@@ -1,6 +1,6 @@
 use Rattle.std.proofs.Common.{◌≡◌, ℕ, List, subst}
 use Rattle.mintc_lines.specs.TableText.{IsFromWord, IsToWord}
-use Rattle.mintc_lines.proofs.ReadingLaws.{at_none}
+use Rattle.mintc_lines.proofs.SharedReadingLaws.{at_none}
 use Rattle.mintc_lines.proofs.table_lines.arc_of.Goals as goal
 
 pub returns-in_err-from : goal.returns-in_err-from

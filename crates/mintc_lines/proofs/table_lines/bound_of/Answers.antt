@@ -1,6 +1,6 @@
 use Rattle.std.proofs.Common.{◌∷◌, []}
 use Rattle.mintc_lines.specs.Fields.{number}
-use Rattle.mintc_lines.proofs.ReadingLaws.{at_none}
+use Rattle.mintc_lines.proofs.SharedReadingLaws.{at_none}
 use Rattle.mintc_lines.proofs.table_lines.bound_of.Goals as goal
 
 pub returns-in_err-gap : goal.returns-in_err-gap

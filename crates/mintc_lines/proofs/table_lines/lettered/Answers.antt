@@ -1,7 +1,7 @@
 use Rattle.std.proofs.Common.{pos, arith}
 use Rattle.std.proofs.lemmas.Int.{ints}
 use Rattle.mintc_lines.specs.Fields.{number}
-use Rattle.mintc_lines.proofs.ReadingLaws.{at_none}
+use Rattle.mintc_lines.proofs.SharedReadingLaws.{at_none}
 use Rattle.mintc_lines.proofs.TableLineLaws.{after_letter}
 use Rattle.mintc_lines.proofs.table_lines.lettered.Goals as goal
 

@@ -1,5 +1,5 @@
 use Rattle.mintc_lines.specs.TableText.{IsBoundLine}
-use Rattle.mintc_lines.proofs.ReadingLaws.{at_none, none_there, read_there}
+use Rattle.mintc_lines.proofs.SharedReadingLaws.{at_none, none_there, read_there}
 use Rattle.mintc_lines.proofs.TableReading.{plain-bound_line}
 use Rattle.mintc_lines.proofs.table_text.bound_line.Goals as goal
 

@@ -1,7 +1,7 @@
 use Rattle.std.proofs.Common.{arith}
 use Rattle.mintc_lines.specs.ElementWords.{named}
 use Rattle.mintc_lines.specs.TableText.{IsElementLine}
-use Rattle.mintc_lines.proofs.ReadingLaws.{at_none, none_there, read_there}
+use Rattle.mintc_lines.proofs.SharedReadingLaws.{at_none, none_there, read_there}
 use Rattle.mintc_lines.proofs.TableReading.{plain-element_line}
 use Rattle.mintc_lines.proofs.table_text.element_line.Goals as goal
 

@@ -4,7 +4,7 @@ use Rattle.mintc_timing.specs.Design.{Design}
 use Rattle.mintc_timing.specs.Limits.{limit_of}
 use Rattle.mintc_lines.specs.TableReading.{ArePartsOf, Halts}
 use Rattle.mintc_lines.specs.TableText.{NextOfTable, first, IsTableText, IsTableFault, IsTableRefusal}
-use Rattle.mintc_lines.proofs.ReadingLaws.{at_start}
+use Rattle.mintc_lines.proofs.SharedReadingLaws.{at_start}
 use Rattle.mintc_lines.proofs.TableLaws.{HasParts-from_text, stops_weaker}
 use Rattle.mintc_lines.proofs.table_text.read_table.Goals as goal
 

@@ -4,7 +4,7 @@ use Rattle.mintc_netlist.specs.declared.module.Item.{Item}
 use Rattle.mintc_netlist.specs.Again.{firsts_after}
 use Rattle.mintc_netlist.specs.Nets.{net_names, mentions}
 use Rattle.mintc_nets.specs.Named.{with_name}
-use Rattle.mintc_nets.proofs.NetLaws.{three_parts}
+use Rattle.mintc_nets.proofs.SharedNetLaws.{three_parts}
 use Rattle.mintc_nets.proofs.net_names.net_set.Goals as goal
 
 pub returns : goal.returns

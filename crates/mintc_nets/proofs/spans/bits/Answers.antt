@@ -1,7 +1,7 @@
 use Rattle.std.proofs.Common.{◌≡◌, ◌+◌, ℕ, sym, ◌∙◌, ap}
 use Rattle.mintc_netlist.specs.declared.expression.Span.{Span}
 use Rattle.mintc_nets.specs.Tables.{bit_count}
-use Rattle.mintc_nets.proofs.SpanLaws.{index_count}
+use Rattle.mintc_nets.proofs.SharedSpanLaws.{index_count}
 use Rattle.mintc_nets.proofs.spans.bits.Goals as goal
 
 pub returns-in-Some-clause-value : goal.returns-in-Some-clause-value

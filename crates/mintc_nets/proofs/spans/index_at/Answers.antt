@@ -1,7 +1,7 @@
 use Rattle.std.proofs.Common.{◌≡◌, ◌+◌, ◌<◌, ◌≤◌, ◌-◌, length, ℕ, arith, rules, sym, nat_le, true, false}
 use Rattle.std.proofs.lemmas.Bool.Decides.{nat_tests}
 use Rattle.mintc_netlist.specs.Nets.{indexes}
-use Rattle.mintc_nets.proofs.SpanLaws.{index_up, index_down, index_count}
+use Rattle.mintc_nets.proofs.SharedSpanLaws.{index_up, index_down, index_count}
 use Rattle.mintc_nets.proofs.spans.index_at.Goals as goal
 
 is_up : (a b : ℕ) → b ≤ a → nat_le b a ≡ true

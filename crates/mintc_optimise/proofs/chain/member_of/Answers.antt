@@ -1,7 +1,7 @@
 use Rattle.std.proofs.Common.{◌∙◌, w64}
 use Rattle.std.proofs.lemmas.Int.{to_z-of_z}
 use Rattle.mintc_timing.specs.declared.link.LinkKind.TheVariants as kind
-use Rattle.mintc_optimise.proofs.StandingLaws.{of_kind, reach_stands}
+use Rattle.mintc_optimise.proofs.SharedStandingLaws.{of_kind, reach_stands}
 use Rattle.mintc_optimise.proofs.chain.member_of.Goals as goal
 
 pub returns-in-Start : goal.returns-in-Start

@@ -3,7 +3,7 @@ use Rattle.std.specs.List.{Contains}
 use Rattle.std.proofs.lemmas.List.{get_or_default}
 use Rattle.mintc_timing.specs.declared.link.Link.{Link}
 use Rattle.mintc_timing.specs.Links.{links_of}
-use Rattle.mintc_optimise.proofs.StandingLaws.{stand_read}
+use Rattle.mintc_optimise.proofs.SharedStandingLaws.{stand_read}
 use Rattle.mintc_optimise.proofs.chain.members.Goals as goal
 
 -- a link that is read is listed

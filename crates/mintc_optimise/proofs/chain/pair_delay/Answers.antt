@@ -6,8 +6,8 @@ use Rattle.mintc_timing.specs.declared.parts.Element.{Element}
 use Rattle.mintc_timing.specs.Design.{Timing, element_at, no_element, no_pair, pair_at}
 use Rattle.mintc_timing.specs.Limits.{IsDelay, IsDesign}
 use Rattle.mintc_timing.specs.Order.{IsTiming}
-use Rattle.mintc_timing.proofs.Ranges.{pair-max_range}
-use Rattle.mintc_optimise.proofs.StandingLaws.{IsOfKind, of_kind, pair_of_reach, leaves}
+use Rattle.mintc_timing.proofs.SharedRanges.{pair-max_range}
+use Rattle.mintc_optimise.proofs.SharedStandingLaws.{IsOfKind, of_kind, pair_of_reach, leaves}
 use Rattle.mintc_optimise.proofs.chain.pair_delay.Goals as goal
 
 -- What the code takes away is what the link asks for less the element's delay, and it fits.

@@ -1,4 +1,4 @@
-use Rattle.mintc_optimise.proofs.CertificateLaws.{least_of, made_least, made_never, sayable}
+use Rattle.mintc_optimise.proofs.SharedCertificateLaws.{least_of, made_least, made_never, sayable}
 use Rattle.mintc_optimise.proofs.optimum.certificate.Goals as goal
 
 pub schedule-requires-clause-sayable : goal.schedule-requires-clause-sayable

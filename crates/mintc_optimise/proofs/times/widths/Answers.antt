@@ -3,7 +3,7 @@ use Rattle.std.proofs.lemmas.List.FromFn.{length-map-range_with_len}
 use Rattle.mintc_walks.specs.Walks.{value_at}
 use Rattle.mintc_timing.specs.Limits.{IsNumerator}
 use Rattle.mintc_timing.specs.Links.{end_node, start_node}
-use Rattle.mintc_timing.proofs.Fitting.{IsTime-IsNumerator}
+use Rattle.mintc_timing.proofs.SharedFitting.{IsTime-IsNumerator}
 use Rattle.mintc_optimise.proofs.TimesLaws.{said_all, said_more}
 use Rattle.mintc_optimise.proofs.times.widths.Goals as goal
 

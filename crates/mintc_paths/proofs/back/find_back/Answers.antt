@@ -9,8 +9,8 @@ use Rattle.mintc_timing.specs.Design.{Design}
 use Rattle.mintc_paths.specs.declared.found.Found.{Found}
 use Rattle.mintc_paths.specs.Sums.{AreRows}
 use Rattle.mintc_paths.specs.Turned.{pair_back, turned_design}
-use Rattle.mintc_paths.proofs.TurnedPairs.{IsFoundBefore-back, IsFoundBefore-many, in_reach}
-use Rattle.mintc_paths.proofs.Finding.{count_found}
+use Rattle.mintc_paths.proofs.SharedTurnedPairs.{IsFoundBefore-back, IsFoundBefore-many, in_reach}
+use Rattle.mintc_paths.proofs.SharedFinding.{count_found}
 use Rattle.mintc_paths.proofs.back.find_back.Goals as goal
 use Rattle.mintc_paths.proofs.back.find_back.Goals.{In-Ok}
 

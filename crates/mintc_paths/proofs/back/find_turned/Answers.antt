@@ -5,7 +5,7 @@ use Rattle.mintc_timing.specs.Order.{ArePathsShort}
 use Rattle.mintc_paths.specs.Sums.{IsCourse}
 use Rattle.mintc_paths.specs.Ordered.{Ordered, IsCourseOf}
 use Rattle.mintc_paths.specs.Turned.{turned_arcs}
-use Rattle.mintc_paths.proofs.TurnedPaths.{IsDesign-turned, IsOrder-turned, ArePathsShort-turned}
+use Rattle.mintc_paths.proofs.SharedTurnedPaths.{IsDesign-turned, IsOrder-turned, ArePathsShort-turned}
 use Rattle.mintc_paths.proofs.back.find_turned.Goals as goal
 
 pub find_along-requires : goal.find_along-requires

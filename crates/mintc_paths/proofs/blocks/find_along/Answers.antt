@@ -1,7 +1,7 @@
 use Rattle.std.proofs.Common.{◌≡◌, ◌∙◌, ℕ, false, length, replicate, arith, rules, subst, sym}
 use Rattle.mintc_paths.specs.Plans.{IsPlanOf}
 use Rattle.mintc_paths.proofs.Marking.{AreMarked-none}
-use Rattle.mintc_paths.proofs.Waking.{IsReady-fewer}
+use Rattle.mintc_paths.proofs.SharedWaking.{IsReady-fewer}
 use Rattle.mintc_paths.proofs.blocks.find_along.Goals as goal
 
 pub find_each-requires : goal.find_each-requires

@@ -6,8 +6,8 @@ use Rattle.mintc_rings.specs.Rings.{total}
 use Rattle.mintc_timing.specs.Design.{no_arc}
 use Rattle.mintc_timing.specs.Limits.{IsArc, IsDelay}
 use Rattle.mintc_timing.specs.Paths.{arc_at, output_of, Leads}
-use Rattle.mintc_timing.proofs.Ordered.{Leads-push}
-use Rattle.mintc_rings.proofs.RingLaws.{total-push}
+use Rattle.mintc_timing.proofs.SharedOrdered.{Leads-push}
+use Rattle.mintc_rings.proofs.SharedRingLaws.{total-push}
 use Rattle.mintc_paths.specs.declared.trace.Extreme.{Extreme}
 use Rattle.mintc_paths.specs.declared.trace.Extreme.TheVariants.{Greatest, Least}
 use Rattle.mintc_paths.specs.Trace.{weight_of, delay_of}

@@ -5,7 +5,7 @@ use Rattle.mintc_timing.specs.Design.{no_arc}
 use Rattle.mintc_timing.specs.Limits.{IsDelay}
 use Rattle.mintc_timing.specs.Paths.{arc_at}
 use Rattle.mintc_paths.specs.Longest.{bit_sum}
-use Rattle.mintc_paths.proofs.Passing.{row_in, row_to_in, max_in}
+use Rattle.mintc_paths.proofs.SharedPassing.{row_in, row_to_in, max_in}
 use Rattle.mintc_paths.proofs.Raising.{IsRaised, row_low, row_high, raised_along}
 use Rattle.mintc_paths.proofs.longest.raise_all.Goals as goal
 use Rattle.mintc_paths.proofs.longest.raise_all.Goals.{After-index}

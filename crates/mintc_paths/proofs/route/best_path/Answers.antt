@@ -10,7 +10,7 @@ use Rattle.mintc_paths.proofs.Filling.{IsBounded-weaker}
 use Rattle.mintc_paths.proofs.Marking.{AreMarked-none}
 use Rattle.mintc_paths.proofs.Pairing.{AreBestSums-from_sums, IsBestPath-from_trace, path_of_pair, IsOfPair-from_best}
 use Rattle.mintc_paths.proofs.Rowing.{AreSums-plain}
-use Rattle.mintc_paths.proofs.Waking.{IsReady-fewer}
+use Rattle.mintc_paths.proofs.SharedWaking.{IsReady-fewer}
 use Rattle.mintc_paths.proofs.route.best_path.Given.{Over}
 use Rattle.mintc_paths.proofs.route.best_path.Goals as goal
 use Rattle.mintc_paths.proofs.route.best_path.Goals.{In-Ok-fill}

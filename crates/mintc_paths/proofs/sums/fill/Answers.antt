@@ -7,13 +7,13 @@ use Rattle.mintc_timing.specs.Paths.{arc_at}
 use Rattle.mintc_paths.specs.Awake.{IsAwake}
 use Rattle.mintc_paths.specs.Sums.{IsAlike, IsBounded, AreSums, placed, sums_at}
 use Rattle.mintc_paths.proofs.Filling.{IsCarried}
-use Rattle.mintc_paths.proofs.Passing.{row_in, row_to_in, apart_rows, min_in, max_in, from_bounded, to_bounded, from_alike, carried_along, passed_next, at_place, at_end}
+use Rattle.mintc_paths.proofs.SharedPassing.{row_in, row_to_in, apart_rows, min_in, max_in, from_bounded, to_bounded, from_alike, carried_along, passed_next, at_place, at_end}
 use Rattle.mintc_paths.proofs.Reaching.{AreExtremes-from_sums}
 use Rattle.mintc_paths.proofs.Rowing.{length-placed}
 use Rattle.mintc_paths.proofs.sums.fill.Given.{Over}
 use Rattle.mintc_paths.proofs.sums.fill.Goals as goal
 use Rattle.mintc_paths.proofs.sums.fill.Goals.{After-index-arc}
-use Rattle.mintc_paths.proofs.Waking.{IsAwake-later, IsAwake-next}
+use Rattle.mintc_paths.proofs.SharedWaking.{IsAwake-later, IsAwake-next}
 
 pub loop-place-init : goal.loop-place-init
 loop-place-init g c =

@@ -9,7 +9,7 @@ use Rattle.mintc_paths.specs.declared.rows.Course.{Course}
 use Rattle.mintc_paths.specs.Leaving.{AreLeaving}
 use Rattle.mintc_paths.specs.Sums.{row_of, AreRows}
 use Rattle.mintc_paths.specs.Turned.{turned_bit, flipped}
-use Rattle.mintc_paths.proofs.Passing.{row_to_in}
+use Rattle.mintc_paths.proofs.SharedPassing.{row_to_in}
 use Rattle.mintc_paths.proofs.TurnedCourse.{IsCourse-turned}
 use Rattle.mintc_paths.proofs.turned.turned_course.Goals as goal
 

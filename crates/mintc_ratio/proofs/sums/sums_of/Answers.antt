@@ -4,7 +4,7 @@ use Rattle.mintc_constraints.specs.Ordinary.{IsOrdinaryLink}
 use Rattle.mintc_timing.specs.Links.{link_at}
 use Rattle.mintc_ratio.proofs.Weights.{fits_64}
 use Rattle.mintc_ratio.proofs.Weighing.{delay-within}
-use Rattle.mintc_ratio.proofs.SumsLaws.{ordinary-at, few_links, summed-more, sum-fits, small-summed}
+use Rattle.mintc_ratio.proofs.SharedSumsLaws.{ordinary-at, few_links, summed-more, sum-fits, small-summed}
 use Rattle.mintc_ratio.proofs.sums.sums_of.Goals as goal
 
 -- the link of a turn is ordinary, and there are few turns

@@ -3,7 +3,7 @@ use Rattle.std.proofs.lemmas.Int.{ints}
 use Rattle.mintc_ratio.specs.Chains.{links_at}
 use Rattle.mintc_ratio.specs.Climbing.{grid_of}
 use Rattle.mintc_ratio.proofs.GridLaws.{grid_point, top_small, grid_some}
-use Rattle.mintc_ratio.proofs.SumsLaws.{few_links}
+use Rattle.mintc_ratio.proofs.SharedSumsLaws.{few_links}
 use Rattle.mintc_ratio.proofs.TurnLaws.{forbids-takes}
 use Rattle.mintc_ratio.proofs.turns.halve.Goals as goal
 

@@ -5,7 +5,7 @@ use Rattle.mintc_timing.specs.declared.parts.Pair.{Pair}
 use Rattle.mintc_timing.specs.Design.{Timing, pair_at, no_pair}
 use Rattle.mintc_timing.specs.Limits.{IsDelay, IsDesign}
 use Rattle.mintc_timing.specs.Order.{IsTiming}
-use Rattle.mintc_departure.proofs.Sizes.{pair-min_range}
+use Rattle.mintc_departure.proofs.SharedSizes.{pair-min_range}
 use Rattle.mintc_paths.specs.declared.trace.Extreme.TheVariants.{Least}
 use Rattle.mintc_paths.specs.Finding.{IsDelayOf}
 use Rattle.mintc_safe.proofs.StandingLaws.{hold_stands}

@@ -1,4 +1,4 @@
-use Rattle.mintc_timing.proofs.LinkLaws.{ends_of}
+use Rattle.mintc_timing.proofs.SharedLinkLaws.{ends_of}
 use Rattle.mintc_slack.proofs.SearchLaws.{few_in_chain, hopeless_of, is_modest, least_of}
 use Rattle.mintc_slack.proofs.finding.slack.Goals as goal
 

@@ -4,7 +4,7 @@ use Rattle.std.proofs.lemmas.Result.{IfOk-weaker}
 use Rattle.mintc_hierarchy.specs.Shape.{IsInner}
 use Rattle.mintc_speaking.specs.Names.{front_of}
 use Rattle.mintc_speaking.specs.Pins.{inner_name, index_text, scope_path, leaf_at, no_leaf}
-use Rattle.mintc_speaking.proofs.NameLaws.{net_called, pin_called}
+use Rattle.mintc_speaking.proofs.SharedNameLaws.{net_called, pin_called}
 use Rattle.mintc_speaking.proofs.names.called.Goals as goal
 
 pub returns-in-Net : goal.returns-in-Net

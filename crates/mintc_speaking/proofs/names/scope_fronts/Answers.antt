@@ -2,7 +2,7 @@ use Rattle.std.proofs.Common.{◌≡◌, ◌∙◌, ◌+◌, ap, sym, subst, Lis
 use Rattle.std.proofs.lemmas.List.{get_or_default}
 use Rattle.mintc_speaking.specs.Names.{AreFronts, next_front}
 use Rattle.mintc_speaking.specs.Pins.{scope_at, no_scope}
-use Rattle.mintc_speaking.proofs.NameLaws.{fronts_push}
+use Rattle.mintc_speaking.proofs.SharedNameLaws.{fronts_push}
 use Rattle.mintc_speaking.proofs.names.scope_fronts.Goals as goal
 
 pub loop-number-preserved : goal.loop-number-preserved

@@ -1,5 +1,5 @@
 use Rattle.mintc_hierarchy.specs.Sources.{source_of}
-use Rattle.mintc_targets.proofs.OrderingLaws.{ordered, held}
+use Rattle.mintc_targets.proofs.SharedOrderingLaws.{ordered, held}
 use Rattle.mintc_targets.proofs.order.modules_in_order.Goals as goal
 
 pub returns-clause-order : goal.returns-clause-order

@@ -1,6 +1,6 @@
 use Rattle.std.proofs.Common.{arith}
 use Rattle.std.proofs.lemmas.Int.{ints}
-use Rattle.mintc_text.proofs.NumeralsLaws.{AreNarrow, one_from}
+use Rattle.mintc_text.proofs.SharedNumeralsLaws.{AreNarrow, one_from}
 use Rattle.mintc_text.proofs.numerals.from_zero.Goals as goal
 use Rattle.mintc_text.proofs.numerals.from_zero.Goals.{else-least-value-via-then-least-value+else-value-most, else-least-value-via-else-least-value}
 

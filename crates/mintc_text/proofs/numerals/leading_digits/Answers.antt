@@ -2,7 +2,7 @@ use Rattle.std.proofs.Common.{◌≡◌, ◌+◌, arith, get_or}
 use Rattle.std.proofs.lemmas.Int.Digits.{digits_more, digits_value_more}
 use Rattle.std.proofs.lemmas.Str.{digit_value_digit}
 use Rattle.std.specs.Char.{digit_value}
-use Rattle.mintc_text.proofs.NumeralsLaws.{small_front}
+use Rattle.mintc_text.proofs.SharedNumeralsLaws.{small_front}
 use Rattle.mintc_text.proofs.numerals.leading_digits.Goals as goal
 
 pub overflow_mul-value : goal.overflow_mul-value

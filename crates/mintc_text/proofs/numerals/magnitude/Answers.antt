@@ -6,7 +6,7 @@ use Rattle.std.proofs.lemmas.Bool.Decides.{nat_tests}
 use Rattle.std.proofs.lemmas.Str.{digit_value_digit}
 use Rattle.std.specs.Char.{digit_value}
 use Rattle.std.specs.Str.Parse.{AllDigits, digits_value}
-use Rattle.mintc_text.proofs.NumeralsLaws.{plain_from_decimal, small_front, small_from_plain, decimal_from_plain, digit_here}
+use Rattle.mintc_text.proofs.SharedNumeralsLaws.{plain_from_decimal, small_front, small_from_plain, decimal_from_plain, digit_here}
 use Rattle.mintc_text.proofs.numerals.magnitude.Goals as goal
 use Rattle.mintc_text.proofs.numerals.magnitude.Goals.{then-is_empty-via-then-is_empty, then-is_empty-via-else-is_empty+then-digits-gt19, then-is_empty-via-else-is_empty+else-digits-gt19+then-has_leading_zero}
 

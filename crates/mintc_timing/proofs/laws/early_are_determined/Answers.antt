@@ -1,4 +1,4 @@
-use Rattle.mintc_timing.proofs.DeterminedLaws.{early_are_determined_lem}
+use Rattle.mintc_timing.proofs.SharedDeterminedLaws.{early_are_determined_lem}
 use Rattle.mintc_timing.proofs.laws.early_are_determined.Goals as goal
 
 pub returns : goal.returns

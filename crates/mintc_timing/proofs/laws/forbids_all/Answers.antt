@@ -1,4 +1,4 @@
-use Rattle.mintc_timing.proofs.DeterminedLaws.{forbids_all_lem}
+use Rattle.mintc_timing.proofs.SharedDeterminedLaws.{forbids_all_lem}
 use Rattle.mintc_timing.proofs.laws.forbids_all.Goals as goal
 
 pub returns : goal.returns

@@ -1,4 +1,4 @@
-use Rattle.mintc_timing.proofs.AmountLaws.{holds_have_amounts_lem}
+use Rattle.mintc_timing.proofs.SharedAmountLaws.{holds_have_amounts_lem}
 use Rattle.mintc_timing.proofs.laws.holds_have_amounts.Goals as goal
 
 pub returns : goal.returns

@@ -1,7 +1,7 @@
 use Rattle.std.proofs.Common.{ap, subst, length, ◌≤◌, arith}
 use Rattle.mintc_cells.specs.Rules.{pins}
 use Rattle.mintc_cells.specs.Entries.{AreKept, cell_at}
-use Rattle.mintc_cells.proofs.PinsLaws.{few_pins, kept_at}
+use Rattle.mintc_cells.proofs.SharedPinsLaws.{few_pins, kept_at}
 use Rattle.mintc_cells.proofs.cells.Cells.pin_count.Goals as goal
 
 pub overflow_cast-result : goal.overflow_cast-result

@@ -2,7 +2,7 @@ use Rattle.std.proofs.Common.{◌≡◌, pos, ◌≤ℤ◌, ◌*ℤ◌, ◌+ℤ�
 use Rattle.std.proofs.lemmas.Int.{to_z-of_z, ints}
 use Rattle.mintc_fraction.specs.Ratio.{Ratio, IsFraction, sum_of}
 use Rattle.mintc_fraction.proofs.Reading.{read_product}
-use Rattle.mintc_fraction.proofs.Products.{times-positive}
+use Rattle.mintc_fraction.proofs.SharedProducts.{times-positive}
 use Rattle.mintc_fraction.proofs.Summing.{sum-within}
 use mir.Syntax.{w128}
 use mir.Val.{SFits, to_z, of_z}

@@ -2,7 +2,7 @@ use Rattle.std.proofs.Common.{sym, ap, ◌∙◌}
 use Rattle.mintc_liblex.specs.Scans.{Scan}
 use Rattle.mintc_liblex.specs.Reading.{kind_of, name_at}
 use Rattle.mintc_liblex.proofs.FirstLaws.{word-front, string-front, no-string}
-use Rattle.mintc_liblex.proofs.NestLaws.{word-name, string-name, no-name}
+use Rattle.mintc_liblex.proofs.SharedNestLaws.{word-name, string-name, no-name}
 use Rattle.mintc_liblex.proofs.scanner.Scanner.name.Goals as goal
 
 pub returns-in-Word-clause-some : goal.returns-in-Word-clause-some

@@ -1,8 +1,8 @@
 use Rattle.std.proofs.Common.{◌≡◌, arith}
 use Rattle.std.proofs.lemmas.Int.{ints}
-use Rattle.mintc_text.proofs.NumeralsLaws.{same_numeral}
-use Rattle.mintc_lines.proofs.FieldsLaws.{short_delay}
-use Rattle.mintc_lines.proofs.ReadingLaws.{at_none}
+use Rattle.mintc_text.proofs.SharedNumeralsLaws.{same_numeral}
+use Rattle.mintc_lines.proofs.SharedFieldsLaws.{short_delay}
+use Rattle.mintc_lines.proofs.SharedReadingLaws.{at_none}
 use Rattle.mintc_lines.proofs.fields.Fields.delays.Goals as goal
 
 pub returns-in_err-high : goal.returns-in_err-high

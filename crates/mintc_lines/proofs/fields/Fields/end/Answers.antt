@@ -1,6 +1,6 @@
 use Rattle.std.proofs.Common.{◌≡◌, Bool, ap, ◌∙◌, sym}
 use Rattle.mintc_lines.specs.Fields.{fields_left}
-use Rattle.mintc_lines.proofs.FieldsLaws.{fields_some}
+use Rattle.mintc_lines.proofs.SharedFieldsLaws.{fields_some}
 use Rattle.mintc_lines.proofs.fields.Fields.end.Goals as goal
 
 pub returns-else-self : goal.returns-else-self

@@ -1,7 +1,7 @@
 use Rattle.std.proofs.Common.{◌≡◌, pos, arith}
 use Rattle.std.proofs.lemmas.Int.{ints}
 use Rattle.mintc_text.specs.Words.{IsShort}
-use Rattle.mintc_text.proofs.NumeralsLaws.{same_numeral}
+use Rattle.mintc_text.proofs.SharedNumeralsLaws.{same_numeral}
 use Rattle.mintc_lines.proofs.fields.Fields.number.Goals as goal
 use Rattle.mintc_lines.proofs.fields.Fields.number.Goals.{else-least-value-via-then-least-value+else-value-most, else-least-value-via-else-least-value}
 

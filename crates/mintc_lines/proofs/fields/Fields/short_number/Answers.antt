@@ -1,7 +1,7 @@
 use Rattle.std.proofs.Common.{◌≡◌, [], ◌∷◌, ◌<◌, length, refl, ap, ◌∙◌, arith, sym, Bool, add-one, suc, drop, take, ◌+◌, ◌-◌, ℕ, List}
 use Rattle.std.proofs.lemmas.List.{take_all, take_rest}
 use Rattle.mintc_lines.specs.Fields.{fields_of, fields_left}
-use Rattle.mintc_lines.proofs.FieldsLaws.{IsFront, front_number, fields_last, fields_first}
+use Rattle.mintc_lines.proofs.SharedFieldsLaws.{IsFront, front_number, fields_last, fields_first}
 use Rattle.mintc_lines.proofs.fields.Fields.short_number.Goals as goal
 
 pub returns-then-end-rest-clause-some : goal.returns-then-end-rest-clause-some

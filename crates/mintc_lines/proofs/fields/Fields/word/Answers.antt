@@ -1,7 +1,7 @@
 use Rattle.std.proofs.Common.{◌≡◌, ◌∷◌, ◌<◌, length, ap, ◌∙◌, arith, sym, Bool, add-one, suc, drop, take, ◌+◌, ◌-◌, ℕ, List}
 use Rattle.std.proofs.lemmas.List.{take_rest}
 use Rattle.mintc_lines.specs.Fields.{fields_of, fields_left}
-use Rattle.mintc_lines.proofs.FieldsLaws.{fields_last, fields_first}
+use Rattle.mintc_lines.proofs.SharedFieldsLaws.{fields_last, fields_first}
 use Rattle.mintc_lines.proofs.fields.Fields.word.Goals as goal
 
 pub returns-then-end-rest : goal.returns-then-end-rest

@@ -1,6 +1,6 @@
 use Rattle.std.proofs.Common.{arith}
 use Rattle.mintc_lines.specs.Fields.{IsCountLine}
-use Rattle.mintc_lines.proofs.ReadingLaws.{at_none, none_there, read_there, plain-count_line}
+use Rattle.mintc_lines.proofs.SharedReadingLaws.{at_none, none_there, read_there, plain-count_line}
 use Rattle.mintc_lines.proofs.reader.Reader.count_line.Goals as goal
 
 pub returns-in_err-fields-clause-read : goal.returns-in_err-fields-clause-read

@@ -2,8 +2,8 @@ use Rattle.std.proofs.Common.{◌≡◌, ◌++◌, ℕ, List, ap, ◌∙◌, sym
 use Rattle.mintc_text.specs.Lines.{ended, words}
 use Rattle.mintc_lines.specs.Fields.{fields_of}
 use Rattle.mintc_lines.specs.Reading.{Reading}
-use Rattle.mintc_lines.proofs.FieldsLaws.{words-fields, fields-words}
-use Rattle.mintc_lines.proofs.ReadingLaws.{one_line, line_free, words_free}
+use Rattle.mintc_lines.proofs.SharedFieldsLaws.{words-fields, fields-words}
+use Rattle.mintc_lines.proofs.SharedReadingLaws.{one_line, line_free, words_free}
 use Rattle.mintc_lines.proofs.reader.Reader.fields.Goals as goal
 
 pub returns-clause-whole : goal.returns-clause-whole

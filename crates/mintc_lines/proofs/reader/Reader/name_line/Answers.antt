@@ -1,5 +1,5 @@
 use Rattle.mintc_lines.specs.Fields.{IsNameLine}
-use Rattle.mintc_lines.proofs.ReadingLaws.{at_none, none_there, read_there, plain-name_line}
+use Rattle.mintc_lines.proofs.SharedReadingLaws.{at_none, none_there, read_there, plain-name_line}
 use Rattle.mintc_lines.proofs.reader.Reader.name_line.Goals as goal
 
 pub returns-in_err-fields-clause-read : goal.returns-in_err-fields-clause-read

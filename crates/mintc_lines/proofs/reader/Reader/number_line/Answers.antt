@@ -1,7 +1,7 @@
 use Rattle.std.proofs.Common.{w64}
 use Rattle.std.proofs.lemmas.Int.{to_z-of_z}
 use Rattle.mintc_lines.specs.Fields.{IsNumberLine}
-use Rattle.mintc_lines.proofs.ReadingLaws.{at_none, none_there, read_there, plain-number_line}
+use Rattle.mintc_lines.proofs.SharedReadingLaws.{at_none, none_there, read_there, plain-number_line}
 use Rattle.mintc_lines.proofs.reader.Reader.number_line.Goals as goal
 
 pub returns-in_err-fields-clause-read : goal.returns-in_err-fields-clause-read

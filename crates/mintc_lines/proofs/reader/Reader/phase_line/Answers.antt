@@ -1,6 +1,6 @@
 use Rattle.mintc_lines.specs.Texts.{IsPhaseLine}
-use Rattle.mintc_lines.proofs.ReadingLaws.{at_none, none_there, read_there}
-use Rattle.mintc_lines.proofs.ScheduleReading.{plain-phase_line}
+use Rattle.mintc_lines.proofs.SharedReadingLaws.{at_none, none_there, read_there}
+use Rattle.mintc_lines.proofs.SharedScheduleReading.{plain-phase_line}
 use Rattle.mintc_lines.proofs.reader.Reader.phase_line.Goals as goal
 
 pub returns-in_err-fields-clause-read : goal.returns-in_err-fields-clause-read

@@ -1,5 +1,5 @@
 use Rattle.mintc_lines.specs.Fields.{IsWordLine}
-use Rattle.mintc_lines.proofs.ReadingLaws.{at_none, none_there, read_there, plain-word_line}
+use Rattle.mintc_lines.proofs.SharedReadingLaws.{at_none, none_there, read_there, plain-word_line}
 use Rattle.mintc_lines.proofs.reader.Reader.word_line.Goals as goal
 
 pub returns-in_err-fields-clause-read : goal.returns-in_err-fields-clause-read

@@ -1,6 +1,6 @@
 use Rattle.std.proofs.Common.{ap, sym, ◌∙◌}
 use Rattle.mintc_nets.specs.Declaring.{look}
-use Rattle.mintc_nets.proofs.LookLaws.{look-seen}
+use Rattle.mintc_nets.proofs.SharedLookLaws.{look-seen}
 use Rattle.mintc_nets.proofs.declared.Declarations.find.Goals as goal
 
 pub returns : goal.returns

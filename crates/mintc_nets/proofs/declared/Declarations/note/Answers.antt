@@ -1,7 +1,7 @@
 use Rattle.std.proofs.Common.{◌≡◌, ap, sym, ◌∙◌, true, is_some, cond, ◌++◌, ◌∷◌, [], Bool, List, ℕ}
 use Rattle.mintc_nets.specs.declared.declared.Declaration.{Declaration}
 use Rattle.mintc_nets.specs.Declaring.{look}
-use Rattle.mintc_nets.proofs.LookLaws.{look-seen, taken_in}
+use Rattle.mintc_nets.proofs.SharedLookLaws.{look-seen, taken_in}
 use Rattle.mintc_nets.proofs.declared.Declarations.note.Goals as goal
 
 pub returns-then-contains_key : goal.returns-then-contains_key

@@ -1,7 +1,7 @@
 use Rattle.std.proofs.Common.{◌≡◌, sym, ◌∙◌, ap, Some, None}
 use Rattle.mintc_nets.specs.Declaring.{look}
 use Rattle.mintc_nets.specs.Tables.{NetTable}
-use Rattle.mintc_nets.proofs.LookLaws.{output-port}
+use Rattle.mintc_nets.proofs.SharedLookLaws.{output-port}
 use Rattle.mintc_nets.proofs.nets.Nets.is_output.Goals as goal
 
 pub returns-in-Some : goal.returns-in-Some

@@ -1,7 +1,7 @@
 use Rattle.std.proofs.Common.{◌≡◌, ◌+◌, ◌++◌, ◌∷◌, [], ◌<◌, ℕ, List, sym, ◌∙◌, ap, subst, rules, length, get_or, drop, arith}
 use Rattle.mintc_netlist.specs.Nets.{names_of, range_of}
 use Rattle.mintc_nets.specs.Tables.{bit_count, firsts_from}
-use Rattle.mintc_nets.proofs.TableLaws.{count_step, firsts_step}
+use Rattle.mintc_nets.proofs.SharedTableLaws.{count_step, firsts_step}
 use Rattle.mintc_nets.proofs.nets.Nets.new.Goals as goal
 
 pub loop-place-preserved : goal.loop-place-preserved

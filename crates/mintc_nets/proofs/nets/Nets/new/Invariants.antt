@@ -1,7 +1,7 @@
 use Rattle.std.proofs.Common.{◌≡◌, ◌++◌, take, drop}
 use Rattle.mintc_netlist.specs.Nets.{names_of}
 use Rattle.mintc_nets.specs.Tables.{firsts_from}
-use Rattle.mintc_nets.proofs.TableLaws.{bits_before}
+use Rattle.mintc_nets.proofs.SharedTableLaws.{bits_before}
 use Rattle.mintc_nets.proofs.nets.Nets.new.Given as goal
 
 -- the first bits of the nets so far are known, and how many bits these have

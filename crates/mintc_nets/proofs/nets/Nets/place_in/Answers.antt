@@ -1,7 +1,7 @@
 use Rattle.std.proofs.Common.{◌≡◌, ◌+◌, ◌<◌, ℕ, List, sym, ◌∙◌, ap, subst, arith, rules, position, bytes_eq, Some, None, length, get_or}
 use Rattle.mintc_netlist.specs.Nets.{names_of, nets_of, range_of}
 use Rattle.mintc_nets.specs.Tables.{NetTable, firsts_from, offset_of}
-use Rattle.mintc_nets.proofs.TableLaws.{firsts_count, found_place, place-bit, place-no_bit, place-no_net, place-within}
+use Rattle.mintc_nets.proofs.SharedTableLaws.{firsts_count, found_place, place-bit, place-no_bit, place-no_net, place-within}
 use Rattle.mintc_nets.proofs.nets.Nets.place_in.Goals as goal
 
 pub index-requires : goal.index-requires

@@ -1,7 +1,7 @@
 use Rattle.std.proofs.Common.{◌∙◌, sym, w64, to_z, of_z}
 use Rattle.std.proofs.lemmas.Int.{to_z-of_z}
 use Rattle.mintc_lanes.specs.Lanes.{lane_at}
-use Rattle.mintc_paths.proofs.Finding.{IsAdded-none, IsAdded-some}
+use Rattle.mintc_paths.proofs.SharedFinding.{IsAdded-none, IsAdded-some}
 use Rattle.mintc_paths.proofs.found.Found.add_at.Goals as goal
 
 pub returns-in_default-clause-found : goal.returns-in_default-clause-found

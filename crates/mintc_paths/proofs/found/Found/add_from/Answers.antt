@@ -5,7 +5,7 @@ use Rattle.mintc_paths.specs.declared.sums.Sums.{Sums}
 use Rattle.mintc_paths.specs.Reached.{IsPaired}
 use Rattle.mintc_paths.specs.Found.{IsFoundBefore, end_at}
 use Rattle.mintc_paths.specs.Sums.{sums_at, row_of}
-use Rattle.mintc_paths.proofs.Finding.{paired_at, IsFoundToEnd, IsFoundToEnd-at, IsFoundToEnd-more, IsFoundToEnd-next}
+use Rattle.mintc_paths.proofs.SharedFinding.{paired_at, IsFoundToEnd, IsFoundToEnd-at, IsFoundToEnd-more, IsFoundToEnd-next}
 use Rattle.mintc_paths.proofs.found.Found.add_from.Goals as goal
 
 pub loop-number-preserved : goal.loop-number-preserved

@@ -1,5 +1,5 @@
 use Rattle.std.proofs.Common.{◌≡◌}
-use Rattle.mintc_paths.proofs.Finding.{IsFoundToEnd}
+use Rattle.mintc_paths.proofs.SharedFinding.{IsFoundToEnd}
 use Rattle.mintc_paths.proofs.found.Found.add_from.Given as goal
 
 -- the pairs before this end

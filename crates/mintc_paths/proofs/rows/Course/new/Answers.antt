@@ -3,10 +3,10 @@ use Rattle.std.proofs.lemmas.List.{get_or_default, get_or_append_left, get_or_pu
 use Rattle.mintc_timing.specs.declared.parts.TimingArc.{TimingArc}
 use Rattle.mintc_timing.specs.Design.{no_arc}
 use Rattle.mintc_timing.specs.Paths.{arc_at}
-use Rattle.mintc_timing.proofs.Ordered.{inside}
+use Rattle.mintc_timing.proofs.SharedOrdered.{inside}
 use Rattle.mintc_paths.specs.Sums.{AreAlong, row_of, moved}
 use Rattle.mintc_paths.proofs.Filling.{arc_inside}
-use Rattle.mintc_paths.proofs.Finding.{low_or_at}
+use Rattle.mintc_paths.proofs.SharedFinding.{low_or_at}
 use Rattle.mintc_paths.proofs.rows.Course.new.Goals as goal
 
 pub bounds-arcs-number : goal.bounds-arcs-number

@@ -1,5 +1,5 @@
 use Rattle.std.proofs.Common.{◌≡◌, ◌<◌, ℕ, List, length, subst, ◌∙◌}
-use Rattle.mintc_timing.proofs.Ordered.{inside}
+use Rattle.mintc_timing.proofs.SharedOrdered.{inside}
 use Rattle.mintc_paths.proofs.rows.Rows.along.Goals as goal
 
 pub bounds-arcs-number : goal.bounds-arcs-number

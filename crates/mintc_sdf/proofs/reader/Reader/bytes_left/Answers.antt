@@ -1,5 +1,5 @@
 use Rattle.std.proofs.Common.{arith, ap, length, length-drop, drop}
-use Rattle.mintc_scan.proofs.TokenLaws.{few}
+use Rattle.mintc_scan.proofs.SharedTokenLaws.{few}
 use Rattle.mintc_sdf.specs.Tokens.{piece_of}
 use Rattle.mintc_sdf.proofs.reader.Reader.bytes_left.Goals as goal
 

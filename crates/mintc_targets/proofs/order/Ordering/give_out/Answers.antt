@@ -2,7 +2,7 @@ use Rattle.std.proofs.Common.{◌≡◌, ◌+◌, ℕ, List, set, length, sym, s
 use Rattle.std.proofs.lemmas.List.{length_push}
 use Rattle.mintc_hierarchy.specs.Sources.{source_of}
 use Rattle.mintc_targets.specs.Ordering.{IsOrdering}
-use Rattle.mintc_targets.proofs.OrderingLaws.{given_out}
+use Rattle.mintc_targets.proofs.SharedOrderingLaws.{given_out}
 use Rattle.mintc_targets.proofs.order.Ordering.give_out.Goals as goal
 
 pub returns : goal.returns

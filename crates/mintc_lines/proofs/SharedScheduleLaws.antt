@@ -1,0 +1,149 @@
+-- What is read as a schedule is in range, and its lines are plain.
+use Rattle.std.proofs.Common.{◌≡◌, ℕ, zero, suc, ℤ, pos, ◌<◌, ◌^◌, ◌≤◌, ◌+◌, true, false, List, [], ◌∷◌, length, length-append, All, refl, ap, ◌∙◌, sym, subst, arith, codes, eqb}
+use Rattle.std.proofs.lemmas.Int.{ints}
+use Rattle.std.proofs.lemmas.List.Elements.{All-push, All-nil}
+use Rattle.mintc_text.specs.Lines.{numeral_of}
+use Rattle.mintc_text.specs.Words.{IsShort}
+use Rattle.mintc_text.proofs.SharedNumeralsLaws.{same_numeral}
+use Rattle.mintc_timing.specs.declared.clocking.Schedule.{Schedule}
+use Rattle.mintc_lines.specs.Fields.{plain, plain_line, IsWordLine, IsNumberLine, IsCountLine}
+use Rattle.mintc_timing.specs.Limits.{IsNumerator, IsDenominator, IsInRange}
+use Rattle.mintc_lines.specs.TextLaws.{HaveOneSchedule, HaveNoScheduleFault, HaveOneScheduleFault}
+use Rattle.mintc_lines.specs.Texts.{NextOfSchedule, IsWholeSchedule, IsPhaseLine, IsScheduleText, ScheduleLines, first, den, cycle, phases, phase, whole, no_phases, with_phase}
+use Rattle.mintc_lines.proofs.SharedFieldsLaws.{short}
+use Rattle.mintc_lines.proofs.SharedLineLaws.{count_one, number_one}
+use Rattle.mintc_lines.proofs.SharedReadingLaws.{plain-count_line, plain-number_line, plain-word_line}
+use Rattle.mintc_lines.proofs.SharedScheduleReading.{plain-phase_line}
+use Rattle.mintc_lines.proofs.SharedTextLaws.{along, IsPlainFormat, text_one_end, text_no_fault, text_one_fault, spelled_one, spelled_free}
+
+-- what is kept of a schedule while its lines come
+pub record IsSoFar (left : ℕ) (s : Schedule) : Type 0 where
+  pub den : IsDenominator s.den
+  pub cycle : IsNumerator s.cycle
+  pub starts : All IsNumerator s.starts
+  pub widths : All IsNumerator s.widths
+  pub alike : length s.widths ≡ length s.starts
+  pub some : 1 ≤ length s.starts + left
+  pub few : length s.starts + left ≤ 8
+
+-- the lines before those of the phases begin it, the line of a phase keeps it, and the last of them ends it
+pub phases_begun : (d t : ℤ) (left : ℕ) → IsDenominator d → IsNumerator t → 1 ≤ left → left ≤ 8 → IsSoFar left (no_phases d t)
+phases_begun d t left den_in cycle_in some few = record {
+  den = den_in;
+  cycle = cycle_in;
+  starts = All-nil IsNumerator;
+  widths = All-nil IsNumerator;
+  alike = refl;
+  some = omega arith;
+  few = omega arith;
+}
+
+pub phase_kept : (left : ℕ) (s : Schedule) (p : ℤ × ℤ) (ws : List (List ℕ)) → IsSoFar (suc left) s → IsPhaseLine p ws → IsSoFar left (with_phase s p)
+phase_kept left s p ws k h = record {
+  den = k.den;
+  cycle = k.cycle;
+  starts = All-push IsNumerator s.starts p.0 k.starts h.0;
+  widths = All-push IsNumerator s.widths p.1 k.widths h.1;
+  alike = omega (arith, k.alike, length-append s.starts (p.0 ∷ []), length-append s.widths (p.1 ∷ []));
+  some = omega (arith, length-append s.starts (p.0 ∷ []));
+  few = omega (arith, k.few, length-append s.starts (p.0 ∷ []));
+}
+
+pub phases_ended : (s : Schedule) → IsSoFar 0 s → IsInRange s
+phases_ended s k = record {
+  den = k.den;
+  cycle = k.cycle;
+  starts = k.starts;
+  widths = k.widths;
+  phases = (omega (arith, k.some), omega (arith, k.few));
+  alike = k.alike;
+}
+
+abbrev Keeps : ScheduleLines → Type 0
+Keeps first = Unit {0}
+Keeps den = Unit {0}
+Keeps (cycle d) = IsDenominator d
+Keeps (phases d t) = IsDenominator d × IsNumerator t
+Keeps (phase left s) = IsSoFar left s
+Keeps (whole s) = IsInRange s
+
+keeps_next : (a : ScheduleLines) (line : List ℕ) (b : ScheduleLines) → NextOfSchedule a line b → Keeps a → Keeps b
+keeps_next first line b h k = subst Keeps (sym h.2) tt
+keeps_next den line b h k = subst Keeps (sym h.2) h.1.1.0
+keeps_next (cycle d) line b h k = subst Keeps (sym h.2) (k, h.1.1.0)
+keeps_next (phases d t) line b h k = subst Keeps (sym h.2) (phases_begun d t h.0 k.0 k.1 h.1.1.0 h.1.1.1)
+keeps_next (phase (suc left) s) line b h k = subst Keeps (sym h.2) (phase_kept left s h.0 h.1.0 k h.1.1)
+keeps_next (phase zero s) line b h k = subst Keeps (sym h.2) (phases_ended s k)
+keeps_next (whole s) line b h k = absurd h
+
+-- what a schedule's text says is in range
+pub IsInRange-from_text : (text : List ℕ) (s : Schedule) → IsScheduleText text s → IsInRange s
+IsInRange-from_text text s h = along NextOfSchedule Keeps keeps_next first h.lines (whole s) h.follows tt
+
+-- ---- each line has one value, and no line feed
+
+numerator_short : (z : ℤ) → IsNumerator z → IsShort z
+numerator_short z h = short (pos 0) (pos 100000000000000) z (omega (arith, ints)) (omega (arith, ints)) h
+
+pub phase_one : (p q : ℤ × ℤ) (ws : List (List ℕ)) → IsPhaseLine p ws → IsPhaseLine q ws → p ≡ q
+phase_one p q ws h g =
+    let a = h.2 in let b = g.2 in
+    let starts : numeral_of p.0 ≡ numeral_of q.0 = cc in
+    let widths : numeral_of p.1 ≡ numeral_of q.1 = cc in
+    let start : p.0 ≡ q.0 = same_numeral p.0 q.0 (numerator_short p.0 h.0) (numerator_short q.0 g.0) starts in
+    let width : p.1 ≡ q.1 = same_numeral p.1 q.1 (numerator_short p.1 h.1) (numerator_short q.1 g.1) widths in
+    ap (λ (x : ℤ). (x, p.1)) start ∙ ap (λ (x : ℤ). (q.0, x)) width
+
+plain-count : (word : List ℕ) (least most : ℕ) → plain word ≡ true → most < 2 ^ 32 → (n : ℕ) (ws : List (List ℕ)) → IsCountLine word least most n ws → plain_line ws ≡ true
+plain-count = plain-count_line
+
+pub plain-den : (z : ℤ) (ws : List (List ℕ)) → IsNumberLine (codes "den") (pos 1) (pos 100000) z ws → plain_line ws ≡ true
+plain-den = plain-number_line (codes "den") (pos 1) (pos 100000) refl (omega (arith, ints)) (omega (arith, ints))
+
+pub plain-cycle : (z : ℤ) (ws : List (List ℕ)) → IsNumberLine (codes "cycle") (pos 0) (pos 100000000000000) z ws → plain_line ws ≡ true
+plain-cycle = plain-number_line (codes "cycle") (pos 0) (pos 100000000000000) refl (omega (arith, ints)) (omega (arith, ints))
+
+abbrev Any : ScheduleLines → Type 0
+Any a = Unit {0}
+
+schedule_one : (a b c : ScheduleLines) (line : List ℕ) → Any a → NextOfSchedule a line b → NextOfSchedule a line c → b ≡ c
+schedule_one first b c line p h g = h.2 ∙ sym g.2
+schedule_one den b c line p h g =
+    let same = spelled_one (IsNumberLine (codes "den") (pos 1) (pos 100000)) plain-den (number_one (codes "den") (pos 1) (pos 100000) (omega (arith, ints)) (omega (arith, ints))) h.0 g.0 line h.1 g.1 in
+    h.2 ∙ ap cycle same ∙ sym g.2
+schedule_one (cycle d) b c line p h g =
+    let same = spelled_one (IsNumberLine (codes "cycle") (pos 0) (pos 100000000000000)) plain-cycle (number_one (codes "cycle") (pos 0) (pos 100000000000000) (omega (arith, ints)) (omega (arith, ints))) h.0 g.0 line h.1 g.1 in
+    h.2 ∙ ap (phases d) same ∙ sym g.2
+schedule_one (phases d t) b c line p h g =
+    let same = spelled_one (IsCountLine (codes "phases") 1 8) (plain-count (codes "phases") 1 8 refl (omega arith)) (count_one (codes "phases") 1 8 (omega arith)) h.0 g.0 line h.1 g.1 in
+    h.2 ∙ ap (λ (k : ℕ). phase k (no_phases d t)) same ∙ sym g.2
+schedule_one (phase (suc left) s) b c line p h g =
+    let same = spelled_one IsPhaseLine plain-phase_line phase_one h.0 g.0 line h.1 g.1 in
+    h.2 ∙ ap (λ (p : ℤ × ℤ). phase left (with_phase s p)) same ∙ sym g.2
+schedule_one (phase zero s) b c line p h g = h.2 ∙ sym g.2
+schedule_one (whole s) b c line p h g = absurd h
+
+schedule_free : (a b : ScheduleLines) (line : List ℕ) → Any a → NextOfSchedule a line b → All (λ x. eqb x 10 ≡ false) line
+schedule_free first b line p h = spelled_free (IsCountLine (codes "schedule") 1 1) (plain-count (codes "schedule") 1 1 refl (omega arith)) h.0 line h.1
+schedule_free den b line p h = spelled_free (IsNumberLine (codes "den") (pos 1) (pos 100000)) plain-den h.0 line h.1
+schedule_free (cycle d) b line p h = spelled_free (IsNumberLine (codes "cycle") (pos 0) (pos 100000000000000)) plain-cycle h.0 line h.1
+schedule_free (phases d t) b line p h = spelled_free (IsCountLine (codes "phases") 1 8) (plain-count (codes "phases") 1 8 refl (omega arith)) h.0 line h.1
+schedule_free (phase (suc left) s) b line p h = spelled_free IsPhaseLine plain-phase_line h.0 line h.1
+schedule_free (phase zero s) b line p h = spelled_free (IsWordLine (codes "end")) (plain-word_line (codes "end") refl) h.0 line h.1
+schedule_free (whole s) b line p h = absurd h
+
+pub schedule_plain : IsPlainFormat NextOfSchedule Any
+schedule_plain = record { keeps = λ a b line p h. tt; one = schedule_one; free = schedule_free }
+
+whole_same : (s t : Schedule) → whole s ≡ whole t → s ≡ t
+whole_same s t e = cc
+
+pub schedules_have_one_value : HaveOneSchedule
+schedules_have_one_value text s t h g =
+    whole_same s t (text_one_end NextOfSchedule Any schedule_plain first (whole s) (whole t) text tt h g (λ line after step. step) (λ line after step. step))
+
+pub schedules_have_no_fault : HaveNoScheduleFault
+schedules_have_no_fault text s n h f = text_no_fault NextOfSchedule IsWholeSchedule Any schedule_plain first (whole s) text n tt h tt f
+
+pub schedules_have_one_fault : HaveOneScheduleFault
+schedules_have_one_fault text m n f g = text_one_fault NextOfSchedule IsWholeSchedule Any schedule_plain first text m n tt f g

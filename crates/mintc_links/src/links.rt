@@ -1,0 +1,275 @@
+//! Links, one of each kind.
+ghost use Rattle.std.specs.Prelude.{◌≡◌, ◌<◌, ◌≤◌, ◌+◌, length};
+ghost use Rattle.mintc_timing.specs.Clocking.{least_width};
+ghost use Rattle.mintc_timing.specs.Design.{element_at};
+ghost use Rattle.mintc_timing.specs.Limits.{IsBound, IsDelay, IsDesign, IsElement, IsPhase, IsPoint, IsSpan};
+ghost use Rattle.mintc_timing.specs.Links.{element_node, end_node, output_node, point_node, start_node, apart_link as apart_link_of, bound_link as bound_link_of, cycle_link as cycle_link_of, opening_link as opening_link_of, opened_link as opened_link_of, order_link as order_link_of, reach_link as reach_link_of, setup_link as setup_link_of, span_link as span_link_of, start_link as start_link_of, width_link as width_link_of};
+ghost use Rattle.mintc_links.specs.Alone.{alone};
+
+use mintc_timing::{Bound, Element, Flat, Link, LinkKind, Point, crosses};
+
+/// The element of a number.
+fn element(flat: &Flat, number: u32) -> &Element
+    requires { number < length flat.now.elements }
+    ensures value { result.now ≡ element_at (alone flat.now) number }
+    ensures kept { IsElement (length flat.now.phases) result.now }
+    ensures design { IsDesign flat.now }
+{
+    &flat.elements()[number as usize]
+}
+
+/// The node of a phase's start.
+fn start(phase: u32) -> u32
+    requires { IsPhase 8 phase }
+    ensures { result ≡ start_node phase }
+{
+    2 * phase - 1
+}
+
+/// The node of a phase's end.
+fn end(phase: u32) -> u32
+    requires { IsPhase 8 phase }
+    ensures { result ≡ end_node phase }
+{
+    2 * phase
+}
+
+/// The node of a point of the clock.
+fn point(point: Point) -> u32
+    requires { IsPoint 8 point }
+    ensures { result ≡ point_node point }
+{
+    match point {
+        Point::Origin => 0,
+        Point::Start(phase) => start(phase),
+        Point::End(phase) => end(phase),
+    }
+}
+
+/// The node of an element's moment.
+fn moment(flat: &Flat, number: u32) -> u32
+    requires { number < length flat.now.elements }
+    ensures { result ≡ element_node (alone flat.now) number }
+{
+    let _elements = flat.elements();
+    2 * flat.phases().items().len() as u32 + 1 + number
+}
+
+/// The node that the output of an element starts from.
+fn output(flat: &Flat, number: u32) -> u32
+    requires { number < length flat.now.elements }
+    ensures { result ≡ output_node (alone flat.now) number }
+{
+    let element = element(flat, number);
+    if element.flop {
+        start(element.phase)
+    } else {
+        moment(flat, number)
+    }
+}
+
+/// A phase starts at time 0 or later. Phases are counted from 1.
+pub fn start_link(phase: u32) -> Link
+    requires { IsPhase 8 phase }
+    ensures { result ≡ start_link_of phase }
+{
+    Link {
+        kind: LinkKind::Start { phase },
+        from: 0,
+        to: start(phase),
+        delay: 0,
+        cycles: 0,
+    }
+}
+
+/// A phase starts within the cycle.
+pub fn cycle_link(phase: u32) -> Link
+    requires { IsPhase 8 phase }
+    ensures { result ≡ cycle_link_of phase }
+{
+    Link {
+        kind: LinkKind::Cycle { phase },
+        from: start(phase),
+        to: 0,
+        delay: 0,
+        cycles: 1,
+    }
+}
+
+/// The next phase starts no sooner.
+pub fn order_link(phase: u32) -> Link
+    requires phase { IsPhase 8 phase }
+    requires next { IsPhase 8 (phase + 1) }
+    ensures { result ≡ order_link_of phase }
+{
+    Link {
+        kind: LinkKind::Order { phase },
+        from: start(phase),
+        to: start(phase + 1),
+        delay: 0,
+        cycles: 0,
+    }
+}
+
+/// A phase is no wider than the cycle.
+pub fn span_link(phase: u32) -> Link
+    requires { IsPhase 8 phase }
+    ensures { result ≡ span_link_of phase }
+{
+    Link {
+        kind: LinkKind::Span { phase },
+        from: end(phase),
+        to: start(phase),
+        delay: 0,
+        cycles: 1,
+    }
+}
+
+/// The greatest of 0 and the widths that elements on the phase ask for, in femtoseconds.
+pub fn width_needed(flat: &Flat, phase: u32) -> i64
+    ensures value { result ≡ least_width (alone flat.now) phase }
+    ensures range { IsDelay result }
+{
+    let mut width = 0;
+    for element in flat.elements() {
+        if element.phase == phase {
+            width = i64::max(width, element.width);
+        }
+    }
+    width
+}
+
+/// A phase is as wide as its elements ask.
+pub fn width_link(flat: &Flat, phase: u32) -> Link
+    requires { IsPhase 8 phase }
+    ensures value { result ≡ width_link_of (alone flat.now) phase }
+    ensures range { IsSpan result.delay }
+{
+    Link {
+        kind: LinkKind::Width { phase },
+        from: start(phase),
+        to: end(phase),
+        delay: width_needed(flat, phase),
+        cycles: 0,
+    }
+}
+
+/// Phase `i` starts no sooner than phase `j` ends, the cycles taken off.
+pub fn apart_link(i: u32, j: u32) -> Link
+    requires first { IsPhase 8 i }
+    requires second { IsPhase 8 j }
+    ensures value { result ≡ apart_link_of i j }
+    ensures cycles { result.cycles ≤ 1 }
+{
+    Link {
+        kind: LinkKind::Apart { i, j },
+        from: end(j),
+        to: start(i),
+        delay: 0,
+        cycles: crosses(j, i),
+    }
+}
+
+/// How long after its phase's start an element opens, in femtoseconds; at a flop, its setup before the start.
+fn opening_delay(flat: &Flat, number: u32) -> i64
+    requires { number < length flat.now.elements }
+    ensures value { result ≡ (opening_link_of (alone flat.now) number).delay }
+    ensures range { IsSpan result }
+{
+    let element = element(flat, number);
+    if element.flop {
+        -element.setup
+    } else {
+        element.cq_max - element.dq_max
+    }
+}
+
+/// A latch's data leaves no sooner than its opening lets it. A flop's moment is at most the setup before its phase.
+/// Elements are counted from 0.
+pub fn opening_link(flat: &Flat, number: u32) -> Link
+    requires { number < length flat.now.elements }
+    ensures value { result ≡ opening_link_of (alone flat.now) number }
+    ensures range { IsSpan result.delay }
+{
+    let element = element(flat, number);
+    Link {
+        kind: LinkKind::Opening { element: number },
+        from: start(element.phase),
+        to: moment(flat, number),
+        delay: opening_delay(flat, number),
+        cycles: 0,
+    }
+}
+
+/// A latch's phase is as wide as its setup.
+pub fn opened_link(flat: &Flat, number: u32) -> Link
+    requires { number < length flat.now.elements }
+    ensures value { result ≡ opened_link_of (alone flat.now) number }
+    ensures range { IsSpan result.delay }
+{
+    let element = element(flat, number);
+    Link {
+        kind: LinkKind::Opened { element: number },
+        from: start(element.phase),
+        to: end(element.phase),
+        delay: element.setup,
+        cycles: 0,
+    }
+}
+
+/// The data of element `to` comes so many femtoseconds and the delay of element `from` after that of `from`.
+pub fn reach_link(flat: &Flat, from: u32, to: u32, delay: i64) -> Link
+    requires from { from < length flat.now.elements }
+    requires to { to < length flat.now.elements }
+    requires delay { IsDelay delay }
+    ensures value { result ≡ reach_link_of (alone flat.now) from to delay }
+    ensures range { IsSpan result.delay }
+    ensures cycles { result.cycles ≤ 1 }
+{
+    let first = element(flat, from);
+    let second = element(flat, to);
+    Link {
+        kind: LinkKind::Reach { from, to },
+        from: output(flat, from),
+        to: moment(flat, to),
+        delay: first.dq_max + delay,
+        cycles: crosses(first.phase, second.phase),
+    }
+}
+
+/// A latch's data is there the setup before its phase ends, a flop's before its phase starts.
+pub fn setup_link(flat: &Flat, number: u32) -> Link
+    requires { number < length flat.now.elements }
+    ensures value { result ≡ setup_link_of (alone flat.now) number }
+    ensures range { IsSpan result.delay }
+{
+    let element = element(flat, number);
+    let to = if element.flop {
+        start(element.phase)
+    } else {
+        end(element.phase)
+    };
+    Link {
+        kind: LinkKind::Setup { element: number },
+        from: moment(flat, number),
+        to,
+        delay: element.setup,
+        cycles: 0,
+    }
+}
+
+/// A bound's later point comes after its earlier one. Bounds are counted from 0.
+pub fn bound_link(index: u32, bound: &Bound) -> Link
+    requires { IsBound 8 bound.now }
+    ensures value { result ≡ bound_link_of index bound.now }
+    ensures range { IsSpan result.delay }
+    ensures cycles { result.cycles ≤ 1 }
+{
+    Link {
+        kind: LinkKind::Bound { index },
+        from: point(bound.from),
+        to: point(bound.to),
+        delay: bound.gap,
+        cycles: bound.cycles,
+    }
+}

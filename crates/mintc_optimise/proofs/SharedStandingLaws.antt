@@ -1,0 +1,115 @@
+-- The member that stands for a link of a design, by the link's kind.
+use Rattle.std.proofs.Common.{◌≡◌, ℕ, ◌+◌, ◌*◌, ◌<◌, ℤ, ◌-ℤ◌, List, length, get_or, arith, refl, ap, sym, subst, ◌∙◌, ◌∷◌, [], ◌++◌, take}
+use Rattle.std.specs.List.{All, Contains}
+use Rattle.std.proofs.lemmas.Int.{ints}
+use Rattle.std.proofs.lemmas.List.{get_or_default, take_more, map-append}
+use Rattle.std.proofs.lemmas.List.Elements.{All-contains, All-push}
+use Rattle.mintc_timing.specs.declared.link.Link.{Link}
+use Rattle.mintc_timing.specs.declared.link.LinkKind.{LinkKind}
+use Rattle.mintc_timing.specs.declared.link.LinkKind.TheVariants as kind
+use Rattle.mintc_timing.specs.Design.{Timing, element_at, element_count, pair_at, no_pair}
+use Rattle.mintc_timing.specs.Limits.{IsDesign}
+use Rattle.mintc_timing.specs.Links.{links_of, bound_link, reach_link, no_link, link_at}
+use Rattle.mintc_timing.specs.Order.{IsTiming}
+use Rattle.mintc_timing.specs.Paths.{IsPath, input_of, greatest_delay}
+use Rattle.mintc_timing.proofs.SharedByKind.{EachKind, All-links}
+use Rattle.mintc_certificate.specs.declared.members.Member.{Member}
+use Rattle.mintc_certificate.specs.declared.members.Member.TheVariants as member
+use Rattle.mintc_certificate.specs.CertificateText.{IsCounted}
+use Rattle.mintc_certificate.specs.Valid.{IsMember, link_of, no_bound}
+use Rattle.mintc_paths.specs.declared.trace.Extreme.TheVariants.{Greatest}
+use Rattle.mintc_paths.specs.Finding.{IsDelayOf}
+use Rattle.mintc_ratio.specs.Chains.{links_at}
+use Rattle.mintc_optimise.specs.Making.{StandsFor, StandForAll}
+use Rattle.mintc_optimise.proofs.SharedPathLaws.{arcs_below, path_short}
+
+-- What is known of a link by its kind: which member stands for it, and at a reach which pair it is of.
+abbrev pub IsOfKind : Timing → Link → LinkKind → Type 0
+IsOfKind t k (kind.Start p) = StandsFor t k (member.Start p)
+IsOfKind t k (kind.Cycle p) = StandsFor t k (member.Cycle p)
+IsOfKind t k (kind.Order p) = StandsFor t k (member.Order p)
+IsOfKind t k (kind.Span p) = StandsFor t k (member.Span p)
+IsOfKind t k (kind.Width p) = StandsFor t k (member.Width p)
+IsOfKind t k (kind.Apart i j) = StandsFor t k (member.Apart i j)
+IsOfKind t k (kind.Opening l) = StandsFor t k (member.Opening l)
+IsOfKind t k (kind.Opened l) = StandsFor t k (member.Opened l)
+IsOfKind t k (kind.Reach j l) =
+    (n : ℕ) × (n < length t.pairs) × ((pair_at t n).from ≡ j) × ((pair_at t n).to ≡ l) × (reach_link t j l (pair_at t n).max ≡ k)
+IsOfKind t k (kind.Setup l) = StandsFor t k (member.Setup l)
+IsOfKind t k (kind.Bound n) = StandsFor t k (member.Bound n)
+IsOfKind t k (kind.Other n) = ⊥
+
+module _ (t : Timing) (limits : IsDesign t.flat) where
+  each_of_kind : EachKind t (λ k. IsOfKind t k k.kind)
+  each_of_kind =
+      let phases = limits.phases.1 in
+      let elements = limits.elements in
+      let bounds = limits.bounds in
+      record {
+        start = λ p h. let high = h.1 in record { member = h; same = refl; counted = omega arith };
+        cycle = λ p h. let high = h.1 in record { member = h; same = refl; counted = omega arith };
+        order = λ p low high. record { member = (low, high); same = refl; counted = omega arith };
+        span = λ p h. let high = h.1 in record { member = h; same = refl; counted = omega arith };
+        width = λ p h. let high = h.1 in record { member = h; same = refl; counted = omega arith };
+        apart = λ i j g h fed. let one = g.1 in let two = h.1 in record { member = (g, h, fed); same = refl; counted = (omega arith, omega arith) };
+        opening = λ l h. record { member = h; same = refl; counted = omega arith };
+        opened = λ l h latch. record { member = (h, latch); same = refl; counted = omega arith };
+        reach = λ n h. (n, h, refl, refl, refl);
+        setup = λ l h. record { member = h; same = refl; counted = omega arith };
+        bound = λ n e h. record { member = h; same = ap (bound_link n) (get_or_default t.flat.bounds n no_bound e h); counted = omega arith };
+      }
+
+  pub of_kind : (k : Link) (which : LinkKind) → k.kind ≡ which → Contains (links_of t) k → IsOfKind t k which
+  of_kind k which is listed =
+      subst (λ (w : LinkKind). IsOfKind t k w) is (All-contains (λ k. IsOfKind t k k.kind) (links_of t) k (All-links t (λ k. IsOfKind t k k.kind) each_of_kind) listed)
+
+  -- What a reach asks for beside its first element's delay is the greatest one of its pair.
+  pub delay_of_reach : (k : Link) (j l : ℕ) (h : IsOfKind t k (kind.Reach j l)) (delay : ℤ) → delay ≡ k.delay -ℤ (element_at t j).dq_max → delay ≡ (pair_at t h.0).max
+  delay_of_reach k j l h delay is =
+      let asked = ap (λ (x : Link). x.delay) h.4 in
+      omega (arith, ints)
+
+  pub pair_of_reach : (k : Link) (j l : ℕ) → IsOfKind t k (kind.Reach j l) → (delay : ℤ) → delay ≡ k.delay -ℤ (element_at t j).dq_max → IsDelayOf Greatest t.pairs j l delay
+  pair_of_reach k j l h delay is =
+      (pair_at t h.0, (h.0, h.1, get_or_default t.pairs h.0 (pair_at t h.0) no_pair h.1), h.2, h.3, sym (delay_of_reach k j l h delay is))
+
+  module _ (kept : IsTiming t.flat t.order t.pairs) where
+    pub leaves : (k : Link) (j l : ℕ) → IsOfKind t k (kind.Reach j l) → j < element_count t
+    leaves k j l h = let from = (kept.extremes.each h.0 no_pair h.1).from in let first = h.2 in omega arith
+
+    pub reach_stands : (k : Link) (j l : ℕ) (path : List ℕ) → IsOfKind t k (kind.Reach j l) → IsPath t.flat.arcs j path (input_of l) →
+        (delay : ℤ) → delay ≡ k.delay -ℤ (element_at t j).dq_max → greatest_delay t.flat.arcs path ≡ delay → StandsFor t k (member.Reach j l path)
+    reach_stands k j l path h is_path asked asked_is summed =
+        let ends = kept.extremes.each h.0 no_pair h.1 in
+        let from = ends.from in
+        let to = ends.to in
+        let first = h.2 in
+        let second = h.3 in
+        let elements = limits.elements in
+        let arcs = limits.arcs in
+        let count = kept.ordered.count in
+        let short = path_short t.flat.arcs t.order kept.ordered (2 * j + 1) path (2 * l) is_path.1 in
+        let delay = summed ∙ delay_of_reach k j l h asked asked_is in
+        record {
+          member = (omega arith, omega arith, is_path);
+          same = ap (reach_link t j l) delay ∙ h.4;
+          counted = (omega arith, omega arith, omega arith, is_path.0, arcs_below t.flat.arcs (2 * j + 1) path (2 * l) 999999999 (omega arith) is_path.1);
+        }
+
+-- one more member at the end
+stand_more : (t : Timing) (links : List Link) (chain : List ℕ) (i : ℕ) (members : List Member) (m : Member) → i < length chain → StandForAll t links (take i chain) members →
+    StandsFor t (link_at links (get_or chain i 0)) m → StandForAll t links (take (i + 1) chain) (members ++ m ∷ [])
+stand_more t links chain i members m h before here = record {
+  each = All-push (IsMember t) members m before.each here.member;
+  same = map-append (link_of t) members (m ∷ [])
+      ∙ ap (λ (ks : List Link). ks ++ link_of t m ∷ []) before.same
+      ∙ ap (λ (k : Link). links_at links (take i chain) ++ k ∷ []) here.same
+      ∙ sym (ap (λ (ns : List ℕ). links_at links ns) (take_more chain i 0 h) ∙ map-append (link_at links) (take i chain) (get_or chain i 0 ∷ []));
+  counted = All-push IsCounted members m before.counted here.counted;
+}
+
+-- the same of the link that the code reads
+pub stand_read : (t : Timing) (links : List Link) (chain : List ℕ) (i : ℕ) (members : List Member) (m : Member) (d : Link) → i < length chain → All (λ e. e < length links) chain →
+    StandForAll t links (take i chain) members → StandsFor t (get_or links (get_or chain i 0) d) m → StandForAll t links (take (i + 1) chain) (members ++ m ∷ [])
+stand_read t links chain i members m d h exist before here =
+    stand_more t links chain i members m h before (subst (λ (k : Link). StandsFor t k m) (get_or_default links (get_or chain i 0) d no_link (exist i 0 h)) here)

@@ -1,0 +1,206 @@
+-- A design turned round has the same paths, from the back.
+use Rattle.std.proofs.Common.{◌≡◌, ◌≢◌, ℕ, ◌<◌, ◌+◌, ◌-◌, ◌*◌, ℤ, ◌≤ℤ◌, pos, List, [], ◌∷◌, ◌++◌, length, get_or, reverse, arith, refl, ap, ◌∙◌, sym, subst, ⊎_elim}
+use Rattle.std.proofs.lemmas.Bool.{cases_lt}
+use Rattle.std.proofs.lemmas.Int.{ints}
+use Rattle.std.proofs.lemmas.List.{get_or-map, get_or_past, get_or-reverse, length-reverse, reverse-append}
+use Rattle.std.proofs.lemmas.List.Sorted.{Contains-permutation, IsPermutation-reverse}
+use Rattle.std.proofs.Math.ListN.{length-map}
+use Rattle.std.specs.List.{All}
+use Rattle.mintc_timing.specs.declared.parts.TimingArc.{TimingArc}
+use Rattle.mintc_timing.specs.declared.parts.Pair.{Pair}
+use Rattle.mintc_rings.specs.Rings.{total}
+use Rattle.mintc_timing.specs.Design.{Design, no_arc}
+use Rattle.mintc_timing.specs.Limits.{IsArc, IsDesign}
+use Rattle.mintc_timing.specs.Order.{IsOrder}
+use Rattle.mintc_timing.specs.Paths.{Leads, IsPath, arc_at, input_of, output_of, HasExtremes, IsGreatestDelay, IsLeastDelay}
+use Rattle.mintc_timing.proofs.SharedOrdered.{inside, Leads-push}
+use Rattle.mintc_rings.proofs.SharedRingLaws.{total-push}
+use Rattle.mintc_timing.specs.Order.{ArePathsShort}
+use Rattle.mintc_paths.specs.Longest.{AreRunsShort}
+use Rattle.mintc_paths.specs.Sums.{row_of, LeadsBack}
+use Rattle.mintc_paths.specs.Turned.{turned_bit, bit_before, turned_arc, turned_arcs, turned_design, pair_back}
+use Rattle.mintc_paths.proofs.Turning.{IsBit, input, output, inner, is_bit, turned_input, turned_output, turned_inner, turned_below, turned_before, turned_apart}
+
+reverse_cons : (n : ℕ) (path : List ℕ) → reverse (n ∷ path) ≡ reverse path ++ n ∷ []
+reverse_cons n path = reverse-append (n ∷ []) path
+
+total-reverse : (weight : ℕ → ℤ) (path : List ℕ) → total weight (reverse path) ≡ total weight path
+total-reverse weight [] = refl
+total-reverse weight (n ∷ path) =
+    let rest = total-reverse weight path in
+    let more = ap (total weight) (reverse_cons n path) ∙ total-push weight (reverse path) n in
+    omega (arith, ints)
+
+total-alike : (f g : ℕ → ℤ) (path : List ℕ) → ((n : ℕ) → f n ≡ g n) → total f path ≡ total g path
+total-alike f g [] same = refl
+total-alike f g (n ∷ path) same = let here = same n in let rest = total-alike f g path same in omega (arith, ints)
+
+some-reverse : (path : List ℕ) → path ≢ [] → reverse path ≢ []
+some-reverse [] some e = some refl
+some-reverse (n ∷ path) some e = let same = length-reverse (n ∷ path) in let none = ap (λ (xs : List ℕ). length xs) e in absurd (omega arith)
+
+module _ (n m : ℕ) (places elements : List ℕ) (there : LeadsBack n places elements) (back : LeadsBack n elements places) (arcs : List TimingArc)
+    (each : All (IsArc n m) arcs) where
+  abbrev turned : List TimingArc
+  turned = turned_arcs n places arcs
+
+  abbrev goes : ℕ → ℕ
+  goes = turned_bit n places
+
+  pub arc_turned : (k : ℕ) → k < length arcs → arc_at turned k ≡ turned_arc n places (arc_at arcs k)
+  arc_turned k below = get_or-map (turned_arc n places) arcs k no_arc no_arc below
+
+  count_turned : length turned ≡ length arcs
+  count_turned = length-map arcs (turned_arc n places)
+
+  -- what the turning leaves of an arc
+  same_turned : (of : TimingArc → ℤ) → ((arc : TimingArc) → of (turned_arc n places arc) ≡ of arc) → (k : ℕ) → of (arc_at turned k) ≡ of (arc_at arcs k)
+  same_turned of kept k = ⊎_elim (λ low. ap of (arc_turned k low) ∙ kept (arc_at arcs k))
+      (λ high. ap of (get_or_past turned k no_arc (omega (arith, count_turned)) ∙ sym (get_or_past arcs k no_arc high)))
+      (cases_lt k (length arcs))
+
+  -- A path of the one is a path of the other, from the back.
+  pub Leads-forth : (from to : ℕ) (path : List ℕ) → Leads arcs from path to → Leads turned (goes to) (reverse path) (goes from)
+  Leads-forth from to [] h = ap goes (sym h)
+  Leads-forth from to (k ∷ path) h =
+      let is = arc_turned k h.0 in
+      let rest = Leads-forth (arc_at arcs k).to to path h.2 in
+      let more = Leads-push turned (goes to) (reverse path) k (omega (arith, count_turned, h.0)) (subst (λ b. Leads turned (goes to) (reverse path) b) (sym (ap (λ (a : TimingArc). a.from) is)) rest) in
+      let ends = subst (λ b. Leads turned (goes to) (reverse path ++ k ∷ []) b) (ap (λ (a : TimingArc). a.to) is ∙ ap goes h.1) more in
+      subst (λ xs. Leads turned (goes to) xs (goes from)) (sym (reverse_cons k path)) ends
+
+  pub Leads-back : (from to : ℕ) (path : List ℕ) → Leads turned (goes to) path (goes from) → Leads arcs from (reverse path) to
+  Leads-back from to [] h = turned_apart n places elements there back from to (sym h)
+  Leads-back from to (k ∷ path) h =
+      let low : k < length arcs = omega (arith, count_turned, h.0) in
+      let is = arc_turned k low in
+      let met : (arc_at arcs k).to ≡ to = turned_apart n places elements there back (arc_at arcs k).to to (sym (ap (λ (a : TimingArc). a.from) is) ∙ h.1) in
+      let rest = Leads-back from (arc_at arcs k).from path (subst (λ b. Leads turned b path (goes from)) (ap (λ (a : TimingArc). a.to) is) h.2) in
+      let more = Leads-push arcs from (reverse path) k low rest in
+      subst (λ xs. Leads arcs from xs to) (sym (reverse_cons k path)) (subst (λ b. Leads arcs from (reverse path ++ k ∷ []) b) met more)
+
+  IsArc-turned : (arc : TimingArc) → IsArc n m arc → IsArc n m (turned_arc n places arc)
+  IsArc-turned arc h = record {
+    from = turned_below n places elements there back m arc.to h.to;
+    to = turned_below n places elements there back m arc.from h.from;
+    leaves = λ l low e. not_entered l low e (is_bit n arc.to);
+    enters = λ l low e. not_left l low e (is_bit n arc.from);
+    min = h.min;
+    max = h.max;
+    ordered = h.ordered;
+  }
+    where
+      not_entered : (l : ℕ) → l < n → goes arc.to ≡ 2 * l → IsBit n arc.to → ⊥
+      not_entered l low e (input k below is) = let at = ap goes is ∙ turned_input n places k below in omega arith
+      not_entered l low e (output k below is) = h.enters k below is
+      not_entered l low e (inner past) = let at = turned_inner n places arc.to past in omega arith
+
+      not_left : (l : ℕ) → l < n → goes arc.from ≡ 2 * l + 1 → IsBit n arc.from → ⊥
+      not_left l low e (input k below is) = h.leaves k below is
+      not_left l low e (output k below is) = let at = ap goes is ∙ turned_output n places k below in omega arith
+      not_left l low e (inner past) = let at = turned_inner n places arc.from past in omega arith
+
+  pub each_turned : All (IsArc n m) turned
+  each_turned k d below =
+      let low : k < length arcs = omega (arith, count_turned) in
+      subst (λ (a : TimingArc). IsArc n m a) (sym (get_or-map (turned_arc n places) arcs k no_arc d low)) (IsArc-turned (arc_at arcs k) (each k no_arc low))
+
+  module _ (order : List ℕ) (is_order : IsOrder arcs order) where
+    pub turned_at : (i : ℕ) → i < length (reverse order) → arc_at turned (get_or (reverse order) i 0) ≡ turned_arc n places (arc_at arcs (get_or order (length order - 1 - i) 0))
+    turned_at i below =
+        let same = length-reverse order in
+        let low : i < length order = omega arith in
+        ap (arc_at turned) (get_or-reverse order i 0 low) ∙ arc_turned (get_or order (length order - 1 - i) 0) (inside arcs order is_order (length order - 1 - i) (omega arith))
+
+    pub IsOrder-turned : IsOrder turned (reverse order)
+    IsOrder-turned = record {
+      count = length-reverse order ∙ is_order.count ∙ sym count_turned;
+      whole = λ k below. Contains-permutation order (reverse order) k (IsPermutation-reverse order) (is_order.whole k (omega (arith, count_turned)));
+      ordered = λ i j low_i low_j met.
+          let same = length-reverse order in
+          let at_i = ap (λ (a : TimingArc). a.to) (turned_at i low_i) in
+          let at_j = ap (λ (a : TimingArc). a.from) (turned_at j low_j) in
+          let e = turned_apart n places elements there back (arc_at arcs (get_or order (length order - 1 - i) 0)).from (arc_at arcs (get_or order (length order - 1 - j) 0)).to (sym at_i ∙ met ∙ at_j) in
+          let sooner = is_order.ordered (length order - 1 - j) (length order - 1 - i) (omega arith) (omega arith) (sym e) in
+          omega arith;
+    }
+
+  -- from the output of the element at a place of the design turned round
+  pub forth : (j l : ℕ) (path : List ℕ) → j < n → l < n → IsPath arcs j path (input_of l) → IsPath turned (row_of places l) (reverse path) (input_of j)
+  forth j l path from to h = (
+    some-reverse path h.0,
+    subst (λ b. Leads turned b (reverse path) (input_of j)) (turned_input n places l to)
+        (subst (λ b. Leads turned (goes (input_of l)) (reverse path) b) (turned_output n places j from) (Leads-forth (output_of j) (input_of l) path h.1)),
+  )
+
+  pub from_back : (a b : ℕ) (path : List ℕ) → a < n → b < n → IsPath turned a path (input_of b) → IsPath arcs b (reverse path) (input_of (row_of elements a))
+  from_back a b path from to h =
+      let at = back.inside a from in
+      let is : goes (input_of (row_of elements a)) ≡ output_of a = turned_input n places (row_of elements a) at ∙ ap (λ k. 2 * k + 1) (back.leads a from) in (
+        some-reverse path h.0,
+        Leads-back (output_of b) (input_of (row_of elements a)) path
+            (subst (λ x. Leads turned x path (goes (output_of b))) (sym is) (subst (λ x. Leads turned (output_of a) path x) (sym (turned_output n places b to)) h.1)),
+      )
+
+  back_again : (a b : ℕ) (path : List ℕ) → a < n → b < n → IsPath arcs b path (input_of (row_of elements a)) → IsPath turned a (reverse path) (input_of b)
+  back_again a b path from to h =
+      subst (λ x. IsPath turned x (reverse path) (input_of b)) (back.leads a from) (forth b (row_of elements a) path to (back.inside a from) h)
+
+  sum_turned : (of : TimingArc → ℤ) → ((arc : TimingArc) → of (turned_arc n places arc) ≡ of arc) → (path : List ℕ) →
+      total (λ k. of (arc_at turned k)) (reverse path) ≡ total (λ k. of (arc_at arcs k)) path
+  sum_turned of kept path = total-reverse (λ k. of (arc_at turned k)) path ∙ total-alike (λ k. of (arc_at turned k)) (λ k. of (arc_at arcs k)) path (same_turned of kept)
+
+  sum_back : (of : TimingArc → ℤ) → ((arc : TimingArc) → of (turned_arc n places arc) ≡ of arc) → (path : List ℕ) →
+      total (λ k. of (arc_at arcs k)) (reverse path) ≡ total (λ k. of (arc_at turned k)) path
+  sum_back of kept path = total-reverse (λ k. of (arc_at arcs k)) path ∙ sym (total-alike (λ k. of (arc_at turned k)) (λ k. of (arc_at arcs k)) path (same_turned of kept))
+
+  max_sum : (path : List ℕ) → total (λ k. (arc_at turned k).max) (reverse path) ≡ total (λ k. (arc_at arcs k).max) path
+  max_sum = sum_turned (λ (a : TimingArc). a.max) (λ arc. refl)
+
+  max_sum_back : (path : List ℕ) → total (λ k. (arc_at arcs k).max) (reverse path) ≡ total (λ k. (arc_at turned k).max) path
+  max_sum_back = sum_back (λ (a : TimingArc). a.max) (λ arc. refl)
+
+  pub greatest_back : (a b : ℕ) (x : ℤ) → a < n → b < n → IsGreatestDelay turned a (input_of b) x → IsGreatestDelay arcs b (input_of (row_of elements a)) x
+  greatest_back a b x from to h = record {
+    attained = let at = h.attained in (reverse at.0, from_back a b at.0 from to at.1, max_sum_back at.0 ∙ at.2);
+    bound = λ path g. subst (λ z. z ≤ℤ x) (max_sum path) (h.bound (reverse path) (back_again a b path from to g));
+  }
+
+  pub least_back : (a b : ℕ) (x : ℤ) → a < n → b < n → IsLeastDelay turned a (input_of b) x → IsLeastDelay arcs b (input_of (row_of elements a)) x
+  least_back a b x from to h = record {
+    attained = let at = h.attained in (reverse at.0, from_back a b at.0 from to at.1, sum_back (λ (a : TimingArc). a.min) (λ arc. refl) at.0 ∙ at.2);
+    bound = λ path g. subst (λ z. x ≤ℤ z) (sum_turned (λ (a : TimingArc). a.min) (λ arc. refl) path) (h.bound (reverse path) (back_again a b path from to g));
+  }
+
+module _ (design : Design) (places elements : List ℕ) (kept : IsDesign design) (there : LeadsBack (length design.elements) places elements) (back : LeadsBack (length design.elements) elements places) where
+  pub IsDesign-turned : IsDesign (turned_design places design)
+  IsDesign-turned = record {
+    inner = kept.inner;
+    phases = kept.phases;
+    elements = kept.elements;
+    arcs = let same = length-map design.arcs (turned_arc (length design.elements) places) in let few = kept.arcs in omega arith;
+    bounds = kept.bounds;
+    each_element = kept.each_element;
+    each_arc = each_turned (length design.elements) (length design.inner) places elements there back design.arcs kept.each_arc;
+    each_bound = kept.each_bound;
+  }
+
+  pub ArePathsShort-turned : AreRunsShort design.arcs → ArePathsShort (turned_design places design)
+  ArePathsShort-turned short j bit path below is =
+      let n : ℕ = length design.elements in
+      let m : ℕ = length design.inner in
+      let from : ℕ = bit_before n elements (output_of j) in
+      let to : ℕ = bit_before n elements bit in
+      let starts : turned_bit n places from ≡ output_of j = turned_before n places elements there back (output_of j) in
+      let ends : turned_bit n places to ≡ bit = turned_before n places elements there back bit in
+      let leads = Leads-back n m places elements there back design.arcs kept.each_arc to from path
+      (subst (λ x. Leads (turned_arcs n places design.arcs) x path (turned_bit n places to)) (sym starts) (subst (λ x. Leads (turned_arcs n places design.arcs) (output_of j) path x) (sym ends) is.1)) in
+      subst (λ z. z ≤ℤ pos 1000000000) (max_sum_back n m places elements there back design.arcs kept.each_arc path) (short to (reverse path) from leads)
+
+  pub HasExtremes-back : (pair : Pair) → HasExtremes (turned_design places design) pair → HasExtremes design (pair_back elements pair)
+  HasExtremes-back pair h = record {
+    from = h.to;
+    to = back.inside pair.from h.from;
+    greatest = greatest_back (length design.elements) (length design.inner) places elements there back design.arcs kept.each_arc pair.from pair.to pair.max h.from h.to h.greatest;
+    least = least_back (length design.elements) (length design.inner) places elements there back design.arcs kept.each_arc pair.from pair.to pair.min h.from h.to h.least;
+  }
