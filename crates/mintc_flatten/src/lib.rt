@@ -1,7 +1,8 @@
-//! The hierarchy of a netlist: its scopes, leaves, bits and joins from the top down, numbered. First the rules on statements are asked
-//! in their order, then the one top is found, then the hierarchy's sizes are counted, module by module, without building it. Only where
-//! they are within their limits does the walk build it, so that a small file that describes a huge hierarchy costs little. The crate
-//! above gets the lists, or the first refusal.
+//! The hierarchy of a netlist: its scopes, leaves, bits and joins from the top down, numbered.
+//!
+//! First the rules on statements are asked in their order, then the one top is found, then the hierarchy's sizes are counted, module
+//! by module, without building it. Only where they are within their limits does the walk build it, so that a small file that describes
+//! a huge hierarchy costs little. The crate above gets the lists, or the first refusal.
 #![tactic(auto)]
 
 mod counts;
