@@ -7,8 +7,8 @@ use Rattle.mintc_lines.specs.TextLaws.{HaveOneScheduleText}
 use Rattle.mintc_lines.specs.Texts.{NextOfSchedule, IsPhaseLine, ScheduleLines, first, den, cycle, phases, phase, whole, no_phases, with_phase}
 use Rattle.mintc_lines.proofs.SharedLineLaws.{word_form, count_form, spelled_same}
 use Rattle.mintc_lines.proofs.SharedScheduleLaws.{Any, den_form, cycle_form, phases_form, phase_form}
-use Rattle.mintc_lines.proofs.SharedSpelling.{rest_count, Agrees, agrees_none, agrees_back, agrees_same, IsSpelled, one_text}
-use Rattle.mintc_lines.proofs.SharedTextLaws.{step_by}
+use Rattle.mintc_lines.proofs.SharedSpelling.{rest_count, Agrees, agrees_none, agrees_back, agrees_same, IsSpelled, IsSpelledStep, one_text}
+use Rattle.mintc_lines.proofs.SharedTextLaws.{step_by, no_way}
 
 -- what a state knows of the schedule to which it leads
 abbrev Begins : ScheduleLines → Schedule → Type 0
@@ -28,20 +28,18 @@ back (phase (suc left) p) b line s h g = agrees_back left p s h.0 (subst (λ (x 
 back (phase zero p) b line s h g = agrees_none p s (subst (λ (x : ScheduleLines). Begins x s) h.2 g)
 back (whole p) b line s h g = absurd h
 
-step : (a b c : ScheduleLines) (line other : List ℕ) (s : Schedule) → Any a → NextOfSchedule a line b → NextOfSchedule a other c → Begins b s → Begins c s → (line ≡ other) × (b ≡ c)
-step first b c line other s p h g i j =
-    let m = h.1.1 in let n = g.1.1 in
-    let same : h.0 ≡ g.0 = omega (arith, m.0, m.1, n.0, n.1) in
-    (spelled_same (IsCountLine (codes "schedule") 1 1) (count_form (codes "schedule") 1 1 refl (omega arith)).words h.0 g.0 line other same h.1 g.1, h.2 ∙ sym g.2)
-step den b c line other s p h g i j = step_by (IsNumberLine (codes "den") (pos 1) (pos 100000)) cycle (λ x. Begins x s) den_form (λ x y k l. k ∙ sym l) b c line other h g i j
-step (cycle d) b c line other s p h g i j =
-    step_by (IsNumberLine (codes "cycle") (pos 0) (pos 100000000000000)) (phases d) (λ x. Begins x s) cycle_form (λ x y k l. k.1 ∙ sym l.1) b c line other h g i j
-step (phases d t) b c line other s p h g i j =
-    step_by (IsCountLine (codes "phases") 1 8) (λ n. phase n (no_phases d t)) (λ x. Begins x s) phases_form (λ m n k l. rest_count [] s.starts m n k.starts l.starts) b c line other h g i j
-step (phase (suc left) q) b c line other s p h g i j =
-    step_by IsPhaseLine (λ x. phase left (with_phase q x)) (λ x. Begins x s) phase_form (agrees_same left q s) b c line other h g i j
-step (phase zero q) b c line other s p h g i j = step_by (IsWordLine (codes "end")) (λ u. whole q) (λ x. Begins x s) (word_form (codes "end") refl) (λ u w k l. refl) b c line other h g i j
-step (whole q) b c line other s p h g i j = absurd h
+step : (a : ScheduleLines) (s : Schedule) → Any a → IsSpelledStep (NextOfSchedule a) (λ b. Begins b s)
+step first s p = record {
+  alike = λ b c line other h g i j.
+      let m = h.1.1 in let n = g.1.1 in
+      (spelled_same (IsCountLine (codes "schedule") 1 1) (count_form (codes "schedule") 1 1 refl (omega arith)).words h.0 g.0 line other (omega (arith, m.0, m.1, n.0, n.1)) h.1 g.1, h.2 ∙ sym g.2);
+}
+step den s p = step_by den_form (λ x y k l. k ∙ sym l)
+step (cycle d) s p = step_by cycle_form (λ x y k l. k.1 ∙ sym l.1)
+step (phases d t) s p = step_by phases_form (λ m n k l. rest_count [] s.starts m n k.starts l.starts)
+step (phase (suc left) q) s p = step_by phase_form (agrees_same left q s)
+step (phase zero q) s p = step_by (word_form (codes "end") refl) (λ u w k l. refl)
+step (whole q) s p = no_way (λ line b h i. h)
 
 spelled : IsSpelled NextOfSchedule Any whole Begins
 spelled = record { keeps = λ a b line p h. tt; last = λ s line b h. h; ends = λ s. refl; back = back; step = step }

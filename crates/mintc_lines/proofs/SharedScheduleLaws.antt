@@ -109,13 +109,13 @@ abbrev pub Any : ScheduleLines → Type 0
 Any a = Unit {0}
 
 schedule_step : (a : ScheduleLines) → IsPlainStep (NextOfSchedule a) Any
-schedule_step first = plain_step (IsCountLine (codes "schedule") 1 1) (λ n. den) Any (count_form (codes "schedule") 1 1 refl (omega arith)) (λ n ws h. tt)
-schedule_step den = plain_step (IsNumberLine (codes "den") (pos 1) (pos 100000)) cycle Any den_form (λ d ws h. tt)
-schedule_step (cycle d) = plain_step (IsNumberLine (codes "cycle") (pos 0) (pos 100000000000000)) (phases d) Any cycle_form (λ t ws h. tt)
-schedule_step (phases d t) = plain_step (IsCountLine (codes "phases") 1 8) (λ k. phase k (no_phases d t)) Any phases_form (λ k ws h. tt)
-schedule_step (phase (suc left) s) = plain_step IsPhaseLine (λ p. phase left (with_phase s p)) Any phase_form (λ p ws h. tt)
-schedule_step (phase zero s) = plain_step (IsWordLine (codes "end")) (λ u. whole s) Any (word_form (codes "end") refl) (λ u ws h. tt)
-schedule_step (whole s) = no_step Any
+schedule_step first = plain_step (count_form (codes "schedule") 1 1 refl (omega arith)) (λ n ws h. tt)
+schedule_step den = plain_step den_form (λ d ws h. tt)
+schedule_step (cycle d) = plain_step cycle_form (λ t ws h. tt)
+schedule_step (phases d t) = plain_step phases_form (λ k ws h. tt)
+schedule_step (phase (suc left) s) = plain_step phase_form (λ p ws h. tt)
+schedule_step (phase zero s) = plain_step (word_form (codes "end") refl) (λ u ws h. tt)
+schedule_step (whole s) = no_step
 
 pub schedule_plain : IsPlainFormat NextOfSchedule Any
 schedule_plain = record { keeps = λ a b line p h. tt; one = λ a b c line p h g. (schedule_step a).one b c line h g; free = λ a b line p h. (schedule_step a).free b line h }

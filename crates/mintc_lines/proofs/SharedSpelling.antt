@@ -51,6 +51,10 @@ agrees_same left p s x y k l =
 
 -- ---- a format in which each value has one text
 
+-- Of two lines from a state on to one end, both are one, and so are the states that they lead to.
+pub record IsSpelledStep {S : Type 0} (leads : List ℕ → S → Type 0) (B : S → Type 0) : Type 0 where
+  pub alike : (b c : S) (line other : List ℕ) → leads line b → leads other c → B b → B c → (line ≡ other) × (b ≡ c)
+
 -- Each state that leads to a value's end knows a front of the value, and from a state that is reached one line leads
 -- on to the value.
 pub record IsSpelled {S E : Type 0} (next : S → List ℕ → S → Type 0) (P : S → Type 0) (end : E → S) (Begins : S → E → Type 0) : Type 0 where
@@ -58,7 +62,7 @@ pub record IsSpelled {S E : Type 0} (next : S → List ℕ → S → Type 0) (P 
   pub last : (e : E) (line : List ℕ) (b : S) → next (end e) line b → ⊥
   pub ends : (e : E) → Begins (end e) e
   pub back : (a b : S) (line : List ℕ) (e : E) → next a line b → Begins b e → Begins a e
-  pub step : (a b c : S) (line other : List ℕ) (e : E) → P a → next a line b → next a other c → Begins b e → Begins c e → (line ≡ other) × (b ≡ c)
+  pub step : (a : S) (e : E) → P a → IsSpelledStep (next a) (λ b. Begins b e)
 
 begins : {S E : Type 0} (next : S → List ℕ → S → Type 0) (P : S → Type 0) (end : E → S) (Begins : S → E → Type 0) → IsSpelled next P end Begins → (a : S) (lines : List (List ℕ)) (e : E) → Follows next a lines (end e) → Begins a e
 begins {S} next P end Begins spelled a [] e h = subst (λ (s : S). Begins s e) (sym h) (spelled.ends e)
@@ -70,6 +74,6 @@ one_text {S} next P end Begins spelled a [] [] e p h g = refl
 one_text {S} next P end Begins spelled a [] (other ∷ others) e p h g = absurd (spelled.last e other g.0 (subst (λ (s : S). next s other g.0) h g.1))
 one_text {S} next P end Begins spelled a (line ∷ lines) [] e p h g = absurd (spelled.last e line h.0 (subst (λ (s : S). next s line h.0) g h.1))
 one_text {S} next P end Begins spelled a (line ∷ lines) (other ∷ others) e p h g =
-    let same = spelled.step a h.0 g.0 line other e p h.1 g.1 (begins next P end Begins spelled h.0 lines e h.2) (begins next P end Begins spelled g.0 others e g.2) in
+    let same = (spelled.step a e p).alike h.0 g.0 line other h.1 g.1 (begins next P end Begins spelled h.0 lines e h.2) (begins next P end Begins spelled g.0 others e g.2) in
     let more : lines ≡ others = one_text next P end Begins spelled g.0 lines others e (spelled.keeps a g.0 other p g.1) (subst (λ (s : S). Follows next s lines (end e)) same.1 h.2) g.2 in
     let first = same.0 in cc

@@ -4,6 +4,7 @@ use Rattle.mintc_text.specs.Lines.{Follows, IsText, IsFault, IsStuck, text_of, e
 use Rattle.mintc_lines.specs.Fields.{fields_of, plain_line, Spells}
 use Rattle.mintc_lines.proofs.SharedFieldsLaws.{fields-words}
 use Rattle.mintc_lines.proofs.SharedLineLaws.{IsForm, spelled_same}
+use Rattle.mintc_lines.proofs.SharedSpelling.{IsSpelledStep}
 use Rattle.mintc_lines.proofs.SharedReadingLaws.{one_line, words_free}
 
 -- what each line keeps, all lines keep
@@ -96,19 +97,23 @@ pub record IsPlainStep {S : Type 0} (leads : List ℕ → S → Type 0) (P : S �
   pub one : (b c : S) (line : List ℕ) → leads line b → leads line c → b ≡ c
   pub free : (b : S) (line : List ℕ) → leads line b → All (λ x. eqb x 10 ≡ false) line
 
-pub plain_step : {S V : Type 0} (F : V → List (List ℕ) → Type 0) (to : V → S) (P : S → Type 0) → IsForm F → ((v : V) (ws : List (List ℕ)) → F v ws → P (to v)) → IsPlainStep (LeadsBy F to) P
-plain_step F to P form keeps = record {
+pub plain_step : {S V : Type 0} {F : V → List (List ℕ) → Type 0} {to : V → S} {P : S → Type 0} → IsForm F → ((v : V) (ws : List (List ℕ)) → F v ws → P (to v)) → IsPlainStep (LeadsBy F to) P
+plain_step {F = F} {to = to} {P = P} form keeps = record {
   keeps = λ b line h. subst P (sym h.2) (keeps h.0 h.1.0 h.1.1);
   one = λ b c line h g. h.2 ∙ ap to (spelled_one F form h.0 g.0 line h.1 g.1) ∙ sym g.2;
   free = λ b line h. subst (λ (l : List ℕ). All (λ x. eqb x 10 ≡ false) l) (sym h.1.2) (words_free h.1.0 (form.plain h.0 h.1.0 h.1.1));
 }
 
-pub no_step : {S : Type 0} (P : S → Type 0) → IsPlainStep (λ line b. ⊥) P
-no_step P = record { keeps = λ b line h. absurd h; one = λ b c line h g. absurd h; free = λ b line h. absurd h }
+pub no_step : {S : Type 0} {P : S → Type 0} → IsPlainStep (λ line b. ⊥) P
+no_step = record { keeps = λ b line h. absurd h; one = λ b c line h g. absurd h; free = λ b line h. absurd h }
 
--- Values that lead on to one end are one, and so are their lines.
-pub step_by : {S V : Type 0} (F : V → List (List ℕ) → Type 0) (to : V → S) (B : S → Type 0) → IsForm F → ((v w : V) → B (to v) → B (to w) → v ≡ w) →
-    (b c : S) (line other : List ℕ) → LeadsBy F to line b → LeadsBy F to other c → B b → B c → (line ≡ other) × (b ≡ c)
-step_by F to B form same b c line other h g i j =
-    let v = same h.0 g.0 (subst B h.2 i) (subst B g.2 j) in
-    (spelled_same F form.words h.0 g.0 line other v h.1 g.1, h.2 ∙ ap to v ∙ sym g.2)
+-- Two lines that lead on to one end are one, and so are the states that they lead to.
+pub step_by : {S V : Type 0} {F : V → List (List ℕ) → Type 0} {to : V → S} {B : S → Type 0} → IsForm F → ((v w : V) → B (to v) → B (to w) → v ≡ w) → IsSpelledStep (LeadsBy F to) B
+step_by {F = F} {to = to} {B = B} form same = record {
+  alike = λ b c line other h g i j.
+      let v = same h.0 g.0 (subst B h.2 i) (subst B g.2 j) in
+      (spelled_same F form.words h.0 g.0 line other v h.1 g.1, h.2 ∙ ap to v ∙ sym g.2);
+}
+
+pub no_way : {S : Type 0} {leads : List ℕ → S → Type 0} {B : S → Type 0} → ((line : List ℕ) (b : S) → leads line b → B b → ⊥) → IsSpelledStep leads B
+no_way none = record { alike = λ b c line other h g i j. absurd (none line b h i) }

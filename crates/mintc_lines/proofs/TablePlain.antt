@@ -48,30 +48,22 @@ pub bound_form : (k : ℕ) → IsCount k → IsForm (IsBoundLine k)
 bound_form k few = record { plain = plain-bound_line k few; one = bound_one k few; words = λ x ws xs h g. h.1 ∙ sym g.1 }
 
 pub table_step : (a : TableLines) → Counted a → IsPlainStep (NextOfTable a) After
-table_step first p = plain_step (IsCountLine (codes "table") 1 3) (λ n. phases (version_of n)) After (count_form (codes "table") 1 3 refl (omega arith)) (λ n ws h. (tt, tt))
-table_step (phases v) p = plain_step (IsCountLine (codes "phases") 1 999999999) (λ k. phase v k empty) After (total_form (codes "phases") 1 refl) (λ k ws h. ((omega (arith, h.1), refl), tt))
-table_step (phase v (suc left) d) p =
-    plain_step (IsNameLine (codes "phase")) (λ name. phase v left (record d { phases = d.phases ++ name ∷ [] })) After (name_form (codes "phase") refl)
-    (λ name ws h. ((omega (arith, p.0, length-append d.phases (name ∷ [])), p.1), tt))
-table_step (phase v zero d) p =
-    plain_step (IsCountLine (codes "elements") 0 999999999) (λ n. element v n d) After (total_form (codes "elements") 0 refl)
-    (λ n ws h. ((omega (arith, p.0), omega (arith, ap length p.1, h.1)), tt))
-table_step (element v (suc left) d) p =
-    plain_step (IsElementLine v (length d.phases)) (λ e. element v left (record d { elements = d.elements ++ e ∷ [] })) After (element_form v (length d.phases) p.0)
-    (λ e ws h. ((p.0, omega (arith, p.1, length-append d.elements (e ∷ []))), tt))
+table_step first p = plain_step (count_form (codes "table") 1 3 refl (omega arith)) (λ n ws h. (tt, tt))
+table_step (phases v) p = plain_step (total_form (codes "phases") 1 refl) (λ k ws h. ((omega (arith, h.1), refl), tt))
+table_step (phase v (suc left) d) p = plain_step (name_form (codes "phase") refl) (λ name ws h. ((omega (arith, p.0, length-append d.phases (name ∷ [])), p.1), tt))
+table_step (phase v zero d) p = plain_step (total_form (codes "elements") 0 refl) (λ n ws h. ((omega (arith, p.0), omega (arith, ap length p.1, h.1)), tt))
+table_step (element v (suc left) d) p = plain_step (element_form v (length d.phases) p.0) (λ e ws h. ((p.0, omega (arith, p.1, length-append d.elements (e ∷ []))), tt))
 table_step (element v zero d) p =
-    plain_step (IsCountLine (codes "inner") 0 999999999) (λ m. arcs (record d { inner = inner_names m })) After (total_form (codes "inner") 0 refl)
+    plain_step (total_form (codes "inner") 0 refl)
     (λ m ws h. (record { phases_few = p.0; elements_few = omega (arith, p.1); inner_few = omega (arith, h.1, length-inner_names m) }, tt))
-table_step (arcs d) p = plain_step (IsCountLine (codes "arcs") 0 999999999) (λ n. arc n d) After (total_form (codes "arcs") 0 refl) (λ n ws h. (p, tt))
+table_step (arcs d) p = plain_step (total_form (codes "arcs") 0 refl) (λ n ws h. (p, tt))
 table_step (arc (suc left) d) p =
-    plain_step (IsArcLine (length d.elements) (length d.inner)) (λ x. arc left (record d { arcs = d.arcs ++ x ∷ [] })) After (arc_form (length d.elements) (length d.inner) p.elements_few p.inner_few)
+    plain_step (arc_form (length d.elements) (length d.inner) p.elements_few p.inner_few)
     (λ x ws h. (record { phases_few = p.phases_few; elements_few = p.elements_few; inner_few = p.inner_few }, tt))
-table_step (arc zero d) p = plain_step (IsCountLine (codes "bounds") 0 999999999) (λ n. bound n d) After (total_form (codes "bounds") 0 refl) (λ n ws h. (p, tt))
-table_step (bound (suc left) d) p =
-    plain_step (IsBoundLine (length d.phases)) (λ x. bound left (record d { bounds = d.bounds ++ x ∷ [] })) After (bound_form (length d.phases) p.phases_few)
-    (λ x ws h. (record { phases_few = p.phases_few; elements_few = p.elements_few; inner_few = p.inner_few }, tt))
-table_step (bound zero d) p = plain_step (IsWordLine (codes "end")) (λ u. whole d) After (word_form (codes "end") refl) (λ u ws h. (tt, tt))
-table_step (whole d) p = no_step After
+table_step (arc zero d) p = plain_step (total_form (codes "bounds") 0 refl) (λ n ws h. (p, tt))
+table_step (bound (suc left) d) p = plain_step (bound_form (length d.phases) p.phases_few) (λ x ws h. (record { phases_few = p.phases_few; elements_few = p.elements_few; inner_few = p.inner_few }, tt))
+table_step (bound zero d) p = plain_step (word_form (codes "end") refl) (λ u ws h. (tt, tt))
+table_step (whole d) p = no_step
 
 pub table_plain : IsPlainFormat NextOfTable Counted
 table_plain = record {

@@ -7,8 +7,8 @@ use Rattle.mintc_lines.specs.TextLaws.{HaveOneTableText}
 use Rattle.mintc_lines.specs.TableText.{NextOfTable, TableLines, first, phases, phase, element, arcs, arc, bound, whole, empty, inner_names, IsElementLine, IsArcLine, IsBoundLine}
 use Rattle.mintc_lines.proofs.SharedLineLaws.{word_form, name_form}
 use Rattle.mintc_lines.proofs.SharedReadingLaws.{one_line, line_free}
-use Rattle.mintc_lines.proofs.SharedSpelling.{Rest, rest_none, rest_back, rest_same, rest_count, IsSpelled, one_text}
-use Rattle.mintc_lines.proofs.SharedTextLaws.{step_by}
+use Rattle.mintc_lines.proofs.SharedSpelling.{Rest, rest_none, rest_back, rest_same, rest_count, IsSpelled, IsSpelledStep, one_text}
+use Rattle.mintc_lines.proofs.SharedTextLaws.{step_by, no_way}
 use Rattle.mintc_lines.proofs.TablePlain.{After, table_plain, table_step, total_form, element_form, arc_form, bound_form}
 use Rattle.mintc_lines.proofs.TableReading.{length-inner_names}
 
@@ -47,34 +47,19 @@ back (bound zero d) b line f h g = whole_known d f (subst (λ (x : TableLines). 
 back (whole d) b line f h g = absurd h
 
 -- After the first line, whose number is the version, one line leads on.
-step : (a b c : TableLines) (line other : List ℕ) (f : Design) → After a → NextOfTable a line b → NextOfTable a other c → Begins b f → Begins c f → (line ≡ other) × (b ≡ c)
-step first b c line other f p h g i j = absurd p.1
-step (phases v) b c line other f p h g i j =
-    step_by (IsCountLine (codes "phases") 1 999999999) (λ k. phase v k empty) (λ x. Begins x f) (total_form (codes "phases") 1 refl) (λ m n k l. rest_count [] f.phases m n k l) b c line other h g i j
-step (phase v (suc left) d) b c line other f p h g i j =
-    step_by (IsNameLine (codes "phase")) (λ name. phase v left (record d { phases = d.phases ++ name ∷ [] })) (λ x. Begins x f) (name_form (codes "phase") refl)
-    (λ x y k l. rest_same d.phases f.phases x y left left k l) b c line other h g i j
-step (phase v zero d) b c line other f p h g i j =
-    step_by (IsCountLine (codes "elements") 0 999999999) (λ n. element v n d) (λ x. Begins x f) (total_form (codes "elements") 0 refl)
-    (λ m n k l. rest_count d.elements f.elements m n k.1 l.1) b c line other h g i j
-step (element v (suc left) d) b c line other f p h g i j =
-    step_by (IsElementLine v (length d.phases)) (λ e. element v left (record d { elements = d.elements ++ e ∷ [] })) (λ x. Begins x f) (element_form v (length d.phases) p.0.0)
-    (λ x y k l. rest_same d.elements f.elements x y left left k.1 l.1) b c line other h g i j
-step (element v zero d) b c line other f p h g i j =
-    step_by (IsCountLine (codes "inner") 0 999999999) (λ m. arcs (record d { inner = inner_names m })) (λ x. Begins x f) (total_form (codes "inner") 0 refl)
-    (λ m n k l. sym (length-inner_names m) ∙ ap length (sym k.2 ∙ l.2) ∙ length-inner_names n) b c line other h g i j
-step (arcs d) b c line other f p h g i j =
-    step_by (IsCountLine (codes "arcs") 0 999999999) (λ n. arc n d) (λ x. Begins x f) (total_form (codes "arcs") 0 refl) (λ m n k l. rest_count d.arcs f.arcs m n k.3 l.3) b c line other h g i j
-step (arc (suc left) d) b c line other f p h g i j =
-    step_by (IsArcLine (length d.elements) (length d.inner)) (λ x. arc left (record d { arcs = d.arcs ++ x ∷ [] })) (λ x. Begins x f)
-    (arc_form (length d.elements) (length d.inner) p.0.elements_few p.0.inner_few) (λ x y k l. rest_same d.arcs f.arcs x y left left k.3 l.3) b c line other h g i j
-step (arc zero d) b c line other f p h g i j =
-    step_by (IsCountLine (codes "bounds") 0 999999999) (λ n. bound n d) (λ x. Begins x f) (total_form (codes "bounds") 0 refl) (λ m n k l. rest_count d.bounds f.bounds m n k.4 l.4) b c line other h g i j
-step (bound (suc left) d) b c line other f p h g i j =
-    step_by (IsBoundLine (length d.phases)) (λ x. bound left (record d { bounds = d.bounds ++ x ∷ [] })) (λ x. Begins x f) (bound_form (length d.phases) p.0.phases_few)
-    (λ x y k l. rest_same d.bounds f.bounds x y left left k.4 l.4) b c line other h g i j
-step (bound zero d) b c line other f p h g i j = step_by (IsWordLine (codes "end")) (λ u. whole d) (λ x. Begins x f) (word_form (codes "end") refl) (λ u w k l. refl) b c line other h g i j
-step (whole d) b c line other f p h g i j = absurd h
+step : (a : TableLines) (f : Design) → After a → IsSpelledStep (NextOfTable a) (λ b. Begins b f)
+step first f p = no_way (λ line b h i. p.1)
+step (phases v) f p = step_by (total_form (codes "phases") 1 refl) (λ m n k l. rest_count [] f.phases m n k l)
+step (phase v (suc left) d) f p = step_by (name_form (codes "phase") refl) (λ x y k l. rest_same d.phases f.phases x y left left k l)
+step (phase v zero d) f p = step_by (total_form (codes "elements") 0 refl) (λ m n k l. rest_count d.elements f.elements m n k.1 l.1)
+step (element v (suc left) d) f p = step_by (element_form v (length d.phases) p.0.0) (λ x y k l. rest_same d.elements f.elements x y left left k.1 l.1)
+step (element v zero d) f p = step_by (total_form (codes "inner") 0 refl) (λ m n k l. sym (length-inner_names m) ∙ ap length (sym k.2 ∙ l.2) ∙ length-inner_names n)
+step (arcs d) f p = step_by (total_form (codes "arcs") 0 refl) (λ m n k l. rest_count d.arcs f.arcs m n k.3 l.3)
+step (arc (suc left) d) f p = step_by (arc_form (length d.elements) (length d.inner) p.0.elements_few p.0.inner_few) (λ x y k l. rest_same d.arcs f.arcs x y left left k.3 l.3)
+step (arc zero d) f p = step_by (total_form (codes "bounds") 0 refl) (λ m n k l. rest_count d.bounds f.bounds m n k.4 l.4)
+step (bound (suc left) d) f p = step_by (bound_form (length d.phases) p.0.phases_few) (λ x y k l. rest_same d.bounds f.bounds x y left left k.4 l.4)
+step (bound zero d) f p = step_by (word_form (codes "end") refl) (λ u w k l. refl)
+step (whole d) f p = no_way (λ line b h i. h)
 
 spelled : IsSpelled NextOfTable After whole Begins
 spelled = record { keeps = λ a b line p h. (table_step a p.0).keeps b line h; last = λ d line b h. h; ends = λ d. refl; back = back; step = step }
