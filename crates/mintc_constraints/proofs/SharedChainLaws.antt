@@ -1,23 +1,17 @@
 -- Chains of links, and what they say of cycle times.
-use Rattle.std.proofs.Common.{◌≡◌, ℕ, ℤ, pos, ◌≤ℤ◌, ◌+ℤ◌, ◌-ℤ◌, ◌*ℤ◌, List, [], ◌∷◌, get_or, arith, refl, ap, ◌∙◌, sym}
+use Rattle.std.proofs.Common.{ℤ, List, arith, refl}
 use Rattle.std.proofs.lemmas.Int.{ints}
-use Rattle.std.proofs.Math.IntN.{*ℤ_comm}
-use Rattle.std.proofs.lemmas.List.Elements.{All-head, All-tail, All-contains}
-use Rattle.std.specs.List.{All, Contains}
-use Rattle.mintc_walks.specs.Walks.{value_at}
 use Rattle.mintc_timing.specs.declared.clocking.Schedule.{Schedule}
 use Rattle.mintc_timing.specs.declared.link.Link.{Link}
-use Rattle.mintc_rings.specs.Rings.{Joins, IsClosed}
 use Rattle.mintc_timing.specs.Design.{Timing}
 use Rattle.mintc_timing.specs.Limits.{IsDesign}
-use Rattle.mintc_timing.specs.Links.{links_of, IsChain, delay_of, cycles_of, IsMet}
+use Rattle.mintc_timing.specs.Links.{links_of, IsChain, delay_of, cycles_of}
 use Rattle.mintc_timing.specs.Right.{IsRight}
 use Rattle.mintc_timing.specs.Times.{node_time}
 use Rattle.mintc_timing.proofs.SharedChains.{chain-at_most, no_more, no_less}
 use Rattle.mintc_timing.proofs.SharedDeterminedLaws.{forbids_all_lem}
 use Rattle.mintc_timing.proofs.SharedMeetingLaws.{right_meets_links_lem}
-use Rattle.mintc_timing.proofs.SharedProducts.{swap-times, times-mono_positive, times-cancel_positive}
-use Rattle.mintc_constraints.specs.Duality.{moments_of, schedule_of, departures_of, ForbiddenIsNotRight, StuckIsHopeless, TightIsLeast}
+use Rattle.mintc_constraints.specs.Duality.{schedule_of, departures_of, ForbiddenIsNotRight, StuckIsHopeless, TightIsLeast}
 use Rattle.mintc_timing.specs.Paths.{HasEnds}
 use Rattle.mintc_constraints.specs.Fitting.{Fits, MetChainsFit, TightFitsNoLess, StuckFitsNowhere}
 use Rattle.mintc_constraints.proofs.SharedMomentLaws.{moments_are_right_lem}

@@ -18,7 +18,7 @@ use Rattle.mintc_timing.specs.Extremes.{greater_of, greatest_of}
 use Rattle.mintc_timing.specs.Clocking.{crosses_of, feeds_of, least_width}
 use Rattle.mintc_timing.specs.Limits.{IsPhase, IsElement, IsDesign, IsDelay, IsGap, IsPoint}
 use Rattle.mintc_timing.specs.Order.{IsTiming}
-use Rattle.mintc_timing.specs.Paths.{ArePairs, HasEnds}
+use Rattle.mintc_timing.specs.Paths.{HasEnds}
 use Rattle.mintc_timing.specs.Links.{links_of, start_node, end_node, element_node, output_node, point_node, start_link, cycle_link, order_link, span_link, width_link, apart_link, opening_link, opened_link, reach_link, setup_link, bound_link, latches_of, no_link, link_at}
 use Rattle.mintc_timing.specs.Violations.{phases_of, elements_of}
 use Rattle.mintc_timing.proofs.SharedExtremesLaws.{greatest_is, greater-least, greater-attained}

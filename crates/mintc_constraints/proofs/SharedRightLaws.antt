@@ -1,26 +1,25 @@
 -- The moments of a right schedule with its departures meet each link, exactly at the latches.
-use Rattle.std.proofs.Common.{◌≡◌, ℕ, ◌<◌, ℤ, pos, ◌≤ℤ◌, ◌+ℤ◌, ◌-ℤ◌, ◌*ℤ◌, Bool, true, false, cond, List, length, get_or, arith, refl, ap, ◌∙◌, sym, ⊎_elim}
+use Rattle.std.proofs.Common.{◌≡◌, ℕ, ◌<◌, ℤ, pos, ◌+ℤ◌, ◌-ℤ◌, ◌*ℤ◌, false, List, get_or, arith, refl, ap, ◌∙◌, sym, ⊎_elim}
 use Rattle.std.proofs.lemmas.Int.{ints}
 use Rattle.std.proofs.lemmas.List.FromFn.{length-map-range_with_len, get_or-map-range_with_len}
 use Rattle.std.specs.List.{All, Contains}
 use Rattle.mintc_walks.specs.Walks.{value_at}
 use Rattle.mintc_timing.specs.declared.clocking.Schedule.{Schedule}
 use Rattle.mintc_timing.specs.declared.link.Link.{Link}
-use Rattle.mintc_timing.specs.Design.{Timing, phase_count, element_count, element_at, phase_of, pair_at, no_element, no_pair}
+use Rattle.mintc_timing.specs.Design.{Timing, element_count, element_at, phase_of, pair_at, no_element}
 use Rattle.mintc_timing.specs.Clocking.{start_of}
-use Rattle.mintc_timing.specs.Departures.{departure, late_arrival, late_opening}
-use Rattle.mintc_timing.specs.Limits.{IsPhase, IsDesign}
-use Rattle.mintc_timing.specs.Links.{links_of, start_node, element_node, output_node, opening_link, reach_link, IsMet, earliest_end}
+use Rattle.mintc_timing.specs.Departures.{late_opening}
+use Rattle.mintc_timing.specs.Limits.{IsDesign}
+use Rattle.mintc_timing.specs.Links.{links_of, element_node, opening_link, reach_link, IsMet, earliest_end}
 use Rattle.mintc_timing.specs.Right.{IsRight}
 use Rattle.mintc_timing.specs.Times.{node_time, Meets}
-use Rattle.mintc_timing.proofs.SharedDepartureLaws.{late_departure-latch, late_departure-flop}
 use Rattle.mintc_timing.proofs.SharedLinkLaws.{moment-latch, departs, arrival_is, each_met}
-use Rattle.mintc_timing.proofs.SharedTimesLaws.{node_time-start, node_time-element}
+use Rattle.mintc_timing.proofs.SharedTimesLaws.{node_time-start}
 use Rattle.mintc_constraints.specs.Laws.{node_count}
 use Rattle.mintc_constraints.specs.Duality.{IsBrought, AreExactMoments, moments_of, RightHasMoments}
 use Rattle.mintc_timing.specs.Paths.{HasEnds}
-use Rattle.mintc_timing.proofs.SharedArrivals.{latest, ArrivesBy, latest-arrives, latest-attained, each-from_greatest}
-use Rattle.mintc_timing.proofs.SharedByKind.{EachKind, All-links, stands}
+use Rattle.mintc_timing.proofs.SharedArrivals.{latest, ArrivesBy, latest-attained}
+use Rattle.mintc_timing.proofs.SharedByKind.{All-links, stands}
 use Rattle.mintc_constraints.proofs.SharedOrdinaryLaws.{each_between, number_of}
 
 module _ (t : Timing) (s : Schedule) (d : List ℤ) (limits : IsDesign t.flat) (ends : HasEnds t) (right : IsRight t s d) where

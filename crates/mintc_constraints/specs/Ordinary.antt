@@ -1,5 +1,5 @@
 -- Lists of links within their limits.
-use Rattle.std.specs.Prelude.{◌≡◌, ◌<◌, ◌≤◌, ◌^◌, ℕ, pos, negsuc, ◌≤ℤ◌, List, [], ◌∷◌, length, slice_index_or, All}
+use Rattle.std.specs.Prelude.{◌≡◌, ◌<◌, ◌≤◌, ◌^◌, ℕ, pos, negsuc, ◌≤ℤ◌, List, length, All}
 use Rattle.mintc_timing.specs.declared.link.Link.{Link}
 use Rattle.mintc_rings.specs.Rings.{LeadsBy}
 use Rattle.mintc_timing.specs.Links.{no_link, link_at}

@@ -1,4 +1,6 @@
 //! The links of a system.
+#![tactic(auto, using(crate::proofs::Appending::turns))]
+
 ghost use Rattle.std.specs.Prelude.{◌≡◌, ◌<◌, ◌+◌, ◌-◌, ◌*◌, ◌++◌, ◌∷◌, [], ℕ, false, length, if◌then◌else◌, map, flat_map, slice_index_or, IfOk, OnOk};
 ghost use Rattle.std.specs.List.{enumerate_from, filter, range_with_len};
 ghost use Rattle.mintc_timing.specs.Clocking.{feeds_of};
