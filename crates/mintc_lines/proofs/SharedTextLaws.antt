@@ -3,8 +3,6 @@ use Rattle.std.proofs.Common.{◌≡◌, ◌≢◌, ℕ, suc, true, false, List,
 use Rattle.mintc_text.specs.Lines.{Follows, IsText, IsFault, IsStuck, text_of, ended, words}
 use Rattle.mintc_lines.specs.Fields.{fields_of, plain_line, Spells}
 use Rattle.mintc_lines.proofs.SharedFieldsLaws.{fields-words}
-use Rattle.mintc_lines.proofs.SharedLineLaws.{IsForm, spelled_same}
-use Rattle.mintc_lines.proofs.SharedSpelling.{IsSpelledStep}
 use Rattle.mintc_lines.proofs.SharedReadingLaws.{one_line, words_free}
 
 -- what each line keeps, all lines keep
@@ -80,40 +78,11 @@ text_one_fault next is_end P plain start text m n p f g =
 pub words_same : (line : List ℕ) (ws xs : List (List ℕ)) → plain_line ws ≡ true → plain_line xs ≡ true → line ≡ words ws → line ≡ words xs → ws ≡ xs
 words_same line ws xs h g e f = sym (fields-words ws h) ∙ ap fields_of (sym e ∙ f) ∙ fields-words xs g
 
-spelled_one : {V : Type 0} (F : V → List (List ℕ) → Type 0) → IsForm F → (v w : V) (line : List ℕ) → Spells F v line → Spells F w line → v ≡ w
-spelled_one F form v w line h g =
-    let same = words_same line h.0 g.0 (form.plain v h.0 h.1) (form.plain w g.0 g.1) h.2 g.2 in
-    form.one v w g.0 (subst (F v) same h.1) g.1
+pub spelled_one : {V : Type 0} (F : V → List (List ℕ) → Type 0) → ((v : V) (ws : List (List ℕ)) → F v ws → plain_line ws ≡ true) → ((v w : V) (ws : List (List ℕ)) → F v ws → F w ws → v ≡ w) →
+    (v w : V) (line : List ℕ) → Spells F v line → Spells F w line → v ≡ w
+spelled_one F plain one v w line h g =
+    let same = words_same line h.0 g.0 (plain v h.0 h.1) (plain w g.0 g.1) h.2 g.2 in
+    one v w g.0 (subst (F v) same h.1) g.1
 
--- ---- a state after which lines of one form come
-
--- The line spells a value, and the value leads to the state.
-abbrev pub LeadsBy : {S V : Type 0} → (V → List (List ℕ) → Type 0) → (V → S) → List ℕ → S → Type 0
-LeadsBy {S} {V} F to line after = (v : V) × Spells F v line × (after ≡ to v)
-
--- A line leads to one state, of which this holds, and has no line feed.
-pub record IsPlainStep {S : Type 0} (leads : List ℕ → S → Type 0) (P : S → Type 0) : Type 0 where
-  pub keeps : (b : S) (line : List ℕ) → leads line b → P b
-  pub one : (b c : S) (line : List ℕ) → leads line b → leads line c → b ≡ c
-  pub free : (b : S) (line : List ℕ) → leads line b → All (λ x. eqb x 10 ≡ false) line
-
-pub plain_step : {S V : Type 0} {F : V → List (List ℕ) → Type 0} {to : V → S} {P : S → Type 0} → IsForm F → ((v : V) (ws : List (List ℕ)) → F v ws → P (to v)) → IsPlainStep (LeadsBy F to) P
-plain_step {F = F} {to = to} {P = P} form keeps = record {
-  keeps = λ b line h. subst P (sym h.2) (keeps h.0 h.1.0 h.1.1);
-  one = λ b c line h g. h.2 ∙ ap to (spelled_one F form h.0 g.0 line h.1 g.1) ∙ sym g.2;
-  free = λ b line h. subst (λ (l : List ℕ). All (λ x. eqb x 10 ≡ false) l) (sym h.1.2) (words_free h.1.0 (form.plain h.0 h.1.0 h.1.1));
-}
-
-pub no_step : {S : Type 0} {P : S → Type 0} → IsPlainStep (λ line b. ⊥) P
-no_step = record { keeps = λ b line h. absurd h; one = λ b c line h g. absurd h; free = λ b line h. absurd h }
-
--- Two lines that lead on to one end are one, and so are the states that they lead to.
-pub step_by : {S V : Type 0} {F : V → List (List ℕ) → Type 0} {to : V → S} {B : S → Type 0} → IsForm F → ((v w : V) → B (to v) → B (to w) → v ≡ w) → IsSpelledStep (LeadsBy F to) B
-step_by {F = F} {to = to} {B = B} form same = record {
-  alike = λ b c line other h g i j.
-      let v = same h.0 g.0 (subst B h.2 i) (subst B g.2 j) in
-      (spelled_same F form.words h.0 g.0 line other v h.1 g.1, h.2 ∙ ap to v ∙ sym g.2);
-}
-
-pub no_way : {S : Type 0} {leads : List ℕ → S → Type 0} {B : S → Type 0} → ((line : List ℕ) (b : S) → leads line b → B b → ⊥) → IsSpelledStep leads B
-no_way none = record { alike = λ b c line other h g i j. absurd (none line b h i) }
+pub spelled_free : {V : Type 0} (F : V → List (List ℕ) → Type 0) → ((v : V) (ws : List (List ℕ)) → F v ws → plain_line ws ≡ true) → (v : V) (line : List ℕ) → Spells F v line → All (λ x. eqb x 10 ≡ false) line
+spelled_free F plain v line h = subst (λ (l : List ℕ). All (λ x. eqb x 10 ≡ false) l) (sym h.2) (words_free h.0 (plain v h.0 h.1))
