@@ -1,19 +1,14 @@
 -- The lines of a certificate are plain, and a text has one certificate or one first line out of form.
 use Rattle.std.proofs.Common.{◌≡◌, ℕ, zero, suc, ℤ, pos, negsuc, ◌≤ℤ◌, ◌<◌, ◌^◌, true, false, Bool, if◌then◌else◌, List, [], ◌∷◌, ◌++◌, All, refl, ap, ◌∙◌, sym, arith, codes, eqb}
 use Rattle.std.proofs.lemmas.Int.{ints}
-use Rattle.mintc_lines.specs.Fields.{plain, plain_line, Spells, IsWordLine, IsNumberLine, IsCountLine}
-use Rattle.mintc_lines.specs.Texts.{IsPhaseLine, no_phases, with_phase}
-use Rattle.mintc_lines.proofs.SharedLineLaws.{count_one, number_one}
-use Rattle.mintc_lines.proofs.SharedReadingLaws.{plain-count_line, plain-number_line, plain-word_line}
-use Rattle.mintc_lines.proofs.SharedScheduleLaws.{phase_one, plain-den, plain-cycle}
-use Rattle.mintc_lines.proofs.SharedScheduleReading.{plain-phase_line}
-use Rattle.mintc_lines.proofs.SharedTextLaws.{IsPlainFormat, text_one_end, text_no_fault, text_one_fault, spelled_one, spelled_free}
+use Rattle.mintc_lines.specs.Fields.{IsWordLine, IsCountLine}
+use Rattle.mintc_lines.proofs.SharedLineLaws.{IsForm, word_form, count_form, number_form}
+use Rattle.mintc_lines.proofs.SharedScheduleLaws.{den_form, cycle_form, phases_form, phase_form}
+use Rattle.mintc_lines.proofs.SharedTextLaws.{IsPlainFormat, IsPlainStep, plain_step, no_step, text_one_end, text_no_fault, text_one_fault}
 use Rattle.mintc_certificate.specs.declared.certificate.Certificate.{Certificate}
-use Rattle.mintc_certificate.specs.declared.certificate.Certificate.TheVariants.{Least, Never}
-use Rattle.mintc_certificate.specs.declared.members.Member.{Member}
 use Rattle.mintc_certificate.specs.declared.version.Version.{Version}
 use Rattle.mintc_certificate.specs.declared.version.Version.TheVariants.{First, Second}
-use Rattle.mintc_certificate.specs.CertificateText.{NextOfCertificate, IsWholeCertificate, CertificateLines, first, outcome, den, cycle, phases, phase, departure, never, link, whole, version_of, least_departure, with_member, IsOutcomeLine, IsMemberLine}
+use Rattle.mintc_certificate.specs.CertificateText.{NextOfCertificate, IsWholeCertificate, CertificateLines, first, outcome, den, cycle, phases, phase, departure, never, link, whole, least_departure, IsOutcomeLine, IsChainLine, IsMemberLine}
 use Rattle.mintc_certificate.specs.TextLaws.{HaveOneCertificate, HaveNoCertificateFault, HaveOneCertificateFault}
 use Rattle.mintc_certificate.proofs.CertificateReading.{IsDepartureLine, plain-outcome_line}
 use Rattle.mintc_certificate.proofs.MemberLaws.{plain-member_line, member_one}
@@ -36,64 +31,54 @@ least_short : (v : Version) → negsuc 999999999999999998 ≤ℤ least_departure
 least_short First = omega (arith, ints)
 least_short Second = omega (arith, ints)
 
-plain-departure : (v : Version) (z : ℤ) (ws : List (List ℕ)) → IsDepartureLine v z ws → plain_line ws ≡ true
-plain-departure v = plain-number_line (codes "departure") (least_departure v) (pos 100000000000000) refl (least_short v) (omega (arith, ints))
+-- the forms of a certificate's lines
+pub outcome_form : IsForm IsOutcomeLine
+outcome_form = record { plain = plain-outcome_line; one = outcome_one; words = λ b ws xs h g. h ∙ sym g }
 
-one_count : (word : List ℕ) (least most : ℕ) → plain word ≡ true → most < 2 ^ 32 → (m n : ℕ) (line : List ℕ) → Spells (IsCountLine word least most) m line → Spells (IsCountLine word least most) n line → m ≡ n
-one_count word least most plain_word few = spelled_one (IsCountLine word least most) (plain-count_line word least most plain_word few) (count_one word least most few)
+pub departure_form : (v : Version) → IsForm (IsDepartureLine v)
+departure_form v = number_form (codes "departure") (least_departure v) (pos 100000000000000) refl (least_short v) (omega (arith, ints))
 
-free_count : (word : List ℕ) (least most : ℕ) → plain word ≡ true → most < 2 ^ 32 → (n : ℕ) (line : List ℕ) → Spells (IsCountLine word least most) n line → All (λ x. eqb x 10 ≡ false) line
-free_count word least most plain_word few = spelled_free (IsCountLine word least most) (plain-count_line word least most plain_word few)
+pub departures_form : IsForm (IsCountLine (codes "departures") 0 999999999)
+departures_form = count_form (codes "departures") 0 999999999 refl (omega arith)
+
+pub chain_form : IsForm IsChainLine
+chain_form = count_form (codes "chain") 1 4096 refl (omega arith)
+
+pub member_form : (v : Version) → IsForm (IsMemberLine v)
+member_form v = record { plain = plain-member_line v; one = member_one v; words = λ m ws xs h g. h.spelled ∙ sym g.spelled }
+
+pub end_form : IsForm (IsWordLine (codes "end"))
+end_form = word_form (codes "end") refl
+
+-- the first line was read
+abbrev pub Begun : CertificateLines → Type 0
+Begun first = ⊥
+Begun lines = Unit {0}
+
+begun_outcome : (v : Version) (x : Bool) → Begun (if x then den v else never v)
+begun_outcome v true = tt
+begun_outcome v false = tt
+
+pub certificate_step : (a : CertificateLines) → IsPlainStep (NextOfCertificate a) Begun
+certificate_step first = plain_step (count_form (codes "certificate") 1 2 refl (omega arith)) (λ n ws h. tt)
+certificate_step (outcome v) = plain_step outcome_form (λ x ws h. begun_outcome v x)
+certificate_step (den v) = plain_step den_form (λ d ws h. tt)
+certificate_step (cycle v d) = plain_step cycle_form (λ t ws h. tt)
+certificate_step (phases v d t) = plain_step phases_form (λ k ws h. tt)
+certificate_step (phase v (suc left) s) = plain_step phase_form (λ p ws h. tt)
+certificate_step (phase v zero s) = plain_step departures_form (λ n ws h. tt)
+certificate_step (departure v (suc left) s ds) = plain_step (departure_form v) (λ d ws h. tt)
+certificate_step (departure v zero s ds) = plain_step chain_form (λ m ws h. tt)
+certificate_step (never v) = plain_step chain_form (λ m ws h. tt)
+certificate_step (link v (suc left) c) = plain_step (member_form v) (λ m ws h. tt)
+certificate_step (link v zero c) = plain_step end_form (λ u ws h. tt)
+certificate_step (whole c) = no_step
 
 abbrev pub Any : CertificateLines → Type 0
 Any a = Unit {0}
 
-certificate_one : (a b c : CertificateLines) (line : List ℕ) → Any a → NextOfCertificate a line b → NextOfCertificate a line c → b ≡ c
-certificate_one first b c line p h g =
-    h.2 ∙ ap (λ (n : ℕ). outcome (version_of n)) (one_count (codes "certificate") 1 2 refl (omega arith) h.0 g.0 line h.1 g.1) ∙ sym g.2
-certificate_one (outcome v) b c line p h g =
-    h.2 ∙ ap (λ (x : Bool). if x then den v else never v) (spelled_one IsOutcomeLine plain-outcome_line outcome_one h.0 g.0 line h.1 g.1) ∙ sym g.2
-certificate_one (den v) b c line p h g =
-    let same = spelled_one (IsNumberLine (codes "den") (pos 1) (pos 100000)) plain-den (number_one (codes "den") (pos 1) (pos 100000) (omega (arith, ints)) (omega (arith, ints))) h.0 g.0 line h.1 g.1 in
-    h.2 ∙ ap (cycle v) same ∙ sym g.2
-certificate_one (cycle v d) b c line p h g =
-    let same = spelled_one (IsNumberLine (codes "cycle") (pos 0) (pos 100000000000000)) plain-cycle (number_one (codes "cycle") (pos 0) (pos 100000000000000) (omega (arith, ints)) (omega (arith, ints))) h.0 g.0 line h.1 g.1 in
-    h.2 ∙ ap (phases v d) same ∙ sym g.2
-certificate_one (phases v d t) b c line p h g =
-    h.2 ∙ ap (λ (k : ℕ). phase v k (no_phases d t)) (one_count (codes "phases") 1 8 refl (omega arith) h.0 g.0 line h.1 g.1) ∙ sym g.2
-certificate_one (phase v (suc left) s) b c line p h g =
-    h.2 ∙ ap (λ (x : ℤ × ℤ). phase v left (with_phase s x)) (spelled_one IsPhaseLine plain-phase_line phase_one h.0 g.0 line h.1 g.1) ∙ sym g.2
-certificate_one (phase v zero s) b c line p h g =
-    h.2 ∙ ap (λ (n : ℕ). departure v n s []) (one_count (codes "departures") 0 999999999 refl (omega arith) h.0 g.0 line h.1 g.1) ∙ sym g.2
-certificate_one (departure v (suc left) s ds) b c line p h g =
-    let same = spelled_one (IsDepartureLine v) (plain-departure v) (number_one (codes "departure") (least_departure v) (pos 100000000000000) (least_short v) (omega (arith, ints))) h.0 g.0 line h.1 g.1 in
-    h.2 ∙ ap (λ (d : ℤ). departure v left s (ds ++ d ∷ [])) same ∙ sym g.2
-certificate_one (departure v zero s ds) b c line p h g =
-    h.2 ∙ ap (λ (m : ℕ). link v m (Least s ds [])) (one_count (codes "chain") 1 4096 refl (omega arith) h.0 g.0 line h.1 g.1) ∙ sym g.2
-certificate_one (never v) b c line p h g =
-    h.2 ∙ ap (λ (m : ℕ). link v m (Never [])) (one_count (codes "chain") 1 4096 refl (omega arith) h.0 g.0 line h.1 g.1) ∙ sym g.2
-certificate_one (link v (suc left) c') b c line p h g =
-    h.2 ∙ ap (λ (m : Member). link v left (with_member c' m)) (spelled_one (IsMemberLine v) (plain-member_line v) (member_one v) h.0 g.0 line h.1 g.1) ∙ sym g.2
-certificate_one (link v zero c') b c line p h g = h.2 ∙ sym g.2
-certificate_one (whole c') b c line p h g = absurd h
-
-certificate_free : (a b : CertificateLines) (line : List ℕ) → Any a → NextOfCertificate a line b → All (λ x. eqb x 10 ≡ false) line
-certificate_free first b line p h = free_count (codes "certificate") 1 2 refl (omega arith) h.0 line h.1
-certificate_free (outcome v) b line p h = spelled_free IsOutcomeLine plain-outcome_line h.0 line h.1
-certificate_free (den v) b line p h = spelled_free (IsNumberLine (codes "den") (pos 1) (pos 100000)) plain-den h.0 line h.1
-certificate_free (cycle v d) b line p h = spelled_free (IsNumberLine (codes "cycle") (pos 0) (pos 100000000000000)) plain-cycle h.0 line h.1
-certificate_free (phases v d t) b line p h = free_count (codes "phases") 1 8 refl (omega arith) h.0 line h.1
-certificate_free (phase v (suc left) s) b line p h = spelled_free IsPhaseLine plain-phase_line h.0 line h.1
-certificate_free (phase v zero s) b line p h = free_count (codes "departures") 0 999999999 refl (omega arith) h.0 line h.1
-certificate_free (departure v (suc left) s ds) b line p h = spelled_free (IsDepartureLine v) (plain-departure v) h.0 line h.1
-certificate_free (departure v zero s ds) b line p h = free_count (codes "chain") 1 4096 refl (omega arith) h.0 line h.1
-certificate_free (never v) b line p h = free_count (codes "chain") 1 4096 refl (omega arith) h.0 line h.1
-certificate_free (link v (suc left) c) b line p h = spelled_free (IsMemberLine v) (plain-member_line v) h.0 line h.1
-certificate_free (link v zero c) b line p h = spelled_free (IsWordLine (codes "end")) (plain-word_line (codes "end") refl) h.0 line h.1
-certificate_free (whole c) b line p h = absurd h
-
 pub certificate_plain : IsPlainFormat NextOfCertificate Any
-certificate_plain = record { keeps = λ a b line p h. tt; one = certificate_one; free = certificate_free }
+certificate_plain = record { keeps = λ a b line p h. tt; one = λ a b c line p h g. (certificate_step a).one b c line h g; free = λ a b line p h. (certificate_step a).free b line h }
 
 whole_same : (c d : Certificate) → whole c ≡ whole d → c ≡ d
 whole_same c d e = cc

@@ -4,12 +4,12 @@ use Rattle.std.proofs.lemmas.Int.{ints}
 use Rattle.std.specs.Fmt.{digits}
 use Rattle.mintc_text.specs.Lines.{Follows, IsWithin, ended}
 use Rattle.mintc_lines.specs.Fields.{number}
+use Rattle.mintc_lines.proofs.SharedTextLaws.{after_first}
 use Rattle.mintc_certificate.specs.declared.version.Version.{Version}
 use Rattle.mintc_certificate.specs.declared.version.Version.TheVariants.{First, Second}
 use Rattle.mintc_certificate.specs.CertificateText.{NextOfCertificate, CertificateLines, first, outcome, den, cycle, phases, phase, departure, never, link, whole, least_departure}
 use Rattle.mintc_certificate.specs.TextLaws.{SecondSaysFirst}
-use Rattle.mintc_certificate.proofs.CertificatePlain.{certificate_plain}
-use Rattle.mintc_certificate.proofs.CertificateSpelling.{Begun, begun_next, after_first}
+use Rattle.mintc_certificate.proofs.CertificatePlain.{Begun, certificate_step, certificate_plain}
 use Rattle.mintc_certificate.proofs.CertificateWritten.{first_written, free_all}
 
 -- a state with the second version in place of its own
@@ -51,7 +51,7 @@ raised (whole c) b line begun h = absurd h
 
 raised_all : (a b : CertificateLines) (lines : List (List ℕ)) → Begun a → Follows NextOfCertificate a lines b → Follows NextOfCertificate (raise a) lines (raise b)
 raised_all a b [] begun h = ap raise h
-raised_all a b (line ∷ lines) begun h = (raise h.0, raised a h.0 line begun h.1, raised_all h.0 b lines (begun_next a h.0 line h.1) h.2)
+raised_all a b (line ∷ lines) begun h = (raise h.0, raised a h.0 line begun h.1, raised_all h.0 b lines ((certificate_step a).keeps h.0 line h.1) h.2)
 
 first_line : NextOfCertificate first (codes "certificate 1") (outcome First)
 unfolding digits
@@ -62,11 +62,11 @@ first_line_free = free_all (codes "certificate 1") (certificate_plain.free first
 
 pub second_says_first : SecondSaysFirst
 second_says_first x c h =
-    let a = after_first (codes "certificate 1") x c h.lines first_line_free h.whole h.follows in
-    let state : a.0 ≡ outcome First = certificate_plain.one first a.0 (outcome First) (codes "certificate 1") tt a.2 first_line in
-    let rest = subst (λ (s : CertificateLines). Follows NextOfCertificate s a.1 (whole c)) state a.4 in
+    let a = after_first certificate_plain tt (λ e. cc e) (codes "certificate 1") x first_line_free h in
+    let state : a.state ≡ outcome First = certificate_plain.one first a.state (outcome First) (codes "certificate 1") tt a.begins first_line in
+    let rest = subst (λ (s : CertificateLines). Follows NextOfCertificate s a.lines (whole c)) state a.follows in
     record {
-      lines = codes "certificate 2" ∷ a.1;
-      whole = ap (λ (y : List ℕ). ended (codes "certificate 2") ++ y) a.3;
-      follows = (outcome Second, first_written, raised_all (outcome First) (whole c) a.1 tt rest);
+      lines = codes "certificate 2" ∷ a.lines;
+      whole = ap (λ (y : List ℕ). ended (codes "certificate 2") ++ y) a.whole;
+      follows = (outcome Second, first_written, raised_all (outcome First) (whole c) a.lines tt rest);
     }

@@ -1,5 +1,5 @@
 -- The words of members, and what the reader finds among them.
-use Rattle.std.proofs.Common.{◌≡◌, ◌≢◌, ℕ, ◌<◌, ◌≤◌, ◌+◌, true, if◌then◌else◌, Option, Some, None, MatchOption, Result, Ok, Err, MatchResult, List, [], ◌∷◌, ◌++◌, length, length-append, map, refl, ap, ◌∙◌, sym, subst, arith, codes, append_assoc}
+use Rattle.std.proofs.Common.{◌≡◌, ◌≢◌, ℕ, ◌<◌, ◌≤◌, ◌+◌, true, if◌then◌else◌, Option, Some, None, MatchOption, Result, Ok, Err, MatchResult, List, [], ◌∷◌, ◌++◌, length, length-append, drop, map, refl, ap, ◌∙◌, sym, subst, arith, codes, append_assoc}
 use Rattle.std.proofs.lemmas.Fmt.{decimal_injective}
 use Rattle.std.proofs.lemmas.List.{append-nil, map-append}
 use Rattle.std.proofs.lemmas.List.Elements.{All-head, All-tail, All-push, All-nil}
@@ -39,30 +39,7 @@ word_of (member.Setup l) = One one.Setup
 word_of (member.Bound b) = One one.Bound
 
 abbrev pub others_of : Member → List (List ℕ)
-others_of (member.Start p) = number p ∷ []
-others_of (member.Cycle p) = number p ∷ []
-others_of (member.Order p) = number p ∷ []
-others_of (member.Span p) = number p ∷ []
-others_of (member.Width p) = number p ∷ []
-others_of (member.Apart i j) = number i ∷ number j ∷ []
-others_of (member.Opening l) = number l ∷ []
-others_of (member.Opened l) = number l ∷ []
-others_of (member.Reach j l path) = number j ∷ number l ∷ number (length path) ∷ map number path
-others_of (member.Setup l) = number l ∷ []
-others_of (member.Bound b) = number b ∷ []
-
-pub words_of : (m : Member) → member_words m ≡ member_word (word_of m) ∷ others_of m
-words_of (member.Start p) = refl
-words_of (member.Cycle p) = refl
-words_of (member.Order p) = refl
-words_of (member.Span p) = refl
-words_of (member.Width p) = refl
-words_of (member.Apart i j) = refl
-words_of (member.Opening l) = refl
-words_of (member.Opened l) = refl
-words_of (member.Reach j l path) = refl
-words_of (member.Setup l) = refl
-words_of (member.Bound b) = refl
+others_of m = drop 1 (member_words m)
 
 -- a word read back: the words are apart
 abbrev decode : List ℕ → Option MemberWord
@@ -78,19 +55,45 @@ decode w =
     if bytes_eq w (codes "reach") then Some Reach else (
     if bytes_eq w (codes "setup") then Some (One one.Setup) else Some (One one.Bound))))))))))
 
-decoded_one : (s : Single) → decode (single_word s) ≡ Some (One s)
-decoded_one one.Start = refl
-decoded_one one.Cycle = refl
-decoded_one one.Order = refl
-decoded_one one.Span = refl
-decoded_one one.Width = refl
-decoded_one one.Opening = refl
-decoded_one one.Opened = refl
-decoded_one one.Setup = refl
-decoded_one one.Bound = refl
+-- what is so of each member of one number
+record IsSingle (s : Single) (n : ℕ) : Type 0 where
+  pub word : word_of (single s n) ≡ One s
+  pub words : member_words (single s n) ≡ single_word s ∷ number n ∷ []
+  pub counted : IsCounted (single s n) → IsCount n
+  pub has_count : IsCount n → IsCounted (single s n)
+  pub decoded : decode (single_word s) ≡ Some (One s)
+  pub seen : plain (single_word s) ≡ true
+
+singles : (s : Single) (n : ℕ) → IsSingle s n
+singles one.Start n = record { word = refl; words = refl; counted = λ h. h; has_count = λ h. h; decoded = refl; seen = refl }
+singles one.Cycle n = record { word = refl; words = refl; counted = λ h. h; has_count = λ h. h; decoded = refl; seen = refl }
+singles one.Order n = record { word = refl; words = refl; counted = λ h. h; has_count = λ h. h; decoded = refl; seen = refl }
+singles one.Span n = record { word = refl; words = refl; counted = λ h. h; has_count = λ h. h; decoded = refl; seen = refl }
+singles one.Width n = record { word = refl; words = refl; counted = λ h. h; has_count = λ h. h; decoded = refl; seen = refl }
+singles one.Opening n = record { word = refl; words = refl; counted = λ h. h; has_count = λ h. h; decoded = refl; seen = refl }
+singles one.Opened n = record { word = refl; words = refl; counted = λ h. h; has_count = λ h. h; decoded = refl; seen = refl }
+singles one.Setup n = record { word = refl; words = refl; counted = λ h. h; has_count = λ h. h; decoded = refl; seen = refl }
+singles one.Bound n = record { word = refl; words = refl; counted = λ h. h; has_count = λ h. h; decoded = refl; seen = refl }
+
+-- A member has one number, or is of phases apart, or a reach.
+by_kind : (P : Member → Type 0) → ((s : Single) (n : ℕ) → P (single s n)) → ((i j : ℕ) → P (member.Apart i j)) → ((j l : ℕ) (path : List ℕ) → P (member.Reach j l path)) → (m : Member) → P m
+by_kind P f g h (member.Start n) = f one.Start n
+by_kind P f g h (member.Cycle n) = f one.Cycle n
+by_kind P f g h (member.Order n) = f one.Order n
+by_kind P f g h (member.Span n) = f one.Span n
+by_kind P f g h (member.Width n) = f one.Width n
+by_kind P f g h (member.Opening n) = f one.Opening n
+by_kind P f g h (member.Opened n) = f one.Opened n
+by_kind P f g h (member.Setup n) = f one.Setup n
+by_kind P f g h (member.Bound n) = f one.Bound n
+by_kind P f g h (member.Apart i j) = g i j
+by_kind P f g h (member.Reach j l path) = h j l path
+
+pub words_of : (m : Member) → member_words m ≡ member_word (word_of m) ∷ others_of m
+words_of = by_kind (λ m. member_words m ≡ member_word (word_of m) ∷ others_of m) (λ s n. let k = singles s n in rw (k.words, k.word) refl) (λ i j. refl) (λ j l path. refl)
 
 decoded : (w : MemberWord) → decode (member_word w) ≡ Some w
-decoded (One s) = decoded_one s
+decoded (One s) = (singles s 0).decoded
 decoded Apart = refl
 decoded Reach = refl
 
@@ -109,94 +112,32 @@ parts v m w rest h =
     let p = heads (member_word w) (member_word (word_of m)) rest (others_of m) (h.spelled ∙ words_of m) in
     (same_word (word_of m) w p.0, p.1)
 
-of_one : (m : Member) (s : Single) → word_of m ≡ One s → (n : ℕ) × (m ≡ single s n)
-of_one (member.Start p) s e = let k : one.Start ≡ s = cc in (p, ap (λ (x : Single). single x p) k)
-of_one (member.Cycle p) s e = let k : one.Cycle ≡ s = cc in (p, ap (λ (x : Single). single x p) k)
-of_one (member.Order p) s e = let k : one.Order ≡ s = cc in (p, ap (λ (x : Single). single x p) k)
-of_one (member.Span p) s e = let k : one.Span ≡ s = cc in (p, ap (λ (x : Single). single x p) k)
-of_one (member.Width p) s e = let k : one.Width ≡ s = cc in (p, ap (λ (x : Single). single x p) k)
-of_one (member.Opening p) s e = let k : one.Opening ≡ s = cc in (p, ap (λ (x : Single). single x p) k)
-of_one (member.Opened p) s e = let k : one.Opened ≡ s = cc in (p, ap (λ (x : Single). single x p) k)
-of_one (member.Setup p) s e = let k : one.Setup ≡ s = cc in (p, ap (λ (x : Single). single x p) k)
-of_one (member.Bound p) s e = let k : one.Bound ≡ s = cc in (p, ap (λ (x : Single). single x p) k)
-of_one (member.Apart i j) s e = absurd (cc e)
-of_one (member.Reach j l path) s e = absurd (cc e)
+of_one : (s : Single) (m : Member) → word_of m ≡ One s → (n : ℕ) × (m ≡ single s n)
+of_one s = by_kind (λ m. word_of m ≡ One s → (n : ℕ) × (m ≡ single s n))
+    (λ t n e. let w = (singles t n).word in let same : t ≡ s = cc (w, e) in (n, ap (λ (x : Single). single x n) same)) (λ i j e. absurd (cc e)) (λ j l path e. absurd (cc e))
 
 abbrev AnApart : Member → Type 0
 AnApart m = (i j : ℕ) × (m ≡ member.Apart i j)
 
 of_apart : (m : Member) → word_of m ≡ Apart → AnApart m
-of_apart (member.Apart i j) e = (i, j, refl)
-of_apart (member.Start p) e = absurd (cc e)
-of_apart (member.Cycle p) e = absurd (cc e)
-of_apart (member.Order p) e = absurd (cc e)
-of_apart (member.Span p) e = absurd (cc e)
-of_apart (member.Width p) e = absurd (cc e)
-of_apart (member.Opening p) e = absurd (cc e)
-of_apart (member.Opened p) e = absurd (cc e)
-of_apart (member.Setup p) e = absurd (cc e)
-of_apart (member.Bound p) e = absurd (cc e)
-of_apart (member.Reach j l path) e = absurd (cc e)
+of_apart = by_kind (λ m. word_of m ≡ Apart → AnApart m) (λ s n e. let w = (singles s n).word in absurd (cc (w, e))) (λ i j e. (i, j, refl)) (λ j l path e. absurd (cc e))
 
 abbrev AReach : Member → Type 0
 AReach m = (j l : ℕ) × (path : List ℕ) × (m ≡ member.Reach j l path)
 
 of_reach : (m : Member) → word_of m ≡ Reach → AReach m
-of_reach (member.Reach j l path) e = (j, l, path, refl)
-of_reach (member.Apart i j) e = absurd (cc e)
-of_reach (member.Start p) e = absurd (cc e)
-of_reach (member.Cycle p) e = absurd (cc e)
-of_reach (member.Order p) e = absurd (cc e)
-of_reach (member.Span p) e = absurd (cc e)
-of_reach (member.Width p) e = absurd (cc e)
-of_reach (member.Opening p) e = absurd (cc e)
-of_reach (member.Opened p) e = absurd (cc e)
-of_reach (member.Setup p) e = absurd (cc e)
-of_reach (member.Bound p) e = absurd (cc e)
+of_reach = by_kind (λ m. word_of m ≡ Reach → AReach m) (λ s n e. let w = (singles s n).word in absurd (cc (w, e))) (λ i j e. absurd (cc e)) (λ j l path e. (j, l, path, refl))
 
 -- ---- members of one number
-
-counted_one : (s : Single) (n : ℕ) → IsCounted (single s n) → IsCount n
-counted_one one.Start n h = h
-counted_one one.Cycle n h = h
-counted_one one.Order n h = h
-counted_one one.Span n h = h
-counted_one one.Width n h = h
-counted_one one.Opening n h = h
-counted_one one.Opened n h = h
-counted_one one.Setup n h = h
-counted_one one.Bound n h = h
-
-one_counted : (s : Single) (n : ℕ) → IsCount n → IsCounted (single s n)
-one_counted one.Start n h = h
-one_counted one.Cycle n h = h
-one_counted one.Order n h = h
-one_counted one.Span n h = h
-one_counted one.Width n h = h
-one_counted one.Opening n h = h
-one_counted one.Opened n h = h
-one_counted one.Setup n h = h
-one_counted one.Bound n h = h
-
-one_words : (s : Single) (n : ℕ) → member_words (single s n) ≡ single_word s ∷ number n ∷ []
-one_words one.Start n = refl
-one_words one.Cycle n = refl
-one_words one.Order n = refl
-one_words one.Span n = refl
-one_words one.Width n = refl
-one_words one.Opening n = refl
-one_words one.Opened n = refl
-one_words one.Setup n = refl
-one_words one.Bound n = refl
 
 -- a line of a member of one number is its word and that number
 one_line : (v : Version) (s : Single) (rest : List (List ℕ)) (m : Member) → IsMemberLine v m (single_word s ∷ rest) →
     (n : ℕ) × IsMemberOf v (single s n) × IsOne n rest
 one_line v s rest m h =
     let p = parts v m (One s) rest h in
-    let q = of_one m s p.0 in
-    let spelled : single_word s ∷ rest ≡ single_word s ∷ number q.0 ∷ [] = h.spelled ∙ ap member_words q.1 ∙ one_words s q.0 in
-    (q.0, subst (IsMemberOf v) q.1 h.has, (counted_one s q.0 (subst IsCounted q.1 h.counted), (heads (single_word s) (single_word s) rest (number q.0 ∷ []) spelled).1))
+    let q = of_one s m p.0 in
+    let spelled : single_word s ∷ rest ≡ single_word s ∷ number q.0 ∷ [] = h.spelled ∙ ap member_words q.1 ∙ (singles s q.0).words in
+    (q.0, subst (IsMemberOf v) q.1 h.has, ((singles s q.0).counted (subst IsCounted q.1 h.counted), (heads (single_word s) (single_word s) rest (number q.0 ∷ []) spelled).1))
 
 pub one_none : (v : Version) (s : Single) (rest : List (List ℕ)) → ((n : ℕ) → IsOne n rest → ⊥) → (m : Member) → IsMemberLine v m (single_word s ∷ rest) → ⊥
 one_none v s rest none m h = let l = one_line v s rest m h in none l.0 l.2
@@ -207,7 +148,7 @@ one_unknown v s rest none m h = let l = one_line v s rest m h in none l.0 l.1
 pub one_some : (v : Version) (s : Single) (rest : List (List ℕ)) (n : ℕ) (m : Member) → m ≡ single s n → ((n : ℕ) → IsMemberOf v (single s n)) → IsOne n rest → IsMemberLine v m (single_word s ∷ rest)
 one_some v s rest n m e has h =
     subst (λ (x : Member). IsMemberLine v x (single_word s ∷ rest)) (sym e)
-    (record { counted = one_counted s n h.0; has = has n; spelled = ap (λ (r : List (List ℕ)). single_word s ∷ r) h.1 ∙ sym (one_words s n) })
+    (record { counted = (singles s n).has_count h.0; has = has n; spelled = ap (λ (r : List (List ℕ)). single_word s ∷ r) h.1 ∙ sym (singles s n).words })
 
 -- ---- phases apart
 
@@ -341,9 +282,6 @@ numbers_all i count found all now so last e = record {
 
 -- ---- any member
 
-pub member_none_words : (v : Version) (entry : List (List ℕ)) → entry ≡ [] → (m : Member) → IsMemberLine v m entry → ⊥
-member_none_words v entry e m h = let f : [] ≡ member_word (word_of m) ∷ others_of m = sym e ∙ h.spelled ∙ words_of m in cc
-
 pub member_none_word : (v : Version) (entry rest : List (List ℕ)) (first : List ℕ) → entry ≡ first ∷ rest → ((w : MemberWord) → first ≡ member_word w → ⊥) → (m : Member) → IsMemberLine v m entry → ⊥
 member_none_word v entry rest first e none m h =
     let p = heads (member_word (word_of m)) first (others_of m) rest (sym (words_of m) ∙ sym h.spelled ∙ e) in
@@ -370,19 +308,11 @@ plain_count : (n : ℕ) → IsCount n → plain (number n) ≡ true
 plain_count n few = plain-number n (omega (arith, few))
 
 plain_words : (m : Member) → IsCounted m → plain_line (member_words m) ≡ true
-plain_words (member.Start p) h = plain_count p h
-plain_words (member.Cycle p) h = plain_count p h
-plain_words (member.Order p) h = plain_count p h
-plain_words (member.Span p) h = plain_count p h
-plain_words (member.Width p) h = plain_count p h
-plain_words (member.Apart i j) h = and_both (plain (number i)) (plain (number j)) (plain_count i h.0) (plain_count j h.1)
-plain_words (member.Opening l) h = plain_count l h
-plain_words (member.Opened l) h = plain_count l h
-plain_words (member.Reach j l path) h =
-    and_both (plain (number j)) (plain_line (number l ∷ number (length path) ∷ map number path)) (plain_count j h.0)
-    (and_both (plain (number l)) (plain_line (number (length path) ∷ map number path)) (plain_count l h.1) (plain_numbers (number (length path)) path (plain_count (length path) h.2) h.4))
-plain_words (member.Setup l) h = plain_count l h
-plain_words (member.Bound b) h = plain_count b h
+plain_words = by_kind (λ m. IsCounted m → plain_line (member_words m) ≡ true)
+    (λ s n h. let k = singles s n in ap plain_line k.words ∙ and_both (plain (single_word s)) (plain (number n)) k.seen (plain_count n (k.counted h)))
+    (λ i j h. and_both (plain (number i)) (plain (number j)) (plain_count i h.0) (plain_count j h.1))
+    (λ j l path h. and_both (plain (number j)) (plain_line (number l ∷ number (length path) ∷ map number path)) (plain_count j h.0)
+    (and_both (plain (number l)) (plain_line (number (length path) ∷ map number path)) (plain_count l h.1) (plain_numbers (number (length path)) path (plain_count (length path) h.2) h.4)))
 
 pub plain-member_line : (v : Version) (m : Member) (ws : List (List ℕ)) → IsMemberLine v m ws → plain_line ws ≡ true
 plain-member_line v m ws h = ap plain_line h.spelled ∙ plain_words m h.counted
@@ -420,24 +350,13 @@ same_numbers (x ∷ xs) (y ∷ ys) h g e =
 only_number : (a b : ℕ) → IsCount a → IsCount b → number a ∷ [] ≡ number b ∷ [] → a ≡ b
 only_number a b h g e = same_count a b h g (sym (heads (number a) (number b) [] [] e).0)
 
-one_others : (s : Single) (n : ℕ) → others_of (single s n) ≡ number n ∷ []
-one_others one.Start n = refl
-one_others one.Cycle n = refl
-one_others one.Order n = refl
-one_others one.Span n = refl
-one_others one.Width n = refl
-one_others one.Opening n = refl
-one_others one.Opened n = refl
-one_others one.Setup n = refl
-one_others one.Bound n = refl
-
 same_one : (s : Single) (m n : Member) → IsCounted m → IsCounted n → word_of m ≡ One s → word_of n ≡ One s → others_of m ≡ others_of n → m ≡ n
 same_one s m n h g e f same =
-    let p = of_one m s e in
-    let q = of_one n s f in
-    let a = counted_one s p.0 (subst IsCounted p.1 h) in
-    let b = counted_one s q.0 (subst IsCounted q.1 g) in
-    let words = sym (one_others s p.0) ∙ ap others_of (sym p.1) ∙ same ∙ ap others_of q.1 ∙ one_others s q.0 in
+    let p = of_one s m e in
+    let q = of_one s n f in
+    let a = (singles s p.0).counted (subst IsCounted p.1 h) in
+    let b = (singles s q.0).counted (subst IsCounted q.1 g) in
+    let words = sym (ap (drop 1) (singles s p.0).words) ∙ ap others_of (sym p.1) ∙ same ∙ ap others_of q.1 ∙ ap (drop 1) (singles s q.0).words in
     p.1 ∙ ap (λ (x : ℕ). single s x) (only_number p.0 q.0 a b words) ∙ sym q.1
 
 same_apart : (m n : Member) → IsCounted m → IsCounted n → word_of m ≡ Apart → word_of n ≡ Apart → others_of m ≡ others_of n → m ≡ n

@@ -1,5 +1,5 @@
 -- Where a reader of lines stands.
-use Rattle.std.proofs.Common.{◌≡◌, ℕ, ℤ, pos, negsuc, ◌≤ℤ◌, ◌<◌, ◌≤◌, ◌+◌, ◌^◌, true, false, Option, Some, None, MatchOption, List, [], ◌∷◌, ◌++◌, length, length-append, refl, ap, ◌∙◌, sym, subst, arith, eqb, decimal, All, Contains, append_assoc}
+use Rattle.std.proofs.Common.{◌≡◌, ℕ, ℤ, pos, negsuc, ◌≤ℤ◌, suc, ◌<◌, ◌≤◌, ◌+◌, ◌-◌, ◌^◌, true, false, Option, Some, None, MatchOption, List, [], ◌∷◌, ◌++◌, length, length-append, refl, ap, ◌∙◌, sym, subst, arith, eqb, decimal, All, Contains, append_assoc}
 use Rattle.std.proofs.lemmas.Grind.{get_or_default_zero}
 use Rattle.std.proofs.lemmas.List.{append_cancel_left, append-nil}
 use Rattle.std.proofs.lemmas.List.Elements.{All-append, All-cons, Contains-append_left, Contains-append_right}
@@ -89,53 +89,77 @@ counted_on : {S : Type 0} (next : S → List ℕ → S → Type 0) (start : S) (
 counted_on next start text old state number at counted =
     omega (arith, counted, at.short, at.count, length_lines at.before, ap length at.whole, length-append (text_of at.before) old.left)
 
--- a line in form leads on
-pub at_more : {S V : Type 0} (next : S → List ℕ → S → Type 0) (start : S) (text : List ℕ) (old new : Reading) (state after : S) (F : V → List (List ℕ) → Type 0) (v : V) →
-    IsAt next start text old state → HasRead F old.left v new.left → new.number ≡ number_after old.number →
-    ((line : List ℕ) → Spells F v line → next state line after) → IsAt next start text new after
-at_more next start text old new state after F v at read counted leads = record {
-  short = at.short;
-  before = at.before ++ read.line ∷ [];
-  whole = at.whole ∙ ap (λ (l : List ℕ). text_of at.before ++ l) read.whole ∙ sym (append_assoc (text_of at.before) (ended read.line) new.left)
-      ∙ ap (λ (l : List ℕ). l ++ new.left) (sym (text_of-push at.before read.line));
-  follows = Follows-push next start state after at.before read.line at.follows (leads read.line read.spells);
-  count = omega (arith, counted_on next start text old state new.number at counted, at.count, length-append at.before (read.line ∷ []));
-}
+module _ {S : Type 0} {next : S → List ℕ → S → Type 0} {start : S} {text : List ℕ} {old : Reading} {state : S} where
+  -- a line in form leads on
+  pub at_more : {V : Type 0} {F : V → List (List ℕ) → Type 0} {v : V} (new : Reading) (after : S) → IsAt next start text old state → HasRead F old.left v new.left → new.number ≡ number_after old.number →
+      ((line : List ℕ) → Spells F v line → next state line after) → IsAt next start text new after
+  at_more new after at read counted leads = record {
+    short = at.short;
+    before = at.before ++ read.line ∷ [];
+    whole = at.whole ∙ ap (λ (l : List ℕ). text_of at.before ++ l) read.whole ∙ sym (append_assoc (text_of at.before) (ended read.line) new.left)
+        ∙ ap (λ (l : List ℕ). l ++ new.left) (sym (text_of-push at.before read.line));
+    follows = Follows-push next start state after at.before read.line at.follows (leads read.line read.spells);
+    count = omega (arith, counted_on next start text old state new.number at counted, at.count, length-append at.before (read.line ∷ []));
+  }
 
--- and where none comes, the line is the fault
-pub at_fault : {S V : Type 0} (next : S → List ℕ → S → Type 0) (is_end : S → Type 0) (start : S) (text : List ℕ) (old : Reading) (number : ℕ) (state : S) (F : V → List (List ℕ) → Type 0) →
-    IsAt next start text old state → HasNone F old.left → number ≡ number_after old.number → (is_end state → ⊥) →
-    ((line : List ℕ) (after : S) → next state line after → (v : V) × Spells F v line) → IsFault next is_end start text number
-at_fault next is_end start text old number state F at none counted unfinished only = record {
-  before = at.before;
-  left = old.left;
-  state = state;
-  whole = at.whole;
-  follows = at.follows;
-  count = omega (arith, counted_on next start text old state number at counted, at.count);
-  stuck = λ line more after e step. none (only line after step).0 line more e (only line after step).1;
-  unfinished = λ e. absurd (unfinished e);
-}
+  -- and where none comes, the line is the fault
+  pub at_fault : {V : Type 0} {is_end : S → Type 0} {number : ℕ} {F : V → List (List ℕ) → Type 0} → IsAt next start text old state → HasNone F old.left → number ≡ number_after old.number → (is_end state → ⊥) →
+      ((line : List ℕ) (after : S) → next state line after → (v : V) × Spells F v line) → IsFault next is_end start text number
+  at_fault {number = number} at none counted unfinished only = record {
+    before = at.before;
+    left = old.left;
+    state = state;
+    whole = at.whole;
+    follows = at.follows;
+    count = omega (arith, counted_on next start text old state number at counted, at.count);
+    stuck = λ line more after e step. none (only line after step).0 line more e (only line after step).1;
+    unfinished = λ e. absurd (unfinished e);
+  }
 
--- the text ends where the format does
-pub at_end : {S : Type 0} (next : S → List ℕ → S → Type 0) (start : S) (text : List ℕ) (at : Reading) (end : S) →
-    IsAt next start text at end → at.left ≡ [] → IsText next start end text
-at_end next start text reading end at e = record {
-  lines = at.before;
-  whole = at.whole ∙ ap (λ (l : List ℕ). text_of at.before ++ l) e ∙ append-nil (text_of at.before);
-  follows = at.follows;
-}
+  -- the text ends where the format does
+  pub at_end : IsAt next start text old state → old.left ≡ [] → IsText next start state text
+  at_end at e = record {
+    lines = at.before;
+    whole = at.whole ∙ ap (λ (l : List ℕ). text_of at.before ++ l) e ∙ append-nil (text_of at.before);
+    follows = at.follows;
+  }
 
--- or goes on, and that is the fault
-pub at_past : {S : Type 0} (next : S → List ℕ → S → Type 0) (is_end : S → Type 0) (start : S) (text : List ℕ) (old : Reading) (number : ℕ) (state : S) →
-    IsAt next start text old state → (old.left ≡ [] → ⊥) → number ≡ number_after old.number → ((line : List ℕ) (after : S) → next state line after → ⊥) → IsFault next is_end start text number
-at_past next is_end start text old number state at left counted none = record {
-  before = at.before;
-  left = old.left;
-  state = state;
-  whole = at.whole;
-  follows = at.follows;
-  count = omega (arith, counted_on next start text old state number at counted, at.count);
-  stuck = λ line more after e step. none line after step;
-  unfinished = λ e. left;
-}
+  -- or goes on, and that is the fault
+  pub at_past : {is_end : S → Type 0} {number : ℕ} → IsAt next start text old state → (old.left ≡ [] → ⊥) → number ≡ number_after old.number → ((line : List ℕ) (after : S) → next state line after → ⊥) → IsFault next is_end start text number
+  at_past {number = number} at left counted none = record {
+    before = at.before;
+    left = old.left;
+    state = state;
+    whole = at.whole;
+    follows = at.follows;
+    count = omega (arith, counted_on next start text old state number at counted, at.count);
+    stuck = λ line more after e step. none line after step;
+    unfinished = λ e. left;
+  }
+
+-- ---- a list: a state for each number of lines that are left
+
+module _ {S X : Type 0} {next : S → List ℕ → S → Type 0} {start : S} (st : ℕ → List X → S) where
+  pub list_none : (text : List ℕ) (reading : Reading) (found : List X) (count : ℕ) → IsAt next start text reading (st count []) → found ≡ [] → IsAt next start text reading (st (count - 0) found)
+  list_none text reading found count at e =
+      let same : count ≡ count - 0 = omega arith in
+      subst (λ (xs : List X). IsAt next start text reading (st (count - 0) xs)) (sym e) (subst (λ (n : ℕ). IsAt next start text reading (st n [])) same at)
+
+  pub list_more : (F : X → List (List ℕ) → Type 0) (text : List ℕ) (old new : Reading) (found found' : List X) (i count : ℕ) (x : X) →
+      IsAt next start text old (st (count - i) found) → i < count → HasRead F old.left x new.left → new.number ≡ number_after old.number → found' ≡ found ++ x ∷ [] →
+      ((left : ℕ) (all : List X) (line : List ℕ) → Spells F x line → next (st (suc left) all) line (st left (all ++ x ∷ []))) → IsAt next start text new (st (count - (i + 1)) found')
+  list_more F text old new found found' i count x at low read counted e law =
+      let left : count - i ≡ suc (count - (i + 1)) = omega arith in
+      subst (λ (xs : List X). IsAt next start text new (st (count - (i + 1)) xs)) (sym e)
+      (at_more new (st (count - (i + 1)) (found ++ x ∷ [])) (subst (λ (n : ℕ). IsAt next start text old (st n found)) left at) read counted (law (count - (i + 1)) found))
+
+  pub list_fault : {is_end : S → Type 0} (F : X → List (List ℕ) → Type 0) (text : List ℕ) (old : Reading) (number : ℕ) (found : List X) (i count : ℕ) →
+      IsAt next start text old (st (count - i) found) → i < count → HasNone F old.left → number ≡ number_after old.number → ((left : ℕ) (all : List X) → is_end (st (suc left) all) → ⊥) →
+      ((left : ℕ) (all : List X) (line : List ℕ) (after : S) → next (st (suc left) all) line after → (x : X) × Spells F x line) → IsFault next is_end start text number
+  list_fault F text old number found i count at low none counted unfinished only =
+      let left : count - i ≡ suc (count - (i + 1)) = omega arith in
+      at_fault (subst (λ (n : ℕ). IsAt next start text old (st n found)) left at) none counted (unfinished (count - (i + 1)) found) (only (count - (i + 1)) found)
+
+  pub list_all : (text : List ℕ) (reading : Reading) (found : List X) (i count : ℕ) → IsAt next start text reading (st (count - i) found) → count ≤ i → IsAt next start text reading (st 0 found)
+  list_all text reading found i count at low =
+      let none : count - i ≡ 0 = omega arith in subst (λ (n : ℕ). IsAt next start text reading (st n found)) none at

@@ -6,15 +6,14 @@ use Rattle.mintc_text.specs.Lines.{numeral_of}
 use Rattle.mintc_text.specs.Words.{IsShort}
 use Rattle.mintc_text.proofs.SharedNumeralsLaws.{same_numeral}
 use Rattle.mintc_timing.specs.declared.clocking.Schedule.{Schedule}
-use Rattle.mintc_lines.specs.Fields.{plain, plain_line, IsWordLine, IsNumberLine, IsCountLine}
+use Rattle.mintc_lines.specs.Fields.{IsWordLine, IsNumberLine, IsCountLine}
 use Rattle.mintc_timing.specs.Limits.{IsNumerator, IsDenominator, IsInRange}
 use Rattle.mintc_lines.specs.TextLaws.{HaveOneSchedule, HaveNoScheduleFault, HaveOneScheduleFault}
 use Rattle.mintc_lines.specs.Texts.{NextOfSchedule, IsWholeSchedule, IsPhaseLine, IsScheduleText, ScheduleLines, first, den, cycle, phases, phase, whole, no_phases, with_phase}
 use Rattle.mintc_lines.proofs.SharedFieldsLaws.{short}
-use Rattle.mintc_lines.proofs.SharedLineLaws.{count_one, number_one}
-use Rattle.mintc_lines.proofs.SharedReadingLaws.{plain-count_line, plain-number_line, plain-word_line}
+use Rattle.mintc_lines.proofs.SharedLineLaws.{IsForm, word_form, count_form, number_form}
 use Rattle.mintc_lines.proofs.SharedScheduleReading.{plain-phase_line}
-use Rattle.mintc_lines.proofs.SharedTextLaws.{along, IsPlainFormat, text_one_end, text_no_fault, text_one_fault, spelled_one, spelled_free}
+use Rattle.mintc_lines.proofs.SharedTextLaws.{along, IsPlainFormat, IsPlainStep, plain_step, no_step, text_one_end, text_no_fault, text_one_fault}
 
 -- what is kept of a schedule while its lines come
 pub record IsSoFar (left : ℕ) (s : Schedule) : Type 0 where
@@ -80,7 +79,7 @@ keeps_next (whole s) line b h k = absurd h
 pub IsInRange-from_text : (text : List ℕ) (s : Schedule) → IsScheduleText text s → IsInRange s
 IsInRange-from_text text s h = along NextOfSchedule Keeps keeps_next first h.lines (whole s) h.follows tt
 
--- ---- each line has one value, and no line feed
+-- ---- the forms of a schedule's lines
 
 numerator_short : (z : ℤ) → IsNumerator z → IsShort z
 numerator_short z h = short (pos 0) (pos 100000000000000) z (omega (arith, ints)) (omega (arith, ints)) h
@@ -94,46 +93,32 @@ phase_one p q ws h g =
     let width : p.1 ≡ q.1 = same_numeral p.1 q.1 (numerator_short p.1 h.1) (numerator_short q.1 g.1) widths in
     ap (λ (x : ℤ). (x, p.1)) start ∙ ap (λ (x : ℤ). (q.0, x)) width
 
-plain-count : (word : List ℕ) (least most : ℕ) → plain word ≡ true → most < 2 ^ 32 → (n : ℕ) (ws : List (List ℕ)) → IsCountLine word least most n ws → plain_line ws ≡ true
-plain-count = plain-count_line
+pub phase_form : IsForm IsPhaseLine
+phase_form = record { plain = plain-phase_line; one = phase_one; words = λ p ws xs h g. h.2 ∙ sym g.2 }
 
-pub plain-den : (z : ℤ) (ws : List (List ℕ)) → IsNumberLine (codes "den") (pos 1) (pos 100000) z ws → plain_line ws ≡ true
-plain-den = plain-number_line (codes "den") (pos 1) (pos 100000) refl (omega (arith, ints)) (omega (arith, ints))
+pub den_form : IsForm (IsNumberLine (codes "den") (pos 1) (pos 100000))
+den_form = number_form (codes "den") (pos 1) (pos 100000) refl (omega (arith, ints)) (omega (arith, ints))
 
-pub plain-cycle : (z : ℤ) (ws : List (List ℕ)) → IsNumberLine (codes "cycle") (pos 0) (pos 100000000000000) z ws → plain_line ws ≡ true
-plain-cycle = plain-number_line (codes "cycle") (pos 0) (pos 100000000000000) refl (omega (arith, ints)) (omega (arith, ints))
+pub cycle_form : IsForm (IsNumberLine (codes "cycle") (pos 0) (pos 100000000000000))
+cycle_form = number_form (codes "cycle") (pos 0) (pos 100000000000000) refl (omega (arith, ints)) (omega (arith, ints))
 
-abbrev Any : ScheduleLines → Type 0
+pub phases_form : IsForm (IsCountLine (codes "phases") 1 8)
+phases_form = count_form (codes "phases") 1 8 refl (omega arith)
+
+abbrev pub Any : ScheduleLines → Type 0
 Any a = Unit {0}
 
-schedule_one : (a b c : ScheduleLines) (line : List ℕ) → Any a → NextOfSchedule a line b → NextOfSchedule a line c → b ≡ c
-schedule_one first b c line p h g = h.2 ∙ sym g.2
-schedule_one den b c line p h g =
-    let same = spelled_one (IsNumberLine (codes "den") (pos 1) (pos 100000)) plain-den (number_one (codes "den") (pos 1) (pos 100000) (omega (arith, ints)) (omega (arith, ints))) h.0 g.0 line h.1 g.1 in
-    h.2 ∙ ap cycle same ∙ sym g.2
-schedule_one (cycle d) b c line p h g =
-    let same = spelled_one (IsNumberLine (codes "cycle") (pos 0) (pos 100000000000000)) plain-cycle (number_one (codes "cycle") (pos 0) (pos 100000000000000) (omega (arith, ints)) (omega (arith, ints))) h.0 g.0 line h.1 g.1 in
-    h.2 ∙ ap (phases d) same ∙ sym g.2
-schedule_one (phases d t) b c line p h g =
-    let same = spelled_one (IsCountLine (codes "phases") 1 8) (plain-count (codes "phases") 1 8 refl (omega arith)) (count_one (codes "phases") 1 8 (omega arith)) h.0 g.0 line h.1 g.1 in
-    h.2 ∙ ap (λ (k : ℕ). phase k (no_phases d t)) same ∙ sym g.2
-schedule_one (phase (suc left) s) b c line p h g =
-    let same = spelled_one IsPhaseLine plain-phase_line phase_one h.0 g.0 line h.1 g.1 in
-    h.2 ∙ ap (λ (p : ℤ × ℤ). phase left (with_phase s p)) same ∙ sym g.2
-schedule_one (phase zero s) b c line p h g = h.2 ∙ sym g.2
-schedule_one (whole s) b c line p h g = absurd h
-
-schedule_free : (a b : ScheduleLines) (line : List ℕ) → Any a → NextOfSchedule a line b → All (λ x. eqb x 10 ≡ false) line
-schedule_free first b line p h = spelled_free (IsCountLine (codes "schedule") 1 1) (plain-count (codes "schedule") 1 1 refl (omega arith)) h.0 line h.1
-schedule_free den b line p h = spelled_free (IsNumberLine (codes "den") (pos 1) (pos 100000)) plain-den h.0 line h.1
-schedule_free (cycle d) b line p h = spelled_free (IsNumberLine (codes "cycle") (pos 0) (pos 100000000000000)) plain-cycle h.0 line h.1
-schedule_free (phases d t) b line p h = spelled_free (IsCountLine (codes "phases") 1 8) (plain-count (codes "phases") 1 8 refl (omega arith)) h.0 line h.1
-schedule_free (phase (suc left) s) b line p h = spelled_free IsPhaseLine plain-phase_line h.0 line h.1
-schedule_free (phase zero s) b line p h = spelled_free (IsWordLine (codes "end")) (plain-word_line (codes "end") refl) h.0 line h.1
-schedule_free (whole s) b line p h = absurd h
+schedule_step : (a : ScheduleLines) → IsPlainStep (NextOfSchedule a) Any
+schedule_step first = plain_step (count_form (codes "schedule") 1 1 refl (omega arith)) (λ n ws h. tt)
+schedule_step den = plain_step den_form (λ d ws h. tt)
+schedule_step (cycle d) = plain_step cycle_form (λ t ws h. tt)
+schedule_step (phases d t) = plain_step phases_form (λ k ws h. tt)
+schedule_step (phase (suc left) s) = plain_step phase_form (λ p ws h. tt)
+schedule_step (phase zero s) = plain_step (word_form (codes "end") refl) (λ u ws h. tt)
+schedule_step (whole s) = no_step
 
 pub schedule_plain : IsPlainFormat NextOfSchedule Any
-schedule_plain = record { keeps = λ a b line p h. tt; one = schedule_one; free = schedule_free }
+schedule_plain = record { keeps = λ a b line p h. tt; one = λ a b c line p h g. (schedule_step a).one b c line h g; free = λ a b line p h. (schedule_step a).free b line h }
 
 whole_same : (s t : Schedule) → whole s ≡ whole t → s ≡ t
 whole_same s t e = cc

@@ -1,9 +1,11 @@
 -- Texts of plain lines have one end and one fault.
-use Rattle.std.proofs.Common.{◌≡◌, ◌≢◌, ℕ, suc, true, false, List, [], ◌∷◌, ◌++◌, length, length-append, append_assoc, All, eqb, refl, ap, ◌∙◌, sym, subst, arith}
+use Rattle.std.proofs.Common.{◌≡◌, ◌≢◌, ℕ, suc, true, false, List, [], ◌∷◌, ◌++◌, length, length-append, append_assoc, All, Contains, eqb, refl, ap, ◌∙◌, sym, subst, arith}
 use Rattle.mintc_text.specs.Lines.{Follows, IsText, IsFault, IsStuck, text_of, ended, words}
 use Rattle.mintc_lines.specs.Fields.{fields_of, plain_line, Spells}
 use Rattle.mintc_lines.proofs.SharedFieldsLaws.{fields-words}
-use Rattle.mintc_lines.proofs.SharedReadingLaws.{one_line, words_free}
+use Rattle.mintc_lines.proofs.SharedLineLaws.{IsForm, spelled_same}
+use Rattle.mintc_lines.proofs.SharedSpelling.{IsSpelled, IsSpelledStep, one_text}
+use Rattle.mintc_lines.proofs.SharedReadingLaws.{one_line, line_free, words_free}
 
 -- what each line keeps, all lines keep
 pub along : {S : Type 0} (next : S → List ℕ → S → Type 0) (P : S → Type 0) → ((a : S) (line : List ℕ) (b : S) → next a line b → P a → P b) →
@@ -78,11 +80,72 @@ text_one_fault next is_end P plain start text m n p f g =
 pub words_same : (line : List ℕ) (ws xs : List (List ℕ)) → plain_line ws ≡ true → plain_line xs ≡ true → line ≡ words ws → line ≡ words xs → ws ≡ xs
 words_same line ws xs h g e f = sym (fields-words ws h) ∙ ap fields_of (sym e ∙ f) ∙ fields-words xs g
 
-pub spelled_one : {V : Type 0} (F : V → List (List ℕ) → Type 0) → ((v : V) (ws : List (List ℕ)) → F v ws → plain_line ws ≡ true) → ((v w : V) (ws : List (List ℕ)) → F v ws → F w ws → v ≡ w) →
-    (v w : V) (line : List ℕ) → Spells F v line → Spells F w line → v ≡ w
-spelled_one F plain one v w line h g =
-    let same = words_same line h.0 g.0 (plain v h.0 h.1) (plain w g.0 g.1) h.2 g.2 in
-    one v w g.0 (subst (F v) same h.1) g.1
+spelled_one : {V : Type 0} (F : V → List (List ℕ) → Type 0) → IsForm F → (v w : V) (line : List ℕ) → Spells F v line → Spells F w line → v ≡ w
+spelled_one F form v w line h g =
+    let same = words_same line h.0 g.0 (form.plain v h.0 h.1) (form.plain w g.0 g.1) h.2 g.2 in
+    form.one v w g.0 (subst (F v) same h.1) g.1
 
-pub spelled_free : {V : Type 0} (F : V → List (List ℕ) → Type 0) → ((v : V) (ws : List (List ℕ)) → F v ws → plain_line ws ≡ true) → (v : V) (line : List ℕ) → Spells F v line → All (λ x. eqb x 10 ≡ false) line
-spelled_free F plain v line h = subst (λ (l : List ℕ). All (λ x. eqb x 10 ≡ false) l) (sym h.2) (words_free h.0 (plain v h.0 h.1))
+-- ---- a state after which lines of one form come
+
+-- The line spells a value, and the value leads to the state.
+abbrev pub LeadsBy : {S V : Type 0} → (V → List (List ℕ) → Type 0) → (V → S) → List ℕ → S → Type 0
+LeadsBy {S} {V} F to line after = (v : V) × Spells F v line × (after ≡ to v)
+
+-- A line leads to one state, of which this holds, and has no line feed.
+pub record IsPlainStep {S : Type 0} (leads : List ℕ → S → Type 0) (P : S → Type 0) : Type 0 where
+  pub keeps : (b : S) (line : List ℕ) → leads line b → P b
+  pub one : (b c : S) (line : List ℕ) → leads line b → leads line c → b ≡ c
+  pub free : (b : S) (line : List ℕ) → leads line b → All (λ x. eqb x 10 ≡ false) line
+
+pub plain_step : {S V : Type 0} {F : V → List (List ℕ) → Type 0} {to : V → S} {P : S → Type 0} → IsForm F → ((v : V) (ws : List (List ℕ)) → F v ws → P (to v)) → IsPlainStep (LeadsBy F to) P
+plain_step {F = F} {to = to} {P = P} form keeps = record {
+  keeps = λ b line h. subst P (sym h.2) (keeps h.0 h.1.0 h.1.1);
+  one = λ b c line h g. h.2 ∙ ap to (spelled_one F form h.0 g.0 line h.1 g.1) ∙ sym g.2;
+  free = λ b line h. subst (λ (l : List ℕ). All (λ x. eqb x 10 ≡ false) l) (sym h.1.2) (words_free h.1.0 (form.plain h.0 h.1.0 h.1.1));
+}
+
+pub no_step : {S : Type 0} {P : S → Type 0} → IsPlainStep (λ line b. ⊥) P
+no_step = record { keeps = λ b line h. absurd h; one = λ b c line h g. absurd h; free = λ b line h. absurd h }
+
+-- Two lines that lead on to one end are one, and so are the states that they lead to.
+pub step_by : {S V : Type 0} {F : V → List (List ℕ) → Type 0} {to : V → S} {B : S → Type 0} → IsForm F → ((v w : V) → B (to v) → B (to w) → v ≡ w) → IsSpelledStep (LeadsBy F to) B
+step_by {F = F} {to = to} {B = B} form same = record {
+  alike = λ b c line other h g i j.
+      let v = same h.0 g.0 (subst B h.2 i) (subst B g.2 j) in
+      (spelled_same F form.words h.0 g.0 line other v h.1 g.1, h.2 ∙ ap to v ∙ sym g.2);
+}
+
+pub no_way : {S : Type 0} {leads : List ℕ → S → Type 0} {B : S → Type 0} → ((line : List ℕ) (b : S) → leads line b → B b → ⊥) → IsSpelledStep leads B
+no_way none = record { alike = λ b c line other h g i j. absurd (none line b h i) }
+
+-- ---- the first line of a text, and what comes after it
+
+-- what stands after the first line
+pub record IsAfter {S : Type 0} (next : S → List ℕ → S → Type 0) (first last : S) (line x : List ℕ) : Type 0 where
+  pub state : S
+  pub lines : List (List ℕ)
+  pub begins : next first line state
+  pub whole : x ≡ text_of lines
+  pub follows : Follows next state lines last
+
+after_lines : {S : Type 0} (next : S → List ℕ → S → Type 0) (P : S → Type 0) (first last : S) → IsPlainFormat next P → P first → (first ≡ last → ⊥) → (line x : List ℕ) (lines : List (List ℕ)) → (Contains line 10 → ⊥) →
+    ended line ++ x ≡ text_of lines → Follows next first lines last → IsAfter next first last line x
+after_lines next P first last plain p apart line x [] free e h = absurd (apart h)
+after_lines next P first last plain p apart line x (l ∷ ls) free e h =
+    let same = one_line line l x (text_of ls) (line_free line free) (plain.free first h.0 l p h.1) e in
+    record { state = h.0; lines = ls; begins = subst (λ (w : List ℕ). next first w h.0) (sym same.0) h.1; whole = same.1; follows = h.2 }
+
+pub after_first : {S : Type 0} {next : S → List ℕ → S → Type 0} {P : S → Type 0} {first last : S} → IsPlainFormat next P → P first → (first ≡ last → ⊥) → (line x : List ℕ) → (Contains line 10 → ⊥) →
+    IsText next first last (ended line ++ x) → IsAfter next first last line x
+after_first {next = next} {P = P} {first = first} {last = last} plain p apart line x free h = after_lines next P first last plain p apart line x h.lines free h.whole h.follows
+
+-- A value has one text with a given first line.
+pub one_text_after : {S E : Type 0} {next : S → List ℕ → S → Type 0} {P Q : S → Type 0} {end : E → S} {Begins : S → E → Type 0} {first : S} →
+    IsPlainFormat next P → IsSpelled next Q end Begins → P first → ((b : S) (line : List ℕ) → next first line b → Q b) → ((e : E) → first ≡ end e → ⊥) →
+    (line x y : List ℕ) (e : E) → (Contains line 10 → ⊥) → IsText next first (end e) (ended line ++ x) → IsText next first (end e) (ended line ++ y) → x ≡ y
+one_text_after {next = next} {Q = Q} {end = end} {Begins = Begins} {first = first} plain spelled p keeps apart line x y e free h g =
+    let a = after_first plain p (apart e) line x free h in
+    let b = after_first plain p (apart e) line y free g in
+    let state : a.state ≡ b.state = plain.one first a.state b.state line p a.begins b.begins in
+    let rest : a.lines ≡ b.lines = one_text next Q end Begins spelled b.state a.lines b.lines e (keeps b.state line b.begins) (subst (λ s. Follows next s a.lines (end e)) state a.follows) b.follows in
+    a.whole ∙ ap text_of rest ∙ sym b.whole

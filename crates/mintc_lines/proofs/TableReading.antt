@@ -18,7 +18,7 @@ use Rattle.mintc_lines.specs.declared.table_text.Halt.{Halt}
 use Rattle.mintc_lines.specs.TableReading.{AreKept, Halts}
 use Rattle.mintc_lines.specs.TableText.{NextOfTable, IsWholeTable, IsTableText, IsTableFault, TableLines, first, phases, phase, element, arcs, arc, bound, whole, empty, version_of, inner_names, kind_word, hold_word, element_words, IsElementLine, IsFromWord, IsToWord, IsArcLine, IsBoundLine, point_word}
 use Rattle.mintc_lines.proofs.SharedFieldsLaws.{plain-numeral, plain-number, plain-from_graphic, short}
-use Rattle.mintc_lines.proofs.SharedReadingLaws.{at_more, at_fault, at_end, at_past}
+use Rattle.mintc_lines.proofs.SharedReadingLaws.{list_more, list_all}
 
 -- ---- words that can be seen
 
@@ -105,56 +105,26 @@ plain-bound_line k few x ws h =
 abbrev pub At : List ℕ → Reading → TableLines → Type 0
 At text reading state = IsAt NextOfTable first text reading state
 
-pub more : {V : Type 0} (text : List ℕ) (old new : Reading) (state after : TableLines) (F : V → List (List ℕ) → Type 0) (v : V) →
-    At text old state → HasRead F old.left v new.left → new.number ≡ number_after old.number → ((line : List ℕ) → Spells F v line → NextOfTable state line after) → At text new after
-more text old new state after F v = at_more NextOfTable first text old new state after F v
-
-pub fault : {V : Type 0} (text : List ℕ) (old : Reading) (number : ℕ) (state : TableLines) (F : V → List (List ℕ) → Type 0) →
-    At text old state → HasNone F old.left → number ≡ number_after old.number → (IsWholeTable state → ⊥) →
-    ((line : List ℕ) (after : TableLines) → NextOfTable state line after → (v : V) × Spells F v line) → IsTableFault text number
-fault text old number state F = at_fault NextOfTable IsWholeTable first text old number state F
-
 -- ---- a list of a table: a state for each number of lines that are left
-
-take_none : {X : Type 0} (most : ℕ) (kept : List X) → kept ≡ [] → kept ≡ take most []
-take_none zero kept e = e
-take_none (suc n) kept e = e
 
 -- The items so far are all, and the first of them are kept.
 abbrev pub SoFar : {X : Type 0} → (ℕ → List X → TableLines) → ℕ → List ℕ → Reading → List X → ℕ → ℕ → Type 0
 SoFar {X} st most text reading kept i count = (all : List X) × AreKept most all kept i × At text reading (st (count - i) all)
-
-pub so_far_none : {X : Type 0} (st : ℕ → List X → TableLines) (most : ℕ) (text : List ℕ) (reading : Reading) (kept : List X) (count : ℕ) →
-    At text reading (st count []) → kept ≡ [] → SoFar st most text reading kept 0 count
-so_far_none st most text reading kept count at e =
-    ([], record { front = take_none most kept e; counted = refl }, (let same : count ≡ count - 0 = omega arith in subst (λ (n : ℕ). At text reading (st n [])) same at))
 
 pub so_far_more : {X : Type 0} (st : ℕ → List X → TableLines) (F : X → List (List ℕ) → Type 0) (most : ℕ) (text : List ℕ) (old new : Reading) (kept kept' : List X) (i count : ℕ) (x : X) →
     SoFar st most text old kept i count → i < count → HasRead F old.left x new.left → new.number ≡ number_after old.number →
     ((all : List X) → kept ≡ take most all → kept' ≡ take most (all ++ x ∷ [])) →
     ((left : ℕ) (all : List X) (line : List ℕ) → Spells F x line → NextOfTable (st (suc left) all) line (st left (all ++ x ∷ []))) →
     SoFar st most text new kept' (i + 1) count
-so_far_more st F most text old new kept kept' i count x so low read counted keeps law =
-    let left : count - i ≡ suc (count - (i + 1)) = omega arith in (
-      so.0 ++ x ∷ [],
-      record { front = keeps so.0 so.1.front; counted = omega (arith, so.1.counted, length-append so.0 (x ∷ [])) },
-      more text old new (st (suc (count - (i + 1))) so.0) (st (count - (i + 1)) (so.0 ++ x ∷ [])) F x (subst (λ (n : ℕ). At text old (st n so.0)) left so.2) read counted (law (count - (i + 1)) so.0),
-    )
-
-pub so_far_fault : {X : Type 0} (st : ℕ → List X → TableLines) (F : X → List (List ℕ) → Type 0) (most : ℕ) (text : List ℕ) (old : Reading) (number : ℕ) (kept : List X) (i count : ℕ) →
-    SoFar st most text old kept i count → i < count → HasNone F old.left → number ≡ number_after old.number →
-    ((left : ℕ) (all : List X) → IsWholeTable (st (suc left) all) → ⊥) →
-    ((left : ℕ) (all : List X) (line : List ℕ) (after : TableLines) → NextOfTable (st (suc left) all) line after → (x : X) × Spells F x line) →
-    IsTableFault text number
-so_far_fault st F most text old number kept i count so low none counted unfinished only =
-    let left : count - i ≡ suc (count - (i + 1)) = omega arith in
-    fault text old number (st (suc (count - (i + 1))) so.0) F (subst (λ (n : ℕ). At text old (st n so.0)) left so.2) none counted (unfinished (count - (i + 1)) so.0) (only (count - (i + 1)) so.0)
+so_far_more st F most text old new kept kept' i count x so low read counted keeps law = (
+  so.0 ++ x ∷ [],
+  record { front = keeps so.0 so.1.front; counted = omega (arith, so.1.counted, length-append so.0 (x ∷ [])) },
+  list_more st F text old new so.0 (so.0 ++ x ∷ []) i count x so.2 low read counted refl law,
+)
 
 pub so_far_all : {X : Type 0} (st : ℕ → List X → TableLines) (most : ℕ) (text : List ℕ) (reading : Reading) (kept : List X) (i count : ℕ) →
     SoFar st most text reading kept i count → count ≤ i → i ≤ count → (all : List X) × AreKept most all kept count × At text reading (st 0 all)
-so_far_all st most text reading kept i count so low high =
-    let none : count - i ≡ 0 = omega arith in
-    (so.0, record { front = so.1.front; counted = omega (arith, so.1.counted) }, subst (λ (n : ℕ). At text reading (st n so.0)) none so.2)
+so_far_all st most text reading kept i count so low high = (so.0, record { front = so.1.front; counted = omega (arith, so.1.counted) }, list_all st text reading so.0 i count so.2 low)
 
 -- the states of the four lists
 abbrev pub phase_states : Version → ℕ → List (List ℕ) → TableLines
@@ -168,33 +138,6 @@ arc_states ps es ns left all = arc left (design_of ps es ns all [])
 
 abbrev pub bound_states : List (List ℕ) → List Element → List (List ℕ) → List TimingArc → ℕ → List Bound → TableLines
 bound_states ps es ns xs left all = bound left (design_of ps es ns xs all)
-
-pub first_read : (text : List ℕ) (old new : Reading) (n : ℕ) → At text old first → HasRead (IsCountLine (codes "table") 1 3) old.left n new.left → new.number ≡ number_after old.number → At text new (phases (version_of n))
-first_read text old new n at read counted = more text old new first (phases (version_of n)) (IsCountLine (codes "table") 1 3) n at read counted (λ line spells. (n, spells, refl))
-
-pub phases_read : (text : List ℕ) (old new : Reading) (v : Version) (k : ℕ) → At text old (phases v) → HasRead (IsCountLine (codes "phases") 1 999999999) old.left k new.left → new.number ≡ number_after old.number → At text new (phase v k empty)
-phases_read text old new v k at read counted = more text old new (phases v) (phase v k empty) (IsCountLine (codes "phases") 1 999999999) k at read counted (λ line spells. (k, spells, refl))
-
-pub elements_read : (text : List ℕ) (old new : Reading) (v : Version) (d : Design) (n : ℕ) → At text old (phase v 0 d) → HasRead (IsCountLine (codes "elements") 0 999999999) old.left n new.left → new.number ≡ number_after old.number → At text new (element v n d)
-elements_read text old new v d n at read counted = more text old new (phase v 0 d) (element v n d) (IsCountLine (codes "elements") 0 999999999) n at read counted (λ line spells. (n, spells, refl))
-
-pub inner_read : (text : List ℕ) (old new : Reading) (v : Version) (d : Design) (m : ℕ) → At text old (element v 0 d) → HasRead (IsCountLine (codes "inner") 0 999999999) old.left m new.left → new.number ≡ number_after old.number → At text new (arcs (record d { inner = inner_names m }))
-inner_read text old new v d m at read counted = more text old new (element v 0 d) (arcs (record d { inner = inner_names m })) (IsCountLine (codes "inner") 0 999999999) m at read counted (λ line spells. (m, spells, refl))
-
-pub arcs_read : (text : List ℕ) (old new : Reading) (d : Design) (n : ℕ) → At text old (arcs d) → HasRead (IsCountLine (codes "arcs") 0 999999999) old.left n new.left → new.number ≡ number_after old.number → At text new (arc n d)
-arcs_read text old new d n at read counted = more text old new (arcs d) (arc n d) (IsCountLine (codes "arcs") 0 999999999) n at read counted (λ line spells. (n, spells, refl))
-
-pub bounds_read : (text : List ℕ) (old new : Reading) (d : Design) (n : ℕ) → At text old (arc 0 d) → HasRead (IsCountLine (codes "bounds") 0 999999999) old.left n new.left → new.number ≡ number_after old.number → At text new (bound n d)
-bounds_read text old new d n at read counted = more text old new (arc 0 d) (bound n d) (IsCountLine (codes "bounds") 0 999999999) n at read counted (λ line spells. (n, spells, refl))
-
-pub end_read : (text : List ℕ) (old new : Reading) (d : Design) → At text old (bound 0 d) → HasRead (IsWordLine (codes "end")) old.left tt new.left → new.number ≡ number_after old.number → At text new (whole d)
-end_read text old new d at read counted = more text old new (bound 0 d) (whole d) (IsWordLine (codes "end")) tt at read counted (λ line spells. (tt, spells, refl))
-
-pub end_of_table : (text : List ℕ) (old : Reading) (d : Design) → At text old (whole d) → old.left ≡ [] → IsTableText text d
-end_of_table text old d = at_end NextOfTable first text old (whole d)
-
-pub past_table : (text : List ℕ) (old : Reading) (number : ℕ) (d : Design) → At text old (whole d) → (old.left ≡ [] → ⊥) → number ≡ number_after old.number → IsTableFault text number
-past_table text old number d at left counted = at_past NextOfTable IsWholeTable first text old number (whole d) at left counted (λ line after step. step)
 
 pub length-inner_names : (m : ℕ) → length (inner_names m) ≡ m
 length-inner_names m = length-map-range_with_len (λ i. codes "n" ++ number i) 0 m

@@ -1,6 +1,8 @@
 -- A step of the search raises its lower end, and leaves it within.
 use Rattle.std.proofs.Common.{◌≡◌, ◌≤◌, ◌*◌, ◌+◌, ℕ, ℤ, pos, ◌+ℤ◌, ◌-ℤ◌, ◌*ℤ◌, ◌≤ℤ◌, ◌<ℤ◌, arith, ap, ◌∙◌, ⊎_elim}
 use Rattle.std.proofs.lemmas.Int.{ints}
+use Rattle.std.proofs.lemmas.Nat.{mul-le}
+use Rattle.mintc_fraction.proofs.SharedProducts.{times-assoc}
 use Rattle.std.proofs.Math.IntN.{*ℤ_comm}
 use Rattle.mintc_fraction.specs.Ratio.{over}
 use Rattle.mintc_timing.specs.Links.{delay_of, cycles_of}
@@ -15,30 +17,20 @@ use Rattle.mintc_ratio.proofs.GridLaws.{grid_some}
 use Rattle.mintc_ratio.proofs.SharedSumsLaws.{small-named}
 use Rattle.mintc_ratio.proofs.TurnLaws.{product_low, int_cases}
 
--- a product of three, in another order
-times_turned : (x y z : ℤ) → (x *ℤ y) *ℤ z ≡ x *ℤ (y *ℤ z)
-times_turned x y z = swap-times x y z ∙ ap (λ v. v *ℤ y) (*ℤ_comm x z) ∙ swap-times z x y ∙ *ℤ_comm (z *ℤ y) x ∙ ap (λ v. x *ℤ v) (*ℤ_comm z y)
-
 times_one : (z : ℤ) → pos 1 *ℤ z ≡ z
 times_one z = omega (arith, ints)
 
-times_le : (a b m n : ℕ) → a ≤ m → b ≤ n → a * b ≤ m * n
-times_le a b m n h k = grind arith
-
 positive_product : (m k : ℕ) → 1 ≤ m → 1 ≤ k → pos 1 ≤ℤ (pos m *ℤ pos k)
-positive_product m k h g = let p : 1 * 1 ≤ m * k = times_le 1 1 m k h g in omega (arith, ints)
+positive_product m k h g = let p : 1 * 1 ≤ m * k = mul-le 1 1 m k h g in omega (arith, ints)
 
 small_product : (m k l : ℕ) → m ≤ l → k ≤ l → (pos m *ℤ pos k) ≤ℤ pos (l * l)
-small_product m k l h g = let p : m * k ≤ l * l = times_le m k l l h g in omega (arith, ints)
+small_product m k l h g = let p : m * k ≤ l * l = mul-le m k l l h g in omega (arith, ints)
 
 twice_square : (m : ℕ) → 1 ≤ m → pos (2 * m * m) ≤ℤ pos (m * m) → ⊥
-twice_square m h k = let p : 1 * 1 ≤ m * m = times_le 1 1 m m h h in let q : 2 * m * m ≡ m * m + m * m = grind arith in omega (arith, ints)
+twice_square m h k = let p : 1 * 1 ≤ m * m = mul-le 1 1 m m h h in let q : 2 * m * m ≡ m * m + m * m = grind arith in omega (arith, ints)
 
 top_is : (m : ℕ) → pos (m * 2000000000) *ℤ pos (2 * m * m) ≡ pos (4000000000 * m * m * m)
 top_is m = let e : m * 2000000000 * (2 * m * m) ≡ 4000000000 * m * m * m = grind arith in ap (λ (k : ℕ). pos k) e
-
-mono_low : (x y : ℤ) (m : ℕ) → x ≤ℤ y → (x *ℤ pos m) ≤ℤ (y *ℤ pos m)
-mono_low x y m h = times-mono x y m h
 
 -- the numbers of a chain that is held, in its sums
 held_high : (list : Constraints) (room : Space) (held : Sums) (high : ℤ) → IsHeld list room held → IsHigh list high → (held.delay *ℤ grid_of list.nodes) ≤ℤ (pos held.cycles *ℤ high)
@@ -95,8 +87,8 @@ high_top list ordinary chain named turns =
     let grid_low : pos 0 ≤ℤ grid_of n = omega (arith, ints) in
     let small = small-named n list.links ordinary chain named in
     let top : pos (n * 2000000000) *ℤ grid_of n ≡ top_of n = top_is n in
-    let one : (delay *ℤ grid_of n) ≤ℤ (pos (n * 2000000000) *ℤ grid_of n) = mono_low delay (pos (n * 2000000000)) (2 * n * n) small in
-    let two : (pos 1 *ℤ top_of n) ≤ℤ (cycles *ℤ top_of n) = mono_low (pos 1) cycles (4000000000 * n * n * n) turns in
+    let one : (delay *ℤ grid_of n) ≤ℤ (pos (n * 2000000000) *ℤ grid_of n) = times-mono delay (pos (n * 2000000000)) (2 * n * n) small in
+    let two : (pos 1 *ℤ top_of n) ≤ℤ (cycles *ℤ top_of n) = times-mono (pos 1) cycles (4000000000 * n * n * n) turns in
     let unit : pos 1 *ℤ top_of n ≡ top_of n = omega (arith, ints) in
     omega (arith, ints)
 
@@ -117,8 +109,8 @@ gap list old room held sums high low nodes is other top floor near steeper =
     let unit : pos 1 *ℤ grid ≡ grid = omega (arith, ints) in
     let a : (sums.delay *ℤ grid) *ℤ c ≡ (sums.delay *ℤ c) *ℤ grid = swap-times sums.delay grid c in
     let b : (held.delay *ℤ grid) *ℤ t ≡ (held.delay *ℤ t) *ℤ grid = swap-times held.delay grid t in
-    let d : (low *ℤ c) *ℤ t ≡ low *ℤ (c *ℤ t) = times_turned low c t in
-    let e : (t *ℤ high) *ℤ c ≡ high *ℤ (c *ℤ t) = ap (λ v. v *ℤ c) (*ℤ_comm t high) ∙ times_turned high t c ∙ ap (λ v. high *ℤ v) (*ℤ_comm t c) in
+    let d : (low *ℤ c) *ℤ t ≡ low *ℤ (c *ℤ t) = times-assoc low c t in
+    let e : (t *ℤ high) *ℤ c ≡ high *ℤ (c *ℤ t) = ap (λ v. v *ℤ c) (*ℤ_comm t high) ∙ times-assoc high t c ∙ ap (λ v. high *ℤ v) (*ℤ_comm t c) in
     let product : pos 1 ≤ℤ (c *ℤ t) = positive_product held.cycles sums.cycles some turns in
     let step : (high *ℤ (c *ℤ t)) ≤ℤ ((low +ℤ pos 1) *ℤ (c *ℤ t)) = times-mono_positive high (low +ℤ pos 1) (c *ℤ t) (omega (arith, ints)) product in
     let more : (low +ℤ pos 1) *ℤ (c *ℤ t) ≡ low *ℤ (c *ℤ t) +ℤ pos 1 *ℤ (c *ℤ t) = add-times low (pos 1) (c *ℤ t) in

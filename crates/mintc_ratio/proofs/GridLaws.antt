@@ -5,29 +5,27 @@ use Rattle.mintc_fraction.specs.Ratio.{Ratio, over}
 use Rattle.mintc_walks.specs.Bounds.{IsWithin}
 use Rattle.mintc_ratio.proofs.Weights.{fits_128}
 use Rattle.std.proofs.lemmas.Int.{ints, to_z-of_z}
+use Rattle.std.proofs.lemmas.Nat.{mul-le}
 use Rattle.mintc_ratio.specs.Climbing.{grid_of, top_of}
-
-times_le : (a b m n : ℕ) → a ≤ m → b ≤ n → a * b ≤ m * n
-times_le a b m n h k = grind arith
 
 -- for at most 2,017 nodes the grid and its top are small
 pub top_small : (n : ℕ) → n ≤ 2017 → 4000000000 * n * n * n ≤ 2 ^ 65
 top_small n h =
-    let one = times_le 4000000000 n 4000000000 2017 (omega arith) h in
-    let two = times_le (4000000000 * n) n (4000000000 * 2017) 2017 one h in
-    let three = times_le (4000000000 * n * n) n (4000000000 * 2017 * 2017) 2017 two h in
+    let one = mul-le 4000000000 n 4000000000 2017 (omega arith) h in
+    let two = mul-le (4000000000 * n) n (4000000000 * 2017) 2017 one h in
+    let three = mul-le (4000000000 * n * n) n (4000000000 * 2017 * 2017) 2017 two h in
     omega arith
 
 pub grid_small : (n : ℕ) → n ≤ 2017 → 2 * n * n ≤ 10 ^ 7
 grid_small n h =
-    let one = times_le 2 n 2 2017 (omega arith) h in
-    let two = times_le (2 * n) n (2 * 2017) 2017 one h in
+    let one = mul-le 2 n 2 2017 (omega arith) h in
+    let two = mul-le (2 * n) n (2 * 2017) 2017 one h in
     omega arith
 
 pub grid_some : (n : ℕ) → 1 ≤ n → 2 ≤ 2 * n * n
 grid_some n h =
-    let one = times_le 2 1 2 n (omega arith) h in
-    let two = times_le 2 1 (2 * n) n (omega arith) h in
+    let one = mul-le 2 1 2 n (omega arith) h in
+    let two = mul-le 2 1 (2 * n) n (omega arith) h in
     omega arith
 
 -- the cycle time of so many parts of the grid, as the code makes it

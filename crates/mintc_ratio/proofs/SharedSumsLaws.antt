@@ -9,9 +9,8 @@ use Rattle.std.proofs.lemmas.Map.Steps.{length-le_from_distinct_below}
 use Rattle.std.proofs.lemmas.Map.Views.{Contains-from_any}
 use Rattle.mintc_walks.specs.Bounds.{IsWithin}
 use Rattle.mintc_timing.specs.declared.link.Link.{Link}
-use Rattle.mintc_timing.specs.declared.link.LinkKind.TheVariants as kind
 use Rattle.mintc_rings.specs.Rings.{total}
-use Rattle.mintc_timing.specs.Links.{link, delay_of, cycles_of, link_at}
+use Rattle.mintc_timing.specs.Links.{no_link, delay_of, cycles_of, link_at}
 use Rattle.mintc_rings.proofs.SharedRingLaws.{total-append}
 use Rattle.mintc_constraints.specs.Ordinary.{IsOrdinary, IsOrdinaryLink, constraints_of}
 use Rattle.mintc_ratio.specs.Chains.{NamesChain, links_at}
@@ -22,9 +21,6 @@ few_distinct : (n : ℕ) (xs : List ℕ) → AllPairs (λ x y. x ≢ y) xs → A
 few_distinct n xs apart below =
     length-le_from_distinct_below xs n (IsDistinct-from_AllPairs Decides-eqb xs apart)
     (λ q h. let at = Contains-from_any (λ x y e. (Decides-eqb x y).0 e) q xs h in let b : get_or xs at.0 q < n = below at.0 q at.1 in let e : get_or xs at.0 q ≡ q = at.2 in omega arith)
-
-abbrev no_link : Link
-no_link = link (kind.Other 0) 0 0 (pos 0) 0
 
 module _ (nodes : ℕ) (links : List Link) (ordinary : IsOrdinary (constraints_of nodes links)) where
   pub ordinary-at : (e : ℕ) → e < length links → IsOrdinaryLink nodes (link_at links e)
@@ -72,13 +68,7 @@ pub record IsSummed (links : List Link) (chain : List ℕ) (i : ℕ) (delay : �
   pub within : IsWithin (i * 4000000000) delay
 
 pub summed-none : (links : List Link) (chain : List ℕ) → IsSummed links chain 0 (pos 0) 0
-summed-none links chain = record { delay_is = none; cycles_is = nothing; few = omega arith; most = omega (arith, ints); within = (omega (arith, ints), omega (arith, ints)) }
-  where
-    none : delay_of (links_at links (take 0 chain)) ≡ pos 0
-    none = refl
-
-    nothing : cycles_of (links_at links (take 0 chain)) ≡ pos 0
-    nothing = refl
+summed-none links chain = record { delay_is = refl; cycles_is = refl; few = omega arith; most = omega (arith, ints); within = (omega (arith, ints), omega (arith, ints)) }
 
 pub summed-more : (nodes : ℕ) (links : List Link) (chain : List ℕ) (i : ℕ) (delay : ℤ) (cycles : ℕ) → i < length chain → IsOrdinaryLink nodes (link_at links (get_or chain i 0)) → IsSummed links chain i delay cycles →
     IsSummed links chain (i + 1) (delay +ℤ (link_at links (get_or chain i 0)).delay) (cycles + (link_at links (get_or chain i 0)).cycles)
@@ -88,21 +78,16 @@ summed-more nodes links chain i delay cycles h ordinary s =
     let t = links-more links chain i h (λ x. pos x.cycles) in
     let before = s.delay_is in
     let turns = s.cycles_is in
-    let low = ordinary.delay.0 in let high = ordinary.delay.1 in
-    let one = ordinary.cycles in
-    let few = s.few in
-    let most = s.most in
-    let a = s.within.0 in let b = s.within.1 in
     record {
       delay_is = d ∙ ap (λ (z : ℤ). z +ℤ k.delay) before;
       cycles_is = t ∙ ap (λ (z : ℤ). z +ℤ pos k.cycles) turns;
-      few = omega arith;
-      most = omega (arith, ints);
-      within = (omega (arith, ints), omega (arith, ints));
+      few = omega (arith, s.few, ordinary.cycles);
+      most = omega (arith, ints, s.most, ordinary.delay);
+      within = (omega (arith, ints, s.within, ordinary.delay), omega (arith, ints, s.within, ordinary.delay));
     }
 
 pub sum-fits : (i : ℕ) (x y : ℤ) → i < 2017 → IsWithin (i * 4000000000) x → IsWithin 4000000000 y → SFits w64 (x +ℤ y)
-sum-fits i x y lt h k = let a = h.0 in let b = h.1 in let c = k.0 in let d = k.1 in omega (arith, ints)
+sum-fits i x y lt h k = omega (arith, ints)
 
 pub small-summed : (nodes : ℕ) (links : List Link) → IsOrdinary (constraints_of nodes links) → (chain : List ℕ) → NamesChain links chain → (i : ℕ) (delay : ℤ) (cycles : ℕ) → i ≤ length chain → IsSummed links chain i delay cycles →
     IsSmall nodes (record { delay = delay; cycles = cycles })

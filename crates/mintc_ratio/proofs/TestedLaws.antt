@@ -1,9 +1,9 @@
 -- What a walk over the weighed links of a list leaves: their greatest walks, or a chain.
-use Rattle.std.proofs.Common.{◌≡◌, ◌≢◌, ℕ, ℤ, pos, ◌^◌, ◌≤ℤ◌, ◌<ℤ◌, ◌<◌, List, [], ◌∷◌, length, take, get_or, ⊎_elim, refl, sym, ap, subst, arith, ◌∙◌, All, Contains, to_z, of_z, lit<}
+use Rattle.std.proofs.Common.{◌≡◌, ◌≢◌, ℕ, ℤ, pos, ◌^◌, ◌≤ℤ◌, ◌<ℤ◌, ◌<◌, List, [], ◌∷◌, length, take, get_or, ⊎_elim, refl, sym, ap, subst, arith, ◌∙◌, All, to_z, of_z, lit<}
 use Rattle.std.specs.Int.{w128}
 use Rattle.std.proofs.lemmas.Int.{ints, to_z-of_z}
 use Rattle.std.proofs.lemmas.List.{length-map, take_all, get_or_default}
-use Rattle.std.proofs.lemmas.List.Elements.{All-nil, All-cons, All-head, All-tail, Contains-get_or}
+use Rattle.std.proofs.lemmas.List.Elements.{All-head}
 use Rattle.std.proofs.lemmas.Bool.{cases_eq}
 use Rattle.mintc_fraction.specs.Ratio.{Ratio, over}
 use Rattle.mintc_timing.specs.declared.link.Link.{Link}
@@ -12,11 +12,11 @@ use Rattle.mintc_timing.specs.Links.{Forbids, IsMet, no_link, link_at}
 use Rattle.mintc_rings.proofs.SharedRingLaws.{listed, numbers_of, exist-leads, closed-leads, leads-closed}
 use Rattle.mintc_constraints.specs.Ordinary.{Leads, IsOrdinaryLink}
 use Rattle.mintc_walks.specs.declared.network.TheConstants.{UNREACHED}
-use Rattle.mintc_walks.specs.Bounds.{AreBounded, IsWithin}
+use Rattle.mintc_walks.specs.Bounds.{IsWithin}
 use Rattle.mintc_walks.specs.Walks.{value_at, IsStart, IsReached}
 use Rattle.mintc_walks.specs.Answers.{Meets, HasGreatest, HasChain}
 use Rattle.mintc_ratio.specs.Chains.{links_at, NamesChain}
-use Rattle.mintc_ratio.specs.Greatest.{asked_by, asked_by_link, AreGreatest}
+use Rattle.mintc_ratio.specs.Greatest.{asked_by, AreGreatest}
 use Rattle.mintc_ratio.specs.Tested.{NoneForbids}
 use Rattle.mintc_ratio.specs.Weighed.{IsTestable, arcs_of}
 use Rattle.mintc_ratio.proofs.Weights.{fits_128, num_within, den_within}
@@ -80,13 +80,6 @@ module _ (at : Ratio) (links : List Link) where
     start : IsStart starts 0
     start = (rw few some, rw origin (omega (arith, ints)))
 
-    pub bounded-starts : AreBounded (2 ^ 80) starts
-    bounded-starts v h =
-        ⊎_elim
-        (λ q. let o : value_at starts v ≡ pos 0 = rw q origin in (omega (arith, ints), λ r. (omega (arith, ints), omega (arith, ints))))
-        (λ q. let o = others v (rw few at h) q in (omega (arith, ints), λ r. absurd (omega (arith, ints))))
-        (cases_eq v 0)
-
     module _ (g : HasGreatest (arcs_of at links) starts values) (each : All (IsOrdinaryLink n) links) (reach : (v : ℕ) → v < n → (walk : List ℕ) × Leads links 0 walk v) where
       ordinary : (e : ℕ) → e < length links → IsOrdinaryLink n (link_at links e)
       ordinary e h = each e no_link h
@@ -143,8 +136,8 @@ module _ (at : Ratio) (links : List Link) where
           let above : (u : ℕ) → IsStart starts u → value_at starts u ≤ℤ x u = λ u s. let o = only_origin u s in rw (o, origin, z) (omega (arith, ints)) in
           g.least x meets above v (rw few h) (all_reached v h)
 
-      none : NoneForbids links at
-      none chain is_chain forbids =
+      pub none-from_walks : NoneForbids links at
+      none-from_walks chain is_chain forbids =
           let ns = numbers_of no_link links chain is_chain.listed in
           let es = ns.0 in
           let closed = leads-closed (λ (k : Link). k.from) (λ (k : Link). k.to) no_link links es ns.2 (subst (λ (x : List Link). IsClosed (λ k. k.from) (λ k. k.to) x) (sym ns.1) is_chain.closed) in
@@ -163,6 +156,3 @@ module _ (at : Ratio) (links : List Link) where
         met = met;
         least = least;
       }
-
-      pub none-from_walks : NoneForbids links at
-      none-from_walks = none

@@ -14,7 +14,7 @@ use Rattle.mintc_ratio.specs.declared.sums.Sums.{Sums}
 use Rattle.mintc_ratio.specs.declared.turns.Turn.{Turn}
 use Rattle.mintc_ratio.specs.declared.turns.Turn.TheVariants.{Found, Held, Free}
 use Rattle.mintc_ratio.specs.Chains.{links_at}
-use Rattle.mintc_ratio.specs.Climbing.{IsHeld, IsOfChain, IsJump, IsHalving, grid_of}
+use Rattle.mintc_ratio.specs.Climbing.{IsHeld, IsOfChain, IsJump}
 use Rattle.mintc_ratio.specs.Greatest.{AreGreatest}
 use Rattle.mintc_ratio.specs.Searched.{IsCycle, IsLeast}
 use Rattle.mintc_ratio.specs.Tested.{NoneForbids}
@@ -80,14 +80,6 @@ jump_turn list held a room (Held sums) p q same forbids h =
     let f : (pos sums.cycles *ℤ a.num) <ℤ (sums.delay *ℤ a.den) = rw (h.has_sums.delay, h.has_sums.cycles) at forbids in
     (h, steeper a held.delay sums.delay (pos held.cycles) (pos sums.cycles) p (omega (arith, ints)) same f)
 jump_turn list held a room Free p q same forbids h = h
-
--- one that forbids a part of the grid
-pub halving_turn : (list : Constraints) (middle : ℤ) (old room : Space) (turn : Turn) → Forbids (links_at list.links room.chain) middle (grid_of list.nodes) → IsOfChain list room turn → IsHalving list middle old room turn
-halving_turn list middle old room (Found outcome) forbids h = h
-halving_turn list middle old room (Held sums) forbids h =
-    let f : (pos sums.cycles *ℤ middle) <ℤ (sums.delay *ℤ grid_of list.nodes) = rw (h.has_sums.delay, h.has_sums.cycles) at forbids in
-    (h, rw (*ℤ_comm middle (pos sums.cycles)) f)
-halving_turn list middle old room Free forbids h = absurd h
 
 -- the least cycle time, where no chain forbids the ratio that is held
 pub least_held : (list : Constraints) (held : Sums) (a : Ratio) (old new : Space) → IsOrdinary list → IsHeld list old held → IsCycle a → a.num *ℤ pos held.cycles ≡ held.delay *ℤ a.den →

@@ -1,5 +1,5 @@
 -- Links as arcs that weigh what they ask for at a cycle time.
-use Rattle.std.proofs.Common.{◌≡◌, ℕ, zero, suc, ℤ, pos, ◌^◌, ◌<◌, List, [], ◌∷◌, length, refl, sym, arith, ◌∙◌, to_z, of_z, lit<, All}
+use Rattle.std.proofs.Common.{◌≡◌, ℕ, zero, suc, ℤ, pos, ◌^◌, ◌<◌, List, [], ◌∷◌, length, refl, sym, arith, to_z, of_z, lit<, All}
 use Rattle.std.specs.Int.{w128}
 use Rattle.std.proofs.lemmas.Int.{ints, to_z-of_z}
 use Rattle.std.proofs.lemmas.List.{get_or-map, length-map}

@@ -1,9 +1,9 @@
 -- Sizes of what links ask for, in 64 and in 128 bits.
-use Rattle.std.proofs.Common.{◌≡◌, ℕ, zero, suc, ℤ, pos, negsuc, ◌*◌, ◌^◌, ◌+ℤ◌, ◌-ℤ◌, ◌*ℤ◌, ◌<◌, ◌≤◌, refl, ⊎_elim, ◌⊎◌, inl, inr, ap, arith}
+use Rattle.std.proofs.Common.{◌≡◌, ℕ, zero, suc, ℤ, pos, negsuc, ◌*◌, ◌^◌, ◌+ℤ◌, ◌-ℤ◌, ◌*ℤ◌, ◌<◌, ◌≤◌, refl, ⊎_elim, ◌⊎◌, inl, inr, arith}
 use Rattle.std.proofs.lemmas.Int.{ints, to_z-of_z, fits_signed_from_abs}
 use Rattle.std.proofs.Common.{SFits, to_z, of_z, lit<}
 use Rattle.std.specs.Int.{w64, w128}
-use borrow.Author.Differences.{up, down, sum_is_lem}
+use Rattle.mintc_timing.proofs.SharedProducts.{add-times}
 use Rattle.mintc_fraction.specs.Ratio.{over}
 use Rattle.mintc_ratio.specs.Weighed.{IsTestable}
 use Rattle.mintc_walks.specs.Bounds.{IsWithin}
@@ -43,9 +43,6 @@ module _ (d f num den : ℤ) (from : f ≡ d) (delay : IsWithin 4000000000 d) (t
   rest_within : IsWithin (2 ^ 79) ((d *ℤ den) -ℤ num)
   rest_within = let p = product_within in let n = num_within in let p0 = p.0 in let p1 = p.1 in let n0 = n.0 in let n1 = n.1 in (omega (arith, ints), omega (arith, ints))
 
-  pub rest_fits : SFits w128 (to_z w128 (of_z w128 (to_z w128 (of_z w128 f) *ℤ to_z w128 (of_z w128 den))) -ℤ to_z w128 (of_z w128 num))
-  rest_fits = rw (product_is, to_z-of_z w128 num (fits_128 (10 ^ 20) num (lit< tt) num_within)) (fits_128 (2 ^ 79) ((d *ℤ den) -ℤ num) (lit< tt) rest_within)
-
   pub rest_is : to_z w128 (of_z w128 (to_z w128 (of_z w128 (to_z w128 (of_z w128 f) *ℤ to_z w128 (of_z w128 den))) -ℤ to_z w128 (of_z w128 num))) ≡ (d *ℤ den) -ℤ num
   rest_is = rw (product_is, to_z-of_z w128 num (fits_128 (10 ^ 20) num (lit< tt) num_within)) (to_z-of_z w128 ((d *ℤ den) -ℤ num) (fits_128 (2 ^ 79) ((d *ℤ den) -ℤ num) (lit< tt) rest_within))
 
@@ -55,16 +52,8 @@ module _ (d f num den : ℤ) (from : f ≡ d) (delay : IsWithin 4000000000 d) (t
   pub rest_small : IsWithin (2 ^ 80) ((d *ℤ den) -ℤ num)
   rest_small = let p = rest_within in let p0 = p.0 in let p1 = p.1 in (omega (arith, ints), omega (arith, ints))
 
--- a product of a sum; two differences are multiplied out by hand, since a tactic does not multiply two unknown facts
-distribute : (a b d : ℤ) → (a +ℤ b) *ℤ d ≡ (a *ℤ d) +ℤ (b *ℤ d)
-distribute a b d =
-    let s = sum_is_lem a b in
-    let p = ap (λ k. k * up d) s in
-    let q = ap (λ k. k * down d) s in
-    omega (arith, ints)
-
 pub weight_step : (d s den num c t : ℤ) → ((d *ℤ den) -ℤ (c *ℤ num)) +ℤ ((s *ℤ den) -ℤ (t *ℤ num)) ≡ ((d +ℤ s) *ℤ den) -ℤ ((c +ℤ t) *ℤ num)
-weight_step d s den num c t = let a = distribute d s den in let b = distribute c t num in omega (arith, ints)
+weight_step d s den num c t = let a = add-times d s den in let b = add-times c t num in omega (arith, ints)
 
 cases_small : (c : ℕ) → c ≤ 1 → (c ≡ 0) ⊎ (c ≡ 1)
 cases_small zero h = inl refl

@@ -1,5 +1,5 @@
 -- What walks ask for at a cycle time, and the greatest of them.
-use Rattle.std.specs.Prelude.{◌≡◌, ◌<◌, ℕ, ℤ, pos, ◌+ℤ◌, ◌-ℤ◌, ◌*ℤ◌, ◌≤ℤ◌, List, length, All}
+use Rattle.std.specs.Prelude.{◌≡◌, ◌<◌, ℕ, ℤ, pos, ◌-ℤ◌, ◌*ℤ◌, ◌≤ℤ◌, List, length, All}
 use Rattle.mintc_fraction.specs.Ratio.{Ratio}
 use Rattle.mintc_timing.specs.declared.link.Link.{Link}
 use Rattle.mintc_timing.specs.Links.{delay_of, cycles_of, IsMet}

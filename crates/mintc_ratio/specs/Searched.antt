@@ -1,7 +1,6 @@
 -- What the search for the least cycle time leaves.
-use Rattle.std.specs.Prelude.{◌≡◌, pos, ◌*ℤ◌, ◌≤ℤ◌, ◌<ℤ◌, List}
+use Rattle.std.specs.Prelude.{pos, ◌≤ℤ◌}
 use Rattle.mintc_fraction.specs.Ratio.{Ratio, IsFraction, IsLowest}
-use Rattle.mintc_timing.specs.declared.link.Link.{Link}
 use Rattle.mintc_timing.specs.Links.{IsTight, IsStuck}
 use Rattle.mintc_constraints.specs.Ordinary.{Constraints}
 use Rattle.mintc_constraints.specs.Rooms.{Space}

@@ -1,10 +1,10 @@
-use Rattle.std.proofs.Common.{◌≡◌, ℤ, List, SFits, w64, codes, refl, arith, subst, sym}
+use Rattle.std.proofs.Common.{◌≡◌, ℤ, List, [], SFits, w64, refl, arith, subst, sym}
 use Rattle.std.proofs.lemmas.Int.{to_z-of_z}
-use Rattle.mintc_lines.specs.Fields.{IsCountLine}
 use Rattle.mintc_timing.proofs.SharedFitting.{read_time}
 use Rattle.mintc_certificate.specs.declared.version.Version.{Version}
-use Rattle.mintc_certificate.specs.CertificateText.{phase, departure, least_departure}
-use Rattle.mintc_certificate.proofs.CertificateReading.{fault, departures_read, list_none, list_more, list_fault, list_all, departure_states, IsDepartureLine, IsTime-departure, least_fits, At}
+use Rattle.mintc_certificate.specs.CertificateText.{departure, least_departure}
+use Rattle.mintc_certificate.proofs.CertificateReading.{departure_states, IsDepartureLine, IsTime-departure, least_fits, At}
+use Rattle.mintc_lines.proofs.SharedReadingLaws.{at_fault, at_more, list_none, list_more, list_fault, list_all}
 use Rattle.mintc_certificate.proofs.reading.departures.Goals as goal
 
 fits_as : (x : ℤ) (v : Version) → x ≡ least_departure v → SFits w64 x
@@ -12,11 +12,11 @@ fits_as x v e = subst (SFits w64) (sym e) (least_fits v)
 
 pub returns-in_default : goal.returns-in_default
 returns-in_default c = λ text s at.
-    fault text c.args.reader.now c.count_line.new.self.number (phase c.args.version 0 s) (IsCountLine (codes "departures") 0 999999999) at c.in_default.ensures.read c.in_default.ensures.counted (λ e. e) (λ line after step. (step.0, step.1))
+    at_fault at c.in_default.ensures.read c.in_default.ensures.counted (λ e. e) (λ line after step. (step.0, step.1))
 
 pub returns-in_default-number_line : goal.returns-in_default-number_line
 returns-in_default-number_line c = λ text s at.
-    let begun = departures_read text c.args.reader.now c.count_line.new.self c.args.version s c.in-Some.count at c.in-Some.ensures.read c.in-Some.ensures.counted in
+    let begun = at_more c.count_line.new.self (departure c.args.version c.in-Some.count s []) at c.in-Some.ensures.read c.in-Some.ensures.counted (λ line spells. (_, spells, refl)) in
     let low = c.least_departure-least.ensures in
     let none = rw (to_z-of_z w64 c.least_departure-least.result (fits_as c.least_departure-least.result c.args.version low), low) at c.in_default-number_line.ensures.read in
     list_fault (departure_states c.args.version s) (IsDepartureLine c.args.version) text c.loop-departure.reader c.number_line.new.self.number c.loop-departure.found.items c.loop-departure._departure c.in-Some.count
@@ -35,7 +35,7 @@ loop-departure-preserved c = λ text s at.
 
 pub returns : goal.returns
 returns c = λ text s at.
-    let begun = departures_read text c.args.reader.now c.count_line.new.self c.args.version s c.in-Some.count at c.in-Some.ensures.read c.in-Some.ensures.counted in
+    let begun = at_more c.count_line.new.self (departure c.args.version c.in-Some.count s []) at c.in-Some.ensures.read c.in-Some.ensures.counted (λ line spells. (_, spells, refl)) in
     let R : List ℤ → Type 0 = λ ds. At text c.loop-departure.reader (departure c.args.version 0 s ds) in
     subst R (sym c.new.ensures)
     (list_all (departure_states c.args.version s) text c.loop-departure.reader c.loop-departure.found.items c.loop-departure._departure c.in-Some.count (c.loop-departure.invariant text s begun) (omega arith))

@@ -1,19 +1,20 @@
-use Rattle.std.proofs.Common.{ℕ, [], length, arith, codes, subst, sym, refl}
+use Rattle.std.proofs.Common.{ℕ, [], length, arith, subst, sym, refl}
 use Rattle.mintc_timing.specs.Design.{design_of}
-use Rattle.mintc_lines.specs.Fields.{Spells, IsCountLine}
-use Rattle.mintc_lines.specs.TableText.{arcs, IsArcLine}
-use Rattle.mintc_lines.proofs.TableReading.{fault, arcs_read, so_far_more, so_far_fault, so_far_all, arc_states}
+use Rattle.mintc_lines.specs.Fields.{Spells}
+use Rattle.mintc_lines.specs.TableText.{IsArcLine, arc}
+use Rattle.mintc_lines.proofs.TableReading.{so_far_more, so_far_all, arc_states}
+use Rattle.mintc_lines.proofs.SharedReadingLaws.{at_fault, at_more, list_fault}
 use Rattle.mintc_lines.proofs.table_text.arcs.Goals as goal
 
 pub returns-in_default : goal.returns-in_default
 returns-in_default c = λ text ps es ns counted inner at.
-    fault text c.args.reader.now c.count_line.new.self.number (arcs (design_of ps es ns [] [])) (IsCountLine (codes "arcs") 0 999999999) at c.in_default.ensures.read c.in_default.ensures.counted (λ e. e) (λ line after step. (step.0, step.1))
+    at_fault at c.in_default.ensures.read c.in_default.ensures.counted (λ e. e) (λ line after step. (step.0, step.1))
 
 pub returns-in_default-arc_line : goal.returns-in_default-arc_line
 returns-in_default-arc_line c = λ text ps es ns counted inner at.
-    let begun = arcs_read text c.args.reader.now c.count_line.new.self (design_of ps es ns [] []) c.in-Some.count at c.in-Some.ensures.read c.in-Some.ensures.counted in
-    so_far_fault (arc_states ps es ns) (IsArcLine c.args.elements c.args.inner) 524288 text c.loop-arc.reader c.arc_line.new.reader.number c.loop-arc.kept.items c.loop-arc._arc c.in-Some.count
-    (c.loop-arc.invariant text ps es ns counted inner begun) (omega arith) c.in_default-arc_line.ensures.read c.in_default-arc_line.ensures.counted (λ left all e. e) (λ left all line after step. (step.0, subst (λ (k : ℕ). Spells (IsArcLine c.args.elements k) step.0 line) inner (subst (λ (k : ℕ). Spells (IsArcLine k (length ns)) step.0 line) counted step.1)))
+    let begun = at_more c.count_line.new.self (arc c.in-Some.count (design_of ps es ns [] [])) at c.in-Some.ensures.read c.in-Some.ensures.counted (λ line spells. (_, spells, refl)) in
+    let so = c.loop-arc.invariant text ps es ns counted inner begun in
+    list_fault (arc_states ps es ns) (IsArcLine c.args.elements c.args.inner) text c.loop-arc.reader c.arc_line.new.reader.number so.0 c.loop-arc._arc c.in-Some.count so.2 (omega arith) c.in_default-arc_line.ensures.read c.in_default-arc_line.ensures.counted (λ left all e. e) (λ left all line after step. (step.0, subst (λ (k : ℕ). Spells (IsArcLine c.args.elements k) step.0 line) inner (subst (λ (k : ℕ). Spells (IsArcLine k (length ns)) step.0 line) counted step.1)))
 
 pub loop-arc-preserved : goal.loop-arc-preserved
 loop-arc-preserved c = λ text ps es ns counted inner at.
@@ -22,6 +23,6 @@ loop-arc-preserved c = λ text ps es ns counted inner at.
 
 pub returns : goal.returns
 returns c = λ text ps es ns counted inner at.
-    let begun = arcs_read text c.args.reader.now c.count_line.new.self (design_of ps es ns [] []) c.in-Some.count at c.in-Some.ensures.read c.in-Some.ensures.counted in
+    let begun = at_more c.count_line.new.self (arc c.in-Some.count (design_of ps es ns [] [])) at c.in-Some.ensures.read c.in-Some.ensures.counted (λ line spells. (_, spells, refl)) in
     let all = so_far_all (arc_states ps es ns) 524288 text c.loop-arc.reader c.loop-arc.kept.items c.loop-arc._arc c.in-Some.count (c.loop-arc.invariant text ps es ns counted inner begun) (omega arith) (omega arith) in
     all

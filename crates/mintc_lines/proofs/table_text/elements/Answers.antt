@@ -1,21 +1,22 @@
-use Rattle.std.proofs.Common.{◌≡◌, ℕ, List, [], ◌∷◌, arith, codes, subst, sym, refl, take, ◌++◌}
+use Rattle.std.proofs.Common.{◌≡◌, ℕ, List, [], ◌∷◌, arith, subst, sym, refl, take, ◌++◌}
 use Rattle.mintc_timing.specs.declared.parts.Element.{Element}
 use Rattle.mintc_timing.specs.Design.{design_of}
 use Rattle.mintc_lines.specs.ElementWords.{named}
-use Rattle.mintc_lines.specs.Fields.{Spells, IsCountLine}
-use Rattle.mintc_lines.specs.TableText.{phase, IsElementLine}
-use Rattle.mintc_lines.proofs.TableReading.{fault, elements_read, so_far_more, so_far_fault, so_far_all, element_states}
+use Rattle.mintc_lines.specs.Fields.{Spells}
+use Rattle.mintc_lines.specs.TableText.{IsElementLine, element}
+use Rattle.mintc_lines.proofs.TableReading.{so_far_more, so_far_all, element_states}
+use Rattle.mintc_lines.proofs.SharedReadingLaws.{at_fault, at_more, list_fault}
 use Rattle.mintc_lines.proofs.table_text.elements.Goals as goal
 
 pub returns-in_default-clause-read : goal.returns-in_default-clause-read
 returns-in_default-clause-read c = λ text ps counted at.
-    fault text c.args.reader.now c.count_line.new.self.number (phase c.args.version 0 (design_of ps [] [] [] [])) (IsCountLine (codes "elements") 0 999999999) at c.in_default.ensures.read c.in_default.ensures.counted (λ e. e) (λ line after step. (step.0, step.1))
+    at_fault at c.in_default.ensures.read c.in_default.ensures.counted (λ e. e) (λ line after step. (step.0, step.1))
 
 pub returns-in_default-element_line-clause-read : goal.returns-in_default-element_line-clause-read
 returns-in_default-element_line-clause-read c = λ text ps counted at.
-    let begun = elements_read text c.args.reader.now c.count_line.new.self c.args.version (design_of ps [] [] [] []) c.in-Some.count at c.in-Some.ensures.read c.in-Some.ensures.counted in
-    so_far_fault (element_states c.args.version ps) (IsElementLine c.args.version c.args.phases) 2000 text c.loop-element.reader c.element_line.new.reader.number c.loop-element.kept.items c.loop-element._element c.in-Some.count
-    (c.loop-element.invariant text ps counted begun) (omega arith) c.in_default-element_line.ensures.read c.in_default-element_line.ensures.counted (λ left all e. e) (λ left all line after step. (step.0, subst (λ (k : ℕ). Spells (IsElementLine c.args.version k) step.0 line) counted step.1))
+    let begun = at_more c.count_line.new.self (element c.args.version c.in-Some.count (design_of ps [] [] [] [])) at c.in-Some.ensures.read c.in-Some.ensures.counted (λ line spells. (_, spells, refl)) in
+    let so = c.loop-element.invariant text ps counted begun in
+    list_fault (element_states c.args.version ps) (IsElementLine c.args.version c.args.phases) text c.loop-element.reader c.element_line.new.reader.number so.0 c.loop-element._element c.in-Some.count so.2 (omega arith) c.in_default-element_line.ensures.read c.in_default-element_line.ensures.counted (λ left all e. e) (λ left all line after step. (step.0, subst (λ (k : ℕ). Spells (IsElementLine c.args.version k) step.0 line) counted step.1))
 
 pub loop-element-preserved : goal.loop-element-preserved
 loop-element-preserved c = λ text ps counted at.
@@ -24,6 +25,6 @@ loop-element-preserved c = λ text ps counted at.
 
 pub returns-clause-read : goal.returns-clause-read
 returns-clause-read c = λ text ps counted at.
-    let begun = elements_read text c.args.reader.now c.count_line.new.self c.args.version (design_of ps [] [] [] []) c.in-Some.count at c.in-Some.ensures.read c.in-Some.ensures.counted in
+    let begun = at_more c.count_line.new.self (element c.args.version c.in-Some.count (design_of ps [] [] [] [])) at c.in-Some.ensures.read c.in-Some.ensures.counted (λ line spells. (_, spells, refl)) in
     let all = so_far_all (element_states c.args.version ps) 2000 text c.loop-element.reader c.loop-element.kept.items c.loop-element._element c.in-Some.count (c.loop-element.invariant text ps counted begun) (omega arith) (omega arith) in
     all

@@ -1,25 +1,25 @@
-use Rattle.std.proofs.Common.{codes, sym, [], subst}
+use Rattle.std.proofs.Common.{sym, [], subst, refl}
 use Rattle.std.proofs.lemmas.Result.{err_from_is_err_and}
 use Rattle.mintc_lines.specs.declared.table_lines.Version.{Version}
 use Rattle.mintc_timing.specs.Design.{design_of}
-use Rattle.mintc_lines.specs.Fields.{IsCountLine}
-use Rattle.mintc_lines.specs.TableText.{first, phase, element, version_of}
-use Rattle.mintc_lines.proofs.TableReading.{At, fault, first_read, inner_read, at_halt}
+use Rattle.mintc_lines.specs.TableText.{phase, version_of, arcs, inner_names, phases}
+use Rattle.mintc_lines.proofs.TableReading.{At, at_halt}
+use Rattle.mintc_lines.proofs.SharedReadingLaws.{at_fault, at_more}
 use Rattle.mintc_lines.proofs.table_text.front.Goals as goal
 
 pub returns-in_default-clause-read : goal.returns-in_default-clause-read
 returns-in_default-clause-read c = λ text at.
-    fault text c.args.reader.now c.count_line.new.self.number first (IsCountLine (codes "table") 1 3) at c.in_default.ensures.read c.in_default.ensures.counted (λ e. e) (λ line after step. (step.0, step.1))
+    at_fault at c.in_default.ensures.read c.in_default.ensures.counted (λ e. e) (λ line after step. (step.0, step.1))
 
 pub returns-in_err-names-clause-read : goal.returns-in_err-names-clause-read
 returns-in_err-names-clause-read c = λ text at.
-    let one = first_read text c.args.reader.now c.count_line.new.self c.in-Some.number at c.in-Some.ensures.read c.in-Some.ensures.counted in
+    let one = at_more c.count_line.new.self (phases (version_of c.in-Some.number)) at c.in-Some.ensures.read c.in-Some.ensures.counted (λ line spells. (_, spells, refl)) in
     at_halt c.from_residual.result c.in_err-names.field-0.0 _ _ (err_from_is_err_and c.from_residual.result c.from_residual.ensures.1)
     (c.in_err-names.ensures.read text (version_of c.in-Some.number) one)
 
 pub returns-in_err-listed-clause-read : goal.returns-in_err-listed-clause-read
 returns-in_err-listed-clause-read c = λ text at.
-    let one = first_read text c.args.reader.now c.count_line.new.self c.in-Some.number at c.in-Some.ensures.read c.in-Some.ensures.counted in
+    let one = at_more c.count_line.new.self (phases (version_of c.in-Some.number)) at c.in-Some.ensures.read c.in-Some.ensures.counted (λ line spells. (_, spells, refl)) in
     let two = c.in_ok-names.ensures.read text (version_of c.in-Some.number) one in
     let begun = subst (λ (v : Version). At text c.phases.new.reader (phase v 0 (design_of two.0 [] [] [] []))) (sym c.version_of.ensures) two.3 in
     at_halt c.from_residual-in_err-listed.result c.in_err-listed.field-0.0 _ _ (err_from_is_err_and c.from_residual-in_err-listed.result c.from_residual-in_err-listed.ensures.1)
@@ -27,18 +27,18 @@ returns-in_err-listed-clause-read c = λ text at.
 
 pub returns-in_default-count_line-clause-read : goal.returns-in_default-count_line-clause-read
 returns-in_default-count_line-clause-read c = λ text at.
-    let one = first_read text c.args.reader.now c.count_line.new.self c.in-Some.number at c.in-Some.ensures.read c.in-Some.ensures.counted in
+    let one = at_more c.count_line.new.self (phases (version_of c.in-Some.number)) at c.in-Some.ensures.read c.in-Some.ensures.counted (λ line spells. (_, spells, refl)) in
     let two = c.in_ok-names.ensures.read text (version_of c.in-Some.number) one in
     let begun = subst (λ (v : Version). At text c.phases.new.reader (phase v 0 (design_of two.0 [] [] [] []))) (sym c.version_of.ensures) two.3 in
     let three = c.in_ok-listed.ensures.read text two.0 two.2.counted begun in
-    fault text c.elements.new.reader c.count_line-2.new.self.number (element c.version_of.result 0 (design_of two.0 three.0 [] [] [])) (IsCountLine (codes "inner") 0 999999999) three.2
+    at_fault three.2
     c.in_default-count_line.ensures.read c.in_default-count_line.ensures.counted (λ e. e) (λ line after step. (step.0, step.1))
 
 pub returns-clause-read : goal.returns-clause-read
 returns-clause-read c = λ text at.
-    let one = first_read text c.args.reader.now c.count_line.new.self c.in-Some.number at c.in-Some.ensures.read c.in-Some.ensures.counted in
+    let one = at_more c.count_line.new.self (phases (version_of c.in-Some.number)) at c.in-Some.ensures.read c.in-Some.ensures.counted (λ line spells. (_, spells, refl)) in
     let two = c.in_ok-names.ensures.read text (version_of c.in-Some.number) one in
     let begun = subst (λ (v : Version). At text c.phases.new.reader (phase v 0 (design_of two.0 [] [] [] []))) (sym c.version_of.ensures) two.3 in
     let three = c.in_ok-listed.ensures.read text two.0 two.2.counted begun in
-    let four = inner_read text c.elements.new.reader c.count_line-2.new.self c.version_of.result (design_of two.0 three.0 [] [] []) c.in-Some-count_line.inner three.2 c.in-Some-count_line.ensures.read c.in-Some-count_line.ensures.counted in
+    let four = at_more c.count_line-2.new.self (arcs (record (design_of two.0 three.0 [] [] []) { inner = inner_names c.in-Some-count_line.inner })) three.2 c.in-Some-count_line.ensures.read c.in-Some-count_line.ensures.counted (λ line spells. (_, spells, refl)) in
     (two.0, three.0, two.2, three.1, four)

@@ -1,9 +1,9 @@
-use Rattle.std.proofs.Common.{codes, refl}
+use Rattle.std.proofs.Common.{refl}
 use Rattle.std.proofs.lemmas.Result.{err_from_is_err_and}
 use Rattle.mintc_timing.specs.Design.{design_of}
-use Rattle.mintc_lines.specs.Fields.{IsWordLine}
-use Rattle.mintc_lines.specs.TableText.{bound, inner_names}
-use Rattle.mintc_lines.proofs.TableReading.{fault, end_read, end_of_table, past_table, at_halt, length-inner_names}
+use Rattle.mintc_lines.specs.TableText.{inner_names, whole}
+use Rattle.mintc_lines.proofs.TableReading.{at_halt, length-inner_names}
+use Rattle.mintc_lines.proofs.SharedReadingLaws.{at_end, at_fault, at_more, at_past}
 use Rattle.mintc_lines.proofs.table_text.table.Goals as goal
 
 pub returns-in_err-names : goal.returns-in_err-names
@@ -30,7 +30,7 @@ returns-in_default c = λ text at.
     let ns = inner_names c.in_ok-names.inner in
     let two = c.in_ok-joined.ensures text one.0 one.1 ns one.3.counted (length-inner_names c.in_ok-names.inner) one.4 in
     let three = c.in_ok-demands.ensures text one.0 one.1 ns two.0 one.2.counted two.2 in
-    fault text c.bounds.new.reader c.word_line.new.self.number (bound 0 (design_of one.0 one.1 ns two.0 three.0)) (IsWordLine (codes "end")) three.2
+    at_fault three.2
     c.in_default.ensures.read c.in_default.ensures.counted (λ e. e) (λ line after step. (step.0, step.1))
 
 pub returns-in_default-end : goal.returns-in_default-end
@@ -40,8 +40,8 @@ returns-in_default-end c = λ text at.
     let two = c.in_ok-joined.ensures text one.0 one.1 ns one.3.counted (length-inner_names c.in_ok-names.inner) one.4 in
     let three = c.in_ok-demands.ensures text one.0 one.1 ns two.0 one.2.counted two.2 in
     let d = design_of one.0 one.1 ns two.0 three.0 in
-    let four = end_read text c.bounds.new.reader c.word_line.new.self d three.2 c.in-Some.ensures.read c.in-Some.ensures.counted in
-    past_table text c.word_line.new.self c.end.new.self.number d four c.in_default-end.ensures.read c.in_default-end.ensures.counted
+    let four = at_more c.word_line.new.self (whole d) three.2 c.in-Some.ensures.read c.in-Some.ensures.counted (λ line spells. (_, spells, refl)) in
+    at_past four c.in_default-end.ensures.read c.in_default-end.ensures.counted (λ line after step. step)
 
 pub returns : goal.returns
 returns c = λ text at.
@@ -50,8 +50,8 @@ returns c = λ text at.
     let two = c.in_ok-joined.ensures text one.0 one.1 ns one.3.counted (length-inner_names c.in_ok-names.inner) one.4 in
     let three = c.in_ok-demands.ensures text one.0 one.1 ns two.0 one.2.counted two.2 in
     let d = design_of one.0 one.1 ns two.0 three.0 in
-    let four = end_read text c.bounds.new.reader c.word_line.new.self d three.2 c.in-Some.ensures.read c.in-Some.ensures.counted in (
+    let four = at_more c.word_line.new.self (whole d) three.2 c.in-Some.ensures.read c.in-Some.ensures.counted (λ line spells. (_, spells, refl)) in (
       d,
-      end_of_table text c.word_line.new.self d four c.in-Some-end.ensures.read,
+      at_end four c.in-Some-end.ensures.read,
       record { phases = one.2; elements = one.3; inner = refl; arcs = two.1; bounds = three.1 },
     )

@@ -10,12 +10,6 @@ loop-outcome-init g c =
     let top = read_top c.nodes.result c.args.links.now.nodes c.top_of-high.result c.nodes.ensures.value kept.nodes.1 c.top_of-high.ensures in
     record { climbing = λ start s. (65, rw top s); nodes = refl; links = refl; late = refl; early = refl; later = omega arith }
 
-pub take_turn-requires-clause-nodes : goal.take_turn-requires-clause-nodes
-take_turn-requires-clause-nodes g c = rw c.loop-outcome.invariant.nodes c.requires.nodes
-
-pub take_turn-requires-clause-links : goal.take_turn-requires-clause-links
-take_turn-requires-clause-links g c = rw c.loop-outcome.invariant.links c.requires.links
-
 pub take_turn-requires-clause-climbing : goal.take_turn-requires-clause-climbing
 take_turn-requires-clause-climbing g c =
     let start = c.requires.climbing in
@@ -27,18 +21,6 @@ returns-in-Over-clause-searched g c =
     let start = c.requires.climbing in
     let s = c.loop-outcome.invariant.climbing start.0 start.1 in
     (c.in-Over.ensures.advanced start.0 s.0 s.1).0
-
-pub returns-in-Over-clause-nodes : goal.returns-in-Over-clause-nodes
-returns-in-Over-clause-nodes g c = c.in-Over.ensures.nodes ∙ c.loop-outcome.invariant.nodes
-
-pub returns-in-Over-clause-links : goal.returns-in-Over-clause-links
-returns-in-Over-clause-links g c = c.in-Over.ensures.links ∙ c.loop-outcome.invariant.links
-
-pub returns-in-Over-clause-late : goal.returns-in-Over-clause-late
-returns-in-Over-clause-late g c = c.in-Over.ensures.late ∙ c.loop-outcome.invariant.late
-
-pub returns-in-Over-clause-early : goal.returns-in-Over-clause-early
-returns-in-Over-clause-early g c = c.in-Over.ensures.early ∙ c.loop-outcome.invariant.early
 
 pub returns-in-Over-clause-cost : goal.returns-in-Over-clause-cost
 returns-in-Over-clause-cost g c = λ start begun.

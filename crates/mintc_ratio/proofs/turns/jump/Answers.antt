@@ -1,16 +1,6 @@
-use Rattle.std.proofs.Common.{arith}
-use Rattle.std.proofs.lemmas.Int.{ints}
 use Rattle.mintc_ratio.specs.Chains.{links_at}
 use Rattle.mintc_ratio.proofs.TurnLaws.{forbids-takes, jump_turn, least_held}
 use Rattle.mintc_ratio.proofs.turns.jump.Goals as goal
-
-pub ratio_of-cycle-requires-clause-cycles : goal.ratio_of-cycle-requires-clause-cycles
-ratio_of-cycle-requires-clause-cycles g c =
-    let most = c.nodes-nodes.ensures.kept.nodes.1 in let few = c.requires.held.small.cycles in omega arith
-
-pub ratio_of-cycle-requires-clause-high : goal.ratio_of-cycle-requires-clause-high
-ratio_of-cycle-requires-clause-high g c =
-    let most = c.nodes-nodes.ensures.kept.nodes.1 in let few = c.requires.held.small.delay in omega (arith, ints)
 
 pub turn_of-requires-clause-low : goal.turn_of-requires-clause-low
 turn_of-requires-clause-low g c =
