@@ -14,11 +14,9 @@ use Rattle.mintc_ratio.specs.Searched.{HasSearched, IsLeast}
 use Rattle.mintc_corners.specs.declared.members.CornerMember.{CornerMember}
 use Rattle.mintc_corners.specs.declared.certificate.CornerCertificate.TheVariants.{Least, Never}
 use Rattle.mintc_corners.specs.CornerOptimum.{AreDeparturesInRange, IsOptimumOf}
-use Rattle.mintc_corners.specs.Joined.{departures_of_all, joined_links, no_timing}
-use Rattle.mintc_corners.specs.Joint.{AreCorners}
-use Rattle.mintc_corners.specs.JointLinks.{joint_nodes}
+use Rattle.mintc_corners.specs.Joined.{departures_of_all, joined_links, no_timing, AreSayableOfAll, StandForAll}
+use Rattle.mintc_corners.specs.Joint.{AreCorners, joint_nodes}
 use Rattle.mintc_corners.specs.Laws.{AreSystems}
-use Rattle.mintc_corners.specs.Making.{AreSayableOfAll, StandForAll}
 use Rattle.mintc_corners.proofs.MadeLaws.{made_least, made_never, sayable}
 use Rattle.mintc_corners.proofs.PlaceLaws.{count_is}
 

@@ -1,8 +1,8 @@
 -- Two timings side by side.
-use Rattle.std.proofs.Common.{◌≡◌, ℕ, ◌<◌, ◌≤◌, ◌+◌, ◌-◌, ◌==◌, ◌||◌, ℤ, pos, ◌≤ℤ◌, ◌+ℤ◌, ◌-ℤ◌, ◌*ℤ◌, Bool, true, false, cond, List, [], ◌∷◌, ◌++◌, take, drop, map, arith, refl, ap, ◌∙◌, sym, subst, ⊎_elim, ◌↔◌, IfSome, MatchBool, length-append, length-drop}
-use Rattle.std.proofs.Math.Bool.{or-true}
+use Rattle.std.proofs.Common.{◌≡◌, ℕ, ◌<◌, ◌≤◌, ◌+◌, ◌-◌, ◌==◌, ℤ, pos, ◌≤ℤ◌, ◌+ℤ◌, ◌-ℤ◌, ◌*ℤ◌, Bool, true, false, cond, List, [], ◌∷◌, ◌++◌, length, take, drop, map, arith, refl, ap, ◌∙◌, sym, subst, ⊎_elim, ◌↔◌, IfSome, MatchBool, length-append, length-drop}
+use Rattle.std.proofs.Math.Seq.{drop-append_seam, take-append_seam}
 use Rattle.std.proofs.lemmas.Int.{ints, clamps, by_lt_z}
-use Rattle.std.proofs.lemmas.Bool.{cases_lt, or_cases}
+use Rattle.std.proofs.lemmas.Bool.{cases_lt}
 use Rattle.std.proofs.lemmas.Bool.Decides.{nat_tests}
 use Rattle.std.proofs.lemmas.List.{append-nil, get_or-drop, get_or-take, length-take, length-take-le}
 use Rattle.std.proofs.lemmas.List.Elements.{All-head, All-tail, filter-append}
@@ -13,29 +13,65 @@ use Rattle.mintc_timing.specs.declared.parts.Element.{Element}
 use Rattle.mintc_timing.specs.declared.parts.Pair.{Pair}
 use Rattle.mintc_timing.specs.Clocking.{width_of, feeds_of, shift_of, least_width, KeepsBound, KeepsClock}
 use Rattle.mintc_timing.specs.Departures.{departure, late_arrival, late_arrivals, late_departure}
-use Rattle.mintc_timing.specs.Design.{Timing, element_at, element_count}
+use Rattle.mintc_timing.specs.Design.{Timing, element_at, element_count, phase_count}
 use Rattle.mintc_timing.specs.Extremes.{greater_of, greatest_of}
 use Rattle.mintc_timing.specs.Right.{IsRight, KeepsSetup}
 use Rattle.mintc_timing.proofs.SharedProducts.{times-mono_positive}
 use Rattle.mintc_timing.specs.Paths.{HasEnds}
-use Rattle.mintc_corners.specs.JointLinks.{beside, shifted_pair}
+use Rattle.mintc_corners.specs.Joint.{beside, shifted_pair}
 use Rattle.mintc_corners.specs.Laws.{BesideIsBoth, HaveOneClock}
-use Rattle.mintc_corners.proofs.PartsLaws.{element_beside_left, element_beside_right, feeds_beside, width_beside}
+use Rattle.mintc_corners.proofs.PartsLaws.{element_beside_left, element_beside_right, feeds-cases, feeds-left, feeds-right, width_beside}
 
--- a product with the greater of two numbers
-max-times : (x y den w : ℤ) → pos 1 ≤ℤ den → ((int_max x y *ℤ den) ≤ℤ w) ↔ (((x *ℤ den) ≤ℤ w) × ((y *ℤ den) ≤ℤ w))
-max-times x y den w some = (
-  (λ h.
-      let a = times-mono_positive x (int_max x y) den (omega (arith, ints, clamps)) some in
-      let b = times-mono_positive y (int_max x y) den (omega (arith, ints, clamps)) some in
-      (omega (arith, ints), omega (arith, ints))),
-  (λ h.
-      let first = h.0 in
-      let second = h.1 in
-      by_lt_z x y
-      (λ less. let is : int_max x y ≡ y = omega (arith, ints, clamps) in rw is second)
-      (λ more. let is : int_max x y ≡ x = omega (arith, ints, clamps) in rw is first)),
-)
+-- A product with the greater of two numbers is at most what those with each are.
+max-times : (x y den w : ℤ) → (x *ℤ den) ≤ℤ w → (y *ℤ den) ≤ℤ w → (int_max x y *ℤ den) ≤ℤ w
+max-times x y den w first second =
+    by_lt_z x y
+    (λ less. let is : int_max x y ≡ y = omega (arith, ints, clamps) in rw is second)
+    (λ more. let is : int_max x y ≡ x = omega (arith, ints, clamps) in rw is first)
+
+-- A clock that keeps what one timing asks, keeps what another asks that asks less.
+clock-part : (b x : Timing) (s : Schedule) → phase_count x ≡ phase_count b → ((p : ℕ) → least_width x p ≤ℤ least_width b p) → ((i j : ℕ) → feeds_of x i j ≡ true → feeds_of b i j ≡ true) →
+    KeepsClock b s → KeepsClock x s
+clock-part b x s same narrower feeds k = record {
+  den = k.den;
+  starts = k.starts ∙ sym same;
+  widths = k.widths ∙ sym same;
+  each = λ p low high.
+      let here = k.each p low (omega arith) in
+      let less = times-mono_positive (least_width x p) (least_width b p) s.den (narrower p) k.den in
+      record {
+        start = here.start;
+        span = here.span;
+        order = λ below. here.order (omega arith);
+        wide = omega (arith, ints);
+        apart = λ j g h fed. here.apart j g (omega arith) (feeds p j fed);
+      };
+}
+
+-- an arrival, as it follows from the two elements of a pair
+abbrev arrives : Schedule → ℤ → Element → Element → ℤ → ℤ
+arrives s own x y max = own +ℤ (x.dq_max +ℤ max) *ℤ s.den +ℤ shift_of s x.phase y.phase
+
+arrival-same : (s : Schedule) (own own' : ℤ) (x x' y y' : Element) (max : ℤ) → own ≡ own' → x ≡ x' → y ≡ y' → arrives s own x y max ≡ arrives s own' x' y' max
+arrival-same s own own' x x' y y' max e f g = rw (e, f, g) refl
+
+-- of one more pair, where it is kept
+kept-more : (f g : Pair → ℤ) (p q : Pair) (ps qs : List Pair) (c : Bool) → f p ≡ g q → map f ps ≡ map g qs → map f (cond c (p ∷ ps) ps) ≡ map g (cond c (q ∷ qs) qs)
+kept-more f g p q ps qs true e rest = ap (λ (x : ℤ). x ∷ map f ps) e ∙ ap (λ (xs : List ℤ). g q ∷ xs) rest
+kept-more f g p q ps qs false e rest = rest
+
+-- departures and setups, as they follow from an element, its arrivals and its departure
+abbrev departs : Schedule → Element × List ℤ × ℤ → ℤ
+departs s x = cond x.0.flop (pos 0) (greater_of ((x.0.cq_max -ℤ x.0.dq_max) *ℤ s.den) (greatest_of x.1))
+
+abbrev Asks : Schedule → Element × List ℤ × ℤ → Type 0
+Asks s x = MatchBool x.0.flop (IfSome (greatest_of x.1) (λ a. (a +ℤ x.0.setup *ℤ s.den) ≤ℤ pos 0)) ((int_max (pos 0) x.2 +ℤ x.0.setup *ℤ s.den) ≤ℤ width_of s x.0.phase)
+
+abbrev timed : Timing → Schedule → List ℤ → ℕ → Element × List ℤ × ℤ
+timed t s f l = (element_at t l, late_arrivals t s f l, departure f l)
+
+same-timed : (x y : Element) (xs ys : List ℤ) (a b : ℤ) → x ≡ y → xs ≡ ys → a ≡ b → ◌≡◌ {A = Element × List ℤ × ℤ} (x, xs, a) (y, ys, b)
+same-timed x y xs ys a b e f g = rw (e, f, g) refl
 
 module _ (t u : Timing) (s : Schedule) (f : List ℤ) (clock : HaveOneClock t u) (ends : HasEnds t) where
   abbrev n : ℕ
@@ -65,21 +101,11 @@ module _ (t u : Timing) (s : Schedule) (f : List ℤ) (clock : HaveOneClock t u)
   departs-right : (l : ℕ) → departure f (n + l) ≡ departure e l
   departs-right l = sym (get_or-drop n f l (pos 0))
 
-  -- arrivals
-  abbrev arrives : ℤ → Element → Element → ℤ → ℤ
-  arrives own x y max = own +ℤ (x.dq_max +ℤ max) *ℤ s.den +ℤ shift_of s x.phase y.phase
-
   arrival-left : (p : Pair) → HasEnd p → late_arrival b s f p ≡ late_arrival t s d p
-  arrival-left p h =
-      ap (λ (own : ℤ). arrives own (element_at b p.from) (element_at b p.to) p.max) (departs-left p.from h.0)
-      ∙ ap (λ (x : Element). arrives (departure d p.from) x (element_at b p.to) p.max) (element-left p.from h.0)
-      ∙ ap (λ (y : Element). arrives (departure d p.from) (element_at t p.from) y p.max) (element-left p.to h.1)
+  arrival-left p h = arrival-same s _ _ _ _ _ _ p.max (departs-left p.from h.0) (element-left p.from h.0) (element-left p.to h.1)
 
   arrival-right : (q : Pair) → late_arrival b s f (shifted_pair n q) ≡ late_arrival u s e q
-  arrival-right q =
-      ap (λ (own : ℤ). arrives own (element_at b (n + q.from)) (element_at b (n + q.to)) q.max) (departs-right q.from)
-      ∙ ap (λ (x : Element). arrives (departure e q.from) x (element_at b (n + q.to)) q.max) (element-right q.from)
-      ∙ ap (λ (y : Element). arrives (departure e q.from) (element_at u q.from) y q.max) (element-right q.to)
+  arrival-right q = arrival-same s _ _ _ _ _ _ q.max (departs-right q.from) (element-right q.from) (element-right q.to)
 
   none-right : (l : ℕ) → l < n → (qs : List Pair) → filter (λ (p : Pair). p.to == l) (map (shifted_pair n) qs) ≡ []
   none-right l h [] = refl
@@ -96,23 +122,13 @@ module _ (t u : Timing) (s : Schedule) (f : List ℤ) (clock : HaveOneClock t u)
 
   some-left : (l : ℕ) (ps : List Pair) → All HasEnd ps → map (late_arrival b s f) (filter (λ (p : Pair). p.to == l) ps) ≡ map (late_arrival t s d) (filter (λ (p : Pair). p.to == l) ps)
   some-left l [] h = refl
-  some-left l (p ∷ ps) h = go (some-left l ps (All-tail HasEnd p ps h)) (p.to == l)
-    where
-      go : map (late_arrival b s f) (filter (λ (p : Pair). p.to == l) ps) ≡ map (late_arrival t s d) (filter (λ (p : Pair). p.to == l) ps) → (c : Bool) → map (late_arrival b s f) (cond c (p ∷ filter (λ (p : Pair). p.to == l) ps) (filter (λ (p : Pair). p.to == l) ps))
-          ≡ map (late_arrival t s d) (cond c (p ∷ filter (λ (p : Pair). p.to == l) ps) (filter (λ (p : Pair). p.to == l) ps))
-      go rest true = ap (λ (x : ℤ). x ∷ map (late_arrival b s f) (filter (λ (p : Pair). p.to == l) ps)) (arrival-left p (All-head HasEnd p ps h)) ∙ ap (λ (xs : List ℤ). late_arrival t s d p ∷ xs) rest
-      go rest false = rest
+  some-left l (p ∷ ps) h = kept-more (late_arrival b s f) (late_arrival t s d) p p _ _ (p.to == l) (arrival-left p (All-head HasEnd p ps h)) (some-left l ps (All-tail HasEnd p ps h))
 
   some-right : (l : ℕ) (qs : List Pair) → map (late_arrival b s f) (filter (λ (p : Pair). p.to == n + l) (map (shifted_pair n) qs)) ≡ map (late_arrival u s e) (filter (λ (p : Pair). p.to == l) qs)
   some-right l [] = refl
   some-right l (q ∷ qs) =
       let same : ((n + q.to) == (n + l)) ≡ (q.to == l) = grind (arith, nat_tests) in
-      rw same (go (some-right l qs) (q.to == l))
-    where
-      go : map (late_arrival b s f) (filter (λ (p : Pair). p.to == n + l) (map (shifted_pair n) qs)) ≡ map (late_arrival u s e) (filter (λ (p : Pair). p.to == l) qs) → (c : Bool) → map (late_arrival b s f) (cond c (shifted_pair n q ∷ filter (λ (p : Pair). p.to == n + l) (map (shifted_pair n) qs)) (filter (λ (p : Pair). p.to == n + l) (map (shifted_pair n) qs)))
-          ≡ map (late_arrival u s e) (cond c (q ∷ filter (λ (p : Pair). p.to == l) qs) (filter (λ (p : Pair). p.to == l) qs))
-      go rest true = ap (λ (x : ℤ). x ∷ map (late_arrival b s f) (filter (λ (p : Pair). p.to == n + l) (map (shifted_pair n) qs))) (arrival-right q) ∙ ap (λ (xs : List ℤ). late_arrival u s e q ∷ xs) rest
-      go rest false = rest
+      rw same (kept-more (late_arrival b s f) (late_arrival u s e) (shifted_pair n q) q _ _ (q.to == l) (arrival-right q) (some-right l qs))
 
   arrivals-left : (l : ℕ) → l < n → late_arrivals b s f l ≡ late_arrivals t s d l
   arrivals-left l h =
@@ -128,77 +144,25 @@ module _ (t u : Timing) (s : Schedule) (f : List ℤ) (clock : HaveOneClock t u)
       ∙ ap (λ (ps : List Pair). ps ++ filter (λ (p : Pair). p.to == n + l) (map (shifted_pair n) u.pairs)) (none-left l t.pairs ends))
       ∙ some-right l u.pairs
 
-  -- departures and setups, as they follow from an element and its arrivals
-  abbrev departs : Element → List ℤ → ℤ
-  departs x arrivals = cond x.flop (pos 0) (greater_of ((x.cq_max -ℤ x.dq_max) *ℤ s.den) (greatest_of arrivals))
+  -- so each element asks the same in both
+  timed-left : (l : ℕ) → l < n → timed b s f l ≡ timed t s d l
+  timed-left l h = same-timed _ _ _ _ _ _ (element-left l h) (arrivals-left l h) (departs-left l h)
 
-  abbrev Asks : Element → List ℤ → ℤ → Type 0
-  Asks x arrivals own = MatchBool x.flop (IfSome (greatest_of arrivals) (λ a. (a +ℤ x.setup *ℤ s.den) ≤ℤ pos 0)) ((int_max (pos 0) own +ℤ x.setup *ℤ s.den) ≤ℤ width_of s x.phase)
+  timed-right : (l : ℕ) → timed b s f (n + l) ≡ timed u s e l
+  timed-right l = same-timed _ _ _ _ _ _ (element-right l) (arrivals-right l) (departs-right l)
 
   late-left : (l : ℕ) → l < n → late_departure b s f l ≡ late_departure t s d l
-  late-left l h = ap (λ (x : Element). departs x (late_arrivals b s f l)) (element-left l h) ∙ ap (departs (element_at t l)) (arrivals-left l h)
+  late-left l h = ap (departs s) (timed-left l h)
 
   late-right : (l : ℕ) → late_departure b s f (n + l) ≡ late_departure u s e l
-  late-right l = ap (λ (x : Element). departs x (late_arrivals b s f (n + l))) (element-right l) ∙ ap (departs (element_at u l)) (arrivals-right l)
-
-  setup-left : (l : ℕ) → l < n → KeepsSetup b s f l ↔ KeepsSetup t s d l
-  setup-left l h = (
-    (λ k. subst (Asks (element_at t l) (late_arrivals t s d l)) (departs-left l h) (subst (λ (as' : List ℤ). Asks (element_at t l) as' (departure f l)) (arrivals-left l h) (subst (λ (x : Element). Asks x (late_arrivals b s f l) (departure f l)) (element-left l h) k))),
-    (λ k. subst (λ (x : Element). Asks x (late_arrivals b s f l) (departure f l)) (sym (element-left l h)) (subst (λ (as' : List ℤ). Asks (element_at t l) as' (departure f l)) (sym (arrivals-left l h)) (subst (Asks (element_at t l) (late_arrivals t s d l)) (sym (departs-left l h)) k))),
-  )
-
-  setup-right : (l : ℕ) → KeepsSetup b s f (n + l) ↔ KeepsSetup u s e l
-  setup-right l = (
-    (λ k. subst (Asks (element_at u l) (late_arrivals u s e l)) (departs-right l) (subst (λ (as' : List ℤ). Asks (element_at u l) as' (departure f (n + l))) (arrivals-right l) (subst (λ (x : Element). Asks x (late_arrivals b s f (n + l)) (departure f (n + l))) (element-right l) k))),
-    (λ k. subst (λ (x : Element). Asks x (late_arrivals b s f (n + l)) (departure f (n + l))) (sym (element-right l)) (subst (λ (as' : List ℤ). Asks (element_at u l) as' (departure f (n + l))) (sym (arrivals-right l)) (subst (Asks (element_at u l) (late_arrivals u s e l)) (sym (departs-right l)) k))),
-  )
+  late-right l = ap (departs s) (timed-right l)
 
   -- the clock
-  feeds-both : (i j : ℕ) → feeds_of b i j ≡ (feeds_of t i j || feeds_of u i j)
-  feeds-both i j = feeds_beside t u ends i j
-
-  or-left : (x y : Bool) → x ≡ true → (x || y) ≡ true
-  or-left x y h = rw h refl
-
-  or-right : (x y : Bool) → y ≡ true → (x || y) ≡ true
-  or-right x y h = rw h (or-true x)
-
-  width-both : (p : ℕ) → least_width b p ≡ int_max (least_width t p) (least_width u p)
-  width-both p = width_beside t u p
-
   clock-left : KeepsClock b s → KeepsClock t s
-  clock-left k = record {
-    den = k.den;
-    starts = k.starts;
-    widths = k.widths;
-    each = λ p low high.
-        let here = k.each p low high in
-        record {
-          start = here.start;
-          span = here.span;
-          order = here.order;
-          wide = ((max-times (least_width t p) (least_width u p) s.den (width_of s p) k.den).0 (rw (width-both p) at here.wide)).0;
-          apart = λ j g h fed. here.apart j g h (rw (feeds-both p j) (or-left (feeds_of t p j) (feeds_of u p j) fed));
-        };
-  }
+  clock-left = clock-part b t s refl (λ p. let both = width_beside t u p in omega (arith, ints, clamps)) (feeds-left t u ends)
 
   clock-right : KeepsClock b s → KeepsClock u s
-  clock-right k =
-      let count = clock.phases in
-      record {
-        den = k.den;
-        starts = k.starts ∙ sym count;
-        widths = k.widths ∙ sym count;
-        each = λ p low high.
-            let here = k.each p low (omega arith) in
-            record {
-              start = here.start;
-              span = here.span;
-              order = λ less. here.order (omega arith);
-              wide = ((max-times (least_width t p) (least_width u p) s.den (width_of s p) k.den).0 (rw (width-both p) at here.wide)).1;
-              apart = λ j g h fed. here.apart j g (omega arith) (rw (feeds-both p j) (or-right (feeds_of t p j) (feeds_of u p j) fed));
-            };
-      }
+  clock-right = clock-part b u s clock.phases (λ p. let both = width_beside t u p in omega (arith, ints, clamps)) (feeds-right t u ends)
 
   clock-beside : KeepsClock t s → KeepsClock u s → KeepsClock b s
   clock-beside k m = record {
@@ -213,11 +177,11 @@ module _ (t u : Timing) (s : Schedule) (f : List ℤ) (clock : HaveOneClock t u)
           start = here.start;
           span = here.span;
           order = here.order;
-          wide = rw (width-both p) ((max-times (least_width t p) (least_width u p) s.den (width_of s p) k.den).1 (here.wide, other.wide));
+          wide = rw (width_beside t u p) (max-times (least_width t p) (least_width u p) s.den (width_of s p) here.wide other.wide);
           apart = λ j g h fed. ⊎_elim
               (λ (own : feeds_of t p j ≡ true). here.apart j g h own)
               (λ (its : feeds_of u p j ≡ true). other.apart j g (omega arith) its)
-              (or_cases (feeds_of t p j) (feeds_of u p j) (sym (feeds-both p j) ∙ fed));
+              (feeds-cases t u ends p j fed);
         };
   }
 
@@ -234,10 +198,10 @@ module _ (t u : Timing) (s : Schedule) (f : List ℤ) (clock : HaveOneClock t u)
         clock = clock-left right.clock;
         bounds = right.bounds;
         exact = record {
-          count = length-take-le n f (let count = right.exact.count in omega arith);
+          count = length-take-le n f (omega arith);
           each = λ l h. sym (departs-left l h) ∙ right.exact.each l (omega arith) ∙ late-left l h;
         };
-        setup = λ l h. (setup-left l h).0 (right.setup l (omega arith));
+        setup = λ l h. subst (Asks s) (timed-left l h) (right.setup l (omega arith));
       }
 
   right-right : IsRight b s f → IsRight u s e
@@ -247,10 +211,10 @@ module _ (t u : Timing) (s : Schedule) (f : List ℤ) (clock : HaveOneClock t u)
         clock = clock-right right.clock;
         bounds = subst (All (KeepsBound s)) (sym clock.bounds) right.bounds;
         exact = record {
-          count = length-drop n f ∙ (let count = right.exact.count in omega arith);
+          count = length-drop n f ∙ (omega arith);
           each = λ l h. sym (departs-right l) ∙ right.exact.each (n + l) (omega arith) ∙ late-right l;
         };
-        setup = λ l h. (setup-right l).0 (right.setup (n + l) (omega arith));
+        setup = λ l h. subst (Asks s) (timed-right l) (right.setup (n + l) (omega arith));
       }
 
   -- what holds of each element of the one and of the other, holds of each
@@ -269,8 +233,6 @@ module _ (t u : Timing) (s : Schedule) (f : List ℤ) (clock : HaveOneClock t u)
     exact = record {
       count =
           (let all = count-beside in
-          let a = one.exact.count in
-          let c = two.exact.count in
           let taken = length-take n f in
           let dropped = length-drop n f in
           omega arith);
@@ -278,9 +240,16 @@ module _ (t u : Timing) (s : Schedule) (f : List ℤ) (clock : HaveOneClock t u)
           (λ l h. departs-left l h ∙ one.exact.each l h ∙ sym (late-left l h))
           (λ l h. departs-right l ∙ two.exact.each l h ∙ sym (late-right l));
     };
-    setup = each-element (KeepsSetup b s f) (λ l h. (setup-left l h).1 (one.setup l h)) (λ l h. (setup-right l).1 (two.setup l h));
+    setup = each-element (KeepsSetup b s f) (λ l h. subst (Asks s) (sym (timed-left l h)) (one.setup l h)) (λ l h. subst (Asks s) (sym (timed-right l)) (two.setup l h));
   }
 
 pub beside_is_both_lem : BesideIsBoth
 beside_is_both_lem t u s f clock ends =
     ((λ right. (right-left t u s f clock ends right, right-right t u s f clock ends right)), (λ both. right-beside t u s f clock ends both.0 both.1))
+
+-- the same of departures in two parts
+pub beside_in_parts : (t u : Timing) (s : Schedule) (d e : List ℤ) → HaveOneClock t u → HasEnds t → length d ≡ element_count t → IsRight (beside t u) s (d ++ e) ↔ (IsRight t s d × IsRight u s e)
+beside_in_parts t u s d e clock ends count =
+    let front : take (element_count t) (d ++ e) ≡ d = ap (λ (n : ℕ). take n (d ++ e)) (sym count) ∙ take-append_seam d e in
+    let back : drop (element_count t) (d ++ e) ≡ e = ap (λ (n : ℕ). drop n (d ++ e)) (sym count) ∙ drop-append_seam d e in
+    rw (front, back) at (beside_is_both_lem t u s (d ++ e) clock ends)

@@ -1,6 +1,5 @@
 -- Schedules that are right in several corners.
 use Rattle.std.proofs.Common.{◌≡◌, ℕ, ◌<◌, ◌≤◌, ◌+◌, ◌*◌, ℤ, List, [], ◌∷◌, ◌++◌, length, take, drop, map, arith, refl, ap, ◌∙◌, sym, subst, length-append}
-use Rattle.std.proofs.Math.Seq.{drop-append_seam, take-append_seam}
 use Rattle.std.proofs.lemmas.List.{length-map}
 use Rattle.std.proofs.lemmas.List.Elements.{All-nil, All-append, All-map}
 use Rattle.std.specs.List.{All}
@@ -13,10 +12,9 @@ use Rattle.mintc_timing.specs.Right.{IsRight}
 use Rattle.mintc_timing.proofs.SharedRanges.{pair-max_range}
 use Rattle.mintc_timing.specs.Paths.{HasEnds}
 use Rattle.mintc_timing.proofs.SharedLinkLaws.{ends_of}
-use Rattle.mintc_corners.specs.Joint.{AreCorners, AreJointlyRight, DifferInNumbers}
-use Rattle.mintc_corners.specs.JointLinks.{beside, shifted_pair, side_by_side}
+use Rattle.mintc_corners.specs.Joint.{AreCorners, AreJointlyRight, DifferInNumbers, beside, shifted_pair, side_by_side}
 use Rattle.mintc_corners.specs.Laws.{AreBeside, AreSystems, CornersAreModest, HaveOneClock, JointCycleIsLeast, JointlyHopelessIsHopeless}
-use Rattle.mintc_corners.proofs.BesideLaws.{beside_is_both_lem}
+use Rattle.mintc_corners.proofs.BesideLaws.{beside_in_parts, beside_is_both_lem}
 
 -- from all side by side to each, and back
 split : (t : Timing) (ts : List Timing) (s : Schedule) (f : List ℤ) → AreBeside t ts → IsRight (side_by_side t ts) s f → (ds : List (List ℤ)) × AreJointlyRight (t ∷ ts) s ds
@@ -31,10 +29,7 @@ whole t ts s [] are right = absurd right
 whole t [] s (d ∷ ds) are right = (d, right.0)
 whole t (u ∷ ts) s (d ∷ ds) are right =
     let rest = whole u ts s ds are.2 right.1 in
-    let count = right.0.exact.count in
-    let front : take (element_count t) (d ++ rest.0) ≡ d = ap (λ (n : ℕ). take n (d ++ rest.0)) (sym count) ∙ take-append_seam d rest.0 in
-    let back : drop (element_count t) (d ++ rest.0) ≡ rest.0 = ap (λ (n : ℕ). drop n (d ++ rest.0)) (sym count) ∙ drop-append_seam d rest.0 in
-    (d ++ rest.0, (beside_is_both_lem t (side_by_side u ts) s (d ++ rest.0) are.1 are.0).1 (subst (IsRight t s) (sym front) right.0, subst (IsRight (side_by_side u ts) s) (sym back) rest.1))
+    (d ++ rest.0, (beside_in_parts t (side_by_side u ts) s d rest.0 are.1 are.0 right.0.exact.count).1 (right.0, rest.1))
 
 pub joint_cycle_is_least_lem : JointCycleIsLeast
 joint_cycle_is_least_lem t ts num den are = (
@@ -63,9 +58,12 @@ jointly_hopeless_is_hopeless_lem t ts are = (
 )
 
 -- what is side by side keeps the phases and the bounds of the first
-pub phases-same : (t : Timing) (ts : List Timing) → (side_by_side t ts).flat.phases ≡ t.flat.phases
+phases-same : (t : Timing) (ts : List Timing) → (side_by_side t ts).flat.phases ≡ t.flat.phases
 phases-same t [] = refl
 phases-same t (u ∷ ts) = refl
+
+pub phases_are : (t : Timing) (ts : List Timing) → phase_count (side_by_side t ts) ≡ phase_count t
+phases_are t ts = ap length (phases-same t ts)
 
 pub bounds-same : (t : Timing) (ts : List Timing) → (side_by_side t ts).flat.bounds ≡ t.flat.bounds
 bounds-same t [] = refl
@@ -95,15 +93,13 @@ module _ (t u : Timing) (clock : HaveOneClock t u) where
       let all = length-append t.flat.elements u.flat.elements in
       record {
         ends = All-append (λ (p : Pair). (p.from < element_count (beside t u)) × (p.to < element_count (beside t u))) t.pairs (map (shifted_pair (element_count t)) u.pairs)
-            (λ n d h. let here = one.ends n d h in let from = here.0 in let to = here.1 in (omega arith, omega arith))
+            (λ n d h. let here = one.ends n d h in (omega arith, omega arith))
             (All-map (λ (p : Pair). (p.from < element_count (beside t u)) × (p.to < element_count (beside t u))) (shifted_pair (element_count t)) u.pairs
-            (λ n d h. let here = two.ends n d h in let from = here.0 in let to = here.1 in (omega arith, omega arith)));
+            (λ n d h. let here = two.ends n d h in (omega arith, omega arith)));
         delays = All-append (λ (p : Pair). IsDelay p.max) t.pairs (map (shifted_pair (element_count t)) u.pairs) one.delays
             (All-map (λ (p : Pair). IsDelay p.max) (shifted_pair (element_count t)) u.pairs (λ n d h. two.delays n d h));
         few =
-            (let one_few = one.few in
-            let two_few = two.few in
-            let whole = length-append t.pairs (map (shifted_pair (element_count t)) u.pairs) in
+            (let whole = length-append t.pairs (map (shifted_pair (element_count t)) u.pairs) in
             let mapped = length-map u.pairs (shifted_pair (element_count t)) in
             omega arith);
       }

@@ -5,7 +5,6 @@ mod LiftLaws
 mod TransferLaws
 mod JoinedLaws
 mod PlaceLaws
-mod LiftedLaws
 mod ValuesLaws
 mod GreatestLaws
 mod StandingLaws

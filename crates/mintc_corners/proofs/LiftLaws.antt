@@ -1,8 +1,10 @@
--- The links of two timings side by side are those of each, numbered among all.
-use Rattle.std.proofs.Common.{◌≡◌, ℕ, ◌<◌, ◌≤◌, ◌+◌, ◌-◌, ◌*◌, ◌||◌, ℤ, ◌+ℤ◌, ◌-ℤ◌, neg_ℤ, Bool, true, false, cond, List, length, get_or, map, arith, refl, ap, ◌∙◌, sym, subst, ⊎_elim, length-append}
-use Rattle.std.proofs.Math.Bool.{or-true}
-use Rattle.std.proofs.lemmas.Bool.{cases_lt, or_cases}
+-- The links of a corner, numbered among those of all, are links of all corners side by side.
+use Rattle.std.proofs.Common.{◌≡◌, ℕ, zero, suc, ◌<◌, ◌≤◌, ◌+◌, ◌-◌, ◌*◌, ◌==◌, ℤ, pos, ◌≤ℤ◌, ◌+ℤ◌, ◌-ℤ◌, neg_ℤ, Bool, true, false, cond, List, [], ◌∷◌, length, get_or, map, arith, refl, ap, ◌∙◌, sym, subst, ⊎_elim, zero-add, length-append, Option, Some, None}
+use Rattle.std.specs.Int.{int_max}
+use Rattle.std.specs.List.{filter}
+use Rattle.std.proofs.lemmas.Bool.{cases_lt}
 use Rattle.std.proofs.lemmas.Bool.Decides.{nat_tests}
+use Rattle.std.proofs.lemmas.Int.{ints, clamps}
 use Rattle.std.proofs.lemmas.List.{length-map}
 use Rattle.mintc_timing.specs.declared.link.Link.{Link}
 use Rattle.mintc_timing.specs.declared.link.LinkKind.{LinkKind}
@@ -12,281 +14,318 @@ use Rattle.mintc_timing.specs.declared.parts.Element.{Element}
 use Rattle.mintc_timing.specs.declared.parts.Pair.{Pair}
 use Rattle.mintc_timing.specs.declared.parts.Point.{Point}
 use Rattle.mintc_timing.specs.declared.parts.Point.TheVariants as point
-use Rattle.mintc_timing.specs.Clocking.{crosses_of, feeds_of}
+use Rattle.mintc_timing.specs.Clocking.{crosses_of, feeds_of, least_width}
 use Rattle.mintc_timing.specs.Design.{Timing, element_at, element_count, no_element, no_pair, pair_at, phase_count, phase_of}
-use Rattle.mintc_timing.specs.Limits.{IsDesign, IsPoint}
-use Rattle.mintc_timing.specs.Links.{apart_link, bound_link, cycle_link, element_node, end_node, link, opening_link, opened_link, order_link, point_node, reach_link, setup_link, span_link, start_link, start_node, width_link}
-use Rattle.mintc_timing.specs.Paths.{HasEnds}
+use Rattle.mintc_timing.specs.Extremes.{greater_of, greatest_of}
+use Rattle.mintc_timing.specs.Limits.{IsDesign, IsPhase, IsPoint}
+use Rattle.mintc_timing.specs.Links.{bound_link, element_node, end_node, link, opening_link, opened_link, point_node, reach_link, setup_link, start_node}
+use Rattle.mintc_timing.specs.Order.{IsTiming}
 use Rattle.mintc_timing.proofs.SharedByKind.{EachKind}
-use Rattle.mintc_corners.specs.Joined.{lifted_link, lifted_node}
-use Rattle.mintc_corners.specs.JointLinks.{beside, shifted_pair}
-use Rattle.mintc_corners.specs.Laws.{HaveOneClock}
-use Rattle.mintc_corners.proofs.PartsLaws.{element_beside_left, element_beside_right, feeds_beside, pair_beside_left, pair_beside_right}
+use Rattle.mintc_timing.proofs.SharedLinkLaws.{ends_of}
+use Rattle.mintc_certificate.specs.declared.members.Member.{Member}
+use Rattle.mintc_certificate.specs.declared.members.Member.TheVariants as member
+use Rattle.mintc_certificate.specs.Valid.{IsMember, link_of, no_bound}
+use Rattle.mintc_corners.specs.CornerOptimum.{IsOfClock, corner_of}
+use Rattle.mintc_corners.specs.Joined.{lifted_delay, lifted_kind, lifted_link, lifted_node, widest}
+use Rattle.mintc_corners.specs.Joint.{AreCorners, beside, shifted_pair, side_by_side}
+use Rattle.mintc_corners.specs.Laws.{AreBeside, AreSystems}
+use Rattle.mintc_corners.proofs.JointLaws.{bounds-same, differ-from, phases_are}
+use Rattle.mintc_corners.proofs.PartsLaws.{element_beside_left, element_beside_right, feeds-cases, feeds-left, feeds-right, pair_beside_left, pair_beside_right, width_beside}
 
--- a node of the clock, and one of an element
-pub node_stays : (clock a x : ℕ) → x ≤ clock → lifted_node clock a x ≡ x
-node_stays clock a x h = grind (arith, nat_tests)
+-- how many items the corners before one have
+abbrev pub before_one : (Timing → ℕ) → List Timing → ℕ → ℕ
+before_one count [] c = 0
+before_one count (t ∷ ts) zero = 0
+before_one count (t ∷ ts) (suc c) = count t + before_one count ts c
 
-pub node_goes : (clock a x : ℕ) → clock < x → lifted_node clock a x ≡ a + x
-node_goes clock a x h = grind (arith, nat_tests)
+abbrev pub elements_before : List Timing → ℕ → ℕ
+elements_before ts c = before_one element_count ts c
 
-pub same_link : (which which' : LinkKind) (a a' z z' : ℕ) (gap : ℤ) (laps : ℕ) → which ≡ which' → a ≡ a' → z ≡ z' → link which a z gap laps ≡ link which' a' z' gap laps
-same_link which which' a a' z z' gap laps e f g = rw (e, f, g) refl
+abbrev pair_count : Timing → ℕ
+pair_count t = length t.pairs
 
-pub crossed_link : (which which' : LinkKind) (a a' z z' : ℕ) (gap gap' : ℤ) (laps laps' : ℕ) → which ≡ which' → a ≡ a' → z ≡ z' → gap ≡ gap' → laps ≡ laps' → link which a z gap laps ≡ link which' a' z' gap' laps'
-crossed_link which which' a a' z z' gap gap' laps laps' e f g h i = rw (e, f, g, h, i) refl
+pairs_sum : (t u : Timing) → pair_count (beside t u) ≡ pair_count t + pair_count u
+pairs_sum t u = length-append t.pairs (map (shifted_pair (element_count t)) u.pairs) ∙ ap (λ (x : ℕ). length t.pairs + x) (length-map u.pairs (shifted_pair (element_count t)))
 
-module _ (wide : ℕ → ℤ) (before : ℕ) (t u : Timing) (clock : HaveOneClock t u) (first : IsDesign t.flat) (second : IsDesign u.flat) (ends : HasEnds t) where
-  abbrev n : ℕ
-  n = element_count t
+elements_sum : (t u : Timing) → element_count (beside t u) ≡ element_count t + element_count u
+elements_sum t u = length-append t.flat.elements u.flat.elements
 
-  abbrev b : Timing
-  b = beside t u
+-- Items side by side are those of each corner in turn: an item of a corner is one of all, and one of all is one of a corner.
+module _ (count : Timing → ℕ) (sum : (t u : Timing) → count (beside t u) ≡ count t + count u) where
+  among_all : (t : Timing) (ts : List Timing) (c l : ℕ) (none : Timing) → c < length (t ∷ ts) → l < count (get_or (t ∷ ts) c none) → before_one count (t ∷ ts) c + l < count (side_by_side t ts)
+  among_all t [] zero l none below h = omega arith
+  among_all t [] (suc c) l none below h = absurd (omega arith)
+  among_all t (u ∷ ts) zero l none below h = let both = sum t (side_by_side u ts) in omega arith
+  among_all t (u ∷ ts) (suc c) l none below h =
+      let both = sum t (side_by_side u ts) in
+      let rest = among_all u ts c l none (omega arith) h in
+      omega arith
 
-  abbrev k : ℕ
-  k = 2 * phase_count t
+  of_one : (t : Timing) (ts : List Timing) (x : ℕ) (none : Timing) → x < count (side_by_side t ts) →
+      (c : ℕ) × (c < length (t ∷ ts)) × (l : ℕ) × (l < count (get_or (t ∷ ts) c none)) × (before_one count (t ∷ ts) c + l ≡ x)
+  of_one t [] x none h = (0, omega arith, x, h, zero-add x)
+  of_one t (u ∷ ts) x none h = ⊎_elim
+      (λ (low : x < count t). (0, omega arith, x, low, zero-add x))
+      (λ (high : count t ≤ x).
+      let rest = of_one u ts (x - count t) none (let both = sum t (side_by_side u ts) in omega arith) in
+      (suc rest.0, omega arith, rest.2, rest.3, omega arith))
+      (cases_lt x (count t))
 
-  -- a link of the first, of both, and of the second among all
-  abbrev low : Link → Link
-  low = lifted_link wide k before
+element_among : (t : Timing) (ts : List Timing) (c l : ℕ) (none : Timing) → c < length (t ∷ ts) → l < element_count (get_or (t ∷ ts) c none) →
+    element_at (side_by_side t ts) (elements_before (t ∷ ts) c + l) ≡ element_at (get_or (t ∷ ts) c none) l
+element_among t [] zero l none below h = ap (λ (x : ℕ). element_at t x) (zero-add l)
+element_among t [] (suc c) l none below h = absurd (omega arith)
+element_among t (u ∷ ts) zero l none below h = ap (λ (x : ℕ). element_at (beside t (side_by_side u ts)) x) (zero-add l) ∙ element_beside_left t (side_by_side u ts) l h
+element_among t (u ∷ ts) (suc c) l none below h =
+    let v = side_by_side u ts in
+    let at : element_count t + elements_before (u ∷ ts) c + l ≡ element_count t + (elements_before (u ∷ ts) c + l) = omega arith in
+    ap (λ (x : ℕ). element_at (beside t v) x) at ∙ element_beside_right t v (elements_before (u ∷ ts) c + l) ∙ element_among u ts c l none (omega arith) h
 
-  abbrev high : Link → Link
-  high = lifted_link wide k (before + n)
+-- The pair is the other, its elements numbered after so many.
+abbrev IsShifted : ℕ → Pair → Pair → Type 0
+IsShifted n p q = (p.from ≡ n + q.from) × (p.to ≡ n + q.to) × (p.max ≡ q.max)
 
-  count-is : element_count b ≡ n + element_count u
-  count-is = length-append t.flat.elements u.flat.elements
+pair_among : (t : Timing) (ts : List Timing) (c m : ℕ) (none : Timing) → c < length (t ∷ ts) → m < pair_count (get_or (t ∷ ts) c none) →
+    IsShifted (elements_before (t ∷ ts) c) (pair_at (side_by_side t ts) (before_one pair_count (t ∷ ts) c + m)) (pair_at (get_or (t ∷ ts) c none) m)
+pair_among t [] zero m none below h = rw (zero-add m) (omega arith, omega arith, refl)
+pair_among t [] (suc c) m none below h = absurd (omega arith)
+pair_among t (u ∷ ts) zero m none below h = rw (zero-add m, pair_beside_left t (side_by_side u ts) m h) (omega arith, omega arith, refl)
+pair_among t (u ∷ ts) (suc c) m none below h =
+    let v = side_by_side u ts in
+    let at : pair_count t + before_one pair_count (u ∷ ts) c + m ≡ pair_count t + (before_one pair_count (u ∷ ts) c + m) = omega arith in
+    let rest = pair_among u ts c m none (omega arith) h in
+    let few = among_all pair_count pairs_sum u ts c m none (omega arith) h in
+    rw (at, pair_beside_right t v (before_one pair_count (u ∷ ts) c + m) few) (omega arith, omega arith, rest.2)
 
-  -- the nodes of a clock are one in both
-  start-stays : (p : ℕ) → p ≤ phase_count t → lifted_node k (before + n) (start_node p) ≡ lifted_node k before (start_node p)
-  start-stays p h = node_stays k (before + n) (start_node p) (omega arith) ∙ sym (node_stays k before (start_node p) (omega arith))
+-- what feeds in a corner, feeds side by side, and the other way
+feeds_all : (t : Timing) (ts : List Timing) (c i j : ℕ) (none : Timing) → AreBeside t ts → c < length (t ∷ ts) → feeds_of (get_or (t ∷ ts) c none) i j ≡ true → feeds_of (side_by_side t ts) i j ≡ true
+feeds_all t [] zero i j none h below fed = fed
+feeds_all t [] (suc c) i j none h below fed = absurd (omega arith)
+feeds_all t (u ∷ ts) zero i j none h below fed = feeds-left t (side_by_side u ts) h.0 i j fed
+feeds_all t (u ∷ ts) (suc c) i j none h below fed = feeds-right t (side_by_side u ts) h.0 i j (feeds_all u ts c i j none h.2 (omega arith) fed)
 
-  end-stays : (p : ℕ) → p ≤ phase_count t → lifted_node k (before + n) (end_node p) ≡ lifted_node k before (end_node p)
-  end-stays p h = node_stays k (before + n) (end_node p) (omega arith) ∙ sym (node_stays k before (end_node p) (omega arith))
+feeds_one : (t : Timing) (ts : List Timing) (i j : ℕ) (none : Timing) → AreBeside t ts → feeds_of (side_by_side t ts) i j ≡ true → (c : ℕ) × (c < length (t ∷ ts)) × (feeds_of (get_or (t ∷ ts) c none) i j ≡ true)
+feeds_one t [] i j none h fed = (0, omega arith, fed)
+feeds_one t (u ∷ ts) i j none h fed = ⊎_elim
+    (λ (own : feeds_of t i j ≡ true). (0, omega arith, own))
+    (λ (its : feeds_of (side_by_side u ts) i j ≡ true). let rest = feeds_one u ts i j none h.2 its in (suc rest.0, omega arith, rest.2))
+    (feeds-cases t (side_by_side u ts) h.0 i j fed)
 
-  origin-stays : lifted_node k (before + n) 0 ≡ lifted_node k before 0
-  origin-stays = node_stays k (before + n) 0 (omega arith) ∙ sym (node_stays k before 0 (omega arith))
+-- the widths that all ask for
+top_low : (o : Option ℤ) → int_max (greater_of (pos 0) o) (pos 0) ≡ greater_of (pos 0) o
+top_low None = omega (arith, ints, clamps)
+top_low (Some x) = omega (arith, ints, clamps)
 
-  point-stays : (p : Point) → IsPoint (phase_count t) p → lifted_node k (before + n) (point_node p) ≡ lifted_node k before (point_node p)
-  point-stays point.Origin h = origin-stays
-  point-stays (point.Start p) h = start-stays p h.1
-  point-stays (point.End p) h = end-stays p h.1
+widest_is : (t : Timing) (ts : List Timing) (p : ℕ) → widest (t ∷ ts) p ≡ least_width (side_by_side t ts) p
+widest_is t [] p = top_low (greatest_of (map (λ (e : Element). e.width) (filter (λ (e : Element). e.phase == p) t.flat.elements)))
+widest_is t (u ∷ ts) p = ap (int_max (least_width t p)) (widest_is u ts p) ∙ sym (width_beside t (side_by_side u ts) p)
 
-  element-goes : (l : ℕ) → lifted_node k (before + n) (element_node u l) ≡ lifted_node k before (element_node b (n + l))
-  element-goes l =
-      let same = clock.phases in
-      node_goes k (before + n) (element_node u l) (omega arith) ∙ (let is : (before + n) + element_node u l ≡ before + element_node b (n + l) = omega arith in is)
-      ∙ sym (node_goes k before (element_node b (n + l)) (omega arith))
+-- each corner is a system, with the phases and the bounds of the first
+pub system_at : (ts : List Timing) (c : ℕ) (none : Timing) → AreSystems ts → c < length ts →
+    IsDesign (get_or ts c none).flat × IsTiming (get_or ts c none).flat (get_or ts c none).order (get_or ts c none).pairs
+system_at [] c none h below = absurd (omega arith)
+system_at (t ∷ ts) zero none h below = (h.0, h.1)
+system_at (t ∷ ts) (suc c) none h below = system_at ts c none h.2 (omega arith)
 
-  phase-in : (l : ℕ) → l < element_count u → phase_of u l ≤ phase_count t
-  phase-in l h = let phase = (second.each_element l no_element h).phase in let same = clock.phases in let most = phase.1 in omega arith
+own_clock : (t : Timing) (ts : List Timing) (c : ℕ) (none : Timing) → AreCorners (t ∷ ts) → c < length (t ∷ ts) →
+    (phase_count (get_or (t ∷ ts) c none) ≡ phase_count t) × ((get_or (t ∷ ts) c none).flat.bounds ≡ t.flat.bounds)
+own_clock t ts zero none are below = (refl, refl)
+own_clock t [] (suc c) none are below = absurd (omega arith)
+own_clock t (u ∷ ts) (suc c) none are below =
+    let rest = own_clock u ts c none (differ-from t u ts are.0 are.1) (omega arith) in
+    (rest.0 ∙ ap length are.0.phases, rest.1 ∙ are.0.bounds)
 
-  -- links as they follow from elements and nodes
-  abbrev opens : ℕ → ℕ → Element → Link
-  opens l x e = link (kind.Opening l) (start_node e.phase) x (cond e.flop (neg_ℤ e.setup) (e.cq_max -ℤ e.dq_max)) 0
+point_low : (k : ℕ) (p : Point) → IsPoint k p → point_node p ≤ 2 * k
+point_low k point.Origin h = omega arith
+point_low k (point.Start p) h = omega arith
+point_low k (point.End p) h = omega arith
 
-  abbrev keeps : ℕ → Element → Link
-  keeps l e = link (kind.Opened l) (start_node e.phase) (end_node e.phase) e.setup 0
+-- links as they follow from elements and nodes
+abbrev opens : ℕ → ℕ → Element → Link
+opens l x e = link (kind.Opening l) (start_node e.phase) x (cond e.flop (neg_ℤ e.setup) (e.cq_max -ℤ e.dq_max)) 0
 
-  abbrev sets : ℕ → ℕ → Element → Link
-  sets l x e = link (kind.Setup l) x (cond e.flop (start_node e.phase) (end_node e.phase)) e.setup 0
+abbrev keeps : ℕ → Element → Link
+keeps l e = link (kind.Opened l) (start_node e.phase) (end_node e.phase) e.setup 0
 
-  abbrev output : ℕ → Element → ℕ
-  output x e = cond e.flop (start_node e.phase) x
+abbrev sets : ℕ → ℕ → Element → Link
+sets l x e = link (kind.Setup l) x (cond e.flop (start_node e.phase) (end_node e.phase)) e.setup 0
 
-  abbrev reaches : ℕ → ℕ → ℕ → ℕ → ℤ → Element → Element → Link
-  reaches j l x z gap d e = link (kind.Reach j l) (output x d) z (d.dq_max +ℤ gap) (crosses_of d.phase e.phase)
+abbrev reaches : ℕ → ℕ → ℕ → ℕ → ℤ → Element → Element → Link
+reaches j l x z gap d e = link (kind.Reach j l) (cond d.flop (start_node d.phase) x) z (d.dq_max +ℤ gap) (crosses_of d.phase e.phase)
 
-  -- of the first, links are as they are
-  pub open-left : (l : ℕ) → l < n → opening_link b l ≡ opening_link t l
-  open-left l h = ap (opens l (element_node t l)) (element_beside_left t u l h)
+same_link : (which : LinkKind) (a a' z z' : ℕ) (gap gap' : ℤ) (laps : ℕ) → a ≡ a' → z ≡ z' → gap ≡ gap' → link which a z gap laps ≡ link which a' z' gap' laps
+same_link which a a' z z' gap gap' laps e f g = rw (e, f, g) refl
 
-  pub opened-left : (l : ℕ) → l < n → opened_link b l ≡ opened_link t l
-  opened-left l h = ap (keeps l) (element_beside_left t u l h)
+module _ (t : Timing) (ts : List Timing) (are : AreCorners (t ∷ ts)) (systems : AreSystems (t ∷ ts)) (besides : AreBeside t ts) where
+  abbrev big : Timing
+  big = side_by_side t ts
 
-  pub setup-left : (l : ℕ) → l < n → setup_link b l ≡ setup_link t l
-  setup-left l h = ap (sets l (element_node t l)) (element_beside_left t u l h)
+  abbrev clock : ℕ
+  clock = 2 * phase_count t
 
-  pub reach-left : (j l : ℕ) (gap : ℤ) → j < n → l < n → reach_link b j l gap ≡ reach_link t j l gap
-  reach-left j l gap g h =
-      ap (λ (d : Element). reaches j l (element_node t j) (element_node t l) gap d (element_at b l)) (element_beside_left t u j g)
-      ∙ ap (λ (e : Element). reaches j l (element_node t j) (element_node t l) gap (element_at t j) e) (element_beside_left t u l h)
+  abbrev lifted : ℕ → Link → Link
+  lifted c = lifted_link (widest (t ∷ ts)) clock (elements_before (t ∷ ts) c)
 
-  -- of the second, they are shifted
-  more-is : (l : ℕ) → before + (n + l) ≡ (before + n) + l
-  more-is l = omega arith
+  module _ (c : ℕ) (below : c < length (t ∷ ts)) where
+    abbrev own : Timing
+    own = corner_of t ts c
 
-  pub open-right : (l : ℕ) → l < element_count u → low (opening_link b (n + l)) ≡ high (opening_link u l)
-  open-right l h =
-      ap (λ (e : Element). low (opens (n + l) (element_node b (n + l)) e)) (element_beside_right t u l)
-      ∙ same_link (kind.Opening (before + (n + l))) (kind.Opening ((before + n) + l)) _ _ _ _ _ 0
-      (ap (λ (x : ℕ). kind.Opening x) (more-is l)) (sym (start-stays (phase_of u l) (phase-in l h))) (sym (element-goes l))
+    abbrev off : ℕ
+    off = elements_before (t ∷ ts) c
 
-  pub opened-right : (l : ℕ) → l < element_count u → low (opened_link b (n + l)) ≡ high (opened_link u l)
-  opened-right l h =
-      ap (λ (e : Element). low (keeps (n + l) e)) (element_beside_right t u l)
-      ∙ same_link (kind.Opened (before + (n + l))) (kind.Opened ((before + n) + l)) _ _ _ _ _ 0
-      (ap (λ (x : ℕ). kind.Opened x) (more-is l)) (sym (start-stays (phase_of u l) (phase-in l h))) (sym (end-stays (phase_of u l) (phase-in l h)))
+    pub own_design : IsDesign own.flat
+    own_design = (system_at (t ∷ ts) c t systems below).0
 
-  closing-stays : (flop : Bool) (p : ℕ) → p ≤ phase_count t → lifted_node k before (cond flop (start_node p) (end_node p)) ≡ lifted_node k (before + n) (cond flop (start_node p) (end_node p))
-  closing-stays true p h = sym (start-stays p h)
-  closing-stays false p h = sym (end-stays p h)
+    pub own_kept : IsTiming own.flat own.order own.pairs
+    own_kept = (system_at (t ∷ ts) c t systems below).1
 
-  pub setup-right : (l : ℕ) → l < element_count u → low (setup_link b (n + l)) ≡ high (setup_link u l)
-  setup-right l h =
-      ap (λ (e : Element). low (sets (n + l) (element_node b (n + l)) e)) (element_beside_right t u l)
-      ∙ same_link (kind.Setup (before + (n + l))) (kind.Setup ((before + n) + l)) _ _ _ _ _ 0
-      (ap (λ (x : ℕ). kind.Setup x) (more-is l)) (sym (element-goes l)) (closing-stays (element_at u l).flop (phase_of u l) (phase-in l h))
+    pub same_phases : phase_count own ≡ phase_count big
+    same_phases = (own_clock t ts c t are below).0 ∙ sym (phases_are t ts)
 
-  output-goes : (flop : Bool) (p j : ℕ) → p ≤ phase_count t → lifted_node k before (cond flop (start_node p) (element_node b (n + j))) ≡ lifted_node k (before + n) (cond flop (start_node p) (element_node u j))
-  output-goes true p j h = sym (start-stays p h)
-  output-goes false p j h = sym (element-goes j)
+    pub same_bounds : own.flat.bounds ≡ big.flat.bounds
+    same_bounds = (own_clock t ts c t are below).1 ∙ sym (bounds-same t ts)
 
-  pub reach-right : (j l : ℕ) (gap : ℤ) → j < element_count u → l < element_count u → low (reach_link b (n + j) (n + l) gap) ≡ high (reach_link u j l gap)
-  reach-right j l gap g h =
-      ap (λ (d : Element). low (reaches (n + j) (n + l) (element_node b (n + j)) (element_node b (n + l)) gap d (element_at b (n + l)))) (element_beside_right t u j)
-      ∙ ap (λ (e : Element). low (reaches (n + j) (n + l) (element_node b (n + j)) (element_node b (n + l)) gap (element_at u j) e)) (element_beside_right t u l)
-      ∙ same_link (kind.Reach (before + (n + j)) (before + (n + l))) (kind.Reach ((before + n) + j) ((before + n) + l)) _ _ _ _ _ _
-      (ap (λ (x : ℕ). kind.Reach x (before + (n + l))) (more-is j) ∙ ap (λ (x : ℕ). kind.Reach ((before + n) + j) x) (more-is l))
-      (output-goes (element_at u j).flop (phase_of u j) j (phase-in j g)) (sym (element-goes l))
+    -- the nodes of the clock, of which each corner has the same, and those of elements
+    stays : (x : ℕ) → x ≤ 2 * phase_count own → x ≡ lifted_node clock off x
+    stays x h = let same = (own_clock t ts c t are below).0 in grind (arith, nat_tests)
 
-  -- the links of the clock
-  start-same : (p : ℕ) → p ≤ phase_count t → low (start_link p) ≡ high (start_link p)
-  start-same p h = same_link (kind.Start p) (kind.Start p) _ _ _ _ _ 0 refl (sym origin-stays) (sym (start-stays p h))
+    goes : (l : ℕ) → element_node big (off + l) ≡ lifted_node clock off (element_node own l)
+    goes l =
+        let one = (own_clock t ts c t are below).0 in
+        let two = phases_are t ts in
+        grind (arith, nat_tests)
 
-  cycle-same : (p : ℕ) → p ≤ phase_count t → low (cycle_link p) ≡ high (cycle_link p)
-  cycle-same p h = same_link (kind.Cycle p) (kind.Cycle p) _ _ _ _ _ 1 refl (sym (start-stays p h)) (sym origin-stays)
+    of_clock : (which : LinkKind) (a z : ℕ) (gap gap' : ℤ) (laps : ℕ) → a ≤ 2 * phase_count own → z ≤ 2 * phase_count own → gap ≡ gap' → link which a z gap laps ≡ link which (lifted_node clock off a) (lifted_node clock off z) gap' laps
+    of_clock which a z gap gap' laps low high same = same_link which a _ z _ gap gap' laps (stays a low) (stays z high) same
 
-  order-same : (p : ℕ) → p < phase_count t → low (order_link p) ≡ high (order_link p)
-  order-same p h = same_link (kind.Order p) (kind.Order p) _ _ _ _ _ 0 refl (sym (start-stays p (omega arith))) (sym (start-stays (p + 1) (omega arith)))
+    element_is : (l : ℕ) → l < element_count own → element_at big (off + l) ≡ element_at own l
+    element_is l h = element_among t ts c l t below h
 
-  span-same : (p : ℕ) → p ≤ phase_count t → low (span_link p) ≡ high (span_link p)
-  span-same p h = same_link (kind.Span p) (kind.Span p) _ _ _ _ _ 1 refl (sym (end-stays p h)) (sym (start-stays p h))
+    phase_low : (l : ℕ) → l < element_count own → phase_of own l ≤ phase_count own
+    phase_low l h = (own_design.each_element l no_element h).phase.1
 
-  width-same : (p : ℕ) → p ≤ phase_count t → low (width_link b p) ≡ high (width_link u p)
-  width-same p h = same_link (kind.Width p) (kind.Width p) _ _ _ _ _ 0 refl (sym (start-stays p h)) (sym (end-stays p h))
+    closing : (flop : Bool) (p : ℕ) → p ≤ phase_count own → cond flop (start_node p) (end_node p) ≡ lifted_node clock off (cond flop (start_node p) (end_node p))
+    closing true p h = stays (start_node p) (omega arith)
+    closing false p h = stays (end_node p) (omega arith)
 
-  apart-same : (i j : ℕ) → i ≤ phase_count t → j ≤ phase_count t → low (apart_link i j) ≡ high (apart_link i j)
-  apart-same i j g h = same_link (kind.Apart i j) (kind.Apart i j) _ _ _ _ _ _ refl (sym (end-stays j h)) (sym (start-stays i g))
+    output : (flop : Bool) (p l : ℕ) → p ≤ phase_count own → cond flop (start_node p) (element_node big (off + l)) ≡ lifted_node clock off (cond flop (start_node p) (element_node own l))
+    output true p l h = stays (start_node p) (omega arith)
+    output false p l h = goes l
 
-  bound-same : (m : ℕ) (e : Bound) → m < length t.flat.bounds → low (bound_link m (get_or t.flat.bounds m e)) ≡ high (bound_link m (get_or t.flat.bounds m e))
-  bound-same m e h =
-      let in_range = first.each_bound m e h in
-      same_link (kind.Bound m) (kind.Bound m) _ _ _ _ _ _ refl (sym (point-stays (get_or t.flat.bounds m e).from in_range.from)) (sym (point-stays (get_or t.flat.bounds m e).to in_range.to))
+    -- links of elements
+    pub opening_is : (l : ℕ) → l < element_count own → opening_link big (off + l) ≡ lifted c (opening_link own l)
+    opening_is l h =
+        let low = phase_low l h in
+        ap (λ (e : Element). opens (off + l) (element_node big (off + l)) e) (element_is l h) ∙ same_link (kind.Opening (off + l)) _ _ _ _ _ _ 0 (stays (start_node (phase_of own l)) (omega arith)) (goes l) refl
 
-  module _ (others : HasEnds u) (P : Link → Type 0) where
-    abbrev One : Link → Type 0
-    One x = P (low x)
+    pub opened_is : (l : ℕ) → l < element_count own → opened_link big (off + l) ≡ lifted c (opened_link own l)
+    opened_is l h =
+        let low = phase_low l h in
+        ap (λ (e : Element). keeps (off + l) e) (element_is l h) ∙ of_clock (kind.Opened (off + l)) (start_node (phase_of own l)) (end_node (phase_of own l)) _ _ 0 (omega arith) (omega arith) refl
 
-    abbrev Two : Link → Type 0
-    Two x = P (high x)
+    pub setup_is : (l : ℕ) → l < element_count own → setup_link big (off + l) ≡ lifted c (setup_link own l)
+    setup_is l h =
+        ap (λ (e : Element). sets (off + l) (element_node big (off + l)) e) (element_is l h)
+        ∙ same_link (kind.Setup (off + l)) _ _ _ _ _ _ 0 (goes l) (closing (element_at own l).flop (phase_of own l) (phase_low l h)) refl
 
-    -- what holds of the one and of the other, holds of each
-    each-element : (Q : ℕ → Type 0) → ((l : ℕ) → l < n → Q l) → ((l : ℕ) → l < element_count u → Q (n + l)) → (l : ℕ) → l < element_count b → Q l
-    each-element Q left right l h = ⊎_elim (λ (few : l < n). left l few)
-        (λ (many : n ≤ l).
-        let all = count-is in
-        let is : n + (l - n) ≡ l = omega arith in
-        subst Q is (right (l - n) (omega arith)))
-        (cases_lt l n)
+    pub reach_is : (j l : ℕ) (gap : ℤ) → j < element_count own → l < element_count own → reach_link big (off + j) (off + l) gap ≡ lifted c (reach_link own j l gap)
+    reach_is j l gap g h =
+        ap (λ (d : Element). reaches (off + j) (off + l) (element_node big (off + j)) (element_node big (off + l)) gap d (element_at big (off + l))) (element_is j g)
+        ∙ ap (λ (e : Element). reaches (off + j) (off + l) (element_node big (off + j)) (element_node big (off + l)) gap (element_at own j) e) (element_is l h)
+        ∙ same_link (kind.Reach (off + j) (off + l)) _ _ _ _ _ _ _ (output (element_at own j).flop (phase_of own j) j (phase_low j g)) (goes l) refl
 
-    flop-left : (l : ℕ) → l < n → (element_at b l).flop ≡ (element_at t l).flop
-    flop-left l h = ap (λ (e : Element). e.flop) (element_beside_left t u l h)
+    bound_is : (n : ℕ) (e : Bound) → n < length own.flat.bounds → bound_link n (get_or big.flat.bounds n e) ≡ lifted c (bound_link n (get_or own.flat.bounds n e))
+    bound_is n e h =
+        let b = get_or own.flat.bounds n e in
+        let in_range = own_design.each_bound n e h in
+        ap (λ (bs : List Bound). bound_link n (get_or bs n e)) (sym same_bounds)
+        ∙ of_clock (kind.Bound n) (point_node b.from) (point_node b.to) _ _ _ (point_low (phase_count own) b.from in_range.from) (point_low (phase_count own) b.to in_range.to) refl
 
-    flop-right : (l : ℕ) → (element_at b (n + l)).flop ≡ (element_at u l).flop
-    flop-right l = ap (λ (e : Element). e.flop) (element_beside_right t u l)
+    -- those of the clock and of bounds
+    pub clock_is : (m : Member) → IsOfClock m → IsMember own m → link_of big m ≡ lifted c (link_of own m)
+    clock_is (member.Start p) of_it h = of_clock (kind.Start p) 0 (start_node p) _ _ 0 (omega arith) (omega arith) refl
+    clock_is (member.Cycle p) of_it h = of_clock (kind.Cycle p) (start_node p) 0 _ _ 1 (omega arith) (omega arith) refl
+    clock_is (member.Order p) of_it h = of_clock (kind.Order p) (start_node p) (start_node (p + 1)) _ _ 0 (omega arith) (omega arith) refl
+    clock_is (member.Span p) of_it h = of_clock (kind.Span p) (end_node p) (start_node p) _ _ 1 (omega arith) (omega arith) refl
+    clock_is (member.Width p) of_it h = of_clock (kind.Width p) (start_node p) (end_node p) _ _ 0 (omega arith) (omega arith) (sym (widest_is t ts p))
+    clock_is (member.Apart i j) of_it h = of_clock (kind.Apart i j) (end_node j) (start_node i) _ _ _ (omega arith) (omega arith) refl
+    clock_is (member.Bound n) of_it h = bound_is n no_bound h
+    clock_is (member.Opening l) of_it h = absurd of_it
+    clock_is (member.Opened l) of_it h = absurd of_it
+    clock_is (member.Reach j l path) of_it h = absurd of_it
+    clock_is (member.Setup l) of_it h = absurd of_it
 
-    abbrev reach-at : Timing → Pair → Link
-    reach-at x p = reach_link x p.from p.to p.max
+    pub in_all : (p : ℕ) → IsPhase (phase_count own) p → IsPhase (phase_count big) p
+    in_all p h = subst (λ (k : ℕ). IsPhase k p) same_phases h
 
-    pairs-count : length b.pairs ≡ length t.pairs + length u.pairs
-    pairs-count = length-append t.pairs (map (shifted_pair n) u.pairs) ∙ ap (λ (x : ℕ). length t.pairs + x) (length-map u.pairs (shifted_pair n))
+    pub fed_in_all : (i j : ℕ) → feeds_of own i j ≡ true → feeds_of big i j ≡ true
+    fed_in_all i j fed = feeds_all t ts c i j t besides below fed
 
-    reach-first : (m : ℕ) → m < length t.pairs → reach-at b (pair_at b m) ≡ reach-at t (pair_at t m)
-    reach-first m h =
-        let here = ends m no_pair h in
-        ap (reach-at b) (pair_beside_left t u m h) ∙ reach-left (pair_at t m).from (pair_at t m).to (pair_at t m).max here.0 here.1
+    in_one : (p : ℕ) → IsPhase (phase_count big) p → IsPhase (phase_count own) p
+    in_one p h = subst (λ (k : ℕ). IsPhase k p) (sym same_phases) h
 
-    reach-second : (m : ℕ) → m < length u.pairs → low (reach-at b (pair_at b (length t.pairs + m))) ≡ high (reach-at u (pair_at u m))
-    reach-second m h =
-        let here = others m no_pair h in
-        ap (λ (p : Pair). low (reach-at b p)) (pair_beside_right t u m h) ∙ reach-right (pair_at u m).from (pair_at u m).to (pair_at u m).max here.0 here.1
+    abbrev pair_of : Timing → ℕ → Link
+    pair_of x m = reach_link x (pair_at x m).from (pair_at x m).to (pair_at x m).max
 
-    -- from the links of each to those of both
-    pub lift_both : EachKind t One → EachKind u Two → EachKind b One
-    lift_both one two = record {
-      start = one.start;
-      cycle = one.cycle;
-      order = one.order;
-      span = one.span;
-      width = one.width;
-      apart = λ i j g h fed. ⊎_elim (λ (own : feeds_of t i j ≡ true). one.apart i j g h own)
-          (λ (its : feeds_of u i j ≡ true).
-          let same = clock.phases in
-          let g1 = g.1 in
-          let h1 = h.1 in
-          subst P (sym (apart-same i j g.1 h.1)) (two.apart i j (g.0, omega arith) (h.0, omega arith) its))
-          (or_cases (feeds_of t i j) (feeds_of u i j) (sym (feeds_beside t u ends i j) ∙ fed));
-      opening = each-element (λ l. One (opening_link b l)) (λ l h. subst One (sym (open-left l h)) (one.opening l h)) (λ l h. subst P (sym (open-right l h)) (two.opening l h));
-      opened = each-element (λ l. (element_at b l).flop ≡ false → One (opened_link b l))
-          (λ l h latch. subst One (sym (opened-left l h)) (one.opened l h (sym (flop-left l h) ∙ latch)))
-          (λ l h latch. subst P (sym (opened-right l h)) (two.opened l h (sym (flop-right l) ∙ latch)));
-      reach = λ m h. ⊎_elim (λ (few : m < length t.pairs). subst One (sym (reach-first m few)) (one.reach m few))
-          (λ (many : length t.pairs ≤ m).
-          let all = pairs-count in
-          let is : length t.pairs + (m - length t.pairs) ≡ m = omega arith in
-          let small : m - length t.pairs < length u.pairs = omega arith in
-          subst (λ (x : ℕ). One (reach-at b (pair_at b x))) is (subst P (sym (reach-second (m - length t.pairs) small)) (two.reach (m - length t.pairs) small)))
-          (cases_lt m (length t.pairs));
-      setup = each-element (λ l. One (setup_link b l)) (λ l h. subst One (sym (setup-left l h)) (one.setup l h)) (λ l h. subst P (sym (setup-right l h)) (two.setup l h));
-      bound = one.bound;
+    pair_is : (m : ℕ) → m < pair_count own → pair_of big (before_one pair_count (t ∷ ts) c + m) ≡ lifted c (pair_of own m)
+    pair_is m h =
+        let at = pair_among t ts c m t below h in
+        let ends = ends_of own own_kept.extremes m no_pair h in
+        rw (at.0, at.1, at.2) (reach_is (pair_at own m).from (pair_at own m).to (pair_at own m).max ends.0 ends.1)
+
+    among_elements : (l : ℕ) → l < element_count own → off + l < element_count big
+    among_elements l h = among_all element_count elements_sum t ts c l t below h
+
+    -- what holds of each link of all, holds of each of the corner, as it is numbered among all
+    pub one_of_all : (P : Link → Type 0) → EachKind big P → EachKind own (λ k. P (lifted c k))
+    one_of_all P all = record {
+      start = λ p h. subst P (clock_is (member.Start p) tt h) (all.start p (in_all p h));
+      cycle = λ p h. subst P (clock_is (member.Cycle p) tt h) (all.cycle p (in_all p h));
+      order = λ p low high. subst P (clock_is (member.Order p) tt (low, high)) (all.order p low (let same = same_phases in omega arith));
+      span = λ p h. subst P (clock_is (member.Span p) tt h) (all.span p (in_all p h));
+      width = λ p h. subst P (clock_is (member.Width p) tt h) (all.width p (in_all p h));
+      apart = λ i j g h fed. subst P (clock_is (member.Apart i j) tt (g, h, fed)) (all.apart i j (in_all i g) (in_all j h) (fed_in_all i j fed));
+      opening = λ l h. subst P (opening_is l h) (all.opening (off + l) (among_elements l h));
+      opened = λ l h latch. subst P (opened_is l h) (all.opened (off + l) (among_elements l h) (ap (λ (e : Element). e.flop) (element_is l h) ∙ latch));
+      reach = λ m h. subst P (pair_is m h) (all.reach (before_one pair_count (t ∷ ts) c + m) (among_all pair_count pairs_sum t ts c m t below h));
+      setup = λ l h. subst P (setup_is l h) (all.setup (off + l) (among_elements l h));
+      bound = λ n e h. subst P (bound_is n e h) (all.bound n e (subst (λ (bs : List Bound). n < length bs) same_bounds h));
     }
 
-    or-left : (x y : Bool) → x ≡ true → (x || y) ≡ true
-    or-left x y h = rw h refl
+  -- and what holds of those of each corner, holds of all
+  module _ (P : Link → Type 0) (each : (c : ℕ) → c < length (t ∷ ts) → EachKind (corner_of t ts c) (λ k. P (lifted c k))) where
+    first : EachKind t (λ k. P (lifted 0 k))
+    first = each 0 (omega arith)
 
-    or-right : (x y : Bool) → y ≡ true → (x || y) ≡ true
-    or-right x y h = rw h (or-true x)
+    by_first : (m : Member) → IsOfClock m → IsMember t m → P (lifted 0 (link_of t m)) → P (link_of big m)
+    by_first m of_it h holds = subst P (sym (clock_is 0 (omega arith) m of_it h)) holds
 
-    -- and back
-    pub lift_first : EachKind b One → EachKind t One
-    lift_first all =
-        let count = count-is in
-        let pairs = pairs-count in
-        record {
-          start = all.start;
-          cycle = all.cycle;
-          order = all.order;
-          span = all.span;
-          width = all.width;
-          apart = λ i j g h fed. all.apart i j g h (feeds_beside t u ends i j ∙ or-left (feeds_of t i j) (feeds_of u i j) fed);
-          opening = λ l h. subst One (open-left l h) (all.opening l (omega arith));
-          opened = λ l h latch. subst One (opened-left l h) (all.opened l (omega arith) (flop-left l h ∙ latch));
-          reach = λ m h. subst One (reach-first m h) (all.reach m (omega arith));
-          setup = λ l h. subst One (setup-left l h) (all.setup l (omega arith));
-          bound = all.bound;
-        }
+    in_first : (p : ℕ) → IsPhase (phase_count big) p → IsPhase (phase_count t) p
+    in_first p h = in_one 0 (omega arith) p h
 
-    pub lift_second : EachKind b One → EachKind u Two
-    lift_second all =
-        let count = count-is in
-        let pairs = pairs-count in
-        let same = clock.phases in
-        record {
-          start = λ p h. let most = h.1 in subst P (start-same p (omega arith)) (all.start p (h.0, omega arith));
-          cycle = λ p h. let most = h.1 in subst P (cycle-same p (omega arith)) (all.cycle p (h.0, omega arith));
-          order = λ p some less. subst P (order-same p (omega arith)) (all.order p some (omega arith));
-          span = λ p h. let most = h.1 in subst P (span-same p (omega arith)) (all.span p (h.0, omega arith));
-          width = λ p h. let most = h.1 in subst P (width-same p (omega arith)) (all.width p (h.0, omega arith));
-          apart = λ i j g h fed.
-              let g1 = g.1 in
-              let h1 = h.1 in
-              subst P (apart-same i j (omega arith) (omega arith))
-              (all.apart i j (g.0, omega arith) (h.0, omega arith) (feeds_beside t u ends i j ∙ or-right (feeds_of t i j) (feeds_of u i j) fed));
-          opening = λ l h. subst P (open-right l h) (all.opening (n + l) (omega arith));
-          opened = λ l h latch. subst P (opened-right l h) (all.opened (n + l) (omega arith) (flop-right l ∙ latch));
-          reach = λ m h. subst P (reach-second m h) (all.reach (length t.pairs + m) (omega arith));
-          setup = λ l h. subst P (setup-right l h) (all.setup (n + l) (omega arith));
-          bound = λ m e h.
-              let at : m < length t.flat.bounds = subst (λ (bs : List Bound). m < length bs) clock.bounds h in
-              subst (λ (bs : List Bound). Two (bound_link m (get_or bs m e))) (sym clock.bounds) (subst P (bound-same m e at) (all.bound m e at));
-        }
+    by_element : (Q : ℕ → Type 0) → ((c : ℕ) (below : c < length (t ∷ ts)) (l : ℕ) → l < element_count (corner_of t ts c) → Q (elements_before (t ∷ ts) c + l)) → (x : ℕ) → x < element_count big → Q x
+    by_element Q holds x h = let at = of_one element_count elements_sum t ts x t h in subst Q at.4 (holds at.0 at.1 at.2 at.3)
+
+    pub all_of_each : EachKind big P
+    all_of_each = record {
+      start = λ p h. by_first (member.Start p) tt (in_first p h) (first.start p (in_first p h));
+      cycle = λ p h. by_first (member.Cycle p) tt (in_first p h) (first.cycle p (in_first p h));
+      order = λ p low high. let less : p < phase_count t = (let same = phases_are t ts in omega arith) in by_first (member.Order p) tt (low, less) (first.order p low less);
+      span = λ p h. by_first (member.Span p) tt (in_first p h) (first.span p (in_first p h));
+      width = λ p h. by_first (member.Width p) tt (in_first p h) (first.width p (in_first p h));
+      apart = λ i j g h fed.
+          let at = feeds_one t ts i j t besides fed in
+          let low = in_one at.0 at.1 i g in
+          let high = in_one at.0 at.1 j h in
+          subst P (sym (clock_is at.0 at.1 (member.Apart i j) tt (low, high, at.2))) ((each at.0 at.1).apart i j low high at.2);
+      opening = by_element (λ x. P (opening_link big x)) (λ c below l h. subst P (sym (opening_is c below l h)) ((each c below).opening l h));
+      opened = by_element (λ x. (element_at big x).flop ≡ false → P (opened_link big x))
+          (λ c below l h latch. subst P (sym (opened_is c below l h)) ((each c below).opened l h (sym (ap (λ (e : Element). e.flop) (element_is c below l h)) ∙ latch)));
+      reach = λ m h.
+          let at = of_one pair_count pairs_sum t ts m t h in
+          subst (λ (x : ℕ). P (reach_link big (pair_at big x).from (pair_at big x).to (pair_at big x).max)) at.4 (subst P (sym (pair_is at.0 at.1 at.2 at.3)) ((each at.0 at.1).reach at.2 at.3));
+      setup = by_element (λ x. P (setup_link big x)) (λ c below l h. subst P (sym (setup_is c below l h)) ((each c below).setup l h));
+      bound = λ n e h.
+          let few : n < length t.flat.bounds = subst (λ (bs : List Bound). n < length bs) (bounds-same t ts) h in
+          subst P (sym (bound_is 0 (omega arith) n e few)) (first.bound n e few);
+    }

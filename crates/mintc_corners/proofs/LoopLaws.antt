@@ -2,6 +2,7 @@
 use Rattle.std.proofs.Common.{◌≡◌, ℕ, suc, ◌<◌, ◌≤◌, ◌+◌, ◌-◌, ◌*◌, ℤ, pos, ◌≤ℤ◌, List, [], ◌∷◌, ◌++◌, length, get_or, map, take, drop, arith, refl, ap, ◌∙◌, sym, subst, append_assoc, length-append}
 use Rattle.std.specs.List.{All, Contains, flat_map}
 use Rattle.std.specs.Int.{int_max}
+use Rattle.std.proofs.lemmas.Grind.{flat_map-append}
 use Rattle.std.proofs.Math.ListN.{drop_of_length-le}
 use Rattle.std.proofs.lemmas.Int.{ints, clamps}
 use Rattle.std.proofs.lemmas.List.{append-nil, at_drop_more, get_or-map, get_or_default, map-append, take_more}
@@ -22,13 +23,11 @@ use Rattle.mintc_timing.proofs.SharedLinkLaws.{ends_of}
 use Rattle.mintc_certificate.specs.Ranges.{IsDeparture}
 use Rattle.mintc_optimise.proofs.SharedStandingLaws.{of_kind}
 use Rattle.mintc_corners.specs.CornerOptimum.{AreDeparturesInRange}
-use Rattle.mintc_corners.specs.Joined.{HasLowKind, IsLow, IsPlace, departures_after, joined, joined_links, lifted_link, no_timing, number_at, own_list, own_values, total_links, widest}
-use Rattle.mintc_corners.specs.Joint.{AreCorners}
-use Rattle.mintc_corners.specs.JointLinks.{joint_nodes}
+use Rattle.mintc_corners.specs.Joined.{HasLowKind, IsLow, departures_after, joined, joined_links, lifted_link, no_timing, own_list, own_values, widest, AreSayableAfter}
+use Rattle.mintc_corners.specs.Joint.{AreCorners, joint_nodes}
 use Rattle.mintc_corners.specs.Laws.{AreSystems}
-use Rattle.mintc_corners.specs.Making.{AreSayableAfter}
+use Rattle.mintc_corners.proofs.LiftLaws.{system_at}
 use Rattle.mintc_corners.proofs.PlaceLaws.{count_is, joined_ordinary}
-use Rattle.mintc_corners.proofs.StandingLaws.{system_at}
 use Rattle.mintc_corners.proofs.ValuesLaws.{counts_are}
 
 -- the greatest least width
@@ -156,27 +155,12 @@ pub nodes_of : (systems : List Timing) (t : Timing) (clock before : ℕ) → 1 �
 nodes_of [] t clock before some is clock_is before_is = absurd (omega arith)
 nodes_of (u ∷ ts) t clock before some is clock_is before_is = let same = ap (λ (x : Timing). phase_count x) is in omega arith
 
--- the place of a number among the lists
-module _ (lists : List Constraints) (corner rest number : ℕ) (list : Constraints) (below : corner < length lists) (is : list ≡ get_or lists corner list)
-    (goes : (c i : ℕ) → number_at (drop corner lists) c i ≡ rest → number_at lists (corner + c) i ≡ number) where
-  left_lists : {Y : Type 0} (f : List Constraints → Y) → f (drop corner lists) ≡ f (list ∷ drop (corner + 1) lists)
-  left_lists f = at_drop_more f lists corner list below ∙ ap (λ (u : Constraints). f (u ∷ drop (corner + 1) lists)) (sym is)
-
-  pub place_here : rest < length list.links → IsPlace lists number corner rest
-  place_here inside = record {
-    corner = below;
-    inside = rw (get_or_default lists corner (constraints_of 0 []) list below, sym is) inside;
-    same = subst (λ (c : ℕ). number_at lists c rest ≡ number) (add_none corner) (goes 0 rest (left_lists (λ ls. number_at ls 0 rest)));
-  }
-    where
-      add_none : (c : ℕ) → c + 0 ≡ c
-      add_none c = omega arith
-
-  pub place_later : (c i : ℕ) → length list.links ≤ rest → number_at (drop (corner + 1) lists) c i ≡ rest - length list.links → number_at lists (corner + 1 + c) i ≡ number
-  place_later c i past h =
-      let one : corner + suc c ≡ corner + 1 + c = omega arith in
-      let at : length list.links + number_at (drop (corner + 1) lists) c i ≡ rest = omega arith in
-      subst (λ (x : ℕ). number_at lists x i ≡ number) one (goes (suc c) i (left_lists (λ ls. number_at ls (suc c) i) ∙ at))
-
-  pub less_left : length list.links ≤ rest → rest < total_links (drop corner lists) → rest - length list.links < total_links (drop (corner + 1) lists)
-  less_left past h = let all = left_lists (λ ls. total_links ls) in omega arith
+-- how many links the lists up to one have
+pub links_more : (lists : List Constraints) (i : ℕ) (list : Constraints) → i < length lists → list ≡ get_or lists i list →
+    length (flat_map (λ (l : Constraints). l.links) (take (i + 1) lists)) ≡ length (flat_map (λ (l : Constraints). l.links) (take i lists)) + length list.links
+links_more lists i list below is =
+    let taken = ap (λ (ls : List Constraints). length (flat_map (λ (l : Constraints). l.links) ls)) (take_more lists i list below ∙ ap (λ (l : Constraints). take i lists ++ l ∷ []) (sym is)) in
+    let parts = ap (λ (ks : List Link). length ks) (flat_map-append (λ (l : Constraints). l.links) (take i lists) (list ∷ [])) in
+    let sum = length-append (flat_map (λ (l : Constraints). l.links) (take i lists)) (list.links ++ []) in
+    let own = ap (λ (ks : List Link). length ks) (append-nil list.links) in
+    omega arith

@@ -1,7 +1,6 @@
 -- What is made of the answer of a search over the joint links is a corner certificate.
 use Rattle.std.proofs.Common.{◌≡◌, ◌≢◌, ℕ, ◌≤◌, ◌+◌, ◌*◌, ℤ, List, [], ◌∷◌, ◌++◌, length, take, drop, arith, refl, ap, sym, ◌∙◌, subst}
-use Rattle.std.specs.List.{All, AllPairs, Contains}
-use Rattle.std.proofs.Math.Seq.{drop-append_seam, take-append_seam}
+use Rattle.std.specs.List.{All, AllPairs, Contains, flat_map}
 use Rattle.std.proofs.lemmas.List.{append-nil, length-map}
 use Rattle.mintc_fraction.specs.Ratio.{Ratio}
 use Rattle.mintc_timing.specs.declared.link.Link.{Link}
@@ -30,18 +29,15 @@ use Rattle.mintc_optimise.proofs.SharedSayingLaws.{are_sayable}
 use Rattle.mintc_optimise.proofs.SharedWalkedLaws.{exact_moments}
 use Rattle.mintc_corners.specs.declared.members.CornerMember.{CornerMember}
 use Rattle.mintc_corners.specs.declared.certificate.CornerCertificate.TheVariants.{Least, Never}
-use Rattle.mintc_corners.specs.CornerOptimum.{AreDeparturesInRange, EntersOnce, IsCornerChainInRange, IsCornerOptimum, all_departures}
-use Rattle.mintc_corners.specs.CornerValid.{IsCornerRing, link_of_corner, links_of_corners}
-use Rattle.mintc_corners.specs.Joined.{departures_after, departures_of_all, joined_links}
-use Rattle.mintc_corners.specs.Joint.{AreCorners, AreJointlyRight}
-use Rattle.mintc_corners.specs.JointLinks.{joint_links_of, joint_nodes, side_by_side}
+use Rattle.mintc_corners.specs.CornerOptimum.{AreDeparturesInRange, EntersOnce, IsCornerChainInRange, IsCornerOptimum, all_departures, IsCornerRing, link_of_corner, links_of_corners}
+use Rattle.mintc_corners.specs.Joined.{departures_after, departures_of_all, joined_links, own_values, AreSayableOfAll, AreStanding}
+use Rattle.mintc_corners.specs.Joint.{AreCorners, AreJointlyRight, joint_links_of, joint_nodes, side_by_side}
 use Rattle.mintc_corners.specs.Laws.{AreBeside, AreSystems}
-use Rattle.mintc_corners.specs.Making.{AreSayableOfAll, AreStanding}
-use Rattle.mintc_corners.proofs.BesideLaws.{beside_is_both_lem}
+use Rattle.mintc_corners.proofs.BesideLaws.{beside_in_parts}
 use Rattle.mintc_corners.proofs.GreatestLaws.{carried_greatest}
-use Rattle.mintc_corners.proofs.JoinedLaws.{Levels, joined_listed, links_joined, phases_are}
-use Rattle.mintc_corners.proofs.JointLaws.{corners_are_modest_lem, joint_cycle_is_least_lem, jointly_hopeless_is_hopeless_lem}
-use Rattle.mintc_corners.proofs.PlaceLaws.{design, joined_ordinary, known, nodes_are}
+use Rattle.mintc_corners.proofs.JoinedLaws.{joined_listed, links_joined}
+use Rattle.mintc_corners.proofs.JointLaws.{corners_are_modest_lem, joint_cycle_is_least_lem, jointly_hopeless_is_hopeless_lem, phases_are}
+use Rattle.mintc_corners.proofs.PlaceLaws.{joined_ordinary, nodes_are}
 use Rattle.mintc_corners.proofs.ScheduleLaws.{sayable_of_all, schedule_same}
 use Rattle.mintc_corners.proofs.TransferLaws.{carried_chain}
 use Rattle.mintc_corners.proofs.ValuesLaws.{counts_are, departures_are}
@@ -50,30 +46,23 @@ some_closed : (ks : List Link) → IsClosed (λ (k : Link). k.from) (λ (k : Lin
 some_closed [] h = absurd h
 some_closed (k ∷ ks) h = omega arith
 
--- as many departures for each corner as it has elements
-abbrev AreCounted : List Timing → List (List ℤ) → Type 0
-AreCounted [] [] = Unit {0}
-AreCounted (t ∷ ts) (d ∷ ds) = (length d ≡ element_count t) × AreCounted ts ds
-AreCounted ts ds = ⊥
-
-counted : (ts : List Timing) (clock before : ℕ) (values : List ℤ) → AreCounted ts (departures_after clock before ts values)
-counted [] clock before values = tt
-counted (t ∷ ts) clock before values = (counts_are t _, counted ts clock (before + element_count t) values)
-
 lists_count : (ts : List Timing) (clock before : ℕ) (values : List ℤ) → length (departures_after clock before ts values) ≡ length ts
 lists_count [] clock before values = refl
 lists_count (t ∷ ts) clock before values = let rest = lists_count ts clock (before + element_count t) values in omega arith
 
+-- the departures of all corners, one after the other
+abbrev all_departures : List (List ℤ) → List ℤ
+all_departures ds = flat_map (λ (d : List ℤ). d) ds
+
 -- A schedule that is right side by side, is right in each corner with its part of the departures.
-split_as : (t : Timing) (ts : List Timing) (s : Schedule) (ds : List (List ℤ)) → AreBeside t ts → AreCounted (t ∷ ts) ds → IsRight (side_by_side t ts) s (all_departures ds) → AreJointlyRight (t ∷ ts) s ds
-split_as t ts s [] are counts right = absurd counts
-split_as t [] s (d ∷ []) are counts right = (subst (IsRight t s) (append-nil d) right, tt)
-split_as t [] s (d ∷ e ∷ ds) are counts right = absurd counts.1
-split_as t (u ∷ ts) s (d ∷ ds) are counts right =
-    let both = (beside_is_both_lem t (side_by_side u ts) s (d ++ all_departures ds) are.1 are.0).0 right in
-    let front : take (element_count t) (d ++ all_departures ds) ≡ d = ap (λ (n : ℕ). take n (d ++ all_departures ds)) (sym counts.0) ∙ take-append_seam d (all_departures ds) in
-    let back : drop (element_count t) (d ++ all_departures ds) ≡ all_departures ds = ap (λ (n : ℕ). drop n (d ++ all_departures ds)) (sym counts.0) ∙ drop-append_seam d (all_departures ds) in
-    (subst (IsRight t s) front both.0, split_as u ts s ds are.2 counts.1 (subst (IsRight (side_by_side u ts) s) back both.1))
+split_as : (t : Timing) (ts : List Timing) (s : Schedule) (clock before : ℕ) (values : List ℤ) → AreBeside t ts → IsRight (side_by_side t ts) s (all_departures (departures_after clock before (t ∷ ts) values)) →
+    AreJointlyRight (t ∷ ts) s (departures_after clock before (t ∷ ts) values)
+split_as t [] s clock before values are right = (subst (IsRight t s) (append-nil (departures_of t (own_values clock before (element_count t) values))) right, tt)
+split_as t (u ∷ ts) s clock before values are right =
+    let d = departures_of t (own_values clock before (element_count t) values) in
+    let rest = all_departures (departures_after clock (before + element_count t) (u ∷ ts) values) in
+    let both = (beside_in_parts t (side_by_side u ts) s d rest are.1 are.0 (counts_are t (own_values clock before (element_count t) values))).0 right in
+    (both.0, split_as u ts s clock (before + element_count t) values are.2 both.1)
 
 module _ (t : Timing) (ts : List Timing) (are : AreCorners (t ∷ ts)) (systems : AreSystems (t ∷ ts)) (some : length ts ≤ 3) (few : element_count (side_by_side t ts) ≤ 2000) where
   abbrev big : Timing
@@ -85,20 +74,17 @@ module _ (t : Timing) (ts : List Timing) (are : AreCorners (t ∷ ts)) (systems 
   abbrev list : Constraints
   list = constraints_of (joint_nodes (t ∷ ts)) own_links
 
-  limits : IsDesign big.flat
-  limits = design t ts are systems some few
+  besides : AreBeside t ts
+  besides = (corners_are_modest_lem t ts are systems some few).0
 
-  levels_here : Levels t ts
-  levels_here = known t ts are systems some few
+  limits : IsDesign big.flat
+  limits = (corners_are_modest_lem t ts are systems some few).1
 
   ends : HasEnds big
   ends = (corners_are_modest_lem t ts are systems some few).2.ends
 
-  besides : AreBeside t ts
-  besides = (corners_are_modest_lem t ts are systems some few).0
-
   listed : All (Contains (joint_links_of t ts)) own_links
-  listed = joined_listed t ts levels_here
+  listed = joined_listed t ts are systems besides
 
   module _ (chain : List ℕ) (named : NamesChain own_links chain) (members : List CornerMember) (stand : AreStanding t ts chain members) where
     abbrev mine : List Link
@@ -135,7 +121,7 @@ module _ (t : Timing) (ts : List Timing) (are : AreCorners (t ∷ ts)) (systems 
     values = room.values
 
     greatest : AreGreatest (constraints_of (node_count big) (links_of big)) cycle values
-    greatest = carried_greatest (node_count big) own_links (links_of big) listed (links_joined t ts levels_here) cycle values (subst (λ (n : ℕ). AreGreatest (constraints_of n own_links) cycle values) (nodes_are t ts) found.values)
+    greatest = carried_greatest (node_count big) own_links (links_of big) listed (links_joined t ts are systems besides) cycle values (subst (λ (n : ℕ). AreGreatest (constraints_of n own_links) cycle values) (nodes_are t ts) found.values)
 
     exact : AreExactMoments big cycle.num cycle.den values
     exact = exact_moments big limits ends cycle values greatest
@@ -144,7 +130,7 @@ module _ (t : Timing) (ts : List Timing) (are : AreCorners (t ∷ ts)) (systems 
     sayable_big = are_sayable big limits cycle found.cycle_is values exact
 
     pub sayable : AreSayableOfAll (t ∷ ts) values
-    sayable = sayable_of_all t ts values levels_here systems few sayable_big
+    sayable = sayable_of_all t ts values besides systems few sayable_big
 
     abbrev s : Schedule
     s = schedule_of big cycle.num cycle.den values
@@ -153,7 +139,7 @@ module _ (t : Timing) (ts : List Timing) (are : AreCorners (t ∷ ts)) (systems 
     ds = departures_of_all (t ∷ ts) values
 
     departs : all_departures ds ≡ departures_of big values
-    departs = departures_are t ts values levels_here systems (greatest.count ∙ node_sum)
+    departs = departures_are t ts values besides systems (greatest.count ∙ node_sum)
       where
         node_sum : node_count big ≡ 1 + 2 * phase_count t + element_count big
         node_sum = let phases = phases_are t ts in omega arith
@@ -162,7 +148,7 @@ module _ (t : Timing) (ts : List Timing) (are : AreCorners (t ∷ ts)) (systems 
     right = moments_are_right_lem big cycle.num cycle.den values limits ends found.cycle_is.fraction exact
 
     jointly : AreJointlyRight (t ∷ ts) s ds
-    jointly = split_as t ts s ds besides (counted (t ∷ ts) _ 0 values) (subst (IsRight big s) (sym departs) right)
+    jointly = split_as t ts s (2 * phase_count t) 0 values besides (subst (IsRight big s) (sym departs) right)
 
     least : IsLeastCycle big cycle.num cycle.den
     least = tight_is_least_lem big cycle.num cycle.den values (links_at own_links room.chain) limits ends found.cycle_is.fraction exact

@@ -9,15 +9,14 @@ use Rattle.mintc_constraints.specs.Ordinary.{Constraints, constraints_of}
 use Rattle.mintc_certificate.specs.declared.members.Member.{Member}
 use Rattle.mintc_optimise.specs.Making.{StandsFor as StandsForOwn}
 use Rattle.mintc_corners.specs.declared.members.CornerMember.{CornerMember}
-use Rattle.mintc_corners.specs.CornerValid.{corner_of}
-use Rattle.mintc_corners.specs.Joined.{IsPlace, clock_count, joined_links, lifted_link, number_at, own_list, widest}
+use Rattle.mintc_corners.specs.CornerOptimum.{corner_of}
+use Rattle.mintc_corners.specs.Joined.{IsPlace, clock_count, joined_links, lifted_link, own_list, widest, StandForAll, StandsFor, corner_number}
 use Rattle.mintc_corners.specs.Joint.{AreCorners}
 use Rattle.mintc_corners.specs.Laws.{AreSystems}
-use Rattle.mintc_corners.specs.Making.{StandForAll, StandsFor, corner_number}
-use Rattle.mintc_corners.proofs.JoinedLaws.{levels}
+use Rattle.mintc_corners.proofs.LiftLaws.{elements_before}
 use Rattle.mintc_corners.proofs.LoopLaws.{list_at}
-use Rattle.mintc_corners.proofs.PlaceLaws.{count_is, elements_before, joined_at}
-use Rattle.mintc_corners.proofs.StandingLaws.{stand_more, stands}
+use Rattle.mintc_corners.proofs.PlaceLaws.{besides, count_is, joined_at}
+use Rattle.mintc_corners.proofs.StandingLaws.{stand_more, standing_for}
 
 stands_of : (systems : List Timing) (c : ℕ) → c < length systems → (t : Timing) → t ≡ get_or systems c t → (k : Link) (m : Member) → length systems ≤ 4 → AreCorners systems →
     length (flat_map (λ (u : Timing). u.flat.elements) systems) ≤ 2000 → AreSystems systems → Contains (links_of t) k → StandsForOwn t k m →
@@ -26,7 +25,7 @@ stands_of [] c below t t_is k m few corners elements kept listed h = absurd (ome
 stands_of (first ∷ rest) c below t t_is k m few corners elements kept listed h =
     let own : t ≡ corner_of first rest c = t_is ∙ get_or_default (first ∷ rest) c t first below in
     let count = count_is first rest in
-    stands first rest corners kept (levels first rest corners kept (omega arith)) (omega arith) c below k m (subst (λ (u : Timing). Contains (links_of u) k) own listed) (subst (λ (u : Timing). StandsForOwn u k m) own h)
+    standing_for first rest corners kept (besides first rest corners kept (omega arith) (omega arith)) (omega arith) c below k m (subst (λ (u : Timing). Contains (links_of u) k) own listed) (subst (λ (u : Timing). StandsForOwn u k m) own h)
 
 -- one more member, of any corners
 pub stand_read : (systems : List Timing) (chain : List ℕ) (i : ℕ) (members : List CornerMember) (m : CornerMember) → i < length chain → StandForAll systems (take i chain) members →
@@ -57,7 +56,7 @@ module _ (systems : List Timing) (lists : List Constraints) (are : lists ≡ map
   -- the joint link of the number is the corner's link, numbered among all
   link_is : link_at (joined_links systems) number ≡ lifted_link (widest systems) (clock_count systems) (elements_before systems c) (get_or items i d)
   link_is =
-      let at : number ≡ number_at (map own_list systems) c i = sym place.same ∙ ap (λ (xs : List Constraints). number_at xs c i) are in
+      let at = sym place.same ∙ ap (λ (xs : List Constraints). length (flat_map (λ (l : Constraints). l.links) (take c xs)) + i) are in
       let few : i < length (links_of (get_or systems c t)) = rw (sym t_is, sym items_own) inside in
       ap (link_at (joined_links systems)) at
       ∙ joined_at (widest systems) (clock_count systems) 0 systems c i t no_link below few

@@ -1,6 +1,7 @@
 -- What two timings side by side have: elements, pairs, and what these ask of the clock.
-use Rattle.std.proofs.Common.{◌≡◌, ℕ, ◌<◌, ◌+◌, ◌==◌, ◌&&◌, ◌||◌, not, ℤ, pos, Bool, List, [], ◌∷◌, ◌++◌, length, map, arith, refl, ap, ◌∙◌, Option, Some, None}
+use Rattle.std.proofs.Common.{◌≡◌, ℕ, ◌<◌, ◌+◌, ◌==◌, ◌&&◌, ◌||◌, not, ℤ, pos, Bool, true, List, [], ◌∷◌, ◌++◌, length, map, arith, refl, ap, ◌∙◌, sym, ◌⊎◌, Option, Some, None}
 use Rattle.std.proofs.Math.ListN.{get_or-append}
+use Rattle.std.proofs.lemmas.Bool.{or_cases, or_left, or_right}
 use Rattle.std.proofs.lemmas.Int.{ints, clamps}
 use Rattle.std.proofs.lemmas.List.{get_or-append-add, get_or-map, map-append}
 use Rattle.std.proofs.lemmas.List.Elements.{All-head, All-tail, filter-append}
@@ -13,22 +14,19 @@ use Rattle.mintc_timing.specs.Clocking.{feeds_of, is_pair_between, least_width}
 use Rattle.mintc_timing.specs.Design.{Timing, element_at, element_count, no_element, no_pair, pair_at}
 use Rattle.mintc_timing.specs.Extremes.{greater_of, greatest_of}
 use Rattle.mintc_timing.specs.Paths.{HasEnds}
-use Rattle.mintc_corners.specs.JointLinks.{beside, shifted_pair}
+use Rattle.mintc_corners.specs.Joint.{beside, shifted_pair}
 
 -- the greatest of 0 and numbers
-top : List ℤ → ℤ
-top xs = greater_of (pos 0) (greatest_of xs)
+top-nil : (o : Option ℤ) → greater_of (pos 0) o ≡ int_max (pos 0) (greater_of (pos 0) o)
+top-nil None = omega (arith, ints, clamps)
+top-nil (Some y) = omega (arith, ints, clamps)
 
 top-cons : (x : ℤ) (o : Option ℤ) → int_max (pos 0) (greater_of x o) ≡ int_max x (greater_of (pos 0) o)
 top-cons x None = omega (arith, ints, clamps)
 top-cons x (Some y) = omega (arith, ints, clamps)
 
 top-append : (xs ys : List ℤ) → greater_of (pos 0) (greatest_of (xs ++ ys)) ≡ int_max (greater_of (pos 0) (greatest_of xs)) (greater_of (pos 0) (greatest_of ys))
-top-append [] ys = low (greatest_of ys)
-  where
-    low : (o : Option ℤ) → greater_of (pos 0) o ≡ int_max (pos 0) (greater_of (pos 0) o)
-    low None = omega (arith, ints, clamps)
-    low (Some y) = omega (arith, ints, clamps)
+top-append [] ys = top-nil (greatest_of ys)
 top-append (x ∷ xs) ys =
     let rest = top-append xs ys in
     let a = top-cons x (greatest_of (xs ++ ys)) in
@@ -88,8 +86,17 @@ module _ (t u : Timing) where
         ap (λ (c : Bool). c || list_any (is_pair_between b i j) (map (shifted_pair n) qs)) (between-right i j q)
         ∙ ap (λ (c : Bool). is_pair_between u i j q || c) (any-right i j qs)
 
-    pub feeds_beside : (i j : ℕ) → feeds_of b i j ≡ (feeds_of t i j || feeds_of u i j)
+    feeds_beside : (i j : ℕ) → feeds_of b i j ≡ (feeds_of t i j || feeds_of u i j)
     feeds_beside i j =
         list_any-append (is_pair_between b i j) t.pairs (map (shifted_pair n) u.pairs)
         ∙ ap (λ (c : Bool). c || list_any (is_pair_between b i j) (map (shifted_pair n) u.pairs)) (any-left i j t.pairs ends)
         ∙ ap (λ (c : Bool). feeds_of t i j || c) (any-right i j u.pairs)
+
+    pub feeds-left : (i j : ℕ) → feeds_of t i j ≡ true → feeds_of b i j ≡ true
+    feeds-left i j fed = feeds_beside i j ∙ or_left (feeds_of t i j) (feeds_of u i j) fed
+
+    pub feeds-right : (i j : ℕ) → feeds_of u i j ≡ true → feeds_of b i j ≡ true
+    feeds-right i j fed = feeds_beside i j ∙ or_right (feeds_of t i j) (feeds_of u i j) fed
+
+    pub feeds-cases : (i j : ℕ) → feeds_of b i j ≡ true → (feeds_of t i j ≡ true) ⊎ (feeds_of u i j ≡ true)
+    feeds-cases i j fed = or_cases (feeds_of t i j) (feeds_of u i j) (sym (feeds_beside i j) ∙ fed)

@@ -1,5 +1,5 @@
 -- Where the link of a corner stands among those of all.
-use Rattle.std.proofs.Common.{◌≡◌, ℕ, zero, suc, ◌<◌, ◌≤◌, ◌+◌, ◌*◌, ℤ, List, [], ◌∷◌, ◌++◌, length, get_or, map, arith, refl, ap, ◌∙◌, sym, length-append}
+use Rattle.std.proofs.Common.{◌≡◌, ℕ, zero, suc, ◌<◌, ◌≤◌, ◌+◌, ◌*◌, ℤ, List, [], ◌∷◌, ◌++◌, length, get_or, map, take, arith, refl, ap, ◌∙◌, sym, zero-add, length-append}
 use Rattle.std.specs.List.{flat_map}
 use Rattle.std.proofs.Math.ListN.{get_or-append}
 use Rattle.std.proofs.Math.Nat.{suc-mul}
@@ -10,47 +10,45 @@ use Rattle.mintc_timing.specs.Design.{Timing, element_count}
 use Rattle.mintc_timing.specs.Limits.{IsDesign}
 use Rattle.mintc_timing.specs.Links.{links_of}
 use Rattle.mintc_constraints.specs.Laws.{node_count}
-use Rattle.mintc_constraints.specs.Ordinary.{IsOrdinary, constraints_of}
+use Rattle.mintc_constraints.specs.Ordinary.{Constraints, IsOrdinary, constraints_of}
 use Rattle.mintc_constraints.proofs.SharedOrdinaryLaws.{few_links, modest_links_are_ordinary_lem}
-use Rattle.mintc_corners.specs.JointLinks.{joint_nodes, side_by_side}
-use Rattle.mintc_corners.specs.Joined.{clock_count, joined, joined_links, lifted_link, number_at, own_list, total_links, widest}
-use Rattle.mintc_corners.specs.Joint.{AreCorners, DifferInNumbers}
-use Rattle.mintc_corners.specs.Laws.{AreSystems}
-use Rattle.mintc_corners.proofs.JointLaws.{corners_are_modest_lem, differ-from}
-use Rattle.mintc_corners.proofs.JoinedLaws.{Levels, joined_listed, levels, links_joined, phases_are}
+use Rattle.mintc_corners.specs.Joint.{joint_nodes, side_by_side, AreCorners, DifferInNumbers}
+use Rattle.mintc_corners.specs.Joined.{clock_count, joined, joined_links, lifted_link, own_list, widest}
+use Rattle.mintc_corners.specs.Laws.{AreBeside, AreSystems}
+use Rattle.mintc_corners.proofs.JointLaws.{corners_are_modest_lem, differ-from, phases_are}
+use Rattle.mintc_corners.proofs.JoinedLaws.{joined_listed, links_joined}
+use Rattle.mintc_corners.proofs.LiftLaws.{elements_before}
 use Rattle.mintc_corners.proofs.TransferLaws.{carried_ordinary}
 
--- how many elements the corners before one have
-abbrev pub elements_before : List Timing → ℕ → ℕ
-elements_before [] c = 0
-elements_before (t ∷ ts) zero = 0
-elements_before (t ∷ ts) (suc c) = element_count t + elements_before ts c
-
-pub joined_length : (wide : ℕ → ℤ) (clock before : ℕ) (ts : List Timing) → length (joined wide clock before ts) ≡ total_links (map own_list ts)
+pub joined_length : (wide : ℕ → ℤ) (clock before : ℕ) (ts : List Timing) → length (joined wide clock before ts) ≡ length (flat_map (λ (l : Constraints). l.links) (map own_list ts))
 joined_length wide clock before [] = refl
 joined_length wide clock before (t ∷ ts) =
-    length-append (map (lifted_link wide clock before) (links_of t)) (joined wide clock (before + element_count t) ts)
-    ∙ ap (λ (n : ℕ). n + length (joined wide clock (before + element_count t) ts)) (length-map (links_of t) (lifted_link wide clock before))
-    ∙ ap (λ (n : ℕ). length (links_of t) + n) (joined_length wide clock (before + element_count t) ts)
+    let all = length-append (map (lifted_link wide clock before) (links_of t)) (joined wide clock (before + element_count t) ts) in
+    let own = length-map (links_of t) (lifted_link wide clock before) in
+    let rest = joined_length wide clock (before + element_count t) ts in
+    let lists = length-append (links_of t) (flat_map (λ (l : Constraints). l.links) (map own_list ts)) in
+    omega arith
+
+abbrev links_before : List Timing → ℕ → ℕ
+links_before ts c = length (flat_map (λ (l : Constraints). l.links) (take c (map own_list ts)))
 
 pub joined_at : (wide : ℕ → ℤ) (clock before : ℕ) (ts : List Timing) (c i : ℕ) (none : Timing) (d : Link) → c < length ts → i < length (links_of (get_or ts c none)) →
-    get_or (joined wide clock before ts) (number_at (map own_list ts) c i) d ≡ lifted_link wide clock (before + elements_before ts c) (get_or (links_of (get_or ts c none)) i d)
+    get_or (joined wide clock before ts) (links_before ts c + i) d ≡ lifted_link wide clock (before + elements_before ts c) (get_or (links_of (get_or ts c none)) i d)
 joined_at wide clock before [] c i none d g h = absurd (omega arith)
 joined_at wide clock before (t ∷ ts) zero i none d g h =
     let count = length-map (links_of t) (lifted_link wide clock before) in
     let same : before + 0 ≡ before = omega arith in
-    get_or-append (map (lifted_link wide clock before) (links_of t)) (joined wide clock (before + element_count t) ts) d i (omega arith)
-    ∙ get_or-map (lifted_link wide clock before) (links_of t) i d d h
-    ∙ ap (λ (x : ℕ). lifted_link wide clock x (get_or (links_of t) i d)) (sym same)
+    rw (zero-add i, same)
+    (get_or-append (map (lifted_link wide clock before) (links_of t)) (joined wide clock (before + element_count t) ts) d i (omega arith)
+    ∙ get_or-map (lifted_link wide clock before) (links_of t) i d d h)
 joined_at wide clock before (t ∷ ts) (suc c) i none d g h =
     let own = map (lifted_link wide clock before) (links_of t) in
     let rest = joined wide clock (before + element_count t) ts in
     let count = length-map (links_of t) (lifted_link wide clock before) in
-    let same : (before + element_count t) + elements_before ts c ≡ before + (element_count t + elements_before ts c) = omega arith in
-    ap (λ (n : ℕ). get_or (own ++ rest) (n + number_at (map own_list ts) c i) d) (sym count)
-    ∙ get_or-append-add own rest (number_at (map own_list ts) c i) d
-    ∙ joined_at wide clock (before + element_count t) ts c i none d (omega arith) h
-    ∙ ap (λ (x : ℕ). lifted_link wide clock x (get_or (links_of (get_or ts c none)) i d)) same
+    let sum = length-append (links_of t) (flat_map (λ (l : Constraints). l.links) (take c (map own_list ts))) in
+    let at : links_before (t ∷ ts) (suc c) + i ≡ length own + (links_before ts c + i) = omega arith in
+    let same : before + (element_count t + elements_before ts c) ≡ (before + element_count t) + elements_before ts c = omega arith in
+    rw (at, same) (get_or-append-add own rest (links_before ts c + i) d ∙ joined_at wide clock (before + element_count t) ts c i none d (omega arith) h)
 
 -- Corners have as many elements each.
 pub alike : (t u : Timing) → DifferInNumbers t.flat u.flat → element_count u ≡ element_count t
@@ -84,7 +82,7 @@ nodes_are t ts =
 few_in_turn : (wide : ℕ → ℤ) (clock before : ℕ) (ts : List Timing) → AreSystems ts → length (joined wide clock before ts) ≤ length ts * 2000000
 few_in_turn wide clock before [] h = omega arith
 few_in_turn wide clock before (t ∷ ts) h =
-    let here = few_links t h.0 (let pairs = h.1.few in omega arith) in
+    let here = few_links t h.0 (omega arith) in
     let rest = few_in_turn wide clock (before + element_count t) ts h.2 in
     let all = length-append (map (lifted_link wide clock before) (links_of t)) (joined wide clock (before + element_count t) ts) in
     let count = length-map (links_of t) (lifted_link wide clock before) in
@@ -94,11 +92,11 @@ module _ (t : Timing) (ts : List Timing) (are : AreCorners (t ∷ ts)) (systems 
   pub design : IsDesign (side_by_side t ts).flat
   design = (corners_are_modest_lem t ts are systems some few).1
 
-  pub known : Levels t ts
-  known = levels t ts are systems few
+  pub besides : AreBeside t ts
+  besides = (corners_are_modest_lem t ts are systems some few).0
 
   pub joined_ordinary : IsOrdinary (constraints_of (joint_nodes (t ∷ ts)) (joined_links (t ∷ ts)))
   joined_ordinary = rw (nodes_are t ts)
-      (carried_ordinary (links_of (side_by_side t ts)) (joined_links (t ∷ ts)) (links_joined t ts known) (joined_listed t ts known) (node_count (side_by_side t ts))
+      (carried_ordinary (links_of (side_by_side t ts)) (joined_links (t ∷ ts)) (links_joined t ts are systems besides) (joined_listed t ts are systems besides) (node_count (side_by_side t ts))
       (let all = few_in_turn (widest (t ∷ ts)) (clock_count (t ∷ ts)) 0 (t ∷ ts) systems in omega arith)
       (modest_links_are_ordinary_lem (side_by_side t ts) design (corners_are_modest_lem t ts are systems some few).2))

@@ -13,11 +13,10 @@ use Rattle.mintc_constraints.specs.Duality.{schedule_of}
 use Rattle.mintc_constraints.specs.Laws.{node_count}
 use Rattle.mintc_certificate.specs.Ranges.{IsDeparture}
 use Rattle.mintc_optimise.specs.Making.{AreSayable}
-use Rattle.mintc_corners.specs.Joined.{no_timing, own_values}
-use Rattle.mintc_corners.specs.JointLinks.{beside, side_by_side}
-use Rattle.mintc_corners.specs.Laws.{AreSystems}
-use Rattle.mintc_corners.specs.Making.{AreSayableAfter, AreSayableOfAll, IsSayable}
-use Rattle.mintc_corners.proofs.JoinedLaws.{Levels, phases_are}
+use Rattle.mintc_corners.specs.Joined.{no_timing, own_values, AreSayableAfter, AreSayableOfAll, IsSayable}
+use Rattle.mintc_corners.specs.Joint.{beside, side_by_side}
+use Rattle.mintc_corners.specs.Laws.{AreBeside, AreSystems}
+use Rattle.mintc_corners.proofs.JointLaws.{phases_are}
 use Rattle.mintc_corners.proofs.PartsLaws.{element_beside_left, element_beside_right}
 use Rattle.mintc_corners.proofs.ValuesLaws.{own_clock, own_count, own_element}
 
@@ -100,24 +99,24 @@ module _ (values : List ℤ) where
             (h.departures (element_count t + l) (omega arith) (ap (λ (x : Element). x.flop) e ∙ latch)));
       }
 
-  sayable_in_turn : (t : Timing) (ts : List Timing) (clock before : ℕ) → clock ≡ 2 * phase_count t → Levels t ts → AreSystems (t ∷ ts) → before + element_count (side_by_side t ts) ≤ 2000 →
+  sayable_in_turn : (t : Timing) (ts : List Timing) (clock before : ℕ) → clock ≡ 2 * phase_count t → AreBeside t ts → AreSystems (t ∷ ts) → before + element_count (side_by_side t ts) ≤ 2000 →
       1 + clock + before + element_count (side_by_side t ts) ≤ length values → AreSayableFrom clock before (side_by_side t ts) → AreSayableAfter clock before (t ∷ ts) values
-  sayable_in_turn t [] clock before is known systems few inside h = (own_sayable t clock before is systems.0 (omega arith) inside h, tt)
-  sayable_in_turn t (u ∷ ts) clock before is known systems few inside h =
+  sayable_in_turn t [] clock before is besides systems few inside h = (own_sayable t clock before is systems.0 (omega arith) inside h, tt)
+  sayable_in_turn t (u ∷ ts) clock before is besides systems few inside h =
       let v = side_by_side u ts in
       let count = length-append t.flat.elements v.flat.elements in
-      let same = known.2.phases in
+      let same = besides.1.phases in
       let phases = phases_are u ts in (
         own_sayable t clock before is systems.0 (omega arith) (omega arith) (first_sayable t v clock before h),
-        sayable_in_turn u ts clock (before + element_count t) (omega arith) known.5 systems.2 (omega arith) (omega arith) (second_sayable t v clock before same h),
+        sayable_in_turn u ts clock (before + element_count t) (omega arith) besides.2 systems.2 (omega arith) (omega arith) (second_sayable t v clock before same h),
       )
 
-pub sayable_of_all : (t : Timing) (ts : List Timing) (values : List ℤ) → Levels t ts → AreSystems (t ∷ ts) → element_count (side_by_side t ts) ≤ 2000 → AreSayable (side_by_side t ts) values → AreSayableOfAll (t ∷ ts) values
-sayable_of_all t ts values known systems few h =
+pub sayable_of_all : (t : Timing) (ts : List Timing) (values : List ℤ) → AreBeside t ts → AreSystems (t ∷ ts) → element_count (side_by_side t ts) ≤ 2000 → AreSayable (side_by_side t ts) values → AreSayableOfAll (t ∷ ts) values
+sayable_of_all t ts values besides systems few h =
     let big = side_by_side t ts in
     let phases = phases_are t ts in
     let count = h.count in
-    sayable_in_turn values t ts (2 * phase_count t) 0 refl known systems (omega arith) (omega arith)
+    sayable_in_turn values t ts (2 * phase_count t) 0 refl besides systems (omega arith) (omega arith)
     (record {
       starts = h.starts;
       widths = h.widths;

@@ -11,9 +11,9 @@ use Rattle.mintc_timing.specs.Design.{Timing, element_at, element_count, no_elem
 use Rattle.mintc_timing.specs.Links.{element_node, start_node}
 use Rattle.mintc_constraints.specs.Duality.{departure_of, departures_of}
 use Rattle.mintc_corners.specs.Joined.{departures_after, departures_of_all, own_values}
-use Rattle.mintc_corners.specs.JointLinks.{beside, side_by_side}
-use Rattle.mintc_corners.specs.Laws.{AreSystems}
-use Rattle.mintc_corners.proofs.JoinedLaws.{Levels, phases_are}
+use Rattle.mintc_corners.specs.Joint.{beside, side_by_side}
+use Rattle.mintc_corners.specs.Laws.{AreBeside, AreSystems}
+use Rattle.mintc_corners.proofs.JointLaws.{phases_are}
 use Rattle.mintc_corners.proofs.PartsLaws.{element_beside_left, element_beside_right}
 
 module _ (clock before count : ℕ) (values : List ℤ) (inside : 1 + clock + before + count ≤ length values) where
@@ -64,7 +64,7 @@ module _ (values : List ℤ) where
       record {
         count = length-map-range_with_len (departure_of t own) 0 (element_count t);
         each = λ l h.
-            let most = (systems.0.each_element l no_element h).phase.1 in
+            let phase = (systems.0.each_element l no_element h).phase in
             let start = own_clock clock before (element_count t) values inside (start_node (phase_of t l)) (omega arith) in
             let at : element_node t l ≡ 1 + clock + l = omega arith in
             let moment = ap (λ (x : ℕ). value_at own x) at ∙ own_element clock before (element_count t) values inside l h in
@@ -77,7 +77,6 @@ module _ (values : List ℤ) where
   both_depart t v ds es clock before first second =
       let all = length-append t.flat.elements v.flat.elements in
       let one = first.count in
-      let two = second.count in
       record {
         count = (let parts = length-append ds es in omega arith);
         each = λ l h. ⊎_elim
@@ -85,7 +84,6 @@ module _ (values : List ℤ) where
             get_or-append ds es (pos 0) l (omega arith) ∙ first.each l few
             ∙ sym (ap (departs (1 + clock + before + l) values) (element_beside_left t v l few)))
             (λ (many : element_count t ≤ l).
-            let m : ℕ = l - element_count t in
             let is : element_count t + (l - element_count t) ≡ l = omega arith in
             let node : 1 + clock + (before + element_count t) + (l - element_count t) ≡ 1 + clock + before + (element_count t + (l - element_count t)) = omega arith in
             subst (λ (x : ℕ). get_or (ds ++ es) x (pos 0) ≡ depart clock before (beside t v) values x) is
@@ -97,28 +95,28 @@ module _ (values : List ℤ) where
             (cases_lt l (element_count t));
       }
 
-  all_depart : (t : Timing) (ts : List Timing) (clock before : ℕ) → clock ≡ 2 * phase_count t → Levels t ts → AreSystems (t ∷ ts) → 1 + clock + before + element_count (side_by_side t ts) ≤ length values →
+  all_depart : (t : Timing) (ts : List Timing) (clock before : ℕ) → clock ≡ 2 * phase_count t → AreBeside t ts → AreSystems (t ∷ ts) → 1 + clock + before + element_count (side_by_side t ts) ≤ length values →
       AreAll (flat_map (λ (d : List ℤ). d) (departures_after clock before (t ∷ ts) values)) clock before (side_by_side t ts) values
-  all_depart t [] clock before is known systems inside =
+  all_depart t [] clock before is besides systems inside =
       subst (λ (ds : List ℤ). AreAll ds clock before t values) (sym (append-nil (departures_of t (own_values clock before (element_count t) values)))) (own_departs t [] clock before is systems inside)
-  all_depart t (u ∷ ts) clock before is known systems inside =
+  all_depart t (u ∷ ts) clock before is besides systems inside =
       let v = side_by_side u ts in
       let all = length-append t.flat.elements v.flat.elements in
-      let same = known.2.phases in
+      let same = besides.1.phases in
       let phases = phases_are u ts in
       both_depart t v (departures_of t (own_values clock before (element_count t) values)) (flat_map (λ (d : List ℤ). d) (departures_after clock (before + element_count t) (u ∷ ts) values)) clock before
       (own_departs t (u ∷ ts) clock before is systems (omega arith))
-      (all_depart u ts clock (before + element_count t) (omega arith) known.5 systems.2 (omega arith))
+      (all_depart u ts clock (before + element_count t) (omega arith) besides.2 systems.2 (omega arith))
 
-pub departures_are : (t : Timing) (ts : List Timing) (values : List ℤ) → Levels t ts → AreSystems (t ∷ ts) → length values ≡ 1 + 2 * phase_count t + element_count (side_by_side t ts) →
+pub departures_are : (t : Timing) (ts : List Timing) (values : List ℤ) → AreBeside t ts → AreSystems (t ∷ ts) → length values ≡ 1 + 2 * phase_count t + element_count (side_by_side t ts) →
     flat_map (λ (d : List ℤ). d) (departures_of_all (t ∷ ts) values) ≡ departures_of (side_by_side t ts) values
-departures_are t ts values known systems count =
+departures_are t ts values besides systems count =
     let big = side_by_side t ts in
-    let all = all_depart values t ts (2 * phase_count t) 0 refl known systems (omega arith) in
+    let all = all_depart values t ts (2 * phase_count t) 0 refl besides systems (omega arith) in
     let mine = length-map-range_with_len (departure_of big values) 0 (element_count big) in
     ext_get_or (pos 0) (flat_map (λ (d : List ℤ). d) (departures_of_all (t ∷ ts) values)) (departures_of big values) (all.count ∙ sym mine)
     (λ l h.
-    let few : l < element_count big = (let whole = all.count in omega arith) in
+    let few : l < element_count big = omega arith in
     let node : 1 + 2 * phase_count t + 0 + l ≡ element_node big l = (let phases = phases_are t ts in omega arith) in
     all.each l few
     ∙ ap (λ (x : ℕ). cond (element_at big l).flop (pos 0) (value_at values x -ℤ value_at values (start_node (phase_of big l)))) node

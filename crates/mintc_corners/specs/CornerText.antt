@@ -1,7 +1,6 @@
 -- Corners texts.
 use Rattle.std.specs.Prelude.{ℕ, ℤ, List, [], ◌∷◌, ◌++◌, length, map, flat_map, codes}
 use Rattle.mintc_text.specs.Lines.{words}
-use Rattle.mintc_timing.specs.declared.clocking.Schedule.{Schedule}
 use Rattle.mintc_lines.specs.Fields.{number}
 use Rattle.mintc_certificate.specs.declared.members.Member.{Member}
 use Rattle.mintc_certificate.specs.declared.members.Member.TheVariants as member
@@ -29,14 +28,7 @@ corner_chain_lines ms = count_line (codes "chain") (length ms) ∷ map (λ m. wo
 abbrev pub all_departure_lines : List (List ℤ) → List (List ℕ)
 all_departure_lines ds = count_line (codes "corners") (length ds) ∷ flat_map departure_lines ds
 
--- the lines with a schedule, and those without
-abbrev pub corner_least_lines : Schedule → List (List ℤ) → List CornerMember → List (List ℕ)
-corner_least_lines s ds ms = codes "corners 1" ∷ codes "least" ∷ schedule_lines s ++ all_departure_lines ds ++ corner_chain_lines ms
-
-abbrev pub corner_never_lines : List CornerMember → List (List ℕ)
-corner_never_lines ms = codes "corners 1" ∷ codes "never" ∷ corner_chain_lines ms
-
--- the lines of a corner certificate
+-- the lines of a corner certificate, with a schedule and without
 abbrev pub corner_lines : CornerCertificate → List (List ℕ)
-corner_lines (Least schedule departures chain) = corner_least_lines schedule departures chain
-corner_lines (Never chain) = corner_never_lines chain
+corner_lines (Least schedule departures chain) = codes "corners 1" ∷ codes "least" ∷ schedule_lines schedule ++ all_departure_lines departures ++ corner_chain_lines chain
+corner_lines (Never chain) = codes "corners 1" ∷ codes "never" ∷ corner_chain_lines chain

@@ -1,5 +1,5 @@
--- The joint links as they are made: those of each corner in turn, over one clock.
-use Rattle.std.specs.Prelude.{◌≡◌, ◌<◌, ◌≤◌, ◌+◌, ◌*◌, ℕ, zero, suc, ℤ, pos, nat_lt, if◌then◌else◌, List, [], ◌∷◌, ◌++◌, length, slice_index_or, map, take, drop}
+-- The joint links as they are made, those of each corner in turn over one clock, and what the parts of a certificate are made of.
+use Rattle.std.specs.Prelude.{◌≡◌, ◌<◌, ◌≤◌, ◌+◌, ◌*◌, ℕ, zero, suc, ℤ, pos, nat_lt, if◌then◌else◌, List, [], ◌∷◌, ◌++◌, length, slice_index_or, map, flat_map, take, drop, All}
 use Rattle.std.specs.Int.{int_max}
 use Rattle.mintc_timing.specs.declared.link.Link.{Link}
 use Rattle.mintc_timing.specs.declared.link.LinkKind.{LinkKind}
@@ -10,6 +10,12 @@ use Rattle.mintc_timing.specs.Links.{link, links_of}
 use Rattle.mintc_constraints.specs.Duality.{departures_of}
 use Rattle.mintc_constraints.specs.Laws.{node_count}
 use Rattle.mintc_constraints.specs.Ordinary.{Constraints, constraints_of}
+use Rattle.mintc_certificate.specs.declared.members.Member.{Member}
+use Rattle.mintc_certificate.specs.declared.members.Member.TheVariants as member
+use Rattle.mintc_ratio.specs.Chains.{links_at}
+use Rattle.mintc_optimise.specs.Making.{AreSayable}
+use Rattle.mintc_corners.specs.declared.members.CornerMember.{CornerMember}
+use Rattle.mintc_corners.specs.CornerOptimum.{IsCornerCounted, IsOfCorner, link_of_corner, links_of_corners}
 
 -- a timing of nothing, which stands for those past the end of a list
 abbrev pub no_timing : Timing
@@ -69,21 +75,11 @@ pub record IsLow (k : Link) : Type 0 where
   pub to : k.to ≤ 2016
   pub kind : HasLowKind k.kind
 
--- how many links several lists have
-abbrev pub total_links : List Constraints → ℕ
-total_links [] = 0
-total_links (l ∷ ls) = length l.links + total_links ls
-
--- the number of link i of list c, both counted from 0, among the links of all lists
-abbrev pub number_at : List Constraints → ℕ → ℕ → ℕ
-number_at [] c i = i
-number_at (l ∷ ls) zero i = i
-number_at (l ∷ ls) (suc c) i = length l.links + number_at ls c i
-
+-- Link i of list c, both counted from 0, is that of the number among the links of all lists.
 pub record IsPlace (lists : List Constraints) (number c i : ℕ) : Type 0 where
   pub corner : c < length lists
   pub inside : i < length (slice_index_or lists c (constraints_of 0 [])).links
-  pub same : number_at lists c i ≡ number
+  pub same : length (flat_map (λ l. l.links) (take c lists)) + i ≡ number
 
 -- the moments of a corner's nodes
 abbrev pub own_values : ℕ → ℕ → ℕ → List ℤ → List ℤ
@@ -95,3 +91,44 @@ departures_after clock before (t ∷ ts) values = departures_of t (own_values cl
 
 abbrev pub departures_of_all : List Timing → List ℤ → List (List ℤ)
 departures_of_all ts values = departures_after (clock_count ts) 0 ts values
+
+-- the number that a member bears: that of its corner, from 1, or 0
+abbrev pub corner_number : ℕ → Member → ℕ
+corner_number c (member.Opening l) = suc c
+corner_number c (member.Opened l) = suc c
+corner_number c (member.Reach j l path) = suc c
+corner_number c (member.Setup l) = suc c
+corner_number c m = 0
+
+-- The member names what its corner has, and stands for the joint link.
+pub record IsStanding (t : Timing) (ts : List Timing) (k : Link) (m : CornerMember) : Type 0 where
+  pub member : IsOfCorner t ts m.corner m.member
+  pub same : link_of_corner t ts m.corner m.member ≡ k
+  pub counted : IsCornerCounted m
+
+abbrev pub StandsFor : List Timing → Link → CornerMember → Type 0
+StandsFor [] k m = ⊥
+StandsFor (t ∷ ts) k m = IsStanding t ts k m
+
+-- The members stand for the joint links of these numbers, in order.
+pub record AreStanding (t : Timing) (ts : List Timing) (chain : List ℕ) (members : List CornerMember) : Type 0 where
+  pub each : All (λ m. IsOfCorner t ts m.corner m.member) members
+  pub same : links_of_corners t ts members ≡ links_at (joined_links (t ∷ ts)) chain
+  pub counted : All IsCornerCounted members
+
+abbrev pub StandForAll : List Timing → List ℕ → List CornerMember → Type 0
+StandForAll [] chain members = ⊥
+StandForAll (t ∷ ts) chain members = AreStanding t ts chain members
+
+-- The moments of the corner after so many elements are small enough to be said.
+pub record IsSayable (clock before : ℕ) (t : Timing) (values : List ℤ) : Type 0 where
+  pub before_few : before ≤ 2000
+  pub inside : 1 + clock + before + element_count t ≤ length values
+  pub sayable : AreSayable t (own_values clock before (element_count t) values)
+
+abbrev pub AreSayableAfter : ℕ → ℕ → List Timing → List ℤ → Type 0
+AreSayableAfter clock before [] values = Unit {0}
+AreSayableAfter clock before (t ∷ ts) values = IsSayable clock before t values × AreSayableAfter clock (before + element_count t) ts values
+
+abbrev pub AreSayableOfAll : List Timing → List ℤ → Type 0
+AreSayableOfAll ts values = AreSayableAfter (clock_count ts) 0 ts values

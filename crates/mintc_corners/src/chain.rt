@@ -1,10 +1,9 @@
 //! The members for a chain of joint links.
 ghost use Rattle.std.specs.Prelude.{◌≡◌, ◌<◌, ◌≤◌, ◌+◌, IfOk, All, length, map, flat_map};
 ghost use Rattle.mintc_timing.specs.Links.{link_at};
-ghost use Rattle.mintc_corners.specs.Joined.{IsPlace, joined_links, own_list, total_links};
+ghost use Rattle.mintc_corners.specs.Joined.{IsPlace, joined_links, own_list, corner_number, StandForAll, StandsFor};
 ghost use Rattle.mintc_corners.specs.Joint.{AreCorners};
 ghost use Rattle.mintc_corners.specs.Laws.{AreSystems};
-ghost use Rattle.mintc_corners.specs.Making.{corner_number, StandForAll, StandsFor};
 
 use crate::{CornerMember, CornerMemberList};
 use mintc_certificate::Member;
@@ -17,7 +16,7 @@ use std::alloc::Global;
 
 /// Of which corner a joint link is, counted from 0, and its number among that corner's links.
 fn place_of(lists: &[LinkList], number: usize) -> (usize, usize)
-    requires { number < total_links lists.now }
+    requires { number < length (flat_map (λ l. l.links) lists.now) }
     ensures { IsPlace lists.now number result.0 result.1 }
 {
     let mut rest = number;

@@ -4,8 +4,7 @@ ghost use Rattle.mintc_timing.specs.Limits.{IsInRange};
 ghost use Rattle.mintc_constraints.specs.Duality.{schedule_of};
 ghost use Rattle.mintc_ratio.specs.Searched.{IsCycle};
 ghost use Rattle.mintc_corners.specs.CornerOptimum.{AreDeparturesInRange};
-ghost use Rattle.mintc_corners.specs.Joined.{departures_of_all, no_timing, own_values as own_values_of};
-ghost use Rattle.mintc_corners.specs.Making.{AreSayableOfAll};
+ghost use Rattle.mintc_corners.specs.Joined.{departures_of_all, no_timing, own_values as own_values_of, AreSayableOfAll};
 
 use crate::DeparturesList;
 use crate::joining::clock_nodes;

@@ -1,9 +1,8 @@
 //! The links of all corners over one clock.
 ghost use Rattle.std.specs.Prelude.{◌≡◌, ◌≤◌, ◌++◌, ◌*◌, IfOk, OnOk, All, length, map, flat_map};
 ghost use Rattle.mintc_constraints.specs.Ordinary.{constraints_of};
-ghost use Rattle.mintc_corners.specs.JointLinks.{joint_nodes};
+ghost use Rattle.mintc_corners.specs.Joint.{joint_nodes, AreCorners};
 ghost use Rattle.mintc_corners.specs.Joined.{IsLow, joined_links, lifted_link, own_list, widest};
-ghost use Rattle.mintc_corners.specs.Joint.{AreCorners};
 ghost use Rattle.mintc_corners.specs.Laws.{AreSystems};
 
 use crate::lifting::lifted;

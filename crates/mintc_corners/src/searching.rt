@@ -3,9 +3,8 @@ ghost use Rattle.std.specs.Prelude.{◌≡◌, ◌≤◌, ◌+◌, ◌*◌, IfOk
 ghost use Rattle.mintc_constraints.specs.Ordinary.{constraints_of};
 ghost use Rattle.mintc_ratio.specs.Searched.{HasSearched};
 ghost use Rattle.mintc_corners.specs.CornerOptimum.{IsOptimumOf};
-ghost use Rattle.mintc_corners.specs.JointLinks.{joint_nodes};
+ghost use Rattle.mintc_corners.specs.Joint.{joint_nodes, AreCorners};
 ghost use Rattle.mintc_corners.specs.Joined.{joined_links, own_list};
-ghost use Rattle.mintc_corners.specs.Joint.{AreCorners};
 ghost use Rattle.mintc_corners.specs.Laws.{AreSystems};
 
 use crate::CornerCertificate;

@@ -4,7 +4,8 @@ ghost use Rattle.mintc_text.specs.Lines.{ended, text_of, words};
 ghost use Rattle.mintc_lines.specs.Fields.{number};
 ghost use Rattle.mintc_timing.specs.Limits.{IsInRange};
 ghost use Rattle.mintc_corners.specs.CornerOptimum.{IsCornerCounted, IsCornerInRange};
-ghost use Rattle.mintc_corners.specs.CornerText.{all_departure_lines, corner_chain_lines, corner_least_lines, corner_lines, corner_never_lines, corner_words};
+ghost use Rattle.mintc_corners.specs.CornerText.{all_departure_lines, corner_chain_lines, corner_lines, corner_words};
+ghost use Rattle.mintc_corners.specs.declared.certificate.CornerCertificate.TheVariants.{Least, Never};
 
 use crate::{CornerCertificate, CornerMember};
 use mintc_certificate::{
@@ -87,7 +88,7 @@ fn put_least(
 ) -> Result<(), OutOfMemory>
     requires schedule { IsInRange schedule.now }
     requires chain { All IsCornerCounted chain.now }
-    ensures { OnOk result (lines.new ≡ lines.old ++ text_of (corner_least_lines schedule.now corners.now chain.now)) }
+    ensures { OnOk result (lines.new ≡ lines.old ++ text_of (corner_lines (Least schedule.now corners.now chain.now))) }
 {
     lines.put(b"corners 1\nleast\n")?;
     put_schedule(lines, schedule)?;
@@ -98,7 +99,7 @@ fn put_least(
 /// Writes the lines of a certificate without a schedule.
 fn put_never(lines: &mut Lines, chain: &[CornerMember]) -> Result<(), OutOfMemory>
     requires { All IsCornerCounted chain.now }
-    ensures { OnOk result (lines.new ≡ lines.old ++ text_of (corner_never_lines chain.now)) }
+    ensures { OnOk result (lines.new ≡ lines.old ++ text_of (corner_lines (Never chain.now))) }
 {
     lines.put(b"corners 1\nnever\n")?;
     put_chain(lines, chain)

@@ -1,50 +1,41 @@
 -- A chain's sums and its closing rest on no link's kind.
-use Rattle.std.proofs.Common.{◌≡◌, ◌≢◌, ◌<◌, ℕ, ℤ, pos, ◌+ℤ◌, List, [], ◌∷◌, length, get_or, map, arith, refl, ap, sym, ◌∙◌, subst}
+use Rattle.std.proofs.Common.{◌≡◌, ◌≢◌, ◌<◌, ℕ, ℤ, pos, ◌+ℤ◌, List, [], ◌∷◌, length, get_or, map, arith, refl, ap, sym, ◌∙◌, subst, ◌↔◌}
 use Rattle.std.specs.List.{AllPairs}
 use Rattle.std.proofs.lemmas.List.{length-map, get_or-map}
 use Rattle.mintc_timing.specs.declared.link.Link.{Link}
-use Rattle.mintc_rings.specs.Rings.{IsClosed, Joins}
+use Rattle.mintc_rings.specs.Rings.{IsClosed, Joins, total}
 use Rattle.mintc_timing.specs.Links.{delay_of, cycles_of}
-use Rattle.mintc_safe.specs.Making.{bare}
+use Rattle.mintc_safe.specs.SafeOptimum.{bare}
 
-delay-bare : (ks : List Link) → delay_of (map bare ks) ≡ delay_of ks
-delay-bare [] = refl
-delay-bare (k ∷ ks) = ap (λ (x : ℤ). k.delay +ℤ x) (delay-bare ks)
+total-bare : (f : Link → ℤ) → ((k : Link) → f (bare k) ≡ f k) → (ks : List Link) → total f (map bare ks) ≡ total f ks
+total-bare f same [] = refl
+total-bare f same (k ∷ ks) = ap (λ (x : ℤ). x +ℤ total f (map bare ks)) (same k) ∙ ap (λ (x : ℤ). f k +ℤ x) (total-bare f same ks)
 
-cycles-bare : (ks : List Link) → cycles_of (map bare ks) ≡ cycles_of ks
-cycles-bare [] = refl
-cycles-bare (k ∷ ks) = ap (λ (x : ℤ). pos k.cycles +ℤ x) (cycles-bare ks)
+Joins-bare : (a b : ℕ) (ks : List Link) → Joins (λ (k : Link). k.from) (λ (k : Link). k.to) a (map bare ks) b ↔ Joins (λ (k : Link). k.from) (λ (k : Link). k.to) a ks b
+Joins-bare a b [] = ((λ h. h), (λ h. h))
+Joins-bare a b (k ∷ ks) = let rest = Joins-bare k.to b ks in ((λ h. (h.0, rest.0 h.1)), (λ h. (h.0, rest.1 h.1)))
 
 -- The links lead round.
 abbrev pub AreClosed : List Link → Type 0
 AreClosed ks = IsClosed (λ (k : Link). k.from) (λ (k : Link). k.to) ks
 
-Joins-bare : (a b : ℕ) (ks : List Link) → Joins (λ (k : Link). k.from) (λ (k : Link). k.to) a (map bare ks) b → Joins (λ (k : Link). k.from) (λ (k : Link). k.to) a ks b
-Joins-bare a b [] h = h
-Joins-bare a b (k ∷ ks) h = (h.0, Joins-bare k.to b ks h.1)
-
-bare-Joins : (a b : ℕ) (ks : List Link) → Joins (λ (k : Link). k.from) (λ (k : Link). k.to) a ks b → Joins (λ (k : Link). k.from) (λ (k : Link). k.to) a (map bare ks) b
-bare-Joins a b [] h = h
-bare-Joins a b (k ∷ ks) h = (h.0, bare-Joins k.to b ks h.1)
-
-closed-bare : (ks : List Link) → AreClosed (map bare ks) → AreClosed ks
-closed-bare [] h = h
-closed-bare (k ∷ ks) h = Joins-bare k.to k.from ks h
-
-bare-closed : (ks : List Link) → AreClosed ks → AreClosed (map bare ks)
-bare-closed [] h = h
-bare-closed (k ∷ ks) h = bare-Joins k.to k.from ks h
+closed-bare : (ks : List Link) → AreClosed (map bare ks) ↔ AreClosed ks
+closed-bare [] = ((λ h. h), (λ h. h))
+closed-bare (k ∷ ks) = Joins-bare k.to k.from ks
 
 -- Of two lists that differ in kinds alone, what holds of the one holds of the other.
 module _ (ks ls : List Link) (same : map bare ks ≡ map bare ls) where
+  same_total : (f : Link → ℤ) → ((k : Link) → f (bare k) ≡ f k) → total f ks ≡ total f ls
+  same_total f is = sym (total-bare f is ks) ∙ ap (λ (x : List Link). total f x) same ∙ total-bare f is ls
+
   pub same_delay : delay_of ks ≡ delay_of ls
-  same_delay = sym (delay-bare ks) ∙ ap (λ (x : List Link). delay_of x) same ∙ delay-bare ls
+  same_delay = same_total (λ k. k.delay) (λ k. refl)
 
   pub same_cycles : cycles_of ks ≡ cycles_of ls
-  same_cycles = sym (cycles-bare ks) ∙ ap (λ (x : List Link). cycles_of x) same ∙ cycles-bare ls
+  same_cycles = same_total (λ k. pos k.cycles) (λ k. refl)
 
   pub same_closed : AreClosed ls → AreClosed ks
-  same_closed h = closed-bare ks (subst AreClosed (sym same) (bare-closed ls h))
+  same_closed h = (closed-bare ks).0 (subst AreClosed (sym same) ((closed-bare ls).1 h))
 
   pub same_length : length ks ≡ length ls
   same_length = sym (length-map ks bare) ∙ ap (λ (x : List Link). length x) same ∙ length-map ls bare

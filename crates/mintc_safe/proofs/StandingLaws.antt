@@ -22,10 +22,8 @@ use Rattle.mintc_optimise.proofs.SharedPathLaws.{arcs_below, path_short}
 use Rattle.mintc_optimise.proofs.SharedStandingLaws.{of_kind}
 use Rattle.mintc_safe.specs.declared.members.SafeMember.{SafeMember}
 use Rattle.mintc_safe.specs.declared.members.SafeMember.TheVariants.{Plain, Hold}
-use Rattle.mintc_safe.specs.Making.{bare, StandsFor, StandForAll}
-use Rattle.mintc_safe.specs.SafeLinks.{hold_link, hold_link_of, hold_links_of, safe_links_of}
-use Rattle.mintc_safe.specs.SafeOptimum.{IsSafeCounted}
-use Rattle.mintc_safe.specs.SafeValid.{IsSafeMember, IsSlowest, link_of_safe, links_of_safe}
+use Rattle.mintc_safe.specs.SafeOptimum.{bare, StandsFor, StandForAll, IsSafeCounted, IsSafeMember, IsSlowest, link_of_safe, links_of_safe}
+use Rattle.mintc_safe.specs.Hold.{hold_link, hold_link_of, hold_links_of, safe_links_of}
 use Rattle.mintc_safe.proofs.HoldLaws.{All-holds}
 
 -- What is known of a safe link by its kind: it is the hold of a pair, or a link of the design.
@@ -99,23 +97,17 @@ module _ (t : Timing) (limits : IsDesign t.flat) where
               counted = (omega arith, omega arith, omega arith, is_path.0, arcs_below t.flat.arcs (2 * p.from + 1) path (2 * p.to) 999999999 (omega arith) is_path.1);
             }
 
--- one more member at the end
-stand_more : (t : Timing) (links : List Link) (chain : List ℕ) (i : ℕ) (members : List SafeMember) (m : SafeMember) → i < length chain → StandForAll t links (take i chain) members →
-    StandsFor t (link_at links (get_or chain i 0)) m → StandForAll t links (take (i + 1) chain) (members ++ m ∷ [])
-stand_more t links chain i members m h before here = record {
+-- one more member at the end, of the link that the code reads
+pub stand_read : (t : Timing) (links : List Link) (chain : List ℕ) (i : ℕ) (members : List SafeMember) (m : SafeMember) (d : Link) → i < length chain → All (λ e. e < length links) chain →
+    StandForAll t links (take i chain) members → StandsFor t (get_or links (get_or chain i 0) d) m → StandForAll t links (take (i + 1) chain) (members ++ m ∷ [])
+stand_read t links chain i members m d h exist before here = record {
   each = All-push (IsSafeMember t) members m before.each here.member;
   same = ap (map bare) (map-append (link_of_safe t) members (m ∷ []))
       ∙ map-append bare (links_of_safe t members) (link_of_safe t m ∷ [])
       ∙ ap (λ (ks : List Link). ks ++ bare (link_of_safe t m) ∷ []) before.same
-      ∙ ap (λ (k : Link). map bare (links_at links (take i chain)) ++ k ∷ []) here.same
+      ∙ ap (λ (k : Link). map bare (links_at links (take i chain)) ++ k ∷ []) (here.same ∙ ap bare (get_or_default links (get_or chain i 0) d no_link (exist i 0 h)))
       ∙ sym (ap (λ (ns : List ℕ). map bare (links_at links ns)) (take_more chain i 0 h)
       ∙ ap (map bare) (map-append (link_at links) (take i chain) (get_or chain i 0 ∷ []))
       ∙ map-append bare (links_at links (take i chain)) (link_at links (get_or chain i 0) ∷ []));
   counted = All-push IsSafeCounted members m before.counted here.counted;
 }
-
--- the same of the link that the code reads
-pub stand_read : (t : Timing) (links : List Link) (chain : List ℕ) (i : ℕ) (members : List SafeMember) (m : SafeMember) (d : Link) → i < length chain → All (λ e. e < length links) chain →
-    StandForAll t links (take i chain) members → StandsFor t (get_or links (get_or chain i 0) d) m → StandForAll t links (take (i + 1) chain) (members ++ m ∷ [])
-stand_read t links chain i members m d h exist before here =
-    stand_more t links chain i members m h before (subst (λ (k : Link). StandsFor t k m) (get_or_default links (get_or chain i 0) d no_link (exist i 0 h)) here)

@@ -1,7 +1,6 @@
 -- Safe texts.
-use Rattle.std.specs.Prelude.{ℕ, ℤ, List, [], ◌∷◌, ◌++◌, length, map, codes}
+use Rattle.std.specs.Prelude.{ℕ, List, [], ◌∷◌, ◌++◌, length, map, codes}
 use Rattle.mintc_text.specs.Lines.{words}
-use Rattle.mintc_timing.specs.declared.clocking.Schedule.{Schedule}
 use Rattle.mintc_lines.specs.Fields.{number}
 use Rattle.mintc_certificate.specs.CertificateText.{member_words}
 use Rattle.mintc_certificate.specs.Written.{count_line, schedule_lines, departure_lines}
@@ -18,14 +17,7 @@ safe_words (Hold j l path) = codes "hold" ∷ number j ∷ number l ∷ number (
 abbrev pub safe_chain_lines : List SafeMember → List (List ℕ)
 safe_chain_lines ms = count_line (codes "chain") (length ms) ∷ map (λ m. words (safe_words m)) ms ++ codes "end" ∷ []
 
--- the lines with a schedule, and those without
-abbrev pub safe_least_lines : Schedule → List ℤ → List SafeMember → List (List ℕ)
-safe_least_lines s ds ms = codes "safe 1" ∷ codes "least" ∷ schedule_lines s ++ departure_lines ds ++ safe_chain_lines ms
-
-abbrev pub safe_never_lines : List SafeMember → List (List ℕ)
-safe_never_lines ms = codes "safe 1" ∷ codes "never" ∷ safe_chain_lines ms
-
--- the lines of a safe certificate
+-- the lines of a safe certificate, with a schedule and without
 abbrev pub safe_lines : SafeCertificate → List (List ℕ)
-safe_lines (Least schedule departures chain) = safe_least_lines schedule departures chain
-safe_lines (Never chain) = safe_never_lines chain
+safe_lines (Least schedule departures chain) = codes "safe 1" ∷ codes "least" ∷ schedule_lines schedule ++ departure_lines departures ++ safe_chain_lines chain
+safe_lines (Never chain) = codes "safe 1" ∷ codes "never" ∷ safe_chain_lines chain

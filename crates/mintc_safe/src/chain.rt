@@ -2,8 +2,8 @@
 ghost use Rattle.std.specs.Prelude.{◌≡◌, ◌<◌, ℕ, IfOk, IsTrue, MatchOption, All, Contains, length};
 ghost use Rattle.mintc_timing.specs.Design.{pair_at};
 ghost use Rattle.mintc_timing.specs.Links.{links_of};
-ghost use Rattle.mintc_safe.specs.Making.{StandForAll, StandsFor};
-ghost use Rattle.mintc_safe.specs.SafeLinks.{hold_link_of, is_held as is_held_of, safe_links_of};
+ghost use Rattle.mintc_safe.specs.SafeOptimum.{StandForAll, StandsFor};
+ghost use Rattle.mintc_safe.specs.Hold.{hold_link_of, is_held as is_held_of, safe_links_of};
 
 use crate::{SafeMember, SafeMemberList};
 use mintc_constraints::{Link, LinkKind};

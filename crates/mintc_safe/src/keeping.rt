@@ -3,7 +3,7 @@ ghost use Rattle.std.specs.Prelude.{◌≡◌, ◌≤◌, ◌+◌, ◌*◌, IfOk
 ghost use Rattle.mintc_constraints.specs.Laws.{node_count};
 ghost use Rattle.mintc_constraints.specs.Ordinary.{constraints_of};
 ghost use Rattle.mintc_ratio.specs.Searched.{HasSearched};
-ghost use Rattle.mintc_safe.specs.SafeLinks.{safe_links_of};
+ghost use Rattle.mintc_safe.specs.Hold.{safe_links_of};
 ghost use Rattle.mintc_safe.specs.SafeOptimum.{IsSafeOptimum};
 
 use crate::SafeCertificate;

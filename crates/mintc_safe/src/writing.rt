@@ -3,7 +3,8 @@ ghost use Rattle.std.specs.Prelude.{◌≡◌, ◌++◌, IfOk, OnOk, All};
 ghost use Rattle.mintc_text.specs.Lines.{ended, text_of, words};
 ghost use Rattle.mintc_timing.specs.Limits.{IsInRange};
 ghost use Rattle.mintc_safe.specs.SafeOptimum.{IsSafeCounted, IsSafeInRange};
-ghost use Rattle.mintc_safe.specs.SafeText.{safe_chain_lines, safe_least_lines, safe_lines, safe_never_lines, safe_words};
+ghost use Rattle.mintc_safe.specs.SafeText.{safe_chain_lines, safe_lines, safe_words};
+ghost use Rattle.mintc_safe.specs.declared.certificate.SafeCertificate.TheVariants.{Least, Never};
 
 use crate::{SafeCertificate, SafeMember};
 use mintc_certificate::{put_count_line, put_departures, put_member, put_path, put_schedule};
@@ -43,7 +44,7 @@ fn put_least(
 ) -> Result<(), OutOfMemory>
     requires schedule { IsInRange schedule.now }
     requires chain { All IsSafeCounted chain.now }
-    ensures { OnOk result (lines.new ≡ lines.old ++ text_of (safe_least_lines schedule.now departures.now chain.now)) }
+    ensures { OnOk result (lines.new ≡ lines.old ++ text_of (safe_lines (Least schedule.now departures.now chain.now))) }
 {
     lines.put(b"safe 1\nleast\n")?;
     put_schedule(lines, schedule)?;
@@ -54,7 +55,7 @@ fn put_least(
 /// Writes the lines of a certificate without a schedule.
 fn put_never(lines: &mut Lines, chain: &[SafeMember]) -> Result<(), OutOfMemory>
     requires { All IsSafeCounted chain.now }
-    ensures { OnOk result (lines.new ≡ lines.old ++ text_of (safe_never_lines chain.now)) }
+    ensures { OnOk result (lines.new ≡ lines.old ++ text_of (safe_lines (Never chain.now))) }
 {
     lines.put(b"safe 1\nnever\n")?;
     put_chain(lines, chain)

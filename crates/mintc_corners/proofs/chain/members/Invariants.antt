@@ -1,5 +1,5 @@
 use Rattle.std.proofs.Common.{◌≡◌, length, take}
-use Rattle.mintc_corners.specs.Making.{StandForAll}
+use Rattle.mintc_corners.specs.Joined.{StandForAll}
 use Rattle.mintc_corners.proofs.chain.members.Given as goal
 
 -- the members so far stand for the links so far

@@ -1,7 +1,8 @@
-use Rattle.std.proofs.Common.{◌≡◌, ◌<◌, ◌+◌, ℕ, drop}
-use Rattle.mintc_corners.specs.Joined.{number_at, total_links}
+use Rattle.std.proofs.Common.{◌≡◌, ◌+◌, length, take}
+use Rattle.std.specs.List.{flat_map}
+use Rattle.mintc_constraints.specs.Ordinary.{Constraints}
 use Rattle.mintc_corners.proofs.chain.place_of.Given as goal
 
--- what is left of the number is one of the links that are left
+-- the links of the lists so far are taken off
 abbrev pub invariant-loop-corner : goal.invariant-loop-corner
-invariant-loop-corner l = (l.rest < total_links (drop l.corner l.lists)) × ((c i : ℕ) → number_at (drop l.corner l.lists) c i ≡ l.rest → number_at l.lists (l.corner + c) i ≡ l.number)
+invariant-loop-corner l = length (flat_map (λ (x : Constraints). x.links) (take l.corner l.lists)) + l.rest ≡ l.number

@@ -1,8 +1,7 @@
 use Rattle.std.proofs.Common.{◌≡◌, ◌++◌, drop}
 use Rattle.std.specs.List.{All}
 use Rattle.mintc_corners.specs.CornerOptimum.{AreDeparturesInRange}
-use Rattle.mintc_corners.specs.Joined.{departures_after, departures_of_all}
-use Rattle.mintc_corners.specs.Making.{AreSayableAfter}
+use Rattle.mintc_corners.specs.Joined.{departures_after, departures_of_all, AreSayableAfter}
 use Rattle.mintc_corners.proofs.departing.all_departures.Given as goal
 
 -- the departures so far and those of the corners that are left

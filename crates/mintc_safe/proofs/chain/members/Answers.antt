@@ -1,19 +1,13 @@
-use Rattle.std.proofs.Common.{◌≡◌, ◌<◌, ℕ, List, length, get_or, subst}
-use Rattle.std.specs.List.{Contains}
-use Rattle.std.proofs.lemmas.List.{get_or_default}
-use Rattle.mintc_timing.specs.declared.link.Link.{Link}
-use Rattle.mintc_safe.specs.SafeLinks.{safe_links_of}
+use Rattle.std.proofs.Common.{get_or}
+use Rattle.std.proofs.lemmas.List.Elements.{Contains-get_or}
+use Rattle.mintc_safe.specs.Hold.{safe_links_of}
 use Rattle.mintc_safe.proofs.StandingLaws.{stand_read}
 use Rattle.mintc_safe.proofs.chain.members.Goals as goal
 
--- a link that is read is listed
-listed_at : (links all : List Link) (n : ℕ) (d : Link) → links ≡ all → n < length links → Contains all (get_or links n d)
-listed_at links all n d is below = subst (λ (ks : List Link). Contains ks (get_or links n d)) is (n, below, get_or_default links n (get_or links n d) d below)
-
 pub safe_member_of-requires : goal.safe_member_of-requires
 safe_member_of-requires c =
-    let n : ℕ = get_or c.args.chain.now c.loop-number.number-index 0 in
-    listed_at c.args.links.now (safe_links_of c.args.system.now) n _ c.requires.links (c.requires.chain c.loop-number.number-index 0 c.loop-number-test.true)
+    rw c.requires.links
+    (Contains-get_or (safe_links_of c.args.system.now) (get_or c.args.chain.now c.loop-number.number-index 0) _ (rw c.requires.links at c.requires.chain c.loop-number.number-index 0 c.loop-number-test.true))
 
 pub loop-number-preserved : goal.loop-number-preserved
 loop-number-preserved c =

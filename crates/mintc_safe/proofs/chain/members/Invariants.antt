@@ -1,5 +1,5 @@
 use Rattle.std.proofs.Common.{take}
-use Rattle.mintc_safe.specs.Making.{StandForAll}
+use Rattle.mintc_safe.specs.SafeOptimum.{StandForAll}
 use Rattle.mintc_safe.proofs.chain.members.Given as goal
 
 -- the members so far stand for the links so far
