@@ -26,9 +26,9 @@ use Rattle.mintc_walks.specs.Bounds.{IsWithin}
 use Rattle.mintc_walks.specs.Walks.{value_at}
 use Rattle.mintc_slack.specs.declared.gaps.Gap.{Gap}
 use Rattle.mintc_slack.specs.declared.nearest.TheConstants.{FAR}
-use Rattle.mintc_slack.specs.Gaps.{AreDistances, AreGaps, AreInRange, ArePotentials, AreShortest, IsInside, KeepDistances, gap_of}
+use Rattle.mintc_slack.specs.Gaps.{AreDistances, AreGaps, AreInRange, ArePotentials, AreShorter, AreShortest, IsInside, gap_of}
 use Rattle.mintc_slack.specs.Answers.{AreSettled}
-use Rattle.mintc_slack.proofs.SizeLaws.{asked-small, larger, less-small}
+use Rattle.mintc_slack.proofs.SizeLaws.{asked-small, larger}
 use Rattle.mintc_slack.proofs.WalkedLaws.{are_from}
 
 abbrev pub made : ℕ → ℕ → ℤ → Gap
@@ -99,119 +99,91 @@ module _ (list : Constraints) (at : Ratio) (potentials : List ℤ) (are : ArePot
 asked-one : (at : Ratio) (k : Link) → asked_by at (k ∷ []) ≡ asked_by_link at k
 asked-one at k = let more = asked_more at k [] in omega (arith, ints)
 
+-- one change of distances after another
+pub shorter-on : (gaps : List Gap) (old now new : List ℤ) → AreShorter gaps old now → AreShorter gaps now new → AreShorter gaps old new
+shorter-on gaps old now new first next = record {
+  range = next.range;
+  count = next.count ∙ first.count;
+  kept = λ list at potentials from are count d. next.kept list at potentials from are (first.count ∙ count) (first.kept list at potentials from are count d);
+}
+
+-- A distance that is less, where it is that of a walk.
+module _ (old : List ℤ) (v : ℕ) (x : ℤ) (inside : v < length old) (range : AreInRange old) (low : pos 0 ≤ℤ x) (less : x <ℤ value_at old v) where
+  there : value_at (slice_set old v x) v ≡ x
+  there = get_or-set_same old v x (pos 0) inside
+
+  pub apart : (u : ℕ) → (u ≡ v → ⊥) → value_at (slice_set old v x) u ≡ value_at old u
+  apart u e = get_or-set_other old v u x (pos 0) e
+
+  -- what holds of each other node and of this one, holds of all
+  pub each-node : (P : ℕ → ℤ → Type 0) → P v x → (u : ℕ) → ((u ≡ v → ⊥) → P u (value_at old u)) → P u (value_at (slice_set old v x) u)
+  each-node P here u others = ⊎_elim
+      (λ (e : u ≡ v). subst (λ (n : ℕ). P n (value_at (slice_set old v x) n)) (sym e) (subst (P v) (sym there) here))
+      (λ (e : u ≡ v → ⊥). subst (P u) (sym (apart u e)) (others e))
+      (cases_eq u v)
+
+  set-range : AreInRange (slice_set old v x)
+  set-range u h =
+      each-node (λ u y. (pos 0 ≤ℤ y) × (y ≤ℤ FAR)) (let most = (range v inside).1 in (low, omega (arith, ints))) u
+      (λ e. range u (let count = length-set old v x in omega arith))
+
+  pub set-shorter : (gaps : List Gap) → ((list : Constraints) (at : Ratio) (potentials : List ℤ) (from : ℕ) → AreGaps list at potentials gaps → length old ≡ list.nodes →
+      AreDistances list at potentials from old → x <ℤ FAR → IsAsked list.links at from v (value_at potentials v -ℤ value_at potentials from -ℤ x)) → AreShorter gaps old (slice_set old v x)
+  set-shorter gaps asked = record {
+    range = set-range;
+    count = length-set old v x;
+    kept = λ list at potentials from are count d. record {
+      here = apart from (λ e. let zero = ap (λ (n : ℕ). value_at old n) (sym e) ∙ d.here in omega (arith, ints)) ∙ d.here;
+      walked = λ node below.
+          each-node (λ u y. y <ℤ FAR → IsAsked list.links at from u (value_at potentials u -ℤ value_at potentials from -ℤ y)) (asked list at potentials from are count d) node
+          (λ e. d.walked node below);
+    };
+  }
+
 -- A distance that a gap shortens is that of a walk by the gap's link.
-module _ (gaps : List Gap) (g : Gap) (old : List ℤ) (inside : IsInside (length old) g) (range : AreInRange old) (x : ℤ) (is : x ≡ value_at old g.from +ℤ g.rest) (less : x <ℤ value_at old g.to) where
-  low : (pos 0 ≤ℤ x) × (value_at old g.from ≤ℤ x)
-  low = let r = inside.low in let d = (range g.from inside.from).0 in (omega (arith, ints), omega (arith, ints))
-
-  there : value_at (slice_set old g.to x) g.to ≡ x
-  there = get_or-set_same old g.to x (pos 0) inside.to
-
-  apart : (v : ℕ) → (v ≡ g.to → ⊥) → value_at (slice_set old g.to x) v ≡ value_at old v
-  apart v e = get_or-set_other old g.to v x (pos 0) e
-
-  pub shorter-range : AreInRange (slice_set old g.to x)
-  shorter-range v h = ⊎_elim
-      (λ (e : v ≡ g.to). let at_end = ap (λ (n : ℕ). value_at (slice_set old g.to x) n) e ∙ there in let l = low.0 in let most = (range g.to inside.to).1 in (omega (arith, ints), omega (arith, ints)))
-      (λ (e : v ≡ g.to → ⊥). let same = apart v e in let count = length-set old g.to x in let r = range v (omega arith) in let r0 = r.0 in let r1 = r.1 in (omega (arith, ints), omega (arith, ints)))
-      (cases_eq v g.to)
-
-  pub shorter-kept : Contains gaps g → KeepDistances gaps old (slice_set old g.to x)
-  shorter-kept within list at potentials from are count d = record { here = here; walked = walked }
-    where
-      here : value_at (slice_set old g.to x) from ≡ pos 0
-      here = ⊎_elim
-          (λ (e : from ≡ g.to). let zero = ap (λ (n : ℕ). value_at old n) (sym e) ∙ d.here in let l = low.0 in absurd (omega (arith, ints)))
-          (λ (e : from ≡ g.to → ⊥). apart from e ∙ d.here)
-          (cases_eq from g.to)
-
-      by_link : x <ℤ FAR → IsAsked list.links at from g.to (value_at potentials g.to -ℤ value_at potentials from -ℤ x)
-      by_link near =
-          let found = link_of list at potentials are.potentials_are gaps are.permutation g within in
-          let e = found.0 in
-          let k = link_at list.links e in
-          let l = low.1 in
-          let first = d.walked g.from (let f = inside.from in omega arith) (omega (arith, ints)) in
-          let from_is : k.from ≡ g.from = ap (λ (y : Gap). y.from) found.2 in
-          let to_is : k.to ≡ g.to = ap (λ (y : Gap). y.to) found.2 in
-          let rest_is : (gap_of at potentials k).rest ≡ g.rest = ap (λ (y : Gap). y.rest) found.2 in
-          let from_value : value_at potentials k.from ≡ value_at potentials g.from = ap (λ (n : ℕ). value_at potentials n) from_is in
-          let to_value : value_at potentials k.to ≡ value_at potentials g.to = ap (λ (n : ℕ). value_at potentials n) to_is in
-          let leads : Leads list.links from (first.0 ++ e ∷ []) g.to =
-          LeadsBy-append (λ (k : Link). k.from) (λ (k : Link). k.to) no_link list.links from first.0 g.from (e ∷ []) g.to first.1 (found.1, from_is, to_is) in
-          let sum = asked-on at list.links first.0 (e ∷ []) in
-          let one = asked-one at k in
-          let start = first.2 in
-          (first.0 ++ e ∷ [], leads, omega (arith, ints))
-
-      walked : (node : ℕ) → node < list.nodes → value_at (slice_set old g.to x) node <ℤ FAR →
-          IsAsked list.links at from node (value_at potentials node -ℤ value_at potentials from -ℤ value_at (slice_set old g.to x) node)
-      walked node below near = ⊎_elim
-          (λ (e : node ≡ g.to).
-          subst (λ (n : ℕ). IsAsked list.links at from n (value_at potentials n -ℤ value_at potentials from -ℤ value_at (slice_set old g.to x) n)) (sym e)
-          (subst (λ (y : ℤ). IsAsked list.links at from g.to (value_at potentials g.to -ℤ value_at potentials from -ℤ y)) (sym there)
-          (by_link (let at_end = ap (λ (n : ℕ). value_at (slice_set old g.to x) n) e ∙ there in omega (arith, ints)))))
-          (λ (e : node ≡ g.to → ⊥).
-          subst (λ (y : ℤ). IsAsked list.links at from node (value_at potentials node -ℤ value_at potentials from -ℤ y)) (sym (apart node e))
-          (d.walked node below (let same = apart node e in omega (arith, ints))))
-          (cases_eq node g.to)
+pub shorter-by : (gaps : List Gap) (g : Gap) (old : List ℤ) (x : ℤ) → IsInside (length old) g → AreInRange old → x ≡ value_at old g.from +ℤ g.rest → x <ℤ value_at old g.to → Contains gaps g →
+    AreShorter gaps old (slice_set old g.to x)
+shorter-by gaps g old x inside range is less within =
+    set-shorter old g.to x inside.to range (let r = inside.low in let d = range g.from inside.from in omega (arith, ints)) less gaps
+    (λ list at potentials from are count d near.
+    let found = link_of list at potentials are.potentials_are gaps are.permutation g within in
+    let e = found.0 in
+    let k = link_at list.links e in
+    let rest = inside.low in
+    let first = d.walked g.from (let f = inside.from in omega arith) (omega (arith, ints)) in
+    let from_is : k.from ≡ g.from = ap (λ (y : Gap). y.from) found.2 in
+    let to_is : k.to ≡ g.to = ap (λ (y : Gap). y.to) found.2 in
+    let rest_is : (gap_of at potentials k).rest ≡ g.rest = ap (λ (y : Gap). y.rest) found.2 in
+    let from_value : value_at potentials k.from ≡ value_at potentials g.from = ap (λ (n : ℕ). value_at potentials n) from_is in
+    let to_value : value_at potentials k.to ≡ value_at potentials g.to = ap (λ (n : ℕ). value_at potentials n) to_is in
+    let leads : Leads list.links from (first.0 ++ e ∷ []) g.to =
+    LeadsBy-append (λ (k : Link). k.from) (λ (k : Link). k.to) no_link list.links from first.0 g.from (e ∷ []) g.to first.1 (found.1, from_is, to_is) in
+    let sum = asked-on at list.links first.0 (e ∷ []) in
+    let one = asked-one at k in
+    let start = first.2 in
+    (first.0 ++ e ∷ [], leads, omega (arith, ints)))
 
 -- A node is at most as far as node 0, from which the walk of its potential leads to it.
 module _ (now : List ℤ) (v : ℕ) (inside : v < length now) (range : AreInRange now) (some : 0 < length now) (more : value_at now 0 <ℤ value_at now v) where
   abbrev home : ℤ
   home = value_at now 0
 
-  there' : value_at (slice_set now v home) v ≡ home
-  there' = get_or-set_same now v home (pos 0) inside
-
-  apart' : (u : ℕ) → (u ≡ v → ⊥) → value_at (slice_set now v home) u ≡ value_at now u
-  apart' u e = get_or-set_other now v u home (pos 0) e
-
-  pub home-range : AreInRange (slice_set now v home)
-  home-range u h = ⊎_elim
-      (λ (e : u ≡ v). let at_end = ap (λ (n : ℕ). value_at (slice_set now v home) n) e ∙ there' in let r = range 0 some in let r0 = r.0 in let r1 = r.1 in (omega (arith, ints), omega (arith, ints)))
-      (λ (e : u ≡ v → ⊥). let same = apart' u e in let count = length-set now v home in let r = range u (omega arith) in let r0 = r.0 in let r1 = r.1 in (omega (arith, ints), omega (arith, ints)))
-      (cases_eq u v)
-
   pub home-same : value_at (slice_set now v home) 0 ≡ home
-  home-same = ⊎_elim (λ (e : 0 ≡ v). ap (λ (n : ℕ). value_at (slice_set now v home) n) e ∙ there') (λ (e : 0 ≡ v → ⊥). apart' 0 e) (cases_eq 0 v)
+  home-same = apart now v home inside range (range 0 some).0 more 0 (λ e. let same = ap (λ (n : ℕ). value_at now n) e in omega (arith, ints))
 
   pub home-next : ((k : ℕ) → k < v → value_at now k ≤ℤ home) → (k : ℕ) → k < v + 1 → value_at (slice_set now v home) k ≤ℤ home
-  home-next before k h = ⊎_elim
-      (λ (e : k ≡ v). let at_end = ap (λ (n : ℕ). value_at (slice_set now v home) n) e ∙ there' in omega (arith, ints))
-      (λ (e : k ≡ v → ⊥). let same = apart' k e in let b = before k (omega arith) in omega (arith, ints))
-      (cases_eq k v)
+  home-next before k h = each-node now v home inside range (range 0 some).0 more (λ u y. y ≤ℤ home) (omega (arith, ints)) k (λ e. before k (omega arith))
 
-  pub home-kept : (gaps : List Gap) → KeepDistances gaps now (slice_set now v home)
-  home-kept gaps list at potentials from are count d = record { here = here; walked = walked }
-    where
-      here : value_at (slice_set now v home) from ≡ pos 0
-      here = ⊎_elim
-          (λ (e : from ≡ v). let zero = ap (λ (n : ℕ). value_at now n) (sym e) ∙ d.here in let l = (range 0 some).0 in absurd (omega (arith, ints)))
-          (λ (e : from ≡ v → ⊥). apart' from e ∙ d.here)
-          (cases_eq from v)
-
-      by_home : home <ℤ FAR → IsAsked list.links at from v (value_at potentials v -ℤ value_at potentials from -ℤ home)
-      by_home near =
-          let back = d.walked 0 (omega arith) near in
-          let forth = are.potentials_are.greatest.asked v (omega arith) in
-          let zero = are.potentials_are.greatest.here in
-          let sum = asked-on at list.links back.0 forth.0 in
-          let one = back.2 in
-          let two = forth.2 in
-          (back.0 ++ forth.0, LeadsBy-append (λ (k : Link). k.from) (λ (k : Link). k.to) no_link list.links from back.0 0 forth.0 v back.1 forth.1, omega (arith, ints))
-
-      walked : (node : ℕ) → node < list.nodes → value_at (slice_set now v home) node <ℤ FAR →
-          IsAsked list.links at from node (value_at potentials node -ℤ value_at potentials from -ℤ value_at (slice_set now v home) node)
-      walked node below near = ⊎_elim
-          (λ (e : node ≡ v).
-          subst (λ (n : ℕ). IsAsked list.links at from n (value_at potentials n -ℤ value_at potentials from -ℤ value_at (slice_set now v home) n)) (sym e)
-          (subst (λ (y : ℤ). IsAsked list.links at from v (value_at potentials v -ℤ value_at potentials from -ℤ y)) (sym there')
-          (by_home (let at_end = ap (λ (n : ℕ). value_at (slice_set now v home) n) e ∙ there' in omega (arith, ints)))))
-          (λ (e : node ≡ v → ⊥).
-          subst (λ (y : ℤ). IsAsked list.links at from node (value_at potentials node -ℤ value_at potentials from -ℤ y)) (sym (apart' node e))
-          (d.walked node below (let same = apart' node e in omega (arith, ints))))
-          (cases_eq node v)
+  pub home-shorter : (gaps : List Gap) → AreShorter gaps now (slice_set now v home)
+  home-shorter gaps = set-shorter now v home inside range (range 0 some).0 more gaps
+      (λ list at potentials from are count d near.
+      let back = d.walked 0 (omega arith) near in
+      let forth = are.potentials_are.greatest.asked v (omega arith) in
+      let zero = are.potentials_are.greatest.here in
+      let sum = asked-on at list.links back.0 forth.0 in
+      let one = back.2 in
+      let two = forth.2 in
+      (back.0 ++ forth.0, LeadsBy-append (λ (k : Link). k.from) (λ (k : Link). k.to) no_link list.links from back.0 0 forth.0 v back.1 forth.1, omega (arith, ints)))
 
 -- distances that are the least stand for the values of the greatest walks
 module _ (list : Constraints) (at : Ratio) (potentials : List ℤ) (gaps : List Gap) (from : ℕ) (distances values : List ℤ) (are : AreGaps list at potentials gaps)

@@ -46,10 +46,13 @@ pub record AreDistances (list : Constraints) (at : Ratio) (potentials : List ℤ
   pub walked : (node : ℕ) → node < list.nodes → value_at distances node <ℤ FAR →
       IsAsked list.links at from node (value_at potentials node -ℤ value_at potentials from -ℤ value_at distances node)
 
--- Whatever the gaps are those of, distances of walks are left so.
-abbrev pub KeepDistances : List Gap → List ℤ → List ℤ → Type 0
-KeepDistances gaps old new = (list : Constraints) (at : Ratio) (potentials : List ℤ) (from : ℕ) → AreGaps list at potentials gaps → length old ≡ list.nodes →
-    AreDistances list at potentials from old → AreDistances list at potentials from new
+-- Distances in place of others: they are from 0 to FAR, as many, and whatever the gaps are those of, distances of walks where
+-- the others were.
+pub record AreShorter (gaps : List Gap) (old new : List ℤ) : Type 0 where
+  pub range : AreInRange new
+  pub count : length new ≡ length old
+  pub kept : (list : Constraints) (at : Ratio) (potentials : List ℤ) (from : ℕ) → AreGaps list at potentials gaps → length old ≡ list.nodes →
+      AreDistances list at potentials from old → AreDistances list at potentials from new
 
 -- No gap makes the distance of its end less.
 abbrev pub AreLeast : List Gap → List ℤ → Type 0

@@ -6,9 +6,9 @@ ghost use Rattle.mintc_walks.specs.Bounds.{IsWithin};
 ghost use Rattle.mintc_walks.specs.Walks.{value_at};
 ghost use Rattle.mintc_slack.specs.Gaps.{AreGaps, ArePotentials, gap_of};
 
+use crate::small::{asked_of, less};
 use mintc_constraints::LinkList;
 use mintc_fraction::Fraction;
-use mintc_ratio::asked;
 use mintc_text::OutOfMemory;
 use mintc_timing::Link;
 use std::alloc::Global;
@@ -32,7 +32,8 @@ fn weigh(link: &Link, at: &Fraction, potentials: &[i128]) -> Gap
     requires small { (node : ℕ) → node < length potentials.now → IsWithin 30000000000000000 (value_at potentials.now node) }
     ensures { result ≡ gap_of at.now potentials.now link.now }
 {
-    let rest = potentials[link.to as usize] - potentials[link.from as usize] - asked(link, at);
+    let (from, to) = (potentials[link.from as usize], potentials[link.to as usize]);
+    let rest = less(to, from, asked_of(link, at));
     Gap {
         from: link.from,
         to: link.to,

@@ -5,9 +5,10 @@ ghost use Rattle.std.specs.Prelude.{◌≡◌, ◌<◌, ℕ, List, ◌≤ℤ◌,
 ghost use Rattle.std.specs.Bool.{OnTrue};
 ghost use Rattle.std.specs.List.{Contains};
 ghost use Rattle.mintc_walks.specs.Walks.{value_at};
-ghost use Rattle.mintc_slack.specs.Gaps.{AreInRange, AreLeast, IsInside, KeepDistances};
+ghost use Rattle.mintc_slack.specs.Gaps.{AreInRange, AreLeast, AreShorter, IsInside};
 
 use crate::gaps::Gap;
+use crate::small::sum;
 use mintc_text::OutOfMemory;
 use std::alloc::Global;
 use std::cmp::Reverse;
@@ -24,11 +25,10 @@ pub(crate) type Ahead = BinaryHeap<(Reverse<i64>, u32), Global>;
 fn shorten(gap: Gap, distances: &mut Vec<i64>) -> bool
     requires inside { IsInside (length distances.old.items) gap }
     requires range { AreInRange distances.old.items }
-    ensures range { AreInRange distances.new.items }
     ensures count { length distances.new.items ≡ length distances.old.items }
-    ensures kept { (gaps : List Gap) → Contains gaps gap → KeepDistances gaps distances.old.items distances.new.items }
+    ensures shorter { (gaps : List Gap) → Contains gaps gap → AreShorter gaps distances.old.items distances.new.items }
 {
-    let distance = distances[gap.from as usize] + gap.rest;
+    let distance = sum(distances[gap.from as usize], gap.rest);
     if distance < distances[gap.to as usize] && distance < distances[0] {
         distances[gap.to as usize] = distance;
         return true;
@@ -40,9 +40,7 @@ fn shorten(gap: Gap, distances: &mut Vec<i64>) -> bool
 fn pass(gap: Gap, distances: &mut Vec<i64>, ahead: &mut Ahead) -> Result<(), OutOfMemory>
     requires inside { IsInside (length distances.old.items) gap }
     requires range { AreInRange distances.old.items }
-    ensures range { AreInRange distances.new.items }
-    ensures count { length distances.new.items ≡ length distances.old.items }
-    ensures kept { (gaps : List Gap) → Contains gaps gap → KeepDistances gaps distances.old.items distances.new.items }
+    ensures { (gaps : List Gap) → Contains gaps gap → AreShorter gaps distances.old.items distances.new.items }
 {
     if shorten(gap, distances) {
         let Ok(()) = ahead.push((Reverse(distances[gap.to as usize]), gap.to)) else {
@@ -62,9 +60,7 @@ fn leave(
 ) -> Result<(), OutOfMemory>
     requires inside { All (IsInside (length distances.old.items)) gaps.now }
     requires range { AreInRange distances.old.items }
-    ensures range { AreInRange distances.new.items }
-    ensures count { length distances.new.items ≡ length distances.old.items }
-    ensures kept { KeepDistances gaps.now distances.old.items distances.new.items }
+    ensures { AreShorter gaps.now distances.old.items distances.new.items }
 {
     let first = firsts.get(node as usize).copied().unwrap_or(0);
     for place in first..gaps.len() {
@@ -87,9 +83,7 @@ pub(crate) fn walk(
 ) -> Result<(), OutOfMemory>
     requires inside { All (IsInside (length distances.old.items)) gaps.now }
     requires range { AreInRange distances.old.items }
-    ensures range { AreInRange distances.new.items }
-    ensures count { length distances.new.items ≡ length distances.old.items }
-    ensures kept { KeepDistances gaps.now distances.old.items distances.new.items }
+    ensures { AreShorter gaps.now distances.old.items distances.new.items }
 {
     ahead.clear();
     leave(gaps, firsts, from, distances, ahead)?;
@@ -111,10 +105,9 @@ pub(crate) fn walk(
 pub(crate) fn bring_home(distances: &mut Vec<i64>)
     requires some { 0 < length distances.old.items }
     requires range { AreInRange distances.old.items }
-    ensures range { AreInRange distances.new.items }
     ensures count { length distances.new.items ≡ length distances.old.items }
     ensures home { (node : ℕ) → node < length distances.new.items → value_at distances.new.items node ≤ℤ value_at distances.new.items 0 }
-    ensures kept { (gaps : List Gap) → KeepDistances gaps distances.old.items distances.new.items }
+    ensures shorter { (gaps : List Gap) → AreShorter gaps distances.old.items distances.new.items }
 {
     let home = distances[0];
     for node in 0..distances.len() {
@@ -131,7 +124,7 @@ pub(crate) fn are_least(gaps: &[Gap], distances: &[i64]) -> bool
     ensures { OnTrue result (AreLeast gaps.now distances.now) }
 {
     for gap in gaps {
-        if distances[gap.from as usize] + gap.rest < distances[gap.to as usize] {
+        if sum(distances[gap.from as usize], gap.rest) < distances[gap.to as usize] {
             return false;
         }
     }

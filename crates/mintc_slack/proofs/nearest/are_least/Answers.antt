@@ -5,7 +5,7 @@ use Rattle.std.proofs.lemmas.List.{get_or_default}
 use Rattle.mintc_walks.specs.Walks.{value_at}
 use Rattle.mintc_slack.specs.declared.gaps.Gap.{Gap}
 use Rattle.mintc_slack.proofs.GapLaws.{far_is, made}
-use Rattle.mintc_slack.proofs.SizeLaws.{added-read, read_narrow}
+use Rattle.mintc_slack.proofs.SizeLaws.{read_narrow}
 use Rattle.mintc_slack.proofs.nearest.are_least.Goals as goal
 
 pub loop-gap-preserved : goal.loop-gap-preserved
@@ -21,10 +21,11 @@ loop-gap-preserved c k d h =
     let inside = c.requires.inside i (made 0 0 (pos 0)) below in
     let from = c.requires.range g.from inside.from in
     let to = c.requires.range g.to inside.to in
+    let rest = inside.low in
+    let rest' = inside.high in
     let far = far_is in
-    let sum = added-read (value_at distances g.from) g.rest from.0 (let most = from.1 in omega (arith, ints)) inside.low (let most = inside.high in omega (arith, ints)) in
-    let end = read_narrow (value_at distances g.to) (let low = to.0 in let high = to.1 in (omega (arith, ints), omega (arith, ints))) in
-    let is = c.if-distances-gap.false in
+    let sum = c.sum.ensures in
+    let is = c.if-sum-index.false in
     let here : P g = omega (arith, ints) in
     subst (λ (n : ℕ). P (get_or gaps n d)) (sym e) (subst P (sym (get_or_default gaps i d (made 0 0 (pos 0)) below)) here))
     (λ (e : k ≡ i → ⊥). c.loop-gap.invariant k d (omega arith))

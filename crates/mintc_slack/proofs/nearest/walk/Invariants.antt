@@ -1,11 +1,6 @@
-use Rattle.std.proofs.Common.{◌≡◌, length}
-use Rattle.mintc_slack.specs.Gaps.{AreInRange, KeepDistances}
+use Rattle.mintc_slack.specs.Gaps.{AreShorter}
 use Rattle.mintc_slack.proofs.nearest.walk.Given as goal
 
--- the distances so far are in range, and of walks where they were
+-- the distances so far
 abbrev pub invariant-loop-step : goal.invariant-loop-step
-invariant-loop-step l = record {
-  range : AreInRange l.distances.items;
-  count : length l.distances.items ≡ length l.fn.distances.items;
-  kept : KeepDistances l.gaps l.fn.distances.items l.distances.items;
-}
+invariant-loop-step l = AreShorter l.gaps l.fn.distances.items l.distances.items
