@@ -24,37 +24,16 @@ pub IsAtMost-trans : (a b c : Ratio) → IsFraction a → IsFraction b → IsFra
 IsAtMost-trans a b c pa pb pc h k =
     let first = times-mono_positive (a.num *ℤ b.den) (b.num *ℤ a.den) c.den h pc in
     let second = times-mono_positive (b.num *ℤ c.den) (c.num *ℤ b.den) a.den k pa in
-    let left : (a.num *ℤ b.den) *ℤ c.den ≡ (a.num *ℤ c.den) *ℤ b.den = swap-times a.num b.den c.den in
-    let middle : (b.num *ℤ a.den) *ℤ c.den ≡ (b.num *ℤ c.den) *ℤ a.den = swap-times b.num a.den c.den in
-    let right : (c.num *ℤ b.den) *ℤ a.den ≡ (c.num *ℤ a.den) *ℤ b.den = swap-times c.num b.den a.den in
-    let all : ((a.num *ℤ c.den) *ℤ b.den) ≤ℤ ((c.num *ℤ a.den) *ℤ b.den) = omega (arith, ints) in
-    times-cancel_positive (a.num *ℤ c.den) (c.num *ℤ a.den) b.den pb all
+    times-cancel_positive (a.num *ℤ c.den) (c.num *ℤ a.den) b.den pb
+    (omega (arith, ints, first, second, swap-times a.num b.den c.den, swap-times b.num a.den c.den, swap-times c.num b.den a.den))
 
 pub IsEqual-trans : (a b c : Ratio) → IsFraction b → IsEqual a b → IsEqual b c → IsEqual a c
 IsEqual-trans a b c pb e f =
-    let left : (a.num *ℤ b.den) *ℤ c.den ≡ (a.num *ℤ c.den) *ℤ b.den = swap-times a.num b.den c.den in
-    let middle : (b.num *ℤ a.den) *ℤ c.den ≡ (b.num *ℤ c.den) *ℤ a.den = swap-times b.num a.den c.den in
-    let right : (c.num *ℤ b.den) *ℤ a.den ≡ (c.num *ℤ a.den) *ℤ b.den = swap-times c.num b.den a.den in
     times-cancel_equal (a.num *ℤ c.den) (c.num *ℤ a.den) b.den pb
-    (sym left ∙ ap (λ v. v *ℤ c.den) e ∙ middle ∙ ap (λ v. v *ℤ a.den) f ∙ right)
-
-pub IsEqual-sym : (a b : Ratio) → IsEqual a b → IsEqual b a
-IsEqual-sym a b e = sym e
-
-both_are : (x y : ℤ) → x ≡ y → (x ≤ℤ y) × (y ≤ℤ x)
-both_are x y e = (omega (arith, ints), omega (arith, ints))
-
-one_is : (x y : ℤ) → (x ≤ℤ y) × (y ≤ℤ x) → x ≡ y
-one_is x y h = let low = h.0 in let high = h.1 in omega (arith, ints)
+    (sym (swap-times a.num b.den c.den) ∙ ap (λ v. v *ℤ c.den) e ∙ swap-times b.num a.den c.den ∙ ap (λ v. v *ℤ a.den) f ∙ swap-times c.num b.den a.den)
 
 pub equal_is : (x y : ℤ) → (x ≡ y) ↔ ((x ≤ℤ y) × (y ≤ℤ x))
-equal_is x y = (both_are x y, one_is x y)
-
-not_most : (x y : ℤ) → x <ℤ y → y ≤ℤ x → ⊥
-not_most x y h k = omega (arith, ints)
-
-from_not_most : (x y : ℤ) → (y ≤ℤ x → ⊥) → x <ℤ y
-from_not_most x y n = by_lt_z x y (λ h. h) (λ k. absurd (n k))
+equal_is x y = (λ e. (omega (arith, ints), omega (arith, ints)), λ h. omega (arith, ints, h))
 
 pub strict_is : (x y : ℤ) → (x <ℤ y) ↔ (y ≤ℤ x → ⊥)
-strict_is x y = (not_most x y, from_not_most x y)
+strict_is x y = (λ h k. omega (arith, ints), λ n. by_lt_z x y (λ h. h) (λ k. absurd (n k)))

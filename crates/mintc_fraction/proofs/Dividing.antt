@@ -56,9 +56,6 @@ turn_halves a b t n less some small =
     let all : b * (a % b) * 2 ^ (t + 1) ≡ b * (a % b) * (2 ^ t + 2 ^ t) = ap (λ v. b * (a % b) * v) twice in
     omega (arith, halves, all, small)
 
-pub above_zero : (y : ℤ) → pos 1 ≤ℤ y → pos 0 <ℤ y
-above_zero y h = omega (arith, ints)
-
 -- a product that has been halved 80 times
 pub none_left : (a b t : ℕ) → t ≡ 80 → b < a → a * b * 2 ^ t < 2 ^ 80 → b ≡ 0
 none_left a zero t e less small = refl

@@ -68,9 +68,7 @@ shared (suc turns) d (suc e) n m few h =
     }
 
 one_of : (k : ℕ) → 0 < k → (2 ≤ k → ⊥) → k ≡ 1
-one_of zero some n = absurd (omega arith)
-one_of (suc zero) some n = refl
-one_of (suc (suc k)) some n = absurd (n (omega arith))
+one_of k some n = omega arith
 
 some_factor : (k g d : ℕ) → k * g ≡ d → 0 < d → 0 < k
 some_factor zero g d e some = absurd (omega arith)

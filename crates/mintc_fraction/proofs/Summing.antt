@@ -7,7 +7,7 @@ use Rattle.std.proofs.Math.IntN.{*ℤ_comm, +ℤ_comm, +ℤ_assoc}
 use Rattle.mintc_fraction.specs.Ratio.{Ratio, IsFraction, IsEqual, sum_of, product_of, IsWithin}
 use Rattle.mintc_fraction.specs.Laws.{IsSum}
 use Rattle.mintc_fraction.proofs.SharedProducts.{times-assoc, add-times, swap-times, medial-times, times-positive}
-use Rattle.mintc_fraction.proofs.Comparing.{IsEqual-trans, IsEqual-sym}
+use Rattle.mintc_fraction.proofs.Comparing.{IsEqual-trans}
 
 -- the size of a product
 pub size_of_product : (x y : ℤ) (m n : ℕ) → unsigned_abs x ≤ m → unsigned_abs y ≤ n → unsigned_abs (x *ℤ y) ≤ m * n
@@ -16,15 +16,12 @@ size_of_product x y m n h k = omega (arith, unsigned_abs-mul x y, mul-le _ _ m n
 pub size_of_den : (y : ℤ) (n : ℕ) → pos 1 ≤ℤ y → y ≤ℤ pos n → unsigned_abs y ≤ n
 size_of_den y n p h = omega (arith, ints)
 
-from_size : (y : ℤ) (n : ℕ) → unsigned_abs y ≤ n → y ≤ℤ pos n
-from_size y n h = omega (arith, ints)
-
 pub sum-within : (a b : Ratio) → IsFraction a → IsFraction b → (n d m e : ℕ) → IsWithin n d a → IsWithin m e b → IsWithin (n * e + m * d) (d * e) (sum_of a b)
 sum-within a b pa pb n d m e h k =
     let first = size_of_product a.num b.den n e h.num (size_of_den b.den e pb k.den) in
     let second = size_of_product b.num a.den m d k.num (size_of_den a.den d pa h.den) in
     let both = size_of_product a.den b.den d e (size_of_den a.den d pa h.den) (size_of_den b.den e pb k.den) in
-    record { num = omega (arith, ints); den = from_size _ _ both }
+    record { num = omega (arith, ints); den = omega (arith, ints) }
 
 pub product-within : (a : Ratio) (by : ℤ) (n d k : ℕ) → IsWithin n d a → unsigned_abs by ≤ k → IsWithin (n * k) d (product_of a by)
 product-within a by n d k h small = record { num = size_of_product a.num by n k h.num small; den = h.den }
@@ -49,7 +46,7 @@ sum_of-positive a b pa pb = times-positive a.den b.den pa pb
 pub sums_commute : (a b c d : Ratio) → IsFraction a → IsFraction b → IsSum a b c → IsSum b a d → IsEqual c d
 sums_commute a b c d pa pb h k =
     IsEqual-trans c (sum_of a b) d (sum_of-positive a b pa pb) h
-    (IsEqual-trans (sum_of a b) (sum_of b a) d (sum_of-positive b a pb pa) (sum_of-comm a b) (IsEqual-sym d (sum_of b a) k))
+    (IsEqual-trans (sum_of a b) (sum_of b a) d (sum_of-positive b a pb pa) (sum_of-comm a b) (sym k))
 
 num-assoc : (a b c : Ratio) → (sum_of (sum_of a b) c).num ≡ (sum_of a (sum_of b c)).num
 num-assoc a b c =
@@ -82,4 +79,4 @@ sums_associate a b c ab bc left right pa pb pc pab pbc h first k second =
     (IsEqual-trans (sum_of bc a) (sum_of rest a) (sum_of a rest) (sum_of-positive rest a pr pa) (sum_of-equal bc rest a k) (sum_of-comm rest a)) in
     let two : IsEqual right (sum_of a rest) = IsEqual-trans right (sum_of a bc) (sum_of a rest) (sum_of-positive a bc pa pbc) second turned in
     IsEqual-trans left (sum_of whole c) right (sum_of-positive whole c pw pc) one
-    (IsEqual-trans (sum_of whole c) (sum_of a rest) right (sum_of-positive a rest pa pr) (sum_of-assoc a b c) (IsEqual-sym right (sum_of a rest) two))
+    (IsEqual-trans (sum_of whole c) (sum_of a rest) right (sum_of-positive a rest pa pr) (sum_of-assoc a b c) (sym two))

@@ -14,7 +14,7 @@ ghost use Rattle.mintc_slack.specs.Slack.{AreSlacks};
 
 use crate::left::slack_of;
 use crate::walked::{Walker, prepare, settle};
-use crate::departures::Departures;
+use mintc_certificate::Departures;
 use mintc_constraints::{LinkList, Room, links};
 use mintc_fraction::Fraction;
 use mintc_ratio::{Outcome, search};
