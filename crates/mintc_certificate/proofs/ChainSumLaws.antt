@@ -12,18 +12,18 @@ use Rattle.mintc_certificate.specs.Valid.{link_of, links_of_members}
 
 -- the link of one member more
 sums_more : (f : Link → ℤ) (t : Timing) (chain : List Member) (i : ℕ) (m : Member) → i < length chain → m ≡ get_or chain i m →
-    total f (links_of_members t (take (i + 1) chain)) ≡ total f (links_of_members t (take i chain)) +ℤ f (link_of t m)
+    total f (links_of_members t.flat (take (i + 1) chain)) ≡ total f (links_of_members t.flat (take i chain)) +ℤ f (link_of t.flat m)
 sums_more f t chain i m below is =
     let step = take_more chain i m below ∙ ap (λ y. take i chain ++ y ∷ []) (sym is) in
-    let links = ap (map (link_of t)) step ∙ map-append (link_of t) (take i chain) (m ∷ []) in
-    let whole = ap (total f) links ∙ total-append f (links_of_members t (take i chain)) (link_of t m ∷ []) in
+    let links = ap (map (link_of t.flat)) step ∙ map-append (link_of t.flat) (take i chain) (m ∷ []) in
+    let whole = ap (total f) links ∙ total-append f (links_of_members t.flat (take i chain)) (link_of t.flat m ∷ []) in
     omega (arith, ints, whole)
 
 -- a sum over the members so far, and one part more
-pub sum_step : (f : Link → ℤ) (t : Timing) (chain : List Member) (i : ℕ) (m : Member) (link : Link) (old : ℤ) → i < length chain → m ≡ get_or chain i m → link ≡ link_of t m →
-    old ≡ total f (links_of_members t (take i chain)) → old +ℤ f link ≡ total f (links_of_members t (take (i + 1) chain))
+pub sum_step : (f : Link → ℤ) (t : Timing) (chain : List Member) (i : ℕ) (m : Member) (link : Link) (old : ℤ) → i < length chain → m ≡ get_or chain i m → link ≡ link_of t.flat m →
+    old ≡ total f (links_of_members t.flat (take i chain)) → old +ℤ f link ≡ total f (links_of_members t.flat (take (i + 1) chain))
 sum_step f t chain i m link old below is value before =
-    ap (λ z. z +ℤ f link) before ∙ ap (λ (k : Link). total f (links_of_members t (take i chain)) +ℤ f k) value ∙ sym (sums_more f t chain i m below is)
+    ap (λ z. z +ℤ f link) before ∙ ap (λ (k : Link). total f (links_of_members t.flat (take i chain)) +ℤ f k) value ∙ sym (sums_more f t chain i m below is)
 
 -- A sum and one part more fit, and are bounded as long as the chain is short.
 pub record IsMore (old part x : ℤ) (i : ℕ) : Type 0 where

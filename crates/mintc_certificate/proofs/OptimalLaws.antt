@@ -20,7 +20,7 @@ use Rattle.mintc_timing.proofs.SharedDeterminedLaws.{forbids_all_lem}
 
 module _ (t : Timing) (limits : IsDesign t.flat) (pairs_are : ArePairs t.flat t.pairs) where
   -- Each member's link holds of every right schedule.
-  meets-member : (s : Schedule) (d : List ℤ) → IsRight t s d → (m : Member) → IsMember t m → Meets t s d (link_of t m)
+  meets-member : (s : Schedule) (d : List ℤ) → IsRight t s d → (m : Member) → IsMember t m → Meets t.flat s d (link_of t.flat m)
   meets-member s d right (member.Start p) h = meets-start t s d limits right p h
   meets-member s d right (member.Cycle p) h = meets-cycle t s d limits right p h
   meets-member s d right (member.Order p) h = meets-order t s d limits right p h.0 h.1
@@ -35,17 +35,17 @@ module _ (t : Timing) (limits : IsDesign t.flat) (pairs_are : ArePairs t.flat t.
 
   -- A ring asks no more time of a right schedule than its cycles have.
   ring-of_right : (s : Schedule) (d : List ℤ) → IsRight t s d → (ms : List Member) → IsRing t ms →
-      (delay_of (links_of_members t ms) *ℤ s.den) ≤ℤ (cycles_of (links_of_members t ms) *ℤ s.cycle)
+      (delay_of (links_of_members t.flat ms) *ℤ s.den) ≤ℤ (cycles_of (links_of_members t.flat ms) *ℤ s.cycle)
   ring-of_right s d right ms is_ring =
-      ring-at_most s.cycle s.den (node_time t s d) (links_of_members t ms)
-      (All-map (Meets t s d) (link_of t) ms (λ k e h. meets-member s d right _ (is_ring.0 k e h)))
+      ring-at_most s.cycle s.den (node_time t.flat s d) (links_of_members t.flat ms)
+      (All-map (Meets t.flat s d) (link_of t.flat) ms (λ k e h. meets-member s d right _ (is_ring.0 k e h)))
       is_ring.1
 
   -- A valid certificate without a schedule shows that no schedule is right.
   pub hopeless-by : (ms : List Member) → IsValid t (Never ms) → IsHopeless t
   hopeless-by ms valid s d right =
       let asked = ring-of_right s d right ms (valid ring) in
-      let more = forbids_all_lem (links_of_members t ms) s.cycle s.den (valid sums) right.clock.den in
+      let more = forbids_all_lem (links_of_members t.flat ms) s.cycle s.den (valid sums) right.clock.den in
       omega (arith, ints)
 
   -- A valid certificate with a schedule has a right one, and its cycle is the least.
@@ -57,7 +57,7 @@ module _ (t : Timing) (limits : IsDesign t.flat) (pairs_are : ArePairs t.flat t.
     positive = (valid clock).den;
     attained = (s, d, right-by s d ms valid, refl);
     least = λ s' d' right'.
-        no_less (delay_of (links_of_members t ms)) (cycles_of (links_of_members t ms)) s.cycle s.den s'.cycle s'.den
+        no_less (delay_of (links_of_members t.flat ms)) (cycles_of (links_of_members t.flat ms)) s.cycle s.den s'.cycle s'.den
         (valid clock).den (valid sums).turns (valid sums).tight (ring-of_right s' d' right' ms (valid ring));
   }
 

@@ -9,7 +9,7 @@ use Rattle.mintc_certificate.specs.declared.members.Member.TheVariants as member
 use Rattle.mintc_certificate.specs.declared.certificate.Certificate.{Certificate}
 use Rattle.mintc_certificate.specs.declared.certificate.Certificate.TheVariants.{Least, Never}
 use Rattle.mintc_rings.specs.Rings.{IsClosed}
-use Rattle.mintc_timing.specs.Design.{Timing, phase_count, element_count, element_at}
+use Rattle.mintc_timing.specs.Design.{Design, Timing, phase_count, element_count, element_at}
 use Rattle.mintc_timing.specs.Limits.{IsPhase}
 use Rattle.mintc_timing.specs.Paths.{IsPath, input_of, greatest_delay}
 use Rattle.mintc_timing.specs.Clocking.{KeepsClock, KeepsBound, feeds_of}
@@ -22,34 +22,34 @@ no_bound = record { from = Origin; to = Origin; gap = pos 0; cycles = 0 }
 
 -- The member names what the design has. A reach carries a listed path from its first element to its second.
 abbrev pub IsMember : Timing → Member → Type 0
-IsMember t (member.Start p) = IsPhase (phase_count t) p
-IsMember t (member.Cycle p) = IsPhase (phase_count t) p
-IsMember t (member.Order p) = (1 ≤ p) × (p < phase_count t)
-IsMember t (member.Span p) = IsPhase (phase_count t) p
-IsMember t (member.Width p) = IsPhase (phase_count t) p
-IsMember t (member.Apart i j) = IsPhase (phase_count t) i × IsPhase (phase_count t) j × IsTrue (feeds_of t i j)
-IsMember t (member.Opening l) = l < element_count t
-IsMember t (member.Opened l) = (l < element_count t) × IsFalse (element_at t l).flop
-IsMember t (member.Reach j l path) = (j < element_count t) × (l < element_count t) × IsPath t.flat.arcs j path (input_of l)
-IsMember t (member.Setup l) = l < element_count t
+IsMember t (member.Start p) = IsPhase (phase_count t.flat) p
+IsMember t (member.Cycle p) = IsPhase (phase_count t.flat) p
+IsMember t (member.Order p) = (1 ≤ p) × (p < phase_count t.flat)
+IsMember t (member.Span p) = IsPhase (phase_count t.flat) p
+IsMember t (member.Width p) = IsPhase (phase_count t.flat) p
+IsMember t (member.Apart i j) = IsPhase (phase_count t.flat) i × IsPhase (phase_count t.flat) j × IsTrue (feeds_of t i j)
+IsMember t (member.Opening l) = l < element_count t.flat
+IsMember t (member.Opened l) = (l < element_count t.flat) × IsFalse (element_at t.flat l).flop
+IsMember t (member.Reach j l path) = (j < element_count t.flat) × (l < element_count t.flat) × IsPath t.flat.arcs j path (input_of l)
+IsMember t (member.Setup l) = l < element_count t.flat
 IsMember t (member.Bound n) = n < length t.flat.bounds
 
 -- The link that a member stands for. A reach has the delay of its own path, which may be less than the greatest.
-abbrev pub link_of : Timing → Member → Link
-link_of t (member.Start p) = start_link p
-link_of t (member.Cycle p) = cycle_link p
-link_of t (member.Order p) = order_link p
-link_of t (member.Span p) = span_link p
-link_of t (member.Width p) = width_link t p
-link_of t (member.Apart i j) = apart_link i j
-link_of t (member.Opening l) = opening_link t l
-link_of t (member.Opened l) = opened_link t l
-link_of t (member.Reach j l path) = reach_link t j l (greatest_delay t.flat.arcs path)
-link_of t (member.Setup l) = setup_link t l
-link_of t (member.Bound n) = bound_link n (slice_index_or t.flat.bounds n no_bound)
+abbrev pub link_of : Design → Member → Link
+link_of design (member.Start p) = start_link p
+link_of design (member.Cycle p) = cycle_link p
+link_of design (member.Order p) = order_link p
+link_of design (member.Span p) = span_link p
+link_of design (member.Width p) = width_link design p
+link_of design (member.Apart i j) = apart_link i j
+link_of design (member.Opening l) = opening_link design l
+link_of design (member.Opened l) = opened_link design l
+link_of design (member.Reach j l path) = reach_link design j l (greatest_delay design.arcs path)
+link_of design (member.Setup l) = setup_link design l
+link_of design (member.Bound n) = bound_link n (slice_index_or design.bounds n no_bound)
 
-abbrev pub links_of_members : Timing → List Member → List Link
-links_of_members t members = map (link_of t) members
+abbrev pub links_of_members : Design → List Member → List Link
+links_of_members design members = map (link_of design) members
 
 abbrev pub chain_of : Certificate → List Member
 chain_of (Least schedule departures chain) = chain
@@ -78,24 +78,24 @@ number_of sums = 7
 
 -- what a test asks of a schedule and its departures
 abbrev pub SchedulePasses : Timing → Schedule → List ℤ → Test → Type 0
-SchedulePasses t s d counts = (length s.starts ≡ phase_count t) × (length s.widths ≡ phase_count t) × (length d ≡ element_count t)
+SchedulePasses t s d counts = (length s.starts ≡ phase_count t.flat) × (length s.widths ≡ phase_count t.flat) × (length d ≡ element_count t.flat)
 SchedulePasses t s d clock = KeepsClock t s
 SchedulePasses t s d bounds = All (KeepsBound s) t.flat.bounds
 SchedulePasses t s d departures = AreExact t s d
-SchedulePasses t s d setups = (l : ℕ) → l < element_count t → KeepsSetup t s d l
+SchedulePasses t s d setups = (l : ℕ) → l < element_count t.flat → KeepsSetup t s d l
 SchedulePasses t s d ring = Unit {0}
 SchedulePasses t s d sums = Unit {0}
 
 -- what the last two tests ask of a ring
 abbrev pub IsRing : Timing → List Member → Type 0
-IsRing t members = All (IsMember t) members × IsClosed (λ k. k.from) (λ k. k.to) (links_of_members t members)
+IsRing t members = All (IsMember t) members × IsClosed (λ k. k.from) (λ k. k.to) (links_of_members t.flat members)
 
 abbrev pub Passes : Timing → Certificate → Test → Type 0
 Passes t (Least s d chain) ring = IsRing t chain
-Passes t (Least s d chain) sums = IsTight (links_of_members t chain) s.cycle s.den
+Passes t (Least s d chain) sums = IsTight (links_of_members t.flat chain) s.cycle s.den
 Passes t (Least s d chain) test = SchedulePasses t s d test
 Passes t (Never chain) ring = IsRing t chain
-Passes t (Never chain) sums = IsStuck (links_of_members t chain)
+Passes t (Never chain) sums = IsStuck (links_of_members t.flat chain)
 Passes t (Never chain) test = Unit {0}
 
 -- Every test passes.

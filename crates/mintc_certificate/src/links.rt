@@ -38,7 +38,7 @@ fn path_link(flat: &Flat, from: u32, to: u32, path: &[u32]) -> Link
     requires from { from < length flat.now.elements }
     requires to { to < length flat.now.elements }
     requires path { IsPath flat.now.arcs from path.now (input_of to) }
-    ensures value { result ≡ reach_link_of (alone flat.now) from to (greatest_delay flat.now.arcs path.now) }
+    ensures value { result ≡ reach_link_of (alone flat.now).flat from to (greatest_delay flat.now.arcs path.now) }
     ensures range { IsSpan result.delay }
     ensures cycles { result.cycles ≤ 1 }
 {
@@ -63,7 +63,7 @@ pub fn link_of(flat: &Flat, member: &Member) -> Link
     requires short { ArePathsShort flat.now }
     requires named { IsNamed flat.now member.now }
     requires counted { IsCounted member.now }
-    ensures value { result ≡ link_of_member (alone flat.now) member.now }
+    ensures value { result ≡ link_of_member (alone flat.now).flat member.now }
     ensures range { IsSpan result.delay }
     ensures cycles { result.cycles ≤ 1 }
 {

@@ -23,8 +23,8 @@ pub fn sums_of(flat: &Flat, members: &[Member]) -> ChainSums
     requires short { ArePathsShort flat.now }
     requires named { All (IsNamed flat.now) members.now }
     requires chain { IsChainInRange members.now }
-    ensures delay { result.delay ≡ delay_of (links_of_members (alone flat.now) members.now) }
-    ensures cycles { result.cycles ≡ cycles_of (links_of_members (alone flat.now) members.now) }
+    ensures delay { result.delay ≡ delay_of (links_of_members (alone flat.now).flat members.now) }
+    ensures cycles { result.cycles ≡ cycles_of (links_of_members (alone flat.now).flat members.now) }
     ensures delay_range { (negsuc 8191999999999 ≤ℤ result.delay) × (result.delay ≤ℤ pos 8192000000000) }
     ensures cycles_range { (pos 0 ≤ℤ result.cycles) × (result.cycles ≤ℤ pos 4096) }
 {

@@ -62,11 +62,11 @@ module _ (design : Design) (den : ℤ) (d : List ℤ) (labels : List Labels) (ar
       let to : (element_of design p.to).phase ≡ j = ap (λ k. (element_of design k).phase) found.4 ∙ h.2.0 in
       let latch : (element_of design p.to).flop ≡ false = ap (λ k. (element_of design k).flop) found.4 ∙ h.2.1 in
       let at = found.1 in
-      list_any-from_Any (is_pair_between t i j) pairs (at.0, p, at.1, at.2, all_three (element_of design p.from).phase (element_of design p.to).phase i j (element_of design p.to).flop from to latch)
+      list_any-from_Any (is_pair_between t.flat i j) pairs (at.0, p, at.1, at.2, all_three (element_of design p.from).phase (element_of design p.to).phase i j (element_of design p.to).flop from to latch)
 
   pub pair-fed : feeds_of t i j ≡ true → IsFedFrom design labels i j
   pair-fed h =
-      let some = Any-from_list_any (is_pair_between t i j) pairs h in
+      let some = Any-from_list_any (is_pair_between t.flat i j) pairs h in
       let p : Pair = some.1 in
       let extremes : HasExtremes design p = rw some.3 at (are_pairs.each some.0 p some.2) in
       let tests = three (element_of design p.from).phase (element_of design p.to).phase i j (element_of design p.to).flop some.4 in

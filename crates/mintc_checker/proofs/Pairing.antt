@@ -44,12 +44,12 @@ module _ (design : Design) (along : List ℕ) (pairs : List Pair) (are_pairs : A
     arrives j path = arrival_along design s d (element_of design l).phase j path
 
     -- A pair's arrival is that of a trail with its greatest delay, and at least that of each trail.
-    same_arrival : (p : Pair) (path : List ℕ) → p.to ≡ l → greatest_delay design.arcs path ≡ p.max → arrives p.from path ≡ late_arrival t s d p
+    same_arrival : (p : Pair) (path : List ℕ) → p.to ≡ l → greatest_delay design.arcs path ≡ p.max → arrives p.from path ≡ late_arrival t.flat s d p
     same_arrival p path to is =
         ap (λ (v : ℤ). departure d p.from +ℤ ((element_of design p.from).dq_max +ℤ v) *ℤ s.den +ℤ shift_of s (element_of design p.from).phase (element_of design l).phase) is
         ∙ ap (λ (k : ℕ). departure d p.from +ℤ ((element_of design p.from).dq_max +ℤ p.max) *ℤ s.den +ℤ shift_of s (element_of design p.from).phase (element_of design k).phase) (sym to)
 
-    no_later : (p : Pair) (path : List ℕ) → p.to ≡ l → greatest_delay design.arcs path ≤ℤ p.max → arrives p.from path ≤ℤ late_arrival t s d p
+    no_later : (p : Pair) (path : List ℕ) → p.to ≡ l → greatest_delay design.arcs path ≤ℤ p.max → arrives p.from path ≤ℤ late_arrival t.flat s d p
     no_later p path to low =
         let sum : ((element_of design p.from).dq_max +ℤ greatest_delay design.arcs path) ≤ℤ ((element_of design p.from).dq_max +ℤ p.max) = omega (arith, ints) in
         let product = times-mono_positive ((element_of design p.from).dq_max +ℤ greatest_delay design.arcs path) ((element_of design p.from).dq_max +ℤ p.max) s.den sum positive in
@@ -58,13 +58,13 @@ module _ (design : Design) (along : List ℕ) (pairs : List Pair) (are_pairs : A
         omega (arith, ints)
 
     -- each pair to the element arrives no later than the last trail
-    pair_bound : (last : Option ℤ) → IsLastArrival design s d l last → (p : Pair) → HasExtremes design p → p.to ≡ l → IsSomeAnd last (λ z. late_arrival t s d p ≤ℤ z)
+    pair_bound : (last : Option ℤ) → IsLastArrival design s d l last → (p : Pair) → HasExtremes design p → p.to ≡ l → IsSomeAnd last (λ z. late_arrival t.flat s d p ≤ℤ z)
     pair_bound last h p extremes to =
         let trail = trail_of_pair p extremes in
         let leads : LeadsTo design (input_of l) p.from trail.0 = subst (λ k. LeadsTo design (input_of k) p.from trail.0) to trail.1 in
         subst (λ v. IsSomeAnd last (λ z. v ≤ℤ z)) (same_arrival p trail.0 to trail.2) (h.bound p.from trail.0 leads)
 
-    same : (top last : Option ℤ) → IsGreatest (late_arrival t s d) (λ (p : Pair). p.to == l) pairs top → IsLastArrival design s d l last → top ≡ last
+    same : (top last : Option ℤ) → IsGreatest (late_arrival t.flat s d) (λ (p : Pair). p.to == l) pairs top → IsLastArrival design s d l last → top ≡ last
     same None None h g = refl
     same None (Some z) h g =
         let a = g.attained in
@@ -81,7 +81,7 @@ module _ (design : Design) (along : List ℕ) (pairs : List Pair) (are_pairs : A
         let some = h.attained in
         let p : Pair = some.1 in
         let extremes : HasExtremes design p = rw some.3 at (are_pairs.each some.0 p some.2) in
-        let low : late_arrival t s d p ≤ℤ z = pair_bound (Some z) g p extremes ((same_test p.to l).0 some.4.0) in
+        let low : late_arrival t.flat s d p ≤ℤ z = pair_bound (Some z) g p extremes ((same_test p.to l).0 some.4.0) in
         let is = some.4.1 in
         let a = g.attained in
         let found = pair_of_trail l a.0 a.1 inside a.2 in
@@ -89,10 +89,10 @@ module _ (design : Design) (along : List ℕ) (pairs : List Pair) (are_pairs : A
         let path : IsPath design.arcs found.0.from a.1 (input_of found.0.to) =
         subst (λ k. IsPath design.arcs found.0.from a.1 (input_of k)) (sym found.4) (subst (λ k. IsPath design.arcs k a.1 (input_of l)) (sym found.3) (listed l a.0 a.1 a.2)) in
         let below = no_later found.0 a.1 found.4 (found.2.greatest.bound a.1 path) in
-        let top : late_arrival t s d found.0 ≤ℤ y = (rw at.2 at (h.bound at.0 found.0 at.1)) (eq-eqb found.0.to l found.4) in
+        let top : late_arrival t.flat s d found.0 ≤ℤ y = (rw at.2 at (h.bound at.0 found.0 at.1)) (eq-eqb found.0.to l found.4) in
         let from : arrives found.0.from a.1 ≡ z = ap (λ k. arrives k a.1) found.3 ∙ a.3 in
         let both : y ≡ z = omega (arith, ints) in
         ap Some both
 
     pub arrivals_are : (last : Option ℤ) → IsLastArrival design s d l last → greatest_of (late_arrivals t s d l) ≡ last
-    arrivals_are last h = same (greatest_of (late_arrivals t s d l)) last (greatest_is (late_arrival t s d) (λ (p : Pair). p.to == l) pairs) h
+    arrivals_are last h = same (greatest_of (late_arrivals t s d l)) last (greatest_is (late_arrival t.flat s d) (λ (p : Pair). p.to == l) pairs) h

@@ -55,7 +55,7 @@ fn last_arrival(clocked: &ClockedDesign<'_>, labels: &[Labels], number: usize) -
 /// When an element opens.
 fn opening(clocked: &ClockedDesign<'_>, number: usize) -> i64
     requires number { number < length clocked.now.flat.now.elements }
-    ensures value { result ≡ late_opening (alone clocked.now.flat.now) clocked.now.schedule.now number }
+    ensures value { result ≡ late_opening (alone clocked.now.flat.now).flat clocked.now.schedule.now number }
     ensures range { IsModest result }
 {
     let element = element(clocked.flat, number);
@@ -137,7 +137,7 @@ pub(crate) fn keep_setups(
     departures: &[i64],
 ) -> bool
     requires labels { AreTimelyLabels clocked.now.flat.now clocked.now.schedule.now.den departures.now labels.now }
-    ensures { Decides clocked.now.flat.now result (λ t. (l : ℕ) → l < element_count t → KeepsSetup t clocked.now.schedule.now departures.now l) }
+    ensures { Decides clocked.now.flat.now result (λ t. (l : ℕ) → l < element_count t.flat → KeepsSetup t clocked.now.schedule.now departures.now l) }
 {
     for number in 0..clocked.flat.elements().len() {
         if !keeps_setup(clocked, labels, departures, number) {

@@ -59,7 +59,7 @@ fn is_latch(flat: &Flat, element: u32) -> bool
 fn is_apart(flat: &Flat, fed: &[bool], i: u32, j: u32) -> bool
     requires { IsFed flat.now fed.now }
     ensures phases { OnTrue result (IsPhase (length flat.now.phases) i × IsPhase (length flat.now.phases) j) }
-    ensures fed { Decides flat.now result (λ t. IsPhase (phase_count t) i × IsPhase (phase_count t) j × IsTrue (feeds_of t i j)) }
+    ensures fed { Decides flat.now result (λ t. IsPhase (phase_count t.flat) i × IsPhase (phase_count t.flat) j × IsTrue (feeds_of t i j)) }
 {
     let _phases = flat.phases();
     is_phase(flat, i) && is_phase(flat, j) && fed[8 * (i as usize - 1) + (j as usize - 1)]

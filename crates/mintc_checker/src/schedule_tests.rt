@@ -84,7 +84,7 @@ fn keeps_apart(clocked: &ClockedDesign<'_>, asked: bool, i: u32, j: u32) -> bool
 fn keeps_aparts(clocked: &ClockedDesign<'_>, fed: &[bool], i: u32) -> bool
     requires phase { IsPhase (length clocked.now.schedule.now.starts) i }
     requires fed { IsFed clocked.now.flat.now fed.now }
-    ensures { Decides clocked.now.flat.now result (λ t. EachPhase t (KeepsApart t clocked.now.schedule.now i)) }
+    ensures { Decides clocked.now.flat.now result (λ t. EachPhase t.flat (KeepsApart t clocked.now.schedule.now i)) }
 {
     for index in 0..clocked.flat.phases().items().len() {
         let asked = fed[8 * (i as usize - 1) + index];
@@ -123,7 +123,7 @@ fn starts_in_order(clocked: &ClockedDesign<'_>, phase: u32) -> bool
 /// Whether a phase is as wide as its elements ask.
 fn is_wide(clocked: &ClockedDesign<'_>, phase: u32) -> bool
     requires phase { IsPhase (length clocked.now.schedule.now.starts) phase }
-    ensures { IsTrue result ↔ ((least_width (alone clocked.now.flat.now) phase *ℤ clocked.now.schedule.now.den) ≤ℤ width_of clocked.now.schedule.now phase) }
+    ensures { IsTrue result ↔ ((least_width (alone clocked.now.flat.now).flat phase *ℤ clocked.now.schedule.now.den) ≤ℤ width_of clocked.now.schedule.now phase) }
 {
     width_excess(clocked.flat, clocked.schedule, phase) <= 0
 }
@@ -131,7 +131,7 @@ fn is_wide(clocked: &ClockedDesign<'_>, phase: u32) -> bool
 /// Whether a phase is in range, starts no later than the next one, and is as wide as its elements ask.
 fn keeps_own(clocked: &ClockedDesign<'_>, phase: u32) -> bool
     requires phase { IsPhase (length clocked.now.schedule.now.starts) phase }
-    ensures { IsTrue result ↔ KeepsOwn (alone clocked.now.flat.now) clocked.now.schedule.now phase }
+    ensures { IsTrue result ↔ KeepsOwn (alone clocked.now.flat.now).flat clocked.now.schedule.now phase }
 {
     starts_in_cycle(clocked, phase)
         && fits_cycle(clocked, phase)

@@ -75,15 +75,15 @@ AreCorners-given law texts [] (t ∷ ts) some given = absurd given
 AreCorners-given law texts (d ∷ delays) (t ∷ ts) some given = alike law texts d delays t ts given.0 given.1
 
 -- So they have as many elements each.
-rest_elements : (t : Timing) (ts : List Timing) → AreCorners (t ∷ ts) → length (flat_map (λ (u : Timing). u.flat.elements) ts) ≡ length ts * element_count t
+rest_elements : (t : Timing) (ts : List Timing) → AreCorners (t ∷ ts) → length (flat_map (λ (u : Timing). u.flat.elements) ts) ≡ length ts * element_count t.flat
 rest_elements t [] corners = omega arith
 rest_elements t (u ∷ ts) corners =
-    let own : length u.flat.elements ≡ element_count t =
+    let own : length u.flat.elements ≡ element_count t.flat =
     sym (length-map u.flat.elements unnumbered) ∙ ap (λ (es : List Element). length es) corners.0.elements ∙ length-map t.flat.elements unnumbered in
     let rest = rest_elements t ts corners.1 in
     let count : length (u.flat.elements ++ flat_map (λ (x : Timing). x.flat.elements) ts) ≡ length u.flat.elements + length (flat_map (λ (x : Timing). x.flat.elements) ts) =
     length-append u.flat.elements (flat_map (λ (x : Timing). x.flat.elements) ts) in
-    let product : suc (length ts) * element_count t ≡ length ts * element_count t + element_count t = suc-mul (length ts) (element_count t) in
+    let product : suc (length ts) * element_count t.flat ≡ length ts * element_count t.flat + element_count t.flat = suc-mul (length ts) (element_count t.flat) in
     omega (arith, own, rest, count, product)
 
 pub elements-together : (ts : List Timing) → AreCorners ts → length (flat_map (λ (u : Timing). u.flat.elements) ts) ≡ elements_together ts
@@ -92,7 +92,7 @@ elements-together (t ∷ ts) corners =
     let count : length (t.flat.elements ++ flat_map (λ (x : Timing). x.flat.elements) ts) ≡ length t.flat.elements + length (flat_map (λ (x : Timing). x.flat.elements) ts) =
     length-append t.flat.elements (flat_map (λ (x : Timing). x.flat.elements) ts) in
     let rest = rest_elements t ts corners in
-    let product : suc (length ts) * element_count t ≡ length ts * element_count t + element_count t = suc-mul (length ts) (element_count t) in
+    let product : suc (length ts) * element_count t.flat ≡ length ts * element_count t.flat + element_count t.flat = suc-mul (length ts) (element_count t.flat) in
     omega (arith, rest, count, product)
 
 -- The delay files are the texts from the fourth on, as a slice has them.

@@ -12,10 +12,10 @@ use Rattle.mintc_command.specs.declared.status.Status.TheVariants.{Done, Found}
 
 -- a pass, where there are no violations, and else a fail
 pub IsJudgement-pass : (t : Timing) (s : Schedule) (violations : List Violation) (late early : List ℤ) (written text : List ℕ) → violations ≡ [] →
-    AreViolations t s violations → AreLate t s late → AreEarly t s early → IsPassText t s late early written → text ≡ written → IsJudgement t s Done text
+    AreViolations t s violations → AreLate t s late → AreEarly t s early → IsPassText t.flat s late early written → text ≡ written → IsJudgement t s Done text
 IsJudgement-pass t s violations late early written text none are_all are_late are_early is_text same =
     let P : List Violation → Type 0 = λ vs. AreViolations t s vs in
-    let Q : List ℕ → Type 0 = λ x. IsPassText t s late early x in
+    let Q : List ℕ → Type 0 = λ x. IsPassText t.flat s late early x in
     (late, early, subst P none are_all, are_late, are_early, subst Q (sym same) is_text)
 
 pub IsJudgement-fail : (t : Timing) (s : Schedule) (violations shown : List Violation) (written text : List ℕ) → violations ≢ [] → shown ≡ violations →

@@ -129,14 +129,14 @@ no_source law source files t refused is (inr (d, described, limits, h)) =
     let same : d ≡ t.flat = one_design law source files d t.flat described is.design in
     law.accepted t.flat refused is.accepted (subst (λ (x : Design). IsDesignRefusal x refused) same h)
 
-one_count : AreTextLaws → (source : Source) (files : List (List ℕ)) (t u : Timing) → Gives source files t → Gives source files u → phase_count t ≡ phase_count u
+one_count : AreTextLaws → (source : Source) (files : List (List ℕ)) (t u : Timing) → Gives source files t → Gives source files u → phase_count t.flat ≡ phase_count u.flat
 one_count law source files t u a b = ap (λ (d : Design). length d.phases) (one_design law source files t.flat u.flat a.design b.design)
 
 -- A file that is answered isn't refused.
-no_file : AreTextLaws → (job : Job) (t u : Timing) (file : List ℕ) (refused : Refusal) (status : Status) (text : List ℕ) → phase_count u ≡ phase_count t →
-    IsJobAnswer job t file status text → IsFileRefused job u file refused → ⊥
+no_file : AreTextLaws → (job : Job) (t u : Timing) (file : List ℕ) (refused : Refusal) (status : Status) (text : List ℕ) → phase_count u.flat ≡ phase_count t.flat →
+    IsJobAnswer job t file status text → IsFileRefused job u.flat file refused → ⊥
 no_file law Check t u file refused status text same (s, is, h) g =
-    no_schedule law file (phase_count t) s refused is (subst (λ (n : ℕ). IsScheduleRefused file n refused) same g)
+    no_schedule law file (phase_count t.flat) s refused is (subst (λ (n : ℕ). IsScheduleRefused file n refused) same g)
 no_file law Optimise t u file refused status text same h g = absurd g
 no_file law Verify t u file refused status text same (c, is, h) (n, named, fault) = law.no_certificate_fault file c n is fault
 no_file law Report t u file refused status text same h g = absurd g
@@ -167,8 +167,8 @@ one_number law (files ∷ corners) [] us a b = absurd a
 one_number law (files ∷ corners) (t ∷ ts) [] a b = absurd b
 one_number law (files ∷ corners) (t ∷ ts) (u ∷ us) a b =
     let counts : length ts ≡ length us = AllZip-long (Gives Files) corners ts a.1 ∙ sym (AllZip-long (Gives Files) corners us b.1) in
-    let elements : element_count t ≡ element_count u = ap (λ (d : Design). length d.elements) (one_design law Files files t.flat u.flat a.0.design b.0.design) in
-    ap (λ (n : ℕ). suc n * element_count t) counts ∙ ap (λ (n : ℕ). suc (length us) * n) elements
+    let elements : element_count t.flat ≡ element_count u.flat = ap (λ (d : Design). length d.elements) (one_design law Files files t.flat u.flat a.0.design b.0.design) in
+    ap (λ (n : ℕ). suc n * element_count t.flat) counts ∙ ap (λ (n : ℕ). suc (length us) * n) elements
 
 no_content : AreTextLaws → (command : Command) (files : List (List ℕ)) (refused : Refusal) (status : Status) (text : List ℕ) →
     IsContentAnswer command files status text → IsContentRefusal command files refused → ⊥
@@ -214,10 +214,10 @@ one_source_refusal law one source files refused other (inr (d, described, limits
     let same : e ≡ d = one_design law source files e d other_described described in
     one d refused other h (subst (λ (x : Design). IsDesignRefusal x other) same g)
 
-one_file : AreTextLaws → (job : Job) (t u : Timing) (file : List ℕ) (refused other : Refusal) → phase_count u ≡ phase_count t → IsFileRefused job t file refused →
-    IsFileRefused job u file other → refused ≡ other
+one_file : AreTextLaws → (job : Job) (t u : Timing) (file : List ℕ) (refused other : Refusal) → phase_count u.flat ≡ phase_count t.flat → IsFileRefused job t.flat file refused →
+    IsFileRefused job u.flat file other → refused ≡ other
 one_file law Check t u file refused other same a b =
-    one_schedule_refusal law file (phase_count t) refused other a (subst (λ (n : ℕ). IsScheduleRefused file n other) same b)
+    one_schedule_refusal law file (phase_count t.flat) refused other a (subst (λ (n : ℕ). IsScheduleRefused file n other) same b)
 one_file law Optimise t u file refused other same a b = absurd a
 one_file law Verify t u file refused other same (n, a, fault) (m, b, other_fault) =
     a ∙ ap (λ (k : ℕ). refusal.Syntax role.Certificate k) (law.one_certificate_fault file n m fault other_fault) ∙ sym b

@@ -34,7 +34,7 @@ AreFronts files most names fronts = AllZip (λ name front. IsFront files name mo
 -- The refusal of a command on texts that aren't too long: of the design's, and then of the file beside them; or of corners.
 abbrev pub IsContentRefusal : Command → List (List ℕ) → Refusal → Type 0
 IsContentRefusal (OfDesign job from) texts refused =
-    IsSourceRefused from texts refused ⊎ ((t : Timing) × Gives from texts t × IsFileRefused job t (own_file from texts) refused)
+    IsSourceRefused from texts refused ⊎ ((t : Timing) × Gives from texts t × IsFileRefused job t.flat (own_file from texts) refused)
 IsContentRefusal (Sample number) texts refused = IsSourceRefused source.Files texts refused
 IsContentRefusal (Corners count) texts refused = IsCornersRefusal (corners_of texts) refused
 

@@ -44,7 +44,7 @@ IsCornerStop corners c stop.OutOfMemory = Unit {0}
 -- how many elements the corners have together, each as many as the first
 abbrev pub elements_together : List Timing → ℕ
 elements_together [] = 0
-elements_together (t ∷ ts) = length (t ∷ ts) * element_count t
+elements_together (t ∷ ts) = length (t ∷ ts) * element_count t.flat
 
 -- They are more than a design may have.
 abbrev pub AreTooMany : List Timing → Refusal → Type 0

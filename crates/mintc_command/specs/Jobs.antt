@@ -6,7 +6,7 @@ use Rattle.mintc_text.specs.declared.refusals.Refusal.TheVariants as refusal
 use Rattle.mintc_text.specs.declared.refusals.Role.TheVariants as role
 use Rattle.mintc_timing.specs.declared.clocking.Schedule.{Schedule}
 use Rattle.mintc_timing.specs.declared.violation.Violation.{Violation}
-use Rattle.mintc_timing.specs.Design.{Timing, phase_count}
+use Rattle.mintc_timing.specs.Design.{Design, Timing, phase_count}
 use Rattle.mintc_timing.specs.Departures.{AreLate, AreEarly}
 use Rattle.mintc_timing.specs.Violations.{AreViolations}
 use Rattle.mintc_lines.specs.Texts.{IsScheduleText, IsScheduleFault}
@@ -52,7 +52,7 @@ IsScheduleRefused text phases refused =
 -- all its violations.
 abbrev pub IsJudgement : Timing → Schedule → Status → List ℕ → Type 0
 IsJudgement t s Done text =
-    (late : List ℤ) × (early : List ℤ) × AreViolations t s [] × AreLate t s late × AreEarly t s early × IsPassText t s late early text
+    (late : List ℤ) × (early : List ℤ) × AreViolations t s [] × AreLate t s late × AreEarly t s early × IsPassText t.flat s late early text
 IsJudgement t s Found text = (violations : List Violation) × AreViolations t s violations × (violations ≢ []) × IsFailText t s violations text
 IsJudgement t s status text = ⊥
 
@@ -87,7 +87,7 @@ abbrev pub IsOptimumAnswer : Timing → Status → List ℕ → Type 0
 IsOptimumAnswer t status text = (c : Certificate) × IsOptimum t c × (status ≡ certificate_status c) × (text ≡ text_of (lines_of c))
 
 abbrev pub IsReportAnswer : Timing → Status → List ℕ → Type 0
-IsReportAnswer t status text = (c : Certificate) × IsOptimum t c × (status ≡ certificate_status c) × IsReportText t c text
+IsReportAnswer t status text = (c : Certificate) × IsOptimum t c × (status ≡ certificate_status c) × IsReportText t.flat c text
 
 -- The answer of `sample`: the summary of an optimum.
 abbrev pub IsSummaryAnswer : ℕ → Timing → Status → List ℕ → Type 0
@@ -107,7 +107,7 @@ IsVerdictAnswer t c status text = (v : Verdict) × IsVerdict t c v × (status �
 
 -- The answer to a job on a design, and on the text of the file that stands beside the design's.
 abbrev pub IsJobAnswer : Job → Timing → List ℕ → Status → List ℕ → Type 0
-IsJobAnswer Check t file status text = (s : Schedule) × IsScheduleOf file (phase_count t) s × IsJudgement t s status text
+IsJobAnswer Check t file status text = (s : Schedule) × IsScheduleOf file (phase_count t.flat) s × IsJudgement t s status text
 IsJobAnswer Optimise t file status text = IsOptimumAnswer t status text
 IsJobAnswer Verify t file status text = (c : Certificate) × IsCertificateText file c × IsVerdictAnswer t c status text
 IsJobAnswer Report t file status text = IsReportAnswer t status text
@@ -115,10 +115,10 @@ IsJobAnswer Safe t file status text = IsSafeJobAnswer t status text
 IsJobAnswer Slack t file status text = IsSlackJobAnswer t status text
 
 -- Why the file that stands beside the design's is refused.
-abbrev pub IsFileRefused : Job → Timing → List ℕ → Refusal → Type 0
-IsFileRefused Check t file refused = IsScheduleRefused file (phase_count t) refused
-IsFileRefused Optimise t file refused = ⊥
-IsFileRefused Verify t file refused = IsCertificateRefusal file refused
-IsFileRefused Report t file refused = ⊥
-IsFileRefused Safe t file refused = ⊥
-IsFileRefused Slack t file refused = ⊥
+abbrev pub IsFileRefused : Job → Design → List ℕ → Refusal → Type 0
+IsFileRefused Check design file refused = IsScheduleRefused file (phase_count design) refused
+IsFileRefused Optimise design file refused = ⊥
+IsFileRefused Verify design file refused = IsCertificateRefusal file refused
+IsFileRefused Report design file refused = ⊥
+IsFileRefused Safe design file refused = ⊥
+IsFileRefused Slack design file refused = ⊥

@@ -27,7 +27,7 @@ use std::alloc::Global;
 fn answered(alloc: Global, job: Job, system: &System, file: &[u8]) -> Result<Answer, Stop>
     requires { length file.now ≤ LONGEST }
     ensures value { IfOk result (λ answer. IsJobAnswer job system.now file.now answer.status answer.text) }
-    ensures stop { IfErr result (StopsAt (IsFileRefused job system.now file.now)) }
+    ensures stop { IfErr result (StopsAt (IsFileRefused job system.now.flat file.now)) }
 {
     let _pairs = system.pairs();
     let answer = match job {

@@ -42,7 +42,7 @@ fn schedule_of(text: &[u8], phases: usize) -> Result<Schedule, Refusal>
 /// The judgement of a schedule: a pass, or a fail with all its violations.
 fn judged(alloc: Global, system: &System, schedule: &Schedule) -> Result<Answer, OutOfMemory>
     requires in_range { IsInRange schedule.now }
-    requires phases { length schedule.now.starts ≡ phase_count system.now }
+    requires phases { length schedule.now.starts ≡ phase_count system.now.flat }
     ensures { IfOk result (λ answer. IsJudgement system.now schedule.now answer.status answer.text) }
 {
     let flat = system.flat();
@@ -69,7 +69,7 @@ fn judged(alloc: Global, system: &System, schedule: &Schedule) -> Result<Answer,
 pub fn checked(alloc: Global, system: &System, file: &[u8]) -> Result<Answer, Stop>
     requires { length file.now ≤ LONGEST }
     ensures value { IfOk result (λ answer. IsJobAnswer Job.Check system.now file.now answer.status answer.text) }
-    ensures stop { IfErr result (StopsAt (IsFileRefused Job.Check system.now file.now)) }
+    ensures stop { IfErr result (StopsAt (IsFileRefused Job.Check system.now.flat file.now)) }
 {
     let schedule = match schedule_of(file, system.flat().phases().items().len()) {
         Ok(schedule) => schedule,

@@ -119,17 +119,17 @@ judged (k ∷ ks) = ⊎_elim
 
 module _ (t : Timing) (limits : IsDesign t.flat) (ends : HasEnds t) where
   abbrev last : ℕ
-  last = 2 * phase_count t + element_count t
+  last = 2 * phase_count t.flat + element_count t.flat
 
   between-of : All (IsBetween last) (links_of t)
-  between-of = λ n d h. let here = All-links t (λ k. (k.from < node_count t) × (k.to < node_count t)) (each_between t limits ends) n d h in (omega arith, omega arith)
+  between-of = λ n d h. let here = All-links t (λ k. (k.from < node_count t.flat) × (k.to < node_count t.flat)) (each_between t limits ends) n d h in (omega arith, omega arith)
 
   rooted-of : IsRooted last (links_of t)
-  rooted-of v low high = node_cases (λ v. 1 ≤ v → (k : Link) × Contains (links_of t) k × (k.to ≡ v) × (k.from < v)) (phase_count t) (element_count t)
+  rooted-of v low high = node_cases (λ v. 1 ≤ v → (k : Link) × Contains (links_of t) k × (k.to ≡ v) × (k.from < v)) (phase_count t.flat) (element_count t.flat)
       (λ h. absurd (omega arith))
       (λ p h some. (start_link p, (stands t).start p h, refl, omega arith))
-      (λ p h some. let one = h.0 in (width_link t p, (stands t).width p h, refl, omega arith))
-      (λ l h some. let high = (limits.each_element l no_element h).phase.1 in (opening_link t l, (stands t).opening l h, refl, omega arith))
+      (λ p h some. let one = h.0 in (width_link t.flat p, (stands t).width p h, refl, omega arith))
+      (λ l h some. let high = (limits.each_element l no_element h).phase.1 in (opening_link t.flat l, (stands t).opening l h, refl, omega arith))
       v (omega arith) low
 
   pub rings : Rings last (links_of t)
@@ -140,21 +140,21 @@ module _ (t : Timing) (limits : IsDesign t.flat) (ends : HasEnds t) where
       (brings : (v : ℕ) → 1 ≤ v → v ≤ last → Brings (links_of t) num den moment v)
     where
       abbrev values : List ℤ
-      values = map moment (range_with_len 0 (node_count t))
+      values = map moment (range_with_len 0 (node_count t.flat))
 
-      value_is : (node : ℕ) → node < node_count t → value_at values node ≡ moment node
-      value_is node h = get_or-map-range_with_len moment 0 (node_count t) node node (pos 0) h (omega arith)
+      value_is : (node : ℕ) → node < node_count t.flat → value_at values node ≡ moment node
+      value_is node h = get_or-map-range_with_len moment 0 (node_count t.flat) node node (pos 0) h (omega arith)
 
-      brought_is : (k : Link) → k.from < node_count t → earliest_end num den (value_at values) k ≡ moment k.from +ℤ k.delay *ℤ den -ℤ pos k.cycles *ℤ num
+      brought_is : (k : Link) → k.from < node_count t.flat → earliest_end num den (value_at values) k ≡ moment k.from +ℤ k.delay *ℤ den -ℤ pos k.cycles *ℤ num
       brought_is k h = ap (λ (x : ℤ). x +ℤ k.delay *ℤ den -ℤ pos k.cycles *ℤ num) (value_is k.from h)
 
-      node_at : (n : ℕ) (d : Link) → n < length (links_of t) → ((get_or (links_of t) n d).from < node_count t) × ((get_or (links_of t) n d).to < node_count t)
-      node_at n d h = All-links t (λ k. (k.from < node_count t) × (k.to < node_count t)) (each_between t limits ends) n d h
+      node_at : (n : ℕ) (d : Link) → n < length (links_of t) → ((get_or (links_of t) n d).from < node_count t.flat) × ((get_or (links_of t) n d).to < node_count t.flat)
+      node_at n d h = All-links t (λ k. (k.from < node_count t.flat) × (k.to < node_count t.flat)) (each_between t limits ends) n d h
 
       exact : AreExactMoments t num den values
       exact = record {
         moments = record {
-          count = length-map-range_with_len moment 0 (node_count t);
+          count = length-map-range_with_len moment 0 (node_count t.flat);
           origin = value_is 0 (omega arith) ∙ zero_is;
           met = λ n d h.
               let k = get_or (links_of t) n d in
@@ -164,18 +164,18 @@ module _ (t : Timing) (limits : IsDesign t.flat) (ends : HasEnds t) where
               omega (arith, ints);
         };
         latches = λ l h latch.
-            let some = brings (element_node t l) (omega arith) (omega arith) in
+            let some = brings (element_node t.flat l) (omega arith) (omega arith) in
             let found = number_of (links_of t) some.0 some.1 in
-            let below = All-contains (λ k. (k.from < node_count t) × (k.to < node_count t)) (links_of t) some.0 (λ n d g. node_at n d g) some.1 in (
+            let below = All-contains (λ k. (k.from < node_count t.flat) × (k.to < node_count t.flat)) (links_of t) some.0 (λ n d g. node_at n d g) some.1 in (
               found.0,
               found.1,
               ap (λ (x : Link). x.to) found.2 ∙ some.2,
-              value_is (element_node t l) (omega arith) ∙ some.3 ∙ sym (brought_is some.0 below.0) ∙ ap (earliest_end num den (value_at values)) (sym found.2),
+              value_is (element_node t.flat l) (omega arith) ∙ some.3 ∙ sym (brought_is some.0 below.0) ∙ ap (earliest_end num den (value_at values)) (sym found.2),
             );
       }
 
       right_of : (s : Schedule) × (d : List ℤ) × IsRight t s d × (s.cycle ≡ num) × (s.den ≡ den)
-      right_of = (schedule_of t num den values, departures_of t values, moments_are_right_lem t num den values limits ends positive exact, refl, refl)
+      right_of = (schedule_of t.flat num den values, departures_of t.flat values, moments_are_right_lem t num den values limits ends positive exact, refl, refl)
 
   -- There is one at each cycle time at which the rings fit,
   pub right_at : (num den : ℤ) → pos 1 ≤ℤ den → All (Fits num den) rings.rings → (s : Schedule) × (d : List ℤ) × IsRight t s d × (s.cycle ≡ num) × (s.den ≡ den)
@@ -185,7 +185,7 @@ module _ (t : Timing) (limits : IsDesign t.flat) (ends : HasEnds t) where
 
   -- and they fit at the cycle time of each.
   right-fits : (s : Schedule) (d : List ℤ) → IsRight t s d → All (Fits s.cycle s.den) rings.rings
-  right-fits s d right = rings.needed s.cycle s.den (λ node. value_at (moments_of t s d) node) (right_has_moments_lem t s d limits ends right).moments.met
+  right-fits s d right = rings.needed s.cycle s.den (λ node. value_at (moments_of t.flat s d) node) (right_has_moments_lem t s d limits ends right).moments.met
 
   cycle-low : (s : Schedule) (d : List ℤ) → IsRight t s d → pos 0 ≤ℤ s.cycle
   cycle-low s d right =

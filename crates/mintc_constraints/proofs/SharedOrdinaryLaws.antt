@@ -88,10 +88,10 @@ longer links k a b c h from to rest =
     (found.0 ∷ rest.0, (found.1, leaves, rw ends rest.1))
 
 module _ (t : Timing) (limits : IsDesign t.flat) where
-  element_is : (l : ℕ) → l < element_count t → IsElement (phase_count t) (element_at t l)
+  element_is : (l : ℕ) → l < element_count t.flat → IsElement (phase_count t.flat) (element_at t.flat l)
   element_is l h = limits.each_element l no_element h
 
-  pub least_width-range : (p : ℕ) → IsDelay (least_width t p)
+  pub least_width-range : (p : ℕ) → IsDelay (least_width t.flat p)
   least_width-range p =
       let width = λ (e : Element). e.width in
       let on = λ (e : Element). e.phase == p in
@@ -99,7 +99,7 @@ module _ (t : Timing) (limits : IsDesign t.flat) where
       let low = greater-least width on (pos 0) o in
       ⊎_elim (λ (is : greater_of (pos 0) o ≡ pos 0). within _ is (omega (arith, ints), omega (arith, ints)))
       (λ (some : Any (λ (e : Element). (on e ≡ true) × (width e ≡ greater_of (pos 0) o)) t.flat.elements).
-      let e : IsElement (phase_count t) some.1 = rw some.3 at (limits.each_element some.0 some.1 some.2) in
+      let e : IsElement (phase_count t.flat) some.1 = rw some.3 at (limits.each_element some.0 some.1 some.2) in
       let range = e.width in
       rw (← some.4.1) range)
       (greater-attained width on (pos 0) t.flat.elements o (greatest_is width on t.flat.elements))
@@ -107,7 +107,7 @@ module _ (t : Timing) (limits : IsDesign t.flat) where
       within : (x : ℤ) → x ≡ pos 0 → IsDelay (pos 0) → IsDelay x
       within x is h = rw is h
 
-  point_below : (x : Point) → IsPoint (phase_count t) x → point_node x < node_count t
+  point_below : (x : Point) → IsPoint (phase_count t.flat) x → point_node x < node_count t.flat
   point_below point.Origin h = omega arith
   point_below (point.Start p) h = let low = h.0 in let high = h.1 in omega arith
   point_below (point.End p) h = let high = h.1 in omega arith
@@ -117,29 +117,29 @@ module _ (t : Timing) (limits : IsDesign t.flat) where
       let phases = limits.phases.1 in
       let elements = limits.elements in
       let bounds = limits.bounds in
-      let clock = length-range_with_len 1 (phase_count t) in
-      let every = length-range_with_len 0 (element_count t) in
-      let aparts = length-flat_map_at_most (λ i. map (apart_link i) (filter (feeds_of t i) (phases_of t))) 8 (phases_of t) (fed phases) in
-      let latches : length (latches_of t) ≤ length (elements_of t) =
-      let kept = count_by-le-length (λ l. not (element_at t l).flop) (elements_of t) in let is = length-filter (λ l. not (element_at t l).flop) (elements_of t) in omega arith in
+      let clock = length-range_with_len 1 (phase_count t.flat) in
+      let every = length-range_with_len 0 (element_count t.flat) in
+      let aparts = length-flat_map_at_most (λ i. map (apart_link i) (filter (feeds_of t i) (phases_of t.flat))) 8 (phases_of t.flat) (fed phases) in
+      let latches : length (latches_of t.flat) ≤ length (elements_of t.flat) =
+      let kept = count_by-le-length (λ l. not (element_at t.flat l).flop) (elements_of t.flat) in let is = length-filter (λ l. not (element_at t.flat l).flop) (elements_of t.flat) in omega arith in
       simp (length-append, length-map, length-range_with_len, length-enumerate_from) (omega arith)
     where
-      fed : phase_count t ≤ 8 → (i : ℕ) → length (map (apart_link i) (filter (feeds_of t i) (phases_of t))) ≤ 8
+      fed : phase_count t.flat ≤ 8 → (i : ℕ) → length (map (apart_link i) (filter (feeds_of t i) (phases_of t.flat))) ≤ 8
       fed most i =
-          let kept = count_by-le-length (feeds_of t i) (phases_of t) in
-          let is = length-filter (feeds_of t i) (phases_of t) in
-          let count = length-range_with_len 1 (phase_count t) in
-          let mapped = length-map (filter (feeds_of t i) (phases_of t)) (apart_link i) in
+          let kept = count_by-le-length (feeds_of t i) (phases_of t.flat) in
+          let is = length-filter (feeds_of t i) (phases_of t.flat) in
+          let count = length-range_with_len 1 (phase_count t.flat) in
+          let mapped = length-map (filter (feeds_of t i) (phases_of t.flat)) (apart_link i) in
           omega arith
 
   module _ (ends : HasEnds t) where
-    output_below : (l : ℕ) → l < element_count t → output_node t l < node_count t
+    output_below : (l : ℕ) → l < element_count t.flat → output_node t.flat l < node_count t.flat
     output_below l h =
         let phase = (element_is l h).phase in
-        cond-below (element_at t l).flop (start_node (phase_of t l)) (element_node t l) (node_count t) (omega arith) (omega arith)
+        cond-below (element_at t.flat l).flop (start_node (phase_of t.flat l)) (element_node t.flat l) (node_count t.flat) (omega arith) (omega arith)
 
     -- each link leads from a node to a node
-    pub each_between : EachKind t (λ k. (k.from < node_count t) × (k.to < node_count t))
+    pub each_between : EachKind t (λ k. (k.from < node_count t.flat) × (k.to < node_count t.flat))
     each_between = record {
       start = λ p h. let low = h.0 in let high = h.1 in (omega arith, omega arith);
       cycle = λ p h. let low = h.0 in let high = h.1 in (omega arith, omega arith);
@@ -152,23 +152,23 @@ module _ (t : Timing) (limits : IsDesign t.flat) where
       reach = λ n h. let to = (ends n no_pair h).1 in (output_below (pair_at t n).from (ends n no_pair h).0, omega arith);
       setup = λ l h.
           let phase = (element_is l h).phase in
-          (omega arith, cond-below (element_at t l).flop (start_node (phase_of t l)) (end_node (phase_of t l)) (node_count t) (omega arith) (omega arith));
+          (omega arith, cond-below (element_at t.flat l).flop (start_node (phase_of t.flat l)) (end_node (phase_of t.flat l)) (node_count t.flat) (omega arith) (omega arith));
       bound = λ n d h.
           let b = limits.each_bound n d h in
           (point_below (get_or t.flat.bounds n d).from b.from, point_below (get_or t.flat.bounds n d).to b.to);
     }
 
   module _ (modest : HasModestPairs t) where
-    opening_gap : (l : ℕ) → l < element_count t → IsGap (opening_link t l).delay
+    opening_gap : (l : ℕ) → l < element_count t.flat → IsGap (opening_link t.flat l).delay
     opening_gap l h =
         let e = element_is l h in
         let gap = e.setup in
         let dq = e.dq_max in
         let cq = e.cq_max in
-        cond-IsGap (element_at t l).flop (neg_ℤ (element_at t l).setup) ((element_at t l).cq_max -ℤ (element_at t l).dq_max)
+        cond-IsGap (element_at t.flat l).flop (neg_ℤ (element_at t.flat l).setup) ((element_at t.flat l).cq_max -ℤ (element_at t.flat l).dq_max)
         (omega (arith, ints), omega (arith, ints)) (omega (arith, ints), omega (arith, ints))
 
-    each_ordinary : EachKind t (IsOrdinaryLink (node_count t))
+    each_ordinary : EachKind t (IsOrdinaryLink (node_count t.flat))
     each_ordinary =
         let between = each_between modest.ends in
         record {
@@ -176,52 +176,52 @@ module _ (t : Timing) (limits : IsDesign t.flat) where
           cycle = λ p h. ordinary_link (cycle_link p) (between.cycle p h) (omega arith) (omega (arith, ints), omega (arith, ints));
           order = λ p low high. ordinary_link (order_link p) (between.order p low high) (omega arith) (omega (arith, ints), omega (arith, ints));
           span = λ p h. ordinary_link (span_link p) (between.span p h) (omega arith) (omega (arith, ints), omega (arith, ints));
-          width = λ p h. let range = least_width-range p in ordinary_link (width_link t p) (between.width p h) (omega arith) (omega (arith, ints), omega (arith, ints));
+          width = λ p h. let range = least_width-range p in ordinary_link (width_link t.flat p) (between.width p h) (omega arith) (omega (arith, ints), omega (arith, ints));
           apart = λ i j g h fed. ordinary_link (apart_link i j) (between.apart i j g h fed) (crosses-at_most j i) (omega (arith, ints), omega (arith, ints));
-          opening = λ l h. let gap = opening_gap l h in ordinary_link (opening_link t l) (between.opening l h) (omega arith) (omega (arith, ints), omega (arith, ints));
+          opening = λ l h. let gap = opening_gap l h in ordinary_link (opening_link t.flat l) (between.opening l h) (omega arith) (omega (arith, ints), omega (arith, ints));
           opened = λ l h latch.
-              let gap = (element_is l h).setup in ordinary_link (opened_link t l) (between.opened l h latch) (omega arith) (omega (arith, ints), omega (arith, ints));
+              let gap = (element_is l h).setup in ordinary_link (opened_link t.flat l) (between.opened l h latch) (omega arith) (omega (arith, ints), omega (arith, ints));
           reach = λ n h.
               let delay = (element_is (pair_at t n).from (modest.ends n no_pair h).0).dq_max in
               let longest = modest.delays n no_pair h in
-              ordinary_link (reach_link t (pair_at t n).from (pair_at t n).to (pair_at t n).max) (between.reach n h)
-              (crosses-at_most (phase_of t (pair_at t n).from) (phase_of t (pair_at t n).to)) (omega (arith, ints), omega (arith, ints));
-          setup = λ l h. let gap = (element_is l h).setup in ordinary_link (setup_link t l) (between.setup l h) (omega arith) (omega (arith, ints), omega (arith, ints));
+              ordinary_link (reach_link t.flat (pair_at t n).from (pair_at t n).to (pair_at t n).max) (between.reach n h)
+              (crosses-at_most (phase_of t.flat (pair_at t n).from) (phase_of t.flat (pair_at t n).to)) (omega (arith, ints), omega (arith, ints));
+          setup = λ l h. let gap = (element_is l h).setup in ordinary_link (setup_link t.flat l) (between.setup l h) (omega arith) (omega (arith, ints), omega (arith, ints));
           bound = λ n d h.
               let b = limits.each_bound n d h in
               let gap = b.gap in
               ordinary_link (bound_link n (get_or t.flat.bounds n d)) (between.bound n d h) b.cycles (omega (arith, ints), omega (arith, ints));
         }
       where
-        ordinary_link : (k : Link) → (k.from < node_count t) × (k.to < node_count t) → k.cycles ≤ 1 → (negsuc 3999999999 ≤ℤ k.delay) × (k.delay ≤ℤ pos 2000000000) → IsOrdinaryLink (node_count t) k
+        ordinary_link : (k : Link) → (k.from < node_count t.flat) × (k.to < node_count t.flat) → k.cycles ≤ 1 → (negsuc 3999999999 ≤ℤ k.delay) × (k.delay ≤ℤ pos 2000000000) → IsOrdinaryLink (node_count t.flat) k
         ordinary_link k between cycles delay = record { from = between.0; to = between.1; cycles = cycles; delay = delay }
 
-    to_start : (p : ℕ) → IsPhase (phase_count t) p → (walk : List ℕ) × Leads (links_of t) 0 walk (start_node p)
+    to_start : (p : ℕ) → IsPhase (phase_count t.flat) p → (walk : List ℕ) × Leads (links_of t) 0 walk (start_node p)
     to_start p h = longer (links_of t) (start_link p) 0 (start_node p) (start_node p) ((stands t).start p h) refl refl ([], refl)
 
-    to_end : (p : ℕ) → IsPhase (phase_count t) p → (walk : List ℕ) × Leads (links_of t) 0 walk (end_node p)
+    to_end : (p : ℕ) → IsPhase (phase_count t.flat) p → (walk : List ℕ) × Leads (links_of t) 0 walk (end_node p)
     to_end p h =
         longer (links_of t) (start_link p) 0 (start_node p) (end_node p) ((stands t).start p h) refl refl
-        (longer (links_of t) (width_link t p) (start_node p) (end_node p) (end_node p) ((stands t).width p h) refl refl ([], refl))
+        (longer (links_of t) (width_link t.flat p) (start_node p) (end_node p) (end_node p) ((stands t).width p h) refl refl ([], refl))
 
-    to_element : (l : ℕ) → l < element_count t → (walk : List ℕ) × Leads (links_of t) 0 walk (element_node t l)
+    to_element : (l : ℕ) → l < element_count t.flat → (walk : List ℕ) × Leads (links_of t) 0 walk (element_node t.flat l)
     to_element l h =
-        let p = phase_of t l in
-        longer (links_of t) (start_link p) 0 (start_node p) (element_node t l) ((stands t).start p (element_is l h).phase) refl refl
-        (longer (links_of t) (opening_link t l) (start_node p) (element_node t l) (element_node t l) ((stands t).opening l h) refl refl ([], refl))
+        let p = phase_of t.flat l in
+        longer (links_of t) (start_link p) 0 (start_node p) (element_node t.flat l) ((stands t).start p (element_is l h).phase) refl refl
+        (longer (links_of t) (opening_link t.flat l) (start_node p) (element_node t.flat l) (element_node t.flat l) ((stands t).opening l h) refl refl ([], refl))
 
-    pub modest_ordinary : IsOrdinary (constraints_of (node_count t) (links_of t))
+    pub modest_ordinary : IsOrdinary (constraints_of (node_count t.flat) (links_of t))
     modest_ordinary =
         let some = limits.phases in
         let elements = limits.elements in
-        let one : IsPhase (phase_count t) 1 = (omega arith, omega arith) in
+        let one : IsPhase (phase_count t.flat) 1 = (omega arith, omega arith) in
         record {
           nodes = (omega arith, omega arith);
           few = let most = few_links modest.few in omega arith;
-          each = All-links t (IsOrdinaryLink (node_count t)) each_ordinary;
+          each = All-links t (IsOrdinaryLink (node_count t.flat)) each_ordinary;
           forth = plain_link (links_of t) (start_link 1) 0 1 0 ((stands t).start 1 one) refl refl refl refl;
           back = plain_link (links_of t) (cycle_link 1) 1 0 1 ((stands t).cycle 1 one) refl refl refl refl;
-          reached = node_cases (λ v. (walk : List ℕ) × Leads (links_of t) 0 walk v) (phase_count t) (element_count t) ([], refl) to_start to_end to_element;
+          reached = node_cases (λ v. (walk : List ℕ) × Leads (links_of t) 0 walk v) (phase_count t.flat) (element_count t.flat) ([], refl) to_start to_end to_element;
         }
 
 -- the pairs of a system
@@ -232,7 +232,7 @@ modest_of t limits kept = record {
   few = let most = kept.few in omega arith;
 }
 
-pub ordinary : (t : Timing) → IsDesign t.flat → IsTiming t.flat t.order t.pairs → IsOrdinary (constraints_of (node_count t) (links_of t))
+pub ordinary : (t : Timing) → IsDesign t.flat → IsTiming t.flat t.order t.pairs → IsOrdinary (constraints_of (node_count t.flat) (links_of t))
 ordinary t limits kept = modest_ordinary t limits (modest_of t limits kept)
 
 pub modest_links_are_ordinary_lem : ModestLinksAreOrdinary

@@ -24,58 +24,58 @@ use Rattle.mintc_constraints.proofs.SharedOrdinaryLaws.{each_between, number_of}
 
 module _ (t : Timing) (s : Schedule) (d : List ℤ) (limits : IsDesign t.flat) (ends : HasEnds t) (right : IsRight t s d) where
   abbrev moment : ℕ → ℤ
-  moment node = node_time t s d node
+  moment node = node_time t.flat s d node
 
   -- the list of the moments
-  value_is : (node : ℕ) → node < node_count t → value_at (moments_of t s d) node ≡ moment node
-  value_is node h = get_or-map-range_with_len (node_time t s d) 0 (node_count t) node node (pos 0) h (omega arith)
+  value_is : (node : ℕ) → node < node_count t.flat → value_at (moments_of t.flat s d) node ≡ moment node
+  value_is node h = get_or-map-range_with_len (node_time t.flat s d) 0 (node_count t.flat) node node (pos 0) h (omega arith)
 
-  end_is : (k : Link) → k.from < node_count t → earliest_end s.cycle s.den (value_at (moments_of t s d)) k ≡ earliest_end s.cycle s.den moment k
+  end_is : (k : Link) → k.from < node_count t.flat → earliest_end s.cycle s.den (value_at (moments_of t.flat s d)) k ≡ earliest_end s.cycle s.den moment k
   end_is k h = ap (λ (x : ℤ). x +ℤ k.delay *ℤ s.den -ℤ pos k.cycles *ℤ s.cycle) (value_is k.from h)
 
-  all_met : All (IsMet s.cycle s.den (value_at (moments_of t s d))) (links_of t)
+  all_met : All (IsMet s.cycle s.den (value_at (moments_of t.flat s d))) (links_of t)
   all_met = λ e other h.
       let k = get_or (links_of t) e other in
-      let between = All-links t (λ k. (k.from < node_count t) × (k.to < node_count t)) (each_between t limits ends) e other h in
-      let meets = All-links t (Meets t s d) (each_met t s d limits ends right) e other h in
+      let between = All-links t (λ k. (k.from < node_count t.flat) × (k.to < node_count t.flat)) (each_between t limits ends) e other h in
+      let meets = All-links t (Meets t.flat s d) (each_met t s d limits ends right) e other h in
       let from = end_is k between.0 in
       let to = value_is k.to between.1 in
       omega (arith, ints)
 
   -- A link that brings a latch its moment.
-  brings : (l : ℕ) (k : Link) → Contains (links_of t) k → k.from < node_count t → k.to ≡ element_node t l → l < element_count t →
-      moment (element_node t l) ≡ earliest_end s.cycle s.den moment k → IsBrought (links_of t) s.cycle s.den (moments_of t s d) (element_node t l)
+  brings : (l : ℕ) (k : Link) → Contains (links_of t) k → k.from < node_count t.flat → k.to ≡ element_node t.flat l → l < element_count t.flat →
+      moment (element_node t.flat l) ≡ earliest_end s.cycle s.den moment k → IsBrought (links_of t) s.cycle s.den (moments_of t.flat s d) (element_node t.flat l)
   brings l k stands_there below to h is =
       let found = number_of (links_of t) k stands_there in
-      let inside : element_node t l < node_count t = omega arith in (
+      let inside : element_node t.flat l < node_count t.flat = omega arith in (
         found.0,
         found.1,
         ap (λ (x : Link). x.to) found.2 ∙ to,
-        value_is (element_node t l) inside ∙ is ∙ sym (end_is k below) ∙ ap (earliest_end s.cycle s.den (value_at (moments_of t s d))) (sym found.2),
+        value_is (element_node t.flat l) inside ∙ is ∙ sym (end_is k below) ∙ ap (earliest_end s.cycle s.den (value_at (moments_of t.flat s d))) (sym found.2),
       )
 
-  latch_brought : (l : ℕ) → l < element_count t → (element_at t l).flop ≡ false → IsBrought (links_of t) s.cycle s.den (moments_of t s d) (element_node t l)
+  latch_brought : (l : ℕ) → l < element_count t.flat → (element_at t.flat l).flop ≡ false → IsBrought (links_of t) s.cycle s.den (moments_of t.flat s d) (element_node t.flat l)
   latch_brought l h latch =
       let is = departs t s d limits ends right l h latch in
       let node = moment-latch t s d limits ends right l latch in
       ⊎_elim
-      (λ (opens : latest t s d l ≡ late_opening t s l).
-      let start = node_time-start t s d (phase_of t l) (limits.each_element l no_element h).phase in
-      brings l (opening_link t l) ((stands t).opening l h) ((each_between t limits ends).opening l h).0 refl h (rw latch (omega (arith, ints))))
+      (λ (opens : latest t s d l ≡ late_opening t.flat s l).
+      let start = node_time-start t s d (phase_of t.flat l) (limits.each_element l no_element h).phase in
+      brings l (opening_link t.flat l) ((stands t).opening l h) ((each_between t limits ends).opening l h).0 refl h (rw latch (omega (arith, ints))))
       (λ (by : ArrivesBy t s d l (latest t s d l)).
       let n = by.0 in
       let to : (pair_at t n).to ≡ l = by.2 in
       let arrival = by.3 in
-      let phase : start_of s (phase_of t (pair_at t n).to) ≡ start_of s (phase_of t l) = ap (λ (m : ℕ). start_of s (phase_of t m)) to in
+      let phase : start_of s (phase_of t.flat (pair_at t n).to) ≡ start_of s (phase_of t.flat l) = ap (λ (m : ℕ). start_of s (phase_of t.flat m)) to in
       let all = arrival_is t s d limits ends right n by.1 in
-      brings l (reach_link t (pair_at t n).from (pair_at t n).to (pair_at t n).max) ((stands t).reach n by.1) ((each_between t limits ends).reach n by.1).0
-      (ap (element_node t) to) h (omega (arith, ints)))
+      brings l (reach_link t.flat (pair_at t n).from (pair_at t n).to (pair_at t n).max) ((stands t).reach n by.1) ((each_between t limits ends).reach n by.1).0
+      (ap (element_node t.flat) to) h (omega (arith, ints)))
       (latest-attained t s d l)
 
-  pub moments : AreExactMoments t s.cycle s.den (moments_of t s d)
+  pub moments : AreExactMoments t s.cycle s.den (moments_of t.flat s d)
   moments = record {
     moments = record {
-      count = length-map-range_with_len (node_time t s d) 0 (node_count t);
+      count = length-map-range_with_len (node_time t.flat s d) 0 (node_count t.flat);
       origin = value_is 0 (omega arith);
       met = all_met;
     };

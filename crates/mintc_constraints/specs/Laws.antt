@@ -3,19 +3,19 @@ use Rattle.std.specs.Prelude.{◌≡◌, ◌≢◌, ◌+◌, ◌*◌, ◌↔◌,
 use Rattle.mintc_walks.specs.declared.network.Arc.{Arc}
 use Rattle.mintc_walks.specs.Walks.{Leads as LeadsByArcs}
 use Rattle.mintc_timing.specs.declared.link.Link.{Link}
-use Rattle.mintc_timing.specs.Design.{Timing, phase_count, element_count}
+use Rattle.mintc_timing.specs.Design.{Design, Timing, phase_count, element_count}
 use Rattle.mintc_timing.specs.Limits.{IsDesign}
 use Rattle.mintc_timing.specs.Order.{IsTiming}
 use Rattle.mintc_timing.specs.Links.{links_of, IsChain, link_at}
 use Rattle.mintc_constraints.specs.Ordinary.{IsOrdinary, Leads, constraints_of}
 
 -- How many nodes a design has: time 0, the start and the end of each phase, and a moment for each element.
-abbrev pub node_count : Timing → ℕ
-node_count t = 1 + 2 * phase_count t + element_count t
+abbrev pub node_count : Design → ℕ
+node_count design = 1 + 2 * phase_count design + element_count design
 
 -- The links of a system are ordinary.
 abbrev pub LinksAreOrdinary : Type 0
-LinksAreOrdinary = (t : Timing) → IsDesign t.flat → IsTiming t.flat t.order t.pairs → IsOrdinary (constraints_of (node_count t) (links_of t))
+LinksAreOrdinary = (t : Timing) → IsDesign t.flat → IsTiming t.flat t.order t.pairs → IsOrdinary (constraints_of (node_count t.flat) (links_of t))
 
 -- A walk over links is one, with the same numbers, over arcs that lead from and to the same nodes, whatever they weigh.
 abbrev pub WalksAreOfArcs : Type 0

@@ -41,7 +41,7 @@ fn append_if(items: &mut Vec<Link>, asked: bool, link: Link) -> Result<(), OutOf
 
 /// Appends the links of starts.
 fn append_starts(system: &System, items: &mut Vec<Link>) -> Result<(), OutOfMemory>
-    ensures { OnOk result (items.new.items ≡ items.old.items ++ map start_link_of (phases_of system.now)) }
+    ensures { OnOk result (items.new.items ≡ items.old.items ++ map start_link_of (phases_of system.now.flat)) }
 {
     for index in 0..phases(system) {
         append(items, start_link(index + 1))?;
@@ -51,7 +51,7 @@ fn append_starts(system: &System, items: &mut Vec<Link>) -> Result<(), OutOfMemo
 
 /// Appends the links of the cycle.
 fn append_cycles(system: &System, items: &mut Vec<Link>) -> Result<(), OutOfMemory>
-    ensures { OnOk result (items.new.items ≡ items.old.items ++ map cycle_link_of (phases_of system.now)) }
+    ensures { OnOk result (items.new.items ≡ items.old.items ++ map cycle_link_of (phases_of system.now.flat)) }
 {
     for index in 0..phases(system) {
         append(items, cycle_link(index + 1))?;
@@ -61,7 +61,7 @@ fn append_cycles(system: &System, items: &mut Vec<Link>) -> Result<(), OutOfMemo
 
 /// Appends the links of the order.
 fn append_orders(system: &System, items: &mut Vec<Link>) -> Result<(), OutOfMemory>
-    ensures { OnOk result (items.new.items ≡ items.old.items ++ map order_link_of (range_with_len 1 (phase_count system.now - 1))) }
+    ensures { OnOk result (items.new.items ≡ items.old.items ++ map order_link_of (range_with_len 1 (phase_count system.now.flat - 1))) }
 {
     for index in 0..phases(system) - 1 {
         append(items, order_link(index + 1))?;
@@ -71,7 +71,7 @@ fn append_orders(system: &System, items: &mut Vec<Link>) -> Result<(), OutOfMemo
 
 /// Appends the links of spans.
 fn append_spans(system: &System, items: &mut Vec<Link>) -> Result<(), OutOfMemory>
-    ensures { OnOk result (items.new.items ≡ items.old.items ++ map span_link_of (phases_of system.now)) }
+    ensures { OnOk result (items.new.items ≡ items.old.items ++ map span_link_of (phases_of system.now.flat)) }
 {
     for index in 0..phases(system) {
         append(items, span_link(index + 1))?;
@@ -81,7 +81,7 @@ fn append_spans(system: &System, items: &mut Vec<Link>) -> Result<(), OutOfMemor
 
 /// Appends the links of widths.
 fn append_widths(system: &System, items: &mut Vec<Link>) -> Result<(), OutOfMemory>
-    ensures { OnOk result (items.new.items ≡ items.old.items ++ map (width_link_of system.now) (phases_of system.now)) }
+    ensures { OnOk result (items.new.items ≡ items.old.items ++ map (width_link_of system.now.flat) (phases_of system.now.flat)) }
 {
     for index in 0..phases(system) {
         append(items, width_link(system.flat(), index + 1))?;
@@ -96,10 +96,10 @@ fn append_apart(
     i: u32,
     items: &mut Vec<Link>,
 ) -> Result<(), OutOfMemory>
-    requires phase { IsPhase (phase_count system.now) i }
+    requires phase { IsPhase (phase_count system.now.flat) i }
     requires count { length fed.now ≡ 64 }
     requires table { (i j : ℕ) → IsPhase 8 i → IsPhase 8 j → slice_index_or fed.now (8 * (i - 1) + (j - 1)) false ≡ feeds_of system.now i j }
-    ensures { OnOk result (items.new.items ≡ items.old.items ++ map (apart_link_of i) (filter (feeds_of system.now i) (phases_of system.now))) }
+    ensures { OnOk result (items.new.items ≡ items.old.items ++ map (apart_link_of i) (filter (feeds_of system.now i) (phases_of system.now.flat))) }
 {
     for index in 0..phases(system) {
         let asked = fed[8 * (i as usize - 1) + index as usize];
@@ -110,7 +110,7 @@ fn append_apart(
 
 /// Appends the links that set phases apart.
 fn append_aparts(system: &System, items: &mut Vec<Link>) -> Result<(), OutOfMemory>
-    ensures { OnOk result (items.new.items ≡ items.old.items ++ flat_map (λ i. map (apart_link_of i) (filter (feeds_of system.now i) (phases_of system.now))) (phases_of system.now)) }
+    ensures { OnOk result (items.new.items ≡ items.old.items ++ flat_map (λ i. map (apart_link_of i) (filter (feeds_of system.now i) (phases_of system.now.flat))) (phases_of system.now.flat)) }
 {
     let fed = feeds(system);
     for index in 0..phases(system) {
@@ -121,7 +121,7 @@ fn append_aparts(system: &System, items: &mut Vec<Link>) -> Result<(), OutOfMemo
 
 /// Appends the links of openings.
 fn append_openings(system: &System, items: &mut Vec<Link>) -> Result<(), OutOfMemory>
-    ensures { OnOk result (items.new.items ≡ items.old.items ++ map (opening_link_of system.now) (elements_of system.now)) }
+    ensures { OnOk result (items.new.items ≡ items.old.items ++ map (opening_link_of system.now.flat) (elements_of system.now.flat)) }
 {
     for number in 0..elements(system) {
         append(items, opening_link(system.flat(), number))?;
@@ -131,7 +131,7 @@ fn append_openings(system: &System, items: &mut Vec<Link>) -> Result<(), OutOfMe
 
 /// Appends the links of the latches' setups since their phases' starts.
 fn append_openeds(system: &System, items: &mut Vec<Link>) -> Result<(), OutOfMemory>
-    ensures { OnOk result (items.new.items ≡ items.old.items ++ map (opened_link_of system.now) (latches_of system.now)) }
+    ensures { OnOk result (items.new.items ≡ items.old.items ++ map (opened_link_of system.now.flat) (latches_of system.now.flat)) }
 {
     for number in 0..elements(system) {
         append_if(
@@ -145,7 +145,7 @@ fn append_openeds(system: &System, items: &mut Vec<Link>) -> Result<(), OutOfMem
 
 /// Appends the links of the pairs.
 fn append_reaches(system: &System, items: &mut Vec<Link>) -> Result<(), OutOfMemory>
-    ensures { OnOk result (items.new.items ≡ items.old.items ++ map (λ p. reach_link system.now p.from p.to p.max) system.now.pairs) }
+    ensures { OnOk result (items.new.items ≡ items.old.items ++ map (λ p. reach_link system.now.flat p.from p.to p.max) system.now.pairs) }
 {
     for number in 0..system.pairs().len() {
         append(items, reach(system, number))?;
@@ -155,7 +155,7 @@ fn append_reaches(system: &System, items: &mut Vec<Link>) -> Result<(), OutOfMem
 
 /// Appends the links of setups.
 fn append_setups(system: &System, items: &mut Vec<Link>) -> Result<(), OutOfMemory>
-    ensures { OnOk result (items.new.items ≡ items.old.items ++ map (setup_link_of system.now) (elements_of system.now)) }
+    ensures { OnOk result (items.new.items ≡ items.old.items ++ map (setup_link_of system.now.flat) (elements_of system.now.flat)) }
 {
     for number in 0..elements(system) {
         append(items, setup_link(system.flat(), number))?;
@@ -194,7 +194,7 @@ fn append_all(system: &System, items: &mut Vec<Link>) -> Result<(), OutOfMemory>
 /// The links of a system: of each kind in turn, inside a kind by number. Node 0 is time 0; then come the start and the end
 /// of each phase, and then a moment for each element. Delays are in femtoseconds.
 pub fn links(alloc: Global, system: &System) -> Result<LinkList, OutOfMemory>
-    ensures nodes { IfOk result (λ list. list.nodes ≡ 1 + 2 * phase_count system.now + element_count system.now) }
+    ensures nodes { IfOk result (λ list. list.nodes ≡ 1 + 2 * phase_count system.now.flat + element_count system.now.flat) }
     ensures links { IfOk result (λ list. list.links ≡ links_of system.now) }
 {
     let mut items = Vec::new(alloc);

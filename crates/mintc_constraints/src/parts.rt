@@ -11,7 +11,7 @@ use mintc_timing::{Link, System};
 
 /// How many phases there are.
 pub(crate) fn phases(system: &System) -> u32
-    ensures value { result ≡ phase_count system.now }
+    ensures value { result ≡ phase_count system.now.flat }
     ensures kept { IsDesign system.now.flat }
 {
     system.flat().phases().items().len() as u32
@@ -19,7 +19,7 @@ pub(crate) fn phases(system: &System) -> u32
 
 /// How many elements there are.
 pub(crate) fn elements(system: &System) -> u32
-    ensures value { result ≡ element_count system.now }
+    ensures value { result ≡ element_count system.now.flat }
     ensures range { result ≤ 2000 }
 {
     system.flat().elements().len() as u32
@@ -27,15 +27,15 @@ pub(crate) fn elements(system: &System) -> u32
 
 /// Whether an element is a latch, a listed port among them.
 pub(crate) fn is_latch(system: &System, number: u32) -> bool
-    requires { number < element_count system.now }
-    ensures { result ≡ not (element_at system.now number).flop }
+    requires { number < element_count system.now.flat }
+    ensures { result ≡ not (element_at system.now.flat number).flop }
 {
     !system.element(number).flop
 }
 
 /// How many nodes there are.
 pub(crate) fn nodes(system: &System) -> u32
-    ensures value { result ≡ node_count system.now }
+    ensures value { result ≡ node_count system.now.flat }
     ensures design { IsDesign system.now.flat }
     ensures timing { IsTiming system.now.flat system.now.order system.now.pairs }
 {
@@ -46,7 +46,7 @@ pub(crate) fn nodes(system: &System) -> u32
 /// The data of a pair's second element comes after that of its first.
 pub(crate) fn reach(system: &System, number: usize) -> Link
     requires { number < length system.now.pairs }
-    ensures { result ≡ reach_link_of system.now (pair_at system.now number).from (pair_at system.now number).to (pair_at system.now number).max }
+    ensures { result ≡ reach_link_of system.now.flat (pair_at system.now number).from (pair_at system.now number).to (pair_at system.now number).max }
 {
     let pair = system.pair(number);
     reach_link(system.flat(), pair.from, pair.to, pair.max)

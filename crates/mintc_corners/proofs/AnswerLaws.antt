@@ -40,7 +40,7 @@ sayable_of (t ∷ ts) are room cycle found =
     sayable t ts are.alike are.kept (omega arith) (omega arith) room cycle found
 
 least_of : (systems : List Timing) → AreFew systems → (room : Space) (cycle : Ratio) → IsLeast (list_of systems) cycle room → (s : Schedule) (ds : List (List ℤ)) (members : List CornerMember) →
-    s ≡ schedule_of (get_or systems 0 no_timing) cycle.num cycle.den room.values → ds ≡ departures_of_all systems room.values → StandForAll systems room.chain members → IsInRange s → All AreDeparturesInRange ds →
+    s ≡ schedule_of (get_or systems 0 no_timing).flat cycle.num cycle.den room.values → ds ≡ departures_of_all systems room.values → StandForAll systems room.chain members → IsInRange s → All AreDeparturesInRange ds →
     IsOptimumOf systems (Least s ds members)
 least_of [] are room cycle found s ds members s_is ds_are stand schedule_in departures_in = absurd are.alike
 least_of (t ∷ ts) are room cycle found s ds members s_is ds_are stand schedule_in departures_in =
@@ -70,11 +70,11 @@ module _ (systems : List Timing) (few : length systems ≤ 4) (some : 1 ≤ leng
     answer_sayable cycle values is values_are = subst (AreSayableOfAll systems) (sym values_are) (sayable_of systems are room cycle (found (outcome.Least cycle) is))
 
     pub answer_least : (cycle : Ratio) (numbers : List ℕ) (values moments : List ℤ) (s : Schedule) (ds : List (List ℤ)) (members : List CornerMember) → o ≡ outcome.Least cycle → numbers ≡ room.chain → values ≡ room.values →
-        moments ≡ room.values → s ≡ schedule_of (get_or systems 0 no_timing) cycle.num cycle.den values → ds ≡ departures_of_all systems moments → StandForAll systems numbers members → IsInRange s →
+        moments ≡ room.values → s ≡ schedule_of (get_or systems 0 no_timing).flat cycle.num cycle.den values → ds ≡ departures_of_all systems moments → StandForAll systems numbers members → IsInRange s →
         All AreDeparturesInRange ds → IsOptimumOf systems (Least s ds members)
     answer_least cycle numbers values moments s ds members is numbers_are values_are moments_are s_is ds_are stand =
         least_of systems are room cycle (found (outcome.Least cycle) is) s ds members
-        (s_is ∙ ap (λ (v : List ℤ). schedule_of (get_or systems 0 no_timing) cycle.num cycle.den v) values_are)
+        (s_is ∙ ap (λ (v : List ℤ). schedule_of (get_or systems 0 no_timing).flat cycle.num cycle.den v) values_are)
         (ds_are ∙ ap (λ (v : List ℤ). departures_of_all systems v) moments_are)
         (subst (λ (ns : List ℕ). StandForAll systems ns members) numbers_are stand)
 

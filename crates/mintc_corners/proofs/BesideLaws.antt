@@ -30,7 +30,7 @@ max-times x y den w first second =
     (λ more. let is : int_max x y ≡ x = omega (arith, ints, clamps) in rw is first)
 
 -- A clock that keeps what one timing asks, keeps what another asks that asks less.
-clock-part : (b x : Timing) (s : Schedule) → phase_count x ≡ phase_count b → ((p : ℕ) → least_width x p ≤ℤ least_width b p) → ((i j : ℕ) → feeds_of x i j ≡ true → feeds_of b i j ≡ true) →
+clock-part : (b x : Timing) (s : Schedule) → phase_count x.flat ≡ phase_count b.flat → ((p : ℕ) → least_width x.flat p ≤ℤ least_width b.flat p) → ((i j : ℕ) → feeds_of x i j ≡ true → feeds_of b i j ≡ true) →
     KeepsClock b s → KeepsClock x s
 clock-part b x s same narrower feeds k = record {
   den = k.den;
@@ -38,7 +38,7 @@ clock-part b x s same narrower feeds k = record {
   widths = k.widths ∙ sym same;
   each = λ p low high.
       let here = k.each p low (omega arith) in
-      let less = times-mono_positive (least_width x p) (least_width b p) s.den (narrower p) k.den in
+      let less = times-mono_positive (least_width x.flat p) (least_width b.flat p) s.den (narrower p) k.den in
       record {
         start = here.start;
         span = here.span;
@@ -68,14 +68,14 @@ abbrev Asks : Schedule → Element × List ℤ × ℤ → Type 0
 Asks s x = MatchBool x.0.flop (IfSome (greatest_of x.1) (λ a. (a +ℤ x.0.setup *ℤ s.den) ≤ℤ pos 0)) ((int_max (pos 0) x.2 +ℤ x.0.setup *ℤ s.den) ≤ℤ width_of s x.0.phase)
 
 abbrev timed : Timing → Schedule → List ℤ → ℕ → Element × List ℤ × ℤ
-timed t s f l = (element_at t l, late_arrivals t s f l, departure f l)
+timed t s f l = (element_at t.flat l, late_arrivals t s f l, departure f l)
 
 same-timed : (x y : Element) (xs ys : List ℤ) (a b : ℤ) → x ≡ y → xs ≡ ys → a ≡ b → ◌≡◌ {A = Element × List ℤ × ℤ} (x, xs, a) (y, ys, b)
 same-timed x y xs ys a b e f g = rw (e, f, g) refl
 
-module _ (t u : Timing) (s : Schedule) (f : List ℤ) (clock : HaveOneClock t u) (ends : HasEnds t) where
+module _ (t u : Timing) (s : Schedule) (f : List ℤ) (clock : HaveOneClock t.flat u.flat) (ends : HasEnds t) where
   abbrev n : ℕ
-  n = element_count t
+  n = element_count t.flat
 
   abbrev b : Timing
   b = beside t u
@@ -89,10 +89,10 @@ module _ (t u : Timing) (s : Schedule) (f : List ℤ) (clock : HaveOneClock t u)
   abbrev HasEnd : Pair → Type 0
   HasEnd p = (p.from < n) × (p.to < n)
 
-  element-left : (l : ℕ) → l < n → element_at b l ≡ element_at t l
+  element-left : (l : ℕ) → l < n → element_at b.flat l ≡ element_at t.flat l
   element-left l h = element_beside_left t u l h
 
-  element-right : (l : ℕ) → element_at b (n + l) ≡ element_at u l
+  element-right : (l : ℕ) → element_at b.flat (n + l) ≡ element_at u.flat l
   element-right l = element_beside_right t u l
 
   departs-left : (l : ℕ) → l < n → departure f l ≡ departure d l
@@ -101,10 +101,10 @@ module _ (t u : Timing) (s : Schedule) (f : List ℤ) (clock : HaveOneClock t u)
   departs-right : (l : ℕ) → departure f (n + l) ≡ departure e l
   departs-right l = sym (get_or-drop n f l (pos 0))
 
-  arrival-left : (p : Pair) → HasEnd p → late_arrival b s f p ≡ late_arrival t s d p
+  arrival-left : (p : Pair) → HasEnd p → late_arrival b.flat s f p ≡ late_arrival t.flat s d p
   arrival-left p h = arrival-same s _ _ _ _ _ _ p.max (departs-left p.from h.0) (element-left p.from h.0) (element-left p.to h.1)
 
-  arrival-right : (q : Pair) → late_arrival b s f (shifted_pair n q) ≡ late_arrival u s e q
+  arrival-right : (q : Pair) → late_arrival b.flat s f (shifted_pair n q) ≡ late_arrival u.flat s e q
   arrival-right q = arrival-same s _ _ _ _ _ _ q.max (departs-right q.from) (element-right q.from) (element-right q.to)
 
   none-right : (l : ℕ) → l < n → (qs : List Pair) → filter (λ (p : Pair). p.to == l) (map (shifted_pair n) qs) ≡ []
@@ -120,26 +120,26 @@ module _ (t u : Timing) (s : Schedule) (f : List ℤ) (clock : HaveOneClock t u)
       let no : (p.to == (n + l)) ≡ false = grind (arith, nat_tests) in
       rw no (none-left l ps (All-tail HasEnd p ps h))
 
-  some-left : (l : ℕ) (ps : List Pair) → All HasEnd ps → map (late_arrival b s f) (filter (λ (p : Pair). p.to == l) ps) ≡ map (late_arrival t s d) (filter (λ (p : Pair). p.to == l) ps)
+  some-left : (l : ℕ) (ps : List Pair) → All HasEnd ps → map (late_arrival b.flat s f) (filter (λ (p : Pair). p.to == l) ps) ≡ map (late_arrival t.flat s d) (filter (λ (p : Pair). p.to == l) ps)
   some-left l [] h = refl
-  some-left l (p ∷ ps) h = kept-more (late_arrival b s f) (late_arrival t s d) p p _ _ (p.to == l) (arrival-left p (All-head HasEnd p ps h)) (some-left l ps (All-tail HasEnd p ps h))
+  some-left l (p ∷ ps) h = kept-more (late_arrival b.flat s f) (late_arrival t.flat s d) p p _ _ (p.to == l) (arrival-left p (All-head HasEnd p ps h)) (some-left l ps (All-tail HasEnd p ps h))
 
-  some-right : (l : ℕ) (qs : List Pair) → map (late_arrival b s f) (filter (λ (p : Pair). p.to == n + l) (map (shifted_pair n) qs)) ≡ map (late_arrival u s e) (filter (λ (p : Pair). p.to == l) qs)
+  some-right : (l : ℕ) (qs : List Pair) → map (late_arrival b.flat s f) (filter (λ (p : Pair). p.to == n + l) (map (shifted_pair n) qs)) ≡ map (late_arrival u.flat s e) (filter (λ (p : Pair). p.to == l) qs)
   some-right l [] = refl
   some-right l (q ∷ qs) =
       let same : ((n + q.to) == (n + l)) ≡ (q.to == l) = grind (arith, nat_tests) in
-      rw same (kept-more (late_arrival b s f) (late_arrival u s e) (shifted_pair n q) q _ _ (q.to == l) (arrival-right q) (some-right l qs))
+      rw same (kept-more (late_arrival b.flat s f) (late_arrival u.flat s e) (shifted_pair n q) q _ _ (q.to == l) (arrival-right q) (some-right l qs))
 
   arrivals-left : (l : ℕ) → l < n → late_arrivals b s f l ≡ late_arrivals t s d l
   arrivals-left l h =
-      ap (map (late_arrival b s f))
+      ap (map (late_arrival b.flat s f))
       (filter-append (λ (p : Pair). p.to == l) t.pairs (map (shifted_pair n) u.pairs)
       ∙ ap (λ (ps : List Pair). filter (λ (p : Pair). p.to == l) t.pairs ++ ps) (none-right l h u.pairs) ∙ append-nil (filter (λ (p : Pair). p.to == l) t.pairs))
       ∙ some-left l t.pairs ends
 
   arrivals-right : (l : ℕ) → late_arrivals b s f (n + l) ≡ late_arrivals u s e l
   arrivals-right l =
-      ap (map (late_arrival b s f))
+      ap (map (late_arrival b.flat s f))
       (filter-append (λ (p : Pair). p.to == n + l) t.pairs (map (shifted_pair n) u.pairs)
       ∙ ap (λ (ps : List Pair). ps ++ filter (λ (p : Pair). p.to == n + l) (map (shifted_pair n) u.pairs)) (none-left l t.pairs ends))
       ∙ some-right l u.pairs
@@ -177,7 +177,7 @@ module _ (t u : Timing) (s : Schedule) (f : List ℤ) (clock : HaveOneClock t u)
           start = here.start;
           span = here.span;
           order = here.order;
-          wide = rw (width_beside t u p) (max-times (least_width t p) (least_width u p) s.den (width_of s p) here.wide other.wide);
+          wide = rw (width_beside t u p) (max-times (least_width t.flat p) (least_width u.flat p) s.den (width_of s p) here.wide other.wide);
           apart = λ j g h fed. ⊎_elim
               (λ (own : feeds_of t p j ≡ true). here.apart j g h own)
               (λ (its : feeds_of u p j ≡ true). other.apart j g (omega arith) its)
@@ -186,9 +186,9 @@ module _ (t u : Timing) (s : Schedule) (f : List ℤ) (clock : HaveOneClock t u)
   }
 
   abbrev m : ℕ
-  m = element_count u
+  m = element_count u.flat
 
-  count-beside : element_count b ≡ n + m
+  count-beside : element_count b.flat ≡ n + m
   count-beside = length-append t.flat.elements u.flat.elements
 
   right-left : IsRight b s f → IsRight t s d
@@ -218,7 +218,7 @@ module _ (t u : Timing) (s : Schedule) (f : List ℤ) (clock : HaveOneClock t u)
       }
 
   -- what holds of each element of the one and of the other, holds of each
-  each-element : (P : ℕ → Type 0) → ((l : ℕ) → l < n → P l) → ((l : ℕ) → l < m → P (n + l)) → (l : ℕ) → l < element_count b → P l
+  each-element : (P : ℕ → Type 0) → ((l : ℕ) → l < n → P l) → ((l : ℕ) → l < m → P (n + l)) → (l : ℕ) → l < element_count b.flat → P l
   each-element P left right l h = ⊎_elim (λ (low : l < n). left l low)
       (λ (high : n ≤ l).
       let all = count-beside in
@@ -248,8 +248,8 @@ beside_is_both_lem t u s f clock ends =
     ((λ right. (right-left t u s f clock ends right, right-right t u s f clock ends right)), (λ both. right-beside t u s f clock ends both.0 both.1))
 
 -- the same of departures in two parts
-pub beside_in_parts : (t u : Timing) (s : Schedule) (d e : List ℤ) → HaveOneClock t u → HasEnds t → length d ≡ element_count t → IsRight (beside t u) s (d ++ e) ↔ (IsRight t s d × IsRight u s e)
+pub beside_in_parts : (t u : Timing) (s : Schedule) (d e : List ℤ) → HaveOneClock t.flat u.flat → HasEnds t → length d ≡ element_count t.flat → IsRight (beside t u) s (d ++ e) ↔ (IsRight t s d × IsRight u s e)
 beside_in_parts t u s d e clock ends count =
-    let front : take (element_count t) (d ++ e) ≡ d = ap (λ (n : ℕ). take n (d ++ e)) (sym count) ∙ take-append_seam d e in
-    let back : drop (element_count t) (d ++ e) ≡ e = ap (λ (n : ℕ). drop n (d ++ e)) (sym count) ∙ drop-append_seam d e in
+    let front : take (element_count t.flat) (d ++ e) ≡ d = ap (λ (n : ℕ). take n (d ++ e)) (sym count) ∙ take-append_seam d e in
+    let back : drop (element_count t.flat) (d ++ e) ≡ e = ap (λ (n : ℕ). drop n (d ++ e)) (sym count) ∙ drop-append_seam d e in
     rw (front, back) at (beside_is_both_lem t u s (d ++ e) clock ends)

@@ -21,9 +21,9 @@ module _ (wide : ℕ → ℤ) (clock : ℕ) where
   in_turn : (P : Link → Type 0) (none : Timing) (before : ℕ) (ts : List Timing) →
       ((c at : ℕ) → c < length ts → at ≡ before + elements_before ts c → All (λ k. P (lifted_link wide clock at k)) (links_of (get_or ts c none))) → All P (joined wide clock before ts)
   in_turn P none before [] each = All-nil P
-  in_turn P none before (t ∷ ts) each = All-append P (own before t) (joined wide clock (before + element_count t) ts)
+  in_turn P none before (t ∷ ts) each = All-append P (own before t) (joined wide clock (before + element_count t.flat) ts)
       (All-map P (lifted_link wide clock before) (links_of t) (each 0 before (omega arith) (omega arith)))
-      (in_turn P none (before + element_count t) ts (λ c at below is. each (suc c) at (omega arith) (omega arith)))
+      (in_turn P none (before + element_count t.flat) ts (λ c at below is. each (suc c) at (omega arith) (omega arith)))
 
   -- and each of those stands there
   stands_there : (none : Timing) (before : ℕ) (ts : List Timing) (c at : ℕ) → c < length ts → at ≡ before + elements_before ts c → (k : Link) → Contains (links_of (get_or ts c none)) k →
@@ -31,14 +31,14 @@ module _ (wide : ℕ → ℤ) (clock : ℕ) where
   stands_there none before [] c at below is k h = absurd (omega arith)
   stands_there none before (t ∷ ts) zero at below is k h =
       let same : at ≡ before = omega arith in
-      rw same (Contains-append_left (own before t) (joined wide clock (before + element_count t) ts) (lifted_link wide clock before k) (Contains-map (lifted_link wide clock before) (links_of t) k h))
+      rw same (Contains-append_left (own before t) (joined wide clock (before + element_count t.flat) ts) (lifted_link wide clock before k) (Contains-map (lifted_link wide clock before) (links_of t) k h))
   stands_there none before (t ∷ ts) (suc c) at below is k h =
-      Contains-append_right (own before t) (joined wide clock (before + element_count t) ts) (lifted_link wide clock at k)
-      (stands_there none (before + element_count t) ts c at (omega arith) (omega arith) k h)
+      Contains-append_right (own before t) (joined wide clock (before + element_count t.flat) ts) (lifted_link wide clock at k)
+      (stands_there none (before + element_count t.flat) ts c at (omega arith) (omega arith) k h)
 
 module _ (t : Timing) (ts : List Timing) (are : AreCorners (t ∷ ts)) (systems : AreSystems (t ∷ ts)) (besides : AreBeside t ts) where
   abbrev clock : ℕ
-  clock = 2 * phase_count t
+  clock = 2 * phase_count t.flat
 
   abbrev lifted : ℕ → Link → Link
   lifted at = lifted_link (widest (t ∷ ts)) clock at

@@ -21,8 +21,8 @@ split : (t : Timing) (ts : List Timing) (s : Schedule) (f : List ℤ) → AreBes
 split t [] s f are right = (f ∷ [], (right, tt))
 split t (u ∷ ts) s f are right =
     let both = (beside_is_both_lem t (side_by_side u ts) s f are.1 are.0).0 right in
-    let rest = split u ts s (drop (element_count t) f) are.2 both.1 in
-    (take (element_count t) f ∷ rest.0, (both.0, rest.1))
+    let rest = split u ts s (drop (element_count t.flat) f) are.2 both.1 in
+    (take (element_count t.flat) f ∷ rest.0, (both.0, rest.1))
 
 whole : (t : Timing) (ts : List Timing) (s : Schedule) (ds : List (List ℤ)) → AreBeside t ts → AreJointlyRight (t ∷ ts) s ds → (f : List ℤ) × IsRight (side_by_side t ts) s f
 whole t ts s [] are right = absurd right
@@ -62,7 +62,7 @@ phases-same : (t : Timing) (ts : List Timing) → (side_by_side t ts).flat.phase
 phases-same t [] = refl
 phases-same t (u ∷ ts) = refl
 
-pub phases_are : (t : Timing) (ts : List Timing) → phase_count (side_by_side t ts) ≡ phase_count t
+pub phases_are : (t : Timing) (ts : List Timing) → phase_count (side_by_side t ts).flat ≡ phase_count t.flat
 phases_are t ts = ap length (phases-same t ts)
 
 pub bounds-same : (t : Timing) (ts : List Timing) → (side_by_side t ts).flat.bounds ≡ t.flat.bounds
@@ -75,16 +75,16 @@ pub record IsModest (t : Timing) (most : ℕ) : Type 0 where
   pub delays : All (λ (p : Pair). IsDelay p.max) t.pairs
   pub few : length t.pairs ≤ most
 
-module _ (t u : Timing) (clock : HaveOneClock t u) where
-  beside-design : IsDesign t.flat → IsDesign u.flat → element_count (beside t u) ≤ 2000 → IsDesign (beside t u).flat
+module _ (t u : Timing) (clock : HaveOneClock t.flat u.flat) where
+  beside-design : IsDesign t.flat → IsDesign u.flat → element_count (beside t u).flat ≤ 2000 → IsDesign (beside t u).flat
   beside-design one two few = record {
     inner = omega arith;
     phases = one.phases;
     elements = few;
     arcs = omega arith;
     bounds = one.bounds;
-    each_element = All-append (IsElement (phase_count t)) t.flat.elements u.flat.elements one.each_element (subst (λ (k : ℕ). All (IsElement k) u.flat.elements) clock.phases two.each_element);
-    each_arc = All-nil (IsArc (element_count (beside t u)) 0);
+    each_element = All-append (IsElement (phase_count t.flat)) t.flat.elements u.flat.elements one.each_element (subst (λ (k : ℕ). All (IsElement k) u.flat.elements) clock.phases two.each_element);
+    each_arc = All-nil (IsArc (element_count (beside t u).flat) 0);
     each_bound = one.each_bound;
   }
 
@@ -92,15 +92,15 @@ module _ (t u : Timing) (clock : HaveOneClock t u) where
   beside-modest a b c sum one two =
       let all = length-append t.flat.elements u.flat.elements in
       record {
-        ends = All-append (λ (p : Pair). (p.from < element_count (beside t u)) × (p.to < element_count (beside t u))) t.pairs (map (shifted_pair (element_count t)) u.pairs)
+        ends = All-append (λ (p : Pair). (p.from < element_count (beside t u).flat) × (p.to < element_count (beside t u).flat)) t.pairs (map (shifted_pair (element_count t.flat)) u.pairs)
             (λ n d h. let here = one.ends n d h in (omega arith, omega arith))
-            (All-map (λ (p : Pair). (p.from < element_count (beside t u)) × (p.to < element_count (beside t u))) (shifted_pair (element_count t)) u.pairs
+            (All-map (λ (p : Pair). (p.from < element_count (beside t u).flat) × (p.to < element_count (beside t u).flat)) (shifted_pair (element_count t.flat)) u.pairs
             (λ n d h. let here = two.ends n d h in (omega arith, omega arith)));
-        delays = All-append (λ (p : Pair). IsDelay p.max) t.pairs (map (shifted_pair (element_count t)) u.pairs) one.delays
-            (All-map (λ (p : Pair). IsDelay p.max) (shifted_pair (element_count t)) u.pairs (λ n d h. two.delays n d h));
+        delays = All-append (λ (p : Pair). IsDelay p.max) t.pairs (map (shifted_pair (element_count t.flat)) u.pairs) one.delays
+            (All-map (λ (p : Pair). IsDelay p.max) (shifted_pair (element_count t.flat)) u.pairs (λ n d h. two.delays n d h));
         few =
-            (let whole = length-append t.pairs (map (shifted_pair (element_count t)) u.pairs) in
-            let mapped = length-map u.pairs (shifted_pair (element_count t)) in
+            (let whole = length-append t.pairs (map (shifted_pair (element_count t.flat)) u.pairs) in
+            let mapped = length-map u.pairs (shifted_pair (element_count t.flat)) in
             omega arith);
       }
 
@@ -125,13 +125,13 @@ differ-from t u (v ∷ ts) h are = (
   differ-from t u ts h are.1,
 )
 
-pub one-clock : (t u : Timing) (ts : List Timing) → DifferInNumbers t.flat u.flat → HaveOneClock t (side_by_side u ts)
+pub one-clock : (t u : Timing) (ts : List Timing) → DifferInNumbers t.flat u.flat → HaveOneClock t.flat (side_by_side u ts).flat
 one-clock t u ts h = record { phases = ap length (phases-same u ts ∙ h.phases); bounds = bounds-same u ts ∙ h.bounds }
 
 abbrev pub Modest : Timing → List Timing → Type 0
 Modest t ts = AreBeside t ts × IsDesign (side_by_side t ts).flat × IsModest (side_by_side t ts) (200000 * (1 + length ts))
 
-pub modest-all : (t : Timing) (ts : List Timing) → AreCorners (t ∷ ts) → AreSystems (t ∷ ts) → element_count (side_by_side t ts) ≤ 2000 → Modest t ts
+pub modest-all : (t : Timing) (ts : List Timing) → AreCorners (t ∷ ts) → AreSystems (t ∷ ts) → element_count (side_by_side t ts).flat ≤ 2000 → Modest t ts
 modest-all t [] are systems few = (ends_of t systems.1.extremes, systems.0, system-modest t systems.0 systems.1)
 modest-all t (u ∷ ts) are systems few =
     let clock = one-clock t u ts are.0 in

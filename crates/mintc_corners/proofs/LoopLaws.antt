@@ -45,8 +45,8 @@ widest_done ts i p width past low h =
     sym most ∙ sym here ∙ h
 
 -- the lists of the corners
-made_list : (list : Constraints) (t : Timing) → list.nodes ≡ node_count t → list.links ≡ links_of t → list ≡ own_list t
-made_list list t nodes links = ap (λ (n : ℕ). constraints_of n list.links) nodes ∙ ap (λ (ks : List Link). constraints_of (node_count t) ks) links
+made_list : (list : Constraints) (t : Timing) → list.nodes ≡ node_count t.flat → list.links ≡ links_of t → list ≡ own_list t
+made_list list t nodes links = ap (λ (n : ℕ). constraints_of n list.links) nodes ∙ ap (λ (ks : List Link). constraints_of (node_count t.flat) ks) links
 
 systems_more : (ts : List Timing) (t : Timing) → AreSystems ts → IsDesign t.flat → IsTiming t.flat t.order t.pairs → AreSystems (ts ++ t ∷ [])
 systems_more [] t h design kept = (design, kept, tt)
@@ -59,7 +59,7 @@ module _ (ts : List Timing) (i : ℕ) (t : Timing) (below : i < length ts) (is :
   left : {Y : Type 0} (f : List Timing → Y) → f (drop i ts) ≡ f (t ∷ drop (i + 1) ts)
   left f = at_drop_more f ts i t below ∙ ap (λ (u : Timing). f (u ∷ drop (i + 1) ts)) (sym is)
 
-  pub lists_more : (lists new : List Constraints) (list : Constraints) → lists ≡ map own_list (take i ts) → list.nodes ≡ node_count t → list.links ≡ links_of t → new ≡ lists ++ list ∷ [] → new ≡ map own_list (take (i + 1) ts)
+  pub lists_more : (lists new : List Constraints) (list : Constraints) → lists ≡ map own_list (take i ts) → list.nodes ≡ node_count t.flat → list.links ≡ links_of t → new ≡ lists ++ list ∷ [] → new ≡ map own_list (take (i + 1) ts)
   lists_more lists new list before nodes links step =
       step ∙ ap (λ (xs : List Constraints). xs ++ list ∷ []) before ∙ ap (λ (x : Constraints). map own_list (take i ts) ++ x ∷ []) (made_list list t nodes links)
       ∙ sym (map-append own_list (take i ts) (t ∷ [])) ∙ sym (ap (map own_list) taken)
@@ -68,14 +68,14 @@ module _ (ts : List Timing) (i : ℕ) (t : Timing) (below : i < length ts) (is :
   systems_taken h design kept = subst AreSystems (sym taken) (systems_more (take i ts) t h design kept)
 
   pub joined_more : (wide : ℕ → ℤ) (clock before : ℕ) (items new all : List Link) → items ++ joined wide clock before (drop i ts) ≡ all → new ≡ items ++ map (lifted_link wide clock before) (links_of t) →
-      new ++ joined wide clock (before + element_count t) (drop (i + 1) ts) ≡ all
+      new ++ joined wide clock (before + element_count t.flat) (drop (i + 1) ts) ≡ all
   joined_more wide clock before items new all h step =
-      ap (λ (ks : List Link). ks ++ joined wide clock (before + element_count t) (drop (i + 1) ts)) step
-      ∙ append_assoc items (map (lifted_link wide clock before) (links_of t)) (joined wide clock (before + element_count t) (drop (i + 1) ts))
+      ap (λ (ks : List Link). ks ++ joined wide clock (before + element_count t.flat) (drop (i + 1) ts)) step
+      ∙ append_assoc items (map (lifted_link wide clock before) (links_of t)) (joined wide clock (before + element_count t.flat) (drop (i + 1) ts))
       ∙ sym (left (λ us. items ++ joined wide clock before us)) ∙ h
 
   pub elements_more : (before all : ℕ) → before + length (flat_map (λ (u : Timing). u.flat.elements) (drop i ts)) ≡ all →
-      (before + element_count t) + length (flat_map (λ (u : Timing). u.flat.elements) (drop (i + 1) ts)) ≡ all
+      (before + element_count t.flat) + length (flat_map (λ (u : Timing). u.flat.elements) (drop (i + 1) ts)) ≡ all
   elements_more before all h =
       let step = left (λ us. length (flat_map (λ (u : Timing). u.flat.elements) us)) in
       let sum = length-append t.flat.elements (flat_map (λ (u : Timing). u.flat.elements) (drop (i + 1) ts)) in
@@ -85,15 +85,15 @@ module _ (ts : List Timing) (i : ℕ) (t : Timing) (below : i < length ts) (is :
   sayable_here clock before values h = subst (λ (us : List Timing). AreSayableAfter clock before us values) (left (λ us. us)) h
 
   pub departures_more : (clock before : ℕ) (values ds : List ℤ) (all new whole : List (List ℤ)) → all ++ departures_after clock before (drop i ts) values ≡ whole →
-      ds ≡ departures_of t (own_values clock before (element_count t) values) → new ≡ all ++ ds ∷ [] → new ++ departures_after clock (before + element_count t) (drop (i + 1) ts) values ≡ whole
+      ds ≡ departures_of t.flat (own_values clock before (element_count t.flat) values) → new ≡ all ++ ds ∷ [] → new ++ departures_after clock (before + element_count t.flat) (drop (i + 1) ts) values ≡ whole
   departures_more clock before values ds all new whole h is step =
-      let rest = departures_after clock (before + element_count t) (drop (i + 1) ts) values in
+      let rest = departures_after clock (before + element_count t.flat) (drop (i + 1) ts) values in
       ap (λ (xs : List (List ℤ)). xs ++ rest) step
       ∙ append_assoc all (ds ∷ []) rest
       ∙ ap (λ (d : List ℤ). all ++ d ∷ rest) is
       ∙ sym (left (λ us. all ++ departures_after clock before us values)) ∙ h
 
-pub in_range_more : (t : Timing) (ds own : List ℤ) (all new : List (List ℤ)) → IsDesign t.flat → All AreDeparturesInRange all → All IsDeparture ds → ds ≡ departures_of t own → new ≡ all ++ ds ∷ [] → All AreDeparturesInRange new
+pub in_range_more : (t : Timing) (ds own : List ℤ) (all new : List (List ℤ)) → IsDesign t.flat → All AreDeparturesInRange all → All IsDeparture ds → ds ≡ departures_of t.flat own → new ≡ all ++ ds ∷ [] → All AreDeparturesInRange new
 in_range_more t ds own all new limits before here is step =
     let count = ap length is ∙ counts_are t own in
     let few = limits.elements in
@@ -119,7 +119,7 @@ module _ (t : Timing) (limits : IsDesign t.flat) (kept : IsTiming t.flat t.order
   low_links : All IsLow (links_of t)
   low_links e d h =
       let k = get_or (links_of t) e d in
-      let between = All-links t (λ x. (x.from < node_count t) × (x.to < node_count t)) (each_between t limits (ends_of t kept.extremes)) e d h in
+      let between = All-links t (λ x. (x.from < node_count t.flat) × (x.to < node_count t.flat)) (each_between t limits (ends_of t kept.extremes)) e d h in
       let from = between.0 in
       let to = between.1 in
       let few = limits.elements in
@@ -150,10 +150,10 @@ elements_done ts i before all past h =
     let none = ap (λ (us : List Timing). length (flat_map (λ (u : Timing). u.flat.elements) us)) (drop_of_length-le ts past) in
     omega arith
 
-pub nodes_of : (systems : List Timing) (t : Timing) (clock before : ℕ) → 1 ≤ length systems → t ≡ get_or systems 0 t → clock ≡ 2 * phase_count t → before ≡ length (flat_map (λ (u : Timing). u.flat.elements) systems) →
+pub nodes_of : (systems : List Timing) (t : Timing) (clock before : ℕ) → 1 ≤ length systems → t ≡ get_or systems 0 t → clock ≡ 2 * phase_count t.flat → before ≡ length (flat_map (λ (u : Timing). u.flat.elements) systems) →
     1 + clock + before ≡ joint_nodes systems
 nodes_of [] t clock before some is clock_is before_is = absurd (omega arith)
-nodes_of (u ∷ ts) t clock before some is clock_is before_is = let same = ap (λ (x : Timing). phase_count x) is in omega arith
+nodes_of (u ∷ ts) t clock before some is clock_is before_is = let same = ap (λ (x : Timing). phase_count x.flat) is in omega arith
 
 -- how many links the lists up to one have
 pub links_more : (lists : List Constraints) (i : ℕ) (list : Constraints) → i < length lists → list ≡ get_or lists i list →

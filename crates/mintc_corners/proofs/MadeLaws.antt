@@ -48,7 +48,7 @@ some_closed (k ∷ ks) h = omega arith
 
 lists_count : (ts : List Timing) (clock before : ℕ) (values : List ℤ) → length (departures_after clock before ts values) ≡ length ts
 lists_count [] clock before values = refl
-lists_count (t ∷ ts) clock before values = let rest = lists_count ts clock (before + element_count t) values in omega arith
+lists_count (t ∷ ts) clock before values = let rest = lists_count ts clock (before + element_count t.flat) values in omega arith
 
 -- the departures of all corners, one after the other
 abbrev all_departures : List (List ℤ) → List ℤ
@@ -57,14 +57,14 @@ all_departures ds = flat_map (λ (d : List ℤ). d) ds
 -- A schedule that is right side by side, is right in each corner with its part of the departures.
 split_as : (t : Timing) (ts : List Timing) (s : Schedule) (clock before : ℕ) (values : List ℤ) → AreBeside t ts → IsRight (side_by_side t ts) s (all_departures (departures_after clock before (t ∷ ts) values)) →
     AreJointlyRight (t ∷ ts) s (departures_after clock before (t ∷ ts) values)
-split_as t [] s clock before values are right = (subst (IsRight t s) (append-nil (departures_of t (own_values clock before (element_count t) values))) right, tt)
+split_as t [] s clock before values are right = (subst (IsRight t s) (append-nil (departures_of t.flat (own_values clock before (element_count t.flat) values))) right, tt)
 split_as t (u ∷ ts) s clock before values are right =
-    let d = departures_of t (own_values clock before (element_count t) values) in
-    let rest = all_departures (departures_after clock (before + element_count t) (u ∷ ts) values) in
-    let both = (beside_in_parts t (side_by_side u ts) s d rest are.1 are.0 (counts_are t (own_values clock before (element_count t) values))).0 right in
-    (both.0, split_as u ts s clock (before + element_count t) values are.2 both.1)
+    let d = departures_of t.flat (own_values clock before (element_count t.flat) values) in
+    let rest = all_departures (departures_after clock (before + element_count t.flat) (u ∷ ts) values) in
+    let both = (beside_in_parts t (side_by_side u ts) s d rest are.1 are.0 (counts_are t (own_values clock before (element_count t.flat) values))).0 right in
+    (both.0, split_as u ts s clock (before + element_count t.flat) values are.2 both.1)
 
-module _ (t : Timing) (ts : List Timing) (are : AreCorners (t ∷ ts)) (systems : AreSystems (t ∷ ts)) (some : length ts ≤ 3) (few : element_count (side_by_side t ts) ≤ 2000) where
+module _ (t : Timing) (ts : List Timing) (are : AreCorners (t ∷ ts)) (systems : AreSystems (t ∷ ts)) (some : length ts ≤ 3) (few : element_count (side_by_side t ts).flat ≤ 2000) where
   abbrev big : Timing
   big = side_by_side t ts
 
@@ -120,49 +120,49 @@ module _ (t : Timing) (ts : List Timing) (are : AreCorners (t ∷ ts)) (systems 
     abbrev values : List ℤ
     values = room.values
 
-    greatest : AreGreatest (constraints_of (node_count big) (links_of big)) cycle values
-    greatest = carried_greatest (node_count big) own_links (links_of big) listed (links_joined t ts are systems besides) cycle values (subst (λ (n : ℕ). AreGreatest (constraints_of n own_links) cycle values) (nodes_are t ts) found.values)
+    greatest : AreGreatest (constraints_of (node_count big.flat) (links_of big)) cycle values
+    greatest = carried_greatest (node_count big.flat) own_links (links_of big) listed (links_joined t ts are systems besides) cycle values (subst (λ (n : ℕ). AreGreatest (constraints_of n own_links) cycle values) (nodes_are t ts) found.values)
 
     exact : AreExactMoments big cycle.num cycle.den values
     exact = exact_moments big limits ends cycle values greatest
 
-    sayable_big : AreSayable big values
+    sayable_big : AreSayable big.flat values
     sayable_big = are_sayable big limits cycle found.cycle_is values exact
 
     pub sayable : AreSayableOfAll (t ∷ ts) values
     sayable = sayable_of_all t ts values besides systems few sayable_big
 
     abbrev s : Schedule
-    s = schedule_of big cycle.num cycle.den values
+    s = schedule_of big.flat cycle.num cycle.den values
 
     abbrev ds : List (List ℤ)
     ds = departures_of_all (t ∷ ts) values
 
-    departs : all_departures ds ≡ departures_of big values
+    departs : all_departures ds ≡ departures_of big.flat values
     departs = departures_are t ts values besides systems (greatest.count ∙ node_sum)
       where
-        node_sum : node_count big ≡ 1 + 2 * phase_count t + element_count big
+        node_sum : node_count big.flat ≡ 1 + 2 * phase_count t.flat + element_count big.flat
         node_sum = let phases = phases_are t ts in omega arith
 
-    right : IsRight big s (departures_of big values)
+    right : IsRight big s (departures_of big.flat values)
     right = moments_are_right_lem big cycle.num cycle.den values limits ends found.cycle_is.fraction exact
 
     jointly : AreJointlyRight (t ∷ ts) s ds
-    jointly = split_as t ts s (2 * phase_count t) 0 values besides (subst (IsRight big s) (sym departs) right)
+    jointly = split_as t ts s (2 * phase_count t.flat) 0 values besides (subst (IsRight big s) (sym departs) right)
 
     least : IsLeastCycle big cycle.num cycle.den
     least = tight_is_least_lem big cycle.num cycle.den values (links_at own_links room.chain) limits ends found.cycle_is.fraction exact
         (carried_chain own_links (links_of big) listed (links_at own_links room.chain) found.chain.chain) found.tight
 
-    earliest_here : IsEarliest big (links_of big) s (all_departures ds)
-    earliest_here = subst (IsEarliest big (links_of big) s) (sym departs) (earliest big limits (links_of big) cycle values found.cycle_is.lowest greatest)
+    earliest_here : IsEarliest big.flat (links_of big) s (all_departures ds)
+    earliest_here = subst (IsEarliest big.flat (links_of big) s) (sym departs) (earliest big limits (links_of big) cycle values found.cycle_is.lowest greatest)
 
     module _ (members : List CornerMember) (stand : AreStanding t ts room.chain members) (schedule_in : IsInRange s) (departures_in : All AreDeparturesInRange ds) where
       made_here : IsCornerOptimum t ts (Least s ds members)
       made_here =
           let delay = delays room.chain found.chain members stand in
           let turns = cycles room.chain found.chain members stand in
-          let count = lists_count (t ∷ ts) (2 * phase_count t) 0 values in
+          let count = lists_count (t ∷ ts) (2 * phase_count t.flat) 0 values in
           record {
             valid = (jointly, ring room.chain found.chain members stand, record { turns = rw turns found.tight.turns; tight = rw (delay, turns) found.tight.tight });
             optimal = (jointly, (joint_cycle_is_least_lem t ts cycle.num cycle.den besides).0 least);
@@ -171,7 +171,7 @@ module _ (t : Timing) (ts : List Timing) (are : AreCorners (t ∷ ts)) (systems 
             in_range = record { schedule_in = schedule_in; count = omega arith; each = departures_in; chain_in = chain_in room.chain found.chain members stand };
           }
 
-    pub made_least : (s' : Schedule) (ds' : List (List ℤ)) (members : List CornerMember) → s' ≡ schedule_of t cycle.num cycle.den values → ds' ≡ ds → AreStanding t ts room.chain members → IsInRange s' → All AreDeparturesInRange ds' →
+    pub made_least : (s' : Schedule) (ds' : List (List ℤ)) (members : List CornerMember) → s' ≡ schedule_of t.flat cycle.num cycle.den values → ds' ≡ ds → AreStanding t ts room.chain members → IsInRange s' → All AreDeparturesInRange ds' →
         IsCornerOptimum t ts (Least s' ds' members)
     made_least s' ds' members s_is ds_are stand schedule_in departures_in =
         let same = s_is ∙ sym (schedule_same t ts cycle.num cycle.den values) in

@@ -35,15 +35,15 @@ top-append (x ∷ xs) ys =
 
 module _ (t u : Timing) where
   abbrev n : ℕ
-  n = element_count t
+  n = element_count t.flat
 
   abbrev b : Timing
   b = beside t u
 
-  pub element_beside_left : (l : ℕ) → l < n → element_at b l ≡ element_at t l
+  pub element_beside_left : (l : ℕ) → l < n → element_at b.flat l ≡ element_at t.flat l
   element_beside_left l h = get_or-append t.flat.elements u.flat.elements no_element l h
 
-  pub element_beside_right : (l : ℕ) → element_at b (n + l) ≡ element_at u l
+  pub element_beside_right : (l : ℕ) → element_at b.flat (n + l) ≡ element_at u.flat l
   element_beside_right l = get_or-append-add t.flat.elements u.flat.elements l no_element
 
   pub pair_beside_left : (m : ℕ) → m < length t.pairs → pair_at b m ≡ pair_at t m
@@ -52,7 +52,7 @@ module _ (t u : Timing) where
   pub pair_beside_right : (m : ℕ) → m < length u.pairs → pair_at b (length t.pairs + m) ≡ shifted_pair n (pair_at u m)
   pair_beside_right m h = get_or-append-add t.pairs (map (shifted_pair n) u.pairs) m no_pair ∙ get_or-map (shifted_pair n) u.pairs m no_pair no_pair h
 
-  pub width_beside : (p : ℕ) → least_width b p ≡ int_max (least_width t p) (least_width u p)
+  pub width_beside : (p : ℕ) → least_width b.flat p ≡ int_max (least_width t.flat p) (least_width u.flat p)
   width_beside p =
       ap (λ (xs : List ℤ). greater_of (pos 0) (greatest_of xs))
       (ap (map (λ (x : Element). x.width)) (filter-append (λ (x : Element). x.phase == p) t.flat.elements u.flat.elements)
@@ -66,30 +66,30 @@ module _ (t u : Timing) where
     abbrev feeds : ℕ → ℕ → Element → Element → Bool
     feeds i j x y = (x.phase == i) && (y.phase == j) && not y.flop
 
-    between-left : (i j : ℕ) (p : Pair) → HasEnd p → is_pair_between b i j p ≡ is_pair_between t i j p
+    between-left : (i j : ℕ) (p : Pair) → HasEnd p → is_pair_between b.flat i j p ≡ is_pair_between t.flat i j p
     between-left i j p h =
-        ap (λ (x : Element). feeds i j x (element_at b p.to)) (element_beside_left p.from h.0) ∙ ap (λ (y : Element). feeds i j (element_at t p.from) y) (element_beside_left p.to h.1)
+        ap (λ (x : Element). feeds i j x (element_at b.flat p.to)) (element_beside_left p.from h.0) ∙ ap (λ (y : Element). feeds i j (element_at t.flat p.from) y) (element_beside_left p.to h.1)
 
-    between-right : (i j : ℕ) (q : Pair) → is_pair_between b i j (shifted_pair n q) ≡ is_pair_between u i j q
+    between-right : (i j : ℕ) (q : Pair) → is_pair_between b.flat i j (shifted_pair n q) ≡ is_pair_between u.flat i j q
     between-right i j q =
-        ap (λ (x : Element). feeds i j x (element_at b (n + q.to))) (element_beside_right q.from) ∙ ap (λ (y : Element). feeds i j (element_at u q.from) y) (element_beside_right q.to)
+        ap (λ (x : Element). feeds i j x (element_at b.flat (n + q.to))) (element_beside_right q.from) ∙ ap (λ (y : Element). feeds i j (element_at u.flat q.from) y) (element_beside_right q.to)
 
-    any-left : (i j : ℕ) (ps : List Pair) → All HasEnd ps → list_any (is_pair_between b i j) ps ≡ list_any (is_pair_between t i j) ps
+    any-left : (i j : ℕ) (ps : List Pair) → All HasEnd ps → list_any (is_pair_between b.flat i j) ps ≡ list_any (is_pair_between t.flat i j) ps
     any-left i j [] h = refl
     any-left i j (p ∷ ps) h =
-        ap (λ (c : Bool). c || list_any (is_pair_between b i j) ps) (between-left i j p (All-head HasEnd p ps h))
-        ∙ ap (λ (c : Bool). is_pair_between t i j p || c) (any-left i j ps (All-tail HasEnd p ps h))
+        ap (λ (c : Bool). c || list_any (is_pair_between b.flat i j) ps) (between-left i j p (All-head HasEnd p ps h))
+        ∙ ap (λ (c : Bool). is_pair_between t.flat i j p || c) (any-left i j ps (All-tail HasEnd p ps h))
 
-    any-right : (i j : ℕ) (qs : List Pair) → list_any (is_pair_between b i j) (map (shifted_pair n) qs) ≡ list_any (is_pair_between u i j) qs
+    any-right : (i j : ℕ) (qs : List Pair) → list_any (is_pair_between b.flat i j) (map (shifted_pair n) qs) ≡ list_any (is_pair_between u.flat i j) qs
     any-right i j [] = refl
     any-right i j (q ∷ qs) =
-        ap (λ (c : Bool). c || list_any (is_pair_between b i j) (map (shifted_pair n) qs)) (between-right i j q)
-        ∙ ap (λ (c : Bool). is_pair_between u i j q || c) (any-right i j qs)
+        ap (λ (c : Bool). c || list_any (is_pair_between b.flat i j) (map (shifted_pair n) qs)) (between-right i j q)
+        ∙ ap (λ (c : Bool). is_pair_between u.flat i j q || c) (any-right i j qs)
 
     feeds_beside : (i j : ℕ) → feeds_of b i j ≡ (feeds_of t i j || feeds_of u i j)
     feeds_beside i j =
-        list_any-append (is_pair_between b i j) t.pairs (map (shifted_pair n) u.pairs)
-        ∙ ap (λ (c : Bool). c || list_any (is_pair_between b i j) (map (shifted_pair n) u.pairs)) (any-left i j t.pairs ends)
+        list_any-append (is_pair_between b.flat i j) t.pairs (map (shifted_pair n) u.pairs)
+        ∙ ap (λ (c : Bool). c || list_any (is_pair_between b.flat i j) (map (shifted_pair n) u.pairs)) (any-left i j t.pairs ends)
         ∙ ap (λ (c : Bool). feeds_of t i j || c) (any-right i j u.pairs)
 
     pub feeds-left : (i j : ℕ) → feeds_of t i j ≡ true → feeds_of b i j ≡ true

@@ -23,9 +23,9 @@ use Rattle.mintc_corners.proofs.TransferLaws.{carried_ordinary}
 pub joined_length : (wide : ℕ → ℤ) (clock before : ℕ) (ts : List Timing) → length (joined wide clock before ts) ≡ length (flat_map (λ (l : Constraints). l.links) (map own_list ts))
 joined_length wide clock before [] = refl
 joined_length wide clock before (t ∷ ts) =
-    let all = length-append (map (lifted_link wide clock before) (links_of t)) (joined wide clock (before + element_count t) ts) in
+    let all = length-append (map (lifted_link wide clock before) (links_of t)) (joined wide clock (before + element_count t.flat) ts) in
     let own = length-map (links_of t) (lifted_link wide clock before) in
-    let rest = joined_length wide clock (before + element_count t) ts in
+    let rest = joined_length wide clock (before + element_count t.flat) ts in
     let lists = length-append (links_of t) (flat_map (λ (l : Constraints). l.links) (map own_list ts)) in
     omega arith
 
@@ -39,29 +39,29 @@ joined_at wide clock before (t ∷ ts) zero i none d g h =
     let count = length-map (links_of t) (lifted_link wide clock before) in
     let same : before + 0 ≡ before = omega arith in
     rw (zero-add i, same)
-    (get_or-append (map (lifted_link wide clock before) (links_of t)) (joined wide clock (before + element_count t) ts) d i (omega arith)
+    (get_or-append (map (lifted_link wide clock before) (links_of t)) (joined wide clock (before + element_count t.flat) ts) d i (omega arith)
     ∙ get_or-map (lifted_link wide clock before) (links_of t) i d d h)
 joined_at wide clock before (t ∷ ts) (suc c) i none d g h =
     let own = map (lifted_link wide clock before) (links_of t) in
-    let rest = joined wide clock (before + element_count t) ts in
+    let rest = joined wide clock (before + element_count t.flat) ts in
     let count = length-map (links_of t) (lifted_link wide clock before) in
     let sum = length-append (links_of t) (flat_map (λ (l : Constraints). l.links) (take c (map own_list ts))) in
     let at : links_before (t ∷ ts) (suc c) + i ≡ length own + (links_before ts c + i) = omega arith in
-    let same : before + (element_count t + elements_before ts c) ≡ (before + element_count t) + elements_before ts c = omega arith in
-    rw (at, same) (get_or-append-add own rest (links_before ts c + i) d ∙ joined_at wide clock (before + element_count t) ts c i none d (omega arith) h)
+    let same : before + (element_count t.flat + elements_before ts c) ≡ (before + element_count t.flat) + elements_before ts c = omega arith in
+    rw (at, same) (get_or-append-add own rest (links_before ts c + i) d ∙ joined_at wide clock (before + element_count t.flat) ts c i none d (omega arith) h)
 
 -- Corners have as many elements each.
-pub alike : (t u : Timing) → DifferInNumbers t.flat u.flat → element_count u ≡ element_count t
+pub alike : (t u : Timing) → DifferInNumbers t.flat u.flat → element_count u.flat ≡ element_count t.flat
 alike t u h = sym (length-map u.flat.elements _) ∙ ap length h.elements ∙ length-map t.flat.elements _
 
-pub before_is : (t : Timing) (ts : List Timing) (c : ℕ) → AreCorners (t ∷ ts) → c < length (t ∷ ts) → elements_before (t ∷ ts) c ≡ c * element_count t
+pub before_is : (t : Timing) (ts : List Timing) (c : ℕ) → AreCorners (t ∷ ts) → c < length (t ∷ ts) → elements_before (t ∷ ts) c ≡ c * element_count t.flat
 before_is t ts zero are h = omega arith
 before_is t [] (suc c) are h = absurd (omega arith)
 before_is t (u ∷ ts) (suc c) are h =
     let rest = before_is u ts c (differ-from t u ts are.0 are.1) (omega arith) in
     let same = alike t u are.0 in
-    let product = suc-mul c (element_count t) in
-    let own : c * element_count u ≡ c * element_count t = ap (λ (n : ℕ). c * n) same in
+    let product = suc-mul c (element_count t.flat) in
+    let own : c * element_count u.flat ≡ c * element_count t.flat = ap (λ (n : ℕ). c * n) same in
     omega arith
 
 -- the elements of all, and the nodes
@@ -69,10 +69,10 @@ elements_are : (t : Timing) (ts : List Timing) → (side_by_side t ts).flat.elem
 elements_are t [] = sym (append-nil t.flat.elements)
 elements_are t (u ∷ ts) = ap (λ (es : List Element). t.flat.elements ++ es) (elements_are u ts)
 
-pub count_is : (t : Timing) (ts : List Timing) → element_count (side_by_side t ts) ≡ length (flat_map (λ (u : Timing). u.flat.elements) (t ∷ ts))
+pub count_is : (t : Timing) (ts : List Timing) → element_count (side_by_side t ts).flat ≡ length (flat_map (λ (u : Timing). u.flat.elements) (t ∷ ts))
 count_is t ts = ap length (elements_are t ts)
 
-pub nodes_are : (t : Timing) (ts : List Timing) → joint_nodes (t ∷ ts) ≡ node_count (side_by_side t ts)
+pub nodes_are : (t : Timing) (ts : List Timing) → joint_nodes (t ∷ ts) ≡ node_count (side_by_side t ts).flat
 nodes_are t ts =
     let count = count_is t ts in
     let phases = phases_are t ts in
@@ -83,12 +83,12 @@ few_in_turn : (wide : ℕ → ℤ) (clock before : ℕ) (ts : List Timing) → A
 few_in_turn wide clock before [] h = omega arith
 few_in_turn wide clock before (t ∷ ts) h =
     let here = few_links t h.0 (omega arith) in
-    let rest = few_in_turn wide clock (before + element_count t) ts h.2 in
-    let all = length-append (map (lifted_link wide clock before) (links_of t)) (joined wide clock (before + element_count t) ts) in
+    let rest = few_in_turn wide clock (before + element_count t.flat) ts h.2 in
+    let all = length-append (map (lifted_link wide clock before) (links_of t)) (joined wide clock (before + element_count t.flat) ts) in
     let count = length-map (links_of t) (lifted_link wide clock before) in
     omega arith
 
-module _ (t : Timing) (ts : List Timing) (are : AreCorners (t ∷ ts)) (systems : AreSystems (t ∷ ts)) (some : length ts ≤ 3) (few : element_count (side_by_side t ts) ≤ 2000) where
+module _ (t : Timing) (ts : List Timing) (are : AreCorners (t ∷ ts)) (systems : AreSystems (t ∷ ts)) (some : length ts ≤ 3) (few : element_count (side_by_side t ts).flat ≤ 2000) where
   pub design : IsDesign (side_by_side t ts).flat
   design = (corners_are_modest_lem t ts are systems some few).1
 
@@ -97,6 +97,6 @@ module _ (t : Timing) (ts : List Timing) (are : AreCorners (t ∷ ts)) (systems 
 
   pub joined_ordinary : IsOrdinary (constraints_of (joint_nodes (t ∷ ts)) (joined_links (t ∷ ts)))
   joined_ordinary = rw (nodes_are t ts)
-      (carried_ordinary (links_of (side_by_side t ts)) (joined_links (t ∷ ts)) (links_joined t ts are systems besides) (joined_listed t ts are systems besides) (node_count (side_by_side t ts))
+      (carried_ordinary (links_of (side_by_side t ts)) (joined_links (t ∷ ts)) (links_joined t ts are systems besides) (joined_listed t ts are systems besides) (node_count (side_by_side t ts).flat)
       (let all = few_in_turn (widest (t ∷ ts)) (clock_count (t ∷ ts)) 0 (t ∷ ts) systems in omega arith)
       (modest_links_are_ordinary_lem (side_by_side t ts) design (corners_are_modest_lem t ts are systems some few).2))

@@ -27,7 +27,7 @@ use Rattle.mintc_corners.proofs.LiftLaws.{clock_is, elements_before, fed_in_all,
 use Rattle.mintc_corners.proofs.PlaceLaws.{before_is}
 
 -- The member that stands for a listed reach has a path with the greatest delay.
-slowest : (t : Timing) (limits : IsDesign t.flat) (kept : IsTiming t.flat t.order t.pairs) (k : Link) (j l : ℕ) (path : List ℕ) → Contains (links_of t) k → link_of t (member.Reach j l path) ≡ k →
+slowest : (t : Timing) (limits : IsDesign t.flat) (kept : IsTiming t.flat t.order t.pairs) (k : Link) (j l : ℕ) (path : List ℕ) → Contains (links_of t) k → link_of t.flat (member.Reach j l path) ≡ k →
     IsGreatestDelay t.flat.arcs j (input_of l) (greatest_delay t.flat.arcs path)
 slowest t limits kept k j l path listed same =
     let h = of_kind t limits k (kind.Reach j l) (ap (λ (x : Link). x.kind) (sym same)) listed in
@@ -46,10 +46,10 @@ module _ (t : Timing) (ts : List Timing) (are : AreCorners (t ∷ ts)) (systems 
   own = corner_of t ts c
 
   abbrev lifted : Link → Link
-  lifted = lifted_link (widest (t ∷ ts)) (2 * phase_count t) (elements_before (t ∷ ts) c)
+  lifted = lifted_link (widest (t ∷ ts)) (2 * phase_count t.flat) (elements_before (t ∷ ts) c)
 
   -- what a member stands for in all corners
-  lifted_member : (m : Member) → IsMember own m → link_of_corner t ts (corner_number c m) m ≡ lifted (link_of own m)
+  lifted_member : (m : Member) → IsMember own m → link_of_corner t ts (corner_number c m) m ≡ lifted (link_of own.flat m)
   lifted_member (member.Opening l) h = rw (sym (before_is t ts c are below)) (opening_is t ts are systems besides c below l h)
   lifted_member (member.Opened l) h = rw (sym (before_is t ts c are below)) (opened_is t ts are systems besides c below l h.0)
   lifted_member (member.Reach j l path) h = rw (sym (before_is t ts c are below)) (reach_is t ts are systems besides c below j l (greatest_delay own.flat.arcs path) h.0 h.1)
@@ -62,11 +62,11 @@ module _ (t : Timing) (ts : List Timing) (are : AreCorners (t ∷ ts)) (systems 
   lifted_member (member.Apart i j) h = clock_is t ts are systems besides c below (member.Apart i j) tt h
   lifted_member (member.Bound n) h = clock_is t ts are systems besides c below (member.Bound n) tt h
 
-  phase_named : (p : ℕ) → IsPhase (phase_count own) p → IsPhase (phase_count big) p
+  phase_named : (p : ℕ) → IsPhase (phase_count own.flat) p → IsPhase (phase_count big.flat) p
   phase_named = in_all t ts are systems besides c below
 
   -- and that it names what its corner has
-  named : (k : Link) (m : Member) → Contains (links_of own) k → link_of own m ≡ k → IsMember own m → IsOfCorner t ts (corner_number c m) m
+  named : (k : Link) (m : Member) → Contains (links_of own) k → link_of own.flat m ≡ k → IsMember own m → IsOfCorner t ts (corner_number c m) m
   named k (member.Start p) listed same h = (tt, phase_named p h)
   named k (member.Cycle p) listed same h = (tt, phase_named p h)
   named k (member.Order p) listed same h = (tt, (h.0, let one = same_phases t ts are systems besides c below in let high = h.1 in omega arith))

@@ -46,82 +46,82 @@ module _ (clock before count : ℕ) (values : List ℤ) (inside : 1 + clock + be
 
 -- the departure of an element that comes after so many others
 abbrev pub depart : ℕ → ℕ → Timing → List ℤ → ℕ → ℤ
-depart clock before t values l = cond (element_at t l).flop (pos 0) (value_at values (1 + clock + before + l) -ℤ value_at values (start_node (phase_of t l)))
+depart clock before t values l = cond (element_at t.flat l).flop (pos 0) (value_at values (1 + clock + before + l) -ℤ value_at values (start_node (phase_of t.flat l)))
 
 abbrev departs : ℕ → List ℤ → Element → ℤ
 departs node values e = cond e.flop (pos 0) (value_at values node -ℤ value_at values (start_node e.phase))
 
 -- Departures of each of some corners, one after the other, are those of all.
 record AreAll (ds : List ℤ) (clock before : ℕ) (t : Timing) (values : List ℤ) : Type 0 where
-  pub count : length ds ≡ element_count t
-  pub each : (l : ℕ) → l < element_count t → get_or ds l (pos 0) ≡ depart clock before t values l
+  pub count : length ds ≡ element_count t.flat
+  pub each : (l : ℕ) → l < element_count t.flat → get_or ds l (pos 0) ≡ depart clock before t values l
 
 module _ (values : List ℤ) where
-  own_departs : (t : Timing) (ts : List Timing) (clock before : ℕ) → clock ≡ 2 * phase_count t → AreSystems (t ∷ ts) → 1 + clock + before + element_count t ≤ length values →
-      AreAll (departures_of t (own_values clock before (element_count t) values)) clock before t values
+  own_departs : (t : Timing) (ts : List Timing) (clock before : ℕ) → clock ≡ 2 * phase_count t.flat → AreSystems (t ∷ ts) → 1 + clock + before + element_count t.flat ≤ length values →
+      AreAll (departures_of t.flat (own_values clock before (element_count t.flat) values)) clock before t values
   own_departs t ts clock before is systems inside =
-      let own = own_values clock before (element_count t) values in
+      let own = own_values clock before (element_count t.flat) values in
       record {
-        count = length-map-range_with_len (departure_of t own) 0 (element_count t);
+        count = length-map-range_with_len (departure_of t.flat own) 0 (element_count t.flat);
         each = λ l h.
             let phase = (systems.0.each_element l no_element h).phase in
-            let start = own_clock clock before (element_count t) values inside (start_node (phase_of t l)) (omega arith) in
-            let at : element_node t l ≡ 1 + clock + l = omega arith in
-            let moment = ap (λ (x : ℕ). value_at own x) at ∙ own_element clock before (element_count t) values inside l h in
-            get_or-map-range_with_len (departure_of t own) 0 (element_count t) l l (pos 0) h (omega arith)
-            ∙ ap (λ (x : ℤ). cond (element_at t l).flop (pos 0) (x -ℤ value_at own (start_node (phase_of t l)))) moment
-            ∙ ap (λ (x : ℤ). cond (element_at t l).flop (pos 0) (value_at values (1 + clock + before + l) -ℤ x)) start;
+            let start = own_clock clock before (element_count t.flat) values inside (start_node (phase_of t.flat l)) (omega arith) in
+            let at : element_node t.flat l ≡ 1 + clock + l = omega arith in
+            let moment = ap (λ (x : ℕ). value_at own x) at ∙ own_element clock before (element_count t.flat) values inside l h in
+            get_or-map-range_with_len (departure_of t.flat own) 0 (element_count t.flat) l l (pos 0) h (omega arith)
+            ∙ ap (λ (x : ℤ). cond (element_at t.flat l).flop (pos 0) (x -ℤ value_at own (start_node (phase_of t.flat l)))) moment
+            ∙ ap (λ (x : ℤ). cond (element_at t.flat l).flop (pos 0) (value_at values (1 + clock + before + l) -ℤ x)) start;
       }
 
-  both_depart : (t v : Timing) (ds es : List ℤ) (clock before : ℕ) → AreAll ds clock before t values → AreAll es clock (before + element_count t) v values → AreAll (ds ++ es) clock before (beside t v) values
+  both_depart : (t v : Timing) (ds es : List ℤ) (clock before : ℕ) → AreAll ds clock before t values → AreAll es clock (before + element_count t.flat) v values → AreAll (ds ++ es) clock before (beside t v) values
   both_depart t v ds es clock before first second =
       let all = length-append t.flat.elements v.flat.elements in
       let one = first.count in
       record {
         count = (let parts = length-append ds es in omega arith);
         each = λ l h. ⊎_elim
-            (λ (few : l < element_count t).
+            (λ (few : l < element_count t.flat).
             get_or-append ds es (pos 0) l (omega arith) ∙ first.each l few
             ∙ sym (ap (departs (1 + clock + before + l) values) (element_beside_left t v l few)))
-            (λ (many : element_count t ≤ l).
-            let is : element_count t + (l - element_count t) ≡ l = omega arith in
-            let node : 1 + clock + (before + element_count t) + (l - element_count t) ≡ 1 + clock + before + (element_count t + (l - element_count t)) = omega arith in
+            (λ (many : element_count t.flat ≤ l).
+            let is : element_count t.flat + (l - element_count t.flat) ≡ l = omega arith in
+            let node : 1 + clock + (before + element_count t.flat) + (l - element_count t.flat) ≡ 1 + clock + before + (element_count t.flat + (l - element_count t.flat)) = omega arith in
             subst (λ (x : ℕ). get_or (ds ++ es) x (pos 0) ≡ depart clock before (beside t v) values x) is
-            (ap (λ (n : ℕ). get_or (ds ++ es) (n + (l - element_count t)) (pos 0)) (sym one)
-            ∙ get_or-append-add ds es (l - element_count t) (pos 0)
-            ∙ second.each (l - element_count t) (omega arith)
-            ∙ ap (λ (x : ℕ). departs x values (element_at v (l - element_count t))) node
-            ∙ sym (ap (departs (1 + clock + before + (element_count t + (l - element_count t))) values) (element_beside_right t v (l - element_count t)))))
-            (cases_lt l (element_count t));
+            (ap (λ (n : ℕ). get_or (ds ++ es) (n + (l - element_count t.flat)) (pos 0)) (sym one)
+            ∙ get_or-append-add ds es (l - element_count t.flat) (pos 0)
+            ∙ second.each (l - element_count t.flat) (omega arith)
+            ∙ ap (λ (x : ℕ). departs x values (element_at v.flat (l - element_count t.flat))) node
+            ∙ sym (ap (departs (1 + clock + before + (element_count t.flat + (l - element_count t.flat))) values) (element_beside_right t v (l - element_count t.flat)))))
+            (cases_lt l (element_count t.flat));
       }
 
-  all_depart : (t : Timing) (ts : List Timing) (clock before : ℕ) → clock ≡ 2 * phase_count t → AreBeside t ts → AreSystems (t ∷ ts) → 1 + clock + before + element_count (side_by_side t ts) ≤ length values →
+  all_depart : (t : Timing) (ts : List Timing) (clock before : ℕ) → clock ≡ 2 * phase_count t.flat → AreBeside t ts → AreSystems (t ∷ ts) → 1 + clock + before + element_count (side_by_side t ts).flat ≤ length values →
       AreAll (flat_map (λ (d : List ℤ). d) (departures_after clock before (t ∷ ts) values)) clock before (side_by_side t ts) values
   all_depart t [] clock before is besides systems inside =
-      subst (λ (ds : List ℤ). AreAll ds clock before t values) (sym (append-nil (departures_of t (own_values clock before (element_count t) values)))) (own_departs t [] clock before is systems inside)
+      subst (λ (ds : List ℤ). AreAll ds clock before t values) (sym (append-nil (departures_of t.flat (own_values clock before (element_count t.flat) values)))) (own_departs t [] clock before is systems inside)
   all_depart t (u ∷ ts) clock before is besides systems inside =
       let v = side_by_side u ts in
       let all = length-append t.flat.elements v.flat.elements in
       let same = besides.1.phases in
       let phases = phases_are u ts in
-      both_depart t v (departures_of t (own_values clock before (element_count t) values)) (flat_map (λ (d : List ℤ). d) (departures_after clock (before + element_count t) (u ∷ ts) values)) clock before
+      both_depart t v (departures_of t.flat (own_values clock before (element_count t.flat) values)) (flat_map (λ (d : List ℤ). d) (departures_after clock (before + element_count t.flat) (u ∷ ts) values)) clock before
       (own_departs t (u ∷ ts) clock before is systems (omega arith))
-      (all_depart u ts clock (before + element_count t) (omega arith) besides.2 systems.2 (omega arith))
+      (all_depart u ts clock (before + element_count t.flat) (omega arith) besides.2 systems.2 (omega arith))
 
-pub departures_are : (t : Timing) (ts : List Timing) (values : List ℤ) → AreBeside t ts → AreSystems (t ∷ ts) → length values ≡ 1 + 2 * phase_count t + element_count (side_by_side t ts) →
-    flat_map (λ (d : List ℤ). d) (departures_of_all (t ∷ ts) values) ≡ departures_of (side_by_side t ts) values
+pub departures_are : (t : Timing) (ts : List Timing) (values : List ℤ) → AreBeside t ts → AreSystems (t ∷ ts) → length values ≡ 1 + 2 * phase_count t.flat + element_count (side_by_side t ts).flat →
+    flat_map (λ (d : List ℤ). d) (departures_of_all (t ∷ ts) values) ≡ departures_of (side_by_side t ts).flat values
 departures_are t ts values besides systems count =
     let big = side_by_side t ts in
-    let all = all_depart values t ts (2 * phase_count t) 0 refl besides systems (omega arith) in
-    let mine = length-map-range_with_len (departure_of big values) 0 (element_count big) in
-    ext_get_or (pos 0) (flat_map (λ (d : List ℤ). d) (departures_of_all (t ∷ ts) values)) (departures_of big values) (all.count ∙ sym mine)
+    let all = all_depart values t ts (2 * phase_count t.flat) 0 refl besides systems (omega arith) in
+    let mine = length-map-range_with_len (departure_of big.flat values) 0 (element_count big.flat) in
+    ext_get_or (pos 0) (flat_map (λ (d : List ℤ). d) (departures_of_all (t ∷ ts) values)) (departures_of big.flat values) (all.count ∙ sym mine)
     (λ l h.
-    let few : l < element_count big = omega arith in
-    let node : 1 + 2 * phase_count t + 0 + l ≡ element_node big l = (let phases = phases_are t ts in omega arith) in
+    let few : l < element_count big.flat = omega arith in
+    let node : 1 + 2 * phase_count t.flat + 0 + l ≡ element_node big.flat l = (let phases = phases_are t ts in omega arith) in
     all.each l few
-    ∙ ap (λ (x : ℕ). cond (element_at big l).flop (pos 0) (value_at values x -ℤ value_at values (start_node (phase_of big l)))) node
-    ∙ sym (get_or-map-range_with_len (departure_of big values) 0 (element_count big) l l (pos 0) few (omega arith)))
+    ∙ ap (λ (x : ℕ). cond (element_at big.flat l).flop (pos 0) (value_at values x -ℤ value_at values (start_node (phase_of big.flat l)))) node
+    ∙ sym (get_or-map-range_with_len (departure_of big.flat values) 0 (element_count big.flat) l l (pos 0) few (omega arith)))
 
 -- how many departures each corner has
-pub counts_are : (t : Timing) (own : List ℤ) → length (departures_of t own) ≡ element_count t
-counts_are t own = length-map-range_with_len (departure_of t own) 0 (element_count t)
+pub counts_are : (t : Timing) (own : List ℤ) → length (departures_of t.flat own) ≡ element_count t.flat
+counts_are t own = length-map-range_with_len (departure_of t.flat own) 0 (element_count t.flat)

@@ -3,7 +3,7 @@ use Rattle.std.specs.Prelude.{◌≡◌, ◌<◌, ◌*◌, ◌+◌, ℕ, zero, s
 use Rattle.mintc_timing.specs.declared.clocking.Schedule.{Schedule}
 use Rattle.mintc_timing.specs.declared.link.Link.{Link}
 use Rattle.mintc_rings.specs.Rings.{IsClosed}
-use Rattle.mintc_timing.specs.Design.{Timing, element_count}
+use Rattle.mintc_timing.specs.Design.{Design, Timing, element_count}
 use Rattle.mintc_timing.specs.Paths.{input_of, greatest_delay, IsGreatestDelay}
 use Rattle.mintc_timing.specs.Links.{IsTight, IsStuck, opening_link, opened_link, reach_link, setup_link}
 use Rattle.mintc_certificate.specs.declared.members.Member.{Member}
@@ -41,18 +41,18 @@ IsOfCorner t ts zero m = IsOfClock m × IsMember (side_by_side t ts) m
 IsOfCorner t ts (suc c) m = (c < length (t ∷ ts)) × IsOfElements (corner_of t ts c) m
 
 -- The link that a member stands for. Element l of a corner, counted from 0, of n elements each is number c * n + l of all.
-abbrev pub among : Timing → ℕ → ℕ → ℕ
-among t c l = c * element_count t + l
+abbrev pub among : Design → ℕ → ℕ → ℕ
+among design c l = c * element_count design + l
 
 abbrev pub link_in : Timing → List Timing → ℕ → Member → Link
-link_in t ts c (member.Opening l) = opening_link (side_by_side t ts) (among t c l)
-link_in t ts c (member.Opened l) = opened_link (side_by_side t ts) (among t c l)
-link_in t ts c (member.Reach j l path) = reach_link (side_by_side t ts) (among t c j) (among t c l) (greatest_delay (corner_of t ts c).flat.arcs path)
-link_in t ts c (member.Setup l) = setup_link (side_by_side t ts) (among t c l)
-link_in t ts c m = link_of (side_by_side t ts) m
+link_in t ts c (member.Opening l) = opening_link (side_by_side t ts).flat (among t.flat c l)
+link_in t ts c (member.Opened l) = opened_link (side_by_side t ts).flat (among t.flat c l)
+link_in t ts c (member.Reach j l path) = reach_link (side_by_side t ts).flat (among t.flat c j) (among t.flat c l) (greatest_delay (corner_of t ts c).flat.arcs path)
+link_in t ts c (member.Setup l) = setup_link (side_by_side t ts).flat (among t.flat c l)
+link_in t ts c m = link_of (side_by_side t ts).flat m
 
 abbrev pub link_of_corner : Timing → List Timing → ℕ → Member → Link
-link_of_corner t ts zero m = link_of (side_by_side t ts) m
+link_of_corner t ts zero m = link_of (side_by_side t ts).flat m
 link_of_corner t ts (suc c) m = link_in t ts c m
 
 abbrev pub links_of_corners : Timing → List Timing → List CornerMember → List Link
@@ -75,7 +75,7 @@ IsCornerOptimal t ts (Never chain) = AreJointlyHopeless (t ∷ ts)
 -- Of all solutions of the joint links at its cycle time, the schedule with the departures of each corner is the earliest. The
 -- departure of a flop is 0, as it is exact.
 abbrev pub HasJointEarliest : Timing → List Timing → CornerCertificate → Type 0
-HasJointEarliest t ts (Least schedule departures chain) = IsEarliest (side_by_side t ts) (joint_links_of t ts) schedule (flat_map (λ d. d) departures)
+HasJointEarliest t ts (Least schedule departures chain) = IsEarliest (side_by_side t ts).flat (joint_links_of t ts) schedule (flat_map (λ d. d) departures)
 HasJointEarliest t ts (Never chain) = Unit {0}
 
 -- The chain enters no node twice.

@@ -5,7 +5,7 @@ use Rattle.mintc_timing.specs.declared.link.Link.{Link}
 use Rattle.mintc_timing.specs.declared.link.LinkKind.{LinkKind}
 use Rattle.mintc_timing.specs.declared.link.LinkKind.TheVariants as kind
 use Rattle.mintc_timing.specs.Clocking.{least_width}
-use Rattle.mintc_timing.specs.Design.{Timing, element_count, phase_count}
+use Rattle.mintc_timing.specs.Design.{Design, Timing, element_count, phase_count}
 use Rattle.mintc_timing.specs.Links.{link, links_of}
 use Rattle.mintc_constraints.specs.Duality.{departures_of}
 use Rattle.mintc_constraints.specs.Laws.{node_count}
@@ -44,23 +44,23 @@ lifted_link wide clock before k = link (lifted_kind before k.kind) (lifted_node 
 -- the greatest least width of a phase
 abbrev pub widest : List Timing → ℕ → ℤ
 widest [] p = pos 0
-widest (t ∷ ts) p = int_max (least_width t p) (widest ts p)
+widest (t ∷ ts) p = int_max (least_width t.flat p) (widest ts p)
 
 -- the links of corners that come after so many elements
 abbrev pub joined : (ℕ → ℤ) → ℕ → ℕ → List Timing → List Link
 joined wide clock before [] = []
-joined wide clock before (t ∷ ts) = map (lifted_link wide clock before) (links_of t) ++ joined wide clock (before + element_count t) ts
+joined wide clock before (t ∷ ts) = map (lifted_link wide clock before) (links_of t) ++ joined wide clock (before + element_count t.flat) ts
 
 abbrev pub clock_count : List Timing → ℕ
 clock_count [] = 0
-clock_count (t ∷ ts) = 2 * phase_count t
+clock_count (t ∷ ts) = 2 * phase_count t.flat
 
 abbrev pub joined_links : List Timing → List Link
 joined_links ts = joined (widest ts) (clock_count ts) 0 ts
 
 -- the links of one corner alone
 abbrev pub own_list : Timing → Constraints
-own_list t = constraints_of (node_count t) (links_of t)
+own_list t = constraints_of (node_count t.flat) (links_of t)
 
 -- The link's nodes and elements are few, so that those of all corners are.
 abbrev pub HasLowKind : LinkKind → Type 0
@@ -87,7 +87,7 @@ own_values clock before count values = take (1 + clock) values ++ take count (dr
 
 abbrev pub departures_after : ℕ → ℕ → List Timing → List ℤ → List (List ℤ)
 departures_after clock before [] values = []
-departures_after clock before (t ∷ ts) values = departures_of t (own_values clock before (element_count t) values) ∷ departures_after clock (before + element_count t) ts values
+departures_after clock before (t ∷ ts) values = departures_of t.flat (own_values clock before (element_count t.flat) values) ∷ departures_after clock (before + element_count t.flat) ts values
 
 abbrev pub departures_of_all : List Timing → List ℤ → List (List ℤ)
 departures_of_all ts values = departures_after (clock_count ts) 0 ts values
@@ -121,14 +121,14 @@ StandForAll [] chain members = ⊥
 StandForAll (t ∷ ts) chain members = AreStanding t ts chain members
 
 -- The moments of the corner after so many elements are small enough to be said.
-pub record IsSayable (clock before : ℕ) (t : Timing) (values : List ℤ) : Type 0 where
+pub record IsSayable (clock before : ℕ) (design : Design) (values : List ℤ).flat : Type 0 where
   pub before_few : before ≤ 2000
-  pub inside : 1 + clock + before + element_count t ≤ length values
-  pub sayable : AreSayable t (own_values clock before (element_count t) values)
+  pub inside : 1 + clock + before + element_count design ≤ length values
+  pub sayable : AreSayable design (own_values clock before (element_count design) values)
 
 abbrev pub AreSayableAfter : ℕ → ℕ → List Timing → List ℤ → Type 0
 AreSayableAfter clock before [] values = Unit {0}
-AreSayableAfter clock before (t ∷ ts) values = IsSayable clock before t values × AreSayableAfter clock (before + element_count t) ts values
+AreSayableAfter clock before (t ∷ ts) values = IsSayable clock before t.flat values × AreSayableAfter clock (before + element_count t.flat) ts values
 
 abbrev pub AreSayableOfAll : List Timing → List ℤ → Type 0
 AreSayableOfAll ts values = AreSayableAfter (clock_count ts) 0 ts values

@@ -49,7 +49,7 @@ pub(crate) fn joint_schedule(
     requires some { 1 ≤ length systems.now }
     requires cycle { IsCycle cycle.now }
     requires sayable { AreSayableOfAll systems.now values.now }
-    ensures value { IfOk result (λ s. s ≡ schedule_of (slice_index_or systems.now 0 no_timing) cycle.now.num cycle.now.den values.now) }
+    ensures value { IfOk result (λ s. s ≡ schedule_of (slice_index_or systems.now 0 no_timing).flat cycle.now.num cycle.now.den values.now) }
     ensures in_range { IfOk result IsInRange }
 {
     let system = &systems[0];

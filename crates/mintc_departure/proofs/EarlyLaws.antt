@@ -30,57 +30,57 @@ first-greater start first None is ne = absurd (ne is)
 first-greater start first (Some a) is ne = ap (λ z. int_max start z) is.0
 
 module _ (t : Timing) (s : Schedule) where
-  pub early-arrival-is : (d : List ℤ) (p : Pair) → early_arrival t s d p ≡ departure d p.from +ℤ early_travel t s p
+  pub early-arrival-is : (d : List ℤ) (p : Pair) → early_arrival t.flat s d p ≡ departure d p.from +ℤ early_travel t.flat s p
   early-arrival-is d p = omega (arith, ints)
 
-  early-latch : (d : List ℤ) (l : ℕ) → (element_at t l).flop ≡ false → early_departure t s d l ≡ greater_of (early_opening t s l) (least_of (early_arrivals t s d l))
-  early-latch d l h = ap (λ (b : Bool). cond b (pos 0) (greater_of (early_opening t s l) (least_of (early_arrivals t s d l)))) h
+  early-latch : (d : List ℤ) (l : ℕ) → (element_at t.flat l).flop ≡ false → early_departure t s d l ≡ greater_of (early_opening t.flat s l) (least_of (early_arrivals t s d l))
+  early-latch d l h = ap (λ (b : Bool). cond b (pos 0) (greater_of (early_opening t.flat s l) (least_of (early_arrivals t s d l)))) h
 
-  early-flop : (d : List ℤ) (l : ℕ) → (element_at t l).flop ≡ true → early_departure t s d l ≡ pos 0
-  early-flop d l h = ap (λ (b : Bool). cond b (pos 0) (greater_of (early_opening t s l) (least_of (early_arrivals t s d l)))) h
+  early-flop : (d : List ℤ) (l : ℕ) → (element_at t.flat l).flop ≡ true → early_departure t s d l ≡ pos 0
+  early-flop d l h = ap (λ (b : Bool). cond b (pos 0) (greater_of (early_opening t.flat s l) (least_of (early_arrivals t s d l)))) h
 
-  start-latch_early : (l : ℕ) → (element_at t l).flop ≡ false → early_start_of t s l ≡ early_opening t s l
-  start-latch_early l h = ap (λ (b : Bool). cond b (pos 0) (early_opening t s l)) h
+  start-latch_early : (l : ℕ) → (element_at t.flat l).flop ≡ false → early_start_of t.flat s l ≡ early_opening t.flat s l
+  start-latch_early l h = ap (λ (b : Bool). cond b (pos 0) (early_opening t.flat s l)) h
 
-  start-flop_early : (l : ℕ) → (element_at t l).flop ≡ true → early_start_of t s l ≡ pos 0
-  start-flop_early l h = ap (λ (b : Bool). cond b (pos 0) (early_opening t s l)) h
+  start-flop_early : (l : ℕ) → (element_at t.flat l).flop ≡ true → early_start_of t.flat s l ≡ pos 0
+  start-flop_early l h = ap (λ (b : Bool). cond b (pos 0) (early_opening t.flat s l)) h
 
   -- what the code makes of a first arrival
-  pub departs-by_first : (d : List ℤ) (l : ℕ) (first x : ℤ) → (element_at t l).flop ≡ false → first ≢ NEVER → IsFirst (least_of (early_arrivals t s d l)) first →
-      x ≡ int_max (early_start_of t s l) first → x ≡ early_departure t s d l
+  pub departs-by_first : (d : List ℤ) (l : ℕ) (first x : ℤ) → (element_at t.flat l).flop ≡ false → first ≢ NEVER → IsFirst (least_of (early_arrivals t s d l)) first →
+      x ≡ int_max (early_start_of t.flat s l) first → x ≡ early_departure t s d l
   departs-by_first d l first x latch ne is e =
-      e ∙ first-greater (early_start_of t s l) first (least_of (early_arrivals t s d l)) is ne
+      e ∙ first-greater (early_start_of t.flat s l) first (least_of (early_arrivals t s d l)) is ne
       ∙ ap (λ z. greater_of z (least_of (early_arrivals t s d l))) (start-latch_early l latch) ∙ sym (early-latch d l latch)
 
   -- Departures that are nowhere later make departures that are nowhere later.
-  arrival-mono : (d e : List ℤ) (p : Pair) → departure d p.from ≤ℤ departure e p.from → early_arrival t s d p ≤ℤ early_arrival t s e p
+  arrival-mono : (d e : List ℤ) (p : Pair) → departure d p.from ≤ℤ departure e p.from → early_arrival t.flat s d p ≤ℤ early_arrival t.flat s e p
   arrival-mono d e p h = rw (early-arrival-is d p, early-arrival-is e p) (omega (arith, ints))
 
   early-mono : (d e : List ℤ) → ((l : ℕ) → departure d l ≤ℤ departure e l) → (l : ℕ) → early_departure t s d l ≤ℤ early_departure t s e l
   early-mono d e h l =
       ⊎_elim
       (λ flop. rw (early-flop d l flop, early-flop e l flop) (omega (arith, ints)))
-      (λ latch. rw (early-latch d l latch, early-latch e l latch) (greater-mono (early_opening t s l) _ _
-      (least-mono (early_arrival t s d) (early_arrival t s e) (λ p. arrival-mono d e p (h p.from)) (into t l))))
-      (cases_Bool (element_at t l).flop)
+      (λ latch. rw (early-latch d l latch, early-latch e l latch) (greater-mono (early_opening t.flat s l) _ _
+      (least-mono (early_arrival t.flat s d) (early_arrival t.flat s e) (λ p. arrival-mono d e p (h p.from)) (into t l))))
+      (cases_Bool (element_at t.flat l).flop)
 
-  start-least : (d : List ℤ) (l : ℕ) → early_start_of t s l ≤ℤ early_departure t s d l
+  start-least : (d : List ℤ) (l : ℕ) → early_start_of t.flat s l ≤ℤ early_departure t s d l
   start-least d l =
       ⊎_elim
       (λ flop. rw (start-flop_early l flop, early-flop d l flop) (omega (arith, ints)))
-      (λ latch. rw (start-latch_early l latch, early-latch d l latch) (greater-from (early_opening t s l) (least_of (early_arrivals t s d l))))
-      (cases_Bool (element_at t l).flop)
+      (λ latch. rw (start-latch_early l latch, early-latch d l latch) (greater-from (early_opening t.flat s l) (least_of (early_arrivals t s d l))))
+      (cases_Bool (element_at t.flat l).flop)
 
-  pub everywhere : (d e : List ℤ) → length d ≡ element_count t → length e ≡ element_count t → AreAtMost t d e → (l : ℕ) → departure d l ≤ℤ departure e l
+  pub everywhere : (d e : List ℤ) → length d ≡ element_count t.flat → length e ≡ element_count t.flat → AreAtMost t.flat d e → (l : ℕ) → departure d l ≤ℤ departure e l
   everywhere d e p q h l =
       ⊎_elim
       (λ lt. h l lt)
       (λ past. rw (get_or_past d l (pos 0) (rw p past), get_or_past e l (pos 0) (rw q past)) (omega (arith, ints)))
-      (below_or_not l (element_count t))
+      (below_or_not l (element_count t.flat))
 
 -- The second departures are what the first make them.
 abbrev pub IsRound : Timing → Schedule → List ℤ → List ℤ → Type 0
-IsRound t s d e = (l : ℕ) → l < element_count t → departure e l ≡ early_departure t s d l
+IsRound t s d e = (l : ℕ) → l < element_count t.flat → departure e l ≡ early_departure t s d l
 
 -- a delay and the one before it, times the denominator
 opening-sum : (cq dq den : ℤ) → (cq -ℤ dq) *ℤ den +ℤ dq *ℤ den ≡ cq *ℤ den
@@ -96,13 +96,13 @@ latch-before start q late opens cq_low cq_high dq_high e h f k = omega (arith, i
 
 module _ (t : Timing) (s : Schedule) (fits : IsClocked t s)
     (late : List ℤ) (are_late : AreLate t s late) where
-  dq-grow : (l : ℕ) → l < element_count t → ((element_at t l).dq_min *ℤ s.den) ≤ℤ ((element_at t l).dq_max *ℤ s.den)
+  dq-grow : (l : ℕ) → l < element_count t.flat → ((element_at t.flat l).dq_min *ℤ s.den) ≤ℤ ((element_at t.flat l).dq_max *ℤ s.den)
   dq-grow l h = times-mono_positive _ _ s.den (element_in_range t s fits l h).dq fits.range.den.0
 
-  start-before : (l : ℕ) → l < element_count t →
-      (early_start_of t s l +ℤ (element_at t l).dq_min *ℤ s.den) ≤ℤ (departure late l +ℤ (element_at t l).dq_max *ℤ s.den)
+  start-before : (l : ℕ) → l < element_count t.flat →
+      (early_start_of t.flat s l +ℤ (element_at t.flat l).dq_min *ℤ s.den) ≤ℤ (departure late l +ℤ (element_at t.flat l).dq_max *ℤ s.den)
   start-before l h =
-      let e = element_at t l in
+      let e = element_at t.flat l in
       let starts = exact-starts t s late are_late.exact fits.timing.extremes.each l h in
       let grow = dq-grow l h in
       ⊎_elim
@@ -111,7 +111,7 @@ module _ (t : Timing) (s : Schedule) (fits : IsClocked t s)
       rw (start-flop_early t s l flop, is) (omega (arith, ints)))
       (λ latch.
       rw (start-latch_early t s l latch)
-      (latch-before (early_opening t s l) (e.dq_min *ℤ s.den) (departure late l) (late_opening t s l) (e.cq_min *ℤ s.den) (e.cq_max *ℤ s.den) (e.dq_max *ℤ s.den)
+      (latch-before (early_opening t.flat s l) (e.dq_min *ℤ s.den) (departure late l) (late_opening t.flat s l) (e.cq_min *ℤ s.den) (e.cq_max *ℤ s.den) (e.dq_max *ℤ s.den)
       (opening-sum e.cq_min e.dq_min s.den)
       (times-mono_positive e.cq_min e.cq_max s.den (element_in_range t s fits l h).cq fits.range.den.0)
       (opening-sum e.cq_max e.dq_max s.den)
@@ -120,12 +120,12 @@ module _ (t : Timing) (s : Schedule) (fits : IsClocked t s)
 
   -- What arrives early is there before what arrives late.
   arrival-before : (d : List ℤ) (n : ℕ) → n < length t.pairs →
-      (departure d (pair_at t n).from +ℤ (element_at t (pair_at t n).from).dq_min *ℤ s.den) ≤ℤ (departure late (pair_at t n).from +ℤ (element_at t (pair_at t n).from).dq_max *ℤ s.den) →
-      early_arrival t s d (pair_at t n) ≤ℤ late_arrival t s late (pair_at t n)
+      (departure d (pair_at t n).from +ℤ (element_at t.flat (pair_at t n).from).dq_min *ℤ s.den) ≤ℤ (departure late (pair_at t n).from +ℤ (element_at t.flat (pair_at t n).from).dq_max *ℤ s.den) →
+      early_arrival t.flat s d (pair_at t n) ≤ℤ late_arrival t.flat s late (pair_at t n)
   arrival-before d n h before =
       let p = pair_at t n in
-      let from = element_at t p.from in
-      sums-before (departure d p.from) (departure late p.from) (from.dq_min *ℤ s.den) (from.dq_max *ℤ s.den) (p.min *ℤ s.den) (p.max *ℤ s.den) ((from.dq_min +ℤ p.min) *ℤ s.den) ((from.dq_max +ℤ p.max) *ℤ s.den) (shift_of s (phase_of t p.from) (phase_of t p.to))
+      let from = element_at t.flat p.from in
+      sums-before (departure d p.from) (departure late p.from) (from.dq_min *ℤ s.den) (from.dq_max *ℤ s.den) (p.min *ℤ s.den) (p.max *ℤ s.den) ((from.dq_min +ℤ p.min) *ℤ s.den) ((from.dq_max +ℤ p.max) *ℤ s.den) (shift_of s (phase_of t.flat p.from) (phase_of t.flat p.to))
       (add-times from.dq_min p.min s.den) (add-times from.dq_max p.max s.den) before
       (times-mono_positive p.min p.max s.den (pair-min_order t.flat t.order t.pairs fits.design fits.timing n no_pair h).1 fits.range.den.0)
     where
@@ -133,8 +133,8 @@ module _ (t : Timing) (s : Schedule) (fits : IsClocked t s)
       sums-before d e q r x y low high shift a b h k = omega (arith, ints)
 
   round-before : (d : List ℤ) →
-      ((l : ℕ) → l < element_count t → (departure d l +ℤ (element_at t l).dq_min *ℤ s.den) ≤ℤ (departure late l +ℤ (element_at t l).dq_max *ℤ s.den)) →
-      (l : ℕ) → l < element_count t → (early_departure t s d l +ℤ (element_at t l).dq_min *ℤ s.den) ≤ℤ (departure late l +ℤ (element_at t l).dq_max *ℤ s.den)
+      ((l : ℕ) → l < element_count t.flat → (departure d l +ℤ (element_at t.flat l).dq_min *ℤ s.den) ≤ℤ (departure late l +ℤ (element_at t.flat l).dq_max *ℤ s.den)) →
+      (l : ℕ) → l < element_count t.flat → (early_departure t s d l +ℤ (element_at t.flat l).dq_min *ℤ s.den) ≤ℤ (departure late l +ℤ (element_at t.flat l).dq_max *ℤ s.den)
   round-before d before l h =
       ⊎_elim
       (λ flop. carry _ _ _ _ (early-flop t s d l flop ∙ sym (start-flop_early t s l flop)) (start-before l h))
@@ -143,9 +143,9 @@ module _ (t : Timing) (s : Schedule) (fits : IsClocked t s)
       (⊎_elim
       (λ opens. carry _ _ _ _ (opens ∙ sym (start-latch_early t s l latch)) (start-before l h))
       (λ arrives. by_arrival latch arrives.0 arrives.2 (⊎_elim (λ none. absurd (some_or_none arrives.0 _ arrives.1 none)) (λ w. (w.0, w.1, w.2, some-same _ _ (sym arrives.1 ∙ w.3)))
-      (least-some (early_arrival t s d) (λ (p : Pair). p.to == l) no_pair t.pairs)))
-      (greater-one (early_opening t s l) (least_of (early_arrivals t s d l)))))
-      (cases_Bool (element_at t l).flop)
+      (least-some (early_arrival t.flat s d) (λ (p : Pair). p.to == l) no_pair t.pairs)))
+      (greater-one (early_opening t.flat s l) (least_of (early_arrivals t s d l)))))
+      (cases_Bool (element_at t.flat l).flop)
     where
       some_or_none : (a : ℤ) (o : Option ℤ) → o ≡ Some a → o ≡ None → ⊥
       some_or_none a o e f = cc
@@ -156,21 +156,21 @@ module _ (t : Timing) (s : Schedule) (fits : IsClocked t s)
       rises : (x y z q r : ℤ) → x ≡ y → y ≤ℤ z → q ≤ℤ r → (x +ℤ q) ≤ℤ (z +ℤ r)
       rises x y z q r e h k = omega (arith, ints)
 
-      by_arrival : (element_at t l).flop ≡ false → (a : ℤ) → greater_of (early_opening t s l) (least_of (early_arrivals t s d l)) ≡ a →
-          (n : ℕ) × (n < length t.pairs) × ((pair_at t n).to == l ≡ true) × (a ≡ early_arrival t s d (pair_at t n)) →
-          (greater_of (early_opening t s l) (least_of (early_arrivals t s d l)) +ℤ (element_at t l).dq_min *ℤ s.den) ≤ℤ (departure late l +ℤ (element_at t l).dq_max *ℤ s.den)
+      by_arrival : (element_at t.flat l).flop ≡ false → (a : ℤ) → greater_of (early_opening t.flat s l) (least_of (early_arrivals t s d l)) ≡ a →
+          (n : ℕ) × (n < length t.pairs) × ((pair_at t n).to == l ≡ true) × (a ≡ early_arrival t.flat s d (pair_at t n)) →
+          (greater_of (early_opening t.flat s l) (least_of (early_arrivals t s d l)) +ℤ (element_at t.flat l).dq_min *ℤ s.den) ≤ℤ (departure late l +ℤ (element_at t.flat l).dq_max *ℤ s.den)
       by_arrival latch a is w =
           let n = w.0 in
           let to : (pair_at t n).to ≡ l = eqb-true _ _ w.2 in
           let ends = pair_ends t s fits n w.1 in
-          let P : ℕ → Type 0 = λ m. late_arrival t s late (pair_at t n) ≤ℤ departure late m in
-          let there = subst P to (arrival-at_most t s late are_late.exact fits.timing.extremes.each n no_pair w.1 (ap (λ (m : ℕ). (element_at t m).flop) to ∙ latch)) in
+          let P : ℕ → Type 0 = λ m. late_arrival t.flat s late (pair_at t n) ≤ℤ departure late m in
+          let there = subst P to (arrival-at_most t s late are_late.exact fits.timing.extremes.each n no_pair w.1 (ap (λ (m : ℕ). (element_at t.flat m).flop) to ∙ latch)) in
           let first = arrival-before d n w.1 (before (pair_at t n).from ends.from) in
-          let both : early_arrival t s d (pair_at t n) ≤ℤ departure late l = omega (arith, ints) in
-          rises _ _ (departure late l) ((element_at t l).dq_min *ℤ s.den) ((element_at t l).dq_max *ℤ s.den) (is ∙ w.3) both (dq-grow l h)
+          let both : early_arrival t.flat s d (pair_at t n) ≤ℤ departure late l = omega (arith, ints) in
+          rises _ _ (departure late l) ((element_at t.flat l).dq_min *ℤ s.den) ((element_at t.flat l).dq_max *ℤ s.den) (is ∙ w.3) both (dq-grow l h)
 
   -- The rounds begin where no data reaches an element ..
-  pub rising-first : (d : List ℤ) → length d ≡ element_count t → ((l : ℕ) → l < element_count t → departure d l ≡ early_start_of t s l) → AreRising t s late d
+  pub rising-first : (d : List ℤ) → length d ≡ element_count t.flat → ((l : ℕ) → l < element_count t.flat → departure d l ≡ early_start_of t.flat s l) → AreRising t s late d
   rising-first d count starts = record {
     count = count;
     above = λ l h. rw (starts l h) (omega (arith, ints));
@@ -180,10 +180,10 @@ module _ (t : Timing) (s : Schedule) (fits : IsClocked t s)
   }
 
   -- .. and go on where each departure is what the others made it, or stays.
-  pub rising-part : (d e : List ℤ) → AreRising t s late d → length e ≡ element_count t →
-      ((l : ℕ) → l < element_count t → (departure e l ≡ early_departure t s d l) ⊎ (departure e l ≡ departure d l)) → AreRising t s late e
+  pub rising-part : (d e : List ℤ) → AreRising t s late d → length e ≡ element_count t.flat →
+      ((l : ℕ) → l < element_count t.flat → (departure e l ≡ early_departure t s d l) ⊎ (departure e l ≡ departure d l)) → AreRising t s late e
   rising-part d e rising count part =
-      let up : AreAtMost t d e = λ l h. ⊎_elim (λ is. rw is (rising.rises l h)) (λ is. rw is (omega (arith, ints))) (part l h) in
+      let up : AreAtMost t.flat d e = λ l h. ⊎_elim (λ is. rw is (rising.rises l h)) (λ is. rw is (omega (arith, ints))) (part l h) in
       let mono : (l : ℕ) → early_departure t s d l ≤ℤ early_departure t s e l = early-mono t s d e (everywhere t s d e rising.count count up) in
       record {
         count = count;
@@ -198,39 +198,39 @@ module _ (t : Timing) (s : Schedule) (fits : IsClocked t s)
         before = λ l h. ⊎_elim (λ is. rw is (round-before d rising.before l h)) (λ is. rw is (rising.before l h)) (part l h);
       }
 
-  pub rising-more : (d e : List ℤ) → AreRising t s late d → length e ≡ element_count t → IsRound t s d e → AreRising t s late e
+  pub rising-more : (d e : List ℤ) → AreRising t s late d → length e ≡ element_count t.flat → IsRound t s d e → AreRising t s late e
   rising-more d e rising count round = rising-part d e rising count (λ l h. inl (round l h))
 
   -- Where a round changes nothing, it leaves the departures, and they are the early ones.
-  pub rising-last : (d e : List ℤ) → AreRising t s late d → length e ≡ element_count t → IsRound t s d e → IsRound t s d d → AreEarly t s e
+  pub rising-last : (d e : List ℤ) → AreRising t s late d → length e ≡ element_count t.flat → IsRound t s d e → IsRound t s d d → AreEarly t s e
   rising-last d e rising count round still =
-      let same : e ≡ d = ext_get_or (pos 0) e d (count ∙ sym rising.count) (λ l h. let k : l < element_count t = rw count at h in round l k ∙ sym (still l k)) in
+      let same : e ≡ d = ext_get_or (pos 0) e d (count ∙ sym rising.count) (λ l h. let k : l < element_count t.flat = rw count at h in round l k ∙ sym (still l k)) in
       rw same (record { exact = record { count = rising.count; each = still }; least = rising.least })
 
   -- The numbers of each round are sums of few delays.
-  pub rising-sums : (d : List ℤ) → AreRising t s late d → AreSums t d
+  pub rising-sums : (d : List ℤ) → AreRising t s late d → AreSums t.flat d
   rising-sums d rising = record { count = rising.count; each = sum }
     where
       times_den : (x : ℤ) → IsWithin 1000000000 x → IsWithin 100000000000000 (x *ℤ s.den)
       times_den x h = let r = fits.range.den in let den : IsWithin 100000 s.den = (omega (arith, ints), omega (arith, ints)) in IsWithin-product 1000000000 100000 x s.den h den
 
-      start : (l : ℕ) → l < element_count t → IsWithin 100000000000000 (early_start_of t s l)
+      start : (l : ℕ) → l < element_count t.flat → IsWithin 100000000000000 (early_start_of t.flat s l)
       start l h =
           let e = element_in_range t s fits l h in
-          let delay : IsWithin 1000000000 ((element_at t l).cq_min -ℤ (element_at t l).dq_min) = (omega (arith, ints), omega (arith, ints)) in
+          let delay : IsWithin 1000000000 ((element_at t.flat l).cq_min -ℤ (element_at t.flat l).dq_min) = (omega (arith, ints), omega (arith, ints)) in
           ⊎_elim
           (λ flop. rw (start-flop_early t s l flop) (omega (arith, ints), omega (arith, ints)))
           (λ latch. rw (start-latch_early t s l latch) (times_den _ delay))
-          (cases_Bool (element_at t l).flop)
+          (cases_Bool (element_at t.flat l).flop)
 
       within : (x first z q r : ℤ) → first ≤ℤ x → (x +ℤ q) ≤ℤ (z +ℤ r) → IsWithin 100000000000000 first → IsWithin 100000000000000 q → IsWithin 100000000000000 r → IsWithin 900100000000000000 z → IsSum x
       within x first z q r h k a b c e =
           (omega (arith, ints), omega (arith, ints))
 
-      sum : (l : ℕ) → l < element_count t → IsSum (departure d l)
+      sum : (l : ℕ) → l < element_count t.flat → IsSum (departure d l)
       sum l h =
           let e = element_in_range t s fits l h in
-          let q : IsWithin 1000000000 (element_at t l).dq_min = (omega (arith, ints), omega (arith, ints)) in
-          let r : IsWithin 1000000000 (element_at t l).dq_max = (omega (arith, ints), omega (arith, ints)) in
-          within (departure d l) (early_start_of t s l) (departure late l) ((element_at t l).dq_min *ℤ s.den) ((element_at t l).dq_max *ℤ s.den) (rising.above l h) (rising.before l h) (start l h) (times_den _ q) (times_den _ r)
+          let q : IsWithin 1000000000 (element_at t.flat l).dq_min = (omega (arith, ints), omega (arith, ints)) in
+          let r : IsWithin 1000000000 (element_at t.flat l).dq_max = (omega (arith, ints), omega (arith, ints)) in
+          within (departure d l) (early_start_of t.flat s l) (departure late l) ((element_at t.flat l).dq_min *ℤ s.den) ((element_at t.flat l).dq_max *ℤ s.den) (rising.above l h) (rising.before l h) (start l h) (times_den _ q) (times_den _ r)
           (late-within t s fits late are_late l h)

@@ -69,79 +69,79 @@ high-fell low width b b' (inr p) h = absurd (omega (arith, ints))
 module _ (t : Timing) (s : Schedule) (fits : IsClocked t s) where
   module _ (d : List ℤ) (exact : AreExact t s d) where
     -- A latch departs when it opens, or when the data of some pair is there.
-    attained : (l : ℕ) → l < element_count t → (element_at t l).flop ≡ false →
-        (departure d l ≡ late_opening t s l) ⊎ ((n : ℕ) × (n < length t.pairs) × ((pair_at t n).to == l ≡ true) × (departure d l ≡ late_arrival t s d (pair_at t n)))
+    attained : (l : ℕ) → l < element_count t.flat → (element_at t.flat l).flop ≡ false →
+        (departure d l ≡ late_opening t.flat s l) ⊎ ((n : ℕ) × (n < length t.pairs) × ((pair_at t n).to == l ≡ true) × (departure d l ≡ late_arrival t.flat s d (pair_at t n)))
     attained l h e =
-        let is : departure d l ≡ greater_of (late_opening t s l) (greatest_of (late_arrivals t s d l)) = exact.each l h ∙ late_departure-latch t s d l e in
+        let is : departure d l ≡ greater_of (late_opening t.flat s l) (greatest_of (late_arrivals t s d l)) = exact.each l h ∙ late_departure-latch t s d l e in
         let test : Pair → Bool = λ p. p.to == l in
         let o = greatest_of (late_arrivals t s d l) in
         ⊎_elim
         (λ a. inl (is ∙ a))
-        (λ w. let same : pair_at t w.0 ≡ w.1 = get_or_default t.pairs w.0 no_pair w.1 w.2 ∙ w.3 in inr (w.0, w.2, ap test same ∙ w.4.0, is ∙ sym w.4.1 ∙ ap (late_arrival t s d) (sym same)))
-        (greater-attained (late_arrival t s d) test (late_opening t s l) t.pairs o (greatest_is (late_arrival t s d) test t.pairs))
+        (λ w. let same : pair_at t w.0 ≡ w.1 = get_or_default t.pairs w.0 no_pair w.1 w.2 ∙ w.3 in inr (w.0, w.2, ap test same ∙ w.4.0, is ∙ sym w.4.1 ∙ ap (late_arrival t.flat s d) (sym same)))
+        (greater-attained (late_arrival t.flat s d) test (late_opening t.flat s l) t.pairs o (greatest_is (late_arrival t.flat s d) test t.pairs))
 
-    module _ (low : ℕ) (high_enough : 100000000000000 ≤ low) (gap : IsGap (departure d) (pos low) (pos (low + 400000000000000)) (element_count t)) where
+    module _ (low : ℕ) (high_enough : 100000000000000 ≤ low) (gap : IsGap (departure d) (pos low) (pos (low + 400000000000000)) (element_count t.flat)) where
       abbrev down : List ℤ
       down = map (lowered (pos (low + 400000000000000))) d
 
       down-at : (l : ℕ) → departure down l ≡ lowered (pos (low + 400000000000000)) (departure d l)
       down-at l = lowered-at (low + 400000000000000) d l
 
-      down-is : (l : ℕ) → l < element_count t → IsLowered (pos low) (pos (low + 400000000000000)) (departure d l) (departure down l)
+      down-is : (l : ℕ) → l < element_count t.flat → IsLowered (pos low) (pos (low + 400000000000000)) (departure d l) (departure down l)
       down-is l h =
           ⊎_elim
           (λ a. let under : departure d l ≤ℤ pos (low + 400000000000000) = omega (arith, ints) in inl (a, down-at l ∙ lowered-low _ _ under))
           (λ b. inr (b, down-at l ∙ lowered-high _ _ b))
           (gap l h)
 
-      down-flop : (l : ℕ) → l < element_count t → (element_at t l).flop ≡ true → departure down l ≡ late_departure t s down l
+      down-flop : (l : ℕ) → l < element_count t.flat → (element_at t.flat l).flop ≡ true → departure down l ≡ late_departure t s down l
       down-flop l h e =
           let zero_is : departure d l ≡ pos 0 = exact.each l h ∙ late_departure-flop t s d l e in
           start-same low 400000000000000 (pos 0) (departure d l) (departure down l) (omega (arith, ints)) (down-is l h) zero_is ∙ sym (late_departure-flop t s down l e)
 
-      down-latch : (l : ℕ) → l < element_count t → (element_at t l).flop ≡ false → departure down l ≡ late_departure t s down l
+      down-latch : (l : ℕ) → l < element_count t.flat → (element_at t.flat l).flop ≡ false → departure down l ≡ late_departure t s down l
       down-latch l h e =
           let test : Pair → Bool = λ p. p.to == l in
           let w = opening-within t s fits l h in
-          let opens : late_opening t s l ≤ℤ pos low = let b = w.1 in omega (arith, ints) in
-          greater-is (late_arrival t s down) test t.pairs no_pair (late_opening t s l) (departure down l)
-          (start-kept low 400000000000000 (late_opening t s l) (departure d l) (departure down l) opens (down-is l h) (rw (start-latch t s l e) at (exact-starts t s d exact fits.timing.extremes.each l h)))
+          let opens : late_opening t.flat s l ≤ℤ pos low = let b = w.1 in omega (arith, ints) in
+          greater-is (late_arrival t.flat s down) test t.pairs no_pair (late_opening t.flat s l) (departure down l)
+          (start-kept low 400000000000000 (late_opening t.flat s l) (departure d l) (departure down l) opens (down-is l h) (rw (start-latch t s l e) at (exact-starts t s d exact fits.timing.extremes.each l h)))
           (λ n k to. kept n k (eqb-true _ _ to))
           (⊎_elim
-          (λ a. inl (start-same low 400000000000000 (late_opening t s l) (departure d l) (departure down l) opens (down-is l h) a))
+          (λ a. inl (start-same low 400000000000000 (late_opening t.flat s l) (departure d l) (departure down l) opens (down-is l h) a))
           (λ m. inr (m.0, m.1, m.2, brought m.0 m.1 (eqb-true _ _ m.2) m.3))
           (attained l h e))
           ∙ sym (late_departure-latch t s down l e)
         where
-          kept : (n : ℕ) → n < length t.pairs → (pair_at t n).to ≡ l → late_arrival t s down (pair_at t n) ≤ℤ departure down l
+          kept : (n : ℕ) → n < length t.pairs → (pair_at t n).to ≡ l → late_arrival t.flat s down (pair_at t n) ≤ℤ departure down l
           kept n k to =
               let ends = pair_ends t s fits n k in
-              let P : ℕ → Type 0 = λ m. late_arrival t s d (pair_at t n) ≤ℤ departure d m in
-              let a = subst P to (arrival-at_most t s d exact fits.timing.extremes.each n no_pair k (ap (λ (m : ℕ). (element_at t m).flop) to ∙ e)) in
+              let P : ℕ → Type 0 = λ m. late_arrival t.flat s d (pair_at t n) ≤ℤ departure d m in
+              let a = subst P to (arrival-at_most t s d exact fits.timing.extremes.each n no_pair k (ap (λ (m : ℕ). (element_at t.flat m).flop) to ∙ e)) in
               rw (arrival-is t s down (pair_at t n))
-              (arrival-kept low 400000000000000 (departure d (pair_at t n).from) (departure down (pair_at t n).from) (departure d l) (departure down l) (late_travel t s (pair_at t n))
+              (arrival-kept low 400000000000000 (departure d (pair_at t n).from) (departure down (pair_at t n).from) (departure d l) (departure down l) (late_travel t.flat s (pair_at t n))
               (travel-within t s fits n k) (down-is (pair_at t n).from ends.from) (down-is l h) (rw (arrival-is t s d (pair_at t n)) at a))
 
-          brought : (n : ℕ) → n < length t.pairs → (pair_at t n).to ≡ l → departure d l ≡ late_arrival t s d (pair_at t n) → departure down l ≡ late_arrival t s down (pair_at t n)
+          brought : (n : ℕ) → n < length t.pairs → (pair_at t n).to ≡ l → departure d l ≡ late_arrival t.flat s d (pair_at t n) → departure down l ≡ late_arrival t.flat s down (pair_at t n)
           brought n k to is =
               let ends = pair_ends t s fits n k in
-              arrival-brought low 400000000000000 (departure d (pair_at t n).from) (departure down (pair_at t n).from) (departure d l) (departure down l) (late_travel t s (pair_at t n))
+              arrival-brought low 400000000000000 (departure d (pair_at t n).from) (departure down (pair_at t n).from) (departure d l) (departure down l) (late_travel t.flat s (pair_at t n))
               (travel-within t s fits n k) (down-is (pair_at t n).from ends.from) (down-is l h) (is ∙ arrival-is t s d (pair_at t n))
               ∙ sym (arrival-is t s down (pair_at t n))
 
       down-exact : AreExact t s down
       down-exact = record {
         count = length-map d (lowered (pos (low + 400000000000000))) ∙ exact.count;
-        each = λ l h. ⊎_elim (down-flop l h) (down-latch l h) (cases_Bool (element_at t l).flop);
+        each = λ l h. ⊎_elim (down-flop l h) (down-latch l h) (cases_Bool (element_at t.flat l).flop);
       }
 
-      stays : ((e : List ℤ) → AreExact t s e → (l : ℕ) → l < element_count t → departure d l ≤ℤ departure e l) → (l : ℕ) → l < element_count t → departure d l ≤ℤ pos low
+      stays : ((e : List ℤ) → AreExact t s e → (l : ℕ) → l < element_count t.flat → departure d l ≤ℤ departure e l) → (l : ℕ) → l < element_count t.flat → departure d l ≤ℤ pos low
       stays least l h = high-fell low 400000000000000 (departure d l) (departure down l) (down-is l h) (least down down-exact l h)
 
   -- Late departures are sums over at most one pair for each element.
-  pub late-within : (d : List ℤ) → AreLate t s d → (l : ℕ) → l < element_count t → IsWithin 900100000000000000 (departure d l)
+  pub late-within : (d : List ℤ) → AreLate t s d → (l : ℕ) → l < element_count t.flat → IsWithin 900100000000000000 (departure d l)
   late-within d late l h =
-      let top = all_below (departure d) 100000000000000 400000000000000 (element_count t) (λ low e gap. stays d late.exact low e gap late.least) l h in
+      let top = all_below (departure d) 100000000000000 400000000000000 (element_count t.flat) (λ low e gap. stays d late.exact low e gap late.least) l h in
       let low = exact-starts t s d late.exact fits.timing.extremes.each l h in
       let start = start-within t s fits l h in
       (omega (arith, ints), omega (arith, ints))

@@ -54,52 +54,52 @@ begin_apart arcs es v h apart (suc i) (suc j) d lt within =
 
 module _ (t : Timing) (s : Schedule) where
   -- A walk to a flop stays there, and weighs nothing or less.
-  walk_to_flop : (es : List ℕ) (u v : ℕ) → Leads (arcs_of t s) u es v → (element_at t v).flop ≡ true → (u ≡ v) × (weight_of (arcs_of t s) es ≤ℤ pos 0)
+  walk_to_flop : (es : List ℕ) (u v : ℕ) → Leads (arcs_of t s) u es v → (element_at t.flat v).flop ≡ true → (u ≡ v) × (weight_of (arcs_of t s) es ≤ℤ pos 0)
   walk_to_flop [] u v h e = (h, omega (arith, ints))
   walk_to_flop (n ∷ es) u v h e =
       let rest = walk_to_flop es (arc_at (arcs_of t s) n).to v h.2 e in
       let k : n < length t.pairs = rw (arcs-count t s) at h.0 in
       let to : (pair_at t n).to ≡ v = sym (to_is t s n k) ∙ rest.0 in
-      let flop : (element_at t (pair_at t n).to).flop ≡ true = ap (λ (m : ℕ). (element_at t m).flop) to ∙ e in
+      let flop : (element_at t.flat (pair_at t n).to).flop ≡ true = ap (λ (m : ℕ). (element_at t.flat m).flop) to ∙ e in
       let w = flop-weight t s n k flop in
       (sym h.1 ∙ flop-from t s n k flop ∙ to, omega (arith, ints))
 
   -- A walk from a latch meets latches alone.
-  walk_from_latch : (es : List ℕ) (u v : ℕ) → Leads (arcs_of t s) u es v → (element_at t u).flop ≡ false → All (λ n. (element_at t (pair_at t n).to).flop ≡ false) es
-  walk_from_latch [] u v h e = All-nil (λ n. (element_at t (pair_at t n).to).flop ≡ false)
+  walk_from_latch : (es : List ℕ) (u v : ℕ) → Leads (arcs_of t s) u es v → (element_at t.flat u).flop ≡ false → All (λ n. (element_at t.flat (pair_at t n).to).flop ≡ false) es
+  walk_from_latch [] u v h e = All-nil (λ n. (element_at t.flat (pair_at t n).to).flop ≡ false)
   walk_from_latch (n ∷ es) u v h e =
       let k : n < length t.pairs = rw (arcs-count t s) at h.0 in
-      let latch : (element_at t (pair_at t n).to).flop ≡ false =
+      let latch : (element_at t.flat (pair_at t n).to).flop ≡ false =
       ⊎_elim
-      (λ flop. let b = ap (λ (m : ℕ). (element_at t m).flop) (sym (flop-from t s n k flop) ∙ h.1) ∙ e in absurd (cc))
+      (λ flop. let b = ap (λ (m : ℕ). (element_at t.flat m).flop) (sym (flop-from t s n k flop) ∙ h.1) ∙ e in absurd (cc))
       (λ latch. latch)
-      (cases_Bool (element_at t (pair_at t n).to).flop) in
-      All-cons (λ n. (element_at t (pair_at t n).to).flop ≡ false) n es latch
-      (walk_from_latch es (arc_at (arcs_of t s) n).to v h.2 (ap (λ (m : ℕ). (element_at t m).flop) (to_is t s n k) ∙ latch))
+      (cases_Bool (element_at t.flat (pair_at t n).to).flop) in
+      All-cons (λ n. (element_at t.flat (pair_at t n).to).flop ≡ false) n es latch
+      (walk_from_latch es (arc_at (arcs_of t s) n).to v h.2 (ap (λ (m : ℕ). (element_at t.flat m).flop) (to_is t s n k) ∙ latch))
 
   pairs_exist : (es : List ℕ) (u v : ℕ) → Leads (arcs_of t s) u es v → All (λ n. n < length t.pairs) es
   pairs_exist [] u v h = All-nil (λ n. n < length t.pairs)
   pairs_exist (n ∷ es) u v h = All-cons (λ n. n < length t.pairs) n es (rw (arcs-count t s) at h.0) (pairs_exist es (arc_at (arcs_of t s) n).to v h.2)
 
   abbrev AreLatches : List ℕ → Type 0
-  AreLatches es = All (λ n. (element_at t (pair_at t n).to).flop ≡ false) es
+  AreLatches es = All (λ n. (element_at t.flat (pair_at t n).to).flop ≡ false) es
 
-  begin_at_latches : (es : List ℕ) (u v : ℕ) → Leads (arcs_of t s) u es v → (element_at t u).flop ≡ false → All (λ n. IsFalse (element_at t (pair_at t n).from).flop) es
-  begin_at_latches [] u v h e = All-nil (λ n. IsFalse (element_at t (pair_at t n).from).flop)
+  begin_at_latches : (es : List ℕ) (u v : ℕ) → Leads (arcs_of t s) u es v → (element_at t.flat u).flop ≡ false → All (λ n. IsFalse (element_at t.flat (pair_at t n).from).flop) es
+  begin_at_latches [] u v h e = All-nil (λ n. IsFalse (element_at t.flat (pair_at t n).from).flop)
   begin_at_latches (n ∷ es) u v h e =
       let k : n < length t.pairs = rw (arcs-count t s) at h.0 in
       let latches : AreLatches (n ∷ es) = walk_from_latch (n ∷ es) u v h e in
-      let latch : (element_at t (pair_at t n).to).flop ≡ false = All-head (λ n. (element_at t (pair_at t n).to).flop ≡ false) n es latches in
-      All-cons (λ n. IsFalse (element_at t (pair_at t n).from).flop) n es
-      (ap (λ (m : ℕ). (element_at t m).flop) (sym (latch-from t s n k latch) ∙ h.1) ∙ e)
-      (begin_at_latches es (arc_at (arcs_of t s) n).to v h.2 (ap (λ (m : ℕ). (element_at t m).flop) (to_is t s n k) ∙ latch))
+      let latch : (element_at t.flat (pair_at t n).to).flop ≡ false = All-head (λ n. (element_at t.flat (pair_at t n).to).flop ≡ false) n es latches in
+      All-cons (λ n. IsFalse (element_at t.flat (pair_at t n).from).flop) n es
+      (ap (λ (m : ℕ). (element_at t.flat m).flop) (sym (latch-from t s n k latch) ∙ h.1) ∙ e)
+      (begin_at_latches es (arc_at (arcs_of t s) n).to v h.2 (ap (λ (m : ℕ). (element_at t.flat m).flop) (to_is t s n k) ∙ latch))
 
   pairs_join : (es : List ℕ) (u v : ℕ) → Leads (arcs_of t s) u es v → AreLatches es → Joins (λ n. (pair_at t n).from) (λ n. (pair_at t n).to) u es v
   pairs_join [] u v h latches = h
   pairs_join (n ∷ es) u v h latches =
       let k : n < length t.pairs = rw (arcs-count t s) at h.0 in
-      let latch : (element_at t (pair_at t n).to).flop ≡ false = All-head (λ n. (element_at t (pair_at t n).to).flop ≡ false) n es latches in
-      let rest = All-tail (λ n. (element_at t (pair_at t n).to).flop ≡ false) n es latches in
+      let latch : (element_at t.flat (pair_at t n).to).flop ≡ false = All-head (λ n. (element_at t.flat (pair_at t n).to).flop ≡ false) n es latches in
+      let rest = All-tail (λ n. (element_at t.flat (pair_at t n).to).flop ≡ false) n es latches in
       let P : ℕ → Type 0 = λ m. Joins (λ n. (pair_at t n).from) (λ n. (pair_at t n).to) m es v in
       (sym (latch-from t s n k latch) ∙ h.1, subst P (to_is t s n k) (pairs_join es (arc_at (arcs_of t s) n).to v h.2 rest))
 
@@ -107,9 +107,9 @@ module _ (t : Timing) (s : Schedule) where
   pairs_amount [] exist latches = refl
   pairs_amount (n ∷ es) exist latches =
       let k : n < length t.pairs = All-head (λ n. n < length t.pairs) n es exist in
-      let latch : (element_at t (pair_at t n).to).flop ≡ false = All-head (λ n. (element_at t (pair_at t n).to).flop ≡ false) n es latches in
-      let rest = pairs_amount es (All-tail (λ n. n < length t.pairs) n es exist) (All-tail (λ n. (element_at t (pair_at t n).to).flop ≡ false) n es latches) in
-      ap (λ z. late_travel t s (pair_at t n) +ℤ z) rest ∙ ap (λ z. z +ℤ weight_of (arcs_of t s) es) (sym (latch-weight t s n k latch))
+      let latch : (element_at t.flat (pair_at t n).to).flop ≡ false = All-head (λ n. (element_at t.flat (pair_at t n).to).flop ≡ false) n es latches in
+      let rest = pairs_amount es (All-tail (λ n. n < length t.pairs) n es exist) (All-tail (λ n. (element_at t.flat (pair_at t n).to).flop ≡ false) n es latches) in
+      ap (λ z. late_travel t.flat s (pair_at t n) +ℤ z) rest ∙ ap (λ z. z +ℤ weight_of (arcs_of t s) es) (sym (latch-weight t s n k latch))
 
   closed_at : (es : List ℕ) (v : ℕ) → Joins (λ n. (pair_at t n).from) (λ n. (pair_at t n).to) v es v → pos 0 <ℤ weight_of (arcs_of t s) es →
       IsClosed (λ n. (pair_at t n).from) (λ n. (pair_at t n).to) es
@@ -145,4 +145,4 @@ module _ (t : Timing) (s : Schedule) where
           above = rw amount positive;
         },
       ))
-      (cases_Bool (element_at t v).flop)
+      (cases_Bool (element_at t.flat v).flop)

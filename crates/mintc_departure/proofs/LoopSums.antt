@@ -26,8 +26,8 @@ abbrev from_of : Timing → ℕ → ℕ
 from_of t n = (pair_at t n).from
 
 -- A loop has at most a pair for each element, since it meets no element twice.
-pub few_pairs : (t : Timing) (loop : List ℕ) → All (HasExtremes t.flat) t.pairs → IsLoop t loop → length loop ≤ element_count t
-few_pairs t loop extremes ring = let few = few_distinct (element_count t) (map (from_of t) loop) apart below in omega (arith, length-map loop (from_of t))
+pub few_pairs : (t : Timing) (loop : List ℕ) → All (HasExtremes t.flat) t.pairs → IsLoop t loop → length loop ≤ element_count t.flat
+few_pairs t loop extremes ring = let few = few_distinct (element_count t.flat) (map (from_of t) loop) apart below in omega (arith, length-map loop (from_of t))
   where
     at : (k d : ℕ) → k < length loop → get_or (map (from_of t) loop) k d ≡ (pair_at t (get_or loop k 0)).from
     at k d h = get_or-map (from_of t) loop k 0 d h
@@ -37,7 +37,7 @@ few_pairs t loop extremes ring = let few = few_distinct (element_count t) (map (
         let k : j < length loop = omega (arith, length-map loop (from_of t)) in
         λ e. ring.once i j 0 lt k (sym (at i d (omega arith)) ∙ e ∙ at j d k)
 
-    below : All (λ x. x < element_count t) (map (from_of t) loop)
+    below : All (λ x. x < element_count t.flat) (map (from_of t) loop)
     below k d within =
         let h : k < length loop = omega (arith, length-map loop (from_of t)) in
         let b = (extremes (get_or loop k 0) no_pair (ring.exist k 0 h)).from in

@@ -53,36 +53,36 @@ less-one : (x : ℤ) → x ≡ x +ℤ negsuc 0 → ⊥
 less-one x h = omega (arith, ints)
 
 module _ (t : Timing) (s : Schedule) where
-  pub arrival-is : (d : List ℤ) (p : Pair) → late_arrival t s d p ≡ departure d p.from +ℤ late_travel t s p
+  pub arrival-is : (d : List ℤ) (p : Pair) → late_arrival t.flat s d p ≡ departure d p.from +ℤ late_travel t.flat s p
   arrival-is d p = omega (arith, ints)
 
   -- the arcs of the network, by the numbers of their pairs
   pub arcs-count : length (arcs_of t s) ≡ length t.pairs
-  arcs-count = length-map t.pairs (arc_of t s)
+  arcs-count = length-map t.pairs (arc_of t.flat s)
 
-  pub arc_is : (n : ℕ) → n < length t.pairs → arc_at (arcs_of t s) n ≡ arc_of t s (pair_at t n)
-  arc_is n h = get_or-map (arc_of t s) t.pairs n no_pair (record { from = 0; to = 0; weight = pos 0 }) h
+  pub arc_is : (n : ℕ) → n < length t.pairs → arc_at (arcs_of t s) n ≡ arc_of t.flat s (pair_at t n)
+  arc_is n h = get_or-map (arc_of t.flat s) t.pairs n no_pair (record { from = 0; to = 0; weight = pos 0 }) h
 
   pub to_is : (n : ℕ) → n < length t.pairs → (arc_at (arcs_of t s) n).to ≡ (pair_at t n).to
   to_is n h = ap (λ (a : Arc). a.to) (arc_is n h)
 
-  pub latch-from : (n : ℕ) → n < length t.pairs → (element_at t (pair_at t n).to).flop ≡ false → (arc_at (arcs_of t s) n).from ≡ (pair_at t n).from
+  pub latch-from : (n : ℕ) → n < length t.pairs → (element_at t.flat (pair_at t n).to).flop ≡ false → (arc_at (arcs_of t s) n).from ≡ (pair_at t n).from
   latch-from n h e = ap (λ (a : Arc). a.from) (arc_is n h) ∙ ap (λ (b : Bool). cond b (pair_at t n).to (pair_at t n).from) e
 
-  pub latch-weight : (n : ℕ) → n < length t.pairs → (element_at t (pair_at t n).to).flop ≡ false → (arc_at (arcs_of t s) n).weight ≡ late_travel t s (pair_at t n)
-  latch-weight n h e = ap (λ (a : Arc). a.weight) (arc_is n h) ∙ ap (λ (b : Bool). cond b (negsuc 0) (late_travel t s (pair_at t n))) e
+  pub latch-weight : (n : ℕ) → n < length t.pairs → (element_at t.flat (pair_at t n).to).flop ≡ false → (arc_at (arcs_of t s) n).weight ≡ late_travel t.flat s (pair_at t n)
+  latch-weight n h e = ap (λ (a : Arc). a.weight) (arc_is n h) ∙ ap (λ (b : Bool). cond b (negsuc 0) (late_travel t.flat s (pair_at t n))) e
 
-  pub flop-from : (n : ℕ) → n < length t.pairs → (element_at t (pair_at t n).to).flop ≡ true → (arc_at (arcs_of t s) n).from ≡ (pair_at t n).to
+  pub flop-from : (n : ℕ) → n < length t.pairs → (element_at t.flat (pair_at t n).to).flop ≡ true → (arc_at (arcs_of t s) n).from ≡ (pair_at t n).to
   flop-from n h e = ap (λ (a : Arc). a.from) (arc_is n h) ∙ ap (λ (b : Bool). cond b (pair_at t n).to (pair_at t n).from) e
 
-  pub flop-weight : (n : ℕ) → n < length t.pairs → (element_at t (pair_at t n).to).flop ≡ true → (arc_at (arcs_of t s) n).weight ≡ negsuc 0
-  flop-weight n h e = ap (λ (a : Arc). a.weight) (arc_is n h) ∙ ap (λ (b : Bool). cond b (negsuc 0) (late_travel t s (pair_at t n))) e
+  pub flop-weight : (n : ℕ) → n < length t.pairs → (element_at t.flat (pair_at t n).to).flop ≡ true → (arc_at (arcs_of t s) n).weight ≡ negsuc 0
+  flop-weight n h e = ap (λ (a : Arc). a.weight) (arc_is n h) ∙ ap (λ (b : Bool). cond b (negsuc 0) (late_travel t.flat s (pair_at t n))) e
 
-  pub start-flop : (l : ℕ) → (element_at t l).flop ≡ true → late_start_of t s l ≡ pos 0
-  start-flop l e = ap (λ (b : Bool). cond b (pos 0) (late_opening t s l)) e
+  pub start-flop : (l : ℕ) → (element_at t.flat l).flop ≡ true → late_start_of t.flat s l ≡ pos 0
+  start-flop l e = ap (λ (b : Bool). cond b (pos 0) (late_opening t.flat s l)) e
 
-  pub start-latch : (l : ℕ) → (element_at t l).flop ≡ false → late_start_of t s l ≡ late_opening t s l
-  start-latch l e = ap (λ (b : Bool). cond b (pos 0) (late_opening t s l)) e
+  pub start-latch : (l : ℕ) → (element_at t.flat l).flop ≡ false → late_start_of t.flat s l ≡ late_opening t.flat s l
+  start-latch l e = ap (λ (b : Bool). cond b (pos 0) (late_opening t.flat s l)) e
 
   -- Exact departures meet the arcs, and are nowhere below a start.
   module _ (d : List ℤ) (exact : AreExact t s d) (extremes : All (HasExtremes t.flat) t.pairs) where
@@ -92,76 +92,76 @@ module _ (t : Timing) (s : Schedule) where
         ⊎_elim
         (λ e. rw (flop-from n h e, flop-weight n h e, to_is n h) (omega (arith, ints)))
         (λ e. let a = arrival-at_most t s d exact extremes n no_pair h e in rw (latch-from n h e, latch-weight n h e, to_is n h) (omega (arith, ints)))
-        (cases_Bool (element_at t (pair_at t n).to).flop)
+        (cases_Bool (element_at t.flat (pair_at t n).to).flop)
 
-    pub exact-starts : (l : ℕ) → l < element_count t → late_start_of t s l ≤ℤ departure d l
+    pub exact-starts : (l : ℕ) → l < element_count t.flat → late_start_of t.flat s l ≤ℤ departure d l
     exact-starts l h =
         let is = exact.each l h in
         ⊎_elim
         (λ e. rw (start-flop l e, is, late_departure-flop t s d l e) (omega (arith, ints)))
-        (λ e. rw (start-latch l e, is, late_departure-latch t s d l e) (greater-least (late_arrival t s d) (λ p. p.to == l) (late_opening t s l) (greatest_of (late_arrivals t s d l))))
-        (cases_Bool (element_at t l).flop)
+        (λ e. rw (start-latch l e, is, late_departure-latch t s d l e) (greater-least (late_arrival t.flat s d) (λ p. p.to == l) (late_opening t.flat s l) (greatest_of (late_arrivals t s d l))))
+        (cases_Bool (element_at t.flat l).flop)
 
 module _ (t : Timing) (s : Schedule) (fits : IsClocked t s) where
-  pub arcs-ordinary : AreOrdinary (element_count t) (arcs_of t s)
+  pub arcs-ordinary : AreOrdinary (element_count t.flat) (arcs_of t s)
   arcs-ordinary n h' =
       let h : n < length t.pairs = rw (arcs-count t s) at h' in
       let ends = pair_ends t s fits n h in
       let w = weight-within t s fits n h in
-      let wide : IsWithin (2 ^ 80) (arc_of t s (pair_at t n)).weight = let a = w.0 in let b = w.1 in (omega (arith, ints), omega (arith, ints)) in
-      let from : (arc_of t s (pair_at t n)).from < element_count t = ⊎_elim (λ e. rw e ends.to) (λ e. rw e ends.from) (cases_Bool (element_at t (pair_at t n).to).flop) in
+      let wide : IsWithin (2 ^ 80) (arc_of t.flat s (pair_at t n)).weight = let a = w.0 in let b = w.1 in (omega (arith, ints), omega (arith, ints)) in
+      let from : (arc_of t.flat s (pair_at t n)).from < element_count t.flat = ⊎_elim (λ e. rw e ends.to) (λ e. rw e ends.from) (cases_Bool (element_at t.flat (pair_at t n).to).flop) in
       rw (arc_is t s n h) (from, ends.to, wide)
 
-  module _ (starts : List ℤ) (count : length starts ≡ element_count t) (each : (l : ℕ) → l < element_count t → value_at starts l ≡ late_start_of t s l) where
+  module _ (starts : List ℤ) (count : length starts ≡ element_count t.flat) (each : (l : ℕ) → l < element_count t.flat → value_at starts l ≡ late_start_of t.flat s l) where
     pub starts-ordinary : AreBounded (2 ^ 80) starts
     starts-ordinary v h =
-        let h' : v < element_count t = rw count at h in
+        let h' : v < element_count t.flat = rw count at h in
         let w = start-within t s fits v h' in
         rw (each v h') (let a = w.0 in let b = w.1 in (omega (arith, ints), λ r. (omega (arith, ints), omega (arith, ints))))
 
-    pub is_start : (l : ℕ) → l < element_count t → IsStart starts l
+    pub is_start : (l : ℕ) → l < element_count t.flat → IsStart starts l
     is_start l h =
         let w = start-within t s fits l h in
         (rw count h, rw (each l h) (let a = w.0 in let b = w.1 in omega (arith, ints)))
 
     module _ (values : List ℤ) (same : length values ≡ length starts) (g : HasGreatest (arcs_of t s) starts values) where
-      reached : (l : ℕ) → l < element_count t → IsReached values l
+      reached : (l : ℕ) → l < element_count t.flat → IsReached values l
       reached l h = g.reached l [] l (is_start l h) refl
 
-      above_start : (l : ℕ) → l < element_count t → late_start_of t s l ≤ℤ value_at values l
+      above_start : (l : ℕ) → l < element_count t.flat → late_start_of t.flat s l ≤ℤ value_at values l
       above_start l h =
           let n = (g.greatest l (rw count h) (reached l h)).none_greater l [] (is_start l h) refl in
           let e = each l h in
           omega (arith, ints)
 
       -- No arc brings a flop its value, since the arcs there would take 1 away from it.
-      flop_is : (l : ℕ) → l < element_count t → (element_at t l).flop ≡ true → value_at values l ≡ pos 0
+      flop_is : (l : ℕ) → l < element_count t.flat → (element_at t.flat l).flop ≡ true → value_at values l ≡ pos 0
       flop_is l h e =
           ⊎_elim
           (λ a. a.1 ∙ each l h ∙ start-flop t s l e)
           (λ w.
           let k : w.0 < length t.pairs = rw (arcs-count t s) at w.1 in
           let to : (pair_at t w.0).to ≡ l = sym (to_is t s w.0 k) ∙ w.2 in
-          let flop : (element_at t (pair_at t w.0).to).flop ≡ true = ap (λ (m : ℕ). (element_at t m).flop) to ∙ e in
+          let flop : (element_at t.flat (pair_at t w.0).to).flop ≡ true = ap (λ (m : ℕ). (element_at t.flat m).flop) to ∙ e in
           let brings = rw (flop-from t s w.0 k flop, flop-weight t s w.0 k flop, to) at w.4 in
           absurd (less-one (value_at values l) brings))
           (g.tight l (rw count h) (reached l h))
 
-      met : (n : ℕ) → n < length t.pairs → (element_at t (pair_at t n).to).flop ≡ false → late_arrival t s values (pair_at t n) ≤ℤ value_at values (pair_at t n).to
+      met : (n : ℕ) → n < length t.pairs → (element_at t.flat (pair_at t n).to).flop ≡ false → late_arrival t.flat s values (pair_at t n) ≤ℤ value_at values (pair_at t n).to
       met n h latch =
           let ends = pair_ends t s fits n h in
           let from : IsReached values (arc_at (arcs_of t s) n).from = rw (latch-from t s n h latch) (reached (pair_at t n).from ends.from) in
           let m = (g.met n (rw (arcs-count t s) h) from).1 in
           rw (arrival-is t s values (pair_at t n)) (rw (latch-from t s n h latch, latch-weight t s n h latch, to_is t s n h) at m)
 
-      met_at : (l n : ℕ) → n < length t.pairs → (pair_at t n).to ≡ l → (element_at t l).flop ≡ false → late_arrival t s values (pair_at t n) ≤ℤ value_at values l
+      met_at : (l n : ℕ) → n < length t.pairs → (pair_at t n).to ≡ l → (element_at t.flat l).flop ≡ false → late_arrival t.flat s values (pair_at t n) ≤ℤ value_at values l
       met_at l n h to e =
-          let P : ℕ → Type 0 = λ m. late_arrival t s values (pair_at t n) ≤ℤ value_at values m in
-          subst P to (met n h (ap (λ (m : ℕ). (element_at t m).flop) to ∙ e))
+          let P : ℕ → Type 0 = λ m. late_arrival t.flat s values (pair_at t n) ≤ℤ value_at values m in
+          subst P to (met n h (ap (λ (m : ℕ). (element_at t.flat m).flop) to ∙ e))
 
-      latch_is : (l : ℕ) → l < element_count t → (element_at t l).flop ≡ false → value_at values l ≡ greater_of (late_opening t s l) (greatest_of (late_arrivals t s values l))
+      latch_is : (l : ℕ) → l < element_count t.flat → (element_at t.flat l).flop ≡ false → value_at values l ≡ greater_of (late_opening t.flat s l) (greatest_of (late_arrivals t s values l))
       latch_is l h e =
-          greater-is (late_arrival t s values) (λ (p : Pair). p.to == l) t.pairs no_pair (late_opening t s l) (value_at values l)
+          greater-is (late_arrival t.flat s values) (λ (p : Pair). p.to == l) t.pairs no_pair (late_opening t.flat s l) (value_at values l)
           (rw (start-latch t s l e) at (above_start l h))
           (λ n k to. met_at l n k (eqb-true _ _ to) e)
           (⊎_elim
@@ -169,7 +169,7 @@ module _ (t : Timing) (s : Schedule) (fits : IsClocked t s) where
           (λ w.
           let k : w.0 < length t.pairs = rw (arcs-count t s) at w.1 in
           let to : (pair_at t w.0).to ≡ l = sym (to_is t s w.0 k) ∙ w.2 in
-          let latch : (element_at t (pair_at t w.0).to).flop ≡ false = ap (λ (m : ℕ). (element_at t m).flop) to ∙ e in
+          let latch : (element_at t.flat (pair_at t w.0).to).flop ≡ false = ap (λ (m : ℕ). (element_at t.flat m).flop) to ∙ e in
           let brings = rw (latch-from t s w.0 k latch, latch-weight t s w.0 k latch) at w.4 in
           inr (w.0, k, eq-eqb _ _ to, brings ∙ sym (arrival-is t s values (pair_at t w.0))))
           (g.tight l (rw count h) (reached l h)))
@@ -182,10 +182,10 @@ module _ (t : Timing) (s : Schedule) (fits : IsClocked t s) where
               ⊎_elim
               (λ e. flop_is l h e ∙ sym (late_departure-flop t s values l e))
               (λ e. latch_is l h e ∙ sym (late_departure-latch t s values l e))
-              (cases_Bool (element_at t l).flop);
+              (cases_Bool (element_at t.flat l).flop);
         };
         least = λ d exact l h.
             g.least (departure d) (exact-meets t s d exact fits.timing.extremes.each)
-            (λ u start. let k : u < element_count t = rw count at start.0 in rw (each u k) (exact-starts t s d exact fits.timing.extremes.each u k))
+            (λ u start. let k : u < element_count t.flat = rw count at start.0 in rw (each u k) (exact-starts t s d exact fits.timing.extremes.each u k))
             l (rw count h) (reached l h);
       }

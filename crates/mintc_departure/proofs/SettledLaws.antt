@@ -17,7 +17,7 @@ use Rattle.mintc_departure.proofs.NetworkLaws.{exact-meets, greatest-late}
 use Rattle.mintc_departure.proofs.LateSizes.{late-within}
 use Rattle.mintc_departure.proofs.LoopLaws.{loop-from_chain}
 
-module _ (t : Timing) (s : Schedule) (fits : IsClocked t s) (starts : List ℤ) (count : length starts ≡ element_count t) (each : (l : ℕ) → l < element_count t → value_at starts l ≡ late_start_of t s l) where
+module _ (t : Timing) (s : Schedule) (fits : IsClocked t s) (starts : List ℤ) (count : length starts ≡ element_count t.flat) (each : (l : ℕ) → l < element_count t.flat → value_at starts l ≡ late_start_of t.flat s l) where
   pub sums : (values : List ℤ) → length values ≡ length starts → HasGreatest (arcs_of t s) starts values → (l : ℕ) → l < length values → IsSum (value_at values l)
   sums values same g l h =
       let w = late-within t s fits values (greatest-late t s fits starts count each values same g) l (rw (same, count) at h) in

@@ -50,19 +50,19 @@ rule-kept rule x y n =
 module _ (t : Timing) (s : Schedule) where
   -- what a schedule keeps that fails no check of the clock and the bounds
   record Keeps : Type 0 where
-    cycle : (p : ℕ) → 1 ≤ p → p ≤ phase_count t → start_of s p ≤ℤ s.cycle
-    order : (p : ℕ) → 1 ≤ p → p < phase_count t → start_of s p ≤ℤ start_of s (p + 1)
-    span : (p : ℕ) → 1 ≤ p → p ≤ phase_count t → width_of s p ≤ℤ s.cycle
-    wide : (p : ℕ) → 1 ≤ p → p ≤ phase_count t → (least_width t p *ℤ s.den) ≤ℤ width_of s p
-    apart : (i : ℕ) → 1 ≤ i → i ≤ phase_count t → EachPhase t (KeepsApart t s i)
+    cycle : (p : ℕ) → 1 ≤ p → p ≤ phase_count t.flat → start_of s p ≤ℤ s.cycle
+    order : (p : ℕ) → 1 ≤ p → p < phase_count t.flat → start_of s p ≤ℤ start_of s (p + 1)
+    span : (p : ℕ) → 1 ≤ p → p ≤ phase_count t.flat → width_of s p ≤ℤ s.cycle
+    wide : (p : ℕ) → 1 ≤ p → p ≤ phase_count t.flat → (least_width t.flat p *ℤ s.den) ≤ℤ width_of s p
+    apart : (i : ℕ) → 1 ≤ i → i ≤ phase_count t.flat → EachPhase t.flat (KeepsApart t s i)
     bounds : All (KeepsBound s) t.flat.bounds
 
-  aparts-kept : (failed (apart_checks t s) ≡ []) ↔ ((i : ℕ) → 1 ≤ i → i ≤ phase_count t → EachPhase t (KeepsApart t s i))
+  aparts-kept : (failed (apart_checks t s) ≡ []) ↔ ((i : ℕ) → 1 ≤ i → i ≤ phase_count t.flat → EachPhase t.flat (KeepsApart t s i))
   aparts-kept =
-      let all = kept-flat (fed_checks t s) (phases_of t) in
-      let each = on_range (λ i. failed (fed_checks t s i) ≡ []) 1 (phase_count t) in
-      let one = λ (i : ℕ). kept-tested (apart_check s i) (feeds_of t i) (phases_of t) in
-      let some = λ (i : ℕ). on_range (λ j. IsTrue (feeds_of t i j) → IsKept (apart_check s i j)) 1 (phase_count t) in
+      let all = kept-flat (fed_checks t s) (phases_of t.flat) in
+      let each = on_range (λ i. failed (fed_checks t s i) ≡ []) 1 (phase_count t.flat) in
+      let one = λ (i : ℕ). kept-tested (apart_check s i) (feeds_of t i) (phases_of t.flat) in
+      let some = λ (i : ℕ). on_range (λ j. IsTrue (feeds_of t i j) → IsKept (apart_check s i j)) 1 (phase_count t.flat) in
       let move = λ (i j : ℕ). moved (end_of s j -ℤ pos (crosses_of j i) *ℤ s.cycle) (start_of s i) in (
         (λ e i low high j low' high' fed. (move i j).0 ((some i).0 ((one i).0 (each.0 (all.0 e) i low (omega arith))) j low' (omega arith) fed)),
         (λ h. all.1 (each.1 (λ i low high. (one i).1 ((some i).1 (λ j low' high' fed. (move i j).1 (h i low (omega arith) j low' (omega arith) fed)))))),
@@ -70,17 +70,17 @@ module _ (t : Timing) (s : Schedule) where
 
   clock-kept : (failed (clock_checks t s) ≡ []) ↔ Keeps
   clock-kept =
-      let n : ℕ = phase_count t in
+      let n : ℕ = phase_count t.flat in
       let cycle = rule-kept (λ p. broken.Cycle p) (start_of s) (λ p. s.cycle) n in
       let order = rule-kept (λ p. broken.Order p) (start_of s) (λ p. start_of s (p + 1)) (n - 1) in
       let span = rule-kept (λ p. broken.Span p) (width_of s) (λ p. s.cycle) n in
-      let wide = rule-kept (λ p. broken.Width p) (λ p. least_width t p *ℤ s.den) (width_of s) n in
+      let wide = rule-kept (λ p. broken.Width p) (λ p. least_width t.flat p *ℤ s.den) (width_of s) n in
       let bounds = bounds-kept s 0 t.flat.bounds in
-      let two = kept-append (cycle_checks t s) (order_checks t s) in
-      let three = kept-append (cycle_checks t s ++ order_checks t s) (span_checks t s) in
-      let four = kept-append (cycle_checks t s ++ order_checks t s ++ span_checks t s) (width_checks t s) in
-      let five = kept-append (cycle_checks t s ++ order_checks t s ++ span_checks t s ++ width_checks t s) (apart_checks t s) in
-      let six = kept-append (cycle_checks t s ++ order_checks t s ++ span_checks t s ++ width_checks t s ++ apart_checks t s) (bound_checks t s) in (
+      let two = kept-append (cycle_checks t.flat s) (order_checks t.flat s) in
+      let three = kept-append (cycle_checks t.flat s ++ order_checks t.flat s) (span_checks t.flat s) in
+      let four = kept-append (cycle_checks t.flat s ++ order_checks t.flat s ++ span_checks t.flat s) (width_checks t.flat s) in
+      let five = kept-append (cycle_checks t.flat s ++ order_checks t.flat s ++ span_checks t.flat s ++ width_checks t.flat s) (apart_checks t s) in
+      let six = kept-append (cycle_checks t.flat s ++ order_checks t.flat s ++ span_checks t.flat s ++ width_checks t.flat s ++ apart_checks t s) (bound_checks t.flat s) in (
         (λ e.
             let f = six.0 e in
             let d = five.0 f.0 in
@@ -93,7 +93,7 @@ module _ (t : Timing) (s : Schedule) where
             six.1 (five.1 (four.1 (three.1 (two.1 (cycle.1 k.cycle, orders), span.1 k.span), wide.1 k.wide), aparts-kept.1 k.apart), bounds.1 k.bounds)),
       )
 
-  clock-from_keeps : IsOfPhases t s → Keeps → KeepsClock t s
+  clock-from_keeps : IsOfPhases t.flat s → Keeps → KeepsClock t s
   clock-from_keeps plain k = record {
     den = plain.den;
     starts = plain.starts;
@@ -118,24 +118,24 @@ module _ (t : Timing) (s : Schedule) where
   }
 
   elements-kept : (amount : ℕ → Option ℤ) (constraint : ℕ → Broken) →
-      (failed (filter_map (λ l. option_map (check (constraint l)) (amount l)) (elements_of t)) ≡ []) ↔ ((l : ℕ) → l < element_count t → IfSome (amount l) (λ x. x ≤ℤ pos 0))
+      (failed (filter_map (λ l. option_map (check (constraint l)) (amount l)) (elements_of t.flat)) ≡ []) ↔ ((l : ℕ) → l < element_count t.flat → IfSome (amount l) (λ x. x ≤ℤ pos 0))
   elements-kept amount constraint =
-      let each = kept-optional constraint amount (elements_of t) in
-      let all = on_range (λ l. IfSome (amount l) (λ x. x ≤ℤ pos 0)) 0 (element_count t) in
+      let each = kept-optional constraint amount (elements_of t.flat) in
+      let all = on_range (λ l. IfSome (amount l) (λ x. x ≤ℤ pos 0)) 0 (element_count t.flat) in
       ((λ e l h. all.0 (each.0 e) l (omega arith) (omega arith)), (λ h. each.1 (all.1 (λ l low high. h l (omega arith)))))
 
-  setups-kept : (late : List ℤ) → (failed (setup_checks t s late) ≡ []) ↔ ((l : ℕ) → l < element_count t → KeepsSetup t s late l)
+  setups-kept : (late : List ℤ) → (failed (setup_checks t s late) ≡ []) ↔ ((l : ℕ) → l < element_count t.flat → KeepsSetup t s late l)
   setups-kept late =
       let all = elements-kept (setup_amount t s late) (λ l. broken.Setup l) in
       ((λ e l h. (setups_have_amounts_lem t s late l).1 (all.0 e l h)), (λ h. all.1 (λ l lt. (setups_have_amounts_lem t s late l).0 (h l lt))))
 
-  holds-kept : (early : List ℤ) → (failed (hold_checks t s early) ≡ []) ↔ ((l : ℕ) → l < element_count t → KeepsHold t s early l)
+  holds-kept : (early : List ℤ) → (failed (hold_checks t s early) ≡ []) ↔ ((l : ℕ) → l < element_count t.flat → KeepsHold t s early l)
   holds-kept early =
       let all = elements-kept (hold_amount t s early) (λ l. broken.Hold l) in
       ((λ e l h. (holds_have_amounts_lem t s early l).1 (all.0 e l h)), (λ h. all.1 (λ l lt. (holds_have_amounts_lem t s early l).0 (h l lt))))
 
   -- Departures that are nowhere later keep each setup that is kept.
-  later-arrival : (d e : List ℤ) (p : Pair) → departure d p.from ≤ℤ departure e p.from → late_arrival t s d p ≤ℤ late_arrival t s e p
+  later-arrival : (d e : List ℤ) (p : Pair) → departure d p.from ≤ℤ departure e p.from → late_arrival t.flat s d p ≤ℤ late_arrival t.flat s e p
   later-arrival d e p h = rw (arrival-is t s d p, arrival-is t s e p) (omega (arith, ints))
 
   setup-kept : (flop : Bool) (o p : Option ℤ) (setup x y width : ℤ) → IsNoLater o p → x ≤ℤ y →
@@ -148,13 +148,13 @@ module _ (t : Timing) (s : Schedule) where
 
   KeepsSetup-mono : (d e : List ℤ) → ((l : ℕ) → departure d l ≤ℤ departure e l) → (l : ℕ) → KeepsSetup t s e l → KeepsSetup t s d l
   KeepsSetup-mono d e h l =
-      setup-kept (element_at t l).flop (greatest_of (late_arrivals t s d l)) (greatest_of (late_arrivals t s e l)) ((element_at t l).setup *ℤ s.den) (departure d l) (departure e l) (width_of s (phase_of t l))
-      (greatest-mono (late_arrival t s d) (late_arrival t s e) (λ p. later-arrival d e p (h p.from)) (into t l)) (h l)
+      setup-kept (element_at t.flat l).flop (greatest_of (late_arrivals t s d l)) (greatest_of (late_arrivals t s e l)) ((element_at t.flat l).setup *ℤ s.den) (departure d l) (departure e l) (width_of s (phase_of t.flat l))
+      (greatest-mono (late_arrival t.flat s d) (late_arrival t.flat s e) (λ p. later-arrival d e p (h p.from)) (into t l)) (h l)
 
   abbrev all_checks : List ℤ → List ℤ → List Violation
   all_checks late early = clock_checks t s ++ setup_checks t s late ++ hold_checks t s early
 
-  pass-from_none : IsOfPhases t s → (late early : List ℤ) → AreLate t s late → AreEarly t s early → failed (all_checks late early) ≡ [] → IsPass t s
+  pass-from_none : IsOfPhases t.flat s → (late early : List ℤ) → AreLate t s late → AreEarly t s early → failed (all_checks late early) ≡ [] → IsPass t s
   pass-from_none plain late early are_late are_early e =
       let b = (kept-append (clock_checks t s ++ setup_checks t s late) (hold_checks t s early)).0 e in
       let a = (kept-append (clock_checks t s) (setup_checks t s late)).0 b.0 in

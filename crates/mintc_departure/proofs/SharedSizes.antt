@@ -30,16 +30,16 @@ scaled-within x den h d =
     IsWithin-product 2000000000 100000 x den h k
 
 module _ (t : Timing) (s : Schedule) (fits : IsClocked t s) where
-  pub element_in_range : (l : ℕ) → l < element_count t → IsElement (phase_count t) (element_at t l)
+  pub element_in_range : (l : ℕ) → l < element_count t.flat → IsElement (phase_count t.flat) (element_at t.flat l)
   element_in_range l h = fits.design.each_element l no_element h
 
   pub pair_ends : (n : ℕ) → n < length t.pairs → HasExtremes t.flat (pair_at t n)
   pair_ends n h = fits.timing.extremes.each n no_pair h
 
-  pub start-range : (p : ℕ) → IsPhase (phase_count t) p → IsNumerator (start_of s p)
+  pub start-range : (p : ℕ) → IsPhase (phase_count t.flat) p → IsNumerator (start_of s p)
   start-range p h = fits.range.starts (p - 1) (pos 0) (omega arith)
 
-  pub shift-within : (i j : ℕ) → IsPhase (phase_count t) i → IsPhase (phase_count t) j → IsWithin 200000000000000 (shift_of s i j)
+  pub shift-within : (i j : ℕ) → IsPhase (phase_count t.flat) i → IsPhase (phase_count t.flat) j → IsWithin 200000000000000 (shift_of s i j)
   shift-within i j h k =
       let a = start-range i h in
       let b = start-range j k in
@@ -48,30 +48,30 @@ module _ (t : Timing) (s : Schedule) (fits : IsClocked t s) where
       (λ e. rw (shift-not_below s i j e) (omega (arith, ints), omega (arith, ints)))
       (below_or_not i j)
 
-  pub travel-within : (n : ℕ) → n < length t.pairs → IsWithin 400000000000000 (late_travel t s (pair_at t n))
+  pub travel-within : (n : ℕ) → n < length t.pairs → IsWithin 400000000000000 (late_travel t.flat s (pair_at t n))
   travel-within n h =
       let ends = pair_ends n h in
       let from = element_in_range (pair_at t n).from ends.from in
       let to = element_in_range (pair_at t n).to ends.to in
       let max : IsDelay (pair_at t n).max = pair-max_range t.flat t.order t.pairs fits.design fits.timing n no_pair h in
-      let delay : IsWithin 2000000000 ((element_at t (pair_at t n).from).dq_max +ℤ (pair_at t n).max) = (omega (arith, ints), omega (arith, ints)) in
+      let delay : IsWithin 2000000000 ((element_at t.flat (pair_at t n).from).dq_max +ℤ (pair_at t n).max) = (omega (arith, ints), omega (arith, ints)) in
       let span = scaled-within _ s.den delay fits.range.den in
       let shift = shift-within _ _ from.phase to.phase in
       (omega (arith, ints), omega (arith, ints))
 
-  pub opening-within : (l : ℕ) → l < element_count t → IsWithin 100000000000000 (late_opening t s l)
+  pub opening-within : (l : ℕ) → l < element_count t.flat → IsWithin 100000000000000 (late_opening t.flat s l)
   opening-within l h =
       let e = element_in_range l h in
-      let delay : IsWithin 1000000000 ((element_at t l).cq_max -ℤ (element_at t l).dq_max) = (omega (arith, ints), omega (arith, ints)) in
+      let delay : IsWithin 1000000000 ((element_at t.flat l).cq_max -ℤ (element_at t.flat l).dq_max) = (omega (arith, ints), omega (arith, ints)) in
       let den : IsWithin 100000 s.den = (omega (arith, ints), omega (arith, ints)) in
       IsWithin-product 1000000000 100000 _ s.den delay den
 
-  pub start-within : (l : ℕ) → l < element_count t → IsWithin 100000000000000 (late_start_of t s l)
-  start-within l h = ⊎_elim (λ e. rw e (omega (arith, ints), omega (arith, ints))) (λ e. rw e (opening-within l h)) (cases_Bool (element_at t l).flop)
+  pub start-within : (l : ℕ) → l < element_count t.flat → IsWithin 100000000000000 (late_start_of t.flat s l)
+  start-within l h = ⊎_elim (λ e. rw e (omega (arith, ints), omega (arith, ints))) (λ e. rw e (opening-within l h)) (cases_Bool (element_at t.flat l).flop)
 
-  pub weight-within : (n : ℕ) → n < length t.pairs → IsWithin 400000000000000 (arc_of t s (pair_at t n)).weight
+  pub weight-within : (n : ℕ) → n < length t.pairs → IsWithin 400000000000000 (arc_of t.flat s (pair_at t n)).weight
   weight-within n h =
-      ⊎_elim (λ e. rw e (omega (arith, ints), omega (arith, ints))) (λ e. rw e (travel-within n h)) (cases_Bool (element_at t (pair_at t n).to).flop)
+      ⊎_elim (λ e. rw e (omega (arith, ints), omega (arith, ints))) (λ e. rw e (travel-within n h)) (cases_Bool (element_at t.flat (pair_at t n).to).flop)
 
 -- Along a path of arcs the least delay is not negative, and at most the greatest one.
 delays_ordered : (arcs : List TimingArc) → ((n : ℕ) → n < length arcs → (pos 0 ≤ℤ (arc_at arcs n).min) × ((arc_at arcs n).min ≤ℤ (arc_at arcs n).max)) →

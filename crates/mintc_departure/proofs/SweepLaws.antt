@@ -33,11 +33,11 @@ module _ (t : Timing) (s : Schedule) where
   unmoved : (d e : List ℤ) (n l : ℕ) → ((k : ℕ) → k ≢ n → departure e k ≡ departure d k) →
       ((m : ℕ) → m < length t.pairs → (pair_at t m).to ≡ l → (pair_at t m).from ≢ n) → early_departure t s e l ≡ early_departure t s d l
   unmoved d e n l others none =
-      ap (λ (xs : List ℤ). cond (element_at t l).flop (pos 0) (greater_of (early_opening t s l) (least_of xs)))
-      (same-passing (early_arrival t s e) (early_arrival t s d) (λ (p : Pair). p.to == l) t.pairs
+      ap (λ (xs : List ℤ). cond (element_at t.flat l).flop (pos 0) (greater_of (early_opening t.flat s l) (least_of xs)))
+      (same-passing (early_arrival t.flat s e) (early_arrival t.flat s d) (λ (p : Pair). p.to == l) t.pairs
       (λ m lt is.
       early-arrival-is t s e (pair_at t m)
-      ∙ ap (λ z. z +ℤ early_travel t s (pair_at t m)) (others (pair_at t m).from (none m lt (eqb-true _ _ is)))
+      ∙ ap (λ z. z +ℤ early_travel t.flat s (pair_at t m)) (others (pair_at t m).from (none m lt (eqb-true _ _ is)))
       ∙ sym (early-arrival-is t s d (pair_at t m))))
 
 module _ (t : Timing) (s : Schedule) (late : List ℤ) where
@@ -58,8 +58,8 @@ module _ (t : Timing) (s : Schedule) (late : List ℤ) where
       }
 
   -- by how much departures rise where one of them is written
-  pub written-up : (d e : List ℤ) (n : ℕ) → AreRising t s late d → n < element_count t → e ≡ set d n (early_departure t s d n) →
-      (l : ℕ) → l < element_count t → departure d l ≤ℤ departure e l
+  pub written-up : (d e : List ℤ) (n : ℕ) → AreRising t s late d → n < element_count t.flat → e ≡ set d n (early_departure t s d n) →
+      (l : ℕ) → l < element_count t.flat → departure d l ≤ℤ departure e l
   written-up d e n rising inside write l h =
       let x = early_departure t s d n in
       let count = rising.count in
@@ -72,7 +72,7 @@ module _ (t : Timing) (s : Schedule) (late : List ℤ) where
       rw other (omega (arith, ints)))
       (cases_eq l n)
 
-  pub written-above : (d e : List ℤ) (n : ℕ) → AreRising t s late d → n < element_count t → e ≡ set d n (early_departure t s d n) → departure d n ≢ early_departure t s d n →
+  pub written-above : (d e : List ℤ) (n : ℕ) → AreRising t s late d → n < element_count t.flat → e ≡ set d n (early_departure t s d n) → departure d n ≢ early_departure t s d n →
       departure d n <ℤ departure e n
   written-above d e n rising inside write ne =
       let x = early_departure t s d n in
@@ -81,13 +81,13 @@ module _ (t : Timing) (s : Schedule) (late : List ℤ) where
       subst (λ z. departure d n <ℤ z) (sym here) (strictly _ _ (rising.rises n inside) ne)
 
   -- The departures are the early ones where none is stale.
-  pub swept-last : (d : List ℤ) (stale : List ℕ) → AreSwept t s late d stale → ((l : ℕ) → l < element_count t → IsIn stale l → ⊥) → AreEarly t s d
+  pub swept-last : (d : List ℤ) (stale : List ℕ) → AreSwept t s late d stale → ((l : ℕ) → l < element_count t.flat → IsIn stale l → ⊥) → AreEarly t s d
   swept-last d stale swept none = record { exact = record { count = swept.rising.count; each = λ l h. swept.met l h (none l h) }; least = swept.rising.least }
 
 module _ (t : Timing) (s : Schedule) (fits : IsClocked t s)
     (late : List ℤ) (are_late : AreLate t s late) where
   -- One that departs later makes those stale that pairs lead to from there.
-  pub swept-more : (d e : List ℤ) (n : ℕ) (old mid new : List ℕ) → AreSwept t s late d old → n < element_count t → e ≡ set d n (early_departure t s d n) →
+  pub swept-more : (d e : List ℤ) (n : ℕ) (old mid new : List ℕ) → AreSwept t s late d old → n < element_count t.flat → e ≡ set d n (early_departure t s d n) →
       length mid ≡ length old → ((k : ℕ) → k ≢ n → IsIn old k → IsIn mid k) → length new ≡ length mid → ((k : ℕ) → IsIn mid k → IsIn new k) →
       ((m : ℕ) → m < length t.pairs → (pair_at t m).from ≡ n → IsIn new (pair_at t m).to) → AreSwept t s late e new
   swept-more d e n old mid new swept inside write mid_count others new_count kept woken =

@@ -10,4 +10,4 @@ pub record IsClocked (t : Timing) (s : Schedule) : Type 0 where
   pub design : IsDesign t.flat
   pub timing : IsTiming t.flat t.order t.pairs
   pub range : IsInRange s
-  pub phases : length s.starts ≡ phase_count t
+  pub phases : length s.starts ≡ phase_count t.flat

@@ -2,7 +2,7 @@
 use Rattle.std.specs.Prelude.{◌≡◌, ◌<◌, ◌≤◌, ◌^◌, ℕ, ℤ, pos, negsuc, ◌+ℤ◌, ◌*ℤ◌, ◌≤ℤ◌, if◌then◌else◌, List, length, Option, Some, None}
 use Rattle.mintc_timing.specs.declared.parts.Pair.{Pair}
 use Rattle.mintc_timing.specs.declared.clocking.Schedule.{Schedule}
-use Rattle.mintc_timing.specs.Design.{Timing, element_at, element_count, phase_of}
+use Rattle.mintc_timing.specs.Design.{Design, Timing, element_at, element_count, phase_of}
 use Rattle.mintc_timing.specs.Clocking.{shift_of}
 use Rattle.mintc_timing.specs.Departures.{departure, early_opening, early_departure, AreExactEarly, AreAtMost}
 use Rattle.mintc_places.specs.Places.{IsIn, room}
@@ -10,13 +10,13 @@ use Rattle.mintc_departure.specs.declared.arrivals.TheConstants.{NEVER}
 use Rattle.mintc_departure.specs.Settled.{IsSum}
 
 -- When an element's data leaves at the earliest where no data reaches it, counted from the start of its phase.
-abbrev pub early_start_of : Timing → Schedule → ℕ → ℤ
-early_start_of t s l = if (element_at t l).flop then pos 0 else early_opening t s l
+abbrev pub early_start_of : Design → Schedule → ℕ → ℤ
+early_start_of design s l = if (element_at design l).flop then pos 0 else early_opening design s l
 
 -- By how much later data arrives at the end of a pair than it departs at its beginning, at the earliest, each counted
 -- from the start of the element's phase.
-abbrev pub early_travel : Timing → Schedule → Pair → ℤ
-early_travel t s p = ((element_at t p.from).dq_min +ℤ p.min) *ℤ s.den +ℤ shift_of s (phase_of t p.from) (phase_of t p.to)
+abbrev pub early_travel : Design → Schedule → Pair → ℤ
+early_travel design s p = ((element_at design p.from).dq_min +ℤ p.min) *ℤ s.den +ℤ shift_of s (phase_of design p.from) (phase_of design p.to)
 
 -- a departure with the delay of one pair added
 abbrev pub IsArrivalSum : ℤ → Type 0
@@ -28,24 +28,24 @@ IsFirst None v = v ≡ NEVER
 IsFirst (Some a) v = (v ≡ a) × IsArrivalSum a
 
 -- A number for each element, each a sum of few delays.
-pub record AreSums (t : Timing) (d : List ℤ) : Type 0 where
-  pub count : length d ≡ element_count t
-  pub each : (l : ℕ) → l < element_count t → IsSum (departure d l)
+pub record AreSums (design : Design).flat (d : List ℤ) : Type 0 where
+  pub count : length d ≡ element_count design
+  pub each : (l : ℕ) → l < element_count design → IsSum (departure d l)
 
 -- What each round, and each write, of the early departures keeps: they rise from where no data reaches an element, are at most every
 -- solution, and leave no output later than the late departures do.
 pub record AreRising (t : Timing) (s : Schedule) (late d : List ℤ) : Type 0 where
-  pub count : length d ≡ element_count t
-  pub above : (l : ℕ) → l < element_count t → early_start_of t s l ≤ℤ departure d l
-  pub rises : (l : ℕ) → l < element_count t → departure d l ≤ℤ early_departure t s d l
-  pub least : (e : List ℤ) → AreExactEarly t s e → AreAtMost t d e
-  pub before : (l : ℕ) → l < element_count t →
-      (departure d l +ℤ (element_at t l).dq_min *ℤ s.den) ≤ℤ (departure late l +ℤ (element_at t l).dq_max *ℤ s.den)
+  pub count : length d ≡ element_count t.flat
+  pub above : (l : ℕ) → l < element_count t.flat → early_start_of t.flat s l ≤ℤ departure d l
+  pub rises : (l : ℕ) → l < element_count t.flat → departure d l ≤ℤ early_departure t s d l
+  pub least : (e : List ℤ) → AreExactEarly t s e → AreAtMost t.flat d e
+  pub before : (l : ℕ) → l < element_count t.flat →
+      (departure d l +ℤ (element_at t.flat l).dq_min *ℤ s.den) ≤ℤ (departure late l +ℤ (element_at t.flat l).dq_max *ℤ s.den)
 
 -- What each sweep over the stale elements keeps: the departures rise, and an element that isn't stale departs when the
 -- others make it depart.
 pub record AreSwept (t : Timing) (s : Schedule) (late d : List ℤ) (stale : List ℕ) : Type 0 where
   pub rising : AreRising t s late d
-  pub met : (l : ℕ) → l < element_count t → (IsIn stale l → ⊥) → departure d l ≡ early_departure t s d l
-  pub places : element_count t ≤ room stale
+  pub met : (l : ℕ) → l < element_count t.flat → (IsIn stale l → ⊥) → departure d l ≡ early_departure t s d l
+  pub places : element_count t.flat ≤ room stale
   pub few : length stale ≤ 2 ^ 32

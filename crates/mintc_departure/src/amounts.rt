@@ -36,7 +36,7 @@ impl ClockedSystem<'_> {
     /// By how much later data arrives at the end of a pair than it departs at its beginning, at the latest.
     pub fn late_delay(&self, number: usize) -> i64
         requires number { number < length self.now.system.now.pairs }
-        ensures value { result ≡ late_travel self.now.system.now self.now.schedule.now (pair_at self.now.system.now number) }
+        ensures value { result ≡ late_travel self.now.system.now.flat self.now.schedule.now (pair_at self.now.system.now number) }
         ensures range { IsTime result }
     {
         let pair = self.system.pair(number);
@@ -47,8 +47,8 @@ impl ClockedSystem<'_> {
 
     /// When an element's data leaves at the latest where no pair leads to it.
     pub fn late_start(&self, number: u32) -> i64
-        requires number { number < element_count self.now.system.now }
-        ensures value { result ≡ late_start_of self.now.system.now self.now.schedule.now number }
+        requires number { number < element_count self.now.system.now.flat }
+        ensures value { result ≡ late_start_of self.now.system.now.flat self.now.schedule.now number }
         ensures range { IsModest result }
     {
         let element = self.system.element(number);
@@ -62,7 +62,7 @@ impl ClockedSystem<'_> {
     /// By how much later data arrives at the end of a pair than it departs at its beginning, at the earliest.
     pub fn early_delay(&self, number: usize) -> i64
         requires number { number < length self.now.system.now.pairs }
-        ensures value { result ≡ early_travel self.now.system.now self.now.schedule.now (pair_at self.now.system.now number) }
+        ensures value { result ≡ early_travel self.now.system.now.flat self.now.schedule.now (pair_at self.now.system.now number) }
         ensures range { IsTime result }
     {
         let pair = self.system.pair(number);
@@ -74,8 +74,8 @@ impl ClockedSystem<'_> {
 
     /// When an element's data leaves at the earliest where no pair leads to it.
     pub fn early_start(&self, number: u32) -> i64
-        requires number { number < element_count self.now.system.now }
-        ensures value { result ≡ early_start_of self.now.system.now self.now.schedule.now number }
+        requires number { number < element_count self.now.system.now.flat }
+        ensures value { result ≡ early_start_of self.now.system.now.flat self.now.schedule.now number }
         ensures range { IsModest result }
     {
         let element = self.system.element(number);

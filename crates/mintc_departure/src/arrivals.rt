@@ -15,9 +15,9 @@ pub const NEVER: i128 = i128::MAX;
 
 /// When data that leaves the first element of a pair reaches the second one at the earliest.
 pub(crate) fn arrival(clocked: &ClockedSystem<'_>, departures: &[i64], number: usize) -> i64
-    requires departures { AreSums clocked.now.system.now departures.now }
+    requires departures { AreSums clocked.now.system.now.flat departures.now }
     requires number { number < length clocked.now.system.now.pairs }
-    ensures value { result ≡ early_arrival clocked.now.system.now clocked.now.schedule.now departures.now (pair_at clocked.now.system.now number) }
+    ensures value { result ≡ early_arrival clocked.now.system.now.flat clocked.now.schedule.now departures.now (pair_at clocked.now.system.now number) }
     ensures range { IsArrivalSum result }
 {
     departures[clocked.system.pair(number).from as usize] + clocked.early_delay(number)
@@ -25,14 +25,14 @@ pub(crate) fn arrival(clocked: &ClockedSystem<'_>, departures: &[i64], number: u
 
 /// Lowers the value of a pair's second element to the pair's arrival.
 fn bring(clocked: &ClockedSystem<'_>, room: &mut Room, number: usize)
-    requires departures { AreSums clocked.now.system.now room.old.early }
+    requires departures { AreSums clocked.now.system.now.flat room.old.early }
     requires number { number < length clocked.now.system.now.pairs }
-    requires count { length room.old.values ≡ element_count clocked.now.system.now }
-    ensures inside { (pair_at clocked.now.system.now number).to < element_count clocked.now.system.now }
-    ensures range { IsArrivalSum (early_arrival clocked.now.system.now clocked.now.schedule.now room.old.early (pair_at clocked.now.system.now number)) }
+    requires count { length room.old.values ≡ element_count clocked.now.system.now.flat }
+    ensures inside { (pair_at clocked.now.system.now number).to < element_count clocked.now.system.now.flat }
+    ensures range { IsArrivalSum (early_arrival clocked.now.system.now.flat clocked.now.schedule.now room.old.early (pair_at clocked.now.system.now number)) }
     ensures value { let pair = pair_at clocked.now.system.now number in room.new ≡ record room.old {
       values = slice_set room.old.values pair.to
-          (int_min (early_arrival clocked.now.system.now clocked.now.schedule.now room.old.early pair) (value_at room.old.values pair.to));
+          (int_min (early_arrival clocked.now.system.now.flat clocked.now.schedule.now room.old.early pair) (value_at room.old.values pair.to));
     } }
 {
     let to = clocked.system.pair(number).to as usize;
@@ -56,11 +56,11 @@ pub(crate) fn fill(room: &mut Room, count: usize, item: i128)
 
 /// Makes the values the earliest arrivals at the elements, by the room's early departures.
 pub(crate) fn gather(clocked: &ClockedSystem<'_>, room: &mut Room)
-    requires nodes { element_count clocked.now.system.now ≤ room.old.nodes }
-    requires departures { AreSums clocked.now.system.now room.old.early }
+    requires nodes { element_count clocked.now.system.now.flat ≤ room.old.nodes }
+    requires departures { AreSums clocked.now.system.now.flat room.old.early }
     ensures kept { room.new ≡ record room.old { values = room.new.values } }
-    ensures count { length room.new.values ≡ element_count clocked.now.system.now }
-    ensures each { (l : ℕ) → l < element_count clocked.now.system.now → IsFirst (least_of (early_arrivals clocked.now.system.now clocked.now.schedule.now room.old.early l)) (value_at room.new.values l) }
+    ensures count { length room.new.values ≡ element_count clocked.now.system.now.flat }
+    ensures each { (l : ℕ) → l < element_count clocked.now.system.now.flat → IsFirst (least_of (early_arrivals clocked.now.system.now clocked.now.schedule.now room.old.early l)) (value_at room.new.values l) }
 {
     fill(room, clocked.count(), NEVER);
     for number in 0..clocked.system.pairs().len() {

@@ -51,9 +51,9 @@ fn judge_phase(
     phase: u32,
     violations: &mut Vec<Violation>,
 ) -> Result<(), OutOfMemory>
-    requires phase { IsPhase (phase_count clocked.now.system.now) phase }
-    requires next { rule ≡ PhaseRule.Order → phase < phase_count clocked.now.system.now }
-    ensures { OnOk result (violations.new.items ≡ violations.old.items ++ failed (phase_check clocked.now.system.now clocked.now.schedule.now rule phase ∷ [])) }
+    requires phase { IsPhase (phase_count clocked.now.system.now.flat) phase }
+    requires next { rule ≡ PhaseRule.Order → phase < phase_count clocked.now.system.now.flat }
+    ensures { OnOk result (violations.new.items ≡ violations.old.items ++ failed (phase_check clocked.now.system.now.flat clocked.now.schedule.now rule phase ∷ [])) }
 {
     let schedule = clocked.schedule;
     let flat = clocked.system.flat();
@@ -88,9 +88,9 @@ fn judge_phases(
     count: usize,
     violations: &mut Vec<Violation>,
 ) -> Result<(), OutOfMemory>
-    requires count { count ≤ phase_count clocked.now.system.now }
-    requires next { rule ≡ PhaseRule.Order → count < phase_count clocked.now.system.now }
-    ensures { OnOk result (violations.new.items ≡ violations.old.items ++ failed (map (phase_check clocked.now.system.now clocked.now.schedule.now rule) (range_with_len 1 count))) }
+    requires count { count ≤ phase_count clocked.now.system.now.flat }
+    requires next { rule ≡ PhaseRule.Order → count < phase_count clocked.now.system.now.flat }
+    ensures { OnOk result (violations.new.items ≡ violations.old.items ++ failed (map (phase_check clocked.now.system.now.flat clocked.now.schedule.now rule) (range_with_len 1 count))) }
 {
     for index in 0..count {
         judge_phase(clocked, rule, index as u32 + 1, violations)?;
@@ -120,7 +120,7 @@ fn judge_apart(
     i: u32,
     violations: &mut Vec<Violation>,
 ) -> Result<(), OutOfMemory>
-    requires phase { IsPhase (phase_count clocked.now.system.now) i }
+    requires phase { IsPhase (phase_count clocked.now.system.now.flat) i }
     requires count { length fed.now ≡ 64 }
     requires table { (i j : ℕ) → IsPhase 8 i → IsPhase 8 j → slice_index_or fed.now (8 * (i - 1) + (j - 1)) false ≡ feeds_of clocked.now.system.now i j }
     ensures { OnOk result (violations.new.items ≡ violations.old.items ++ failed (fed_checks clocked.now.system.now clocked.now.schedule.now i)) }
@@ -157,7 +157,7 @@ fn judge_bounds(
     clocked: &ClockedSystem<'_>,
     violations: &mut Vec<Violation>,
 ) -> Result<(), OutOfMemory>
-    ensures { OnOk result (violations.new.items ≡ violations.old.items ++ failed (bound_checks clocked.now.system.now clocked.now.schedule.now)) }
+    ensures { OnOk result (violations.new.items ≡ violations.old.items ++ failed (bound_checks clocked.now.system.now.flat clocked.now.schedule.now)) }
 {
     let bounds = clocked.system.flat().bounds();
     for number in 0..bounds.len() {

@@ -11,7 +11,7 @@ pub(crate) struct ClockedSystem<'a> {
     pub system: &'a System,
     pub schedule: &'a Schedule,
     ghost in_range: { IsInRange schedule.now },
-    ghost phases: { length schedule.now.starts ≡ phase_count system.now },
+    ghost phases: { length schedule.now.starts ≡ phase_count system.now.flat },
 }
 
 impl ClockedSystem<'_> {
@@ -20,7 +20,7 @@ impl ClockedSystem<'_> {
 
     /// The number of its elements.
     pub fn count(&self) -> usize
-        ensures value { result ≡ element_count self.now.system.now }
+        ensures value { result ≡ element_count self.now.system.now.flat }
         ensures kept { IsClocked self.now.system.now self.now.schedule.now }
     {
         let _pairs = self.system.pairs();
@@ -29,7 +29,7 @@ impl ClockedSystem<'_> {
 
     /// The number of its phases.
     pub fn phase_count(&self) -> usize
-        ensures value { result ≡ phase_count self.now.system.now }
+        ensures value { result ≡ phase_count self.now.system.now.flat }
         ensures few { result ≤ 8 }
     {
         self.system.flat().phases().items().len()

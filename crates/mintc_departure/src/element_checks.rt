@@ -23,7 +23,7 @@ use mintc_timing::{Broken, Violation};
 /// By how much an element fails its setup, by its late departure and its latest arrival; a flop that no pair leads to has
 /// no setup to keep.
 fn setup_excess(clocked: &ClockedSystem<'_>, time: i64, last: i128, number: u32) -> Option<i64>
-    requires number { number < element_count clocked.now.system.now }
+    requires number { number < element_count clocked.now.system.now.flat }
     requires time { IsSum time }
     requires last { (last ≡ LONG_AGO) ⊎ IsArrivalSum last }
     ensures value { (d : List ℤ) → departure d number ≡ time → IsLast (greatest_of (late_arrivals clocked.now.system.now clocked.now.schedule.now d number)) last →
@@ -48,9 +48,9 @@ fn judge_setup(
     number: u32,
     violations: &mut Vec<Violation>,
 ) -> Result<(), OutOfMemory>
-    requires number { number < element_count clocked.now.system.now }
-    requires departures { AreSums clocked.now.system.now room.now.late }
-    requires count { length room.now.values ≡ element_count clocked.now.system.now }
+    requires number { number < element_count clocked.now.system.now.flat }
+    requires departures { AreSums clocked.now.system.now.flat room.now.late }
+    requires count { length room.now.values ≡ element_count clocked.now.system.now.flat }
     requires last { IsLast (greatest_of (late_arrivals clocked.now.system.now clocked.now.schedule.now room.now.late number)) (value_at room.now.values number) }
     ensures { OnOk result (violations.new.items ≡ violations.old.items
         ++ failed (filter_map (λ l. option_map (check (Broken.Setup l)) (setup_amount clocked.now.system.now clocked.now.schedule.now room.now.late l)) (number ∷ []))) }
@@ -69,9 +69,9 @@ pub(crate) fn judge_setups(
     room: &Room,
     violations: &mut Vec<Violation>,
 ) -> Result<(), OutOfMemory>
-    requires departures { AreSums clocked.now.system.now room.now.late }
-    requires count { length room.now.values ≡ element_count clocked.now.system.now }
-    requires lasts { (l : ℕ) → l < element_count clocked.now.system.now → IsLast (greatest_of (late_arrivals clocked.now.system.now clocked.now.schedule.now room.now.late l)) (value_at room.now.values l) }
+    requires departures { AreSums clocked.now.system.now.flat room.now.late }
+    requires count { length room.now.values ≡ element_count clocked.now.system.now.flat }
+    requires lasts { (l : ℕ) → l < element_count clocked.now.system.now.flat → IsLast (greatest_of (late_arrivals clocked.now.system.now clocked.now.schedule.now room.now.late l)) (value_at room.now.values l) }
     ensures { OnOk result (violations.new.items ≡ violations.old.items ++ failed (setup_checks clocked.now.system.now clocked.now.schedule.now room.now.late)) }
 {
     for number in 0..clocked.count() {
@@ -82,8 +82,8 @@ pub(crate) fn judge_setups(
 
 /// How long after the start of its phase an element's data has to hold, its hold aside.
 fn hold_start(clocked: &ClockedSystem<'_>, number: u32) -> i64
-    requires number { number < element_count clocked.now.system.now }
-    ensures value { result ≡ (if (element_at clocked.now.system.now number).flop then pos 0 else width_of clocked.now.schedule.now (phase_of clocked.now.system.now number)) }
+    requires number { number < element_count clocked.now.system.now.flat }
+    ensures value { result ≡ (if (element_at clocked.now.system.now.flat number).flop then pos 0 else width_of clocked.now.schedule.now (phase_of clocked.now.system.now.flat number)) }
     ensures range { IsNumerator result }
 {
     let element = clocked.system.element(number);
@@ -97,7 +97,7 @@ fn hold_start(clocked: &ClockedSystem<'_>, number: u32) -> i64
 /// By how much an element fails its hold, by its earliest arrival; one that has no hold, or that no pair leads to, has none
 /// to keep.
 fn hold_excess(clocked: &ClockedSystem<'_>, first: i128, number: u32) -> Option<i64>
-    requires number { number < element_count clocked.now.system.now }
+    requires number { number < element_count clocked.now.system.now.flat }
     requires first { (first ≡ NEVER) ⊎ IsArrivalSum first }
     ensures value { (d : List ℤ) → IsFirst (least_of (early_arrivals clocked.now.system.now clocked.now.schedule.now d number)) first →
         result ≡ hold_amount clocked.now.system.now clocked.now.schedule.now d number }
@@ -121,8 +121,8 @@ fn judge_hold(
     number: u32,
     violations: &mut Vec<Violation>,
 ) -> Result<(), OutOfMemory>
-    requires number { number < element_count clocked.now.system.now }
-    requires count { length room.now.values ≡ element_count clocked.now.system.now }
+    requires number { number < element_count clocked.now.system.now.flat }
+    requires count { length room.now.values ≡ element_count clocked.now.system.now.flat }
     requires first { IsFirst (least_of (early_arrivals clocked.now.system.now clocked.now.schedule.now room.now.early number)) (value_at room.now.values number) }
     ensures { OnOk result (violations.new.items ≡ violations.old.items
         ++ failed (filter_map (λ l. option_map (check (Broken.Hold l)) (hold_amount clocked.now.system.now clocked.now.schedule.now room.now.early l)) (number ∷ []))) }
@@ -140,8 +140,8 @@ pub(crate) fn judge_holds(
     room: &Room,
     violations: &mut Vec<Violation>,
 ) -> Result<(), OutOfMemory>
-    requires count { length room.now.values ≡ element_count clocked.now.system.now }
-    requires firsts { (l : ℕ) → l < element_count clocked.now.system.now → IsFirst (least_of (early_arrivals clocked.now.system.now clocked.now.schedule.now room.now.early l)) (value_at room.now.values l) }
+    requires count { length room.now.values ≡ element_count clocked.now.system.now.flat }
+    requires firsts { (l : ℕ) → l < element_count clocked.now.system.now.flat → IsFirst (least_of (early_arrivals clocked.now.system.now clocked.now.schedule.now room.now.early l)) (value_at room.now.values l) }
     ensures { OnOk result (violations.new.items ≡ violations.old.items ++ failed (hold_checks clocked.now.system.now clocked.now.schedule.now room.now.early)) }
 {
     for number in 0..clocked.count() {

@@ -67,7 +67,7 @@ fn judge_elements(
     room: &mut Room,
     violations: &mut Vec<Violation>,
 ) -> Result<(), OutOfMemory>
-    requires room { 1 + 2 * phase_count clocked.now.system.now + element_count clocked.now.system.now ≤ room.old.nodes }
+    requires room { 1 + 2 * phase_count clocked.now.system.now.flat + element_count clocked.now.system.now.flat ≤ room.old.nodes }
     requires late { AreLate clocked.now.system.now clocked.now.schedule.now room.old.late }
     requires sums { All IsSum room.old.late }
     ensures early { OnOk result (AreEarly clocked.now.system.now clocked.now.schedule.now room.new.early) }
@@ -93,8 +93,8 @@ pub fn violations(
     room: &mut Room,
 ) -> Result<Vec<Violation>, OutOfMemory>
     requires in_range { IsInRange schedule.now }
-    requires phases { length schedule.now.starts ≡ phase_count system.now }
-    requires room { 1 + 2 * phase_count system.now + element_count system.now ≤ room.old.nodes }
+    requires phases { length schedule.now.starts ≡ phase_count system.now.flat }
+    requires room { 1 + 2 * phase_count system.now.flat + element_count system.now.flat ≤ room.old.nodes }
     ensures violations { IfOk result (λ violations. AreViolations system.now schedule.now violations.items) }
     ensures late { IfOk result (λ violations. violations.items ≡ [] → AreLate system.now schedule.now room.new.late) }
     ensures early { IfOk result (λ violations. violations.items ≡ [] → AreEarly system.now schedule.now room.new.early) }

@@ -17,9 +17,9 @@ pub const LONG_AGO: i128 = i128::MIN;
 
 /// When data that leaves the first element of a pair reaches the second one at the latest.
 fn latest(clocked: &ClockedSystem<'_>, departures: &[i64], number: usize) -> i64
-    requires departures { AreSums clocked.now.system.now departures.now }
+    requires departures { AreSums clocked.now.system.now.flat departures.now }
     requires number { number < length clocked.now.system.now.pairs }
-    ensures value { result ≡ late_arrival clocked.now.system.now clocked.now.schedule.now departures.now (pair_at clocked.now.system.now number) }
+    ensures value { result ≡ late_arrival clocked.now.system.now.flat clocked.now.schedule.now departures.now (pair_at clocked.now.system.now number) }
     ensures range { IsArrivalSum result }
 {
     departures[clocked.system.pair(number).from as usize] + clocked.late_delay(number)
@@ -27,14 +27,14 @@ fn latest(clocked: &ClockedSystem<'_>, departures: &[i64], number: usize) -> i64
 
 /// Raises the value of a pair's second element to the pair's arrival.
 fn bring_latest(clocked: &ClockedSystem<'_>, room: &mut Room, number: usize)
-    requires departures { AreSums clocked.now.system.now room.old.late }
+    requires departures { AreSums clocked.now.system.now.flat room.old.late }
     requires number { number < length clocked.now.system.now.pairs }
-    requires count { length room.old.values ≡ element_count clocked.now.system.now }
-    ensures inside { (pair_at clocked.now.system.now number).to < element_count clocked.now.system.now }
-    ensures range { IsArrivalSum (late_arrival clocked.now.system.now clocked.now.schedule.now room.old.late (pair_at clocked.now.system.now number)) }
+    requires count { length room.old.values ≡ element_count clocked.now.system.now.flat }
+    ensures inside { (pair_at clocked.now.system.now number).to < element_count clocked.now.system.now.flat }
+    ensures range { IsArrivalSum (late_arrival clocked.now.system.now.flat clocked.now.schedule.now room.old.late (pair_at clocked.now.system.now number)) }
     ensures value { let pair = pair_at clocked.now.system.now number in room.new ≡ record room.old {
       values = slice_set room.old.values pair.to
-          (int_max (late_arrival clocked.now.system.now clocked.now.schedule.now room.old.late pair) (value_at room.old.values pair.to));
+          (int_max (late_arrival clocked.now.system.now.flat clocked.now.schedule.now room.old.late pair) (value_at room.old.values pair.to));
     } }
 {
     let to = clocked.system.pair(number).to as usize;
@@ -45,11 +45,11 @@ fn bring_latest(clocked: &ClockedSystem<'_>, room: &mut Room, number: usize)
 
 /// Makes the values the latest arrivals at the elements, by the room's late departures.
 pub(crate) fn gather_latest(clocked: &ClockedSystem<'_>, room: &mut Room)
-    requires nodes { element_count clocked.now.system.now ≤ room.old.nodes }
-    requires departures { AreSums clocked.now.system.now room.old.late }
+    requires nodes { element_count clocked.now.system.now.flat ≤ room.old.nodes }
+    requires departures { AreSums clocked.now.system.now.flat room.old.late }
     ensures kept { room.new ≡ record room.old { values = room.new.values } }
-    ensures count { length room.new.values ≡ element_count clocked.now.system.now }
-    ensures each { (l : ℕ) → l < element_count clocked.now.system.now → IsLast (greatest_of (late_arrivals clocked.now.system.now clocked.now.schedule.now room.old.late l)) (value_at room.new.values l) }
+    ensures count { length room.new.values ≡ element_count clocked.now.system.now.flat }
+    ensures each { (l : ℕ) → l < element_count clocked.now.system.now.flat → IsLast (greatest_of (late_arrivals clocked.now.system.now clocked.now.schedule.now room.old.late l)) (value_at room.new.values l) }
 {
     fill(room, clocked.count(), LONG_AGO);
     for number in 0..clocked.system.pairs().len() {

@@ -21,9 +21,9 @@ use std::alloc::Global;
 
 /// The earliest arrival at an element, by these departures.
 fn earliest(clocked: &ClockedSystem<'_>, into: &Chains, departures: &[i64], element: usize) -> i128
-    requires into { AreChains clocked.now.system.now.pairs End.Second (element_count clocked.now.system.now) into.now }
-    requires departures { AreSums clocked.now.system.now departures.now }
-    requires element { element < element_count clocked.now.system.now }
+    requires into { AreChains clocked.now.system.now.pairs End.Second (element_count clocked.now.system.now.flat) into.now }
+    requires departures { AreSums clocked.now.system.now.flat departures.now }
+    requires element { element < element_count clocked.now.system.now.flat }
     ensures { IsFirst (least_of (early_arrivals clocked.now.system.now clocked.now.schedule.now departures.now element)) result }
 {
     let mut first = NEVER;
@@ -39,9 +39,9 @@ fn earliest(clocked: &ClockedSystem<'_>, into: &Chains, departures: &[i64], elem
 
 /// Makes an element's departure what its earliest arrival makes it. Whether it's another one.
 fn renew(clocked: &ClockedSystem<'_>, into: &Chains, room: &mut Room, element: usize) -> bool
-    requires into { AreChains clocked.now.system.now.pairs End.Second (element_count clocked.now.system.now) into.now }
-    requires departures { AreSums clocked.now.system.now room.old.early }
-    requires element { element < element_count clocked.now.system.now }
+    requires into { AreChains clocked.now.system.now.pairs End.Second (element_count clocked.now.system.now.flat) into.now }
+    requires departures { AreSums clocked.now.system.now.flat room.old.early }
+    requires element { element < element_count clocked.now.system.now.flat }
     ensures kept { room.new ≡ record room.old { early = room.new.early } }
     ensures same { OnFalse result (room.new.early ≡ room.old.early) }
     ensures still { OnFalse result (departure room.old.early element ≡ early_departure clocked.now.system.now clocked.now.schedule.now room.old.early element) }
@@ -61,9 +61,9 @@ fn renew(clocked: &ClockedSystem<'_>, into: &Chains, room: &mut Room, element: u
 
 /// Takes in each element that a pair from this one leads to.
 fn wake(system: &System, out: &Chains, stale: &mut Places, element: usize)
-    requires out { AreChains system.now.pairs End.First (element_count system.now) out.now }
-    requires element { element < element_count system.now }
-    requires places { element_count system.now ≤ room stale.old.words.items }
+    requires out { AreChains system.now.pairs End.First (element_count system.now.flat) out.now }
+    requires element { element < element_count system.now.flat }
+    requires places { element_count system.now.flat ≤ room stale.old.words.items }
     ensures count { length stale.new.words.items ≡ length stale.old.words.items }
     ensures kept { (l : ℕ) → IsIn stale.old.words.items l → IsIn stale.new.words.items l }
     ensures woken { (n : ℕ) → n < length system.now.pairs → (pair_at system.now n).from ≡ element → IsIn stale.new.words.items (pair_at system.now n).to }
@@ -85,14 +85,14 @@ fn touch(
     stale: &mut Places,
     element: usize,
 ) -> bool
-    requires into { AreChains clocked.now.system.now.pairs End.Second (element_count clocked.now.system.now) into.now }
-    requires out { AreChains clocked.now.system.now.pairs End.First (element_count clocked.now.system.now) out.now }
+    requires into { AreChains clocked.now.system.now.pairs End.Second (element_count clocked.now.system.now.flat) into.now }
+    requires out { AreChains clocked.now.system.now.pairs End.First (element_count clocked.now.system.now.flat) out.now }
     requires late { AreLate clocked.now.system.now clocked.now.schedule.now room.old.late }
     requires swept { AreSwept clocked.now.system.now clocked.now.schedule.now room.old.late room.old.early stale.old.words.items }
-    requires element { element < element_count clocked.now.system.now }
+    requires element { element < element_count clocked.now.system.now.flat }
     ensures kept { room.new ≡ record room.old { early = room.new.early } }
     ensures swept { AreSwept clocked.now.system.now clocked.now.schedule.now room.old.late room.new.early stale.new.words.items }
-    ensures up { (l : ℕ) → l < element_count clocked.now.system.now → departure room.old.early l ≤ℤ departure room.new.early l }
+    ensures up { (l : ℕ) → l < element_count clocked.now.system.now.flat → departure room.old.early l ≤ℤ departure room.new.early l }
     ensures changed { OnTrue result (departure room.old.early element <ℤ departure room.new.early element) }
     ensures out { OnFalse result (IsIn stale.new.words.items element → ⊥) }
     ensures only { OnFalse result ((l : ℕ) → IsIn stale.new.words.items l → IsIn stale.old.words.items l) }
@@ -114,15 +114,15 @@ fn sweep(
     room: &mut Room,
     stale: &mut Places,
 ) -> bool
-    requires into { AreChains clocked.now.system.now.pairs End.Second (element_count clocked.now.system.now) into.now }
-    requires out { AreChains clocked.now.system.now.pairs End.First (element_count clocked.now.system.now) out.now }
+    requires into { AreChains clocked.now.system.now.pairs End.Second (element_count clocked.now.system.now.flat) into.now }
+    requires out { AreChains clocked.now.system.now.pairs End.First (element_count clocked.now.system.now.flat) out.now }
     requires late { AreLate clocked.now.system.now clocked.now.schedule.now room.old.late }
     requires swept { AreSwept clocked.now.system.now clocked.now.schedule.now room.old.late room.old.early stale.old.words.items }
     ensures kept { room.new ≡ record room.old { early = room.new.early } }
     ensures swept { AreSwept clocked.now.system.now clocked.now.schedule.now room.old.late room.new.early stale.new.words.items }
-    ensures up { (l : ℕ) → l < element_count clocked.now.system.now → departure room.old.early l ≤ℤ departure room.new.early l }
-    ensures changed { OnTrue result ((l : ℕ) × (l < element_count clocked.now.system.now) × (departure room.old.early l <ℤ departure room.new.early l)) }
-    ensures none { OnFalse result ((l : ℕ) → l < element_count clocked.now.system.now → IsIn stale.new.words.items l → ⊥) }
+    ensures up { (l : ℕ) → l < element_count clocked.now.system.now.flat → departure room.old.early l ≤ℤ departure room.new.early l }
+    ensures changed { OnTrue result ((l : ℕ) × (l < element_count clocked.now.system.now.flat) × (departure room.old.early l <ℤ departure room.new.early l)) }
+    ensures none { OnFalse result ((l : ℕ) → l < element_count clocked.now.system.now.flat → IsIn stale.new.words.items l → ⊥) }
 {
     let count = clocked.count();
     let mut changed = false;
@@ -161,13 +161,13 @@ fn rise(
     room: &mut Room,
     stale: &mut Places,
 )
-    requires into { AreChains clocked.now.system.now.pairs End.Second (element_count clocked.now.system.now) into.now }
-    requires out { AreChains clocked.now.system.now.pairs End.First (element_count clocked.now.system.now) out.now }
+    requires into { AreChains clocked.now.system.now.pairs End.Second (element_count clocked.now.system.now.flat) into.now }
+    requires out { AreChains clocked.now.system.now.pairs End.First (element_count clocked.now.system.now.flat) out.now }
     requires late { AreLate clocked.now.system.now clocked.now.schedule.now room.old.late }
     requires swept { AreSwept clocked.now.system.now clocked.now.schedule.now room.old.late room.old.early stale.old.words.items }
     ensures kept { room.new ≡ record room.old { early = room.new.early } }
     ensures early { AreEarly clocked.now.system.now clocked.now.schedule.now room.new.early }
-    ensures sums { AreSums clocked.now.system.now room.new.early }
+    ensures sums { AreSums clocked.now.system.now.flat room.new.early }
 {
     let _count = clocked.count();
     while sweep(clocked, into, out, room, stale) {}
@@ -179,12 +179,12 @@ pub(crate) fn rise_early(
     clocked: &ClockedSystem<'_>,
     room: &mut Room,
 ) -> Result<(), OutOfMemory>
-    requires room { 1 + 2 * phase_count clocked.now.system.now + element_count clocked.now.system.now ≤ room.old.nodes }
+    requires room { 1 + 2 * phase_count clocked.now.system.now.flat + element_count clocked.now.system.now.flat ≤ room.old.nodes }
     requires late { AreLate clocked.now.system.now clocked.now.schedule.now room.old.late }
     ensures kept { room.new ≡ record room.old { early = room.new.early; values = room.new.values } }
     ensures early { OnOk result (AreEarly clocked.now.system.now clocked.now.schedule.now room.new.early) }
-    ensures count { OnOk result (length room.new.values ≡ element_count clocked.now.system.now) }
-    ensures firsts { OnOk result ((l : ℕ) → l < element_count clocked.now.system.now → IsFirst (least_of (early_arrivals clocked.now.system.now clocked.now.schedule.now room.new.early l)) (value_at room.new.values l)) }
+    ensures count { OnOk result (length room.new.values ≡ element_count clocked.now.system.now.flat) }
+    ensures firsts { OnOk result ((l : ℕ) → l < element_count clocked.now.system.now.flat → IsFirst (least_of (early_arrivals clocked.now.system.now clocked.now.schedule.now room.new.early l)) (value_at room.new.values l)) }
 {
     let pairs = clocked.system.pairs();
     let count = clocked.count();

@@ -15,7 +15,7 @@ use mintc_timing::{Schedule, System};
 
 /// When an element's data leaves at the earliest, by its earliest arrival.
 pub(crate) fn departs(clocked: &ClockedSystem<'_>, number: u32, first: i128) -> i64
-    requires number { number < element_count clocked.now.system.now }
+    requires number { number < element_count clocked.now.system.now.flat }
     requires first { (first ≡ NEVER) ⊎ IsArrivalSum first }
     ensures { (d : List ℤ) → IsFirst (least_of (early_arrivals clocked.now.system.now clocked.now.schedule.now d number)) first →
         result ≡ early_departure clocked.now.system.now clocked.now.schedule.now d number }
@@ -32,10 +32,10 @@ pub(crate) fn departs(clocked: &ClockedSystem<'_>, number: u32, first: i128) -> 
 
 /// Makes the early departures those of elements that no data reaches.
 pub(crate) fn fill_early_starts(clocked: &ClockedSystem<'_>, room: &mut Room)
-    requires nodes { element_count clocked.now.system.now ≤ room.old.nodes }
+    requires nodes { element_count clocked.now.system.now.flat ≤ room.old.nodes }
     ensures kept { room.new ≡ record room.old { early = room.new.early } }
-    ensures count { length room.new.early ≡ element_count clocked.now.system.now }
-    ensures each { (l : ℕ) → l < element_count clocked.now.system.now → departure room.new.early l ≡ early_start_of clocked.now.system.now clocked.now.schedule.now l }
+    ensures count { length room.new.early ≡ element_count clocked.now.system.now.flat }
+    ensures each { (l : ℕ) → l < element_count clocked.now.system.now.flat → departure room.new.early l ≡ early_start_of clocked.now.system.now.flat clocked.now.schedule.now l }
 {
     let count = clocked.count();
     room.fill_early(count);
@@ -46,14 +46,14 @@ pub(crate) fn fill_early_starts(clocked: &ClockedSystem<'_>, room: &mut Room)
 
 /// Makes the early departures what the earliest arrivals make them, which are the values. Whether any changed.
 fn raise(clocked: &ClockedSystem<'_>, room: &mut Room) -> bool
-    requires departures { AreSums clocked.now.system.now room.old.early }
-    requires values { length room.old.values ≡ element_count clocked.now.system.now }
-    requires firsts { (l : ℕ) → l < element_count clocked.now.system.now → IsFirst (least_of (early_arrivals clocked.now.system.now clocked.now.schedule.now room.old.early l)) (value_at room.old.values l) }
+    requires departures { AreSums clocked.now.system.now.flat room.old.early }
+    requires values { length room.old.values ≡ element_count clocked.now.system.now.flat }
+    requires firsts { (l : ℕ) → l < element_count clocked.now.system.now.flat → IsFirst (least_of (early_arrivals clocked.now.system.now clocked.now.schedule.now room.old.early l)) (value_at room.old.values l) }
     ensures kept { room.new ≡ record room.old { early = room.new.early } }
-    ensures count { length room.new.early ≡ element_count clocked.now.system.now }
-    ensures each { (l : ℕ) → l < element_count clocked.now.system.now → departure room.new.early l ≡ early_departure clocked.now.system.now clocked.now.schedule.now room.old.early l }
-    ensures still { OnFalse result ((l : ℕ) → l < element_count clocked.now.system.now → early_departure clocked.now.system.now clocked.now.schedule.now room.old.early l ≡ departure room.old.early l) }
-    ensures changed { OnTrue result ((l : ℕ) × (l < element_count clocked.now.system.now) × (early_departure clocked.now.system.now clocked.now.schedule.now room.old.early l ≢ departure room.old.early l)) }
+    ensures count { length room.new.early ≡ element_count clocked.now.system.now.flat }
+    ensures each { (l : ℕ) → l < element_count clocked.now.system.now.flat → departure room.new.early l ≡ early_departure clocked.now.system.now clocked.now.schedule.now room.old.early l }
+    ensures still { OnFalse result ((l : ℕ) → l < element_count clocked.now.system.now.flat → early_departure clocked.now.system.now clocked.now.schedule.now room.old.early l ≡ departure room.old.early l) }
+    ensures changed { OnTrue result ((l : ℕ) × (l < element_count clocked.now.system.now.flat) × (early_departure clocked.now.system.now clocked.now.schedule.now room.old.early l ≢ departure room.old.early l)) }
 {
     let mut changed = false;
     for number in 0..clocked.count() {
@@ -69,7 +69,7 @@ fn raise(clocked: &ClockedSystem<'_>, room: &mut Room) -> bool
 
 /// Raises the early departures by rounds until one changes nothing.
 fn rise_in_rounds(clocked: &ClockedSystem<'_>, room: &mut Room)
-    requires nodes { element_count clocked.now.system.now ≤ room.old.nodes }
+    requires nodes { element_count clocked.now.system.now.flat ≤ room.old.nodes }
     requires late { AreLate clocked.now.system.now clocked.now.schedule.now room.old.late }
     ensures kept { room.new ≡ record room.old { early = room.new.early; values = room.new.values } }
     ensures early { AreEarly clocked.now.system.now clocked.now.schedule.now room.new.early }
@@ -88,8 +88,8 @@ fn rise_in_rounds(clocked: &ClockedSystem<'_>, room: &mut Room)
 /// each element, the least that are exact. The room's `late` has to hold the late departures, and stays.
 pub fn early(system: &System, schedule: &Schedule, room: &mut Room)
     requires in_range { IsInRange schedule.now }
-    requires phases { length schedule.now.starts ≡ phase_count system.now }
-    requires room { 1 + 2 * phase_count system.now + element_count system.now ≤ room.old.nodes }
+    requires phases { length schedule.now.starts ≡ phase_count system.now.flat }
+    requires room { 1 + 2 * phase_count system.now.flat + element_count system.now.flat ≤ room.old.nodes }
     requires late { AreLate system.now schedule.now room.old.late }
     ensures early { AreEarly system.now schedule.now room.new.early }
     ensures late { room.new.late ≡ room.old.late }

@@ -24,10 +24,10 @@ pub enum Settling {
 
 /// Makes the values the departures of elements that no data reaches.
 fn fill_starts(clocked: &ClockedSystem<'_>, room: &mut Room)
-    requires nodes { element_count clocked.now.system.now ≤ room.old.nodes }
+    requires nodes { element_count clocked.now.system.now.flat ≤ room.old.nodes }
     ensures kept { room.new ≡ record room.old { values = room.new.values } }
-    ensures count { length room.new.values ≡ element_count clocked.now.system.now }
-    ensures each { (l : ℕ) → l < element_count clocked.now.system.now → value_at room.new.values l ≡ late_start_of clocked.now.system.now clocked.now.schedule.now l }
+    ensures count { length room.new.values ≡ element_count clocked.now.system.now.flat }
+    ensures each { (l : ℕ) → l < element_count clocked.now.system.now.flat → value_at room.new.values l ≡ late_start_of clocked.now.system.now.flat clocked.now.schedule.now l }
 {
     let count = clocked.count();
     room.fill_values(count);
@@ -55,7 +55,7 @@ fn settle<L: Ledger>(clocked: &ClockedSystem<'_>, room: &mut Room, blank: Blank)
     requires name { blank.name ≡ L.name }
     requires parts { blank.parts ≡ L.parts }
     requires part { 0 < L.parts }
-    requires room { element_count clocked.now.system.now ≤ room.old.nodes }
+    requires room { element_count clocked.now.system.now.flat ≤ room.old.nodes }
     ensures settled { HasSettled clocked.now.system.now clocked.now.schedule.now room.new result }
     ensures none { result ≡ Settling.Settled → room.new.chain ≡ [] }
     ensures late { result ≡ Settling.Loop → room.new.late ≡ room.old.late }
@@ -86,8 +86,8 @@ fn settle<L: Ledger>(clocked: &ClockedSystem<'_>, room: &mut Room, blank: Blank)
 /// pairs of latches that meets no element twice, round which data comes later each time.
 pub fn late(system: &System, schedule: &Schedule, room: &mut Room) -> Settling
     requires in_range { IsInRange schedule.now }
-    requires phases { length schedule.now.starts ≡ phase_count system.now }
-    requires room { 1 + 2 * phase_count system.now + element_count system.now ≤ room.old.nodes }
+    requires phases { length schedule.now.starts ≡ phase_count system.now.flat }
+    requires room { 1 + 2 * phase_count system.now.flat + element_count system.now.flat ≤ room.old.nodes }
     ensures settled { HasSettled system.now schedule.now room.new result }
     ensures none { result ≡ Settling.Settled → room.new.chain ≡ [] }
     ensures late { result ≡ Settling.Loop → room.new.late ≡ room.old.late }

@@ -96,7 +96,7 @@ pub fn span_excess(schedule: &Schedule, phase: u32) -> i64
 pub fn width_excess(flat: &Flat, schedule: &Schedule, phase: u32) -> i64
     requires in_range { IsInRange schedule.now }
     requires phase { IsPhase (length schedule.now.starts) phase }
-    ensures value { result ≡ least_width (alone flat.now) phase *ℤ schedule.now.den -ℤ width_of schedule.now phase }
+    ensures value { result ≡ least_width (alone flat.now).flat phase *ℤ schedule.now.den -ℤ width_of schedule.now phase }
     ensures range { IsTime result }
 {
     scaled(width_needed(flat, phase), schedule.den) - width(schedule, phase)

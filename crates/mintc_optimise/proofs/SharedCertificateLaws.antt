@@ -44,7 +44,7 @@ pub record IsAnswer (t : Timing) (certificate : Certificate) : Type 0 where
   pub optimal : IsOptimal t certificate
   pub earliest : HasEarliest t certificate
   pub simple : HasSimple t certificate
-  pub bounded : CertifiesNeverOnlyWithBounds t certificate
+  pub bounded : CertifiesNeverOnlyWithBounds t.flat certificate
   pub in_range : IsCertificateInRange certificate
 
 -- what differs by number, differs by link
@@ -59,17 +59,17 @@ some_closed (k ∷ ks) h = omega arith
 
 module _ (t : Timing) (limits : IsDesign t.flat) (kept : IsTiming t.flat t.order t.pairs) where
   -- the answer of a search over the links of the design
-  pub least_of : (list : Constraints) (room : Space) (o : Outcome) (cycle : Ratio) → list ≡ constraints_of (node_count t) (links_of t) → o ≡ outcome.Least cycle → HasSearched list room o →
-      IsLeast (constraints_of (node_count t) (links_of t)) cycle room
+  pub least_of : (list : Constraints) (room : Space) (o : Outcome) (cycle : Ratio) → list ≡ constraints_of (node_count t.flat) (links_of t) → o ≡ outcome.Least cycle → HasSearched list room o →
+      IsLeast (constraints_of (node_count t.flat) (links_of t)) cycle room
   least_of list room o cycle list_is o_is h =
-      subst (λ (x : Outcome). HasSearched (constraints_of (node_count t) (links_of t)) room x) o_is (subst (λ (x : Constraints). HasSearched x room o) list_is h)
+      subst (λ (x : Outcome). HasSearched (constraints_of (node_count t.flat) (links_of t)) room x) o_is (subst (λ (x : Constraints). HasSearched x room o) list_is h)
 
-  stuck_of : (list : Constraints) (room : Space) (o : Outcome) → list ≡ constraints_of (node_count t) (links_of t) → o ≡ outcome.Never → HasSearched list room o →
-      HasSearched (constraints_of (node_count t) (links_of t)) room outcome.Never
+  stuck_of : (list : Constraints) (room : Space) (o : Outcome) → list ≡ constraints_of (node_count t.flat) (links_of t) → o ≡ outcome.Never → HasSearched list room o →
+      HasSearched (constraints_of (node_count t.flat) (links_of t)) room outcome.Never
   stuck_of list room o list_is o_is h =
-      subst (λ (x : Outcome). HasSearched (constraints_of (node_count t) (links_of t)) room x) o_is (subst (λ (x : Constraints). HasSearched x room o) list_is h)
+      subst (λ (x : Outcome). HasSearched (constraints_of (node_count t.flat) (links_of t)) room x) o_is (subst (λ (x : Constraints). HasSearched x room o) list_is h)
 
-  stand_of : (list : Constraints) (links : List Link) (numbers chain : List ℕ) (members : List Member) → list ≡ constraints_of (node_count t) (links_of t) → links ≡ list.links → numbers ≡ chain →
+  stand_of : (list : Constraints) (links : List Link) (numbers chain : List ℕ) (members : List Member) → list ≡ constraints_of (node_count t.flat) (links_of t) → links ≡ list.links → numbers ≡ chain →
       StandForAll t links numbers members → StandForAll t (links_of t) chain members
   stand_of list links numbers chain members list_is links_are numbers_are h =
       subst (λ (ns : List ℕ). StandForAll t (links_of t) ns members) numbers_are
@@ -79,10 +79,10 @@ module _ (t : Timing) (limits : IsDesign t.flat) (kept : IsTiming t.flat t.order
     is_ring : IsRing t members
     is_ring = (stand.each, subst (λ (ks : List Link). IsClosed (λ k. k.from) (λ k. k.to) ks) (sym stand.same) named.chain.closed)
 
-    delays : delay_of (links_of_members t members) ≡ delay_of (links_at (links_of t) chain)
+    delays : delay_of (links_of_members t.flat members) ≡ delay_of (links_at (links_of t) chain)
     delays = ap (λ (ks : List Link). delay_of ks) stand.same
 
-    cycles : cycles_of (links_of_members t members) ≡ cycles_of (links_at (links_of t) chain)
+    cycles : cycles_of (links_of_members t.flat members) ≡ cycles_of (links_at (links_of t) chain)
     cycles = ap (λ (ks : List Link). cycles_of ks) stand.same
 
     simple_here : IsSimple t members
@@ -94,11 +94,11 @@ module _ (t : Timing) (limits : IsDesign t.flat) (kept : IsTiming t.flat t.order
     chain_in : IsChainInRange members
     chain_in =
         let all = ordinary t limits kept in
-        let few = few_links (node_count t) (links_of t) all chain named in
+        let few = few_links (node_count t.flat) (links_of t) all chain named in
         let most = all.nodes.1 in
-        let some = some_closed (links_of_members t members) is_ring.1 in
+        let some = some_closed (links_of_members t.flat members) is_ring.1 in
         let count = ap (λ (ks : List Link). length ks) stand.same in
-        let first = length-map members (link_of t) in
+        let first = length-map members (link_of t.flat) in
         let second = length-map chain (link_at (links_of t)) in
         record { some = omega arith; most = omega arith; each = stand.counted }
 
@@ -120,17 +120,17 @@ module _ (t : Timing) (limits : IsDesign t.flat) (kept : IsTiming t.flat t.order
     valid_least s d cycle den_is cycle_is right tight ring = is_ring
     valid_least s d cycle den_is cycle_is right tight sums = record { turns = rw cycles tight.turns; tight = rw (delays, cycles, den_is, cycle_is) tight.tight }
 
-  module _ (room : Space) (cycle : Ratio) (found : IsLeast (constraints_of (node_count t) (links_of t)) cycle room) where
+  module _ (room : Space) (cycle : Ratio) (found : IsLeast (constraints_of (node_count t.flat) (links_of t)) cycle room) where
     abbrev s : Schedule
-    s = schedule_of t cycle.num cycle.den room.values
+    s = schedule_of t.flat cycle.num cycle.den room.values
 
     abbrev d : List ℤ
-    d = departures_of t room.values
+    d = departures_of t.flat room.values
 
     exact : AreExactMoments t cycle.num cycle.den room.values
     exact = exact_moments t limits (ends_of t kept.extremes) cycle room.values found.values
 
-    pub sayable : AreSayable t room.values
+    pub sayable : AreSayable t.flat room.values
     sayable = are_sayable t limits cycle found.cycle_is room.values exact
 
     optimal_here : IsLeastCycle t cycle.num cycle.den × IsRight t s d
@@ -145,26 +145,26 @@ module _ (t : Timing) (limits : IsDesign t.flat) (kept : IsTiming t.flat t.order
       made schedule_in departures_in =
           let elements = limits.elements in
           let count = ap length d_is in
-          let all = length-map-range_with_len (departure_of t room.values) 0 (element_count t) in
+          let all = length-map-range_with_len (departure_of t.flat room.values) 0 (element_count t.flat) in
           record {
             valid = of_these (λ x y. IsValid t (Least x y members)) (valid_least room.chain found.chain members stand s d cycle refl refl optimal_here.1 found.tight);
             optimal = of_these (λ x y. IsOptimal t (Least x y members)) (optimal_here.1, optimal_here.0);
-            earliest = of_these (IsEarliest t (links_of t)) (earliest t limits (links_of t) cycle room.values found.cycle_is.lowest found.values);
+            earliest = of_these (IsEarliest t.flat (links_of t)) (earliest t limits (links_of t) cycle room.values found.cycle_is.lowest found.values);
             simple = simple_here room.chain found.chain members stand;
             bounded = tt;
             in_range = record { schedule_in = schedule_in; count = omega arith; each = departures_in; chain_in = chain_in room.chain found.chain members stand };
           }
 
   -- what the code makes of the answer
-  module _ (list : Constraints) (room : Space) (o : Outcome) (list_is : list ≡ constraints_of (node_count t) (links_of t)) (searched : HasSearched list room o)
+  module _ (list : Constraints) (room : Space) (o : Outcome) (list_is : list ≡ constraints_of (node_count t.flat) (links_of t)) (searched : HasSearched list room o)
       (links : List Link) (numbers : List ℕ) (members : List Member) (links_are : links ≡ list.links) (numbers_are : numbers ≡ room.chain) (stand : StandForAll t links numbers members)
     where
       pub made_least : (cycle : Ratio) (values moments : List ℤ) (s' : Schedule) (d' : List ℤ) → o ≡ outcome.Least cycle → values ≡ room.values → moments ≡ room.values →
-          s' ≡ schedule_of t cycle.num cycle.den values → d' ≡ departures_of t moments → IsInRange s' → All IsDeparture d' → IsAnswer t (Least s' d' members)
+          s' ≡ schedule_of t.flat cycle.num cycle.den values → d' ≡ departures_of t.flat moments → IsInRange s' → All IsDeparture d' → IsAnswer t (Least s' d' members)
       made_least cycle values moments s' d' o_is values_are moments_are s_is d_is =
           made room cycle (least_of list room o cycle list_is o_is searched) s' d' members
-          (s_is ∙ ap (λ (v : List ℤ). schedule_of t cycle.num cycle.den v) values_are)
-          (d_is ∙ ap (λ (v : List ℤ). departures_of t v) moments_are)
+          (s_is ∙ ap (λ (v : List ℤ). schedule_of t.flat cycle.num cycle.den v) values_are)
+          (d_is ∙ ap (λ (v : List ℤ). departures_of t.flat v) moments_are)
           (stand_of list links numbers room.chain members list_is links_are numbers_are stand)
 
       pub made_never : o ≡ outcome.Never → IsAnswer t (Never members)

@@ -20,34 +20,34 @@ use Rattle.mintc_optimise.specs.Optimum.{IsEarliest, IsSolution}
 
 module _ (t : Timing) (limits : IsDesign t.flat) (links : List Link) (cycle : Ratio) (values : List ℤ) where
   abbrev s : Schedule
-  s = schedule_of t cycle.num cycle.den values
+  s = schedule_of t.flat cycle.num cycle.den values
 
   abbrev d : List ℤ
-  d = departures_of t values
+  d = departures_of t.flat values
 
-  start_is : (p : ℕ) → IsPhase (phase_count t) p → start_of s p ≡ value_at values (start_node p)
+  start_is : (p : ℕ) → IsPhase (phase_count t.flat) p → start_of s p ≡ value_at values (start_node p)
   start_is p h =
       let low = h.0 in
       let high = h.1 in
-      get_or-map-range_with_len (λ p. value_at values (start_node p)) 1 (phase_count t) (p - 1) p (pos 0) (omega arith) (omega arith)
+      get_or-map-range_with_len (λ p. value_at values (start_node p)) 1 (phase_count t.flat) (p - 1) p (pos 0) (omega arith) (omega arith)
 
-  width_is : (p : ℕ) → IsPhase (phase_count t) p → width_of s p ≡ value_at values (end_node p) -ℤ value_at values (start_node p)
+  width_is : (p : ℕ) → IsPhase (phase_count t.flat) p → width_of s p ≡ value_at values (end_node p) -ℤ value_at values (start_node p)
   width_is p h =
       let low = h.0 in
       let high = h.1 in
-      get_or-map-range_with_len (λ p. value_at values (end_node p) -ℤ value_at values (start_node p)) 1 (phase_count t) (p - 1) p (pos 0) (omega arith) (omega arith)
+      get_or-map-range_with_len (λ p. value_at values (end_node p) -ℤ value_at values (start_node p)) 1 (phase_count t.flat) (p - 1) p (pos 0) (omega arith) (omega arith)
 
-  departure_is : (l : ℕ) → l < element_count t → (element_at t l).flop ≡ false → departure d l ≡ value_at values (element_node t l) -ℤ value_at values (start_node (phase_of t l))
+  departure_is : (l : ℕ) → l < element_count t.flat → (element_at t.flat l).flop ≡ false → departure d l ≡ value_at values (element_node t.flat l) -ℤ value_at values (start_node (phase_of t.flat l))
   departure_is l h latch =
-      get_or-map-range_with_len (departure_of t values) 0 (element_count t) l l (pos 0) h (omega arith)
-      ∙ ap (λ (b : Bool). cond b (pos 0) (value_at values (element_node t l) -ℤ value_at values (start_node (phase_of t l)))) latch
+      get_or-map-range_with_len (departure_of t.flat values) 0 (element_count t.flat) l l (pos 0) h (omega arith)
+      ∙ ap (λ (b : Bool). cond b (pos 0) (value_at values (element_node t.flat l) -ℤ value_at values (start_node (phase_of t.flat l)))) latch
 
-  module _ (lowest : IsLowest cycle) (g : AreGreatest (constraints_of (node_count t) links) cycle values) where
+  module _ (lowest : IsLowest cycle) (g : AreGreatest (constraints_of (node_count t.flat) links) cycle values) where
     -- No solution has a moment before the value of its node.
-    least_at : (factor : ℤ) (moment : ℕ → ℤ) → IsSolution links s factor moment → (node : ℕ) → node < node_count t → (value_at values node *ℤ factor) ≤ℤ moment node
-    least_at factor moment solution node h = finer_lem (constraints_of (node_count t) links) cycle values factor moment g solution.origin solution.met node h
+    least_at : (factor : ℤ) (moment : ℕ → ℤ) → IsSolution links s factor moment → (node : ℕ) → node < node_count t.flat → (value_at values node *ℤ factor) ≤ℤ moment node
+    least_at factor moment solution node h = finer_lem (constraints_of (node_count t.flat) links) cycle values factor moment g solution.origin solution.met node h
 
-    pub earliest : IsEarliest t links s d
+    pub earliest : IsEarliest t.flat links s d
     earliest = record {
       lowest = lowest;
       starts = λ factor moment solution p low high.
@@ -62,10 +62,10 @@ module _ (t : Timing) (limits : IsDesign t.flat) (links : List Link) (cycle : Ra
           let least = least_at factor moment solution (end_node p) (omega arith) in
           omega (arith, ints);
       latches = λ factor moment solution l h latch.
-          let start = start_is (phase_of t l) (limits.each_element l no_element h).phase in
+          let start = start_is (phase_of t.flat l) (limits.each_element l no_element h).phase in
           let departs = departure_is l h latch in
-          let leaves : start_of s (phase_of t l) +ℤ departure d l ≡ value_at values (element_node t l) = omega (arith, ints) in
+          let leaves : start_of s (phase_of t.flat l) +ℤ departure d l ≡ value_at values (element_node t.flat l) = omega (arith, ints) in
           let is = ap (λ x. x *ℤ factor) leaves in
-          let least = least_at factor moment solution (element_node t l) (omega arith) in
+          let least = least_at factor moment solution (element_node t.flat l) (omega arith) in
           omega (arith, ints);
     }

@@ -34,7 +34,7 @@ module _ (t : Timing) (limits : IsDesign t.flat) (cycle : Ratio) (is_cycle : IsC
   met : EachKind t (IsMet cycle.num cycle.den (value_at values))
   met = EachKind-from_all t (IsMet cycle.num cycle.den (value_at values)) exact.moments.met
 
-  start_range : (p : ℕ) → IsPhase (phase_count t) p → IsNumerator (value_at values (start_node p))
+  start_range : (p : ℕ) → IsPhase (phase_count t.flat) p → IsNumerator (value_at values (start_node p))
   start_range p h =
       let origin = exact.moments.origin in
       let start = met.start p h in
@@ -42,37 +42,37 @@ module _ (t : Timing) (limits : IsDesign t.flat) (cycle : Ratio) (is_cycle : IsC
       let most = is_cycle.num in
       (omega (arith, ints), omega (arith, ints))
 
-  width_low : (p : ℕ) → IsPhase (phase_count t) p → pos 0 ≤ℤ (value_at values (end_node p) -ℤ value_at values (start_node p))
+  width_low : (p : ℕ) → IsPhase (phase_count t.flat) p → pos 0 ≤ℤ (value_at values (end_node p) -ℤ value_at values (start_node p))
   width_low p h =
       let wide = met.width p h in
       let some = delay_times _ cycle.den (least_width-range t limits p) is_cycle.fraction in
       omega (arith, ints)
 
-  width_high : (p : ℕ) → IsPhase (phase_count t) p → (value_at values (end_node p) -ℤ value_at values (start_node p)) ≤ℤ pos 4040000000000
+  width_high : (p : ℕ) → IsPhase (phase_count t.flat) p → (value_at values (end_node p) -ℤ value_at values (start_node p)) ≤ℤ pos 4040000000000
   width_high p h =
       let span = met.span p h in
       let most = is_cycle.num in
       omega (arith, ints)
 
-  departure_range : (l : ℕ) → l < element_count t → (element_at t l).flop ≡ false → IsDeparture (value_at values (element_node t l) -ℤ value_at values (start_node (phase_of t l)))
+  departure_range : (l : ℕ) → l < element_count t.flat → (element_at t.flat l).flop ≡ false → IsDeparture (value_at values (element_node t.flat l) -ℤ value_at values (start_node (phase_of t.flat l)))
   departure_range l h latch =
       let e = limits.each_element l no_element h in
-      let width = width_high (phase_of t l) e.phase in
-      let early = gap_times ((element_at t l).cq_max -ℤ (element_at t l).dq_max) cycle.den (gap_between _ _ e.cq_max e.dq_max) is_cycle.fraction is_cycle.den in
-      let late = gap_times (element_at t l).setup cycle.den e.setup is_cycle.fraction is_cycle.den in
+      let width = width_high (phase_of t.flat l) e.phase in
+      let early = gap_times ((element_at t.flat l).cq_max -ℤ (element_at t.flat l).dq_max) cycle.den (gap_between _ _ e.cq_max e.dq_max) is_cycle.fraction is_cycle.den in
+      let late = gap_times (element_at t.flat l).setup cycle.den e.setup is_cycle.fraction is_cycle.den in
       let opens = opening (met.opening l h) in
       let closes = setup (met.setup l h) in
       (omega (arith, ints), omega (arith, ints))
     where
-      opening : IsMet cycle.num cycle.den (value_at values) (opening_link t l) →
-          (value_at values (start_node (phase_of t l)) +ℤ ((element_at t l).cq_max -ℤ (element_at t l).dq_max) *ℤ cycle.den) ≤ℤ value_at values (element_node t l)
+      opening : IsMet cycle.num cycle.den (value_at values) (opening_link t.flat l) →
+          (value_at values (start_node (phase_of t.flat l)) +ℤ ((element_at t.flat l).cq_max -ℤ (element_at t.flat l).dq_max) *ℤ cycle.den) ≤ℤ value_at values (element_node t.flat l)
       opening k = let here = rw latch at k in omega (arith, ints)
 
-      setup : IsMet cycle.num cycle.den (value_at values) (setup_link t l) →
-          (value_at values (element_node t l) +ℤ (element_at t l).setup *ℤ cycle.den) ≤ℤ value_at values (end_node (phase_of t l))
+      setup : IsMet cycle.num cycle.den (value_at values) (setup_link t.flat l) →
+          (value_at values (element_node t.flat l) +ℤ (element_at t.flat l).setup *ℤ cycle.den) ≤ℤ value_at values (end_node (phase_of t.flat l))
       setup k = let here = rw latch at k in omega (arith, ints)
 
-  pub are_sayable : AreSayable t values
+  pub are_sayable : AreSayable t.flat values
   are_sayable = record {
     count = exact.moments.count;
     starts = λ p low high. start_range p (low, high);

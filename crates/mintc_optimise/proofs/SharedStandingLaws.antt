@@ -34,7 +34,7 @@ IsOfKind t k (kind.Apart i j) = StandsFor t k (member.Apart i j)
 IsOfKind t k (kind.Opening l) = StandsFor t k (member.Opening l)
 IsOfKind t k (kind.Opened l) = StandsFor t k (member.Opened l)
 IsOfKind t k (kind.Reach j l) =
-    (n : ℕ) × (n < length t.pairs) × ((pair_at t n).from ≡ j) × ((pair_at t n).to ≡ l) × (reach_link t j l (pair_at t n).max ≡ k)
+    (n : ℕ) × (n < length t.pairs) × ((pair_at t n).from ≡ j) × ((pair_at t n).to ≡ l) × (reach_link t.flat j l (pair_at t n).max ≡ k)
 IsOfKind t k (kind.Setup l) = StandsFor t k (member.Setup l)
 IsOfKind t k (kind.Bound n) = StandsFor t k (member.Bound n)
 IsOfKind t k (kind.Other n) = ⊥
@@ -64,21 +64,21 @@ module _ (t : Timing) (limits : IsDesign t.flat) where
       subst (λ (w : LinkKind). IsOfKind t k w) is (All-contains (λ k. IsOfKind t k k.kind) (links_of t) k (All-links t (λ k. IsOfKind t k k.kind) each_of_kind) listed)
 
   -- What a reach asks for beside its first element's delay is the greatest one of its pair.
-  pub delay_of_reach : (k : Link) (j l : ℕ) (h : IsOfKind t k (kind.Reach j l)) (delay : ℤ) → delay ≡ k.delay -ℤ (element_at t j).dq_max → delay ≡ (pair_at t h.0).max
+  pub delay_of_reach : (k : Link) (j l : ℕ) (h : IsOfKind t k (kind.Reach j l)) (delay : ℤ) → delay ≡ k.delay -ℤ (element_at t.flat j).dq_max → delay ≡ (pair_at t h.0).max
   delay_of_reach k j l h delay is =
       let asked = ap (λ (x : Link). x.delay) h.4 in
       omega (arith, ints)
 
-  pub pair_of_reach : (k : Link) (j l : ℕ) → IsOfKind t k (kind.Reach j l) → (delay : ℤ) → delay ≡ k.delay -ℤ (element_at t j).dq_max → IsDelayOf Greatest t.pairs j l delay
+  pub pair_of_reach : (k : Link) (j l : ℕ) → IsOfKind t k (kind.Reach j l) → (delay : ℤ) → delay ≡ k.delay -ℤ (element_at t.flat j).dq_max → IsDelayOf Greatest t.pairs j l delay
   pair_of_reach k j l h delay is =
       (pair_at t h.0, (h.0, h.1, get_or_default t.pairs h.0 (pair_at t h.0) no_pair h.1), h.2, h.3, sym (delay_of_reach k j l h delay is))
 
   module _ (kept : IsTiming t.flat t.order t.pairs) where
-    pub leaves : (k : Link) (j l : ℕ) → IsOfKind t k (kind.Reach j l) → j < element_count t
+    pub leaves : (k : Link) (j l : ℕ) → IsOfKind t k (kind.Reach j l) → j < element_count t.flat
     leaves k j l h = let from = (kept.extremes.each h.0 no_pair h.1).from in let first = h.2 in omega arith
 
     pub reach_stands : (k : Link) (j l : ℕ) (path : List ℕ) → IsOfKind t k (kind.Reach j l) → IsPath t.flat.arcs j path (input_of l) →
-        (delay : ℤ) → delay ≡ k.delay -ℤ (element_at t j).dq_max → greatest_delay t.flat.arcs path ≡ delay → StandsFor t k (member.Reach j l path)
+        (delay : ℤ) → delay ≡ k.delay -ℤ (element_at t.flat j).dq_max → greatest_delay t.flat.arcs path ≡ delay → StandsFor t k (member.Reach j l path)
     reach_stands k j l path h is_path asked asked_is summed =
         let ends = kept.extremes.each h.0 no_pair h.1 in
         let from = ends.from in
@@ -92,7 +92,7 @@ module _ (t : Timing) (limits : IsDesign t.flat) where
         let delay = summed ∙ delay_of_reach k j l h asked asked_is in
         record {
           member = (omega arith, omega arith, is_path);
-          same = ap (reach_link t j l) delay ∙ h.4;
+          same = ap (reach_link t.flat j l) delay ∙ h.4;
           counted = (omega arith, omega arith, omega arith, is_path.0, arcs_below t.flat.arcs (2 * j + 1) path (2 * l) 999999999 (omega arith) is_path.1);
         }
 
@@ -101,8 +101,8 @@ stand_more : (t : Timing) (links : List Link) (chain : List ℕ) (i : ℕ) (memb
     StandsFor t (link_at links (get_or chain i 0)) m → StandForAll t links (take (i + 1) chain) (members ++ m ∷ [])
 stand_more t links chain i members m h before here = record {
   each = All-push (IsMember t) members m before.each here.member;
-  same = map-append (link_of t) members (m ∷ [])
-      ∙ ap (λ (ks : List Link). ks ++ link_of t m ∷ []) before.same
+  same = map-append (link_of t.flat) members (m ∷ [])
+      ∙ ap (λ (ks : List Link). ks ++ link_of t.flat m ∷ []) before.same
       ∙ ap (λ (k : Link). links_at links (take i chain) ++ k ∷ []) here.same
       ∙ sym (ap (λ (ns : List ℕ). links_at links ns) (take_more chain i 0 h) ∙ map-append (link_at links) (take i chain) (get_or chain i 0 ∷ []));
   counted = All-push IsCounted members m before.counted here.counted;

@@ -55,26 +55,26 @@ said_more f a i j x old new at fits is before step =
 pub said_all : (P : ℤ → Type 0) (x : ℤ) (old new : List ℤ) → IsTime x → P x → All P old → new ≡ old ++ narrow x ∷ [] → All P new
 said_all P x old new fits here before step = rw (step, read_time x fits) (All-push P old x before here)
 
-module _ (t : Timing) (values : List ℤ) (sayable : AreSayable t values) where
-  pub width_read : (p : ℕ) → IsPhase (phase_count t) p →
+module _ (t : Timing) (values : List ℤ) (sayable : AreSayable t.flat values) where
+  pub width_read : (p : ℕ) → IsPhase (phase_count t.flat) p →
       narrow (wide (wide (value_at values (end_node p)) -ℤ wide (value_at values (start_node p)))) ≡ value_at values (end_node p) -ℤ value_at values (start_node p)
   width_read p h =
       let range = sayable.widths p h.0 h.1 in
       read_difference (value_at values (end_node p)) (value_at values (start_node p)) (sayable.starts p h.0 h.1) (omega (arith, ints), omega (arith, ints))
 
   -- the departure of a latch
-  module _ (limits : IsDesign t.flat) (l : ℕ) (h : l < element_count t) (k : ℕ) (e : Element) (k_is : k ≡ phase_count t) (e_is : e ≡ element_at t l) (latch : e.flop ≡ false) where
-    latch_at : (element_at t l).flop ≡ false
+  module _ (limits : IsDesign t.flat) (l : ℕ) (h : l < element_count t.flat) (k : ℕ) (e : Element) (k_is : k ≡ phase_count t.flat) (e_is : e ≡ element_at t.flat l) (latch : e.flop ≡ false) where
+    latch_at : (element_at t.flat l).flop ≡ false
     latch_at = ap (λ (x : Element). x.flop) (sym e_is) ∙ latch
 
     abbrev moment : ℤ
-    moment = value_at values (element_node t l)
+    moment = value_at values (element_node t.flat l)
 
     abbrev start : ℤ
-    start = value_at values (start_node (phase_of t l))
+    start = value_at values (start_node (phase_of t.flat l))
 
     starts_in : IsNumerator start
-    starts_in = let phase = (limits.each_element l no_element h).phase in sayable.starts (phase_of t l) phase.0 phase.1
+    starts_in = let phase = (limits.each_element l no_element h).phase in sayable.starts (phase_of t.flat l) phase.0 phase.1
 
     departs_in : IsDeparture (moment -ℤ start)
     departs_in = sayable.departures l h latch_at
@@ -88,7 +88,7 @@ module _ (t : Timing) (values : List ℤ) (sayable : AreSayable t values) where
     narrowed : narrow (wide (wide (value_at values (2 * k + 1 + l)) -ℤ wide (value_at values (2 * e.phase - 1)))) ≡ moment -ℤ start
     narrowed = ap narrow read ∙ read_time (moment -ℤ start) (IsTime-IsDeparture (moment -ℤ start) departs_in)
 
-    pub departure_read : narrow (wide (wide (value_at values (2 * k + 1 + l)) -ℤ wide (value_at values (2 * e.phase - 1)))) ≡ departure_of t values l
+    pub departure_read : narrow (wide (wide (value_at values (2 * k + 1 + l)) -ℤ wide (value_at values (2 * e.phase - 1)))) ≡ departure_of t.flat values l
     departure_read = narrowed ∙ sym (ap (λ (b : Bool). cond b (pos 0) (moment -ℤ start)) latch_at)
 
     pub departure_in : IsDeparture (narrow (wide (wide (value_at values (2 * k + 1 + l)) -ℤ wide (value_at values (2 * e.phase - 1)))))
@@ -96,7 +96,7 @@ module _ (t : Timing) (values : List ℤ) (sayable : AreSayable t values) where
 
 -- the range of a schedule that the code gives
 pub schedule_in : (t : Timing) (cycle : Ratio) (values : List ℤ) (den num : ℤ) (starts widths : List ℤ) → IsDesign t.flat → IsCycle cycle → den ≡ cycle.den → num ≡ cycle.num →
-    starts ≡ (schedule_of t cycle.num cycle.den values).starts → All IsNumerator starts → widths ≡ (schedule_of t cycle.num cycle.den values).widths → All IsNumerator widths →
+    starts ≡ (schedule_of t.flat cycle.num cycle.den values).starts → All IsNumerator starts → widths ≡ (schedule_of t.flat cycle.num cycle.den values).widths → All IsNumerator widths →
     IsInRange (record { den = narrow (wide den); cycle = narrow (wide num); starts = starts; widths = widths })
 schedule_in t cycle values den num starts widths limits is den_is num_is starts_are starts_in widths_are widths_in =
     let phases = limits.phases in
@@ -106,8 +106,8 @@ schedule_in t cycle values den num starts widths limits is den_is num_is starts_
     let most = is.num in
     let den_in : IsDenominator den = rw den_is (omega (arith, ints), omega (arith, ints)) in
     let num_in : IsNumerator num = rw num_is (omega (arith, ints), omega (arith, ints)) in
-    let some : length starts ≡ phase_count t = ap length starts_are ∙ length-map-range_with_len (λ p. value_at values (start_node p)) 1 (phase_count t) in
-    let other : length widths ≡ phase_count t = ap length widths_are ∙ length-map-range_with_len (λ p. value_at values (end_node p) -ℤ value_at values (start_node p)) 1 (phase_count t) in
+    let some : length starts ≡ phase_count t.flat = ap length starts_are ∙ length-map-range_with_len (λ p. value_at values (start_node p)) 1 (phase_count t.flat) in
+    let other : length widths ≡ phase_count t.flat = ap length widths_are ∙ length-map-range_with_len (λ p. value_at values (end_node p) -ℤ value_at values (start_node p)) 1 (phase_count t.flat) in
     record {
       den = rw (read_number den (omega (arith, ints), omega (arith, ints))) den_in;
       cycle = rw (read_number num (omega (arith, ints), omega (arith, ints))) num_in;

@@ -43,50 +43,50 @@ equal_from_both x y g h = omega (arith, ints)
 
 -- A latch's data departs when it opens, a flop's at the start of its phase.
 abbrev opening : Timing → ℕ → ℤ
-opening t l = cond (element_at t l).flop (pos 0) ((element_at t l).cq_max -ℤ (element_at t l).dq_max)
+opening t l = cond (element_at t.flat l).flop (pos 0) ((element_at t.flat l).cq_max -ℤ (element_at t.flat l).dq_max)
 
-module _ (t : Timing) (limits : IsDesign t.flat) (ends : HasEnds t) (all : IsOrdinary (constraints_of (node_count t) (links_of t))) where
+module _ (t : Timing) (limits : IsDesign t.flat) (ends : HasEnds t) (all : IsOrdinary (constraints_of (node_count t.flat) (links_of t))) where
   abbrev s : Schedule
-  s = record { den = pos 1; cycle = pos 100000000000; starts = map far_start (phases_of t); widths = map (λ p. pos 5000000000) (phases_of t) }
+  s = record { den = pos 1; cycle = pos 100000000000; starts = map far_start (phases_of t.flat); widths = map (λ p. pos 5000000000) (phases_of t.flat) }
 
   abbrev d : List ℤ
-  d = map (opening t) (elements_of t)
+  d = map (opening t) (elements_of t.flat)
 
-  phase_is : (l : ℕ) → l < element_count t → IsPhase (phase_count t) (phase_of t l)
+  phase_is : (l : ℕ) → l < element_count t.flat → IsPhase (phase_count t.flat) (phase_of t.flat l)
   phase_is l h = (limits.each_element l no_element h).phase
 
-  of_eight : (p : ℕ) → IsPhase (phase_count t) p → IsPhase 8 p
+  of_eight : (p : ℕ) → IsPhase (phase_count t.flat) p → IsPhase 8 p
   of_eight p h =
       let low = h.0 in
       let high = h.1 in
       let most = limits.phases.1 in
       (omega arith, omega arith)
 
-  start_is : (p : ℕ) → IsPhase (phase_count t) p → start_of s p ≡ far_start p
+  start_is : (p : ℕ) → IsPhase (phase_count t.flat) p → start_of s p ≡ far_start p
   start_is p h =
       let low = h.0 in
       let high = h.1 in
-      get_or-map-range_with_len far_start 1 (phase_count t) (p - 1) p (pos 0) (omega arith) (omega arith)
+      get_or-map-range_with_len far_start 1 (phase_count t.flat) (p - 1) p (pos 0) (omega arith) (omega arith)
 
-  width_is : (p : ℕ) → IsPhase (phase_count t) p → width_of s p ≡ pos 5000000000
+  width_is : (p : ℕ) → IsPhase (phase_count t.flat) p → width_of s p ≡ pos 5000000000
   width_is p h =
       let low = h.0 in
       let high = h.1 in
-      get_or-map-range_with_len (λ p. pos 5000000000) 1 (phase_count t) (p - 1) p (pos 0) (omega arith) (omega arith)
+      get_or-map-range_with_len (λ p. pos 5000000000) 1 (phase_count t.flat) (p - 1) p (pos 0) (omega arith) (omega arith)
 
-  departure_is : (l : ℕ) → l < element_count t → departure d l ≡ opening t l
-  departure_is l h = get_or-map-range_with_len (opening t) 0 (element_count t) l l (pos 0) h (omega arith)
+  departure_is : (l : ℕ) → l < element_count t.flat → departure d l ≡ opening t l
+  departure_is l h = get_or-map-range_with_len (opening t) 0 (element_count t.flat) l l (pos 0) h (omega arith)
 
-  departure_is-latch : (l : ℕ) → l < element_count t → (element_at t l).flop ≡ false → departure d l ≡ (element_at t l).cq_max -ℤ (element_at t l).dq_max
-  departure_is-latch l h latch = departure_is l h ∙ ap (λ (b : Bool). cond b (pos 0) ((element_at t l).cq_max -ℤ (element_at t l).dq_max)) latch
+  departure_is-latch : (l : ℕ) → l < element_count t.flat → (element_at t.flat l).flop ≡ false → departure d l ≡ (element_at t.flat l).cq_max -ℤ (element_at t.flat l).dq_max
+  departure_is-latch l h latch = departure_is l h ∙ ap (λ (b : Bool). cond b (pos 0) ((element_at t.flat l).cq_max -ℤ (element_at t.flat l).dq_max)) latch
 
-  departure_is-flop : (l : ℕ) → l < element_count t → (element_at t l).flop ≡ true → departure d l ≡ pos 0
-  departure_is-flop l h flop = departure_is l h ∙ ap (λ (b : Bool). cond b (pos 0) ((element_at t l).cq_max -ℤ (element_at t l).dq_max)) flop
+  departure_is-flop : (l : ℕ) → l < element_count t.flat → (element_at t.flat l).flop ≡ true → departure d l ≡ pos 0
+  departure_is-flop l h flop = departure_is l h ∙ ap (λ (b : Bool). cond b (pos 0) ((element_at t.flat l).cq_max -ℤ (element_at t.flat l).dq_max)) flop
 
-  departure_at_most : (l : ℕ) → l < element_count t → departure d l ≤ℤ pos 1000000000
-  departure_at_most l h = go (element_at t l).flop refl
+  departure_at_most : (l : ℕ) → l < element_count t.flat → departure d l ≤ℤ pos 1000000000
+  departure_at_most l h = go (element_at t.flat l).flop refl
     where
-      go : (b : Bool) → (element_at t l).flop ≡ b → departure d l ≤ℤ pos 1000000000
+      go : (b : Bool) → (element_at t.flat l).flop ≡ b → departure d l ≤ℤ pos 1000000000
       go false latch =
           let is = departure_is-latch l h latch in
           let e = limits.each_element l no_element h in
@@ -97,7 +97,7 @@ module _ (t : Timing) (limits : IsDesign t.flat) (ends : HasEnds t) (all : IsOrd
           let is = departure_is-flop l h flop in
           omega (arith, ints)
 
-  shift_low : (i j : ℕ) → IsPhase (phase_count t) i → IsPhase (phase_count t) j → shift_of s i j ≤ℤ negsuc 9999999999
+  shift_low : (i j : ℕ) → IsPhase (phase_count t.flat) i → IsPhase (phase_count t.flat) j → shift_of s i j ≤ℤ negsuc 9999999999
   shift_low i j g h =
       let from = start_is i g in
       let to = start_is j h in
@@ -111,23 +111,23 @@ module _ (t : Timing) (limits : IsDesign t.flat) (ends : HasEnds t) (all : IsOrd
       (cases_lt i j)
 
   -- All data comes long before the start of its phase.
-  arrives_low : (n : ℕ) → n < length t.pairs → late_arrival t s d (pair_at t n) ≤ℤ negsuc 3999999999
+  arrives_low : (n : ℕ) → n < length t.pairs → late_arrival t.flat s d (pair_at t n) ≤ℤ negsuc 3999999999
   arrives_low n h =
       let from = (ends n no_pair h).0 in
       let to = (ends n no_pair h).1 in
       let first = departure_at_most (pair_at t n).from from in
-      let shift = shift_low (phase_of t (pair_at t n).from) (phase_of t (pair_at t n).to) (phase_is (pair_at t n).from from) (phase_is (pair_at t n).to to) in
-      let delay = ((EachKind-from_all t (IsOrdinaryLink (node_count t)) all.each).reach n h).delay.1 in
+      let shift = shift_low (phase_of t.flat (pair_at t n).from) (phase_of t.flat (pair_at t n).to) (phase_is (pair_at t n).from from) (phase_is (pair_at t n).to to) in
+      let delay = ((EachKind-from_all t (IsOrdinaryLink (node_count t.flat)) all.each).reach n h).delay.1 in
       omega (arith, ints)
 
   -- the departures
-  opens_first : (l : ℕ) → l < element_count t → latest t s d l ≡ late_opening t s l
+  opens_first : (l : ℕ) → l < element_count t.flat → latest t s d l ≡ late_opening t.flat s l
   opens_first l h =
       let e = limits.each_element l no_element h in
       let cq = e.cq_max.0 in
       let dq = e.dq_max.1 in
       let opens = latest-opens t s d l in
-      ⊎_elim (λ (is : latest t s d l ≡ late_opening t s l). is)
+      ⊎_elim (λ (is : latest t s d l ≡ late_opening t.flat s l). is)
       (λ (by : ArrivesBy t s d l (latest t s d l)).
       let low = arrives_low by.0 by.1 in
       let is = by.3 in
@@ -136,20 +136,20 @@ module _ (t : Timing) (limits : IsDesign t.flat) (ends : HasEnds t) (all : IsOrd
 
   are_exact : AreExact t s d
   are_exact = record {
-    count = length-map-range_with_len (opening t) 0 (element_count t);
-    each = λ l h. each_exact l h (element_at t l).flop refl;
+    count = length-map-range_with_len (opening t) 0 (element_count t.flat);
+    each = λ l h. each_exact l h (element_at t.flat l).flop refl;
   }
     where
-      each_exact : (l : ℕ) → l < element_count t → (b : Bool) → (element_at t l).flop ≡ b → departure d l ≡ late_departure t s d l
+      each_exact : (l : ℕ) → l < element_count t.flat → (b : Bool) → (element_at t.flat l).flop ≡ b → departure d l ≡ late_departure t s d l
       each_exact l h false latch =
           let is = departure_is-latch l h latch in
           let first = opens_first l h in
-          let same : departure d l ≡ late_opening t s l = omega (arith, ints) in
+          let same : departure d l ≡ late_opening t.flat s l = omega (arith, ints) in
           same ∙ sym first ∙ sym (late_departure-latch t s d l latch)
       each_exact l h true flop = departure_is-flop l h flop ∙ sym (late_departure-flop t s d l flop)
 
   -- the clock
-  keeps_apart : (i j : ℕ) → IsPhase (phase_count t) i → IsPhase (phase_count t) j → KeepsApart t s i j
+  keeps_apart : (i j : ℕ) → IsPhase (phase_count t.flat) i → IsPhase (phase_count t.flat) j → KeepsApart t s i j
   keeps_apart i j g h fed =
       let from = start_is i g in
       let to = start_is j h in
@@ -163,7 +163,7 @@ module _ (t : Timing) (limits : IsDesign t.flat) (ends : HasEnds t) (all : IsOrd
       rw (crosses-not_below j i more) (omega (arith, ints)))
       (cases_lt j i)
 
-  keeps_phase : (p : ℕ) → IsPhase (phase_count t) p → KeepsPhase t s p
+  keeps_phase : (p : ℕ) → IsPhase (phase_count t.flat) p → KeepsPhase t s p
   keeps_phase p h =
       let start = start_is p h in
       let width = width_is p h in
@@ -182,30 +182,30 @@ module _ (t : Timing) (limits : IsDesign t.flat) (ends : HasEnds t) (all : IsOrd
   keeps_clock : KeepsClock t s
   keeps_clock = record {
     den = omega (arith, ints);
-    starts = length-map-range_with_len far_start 1 (phase_count t);
-    widths = length-map-range_with_len (λ p. pos 5000000000) 1 (phase_count t);
+    starts = length-map-range_with_len far_start 1 (phase_count t.flat);
+    widths = length-map-range_with_len (λ p. pos 5000000000) 1 (phase_count t.flat);
     each = λ p low high. keeps_phase p (low, high);
   }
 
   -- the setups
-  keeps_setup-latch : (l : ℕ) → l < element_count t → (element_at t l).flop ≡ false → KeepsSetup t s d l
+  keeps_setup-latch : (l : ℕ) → l < element_count t.flat → (element_at t.flat l).flop ≡ false → KeepsSetup t s d l
   keeps_setup-latch l h latch =
       let departs = departure_at_most l h in
-      let width = width_is (phase_of t l) (phase_is l h) in
+      let width = width_is (phase_of t.flat l) (phase_is l h) in
       let setup = (limits.each_element l no_element h).setup.1 in
       (KeepsSetup-latch t s d l latch).1 (omega (arith, ints, clamps))
 
-  keeps_setup-flop : (l : ℕ) → l < element_count t → (element_at t l).flop ≡ true → KeepsSetup t s d l
+  keeps_setup-flop : (l : ℕ) → l < element_count t.flat → (element_at t.flat l).flop ≡ true → KeepsSetup t s d l
   keeps_setup-flop l h flop =
       let setup = (limits.each_element l no_element h).setup.1 in
       rw flop
-      (greatest-from_each t s d l (λ a. (a +ℤ (element_at t l).setup *ℤ pos 1) ≤ℤ pos 0)
+      (greatest-from_each t s d l (λ a. (a +ℤ (element_at t.flat l).setup *ℤ pos 1) ≤ℤ pos 0)
       (λ a by.
       let low = arrives_low by.0 by.1 in
       let is = by.3 in
       omega (arith, ints)))
 
-  keeps_setup : (l : ℕ) → l < element_count t → (b : Bool) → (element_at t l).flop ≡ b → KeepsSetup t s d l
+  keeps_setup : (l : ℕ) → l < element_count t.flat → (b : Bool) → (element_at t.flat l).flop ≡ b → KeepsSetup t s d l
   keeps_setup l h false latch = keeps_setup-latch l h latch
   keeps_setup l h true flop = keeps_setup-flop l h flop
 
@@ -214,7 +214,7 @@ module _ (t : Timing) (limits : IsDesign t.flat) (ends : HasEnds t) (all : IsOrd
     clock = keeps_clock;
     bounds = λ n e h. absurd (let count = ap length none in omega arith);
     exact = are_exact;
-    setup = λ l h. keeps_setup l h (element_at t l).flop refl;
+    setup = λ l h. keeps_setup l h (element_at t.flat l).flop refl;
   }
 
   pub hopeless_is_bounded : IsHopeless t → t.flat.bounds ≢ []

@@ -26,5 +26,5 @@ pub record IsRoomy (bench : Workplace) : Type 0 where
 -- values are the moments of; or that no schedule is right.
 abbrev pub IsSolved : Timing → Space → Outcome → Type 0
 IsSolved t room (Least cycle) =
-    IsLeastCycle t cycle.num cycle.den × IsRight t (schedule_of t cycle.num cycle.den room.values) (departures_of t room.values)
+    IsLeastCycle t cycle.num cycle.den × IsRight t (schedule_of t.flat cycle.num cycle.den room.values) (departures_of t.flat room.values)
 IsSolved t room Never = IsHopeless t

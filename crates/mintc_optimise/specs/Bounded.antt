@@ -1,7 +1,7 @@
 -- A design that no schedule is right for has a bound.
 use Rattle.std.specs.Prelude.{◌≡◌, ◌≢◌, ℤ, List, []}
 use Rattle.mintc_timing.specs.declared.clocking.Schedule.{Schedule}
-use Rattle.mintc_timing.specs.Design.{Timing}
+use Rattle.mintc_timing.specs.Design.{Design, Timing}
 use Rattle.mintc_timing.specs.Limits.{IsDesign}
 use Rattle.mintc_timing.specs.Order.{IsTiming}
 use Rattle.mintc_timing.specs.Right.{IsRight, IsHopeless}
@@ -19,11 +19,11 @@ abbrev pub NeverNeedsABound : Type 0
 NeverNeedsABound = (t : Timing) → IsDesign t.flat → IsTiming t.flat t.order t.pairs → IsHopeless t → t.flat.bounds ≢ []
 
 -- Where the answer is "never", the design has a bound.
-abbrev pub NeverOnlyWithBounds : Timing → Outcome → Type 0
-NeverOnlyWithBounds t (outcome.Least cycle) = Unit {0}
-NeverOnlyWithBounds t outcome.Never = t.flat.bounds ≢ []
+abbrev pub NeverOnlyWithBounds : Design → Outcome → Type 0
+NeverOnlyWithBounds design (outcome.Least cycle) = Unit {0}
+NeverOnlyWithBounds design outcome.Never = design.bounds ≢ []
 
 -- the same of a certificate
-abbrev pub CertifiesNeverOnlyWithBounds : Timing → Certificate → Type 0
-CertifiesNeverOnlyWithBounds t (certificate.Least schedule departures chain) = Unit {0}
-CertifiesNeverOnlyWithBounds t (certificate.Never chain) = t.flat.bounds ≢ []
+abbrev pub CertifiesNeverOnlyWithBounds : Design → Certificate → Type 0
+CertifiesNeverOnlyWithBounds design (certificate.Least schedule departures chain) = Unit {0}
+CertifiesNeverOnlyWithBounds design (certificate.Never chain) = design.bounds ≢ []

@@ -40,7 +40,7 @@ impl Bench {
 
     /// A bench for a system's links.
     pub fn reserve(alloc: Global, system: &System) -> Result<Bench, OutOfMemory>
-        ensures { IfOk result (λ bench. bench.list ≡ constraints_of (node_count system.now) (links_of system.now)) }
+        ensures { IfOk result (λ bench. bench.list ≡ constraints_of (node_count system.now.flat) (links_of system.now)) }
     {
         let list = links(alloc, system)?;
         let room = Room::reserve(alloc, list.nodes() as usize, list.items().len())?;
@@ -52,8 +52,8 @@ impl Bench {
     /// call has the same outcome.
     pub fn solve<L: Ledger>(&mut self, steps: &mut Steps<L>) -> Outcome
         ensures searched { HasSearched self.old.list self.new.room result }
-        ensures solved { (t : Timing) → IsDesign t.flat → HasEnds t → self.old.list ≡ constraints_of (node_count t) (links_of t) → IsSolved t self.new.room result }
-        ensures bounded { (t : Timing) → IsDesign t.flat → HasEnds t → self.old.list ≡ constraints_of (node_count t) (links_of t) → NeverOnlyWithBounds t result }
+        ensures solved { (t : Timing) → IsDesign t.flat → HasEnds t → self.old.list ≡ constraints_of (node_count t.flat) (links_of t) → IsSolved t self.new.room result }
+        ensures bounded { (t : Timing) → IsDesign t.flat → HasEnds t → self.old.list ≡ constraints_of (node_count t.flat) (links_of t) → NeverOnlyWithBounds t.flat result }
         ensures kept { self.new.list ≡ self.old.list }
         ensures cost { steps.new ≤ steps.old + 68 * (self.old.list.nodes + 1) }
     {

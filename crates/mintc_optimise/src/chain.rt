@@ -18,7 +18,7 @@ use std::alloc::Global;
 fn pair_delay(system: &System, link: &Link, from: u32, to: u32) -> i64
     requires link { Contains (links_of system.now) link.now }
     requires kind { link.now.kind ≡ LinkKind.Reach from to }
-    ensures value { result ≡ link.now.delay -ℤ (element_at system.now from).dq_max }
+    ensures value { result ≡ link.now.delay -ℤ (element_at system.now.flat from).dq_max }
     ensures pair { IsDelayOf Greatest system.now.pairs from to result }
 {
     let _pairs = system.pairs();

@@ -30,13 +30,13 @@ fn certificate(
     room: &Room,
     outcome: Outcome,
 ) -> Result<Certificate, OutOfMemory>
-    requires list { list.now ≡ constraints_of (node_count system.now) (links_of system.now) }
+    requires list { list.now ≡ constraints_of (node_count system.now.flat) (links_of system.now) }
     requires searched { HasSearched list.now room.now outcome }
     ensures valid { IfOk result (IsValid system.now) }
     ensures optimal { IfOk result (IsOptimal system.now) }
     ensures earliest { IfOk result (HasEarliest system.now) }
     ensures simple { IfOk result (HasSimple system.now) }
-    ensures bounded { IfOk result (CertifiesNeverOnlyWithBounds system.now) }
+    ensures bounded { IfOk result (CertifiesNeverOnlyWithBounds system.now.flat) }
     ensures in_range { IfOk result IsCertificateInRange }
 {
     let _pairs = system.pairs();
@@ -65,9 +65,9 @@ pub fn optimise<L: Ledger>(
     ensures optimal { IfOk result (IsOptimal system.now) }
     ensures earliest { IfOk result (HasEarliest system.now) }
     ensures simple { IfOk result (HasSimple system.now) }
-    ensures bounded { IfOk result (CertifiesNeverOnlyWithBounds system.now) }
+    ensures bounded { IfOk result (CertifiesNeverOnlyWithBounds system.now.flat) }
     ensures in_range { IfOk result IsCertificateInRange }
-    ensures cost { steps.new ≤ steps.old + 68 * (node_count system.now + 1) }
+    ensures cost { steps.new ≤ steps.old + 68 * (node_count system.now.flat + 1) }
 {
     let mut bench = Bench::reserve(alloc, system)?;
     let outcome = bench.solve(steps);

@@ -19,7 +19,7 @@ use std::alloc::Global;
 
 /// How many phases there are.
 pub(crate) fn phases(system: &System) -> u32
-    ensures value { result ≡ phase_count system.now }
+    ensures value { result ≡ phase_count system.now.flat }
     ensures kept { IsDesign system.now.flat }
 {
     system.flat().phases().items().len() as u32
@@ -27,8 +27,8 @@ pub(crate) fn phases(system: &System) -> u32
 
 /// When a phase starts.
 fn start(system: &System, values: &[i128], phase: u32) -> i64
-    requires phase { IsPhase (phase_count system.now) phase }
-    requires sayable { AreSayable system.now values.now }
+    requires phase { IsPhase (phase_count system.now.flat) phase }
+    requires sayable { AreSayable system.now.flat values.now }
     ensures value { result ≡ value_at values.now (start_node phase) }
     ensures in_range { IsNumerator result }
 {
@@ -38,8 +38,8 @@ fn start(system: &System, values: &[i128], phase: u32) -> i64
 
 /// How wide a phase is.
 fn width(system: &System, values: &[i128], phase: u32) -> i64
-    requires phase { IsPhase (phase_count system.now) phase }
-    requires sayable { AreSayable system.now values.now }
+    requires phase { IsPhase (phase_count system.now.flat) phase }
+    requires sayable { AreSayable system.now.flat values.now }
     ensures value { result ≡ value_at values.now (end_node phase) -ℤ value_at values.now (start_node phase) }
     ensures in_range { IsNumerator result }
 {
@@ -49,8 +49,8 @@ fn width(system: &System, values: &[i128], phase: u32) -> i64
 
 /// The starts of the phases.
 fn starts(system: &System, values: &[i128]) -> PhaseNumbers
-    requires { AreSayable system.now values.now }
-    ensures value { result ≡ map (λ p. value_at values.now (start_node p)) (phases_of system.now) }
+    requires { AreSayable system.now.flat values.now }
+    ensures value { result ≡ map (λ p. value_at values.now (start_node p)) (phases_of system.now.flat) }
     ensures in_range { All IsNumerator result }
 {
     let mut starts = ArrayVec::new();
@@ -62,8 +62,8 @@ fn starts(system: &System, values: &[i128]) -> PhaseNumbers
 
 /// The widths of the phases.
 fn widths(system: &System, values: &[i128]) -> PhaseNumbers
-    requires { AreSayable system.now values.now }
-    ensures value { result ≡ map (λ p. value_at values.now (end_node p) -ℤ value_at values.now (start_node p)) (phases_of system.now) }
+    requires { AreSayable system.now.flat values.now }
+    ensures value { result ≡ map (λ p. value_at values.now (end_node p) -ℤ value_at values.now (start_node p)) (phases_of system.now.flat) }
     ensures in_range { All IsNumerator result }
 {
     let mut widths = ArrayVec::new();
@@ -76,8 +76,8 @@ fn widths(system: &System, values: &[i128]) -> PhaseNumbers
 /// The schedule with this cycle time and these moments, as numerators over the cycle time's denominator.
 pub fn schedule(system: &System, cycle: &Fraction, values: &[i128]) -> Schedule
     requires cycle { IsCycle cycle.now }
-    requires sayable { AreSayable system.now values.now }
-    ensures value { result ≡ schedule_of system.now cycle.now.num cycle.now.den values.now }
+    requires sayable { AreSayable system.now.flat values.now }
+    ensures value { result ≡ schedule_of system.now.flat cycle.now.num cycle.now.den values.now }
     ensures in_range { IsInRange result }
 {
     let _phases = phases(system);
@@ -91,9 +91,9 @@ pub fn schedule(system: &System, cycle: &Fraction, values: &[i128]) -> Schedule
 
 /// The departure of an element, since its phase's start; that of a flop is 0.
 fn departure(system: &System, values: &[i128], number: u32) -> i64
-    requires number { number < element_count system.now }
-    requires sayable { AreSayable system.now values.now }
-    ensures value { result ≡ departure_of system.now values.now number }
+    requires number { number < element_count system.now.flat }
+    requires sayable { AreSayable system.now.flat values.now }
+    ensures value { result ≡ departure_of system.now.flat values.now number }
     ensures in_range { IsDeparture result }
 {
     let node = 2 * phases(system) + 1 + number;
@@ -111,8 +111,8 @@ pub fn departures(
     system: &System,
     values: &[i128],
 ) -> Result<Departures, OutOfMemory>
-    requires { AreSayable system.now values.now }
-    ensures value { IfOk result (λ departures. departures ≡ departures_of system.now values.now) }
+    requires { AreSayable system.now.flat values.now }
+    ensures value { IfOk result (λ departures. departures ≡ departures_of system.now.flat values.now) }
     ensures in_range { IfOk result (All IsDeparture) }
 {
     let mut departures = Vec::new(alloc);

@@ -71,10 +71,10 @@ report_lines : List (List ℕ) → List ℕ → List (List ℕ) → List (List �
 report_lines rest time phases lates = text_of (cycle_line time ∷ phases ++ lates ++ rest)
 
 report_one : (t : Timing) (certificate : Certificate) (text other : List ℕ) → HasDenominator certificate →
-    IsReportText t certificate text → IsReportText t certificate other → text ≡ other
+    IsReportText t.flat certificate text → IsReportText t.flat certificate other → text ≡ other
 unfolding report_lines
 report_one t (Least s d chain) text other some a b =
-    let rest : List (List ℕ) = chain_lines t chain in
+    let rest : List (List ℕ) = chain_lines t.flat chain in
     let time = IsWordOf-unique s.cycle s.den a.cycle_word b.cycle_word some a.is_cycle b.is_cycle in
     let phases = AllZip-unique _ (λ p line more h g. IsLineOfTwo-unique _ s.den _ _ line more some h g) _ a.phase_lines b.phase_lines a.phases b.phases in
     let lates = AllZip-unique _ (λ l line more h g. IsLateLine-unique s.den _ _ line more some h g) _ a.late_lines b.late_lines a.elements b.elements in

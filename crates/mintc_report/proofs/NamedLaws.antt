@@ -43,27 +43,27 @@ checks_named count f xs each = All-map (NamesPairs count) f xs (All-each (λ x. 
 
 aparts_named : (count : ℕ) (t : Timing) (s : Schedule) → All (NamesPairs count) (apart_checks t s)
 aparts_named count t s =
-    All-flat_map (NamesPairs count) _ (phases_of t) (λ i. checks_named count _ (filter (feeds_of t i) (phases_of t)) (λ j. All-nil (λ n. n < count)))
+    All-flat_map (NamesPairs count) _ (phases_of t.flat) (λ i. checks_named count _ (filter (feeds_of t i) (phases_of t.flat)) (λ j. All-nil (λ n. n < count)))
 
 clock_named : (count : ℕ) (t : Timing) (s : Schedule) → All (NamesPairs count) (clock_checks t s)
 clock_named count t s =
     let none : All (λ n. n < count) [] = All-nil (λ n. n < count) in
-    let cycles : All (NamesPairs count) (cycle_checks t s) = checks_named count _ (phases_of t) (λ p. none) in
-    let orders : All (NamesPairs count) (order_checks t s) = checks_named count _ (range_with_len 1 (phase_count t - 1)) (λ p. none) in
-    let spans : All (NamesPairs count) (span_checks t s) = checks_named count _ (phases_of t) (λ p. none) in
-    let widths : All (NamesPairs count) (width_checks t s) = checks_named count _ (phases_of t) (λ p. none) in
-    let bounds : All (NamesPairs count) (bound_checks t s) = checks_named count _ (enumerate_from 0 t.flat.bounds) (λ b. none) in
+    let cycles : All (NamesPairs count) (cycle_checks t.flat s) = checks_named count _ (phases_of t.flat) (λ p. none) in
+    let orders : All (NamesPairs count) (order_checks t.flat s) = checks_named count _ (range_with_len 1 (phase_count t.flat - 1)) (λ p. none) in
+    let spans : All (NamesPairs count) (span_checks t.flat s) = checks_named count _ (phases_of t.flat) (λ p. none) in
+    let widths : All (NamesPairs count) (width_checks t.flat s) = checks_named count _ (phases_of t.flat) (λ p. none) in
+    let bounds : All (NamesPairs count) (bound_checks t.flat s) = checks_named count _ (enumerate_from 0 t.flat.bounds) (λ b. none) in
     let All-both = All-append (NamesPairs count) in
     All-both _ _ (All-both _ _ (All-both _ _ (All-both _ _ (All-both _ _ cycles orders) spans) widths) (aparts_named count t s)) bounds
 
 setups_named : (count : ℕ) (t : Timing) (s : Schedule) (late : List ℤ) → All (NamesPairs count) (setup_checks t s late)
 setups_named count t s late =
-    All-filter_map (NamesPairs count) _ (elements_of t)
+    All-filter_map (NamesPairs count) _ (elements_of t.flat)
     (λ l. IfSome-option_map (NamesPairs count) (check (broken.Setup l)) (setup_amount t s late l) (λ x. All-nil (λ n. n < count)))
 
 holds_named : (count : ℕ) (t : Timing) (s : Schedule) (early : List ℤ) → All (NamesPairs count) (hold_checks t s early)
 holds_named count t s early =
-    All-filter_map (NamesPairs count) _ (elements_of t)
+    All-filter_map (NamesPairs count) _ (elements_of t.flat)
     (λ l. IfSome-option_map (NamesPairs count) (check (broken.Hold l)) (hold_amount t s early l) (λ x. All-nil (λ n. n < count)))
 
 failed_named : (count : ℕ) (vs : List Violation) → All (NamesPairs count) vs → All (NamesPairs count) (failed vs)

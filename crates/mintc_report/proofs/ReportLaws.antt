@@ -49,7 +49,7 @@ late_more elements den late n old now new name other f before below is a written
 -- ---- the members
 
 -- a member has a kind
-names_some : (t : Timing) (m : Member) → 0 < length (member_names t m)
+names_some : (t : Timing) (m : Member) → 0 < length (member_names t.flat m)
 names_some t (member.Start p) = omega arith
 names_some t m = omega arith
 
@@ -61,14 +61,14 @@ lines_written : (old begun all first rest : List ℕ) → begun ≡ old ++ first
 lines_written old begun all first rest e f = rw (f, e) (append_assoc old first rest)
 
 -- a member is written as what it names, its amounts, and the bits on its path
-pub member_written : (t : Timing) (m : Member) (old begun first all : List ℕ) → begun ≡ old ++ words (member_names t m) →
-    first ≡ begun ++ (spaced (amount_words (link_of t m).delay (pos (link_of t m).cycles)) ++ 10 ∷ []) →
-    all ≡ first ++ text_of (map (through_line t) (later_arcs m)) → all ≡ old ++ text_of (member_lines t m)
+pub member_written : (t : Timing) (m : Member) (old begun first all : List ℕ) → begun ≡ old ++ words (member_names t.flat m) →
+    first ≡ begun ++ (spaced (amount_words (link_of t.flat m).delay (pos (link_of t.flat m).cycles)) ++ 10 ∷ []) →
+    all ≡ first ++ text_of (map (through_line t.flat) (later_arcs m)) → all ≡ old ++ text_of (member_lines t.flat m)
 member_written t m old begun first all e f g =
-    let amounts : List (List ℕ) = amount_words (link_of t m).delay (pos (link_of t m).cycles) in
-    let line : first ≡ old ++ ended (member_line t m) =
-    line_written old begun first (words (member_names t m)) (spaced amounts) e f ∙ ap (λ v. old ++ ended v) (sym (words-append (member_names t m) amounts (names_some t m))) in
-    lines_written old first all (ended (member_line t m)) (text_of (map (through_line t) (later_arcs m))) line g
+    let amounts : List (List ℕ) = amount_words (link_of t.flat m).delay (pos (link_of t.flat m).cycles) in
+    let line : first ≡ old ++ ended (member_line t.flat m) =
+    line_written old begun first (words (member_names t.flat m)) (spaced amounts) e f ∙ ap (λ v. old ++ ended v) (sym (words-append (member_names t.flat m) amounts (names_some t m))) in
+    lines_written old first all (ended (member_line t.flat m)) (text_of (map (through_line t.flat) (later_arcs m))) line g
 
 -- ---- the whole report
 
@@ -86,10 +86,10 @@ whole_written cycle phases lates chain none first second third text n e f g h =
 pub least_written : (t : Timing) (s : Schedule) (d : List ℤ) (chain : List Member) (f : Ratio) (names : List (List ℕ)) (elements : List Element) (none first second third fourth text : List ℕ) →
     IsLowestOf s.cycle s.den f → names ≡ t.flat.phases → elements ≡ t.flat.elements → none ≡ [] → first ≡ none ++ ended (cycle_line (fraction_word f)) →
     AppendsLines (ArePhaseLines names s (length names)) first second → AppendsLines (AreLateLines elements s.den d (length elements)) second third →
-    fourth ≡ third ++ text_of (chain_lines t chain) → text ≡ fourth → IsLeastReport t s d chain text
+    fourth ≡ third ++ text_of (chain_lines t.flat chain) → text ≡ fourth → IsLeastReport t.flat s d chain text
 least_written t s d chain f names elements none first second third fourth text cycle names_are elements_are n e phases lates g h =
-    let p : AppendsLines (ArePhaseLines t.flat.phases s (phase_count t)) first second = subst (λ v. AppendsLines (ArePhaseLines v s (length v)) first second) names_are phases in
-    let l : AppendsLines (AreLateLines t.flat.elements s.den d (element_count t)) second third =
+    let p : AppendsLines (ArePhaseLines t.flat.phases s (phase_count t.flat)) first second = subst (λ v. AppendsLines (ArePhaseLines v s (length v)) first second) names_are phases in
+    let l : AppendsLines (AreLateLines t.flat.elements s.den d (element_count t.flat)) second third =
     subst (λ v. AppendsLines (AreLateLines v s.den d (length v)) second third) elements_are lates in
     record {
       cycle_word = fraction_word f;
@@ -98,5 +98,5 @@ least_written t s d chain f names elements none first second third fourth text c
       is_cycle = IsWordOf-lowest s.cycle s.den f cycle;
       phases = p.are_lines;
       elements = l.are_lines;
-      whole = whole_written (cycle_line (fraction_word f)) p.lines l.lines (chain_lines t chain) none first second third text n e p.appended l.appended (h ∙ g);
+      whole = whole_written (cycle_line (fraction_word f)) p.lines l.lines (chain_lines t.flat chain) none first second third text n e p.appended l.appended (h ∙ g);
     }

@@ -21,24 +21,24 @@ past_elements (suc n) bit input output =
 
 -- A bit that an arc leaves and another enters is an inner one.
 inner_between : (t : Timing) (a b : ℕ) → IsDesign t.flat → a < length t.flat.arcs → b < length t.flat.arcs →
-    (arc_at t.flat.arcs b).from ≡ (arc_at t.flat.arcs a).to → IsInner t (arc_at t.flat.arcs b).from
+    (arc_at t.flat.arcs b).from ≡ (arc_at t.flat.arcs a).to → IsInner t.flat (arc_at t.flat.arcs b).from
 inner_between t a b design here there e =
     let first : IsArc (length t.flat.elements) (length t.flat.inner) (arc_at t.flat.arcs a) = design.each_arc a no_arc here in
     let second : IsArc (length t.flat.elements) (length t.flat.inner) (arc_at t.flat.arcs b) = design.each_arc b no_arc there in (
-      past_elements (element_count t) (arc_at t.flat.arcs b).from second.leaves
-          (subst (λ bit. (l : ℕ) → l < element_count t → bit ≢ 2 * l + 1) (sym e) first.enters),
+      past_elements (element_count t.flat) (arc_at t.flat.arcs b).from second.leaves
+          (subst (λ bit. (l : ℕ) → l < element_count t.flat → bit ≢ 2 * l + 1) (sym e) first.enters),
       second.from,
     )
 
 -- the arcs of a path after an arc
 later_inner : (t : Timing) (a to : ℕ) (path : List ℕ) → IsDesign t.flat → a < length t.flat.arcs →
-    Leads t.flat.arcs (arc_at t.flat.arcs a).to path to → All (IsThrough t) path
-later_inner t a to [] design below h = All-nil (IsThrough t)
+    Leads t.flat.arcs (arc_at t.flat.arcs a).to path to → All (IsThrough t.flat) path
+later_inner t a to [] design below h = All-nil (IsThrough t.flat)
 later_inner t a to (n ∷ path) design below h =
-    All-cons (IsThrough t) n path (h.0, inner_between t a n design below h.0 h.1) (later_inner t n to path design h.0 h.2)
+    All-cons (IsThrough t.flat) n path (h.0, inner_between t a n design below h.0 h.1) (later_inner t n to path design h.0 h.2)
 
 -- The arcs of a member after the first leave inner bits.
-pub are_through : (t : Timing) (m : Member) → IsDesign t.flat → IsMember t m → All (IsThrough t) (later_arcs m)
-are_through t (member.Reach j l []) design h = All-nil (IsThrough t)
+pub are_through : (t : Timing) (m : Member) → IsDesign t.flat → IsMember t m → All (IsThrough t.flat) (later_arcs m)
+are_through t (member.Reach j l []) design h = All-nil (IsThrough t.flat)
 are_through t (member.Reach j l (n ∷ path)) design h = later_inner t n (input_of l) path design h.2.1.0 h.2.1.2
-are_through t m design h = All-nil (IsThrough t)
+are_through t m design h = All-nil (IsThrough t.flat)

@@ -10,7 +10,7 @@ use Rattle.mintc_certificate.specs.declared.members.Member.TheVariants as member
 use Rattle.mintc_report.specs.Reports.{chain_lines}
 
 -- the ring of two latches has no inner bits
-ring_lines : chain_lines ring (member.Reach 0 1 (0 ∷ []) ∷ member.Reach 1 0 (1 ∷ []) ∷ [])
+ring_lines : chain_lines ring.flat (member.Reach 0 1 (0 ∷ []) ∷ member.Reach 1 0 (1 ∷ []) ∷ [])
     ≡ codes "chain 2 delay 100 cycles 1" ∷ codes "reach a b delay 30 cycles 0" ∷ codes "reach b a delay 70 cycles 1" ∷ []
 unfolding digits
 ring_lines = refl
@@ -33,13 +33,13 @@ through = record {
 }
 
 -- the bits on a path stand in its order, and not in that of their numbers
-through_lines_in_order : chain_lines through (member.Reach 0 1 (0 ∷ 2 ∷ 3 ∷ []) ∷ member.Reach 1 0 (1 ∷ []) ∷ [])
+through_lines_in_order : chain_lines through.flat (member.Reach 0 1 (0 ∷ 2 ∷ 3 ∷ []) ∷ member.Reach 1 0 (1 ∷ []) ∷ [])
     ≡ codes "chain 2 delay 100 cycles 1" ∷ codes "reach a b delay 30 cycles 0" ∷ codes "through n" ∷ codes "through m" ∷ codes "reach b a delay 70 cycles 1" ∷ []
 unfolding digits
 through_lines_in_order = refl
 
 -- the other kinds of members
-kinds : chain_lines through (member.Start 1 ∷ member.Cycle 2 ∷ member.Order 1 ∷ member.Span 2 ∷ member.Width 1 ∷ member.Apart 2 1 ∷ member.Opening 1 ∷ member.Opened 0 ∷ member.Setup 1 ∷ member.Bound 0 ∷ [])
+kinds : chain_lines through.flat (member.Start 1 ∷ member.Cycle 2 ∷ member.Order 1 ∷ member.Span 2 ∷ member.Width 1 ∷ member.Apart 2 1 ∷ member.Opening 1 ∷ member.Opened 0 ∷ member.Setup 1 ∷ member.Bound 0 ∷ [])
     ≡ codes "chain 10 delay 13 cycles 3" ∷ codes "start phi1 delay 0 cycles 0" ∷ codes "cycle phi2 delay 0 cycles 1" ∷ codes "order phi1 delay 0 cycles 0"
     ∷ codes "span phi2 delay 0 cycles 1" ∷ codes "width phi1 delay 0 cycles 0" ∷ codes "apart phi2 phi1 delay 0 cycles 0" ∷ codes "open b delay 0 cycles 0"
     ∷ codes "opened a delay 10 cycles 0" ∷ codes "setup b delay 10 cycles 0" ∷ codes "bound 0 delay -7 cycles 1" ∷ []

@@ -9,7 +9,7 @@ use Rattle.mintc_timing.specs.declared.clocking.Schedule.{Schedule}
 use Rattle.mintc_timing.specs.declared.violation.Broken.{Broken}
 use Rattle.mintc_timing.specs.declared.violation.Broken.TheVariants as broken
 use Rattle.mintc_timing.specs.declared.violation.Violation.{Violation}
-use Rattle.mintc_timing.specs.Design.{Timing, element_count, no_element, no_pair}
+use Rattle.mintc_timing.specs.Design.{Design, Timing, element_count, no_element, no_pair}
 use Rattle.mintc_timing.specs.Departures.{departure}
 
 -- num / den in lowest terms
@@ -46,9 +46,9 @@ AreElementLines elements den late early n lines =
     AllZip (λ l. IsLineOfTwo (element_line (slice_index_or elements l no_element).name) den (departure late l) (departure early l)) (range_with_len 0 n) lines
 
 -- The text of a pass with these departures: `pass`, and the line of each element.
-pub record IsPassText (t : Timing) (s : Schedule) (late early : List ℤ) (text : List ℕ) : Type 0 where
+pub record IsPassText (design : Design).flat (s : Schedule) (late early : List ℤ) (text : List ℕ) : Type 0 where
   pub lines : List (List ℕ)
-  pub elements : AreElementLines t.flat.elements s.den late early (element_count t) lines
+  pub elements : AreElementLines design.elements s.den late early (element_count design) lines
   pub whole : text ≡ text_of (codes "pass" ∷ lines)
 
 -- A broken constraint in words. A loop has the number of its pairs.

@@ -20,11 +20,11 @@ HasDenominator (Never chain) = Unit {0}
 -- with one text are equal.
 pub record AnswersAreDetermined : Type 0 where
   pub pass : (t : Timing) (s : Schedule) (late early : List ℤ) (text other : List ℕ) → pos 1 ≤ℤ s.den →
-      IsPassText t s late early text → IsPassText t s late early other → text ≡ other
+      IsPassText t.flat s late early text → IsPassText t.flat s late early other → text ≡ other
   pub fail : (t : Timing) (s : Schedule) (violations : List Violation) (text other : List ℕ) → pos 1 ≤ℤ s.den →
       IsFailText t s violations text → IsFailText t s violations other → text ≡ other
   pub report : (t : Timing) (certificate : Certificate) (text other : List ℕ) → HasDenominator certificate →
-      IsReportText t certificate text → IsReportText t certificate other → text ≡ other
+      IsReportText t.flat certificate text → IsReportText t.flat certificate other → text ≡ other
   pub verdict : (t u : Timing) (certificate another : Certificate) (v w : Verdict) → IsVerdict t certificate v → IsVerdict u another w →
       verdict_text_of v ≡ verdict_text_of w → v ≡ w
 

@@ -6,7 +6,7 @@ use Rattle.mintc_timing.specs.declared.parts.Element.{Element}
 use Rattle.mintc_timing.specs.declared.clocking.Schedule.{Schedule}
 use Rattle.mintc_timing.specs.Clocking.{start_of, width_of}
 use Rattle.mintc_timing.specs.Departures.{departure}
-use Rattle.mintc_timing.specs.Design.{Timing, phase_count, element_count, element_at, no_element}
+use Rattle.mintc_timing.specs.Design.{Design, phase_count, element_count, element_at, no_element}
 use Rattle.mintc_timing.specs.Links.{delay_of, cycles_of}
 use Rattle.mintc_timing.specs.Paths.{arc_at}
 use Rattle.mintc_certificate.specs.declared.certificate.Certificate.{Certificate}
@@ -51,36 +51,36 @@ AreLateLines elements den late n lines =
     AllZip (λ l. IsLateLine den (slice_index_or elements l no_element).name (departure late l)) (range_with_len 0 n) lines
 
 -- the names of a phase, of an element, and of an inner bit: the inner bits come after two bits of each element
-abbrev pub phase_name : Timing → ℕ → List ℕ
-phase_name t p = slice_index_or t.flat.phases (p - 1) []
+abbrev pub phase_name : Design → ℕ → List ℕ
+phase_name design p = slice_index_or design.phases (p - 1) []
 
-abbrev pub element_name : Timing → ℕ → List ℕ
-element_name t l = (element_at t l).name
+abbrev pub element_name : Design → ℕ → List ℕ
+element_name design l = (element_at design l).name
 
-abbrev pub inner_name : Timing → ℕ → List ℕ
-inner_name t bit = slice_index_or t.flat.inner (bit - 2 * element_count t) []
+abbrev pub inner_name : Design → ℕ → List ℕ
+inner_name design bit = slice_index_or design.inner (bit - 2 * element_count design) []
 
 -- A member's kind, as a certificate's text says it, and what it names. A bound has its number.
-abbrev pub member_names : Timing → Member → List (List ℕ)
-member_names t (member.Start p) = codes "start" ∷ phase_name t p ∷ []
-member_names t (member.Cycle p) = codes "cycle" ∷ phase_name t p ∷ []
-member_names t (member.Order p) = codes "order" ∷ phase_name t p ∷ []
-member_names t (member.Span p) = codes "span" ∷ phase_name t p ∷ []
-member_names t (member.Width p) = codes "width" ∷ phase_name t p ∷ []
-member_names t (member.Apart i j) = codes "apart" ∷ phase_name t i ∷ phase_name t j ∷ []
-member_names t (member.Opening l) = codes "open" ∷ element_name t l ∷ []
-member_names t (member.Opened l) = codes "opened" ∷ element_name t l ∷ []
-member_names t (member.Reach j l path) = codes "reach" ∷ element_name t j ∷ element_name t l ∷ []
-member_names t (member.Setup l) = codes "setup" ∷ element_name t l ∷ []
-member_names t (member.Bound n) = codes "bound" ∷ decimal n ∷ []
+abbrev pub member_names : Design → Member → List (List ℕ)
+member_names design (member.Start p) = codes "start" ∷ phase_name design p ∷ []
+member_names design (member.Cycle p) = codes "cycle" ∷ phase_name design p ∷ []
+member_names design (member.Order p) = codes "order" ∷ phase_name design p ∷ []
+member_names design (member.Span p) = codes "span" ∷ phase_name design p ∷ []
+member_names design (member.Width p) = codes "width" ∷ phase_name design p ∷ []
+member_names design (member.Apart i j) = codes "apart" ∷ phase_name design i ∷ phase_name design j ∷ []
+member_names design (member.Opening l) = codes "open" ∷ element_name design l ∷ []
+member_names design (member.Opened l) = codes "opened" ∷ element_name design l ∷ []
+member_names design (member.Reach j l path) = codes "reach" ∷ element_name design j ∷ element_name design l ∷ []
+member_names design (member.Setup l) = codes "setup" ∷ element_name design l ∷ []
+member_names design (member.Bound n) = codes "bound" ∷ decimal n ∷ []
 
 -- a delay in femtoseconds, and cycles
 abbrev pub amount_words : ℤ → ℤ → List (List ℕ)
 amount_words delay cycles = codes "delay" ∷ numeral_of delay ∷ codes "cycles" ∷ numeral_of cycles ∷ []
 
 -- A member with the delay and the cycles of its link. A reach has the delay of its own path.
-abbrev pub member_line : Timing → Member → List ℕ
-member_line t m = words (member_names t m ++ amount_words (link_of t m).delay (pos (link_of t m).cycles))
+abbrev pub member_line : Design → Member → List ℕ
+member_line design m = words (member_names design m ++ amount_words (link_of design m).delay (pos (link_of design m).cycles))
 
 -- The arcs of a reach after its first. They leave the inner bits on its path.
 abbrev pub later_arcs : Member → List ℕ
@@ -88,42 +88,42 @@ later_arcs (member.Reach j l path) = drop 1 path
 later_arcs m = []
 
 -- the line of the bit that an arc leaves, and the line of each inner bit on the path of a reach, in its order
-abbrev pub through_line : Timing → ℕ → List ℕ
-through_line t n = words (codes "through" ∷ inner_name t (arc_at t.flat.arcs n).from ∷ [])
+abbrev pub through_line : Design → ℕ → List ℕ
+through_line design n = words (codes "through" ∷ inner_name design (arc_at design.arcs n).from ∷ [])
 
-abbrev pub through_lines : Timing → Member → List (List ℕ)
-through_lines t m = map (through_line t) (later_arcs m)
+abbrev pub through_lines : Design → Member → List (List ℕ)
+through_lines design m = map (through_line design) (later_arcs m)
 
-abbrev pub member_lines : Timing → Member → List (List ℕ)
-member_lines t m = member_line t m ∷ through_lines t m
+abbrev pub member_lines : Design → Member → List (List ℕ)
+member_lines design m = member_line design m ∷ through_lines design m
 
 -- a chain: how many members it has, its delay and its cycles, and the lines of each member
-abbrev pub chain_line : Timing → List Member → List ℕ
-chain_line t chain =
-    words (codes "chain" ∷ decimal (length chain) ∷ amount_words (delay_of (links_of_members t chain)) (cycles_of (links_of_members t chain)))
+abbrev pub chain_line : Design → List Member → List ℕ
+chain_line design chain =
+    words (codes "chain" ∷ decimal (length chain) ∷ amount_words (delay_of (links_of_members design chain)) (cycles_of (links_of_members design chain)))
 
-abbrev pub chain_lines : Timing → List Member → List (List ℕ)
-chain_lines t chain = chain_line t chain ∷ flat_map (member_lines t) chain
+abbrev pub chain_lines : Design → List Member → List (List ℕ)
+chain_lines design chain = chain_line design chain ∷ flat_map (member_lines design) chain
 
 -- The report of a schedule with its departures: the cycle time, the phases, the elements, and the chain that forbids
 -- every smaller cycle time.
-pub record IsLeastReport (t : Timing) (s : Schedule) (d : List ℤ) (chain : List Member) (text : List ℕ) : Type 0 where
+pub record IsLeastReport (design : Design).flat (s : Schedule) (d : List ℤ) (chain : List Member) (text : List ℕ) : Type 0 where
   pub cycle_word : List ℕ
   pub phase_lines : List (List ℕ)
   pub late_lines : List (List ℕ)
   pub is_cycle : IsWordOf s.cycle s.den cycle_word
-  pub phases : ArePhaseLines t.flat.phases s (phase_count t) phase_lines
-  pub elements : AreLateLines t.flat.elements s.den d (element_count t) late_lines
-  pub whole : text ≡ text_of (cycle_line cycle_word ∷ phase_lines ++ late_lines ++ chain_lines t chain)
+  pub phases : ArePhaseLines design.phases s (phase_count design) phase_lines
+  pub elements : AreLateLines design.elements s.den d (element_count design) late_lines
+  pub whole : text ≡ text_of (cycle_line cycle_word ∷ phase_lines ++ late_lines ++ chain_lines design chain)
 
 -- The text of the report of a certificate. Without a schedule it is `never`, and the chain that forbids every cycle time.
-abbrev pub IsReportText : Timing → Certificate → List ℕ → Type 0
-IsReportText t (Least s d chain) text = IsLeastReport t s d chain text
-IsReportText t (Never chain) text = text ≡ text_of (codes "never" ∷ chain_lines t chain)
+abbrev pub IsReportText : Design → Certificate → List ℕ → Type 0
+IsReportText design (Least s d chain) text = IsLeastReport design s d chain text
+IsReportText design (Never chain) text = text ≡ text_of (codes "never" ∷ chain_lines design chain)
 
 -- The bit is an inner one, and the arc leaves an inner one.
-abbrev pub IsInner : Timing → ℕ → Type 0
-IsInner t bit = (2 * element_count t ≤ bit) × (bit < 2 * element_count t + length t.flat.inner)
+abbrev pub IsInner : Design → ℕ → Type 0
+IsInner design bit = (2 * element_count design ≤ bit) × (bit < 2 * element_count design + length design.inner)
 
-abbrev pub IsThrough : Timing → ℕ → Type 0
-IsThrough t n = (n < length t.flat.arcs) × IsInner t (arc_at t.flat.arcs n).from
+abbrev pub IsThrough : Design → ℕ → Type 0
+IsThrough design n = (n < length design.arcs) × IsInner design (arc_at design.arcs n).from

@@ -17,8 +17,8 @@ use mintc_timing::System;
 fn sums_in(system: &System, chain: &[Member]) -> ChainSums
     requires in_range { IsChainInRange chain.now }
     requires members { All (IsMember system.now) chain.now }
-    ensures delay { result.delay ≡ delay_of (links_of_members system.now chain.now) }
-    ensures cycles { result.cycles ≡ cycles_of (links_of_members system.now chain.now) }
+    ensures delay { result.delay ≡ delay_of (links_of_members system.now.flat chain.now) }
+    ensures cycles { result.cycles ≡ cycles_of (links_of_members system.now.flat chain.now) }
 {
     let _pairs = system.pairs();
     sums_of(system.flat(), chain)
@@ -28,7 +28,7 @@ fn sums_in(system: &System, chain: &[Member]) -> ChainSums
 fn put_sums(lines: &mut Lines, system: &System, chain: &[Member]) -> Result<(), OutOfMemory>
     requires in_range { IsChainInRange chain.now }
     requires members { All (IsMember system.now) chain.now }
-    ensures { OnOk result (lines.new ≡ lines.old ++ ended (chain_line system.now chain.now)) }
+    ensures { OnOk result (lines.new ≡ lines.old ++ ended (chain_line system.now.flat chain.now)) }
 {
     let sums = sums_in(system, chain);
     lines.put(b"chain")?;
@@ -40,7 +40,7 @@ fn put_sums(lines: &mut Lines, system: &System, chain: &[Member]) -> Result<(), 
 fn put_members(lines: &mut Lines, system: &System, chain: &[Member]) -> Result<(), OutOfMemory>
     requires counted { All IsCounted chain.now }
     requires members { All (IsMember system.now) chain.now }
-    ensures { OnOk result (lines.new ≡ lines.old ++ text_of (flat_map (member_lines system.now) chain.now)) }
+    ensures { OnOk result (lines.new ≡ lines.old ++ text_of (flat_map (member_lines system.now.flat) chain.now)) }
 {
     for member in chain {
         put_member(lines, system, member)?;
@@ -56,7 +56,7 @@ pub(crate) fn put_chain(
 ) -> Result<(), OutOfMemory>
     requires in_range { IsChainInRange chain.now }
     requires members { All (IsMember system.now) chain.now }
-    ensures { OnOk result (lines.new ≡ lines.old ++ text_of (chain_lines system.now chain.now)) }
+    ensures { OnOk result (lines.new ≡ lines.old ++ text_of (chain_lines system.now.flat chain.now)) }
 {
     put_sums(lines, system, chain)?;
     put_members(lines, system, chain)

@@ -14,24 +14,24 @@ use mintc_timing::{Link, System};
 
 /// The name of a phase, which is counted from 1.
 fn phase_name(system: &System, phase: u32) -> &[u8]
-    requires { IsPhase (phase_count system.now) phase }
-    ensures { result.now ≡ phase_name system.now phase }
+    requires { IsPhase (phase_count system.now.flat) phase }
+    ensures { result.now ≡ phase_name system.now.flat phase }
 {
     system.flat().phases().items()[phase as usize - 1].bytes()
 }
 
 /// The name of an element.
 fn element_name(system: &System, element: u32) -> &[u8]
-    requires { element < element_count system.now }
-    ensures { result.now ≡ element_name system.now element }
+    requires { element < element_count system.now.flat }
+    ensures { result.now ≡ element_name system.now.flat element }
 {
     system.element(element).name.bytes()
 }
 
 /// The name of an inner bit.
 fn inner_name(system: &System, bit: u32) -> &[u8]
-    requires { IsInner system.now bit }
-    ensures { result.now ≡ inner_name system.now bit }
+    requires { IsInner system.now.flat bit }
+    ensures { result.now ≡ inner_name system.now.flat bit }
 {
     let flat = system.flat();
     flat.inner().items()[bit as usize - 2 * flat.elements().len()].bytes()
@@ -64,7 +64,7 @@ fn put_bound(lines: &mut Lines, index: u32) -> Result<(), OutOfMemory>
 /// Writes the kind of a member and what it names.
 fn put_names(lines: &mut Lines, system: &System, member: &Member) -> Result<(), OutOfMemory>
     requires { IsMember system.now member.now }
-    ensures { OnOk result (lines.new ≡ lines.old ++ words (member_names system.now member.now)) }
+    ensures { OnOk result (lines.new ≡ lines.old ++ words (member_names system.now.flat member.now)) }
 {
     match member {
         Member::Start { phase } => put_one(lines, b"start", phase_name(system, *phase)),
@@ -106,7 +106,7 @@ pub(crate) fn put_amounts(lines: &mut Lines, delay: i64, cycles: i64) -> Result<
 pub(crate) fn link_at(system: &System, member: &Member) -> Link
     requires member { IsMember system.now member.now }
     requires counted { IsCounted member.now }
-    ensures value { result ≡ link_of_member system.now member.now }
+    ensures value { result ≡ link_of_member system.now.flat member.now }
     ensures range { IsSpan result.delay }
     ensures cycles { result.cycles ≤ 1 }
 {
@@ -124,8 +124,8 @@ fn put_through(lines: &mut Lines, name: &[u8]) -> Result<(), OutOfMemory>
 
 /// Writes the lines of the bits that arcs leave.
 fn put_throughs(lines: &mut Lines, system: &System, arcs: &[u32]) -> Result<(), OutOfMemory>
-    requires { All (IsThrough system.now) arcs.now }
-    ensures { OnOk result (lines.new ≡ lines.old ++ text_of (map (through_line system.now) arcs.now)) }
+    requires { All (IsThrough system.now.flat) arcs.now }
+    ensures { OnOk result (lines.new ≡ lines.old ++ text_of (map (through_line system.now.flat) arcs.now)) }
 {
     for number in arcs {
         let bit = system.flat().arcs()[*number as usize].from;
@@ -153,7 +153,7 @@ pub(crate) fn put_member(
 ) -> Result<(), OutOfMemory>
     requires member { IsMember system.now member.now }
     requires counted { IsCounted member.now }
-    ensures { OnOk result (lines.new ≡ lines.old ++ text_of (member_lines system.now member.now)) }
+    ensures { OnOk result (lines.new ≡ lines.old ++ text_of (member_lines system.now.flat member.now)) }
 {
     let _elements = system.flat().elements();
     let link = link_at(system, member);

@@ -64,10 +64,10 @@ pub fn pass_text(
     room: &Room,
 ) -> Result<Vec<u8>, OutOfMemory>
     requires in_range { IsInRange schedule.now }
-    requires phases { length schedule.now.starts ≡ phase_count system.now }
+    requires phases { length schedule.now.starts ≡ phase_count system.now.flat }
     requires late { AreLate system.now schedule.now room.now.late }
     requires early { AreEarly system.now schedule.now room.now.early }
-    ensures { IfOk result (λ text. IsPassText system.now schedule.now room.now.late room.now.early text.items) }
+    ensures { IfOk result (λ text. IsPassText system.now.flat schedule.now room.now.late room.now.early text.items) }
 {
     let mut lines = Lines::new(alloc);
     lines.put(b"pass\n")?;

@@ -104,12 +104,12 @@ fn least_text(
     chain: &[Member],
 ) -> Result<Vec<u8>, OutOfMemory>
     requires schedule { IsInRange schedule.now }
-    requires starts { length schedule.now.starts ≡ phase_count system.now }
-    requires widths { length schedule.now.widths ≡ phase_count system.now }
-    requires departures { length departures.now ≡ element_count system.now }
+    requires starts { length schedule.now.starts ≡ phase_count system.now.flat }
+    requires widths { length schedule.now.widths ≡ phase_count system.now.flat }
+    requires departures { length departures.now ≡ element_count system.now.flat }
     requires chain { IsChainInRange chain.now }
     requires members { All (IsMember system.now) chain.now }
-    ensures { IfOk result (λ text. IsLeastReport system.now schedule.now departures.now chain.now text.items) }
+    ensures { IfOk result (λ text. IsLeastReport system.now.flat schedule.now departures.now chain.now text.items) }
 {
     let flat = system.flat();
     let mut lines = Lines::new(alloc);
@@ -124,7 +124,7 @@ fn least_text(
 fn never_text(alloc: Global, system: &System, chain: &[Member]) -> Result<Vec<u8>, OutOfMemory>
     requires chain { IsChainInRange chain.now }
     requires members { All (IsMember system.now) chain.now }
-    ensures { IfOk result (λ text. text.items ≡ text_of (codes "never" ∷ chain_lines system.now chain.now)) }
+    ensures { IfOk result (λ text. text.items ≡ text_of (codes "never" ∷ chain_lines system.now.flat chain.now)) }
 {
     let mut lines = Lines::new(alloc);
     lines.put(b"never\n")?;
@@ -143,7 +143,7 @@ pub fn report_text(
 ) -> Result<Vec<u8>, OutOfMemory>
     requires valid { IsValid system.now certificate.now }
     requires in_range { IsCertificateInRange certificate.now }
-    ensures { IfOk result (λ text. IsReportText system.now certificate.now text.items) }
+    ensures { IfOk result (λ text. IsReportText system.now.flat certificate.now text.items) }
 {
     match certificate {
         Certificate::Least {

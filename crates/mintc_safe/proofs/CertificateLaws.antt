@@ -38,14 +38,14 @@ some_closed (k ∷ ks) h = omega arith
 
 module _ (t : Timing) (limits : IsDesign t.flat) (kept : IsTiming t.flat t.order t.pairs) where
   abbrev list_of : Constraints
-  list_of = constraints_of (node_count t) (safe_links_of t)
+  list_of = constraints_of (node_count t.flat) (safe_links_of t)
 
   ends : HasEnds t
   ends = ends_of t kept.extremes
 
   module _ (chain : List ℕ) (named : NamesChain (safe_links_of t) chain) (members : List SafeMember) (stand : StandForAll t (safe_links_of t) chain members) where
     abbrev mine : List Link
-    mine = links_of_safe t members
+    mine = links_of_safe t.flat members
 
     abbrev named_links : List Link
     named_links = links_at (safe_links_of t) chain
@@ -53,17 +53,17 @@ module _ (t : Timing) (limits : IsDesign t.flat) (kept : IsTiming t.flat t.order
     ring : IsSafeRing t members
     ring = record { each = stand.each; closed = same_closed mine named_links stand.same named.chain.closed }
 
-    once : EntersOnce t members
+    once : EntersOnce t.flat members
     once = same_once mine named_links stand.same (AllPairs-named (safe_links_of t) chain named.once)
 
     chain_in : IsSafeChainInRange members
     chain_in =
         let all = safe_links_are_ordinary_lem t limits kept in
-        let few = few_links (node_count t) (safe_links_of t) all chain named in
+        let few = few_links (node_count t.flat) (safe_links_of t) all chain named in
         let most = all.nodes.1 in
         let some = some_closed mine ring.closed in
         let count = same_length mine named_links stand.same in
-        let first = length-map members (link_of_safe t) in
+        let first = length-map members (link_of_safe t.flat) in
         let second = length-map chain (link_at (safe_links_of t)) in
         record { some = omega arith; most = omega arith; each = stand.counted }
 
@@ -75,12 +75,12 @@ module _ (t : Timing) (limits : IsDesign t.flat) (kept : IsTiming t.flat t.order
 
   module _ (room : Space) (cycle : Ratio) (found : IsLeast list_of cycle room) where
     abbrev s : Schedule
-    s = schedule_of t cycle.num cycle.den room.values
+    s = schedule_of t.flat cycle.num cycle.den room.values
 
     abbrev d : List ℤ
-    d = departures_of t room.values
+    d = departures_of t.flat room.values
 
-    pub sayable : AreSayable t room.values
+    pub sayable : AreSayable t.flat room.values
     sayable = are_sayable t limits cycle found.cycle_is room.values (exact t limits ends cycle room.values found.cycle_is.fraction found.values)
 
     is_safe : IsSafe t s d
@@ -92,7 +92,7 @@ module _ (t : Timing) (limits : IsDesign t.flat) (kept : IsTiming t.flat t.order
         let delay = delays room.chain found.chain members stand in
         let cycles = turns room.chain found.chain members stand in
         let elements = limits.elements in
-        let all = length-map-range_with_len (departure_of t room.values) 0 (element_count t) in
+        let all = length-map-range_with_len (departure_of t.flat room.values) 0 (element_count t.flat) in
         rw (s_is, d_is) (record {
           valid = (is_safe, ring room.chain found.chain members stand, record { turns = rw cycles found.tight.turns; tight = rw (delay, cycles) found.tight.tight });
           optimal = (is_safe, tight_is_safe_cycle_lem t cycle room.values (links_at (safe_links_of t) room.chain) limits ends found.cycle_is.fraction found.values found.chain.chain found.tight);

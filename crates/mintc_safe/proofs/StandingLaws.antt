@@ -28,7 +28,7 @@ use Rattle.mintc_safe.proofs.HoldLaws.{All-holds}
 
 -- What is known of a safe link by its kind: it is the hold of a pair, or a link of the design.
 abbrev pub IsOfSafeKind : Timing → Link → LinkKind → Type 0
-IsOfSafeKind t k (kind.Other n) = (n < length t.pairs) × ((element_at t (pair_at t n).to).has_hold ≡ true) × (k ≡ hold_link_of t (n, pair_at t n))
+IsOfSafeKind t k (kind.Other n) = (n < length t.pairs) × ((element_at t.flat (pair_at t n).to).has_hold ≡ true) × (k ≡ hold_link_of t.flat (n, pair_at t n))
 IsOfSafeKind t k which = Contains (links_of t) k
 
 module _ (t : Timing) (limits : IsDesign t.flat) where
@@ -55,7 +55,7 @@ module _ (t : Timing) (limits : IsDesign t.flat) where
 
   module _ (kept : IsTiming t.flat t.order t.pairs) where
     -- The member that stands for a listed reach has a path with the greatest delay.
-    slowest : (k : Link) (m : Member) → Contains (links_of t) k → link_of t m ≡ k → IsSlowest t m
+    slowest : (k : Link) (m : Member) → Contains (links_of t) k → link_of t.flat m ≡ k → IsSlowest t.flat m
     slowest k (member.Reach j l path) listed same =
         let h = of_kind t limits k (kind.Reach j l) (ap (λ (x : Link). x.kind) (sym same)) listed in
         let greatest = (kept.extremes.each h.0 no_pair h.1).greatest in
@@ -70,14 +70,14 @@ module _ (t : Timing) (limits : IsDesign t.flat) where
     plain_stands k m listed h = record { member = (h.member, slowest k m listed h.same); same = ap bare h.same; counted = h.counted }
 
     -- The member for the hold of a pair, with a path that has the pair's least delay.
-    pub hold_stands : (n : ℕ) (p : Pair) (path : List ℕ) → n < length t.pairs → (element_at t (pair_at t n).to).has_hold ≡ true → p ≡ pair_at t n →
-        IsPath t.flat.arcs p.from path (input_of p.to) → least_delay t.flat.arcs path ≡ p.min → StandsFor t (hold_link_of t (n, pair_at t n)) (Hold p.from p.to path)
-    hold_stands n p path h held is is_path summed = subst (λ (q : Pair). StandsFor t (hold_link_of t (n, q)) (Hold p.from p.to path)) is stands
+    pub hold_stands : (n : ℕ) (p : Pair) (path : List ℕ) → n < length t.pairs → (element_at t.flat (pair_at t n).to).has_hold ≡ true → p ≡ pair_at t n →
+        IsPath t.flat.arcs p.from path (input_of p.to) → least_delay t.flat.arcs path ≡ p.min → StandsFor t (hold_link_of t.flat (n, pair_at t n)) (Hold p.from p.to path)
+    hold_stands n p path h held is is_path summed = subst (λ (q : Pair). StandsFor t (hold_link_of t.flat (n, q)) (Hold p.from p.to path)) is stands
       where
         ends : HasExtremes t.flat p
         ends = subst (λ (q : Pair). HasExtremes t.flat q) (sym is) (kept.extremes.each n no_pair h)
 
-        stands : StandsFor t (hold_link_of t (n, p)) (Hold p.from p.to path)
+        stands : StandsFor t (hold_link_of t.flat (n, p)) (Hold p.from p.to path)
         stands =
             let from = ends.from in
             let to = ends.to in
@@ -89,11 +89,11 @@ module _ (t : Timing) (limits : IsDesign t.flat) where
               member = (
                 from,
                 to,
-                subst (λ (q : Pair). (element_at t q.to).has_hold ≡ true) (sym is) held,
+                subst (λ (q : Pair). (element_at t.flat q.to).has_hold ≡ true) (sym is) held,
                 is_path,
                 subst (λ (x : ℤ). IsLeastDelay t.flat.arcs p.from (input_of p.to) x) (sym summed) ends.least,
               );
-              same = ap (λ (x : ℤ). bare (hold_link t 0 p.from p.to x)) summed;
+              same = ap (λ (x : ℤ). bare (hold_link t.flat 0 p.from p.to x)) summed;
               counted = (omega arith, omega arith, omega arith, is_path.0, arcs_below t.flat.arcs (2 * p.from + 1) path (2 * p.to) 999999999 (omega arith) is_path.1);
             }
 
@@ -102,9 +102,9 @@ pub stand_read : (t : Timing) (links : List Link) (chain : List ℕ) (i : ℕ) (
     StandForAll t links (take i chain) members → StandsFor t (get_or links (get_or chain i 0) d) m → StandForAll t links (take (i + 1) chain) (members ++ m ∷ [])
 stand_read t links chain i members m d h exist before here = record {
   each = All-push (IsSafeMember t) members m before.each here.member;
-  same = ap (map bare) (map-append (link_of_safe t) members (m ∷ []))
-      ∙ map-append bare (links_of_safe t members) (link_of_safe t m ∷ [])
-      ∙ ap (λ (ks : List Link). ks ++ bare (link_of_safe t m) ∷ []) before.same
+  same = ap (map bare) (map-append (link_of_safe t.flat) members (m ∷ []))
+      ∙ map-append bare (links_of_safe t.flat members) (link_of_safe t.flat m ∷ [])
+      ∙ ap (λ (ks : List Link). ks ++ bare (link_of_safe t.flat m) ∷ []) before.same
       ∙ ap (λ (k : Link). map bare (links_at links (take i chain)) ++ k ∷ []) (here.same ∙ ap bare (get_or_default links (get_or chain i 0) d no_link (exist i 0 h)))
       ∙ sym (ap (λ (ns : List ℕ). map bare (links_at links ns)) (take_more chain i 0 h)
       ∙ ap (map bare) (map-append (link_at links) (take i chain) (get_or chain i 0 ∷ []))

@@ -4,7 +4,7 @@ use Rattle.std.specs.Prelude.{◌≡◌, ◌<◌, pos, ◌*ℤ◌, ◌<ℤ◌, �
 use Rattle.mintc_timing.specs.declared.clocking.Schedule.{Schedule}
 use Rattle.mintc_timing.specs.declared.link.Link.{Link}
 use Rattle.mintc_rings.specs.Rings.{IsClosed}
-use Rattle.mintc_timing.specs.Design.{Timing, element_count, element_at}
+use Rattle.mintc_timing.specs.Design.{Design, Timing, element_count, element_at}
 use Rattle.mintc_timing.specs.Paths.{IsPath, input_of, greatest_delay, least_delay, IsGreatestDelay, IsLeastDelay}
 use Rattle.mintc_timing.specs.Links.{IsTight, IsStuck}
 use Rattle.mintc_certificate.specs.declared.members.Member.{Member}
@@ -24,36 +24,36 @@ use Rattle.mintc_timing.specs.declared.link.LinkKind.TheVariants as kind
 use Rattle.mintc_ratio.specs.Chains.{links_at}
 
 -- A reach's path has the greatest delay of all paths between its two elements.
-abbrev pub IsSlowest : Timing → Member → Type 0
-IsSlowest t (member.Reach j l path) = IsGreatestDelay t.flat.arcs j (input_of l) (greatest_delay t.flat.arcs path)
-IsSlowest t m = Unit {0}
+abbrev pub IsSlowest : Design → Member → Type 0
+IsSlowest design (member.Reach j l path) = IsGreatestDelay design.arcs j (input_of l) (greatest_delay design.arcs path)
+IsSlowest design m = Unit {0}
 
 -- The member names what the design has. A reach carries a listed path with the greatest delay; a hold leads to an element
 -- with a hold, and carries one with the least.
 abbrev pub IsSafeMember : Timing → SafeMember → Type 0
-IsSafeMember t (Plain m) = IsMember t m × IsSlowest t m
+IsSafeMember t (Plain m) = IsMember t m × IsSlowest t.flat m
 IsSafeMember t (Hold j l path) =
-    (j < element_count t) × (l < element_count t) × IsTrue (element_at t l).has_hold × IsPath t.flat.arcs j path (input_of l)
+    (j < element_count t.flat) × (l < element_count t.flat) × IsTrue (element_at t.flat l).has_hold × IsPath t.flat.arcs j path (input_of l)
     × IsLeastDelay t.flat.arcs j (input_of l) (least_delay t.flat.arcs path)
 
 -- The link that a member stands for; that of a hold bears number 0, for its number says nothing.
-abbrev pub link_of_safe : Timing → SafeMember → Link
-link_of_safe t (Plain m) = link_of t m
-link_of_safe t (Hold j l path) = hold_link t 0 j l (least_delay t.flat.arcs path)
+abbrev pub link_of_safe : Design → SafeMember → Link
+link_of_safe design (Plain m) = link_of design m
+link_of_safe design (Hold j l path) = hold_link design 0 j l (least_delay design.arcs path)
 
-abbrev pub links_of_safe : Timing → List SafeMember → List Link
-links_of_safe t members = map (link_of_safe t) members
+abbrev pub links_of_safe : Design → List SafeMember → List Link
+links_of_safe design members = map (link_of_safe design) members
 
 -- The members are the design's and lead round in a ring.
 pub record IsSafeRing (t : Timing) (members : List SafeMember) : Type 0 where
   pub each : All (IsSafeMember t) members
-  pub closed : IsClosed (λ k. k.from) (λ k. k.to) (links_of_safe t members)
+  pub closed : IsClosed (λ k. k.from) (λ k. k.to) (links_of_safe t.flat members)
 
 -- The schedule is right and keeps each hold, and a ring shows that its cycle is the least; or a ring shows that there is
 -- none.
 abbrev pub IsSafeValid : Timing → SafeCertificate → Type 0
-IsSafeValid t (Least schedule departures chain) = IsSafe t schedule departures × IsSafeRing t chain × IsTight (links_of_safe t chain) schedule.cycle schedule.den
-IsSafeValid t (Never chain) = IsSafeRing t chain × IsStuck (links_of_safe t chain)
+IsSafeValid t (Least schedule departures chain) = IsSafe t schedule departures × IsSafeRing t chain × IsTight (links_of_safe t.flat chain) schedule.cycle schedule.den
+IsSafeValid t (Never chain) = IsSafeRing t chain × IsStuck (links_of_safe t.flat chain)
 
 abbrev pub IsSafeOptimal : Timing → SafeCertificate → Type 0
 IsSafeOptimal t (Least schedule departures chain) = IsSafe t schedule departures × IsSafeCycle t schedule.cycle schedule.den
@@ -62,16 +62,16 @@ IsSafeOptimal t (Never chain) = IsHopelessForHold t
 -- Of all solutions of the safe links at its cycle time, the schedule with its departures is the earliest. The departure of a
 -- flop is 0, as it is exact.
 abbrev pub HasSafeEarliest : Timing → SafeCertificate → Type 0
-HasSafeEarliest t (Least schedule departures chain) = IsEarliest t (safe_links_of t) schedule departures
+HasSafeEarliest t (Least schedule departures chain) = IsEarliest t.flat (safe_links_of t) schedule departures
 HasSafeEarliest t (Never chain) = Unit {0}
 
 -- The chain enters no node twice.
-abbrev pub EntersOnce : Timing → List SafeMember → Type 0
-EntersOnce t chain = AllPairs (λ a b. a.to ≢ b.to) (links_of_safe t chain)
+abbrev pub EntersOnce : Design → List SafeMember → Type 0
+EntersOnce design chain = AllPairs (λ a b. a.to ≢ b.to) (links_of_safe design chain)
 
-abbrev pub HasSafeSimple : Timing → SafeCertificate → Type 0
-HasSafeSimple t (Least schedule departures chain) = EntersOnce t chain
-HasSafeSimple t (Never chain) = EntersOnce t chain
+abbrev pub HasSafeSimple : Design → SafeCertificate → Type 0
+HasSafeSimple design (Least schedule departures chain) = EntersOnce design chain
+HasSafeSimple design (Never chain) = EntersOnce design chain
 
 -- The numbers of a member are counts, and a hold has an arc.
 abbrev pub IsSafeCounted : SafeMember → Type 0
@@ -101,7 +101,7 @@ pub record IsSafeOptimum (t : Timing) (certificate : SafeCertificate) : Type 0 w
   pub valid : IsSafeValid t certificate
   pub optimal : IsSafeOptimal t certificate
   pub earliest : HasSafeEarliest t certificate
-  pub simple : HasSafeSimple t certificate
+  pub simple : HasSafeSimple t.flat certificate
   pub in_range : IsSafeInRange certificate
 
 -- the link without its kind, on which no sum of a chain rests
@@ -111,11 +111,11 @@ bare k = record k { kind = kind.Other 0 }
 -- The member names what the design has, and stands for the link, its kind aside.
 pub record StandsFor (t : Timing) (k : Link) (m : SafeMember) : Type 0 where
   pub member : IsSafeMember t m
-  pub same : bare (link_of_safe t m) ≡ bare k
+  pub same : bare (link_of_safe t.flat m) ≡ bare k
   pub counted : IsSafeCounted m
 
 -- The members stand for the links of these numbers, in order.
 pub record StandForAll (t : Timing) (links : List Link) (chain : List ℕ) (members : List SafeMember) : Type 0 where
   pub each : All (IsSafeMember t) members
-  pub same : map bare (links_of_safe t members) ≡ map bare (links_at links chain)
+  pub same : map bare (links_of_safe t.flat members) ≡ map bare (links_at links chain)
   pub counted : All IsSafeCounted members

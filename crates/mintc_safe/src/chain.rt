@@ -31,8 +31,8 @@ fn hold_of(
     number: u32,
 ) -> Result<SafeMember, OutOfMemory>
     requires number { number < length system.now.pairs }
-    requires held { IsTrue (is_held_of system.now (number, pair_at system.now number)) }
-    ensures { IfOk result (StandsFor system.now (hold_link_of system.now (number, pair_at system.now number))) }
+    requires held { IsTrue (is_held_of system.now.flat (number, pair_at system.now number)) }
+    ensures { IfOk result (StandsFor system.now (hold_link_of system.now.flat (number, pair_at system.now number))) }
 {
     let _elements = system.flat().elements();
     let _pairs = system.pairs();

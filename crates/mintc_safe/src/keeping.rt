@@ -26,7 +26,7 @@ fn certificate(
     room: &Room,
     outcome: Outcome,
 ) -> Result<SafeCertificate, OutOfMemory>
-    requires list { list.now ≡ constraints_of (node_count system.now) (safe_links_of system.now) }
+    requires list { list.now ≡ constraints_of (node_count system.now.flat) (safe_links_of system.now) }
     requires searched { HasSearched list.now room.now outcome }
     ensures { IfOk result (IsSafeOptimum system.now) }
 {
@@ -53,7 +53,7 @@ pub fn safe<L: Ledger>(
     steps: &mut Steps<L>,
 ) -> Result<SafeCertificate, OutOfMemory>
     ensures optimum { IfOk result (IsSafeOptimum system.now) }
-    ensures cost { steps.new ≤ steps.old + 68 * (node_count system.now + 1) }
+    ensures cost { steps.new ≤ steps.old + 68 * (node_count system.now.flat + 1) }
 {
     let list = safe_links(alloc, system)?;
     let mut room = Room::reserve(alloc, list.nodes() as usize, list.items().len())?;

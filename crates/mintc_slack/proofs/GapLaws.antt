@@ -225,11 +225,11 @@ begun-distances list at potentials from distances count here others = record {
       (cases_eq node from);
 }
 
-pub settled-by : (t : Timing) (list : Constraints) (at : Ratio) (potentials : List ℤ) (gaps : List Gap) (l : ℕ) (distances values : List ℤ) → list ≡ constraints_of (node_count t) (links_of t) →
-    AreGaps list at potentials gaps → length distances ≡ list.nodes → element_node t l < list.nodes → AreShortest gaps (element_node t l) distances → length values ≡ length distances →
-    ((node : ℕ) → node < length distances → value_at values node ≡ value_at potentials node -ℤ value_at potentials (element_node t l) -ℤ value_at distances node) → AreSettled t at l values
+pub settled-by : (t : Timing) (list : Constraints) (at : Ratio) (potentials : List ℤ) (gaps : List Gap) (l : ℕ) (distances values : List ℤ) → list ≡ constraints_of (node_count t.flat) (links_of t) →
+    AreGaps list at potentials gaps → length distances ≡ list.nodes → element_node t.flat l < list.nodes → AreShortest gaps (element_node t.flat l) distances → length values ≡ length distances →
+    ((node : ℕ) → node < length distances → value_at values node ≡ value_at potentials node -ℤ value_at potentials (element_node t.flat l) -ℤ value_at distances node) → AreSettled t at l values
 settled-by t list at potentials gaps l distances values links are count inside short long values_are =
-    let values_at : (node : ℕ) → node < list.nodes → value_at values node ≡ value_at potentials node -ℤ value_at potentials (element_node t l) -ℤ value_at distances node =
+    let values_at : (node : ℕ) → node < list.nodes → value_at values node ≡ value_at potentials node -ℤ value_at potentials (element_node t.flat l) -ℤ value_at distances node =
     λ node h. values_are node (omega arith) in
     let nodes = ap (λ (c : Constraints). c.nodes) links in
     let small = are.potentials_are.small in
@@ -242,12 +242,12 @@ settled-by t list at potentials gaps l distances values links are count inside s
           let high = near.1 in
           subst (IsWithin 200000000000000000) (sym (values_at node (omega arith)))
           (larger _ _ _ (omega arith)
-          (less-small (value_at potentials node) (value_at potentials (element_node t l)) (value_at distances node) (small node (omega arith)) (small (element_node t l) inside) (omega (arith, ints), omega (arith, ints))));
+          (less-small (value_at potentials node) (value_at potentials (element_node t.flat l)) (value_at distances node) (small node (omega arith)) (small (element_node t.flat l) inside) (omega (arith, ints), omega (arith, ints))));
       from = are_from t list links at l [] values
           (record {
             count = long ∙ count;
-            here = start-zero list at potentials gaps (element_node t l) distances values are count inside short values_at;
-            asked = all-asked list at potentials gaps (element_node t l) distances values are count inside short values_at;
-            met = all-met list at potentials gaps (element_node t l) distances values are count inside short values_at;
+            here = start-zero list at potentials gaps (element_node t.flat l) distances values are count inside short values_at;
+            asked = all-asked list at potentials gaps (element_node t.flat l) distances values are count inside short values_at;
+            met = all-met list at potentials gaps (element_node t.flat l) distances values are count inside short values_at;
           });
     }

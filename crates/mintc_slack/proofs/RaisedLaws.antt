@@ -30,23 +30,23 @@ alike-back ps qs h = record {
 }
 
 module _ (t : Timing) (ps qs : List Pair) (alike : AreAlike ps qs) where
-  between-same : (i j : ℕ) (p q : Pair) → q.from ≡ p.from → q.to ≡ p.to → is_pair_between t i j q ≡ is_pair_between t i j p
+  between-same : (i j : ℕ) (p q : Pair) → q.from ≡ p.from → q.to ≡ p.to → is_pair_between t.flat i j q ≡ is_pair_between t.flat i j p
   between-same i j p q from to =
-      ap (λ (m : ℕ). (phase_of t m == i) && (phase_of t q.to == j) && not (element_at t q.to).flop) from
-      ∙ ap (λ (m : ℕ). (phase_of t p.from == i) && (phase_of t m == j) && not (element_at t m).flop) to
+      ap (λ (m : ℕ). (phase_of t.flat m == i) && (phase_of t.flat q.to == j) && not (element_at t.flat q.to).flop) from
+      ∙ ap (λ (m : ℕ). (phase_of t.flat p.from == i) && (phase_of t.flat m == j) && not (element_at t.flat m).flop) to
 
   fed : (i j : ℕ) → feeds_of (with_pairs t qs) i j ≡ true → feeds_of (with_pairs t ps) i j ≡ true
   fed i j h =
-      let some = Any-from_list_any (is_pair_between t i j) qs h in
+      let some = Any-from_list_any (is_pair_between t.flat i j) qs h in
       let n = some.0 in
       let below : n < length ps = (let inside = some.2 in let count = alike.count in omega arith) in
       let at : get_or qs n no_pair ≡ some.1 = get_or_default qs n no_pair some.1 some.2 ∙ some.3 in
-      list_any_at (is_pair_between t i j) ps n no_pair below
-      (sym (between-same i j (get_or ps n no_pair) (get_or qs n no_pair) (alike.from n below) (alike.to n below)) ∙ ap (is_pair_between t i j) at ∙ some.4)
+      list_any_at (is_pair_between t.flat i j) ps n no_pair below
+      (sym (between-same i j (get_or ps n no_pair) (get_or qs n no_pair) (alike.from n below) (alike.to n below)) ∙ ap (is_pair_between t.flat i j) at ∙ some.4)
 
   -- What holds of each link with the one pairs, holds of each with the others, where it does at the reaches.
   pub each-alike : (P : Link → Type 0) → EachKind (with_pairs t ps) P →
-      ((n : ℕ) → n < length ps → P (reach_link t (get_or ps n no_pair).from (get_or ps n no_pair).to (get_or qs n no_pair).max)) → EachKind (with_pairs t qs) P
+      ((n : ℕ) → n < length ps → P (reach_link t.flat (get_or ps n no_pair).from (get_or ps n no_pair).to (get_or qs n no_pair).max)) → EachKind (with_pairs t qs) P
   each-alike P each reaches = record {
     start = each.start;
     cycle = each.cycle;
@@ -58,8 +58,8 @@ module _ (t : Timing) (ps qs : List Pair) (alike : AreAlike ps qs) where
     opened = each.opened;
     reach = λ n h.
         let below : n < length ps = (let count = alike.count in omega arith) in
-        subst (λ (a : ℕ). P (reach_link t a (get_or qs n no_pair).to (get_or qs n no_pair).max)) (sym (alike.from n below))
-        (subst (λ (b : ℕ). P (reach_link t (get_or ps n no_pair).from b (get_or qs n no_pair).max)) (sym (alike.to n below)) (reaches n below));
+        subst (λ (a : ℕ). P (reach_link t.flat a (get_or qs n no_pair).to (get_or qs n no_pair).max)) (sym (alike.from n below))
+        (subst (λ (b : ℕ). P (reach_link t.flat (get_or ps n no_pair).from b (get_or qs n no_pair).max)) (sym (alike.to n below)) (reaches n below));
     setup = each.setup;
     bound = each.bound;
   }
@@ -83,7 +83,7 @@ module _ (t : Timing) (ps qs : List Pair) (alike : AreAlike ps qs) where
       (λ n h.
       let here = each.reach n h in
       let most = less n h in
-      let grown = times-mono_positive ((element_at t (get_or ps n no_pair).from).dq_max +ℤ (get_or qs n no_pair).max) ((element_at t (get_or ps n no_pair).from).dq_max +ℤ (get_or ps n no_pair).max) den (omega (arith, ints)) some in
+      let grown = times-mono_positive ((element_at t.flat (get_or ps n no_pair).from).dq_max +ℤ (get_or qs n no_pair).max) ((element_at t.flat (get_or ps n no_pair).from).dq_max +ℤ (get_or ps n no_pair).max) den (omega (arith, ints)) some in
       omega (arith, ints)))
 
 -- A pair raised.

@@ -66,20 +66,20 @@ module _ (t : Timing) (limits : IsDesign t.flat) (ends : HasEnds t) (n : ℕ) (b
   raised-ends u = ends-alike t t.pairs (raised t n u).pairs (raised-alike t n below u) ends
 
   -- The moments of a right schedule, as a function, meet each link.
-  right-meets : (u : ℤ) (s : Schedule) (d : List ℤ) → IsRight (raised t n u) s d → All (IsMet s.cycle s.den (λ node. value_at (moments_of (raised t n u) s d) node)) (links_of (raised t n u))
+  right-meets : (u : ℤ) (s : Schedule) (d : List ℤ) → IsRight (raised t n u) s d → All (IsMet s.cycle s.den (λ node. value_at (moments_of (raised t n u).flat s d) node)) (links_of (raised t n u))
   right-meets u s d right = (right_has_moments_lem (raised t n u) s d limits (raised-ends u) right).moments.met
 
   -- A right schedule of the raised timing leaves one of the timing itself, and of those that are raised by less.
   right-less : (u : ℤ) → pos 0 ≤ℤ u → (s : Schedule) (d : List ℤ) → IsRight (raised t n u) s d → (s' : Schedule) × (d' : List ℤ) × IsRight t s' d' × (s'.cycle ≡ s.cycle) × (s'.den ≡ s.den)
   right-less u low s d right =
-      let f = λ (node : ℕ). value_at (moments_of (raised t n u) s d) node in
+      let f = λ (node : ℕ). value_at (moments_of (raised t n u).flat s d) node in
       feasible_has_right_lem t s.cycle s.den f limits ends right.clock.den
       (holds-less t (raised t n u).pairs t.pairs (alike-back t.pairs (raised t n u).pairs (raised-alike t n below u)) s.cycle s.den f right.clock.den
       (λ m h. raised-more t n below u low m) (right-meets u s d right))
 
   right-between : (u v : ℤ) → u ≤ℤ v → (s : Schedule) (d : List ℤ) → IsRight (raised t n v) s d → (s' : Schedule) × (d' : List ℤ) × IsRight (raised t n u) s' d' × (s'.cycle ≡ s.cycle) × (s'.den ≡ s.den)
   right-between u v less s d right =
-      let f = λ (node : ℕ). value_at (moments_of (raised t n v) s d) node in
+      let f = λ (node : ℕ). value_at (moments_of (raised t n v).flat s d) node in
       feasible_has_right_lem (raised t n u) s.cycle s.den f limits (raised-ends u) right.clock.den
       (holds-less t (raised t n v).pairs (raised t n u).pairs between s.cycle s.den f right.clock.den
       (λ m h. raised-less t n below u v less m) (right-meets v s d right))
@@ -101,7 +101,7 @@ module _ (t : Timing) (limits : IsDesign t.flat) (ends : HasEnds t) (n : ℕ) (b
     abbrev f : ℕ → ℤ
     f node = value_at values node
 
-    pub there : pos 0 ≤ℤ room_of t at values p
+    pub there : pos 0 ≤ℤ room_of t.flat at values p
     there =
         let each = EachKind-from_all t (IsMet at.num at.den (value_at values)) from.met in
         let here = each.reach n below in
@@ -109,29 +109,29 @@ module _ (t : Timing) (limits : IsDesign t.flat) (ends : HasEnds t) (n : ℕ) (b
         omega (arith, ints)
 
     -- Raised by what there is room for, the pair's link still holds of the values.
-    raised-holds : (u : ℤ) → pos 0 ≤ℤ u → (u *ℤ at.den) ≤ℤ room_of t at values p → All (IsMet at.num at.den f) (links_of (raised t n u))
+    raised-holds : (u : ℤ) → pos 0 ≤ℤ u → (u *ℤ at.den) ≤ℤ room_of t.flat at values p → All (IsMet at.num at.den f) (links_of (raised t n u))
     raised-holds u low fits =
         All-links (raised t n u) (IsMet at.num at.den f) (each-alike t t.pairs (raised t n u).pairs (raised-alike t n below u) (IsMet at.num at.den f) each reaches)
       where
         each : EachKind t (IsMet at.num at.den f)
         each = EachKind-from_all t (IsMet at.num at.den f) from.met
 
-        here : IsMet at.num at.den f (reach_link t p.from p.to (p.max +ℤ u))
+        here : IsMet at.num at.den f (reach_link t.flat p.from p.to (p.max +ℤ u))
         here =
-            let sum : (element_at t p.from).dq_max +ℤ (p.max +ℤ u) ≡ ((element_at t p.from).dq_max +ℤ p.max) +ℤ u = omega (arith, ints) in
+            let sum : (element_at t.flat p.from).dq_max +ℤ (p.max +ℤ u) ≡ ((element_at t.flat p.from).dq_max +ℤ p.max) +ℤ u = omega (arith, ints) in
             let same = ap (λ (x : ℤ). x *ℤ at.den) sum in
-            let split = add-times ((element_at t p.from).dq_max +ℤ p.max) u at.den in
+            let split = add-times ((element_at t.flat p.from).dq_max +ℤ p.max) u at.den in
             let zero = from.zero in
             omega (arith, ints)
 
-        reaches : (m : ℕ) → m < length t.pairs → IsMet at.num at.den f (reach_link t (pair_at t m).from (pair_at t m).to (pair_at (raised t n u) m).max)
+        reaches : (m : ℕ) → m < length t.pairs → IsMet at.num at.den f (reach_link t.flat (pair_at t m).from (pair_at t m).to (pair_at (raised t n u) m).max)
         reaches m h = ⊎_elim
-            (λ (e : m ≡ n). subst (λ (k : ℕ). IsMet at.num at.den f (reach_link t (pair_at t k).from (pair_at t k).to (pair_at (raised t n u) k).max)) (sym e)
-            (subst (λ (x : ℤ). IsMet at.num at.den f (reach_link t p.from p.to x)) (sym (ap (λ (q : Pair). q.max) (raised-here t n below u))) here))
-            (λ (e : m ≡ n → ⊥). subst (λ (x : ℤ). IsMet at.num at.den f (reach_link t (pair_at t m).from (pair_at t m).to x)) (sym (ap (λ (q : Pair). q.max) (raised-else t n below u m e))) (each.reach m h))
+            (λ (e : m ≡ n). subst (λ (k : ℕ). IsMet at.num at.den f (reach_link t.flat (pair_at t k).from (pair_at t k).to (pair_at (raised t n u) k).max)) (sym e)
+            (subst (λ (x : ℤ). IsMet at.num at.den f (reach_link t.flat p.from p.to x)) (sym (ap (λ (q : Pair). q.max) (raised-here t n below u))) here))
+            (λ (e : m ≡ n → ⊥). subst (λ (x : ℤ). IsMet at.num at.den f (reach_link t.flat (pair_at t m).from (pair_at t m).to x)) (sym (ap (λ (q : Pair). q.max) (raised-else t n below u m e))) (each.reach m h))
             (cases_eq m n)
 
-    pub kept : (u : ℤ) → pos 0 ≤ℤ u → (u *ℤ at.den) ≤ℤ room_of t at values p → IsLeastCycle (raised t n u) at.num at.den
+    pub kept : (u : ℤ) → pos 0 ≤ℤ u → (u *ℤ at.den) ≤ℤ room_of t.flat at values p → IsLeastCycle (raised t n u) at.num at.den
     kept u low fits =
         let found = feasible_has_right_lem (raised t n u) at.num at.den f limits (raised-ends u) least.positive (raised-holds u low fits) in
         record {
@@ -147,13 +147,13 @@ module _ (t : Timing) (limits : IsDesign t.flat) (ends : HasEnds t) (n : ℕ) (b
         at_least s' s cycle_is den_is h = rw (← cycle_is, ← den_is) h
 
     -- Raised by more, the pair's link and the greatest walk back are a chain that takes more than its cycles.
-    walk : (walk : List ℕ) × Leads (links_of t) (element_node t p.to) walk (output_node t p.from) × (asked_by at (links_at (links_of t) walk) ≡ value_at values (output_node t p.from))
-    walk = from.walked (output_node t p.from) (output_below (element_at t p.from).flop)
+    walk : (walk : List ℕ) × Leads (links_of t) (element_node t.flat p.to) walk (output_node t.flat p.from) × (asked_by at (links_at (links_of t) walk) ≡ value_at values (output_node t.flat p.from))
+    walk = from.walked (output_node t.flat p.from) (output_below (element_at t.flat p.from).flop)
       where
-        named : p.from < element_count t
+        named : p.from < element_count t.flat
         named = (ends n no_pair below).0
 
-        output_below : (b : Bool) → cond b (start_node (phase_of t p.from)) (element_node t p.from) < node_count t
+        output_below : (b : Bool) → cond b (start_node (phase_of t.flat p.from)) (element_node t.flat p.from) < node_count t.flat
         output_below true = let phase = (limits.each_element p.from no_element named).phase in let low = phase.0 in let high = phase.1 in omega arith
         output_below false = omega arith
 
@@ -161,52 +161,52 @@ module _ (t : Timing) (limits : IsDesign t.flat) (ends : HasEnds t) (n : ℕ) (b
     back = links_at (links_of t) walk.0
 
     abbrev c : ℕ
-    c = crosses_of (phase_of t p.from) (phase_of t p.to)
+    c = crosses_of (phase_of t.flat p.from) (phase_of t.flat p.to)
 
     -- The cycle time of a right schedule of it is greater.
-    module _ (u : ℤ) (low : pos 0 ≤ℤ u) (over : room_of t at values p <ℤ (u *ℤ at.den)) (s : Schedule) (d : List ℤ) (right : IsRight (raised t n u) s d) where
+    module _ (u : ℤ) (low : pos 0 ≤ℤ u) (over : room_of t.flat at values p <ℤ (u *ℤ at.den)) (s : Schedule) (d : List ℤ) (right : IsRight (raised t n u) s d) where
       abbrev g : ℕ → ℤ
-      g node = value_at (moments_of (raised t n u) s d) node
+      g node = value_at (moments_of (raised t n u).flat s d) node
 
       met : All (IsMet s.cycle s.den g) (links_of (raised t n u))
       met = right-meets u s d right
 
-      around : (g (element_node t p.to) +ℤ asked_by (over_of s.cycle s.den) back) ≤ℤ g (output_node t p.from)
+      around : (g (element_node t.flat p.to) +ℤ asked_by (over_of s.cycle s.den) back) ≤ℤ g (output_node t.flat p.from)
       around =
           let meets = holds-less t (raised t n u).pairs t.pairs (alike-back t.pairs (raised t n u).pairs (raised-alike t n below u)) s.cycle s.den g right.clock.den (λ m h. raised-more t n below u low m) met in
-          let risen = walked s.cycle s.den g (links_of t) meets (element_node t p.to) walk.0 (output_node t p.from) walk.1 in
+          let risen = walked s.cycle s.den g (links_of t) meets (element_node t.flat p.to) walk.0 (output_node t.flat p.from) walk.1 in
           omega (arith, ints)
 
-      reach : (g (output_node t p.from) +ℤ (((element_at t p.from).dq_max +ℤ p.max) +ℤ u) *ℤ s.den -ℤ pos c *ℤ s.cycle) ≤ℤ g (element_node t p.to)
+      reach : (g (output_node t.flat p.from) +ℤ (((element_at t.flat p.from).dq_max +ℤ p.max) +ℤ u) *ℤ s.den -ℤ pos c *ℤ s.cycle) ≤ℤ g (element_node t.flat p.to)
       reach =
           let each = EachKind-from_all (raised t n u) (IsMet s.cycle s.den g) met in
           let inside : n < length (raised t n u).pairs = (let count = (raised-alike t n below u).count in omega arith) in
-          let here = subst (λ (q : Pair). IsMet s.cycle s.den g (reach_link t q.from q.to q.max)) (raised-here t n below u) (each.reach n inside) in
-          let sum : (element_at t p.from).dq_max +ℤ (p.max +ℤ u) ≡ ((element_at t p.from).dq_max +ℤ p.max) +ℤ u = omega (arith, ints) in
+          let here = subst (λ (q : Pair). IsMet s.cycle s.den g (reach_link t.flat q.from q.to q.max)) (raised-here t n below u) (each.reach n inside) in
+          let sum : (element_at t.flat p.from).dq_max +ℤ (p.max +ℤ u) ≡ ((element_at t.flat p.from).dq_max +ℤ p.max) +ℤ u = omega (arith, ints) in
           let same = ap (λ (x : ℤ). x *ℤ s.den) sum in
           omega (arith, ints)
 
-      fits : (((((element_at t p.from).dq_max +ℤ p.max) +ℤ u) +ℤ delay_of back) *ℤ s.den) ≤ℤ ((pos c +ℤ cycles_of back) *ℤ s.cycle)
+      fits : (((((element_at t.flat p.from).dq_max +ℤ p.max) +ℤ u) +ℤ delay_of back) *ℤ s.den) ≤ℤ ((pos c +ℤ cycles_of back) *ℤ s.cycle)
       fits =
-          let delays = add-times (((element_at t p.from).dq_max +ℤ p.max) +ℤ u) (delay_of back) s.den in
+          let delays = add-times (((element_at t.flat p.from).dq_max +ℤ p.max) +ℤ u) (delay_of back) s.den in
           let cycles = add-times (pos c) (cycles_of back) s.cycle in
           let one = around in
           let two = reach in
           omega (arith, ints)
 
-      too_much : ((pos c +ℤ cycles_of back) *ℤ at.num) <ℤ (((((element_at t p.from).dq_max +ℤ p.max) +ℤ u) +ℤ delay_of back) *ℤ at.den)
+      too_much : ((pos c +ℤ cycles_of back) *ℤ at.num) <ℤ (((((element_at t.flat p.from).dq_max +ℤ p.max) +ℤ u) +ℤ delay_of back) *ℤ at.den)
       too_much =
-          let delays = add-times (((element_at t p.from).dq_max +ℤ p.max) +ℤ u) (delay_of back) at.den in
-          let delays' = add-times ((element_at t p.from).dq_max +ℤ p.max) u at.den in
+          let delays = add-times (((element_at t.flat p.from).dq_max +ℤ p.max) +ℤ u) (delay_of back) at.den in
+          let delays' = add-times ((element_at t.flat p.from).dq_max +ℤ p.max) u at.den in
           let cycles = add-times (pos c) (cycles_of back) at.num in
           let is = walk.2 in
           omega (arith, ints)
 
       above : (at.num *ℤ s.den) <ℤ (s.cycle *ℤ at.den)
-      above = cross-below ((((element_at t p.from).dq_max +ℤ p.max) +ℤ u) +ℤ delay_of back) (pos c +ℤ cycles_of back) at.num at.den s.cycle s.den least.positive right.clock.den
+      above = cross-below ((((element_at t.flat p.from).dq_max +ℤ p.max) +ℤ u) +ℤ delay_of back) (pos c +ℤ cycles_of back) at.num at.den s.cycle s.den least.positive right.clock.den
           (let turns = cycles_low back in omega (arith, ints)) too_much fits
 
-    pub lost : (u : ℤ) → pos 0 ≤ℤ u → room_of t at values p <ℤ (u *ℤ at.den) → IsSlower (raised t n u) at.num at.den ⊎ IsHopeless (raised t n u)
+    pub lost : (u : ℤ) → pos 0 ≤ℤ u → room_of t.flat at values p <ℤ (u *ℤ at.den) → IsSlower (raised t n u) at.num at.den ⊎ IsHopeless (raised t n u)
     lost u low over = ⊎_elim
         (λ (slower : (num : ℤ) × (den : ℤ) × IsLeastCycle (raised t n u) num den).
         let found = slower.2.attained in
@@ -219,7 +219,7 @@ module _ (t : Timing) (limits : IsDesign t.flat) (ends : HasEnds t) (n : ℕ) (b
         (λ (none : IsHopeless (raised t n u)). inr none)
         (has_least_or_is_hopeless_lem (raised t n u) limits (raised-ends u))
 
-    whole-low : (u : ℤ) → IsWhole at (room_of t at values p) u → pos 0 ≤ℤ u
+    whole-low : (u : ℤ) → IsWhole at (room_of t.flat at values p) u → pos 0 ≤ℤ u
     whole-low u whole = by_lt_z u (pos 0)
         (λ negative.
         let none = times-mono_positive (u +ℤ pos 1) (pos 0) at.den (omega (arith, ints)) least.positive in
@@ -228,7 +228,7 @@ module _ (t : Timing) (limits : IsDesign t.flat) (ends : HasEnds t) (n : ℕ) (b
         absurd (omega (arith, ints)))
         (λ h. h)
 
-    pub slack : (u : ℤ) → IsWhole at (room_of t at values p) u → IsSlack t at.num at.den n u
+    pub slack : (u : ℤ) → IsWhole at (room_of t.flat at values p) u → IsSlack t at.num at.den n u
     slack u whole =
         let low = whole-low u whole in
         record {

@@ -44,7 +44,7 @@ module _ (t : Timing) (limits : IsDesign t.flat) (ends : HasEnds t) (list : Cons
         attained = (right.0, right.1, right.2, same right.0 right.3 right.4);
         least = λ s d other.
             tight_fits_no_less_lem (links_at list.links room.chain) cycle.num cycle.den s.cycle s.den positive found.tight
-            (met_chains_fit_lem s.cycle s.den (node_time t s d) (links_of t) (links_at list.links room.chain) (right_meets_links_lem t s d limits ends other) chain);
+            (met_chains_fit_lem s.cycle s.den (node_time t.flat s d) (links_of t) (links_at list.links room.chain) (right_meets_links_lem t s d limits ends other) chain);
       }
     where
       same : (s : Schedule) → s.cycle ≡ cycle.num → s.den ≡ cycle.den → s.cycle *ℤ cycle.den ≡ cycle.num *ℤ s.den

@@ -22,23 +22,23 @@ text-more all i line old now new h is before step =
 
 module _ (t : Timing) (extra : List ℤ) (same : length extra ≡ length t.pairs) where
   abbrev all : List (List ℕ)
-  all = map (slack_line t) (zip t.pairs extra)
+  all = map (slack_line t.flat) (zip t.pairs extra)
 
   count : length (zip t.pairs extra) ≡ length extra
   count = length-zip t.pairs extra ∙ omega arith
 
   pub slacks-more : (i : ℕ) (x : ℤ) (old now new : List ℕ) → i < length extra → get_or extra i (pos 0) ≡ x → now ≡ old ++ text_of (take i all) →
-      new ≡ now ++ ended (slack_line t (get_or t.pairs i no_pair, x)) → new ≡ old ++ text_of (take (i + 1) all)
+      new ≡ now ++ ended (slack_line t.flat (get_or t.pairs i no_pair, x)) → new ≡ old ++ text_of (take (i + 1) all)
   slacks-more i x old now new h is before step =
       let inside : i < length (zip t.pairs extra) = (let c = count in omega arith) in
       let pairs : i < length t.pairs = omega arith in
       let at : get_or (zip t.pairs extra) i (no_pair, pos 0) ≡ (get_or t.pairs i no_pair, x) =
       get_or-zip t.pairs extra i (no_pair, pos 0) pairs h ∙ ap (λ (y : ℤ). (get_or t.pairs i no_pair, y)) is in
-      let line = slack_line t (get_or t.pairs i no_pair, x) in
-      let listed : i < length all = rw (length-map (zip t.pairs extra) (slack_line t)) inside in
-      text-more all i line old now new listed (get_or-map (slack_line t) (zip t.pairs extra) i (no_pair, pos 0) line inside ∙ ap (slack_line t) at) before step
+      let line = slack_line t.flat (get_or t.pairs i no_pair, x) in
+      let listed : i < length all = rw (length-map (zip t.pairs extra) (slack_line t.flat)) inside in
+      text-more all i line old now new listed (get_or-map (slack_line t.flat) (zip t.pairs extra) i (no_pair, pos 0) line inside ∙ ap (slack_line t.flat) at) before step
 
   pub slacks-all : (i : ℕ) (old now : List ℕ) → length extra ≤ i → now ≡ old ++ text_of (take i all) → now ≡ old ++ text_of all
   slacks-all i old now h before =
-      let most : length all ≤ i = rw (length-map (zip t.pairs extra) (slack_line t)) (let c = count in omega arith) in
+      let most : length all ≤ i = rw (length-map (zip t.pairs extra) (slack_line t.flat)) (let c = count in omega arith) in
       before ∙ ap (λ (ls : List (List ℕ)). old ++ text_of ls) (take_all i all most)

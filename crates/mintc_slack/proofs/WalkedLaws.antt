@@ -32,21 +32,21 @@ longer links k a b c h from to rest =
     (found.0 ∷ rest.0, (found.1, leaves, rw ends rest.1))
 
 -- a walk from each element back to time 0
-pub back_of : (t : Timing) → IsDesign t.flat → (l : ℕ) → l < element_count t → (walk : List ℕ) × Leads (links_of t) (element_node t l) walk 0
-back_of t limits l h = go (element_at t l).flop refl
+pub back_of : (t : Timing) → IsDesign t.flat → (l : ℕ) → l < element_count t.flat → (walk : List ℕ) × Leads (links_of t) (element_node t.flat l) walk 0
+back_of t limits l h = go (element_at t.flat l).flop refl
   where
-    p : IsPhase (phase_count t) (phase_of t l)
+    p : IsPhase (phase_count t.flat) (phase_of t.flat l)
     p = (limits.each_element l no_element h).phase
 
-    home : (walk : List ℕ) × Leads (links_of t) (start_node (phase_of t l)) walk 0
-    home = longer (links_of t) (cycle_link (phase_of t l)) (start_node (phase_of t l)) 0 0 ((stands t).cycle (phase_of t l) p) refl refl ([], refl)
+    home : (walk : List ℕ) × Leads (links_of t) (start_node (phase_of t.flat l)) walk 0
+    home = longer (links_of t) (cycle_link (phase_of t.flat l)) (start_node (phase_of t.flat l)) 0 0 ((stands t).cycle (phase_of t.flat l) p) refl refl ([], refl)
 
-    go : (b : Bool) → (element_at t l).flop ≡ b → (walk : List ℕ) × Leads (links_of t) (element_node t l) walk 0
-    go true flop = longer (links_of t) (setup_link t l) (element_node t l) (start_node (phase_of t l)) 0 ((stands t).setup l h) refl
-        (ap (λ (b : Bool). cond b (start_node (phase_of t l)) (end_node (phase_of t l))) flop) home
-    go false latch = longer (links_of t) (setup_link t l) (element_node t l) (end_node (phase_of t l)) 0 ((stands t).setup l h) refl
-        (ap (λ (b : Bool). cond b (start_node (phase_of t l)) (end_node (phase_of t l))) latch)
-        (longer (links_of t) (span_link (phase_of t l)) (end_node (phase_of t l)) (start_node (phase_of t l)) 0 ((stands t).span (phase_of t l) p) refl refl home)
+    go : (b : Bool) → (element_at t.flat l).flop ≡ b → (walk : List ℕ) × Leads (links_of t) (element_node t.flat l) walk 0
+    go true flop = longer (links_of t) (setup_link t.flat l) (element_node t.flat l) (start_node (phase_of t.flat l)) 0 ((stands t).setup l h) refl
+        (ap (λ (b : Bool). cond b (start_node (phase_of t.flat l)) (end_node (phase_of t.flat l))) flop) home
+    go false latch = longer (links_of t) (setup_link t.flat l) (element_node t.flat l) (end_node (phase_of t.flat l)) 0 ((stands t).setup l h) refl
+        (ap (λ (b : Bool). cond b (start_node (phase_of t.flat l)) (end_node (phase_of t.flat l))) latch)
+        (longer (links_of t) (span_link (phase_of t.flat l)) (end_node (phase_of t.flat l)) (start_node (phase_of t.flat l)) 0 ((stands t).span (phase_of t.flat l) p) refl refl home)
 
 -- what the code begins with
 module _ (list : Constraints) (at : Ratio) (from : ℕ) (starts : List ℤ) (count : length starts ≡ list.nodes) (here : value_at starts from ≡ pos 0)
@@ -76,24 +76,24 @@ module _ (list : Constraints) (at : Ratio) (from : ℕ) (starts : List ℤ) (cou
         (cases_eq v from)
 
 -- and what it ends with
-module _ (t : Timing) (list : Constraints) (list_is : list ≡ constraints_of (node_count t) (links_of t)) (at : Ratio) (l : ℕ) (starts values : List ℤ) where
-  pub are_from : AreGreatestFrom list at (element_node t l) values → AreFrom t at l values
+module _ (t : Timing) (list : Constraints) (list_is : list ≡ constraints_of (node_count t.flat) (links_of t)) (at : Ratio) (l : ℕ) (starts values : List ℤ) where
+  pub are_from : AreGreatestFrom list at (element_node t.flat l) values → AreFrom t at l values
   are_from h =
-      let g = subst (λ (c : Constraints). AreGreatestFrom c at (element_node t l) values) list_is h in
+      let g = subst (λ (c : Constraints). AreGreatestFrom c at (element_node t.flat l) values) list_is h in
       record {
         zero = g.here;
         met = λ n d below. let here = g.met n d below in omega (arith, ints);
         walked = g.asked;
       }
 
-  pub are_within : IsCycle at → IsOrdinary list → AreBounded 0 starts → StayWithin list at starts values → (node : ℕ) → node < node_count t → IsWithin 30000000000000000 (value_at values node)
+  pub are_within : IsCycle at → IsOrdinary list → AreBounded 0 starts → StayWithin list at starts values → (node : ℕ) → node < node_count t.flat → IsWithin 30000000000000000 (value_at values node)
   are_within is all bounds stay node h =
       let most = all.nodes.1 in
       let count = ap (λ (c : Constraints). c.nodes) list_is in
       larger (0 + list.nodes * 13000000000000) 30000000000000000 (value_at values node) (omega arith)
       (stay 0 13000000000000 bounds (λ n d below. let k = all.each n d below in let low = k.delay.0 in let high = k.delay.1 in asked-small at (get_or list.links n d) is (omega (arith, ints), omega (arith, ints)) k.cycles) node (omega arith))
 
-  pub are_settled : IsCycle at → IsOrdinary list → AreBounded 0 starts → StayWithin list at starts values → AreGreatestFrom list at (element_node t l) values → AreSettled t at l values
+  pub are_settled : IsCycle at → IsOrdinary list → AreBounded 0 starts → StayWithin list at starts values → AreGreatestFrom list at (element_node t.flat l) values → AreSettled t at l values
   are_settled is all bounds stay h = record {
     count = h.count ∙ ap (λ (c : Constraints). c.nodes) list_is;
     small = λ node below. larger 30000000000000000 200000000000000000 (value_at values node) (omega arith) (are_within is all bounds stay node below);

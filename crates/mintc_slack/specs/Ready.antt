@@ -16,7 +16,7 @@ pub record IsReady (t : Timing) (list : Constraints) (at : Ratio) (w : Walker) :
   pub system : w.system.now ≡ t
   pub list_is : w.list.now ≡ list
   pub at_is : w.at.now ≡ at
-  pub links : list ≡ constraints_of (node_count t) (links_of t)
+  pub links : list ≡ constraints_of (node_count t.flat) (links_of t)
   pub cycle : IsCycle at
   pub gaps : AreGaps list at w.potentials.items w.gaps.items
   pub count : length w.distances.items ≡ list.nodes

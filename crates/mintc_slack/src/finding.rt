@@ -113,7 +113,7 @@ fn extras<L: Ledger>(
     room: &mut Room,
     steps: &mut Steps<L>,
 ) -> Result<Departures, OutOfMemory>
-    requires list { list.now ≡ constraints_of (node_count system.now) (links_of system.now) }
+    requires list { list.now ≡ constraints_of (node_count system.now.flat) (links_of system.now) }
     requires cycle { IsCycle cycle.now }
     requires free { NoneForbids list.now.links cycle.now }
     requires nodes { list.now.nodes ≤ room.old.nodes }

@@ -39,7 +39,7 @@ fn put_pair(
     extra: i64,
 ) -> Result<(), OutOfMemory>
     requires { number < length system.now.pairs }
-    ensures { OnOk result (lines.new ≡ lines.old ++ ended (slack_line system.now (pair_at system.now number, extra))) }
+    ensures { OnOk result (lines.new ≡ lines.old ++ ended (slack_line system.now.flat (pair_at system.now number, extra))) }
 {
     let pair = system.pair(number);
     let from = system.element(pair.from);
@@ -50,7 +50,7 @@ fn put_pair(
 /// Writes the line of each pair.
 fn put_pairs(lines: &mut Lines, system: &System, extra: &[i64]) -> Result<(), OutOfMemory>
     requires { length extra.now ≡ length system.now.pairs }
-    ensures { OnOk result (lines.new ≡ lines.old ++ text_of (map (slack_line system.now) (zip system.now.pairs extra.now))) }
+    ensures { OnOk result (lines.new ≡ lines.old ++ text_of (map (slack_line system.now.flat) (zip system.now.pairs extra.now))) }
 {
     for number in 0..extra.len() {
         put_pair(lines, system, number, extra[number])?;

@@ -82,36 +82,36 @@ module _ (m : ℤ) (some : pos 1 ≤ℤ m) where
     departure-times : (l : ℕ) → departure (times m d) l ≡ departure d l *ℤ m
     departure-times l = get_or-times d l
 
-    arrival-times : (p : Pair) → late_arrival t (times_schedule m s) (times m d) p ≡ late_arrival t s d p *ℤ m
+    arrival-times : (p : Pair) → late_arrival t.flat (times_schedule m s) (times m d) p ≡ late_arrival t.flat s d p *ℤ m
     arrival-times p =
         let a = departure-times p.from in
-        let b = times_assoc ((element_at t p.from).dq_max +ℤ p.max) s.den m in
-        let c = shift-times (phase_of t p.from) (phase_of t p.to) in
-        let e = add-times (departure d p.from) (((element_at t p.from).dq_max +ℤ p.max) *ℤ s.den) m in
-        let f = add-times (departure d p.from +ℤ ((element_at t p.from).dq_max +ℤ p.max) *ℤ s.den) (shift_of s (phase_of t p.from) (phase_of t p.to)) m in
+        let b = times_assoc ((element_at t.flat p.from).dq_max +ℤ p.max) s.den m in
+        let c = shift-times (phase_of t.flat p.from) (phase_of t.flat p.to) in
+        let e = add-times (departure d p.from) (((element_at t.flat p.from).dq_max +ℤ p.max) *ℤ s.den) m in
+        let f = add-times (departure d p.from +ℤ ((element_at t.flat p.from).dq_max +ℤ p.max) *ℤ s.den) (shift_of s (phase_of t.flat p.from) (phase_of t.flat p.to)) m in
         omega (arith, ints)
 
-    maps : (ps : List Pair) → map (late_arrival t (times_schedule m s) (times m d)) ps ≡ map (λ z. z *ℤ m) (map (late_arrival t s d) ps)
+    maps : (ps : List Pair) → map (late_arrival t.flat (times_schedule m s) (times m d)) ps ≡ map (λ z. z *ℤ m) (map (late_arrival t.flat s d) ps)
     maps [] = refl
-    maps (p ∷ ps) = ap (λ z. z ∷ map (late_arrival t (times_schedule m s) (times m d)) ps) (arrival-times p) ∙ ap (λ zs. (late_arrival t s d p *ℤ m) ∷ zs) (maps ps)
+    maps (p ∷ ps) = ap (λ z. z ∷ map (late_arrival t.flat (times_schedule m s) (times m d)) ps) (arrival-times p) ∙ ap (λ zs. (late_arrival t.flat s d p *ℤ m) ∷ zs) (maps ps)
 
     greatest-times : (l : ℕ) → greatest_of (late_arrivals t (times_schedule m s) (times m d) l) ≡ option_map (λ z. z *ℤ m) (greatest_of (late_arrivals t s d l))
     greatest-times l = ap greatest_of (maps (into t l)) ∙ greatest_of-times (late_arrivals t s d l)
 
-    opening-times : (l : ℕ) → late_opening t (times_schedule m s) l ≡ late_opening t s l *ℤ m
-    opening-times l = times_assoc ((element_at t l).cq_max -ℤ (element_at t l).dq_max) s.den m
+    opening-times : (l : ℕ) → late_opening t.flat (times_schedule m s) l ≡ late_opening t.flat s l *ℤ m
+    opening-times l = times_assoc ((element_at t.flat l).cq_max -ℤ (element_at t.flat l).dq_max) s.den m
 
-    served-times : (l : ℕ) → greater_of (late_opening t (times_schedule m s) l) (greatest_of (late_arrivals t (times_schedule m s) (times m d) l))
-        ≡ greater_of (late_opening t s l) (greatest_of (late_arrivals t s d l)) *ℤ m
+    served-times : (l : ℕ) → greater_of (late_opening t.flat (times_schedule m s) l) (greatest_of (late_arrivals t (times_schedule m s) (times m d) l))
+        ≡ greater_of (late_opening t.flat s l) (greatest_of (late_arrivals t s d l)) *ℤ m
     served-times l = ap (λ z. greater_of z (greatest_of (late_arrivals t (times_schedule m s) (times m d) l))) (opening-times l)
-        ∙ ap (greater_of (late_opening t s l *ℤ m)) (greatest-times l) ∙ greater_of-times (late_opening t s l) (greatest_of (late_arrivals t s d l))
+        ∙ ap (greater_of (late_opening t.flat s l *ℤ m)) (greatest-times l) ∙ greater_of-times (late_opening t.flat s l) (greatest_of (late_arrivals t s d l))
 
     cond-times : (b : Bool) (x y : ℤ) → y ≡ x *ℤ m → cond b (pos 0) y ≡ cond b (pos 0) x *ℤ m
     cond-times true x y e = sym (zero-*ℤ m)
     cond-times false x y e = e
 
     late-times : (l : ℕ) → late_departure t (times_schedule m s) (times m d) l ≡ late_departure t s d l *ℤ m
-    late-times l = cond-times (element_at t l).flop _ _ (served-times l)
+    late-times l = cond-times (element_at t.flat l).flop _ _ (served-times l)
 
     exact-times : AreExact t s d → AreExact t (times_schedule m s) (times m d)
     exact-times h = record {
@@ -138,7 +138,7 @@ module _ (m : ℤ) (some : pos 1 ≤ℤ m) where
       start = (le_by _ _ _ _ (sym (zero-*ℤ m)) (start-times p) (grown _ _ k.start.0), le_by _ _ _ _ (start-times p) refl (grown _ _ k.start.1));
       span = (le_by _ _ _ _ (sym (zero-*ℤ m)) (width-times p) (grown _ _ k.span.0), le_by _ _ _ _ (width-times p) refl (grown _ _ k.span.1));
       order = λ h. le_by _ _ _ _ (start-times p) (start-times (p + 1)) (grown _ _ (k.order h));
-      wide = le_by _ _ _ _ (times_assoc (least_width t p) s.den m) (width-times p) (grown _ _ k.wide);
+      wide = le_by _ _ _ _ (times_assoc (least_width t.flat p) s.den m) (width-times p) (grown _ _ k.wide);
       apart = λ j g h. apart-times p j (k.apart j g h);
     }
 
@@ -162,16 +162,16 @@ module _ (m : ℤ) (some : pos 1 ≤ℤ m) where
         omega (arith, ints)
 
     -- what a setup asks of a latch, and of a flop with data that comes
-    latch-times : (l : ℕ) → (int_max (pos 0) (departure d l) +ℤ (element_at t l).setup *ℤ s.den) ≤ℤ width_of s (phase_of t l) →
-        (int_max (pos 0) (departure (times m d) l) +ℤ (element_at t l).setup *ℤ (s.den *ℤ m)) ≤ℤ width_of (times_schedule m s) (phase_of t l)
+    latch-times : (l : ℕ) → (int_max (pos 0) (departure d l) +ℤ (element_at t.flat l).setup *ℤ s.den) ≤ℤ width_of s (phase_of t.flat l) →
+        (int_max (pos 0) (departure (times m d) l) +ℤ (element_at t.flat l).setup *ℤ (s.den *ℤ m)) ≤ℤ width_of (times_schedule m s) (phase_of t.flat l)
     latch-times l h =
         let a : int_max (pos 0) (departure (times m d) l) ≡ int_max (pos 0) (departure d l) *ℤ m =
         ap (λ z. int_max (pos 0) z) (departure-times l) ∙ ap (λ z. int_max z (departure d l *ℤ m)) (sym (zero-*ℤ m)) ∙ int_max-times (pos 0) (departure d l) in
-        let b = times_assoc (element_at t l).setup s.den m in
-        let c = width-times (phase_of t l) in
-        let e = add-times (int_max (pos 0) (departure d l)) ((element_at t l).setup *ℤ s.den) m in
+        let b = times_assoc (element_at t.flat l).setup s.den m in
+        let c = width-times (phase_of t.flat l) in
+        let e = add-times (int_max (pos 0) (departure d l)) ((element_at t.flat l).setup *ℤ s.den) m in
         let g = grown _ _ h in
-        le_by _ _ _ _ (ap (λ z. z +ℤ (element_at t l).setup *ℤ (s.den *ℤ m)) a ∙ ap (λ z. int_max (pos 0) (departure d l) *ℤ m +ℤ z) b ∙ sym e) c g
+        le_by _ _ _ _ (ap (λ z. z +ℤ (element_at t.flat l).setup *ℤ (s.den *ℤ m)) a ∙ ap (λ z. int_max (pos 0) (departure d l) *ℤ m +ℤ z) b ∙ sym e) c g
 
     flop-times : (setup : ℤ) (o : Option ℤ) → IfSome o (λ a. (a +ℤ setup *ℤ s.den) ≤ℤ pos 0) → IfSome (option_map (λ z. z *ℤ m) o) (λ a. (a +ℤ setup *ℤ (s.den *ℤ m)) ≤ℤ pos 0)
     flop-times setup None h = h
@@ -183,14 +183,14 @@ module _ (m : ℤ) (some : pos 1 ≤ℤ m) where
         omega (arith, ints)
 
     setup-times : (l : ℕ) → KeepsSetup t s d l → KeepsSetup t (times_schedule m s) (times m d) l
-    setup-times l = go (element_at t l).flop
+    setup-times l = go (element_at t.flat l).flop
       where
         go : (b : Bool) →
-            MatchBool b (IfSome (greatest_of (late_arrivals t s d l)) (λ a. (a +ℤ (element_at t l).setup *ℤ s.den) ≤ℤ pos 0))
-            ((int_max (pos 0) (departure d l) +ℤ (element_at t l).setup *ℤ s.den) ≤ℤ width_of s (phase_of t l)) →
-            MatchBool b (IfSome (greatest_of (late_arrivals t (times_schedule m s) (times m d) l)) (λ a. (a +ℤ (element_at t l).setup *ℤ (s.den *ℤ m)) ≤ℤ pos 0))
-            ((int_max (pos 0) (departure (times m d) l) +ℤ (element_at t l).setup *ℤ (s.den *ℤ m)) ≤ℤ width_of (times_schedule m s) (phase_of t l))
-        go true h = rw (greatest-times l) (flop-times (element_at t l).setup (greatest_of (late_arrivals t s d l)) h)
+            MatchBool b (IfSome (greatest_of (late_arrivals t s d l)) (λ a. (a +ℤ (element_at t.flat l).setup *ℤ s.den) ≤ℤ pos 0))
+            ((int_max (pos 0) (departure d l) +ℤ (element_at t.flat l).setup *ℤ s.den) ≤ℤ width_of s (phase_of t.flat l)) →
+            MatchBool b (IfSome (greatest_of (late_arrivals t (times_schedule m s) (times m d) l)) (λ a. (a +ℤ (element_at t.flat l).setup *ℤ (s.den *ℤ m)) ≤ℤ pos 0))
+            ((int_max (pos 0) (departure (times m d) l) +ℤ (element_at t.flat l).setup *ℤ (s.den *ℤ m)) ≤ℤ width_of (times_schedule m s) (phase_of t.flat l))
+        go true h = rw (greatest-times l) (flop-times (element_at t.flat l).setup (greatest_of (late_arrivals t s d l)) h)
         go false h = latch-times l h
 
     right-times : IsRight t s d → IsRight t (times_schedule m s) (times m d)

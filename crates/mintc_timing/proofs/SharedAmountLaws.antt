@@ -26,7 +26,7 @@ setup_by false o setup late width = moved (late +ℤ setup) width
 
 pub setups_have_amounts_lem : SetupsHaveAmounts
 setups_have_amounts_lem t s d l =
-    setup_by (element_at t l).flop (greatest_of (late_arrivals t s d l)) ((element_at t l).setup *ℤ s.den) (int_max (pos 0) (departure d l)) (width_of s (phase_of t l))
+    setup_by (element_at t.flat l).flop (greatest_of (late_arrivals t s d l)) ((element_at t.flat l).setup *ℤ s.den) (int_max (pos 0) (departure d l)) (width_of s (phase_of t.flat l))
 
 hold_at : (flop : Bool) (a hold width cycle : ℤ) →
     MatchBool flop (hold ≤ℤ (a +ℤ cycle)) ((width +ℤ hold) ≤ℤ (a +ℤ cycle)) ↔ ((cond flop (pos 0) width +ℤ hold -ℤ (a +ℤ cycle)) ≤ℤ pos 0)
@@ -42,7 +42,7 @@ hold_by true flop (Some a) hold width cycle = ((λ h. (hold_at flop a hold width
 
 pub holds_have_amounts_lem : HoldsHaveAmounts
 holds_have_amounts_lem t s early l =
-    hold_by (element_at t l).has_hold (element_at t l).flop (least_of (early_arrivals t s early l)) ((element_at t l).hold *ℤ s.den) (width_of s (phase_of t l)) s.cycle
+    hold_by (element_at t.flat l).has_hold (element_at t.flat l).flop (least_of (early_arrivals t s early l)) ((element_at t.flat l).hold *ℤ s.den) (width_of s (phase_of t.flat l)) s.cycle
 
 pub violations_are_determined_lem : ViolationsAreDetermined
 violations_are_determined_lem t s vs ws (inl h) (inl g) = inr (h, g)

@@ -19,10 +19,10 @@ same_numbers d e n p q h = same_lists d e (p ∙ sym q)
     (λ k x below. get_or_default d k x (pos 0) below ∙ h k (omega arith) ∙ get_or_default e k (pos 0) x (omega arith))
 
 pub late_are_determined_lem : LateAreDetermined
-late_are_determined_lem t s d e a b = same_numbers d e (element_count t) a.exact.count b.exact.count (AreLate-unique t s d e a b)
+late_are_determined_lem t s d e a b = same_numbers d e (element_count t.flat) a.exact.count b.exact.count (AreLate-unique t s d e a b)
 
 pub early_are_determined_lem : EarlyAreDetermined
-early_are_determined_lem t s d e a b = same_numbers d e (element_count t) a.exact.count b.exact.count
+early_are_determined_lem t s d e a b = same_numbers d e (element_count t.flat) a.exact.count b.exact.count
     (λ l h. let low = a.least e b.exact l h in let high = b.least d a.exact l h in omega (arith, ints))
 
 some_front : (front back : List ℕ) → front ≢ [] → (front ++ back) ≢ []

@@ -129,7 +129,7 @@ loop_of_99 : HasLoop ring of_99 (0 ∷ 1 ∷ []) (pos 1)
 loop_of_99 = record {
   is_loop = record {
     exist = All-cons (λ n. n < 2) 0 (1 ∷ []) (omega arith) (All-cons (λ n. n < 2) 1 [] (omega arith) (All-nil (λ n. n < 2)));
-    latches = All-cons (λ n. IsFalse (element_at ring (pair_at ring n).from).flop) 0 (1 ∷ []) refl (All-cons (λ n. IsFalse (element_at ring (pair_at ring n).from).flop) 1 [] refl (All-nil (λ n. IsFalse (element_at ring (pair_at ring n).from).flop)));
+    latches = All-cons (λ n. IsFalse (element_at ring.flat (pair_at ring n).from).flop) 0 (1 ∷ []) refl (All-cons (λ n. IsFalse (element_at ring.flat (pair_at ring n).from).flop) 1 [] refl (All-nil (λ n. IsFalse (element_at ring.flat (pair_at ring n).from).flop)));
     closed = (refl, refl);
     once = apart;
   };

@@ -66,7 +66,7 @@ ForbidsAll = (chain : List Link) (num den : ℤ) → IsStuck chain → pos 1 ≤
 
 -- The moments of a right schedule and its departures meet each link of the design.
 abbrev pub RightMeetsLinks : Type 0
-RightMeetsLinks = (t : Timing) (s : Schedule) (d : List ℤ) → IsDesign t.flat → HasEnds t → IsRight t s d → All (Meets t s d) (links_of t)
+RightMeetsLinks = (t : Timing) (s : Schedule) (d : List ℤ) → IsDesign t.flat → HasEnds t → IsRight t s d → All (Meets t.flat s d) (links_of t)
 
 -- So no chain of its links forbids a cycle time that a right schedule has.
 abbrev pub NoChainForbidsRight : Type 0

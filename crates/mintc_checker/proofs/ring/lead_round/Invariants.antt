@@ -8,5 +8,5 @@ use Rattle.mintc_checker.proofs.ring.lead_round.Given as goal
 -- the ring closes where the rest of it leads to the beginning
 abbrev pub invariant-loop-place : goal.invariant-loop-place
 invariant-loop-place l =
-    IsClosed (λ (k : Link). k.from) (λ (k : Link). k.to) (links_of_members (alone l.flat) l.members)
-    ↔ Joins (λ (k : Link). k.from) (λ (k : Link). k.to) l.at (drop l.place (links_of_members (alone l.flat) l.members)) l.first.from
+    IsClosed (λ (k : Link). k.from) (λ (k : Link). k.to) (links_of_members (alone l.flat).flat l.members)
+    ↔ Joins (λ (k : Link). k.from) (λ (k : Link). k.to) l.at (drop l.place (links_of_members (alone l.flat).flat l.members)) l.first.from

@@ -7,4 +7,4 @@ use Rattle.mintc_constraints.proofs.listing.append_aparts.Given as goal
 
 -- the links of the phases so far are there
 abbrev pub invariant-loop-index : goal.invariant-loop-index
-invariant-loop-index l = l.items.items ≡ l.fn.items.items ++ flat_map (λ i. map (apart_link i) (filter (feeds_of l.system i) (phases_of l.system))) (range_with_len 1 l.index)
+invariant-loop-index l = l.items.items ≡ l.fn.items.items ++ flat_map (λ i. map (apart_link i) (filter (feeds_of l.system i) (phases_of l.system.flat))) (range_with_len 1 l.index)

@@ -16,7 +16,7 @@ loop-system-preserved c =
     let elements = c.elements-count.ensures.value ∙ ap (λ d. d.elements) c.flat.ensures in
     let limits : IsDesign t.flat = rw c.flat.ensures at c.elements-count.ensures.kept in
     let own = rw elements at (c.deref.ensures.value ∙ c.in_ok-own.ensures) in
-    let ds = c.in_ok-departures.ensures.value ∙ ap (departures_of t) own in
+    let ds = c.in_ok-departures.ensures.value ∙ ap (departures_of t.flat) own in
     rw elements (
       departures_more systems i t c.loop-system-test.true c.system-item.is clock before values c.in_ok-departures.field-0 c.loop-system.all.items c.push.new.self.items (departures_of_all systems values)
           c.loop-system.invariant.0 ds c.in-Ok.ensures.items,

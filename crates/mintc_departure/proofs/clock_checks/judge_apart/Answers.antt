@@ -40,11 +40,11 @@ loop-index-preserved c =
     let place : n ≡ (n + 1) - 1 = omega arith in
     let asked = ap (λ (k : ℕ). get_or c.args.fed.now (8 * (i - 1) + k) false) place ∙ c.requires.table i (n + 1) first second in
     let amount = read_time c.apart_excess.result c.apart_excess.ensures.range ∙ c.apart_excess.ensures.value in
-    range-more (checks t s i) (parts t s i) 1 (phase_count t) n (n + 1) (omega arith) (omega arith) _ _ _ c.loop-index.invariant
+    range-more (checks t s i) (parts t s i) 1 (phase_count t.flat) n (n + 1) (omega arith) (omega arith) _ _ _ c.loop-index.invariant
     (c.in_ok-judge_if.ensures ∙ ap (λ vs. c.loop-index.violations.items ++ failed vs) (one s i (n + 1) _ _ _ asked (ap (check (broken.Apart i (n + 1))) amount)))
 
 pub returns : goal.returns
 returns c =
     let t = c.args.clocked.now.system.now in
     let s = c.args.clocked.now.schedule.now in
-    range-all (checks t s c.args.i) (parts t s c.args.i) 1 (phase_count t) c.loop-index.index (omega arith) _ _ c.loop-index.invariant
+    range-all (checks t s c.args.i) (parts t s c.args.i) 1 (phase_count t.flat) c.loop-index.index (omega arith) _ _ c.loop-index.invariant

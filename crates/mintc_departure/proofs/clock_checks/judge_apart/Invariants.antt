@@ -8,4 +8,4 @@ use Rattle.mintc_departure.proofs.clock_checks.judge_apart.Given as goal
 -- the checks with the phases so far are judged
 abbrev pub invariant-loop-index : goal.invariant-loop-index
 invariant-loop-index l =
-    l.violations.items ≡ l.fn.violations.items ++ failed (map (apart_check l.clocked.schedule.now l.i) (filter (feeds_of l.clocked.system.now l.i) (take l.index (phases_of l.clocked.system.now))))
+    l.violations.items ≡ l.fn.violations.items ++ failed (map (apart_check l.clocked.schedule.now l.i) (filter (feeds_of l.clocked.system.now l.i) (take l.index (phases_of l.clocked.system.now.flat))))

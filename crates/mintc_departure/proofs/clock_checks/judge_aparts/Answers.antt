@@ -12,10 +12,10 @@ pub loop-index-preserved : goal.loop-index-preserved
 loop-index-preserved c =
     let n = c.loop-index.index in
     let g = fed_checks c.args.clocked.now.system.now c.args.clocked.now.schedule.now in
-    range-more (flat_map g) (flat_map-append g) 1 (phase_count c.args.clocked.now.system.now) n (n + 1) (omega arith) (omega arith) _ _ _ c.loop-index.invariant
+    range-more (flat_map g) (flat_map-append g) 1 (phase_count c.args.clocked.now.system.now.flat) n (n + 1) (omega arith) (omega arith) _ _ _ c.loop-index.invariant
     (c.in_ok-judge_apart.ensures ∙ ap (λ vs. c.loop-index.violations.items ++ failed vs) (sym (append-nil (g (n + 1)))))
 
 pub returns : goal.returns
 returns c =
     let g = fed_checks c.args.clocked.now.system.now c.args.clocked.now.schedule.now in
-    range-all (flat_map g) (flat_map-append g) 1 (phase_count c.args.clocked.now.system.now) c.loop-index.index (omega arith) _ _ c.loop-index.invariant
+    range-all (flat_map g) (flat_map-append g) 1 (phase_count c.args.clocked.now.system.now.flat) c.loop-index.index (omega arith) _ _ c.loop-index.invariant

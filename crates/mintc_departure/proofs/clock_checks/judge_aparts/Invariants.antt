@@ -6,4 +6,4 @@ use Rattle.mintc_departure.proofs.clock_checks.judge_aparts.Given as goal
 
 -- the checks of the phases so far are judged
 abbrev pub invariant-loop-index : goal.invariant-loop-index
-invariant-loop-index l = l.violations.items ≡ l.fn.violations.items ++ failed (flat_map (fed_checks l.clocked.system.now l.clocked.schedule.now) (take l.index (phases_of l.clocked.system.now)))
+invariant-loop-index l = l.violations.items ≡ l.fn.violations.items ++ failed (flat_map (fed_checks l.clocked.system.now l.clocked.schedule.now) (take l.index (phases_of l.clocked.system.now.flat)))

@@ -11,7 +11,7 @@ use Rattle.mintc_departure.proofs.FailedLaws.{joined}
 use Rattle.mintc_departure.proofs.clock_checks.judge_clock.Goals as goal
 
 abbrev checks : Timing → Schedule → PhaseRule → ℕ → List Violation
-checks t s rule n = map (phase_check t s rule) (range_with_len 1 n)
+checks t s rule n = map (phase_check t.flat s rule) (range_with_len 1 n)
 
 pub returns : goal.returns
 returns c =
@@ -27,5 +27,5 @@ returns c =
     let three = joined old _ _ (a ++ b) d two c.in_ok-judge_phases-3.ensures in
     let four = joined old _ _ (a ++ b ++ d) e three c.in_ok-judge_phases-4.ensures in
     let five = joined old _ _ (a ++ b ++ d ++ e) (apart_checks t s) four c.in_ok-judge_aparts.ensures in
-    subst (λ (n : ℕ). c.judge_bounds.new.violations.items ≡ old ++ failed (checks t s Cycle n ++ checks t s Order (n - 1) ++ checks t s Span n ++ checks t s Width n ++ apart_checks t s ++ bound_checks t s))
-    c.phase_count-count.ensures.value (joined old _ _ (a ++ b ++ d ++ e ++ apart_checks t s) (bound_checks t s) five c.in_ok-judge_bounds.ensures)
+    subst (λ (n : ℕ). c.judge_bounds.new.violations.items ≡ old ++ failed (checks t s Cycle n ++ checks t s Order (n - 1) ++ checks t s Span n ++ checks t s Width n ++ apart_checks t s ++ bound_checks t.flat s))
+    c.phase_count-count.ensures.value (joined old _ _ (a ++ b ++ d ++ e ++ apart_checks t s) (bound_checks t.flat s) five c.in_ok-judge_bounds.ensures)

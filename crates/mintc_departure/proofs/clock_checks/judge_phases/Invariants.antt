@@ -6,4 +6,4 @@ use Rattle.mintc_departure.proofs.clock_checks.judge_phases.Given as goal
 
 -- the phases so far are judged
 abbrev pub invariant-loop-index : goal.invariant-loop-index
-invariant-loop-index l = l.violations.items ≡ l.fn.violations.items ++ failed (map (phase_check l.clocked.system.now l.clocked.schedule.now l.rule) (take l.index (range_with_len 1 l.count)))
+invariant-loop-index l = l.violations.items ≡ l.fn.violations.items ++ failed (map (phase_check l.clocked.system.now.flat l.clocked.schedule.now l.rule) (take l.index (range_with_len 1 l.count)))

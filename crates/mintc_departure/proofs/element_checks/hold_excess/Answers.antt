@@ -30,9 +30,9 @@ returns-clause-value c d is =
     let t = c.args.clocked.now.system.now in
     let s = c.args.clocked.now.schedule.now in
     let e : Element = c.element-element.result.now in
-    let here : e ≡ element_at t c.args.number = c.element-element.ensures.value in
-    let has : (element_at t c.args.number).has_hold ≡ true = sym (ap (λ (x : Element). x.has_hold) here) ∙ c.if-not-element.false in
-    let hold : c.scaled-hold.result ≡ (element_at t c.args.number).hold *ℤ s.den =
+    let here : e ≡ element_at t.flat c.args.number = c.element-element.ensures.value in
+    let has : (element_at t.flat c.args.number).has_hold ≡ true = sym (ap (λ (x : Element). x.has_hold) here) ∙ c.if-not-element.false in
+    let hold : c.scaled-hold.result ≡ (element_at t.flat c.args.number).hold *ℤ s.den =
     rw (read_time e.hold (IsTime-IsGap _ c.element-element.ensures.kept.hold), read_time s.den (IsTime-IsDenominator _ c.args.clocked.now.in_range.den)) at c.scaled-hold.ensures.value ∙ ap (λ (x : Element). x.hold *ℤ s.den) here in
     let amount = hold-some t s d c.args.number c.args.first c.hold_start.result c.scaled-hold.result has is (comes c) c.hold_start.ensures.value hold in
     let a = arrives c in

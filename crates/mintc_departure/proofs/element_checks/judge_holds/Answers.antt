@@ -12,10 +12,10 @@ pub loop-number-preserved : goal.loop-number-preserved
 loop-number-preserved c =
     let t = c.args.clocked.now.system.now in
     let g : ℕ → Option Violation = λ k. option_map (check (broken.Hold k)) (hold_amount t c.args.clocked.now.schedule.now c.args.room.now.early k) in
-    range-more (filter_map g) (filter_map-append g) 0 (element_count t) c.loop-number.number _ (omega arith) (omega arith) _ _ _ c.loop-number.invariant c.in_ok-judge_hold.ensures
+    range-more (filter_map g) (filter_map-append g) 0 (element_count t.flat) c.loop-number.number _ (omega arith) (omega arith) _ _ _ c.loop-number.invariant c.in_ok-judge_hold.ensures
 
 pub returns : goal.returns
 returns c =
     let t = c.args.clocked.now.system.now in
     let g : ℕ → Option Violation = λ k. option_map (check (broken.Hold k)) (hold_amount t c.args.clocked.now.schedule.now c.args.room.now.early k) in
-    range-all (filter_map g) (filter_map-append g) 0 (element_count t) c.loop-number.number (omega arith) _ _ c.loop-number.invariant
+    range-all (filter_map g) (filter_map-append g) 0 (element_count t.flat) c.loop-number.number (omega arith) _ _ c.loop-number.invariant

@@ -6,4 +6,4 @@ use Rattle.mintc_departure.proofs.element_checks.judge_holds.Given as goal
 
 -- the holds of the elements so far are judged
 abbrev pub invariant-loop-number : goal.invariant-loop-number
-invariant-loop-number l = l.violations.items ≡ l.fn.violations.items ++ failed (filter_map (λ k. option_map (check (broken.Hold k)) (hold_amount l.clocked.system.now l.clocked.schedule.now l.room.early k)) (take l.number (elements_of l.clocked.system.now)))
+invariant-loop-number l = l.violations.items ≡ l.fn.violations.items ++ failed (filter_map (λ k. option_map (check (broken.Hold k)) (hold_amount l.clocked.system.now l.clocked.schedule.now l.room.early k)) (take l.number (elements_of l.clocked.system.now.flat)))

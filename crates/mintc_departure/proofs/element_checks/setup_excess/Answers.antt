@@ -28,11 +28,11 @@ returns-then-not-element-clause-value c d leaves is =
     let t = c.args.clocked.now.system.now in
     let s = c.args.clocked.now.schedule.now in
     let e : Element = c.element-element.result.now in
-    let here : e ≡ element_at t c.args.number = c.element-element.ensures.value in
-    let latch : (element_at t c.args.number).flop ≡ false = sym (ap (λ (x : Element). x.flop) here) ∙ c.if-not-element.true in
-    let setup : c.scaled-setup.result ≡ (element_at t c.args.number).setup *ℤ s.den =
+    let here : e ≡ element_at t.flat c.args.number = c.element-element.ensures.value in
+    let latch : (element_at t.flat c.args.number).flop ≡ false = sym (ap (λ (x : Element). x.flop) here) ∙ c.if-not-element.true in
+    let setup : c.scaled-setup.result ≡ (element_at t.flat c.args.number).setup *ℤ s.den =
     rw (read_time e.setup (IsTime-IsGap _ c.element-element.ensures.kept.setup), read_time s.den (IsTime-IsDenominator _ c.args.clocked.now.in_range.den)) at c.scaled-setup.ensures.value ∙ ap (λ (x : Element). x.setup *ℤ s.den) here in
-    let wide : c.width.result ≡ width_of s (phase_of t c.args.number) = c.width.ensures.value ∙ ap (λ (x : Element). width_of s x.phase) here in
+    let wide : c.width.result ≡ width_of s (phase_of t.flat c.args.number) = c.width.ensures.value ∙ ap (λ (x : Element). width_of s x.phase) here in
     let amount = setup-latch t s d c.args.number c.args.time c.scaled-setup.result c.width.result latch leaves setup wide in
     let sum = within _ _ (opened c) c.requires.time in
     some-is (c.max.result +ℤ c.scaled-setup.result -ℤ c.width.result) _ _ (ap (λ z. Some (z +ℤ c.scaled-setup.result -ℤ c.width.result)) (opened c) ∙ amount) (omega (arith, ints))
@@ -58,9 +58,9 @@ returns-clause-value c d leaves is =
     let t = c.args.clocked.now.system.now in
     let s = c.args.clocked.now.schedule.now in
     let e : Element = c.element-element.result.now in
-    let here : e ≡ element_at t c.args.number = c.element-element.ensures.value in
-    let flop : (element_at t c.args.number).flop ≡ true = sym (ap (λ (x : Element). x.flop) here) ∙ c.if-not-element.false in
-    let setup : c.scaled-setup.result ≡ (element_at t c.args.number).setup *ℤ s.den =
+    let here : e ≡ element_at t.flat c.args.number = c.element-element.ensures.value in
+    let flop : (element_at t.flat c.args.number).flop ≡ true = sym (ap (λ (x : Element). x.flop) here) ∙ c.if-not-element.false in
+    let setup : c.scaled-setup.result ≡ (element_at t.flat c.args.number).setup *ℤ s.den =
     rw (read_time e.setup (IsTime-IsGap _ c.element-element.ensures.kept.setup), read_time s.den (IsTime-IsDenominator _ c.args.clocked.now.in_range.den)) at c.scaled-setup.ensures.value ∙ ap (λ (x : Element). x.setup *ℤ s.den) here in
     let amount = setup-flop t s d c.args.number c.args.last c.scaled-setup.result flop is (comes c) setup in
     let a = arrives c in

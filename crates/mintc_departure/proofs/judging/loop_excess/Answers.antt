@@ -28,6 +28,6 @@ loop-pair-preserved c =
     record {
       is =
           read ∙ ap (λ z. z +ℤ y) c.loop-pair.invariant.is ∙ ap (λ z. loop_amount t s (take i loop) +ℤ z) c.late_delay-amount.ensures.value
-          ∙ sym (total-more (λ n. late_travel t s (pair_at t n)) loop i 0 c.loop-pair-test.true);
+          ∙ sym (total-more (λ n. late_travel t.flat s (pair_at t n)) loop i 0 c.loop-pair-test.true);
       within = rw read (sum-within i _ y c.loop-pair.invariant.within r);
     }

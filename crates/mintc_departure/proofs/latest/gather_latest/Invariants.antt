@@ -11,7 +11,7 @@ use Rattle.mintc_departure.proofs.latest.gather_latest.Given as goal
 abbrev pub invariant-loop-number : goal.invariant-loop-number
 invariant-loop-number l = record {
   kept : l.room ≡ record l.fn.room { values = l.room.values };
-  count : length l.room.values ≡ element_count l.clocked.system.now;
-  gathered : (k : ℕ) → k < element_count l.clocked.system.now →
-      IsLast (greatest_of (map (late_arrival l.clocked.system.now l.clocked.schedule.now l.fn.room.late) (filter (λ (p : Pair). p.to == k) (take l.number l.clocked.system.now.pairs)))) (get_or l.room.values k (pos 0));
+  count : length l.room.values ≡ element_count l.clocked.system.now.flat;
+  gathered : (k : ℕ) → k < element_count l.clocked.system.now.flat →
+      IsLast (greatest_of (map (late_arrival l.clocked.system.now.flat l.clocked.schedule.now l.fn.room.late) (filter (λ (p : Pair). p.to == k) (take l.number l.clocked.system.now.pairs)))) (get_or l.room.values k (pos 0));
 }

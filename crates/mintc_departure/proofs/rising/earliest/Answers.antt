@@ -16,11 +16,11 @@ pub loop-next-init : goal.loop-next-init
 loop-next-init c =
     let t = c.args.clocked.now.system.now in
     let last : IsLastOf t.pairs Second c.args.element (length t.pairs) c.index-next.result.now =
-    chain-head t.pairs Second (element_count t) c.args.into.now c.requires.into c.args.element _ c.requires.element c.index-next.ensures in
+    chain-head t.pairs Second (element_count t.flat) c.args.into.now c.requires.into c.args.element _ c.requires.element c.index-next.ensures in
     record {
       within = last.fits;
       into = last.has;
-      first = into-none (early_arrival t c.args.clocked.now.schedule.now c.args.departures.now) t.pairs c.args.element _ last;
+      first = into-none (early_arrival t.flat c.args.clocked.now.schedule.now c.args.departures.now) t.pairs c.args.element _ last;
     }
 
 number : (c : goal.After-min-first) → c.loop-next.next - 1 < length c.args.clocked.now.system.now.pairs
@@ -35,7 +35,7 @@ next-last c =
     let n = c.loop-next.next - 1 in
     let to : (pair_at t n).to ≡ c.args.element = c.loop-next.invariant.into n (omega arith) in
     subst (λ l. IsLastOf t.pairs Second l n c.index-next-in-loop-next.result.now) to
-    (chain-next t.pairs Second (element_count t) c.args.into.now c.requires.into n _ (omega arith) c.index-next-in-loop-next.ensures)
+    (chain-next t.pairs Second (element_count t.flat) c.args.into.now c.requires.into n _ (omega arith) c.index-next-in-loop-next.ensures)
 
 pub loop-next-smaller : goal.loop-next-smaller
 loop-next-smaller c = let last = next-last c in let fits = last.fits in omega arith
@@ -44,7 +44,7 @@ pub loop-next-preserved : goal.loop-next-preserved
 loop-next-preserved c =
     let t = c.args.clocked.now.system.now in
     let n = c.loop-next.next - 1 in
-    let f = early_arrival t c.args.clocked.now.schedule.now c.args.departures.now in
+    let f = early_arrival t.flat c.args.clocked.now.schedule.now c.args.departures.now in
     let last = next-last c in
     let one : n + 1 ≡ c.loop-next.next = omega arith in
     let range : IsArrivalSum (f (pair_at t n)) = subst (λ z. IsArrivalSum z) c.arrival.ensures.value c.arrival.ensures.range in
@@ -65,6 +65,6 @@ loop-next-preserved c =
 pub returns : goal.returns
 returns c =
     let t = c.args.clocked.now.system.now in
-    let f = early_arrival t c.args.clocked.now.schedule.now c.args.departures.now in
+    let f = early_arrival t.flat c.args.clocked.now.schedule.now c.args.departures.now in
     let none : c.loop-next.next ≡ 0 = omega arith in
     subst (λ k. IsFirst (least_of (map f (filter (λ (p : Pair). p.to == c.args.element) (drop k t.pairs)))) (to_z w128 c.loop-next.first-bits)) none c.loop-next.invariant.first

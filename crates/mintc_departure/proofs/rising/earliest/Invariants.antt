@@ -12,7 +12,7 @@ abbrev pub invariant-loop-next : goal.invariant-loop-next
 invariant-loop-next l = record {
   within : l.next ≤ length l.clocked.system.now.pairs;
   into : (n : ℕ) → l.next ≡ n + 1 → (pair_at l.clocked.system.now n).to ≡ l.element;
-  first : IsFirst (least_of (map (early_arrival l.clocked.system.now l.clocked.schedule.now l.departures) (filter (λ (p : Pair). p.to == l.element) (drop l.next l.clocked.system.now.pairs)))) l.first;
+  first : IsFirst (least_of (map (early_arrival l.clocked.system.now.flat l.clocked.schedule.now l.departures) (filter (λ (p : Pair). p.to == l.element) (drop l.next l.clocked.system.now.pairs)))) l.first;
 }
 
 abbrev pub decreases-loop-next : goal.decreases-loop-next

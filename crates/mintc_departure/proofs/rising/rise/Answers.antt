@@ -24,7 +24,7 @@ loop-smaller c =
     let swept : AreSwept t s c.args.room.now.late c.sweep.new.room.early c.sweep.new.stale.words.items =
     subst (λ xs. AreSwept t s xs c.sweep.new.room.early c.sweep.new.stale.words.items) (ap (λ (r : Space). r.late) c.loop.invariant.kept) c.sweep.ensures.swept in
     let changed = c.loop-test.ensures.changed in
-    missing-falls t s c.args.room.now.late c.loop.room.early c.sweep.new.room.early (element_count t) changed.0 c.sweep.ensures.up swept.rising.before changed.1 changed.2
+    missing-falls t s c.args.room.now.late c.loop.room.early c.sweep.new.room.early (element_count t.flat) changed.0 c.sweep.ensures.up swept.rising.before changed.1 changed.2
 
 pub loop-preserved : goal.loop-preserved
 loop-preserved c = record {

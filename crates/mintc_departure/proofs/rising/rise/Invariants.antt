@@ -12,4 +12,4 @@ invariant-loop l = record {
 }
 
 abbrev pub decreases-loop : goal.decreases-loop
-decreases-loop l = missing l.clocked.system.now l.clocked.schedule.now l.fn.room.late l.room.early (element_count l.clocked.system.now)
+decreases-loop l = missing l.clocked.system.now l.clocked.schedule.now l.fn.room.late l.room.early (element_count l.clocked.system.now.flat)

@@ -38,7 +38,7 @@ loop-at-preserved-then-rose c =
       swept = subst (λ xs. AreSwept t s xs room.early stale) (ap (λ (r : Space). r.late) i.kept) touched.swept;
       up = λ k lt. omega (arith, ints, i.up k lt, touched.up k lt);
       differs = λ e.
-          let h : c.loop-at.at < element_count t = omega (arith, c.count-count.ensures.value) in
+          let h : c.loop-at.at < element_count t.flat = omega (arith, c.count-count.ensures.value) in
           (c.loop-at.at, h, let rose = OnTrue_at c.if-rose.true touched.changed in omega (arith, ints, i.up c.loop-at.at h));
       none = λ e. absurd (cc);
     }

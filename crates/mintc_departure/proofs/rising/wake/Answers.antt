@@ -17,7 +17,7 @@ next-last c =
     let n = c.loop-next.next - 1 in
     let from : (pair_at t n).from ≡ c.args.element = c.loop-next.invariant.from n (omega arith) in
     subst (λ l. IsLastOf t.pairs First l n c.index-next-in-loop-next.result.now) from
-    (chain-next t.pairs First (element_count t) c.args.out.now c.requires.out n _ (omega arith) c.index-next-in-loop-next.ensures)
+    (chain-next t.pairs First (element_count t.flat) c.args.out.now c.requires.out n _ (omega arith) c.index-next-in-loop-next.ensures)
 
 pub loop-next-smaller : goal.loop-next-smaller
 loop-next-smaller c = let last = next-last c in let fits = last.fits in omega arith

@@ -15,7 +15,7 @@ returns c d is =
     let ne : first ≢ NEVER = λ e. c.if-first-eq-NEVER.false (ap (of_z w128) e) in
     let range : IsArrivalSum first = ⊎_elim (λ e. absurd (ne e)) (λ r. r) c.requires.first in
     let start = c.early_start-start.ensures in
-    let latch : (element_at t c.args.number).flop ≡ false = sym (ap (λ (e : Element). e.flop) c.element.ensures.value) ∙ c.if-element.false in
+    let latch : (element_at t.flat c.args.number).flop ≡ false = sym (ap (λ (e : Element). e.flop) c.element.ensures.value) ∙ c.if-element.false in
     let larger : c.max.result ≡ int_max c.early_start-start.result first = omega (arith, ints, clamps, c.max.ensures.value) in
     let fits : SFits w64 c.max.result = omega (arith, ints, clamps) in
     to_z-of_z w64 c.max.result fits

@@ -18,5 +18,5 @@ loop-number-preserved c =
     record {
       kept = kept-early c.args.room.now c.loop-number.room c.set_early.new.self _ c.set_early.ensures i.kept;
       count = ap length written ∙ length-set xs n x ∙ i.count;
-      filled = filled-more (early_start_of c.args.clocked.now.system.now c.args.clocked.now.schedule.now) xs c.set_early.new.self.early n x written inside c.early_start.ensures.value i.filled;
+      filled = filled-more (early_start_of c.args.clocked.now.system.now.flat c.args.clocked.now.schedule.now) xs c.set_early.new.self.early n x written inside c.early_start.ensures.value i.filled;
     }

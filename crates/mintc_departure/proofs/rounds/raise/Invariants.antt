@@ -8,9 +8,9 @@ use Rattle.mintc_departure.proofs.rounds.raise.Given as goal
 abbrev pub invariant-loop-number : goal.invariant-loop-number
 invariant-loop-number l = record {
   kept : l.room ≡ record l.fn.room { early = l.room.early };
-  count : length l.room.early ≡ element_count l.clocked.system.now;
+  count : length l.room.early ≡ element_count l.clocked.system.now.flat;
   done : (k : ℕ) → k < l.number → departure l.room.early k ≡ early_departure l.clocked.system.now l.clocked.schedule.now l.fn.room.early k;
   rest : (k : ℕ) → l.number ≤ k → departure l.room.early k ≡ departure l.fn.room.early k;
   still : l.changed ≡ false → (k : ℕ) → k < l.number → early_departure l.clocked.system.now l.clocked.schedule.now l.fn.room.early k ≡ departure l.fn.room.early k;
-  differs : l.changed ≡ true → (k : ℕ) × (k < element_count l.clocked.system.now) × (early_departure l.clocked.system.now l.clocked.schedule.now l.fn.room.early k ≢ departure l.fn.room.early k);
+  differs : l.changed ≡ true → (k : ℕ) × (k < element_count l.clocked.system.now.flat) × (early_departure l.clocked.system.now l.clocked.schedule.now l.fn.room.early k ≢ departure l.fn.room.early k);
 }

@@ -44,7 +44,7 @@ loop-count-smaller c =
     let round = subst (λ (xs : List ℤ). IsRound t s xs e) same c.raise.ensures.each in
     let next = rising-more t s c.count-count.ensures.kept c.args.room.now.late c.requires.late d e c.loop-count.invariant.rising c.raise.ensures.count round in
     round-falls t s c.args.room.now.late d e c.loop-count.invariant.rising next round
-    (subst (λ (xs : List ℤ). (l : ℕ) × (l < element_count t) × (early_departure t s xs l ≢ departure xs l)) same c.if-not-raise.ensures.changed)
+    (subst (λ (xs : List ℤ). (l : ℕ) × (l < element_count t.flat) × (early_departure t s xs l ≢ departure xs l)) same c.if-not-raise.ensures.changed)
 
 pub loop-count-preserved : goal.loop-count-preserved
 loop-count-preserved c =

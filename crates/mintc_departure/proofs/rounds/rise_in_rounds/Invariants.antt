@@ -12,4 +12,4 @@ invariant-loop-count l = record {
 }
 
 abbrev pub decreases-loop-count : goal.decreases-loop-count
-decreases-loop-count l = missing l.clocked.system.now l.clocked.schedule.now l.fn.room.late l.room.early (element_count l.clocked.system.now)
+decreases-loop-count l = missing l.clocked.system.now l.clocked.schedule.now l.fn.room.late l.room.early (element_count l.clocked.system.now.flat)

@@ -20,5 +20,5 @@ loop-number-preserved c =
     record {
       kept = kept-values c.args.room.now c.loop-number.room c.set_values.new.self _ c.set_values.ensures i.kept;
       count = ap length written ∙ length-set xs n c.from.result ∙ i.count;
-      filled = filled-more (late_start_of c.args.clocked.now.system.now c.args.clocked.now.schedule.now) xs c.set_values.new.self.values n c.from.result written inside (from ∙ c.late_start.ensures.value) i.filled;
+      filled = filled-more (late_start_of c.args.clocked.now.system.now.flat c.args.clocked.now.schedule.now) xs c.set_values.new.self.values n c.from.result written inside (from ∙ c.late_start.ensures.value) i.filled;
     }

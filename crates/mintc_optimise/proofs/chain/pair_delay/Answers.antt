@@ -22,13 +22,13 @@ subtracted asked dq max is low high =
     (rw (one, two) refl, omega (arith, ints))
 
 -- the same of the link and the element that are read
-read : (t : Timing) (limits : IsDesign t.flat) (kept : IsTiming t.flat t.order t.pairs) (k : Link) (j l : ℕ) → IsOfKind t k (kind.Reach j l) → (e : Element) → e ≡ element_at t j →
-    (to_z w64 (of_z w64 k.delay) -ℤ to_z w64 (of_z w64 e.dq_max) ≡ k.delay -ℤ (element_at t j).dq_max) × SFits w64 (k.delay -ℤ (element_at t j).dq_max)
+read : (t : Timing) (limits : IsDesign t.flat) (kept : IsTiming t.flat t.order t.pairs) (k : Link) (j l : ℕ) → IsOfKind t k (kind.Reach j l) → (e : Element) → e ≡ element_at t.flat j →
+    (to_z w64 (of_z w64 k.delay) -ℤ to_z w64 (of_z w64 e.dq_max) ≡ k.delay -ℤ (element_at t.flat j).dq_max) × SFits w64 (k.delay -ℤ (element_at t.flat j).dq_max)
 read t limits kept k j l h e is =
     let max = pair-max_range t.flat t.order t.pairs limits kept h.0 no_pair h.1 in
     let dq = (limits.each_element j no_element (leaves t limits kept k j l h)).dq_max in
     let asked = ap (λ (x : Link). x.delay) (sym h.4) in
-    let taken = subtracted k.delay (element_at t j).dq_max (pair_at t h.0).max asked dq max in
+    let taken = subtracted k.delay (element_at t.flat j).dq_max (pair_at t h.0).max asked dq max in
     (ap (λ (x : Element). to_z w64 (of_z w64 k.delay) -ℤ to_z w64 (of_z w64 x.dq_max)) is ∙ taken.0, taken.1)
 
 pub element-requires : goal.element-requires
@@ -54,6 +54,6 @@ returns c =
     let kept = c.pairs-pairs.ensures.kept in
     let h = of_kind t limits k (kind.Reach c.args.from c.args.to) c.requires.kind c.requires.link in
     let taken = read t limits kept k c.args.from c.args.to h c.element.result.now c.element.ensures.value in
-    let value : to_z w64 (of_z w64 (to_z w64 (of_z w64 k.delay) -ℤ to_z w64 (of_z w64 c.element.result.now.dq_max))) ≡ k.delay -ℤ (element_at t c.args.from).dq_max =
-    ap (λ z. to_z w64 (of_z w64 z)) taken.0 ∙ to_z-of_z w64 (k.delay -ℤ (element_at t c.args.from).dq_max) taken.1 in
+    let value : to_z w64 (of_z w64 (to_z w64 (of_z w64 k.delay) -ℤ to_z w64 (of_z w64 c.element.result.now.dq_max))) ≡ k.delay -ℤ (element_at t.flat c.args.from).dq_max =
+    ap (λ z. to_z w64 (of_z w64 z)) taken.0 ∙ to_z-of_z w64 (k.delay -ℤ (element_at t.flat c.args.from).dq_max) taken.1 in
     record { value = value; pair = pair_of_reach t limits k c.args.from c.args.to h _ value }

@@ -7,6 +7,6 @@ use Rattle.mintc_optimise.proofs.times.departures.Given as goal
 -- the departures so far
 abbrev pub invariant-loop-number : goal.invariant-loop-number
 invariant-loop-number l = record {
-  value : l.departures.items ≡ map (departure_of l.system l.values) (range_with_len 0 l.number);
+  value : l.departures.items ≡ map (departure_of l.system.flat l.values) (range_with_len 0 l.number);
   in_range : All IsDeparture l.departures.items;
 }

@@ -6,4 +6,4 @@ use Rattle.mintc_report.proofs.chain.put_members.Given as goal
 
 -- the lines so far are written
 abbrev pub invariant-loop-member : goal.invariant-loop-member
-invariant-loop-member l = l.lines ≡ l.fn.lines ++ text_of (flat_map (member_lines l.system) (take l.member-index l.chain))
+invariant-loop-member l = l.lines ≡ l.fn.lines ++ text_of (flat_map (member_lines l.system.flat) (take l.member-index l.chain))

@@ -13,7 +13,7 @@ use Rattle.mintc_report.proofs.members.put_member.Goals as goal
 pub put_throughs-requires : goal.put_throughs-requires
 put_throughs-requires c =
     let design : IsDesign c.args.system.now.flat = subst IsDesign c.flat.ensures c.elements-elements.ensures.kept in
-    subst (All (IsThrough c.args.system.now)) (sym c.later_arcs.ensures) (are_through c.args.system.now c.args.member.now design c.requires.member)
+    subst (All (IsThrough c.args.system.now.flat)) (sym c.later_arcs.ensures) (are_through c.args.system.now c.args.member.now design c.requires.member)
 
 pub returns : goal.returns
 returns c =
@@ -28,4 +28,4 @@ returns c =
     on_ok_weaker c.put_throughs.result
     (λ e. member_written t c.args.member.now c.args.lines.now begun first c.put_throughs.new.lines c.in_ok-put_names.ensures
     (subst (λ (k : Link). first ≡ begun ++ (spaced (amount_words k.delay (pos k.cycles)) ++ 10 ∷ [])) c.link_at-link.ensures.value amounts)
-    (e ∙ ap (λ v. first ++ text_of (map (through_line t) v)) c.later_arcs.ensures)) c.put_throughs.ensures
+    (e ∙ ap (λ v. first ++ text_of (map (through_line t.flat) v)) c.later_arcs.ensures)) c.put_throughs.ensures

@@ -5,4 +5,4 @@ use Rattle.mintc_report.proofs.members.put_throughs.Given as goal
 
 -- the lines so far are written
 abbrev pub invariant-loop-number : goal.invariant-loop-number
-invariant-loop-number l = l.lines ≡ l.fn.lines ++ text_of (map (through_line l.system) (take l.number-index l.arcs))
+invariant-loop-number l = l.lines ≡ l.fn.lines ++ text_of (map (through_line l.system.flat) (take l.number-index l.arcs))
