@@ -4,26 +4,26 @@ use Rattle.std.proofs.lemmas.Int.{ints}
 use Rattle.std.proofs.lemmas.List.{map-append, take_more}
 use Rattle.mintc_timing.specs.declared.link.Link.{Link}
 use Rattle.mintc_rings.specs.Rings.{total}
-use Rattle.mintc_timing.specs.Design.{Timing}
+use Rattle.mintc_timing.specs.Design.{Design}
 use Rattle.mintc_timing.specs.Limits.{IsSpan}
 use Rattle.mintc_rings.proofs.SharedRingLaws.{total-append}
 use Rattle.mintc_certificate.specs.declared.members.Member.{Member}
 use Rattle.mintc_certificate.specs.Valid.{link_of, links_of_members}
 
 -- the link of one member more
-sums_more : (f : Link → ℤ) (t : Timing) (chain : List Member) (i : ℕ) (m : Member) → i < length chain → m ≡ get_or chain i m →
-    total f (links_of_members t.flat (take (i + 1) chain)) ≡ total f (links_of_members t.flat (take i chain)) +ℤ f (link_of t.flat m)
-sums_more f t chain i m below is =
+sums_more : (f : Link → ℤ) (design : Design) (chain : List Member) (i : ℕ) (m : Member) → i < length chain → m ≡ get_or chain i m →
+    total f (links_of_members design (take (i + 1) chain)) ≡ total f (links_of_members design (take i chain)) +ℤ f (link_of design m)
+sums_more f design chain i m below is =
     let step = take_more chain i m below ∙ ap (λ y. take i chain ++ y ∷ []) (sym is) in
-    let links = ap (map (link_of t.flat)) step ∙ map-append (link_of t.flat) (take i chain) (m ∷ []) in
-    let whole = ap (total f) links ∙ total-append f (links_of_members t.flat (take i chain)) (link_of t.flat m ∷ []) in
+    let links = ap (map (link_of design)) step ∙ map-append (link_of design) (take i chain) (m ∷ []) in
+    let whole = ap (total f) links ∙ total-append f (links_of_members design (take i chain)) (link_of design m ∷ []) in
     omega (arith, ints, whole)
 
 -- a sum over the members so far, and one part more
-pub sum_step : (f : Link → ℤ) (t : Timing) (chain : List Member) (i : ℕ) (m : Member) (link : Link) (old : ℤ) → i < length chain → m ≡ get_or chain i m → link ≡ link_of t.flat m →
-    old ≡ total f (links_of_members t.flat (take i chain)) → old +ℤ f link ≡ total f (links_of_members t.flat (take (i + 1) chain))
-sum_step f t chain i m link old below is value before =
-    ap (λ z. z +ℤ f link) before ∙ ap (λ (k : Link). total f (links_of_members t.flat (take i chain)) +ℤ f k) value ∙ sym (sums_more f t chain i m below is)
+pub sum_step : (f : Link → ℤ) (design : Design) (chain : List Member) (i : ℕ) (m : Member) (link : Link) (old : ℤ) → i < length chain → m ≡ get_or chain i m → link ≡ link_of design m →
+    old ≡ total f (links_of_members design (take i chain)) → old +ℤ f link ≡ total f (links_of_members design (take (i + 1) chain))
+sum_step f design chain i m link old below is value before =
+    ap (λ z. z +ℤ f link) before ∙ ap (λ (k : Link). total f (links_of_members design (take i chain)) +ℤ f k) value ∙ sym (sums_more f design chain i m below is)
 
 -- A sum and one part more fit, and are bounded as long as the chain is short.
 pub record IsMore (old part x : ℤ) (i : ℕ) : Type 0 where

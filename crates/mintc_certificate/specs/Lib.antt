@@ -4,6 +4,5 @@ pub mod CertificateReading
 pub mod Ranges
 pub mod Written
 pub mod Valid
-pub mod Named
 pub mod Optimal
 pub mod TextLaws

@@ -20,19 +20,24 @@ use Rattle.mintc_timing.specs.Links.{start_link, cycle_link, order_link, span_li
 abbrev pub no_bound : Bound
 no_bound = record { from = Origin; to = Origin; gap = pos 0; cycles = 0 }
 
--- The member names what the design has. A reach carries a listed path from its first element to its second.
+-- The member's numbers are the design's. A reach carries a listed path from its first element to its second.
+abbrev pub IsNamed : Design → Member → Type 0
+IsNamed design (member.Start p) = IsPhase (phase_count design) p
+IsNamed design (member.Cycle p) = IsPhase (phase_count design) p
+IsNamed design (member.Order p) = (1 ≤ p) × (p < phase_count design)
+IsNamed design (member.Span p) = IsPhase (phase_count design) p
+IsNamed design (member.Width p) = IsPhase (phase_count design) p
+IsNamed design (member.Apart i j) = IsPhase (phase_count design) i × IsPhase (phase_count design) j
+IsNamed design (member.Opening l) = l < element_count design
+IsNamed design (member.Opened l) = (l < element_count design) × IsFalse (element_at design l).flop
+IsNamed design (member.Reach j l path) = (j < element_count design) × (l < element_count design) × IsPath design.arcs j path (input_of l)
+IsNamed design (member.Setup l) = l < element_count design
+IsNamed design (member.Bound n) = n < length design.bounds
+
+-- The member names what the design has; of two phases apart, the first feeds the second.
 abbrev pub IsMember : Timing → Member → Type 0
-IsMember t (member.Start p) = IsPhase (phase_count t.flat) p
-IsMember t (member.Cycle p) = IsPhase (phase_count t.flat) p
-IsMember t (member.Order p) = (1 ≤ p) × (p < phase_count t.flat)
-IsMember t (member.Span p) = IsPhase (phase_count t.flat) p
-IsMember t (member.Width p) = IsPhase (phase_count t.flat) p
 IsMember t (member.Apart i j) = IsPhase (phase_count t.flat) i × IsPhase (phase_count t.flat) j × IsTrue (feeds_of t i j)
-IsMember t (member.Opening l) = l < element_count t.flat
-IsMember t (member.Opened l) = (l < element_count t.flat) × IsFalse (element_at t.flat l).flop
-IsMember t (member.Reach j l path) = (j < element_count t.flat) × (l < element_count t.flat) × IsPath t.flat.arcs j path (input_of l)
-IsMember t (member.Setup l) = l < element_count t.flat
-IsMember t (member.Bound n) = n < length t.flat.bounds
+IsMember t m = IsNamed t.flat m
 
 -- The link that a member stands for. A reach has the delay of its own path, which may be less than the greatest.
 abbrev pub link_of : Design → Member → Link
@@ -76,9 +81,13 @@ number_of setups = 5
 number_of ring = 6
 number_of sums = 7
 
+-- The schedule has the design's phases, and departures are as many as its elements.
+abbrev pub HasCounts : Design → Schedule → List ℤ → Type 0
+HasCounts design s d = (length s.starts ≡ phase_count design) × (length s.widths ≡ phase_count design) × (length d ≡ element_count design)
+
 -- what a test asks of a schedule and its departures
 abbrev pub SchedulePasses : Timing → Schedule → List ℤ → Test → Type 0
-SchedulePasses t s d counts = (length s.starts ≡ phase_count t.flat) × (length s.widths ≡ phase_count t.flat) × (length d ≡ element_count t.flat)
+SchedulePasses t s d counts = HasCounts t.flat s d
 SchedulePasses t s d clock = KeepsClock t s
 SchedulePasses t s d bounds = All (KeepsBound s) t.flat.bounds
 SchedulePasses t s d departures = AreExact t s d

@@ -5,9 +5,8 @@ ghost use Rattle.mintc_timing.specs.Limits.{IsDelay, IsSpan};
 ghost use Rattle.mintc_timing.specs.Links.{bound_link as bound_link_of, reach_link as reach_link_of};
 ghost use Rattle.mintc_timing.specs.Order.{ArePathsShort};
 ghost use Rattle.mintc_timing.specs.Paths.{IsPath, greatest_delay, input_of};
-ghost use Rattle.mintc_links.specs.Alone.{alone};
 ghost use Rattle.mintc_certificate.specs.CertificateText.{IsCounted};
-ghost use Rattle.mintc_certificate.specs.Named.{IsNamed};
+ghost use Rattle.mintc_certificate.specs.Valid.{IsNamed};
 ghost use Rattle.mintc_certificate.specs.Valid.{no_bound, link_of as link_of_member};
 
 use crate::Member;
@@ -38,7 +37,7 @@ fn path_link(flat: &Flat, from: u32, to: u32, path: &[u32]) -> Link
     requires from { from < length flat.now.elements }
     requires to { to < length flat.now.elements }
     requires path { IsPath flat.now.arcs from path.now (input_of to) }
-    ensures value { result ≡ reach_link_of (alone flat.now).flat from to (greatest_delay flat.now.arcs path.now) }
+    ensures value { result ≡ reach_link_of flat.now from to (greatest_delay flat.now.arcs path.now) }
     ensures range { IsSpan result.delay }
     ensures cycles { result.cycles ≤ 1 }
 {
@@ -63,7 +62,7 @@ pub fn link_of(flat: &Flat, member: &Member) -> Link
     requires short { ArePathsShort flat.now }
     requires named { IsNamed flat.now member.now }
     requires counted { IsCounted member.now }
-    ensures value { result ≡ link_of_member (alone flat.now).flat member.now }
+    ensures value { result ≡ link_of_member flat.now member.now }
     ensures range { IsSpan result.delay }
     ensures cycles { result.cycles ≤ 1 }
 {

@@ -2,8 +2,7 @@
 ghost use Rattle.std.specs.Prelude.{◌≡◌, pos, negsuc, ◌≤ℤ◌, All};
 ghost use Rattle.mintc_timing.specs.Links.{cycles_of, delay_of};
 ghost use Rattle.mintc_timing.specs.Order.{ArePathsShort};
-ghost use Rattle.mintc_links.specs.Alone.{alone};
-ghost use Rattle.mintc_certificate.specs.Named.{IsNamed};
+ghost use Rattle.mintc_certificate.specs.Valid.{IsNamed};
 ghost use Rattle.mintc_certificate.specs.Ranges.{IsChainInRange};
 ghost use Rattle.mintc_certificate.specs.Valid.{links_of_members};
 
@@ -23,8 +22,8 @@ pub fn sums_of(flat: &Flat, members: &[Member]) -> ChainSums
     requires short { ArePathsShort flat.now }
     requires named { All (IsNamed flat.now) members.now }
     requires chain { IsChainInRange members.now }
-    ensures delay { result.delay ≡ delay_of (links_of_members (alone flat.now).flat members.now) }
-    ensures cycles { result.cycles ≡ cycles_of (links_of_members (alone flat.now).flat members.now) }
+    ensures delay { result.delay ≡ delay_of (links_of_members flat.now members.now) }
+    ensures cycles { result.cycles ≡ cycles_of (links_of_members flat.now members.now) }
     ensures delay_range { (negsuc 8191999999999 ≤ℤ result.delay) × (result.delay ≤ℤ pos 8192000000000) }
     ensures cycles_range { (pos 0 ≤ℤ result.cycles) × (result.cycles ≤ℤ pos 4096) }
 {

@@ -6,7 +6,6 @@ use Rattle.mintc_timing.specs.Design.{Design}
 use Rattle.mintc_timing.specs.Extremes.{greater_of, greatest_of}
 use Rattle.mintc_timing.specs.Right.{KeepsSetup}
 use Rattle.mintc_timing.proofs.SharedSetupLaws.{KeepsSetup-flop}
-use Rattle.mintc_links.specs.Alone.{alone}
 use Rattle.mintc_checker.specs.Judged.{OfTiming, timing_of}
 use Rattle.mintc_checker.specs.Trails.{element_of, IsLastArrival}
 use Rattle.mintc_checker.proofs.Pairing.{arrivals_are}
@@ -14,11 +13,11 @@ use Rattle.mintc_checker.proofs.Pairing.{arrivals_are}
 module _ (design : Design) (s : Schedule) (d : List ℤ) (l : ℕ) where
   -- a latch's departure, by its last arrival
   pub departs-latch : (last : Option ℤ) → pos 1 ≤ℤ s.den → l < length design.elements → (element_of design l).flop ≡ false → IsLastArrival design s d l last →
-      OfTiming design (λ t. greater_of (late_opening (alone design).flat s l) last ≡ late_departure t s d l)
+      OfTiming design (λ t. greater_of (late_opening design s l) last ≡ late_departure t s d l)
   departs-latch last positive inside latch h along pairs are_pairs =
       let top : greatest_of (late_arrivals (timing_of design along pairs) s d l) ≡ last = arrivals_are design along pairs are_pairs s d positive l inside last h in
-      sym (ap (λ b. cond b (pos 0) (greater_of (late_opening (alone design).flat s l) (greatest_of (late_arrivals (timing_of design along pairs) s d l)))) latch
-      ∙ ap (greater_of (late_opening (alone design).flat s l)) top)
+      sym (ap (λ b. cond b (pos 0) (greater_of (late_opening design s l) (greatest_of (late_arrivals (timing_of design along pairs) s d l)))) latch
+      ∙ ap (greater_of (late_opening design s l)) top)
 
   -- what the setup of a flop asks, by its last arrival
   pub setup-flop : (a : ℤ) → pos 1 ≤ℤ s.den → l < length design.elements → (element_of design l).flop ≡ true → IsLastArrival design s d l (Some a) →

@@ -54,7 +54,7 @@ IsFedAt design labels i j l = ((element_of design l).phase ≡ j) × IsFalse (el
 
 -- What the clock asks of phase p by itself: that its start and its width are in range, that the next phase starts no
 -- sooner, and that it is as wide as its elements ask.
-pub record KeepsOwn (design : Design).flat (s : Schedule) (p : ℕ) : Type 0 where
+pub record KeepsOwn (design : Design) (s : Schedule) (p : ℕ) : Type 0 where
   pub start : (pos 0 ≤ℤ start_of s p) × (start_of s p ≤ℤ s.cycle)
   pub span : (pos 0 ≤ℤ width_of s p) × (width_of s p ≤ℤ s.cycle)
   pub order : p < phase_count design → start_of s p ≤ℤ start_of s (p + 1)

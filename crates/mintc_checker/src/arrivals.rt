@@ -6,7 +6,6 @@ ghost use Rattle.mintc_timing.specs.Departures.{AreExact, departure, late_depart
 ghost use Rattle.mintc_timing.specs.Design.{element_count};
 ghost use Rattle.mintc_timing.specs.Limits.{IsModest};
 ghost use Rattle.mintc_timing.specs.Right.{KeepsSetup};
-ghost use Rattle.mintc_links.specs.Alone.{alone};
 ghost use Rattle.mintc_checker.specs.Judged.{AreTimely, AreTimelyLabels, Decides, IsArrivalTime, IsLate, OfTiming};
 ghost use Rattle.mintc_checker.specs.Labels.{AreLabels};
 ghost use Rattle.mintc_checker.specs.Trails.{IsLastArrival};
@@ -55,7 +54,7 @@ fn last_arrival(clocked: &ClockedDesign<'_>, labels: &[Labels], number: usize) -
 /// When an element opens.
 fn opening(clocked: &ClockedDesign<'_>, number: usize) -> i64
     requires number { number < length clocked.now.flat.now.elements }
-    ensures value { result ≡ late_opening (alone clocked.now.flat.now).flat clocked.now.schedule.now number }
+    ensures value { result ≡ late_opening clocked.now.flat.now clocked.now.schedule.now number }
     ensures range { IsModest result }
 {
     let element = element(clocked.flat, number);

@@ -2,8 +2,7 @@
 ghost use Rattle.std.specs.Prelude.{IfOk};
 ghost use Rattle.mintc_timing.specs.Order.{IsOrder, ArePathsShort};
 ghost use Rattle.mintc_certificate.specs.Ranges.{IsCertificateInRange, IsChainInRange, IsLeastInRange};
-ghost use Rattle.mintc_certificate.specs.Valid.{SchedulePasses, counts};
-ghost use Rattle.mintc_links.specs.Alone.{alone};
+ghost use Rattle.mintc_certificate.specs.Valid.{HasCounts};
 ghost use Rattle.mintc_checker.specs.Judged.{AreTimelyLabels, IsFed, OfTiming};
 ghost use Rattle.mintc_checker.specs.Verdicts.{IsFirstOfSchedule, IsVerdict};
 
@@ -25,7 +24,7 @@ fn first_of_schedule(
     labels: &[Labels],
     fed: &[bool],
 ) -> Option<u32>
-    requires counts { SchedulePasses (alone clocked.now.flat.now) clocked.now.schedule.now departures.now counts }
+    requires counts { HasCounts clocked.now.flat.now clocked.now.schedule.now departures.now }
     requires labels { AreTimelyLabels clocked.now.flat.now clocked.now.schedule.now.den departures.now labels.now }
     requires fed { IsFed clocked.now.flat.now fed.now }
     ensures { OfTiming clocked.now.flat.now (λ t. IsFirstOfSchedule t clocked.now.schedule.now departures.now result) }

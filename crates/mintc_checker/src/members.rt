@@ -5,7 +5,7 @@ ghost use Rattle.mintc_timing.specs.Clocking.{feeds_of};
 ghost use Rattle.mintc_timing.specs.Design.{phase_count};
 ghost use Rattle.mintc_timing.specs.Limits.{IsPhase};
 ghost use Rattle.mintc_timing.specs.Paths.{IsPath, Leads, arc_at, input_of};
-ghost use Rattle.mintc_certificate.specs.Named.{IsNamed};
+ghost use Rattle.mintc_certificate.specs.Valid.{IsNamed};
 ghost use Rattle.mintc_certificate.specs.Valid.{IsMember};
 ghost use Rattle.mintc_checker.specs.Judged.{Decides, IsFed};
 ghost use Rattle.mintc_checker.specs.Trails.{element_of};

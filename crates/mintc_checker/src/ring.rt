@@ -9,8 +9,7 @@ ghost use Rattle.mintc_certificate.specs.CertificateText.{IsCounted};
 ghost use Rattle.mintc_certificate.specs.Ranges.{IsChainInRange};
 ghost use Rattle.mintc_certificate.specs.Valid.{IsMember, IsRing, links_of_members};
 ghost use Rattle.mintc_timing.specs.Links.{IsTight, IsStuck, no_link};
-ghost use Rattle.mintc_links.specs.Alone.{alone};
-ghost use Rattle.mintc_certificate.specs.Named.{IsNamed};
+ghost use Rattle.mintc_certificate.specs.Valid.{IsNamed};
 ghost use Rattle.mintc_checker.specs.Judged.{Decides, IsFed};
 
 use crate::designs::ClockedDesign;
@@ -38,7 +37,7 @@ fn link_at(flat: &Flat, members: &[Member], place: usize) -> Link
     requires named { All (IsNamed flat.now) members.now }
     requires counted { All IsCounted members.now }
     requires place { place < length members.now }
-    ensures value { result ≡ slice_index_or (links_of_members (alone flat.now).flat members.now) place no_link }
+    ensures value { result ≡ slice_index_or (links_of_members flat.now members.now) place no_link }
     ensures range { IsSpan result.delay }
     ensures cycles { result.cycles ≤ 1 }
 {
@@ -50,7 +49,7 @@ fn lead_round(flat: &Flat, members: &[Member]) -> bool
     requires short { ArePathsShort flat.now }
     requires named { All (IsNamed flat.now) members.now }
     requires chain { IsChainInRange members.now }
-    ensures { IsTrue result ↔ IsClosed (λ (k : LinkValue). k.from) (λ (k : LinkValue). k.to) (links_of_members (alone flat.now).flat members.now) }
+    ensures { IsTrue result ↔ IsClosed (λ (k : LinkValue). k.from) (λ (k : LinkValue). k.to) (links_of_members flat.now members.now) }
 {
     let first = link_at(flat, members, 0);
     let mut at = first.to;
@@ -80,7 +79,7 @@ pub(crate) fn is_tight(clocked: &ClockedDesign<'_>, members: &[Member]) -> bool
     requires short { ArePathsShort clocked.now.flat.now }
     requires named { All (IsNamed clocked.now.flat.now) members.now }
     requires chain { IsChainInRange members.now }
-    ensures { IsTrue result ↔ IsTight (links_of_members (alone clocked.now.flat.now).flat members.now) clocked.now.schedule.now.cycle clocked.now.schedule.now.den }
+    ensures { IsTrue result ↔ IsTight (links_of_members clocked.now.flat.now members.now) clocked.now.schedule.now.cycle clocked.now.schedule.now.den }
 {
     let sums = sums_of(clocked.flat, members);
     1 <= sums.cycles && sums.delay * clocked.schedule.den == sums.cycles * clocked.schedule.cycle
@@ -91,7 +90,7 @@ pub(crate) fn is_stuck(flat: &Flat, members: &[Member]) -> bool
     requires short { ArePathsShort flat.now }
     requires named { All (IsNamed flat.now) members.now }
     requires chain { IsChainInRange members.now }
-    ensures { IsTrue result ↔ IsStuck (links_of_members (alone flat.now).flat members.now) }
+    ensures { IsTrue result ↔ IsStuck (links_of_members flat.now members.now) }
 {
     let sums = sums_of(flat, members);
     sums.cycles == 0 && 0 < sums.delay

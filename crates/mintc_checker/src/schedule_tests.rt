@@ -2,8 +2,7 @@
 ghost use Rattle.std.specs.Prelude.{◌≡◌, ◌+◌, ◌-◌, ◌*◌, ◌<◌, ◌≤◌, ◌≤ℤ◌, ◌-ℤ◌, ◌*ℤ◌, pos, ℕ, length, IsTrue, ◌↔◌, All};
 ghost use Rattle.mintc_timing.specs.Clocking.{KeepsApart, KeepsBound, KeepsClock, KeepsPhase, EachPhase, crosses_of, end_of, least_width, start_of, width_of};
 ghost use Rattle.mintc_timing.specs.Limits.{IsBound, IsPhase};
-ghost use Rattle.mintc_certificate.specs.Valid.{SchedulePasses, counts};
-ghost use Rattle.mintc_links.specs.Alone.{alone};
+ghost use Rattle.mintc_certificate.specs.Valid.{HasCounts};
 ghost use Rattle.mintc_checker.specs.Judged.{AreTimelyLabels, Decides, IsFed, IsFedAt, KeepsOwn};
 
 use crate::designs::{ClockedDesign, DepartingDesign};
@@ -16,7 +15,7 @@ use mintc_timing::{Bound, Flat, Schedule};
 
 /// Whether the schedule has the design's phases, and the departures are as many as its elements: the first test.
 pub(crate) fn has_counts(flat: &Flat, schedule: &Schedule, departures: &[i64]) -> bool
-    ensures { IsTrue result ↔ SchedulePasses (alone flat.now) schedule.now departures.now counts }
+    ensures { IsTrue result ↔ HasCounts flat.now schedule.now departures.now }
 {
     let phases = flat.phases().items().len();
     let elements = flat.elements().len();
@@ -123,7 +122,7 @@ fn starts_in_order(clocked: &ClockedDesign<'_>, phase: u32) -> bool
 /// Whether a phase is as wide as its elements ask.
 fn is_wide(clocked: &ClockedDesign<'_>, phase: u32) -> bool
     requires phase { IsPhase (length clocked.now.schedule.now.starts) phase }
-    ensures { IsTrue result ↔ ((least_width (alone clocked.now.flat.now).flat phase *ℤ clocked.now.schedule.now.den) ≤ℤ width_of clocked.now.schedule.now phase) }
+    ensures { IsTrue result ↔ ((least_width clocked.now.flat.now phase *ℤ clocked.now.schedule.now.den) ≤ℤ width_of clocked.now.schedule.now phase) }
 {
     width_excess(clocked.flat, clocked.schedule, phase) <= 0
 }
@@ -131,7 +130,7 @@ fn is_wide(clocked: &ClockedDesign<'_>, phase: u32) -> bool
 /// Whether a phase is in range, starts no later than the next one, and is as wide as its elements ask.
 fn keeps_own(clocked: &ClockedDesign<'_>, phase: u32) -> bool
     requires phase { IsPhase (length clocked.now.schedule.now.starts) phase }
-    ensures { IsTrue result ↔ KeepsOwn (alone clocked.now.flat.now).flat clocked.now.schedule.now phase }
+    ensures { IsTrue result ↔ KeepsOwn clocked.now.flat.now clocked.now.schedule.now phase }
 {
     starts_in_cycle(clocked, phase)
         && fits_cycle(clocked, phase)

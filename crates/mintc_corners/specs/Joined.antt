@@ -121,7 +121,7 @@ StandForAll [] chain members = ⊥
 StandForAll (t ∷ ts) chain members = AreStanding t ts chain members
 
 -- The moments of the corner after so many elements are small enough to be said.
-pub record IsSayable (clock before : ℕ) (design : Design) (values : List ℤ).flat : Type 0 where
+pub record IsSayable (clock before : ℕ) (design : Design) (values : List ℤ) : Type 0 where
   pub before_few : before ≤ 2000
   pub inside : 1 + clock + before + element_count design ≤ length values
   pub sayable : AreSayable design (own_values clock before (element_count design) values)

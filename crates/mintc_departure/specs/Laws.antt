@@ -11,7 +11,7 @@ use Rattle.mintc_timing.specs.Violations.{AreViolations}
 
 -- A schedule of the design's phases, over a denominator of at least 1, that starts no phase before time 0 and makes
 -- none of a negative width.
-pub record IsOfPhases (design : Design).flat (s : Schedule) : Type 0 where
+pub record IsOfPhases (design : Design) (s : Schedule) : Type 0 where
   pub den : pos 1 ≤ℤ s.den
   pub starts : length s.starts ≡ phase_count design
   pub widths : length s.widths ≡ phase_count design

@@ -28,7 +28,7 @@ IsFirst None v = v ≡ NEVER
 IsFirst (Some a) v = (v ≡ a) × IsArrivalSum a
 
 -- A number for each element, each a sum of few delays.
-pub record AreSums (design : Design).flat (d : List ℤ) : Type 0 where
+pub record AreSums (design : Design) (d : List ℤ) : Type 0 where
   pub count : length d ≡ element_count design
   pub each : (l : ℕ) → l < element_count design → IsSum (departure d l)
 

@@ -2,7 +2,6 @@
 ghost use Rattle.std.specs.Prelude.{◌≡◌, ◌+◌, ◌≤◌, ◌<◌, pos, ◌+ℤ◌, ◌-ℤ◌, ◌*ℤ◌, length};
 ghost use Rattle.mintc_timing.specs.Clocking.{start_of, width_of, end_of, time_of, crosses_of, least_width};
 ghost use Rattle.mintc_timing.specs.Limits.{IsBound, IsDenominator, IsInRange, IsModest, IsNumerator, IsPhase, IsPoint, IsSpan, IsTime};
-ghost use Rattle.mintc_links.specs.Alone.{alone};
 
 use crate::links::width_needed;
 use mintc_timing::{Bound, Flat, Point, Schedule, crosses};
@@ -96,7 +95,7 @@ pub fn span_excess(schedule: &Schedule, phase: u32) -> i64
 pub fn width_excess(flat: &Flat, schedule: &Schedule, phase: u32) -> i64
     requires in_range { IsInRange schedule.now }
     requires phase { IsPhase (length schedule.now.starts) phase }
-    ensures value { result ≡ least_width (alone flat.now).flat phase *ℤ schedule.now.den -ℤ width_of schedule.now phase }
+    ensures value { result ≡ least_width flat.now phase *ℤ schedule.now.den -ℤ width_of schedule.now phase }
     ensures range { IsTime result }
 {
     scaled(width_needed(flat, phase), schedule.den) - width(schedule, phase)

@@ -4,14 +4,13 @@ ghost use Rattle.mintc_timing.specs.Clocking.{least_width};
 ghost use Rattle.mintc_timing.specs.Design.{element_at};
 ghost use Rattle.mintc_timing.specs.Limits.{IsBound, IsDelay, IsDesign, IsElement, IsPhase, IsPoint, IsSpan};
 ghost use Rattle.mintc_timing.specs.Links.{element_node, end_node, output_node, point_node, start_node, apart_link as apart_link_of, bound_link as bound_link_of, cycle_link as cycle_link_of, opening_link as opening_link_of, opened_link as opened_link_of, order_link as order_link_of, reach_link as reach_link_of, setup_link as setup_link_of, span_link as span_link_of, start_link as start_link_of, width_link as width_link_of};
-ghost use Rattle.mintc_links.specs.Alone.{alone};
 
 use mintc_timing::{Bound, Element, Flat, Link, LinkKind, Point, crosses};
 
 /// The element of a number.
 fn element(flat: &Flat, number: u32) -> &Element
     requires { number < length flat.now.elements }
-    ensures value { result.now ≡ element_at (alone flat.now).flat number }
+    ensures value { result.now ≡ element_at flat.now number }
     ensures kept { IsElement (length flat.now.phases) result.now }
     ensures design { IsDesign flat.now }
 {
@@ -49,7 +48,7 @@ fn point(point: Point) -> u32
 /// The node of an element's moment.
 fn moment(flat: &Flat, number: u32) -> u32
     requires { number < length flat.now.elements }
-    ensures { result ≡ element_node (alone flat.now).flat number }
+    ensures { result ≡ element_node flat.now number }
 {
     let _elements = flat.elements();
     2 * flat.phases().items().len() as u32 + 1 + number
@@ -58,7 +57,7 @@ fn moment(flat: &Flat, number: u32) -> u32
 /// The node that the output of an element starts from.
 fn output(flat: &Flat, number: u32) -> u32
     requires { number < length flat.now.elements }
-    ensures { result ≡ output_node (alone flat.now).flat number }
+    ensures { result ≡ output_node flat.now number }
 {
     let element = element(flat, number);
     if element.flop {
@@ -127,7 +126,7 @@ pub fn span_link(phase: u32) -> Link
 
 /// The greatest of 0 and the widths that elements on the phase ask for, in femtoseconds.
 pub fn width_needed(flat: &Flat, phase: u32) -> i64
-    ensures value { result ≡ least_width (alone flat.now).flat phase }
+    ensures value { result ≡ least_width flat.now phase }
     ensures range { IsDelay result }
 {
     let mut width = 0;
@@ -142,7 +141,7 @@ pub fn width_needed(flat: &Flat, phase: u32) -> i64
 /// A phase is as wide as its elements ask.
 pub fn width_link(flat: &Flat, phase: u32) -> Link
     requires { IsPhase 8 phase }
-    ensures value { result ≡ width_link_of (alone flat.now).flat phase }
+    ensures value { result ≡ width_link_of flat.now phase }
     ensures range { IsSpan result.delay }
 {
     Link {
@@ -173,7 +172,7 @@ pub fn apart_link(i: u32, j: u32) -> Link
 /// How long after its phase's start an element opens, in femtoseconds; at a flop, its setup before the start.
 fn opening_delay(flat: &Flat, number: u32) -> i64
     requires { number < length flat.now.elements }
-    ensures value { result ≡ (opening_link_of (alone flat.now).flat number).delay }
+    ensures value { result ≡ (opening_link_of flat.now number).delay }
     ensures range { IsSpan result }
 {
     let element = element(flat, number);
@@ -188,7 +187,7 @@ fn opening_delay(flat: &Flat, number: u32) -> i64
 /// Elements are counted from 0.
 pub fn opening_link(flat: &Flat, number: u32) -> Link
     requires { number < length flat.now.elements }
-    ensures value { result ≡ opening_link_of (alone flat.now).flat number }
+    ensures value { result ≡ opening_link_of flat.now number }
     ensures range { IsSpan result.delay }
 {
     let element = element(flat, number);
@@ -204,7 +203,7 @@ pub fn opening_link(flat: &Flat, number: u32) -> Link
 /// A latch's phase is as wide as its setup.
 pub fn opened_link(flat: &Flat, number: u32) -> Link
     requires { number < length flat.now.elements }
-    ensures value { result ≡ opened_link_of (alone flat.now).flat number }
+    ensures value { result ≡ opened_link_of flat.now number }
     ensures range { IsSpan result.delay }
 {
     let element = element(flat, number);
@@ -222,7 +221,7 @@ pub fn reach_link(flat: &Flat, from: u32, to: u32, delay: i64) -> Link
     requires from { from < length flat.now.elements }
     requires to { to < length flat.now.elements }
     requires delay { IsDelay delay }
-    ensures value { result ≡ reach_link_of (alone flat.now).flat from to delay }
+    ensures value { result ≡ reach_link_of flat.now from to delay }
     ensures range { IsSpan result.delay }
     ensures cycles { result.cycles ≤ 1 }
 {
@@ -240,7 +239,7 @@ pub fn reach_link(flat: &Flat, from: u32, to: u32, delay: i64) -> Link
 /// A latch's data is there the setup before its phase ends, a flop's before its phase starts.
 pub fn setup_link(flat: &Flat, number: u32) -> Link
     requires { number < length flat.now.elements }
-    ensures value { result ≡ setup_link_of (alone flat.now).flat number }
+    ensures value { result ≡ setup_link_of flat.now number }
     ensures range { IsSpan result.delay }
 {
     let element = element(flat, number);

@@ -14,7 +14,7 @@ use Rattle.mintc_certificate.specs.Ranges.{IsDeparture}
 use Rattle.mintc_certificate.specs.Valid.{IsMember, link_of, links_of_members}
 
 -- The values, a moment for each node, are small enough to be said as a schedule with its departures.
-pub record AreSayable (design : Design).flat (values : List ℤ) : Type 0 where
+pub record AreSayable (design : Design) (values : List ℤ) : Type 0 where
   pub count : length values ≡ node_count design
   pub starts : EachPhase design (λ p. IsNumerator (value_at values (start_node p)))
   pub widths : EachPhase design (λ p. IsNumerator (value_at values (end_node p) -ℤ value_at values (start_node p)))

@@ -21,7 +21,7 @@ pub record IsSolution (links : List Link) (s : Schedule) (factor : ℤ) (moment 
 
 -- The schedule's denominator is that of its cycle time in lowest terms; and of all solutions of the links at this cycle time
 -- its starts, its ends and the moments at which its latches depart are the least.
-pub record IsEarliest (design : Design).flat (links : List Link) (s : Schedule) (d : List ℤ) : Type 0 where
+pub record IsEarliest (design : Design) (links : List Link) (s : Schedule) (d : List ℤ) : Type 0 where
   pub lowest : IsLowest (over s.cycle s.den)
   pub starts : (factor : ℤ) (moment : ℕ → ℤ) → IsSolution links s factor moment → EachPhase design (λ p. (start_of s p *ℤ factor) ≤ℤ moment (start_node p))
   pub ends : (factor : ℤ) (moment : ℕ → ℤ) → IsSolution links s factor moment → EachPhase design (λ p. (end_of s p *ℤ factor) ≤ℤ moment (end_node p))

@@ -46,7 +46,7 @@ AreElementLines elements den late early n lines =
     AllZip (λ l. IsLineOfTwo (element_line (slice_index_or elements l no_element).name) den (departure late l) (departure early l)) (range_with_len 0 n) lines
 
 -- The text of a pass with these departures: `pass`, and the line of each element.
-pub record IsPassText (design : Design).flat (s : Schedule) (late early : List ℤ) (text : List ℕ) : Type 0 where
+pub record IsPassText (design : Design) (s : Schedule) (late early : List ℤ) (text : List ℕ) : Type 0 where
   pub lines : List (List ℕ)
   pub elements : AreElementLines design.elements s.den late early (element_count design) lines
   pub whole : text ≡ text_of (codes "pass" ∷ lines)

@@ -107,7 +107,7 @@ chain_lines design chain = chain_line design chain ∷ flat_map (member_lines de
 
 -- The report of a schedule with its departures: the cycle time, the phases, the elements, and the chain that forbids
 -- every smaller cycle time.
-pub record IsLeastReport (design : Design).flat (s : Schedule) (d : List ℤ) (chain : List Member) (text : List ℕ) : Type 0 where
+pub record IsLeastReport (design : Design) (s : Schedule) (d : List ℤ) (chain : List Member) (text : List ℕ) : Type 0 where
   pub cycle_word : List ℕ
   pub phase_lines : List (List ℕ)
   pub late_lines : List (List ℕ)

@@ -1,6 +1,6 @@
 use Rattle.std.proofs.Common.{arith, subst}
 use Rattle.mintc_certificate.specs.Valid.{IsMember}
-use Rattle.mintc_certificate.specs.Named.{IsNamed}
+use Rattle.mintc_certificate.specs.Valid.{IsNamed}
 use Rattle.mintc_checker.specs.Judged.{timing_of}
 use Rattle.mintc_checker.proofs.Bounds.{item_at, places_more}
 use Rattle.mintc_checker.proofs.Deciding.{denied, holds}

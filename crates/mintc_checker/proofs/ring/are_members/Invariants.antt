@@ -1,7 +1,7 @@
 use Rattle.std.proofs.Common.{◌<◌, ℕ, get_or}
 use Rattle.mintc_certificate.specs.declared.members.Member.{Member}
 use Rattle.mintc_certificate.specs.Valid.{IsMember}
-use Rattle.mintc_certificate.specs.Named.{IsNamed}
+use Rattle.mintc_certificate.specs.Valid.{IsNamed}
 use Rattle.mintc_checker.specs.Judged.{OfTiming}
 use Rattle.mintc_checker.proofs.ring.are_members.Given as goal
 

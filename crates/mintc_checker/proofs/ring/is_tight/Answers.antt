@@ -3,7 +3,6 @@ use Rattle.std.proofs.lemmas.Int.{ints}
 use Rattle.mintc_timing.specs.Limits.{IsTime}
 use Rattle.mintc_timing.proofs.SharedFitting.{read_time, test_is, IsTime-IsDenominator, IsTime-IsNumerator}
 use Rattle.mintc_certificate.specs.Valid.{links_of_members}
-use Rattle.mintc_links.specs.Alone.{alone}
 use Rattle.mintc_checker.proofs.Deciding.{alike}
 use Rattle.mintc_checker.proofs.Scaled.{scaled_is, equal_bits, delay_fits, turns_fit}
 use Rattle.mintc_checker.proofs.ring.is_tight.Goals as goal
@@ -13,7 +12,7 @@ returns-then-sums-ge1 c =
     let s = c.args.clocked.now.schedule.now in
     let delay : ℤ = c.sums_of-sums.result.delay in
     let cycles : ℤ = c.sums_of-sums.result.cycles in
-    let links = links_of_members (alone c.args.clocked.now.flat.now).flat c.args.members.now in
+    let links = links_of_members c.args.clocked.now.flat.now c.args.members.now in
     let d_is = c.sums_of-sums.ensures.delay in
     let c_is = c.sums_of-sums.ensures.cycles in
     let d_range = c.sums_of-sums.ensures.delay_range in

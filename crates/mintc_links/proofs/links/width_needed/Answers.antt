@@ -6,13 +6,11 @@ use Rattle.mintc_timing.proofs.SharedExtremesLaws.{greater-turn}
 use Rattle.mintc_timing.specs.Design.{no_element}
 use Rattle.mintc_timing.specs.Limits.{IsDelay}
 use Rattle.mintc_links.proofs.links.width_needed.Goals as goal
-use Rattle.mintc_links.specs.Alone.{alone}
 use Rattle.mintc_links.proofs.links.width_needed.Goals.{then-element-phase, else-element-phase}
 
 pub loop-element-preserved : goal.loop-element-preserved
 loop-element-preserved c =
-    let t = alone c.args.flat.now in
-    let es = t.flat.elements in
+    let es = c.args.flat.now.elements in
     let n = c.loop-element.element-index in
     let old = c.loop-element.invariant in
     let es_is = c.elements-element-items.ensures.value in
