@@ -27,8 +27,8 @@ impl<'a, R: Files> Model for FolderShelf<'a, R> {
     ghost view = { λ s. s.faults };
 }
 
-/// The first bytes that a file has left, at most so many.
-fn read_front<F: Read>(file: &mut F, alloc: Global, most: usize) -> Result<Vec<u8>, ShelfError>
+/// The first bytes that a file has left, at most so many. Fails where a read fails, however much came before.
+pub fn read_front<F: Read>(file: &mut F, alloc: Global, most: usize) -> Result<Vec<u8>, ShelfError>
     ensures { IfOk result (λ v. length v.items ≤ most) }
 {
     let mut bytes = Vec::new(alloc);
@@ -146,100 +146,5 @@ impl<'a, R: Print> Sink for StreamSink<'a, R> {
             self.faults = self.faults.saturating_add(1);
         }
         written
-    }
-}
-
-#[cfg(test)]
-mod tests {
-    use super::*;
-    use std::fmt::Display;
-    use std::test::Fail;
-    use std::{io, process};
-
-    /// A reader that gives a byte at a time, and then fails.
-    #[derive(Drop)]
-    struct Broken {
-        left: u8,
-    }
-
-    impl Read for Broken {
-        fn read(&mut self, buf: &mut [u8]) -> io::Result<usize> {
-            if self.left == 0 || buf.is_empty() {
-                return Err(io::Error::from(io::ErrorKind::TimedOut));
-            }
-            self.left -= 1;
-            buf[0] = b'x';
-            Ok(1)
-        }
-    }
-
-    /// An output that takes a byte at a time, up to a byte `!`, which it never takes.
-    #[derive(Drop)]
-    struct Narrow;
-
-    impl Print for Narrow {
-        fn print<D: Display + Drop>(&self, _value: D) -> io::Result<()> {
-            Ok(())
-        }
-
-        fn println<D: Display + Drop>(&self, _value: D) -> io::Result<()> {
-            Ok(())
-        }
-
-        fn write_all(&self, _bytes: &[u8]) -> io::Result<()> {
-            Ok(())
-        }
-
-        fn write_some(&self, bytes: &[u8]) -> io::Result<usize> {
-            match bytes {
-                [] | [b'!', ..] => Ok(0),
-                _ => Ok(1),
-            }
-        }
-    }
-
-    #[test]
-    fn reads_a_file(rt: HostRuntime) -> Result<(), Fail> {
-        let alloc = rt.alloc();
-        let name = format!(in alloc; "mintc_text_{}.tmp", process::id(rt.process()))?;
-        fs::write(&rt, name.as_str(), "latches")?;
-        let mut shelf = FolderShelf::new(&rt);
-        assert_eq!(rt;
-            shelf.read(alloc, name.as_str(), 3)?.as_slice(),
-            b"lat".as_slice()
-        );
-        assert_eq!(rt;
-            shelf.read(alloc, name.as_str(), 100_000)?.as_slice(),
-            b"latches".as_slice()
-        );
-        assert_eq!(rt; shelf.faults, 0);
-        fs::remove_file(&rt, name.as_str())?;
-        assert!(rt; shelf.read(alloc, name.as_str(), 3).is_err());
-        assert_eq!(rt; shelf.faults, 1);
-        Ok(())
-    }
-
-    #[test]
-    fn stops_at_a_failing_read(rt: HostRuntime) -> Result<(), Fail> {
-        let whole = read_front(&mut Broken { left: 3 }, rt.alloc(), 3)?;
-        assert_eq!(rt; whole.as_slice(), b"xxx".as_slice());
-        assert!(rt; read_front(&mut Broken { left: 2 }, rt.alloc(), 3).is_err());
-        Ok(())
-    }
-
-    #[test]
-    fn writes_to_standard_output(rt: HostRuntime) {
-        let mut sink = StreamSink::new(&rt);
-        assert!(rt; sink.write(b"written by a sink\n").is_ok());
-        assert_eq!(rt; sink.faults, 0);
-    }
-
-    #[test]
-    fn stops_at_a_failing_write(rt: HostRuntime) {
-        let mut sink = StreamSink::new(&Narrow);
-        assert!(rt; sink.write(b"abc").is_ok());
-        assert_eq!(rt; sink.faults, 0);
-        assert!(rt; sink.write(b"ab!c").is_err());
-        assert_eq!(rt; sink.faults, 1);
     }
 }

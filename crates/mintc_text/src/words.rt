@@ -32,20 +32,3 @@ pub fn word(line: &[u8], from: usize) -> Option<(usize, usize)>
     }
     Some((from, past))
 }
-
-#[cfg(test)]
-mod tests {
-    use super::*;
-
-    #[test]
-    fn finds_words(rt: HostRuntime) {
-        let line = b"ab !~ \x7fc";
-        assert_eq!(rt; word(line, 0), Some((0, 2)));
-        assert_eq!(rt; word(line, 1), Some((1, 2)));
-        assert_eq!(rt; word(line, 2), None);
-        assert_eq!(rt; word(line, 3), Some((3, 5)));
-        assert_eq!(rt; word(line, 6), None);
-        assert_eq!(rt; word(line, 7), Some((7, 8)));
-        assert_eq!(rt; word(line, 8), None);
-    }
-}
