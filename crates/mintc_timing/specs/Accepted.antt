@@ -1,5 +1,6 @@
 -- Designs within the limits, without a closed list of arcs or an overlong path.
 use Rattle.std.specs.Prelude.{◌≢◌, ◌≤◌, ℕ, List, [], length, AllPairs}
+use Rattle.mintc_text.specs.declared.limits.TheConstants.{MOST_PAIRS}
 use Rattle.mintc_timing.specs.declared.parts.TimingArc.{TimingArc}
 use Rattle.mintc_timing.specs.declared.parts.Pair.{Pair}
 use Rattle.mintc_timing.specs.Design.{Design}
@@ -22,7 +23,7 @@ pub record IsAccepted (design : Design) : Type 0 where
   pub limits : IsDesign design
   pub no_loop : (loop : List ℕ) → IsArcLoop design.arcs loop → ⊥
   pub short : ArePathsShort design
-  pub few : (pairs : List Pair) → ArePairs design pairs → length pairs ≤ 200000
+  pub few : (pairs : List Pair) → ArePairs design pairs → length pairs ≤ MOST_PAIRS
 
 -- What a system keeps is kept by accepted designs alone.
 abbrev pub SystemsAreAccepted : Type 0
