@@ -1,5 +1,6 @@
 //! Links, one of each kind.
 ghost use Rattle.std.specs.Prelude.{◌≡◌, ◌<◌, ◌≤◌, ◌+◌, length};
+ghost use Rattle.mintc_text.specs.declared.limits.TheConstants.{MOST_PHASES};
 ghost use Rattle.mintc_timing.specs.Clocking.{least_width};
 ghost use Rattle.mintc_timing.specs.Design.{element_at};
 ghost use Rattle.mintc_timing.specs.Limits.{IsBound, IsDelay, IsDesign, IsElement, IsPhase, IsPoint, IsSpan};
@@ -19,7 +20,7 @@ fn element(flat: &Flat, number: u32) -> &Element
 
 /// The node of a phase's start.
 fn start(phase: u32) -> u32
-    requires { IsPhase 8 phase }
+    requires { IsPhase MOST_PHASES phase }
     ensures { result ≡ start_node phase }
 {
     2 * phase - 1
@@ -27,7 +28,7 @@ fn start(phase: u32) -> u32
 
 /// The node of a phase's end.
 fn end(phase: u32) -> u32
-    requires { IsPhase 8 phase }
+    requires { IsPhase MOST_PHASES phase }
     ensures { result ≡ end_node phase }
 {
     2 * phase
@@ -69,7 +70,7 @@ fn output(flat: &Flat, number: u32) -> u32
 
 /// A phase starts at time 0 or later. Phases are counted from 1.
 pub fn start_link(phase: u32) -> Link
-    requires { IsPhase 8 phase }
+    requires { IsPhase MOST_PHASES phase }
     ensures { result ≡ start_link_of phase }
 {
     Link {
@@ -83,7 +84,7 @@ pub fn start_link(phase: u32) -> Link
 
 /// A phase starts within the cycle.
 pub fn cycle_link(phase: u32) -> Link
-    requires { IsPhase 8 phase }
+    requires { IsPhase MOST_PHASES phase }
     ensures { result ≡ cycle_link_of phase }
 {
     Link {
@@ -97,8 +98,8 @@ pub fn cycle_link(phase: u32) -> Link
 
 /// The next phase starts no sooner.
 pub fn order_link(phase: u32) -> Link
-    requires phase { IsPhase 8 phase }
-    requires next { IsPhase 8 (phase + 1) }
+    requires phase { IsPhase MOST_PHASES phase }
+    requires next { IsPhase MOST_PHASES (phase + 1) }
     ensures { result ≡ order_link_of phase }
 {
     Link {
@@ -112,7 +113,7 @@ pub fn order_link(phase: u32) -> Link
 
 /// A phase is no wider than the cycle.
 pub fn span_link(phase: u32) -> Link
-    requires { IsPhase 8 phase }
+    requires { IsPhase MOST_PHASES phase }
     ensures { result ≡ span_link_of phase }
 {
     Link {
@@ -140,7 +141,7 @@ pub fn width_needed(flat: &Flat, phase: u32) -> i64
 
 /// A phase is as wide as its elements ask.
 pub fn width_link(flat: &Flat, phase: u32) -> Link
-    requires { IsPhase 8 phase }
+    requires { IsPhase MOST_PHASES phase }
     ensures value { result ≡ width_link_of flat.now phase }
     ensures range { IsSpan result.delay }
 {
@@ -155,8 +156,8 @@ pub fn width_link(flat: &Flat, phase: u32) -> Link
 
 /// Phase `i` starts no sooner than phase `j` ends, the cycles taken off.
 pub fn apart_link(i: u32, j: u32) -> Link
-    requires first { IsPhase 8 i }
-    requires second { IsPhase 8 j }
+    requires first { IsPhase MOST_PHASES i }
+    requires second { IsPhase MOST_PHASES j }
     ensures value { result ≡ apart_link_of i j }
     ensures cycles { result.cycles ≤ 1 }
 {
