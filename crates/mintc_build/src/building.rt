@@ -1,5 +1,6 @@
 //! Building designs and systems.
 ghost use Rattle.std.specs.Prelude.{◌≡◌, ◌≤◌, length, IfOk, IfErr};
+ghost use Rattle.mintc_text.specs.declared.limits.TheConstants.{MOST_BYTES};
 ghost use Rattle.mintc_text.specs.Stops.{StopsAt};
 ghost use Rattle.mintc_lines.specs.TableText.{IsTableRefusal, IsTableText};
 ghost use Rattle.mintc_build.specs.Designs.{HasSystem, IsDesignRefusal};
@@ -15,7 +16,7 @@ use std::alloc::Global;
 /// The design of a table. The refusal is Syntax with the first line out of form, counted from 1, or Limit of the first
 /// quantity that passes its limit.
 pub fn from_table(alloc: Global, text: &[u8]) -> Result<Flat, Stop>
-    requires { length text.now ≤ 67108864 }
+    requires { length text.now ≤ MOST_BYTES }
     ensures value { IfOk result (λ flat. IsTableText text.now flat) }
     ensures stop { IfErr result (StopsAt (IsTableRefusal text.now)) }
 {

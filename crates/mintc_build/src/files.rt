@@ -1,5 +1,6 @@
 //! The design of files.
 ghost use Rattle.std.specs.Prelude.{◌≡◌, ◌≤◌, length, IfOk, IfErr};
+ghost use Rattle.mintc_text.specs.declared.limits.TheConstants.{MOST_BYTES};
 ghost use Rattle.mintc_text.specs.Stops.{StopsAt};
 ghost use Rattle.mintc_build.specs.FilesDesign.{IsDesignOver, IsFilesDesign, IsFilesRefusal, IsLibertyDesign, IsLibertyRefusal, IsRefusalOver, cell_text, file_bytes};
 
@@ -25,7 +26,7 @@ enum CellFile<'a> {
 
 /// The cells of a text of either form, or its refusal.
 fn cells_of(alloc: Global, file: CellFile) -> Result<Cells, Stop>
-    requires { length (file_bytes file) ≤ 67108864 }
+    requires { length (file_bytes file) ≤ MOST_BYTES }
     ensures value { IfOk result (cell_text file.entry).Describes }
     ensures stop { IfErr result (StopsAt (cell_text file.entry).Refuses) }
 {
@@ -43,10 +44,10 @@ fn designed(
     cells: CellFile,
     clock: &[u8],
 ) -> Result<Flat, Stop>
-    requires netlist { length netlist.now ≤ 67108864 }
-    requires delays { length delays.now ≤ 67108864 }
-    requires cells { length (file_bytes cells) ≤ 67108864 }
-    requires clock { length clock.now ≤ 67108864 }
+    requires netlist { length netlist.now ≤ MOST_BYTES }
+    requires delays { length delays.now ≤ MOST_BYTES }
+    requires cells { length (file_bytes cells) ≤ MOST_BYTES }
+    requires clock { length clock.now ≤ MOST_BYTES }
     ensures value { IfOk result (λ flat. IsDesignOver netlist.now delays.now (cell_text cells.entry) clock.now flat) }
     ensures stop { IfErr result (StopsAt (IsRefusalOver netlist.now delays.now (cell_text cells.entry) clock.now)) }
 {
@@ -83,10 +84,10 @@ pub fn from_files(
     cells: &[u8],
     clock: &[u8],
 ) -> Result<Flat, Stop>
-    requires netlist { length netlist.now ≤ 67108864 }
-    requires delays { length delays.now ≤ 67108864 }
-    requires cells { length cells.now ≤ 67108864 }
-    requires clock { length clock.now ≤ 67108864 }
+    requires netlist { length netlist.now ≤ MOST_BYTES }
+    requires delays { length delays.now ≤ MOST_BYTES }
+    requires cells { length cells.now ≤ MOST_BYTES }
+    requires clock { length clock.now ≤ MOST_BYTES }
     ensures value { IfOk result (λ flat. IsFilesDesign netlist.now delays.now cells.now clock.now flat) }
     ensures stop { IfErr result (StopsAt (IsFilesRefusal netlist.now delays.now cells.now clock.now)) }
 {
@@ -108,10 +109,10 @@ pub fn from_liberty(
     liberty: &[u8],
     clock: &[u8],
 ) -> Result<Flat, Stop>
-    requires netlist { length netlist.now ≤ 67108864 }
-    requires delays { length delays.now ≤ 67108864 }
-    requires liberty { length liberty.now ≤ 67108864 }
-    requires clock { length clock.now ≤ 67108864 }
+    requires netlist { length netlist.now ≤ MOST_BYTES }
+    requires delays { length delays.now ≤ MOST_BYTES }
+    requires liberty { length liberty.now ≤ MOST_BYTES }
+    requires clock { length clock.now ≤ MOST_BYTES }
     ensures value { IfOk result (λ flat. IsLibertyDesign netlist.now delays.now liberty.now clock.now flat) }
     ensures stop { IfErr result (StopsAt (IsLibertyRefusal netlist.now delays.now liberty.now clock.now)) }
 {

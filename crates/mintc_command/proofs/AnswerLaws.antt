@@ -15,7 +15,7 @@ use Rattle.mintc_command.specs.Sources.{AreShort, IsLengthRefusal}
 use Rattle.mintc_command.specs.declared.answer.Answer.{Answer}
 use Rattle.mintc_command.specs.declared.command.Command.{Command}
 use Rattle.mintc_command.specs.declared.command.Command.TheVariants.{OfDesign, Sample, Corners}
-use Rattle.mintc_command.specs.declared.reading.TheConstants.{LONGEST}
+use Rattle.mintc_text.specs.declared.limits.TheConstants.{MOST_BYTES}
 use Rattle.mintc_command.specs.declared.status.Status.{Status}
 use Rattle.mintc_command.specs.declared.status.Status.TheVariants.{Done, Found, Refused, Usage, ReadFault, WriteFault, OutOfMemory}
 
@@ -39,7 +39,7 @@ IsOfCommand-no_usage OutOfMemory h e = h
 
 -- A defined answer of the words' command on its files is an answer to the words.
 IsAnswer-defined : (words names files : List (List ℕ)) (shelf : Option Files) (command : Command) (status : Status) (text : List ℕ) →
-    AreWordsOf command names words → AreFronts shelf (LONGEST + 1) names files → IsOfCommand status → IsDefined command files status text → IsAnswer words shelf status text
+    AreWordsOf command names words → AreFronts shelf (MOST_BYTES + 1) names files → IsOfCommand status → IsDefined command files status text → IsAnswer words shelf status text
 IsAnswer-defined words names files shelf command Done text are fronts of h = (command, names, are, files, fronts, h)
 IsAnswer-defined words names files shelf command Found text are fronts of h = (command, names, are, files, fronts, h)
 IsAnswer-defined words names files shelf command Refused text are fronts of h = (command, names, are, files, fronts, h)
@@ -50,7 +50,7 @@ IsAnswer-defined words names files shelf command OutOfMemory text are fronts of 
 
 -- Where nothing is refused, a defined answer is a whole one.
 IsComplete-defined : (names files : List (List ℕ)) (shelf : Option Files) (command : Command) (status : Status) (text : List ℕ) →
-    AreFronts shelf (LONGEST + 1) names files → IsOfCommand status → IsDefined command files status text → IsNotRefused shelf command names → IsComplete status
+    AreFronts shelf (MOST_BYTES + 1) names files → IsOfCommand status → IsDefined command files status text → IsNotRefused shelf command names → IsComplete status
 IsComplete-defined names files shelf command Done text fronts of h none = tt
 IsComplete-defined names files shelf command Found text fronts of h none = tt
 IsComplete-defined names files shelf command Refused text fronts of h none = none files h.0 fronts h.1
@@ -61,19 +61,19 @@ IsComplete-defined names files shelf command OutOfMemory text fronts of h none =
 
 -- The files that were read, seen as a slice, and the text, seen as its bytes.
 pub answered : (words names read files seen : List (List ℕ)) (shelf : Option Files) (command : Command) (status : Status) (text shown : List ℕ) →
-    AreWordsOf command names words → read ≡ names → AreFronts shelf (LONGEST + 1) read files → seen ≡ files → IsOfCommand status → IsDefined command seen status text →
+    AreWordsOf command names words → read ≡ names → AreFronts shelf (MOST_BYTES + 1) read files → seen ≡ files → IsOfCommand status → IsDefined command seen status text →
     shown ≡ text → IsAnswer words shelf status shown
 answered words names read files seen shelf command status text shown are same_names fronts same of h whole =
-    let P : List (List ℕ) → Type 0 = λ x. AreFronts shelf (LONGEST + 1) x files in
+    let P : List (List ℕ) → Type 0 = λ x. AreFronts shelf (MOST_BYTES + 1) x files in
     let Q : List (List ℕ) → Type 0 = λ x. IsDefined command x status text in
     let R : List ℕ → Type 0 = λ x. IsAnswer words shelf status x in
     subst R (sym whole) (IsAnswer-defined words names files shelf command status text are (subst P same_names fronts) of (subst Q same h))
 
 pub completed : (names read files seen : List (List ℕ)) (shelf : Option Files) (command : Command) (status now : Status) (text : List ℕ) →
-    read ≡ names → AreFronts shelf (LONGEST + 1) read files → seen ≡ files → IsOfCommand status → IsDefined command seen status text → IsNotRefused shelf command names →
+    read ≡ names → AreFronts shelf (MOST_BYTES + 1) read files → seen ≡ files → IsOfCommand status → IsDefined command seen status text → IsNotRefused shelf command names →
     now ≡ status → IsComplete now
 completed names read files seen shelf command status now text same_names fronts same of h none unchanged =
-    let P : List (List ℕ) → Type 0 = λ x. AreFronts shelf (LONGEST + 1) x files in
+    let P : List (List ℕ) → Type 0 = λ x. AreFronts shelf (MOST_BYTES + 1) x files in
     let Q : List (List ℕ) → Type 0 = λ x. IsDefined command x status text in
     subst (λ (x : Status). IsComplete x) (sym unchanged) (IsComplete-defined names files shelf command status text (subst P same_names fronts) of (subst Q same h) none)
 

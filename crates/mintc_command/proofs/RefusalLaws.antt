@@ -29,7 +29,7 @@ use Rattle.mintc_command.specs.declared.command.Job.{Job}
 use Rattle.mintc_command.specs.declared.command.Job.TheVariants.{Check, Optimise, Verify, Report, Safe, Slack}
 use Rattle.mintc_command.specs.declared.command.Source.{Source}
 use Rattle.mintc_command.specs.declared.command.Source.TheVariants.{Table, Files, Liberty}
-use Rattle.mintc_command.specs.declared.reading.TheConstants.{LONGEST}
+use Rattle.mintc_text.specs.declared.limits.TheConstants.{MOST_BYTES}
 use Rattle.mintc_command.specs.declared.status.Status.{Status}
 use Rattle.mintc_command.specs.declared.status.Status.TheVariants.{Done, Found, Refused, Usage, ReadFault, WriteFault, OutOfMemory}
 
@@ -65,9 +65,9 @@ no_length [] files refused short h = absurd h
 no_length (text ∷ roles) [] refused short h = absurd h
 no_length (text ∷ roles) (bytes ∷ files) refused short (inl h) =
     let long = h.0 in
-    let here = All-head (λ (b : List ℕ). length b ≤ LONGEST) bytes files short in
+    let here = All-head (λ (b : List ℕ). length b ≤ MOST_BYTES) bytes files short in
     omega (arith, long, here)
-no_length (text ∷ roles) (bytes ∷ files) refused short (inr h) = no_length roles files refused (All-tail (λ (b : List ℕ). length b ≤ LONGEST) bytes files short) h.1
+no_length (text ∷ roles) (bytes ∷ files) refused short (inr h) = no_length roles files refused (All-tail (λ (b : List ℕ). length b ≤ MOST_BYTES) bytes files short) h.1
 
 one_length : (roles : List Role) (files : List (List ℕ)) (refused other : Refusal) → IsLengthRefusal roles files refused → IsLengthRefusal roles files other → refused ≡ other
 one_length [] files refused other a b = absurd a

@@ -12,7 +12,7 @@ use Rattle.mintc_timing.specs.Limits.{IsDesign}
 use Rattle.mintc_build.specs.Designs.{HasSystem, IsDesignRefusal}
 use Rattle.mintc_command.specs.Sources.{AreShort, Describes, Gives, GivesOrdered, HasNoDesign, IsLengthRefusal, IsSourceRefused, IsSystemOf, file_at}
 use Rattle.mintc_command.specs.declared.command.Source.{Source}
-use Rattle.mintc_command.specs.declared.reading.TheConstants.{LONGEST}
+use Rattle.mintc_text.specs.declared.limits.TheConstants.{MOST_BYTES}
 
 -- What stops a system of the design of files stops the files.
 pub StopsAt-system : (source : Source) (files : List (List ℕ)) (design : Design) (s : Stop) → Describes source files design → IsDesign design → StopsAt (IsDesignRefusal design) s → StopsAt (IsSourceRefused source files) s
@@ -55,12 +55,12 @@ of_four Q R own source files v d c k said is a b e f h =
 
 -- A file that is too long, after some that aren't, is refused by its role.
 pub IsLengthRefusal-at : (roles : List Role) (files : List (List ℕ)) (n : ℕ) (d : Role) → n < length files → n < length roles →
-    AreShort (take n files) → LONGEST < length (get_or files n []) → IsLengthRefusal roles files (refusal.TooLong (get_or roles n d))
+    AreShort (take n files) → MOST_BYTES < length (get_or files n []) → IsLengthRefusal roles files (refusal.TooLong (get_or roles n d))
 IsLengthRefusal-at [] files n d below role_below short long = absurd (omega (arith, role_below))
 IsLengthRefusal-at (r ∷ roles) [] n d below role_below short long = absurd (omega (arith, below))
 IsLengthRefusal-at (r ∷ roles) (bytes ∷ files) zero d below role_below short long = inl (long, refl)
 IsLengthRefusal-at (r ∷ roles) (bytes ∷ files) (suc n) d below role_below short long =
     inr (
-      All-head (λ (b : List ℕ). length b ≤ LONGEST) bytes (take n files) short,
-      IsLengthRefusal-at roles files n d (omega (arith, below)) (omega (arith, role_below)) (All-tail (λ (b : List ℕ). length b ≤ LONGEST) bytes (take n files) short) long,
+      All-head (λ (b : List ℕ). length b ≤ MOST_BYTES) bytes (take n files) short,
+      IsLengthRefusal-at roles files n d (omega (arith, below)) (omega (arith, role_below)) (All-tail (λ (b : List ℕ). length b ≤ MOST_BYTES) bytes (take n files) short) long,
     )

@@ -1,6 +1,7 @@
 -- What a run answers: the first refusal of a command, its defined answer, and what a run leaves.
 use Rattle.std.specs.Prelude.{◌≡◌, ◌≤◌, ◌+◌, ◌⊎◌, ◌++◌, ℕ, List, Option, Some, None, codes, All}
 use Rattle.std.specs.List.{AllZip}
+use Rattle.mintc_text.specs.declared.limits.TheConstants.{MOST_BYTES, MOST_ELEMENTS}
 use Rattle.mintc_text.specs.Lines.{ended}
 use Rattle.mintc_text.specs.Outside.{Files, Holds, IsFront, Takes, TakesFront}
 use Rattle.mintc_text.specs.declared.refusals.Refusal.{Refusal}
@@ -15,7 +16,6 @@ use Rattle.mintc_command.specs.Sources.{AreShort, IsLengthRefusal, Gives, IsSour
 use Rattle.mintc_command.specs.declared.command.Command.{Command}
 use Rattle.mintc_command.specs.declared.command.Command.TheVariants.{OfDesign, Sample, Corners}
 use Rattle.mintc_command.specs.declared.command.Source.TheVariants as source
-use Rattle.mintc_command.specs.declared.reading.TheConstants.{LONGEST}
 use Rattle.mintc_command.specs.declared.status.Status.{Status}
 use Rattle.mintc_command.specs.declared.status.Status.TheVariants.{Done, Found, Refused, Usage, ReadFault, WriteFault, OutOfMemory}
 
@@ -51,7 +51,7 @@ abbrev pub IsContentAnswer : Command → List (List ℕ) → Status → List ℕ
 IsContentAnswer (OfDesign job from) texts status text = (t : Timing) × Gives from texts t × IsJobAnswer job t (own_file from texts) status text
 IsContentAnswer (Sample number) texts status text = (t : Timing) × Gives source.Files texts t × IsSummaryAnswer number t status text
 IsContentAnswer (Corners count) texts status text =
-    (ts : List Timing) × AreGiven (corners_of texts) ts × (elements_together ts ≤ 2000) × IsCornersAnswer ts status text
+    (ts : List Timing) × AreGiven (corners_of texts) ts × (elements_together ts ≤ MOST_ELEMENTS) × IsCornersAnswer ts status text
 
 -- The text of a refusal is its line; for a corner that line, and then the line of the refusal of the corner's own files.
 abbrev pub IsRefusalText : Command → List (List ℕ) → Refusal → List ℕ → Type 0
@@ -78,7 +78,7 @@ IsOfCommand status = ⊥
 -- Whatever the files of these names are read as, the command refuses none of them.
 abbrev pub IsNotRefused : Option Files → Command → List (List ℕ) → Type 0
 IsNotRefused files command names =
-    (fronts : List (List ℕ)) (refused : Refusal) → AreFronts files (LONGEST + 1) names fronts → IsFirstRefusal command fronts refused → ⊥
+    (fronts : List (List ℕ)) (refused : Refusal) → AreFronts files (MOST_BYTES + 1) names fronts → IsFirstRefusal command fronts refused → ⊥
 
 -- The status is that of an answer which isn't a refusal, or memory was wanting.
 abbrev pub IsComplete : Status → Type 0
@@ -92,7 +92,7 @@ IsComplete status = ⊥
 abbrev pub IsAnswer : List (List ℕ) → Option Files → Status → List ℕ → Type 0
 IsAnswer words files Usage text = (IsCommand words → ⊥) × (text ≡ usage_line)
 IsAnswer words files status text =
-    (command : Command) × (names : List (List ℕ)) × AreWordsOf command names words × (fronts : List (List ℕ)) × AreFronts files (LONGEST + 1) names fronts
+    (command : Command) × (names : List (List ℕ)) × AreWordsOf command names words × (fronts : List (List ℕ)) × AreFronts files (MOST_BYTES + 1) names fronts
     × IsDefined command fronts status text
 
 -- What a run leaves of the bytes that the sink took: with an answer its text at the end, with a failed write a front of

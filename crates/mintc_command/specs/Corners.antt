@@ -2,6 +2,7 @@
 -- corner with the others.
 use Rattle.std.specs.Prelude.{◌≡◌, ◌<◌, ◌*◌, ◌⊎◌, ℕ, suc, List, [], ◌∷◌, length, map, drop}
 use Rattle.std.specs.List.{AllZip}
+use Rattle.mintc_text.specs.declared.limits.TheConstants.{MOST_ELEMENTS}
 use Rattle.mintc_text.specs.Lines.{text_of}
 use Rattle.mintc_text.specs.declared.refusals.Refusal.{Refusal}
 use Rattle.mintc_text.specs.declared.refusals.Refusal.TheVariants as refusal
@@ -48,7 +49,7 @@ elements_together (t ∷ ts) = length (t ∷ ts) * element_count t.flat
 
 -- They are more than a design may have.
 abbrev pub AreTooMany : List Timing → Refusal → Type 0
-AreTooMany ts refused = (2000 < elements_together ts) × (refused ≡ refusal.Limit kind.Elements (elements_together ts))
+AreTooMany ts refused = (MOST_ELEMENTS < elements_together ts) × (refused ≡ refusal.Limit kind.Elements (elements_together ts))
 
 -- The refusal of a command with these corners: of the first corner that is refused, or of the elements of all.
 abbrev pub IsCornersRefusal : List (List (List ℕ)) → Refusal → Type 0

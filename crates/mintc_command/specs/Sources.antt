@@ -1,5 +1,6 @@
 -- What designs are read from: the timing that files give, or why they give none.
 use Rattle.std.specs.Prelude.{◌<◌, ◌≤◌, ◌≡◌, ◌⊎◌, ℕ, List, [], ◌∷◌, length, slice_index_or, All}
+use Rattle.mintc_text.specs.declared.limits.TheConstants.{MOST_BYTES}
 use Rattle.mintc_text.specs.declared.refusals.Refusal.{Refusal}
 use Rattle.mintc_text.specs.declared.refusals.Refusal.TheVariants as refusal
 use Rattle.mintc_text.specs.declared.refusals.Role.{Role}
@@ -14,7 +15,6 @@ use Rattle.mintc_build.specs.FilesDesign.{IsFilesDesign, IsFilesRefusal, IsLiber
 use Rattle.mintc_command.specs.Commands.{source_roles}
 use Rattle.mintc_command.specs.declared.command.Source.{Source}
 use Rattle.mintc_command.specs.declared.command.Source.TheVariants.{Table, Files, Liberty}
-use Rattle.mintc_command.specs.declared.reading.TheConstants.{LONGEST}
 
 -- the bytes of the file of a number, counted from 0
 abbrev pub file_at : List (List ℕ) → ℕ → List ℕ
@@ -26,14 +26,14 @@ own_file source files = file_at files (length (source_roles source))
 
 -- No file is too long.
 abbrev pub AreShort : List (List ℕ) → Type 0
-AreShort files = All (λ bytes. length bytes ≤ LONGEST) files
+AreShort files = All (λ bytes. length bytes ≤ MOST_BYTES) files
 
 -- The refusal of the first file that is too long, in the order of the words.
 abbrev pub IsLengthRefusal : List Role → List (List ℕ) → Refusal → Type 0
 IsLengthRefusal [] files refused = ⊥
 IsLengthRefusal (text ∷ roles) [] refused = ⊥
 IsLengthRefusal (text ∷ roles) (bytes ∷ files) refused =
-    ((LONGEST < length bytes) × (refused ≡ refusal.TooLong text)) ⊎ ((length bytes ≤ LONGEST) × IsLengthRefusal roles files refused)
+    ((MOST_BYTES < length bytes) × (refused ≡ refusal.TooLong text)) ⊎ ((length bytes ≤ MOST_BYTES) × IsLengthRefusal roles files refused)
 
 -- The files of a design, which come first, stand for it: a table, or a netlist, delays, cells or a Liberty library, and a clock.
 abbrev pub Describes : Source → List (List ℕ) → Design → Type 0

@@ -13,19 +13,19 @@ use crate::command::{Command, Job, Source};
 use crate::corners::cornered;
 use crate::keeping::kept;
 use crate::optimum::{optimised, reported, summarised};
-use crate::reading::LONGEST;
 use crate::refusing::refused;
 use crate::slacks::slacked;
 use crate::source::{Ordered, ordered_of, own_file, system_of, too_long};
 use crate::verifying::verified;
 use mintc_sample::files;
+use mintc_text::limits::MOST_BYTES;
 use mintc_text::{Bytes, OutOfMemory, Refusal, Stop};
 use mintc_timing::System;
 use std::alloc::Global;
 
 /// The answer to a job on a system and on the file that stands beside the design's, or why that file is refused.
 fn answered(alloc: Global, job: Job, system: &System, file: &[u8]) -> Result<Answer, Stop>
-    requires { length file.now ≤ LONGEST }
+    requires { length file.now ≤ MOST_BYTES }
     ensures value { IfOk result (λ answer. IsJobAnswer job system.now file.now answer.status answer.text) }
     ensures stop { IfErr result (StopsAt (IsFileRefused job system.now.flat file.now)) }
 {

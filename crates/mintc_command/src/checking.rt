@@ -7,19 +7,19 @@ ghost use Rattle.mintc_command.specs.Jobs.{IsFileRefused, IsJobAnswer, IsJudgeme
 
 use crate::answer::Answer;
 use crate::command::Job;
-use crate::reading::LONGEST;
 use crate::status::Status;
 use mintc_constraints::Room;
 use mintc_departure::violations;
 use mintc_lines::read_schedule;
 use mintc_report::{fail_text, pass_text, violations_name_pairs};
+use mintc_text::limits::MOST_BYTES;
 use mintc_text::{Bytes, OutOfMemory, Refusal, Stop};
 use mintc_timing::{Schedule, System};
 use std::alloc::Global;
 
 /// The schedule of a text, which is to have so many phases, or its first refusal.
 fn schedule_of(text: &[u8], phases: usize) -> Result<Schedule, Refusal>
-    requires text { length text.now ≤ LONGEST }
+    requires text { length text.now ≤ MOST_BYTES }
     requires few { phases ≤ 8 }
     ensures value { IfOk result (λ schedule. IsScheduleOf text.now phases schedule) }
     ensures in_range { IfOk result IsInRange }
@@ -67,7 +67,7 @@ fn judged(alloc: Global, system: &System, schedule: &Schedule) -> Result<Answer,
 
 /// The judgement of the schedule of a text, or why the text is refused.
 pub fn checked(alloc: Global, system: &System, file: &[u8]) -> Result<Answer, Stop>
-    requires { length file.now ≤ LONGEST }
+    requires { length file.now ≤ MOST_BYTES }
     ensures value { IfOk result (λ answer. IsJobAnswer Job.Check system.now file.now answer.status answer.text) }
     ensures stop { IfErr result (StopsAt (IsFileRefused Job.Check system.now.flat file.now)) }
 {

@@ -11,12 +11,12 @@ ghost use Rattle.mintc_command.specs.Sources.{AreShort, Gives, IsSourceRefused};
 
 use crate::answer::Answer;
 use crate::command::{Command, Source};
-use crate::reading::LONGEST;
 use crate::refusing::{refused, refused_corner};
 use crate::source::accepted_system;
 use crate::status::Status;
 use mintc_build::{corners_differ_in_numbers, from_files};
 use mintc_corners::{CornerCertificate, corners, corners_text};
+use mintc_text::limits::{MOST_BYTES, MOST_ELEMENTS};
 use mintc_text::{Bytes, Kind, OutOfMemory, Refusal, Stop};
 use mintc_timing::System;
 use mintc_walks::Steps;
@@ -36,7 +36,7 @@ pub enum CornerStop {
 fn corner_system(alloc: Global, texts: &[Bytes], delays: &Bytes) -> Result<System, Stop>
     requires all { 3 ≤ length texts.now }
     requires short { AreShort texts.now }
-    requires delays { length delays.now ≤ LONGEST }
+    requires delays { length delays.now ≤ MOST_BYTES }
     ensures value { IfOk result (Gives Source.Files (files_with texts.now delays.now)) }
     ensures stop { IfErr result (StopsAt (IsSourceRefused Source.Files (files_with texts.now delays.now))) }
 {
@@ -90,10 +90,10 @@ fn corner_systems(
 fn too_many(systems: &[System]) -> Option<Refusal>
     requires some { 1 ≤ length systems.now }
     requires few { length systems.now ≤ 4 }
-    ensures { MatchOption result (elements_together systems.now ≤ 2000) (AreTooMany systems.now) }
+    ensures { MatchOption result (elements_together systems.now ≤ MOST_ELEMENTS) (AreTooMany systems.now) }
 {
     let elements = systems.len() * systems[0].flat().elements().len();
-    if elements > 2_000 {
+    if elements > MOST_ELEMENTS {
         Some(Refusal::Limit {
             kind: Kind::Elements,
             count: elements as u64,
@@ -115,7 +115,7 @@ fn certificate_from<L: Ledger>(
     requires some { 2 ≤ length systems.now }
     requires few { length systems.now ≤ 4 }
     requires alike { AreCorners systems.now }
-    requires elements { length (flat_map (λ t. t.flat.elements) systems.now) ≤ 2000 }
+    requires elements { length (flat_map (λ t. t.flat.elements) systems.now) ≤ MOST_ELEMENTS }
     ensures { IfOk result (IsOptimumOf systems.now) }
 {
     let mut steps = Steps::<L>::open(blank);
@@ -137,7 +137,7 @@ fn optimum_of(alloc: Global, systems: &[System]) -> Result<Answer, OutOfMemory>
     requires some { 2 ≤ length systems.now }
     requires few { length systems.now ≤ 4 }
     requires alike { AreCorners systems.now }
-    requires elements { elements_together systems.now ≤ 2000 }
+    requires elements { elements_together systems.now ≤ MOST_ELEMENTS }
     ensures { IfOk result (λ answer. IsCornersAnswer systems.now answer.status answer.text) }
 {
     let certificate = certificate_from::<Brand>(alloc, systems, Blank::new(1))?;

@@ -4,11 +4,9 @@ ghost use Rattle.mintc_text.specs.Outside.{Rose};
 ghost use Rattle.mintc_command.specs.Answers.{AreFronts, HoldsAll, MakesAtMost};
 ghost use Rattle.mintc_command.specs.Commands.{bytes_of};
 
+use mintc_text::limits::MOST_BYTES;
 use mintc_text::{Bytes, Shelf, ShelfError};
 use std::alloc::Global;
-
-/// The most bytes that a file may have.
-pub const LONGEST: usize = 67_108_864;
 
 /// The first bytes of each file, at most one more than a file may have. No read is made after one that fails.
 pub fn read_files<S: Shelf>(
@@ -16,7 +14,7 @@ pub fn read_files<S: Shelf>(
     shelf: &mut S,
     names: &[String],
 ) -> Result<Vec<Bytes>, ShelfError>
-    ensures fronts { IfOk result (λ files. AreFronts (S.files shelf.old) (LONGEST + 1) (bytes_of names.now) files.items) }
+    ensures fronts { IfOk result (λ files. AreFronts (S.files shelf.old) (MOST_BYTES + 1) (bytes_of names.now) files.items) }
     ensures held { OnOk result (HoldsAll (S.files shelf.old) (bytes_of names.now)) }
     ensures same { S.files shelf.new ≡ S.files shelf.old }
     ensures later { S.faults shelf.old ≤ S.faults shelf.new }
@@ -27,7 +25,7 @@ pub fn read_files<S: Shelf>(
 {
     let mut files = Vec::new(alloc);
     for name in names {
-        match shelf.read(alloc, name.as_str(), LONGEST + 1) {
+        match shelf.read(alloc, name.as_str(), MOST_BYTES + 1) {
             Ok(bytes) => {
                 let Ok(()) = files.push(Bytes::new(bytes)) else {
                     return Err(ShelfError::OutOfMemory);

@@ -7,8 +7,8 @@ ghost use Rattle.mintc_build.specs.Designs.{IsDesignRefusal};
 ghost use Rattle.mintc_command.specs.Sources.{AreShort, Describes, Gives, GivesOrdered, HasNoDesign, IsLengthRefusal, IsSourceRefused, IsSystemOf, own_file};
 
 use crate::command::Source;
-use crate::reading::LONGEST;
 use mintc_build::{from_files, from_liberty, from_table, system, system_order};
+use mintc_text::limits::MOST_BYTES;
 use mintc_text::{Bytes, Refusal, Role, Stop};
 use mintc_timing::{Flat, Order, System, systems_are_accepted};
 use std::alloc::Global;
@@ -19,7 +19,7 @@ pub fn too_long(roles: &[Role], files: &[Bytes]) -> Option<Refusal>
     ensures { MatchOption result (AreShort files.now) (IsLengthRefusal roles.now files.now) }
 {
     for place in 0..files.len() {
-        if files[place].items().len() > LONGEST {
+        if files[place].items().len() > MOST_BYTES {
             return Some(Refusal::TooLong { role: roles[place] });
         }
     }
@@ -136,7 +136,7 @@ pub fn ordered_of(alloc: Global, source: Source, files: &mut [Bytes]) -> Result<
 pub fn own_file(source: Source, files: &[Bytes]) -> &[u8]
     requires { AreShort files.now }
     ensures value { result.now ≡ own_file source files.now }
-    ensures short { length result.now ≤ LONGEST }
+    ensures short { length result.now ≤ MOST_BYTES }
 {
     let place = match source {
         Source::Table => 1,

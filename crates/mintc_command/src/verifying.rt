@@ -10,11 +10,11 @@ ghost use Rattle.mintc_command.specs.Jobs.{IsJobAnswer, IsVerdictAnswer, verdict
 
 use crate::answer::Answer;
 use crate::command::Job;
-use crate::reading::LONGEST;
 use crate::status::Status;
 use mintc_certificate::{Certificate, read};
 use mintc_checker::{Verdict, examine_flat};
 use mintc_report::verdict_text;
+use mintc_text::limits::MOST_BYTES;
 use mintc_text::{Bytes, OutOfMemory, Stop};
 use mintc_timing::{Flat, Order};
 use std::alloc::Global;
@@ -53,7 +53,7 @@ fn examined(
 pub fn verified(alloc: Global, flat: &Flat, order: &Order, file: &[u8]) -> Result<Answer, Stop>
     requires order { IsOrder flat.now.arcs order.now }
     requires short { ArePathsShort flat.now }
-    requires file { length file.now ≤ LONGEST }
+    requires file { length file.now ≤ MOST_BYTES }
     ensures value { IfOk result (λ answer. (t : Timing) → t.flat ≡ flat.now → ArePairs t.flat t.pairs → IsJobAnswer Job.Verify t file.now answer.status answer.text) }
     ensures stop { IfErr result (StopsAt (IsCertificateRefusal file.now)) }
 {

@@ -1,5 +1,6 @@
 -- What a corner certificate must be: when a chain of joint links shows what it claims, and what more it keeps.
 use Rattle.std.specs.Prelude.{◌≡◌, ◌<◌, ◌*◌, ◌+◌, ℕ, zero, suc, pos, ◌*ℤ◌, ◌<ℤ◌, ◌≤ℤ◌, List, ◌∷◌, length, slice_index_or, map, All, ◌≢◌, ◌≤◌, ℤ, [], flat_map, AllPairs}
+use Rattle.mintc_text.specs.declared.limits.TheConstants.{MOST_MEMBERS}
 use Rattle.mintc_timing.specs.declared.clocking.Schedule.{Schedule}
 use Rattle.mintc_timing.specs.declared.link.Link.{Link}
 use Rattle.mintc_rings.specs.Rings.{IsClosed}
@@ -93,7 +94,7 @@ IsCornerCounted m = IsCount m.corner × IsCounted m.member
 -- from 1 to 4,096 members, each number of which is a count
 pub record IsCornerChainInRange (chain : List CornerMember) : Type 0 where
   pub some : 1 ≤ length chain
-  pub most : length chain ≤ 4096
+  pub most : length chain ≤ MOST_MEMBERS
   pub each : All IsCornerCounted chain
 
 -- the departures of a corner that a text can say

@@ -1,6 +1,7 @@
 -- The joint links as they are made, those of each corner in turn over one clock, and what the parts of a certificate are made of.
 use Rattle.std.specs.Prelude.{◌≡◌, ◌<◌, ◌≤◌, ◌+◌, ◌*◌, ℕ, zero, suc, ℤ, pos, nat_lt, if◌then◌else◌, List, [], ◌∷◌, ◌++◌, length, slice_index_or, map, flat_map, take, drop, All}
 use Rattle.std.specs.Int.{int_max}
+use Rattle.mintc_text.specs.declared.limits.TheConstants.{MOST_ELEMENTS}
 use Rattle.mintc_timing.specs.declared.link.Link.{Link}
 use Rattle.mintc_timing.specs.declared.link.LinkKind.{LinkKind}
 use Rattle.mintc_timing.specs.declared.link.LinkKind.TheVariants as kind
@@ -64,10 +65,10 @@ own_list t = constraints_of (node_count t.flat) (links_of t)
 
 -- The link's nodes and elements are few, so that those of all corners are.
 abbrev pub HasLowKind : LinkKind → Type 0
-HasLowKind (kind.Opening l) = l < 2000
-HasLowKind (kind.Opened l) = l < 2000
-HasLowKind (kind.Reach j l) = (j < 2000) × (l < 2000)
-HasLowKind (kind.Setup l) = l < 2000
+HasLowKind (kind.Opening l) = l < MOST_ELEMENTS
+HasLowKind (kind.Opened l) = l < MOST_ELEMENTS
+HasLowKind (kind.Reach j l) = (j < MOST_ELEMENTS) × (l < MOST_ELEMENTS)
+HasLowKind (kind.Setup l) = l < MOST_ELEMENTS
 HasLowKind which = Unit {0}
 
 pub record IsLow (k : Link) : Type 0 where
@@ -122,7 +123,7 @@ StandForAll (t ∷ ts) chain members = AreStanding t ts chain members
 
 -- The moments of the corner after so many elements are small enough to be said.
 pub record IsSayable (clock before : ℕ) (design : Design) (values : List ℤ) : Type 0 where
-  pub before_few : before ≤ 2000
+  pub before_few : before ≤ MOST_ELEMENTS
   pub inside : 1 + clock + before + element_count design ≤ length values
   pub sayable : AreSayable design (own_values clock before (element_count design) values)
 

@@ -1,5 +1,6 @@
 //! The members for a chain of joint links.
 ghost use Rattle.std.specs.Prelude.{◌≡◌, ◌<◌, ◌≤◌, ◌+◌, IfOk, All, length, map, flat_map};
+ghost use Rattle.mintc_text.specs.declared.limits.TheConstants.{MOST_ELEMENTS};
 ghost use Rattle.mintc_timing.specs.Links.{link_at};
 ghost use Rattle.mintc_corners.specs.Joined.{IsPlace, joined_links, own_list, corner_number, StandForAll, StandsFor};
 ghost use Rattle.mintc_corners.specs.Joint.{AreCorners};
@@ -53,7 +54,7 @@ fn corner_member_of(
     requires few { length systems.now ≤ 4 }
     requires some { 1 ≤ length systems.now }
     requires alike { AreCorners systems.now }
-    requires elements { length (flat_map (λ t. t.flat.elements) systems.now) ≤ 2000 }
+    requires elements { length (flat_map (λ t. t.flat.elements) systems.now) ≤ MOST_ELEMENTS }
     requires kept { AreSystems systems.now }
     requires lists { lists.now ≡ map own_list systems.now }
     requires finders { length finders.old.items ≡ length systems.now }
@@ -93,7 +94,7 @@ pub(crate) fn members(
     requires few { length systems.now ≤ 4 }
     requires some { 1 ≤ length systems.now }
     requires alike { AreCorners systems.now }
-    requires elements { length (flat_map (λ t. t.flat.elements) systems.now) ≤ 2000 }
+    requires elements { length (flat_map (λ t. t.flat.elements) systems.now) ≤ MOST_ELEMENTS }
     requires kept { AreSystems systems.now }
     requires lists { lists.now ≡ map own_list systems.now }
     requires chain { All (λ e. e < length (joined_links systems.now)) chain.now }

@@ -1,5 +1,6 @@
 //! The schedule and the departures of each corner, from the moments of all nodes.
 ghost use Rattle.std.specs.Prelude.{◌≡◌, ◌≤◌, ◌+◌, IfOk, All, length, slice_index_or};
+ghost use Rattle.mintc_text.specs.declared.limits.TheConstants.{MOST_ELEMENTS};
 ghost use Rattle.mintc_timing.specs.Limits.{IsInRange};
 ghost use Rattle.mintc_constraints.specs.Duality.{schedule_of};
 ghost use Rattle.mintc_ratio.specs.Searched.{IsCycle};
@@ -24,7 +25,7 @@ fn own_values(
     values: &[i128],
 ) -> Result<Vec<i128>, OutOfMemory>
     requires clock { clock ≤ 16 }
-    requires before { before ≤ 2000 }
+    requires before { before ≤ MOST_ELEMENTS }
     requires inside { 1 + clock + before + count ≤ length values.now }
     ensures { IfOk result (λ own. own.items ≡ own_values_of clock before count values.now) }
 {

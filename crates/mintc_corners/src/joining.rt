@@ -1,5 +1,6 @@
 //! The links of all corners over one clock.
 ghost use Rattle.std.specs.Prelude.{◌≡◌, ◌≤◌, ◌++◌, ◌*◌, IfOk, OnOk, All, length, map, flat_map};
+ghost use Rattle.mintc_text.specs.declared.limits.TheConstants.{MOST_ELEMENTS};
 ghost use Rattle.mintc_constraints.specs.Ordinary.{constraints_of};
 ghost use Rattle.mintc_corners.specs.Joint.{joint_nodes, AreCorners};
 ghost use Rattle.mintc_corners.specs.Joined.{IsLow, joined_links, lifted_link, own_list, widest};
@@ -36,7 +37,7 @@ fn append_corner(
     items: &mut Vec<Link>,
 ) -> Result<(), OutOfMemory>
     requires links { All IsLow links.now }
-    requires before { before ≤ 2000 }
+    requires before { before ≤ MOST_ELEMENTS }
     ensures { OnOk result (items.new.items ≡ items.old.items ++ map (lifted_link (widest systems.now) clock before) links.now) }
 {
     for link in links {
@@ -64,7 +65,7 @@ pub(crate) fn joint_links(
     requires few { length systems.now ≤ 4 }
     requires some { 1 ≤ length systems.now }
     requires alike { AreCorners systems.now }
-    requires elements { length (flat_map (λ t. t.flat.elements) systems.now) ≤ 2000 }
+    requires elements { length (flat_map (λ t. t.flat.elements) systems.now) ≤ MOST_ELEMENTS }
     requires kept { AreSystems systems.now }
     requires lists { lists.now ≡ map own_list systems.now }
     ensures { IfOk result (λ list. list ≡ constraints_of (joint_nodes systems.now) (joined_links systems.now)) }

@@ -1,5 +1,6 @@
 //! The links of a corner among those of all corners.
 ghost use Rattle.std.specs.Prelude.{◌≡◌, ◌≤◌};
+ghost use Rattle.mintc_text.specs.declared.limits.TheConstants.{MOST_ELEMENTS};
 ghost use Rattle.mintc_corners.specs.Joined.{HasLowKind, IsLow, lifted_delay as lifted_delay_of, lifted_kind as lifted_kind_of, lifted_link, lifted_node as lifted_node_of, widest};
 
 use mintc_constraints::{Link, LinkKind};
@@ -10,7 +11,7 @@ use mintc_timing::System;
 /// after those of the corners before.
 fn lifted_node(clock: u32, before: u32, node: u32) -> u32
     requires node { node ≤ 2016 }
-    requires before { before ≤ 2000 }
+    requires before { before ≤ MOST_ELEMENTS }
     ensures { result ≡ lifted_node_of clock before node }
 {
     if clock < node { before + node } else { node }
@@ -19,7 +20,7 @@ fn lifted_node(clock: u32, before: u32, node: u32) -> u32
 /// What a corner's link stands for, its elements numbered among those of all.
 fn lifted_kind(before: u32, kind: LinkKind) -> LinkKind
     requires kind { HasLowKind kind }
-    requires before { before ≤ 2000 }
+    requires before { before ≤ MOST_ELEMENTS }
     ensures { result ≡ lifted_kind_of before kind }
 {
     match kind {
@@ -64,7 +65,7 @@ fn lifted_delay(systems: &[System], link: &Link) -> i64
 /// A corner's link among those of all.
 pub(crate) fn lifted(systems: &[System], clock: u32, before: u32, link: &Link) -> Link
     requires link { IsLow link.now }
-    requires before { before ≤ 2000 }
+    requires before { before ≤ MOST_ELEMENTS }
     ensures { result ≡ lifted_link (widest systems.now) clock before link.now }
 {
     Link {

@@ -1,5 +1,6 @@
 //! The least cycle time of several corners, with its certificate.
 ghost use Rattle.std.specs.Prelude.{◌≡◌, ◌≤◌, ◌+◌, ◌*◌, IfOk, length, map, flat_map};
+ghost use Rattle.mintc_text.specs.declared.limits.TheConstants.{MOST_ELEMENTS};
 ghost use Rattle.mintc_constraints.specs.Ordinary.{constraints_of};
 ghost use Rattle.mintc_ratio.specs.Searched.{HasSearched};
 ghost use Rattle.mintc_corners.specs.CornerOptimum.{IsOptimumOf};
@@ -30,7 +31,7 @@ fn certificate(
     requires few { length systems.now ≤ 4 }
     requires some { 1 ≤ length systems.now }
     requires alike { AreCorners systems.now }
-    requires elements { length (flat_map (λ t. t.flat.elements) systems.now) ≤ 2000 }
+    requires elements { length (flat_map (λ t. t.flat.elements) systems.now) ≤ MOST_ELEMENTS }
     requires kept { AreSystems systems.now }
     requires lists { lists.now ≡ map own_list systems.now }
     requires searched { HasSearched (constraints_of (joint_nodes systems.now) (joined_links systems.now)) room.now outcome }
@@ -63,7 +64,7 @@ pub fn corners<L: Ledger>(
     requires few { length systems.now ≤ 4 }
     requires some { 2 ≤ length systems.now }
     requires alike { AreCorners systems.now }
-    requires elements { length (flat_map (λ t. t.flat.elements) systems.now) ≤ 2000 }
+    requires elements { length (flat_map (λ t. t.flat.elements) systems.now) ≤ MOST_ELEMENTS }
     ensures optimum { IfOk result (IsOptimumOf systems.now) }
     ensures cost { steps.new ≤ steps.old + 68 * (joint_nodes systems.now + 1) }
 {

@@ -1,5 +1,6 @@
 -- How many pairs a design has.
 use Rattle.std.specs.Prelude.{◌≡◌, ◌≢◌, ◌<◌, ◌≤◌, ◌+◌, ◌*◌, ℕ, List, length}
+use Rattle.mintc_text.specs.declared.limits.TheConstants.{MOST_ELEMENTS}
 use Rattle.mintc_timing.specs.declared.parts.Pair.{Pair}
 use Rattle.mintc_timing.specs.Design.{Design}
 use Rattle.mintc_timing.specs.Paths.{IsPath, ArePairs, HasExtremes, input_of}
@@ -18,7 +19,7 @@ pub record IsCountBefore (design : Design) (from to count : ℕ) : Type 0 where
   pub pairs : List Pair
   pub are_pairs : ArePairsBefore design from to pairs
   pub is_count : length pairs ≡ count
-  pub few : count ≤ 2000 * from + to
+  pub few : count ≤ MOST_ELEMENTS * from + to
 
 -- The mark is set exactly where the design has a pair of elements `from` and `to`.
 pub record IsPairMark (design : Design) (from to mark : ℕ) : Type 0 where

@@ -1,5 +1,6 @@
 //! The number of a design's pairs.
 ghost use Rattle.std.specs.Prelude.{◌≡◌, ◌<◌, ◌≤◌, ◌+◌, ◌*◌, length, IfOk, IfErr, OnOk};
+ghost use Rattle.mintc_text.specs.declared.limits.TheConstants.{MOST_ELEMENTS};
 ghost use Rattle.mintc_text.specs.Stops.{StopsAt};
 ghost use Rattle.mintc_timing.specs.Design.{Design};
 ghost use Rattle.mintc_timing.specs.Order.{IsOrder, ArePathsShort};
@@ -13,6 +14,7 @@ ghost use Rattle.mintc_paths.specs.Sums.{IsCourse};
 use crate::back::count_back;
 use crate::marks::{Marks, NO_MARKS, gather, list_reached, mark_all, mark_of};
 use mintc_paths::{Awake, Course, are_few_entered, are_plainly_short, course_of, extremes};
+use mintc_text::limits::MOST_PAIRS;
 use mintc_text::{Kind, Refusal, Stop};
 use mintc_timing::{Flat, Order};
 use std::alloc::{AllocError, Global};
@@ -22,7 +24,7 @@ use std::alloc::{AllocError, Global};
 fn count_from(count: u64, ends: &[Marks], listed: &[u32], element: u32, lane: usize) -> u64
     ghost design: { Design }
     requires inputs { length ends.now ≡ length design.elements }
-    requires few { length design.elements ≤ 2000 }
+    requires few { length design.elements ≤ MOST_ELEMENTS }
     requires element { element < length design.elements }
     requires lane { lane < 256 }
     requires ends { AreEndsOf design element lane ends.now }
@@ -128,7 +130,7 @@ fn count_all(alloc: Global, flat: &Flat, order: &Order, course: Course) -> Resul
 pub fn count_pairs(alloc: Global, flat: &Flat, order: &Order) -> Result<u64, Stop>
     requires { IsOrder flat.now.arcs order.now }
     ensures count { IfOk result (IsPairCount flat.now) }
-    ensures few { IfOk result (λ count. count ≤ 200000) }
+    ensures few { IfOk result (λ count. count ≤ MOST_PAIRS) }
     ensures short { OnOk result (ArePathsShort flat.now) }
     ensures stop { IfErr result (StopsAt (IsExtremesRefusal flat.now)) }
 {
@@ -145,7 +147,7 @@ pub fn count_pairs(alloc: Global, flat: &Flat, order: &Order) -> Result<u64, Sto
     let Ok(count) = count_all(alloc, flat, order, course) else {
         return Err(Stop::OutOfMemory);
     };
-    if count > 200_000 {
+    if count > MOST_PAIRS as u64 {
         return Err(Stop::Refused(Refusal::Limit {
             kind: Kind::Pairs,
             count,

@@ -1,5 +1,6 @@
 //! Marks at bits, of up to 256 elements at a time: whether a path leads there from each of them.
 ghost use Rattle.std.specs.Prelude.{◌≡◌, ◌≢◌, ◌+◌, ◌*◌, ◌<◌, ◌≤◌, ℕ, List, length, max, slice_index_or, false, OnOk};
+ghost use Rattle.mintc_text.specs.declared.limits.TheConstants.{MOST_ELEMENTS};
 ghost use Rattle.mintc_timing.specs.Paths.{input_of};
 ghost use Rattle.mintc_timing.specs.declared.parts.TimingArc.{TimingArc};
 ghost use Rattle.mintc_paths.specs.Awake.{IsReady, IsAwake};
@@ -173,7 +174,7 @@ pub fn list_reached(
     rows: &Rows,
     elements: u32,
 ) -> Result<(), AllocError>
-    requires limit { elements ≤ 2000 }
+    requires limit { elements ≤ MOST_ELEMENTS }
     requires inputs { 2 * elements ≤ length reached.now }
     requires rows { AreRows (length reached.now) rows.now }
     ensures { OnOk result ((marks : List Marks) → AreMarksReached marks reached.now

@@ -1,6 +1,7 @@
 -- Pairs as they are found.
 use Rattle.std.specs.Prelude.{◌≡◌, ◌≢◌, ◌<◌, ◌≤◌, ◌+◌, ◌*◌, ◌⊎◌, ℕ, List, length, slice_index_or, All, Contains}
 use Rattle.std.specs.List.{AllAdjacentBelow}
+use Rattle.mintc_text.specs.declared.limits.TheConstants.{MOST_ELEMENTS, MOST_PAIRS}
 use Rattle.mintc_timing.specs.declared.parts.Pair.{Pair}
 use Rattle.mintc_timing.specs.Design.{Design}
 use Rattle.mintc_timing.specs.Paths.{IsPath, input_of, HasExtremes, ComesBefore}
@@ -24,14 +25,14 @@ pub record ArePairsBefore (design : Design) (from to : ℕ) (pairs : List Pair) 
 -- What is found has these pairs, or the number of them alone where they are more than 200,000.
 pub record HasPairs (found : Found) (pairs : List Pair) : Type 0 where
   pub count : found.count ≡ length pairs
-  pub kept : length pairs ≤ 200000 → found.pairs.items ≡ pairs
+  pub kept : length pairs ≤ MOST_PAIRS → found.pairs.items ≡ pairs
 
 -- What is found are the pairs before elements `from` and `to`.
 pub record IsFoundBefore (design : Design) (from to : ℕ) (found : Found) : Type 0 where
   pub pairs : List Pair
   pub are_pairs : ArePairsBefore design from to pairs
   pub has_pairs : HasPairs found pairs
-  pub few : length pairs ≤ 2000 * from + to
+  pub few : length pairs ≤ MOST_ELEMENTS * from + to
 
 -- the element whose input is the end of this number
 abbrev pub end_at : List ℕ → ℕ → ℕ

@@ -1,15 +1,16 @@
 -- Sums above the limit.
 use Rattle.std.specs.Prelude.{◌<◌, ℕ, pos, ◌<ℤ◌, ◌≤ℤ◌, IfSome, IsSomeAnd, List, length}
+use Rattle.mintc_text.specs.declared.limits.TheConstants.{MOST_DELAY}
 use Rattle.mintc_lanes.specs.Lanes.{lane_at}
 use Rattle.mintc_paths.specs.declared.sums.Sums.{Sums}
 use Rattle.mintc_paths.specs.Sums.{sums_at}
 
 -- The lane's greatest sum is above 10^9 femtoseconds, or it is not.
 abbrev pub IsLongAt : List Sums → ℕ → ℕ → Type 0
-IsLongAt sums lane bit = IsSomeAnd (lane_at (sums_at sums bit).greatest lane) (λ z. pos 1000000000 <ℤ z)
+IsLongAt sums lane bit = IsSomeAnd (lane_at (sums_at sums bit).greatest lane) (λ z. MOST_DELAY <ℤ z)
 
 abbrev pub IsShortAt : List Sums → ℕ → ℕ → Type 0
-IsShortAt sums lane bit = IfSome (lane_at (sums_at sums bit).greatest lane) (λ z. z ≤ℤ pos 1000000000)
+IsShortAt sums lane bit = IfSome (lane_at (sums_at sums bit).greatest lane) (λ z. z ≤ℤ MOST_DELAY)
 
 -- No sum of the lane at the bits below this one is above the limit.
 abbrev pub AreShortBelow : List Sums → ℕ → ℕ → Type 0

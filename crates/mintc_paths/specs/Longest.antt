@@ -1,5 +1,6 @@
 -- A bound above the sums of all paths.
 use Rattle.std.specs.Prelude.{◌<◌, ◌*◌, ℕ, ℤ, pos, ◌+ℤ◌, ◌≤ℤ◌, List, slice_index_or, map}
+use Rattle.mintc_text.specs.declared.limits.TheConstants.{MOST_DELAY}
 use Rattle.mintc_timing.specs.declared.parts.TimingArc.{TimingArc}
 use Rattle.mintc_timing.specs.Paths.{Leads, arc_at, greatest_delay}
 
@@ -19,4 +20,4 @@ pub record AreCarried (arcs : List TimingArc) (order : List ℕ) (k : ℕ) (sums
 
 -- No arcs in a row have a sum above 10^9 femtoseconds, wherever they begin.
 abbrev pub AreRunsShort : List TimingArc → Type 0
-AreRunsShort arcs = (from : ℕ) (path : List ℕ) (to : ℕ) → Leads arcs from path to → greatest_delay arcs path ≤ℤ pos 1000000000
+AreRunsShort arcs = (from : ℕ) (path : List ℕ) (to : ℕ) → Leads arcs from path to → greatest_delay arcs path ≤ℤ MOST_DELAY

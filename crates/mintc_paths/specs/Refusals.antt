@@ -1,5 +1,6 @@
 -- Where no pairs are given.
 use Rattle.std.specs.Prelude.{◌≡◌, ◌<◌, ℕ, pos, ◌≤ℤ◌, ◌<ℤ◌, List, length, min}
+use Rattle.mintc_text.specs.declared.limits.TheConstants.{MOST_PAIRS, MOST_DELAY, MOST_TOLD}
 use Rattle.mintc_text.specs.declared.refusals.Kind.TheVariants as kind
 use Rattle.mintc_text.specs.declared.refusals.Refusal.{Refusal}
 use Rattle.mintc_text.specs.declared.refusals.Refusal.TheVariants as refusal
@@ -10,7 +11,7 @@ use Rattle.mintc_timing.specs.Paths.{IsPath, greatest_delay, ArePairs}
 
 -- a listed path from element j to a bit whose greatest delay is above 10^9 femtoseconds
 abbrev pub IsLong : Design → ℕ → ℕ → List ℕ → Type 0
-IsLong design j bit path = IsPath design.arcs j path bit × (pos 1000000000 <ℤ greatest_delay design.arcs path)
+IsLong design j bit path = IsPath design.arcs j path bit × (MOST_DELAY <ℤ greatest_delay design.arcs path)
 
 -- Element j is the first that such a path leaves, and the bit the first that one from there leads to.
 pub record IsFirstLong (design : Design) (j bit : ℕ) : Type 0 where
@@ -21,7 +22,7 @@ pub record IsFirstLong (design : Design) (j bit : ℕ) : Type 0 where
 
 -- No such path leaves an element before this one.
 abbrev pub AreShortBefore : Design → ℕ → Type 0
-AreShortBefore design first = (j bit : ℕ) (path : List ℕ) → j < first → IsPath design.arcs j path bit → greatest_delay design.arcs path ≤ℤ pos 1000000000
+AreShortBefore design first = (j bit : ℕ) (path : List ℕ) → j < first → IsPath design.arcs j path bit → greatest_delay design.arcs path ≤ℤ MOST_DELAY
 
 -- PathRange with the first element and bit
 abbrev pub IsPathRange : Design → Refusal → Type 0
@@ -30,7 +31,7 @@ IsPathRange design _ = ⊥
 
 -- No path is long, and so many pairs are more than 200,000; the count is theirs, or 10^9 where they are more.
 abbrev pub AreTooMany : Design → ℕ → Type 0
-AreTooMany design count = ArePathsShort design × ((pairs : List Pair) × ArePairs design pairs × (200000 < length pairs) × (count ≡ min (length pairs) 1000000000))
+AreTooMany design count = ArePathsShort design × ((pairs : List Pair) × ArePairs design pairs × (MOST_PAIRS < length pairs) × (count ≡ min (length pairs) MOST_TOLD))
 
 -- PathRange with the first element and bit, or Limit of the pairs.
 abbrev pub IsExtremesRefusal : Design → Refusal → Type 0

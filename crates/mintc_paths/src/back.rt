@@ -13,6 +13,7 @@ use crate::found::Found;
 use crate::rows::{Course, Rows};
 use crate::turned::{places_along, turned_course};
 use mintc_text::OutOfMemory;
+use mintc_text::limits::MOST_PAIRS;
 use mintc_timing::{Flat, Order, Pair};
 use std::alloc::Global;
 
@@ -98,7 +99,7 @@ pub fn find_back(
         return Err(OutOfMemory);
     };
     let mut found = find_turned(alloc, flat, order, &course, &places)?;
-    if found.count > 200_000 {
+    if found.count > MOST_PAIRS as u64 {
         return Ok(found);
     }
     turn_pairs(&mut found.pairs, &places);

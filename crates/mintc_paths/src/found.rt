@@ -1,11 +1,13 @@
 //! Pairs as they are found.
 ghost use Rattle.std.specs.Prelude.{◌≡◌, ◌<◌, ◌≤◌, ◌^◌, ◌+◌, ◌*◌, ◌++◌, ◌∷◌, List, [], length, OnOk};
+ghost use Rattle.mintc_text.specs.declared.limits.TheConstants.{MOST_ELEMENTS};
 
 use crate::filled::Filled;
 use crate::held::Held;
 use crate::rows::Rows;
 use crate::sums::{Sums, sum_in};
 use mintc_text::OutOfMemory;
+use mintc_text::limits::MOST_PAIRS;
 use mintc_timing::Pair;
 use std::alloc::Global;
 
@@ -41,10 +43,10 @@ impl Found {
     pub fn add(&mut self, pair: Pair) -> Result<(), OutOfMemory>
         requires { self.old.count < 2 ^ 62 }
         ensures count { OnOk result (self.new.count ≡ self.old.count + 1) }
-        ensures pairs { OnOk result (self.old.count < 200000 → self.new.pairs.items ≡ self.old.pairs.items ++ pair ∷ []) }
+        ensures pairs { OnOk result (self.old.count < MOST_PAIRS → self.new.pairs.items ≡ self.old.pairs.items ++ pair ∷ []) }
         ensures ends { self.new.ends.items ≡ self.old.ends.items }
     {
-        if self.count < 200_000 && self.pairs.push(pair).is_err() {
+        if self.count < MOST_PAIRS as u64 && self.pairs.push(pair).is_err() {
             return Err(OutOfMemory);
         }
         self.count += 1;
@@ -77,7 +79,7 @@ impl Found {
         lane: usize,
     ) -> Result<(), OutOfMemory>
         ghost design: { Design }
-        requires limit { length design.elements ≤ 2000 }
+        requires limit { length design.elements ≤ MOST_ELEMENTS }
         requires bits { 2 * length design.elements ≤ length sums.now }
         requires rows { AreRows (length sums.now) rows.now }
         requires ends { AreEnds rows.now.of_bits.items sums.now (length design.elements) self.old.ends.items }
@@ -98,7 +100,7 @@ impl Found {
 
     /// Lists the elements whose inputs are reached.
     fn list_ends(&mut self, reached: &[bool], rows: &Rows, elements: u32) -> Result<(), OutOfMemory>
-        requires limit { elements ≤ 2000 }
+        requires limit { elements ≤ MOST_ELEMENTS }
         requires bits { 2 * elements ≤ length reached.now }
         requires rows { AreRows (length reached.now) rows.now }
         ensures count { self.new.count ≡ self.old.count }
@@ -119,7 +121,7 @@ impl Found {
     pub fn add_all(&mut self, block: &Filled, elements: u32) -> Result<(), OutOfMemory>
         ghost design: { Design }
         requires elements { elements ≡ length design.elements }
-        requires limit { elements ≤ 2000 }
+        requires limit { elements ≤ MOST_ELEMENTS }
         requires bits { 2 * elements ≤ length block.now.sums.now }
         requires inside { block.now.first + block.now.lanes ≤ elements }
         requires extremes { AreExtremes design block.now.first block.now.lanes (placed block.now.rows.now.of_bits.items block.now.sums.now) }

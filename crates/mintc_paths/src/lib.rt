@@ -43,6 +43,7 @@ pub use finder::Finder;
 use found::Found;
 pub use laws::pairs_exist;
 pub use longest::are_plainly_short;
+use mintc_text::limits::MOST_PAIRS;
 use mintc_text::{Kind, Numbers, OutOfMemory, Refusal, Stop};
 use mintc_timing::{Flat, Order, Pair, System};
 use route::best_path;
@@ -60,12 +61,12 @@ use ways::find;
 pub fn extremes(alloc: Global, flat: &Flat, order: &Order) -> Result<Vec<Pair>, Stop>
     requires { IsOrder flat.now.arcs order.now }
     ensures pairs { IfOk result (λ pairs. ArePairs flat.now pairs.items) }
-    ensures few { IfOk result (λ pairs. length pairs.items ≤ 200000) }
+    ensures few { IfOk result (λ pairs. length pairs.items ≤ MOST_PAIRS) }
     ensures short { OnOk result (ArePathsShort flat.now) }
     ensures stop { IfErr result (StopsAt (IsExtremesRefusal flat.now)) }
 {
     let Found { pairs, count, .. } = find(alloc, flat, order)?;
-    if count > 200_000 {
+    if count > MOST_PAIRS as u64 {
         return Err(Stop::Refused(Refusal::Limit {
             kind: Kind::Pairs,
             count,

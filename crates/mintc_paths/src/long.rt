@@ -1,6 +1,7 @@
 //! The search for a sum above the limit.
 ghost use Rattle.std.specs.Prelude.{◌<◌, ◌≤◌, ◌+◌, ◌^◌, ◌<ℤ◌, ◌≤ℤ◌, ℕ, pos, length, MatchOption, IfSome, IfErr, OnOk, IsSomeAnd};
 ghost use Rattle.std.specs.Bool.{OnTrue, OnFalse};
+ghost use Rattle.mintc_text.specs.declared.limits.TheConstants.{MOST_ELEMENTS};
 ghost use Rattle.mintc_lanes.specs.Lanes.{lane_at, AreLanes};
 ghost use Rattle.mintc_paths.specs.Sums.{AreMarked, AreRows, placed, sums_at};
 ghost use Rattle.mintc_paths.specs.Long.{IsShortLane, IsFirstBit};
@@ -15,9 +16,7 @@ use crate::rows::Rows;
 use crate::sums::Sums;
 use mintc_lanes::max_row;
 use mintc_text::Refusal;
-
-/// The greatest sum of a path, in femtoseconds.
-pub const LIMIT: i64 = 1_000_000_000;
+use mintc_text::limits::MOST_DELAY;
 
 /// Whether no sum is above the limit.
 fn are_short(sums: &Held, reached: &[bool]) -> bool
@@ -27,7 +26,7 @@ fn are_short(sums: &Held, reached: &[bool]) -> bool
 {
     for row in 0..sums.len() {
         if reached[row] {
-            if max_row(&sums.at(row).greatest) > LIMIT {
+            if max_row(&sums.at(row).greatest) > MOST_DELAY {
                 return false;
             }
         }
@@ -38,10 +37,10 @@ fn are_short(sums: &Held, reached: &[bool]) -> bool
 /// Whether the lane's greatest sum is above the limit.
 fn is_long(sums: &Sums, lane: usize) -> bool
     requires { lane < 8 }
-    ensures long { OnTrue result (IsSomeAnd (lane_at sums.now.greatest lane) (λ z. pos 1000000000 <ℤ z)) }
-    ensures short { OnFalse result (IfSome (lane_at sums.now.greatest lane) (λ z. z ≤ℤ pos 1000000000)) }
+    ensures long { OnTrue result (IsSomeAnd (lane_at sums.now.greatest lane) (λ z. MOST_DELAY <ℤ z)) }
+    ensures short { OnFalse result (IfSome (lane_at sums.now.greatest lane) (λ z. z ≤ℤ MOST_DELAY)) }
 {
-    sums.greatest[lane] > LIMIT
+    sums.greatest[lane] > MOST_DELAY
 }
 
 /// The first bit with a sum of the lane above the limit.
@@ -63,7 +62,7 @@ fn first_bit(sums: &Held, rows: &Rows, lane: usize) -> Option<usize>
 /// nothing to look for.
 pub fn refuse_long(block: &Filled, known_short: bool) -> Result<(), Refusal>
     ghost design: { Design }
-    requires few { length design.elements ≤ 2000 }
+    requires few { length design.elements ≤ MOST_ELEMENTS }
     requires some { length block.now.sums.now ≤ 2 ^ 20 }
     requires elements { block.now.first + block.now.lanes ≤ length design.elements }
     requires extremes { AreExtremes design block.now.first block.now.lanes (placed block.now.rows.now.of_bits.items block.now.sums.now) }

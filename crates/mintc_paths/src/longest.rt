@@ -6,8 +6,8 @@ ghost use Rattle.mintc_timing.specs.Order.{IsOrder, ArePathsShort};
 ghost use Rattle.mintc_paths.specs.Longest.{bit_sum, bit_sums, AreCarried, AreRunsShort};
 ghost use Rattle.mintc_paths.specs.Sums.{IsCourse};
 
-use crate::long::LIMIT;
 use crate::rows::Course;
+use mintc_text::limits::MOST_DELAY;
 use mintc_timing::{Flat, Order, TimingArc};
 use std::alloc::{AllocError, Global};
 
@@ -45,10 +45,10 @@ fn raise_all(sums: &mut [i64], flat: &Flat, order: &Order, course: &Course)
 
 /// Whether no sum is above the limit.
 fn are_within(sums: &[i64]) -> bool
-    ensures { OnTrue result (All (λ z. z ≤ℤ pos 1000000000) sums.now) }
+    ensures { OnTrue result (All (λ z. z ≤ℤ MOST_DELAY) sums.now) }
 {
     for sum in sums {
-        if *sum > LIMIT {
+        if *sum > MOST_DELAY {
             return false;
         }
     }

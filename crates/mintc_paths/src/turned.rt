@@ -1,5 +1,6 @@
 //! Courses turned round: each arc from its end to its start, from the last arc to the first, and outputs in place of inputs.
 ghost use Rattle.std.specs.Prelude.{◌≡◌, ◌<◌, ◌≤◌, ◌+◌, ◌-◌, ◌*◌, ◌^◌, ℕ, length, reverse, IfOk};
+ghost use Rattle.mintc_text.specs.declared.limits.TheConstants.{MOST_ELEMENTS};
 ghost use Rattle.mintc_timing.specs.Order.{IsOrder};
 ghost use Rattle.mintc_timing.specs.Paths.{arc_at};
 ghost use Rattle.mintc_paths.specs.Sums.{AreRows, IsCourse, row_of};
@@ -13,7 +14,7 @@ use std::alloc::{AllocError, Global};
 /// Where a bit goes as a design is turned round: an output becomes the input of its element, an input the output at its
 /// element's place, and an inner bit stays.
 fn bit_after(bit: u32, elements: u32, places: &Rows) -> u32
-    requires few { elements ≤ 2000 }
+    requires few { elements ≤ MOST_ELEMENTS }
     requires places { AreRows elements places.now }
     ensures { result ≡ turned_bit elements places.now.of_bits.items bit }
 {
@@ -28,7 +29,7 @@ fn bit_after(bit: u32, elements: u32, places: &Rows) -> u32
 
 /// Which bit goes there as a design is turned round.
 fn bit_before(bit: u32, elements: u32, places: &Rows) -> u32
-    requires few { elements ≤ 2000 }
+    requires few { elements ≤ MOST_ELEMENTS }
     requires places { AreRows elements places.now }
     ensures { result ≡ bit_before elements places.now.bits.items bit }
 {
@@ -64,7 +65,7 @@ fn rows_after(
     elements: u32,
     places: &Rows,
 ) -> Result<Vec<u32>, AllocError>
-    requires few { elements ≤ 2000 }
+    requires few { elements ≤ MOST_ELEMENTS }
     requires some { length before.now ≤ 2 ^ 20 }
     requires all { 2 * elements ≤ length before.now }
     requires places { AreRows elements places.now }
@@ -81,7 +82,7 @@ fn rows_after(
 
 /// Has each row its bit where it goes.
 fn turn_bits(bits: &mut [u32], elements: u32, places: &Rows)
-    requires few { elements ≤ 2000 }
+    requires few { elements ≤ MOST_ELEMENTS }
     requires places { AreRows elements places.now }
     ensures { (row : ℕ) → row < length bits.old → row_of bits.new row ≡ turned_bit elements places.now.of_bits.items (row_of bits.old row) }
 {
@@ -92,7 +93,7 @@ fn turn_bits(bits: &mut [u32], elements: u32, places: &Rows)
 
 /// The rows of the bits where they go as a design is turned round.
 fn turned_rows(alloc: Global, rows: Rows, elements: u32, places: &Rows) -> Result<Rows, AllocError>
-    requires few { elements ≤ 2000 }
+    requires few { elements ≤ MOST_ELEMENTS }
     requires some { length rows.of_bits.items ≤ 2 ^ 20 }
     requires all { 2 * elements ≤ length rows.of_bits.items }
     requires rows { AreRows (length rows.of_bits.items) rows }
@@ -112,7 +113,7 @@ fn turned_rows(alloc: Global, rows: Rows, elements: u32, places: &Rows) -> Resul
 
 /// The places of the elements, in the order of the rows of their inputs.
 pub fn places_along(alloc: Global, elements: u32, rows: &Rows) -> Result<Rows, AllocError>
-    requires few { elements ≤ 2000 }
+    requires few { elements ≤ MOST_ELEMENTS }
     ensures { IfOk result (λ places. AreRows elements places) }
 {
     let mut places = Rows::plain(alloc, elements as usize)?;

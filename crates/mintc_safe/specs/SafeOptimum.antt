@@ -1,6 +1,7 @@
 -- What a safe certificate must be: when a chain of safe links, with a schedule and departures or alone, shows what it claims,
 -- what more it keeps, and what its parts are made of.
 use Rattle.std.specs.Prelude.{◌≡◌, ◌<◌, pos, ◌*ℤ◌, ◌<ℤ◌, ◌≤ℤ◌, List, map, All, IsTrue, ◌≢◌, ◌≤◌, ℤ, [], length, AllPairs, ℕ}
+use Rattle.mintc_text.specs.declared.limits.TheConstants.{MOST_MEMBERS}
 use Rattle.mintc_timing.specs.declared.clocking.Schedule.{Schedule}
 use Rattle.mintc_timing.specs.declared.link.Link.{Link}
 use Rattle.mintc_rings.specs.Rings.{IsClosed}
@@ -81,7 +82,7 @@ IsSafeCounted (Hold j l path) = IsCount j × IsCount l × IsCount (length path) 
 -- from 1 to 4,096 members, each number of which is a count
 pub record IsSafeChainInRange (chain : List SafeMember) : Type 0 where
   pub some : 1 ≤ length chain
-  pub most : length chain ≤ 4096
+  pub most : length chain ≤ MOST_MEMBERS
   pub each : All IsSafeCounted chain
 
 -- a schedule, departures and a chain that a text can say
