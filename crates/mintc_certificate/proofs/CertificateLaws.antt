@@ -2,6 +2,7 @@
 use Rattle.std.proofs.Common.{ℕ, zero, suc, ℤ, pos, ◌≤◌, ◌≤ℤ◌, ◌+◌, true, false, Bool, if◌then◌else◌, List, [], ◌∷◌, ◌++◌, length, length-append, All, sym, subst, arith}
 use Rattle.std.proofs.lemmas.Int.{ints}
 use Rattle.std.proofs.lemmas.List.Elements.{All-push, All-nil}
+use Rattle.mintc_text.specs.declared.limits.TheConstants.{MOST_NUMERATOR, MOST_MEMBERS, MOST_COUNT}
 use Rattle.mintc_timing.specs.declared.clocking.Schedule.{Schedule}
 use Rattle.mintc_timing.specs.Limits.{IsNumerator, IsDenominator, IsInRange}
 use Rattle.mintc_lines.proofs.SharedScheduleLaws.{IsSoFar, phases_begun, phase_kept, phases_ended}
@@ -18,12 +19,12 @@ use Rattle.mintc_certificate.specs.Ranges.{IsDeparture, IsChainInRange, IsCertif
 record AreSoFar (left : ℕ) (s : Schedule) (ds : List ℤ) : Type 0 where
   pub schedule_in : IsInRange s
   pub each : All IsDeparture ds
-  pub count : length ds + left ≤ 999999999
+  pub count : length ds + left ≤ MOST_COUNT
 
 -- and of a chain
 record IsChaining (left : ℕ) (ms : List Member) : Type 0 where
   pub some : 1 ≤ length ms + left
-  pub most : length ms + left ≤ 4096
+  pub most : length ms + left ≤ MOST_MEMBERS
   pub each : All IsCounted ms
 
 abbrev Links : ℕ → Certificate → Type 0
@@ -42,7 +43,7 @@ Keeps (never v) = Unit {0}
 Keeps (link v left c) = Links left c
 Keeps (whole c) = IsCertificateInRange c
 
-IsDeparture-from : (v : Version) (d : ℤ) → least_departure v ≤ℤ d → d ≤ℤ pos 100000000000000 → IsDeparture d
+IsDeparture-from : (v : Version) (d : ℤ) → least_departure v ≤ℤ d → d ≤ℤ MOST_NUMERATOR → IsDeparture d
 IsDeparture-from First d low high = (omega (arith, ints), omega (arith, ints))
 IsDeparture-from Second d low high = (omega (arith, ints), omega (arith, ints))
 
@@ -53,7 +54,7 @@ departure_kept left s ds d k h = record {
   count = omega (arith, k.count, length-append ds (d ∷ []));
 }
 
-chain_begun : (n : ℕ) → 1 ≤ n → n ≤ 4096 → IsChaining n []
+chain_begun : (n : ℕ) → 1 ≤ n → n ≤ MOST_MEMBERS → IsChaining n []
 chain_begun n some most = record { some = omega arith; most = omega arith; each = All-nil IsCounted }
 
 chain_kept : (left : ℕ) (ms : List Member) (m : Member) → IsChaining (suc left) ms → IsCounted m → IsChaining left (ms ++ m ∷ [])

@@ -1,6 +1,7 @@
 -- The lines of a certificate are plain, and a text has one certificate or one first line out of form.
 use Rattle.std.proofs.Common.{◌≡◌, ℕ, zero, suc, ℤ, pos, negsuc, ◌≤ℤ◌, ◌<◌, ◌^◌, true, false, Bool, if◌then◌else◌, List, [], ◌∷◌, ◌++◌, All, refl, ap, ◌∙◌, sym, arith, codes, eqb}
 use Rattle.std.proofs.lemmas.Int.{ints}
+use Rattle.mintc_text.specs.declared.limits.TheConstants.{MOST_NUMERATOR, MOST_MEMBERS, MOST_COUNT}
 use Rattle.mintc_lines.specs.Fields.{IsWordLine, IsCountLine}
 use Rattle.mintc_lines.proofs.SharedLineLaws.{IsForm, word_form, count_form, number_form}
 use Rattle.mintc_lines.proofs.SharedScheduleLaws.{den_form, cycle_form, phases_form, phase_form}
@@ -36,13 +37,13 @@ pub outcome_form : IsForm IsOutcomeLine
 outcome_form = record { plain = plain-outcome_line; one = outcome_one; words = λ b ws xs h g. h ∙ sym g }
 
 pub departure_form : (v : Version) → IsForm (IsDepartureLine v)
-departure_form v = number_form (codes "departure") (least_departure v) (pos 100000000000000) refl (least_short v) (omega (arith, ints))
+departure_form v = number_form (codes "departure") (least_departure v) MOST_NUMERATOR refl (least_short v) (omega (arith, ints))
 
-pub departures_form : IsForm (IsCountLine (codes "departures") 0 999999999)
-departures_form = count_form (codes "departures") 0 999999999 refl (omega arith)
+pub departures_form : IsForm (IsCountLine (codes "departures") 0 MOST_COUNT)
+departures_form = count_form (codes "departures") 0 MOST_COUNT refl (omega arith)
 
 pub chain_form : IsForm IsChainLine
-chain_form = count_form (codes "chain") 1 4096 refl (omega arith)
+chain_form = count_form (codes "chain") 1 MOST_MEMBERS refl (omega arith)
 
 pub member_form : (v : Version) → IsForm (IsMemberLine v)
 member_form v = record { plain = plain-member_line v; one = member_one v; words = λ m ws xs h g. h.spelled ∙ sym g.spelled }

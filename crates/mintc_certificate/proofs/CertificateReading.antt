@@ -1,6 +1,7 @@
 -- What the reader of certificates has read up to each line, and where it halts.
 use Rattle.std.proofs.Common.{◌≡◌, ℕ, suc, ◌<◌, ◌≤◌, ◌+◌, ◌-◌, ℤ, pos, SFits, w64, Bool, true, false, if◌then◌else◌, Result, Ok, Err, MatchResult, List, [], ◌∷◌, ◌++◌, refl, ap, sym, subst, arith, codes}
 use Rattle.std.proofs.lemmas.Int.{ints}
+use Rattle.mintc_text.specs.declared.limits.TheConstants.{MOST_NUMERATOR}
 use Rattle.mintc_text.specs.Lines.{IsWithin}
 use Rattle.mintc_timing.specs.Limits.{IsTime}
 use Rattle.mintc_timing.specs.declared.clocking.Schedule.{Schedule}
@@ -40,13 +41,13 @@ abbrev pub member_states : Version → Certificate → ℕ → List Member → C
 member_states v c left ms = link v left (with_chain c ms)
 
 abbrev pub IsDepartureLine : Version → ℤ → List (List ℕ) → Type 0
-IsDepartureLine v = IsNumberLine (codes "departure") (least_departure v) (pos 100000000000000)
+IsDepartureLine v = IsNumberLine (codes "departure") (least_departure v) MOST_NUMERATOR
 
 pub least_fits : (v : Version) → SFits w64 (least_departure v)
 least_fits First = omega (arith, ints)
 least_fits Second = omega (arith, ints)
 
-pub IsTime-departure : (v : Version) (d : ℤ) → IsWithin (least_departure v) (pos 100000000000000) d → IsTime d
+pub IsTime-departure : (v : Version) (d : ℤ) → IsWithin (least_departure v) MOST_NUMERATOR d → IsTime d
 IsTime-departure First d h = (omega (arith, ints, h.0, h.1), omega (arith, ints, h.0, h.1))
 IsTime-departure Second d h = (omega (arith, ints, h.0, h.1), omega (arith, ints, h.0, h.1))
 

@@ -2,6 +2,7 @@
 use Rattle.std.proofs.Common.{◌≡◌, ℕ, zero, suc, ℤ, pos, Bool, true, false, if◌then◌else◌, List, [], ◌∷◌, ◌++◌, Contains, refl, ap, ◌∙◌, subst, arith, codes}
 use Rattle.std.proofs.lemmas.Int.{ints}
 use Rattle.std.specs.Fmt.{digits}
+use Rattle.mintc_text.specs.declared.limits.TheConstants.{MOST_NUMERATOR}
 use Rattle.mintc_text.specs.Lines.{Follows, IsWithin, ended}
 use Rattle.mintc_lines.specs.Fields.{number}
 use Rattle.mintc_lines.proofs.SharedTextLaws.{after_first}
@@ -29,7 +30,7 @@ raise_outcome : (v : Version) (x : Bool) → raise (if x then den v else never v
 raise_outcome v true = refl
 raise_outcome v false = refl
 
-within_second : (v : Version) (d : ℤ) → IsWithin (least_departure v) (pos 100000000000000) d → IsWithin (least_departure Second) (pos 100000000000000) d
+within_second : (v : Version) (d : ℤ) → IsWithin (least_departure v) MOST_NUMERATOR d → IsWithin (least_departure Second) MOST_NUMERATOR d
 within_second First d h = (omega (arith, ints, h.0), h.1)
 within_second Second d h = h
 

@@ -4,6 +4,7 @@ use Rattle.std.proofs.lemmas.List.{append-nil}
 use Rattle.std.proofs.lemmas.List.Elements.{All-head, All-tail}
 use Rattle.std.specs.Fmt.{digits}
 use Rattle.std.specs.List.{zip}
+use Rattle.mintc_text.specs.declared.limits.TheConstants.{MOST_COUNT}
 use Rattle.mintc_text.specs.Lines.{Follows, ended, text_of, words}
 use Rattle.mintc_timing.specs.declared.clocking.Schedule.{Schedule}
 use Rattle.mintc_lines.specs.Fields.{number, Spells}
@@ -89,7 +90,7 @@ schedule_written s h = (
   ),
 )
 
-all_departures : (s : Schedule) (ds : List ℤ) → length ds ≤ 999999999 → All IsDeparture ds → Leads (phase Second 0 s) (departure_lines ds) (departure Second 0 s ds)
+all_departures : (s : Schedule) (ds : List ℤ) → length ds ≤ MOST_COUNT → All IsDeparture ds → Leads (phase Second 0 s) (departure_lines ds) (departure Second 0 s ds)
 all_departures s ds few h = (departure Second (length ds) s [], (length ds, (_, (omega arith, few, refl), refl), refl), departures_written s [] ds h)
 
 chain_written : (c : Certificate) (ms : List Member) → IsChainInRange ms → Leads (before_chain Second c) (chain_lines ms) (whole (with_chain c ms))

@@ -2,6 +2,7 @@
 use Rattle.std.proofs.Common.{◌≡◌, ◌<◌, ◌≤◌, ◌+◌, ◌*◌, ◌++◌, ℕ, ℤ, pos, neg_ℤ, ◌+ℤ◌, ◌≤ℤ◌, List, [], ◌∷◌, length, get_or, map, take, arith, ap, ◌∙◌, sym, SFits, w64, to_z, of_z}
 use Rattle.std.proofs.lemmas.Int.{ints}
 use Rattle.std.proofs.lemmas.List.{map-append, take_more}
+use Rattle.mintc_text.specs.declared.limits.TheConstants.{MOST_MEMBERS}
 use Rattle.mintc_timing.specs.declared.link.Link.{Link}
 use Rattle.mintc_rings.specs.Rings.{total}
 use Rattle.mintc_timing.specs.Design.{Design}
@@ -32,7 +33,7 @@ pub record IsMore (old part x : ℤ) (i : ℕ) : Type 0 where
   pub low : neg_ℤ (pos ((i + 1) * 2000000000)) ≤ℤ x
   pub high : x ≤ℤ pos ((i + 1) * 2000000000)
 
-pub more_delay : (old part : ℤ) (i : ℕ) → neg_ℤ (pos (i * 2000000000)) ≤ℤ old → old ≤ℤ pos (i * 2000000000) → i < 4096 → IsSpan part → IsMore old part (old +ℤ part) i
+pub more_delay : (old part : ℤ) (i : ℕ) → neg_ℤ (pos (i * 2000000000)) ≤ℤ old → old ≤ℤ pos (i * 2000000000) → i < MOST_MEMBERS → IsSpan part → IsMore old part (old +ℤ part) i
 more_delay old part i low high few h =
     let h0 = h.0 in let h1 = h.1 in
     record { fits = omega (arith, ints); is = omega (arith, ints); low = omega (arith, ints); high = omega (arith, ints) }
@@ -43,6 +44,6 @@ pub record HasMore (old part : ℤ) (cycles i : ℕ) : Type 0 where
   pub low : pos 0 ≤ℤ (old +ℤ pos cycles)
   pub high : (old +ℤ pos cycles) ≤ℤ pos (i + 1)
 
-pub more_cycles : (old part : ℤ) (cycles i : ℕ) → part ≡ pos cycles → pos 0 ≤ℤ old → old ≤ℤ pos i → i < 4096 → cycles ≤ 1 → HasMore old part cycles i
+pub more_cycles : (old part : ℤ) (cycles i : ℕ) → part ≡ pos cycles → pos 0 ≤ℤ old → old ≤ℤ pos i → i < MOST_MEMBERS → cycles ≤ 1 → HasMore old part cycles i
 more_cycles old part cycles i e low high few one =
     record { fits = omega (arith, ints); is = omega (arith, ints); low = omega (arith, ints); high = omega (arith, ints) }

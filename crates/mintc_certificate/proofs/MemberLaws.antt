@@ -5,6 +5,7 @@ use Rattle.std.proofs.lemmas.List.{append-nil, map-append}
 use Rattle.std.proofs.lemmas.List.Elements.{All-head, All-tail, All-push, All-nil}
 use Rattle.std.specs.List.{All}
 use Rattle.std.specs.Str.{bytes_eq}
+use Rattle.mintc_text.specs.declared.limits.TheConstants.{MOST_COUNT}
 use Rattle.mintc_text.specs.Lines.{ended, words}
 use Rattle.mintc_lines.specs.Fields.{IsCount, number, plain, plain_line}
 use Rattle.mintc_lines.specs.Reading.{HasRead, HasNone}
@@ -251,7 +252,7 @@ found_more i n found found' all now new so few is e =
     })
 
 abbrev NoNumber : List (List ℕ) → Type 0
-NoNumber now = (n : ℕ) (more : List (List ℕ)) → 0 ≤ n → n ≤ 999999999 → now ≡ number n ∷ more → ⊥
+NoNumber now = (n : ℕ) (more : List (List ℕ)) → 0 ≤ n → n ≤ MOST_COUNT → now ≡ number n ∷ more → ⊥
 
 next_none : (left : List ℕ) (now : List (List ℕ)) → 1 ≤ length left → now ≡ map number left → All IsCount left → NoNumber now → ⊥
 next_none [] now some e each none = omega (arith, some)

@@ -1,5 +1,6 @@
 -- The text of a certificate, line by line, and its first line out of form.
-use Rattle.std.specs.Prelude.{◌≡◌, ◌≢◌, ◌==◌, ℕ, zero, suc, ℤ, pos, negsuc, Bool, if◌then◌else◌, List, [], ◌∷◌, ◌++◌, length, map, codes}
+use Rattle.std.specs.Prelude.{◌≡◌, ◌≢◌, ◌==◌, ℕ, zero, suc, ℤ, pos, neg_ℤ, Bool, if◌then◌else◌, List, [], ◌∷◌, ◌++◌, length, map, codes}
+use Rattle.mintc_text.specs.declared.limits.TheConstants.{MOST_PHASES, MOST_DENOMINATOR, MOST_NUMERATOR, MOST_MEMBERS, MOST_COUNT}
 use Rattle.mintc_text.specs.Lines.{IsText, IsFault}
 use Rattle.mintc_text.specs.declared.refusals.Refusal.{Refusal}
 use Rattle.mintc_text.specs.declared.refusals.Refusal.TheVariants as refusal
@@ -22,7 +23,7 @@ version_of n = if n == 1 then First else Second
 -- the least departure that a version can say, a numerator over the schedule's denominator
 abbrev pub least_departure : Version → ℤ
 least_departure First = pos 0
-least_departure Second = negsuc 99999999999999
+least_departure Second = neg_ℤ MOST_NUMERATOR
 
 -- the words of a member
 abbrev pub member_words : Member → List (List ℕ)
@@ -87,19 +88,19 @@ IsOutcomeLine least ws = ws ≡ (if least then codes "least" else codes "never")
 
 -- the line that says how many members follow
 abbrev pub IsChainLine : ℕ → List (List ℕ) → Type 0
-IsChainLine = IsCountLine (codes "chain") 1 4096
+IsChainLine = IsCountLine (codes "chain") 1 MOST_MEMBERS
 
 -- the form of the line that may come next
 abbrev pub NextOfCertificate : CertificateLines → List ℕ → CertificateLines → Type 0
 NextOfCertificate first line after = (n : ℕ) × Spells (IsCountLine (codes "certificate") 1 2) n line × (after ≡ outcome (version_of n))
 NextOfCertificate (outcome v) line after = (least : Bool) × Spells IsOutcomeLine least line × (after ≡ (if least then den v else never v))
-NextOfCertificate (den v) line after = (d : ℤ) × Spells (IsNumberLine (codes "den") (pos 1) (pos 100000)) d line × (after ≡ cycle v d)
-NextOfCertificate (cycle v d) line after = (t : ℤ) × Spells (IsNumberLine (codes "cycle") (pos 0) (pos 100000000000000)) t line × (after ≡ phases v d t)
-NextOfCertificate (phases v d t) line after = (k : ℕ) × Spells (IsCountLine (codes "phases") 1 8) k line × (after ≡ phase v k (no_phases d t))
+NextOfCertificate (den v) line after = (d : ℤ) × Spells (IsNumberLine (codes "den") (pos 1) MOST_DENOMINATOR) d line × (after ≡ cycle v d)
+NextOfCertificate (cycle v d) line after = (t : ℤ) × Spells (IsNumberLine (codes "cycle") (pos 0) MOST_NUMERATOR) t line × (after ≡ phases v d t)
+NextOfCertificate (phases v d t) line after = (k : ℕ) × Spells (IsCountLine (codes "phases") 1 MOST_PHASES) k line × (after ≡ phase v k (no_phases d t))
 NextOfCertificate (phase v (suc left) s) line after = (p : ℤ × ℤ) × Spells IsPhaseLine p line × (after ≡ phase v left (with_phase s p))
-NextOfCertificate (phase v zero s) line after = (n : ℕ) × Spells (IsCountLine (codes "departures") 0 999999999) n line × (after ≡ departure v n s [])
+NextOfCertificate (phase v zero s) line after = (n : ℕ) × Spells (IsCountLine (codes "departures") 0 MOST_COUNT) n line × (after ≡ departure v n s [])
 NextOfCertificate (departure v (suc left) s ds) line after =
-    (d : ℤ) × Spells (IsNumberLine (codes "departure") (least_departure v) (pos 100000000000000)) d line × (after ≡ departure v left s (ds ++ d ∷ []))
+    (d : ℤ) × Spells (IsNumberLine (codes "departure") (least_departure v) MOST_NUMERATOR) d line × (after ≡ departure v left s (ds ++ d ∷ []))
 NextOfCertificate (departure v zero s ds) line after = (m : ℕ) × Spells IsChainLine m line × (after ≡ link v m (Least s ds []))
 NextOfCertificate (never v) line after = (m : ℕ) × Spells IsChainLine m line × (after ≡ link v m (Never []))
 NextOfCertificate (link v (suc left) c) line after = (m : Member) × Spells (IsMemberLine v) m line × (after ≡ link v left (with_member c m))

@@ -1,5 +1,6 @@
 -- Certificates whose numbers and counts are in their ranges.
-use Rattle.std.specs.Prelude.{◌≤◌, ℤ, pos, negsuc, List, length, All}
+use Rattle.std.specs.Prelude.{◌≤◌, ℤ, neg_ℤ, List, length, All}
+use Rattle.mintc_text.specs.declared.limits.TheConstants.{MOST_NUMERATOR, MOST_MEMBERS}
 use Rattle.mintc_text.specs.Lines.{IsWithin}
 use Rattle.mintc_timing.specs.declared.clocking.Schedule.{Schedule}
 use Rattle.mintc_timing.specs.Limits.{IsInRange}
@@ -11,12 +12,12 @@ use Rattle.mintc_certificate.specs.CertificateText.{IsCounted}
 
 -- a departure as a certificate can say it, a numerator over the schedule's denominator
 abbrev pub IsDeparture : ℤ → Type 0
-IsDeparture d = IsWithin (negsuc 99999999999999) (pos 100000000000000) d
+IsDeparture d = IsWithin (neg_ℤ MOST_NUMERATOR) MOST_NUMERATOR d
 
 -- from 1 to 4,096 members, each number of which is a count
 pub record IsChainInRange (chain : List Member) : Type 0 where
   pub some : 1 ≤ length chain
-  pub most : length chain ≤ 4096
+  pub most : length chain ≤ MOST_MEMBERS
   pub each : All IsCounted chain
 
 -- a schedule, departures and a chain that a text can say

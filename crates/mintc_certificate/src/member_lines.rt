@@ -14,10 +14,8 @@ use crate::halt::Halt;
 use crate::version::Version;
 use mintc_lines::Fields;
 use mintc_text::Numbers;
+use mintc_text::limits::MOST_COUNT;
 use std::alloc::Global;
-
-/// The greatest number of a member.
-const MOST: u32 = 999_999_999;
 
 /// The members that have one number.
 #[derive(Clone, Copy)]
@@ -121,7 +119,7 @@ fn has(version: Version, word: Single) -> bool
 fn one(mut fields: Fields) -> Option<u32>
     ensures { MatchOption result ((n : ℕ) → IsOne n fields.entry → ⊥) (λ n. IsOne n fields.entry) }
 {
-    let number = fields.count(0, MOST)?;
+    let number = fields.count(0, MOST_COUNT)?;
     fields.end()?;
     Some(number)
 }
@@ -130,8 +128,8 @@ fn one(mut fields: Fields) -> Option<u32>
 fn two(mut fields: Fields) -> Option<(u32, u32)>
     ensures { MatchOption result ((p : ℕ × ℕ) → IsTwo p fields.entry → ⊥) (λ p. IsTwo (p.0, p.1) fields.entry) }
 {
-    let first = fields.count(0, MOST)?;
-    let second = fields.count(0, MOST)?;
+    let first = fields.count(0, MOST_COUNT)?;
+    let second = fields.count(0, MOST_COUNT)?;
     fields.end()?;
     Some((first, second))
 }
@@ -144,7 +142,7 @@ fn numbers(alloc: Global, mut fields: Fields, count: u32) -> Result<Numbers, Hal
 {
     let mut found = Vec::new(alloc);
     for _number in 0..count {
-        let Some(number) = fields.count(0, MOST) else {
+        let Some(number) = fields.count(0, MOST_COUNT) else {
             return Err(Halt::Form);
         };
         let Ok(()) = found.push(number) else {
@@ -164,9 +162,9 @@ fn ends(fields: &mut Fields) -> Option<(u32, u32, u32)>
         fields.old ≡ number from ∷ number to ∷ number count ∷ more → ⊥)
         (λ e. IsCount e.0 × IsCount e.1 × IsCount e.2 × (1 ≤ e.2) × (fields.old ≡ number e.0 ∷ number e.1 ∷ number e.2 ∷ fields.new)) }
 {
-    let from = fields.count(0, MOST)?;
-    let to = fields.count(0, MOST)?;
-    let count = fields.count(1, MOST)?;
+    let from = fields.count(0, MOST_COUNT)?;
+    let to = fields.count(0, MOST_COUNT)?;
+    let count = fields.count(1, MOST_COUNT)?;
     Some((from, to, count))
 }
 

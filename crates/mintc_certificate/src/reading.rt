@@ -1,5 +1,6 @@
 //! Reading the text of a certificate.
 ghost use Rattle.std.specs.Prelude.{◌≡◌, ◌≤◌, ℕ, ℤ, List, Bool, MatchOption, MatchResult, IfOk, IfErr, IfSome, length};
+ghost use Rattle.mintc_text.specs.declared.limits.TheConstants.{MOST_BYTES};
 ghost use Rattle.mintc_text.specs.Stops.{StopsAt};
 ghost use Rattle.mintc_timing.specs.declared.clocking.Schedule.{Schedule};
 ghost use Rattle.mintc_timing.specs.Limits.{IsDenominator, IsNumerator};
@@ -18,7 +19,8 @@ use crate::member_lines::member_of;
 use crate::version::Version;
 use crate::{Certificate, Departures, Member, Members};
 use arrayvec::ArrayVec;
-use mintc_lines::{Fields, MOST_NUMERATOR, Reader};
+use mintc_lines::{Fields, Reader};
+use mintc_text::limits::{MOST_COUNT, MOST_DENOMINATOR, MOST_MEMBERS, MOST_NUMERATOR, MOST_PHASES};
 use mintc_text::{Refusal, Role, Stop};
 use mintc_timing::{PhaseNumbers, Schedule};
 use std::alloc::Global;
@@ -71,7 +73,7 @@ fn outcome_line(reader: &mut Reader) -> Option<bool>
 
 /// Reads the lines of so many phases: their starts and their widths.
 fn phases(reader: &mut Reader, count: u32) -> Option<(PhaseNumbers, PhaseNumbers)>
-    requires { count ≤ 8 }
+    requires { count ≤ MOST_PHASES }
     ensures { (text : List ℕ) (version : Version) (d t : ℤ) → IsAt NextOfCertificate first text reader.old (phase version count (no_phases d t)) →
         MatchOption result (IsCertificateFault text reader.new.number) (λ r. IsAt NextOfCertificate first text reader.new (phase version 0 (schedule_of d t r.0 r.1))) }
 {
@@ -89,12 +91,12 @@ fn phases(reader: &mut Reader, count: u32) -> Option<(PhaseNumbers, PhaseNumbers
 fn head(reader: &mut Reader) -> Option<(i64, i64, u32)>
     ensures read { (text : List ℕ) (version : Version) → IsAt NextOfCertificate first text reader.old (den version) →
         MatchOption result (IsCertificateFault text reader.new.number) (λ r. IsAt NextOfCertificate first text reader.new (phase version r.2 (no_phases r.0 r.1))) }
-    ensures few { IfSome result (λ r. r.2 ≤ 8) }
+    ensures few { IfSome result (λ r. r.2 ≤ MOST_PHASES) }
     ensures in_range { IfSome result (λ r. IsDenominator r.0 × IsNumerator r.1) }
 {
-    let den = reader.number_line(b"den", 1, 100_000)?;
+    let den = reader.number_line(b"den", 1, MOST_DENOMINATOR)?;
     let cycle = reader.number_line(b"cycle", 0, MOST_NUMERATOR)?;
-    let count = reader.count_line(b"phases", 1, 8)?;
+    let count = reader.count_line(b"phases", 1, MOST_PHASES as u32)?;
     Some((den, cycle, count))
 }
 
@@ -121,7 +123,7 @@ fn departures(alloc: Global, reader: &mut Reader, version: Version) -> Result<De
         (Halts (IsCertificateFault text reader.new.number)) }
 {
     let least = least_departure(version);
-    let Some(count) = reader.count_line(b"departures", 0, 999_999_999) else {
+    let Some(count) = reader.count_line(b"departures", 0, MOST_COUNT) else {
         return Err(Halt::Form);
     };
     let mut found = Vec::new(alloc);
@@ -156,7 +158,7 @@ fn members(alloc: Global, reader: &mut Reader, version: Version) -> Result<Membe
         (λ chain. IsAt NextOfCertificate first text reader.new (link version 0 (with_chain c chain)))
         (Halts (IsCertificateFault text reader.new.number)) }
 {
-    let Some(count) = reader.count_line(b"chain", 1, 4_096) else {
+    let Some(count) = reader.count_line(b"chain", 1, MOST_MEMBERS as u32) else {
         return Err(Halt::Form);
     };
     let mut found = Vec::new(alloc);
@@ -234,7 +236,7 @@ fn certificate(alloc: Global, reader: &mut Reader) -> Result<Certificate, Halt>
 /// The certificate of a text, of either version. The refusal is Syntax with the first line that is out of form, counted
 /// from 1.
 pub fn read(alloc: Global, text: &[u8]) -> Result<Certificate, Stop>
-    requires { length text.now ≤ 67108864 }
+    requires { length text.now ≤ MOST_BYTES }
     ensures value { IfOk result (λ certificate. IsCertificateText text.now certificate) }
     ensures in_range { IfOk result IsCertificateInRange }
     ensures stop { IfErr result (StopsAt (IsCertificateRefusal text.now)) }

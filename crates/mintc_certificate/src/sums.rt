@@ -1,5 +1,6 @@
 //! The sums over a chain.
 ghost use Rattle.std.specs.Prelude.{◌≡◌, pos, negsuc, ◌≤ℤ◌, All};
+ghost use Rattle.mintc_text.specs.declared.limits.TheConstants.{MOST_MEMBERS};
 ghost use Rattle.mintc_timing.specs.Links.{cycles_of, delay_of};
 ghost use Rattle.mintc_timing.specs.Order.{ArePathsShort};
 ghost use Rattle.mintc_certificate.specs.Valid.{IsNamed};
@@ -25,7 +26,7 @@ pub fn sums_of(flat: &Flat, members: &[Member]) -> ChainSums
     ensures delay { result.delay ≡ delay_of (links_of_members flat.now members.now) }
     ensures cycles { result.cycles ≡ cycles_of (links_of_members flat.now members.now) }
     ensures delay_range { (negsuc 8191999999999 ≤ℤ result.delay) × (result.delay ≤ℤ pos 8192000000000) }
-    ensures cycles_range { (pos 0 ≤ℤ result.cycles) × (result.cycles ≤ℤ pos 4096) }
+    ensures cycles_range { (pos 0 ≤ℤ result.cycles) × (result.cycles ≤ℤ pos MOST_MEMBERS) }
 {
     let mut delay = 0;
     let mut cycles = 0;

@@ -7,6 +7,7 @@ use Rattle.std.proofs.lemmas.List.{get_or-take, ext_get_or}
 use Rattle.std.proofs.lemmas.List.Elements.{All-from_get_or, All-head, All-tail, All-cons, All-nil}
 use Rattle.std.proofs.lemmas.List.Splits.{slice_split_none, slice_split_at, join_with_byte-slice_split, length-slice_split}
 use Rattle.std.proofs.Math.Seq.{split_at}
+use Rattle.mintc_text.specs.declared.limits.TheConstants.{MOST_DELAY}
 use Rattle.mintc_text.specs.Lines.{words, numeral_of, IsGraphic, IsWithin}
 use Rattle.mintc_text.specs.Words.{IsShort}
 use Rattle.std.proofs.lemmas.Int.Digits.{digits_value-lt}
@@ -99,7 +100,7 @@ pub fields_some : (bytes : List ℕ) → fields_of bytes ≡ [] → ⊥
 fields_some bytes h = omega (arith, ap length h, length-slice_split (λ b. eqb b 32) bytes)
 
 pub short_delay : (z : ℤ) → IsDelay z → IsShort z
-short_delay z d = short (pos 0) (pos 1000000000) z (omega (arith, ints)) (omega (arith, ints)) d
+short_delay z d = short (pos 0) MOST_DELAY z (omega (arith, ints)) (omega (arith, ints)) d
 
 -- digits at the front of a line, of which the first is no zero before others, are the numeral of a number and have no space
 pub record IsFront (rest : List ℕ) (end value : ℕ) : Type 0 where

@@ -2,6 +2,7 @@
 use Rattle.std.proofs.Common.{◌≡◌, ℕ, zero, suc, ℤ, pos, ◌<◌, ◌^◌, ◌≤◌, ◌+◌, true, false, List, [], ◌∷◌, length, length-append, All, refl, ap, ◌∙◌, sym, subst, arith, codes, eqb}
 use Rattle.std.proofs.lemmas.Int.{ints}
 use Rattle.std.proofs.lemmas.List.Elements.{All-push, All-nil}
+use Rattle.mintc_text.specs.declared.limits.TheConstants.{MOST_PHASES, MOST_DENOMINATOR, MOST_NUMERATOR}
 use Rattle.mintc_text.specs.Lines.{numeral_of}
 use Rattle.mintc_text.specs.Words.{IsShort}
 use Rattle.mintc_text.proofs.SharedNumeralsLaws.{same_numeral}
@@ -23,10 +24,10 @@ pub record IsSoFar (left : ℕ) (s : Schedule) : Type 0 where
   pub widths : All IsNumerator s.widths
   pub alike : length s.widths ≡ length s.starts
   pub some : 1 ≤ length s.starts + left
-  pub few : length s.starts + left ≤ 8
+  pub few : length s.starts + left ≤ MOST_PHASES
 
 -- the lines before those of the phases begin it, the line of a phase keeps it, and the last of them ends it
-pub phases_begun : (d t : ℤ) (left : ℕ) → IsDenominator d → IsNumerator t → 1 ≤ left → left ≤ 8 → IsSoFar left (no_phases d t)
+pub phases_begun : (d t : ℤ) (left : ℕ) → IsDenominator d → IsNumerator t → 1 ≤ left → left ≤ MOST_PHASES → IsSoFar left (no_phases d t)
 phases_begun d t left den_in cycle_in some few = record {
   den = den_in;
   cycle = cycle_in;
@@ -82,7 +83,7 @@ IsInRange-from_text text s h = along NextOfSchedule Keeps keeps_next first h.lin
 -- ---- the forms of a schedule's lines
 
 numerator_short : (z : ℤ) → IsNumerator z → IsShort z
-numerator_short z h = short (pos 0) (pos 100000000000000) z (omega (arith, ints)) (omega (arith, ints)) h
+numerator_short z h = short (pos 0) MOST_NUMERATOR z (omega (arith, ints)) (omega (arith, ints)) h
 
 pub phase_one : (p q : ℤ × ℤ) (ws : List (List ℕ)) → IsPhaseLine p ws → IsPhaseLine q ws → p ≡ q
 phase_one p q ws h g =
@@ -96,14 +97,14 @@ phase_one p q ws h g =
 pub phase_form : IsForm IsPhaseLine
 phase_form = record { plain = plain-phase_line; one = phase_one; words = λ p ws xs h g. h.2 ∙ sym g.2 }
 
-pub den_form : IsForm (IsNumberLine (codes "den") (pos 1) (pos 100000))
-den_form = number_form (codes "den") (pos 1) (pos 100000) refl (omega (arith, ints)) (omega (arith, ints))
+pub den_form : IsForm (IsNumberLine (codes "den") (pos 1) MOST_DENOMINATOR)
+den_form = number_form (codes "den") (pos 1) MOST_DENOMINATOR refl (omega (arith, ints)) (omega (arith, ints))
 
-pub cycle_form : IsForm (IsNumberLine (codes "cycle") (pos 0) (pos 100000000000000))
-cycle_form = number_form (codes "cycle") (pos 0) (pos 100000000000000) refl (omega (arith, ints)) (omega (arith, ints))
+pub cycle_form : IsForm (IsNumberLine (codes "cycle") (pos 0) MOST_NUMERATOR)
+cycle_form = number_form (codes "cycle") (pos 0) MOST_NUMERATOR refl (omega (arith, ints)) (omega (arith, ints))
 
-pub phases_form : IsForm (IsCountLine (codes "phases") 1 8)
-phases_form = count_form (codes "phases") 1 8 refl (omega arith)
+pub phases_form : IsForm (IsCountLine (codes "phases") 1 MOST_PHASES)
+phases_form = count_form (codes "phases") 1 MOST_PHASES refl (omega arith)
 
 abbrev pub Any : ScheduleLines → Type 0
 Any a = Unit {0}

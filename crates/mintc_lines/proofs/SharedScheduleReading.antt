@@ -1,6 +1,7 @@
 -- What the reader of schedules has read up to each line.
 use Rattle.std.proofs.Common.{◌≡◌, ℕ, suc, ℤ, pos, true, List, [], ◌∷◌, ◌++◌, refl, ap, ◌∙◌, subst, arith, codes}
 use Rattle.std.proofs.lemmas.Int.{ints}
+use Rattle.mintc_text.specs.declared.limits.TheConstants.{MOST_NUMERATOR}
 use Rattle.mintc_text.specs.Lines.{numeral_of}
 use Rattle.mintc_timing.specs.declared.clocking.Schedule.{Schedule}
 use Rattle.mintc_lines.specs.Fields.{plain, plain_line, Spells, IsWordLine, IsNumberLine, IsCountLine}
@@ -12,8 +13,8 @@ use Rattle.mintc_lines.proofs.SharedReadingLaws.{at_more, at_fault, at_end, at_p
 pub plain-phase_line : (p : ℤ × ℤ) (ws : List (List ℕ)) → IsPhaseLine p ws → plain_line ws ≡ true
 plain-phase_line p ws h =
     ap plain_line h.2
-    ∙ and_both (plain (numeral_of p.0)) (plain (numeral_of p.1)) (plain-numeral p.0 (short (pos 0) (pos 100000000000000) p.0 (omega (arith, ints)) (omega (arith, ints)) h.0))
-    (plain-numeral p.1 (short (pos 0) (pos 100000000000000) p.1 (omega (arith, ints)) (omega (arith, ints)) h.1))
+    ∙ and_both (plain (numeral_of p.0)) (plain (numeral_of p.1)) (plain-numeral p.0 (short (pos 0) MOST_NUMERATOR p.0 (omega (arith, ints)) (omega (arith, ints)) h.0))
+    (plain-numeral p.1 (short (pos 0) MOST_NUMERATOR p.1 (omega (arith, ints)) (omega (arith, ints)) h.1))
 
 -- where a reader of a schedule is
 abbrev pub At : List ℕ → Reading → ScheduleLines → Type 0

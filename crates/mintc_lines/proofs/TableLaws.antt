@@ -2,6 +2,7 @@
 use Rattle.std.proofs.Common.{◌≡◌, ◌≢◌, ℕ, zero, suc, ◌<◌, ◌≤◌, ◌+◌, ◌*◌, List, [], ◌∷◌, length, length-append, All, refl, ap, ◌∙◌, sym, subst, arith, inl, inr}
 use Rattle.std.proofs.lemmas.List.{take_all}
 use Rattle.std.proofs.lemmas.List.Elements.{All-push, All-nil}
+use Rattle.mintc_text.specs.declared.limits.TheConstants.{MOST_PHASES, MOST_ELEMENTS, MOST_ARCS, MOST_BOUNDS}
 use Rattle.mintc_text.specs.declared.refusals.Refusal.{Refusal}
 use Rattle.mintc_text.specs.declared.refusals.Stop.{Stop}
 use Rattle.mintc_text.specs.declared.refusals.Stop.TheVariants as stop
@@ -115,15 +116,15 @@ same_design d ps es ns xs bs p q r s t = rw (p, q, r, s, t) refl
 
 -- where no quantity passes its limit, all was kept
 pub design_of_parts : (d : Design) (parts : Parts) (ps ns : List (List ℕ)) → ArePartsOf d parts → ps ≡ parts.phases.kept.items → ns ≡ inner_names parts.inner →
-    parts.phases.count ≤ 8 → parts.elements.count ≤ 2000 → parts.arcs.count ≤ 524288 → parts.bounds.count ≤ 64 →
+    parts.phases.count ≤ MOST_PHASES → parts.elements.count ≤ MOST_ELEMENTS → parts.arcs.count ≤ MOST_ARCS → parts.bounds.count ≤ MOST_BOUNDS →
     design_of ps parts.elements.kept.items ns parts.arcs.kept.items parts.bounds.kept.items ≡ d
 design_of_parts d parts ps ns h p n few_phases few_elements few_arcs few_bounds =
     same_design d ps parts.elements.kept.items ns parts.arcs.kept.items parts.bounds.kept.items
-    (p ∙ kept_whole 8 d.phases parts.phases.kept.items parts.phases.count h.phases few_phases)
-    (kept_whole 2000 d.elements parts.elements.kept.items parts.elements.count h.elements few_elements)
+    (p ∙ kept_whole MOST_PHASES d.phases parts.phases.kept.items parts.phases.count h.phases few_phases)
+    (kept_whole MOST_ELEMENTS d.elements parts.elements.kept.items parts.elements.count h.elements few_elements)
     (n ∙ sym h.inner)
-    (kept_whole 524288 d.arcs parts.arcs.kept.items parts.arcs.count h.arcs few_arcs)
-    (kept_whole 64 d.bounds parts.bounds.kept.items parts.bounds.count h.bounds few_bounds)
+    (kept_whole MOST_ARCS d.arcs parts.arcs.kept.items parts.arcs.count h.arcs few_arcs)
+    (kept_whole MOST_BOUNDS d.bounds parts.bounds.kept.items parts.bounds.count h.bounds few_bounds)
 
 pub stops_weaker : (P Q : Refusal → Type 0) (s : Stop) → ((r : Refusal) → P r → Q r) → StopsAt P s → StopsAt Q s
 stops_weaker P Q (stop.Refused r) f h = f r h

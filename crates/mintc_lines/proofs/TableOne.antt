@@ -1,7 +1,8 @@
 -- Lines of arcs, bounds and elements have one spelling.
-use Rattle.std.proofs.Common.{◌≡◌, ℕ, suc, ℤ, pos, negsuc, ◌<◌, ◌≤◌, ◌^◌, Bool, true, false, List, [], ◌∷◌, ◌++◌, length, get_or, refl, ap, ◌∙◌, sym, subst, arith, codes, decimal, inl, inr}
+use Rattle.std.proofs.Common.{◌≡◌, ℕ, suc, ℤ, pos, negsuc, neg_ℤ, ◌<◌, ◌≤◌, ◌^◌, Bool, true, false, List, [], ◌∷◌, ◌++◌, length, get_or, refl, ap, ◌∙◌, sym, subst, arith, codes, decimal, inl, inr}
 use Rattle.std.proofs.lemmas.Fmt.{decimal_injective, decimal_nonempty}
 use Rattle.std.proofs.lemmas.Int.{ints}
+use Rattle.mintc_text.specs.declared.limits.TheConstants.{MOST_DELAY}
 use Rattle.mintc_text.specs.Lines.{numeral_of}
 use Rattle.mintc_text.specs.Words.{IsShort}
 use Rattle.mintc_text.proofs.SharedNumeralsLaws.{same_numeral, plain_from_decimal, digit_here}
@@ -22,7 +23,7 @@ use Rattle.mintc_lines.proofs.TableLineLaws.{lettered_same, kind_of, kind_same, 
 -- ---- the words of an element have one value
 
 short_gap : (z : ℤ) → IsGap z → IsShort z
-short_gap z h = short (negsuc 999999999) (pos 1000000000) z (omega (arith, ints)) (omega (arith, ints)) h
+short_gap z h = short (neg_ℤ MOST_DELAY) MOST_DELAY z (omega (arith, ints)) (omega (arith, ints)) h
 
 same_gap : (y z : ℤ) → IsGap y → IsGap z → numeral_of y ≡ numeral_of z → y ≡ z
 same_gap y z h g e = same_numeral y z (short_gap y h) (short_gap z g) e

@@ -1,5 +1,6 @@
 -- The lines of a table are plain, and a text has one design or one first line out of form.
 use Rattle.std.proofs.Common.{◌≡◌, ℕ, zero, suc, ◌≤◌, ◌+◌, true, false, List, [], ◌∷◌, ◌++◌, length, length-append, All, refl, ap, ◌∙◌, sym, subst, arith, codes, eqb}
+use Rattle.mintc_text.specs.declared.limits.TheConstants.{MOST_COUNT}
 use Rattle.mintc_lines.specs.declared.table_lines.Version.{Version}
 use Rattle.mintc_timing.specs.Design.{Design}
 use Rattle.mintc_lines.specs.Fields.{IsCount, plain, IsWordLine, IsCountLine, IsNameLine}
@@ -19,8 +20,8 @@ pub record IsCounted (d : Design) : Type 0 where
 abbrev pub Counted : TableLines → Type 0
 Counted first = Unit {0}
 Counted (phases v) = Unit {0}
-Counted (phase v left d) = (length d.phases + left ≤ 999999999) × (d.elements ≡ [])
-Counted (element v left d) = IsCount (length d.phases) × (length d.elements + left ≤ 999999999)
+Counted (phase v left d) = (length d.phases + left ≤ MOST_COUNT) × (d.elements ≡ [])
+Counted (element v left d) = IsCount (length d.phases) × (length d.elements + left ≤ MOST_COUNT)
 Counted (arcs d) = IsCounted d
 Counted (arc left d) = IsCounted d
 Counted (bound left d) = IsCounted d
@@ -35,8 +36,8 @@ abbrev pub After : TableLines → Type 0
 After state = Counted state × Begun state
 
 -- the forms of a table's lines
-pub total_form : (word : List ℕ) (least : ℕ) → plain word ≡ true → IsForm (IsCountLine word least 999999999)
-total_form word least h = count_form word least 999999999 h (omega arith)
+pub total_form : (word : List ℕ) (least : ℕ) → plain word ≡ true → IsForm (IsCountLine word least MOST_COUNT)
+total_form word least h = count_form word least MOST_COUNT h (omega arith)
 
 pub element_form : (v : Version) (k : ℕ) → IsCount k → IsForm (IsElementLine v k)
 element_form v k few = record { plain = plain-element_line v k (omega (arith, few)); one = element_one v k few; words = λ e ws xs h g. h.spelled ∙ sym g.spelled }

@@ -1,7 +1,8 @@
 -- What the reader of tables has read up to each line, and where it halts.
-use Rattle.std.proofs.Common.{◌≡◌, ℕ, zero, suc, ℤ, pos, negsuc, ◌<◌, ◌≤◌, ◌+◌, ◌-◌, ◌^◌, Bool, true, false, Result, Ok, Err, MatchResult, List, [], ◌∷◌, ◌++◌, length, take, refl, ap, ◌∙◌, sym, subst, arith, codes, inl, inr, length-append}
+use Rattle.std.proofs.Common.{◌≡◌, ℕ, zero, suc, ℤ, pos, neg_ℤ, ◌<◌, ◌≤◌, ◌+◌, ◌-◌, ◌^◌, Bool, true, false, Result, Ok, Err, MatchResult, List, [], ◌∷◌, ◌++◌, length, take, refl, ap, ◌∙◌, sym, subst, arith, codes, inl, inr, length-append}
 use Rattle.std.proofs.lemmas.Int.{ints}
 use Rattle.std.proofs.lemmas.List.FromFn.{length-map-range_with_len}
+use Rattle.mintc_text.specs.declared.limits.TheConstants.{MOST_DELAY}
 use Rattle.mintc_text.specs.Lines.{numeral_of}
 use Rattle.mintc_timing.specs.declared.parts.Element.{Element}
 use Rattle.mintc_timing.specs.declared.parts.TimingArc.{TimingArc}
@@ -23,10 +24,10 @@ use Rattle.mintc_lines.proofs.SharedReadingLaws.{list_more, list_all}
 -- ---- words that can be seen
 
 plain-delay : (z : ℤ) → IsDelay z → plain (numeral_of z) ≡ true
-plain-delay z h = plain-numeral z (short (pos 0) (pos 1000000000) z (omega (arith, ints)) (omega (arith, ints)) h)
+plain-delay z h = plain-numeral z (short (pos 0) MOST_DELAY z (omega (arith, ints)) (omega (arith, ints)) h)
 
 plain-gap : (z : ℤ) → IsGap z → plain (numeral_of z) ≡ true
-plain-gap z h = plain-numeral z (short (negsuc 999999999) (pos 1000000000) z (omega (arith, ints)) (omega (arith, ints)) h)
+plain-gap z h = plain-numeral z (short (neg_ℤ MOST_DELAY) MOST_DELAY z (omega (arith, ints)) (omega (arith, ints)) h)
 
 plain-kind : (b : Bool) → plain (kind_word b) ≡ true
 plain-kind true = refl

@@ -1,12 +1,13 @@
 -- Words, names, numbers and counts of a line.
 use Rattle.std.specs.Prelude.{◌≡◌, ◌≤◌, ◌==◌, ◌&&◌, ℕ, ℤ, ◌≤ℤ◌, Bool, true, false, if◌then◌else◌, nat_le, List, [], ◌∷◌, length, All, decimal}
 use Rattle.std.specs.List.{slice_split}
+use Rattle.mintc_text.specs.declared.limits.TheConstants.{MOST_COUNT}
 use Rattle.mintc_text.specs.Lines.{words, numeral_of, IsGraphic, IsWithin}
 use Rattle.mintc_timing.specs.Limits.{IsDelay}
 
--- A count is from 0 to 999,999,999.
+-- A count is from 0 to MOST_COUNT.
 abbrev pub IsCount : ℕ → Type 0
-IsCount n = n ≤ 999999999
+IsCount n = n ≤ MOST_COUNT
 
 abbrev pub number : ℕ → List ℕ
 number n = decimal n

@@ -1,5 +1,6 @@
 -- Where a reader of lines stands in a text.
 use Rattle.std.specs.Prelude.{◌≡◌, ◌≤◌, ◌+◌, ℕ, List, ◌++◌, length, min}
+use Rattle.mintc_text.specs.declared.limits.TheConstants.{MOST_BYTES}
 use Rattle.mintc_text.specs.Lines.{ended, text_of, Follows}
 use Rattle.mintc_lines.specs.Fields.{Spells}
 
@@ -24,7 +25,7 @@ HasNone {V} F left = (v : V) (line more : List ℕ) → left ≡ ended line ++ m
 
 -- The lines that were read of a short text lead to this state.
 pub record IsAt {S : Type 0} (next : S → List ℕ → S → Type 0) (start : S) (text : List ℕ) (reading : Reading) (state : S) : Type 0 where
-  pub short : length text ≤ 67108864
+  pub short : length text ≤ MOST_BYTES
   pub before : List (List ℕ)
   pub whole : text ≡ text_of before ++ reading.left
   pub follows : Follows next start before state

@@ -1,5 +1,6 @@
 -- Where the reader of tables halts, and what it keeps.
 use Rattle.std.specs.Prelude.{◌≡◌, ℕ, List, length, take}
+use Rattle.mintc_text.specs.declared.limits.TheConstants.{MOST_PHASES, MOST_ELEMENTS, MOST_ARCS, MOST_BOUNDS}
 use Rattle.mintc_lines.specs.declared.table_text.Halt.{Halt}
 use Rattle.mintc_lines.specs.declared.table_text.Halt.TheVariants.{Form, Memory}
 use Rattle.mintc_lines.specs.declared.table_text.Parts.{Parts}
@@ -18,8 +19,8 @@ pub record AreKept {X : Type 0} (most : ℕ) (all kept : List X) (count : ℕ) :
 
 -- what was read of a design
 pub record ArePartsOf (d : Design) (parts : Parts) : Type 0 where
-  pub phases : AreKept 8 d.phases parts.phases.kept.items parts.phases.count
-  pub elements : AreKept 2000 d.elements parts.elements.kept.items parts.elements.count
+  pub phases : AreKept MOST_PHASES d.phases parts.phases.kept.items parts.phases.count
+  pub elements : AreKept MOST_ELEMENTS d.elements parts.elements.kept.items parts.elements.count
   pub inner : d.inner ≡ inner_names parts.inner
-  pub arcs : AreKept 524288 d.arcs parts.arcs.kept.items parts.arcs.count
-  pub bounds : AreKept 64 d.bounds parts.bounds.kept.items parts.bounds.count
+  pub arcs : AreKept MOST_ARCS d.arcs parts.arcs.kept.items parts.arcs.count
+  pub bounds : AreKept MOST_BOUNDS d.bounds parts.bounds.kept.items parts.bounds.count

@@ -1,6 +1,7 @@
 -- The text of a table, line by line, and its first line out of form.
 use Rattle.std.specs.Prelude.{◌≡◌, ◌<◌, ◌+◌, ◌*◌, ◌==◌, ◌⊎◌, ℕ, zero, suc, ℤ, Bool, IsFalse, if◌then◌else◌, List, [], ◌∷◌, ◌++◌, length, map, codes, Some}
 use Rattle.std.specs.List.{range_with_len}
+use Rattle.mintc_text.specs.declared.limits.TheConstants.{MOST_COUNT}
 use Rattle.mintc_text.specs.Lines.{numeral_of, IsText, IsFault}
 use Rattle.mintc_text.specs.declared.refusals.Refusal.{Refusal}
 use Rattle.mintc_text.specs.declared.refusals.Refusal.TheVariants as refusal
@@ -102,18 +103,18 @@ empty = design_of [] [] [] [] []
 -- the form of the line that may come next
 abbrev pub NextOfTable : TableLines → List ℕ → TableLines → Type 0
 NextOfTable first line after = (n : ℕ) × Spells (IsCountLine (codes "table") 1 3) n line × (after ≡ phases (version_of n))
-NextOfTable (phases v) line after = (k : ℕ) × Spells (IsCountLine (codes "phases") 1 999999999) k line × (after ≡ phase v k empty)
+NextOfTable (phases v) line after = (k : ℕ) × Spells (IsCountLine (codes "phases") 1 MOST_COUNT) k line × (after ≡ phase v k empty)
 NextOfTable (phase v (suc left) d) line after =
     (name : List ℕ) × Spells (IsNameLine (codes "phase")) name line × (after ≡ phase v left (record d { phases = d.phases ++ name ∷ [] }))
-NextOfTable (phase v zero d) line after = (n : ℕ) × Spells (IsCountLine (codes "elements") 0 999999999) n line × (after ≡ element v n d)
+NextOfTable (phase v zero d) line after = (n : ℕ) × Spells (IsCountLine (codes "elements") 0 MOST_COUNT) n line × (after ≡ element v n d)
 NextOfTable (element v (suc left) d) line after =
     (e : Element) × Spells (IsElementLine v (length d.phases)) e line × (after ≡ element v left (record d { elements = d.elements ++ e ∷ [] }))
 NextOfTable (element v zero d) line after =
-    (m : ℕ) × Spells (IsCountLine (codes "inner") 0 999999999) m line × (after ≡ arcs (record d { inner = inner_names m }))
-NextOfTable (arcs d) line after = (a : ℕ) × Spells (IsCountLine (codes "arcs") 0 999999999) a line × (after ≡ arc a d)
+    (m : ℕ) × Spells (IsCountLine (codes "inner") 0 MOST_COUNT) m line × (after ≡ arcs (record d { inner = inner_names m }))
+NextOfTable (arcs d) line after = (a : ℕ) × Spells (IsCountLine (codes "arcs") 0 MOST_COUNT) a line × (after ≡ arc a d)
 NextOfTable (arc (suc left) d) line after =
     (x : TimingArc) × Spells (IsArcLine (length d.elements) (length d.inner)) x line × (after ≡ arc left (record d { arcs = d.arcs ++ x ∷ [] }))
-NextOfTable (arc zero d) line after = (b : ℕ) × Spells (IsCountLine (codes "bounds") 0 999999999) b line × (after ≡ bound b d)
+NextOfTable (arc zero d) line after = (b : ℕ) × Spells (IsCountLine (codes "bounds") 0 MOST_COUNT) b line × (after ≡ bound b d)
 NextOfTable (bound (suc left) d) line after =
     (x : Bound) × Spells (IsBoundLine (length d.phases)) x line × (after ≡ bound left (record d { bounds = d.bounds ++ x ∷ [] }))
 NextOfTable (bound zero d) line after = (u : Unit {0}) × Spells (IsWordLine (codes "end")) u line × (after ≡ whole d)

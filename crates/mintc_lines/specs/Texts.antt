@@ -1,5 +1,6 @@
 -- The text of a schedule, line by line, and its first line out of form.
 use Rattle.std.specs.Prelude.{◌≡◌, ℕ, zero, suc, ℤ, pos, List, [], ◌∷◌, ◌++◌, codes}
+use Rattle.mintc_text.specs.declared.limits.TheConstants.{MOST_PHASES, MOST_DENOMINATOR, MOST_NUMERATOR}
 use Rattle.mintc_text.specs.Lines.{numeral_of, IsText, IsFault}
 use Rattle.mintc_timing.specs.declared.clocking.Schedule.{Schedule}
 use Rattle.mintc_timing.specs.Limits.{IsNumerator}
@@ -31,9 +32,9 @@ IsPhaseLine p ws = IsNumerator p.0 × IsNumerator p.1 × (ws ≡ codes "phase" �
 -- the form of the line that may come next
 abbrev pub NextOfSchedule : ScheduleLines → List ℕ → ScheduleLines → Type 0
 NextOfSchedule first line after = (n : ℕ) × Spells (IsCountLine (codes "schedule") 1 1) n line × (after ≡ den)
-NextOfSchedule den line after = (d : ℤ) × Spells (IsNumberLine (codes "den") (pos 1) (pos 100000)) d line × (after ≡ cycle d)
-NextOfSchedule (cycle d) line after = (t : ℤ) × Spells (IsNumberLine (codes "cycle") (pos 0) (pos 100000000000000)) t line × (after ≡ phases d t)
-NextOfSchedule (phases d t) line after = (k : ℕ) × Spells (IsCountLine (codes "phases") 1 8) k line × (after ≡ phase k (no_phases d t))
+NextOfSchedule den line after = (d : ℤ) × Spells (IsNumberLine (codes "den") (pos 1) MOST_DENOMINATOR) d line × (after ≡ cycle d)
+NextOfSchedule (cycle d) line after = (t : ℤ) × Spells (IsNumberLine (codes "cycle") (pos 0) MOST_NUMERATOR) t line × (after ≡ phases d t)
+NextOfSchedule (phases d t) line after = (k : ℕ) × Spells (IsCountLine (codes "phases") 1 MOST_PHASES) k line × (after ≡ phase k (no_phases d t))
 NextOfSchedule (phase (suc left) s) line after = (p : ℤ × ℤ) × Spells IsPhaseLine p line × (after ≡ phase left (with_phase s p))
 NextOfSchedule (phase zero s) line after = (u : Unit {0}) × Spells (IsWordLine (codes "end")) u line × (after ≡ whole s)
 NextOfSchedule (whole s) line after = ⊥

@@ -3,6 +3,7 @@ ghost use Rattle.std.specs.Prelude.{◌≡◌, ◌∷◌, [], ◌≤◌, ◌<◌
 ghost use Rattle.mintc_text.specs.Lines.{numeral_of, IsWithin};
 ghost use Rattle.mintc_lines.specs.Fields.{IsName, AreDelays, number, fields_of};
 
+use mintc_text::limits::MOST_DELAY;
 use mintc_text::{leading_digits, numeral, place_of};
 use std::marker::Model;
 
@@ -193,8 +194,8 @@ impl<'a> Fields<'a> {
             ((low high : ℤ) (more : List (List ℕ)) → AreDelays low high → self.old ≡ numeral_of low ∷ numeral_of high ∷ more → ⊥)
             (λ found. AreDelays found.0 found.1 × (self.old ≡ numeral_of found.0 ∷ numeral_of found.1 ∷ self.new)) }
     {
-        let low = self.number(0, 1_000_000_000)?;
-        let high = self.number(0, 1_000_000_000)?;
+        let low = self.number(0, MOST_DELAY)?;
+        let high = self.number(0, MOST_DELAY)?;
         if low <= high { Some((low, high)) } else { None }
     }
 

@@ -12,7 +12,7 @@ mod table_text;
 mod text_laws;
 
 pub use fields::Fields;
-pub use reader::{MOST_NUMERATOR, Reader};
+pub use reader::Reader;
 pub use schedule_text::read_schedule;
 pub use table_text::read_table;
 pub use text_laws::{schedule_texts_are_plain, table_texts_are_plain, texts_are_canonical};

@@ -7,10 +7,8 @@ ghost use Rattle.mintc_lines.specs.Texts.{IsPhaseLine};
 
 use crate::Fields;
 use mintc_text::Cursor;
+use mintc_text::limits::MOST_NUMERATOR;
 use std::marker::Model;
-
-/// The greatest numerator of a schedule and of a departure.
-pub const MOST_NUMERATOR: i64 = 100_000_000_000_000;
 
 /// A text from some line on, and the number of the line that was asked for last, counted from 1.
 #[derive(Drop)]

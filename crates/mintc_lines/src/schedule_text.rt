@@ -1,19 +1,20 @@
 //! Reading the text of a schedule.
 ghost use Rattle.std.specs.Prelude.{◌≡◌, ◌≤◌, ℕ, ℤ, List, MatchOption, IfSome, IfOk, IfErr, length};
+ghost use Rattle.mintc_text.specs.declared.limits.TheConstants.{MOST_BYTES};
 ghost use Rattle.mintc_text.specs.declared.refusals.Role.{Role};
 ghost use Rattle.mintc_timing.specs.Limits.{IsInRange, IsDenominator, IsNumerator};
 ghost use Rattle.mintc_lines.specs.Reading.{IsAt};
 ghost use Rattle.mintc_lines.specs.Texts.{NextOfSchedule, IsScheduleText, IsScheduleFault, no_phases, schedule_of, first, phase};
 
 use crate::Reader;
-use crate::reader::MOST_NUMERATOR;
 use arrayvec::ArrayVec;
+use mintc_text::limits::{MOST_DENOMINATOR, MOST_NUMERATOR, MOST_PHASES};
 use mintc_text::{Refusal, Role};
 use mintc_timing::{PhaseNumbers, Schedule};
 
 /// Reads the lines of so many phases: their starts and their widths.
 fn phases(reader: &mut Reader, count: u32) -> Option<(PhaseNumbers, PhaseNumbers)>
-    requires { count ≤ 8 }
+    requires { count ≤ MOST_PHASES }
     ensures { (text : List ℕ) (d t : ℤ) → IsAt NextOfSchedule first text reader.old (phase count (no_phases d t)) →
         MatchOption result (IsScheduleFault text reader.new.number) (λ r. IsAt NextOfSchedule first text reader.new (phase 0 (schedule_of d t r.0 r.1))) }
 {
@@ -31,13 +32,13 @@ fn phases(reader: &mut Reader, count: u32) -> Option<(PhaseNumbers, PhaseNumbers
 fn head(reader: &mut Reader) -> Option<(i64, i64, u32)>
     ensures read { (text : List ℕ) → IsAt NextOfSchedule first text reader.old first →
         MatchOption result (IsScheduleFault text reader.new.number) (λ r. IsAt NextOfSchedule first text reader.new (phase r.2 (no_phases r.0 r.1))) }
-    ensures few { IfSome result (λ r. r.2 ≤ 8) }
+    ensures few { IfSome result (λ r. r.2 ≤ MOST_PHASES) }
     ensures in_range { IfSome result (λ r. IsDenominator r.0 × IsNumerator r.1) }
 {
     reader.count_line(b"schedule", 1, 1)?;
-    let den = reader.number_line(b"den", 1, 100_000)?;
+    let den = reader.number_line(b"den", 1, MOST_DENOMINATOR)?;
     let cycle = reader.number_line(b"cycle", 0, MOST_NUMERATOR)?;
-    let count = reader.count_line(b"phases", 1, 8)?;
+    let count = reader.count_line(b"phases", 1, MOST_PHASES as u32)?;
     Some((den, cycle, count))
 }
 
@@ -60,7 +61,7 @@ fn schedule(reader: &mut Reader) -> Option<Schedule>
 
 /// The schedule of a text. The refusal is Syntax with the first line that is out of form, counted from 1.
 pub fn read_schedule(text: &[u8]) -> Result<Schedule, Refusal>
-    requires { length text.now ≤ 67108864 }
+    requires { length text.now ≤ MOST_BYTES }
     ensures value { IfOk result (λ s. IsScheduleText text.now s) }
     ensures in_range { IfOk result IsInRange }
     ensures syntax { IfErr result (λ r. (n : ℕ) × (r ≡ Refusal.Syntax Role.Schedule n) × IsScheduleFault text.now n) }

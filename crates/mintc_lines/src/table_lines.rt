@@ -10,6 +10,7 @@ ghost use Rattle.mintc_lines.specs.ElementWords.{named, IsKind, IsHold, IsOpenin
 ghost use Rattle.mintc_lines.specs.TableText.{version_of, kind_word, hold_word, with_kind, with_openings, point_word, IsElementLine, IsFromWord, IsToWord, IsArcLine, IsBoundLine};
 
 use crate::Fields;
+use mintc_text::limits::{MOST_COUNT, MOST_DELAY};
 use mintc_text::numeral;
 use mintc_timing::{Bound, Point, TimingArc};
 
@@ -91,7 +92,7 @@ fn hold(fields: &mut Fields) -> Option<(bool, i64)>
     if word == b"-".as_slice() {
         return Some((false, 0));
     }
-    let hold = numeral(word, -1_000_000_000, 1_000_000_000)?;
+    let hold = numeral(word, -MOST_DELAY, MOST_DELAY)?;
     Some((true, hold))
 }
 
@@ -129,11 +130,11 @@ pub fn element_of<'a>(
     let name = fields.name()?;
     let phase = fields.count(1, phases)?;
     let flop = kind(&mut fields, version)?;
-    let setup = fields.number(-1_000_000_000, 1_000_000_000)?;
+    let setup = fields.number(-MOST_DELAY, MOST_DELAY)?;
     let (has_hold, hold) = hold(&mut fields)?;
     let dq = fields.delays()?;
     let cq = openings(&mut fields, version, flop, dq)?;
-    let width = fields.number(0, 1_000_000_000)?;
+    let width = fields.number(0, MOST_DELAY)?;
     fields.end()?;
     Some((
         name,
@@ -160,7 +161,7 @@ fn lettered(word: &[u8]) -> Option<(u8, u32)>
 {
     match word {
         [letter, digits @ ..] => {
-            let count = numeral(digits, 0, 999_999_999)?;
+            let count = numeral(digits, 0, i64::from(MOST_COUNT))?;
             Some((*letter, count as u32))
         }
         [] => None,
@@ -246,7 +247,7 @@ pub fn bound_of(mut fields: Fields, phases: u32) -> Option<Bound>
     fields.fixed(b"bound")?;
     let from = point(fields.word()?, phases)?;
     let to = point(fields.word()?, phases)?;
-    let gap = fields.number(-1_000_000_000, 1_000_000_000)?;
+    let gap = fields.number(-MOST_DELAY, MOST_DELAY)?;
     let cycles = fields.count(0, 1)?;
     fields.end()?;
     Some(Bound {

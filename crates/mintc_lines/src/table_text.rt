@@ -1,5 +1,6 @@
 //! Reading the text of a table.
-ghost use Rattle.std.specs.Prelude.{◌≡◌, ◌≤◌, ◌<◌, ◌∷◌, ◌++◌, [], ℕ, List, OnOk, MatchOption, MatchResult, IfOk, IfErr, IfNone, Some, length, take, min, codes, decimal};
+ghost use Rattle.std.specs.Prelude.{◌≡◌, ◌≤◌, ◌<◌, ◌∷◌, ◌++◌, [], ℕ, List, OnOk, MatchOption, MatchResult, IfOk, IfErr, Some, length, take, codes, decimal};
+ghost use Rattle.mintc_text.specs.declared.limits.TheConstants.{MOST_BYTES};
 ghost use Rattle.mintc_text.specs.Stops.{StopsAt};
 ghost use Rattle.mintc_timing.specs.declared.parts.Bound.{Bound};
 ghost use Rattle.mintc_timing.specs.declared.parts.Element.{Element};
@@ -8,7 +9,7 @@ ghost use Rattle.mintc_lines.specs.declared.table_lines.Version.{Version};
 ghost use Rattle.mintc_timing.specs.Design.{Design, design_of};
 ghost use Rattle.mintc_lines.specs.ElementWords.{named};
 ghost use Rattle.mintc_lines.specs.Fields.{IsCount};
-ghost use Rattle.mintc_timing.specs.Limits.{HasParts, limit_of, over_limit, quantities};
+ghost use Rattle.mintc_timing.specs.Limits.{HasParts, limit_of};
 ghost use Rattle.mintc_lines.specs.Reading.{HasNone, HasRead, IsAt, number_after};
 ghost use Rattle.mintc_lines.specs.TableReading.{Halts, AreKept, ArePartsOf};
 ghost use Rattle.mintc_lines.specs.TableText.{NextOfTable, IsElementLine, IsArcLine, IsBoundLine, IsTableText, IsTableFault, IsTableRefusal, inner_names, first, phase, element, arc, bound};
@@ -16,12 +17,10 @@ ghost use Rattle.mintc_lines.specs.TableText.{phases as before_phases, arcs as b
 
 use crate::Reader;
 use crate::table_lines::{ElementNumbers, Version, arc_of, bound_of, element_of, version_of};
-use mintc_text::{Kind, Lines, Name, Names, OutOfMemory, Refusal, Role, Stop};
-use mintc_timing::{Bound, Element, Flat, TimingArc};
+use mintc_text::limits::{MOST_ARCS, MOST_BOUNDS, MOST_COUNT, MOST_ELEMENTS, MOST_PHASES};
+use mintc_text::{Lines, Name, Names, OutOfMemory, Refusal, Role, Stop};
+use mintc_timing::{Bound, Element, Flat, TimingArc, first_over};
 use std::alloc::Global;
-
-/// The greatest count that a table can say.
-const MOST: u32 = 999_999_999;
 
 /// Why reading stopped.
 #[derive(Clone, Copy)]
@@ -128,12 +127,12 @@ fn element_with(alloc: Global, name: &[u8], numbers: ElementNumbers) -> Result<E
 fn phases(alloc: Global, reader: &mut Reader) -> Result<Listed<Name>, Halt>
     ensures read { (text : List ℕ) (v : Version) → IsAt NextOfTable first text reader.old (before_phases v) →
         MatchResult result
-        (λ listed. (all : List (List ℕ)) × (1 ≤ length all) × AreKept 8 all listed.kept.items listed.count
+        (λ listed. (all : List (List ℕ)) × (1 ≤ length all) × AreKept MOST_PHASES all listed.kept.items listed.count
         × IsAt NextOfTable first text reader.new (phase v 0 (design_of all [] [] [] [])))
         (Halts (IsTableFault text reader.new.number)) }
     ensures few { IfOk result (λ listed. IsCount listed.count) }
 {
-    let Some(count) = reader.count_line(b"phases", 1, MOST) else {
+    let Some(count) = reader.count_line(b"phases", 1, MOST_COUNT) else {
         return Err(Halt::Form);
     };
     let mut kept = Vec::new(alloc);
@@ -144,7 +143,7 @@ fn phases(alloc: Global, reader: &mut Reader) -> Result<Listed<Name>, Halt>
         let Ok(name) = Name::new(alloc, name) else {
             return Err(Halt::Memory);
         };
-        let Ok(()) = keep(&mut kept, 8, name) else {
+        let Ok(()) = keep(&mut kept, MOST_PHASES, name) else {
             return Err(Halt::Memory);
         };
     }
@@ -160,12 +159,12 @@ fn elements(
 ) -> Result<Listed<Element>, Halt>
     ensures read { (text : List ℕ) (ps : List (List ℕ)) → length ps ≡ phases → IsAt NextOfTable first text reader.old (phase version 0 (design_of ps [] [] [] [])) →
         MatchResult result
-        (λ listed. (all : List Element) × AreKept 2000 all listed.kept.items listed.count
+        (λ listed. (all : List Element) × AreKept MOST_ELEMENTS all listed.kept.items listed.count
         × IsAt NextOfTable first text reader.new (element version 0 (design_of ps all [] [] [])))
         (Halts (IsTableFault text reader.new.number)) }
     ensures few { IfOk result (λ listed. IsCount listed.count) }
 {
-    let Some(count) = reader.count_line(b"elements", 0, MOST) else {
+    let Some(count) = reader.count_line(b"elements", 0, MOST_COUNT) else {
         return Err(Halt::Form);
     };
     let mut kept = Vec::new(alloc);
@@ -176,7 +175,7 @@ fn elements(
         let Ok(element) = element_with(alloc, name, numbers) else {
             return Err(Halt::Memory);
         };
-        let Ok(()) = keep(&mut kept, 2_000, element) else {
+        let Ok(()) = keep(&mut kept, MOST_ELEMENTS, element) else {
             return Err(Halt::Memory);
         };
     }
@@ -195,11 +194,11 @@ fn arcs(
     ensures { (text : List ℕ) (ps : List (List ℕ)) (es : List Element) (ns : List (List ℕ)) → length es ≡ elements → length ns ≡ inner →
         IsAt NextOfTable first text reader.old (before_arcs (design_of ps es ns [] [])) →
         MatchResult result
-        (λ listed. (all : List TimingArc) × AreKept 524288 all listed.kept.items listed.count
+        (λ listed. (all : List TimingArc) × AreKept MOST_ARCS all listed.kept.items listed.count
         × IsAt NextOfTable first text reader.new (arc 0 (design_of ps es ns all [])))
         (Halts (IsTableFault text reader.new.number)) }
 {
-    let Some(count) = reader.count_line(b"arcs", 0, MOST) else {
+    let Some(count) = reader.count_line(b"arcs", 0, MOST_COUNT) else {
         return Err(Halt::Form);
     };
     let mut kept = Vec::new(alloc);
@@ -207,7 +206,7 @@ fn arcs(
         let Some(arc) = arc_line(reader, elements, inner) else {
             return Err(Halt::Form);
         };
-        let Ok(()) = keep(&mut kept, 524_288, arc) else {
+        let Ok(()) = keep(&mut kept, MOST_ARCS, arc) else {
             return Err(Halt::Memory);
         };
     }
@@ -220,11 +219,11 @@ fn bounds(alloc: Global, reader: &mut Reader, phases: u32) -> Result<Listed<Boun
     ensures { (text : List ℕ) (ps : List (List ℕ)) (es : List Element) (ns : List (List ℕ)) (xs : List TimingArc) → length ps ≡ phases →
         IsAt NextOfTable first text reader.old (arc 0 (design_of ps es ns xs [])) →
         MatchResult result
-        (λ listed. (all : List Bound) × AreKept 64 all listed.kept.items listed.count
+        (λ listed. (all : List Bound) × AreKept MOST_BOUNDS all listed.kept.items listed.count
         × IsAt NextOfTable first text reader.new (bound 0 (design_of ps es ns xs all)))
         (Halts (IsTableFault text reader.new.number)) }
 {
-    let Some(count) = reader.count_line(b"bounds", 0, MOST) else {
+    let Some(count) = reader.count_line(b"bounds", 0, MOST_COUNT) else {
         return Err(Halt::Form);
     };
     let mut kept = Vec::new(alloc);
@@ -232,7 +231,7 @@ fn bounds(alloc: Global, reader: &mut Reader, phases: u32) -> Result<Listed<Boun
         let Some(bound) = bound_line(reader, phases) else {
             return Err(Halt::Form);
         };
-        let Ok(()) = keep(&mut kept, 64, bound) else {
+        let Ok(()) = keep(&mut kept, MOST_BOUNDS, bound) else {
             return Err(Halt::Memory);
         };
     }
@@ -243,7 +242,7 @@ fn bounds(alloc: Global, reader: &mut Reader, phases: u32) -> Result<Listed<Boun
 fn front(alloc: Global, reader: &mut Reader) -> Result<(Listed<Name>, Listed<Element>, u32), Halt>
     ensures read { (text : List ℕ) → IsAt NextOfTable first text reader.old first →
         MatchResult result
-        (λ r. (ps : List (List ℕ)) × (es : List Element) × AreKept 8 ps r.0.kept.items r.0.count × AreKept 2000 es r.1.kept.items r.1.count
+        (λ r. (ps : List (List ℕ)) × (es : List Element) × AreKept MOST_PHASES ps r.0.kept.items r.0.count × AreKept MOST_ELEMENTS es r.1.kept.items r.1.count
         × IsAt NextOfTable first text reader.new (before_arcs (design_of ps es (inner_names r.2) [] [])))
         (Halts (IsTableFault text reader.new.number)) }
     ensures few { IfOk result (λ r. IsCount r.0.count × IsCount r.1.count × IsCount r.2) }
@@ -253,7 +252,7 @@ fn front(alloc: Global, reader: &mut Reader) -> Result<(Listed<Name>, Listed<Ele
     };
     let names = phases(alloc, reader)?;
     let listed = elements(alloc, reader, version_of(number), names.count)?;
-    let Some(inner) = reader.count_line(b"inner", 0, MOST) else {
+    let Some(inner) = reader.count_line(b"inner", 0, MOST_COUNT) else {
         return Err(Halt::Form);
     };
     Ok((names, listed, inner))
@@ -308,41 +307,19 @@ fn inner_names(alloc: Global, count: u32) -> Result<Names, OutOfMemory>
     Ok(Names::new(names))
 }
 
-/// The refusal of the first quantity of a table that passes its limit.
-fn over_limit(parts: &Parts) -> Option<Refusal>
-    ensures refusal { result ≡ over_limit (quantities parts.now.inner parts.now.phases.count parts.now.elements.count parts.now.arcs.count parts.now.bounds.count) }
-    ensures inner { IfNone result (parts.now.inner ≤ 262144) }
-    ensures phases { IfNone result (parts.now.phases.count ≤ 8) }
-    ensures elements { IfNone result (parts.now.elements.count ≤ 2000) }
-    ensures arcs { IfNone result (parts.now.arcs.count ≤ 524288) }
-    ensures bounds { IfNone result (parts.now.bounds.count ≤ 64) }
-{
-    let (kind, count) = if parts.inner > 262_144 {
-        (Kind::Inner, parts.inner)
-    } else if parts.phases.count > 8 {
-        (Kind::Phases, parts.phases.count)
-    } else if parts.elements.count > 2_000 {
-        (Kind::Elements, parts.elements.count)
-    } else if parts.arcs.count > 524_288 {
-        (Kind::Arcs, parts.arcs.count)
-    } else if parts.bounds.count > 64 {
-        (Kind::Bounds, parts.bounds.count)
-    } else {
-        return None;
-    };
-    Some(Refusal::Limit {
-        kind,
-        count: u64::from(count).min(1_000_000_000),
-    })
-}
-
 /// The design of a table's parts.
 fn flat_of(alloc: Global, parts: Parts) -> Result<Flat, Stop>
     requires { (d : Design) × HasParts d × ArePartsOf d parts }
     ensures value { IfOk result (λ flat. (d : Design) → ArePartsOf d parts → flat ≡ d) }
     ensures stop { IfErr result (StopsAt (λ r. (d : Design) → ArePartsOf d parts → limit_of d ≡ Some r)) }
 {
-    if let Some(refusal) = over_limit(&parts) {
+    if let Some(refusal) = first_over(
+        parts.inner as usize,
+        parts.phases.count as usize,
+        parts.elements.count as usize,
+        parts.arcs.count as usize,
+        parts.bounds.count as usize,
+    ) {
         return Err(Stop::Refused(refusal));
     }
     let Ok(inner) = inner_names(alloc, parts.inner) else {
@@ -371,7 +348,7 @@ fn flat_of(alloc: Global, parts: Parts) -> Result<Flat, Stop>
 /// where all lines are in form Limit of the first quantity, in the order inner bits, phases, elements, arcs, bounds,
 /// that passes its limit.
 pub fn read_table(alloc: Global, text: &[u8]) -> Result<Flat, Stop>
-    requires { length text.now ≤ 67108864 }
+    requires { length text.now ≤ MOST_BYTES }
     ensures value { IfOk result (λ flat. IsTableText text.now flat) }
     ensures stop { IfErr result (StopsAt (IsTableRefusal text.now)) }
 {

@@ -1,4 +1,5 @@
 use Rattle.std.proofs.Common.{◌<◌, pos, arith, ◌∙◌}
+use Rattle.mintc_text.specs.declared.limits.TheConstants.{MOST_MEMBERS}
 use Rattle.mintc_timing.specs.declared.link.Link.{Link}
 use Rattle.mintc_certificate.proofs.ChainSumLaws.{sum_step, more_delay, more_cycles}
 use Rattle.mintc_certificate.proofs.sums.sums_of.Goals as goal
@@ -10,7 +11,7 @@ loop-member-preserved c =
     let link = c.link_of-link.result in
     let below = c.loop-member-test.true in
     let most = c.requires.chain.most in
-    let few : c.loop-member.member-index < 4096 = omega arith in
+    let few : c.loop-member.member-index < MOST_MEMBERS = omega arith in
     let h = c.loop-member.invariant in
     let delay = more_delay _ link.delay i h.delay_low h.delay_high few c.link_of-link.ensures.range in
     let cycles = more_cycles _ c.from-cycles.result link.cycles i c.from-cycles.ensures h.cycles_low h.cycles_high few c.link_of-link.ensures.cycles in

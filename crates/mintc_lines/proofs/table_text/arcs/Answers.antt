@@ -1,4 +1,5 @@
 use Rattle.std.proofs.Common.{ℕ, [], length, arith, subst, sym, refl}
+use Rattle.mintc_text.specs.declared.limits.TheConstants.{MOST_ARCS}
 use Rattle.mintc_timing.specs.Design.{design_of}
 use Rattle.mintc_lines.specs.Fields.{Spells}
 use Rattle.mintc_lines.specs.TableText.{IsArcLine, arc}
@@ -18,11 +19,11 @@ returns-in_default-arc_line c = λ text ps es ns counted inner at.
 
 pub loop-arc-preserved : goal.loop-arc-preserved
 loop-arc-preserved c = λ text ps es ns counted inner at.
-    so_far_more (arc_states ps es ns) (IsArcLine c.args.elements c.args.inner) 524288 text c.loop-arc.reader c.arc_line.new.reader c.loop-arc.kept.items c.keep.new.items.items c.loop-arc._arc c.in-Some.count c.in-Some-arc_line.arc
+    so_far_more (arc_states ps es ns) (IsArcLine c.args.elements c.args.inner) MOST_ARCS text c.loop-arc.reader c.arc_line.new.reader c.loop-arc.kept.items c.keep.new.items.items c.loop-arc._arc c.in-Some.count c.in-Some-arc_line.arc
     (c.loop-arc.invariant text ps es ns counted inner at) (omega arith) c.in-Some-arc_line.ensures.read c.in-Some-arc_line.ensures.counted c.in-Ok.ensures (λ left all line spells. (c.in-Some-arc_line.arc, subst (λ (k : ℕ). Spells (IsArcLine k (length ns)) c.in-Some-arc_line.arc line) (sym counted) (subst (λ (k : ℕ). Spells (IsArcLine c.args.elements k) c.in-Some-arc_line.arc line) (sym inner) spells), refl))
 
 pub returns : goal.returns
 returns c = λ text ps es ns counted inner at.
     let begun = at_more c.count_line.new.self (arc c.in-Some.count (design_of ps es ns [] [])) at c.in-Some.ensures.read c.in-Some.ensures.counted (λ line spells. (_, spells, refl)) in
-    let all = so_far_all (arc_states ps es ns) 524288 text c.loop-arc.reader c.loop-arc.kept.items c.loop-arc._arc c.in-Some.count (c.loop-arc.invariant text ps es ns counted inner begun) (omega arith) (omega arith) in
+    let all = so_far_all (arc_states ps es ns) MOST_ARCS text c.loop-arc.reader c.loop-arc.kept.items c.loop-arc._arc c.in-Some.count (c.loop-arc.invariant text ps es ns counted inner begun) (omega arith) (omega arith) in
     all

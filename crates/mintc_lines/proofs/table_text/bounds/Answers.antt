@@ -1,4 +1,5 @@
 use Rattle.std.proofs.Common.{ℕ, [], arith, subst, sym, refl}
+use Rattle.mintc_text.specs.declared.limits.TheConstants.{MOST_BOUNDS}
 use Rattle.mintc_timing.specs.Design.{design_of}
 use Rattle.mintc_lines.specs.Fields.{Spells}
 use Rattle.mintc_lines.specs.TableText.{IsBoundLine, bound}
@@ -18,11 +19,11 @@ returns-in_default-bound_line c = λ text ps es ns xs counted at.
 
 pub loop-bound-preserved : goal.loop-bound-preserved
 loop-bound-preserved c = λ text ps es ns xs counted at.
-    so_far_more (bound_states ps es ns xs) (IsBoundLine c.args.phases) 64 text c.loop-bound.reader c.bound_line.new.reader c.loop-bound.kept.items c.keep.new.items.items c.loop-bound._bound c.in-Some.count c.in-Some-bound_line.bound
+    so_far_more (bound_states ps es ns xs) (IsBoundLine c.args.phases) MOST_BOUNDS text c.loop-bound.reader c.bound_line.new.reader c.loop-bound.kept.items c.keep.new.items.items c.loop-bound._bound c.in-Some.count c.in-Some-bound_line.bound
     (c.loop-bound.invariant text ps es ns xs counted at) (omega arith) c.in-Some-bound_line.ensures.read c.in-Some-bound_line.ensures.counted c.in-Ok.ensures (λ left all line spells. (c.in-Some-bound_line.bound, subst (λ (k : ℕ). Spells (IsBoundLine k) c.in-Some-bound_line.bound line) (sym counted) spells, refl))
 
 pub returns : goal.returns
 returns c = λ text ps es ns xs counted at.
     let begun = at_more c.count_line.new.self (bound c.in-Some.count (design_of ps es ns xs [])) at c.in-Some.ensures.read c.in-Some.ensures.counted (λ line spells. (_, spells, refl)) in
-    let all = so_far_all (bound_states ps es ns xs) 64 text c.loop-bound.reader c.loop-bound.kept.items c.loop-bound._bound c.in-Some.count (c.loop-bound.invariant text ps es ns xs counted begun) (omega arith) (omega arith) in
+    let all = so_far_all (bound_states ps es ns xs) MOST_BOUNDS text c.loop-bound.reader c.loop-bound.kept.items c.loop-bound._bound c.in-Some.count (c.loop-bound.invariant text ps es ns xs counted begun) (omega arith) (omega arith) in
     all

@@ -1,4 +1,5 @@
 use Rattle.std.proofs.Common.{◌≡◌, ℕ, List, [], ◌∷◌, arith, subst, sym, refl, take, ◌++◌}
+use Rattle.mintc_text.specs.declared.limits.TheConstants.{MOST_ELEMENTS}
 use Rattle.mintc_timing.specs.declared.parts.Element.{Element}
 use Rattle.mintc_timing.specs.Design.{design_of}
 use Rattle.mintc_lines.specs.ElementWords.{named}
@@ -20,11 +21,11 @@ returns-in_default-element_line-clause-read c = λ text ps counted at.
 
 pub loop-element-preserved : goal.loop-element-preserved
 loop-element-preserved c = λ text ps counted at.
-    so_far_more (element_states c.args.version ps) (IsElementLine c.args.version c.args.phases) 2000 text c.loop-element.reader c.element_line.new.reader c.loop-element.kept.items c.keep.new.items.items c.loop-element._element c.in-Some.count (named c.in-Some-element_line.name.now c.in-Some-element_line.numbers)
-    (c.loop-element.invariant text ps counted at) (omega arith) c.in-Some-element_line.ensures.read c.in-Some-element_line.ensures.counted (subst (λ (x : Element). (all : List Element) → c.loop-element.kept.items ≡ take 2000 all → c.keep.new.items.items ≡ take 2000 (all ++ x ∷ [])) c.in-Ok.ensures c.in-Ok-keep.ensures) (λ left all line spells. ((named c.in-Some-element_line.name.now c.in-Some-element_line.numbers), subst (λ (k : ℕ). Spells (IsElementLine c.args.version k) (named c.in-Some-element_line.name.now c.in-Some-element_line.numbers) line) (sym counted) spells, refl))
+    so_far_more (element_states c.args.version ps) (IsElementLine c.args.version c.args.phases) MOST_ELEMENTS text c.loop-element.reader c.element_line.new.reader c.loop-element.kept.items c.keep.new.items.items c.loop-element._element c.in-Some.count (named c.in-Some-element_line.name.now c.in-Some-element_line.numbers)
+    (c.loop-element.invariant text ps counted at) (omega arith) c.in-Some-element_line.ensures.read c.in-Some-element_line.ensures.counted (subst (λ (x : Element). (all : List Element) → c.loop-element.kept.items ≡ take MOST_ELEMENTS all → c.keep.new.items.items ≡ take MOST_ELEMENTS (all ++ x ∷ [])) c.in-Ok.ensures c.in-Ok-keep.ensures) (λ left all line spells. ((named c.in-Some-element_line.name.now c.in-Some-element_line.numbers), subst (λ (k : ℕ). Spells (IsElementLine c.args.version k) (named c.in-Some-element_line.name.now c.in-Some-element_line.numbers) line) (sym counted) spells, refl))
 
 pub returns-clause-read : goal.returns-clause-read
 returns-clause-read c = λ text ps counted at.
     let begun = at_more c.count_line.new.self (element c.args.version c.in-Some.count (design_of ps [] [] [] [])) at c.in-Some.ensures.read c.in-Some.ensures.counted (λ line spells. (_, spells, refl)) in
-    let all = so_far_all (element_states c.args.version ps) 2000 text c.loop-element.reader c.loop-element.kept.items c.loop-element._element c.in-Some.count (c.loop-element.invariant text ps counted begun) (omega arith) (omega arith) in
+    let all = so_far_all (element_states c.args.version ps) MOST_ELEMENTS text c.loop-element.reader c.loop-element.kept.items c.loop-element._element c.in-Some.count (c.loop-element.invariant text ps counted begun) (omega arith) (omega arith) in
     all

@@ -1,4 +1,5 @@
 use Rattle.std.proofs.Common.{◌≡◌, ℕ, List, [], ◌∷◌, arith, codes, subst, refl, take, ◌++◌}
+use Rattle.mintc_text.specs.declared.limits.TheConstants.{MOST_PHASES}
 use Rattle.mintc_lines.specs.Fields.{IsNameLine}
 use Rattle.mintc_lines.specs.TableText.{empty, phase}
 use Rattle.mintc_lines.proofs.TableReading.{so_far_more, so_far_all, phase_states}
@@ -17,11 +18,11 @@ returns-in_default-name_line-clause-read c = λ text v at.
 
 pub loop-phase-preserved : goal.loop-phase-preserved
 loop-phase-preserved c = λ text v at.
-    so_far_more (phase_states v) (IsNameLine (codes "phase")) 8 text c.loop-phase.reader c.name_line.new.self c.loop-phase.kept.items c.keep.new.items.items c.loop-phase._phase c.in-Some.count c.in-Some-name_line.name.now
-    (c.loop-phase.invariant text v at) (omega arith) c.in-Some-name_line.ensures.read c.in-Some-name_line.ensures.counted (subst (λ (x : List ℕ). (all : List (List ℕ)) → c.loop-phase.kept.items ≡ take 8 all → c.keep.new.items.items ≡ take 8 (all ++ x ∷ [])) c.in-Ok.ensures c.in-Ok-keep.ensures) (λ left all line spells. (c.in-Some-name_line.name.now, spells, refl))
+    so_far_more (phase_states v) (IsNameLine (codes "phase")) MOST_PHASES text c.loop-phase.reader c.name_line.new.self c.loop-phase.kept.items c.keep.new.items.items c.loop-phase._phase c.in-Some.count c.in-Some-name_line.name.now
+    (c.loop-phase.invariant text v at) (omega arith) c.in-Some-name_line.ensures.read c.in-Some-name_line.ensures.counted (subst (λ (x : List ℕ). (all : List (List ℕ)) → c.loop-phase.kept.items ≡ take MOST_PHASES all → c.keep.new.items.items ≡ take MOST_PHASES (all ++ x ∷ [])) c.in-Ok.ensures c.in-Ok-keep.ensures) (λ left all line spells. (c.in-Some-name_line.name.now, spells, refl))
 
 pub returns-clause-read : goal.returns-clause-read
 returns-clause-read c = λ text v at.
     let begun = at_more c.count_line.new.self (phase v c.in-Some.count empty) at c.in-Some.ensures.read c.in-Some.ensures.counted (λ line spells. (_, spells, refl)) in
-    let all = so_far_all (phase_states v) 8 text c.loop-phase.reader c.loop-phase.kept.items c.loop-phase._phase c.in-Some.count (c.loop-phase.invariant text v begun) (omega arith) (omega arith) in
+    let all = so_far_all (phase_states v) MOST_PHASES text c.loop-phase.reader c.loop-phase.kept.items c.loop-phase._phase c.in-Some.count (c.loop-phase.invariant text v begun) (omega arith) (omega arith) in
     (all.0, omega (arith, all.1.counted, c.in-Some.ensures.read.spells.1.0), all.1, all.2)

@@ -1,4 +1,5 @@
 use Rattle.std.proofs.Common.{ℕ, List}
+use Rattle.mintc_text.specs.declared.limits.TheConstants.{MOST_PHASES}
 use Rattle.mintc_lines.specs.declared.table_lines.Version.{Version}
 use Rattle.mintc_lines.specs.TableText.{phase, empty}
 use Rattle.mintc_lines.proofs.TableReading.{At, SoFar, phase_states}
@@ -6,4 +7,4 @@ use Rattle.mintc_lines.proofs.table_text.phases.Given as goal
 
 -- the lines so far
 abbrev pub invariant-loop-phase : goal.invariant-loop-phase
-invariant-loop-phase l = (text : List ℕ) (v : Version) → At text l.initial.reader (phase v l.count empty) → SoFar (phase_states v) 8 text l.reader l.kept.items l._phase l.count
+invariant-loop-phase l = (text : List ℕ) (v : Version) → At text l.initial.reader (phase v l.count empty) → SoFar (phase_states v) MOST_PHASES text l.reader l.kept.items l._phase l.count
