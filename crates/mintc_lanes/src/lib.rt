@@ -12,6 +12,3 @@ pub use row::{max_plus_row, max_row, min_plus_row, plus_row};
 
 /// What an absent lane holds.
 pub const ABSENT: i64 = -4_000_000_000_000_000_000;
-
-#[cfg(test)]
-mod tests;

@@ -8,6 +8,3 @@
 mod places;
 
 pub use places::Places;
-
-#[cfg(test)]
-mod tests;

@@ -6,8 +6,6 @@
 #![tactic(auto)]
 
 mod ring;
-#[cfg(test)]
-mod tests;
 mod texts;
 mod weights;
 

@@ -1,11 +1,14 @@
-use super::*;
+//! Places of a text, brought near the order of the names that stand there.
 use mintc_liblex::Scanner;
+use mintc_sorting::{Names, bring_near};
 use std::alloc::{AllocError, Global};
 use std::cmp::Ordering;
+use std::process::Abort;
 
 /// Names cut out of a text: each begins and ends by its place.
 #[derive(Drop)]
 struct Cuttings {
+    name: &'static str,
     text: &'static [u8],
     longest: usize,
 }
@@ -59,51 +62,58 @@ fn comes_in_order<N: Names>(
 }
 
 const MIXED: Cuttings = Cuttings {
+    name: "mixed",
     text: b"the quick brown fox jumps over 13 lazy dogs & 2 cats; 2 cats_and_2_cats were the quick ones, brown_fox_7 not",
     longest: 12,
 };
 
 /// Long beginnings in common, names that are beginnings of others, and empty names.
 const ALIKE: Cuttings = Cuttings {
+    name: "alike",
     text: b"aaaaaaaaaaaaaaaaaaaaaaaaaaaaaaaaaaaaaaaaaaaaaaaaaaaaaaaaaaaaaaaaaaaaaaaaaaaaaaaaaaaaaaaaaaab",
     longest: 90,
 };
 
 const EQUAL: Cuttings = Cuttings {
+    name: "equal",
     text: b"a",
     longest: 2,
 };
 
-#[test]
-fn few_places_come_in_order(rt: HostRuntime) {
-    for count in [0, 1, 2, 3, 40, 5_000, 65_536] {
+const FEW: &[u32] = &[0, 1, 2, 3, 40, 5_000, 65_536];
+
+const MANY: &[u32] = &[65_537, 300_000];
+
+/// Each of these counts of places comes in order.
+fn come_in_order(rt: &impl Abort, alloc: Global, names: &Cuttings, counts: &[u32], room: usize) {
+    for count in counts {
         assert!(rt;
-            comes_in_order(rt.alloc(), &MIXED, count, 100_000) == Ok(true),
-            "{count} mixed"
-        );
-        assert!(rt;
-            comes_in_order(rt.alloc(), &ALIKE, count, 100_000) == Ok(true),
-            "{count} alike"
+            comes_in_order(alloc, names, *count, room) == Ok(true),
+            "{count} {}",
+            names.name
         );
     }
 }
 
 #[test]
-fn many_places_come_in_order(rt: HostRuntime) {
-    for count in [65_537, 300_000] {
-        assert!(rt;
-            comes_in_order(rt.alloc(), &MIXED, count, 100_000) == Ok(true),
-            "{count} mixed"
-        );
-        assert!(rt;
-            comes_in_order(rt.alloc(), &ALIKE, count, 300_000) == Ok(true),
-            "{count} alike"
-        );
-        assert!(rt;
-            comes_in_order(rt.alloc(), &EQUAL, count, 100_000) == Ok(true),
-            "{count} equal"
-        );
-    }
+fn few_places_come_in_order(rt: HostRuntime) {
+    come_in_order(&rt, rt.alloc(), &MIXED, FEW, 100_000);
+    come_in_order(&rt, rt.alloc(), &ALIKE, FEW, 100_000);
+}
+
+#[test]
+fn many_mixed_places_come_in_order(rt: HostRuntime) {
+    come_in_order(&rt, rt.alloc(), &MIXED, MANY, 100_000);
+}
+
+#[test]
+fn many_alike_places_come_in_order(rt: HostRuntime) {
+    come_in_order(&rt, rt.alloc(), &ALIKE, MANY, 300_000);
+}
+
+#[test]
+fn many_equal_places_come_in_order(rt: HostRuntime) {
+    come_in_order(&rt, rt.alloc(), &EQUAL, MANY, 100_000);
 }
 
 /// The places of `c`, `a`, `b` and `a` in a library.

@@ -1,4 +1,5 @@
-use super::*;
+//! Sets of places.
+use mintc_places::Places;
 
 /// The places that are in the set before the room's end, one after another.
 #[test]
@@ -16,9 +17,9 @@ fn places_come_in_order(rt: HostRuntime) {
     places.remove(65);
     places.remove(1_000_000);
     let mut at = 0;
-    for next in [63, 64, 127, 199, 256] {
+    for next in &[63, 64, 127, 199, 256] {
         at = places.next(at);
-        assert!(rt; at == next, "the place {next}");
+        assert!(rt; at == *next, "the place {next}");
         at += 1;
     }
     assert!(rt; places.next(1000) == 1000, "past the room");

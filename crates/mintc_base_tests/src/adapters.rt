@@ -1,0 +1,95 @@
+//! The outside as it is: files of a folder, and standard output.
+use mintc_text::{FolderShelf, Shelf, Sink, StreamSink, read_front};
+use std::alloc::Global;
+use std::fmt::Display;
+use std::io::Read;
+use std::test::Fail;
+use std::{fs, io, process};
+
+/// A reader that gives a byte at a time, and then fails.
+#[derive(Drop)]
+struct Broken {
+    left: u8,
+}
+
+impl Read for Broken {
+    fn read(&mut self, buf: &mut [u8]) -> io::Result<usize> {
+        if self.left == 0 || buf.is_empty() {
+            return Err(io::Error::from(io::ErrorKind::TimedOut));
+        }
+        self.left -= 1;
+        buf[0] = b'x';
+        Ok(1)
+    }
+}
+
+/// An output that takes a byte at a time, up to a byte `!`, which it never takes.
+#[derive(Drop)]
+struct Narrow;
+
+impl Print for Narrow {
+    fn print<D: Display + Drop>(&self, _value: D) -> io::Result<()> {
+        Ok(())
+    }
+
+    fn println<D: Display + Drop>(&self, _value: D) -> io::Result<()> {
+        Ok(())
+    }
+
+    fn write_all(&self, _bytes: &[u8]) -> io::Result<()> {
+        Ok(())
+    }
+
+    fn write_some(&self, bytes: &[u8]) -> io::Result<usize> {
+        match bytes {
+            [] | [b'!', ..] => Ok(0),
+            _ => Ok(1),
+        }
+    }
+}
+
+/// Whether a read gives this text.
+fn gives<S: Shelf>(alloc: Global, shelf: &mut S, name: &str, most: usize, text: &str) -> bool {
+    match shelf.read(alloc, name, most) {
+        Ok(bytes) => bytes.as_slice() == text.as_bytes(),
+        Err(_) => false,
+    }
+}
+
+#[test]
+fn reads_a_file(rt: HostRuntime) -> Result<(), Fail> {
+    let alloc = rt.alloc();
+    let name = format!(in alloc; "mintc_text_{}.tmp", process::id(rt.process()))?;
+    fs::write(&rt, name.as_str(), "latches")?;
+    let mut shelf = FolderShelf::new(&rt);
+    for (most, front) in &[(3, "lat"), (100_000, "latches")] {
+        assert!(rt;
+            gives(alloc, &mut shelf, name.as_str(), *most, front),
+            "{front}"
+        );
+    }
+    fs::remove_file(&rt, name.as_str())?;
+    assert!(rt; shelf.read(alloc, name.as_str(), 3).is_err());
+    Ok(())
+}
+
+#[test]
+fn stops_at_a_failing_read(rt: HostRuntime) -> Result<(), Fail> {
+    let whole = read_front(&mut Broken { left: 3 }, rt.alloc(), 3)?;
+    assert_eq!(rt; whole.as_slice(), b"xxx".as_slice());
+    assert!(rt; read_front(&mut Broken { left: 2 }, rt.alloc(), 3).is_err());
+    Ok(())
+}
+
+#[test]
+fn writes_to_standard_output(rt: HostRuntime) {
+    let mut sink = StreamSink::new(&rt);
+    assert!(rt; sink.write(b"written by a sink\n").is_ok());
+}
+
+#[test]
+fn stops_at_a_failing_write(rt: HostRuntime) {
+    let mut sink = StreamSink::new(&Narrow);
+    assert!(rt; sink.write(b"abc").is_ok());
+    assert!(rt; sink.write(b"ab!c").is_err());
+}
