@@ -24,21 +24,21 @@ turn_pairs-requires c =
     let rows = rows_are (goal.at.turn_pairs-requires c).In-Ok in
     let in_places = rows.bits.count in
     let found : Found = c.in_ok-found.found in
-    let below = c.if-found-gt200000.false in
+    let below = c.if-found.false in
     let reach = in_reach design c.elements.ensures.kept c.in-Ok.places.of_bits.items c.in-Ok.places.bits.items rows.of_bits rows.bits found c.in_ok-found.ensures.found (omega arith) in
     record { inside = subst (λ (ps : List Pair). All (λ (pair : Pair). pair.from < length c.in-Ok.places.bits.items) ps) (sym c.deref_mut.ensures.value) (λ k d low. let at = reach k d low in omega arith) }
 
-pub returns-then-found-gt200000-clause-found : goal.returns-then-found-gt200000-clause-found
-returns-then-found-gt200000-clause-found c =
+pub returns-then-found-clause-found : goal.returns-then-found-clause-found
+returns-then-found-clause-found c =
     let design : Design = c.args.flat.now in
-    let rows = rows_are (goal.at.returns-then-found-gt200000-clause-found c).In-Ok in
-    IsFoundBefore-many design c.elements.ensures.kept c.in-Ok.places.of_bits.items c.in-Ok.places.bits.items rows.of_bits rows.bits c.in_ok-found.found c.in_ok-found.ensures.found c.if-found-gt200000.true
+    let rows = rows_are (goal.at.returns-then-found-clause-found c).In-Ok in
+    IsFoundBefore-many design c.elements.ensures.kept c.in-Ok.places.of_bits.items c.in-Ok.places.bits.items rows.of_bits rows.bits c.in_ok-found.found c.in_ok-found.ensures.found c.if-found.true
 
-pub returns-then-found-gt200000-clause-few : goal.returns-then-found-gt200000-clause-few
-returns-then-found-gt200000-clause-few c = count_found (turned_design c.in-Ok.places.of_bits.items c.args.flat.now) (length c.args.flat.now.elements) c.in_ok-found.found c.elements.ensures.kept.elements c.in_ok-found.ensures.found
+pub returns-then-found-clause-few : goal.returns-then-found-clause-few
+returns-then-found-clause-few c = count_found (turned_design c.in-Ok.places.of_bits.items c.args.flat.now) (length c.args.flat.now.elements) c.in_ok-found.found c.elements.ensures.kept.elements c.in_ok-found.ensures.found
 
 pub returns-clause-few : goal.returns-clause-few
-returns-clause-few c = let below = c.if-found-gt200000.false in omega arith
+returns-clause-few c = let below = c.if-found.false in omega arith
 
 pub returns-clause-found : goal.returns-clause-found
 returns-clause-found c =
@@ -52,6 +52,6 @@ returns-clause-found c =
     let filled = found.pairs.ok.0 in
     let is : (with_items found.pairs pairs).items ≡ pairs = with_items_is found.pairs pairs (omega arith) in
     let moved : IsPermutation (map (pair_back c.in-Ok.places.bits.items) found.pairs.items) pairs = subst (λ ps. IsPermutation (map (pair_back c.in-Ok.places.bits.items) ps) pairs) was c.turn_pairs.ensures.permutation in
-    let below = c.if-found-gt200000.false in
+    let below = c.if-found.false in
     IsFoundBefore-back design c.elements.ensures.kept c.in-Ok.places.of_bits.items c.in-Ok.places.bits.items rows.of_bits rows.bits found c.in_ok-found.ensures.found (omega arith) pairs moved c.turn_pairs.ensures.sorted
     (record { pairs = with_items found.pairs pairs; count = found.count; ends = found.ends }) refl is
