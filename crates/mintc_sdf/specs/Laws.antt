@@ -1,5 +1,6 @@
 -- What the definitions say of one another.
-use Rattle.std.specs.Prelude.{◌≡◌, ◌^◌, ℕ, ℤ, pos, negsuc, ◌≤ℤ◌, ◌<ℤ◌, ◌+ℤ◌, ◌*ℤ◌, false, if◌then◌else◌, List, ◌∷◌, ◌++◌, Ok, All, Any}
+use Rattle.std.specs.Prelude.{◌≡◌, ℕ, ℤ, pos, neg_ℤ, ◌≤ℤ◌, ◌<ℤ◌, ◌+ℤ◌, ◌*ℤ◌, false, if◌then◌else◌, List, ◌∷◌, ◌++◌, Ok, All, Any}
+use Rattle.mintc_text.specs.declared.limits.TheConstants.{MOST_DELAY}
 use Rattle.mintc_text.specs.Decimals.{Number, with_sign, over, under}
 use Rattle.mintc_sdf.specs.declared.delays.Subject.{Subject}
 use Rattle.mintc_sdf.specs.declared.delays.Delay.{Delay}
@@ -18,10 +19,10 @@ AreReadBack = (is : Items) (rest : List Token) → front (spell is ++ closing �
 
 -- the least femtoseconds that a number of a subject may have
 abbrev pub lowest : Subject → ℤ
-lowest s = if may_be_negative s then negsuc 999999999 else pos 0
+lowest s = if may_be_negative s then neg_ℤ MOST_DELAY else pos 0
 
 abbrev pub IsWithin : Delay → Type 0
-IsWithin d = (lowest d.subject ≤ℤ d.least) × (d.least ≤ℤ d.greatest) × (d.greatest ≤ℤ pos (10 ^ 9))
+IsWithin d = (lowest d.subject ≤ℤ d.least) × (d.least ≤ℤ d.greatest) × (d.greatest ≤ℤ MOST_DELAY)
 
 -- each delay of a text has its numbers in order and in range
 abbrev pub AreWithin : Type 0
