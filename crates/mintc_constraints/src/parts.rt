@@ -1,5 +1,6 @@
 //! The parts of a system that its links are made for.
 ghost use Rattle.std.specs.Prelude.{◌≡◌, ◌<◌, ◌≤◌, not, length};
+ghost use Rattle.mintc_text.specs.declared.limits.TheConstants.{MOST_ELEMENTS};
 ghost use Rattle.mintc_timing.specs.Design.{element_at, element_count, pair_at, phase_count};
 ghost use Rattle.mintc_timing.specs.Limits.{IsDesign};
 ghost use Rattle.mintc_timing.specs.Order.{IsTiming};
@@ -20,7 +21,7 @@ pub(crate) fn phases(system: &System) -> u32
 /// How many elements there are.
 pub(crate) fn elements(system: &System) -> u32
     ensures value { result ≡ element_count system.now.flat }
-    ensures range { result ≤ 2000 }
+    ensures range { result ≤ MOST_ELEMENTS }
 {
     system.flat().elements().len() as u32
 }
