@@ -1,5 +1,6 @@
 //! Reading a cell description.
 ghost use Rattle.std.specs.Prelude.{◌≡◌, ◌≤◌, Some, length, map, IfOk, MatchResult};
+ghost use Rattle.mintc_text.specs.declared.limits.TheConstants.{MOST_BYTES};
 ghost use Rattle.toml.specs.View.{view, table_view};
 ghost use Rattle.mintc_text.specs.Stops.{StopsAt};
 ghost use Rattle.mintc_cells.specs.Description.{least_rule, judged, read_table, cell_of, Reads};
@@ -121,7 +122,7 @@ fn read_text(alloc: Global, text: &[u8]) -> Result<Vec<(Name, Cell)>, Stop>
 
 /// The cells that a text describes. Refused by the first cell that fails a rule, and its least such rule.
 pub fn read_cells(alloc: Global, text: &[u8]) -> Result<Cells, Stop>
-    requires { length text.now ≤ 67108864 }
+    requires { length text.now ≤ MOST_BYTES }
     ensures { MatchResult result (AreCells text.now) (StopsAt (IsBadCellBy (IsBadCell text.now))) }
 {
     let entries = read_text(alloc, text)?;

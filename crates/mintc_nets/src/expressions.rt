@@ -1,6 +1,7 @@
 //! Expressions: their widths, whether their selects fit, and the places that they stand for.
 ghost use Rattle.std.specs.Prelude.{◌≡◌, ◌≤◌, ◌^◌, ◌++◌, length, map, None, replicate, OnOk};
 ghost use Rattle.std.specs.Option.{option_map};
+ghost use Rattle.mintc_text.specs.declared.limits.TheConstants.{MOST_WIDTH};
 ghost use Rattle.mintc_netlist.specs.Nets.{place_of};
 ghost use Rattle.mintc_netlist.specs.Expressions.{piece_bits, expression_places, width_of, is_part, runs_alike, piece_fits, selects_fit, is_constant, has_constant};
 ghost use Rattle.mintc_nets.specs.Tables.{table_of};
@@ -82,7 +83,7 @@ impl Nets {
     /// How many bits an expression has.
     pub fn width(&self, home: &Module, pieces: &[Piece]) -> u64
         requires table { self.now ≡ table_of home.now }
-        requires few { length pieces.now ≤ 65536 }
+        requires few { length pieces.now ≤ MOST_WIDTH }
         ensures { result ≡ width_of home.now pieces.now }
     {
         let mut width = 0;
