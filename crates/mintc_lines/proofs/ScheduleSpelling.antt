@@ -1,10 +1,10 @@
 -- Schedules that are one value have one text.
-use Rattle.std.proofs.Common.{◌≡◌, ℕ, zero, suc, pos, List, [], refl, ap, ◌∙◌, sym, subst, codes, arith}
+use Rattle.std.proofs.Common.{◌≡◌, ℕ, zero, suc, List, [], refl, ap, ◌∙◌, sym, subst, codes, arith}
 use Rattle.mintc_text.specs.Lines.{text_of}
 use Rattle.mintc_timing.specs.declared.clocking.Schedule.{Schedule}
-use Rattle.mintc_lines.specs.Fields.{IsWordLine, IsNumberLine, IsCountLine}
+use Rattle.mintc_lines.specs.Fields.{IsCountLine}
 use Rattle.mintc_lines.specs.TextLaws.{HaveOneScheduleText}
-use Rattle.mintc_lines.specs.Texts.{NextOfSchedule, IsPhaseLine, ScheduleLines, first, den, cycle, phases, phase, whole, no_phases, with_phase}
+use Rattle.mintc_lines.specs.Texts.{NextOfSchedule, ScheduleLines, first, den, cycle, phases, phase, whole}
 use Rattle.mintc_lines.proofs.SharedLineLaws.{word_form, count_form, spelled_same}
 use Rattle.mintc_lines.proofs.SharedScheduleLaws.{Any, den_form, cycle_form, phases_form, phase_form}
 use Rattle.mintc_lines.proofs.SharedSpelling.{rest_count, Agrees, agrees_none, agrees_back, agrees_same, IsSpelled, IsSpelledStep, one_text}

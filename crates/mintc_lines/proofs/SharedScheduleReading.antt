@@ -1,14 +1,12 @@
 -- What the reader of schedules has read up to each line.
-use Rattle.std.proofs.Common.{◌≡◌, ℕ, suc, ℤ, pos, true, List, [], ◌∷◌, ◌++◌, refl, ap, ◌∙◌, subst, arith, codes}
+use Rattle.std.proofs.Common.{◌≡◌, ℕ, ℤ, pos, true, List, [], ◌∷◌, ◌++◌, ap, ◌∙◌, arith}
 use Rattle.std.proofs.lemmas.Int.{ints}
 use Rattle.mintc_text.specs.declared.limits.TheConstants.{MOST_NUMERATOR}
 use Rattle.mintc_text.specs.Lines.{numeral_of}
-use Rattle.mintc_timing.specs.declared.clocking.Schedule.{Schedule}
-use Rattle.mintc_lines.specs.Fields.{plain, plain_line, Spells, IsWordLine, IsNumberLine, IsCountLine}
-use Rattle.mintc_lines.specs.Reading.{Reading, HasRead, HasNone, IsAt, number_after}
-use Rattle.mintc_lines.specs.Texts.{NextOfSchedule, IsWholeSchedule, IsPhaseLine, IsScheduleText, IsScheduleFault, ScheduleLines, first, den, cycle, phases, phase, whole, no_phases, with_phase, schedule_of}
+use Rattle.mintc_lines.specs.Fields.{plain, plain_line}
+use Rattle.mintc_lines.specs.Reading.{Reading, IsAt}
+use Rattle.mintc_lines.specs.Texts.{NextOfSchedule, IsPhaseLine, ScheduleLines, first, with_phase, schedule_of}
 use Rattle.mintc_lines.proofs.SharedFieldsLaws.{and_both, plain-numeral, short}
-use Rattle.mintc_lines.proofs.SharedReadingLaws.{at_more, at_fault, at_end, at_past}
 
 pub plain-phase_line : (p : ℤ × ℤ) (ws : List (List ℕ)) → IsPhaseLine p ws → plain_line ws ≡ true
 plain-phase_line p ws h =

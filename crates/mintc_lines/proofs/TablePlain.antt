@@ -1,10 +1,10 @@
 -- The lines of a table are plain, and a text has one design or one first line out of form.
-use Rattle.std.proofs.Common.{◌≡◌, ℕ, zero, suc, ◌≤◌, ◌+◌, true, false, List, [], ◌∷◌, ◌++◌, length, length-append, All, refl, ap, ◌∙◌, sym, subst, arith, codes, eqb}
+use Rattle.std.proofs.Common.{◌≡◌, ℕ, zero, suc, ◌≤◌, ◌+◌, true, List, [], ◌∷◌, length, length-append, refl, ap, ◌∙◌, sym, arith, codes}
 use Rattle.mintc_text.specs.declared.limits.TheConstants.{MOST_COUNT}
 use Rattle.mintc_lines.specs.declared.table_lines.Version.{Version}
 use Rattle.mintc_timing.specs.Design.{Design}
-use Rattle.mintc_lines.specs.Fields.{IsCount, plain, IsWordLine, IsCountLine, IsNameLine}
-use Rattle.mintc_lines.specs.TableText.{NextOfTable, IsWholeTable, TableLines, first, phases, phase, element, arcs, arc, bound, whole, empty, version_of, inner_names, IsElementLine, IsArcLine, IsBoundLine}
+use Rattle.mintc_lines.specs.Fields.{IsCount, plain, IsCountLine}
+use Rattle.mintc_lines.specs.TableText.{NextOfTable, IsWholeTable, TableLines, first, phases, phase, element, arcs, arc, bound, whole, IsElementLine, IsArcLine, IsBoundLine}
 use Rattle.mintc_lines.specs.TextLaws.{HaveOneDesign, HaveNoTableFault, HaveOneTableFault}
 use Rattle.mintc_lines.proofs.SharedLineLaws.{IsForm, word_form, count_form, name_form}
 use Rattle.mintc_lines.proofs.TableOne.{element_one, arc_one, arc_words, bound_one}

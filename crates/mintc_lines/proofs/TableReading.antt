@@ -1,5 +1,5 @@
 -- What the reader of tables has read up to each line, and where it halts.
-use Rattle.std.proofs.Common.{◌≡◌, ℕ, zero, suc, ℤ, pos, neg_ℤ, ◌<◌, ◌≤◌, ◌+◌, ◌-◌, ◌^◌, Bool, true, false, Result, Ok, Err, MatchResult, List, [], ◌∷◌, ◌++◌, length, take, refl, ap, ◌∙◌, sym, subst, arith, codes, inl, inr, length-append}
+use Rattle.std.proofs.Common.{◌≡◌, ℕ, suc, ℤ, pos, neg_ℤ, ◌<◌, ◌≤◌, ◌+◌, ◌-◌, ◌^◌, Bool, true, false, List, [], ◌∷◌, ◌++◌, length, take, refl, ap, ◌∙◌, arith, codes, inl, inr, length-append}
 use Rattle.std.proofs.lemmas.Int.{ints}
 use Rattle.std.proofs.lemmas.List.FromFn.{length-map-range_with_len}
 use Rattle.mintc_text.specs.declared.limits.TheConstants.{MOST_DELAY}
@@ -11,13 +11,12 @@ use Rattle.mintc_timing.specs.declared.parts.Point.{Point}
 use Rattle.mintc_timing.specs.declared.parts.Point.TheVariants.{Origin, Start, End}
 use Rattle.mintc_lines.specs.declared.table_lines.Version.{Version}
 use Rattle.mintc_lines.specs.declared.table_lines.Version.TheVariants.{Latches, Flops, Openings}
-use Rattle.mintc_timing.specs.Design.{Design, design_of}
-use Rattle.mintc_lines.specs.Fields.{plain, plain_line, number, IsCount, Spells, IsWordLine, IsCountLine}
+use Rattle.mintc_timing.specs.Design.{design_of}
+use Rattle.mintc_lines.specs.Fields.{plain, plain_line, number, IsCount, Spells}
 use Rattle.mintc_timing.specs.Limits.{IsDelay, IsGap, IsPoint}
-use Rattle.mintc_lines.specs.Reading.{Reading, HasRead, HasNone, IsAt, number_after}
-use Rattle.mintc_lines.specs.declared.table_text.Halt.{Halt}
-use Rattle.mintc_lines.specs.TableReading.{AreKept, Halts}
-use Rattle.mintc_lines.specs.TableText.{NextOfTable, IsWholeTable, IsTableText, IsTableFault, TableLines, first, phases, phase, element, arcs, arc, bound, whole, empty, version_of, inner_names, kind_word, hold_word, element_words, IsElementLine, IsFromWord, IsToWord, IsArcLine, IsBoundLine, point_word}
+use Rattle.mintc_lines.specs.Reading.{Reading, HasRead, IsAt, number_after}
+use Rattle.mintc_lines.specs.TableReading.{AreKept}
+use Rattle.mintc_lines.specs.TableText.{NextOfTable, TableLines, first, phase, element, arc, bound, inner_names, kind_word, hold_word, element_words, IsElementLine, IsFromWord, IsToWord, IsArcLine, IsBoundLine, point_word}
 use Rattle.mintc_lines.proofs.SharedFieldsLaws.{plain-numeral, plain-number, plain-from_graphic, short}
 use Rattle.mintc_lines.proofs.SharedReadingLaws.{list_more, list_all}
 
@@ -142,8 +141,3 @@ bound_states ps es ns xs left all = bound left (design_of ps es ns xs all)
 
 pub length-inner_names : (m : ℕ) → length (inner_names m) ≡ m
 length-inner_names m = length-map-range_with_len (λ i. codes "n" ++ number i) 0 m
-
--- the exit of a `?`
-pub at_halt : {T : Type 0} (r : Result T Halt) (h : Halt) (P : T → Type 0) (fault : Type 0) → ((x : Halt) × (r ≡ Err x) × (x ≡ h)) → Halts fault h → MatchResult r P (Halts fault)
-at_halt (Ok v) h P fault e told = absurd (cc e.1)
-at_halt (Err y) h P fault e told = let same : y ≡ h = cc (e.1, e.2) in subst (Halts fault) (sym same) told

@@ -1,9 +1,8 @@
 -- Tables that are one value have one text.
-use Rattle.std.proofs.Common.{◌≡◌, ℕ, zero, suc, List, [], ◌∷◌, ◌++◌, length, Contains, refl, ap, ◌∙◌, sym, subst, codes}
+use Rattle.std.proofs.Common.{◌≡◌, ℕ, zero, suc, List, [], length, refl, ap, ◌∙◌, sym, subst, codes}
 use Rattle.mintc_timing.specs.Design.{Design}
-use Rattle.mintc_lines.specs.Fields.{IsWordLine, IsCountLine, IsNameLine}
 use Rattle.mintc_lines.specs.TextLaws.{HaveOneTableText}
-use Rattle.mintc_lines.specs.TableText.{NextOfTable, TableLines, first, phases, phase, element, arcs, arc, bound, whole, empty, inner_names, IsElementLine, IsArcLine, IsBoundLine}
+use Rattle.mintc_lines.specs.TableText.{NextOfTable, TableLines, first, phases, phase, element, arcs, arc, bound, whole}
 use Rattle.mintc_lines.proofs.SharedLineLaws.{word_form, name_form}
 use Rattle.mintc_lines.proofs.SharedSpelling.{Rest, rest_none, rest_back, rest_same, rest_count, IsSpelled, IsSpelledStep}
 use Rattle.mintc_lines.proofs.SharedTextLaws.{step_by, no_way, one_text_after}

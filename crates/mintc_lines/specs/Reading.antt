@@ -1,7 +1,9 @@
--- Where a reader of lines stands in a text.
+-- Where a reader of lines stands in a text, and where it halts.
 use Rattle.std.specs.Prelude.{◌≡◌, ◌≤◌, ◌+◌, ℕ, List, ◌++◌, length, min}
 use Rattle.mintc_text.specs.declared.limits.TheConstants.{MOST_BYTES}
 use Rattle.mintc_text.specs.Lines.{ended, text_of, Follows}
+use Rattle.mintc_lines.specs.declared.halt.Halt.{Halt}
+use Rattle.mintc_lines.specs.declared.halt.Halt.TheVariants.{Form, Memory}
 use Rattle.mintc_lines.specs.Fields.{Spells}
 
 -- What a reader has yet to read of a text, and the number of the line that it asked for last, 0 at first.
@@ -22,6 +24,11 @@ pub record HasRead {V : Type 0} (F : V → List (List ℕ) → Type 0) (old : Li
 -- No line comes next that spells a value.
 abbrev pub HasNone : {V : Type 0} → (V → List (List ℕ) → Type 0) → List ℕ → Type 0
 HasNone {V} F left = (v : V) (line more : List ℕ) → left ≡ ended line ++ more → Spells F v line → ⊥
+
+-- Where reading stops at a line's form, this is said. A want of memory says nothing.
+abbrev pub Halts : Type 0 → Halt → Type 0
+Halts fault Form = fault
+Halts fault Memory = Unit {0}
 
 -- The lines that were read of a short text lead to this state.
 pub record IsAt {S : Type 0} (next : S → List ℕ → S → Type 0) (start : S) (text : List ℕ) (reading : Reading) (state : S) : Type 0 where

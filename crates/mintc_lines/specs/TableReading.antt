@@ -1,16 +1,9 @@
--- Where the reader of tables halts, and what it keeps.
+-- What the reader of tables keeps.
 use Rattle.std.specs.Prelude.{◌≡◌, ℕ, List, length, take}
 use Rattle.mintc_text.specs.declared.limits.TheConstants.{MOST_PHASES, MOST_ELEMENTS, MOST_ARCS, MOST_BOUNDS}
-use Rattle.mintc_lines.specs.declared.table_text.Halt.{Halt}
-use Rattle.mintc_lines.specs.declared.table_text.Halt.TheVariants.{Form, Memory}
 use Rattle.mintc_lines.specs.declared.table_text.Parts.{Parts}
 use Rattle.mintc_timing.specs.Design.{Design}
 use Rattle.mintc_lines.specs.TableText.{inner_names}
-
--- Where reading stops at a line's form, this is said. A want of memory says nothing.
-abbrev pub Halts : Type 0 → Halt → Type 0
-Halts fault Form = fault
-Halts fault Memory = Unit {0}
 
 -- The kept are the first of all, at most so many, and all are counted.
 pub record AreKept {X : Type 0} (most : ℕ) (all kept : List X) (count : ℕ) : Type 0 where

@@ -5,6 +5,7 @@
 #![tactic(auto)]
 
 mod fields;
+mod halt;
 mod reader;
 mod schedule_text;
 mod table_lines;
@@ -12,6 +13,7 @@ mod table_text;
 mod text_laws;
 
 pub use fields::Fields;
+pub use halt::Halt;
 pub use reader::Reader;
 pub use schedule_text::read_schedule;
 pub use table_text::read_table;

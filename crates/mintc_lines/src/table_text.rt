@@ -10,26 +10,17 @@ ghost use Rattle.mintc_timing.specs.Design.{Design, design_of};
 ghost use Rattle.mintc_lines.specs.ElementWords.{named};
 ghost use Rattle.mintc_lines.specs.Fields.{IsCount};
 ghost use Rattle.mintc_timing.specs.Limits.{HasParts, limit_of};
-ghost use Rattle.mintc_lines.specs.Reading.{HasNone, HasRead, IsAt, number_after};
-ghost use Rattle.mintc_lines.specs.TableReading.{Halts, AreKept, ArePartsOf};
+ghost use Rattle.mintc_lines.specs.Reading.{HasNone, HasRead, Halts, IsAt, number_after};
+ghost use Rattle.mintc_lines.specs.TableReading.{AreKept, ArePartsOf};
 ghost use Rattle.mintc_lines.specs.TableText.{NextOfTable, IsElementLine, IsArcLine, IsBoundLine, IsTableText, IsTableFault, IsTableRefusal, inner_names, first, phase, element, arc, bound};
 ghost use Rattle.mintc_lines.specs.TableText.{phases as before_phases, arcs as before_arcs};
 
-use crate::Reader;
 use crate::table_lines::{ElementNumbers, Version, arc_of, bound_of, element_of, version_of};
+use crate::{Halt, Reader};
 use mintc_text::limits::{MOST_ARCS, MOST_BOUNDS, MOST_COUNT, MOST_ELEMENTS, MOST_PHASES};
 use mintc_text::{Lines, Name, Names, OutOfMemory, Refusal, Role, Stop};
 use mintc_timing::{Bound, Element, Flat, TimingArc, first_over};
 use std::alloc::Global;
-
-/// Why reading stopped.
-#[derive(Clone, Copy)]
-enum Halt {
-    /// The line that was asked for last is out of form.
-    Form,
-    /// Memory was wanting.
-    Memory,
-}
 
 /// The first items of a list, as many as a design may have, and how many there were.
 #[derive(Drop)]

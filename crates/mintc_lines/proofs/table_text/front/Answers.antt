@@ -3,8 +3,8 @@ use Rattle.std.proofs.lemmas.Result.{err_from_is_err_and}
 use Rattle.mintc_lines.specs.declared.table_lines.Version.{Version}
 use Rattle.mintc_timing.specs.Design.{design_of}
 use Rattle.mintc_lines.specs.TableText.{phase, version_of, arcs, inner_names, phases}
-use Rattle.mintc_lines.proofs.TableReading.{At, at_halt}
-use Rattle.mintc_lines.proofs.SharedReadingLaws.{at_fault, at_more}
+use Rattle.mintc_lines.proofs.TableReading.{At}
+use Rattle.mintc_lines.proofs.SharedReadingLaws.{at_fault, at_more, at_halt}
 use Rattle.mintc_lines.proofs.table_text.front.Goals as goal
 
 pub returns-in_default-clause-read : goal.returns-in_default-clause-read

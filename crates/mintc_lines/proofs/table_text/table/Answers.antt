@@ -2,8 +2,8 @@ use Rattle.std.proofs.Common.{refl}
 use Rattle.std.proofs.lemmas.Result.{err_from_is_err_and}
 use Rattle.mintc_timing.specs.Design.{design_of}
 use Rattle.mintc_lines.specs.TableText.{inner_names, whole}
-use Rattle.mintc_lines.proofs.TableReading.{at_halt, length-inner_names}
-use Rattle.mintc_lines.proofs.SharedReadingLaws.{at_end, at_fault, at_more, at_past}
+use Rattle.mintc_lines.proofs.TableReading.{length-inner_names}
+use Rattle.mintc_lines.proofs.SharedReadingLaws.{at_end, at_fault, at_more, at_past, at_halt}
 use Rattle.mintc_lines.proofs.table_text.table.Goals as goal
 
 pub returns-in_err-names : goal.returns-in_err-names
