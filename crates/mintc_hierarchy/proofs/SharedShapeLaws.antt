@@ -5,6 +5,7 @@ use Rattle.std.specs.Option.{option_map, option_or}
 use Rattle.std.proofs.lemmas.Bool.Decides.{nat_tests}
 use Rattle.std.proofs.lemmas.List.{length-map}
 use Rattle.std.proofs.lemmas.List.Elements.{All-nil, All-cons, All-head, All-tail, All-weaker, All-append, All-map, All-from_recursion}
+use Rattle.mintc_text.specs.declared.limits.TheConstants.{MOST_DEPTH, MOST_INNER, MOST_LEAVES, MOST_SCOPES, MOST_TOLD}
 use Rattle.mintc_text.specs.declared.refusals.Kind.{Kind}
 use Rattle.mintc_text.specs.declared.refusals.Kind.TheVariants as kind
 use Rattle.mintc_text.specs.declared.refusals.Refusal.{Refusal}
@@ -242,7 +243,7 @@ top_live s top k h = live_by (is_stub s (module_at s k)) (may_be_top s top k) (k
 
 -- limits that aren't passed
 not_over : (k : Kind) (q m : ℕ) (rest : List (Kind × ℕ × ℕ)) (b : Bool) → nat_lt m q ≡ b →
-    option_map (λ (x : Kind × ℕ × ℕ). refusal.Limit x.0 (min x.1 1000000000)) (cond b (Some (k, q, m)) (find (λ (x : Kind × ℕ × ℕ). nat_lt x.2 x.1) rest)) ≡ None → (q ≤ m) × (over_limit rest ≡ None)
+    option_map (λ (x : Kind × ℕ × ℕ). refusal.Limit x.0 (min x.1 MOST_TOLD)) (cond b (Some (k, q, m)) (find (λ (x : Kind × ℕ × ℕ). nat_lt x.2 x.1) rest)) ≡ None → (q ≤ m) × (over_limit rest ≡ None)
 not_over k q m rest true e h = cc
 not_over k q m rest false e h = (grind (arith, nat_tests), h)
 
@@ -250,16 +251,16 @@ limit_kept : (k : Kind) (q m : ℕ) (rest : List (Kind × ℕ × ℕ)) → over_
 limit_kept k q m rest h = not_over k q m rest (nat_lt m q) refl h
 
 pub record AreKept (h : Hierarchy) : Type 0 where
-  pub scopes : length h.scopes ≤ 50000
-  pub leaves : length h.leaves ≤ 50000
-  pub inner : length h.inner ≤ 262144
+  pub scopes : length h.scopes ≤ MOST_SCOPES
+  pub leaves : length h.leaves ≤ MOST_LEAVES
+  pub inner : length h.inner ≤ MOST_INNER
 
 limits_kept : (s : Source) (top : ℕ) → limit_refusal s top ≡ None → AreKept (hierarchy_of s top)
 limits_kept s top none =
-    let a = limit_kept kind.Scopes (length (hierarchy_of s top).scopes) 50000 ((kind.Depth, depth s (length s.modules) top, 32) ∷ (kind.Leaves, length (hierarchy_of s top).leaves, 50000) ∷ (kind.Inner, length (hierarchy_of s top).inner, 262144) ∷ []) none in
-    let b = limit_kept kind.Depth (depth s (length s.modules) top) 32 ((kind.Leaves, length (hierarchy_of s top).leaves, 50000) ∷ (kind.Inner, length (hierarchy_of s top).inner, 262144) ∷ []) a.1 in
-    let c = limit_kept kind.Leaves (length (hierarchy_of s top).leaves) 50000 ((kind.Inner, length (hierarchy_of s top).inner, 262144) ∷ []) b.1 in
-    let d = limit_kept kind.Inner (length (hierarchy_of s top).inner) 262144 [] c.1 in
+    let a = limit_kept kind.Scopes (length (hierarchy_of s top).scopes) MOST_SCOPES ((kind.Depth, depth s (length s.modules) top, MOST_DEPTH) ∷ (kind.Leaves, length (hierarchy_of s top).leaves, MOST_LEAVES) ∷ (kind.Inner, length (hierarchy_of s top).inner, MOST_INNER) ∷ []) none in
+    let b = limit_kept kind.Depth (depth s (length s.modules) top) MOST_DEPTH ((kind.Leaves, length (hierarchy_of s top).leaves, MOST_LEAVES) ∷ (kind.Inner, length (hierarchy_of s top).inner, MOST_INNER) ∷ []) a.1 in
+    let c = limit_kept kind.Leaves (length (hierarchy_of s top).leaves) MOST_LEAVES ((kind.Inner, length (hierarchy_of s top).inner, MOST_INNER) ∷ []) b.1 in
+    let d = limit_kept kind.Inner (length (hierarchy_of s top).inner) MOST_INNER [] c.1 in
     record { scopes = a.0; leaves = c.0; inner = d.0 }
 
 -- nothing refuses: no width, and no limit of the top

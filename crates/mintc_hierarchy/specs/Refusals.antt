@@ -2,6 +2,7 @@
 use Rattle.std.specs.Prelude.{◌≡◌, ℕ, nat_eq, nat_lt, min, Bool, not, ◌&&◌, Option, None, Some, List, [], ◌∷◌, length, find, filter}
 use Rattle.std.specs.List.{list_any, range_with_len}
 use Rattle.std.specs.Option.{option_or, option_map}
+use Rattle.mintc_text.specs.declared.limits.TheConstants.{MOST_DEPTH, MOST_INNER, MOST_LEAVES, MOST_SCOPES, MOST_TOLD}
 use Rattle.mintc_text.specs.declared.refusals.Kind.{Kind}
 use Rattle.mintc_text.specs.declared.refusals.Kind.TheVariants as kind
 use Rattle.mintc_text.specs.declared.refusals.Refusal.{Refusal}
@@ -28,11 +29,11 @@ tops_of s top = filter (λ k. not (is_stub s (module_at s k)) && may_be_top s to
 -- the quantities of a hierarchy, each with its limit, in the order in which they are judged
 abbrev pub quantities : Source → ℕ → Hierarchy → List (Kind × ℕ × ℕ)
 quantities s top h =
-    (kind.Scopes, length h.scopes, 50000) ∷ (kind.Depth, depth s (length s.modules) top, 32) ∷ (kind.Leaves, length h.leaves, 50000) ∷ (kind.Inner, length h.inner, 262144) ∷ []
+    (kind.Scopes, length h.scopes, MOST_SCOPES) ∷ (kind.Depth, depth s (length s.modules) top, MOST_DEPTH) ∷ (kind.Leaves, length h.leaves, MOST_LEAVES) ∷ (kind.Inner, length h.inner, MOST_INNER) ∷ []
 
--- the refusal of the first quantity that passes its limit: its kind and count, or 10^9 where that is larger
+-- the refusal of the first quantity that passes its limit: its kind and count, or the greatest that is told where that is larger
 abbrev pub over_limit : List (Kind × ℕ × ℕ) → Option Refusal
-over_limit counts = option_map (λ (q : Kind × ℕ × ℕ). refusal.Limit q.0 (min q.1 1000000000)) (find (λ (q : Kind × ℕ × ℕ). nat_lt q.2 q.1) counts)
+over_limit counts = option_map (λ (q : Kind × ℕ × ℕ). refusal.Limit q.0 (min q.1 MOST_TOLD)) (find (λ (q : Kind × ℕ × ℕ). nat_lt q.2 q.1) counts)
 
 -- the refusal for want of one top, or of the top's limits
 abbrev pub limit_refusal : Source → ℕ → Option Refusal

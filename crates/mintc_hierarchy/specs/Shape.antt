@@ -1,5 +1,6 @@
 -- What is known of every hierarchy, whatever netlist it is of.
 use Rattle.std.specs.Prelude.{◌<◌, ◌≤◌, ◌+◌, ℕ, List, length, slice_index_or, All, Option}
+use Rattle.mintc_text.specs.declared.limits.TheConstants.{MOST_INNER, MOST_LEAVES, MOST_SCOPES}
 use Rattle.mintc_cells.specs.declared.cell.Cell.{Cell}
 use Rattle.mintc_cells.specs.Rules.{pins}
 use Rattle.mintc_cells.specs.Entries.{cell_at}
@@ -45,12 +46,12 @@ IsJoin h j = (j.from < length h.inner) × (j.to < length h.inner)
 -- Whatever a hierarchy names is there, each scope comes after its parent, and the limits are kept.
 pub record IsFlattened (cells : CellTable) (h : Hierarchy) : Type 0 where
   pub some_scope : 1 ≤ length h.scopes
-  pub few_scopes : length h.scopes ≤ 50000
+  pub few_scopes : length h.scopes ≤ MOST_SCOPES
   pub parents : (s : ℕ) (d : Scope) → 1 ≤ s → s < length h.scopes → (slice_index_or h.scopes s d).parent < s
-  pub few_leaves : length h.leaves ≤ 50000
+  pub few_leaves : length h.leaves ≤ MOST_LEAVES
   pub each_leaf : All (IsLeaf cells h) h.leaves
   pub each_inner : All (IsInner h) h.inner
-  pub few_bits : length h.inner ≤ 262144
+  pub few_bits : length h.inner ≤ MOST_INNER
   pub each_join : All (IsJoin h) h.joins
   pub each_port : All (IsPort h) h.ports
 
