@@ -1,5 +1,5 @@
 -- What is read as a certificate is in range.
-use Rattle.std.proofs.Common.{ℕ, zero, suc, ℤ, pos, ◌≤◌, ◌≤ℤ◌, ◌+◌, true, false, Bool, if◌then◌else◌, List, [], ◌∷◌, ◌++◌, length, length-append, All, sym, subst, arith}
+use Rattle.std.proofs.Common.{ℕ, zero, suc, ℤ, ◌≤◌, ◌≤ℤ◌, ◌+◌, true, false, Bool, if◌then◌else◌, List, [], ◌∷◌, ◌++◌, length, length-append, All, sym, subst, arith}
 use Rattle.std.proofs.lemmas.Int.{ints}
 use Rattle.std.proofs.lemmas.List.Elements.{All-push, All-nil}
 use Rattle.mintc_text.specs.declared.limits.TheConstants.{MOST_NUMERATOR, MOST_MEMBERS, MOST_COUNT}

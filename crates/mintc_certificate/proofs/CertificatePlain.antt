@@ -1,5 +1,5 @@
 -- The lines of a certificate are plain, and a text has one certificate or one first line out of form.
-use Rattle.std.proofs.Common.{◌≡◌, ℕ, zero, suc, ℤ, pos, negsuc, ◌≤ℤ◌, ◌<◌, ◌^◌, true, false, Bool, if◌then◌else◌, List, [], ◌∷◌, ◌++◌, All, refl, ap, ◌∙◌, sym, arith, codes, eqb}
+use Rattle.std.proofs.Common.{◌≡◌, ℕ, zero, suc, negsuc, ◌≤ℤ◌, true, false, Bool, if◌then◌else◌, List, [], ◌∷◌, refl, ap, ◌∙◌, sym, arith, codes}
 use Rattle.std.proofs.lemmas.Int.{ints}
 use Rattle.mintc_text.specs.declared.limits.TheConstants.{MOST_NUMERATOR, MOST_MEMBERS, MOST_COUNT}
 use Rattle.mintc_lines.specs.Fields.{IsWordLine, IsCountLine}

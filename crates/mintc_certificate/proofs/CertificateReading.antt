@@ -1,23 +1,22 @@
 -- What the reader of certificates has read up to each line, and where it halts.
-use Rattle.std.proofs.Common.{◌≡◌, ℕ, suc, ◌<◌, ◌≤◌, ◌+◌, ◌-◌, ℤ, pos, SFits, w64, Bool, true, false, if◌then◌else◌, Result, Ok, Err, MatchResult, List, [], ◌∷◌, ◌++◌, refl, ap, sym, subst, arith, codes}
+use Rattle.std.proofs.Common.{◌≡◌, ℕ, suc, ◌<◌, ◌-◌, ℤ, SFits, w64, Bool, true, false, List, [], ◌∷◌, ◌++◌, refl, ap, arith, codes}
 use Rattle.std.proofs.lemmas.Int.{ints}
 use Rattle.mintc_text.specs.declared.limits.TheConstants.{MOST_NUMERATOR}
 use Rattle.mintc_text.specs.Lines.{IsWithin}
 use Rattle.mintc_timing.specs.Limits.{IsTime}
 use Rattle.mintc_timing.specs.declared.clocking.Schedule.{Schedule}
-use Rattle.mintc_lines.specs.Fields.{plain_line, Spells, IsWordLine, IsNumberLine, IsCountLine}
-use Rattle.mintc_lines.specs.Reading.{Reading, HasRead, HasNone, IsAt, number_after}
-use Rattle.mintc_lines.specs.Texts.{IsPhaseLine, no_phases, with_phase}
+use Rattle.mintc_lines.specs.Fields.{plain_line, Spells, IsNumberLine}
+use Rattle.mintc_lines.specs.Reading.{Reading, HasRead, HasNone, IsAt, number_after, Halts}
 use Rattle.mintc_lines.proofs.SharedReadingLaws.{at_more, at_fault, list_fault}
 use Rattle.mintc_certificate.specs.declared.certificate.Certificate.{Certificate}
 use Rattle.mintc_certificate.specs.declared.certificate.Certificate.TheVariants.{Least, Never}
-use Rattle.mintc_certificate.specs.declared.halt.Halt.{Halt}
-use Rattle.mintc_certificate.specs.declared.halt.Halt.TheVariants.{Form, Memory}
+use Rattle.mintc_lines.specs.declared.halt.Halt.{Halt}
+use Rattle.mintc_lines.specs.declared.halt.Halt.TheVariants.{Form, Memory}
 use Rattle.mintc_certificate.specs.declared.members.Member.{Member}
 use Rattle.mintc_certificate.specs.declared.version.Version.{Version}
 use Rattle.mintc_certificate.specs.declared.version.Version.TheVariants.{First, Second}
-use Rattle.mintc_certificate.specs.CertificateReading.{Halts, with_chain, before_chain}
-use Rattle.mintc_certificate.specs.CertificateText.{NextOfCertificate, IsWholeCertificate, IsCertificateText, IsCertificateFault, CertificateLines, first, outcome, den, cycle, phases, phase, departure, never, link, whole, version_of, least_departure, with_member, IsOutcomeLine, IsChainLine, IsMemberLine}
+use Rattle.mintc_certificate.specs.CertificateReading.{with_chain, before_chain}
+use Rattle.mintc_certificate.specs.CertificateText.{NextOfCertificate, IsWholeCertificate, IsCertificateFault, CertificateLines, first, departure, link, least_departure, with_member, IsOutcomeLine, IsChainLine, IsMemberLine}
 
 -- where a reader of a certificate is
 abbrev pub At : List ℕ → Reading → CertificateLines → Type 0
@@ -66,11 +65,6 @@ pushed (Never chain) ms m = refl
 
 pub member_next : (v : Version) (c : Certificate) (m : Member) (left : ℕ) (ms : List Member) (line : List ℕ) → Spells (IsMemberLine v) m line → NextOfCertificate (link v (suc left) (with_chain c ms)) line (link v left (with_chain c (ms ++ m ∷ [])))
 member_next v c m left ms line spells = (m, spells, ap (λ (x : Certificate). link v left x) (pushed c ms m))
-
--- the exit of a `?`
-pub at_halt : {T : Type 0} (r : Result T Halt) (h : Halt) (P : T → Type 0) (fault : Type 0) → ((x : Halt) × (r ≡ Err x) × (x ≡ h)) → Halts fault h → MatchResult r P (Halts fault)
-at_halt (Ok v) h P fault e told = absurd (cc e.1)
-at_halt (Err y) h P fault e told = let same : y ≡ h = cc (e.1, e.2) in subst (Halts fault) (sym same) told
 
 pub plain-outcome_line : (b : Bool) (ws : List (List ℕ)) → IsOutcomeLine b ws → plain_line ws ≡ true
 plain-outcome_line true ws h = ap plain_line h

@@ -1,5 +1,5 @@
 -- Certificates that are one value have one text.
-use Rattle.std.proofs.Common.{◌≡◌, ℕ, zero, suc, ℤ, Bool, true, false, if◌then◌else◌, List, [], ◌∷◌, ◌++◌, refl, ◌∙◌, sym, subst}
+use Rattle.std.proofs.Common.{◌≡◌, ℕ, zero, suc, ℤ, Bool, true, false, if◌then◌else◌, List, [], refl, ◌∙◌, sym, subst}
 use Rattle.mintc_timing.specs.declared.clocking.Schedule.{Schedule}
 use Rattle.mintc_lines.proofs.SharedScheduleLaws.{den_form, cycle_form, phases_form, phase_form}
 use Rattle.mintc_lines.proofs.SharedSpelling.{Rest, rest_none, rest_back, rest_same, rest_count, Agrees, agrees_none, agrees_back, agrees_same, IsSpelled, IsSpelledStep}

@@ -8,10 +8,10 @@ use Rattle.std.specs.Str.{bytes_eq}
 use Rattle.mintc_text.specs.declared.limits.TheConstants.{MOST_COUNT}
 use Rattle.mintc_text.specs.Lines.{ended, words}
 use Rattle.mintc_lines.specs.Fields.{IsCount, number, plain, plain_line}
-use Rattle.mintc_lines.specs.Reading.{HasRead, HasNone}
+use Rattle.mintc_lines.specs.Reading.{HasRead, HasNone, Halts}
 use Rattle.mintc_lines.proofs.SharedFieldsLaws.{and_both, plain-number}
-use Rattle.mintc_certificate.specs.declared.halt.Halt.{Halt}
-use Rattle.mintc_certificate.specs.declared.halt.Halt.TheVariants.{Form, Memory}
+use Rattle.mintc_lines.specs.declared.halt.Halt.{Halt}
+use Rattle.mintc_lines.specs.declared.halt.Halt.TheVariants.{Form, Memory}
 use Rattle.mintc_certificate.specs.declared.member_lines.MemberWord.{MemberWord}
 use Rattle.mintc_certificate.specs.declared.member_lines.MemberWord.TheVariants.{One, Apart, Reach}
 use Rattle.mintc_certificate.specs.declared.member_lines.Single.{Single}
@@ -21,7 +21,6 @@ use Rattle.mintc_certificate.specs.declared.members.Member.TheVariants as member
 use Rattle.mintc_certificate.specs.declared.version.Version.{Version}
 use Rattle.mintc_certificate.specs.declared.version.Version.TheVariants.{First, Second}
 use Rattle.mintc_certificate.specs.CertificateText.{member_words, IsCounted, IsMemberOf, IsMemberLine}
-use Rattle.mintc_certificate.specs.CertificateReading.{Halts}
 use Rattle.mintc_certificate.specs.MemberWords.{single, single_word, member_word, IsOne, IsTwo, AreNumbers}
 
 -- ---- the first word of a member, and the others

@@ -1,17 +1,10 @@
--- Where the reader of certificates halts.
+-- What the reader of certificates has before a chain.
 use Rattle.std.specs.Prelude.{List}
 use Rattle.mintc_certificate.specs.declared.certificate.Certificate.{Certificate}
 use Rattle.mintc_certificate.specs.declared.certificate.Certificate.TheVariants.{Least, Never}
-use Rattle.mintc_certificate.specs.declared.halt.Halt.{Halt}
-use Rattle.mintc_certificate.specs.declared.halt.Halt.TheVariants.{Form, Memory}
 use Rattle.mintc_certificate.specs.declared.members.Member.{Member}
 use Rattle.mintc_certificate.specs.declared.version.Version.{Version}
 use Rattle.mintc_certificate.specs.CertificateText.{CertificateLines, departure, never}
-
--- Where reading stops at a line's form, this is said. A want of memory says nothing.
-abbrev pub Halts : Type 0 → Halt → Type 0
-Halts fault Form = fault
-Halts fault Memory = Unit {0}
 
 -- the certificate with this chain
 abbrev pub with_chain : Certificate → List Member → Certificate

@@ -1,5 +1,5 @@
 -- What members stand for, and the seven tests of a certificate.
-use Rattle.std.specs.Prelude.{◌≡◌, ◌<◌, ◌≤◌, ℕ, ℤ, pos, ◌*ℤ◌, ◌<ℤ◌, ◌≤ℤ◌, List, length, slice_index_or, map, All, IsTrue, IsFalse}
+use Rattle.std.specs.Prelude.{◌≡◌, ◌<◌, ◌≤◌, ℕ, ℤ, pos, List, length, slice_index_or, map, All, IsTrue, IsFalse}
 use Rattle.mintc_timing.specs.declared.parts.Bound.{Bound}
 use Rattle.mintc_timing.specs.declared.parts.Point.TheVariants.{Origin}
 use Rattle.mintc_timing.specs.declared.clocking.Schedule.{Schedule}

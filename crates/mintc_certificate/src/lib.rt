@@ -5,7 +5,6 @@
 #![tactic(auto)]
 
 mod certificate;
-mod halt;
 mod laws;
 mod links;
 mod member_lines;

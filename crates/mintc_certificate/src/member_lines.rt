@@ -6,13 +6,12 @@ ghost use Rattle.mintc_certificate.specs.declared.member_lines.Single.{Single};
 ghost use Rattle.mintc_certificate.specs.declared.members.Member.{Member};
 ghost use Rattle.mintc_certificate.specs.declared.version.Version.{Version};
 ghost use Rattle.mintc_certificate.specs.CertificateText.{IsMemberOf, IsMemberLine};
-ghost use Rattle.mintc_certificate.specs.CertificateReading.{Halts};
+ghost use Rattle.mintc_lines.specs.Reading.{Halts};
 ghost use Rattle.mintc_certificate.specs.MemberWords.{single, single_word, member_word, IsOne, IsTwo, AreNumbers};
 
 use crate::Member;
-use crate::halt::Halt;
 use crate::version::Version;
-use mintc_lines::Fields;
+use mintc_lines::{Fields, Halt};
 use mintc_text::Numbers;
 use mintc_text::limits::MOST_COUNT;
 use std::alloc::Global;

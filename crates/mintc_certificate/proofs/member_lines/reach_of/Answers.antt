@@ -1,6 +1,6 @@
 use Rattle.std.proofs.lemmas.Result.{err_from_is_err_and}
 use Rattle.mintc_certificate.proofs.MemberLaws.{reach_ends_none, reach_halts, reach_some}
-use Rattle.mintc_certificate.proofs.CertificateReading.{at_halt}
+use Rattle.mintc_lines.proofs.SharedReadingLaws.{at_halt}
 use Rattle.mintc_certificate.proofs.member_lines.reach_of.Goals as goal
 
 pub returns-in_default : goal.returns-in_default

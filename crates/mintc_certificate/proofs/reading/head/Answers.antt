@@ -1,7 +1,7 @@
 use Rattle.std.proofs.Common.{refl}
 use Rattle.mintc_timing.proofs.SharedFitting.{read_time, IsTime-IsDenominator, IsTime-IsNumerator}
 use Rattle.mintc_lines.proofs.SharedReadingLaws.{at_none, at_fault, at_more}
-use Rattle.mintc_certificate.specs.CertificateText.{den, cycle, phases, phase}
+use Rattle.mintc_certificate.specs.CertificateText.{cycle, phases, phase}
 use Rattle.mintc_lines.specs.Texts.{no_phases}
 use Rattle.mintc_certificate.proofs.reading.head.Goals as goal
 

@@ -1,7 +1,7 @@
 use Rattle.std.proofs.Common.{[]}
 use Rattle.std.proofs.lemmas.Result.{err_from_is_err_and}
 use Rattle.mintc_certificate.specs.declared.certificate.Certificate.TheVariants.{Least}
-use Rattle.mintc_certificate.proofs.CertificateReading.{at_halt}
+use Rattle.mintc_lines.proofs.SharedReadingLaws.{at_halt}
 use Rattle.mintc_certificate.proofs.reading.least.Goals as goal
 
 pub returns-in_err-departures : goal.returns-in_err-departures

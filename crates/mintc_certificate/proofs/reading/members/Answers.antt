@@ -1,10 +1,10 @@
 use Rattle.std.proofs.Common.{List, arith, subst, sym}
 use Rattle.std.proofs.lemmas.Result.{err_from_is_err_and}
-use Rattle.mintc_lines.proofs.SharedReadingLaws.{list_none, list_more, list_all}
+use Rattle.mintc_lines.proofs.SharedReadingLaws.{list_none, list_more, list_all, at_halt}
 use Rattle.mintc_certificate.specs.declared.members.Member.{Member}
 use Rattle.mintc_certificate.specs.CertificateReading.{with_chain}
 use Rattle.mintc_certificate.specs.CertificateText.{IsMemberLine, link}
-use Rattle.mintc_certificate.proofs.CertificateReading.{At, chain_read, chain_fault, list_halts, member_states, member_next, at_halt}
+use Rattle.mintc_certificate.proofs.CertificateReading.{At, chain_read, chain_fault, list_halts, member_states, member_next}
 use Rattle.mintc_certificate.proofs.reading.members.Goals as goal
 
 pub returns-in_default : goal.returns-in_default

@@ -1,5 +1,5 @@
 use Rattle.std.proofs.Common.{subst, sym, refl}
-use Rattle.mintc_certificate.specs.CertificateReading.{Halts}
+use Rattle.mintc_lines.specs.Reading.{Halts}
 use Rattle.mintc_certificate.specs.CertificateText.{NextOfCertificate, first, IsCertificateFault}
 use Rattle.mintc_lines.proofs.SharedReadingLaws.{at_start}
 use Rattle.mintc_certificate.proofs.CertificateLaws.{IsCertificateInRange-from_text}
