@@ -1,5 +1,6 @@
 //! The pairs that each element begins, or ends.
 ghost use Rattle.std.specs.Prelude.{◌≡◌, ◌<◌, ◌≤◌, length, All, IfOk};
+ghost use Rattle.mintc_text.specs.declared.limits.TheConstants.{MOST_PAIRS};
 ghost use Rattle.mintc_departure.specs.Chains.{end_of, AreChains};
 
 use mintc_timing::Pair;
@@ -39,7 +40,7 @@ impl Chains {
         end: End,
         elements: usize,
     ) -> Result<Chains, AllocError>
-        requires few { length pairs.now ≤ 200000 }
+        requires few { length pairs.now ≤ MOST_PAIRS }
         requires inside { All (λ pair. end_of end pair < elements) pairs.now }
         ensures { IfOk result (λ chains. AreChains pairs.now end elements chains) }
     {

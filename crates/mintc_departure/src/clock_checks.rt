@@ -1,6 +1,7 @@
 //! The list of what a schedule breaks of the clock and the bounds.
 ghost use Rattle.std.specs.Prelude.{◌≡◌, ◌+◌, ◌-◌, ◌*◌, ◌<◌, ◌≤◌, ◌++◌, ◌∷◌, [], ℕ, if◌then◌else◌, map, false, OnOk, length, slice_index_or};
 ghost use Rattle.std.specs.List.{range_with_len};
+ghost use Rattle.mintc_text.specs.declared.limits.TheConstants.{MOST_PHASES};
 ghost use Rattle.mintc_timing.specs.Clocking.{feeds_of};
 ghost use Rattle.mintc_timing.specs.Design.{phase_count};
 ghost use Rattle.mintc_timing.specs.Limits.{IsPhase};
@@ -122,7 +123,7 @@ fn judge_apart(
 ) -> Result<(), OutOfMemory>
     requires phase { IsPhase (phase_count clocked.now.system.now.flat) i }
     requires count { length fed.now ≡ 64 }
-    requires table { (i j : ℕ) → IsPhase 8 i → IsPhase 8 j → slice_index_or fed.now (8 * (i - 1) + (j - 1)) false ≡ feeds_of clocked.now.system.now i j }
+    requires table { (i j : ℕ) → IsPhase MOST_PHASES i → IsPhase MOST_PHASES j → slice_index_or fed.now (8 * (i - 1) + (j - 1)) false ≡ feeds_of clocked.now.system.now i j }
     ensures { OnOk result (violations.new.items ≡ violations.old.items ++ failed (fed_checks clocked.now.system.now clocked.now.schedule.now i)) }
 {
     for index in 0..clocked.phase_count() {

@@ -1,5 +1,6 @@
 //! A system with a schedule that fits it.
 ghost use Rattle.std.specs.Prelude.{◌≡◌, ◌≤◌, length};
+ghost use Rattle.mintc_text.specs.declared.limits.TheConstants.{MOST_PHASES};
 ghost use Rattle.mintc_timing.specs.Design.{phase_count};
 ghost use Rattle.mintc_timing.specs.Limits.{IsInRange};
 
@@ -30,7 +31,7 @@ impl ClockedSystem<'_> {
     /// The number of its phases.
     pub fn phase_count(&self) -> usize
         ensures value { result ≡ phase_count self.now.system.now.flat }
-        ensures few { result ≤ 8 }
+        ensures few { result ≤ MOST_PHASES }
     {
         self.system.flat().phases().items().len()
     }
