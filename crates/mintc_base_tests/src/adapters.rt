@@ -3,6 +3,7 @@ use mintc_text::{FolderShelf, Shelf, Sink, StreamSink, read_front};
 use std::alloc::Global;
 use std::fmt::Display;
 use std::io::Read;
+use std::rt::Files;
 use std::test::Fail;
 use std::{fs, io, process};
 
@@ -56,20 +57,21 @@ fn gives<S: Shelf>(alloc: Global, shelf: &mut S, name: &str, most: usize, text: 
     }
 }
 
+/// Whether a file is read, a front of it and all, until it is removed.
+fn is_read<R: Files>(runtime: &R, alloc: Global, name: &str) -> io::Result<bool> {
+    fs::write(runtime, name, "latches")?;
+    let mut shelf = FolderShelf::new(runtime);
+    let is_read = gives(alloc, &mut shelf, name, 3, "lat")
+        && gives(alloc, &mut shelf, name, 100_000, "latches");
+    fs::remove_file(runtime, name)?;
+    Ok(is_read && shelf.read(alloc, name, 3).is_err())
+}
+
 #[test]
 fn reads_a_file(rt: HostRuntime) -> Result<(), Fail> {
     let alloc = rt.alloc();
     let name = format!(in alloc; "mintc_text_{}.tmp", process::id(rt.process()))?;
-    fs::write(&rt, name.as_str(), "latches")?;
-    let mut shelf = FolderShelf::new(&rt);
-    for (most, front) in &[(3, "lat"), (100_000, "latches")] {
-        assert!(rt;
-            gives(alloc, &mut shelf, name.as_str(), *most, front),
-            "{front}"
-        );
-    }
-    fs::remove_file(&rt, name.as_str())?;
-    assert!(rt; shelf.read(alloc, name.as_str(), 3).is_err());
+    assert!(rt; is_read(&rt, alloc, name.as_str())?);
     Ok(())
 }
 

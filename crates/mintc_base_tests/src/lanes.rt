@@ -137,12 +137,14 @@ fn check(rt: &impl Abort, case: &Case) {
     max_plus_row(&mut greater, &other, add);
     min_plus_row(&mut lesser, &other, add);
     max_plus_row(&mut alone, &other, add);
-    assert!(rt; greater == case.greater, "the greater, {}", case.name);
-    assert!(rt; plus_row(&other, add) == alone, "alone, {}", case.name);
-    assert!(rt; lesser == case.lesser, "the lesser, {}", case.name);
     assert!(rt;
-        max_row(&row) == case.greatest,
-        "the greatest, {}",
+        greater == case.greater && lesser == case.lesser,
+        "the greater and the lesser, {}",
+        case.name
+    );
+    assert!(rt;
+        plus_row(&other, add) == alone && max_row(&row) == case.greatest,
+        "alone and the greatest, {}",
         case.name
     );
 }

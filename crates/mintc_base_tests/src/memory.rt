@@ -7,12 +7,17 @@ use std::test::Fail;
 /// Files, of which the first of a name counts.
 const FILES: &[(&str, &str)] = &[("a", "first"), ("b", ""), ("a", "second")];
 
+/// A file for a shelf.
+fn held(alloc: Global, name: &str, bytes: &str) -> Result<(Name, Vec<u8>), Fail> {
+    let name = Name::new(alloc, name.as_bytes())?;
+    Ok((name, Vec::from_slice(alloc, bytes.as_bytes())?))
+}
+
 /// A shelf of these files, whose calls 2 and 5 fail.
 fn shelf(alloc: Global) -> Result<MemoryShelf, Fail> {
     let mut files = Vec::new(alloc);
     for (name, bytes) in FILES {
-        let name = Name::new(alloc, name.as_bytes())?;
-        files.push((name, Vec::from_slice(alloc, bytes.as_bytes())?))?;
+        files.push(held(alloc, name, bytes)?)?;
     }
     let failing = Vec::from_slice(alloc, &[2, 5])?;
     Ok(MemoryShelf::new(files, Numbers::new(failing)))
@@ -52,6 +57,12 @@ fn reads_files(rt: HostRuntime) -> Result<(), Fail> {
 /// A write: the bytes, whether it succeeds, and what the sink has taken after it.
 type Write = (&'static str, bool, &'static str);
 
+/// Whether a sink takes a write as it should.
+fn is_taken(sink: &mut MemorySink, write: &Write) -> bool {
+    let (bytes, succeeds, taken) = *write;
+    sink.write(bytes.as_bytes()).is_ok() == succeeds && sink.taken() == taken.as_bytes()
+}
+
 /// A sink of this room, of which this call fails, takes these writes.
 fn takes(
     rt: &impl Abort,
@@ -61,12 +72,8 @@ fn takes(
     writes: &[Write],
 ) -> Result<(), Fail> {
     let mut sink = MemorySink::new(alloc, room, Some(failing))?;
-    for (bytes, succeeds, taken) in writes {
-        assert!(rt;
-            sink.write(bytes.as_bytes()).is_ok() == *succeeds,
-            "{bytes}"
-        );
-        assert!(rt; sink.taken() == taken.as_bytes(), "after {bytes}");
+    for write in writes {
+        assert!(rt; is_taken(&mut sink, write), "{}", write.0);
     }
     Ok(())
 }

@@ -82,7 +82,9 @@ const EQUAL: Cuttings = Cuttings {
 
 const FEW: &[u32] = &[0, 1, 2, 3, 40, 5_000, 65_536];
 
-const MANY: &[u32] = &[65_537, 300_000];
+const MORE: &[u32] = &[65_537];
+
+const MANY: &[u32] = &[300_000];
 
 /// Each of these counts of places comes in order.
 fn come_in_order(rt: &impl Abort, alloc: Global, names: &Cuttings, counts: &[u32], room: usize) {
@@ -99,6 +101,13 @@ fn come_in_order(rt: &impl Abort, alloc: Global, names: &Cuttings, counts: &[u32
 fn few_places_come_in_order(rt: HostRuntime) {
     come_in_order(&rt, rt.alloc(), &MIXED, FEW, 100_000);
     come_in_order(&rt, rt.alloc(), &ALIKE, FEW, 100_000);
+}
+
+#[test]
+fn more_places_come_in_order(rt: HostRuntime) {
+    come_in_order(&rt, rt.alloc(), &MIXED, MORE, 100_000);
+    come_in_order(&rt, rt.alloc(), &ALIKE, MORE, 300_000);
+    come_in_order(&rt, rt.alloc(), &EQUAL, MORE, 100_000);
 }
 
 #[test]
