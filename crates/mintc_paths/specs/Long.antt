@@ -1,5 +1,5 @@
 -- Sums above the limit.
-use Rattle.std.specs.Prelude.{◌<◌, ℕ, pos, ◌<ℤ◌, ◌≤ℤ◌, IfSome, IsSomeAnd, List, length}
+use Rattle.std.specs.Prelude.{◌<◌, ℕ, ◌<ℤ◌, ◌≤ℤ◌, IfSome, IsSomeAnd, List, length}
 use Rattle.mintc_text.specs.declared.limits.TheConstants.{MOST_DELAY}
 use Rattle.mintc_lanes.specs.Lanes.{lane_at}
 use Rattle.mintc_paths.specs.declared.sums.Sums.{Sums}

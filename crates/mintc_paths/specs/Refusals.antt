@@ -1,5 +1,5 @@
 -- Where no pairs are given.
-use Rattle.std.specs.Prelude.{◌≡◌, ◌<◌, ℕ, pos, ◌≤ℤ◌, ◌<ℤ◌, List, length, min}
+use Rattle.std.specs.Prelude.{◌≡◌, ◌<◌, ℕ, ◌≤ℤ◌, ◌<ℤ◌, List, length, min}
 use Rattle.mintc_text.specs.declared.limits.TheConstants.{MOST_PAIRS, MOST_DELAY, MOST_TOLD}
 use Rattle.mintc_text.specs.declared.refusals.Kind.TheVariants as kind
 use Rattle.mintc_text.specs.declared.refusals.Refusal.{Refusal}
