@@ -3,6 +3,7 @@ use Rattle.std.proofs.Common.{◌≡◌, ℕ, ◌<◌, ◌+◌, ◌-◌, ◌*◌
 use Rattle.std.specs.Prelude.{IfSome, IsSomeAnd, IsSome}
 use Rattle.std.proofs.lemmas.Bool.Decides.{nat_tests}
 use Rattle.std.proofs.lemmas.List.Folds.{Any-from_list_any, list_any-from_Any}
+use Rattle.mintc_text.specs.declared.limits.TheConstants.{MOST_PHASES}
 use Rattle.mintc_timing.specs.declared.parts.Pair.{Pair}
 use Rattle.mintc_timing.specs.Clocking.{feeds_of, is_pair_between}
 use Rattle.mintc_timing.specs.Design.{Design, Timing}
@@ -40,7 +41,7 @@ same_tests true c f g = sym (f refl)
 same_tests false true f g = g refl
 same_tests false false f g = refl
 
-module _ (design : Design) (den : ℤ) (d : List ℤ) (labels : List Labels) (are_labels : AreLabels design den d labels) (i j : ℕ) (low : IsPhase 8 i)
+module _ (design : Design) (den : ℤ) (d : List ℤ) (labels : List Labels) (are_labels : AreLabels design den d labels) (i j : ℕ) (low : IsPhase MOST_PHASES i)
     (along : List ℕ) (pairs : List Pair) (are_pairs : ArePairs design pairs) where
   abbrev t : Timing
   t = timing_of design along pairs
@@ -78,7 +79,7 @@ module _ (design : Design) (den : ℤ) (d : List ℤ) (labels : List Labels) (ar
   pub fed_is : (b : Bool) → IsTrue b ↔ IsFedFrom design labels i j → b ≡ feeds_of t i j
   fed_is b decides = same_tests b (feeds_of t i j) (λ h. fed-pair (decides.0 h)) (λ h. decides.1 (pair-fed h))
 
-place_of : (i j : ℕ) → IsPhase 8 i → IsPhase 8 j → ((8 * (i - 1) + (j - 1)) / 8 + 1 ≡ i) × ((8 * (i - 1) + (j - 1)) % 8 + 1 ≡ j) × (8 * (i - 1) + (j - 1) < 64)
+place_of : (i j : ℕ) → IsPhase MOST_PHASES i → IsPhase MOST_PHASES j → ((8 * (i - 1) + (j - 1)) / 8 + 1 ≡ i) × ((8 * (i - 1) + (j - 1)) % 8 + 1 ≡ j) × (8 * (i - 1) + (j - 1) < 64)
 place_of i j p q = (omega arith, omega arith, omega arith)
 
 -- A table of what is fed, place by place.

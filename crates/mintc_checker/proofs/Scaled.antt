@@ -2,6 +2,7 @@
 use Rattle.std.proofs.Common.{◌≡◌, ◌==◌, ◌↔◌, IsTrue, ℤ, pos, negsuc, ◌*ℤ◌, ◌≤ℤ◌, SFits, arith, ap, ◌∙◌, sym, to_z, of_z, w64}
 use Rattle.std.proofs.lemmas.Int.{ints}
 use Rattle.std.proofs.Math.IntN.{*ℤ_comm}
+use Rattle.mintc_text.specs.declared.limits.TheConstants.{MOST_MEMBERS}
 use Rattle.mintc_timing.specs.Limits.{IsTime, IsDenominator, IsNumerator}
 use Rattle.mintc_timing.proofs.SharedFitting.{read_time, same_bits}
 use Rattle.mintc_timing.proofs.SharedProducts.{times-mono_positive}
@@ -26,7 +27,7 @@ delay_fits delay den h g =
     let high : (delay *ℤ den) ≤ℤ (pos 8192000000000 *ℤ den) = times-mono_positive delay (pos 8192000000000) den h.1 one in
     omega (arith, ints)
 
-pub turns_fit : (cycles cycle : ℤ) → (pos 1 ≤ℤ cycles) × (cycles ≤ℤ pos 4096) → IsNumerator cycle → SFits w64 (cycles *ℤ cycle)
+pub turns_fit : (cycles cycle : ℤ) → (pos 1 ≤ℤ cycles) × (cycles ≤ℤ pos MOST_MEMBERS) → IsNumerator cycle → SFits w64 (cycles *ℤ cycle)
 turns_fit cycles cycle h g =
     let one = h.0 in
     let most = h.1 in

@@ -1,5 +1,6 @@
 -- What the tests speak of: the design with all its pairs.
-use Rattle.std.specs.Prelude.{◌≡◌, ◌+◌, ◌-◌, ◌*◌, ◌<◌, ℕ, ℤ, pos, negsuc, ◌≤ℤ◌, IfSome, Bool, false, List, length, slice_index_or, IsTrue, IsFalse, IsSome, All, ◌↔◌, ◌*ℤ◌}
+use Rattle.std.specs.Prelude.{◌≡◌, ◌+◌, ◌-◌, ◌*◌, ◌<◌, ℕ, ℤ, pos, negsuc, neg_ℤ, ◌≤ℤ◌, IfSome, Bool, false, List, length, slice_index_or, IsTrue, IsFalse, IsSome, All, ◌↔◌, ◌*ℤ◌}
+use Rattle.mintc_text.specs.declared.limits.TheConstants.{MOST_PHASES, MOST_NUMERATOR}
 use Rattle.mintc_timing.specs.declared.parts.Pair.{Pair}
 use Rattle.mintc_timing.specs.declared.link.LinkKind.TheVariants.{Other}
 use Rattle.mintc_timing.specs.declared.link.Link.{Link}
@@ -28,12 +29,12 @@ Decides design answer P = OfTiming design (λ t. IsTrue answer ↔ P t)
 -- The table has, at place 8 * (i - 1) + (j - 1), whether phase i feeds phase j.
 pub record IsFed (design : Design) (fed : List Bool) : Type 0 where
   pub count : length fed ≡ 64
-  pub each : (i j : ℕ) → IsPhase 8 i → IsPhase 8 j →
+  pub each : (i j : ℕ) → IsPhase MOST_PHASES i → IsPhase MOST_PHASES j →
       OfTiming design (λ t. slice_index_or fed (8 * (i - 1) + (j - 1)) false ≡ feeds_of t i j)
 
 -- Each label is a time.
 abbrev pub IsLate : ℤ → Type 0
-IsLate x = (negsuc 99999999999999 ≤ℤ x) × (x ≤ℤ pos 300000000000000)
+IsLate x = (neg_ℤ MOST_NUMERATOR ≤ℤ x) × (x ≤ℤ pos 300000000000000)
 
 abbrev pub AreTimely : List Labels → Type 0
 AreTimely labels = (bit lane : ℕ) → bit < length labels → lane < 8 → IfSome (label_at labels bit lane) IsLate

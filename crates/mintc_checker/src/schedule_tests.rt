@@ -1,5 +1,6 @@
 //! The tests of a schedule against the counts, the clock and the bounds.
 ghost use Rattle.std.specs.Prelude.{◌≡◌, ◌+◌, ◌-◌, ◌*◌, ◌<◌, ◌≤◌, ◌≤ℤ◌, ◌-ℤ◌, ◌*ℤ◌, pos, ℕ, length, IsTrue, ◌↔◌, All};
+ghost use Rattle.mintc_text.specs.declared.limits.TheConstants.{MOST_PHASES};
 ghost use Rattle.mintc_timing.specs.Clocking.{KeepsApart, KeepsBound, KeepsClock, KeepsPhase, EachPhase, crosses_of, end_of, least_width, start_of, width_of};
 ghost use Rattle.mintc_timing.specs.Limits.{IsBound, IsPhase};
 ghost use Rattle.mintc_certificate.specs.Valid.{HasCounts};
@@ -26,7 +27,7 @@ pub(crate) fn has_counts(flat: &Flat, schedule: &Schedule, departures: &[i64]) -
 
 /// Whether data of phase `i` reaches an element, if that is a latch on phase `j`.
 fn feeds_element(flat: &Flat, labels: &[Labels], i: u32, j: u32, number: usize) -> bool
-    requires first { IsPhase 8 i }
+    requires first { IsPhase MOST_PHASES i }
     requires number { number < length flat.now.elements }
     requires count { length labels.now ≡ 2 * length flat.now.elements + length flat.now.inner }
     ensures { IsTrue result ↔ IsFedAt flat.now labels.now i j number }
@@ -41,7 +42,7 @@ fn feeds_element(flat: &Flat, labels: &[Labels], i: u32, j: u32, number: usize) 
 
 /// Whether phase `i` feeds phase `j`.
 fn feeds(flat: &Flat, labels: &[Labels], i: u32, j: u32) -> bool
-    requires first { IsPhase 8 i }
+    requires first { IsPhase MOST_PHASES i }
     requires count { length labels.now ≡ 2 * length flat.now.elements + length flat.now.inner }
     ensures { IsTrue result ↔ ((l : ℕ) × (l < length flat.now.elements) × IsFedAt flat.now labels.now i j l) }
 {
