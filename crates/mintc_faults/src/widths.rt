@@ -18,11 +18,9 @@ use mintc_hierarchy::Target;
 use mintc_netlist::{Item, Module, Piece, Span, entry};
 use mintc_nets::{Declarations, Nets, has_constant};
 use mintc_targets::{Connected, TargetList, is_output, pin_count, pin_name, pin_width};
+use mintc_text::limits::MOST_WIDTH;
 use mintc_text::{Name, OutOfMemory};
 use std::alloc::Global;
-
-/// The most pieces that an expression has.
-const MOST: usize = 65_536;
 
 /// Whether two ranges are the same.
 fn is_same_range(one: Option<Span>, other: Option<Span>) -> bool
@@ -62,7 +60,7 @@ fn width(home: &Module, table: &Nets, pieces: &[Piece]) -> Result<u64, OutOfMemo
     requires { table.now ≡ table_of home.now }
     ensures { IfOk result (λ width. width ≡ width_of home.now pieces.now) }
 {
-    if MOST < pieces.len() {
+    if MOST_WIDTH < pieces.len() {
         return Err(OutOfMemory);
     }
     Ok(table.width(home, pieces))
