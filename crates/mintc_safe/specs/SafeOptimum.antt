@@ -1,6 +1,6 @@
 -- What a safe certificate must be: when a chain of safe links, with a schedule and departures or alone, shows what it claims,
 -- what more it keeps, and what its parts are made of.
-use Rattle.std.specs.Prelude.{◌≡◌, ◌<◌, pos, ◌*ℤ◌, ◌<ℤ◌, ◌≤ℤ◌, List, map, All, IsTrue, ◌≢◌, ◌≤◌, ℤ, [], length, AllPairs, ℕ}
+use Rattle.std.specs.Prelude.{◌≡◌, ◌<◌, List, map, All, IsTrue, ◌≢◌, ◌≤◌, ℤ, [], length, AllPairs, ℕ}
 use Rattle.mintc_text.specs.declared.limits.TheConstants.{MOST_MEMBERS}
 use Rattle.mintc_timing.specs.declared.clocking.Schedule.{Schedule}
 use Rattle.mintc_timing.specs.declared.link.Link.{Link}
