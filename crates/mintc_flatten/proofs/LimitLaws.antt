@@ -3,6 +3,7 @@ use Rattle.std.proofs.Common.{◌≡◌, ℕ, ◌<◌, List, [], ◌∷◌, leng
 use Rattle.std.specs.Option.{option_map}
 use Rattle.std.proofs.lemmas.Bool.Decides.{nat_tests}
 use Rattle.std.proofs.lemmas.List.{get_or_read}
+use Rattle.mintc_text.specs.declared.limits.TheConstants.{MOST_DEPTH, MOST_INNER, MOST_LEAVES, MOST_SCOPES, MOST_TOLD}
 use Rattle.mintc_text.specs.declared.refusals.Kind.{Kind}
 use Rattle.mintc_text.specs.declared.refusals.Kind.TheVariants as kind
 use Rattle.mintc_text.specs.declared.refusals.Refusal.{Refusal}
@@ -16,38 +17,38 @@ use Rattle.mintc_hierarchy.specs.Hierarchies.{hierarchy_of}
 use Rattle.mintc_hierarchy.specs.Refusals.{over_limit, limit_refusal}
 use Rattle.mintc_flatten.proofs.TotalLaws.{hierarchy-scopes, hierarchy-leaves, hierarchy-inner}
 
-passes_alike : (n a : ℕ) → n < 1000000000 → nat_lt n (capped a) ≡ nat_lt n a
+passes_alike : (n a : ℕ) → n < MOST_TOLD → nat_lt n (capped a) ≡ nat_lt n a
 passes_alike n a h = grind (arith, nat_tests)
 
-over_by : (k : Kind) (q q' m : ℕ) (rest rest' : List (Kind × ℕ × ℕ)) (b : Bool) → min q 1000000000 ≡ min q' 1000000000 → over_limit rest ≡ over_limit rest' →
-    option_map (λ (x : Kind × ℕ × ℕ). refusal.Limit x.0 (min x.1 1000000000)) (cond b (Some (k, q, m)) (find (λ (x : Kind × ℕ × ℕ). nat_lt x.2 x.1) rest))
-    ≡ option_map (λ (x : Kind × ℕ × ℕ). refusal.Limit x.0 (min x.1 1000000000)) (cond b (Some (k, q', m)) (find (λ (x : Kind × ℕ × ℕ). nat_lt x.2 x.1) rest'))
+over_by : (k : Kind) (q q' m : ℕ) (rest rest' : List (Kind × ℕ × ℕ)) (b : Bool) → min q MOST_TOLD ≡ min q' MOST_TOLD → over_limit rest ≡ over_limit rest' →
+    option_map (λ (x : Kind × ℕ × ℕ). refusal.Limit x.0 (min x.1 MOST_TOLD)) (cond b (Some (k, q, m)) (find (λ (x : Kind × ℕ × ℕ). nat_lt x.2 x.1) rest))
+    ≡ option_map (λ (x : Kind × ℕ × ℕ). refusal.Limit x.0 (min x.1 MOST_TOLD)) (cond b (Some (k, q', m)) (find (λ (x : Kind × ℕ × ℕ). nat_lt x.2 x.1) rest'))
 over_by k q q' m rest rest' true e h = ap (λ (n : ℕ). Some (refusal.Limit k n)) e
 over_by k q q' m rest rest' false e h = h
 
-over_step : (k : Kind) (q q' m : ℕ) (rest rest' : List (Kind × ℕ × ℕ)) → nat_lt m q ≡ nat_lt m q' → min q 1000000000 ≡ min q' 1000000000 → over_limit rest ≡ over_limit rest' →
+over_step : (k : Kind) (q q' m : ℕ) (rest rest' : List (Kind × ℕ × ℕ)) → nat_lt m q ≡ nat_lt m q' → min q MOST_TOLD ≡ min q' MOST_TOLD → over_limit rest ≡ over_limit rest' →
     over_limit ((k, q, m) ∷ rest) ≡ over_limit ((k, q', m) ∷ rest')
 over_step k q q' m rest rest' test e h =
     over_by k q q' m rest rest' (nat_lt m q) e h
-    ∙ ap (λ (b : Bool). option_map (λ (x : Kind × ℕ × ℕ). refusal.Limit x.0 (min x.1 1000000000)) (cond b (Some (k, q', m)) (find (λ (x : Kind × ℕ × ℕ). nat_lt x.2 x.1) rest'))) test
+    ∙ ap (λ (b : Bool). option_map (λ (x : Kind × ℕ × ℕ). refusal.Limit x.0 (min x.1 MOST_TOLD)) (cond b (Some (k, q', m)) (find (λ (x : Kind × ℕ × ℕ). nat_lt x.2 x.1) rest'))) test
 
-capped_alike : (a : ℕ) → min (capped a) 1000000000 ≡ min a 1000000000
+capped_alike : (a : ℕ) → min (capped a) MOST_TOLD ≡ min a MOST_TOLD
 capped_alike a = omega arith
 
-capped_step : (k : Kind) (c a n m : ℕ) (rest rest' : List (Kind × ℕ × ℕ)) → m < 1000000000 → c ≡ capped a → n ≡ a → over_limit rest ≡ over_limit rest' → over_limit ((k, c, m) ∷ rest) ≡ over_limit ((k, n, m) ∷ rest')
+capped_step : (k : Kind) (c a n m : ℕ) (rest rest' : List (Kind × ℕ × ℕ)) → m < MOST_TOLD → c ≡ capped a → n ≡ a → over_limit rest ≡ over_limit rest' → over_limit ((k, c, m) ∷ rest) ≡ over_limit ((k, n, m) ∷ rest')
 capped_step k c a n m rest rest' small is same h =
-    over_step k c n m rest rest' (ap (nat_lt m) is ∙ passes_alike m a small ∙ ap (nat_lt m) (sym same)) (ap (λ (x : ℕ). min x 1000000000) is ∙ capped_alike a ∙ ap (λ (x : ℕ). min x 1000000000) (sym same)) h
+    over_step k c n m rest rest' (ap (nat_lt m) is ∙ passes_alike m a small ∙ ap (nat_lt m) (sym same)) (ap (λ (x : ℕ). min x MOST_TOLD) is ∙ capped_alike a ∙ ap (λ (x : ℕ). min x MOST_TOLD) (sym same)) h
 
 pub limits_alike : (s : Source) (top : ℕ) (c : Count) → IsCount s top c →
-    over_limit ((kind.Scopes, c.scopes, 50000) ∷ (kind.Depth, c.depth, 32) ∷ (kind.Leaves, c.leaves, 50000) ∷ (kind.Inner, c.inner, 262144) ∷ []) ≡ limit_refusal s top
+    over_limit ((kind.Scopes, c.scopes, MOST_SCOPES) ∷ (kind.Depth, c.depth, MOST_DEPTH) ∷ (kind.Leaves, c.leaves, MOST_LEAVES) ∷ (kind.Inner, c.inner, MOST_INNER) ∷ []) ≡ limit_refusal s top
 limits_alike s top c h =
-    let inner = capped_step kind.Inner c.inner (all_in s top).inner (length (hierarchy_of s top).inner) 262144 [] [] (omega arith) h.inner (hierarchy-inner s top) refl in
-    let leaves = capped_step kind.Leaves c.leaves (all_in s top).leaves (length (hierarchy_of s top).leaves) 50000 ((kind.Inner, c.inner, 262144) ∷ []) ((kind.Inner, length (hierarchy_of s top).inner, 262144) ∷ [])
+    let inner = capped_step kind.Inner c.inner (all_in s top).inner (length (hierarchy_of s top).inner) MOST_INNER [] [] (omega arith) h.inner (hierarchy-inner s top) refl in
+    let leaves = capped_step kind.Leaves c.leaves (all_in s top).leaves (length (hierarchy_of s top).leaves) MOST_LEAVES ((kind.Inner, c.inner, MOST_INNER) ∷ []) ((kind.Inner, length (hierarchy_of s top).inner, MOST_INNER) ∷ [])
     (omega arith) h.leaves (hierarchy-leaves s top) inner in
-    let deep = over_step kind.Depth c.depth (depth s (length s.modules) top) 32 ((kind.Leaves, c.leaves, 50000) ∷ (kind.Inner, c.inner, 262144) ∷ [])
-    ((kind.Leaves, length (hierarchy_of s top).leaves, 50000) ∷ (kind.Inner, length (hierarchy_of s top).inner, 262144) ∷ []) (ap (nat_lt 32) h.depth) (ap (λ (x : ℕ). min x 1000000000) h.depth) leaves in
-    capped_step kind.Scopes c.scopes (all_in s top).scopes (length (hierarchy_of s top).scopes) 50000 ((kind.Depth, c.depth, 32) ∷ (kind.Leaves, c.leaves, 50000) ∷ (kind.Inner, c.inner, 262144) ∷ [])
-    ((kind.Depth, depth s (length s.modules) top, 32) ∷ (kind.Leaves, length (hierarchy_of s top).leaves, 50000) ∷ (kind.Inner, length (hierarchy_of s top).inner, 262144) ∷ []) (omega arith) h.scopes (hierarchy-scopes s top) deep
+    let deep = over_step kind.Depth c.depth (depth s (length s.modules) top) MOST_DEPTH ((kind.Leaves, c.leaves, MOST_LEAVES) ∷ (kind.Inner, c.inner, MOST_INNER) ∷ [])
+    ((kind.Leaves, length (hierarchy_of s top).leaves, MOST_LEAVES) ∷ (kind.Inner, length (hierarchy_of s top).inner, MOST_INNER) ∷ []) (ap (nat_lt MOST_DEPTH) h.depth) (ap (λ (x : ℕ). min x MOST_TOLD) h.depth) leaves in
+    capped_step kind.Scopes c.scopes (all_in s top).scopes (length (hierarchy_of s top).scopes) MOST_SCOPES ((kind.Depth, c.depth, MOST_DEPTH) ∷ (kind.Leaves, c.leaves, MOST_LEAVES) ∷ (kind.Inner, c.inner, MOST_INNER) ∷ [])
+    ((kind.Depth, depth s (length s.modules) top, MOST_DEPTH) ∷ (kind.Leaves, length (hierarchy_of s top).leaves, MOST_LEAVES) ∷ (kind.Inner, length (hierarchy_of s top).inner, MOST_INNER) ∷ []) (omega arith) h.scopes (hierarchy-scopes s top) deep
 
 -- the top is counted
 pub top_counted : (s : Source) (order : List ℕ) (table : List Count) (top : ℕ) → HoldsAll s order → AreCounted s order (length order) table → top < length s.modules → is_stub s (module_at s top) ≡ false →
@@ -59,7 +60,7 @@ top_counted s order table top whole counted inside live =
 -- the refusal by the count of the top is that of its limits
 pub judged : (s : Source) (order items : List ℕ) (table : List Count) (top : ℕ) (x : Count) (r : Option Refusal) → HoldsAll s order → items ≡ order → AreCounted s items (length items) table → length table ≡ length s.modules →
     top < length s.modules → is_stub s (module_at s top) ≡ false → x ≡ slice_index_or table top x →
-    r ≡ over_limit ((kind.Scopes, x.scopes, 50000) ∷ (kind.Depth, x.depth, 32) ∷ (kind.Leaves, x.leaves, 50000) ∷ (kind.Inner, x.inner, 262144) ∷ []) → limit_refusal s top ≡ r
+    r ≡ over_limit ((kind.Scopes, x.scopes, MOST_SCOPES) ∷ (kind.Depth, x.depth, MOST_DEPTH) ∷ (kind.Leaves, x.leaves, MOST_LEAVES) ∷ (kind.Inner, x.inner, MOST_INNER) ∷ []) → limit_refusal s top ≡ r
 judged s order items table top x r whole same counted size inside live is e =
     let all : HoldsAll s items = subst (λ (o : List ℕ). HoldsAll s o) (sym same) whole in
     let within : top < length table = omega arith in

@@ -1,5 +1,6 @@
 -- How many scopes, leaves and inner bits stand in a module, counted without the walk.
 use Rattle.std.specs.Prelude.{◌≡◌, ◌<◌, ℕ, zero, suc, List, [], ◌∷◌, length, min, slice_index, slice_index_or}
+use Rattle.mintc_text.specs.declared.limits.TheConstants.{MOST_TOLD}
 use Rattle.mintc_netlist.specs.declared.module.Module.{Module}
 use Rattle.mintc_netlist.specs.Nets.{nets_of}
 use Rattle.mintc_hierarchy.specs.declared.targets.Target.{Target}
@@ -35,9 +36,9 @@ abbrev pub sum_parts : Source → List Target → Counts
 sum_parts s [] = counts 0 0 0
 sum_parts s (t ∷ ts) = plus (part s t) (sum_parts s ts)
 
--- counts up to 10^9
+-- counts up to the greatest that is told
 abbrev pub capped : ℕ → ℕ
-capped n = min n 1000000000
+capped n = min n MOST_TOLD
 
 -- counts and a depth as they are kept
 pub record IsCapped (c : Counts) (d : ℕ) (count : Count) : Type 0 where

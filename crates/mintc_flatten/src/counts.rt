@@ -13,12 +13,10 @@ use mintc_netlist::Module;
 use mintc_nets::Nets;
 use mintc_targets::TargetList;
 use mintc_text::OutOfMemory;
+use mintc_text::limits::MOST_TOLD;
 use std::alloc::Global;
 
-/// The greatest count.
-const MOST: u64 = 1_000_000_000;
-
-/// The counts of the hierarchy from a module. The first three are capped at 10^9.
+/// The counts of the hierarchy from a module. The first three are capped at `MOST_TOLD`.
 #[derive(Clone, Copy)]
 pub struct Count {
     pub scopes: u64,
@@ -36,7 +34,7 @@ fn part(cells: &Cells, modules: &[Module], table: &[Count], target: Target) -> C
         Target::OfCell(number) => Count {
             scopes: 0,
             leaves: 1,
-            inner: u64::from(cells.pin_count(number)).min(MOST),
+            inner: u64::from(cells.pin_count(number)).min(MOST_TOLD),
             depth: 0,
         },
         Target::OfModule(number) => table[number as usize],
@@ -51,21 +49,21 @@ fn part(cells: &Cells, modules: &[Module], table: &[Count], target: Target) -> C
 
 /// The counts so far and those of one more target.
 fn with_part(count: Count, part: Count) -> Count
-    requires scopes { count.scopes ≤ MOST }
-    requires leaves { count.leaves ≤ MOST }
-    requires inner { count.inner ≤ MOST }
-    requires more_scopes { part.scopes ≤ MOST }
-    requires more_leaves { part.leaves ≤ MOST }
-    requires more_inner { part.inner ≤ MOST }
+    requires scopes { count.scopes ≤ MOST_TOLD }
+    requires leaves { count.leaves ≤ MOST_TOLD }
+    requires inner { count.inner ≤ MOST_TOLD }
+    requires more_scopes { part.scopes ≤ MOST_TOLD }
+    requires more_leaves { part.leaves ≤ MOST_TOLD }
+    requires more_inner { part.inner ≤ MOST_TOLD }
     ensures scopes { result.scopes ≡ capped (count.scopes + part.scopes) }
     ensures leaves { result.leaves ≡ capped (count.leaves + part.leaves) }
     ensures inner { result.inner ≡ capped (count.inner + part.inner) }
     ensures depth { result.depth ≡ max count.depth part.depth }
 {
     Count {
-        scopes: (count.scopes + part.scopes).min(MOST),
-        leaves: (count.leaves + part.leaves).min(MOST),
-        inner: (count.inner + part.inner).min(MOST),
+        scopes: (count.scopes + part.scopes).min(MOST_TOLD),
+        leaves: (count.leaves + part.leaves).min(MOST_TOLD),
+        inner: (count.inner + part.inner).min(MOST_TOLD),
         depth: count.depth.max(part.depth),
     }
 }
@@ -79,7 +77,7 @@ fn items_count(
     bits: u64,
 ) -> Count
     requires counted { All (IsCounted (source_of cells.now modules.now) table.now) targets.now }
-    requires bits { bits ≤ MOST }
+    requires bits { bits ≤ MOST_TOLD }
     ensures { (own : ℕ) → bits ≡ capped own →
         IsCapped (plus (counts 1 0 own) (sum_parts (source_of cells.now modules.now) targets.now)) (greatest_depth (source_of cells.now modules.now) targets.now) result }
 {
@@ -104,7 +102,7 @@ pub fn module_count(
     bits: u64,
 ) -> Count
     requires counted { All (IsCounted (source_of cells.now modules.now) table.now) targets.now }
-    requires bits { bits ≤ MOST }
+    requires bits { bits ≤ MOST_TOLD }
     requires shallow { greatest_depth (source_of cells.now modules.now) targets.now < 2 ^ 33 }
     ensures { (own : ℕ) → bits ≡ capped own →
         IsCapped (plus (counts 1 0 own) (sum_parts (source_of cells.now modules.now) targets.now)) (greatest_depth (source_of cells.now modules.now) targets.now + 1) result }
@@ -151,14 +149,14 @@ pub fn count_modules(
     Ok(table)
 }
 
-/// How many bits the nets of each module have, capped at 10^9.
+/// How many bits the nets of each module have, capped at `MOST_TOLD`.
 pub fn net_counts(alloc: Global, modules: &[Module], nets: &[Nets]) -> Result<Vec<u64>, OutOfMemory>
     requires { nets.now ≡ map table_of modules.now }
     ensures { IfOk result (λ counts. counts.items ≡ map net_count modules.now) }
 {
     let mut counts = Vec::new(alloc);
     for table in nets {
-        let Ok(()) = counts.push(table.count().min(1_000_000_000)) else {
+        let Ok(()) = counts.push(table.count().min(MOST_TOLD)) else {
             return Err(OutOfMemory);
         };
     }

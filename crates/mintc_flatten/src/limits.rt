@@ -11,30 +11,31 @@ use mintc_cells::Cells;
 use mintc_netlist::Module;
 use mintc_nets::Nets;
 use mintc_targets::{TargetList, modules_in_order};
+use mintc_text::limits::{MOST_DEPTH, MOST_INNER, MOST_LEAVES, MOST_SCOPES, MOST_TOLD};
 use mintc_text::{Kind, Refusal, Stop};
 use std::alloc::Global;
 
 /// The refusal of a quantity that passes its limit.
 fn limit(kind: Kind, count: u64) -> Refusal
-    ensures { result ≡ Refusal.Limit kind (min count 1000000000) }
+    ensures { result ≡ Refusal.Limit kind (min count MOST_TOLD) }
 {
     Refusal::Limit {
         kind,
-        count: count.min(1_000_000_000),
+        count: count.min(MOST_TOLD),
     }
 }
 
 /// The refusal of the first quantity that passes its limit.
 fn first_limit(count: Count) -> Option<Refusal>
-    ensures { result ≡ over_limit ((kind.Scopes, count.scopes, 50000) ∷ (kind.Depth, count.depth, 32) ∷ (kind.Leaves, count.leaves, 50000) ∷ (kind.Inner, count.inner, 262144) ∷ []) }
+    ensures { result ≡ over_limit ((kind.Scopes, count.scopes, MOST_SCOPES) ∷ (kind.Depth, count.depth, MOST_DEPTH) ∷ (kind.Leaves, count.leaves, MOST_LEAVES) ∷ (kind.Inner, count.inner, MOST_INNER) ∷ []) }
 {
-    if count.scopes > 50_000 {
+    if count.scopes > MOST_SCOPES as u64 {
         Some(limit(Kind::Scopes, count.scopes))
-    } else if count.depth > 32 {
+    } else if count.depth > MOST_DEPTH as u64 {
         Some(limit(Kind::Depth, count.depth))
-    } else if count.leaves > 50_000 {
+    } else if count.leaves > MOST_LEAVES as u64 {
         Some(limit(Kind::Leaves, count.leaves))
-    } else if count.inner > 262_144 {
+    } else if count.inner > MOST_INNER as u64 {
         Some(limit(Kind::Inner, count.inner))
     } else {
         None

@@ -1,4 +1,5 @@
 use Rattle.std.proofs.Common.{◌≡◌, ◌≤◌, ℕ, take}
+use Rattle.mintc_text.specs.declared.limits.TheConstants.{MOST_TOLD}
 use Rattle.mintc_hierarchy.specs.Sources.{source_of}
 use Rattle.mintc_hierarchy.specs.Walks.{counts, plus}
 use Rattle.mintc_flatten.specs.Totals.{capped, sum_parts, IsCapped, greatest_depth}
@@ -7,8 +8,8 @@ use Rattle.mintc_flatten.proofs.counts.items_count.Given as goal
 -- the counts are those of the targets so far
 abbrev pub invariant-loop-target : goal.invariant-loop-target
 invariant-loop-target l = let s = source_of l.cells l.modules in record {
-  scopes : l.count.scopes ≤ 1000000000;
-  leaves : l.count.leaves ≤ 1000000000;
-  inner : l.count.inner ≤ 1000000000;
+  scopes : l.count.scopes ≤ MOST_TOLD;
+  leaves : l.count.leaves ≤ MOST_TOLD;
+  inner : l.count.inner ≤ MOST_TOLD;
   sums : (own : ℕ) → l.bits ≡ capped own → IsCapped (plus (counts 1 0 own) (sum_parts s (take l.target-index l.targets))) (greatest_depth s (take l.target-index l.targets)) l.count;
 }
