@@ -12,7 +12,7 @@ use Rattle.mintc_timing.specs.Paths.{ArePairs, HasExtremes, input_of}
 use Rattle.mintc_checker.specs.declared.labels.Labels.{Labels}
 use Rattle.mintc_checker.specs.Trails.{LeadsFrom, element_of, IsLabel}
 use Rattle.mintc_checker.specs.Labels.{AreLabels, label_at}
-use Rattle.mintc_checker.specs.Judged.{IsFedAt, IsFed, timing_of}
+use Rattle.mintc_checker.specs.Judged.{Decides, IsFedAt, IsFed, OfTiming, timing_of}
 use Rattle.mintc_checker.proofs.Pairing.{pair_of_trail, trail_of_pair}
 
 -- Some latch on phase j is reached from phase i.
@@ -94,3 +94,16 @@ IsFed-from_places design den d labels fed are_labels count each = record {
       (subst (λ b. IsTrue (get_or fed (8 * (i - 1) + (j - 1)) false) ↔ IsFedFrom design labels i b) place.1
       (subst (λ a. IsTrue (get_or fed (8 * (i - 1) + (j - 1)) false) ↔ IsFedFrom design labels a ((8 * (i - 1) + (j - 1)) % 8 + 1)) place.0 here));
 }
+
+-- What the table says of two phases of the design, and of a phase and the next in a row.
+pub feeding_decided : (design : Design) (fed : List Bool) (i j : ℕ) → IsFed design fed → IsPhase MOST_PHASES (length design.phases) → IsPhase (length design.phases) i → IsPhase (length design.phases) j →
+    Decides design (get_or fed (8 * (i - 1) + (j - 1)) false) (λ t. IsPhase (length design.phases) i × IsPhase (length design.phases) j × IsTrue (feeds_of t i j))
+feeding_decided design fed i j table most p q along pairs are_pairs =
+    let same = table.each i j (p.0, omega (arith, p, most)) (q.0, omega (arith, q, most)) along pairs are_pairs in
+    ((λ h. (p, q, sym same ∙ h)), (λ h. same ∙ h.2))
+
+pub fed_at : (design : Design) (fed : List Bool) (i index : ℕ) → IsFed design fed → IsPhase MOST_PHASES i → index < MOST_PHASES →
+    OfTiming design (λ t. get_or fed (8 * (i - 1) + index) false ≡ feeds_of t i (index + 1))
+fed_at design fed i index table p below along pairs are_pairs =
+    let place : (index + 1) - 1 ≡ index = omega arith in
+    subst (λ n. get_or fed (8 * (i - 1) + n) false ≡ feeds_of (timing_of design along pairs) i (index + 1)) place (table.each i (index + 1) p (omega arith, omega (arith, below)) along pairs are_pairs)

@@ -2,8 +2,6 @@
 use Rattle.std.specs.Prelude.{◌≡◌, ◌+◌, ◌-◌, ◌*◌, ◌<◌, ℕ, ℤ, pos, negsuc, neg_ℤ, ◌≤ℤ◌, IfSome, Bool, false, List, length, slice_index_or, IsTrue, IsFalse, IsSome, All, ◌↔◌, ◌*ℤ◌}
 use Rattle.mintc_text.specs.declared.limits.TheConstants.{MOST_PHASES, MOST_NUMERATOR}
 use Rattle.mintc_timing.specs.declared.parts.Pair.{Pair}
-use Rattle.mintc_timing.specs.declared.link.LinkKind.TheVariants.{Other}
-use Rattle.mintc_timing.specs.declared.link.Link.{Link}
 use Rattle.mintc_timing.specs.Clocking.{feeds_of, least_width, start_of, width_of}
 use Rattle.mintc_timing.specs.Design.{Design, Timing, phase_count}
 use Rattle.mintc_timing.specs.Limits.{IsPhase}
