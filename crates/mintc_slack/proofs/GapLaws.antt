@@ -28,7 +28,7 @@ use Rattle.mintc_slack.specs.declared.gaps.Gap.{Gap}
 use Rattle.mintc_slack.specs.declared.nearest.TheConstants.{FAR}
 use Rattle.mintc_slack.specs.Gaps.{AreDistances, AreGaps, AreInRange, ArePotentials, AreShorter, AreShortest, IsInside, gap_of}
 use Rattle.mintc_slack.specs.Answers.{AreSettled}
-use Rattle.mintc_slack.proofs.SizeLaws.{asked-small, larger}
+use Rattle.mintc_slack.proofs.SizeLaws.{asked-small}
 use Rattle.mintc_slack.proofs.WalkedLaws.{are_from}
 
 abbrev pub made : ℕ → ℕ → ℤ → Gap
@@ -240,9 +240,13 @@ settled-by t list at potentials gaps l distances values links are count inside s
           let near = short.near node (omega arith) in
           let low = near.0 in
           let high = near.1 in
-          subst (IsWithin 200000000000000000) (sym (values_at node (omega arith)))
-          (larger _ _ _ (omega arith)
-          (less-small (value_at potentials node) (value_at potentials (element_node t.flat l)) (value_at distances node) (small node (omega arith)) (small (element_node t.flat l) inside) (omega (arith, ints), omega (arith, ints))));
+          let to = small node (omega arith) in
+          let from = small (element_node t.flat l) inside in
+          let t0 = to.0 in
+          let t1 = to.1 in
+          let f0 = from.0 in
+          let f1 = from.1 in
+          subst (IsWithin 200000000000000000) (sym (values_at node (omega arith))) (omega (arith, ints), omega (arith, ints));
       from = are_from t list links at l [] values
           (record {
             count = long ∙ count;

@@ -12,7 +12,7 @@ use Rattle.mintc_timing.specs.declared.link.Link.{Link}
 use Rattle.mintc_timing.specs.Design.{Timing, element_at, element_count, pair_at, phase_of, no_element, no_pair}
 use Rattle.mintc_timing.specs.Clocking.{crosses_of}
 use Rattle.mintc_timing.specs.Limits.{IsDesign}
-use Rattle.mintc_timing.specs.Links.{links_of, delay_of, cycles_of, element_node, output_node, reach_link, start_node, IsMet, no_link, link_at}
+use Rattle.mintc_timing.specs.Links.{links_of, delay_of, cycles_of, element_node, output_node, reach_link, start_node, IsMet}
 use Rattle.mintc_timing.specs.Right.{IsRight, IsLeastCycle, IsHopeless}
 use Rattle.mintc_timing.proofs.SharedDeterminedLaws.{least_cycle_is_determined_lem}
 use Rattle.mintc_timing.proofs.SharedProducts.{add-times, swap-times, times-mono, times-mono_positive, times-cancel_positive}

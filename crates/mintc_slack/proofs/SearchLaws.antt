@@ -10,7 +10,6 @@ use Rattle.mintc_timing.specs.Design.{Timing}
 use Rattle.mintc_timing.specs.Limits.{IsDesign}
 use Rattle.mintc_timing.specs.Links.{IsChain, links_of, IsMet, IsStuck}
 use Rattle.mintc_timing.specs.Right.{IsHopeless, IsLeastCycle}
-use Rattle.mintc_constraints.specs.Duality.{moments_of}
 use Rattle.mintc_timing.specs.Paths.{HasEnds}
 use Rattle.mintc_constraints.specs.Ordinary.{Constraints, IsOrdinary}
 use Rattle.mintc_constraints.specs.Rooms.{Space}
@@ -18,7 +17,6 @@ use Rattle.mintc_timing.specs.Times.{node_time}
 use Rattle.mintc_timing.proofs.SharedMeetingLaws.{right_meets_links_lem}
 use Rattle.mintc_constraints.proofs.SharedChainLaws.{met_chains_fit_lem, stuck_is_hopeless_lem, tight_fits_no_less_lem}
 use Rattle.mintc_constraints.proofs.SharedExistenceLaws.{feasible_has_right_lem}
-use Rattle.mintc_constraints.proofs.SharedRightLaws.{right_has_moments_lem}
 use Rattle.mintc_ratio.specs.declared.searching.Outcome.{Outcome}
 use Rattle.mintc_ratio.specs.declared.searching.Outcome.TheVariants.{Least}
 use Rattle.mintc_ratio.specs.Chains.{NamesChain, links_at}

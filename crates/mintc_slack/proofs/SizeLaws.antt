@@ -1,5 +1,5 @@
 -- Numerators at a cycle time of the search are small.
-use Rattle.std.proofs.Common.{◌≡◌, ℕ, zero, suc, ◌≤◌, ◌*◌, ℤ, pos, negsuc, ◌≤ℤ◌, ◌+ℤ◌, ◌*ℤ◌, arith, w64, to_z, of_z, unsigned_abs}
+use Rattle.std.proofs.Common.{◌≡◌, ℕ, zero, suc, ◌≤◌, ◌*◌, ℤ, pos, negsuc, ◌≤ℤ◌, ◌+ℤ◌, ◌-ℤ◌, ◌*ℤ◌, arith, w64, to_z, of_z, unsigned_abs}
 use Rattle.std.specs.Int.{w128}
 use Rattle.std.proofs.lemmas.Int.{ints, to_z-of_z, by_lt_z}
 use Rattle.mintc_fraction.specs.Ratio.{Ratio, over, IsFloor}
@@ -28,7 +28,10 @@ asked-small cycle k is delay laps =
     (omega (arith, ints), omega (arith, ints))
 
 -- numbers that are read from 128 bits and from 64
-pub read_wide : (x : ℤ) → IsWithin 1000000000000000000 x → to_z w128 (of_z w128 x) ≡ x
+abbrev pub wide : ℤ → ℤ
+wide x = to_z w128 (of_z w128 x)
+
+pub read_wide : (x : ℤ) → IsWithin 1000000000000000000 x → wide x ≡ x
 read_wide x h = to_z-of_z w128 x (omega (arith, ints))
 
 abbrev pub narrow : ℤ → ℤ
@@ -39,6 +42,13 @@ read_narrow x h = to_z-of_z w64 x (omega (arith, ints))
 
 pub larger : (a b : ℕ) (x : ℤ) → a ≤ b → IsWithin a x → IsWithin b x
 larger a b x h k = (omega (arith, ints), omega (arith, ints))
+
+pub less-read : (x y z : ℤ) → IsWithin 30000000000000000 x → IsWithin 30000000000000000 y → IsWithin 100000000000000000 z → wide x -ℤ wide y -ℤ wide z ≡ x -ℤ y -ℤ z
+less-read x y z a b c =
+    let first = read_wide x (larger _ _ x (omega arith) a) in
+    let second = read_wide y (larger _ _ y (omega arith) b) in
+    let third = read_wide z (larger _ _ z (omega arith) c) in
+    omega (arith, ints)
 
 -- the greatest whole number at most a fraction
 times-one : (x : ℤ) → x *ℤ pos 1 ≡ x

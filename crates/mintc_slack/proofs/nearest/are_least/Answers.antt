@@ -5,7 +5,6 @@ use Rattle.std.proofs.lemmas.List.{get_or_default}
 use Rattle.mintc_walks.specs.Walks.{value_at}
 use Rattle.mintc_slack.specs.declared.gaps.Gap.{Gap}
 use Rattle.mintc_slack.proofs.GapLaws.{far_is, made}
-use Rattle.mintc_slack.proofs.SizeLaws.{read_narrow}
 use Rattle.mintc_slack.proofs.nearest.are_least.Goals as goal
 
 pub loop-gap-preserved : goal.loop-gap-preserved
@@ -25,7 +24,7 @@ loop-gap-preserved c k d h =
     let rest' = inside.high in
     let far = far_is in
     let sum = c.sum.ensures in
-    let is = c.if-sum-index.false in
+    let is = c.if-sum-distances.false in
     let here : P g = omega (arith, ints) in
     subst (λ (n : ℕ). P (get_or gaps n d)) (sym e) (subst P (sym (get_or_default gaps i d (made 0 0 (pos 0)) below)) here))
     (λ (e : k ≡ i → ⊥). c.loop-gap.invariant k d (omega arith))

@@ -8,6 +8,9 @@ use Rattle.mintc_slack.proofs.GapLaws.{begun-distances, far_is, shorter-on}
 use Rattle.mintc_slack.proofs.SizeLaws.{read_narrow}
 use Rattle.mintc_slack.proofs.walked.measure.Goals as goal
 
+pub are_least-requires-clause-range : goal.are_least-requires-clause-range
+are_least-requires-clause-range c = rw c.deref-then-index-lt-FAR-2.ensures.value (c.bring_home.ensures.shorter c.args.walker.now.gaps.items).range
+
 pub returns-then-index-lt-FAR-clause-shortest : goal.returns-then-index-lt-FAR-clause-shortest
 returns-then-index-lt-FAR-clause-shortest c =
     OnTrue_from c.are_least.result _ (λ is.

@@ -5,21 +5,8 @@ use Rattle.mintc_constraints.specs.Rooms.{Space}
 use Rattle.mintc_walks.specs.Bounds.{IsWithin}
 use Rattle.mintc_walks.specs.Walks.{value_at}
 use Rattle.mintc_slack.proofs.GapLaws.{far_is, room-kept, written}
-use Rattle.mintc_slack.proofs.SizeLaws.{less-fits, less-read, read_narrow}
+use Rattle.mintc_slack.proofs.SizeLaws.{larger, less-read, read_narrow, read_wide}
 use Rattle.mintc_slack.proofs.walked.write.Goals as goal
-
-pub overflow_sub-potentials-in-loop-node : goal.overflow_sub-potentials-in-loop-node
-overflow_sub-potentials-in-loop-node c =
-    let i = c.loop-node.node in
-    let below : i < length c.args.distances.now = (let test = c.loop-node-test.true in omega arith) in
-    let range = c.requires.range i below in
-    let far = far_is in
-    let low = range.0 in
-    let high = range.1 in
-    let from_is : c.from.result ≡ value_at c.args.distances.now i = c.from.ensures ∙ read_narrow (value_at c.args.distances.now i) (omega (arith, ints), omega (arith, ints)) in
-    let a : IsWithin 100000000000000000 c.from.result = (omega (arith, ints), omega (arith, ints)) in
-    less-fits (value_at c.args.potentials.now i) (value_at c.args.potentials.now c.args.from) c.from.result
-    (c.requires.small i (let n = c.requires.count in omega arith)) (c.requires.small c.args.from (let n = c.requires.count in let f = c.requires.inside in omega arith)) a
 
 pub loop-node-preserved : goal.loop-node-preserved
 loop-node-preserved c =
@@ -31,7 +18,7 @@ loop-node-preserved c =
     let high = range.1 in
     let from_is : c.from.result ≡ value_at c.args.distances.now i = c.from.ensures ∙ read_narrow (value_at c.args.distances.now i) (omega (arith, ints), omega (arith, ints)) in
     let a : IsWithin 100000000000000000 c.from.result = (omega (arith, ints), omega (arith, ints)) in
-    let is = less-read (value_at c.args.potentials.now i) (value_at c.args.potentials.now c.args.from) c.from.result
+    let is = read_wide c.less-value.result (larger _ _ _ (omega arith) c.less-value.ensures.small) ∙ c.less-value.ensures.value ∙ less-read (value_at c.args.potentials.now i) (value_at c.args.potentials.now c.args.from) c.from.result
     (c.requires.small i (let n = c.requires.count in omega arith)) (c.requires.small c.args.from (let n = c.requires.count in let f = c.requires.inside in omega arith)) a in
     let values_are = ap (λ (r : Space). r.values) c.set_values.ensures in
     let count = c.loop-node.invariant.1 in (
