@@ -1,5 +1,5 @@
 -- The links of each corner in turn are those of all corners side by side.
-use Rattle.std.proofs.Common.{◌≡◌, ℕ, zero, suc, ◌<◌, ◌+◌, ◌*◌, ℤ, List, [], ◌∷◌, length, get_or, map, arith, sym, subst, zero-add}
+use Rattle.std.proofs.Common.{◌≡◌, ℕ, zero, suc, ◌<◌, ◌+◌, ◌*◌, ℤ, List, [], ◌∷◌, length, get_or, map, arith}
 use Rattle.std.specs.List.{All, Contains}
 use Rattle.std.proofs.lemmas.List.Elements.{All-append, All-contains_itself, All-map, All-nil, Contains-append_left, Contains-append_right}
 use Rattle.mintc_timing.specs.declared.link.Link.{Link}

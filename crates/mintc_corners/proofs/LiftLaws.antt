@@ -1,5 +1,5 @@
 -- The links of a corner, numbered among those of all, are links of all corners side by side.
-use Rattle.std.proofs.Common.{◌≡◌, ℕ, zero, suc, ◌<◌, ◌≤◌, ◌+◌, ◌-◌, ◌*◌, ◌==◌, ℤ, pos, ◌≤ℤ◌, ◌+ℤ◌, ◌-ℤ◌, neg_ℤ, Bool, true, false, cond, List, [], ◌∷◌, length, get_or, map, arith, refl, ap, ◌∙◌, sym, subst, ⊎_elim, zero-add, length-append, Option, Some, None}
+use Rattle.std.proofs.Common.{◌≡◌, ℕ, zero, suc, ◌<◌, ◌≤◌, ◌+◌, ◌-◌, ◌*◌, ◌==◌, ℤ, pos, ◌+ℤ◌, ◌-ℤ◌, neg_ℤ, Bool, true, false, cond, List, [], ◌∷◌, length, get_or, map, arith, refl, ap, ◌∙◌, sym, subst, ⊎_elim, zero-add, length-append, Option, Some, None}
 use Rattle.std.specs.Int.{int_max}
 use Rattle.std.specs.List.{filter}
 use Rattle.std.proofs.lemmas.Bool.{cases_lt}
@@ -26,7 +26,7 @@ use Rattle.mintc_certificate.specs.declared.members.Member.{Member}
 use Rattle.mintc_certificate.specs.declared.members.Member.TheVariants as member
 use Rattle.mintc_certificate.specs.Valid.{IsMember, link_of, no_bound}
 use Rattle.mintc_corners.specs.CornerOptimum.{IsOfClock, corner_of}
-use Rattle.mintc_corners.specs.Joined.{lifted_delay, lifted_kind, lifted_link, lifted_node, widest}
+use Rattle.mintc_corners.specs.Joined.{lifted_link, lifted_node, widest}
 use Rattle.mintc_corners.specs.Joint.{AreCorners, beside, shifted_pair, side_by_side}
 use Rattle.mintc_corners.specs.Laws.{AreBeside, AreSystems}
 use Rattle.mintc_corners.proofs.JointLaws.{bounds-same, differ-from, phases_are}
@@ -38,8 +38,11 @@ before_one count [] c = 0
 before_one count (t ∷ ts) zero = 0
 before_one count (t ∷ ts) (suc c) = count t + before_one count ts c
 
+abbrev pub elements_in : Timing → ℕ
+elements_in t = element_count t.flat
+
 abbrev pub elements_before : List Timing → ℕ → ℕ
-elements_before ts c = before_one element_count ts.flat c
+elements_before ts c = before_one elements_in ts c
 
 abbrev pair_count : Timing → ℕ
 pair_count t = length t.pairs
@@ -274,7 +277,7 @@ module _ (t : Timing) (ts : List Timing) (are : AreCorners (t ∷ ts)) (systems 
         rw (at.0, at.1, at.2) (reach_is (pair_at own m).from (pair_at own m).to (pair_at own m).max ends.0 ends.1)
 
     among_elements : (l : ℕ) → l < element_count own.flat → off + l < element_count big.flat
-    among_elements l h = among_all element_count elements_sum.flat t ts c l t below h
+    among_elements l h = among_all elements_in elements_sum t ts c l t below h
 
     -- what holds of each link of all, holds of each of the corner, as it is numbered among all
     pub one_of_all : (P : Link → Type 0) → EachKind big P → EachKind own (λ k. P (lifted c k))
@@ -304,7 +307,7 @@ module _ (t : Timing) (ts : List Timing) (are : AreCorners (t ∷ ts)) (systems 
     in_first p h = in_one 0 (omega arith) p h
 
     by_element : (Q : ℕ → Type 0) → ((c : ℕ) (below : c < length (t ∷ ts)) (l : ℕ) → l < element_count (corner_of t ts c).flat → Q (elements_before (t ∷ ts) c + l)) → (x : ℕ) → x < element_count big.flat → Q x
-    by_element Q holds x h = let at = of_one element_count elements_sum.flat t ts x t h in subst Q at.4 (holds at.0 at.1 at.2 at.3)
+    by_element Q holds x h = let at = of_one elements_in elements_sum t ts x t h in subst Q at.4 (holds at.0 at.1 at.2 at.3)
 
     pub all_of_each : EachKind big P
     all_of_each = record {

@@ -1,5 +1,5 @@
 -- The turns of the loops over corners.
-use Rattle.std.proofs.Common.{◌≡◌, ℕ, suc, ◌<◌, ◌≤◌, ◌+◌, ◌-◌, ◌*◌, ℤ, pos, ◌≤ℤ◌, List, [], ◌∷◌, ◌++◌, length, get_or, map, take, drop, arith, refl, ap, ◌∙◌, sym, subst, append_assoc, length-append}
+use Rattle.std.proofs.Common.{◌≡◌, ℕ, ◌<◌, ◌≤◌, ◌+◌, ◌*◌, ℤ, pos, ◌≤ℤ◌, List, [], ◌∷◌, ◌++◌, length, get_or, map, take, drop, arith, refl, ap, ◌∙◌, sym, subst, append_assoc, length-append}
 use Rattle.std.specs.List.{All, Contains, flat_map}
 use Rattle.std.specs.Int.{int_max}
 use Rattle.std.proofs.lemmas.Grind.{flat_map-append}

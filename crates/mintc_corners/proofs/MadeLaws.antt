@@ -1,5 +1,5 @@
 -- What is made of the answer of a search over the joint links is a corner certificate.
-use Rattle.std.proofs.Common.{◌≡◌, ◌≢◌, ℕ, ◌≤◌, ◌+◌, ◌*◌, ℤ, List, [], ◌∷◌, ◌++◌, length, take, drop, arith, refl, ap, sym, ◌∙◌, subst}
+use Rattle.std.proofs.Common.{◌≡◌, ◌≢◌, ℕ, ◌≤◌, ◌+◌, ◌*◌, ℤ, List, [], ◌∷◌, length, arith, refl, ap, sym, ◌∙◌, subst}
 use Rattle.std.specs.List.{All, AllPairs, Contains, flat_map}
 use Rattle.std.proofs.lemmas.List.{append-nil, length-map}
 use Rattle.mintc_fraction.specs.Ratio.{Ratio}
@@ -29,7 +29,7 @@ use Rattle.mintc_optimise.proofs.SharedSayingLaws.{are_sayable}
 use Rattle.mintc_optimise.proofs.SharedWalkedLaws.{exact_moments}
 use Rattle.mintc_corners.specs.declared.members.CornerMember.{CornerMember}
 use Rattle.mintc_corners.specs.declared.certificate.CornerCertificate.TheVariants.{Least, Never}
-use Rattle.mintc_corners.specs.CornerOptimum.{AreDeparturesInRange, EntersOnce, IsCornerChainInRange, IsCornerOptimum, all_departures, IsCornerRing, link_of_corner, links_of_corners}
+use Rattle.mintc_corners.specs.CornerOptimum.{AreDeparturesInRange, EntersOnce, IsCornerChainInRange, IsCornerOptimum, IsCornerRing, link_of_corner, links_of_corners}
 use Rattle.mintc_corners.specs.Joined.{departures_after, departures_of_all, joined_links, own_values, AreSayableOfAll, AreStanding}
 use Rattle.mintc_corners.specs.Joint.{AreCorners, AreJointlyRight, joint_links_of, joint_nodes, side_by_side}
 use Rattle.mintc_corners.specs.Laws.{AreBeside, AreSystems}

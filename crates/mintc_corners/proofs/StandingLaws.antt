@@ -1,5 +1,5 @@
 -- The member that stands for a joint link.
-use Rattle.std.proofs.Common.{◌≡◌, ℕ, suc, ◌<◌, ◌≤◌, ◌+◌, ◌*◌, ℤ, List, [], ◌∷◌, ◌++◌, length, get_or, take, arith, ap, ◌∙◌, sym, subst}
+use Rattle.std.proofs.Common.{◌≡◌, ℕ, ◌<◌, ◌≤◌, ◌+◌, ◌*◌, ℤ, List, [], ◌∷◌, ◌++◌, length, get_or, take, arith, ap, ◌∙◌, sym, subst}
 use Rattle.std.specs.List.{Contains}
 use Rattle.std.proofs.lemmas.Int.{ints}
 use Rattle.std.proofs.lemmas.List.{take_more, map-append}
@@ -9,7 +9,7 @@ use Rattle.mintc_timing.specs.declared.link.LinkKind.TheVariants as kind
 use Rattle.mintc_timing.specs.declared.parts.Bound.{Bound}
 use Rattle.mintc_timing.specs.Design.{Timing, no_pair, pair_at, phase_count}
 use Rattle.mintc_timing.specs.Limits.{IsDesign, IsPhase}
-use Rattle.mintc_timing.specs.Links.{links_of, opening_link, opened_link, reach_link, setup_link, link_at}
+use Rattle.mintc_timing.specs.Links.{links_of, link_at}
 use Rattle.mintc_timing.specs.Order.{IsTiming}
 use Rattle.mintc_timing.specs.Paths.{IsGreatestDelay, greatest_delay, input_of}
 use Rattle.mintc_ratio.specs.Chains.{links_at}

@@ -1,5 +1,5 @@
 -- What a corner certificate must be: when a chain of joint links shows what it claims, and what more it keeps.
-use Rattle.std.specs.Prelude.{◌≡◌, ◌<◌, ◌*◌, ◌+◌, ℕ, zero, suc, pos, ◌*ℤ◌, ◌<ℤ◌, ◌≤ℤ◌, List, ◌∷◌, length, slice_index_or, map, All, ◌≢◌, ◌≤◌, ℤ, [], flat_map, AllPairs}
+use Rattle.std.specs.Prelude.{◌<◌, ◌*◌, ◌+◌, ℕ, zero, suc, List, ◌∷◌, length, slice_index_or, map, All, ◌≢◌, ◌≤◌, ℤ, [], flat_map, AllPairs}
 use Rattle.mintc_text.specs.declared.limits.TheConstants.{MOST_MEMBERS}
 use Rattle.mintc_timing.specs.declared.clocking.Schedule.{Schedule}
 use Rattle.mintc_timing.specs.declared.link.Link.{Link}
