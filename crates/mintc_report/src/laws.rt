@@ -3,6 +3,7 @@ ghost use Rattle.mintc_report.specs.Laws.{AnswersAreDetermined, ViolationsNamePa
 
 /// Departures have one text of a pass, violations one text of a fail, and a certificate one text of a report. Verdicts
 /// with one text are equal.
+#[tactic(auto, using(crate::proofs::DeterminedLaws::answers_are_determined_lem))]
 pub fn answers_are_determined()
     ensures { AnswersAreDetermined }
 {}
