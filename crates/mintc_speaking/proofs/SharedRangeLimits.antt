@@ -1,9 +1,10 @@
 -- What is said lies within its limits.
-use Rattle.std.proofs.Common.{◌≡◌, ◌==◌, ℕ, ℤ, pos, negsuc, ◌≤ℤ◌, Bool, true, false, cond, List, [], ◌∷◌, ◌++◌, map, All, Option, Some, None, option_map, refl, sym, subst, arith, ◌⊎◌, ⊎_elim, inl, inr}
+use Rattle.std.proofs.Common.{◌≡◌, ◌==◌, ℕ, ℤ, pos, neg_ℤ, ◌≤ℤ◌, Bool, true, false, cond, List, [], ◌∷◌, ◌++◌, map, All, Option, Some, None, option_map, refl, sym, subst, arith, ◌⊎◌, ⊎_elim, inl, inr}
 use Rattle.std.proofs.lemmas.Int.{ints, int_min_is, int_max_is}
 use Rattle.std.proofs.lemmas.List.Elements.{All-head, All-tail}
 use Rattle.std.specs.Int.{int_min, int_max}
 use Rattle.std.specs.Prelude.{int_lt}
+use Rattle.mintc_text.specs.declared.limits.TheConstants.{MOST_DELAY}
 use Rattle.mintc_cells.specs.declared.cell.Cell.{Cell}
 use Rattle.mintc_cells.specs.declared.cell.Cell.TheVariants.{Gate, Latch, Flop, Clock}
 use Rattle.mintc_hierarchy.specs.declared.hierarchy.Hierarchy.{Hierarchy}
@@ -21,10 +22,10 @@ use Rattle.mintc_speaking.specs.Speaking.{Matter, path_on, join_into, arcs_from,
 
 -- a delay in femtoseconds, and a time that may be negative
 abbrev pub IsDelay : ℤ → Type 0
-IsDelay x = (pos 0 ≤ℤ x) × (x ≤ℤ pos 1000000000)
+IsDelay x = (pos 0 ≤ℤ x) × (x ≤ℤ MOST_DELAY)
 
 abbrev pub IsGap : ℤ → Type 0
-IsGap x = (negsuc 999999999 ≤ℤ x) × (x ≤ℤ pos 1000000000)
+IsGap x = (neg_ℤ MOST_DELAY ≤ℤ x) × (x ≤ℤ MOST_DELAY)
 
 -- the limits of the numbers that speak of a matter
 abbrev pub IsOf : Matter → ℤ → Type 0
@@ -100,7 +101,7 @@ same_limits (width_of a0) (width_of b0) x e h = h
 
 -- the numbers of a subject
 abbrev pub IsFor : Subject → ℤ → Type 0
-IsFor s x = (lowest s ≤ℤ x) × (x ≤ℤ pos 1000000000)
+IsFor s x = (lowest s ≤ℤ x) × (x ≤ℤ MOST_DELAY)
 
 -- what a subject's numbers may speak of
 abbrev pub Fit : Subject → List Matter → Type 0
