@@ -9,6 +9,7 @@ use Rattle.std.proofs.lemmas.List.{length-map, get_or_past}
 use Rattle.std.proofs.lemmas.List.FromFn.{length-range_with_len}
 use Rattle.std.proofs.lemmas.List.Sums.{sum_by-append, length-filter, count_by-le-length, AllPass-from_list_all}
 use Rattle.std.proofs.lemmas.Slice.Zip.{AllZip-long}
+use Rattle.mintc_text.specs.declared.limits.TheConstants.{MOST_ELEMENTS, MOST_LEAVES}
 use Rattle.mintc_text.specs.Stops.{StopsAt}
 use Rattle.mintc_text.specs.declared.refusals.Kind.{Kind}
 use Rattle.mintc_text.specs.declared.refusals.Refusal.{Refusal}
@@ -133,12 +134,12 @@ third_test false true c x y z rest f e = absurd (cc)
 third_test false false true x y z rest f e = absurd (cc)
 third_test false false false x y z rest f e = refl
 
-pub few_elements : (inner phases elements arcs bounds : ℕ) → over_limit (quantities inner phases elements arcs bounds) ≡ None → elements ≤ 2000
+pub few_elements : (inner phases elements arcs bounds : ℕ) → over_limit (quantities inner phases elements arcs bounds) ≡ None → elements ≤ MOST_ELEMENTS
 few_elements inner phases elements arcs bounds none =
     let test = third_test (nat_lt 262144 inner) (nat_lt 8 phases) (nat_lt 2000 elements) _ _ _ _ _ none in
     grind (arith, nat_tests, test)
 
-pub few_stored : (h : Hierarchy) (cells : CellTable) (spots : List Spot) (phases : List ℕ) → length h.leaves ≤ 50000 → AreTraced h cells spots phases → length phases ≤ 50000
+pub few_stored : (h : Hierarchy) (cells : CellTable) (spots : List Spot) (phases : List ℕ) → length h.leaves ≤ MOST_LEAVES → AreTraced h cells spots phases → length phases ≤ MOST_LEAVES
 few_stored h cells spots phases few traced =
     let same = AllZip-long (IsPhaseOf h cells spots) (storage h cells) phases traced in
     let count = length-filter (stored h cells) (all_leaves h) in

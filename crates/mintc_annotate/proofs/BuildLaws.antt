@@ -7,6 +7,7 @@ use Rattle.std.proofs.lemmas.List.FromFn.{map-range_with_len_more, length-range_
 use Rattle.std.proofs.lemmas.List.Sums.{count_by_more_yes, count_by_more_no, sum_by-append}
 use Rattle.std.proofs.lemmas.Slice.Zip.{length-zip}
 use Rattle.std.proofs.lemmas.Grind.{flat_map-append}
+use Rattle.mintc_text.specs.declared.limits.TheConstants.{MOST_INNER}
 use Rattle.mintc_cells.specs.declared.cell.Cell.TheVariants.{Gate}
 use Rattle.mintc_cells.specs.Entries.{cell_at}
 use Rattle.mintc_hierarchy.specs.declared.hierarchy.Hierarchy.{Hierarchy}
@@ -195,7 +196,7 @@ bits_there h output listed ls ports xs ys names a b c d shape so places =
     let bit : (get_or xs k e).bit < length h.inner = subst (λ (y : Listed × ℕ). y.1 < length h.inner) (get_or-map (with_port ls) xs k e (with_port ls e) less) (bits k (with_port ls e) (omega (arith, less, length-map xs (with_port ls)))) in
     (omega (arith, place, ap length b), omega (arith, bit, inner)))
 
-pub bits_small : (n m : ℕ) (xs : List ListedBit) → m ≤ 262144 → All (IsListedBit n m) xs → All (λ x. x.bit < 262144) xs
+pub bits_small : (n m : ℕ) (xs : List ListedBit) → m ≤ MOST_INNER → All (IsListedBit n m) xs → All (λ x. x.bit < MOST_INNER) xs
 bits_small n m xs few all = λ k e less. let bit = (all k e less).1 in omega (arith, bit, few)
 
 pub bits_same : (h : Hierarchy) (output : Bool) (listed ls : List Listed) (ports : List TopPort) (xs ys : List ListedBit) → ports ≡ h.ports → ls ≡ listed → ys ≡ xs → map (with_port ls) xs ≡ bits_in ports output ls → map (with_port listed) ys ≡ bits_of h output listed

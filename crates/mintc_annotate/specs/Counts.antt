@@ -1,5 +1,6 @@
 -- Counts of arcs, and listed bits by the places of their ports.
 use Rattle.std.specs.Prelude.{◌<◌, ◌≤◌, ℕ, ◌+◌, ◌*◌, ℤ, pos, false, List, [], length, slice_index_or, sum_by}
+use Rattle.mintc_text.specs.declared.limits.TheConstants.{MOST_ELEMENTS, MOST_INNER}
 use Rattle.mintc_cells.specs.declared.cell.Cell.{Cell}
 use Rattle.mintc_cells.specs.declared.cell.Cell.TheVariants.{Gate, Latch, Flop, Clock}
 use Rattle.mintc_hierarchy.specs.declared.hierarchy.Hierarchy.{Hierarchy}
@@ -40,5 +41,5 @@ gate_at elements leaf first default inputs outputs = record { elements = element
 
 -- its numbers are as small as those of a design within its limits
 pub record IsSmall (gate : GateAt) : Type 0 where
-  pub elements : gate.elements ≤ 2000
-  pub pins : gate.first + (gate.inputs + gate.outputs) ≤ 262144
+  pub elements : gate.elements ≤ MOST_ELEMENTS
+  pub pins : gate.first + (gate.inputs + gate.outputs) ≤ MOST_INNER

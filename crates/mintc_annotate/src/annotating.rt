@@ -1,5 +1,6 @@
 //! The design of files.
 ghost use Rattle.std.specs.Prelude.{◌≡◌, ◌<◌, ◌≤◌, ◌+◌, ℕ, List, length, map, min, true, false, None, All, IfOk, MatchResult};
+ghost use Rattle.mintc_text.specs.declared.limits.TheConstants.{MOST_ELEMENTS, MOST_INNER, MOST_LEAVES, MOST_TOLD};
 ghost use Rattle.mintc_text.specs.Stops.{StopsAt};
 ghost use Rattle.mintc_hierarchy.specs.Shape.{IsFlattened, IsGivenHierarchy};
 ghost use Rattle.mintc_timing.specs.Limits.{HasParts, over_limit, quantities, limit_of};
@@ -37,10 +38,10 @@ fn limit(
     outputs: u64,
 ) -> Option<Refusal>
     requires shape { IsFlattened cells.now hierarchy.now }
-    requires stored { stored ≤ 50000 }
-    requires inputs { inputs ≤ 1000000000 }
-    requires outputs { outputs ≤ 1000000000 }
-    ensures { (i o : ℕ) → inputs ≡ min i 1000000000 → outputs ≡ min o 1000000000 → result ≡ over_limit (quantities (length hierarchy.now.inner) (length clock.now.phases) (stored + i + o)
+    requires stored { stored ≤ MOST_LEAVES }
+    requires inputs { inputs ≤ MOST_TOLD }
+    requires outputs { outputs ≤ MOST_TOLD }
+    ensures { (i o : ℕ) → inputs ≡ min i MOST_TOLD → outputs ≡ min o MOST_TOLD → result ≡ over_limit (quantities (length hierarchy.now.inner) (length clock.now.phases) (stored + i + o)
         (length hierarchy.now.joins + leaf_arc_count hierarchy.now cells.now + i + o) (length clock.now.bounds)) }
 {
     let elements = stored as u64 + inputs + outputs;
@@ -94,9 +95,9 @@ fn arcs(
 ) -> Result<Vec<TimingArc>, OutOfMemory>
     requires shape { IsFlattened cells.now hierarchy.now }
     requires stored { stored ≡ length (storage hierarchy.now cells.now) }
-    requires few { stored + length inputs.now + length outputs.now ≤ 2000 }
-    requires inputs { All (λ x. x.bit < 262144) inputs.now }
-    requires outputs { All (λ x. x.bit < 262144) outputs.now }
+    requires few { stored + length inputs.now + length outputs.now ≤ MOST_ELEMENTS }
+    requires inputs { All (λ x. x.bit < MOST_INNER) inputs.now }
+    requires outputs { All (λ x. x.bit < MOST_INNER) outputs.now }
     ensures { (ins outs : List Listed) → IfOk result (λ v. v.items ≡ arcs_with hierarchy.now cells.now (look ranges.now) (map (with_port ins) inputs.now) (map (with_port outs) outputs.now)) }
 {
     let first_output = stored + inputs.len() as u32;
@@ -145,7 +146,7 @@ fn build(
     requires shape { IsFlattened cells.now hierarchy.now }
     requires names { names.items ≡ all_names hierarchy.now }
     requires phases { length phases.now ≡ length (storage hierarchy.now cells.now) }
-    requires few { length phases.now + length (bits_of hierarchy.now false clock.now.inputs) + length (bits_of hierarchy.now true clock.now.outputs) ≤ 2000 }
+    requires few { length phases.now + length (bits_of hierarchy.now false clock.now.inputs) + length (bits_of hierarchy.now true clock.now.outputs) ≤ MOST_ELEMENTS }
     requires parts { HasParts (design_with hierarchy.now cells.now clock.now (look ranges.now) phases.now) }
     requires within { limit_of (design_with hierarchy.now cells.now clock.now (look ranges.now) phases.now) ≡ None }
     ensures { MatchResult result (λ flat. flat ≡ design_with hierarchy.now cells.now clock.now (look ranges.now) phases.now) (StopsAt (λ refused. ⊥)) }

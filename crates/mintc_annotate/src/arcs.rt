@@ -1,6 +1,7 @@
 //! The arcs of a design.
 ghost use Rattle.std.specs.Prelude.{◌≡◌, ◌<◌, ◌≤◌, ◌+◌, ◌++◌, ◌∷◌, [], List, length, map, flat_map, true, All, OnOk};
 ghost use Rattle.std.specs.List.{range_with_len};
+ghost use Rattle.mintc_text.specs.declared.limits.TheConstants.{MOST_ELEMENTS, MOST_INNER};
 ghost use Rattle.mintc_hierarchy.specs.Shape.{IsFlattened};
 ghost use Rattle.mintc_speaking.specs.Pins.{leaf_cell, all_leaves, is_storage};
 ghost use Rattle.mintc_clock.specs.declared.clock.Listed.{Listed};
@@ -31,8 +32,8 @@ struct GateAt {
 
 /// An inner bit as a bit of a design of so many elements.
 fn inner_bit(elements: u32, bit: u32) -> u32
-    requires elements { elements ≤ 2000 }
-    requires bit { bit ≤ 262144 }
+    requires elements { elements ≤ MOST_ELEMENTS }
+    requires bit { bit ≤ MOST_INNER }
     ensures { result ≡ inner_bit elements bit }
 {
     2 * elements + bit
@@ -63,8 +64,8 @@ pub(crate) fn push_joins(
     elements: u32,
     joins: &[Join],
 ) -> Result<(), OutOfMemory>
-    requires elements { elements ≤ 2000 }
-    requires joins { All (λ j. (j.from < 262144) × (j.to < 262144)) joins.now }
+    requires elements { elements ≤ MOST_ELEMENTS }
+    requires joins { All (λ j. (j.from < MOST_INNER) × (j.to < MOST_INNER)) joins.now }
     ensures { OnOk result (found.new.items ≡ found.old.items ++ map (join_arc (look ranges.now) elements) joins.now) }
 {
     for number in 0..joins.len() {
@@ -126,9 +127,9 @@ fn push_pins(
     inputs: u32,
     outputs: u32,
 ) -> Result<(), OutOfMemory>
-    requires elements { elements ≤ 2000 }
-    requires element { element < 2000 }
-    requires pins { first + (inputs + outputs) ≤ 262144 }
+    requires elements { elements ≤ MOST_ELEMENTS }
+    requires element { element < MOST_ELEMENTS }
+    requires pins { first + (inputs + outputs) ≤ MOST_INNER }
     ensures { OnOk result (found.new.items ≡ found.old.items ++ map (λ o. arc_of (output_of element) (inner_bit elements (first + o)) no_delay) (range_with_len inputs outputs)) }
 {
     for number in 0..outputs {
@@ -151,9 +152,9 @@ fn push_stored(
     inputs: u32,
     outputs: u32,
 ) -> Result<(), OutOfMemory>
-    requires elements { elements ≤ 2000 }
-    requires element { element < 2000 }
-    requires pins { first + (inputs + outputs) ≤ 262144 }
+    requires elements { elements ≤ MOST_ELEMENTS }
+    requires element { element < MOST_ELEMENTS }
+    requires pins { first + (inputs + outputs) ≤ MOST_INNER }
     ensures { OnOk result (found.new.items ≡ found.old.items ++ (arc_of (inner_bit elements (first + 0)) (input_of element) no_delay ∷ map (λ o. arc_of (output_of element) (inner_bit elements (first + o)) no_delay) (range_with_len inputs outputs))) }
 {
     push_arc(found, inner_bit(elements, first), 2 * element, (0, 0))?;
@@ -162,7 +163,7 @@ fn push_stored(
 
 /// How many pins these names are.
 fn count(names: &Names) -> u32
-    requires { length names.now ≤ 262144 }
+    requires { length names.now ≤ MOST_INNER }
     ensures { result ≡ length names.now }
 {
     names.items().len() as u32
@@ -178,8 +179,8 @@ fn gate_at(
     inputs: &Names,
     outputs: &Names,
 ) -> GateAt
-    requires inputs { length inputs.now ≤ 262144 }
-    requires outputs { length outputs.now ≤ 262144 }
+    requires inputs { length inputs.now ≤ MOST_INNER }
+    requires outputs { length outputs.now ≤ MOST_INNER }
     ensures { result ≡ gate_at elements leaf first (min.now, max.now) (length inputs.now) (length outputs.now) }
 {
     GateAt {
@@ -203,10 +204,10 @@ fn push_leaf(
     element: u32,
 ) -> Result<(), OutOfMemory>
     requires shape { IsFlattened cells.now hierarchy.now }
-    requires elements { elements ≤ 2000 }
+    requires elements { elements ≤ MOST_ELEMENTS }
     requires leaf { leaf < length hierarchy.now.leaves }
     requires element { element ≡ number_in hierarchy.now cells.now leaf }
-    requires few { is_storage (leaf_cell hierarchy.now cells.now leaf) ≡ true → element < 2000 }
+    requires few { is_storage (leaf_cell hierarchy.now cells.now leaf) ≡ true → element < MOST_ELEMENTS }
     ensures { OnOk result (found.new.items ≡ found.old.items ++ leaf_arcs hierarchy.now cells.now (look ranges.now) elements leaf (leaf_cell hierarchy.now cells.now leaf)) }
 {
     let at = &hierarchy.leaves.items()[leaf as usize];
@@ -278,8 +279,8 @@ pub(crate) fn push_leaves(
     elements: u32,
 ) -> Result<(), OutOfMemory>
     requires shape { IsFlattened cells.now hierarchy.now }
-    requires elements { elements ≤ 2000 }
-    requires few { length (storage hierarchy.now cells.now) ≤ 2000 }
+    requires elements { elements ≤ MOST_ELEMENTS }
+    requires few { length (storage hierarchy.now cells.now) ≤ MOST_ELEMENTS }
     ensures { OnOk result (found.new.items ≡ found.old.items ++ flat_map (λ l. leaf_arcs hierarchy.now cells.now (look ranges.now) elements l (leaf_cell hierarchy.now cells.now l)) (all_leaves hierarchy.now)) }
 {
     let mut element = 0;
@@ -297,9 +298,9 @@ pub(crate) fn push_inputs(
     first: u32,
     bits: &[ListedBit],
 ) -> Result<(), OutOfMemory>
-    requires elements { elements ≤ 2000 }
+    requires elements { elements ≤ MOST_ELEMENTS }
     requires first { first + length bits.now ≤ elements }
-    requires bits { All (λ x. x.bit < 262144) bits.now }
+    requires bits { All (λ x. x.bit < MOST_INNER) bits.now }
     ensures { (listed : List Listed) → OnOk result (found.new.items ≡ found.old.items ++ input_arcs elements first (map (with_port listed) bits.now)) }
 {
     for number in 0..bits.len() {
@@ -321,9 +322,9 @@ pub(crate) fn push_outputs(
     first: u32,
     bits: &[ListedBit],
 ) -> Result<(), OutOfMemory>
-    requires elements { elements ≤ 2000 }
+    requires elements { elements ≤ MOST_ELEMENTS }
     requires first { first + length bits.now ≤ elements }
-    requires bits { All (λ x. x.bit < 262144) bits.now }
+    requires bits { All (λ x. x.bit < MOST_INNER) bits.now }
     ensures { (listed : List Listed) → OnOk result (found.new.items ≡ found.old.items ++ output_arcs (look ranges.now) elements first (map (with_port listed) bits.now)) }
 {
     for number in 0..bits.len() {

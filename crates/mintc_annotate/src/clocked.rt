@@ -13,7 +13,7 @@ use mintc_hierarchy::TopPort;
 use mintc_text::{Name, Stop};
 use std::alloc::Global;
 
-/// Where the phases of a clock stand, and how many bits its listed inputs and outputs have, each 10^9 where there are more.
+/// Where the phases of a clock stand, and how many bits its listed inputs and outputs have, each up to `MOST_TOLD`.
 #[derive(Drop)]
 pub(crate) struct Clocked {
     pub(crate) spots: Vec<Spot>,

@@ -10,6 +10,7 @@ ghost use Rattle.mintc_annotate.specs.Counts.{with_port, place_bit};
 
 use mintc_clock::Listed;
 use mintc_hierarchy::TopPort;
+use mintc_text::limits::MOST_TOLD;
 use mintc_text::{OutOfMemory, Refusal, Role, Stop};
 use std::alloc::Global;
 
@@ -39,17 +40,17 @@ fn port_bits<'a>(ports: &'a [TopPort], output: bool, listed: &Listed) -> &'a [u3
     &[]
 }
 
-/// A count with more added, or 10^9 where it is larger.
+/// A count with more added, or `MOST_TOLD` where it is larger.
 fn capped(count: u64, more: usize) -> u64
-    requires { count ≤ 1000000000 }
-    ensures { result ≡ min (count + more) 1000000000 }
+    requires { count ≤ MOST_TOLD }
+    ensures { result ≡ min (count + more) MOST_TOLD }
 {
-    let more = (more as u64).min(1_000_000_000);
-    (count + more).min(1_000_000_000)
+    let more = (more as u64).min(MOST_TOLD);
+    (count + more).min(MOST_TOLD)
 }
 
-/// How many bits listed ports have, or 10^9 where there are more. The refusal is NoInstance of the clock with the first that
-/// is no whole port of this direction; entries are counted on from those before.
+/// How many bits listed ports have, or `MOST_TOLD` where there are more. The refusal is NoInstance of the clock with the
+/// first that is no whole port of this direction; entries are counted on from those before.
 pub(crate) fn count_bits(
     ports: &[TopPort],
     output: bool,
@@ -60,7 +61,7 @@ pub(crate) fn count_bits(
     requires before { before ≤ 2000000000 }
     requires few { length listed.now < 1000000000 }
     ensures { MatchResult result
-        (λ n. (first_failing (λ test. test) (before + 1) (has_listed_in ports.now output listed.now) ≡ None) × (n ≡ min (length (bits_in ports.now output listed.now)) 1000000000))
+        (λ n. (first_failing (λ test. test) (before + 1) (has_listed_in ports.now output listed.now) ≡ None) × (n ≡ min (length (bits_in ports.now output listed.now)) MOST_TOLD))
         (StopsAt (IsEntryRefusal (first_failing (λ test. test) (before + 1) (has_listed_in ports.now output listed.now)))) }
 {
     let mut total = 0;

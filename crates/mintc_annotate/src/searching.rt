@@ -1,6 +1,7 @@
 //! The search back from a bit.
 ghost use Rattle.std.specs.Prelude.{◌≡◌, ◌<◌, ◌≤◌, ◌^◌, ◌++◌, ◌∷◌, [], ℕ, List, length, slice_index_or, None, IfOk, MatchOption, All, map};
 ghost use Rattle.std.specs.List.{range_with_len};
+ghost use Rattle.mintc_text.specs.declared.limits.TheConstants.{MOST_INNER};
 ghost use Rattle.mintc_annotate.specs.Phases.{EndsAt};
 ghost use Rattle.mintc_annotate.specs.Searches.{AreDrivers, IsTable, AreJumps, first_jump, then_jump, doubled_jump, jumped};
 ghost use Rattle.mintc_annotate.specs.declared.searching.Drive.{Drive};
@@ -59,7 +60,7 @@ pub(crate) fn add(table: &mut [Option<Drive>], drive: Drive)
 
 /// One step back from a bit, and none where nothing drives it.
 fn first_jump(table: &[Option<Drive>], bit: usize) -> Jump
-    requires size { length table.now ≤ 262144 }
+    requires size { length table.now ≤ MOST_INNER }
     requires bit { bit < length table.now }
     ensures { result ≡ first_jump bit (slice_index_or table.now bit None) }
 {
@@ -77,7 +78,7 @@ fn first_jump(table: &[Option<Drive>], bit: usize) -> Jump
 
 /// One step back from each bit.
 fn first_jumps(alloc: Global, table: &[Option<Drive>]) -> Result<Vec<Jump>, OutOfMemory>
-    requires { length table.now ≤ 262144 }
+    requires { length table.now ≤ MOST_INNER }
     ensures { IfOk result (λ v. v.items ≡ map (λ b. first_jump b (slice_index_or table.now b None)) (range_with_len 0 (length table.now))) }
 {
     let mut found = Vec::new(alloc);
@@ -117,9 +118,9 @@ fn doubled(alloc: Global, jumps: &[Jump]) -> Result<Vec<Jump>, OutOfMemory>
 /// As many steps back from each bit as there can be bits: so each search that ends is at its end. In each round the
 /// steps of the round before are taken twice.
 pub(crate) fn jumps(alloc: Global, table: &[Option<Drive>]) -> Result<Vec<Jump>, OutOfMemory>
-    requires size { length table.now ≤ 262144 }
+    requires size { length table.now ≤ MOST_INNER }
     requires table { IsTable table.now }
-    ensures { IfOk result (λ v. (ds : List Drive) → AreDrivers ds (length table.now) table.now → AreJumps ds (262144) (length table.now) v.items) }
+    ensures { IfOk result (λ v. (ds : List Drive) → AreDrivers ds (length table.now) table.now → AreJumps ds MOST_INNER (length table.now) v.items) }
 {
     let mut found = first_jumps(alloc, table)?;
     for round in 0..18u32 {
@@ -143,10 +144,10 @@ fn jumped(jump: Jump, spot: Spot) -> Spot
 
 /// Where the search from a spot ends; None where it goes round.
 pub(crate) fn end_of(table: &[Option<Drive>], jumps: &[Jump], start: Spot) -> Option<Spot>
-    requires size { length table.now ≤ 262144 }
+    requires size { length table.now ≤ MOST_INNER }
     requires jumps { (length jumps.now ≡ length table.now) × All (λ j. j.bit < length table.now) jumps.now }
     requires start { start.bit < length table.now }
-    ensures { (ds : List Drive) → AreDrivers ds (length table.now) table.now → AreJumps ds (262144) (length table.now) jumps.now →
+    ensures { (ds : List Drive) → AreDrivers ds (length table.now) table.now → AreJumps ds MOST_INNER (length table.now) jumps.now →
         MatchOption result ((n : ℕ) (end : Spot) → EndsAt ds n start end → ⊥) (λ end. (n : ℕ) × EndsAt ds n start end) }
 {
     let end = jumped(jumps[start.bit as usize], start);

@@ -1,5 +1,6 @@
 //! The phases of latches and flops.
 ghost use Rattle.std.specs.Prelude.{◌≡◌, ◌<◌, ◌≤◌, ◌^◌, ◌-◌, All, ℕ, List, length, true, false, MatchResult, MatchOption};
+ghost use Rattle.mintc_text.specs.declared.limits.TheConstants.{MOST_INNER};
 ghost use Rattle.mintc_text.specs.Stops.{StopsAt};
 ghost use Rattle.mintc_hierarchy.specs.Shape.{IsFlattened, IsGivenHierarchy};
 ghost use Rattle.mintc_annotate.specs.Given.{IsGivenClock};
@@ -63,11 +64,11 @@ fn first_at(spots: &[Spot], spot: Spot) -> Option<u32>
 
 /// The phase to which the search from a spot leads.
 fn phase_from(table: &[Option<Drive>], jumps: &[Jump], spots: &[Spot], start: Spot) -> Option<u32>
-    requires size { length table.now ≤ 262144 }
+    requires size { length table.now ≤ MOST_INNER }
     requires jumps { (length jumps.now ≡ length table.now) × All (λ j. j.bit < length table.now) jumps.now }
     requires spots { length spots.now < 2 ^ 32 - 1 }
     requires start { start.bit < length table.now }
-    ensures { (ds : List Drive) → AreDrivers ds (length table.now) table.now → AreJumps ds (262144) (length table.now) jumps.now →
+    ensures { (ds : List Drive) → AreDrivers ds (length table.now) table.now → AreJumps ds MOST_INNER (length table.now) jumps.now →
         MatchOption result ((p : ℕ) → IsPhaseFrom ds spots.now start p → ⊥) (IsPhaseFrom ds spots.now start) }
 {
     match end_of(table, jumps, start) {
@@ -87,7 +88,7 @@ fn trace(
 ) -> Result<Numbers, Stop>
     requires shape { IsFlattened cells.now hierarchy.now }
     requires table { AreDrivers (drives hierarchy.now cells.now) (length hierarchy.now.inner) table.now }
-    requires jumps { AreJumps (drives hierarchy.now cells.now) (262144) (length hierarchy.now.inner) jumps.now }
+    requires jumps { AreJumps (drives hierarchy.now cells.now) MOST_INNER (length hierarchy.now.inner) jumps.now }
     requires spots { length spots.now < 2 ^ 32 - 1 }
     ensures { MatchResult result (AreTraced hierarchy.now cells.now spots.now) (StopsAt (IsUntraced hierarchy.now cells.now spots.now)) }
 {
