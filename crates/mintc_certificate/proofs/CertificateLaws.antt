@@ -4,15 +4,16 @@ use Rattle.std.proofs.lemmas.Int.{ints}
 use Rattle.std.proofs.lemmas.List.Elements.{All-push, All-nil}
 use Rattle.mintc_text.specs.declared.limits.TheConstants.{MOST_NUMERATOR, MOST_MEMBERS, MOST_COUNT}
 use Rattle.mintc_timing.specs.declared.clocking.Schedule.{Schedule}
-use Rattle.mintc_timing.specs.Limits.{IsNumerator, IsDenominator, IsInRange}
-use Rattle.mintc_lines.proofs.SharedScheduleLaws.{IsSoFar, phases_begun, phase_kept, phases_ended}
+use Rattle.mintc_timing.specs.Limits.{IsInRange}
+use Rattle.mintc_lines.specs.Texts.{den}
+use Rattle.mintc_lines.proofs.SharedScheduleLaws.{KeepsSchedule, schedule_keeps}
 use Rattle.mintc_lines.proofs.SharedTextLaws.{along}
 use Rattle.mintc_certificate.specs.declared.certificate.Certificate.{Certificate}
 use Rattle.mintc_certificate.specs.declared.certificate.Certificate.TheVariants.{Least, Never}
 use Rattle.mintc_certificate.specs.declared.members.Member.{Member}
 use Rattle.mintc_certificate.specs.declared.version.Version.{Version}
 use Rattle.mintc_certificate.specs.declared.version.Version.TheVariants.{First, Second}
-use Rattle.mintc_certificate.specs.CertificateText.{NextOfCertificate, IsCertificateText, CertificateLines, first, outcome, den, cycle, phases, phase, departure, never, link, whole, least_departure, IsCounted}
+use Rattle.mintc_certificate.specs.CertificateText.{NextOfCertificate, IsDeparturesLine, IsCertificateText, CertificateLines, first, outcome, scheduled, departure, never, link, whole, least_departure, IsCounted}
 use Rattle.mintc_certificate.specs.Ranges.{IsDeparture, IsChainInRange, IsCertificateInRange}
 
 -- what is kept of departures while their lines come
@@ -34,10 +35,7 @@ Links left (Never ms) = IsChaining left ms
 abbrev Keeps : CertificateLines → Type 0
 Keeps first = Unit {0}
 Keeps (outcome v) = Unit {0}
-Keeps (den v) = Unit {0}
-Keeps (cycle v d) = IsDenominator d
-Keeps (phases v d t) = IsDenominator d × IsNumerator t
-Keeps (phase v left s) = IsSoFar left s
+Keeps (scheduled v lines) = KeepsSchedule lines
 Keeps (departure v left s ds) = AreSoFar left s ds
 Keeps (never v) = Unit {0}
 Keeps (link v left c) = Links left c
@@ -46,6 +44,9 @@ Keeps (whole c) = IsCertificateInRange c
 IsDeparture-from : (v : Version) (d : ℤ) → least_departure v ≤ℤ d → d ≤ℤ MOST_NUMERATOR → IsDeparture d
 IsDeparture-from First d low high = (omega (arith, ints), omega (arith, ints))
 IsDeparture-from Second d low high = (omega (arith, ints), omega (arith, ints))
+
+departures_begun : (v : Version) (s : Schedule) (line : List ℕ) (b : CertificateLines) → IsDeparturesLine v s line b → IsInRange s → Keeps b
+departures_begun v s line b h k = subst Keeps (sym h.2) (let n = h.1.1 in record { schedule_in = k; each = All-nil IsDeparture; count = omega (arith, n.1) })
 
 departure_kept : (left : ℕ) (s : Schedule) (ds : List ℤ) (d : ℤ) → AreSoFar (suc left) s ds → IsDeparture d → AreSoFar left s (ds ++ d ∷ [])
 departure_kept left s ds d k h = record {
@@ -75,22 +76,14 @@ links_end : (c : Certificate) → Links 0 c → IsCertificateInRange c
 links_end (Least s ds ms) k = record { schedule_in = k.0.schedule_in; count = omega (arith, k.0.count); each = k.0.each; chain_in = chain_whole ms k.1 }
 links_end (Never ms) k = chain_whole ms k
 
-outcome_next : (v : Version) (b : Bool) → Keeps (if b then den v else never v)
+outcome_next : (v : Version) (b : Bool) → Keeps (if b then scheduled v den else never v)
 outcome_next v true = tt
 outcome_next v false = tt
 
 keeps_next : (a : CertificateLines) (line : List ℕ) (b : CertificateLines) → NextOfCertificate a line b → Keeps a → Keeps b
 keeps_next first line b h k = subst Keeps (sym h.2) tt
 keeps_next (outcome v) line b h k = subst Keeps (sym h.2) (outcome_next v h.0)
-keeps_next (den v) line b h k = subst Keeps (sym h.2) h.1.1.0
-keeps_next (cycle v d) line b h k = subst Keeps (sym h.2) (k, h.1.1.0)
-keeps_next (phases v d t) line b h k = subst Keeps (sym h.2) (phases_begun d t h.0 k.0 k.1 h.1.1.0 h.1.1.1)
-keeps_next (phase v (suc left) s) line b h k = subst Keeps (sym h.2) (phase_kept left s h.0 h.1.0 k h.1.1)
-keeps_next (phase v zero s) line b h k = subst Keeps (sym h.2) (let n = h.1.1 in record {
-  schedule_in = phases_ended s k;
-  each = All-nil IsDeparture;
-  count = omega (arith, n.1);
-})
+keeps_next (scheduled v lines) line b h k = schedule_keeps (scheduled v) (IsDeparturesLine v) Keeps (λ l k. k) (departures_begun v) lines line b h k
 keeps_next (departure v (suc left) s ds) line b h k = subst Keeps (sym h.2) (departure_kept left s ds h.0 k (IsDeparture-from v h.0 h.1.1.0.0 h.1.1.0.1))
 keeps_next (departure v zero s ds) line b h k = subst Keeps (sym h.2) (k, chain_begun h.0 h.1.1.0 h.1.1.1)
 keeps_next (never v) line b h k = subst Keeps (sym h.2) (chain_begun h.0 h.1.1.0 h.1.1.1)

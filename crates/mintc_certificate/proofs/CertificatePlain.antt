@@ -3,13 +3,14 @@ use Rattle.std.proofs.Common.{◌≡◌, ℕ, zero, suc, negsuc, ◌≤ℤ◌, t
 use Rattle.std.proofs.lemmas.Int.{ints}
 use Rattle.mintc_text.specs.declared.limits.TheConstants.{MOST_NUMERATOR, MOST_MEMBERS, MOST_COUNT}
 use Rattle.mintc_lines.specs.Fields.{IsWordLine, IsCountLine}
+use Rattle.mintc_lines.specs.Texts.{den}
 use Rattle.mintc_lines.proofs.SharedLineLaws.{IsForm, word_form, count_form, number_form}
-use Rattle.mintc_lines.proofs.SharedScheduleLaws.{den_form, cycle_form, phases_form, phase_form}
+use Rattle.mintc_lines.proofs.SharedScheduleLaws.{schedule_step}
 use Rattle.mintc_lines.proofs.SharedTextLaws.{IsPlainFormat, IsPlainStep, plain_step, no_step, text_one_end, text_no_fault, text_one_fault}
 use Rattle.mintc_certificate.specs.declared.certificate.Certificate.{Certificate}
 use Rattle.mintc_certificate.specs.declared.version.Version.{Version}
 use Rattle.mintc_certificate.specs.declared.version.Version.TheVariants.{First, Second}
-use Rattle.mintc_certificate.specs.CertificateText.{NextOfCertificate, IsWholeCertificate, CertificateLines, first, outcome, den, cycle, phases, phase, departure, never, link, whole, least_departure, IsOutcomeLine, IsChainLine, IsMemberLine}
+use Rattle.mintc_certificate.specs.CertificateText.{NextOfCertificate, IsDeparturesLine, IsWholeCertificate, CertificateLines, first, outcome, scheduled, departure, never, link, whole, least_departure, IsOutcomeLine, IsChainLine, IsMemberLine}
 use Rattle.mintc_certificate.specs.TextLaws.{HaveOneCertificate, HaveNoCertificateFault, HaveOneCertificateFault}
 use Rattle.mintc_certificate.proofs.CertificateReading.{IsDepartureLine, plain-outcome_line}
 use Rattle.mintc_certificate.proofs.MemberLaws.{plain-member_line, member_one}
@@ -56,18 +57,14 @@ abbrev pub Begun : CertificateLines → Type 0
 Begun first = ⊥
 Begun lines = Unit {0}
 
-begun_outcome : (v : Version) (x : Bool) → Begun (if x then den v else never v)
+begun_outcome : (v : Version) (x : Bool) → Begun (if x then scheduled v den else never v)
 begun_outcome v true = tt
 begun_outcome v false = tt
 
 pub certificate_step : (a : CertificateLines) → IsPlainStep (NextOfCertificate a) Begun
 certificate_step first = plain_step (count_form (codes "certificate") 1 2 refl (omega arith)) (λ n ws h. tt)
 certificate_step (outcome v) = plain_step outcome_form (λ x ws h. begun_outcome v x)
-certificate_step (den v) = plain_step den_form (λ d ws h. tt)
-certificate_step (cycle v d) = plain_step cycle_form (λ t ws h. tt)
-certificate_step (phases v d t) = plain_step phases_form (λ k ws h. tt)
-certificate_step (phase v (suc left) s) = plain_step phase_form (λ p ws h. tt)
-certificate_step (phase v zero s) = plain_step departures_form (λ n ws h. tt)
+certificate_step (scheduled v lines) = schedule_step (scheduled v) (IsDeparturesLine v) Begun (λ l. tt) (λ s. plain_step departures_form (λ n ws h. tt)) lines
 certificate_step (departure v (suc left) s ds) = plain_step (departure_form v) (λ d ws h. tt)
 certificate_step (departure v zero s ds) = plain_step chain_form (λ m ws h. tt)
 certificate_step (never v) = plain_step chain_form (λ m ws h. tt)

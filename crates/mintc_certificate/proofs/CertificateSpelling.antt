@@ -1,14 +1,15 @@
 -- Certificates that are one value have one text.
 use Rattle.std.proofs.Common.{◌≡◌, ℕ, zero, suc, ℤ, Bool, true, false, if◌then◌else◌, List, [], refl, ◌∙◌, sym, subst}
 use Rattle.mintc_timing.specs.declared.clocking.Schedule.{Schedule}
-use Rattle.mintc_lines.proofs.SharedScheduleLaws.{den_form, cycle_form, phases_form, phase_form}
-use Rattle.mintc_lines.proofs.SharedSpelling.{Rest, rest_none, rest_back, rest_same, rest_count, Agrees, agrees_none, agrees_back, agrees_same, IsSpelled, IsSpelledStep}
-use Rattle.mintc_lines.proofs.SharedTextLaws.{step_by, no_way, one_text_after}
+use Rattle.mintc_lines.specs.Texts.{ScheduleLines, den}
+use Rattle.mintc_lines.proofs.SharedScheduleLaws.{BeginsSchedule, schedule_step, schedule_back, schedule_spelled}
+use Rattle.mintc_lines.proofs.SharedSpelling.{Rest, rest_none, rest_back, rest_same, rest_count, IsSpelled, IsSpelledStep}
+use Rattle.mintc_lines.proofs.SharedTextLaws.{plain_step, step_by, no_way, one_text_after}
 use Rattle.mintc_certificate.specs.declared.certificate.Certificate.{Certificate}
 use Rattle.mintc_certificate.specs.declared.certificate.Certificate.TheVariants.{Least, Never}
 use Rattle.mintc_certificate.specs.declared.members.Member.{Member}
 use Rattle.mintc_certificate.specs.declared.version.Version.{Version}
-use Rattle.mintc_certificate.specs.CertificateText.{NextOfCertificate, CertificateLines, first, outcome, den, cycle, phases, phase, departure, never, link, whole}
+use Rattle.mintc_certificate.specs.CertificateText.{NextOfCertificate, IsDeparturesLine, CertificateLines, first, outcome, scheduled, departure, never, link, whole}
 use Rattle.mintc_certificate.specs.TextLaws.{HaveOneCertificateText}
 use Rattle.mintc_certificate.proofs.CertificatePlain.{Begun, certificate_step, certificate_plain, outcome_form, departure_form, departures_form, chain_form, member_form, end_form}
 
@@ -16,10 +17,7 @@ use Rattle.mintc_certificate.proofs.CertificatePlain.{Begun, certificate_step, c
 abbrev OfLeast : Schedule → List ℤ → List Member → CertificateLines → Type 0
 OfLeast s ds ms first = Unit {0}
 OfLeast s ds ms (outcome v) = Unit {0}
-OfLeast s ds ms (den v) = Unit {0}
-OfLeast s ds ms (cycle v d) = d ≡ s.den
-OfLeast s ds ms (phases v d t) = (d ≡ s.den) × (t ≡ s.cycle)
-OfLeast s ds ms (phase v left p) = Agrees left p s
+OfLeast s ds ms (scheduled v lines) = BeginsSchedule lines s
 OfLeast s ds ms (departure v left p es) = (p ≡ s) × Rest es ds left
 OfLeast s ds ms (never v) = ⊥
 OfLeast s ds ms (link v left (Least p es ns)) = (p ≡ s) × (es ≡ ds) × Rest ns ms left
@@ -29,10 +27,7 @@ OfLeast s ds ms (whole c) = c ≡ Least s ds ms
 abbrev OfNever : List Member → CertificateLines → Type 0
 OfNever ms first = Unit {0}
 OfNever ms (outcome v) = Unit {0}
-OfNever ms (den v) = ⊥
-OfNever ms (cycle v d) = ⊥
-OfNever ms (phases v d t) = ⊥
-OfNever ms (phase v left p) = ⊥
+OfNever ms (scheduled v lines) = ⊥
 OfNever ms (departure v left p es) = ⊥
 OfNever ms (never v) = Unit {0}
 OfNever ms (link v left (Least p es ns)) = ⊥
@@ -58,11 +53,7 @@ module _ (s : Schedule) (ds : List ℤ) (ms : List Member) where
   back_least : (a b : CertificateLines) (line : List ℕ) → NextOfCertificate a line b → OfLeast s ds ms b → OfLeast s ds ms a
   back_least first b line h g = tt
   back_least (outcome v) b line h g = tt
-  back_least (den v) b line h g = tt
-  back_least (cycle v d) b line h g = (subst (OfLeast s ds ms) h.2 g).0
-  back_least (phases v d t) b line h g = let k = subst (OfLeast s ds ms) h.2 g in (k.den, k.cycle)
-  back_least (phase v (suc left) p) b line h g = agrees_back left p s h.0 (subst (OfLeast s ds ms) h.2 g)
-  back_least (phase v zero p) b line h g = agrees_none p s (subst (OfLeast s ds ms) h.2 g).0
+  back_least (scheduled v lines) b line h g = schedule_back (scheduled v) (IsDeparturesLine v) (OfLeast s ds ms) s (λ l k. k) (λ p line b h g. (subst (OfLeast s ds ms) h.2 g).0) lines line b h g
   back_least (departure v (suc left) p es) b line h g = let k = subst (OfLeast s ds ms) h.2 g in (k.0, rest_back es ds h.0 left k.1)
   back_least (departure v zero p es) b line h g = let k = subst (OfLeast s ds ms) h.2 g in (k.0, rest_none es ds (sym k.1))
   back_least (never v) b line h g = subst (OfLeast s ds ms) h.2 g
@@ -72,18 +63,18 @@ module _ (s : Schedule) (ds : List ℤ) (ms : List Member) where
   back_least (link v zero (Never ns)) b line h g = no_least s ds ms ns (sym (subst (OfLeast s ds ms) h.2 g))
   back_least (whole c) b line h g = absurd h
 
-  outcome_least : (v : Version) (x : Bool) → OfLeast s ds ms (if x then den v else never v) → x ≡ true
+  outcome_least : (v : Version) (x : Bool) → OfLeast s ds ms (if x then scheduled v den else never v) → x ≡ true
   outcome_least v true g = refl
   outcome_least v false g = absurd g
+
+no_schedule : (ms : List Member) (v : Version) (lines : ScheduleLines) (line : List ℕ) (b : CertificateLines) → NextOfCertificate (scheduled v lines) line b → OfNever ms b → ⊥
+no_schedule ms v lines line b h =
+    (schedule_step (scheduled v) (IsDeparturesLine v) (λ (x : CertificateLines). OfNever ms x → ⊥) (λ l k. k) (λ s. plain_step departures_form (λ n ws h k. k)) lines).keeps b line h
 
 back_never : (ms : List Member) (a b : CertificateLines) (line : List ℕ) → NextOfCertificate a line b → OfNever ms b → OfNever ms a
 back_never ms first b line h g = tt
 back_never ms (outcome v) b line h g = tt
-back_never ms (den v) b line h g = subst (OfNever ms) h.2 g
-back_never ms (cycle v d) b line h g = subst (OfNever ms) h.2 g
-back_never ms (phases v d t) b line h g = subst (OfNever ms) h.2 g
-back_never ms (phase v (suc left) p) b line h g = subst (OfNever ms) h.2 g
-back_never ms (phase v zero p) b line h g = subst (OfNever ms) h.2 g
+back_never ms (scheduled v lines) b line h g = no_schedule ms v lines line b h g
 back_never ms (departure v (suc left) p es) b line h g = subst (OfNever ms) h.2 g
 back_never ms (departure v zero p es) b line h g = subst (OfNever ms) h.2 g
 back_never ms (never v) b line h g = tt
@@ -93,7 +84,7 @@ back_never ms (link v zero (Least p es ns)) b line h g = no_least p es ns ms (su
 back_never ms (link v zero (Never ns)) b line h g = rest_none ns ms (same_members ns ms (subst (OfNever ms) h.2 g))
 back_never ms (whole c) b line h g = absurd h
 
-outcome_never : (ms : List Member) (v : Version) (x : Bool) → OfNever ms (if x then den v else never v) → x ≡ false
+outcome_never : (ms : List Member) (v : Version) (x : Bool) → OfNever ms (if x then scheduled v den else never v) → x ≡ false
 outcome_never ms v true g = absurd g
 outcome_never ms v false g = refl
 
@@ -108,11 +99,7 @@ module _ (s : Schedule) (ds : List ℤ) (ms : List Member) where
   step_least : (a : CertificateLines) → Begun a → IsSpelledStep (NextOfCertificate a) (OfLeast s ds ms)
   step_least first p = no_way (λ line b h i. p)
   step_least (outcome v) p = step_by outcome_form (λ x y k l. outcome_least s ds ms v x k ∙ sym (outcome_least s ds ms v y l))
-  step_least (den v) p = step_by den_form (λ x y k l. k ∙ sym l)
-  step_least (cycle v d) p = step_by cycle_form (λ x y k l. k.1 ∙ sym l.1)
-  step_least (phases v d t) p = step_by phases_form (λ m n k l. rest_count [] s.starts m n k.starts l.starts)
-  step_least (phase v (suc left) q) p = step_by phase_form (agrees_same left q s)
-  step_least (phase v zero q) p = step_by departures_form (λ m n k l. rest_count [] ds m n k.1 l.1)
+  step_least (scheduled v lines) p = schedule_spelled (scheduled v) (IsDeparturesLine v) (OfLeast s ds ms) s (λ l k. k) (λ q. step_by departures_form (λ m n k l. rest_count [] ds m n k.1 l.1)) lines
   step_least (departure v (suc left) q es) p = step_by (departure_form v) (λ x y k l. rest_same es ds x y left left k.1 l.1)
   step_least (departure v zero q es) p = step_by chain_form (λ m n k l. rest_count [] ms m n k.2 l.2)
   step_least (never v) p = no_way (λ line b h i. subst (OfLeast s ds ms) h.2 i)
@@ -126,11 +113,7 @@ module _ (ms : List Member) where
   step_never : (a : CertificateLines) → Begun a → IsSpelledStep (NextOfCertificate a) (OfNever ms)
   step_never first p = no_way (λ line b h i. p)
   step_never (outcome v) p = step_by outcome_form (λ x y k l. outcome_never ms v x k ∙ sym (outcome_never ms v y l))
-  step_never (den v) p = no_way (λ line b h i. subst (OfNever ms) h.2 i)
-  step_never (cycle v d) p = no_way (λ line b h i. subst (OfNever ms) h.2 i)
-  step_never (phases v d t) p = no_way (λ line b h i. subst (OfNever ms) h.2 i)
-  step_never (phase v (suc left) q) p = no_way (λ line b h i. subst (OfNever ms) h.2 i)
-  step_never (phase v zero q) p = no_way (λ line b h i. subst (OfNever ms) h.2 i)
+  step_never (scheduled v lines) p = no_way (λ line b h i. no_schedule ms v lines line b h i)
   step_never (departure v (suc left) q es) p = no_way (λ line b h i. subst (OfNever ms) h.2 i)
   step_never (departure v zero q es) p = no_way (λ line b h i. subst (OfNever ms) h.2 i)
   step_never (never v) p = step_by chain_form (λ m n k l. rest_count [] ms m n k l)

@@ -5,10 +5,12 @@ use Rattle.std.specs.Fmt.{digits}
 use Rattle.mintc_text.specs.declared.limits.TheConstants.{MOST_NUMERATOR}
 use Rattle.mintc_text.specs.Lines.{Follows, IsWithin, ended}
 use Rattle.mintc_lines.specs.Fields.{number}
+use Rattle.mintc_lines.specs.Texts.{den}
+use Rattle.mintc_lines.proofs.SharedScheduleReading.{schedule_carried}
 use Rattle.mintc_lines.proofs.SharedTextLaws.{after_first}
 use Rattle.mintc_certificate.specs.declared.version.Version.{Version}
 use Rattle.mintc_certificate.specs.declared.version.Version.TheVariants.{First, Second}
-use Rattle.mintc_certificate.specs.CertificateText.{NextOfCertificate, CertificateLines, first, outcome, den, cycle, phases, phase, departure, never, link, whole, least_departure}
+use Rattle.mintc_certificate.specs.CertificateText.{NextOfCertificate, IsDeparturesLine, CertificateLines, first, outcome, scheduled, departure, never, link, whole, least_departure}
 use Rattle.mintc_certificate.specs.TextLaws.{SecondSaysFirst}
 use Rattle.mintc_certificate.proofs.CertificatePlain.{Begun, certificate_step, certificate_plain}
 use Rattle.mintc_certificate.proofs.CertificateWritten.{first_written, free_all}
@@ -17,16 +19,13 @@ use Rattle.mintc_certificate.proofs.CertificateWritten.{first_written, free_all}
 abbrev raise : CertificateLines → CertificateLines
 raise first = first
 raise (outcome v) = outcome Second
-raise (den v) = den Second
-raise (cycle v d) = cycle Second d
-raise (phases v d t) = phases Second d t
-raise (phase v left s) = phase Second left s
+raise (scheduled v lines) = scheduled Second lines
 raise (departure v left s ds) = departure Second left s ds
 raise (never v) = never Second
 raise (link v left c) = link Second left c
 raise (whole c) = whole c
 
-raise_outcome : (v : Version) (x : Bool) → raise (if x then den v else never v) ≡ (if x then den Second else never Second)
+raise_outcome : (v : Version) (x : Bool) → raise (if x then scheduled v den else never v) ≡ (if x then scheduled Second den else never Second)
 raise_outcome v true = refl
 raise_outcome v false = refl
 
@@ -38,11 +37,8 @@ within_second Second d h = h
 raised : (a b : CertificateLines) (line : List ℕ) → Begun a → NextOfCertificate a line b → NextOfCertificate (raise a) line (raise b)
 raised first b line begun h = absurd begun
 raised (outcome v) b line begun h = (h.0, h.1, ap raise h.2 ∙ raise_outcome v h.0)
-raised (den v) b line begun h = (h.0, h.1, ap raise h.2)
-raised (cycle v d) b line begun h = (h.0, h.1, ap raise h.2)
-raised (phases v d t) b line begun h = (h.0, h.1, ap raise h.2)
-raised (phase v (suc left) s) b line begun h = (h.0, h.1, ap raise h.2)
-raised (phase v zero s) b line begun h = (h.0, h.1, ap raise h.2)
+raised (scheduled v lines) b line begun h =
+    schedule_carried (scheduled v) (IsDeparturesLine v) (scheduled Second) (IsDeparturesLine Second) raise (λ l. refl) (λ s line b h. (h.0, h.1, ap raise h.2)) lines line b h
 raised (departure v (suc left) s ds) b line begun h = (h.0, (h.1.0, (within_second v h.0 h.1.1.0, h.1.1.1), h.1.2), ap raise h.2)
 raised (departure v zero s ds) b line begun h = (h.0, h.1, ap raise h.2)
 raised (never v) b line begun h = (h.0, h.1, ap raise h.2)

@@ -9,13 +9,14 @@ use Rattle.mintc_text.specs.Lines.{Follows, ended, text_of, words}
 use Rattle.mintc_timing.specs.declared.clocking.Schedule.{Schedule}
 use Rattle.mintc_lines.specs.Fields.{number, Spells}
 use Rattle.mintc_timing.specs.Limits.{IsNumerator, IsInRange}
-use Rattle.mintc_lines.specs.Texts.{schedule_of, no_phases}
+use Rattle.mintc_lines.specs.Texts.{den, cycle, phases, phase, schedule_of, no_phases}
+use Rattle.mintc_lines.proofs.SharedReadingLaws.{Follows-append}
 use Rattle.mintc_certificate.specs.declared.certificate.Certificate.{Certificate}
 use Rattle.mintc_certificate.specs.declared.certificate.Certificate.TheVariants.{Least, Never}
 use Rattle.mintc_certificate.specs.declared.members.Member.{Member}
 use Rattle.mintc_certificate.specs.declared.version.Version.TheVariants.{Second}
 use Rattle.mintc_certificate.specs.CertificateReading.{with_chain, before_chain}
-use Rattle.mintc_certificate.specs.CertificateText.{NextOfCertificate, IsCertificateText, CertificateLines, first, outcome, den, cycle, phases, phase, departure, never, link, whole, member_words, IsCounted, IsMemberOf, IsChainLine}
+use Rattle.mintc_certificate.specs.CertificateText.{NextOfCertificate, IsCertificateText, CertificateLines, first, outcome, scheduled, departure, never, link, whole, member_words, IsCounted, IsMemberOf, IsChainLine}
 use Rattle.mintc_certificate.specs.Ranges.{IsDeparture, IsChainInRange, IsCertificateInRange}
 use Rattle.mintc_certificate.specs.TextLaws.{WrittenAreTexts, WrittenAreAll, WrittenAreApart}
 use Rattle.mintc_certificate.specs.Written.{number_line, count_line, phase_line, departure_lines, chain_lines, schedule_lines, lines_of}
@@ -32,23 +33,19 @@ chain_begins (Never ms) m spells = (m, spells, refl)
 abbrev Leads : CertificateLines → List (List ℕ) → CertificateLines → Type 0
 Leads a lines b = Follows NextOfCertificate a lines b
 
-joined : (a b c : CertificateLines) (lines more : List (List ℕ)) → Leads a lines b → Leads b more c → Leads a (lines ++ more) c
-joined a b c [] more h g = subst (λ (s : CertificateLines). Leads s more c) (sym h) g
-joined a b c (line ∷ lines) more h g = (h.0, h.1, joined h.0 b c lines more h.2 g)
-
 phases_written : (d t : ℤ) (so wo xs ys : List ℤ) → length ys ≡ length xs → All IsNumerator xs → All IsNumerator ys →
-    Leads (phase Second (length xs) (schedule_of d t so wo)) (map phase_line (zip xs ys)) (phase Second 0 (schedule_of d t (so ++ xs) (wo ++ ys)))
-phases_written d t so wo [] [] same h g = ap (λ (x : List ℤ). phase Second 0 (schedule_of d t x wo)) (sym (append-nil so)) ∙ ap (λ (x : List ℤ). phase Second 0 (schedule_of d t (so ++ []) x)) (sym (append-nil wo))
+    Leads (scheduled Second (phase (length xs) (schedule_of d t so wo))) (map phase_line (zip xs ys)) (scheduled Second (phase 0 (schedule_of d t (so ++ xs) (wo ++ ys))))
+phases_written d t so wo [] [] same h g = ap (λ (x : List ℤ). scheduled Second (phase 0 (schedule_of d t x wo))) (sym (append-nil so)) ∙ ap (λ (x : List ℤ). scheduled Second (phase 0 (schedule_of d t (so ++ []) x))) (sym (append-nil wo))
 phases_written d t so wo [] (y ∷ ys) same h g = absurd (omega (arith, same))
 phases_written d t so wo (x ∷ xs) [] same h g = absurd (omega (arith, same))
 phases_written d t so wo (x ∷ xs) (y ∷ ys) same h g =
     let rest = phases_written d t (so ++ x ∷ []) (wo ++ y ∷ []) xs ys (omega (arith, same)) (All-tail IsNumerator x xs h) (All-tail IsNumerator y ys g) in
     let starts = append_assoc so (x ∷ []) xs in
     let widths = append_assoc wo (y ∷ []) ys in
-    let R : List ℤ → List ℤ → Type 0 = λ a b. Leads (phase Second (length xs) (schedule_of d t (so ++ x ∷ []) (wo ++ y ∷ []))) (map phase_line (zip xs ys)) (phase Second 0 (schedule_of d t a b)) in
+    let R : List ℤ → List ℤ → Type 0 = λ a b. Leads (scheduled Second (phase (length xs) (schedule_of d t (so ++ x ∷ []) (wo ++ y ∷ [])))) (map phase_line (zip xs ys)) (scheduled Second (phase 0 (schedule_of d t a b))) in
     let one = subst (λ (a : List ℤ). R a ((wo ++ y ∷ []) ++ ys)) starts rest in
     let all = subst (λ (b : List ℤ). R (so ++ x ∷ xs) b) widths one in
-    (phase Second (length xs) (schedule_of d t (so ++ x ∷ []) (wo ++ y ∷ [])), ((x, y), (_, (All-head IsNumerator x xs h, All-head IsNumerator y ys g, refl), refl), refl), all)
+    (scheduled Second (phase (length xs) (schedule_of d t (so ++ x ∷ []) (wo ++ y ∷ []))), ((x, y), (_, (All-head IsNumerator x xs h, All-head IsNumerator y ys g, refl), refl), refl), all)
 
 departures_written : (s : Schedule) (so xs : List ℤ) → All IsDeparture xs →
     Leads (departure Second (length xs) s so) (map (number_line (codes "departure")) xs) (departure Second 0 s (so ++ xs))
@@ -75,22 +72,22 @@ members_written c so (x ∷ xs) h =
 end_written : (c : Certificate) → Leads (link Second 0 c) (codes "end" ∷ []) (whole c)
 end_written c = (whole c, (tt, (codes "end" ∷ [], refl, refl), refl), refl)
 
-schedule_written : (s : Schedule) → IsInRange s → Leads (den Second) (schedule_lines s) (phase Second 0 s)
+schedule_written : (s : Schedule) → IsInRange s → Leads (scheduled Second den) (schedule_lines s) (scheduled Second (phase 0 s))
 schedule_written s h = (
-  cycle Second s.den,
+  scheduled Second (cycle s.den),
   (s.den, (_, (h.den, refl), refl), refl),
   (
-    phases Second s.den s.cycle,
+    scheduled Second (phases s.den s.cycle),
     (s.cycle, (_, (h.cycle, refl), refl), refl),
     (
-      phase Second (length s.starts) (no_phases s.den s.cycle),
+      scheduled Second (phase (length s.starts) (no_phases s.den s.cycle)),
       (length s.starts, (_, (h.phases.0, h.phases.1, refl), refl), refl),
       phases_written s.den s.cycle [] [] s.starts s.widths h.alike h.starts h.widths,
     ),
   ),
 )
 
-all_departures : (s : Schedule) (ds : List ℤ) → length ds ≤ MOST_COUNT → All IsDeparture ds → Leads (phase Second 0 s) (departure_lines ds) (departure Second 0 s ds)
+all_departures : (s : Schedule) (ds : List ℤ) → length ds ≤ MOST_COUNT → All IsDeparture ds → Leads (scheduled Second (phase 0 s)) (departure_lines ds) (departure Second 0 s ds)
 all_departures s ds few h = (departure Second (length ds) s [], (length ds, (_, (omega arith, few, refl), refl), refl), departures_written s [] ds h)
 
 chain_written : (c : Certificate) (ms : List Member) → IsChainInRange ms → Leads (before_chain Second c) (chain_lines ms) (whole (with_chain c ms))
@@ -99,7 +96,7 @@ chain_written c ms h =
     chain_begins c (length ms) (_, (h.some, h.most, refl), refl) in (
       link Second (length ms) (with_chain c []),
       begun,
-      joined (link Second (length ms) (with_chain c [])) (link Second 0 (with_chain c ms)) (whole (with_chain c ms)) (map (λ (m : Member). words (member_words m)) ms) (codes "end" ∷ [])
+      Follows-append NextOfCertificate (link Second (length ms) (with_chain c [])) (link Second 0 (with_chain c ms)) (whole (with_chain c ms)) (map (λ (m : Member). words (member_words m)) ms) (codes "end" ∷ [])
           (members_written c [] ms h.each) (end_written (with_chain c ms)),
     )
 
@@ -117,10 +114,10 @@ lines_written (Never ms) = refl
 
 after_leads : (c : Certificate) → IsCertificateInRange c → Leads (outcome Second) (after_written c) (whole c)
 after_leads (Least s ds ms) h = (
-  den Second,
+  scheduled Second den,
   (true, (codes "least" ∷ [], refl, refl), refl),
-  joined (den Second) (departure Second 0 s ds) (whole (Least s ds ms)) (schedule_lines s ++ departure_lines ds) (chain_lines ms)
-      (joined (den Second) (phase Second 0 s) (departure Second 0 s ds) (schedule_lines s) (departure_lines ds) (schedule_written s h.schedule_in) (all_departures s ds h.count h.each))
+  Follows-append NextOfCertificate (scheduled Second den) (departure Second 0 s ds) (whole (Least s ds ms)) (schedule_lines s ++ departure_lines ds) (chain_lines ms)
+      (Follows-append NextOfCertificate (scheduled Second den) (scheduled Second (phase 0 s)) (departure Second 0 s ds) (schedule_lines s) (departure_lines ds) (schedule_written s h.schedule_in) (all_departures s ds h.count h.each))
       (chain_written (Least s ds []) ms h.chain_in),
 )
 after_leads (Never ms) h = (never Second, (false, (codes "never" ∷ [], refl, refl), refl), chain_written (Never []) ms h)

@@ -1,13 +1,13 @@
 -- The text of a certificate, line by line, and its first line out of form.
 use Rattle.std.specs.Prelude.{◌≡◌, ◌≢◌, ◌==◌, ℕ, zero, suc, ℤ, pos, neg_ℤ, Bool, if◌then◌else◌, List, [], ◌∷◌, ◌++◌, length, map, codes}
-use Rattle.mintc_text.specs.declared.limits.TheConstants.{MOST_PHASES, MOST_DENOMINATOR, MOST_NUMERATOR, MOST_MEMBERS, MOST_COUNT}
+use Rattle.mintc_text.specs.declared.limits.TheConstants.{MOST_NUMERATOR, MOST_MEMBERS, MOST_COUNT}
 use Rattle.mintc_text.specs.Lines.{IsText, IsFault}
 use Rattle.mintc_text.specs.declared.refusals.Refusal.{Refusal}
 use Rattle.mintc_text.specs.declared.refusals.Refusal.TheVariants as refusal
 use Rattle.mintc_text.specs.declared.refusals.Role.TheVariants as role
 use Rattle.mintc_timing.specs.declared.clocking.Schedule.{Schedule}
 use Rattle.mintc_lines.specs.Fields.{IsCount, number, Spells, IsWordLine, IsNumberLine, IsCountLine}
-use Rattle.mintc_lines.specs.Texts.{IsPhaseLine, no_phases, with_phase}
+use Rattle.mintc_lines.specs.Texts.{ScheduleLines, den, NextOfSchedule}
 use Rattle.std.specs.List.{All}
 use Rattle.mintc_certificate.specs.declared.members.Member.{Member}
 use Rattle.mintc_certificate.specs.declared.members.Member.TheVariants as member
@@ -68,10 +68,7 @@ pub record IsMemberLine (version : Version) (m : Member) (ws : List (List ℕ)) 
 pub data CertificateLines : Type 0 where
   first : CertificateLines
   outcome : Version → CertificateLines
-  den : Version → CertificateLines
-  cycle : Version → ℤ → CertificateLines
-  phases : Version → ℤ → ℤ → CertificateLines
-  phase : Version → ℕ → Schedule → CertificateLines
+  scheduled : Version → ScheduleLines → CertificateLines
   departure : Version → ℕ → Schedule → List ℤ → CertificateLines
   never : Version → CertificateLines
   link : Version → ℕ → Certificate → CertificateLines
@@ -90,15 +87,15 @@ IsOutcomeLine least ws = ws ≡ (if least then codes "least" else codes "never")
 abbrev pub IsChainLine : ℕ → List (List ℕ) → Type 0
 IsChainLine = IsCountLine (codes "chain") 1 MOST_MEMBERS
 
+-- the line after those of a schedule, which says how many departures follow
+abbrev pub IsDeparturesLine : Version → Schedule → List ℕ → CertificateLines → Type 0
+IsDeparturesLine v s line after = (n : ℕ) × Spells (IsCountLine (codes "departures") 0 MOST_COUNT) n line × (after ≡ departure v n s [])
+
 -- the form of the line that may come next
 abbrev pub NextOfCertificate : CertificateLines → List ℕ → CertificateLines → Type 0
 NextOfCertificate first line after = (n : ℕ) × Spells (IsCountLine (codes "certificate") 1 2) n line × (after ≡ outcome (version_of n))
-NextOfCertificate (outcome v) line after = (least : Bool) × Spells IsOutcomeLine least line × (after ≡ (if least then den v else never v))
-NextOfCertificate (den v) line after = (d : ℤ) × Spells (IsNumberLine (codes "den") (pos 1) MOST_DENOMINATOR) d line × (after ≡ cycle v d)
-NextOfCertificate (cycle v d) line after = (t : ℤ) × Spells (IsNumberLine (codes "cycle") (pos 0) MOST_NUMERATOR) t line × (after ≡ phases v d t)
-NextOfCertificate (phases v d t) line after = (k : ℕ) × Spells (IsCountLine (codes "phases") 1 MOST_PHASES) k line × (after ≡ phase v k (no_phases d t))
-NextOfCertificate (phase v (suc left) s) line after = (p : ℤ × ℤ) × Spells IsPhaseLine p line × (after ≡ phase v left (with_phase s p))
-NextOfCertificate (phase v zero s) line after = (n : ℕ) × Spells (IsCountLine (codes "departures") 0 MOST_COUNT) n line × (after ≡ departure v n s [])
+NextOfCertificate (outcome v) line after = (least : Bool) × Spells IsOutcomeLine least line × (after ≡ (if least then scheduled v den else never v))
+NextOfCertificate (scheduled v lines) line after = NextOfSchedule (scheduled v) (IsDeparturesLine v) lines line after
 NextOfCertificate (departure v (suc left) s ds) line after =
     (d : ℤ) × Spells (IsNumberLine (codes "departure") (least_departure v) MOST_NUMERATOR) d line × (after ≡ departure v left s (ds ++ d ∷ []))
 NextOfCertificate (departure v zero s ds) line after = (m : ℕ) × Spells IsChainLine m line × (after ≡ link v m (Least s ds []))

@@ -3,25 +3,22 @@ ghost use Rattle.std.specs.Prelude.{◌≡◌, ◌≤◌, ℕ, ℤ, List, Bool, 
 ghost use Rattle.mintc_text.specs.declared.limits.TheConstants.{MOST_BYTES};
 ghost use Rattle.mintc_text.specs.Stops.{StopsAt};
 ghost use Rattle.mintc_timing.specs.declared.clocking.Schedule.{Schedule};
-ghost use Rattle.mintc_timing.specs.Limits.{IsDenominator, IsNumerator};
 ghost use Rattle.mintc_lines.specs.Reading.{HasNone, HasRead, IsAt, number_after, Halts};
-ghost use Rattle.mintc_lines.specs.Texts.{no_phases, schedule_of};
+ghost use Rattle.mintc_lines.specs.Texts.{den, phase};
 ghost use Rattle.mintc_certificate.specs.declared.certificate.Certificate.{Certificate};
 ghost use Rattle.mintc_certificate.specs.declared.members.Member.{Member};
 ghost use Rattle.mintc_certificate.specs.declared.version.Version.{Version};
 ghost use Rattle.mintc_certificate.specs.CertificateReading.{with_chain, before_chain};
-ghost use Rattle.mintc_certificate.specs.CertificateText.{version_of, least_departure, IsMemberLine, IsOutcomeLine, NextOfCertificate, IsCertificateText, IsCertificateFault, IsCertificateRefusal, first, den, phase, departure, link};
+ghost use Rattle.mintc_certificate.specs.CertificateText.{version_of, least_departure, IsMemberLine, IsOutcomeLine, NextOfCertificate, IsCertificateText, IsCertificateFault, IsCertificateRefusal, first, scheduled, departure, link};
 ghost use Rattle.mintc_certificate.specs.CertificateText.{never as no_schedule};
 ghost use Rattle.mintc_certificate.specs.Ranges.{IsCertificateInRange};
 
 use crate::member_lines::member_of;
 use crate::version::Version;
 use crate::{Certificate, Departures, Member, Members};
-use arrayvec::ArrayVec;
-use mintc_lines::{Fields, Halt, Reader};
-use mintc_text::limits::{MOST_COUNT, MOST_DENOMINATOR, MOST_MEMBERS, MOST_NUMERATOR, MOST_PHASES};
+use mintc_lines::{Fields, Halt, Reader, schedule_lines};
+use mintc_text::limits::{MOST_COUNT, MOST_MEMBERS, MOST_NUMERATOR};
 use mintc_text::{Refusal, Role, Stop};
-use mintc_timing::{PhaseNumbers, Schedule};
 use std::alloc::Global;
 
 /// The version of a text whose first line has this number.
@@ -70,53 +67,9 @@ fn outcome_line(reader: &mut Reader) -> Option<bool>
     outcome_of(fields)
 }
 
-/// Reads the lines of so many phases: their starts and their widths.
-fn phases(reader: &mut Reader, count: u32) -> Option<(PhaseNumbers, PhaseNumbers)>
-    requires { count ≤ MOST_PHASES }
-    ensures { (text : List ℕ) (version : Version) (d t : ℤ) → IsAt NextOfCertificate first text reader.old (phase version count (no_phases d t)) →
-        MatchOption result (IsCertificateFault text reader.new.number) (λ r. IsAt NextOfCertificate first text reader.new (phase version 0 (schedule_of d t r.0 r.1))) }
-{
-    let mut starts = ArrayVec::new();
-    let mut widths = ArrayVec::new();
-    for _phase in 0..count {
-        let (start, width) = reader.phase_line()?;
-        starts.push(start);
-        widths.push(width);
-    }
-    Some((PhaseNumbers::new(starts), PhaseNumbers::new(widths)))
-}
-
-/// Reads the lines of a schedule before those of its phases: `den`, the cycle time and the number of phases.
-fn head(reader: &mut Reader) -> Option<(i64, i64, u32)>
-    ensures read { (text : List ℕ) (version : Version) → IsAt NextOfCertificate first text reader.old (den version) →
-        MatchOption result (IsCertificateFault text reader.new.number) (λ r. IsAt NextOfCertificate first text reader.new (phase version r.2 (no_phases r.0 r.1))) }
-    ensures few { IfSome result (λ r. r.2 ≤ MOST_PHASES) }
-    ensures in_range { IfSome result (λ r. IsDenominator r.0 × IsNumerator r.1) }
-{
-    let den = reader.number_line(b"den", 1, MOST_DENOMINATOR)?;
-    let cycle = reader.number_line(b"cycle", 0, MOST_NUMERATOR)?;
-    let count = reader.count_line(b"phases", 1, MOST_PHASES as u32)?;
-    Some((den, cycle, count))
-}
-
-/// Reads the lines of a schedule.
-fn schedule(reader: &mut Reader) -> Option<Schedule>
-    ensures { (text : List ℕ) (version : Version) → IsAt NextOfCertificate first text reader.old (den version) →
-        MatchOption result (IsCertificateFault text reader.new.number) (λ s. IsAt NextOfCertificate first text reader.new (phase version 0 s)) }
-{
-    let (den, cycle, count) = head(reader)?;
-    let (starts, widths) = phases(reader, count)?;
-    Some(Schedule {
-        den,
-        cycle,
-        starts,
-        widths,
-    })
-}
-
 /// Reads the number of departures and their lines.
 fn departures(alloc: Global, reader: &mut Reader, version: Version) -> Result<Departures, Halt>
-    ensures { (text : List ℕ) (s : Schedule) → IsAt NextOfCertificate first text reader.old (phase version 0 s) →
+    ensures { (text : List ℕ) (s : Schedule) → IsAt NextOfCertificate first text reader.old (scheduled version (phase 0 s)) →
         MatchResult result
         (λ ds. IsAt NextOfCertificate first text reader.new (departure version 0 s ds))
         (Halts (IsCertificateFault text reader.new.number)) }
@@ -189,10 +142,10 @@ fn chain(alloc: Global, reader: &mut Reader, version: Version) -> Result<Members
 
 /// Reads the lines after `least`.
 fn least(alloc: Global, reader: &mut Reader, version: Version) -> Result<Certificate, Halt>
-    ensures { (text : List ℕ) → IsAt NextOfCertificate first text reader.old (den version) →
+    ensures { (text : List ℕ) → IsAt NextOfCertificate first text reader.old (scheduled version den) →
         MatchResult result (IsCertificateText text) (Halts (IsCertificateFault text reader.new.number)) }
 {
-    let Some(schedule) = schedule(reader) else {
+    let Some(schedule) = schedule_lines(reader) else {
         return Err(Halt::Form);
     };
     let departures = departures(alloc, reader, version)?;

@@ -1,15 +1,15 @@
 -- Where a reader of lines stands.
 use Rattle.std.proofs.Common.{◌≡◌, ℕ, ℤ, pos, negsuc, ◌≤ℤ◌, suc, ◌<◌, ◌≤◌, ◌+◌, ◌-◌, ◌^◌, true, false, Option, Some, None, MatchOption, Result, Ok, Err, MatchResult, List, [], ◌∷◌, ◌++◌, length, length-append, refl, ap, ◌∙◌, sym, subst, arith, eqb, decimal, All, Contains, append_assoc}
-use Rattle.std.proofs.lemmas.Grind.{get_or_default_zero}
+use Rattle.std.proofs.lemmas.Grind.{flat_map-append, get_or_default_zero}
 use Rattle.std.proofs.lemmas.List.{append_cancel_left, append-nil}
 use Rattle.std.proofs.lemmas.List.Elements.{All-append, All-cons, Contains-append_left, Contains-append_right}
 use Rattle.std.proofs.lemmas.List.Splits.{slice_split_at}
 use Rattle.std.specs.List.{slice_split}
-use Rattle.mintc_text.specs.Lines.{words, ended, text_of, numeral_of, IsFault, IsText}
-use Rattle.mintc_text.proofs.SharedLinesLaws.{Follows-push, text_of-push}
+use Rattle.mintc_text.specs.declared.limits.TheConstants.{MOST_BYTES}
+use Rattle.mintc_text.specs.Lines.{words, ended, text_of, numeral_of, Follows, IsFault, IsText}
 use Rattle.mintc_lines.specs.Fields.{plain, plain_line, Spells, IsWordLine, IsNumberLine, IsCountLine, IsNameLine}
 use Rattle.mintc_lines.specs.declared.halt.Halt.{Halt}
-use Rattle.mintc_lines.specs.Reading.{Reading, Halts, HasRead, HasNone, IsAt, number_after}
+use Rattle.mintc_lines.specs.Reading.{Reading, Halts, HasRead, HasNone, HasPassed, HasStopped, IsAt, number_after}
 use Rattle.mintc_lines.proofs.SharedFieldsLaws.{and_parts, and_both, no_space, plain_free, plain-numeral, plain-number, plain-from_graphic, short}
 
 -- the exits of a `?`
@@ -85,62 +85,127 @@ length_lines : (lines : List (List ℕ)) → length lines ≤ length (text_of li
 length_lines [] = omega arith
 length_lines (line ∷ lines) = omega (arith, length_lines lines, length-append (ended line) (text_of lines), length-append line (10 ∷ []))
 
-pub at_start : {S : Type 0} (next : S → List ℕ → S → Type 0) (start : S) (text : List ℕ) (at : Reading) → length text ≤ 67108864 → at.left ≡ text → at.number ≡ 0 →
+pub Follows-append : {S : Type 0} (next : S → List ℕ → S → Type 0) (a b c : S) (lines more : List (List ℕ)) → Follows next a lines b → Follows next b more c → Follows next a (lines ++ more) c
+Follows-append next a b c [] more h g = subst (λ s. Follows next s more c) (sym h) g
+Follows-append next a b c (line ∷ lines) more h g = (h.0, h.1, Follows-append next h.0 b c lines more h.2 g)
+
+pub passed_none : {S : Type 0} (next : S → List ℕ → S → Type 0) (a : S) (reading : Reading) → HasPassed next a reading reading a
+passed_none next a reading = record { lines = []; whole = refl; follows = refl; count = λ few. omega arith }
+
+passed_on : {S : Type 0} {next : S → List ℕ → S → Type 0} {a b c : S} {old mid new : Reading} → HasPassed next a old mid b → HasPassed next b mid new c → HasPassed next a old new c
+passed_on {next = next} {a = a} {b = b} {c = c} {new = new} p q = record {
+  lines = p.lines ++ q.lines;
+  whole = p.whole ∙ ap (λ l. text_of p.lines ++ l) q.whole ∙ sym (append_assoc (text_of p.lines) (text_of q.lines) new.left) ∙ ap (λ l. l ++ new.left) (sym (flat_map-append ended p.lines q.lines));
+  follows = Follows-append next a b c p.lines q.lines p.follows q.follows;
+  count = λ few.
+      let all = length-append p.lines q.lines in
+      let one = p.count (omega (arith, few, all)) in
+      let two = q.count (omega (arith, few, all, one)) in
+      omega (arith, all, one, two);
+}
+
+pub at_start : {S : Type 0} (next : S → List ℕ → S → Type 0) (start : S) (text : List ℕ) (at : Reading) → length text ≤ MOST_BYTES → at.left ≡ text → at.number ≡ 0 →
     IsAt next start text at start
-at_start next start text at short left number = record { short = short; before = []; whole = sym left; follows = refl; count = number }
+at_start next start text at short left number = record { short = short; passed = record { lines = []; whole = sym left; follows = refl; count = λ few. number } }
 
 counted_on : {S : Type 0} (next : S → List ℕ → S → Type 0) (start : S) (text : List ℕ) (old : Reading) (state : S) (number : ℕ) →
-    IsAt next start text old state → number ≡ number_after old.number → number ≡ old.number + 1
+    (at : IsAt next start text old state) → number ≡ number_after old.number → number ≡ length at.passed.lines + 1
 counted_on next start text old state number at counted =
-    omega (arith, counted, at.short, at.count, length_lines at.before, ap length at.whole, length-append (text_of at.before) old.left)
+    let lines : List (List ℕ) = at.passed.lines in
+    let whole : text ≡ text_of lines ++ old.left = at.passed.whole in
+    let few : length lines ≤ MOST_BYTES = omega (arith, at.short, length_lines lines, ap length whole, length-append (text_of lines) old.left) in
+    let told : 0 + length lines ≤ 4294967295 → old.number ≡ 0 + length lines = at.passed.count in
+    omega (arith, counted, few, told (omega (arith, few)))
+
+fault_there : {S : Type 0} {next : S → List ℕ → S → Type 0} {is_end : S → Type 0} {start : S} {text : List ℕ} {number : ℕ} → length text ≤ MOST_BYTES →
+    HasStopped next is_end start (record { left = text; number = 0 }) number → IsFault next is_end start text number
+fault_there {next = next} {start = start} {text = text} {number = number} short h = record {
+  before = h.passed.lines;
+  left = h.here.left;
+  state = h.state;
+  whole = h.passed.whole;
+  follows = h.passed.follows;
+  count = counted_on next start text h.here h.state number (record { short = short; passed = h.passed }) h.counted;
+  stuck = h.stuck;
+  unfinished = λ e. absurd (h.open_there e);
+}
+
+module _ {S : Type 0} {next : S → List ℕ → S → Type 0} {start : S} {first old : Reading} {state : S} where
+  -- a line in form leads on
+  pub passed_more : {V : Type 0} {F : V → List (List ℕ) → Type 0} {v : V} (new : Reading) (after : S) → HasPassed next start first old state → HasRead F old.left v new.left → new.number ≡ number_after old.number →
+      ((line : List ℕ) → Spells F v line → next state line after) → HasPassed next start first new after
+  passed_more new after passed read counted leads = passed_on passed (record {
+    lines = read.line ∷ [];
+    whole = read.whole ∙ ap (λ l. l ++ new.left) (sym (append-nil (ended read.line)));
+    follows = (after, leads read.line read.spells, refl);
+    count = λ few. omega (arith, counted, few);
+  })
+
+  -- and where none comes, reading stops
+  pub passed_stop : {V : Type 0} {is_last : S → Type 0} {number : ℕ} {F : V → List (List ℕ) → Type 0} → HasPassed next start first old state → HasNone F old.left → number ≡ number_after old.number → (is_last state → ⊥) →
+      ((line : List ℕ) (after : S) → next state line after → (v : V) × Spells F v line) → HasStopped next is_last start first number
+  passed_stop passed none counted open_there only = record {
+    state = state;
+    here = old;
+    passed = passed;
+    open_there = open_there;
+    stuck = λ line more after e step. none (only line after step).0 line more e (only line after step).1;
+    counted = counted;
+  }
 
 module _ {S : Type 0} {next : S → List ℕ → S → Type 0} {start : S} {text : List ℕ} {old : Reading} {state : S} where
-  -- a line in form leads on
+  -- the same from the start of a text
   pub at_more : {V : Type 0} {F : V → List (List ℕ) → Type 0} {v : V} (new : Reading) (after : S) → IsAt next start text old state → HasRead F old.left v new.left → new.number ≡ number_after old.number →
       ((line : List ℕ) → Spells F v line → next state line after) → IsAt next start text new after
-  at_more new after at read counted leads = record {
-    short = at.short;
-    before = at.before ++ read.line ∷ [];
-    whole = at.whole ∙ ap (λ (l : List ℕ). text_of at.before ++ l) read.whole ∙ sym (append_assoc (text_of at.before) (ended read.line) new.left)
-        ∙ ap (λ (l : List ℕ). l ++ new.left) (sym (text_of-push at.before read.line));
-    follows = Follows-push next start state after at.before read.line at.follows (leads read.line read.spells);
-    count = omega (arith, counted_on next start text old state new.number at counted, at.count, length-append at.before (read.line ∷ []));
-  }
+  at_more new after at read counted leads = record { short = at.short; passed = passed_more new after at.passed read counted leads }
 
-  -- and where none comes, the line is the fault
   pub at_fault : {V : Type 0} {is_end : S → Type 0} {number : ℕ} {F : V → List (List ℕ) → Type 0} → IsAt next start text old state → HasNone F old.left → number ≡ number_after old.number → (is_end state → ⊥) →
       ((line : List ℕ) (after : S) → next state line after → (v : V) × Spells F v line) → IsFault next is_end start text number
-  at_fault {number = number} at none counted unfinished only = record {
-    before = at.before;
-    left = old.left;
-    state = state;
-    whole = at.whole;
-    follows = at.follows;
-    count = omega (arith, counted_on next start text old state number at counted, at.count);
-    stuck = λ line more after e step. none (only line after step).0 line more e (only line after step).1;
-    unfinished = λ e. absurd (unfinished e);
-  }
+  at_fault at none counted unfinished only = fault_there at.short (passed_stop at.passed none counted unfinished only)
 
   -- the text ends where the format does
   pub at_end : IsAt next start text old state → old.left ≡ [] → IsText next start state text
   at_end at e = record {
-    lines = at.before;
-    whole = at.whole ∙ ap (λ (l : List ℕ). text_of at.before ++ l) e ∙ append-nil (text_of at.before);
-    follows = at.follows;
+    lines = at.passed.lines;
+    whole = at.passed.whole ∙ ap (λ (l : List ℕ). text_of at.passed.lines ++ l) e ∙ append-nil (text_of at.passed.lines);
+    follows = at.passed.follows;
   }
 
   -- or goes on, and that is the fault
   pub at_past : {is_end : S → Type 0} {number : ℕ} → IsAt next start text old state → (old.left ≡ [] → ⊥) → number ≡ number_after old.number → ((line : List ℕ) (after : S) → next state line after → ⊥) → IsFault next is_end start text number
   at_past {number = number} at left counted none = record {
-    before = at.before;
+    before = at.passed.lines;
     left = old.left;
     state = state;
-    whole = at.whole;
-    follows = at.follows;
-    count = omega (arith, counted_on next start text old state number at counted, at.count);
+    whole = at.passed.whole;
+    follows = at.passed.follows;
+    count = counted_on next start text old state number at counted;
     stuck = λ line more after e step. none line after step;
     unfinished = λ e. left;
   }
+
+-- ---- lines that are a part of those of a format
+
+follows_within : {A S : Type 0} (part : A → List ℕ → A → Type 0) (next : S → List ℕ → S → Type 0) (within : A → S) → ((x y : A) (line : List ℕ) → part x line y → next (within x) line (within y)) →
+    (x y : A) (lines : List (List ℕ)) → Follows part x lines y → Follows next (within x) lines (within y)
+follows_within part next within leads x y [] h = ap within h
+follows_within part next within leads x y (line ∷ lines) h = (within h.0, leads x h.0 line h.1, follows_within part next within leads h.0 y lines h.2)
+
+module _ {A S : Type 0} {part : A → List ℕ → A → Type 0} {next : S → List ℕ → S → Type 0} (within : A → S) (leads : (x y : A) (line : List ℕ) → part x line y → next (within x) line (within y)) where
+  pub at_within : {start : S} {text : List ℕ} {a b : A} {old new : Reading} → IsAt next start text old (within a) → HasPassed part a old new b → IsAt next start text new (within b)
+  at_within {a = a} {b = b} at p =
+      record { short = at.short; passed = passed_on at.passed (record { lines = p.lines; whole = p.whole; follows = follows_within part next within leads a b p.lines p.follows; count = p.count }) }
+
+  pub at_stopped : {start : S} {text : List ℕ} {a : A} {old : Reading} {number : ℕ} {is_last : A → Type 0} {is_end : S → Type 0} → IsAt next start text old (within a) → HasStopped part is_last a old number →
+      ((x : A) (line : List ℕ) (after : S) → (is_last x → ⊥) → next (within x) line after → (y : A) × part x line y) → ((x : A) → is_end (within x) → ⊥) → IsFault next is_end start text number
+  at_stopped at h only unfinished = fault_there at.short (record {
+    state = within h.state;
+    here = h.here;
+    passed = (at_within at h.passed).passed;
+    open_there = unfinished h.state;
+    stuck = λ line more after e step. let inside = only h.state line after h.open_there step in h.stuck line more inside.0 e inside.1;
+    counted = h.counted;
+  })
 
 -- ---- a list: a state for each number of lines that are left
 

@@ -10,11 +10,12 @@ use Rattle.mintc_timing.specs.declared.clocking.Schedule.{Schedule}
 use Rattle.mintc_lines.specs.Fields.{IsNumberLine, IsCountLine}
 use Rattle.mintc_timing.specs.Limits.{IsNumerator, IsDenominator, IsInRange}
 use Rattle.mintc_lines.specs.TextLaws.{HaveOneSchedule, HaveNoScheduleFault, HaveOneScheduleFault}
-use Rattle.mintc_lines.specs.Texts.{NextOfSchedule, IsWholeSchedule, IsPhaseLine, IsScheduleText, ScheduleLines, first, den, cycle, phases, phase, whole, no_phases, with_phase}
+use Rattle.mintc_lines.specs.Texts.{NextOfSchedule, NextOfText, IsWholeText, IsLast, IsPhaseLine, IsScheduleText, ScheduleLines, den, cycle, phases, phase, TextLines, first, body, whole, no_phases, with_phase}
 use Rattle.mintc_lines.proofs.SharedFieldsLaws.{short}
 use Rattle.mintc_lines.proofs.SharedLineLaws.{IsForm, word_form, count_form, number_form}
 use Rattle.mintc_lines.proofs.SharedScheduleReading.{plain-phase_line}
-use Rattle.mintc_lines.proofs.SharedTextLaws.{along, IsPlainFormat, IsPlainStep, plain_step, no_step, text_one_end, text_no_fault, text_one_fault}
+use Rattle.mintc_lines.proofs.SharedSpelling.{rest_count, Agrees, agrees_none, agrees_back, agrees_same, IsSpelledStep}
+use Rattle.mintc_lines.proofs.SharedTextLaws.{along, IsPlainFormat, IsPlainStep, plain_step, no_step, step_by, text_one_end, text_no_fault, text_one_fault}
 
 -- what is kept of a schedule while its lines come
 pub record IsSoFar (left : ℕ) (s : Schedule) : Type 0 where
@@ -27,7 +28,7 @@ pub record IsSoFar (left : ℕ) (s : Schedule) : Type 0 where
   pub few : length s.starts + left ≤ MOST_PHASES
 
 -- the lines before those of the phases begin it, the line of a phase keeps it, and the last of them ends it
-pub phases_begun : (d t : ℤ) (left : ℕ) → IsDenominator d → IsNumerator t → 1 ≤ left → left ≤ MOST_PHASES → IsSoFar left (no_phases d t)
+phases_begun : (d t : ℤ) (left : ℕ) → IsDenominator d → IsNumerator t → 1 ≤ left → left ≤ MOST_PHASES → IsSoFar left (no_phases d t)
 phases_begun d t left den_in cycle_in some few = record {
   den = den_in;
   cycle = cycle_in;
@@ -38,7 +39,7 @@ phases_begun d t left den_in cycle_in some few = record {
   few = omega arith;
 }
 
-pub phase_kept : (left : ℕ) (s : Schedule) (p : ℤ × ℤ) (ws : List (List ℕ)) → IsSoFar (suc left) s → IsPhaseLine p ws → IsSoFar left (with_phase s p)
+phase_kept : (left : ℕ) (s : Schedule) (p : ℤ × ℤ) (ws : List (List ℕ)) → IsSoFar (suc left) s → IsPhaseLine p ws → IsSoFar left (with_phase s p)
 phase_kept left s p ws k h = record {
   den = k.den;
   cycle = k.cycle;
@@ -49,7 +50,7 @@ phase_kept left s p ws k h = record {
   few = omega (arith, k.few, length-append s.starts (p.0 ∷ []));
 }
 
-pub phases_ended : (s : Schedule) → IsSoFar 0 s → IsInRange s
+phases_ended : (s : Schedule) → IsSoFar 0 s → IsInRange s
 phases_ended s k = record {
   den = k.den;
   cycle = k.cycle;
@@ -59,33 +60,41 @@ phases_ended s k = record {
   alike = k.alike;
 }
 
-abbrev Keeps : ScheduleLines → Type 0
+abbrev pub KeepsSchedule : ScheduleLines → Type 0
+KeepsSchedule den = Unit {0}
+KeepsSchedule (cycle d) = IsDenominator d
+KeepsSchedule (phases d t) = IsDenominator d × IsNumerator t
+KeepsSchedule (phase left s) = IsSoFar left s
+
+-- each line of a schedule keeps it, in whatever text
+pub schedule_keeps : {S : Type 0} (within : ScheduleLines → S) (beyond : Schedule → List ℕ → S → Type 0) (P : S → Type 0) → ((l : ScheduleLines) → KeepsSchedule l → P (within l)) →
+    ((s : Schedule) (line : List ℕ) (b : S) → beyond s line b → IsInRange s → P b) → (l : ScheduleLines) (line : List ℕ) (b : S) → NextOfSchedule within beyond l line b → KeepsSchedule l → P b
+schedule_keeps within beyond P inside last den line b h k = subst P (sym h.2) (inside (cycle h.0) h.1.1.0)
+schedule_keeps within beyond P inside last (cycle d) line b h k = subst P (sym h.2) (inside (phases d h.0) (k, h.1.1.0))
+schedule_keeps within beyond P inside last (phases d t) line b h k = subst P (sym h.2) (inside (phase h.0 (no_phases d t)) (phases_begun d t h.0 k.0 k.1 h.1.1.0 h.1.1.1))
+schedule_keeps within beyond P inside last (phase (suc left) s) line b h k = subst P (sym h.2) (inside (phase left (with_phase s h.0)) (phase_kept left s h.0 h.1.0 k h.1.1))
+schedule_keeps within beyond P inside last (phase zero s) line b h k = last s line b h (phases_ended s k)
+
+abbrev Keeps : TextLines → Type 0
 Keeps first = Unit {0}
-Keeps den = Unit {0}
-Keeps (cycle d) = IsDenominator d
-Keeps (phases d t) = IsDenominator d × IsNumerator t
-Keeps (phase left s) = IsSoFar left s
+Keeps (body lines) = KeepsSchedule lines
 Keeps (whole s) = IsInRange s
 
-keeps_next : (a : ScheduleLines) (line : List ℕ) (b : ScheduleLines) → NextOfSchedule a line b → Keeps a → Keeps b
+keeps_next : (a : TextLines) (line : List ℕ) (b : TextLines) → NextOfText a line b → Keeps a → Keeps b
 keeps_next first line b h k = subst Keeps (sym h.2) tt
-keeps_next den line b h k = subst Keeps (sym h.2) h.1.1.0
-keeps_next (cycle d) line b h k = subst Keeps (sym h.2) (k, h.1.1.0)
-keeps_next (phases d t) line b h k = subst Keeps (sym h.2) (phases_begun d t h.0 k.0 k.1 h.1.1.0 h.1.1.1)
-keeps_next (phase (suc left) s) line b h k = subst Keeps (sym h.2) (phase_kept left s h.0 h.1.0 k h.1.1)
-keeps_next (phase zero s) line b h k = subst Keeps (sym h.2) (phases_ended s k)
+keeps_next (body lines) line b h k = schedule_keeps body IsLast Keeps (λ l k. k) (λ s line b h k. subst Keeps (sym h.2) k) lines line b h k
 keeps_next (whole s) line b h k = absurd h
 
 -- what a schedule's text says is in range
 pub IsInRange-from_text : (text : List ℕ) (s : Schedule) → IsScheduleText text s → IsInRange s
-IsInRange-from_text text s h = along NextOfSchedule Keeps keeps_next first h.lines (whole s) h.follows tt
+IsInRange-from_text text s h = along NextOfText Keeps keeps_next first h.lines (whole s) h.follows tt
 
 -- ---- the forms of a schedule's lines
 
 numerator_short : (z : ℤ) → IsNumerator z → IsShort z
 numerator_short z h = short (pos 0) MOST_NUMERATOR z (omega (arith, ints)) (omega (arith, ints)) h
 
-pub phase_one : (p q : ℤ × ℤ) (ws : List (List ℕ)) → IsPhaseLine p ws → IsPhaseLine q ws → p ≡ q
+phase_one : (p q : ℤ × ℤ) (ws : List (List ℕ)) → IsPhaseLine p ws → IsPhaseLine q ws → p ≡ q
 phase_one p q ws h g =
     let a = h.2 in let b = g.2 in
     let starts : numeral_of p.0 ≡ numeral_of q.0 = cc in
@@ -94,42 +103,71 @@ phase_one p q ws h g =
     let width : p.1 ≡ q.1 = same_numeral p.1 q.1 (numerator_short p.1 h.1) (numerator_short q.1 g.1) widths in
     ap (λ (x : ℤ). (x, p.1)) start ∙ ap (λ (x : ℤ). (q.0, x)) width
 
-pub phase_form : IsForm IsPhaseLine
+phase_form : IsForm IsPhaseLine
 phase_form = record { plain = plain-phase_line; one = phase_one; words = λ p ws xs h g. h.2 ∙ sym g.2 }
 
-pub den_form : IsForm (IsNumberLine (codes "den") (pos 1) MOST_DENOMINATOR)
+den_form : IsForm (IsNumberLine (codes "den") (pos 1) MOST_DENOMINATOR)
 den_form = number_form (codes "den") (pos 1) MOST_DENOMINATOR refl (omega (arith, ints)) (omega (arith, ints))
 
-pub cycle_form : IsForm (IsNumberLine (codes "cycle") (pos 0) MOST_NUMERATOR)
+cycle_form : IsForm (IsNumberLine (codes "cycle") (pos 0) MOST_NUMERATOR)
 cycle_form = number_form (codes "cycle") (pos 0) MOST_NUMERATOR refl (omega (arith, ints)) (omega (arith, ints))
 
-pub phases_form : IsForm (IsCountLine (codes "phases") 1 MOST_PHASES)
+phases_form : IsForm (IsCountLine (codes "phases") 1 MOST_PHASES)
 phases_form = count_form (codes "phases") 1 MOST_PHASES refl (omega arith)
 
-abbrev pub Any : ScheduleLines → Type 0
+-- Each line of a schedule leads to one state, in whatever text.
+pub schedule_step : {S : Type 0} (within : ScheduleLines → S) (beyond : Schedule → List ℕ → S → Type 0) (P : S → Type 0) → ((l : ScheduleLines) → P (within l)) →
+    ((s : Schedule) → IsPlainStep (beyond s) P) → (l : ScheduleLines) → IsPlainStep (NextOfSchedule within beyond l) P
+schedule_step within beyond P inside last den = plain_step den_form (λ d ws h. inside (cycle d))
+schedule_step within beyond P inside last (cycle d) = plain_step cycle_form (λ t ws h. inside (phases d t))
+schedule_step within beyond P inside last (phases d t) = plain_step phases_form (λ k ws h. inside (phase k (no_phases d t)))
+schedule_step within beyond P inside last (phase (suc left) s) = plain_step phase_form (λ p ws h. inside (phase left (with_phase s p)))
+schedule_step within beyond P inside last (phase zero s) = last s
+
+-- what a state knows of the schedule to which it leads
+abbrev pub BeginsSchedule : ScheduleLines → Schedule → Type 0
+BeginsSchedule den s = Unit {0}
+BeginsSchedule (cycle d) s = d ≡ s.den
+BeginsSchedule (phases d t) s = (d ≡ s.den) × (t ≡ s.cycle)
+BeginsSchedule (phase left p) s = Agrees left p s
+
+module _ {S : Type 0} (within : ScheduleLines → S) (beyond : Schedule → List ℕ → S → Type 0) (B : S → Type 0) (s : Schedule) (inside : (l : ScheduleLines) → B (within l) → BeginsSchedule l s) where
+  pub schedule_back : ((p : Schedule) (line : List ℕ) (b : S) → beyond p line b → B b → p ≡ s) → (l : ScheduleLines) (line : List ℕ) (b : S) → NextOfSchedule within beyond l line b → B b → BeginsSchedule l s
+  schedule_back last den line b h g = tt
+  schedule_back last (cycle d) line b h g = (inside (phases d h.0) (subst B h.2 g)).0
+  schedule_back last (phases d t) line b h g = let k = inside (phase h.0 (no_phases d t)) (subst B h.2 g) in (k.den, k.cycle)
+  schedule_back last (phase (suc left) p) line b h g = agrees_back left p s h.0 (inside (phase left (with_phase p h.0)) (subst B h.2 g))
+  schedule_back last (phase zero p) line b h g = agrees_none p s (last p line b h g)
+
+  pub schedule_spelled : ((p : Schedule) → IsSpelledStep (beyond p) B) → (l : ScheduleLines) → IsSpelledStep (NextOfSchedule within beyond l) B
+  schedule_spelled last den = step_by den_form (λ x y k l. inside (cycle x) k ∙ sym (inside (cycle y) l))
+  schedule_spelled last (cycle d) = step_by cycle_form (λ x y k l. (inside (phases d x) k).1 ∙ sym (inside (phases d y) l).1)
+  schedule_spelled last (phases d t) = step_by phases_form (λ m n k l. rest_count [] s.starts m n (inside (phase m (no_phases d t)) k).starts (inside (phase n (no_phases d t)) l).starts)
+  schedule_spelled last (phase (suc left) p) = step_by phase_form (λ x y k l. agrees_same left p s x y (inside (phase left (with_phase p x)) k) (inside (phase left (with_phase p y)) l))
+  schedule_spelled last (phase zero p) = last p
+
+-- ---- the text of a schedule alone
+
+abbrev pub Any : TextLines → Type 0
 Any a = Unit {0}
 
-schedule_step : (a : ScheduleLines) → IsPlainStep (NextOfSchedule a) Any
-schedule_step first = plain_step (count_form (codes "schedule") 1 1 refl (omega arith)) (λ n ws h. tt)
-schedule_step den = plain_step den_form (λ d ws h. tt)
-schedule_step (cycle d) = plain_step cycle_form (λ t ws h. tt)
-schedule_step (phases d t) = plain_step phases_form (λ k ws h. tt)
-schedule_step (phase (suc left) s) = plain_step phase_form (λ p ws h. tt)
-schedule_step (phase zero s) = plain_step (word_form (codes "end") refl) (λ u ws h. tt)
-schedule_step (whole s) = no_step
+text_step : (a : TextLines) → IsPlainStep (NextOfText a) Any
+text_step first = plain_step (count_form (codes "schedule") 1 1 refl (omega arith)) (λ n ws h. tt)
+text_step (body lines) = schedule_step body IsLast Any (λ l. tt) (λ s. plain_step (word_form (codes "end") refl) (λ u ws h. tt)) lines
+text_step (whole s) = no_step
 
-pub schedule_plain : IsPlainFormat NextOfSchedule Any
-schedule_plain = record { keeps = λ a b line p h. tt; one = λ a b c line p h g. (schedule_step a).one b c line h g; free = λ a b line p h. (schedule_step a).free b line h }
+pub schedule_plain : IsPlainFormat NextOfText Any
+schedule_plain = record { keeps = λ a b line p h. tt; one = λ a b c line p h g. (text_step a).one b c line h g; free = λ a b line p h. (text_step a).free b line h }
 
 whole_same : (s t : Schedule) → whole s ≡ whole t → s ≡ t
 whole_same s t e = cc
 
 pub schedules_have_one_value : HaveOneSchedule
 schedules_have_one_value text s t h g =
-    whole_same s t (text_one_end NextOfSchedule Any schedule_plain first (whole s) (whole t) text tt h g (λ line after step. step) (λ line after step. step))
+    whole_same s t (text_one_end NextOfText Any schedule_plain first (whole s) (whole t) text tt h g (λ line after step. step) (λ line after step. step))
 
 pub schedules_have_no_fault : HaveNoScheduleFault
-schedules_have_no_fault text s n h f = text_no_fault NextOfSchedule IsWholeSchedule Any schedule_plain first (whole s) text n tt h tt f
+schedules_have_no_fault text s n h f = text_no_fault NextOfText IsWholeText Any schedule_plain first (whole s) text n tt h tt f
 
 pub schedules_have_one_fault : HaveOneScheduleFault
-schedules_have_one_fault text m n f g = text_one_fault NextOfSchedule IsWholeSchedule Any schedule_plain first text m n tt f g
+schedules_have_one_fault text m n f g = text_one_fault NextOfText IsWholeText Any schedule_plain first text m n tt f g

@@ -3,7 +3,7 @@ use Rattle.std.proofs.Common.{◌≡◌, ℕ, pos, List, [], ◌∷◌, ◌++◌
 use Rattle.std.proofs.lemmas.Int.{ints}
 use Rattle.std.specs.Fmt.{digits}
 use Rattle.mintc_text.specs.Lines.{text_of, ended}
-use Rattle.mintc_lines.specs.Texts.{IsScheduleText, IsScheduleFault, first, den, cycle, phases, phase, whole, no_phases, with_phase}
+use Rattle.mintc_lines.specs.Texts.{IsScheduleText, IsScheduleFault, first, body, den, cycle, phases, phase, whole, no_phases, with_phase}
 use Rattle.mintc_timing.specs.Worked.{of_100}
 
 abbrev pub text_100 : List ℕ
@@ -15,22 +15,22 @@ schedule_text_100 = record {
   lines = codes "schedule 1" ∷ codes "den 1" ∷ codes "cycle 100" ∷ codes "phases 2" ∷ codes "phase 0 10" ∷ codes "phase 10 30" ∷ codes "end" ∷ [];
   whole = refl;
   follows = (
-    den,
+    body den,
     (1, (codes "schedule" ∷ decimal 1 ∷ [], (omega arith, omega arith, refl), refl), refl),
     (
-      cycle (pos 1),
+      body (cycle (pos 1)),
       (pos 1, (codes "den" ∷ decimal 1 ∷ [], ((omega (arith, ints), omega (arith, ints)), refl), refl), refl),
       (
-        phases (pos 1) (pos 100),
+        body (phases (pos 1) (pos 100)),
         (pos 100, (codes "cycle" ∷ decimal 100 ∷ [], ((omega (arith, ints), omega (arith, ints)), refl), refl), refl),
         (
-          phase 2 (no_phases (pos 1) (pos 100)),
+          body (phase 2 (no_phases (pos 1) (pos 100))),
           (2, (codes "phases" ∷ decimal 2 ∷ [], (omega arith, omega arith, refl), refl), refl),
           (
-            phase 1 (with_phase (no_phases (pos 1) (pos 100)) (pos 0, pos 10)),
+            body (phase 1 (with_phase (no_phases (pos 1) (pos 100)) (pos 0, pos 10))),
             ((pos 0, pos 10), (codes "phase" ∷ decimal 0 ∷ decimal 10 ∷ [], ((omega (arith, ints), omega (arith, ints)), (omega (arith, ints), omega (arith, ints)), refl), refl), refl),
             (
-              phase 0 of_100,
+              body (phase 0 of_100),
               ((pos 10, pos 30), (codes "phase" ∷ decimal 10 ∷ decimal 30 ∷ [], ((omega (arith, ints), omega (arith, ints)), (omega (arith, ints), omega (arith, ints)), refl), refl), refl),
               (whole of_100, (tt, (codes "end" ∷ [], refl, refl), refl), refl),
             ),

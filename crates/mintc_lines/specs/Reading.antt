@@ -1,7 +1,7 @@
 -- Where a reader of lines stands in a text, and where it halts.
 use Rattle.std.specs.Prelude.{◌≡◌, ◌≤◌, ◌+◌, ℕ, List, ◌++◌, length, min}
 use Rattle.mintc_text.specs.declared.limits.TheConstants.{MOST_BYTES}
-use Rattle.mintc_text.specs.Lines.{ended, text_of, Follows}
+use Rattle.mintc_text.specs.Lines.{ended, text_of, Follows, IsStuck}
 use Rattle.mintc_lines.specs.declared.halt.Halt.{Halt}
 use Rattle.mintc_lines.specs.declared.halt.Halt.TheVariants.{Form, Memory}
 use Rattle.mintc_lines.specs.Fields.{Spells}
@@ -30,10 +30,23 @@ abbrev pub Halts : Type 0 → Halt → Type 0
 Halts fault Form = fault
 Halts fault Memory = Unit {0}
 
+-- The lines that were read lead from one state to another. They are counted as far as 32 bits go.
+pub record HasPassed {S : Type 0} (next : S → List ℕ → S → Type 0) (a : S) (old new : Reading) (b : S) : Type 0 where
+  pub lines : List (List ℕ)
+  pub whole : old.left ≡ text_of lines ++ new.left
+  pub follows : Follows next a lines b
+  pub count : old.number + length lines ≤ 4294967295 → new.number ≡ old.number + length lines
+
+-- Lines lead on from a state, to none of the last, and the line of this number is no line that may come then.
+pub record HasStopped {S : Type 0} (next : S → List ℕ → S → Type 0) (is_last : S → Type 0) (a : S) (old : Reading) (n : ℕ) : Type 0 where
+  pub state : S
+  pub here : Reading
+  pub passed : HasPassed next a old here state
+  pub open_there : is_last state → ⊥
+  pub stuck : IsStuck next state here.left
+  pub counted : n ≡ number_after here.number
+
 -- The lines that were read of a short text lead to this state.
 pub record IsAt {S : Type 0} (next : S → List ℕ → S → Type 0) (start : S) (text : List ℕ) (reading : Reading) (state : S) : Type 0 where
   pub short : length text ≤ MOST_BYTES
-  pub before : List (List ℕ)
-  pub whole : text ≡ text_of before ++ reading.left
-  pub follows : Follows next start before state
-  pub count : reading.number ≡ length before
+  pub passed : HasPassed next start (record { left = text; number = 0 }) reading state

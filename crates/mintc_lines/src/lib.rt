@@ -15,6 +15,6 @@ mod text_laws;
 pub use fields::Fields;
 pub use halt::Halt;
 pub use reader::Reader;
-pub use schedule_text::read_schedule;
+pub use schedule_text::{read_schedule, schedule_lines};
 pub use table_text::read_table;
 pub use text_laws::{schedule_texts_are_plain, table_texts_are_plain, texts_are_canonical};

@@ -1,4 +1,4 @@
-use Rattle.mintc_lines.specs.Texts.{NextOfSchedule, first}
+use Rattle.mintc_lines.specs.Texts.{NextOfText, first}
 use Rattle.mintc_lines.proofs.SharedReadingLaws.{at_start}
 use Rattle.mintc_lines.proofs.SharedScheduleLaws.{IsInRange-from_text}
 use Rattle.mintc_lines.proofs.schedule_text.read_schedule.Goals as goal
@@ -7,4 +7,4 @@ pub returns-in-Some-clause-in_range : goal.returns-in-Some-clause-in_range
 returns-in-Some-clause-in_range c =
     let text = c.args.text.now in
     IsInRange-from_text text c.in-Some.schedule
-    (c.in-Some.ensures text (at_start NextOfSchedule first text c.new-reader.result c.requires c.new-reader.ensures.left c.new-reader.ensures.number))
+    (c.in-Some.ensures text (at_start NextOfText first text c.new-reader.result c.requires c.new-reader.ensures.left c.new-reader.ensures.number))
