@@ -1,5 +1,6 @@
 //! The cells of a text: one group `library`.
 ghost use Rattle.std.specs.Prelude.{◌≡◌, ◌≤◌, ◌++◌, ◌∷◌, ℕ, [], filter_map, length, Some, None, Ok, Err, IsOk, IfOk, OnOk, MatchBool, MatchOption, MatchResult};
+ghost use Rattle.mintc_text.specs.declared.limits.TheConstants.{MOST_BYTES};
 ghost use Rattle.mintc_text.specs.declared.refusals.Refusal.TheVariants.{Syntax};
 ghost use Rattle.mintc_text.specs.declared.refusals.Role.TheVariants as role;
 ghost use Rattle.mintc_text.specs.Stops.{StopsAt};
@@ -157,7 +158,7 @@ fn cells_of(alloc: Global, text: &[u8]) -> Result<Vec<(Name, Cell)>, OutOfMemory
 /// statement directly in the library that is out of form, or of one more than there are. A cell that can't be used is passed
 /// over.
 pub fn read_liberty(alloc: Global, text: &[u8]) -> Result<Cells, Stop>
-    requires { length text.now ≤ 67108864 }
+    requires { length text.now ≤ MOST_BYTES }
     ensures { MatchResult result (λ cells. liberty_cells text.now ≡ Ok cells) (StopsAt (λ r. (n : ℕ) × (liberty_cells text.now ≡ Err n) × (r ≡ Syntax role.Cells n))) }
 {
     match syntax_of(text) {
