@@ -1,5 +1,5 @@
 -- Departures and least cycles are determined; paths join.
-use Rattle.std.proofs.Common.{◌≡◌, ◌≢◌, ℕ, ◌<◌, ℤ, pos, ◌≤ℤ◌, ◌+ℤ◌, ◌*ℤ◌, List, [], ◌∷◌, ◌++◌, length, arith, refl, ◌∙◌, sym}
+use Rattle.std.proofs.Common.{◌≡◌, ◌≢◌, ℕ, ◌<◌, ℤ, pos, ◌≤ℤ◌, ◌*ℤ◌, List, [], ◌∷◌, ◌++◌, length, arith, refl, ◌∙◌, sym}
 use Rattle.std.proofs.Math.IntN.{zero-*ℤ}
 use Rattle.std.proofs.lemmas.Int.{ints}
 use Rattle.std.proofs.lemmas.List.{same_lists, get_or_default}
@@ -7,7 +7,7 @@ use Rattle.mintc_timing.specs.declared.parts.TimingArc.{TimingArc}
 use Rattle.mintc_rings.proofs.SharedRingLaws.{total-append, LeadsBy-append}
 use Rattle.mintc_timing.specs.Design.{element_count, no_arc}
 use Rattle.mintc_timing.specs.Links.{delay_of}
-use Rattle.mintc_timing.specs.Paths.{arc_at, Leads}
+use Rattle.mintc_timing.specs.Paths.{arc_at}
 use Rattle.mintc_timing.specs.Departures.{departure}
 use Rattle.mintc_timing.specs.Laws.{LateAreDetermined, EarlyAreDetermined, PathsJoin, LeastCycleIsDetermined, LeastCycleIsNoHopelessness, ForbidsAll}
 use Rattle.mintc_timing.proofs.LeastLaws.{AreLate-unique, IsLeastCycle-unique}

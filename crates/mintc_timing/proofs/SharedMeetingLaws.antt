@@ -1,5 +1,5 @@
 -- The links of a design hold of each right schedule, so no chain of them forbids its cycle time.
-use Rattle.std.proofs.Common.{◌≡◌, ℤ, ◌≤ℤ◌, arith}
+use Rattle.std.proofs.Common.{arith}
 use Rattle.std.proofs.lemmas.Int.{ints}
 use Rattle.mintc_timing.specs.Times.{Meets, node_time}
 use Rattle.mintc_timing.specs.Links.{links_of}

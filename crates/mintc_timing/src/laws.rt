@@ -18,11 +18,13 @@ pub fn violations_are_determined()
 {}
 
 /// A setup is kept exactly where it has no amount above 0.
+#[tactic(auto, using(crate::proofs::SharedAmountLaws::setups_have_amounts_lem))]
 pub fn setups_have_amounts()
     ensures { SetupsHaveAmounts }
 {}
 
 /// A hold is kept exactly where it has no amount above 0.
+#[tactic(auto, using(crate::proofs::SharedAmountLaws::holds_have_amounts_lem))]
 pub fn holds_have_amounts()
     ensures { HoldsHaveAmounts }
 {}
@@ -43,21 +45,25 @@ pub fn least_cycle_is_determined()
 {}
 
 /// A design can't both have a least cycle and be hopeless.
+#[tactic(auto, using(crate::proofs::SharedDeterminedLaws::least_cycle_is_no_hopelessness_lem))]
 pub fn least_cycle_is_no_hopelessness()
     ensures { LeastCycleIsNoHopelessness }
 {}
 
 /// A chain with no cycle and a positive delay forbids every cycle time.
+#[tactic(auto, using(crate::proofs::SharedDeterminedLaws::forbids_all_lem))]
 pub fn forbids_all()
     ensures { ForbidsAll }
 {}
 
 /// The moments of a right schedule meet each link of its design.
+#[tactic(auto, using(crate::proofs::SharedMeetingLaws::right_meets_links_lem))]
 pub fn right_meets_links()
     ensures { RightMeetsLinks }
 {}
 
 /// No chain of a design's links forbids the cycle time of a right schedule.
+#[tactic(auto, using(crate::proofs::SharedMeetingLaws::no_chain_forbids_right_lem))]
 pub fn no_chain_forbids_right()
     ensures { NoChainForbidsRight }
 {}
@@ -68,6 +74,7 @@ pub fn pairs_are_determined()
 {}
 
 /// The design of a system is accepted.
+#[tactic(auto, using(crate::proofs::AcceptedLaws::systems_are_accepted_lem))]
 pub fn systems_are_accepted()
     ensures { SystemsAreAccepted }
 {}
