@@ -1,5 +1,11 @@
 //! Small designs as tables.
+use mintc_lines::read_table;
+use mintc_order::order;
+use mintc_paths::extremes;
+use mintc_text::Stop;
+use mintc_timing::{Flat, System};
 use std::alloc::{AllocError, Global};
+use std::process::Abort;
 
 /// A table with so many elements and inner bits, and these arcs.
 #[derive(Clone, Copy)]
@@ -10,20 +16,45 @@ pub struct Case {
     pub arcs: &'static [&'static str],
 }
 
-/// The text of a case's table.
-pub fn text_of(alloc: Global, case: &Case) -> Result<String, AllocError> {
-    let count = case.arcs.len();
-    let (elements, inner) = (case.elements, case.inner);
-    let mut text = format!(in alloc; "table 1\nphases 1\nphase p\nelements {elements}\n")?;
+/// Writes a row for each element of a case.
+fn push_elements(text: &mut String, elements: u32) -> Result<(), AllocError> {
     for _ in 0..elements {
         text.push_str("element a 1 0 - 0 0 0\n")?;
     }
+    Ok(())
+}
+
+/// Writes the inner bits and the arcs of a case.
+fn push_arcs(alloc: Global, text: &mut String, case: &Case) -> Result<(), AllocError> {
+    let (inner, count) = (case.inner, case.arcs.len());
     text.push_str(&format!(in alloc; "inner {inner}\narcs {count}\n")?)?;
     for arc in case.arcs {
         text.push_str(&format!(in alloc; "arc {arc}\n")?)?;
     }
-    text.push_str("bounds 0\nend\n")?;
+    text.push_str("bounds 0\nend\n")
+}
+
+/// The text of a case's table.
+pub fn text_of(alloc: Global, case: &Case) -> Result<String, AllocError> {
+    let elements = case.elements;
+    let mut text = format!(in alloc; "table 1\nphases 1\nphase p\nelements {elements}\n")?;
+    push_elements(&mut text, elements)?;
+    push_arcs(alloc, &mut text, case)?;
     Ok(text)
+}
+
+/// The design of a table's text.
+pub fn design_of_text(rt: &impl Abort, alloc: Global, text: &str) -> Result<Flat, Stop> {
+    assert!(rt; text.len() < 100_000);
+    read_table(alloc, text.as_bytes())
+}
+
+/// The system of a table's text.
+pub fn system_of_text(rt: &impl Abort, alloc: Global, text: &str) -> Result<System, Stop> {
+    let flat = design_of_text(rt, alloc, text)?;
+    let order = order(alloc, &flat)?;
+    let pairs = extremes(alloc, &flat, &order)?;
+    Ok(System::new(flat, order, pairs))
 }
 
 pub const NINE: Case = Case {

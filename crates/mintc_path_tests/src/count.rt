@@ -1,12 +1,10 @@
 //! Tests of what no clause says: small designs whose pairs are listed and counted, and refusals.
 use crate::cases::{
     ABOVE_LIMIT, AT_LIMIT, Case, DIAMOND, ELEVEN, ENDS, INNER, NINE, NONE, PARALLEL, PATHS, SELVES,
-    UNLED, text_of,
+    UNLED, design_of_text, system_of_text, text_of,
 };
 use mintc_count::count_pairs;
-use mintc_lines::read_table;
 use mintc_order::order;
-use mintc_paths::extremes;
 use mintc_text::{Refusal, Stop};
 use std::alloc::{AllocError, Global};
 use std::process::Abort;
@@ -14,11 +12,8 @@ use std::test::Fail;
 
 /// How many pairs `extremes` lists for a table.
 fn listed(rt: &impl Abort, alloc: Global, text: &str) -> Result<u64, Stop> {
-    assert!(rt; text.len() < 100_000);
-    let flat = read_table(alloc, text.as_bytes())?;
-    let order = order(alloc, &flat)?;
-    let pairs = extremes(alloc, &flat, &order)?;
-    Ok(pairs.len() as u64)
+    let system = system_of_text(rt, alloc, text)?;
+    Ok(system.pairs().len() as u64)
 }
 
 const FEW: Case = Case {
@@ -57,8 +52,7 @@ fn crowd_text(alloc: Global, elements: usize) -> Result<String, AllocError> {
 
 /// What `count_pairs` gives for a table.
 fn counted(rt: &impl Abort, alloc: Global, text: &str) -> Result<u64, Stop> {
-    assert!(rt; text.len() < 100_000);
-    let flat = read_table(alloc, text.as_bytes())?;
+    let flat = design_of_text(rt, alloc, text)?;
     let order = order(alloc, &flat)?;
     count_pairs(alloc, &flat, &order)
 }
@@ -81,20 +75,26 @@ fn pairs_are_counted(rt: HostRuntime) -> Result<(), Fail> {
 fn pairs_are_counted_from_few_inputs_back(rt: HostRuntime) -> Result<(), Fail> {
     let alloc = rt.alloc();
     let text = text_of(alloc, &FEW).ok().ok_or("no memory")?;
-    assert_eq!(rt; counted(&rt, alloc, &text).ok(), Some(13));
+    assert!(rt; counted(&rt, alloc, &text).ok() == Some(13));
+    Ok(())
+}
+
+#[test]
+fn the_most_pairs_are_counted(rt: HostRuntime) -> Result<(), Fail> {
+    let alloc = rt.alloc();
+    let text = crowd_text(alloc, 447).ok().ok_or("no memory")?;
+    assert!(rt; counted(&rt, alloc, &text).ok() == Some(199_809));
     Ok(())
 }
 
 #[test]
 fn too_many_pairs_are_counted(rt: HostRuntime) -> Result<(), Fail> {
     let alloc = rt.alloc();
-    let most = crowd_text(alloc, 447).ok().ok_or("no memory")?;
-    assert_eq!(rt; counted(&rt, alloc, &most).ok(), Some(199_809));
-    let more = crowd_text(alloc, 448).ok().ok_or("no memory")?;
-    let Err(Stop::Refused(Refusal::Limit { kind: _, count })) = counted(&rt, alloc, &more) else {
+    let text = crowd_text(alloc, 448).ok().ok_or("no memory")?;
+    let Err(Stop::Refused(Refusal::Limit { kind: _, count })) = counted(&rt, alloc, &text) else {
         return Err("accepted".into());
     };
-    assert_eq!(rt; count, 200_704);
+    assert!(rt; count == 200_704, "{count}");
     Ok(())
 }
 
@@ -105,6 +105,6 @@ fn a_long_path_is_not_counted(rt: HostRuntime) -> Result<(), Fail> {
     let Err(Stop::Refused(Refusal::PathRange { element, bit })) = counted(&rt, alloc, &text) else {
         return Err("accepted".into());
     };
-    assert_eq!(rt; (element, bit), (0, 0));
+    assert!(rt; element == 0 && bit == 0, "{element} {bit}");
     Ok(())
 }

@@ -5,11 +5,9 @@ ghost use Rattle.mintc_paths.specs.Trace.{IsPairOf};
 
 use crate::cases::{
     ABOVE_LIMIT, AT_LIMIT, Case, DIAMOND, ELEVEN, ENDS, INNER, NINE, NONE, PARALLEL, PATHS, SELVES,
-    UNLED, text_of,
+    UNLED, system_of_text, text_of,
 };
-use mintc_lines::read_table;
-use mintc_order::order;
-use mintc_paths::{Finder, extremes, path_of, shortest_path_of};
+use mintc_paths::{Finder, path_of, shortest_path_of};
 use mintc_text::{Kind, Refusal, Stop};
 use mintc_timing::{Pair, System, TimingArc};
 use std::alloc::{AllocError, Global};
@@ -27,15 +25,6 @@ fn is_pair(pairs: &[Pair], from: u32, to: u32) -> bool
         }
     }
     false
-}
-
-/// The system of a table's text.
-fn system_of_text(rt: &impl Abort, alloc: Global, text: &str) -> Result<System, Stop> {
-    assert!(rt; text.len() < 100_000);
-    let flat = read_table(alloc, text.as_bytes())?;
-    let order = order(alloc, &flat)?;
-    let pairs = extremes(alloc, &flat, &order)?;
-    Ok(System::new(flat, order, pairs))
 }
 
 /// The system of a case.
@@ -126,19 +115,41 @@ const FEW_ENTERED_TOO_LONG: Case = Case {
     ],
 };
 
+/// A pair: its elements, and the sum of each of its paths.
+type Wanted = (u32, u32, i64);
+
+const NINE_PAIRS: &[Wanted] = &[
+    (0, 0, 1),
+    (1, 0, 2),
+    (2, 0, 3),
+    (3, 0, 4),
+    (4, 0, 5),
+    (5, 0, 6),
+    (6, 0, 7),
+    (7, 0, 8),
+    (8, 0, 9),
+];
+
+const INNER_PAIRS: &[Wanted] = &[(0, 1, 20), (1, 0, 60)];
+
+/// A list has these pairs and no others.
+fn check_pairs(rt: &impl Abort, pairs: &[Pair], wanted: &[Wanted]) {
+    assert!(rt; pairs.len() == wanted.len());
+    for (from, to, sum) in wanted {
+        assert!(rt;
+            given(pairs, *from, *to) == Some((*sum, *sum)),
+            "from {from} to {to}"
+        );
+    }
+}
+
 #[test]
 fn pairs_are_found(rt: HostRuntime) -> Result<(), Fail> {
     let alloc = rt.alloc();
-    let nine = system_of(&rt, alloc, &NINE).ok().ok_or("refused")?;
-    assert_eq!(rt; nine.pairs().len(), 9);
-    for from in 0..9 {
-        let sum = from as i64 + 1;
-        assert_eq!(rt; given(nine.pairs(), from, 0), Some((sum, sum)));
+    for (case, wanted) in &[(NINE, NINE_PAIRS), (INNER, INNER_PAIRS)] {
+        let system = system_of(&rt, alloc, case).ok().ok_or(case.name)?;
+        check_pairs(&rt, system.pairs(), wanted);
     }
-    let inner = system_of(&rt, alloc, &INNER).ok().ok_or("refused")?;
-    assert_eq!(rt; inner.pairs().len(), 2);
-    assert_eq!(rt; given(inner.pairs(), 0, 1), Some((20, 20)));
-    assert_eq!(rt; given(inner.pairs(), 1, 0), Some((60, 60)));
     Ok(())
 }
 
@@ -163,9 +174,9 @@ fn pairs_are_those_of_a_listing(rt: HostRuntime) -> Result<(), Fail> {
         assert!(rt; case.elements <= 11);
         for from in 0..case.elements {
             for to in 0..case.elements {
-                assert_eq!(rt;
-                    given(system.pairs(), from, to),
-                    listed(arcs, 2 * from + 1, 2 * to, arcs.len()),
+                assert!(rt;
+                    given(system.pairs(), from, to)
+                        == listed(arcs, 2 * from + 1, 2 * to, arcs.len()),
                     "{}",
                     case.name
                 );
@@ -175,17 +186,32 @@ fn pairs_are_those_of_a_listing(rt: HostRuntime) -> Result<(), Fail> {
     Ok(())
 }
 
+/// Whether the paths with the greatest and the least sum for these elements have these arcs.
+fn are_paths(
+    alloc: Global,
+    system: &System,
+    ends: (u32, u32),
+    greatest: &[u32],
+    least: &[u32],
+) -> bool {
+    let (from, to) = ends;
+    if !is_pair(system.pairs(), from, to) {
+        return false;
+    }
+    let Ok(longest) = path_of(alloc, system, from, to) else {
+        return false;
+    };
+    let Ok(shortest) = shortest_path_of(alloc, system, from, to) else {
+        return false;
+    };
+    longest.items() == greatest && shortest.items() == least
+}
+
 #[test]
 fn paths_have_the_sums(rt: HostRuntime) -> Result<(), Fail> {
     let alloc = rt.alloc();
     let system = system_of(&rt, alloc, &PATHS).ok().ok_or("refused")?;
-    assert!(rt; is_pair(system.pairs(), 0, 1));
-    let greatest = path_of(alloc, &system, 0, 1).ok().ok_or("no memory")?;
-    assert_eq!(rt; greatest.items(), [0].as_slice());
-    let least = shortest_path_of(alloc, &system, 0, 1)
-        .ok()
-        .ok_or("no memory")?;
-    assert_eq!(rt; least.items(), [1, 2].as_slice());
+    assert!(rt; are_paths(alloc, &system, (0, 1), &[0], &[1, 2]));
     Ok(())
 }
 
@@ -209,20 +235,25 @@ fn is_shortest_found(alloc: Global, finder: &mut Finder, system: &System, place:
         .is_ok()
 }
 
+/// Whether a finder finds both paths for each pair of a system.
+fn are_found(alloc: Global, finder: &mut Finder, system: &System) -> bool {
+    for place in 0..system.pairs().len() {
+        if !is_found(alloc, finder, system, place) {
+            return false;
+        }
+        if !is_shortest_found(alloc, finder, system, place) {
+            return false;
+        }
+    }
+    true
+}
+
 /// Whether the search by itself finds both paths for each pair of a system.
 fn are_all_searched(alloc: Global, system: &System) -> bool {
     let Ok(mut finder) = Finder::new(alloc, system) else {
         return false;
     };
-    for place in 0..system.pairs().len() {
-        if !is_found(alloc, &mut finder, system, place) {
-            return false;
-        }
-        if !is_shortest_found(alloc, &mut finder, system, place) {
-            return false;
-        }
-    }
-    finder.missed() == 0
+    are_found(alloc, &mut finder, system) && finder.missed() == 0
 }
 
 #[test]
@@ -254,8 +285,15 @@ fn searches_go_through_many_rows(rt: HostRuntime) -> Result<(), Fail> {
     let alloc = rt.alloc();
     let text = deep_text(alloc).ok().ok_or("no memory")?;
     let system = system_of_text(&rt, alloc, &text).ok().ok_or("refused")?;
-    assert_eq!(rt; system.pairs().len(), 3);
+    assert!(rt; system.pairs().len() == 3);
     assert!(rt; are_all_searched(alloc, &system));
+    Ok(())
+}
+
+/// A finder, which may be of another system, finds the paths of a case.
+fn finds(rt: &impl Abort, alloc: Global, finder: &mut Finder, case: &Case) -> Result<(), Fail> {
+    let system = system_of(rt, alloc, case).ok().ok_or(case.name)?;
+    assert!(rt; are_found(alloc, finder, &system), "{}", case.name);
     Ok(())
 }
 
@@ -265,36 +303,29 @@ fn finders_of_another_system_find_the_paths(rt: HostRuntime) -> Result<(), Fail>
     let other = system_of(&rt, alloc, &NINE).ok().ok_or("refused")?;
     let mut finder = Finder::new(alloc, &other).ok().ok_or("no memory")?;
     for case in &[PARALLEL, SELVES, ELEVEN] {
-        let system = system_of(&rt, alloc, case).ok().ok_or(case.name)?;
-        for place in 0..system.pairs().len() {
-            assert!(rt; is_found(alloc, &mut finder, &system, place));
-            assert!(rt; is_shortest_found(alloc, &mut finder, &system, place));
-        }
+        finds(&rt, alloc, &mut finder, case)?;
     }
     Ok(())
 }
 
 #[test]
-fn a_sum_at_the_limit_is_none_above(rt: HostRuntime) -> Result<(), Fail> {
+fn a_sum_at_the_limit_is_none_above(rt: HostRuntime) {
+    assert!(rt; system_of(&rt, rt.alloc(), &AT_LIMIT).is_ok());
+}
+
+/// The element and the bit of the path of a case that is too long.
+fn too_long(rt: &impl Abort, alloc: Global, case: &Case) -> Option<(u32, u32)> {
+    match system_of(rt, alloc, case) {
+        Err(Stop::Refused(Refusal::PathRange { element, bit })) => Some((element, bit)),
+        _ => None,
+    }
+}
+
+#[test]
+fn a_sum_above_the_limit_is_refused(rt: HostRuntime) {
     let alloc = rt.alloc();
-    assert!(rt; system_of(&rt, alloc, &AT_LIMIT).is_ok());
-    let Err(Stop::Refused(Refusal::PathRange { element, bit })) = system_of(
-        &rt,
-        alloc,
-        &ABOVE_LIMIT,
-    ) else {
-        return Err("accepted".into());
-    };
-    assert_eq!(rt; (element, bit), (0, 0));
-    let Err(Stop::Refused(Refusal::PathRange { element, bit })) = system_of(
-        &rt,
-        alloc,
-        &FEW_ENTERED_TOO_LONG,
-    ) else {
-        return Err("accepted".into());
-    };
-    assert_eq!(rt; (element, bit), (1, 4));
-    Ok(())
+    assert!(rt; too_long(&rt, alloc, &ABOVE_LIMIT) == Some((0, 0)));
+    assert!(rt; too_long(&rt, alloc, &FEW_ENTERED_TOO_LONG) == Some((1, 4)));
 }
 
 /// An inner bit that 2,000 outputs enter and that leads to 101 inputs.
@@ -330,6 +361,6 @@ fn pairs_beyond_the_limit_are_counted_from_the_inputs(rt: HostRuntime) -> Result
     else {
         return Err("accepted".into());
     };
-    assert_eq!(rt; count, 202_000);
+    assert!(rt; count == 202_000, "{count}");
     Ok(())
 }
