@@ -3,7 +3,7 @@ use Rattle.std.proofs.Common.{◌≡◌, ℕ, ◌+◌, List, [], ◌∷◌, leng
 use Rattle.std.specs.String.{string_bytes}
 use Rattle.mintc_text.specs.Outside.{Files, Holds, IsFront}
 use Rattle.mintc_conversion.specs.Conversions.{AreName, IsAnswer, IsComplete, IsConverted, IsNotRefused, IsOfText, IsRefused, bytes_of}
-use Rattle.mintc_conversion.specs.declared.answer.TheConstants.{LONGEST}
+use Rattle.mintc_text.specs.declared.limits.TheConstants.{MOST_BYTES}
 use Rattle.mintc_conversion.specs.declared.status.Status.{Status}
 use Rattle.mintc_conversion.specs.declared.status.Status.TheVariants.{Done, Refused, Usage, ReadFault, WriteFault, OutOfMemory}
 
@@ -23,7 +23,7 @@ Holds-front (Some files) name most front h = (h.0, h.1)
 
 -- the file that was read, seen as a slice, and the text, seen as its bytes
 pub answered : (words : List (List ℕ)) (name front seen : List ℕ) (files : Option Files) (status : Status) (text shown : List ℕ) →
-    AreName words name → IsFront files name (LONGEST + 1) front → seen ≡ front → IsOfText status → IsConverted seen status text → shown ≡ text → IsAnswer words files status shown
+    AreName words name → IsFront files name (MOST_BYTES + 1) front → seen ≡ front → IsOfText status → IsConverted seen status text → shown ≡ text → IsAnswer words files status shown
 answered words name front seen files Done text shown are is same of h whole =
     (name, are, front, is, subst (λ x. IsConverted x Done shown) same (subst (λ t. IsConverted seen Done t) (sym whole) h))
 answered words name front seen files Refused text shown are is same of h whole =
@@ -35,7 +35,7 @@ answered words name front seen files OutOfMemory text shown are is same of h who
 
 -- where nothing is refused, the form is written
 whole : (name front seen : List ℕ) (files : Option Files) (status : Status) (text : List ℕ) →
-    IsFront files name (LONGEST + 1) front → seen ≡ front → IsOfText status → IsConverted seen status text → IsNotRefused files name → IsComplete status
+    IsFront files name (MOST_BYTES + 1) front → seen ≡ front → IsOfText status → IsConverted seen status text → IsNotRefused files name → IsComplete status
 whole name front seen files Done text is same of h none = tt
 whole name front seen files Refused text is same of h none = none front h.0 is (subst (λ x. IsRefused x h.0) same h.1)
 whole name front seen files Usage text is same of h none = of
@@ -44,5 +44,5 @@ whole name front seen files WriteFault text is same of h none = of
 whole name front seen files OutOfMemory text is same of h none = tt
 
 pub completed : (name front seen : List ℕ) (files : Option Files) (status now : Status) (text : List ℕ) →
-    IsFront files name (LONGEST + 1) front → seen ≡ front → IsOfText status → IsConverted seen status text → IsNotRefused files name → now ≡ status → IsComplete now
+    IsFront files name (MOST_BYTES + 1) front → seen ≡ front → IsOfText status → IsConverted seen status text → IsNotRefused files name → now ≡ status → IsComplete now
 completed name front seen files status now text is same of h none e = subst (λ (s : Status). IsComplete s) (sym e) (whole name front seen files status text is same of h none)

@@ -10,7 +10,7 @@ use Rattle.mintc_text.specs.Refusals.{refusal_line}
 use Rattle.mintc_cells.specs.declared.cell.Cell.{Cell}
 use Rattle.mintc_cells.specs.CellsOf.{AreCells}
 use Rattle.mintc_liberty.specs.Meaning.{liberty_cells}
-use Rattle.mintc_conversion.specs.declared.answer.TheConstants.{LONGEST}
+use Rattle.mintc_text.specs.declared.limits.TheConstants.{MOST_BYTES}
 use Rattle.mintc_conversion.specs.declared.status.Status.{Status}
 use Rattle.mintc_conversion.specs.declared.status.Status.TheVariants.{Done, Refused, Usage, ReadFault, WriteFault, OutOfMemory}
 
@@ -29,11 +29,11 @@ usage_line = ended (codes "usage: liberty2toml FILE")
 -- The refusal of a text: it is too long, or out of form.
 abbrev pub IsRefused : List ℕ → Refusal → Type 0
 IsRefused text refusal =
-    ((LONGEST < length text) × (refusal ≡ TooLong role.Cells)) ⊎ ((length text ≤ LONGEST) × (n : ℕ) × (liberty_cells text ≡ Err n) × (refusal ≡ Syntax role.Cells n))
+    ((MOST_BYTES < length text) × (refusal ≡ TooLong role.Cells)) ⊎ ((length text ≤ MOST_BYTES) × (n : ℕ) × (liberty_cells text ≡ Err n) × (refusal ≡ Syntax role.Cells n))
 
 -- The answer to a text: a description of its very cells, or the line of its refusal.
 abbrev pub IsConverted : List ℕ → Status → List ℕ → Type 0
-IsConverted text Done answer = (length text ≤ LONGEST) × (cells : List (List ℕ × Cell)) × (liberty_cells text ≡ Ok cells) × AreCells answer cells
+IsConverted text Done answer = (length text ≤ MOST_BYTES) × (cells : List (List ℕ × Cell)) × (liberty_cells text ≡ Ok cells) × AreCells answer cells
 IsConverted text Refused answer = (refusal : Refusal) × IsRefused text refusal × (answer ≡ refusal_line refusal)
 IsConverted text status answer = ⊥
 
@@ -41,7 +41,7 @@ IsConverted text status answer = ⊥
 -- have, or the usage line.
 abbrev pub IsAnswer : List (List ℕ) → Option Files → Status → List ℕ → Type 0
 IsAnswer words files Usage text = ((name : List ℕ) → AreName words name → ⊥) × (text ≡ usage_line)
-IsAnswer words files status text = (name : List ℕ) × AreName words name × (front : List ℕ) × IsFront files name (LONGEST + 1) front × IsConverted front status text
+IsAnswer words files status text = (name : List ℕ) × AreName words name × (front : List ℕ) × IsFront files name (MOST_BYTES + 1) front × IsConverted front status text
 
 -- What a run leaves of the bytes that the sink took: with an answer its text at the end, with a failed write a front of
 -- an answer's text, and else what there was.
@@ -59,7 +59,7 @@ IsOfText status = ⊥
 
 -- Whatever the file of this name is read as, it isn't refused.
 abbrev pub IsNotRefused : Option Files → List ℕ → Type 0
-IsNotRefused files name = (front : List ℕ) (refusal : Refusal) → IsFront files name (LONGEST + 1) front → IsRefused front refusal → ⊥
+IsNotRefused files name = (front : List ℕ) (refusal : Refusal) → IsFront files name (MOST_BYTES + 1) front → IsRefused front refusal → ⊥
 
 -- The status is that of a form that is written, or memory was wanting.
 abbrev pub IsComplete : Status → Type 0

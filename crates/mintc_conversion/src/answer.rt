@@ -7,11 +7,9 @@ ghost use Rattle.mintc_conversion.specs.Conversions.{IsConverted, IsOfText};
 
 use crate::status::Status;
 use mintc_liberty::{read_liberty, toml_form};
+use mintc_text::limits::MOST_BYTES;
 use mintc_text::{Bytes, Lines, OutOfMemory, Refusal, Stop};
 use std::alloc::Global;
-
-/// The most bytes that a file may have.
-pub const LONGEST: usize = 67_108_864;
 
 /// A status and the text that goes with it.
 #[derive(Drop)]
@@ -53,7 +51,7 @@ fn syntax_line(alloc: Global, entry: u32) -> Result<Bytes, OutOfMemory>
 
 /// The answer to a text that isn't too long. Syntax is its only refusal.
 fn short_answer(alloc: Global, text: &[u8]) -> Result<Answer, OutOfMemory>
-    requires { length text.now ≤ LONGEST }
+    requires { length text.now ≤ MOST_BYTES }
     ensures value { IfOk result (λ answer. IsConverted text.now answer.status answer.text) }
     ensures status { IfOk result (λ answer. IsOfText answer.status) }
 {
@@ -75,7 +73,7 @@ pub fn answer_to(alloc: Global, text: &[u8]) -> Result<Answer, OutOfMemory>
     ensures value { IfOk result (λ answer. IsConverted text.now answer.status answer.text) }
     ensures status { IfOk result (λ answer. IsOfText answer.status) }
 {
-    if text.len() > LONGEST {
+    if text.len() > MOST_BYTES {
         return Ok(Answer {
             status: Status::Refused,
             text: length_line(alloc)?,

@@ -3,8 +3,9 @@ ghost use Rattle.std.specs.Prelude.{◌≡◌, ◌≢◌, ◌⊎◌, ◌+◌, �
 ghost use Rattle.mintc_text.specs.Outside.{Files, Holds, Rose};
 ghost use Rattle.mintc_conversion.specs.Conversions.{IsAnswer, IsConverted, IsOfNoName, IsOfText, IsComplete, IsAfterReading, IsNotRefused, MakesAtMost, AreName, Writes, bytes_of};
 
-use crate::answer::{LONGEST, answer_to};
+use crate::answer::answer_to;
 use crate::status::Status;
+use mintc_text::limits::MOST_BYTES;
 use mintc_text::{OutOfMemory, Shelf, ShelfError, Sink};
 use std::alloc::Global;
 
@@ -54,7 +55,7 @@ pub fn convert<S: Shelf, O: Sink>(
     if words.len() != 1 {
         return write(out, Status::Usage, USAGE);
     }
-    match shelf.read(alloc, words[0].as_str(), LONGEST + 1) {
+    match shelf.read(alloc, words[0].as_str(), MOST_BYTES + 1) {
         Ok(text) => match answer_to(alloc, &text) {
             Ok(answer) => write(out, answer.status, answer.text.items()),
             Err(OutOfMemory) => Status::OutOfMemory,

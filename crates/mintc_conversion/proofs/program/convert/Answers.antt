@@ -1,6 +1,6 @@
 use Rattle.std.proofs.Common.{◌+◌, ℕ, List, arith, subst, inl, inr}
 use Rattle.mintc_text.specs.Outside.{Holds, IsFront}
-use Rattle.mintc_conversion.specs.declared.answer.TheConstants.{LONGEST}
+use Rattle.mintc_text.specs.declared.limits.TheConstants.{MOST_BYTES}
 use Rattle.mintc_conversion.proofs.RunLaws.{Holds-front, answered, completed, one-name, same-name}
 use Rattle.mintc_conversion.proofs.program.convert.Goals as goal
 
@@ -18,8 +18,8 @@ returns-in-Ok-answer_to-clause-held g c = λ name are after.
 pub returns-in-Ok-answer_to-clause-complete : goal.returns-in-Ok-answer_to-clause-complete
 returns-in-Ok-answer_to-clause-complete g c = λ name are sound held none quiet.
     let mine = one-name c.args.words.now c.index-words-0.result _ (omega (arith, c.if-words-ne1.false)) c.index-words-0.is c.as_str.ensures.value in
-    let front : IsFront (g.S.Shelf.files c.args.shelf.now) name (LONGEST + 1) c.in-Ok.text.items =
-    subst (λ (n : List ℕ). IsFront (g.S.Shelf.files c.args.shelf.now) n (LONGEST + 1) c.in-Ok.text.items) (same-name _ _ name mine are) c.in-Ok.ensures.bytes in
+    let front : IsFront (g.S.Shelf.files c.args.shelf.now) name (MOST_BYTES + 1) c.in-Ok.text.items =
+    subst (λ (n : List ℕ). IsFront (g.S.Shelf.files c.args.shelf.now) n (MOST_BYTES + 1) c.in-Ok.text.items) (same-name _ _ name mine are) c.in-Ok.ensures.bytes in
     elim c.write-in-Ok-answer_to.ensures.status [
       | inl unchanged ↦ completed name _ _ (g.S.Shelf.files c.args.shelf.now) _ _ _ front c.deref.ensures.value c.in-Ok-answer_to.ensures.status c.in-Ok-answer_to.ensures.value none unchanged
       | inr fault ↦ absurd (quiet (c.write-in-Ok-answer_to.ensures.cause fault))
