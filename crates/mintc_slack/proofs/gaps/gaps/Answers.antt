@@ -1,6 +1,5 @@
-use Rattle.std.proofs.Common.{◌<◌, ◌∷◌, ◌++◌, [], List, length, map, take, arith, ap, ◌∙◌, sym, subst}
-use Rattle.std.proofs.lemmas.List.{length-map, take_all, take_more}
-use Rattle.std.specs.List.Sorted.{IsPermutation}
+use Rattle.std.proofs.Common.{◌<◌, ◌∷◌, ◌++◌, [], List, length, map, take, arith, ap, ◌∙◌, sym}
+use Rattle.std.proofs.lemmas.List.{length-map, take_more}
 use Rattle.mintc_timing.specs.Links.{link_at}
 use Rattle.mintc_slack.specs.declared.gaps.Gap.{Gap}
 use Rattle.mintc_slack.specs.Gaps.{gap_of}
@@ -20,14 +19,3 @@ loop-number-preserved c =
     ∙ ap (λ (gs : List Gap). gs ++ c.weigh.result ∷ []) c.loop-number.invariant
     ∙ ap (λ (x : Gap). take i (map f links) ++ x ∷ []) (weighed f c.items.result.now links i _ c.weigh.result c.items.ensures.value below c.weigh.ensures)
     ∙ sym more
-
-pub returns : goal.returns
-returns c =
-    let f = gap_of c.args.at.now c.args.potentials.now in
-    let links = c.args.list.now.links in
-    let count = length-map links f in
-    let all = take_all c.loop-number.number (map f links) (let test = c.loop-number-test.false in let end = ap length c.items-number-end.ensures.value in omega arith) in
-    record {
-      potentials_are = c.requires;
-      permutation = subst (λ (gs : List Gap). IsPermutation gs c.sort_unstable.new.self.items) (c.loop-number.invariant ∙ all) c.sort_unstable.ensures.permutation;
-    }

@@ -1,20 +1,7 @@
-use Rattle.std.proofs.Common.{◌^◌, [], ap, ◌∙◌, arith, refl}
+use Rattle.std.proofs.Common.{ap, ◌∙◌, arith}
 use Rattle.mintc_constraints.specs.Ordinary.{Constraints}
-use Rattle.mintc_slack.proofs.WalkedLaws.{are_within, bounded, hints}
+use Rattle.mintc_slack.proofs.WalkedLaws.{are_within, bounded}
 use Rattle.mintc_slack.proofs.walked.find_potentials.Goals as goal
-
-pub walk_from-requires-clause-back : goal.walk_from-requires-clause-back
-walk_from-requires-clause-back g c = ([], refl)
-
-pub walk_from-requires-clause-hints : goal.walk_from-requires-clause-hints
-walk_from-requires-clause-hints g c =
-    hints c.args.list.now c.args.at.now 0 c.begin.new.room.values (c.begin.ensures.count ∙ c.nodes.ensures.value) c.begin.ensures.here
-    (rw c.nodes.ensures.value at c.begin.ensures.others)
-
-pub walk_from-requires-clause-range : goal.walk_from-requires-clause-range
-walk_from-requires-clause-range g c =
-    bounded c.args.list.now c.args.at.now 0 c.begin.new.room.values (c.begin.ensures.count ∙ c.nodes.ensures.value) c.begin.ensures.here
-    (rw c.nodes.ensures.value at c.begin.ensures.others) (2 ^ 80)
 
 pub returns-clause-potentials : goal.returns-clause-potentials
 returns-clause-potentials g c = record {

@@ -1,28 +1,11 @@
-use Rattle.std.proofs.Common.{◌^◌, ap, ◌∙◌, subst, arith}
-use Rattle.mintc_constraints.specs.Ordinary.{Constraints}
+use Rattle.std.proofs.Common.{◌∙◌, subst}
 use Rattle.mintc_ratio.specs.From.{AreGreatestFrom}
-use Rattle.mintc_slack.proofs.WalkedLaws.{are_settled, back_of, bounded, hints}
+use Rattle.mintc_slack.proofs.WalkedLaws.{are_settled, back_of, bounded}
 use Rattle.mintc_slack.proofs.walked.settle_anew.Goals as goal
-
-pub walk_from-requires-clause-inside : goal.walk_from-requires-clause-inside
-walk_from-requires-clause-inside g c =
-    let count = ap (λ (l : Constraints). l.nodes) c.requires.list in
-    let below = c.moment-node.ensures.inside in
-    omega arith
 
 pub walk_from-requires-clause-back : goal.walk_from-requires-clause-back
 walk_from-requires-clause-back g c =
     rw (c.moment-node.ensures.value, c.requires.list) (back_of c.args.system.now c.moment-node.ensures.design c.args.number c.requires.number)
-
-pub walk_from-requires-clause-hints : goal.walk_from-requires-clause-hints
-walk_from-requires-clause-hints g c =
-    hints c.args.list.now c.args.at.now c.moment-node.result c.begin.new.room.values (c.begin.ensures.count ∙ c.nodes.ensures.value) c.begin.ensures.here
-    (rw c.nodes.ensures.value at c.begin.ensures.others)
-
-pub walk_from-requires-clause-range : goal.walk_from-requires-clause-range
-walk_from-requires-clause-range g c =
-    bounded c.args.list.now c.args.at.now c.moment-node.result c.begin.new.room.values (c.begin.ensures.count ∙ c.nodes.ensures.value) c.begin.ensures.here
-    (rw c.nodes.ensures.value at c.begin.ensures.others) (2 ^ 80)
 
 pub returns-clause-settled : goal.returns-clause-settled
 returns-clause-settled g c =
