@@ -37,6 +37,7 @@ fn start(system: &System, values: &[i128], phase: u32) -> i64
 }
 
 /// How wide a phase is.
+#[tactic(auto, using(crate::proofs::TimesLaws::width_read))]
 fn width(system: &System, values: &[i128], phase: u32) -> i64
     requires phase { IsPhase (phase_count system.now.flat) phase }
     requires sayable { AreSayable system.now.flat values.now }
@@ -90,6 +91,7 @@ pub fn schedule(system: &System, cycle: &Fraction, values: &[i128]) -> Schedule
 }
 
 /// The departure of an element, since its phase's start; that of a flop is 0.
+#[tactic(auto, using(crate::proofs::TimesLaws::departure_fits, crate::proofs::TimesLaws::departure_read))]
 fn departure(system: &System, values: &[i128], number: u32) -> i64
     requires number { number < element_count system.now.flat }
     requires sayable { AreSayable system.now.flat values.now }

@@ -1,15 +1,5 @@
-use Rattle.mintc_optimise.proofs.TimesLaws.{departure_fits, departure_in, departure_read}
+use Rattle.mintc_optimise.proofs.TimesLaws.{departure_in}
 use Rattle.mintc_optimise.proofs.times.departure.Goals as goal
-
-pub overflow_cast-result-3 : goal.overflow_cast-result-3
-overflow_cast-result-3 c =
-    departure_fits c.args.system.now c.args.values.now c.requires.sayable c.phases.ensures.kept c.args.number c.requires.number c.phases.result c.element-element.result.now
-    c.phases.ensures.value c.element-element.ensures.value c.if-element.false
-
-pub returns-clause-value : goal.returns-clause-value
-returns-clause-value c =
-    departure_read c.args.system.now c.args.values.now c.requires.sayable c.phases.ensures.kept c.args.number c.requires.number c.phases.result c.element-element.result.now
-    c.phases.ensures.value c.element-element.ensures.value c.if-element.false
 
 pub returns-clause-in_range : goal.returns-clause-in_range
 returns-clause-in_range c =
