@@ -1,5 +1,5 @@
 -- Walks from the moment of an element.
-use Rattle.std.proofs.Common.{◌≡◌, ◌≢◌, ℕ, ◌<◌, ◌+◌, ◌*◌, ℤ, pos, Bool, true, false, cond, List, [], ◌∷◌, length, get_or, arith, refl, ap, ◌∙◌, sym, subst, ⊎_elim, inl, inr}
+use Rattle.std.proofs.Common.{◌≡◌, ◌≢◌, ℕ, ◌<◌, ◌+◌, ◌*◌, ℤ, pos, Bool, true, false, cond, List, [], ◌∷◌, length, get_or, arith, refl, ap, ◌∙◌, subst, ⊎_elim}
 use Rattle.std.proofs.lemmas.Int.{ints}
 use Rattle.std.proofs.lemmas.Bool.{cases_eq}
 use Rattle.std.specs.List.{Contains}
@@ -15,8 +15,7 @@ use Rattle.mintc_constraints.proofs.SharedOrdinaryLaws.{number_of}
 use Rattle.mintc_walks.specs.declared.network.TheConstants.{UNREACHED}
 use Rattle.mintc_walks.specs.Bounds.{AreBounded, IsWithin}
 use Rattle.mintc_walks.specs.Walks.{value_at}
-use Rattle.mintc_ratio.specs.From.{AreGreatestFrom, AreHints, StayWithin}
-use Rattle.mintc_ratio.specs.Greatest.{asked_by}
+use Rattle.mintc_ratio.specs.From.{AreGreatestFrom, StayWithin}
 use Rattle.mintc_ratio.specs.Searched.{IsCycle}
 use Rattle.mintc_slack.specs.Answers.{AreSettled}
 use Rattle.mintc_slack.specs.Room.{AreFrom}
@@ -52,19 +51,6 @@ back_of t limits l h = go (element_at t.flat l).flop refl
 module _ (list : Constraints) (at : Ratio) (from : ℕ) (starts : List ℤ) (count : length starts ≡ list.nodes) (here : value_at starts from ≡ pos 0)
     (others : (node : ℕ) → node < list.nodes → node ≢ from → value_at starts node ≡ UNREACHED)
   where
-    none-asked : asked_by at [] ≡ pos 0
-    none-asked = omega (arith, ints)
-
-    pub hints : AreHints list at from starts
-    hints = record {
-      count = count;
-      here = here;
-      asked = λ node h. ⊎_elim
-          (λ (e : node ≡ from). inr ([], sym e, none-asked ∙ sym here ∙ ap (λ (k : ℕ). value_at starts k) (sym e)))
-          (λ (e : node ≡ from → ⊥). inl (others node h e))
-          (cases_eq node from);
-    }
-
     pub bounded : (b : ℕ) → AreBounded b starts
     bounded b v h = ⊎_elim
         (λ (e : v ≡ from).
