@@ -17,10 +17,8 @@ use Rattle.mintc_timing.specs.Times.{node_time}
 use Rattle.mintc_timing.proofs.SharedMeetingLaws.{right_meets_links_lem}
 use Rattle.mintc_constraints.proofs.SharedChainLaws.{met_chains_fit_lem, stuck_is_hopeless_lem, tight_fits_no_less_lem}
 use Rattle.mintc_constraints.proofs.SharedExistenceLaws.{feasible_has_right_lem}
-use Rattle.mintc_ratio.specs.declared.searching.Outcome.{Outcome}
-use Rattle.mintc_ratio.specs.declared.searching.Outcome.TheVariants.{Least}
 use Rattle.mintc_ratio.specs.Chains.{NamesChain, links_at}
-use Rattle.mintc_ratio.specs.Searched.{HasSearched, IsCycle, IsLeast}
+use Rattle.mintc_ratio.specs.Searched.{IsCycle, IsLeast}
 use Rattle.mintc_ratio.proofs.SharedSumsLaws.{few_links}
 
 pub is_modest : (cycle : Ratio) → IsCycle cycle → IsModest cycle
@@ -54,7 +52,3 @@ module _ (t : Timing) (limits : IsDesign t.flat) (ends : HasEnds t) (list : Cons
 
 pub few_in_chain : (list : Constraints) → IsOrdinary list → (room : Space) → NamesChain list.links room.chain → length room.chain ≤ list.nodes
 few_in_chain list all room named = few_links list.nodes list.links all room.chain named
-
--- of the answer that the code has
-pub least_answer : (list : Constraints) (room : Space) (o : Outcome) (cycle : Ratio) → o ≡ Least cycle → HasSearched list room o → IsLeast list cycle room
-least_answer list room o cycle is h = subst (λ (x : Outcome). HasSearched list room x) is h
