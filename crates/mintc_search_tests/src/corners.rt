@@ -118,27 +118,32 @@ const HOPELESS: Row = Row {
     ],
 };
 
+/// The systems of a row.
+fn systems_of(rt: &impl Abort, alloc: Global, row: &Row) -> Result<Vec<System>, Fail> {
+    let mut systems = Vec::new(alloc);
+    for table in row.tables {
+        let system = system_of(rt, alloc, table).ok().ok_or(row.name)?;
+        systems.push(system).ok().ok_or(row.name)?;
+    }
+    Ok(systems)
+}
+
+/// Whether a text is the answer of a row, with one of its chains.
+fn is_of_row(row: &Row, text: &[u8]) -> bool {
+    match text.strip_prefix(row.answer.as_bytes()) {
+        Some(chain) => row.chains.iter().any(|c| c.as_bytes() == chain),
+        None => false,
+    }
+}
+
 #[test]
 fn rows_have_their_certificates(rt: HostRuntime) -> Result<(), Fail> {
     let alloc = rt.alloc();
-    let rows = [TWO, THREE, FOUR, HOPELESS];
-    for row in &rows {
-        let mut systems = Vec::new(alloc);
-        for table in row.tables {
-            let system = system_of(&rt, alloc, table).ok().ok_or(row.name)?;
-            systems.push(system).ok().ok_or(row.name)?;
-        }
+    for row in &[TWO, THREE, FOUR, HOPELESS] {
+        let systems = systems_of(&rt, alloc, row)?;
         let certificate = found::<Brand>(alloc, &systems, Blank::new(1)).ok_or(row.name)?;
         let text = corners_text(alloc, &certificate).ok().ok_or(row.name)?;
-        let chain = text
-            .as_slice()
-            .strip_prefix(row.answer.as_bytes())
-            .ok_or(row.name)?;
-        assert!(rt;
-            row.chains.iter().any(|c| c.as_bytes() == chain),
-            "{}",
-            row.name
-        );
+        assert!(rt; is_of_row(row, text.as_slice()), "{}", row.name);
     }
     Ok(())
 }

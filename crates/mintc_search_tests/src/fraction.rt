@@ -50,196 +50,201 @@ fn check(rt: &impl Abort, case: &Case) -> Result<(), Fail> {
     let a = modest(case.a.0, case.a.1).ok_or("a is not modest")?;
     let b = modest(case.b.0, case.b.1).ok_or("b is not modest")?;
     let (by, grid) = (case.by, case.grid);
-    assert!(rt; by.unsigned_abs() <= MOST_DEN.unsigned_abs());
-    assert!(rt; grid >= 1);
-    assert!(rt; grid <= MOST_DEN);
-    assert!(rt; a.compare(&b) == case.order, "{a} to {b}");
-    assert!(rt; b.compare(&a) == case.order.reverse(), "{b} to {a}");
-    assert!(rt; has_value(&a.add(&b), case.sum), "{a} and {b}");
-    assert!(rt; has_value(&a.scale(by), case.product), "{a} times {by}");
-    assert!(rt; a.floor_at(grid) == case.floor, "{a} down at {grid}");
-    assert!(rt; a.ceil_at(grid) == case.ceiling, "{a} up at {grid}");
+    assert!(rt; by.unsigned_abs() <= MOST_DEN.unsigned_abs() && grid >= 1 && grid <= MOST_DEN);
+    assert!(rt;
+        a.compare(&b) == case.order && b.compare(&a) == case.order.reverse(),
+        "{a} to {b}"
+    );
+    assert!(rt;
+        has_value(&a.add(&b), case.sum) && has_value(&a.scale(by), case.product),
+        "{a} and {b}, or times {by}"
+    );
+    assert!(rt;
+        a.floor_at(grid) == case.floor && a.ceil_at(grid) == case.ceiling,
+        "{a} at {grid}"
+    );
     let lowest = a.reduced();
     assert!(rt; (lowest.num(), lowest.den()) == case.lowest, "{a} reduced");
     Ok(())
 }
 
+const CASES: &[Case] = &[
+    Case {
+        a: (10_000_000_000_000_000_000_000, 1_000_000_000_000),
+        b: (-10_000_000_000_000_000_000_000, 1_000_000_000_000),
+        by: 1_000_000_000_000,
+        grid: 1_000_000_000_000,
+        order: Ordering::Greater,
+        sum: (0, 1),
+        product: (10_000_000_000_000_000_000_000, 1),
+        floor: 10_000_000_000_000_000_000_000,
+        ceiling: 10_000_000_000_000_000_000_000,
+        lowest: (10_000_000_000, 1),
+    },
+    Case {
+        a: (-10_000_000_000_000_000_000_000, 1_000_000_000_000),
+        b: (-10_000_000_000_000_000_000_000, 999_999_999_999),
+        by: -1_000_000_000_000,
+        grid: 1_000_000_000_000,
+        order: Ordering::Greater,
+        sum: (-19_999_999_999_990_000_000_000, 999_999_999_999),
+        product: (10_000_000_000_000_000_000_000, 1),
+        floor: -10_000_000_000_000_000_000_000,
+        ceiling: -10_000_000_000_000_000_000_000,
+        lowest: (-10_000_000_000, 1),
+    },
+    Case {
+        a: (-10_000_000_000_000_000_000_000, 1),
+        b: (10_000_000_000_000_000_000_000, 1),
+        by: 1_000_000_000_000,
+        grid: 1_000_000_000_000,
+        order: Ordering::Less,
+        sum: (0, 1),
+        product: (-10_000_000_000_000_000_000_000_000_000_000_000, 1),
+        floor: -10_000_000_000_000_000_000_000_000_000_000_000,
+        ceiling: -10_000_000_000_000_000_000_000_000_000_000_000,
+        lowest: (-10_000_000_000_000_000_000_000, 1),
+    },
+    Case {
+        a: (10_000_000_000_000_000_000_000, 1),
+        b: (10_000_000_000_000_000_000_000, 1_000_000_000_000),
+        by: -1_000_000_000_000,
+        grid: 1,
+        order: Ordering::Greater,
+        sum: (10_000_000_000_010_000_000_000, 1),
+        product: (-10_000_000_000_000_000_000_000_000_000_000_000, 1),
+        floor: 10_000_000_000_000_000_000_000,
+        ceiling: 10_000_000_000_000_000_000_000,
+        lowest: (10_000_000_000_000_000_000_000, 1),
+    },
+    Case {
+        a: (51, 2),
+        b: (26, 1),
+        by: 2,
+        grid: 1,
+        order: Ordering::Less,
+        sum: (103, 2),
+        product: (51, 1),
+        floor: 25,
+        ceiling: 26,
+        lowest: (51, 2),
+    },
+    Case {
+        a: (-51, 2),
+        b: (-25, 1),
+        by: -3,
+        grid: 1,
+        order: Ordering::Less,
+        sum: (-101, 2),
+        product: (153, 2),
+        floor: -26,
+        ceiling: -25,
+        lowest: (-51, 2),
+    },
+    Case {
+        a: (2, 4),
+        b: (1, 2),
+        by: -1,
+        grid: 2,
+        order: Ordering::Equal,
+        sum: (1, 1),
+        product: (-1, 2),
+        floor: 1,
+        ceiling: 1,
+        lowest: (1, 2),
+    },
+    Case {
+        a: (0, 7),
+        b: (0, 1_000_000_000_000),
+        by: 5,
+        grid: 999_999_999_999,
+        order: Ordering::Equal,
+        sum: (0, 1),
+        product: (0, 1),
+        floor: 0,
+        ceiling: 0,
+        lowest: (0, 1),
+    },
+    Case {
+        a: (-1, 3),
+        b: (1, 2),
+        by: 3,
+        grid: 3,
+        order: Ordering::Less,
+        sum: (1, 6),
+        product: (-1, 1),
+        floor: -1,
+        ceiling: -1,
+        lowest: (-1, 3),
+    },
+    Case {
+        a: (9_999_999_999_999_999_999_999, 1_000_000_000_000),
+        b: (10_000_000_000_000_000_000_000, 1_000_000_000_000),
+        by: 999_999_999_999,
+        grid: 999_999_999_999,
+        order: Ordering::Less,
+        sum: (19_999_999_999_999_999_999_999, 1_000_000_000_000),
+        product: (
+            9_999_999_999_989_999_999_999_000_000_000_001,
+            1_000_000_000_000,
+        ),
+        floor: 9_999_999_999_989_999_999_999,
+        ceiling: 9_999_999_999_990_000_000_000,
+        lowest: (9_999_999_999_999_999_999_999, 1_000_000_000_000),
+    },
+    Case {
+        a: (-7, 3),
+        b: (5, 6),
+        by: 0,
+        grid: 4,
+        order: Ordering::Less,
+        sum: (-3, 2),
+        product: (0, 1),
+        floor: -10,
+        ceiling: -9,
+        lowest: (-7, 3),
+    },
+    Case {
+        a: (1, 1_000_000_000_000),
+        b: (1, 999_999_999_999),
+        by: -1_000_000_000_000,
+        grid: 999_999_999_999,
+        order: Ordering::Less,
+        sum: (1_999_999_999_999, 999_999_999_999_000_000_000_000),
+        product: (-1, 1),
+        floor: 0,
+        ceiling: 1,
+        lowest: (1, 1_000_000_000_000),
+    },
+    Case {
+        a: (-10_000_000_000_000_000_000_000, 3),
+        b: (-9_999_999_999_999_999_999_999, 3),
+        by: 7,
+        grid: 1_000_000_000_000,
+        order: Ordering::Less,
+        sum: (-19_999_999_999_999_999_999_999, 3),
+        product: (-70_000_000_000_000_000_000_000, 3),
+        floor: -3_333_333_333_333_333_333_333_333_333_333_334,
+        ceiling: -3_333_333_333_333_333_333_333_333_333_333_333,
+        lowest: (-10_000_000_000_000_000_000_000, 3),
+    },
+    Case {
+        a: (9_699_690, 510_510),
+        b: (19, 1),
+        by: 1,
+        grid: 7,
+        order: Ordering::Equal,
+        sum: (38, 1),
+        product: (19, 1),
+        floor: 133,
+        ceiling: 133,
+        lowest: (19, 1),
+    },
+];
+
 #[test]
 fn as_rational_numbers(rt: HostRuntime) -> Result<(), Fail> {
-    let cases = [
-        Case {
-            a: (10_000_000_000_000_000_000_000, 1_000_000_000_000),
-            b: (-10_000_000_000_000_000_000_000, 1_000_000_000_000),
-            by: 1_000_000_000_000,
-            grid: 1_000_000_000_000,
-            order: Ordering::Greater,
-            sum: (0, 1),
-            product: (10_000_000_000_000_000_000_000, 1),
-            floor: 10_000_000_000_000_000_000_000,
-            ceiling: 10_000_000_000_000_000_000_000,
-            lowest: (10_000_000_000, 1),
-        },
-        Case {
-            a: (-10_000_000_000_000_000_000_000, 1_000_000_000_000),
-            b: (-10_000_000_000_000_000_000_000, 999_999_999_999),
-            by: -1_000_000_000_000,
-            grid: 1_000_000_000_000,
-            order: Ordering::Greater,
-            sum: (-19_999_999_999_990_000_000_000, 999_999_999_999),
-            product: (10_000_000_000_000_000_000_000, 1),
-            floor: -10_000_000_000_000_000_000_000,
-            ceiling: -10_000_000_000_000_000_000_000,
-            lowest: (-10_000_000_000, 1),
-        },
-        Case {
-            a: (-10_000_000_000_000_000_000_000, 1),
-            b: (10_000_000_000_000_000_000_000, 1),
-            by: 1_000_000_000_000,
-            grid: 1_000_000_000_000,
-            order: Ordering::Less,
-            sum: (0, 1),
-            product: (-10_000_000_000_000_000_000_000_000_000_000_000, 1),
-            floor: -10_000_000_000_000_000_000_000_000_000_000_000,
-            ceiling: -10_000_000_000_000_000_000_000_000_000_000_000,
-            lowest: (-10_000_000_000_000_000_000_000, 1),
-        },
-        Case {
-            a: (10_000_000_000_000_000_000_000, 1),
-            b: (10_000_000_000_000_000_000_000, 1_000_000_000_000),
-            by: -1_000_000_000_000,
-            grid: 1,
-            order: Ordering::Greater,
-            sum: (10_000_000_000_010_000_000_000, 1),
-            product: (-10_000_000_000_000_000_000_000_000_000_000_000, 1),
-            floor: 10_000_000_000_000_000_000_000,
-            ceiling: 10_000_000_000_000_000_000_000,
-            lowest: (10_000_000_000_000_000_000_000, 1),
-        },
-        Case {
-            a: (51, 2),
-            b: (26, 1),
-            by: 2,
-            grid: 1,
-            order: Ordering::Less,
-            sum: (103, 2),
-            product: (51, 1),
-            floor: 25,
-            ceiling: 26,
-            lowest: (51, 2),
-        },
-        Case {
-            a: (-51, 2),
-            b: (-25, 1),
-            by: -3,
-            grid: 1,
-            order: Ordering::Less,
-            sum: (-101, 2),
-            product: (153, 2),
-            floor: -26,
-            ceiling: -25,
-            lowest: (-51, 2),
-        },
-        Case {
-            a: (2, 4),
-            b: (1, 2),
-            by: -1,
-            grid: 2,
-            order: Ordering::Equal,
-            sum: (1, 1),
-            product: (-1, 2),
-            floor: 1,
-            ceiling: 1,
-            lowest: (1, 2),
-        },
-        Case {
-            a: (0, 7),
-            b: (0, 1_000_000_000_000),
-            by: 5,
-            grid: 999_999_999_999,
-            order: Ordering::Equal,
-            sum: (0, 1),
-            product: (0, 1),
-            floor: 0,
-            ceiling: 0,
-            lowest: (0, 1),
-        },
-        Case {
-            a: (-1, 3),
-            b: (1, 2),
-            by: 3,
-            grid: 3,
-            order: Ordering::Less,
-            sum: (1, 6),
-            product: (-1, 1),
-            floor: -1,
-            ceiling: -1,
-            lowest: (-1, 3),
-        },
-        Case {
-            a: (9_999_999_999_999_999_999_999, 1_000_000_000_000),
-            b: (10_000_000_000_000_000_000_000, 1_000_000_000_000),
-            by: 999_999_999_999,
-            grid: 999_999_999_999,
-            order: Ordering::Less,
-            sum: (19_999_999_999_999_999_999_999, 1_000_000_000_000),
-            product: (
-                9_999_999_999_989_999_999_999_000_000_000_001,
-                1_000_000_000_000,
-            ),
-            floor: 9_999_999_999_989_999_999_999,
-            ceiling: 9_999_999_999_990_000_000_000,
-            lowest: (9_999_999_999_999_999_999_999, 1_000_000_000_000),
-        },
-        Case {
-            a: (-7, 3),
-            b: (5, 6),
-            by: 0,
-            grid: 4,
-            order: Ordering::Less,
-            sum: (-3, 2),
-            product: (0, 1),
-            floor: -10,
-            ceiling: -9,
-            lowest: (-7, 3),
-        },
-        Case {
-            a: (1, 1_000_000_000_000),
-            b: (1, 999_999_999_999),
-            by: -1_000_000_000_000,
-            grid: 999_999_999_999,
-            order: Ordering::Less,
-            sum: (1_999_999_999_999, 999_999_999_999_000_000_000_000),
-            product: (-1, 1),
-            floor: 0,
-            ceiling: 1,
-            lowest: (1, 1_000_000_000_000),
-        },
-        Case {
-            a: (-10_000_000_000_000_000_000_000, 3),
-            b: (-9_999_999_999_999_999_999_999, 3),
-            by: 7,
-            grid: 1_000_000_000_000,
-            order: Ordering::Less,
-            sum: (-19_999_999_999_999_999_999_999, 3),
-            product: (-70_000_000_000_000_000_000_000, 3),
-            floor: -3_333_333_333_333_333_333_333_333_333_333_334,
-            ceiling: -3_333_333_333_333_333_333_333_333_333_333_333,
-            lowest: (-10_000_000_000_000_000_000_000, 3),
-        },
-        Case {
-            a: (9_699_690, 510_510),
-            b: (19, 1),
-            by: 1,
-            grid: 7,
-            order: Ordering::Equal,
-            sum: (38, 1),
-            product: (19, 1),
-            floor: 133,
-            ceiling: 133,
-            lowest: (19, 1),
-        },
-    ];
-    for case in &cases {
+    for case in CASES {
         check(&rt, case)?;
     }
     Ok(())
@@ -248,6 +253,6 @@ fn as_rational_numbers(rt: HostRuntime) -> Result<(), Fail> {
 #[test]
 fn texts(rt: HostRuntime) -> Result<(), Fail> {
     let text = format!(in rt.alloc(); "{} {}", Fraction::new(-6, 4), Fraction::new(0, 1))?;
-    assert_eq!(rt; text.as_str(), "-6/4 0/1");
+    assert!(rt; text.as_str() == "-6/4 0/1", "{text}");
     Ok(())
 }

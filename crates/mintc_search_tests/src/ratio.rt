@@ -63,107 +63,111 @@ struct Case {
     cycle: Option<(i128, i128)>,
 }
 
+const CASES: &[Case] = &[
+    Case {
+        name: "two latches in a loop",
+        nodes: 7,
+        rows: &[
+            (0, 1, 0, 0),
+            (0, 3, 0, 0),
+            (1, 0, 0, 1),
+            (3, 0, 0, 1),
+            (1, 3, 0, 0),
+            (2, 1, 0, 1),
+            (4, 3, 0, 1),
+            (1, 2, 0, 0),
+            (3, 4, 0, 0),
+            (4, 1, 0, 1),
+            (2, 3, 0, 0),
+            (1, 5, 0, 0),
+            (3, 6, 0, 0),
+            (1, 2, 10, 0),
+            (3, 4, 10, 0),
+            (5, 6, 30, 0),
+            (6, 5, 70, 1),
+            (5, 2, 10, 0),
+            (6, 4, 10, 0),
+        ],
+        cycle: Some((100, 1)),
+    },
+    Case {
+        name: "half a step",
+        nodes: 5,
+        rows: &[
+            (0, 1, 0, 0),
+            (1, 0, 0, 1),
+            (2, 1, 0, 1),
+            (1, 2, 0, 0),
+            (2, 1, 0, 1),
+            (1, 3, 0, 0),
+            (1, 4, 0, 0),
+            (1, 2, 0, 0),
+            (1, 2, 0, 0),
+            (3, 4, 31, 1),
+            (4, 3, 20, 1),
+            (3, 2, 0, 0),
+            (4, 2, 0, 0),
+        ],
+        cycle: Some((51, 2)),
+    },
+    Case {
+        name: "no elements",
+        nodes: 3,
+        rows: &[(0, 1, 0, 0), (1, 0, 0, 1), (2, 1, 0, 1), (1, 2, 0, 0)],
+        cycle: Some((0, 1)),
+    },
+    Case {
+        name: "never",
+        nodes: 4,
+        rows: &[
+            (0, 1, 0, 0),
+            (1, 0, 0, 1),
+            (2, 1, 0, 1),
+            (1, 2, 0, 0),
+            (1, 3, 0, 0),
+            (1, 2, 10, 0),
+            (3, 2, 10, 0),
+            (2, 1, -5, 0),
+        ],
+        cycle: None,
+    },
+    Case {
+        name: "two tight chains",
+        nodes: 7,
+        rows: &[
+            (0, 1, 0, 0),
+            (0, 3, 0, 0),
+            (1, 0, 0, 1),
+            (3, 0, 0, 1),
+            (1, 3, 0, 0),
+            (2, 1, 0, 1),
+            (4, 3, 0, 1),
+            (1, 2, 0, 0),
+            (3, 4, 0, 0),
+            (4, 1, 0, 1),
+            (2, 3, 0, 0),
+            (1, 5, 0, 0),
+            (3, 6, 0, 0),
+            (1, 2, 10, 0),
+            (3, 4, 70, 0),
+            (5, 6, 30, 0),
+            (6, 5, 70, 1),
+            (5, 2, 10, 0),
+            (6, 4, 70, 0),
+        ],
+        cycle: Some((100, 1)),
+    },
+];
+
 #[test]
 fn designs(rt: HostRuntime) -> Result<(), Fail> {
-    let cases = [
-        Case {
-            name: "two latches in a loop",
-            nodes: 7,
-            rows: &[
-                (0, 1, 0, 0),
-                (0, 3, 0, 0),
-                (1, 0, 0, 1),
-                (3, 0, 0, 1),
-                (1, 3, 0, 0),
-                (2, 1, 0, 1),
-                (4, 3, 0, 1),
-                (1, 2, 0, 0),
-                (3, 4, 0, 0),
-                (4, 1, 0, 1),
-                (2, 3, 0, 0),
-                (1, 5, 0, 0),
-                (3, 6, 0, 0),
-                (1, 2, 10, 0),
-                (3, 4, 10, 0),
-                (5, 6, 30, 0),
-                (6, 5, 70, 1),
-                (5, 2, 10, 0),
-                (6, 4, 10, 0),
-            ],
-            cycle: Some((100, 1)),
-        },
-        Case {
-            name: "half a step",
-            nodes: 5,
-            rows: &[
-                (0, 1, 0, 0),
-                (1, 0, 0, 1),
-                (2, 1, 0, 1),
-                (1, 2, 0, 0),
-                (2, 1, 0, 1),
-                (1, 3, 0, 0),
-                (1, 4, 0, 0),
-                (1, 2, 0, 0),
-                (1, 2, 0, 0),
-                (3, 4, 31, 1),
-                (4, 3, 20, 1),
-                (3, 2, 0, 0),
-                (4, 2, 0, 0),
-            ],
-            cycle: Some((51, 2)),
-        },
-        Case {
-            name: "no elements",
-            nodes: 3,
-            rows: &[(0, 1, 0, 0), (1, 0, 0, 1), (2, 1, 0, 1), (1, 2, 0, 0)],
-            cycle: Some((0, 1)),
-        },
-        Case {
-            name: "never",
-            nodes: 4,
-            rows: &[
-                (0, 1, 0, 0),
-                (1, 0, 0, 1),
-                (2, 1, 0, 1),
-                (1, 2, 0, 0),
-                (1, 3, 0, 0),
-                (1, 2, 10, 0),
-                (3, 2, 10, 0),
-                (2, 1, -5, 0),
-            ],
-            cycle: None,
-        },
-        Case {
-            name: "two tight chains",
-            nodes: 7,
-            rows: &[
-                (0, 1, 0, 0),
-                (0, 3, 0, 0),
-                (1, 0, 0, 1),
-                (3, 0, 0, 1),
-                (1, 3, 0, 0),
-                (2, 1, 0, 1),
-                (4, 3, 0, 1),
-                (1, 2, 0, 0),
-                (3, 4, 0, 0),
-                (4, 1, 0, 1),
-                (2, 3, 0, 0),
-                (1, 5, 0, 0),
-                (3, 6, 0, 0),
-                (1, 2, 10, 0),
-                (3, 4, 70, 0),
-                (5, 6, 30, 0),
-                (6, 5, 70, 1),
-                (5, 2, 10, 0),
-                (6, 4, 70, 0),
-            ],
-            cycle: Some((100, 1)),
-        },
-    ];
-    for case in &cases {
+    for case in CASES {
         let result = find(rt.alloc(), case.nodes, case.rows).ok_or("not ordinary")?;
-        assert_eq!(rt; result.cycle, case.cycle, "{}", case.name);
-        assert!(rt; is_in_time(case.nodes, result));
+        assert!(rt;
+            result.cycle == case.cycle && is_in_time(case.nodes, result),
+            "{}",
+            case.name
+        );
     }
     Ok(())
 }
@@ -172,8 +176,7 @@ fn designs(rt: HostRuntime) -> Result<(), Fail> {
 fn rest_is_two_links(rt: HostRuntime) -> Result<(), Fail> {
     let rows = [(0, 1, 0, 0), (1, 0, 0, 1), (0, 2, 0, 0)];
     let result = find(rt.alloc(), 3, &rows).ok_or("not ordinary")?;
-    assert_eq!(rt; result.cycle, Some((0, 1)));
-    assert_eq!(rt; result.chain, 2);
+    assert!(rt; result.cycle == Some((0, 1)) && result.chain == 2);
     Ok(())
 }
 
@@ -195,10 +198,9 @@ fn all_simple_chains(rt: HostRuntime) -> Result<(), Fail> {
         let (nodes, rows) = drawn(rt.alloc(), seed).ok_or("memory")?;
         let result = find(rt.alloc(), nodes, &rows).ok_or("not ordinary")?;
         assert!(rt;
-            agrees(result.cycle, greatest_of(nodes, &rows)),
+            agrees(result.cycle, greatest_of(nodes, &rows)) && is_in_time(nodes, result),
             "at {seed}"
         );
-        assert!(rt; is_in_time(nodes, result), "at {seed}");
     }
     Ok(())
 }
