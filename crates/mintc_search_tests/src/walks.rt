@@ -359,7 +359,7 @@ fn ring_of(alloc: Global, nodes: u32, closing: i128) -> Result<Vec<Arc>, Fail>
     Ok(arcs)
 }
 
-/// Whether each arc of a chain has the number before the last one's, and 1999 comes before 0.
+/// Whether the numbers of a chain descend one by one, and 1999 comes after 0.
 fn descends(chain: &[u32]) -> bool {
     let mut next = chain.first().copied();
     for number in chain {
