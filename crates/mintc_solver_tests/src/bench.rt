@@ -43,6 +43,6 @@ fn bench_solves_twice(rt: HostRuntime) -> Result<(), Fail> {
     let system = system_of(alloc).ok().ok_or("refused")?;
     let mut bench = Bench::reserve(alloc, &system).ok().ok_or("no memory")?;
     let cycles = solved_twice::<Brand>(&mut bench, Blank::new(1)).ok_or("never")?;
-    assert_eq!(rt; cycles, [(100, 1), (100, 1)]);
+    assert!(rt; cycles == [(100, 1), (100, 1)]);
     Ok(())
 }

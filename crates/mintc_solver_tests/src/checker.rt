@@ -271,8 +271,8 @@ fn enable_delays_are_judged(rt: HostRuntime) -> Result<(), Fail> {
     Ok(())
 }
 
-/// The certificate of a table with a bound that it meets, one that is a loop by itself, and one that it breaks.
-fn bound_is_judged(
+/// The certificate of a table with a bound that it meets, and of one with a loop by itself in place of a path.
+fn met_bound_is_judged(
     rt: &impl Abort,
     alloc: Global,
     table: &str,
@@ -280,25 +280,49 @@ fn bound_is_judged(
 ) -> Result<(), Fail> {
     let met = table.replacen(alloc, "bounds 0\n", "bounds 1\nbound o o 100 1\n", 1)?;
     let system = system_of(alloc, &met).ok_or("no system")?;
-    let same = ("least", "least", Verdict::Valid);
-    is_judged(rt, alloc, &system, certificate, &same)?;
-    let round = (
+    for edit in OF_BOUND {
+        is_judged(rt, alloc, &system, certificate, edit)?;
+    }
+    Ok(())
+}
+
+/// Edits of a certificate where a bound is met.
+const OF_BOUND: &[Edit] = &[
+    ("least", "least", Verdict::Valid),
+    (
         "chain 2\nreach 0 1 1 0\n",
         "chain 2\nbound 0\n",
         Verdict::Invalid(6),
-    );
-    is_judged(rt, alloc, &system, certificate, &round)?;
+    ),
+];
+
+/// The certificate of a table with a bound that it breaks.
+fn broken_bound_is_judged(
+    rt: &impl Abort,
+    alloc: Global,
+    table: &str,
+    certificate: &str,
+) -> Result<(), Fail> {
     let broken = table.replacen(alloc, "bounds 0\n", "bounds 1\nbound o o 101 1\n", 1)?;
     let system = system_of(alloc, &broken).ok_or("no system")?;
     let same = ("least", "least", Verdict::Invalid(3));
     is_judged(rt, alloc, &system, certificate, &same)
 }
 
+/// Tables, and their certificates.
+const OPTIMA: &[(&str, &str)] = &[
+    (RING, RING_LEAST),
+    (FLOPS, FLOPS_LEAST),
+    (ENABLE, ENABLE_LEAST),
+];
+
 #[test]
 fn bounds_are_judged(rt: HostRuntime) -> Result<(), Fail> {
-    bound_is_judged(&rt, rt.alloc(), RING, RING_LEAST)?;
-    bound_is_judged(&rt, rt.alloc(), FLOPS, FLOPS_LEAST)?;
-    bound_is_judged(&rt, rt.alloc(), ENABLE, ENABLE_LEAST)
+    for (table, certificate) in OPTIMA {
+        met_bound_is_judged(&rt, rt.alloc(), table, certificate)?;
+        broken_bound_is_judged(&rt, rt.alloc(), table, certificate)?;
+    }
+    Ok(())
 }
 
 /// One latch that a bound leaves no room.
@@ -328,6 +352,13 @@ const OF_STUCK: &[Edit] = &[
     ("bound 0", "span 1", Verdict::Invalid(7)),
 ];
 
+/// An edit of that, which version 2 alone may say.
+const OF_STUCK_IN_2: &[Edit] = &[(
+    "chain 3\nopen 0\nsetup 0\n",
+    "chain 2\nopened 0\n",
+    Verdict::Valid,
+)];
+
 /// Edits of the table, and the verdict on that certificate.
 const OF_STUCK_TABLE: &[Edit] = &[
     ("5 5 0\n", "9 9 0\n", Verdict::Valid),
@@ -347,14 +378,16 @@ fn chains_alone_are_judged(rt: HostRuntime) -> Result<(), Fail> {
     for edit in OF_STUCK {
         is_judged_in_both(&rt, alloc, &system, STUCK_NEVER, edit)?;
     }
-    let opened = (
-        "chain 3\nopen 0\nsetup 0\n",
-        "chain 2\nopened 0\n",
-        Verdict::Valid,
-    );
-    is_judged(&rt, alloc, &system, STUCK_NEVER, &opened)?;
+    for edit in OF_STUCK_IN_2 {
+        is_judged(&rt, alloc, &system, STUCK_NEVER, edit)?;
+    }
+    Ok(())
+}
+
+#[test]
+fn chains_alone_are_judged_on_other_tables(rt: HostRuntime) -> Result<(), Fail> {
     for edit in OF_STUCK_TABLE {
-        is_judged_on(&rt, alloc, edit)?;
+        is_judged_on(&rt, rt.alloc(), edit)?;
     }
     Ok(())
 }

@@ -9,7 +9,7 @@ use std::test::Fail;
 /// A refusal has this line.
 fn shows(rt: &impl Abort, alloc: Global, refusal: Refusal, line: &str) {
     match refusal_text(alloc, &refusal) {
-        Ok(text) => assert_eq!(rt; text.as_slice(), line.as_bytes()),
+        Ok(text) => assert!(rt; text.as_slice() == line.as_bytes(), "{line}"),
         Err(_) => panic!(rt; "no memory"),
     }
 }
@@ -137,7 +137,7 @@ fn shows_numbers(rt: HostRuntime) -> Result<(), Fail> {
 /// A verdict has this line.
 fn says(rt: &impl Abort, alloc: Global, verdict: Verdict, line: &str) {
     match verdict_text(alloc, &verdict) {
-        Ok(text) => assert_eq!(rt; text.as_slice(), line.as_bytes()),
+        Ok(text) => assert!(rt; text.as_slice() == line.as_bytes(), "{line}"),
         Err(_) => panic!(rt; "no memory"),
     }
 }
