@@ -20,6 +20,15 @@ pub fn sound_shelf(alloc: Global, held: Held) -> MemoryShelf {
     MemoryShelf::new(held, Numbers::new(Vec::new(alloc)))
 }
 
+/// A shelf of files of these bytes, none of whose calls fail.
+pub fn bytes_shelf(alloc: Global, files: &[(&str, &[u8])]) -> Result<MemoryShelf, Fail> {
+    let mut held = Vec::new(alloc);
+    for file in files {
+        hold(alloc, &mut held, file.0, file.1)?;
+    }
+    Ok(sound_shelf(alloc, held))
+}
+
 /// A shelf of these files, whose calls of these numbers fail.
 pub fn shelf_of(
     alloc: Global,
@@ -34,6 +43,15 @@ pub fn shelf_of(
     Ok(MemoryShelf::new(held, Numbers::new(failing)))
 }
 
+/// The words of a line.
+fn words_of(alloc: Global, line: &str) -> Result<Vec<String>, Fail> {
+    let mut words = Vec::new(alloc);
+    for word in line.split_whitespace() {
+        words.push(String::from_str(alloc, word)?)?;
+    }
+    Ok(words)
+}
+
 /// A run over this shelf, and a sink whose first write may be made to fail: its status and what the sink took.
 pub fn run_over(
     alloc: Global,
@@ -41,10 +59,7 @@ pub fn run_over(
     line: &str,
     failing_write: Option<(u32, usize)>,
 ) -> Result<(Status, Vec<u8>), Fail> {
-    let mut words = Vec::new(alloc);
-    for word in line.split_whitespace() {
-        words.push(String::from_str(alloc, word)?)?;
-    }
+    let words = words_of(alloc, line)?;
     let mut sink = MemorySink::new(alloc, 1_000_000, failing_write)?;
     let status = run(alloc, words.as_slice(), shelf, &mut sink);
     Ok((status, Vec::from_slice(alloc, sink.taken())?))
@@ -60,8 +75,10 @@ pub fn is_answered(
     wanted: (Status, &[u8]),
 ) -> Result<(), Fail> {
     let (status, taken) = run_over(alloc, shelf, line, failing_write)?;
-    assert_eq!(rt; status, wanted.0, "{line}");
-    assert_eq!(rt; taken.as_slice(), wanted.1, "{line}");
+    assert!(rt;
+        status == wanted.0 && taken.as_slice() == wanted.1,
+        "{line}"
+    );
     Ok(())
 }
 

@@ -1,6 +1,6 @@
 //! Runs on files: netlists that are refused, in which order bits are joined, and the limits.
 use super::files::TWO_CELLS;
-use super::harness::{hold, run_over, sound_shelf};
+use super::harness::{run_over, shelf_of};
 use mintc_command::Status;
 use std::alloc::{AllocError, Global};
 use std::process::Abort;
@@ -17,12 +17,13 @@ fn answered(
     delays: &str,
     clock: &str,
 ) -> Result<(Status, Vec<u8>), Fail> {
-    let mut held = Vec::new(alloc);
-    hold(alloc, &mut held, "v", netlist.as_bytes())?;
-    hold(alloc, &mut held, "d", delays.as_bytes())?;
-    hold(alloc, &mut held, "c", TWO_CELLS.as_bytes())?;
-    hold(alloc, &mut held, "k", clock.as_bytes())?;
-    let mut shelf = sound_shelf(alloc, held);
+    let files = [
+        ("v", netlist),
+        ("d", delays),
+        ("c", TWO_CELLS),
+        ("k", clock),
+    ];
+    let mut shelf = shelf_of(alloc, &files, &[])?;
     run_over(alloc, &mut shelf, words, None)
 }
 
@@ -73,11 +74,8 @@ const TEXTS: &[(&str, &str)] = &[
 /// A netlist is refused with one of these answers.
 fn is_refused(rt: &impl Abort, alloc: Global, netlist: &str, answers: &[&str]) -> Result<(), Fail> {
     let (status, taken) = optimised(alloc, netlist, "(DELAYFILE)", CLOCK)?;
-    assert_eq!(rt; status, Status::Refused, "{netlist}");
     assert!(rt;
-        answers
-            .iter()
-            .any(|answer| answer.as_bytes() == taken.as_slice()),
+        status == Status::Refused && answers.iter().any(|a| a.as_bytes() == taken.as_slice()),
         "{netlist}"
     );
     Ok(())
@@ -102,8 +100,7 @@ fn an_output_that_is_connected_to_nothing(rt: HostRuntime) -> Result<(), Fail> {
     let netlist =
         "module m(c); input c; LAT a (.D(w), .G(c), .Q()); BUF b (.A(c), .Y(w)); endmodule";
     let (status, taken) = optimised(alloc, netlist, "(DELAYFILE)", CLOCK)?;
-    assert_eq!(rt; status, Status::Done);
-    assert!(rt; taken.as_slice().starts_with(b"certificate 2\nleast\n"));
+    assert!(rt; status == Status::Done && taken.as_slice().starts_with(b"certificate 2\nleast\n"));
     Ok(())
 }
 
@@ -171,26 +168,40 @@ fn begins(
     Ok(())
 }
 
-// Row limits-and-one-past: inner bits, elements; and braces.
+// Row limits-and-one-past: inner bits.
 #[test]
-fn too_many_bits(rt: HostRuntime) -> Result<(), Fail> {
+fn too_many_inner_bits(rt: HostRuntime) -> Result<(), Fail> {
     let alloc = rt.alloc();
-    let none = "(DELAYFILE)";
-    let more = wide(alloc, 65_535)?;
-    begins(&rt, alloc, &more, none, CLOCK, "refused 17 inner 262145\n")?;
-    let most = wide(alloc, 65_534)?;
-    begins(&rt, alloc, &most, none, CLOCK, "certificate 2\n")?;
-    let listed = "module m(c, x); input c; input [2000:0] x; endmodule";
-    let ports = format!(in alloc; "{CLOCK}[[input]]\nport = \"x\"\nphase = \"p\"\n")?;
+    for (last, front) in &[
+        (65_535, "refused 17 inner 262145\n"),
+        (65_534, "certificate 2\n"),
+    ] {
+        let netlist = wide(alloc, *last)?;
+        begins(&rt, alloc, &netlist, "(DELAYFILE)", CLOCK, front)?;
+    }
+    Ok(())
+}
+
+// Row limits-and-one-past: elements.
+#[test]
+fn too_many_elements(rt: HostRuntime) -> Result<(), Fail> {
+    let alloc = rt.alloc();
+    let netlist = "module m(c, x); input c; input [2000:0] x; endmodule";
+    let clock = format!(in alloc; "{CLOCK}[[input]]\nport = \"x\"\nphase = \"p\"\n")?;
+    let front = "refused 17 elements 2001\n";
+    begins(&rt, alloc, netlist, "(DELAYFILE)", &clock, front)
+}
+
+#[test]
+fn deep_braces(rt: HostRuntime) -> Result<(), Fail> {
     begins(
         &rt,
-        alloc,
-        listed,
-        none,
-        &ports,
-        "refused 17 elements 2001\n",
-    )?;
-    begins(&rt, alloc, BRACES, none, CLOCK, "certificate 2\n")
+        rt.alloc(),
+        BRACES,
+        "(DELAYFILE)",
+        CLOCK,
+        "certificate 2\n",
+    )
 }
 
 // Row limits-and-one-past: numbers of delays.
@@ -214,8 +225,10 @@ fn has_slacks(rt: &impl Abort, alloc: Global, expr: &str, answer: &str) -> Resul
     let clock = format!(in alloc; "{CLOCK}[[input]]\nport = \"x\"\nphase = \"p\"\n")?;
     let words = "slack files v d c k";
     let (status, taken) = answered(alloc, words, &netlist, "(DELAYFILE)", &clock)?;
-    assert_eq!(rt; status, Status::Done, "{expr}");
-    assert_eq!(rt; taken.as_slice(), answer.as_bytes(), "{expr}");
+    assert!(rt;
+        status == Status::Done && taken.as_slice() == answer.as_bytes(),
+        "{expr}"
+    );
     Ok(())
 }
 

@@ -1,6 +1,6 @@
 //! Runs on the sample, and on the worked files cut.
 use super::files::{TWO_CELLS, TWO_CLOCK, TWO_SDF, TWO_V};
-use super::harness::{hold, run_over, shelf_of, sound_shelf, succeeds};
+use super::harness::{bytes_shelf, hold, run_over, shelf_of, sound_shelf, succeeds};
 use mintc_sample::SampleFiles;
 use mintc_text::MemoryShelf;
 use std::alloc::Global;
@@ -36,13 +36,14 @@ fn sample_shelf(
     sample: &SampleFiles,
     certificate: &[u8],
 ) -> Result<MemoryShelf, Fail> {
-    let mut held = Vec::new(alloc);
-    hold(alloc, &mut held, "v", sample.netlist.items())?;
-    hold(alloc, &mut held, "d", sample.delays.items())?;
-    hold(alloc, &mut held, "c", sample.cells.items())?;
-    hold(alloc, &mut held, "k", sample.clock.items())?;
-    hold(alloc, &mut held, "x", certificate)?;
-    Ok(sound_shelf(alloc, held))
+    let files = [
+        ("v", sample.netlist.items()),
+        ("d", sample.delays.items()),
+        ("c", sample.cells.items()),
+        ("k", sample.clock.items()),
+        ("x", certificate),
+    ];
+    bytes_shelf(alloc, &files)
 }
 
 // Row verify-sample-seven.

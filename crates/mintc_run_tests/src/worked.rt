@@ -1,6 +1,6 @@
 //! The worked rows.
 use super::files::{CERTIFICATES, CORNER_FILES, FILES, FURTHER_FILES, LIBRARIES, TAB1};
-use super::harness::{hold, is_answered, run_over, shelf_of, sound_shelf, succeeds};
+use super::harness::{bytes_shelf, is_answered, run_over, shelf_of, succeeds};
 use super::rows::{FURTHER, OVER_CORNERS, OVER_FILES, OVER_LIBRARIES, ROWS, Row};
 use mintc_command::Status;
 use std::alloc::Global;
@@ -24,9 +24,8 @@ fn row_is_answered(
 ) -> Result<(), Fail> {
     let mut shelf = shelf_of(alloc, files, &[])?;
     let (status, taken) = run_over(alloc, &mut shelf, row.words, None)?;
-    assert_eq!(rt; status, row.status, "{} {}", row.name, row.words);
     assert!(rt;
-        is_of_row(row, taken.as_slice()),
+        status == row.status && is_of_row(row, taken.as_slice()),
         "{} {}",
         row.name,
         row.words
@@ -111,10 +110,8 @@ fn certificates_of_both_versions(rt: HostRuntime) -> Result<(), Fail> {
 
 /// A certificate that is found for a table is valid.
 fn is_valid(rt: &impl Abort, alloc: Global, table: &str, found: &[u8]) -> Result<(), Fail> {
-    let mut held = Vec::new(alloc);
-    hold(alloc, &mut held, "a.table", table.as_bytes())?;
-    hold(alloc, &mut held, "found", found)?;
-    let mut shelf = sound_shelf(alloc, held);
+    let files = [("a.table", table.as_bytes()), ("found", found)];
+    let mut shelf = bytes_shelf(alloc, &files)?;
     succeeds(
         rt,
         alloc,
@@ -140,7 +137,6 @@ fn optima_are_valid(rt: HostRuntime) -> Result<(), Fail> {
 
 #[test]
 fn exit_statuses(rt: HostRuntime) {
-    assert_eq!(rt; Status::Done.number(), 0);
-    assert_eq!(rt; Status::Found.number(), 1);
-    assert_eq!(rt; Status::OutOfMemory.number(), 6);
+    assert!(rt; Status::Done.number() == 0 && Status::Found.number() == 1);
+    assert!(rt; Status::OutOfMemory.number() == 6);
 }
