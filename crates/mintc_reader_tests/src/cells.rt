@@ -29,7 +29,7 @@ fn cells(rt: &impl Abort, alloc: Global, text: &str) -> Option<Cells> {
 
 /// A text is refused for this entry and rule, or for none.
 fn has_fault(rt: &impl Abort, alloc: Global, text: &str, want: Option<(u32, u32)>) {
-    assert_eq!(rt; fault(rt, alloc, text.as_bytes()), want, "at {text}");
+    assert!(rt; fault(rt, alloc, text.as_bytes()) == want, "at {text}");
 }
 
 /// A cell on one line.
@@ -74,7 +74,7 @@ fn pins_text(alloc: Global, cells: &Cells, name: &[u8]) -> Result<String, Fail> 
 fn has_cells(rt: &impl Abort, alloc: Global, text: &str, want: &str) -> Result<(), Fail> {
     let cells = cells(rt, alloc, text).ok_or("refused")?;
     let said = cells_text(alloc, &cells)?;
-    assert_eq!(rt; said.as_str(), want);
+    assert!(rt; said.as_str() == want, "{said}");
     Ok(())
 }
 
@@ -96,7 +96,7 @@ fn has_pins(
     pins: &str,
 ) -> Result<(), Fail> {
     let found = pins_text(alloc, cells, name.as_bytes())?;
-    assert_eq!(rt; found.as_str(), pins);
+    assert!(rt; found.as_str() == pins, "{name}: {found}");
     Ok(())
 }
 
@@ -107,15 +107,14 @@ fn pins_stand_in_order(rt: HostRuntime) -> Result<(), Fail> {
     for (name, pins) in PINS {
         has_pins(&rt, rt.alloc(), &cells, name, pins)?;
     }
-    assert_eq!(rt; cells.find(b"DLL"), Some(3));
-    assert_eq!(rt; cells.find(b"DLK"), None);
+    assert!(rt; cells.find(b"DLL") == Some(3) && cells.find(b"DLK").is_none());
     Ok(())
 }
 
 /// Each rule fails first where it should, at its limit and one past it.
 #[test]
 fn rules_fail_in_order(rt: HostRuntime) -> Result<(), Fail> {
-    assert_eq!(rt; fault(&rt, rt.alloc(), b"\xff"), Some((0, 0)));
+    assert!(rt; fault(&rt, rt.alloc(), b"\xff") == Some((0, 0)));
     for (text, want) in TEXTS {
         has_fault(&rt, rt.alloc(), text, *want);
     }
@@ -174,9 +173,13 @@ fn with_pin(alloc: Global, count: u32) -> Result<String, Fail> {
 #[test]
 fn lists_are_short(rt: HostRuntime) -> Result<(), Fail> {
     let alloc = rt.alloc();
-    has_fault(&rt, alloc, &gate(alloc, 64, 16)?, None);
-    has_fault(&rt, alloc, &gate(alloc, 65, 16)?, Some((1, 4)));
-    has_fault(&rt, alloc, &gate(alloc, 64, 17)?, Some((1, 4)));
+    for (inputs, outputs, want) in &[
+        (64, 16, None),
+        (65, 16, Some((1, 4))),
+        (64, 17, Some((1, 4))),
+    ] {
+        has_fault(&rt, alloc, &gate(alloc, *inputs, *outputs)?, *want);
+    }
     for keys in IGNORING {
         has_fault(&rt, alloc, &ignoring(alloc, keys, 64)?, None);
         has_fault(&rt, alloc, &ignoring(alloc, keys, 65)?, Some((1, 4)));
@@ -188,9 +191,9 @@ fn lists_are_short(rt: HostRuntime) -> Result<(), Fail> {
 #[test]
 fn names_are_short(rt: HostRuntime) -> Result<(), Fail> {
     let alloc = rt.alloc();
-    has_fault(&rt, alloc, &named(alloc, 255)?, None);
-    has_fault(&rt, alloc, &named(alloc, 256)?, Some((1, 2)));
-    has_fault(&rt, alloc, &with_pin(alloc, 255)?, None);
-    has_fault(&rt, alloc, &with_pin(alloc, 256)?, Some((1, 4)));
+    for (count, name, pin) in &[(255, None, None), (256, Some((1, 2)), Some((1, 4)))] {
+        has_fault(&rt, alloc, &named(alloc, *count)?, *name);
+        has_fault(&rt, alloc, &with_pin(alloc, *count)?, *pin);
+    }
     Ok(())
 }

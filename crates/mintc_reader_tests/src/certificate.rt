@@ -56,7 +56,7 @@ fn members(alloc: Global, count: u32) -> Result<String, Fail> {
 /// What a text is read as is written as that other text.
 fn is_rewritten(rt: &impl Abort, alloc: Global, text: &str, wanted: &str) -> Result<(), Fail> {
     let again = rewritten(alloc, text.as_bytes()).ok_or("refused")?;
-    assert_eq!(rt; again.as_slice(), wanted.as_bytes());
+    assert!(rt; again.as_slice() == wanted.as_bytes(), "{wanted}");
     Ok(())
 }
 
@@ -64,7 +64,12 @@ fn is_rewritten(rt: &impl Abort, alloc: Global, text: &str, wanted: &str) -> Res
 fn certificates_are_read_and_written_again(rt: HostRuntime) -> Result<(), Fail> {
     let alloc = rt.alloc();
     is_rewritten(&rt, alloc, RING, RING)?;
-    is_rewritten(&rt, alloc, NEVER, NEVER)?;
+    is_rewritten(&rt, alloc, NEVER, NEVER)
+}
+
+#[test]
+fn early_departures_and_many_members_are_written_again(rt: HostRuntime) -> Result<(), Fail> {
+    let alloc = rt.alloc();
     let early = RING.replacen(alloc, "departure 0", "departure -100000000000000", 1)?;
     is_rewritten(&rt, alloc, &early, &early)?;
     let many = members(alloc, 4_096)?;
@@ -110,28 +115,33 @@ fn members_have_their_numbers(rt: HostRuntime) -> Result<(), Fail> {
     Ok(())
 }
 
-#[test]
-fn a_cut_text_has_its_fault_at_the_cut(rt: HostRuntime) -> Result<(), Fail> {
-    let alloc = rt.alloc();
-    for text in [RING.as_bytes(), NEVER.as_bytes()] {
-        let mut line = 1;
-        for (cut, byte) in text.iter().enumerate() {
-            assert_eq!(rt; fault(alloc, &text[..cut]), line);
-            if *byte == b'\n' {
-                assert!(rt; line < 100);
-                line += 1;
-            }
-        }
-        assert_eq!(rt; fault(alloc, text), 0);
-    }
-    let endless = RING.replacen(alloc, "end\n", "", 1)?;
-    assert_eq!(rt; fault(alloc, endless.as_bytes()), 14);
-    Ok(())
-}
-
 /// A text has its fault at this line, or none.
 fn has_fault(rt: &impl Abort, alloc: Global, text: &str, line: u32) {
-    assert_eq!(rt; fault(alloc, text.as_bytes()), line, "{text}");
+    assert!(rt; fault(alloc, text.as_bytes()) == line, "{text}");
+}
+
+/// Each cut of a text has its fault at the cut, and the whole has none.
+fn is_faulty_at_cuts(rt: &impl Abort, alloc: Global, whole: &str) {
+    let text = whole.as_bytes();
+    let mut line: u32 = 1;
+    for (cut, byte) in text.iter().enumerate() {
+        assert!(rt; fault(alloc, &text[..cut]) == line, "{cut}");
+        line = line.saturating_add((*byte == b'\n') as u32);
+    }
+    has_fault(rt, alloc, whole, 0);
+}
+
+#[test]
+fn a_cut_text_has_its_fault_at_the_cut(rt: HostRuntime) {
+    is_faulty_at_cuts(&rt, rt.alloc(), RING);
+    is_faulty_at_cuts(&rt, rt.alloc(), NEVER);
+}
+
+#[test]
+fn a_text_without_an_end_is_faulty(rt: HostRuntime) -> Result<(), Fail> {
+    let endless = RING.replacen(rt.alloc(), "end\n", "", 1)?;
+    has_fault(&rt, rt.alloc(), &endless, 14);
+    Ok(())
 }
 
 #[test]
@@ -172,8 +182,13 @@ fn a_faulty_line_is_named(rt: HostRuntime) -> Result<(), Fail> {
         let text = RING.replacen(alloc, old, new, 1)?;
         has_fault(&rt, alloc, &text, *line);
     }
-    let many = members(alloc, 4_097)?;
-    has_fault(&rt, alloc, &many, 3);
+    Ok(())
+}
+
+#[test]
+fn too_many_members_are_faulty(rt: HostRuntime) -> Result<(), Fail> {
+    let many = members(rt.alloc(), 4_097)?;
+    has_fault(&rt, rt.alloc(), &many, 3);
     Ok(())
 }
 

@@ -70,20 +70,34 @@ fn design(rt: &impl Abort, alloc: Global, text: &str) -> Option<Flat> {
     read_table(alloc, text.as_bytes()).ok()
 }
 
+/// Adds a head with a count, and this row so many times.
+fn add_rows(
+    text: &mut String,
+    alloc: Global,
+    head: &str,
+    count: u32,
+    row: &str,
+) -> Result<(), Fail> {
+    text.push_str(&format!(in alloc; "{head} {count}\n")?)?;
+    for _ in 0..count {
+        text.push_str(row)?;
+    }
+    Ok(())
+}
+
 /// A table with so many phases, elements and bounds.
 fn table_of(alloc: Global, phases: u32, elements: u32, bounds: u32) -> Result<String, Fail> {
-    let mut text = format!(in alloc; "table 1\nphases {phases}\n")?;
-    for _ in 0..phases {
-        text.push_str("phase p\n")?;
-    }
-    text.push_str(&format!(in alloc; "elements {elements}\n")?)?;
-    for _ in 0..elements {
-        text.push_str("element e 1 0 - 0 0 0\n")?;
-    }
-    text.push_str(&format!(in alloc; "inner 0\narcs 0\nbounds {bounds}\n")?)?;
-    for _ in 0..bounds {
-        text.push_str("bound o s1 5 1\n")?;
-    }
+    let mut text = String::new(alloc);
+    let element = "element e 1 0 - 0 0 0\n";
+    add_rows(&mut text, alloc, "table 1\nphases", phases, "phase p\n")?;
+    add_rows(&mut text, alloc, "elements", elements, element)?;
+    add_rows(
+        &mut text,
+        alloc,
+        "inner 0\narcs 0\nbounds",
+        bounds,
+        "bound o s1 5 1\n",
+    )?;
     text.push_str("end\n")?;
     Ok(text)
 }
@@ -113,15 +127,20 @@ fn is_second_arc(arc: &TimingArc) -> bool {
     arc.from == 3 && arc.to == 0 && arc.min == 60 && arc.max == 60
 }
 
+/// Whether a design has two phases, two elements and two arcs, of which the second ones are those of the ring.
+fn is_ring(design: &Flat) -> bool {
+    match (design.elements(), design.arcs()) {
+        ([_, element], [_, arc]) => {
+            design.phases().items().len() == 2 && is_second(element) && is_second_arc(arc)
+        }
+        _ => false,
+    }
+}
+
 #[test]
 fn a_ring_is_read(rt: HostRuntime) -> Result<(), Fail> {
     let ring = design(&rt, rt.alloc(), RING).ok_or("refused")?;
-    let ([_, element], [_, arc]) = (ring.elements(), ring.arcs()) else {
-        return Err(Fail::from("other elements or arcs"));
-    };
-    assert_eq!(rt; ring.phases().items().len(), 2);
-    assert!(rt; is_second(element));
-    assert!(rt; is_second_arc(arc));
+    assert!(rt; is_ring(&ring));
     Ok(())
 }
 
@@ -147,36 +166,32 @@ fn enable_delays_are_read(rt: HostRuntime) -> Result<(), Fail> {
     Ok(())
 }
 
-#[test]
-fn a_cut_table_has_its_fault_at_the_cut(rt: HostRuntime) -> Result<(), Fail> {
-    let alloc = rt.alloc();
-    for text in [RING.as_bytes(), FLOPS.as_bytes(), ENABLE.as_bytes()] {
-        let mut line = 1;
-        for (cut, byte) in text.iter().enumerate() {
-            assert_eq!(rt; table_fault(alloc, &text[..cut]), line);
-            if *byte == b'\n' {
-                assert!(rt; line < 100);
-                line += 1;
-            }
-        }
-        assert_eq!(rt; table_fault(alloc, text), 0);
+/// Each cut of a table has its fault at the cut, and the whole has none.
+fn is_faulty_at_cuts(rt: &impl Abort, alloc: Global, text: &[u8]) {
+    let mut line: u32 = 1;
+    for (cut, byte) in text.iter().enumerate() {
+        assert!(rt; table_fault(alloc, &text[..cut]) == line, "{cut}");
+        line = line.saturating_add((*byte == b'\n') as u32);
     }
-    Ok(())
+    assert!(rt; table_fault(alloc, text) == 0);
 }
 
 #[test]
-fn a_cut_schedule_has_its_fault_at_the_cut(rt: HostRuntime) -> Result<(), Fail> {
-    let mut line = 1;
+fn a_cut_table_has_its_fault_at_the_cut(rt: HostRuntime) {
+    is_faulty_at_cuts(&rt, rt.alloc(), RING.as_bytes());
+    is_faulty_at_cuts(&rt, rt.alloc(), FLOPS.as_bytes());
+    is_faulty_at_cuts(&rt, rt.alloc(), ENABLE.as_bytes());
+}
+
+#[test]
+fn a_cut_schedule_has_its_fault_at_the_cut(rt: HostRuntime) {
+    let mut line: u32 = 1;
     let text = SCHEDULE.as_bytes();
     for (cut, byte) in text.iter().enumerate() {
-        assert_eq!(rt; schedule_fault(&text[..cut]), line);
-        if *byte == b'\n' {
-            assert!(rt; line < 100);
-            line += 1;
-        }
+        assert!(rt; schedule_fault(&text[..cut]) == line, "{cut}");
+        line = line.saturating_add((*byte == b'\n') as u32);
     }
-    assert_eq!(rt; schedule_fault(text), 0);
-    Ok(())
+    assert!(rt; schedule_fault(text) == 0);
 }
 
 /// A table in which one text stands for another has its fault at this line.
@@ -189,7 +204,7 @@ fn has_fault(
     line: u32,
 ) -> Result<(), Fail> {
     let text = table.replacen(alloc, old, new, 1)?;
-    assert_eq!(rt; table_fault(alloc, text.as_bytes()), line, "{new}");
+    assert!(rt; table_fault(alloc, text.as_bytes()) == line, "{new}");
     Ok(())
 }
 
@@ -228,15 +243,14 @@ fn a_faulty_line_of_a_schedule_is_named(rt: HostRuntime) -> Result<(), Fail> {
         ("end\n", "end\nend\n", 8),
     ] {
         let text = SCHEDULE.replacen(alloc, old, new, 1)?;
-        assert_eq!(rt; schedule_fault(text.as_bytes()), *line, "{new}");
+        assert!(rt; schedule_fault(text.as_bytes()) == *line, "{new}");
     }
     Ok(())
 }
 
-/// A table in form is refused for this quantity and its count, or for none.
-fn has_limit(rt: &impl Abort, alloc: Global, text: &str, limit: Option<(Kind, u64)>) {
-    assert_eq!(rt; table_fault(alloc, text.as_bytes()), 0);
-    assert_eq!(rt; table_limit(alloc, text.as_bytes()), limit);
+/// Whether a table in form is refused for this quantity and its count, or for none.
+fn has_limit(alloc: Global, text: &[u8], limit: Option<(Kind, u64)>) -> bool {
+    table_fault(alloc, text) == 0 && table_limit(alloc, text) == limit
 }
 
 #[test]
@@ -249,12 +263,18 @@ fn limits_are_refused_with_their_count(rt: HostRuntime) -> Result<(), Fail> {
         (1, 0, 65, Some((Kind::Bounds, 65))),
     ] {
         let text = table_of(alloc, *phases, *elements, *bounds)?;
-        has_limit(&rt, alloc, text.as_str(), *limit);
+        assert!(rt;
+            has_limit(alloc, text.as_bytes(), *limit),
+            "{phases} {elements} {bounds}"
+        );
     }
+    Ok(())
+}
+
+#[test]
+fn inner_bits_have_a_limit(rt: HostRuntime) -> Result<(), Fail> {
+    let alloc = rt.alloc();
     let inner = RING.replacen(alloc, "inner 0", "inner 999999999", 1)?;
-    assert_eq!(rt;
-        table_limit(alloc, inner.as_bytes()),
-        Some((Kind::Inner, 999_999_999))
-    );
+    assert!(rt; table_limit(alloc, inner.as_bytes()) == Some((Kind::Inner, 999_999_999)));
     Ok(())
 }

@@ -6,10 +6,8 @@ use std::test::Fail;
 fn cuts_a_small_module(rt: HostRuntime) -> Result<(), Fail> {
     let text = b"module \\m (a); /* ; */ endmodule";
     let all = tokens(rt.alloc(), text.as_slice())?;
-    assert_eq!(rt; all.len(), 7);
-    assert!(rt; all[1].kind == TokenKind::Escaped);
+    assert!(rt; all.len() == 7 && all[1].kind == TokenKind::Escaped);
     let cut = statements(rt.alloc(), text.as_slice(), all.as_slice())?;
-    assert_eq!(rt; cut.len(), 2);
-    assert_eq!(rt; cut[1].from, 6);
+    assert!(rt; cut.len() == 2 && cut[1].from == 6);
     Ok(())
 }
