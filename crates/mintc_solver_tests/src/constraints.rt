@@ -7,34 +7,26 @@ use std::alloc::Global;
 use std::process::Abort;
 use std::test::Fail;
 
-/// A bound of each kind.
-const BOUNDS: &[Bound] = &[
-    Bound {
+/// A design with two phases, bounds of each kind, and nothing else.
+fn bounded(alloc: Global) -> Option<System> {
+    let mut phases = Vec::new(alloc);
+    phases.push(Name::new(alloc, b"p").ok()?).ok()?;
+    phases.push(Name::new(alloc, b"q").ok()?).ok()?;
+    let mut bounds = Vec::new(alloc);
+    let least = Bound {
         from: Point::Origin,
         to: Point::Origin,
         gap: 50,
         cycles: 1,
-    },
-    Bound {
+    };
+    bounds.push(least).ok()?;
+    let overlap = Bound {
         from: Point::End(1),
         to: Point::Start(2),
         gap: -5,
         cycles: 0,
-    },
-];
-
-/// Two phases.
-fn phases_of(alloc: Global) -> Option<Vec<Name>> {
-    let mut phases = Vec::new(alloc);
-    phases.push(Name::new(alloc, b"p").ok()?).ok()?;
-    phases.push(Name::new(alloc, b"q").ok()?).ok()?;
-    Some(phases)
-}
-
-/// A design with two phases, bounds of each kind, and nothing else.
-fn bounded(alloc: Global) -> Option<System> {
-    let phases = phases_of(alloc)?;
-    let bounds = Vec::from_slice(alloc, BOUNDS).ok()?;
+    };
+    bounds.push(overlap).ok()?;
     let flat = Flat::new(
         Names::new(phases),
         Vec::new(alloc),
