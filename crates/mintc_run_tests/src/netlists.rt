@@ -1,6 +1,6 @@
 //! Runs on files: netlists that are refused, in which order bits are joined, and the limits.
 use super::files::TWO_CELLS;
-use super::harness::{run_over, shelf_of};
+use super::harness::{hold, run_over, sound_shelf};
 use mintc_command::Status;
 use std::alloc::{AllocError, Global};
 use std::process::Abort;
@@ -17,13 +17,12 @@ fn answered(
     delays: &str,
     clock: &str,
 ) -> Result<(Status, Vec<u8>), Fail> {
-    let files = [
-        ("v", netlist),
-        ("d", delays),
-        ("c", TWO_CELLS),
-        ("k", clock),
-    ];
-    let mut shelf = shelf_of(alloc, &files, &[])?;
+    let mut held = Vec::new(alloc);
+    hold(alloc, &mut held, "v", netlist.as_bytes())?;
+    hold(alloc, &mut held, "d", delays.as_bytes())?;
+    hold(alloc, &mut held, "c", TWO_CELLS.as_bytes())?;
+    hold(alloc, &mut held, "k", clock.as_bytes())?;
+    let mut shelf = sound_shelf(alloc, held);
     run_over(alloc, &mut shelf, words, None)
 }
 
