@@ -34,11 +34,13 @@ use Rattle.mintc_timing.specs.declared.parts.TimingArc.{TimingArc}
 use Rattle.mintc_timing.specs.Design.{Design}
 use Rattle.mintc_timing.specs.Limits.{over_limit, quantities, limit_of, HasParts}
 use Rattle.mintc_speaking.specs.Pins.{leaf_at, leaf_cell, no_leaf, all_leaves, all_names, inner_name, is_storage, leaf_path, dotted, input_count, output_numbers}
+use Rattle.mintc_speaking.specs.Ranges.{look}
 use Rattle.mintc_speaking.specs.Speaking.{Matter, said, range_of, first_refusal, join_into, path_on, arcs_from, dq_of, cq_of, setup_of, hold_of, width_of}
-use Rattle.mintc_annotate.specs.declared.searching.Spot.{Spot}
 use Rattle.mintc_annotate.specs.ClockPorts.{has_ports, first_false, IsPortRefusal}
-use Rattle.mintc_annotate.specs.Phases.{storage, phase_spots, AreTraced, IsUntraced, IsPhaseOf}
+use Rattle.mintc_annotate.specs.Phases.{storage, phase_spots, IsUntraced, IsPhaseOf}
+use Rattle.mintc_annotate.specs.declared.gathering.Gathered.{Gathered}
 use Rattle.mintc_annotate.specs.Counts.{arc_count, leaf_arc_count}
+use Rattle.mintc_annotate.specs.Gathered.{AreGathered, IsSpoken, design_of_gathered}
 use Rattle.mintc_annotate.specs.Made.{RangeOf, bits_of, element_of, port_element, elements_of, arc_of, no_delay, inner_bit, join_arc, gate_arc, leaf_arcs, number_in, input_arcs, output_arcs, arcs_of, arcs_with, design_with, IsMade, IsAnnotated, IsAnnotateRefusal, no_port, speaks_of_nothing, no_phase}
 use Rattle.mintc_annotate.proofs.TraceLaws.{stored}
 use Rattle.mintc_annotate.proofs.ElementLimits.{KeepsHold}
@@ -139,14 +141,6 @@ few_elements inner phases elements arcs bounds none =
     let test = third_test (nat_lt 262144 inner) (nat_lt 8 phases) (nat_lt 2000 elements) _ _ _ _ _ none in
     grind (arith, nat_tests, test)
 
-pub few_stored : (h : Hierarchy) (cells : CellTable) (spots : List Spot) (phases : List ℕ) → length h.leaves ≤ MOST_LEAVES → AreTraced h cells spots phases → length phases ≤ MOST_LEAVES
-few_stored h cells spots phases few traced =
-    let same = AllZip-long (IsPhaseOf h cells spots) (storage h cells) phases traced in
-    let count = length-filter (stored h cells) (all_leaves h) in
-    let most = count_by-le-length (stored h cells) (all_leaves h) in
-    let long = length-range_with_len 0 (length h.leaves) in
-    omega (arith, same, count, most, long, few)
-
 -- ---- other ranges that are the same
 map_same : {X Y : Type 0} (f g : X → Y) (xs : List X) → ((x : X) → f x ≡ g x) → map f xs ≡ map g xs
 map_same f g [] same = refl
@@ -236,10 +230,23 @@ pub holds_at : (h : Hierarchy) (cells : CellTable) → AreKept cells → (l : �
 holds_at h cells kept l = within_or_gate KeepsHold cells (leaf_at h l).cell (λ within. keeps_hold (cell_at cells (leaf_at h l).cell) (defaults_at cells (leaf_at h l).cell kept within)) tt
 
 -- ---- the whole
-pub made_of : (h : Hierarchy) (cells : CellTable) (clock : clock_type.Clock) (delays : List Delay) (ranges : RangeOf) (phases : List ℕ) → first_false (has_ports h clock) ≡ None → first_refusal h cells delays ≡ None → AreTraced h cells (phase_spots h clock) phases →
-    ((m : Matter) → ranges m ≡ range_of (said h cells delays) m) → IsMade h cells clock delays (design_with h cells clock ranges phases)
-made_of h cells clock delays ranges phases ports speaks traced same =
-    record { ports = ports; speaks = speaks; phases = phases; traced = traced; made = design_same h cells clock ranges (range_of (said h cells delays)) phases same }
+module _ (h : Hierarchy) (cells : CellTable) (clock : clock_type.Clock) (g : Gathered) (are : AreGathered h cells clock g) where
+  pub as_stored : length g.phases ≡ length (storage h cells)
+  as_stored = AllZip-long (IsPhaseOf h cells (phase_spots h clock)) (storage h cells) g.phases are.traced
+
+  pub few_stored : length h.leaves ≤ MOST_LEAVES → length g.phases ≤ MOST_LEAVES
+  few_stored few =
+      let count = length-filter (stored h cells) (all_leaves h) in
+      let most = count_by-le-length (stored h cells) (all_leaves h) in
+      let long = length-range_with_len 0 (length h.leaves) in
+      omega (arith, as_stored, count, most, long, few)
+
+  pub few_gathered : limit_of (design_of_gathered h cells clock g) ≡ None → length g.phases + length (bits_of h false clock.inputs) + length (bits_of h true clock.outputs) ≤ MOST_ELEMENTS
+  few_gathered none = few_elements (length h.inner) (length clock.phases) _ (length h.joins + leaf_arc_count h cells + length (bits_of h false clock.inputs) + length (bits_of h true clock.outputs)) (length clock.bounds) (sym (limit_counts h cells clock (look g.ranges) g.phases as_stored) ∙ none)
+
+  pub made_of : (delays : List Delay) → IsSpoken h cells delays g → IsMade h cells clock delays (design_of_gathered h cells clock g)
+  made_of delays spoken =
+      record { ports = are.ports; speaks = spoken.speaks; phases = g.phases; traced = are.traced; made = design_same h cells clock (look g.ranges) (range_of (said h cells delays)) g.phases spoken.ranges }
 
 pub parts_of : (h : Hierarchy) (cells : CellTable) (clock : clock_type.Clock) (delays : List Delay) (design : Design) → IsFlattened cells h → AreKept cells → KeepsLimits clock → All IsWithin delays → IsMade h cells clock delays design → HasParts design
 parts_of h cells clock delays design shape kept keeps sound made =

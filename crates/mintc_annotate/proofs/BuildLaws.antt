@@ -7,7 +7,6 @@ use Rattle.std.proofs.lemmas.List.FromFn.{map-range_with_len_more, length-range_
 use Rattle.std.proofs.lemmas.List.Sums.{count_by_more_yes, count_by_more_no, sum_by-append}
 use Rattle.std.proofs.lemmas.Slice.Zip.{length-zip}
 use Rattle.std.proofs.lemmas.Grind.{flat_map-append}
-use Rattle.mintc_text.specs.declared.limits.TheConstants.{MOST_INNER}
 use Rattle.mintc_cells.specs.declared.cell.Cell.TheVariants.{Gate}
 use Rattle.mintc_cells.specs.Entries.{cell_at}
 use Rattle.mintc_hierarchy.specs.declared.hierarchy.Hierarchy.{Hierarchy}
@@ -21,13 +20,14 @@ use Rattle.mintc_timing.specs.declared.parts.Element.{Element}
 use Rattle.mintc_timing.specs.declared.parts.TimingArc.{TimingArc}
 use Rattle.mintc_timing.specs.declared.parts.Bound.{Bound}
 use Rattle.mintc_timing.specs.Design.{design_of}
-use Rattle.mintc_speaking.specs.Pins.{leaf_at, leaf_cell, all_leaves, is_storage, scope_at, scope_path, leaf_path, dotted, all_names, inner_name}
+use Rattle.mintc_speaking.specs.Pins.{leaf_at, leaf_cell, all_leaves, is_storage, scope_at, scope_path, leaf_path, dotted}
 use Rattle.mintc_speaking.specs.Names.{front_of}
 use Rattle.mintc_speaking.proofs.SharedNameLaws.{HasParents, path_below}
 use Rattle.mintc_annotate.specs.declared.listing.ListedBit.{ListedBit}
 use Rattle.mintc_annotate.specs.ClockPorts.{listed_in}
 use Rattle.mintc_annotate.specs.Phases.{storage}
-use Rattle.mintc_annotate.specs.Counts.{no_listed, place_bit, with_port, IsListedBit}
+use Rattle.mintc_annotate.specs.Counts.{no_listed, place_bit, with_port}
+use Rattle.mintc_annotate.specs.Gathered.{AreBits}
 use Rattle.mintc_annotate.specs.Made.{RangeOf, bits_in, bits_of, number_in, element_of, elements_at, storage_elements, pin_arc, join_arc, leaf_arcs, input_arcs, output_arcs, arcs_with}
 use Rattle.mintc_annotate.proofs.TraceLaws.{stored, stored_more, stored_split, stored_all}
 use Rattle.mintc_annotate.proofs.PartLimits.{all_bits}
@@ -185,22 +185,18 @@ front_below h (suc m) scope parents some within at =
     ap front_of (path_below h m parents within) ∙ front_push (scope_path h (scope_at h (suc m)).parent) (scope_at h (suc m)).name ∙ ap (λ (x : Scope). front_of (scope_path h x.parent) ++ (x.name ++ 46 ∷ [])) at
 
 -- ---- what a listed bit names is there
-pub bits_there : (h : Hierarchy) (output : Bool) (listed ls : List Listed) (ports : List TopPort) (xs ys : List ListedBit) (names : List (List ℕ)) → ports ≡ h.ports → ls ≡ listed → ys ≡ xs → names ≡ all_names h → All (IsPort h) h.ports →
-    map (with_port ls) xs ≡ bits_in ports output ls → All (λ x. x.place < length ls) xs → All (IsListedBit (length listed) (length names)) ys
-bits_there h output listed ls ports xs ys names a b c d shape so places =
-    let inner : length names ≡ length h.inner = ap length d ∙ length-map h.inner (inner_name h) in
-    let bits : All (λ (y : Listed × ℕ). y.1 < length h.inner) (map (with_port ls) xs) =
-    subst (λ l. All (λ (y : Listed × ℕ). y.1 < length h.inner) l) (sym (so ∙ ap (λ ps. bits_in ps output ls) a)) (all_bits h output ls shape) in
-    subst (λ l. All (IsListedBit (length listed) (length names)) l) (sym c) (λ k e less.
-    let place = places k e less in
-    let bit : (get_or xs k e).bit < length h.inner = subst (λ (y : Listed × ℕ). y.1 < length h.inner) (get_or-map (with_port ls) xs k e (with_port ls e) less) (bits k (with_port ls e) (omega (arith, less, length-map xs (with_port ls)))) in
-    (omega (arith, place, ap length b), omega (arith, bit, inner)))
+pub are_bits : (h : Hierarchy) (output : Bool) (listed : List Listed) (xs : List ListedBit) → All (IsPort h) h.ports → map (with_port listed) xs ≡ bits_of h output listed → All (λ x. x.place < length listed) xs → AreBits h output listed xs
+are_bits h output listed xs shape same places =
+    let bits : All (λ (y : Listed × ℕ). y.1 < length h.inner) (map (with_port listed) xs) = subst (All (λ (y : Listed × ℕ). y.1 < length h.inner)) (sym same) (all_bits h output listed shape) in
+    record {
+      same = same;
+      there = λ k e less.
+          let bit : (get_or xs k e).bit < length h.inner = subst (λ (y : Listed × ℕ). y.1 < length h.inner) (get_or-map (with_port listed) xs k e (with_port listed e) less) (bits k (with_port listed e) (omega (arith, less, length-map xs (with_port listed)))) in
+          (places k e less, bit);
+    }
 
-pub bits_small : (n m : ℕ) (xs : List ListedBit) → m ≤ MOST_INNER → All (IsListedBit n m) xs → All (λ x. x.bit < MOST_INNER) xs
-bits_small n m xs few all = λ k e less. let bit = (all k e less).1 in omega (arith, bit, few)
-
-pub bits_same : (h : Hierarchy) (output : Bool) (listed ls : List Listed) (ports : List TopPort) (xs ys : List ListedBit) → ports ≡ h.ports → ls ≡ listed → ys ≡ xs → map (with_port ls) xs ≡ bits_in ports output ls → map (with_port listed) ys ≡ bits_of h output listed
-bits_same h output listed ls ports xs ys a b c so = ap (map (with_port listed)) c ∙ ap (λ l. map (with_port l) xs) (sym b) ∙ so ∙ ap (λ ps. bits_in ps output ls) a ∙ ap (bits_in h.ports output) b
+pub as_many_bits : (h : Hierarchy) (output : Bool) (listed : List Listed) (xs : List ListedBit) → AreBits h output listed xs → length xs ≡ length (bits_of h output listed)
+as_many_bits h output listed xs are = sym (length-map xs (with_port listed)) ∙ ap length are.same
 
 -- ---- the design by its parts
 pub same_design : (ps qs ns ms : List (List ℕ)) (es fs : List Element) (as' bs : List TimingArc) (cs ds : List Bound) → ps ≡ qs → es ≡ fs → ns ≡ ms → as' ≡ bs → cs ≡ ds → design_of ps es ns as' cs ≡ design_of qs fs ms bs ds

@@ -1,6 +1,7 @@
 pub mod ClockPorts
 pub mod Clocked
 pub mod Counts
+pub mod Gathered
 pub mod Given
 pub mod Laws
 pub mod Made

@@ -227,28 +227,18 @@ fn push_leaf(
             outputs,
             ..
         } => {
-            push_stored(
-                found,
-                elements,
-                first,
-                element,
-                count(ignored) + 2,
-                count(outputs),
-            )
+            let inputs = count(ignored) + 2;
+            let outputs = count(outputs);
+            push_stored(found, elements, first, element, inputs, outputs)
         }
         Cell::Flop {
             ignored,
             outputs,
             ..
         } => {
-            push_stored(
-                found,
-                elements,
-                first,
-                element,
-                count(ignored) + 2,
-                count(outputs),
-            )
+            let inputs = count(ignored) + 2;
+            let outputs = count(outputs);
+            push_stored(found, elements, first, element, inputs, outputs)
         }
         Cell::Clock { .. } => Ok(()),
     }

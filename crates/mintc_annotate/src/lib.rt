@@ -14,6 +14,7 @@ mod clocked;
 mod counting;
 mod drivers;
 mod elements;
+mod gathering;
 mod laws;
 mod listing;
 mod naming;

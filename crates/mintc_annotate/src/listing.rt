@@ -2,14 +2,16 @@
 ghost use Rattle.std.specs.Prelude.{◌≡◌, ◌<◌, ◌≤◌, ◌+◌, ◌++◌, ◌&&◌, [], length, map, min, is_some, bytes_eq, unwrap_or, None, All, IfOk, OnOk, OnErr, MatchResult};
 ghost use Rattle.std.specs.Bool.{beq};
 ghost use Rattle.mintc_text.specs.Stops.{StopsAt};
+ghost use Rattle.mintc_hierarchy.specs.Shape.{IsPort};
 ghost use Rattle.mintc_clock.specs.ClockOf.{first_failing};
 ghost use Rattle.mintc_speaking.specs.Ports.{AreInside};
 ghost use Rattle.mintc_annotate.specs.ClockPorts.{listed_in, has_listed_in, IsEntryRefusal};
+ghost use Rattle.mintc_annotate.specs.Gathered.{AreBits, AreListed};
 ghost use Rattle.mintc_annotate.specs.Made.{bits_in};
 ghost use Rattle.mintc_annotate.specs.Counts.{with_port, place_bit};
 
-use mintc_clock::Listed;
-use mintc_hierarchy::TopPort;
+use mintc_clock::{Clock, Listed};
+use mintc_hierarchy::{Hierarchy, TopPort};
 use mintc_text::limits::MOST_TOLD;
 use mintc_text::{OutOfMemory, Refusal, Role, Stop};
 use std::alloc::Global;
@@ -19,6 +21,13 @@ use std::alloc::Global;
 pub(crate) struct ListedBit {
     pub(crate) place: usize,
     pub(crate) bit: u32,
+}
+
+/// The bits of the listed inputs and of the listed outputs.
+#[derive(Drop)]
+pub(crate) struct ListedBits {
+    pub(crate) inputs: Vec<ListedBit>,
+    pub(crate) outputs: Vec<ListedBit>,
 }
 
 /// Whether a port has this name and this direction.
@@ -92,7 +101,7 @@ fn push_bits(found: &mut Vec<ListedBit>, place: usize, bits: &[u32]) -> Result<(
 }
 
 /// The bits of listed ports, in file order and from the rightmost.
-pub(crate) fn listed_bits(
+fn bits_in(
     alloc: Global,
     ports: &[TopPort],
     output: bool,
@@ -105,4 +114,32 @@ pub(crate) fn listed_bits(
         push_bits(&mut found, place, port_bits(ports, output, &listed[place]))?;
     }
     Ok(found)
+}
+
+/// The bits of the listed ports of a hierarchy's top.
+fn bits_of(
+    alloc: Global,
+    hierarchy: &Hierarchy,
+    output: bool,
+    listed: &[Listed],
+) -> Result<Vec<ListedBit>, OutOfMemory>
+    requires { All (IsPort hierarchy.now) hierarchy.now.ports }
+    ensures { IfOk result (λ v. AreBits hierarchy.now output listed.now v.items) }
+{
+    bits_in(alloc, hierarchy.ports.items(), output, listed)
+}
+
+/// The bits of the inputs and of the outputs that a clock lists.
+pub(crate) fn listed_bits(
+    alloc: Global,
+    hierarchy: &Hierarchy,
+    clock: &Clock,
+) -> Result<ListedBits, OutOfMemory>
+    requires { All (IsPort hierarchy.now) hierarchy.now.ports }
+    ensures { IfOk result (AreListed hierarchy.now clock.now) }
+{
+    Ok(ListedBits {
+        inputs: bits_of(alloc, hierarchy, false, clock.inputs.items())?,
+        outputs: bits_of(alloc, hierarchy, true, clock.outputs.items())?,
+    })
 }

@@ -5,7 +5,7 @@ use Rattle.mintc_clock.specs.declared.clock.Listed.{Listed}
 use Rattle.mintc_annotate.specs.ClockPorts.{listed_in}
 use Rattle.mintc_annotate.specs.Counts.{no_listed, place_bit}
 use Rattle.mintc_annotate.proofs.BuildLaws.{bits_pushed}
-use Rattle.mintc_annotate.proofs.listing.listed_bits.Goals as goal
+use Rattle.mintc_annotate.proofs.listing.bits_in.Goals as goal
 
 pub loop-place-preserved : goal.loop-place-preserved
 loop-place-preserved c =

@@ -1,7 +1,7 @@
 use Rattle.std.proofs.Common.{◌≡◌, ◌<◌, length, map, take, All}
 use Rattle.mintc_annotate.specs.Counts.{with_port}
 use Rattle.mintc_annotate.specs.Made.{bits_in}
-use Rattle.mintc_annotate.proofs.listing.listed_bits.Given as goal
+use Rattle.mintc_annotate.proofs.listing.bits_in.Given as goal
 
 abbrev pub invariant-loop-place : goal.invariant-loop-place
 invariant-loop-place l =

@@ -1,0 +1,63 @@
+//! What is gathered for a design before it is made.
+ghost use Rattle.std.specs.Prelude.{MatchResult};
+ghost use Rattle.mintc_text.specs.Stops.{StopsAt};
+ghost use Rattle.mintc_hierarchy.specs.Shape.{IsFlattened};
+ghost use Rattle.mintc_annotate.specs.Gathered.{AreGathered, IsSpoken};
+ghost use Rattle.mintc_annotate.specs.Made.{IsAnnotateRefusal};
+
+use crate::clocked::clock_ports;
+use crate::tracing::trace_all;
+use mintc_cells::Cells;
+use mintc_clock::Clock;
+use mintc_hierarchy::Hierarchy;
+use mintc_sdf::Delays;
+use mintc_speaking::{Ranges, gather_ranges, inner_names};
+use mintc_text::{Name, Numbers, Stop};
+use std::alloc::Global;
+
+/// What inner bits are called, what delays say, the phases of latches and flops, and how many bits the listed inputs and outputs
+/// have, each up to `MOST_TOLD`.
+#[derive(Drop)]
+pub(crate) struct Gathered {
+    pub(crate) names: Vec<Name>,
+    pub(crate) ranges: Ranges,
+    pub(crate) phases: Numbers,
+    pub(crate) inputs: u64,
+    pub(crate) outputs: u64,
+}
+
+/// All that is gathered. The refusal is NoInstance of the clock, NoInstance or NoArc of the first delay that has one, or NoPhase;
+/// in that order.
+pub(crate) fn gather(
+    alloc: Global,
+    hierarchy: &Hierarchy,
+    cells: &Cells,
+    clock: &Clock,
+    delays: &Delays,
+) -> Result<Gathered, Stop>
+    requires { IsFlattened cells.now hierarchy.now }
+    ensures { MatchResult result (λ g. AreGathered hierarchy.now cells.now clock.now g × IsSpoken hierarchy.now cells.now delays.now.items g)
+        (StopsAt (IsAnnotateRefusal hierarchy.now cells.now clock.now delays.now.items)) }
+{
+    let Ok(names) = inner_names(alloc, hierarchy) else {
+        return Err(Stop::OutOfMemory);
+    };
+    let clocked = match clock_ports(alloc, &names, hierarchy.ports.items(), clock) {
+        Ok(clocked) => clocked,
+        Err(stop) => return Err(stop),
+    };
+    let ranges = match gather_ranges(alloc, hierarchy, cells, &names, delays.items.items()) {
+        Ok(ranges) => ranges,
+        Err(stop) => return Err(stop),
+    };
+    match trace_all(alloc, hierarchy, cells, &clocked.spots) {
+        Ok(phases) => Ok(Gathered {
+            names,
+            ranges,
+            phases,
+            inputs: clocked.inputs,
+            outputs: clocked.outputs,
+        }),
+        Err(stop) => Err(stop),
+    }
+}
