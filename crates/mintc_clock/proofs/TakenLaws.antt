@@ -7,7 +7,8 @@ use Rattle.mintc_clock.specs.declared.clock.PhaseDef.{PhaseDef}
 use Rattle.mintc_clock.specs.declared.clashing.Taken.{Taken}
 use Rattle.mintc_clock.specs.Values.{clashes}
 use Rattle.mintc_clock.specs.ClockOf.{names_of, first_clash}
-use Rattle.mintc_clock.specs.Taken.{is_among, with_name, has_port, has_some, with_phase, ports_at, AreTaken}
+use Rattle.mintc_names.specs.Names.{is_among, with_name}
+use Rattle.mintc_clock.specs.Taken.{has_port, has_some, with_phase, ports_at, AreTaken}
 
 -- one phase more, by whether its name, its port and its level are those asked for
 step : (named ported level x y : Bool) → ((named || (ported && level)) || (x || y)) ≡ ((named || x) || cond level (ported || y) y)

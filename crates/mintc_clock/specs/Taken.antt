@@ -1,17 +1,10 @@
 -- What the phases so far have taken, so that no later one may have it again.
-use Rattle.std.specs.Prelude.{◌≡◌, ℕ, Bool, true, false, ◌||◌, if◌then◌else◌, List, [], ◌∷◌, ◌++◌, bytes_eq}
+use Rattle.std.specs.Prelude.{◌≡◌, ℕ, Bool, true, false, ◌||◌, if◌then◌else◌, List, [], ◌∷◌}
 use Rattle.std.specs.Bool.{beq}
-use Rattle.std.specs.List.{list_any}
+use Rattle.mintc_names.specs.Names.{is_among, with_name}
 use Rattle.mintc_clock.specs.declared.clock.PhaseDef.{PhaseDef}
 use Rattle.mintc_clock.specs.declared.clashing.Taken.{Taken}
 use Rattle.mintc_clock.specs.ClockOf.{names_of}
-
--- names, each once
-abbrev pub is_among : List ℕ → List (List ℕ) → Bool
-is_among name names = list_any (bytes_eq name) names
-
-abbrev pub with_name : List (List ℕ) → List ℕ → List (List ℕ)
-with_name names name = if is_among name names then names else names ++ name ∷ []
 
 -- whether a phase's port is taken at its level, and whether its name or its port is
 abbrev pub has_port : Taken → PhaseDef → Bool

@@ -6,7 +6,7 @@ ghost use Rattle.mintc_clock.specs.Taken.{has_port, has_some, with_port, with_ph
 
 use crate::clock::PhaseDef;
 use crate::fault::Fault;
-use crate::names::NameSet;
+use mintc_names::NameSet;
 use mintc_text::OutOfMemory;
 use std::alloc::Global;
 

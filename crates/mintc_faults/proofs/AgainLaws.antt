@@ -7,7 +7,8 @@ use Rattle.std.proofs.lemmas.List.{drop_more, drop_all, map-append}
 use Rattle.mintc_netlist.specs.declared.module.Item.{Item}
 use Rattle.mintc_netlist.specs.declared.module.Item.TheVariants as item
 use Rattle.mintc_netlist.specs.declared.module.Module.{Module}
-use Rattle.mintc_netlist.specs.Again.{is_among, comes_again}
+use Rattle.mintc_names.specs.Names.{is_among}
+use Rattle.mintc_netlist.specs.Again.{comes_again}
 use Rattle.mintc_netlist.specs.Statements.{Statement, statement_of, items_from, module_statements, statements_from, number_of, first_at_fault}
 use Rattle.mintc_hierarchy.specs.Sources.{is_called}
 use Rattle.mintc_hierarchy.specs.Faults.{is_name_twice}

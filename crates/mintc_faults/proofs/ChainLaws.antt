@@ -8,7 +8,8 @@ use Rattle.std.proofs.lemmas.List.Folds.{list_any-append}
 use Rattle.std.proofs.lemmas.Slice.Eq.{bytes_eq-Decides}
 use Rattle.mintc_netlist.specs.declared.module.Item.{Item}
 use Rattle.mintc_netlist.specs.declared.module.Module.{Module}
-use Rattle.mintc_netlist.specs.Again.{is_among, comes_again}
+use Rattle.mintc_names.specs.Names.{is_among}
+use Rattle.mintc_netlist.specs.Again.{comes_again}
 use Rattle.mintc_netlist.specs.Ordinary.{entry_of}
 use Rattle.mintc_netlist.specs.Statements.{Statement, statement_of, first_at_fault}
 use Rattle.mintc_hierarchy.specs.declared.targets.Target.{Target}

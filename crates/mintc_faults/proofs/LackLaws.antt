@@ -10,11 +10,10 @@ use Rattle.mintc_cells.specs.Rules.{inputs_of, outputs_of, pins}
 use Rattle.mintc_netlist.specs.declared.module.Item.{Item}
 use Rattle.mintc_netlist.specs.declared.module.Item.TheVariants as item
 use Rattle.mintc_netlist.specs.declared.module.Module.{Module}
-use Rattle.mintc_netlist.specs.Again.{is_among}
+use Rattle.mintc_names.specs.Names.{is_among, with_name}
 use Rattle.mintc_netlist.specs.Nets.{port_names, declares_port}
 use Rattle.mintc_netlist.specs.Connections.{Pin, pin_names, port_of}
 use Rattle.mintc_netlist.specs.Statements.{statement_of}
-use Rattle.mintc_nets.specs.Named.{with_name}
 use Rattle.mintc_nets.proofs.SharedNetLaws.{among_last}
 use Rattle.mintc_hierarchy.specs.declared.targets.Target.{Target}
 use Rattle.mintc_hierarchy.specs.declared.targets.Target.TheVariants.{OfCell, OfModule}

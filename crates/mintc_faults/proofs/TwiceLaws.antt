@@ -2,8 +2,8 @@
 use Rattle.std.proofs.Common.{◌≡◌, ℕ, ◌+◌, ◌<◌, List, [], ◌∷◌, ◌++◌, length, take, drop, get_or, Bool, true, false, not, ◌||◌, cond, bytes_eq, Option, Some, None, refl, sym, ap, ◌∙◌, append_assoc}
 use Rattle.std.specs.List.{cons_option, flat_map}
 use Rattle.std.proofs.lemmas.List.{drop_more, take_more}
-use Rattle.mintc_netlist.specs.Again.{is_among, comes_again}
-use Rattle.mintc_nets.specs.Named.{with_name}
+use Rattle.mintc_names.specs.Names.{is_among, with_name}
+use Rattle.mintc_netlist.specs.Again.{comes_again}
 use Rattle.mintc_netlist.specs.declared.module.Item.{Item}
 use Rattle.mintc_netlist.specs.Nets.{port_names, net_names}
 use Rattle.mintc_hierarchy.specs.Faults.{instance_names}

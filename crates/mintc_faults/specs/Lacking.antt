@@ -3,11 +3,10 @@ use Rattle.std.specs.Prelude.{ℕ, Bool, not, ◌&&◌, ◌||◌, nat_lt, Some, 
 use Rattle.std.specs.List.{fold, flat_map, list_any}
 use Rattle.mintc_netlist.specs.declared.module.Item.{Item}
 use Rattle.mintc_netlist.specs.declared.module.Module.{Module}
-use Rattle.mintc_netlist.specs.Again.{is_among}
+use Rattle.mintc_names.specs.Names.{is_among, with_name}
 use Rattle.mintc_netlist.specs.Nets.{port_names}
 use Rattle.mintc_netlist.specs.Connections.{pin_names}
 use Rattle.mintc_netlist.specs.Statements.{statement_of}
-use Rattle.mintc_nets.specs.Named.{with_name}
 use Rattle.mintc_hierarchy.specs.declared.targets.Target.{Target}
 use Rattle.mintc_hierarchy.specs.Sources.{Source, target_pins}
 use Rattle.mintc_hierarchy.specs.Faults.{is_leaf, is_no_pin}

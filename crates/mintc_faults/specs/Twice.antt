@@ -4,8 +4,8 @@ use Rattle.std.specs.Option.{option_or}
 use Rattle.std.specs.List.{flat_map}
 use Rattle.mintc_netlist.specs.declared.module.Item.{Item}
 use Rattle.mintc_netlist.specs.Nets.{port_names, net_names}
-use Rattle.mintc_netlist.specs.Again.{is_among, comes_again}
-use Rattle.mintc_nets.specs.Named.{with_name}
+use Rattle.mintc_names.specs.Names.{is_among, with_name}
+use Rattle.mintc_netlist.specs.Again.{comes_again}
 use Rattle.mintc_faults.specs.declared.twice.Seen.{Seen}
 use Rattle.mintc_hierarchy.specs.Faults.{instance_names, gives_again, is_name_twice}
 use Rattle.mintc_faults.specs.Firsts.{first_after}

@@ -1,7 +1,8 @@
 //! Names that are given twice.
 ghost use Rattle.std.specs.Prelude.{◌≡◌, ◌||◌, ◌++◌, ◌∷◌, [], None, false, bytes_eq, IfOk};
 ghost use Rattle.std.specs.List.{filter_map};
-ghost use Rattle.mintc_netlist.specs.Again.{is_among, comes_again};
+ghost use Rattle.mintc_names.specs.Names.{is_among};
+ghost use Rattle.mintc_netlist.specs.Again.{comes_again};
 ghost use Rattle.mintc_netlist.specs.Connections.{named_pins};
 ghost use Rattle.mintc_hierarchy.specs.Faults.{is_name_twice};
 ghost use Rattle.mintc_faults.specs.Firsts.{first_after};
@@ -11,7 +12,7 @@ ghost use Rattle.mintc_netlist.specs.Statements.{first_at_fault};
 
 use mintc_cells::Cells;
 use mintc_netlist::{Connection, Item, Module, entry};
-use mintc_nets::NameSet;
+use mintc_names::NameSet;
 use mintc_text::{Name, OutOfMemory};
 use std::alloc::Global;
 

@@ -12,7 +12,7 @@ use Rattle.mintc_netlist.specs.declared.module.Connection.{Connection}
 use Rattle.mintc_netlist.specs.declared.module.Item.{Item}
 use Rattle.mintc_netlist.specs.declared.module.Item.TheVariants as item
 use Rattle.mintc_netlist.specs.declared.module.Module.{Module}
-use Rattle.mintc_netlist.specs.Again.{is_among}
+use Rattle.mintc_names.specs.Names.{is_among}
 use Rattle.mintc_netlist.specs.Nets.{net_names, piece_names, mentions}
 use Rattle.mintc_netlist.specs.Expressions.{expression_places, width_of, selects_fit, has_constant}
 use Rattle.mintc_netlist.specs.Connections.{Pin, is_to, connection_at, expression_at, Wiring, wiring_of, wirings_from, wirings_of}

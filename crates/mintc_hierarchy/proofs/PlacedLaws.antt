@@ -13,7 +13,8 @@ use Rattle.mintc_netlist.specs.declared.expression.Span.{Span}
 use Rattle.mintc_netlist.specs.declared.expression.Piece.{Piece}
 use Rattle.mintc_netlist.specs.declared.expression.Piece.TheVariants as piece
 use Rattle.mintc_netlist.specs.declared.module.Module.{Module}
-use Rattle.mintc_netlist.specs.Again.{is_among, firsts_after}
+use Rattle.mintc_names.specs.Names.{is_among}
+use Rattle.mintc_netlist.specs.Again.{firsts_after}
 use Rattle.mintc_netlist.specs.Nets.{Bit, bit_of, is_bit, bits_of, indexes, range_of, names_of, nets_of, place_of, piece_names}
 use Rattle.mintc_netlist.specs.Expressions.{span_from, piece_bits, expression_places, is_inside, runs_alike, is_part, piece_fits}
 use Rattle.mintc_nets.specs.Tables.{bit_count, offset_of}

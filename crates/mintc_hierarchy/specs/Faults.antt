@@ -7,7 +7,8 @@ use Rattle.mintc_netlist.specs.declared.module.Connection.{Connection}
 use Rattle.mintc_netlist.specs.declared.module.Item.{Item}
 use Rattle.mintc_netlist.specs.declared.module.Item.TheVariants as item
 use Rattle.mintc_netlist.specs.declared.module.Module.{Module}
-use Rattle.mintc_netlist.specs.Again.{is_among, comes_again}
+use Rattle.mintc_names.specs.Names.{is_among}
+use Rattle.mintc_netlist.specs.Again.{comes_again}
 use Rattle.mintc_netlist.specs.Nets.{port_names, net_names, span_of, declares_port, declares_net}
 use Rattle.mintc_netlist.specs.Expressions.{width_of, selects_fit, has_constant}
 use Rattle.mintc_netlist.specs.Connections.{Pin, pin_names, named_pins, Wiring, wirings_of, drives, driven_first}

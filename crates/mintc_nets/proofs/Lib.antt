@@ -4,5 +4,4 @@ pub mod SharedPlaceLaws
 pub mod SharedSpanLaws
 pub mod SharedLookLaws
 pub mod SharedTableLaws
-mod NamesLaws
 mod ExpressionLaws

@@ -9,12 +9,12 @@ use Rattle.std.proofs.lemmas.Slice.Eq.{bytes_eq-Decides}
 use Rattle.mintc_netlist.specs.declared.expression.Span.{Span}
 use Rattle.mintc_netlist.specs.declared.module.Item.{Item}
 use Rattle.mintc_netlist.specs.declared.module.Module.{Module}
-use Rattle.mintc_netlist.specs.Again.{is_among}
+use Rattle.mintc_names.specs.Names.{is_among}
 use Rattle.mintc_netlist.specs.Nets.{port_names, net_names, span_of, is_output_port, declares_port, declares_net, range_of, is_output}
 use Rattle.mintc_nets.specs.declared.declared.Declaration.{Declaration}
 use Rattle.mintc_nets.specs.Declaring.{declaration, declared_as, look, with_declaration, port_declarations, net_declarations}
 use Rattle.mintc_nets.specs.Tables.{declared_ports, declared_nets}
-use Rattle.mintc_nets.proofs.NamesLaws.{is_key, key_eq}
+use Rattle.mintc_names.proofs.SharedNamesLaws.{is_key, key_eq}
 
 -- one more declaration, and some
 look_cons : (name : List ℕ) (x : List ℕ × Declaration) (rest other : Option Declaration) (b : Bool) → option_or (cond b (Some x.1) rest) other ≡ cond b (Some x.1) (option_or rest other)

@@ -6,8 +6,8 @@ use Rattle.std.proofs.lemmas.List.{append-nil}
 use Rattle.mintc_netlist.specs.declared.expression.Piece.{Piece}
 use Rattle.mintc_netlist.specs.declared.module.Connection.{Connection}
 use Rattle.mintc_netlist.specs.Nets.{piece_names}
-use Rattle.mintc_netlist.specs.Again.{is_among, firsts_after}
-use Rattle.mintc_nets.specs.Named.{with_name}
+use Rattle.mintc_names.specs.Names.{is_among, with_name}
+use Rattle.mintc_netlist.specs.Again.{firsts_after}
 
 -- names that are found by the same tests are passed by the same names
 or_swap : (a b c : Bool) → (a || (b || c)) ≡ (b || (a || c))

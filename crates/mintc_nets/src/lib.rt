@@ -9,13 +9,11 @@
 
 mod declared;
 mod expressions;
-mod names;
 mod net_names;
 mod nets;
 mod spans;
 
 pub use declared::{Declaration, Declarations};
 pub use expressions::has_constant;
-pub use names::NameSet;
 pub use nets::Nets;
 pub use spans::{bits, index_at};

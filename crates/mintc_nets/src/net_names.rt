@@ -4,9 +4,9 @@ ghost use Rattle.std.specs.List.{flat_map, filter_map, fold};
 ghost use Rattle.std.specs.Option.{option_to_list};
 ghost use Rattle.mintc_netlist.specs.declared.module.Connection.{Connection};
 ghost use Rattle.mintc_netlist.specs.Nets.{net_names, piece_names, mentions, names_of};
-ghost use Rattle.mintc_nets.specs.Named.{with_name};
+ghost use Rattle.mintc_names.specs.Names.{with_name};
 
-use crate::names::NameSet;
+use mintc_names::NameSet;
 use mintc_netlist::{Connection, Item, Module, Piece};
 use mintc_text::{Name, OutOfMemory};
 use std::alloc::Global;

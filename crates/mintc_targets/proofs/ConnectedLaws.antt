@@ -8,9 +8,8 @@ use Rattle.std.proofs.lemmas.List.Folds.{find_at}
 use Rattle.std.proofs.lemmas.Option.{slice_get_past, slice_get_read}
 use Rattle.std.proofs.lemmas.Slice.Eq.{bytes_eq-Decides}
 use Rattle.mintc_netlist.specs.declared.module.Connection.{Connection}
-use Rattle.mintc_netlist.specs.Again.{is_among}
+use Rattle.mintc_names.specs.Names.{is_among, with_name}
 use Rattle.mintc_netlist.specs.Connections.{is_to}
-use Rattle.mintc_nets.specs.Named.{with_name}
 use Rattle.mintc_targets.specs.Wired.{IsConnected}
 use Rattle.mintc_targets.proofs.IndexLaws.{position_push, position_within, place_of_any, index_new, index_old}
 

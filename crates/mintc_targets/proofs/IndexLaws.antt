@@ -7,11 +7,10 @@ use Rattle.std.proofs.lemmas.List.{length_push, get_or_append_left, get_or_push}
 use Rattle.std.proofs.lemmas.List.Folds.{position_or_len_push}
 use Rattle.std.proofs.lemmas.List.Sums.{prefix_len-le-length}
 use Rattle.mintc_netlist.specs.declared.module.Module.{Module}
-use Rattle.mintc_netlist.specs.Again.{is_among}
+use Rattle.mintc_names.specs.Names.{is_among, with_name}
 use Rattle.std.proofs.lemmas.Slice.Eq.{bytes_eq-Decides}
 use Rattle.mintc_hierarchy.specs.Sources.{is_called}
 use Rattle.mintc_targets.specs.Named.{IsIndex}
-use Rattle.mintc_nets.specs.Named.{with_name}
 
 -- a place in a list of L at n, or none, after one more that passes or not
 push_by : (n L : ℕ) (b : Bool) → n ≤ L →

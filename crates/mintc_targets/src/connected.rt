@@ -5,7 +5,7 @@ ghost use Rattle.mintc_netlist.specs.declared.module.Connection.{Connection};
 ghost use Rattle.mintc_netlist.specs.Connections.{is_to, expression_at};
 
 use mintc_netlist::{Connection, Expr, Item};
-use mintc_nets::NameSet;
+use mintc_names::NameSet;
 use mintc_text::OutOfMemory;
 use std::alloc::Global;
 

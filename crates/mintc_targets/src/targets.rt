@@ -1,12 +1,11 @@
 //! What instances are of.
 ghost use Rattle.std.specs.Prelude.{◌≡◌, ◌<◌, ◌^◌, ◌++◌, ◌∷◌, [], cond, length, slice_index, position, bytes_eq, option_map, IfOk, OnOk};
-ghost use Rattle.mintc_netlist.specs.Again.{is_among};
+ghost use Rattle.mintc_names.specs.Names.{is_among, with_name};
 ghost use Rattle.mintc_targets.specs.Named.{IsIndex};
-ghost use Rattle.mintc_nets.specs.Named.{with_name};
 
 use mintc_hierarchy::Target;
 use mintc_netlist::Module;
-use mintc_nets::NameSet;
+use mintc_names::NameSet;
 use mintc_text::OutOfMemory;
 use std::alloc::Global;
 use std::marker::Model;

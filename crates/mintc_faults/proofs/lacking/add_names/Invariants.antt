@@ -1,6 +1,6 @@
 use Rattle.std.proofs.Common.{◌≡◌, take}
 use Rattle.std.specs.List.{fold}
-use Rattle.mintc_nets.specs.Named.{with_name}
+use Rattle.mintc_names.specs.Names.{with_name}
 use Rattle.mintc_faults.proofs.lacking.add_names.Given as goal
 
 -- the names so far are taken in

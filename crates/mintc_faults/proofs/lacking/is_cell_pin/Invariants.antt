@@ -1,7 +1,7 @@
 use Rattle.std.proofs.Common.{◌≡◌, drop}
 use Rattle.mintc_cells.specs.Entries.{cell_at}
 use Rattle.mintc_cells.specs.Rules.{pins}
-use Rattle.mintc_netlist.specs.Again.{is_among}
+use Rattle.mintc_names.specs.Names.{is_among}
 use Rattle.mintc_faults.proofs.lacking.is_cell_pin.Given as goal
 
 -- the name is among the pins that are left where it is among all

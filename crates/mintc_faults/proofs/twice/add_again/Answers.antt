@@ -1,6 +1,5 @@
 use Rattle.std.proofs.Common.{sym, ap, ◌∙◌, not, ℕ, List}
-use Rattle.mintc_netlist.specs.Again.{is_among}
-use Rattle.mintc_nets.specs.Named.{with_name}
+use Rattle.mintc_names.specs.Names.{is_among, with_name}
 use Rattle.mintc_faults.proofs.TwiceLaws.{step_new}
 use Rattle.mintc_faults.proofs.twice.add_again.Goals as goal
 

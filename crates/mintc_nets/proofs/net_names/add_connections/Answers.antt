@@ -2,7 +2,7 @@ use Rattle.std.proofs.Common.{◌≡◌, ◌+◌, ◌++◌, ◌∷◌, [], List,
 use Rattle.std.specs.List.{fold}
 use Rattle.std.proofs.lemmas.List.{take_more}
 use Rattle.mintc_netlist.specs.declared.module.Connection.{Connection}
-use Rattle.mintc_nets.specs.Named.{with_name}
+use Rattle.mintc_names.specs.Names.{with_name}
 use Rattle.mintc_nets.proofs.SharedNetLaws.{connected_names, connection_names, connected-push, fold-append}
 use Rattle.mintc_nets.proofs.net_names.add_connections.Goals as goal
 

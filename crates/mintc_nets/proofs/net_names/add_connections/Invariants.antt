@@ -2,7 +2,7 @@ use Rattle.std.proofs.Common.{◌≡◌, take}
 use Rattle.std.specs.List.{flat_map, filter_map, fold}
 use Rattle.mintc_netlist.specs.declared.module.Connection.{Connection}
 use Rattle.mintc_netlist.specs.Nets.{piece_names}
-use Rattle.mintc_nets.specs.Named.{with_name}
+use Rattle.mintc_names.specs.Names.{with_name}
 use Rattle.mintc_nets.proofs.net_names.add_connections.Given as goal
 
 -- the names so far are taken in

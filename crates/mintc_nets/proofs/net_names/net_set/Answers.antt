@@ -3,7 +3,7 @@ use Rattle.std.specs.List.{flat_map, fold}
 use Rattle.mintc_netlist.specs.declared.module.Item.{Item}
 use Rattle.mintc_netlist.specs.Again.{firsts_after}
 use Rattle.mintc_netlist.specs.Nets.{net_names, mentions}
-use Rattle.mintc_nets.specs.Named.{with_name}
+use Rattle.mintc_names.specs.Names.{with_name}
 use Rattle.mintc_nets.proofs.SharedNetLaws.{three_parts}
 use Rattle.mintc_nets.proofs.net_names.net_set.Goals as goal
 

@@ -1,9 +1,8 @@
 use Rattle.std.proofs.Common.{◌≡◌, ◌≤◌, ◌+◌, ℕ, List, ◌++◌, ◌∷◌, [], cond, take, length, subst, sym, ap, ◌∙◌, arith}
 use Rattle.std.proofs.lemmas.List.{take_more, length-take-le}
 use Rattle.mintc_netlist.specs.declared.module.Module.{Module}
-use Rattle.mintc_netlist.specs.Again.{is_among}
+use Rattle.mintc_names.specs.Names.{is_among, with_name}
 use Rattle.mintc_targets.specs.Named.{IsIndex}
-use Rattle.mintc_nets.specs.Named.{with_name}
 use Rattle.mintc_targets.proofs.IndexLaws.{index_step}
 use Rattle.mintc_targets.proofs.targets.ModuleIndex.new.Goals as goal
 

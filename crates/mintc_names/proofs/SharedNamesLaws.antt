@@ -4,7 +4,7 @@ use Rattle.std.specs.List.{list_any, position_or_len}
 use Rattle.std.specs.Cmp.Lexicographic.{pointwise}
 use Rattle.std.proofs.lemmas.List.{map-append}
 use Rattle.indexmap.specs.IndexSet.{insert_key}
-use Rattle.mintc_clock.specs.Taken.{is_among, with_name}
+use Rattle.mintc_names.specs.Names.{is_among, with_name}
 
 abbrev pub is_key : List ℕ → Vec ℕ Global → Bool
 is_key name key = pointwise nat_eq name key.items

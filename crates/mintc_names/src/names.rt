@@ -1,14 +1,13 @@
-//! Names in the order in which they first come, found by their bytes.
+//! A set of names, found by their bytes.
 ghost use Rattle.std.specs.Prelude.{◌≡◌, ◌<◌, [], not, IfOk, OnOk, IfSome, length, position, slice_index_or, bytes_eq};
-ghost use Rattle.mintc_netlist.specs.Again.{is_among};
-ghost use Rattle.mintc_nets.specs.Named.{with_name};
+ghost use Rattle.mintc_names.specs.Names.{is_among, with_name};
 
 use indexmap::IndexSet;
 use mintc_text::OutOfMemory;
 use std::alloc::Global;
 use std::marker::Model;
 
-/// Names, each once, seen as their list.
+/// Names, each once, seen as their list in the order in which they first came.
 #[derive(Drop)]
 pub struct NameSet {
     set: IndexSet<Vec<u8>>,
@@ -40,12 +39,8 @@ impl NameSet {
         if self.set.contains(name) {
             return Ok(false);
         }
-        let Ok(bytes) = Vec::from_slice(alloc, name) else {
-            return Err(OutOfMemory);
-        };
-        let Ok(_) = self.set.insert_full(bytes) else {
-            return Err(OutOfMemory);
-        };
+        let bytes = Vec::from_slice(alloc, name)?;
+        self.set.insert_full(bytes)?;
         Ok(true)
     }
 

@@ -1,7 +1,7 @@
 use Rattle.std.proofs.Common.{◌≡◌, ap, sym, ◌∙◌, true, false, not, cond, ◌++◌, ◌∷◌, [], Bool}
-use Rattle.mintc_clock.specs.Taken.{is_among}
-use Rattle.mintc_clock.proofs.NamesLaws.{among, taken}
-use Rattle.mintc_clock.proofs.names.NameSet.add.Goals as goal
+use Rattle.mintc_names.specs.Names.{is_among}
+use Rattle.mintc_names.proofs.SharedNamesLaws.{among, taken}
+use Rattle.mintc_names.proofs.names.NameSet.add.Goals as goal
 
 there : (c : goal.Then-contains) → is_among c.args.name.now c.args.self.now ≡ true
 there c = among c.args.name.now c.self.inside.set.keys c.args.self.now c.contains.result true c.contains.ensures c.self.view_is c.if-contains.true
