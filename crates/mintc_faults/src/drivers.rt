@@ -4,20 +4,20 @@ ghost use Rattle.std.specs.List.{filter_map};
 ghost use Rattle.std.specs.Option.{option_to_list};
 ghost use Rattle.mintc_netlist.specs.Connections.{places_in, driven_first};
 ghost use Rattle.mintc_netlist.specs.Statements.{first_at_fault};
-ghost use Rattle.mintc_nets.specs.Tables.{table_of};
-ghost use Rattle.mintc_hierarchy.specs.Sources.{source_of, target_pins, target_in, targets_in, modules_of};
+ghost use Rattle.mintc_hierarchy.specs.Sources.{target_pins, target_in, targets_in, modules_of};
 ghost use Rattle.mintc_hierarchy.specs.Faults.{drives_in, is_second_driver};
 ghost use Rattle.mintc_faults.specs.Firsts.{first_in};
 ghost use Rattle.mintc_faults.specs.Driving.{HasSame, Drives, TakesIn, port_drives, pin_drives, drives_from};
+ghost use Rattle.mintc_targets.specs.Homes.{source_in};
 ghost use Rattle.mintc_targets.specs.Orders.{IsThere};
 ghost use Rattle.mintc_targets.specs.Wired.{pin_at, IsOfItem};
 
 use indexmap::IndexSet;
-use mintc_cells::Cells;
 use mintc_hierarchy::Target;
-use mintc_netlist::{Item, Module, Piece, entry};
-use mintc_nets::Nets;
-use mintc_targets::{Connected, TargetList, is_output, pin_count, pin_name};
+use mintc_netlist::{Item, Piece, entry};
+use mintc_targets::{
+    Connected, Home, Instance, Source, TargetList, is_output, pin_count, pin_name,
+};
 use mintc_text::{Name, OutOfMemory};
 use std::alloc::Global;
 use std::marker::Model;
@@ -89,15 +89,14 @@ impl Driven {
         &mut self,
         alloc: Global,
         room: &mut Vec<Option<u64>>,
-        home: &Module,
-        table: &Nets,
+        home: &Home<'_>,
         piece: &Piece,
     ) -> Result<bool, OutOfMemory>
-        requires { table.now ≡ table_of home.now }
-        ensures { IfOk result (λ again. Drives self.old self.new (places_in home.now (piece.now ∷ [])) again) }
+        ensures { IfOk result (λ again. Drives self.old self.new (places_in home.now.part.now (piece.now ∷ [])) again) }
     {
         room.clear();
-        table.push_places(alloc, home, slice::from_ref(piece), room)?;
+        home.nets
+            .push_places(alloc, home.part, slice::from_ref(piece), room)?;
         self.drive_places(room)
     }
 
@@ -106,16 +105,14 @@ impl Driven {
         &mut self,
         alloc: Global,
         room: &mut Vec<Option<u64>>,
-        home: &Module,
-        table: &Nets,
+        home: &Home<'_>,
         pieces: &[Piece],
     ) -> Result<bool, OutOfMemory>
-        requires { table.now ≡ table_of home.now }
-        ensures { IfOk result (λ again. Drives self.old self.new (places_in home.now pieces.now) again) }
+        ensures { IfOk result (λ again. Drives self.old self.new (places_in home.now.part.now pieces.now) again) }
     {
         for number in 0..pieces.len() {
             let piece = &pieces[pieces.len() - 1 - number];
-            if self.drive_piece(alloc, room, home, table, piece)? {
+            if self.drive_piece(alloc, room, home, piece)? {
                 return Ok(true);
             }
         }
@@ -127,29 +124,24 @@ impl Driven {
         &mut self,
         alloc: Global,
         room: &mut Vec<Option<u64>>,
-        cells: &Cells,
-        modules: &[Module],
-        nets: &[Nets],
-        home: &Module,
-        table: &Nets,
-        item: &Item,
-        target: Target,
-        connected: &Connected,
+        source: &Source<'_>,
+        home: &Home<'_>,
+        instance: &Instance<'_>,
         number: u32,
     ) -> Result<bool, OutOfMemory>
-        requires nets { nets.now ≡ map table_of modules.now }
-        requires table { table.now ≡ table_of home.now }
-        requires there { IsThere (source_of cells.now modules.now) target }
-        requires pin { number < length (target_pins (source_of cells.now modules.now) target) }
-        requires connected { IsOfItem connected.now item.now }
-        ensures { IfOk result (λ again. Drives self.old self.new (pin_drives home.now item.now number (pin_at (source_of cells.now modules.now) target number)) again) }
+        requires there { IsThere (source_in source.now) instance.now.target }
+        requires pin { number < length (target_pins (source_in source.now) instance.now.target) }
+        requires connected { IsOfItem instance.now.connected.now instance.now.item.now }
+        ensures { IfOk result (λ again. Drives self.old self.new (pin_drives home.now.part.now instance.now.item.now number (pin_at (source_in source.now) instance.now.target number)) again) }
     {
-        if !is_output(cells, modules, nets, target, number) {
+        let target = instance.target;
+        if !is_output(source, target, number) {
             return Ok(false);
         }
-        let name = pin_name(cells, modules, target, number);
-        match connected.expression(item, number as usize, name) {
-            Some(expr) => self.drive_pieces(alloc, room, home, table, expr.items()),
+        let name = pin_name(source.cells, source.modules, target, number);
+        let connected = instance.connected;
+        match connected.expression(instance.item, number as usize, name) {
+            Some(expr) => self.drive_pieces(alloc, room, home, expr.items()),
             None => Ok(false),
         }
     }
@@ -159,25 +151,23 @@ impl Driven {
         &mut self,
         alloc: Global,
         room: &mut Vec<Option<u64>>,
-        cells: &Cells,
-        modules: &[Module],
-        nets: &[Nets],
-        home: &Module,
-        table: &Nets,
+        source: &Source<'_>,
+        home: &Home<'_>,
         item: &Item,
         target: Target,
     ) -> Result<bool, OutOfMemory>
-        requires nets { nets.now ≡ map table_of modules.now }
-        requires table { table.now ≡ table_of home.now }
-        requires there { IsThere (source_of cells.now modules.now) target }
-        ensures { IfOk result (λ again. Drives self.old self.new (drives_from home.now item.now 0 (target_pins (source_of cells.now modules.now) target)) again) }
+        requires there { IsThere (source_in source.now) target }
+        ensures { IfOk result (λ again. Drives self.old self.new (drives_from home.now.part.now item.now 0 (target_pins (source_in source.now) target)) again) }
     {
-        let connected = Connected::new(alloc, item)?;
-        let count = pin_count(cells, modules, target)?;
+        let connected = &Connected::new(alloc, item)?;
+        let instance = Instance {
+            item,
+            target,
+            connected,
+        };
+        let count = pin_count(source.cells, source.modules, target)?;
         for number in 0..count {
-            if self.drive_pin(
-                alloc, room, cells, modules, nets, home, table, item, target, &connected, number,
-            )? {
+            if self.drive_pin(alloc, room, source, home, &instance, number)? {
                 return Ok(true);
             }
         }
@@ -189,25 +179,18 @@ impl Driven {
         &mut self,
         alloc: Global,
         room: &mut Vec<Option<u64>>,
-        cells: &Cells,
-        modules: &[Module],
-        nets: &[Nets],
-        home: &Module,
-        table: &Nets,
+        source: &Source<'_>,
+        home: &Home<'_>,
         item: &Item,
         target: Target,
     ) -> Result<bool, OutOfMemory>
-        requires nets { nets.now ≡ map table_of modules.now }
-        requires table { table.now ≡ table_of home.now }
-        requires target { target ≡ target_in (source_of cells.now modules.now) item.now }
-        requires there { IsThere (source_of cells.now modules.now) target }
-        ensures { IfOk result (λ again. Drives self.old self.new (drives_in (source_of cells.now modules.now) home.now item.now) again) }
+        requires target { target ≡ target_in (source_in source.now) item.now }
+        requires there { IsThere (source_in source.now) target }
+        ensures { IfOk result (λ again. Drives self.old self.new (drives_in (source_in source.now) home.now.part.now item.now) again) }
     {
         match item {
-            Item::Assign { left, .. } => self.drive_pieces(alloc, room, home, table, left.items()),
-            Item::Instance { .. } => self.drive_instance(
-                alloc, room, cells, modules, nets, home, table, item, target,
-            ),
+            Item::Assign { left, .. } => self.drive_pieces(alloc, room, home, left.items()),
+            Item::Instance { .. } => self.drive_instance(alloc, room, source, home, item, target),
             _ => Ok(false),
         }
     }
@@ -217,18 +200,16 @@ impl Driven {
         &mut self,
         alloc: Global,
         room: &mut Vec<Option<u64>>,
-        home: &Module,
-        table: &Nets,
+        home: &Home<'_>,
         name: &Name,
     ) -> Result<(), OutOfMemory>
-        requires { table.now ≡ table_of home.now }
-        ensures { OnOk result (TakesIn self.old self.new (port_drives home.now name.now)) }
+        ensures { OnOk result (TakesIn self.old self.new (port_drives home.now.part.now name.now)) }
     {
-        if table.is_output(home, name.bytes()) {
+        if home.nets.is_output(home.part, name.bytes()) {
             return Ok(());
         }
         room.clear();
-        table.push_net(alloc, home, name.bytes(), room)?;
+        home.nets.push_net(alloc, home.part, name.bytes(), room)?;
         self.take_in(room)?;
         Ok(())
     }
@@ -237,15 +218,13 @@ impl Driven {
     fn of_inputs(
         alloc: Global,
         room: &mut Vec<Option<u64>>,
-        home: &Module,
-        table: &Nets,
+        home: &Home<'_>,
     ) -> Result<Driven, OutOfMemory>
-        requires { table.now ≡ table_of home.now }
-        ensures { IfOk result (λ driven. HasSame driven (driven_first home.now)) }
+        ensures { IfOk result (λ driven. HasSame driven (driven_first home.now.part.now)) }
     {
         let mut driven = Driven::new(alloc);
-        for name in home.ports.items() {
-            driven.take_port(alloc, room, home, table, name)?;
+        for name in home.part.ports.items() {
+            driven.take_port(alloc, room, home, name)?;
         }
         Ok(driven)
     }
@@ -254,26 +233,19 @@ impl Driven {
 /// The first item of a module that drives what is driven already.
 fn first_driving(
     alloc: Global,
-    cells: &Cells,
-    modules: &[Module],
-    nets: &[Nets],
-    home: &Module,
-    table: &Nets,
+    source: &Source<'_>,
+    home: &Home<'_>,
     targets: &[Target],
 ) -> Result<Option<u32>, OutOfMemory>
-    requires nets { nets.now ≡ map table_of modules.now }
-    requires table { table.now ≡ table_of home.now }
-    requires targets { targets.now ≡ targets_in (source_of cells.now modules.now) home.now }
-    ensures { IfOk result (λ first. first ≡ first_in (is_second_driver (source_of cells.now modules.now)) home.now) }
+    requires targets { targets.now ≡ targets_in (source_in source.now) home.now.part.now }
+    ensures { IfOk result (λ first. first ≡ first_in (is_second_driver (source_in source.now)) home.now.part.now) }
 {
     let mut room = Vec::new(alloc);
-    let mut driven = Driven::of_inputs(alloc, &mut room, home, table)?;
-    let items = home.items.items();
+    let mut driven = Driven::of_inputs(alloc, &mut room, home)?;
+    let items = home.part.items.items();
     for (number, item) in items.iter().enumerate() {
         let target = targets[number];
-        if driven.drive_item(
-            alloc, &mut room, cells, modules, nets, home, table, item, target,
-        )? {
+        if driven.drive_item(alloc, &mut room, source, home, item, target)? {
             return Ok(Some(entry(item)));
         }
     }
@@ -283,28 +255,19 @@ fn first_driving(
 /// The first statement that drives what is driven already.
 pub fn second_driver(
     alloc: Global,
-    cells: &Cells,
-    modules: &[Module],
+    source: &Source<'_>,
     targets: &[TargetList],
-    nets: &[Nets],
 ) -> Result<Option<u32>, OutOfMemory>
-    requires targets { targets.now ≡ map (targets_in (source_of cells.now modules.now)) modules.now }
-    requires nets { nets.now ≡ map table_of modules.now }
-    ensures { IfOk result (λ entry. entry ≡ first_at_fault (is_second_driver (source_of cells.now modules.now)) (modules_of (source_of cells.now modules.now))) }
+    requires { targets.now ≡ map (targets_in (source_in source.now)) source.now.modules.now }
+    ensures { IfOk result (λ entry. entry ≡ first_at_fault (is_second_driver (source_in source.now)) (modules_of (source_in source.now))) }
 {
-    for (number, home) in modules.iter().enumerate() {
-        if cells.find(home.name.bytes()).is_some() {
+    for (number, part) in source.modules.iter().enumerate() {
+        if source.cells.find(part.name.bytes()).is_some() {
             continue;
         }
-        let first = first_driving(
-            alloc,
-            cells,
-            modules,
-            nets,
-            home,
-            &nets[number],
-            targets[number].items(),
-        )?;
+        let nets = &source.nets[number];
+        let home = Home { part, nets };
+        let first = first_driving(alloc, source, &home, targets[number].items())?;
         if first.is_some() {
             return Ok(first);
         }

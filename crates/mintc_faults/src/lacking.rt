@@ -16,8 +16,8 @@ ghost use Rattle.mintc_targets.specs.Orders.{IsThere};
 
 use mintc_cells::Cells;
 use mintc_hierarchy::Target;
-use mintc_netlist::{Connection, Item, Module, entry};
 use mintc_names::NameSet;
+use mintc_netlist::{Connection, Item, Module, entry};
 use mintc_targets::TargetList;
 use mintc_text::{Name, OutOfMemory};
 use std::alloc::Global;

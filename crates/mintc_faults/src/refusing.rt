@@ -2,7 +2,7 @@
 ghost use Rattle.std.specs.Prelude.{◌≡◌, ◌<◌, ◌^◌, None, Some, length, map, OnOk, IfErr};
 ghost use Rattle.mintc_text.specs.Stops.{StopsAt};
 ghost use Rattle.mintc_hierarchy.specs.Sources.{source_of, targets_in};
-ghost use Rattle.mintc_nets.specs.Tables.{table_of};
+ghost use Rattle.mintc_targets.specs.Homes.{source_in};
 ghost use Rattle.mintc_hierarchy.specs.Refusals.{name_twice_refusal, no_module_refusal, recursive_refusal, no_pin_refusal, width_refusal, two_drivers_refusal};
 
 use crate::drivers::second_driver;
@@ -13,8 +13,7 @@ use crate::twice::name_twice;
 use crate::widths::misfit;
 use mintc_cells::Cells;
 use mintc_netlist::Module;
-use mintc_nets::Nets;
-use mintc_targets::TargetList;
+use mintc_targets::{Source, TargetList};
 use mintc_text::{Refusal, Stop};
 use std::alloc::Global;
 
@@ -85,19 +84,12 @@ pub fn refuse_no_pin(
 }
 
 /// Refuses widths and selects that don't fit.
-pub fn refuse_width(
-    alloc: Global,
-    cells: &Cells,
-    modules: &[Module],
-    targets: &[TargetList],
-    nets: &[Nets],
-) -> Result<(), Stop>
-    requires targets { targets.now ≡ map (targets_in (source_of cells.now modules.now)) modules.now }
-    requires nets { nets.now ≡ map table_of modules.now }
-    ensures passes { OnOk result (width_refusal (source_of cells.now modules.now) ≡ None) }
-    ensures stop { IfErr result (StopsAt (λ r. width_refusal (source_of cells.now modules.now) ≡ Some r)) }
+pub fn refuse_width(alloc: Global, source: &Source<'_>, targets: &[TargetList]) -> Result<(), Stop>
+    requires { targets.now ≡ map (targets_in (source_in source.now)) source.now.modules.now }
+    ensures passes { OnOk result (width_refusal (source_in source.now) ≡ None) }
+    ensures stop { IfErr result (StopsAt (λ r. width_refusal (source_in source.now) ≡ Some r)) }
 {
-    match misfit(alloc, cells, modules, targets, nets) {
+    match misfit(alloc, source, targets) {
         Ok(None) => Ok(()),
         Ok(Some(entry)) => Err(Stop::Refused(Refusal::Width { entry })),
         Err(_) => Err(Stop::OutOfMemory),
@@ -107,17 +99,14 @@ pub fn refuse_width(
 /// Refuses a second driver of a bit.
 pub fn refuse_two_drivers(
     alloc: Global,
-    cells: &Cells,
-    modules: &[Module],
+    source: &Source<'_>,
     targets: &[TargetList],
-    nets: &[Nets],
 ) -> Result<(), Stop>
-    requires targets { targets.now ≡ map (targets_in (source_of cells.now modules.now)) modules.now }
-    requires nets { nets.now ≡ map table_of modules.now }
-    ensures passes { OnOk result (two_drivers_refusal (source_of cells.now modules.now) ≡ None) }
-    ensures stop { IfErr result (StopsAt (λ r. two_drivers_refusal (source_of cells.now modules.now) ≡ Some r)) }
+    requires { targets.now ≡ map (targets_in (source_in source.now)) source.now.modules.now }
+    ensures passes { OnOk result (two_drivers_refusal (source_in source.now) ≡ None) }
+    ensures stop { IfErr result (StopsAt (λ r. two_drivers_refusal (source_in source.now) ≡ Some r)) }
 {
-    match second_driver(alloc, cells, modules, targets, nets) {
+    match second_driver(alloc, source, targets) {
         Ok(None) => Ok(()),
         Ok(Some(entry)) => Err(Stop::Refused(Refusal::TwoDrivers { entry })),
         Err(_) => Err(Stop::OutOfMemory),

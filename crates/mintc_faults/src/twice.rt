@@ -11,8 +11,8 @@ ghost use Rattle.mintc_hierarchy.specs.Sources.{source_of, modules_of};
 ghost use Rattle.mintc_netlist.specs.Statements.{first_at_fault};
 
 use mintc_cells::Cells;
-use mintc_netlist::{Connection, Item, Module, entry};
 use mintc_names::NameSet;
+use mintc_netlist::{Connection, Item, Module, entry};
 use mintc_text::{Name, OutOfMemory};
 use std::alloc::Global;
 

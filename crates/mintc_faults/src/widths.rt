@@ -5,19 +5,20 @@ ghost use Rattle.std.specs.Option.{option_eq};
 ghost use Rattle.mintc_netlist.specs.Statements.{first_at_fault};
 ghost use Rattle.mintc_netlist.specs.Expressions.{width_of, selects_fit, has_constant};
 ghost use Rattle.mintc_netlist.specs.Connections.{wiring_of, wirings_of};
-ghost use Rattle.mintc_hierarchy.specs.Sources.{source_of, target_in, target_pins, targets_in, modules_of};
+ghost use Rattle.mintc_hierarchy.specs.Sources.{target_in, target_pins, targets_in, modules_of};
 ghost use Rattle.mintc_hierarchy.specs.Faults.{span_eq, is_wired_badly, is_misfit};
-ghost use Rattle.mintc_nets.specs.Tables.{table_of};
 ghost use Rattle.mintc_faults.specs.Firsts.{first_in};
+ghost use Rattle.mintc_targets.specs.Homes.{source_in};
 ghost use Rattle.mintc_targets.specs.Orders.{IsThere};
 ghost use Rattle.mintc_faults.specs.Widths.{differs};
 ghost use Rattle.mintc_targets.specs.Wired.{pin_at, wiring_at, IsOfItem};
 
-use mintc_cells::Cells;
 use mintc_hierarchy::Target;
-use mintc_netlist::{Item, Module, Piece, Span, entry};
-use mintc_nets::{Declarations, Nets, has_constant};
-use mintc_targets::{Connected, TargetList, is_output, pin_count, pin_name, pin_width};
+use mintc_netlist::{Item, Piece, Span, entry};
+use mintc_nets::{Declarations, has_constant};
+use mintc_targets::{
+    Connected, Home, Instance, Source, TargetList, is_output, pin_count, pin_name, pin_width,
+};
 use mintc_text::limits::MOST_WIDTH;
 use mintc_text::{Name, OutOfMemory};
 use std::alloc::Global;
@@ -56,86 +57,60 @@ fn any_differs(declared: &Declarations, span: Option<Span>, names: &[Name]) -> b
 }
 
 /// How many bits an expression has.
-fn width(home: &Module, table: &Nets, pieces: &[Piece]) -> Result<u64, OutOfMemory>
-    requires { table.now ≡ table_of home.now }
-    ensures { IfOk result (λ width. width ≡ width_of home.now pieces.now) }
+fn width(home: &Home<'_>, pieces: &[Piece]) -> Result<u64, OutOfMemory>
+    ensures { IfOk result (λ width. width ≡ width_of home.now.part.now pieces.now) }
 {
     if MOST_WIDTH < pieces.len() {
         return Err(OutOfMemory);
     }
-    Ok(table.width(home, pieces))
+    Ok(home.nets.width(home.part, pieces))
 }
 
 /// Whether the sides of an assign don't fit.
-fn assign_misfits(
-    home: &Module,
-    table: &Nets,
-    left: &[Piece],
-    right: &[Piece],
-) -> Result<bool, OutOfMemory>
-    requires { table.now ≡ table_of home.now }
+fn assign_misfits(home: &Home<'_>, left: &[Piece], right: &[Piece]) -> Result<bool, OutOfMemory>
     ensures { IfOk result (λ misfits. misfits ≡
-        ((not (selects_fit home.now left.now && selects_fit home.now right.now) || not (nat_eq (width_of home.now left.now) (width_of home.now right.now))) || has_constant left.now)) }
+        ((not (selects_fit home.now.part.now left.now && selects_fit home.now.part.now right.now) || not (nat_eq (width_of home.now.part.now left.now) (width_of home.now.part.now right.now))) || has_constant left.now)) }
 {
-    let same = width(home, table, left)? == width(home, table, right)?;
-    let fit = table.selects_fit(home, left) && table.selects_fit(home, right);
+    let same = width(home, left)? == width(home, right)?;
+    let fit = home.nets.selects_fit(home.part, left) && home.nets.selects_fit(home.part, right);
     Ok(!fit || !same || has_constant(left))
 }
 
 /// Whether what is connected to a pin doesn't fit.
 fn is_wired_badly(
-    cells: &Cells,
-    modules: &[Module],
-    nets: &[Nets],
-    home: &Module,
-    table: &Nets,
+    source: &Source<'_>,
+    home: &Home<'_>,
     target: Target,
     number: u32,
     pieces: &[Piece],
 ) -> Result<bool, OutOfMemory>
-    requires nets { nets.now ≡ map table_of modules.now }
-    requires table { table.now ≡ table_of home.now }
-    requires there { IsThere (source_of cells.now modules.now) target }
-    requires pin { number < length (target_pins (source_of cells.now modules.now) target) }
-    ensures { IfOk result (λ bad. bad ≡ is_wired_badly home.now (wiring_of (pin_at (source_of cells.now modules.now) target number) pieces.now)) }
+    requires there { IsThere (source_in source.now) target }
+    requires pin { number < length (target_pins (source_in source.now) target) }
+    ensures { IfOk result (λ bad. bad ≡ is_wired_badly home.now.part.now (wiring_of (pin_at (source_in source.now) target number) pieces.now)) }
 {
-    let same = width(home, table, pieces)? == pin_width(cells, modules, nets, target, number);
-    let fit = table.selects_fit(home, pieces);
-    let output = is_output(cells, modules, nets, target, number);
+    let same = width(home, pieces)? == pin_width(source, target, number);
+    let fit = home.nets.selects_fit(home.part, pieces);
+    let output = is_output(source, target, number);
     Ok(!fit || !same || (output && has_constant(pieces)))
 }
 
 /// Whether what an instance connects to a pin, if anything, doesn't fit.
 fn pin_misfits(
-    cells: &Cells,
-    modules: &[Module],
-    nets: &[Nets],
-    home: &Module,
-    table: &Nets,
-    item: &Item,
-    target: Target,
-    connected: &Connected,
+    source: &Source<'_>,
+    home: &Home<'_>,
+    instance: &Instance<'_>,
     number: u32,
 ) -> Result<bool, OutOfMemory>
-    requires nets { nets.now ≡ map table_of modules.now }
-    requires table { table.now ≡ table_of home.now }
-    requires there { IsThere (source_of cells.now modules.now) target }
-    requires pin { number < length (target_pins (source_of cells.now modules.now) target) }
-    requires connected { IsOfItem connected.now item.now }
-    ensures { IfOk result (λ misfits. misfits ≡ list_any (is_wired_badly home.now) (wiring_at item.now (source_of cells.now modules.now) target number)) }
+    requires there { IsThere (source_in source.now) instance.now.target }
+    requires pin { number < length (target_pins (source_in source.now) instance.now.target) }
+    requires connected { IsOfItem instance.now.connected.now instance.now.item.now }
+    ensures { IfOk result (λ misfits. misfits ≡ list_any (is_wired_badly home.now.part.now) (wiring_at instance.now.item.now (source_in source.now) instance.now.target number)) }
 {
-    let name = pin_name(cells, modules, target, number);
-    match connected.expression(item, number as usize, name) {
-        Some(expr) => is_wired_badly(
-            cells,
-            modules,
-            nets,
-            home,
-            table,
-            target,
-            number,
-            expr.items(),
-        ),
+    let target = instance.target;
+    let name = pin_name(source.cells, source.modules, target, number);
+    let connected = instance.connected;
+    match connected.expression(instance.item, number as usize, name) {
+        Some(expr) => is_wired_badly(source, home, target, number, expr.items()),
         None => Ok(false),
     }
 }
@@ -143,25 +118,23 @@ fn pin_misfits(
 /// Whether something that an instance connects to a pin doesn't fit.
 fn instance_misfits(
     alloc: Global,
-    cells: &Cells,
-    modules: &[Module],
-    nets: &[Nets],
-    home: &Module,
-    table: &Nets,
+    source: &Source<'_>,
+    home: &Home<'_>,
     item: &Item,
     target: Target,
 ) -> Result<bool, OutOfMemory>
-    requires nets { nets.now ≡ map table_of modules.now }
-    requires table { table.now ≡ table_of home.now }
-    requires there { IsThere (source_of cells.now modules.now) target }
-    ensures { IfOk result (λ misfits. misfits ≡ list_any (is_wired_badly home.now) (wirings_of item.now (target_pins (source_of cells.now modules.now) target))) }
+    requires there { IsThere (source_in source.now) target }
+    ensures { IfOk result (λ misfits. misfits ≡ list_any (is_wired_badly home.now.part.now) (wirings_of item.now (target_pins (source_in source.now) target))) }
 {
-    let connected = Connected::new(alloc, item)?;
-    let count = pin_count(cells, modules, target)?;
+    let connected = &Connected::new(alloc, item)?;
+    let instance = Instance {
+        item,
+        target,
+        connected,
+    };
+    let count = pin_count(source.cells, source.modules, target)?;
     for number in 0..count {
-        if pin_misfits(
-            cells, modules, nets, home, table, item, target, &connected, number,
-        )? {
+        if pin_misfits(source, home, &instance, number)? {
             return Ok(true);
         }
     }
@@ -202,28 +175,21 @@ impl Declared {
     fn misfits(
         &self,
         alloc: Global,
-        cells: &Cells,
-        modules: &[Module],
-        nets: &[Nets],
-        home: &Module,
-        table: &Nets,
+        source: &Source<'_>,
+        home: &Home<'_>,
         item: &Item,
         target: Target,
     ) -> Result<bool, OutOfMemory>
-        requires nets { nets.now ≡ map table_of modules.now }
-        requires table { table.now ≡ table_of home.now }
-        requires target { target ≡ target_in (source_of cells.now modules.now) item.now }
-        ensures { IfOk result (λ misfits. (before : List Item) → IsDeclaredBy self.now before → misfits ≡ misfits_after (source_of cells.now modules.now) home.now before item.now) }
+        requires target { target ≡ target_in (source_in source.now) item.now }
+        ensures { IfOk result (λ misfits. (before : List Item) → IsDeclaredBy self.now before → misfits ≡ misfits_after (source_in source.now) home.now.part.now before item.now) }
     {
         match item {
             Item::Port { span, names, .. } => Ok(any_differs(&self.nets, *span, names.items())),
             Item::Wire { span, names, .. } => Ok(any_differs(&self.ports, *span, names.items())),
             Item::Assign { left, right, .. } => {
-                assign_misfits(home, table, left.items(), right.items())
+                assign_misfits(home, left.items(), right.items())
             }
-            Item::Instance { .. } => instance_misfits(
-                alloc, cells, modules, nets, home, table, item, target,
-            ),
+            Item::Instance { .. } => instance_misfits(alloc, source, home, item, target),
         }
     }
 }
@@ -231,31 +197,17 @@ impl Declared {
 /// The first statement of a module whose widths or selects don't fit.
 fn first_misfit(
     alloc: Global,
-    cells: &Cells,
-    modules: &[Module],
-    nets: &[Nets],
-    home: &Module,
-    table: &Nets,
+    source: &Source<'_>,
+    home: &Home<'_>,
     targets: &[Target],
 ) -> Result<Option<u32>, OutOfMemory>
-    requires nets { nets.now ≡ map table_of modules.now }
-    requires table { table.now ≡ table_of home.now }
-    requires targets { targets.now ≡ targets_in (source_of cells.now modules.now) home.now }
-    ensures { IfOk result (λ first. first ≡ first_in (is_misfit (source_of cells.now modules.now)) home.now) }
+    requires targets { targets.now ≡ targets_in (source_in source.now) home.now.part.now }
+    ensures { IfOk result (λ first. first ≡ first_in (is_misfit (source_in source.now)) home.now.part.now) }
 {
     let mut declared = Declared::new(alloc);
-    let items = home.items.items();
+    let items = home.part.items.items();
     for (number, item) in items.iter().enumerate() {
-        if declared.misfits(
-            alloc,
-            cells,
-            modules,
-            nets,
-            home,
-            table,
-            item,
-            targets[number],
-        )? {
+        if declared.misfits(alloc, source, home, item, targets[number])? {
             return Ok(Some(entry(item)));
         }
         declared.note(alloc, item)?;
@@ -266,28 +218,19 @@ fn first_misfit(
 /// The first statement whose widths or selects don't fit.
 pub fn misfit(
     alloc: Global,
-    cells: &Cells,
-    modules: &[Module],
+    source: &Source<'_>,
     targets: &[TargetList],
-    nets: &[Nets],
 ) -> Result<Option<u32>, OutOfMemory>
-    requires targets { targets.now ≡ map (targets_in (source_of cells.now modules.now)) modules.now }
-    requires nets { nets.now ≡ map table_of modules.now }
-    ensures { IfOk result (λ entry. entry ≡ first_at_fault (is_misfit (source_of cells.now modules.now)) (modules_of (source_of cells.now modules.now))) }
+    requires { targets.now ≡ map (targets_in (source_in source.now)) source.now.modules.now }
+    ensures { IfOk result (λ entry. entry ≡ first_at_fault (is_misfit (source_in source.now)) (modules_of (source_in source.now))) }
 {
-    for (number, home) in modules.iter().enumerate() {
-        if cells.find(home.name.bytes()).is_some() {
+    for (number, part) in source.modules.iter().enumerate() {
+        if source.cells.find(part.name.bytes()).is_some() {
             continue;
         }
-        let first = first_misfit(
-            alloc,
-            cells,
-            modules,
-            nets,
-            home,
-            &nets[number],
-            targets[number].items(),
-        )?;
+        let nets = &source.nets[number];
+        let home = Home { part, nets };
+        let first = first_misfit(alloc, source, &home, targets[number].items())?;
         if first.is_some() {
             return Ok(first);
         }

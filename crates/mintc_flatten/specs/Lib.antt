@@ -1,4 +1,5 @@
-pub mod Totals
-pub mod Tops
 pub mod Growing
 pub mod Joining
+pub mod Places
+pub mod Tops
+pub mod Totals

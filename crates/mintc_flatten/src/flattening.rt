@@ -18,7 +18,7 @@ use mintc_faults::{
 use mintc_hierarchy::Hierarchy;
 use mintc_netlist::{Module, Netlist};
 use mintc_nets::Nets;
-use mintc_targets::{TargetList, find_nets, find_targets};
+use mintc_targets::{Source, TargetList, find_nets, find_targets};
 use mintc_text::{Name, OutOfMemory, Refusal, Stop};
 use std::alloc::Global;
 
@@ -45,8 +45,13 @@ fn check_statements(
         return Err(Stop::OutOfMemory);
     };
     refuse_no_pin(alloc, cells, modules, &targets)?;
-    refuse_width(alloc, cells, modules, &targets, &nets)?;
-    refuse_two_drivers(alloc, cells, modules, &targets, &nets)?;
+    let source = Source {
+        cells,
+        modules,
+        nets: &nets,
+    };
+    refuse_width(alloc, &source, &targets)?;
+    refuse_two_drivers(alloc, &source, &targets)?;
     Ok((targets, nets))
 }
 
@@ -91,7 +96,12 @@ fn flatten_modules(
     let (targets, nets) = check_statements(alloc, cells, modules)?;
     let top = one_top(alloc, cells, modules, &targets, name)?;
     check_limits(alloc, cells, modules, &targets, &nets, top)?;
-    match hierarchy(alloc, cells, modules, &targets, &nets, top) {
+    let source = Source {
+        cells,
+        modules,
+        nets: &nets,
+    };
+    match hierarchy(alloc, &source, &targets, top) {
         Ok(hierarchy) => Ok(hierarchy),
         Err(_) => Err(Stop::OutOfMemory),
     }

@@ -4,19 +4,17 @@ ghost use Rattle.std.specs.List.{flat_map};
 ghost use Rattle.std.specs.Option.{option_to_list};
 ghost use Rattle.mintc_netlist.specs.Connections.{wirings_of};
 ghost use Rattle.mintc_netlist.specs.Expressions.{expression_places};
-ghost use Rattle.mintc_hierarchy.specs.Sources.{source_of, target_in, target_pins};
+ghost use Rattle.mintc_hierarchy.specs.Sources.{target_in, target_pins};
 ghost use Rattle.mintc_hierarchy.specs.Walks.{counts, place_at, step_at};
 ghost use Rattle.mintc_hierarchy.specs.Hierarchies.{joined, numbers_of, wiring_joins, joins_in};
+ghost use Rattle.mintc_targets.specs.Homes.{source_in};
 ghost use Rattle.mintc_targets.specs.Orders.{IsThere};
 ghost use Rattle.mintc_flatten.specs.Joining.{moved};
 ghost use Rattle.mintc_targets.specs.Wired.{pin_at, wiring_at, IsOfItem};
-ghost use Rattle.mintc_nets.specs.Tables.{table_of};
 
-use mintc_cells::Cells;
 use mintc_hierarchy::{Join, Target};
-use mintc_netlist::{Item, Module, Piece};
-use mintc_nets::Nets;
-use mintc_targets::{Connected, is_output, pin_count, pin_name, push_pin};
+use mintc_netlist::{Item, Piece};
+use mintc_targets::{Connected, Home, Instance, Source, is_output, pin_count, pin_name, push_pin};
 use mintc_text::OutOfMemory;
 use std::alloc::Global;
 
@@ -73,24 +71,32 @@ fn push_joined(
     Ok(())
 }
 
+/// Where the joins of an item are made: the netlist, the module of the item's scope, and the first inner bits of that scope and of the
+/// item's own leaf or scope.
+#[derive(Clone, Copy)]
+pub struct Site<'a> {
+    pub source: Source<'a>,
+    pub home: Home<'a>,
+    pub first: u32,
+    pub own: u32,
+}
+
 /// Takes in the joins of an assign.
 fn push_assign(
     alloc: Global,
     joins: &mut Vec<Join>,
-    home: &Module,
-    table: &Nets,
-    first: u32,
+    site: &Site<'_>,
     left: &[Piece],
     right: &[Piece],
 ) -> Result<(), OutOfMemory>
-    requires { table.now ≡ table_of home.now }
-    ensures { OnOk result (joins.new.items ≡ joins.old.items ++ joined (numbers_of (place_at home.now 0 first) right.now) (numbers_of (place_at home.now 0 first) left.now)) }
+    ensures { OnOk result (joins.new.items ≡ joins.old.items ++ joined (numbers_of (place_at site.now.home.part.now 0 site.now.first) right.now) (numbers_of (place_at site.now.home.part.now 0 site.now.first) left.now)) }
 {
+    let Home { part, nets, .. } = site.home;
     let mut froms = Vec::new(alloc);
-    table.push_places(alloc, home, right, &mut froms)?;
+    nets.push_places(alloc, part, right, &mut froms)?;
     let mut tos = Vec::new(alloc);
-    table.push_places(alloc, home, left, &mut tos)?;
-    push_joined(joins, first, &froms, first, &tos)
+    nets.push_places(alloc, part, left, &mut tos)?;
+    push_joined(joins, site.first, &froms, site.first, &tos)
 }
 
 /// Room for the places of a pin and of what is connected to it.
@@ -135,26 +141,22 @@ impl Ends {
     fn find(
         &mut self,
         alloc: Global,
-        cells: &Cells,
-        modules: &[Module],
-        nets: &[Nets],
-        home: &Module,
-        table: &Nets,
+        site: &Site<'_>,
         target: Target,
         number: u32,
         pieces: &[Piece],
     ) -> Result<(), OutOfMemory>
-        requires nets { nets.now ≡ map table_of modules.now }
-        requires table { table.now ≡ table_of home.now }
-        requires there { IsThere (source_of cells.now modules.now) target }
-        requires pin { number < length (target_pins (source_of cells.now modules.now) target) }
-        ensures pin { OnOk result (self.new.pin.items ≡ map Some (pin_at (source_of cells.now modules.now) target number).places) }
-        ensures net { OnOk result (self.new.net.items ≡ expression_places home.now pieces.now) }
+        requires there { IsThere (source_in site.now.source) target }
+        requires pin { number < length (target_pins (source_in site.now.source) target) }
+        ensures pin { OnOk result (self.new.pin.items ≡ map Some (pin_at (source_in site.now.source) target number).places) }
+        ensures net { OnOk result (self.new.net.items ≡ expression_places site.now.home.part.now pieces.now) }
     {
         self.pin.clear();
         self.net.clear();
-        push_pin(alloc, cells, modules, nets, target, number, &mut self.pin)?;
-        table.push_places(alloc, home, pieces, &mut self.net)
+        push_pin(alloc, &site.source, target, number, &mut self.pin)?;
+        site.home
+            .nets
+            .push_places(alloc, site.home.part, pieces, &mut self.net)
     }
 }
 
@@ -163,109 +165,71 @@ fn push_pin_joins(
     alloc: Global,
     joins: &mut Vec<Join>,
     ends: &mut Ends,
-    cells: &Cells,
-    modules: &[Module],
-    nets: &[Nets],
-    home: &Module,
-    table: &Nets,
-    first: u32,
-    own: u32,
-    item: &Item,
-    target: Target,
-    connected: &Connected,
+    site: &Site<'_>,
+    instance: &Instance<'_>,
     number: u32,
 ) -> Result<(), OutOfMemory>
-    requires nets { nets.now ≡ map table_of modules.now }
-    requires table { table.now ≡ table_of home.now }
-    requires there { IsThere (source_of cells.now modules.now) target }
-    requires pin { number < length (target_pins (source_of cells.now modules.now) target) }
-    requires connected { IsOfItem connected.now item.now }
-    ensures { OnOk result (joins.new.items ≡ joins.old.items ++ flat_map (wiring_joins (place_at home.now 0 first) own) (wiring_at item.now (source_of cells.now modules.now) target number)) }
+    requires there { IsThere (source_in site.now.source) instance.now.target }
+    requires pin { number < length (target_pins (source_in site.now.source) instance.now.target) }
+    requires connected { IsOfItem instance.now.connected.now instance.now.item.now }
+    ensures { OnOk result (joins.new.items ≡ joins.old.items ++
+        flat_map (wiring_joins (place_at site.now.home.part.now 0 site.now.first) site.now.own) (wiring_at instance.now.item.now (source_in site.now.source) instance.now.target number)) }
 {
-    let name = pin_name(cells, modules, target, number);
-    let Some(expr) = connected.expression(item, number as usize, name) else {
+    let source = &site.source;
+    let target = instance.target;
+    let name = pin_name(source.cells, source.modules, target, number);
+    let connected = instance.connected;
+    let Some(expr) = connected.expression(instance.item, number as usize, name) else {
         return Ok(());
     };
-    ends.find(
-        alloc,
-        cells,
-        modules,
-        nets,
-        home,
-        table,
-        target,
-        number,
-        expr.items(),
-    )?;
-    let output = is_output(cells, modules, nets, target, number);
-    ends.push_joins(joins, output, own, first)
+    ends.find(alloc, site, target, number, expr.items())?;
+    let output = is_output(source, target, number);
+    ends.push_joins(joins, output, site.own, site.first)
 }
 
 /// Takes in the joins of an instance.
 fn push_instance(
     alloc: Global,
     joins: &mut Vec<Join>,
-    cells: &Cells,
-    modules: &[Module],
-    nets: &[Nets],
-    home: &Module,
-    table: &Nets,
-    first: u32,
-    own: u32,
+    site: &Site<'_>,
     item: &Item,
     target: Target,
 ) -> Result<(), OutOfMemory>
-    requires nets { nets.now ≡ map table_of modules.now }
-    requires table { table.now ≡ table_of home.now }
-    requires there { IsThere (source_of cells.now modules.now) target }
+    requires { IsThere (source_in site.now.source) target }
     ensures { OnOk result (joins.new.items ≡ joins.old.items ++
-        flat_map (wiring_joins (place_at home.now 0 first) own) (wirings_of item.now (target_pins (source_of cells.now modules.now) target))) }
+        flat_map (wiring_joins (place_at site.now.home.part.now 0 site.now.first) site.now.own) (wirings_of item.now (target_pins (source_in site.now.source) target))) }
 {
-    let connected = Connected::new(alloc, item)?;
+    let connected = &Connected::new(alloc, item)?;
+    let instance = Instance {
+        item,
+        target,
+        connected,
+    };
     let mut ends = Ends::new(alloc);
-    let count = pin_count(cells, modules, target)?;
+    let count = pin_count(site.source.cells, site.source.modules, target)?;
     for number in 0..count {
-        push_pin_joins(
-            alloc, joins, &mut ends, cells, modules, nets, home, table, first, own, item, target,
-            &connected, number,
-        )?;
+        push_pin_joins(alloc, joins, &mut ends, site, &instance, number)?;
     }
     Ok(())
 }
 
-/// Takes in the joins of an item of a scope, whose first inner bit is `first`; the bits of the item's leaf or scope begin at `own`.
+/// Takes in the joins of an item.
 pub fn push_joins(
     alloc: Global,
     joins: &mut Vec<Join>,
-    cells: &Cells,
-    modules: &[Module],
-    nets: &[Nets],
-    home: &Module,
-    table: &Nets,
-    first: u32,
-    own: u32,
+    site: &Site<'_>,
     item: &Item,
     target: Target,
 ) -> Result<(), OutOfMemory>
-    requires nets { nets.now ≡ map table_of modules.now }
-    requires table { table.now ≡ table_of home.now }
-    requires target { target ≡ target_in (source_of cells.now modules.now) item.now }
-    requires there { IsThere (source_of cells.now modules.now) target }
+    requires target { target ≡ target_in (source_in site.now.source) item.now }
+    requires there { IsThere (source_in site.now.source) target }
     ensures { OnOk result ((scope scopes leaves : ℕ) →
-        joins.new.items ≡ joins.old.items ++ joins_in (source_of cells.now modules.now) (step_at (place_at home.now scope first) (counts scopes leaves own) item.now) item.now) }
+        joins.new.items ≡ joins.old.items ++ joins_in (source_in site.now.source) (step_at (place_at site.now.home.part.now scope site.now.first) (counts scopes leaves site.now.own) item.now) item.now) }
 {
     match item {
-        Item::Assign { left, right, .. } => push_assign(
-            alloc,
-            joins,
-            home,
-            table,
-            first,
-            left.items(),
-            right.items(),
-        ),
-        _ => push_instance(
-            alloc, joins, cells, modules, nets, home, table, first, own, item, target,
-        ),
+        Item::Assign { left, right, .. } => {
+            push_assign(alloc, joins, site, left.items(), right.items())
+        }
+        _ => push_instance(alloc, joins, site, item, target),
     }
 }

@@ -1,16 +1,18 @@
 //! The walk from the top down, which makes the lists of a hierarchy.
 ghost use Rattle.std.specs.Prelude.{◌≡◌, ◌<◌, ◌^◌, ◌++◌, ◌∷◌, [], ℕ, map, length, slice_index_or, IfOk, OnOk};
 ghost use Rattle.mintc_cells.specs.Entries.{cell_at};
-ghost use Rattle.mintc_hierarchy.specs.Sources.{source_of, module_at, no_module, target_in, targets_in};
+ghost use Rattle.mintc_hierarchy.specs.Sources.{module_at, target_in, targets_in};
 ghost use Rattle.mintc_hierarchy.specs.Walks.{counts, place_at, step_at, steps_from, inside};
 ghost use Rattle.mintc_netlist.specs.Nets.{bit_of, bits_of};
 ghost use Rattle.mintc_nets.specs.Tables.{table_of};
 ghost use Rattle.mintc_hierarchy.specs.Hierarchies.{net_of, name_of, statement_of, nets_in, pins_in, joins_in, top_scope, top_port, hierarchy_of};
+ghost use Rattle.mintc_targets.specs.Homes.{source_in};
 ghost use Rattle.mintc_targets.specs.Orders.{IsThere};
+ghost use Rattle.mintc_flatten.specs.Places.{place_in};
 ghost use Rattle.mintc_flatten.specs.Growing.{lists};
 ghost use Rattle.mintc_netlist.specs.Connections.{ports_of};
 
-use crate::joins::push_joins;
+use crate::joins::{Site, push_joins};
 use crate::ports::top_ports;
 use mintc_cells::Cells;
 use mintc_hierarchy::{
@@ -19,7 +21,7 @@ use mintc_hierarchy::{
 };
 use mintc_netlist::{Item, Module, Span};
 use mintc_nets::{Nets, bits, index_at};
-use mintc_targets::TargetList;
+use mintc_targets::{Home, Source, TargetList};
 use mintc_text::{Name, OutOfMemory};
 use std::alloc::Global;
 use std::marker::Model;
@@ -151,6 +153,48 @@ fn push_nets(
     Ok(())
 }
 
+/// A netlist that is walked through, with what each instance of each module is of.
+#[derive(Clone, Copy)]
+pub struct Plan<'a> {
+    source: Source<'a>,
+    targets: &'a [TargetList],
+    ghost are_of: { targets.now ≡ map (targets_in (source_in source)) source.modules.now },
+}
+
+/// A scope: its module, its number, and its first inner bit.
+#[derive(Clone, Copy)]
+pub struct Place<'a> {
+    home: Home<'a>,
+    scope: u32,
+    first: u32,
+}
+
+impl Place<'_> {
+    /// Takes in the joins of an item of the scope, whose own bits begin at `own`.
+    fn push_joins(
+        &self,
+        alloc: Global,
+        joins: &mut Vec<Join>,
+        source: &Source<'_>,
+        own: u32,
+        item: &Item,
+        target: Target,
+    ) -> Result<(), OutOfMemory>
+        requires target { target ≡ target_in (source_in source.now) item.now }
+        requires there { IsThere (source_in source.now) target }
+        ensures { OnOk result ((scopes leaves : ℕ) →
+            joins.new.items ≡ joins.old.items ++ joins_in (source_in source.now) (step_at (place_in self.now) (counts scopes leaves own) item.now) item.now) }
+    {
+        let site = Site {
+            source: *source,
+            home: self.home,
+            first: self.first,
+            own,
+        };
+        push_joins(alloc, joins, &site, item, target)
+    }
+}
+
 impl Walk {
     ghost use Rattle.mintc_hierarchy.specs.declared.targets.Target.TheVariants.{OfCell, OfModule, OfNothing};
     ghost use Rattle.mintc_flatten.specs.Growing.{Lists, lists, sizes, grown, grown_by, grown_all};
@@ -159,27 +203,20 @@ impl Walk {
     fn leaf(
         &mut self,
         alloc: Global,
-        cells: &Cells,
-        modules: &[Module],
-        nets: &[Nets],
-        home: &Module,
-        table: &Nets,
-        scope: u32,
-        first: u32,
+        source: &Source<'_>,
+        place: &Place<'_>,
         item: &Item,
         cell: u32,
     ) -> Result<(), OutOfMemory>
-        requires cell { cell < length cells.now }
-        requires nets { nets.now ≡ map table_of modules.now }
-        requires table { table.now ≡ table_of home.now }
-        requires target { OfCell cell ≡ target_in (source_of cells.now modules.now) item.now }
-        ensures { OnOk result (self.new ≡ grown_by (source_of cells.now modules.now) self.old (step_at (place_at home.now scope first) (sizes self.old) item.now) (OfCell cell)) }
+        requires cell { cell < length source.now.cells.now }
+        requires target { OfCell cell ≡ target_in (source_in source.now) item.now }
+        ensures { OnOk result (self.new ≡ grown_by (source_in source.now) self.old (step_at (place_in place.now) (sizes self.old) item.now) (OfCell cell)) }
     {
         let number = small(self.leaves.len())?;
         let own = small(self.inner.len())?;
         let name = item_name(alloc, item)?;
         let leaf = Leaf {
-            scope,
+            scope: place.scope,
             name,
             cell,
             first_pin: own,
@@ -188,139 +225,75 @@ impl Walk {
         let Ok(()) = self.leaves.push(leaf) else {
             return Err(OutOfMemory);
         };
-        push_pins(alloc, &mut self.inner, cells, number, cell)?;
-        push_joins(
-            alloc,
-            &mut self.joins,
-            cells,
-            modules,
-            nets,
-            home,
-            table,
-            first,
-            own,
-            item,
-            Target::OfCell(cell),
-        )
+        push_pins(alloc, &mut self.inner, source.cells, number, cell)?;
+        let target = Target::OfCell(cell);
+        place.push_joins(alloc, &mut self.joins, source, own, item, target)
     }
 
     /// Takes in a scope that stands in a scope.
     fn scope(
         &mut self,
         alloc: Global,
-        cells: &Cells,
-        modules: &[Module],
-        nets: &[Nets],
-        home: &Module,
-        table: &Nets,
-        scope: u32,
-        first: u32,
+        source: &Source<'_>,
+        place: &Place<'_>,
         item: &Item,
         number: u32,
     ) -> Result<(), OutOfMemory>
-        requires number { number < length modules.now }
-        requires nets { nets.now ≡ map table_of modules.now }
-        requires table { table.now ≡ table_of home.now }
-        requires target { OfModule number ≡ target_in (source_of cells.now modules.now) item.now }
-        ensures { OnOk result (self.new ≡ grown_by (source_of cells.now modules.now) self.old (step_at (place_at home.now scope first) (sizes self.old) item.now) (OfModule number)) }
+        requires number { number < length source.now.modules.now }
+        requires target { OfModule number ≡ target_in (source_in source.now) item.now }
+        ensures { OnOk result (self.new ≡ grown_by (source_in source.now) self.old (step_at (place_in place.now) (sizes self.old) item.now) (OfModule number)) }
     {
-        let place = small(self.scopes.len())?;
+        let scope = small(self.scopes.len())?;
         let own = small(self.inner.len())?;
         let name = item_name(alloc, item)?;
         let new = Scope {
             module: number,
-            parent: scope,
+            parent: place.scope,
             name,
         };
         let Ok(()) = self.scopes.push(new) else {
             return Err(OutOfMemory);
         };
-        push_nets(
-            alloc,
-            &mut self.inner,
-            &modules[number as usize],
-            &nets[number as usize],
-            place,
-        )?;
-        push_joins(
-            alloc,
-            &mut self.joins,
-            cells,
-            modules,
-            nets,
-            home,
-            table,
-            first,
-            own,
-            item,
-            Target::OfModule(number),
-        )
+        let part = &source.modules[number as usize];
+        let nets = &source.nets[number as usize];
+        push_nets(alloc, &mut self.inner, part, nets, scope)?;
+        let target = Target::OfModule(number);
+        place.push_joins(alloc, &mut self.joins, source, own, item, target)
     }
 
     /// Takes in an item that is no instance.
     fn pass(
         &mut self,
         alloc: Global,
-        cells: &Cells,
-        modules: &[Module],
-        nets: &[Nets],
-        home: &Module,
-        table: &Nets,
-        scope: u32,
-        first: u32,
+        source: &Source<'_>,
+        place: &Place<'_>,
         item: &Item,
     ) -> Result<(), OutOfMemory>
-        requires nets { nets.now ≡ map table_of modules.now }
-        requires table { table.now ≡ table_of home.now }
-        requires target { OfNothing ≡ target_in (source_of cells.now modules.now) item.now }
-        ensures { OnOk result (self.new ≡ grown_by (source_of cells.now modules.now) self.old (step_at (place_at home.now scope first) (sizes self.old) item.now) OfNothing) }
+        requires { OfNothing ≡ target_in (source_in source.now) item.now }
+        ensures { OnOk result (self.new ≡ grown_by (source_in source.now) self.old (step_at (place_in place.now) (sizes self.old) item.now) OfNothing) }
     {
         let own = small(self.inner.len())?;
-        push_joins(
-            alloc,
-            &mut self.joins,
-            cells,
-            modules,
-            nets,
-            home,
-            table,
-            first,
-            own,
-            item,
-            Target::OfNothing,
-        )
+        let target = Target::OfNothing;
+        place.push_joins(alloc, &mut self.joins, source, own, item, target)
     }
 
     /// Takes in an item of a scope.
     fn step(
         &mut self,
         alloc: Global,
-        cells: &Cells,
-        modules: &[Module],
-        nets: &[Nets],
-        home: &Module,
-        table: &Nets,
-        scope: u32,
-        first: u32,
+        source: &Source<'_>,
+        place: &Place<'_>,
         item: &Item,
         target: Target,
     ) -> Result<(), OutOfMemory>
-        requires nets { nets.now ≡ map table_of modules.now }
-        requires table { table.now ≡ table_of home.now }
-        requires target { target ≡ target_in (source_of cells.now modules.now) item.now }
-        requires there { IsThere (source_of cells.now modules.now) target }
-        ensures { OnOk result (self.new ≡ grown (source_of cells.now modules.now) self.old (step_at (place_at home.now scope first) (sizes self.old) item.now)) }
+        requires target { target ≡ target_in (source_in source.now) item.now }
+        requires there { IsThere (source_in source.now) target }
+        ensures { OnOk result (self.new ≡ grown (source_in source.now) self.old (step_at (place_in place.now) (sizes self.old) item.now)) }
     {
         match target {
-            Target::OfCell(cell) => self.leaf(
-                alloc, cells, modules, nets, home, table, scope, first, item, cell,
-            ),
-            Target::OfModule(module) => self.scope(
-                alloc, cells, modules, nets, home, table, scope, first, item, module,
-            ),
-            Target::OfNothing => self.pass(
-                alloc, cells, modules, nets, home, table, scope, first, item,
-            ),
+            Target::OfCell(cell) => self.leaf(alloc, source, place, item, cell),
+            Target::OfModule(number) => self.scope(alloc, source, place, item, number),
+            Target::OfNothing => self.pass(alloc, source, place, item),
         }
     }
 
@@ -329,47 +302,26 @@ impl Walk {
     fn visit(
         &mut self,
         alloc: Global,
-        cells: &Cells,
-        modules: &[Module],
-        targets: &[TargetList],
-        nets: &[Nets],
+        plan: &Plan<'_>,
         deep: usize,
-        home: &Module,
-        table: &Nets,
-        scope: u32,
-        first: u32,
+        place: &Place<'_>,
         item: &Item,
         target: Target,
     ) -> Result<(), OutOfMemory>
-        requires targets { targets.now ≡ map (targets_in (source_of cells.now modules.now)) modules.now }
-        requires nets { nets.now ≡ map table_of modules.now }
-        requires table { table.now ≡ table_of home.now }
-        requires target { target ≡ target_in (source_of cells.now modules.now) item.now }
-        requires there { IsThere (source_of cells.now modules.now) target }
+        requires target { target ≡ target_in (source_in plan.now.source) item.now }
+        requires there { IsThere (source_in plan.now.source) target }
         requires deep { deep < 2 ^ 32 }
-        ensures { OnOk result (self.new ≡ grown_all (source_of cells.now modules.now) self.old
-            (step_at (place_at home.now scope first) (sizes self.old) item.now ∷ inside (source_of cells.now modules.now) deep (sizes self.old) item.now)) }
+        ensures { OnOk result (self.new ≡ grown_all (source_in plan.now.source) self.old
+            (step_at (place_in place.now) (sizes self.old) item.now ∷ inside (source_in plan.now.source) deep (sizes self.old) item.now)) }
     {
-        let place = small(self.scopes.len())?;
+        let scope = small(self.scopes.len())?;
         let own = small(self.inner.len())?;
-        self.step(
-            alloc, cells, modules, nets, home, table, scope, first, item, target,
-        )?;
+        self.step(alloc, &plan.source, place, item, target)?;
         if deep == 0 {
             return Ok(());
         }
         match target {
-            Target::OfModule(number) => self.enter(
-                alloc,
-                cells,
-                modules,
-                targets,
-                nets,
-                deep - 1,
-                number,
-                place,
-                own,
-            ),
+            Target::OfModule(number) => self.enter(alloc, plan, deep - 1, number, scope, own),
             _ => Ok(()),
         }
     }
@@ -379,42 +331,38 @@ impl Walk {
     fn enter(
         &mut self,
         alloc: Global,
-        cells: &Cells,
-        modules: &[Module],
-        targets: &[TargetList],
-        nets: &[Nets],
+        plan: &Plan<'_>,
         deep: usize,
         number: u32,
         scope: u32,
         first: u32,
     ) -> Result<(), OutOfMemory>
-        requires targets { targets.now ≡ map (targets_in (source_of cells.now modules.now)) modules.now }
-        requires nets { nets.now ≡ map table_of modules.now }
-        requires number { number < length modules.now }
+        requires number { number < length plan.now.source.modules.now }
         requires deep { deep < 2 ^ 32 }
-        ensures { OnOk result (self.new ≡ grown_all (source_of cells.now modules.now) self.old
-            (steps_from (source_of cells.now modules.now) (inside (source_of cells.now modules.now) deep) (place_at (module_at (source_of cells.now modules.now) number) scope first) (sizes self.old)
-            (module_at (source_of cells.now modules.now) number).items)) }
+        ensures { OnOk result (self.new ≡ grown_all (source_in plan.now.source) self.old
+            (steps_from (source_in plan.now.source) (inside (source_in plan.now.source) deep) (place_at (module_at (source_in plan.now.source) number) scope first) (sizes self.old)
+            (module_at (source_in plan.now.source) number).items)) }
     {
-        let home = &modules[number as usize];
-        let table = &nets[number as usize];
-        let items = home.items.items();
-        let list = targets[number as usize].items();
+        let part = &plan.source.modules[number as usize];
+        let nets = &plan.source.nets[number as usize];
+        let place = Place {
+            home: Home { part, nets },
+            scope,
+            first,
+        };
+        let items = part.items.items();
+        let list = plan.targets[number as usize].items();
         for (at, item) in items.iter().enumerate() {
-            self.visit(
-                alloc, cells, modules, targets, nets, deep, home, table, scope, first, item,
-                list[at],
-            )?;
+            self.visit(alloc, plan, deep, &place, item, list[at])?;
         }
         Ok(())
     }
 }
 
 /// The lists before the walk from a module.
-fn begin(alloc: Global, modules: &[Module], nets: &[Nets], top: u32) -> Result<Walk, OutOfMemory>
-    requires top { top < length modules.now }
-    requires nets { nets.now ≡ map table_of modules.now }
-    ensures { IfOk result (λ walk. walk ≡ lists (top_scope top ∷ []) [] (nets_in 0 (slice_index_or modules.now top no_module)) []) }
+fn begin(alloc: Global, source: &Source<'_>, top: u32) -> Result<Walk, OutOfMemory>
+    requires { top < length source.now.modules.now }
+    ensures { IfOk result (λ walk. walk ≡ lists (top_scope top ∷ []) [] (nets_in 0 (module_at (source_in source.now) top)) []) }
 {
     let name = Name::new(alloc, &[])?;
     let mut scopes = Vec::new(alloc);
@@ -426,13 +374,9 @@ fn begin(alloc: Global, modules: &[Module], nets: &[Nets], top: u32) -> Result<W
         return Err(OutOfMemory);
     };
     let mut inner = Vec::new(alloc);
-    push_nets(
-        alloc,
-        &mut inner,
-        &modules[top as usize],
-        &nets[top as usize],
-        0,
-    )?;
+    let part = &source.modules[top as usize];
+    let nets = &source.nets[top as usize];
+    push_nets(alloc, &mut inner, part, nets, 0)?;
     Ok(Walk {
         scopes,
         leaves: Vec::new(alloc),
@@ -444,31 +388,23 @@ fn begin(alloc: Global, modules: &[Module], nets: &[Nets], top: u32) -> Result<W
 /// The hierarchy from a module.
 pub fn hierarchy(
     alloc: Global,
-    cells: &Cells,
-    modules: &[Module],
+    source: &Source<'_>,
     targets: &[TargetList],
-    nets: &[Nets],
     top: u32,
 ) -> Result<Hierarchy, OutOfMemory>
-    requires targets { targets.now ≡ map (targets_in (source_of cells.now modules.now)) modules.now }
-    requires nets { nets.now ≡ map table_of modules.now }
-    requires top { top < length modules.now }
-    requires few { length modules.now < 2 ^ 32 }
-    ensures { IfOk result (λ h. h ≡ hierarchy_of (source_of cells.now modules.now) top) }
+    requires targets { targets.now ≡ map (targets_in (source_in source.now)) source.now.modules.now }
+    requires top { top < length source.now.modules.now }
+    requires few { length source.now.modules.now < 2 ^ 32 }
+    ensures { IfOk result (λ h. h ≡ hierarchy_of (source_in source.now) top) }
 {
-    let ports = top_ports(alloc, &modules[top as usize], &nets[top as usize])?;
-    let mut walk = begin(alloc, modules, nets, top)?;
-    walk.enter(
-        alloc,
-        cells,
-        modules,
+    let part = &source.modules[top as usize];
+    let ports = top_ports(alloc, part, &source.nets[top as usize])?;
+    let mut walk = begin(alloc, source, top)?;
+    let plan = Plan {
+        source: *source,
         targets,
-        nets,
-        modules.len(),
-        top,
-        0,
-        0,
-    )?;
+    };
+    walk.enter(alloc, &plan, source.modules.len(), top, 0, 0)?;
     Ok(finish(walk, ports))
 }
 

@@ -1,4 +1,5 @@
+pub mod Homes
 pub mod Named
-pub mod Orders
 pub mod Ordering
+pub mod Orders
 pub mod Wired

@@ -4,8 +4,8 @@ ghost use Rattle.std.specs.Option.{option_and_then};
 ghost use Rattle.mintc_netlist.specs.declared.module.Connection.{Connection};
 ghost use Rattle.mintc_netlist.specs.Connections.{is_to, expression_at};
 
-use mintc_netlist::{Connection, Expr, Item};
 use mintc_names::NameSet;
+use mintc_netlist::{Connection, Expr, Item};
 use mintc_text::OutOfMemory;
 use std::alloc::Global;
 

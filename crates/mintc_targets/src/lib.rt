@@ -7,6 +7,7 @@
 #![tactic(auto)]
 
 mod connected;
+mod instance;
 mod order;
 mod pins;
 mod resolve;
@@ -14,8 +15,9 @@ mod tables;
 mod targets;
 
 pub use connected::Connected;
+pub use instance::Instance;
 pub use order::modules_in_order;
 pub use pins::{is_output, pin_count, pin_name, pin_width, push_pin};
 pub use resolve::find_targets;
-pub use tables::find_nets;
+pub use tables::{Home, Source, find_nets};
 pub use targets::TargetList;

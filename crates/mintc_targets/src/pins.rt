@@ -3,12 +3,13 @@ ghost use Rattle.std.specs.Prelude.{◌≡◌, ◌<◌, ◌^◌, ◌++◌, Some,
 ghost use Rattle.mintc_hierarchy.specs.Sources.{source_of, target_pins};
 ghost use Rattle.mintc_targets.specs.Orders.{IsThere};
 ghost use Rattle.mintc_targets.specs.Wired.{pin_at};
-ghost use Rattle.mintc_nets.specs.Tables.{table_of};
+ghost use Rattle.mintc_targets.specs.Homes.{source_in};
 
+use crate::Source;
 use mintc_cells::Cells;
 use mintc_hierarchy::Target;
 use mintc_netlist::Module;
-use mintc_nets::{Nets, bits};
+use mintc_nets::bits;
 use mintc_text::OutOfMemory;
 use std::alloc::Global;
 
@@ -48,24 +49,18 @@ pub fn pin_name<'a>(
 }
 
 /// Whether a pin is an output.
-pub fn is_output(
-    cells: &Cells,
-    modules: &[Module],
-    nets: &[Nets],
-    target: Target,
-    number: u32,
-) -> bool
-    requires nets { nets.now ≡ map table_of modules.now }
-    requires there { IsThere (source_of cells.now modules.now) target }
-    requires pin { number < length (target_pins (source_of cells.now modules.now) target) }
-    ensures { result ≡ (pin_at (source_of cells.now modules.now) target number).output }
+pub fn is_output(source: &Source<'_>, target: Target, number: u32) -> bool
+    requires there { IsThere (source_in source.now) target }
+    requires pin { number < length (target_pins (source_in source.now) target) }
+    ensures { result ≡ (pin_at (source_in source.now) target number).output }
 {
     match target {
-        Target::OfCell(cell) => cells.is_output(cell, number),
+        Target::OfCell(cell) => source.cells.is_output(cell, number),
         Target::OfModule(home) => {
-            let home = home as usize;
-            let name = modules[home].ports.items()[number as usize].bytes();
-            nets[home].is_output(&modules[home], name)
+            let part = &source.modules[home as usize];
+            let nets = &source.nets[home as usize];
+            let name = part.ports.items()[number as usize].bytes();
+            nets.is_output(part, name)
         }
         Target::OfNothing => false,
     }
@@ -74,17 +69,14 @@ pub fn is_output(
 /// Takes in the places of a pin's bits from the rightmost.
 pub fn push_pin(
     alloc: Global,
-    cells: &Cells,
-    modules: &[Module],
-    nets: &[Nets],
+    source: &Source<'_>,
     target: Target,
     number: u32,
     places: &mut Vec<Option<u64>>,
 ) -> Result<(), OutOfMemory>
-    requires nets { nets.now ≡ map table_of modules.now }
-    requires there { IsThere (source_of cells.now modules.now) target }
-    requires pin { number < length (target_pins (source_of cells.now modules.now) target) }
-    ensures { OnOk result (places.new.items ≡ places.old.items ++ map Some (pin_at (source_of cells.now modules.now) target number).places) }
+    requires there { IsThere (source_in source.now) target }
+    requires pin { number < length (target_pins (source_in source.now) target) }
+    ensures { OnOk result (places.new.items ≡ places.old.items ++ map Some (pin_at (source_in source.now) target number).places) }
 {
     match target {
         Target::OfCell(_) => match places.push(Some(u64::from(number))) {
@@ -92,33 +84,28 @@ pub fn push_pin(
             Err(_) => Err(OutOfMemory),
         },
         Target::OfModule(home) => {
-            let home = home as usize;
-            let name = modules[home].ports.items()[number as usize].bytes();
-            nets[home].push_net(alloc, &modules[home], name, places)
+            let part = &source.modules[home as usize];
+            let nets = &source.nets[home as usize];
+            let name = part.ports.items()[number as usize].bytes();
+            nets.push_net(alloc, part, name, places)
         }
         Target::OfNothing => Ok(()),
     }
 }
 
 /// How many bits a pin has.
-pub fn pin_width(
-    cells: &Cells,
-    modules: &[Module],
-    nets: &[Nets],
-    target: Target,
-    number: u32,
-) -> u64
-    requires nets { nets.now ≡ map table_of modules.now }
-    requires there { IsThere (source_of cells.now modules.now) target }
-    requires pin { number < length (target_pins (source_of cells.now modules.now) target) }
-    ensures { result ≡ length (pin_at (source_of cells.now modules.now) target number).places }
+pub fn pin_width(source: &Source<'_>, target: Target, number: u32) -> u64
+    requires there { IsThere (source_in source.now) target }
+    requires pin { number < length (target_pins (source_in source.now) target) }
+    ensures { result ≡ length (pin_at (source_in source.now) target number).places }
 {
     match target {
         Target::OfCell(_) => 1,
         Target::OfModule(home) => {
-            let home = home as usize;
-            let name = modules[home].ports.items()[number as usize].bytes();
-            bits(nets[home].range(&modules[home], name))
+            let part = &source.modules[home as usize];
+            let nets = &source.nets[home as usize];
+            let name = part.ports.items()[number as usize].bytes();
+            bits(nets.range(part, name))
         }
         Target::OfNothing => 0,
     }

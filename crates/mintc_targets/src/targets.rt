@@ -4,8 +4,8 @@ ghost use Rattle.mintc_names.specs.Names.{is_among, with_name};
 ghost use Rattle.mintc_targets.specs.Named.{IsIndex};
 
 use mintc_hierarchy::Target;
-use mintc_netlist::Module;
 use mintc_names::NameSet;
+use mintc_netlist::Module;
 use mintc_text::OutOfMemory;
 use std::alloc::Global;
 use std::marker::Model;

@@ -1,5 +1,5 @@
 use Rattle.std.proofs.Common.{Some, None, take, refl, ◌∙◌}
-use Rattle.mintc_hierarchy.specs.Sources.{source_of}
+use Rattle.mintc_targets.specs.Homes.{source_in}
 use Rattle.mintc_hierarchy.specs.Faults.{is_second_driver}
 use Rattle.mintc_faults.proofs.ItemLaws.{item-found, items-none, item-passed, own-passed}
 use Rattle.mintc_faults.proofs.DriveLaws.{item_driven, items_more}
@@ -7,8 +7,8 @@ use Rattle.mintc_faults.proofs.drivers.first_driving.Goals as goal
 
 pub returns-then-branch : goal.returns-then-branch
 returns-then-branch c =
-    let s = source_of c.args.cells.now c.args.modules.now in
-    let m = c.args.home.now in
+    let s = source_in c.args.source.now in
+    let m = c.args.home.now.part.now in
     let is = c.items-items.result.now in
     let n = c.loop-number.number in
     let i = c.index-items-number.result in
@@ -18,8 +18,8 @@ returns-then-branch c =
 
 pub loop-number-preserved : goal.loop-number-preserved
 loop-number-preserved c =
-    let s = source_of c.args.cells.now c.args.modules.now in
-    let m = c.args.home.now in
+    let s = source_in c.args.source.now in
+    let m = c.args.home.now.part.now in
     let is = c.items-items.result.now in
     let n = c.loop-number.number in
     let i = c.index-items-number.result in
@@ -31,5 +31,5 @@ loop-number-preserved c =
 
 pub returns : goal.returns
 returns c =
-    let s = source_of c.args.cells.now c.args.modules.now in
-    own-passed (is_second_driver s) c.args.home.now None refl (items-none (is_second_driver s) c.args.home.now c.items-items.result.now c.loop-number.number c.loop-number-test.false c.items-items.ensures c.loop-number.invariant.left)
+    let s = source_in c.args.source.now in
+    own-passed (is_second_driver s) c.args.home.now.part.now None refl (items-none (is_second_driver s) c.args.home.now.part.now c.items-items.result.now c.loop-number.number c.loop-number-test.false c.items-items.ensures c.loop-number.invariant.left)

@@ -1,7 +1,7 @@
 use Rattle.std.proofs.Common.{◌≡◌, ◌++◌, [], take, drop}
 use Rattle.std.specs.List.{flat_map}
 use Rattle.mintc_netlist.specs.Connections.{driven_first}
-use Rattle.mintc_hierarchy.specs.Sources.{source_of}
+use Rattle.mintc_targets.specs.Homes.{source_in}
 use Rattle.mintc_hierarchy.specs.Faults.{drives_in, is_second_driver}
 use Rattle.mintc_faults.specs.Firsts.{first_after}
 use Rattle.mintc_faults.specs.Driving.{HasSame}
@@ -9,8 +9,8 @@ use Rattle.mintc_faults.proofs.drivers.first_driving.Given as goal
 
 -- the items so far drive what is driven, and what is left has the first at fault
 abbrev pub invariant-loop-number : goal.invariant-loop-number
-invariant-loop-number l = let s = source_of l.cells l.modules in
+invariant-loop-number l = let s = source_in l.source in
     record {
-      driven : HasSame l.driven (driven_first l.home ++ flat_map (drives_in s l.home) (take l.number l.items));
-      left : first_after (is_second_driver s) l.home (take l.number l.items) (drop l.number l.items) ≡ first_after (is_second_driver s) l.home [] l.items;
+      driven : HasSame l.driven (driven_first l.home.part.now ++ flat_map (drives_in s l.home.part.now) (take l.number l.items));
+      left : first_after (is_second_driver s) l.home.part.now (take l.number l.items) (drop l.number l.items) ≡ first_after (is_second_driver s) l.home.part.now [] l.items;
     }

@@ -1,5 +1,5 @@
 use Rattle.std.proofs.Common.{◌≡◌, [], take, drop}
-use Rattle.mintc_hierarchy.specs.Sources.{source_of}
+use Rattle.mintc_targets.specs.Homes.{source_in}
 use Rattle.mintc_hierarchy.specs.Faults.{is_misfit}
 use Rattle.mintc_faults.specs.Firsts.{first_after}
 use Rattle.mintc_faults.specs.Widths.{IsDeclaredBy}
@@ -7,7 +7,7 @@ use Rattle.mintc_faults.proofs.widths.first_misfit.Given as goal
 
 -- what the items so far declare is kept, and what is left has the first at fault
 abbrev pub invariant-loop-number : goal.invariant-loop-number
-invariant-loop-number l = let test = is_misfit (source_of l.cells l.modules) in record {
+invariant-loop-number l = let test = is_misfit (source_in l.source) in record {
   declared : IsDeclaredBy l.declared (take l.number l.items);
-  left : first_after test l.home (take l.number l.items) (drop l.number l.items) ≡ first_after test l.home [] l.items;
+  left : first_after test l.home.part.now (take l.number l.items) (drop l.number l.items) ≡ first_after test l.home.part.now [] l.items;
 }

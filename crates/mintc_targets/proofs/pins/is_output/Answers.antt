@@ -1,12 +1,12 @@
 use Rattle.std.proofs.Common.{sym, ap, ◌∙◌}
 use Rattle.mintc_netlist.specs.Connections.{Pin}
-use Rattle.mintc_hierarchy.specs.Sources.{source_of}
+use Rattle.mintc_targets.specs.Homes.{source_in}
 use Rattle.mintc_targets.proofs.PinLaws.{inside-cell, pin-cell}
 use Rattle.mintc_targets.proofs.pins.is_output.Goals as goal
 
 pub is_output-requires-clause-pin : goal.is_output-requires-clause-pin
-is_output-requires-clause-pin c = inside-cell (source_of c.args.cells.now c.args.modules.now) c.args.target c.in-OfCell.cell c.args.number c.in-OfCell.is c.requires.pin
+is_output-requires-clause-pin c = inside-cell (source_in c.args.source.now) c.args.target c.in-OfCell.cell c.args.number c.in-OfCell.is c.requires.pin
 
 pub returns-in-OfCell : goal.returns-in-OfCell
 returns-in-OfCell c =
-    c.is_output.ensures ∙ sym (ap (λ (p : Pin). p.output) (pin-cell (source_of c.args.cells.now c.args.modules.now) c.args.target c.in-OfCell.cell c.args.number c.in-OfCell.is c.requires.pin))
+    c.is_output.ensures ∙ sym (ap (λ (p : Pin). p.output) (pin-cell (source_in c.args.source.now) c.args.target c.in-OfCell.cell c.args.number c.in-OfCell.is c.requires.pin))

@@ -1,5 +1,5 @@
 use Rattle.std.proofs.Common.{ℕ, List, IfOk, subst}
-use Rattle.mintc_hierarchy.specs.Sources.{source_of}
+use Rattle.mintc_targets.specs.Homes.{source_in}
 use Rattle.mintc_faults.specs.Driving.{Drives}
 use Rattle.mintc_faults.proofs.DriveLaws.{item_drives}
 use Rattle.mintc_faults.proofs.drivers.Driven.drive_item.Goals as goal
@@ -7,6 +7,6 @@ use Rattle.mintc_faults.proofs.drivers.Driven.drive_item.Goals as goal
 pub returns-in-Instance : goal.returns-in-Instance
 returns-in-Instance c =
     subst (λ (places : List ℕ). IfOk c.drive_instance.result (λ again. Drives c.args.self.now c.drive_instance.new.self places again))
-    (item_drives (source_of c.args.cells.now c.args.modules.now) c.args.home.now c.args.item.now c.args.target c.in-Instance.entry c.in-Instance.cell c.in-Instance.name c.in-Instance.by_name
+    (item_drives (source_in c.args.source.now) c.args.home.now.part.now c.args.item.now c.args.target c.in-Instance.entry c.in-Instance.cell c.in-Instance.name c.in-Instance.by_name
     c.in-Instance.connections c.in-Instance.is c.requires.target)
     c.drive_instance.ensures

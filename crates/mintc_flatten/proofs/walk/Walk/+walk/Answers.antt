@@ -1,7 +1,7 @@
-use Rattle.std.proofs.Common.{◌≡◌, ◌+◌, ◌∷◌, List, drop, sym, ap, ◌∙◌}
+use Rattle.std.proofs.Common.{◌≡◌, ◌+◌, ◌∷◌, List, drop, get_or, sym, ap, ◌∙◌}
 use Rattle.std.proofs.lemmas.List.{drop_more}
 use Rattle.mintc_netlist.specs.declared.module.Item.{Item}
-use Rattle.mintc_hierarchy.specs.Sources.{source_of}
+use Rattle.mintc_targets.specs.Homes.{source_in}
 use Rattle.mintc_hierarchy.specs.Walks.{place_at, steps_from, inside}
 use Rattle.mintc_flatten.specs.Growing.{Lists, sizes, grown_all}
 use Rattle.mintc_flatten.proofs.GrowingLaws.{grown-turn}
@@ -9,8 +9,8 @@ use Rattle.mintc_flatten.proofs.walk.Walk.+walk.Goals as goal
 
 pub enter-loop-at-preserved : goal.enter-loop-at-preserved
 enter-loop-at-preserved t c =
-    let s = source_of c.args.cells.now c.args.modules.now in
-    let place = place_at c.index-modules-number.result c.args.scope c.args.first in
+    let s = source_in c.args.plan.now.source in
+    let place = place_at (get_or s.modules c.args.number c.index-plan-number.result) c.args.scope c.args.first in
     let items = c.items-items.result.now in
     let at = c.loop-at.at in
     let i = c.index-items-at.result in

@@ -1,6 +1,7 @@
 use Rattle.std.proofs.Common.{◌≡◌, ◌+◌, ◌*◌, drop}
-use Rattle.mintc_hierarchy.specs.Sources.{source_of}
-use Rattle.mintc_hierarchy.specs.Walks.{place_at, steps_from, inside}
+use Rattle.mintc_targets.specs.Homes.{source_in}
+use Rattle.mintc_flatten.specs.Places.{place_in}
+use Rattle.mintc_hierarchy.specs.Walks.{steps_from, inside}
 use Rattle.mintc_flatten.specs.Growing.{sizes, grown_all}
 use Rattle.mintc_flatten.proofs.walk.Walk.+walk.Given as goal
 
@@ -12,5 +13,5 @@ decreases-visit l = 2 * l.deep
 
 -- what is left grows the lists to the same
 abbrev pub invariant-enter-loop-at : goal.invariant-enter-loop-at
-invariant-enter-loop-at l = let s = source_of l.cells l.modules in let place = place_at l.home l.scope l.first in
+invariant-enter-loop-at l = let s = source_in l.plan.source in let place = place_in l.place in
     grown_all s l.self (steps_from s (inside s l.deep) place (sizes l.self) (drop l.at l.items)) ≡ grown_all s l.initial.self (steps_from s (inside s l.deep) place (sizes l.initial.self) l.items)

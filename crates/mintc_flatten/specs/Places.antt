@@ -1,0 +1,6 @@
+-- A scope in which the walk stands, as the code has it.
+use Rattle.mintc_hierarchy.specs.Walks.{Place, place_at}
+use Rattle.mintc_flatten.specs.declared.walk.Place as scope
+
+abbrev pub place_in : scope.Place → Place
+place_in p = place_at p.home.part.now p.scope p.first
