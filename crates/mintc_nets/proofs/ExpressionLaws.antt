@@ -1,5 +1,5 @@
 -- The bits of expressions, piece by piece.
-use Rattle.std.proofs.Common.{◌≡◌, ℕ, zero, suc, ◌+◌, ◌*◌, ◌<◌, ◌≤◌, ◌^◌, List, [], ◌∷◌, ◌++◌, map, take, drop, length, get_or, reverse, replicate, Option, Some, None, refl, sym, ap, ◌∙◌, arith, length-append, append_assoc}
+use Rattle.std.proofs.Common.{◌≡◌, ℕ, zero, suc, ◌+◌, ◌<◌, List, [], ◌∷◌, ◌++◌, map, take, length, get_or, reverse, replicate, Option, Some, None, refl, sym, ap, ◌∙◌, arith, length-append, append_assoc}
 use Rattle.std.specs.List.{flat_map}
 use Rattle.std.specs.Option.{option_map}
 use Rattle.std.proofs.lemmas.List.{append-nil, take_more, map-append}
@@ -8,8 +8,8 @@ use mathlib.Core.List.{reverse-cons}
 use Rattle.std.proofs.lemmas.Simd.{map-map}
 use Rattle.mintc_netlist.specs.declared.expression.Piece.{Piece}
 use Rattle.mintc_netlist.specs.declared.module.Module.{Module}
-use Rattle.mintc_netlist.specs.Nets.{Bit, bit_of, bits_of, indexes, place_of}
-use Rattle.mintc_netlist.specs.Expressions.{piece_bits, expression_bits, width_of}
+use Rattle.mintc_netlist.specs.Nets.{Bit, bit_of, place_of}
+use Rattle.mintc_netlist.specs.Expressions.{piece_bits, width_of}
 use Rattle.mintc_nets.specs.Tables.{bit_place, part_place}
 
 -- how many bits some pieces have, in whatever order

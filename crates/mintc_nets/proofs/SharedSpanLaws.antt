@@ -1,19 +1,16 @@
 -- The bits of a range, counted and placed.
-use Rattle.std.proofs.Common.{◌≡◌, ◌≢◌, get_or, ℕ, suc, zero, ◌+◌, ◌-◌, ◌<◌, ◌≤◌, Bool, true, false, not, ◌&&◌, ◌||◌, cond, nat_le, nat_eq, List, [], ◌∷◌, ◌++◌, map, length, reverse, Option, Some, None, bytes_eq, min, max, refl, sym, ap, ◌∙◌, arith, if◌then◌else◌, IfSome}
+use Rattle.std.proofs.Common.{◌≡◌, ◌≢◌, get_or, ℕ, suc, zero, ◌+◌, ◌-◌, ◌<◌, ◌≤◌, Bool, true, false, not, ◌&&◌, ◌||◌, cond, nat_le, nat_eq, List, [], ◌∷◌, ◌++◌, length, reverse, Option, Some, None, min, max, refl, sym, ap, ◌∙◌, arith, if◌then◌else◌, IfSome}
 use Rattle.std.specs.List.{range_with_len, list_any, position_or_len}
-use Rattle.std.specs.Option.{option_eq}
 use Rattle.std.proofs.lemmas.Bool.Decides.{nat_tests}
 use Rattle.std.proofs.lemmas.List.{length-reverse, length-map, get_or-reverse}
 use Rattle.std.proofs.lemmas.List.FromFn.{length-range_with_len, get_or-range_with_len}
 use Rattle.std.proofs.lemmas.List.Folds.{position_or_len_push, list_any-append}
-use Rattle.std.proofs.lemmas.Slice.Eq.{bytes_eq-Decides}
 use Rattle.std.specs.Int.{abs_diff}
 use mathlib.Core.List.{reverse-cons}
 use Rattle.mintc_netlist.specs.declared.expression.Span.{Span}
-use Rattle.mintc_netlist.specs.Nets.{Bit, bit_of, is_bit, bits_of, indexes}
+use Rattle.mintc_netlist.specs.Nets.{bit_of, bits_of, indexes}
 use Rattle.mintc_netlist.specs.Expressions.{is_inside}
 use Rattle.mintc_nets.specs.Tables.{bit_count, offset_of}
-use Rattle.mintc_nets.proofs.SharedPlaceLaws.{none_in}
 
 -- how many indexes a range has
 count_by : (a b : ℕ) (t : Bool) → nat_le b a ≡ t → length (if t then range_with_len b (a - b + 1) else reverse (range_with_len a (b - a + 1))) ≡ abs_diff a b + 1

@@ -1,7 +1,6 @@
 -- The table of a module's nets: what is taken in net by net, and where a bit stands.
 use Rattle.std.proofs.Common.{◌≡◌, ℕ, zero, suc, ◌+◌, ◌<◌, ◌≤◌, List, [], ◌∷◌, ◌++◌, map, take, drop, length, get_or, Bool, true, false, not, ◌&&◌, ◌||◌, cond, nat_eq, nat_lt, Option, Some, None, bytes_eq, position, refl, sym, ap, ◌∙◌, subst, arith, zero-add, add_assoc, length-append, append_assoc, IfSome}
-use Rattle.std.specs.List.{list_any, flat_map, position_or_len, range_with_len}
-use Rattle.std.specs.Option.{option_eq}
+use Rattle.std.specs.List.{list_any, flat_map, position_or_len}
 use Rattle.std.specs.Int.{abs_diff}
 use Rattle.std.proofs.lemmas.Bool.Decides.{nat_tests}
 use Rattle.std.proofs.lemmas.List.{append-nil, drop_more, take_more, drop_all, take_all}
@@ -10,9 +9,9 @@ use Rattle.std.proofs.lemmas.List.Folds.{list_any-append}
 use Rattle.std.proofs.lemmas.Slice.Eq.{bytes_eq-Decides}
 use Rattle.mintc_netlist.specs.declared.expression.Span.{Span}
 use Rattle.mintc_netlist.specs.declared.module.Module.{Module}
-use Rattle.mintc_netlist.specs.Nets.{Bit, bit_of, is_bit, bits_of, indexes, range_of, names_of, nets_of, place_of}
+use Rattle.mintc_netlist.specs.Nets.{bit_of, is_bit, bits_of, indexes, range_of, names_of, nets_of, place_of}
 use Rattle.mintc_netlist.specs.Expressions.{is_inside}
-use Rattle.mintc_nets.specs.Tables.{bit_count, offset_of, firsts_from, NetTable, table_of}
+use Rattle.mintc_nets.specs.Tables.{bit_count, offset_of, firsts_from}
 use Rattle.mintc_nets.proofs.SharedIndexLaws.{any_below}
 use Rattle.mintc_nets.proofs.SharedPlaceLaws.{none_in, bits_in, place_within, place_of-is, apart_bits}
 use Rattle.mintc_nets.proofs.SharedSpanLaws.{bits_count, index_place, index_absent, offset_below}

@@ -1,5 +1,5 @@
 -- What names are declared as: a name with its range and direction, the first declaration of a name counting.
-use Rattle.std.specs.Prelude.{ℕ, Bool, false, is_some, cond, Option, None, Some, List, [], ◌∷◌, ◌++◌, map, bytes_eq}
+use Rattle.std.specs.Prelude.{ℕ, Bool, false, is_some, cond, Option, List, [], ◌∷◌, ◌++◌, map, bytes_eq}
 use Rattle.std.specs.Map.{lookup}
 use Rattle.mintc_netlist.specs.declared.expression.Span.{Span}
 use Rattle.mintc_netlist.specs.declared.module.Item.{Item}

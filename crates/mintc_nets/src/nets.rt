@@ -4,9 +4,9 @@ ghost use Rattle.mintc_netlist.specs.Nets.{bit_of, bits_of, indexes, range_of, n
 ghost use Rattle.mintc_nets.specs.Tables.{table_of, declared_ports, declared_nets, bit_place, part_place};
 
 use crate::declared::Declarations;
-use mintc_names::NameSet;
 use crate::net_names::net_set;
 use crate::spans::{bits, index_at, offset};
+use mintc_names::NameSet;
 use mintc_netlist::{Module, Span};
 use mintc_text::OutOfMemory;
 use std::alloc::Global;

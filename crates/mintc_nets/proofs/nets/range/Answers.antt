@@ -1,4 +1,4 @@
-use Rattle.std.proofs.Common.{◌≡◌, sym, ◌∙◌, ap, Some, None}
+use Rattle.std.proofs.Common.{sym, ◌∙◌, ap, Some, None}
 use Rattle.mintc_nets.specs.Declaring.{look}
 use Rattle.mintc_nets.proofs.SharedLookLaws.{range-port, range-net}
 use Rattle.mintc_nets.proofs.nets.range.Goals as goal

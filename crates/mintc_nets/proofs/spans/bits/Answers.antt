@@ -1,5 +1,4 @@
-use Rattle.std.proofs.Common.{◌≡◌, ◌+◌, ℕ, sym, ◌∙◌, ap}
-use Rattle.mintc_netlist.specs.declared.expression.Span.{Span}
+use Rattle.std.proofs.Common.{◌+◌, ℕ, sym, ◌∙◌, ap}
 use Rattle.mintc_nets.specs.Tables.{bit_count}
 use Rattle.mintc_nets.proofs.SharedSpanLaws.{index_count}
 use Rattle.mintc_nets.proofs.spans.bits.Goals as goal

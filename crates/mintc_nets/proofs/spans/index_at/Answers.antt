@@ -1,4 +1,4 @@
-use Rattle.std.proofs.Common.{◌≡◌, ◌+◌, ◌<◌, ◌≤◌, ◌-◌, length, ℕ, arith, rules, sym, nat_le, true, false}
+use Rattle.std.proofs.Common.{◌≡◌, ◌+◌, ◌<◌, ◌≤◌, ◌-◌, length, ℕ, arith, rules, nat_le, true, false}
 use Rattle.std.proofs.lemmas.Bool.Decides.{nat_tests}
 use Rattle.mintc_netlist.specs.Nets.{indexes}
 use Rattle.mintc_nets.proofs.SharedSpanLaws.{index_up, index_down, index_count}

@@ -1,6 +1,5 @@
-use Rattle.std.proofs.Common.{◌≡◌, ◌<◌, ℕ, Some, sym, ◌∙◌, subst, arith}
+use Rattle.std.proofs.Common.{◌≡◌, ◌<◌, Some, sym, ◌∙◌, subst, arith}
 use Rattle.std.specs.Int.{abs_diff}
-use Rattle.mintc_netlist.specs.Expressions.{is_inside}
 use Rattle.mintc_nets.specs.Tables.{bit_count}
 use Rattle.mintc_nets.proofs.SharedSpanLaws.{near_by, index_count}
 use Rattle.mintc_nets.proofs.spans.offset.Goals as goal

@@ -1,4 +1,4 @@
-use Rattle.std.proofs.Common.{◌≡◌, ◌+◌, ◌++◌, ◌∷◌, [], ◌<◌, ℕ, List, sym, ◌∙◌, ap, subst, rules, length, get_or, drop, arith}
+use Rattle.std.proofs.Common.{◌≡◌, ◌+◌, ◌++◌, [], ◌<◌, ℕ, List, ◌∙◌, ap, subst, rules, length, get_or, drop}
 use Rattle.mintc_netlist.specs.Nets.{names_of, range_of}
 use Rattle.mintc_nets.specs.Tables.{bit_count, firsts_from}
 use Rattle.mintc_nets.proofs.SharedTableLaws.{count_step, firsts_step}

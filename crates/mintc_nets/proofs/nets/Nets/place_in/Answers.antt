@@ -1,4 +1,4 @@
-use Rattle.std.proofs.Common.{◌≡◌, ◌+◌, ◌<◌, ℕ, List, sym, ◌∙◌, ap, subst, arith, rules, position, bytes_eq, Some, None, length, get_or}
+use Rattle.std.proofs.Common.{◌≡◌, ◌+◌, ◌<◌, ℕ, sym, ◌∙◌, ap, subst, arith, rules, position, bytes_eq, Some, length, get_or}
 use Rattle.mintc_netlist.specs.Nets.{names_of, nets_of, range_of}
 use Rattle.mintc_nets.specs.Tables.{NetTable, firsts_from, offset_of}
 use Rattle.mintc_nets.proofs.SharedTableLaws.{firsts_count, found_place, place-bit, place-no_bit, place-no_net, place-within}

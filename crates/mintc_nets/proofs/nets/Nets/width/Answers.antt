@@ -1,4 +1,4 @@
-use Rattle.std.proofs.Common.{◌≡◌, ◌+◌, ◌≤◌, ℕ, length, arith, rules, sym, ◌∙◌, ap}
+use Rattle.std.proofs.Common.{◌+◌, ◌≤◌, arith, rules, sym, ◌∙◌, ap}
 use Rattle.std.proofs.lemmas.List.{take_all}
 use Rattle.mintc_nets.proofs.ExpressionLaws.{width_in, width_turned}
 use Rattle.mintc_nets.proofs.nets.Nets.width.Goals as goal
