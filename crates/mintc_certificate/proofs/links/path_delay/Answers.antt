@@ -3,7 +3,7 @@ use Rattle.std.proofs.lemmas.Int.{ints}
 use Rattle.mintc_timing.specs.Design.{no_arc}
 use Rattle.mintc_timing.specs.Limits.{IsDelay}
 use Rattle.mintc_timing.specs.Paths.{arc_at}
-use Rattle.mintc_certificate.proofs.SharedPathDelays.{delay-more, delay-all}
+use Rattle.mintc_certificate.proofs.SharedPathDelays.{delay-more}
 use Rattle.mintc_certificate.proofs.links.path_delay.Goals as goal
 
 fits : (old part : ℤ) (i : ℕ) → pos 0 ≤ℤ old → old ≤ℤ pos (i * 1000000000) → i < 1000000000 → IsDelay part → SFits w64 (old +ℤ to_z w64 (of_z w64 part))
@@ -12,13 +12,6 @@ fits old part i low high few h = let h0 = h.0 in let h1 = h.1 in omega (arith, i
 read : (old part : ℤ) (i : ℕ) → pos 0 ≤ℤ old → old ≤ℤ pos (i * 1000000000) → i < 1000000000 → IsDelay part →
     record { is : to_z w64 (of_z w64 (old +ℤ to_z w64 (of_z w64 part))) ≡ old +ℤ part; low : pos 0 ≤ℤ (old +ℤ part); high : (old +ℤ part) ≤ℤ pos ((i + 1) * 1000000000) }
 read old part i low high few h = let h0 = h.0 in let h1 = h.1 in record { is = omega (arith, ints); low = omega (arith, ints); high = omega (arith, ints) }
-
-pub overflow_add-delay : goal.overflow_add-delay
-overflow_add-delay c =
-    let test = c.loop-number-test.true in
-    let few = c.requires.few in
-    let inside = c.requires.path c.loop-number.number-index 0 test in
-    fits _ _ c.loop-number.number-index c.loop-number.invariant.low c.loop-number.invariant.high (omega arith) (c.requires.arcs (get_or c.args.path.now c.loop-number.number-index 0) no_arc inside)
 
 pub loop-number-preserved : goal.loop-number-preserved
 loop-number-preserved c =
@@ -31,6 +24,3 @@ loop-number-preserved c =
       low = rw sum.is sum.low;
       high = rw sum.is sum.high;
     }
-
-pub returns : goal.returns
-returns c = c.loop-number.invariant.is ∙ delay-all c.args.arcs.now c.args.path.now c.loop-number.number-index c.loop-number-test.false

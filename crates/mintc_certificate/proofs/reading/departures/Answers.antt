@@ -4,7 +4,7 @@ use Rattle.mintc_timing.proofs.SharedFitting.{read_time}
 use Rattle.mintc_certificate.specs.declared.version.Version.{Version}
 use Rattle.mintc_certificate.specs.CertificateText.{departure, least_departure}
 use Rattle.mintc_certificate.proofs.CertificateReading.{departure_states, IsDepartureLine, IsTime-departure, least_fits, At}
-use Rattle.mintc_lines.proofs.SharedReadingLaws.{at_fault, at_more, list_none, list_more, list_fault, list_all}
+use Rattle.mintc_lines.proofs.SharedReadingLaws.{at_fault, at_more, list_more, list_fault, list_all}
 use Rattle.mintc_certificate.proofs.reading.departures.Goals as goal
 
 fits_as : (x : ℤ) (v : Version) → x ≡ least_departure v → SFits w64 x
@@ -21,9 +21,6 @@ returns-in_default-number_line c = λ text s at.
     let none = rw (to_z-of_z w64 c.least_departure-least.result (fits_as c.least_departure-least.result c.args.version low), low) at c.in_default-number_line.ensures.read in
     list_fault (departure_states c.args.version s) (IsDepartureLine c.args.version) text c.loop-departure.reader c.number_line.new.self.number c.loop-departure.found.items c.loop-departure._departure c.in-Some.count
     (c.loop-departure.invariant text s begun) (omega arith) none c.in_default-number_line.ensures.counted (λ left all e. e) (λ left all line after step. (step.0, step.1))
-
-pub loop-departure-init : goal.loop-departure-init
-loop-departure-init c = λ text s at. list_none (departure_states c.args.version s) text c.count_line.new.self c.new-found.result.items c.in-Some.count at c.new-found.ensures.items
 
 pub loop-departure-preserved : goal.loop-departure-preserved
 loop-departure-preserved c = λ text s at.

@@ -1,6 +1,6 @@
 use Rattle.std.proofs.Common.{List, arith, subst, sym}
 use Rattle.std.proofs.lemmas.Result.{err_from_is_err_and}
-use Rattle.mintc_lines.proofs.SharedReadingLaws.{list_none, list_more, list_all, at_halt}
+use Rattle.mintc_lines.proofs.SharedReadingLaws.{list_more, list_all, at_halt}
 use Rattle.mintc_certificate.specs.declared.members.Member.{Member}
 use Rattle.mintc_certificate.specs.CertificateReading.{with_chain}
 use Rattle.mintc_certificate.specs.CertificateText.{IsMemberLine, link}
@@ -17,9 +17,6 @@ returns-in_err-member c = λ text d at.
     at_halt c.from_residual.result c.in_err-member.field-0.0 _ _ (err_from_is_err_and c.from_residual.result c.from_residual.ensures.1)
     (list_halts (member_states c.args.version d) (IsMemberLine c.args.version) text c.loop-member.reader c.member_line.new.reader.number c.loop-member.found.items c.loop-member._member c.in-Some.count c.in_err-member.field-0.0
     (c.loop-member.invariant text d begun) (omega arith) c.in_err-member.ensures.read c.in_err-member.ensures.counted (λ left all e. e) (λ left all line after step. (step.0, step.1)))
-
-pub loop-member-init : goal.loop-member-init
-loop-member-init c = λ text d at. list_none (member_states c.args.version d) text c.count_line.new.self c.new-found.result.items c.in-Some.count at c.new-found.ensures.items
 
 pub loop-member-preserved : goal.loop-member-preserved
 loop-member-preserved c = λ text d at.
