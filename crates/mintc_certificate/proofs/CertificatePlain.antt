@@ -13,7 +13,7 @@ use Rattle.mintc_certificate.specs.declared.version.Version.TheVariants.{First, 
 use Rattle.mintc_certificate.specs.CertificateText.{NextOfCertificate, IsDeparturesLine, IsWholeCertificate, CertificateLines, first, outcome, scheduled, departure, never, link, whole, least_departure, IsOutcomeLine, IsChainLine, IsMemberLine}
 use Rattle.mintc_certificate.specs.TextLaws.{HaveOneCertificate, HaveNoCertificateFault, HaveOneCertificateFault}
 use Rattle.mintc_certificate.proofs.CertificateReading.{IsDepartureLine, plain-outcome_line}
-use Rattle.mintc_certificate.proofs.MemberLaws.{plain-member_line, member_one}
+use Rattle.mintc_certificate.proofs.MemberLaws.{plain_member_line, member_one}
 
 -- ---- each line has one value, and no line feed
 
@@ -47,7 +47,7 @@ pub chain_form : IsForm IsChainLine
 chain_form = count_form (codes "chain") 1 MOST_MEMBERS refl (omega arith)
 
 pub member_form : (v : Version) → IsForm (IsMemberLine v)
-member_form v = record { plain = plain-member_line v; one = member_one v; words = λ m ws xs h g. h.spelled ∙ sym g.spelled }
+member_form v = record { plain = plain_member_line v; one = member_one v; words = λ m ws xs h g. h.spelled ∙ sym g.spelled }
 
 pub end_form : IsForm (IsWordLine (codes "end"))
 end_form = word_form (codes "end") refl
