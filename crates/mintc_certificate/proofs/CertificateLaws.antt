@@ -1,5 +1,6 @@
 -- What is read as a certificate is in range.
 use Rattle.std.proofs.Common.{ℕ, zero, suc, ℤ, ◌≤◌, ◌≤ℤ◌, ◌+◌, true, false, Bool, if◌then◌else◌, List, [], ◌∷◌, ◌++◌, length, length-append, All, sym, subst, arith}
+use Rattle.std.proofs.lemmas.Grind.{common_steps}
 use Rattle.std.proofs.lemmas.Int.{ints}
 use Rattle.std.proofs.lemmas.List.Elements.{All-push, All-nil}
 use Rattle.mintc_text.specs.declared.limits.TheConstants.{MOST_NUMERATOR, MOST_MEMBERS, MOST_COUNT}
@@ -14,6 +15,7 @@ use Rattle.mintc_certificate.specs.declared.members.Member.{Member}
 use Rattle.mintc_certificate.specs.declared.version.Version.{Version}
 use Rattle.mintc_certificate.specs.declared.version.Version.TheVariants.{First, Second}
 use Rattle.mintc_certificate.specs.CertificateText.{NextOfCertificate, IsDeparturesLine, IsCertificateText, CertificateLines, first, outcome, scheduled, departure, never, link, whole, least_departure, IsCounted}
+use Rattle.mintc_certificate.proofs.CertificateReading.{least_is}
 use Rattle.mintc_certificate.specs.Ranges.{IsDeparture, IsChainInRange, IsCertificateInRange}
 
 -- what is kept of departures while their lines come
@@ -41,29 +43,17 @@ Keeps (never v) = Unit {0}
 Keeps (link v left c) = Links left c
 Keeps (whole c) = IsCertificateInRange c
 
-IsDeparture-from : (v : Version) (d : ℤ) → least_departure v ≤ℤ d → d ≤ℤ MOST_NUMERATOR → IsDeparture d
-IsDeparture-from First d low high = (omega (arith, ints), omega (arith, ints))
-IsDeparture-from Second d low high = (omega (arith, ints), omega (arith, ints))
-
 departures_begun : (v : Version) (s : Schedule) (line : List ℕ) (b : CertificateLines) → IsDeparturesLine v s line b → IsInRange s → Keeps b
 departures_begun v s line b h k = subst Keeps (sym h.2) (let n = h.1.1 in record { schedule_in = k; each = All-nil IsDeparture; count = omega (arith, n.1) })
 
 departure_kept : (left : ℕ) (s : Schedule) (ds : List ℤ) (d : ℤ) → AreSoFar (suc left) s ds → IsDeparture d → AreSoFar left s (ds ++ d ∷ [])
-departure_kept left s ds d k h = record {
-  schedule_in = k.schedule_in;
-  each = All-push IsDeparture ds d k.each h;
-  count = omega (arith, k.count, length-append ds (d ∷ []));
-}
+departure_kept left s ds d k h = grind (arith, common_steps, All-push)
 
 chain_begun : (n : ℕ) → 1 ≤ n → n ≤ MOST_MEMBERS → IsChaining n []
 chain_begun n some most = record { some = omega arith; most = omega arith; each = All-nil IsCounted }
 
 chain_kept : (left : ℕ) (ms : List Member) (m : Member) → IsChaining (suc left) ms → IsCounted m → IsChaining left (ms ++ m ∷ [])
-chain_kept left ms m k h = record {
-  some = omega (arith, k.some, length-append ms (m ∷ []));
-  most = omega (arith, k.most, length-append ms (m ∷ []));
-  each = All-push IsCounted ms m k.each h;
-}
+chain_kept left ms m k h = grind (arith, common_steps, All-push)
 
 chain_whole : (ms : List Member) → IsChaining 0 ms → IsChainInRange ms
 chain_whole ms k = record { some = omega (arith, k.some); most = omega (arith, k.most); each = k.each }
@@ -77,14 +67,13 @@ links_end (Least s ds ms) k = record { schedule_in = k.0.schedule_in; count = om
 links_end (Never ms) k = chain_whole ms k
 
 outcome_next : (v : Version) (b : Bool) → Keeps (if b then scheduled v den else never v)
-outcome_next v true = tt
-outcome_next v false = tt
+outcome_next v b = grind arith
 
 keeps_next : (a : CertificateLines) (line : List ℕ) (b : CertificateLines) → NextOfCertificate a line b → Keeps a → Keeps b
 keeps_next first line b h k = subst Keeps (sym h.2) tt
 keeps_next (outcome v) line b h k = subst Keeps (sym h.2) (outcome_next v h.0)
 keeps_next (scheduled v lines) line b h k = schedule_keeps (scheduled v) (IsDeparturesLine v) Keeps (λ l k. k) (departures_begun v) lines line b h k
-keeps_next (departure v (suc left) s ds) line b h k = subst Keeps (sym h.2) (departure_kept left s ds h.0 k (IsDeparture-from v h.0 h.1.1.0.0 h.1.1.0.1))
+keeps_next (departure v (suc left) s ds) line b h k = subst Keeps (sym h.2) (departure_kept left s ds h.0 k (omega (arith, ints, h.1.1.0.0, least_is v), h.1.1.0.1))
 keeps_next (departure v zero s ds) line b h k = subst Keeps (sym h.2) (k, chain_begun h.0 h.1.1.0 h.1.1.1)
 keeps_next (never v) line b h k = subst Keeps (sym h.2) (chain_begun h.0 h.1.1.0 h.1.1.1)
 keeps_next (link v (suc left) c) line b h k = links_next v left c line b h k

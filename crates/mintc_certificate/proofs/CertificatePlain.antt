@@ -12,33 +12,20 @@ use Rattle.mintc_certificate.specs.declared.version.Version.{Version}
 use Rattle.mintc_certificate.specs.declared.version.Version.TheVariants.{First, Second}
 use Rattle.mintc_certificate.specs.CertificateText.{NextOfCertificate, IsDeparturesLine, IsWholeCertificate, CertificateLines, first, outcome, scheduled, departure, never, link, whole, least_departure, IsOutcomeLine, IsChainLine, IsMemberLine}
 use Rattle.mintc_certificate.specs.TextLaws.{HaveOneCertificate, HaveNoCertificateFault, HaveOneCertificateFault}
-use Rattle.mintc_certificate.proofs.CertificateReading.{IsDepartureLine, plain-outcome_line}
+use Rattle.mintc_certificate.proofs.CertificateReading.{IsDepartureLine, least_is, plain-outcome_line}
 use Rattle.mintc_certificate.proofs.MemberLaws.{plain_member_line, member_one}
 
 -- ---- each line has one value, and no line feed
 
--- the first byte of a line's words, 0 where there is none
-abbrev first_byte : List (List ℕ) → ℕ
-first_byte [] = 0
-first_byte ([] ∷ ws) = 0
-first_byte ((b ∷ bs) ∷ ws) = b
-
 outcome_one : (b c : Bool) (ws : List (List ℕ)) → IsOutcomeLine b ws → IsOutcomeLine c ws → b ≡ c
-outcome_one true true ws h g = refl
-outcome_one false false ws h g = refl
-outcome_one true false ws h g = absurd (omega (arith, ap first_byte (sym h ∙ g)))
-outcome_one false true ws h g = absurd (omega (arith, ap first_byte (sym h ∙ g)))
-
-least_short : (v : Version) → negsuc 999999999999999998 ≤ℤ least_departure v
-least_short First = omega (arith, ints)
-least_short Second = omega (arith, ints)
+outcome_one b c ws h g = grind arith
 
 -- the forms of a certificate's lines
 pub outcome_form : IsForm IsOutcomeLine
 outcome_form = record { plain = plain-outcome_line; one = outcome_one; words = λ b ws xs h g. h ∙ sym g }
 
 pub departure_form : (v : Version) → IsForm (IsDepartureLine v)
-departure_form v = number_form (codes "departure") (least_departure v) MOST_NUMERATOR refl (least_short v) (omega (arith, ints))
+departure_form v = number_form (codes "departure") (least_departure v) MOST_NUMERATOR refl (omega (arith, ints, least_is v)) (omega (arith, ints))
 
 pub departures_form : IsForm (IsCountLine (codes "departures") 0 MOST_COUNT)
 departures_form = count_form (codes "departures") 0 MOST_COUNT refl (omega arith)
@@ -58,8 +45,7 @@ Begun first = ⊥
 Begun lines = Unit {0}
 
 begun_outcome : (v : Version) (x : Bool) → Begun (if x then scheduled v den else never v)
-begun_outcome v true = tt
-begun_outcome v false = tt
+begun_outcome v x = grind arith
 
 pub certificate_step : (a : CertificateLines) → IsPlainStep (NextOfCertificate a) Begun
 certificate_step first = plain_step (count_form (codes "certificate") 1 2 refl (omega arith)) (λ n ws h. tt)
@@ -78,12 +64,9 @@ Any a = Unit {0}
 pub certificate_plain : IsPlainFormat NextOfCertificate Any
 certificate_plain = record { keeps = λ a b line p h. tt; one = λ a b c line p h g. (certificate_step a).one b c line h g; free = λ a b line p h. (certificate_step a).free b line h }
 
-whole_same : (c d : Certificate) → whole c ≡ whole d → c ≡ d
-whole_same c d e = cc
-
 pub certificates_have_one_value : HaveOneCertificate
 certificates_have_one_value text c d h g =
-    whole_same c d (text_one_end NextOfCertificate Any certificate_plain first (whole c) (whole d) text tt h g (λ line after step. step) (λ line after step. step))
+    let same = text_one_end NextOfCertificate Any certificate_plain first (whole c) (whole d) text tt h g (λ line after step. step) (λ line after step. step) in cc
 
 pub certificates_have_no_fault : HaveNoCertificateFault
 certificates_have_no_fault text c n h f = text_no_fault NextOfCertificate IsWholeCertificate Any certificate_plain first (whole c) text n tt h tt f

@@ -1,5 +1,5 @@
 -- What the reader of certificates has read up to each line, and where it halts.
-use Rattle.std.proofs.Common.{◌≡◌, ℕ, suc, ◌<◌, ◌-◌, ℤ, SFits, w64, Bool, true, false, List, [], ◌∷◌, ◌++◌, refl, ap, arith, codes}
+use Rattle.std.proofs.Common.{◌≡◌, ℕ, suc, ◌<◌, ◌-◌, ℤ, pos, neg_ℤ, ◌≤ℤ◌, Bool, true, false, List, [], ◌∷◌, ◌++◌, refl, ap, arith, codes}
 use Rattle.std.proofs.lemmas.Int.{ints}
 use Rattle.mintc_text.specs.declared.limits.TheConstants.{MOST_NUMERATOR}
 use Rattle.mintc_text.specs.Lines.{IsWithin}
@@ -42,13 +42,8 @@ member_states v c left ms = link v left (with_chain c ms)
 abbrev pub IsDepartureLine : Version → ℤ → List (List ℕ) → Type 0
 IsDepartureLine v = IsNumberLine (codes "departure") (least_departure v) MOST_NUMERATOR
 
-pub least_fits : (v : Version) → SFits w64 (least_departure v)
-least_fits First = omega (arith, ints)
-least_fits Second = omega (arith, ints)
-
-pub IsTime-departure : (v : Version) (d : ℤ) → IsWithin (least_departure v) MOST_NUMERATOR d → IsTime d
-IsTime-departure First d h = (omega (arith, ints, h.0, h.1), omega (arith, ints, h.0, h.1))
-IsTime-departure Second d h = (omega (arith, ints, h.0, h.1), omega (arith, ints, h.0, h.1))
+pub least_is : (v : Version) → (neg_ℤ MOST_NUMERATOR ≤ℤ least_departure v) × (least_departure v ≤ℤ pos 0)
+least_is v = grind (arith, ints)
 
 pub chain_read : (text : List ℕ) (old new : Reading) (v : Version) (c : Certificate) (m : ℕ) → At text old (before_chain v c) → HasRead IsChainLine old.left m new.left → new.number ≡ number_after old.number →
     At text new (link v m (with_chain c []))
@@ -59,13 +54,9 @@ pub chain_fault : (text : List ℕ) (old : Reading) (number : ℕ) (v : Version)
 chain_fault text old number v (Least s ds ms) at none counted = at_fault at none counted (λ e. e) (λ line after step. (step.0, step.1))
 chain_fault text old number v (Never ms) at none counted = at_fault at none counted (λ e. e) (λ line after step. (step.0, step.1))
 
-pushed : (c : Certificate) (ms : List Member) (m : Member) → with_chain c (ms ++ m ∷ []) ≡ with_member (with_chain c ms) m
-pushed (Least s ds chain) ms m = refl
-pushed (Never chain) ms m = refl
-
 pub member_next : (v : Version) (c : Certificate) (m : Member) (left : ℕ) (ms : List Member) (line : List ℕ) → Spells (IsMemberLine v) m line → NextOfCertificate (link v (suc left) (with_chain c ms)) line (link v left (with_chain c (ms ++ m ∷ [])))
-member_next v c m left ms line spells = (m, spells, ap (λ (x : Certificate). link v left x) (pushed c ms m))
+member_next v (Least s ds chain) m left ms line spells = (m, spells, refl)
+member_next v (Never chain) m left ms line spells = (m, spells, refl)
 
 pub plain-outcome_line : (b : Bool) (ws : List (List ℕ)) → IsOutcomeLine b ws → plain_line ws ≡ true
-plain-outcome_line true ws h = ap plain_line h
-plain-outcome_line false ws h = ap plain_line h
+plain-outcome_line b ws h = grind arith

@@ -1,5 +1,5 @@
 -- Certificates that are one value have one text.
-use Rattle.std.proofs.Common.{◌≡◌, ℕ, zero, suc, ℤ, Bool, true, false, if◌then◌else◌, List, [], ◌∷◌, ◌++◌, refl, ap, ◌∙◌, sym, subst, arith}
+use Rattle.std.proofs.Common.{◌≡◌, ℕ, zero, suc, ℤ, Bool, if◌then◌else◌, List, [], refl, subst, arith}
 use Rattle.mintc_timing.specs.declared.clocking.Schedule.{Schedule}
 use Rattle.mintc_lines.specs.Texts.{ScheduleLines, den}
 use Rattle.mintc_lines.proofs.SharedScheduleLaws.{BeginsSchedule, schedule_step, schedule_back, schedule_spelled}

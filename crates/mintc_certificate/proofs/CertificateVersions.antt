@@ -12,6 +12,7 @@ use Rattle.mintc_certificate.specs.declared.version.Version.{Version}
 use Rattle.mintc_certificate.specs.declared.version.Version.TheVariants.{First, Second}
 use Rattle.mintc_certificate.specs.CertificateText.{NextOfCertificate, IsDeparturesLine, CertificateLines, first, outcome, scheduled, departure, never, link, whole, least_departure}
 use Rattle.mintc_certificate.specs.TextLaws.{SecondSaysFirst}
+use Rattle.mintc_certificate.proofs.CertificateReading.{least_is}
 use Rattle.mintc_certificate.proofs.CertificatePlain.{Begun, certificate_step, certificate_plain}
 use Rattle.mintc_certificate.proofs.CertificateWritten.{first_written, free_all}
 
@@ -26,12 +27,7 @@ raise (link v left c) = link Second left c
 raise (whole c) = whole c
 
 raise_outcome : (v : Version) (x : Bool) → raise (if x then scheduled v den else never v) ≡ (if x then scheduled Second den else never Second)
-raise_outcome v true = refl
-raise_outcome v false = refl
-
-within_second : (v : Version) (d : ℤ) → IsWithin (least_departure v) MOST_NUMERATOR d → IsWithin (least_departure Second) MOST_NUMERATOR d
-within_second First d h = (omega (arith, ints, h.0), h.1)
-within_second Second d h = h
+raise_outcome v x = grind arith
 
 -- what a line says in a version, it says in the second
 raised : (a b : CertificateLines) (line : List ℕ) → Begun a → NextOfCertificate a line b → NextOfCertificate (raise a) line (raise b)
@@ -39,7 +35,7 @@ raised first b line begun h = absurd begun
 raised (outcome v) b line begun h = (h.0, h.1, ap raise h.2 ∙ raise_outcome v h.0)
 raised (scheduled v lines) b line begun h =
     schedule_carried (scheduled v) (IsDeparturesLine v) (scheduled Second) (IsDeparturesLine Second) raise (λ l. refl) (λ s line b h. (h.0, h.1, ap raise h.2)) lines line b h
-raised (departure v (suc left) s ds) b line begun h = (h.0, (h.1.0, (within_second v h.0 h.1.1.0, h.1.1.1), h.1.2), ap raise h.2)
+raised (departure v (suc left) s ds) b line begun h = (h.0, (h.1.0, ((omega (arith, ints, h.1.1.0.0, least_is v), h.1.1.0.1), h.1.1.1), h.1.2), ap raise h.2)
 raised (departure v zero s ds) b line begun h = (h.0, h.1, ap raise h.2)
 raised (never v) b line begun h = (h.0, h.1, ap raise h.2)
 raised (link v (suc left) c) b line begun h = (h.0, (h.1.0, record { counted = h.1.1.counted; has = tt; spelled = h.1.1.spelled }, h.1.2), ap raise h.2)

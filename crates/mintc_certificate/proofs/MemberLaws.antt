@@ -1,5 +1,5 @@
 -- The words of members, and what the reader finds among them.
-use Rattle.std.proofs.Common.{◌≡◌, ◌≢◌, ℕ, ◌<◌, ◌≤◌, ◌+◌, suc, true, if◌then◌else◌, Option, Some, None, MatchOption, Result, Ok, Err, MatchResult, List, [], ◌∷◌, ◌++◌, length, length-append, get_or, drop, drop-cons, map, refl, ap, ◌∙◌, sym, subst, arith, codes, append_assoc}
+use Rattle.std.proofs.Common.{◌≡◌, ℕ, ◌<◌, ◌≤◌, ◌+◌, suc, true, if◌then◌else◌, List, [], ◌∷◌, ◌++◌, length, get_or, drop, drop-cons, map, refl, ap, ◌∙◌, sym, arith, codes}
 use Rattle.std.proofs.lemmas.Fmt.{decimal_is_IsNumeral}
 use Rattle.std.proofs.lemmas.Grind.{common_steps}
 use Rattle.std.proofs.lemmas.List.{drop-map}
@@ -9,21 +9,19 @@ use Rattle.std.specs.List.{All}
 use Rattle.std.specs.Str.{bytes_eq}
 use Rattle.std.specs.Str.Parse.{digits_value}
 use Rattle.mintc_text.specs.declared.limits.TheConstants.{MOST_COUNT}
-use Rattle.mintc_text.specs.Lines.{ended, words}
 use Rattle.mintc_lines.specs.Fields.{IsCount, number, plain, plain_line}
-use Rattle.mintc_lines.specs.Reading.{HasRead, HasNone, Halts}
+use Rattle.mintc_lines.specs.Reading.{Halts}
 use Rattle.mintc_lines.proofs.SharedFieldsLaws.{and_both, plain-number}
 use Rattle.mintc_lines.specs.declared.halt.Halt.{Halt}
 use Rattle.mintc_lines.specs.declared.halt.Halt.TheVariants.{Form, Memory}
 use Rattle.mintc_certificate.specs.declared.member_lines.MemberWord.{MemberWord}
 use Rattle.mintc_certificate.specs.declared.member_lines.MemberWord.TheVariants.{One, Apart, Reach}
-use Rattle.mintc_certificate.specs.declared.member_lines.Single.{Single}
 use Rattle.mintc_certificate.specs.declared.member_lines.Single.TheVariants as one
 use Rattle.mintc_certificate.specs.declared.members.Member.{Member}
 use Rattle.mintc_certificate.specs.declared.members.Member.TheVariants as member
 use Rattle.mintc_certificate.specs.declared.version.Version.{Version}
-use Rattle.mintc_certificate.specs.CertificateText.{member_words, IsCounted, IsMemberOf, IsMemberLine}
-use Rattle.mintc_certificate.specs.MemberWords.{single, single_word, member_word, AreNumbers}
+use Rattle.mintc_certificate.specs.CertificateText.{member_words, IsCounted, IsMemberLine}
+use Rattle.mintc_certificate.specs.MemberWords.{single, member_word, AreNumbers}
 
 -- ---- a member read back from its words
 
