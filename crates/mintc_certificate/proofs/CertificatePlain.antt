@@ -1,5 +1,5 @@
 -- The lines of a certificate are plain, and a text has one certificate or one first line out of form.
-use Rattle.std.proofs.Common.{◌≡◌, ℕ, zero, suc, negsuc, ◌≤ℤ◌, true, false, Bool, if◌then◌else◌, List, [], ◌∷◌, refl, ap, ◌∙◌, sym, arith, codes}
+use Rattle.std.proofs.Common.{◌≡◌, ℕ, zero, suc, Bool, if◌then◌else◌, List, refl, ◌∙◌, sym, arith, codes}
 use Rattle.std.proofs.lemmas.Int.{ints}
 use Rattle.mintc_text.specs.declared.limits.TheConstants.{MOST_NUMERATOR, MOST_MEMBERS, MOST_COUNT}
 use Rattle.mintc_lines.specs.Fields.{IsWordLine, IsCountLine}
@@ -7,9 +7,7 @@ use Rattle.mintc_lines.specs.Texts.{den}
 use Rattle.mintc_lines.proofs.SharedLineLaws.{IsForm, word_form, count_form, number_form}
 use Rattle.mintc_lines.proofs.SharedScheduleLaws.{schedule_step}
 use Rattle.mintc_lines.proofs.SharedTextLaws.{IsPlainFormat, IsPlainStep, plain_step, no_step, text_one_end, text_no_fault, text_one_fault}
-use Rattle.mintc_certificate.specs.declared.certificate.Certificate.{Certificate}
 use Rattle.mintc_certificate.specs.declared.version.Version.{Version}
-use Rattle.mintc_certificate.specs.declared.version.Version.TheVariants.{First, Second}
 use Rattle.mintc_certificate.specs.CertificateText.{NextOfCertificate, IsDeparturesLine, IsWholeCertificate, CertificateLines, first, outcome, scheduled, departure, never, link, whole, least_departure, IsOutcomeLine, IsChainLine, IsMemberLine}
 use Rattle.mintc_certificate.specs.TextLaws.{HaveOneCertificate, HaveNoCertificateFault, HaveOneCertificateFault}
 use Rattle.mintc_certificate.proofs.CertificateReading.{IsDepartureLine, least_is, plain-outcome_line}

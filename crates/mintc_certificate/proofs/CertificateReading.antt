@@ -1,9 +1,7 @@
 -- What the reader of certificates has read up to each line, and where it halts.
-use Rattle.std.proofs.Common.{◌≡◌, ℕ, suc, ◌<◌, ◌-◌, ℤ, pos, neg_ℤ, ◌≤ℤ◌, Bool, true, false, List, [], ◌∷◌, ◌++◌, refl, ap, arith, codes}
+use Rattle.std.proofs.Common.{◌≡◌, ℕ, suc, ◌<◌, ◌-◌, ℤ, pos, neg_ℤ, ◌≤ℤ◌, Bool, true, List, [], ◌∷◌, ◌++◌, refl, arith, codes}
 use Rattle.std.proofs.lemmas.Int.{ints}
 use Rattle.mintc_text.specs.declared.limits.TheConstants.{MOST_NUMERATOR}
-use Rattle.mintc_text.specs.Lines.{IsWithin}
-use Rattle.mintc_timing.specs.Limits.{IsTime}
 use Rattle.mintc_timing.specs.declared.clocking.Schedule.{Schedule}
 use Rattle.mintc_lines.specs.Fields.{plain_line, Spells, IsNumberLine}
 use Rattle.mintc_lines.specs.Reading.{Reading, HasRead, HasNone, IsAt, number_after, Halts}
@@ -14,9 +12,8 @@ use Rattle.mintc_lines.specs.declared.halt.Halt.{Halt}
 use Rattle.mintc_lines.specs.declared.halt.Halt.TheVariants.{Form, Memory}
 use Rattle.mintc_certificate.specs.declared.members.Member.{Member}
 use Rattle.mintc_certificate.specs.declared.version.Version.{Version}
-use Rattle.mintc_certificate.specs.declared.version.Version.TheVariants.{First, Second}
 use Rattle.mintc_certificate.specs.CertificateReading.{with_chain, before_chain}
-use Rattle.mintc_certificate.specs.CertificateText.{NextOfCertificate, IsWholeCertificate, IsCertificateFault, CertificateLines, first, departure, link, least_departure, with_member, IsOutcomeLine, IsChainLine, IsMemberLine}
+use Rattle.mintc_certificate.specs.CertificateText.{NextOfCertificate, IsWholeCertificate, IsCertificateFault, CertificateLines, first, departure, link, least_departure, IsOutcomeLine, IsChainLine, IsMemberLine}
 
 -- where a reader of a certificate is
 abbrev pub At : List ℕ → Reading → CertificateLines → Type 0

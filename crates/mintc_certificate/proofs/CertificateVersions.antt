@@ -1,16 +1,15 @@
 -- The second version says all that the first does.
-use Rattle.std.proofs.Common.{◌≡◌, ℕ, zero, suc, ℤ, Bool, true, false, if◌then◌else◌, List, [], ◌∷◌, ◌++◌, Contains, refl, ap, ◌∙◌, subst, arith, codes}
+use Rattle.std.proofs.Common.{◌≡◌, ℕ, zero, suc, Bool, if◌then◌else◌, List, [], ◌∷◌, ◌++◌, Contains, refl, ap, ◌∙◌, subst, arith, codes}
 use Rattle.std.proofs.lemmas.Int.{ints}
 use Rattle.std.specs.Fmt.{digits}
-use Rattle.mintc_text.specs.declared.limits.TheConstants.{MOST_NUMERATOR}
-use Rattle.mintc_text.specs.Lines.{Follows, IsWithin, ended}
+use Rattle.mintc_text.specs.Lines.{Follows, ended}
 use Rattle.mintc_lines.specs.Fields.{number}
 use Rattle.mintc_lines.specs.Texts.{den}
 use Rattle.mintc_lines.proofs.SharedScheduleReading.{schedule_carried}
 use Rattle.mintc_lines.proofs.SharedTextLaws.{after_first}
 use Rattle.mintc_certificate.specs.declared.version.Version.{Version}
 use Rattle.mintc_certificate.specs.declared.version.Version.TheVariants.{First, Second}
-use Rattle.mintc_certificate.specs.CertificateText.{NextOfCertificate, IsDeparturesLine, CertificateLines, first, outcome, scheduled, departure, never, link, whole, least_departure}
+use Rattle.mintc_certificate.specs.CertificateText.{NextOfCertificate, IsDeparturesLine, CertificateLines, first, outcome, scheduled, departure, never, link, whole}
 use Rattle.mintc_certificate.specs.TextLaws.{SecondSaysFirst}
 use Rattle.mintc_certificate.proofs.CertificateReading.{least_is}
 use Rattle.mintc_certificate.proofs.CertificatePlain.{Begun, certificate_step, certificate_plain}
