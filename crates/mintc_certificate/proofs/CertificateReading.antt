@@ -1,33 +1,23 @@
 -- What the reader of certificates has read up to each line, and where it halts.
-use Rattle.std.proofs.Common.{◌≡◌, ℕ, suc, ◌<◌, ◌-◌, ℤ, pos, neg_ℤ, ◌≤ℤ◌, Bool, true, List, [], ◌∷◌, ◌++◌, refl, arith, codes}
+use Rattle.std.proofs.Common.{◌≡◌, ℕ, suc, ◌-◌, ℤ, pos, neg_ℤ, ◌≤ℤ◌, Bool, true, List, [], ◌∷◌, ◌++◌, refl, arith, codes}
 use Rattle.std.proofs.lemmas.Int.{ints}
 use Rattle.mintc_text.specs.declared.limits.TheConstants.{MOST_NUMERATOR}
 use Rattle.mintc_timing.specs.declared.clocking.Schedule.{Schedule}
 use Rattle.mintc_lines.specs.Fields.{plain_line, Spells, IsNumberLine}
-use Rattle.mintc_lines.specs.Reading.{Reading, HasRead, HasNone, IsAt, number_after, Halts}
-use Rattle.mintc_lines.proofs.SharedReadingLaws.{at_more, at_fault, list_fault}
+use Rattle.mintc_lines.specs.Reading.{Reading, HasRead, HasNone, IsAt, number_after}
+use Rattle.mintc_lines.proofs.SharedReadingLaws.{at_more, at_fault}
 use Rattle.mintc_certificate.specs.declared.certificate.Certificate.{Certificate}
 use Rattle.mintc_certificate.specs.declared.certificate.Certificate.TheVariants.{Least, Never}
-use Rattle.mintc_lines.specs.declared.halt.Halt.{Halt}
-use Rattle.mintc_lines.specs.declared.halt.Halt.TheVariants.{Form, Memory}
 use Rattle.mintc_certificate.specs.declared.members.Member.{Member}
 use Rattle.mintc_certificate.specs.declared.version.Version.{Version}
 use Rattle.mintc_certificate.specs.CertificateReading.{with_chain, before_chain}
-use Rattle.mintc_certificate.specs.CertificateText.{NextOfCertificate, IsWholeCertificate, IsCertificateFault, CertificateLines, first, departure, link, least_departure, IsOutcomeLine, IsChainLine, IsMemberLine}
+use Rattle.mintc_certificate.specs.CertificateText.{NextOfCertificate, IsCertificateFault, CertificateLines, first, departure, link, least_departure, IsOutcomeLine, IsChainLine, IsMemberLine}
 
 -- where a reader of a certificate is
 abbrev pub At : List ℕ → Reading → CertificateLines → Type 0
 At text reading state = IsAt NextOfCertificate first text reading state
 
 -- ---- its lists
-
-pub list_halts : {X : Type 0} (st : ℕ → List X → CertificateLines) (F : X → List (List ℕ) → Type 0) (text : List ℕ) (old : Reading) (number : ℕ) (found : List X) (i count : ℕ) (h : Halt) →
-    At text old (st (count - i) found) → i < count → Halts (HasNone F old.left) h → number ≡ number_after old.number →
-    ((left : ℕ) (all : List X) → IsWholeCertificate (st (suc left) all) → ⊥) →
-    ((left : ℕ) (all : List X) (line : List ℕ) (after : CertificateLines) → NextOfCertificate (st (suc left) all) line after → (x : X) × Spells F x line) →
-    Halts (IsCertificateFault text number) h
-list_halts st F text old number found i count Form at low none counted unfinished only = list_fault st F text old number found i count at low none counted unfinished only
-list_halts st F text old number found i count Memory at low none counted unfinished only = tt
 
 -- the states of departures and of members
 abbrev pub departure_states : Version → Schedule → ℕ → List ℤ → CertificateLines

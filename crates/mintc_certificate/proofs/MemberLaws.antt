@@ -67,14 +67,17 @@ member_one v m n ws h g = sym (read_back m h.counted) ∙ ap read (sym h.spelled
 abbrev pub ReachWords : List (List ℕ) → ℕ → ℕ → ℕ → List (List ℕ) → Type 0
 ReachWords rest j l count more = rest ≡ number j ∷ number l ∷ number count ∷ more
 
-reach_arcs_none : (v : Version) (rest : List (List ℕ)) (j l count : ℕ) (more : List (List ℕ)) → IsCount count → ReachWords rest j l count more →
-    ((path : List ℕ) → length path ≡ count → All IsCount path → more ≡ map number path → ⊥) → (m : Member) → IsMemberLine v m (codes "reach" ∷ rest) → ⊥
-reach_arcs_none v rest j l count more few is none m h = let k = value_of count few in grind (arith, none, value_of)
+pub reach_none : (v : Version) (rest : List (List ℕ)) (j l count : ℕ) (more : List (List ℕ)) → IsCount count → ReachWords rest j l count more →
+    ((path : List ℕ) → AreNumbers count path more → ⊥) → (m : Member) → IsMemberLine v m (codes "reach" ∷ rest) → ⊥
+reach_none v rest j l count more few is none m h =
+    let each : (path : List ℕ) → length path ≡ count → All IsCount path → more ≡ map number path → ⊥ = λ path a b e. none path (record { counted = a; each = b; spelled = e }) in
+    let same = value_of count few in
+    grind (arith, each, value_of)
 
-pub reach_halts : (v : Version) (rest : List (List ℕ)) (j l count : ℕ) (more : List (List ℕ)) (h : Halt) → IsCount count → ReachWords rest j l count more →
-    Halts ((path : List ℕ) → AreNumbers count path more → ⊥) h → Halts ((m : Member) → IsMemberLine v m (codes "reach" ∷ rest) → ⊥) h
-reach_halts v rest j l count more Form few is none = reach_arcs_none v rest j l count more few is (λ path a b e. none path (record { counted = a; each = b; spelled = e }))
-reach_halts v rest j l count more Memory few is none = tt
+-- what is said where a form is missing
+pub halts_by : {A B : Type 0} → (A → B) → (h : Halt) → Halts A h → Halts B h
+halts_by f Form a = f a
+halts_by f Memory a = tt
 
 -- ---- so many numbers
 

@@ -1,9 +1,9 @@
-use Rattle.std.proofs.Common.{◌≡◌, ℤ, List, [], SFits, w64, refl, arith, subst, sym}
+use Rattle.std.proofs.Common.{◌≡◌, ℤ, [], SFits, w64, refl, arith}
 use Rattle.std.proofs.lemmas.Int.{ints, to_z-of_z}
 use Rattle.mintc_timing.proofs.SharedFitting.{read_time}
 use Rattle.mintc_certificate.specs.declared.version.Version.{Version}
 use Rattle.mintc_certificate.specs.CertificateText.{departure, least_departure}
-use Rattle.mintc_certificate.proofs.CertificateReading.{departure_states, IsDepartureLine, least_is, At}
+use Rattle.mintc_certificate.proofs.CertificateReading.{departure_states, IsDepartureLine, least_is}
 use Rattle.mintc_lines.proofs.SharedReadingLaws.{at_fault, at_more, list_more, list_fault, list_all}
 use Rattle.mintc_certificate.proofs.reading.departures.Goals as goal
 
@@ -33,6 +33,5 @@ loop-departure-preserved c = λ text s at.
 pub returns : goal.returns
 returns c = λ text s at.
     let begun = at_more c.count_line.new.self (departure c.args.version c.in-Some.count s []) at c.in-Some.ensures.read c.in-Some.ensures.counted (λ line spells. (_, spells, refl)) in
-    let R : List ℤ → Type 0 = λ ds. At text c.loop-departure.reader (departure c.args.version 0 s ds) in
-    subst R (sym c.new.ensures)
+    rw c.new.ensures
     (list_all (departure_states c.args.version s) text c.loop-departure.reader c.loop-departure.found.items c.loop-departure._departure c.in-Some.count (c.loop-departure.invariant text s begun) (omega arith))
