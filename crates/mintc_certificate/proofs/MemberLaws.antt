@@ -11,7 +11,7 @@ use Rattle.std.specs.Str.Parse.{digits_value}
 use Rattle.mintc_text.specs.declared.limits.TheConstants.{MOST_COUNT}
 use Rattle.mintc_lines.specs.Fields.{IsCount, number, plain, plain_line}
 use Rattle.mintc_lines.specs.Reading.{Halts}
-use Rattle.mintc_lines.proofs.SharedFieldsLaws.{and_both, plain-number}
+use Rattle.mintc_lines.proofs.SharedFieldsLaws.{and_both, plain_number}
 use Rattle.mintc_lines.specs.declared.halt.Halt.{Halt}
 use Rattle.mintc_lines.specs.declared.halt.Halt.TheVariants.{Form, Memory}
 use Rattle.mintc_certificate.specs.declared.member_lines.MemberWord.{MemberWord}
@@ -107,10 +107,10 @@ plain_numbers : (w : List ℕ) (numbers : List ℕ) → plain w ≡ true → All
 plain_numbers w [] h each = h
 plain_numbers w (n ∷ ns) h each =
     let few = All-head IsCount n ns each in
-    and_both (plain w) (plain_line (number n ∷ map number ns)) h (plain_numbers (number n) ns (plain-number n (omega (arith, few))) (All-tail IsCount n ns each))
+    and_both (plain w) (plain_line (number n ∷ map number ns)) h (plain_numbers (number n) ns (plain_number n (omega (arith, few))) (All-tail IsCount n ns each))
 
 pub plain_words : (m : Member) → IsCounted m → plain_line (member_words m) ≡ true
-plain_words m h = grind (arith, plain-number, plain_numbers)
+plain_words m h = grind (arith, plain_number, plain_numbers)
 
 pub plain_member_line : (v : Version) (m : Member) (ws : List (List ℕ)) → IsMemberLine v m ws → plain_line ws ≡ true
 plain_member_line v m ws h = ap plain_line h.spelled ∙ plain_words m h.counted

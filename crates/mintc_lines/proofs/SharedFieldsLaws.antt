@@ -55,10 +55,10 @@ graphic_byte b h = let p = and_parts (leb 33 b) (leb b 126) h in (grind (arith, 
 byte_graphic : (b : ℕ) → (33 ≤ b) × (b ≤ 126) → (leb 33 b && leb b 126) ≡ true
 byte_graphic b h = and_both (leb 33 b) (leb b 126) (let g = h.0 in grind (arith, nat_tests)) (let g = h.1 in grind (arith, nat_tests))
 
-pub plain-from_graphic : (w : List ℕ) → All IsGraphic w → plain w ≡ true
-plain-from_graphic [] h = refl
-plain-from_graphic (b ∷ bs) h =
-    and_both (leb 33 b && leb b 126) (plain bs) (byte_graphic b (All-head IsGraphic b bs h)) (plain-from_graphic bs (All-tail IsGraphic b bs h))
+pub plain_graphic : (w : List ℕ) → All IsGraphic w → plain w ≡ true
+plain_graphic [] h = refl
+plain_graphic (b ∷ bs) h =
+    and_both (leb 33 b && leb b 126) (plain bs) (byte_graphic b (All-head IsGraphic b bs h)) (plain_graphic bs (All-tail IsGraphic b bs h))
 
 -- a plain word has no byte below 33
 pub plain_free : (c : ℕ) (w : List ℕ) → c < 33 → plain w ≡ true → All (λ b. eqb b c ≡ false) w
@@ -85,16 +85,19 @@ digits_graphic n small =
     let digits : IsPlain (decimal n) = plain_from_decimal (decimal n) n small refl in
     All-from_get_or IsGraphic (decimal n) 0 (λ k h. let d = digit_here (decimal n) k digits h in (omega (arith, d), omega (arith, d)))
 
-pub plain-number : (n : ℕ) → n < 10 ^ 19 → plain (decimal n) ≡ true
-plain-number n small = plain-from_graphic (decimal n) (digits_graphic n small)
+pub plain_number : (n : ℕ) → n < 10 ^ 19 → plain (decimal n) ≡ true
+plain_number n small = plain_graphic (decimal n) (digits_graphic n small)
 
-pub plain-numeral : (z : ℤ) → IsShort z → plain (numeral_of z) ≡ true
-plain-numeral (pos n) short = plain-number n (omega (arith, ints, short.1))
-plain-numeral (negsuc n) short = plain-number (suc n) (omega (arith, ints, short.0))
+pub plain_numeral : (z : ℤ) → IsShort z → plain (numeral_of z) ≡ true
+plain_numeral (pos n) short = plain_number n (omega (arith, ints, short.1))
+plain_numeral (negsuc n) short = plain_number (suc n) (omega (arith, ints, short.0))
 
 -- a number that isn't long has a short numeral
 pub short : (least most z : ℤ) → negsuc 999999999999999998 ≤ℤ least → most ≤ℤ pos 999999999999999999 → IsWithin least most z → IsShort z
 short least most z low high within = (omega (arith, ints, within.0), omega (arith, ints, within.1))
+
+-- words that can be seen
+pub ruleset seen = (ints, plain_graphic, plain_number, plain_numeral)
 
 pub fields_some : (bytes : List ℕ) → fields_of bytes ≡ [] → ⊥
 fields_some bytes h = omega (arith, ap length h, length-slice_split (λ b. eqb b 32) bytes)

@@ -10,7 +10,7 @@ use Rattle.mintc_text.specs.Lines.{words, ended, text_of, numeral_of, Follows, I
 use Rattle.mintc_lines.specs.Fields.{plain, plain_line, Spells, IsWordLine, IsNumberLine, IsCountLine, IsNameLine}
 use Rattle.mintc_lines.specs.declared.halt.Halt.{Halt}
 use Rattle.mintc_lines.specs.Reading.{Reading, Halts, HasRead, HasNone, HasPassed, HasStopped, IsAt, number_after}
-use Rattle.mintc_lines.proofs.SharedFieldsLaws.{and_parts, and_both, no_space, plain_free, plain-numeral, plain-number, plain-from_graphic, short}
+use Rattle.mintc_lines.proofs.SharedFieldsLaws.{and_parts, and_both, no_space, plain_free, plain_numeral, plain_number, plain_graphic, short}
 
 -- the exits of a `?`
 pub at_none : {T : Type 0} (r : Option T) (P : Type 0) (Q : T → Type 0) → r ≡ None → P → MatchOption r P Q
@@ -50,12 +50,7 @@ line_there line more = Contains-append_left (ended line) more 10 (Contains-appen
 
 -- ---- a line that is read by its words
 
--- what the reader of words says, said of the text: no line is there
-pub none_there : {V : Type 0} (F : V → List (List ℕ) → Type 0) (left : List ℕ) → ((v : V) (ws : List (List ℕ)) → F v ws → plain_line ws ≡ true) →
-    ((ws : List (List ℕ)) (more : List ℕ) → plain_line ws ≡ true → left ≡ ended (words ws) ++ more → ⊥) → HasNone F left
-none_there F left plain_words none = λ v line more e s. none s.0 more (plain_words v s.0 s.1) (e ∙ ap (λ (l : List ℕ). ended l ++ more) s.2)
-
--- and the next line has these words
+-- what the reader of words says, said of the text: the next line has these words
 pub read_there : {V : Type 0} {T : Type 0} (F : V → List (List ℕ) → Type 0) (see : T → V) (left new : List ℕ) (fields : List (List ℕ)) (r : Option T) →
     ((v : V) (ws : List (List ℕ)) → F v ws → plain_line ws ≡ true) →
     (left ≡ ended (words fields) ++ new) →
@@ -71,13 +66,13 @@ plain-word_line word h u ws e = ap plain_line e ∙ h
 
 pub plain-number_line : (word : List ℕ) (least most : ℤ) → plain word ≡ true → negsuc 999999999999999998 ≤ℤ least → most ≤ℤ pos 999999999999999999 →
     (z : ℤ) (ws : List (List ℕ)) → IsNumberLine word least most z ws → plain_line ws ≡ true
-plain-number_line word least most h low high z ws e = ap plain_line e.1 ∙ and_both (plain word) (plain (numeral_of z)) h (plain-numeral z (short least most z low high e.0))
+plain-number_line word least most h low high z ws e = ap plain_line e.1 ∙ and_both (plain word) (plain (numeral_of z)) h (plain_numeral z (short least most z low high e.0))
 
 pub plain-count_line : (word : List ℕ) (least most : ℕ) → plain word ≡ true → most < 2 ^ 32 → (n : ℕ) (ws : List (List ℕ)) → IsCountLine word least most n ws → plain_line ws ≡ true
-plain-count_line word least most h few n ws e = ap plain_line e.2 ∙ and_both (plain word) (plain (decimal n)) h (plain-number n (omega (arith, e.1)))
+plain-count_line word least most h few n ws e = ap plain_line e.2 ∙ and_both (plain word) (plain (decimal n)) h (plain_number n (omega (arith, e.1)))
 
 pub plain-name_line : (word : List ℕ) → plain word ≡ true → (name : List ℕ) (ws : List (List ℕ)) → IsNameLine word name ws → plain_line ws ≡ true
-plain-name_line word h name ws e = ap plain_line e.1 ∙ and_both (plain word) (plain name) h (plain-from_graphic name e.0.graphic)
+plain-name_line word h name ws e = ap plain_line e.1 ∙ and_both (plain word) (plain name) h (plain_graphic name e.0.graphic)
 
 -- ---- the lines of a format, one after another
 

@@ -4,12 +4,6 @@ use Rattle.mintc_lines.proofs.TableLineLaws.{point_none, point_past}
 use Rattle.mintc_lines.proofs.table_lines.point.Goals as goal
 use Rattle.mintc_lines.proofs.table_lines.point.Goals.{then-phase-lt1-via-then-phase-lt1, then-phase-lt1-via-else-phase-lt1+then-phase-phases}
 
-pub returns-in_err-letter : goal.returns-in_err-letter
-returns-in_err-letter c =
-    let other : c.args.word.now ≡ codes "o" → ⊥ = search rules in
-    at_none c.from_residual.result _ _ c.from_residual.ensures
-    (λ p. point_none c.args.phases c.args.word.now p c.requires other c.in_err-letter.ensures)
-
 pub returns-then-phase-lt1 : goal.returns-then-phase-lt1
 returns-then-phase-lt1 c = λ p.
     let other : c.args.word.now ≡ codes "o" → ⊥ = search rules in

@@ -1,12 +1,7 @@
 use Rattle.mintc_lines.specs.TableText.{IsArcLine}
-use Rattle.mintc_lines.proofs.SharedReadingLaws.{at_none, none_there, read_there}
+use Rattle.mintc_lines.proofs.SharedReadingLaws.{read_there}
 use Rattle.mintc_lines.proofs.TableReading.{plain-arc_line}
 use Rattle.mintc_lines.proofs.table_text.arc_line.Goals as goal
-
-pub returns-in_err-fields-clause-read : goal.returns-in_err-fields-clause-read
-returns-in_err-fields-clause-read c =
-    at_none c.from_residual.result _ _ c.from_residual.ensures
-    (none_there (IsArcLine c.args.elements c.args.inner) c.args.reader.now.left (plain-arc_line c.args.elements c.args.inner c.requires.elements c.requires.inner) c.in_err-fields.ensures.none)
 
 pub returns-clause-read : goal.returns-clause-read
 returns-clause-read c =

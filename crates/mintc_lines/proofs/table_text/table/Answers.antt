@@ -6,10 +6,6 @@ use Rattle.mintc_lines.proofs.TableReading.{length-inner_names}
 use Rattle.mintc_lines.proofs.SharedReadingLaws.{at_end, at_fault, at_more, at_past, at_halt}
 use Rattle.mintc_lines.proofs.table_text.table.Goals as goal
 
-pub returns-in_err-names : goal.returns-in_err-names
-returns-in_err-names c = λ text at.
-    at_halt c.from_residual.result c.in_err-names.field-0.0 _ _ (err_from_is_err_and c.from_residual.result c.from_residual.ensures.1) (c.in_err-names.ensures.read text at)
-
 pub returns-in_err-joined : goal.returns-in_err-joined
 returns-in_err-joined c = λ text at.
     let one = c.in_ok-names.ensures.read text at in
