@@ -1,5 +1,6 @@
 -- The fields of a line.
-use Rattle.std.proofs.Common.{◌≡◌, ℕ, ℤ, pos, negsuc, ◌≤ℤ◌, suc, ◌<◌, ◌≤◌, ◌^◌, ◌&&◌, Bool, true, false, List, [], ◌∷◌, ◌++◌, length, get_or, take, drop, refl, ap, ◌∙◌, sym, arith, eqb, leb, decimal, All, length-take}
+use Rattle.std.proofs.Common.{◌≡◌, ℕ, ℤ, pos, negsuc, neg_ℤ, ◌≤ℤ◌, suc, ◌<◌, ◌≤◌, ◌^◌, ◌&&◌, Bool, true, false, if◌then◌else◌, List, [], ◌∷◌, ◌++◌, length, get_or, take, drop, refl, ap, ◌∙◌, sym, arith, eqb, leb, decimal, All, length-take}
+use Rattle.std.proofs.lemmas.Fmt.{decimal_is_IsNumeral, decimal_nonempty}
 use Rattle.std.proofs.lemmas.Int.{ints}
 use Rattle.std.proofs.lemmas.Bool.{ne_eqb}
 use Rattle.std.proofs.lemmas.Bool.Decides.{nat_tests}
@@ -91,6 +92,23 @@ plain_number n small = plain_graphic (decimal n) (digits_graphic n small)
 pub plain_numeral : (z : ℤ) → IsShort z → plain (numeral_of z) ≡ true
 plain_numeral (pos n) short = plain_number n (omega (arith, ints, short.1))
 plain_numeral (negsuc n) short = plain_number (suc n) (omega (arith, ints, short.0))
+
+-- the number that a short numeral is read back as
+unfoldable pub value : List ℕ → ℤ
+value word = if eqb (get_or word 0 0) 45 then neg_ℤ (pos (digits_value 10 (drop 1 word))) else pos (digits_value 10 word)
+
+pub count_of : (n : ℕ) → n < 10 ^ 19 → (decimal n ≡ decimal n) × (value (decimal n) ≡ pos n)
+unfolding value
+count_of n small =
+    let first = digit_here (decimal n) 0 (plain_from_decimal (decimal n) n small refl) (decimal_nonempty n (omega arith)) in
+    (refl, rw (ne_eqb (get_or (decimal n) 0 0) 45 (λ e. omega (arith, first, e))) (ap pos (decimal_is_IsNumeral n (omega arith)).1))
+
+pub value_of : (z : ℤ) → IsShort z → (numeral_of z ≡ numeral_of z) × (value (numeral_of z) ≡ z)
+unfolding value
+value_of (pos n) short = count_of n (omega (arith, ints, short.1))
+value_of (negsuc n) short = (refl, ap (λ k. neg_ℤ (pos k)) (decimal_is_IsNumeral (suc n) (omega (arith, ints, short.0))).1)
+
+pub ruleset read_back = (ints, value_of, count_of)
 
 -- a number that isn't long has a short numeral
 pub short : (least most z : ℤ) → negsuc 999999999999999998 ≤ℤ least → most ≤ℤ pos 999999999999999999 → IsWithin least most z → IsShort z

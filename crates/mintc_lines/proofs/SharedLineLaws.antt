@@ -1,25 +1,17 @@
 -- Lines of one count, name or number have one spelling.
-use Rattle.std.proofs.Common.{◌≡◌, ℕ, ℤ, pos, negsuc, ◌≤ℤ◌, ◌<◌, ◌^◌, true, List, refl, ap, ◌∙◌, sym, subst, arith, decimal}
-use Rattle.std.proofs.lemmas.Fmt.{decimal_injective}
-use Rattle.mintc_text.specs.Lines.{numeral_of, words}
-use Rattle.mintc_text.proofs.SharedNumeralsLaws.{same_numeral}
+use Rattle.std.proofs.Common.{◌≡◌, ℕ, ℤ, pos, negsuc, ◌≤ℤ◌, ◌<◌, ◌^◌, true, List, refl, ap, ◌∙◌, sym, subst, arith}
+use Rattle.mintc_text.specs.Lines.{words}
 use Rattle.mintc_lines.specs.Fields.{plain, plain_line, Spells, IsWordLine, IsNumberLine, IsCountLine, IsNameLine}
-use Rattle.mintc_lines.proofs.SharedFieldsLaws.{short}
+use Rattle.mintc_lines.proofs.SharedFieldsLaws.{read_back}
 use Rattle.mintc_lines.proofs.SharedReadingLaws.{plain-word_line, plain-number_line, plain-count_line, plain-name_line}
 
 -- ---- the line of a number, of a count and of a name has one value
 
 pub count_one : (word : List ℕ) (least most : ℕ) → most < 2 ^ 32 → (m n : ℕ) (ws : List (List ℕ)) → IsCountLine word least most m ws → IsCountLine word least most n ws → m ≡ n
-count_one word least most few m n ws h g =
-    let a = h.2 in let b = g.2 in
-    let same : decimal m ≡ decimal n = cc in
-    decimal_injective m n (omega (arith, h.1)) (omega (arith, g.1)) same
+count_one word least most few m n ws h g = grind (arith, read_back)
 
 pub number_one : (word : List ℕ) (least most : ℤ) → negsuc 999999999999999998 ≤ℤ least → most ≤ℤ pos 999999999999999999 → (y z : ℤ) (ws : List (List ℕ)) → IsNumberLine word least most y ws → IsNumberLine word least most z ws → y ≡ z
-number_one word least most low high y z ws h g =
-    let a = h.1 in let b = g.1 in
-    let same : numeral_of y ≡ numeral_of z = cc in
-    same_numeral y z (short least most y low high h.0) (short least most z low high g.0) same
+number_one word least most low high y z ws h g = grind (arith, read_back)
 
 pub name_one : (word a b : List ℕ) (ws : List (List ℕ)) → IsNameLine word a ws → IsNameLine word b ws → a ≡ b
 name_one word a b ws h g = let e = h.1 in let f = g.1 in cc

@@ -1,17 +1,14 @@
 -- What is read as a schedule is in range, and its lines are plain.
-use Rattle.std.proofs.Common.{◌≡◌, ℕ, zero, suc, ℤ, pos, ◌≤◌, ◌+◌, List, [], ◌∷◌, length, length-append, All, refl, ap, ◌∙◌, sym, subst, arith, codes}
+use Rattle.std.proofs.Common.{◌≡◌, ℕ, zero, suc, ℤ, pos, ◌≤◌, ◌+◌, List, [], ◌∷◌, length, length-append, All, refl, ◌∙◌, sym, subst, arith, codes}
 use Rattle.std.proofs.lemmas.Int.{ints}
 use Rattle.std.proofs.lemmas.List.Elements.{All-push, All-nil}
 use Rattle.mintc_text.specs.declared.limits.TheConstants.{MOST_PHASES, MOST_DENOMINATOR, MOST_NUMERATOR}
-use Rattle.mintc_text.specs.Lines.{numeral_of}
-use Rattle.mintc_text.specs.Words.{IsShort}
-use Rattle.mintc_text.proofs.SharedNumeralsLaws.{same_numeral}
 use Rattle.mintc_timing.specs.declared.clocking.Schedule.{Schedule}
 use Rattle.mintc_lines.specs.Fields.{IsNumberLine, IsCountLine}
 use Rattle.mintc_timing.specs.Limits.{IsNumerator, IsDenominator, IsInRange}
 use Rattle.mintc_lines.specs.TextLaws.{HaveOneSchedule, HaveNoScheduleFault, HaveOneScheduleFault}
 use Rattle.mintc_lines.specs.Texts.{NextOfSchedule, NextOfText, IsWholeText, IsLast, IsPhaseLine, IsScheduleText, ScheduleLines, den, cycle, phases, phase, TextLines, first, body, whole, no_phases, with_phase}
-use Rattle.mintc_lines.proofs.SharedFieldsLaws.{short}
+use Rattle.mintc_lines.proofs.SharedFieldsLaws.{read_back}
 use Rattle.mintc_lines.proofs.SharedLineLaws.{IsForm, word_form, count_form, number_form}
 use Rattle.mintc_lines.proofs.SharedScheduleReading.{plain-phase_line}
 use Rattle.mintc_lines.proofs.SharedSpelling.{rest_count, Agrees, agrees_none, agrees_back, agrees_same, IsSpelledStep}
@@ -91,17 +88,8 @@ IsInRange-from_text text s h = along NextOfText Keeps keeps_next first h.lines (
 
 -- ---- the forms of a schedule's lines
 
-numerator_short : (z : ℤ) → IsNumerator z → IsShort z
-numerator_short z h = short (pos 0) MOST_NUMERATOR z (omega (arith, ints)) (omega (arith, ints)) h
-
 phase_one : (p q : ℤ × ℤ) (ws : List (List ℕ)) → IsPhaseLine p ws → IsPhaseLine q ws → p ≡ q
-phase_one p q ws h g =
-    let a = h.2 in let b = g.2 in
-    let starts : numeral_of p.0 ≡ numeral_of q.0 = cc in
-    let widths : numeral_of p.1 ≡ numeral_of q.1 = cc in
-    let start : p.0 ≡ q.0 = same_numeral p.0 q.0 (numerator_short p.0 h.0) (numerator_short q.0 g.0) starts in
-    let width : p.1 ≡ q.1 = same_numeral p.1 q.1 (numerator_short p.1 h.1) (numerator_short q.1 g.1) widths in
-    ap (λ (x : ℤ). (x, p.1)) start ∙ ap (λ (x : ℤ). (q.0, x)) width
+phase_one p q ws h g = grind (arith, read_back)
 
 phase_form : IsForm IsPhaseLine
 phase_form = record { plain = plain-phase_line; one = phase_one; words = λ p ws xs h g. h.2 ∙ sym g.2 }

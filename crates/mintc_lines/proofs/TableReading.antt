@@ -1,22 +1,18 @@
 -- What the reader of tables has read up to each line, and where it halts.
-use Rattle.std.proofs.Common.{◌≡◌, ℕ, suc, ℤ, pos, neg_ℤ, ◌<◌, ◌≤◌, ◌+◌, ◌-◌, ◌^◌, Bool, true, false, List, [], ◌∷◌, ◌++◌, length, take, refl, ap, ◌∙◌, arith, codes, inl, inr, length-append}
-use Rattle.std.proofs.lemmas.Int.{ints}
+use Rattle.std.proofs.Common.{◌≡◌, ℕ, suc, ℤ, ◌<◌, ◌≤◌, ◌+◌, ◌-◌, ◌^◌, Bool, true, List, [], ◌∷◌, ◌++◌, length, take, refl, arith, codes, length-append}
 use Rattle.std.proofs.lemmas.List.FromFn.{length-map-range_with_len}
 use Rattle.mintc_text.specs.declared.limits.TheConstants.{MOST_COUNT}
-use Rattle.mintc_text.specs.Lines.{numeral_of}
 use Rattle.mintc_timing.specs.declared.parts.Element.{Element}
 use Rattle.mintc_timing.specs.declared.parts.TimingArc.{TimingArc}
 use Rattle.mintc_timing.specs.declared.parts.Bound.{Bound}
 use Rattle.mintc_timing.specs.declared.parts.Point.{Point}
-use Rattle.mintc_timing.specs.declared.parts.Point.TheVariants.{Origin, Start, End}
 use Rattle.mintc_lines.specs.declared.table_lines.Version.{Version}
-use Rattle.mintc_lines.specs.declared.table_lines.Version.TheVariants.{Latches, Flops, Openings}
 use Rattle.mintc_timing.specs.Design.{design_of}
-use Rattle.mintc_lines.specs.Fields.{IsName, plain, plain_line, number, IsCount, Spells}
-use Rattle.mintc_timing.specs.Limits.{IsElement, IsGap, IsPoint}
+use Rattle.mintc_lines.specs.Fields.{plain, plain_line, number, IsCount, Spells}
+use Rattle.mintc_timing.specs.Limits.{IsGap, IsPoint}
 use Rattle.mintc_lines.specs.Reading.{Reading, HasRead, IsAt, number_after}
 use Rattle.mintc_lines.specs.TableReading.{AreKept}
-use Rattle.mintc_lines.specs.TableText.{NextOfTable, TableLines, first, phase, element, arc, bound, inner_names, kind_word, hold_word, element_words, IsElementLine, IsFromWord, IsToWord, IsArcLine, IsBoundLine, point_word}
+use Rattle.mintc_lines.specs.TableText.{NextOfTable, TableLines, first, phase, element, arc, bound, inner_names, kind_word, hold_word, IsElementLine, IsArcLine, IsBoundLine, point_word}
 use Rattle.mintc_lines.proofs.SharedFieldsLaws.{seen}
 use Rattle.mintc_lines.proofs.SharedReadingLaws.{list_more, list_all}
 

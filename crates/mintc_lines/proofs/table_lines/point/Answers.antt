@@ -1,6 +1,5 @@
 use Rattle.std.proofs.Common.{◌≡◌, arith, rules, codes}
-use Rattle.mintc_lines.proofs.SharedReadingLaws.{at_none}
-use Rattle.mintc_lines.proofs.TableLineLaws.{point_none, point_past}
+use Rattle.mintc_lines.proofs.TableLineLaws.{point_past}
 use Rattle.mintc_lines.proofs.table_lines.point.Goals as goal
 use Rattle.mintc_lines.proofs.table_lines.point.Goals.{then-phase-lt1-via-then-phase-lt1, then-phase-lt1-via-else-phase-lt1+then-phase-phases}
 

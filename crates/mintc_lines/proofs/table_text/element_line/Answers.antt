@@ -1,4 +1,4 @@
-use Rattle.std.proofs.Common.{◌++◌, arith}
+use Rattle.std.proofs.Common.{arith}
 use Rattle.mintc_lines.specs.ElementWords.{named}
 use Rattle.mintc_lines.specs.TableText.{IsElementLine}
 use Rattle.mintc_lines.proofs.SharedReadingLaws.{at_none, read_there}

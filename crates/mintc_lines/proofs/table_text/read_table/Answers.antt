@@ -1,10 +1,9 @@
-use Rattle.std.proofs.Common.{◌≡◌, Some, sym, subst, refl, inl, inr}
-use Rattle.std.proofs.lemmas.Result.{IfOk-weaker, MatchResult-weaker}
+use Rattle.std.proofs.Common.{◌≡◌, Some, inr}
+use Rattle.std.proofs.lemmas.Result.{MatchResult-weaker}
 use Rattle.mintc_timing.specs.Design.{Design}
 use Rattle.mintc_timing.specs.Limits.{limit_of}
-use Rattle.mintc_lines.specs.Reading.{Halts}
 use Rattle.mintc_lines.specs.TableReading.{ArePartsOf}
-use Rattle.mintc_lines.specs.TableText.{NextOfTable, first, IsTableText, IsTableFault, IsTableRefusal}
+use Rattle.mintc_lines.specs.TableText.{NextOfTable, first, IsTableRefusal}
 use Rattle.mintc_lines.proofs.SharedReadingLaws.{at_start}
 use Rattle.mintc_lines.proofs.TableLaws.{HasParts-from_text, stops_weaker}
 use Rattle.mintc_lines.proofs.table_text.read_table.Goals as goal
