@@ -53,23 +53,14 @@ after_kind v e = numeral_of e.setup ∷ after_setup v e
 
 pub element_phase : (v : Version) (e : Element) (name : List ℕ) (ws a b : List (List ℕ)) → ws ≡ codes "element" ∷ a → a ≡ name ∷ b → ws ≡ element_words v e →
     b ≡ number e.phase ∷ with_kind v e.flop (after_kind v e)
-element_phase v e name ws a b first second words =
-    let one : a ≡ e.name ∷ number e.phase ∷ with_kind v e.flop (after_kind v e) = cc in cc
+element_phase v e name ws a b first second words = grind arith
 
 pub element_kind : (v : Version) (e : Element) (name : List ℕ) (phase : ℕ) (flop : Bool) (ws a b c d : List (List ℕ)) → ws ≡ codes "element" ∷ a → a ≡ name ∷ b → b ≡ number phase ∷ c → c ≡ with_kind v flop d →
     IsKind v flop → IsOfVersion v e → ws ≡ element_words v e → (flop ≡ e.flop) × (d ≡ after_kind v e)
-element_kind v e name phase flop ws a b c d first second third fourth kind version words =
-    let two : b ≡ number e.phase ∷ with_kind v e.flop (after_kind v e) = element_phase v e name ws a b first second words in
-    let three : c ≡ with_kind v e.flop (after_kind v e) = cc in
-    kind_same v flop e.flop d (after_kind v e) kind (kind_of v e version) (sym fourth ∙ three)
+element_kind v e name phase flop ws a b c d first second third fourth kind version words = grind arith
 
 -- the words that were read, put together
 pub element_spelled : (v : Version) (name : List ℕ) (n : ElementNumbers) (ws a b c d f g h i j : List (List ℕ)) → ws ≡ codes "element" ∷ a → a ≡ name ∷ b → b ≡ number n.phase ∷ c → c ≡ with_kind v n.flop d →
     d ≡ numeral_of n.setup ∷ f → f ≡ hold_word n.has_hold n.hold ∷ g → g ≡ numeral_of n.dq_min ∷ numeral_of n.dq_max ∷ h → h ≡ with_openings v n.cq_min n.cq_max i → i ≡ numeral_of n.width ∷ j → j ≡ [] →
     ws ≡ element_words v (named name n)
-element_spelled v name n ws a b c d f g h i j e1 e2 e3 e4 e5 e6 e7 e8 e9 e10 =
-    let last : i ≡ numeral_of n.width ∷ [] = cc in
-    let cq : h ≡ with_openings v n.cq_min n.cq_max (numeral_of n.width ∷ []) = e8 ∙ ap (λ (l : List (List ℕ)). with_openings v n.cq_min n.cq_max l) last in
-    let tail : d ≡ after_kind v (named name n) = cc in
-    let kind : c ≡ with_kind v n.flop (after_kind v (named name n)) = e4 ∙ ap (λ (l : List (List ℕ)). with_kind v n.flop l) tail in
-    cc
+element_spelled v name n ws a b c d f g h i j e1 e2 e3 e4 e5 e6 e7 e8 e9 e10 = grind arith
