@@ -1,10 +1,10 @@
 -- The fields of a line.
-use Rattle.std.proofs.Common.{◌≡◌, ℕ, ℤ, pos, negsuc, neg_ℤ, ◌≤ℤ◌, suc, ◌<◌, ◌≤◌, ◌^◌, ◌&&◌, Bool, true, false, if◌then◌else◌, List, [], ◌∷◌, ◌++◌, length, get_or, take, drop, refl, ap, ◌∙◌, sym, arith, eqb, leb, decimal, All, length-take}
+use Rattle.std.proofs.Common.{◌≡◌, ℕ, ℤ, pos, negsuc, neg_ℤ, ◌≤ℤ◌, suc, ◌<◌, ◌≤◌, ◌+◌, ◌-◌, add-one, ◌^◌, ◌&&◌, Bool, true, false, if◌then◌else◌, List, [], ◌∷◌, ◌++◌, length, get_or, take, drop, refl, ap, ◌∙◌, sym, arith, eqb, leb, decimal, All, length-take}
 use Rattle.std.proofs.lemmas.Fmt.{decimal_is_IsNumeral, decimal_nonempty}
 use Rattle.std.proofs.lemmas.Int.{ints}
 use Rattle.std.proofs.lemmas.Bool.{ne_eqb}
 use Rattle.std.proofs.lemmas.Bool.Decides.{nat_tests}
-use Rattle.std.proofs.lemmas.List.{get_or-take, ext_get_or}
+use Rattle.std.proofs.lemmas.List.{get_or-take, ext_get_or, take_rest}
 use Rattle.std.proofs.lemmas.List.Elements.{All-from_get_or, All-head, All-tail, All-cons, All-nil}
 use Rattle.std.proofs.lemmas.List.Splits.{slice_split_none, slice_split_at, join_with_byte-slice_split, length-slice_split}
 use Rattle.std.proofs.Math.Seq.{split_at}
@@ -36,6 +36,13 @@ fields_first bytes at h none here =
     let cut : bytes ≡ take at bytes ++ get_or bytes at 0 ∷ drop (suc at) bytes = split_at bytes at 0 h in
     ap fields_of (cut ∙ ap (λ (b : ℕ). take at bytes ++ b ∷ drop (suc at) bytes) here)
     ∙ slice_split_at (λ b. eqb b 32) (take at bytes) 32 (drop (suc at) bytes) (no_space 32 (take at bytes) (front_free bytes at h none)) refl
+
+-- the same of what is left past the space
+pub fields_passed : (bytes : List ℕ) (at : ℕ) → at < length bytes → ((k : ℕ) → k < at → get_or bytes k 0 ≡ 32 → ⊥) → get_or bytes at 0 ≡ 32 →
+    fields_of bytes ≡ take at bytes ∷ fields_of (take (length bytes - (at + 1)) (drop (at + 1) bytes))
+fields_passed bytes at h none here = fields_first bytes at h none here ∙ ap (λ w. take at bytes ∷ fields_of w) (ap (λ n. drop n bytes) (sym (add-one at)) ∙ sym (take_rest bytes (at + 1)))
+
+pub ruleset cuts = (fields_last, fields_passed)
 
 -- the words of a line, joined again, are the line
 pub words-fields : (line : List ℕ) → words (fields_of line) ≡ line
