@@ -1,19 +1,13 @@
 -- The words of an element's line.
-use Rattle.std.proofs.Common.{◌≡◌, ℕ, ℤ, ◌≤◌, ◌-◌, Bool, true, false, IsTrue, List, [], ◌∷◌, length, take, drop, refl, ap, ◌∙◌, sym, subst, arith, codes, decimal, inl, inr}
-use Rattle.std.proofs.lemmas.Fmt.{decimal_injective}
-use Rattle.std.proofs.lemmas.List.{take_rest}
+use Rattle.std.proofs.Common.{◌≡◌, ℕ, ℤ, ◌≤◌, Bool, List, [], ◌∷◌, arith, codes}
 use Rattle.mintc_text.specs.Lines.{numeral_of}
-use Rattle.mintc_text.proofs.SharedNumeralsLaws.{same_numeral}
 use Rattle.mintc_timing.specs.declared.parts.Element.{Element}
-use Rattle.mintc_timing.specs.declared.parts.Point.{Point}
-use Rattle.mintc_timing.specs.declared.parts.Point.TheVariants.{Origin, Start, End}
 use Rattle.mintc_lines.specs.declared.table_lines.ElementNumbers.{ElementNumbers}
 use Rattle.mintc_lines.specs.declared.table_lines.Version.{Version}
-use Rattle.mintc_lines.specs.declared.table_lines.Version.TheVariants.{Latches, Flops, Openings}
-use Rattle.mintc_lines.specs.Fields.{IsName, AreDelays, IsCount, number}
-use Rattle.mintc_timing.specs.Limits.{IsElement, IsDelay, IsGap, IsPoint}
-use Rattle.mintc_lines.specs.ElementWords.{named, IsKind, IsHold, are_equal, IsOpening}
-use Rattle.mintc_lines.specs.TableText.{kind_word, hold_word, with_kind, with_openings, element_words, IsOfVersion, IsElementLine, IsFromWord, IsToWord, point_word}
+use Rattle.mintc_lines.specs.Fields.{IsName, AreDelays, number}
+use Rattle.mintc_timing.specs.Limits.{IsElement, IsDelay, IsGap}
+use Rattle.mintc_lines.specs.ElementWords.{named, IsKind, IsHold, IsOpening}
+use Rattle.mintc_lines.specs.TableText.{hold_word, with_kind, with_openings, element_words, IsOfVersion, IsElementLine}
 use Rattle.mintc_lines.proofs.SharedFieldsLaws.{read_back}
 
 -- ---- the parts of an element's line

@@ -1,24 +1,19 @@
 -- Lines of arcs, bounds and elements have one spelling.
-use Rattle.std.proofs.Common.{◌≡◌, ℕ, suc, ℤ, pos, negsuc, neg_ℤ, ◌<◌, ◌≤◌, ◌^◌, Bool, true, false, List, [], ◌∷◌, ◌++◌, length, get_or, refl, ap, ◌∙◌, sym, subst, arith, codes, decimal, inl, inr}
+use Rattle.std.proofs.Common.{◌≡◌, ℕ, ℤ, pos, Bool, List, get_or, refl, ap, ◌∙◌, sym, arith, codes, decimal}
 use Rattle.std.proofs.lemmas.Fmt.{decimal_digit}
-use Rattle.std.proofs.lemmas.Int.{ints}
-use Rattle.mintc_text.specs.declared.limits.TheConstants.{MOST_DELAY}
 use Rattle.mintc_text.specs.Lines.{numeral_of}
 use Rattle.mintc_text.specs.Words.{IsShort}
-use Rattle.mintc_text.proofs.SharedNumeralsLaws.{same_numeral, plain_from_decimal, digit_here}
 use Rattle.mintc_timing.specs.declared.parts.Element.{Element}
 use Rattle.mintc_timing.specs.declared.parts.TimingArc.{TimingArc}
 use Rattle.mintc_timing.specs.declared.parts.Bound.{Bound}
 use Rattle.mintc_timing.specs.declared.parts.Point.{Point}
-use Rattle.mintc_timing.specs.declared.parts.Point.TheVariants.{Origin, Start, End}
 use Rattle.mintc_lines.specs.declared.table_lines.Version.{Version}
-use Rattle.mintc_lines.specs.declared.table_lines.Version.TheVariants.{Latches, Flops, Openings}
 use Rattle.mintc_lines.specs.Fields.{IsCount, number}
 use Rattle.mintc_timing.specs.Limits.{IsElement, IsDelay, IsGap, IsPoint}
 use Rattle.mintc_lines.specs.ElementWords.{IsHold}
-use Rattle.mintc_lines.specs.TableText.{hold_word, with_kind, element_words, IsOfVersion, IsElementLine, IsFromWord, IsToWord, IsArcLine, IsBoundLine, point_word}
+use Rattle.mintc_lines.specs.TableText.{hold_word, with_kind, element_words, IsOfVersion, IsElementLine, IsArcLine, IsBoundLine, point_word}
 use Rattle.mintc_lines.proofs.SharedFieldsLaws.{value, value_of, read_back}
-use Rattle.mintc_lines.proofs.TableLineLaws.{lettered_same, kind_of, kind_same, after_kind, after_dq}
+use Rattle.mintc_lines.proofs.TableLineLaws.{kind_of, kind_same, after_kind, after_dq}
 
 -- ---- the words of an element, of an arc and of a bound have one value
 

@@ -1,10 +1,10 @@
-use Rattle.std.proofs.Common.{◌≡◌, ◌∷◌, [], sym, ◌∙◌}
+use Rattle.std.proofs.Common.{◌∷◌, []}
 use Rattle.mintc_text.specs.Lines.{numeral_of}
 use Rattle.mintc_lines.specs.declared.table_lines.ElementNumbers.{ElementNumbers}
 use Rattle.mintc_lines.specs.Fields.{AreDelays}
 use Rattle.mintc_timing.proofs.SharedFitting.{read_time, IsTime-IsDelay, IsTime-IsGap}
 use Rattle.mintc_lines.proofs.SharedReadingLaws.{at_none}
-use Rattle.mintc_lines.proofs.TableLineLaws.{element_phase, element_kind, element_made, element_spelled, opening_of, openings_same, same_delays, after_setup, after_hold, after_dq}
+use Rattle.mintc_lines.proofs.TableLineLaws.{element_phase, element_kind, element_made, element_spelled, opening_of, openings_same, same_delays, after_hold, after_dq}
 use Rattle.mintc_lines.proofs.table_lines.element_of.Goals as goal
 
 pub returns-in_err-phase : goal.returns-in_err-phase
