@@ -127,9 +127,6 @@ pub ruleset seen = (ints, plain_graphic, plain_number, plain_numeral)
 pub fields_some : (bytes : List ℕ) → fields_of bytes ≡ [] → ⊥
 fields_some bytes h = omega (arith, ap length h, length-slice_split (λ b. eqb b 32) bytes)
 
-pub short_delay : (z : ℤ) → IsDelay z → IsShort z
-short_delay z d = short (pos 0) MOST_DELAY z (omega (arith, ints)) (omega (arith, ints)) d
-
 -- digits at the front of a line, of which the first is no zero before others, are the numeral of a number and have no space
 pub record IsFront (rest : List ℕ) (end value : ℕ) : Type 0 where
   pub small : value < 10 ^ 17

@@ -44,10 +44,6 @@ words_free (w ∷ x ∷ ws) h =
     All-append (λ c. eqb c 10 ≡ false) w (32 ∷ words (x ∷ ws)) (plain_free 10 w (omega arith) p.0)
     (All-cons (λ c. eqb c 10 ≡ false) 32 (words (x ∷ ws)) refl (words_free (x ∷ ws) p.1))
 
--- a line that ends in a line feed is there
-pub line_there : (line more : List ℕ) → Contains (ended line ++ more) 10
-line_there line more = Contains-append_left (ended line) more 10 (Contains-append_right line (10 ∷ []) 10 (0, omega arith, refl))
-
 -- ---- a line that is read by its words
 
 -- what the reader of words says, said of the text: the next line has these words
@@ -205,11 +201,6 @@ module _ {A S : Type 0} {part : A → List ℕ → A → Type 0} {next : S → L
 -- ---- a list: a state for each number of lines that are left
 
 module _ {S X : Type 0} {next : S → List ℕ → S → Type 0} {start : S} (st : ℕ → List X → S) where
-  pub list_none : (text : List ℕ) (reading : Reading) (found : List X) (count : ℕ) → IsAt next start text reading (st count []) → found ≡ [] → IsAt next start text reading (st (count - 0) found)
-  list_none text reading found count at e =
-      let same : count ≡ count - 0 = omega arith in
-      subst (λ (xs : List X). IsAt next start text reading (st (count - 0) xs)) (sym e) (subst (λ (n : ℕ). IsAt next start text reading (st n [])) same at)
-
   pub list_more : (F : X → List (List ℕ) → Type 0) (text : List ℕ) (old new : Reading) (found found' : List X) (i count : ℕ) (x : X) →
       IsAt next start text old (st (count - i) found) → i < count → HasRead F old.left x new.left → new.number ≡ number_after old.number → found' ≡ found ++ x ∷ [] →
       ((left : ℕ) (all : List X) (line : List ℕ) → Spells F x line → next (st (suc left) all) line (st left (all ++ x ∷ []))) → IsAt next start text new (st (count - (i + 1)) found')
