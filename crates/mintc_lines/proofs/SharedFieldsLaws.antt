@@ -8,7 +8,6 @@ use Rattle.std.proofs.lemmas.List.{get_or-take, ext_get_or, take_rest}
 use Rattle.std.proofs.lemmas.List.Elements.{All-from_get_or, All-head, All-tail, All-cons, All-nil}
 use Rattle.std.proofs.lemmas.List.Splits.{slice_split_none, slice_split_at, join_with_byte-slice_split, length-slice_split}
 use Rattle.std.proofs.Math.Seq.{split_at}
-use Rattle.mintc_text.specs.declared.limits.TheConstants.{MOST_DELAY}
 use Rattle.mintc_text.specs.Lines.{words, numeral_of, IsGraphic, IsWithin}
 use Rattle.mintc_text.specs.Words.{IsShort}
 use Rattle.std.proofs.lemmas.Int.Digits.{digits_value-lt}
@@ -16,7 +15,6 @@ use Rattle.std.specs.Str.Parse.{AllDigits, digits_value}
 use Rattle.mintc_text.proofs.SharedDigitsLaws.{ten_to-le}
 use Rattle.mintc_text.proofs.SharedNumeralsLaws.{IsPlain, plain_from_decimal, digit_here, decimal_from_plain}
 use Rattle.mintc_lines.specs.Fields.{fields_of, plain, plain_line}
-use Rattle.mintc_timing.specs.Limits.{IsDelay}
 
 -- ---- a line cut at its spaces
 

@@ -1,25 +1,20 @@
 -- Where a reader of lines stands.
-use Rattle.std.proofs.Common.{◌≡◌, ℕ, ℤ, pos, negsuc, ◌≤ℤ◌, suc, ◌<◌, ◌≤◌, ◌+◌, ◌-◌, ◌^◌, true, false, Option, Some, None, MatchOption, Result, Ok, Err, MatchResult, List, [], ◌∷◌, ◌++◌, length, length-append, refl, ap, ◌∙◌, sym, subst, arith, eqb, decimal, All, Contains, append_assoc}
+use Rattle.std.proofs.Common.{◌≡◌, ℕ, ℤ, pos, negsuc, ◌≤ℤ◌, suc, ◌<◌, ◌≤◌, ◌+◌, ◌-◌, ◌^◌, true, false, Option, Some, None, MatchOption, List, [], ◌∷◌, ◌++◌, length, length-append, refl, ap, ◌∙◌, sym, subst, arith, eqb, decimal, All, Contains, append_assoc}
 use Rattle.std.proofs.lemmas.Grind.{flat_map-append, get_or_default_zero}
 use Rattle.std.proofs.lemmas.List.{append_cancel_left, append-nil}
-use Rattle.std.proofs.lemmas.List.Elements.{All-append, All-cons, Contains-append_left, Contains-append_right}
+use Rattle.std.proofs.lemmas.List.Elements.{All-append, All-cons}
 use Rattle.std.proofs.lemmas.List.Splits.{slice_split_at}
 use Rattle.std.specs.List.{slice_split}
 use Rattle.mintc_text.specs.declared.limits.TheConstants.{MOST_BYTES}
 use Rattle.mintc_text.specs.Lines.{words, ended, text_of, numeral_of, Follows, IsFault, IsText}
 use Rattle.mintc_lines.specs.Fields.{plain, plain_line, Spells, IsWordLine, IsNumberLine, IsCountLine, IsNameLine}
-use Rattle.mintc_lines.specs.declared.halt.Halt.{Halt}
-use Rattle.mintc_lines.specs.Reading.{Reading, Halts, HasRead, HasNone, HasPassed, HasStopped, IsAt, number_after}
+use Rattle.mintc_lines.specs.Reading.{Reading, HasRead, HasNone, HasPassed, HasStopped, IsAt, number_after}
 use Rattle.mintc_lines.proofs.SharedFieldsLaws.{and_parts, and_both, no_space, plain_free, plain_numeral, plain_number, plain_graphic, short}
 
--- the exits of a `?`
+-- the exit of a `?`
 pub at_none : {T : Type 0} (r : Option T) (P : Type 0) (Q : T → Type 0) → r ≡ None → P → MatchOption r P Q
 at_none None P Q e p = p
 at_none (Some x) P Q e p = absurd (cc e)
-
-pub at_halt : {T : Type 0} (r : Result T Halt) (h : Halt) (P : T → Type 0) (fault : Type 0) → ((x : Halt) × (r ≡ Err x) × (x ≡ h)) → Halts fault h → MatchResult r P (Halts fault)
-at_halt (Ok v) h P fault e told = absurd (cc e.1)
-at_halt (Err y) h P fault e told = let same : y ≡ h = cc (e.1, e.2) in subst (Halts fault) (sym same) told
 
 -- ---- where a line ends
 

@@ -147,12 +147,9 @@ text_step (whole s) = no_step
 pub schedule_plain : IsPlainFormat NextOfText Any
 schedule_plain = record { keeps = λ a b line p h. tt; one = λ a b c line p h g. (text_step a).one b c line h g; free = λ a b line p h. (text_step a).free b line h }
 
-whole_same : (s t : Schedule) → whole s ≡ whole t → s ≡ t
-whole_same s t e = cc
-
 pub schedules_have_one_value : HaveOneSchedule
 schedules_have_one_value text s t h g =
-    whole_same s t (text_one_end NextOfText Any schedule_plain first (whole s) (whole t) text tt h g (λ line after step. step) (λ line after step. step))
+    let same = text_one_end NextOfText Any schedule_plain first (whole s) (whole t) text tt h g (λ line after step. step) (λ line after step. step) in cc
 
 pub schedules_have_no_fault : HaveNoScheduleFault
 schedules_have_no_fault text s n h f = text_no_fault NextOfText IsWholeText Any schedule_plain first (whole s) text n tt h tt f

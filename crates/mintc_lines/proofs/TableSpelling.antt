@@ -52,9 +52,9 @@ step (phase v zero d) f p = step_by (total_form (codes "elements") 0 refl) (λ m
 step (element v (suc left) d) f p = step_by (element_form v (length d.phases) p.0.0) (λ x y k l. rest_same d.elements f.elements x y left left k.1 l.1)
 step (element v zero d) f p = step_by (total_form (codes "inner") 0 refl) (λ m n k l. sym (length-inner_names m) ∙ ap length (sym k.2 ∙ l.2) ∙ length-inner_names n)
 step (arcs d) f p = step_by (total_form (codes "arcs") 0 refl) (λ m n k l. rest_count d.arcs f.arcs m n k.3 l.3)
-step (arc (suc left) d) f p = step_by (arc_form (length d.elements) (length d.inner) p.0.elements_few p.0.inner_few) (λ x y k l. rest_same d.arcs f.arcs x y left left k.3 l.3)
+step (arc (suc left) d) f p = step_by (arc_form (length d.elements) (length d.inner) p.0.1 p.0.2) (λ x y k l. rest_same d.arcs f.arcs x y left left k.3 l.3)
 step (arc zero d) f p = step_by (total_form (codes "bounds") 0 refl) (λ m n k l. rest_count d.bounds f.bounds m n k.4 l.4)
-step (bound (suc left) d) f p = step_by (bound_form (length d.phases) p.0.phases_few) (λ x y k l. rest_same d.bounds f.bounds x y left left k.4 l.4)
+step (bound (suc left) d) f p = step_by (bound_form (length d.phases) p.0.0) (λ x y k l. rest_same d.bounds f.bounds x y left left k.4 l.4)
 step (bound zero d) f p = step_by (word_form (codes "end") refl) (λ u w k l. refl)
 step (whole d) f p = no_way (λ line b h i. h)
 

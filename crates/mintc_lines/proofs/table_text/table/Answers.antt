@@ -26,8 +26,7 @@ returns-in_default c = λ text at.
     let ns = inner_names c.in_ok-names.inner in
     let two = c.in_ok-joined.ensures text one.0 one.1 ns one.3.counted (length-inner_names c.in_ok-names.inner) one.4 in
     let three = c.in_ok-demands.ensures text one.0 one.1 ns two.0 one.2.counted two.2 in
-    at_fault three.2
-    c.in_default.ensures.read c.in_default.ensures.counted (λ e. e) (λ line after step. (step.0, step.1))
+    at_fault three.2 c.in_default.ensures.read c.in_default.ensures.counted (λ e. e) (λ line after step. (step.0, step.1))
 
 pub returns-in_default-end : goal.returns-in_default-end
 returns-in_default-end c = λ text at.
