@@ -6,13 +6,12 @@ use Rattle.mintc_text.specs.declared.limits.TheConstants.{MOST_PHASES, MOST_DENO
 use Rattle.mintc_timing.specs.declared.clocking.Schedule.{Schedule}
 use Rattle.mintc_lines.specs.Fields.{IsNumberLine, IsCountLine}
 use Rattle.mintc_timing.specs.Limits.{IsNumerator, IsDenominator, IsInRange}
-use Rattle.mintc_lines.specs.TextLaws.{HaveOneSchedule, HaveNoScheduleFault, HaveOneScheduleFault}
 use Rattle.mintc_lines.specs.Texts.{NextOfSchedule, NextOfText, IsWholeText, IsLast, IsPhaseLine, IsScheduleText, ScheduleLines, den, cycle, phases, phase, TextLines, first, body, whole, no_phases, with_phase}
 use Rattle.mintc_lines.proofs.SharedFieldsLaws.{read_back}
 use Rattle.mintc_lines.proofs.SharedLineLaws.{IsForm, word_form, count_form, number_form}
 use Rattle.mintc_lines.proofs.SharedScheduleReading.{plain-phase_line}
 use Rattle.mintc_lines.proofs.SharedSpelling.{rest_count, Agrees, agrees_none, agrees_back, agrees_same, IsSpelledStep}
-use Rattle.mintc_lines.proofs.SharedTextLaws.{along, IsPlainFormat, IsPlainStep, plain_step, no_step, step_by, text_one_end, text_no_fault, text_one_fault}
+use Rattle.mintc_lines.proofs.SharedTextLaws.{along, IsPlainFormat, IsPlainStep, plain_step, no_step, step_by, ArePlainTexts, plain_texts}
 
 -- what is kept of a schedule while its lines come
 pub record IsSoFar (left : ℕ) (s : Schedule) : Type 0 where
@@ -147,12 +146,5 @@ text_step (whole s) = no_step
 pub schedule_plain : IsPlainFormat NextOfText Any
 schedule_plain = record { keeps = λ a b line p h. tt; one = λ a b c line p h g. (text_step a).one b c line h g; free = λ a b line p h. (text_step a).free b line h }
 
-pub schedules_have_one_value : HaveOneSchedule
-schedules_have_one_value text s t h g =
-    let same = text_one_end NextOfText Any schedule_plain first (whole s) (whole t) text tt h g (λ line after step. step) (λ line after step. step) in cc
-
-pub schedules_have_no_fault : HaveNoScheduleFault
-schedules_have_no_fault text s n h f = text_no_fault NextOfText IsWholeText Any schedule_plain first (whole s) text n tt h tt f
-
-pub schedules_have_one_fault : HaveOneScheduleFault
-schedules_have_one_fault text m n f g = text_one_fault NextOfText IsWholeText Any schedule_plain first text m n tt f g
+pub schedule_texts : ArePlainTexts NextOfText IsWholeText first whole
+schedule_texts = plain_texts whole schedule_plain tt (λ s t e. cc e) (λ s. tt)

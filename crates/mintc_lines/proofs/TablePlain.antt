@@ -5,11 +5,10 @@ use Rattle.mintc_lines.specs.declared.table_lines.Version.{Version}
 use Rattle.mintc_timing.specs.Design.{Design}
 use Rattle.mintc_lines.specs.Fields.{IsCount, plain, IsCountLine}
 use Rattle.mintc_lines.specs.TableText.{NextOfTable, IsWholeTable, TableLines, first, phases, phase, element, arcs, arc, bound, whole, IsElementLine, IsArcLine, IsBoundLine}
-use Rattle.mintc_lines.specs.TextLaws.{HaveOneDesign, HaveNoTableFault, HaveOneTableFault}
 use Rattle.mintc_lines.proofs.SharedLineLaws.{IsForm, word_form, count_form, name_form}
 use Rattle.mintc_lines.proofs.TableOne.{element_one, arc_one, arc_words, bound_one}
 use Rattle.mintc_lines.proofs.TableReading.{plain-element_line, plain-arc_line, plain-bound_line, length-inner_names}
-use Rattle.mintc_lines.proofs.SharedTextLaws.{IsPlainFormat, IsPlainStep, plain_step, no_step, text_one_end, text_no_fault, text_one_fault}
+use Rattle.mintc_lines.proofs.SharedTextLaws.{IsPlainFormat, IsPlainStep, plain_step, no_step, ArePlainTexts, plain_texts}
 
 -- the counts of a design whose lists are counted in its text
 abbrev pub IsCounted : Design → Type 0
@@ -68,12 +67,5 @@ table_plain = record {
   free = λ a b line p h. (table_step a p).free b line h;
 }
 
-pub tables_have_one_value : HaveOneDesign
-tables_have_one_value text c d h g =
-    let same = text_one_end NextOfTable Counted table_plain first (whole c) (whole d) text tt h g (λ line after step. step) (λ line after step. step) in cc
-
-pub tables_have_no_fault : HaveNoTableFault
-tables_have_no_fault text d n h f = text_no_fault NextOfTable IsWholeTable Counted table_plain first (whole d) text n tt h tt f
-
-pub tables_have_one_fault : HaveOneTableFault
-tables_have_one_fault text m n f g = text_one_fault NextOfTable IsWholeTable Counted table_plain first text m n tt f g
+pub table_texts : ArePlainTexts NextOfTable IsWholeTable first whole
+table_texts = plain_texts whole table_plain tt (λ c d e. cc e) (λ d. tt)
