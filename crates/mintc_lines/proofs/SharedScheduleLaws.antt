@@ -1,5 +1,6 @@
 -- What is read as a schedule is in range, and its lines are plain.
-use Rattle.std.proofs.Common.{◌≡◌, ℕ, zero, suc, ℤ, pos, ◌≤◌, ◌+◌, List, [], ◌∷◌, length, length-append, All, refl, ◌∙◌, sym, subst, arith, codes}
+use Rattle.std.proofs.Common.{◌≡◌, ℕ, zero, suc, ℤ, pos, ◌≤◌, ◌+◌, List, [], length, All, refl, ◌∙◌, sym, subst, arith, codes}
+use Rattle.std.proofs.lemmas.Grind.{common_steps}
 use Rattle.std.proofs.lemmas.Int.{ints}
 use Rattle.std.proofs.lemmas.List.Elements.{All-push, All-nil}
 use Rattle.mintc_text.specs.declared.limits.TheConstants.{MOST_PHASES, MOST_DENOMINATOR, MOST_NUMERATOR}
@@ -25,36 +26,13 @@ pub record IsSoFar (left : ℕ) (s : Schedule) : Type 0 where
 
 -- the lines before those of the phases begin it, the line of a phase keeps it, and the last of them ends it
 phases_begun : (d t : ℤ) (left : ℕ) → IsDenominator d → IsNumerator t → 1 ≤ left → left ≤ MOST_PHASES → IsSoFar left (no_phases d t)
-phases_begun d t left den_in cycle_in some few = record {
-  den = den_in;
-  cycle = cycle_in;
-  starts = All-nil IsNumerator;
-  widths = All-nil IsNumerator;
-  alike = refl;
-  some = omega arith;
-  few = omega arith;
-}
+phases_begun d t left den_in cycle_in some few = grind (arith, All-nil)
 
 phase_kept : (left : ℕ) (s : Schedule) (p : ℤ × ℤ) (ws : List (List ℕ)) → IsSoFar (suc left) s → IsPhaseLine p ws → IsSoFar left (with_phase s p)
-phase_kept left s p ws k h = record {
-  den = k.den;
-  cycle = k.cycle;
-  starts = All-push IsNumerator s.starts p.0 k.starts h.0;
-  widths = All-push IsNumerator s.widths p.1 k.widths h.1;
-  alike = omega (arith, k.alike, length-append s.starts (p.0 ∷ []), length-append s.widths (p.1 ∷ []));
-  some = omega (arith, length-append s.starts (p.0 ∷ []));
-  few = omega (arith, k.few, length-append s.starts (p.0 ∷ []));
-}
+phase_kept left s p ws k h = grind (arith, common_steps, All-push)
 
 phases_ended : (s : Schedule) → IsSoFar 0 s → IsInRange s
-phases_ended s k = record {
-  den = k.den;
-  cycle = k.cycle;
-  starts = k.starts;
-  widths = k.widths;
-  phases = (omega (arith, k.some), omega (arith, k.few));
-  alike = k.alike;
-}
+phases_ended s k = grind arith
 
 abbrev pub KeepsSchedule : ScheduleLines → Type 0
 KeepsSchedule den = Unit {0}

@@ -1,8 +1,9 @@
 -- Tables that are one value have one text.
 use Rattle.std.proofs.Common.{◌≡◌, ℕ, zero, suc, List, [], length, refl, ap, ◌∙◌, sym, subst, codes}
 use Rattle.mintc_timing.specs.Design.{Design}
-use Rattle.mintc_lines.specs.TextLaws.{HaveOneTableText}
+use Rattle.mintc_lines.specs.TextLaws.{HaveOneScheduleText, HaveOneTableText}
 use Rattle.mintc_lines.specs.TableText.{NextOfTable, TableLines, first, phases, phase, element, arcs, arc, bound, whole}
+use Rattle.mintc_lines.proofs.ScheduleSpelling.{schedules_have_one_text}
 use Rattle.mintc_lines.proofs.SharedLineLaws.{word_form, name_form}
 use Rattle.mintc_lines.proofs.SharedSpelling.{Rest, rest_none, rest_back, rest_same, rest_count, IsSpelled, IsSpelledStep}
 use Rattle.mintc_lines.proofs.SharedTextLaws.{step_by, no_way, one_text_after}
@@ -61,5 +62,8 @@ step (whole d) f p = no_way (λ line b h i. h)
 spelled : IsSpelled NextOfTable After whole Begins
 spelled = record { keeps = λ a b line p h. (table_step a p.0).keeps b line h; last = λ d line b h. h; ends = λ d. refl; back = back; step = step }
 
-pub tables_have_one_text : HaveOneTableText
+tables_have_one_text : HaveOneTableText
 tables_have_one_text = one_text_after table_plain spelled tt (table_step first tt).keeps (λ d e. cc e)
+
+pub one_texts : record { schedule : HaveOneScheduleText; table : HaveOneTableText }
+one_texts = record { schedule = schedules_have_one_text; table = tables_have_one_text }

@@ -18,6 +18,7 @@ pub fn table_texts_are_plain()
 {}
 
 /// A schedule has one text, and a design one with a given first line, which is its version.
+#[tactic(auto, using(crate::proofs::TableSpelling::one_texts))]
 pub fn texts_are_canonical()
     ensures schedule { HaveOneScheduleText }
     ensures table { HaveOneTableText }
