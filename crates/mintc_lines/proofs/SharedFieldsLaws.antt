@@ -29,22 +29,20 @@ front_free bytes at h none k within is =
     let low : k < at = omega (arith, within, length-take at bytes) in
     none k low (sym (get_or-take at bytes k 0 low) ∙ is)
 
-pub fields_first : (bytes : List ℕ) (at : ℕ) → at < length bytes → ((k : ℕ) → k < at → get_or bytes k 0 ≡ 32 → ⊥) → get_or bytes at 0 ≡ 32 → fields_of bytes ≡ take at bytes ∷ fields_of (drop (suc at) bytes)
-fields_first bytes at h none here =
-    let cut : bytes ≡ take at bytes ++ get_or bytes at 0 ∷ drop (suc at) bytes = split_at bytes at 0 h in
-    ap fields_of (cut ∙ ap (λ (b : ℕ). take at bytes ++ b ∷ drop (suc at) bytes) here)
-    ∙ slice_split_at (λ b. eqb b 32) (take at bytes) 32 (drop (suc at) bytes) (no_space 32 (take at bytes) (front_free bytes at h none)) refl
-
--- the same of what is left past the space
+-- where a space comes first: the word before it, and the words of what is left past it
 pub fields_passed : (bytes : List ℕ) (at : ℕ) → at < length bytes → ((k : ℕ) → k < at → get_or bytes k 0 ≡ 32 → ⊥) → get_or bytes at 0 ≡ 32 →
     fields_of bytes ≡ take at bytes ∷ fields_of (take (length bytes - (at + 1)) (drop (at + 1) bytes))
-fields_passed bytes at h none here = fields_first bytes at h none here ∙ ap (λ w. take at bytes ∷ fields_of w) (ap (λ n. drop n bytes) (sym (add-one at)) ∙ sym (take_rest bytes (at + 1)))
+fields_passed bytes at h none here =
+    let left : drop (suc at) bytes ≡ take (length bytes - (at + 1)) (drop (at + 1) bytes) = ap (λ n. drop n bytes) (sym (add-one at)) ∙ sym (take_rest bytes (at + 1)) in
+    ap fields_of (split_at bytes at 0 h ∙ ap (λ (b : ℕ). take at bytes ++ b ∷ drop (suc at) bytes) here)
+    ∙ slice_split_at (λ b. eqb b 32) (take at bytes) 32 (drop (suc at) bytes) (no_space 32 (take at bytes) (front_free bytes at h none)) refl
+    ∙ ap (λ w. take at bytes ∷ fields_of w) left
 
 pub ruleset cuts = (fields_last, fields_passed)
 
 -- the words of a line, joined again, are the line
-pub words-fields : (line : List ℕ) → words (fields_of line) ≡ line
-words-fields line = join_with_byte-slice_split 32 line
+pub words_fields : (line : List ℕ) → words (fields_of line) ≡ line
+words_fields line = join_with_byte-slice_split 32 line
 
 -- ---- words whose bytes can be seen
 
@@ -55,25 +53,19 @@ and_parts false b h = absurd (cc h)
 pub and_both : (a b : Bool) → a ≡ true → b ≡ true → (a && b) ≡ true
 and_both a b h g = rw (h, g) refl
 
-graphic_byte : (b : ℕ) → (leb 33 b && leb b 126) ≡ true → (33 ≤ b) × (b ≤ 126)
-graphic_byte b h = let p = and_parts (leb 33 b) (leb b 126) h in (grind (arith, nat_tests, p.0), grind (arith, nat_tests, p.1))
-
-byte_graphic : (b : ℕ) → (33 ≤ b) × (b ≤ 126) → (leb 33 b && leb b 126) ≡ true
-byte_graphic b h = and_both (leb 33 b) (leb b 126) (let g = h.0 in grind (arith, nat_tests)) (let g = h.1 in grind (arith, nat_tests))
-
 pub plain_graphic : (w : List ℕ) → All IsGraphic w → plain w ≡ true
 plain_graphic [] h = refl
 plain_graphic (b ∷ bs) h =
-    and_both (leb 33 b && leb b 126) (plain bs) (byte_graphic b (All-head IsGraphic b bs h)) (plain_graphic bs (All-tail IsGraphic b bs h))
+    let here = All-head IsGraphic b bs h in
+    and_both (leb 33 b && leb b 126) (plain bs) (grind (arith, nat_tests)) (plain_graphic bs (All-tail IsGraphic b bs h))
 
 -- a plain word has no byte below 33
 pub plain_free : (c : ℕ) (w : List ℕ) → c < 33 → plain w ≡ true → All (λ b. eqb b c ≡ false) w
 plain_free c [] low h = All-nil (λ b. eqb b c ≡ false)
 plain_free c (b ∷ bs) low h =
     let p = and_parts (leb 33 b && leb b 126) (plain bs) h in
-    let g = graphic_byte b p.0 in
-    let apart : b ≡ c → ⊥ = λ e. omega (arith, g) in
-    All-cons (λ x. eqb x c ≡ false) b bs (ne_eqb b c apart) (plain_free c bs low p.1)
+    let first = p.0 in
+    All-cons (λ x. eqb x c ≡ false) b bs (grind (arith, nat_tests)) (plain_free c bs low p.1)
 
 -- such words are the words of the line that they make
 pub fields-words : (ws : List (List ℕ)) → plain_line ws ≡ true → fields_of (words ws) ≡ ws

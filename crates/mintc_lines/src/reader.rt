@@ -58,6 +58,7 @@ impl<'a> Reader<'a> {
     }
 
     /// The words of the next line, which is passed. None where the text has no whole line left.
+    #[tactic(auto, using(crate::proofs::SharedFieldsLaws::words_fields))]
     pub fn fields(&mut self) -> Option<Fields<'a>>
         ensures whole { IfSome result (λ fields. self.old.left ≡ ended (words fields) ++ self.new.left) }
         ensures only { IfSome result (λ fields. (ws : List (List ℕ)) (more : List ℕ) → plain_line ws ≡ true → self.old.left ≡ ended (words ws) ++ more → fields ≡ ws) }
