@@ -6,10 +6,9 @@ use Rattle.mintc_lines.specs.Fields.{IsWordLine, IsCountLine}
 use Rattle.mintc_lines.specs.Texts.{den}
 use Rattle.mintc_lines.proofs.SharedLineLaws.{IsForm, word_form, count_form, number_form}
 use Rattle.mintc_lines.proofs.SharedScheduleLaws.{schedule_step}
-use Rattle.mintc_lines.proofs.SharedTextLaws.{IsPlainFormat, IsPlainStep, plain_step, no_step, text_one_end, text_no_fault, text_one_fault}
+use Rattle.mintc_lines.proofs.SharedTextLaws.{IsPlainFormat, IsPlainStep, plain_step, no_step, ArePlainTexts, plain_texts}
 use Rattle.mintc_certificate.specs.declared.version.Version.{Version}
 use Rattle.mintc_certificate.specs.CertificateText.{NextOfCertificate, IsDeparturesLine, IsWholeCertificate, CertificateLines, first, outcome, scheduled, departure, never, link, whole, least_departure, IsOutcomeLine, IsChainLine, IsMemberLine}
-use Rattle.mintc_certificate.specs.TextLaws.{HaveOneCertificate, HaveNoCertificateFault, HaveOneCertificateFault}
 use Rattle.mintc_certificate.proofs.CertificateReading.{IsDepartureLine, least_is, plain-outcome_line}
 use Rattle.mintc_certificate.proofs.MemberLaws.{plain_member_line, member_one}
 
@@ -62,12 +61,5 @@ Any a = Unit {0}
 pub certificate_plain : IsPlainFormat NextOfCertificate Any
 certificate_plain = record { keeps = λ a b line p h. tt; one = λ a b c line p h g. (certificate_step a).one b c line h g; free = λ a b line p h. (certificate_step a).free b line h }
 
-pub certificates_have_one_value : HaveOneCertificate
-certificates_have_one_value text c d h g =
-    let same = text_one_end NextOfCertificate Any certificate_plain first (whole c) (whole d) text tt h g (λ line after step. step) (λ line after step. step) in cc
-
-pub certificates_have_no_fault : HaveNoCertificateFault
-certificates_have_no_fault text c n h f = text_no_fault NextOfCertificate IsWholeCertificate Any certificate_plain first (whole c) text n tt h tt f
-
-pub certificates_have_one_fault : HaveOneCertificateFault
-certificates_have_one_fault text m n f g = text_one_fault NextOfCertificate IsWholeCertificate Any certificate_plain first text m n tt f g
+pub certificate_texts : ArePlainTexts NextOfCertificate IsWholeCertificate first whole
+certificate_texts = plain_texts whole certificate_plain tt (λ c d e. cc e) (λ c. tt)

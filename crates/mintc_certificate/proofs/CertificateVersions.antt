@@ -10,9 +10,10 @@ use Rattle.mintc_lines.proofs.SharedTextLaws.{after_first}
 use Rattle.mintc_certificate.specs.declared.version.Version.{Version}
 use Rattle.mintc_certificate.specs.declared.version.Version.TheVariants.{First, Second}
 use Rattle.mintc_certificate.specs.CertificateText.{NextOfCertificate, IsDeparturesLine, CertificateLines, first, outcome, scheduled, departure, never, link, whole}
-use Rattle.mintc_certificate.specs.TextLaws.{SecondSaysFirst}
+use Rattle.mintc_certificate.specs.TextLaws.{HaveOneCertificateText, SecondSaysFirst}
 use Rattle.mintc_certificate.proofs.CertificateReading.{least_is}
 use Rattle.mintc_certificate.proofs.CertificatePlain.{Begun, certificate_step, certificate_plain}
+use Rattle.mintc_certificate.proofs.CertificateSpelling.{certificates_have_one_text}
 use Rattle.mintc_certificate.proofs.CertificateWritten.{first_written, free_all}
 
 -- a state with the second version in place of its own
@@ -52,7 +53,7 @@ first_line = (1, (codes "certificate" ∷ number 1 ∷ [], (omega arith, omega a
 first_line_free : Contains (codes "certificate 1") 10 → ⊥
 first_line_free = free_all (codes "certificate 1") (certificate_plain.free first (outcome First) (codes "certificate 1") tt first_line)
 
-pub second_says_first : SecondSaysFirst
+second_says_first : SecondSaysFirst
 second_says_first x c h =
     let a = after_first certificate_plain tt (λ e. cc e) (codes "certificate 1") x first_line_free h in
     let state : a.state ≡ outcome First = certificate_plain.one first a.state (outcome First) (codes "certificate 1") tt a.begins first_line in
@@ -62,3 +63,6 @@ second_says_first x c h =
       whole = ap (λ (y : List ℕ). ended (codes "certificate 2") ++ y) a.whole;
       follows = (outcome Second, first_written, raised_all (outcome First) (whole c) a.lines tt rest);
     }
+
+pub canonical_texts : record { one : HaveOneCertificateText; versions : SecondSaysFirst }
+canonical_texts = record { one = certificates_have_one_text; versions = second_says_first }
