@@ -1,15 +1,15 @@
 -- Where a reader of lines stands.
-use Rattle.std.proofs.Common.{◌≡◌, ℕ, ℤ, pos, negsuc, ◌≤ℤ◌, suc, ◌<◌, ◌≤◌, ◌+◌, ◌-◌, ◌^◌, true, false, Option, Some, None, MatchOption, List, [], ◌∷◌, ◌++◌, length, length-append, refl, ap, ◌∙◌, sym, subst, arith, eqb, decimal, All, Contains, append_assoc}
+use Rattle.std.proofs.Common.{◌≡◌, ℕ, suc, ◌<◌, ◌≤◌, ◌+◌, ◌-◌, true, false, Option, Some, None, MatchOption, List, [], ◌∷◌, ◌++◌, length, length-append, refl, ap, ◌∙◌, sym, subst, arith, eqb, All, Contains, append_assoc}
 use Rattle.std.proofs.lemmas.Grind.{flat_map-append, get_or_default_zero}
 use Rattle.std.proofs.lemmas.List.{append_cancel_left, append-nil}
 use Rattle.std.proofs.lemmas.List.Elements.{All-append, All-cons}
 use Rattle.std.proofs.lemmas.List.Splits.{slice_split_at}
 use Rattle.std.specs.List.{slice_split}
 use Rattle.mintc_text.specs.declared.limits.TheConstants.{MOST_BYTES}
-use Rattle.mintc_text.specs.Lines.{words, ended, text_of, numeral_of, Follows, IsFault, IsText}
-use Rattle.mintc_lines.specs.Fields.{plain, plain_line, Spells, IsWordLine, IsNumberLine, IsCountLine, IsNameLine}
+use Rattle.mintc_text.specs.Lines.{words, ended, text_of, Follows, IsFault, IsText}
+use Rattle.mintc_lines.specs.Fields.{plain, plain_line, Spells}
 use Rattle.mintc_lines.specs.Reading.{Reading, HasRead, HasNone, HasPassed, HasStopped, IsAt, number_after}
-use Rattle.mintc_lines.proofs.SharedFieldsLaws.{and_parts, and_both, no_space, plain_free, plain_numeral, plain_number, plain_graphic, short}
+use Rattle.mintc_lines.proofs.SharedFieldsLaws.{and_parts, no_space, plain_free, short}
 
 -- the exit of a `?`
 pub at_none : {T : Type 0} (r : Option T) (P : Type 0) (Q : T → Type 0) → r ≡ None → P → MatchOption r P Q
@@ -51,19 +51,6 @@ pub read_there : {V : Type 0} {T : Type 0} (F : V → List (List ℕ) → Type 0
 read_there F see left new fields None plain_words whole only h =
     λ v line more e s. h v (subst (F v) (sym (only s.0 more (plain_words v s.0 s.1) (e ∙ ap (λ (l : List ℕ). ended l ++ more) s.2))) s.1)
 read_there F see left new fields (Some x) plain_words whole only h = record { line = words fields; spells = (fields, h, refl); whole = whole }
-
-pub plain-word_line : (word : List ℕ) → plain word ≡ true → (u : Unit {0}) (ws : List (List ℕ)) → IsWordLine word u ws → plain_line ws ≡ true
-plain-word_line word h u ws e = ap plain_line e ∙ h
-
-pub plain-number_line : (word : List ℕ) (least most : ℤ) → plain word ≡ true → negsuc 999999999999999998 ≤ℤ least → most ≤ℤ pos 999999999999999999 →
-    (z : ℤ) (ws : List (List ℕ)) → IsNumberLine word least most z ws → plain_line ws ≡ true
-plain-number_line word least most h low high z ws e = ap plain_line e.1 ∙ and_both (plain word) (plain (numeral_of z)) h (plain_numeral z (short least most z low high e.0))
-
-pub plain-count_line : (word : List ℕ) (least most : ℕ) → plain word ≡ true → most < 2 ^ 32 → (n : ℕ) (ws : List (List ℕ)) → IsCountLine word least most n ws → plain_line ws ≡ true
-plain-count_line word least most h few n ws e = ap plain_line e.2 ∙ and_both (plain word) (plain (decimal n)) h (plain_number n (omega (arith, e.1)))
-
-pub plain-name_line : (word : List ℕ) → plain word ≡ true → (name : List ℕ) (ws : List (List ℕ)) → IsNameLine word name ws → plain_line ws ≡ true
-plain-name_line word h name ws e = ap plain_line e.1 ∙ and_both (plain word) (plain name) h (plain_graphic name e.0.graphic)
 
 -- ---- the lines of a format, one after another
 

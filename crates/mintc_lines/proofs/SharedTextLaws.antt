@@ -22,7 +22,7 @@ pub record IsPlainFormat {S : Type 0} (next : S → List ℕ → S → Type 0) (
   pub one : (a b c : S) (line : List ℕ) → P a → next a line b → next a line c → b ≡ c
   pub free : (a b : S) (line : List ℕ) → P a → next a line b → All (λ x. eqb x 10 ≡ false) line
 
-no_line : (line more : List ℕ) → [] ≡ ended line ++ more → ⊥
+pub no_line : (line more : List ℕ) → [] ≡ ended line ++ more → ⊥
 no_line line more h = omega (arith, ap length h, length-append (ended line) more, length-append line (10 ∷ []))
 
 -- Two ways through one text, each as far as it leads, come to one end.

@@ -21,15 +21,6 @@ Begins (arc left d) f = (f.phases ≡ d.phases) × (f.elements ≡ d.elements) �
 Begins (bound left d) f = (f.phases ≡ d.phases) × (f.elements ≡ d.elements) × (f.inner ≡ d.inner) × (f.arcs ≡ d.arcs) × Rest d.bounds f.bounds left
 Begins (whole d) f = d ≡ f
 
-whole_known : (d f : Design) → d ≡ f → (f.phases ≡ d.phases) × (f.elements ≡ d.elements) × (f.inner ≡ d.inner) × (f.arcs ≡ d.arcs) × Rest d.bounds f.bounds 0
-whole_known d f e = (
-  sym (ap (λ (x : Design). x.phases) e),
-  sym (ap (λ (x : Design). x.elements) e),
-  sym (ap (λ (x : Design). x.inner) e),
-  sym (ap (λ (x : Design). x.arcs) e),
-  rest_none d.bounds f.bounds (sym (ap (λ (x : Design). x.bounds) e)),
-)
-
 back : (a b : TableLines) (line : List ℕ) (f : Design) → NextOfTable a line b → Begins b f → Begins a f
 back first b line f h g = tt
 back (phases v) b line f h g = tt
@@ -41,7 +32,7 @@ back (arcs d) b line f h g = let k = subst (λ (x : TableLines). Begins x f) h.2
 back (arc (suc left) d) b line f h g = let k = subst (λ (x : TableLines). Begins x f) h.2 g in (k.0, k.1, k.2, rest_back d.arcs f.arcs h.0 left k.3)
 back (arc zero d) b line f h g = let k = subst (λ (x : TableLines). Begins x f) h.2 g in (k.0, k.1, k.2, rest_none d.arcs f.arcs k.3)
 back (bound (suc left) d) b line f h g = let k = subst (λ (x : TableLines). Begins x f) h.2 g in (k.0, k.1, k.2, k.3, rest_back d.bounds f.bounds h.0 left k.4)
-back (bound zero d) b line f h g = whole_known d f (subst (λ (x : TableLines). Begins x f) h.2 g)
+back (bound zero d) b line f h g = subst (Begins (bound 0 d)) (subst (λ (x : TableLines). Begins x f) h.2 g) (refl, refl, refl, refl, rest_none d.bounds d.bounds refl)
 back (whole d) b line f h g = absurd h
 
 -- After the first line, whose number is the version, one line leads on.
