@@ -71,10 +71,8 @@ passed_on {next = next} {a = a} {b = b} {c = c} {new = new} p q = record {
   whole = p.whole ∙ ap (λ l. text_of p.lines ++ l) q.whole ∙ sym (append_assoc (text_of p.lines) (text_of q.lines) new.left) ∙ ap (λ l. l ++ new.left) (sym (flat_map-append ended p.lines q.lines));
   follows = Follows-append next a b c p.lines q.lines p.follows q.follows;
   count = λ few.
-      let all = length-append p.lines q.lines in
-      let one = p.count (omega (arith, few, all)) in
-      let two = q.count (omega (arith, few, all, one)) in
-      omega (arith, all, one, two);
+      let one = p.count (omega (arith, few, length-append p.lines q.lines)) in
+      omega (arith, length-append p.lines q.lines, one, q.count (omega (arith, few, length-append p.lines q.lines, one)));
 }
 
 pub at_start : {S : Type 0} (next : S → List ℕ → S → Type 0) (start : S) (text : List ℕ) (at : Reading) → length text ≤ MOST_BYTES → at.left ≡ text → at.number ≡ 0 →
@@ -84,11 +82,9 @@ at_start next start text at short left number = record { short = short; passed =
 counted_on : {S : Type 0} (next : S → List ℕ → S → Type 0) (start : S) (text : List ℕ) (old : Reading) (state : S) (number : ℕ) →
     (at : IsAt next start text old state) → number ≡ number_after old.number → number ≡ length at.passed.lines + 1
 counted_on next start text old state number at counted =
-    let lines : List (List ℕ) = at.passed.lines in
-    let whole : text ≡ text_of lines ++ old.left = at.passed.whole in
-    let few : length lines ≤ MOST_BYTES = omega (arith, at.short, length_lines lines, ap length whole, length-append (text_of lines) old.left) in
-    let told : 0 + length lines ≤ 4294967295 → old.number ≡ 0 + length lines = at.passed.count in
-    omega (arith, counted, few, told (omega (arith, few)))
+    let whole : text ≡ text_of at.passed.lines ++ old.left = at.passed.whole in
+    let few : length at.passed.lines ≤ MOST_BYTES = omega (arith, at.short, length_lines at.passed.lines, ap length whole, length-append (text_of at.passed.lines) old.left) in
+    omega (arith, counted, few, at.passed.count (omega (arith, few)))
 
 fault_there : {S : Type 0} {next : S → List ℕ → S → Type 0} {is_end : S → Type 0} {start : S} {text : List ℕ} {number : ℕ} → length text ≤ MOST_BYTES →
     HasStopped next is_end start (record { left = text; number = 0 }) number → IsFault next is_end start text number

@@ -4,18 +4,17 @@ use Rattle.std.proofs.lemmas.Fmt.{decimal_digit}
 use Rattle.mintc_text.specs.Lines.{numeral_of}
 use Rattle.mintc_text.specs.Words.{IsShort}
 use Rattle.mintc_timing.specs.declared.parts.Element.{Element}
-use Rattle.mintc_timing.specs.declared.parts.TimingArc.{TimingArc}
 use Rattle.mintc_timing.specs.declared.parts.Bound.{Bound}
 use Rattle.mintc_timing.specs.declared.parts.Point.{Point}
 use Rattle.mintc_lines.specs.declared.table_lines.Version.{Version}
 use Rattle.mintc_lines.specs.Fields.{IsCount, number}
 use Rattle.mintc_timing.specs.Limits.{IsElement, IsDelay, IsGap, IsPoint}
 use Rattle.mintc_lines.specs.ElementWords.{IsHold}
-use Rattle.mintc_lines.specs.TableText.{hold_word, with_kind, element_words, IsOfVersion, IsElementLine, IsArcLine, IsBoundLine, point_word}
+use Rattle.mintc_lines.specs.TableText.{hold_word, with_kind, element_words, IsOfVersion, IsElementLine, IsBoundLine, point_word}
 use Rattle.mintc_lines.proofs.SharedFieldsLaws.{value, value_of, read_back}
 use Rattle.mintc_lines.proofs.TableLineLaws.{kind_of, kind_same, after_kind, after_dq}
 
--- ---- the words of an element, of an arc and of a bound have one value
+-- ---- the words of an element and of a bound have one value
 
 -- a dash is no numeral
 no_dash : (z : ℤ) → IsShort z → (numeral_of z ≡ numeral_of z) × (numeral_of z ≡ codes "-" → ⊥)
@@ -56,9 +55,6 @@ element_one v k few e f ws h g =
     let phase = same_count e.phase f.phase (omega (arith, h.ranges.phase)) (omega (arith, g.ranges.phase)) (cc words) in
     same_element e f (cc words) phase kind.0 (same_gap e.setup f.setup h.ranges.setup g.ranges.setup (cc left)) hold.1 hold.0 low high cq.0 cq.1 cq.2
 
-pub arc_one : (n m : ℕ) → IsCount n → IsCount m → (x y : TimingArc) (ws : List (List ℕ)) → IsArcLine n m x ws → IsArcLine n m y ws → x ≡ y
-arc_one n m few little x y ws h g = grind (arith, read_back)
-
 point_one : (k : ℕ) → IsCount k → (p q : Point) → IsPoint k p → IsPoint k q → point_word p ≡ point_word q → p ≡ q
 point_one k few p q h g e = grind (arith, read_back)
 
@@ -70,8 +66,3 @@ bound_one k few x y ws h g =
     let a = h.1 in let b = g.1 in
     let cycles = same_count x.cycles y.cycles (omega (arith, h.0.cycles)) (omega (arith, g.0.cycles)) cc in
     same_bound x y (point_one k few x.from y.from h.0.from g.0.from cc) (point_one k few x.to y.to h.0.to g.0.to cc) (same_gap x.gap y.gap h.0.gap g.0.gap cc) cycles
-
--- ---- and each arc has one line
-
-pub arc_words : (n m : ℕ) (x : TimingArc) (ws xs : List (List ℕ)) → IsArcLine n m x ws → IsArcLine n m x xs → ws ≡ xs
-arc_words n m x ws xs h g = grind arith

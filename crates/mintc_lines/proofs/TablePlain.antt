@@ -5,9 +5,10 @@ use Rattle.mintc_lines.specs.declared.table_lines.Version.{Version}
 use Rattle.mintc_timing.specs.Design.{Design}
 use Rattle.mintc_lines.specs.Fields.{IsCount, plain, IsCountLine}
 use Rattle.mintc_lines.specs.TableText.{NextOfTable, IsWholeTable, TableLines, first, phases, phase, element, arcs, arc, bound, whole, IsElementLine, IsArcLine, IsBoundLine}
+use Rattle.mintc_lines.proofs.SharedFieldsLaws.{seen, read_back}
 use Rattle.mintc_lines.proofs.SharedLineLaws.{IsForm, word_form, count_form, name_form}
-use Rattle.mintc_lines.proofs.TableOne.{element_one, arc_one, arc_words, bound_one}
-use Rattle.mintc_lines.proofs.TableReading.{plain-element_line, plain-arc_line, plain-bound_line, length-inner_names}
+use Rattle.mintc_lines.proofs.TableOne.{element_one, bound_one}
+use Rattle.mintc_lines.proofs.TableReading.{plain-element_line, seen_points, length-inner_names}
 use Rattle.mintc_lines.proofs.SharedTextLaws.{IsPlainFormat, IsPlainStep, plain_step, no_step, ArePlainTexts, plain_texts}
 
 -- the counts of a design whose lists are counted in its text
@@ -40,10 +41,10 @@ pub element_form : (v : Version) (k : ℕ) → IsCount k → IsForm (IsElementLi
 element_form v k few = record { plain = plain-element_line v k (omega (arith, few)); one = element_one v k few; words = λ e ws xs h g. h.spelled ∙ sym g.spelled }
 
 pub arc_form : (n m : ℕ) → IsCount n → IsCount m → IsForm (IsArcLine n m)
-arc_form n m few little = record { plain = plain-arc_line n m few little; one = arc_one n m few little; words = arc_words n m }
+arc_form n m few little = record { plain = λ x ws h. grind (arith, seen); one = λ x y ws h g. grind (arith, read_back); words = λ x ws xs h g. grind arith }
 
 pub bound_form : (k : ℕ) → IsCount k → IsForm (IsBoundLine k)
-bound_form k few = record { plain = plain-bound_line k few; one = bound_one k few; words = λ x ws xs h g. h.1 ∙ sym g.1 }
+bound_form k few = record { plain = λ x ws h. grind (arith, seen_points); one = bound_one k few; words = λ x ws xs h g. h.1 ∙ sym g.1 }
 
 pub table_step : (a : TableLines) → Counted a → IsPlainStep (NextOfTable a) After
 table_step first p = plain_step (count_form (codes "table") 1 3 refl (omega arith)) (λ n ws h. (tt, tt))

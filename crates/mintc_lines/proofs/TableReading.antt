@@ -8,11 +8,11 @@ use Rattle.mintc_timing.specs.declared.parts.Bound.{Bound}
 use Rattle.mintc_timing.specs.declared.parts.Point.{Point}
 use Rattle.mintc_lines.specs.declared.table_lines.Version.{Version}
 use Rattle.mintc_timing.specs.Design.{design_of}
-use Rattle.mintc_lines.specs.Fields.{plain, plain_line, number, IsCount, Spells}
+use Rattle.mintc_lines.specs.Fields.{plain, plain_line, number, Spells}
 use Rattle.mintc_timing.specs.Limits.{IsGap, IsPoint}
 use Rattle.mintc_lines.specs.Reading.{Reading, HasRead, IsAt, number_after}
 use Rattle.mintc_lines.specs.TableReading.{AreKept}
-use Rattle.mintc_lines.specs.TableText.{NextOfTable, TableLines, first, phase, element, arc, bound, inner_names, kind_word, hold_word, IsElementLine, IsArcLine, IsBoundLine, point_word}
+use Rattle.mintc_lines.specs.TableText.{NextOfTable, TableLines, first, phase, element, arc, bound, inner_names, kind_word, hold_word, IsElementLine, point_word}
 use Rattle.mintc_lines.proofs.SharedFieldsLaws.{seen}
 use Rattle.mintc_lines.proofs.SharedReadingLaws.{list_more, list_all}
 
@@ -29,12 +29,6 @@ plain_point p h = grind (arith, seen)
 
 pub plain-element_line : (v : Version) (k : ℕ) → k < 2 ^ 32 → (e : Element) (ws : List (List ℕ)) → IsElementLine v k e ws → plain_line ws ≡ true
 plain-element_line v k few e ws h = grind (arith, seen, plain_kind, plain_hold)
-
-pub plain-arc_line : (n m : ℕ) → IsCount n → IsCount m → (x : TimingArc) (ws : List (List ℕ)) → IsArcLine n m x ws → plain_line ws ≡ true
-plain-arc_line n m few little x ws h = grind (arith, seen)
-
-pub plain-bound_line : (k : ℕ) → IsCount k → (x : Bound) (ws : List (List ℕ)) → IsBoundLine k x ws → plain_line ws ≡ true
-plain-bound_line k few x ws h = grind (arith, seen, plain_point)
 
 pub ruleset seen_points = (seen, plain_point)
 

@@ -1,10 +1,10 @@
 use Rattle.mintc_lines.specs.TableText.{IsArcLine}
 use Rattle.mintc_lines.proofs.SharedReadingLaws.{read_there}
-use Rattle.mintc_lines.proofs.TableReading.{plain-arc_line}
+use Rattle.mintc_lines.proofs.TablePlain.{arc_form}
 use Rattle.mintc_lines.proofs.table_text.arc_line.Goals as goal
 
 pub returns-clause-read : goal.returns-clause-read
 returns-clause-read c =
     let told = c.in_ok-fields.ensures in
     read_there (IsArcLine c.args.elements c.args.inner) (λ x. x) c.args.reader.now.left c.fields.new.self.left c.in_ok-fields.fields c.arc_of.result
-    (plain-arc_line c.args.elements c.args.inner c.requires.elements c.requires.inner) told.whole told.only c.arc_of.ensures
+    (arc_form c.args.elements c.args.inner c.requires.elements c.requires.inner).plain told.whole told.only c.arc_of.ensures
