@@ -11,11 +11,6 @@ use Rattle.mintc_lines.specs.Fields.{plain, plain_line, Spells}
 use Rattle.mintc_lines.specs.Reading.{Reading, HasRead, HasNone, HasPassed, HasStopped, IsAt, number_after}
 use Rattle.mintc_lines.proofs.SharedFieldsLaws.{and_parts, no_space, plain_free, short}
 
--- the exit of a `?`
-pub at_none : {T : Type 0} (r : Option T) (P : Type 0) (Q : T → Type 0) → r ≡ None → P → MatchOption r P Q
-at_none None P Q e p = p
-at_none (Some x) P Q e p = absurd (cc e)
-
 -- ---- where a line ends
 
 -- what stands before the first line feed is determined

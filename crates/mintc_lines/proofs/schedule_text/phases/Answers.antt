@@ -3,14 +3,14 @@ use Rattle.mintc_timing.specs.declared.clocking.Schedule.{Schedule}
 use Rattle.mintc_lines.specs.Reading.{HasPassed}
 use Rattle.mintc_lines.specs.Texts.{NextAlone, den, phase, schedule_of, with_phase}
 use Rattle.mintc_timing.proofs.SharedFitting.{read_time, IsTime-IsNumerator}
-use Rattle.mintc_lines.proofs.SharedReadingLaws.{at_none, passed_more, passed_stop}
+use Rattle.mintc_lines.proofs.SharedReadingLaws.{passed_more, passed_stop}
 use Rattle.mintc_lines.proofs.SharedScheduleReading.{pushed}
 use Rattle.mintc_lines.proofs.schedule_text.phases.Goals as goal
 
 pub returns-in_err-start : goal.returns-in_err-start
 returns-in_err-start c = λ begun d t passed.
     let left : c.args.count - c.loop-phase._phase ≡ suc (c.args.count - c.loop-phase._phase - 1) = omega arith in
-    at_none c.from_residual.result _ _ c.from_residual.ensures
+    rw c.from_residual.ensures
     (passed_stop (subst (λ (n : ℕ). HasPassed NextAlone den begun c.loop-phase.reader (phase n (schedule_of d t c.loop-phase.starts.items c.loop-phase.widths.items))) left (c.loop-phase.invariant.2 begun d t passed))
     c.in_err-start.ensures.read c.in_err-start.ensures.counted (λ e. e) (λ line after step. (step.0, step.1)))
 

@@ -3,43 +3,37 @@ use Rattle.mintc_text.specs.Lines.{numeral_of}
 use Rattle.mintc_lines.specs.declared.table_lines.ElementNumbers.{ElementNumbers}
 use Rattle.mintc_lines.specs.Fields.{AreDelays}
 use Rattle.mintc_timing.proofs.SharedFitting.{read_time, IsTime-IsDelay, IsTime-IsGap}
-use Rattle.mintc_lines.proofs.SharedReadingLaws.{at_none}
 use Rattle.mintc_lines.proofs.TableLineLaws.{element_phase, element_kind, element_made, element_spelled, opening_of, openings_same, same_delays, after_hold, after_dq}
 use Rattle.mintc_lines.proofs.table_lines.element_of.Goals as goal
 
 pub returns-in_err-phase : goal.returns-in_err-phase
 returns-in_err-phase c =
-    at_none c.from_residual-in_err-phase.result _ _ c.from_residual-in_err-phase.ensures
-    (λ e h. c.in_err-phase.ensures e.phase _ h.ranges.phase.0 h.ranges.phase.1
+    rw c.from_residual-in_err-phase.ensures (λ e h. c.in_err-phase.ensures e.phase _ h.ranges.phase.0 h.ranges.phase.1
     (element_phase c.args.version e _ _ _ _ c.in_ok-fixed.ensures c.in_ok-name.ensures.1 h.spelled))
 
 pub returns-in_err-setup : goal.returns-in_err-setup
 returns-in_err-setup c =
-    at_none c.from_residual-in_err-setup.result _ _ c.from_residual-in_err-setup.ensures
-    (λ e h.
+    rw c.from_residual-in_err-setup.ensures (λ e h.
     let kind = element_kind c.args.version e _ _ c.in_ok-flop.flop _ _ _ _ c.kind.new.fields c.in_ok-fixed.ensures c.in_ok-name.ensures.1 c.in_ok-phase.ensures.2 c.in_ok-flop.ensures.1 c.in_ok-flop.ensures.0 h.version h.spelled in
     c.in_err-setup.ensures e.setup _ h.ranges.setup kind.1)
 
 pub returns-in_err-has_hold : goal.returns-in_err-has_hold
 returns-in_err-has_hold c =
-    at_none c.from_residual-in_err-has_hold.result _ _ c.from_residual-in_err-has_hold.ensures
-    (λ e h.
+    rw c.from_residual-in_err-has_hold.ensures (λ e h.
     let kind = element_kind c.args.version e _ _ c.in_ok-flop.flop _ _ _ _ c.kind.new.fields c.in_ok-fixed.ensures c.in_ok-name.ensures.1 c.in_ok-phase.ensures.2 c.in_ok-flop.ensures.1 c.in_ok-flop.ensures.0 h.version h.spelled in
     let a = kind.1 in let b = c.in_ok-setup.ensures.1 in
     c.in_err-has_hold.ensures e.has_hold e.hold (after_hold c.args.version e) (h.ranges.hold, h.ranges.no_hold) cc)
 
 pub returns-in_err-dq : goal.returns-in_err-dq
 returns-in_err-dq c =
-    at_none c.from_residual-in_err-dq.result _ _ c.from_residual-in_err-dq.ensures
-    (λ e h.
+    rw c.from_residual-in_err-dq.ensures (λ e h.
     let kind = element_kind c.args.version e _ _ c.in_ok-flop.flop _ _ _ _ c.kind.new.fields c.in_ok-fixed.ensures c.in_ok-name.ensures.1 c.in_ok-phase.ensures.2 c.in_ok-flop.ensures.1 c.in_ok-flop.ensures.0 h.version h.spelled in
     let a = kind.1 in let b = c.in_ok-setup.ensures.1 in let d = c.in_ok-has_hold.ensures.1 in
     c.in_err-dq.ensures e.dq_min e.dq_max (after_dq c.args.version e) (record { low_is = h.ranges.dq_min; high_is = h.ranges.dq_max; ordered = h.ranges.dq }) cc)
 
 pub returns-in_err-cq : goal.returns-in_err-cq
 returns-in_err-cq c =
-    at_none c.from_residual-in_err-cq.result _ _ c.from_residual-in_err-cq.ensures
-    (λ e h.
+    rw c.from_residual-in_err-cq.ensures (λ e h.
     let kind = element_kind c.args.version e _ _ c.in_ok-flop.flop _ _ _ _ c.kind.new.fields c.in_ok-fixed.ensures c.in_ok-name.ensures.1 c.in_ok-phase.ensures.2 c.in_ok-flop.ensures.1 c.in_ok-flop.ensures.0 h.version h.spelled in
     let a = kind.1 in let b = c.in_ok-setup.ensures.1 in let d = c.in_ok-has_hold.ensures.1 in let f = c.in_ok-dq.ensures.1 in
     let delays : AreDelays e.dq_min e.dq_max = record { low_is = h.ranges.dq_min; high_is = h.ranges.dq_max; ordered = h.ranges.dq } in
@@ -48,8 +42,7 @@ returns-in_err-cq c =
 
 pub returns-in_err-width : goal.returns-in_err-width
 returns-in_err-width c =
-    at_none c.from_residual-in_err-width.result _ _ c.from_residual-in_err-width.ensures
-    (λ e h.
+    rw c.from_residual-in_err-width.ensures (λ e h.
     let kind = element_kind c.args.version e _ _ c.in_ok-flop.flop _ _ _ _ c.kind.new.fields c.in_ok-fixed.ensures c.in_ok-name.ensures.1 c.in_ok-phase.ensures.2 c.in_ok-flop.ensures.1 c.in_ok-flop.ensures.0 h.version h.spelled in
     let a = kind.1 in let b = c.in_ok-setup.ensures.1 in let d = c.in_ok-has_hold.ensures.1 in let f = c.in_ok-dq.ensures.1 in let g = c.in_ok-cq.ensures.1 in
     c.in_err-width.ensures e.width [] h.ranges.width (openings_same c.args.version c.in_ok-cq.cq.0 c.in_ok-cq.cq.1 e.cq_min e.cq_max c.openings.new.fields (numeral_of e.width ∷ []) cc))
