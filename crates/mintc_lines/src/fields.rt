@@ -152,7 +152,6 @@ impl<'a> Fields<'a> {
     }
 
     /// The next word as a canonical numeral from `least` to `most`. None where none comes.
-    #[tactic(auto, using(crate::proofs::SharedFieldsLaws::read_back))]
     pub fn number(&mut self, least: i64, most: i64) -> Option<i64>
         ensures { MatchOption result
             ((z : ℤ) (more : List (List ℕ)) → IsWithin least most z → self.old ≡ numeral_of z ∷ more → ⊥)
@@ -191,7 +190,6 @@ impl<'a> Fields<'a> {
     }
 
     /// The next two words as delays from 0 to 10^9 femtoseconds, the first at most the second. None where none come.
-    #[tactic(auto, using(crate::proofs::SharedFieldsLaws::read_back))]
     pub fn delays(&mut self) -> Option<(i64, i64)>
         ensures { MatchOption result
             ((low high : ℤ) (more : List (List ℕ)) → AreDelays low high → self.old ≡ numeral_of low ∷ numeral_of high ∷ more → ⊥)

@@ -71,7 +71,6 @@ impl<'a> Reader<'a> {
     }
 
     /// Reads a line of this word alone.
-    #[tactic(auto, using(crate::proofs::SharedFieldsLaws::seen))]
     pub fn word_line(&mut self, word: &[u8]) -> Option<()>
         requires { plain word.now ≡ true }
         ensures read { MatchOption result (HasNone (IsWordLine word.now) self.old.left) (λ _. HasRead (IsWordLine word.now) self.old.left tt self.new.left) }
@@ -82,7 +81,6 @@ impl<'a> Reader<'a> {
     }
 
     /// Reads a line of this word and a canonical numeral from `least` to `most`.
-    #[tactic(auto, using(crate::proofs::SharedFieldsLaws::seen))]
     pub fn number_line(&mut self, word: &[u8], least: i64, most: i64) -> Option<i64>
         requires plain { plain word.now ≡ true }
         requires least { negsuc 999999999999999998 ≤ℤ least }

@@ -68,7 +68,6 @@ fn element_line<'a>(
 }
 
 /// Reads the line of an arc.
-#[tactic(auto, using(crate::proofs::SharedFieldsLaws::seen))]
 fn arc_line(reader: &mut Reader, elements: u32, inner: u32) -> Option<TimingArc>
     requires elements { IsCount elements }
     requires inner { IsCount inner }

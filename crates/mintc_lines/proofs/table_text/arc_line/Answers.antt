@@ -1,7 +1,12 @@
+use Rattle.std.proofs.Common.{arith}
 use Rattle.mintc_lines.specs.TableText.{IsArcLine}
+use Rattle.mintc_lines.proofs.SharedFieldsLaws.{seen}
 use Rattle.mintc_lines.proofs.SharedReadingLaws.{read_there}
 use Rattle.mintc_lines.proofs.TablePlain.{arc_form}
 use Rattle.mintc_lines.proofs.table_text.arc_line.Goals as goal
+
+pub returns-in_err-fields-clause-read : goal.returns-in_err-fields-clause-read
+returns-in_err-fields-clause-read c = let none = c.in_err-fields.ensures.none in grind (arith, seen, none)
 
 pub returns-clause-read : goal.returns-clause-read
 returns-clause-read c =

@@ -3,6 +3,9 @@ use Rattle.std.proofs.lemmas.Int.{to_z-of_z}
 use Rattle.mintc_lines.proofs.SharedFieldsLaws.{seen}
 use Rattle.mintc_lines.proofs.reader.Reader.number_line.Goals as goal
 
+pub returns-in_err-fields-clause-read : goal.returns-in_err-fields-clause-read
+returns-in_err-fields-clause-read c = let none = c.in_err-fields.ensures.none in grind (arith, seen, none)
+
 pub returns-clause-read : goal.returns-clause-read
 returns-clause-read c =
     let number = rw (to_z-of_z w64 c.args.least c.ranges.least, to_z-of_z w64 c.args.most c.ranges.most) at c.number_of.ensures in
