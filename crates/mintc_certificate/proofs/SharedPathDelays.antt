@@ -16,8 +16,6 @@ pub delay_more : (arcs : List TimingArc) (path : List ℕ) (i : ℕ) → i < len
     greatest_delay arcs (take (i + 1) path) ≡ greatest_delay arcs (take i path) +ℤ (arc_at arcs (get_or path i 0)).max
 delay_more arcs path i below = grind (arith, ints, take_at_read, total-append)
 
-pub ruleset one_arc_more = (ints, delay_more)
-
 -- the arcs of a path exist
 pub Leads-inside : (arcs : List TimingArc) (from : ℕ) (path : List ℕ) (to : ℕ) → Leads arcs from path to → All (λ n. n < length arcs) path
 Leads-inside arcs from [] to h = All-nil (λ n. n < length arcs)

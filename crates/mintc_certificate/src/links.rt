@@ -17,7 +17,6 @@ use mintc_links::{
 use mintc_timing::{Flat, Link, TimingArc};
 
 /// The sum of the greatest delays along a path, in femtoseconds.
-#[tactic(auto, using(crate::proofs::SharedPathDelays::one_arc_more))]
 fn path_delay(arcs: &[TimingArc], path: &[u32]) -> i64
     requires path { All (λ n. n < length arcs.now) path.now }
     requires few { length path.now < 10 ^ 9 }
