@@ -25,10 +25,10 @@ use Rattle.mintc_certificate.specs.MemberWords.{single, member_word, AreNumbers}
 
 -- ---- a member read back from its words
 
-abbrev all_words : List MemberWord
+abbrev pub all_words : List MemberWord
 all_words = One one.Start ∷ One one.Cycle ∷ One one.Order ∷ One one.Span ∷ One one.Width ∷ Apart ∷ One one.Opening ∷ One one.Opened ∷ Reach ∷ One one.Setup ∷ One one.Bound ∷ []
 
-abbrev first_with : List ℕ → List MemberWord → MemberWord
+abbrev pub first_with : List ℕ → List MemberWord → MemberWord
 first_with word [] = Apart
 first_with word (w ∷ ws) = if bytes_eq word (member_word w) then w else first_with word ws
 
@@ -63,11 +63,7 @@ member_one v m n ws h g = sym (read_back m h.counted) ∙ ap read (sym h.spelled
 
 -- ---- where the words are of no member
 
--- the words of a reach after the first
-abbrev pub ReachWords : List (List ℕ) → ℕ → ℕ → ℕ → List (List ℕ) → Type 0
-ReachWords rest j l count more = rest ≡ number j ∷ number l ∷ number count ∷ more
-
-pub reach_none : (v : Version) (rest : List (List ℕ)) (j l count : ℕ) (more : List (List ℕ)) → IsCount count → ReachWords rest j l count more →
+pub reach_none : (v : Version) (rest : List (List ℕ)) (j l count : ℕ) (more : List (List ℕ)) → IsCount count → rest ≡ number j ∷ number l ∷ number count ∷ more →
     ((path : List ℕ) → AreNumbers count path more → ⊥) → (m : Member) → IsMemberLine v m (codes "reach" ∷ rest) → ⊥
 reach_none v rest j l count more few is none m h =
     let each : (path : List ℕ) → length path ≡ count → All IsCount path → more ≡ map number path → ⊥ = λ path a b e. none path (record { counted = a; each = b; spelled = e }) in
@@ -95,11 +91,6 @@ numbers_none i count found all now so low none numbers h =
     let left : now ≡ map number (drop k numbers) = sym (drop-append_seam (map number found) now) ∙ ap (drop k) (sym so.spelled ∙ h.spelled) ∙ drop-map number k numbers in
     let first : drop k numbers ≡ get_or numbers k 0 ∷ drop (suc k) numbers = drop-cons numbers k 0 (grind (arith, common_steps)) in
     none (get_or numbers k 0) (map number (drop (suc k) numbers)) (omega arith) (All-get_or IsCount numbers k 0 (grind (arith, common_steps)) h.each) (left ∙ ap (map number) first)
-
--- ---- any member
-
-pub member_none_word : (v : Version) (entry rest : List (List ℕ)) (first : List ℕ) → entry ≡ first ∷ rest → ((w : MemberWord) → first ≡ member_word w → ⊥) → (m : Member) → IsMemberLine v m entry → ⊥
-member_none_word v entry rest first e none m h = let k = none (first_with first all_words) in grind arith
 
 -- ---- the line of a member has words that can be seen
 
