@@ -1,8 +1,8 @@
 -- Texts of plain lines have one end and one fault.
-use Rattle.std.proofs.Common.{◌≡◌, ℕ, suc, true, false, List, [], ◌∷◌, ◌++◌, length, length-append, ◌+◌, append_assoc, All, Contains, eqb, refl, ap, ◌∙◌, sym, subst, arith}
+use Rattle.std.proofs.Common.{◌≡◌, ℕ, suc, false, List, [], ◌∷◌, ◌++◌, length, length-append, ◌+◌, append_assoc, All, Contains, eqb, refl, ap, ◌∙◌, sym, subst, arith}
 use Rattle.std.proofs.lemmas.List.{append-nil}
 use Rattle.mintc_text.specs.Lines.{Follows, IsText, IsFault, IsStuck, text_of, ended, words}
-use Rattle.mintc_lines.specs.Fields.{fields_of, plain_line, Spells}
+use Rattle.mintc_lines.specs.Fields.{fields_of, Spells}
 use Rattle.mintc_lines.proofs.SharedFieldsLaws.{fields-words}
 use Rattle.mintc_lines.proofs.SharedLineLaws.{IsForm, spelled_same}
 use Rattle.mintc_lines.proofs.SharedSpelling.{IsSpelled, IsSpelledStep, one_text}
@@ -62,12 +62,9 @@ plain_texts {next = next} {P = P} {is_end = is_end} {start = start} whole plain 
 
 -- ---- the words of a line are determined by it
 
-pub words_same : (line : List ℕ) (ws xs : List (List ℕ)) → plain_line ws ≡ true → plain_line xs ≡ true → line ≡ words ws → line ≡ words xs → ws ≡ xs
-words_same line ws xs h g e f = sym (fields-words ws h) ∙ ap fields_of (sym e ∙ f) ∙ fields-words xs g
-
 spelled_one : {V : Type 0} (F : V → List (List ℕ) → Type 0) → IsForm F → (v w : V) (line : List ℕ) → Spells F v line → Spells F w line → v ≡ w
 spelled_one F form v w line h g =
-    let same = words_same line h.0 g.0 (form.plain v h.0 h.1) (form.plain w g.0 g.1) h.2 g.2 in
+    let same = sym (fields-words h.0 (form.plain v h.0 h.1)) ∙ ap fields_of (sym h.2 ∙ g.2) ∙ fields-words g.0 (form.plain w g.0 g.1) in
     form.one v w g.0 (subst (F v) same h.1) g.1
 
 -- ---- a state after which lines of one form come
