@@ -28,10 +28,6 @@ pub opening_of : (v : Version) (k : ℕ) (e : Element) (flop : Bool) (low high :
     IsOpening v flop low high e.cq_min e.cq_max
 opening_of v k e flop low high h g same from to = grind arith
 
-pub element_made : (v : Version) (k : ℕ) (name : List ℕ) (n : ElementNumbers) (ws : List (List ℕ)) → IsName name → (1 ≤ n.phase) × (n.phase ≤ k) → IsKind v n.flop → IsGap n.setup → IsHold n.has_hold n.hold →
-    AreDelays n.dq_min n.dq_max → IsOpening v n.flop n.dq_min n.dq_max n.cq_min n.cq_max → IsDelay n.width → ws ≡ element_words v (named name n) → IsElementLine v k (named name n) ws
-element_made v k name n ws is_name phase kind setup hold dq cq width e = grind arith
-
 -- what is left of an element's words after its kind, its setup, its hold and its delays from the data
 abbrev pub after_dq : Version → Element → List (List ℕ)
 after_dq v e = with_openings v e.cq_min e.cq_max (numeral_of e.width ∷ [])
@@ -54,7 +50,8 @@ pub element_kind : (v : Version) (e : Element) (name : List ℕ) (phase : ℕ) (
 element_kind v e name phase flop ws a b c d first second third fourth kind version words = grind arith
 
 -- the words that were read, put together
-pub element_spelled : (v : Version) (name : List ℕ) (n : ElementNumbers) (ws a b c d f g h i j : List (List ℕ)) → ws ≡ codes "element" ∷ a → a ≡ name ∷ b → b ≡ number n.phase ∷ c → c ≡ with_kind v n.flop d →
-    d ≡ numeral_of n.setup ∷ f → f ≡ hold_word n.has_hold n.hold ∷ g → g ≡ numeral_of n.dq_min ∷ numeral_of n.dq_max ∷ h → h ≡ with_openings v n.cq_min n.cq_max i → i ≡ numeral_of n.width ∷ j → j ≡ [] →
-    ws ≡ element_words v (named name n)
-element_spelled v name n ws a b c d f g h i j e1 e2 e3 e4 e5 e6 e7 e8 e9 e10 = grind arith
+pub element_read : (v : Version) (k : ℕ) (name : List ℕ) (n : ElementNumbers) (ws a b c d f g h i j : List (List ℕ)) → ws ≡ codes "element" ∷ a → IsName name × (a ≡ name ∷ b) → (1 ≤ n.phase) × (n.phase ≤ k) × (b ≡ number n.phase ∷ c) →
+    IsKind v n.flop × (c ≡ with_kind v n.flop d) → IsGap n.setup × (d ≡ numeral_of n.setup ∷ f) → IsHold n.has_hold n.hold × (f ≡ hold_word n.has_hold n.hold ∷ g) →
+    AreDelays n.dq_min n.dq_max × (g ≡ numeral_of n.dq_min ∷ numeral_of n.dq_max ∷ h) → IsOpening v n.flop n.dq_min n.dq_max n.cq_min n.cq_max × (h ≡ with_openings v n.cq_min n.cq_max i) →
+    IsDelay n.width × (i ≡ numeral_of n.width ∷ j) → j ≡ [] → IsElementLine v k (named name n) ws
+element_read v k name n ws a b c d f g h i j e1 e2 e3 e4 e5 e6 e7 e8 e9 e10 = grind arith

@@ -3,7 +3,7 @@ use Rattle.mintc_text.specs.Lines.{numeral_of}
 use Rattle.mintc_lines.specs.declared.table_lines.ElementNumbers.{ElementNumbers}
 use Rattle.mintc_lines.specs.Fields.{AreDelays}
 use Rattle.mintc_timing.proofs.SharedFitting.{read_time, IsTime-IsDelay, IsTime-IsGap}
-use Rattle.mintc_lines.proofs.TableLineLaws.{element_phase, element_kind, element_made, element_spelled, opening_of, openings_same, same_delays, after_hold, after_dq}
+use Rattle.mintc_lines.proofs.TableLineLaws.{element_phase, element_kind, element_read, opening_of, openings_same, same_delays, after_hold, after_dq}
 use Rattle.mintc_lines.proofs.table_lines.element_of.Goals as goal
 
 pub returns-in_err-phase : goal.returns-in_err-phase
@@ -63,8 +63,6 @@ returns c =
       cq_max = cq.1;
       width = c.in_ok-width.width;
     } in
-    let whole = element_spelled c.args.version c.in_ok-name.name.now n c.args.fields _ _ _ _ _ _ _ _ _ c.in_ok-fixed.ensures c.in_ok-name.ensures.1 c.in_ok-phase.ensures.2 c.in_ok-flop.ensures.1 c.in_ok-setup.ensures.1
-    c.in_ok-has_hold.ensures.1 c.in_ok-dq.ensures.1 c.in_ok-cq.ensures.1 c.in_ok-width.ensures.1 c.in_ok-end.ensures in
     rw (
       read_time n.setup (IsTime-IsGap n.setup c.in_ok-setup.ensures.0),
       read_time n.hold (IsTime-IsGap n.hold c.in_ok-has_hold.ensures.0.0),
@@ -74,5 +72,5 @@ returns c =
       read_time cq.1 (IsTime-IsDelay cq.1 c.in_ok-cq.ensures.0.0.high_is),
       read_time n.width (IsTime-IsDelay n.width c.in_ok-width.ensures.0),
     )
-    (element_made c.args.version c.args.phases c.in_ok-name.name.now n c.args.fields c.in_ok-name.ensures.0 (c.in_ok-phase.ensures.0, c.in_ok-phase.ensures.1) c.in_ok-flop.ensures.0 c.in_ok-setup.ensures.0
-    c.in_ok-has_hold.ensures.0 c.in_ok-dq.ensures.0 c.in_ok-cq.ensures.0 c.in_ok-width.ensures.0 whole)
+    (element_read c.args.version c.args.phases c.in_ok-name.name.now n c.args.fields _ _ _ _ _ _ _ _ _ c.in_ok-fixed.ensures c.in_ok-name.ensures c.in_ok-phase.ensures c.in_ok-flop.ensures c.in_ok-setup.ensures
+    c.in_ok-has_hold.ensures c.in_ok-dq.ensures c.in_ok-cq.ensures c.in_ok-width.ensures c.in_ok-end.ensures)
