@@ -1,10 +1,11 @@
 -- The fields of a line.
 use Rattle.std.proofs.Common.{◌≡◌, ℕ, ℤ, pos, negsuc, neg_ℤ, ◌≤ℤ◌, suc, ◌<◌, ◌≤◌, ◌+◌, ◌-◌, add-one, ◌^◌, ◌&&◌, Bool, true, false, if◌then◌else◌, List, [], ◌∷◌, ◌++◌, length, get_or, take, drop, refl, ap, ◌∙◌, sym, arith, eqb, leb, decimal, All, length-take}
 use Rattle.std.proofs.lemmas.Fmt.{decimal_is_IsNumeral, decimal_nonempty}
+use Rattle.std.proofs.lemmas.Grind.{common_steps, elements}
 use Rattle.std.proofs.lemmas.Int.{ints}
 use Rattle.std.proofs.lemmas.Bool.{ne_eqb}
 use Rattle.std.proofs.lemmas.Bool.Decides.{nat_tests}
-use Rattle.std.proofs.lemmas.List.{get_or-take, ext_get_or, take_rest}
+use Rattle.std.proofs.lemmas.List.{get_or-take, take_rest}
 use Rattle.std.proofs.lemmas.List.Elements.{All-from_get_or, All-head, All-tail, All-cons, All-nil}
 use Rattle.std.proofs.lemmas.List.Splits.{slice_split_none, slice_split_at, join_with_byte-slice_split, length-slice_split}
 use Rattle.std.proofs.Math.Seq.{split_at}
@@ -25,9 +26,7 @@ pub fields_last : (bytes : List ℕ) → ((k : ℕ) → k < length bytes → get
 fields_last bytes none = slice_split_none (λ b. eqb b 32) bytes (no_space 32 bytes none)
 
 front_free : (bytes : List ℕ) (at : ℕ) → at < length bytes → ((k : ℕ) → k < at → get_or bytes k 0 ≡ 32 → ⊥) → (k : ℕ) → k < length (take at bytes) → get_or (take at bytes) k 0 ≡ 32 → ⊥
-front_free bytes at h none k within is =
-    let low : k < at = omega (arith, within, length-take at bytes) in
-    none k low (sym (get_or-take at bytes k 0 low) ∙ is)
+front_free bytes at h none k within is = grind (arith, common_steps, none k)
 
 -- where a space comes first: the word before it, and the words of what is left past it
 pub fields_passed : (bytes : List ℕ) (at : ℕ) → at < length bytes → ((k : ℕ) → k < at → get_or bytes k 0 ≡ 32 → ⊥) → get_or bytes at 0 ≡ 32 →
@@ -139,7 +138,4 @@ front_number rest end value within some few first digits is =
 -- a word at the front of a line, byte by byte
 pub front_word : (rest word : List ℕ) → length word ≤ length rest → ((k : ℕ) → k < length word → (get_or rest k 0 ≡ get_or word k 0) × (get_or rest k 0 ≡ 32 → ⊥)) →
     take (length word) rest ≡ word
-front_word rest word within each =
-    let long : length (take (length word) rest) ≡ length word = omega (arith, length-take (length word) rest) in
-    ext_get_or 0 (take (length word) rest) word long
-    (λ k h. let low : k < length word = omega arith in get_or-take (length word) rest k 0 low ∙ (each k low).0)
+front_word rest word within each = grind (arith, elements)

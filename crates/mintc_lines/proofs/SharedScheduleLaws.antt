@@ -8,9 +8,8 @@ use Rattle.mintc_timing.specs.declared.clocking.Schedule.{Schedule}
 use Rattle.mintc_lines.specs.Fields.{IsNumberLine, IsCountLine}
 use Rattle.mintc_timing.specs.Limits.{IsNumerator, IsDenominator, IsInRange}
 use Rattle.mintc_lines.specs.Texts.{NextOfSchedule, NextOfText, IsWholeText, IsLast, IsPhaseLine, IsScheduleText, ScheduleLines, den, cycle, phases, phase, TextLines, first, body, whole, no_phases, with_phase}
-use Rattle.mintc_lines.proofs.SharedFieldsLaws.{read_back}
+use Rattle.mintc_lines.proofs.SharedFieldsLaws.{seen, read_back}
 use Rattle.mintc_lines.proofs.SharedLineLaws.{IsForm, word_form, count_form, number_form}
-use Rattle.mintc_lines.proofs.SharedScheduleReading.{plain-phase_line}
 use Rattle.mintc_lines.proofs.SharedSpelling.{rest_count, Agrees, agrees_none, agrees_back, agrees_same, IsSpelledStep}
 use Rattle.mintc_lines.proofs.SharedTextLaws.{along, IsPlainFormat, IsPlainStep, plain_step, no_step, step_by, ArePlainTexts, plain_texts}
 
@@ -65,11 +64,8 @@ IsInRange-from_text text s h = along NextOfText Keeps keeps_next first h.lines (
 
 -- ---- the forms of a schedule's lines
 
-phase_one : (p q : ℤ × ℤ) (ws : List (List ℕ)) → IsPhaseLine p ws → IsPhaseLine q ws → p ≡ q
-phase_one p q ws h g = grind (arith, read_back)
-
 phase_form : IsForm IsPhaseLine
-phase_form = record { plain = plain-phase_line; one = phase_one; words = λ p ws xs h g. h.2 ∙ sym g.2 }
+phase_form = record { plain = λ p ws h. grind (arith, seen); one = λ p q ws h g. grind (arith, read_back); words = λ p ws xs h g. h.2 ∙ sym g.2 }
 
 den_form : IsForm (IsNumberLine (codes "den") (pos 1) MOST_DENOMINATOR)
 den_form = number_form (codes "den") (pos 1) MOST_DENOMINATOR refl (omega (arith, ints)) (omega (arith, ints))

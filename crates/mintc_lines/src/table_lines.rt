@@ -98,7 +98,6 @@ fn hold(fields: &mut Fields) -> Option<(bool, i64)>
 
 /// The least and the greatest delay from the opening edge, by the next words where the version has them. They are
 /// those from the data where the version has none, and for a flop.
-#[tactic(auto, using(crate::proofs::SharedFieldsLaws::read_back))]
 fn openings(fields: &mut Fields, version: Version, flop: bool, dq: (i64, i64)) -> Option<(i64, i64)>
     requires { AreDelays dq.0 dq.1 }
     ensures { MatchOption result
