@@ -1,12 +1,11 @@
 -- What is read as a certificate is in range.
-use Rattle.std.proofs.Common.{ℕ, zero, suc, ℤ, ◌≤◌, ◌+◌, Bool, if◌then◌else◌, List, [], ◌∷◌, ◌++◌, length, All, sym, subst, arith}
+use Rattle.std.proofs.Common.{ℕ, zero, suc, ℤ, ◌≤◌, ◌+◌, List, [], ◌∷◌, ◌++◌, length, All, sym, subst, arith}
 use Rattle.std.proofs.lemmas.Grind.{common_steps}
 use Rattle.std.proofs.lemmas.Int.{ints}
 use Rattle.std.proofs.lemmas.List.Elements.{All-push, All-nil}
 use Rattle.mintc_text.specs.declared.limits.TheConstants.{MOST_MEMBERS, MOST_COUNT}
 use Rattle.mintc_timing.specs.declared.clocking.Schedule.{Schedule}
 use Rattle.mintc_timing.specs.Limits.{IsInRange}
-use Rattle.mintc_lines.specs.Texts.{den}
 use Rattle.mintc_lines.proofs.SharedScheduleLaws.{KeepsSchedule, schedule_keeps}
 use Rattle.mintc_lines.proofs.SharedTextLaws.{along}
 use Rattle.mintc_certificate.specs.declared.certificate.Certificate.{Certificate}
@@ -57,12 +56,9 @@ links_next v left (Never ms) line b h k = subst Keeps (sym h.2) (chain_kept left
 links_end : (c : Certificate) → Links 0 c → IsCertificateInRange c
 links_end c k = grind arith
 
-outcome_next : (v : Version) (b : Bool) → Keeps (if b then scheduled v den else never v)
-outcome_next v b = grind arith
-
 keeps_next : (a : CertificateLines) (line : List ℕ) (b : CertificateLines) → NextOfCertificate a line b → Keeps a → Keeps b
 keeps_next first line b h k = subst Keeps (sym h.2) tt
-keeps_next (outcome v) line b h k = subst Keeps (sym h.2) (outcome_next v h.0)
+keeps_next (outcome v) line b h k = subst Keeps (sym h.2) (let least = h.0 in grind arith)
 keeps_next (scheduled v lines) line b h k = schedule_keeps (scheduled v) (IsDeparturesLine v) Keeps (λ l k. k) (departures_begun v) lines line b h k
 keeps_next (departure v (suc left) s ds) line b h k = subst Keeps (sym h.2) (departure_kept left s ds h.0 k (omega (arith, ints, h.1.1.0.0, least_is v), h.1.1.0.1))
 keeps_next (departure v zero s ds) line b h k = subst Keeps (sym h.2) (k, chain_begun h.0 h.1.1.0 h.1.1.1)

@@ -1,25 +1,21 @@
 -- The lines of a certificate are plain, and a text has one certificate or one first line out of form.
-use Rattle.std.proofs.Common.{◌≡◌, ℕ, zero, suc, Bool, if◌then◌else◌, List, refl, ◌∙◌, sym, arith, codes}
+use Rattle.std.proofs.Common.{zero, suc, refl, ap, ◌∙◌, sym, arith, codes}
 use Rattle.std.proofs.lemmas.Int.{ints}
 use Rattle.mintc_text.specs.declared.limits.TheConstants.{MOST_NUMERATOR, MOST_MEMBERS, MOST_COUNT}
-use Rattle.mintc_lines.specs.Fields.{IsWordLine, IsCountLine}
-use Rattle.mintc_lines.specs.Texts.{den}
+use Rattle.mintc_lines.specs.Fields.{plain_line, IsWordLine, IsCountLine}
 use Rattle.mintc_lines.proofs.SharedLineLaws.{IsForm, word_form, count_form, number_form}
 use Rattle.mintc_lines.proofs.SharedScheduleLaws.{schedule_step}
 use Rattle.mintc_lines.proofs.SharedTextLaws.{IsPlainFormat, IsPlainStep, plain_step, no_step, ArePlainTexts, plain_texts}
 use Rattle.mintc_certificate.specs.declared.version.Version.{Version}
 use Rattle.mintc_certificate.specs.CertificateText.{NextOfCertificate, IsDeparturesLine, IsWholeCertificate, CertificateLines, first, outcome, scheduled, departure, never, link, whole, least_departure, IsOutcomeLine, IsChainLine, IsMemberLine}
-use Rattle.mintc_certificate.proofs.CertificateReading.{IsDepartureLine, least_is, plain-outcome_line}
-use Rattle.mintc_certificate.proofs.MemberLaws.{plain_member_line, member_one}
+use Rattle.mintc_certificate.proofs.CertificateReading.{IsDepartureLine, least_is}
+use Rattle.mintc_certificate.proofs.MemberLaws.{plain_words, member_one}
 
 -- ---- each line has one value, and no line feed
 
-outcome_one : (b c : Bool) (ws : List (List ℕ)) → IsOutcomeLine b ws → IsOutcomeLine c ws → b ≡ c
-outcome_one b c ws h g = grind arith
-
 -- the forms of a certificate's lines
 pub outcome_form : IsForm IsOutcomeLine
-outcome_form = record { plain = plain-outcome_line; one = outcome_one; words = λ b ws xs h g. h ∙ sym g }
+outcome_form = record { plain = λ b ws h. grind arith; one = λ b c ws h g. grind arith; words = λ b ws xs h g. h ∙ sym g }
 
 pub departure_form : (v : Version) → IsForm (IsDepartureLine v)
 departure_form v = number_form (codes "departure") (least_departure v) MOST_NUMERATOR refl (omega (arith, ints, least_is v)) (omega (arith, ints))
@@ -31,7 +27,7 @@ pub chain_form : IsForm IsChainLine
 chain_form = count_form (codes "chain") 1 MOST_MEMBERS refl (omega arith)
 
 pub member_form : (v : Version) → IsForm (IsMemberLine v)
-member_form v = record { plain = plain_member_line v; one = member_one v; words = λ m ws xs h g. h.spelled ∙ sym g.spelled }
+member_form v = record { plain = λ m ws h. ap plain_line h.spelled ∙ plain_words m h.counted; one = member_one v; words = λ m ws xs h g. h.spelled ∙ sym g.spelled }
 
 pub end_form : IsForm (IsWordLine (codes "end"))
 end_form = word_form (codes "end") refl
@@ -41,12 +37,9 @@ abbrev pub Begun : CertificateLines → Type 0
 Begun first = ⊥
 Begun lines = Unit {0}
 
-begun_outcome : (v : Version) (x : Bool) → Begun (if x then scheduled v den else never v)
-begun_outcome v x = grind arith
-
 pub certificate_step : (a : CertificateLines) → IsPlainStep (NextOfCertificate a) Begun
 certificate_step first = plain_step (count_form (codes "certificate") 1 2 refl (omega arith)) (λ n ws h. tt)
-certificate_step (outcome v) = plain_step outcome_form (λ x ws h. begun_outcome v x)
+certificate_step (outcome v) = plain_step outcome_form (λ x ws h. grind arith)
 certificate_step (scheduled v lines) = schedule_step (scheduled v) (IsDeparturesLine v) Begun (λ l. tt) (λ s. plain_step departures_form (λ n ws h. tt)) lines
 certificate_step (departure v (suc left) s ds) = plain_step (departure_form v) (λ d ws h. tt)
 certificate_step (departure v zero s ds) = plain_step chain_form (λ m ws h. tt)

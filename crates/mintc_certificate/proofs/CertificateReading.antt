@@ -1,9 +1,9 @@
 -- What the reader of certificates has read up to each line, and where it halts.
-use Rattle.std.proofs.Common.{◌≡◌, ℕ, suc, ◌-◌, ℤ, pos, neg_ℤ, ◌≤ℤ◌, Bool, true, List, [], ◌∷◌, ◌++◌, refl, arith, codes}
+use Rattle.std.proofs.Common.{◌≡◌, ℕ, suc, ℤ, pos, neg_ℤ, ◌≤ℤ◌, List, [], ◌∷◌, ◌++◌, refl, arith, codes}
 use Rattle.std.proofs.lemmas.Int.{ints}
 use Rattle.mintc_text.specs.declared.limits.TheConstants.{MOST_NUMERATOR}
 use Rattle.mintc_timing.specs.declared.clocking.Schedule.{Schedule}
-use Rattle.mintc_lines.specs.Fields.{plain_line, Spells, IsNumberLine}
+use Rattle.mintc_lines.specs.Fields.{Spells, IsNumberLine}
 use Rattle.mintc_lines.specs.Reading.{Reading, HasRead, HasNone, IsAt, number_after}
 use Rattle.mintc_lines.proofs.SharedReadingLaws.{at_more, at_fault}
 use Rattle.mintc_certificate.specs.declared.certificate.Certificate.{Certificate}
@@ -11,7 +11,7 @@ use Rattle.mintc_certificate.specs.declared.certificate.Certificate.TheVariants.
 use Rattle.mintc_certificate.specs.declared.members.Member.{Member}
 use Rattle.mintc_certificate.specs.declared.version.Version.{Version}
 use Rattle.mintc_certificate.specs.CertificateReading.{with_chain, before_chain}
-use Rattle.mintc_certificate.specs.CertificateText.{NextOfCertificate, IsCertificateFault, CertificateLines, first, departure, link, least_departure, IsOutcomeLine, IsChainLine, IsMemberLine}
+use Rattle.mintc_certificate.specs.CertificateText.{NextOfCertificate, IsCertificateFault, CertificateLines, first, departure, link, least_departure, IsChainLine, IsMemberLine}
 
 -- where a reader of a certificate is
 abbrev pub At : List ℕ → Reading → CertificateLines → Type 0
@@ -44,6 +44,3 @@ chain_fault text old number v (Never ms) at none counted = at_fault at none coun
 pub member_next : (v : Version) (c : Certificate) (m : Member) (left : ℕ) (ms : List Member) (line : List ℕ) → Spells (IsMemberLine v) m line → NextOfCertificate (link v (suc left) (with_chain c ms)) line (link v left (with_chain c (ms ++ m ∷ [])))
 member_next v (Least s ds chain) m left ms line spells = (m, spells, refl)
 member_next v (Never chain) m left ms line spells = (m, spells, refl)
-
-pub plain-outcome_line : (b : Bool) (ws : List (List ℕ)) → IsOutcomeLine b ws → plain_line ws ≡ true
-plain-outcome_line b ws h = grind arith

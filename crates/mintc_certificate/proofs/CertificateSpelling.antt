@@ -1,7 +1,7 @@
 -- Certificates that are one value have one text.
-use Rattle.std.proofs.Common.{◌≡◌, ℕ, zero, suc, ℤ, Bool, if◌then◌else◌, List, [], refl, subst, arith}
+use Rattle.std.proofs.Common.{◌≡◌, ℕ, zero, suc, ℤ, List, [], refl, subst, arith}
 use Rattle.mintc_timing.specs.declared.clocking.Schedule.{Schedule}
-use Rattle.mintc_lines.specs.Texts.{ScheduleLines, den}
+use Rattle.mintc_lines.specs.Texts.{ScheduleLines}
 use Rattle.mintc_lines.proofs.SharedScheduleLaws.{BeginsSchedule, schedule_step, schedule_back, schedule_spelled}
 use Rattle.mintc_lines.proofs.SharedSpelling.{Rest, rest_none, rest_back, rest_same, rest_count, IsSpelled, IsSpelledStep}
 use Rattle.mintc_lines.proofs.SharedTextLaws.{plain_step, step_by, no_way, one_text_after}
@@ -76,13 +76,10 @@ back (link v (suc left) q) b line c h g = chain_back q c h.0 left (subst (λ x. 
 back (link v zero q) b line c h g = subst (OfChain q 0) (subst (λ x. Begins x c) h.2 g) (chain_whole q)
 back (whole q) b line c h g = absurd h
 
-outcome_same : (v : Version) (x y : Bool) (c : Certificate) → Begins (if x then scheduled v den else never v) c → Begins (if y then scheduled v den else never v) c → x ≡ y
-outcome_same v x y c k l = grind arith
-
 -- After the first line, whose number is the version, one line leads on.
 step : (a : CertificateLines) (c : Certificate) → Begun a → IsSpelledStep (NextOfCertificate a) (λ b. Begins b c)
 step first c p = no_way (λ line b h i. p)
-step (outcome v) c p = step_by outcome_form (λ x y k l. outcome_same v x y c k l)
+step (outcome v) c p = step_by outcome_form (λ x y k l. grind arith)
 step (scheduled v lines) (Least s ds ms) p =
     schedule_spelled (scheduled v) (IsDeparturesLine v) (λ x. Begins x (Least s ds ms)) s (λ l k. k) (λ q. step_by departures_form (λ m n k l. rest_count [] ds m n k.1 l.1)) lines
 step (scheduled v lines) (Never ms) p = no_way (λ line b h i. no_schedule ms v lines line b h i)

@@ -102,6 +102,3 @@ plain_numbers w (n ∷ ns) h each =
 
 pub plain_words : (m : Member) → IsCounted m → plain_line (member_words m) ≡ true
 plain_words m h = grind (arith, plain_number, plain_numbers)
-
-pub plain_member_line : (v : Version) (m : Member) (ws : List (List ℕ)) → IsMemberLine v m ws → plain_line ws ≡ true
-plain_member_line v m ws h = ap plain_line h.spelled ∙ plain_words m h.counted
