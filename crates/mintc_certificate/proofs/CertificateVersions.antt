@@ -1,13 +1,11 @@
 -- The second version says all that the first does.
-use Rattle.std.proofs.Common.{◌≡◌, ℕ, zero, suc, Bool, if◌then◌else◌, List, [], ◌∷◌, ◌++◌, Contains, refl, ap, ◌∙◌, subst, arith, codes}
+use Rattle.std.proofs.Common.{◌≡◌, ℕ, zero, suc, List, [], ◌∷◌, ◌++◌, Contains, refl, ap, ◌∙◌, subst, arith, codes}
 use Rattle.std.proofs.lemmas.Int.{ints}
 use Rattle.std.specs.Fmt.{digits}
 use Rattle.mintc_text.specs.Lines.{Follows, ended}
 use Rattle.mintc_lines.specs.Fields.{number}
-use Rattle.mintc_lines.specs.Texts.{den}
 use Rattle.mintc_lines.proofs.SharedScheduleReading.{schedule_carried}
 use Rattle.mintc_lines.proofs.SharedTextLaws.{after_first}
-use Rattle.mintc_certificate.specs.declared.version.Version.{Version}
 use Rattle.mintc_certificate.specs.declared.version.Version.TheVariants.{First, Second}
 use Rattle.mintc_certificate.specs.CertificateText.{NextOfCertificate, IsDeparturesLine, CertificateLines, first, outcome, scheduled, departure, never, link, whole}
 use Rattle.mintc_certificate.specs.TextLaws.{HaveOneCertificateText, SecondSaysFirst}
@@ -26,13 +24,10 @@ raise (never v) = never Second
 raise (link v left c) = link Second left c
 raise (whole c) = whole c
 
-raise_outcome : (v : Version) (x : Bool) → raise (if x then scheduled v den else never v) ≡ (if x then scheduled Second den else never Second)
-raise_outcome v x = grind arith
-
 -- what a line says in a version, it says in the second
 raised : (a b : CertificateLines) (line : List ℕ) → Begun a → NextOfCertificate a line b → NextOfCertificate (raise a) line (raise b)
 raised first b line begun h = absurd begun
-raised (outcome v) b line begun h = (h.0, h.1, ap raise h.2 ∙ raise_outcome v h.0)
+raised (outcome v) b line begun h = (h.0, h.1, ap raise h.2 ∙ (let least = h.0 in grind arith))
 raised (scheduled v lines) b line begun h =
     schedule_carried (scheduled v) (IsDeparturesLine v) (scheduled Second) (IsDeparturesLine Second) raise (λ l. refl) (λ s line b h. (h.0, h.1, ap raise h.2)) lines line b h
 raised (departure v (suc left) s ds) b line begun h = (h.0, (h.1.0, ((omega (arith, ints, h.1.1.0.0, least_is v), h.1.1.0.1), h.1.1.1), h.1.2), ap raise h.2)
