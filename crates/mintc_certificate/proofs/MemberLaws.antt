@@ -28,6 +28,7 @@ use Rattle.mintc_certificate.specs.MemberWords.{single, member_word, AreNumbers}
 abbrev pub all_words : List MemberWord
 all_words = One one.Start ∷ One one.Cycle ∷ One one.Order ∷ One one.Span ∷ One one.Width ∷ Apart ∷ One one.Opening ∷ One one.Opened ∷ Reach ∷ One one.Setup ∷ One one.Bound ∷ []
 
+-- the first of these words that is written so
 abbrev pub first_with : List ℕ → List MemberWord → MemberWord
 first_with word [] = Apart
 first_with word (w ∷ ws) = if bytes_eq word (member_word w) then w else first_with word ws
@@ -36,6 +37,7 @@ first_with word (w ∷ ws) = if bytes_eq word (member_word w) then w else first_
 abbrev value : List ℕ → ℕ
 value digits = digits_value 10 digits
 
+-- the member of a word, with the words after it
 abbrev with_words : MemberWord → List (List ℕ) → Member
 with_words (One s) ws = single s (value (get_or ws 0 []))
 with_words Apart ws = member.Apart (value (get_or ws 0 [])) (value (get_or ws 1 []))

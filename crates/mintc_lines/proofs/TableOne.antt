@@ -19,7 +19,13 @@ use Rattle.mintc_lines.proofs.TableLineLaws.{kind_of, kind_same, after_kind, aft
 -- a dash is no numeral
 no_dash : (z : ℤ) → IsShort z → (numeral_of z ≡ numeral_of z) × (numeral_of z ≡ codes "-" → ⊥)
 unfolding value
-no_dash z h = (refl, λ e. let zero : pos 0 ≡ z = ap value (sym e) ∙ (value_of z h).1 in let word : decimal 0 ≡ codes "-" = ap numeral_of zero ∙ e in omega (arith, ap (λ w. get_or w 0 0) (sym (decimal_digit 0 (omega arith)) ∙ word)))
+no_dash z h = (
+  refl,
+  λ e.
+      let zero : pos 0 ≡ z = ap value (sym e) ∙ (value_of z h).1 in
+      let word : decimal 0 ≡ codes "-" = ap numeral_of zero ∙ e in
+      omega (arith, ap (λ w. get_or w 0 0) (sym (decimal_digit 0 (omega arith)) ∙ word)),
+)
 
 hold_same : (a b : Bool) (y z : ℤ) → IsHold a y → IsHold b z → hold_word a y ≡ hold_word b z → (a ≡ b) × (y ≡ z)
 hold_same a b y z h g e = grind (arith, read_back, no_dash)
