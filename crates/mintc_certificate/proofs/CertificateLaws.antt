@@ -1,32 +1,28 @@
 -- What is read as a certificate is in range.
-use Rattle.std.proofs.Common.{ℕ, zero, suc, ℤ, ◌≤◌, ◌≤ℤ◌, ◌+◌, true, false, Bool, if◌then◌else◌, List, [], ◌∷◌, ◌++◌, length, length-append, All, sym, subst, arith}
+use Rattle.std.proofs.Common.{ℕ, zero, suc, ℤ, ◌≤◌, ◌+◌, List, [], ◌∷◌, ◌++◌, length, All, sym, subst, arith}
+use Rattle.std.proofs.lemmas.Grind.{common_steps}
 use Rattle.std.proofs.lemmas.Int.{ints}
 use Rattle.std.proofs.lemmas.List.Elements.{All-push, All-nil}
-use Rattle.mintc_text.specs.declared.limits.TheConstants.{MOST_NUMERATOR, MOST_MEMBERS, MOST_COUNT}
+use Rattle.mintc_text.specs.declared.limits.TheConstants.{MOST_MEMBERS, MOST_COUNT}
 use Rattle.mintc_timing.specs.declared.clocking.Schedule.{Schedule}
 use Rattle.mintc_timing.specs.Limits.{IsInRange}
-use Rattle.mintc_lines.specs.Texts.{den}
 use Rattle.mintc_lines.proofs.SharedScheduleLaws.{KeepsSchedule, schedule_keeps}
 use Rattle.mintc_lines.proofs.SharedTextLaws.{along}
 use Rattle.mintc_certificate.specs.declared.certificate.Certificate.{Certificate}
 use Rattle.mintc_certificate.specs.declared.certificate.Certificate.TheVariants.{Least, Never}
 use Rattle.mintc_certificate.specs.declared.members.Member.{Member}
 use Rattle.mintc_certificate.specs.declared.version.Version.{Version}
-use Rattle.mintc_certificate.specs.declared.version.Version.TheVariants.{First, Second}
-use Rattle.mintc_certificate.specs.CertificateText.{NextOfCertificate, IsDeparturesLine, IsCertificateText, CertificateLines, first, outcome, scheduled, departure, never, link, whole, least_departure, IsCounted}
-use Rattle.mintc_certificate.specs.Ranges.{IsDeparture, IsChainInRange, IsCertificateInRange}
+use Rattle.mintc_certificate.specs.CertificateText.{NextOfCertificate, IsDeparturesLine, IsCertificateText, CertificateLines, first, outcome, scheduled, departure, never, link, whole, IsCounted}
+use Rattle.mintc_certificate.proofs.CertificateReading.{least_is}
+use Rattle.mintc_certificate.specs.Ranges.{IsDeparture, IsCertificateInRange}
 
 -- what is kept of departures while their lines come
-record AreSoFar (left : ℕ) (s : Schedule) (ds : List ℤ) : Type 0 where
-  pub schedule_in : IsInRange s
-  pub each : All IsDeparture ds
-  pub count : length ds + left ≤ MOST_COUNT
+abbrev AreSoFar : ℕ → Schedule → List ℤ → Type 0
+AreSoFar left s ds = IsInRange s × All IsDeparture ds × (length ds + left ≤ MOST_COUNT)
 
 -- and of a chain
-record IsChaining (left : ℕ) (ms : List Member) : Type 0 where
-  pub some : 1 ≤ length ms + left
-  pub most : length ms + left ≤ MOST_MEMBERS
-  pub each : All IsCounted ms
+abbrev IsChaining : ℕ → List Member → Type 0
+IsChaining left ms = (1 ≤ length ms + left) × (length ms + left ≤ MOST_MEMBERS) × All IsCounted ms
 
 abbrev Links : ℕ → Certificate → Type 0
 Links left (Least s ds ms) = AreSoFar 0 s ds × IsChaining left ms
@@ -41,50 +37,30 @@ Keeps (never v) = Unit {0}
 Keeps (link v left c) = Links left c
 Keeps (whole c) = IsCertificateInRange c
 
-IsDeparture-from : (v : Version) (d : ℤ) → least_departure v ≤ℤ d → d ≤ℤ MOST_NUMERATOR → IsDeparture d
-IsDeparture-from First d low high = (omega (arith, ints), omega (arith, ints))
-IsDeparture-from Second d low high = (omega (arith, ints), omega (arith, ints))
-
 departures_begun : (v : Version) (s : Schedule) (line : List ℕ) (b : CertificateLines) → IsDeparturesLine v s line b → IsInRange s → Keeps b
-departures_begun v s line b h k = subst Keeps (sym h.2) (let n = h.1.1 in record { schedule_in = k; each = All-nil IsDeparture; count = omega (arith, n.1) })
+departures_begun v s line b h k = subst Keeps (sym h.2) (let n = h.1.1 in (k, All-nil IsDeparture, omega (arith, n.1)))
 
 departure_kept : (left : ℕ) (s : Schedule) (ds : List ℤ) (d : ℤ) → AreSoFar (suc left) s ds → IsDeparture d → AreSoFar left s (ds ++ d ∷ [])
-departure_kept left s ds d k h = record {
-  schedule_in = k.schedule_in;
-  each = All-push IsDeparture ds d k.each h;
-  count = omega (arith, k.count, length-append ds (d ∷ []));
-}
+departure_kept left s ds d k h = grind (arith, common_steps, All-push)
 
 chain_begun : (n : ℕ) → 1 ≤ n → n ≤ MOST_MEMBERS → IsChaining n []
-chain_begun n some most = record { some = omega arith; most = omega arith; each = All-nil IsCounted }
+chain_begun n some most = (omega arith, omega arith, All-nil IsCounted)
 
 chain_kept : (left : ℕ) (ms : List Member) (m : Member) → IsChaining (suc left) ms → IsCounted m → IsChaining left (ms ++ m ∷ [])
-chain_kept left ms m k h = record {
-  some = omega (arith, k.some, length-append ms (m ∷ []));
-  most = omega (arith, k.most, length-append ms (m ∷ []));
-  each = All-push IsCounted ms m k.each h;
-}
-
-chain_whole : (ms : List Member) → IsChaining 0 ms → IsChainInRange ms
-chain_whole ms k = record { some = omega (arith, k.some); most = omega (arith, k.most); each = k.each }
+chain_kept left ms m k h = grind (arith, common_steps, All-push)
 
 links_next : (v : Version) (left : ℕ) (c : Certificate) (line : List ℕ) (b : CertificateLines) → NextOfCertificate (link v (suc left) c) line b → Links (suc left) c → Keeps b
 links_next v left (Least s ds ms) line b h k = subst Keeps (sym h.2) (k.0, chain_kept left ms h.0 k.1 h.1.1.counted)
 links_next v left (Never ms) line b h k = subst Keeps (sym h.2) (chain_kept left ms h.0 k h.1.1.counted)
 
 links_end : (c : Certificate) → Links 0 c → IsCertificateInRange c
-links_end (Least s ds ms) k = record { schedule_in = k.0.schedule_in; count = omega (arith, k.0.count); each = k.0.each; chain_in = chain_whole ms k.1 }
-links_end (Never ms) k = chain_whole ms k
-
-outcome_next : (v : Version) (b : Bool) → Keeps (if b then scheduled v den else never v)
-outcome_next v true = tt
-outcome_next v false = tt
+links_end c k = grind arith
 
 keeps_next : (a : CertificateLines) (line : List ℕ) (b : CertificateLines) → NextOfCertificate a line b → Keeps a → Keeps b
 keeps_next first line b h k = subst Keeps (sym h.2) tt
-keeps_next (outcome v) line b h k = subst Keeps (sym h.2) (outcome_next v h.0)
+keeps_next (outcome v) line b h k = subst Keeps (sym h.2) (let least = h.0 in grind arith)
 keeps_next (scheduled v lines) line b h k = schedule_keeps (scheduled v) (IsDeparturesLine v) Keeps (λ l k. k) (departures_begun v) lines line b h k
-keeps_next (departure v (suc left) s ds) line b h k = subst Keeps (sym h.2) (departure_kept left s ds h.0 k (IsDeparture-from v h.0 h.1.1.0.0 h.1.1.0.1))
+keeps_next (departure v (suc left) s ds) line b h k = subst Keeps (sym h.2) (departure_kept left s ds h.0 k (omega (arith, ints, h.1.1.0.0, least_is v), h.1.1.0.1))
 keeps_next (departure v zero s ds) line b h k = subst Keeps (sym h.2) (k, chain_begun h.0 h.1.1.0 h.1.1.1)
 keeps_next (never v) line b h k = subst Keeps (sym h.2) (chain_begun h.0 h.1.1.0 h.1.1.1)
 keeps_next (link v (suc left) c) line b h k = links_next v left c line b h k

@@ -1,44 +1,24 @@
 -- The lines of a certificate are plain, and a text has one certificate or one first line out of form.
-use Rattle.std.proofs.Common.{◌≡◌, ℕ, zero, suc, negsuc, ◌≤ℤ◌, true, false, Bool, if◌then◌else◌, List, [], ◌∷◌, refl, ap, ◌∙◌, sym, arith, codes}
+use Rattle.std.proofs.Common.{zero, suc, refl, ap, ◌∙◌, sym, arith, codes}
 use Rattle.std.proofs.lemmas.Int.{ints}
 use Rattle.mintc_text.specs.declared.limits.TheConstants.{MOST_NUMERATOR, MOST_MEMBERS, MOST_COUNT}
-use Rattle.mintc_lines.specs.Fields.{IsWordLine, IsCountLine}
-use Rattle.mintc_lines.specs.Texts.{den}
+use Rattle.mintc_lines.specs.Fields.{plain_line, IsWordLine, IsCountLine}
 use Rattle.mintc_lines.proofs.SharedLineLaws.{IsForm, word_form, count_form, number_form}
 use Rattle.mintc_lines.proofs.SharedScheduleLaws.{schedule_step}
-use Rattle.mintc_lines.proofs.SharedTextLaws.{IsPlainFormat, IsPlainStep, plain_step, no_step, text_one_end, text_no_fault, text_one_fault}
-use Rattle.mintc_certificate.specs.declared.certificate.Certificate.{Certificate}
+use Rattle.mintc_lines.proofs.SharedTextLaws.{IsPlainFormat, IsPlainStep, plain_step, no_step, ArePlainTexts, plain_texts}
 use Rattle.mintc_certificate.specs.declared.version.Version.{Version}
-use Rattle.mintc_certificate.specs.declared.version.Version.TheVariants.{First, Second}
 use Rattle.mintc_certificate.specs.CertificateText.{NextOfCertificate, IsDeparturesLine, IsWholeCertificate, CertificateLines, first, outcome, scheduled, departure, never, link, whole, least_departure, IsOutcomeLine, IsChainLine, IsMemberLine}
-use Rattle.mintc_certificate.specs.TextLaws.{HaveOneCertificate, HaveNoCertificateFault, HaveOneCertificateFault}
-use Rattle.mintc_certificate.proofs.CertificateReading.{IsDepartureLine, plain-outcome_line}
-use Rattle.mintc_certificate.proofs.MemberLaws.{plain-member_line, member_one}
+use Rattle.mintc_certificate.proofs.CertificateReading.{IsDepartureLine, least_is}
+use Rattle.mintc_certificate.proofs.MemberLaws.{plain_words, member_one}
 
 -- ---- each line has one value, and no line feed
 
--- the first byte of a line's words, 0 where there is none
-abbrev first_byte : List (List ℕ) → ℕ
-first_byte [] = 0
-first_byte ([] ∷ ws) = 0
-first_byte ((b ∷ bs) ∷ ws) = b
-
-outcome_one : (b c : Bool) (ws : List (List ℕ)) → IsOutcomeLine b ws → IsOutcomeLine c ws → b ≡ c
-outcome_one true true ws h g = refl
-outcome_one false false ws h g = refl
-outcome_one true false ws h g = absurd (omega (arith, ap first_byte (sym h ∙ g)))
-outcome_one false true ws h g = absurd (omega (arith, ap first_byte (sym h ∙ g)))
-
-least_short : (v : Version) → negsuc 999999999999999998 ≤ℤ least_departure v
-least_short First = omega (arith, ints)
-least_short Second = omega (arith, ints)
-
 -- the forms of a certificate's lines
 pub outcome_form : IsForm IsOutcomeLine
-outcome_form = record { plain = plain-outcome_line; one = outcome_one; words = λ b ws xs h g. h ∙ sym g }
+outcome_form = record { plain = λ b ws h. grind arith; one = λ b c ws h g. grind arith; words = λ b ws xs h g. h ∙ sym g }
 
 pub departure_form : (v : Version) → IsForm (IsDepartureLine v)
-departure_form v = number_form (codes "departure") (least_departure v) MOST_NUMERATOR refl (least_short v) (omega (arith, ints))
+departure_form v = number_form (codes "departure") (least_departure v) MOST_NUMERATOR refl (omega (arith, ints, least_is v)) (omega (arith, ints))
 
 pub departures_form : IsForm (IsCountLine (codes "departures") 0 MOST_COUNT)
 departures_form = count_form (codes "departures") 0 MOST_COUNT refl (omega arith)
@@ -47,7 +27,7 @@ pub chain_form : IsForm IsChainLine
 chain_form = count_form (codes "chain") 1 MOST_MEMBERS refl (omega arith)
 
 pub member_form : (v : Version) → IsForm (IsMemberLine v)
-member_form v = record { plain = plain-member_line v; one = member_one v; words = λ m ws xs h g. h.spelled ∙ sym g.spelled }
+member_form v = record { plain = λ m ws h. ap plain_line h.spelled ∙ plain_words m h.counted; one = member_one v; words = λ m ws xs h g. h.spelled ∙ sym g.spelled }
 
 pub end_form : IsForm (IsWordLine (codes "end"))
 end_form = word_form (codes "end") refl
@@ -57,13 +37,9 @@ abbrev pub Begun : CertificateLines → Type 0
 Begun first = ⊥
 Begun lines = Unit {0}
 
-begun_outcome : (v : Version) (x : Bool) → Begun (if x then scheduled v den else never v)
-begun_outcome v true = tt
-begun_outcome v false = tt
-
 pub certificate_step : (a : CertificateLines) → IsPlainStep (NextOfCertificate a) Begun
 certificate_step first = plain_step (count_form (codes "certificate") 1 2 refl (omega arith)) (λ n ws h. tt)
-certificate_step (outcome v) = plain_step outcome_form (λ x ws h. begun_outcome v x)
+certificate_step (outcome v) = plain_step outcome_form (λ x ws h. grind arith)
 certificate_step (scheduled v lines) = schedule_step (scheduled v) (IsDeparturesLine v) Begun (λ l. tt) (λ s. plain_step departures_form (λ n ws h. tt)) lines
 certificate_step (departure v (suc left) s ds) = plain_step (departure_form v) (λ d ws h. tt)
 certificate_step (departure v zero s ds) = plain_step chain_form (λ m ws h. tt)
@@ -78,15 +54,5 @@ Any a = Unit {0}
 pub certificate_plain : IsPlainFormat NextOfCertificate Any
 certificate_plain = record { keeps = λ a b line p h. tt; one = λ a b c line p h g. (certificate_step a).one b c line h g; free = λ a b line p h. (certificate_step a).free b line h }
 
-whole_same : (c d : Certificate) → whole c ≡ whole d → c ≡ d
-whole_same c d e = cc
-
-pub certificates_have_one_value : HaveOneCertificate
-certificates_have_one_value text c d h g =
-    whole_same c d (text_one_end NextOfCertificate Any certificate_plain first (whole c) (whole d) text tt h g (λ line after step. step) (λ line after step. step))
-
-pub certificates_have_no_fault : HaveNoCertificateFault
-certificates_have_no_fault text c n h f = text_no_fault NextOfCertificate IsWholeCertificate Any certificate_plain first (whole c) text n tt h tt f
-
-pub certificates_have_one_fault : HaveOneCertificateFault
-certificates_have_one_fault text m n f g = text_one_fault NextOfCertificate IsWholeCertificate Any certificate_plain first text m n tt f g
+pub certificate_texts : ArePlainTexts NextOfCertificate IsWholeCertificate first whole
+certificate_texts = plain_texts whole certificate_plain tt (λ c d e. cc e) (λ c. tt)

@@ -1,36 +1,23 @@
 -- What the reader of certificates has read up to each line, and where it halts.
-use Rattle.std.proofs.Common.{◌≡◌, ℕ, suc, ◌<◌, ◌-◌, ℤ, SFits, w64, Bool, true, false, List, [], ◌∷◌, ◌++◌, refl, ap, arith, codes}
+use Rattle.std.proofs.Common.{◌≡◌, ℕ, suc, ℤ, pos, neg_ℤ, ◌≤ℤ◌, List, [], ◌∷◌, ◌++◌, refl, arith, codes}
 use Rattle.std.proofs.lemmas.Int.{ints}
 use Rattle.mintc_text.specs.declared.limits.TheConstants.{MOST_NUMERATOR}
-use Rattle.mintc_text.specs.Lines.{IsWithin}
-use Rattle.mintc_timing.specs.Limits.{IsTime}
 use Rattle.mintc_timing.specs.declared.clocking.Schedule.{Schedule}
-use Rattle.mintc_lines.specs.Fields.{plain_line, Spells, IsNumberLine}
-use Rattle.mintc_lines.specs.Reading.{Reading, HasRead, HasNone, IsAt, number_after, Halts}
-use Rattle.mintc_lines.proofs.SharedReadingLaws.{at_more, at_fault, list_fault}
+use Rattle.mintc_lines.specs.Fields.{Spells, IsNumberLine}
+use Rattle.mintc_lines.specs.Reading.{Reading, HasRead, HasNone, IsAt, number_after}
+use Rattle.mintc_lines.proofs.SharedReadingLaws.{at_more, at_fault}
 use Rattle.mintc_certificate.specs.declared.certificate.Certificate.{Certificate}
 use Rattle.mintc_certificate.specs.declared.certificate.Certificate.TheVariants.{Least, Never}
-use Rattle.mintc_lines.specs.declared.halt.Halt.{Halt}
-use Rattle.mintc_lines.specs.declared.halt.Halt.TheVariants.{Form, Memory}
 use Rattle.mintc_certificate.specs.declared.members.Member.{Member}
 use Rattle.mintc_certificate.specs.declared.version.Version.{Version}
-use Rattle.mintc_certificate.specs.declared.version.Version.TheVariants.{First, Second}
 use Rattle.mintc_certificate.specs.CertificateReading.{with_chain, before_chain}
-use Rattle.mintc_certificate.specs.CertificateText.{NextOfCertificate, IsWholeCertificate, IsCertificateFault, CertificateLines, first, departure, link, least_departure, with_member, IsOutcomeLine, IsChainLine, IsMemberLine}
+use Rattle.mintc_certificate.specs.CertificateText.{NextOfCertificate, IsCertificateFault, CertificateLines, first, departure, link, least_departure, IsChainLine, IsMemberLine}
 
 -- where a reader of a certificate is
 abbrev pub At : List ℕ → Reading → CertificateLines → Type 0
 At text reading state = IsAt NextOfCertificate first text reading state
 
 -- ---- its lists
-
-pub list_halts : {X : Type 0} (st : ℕ → List X → CertificateLines) (F : X → List (List ℕ) → Type 0) (text : List ℕ) (old : Reading) (number : ℕ) (found : List X) (i count : ℕ) (h : Halt) →
-    At text old (st (count - i) found) → i < count → Halts (HasNone F old.left) h → number ≡ number_after old.number →
-    ((left : ℕ) (all : List X) → IsWholeCertificate (st (suc left) all) → ⊥) →
-    ((left : ℕ) (all : List X) (line : List ℕ) (after : CertificateLines) → NextOfCertificate (st (suc left) all) line after → (x : X) × Spells F x line) →
-    Halts (IsCertificateFault text number) h
-list_halts st F text old number found i count Form at low none counted unfinished only = list_fault st F text old number found i count at low none counted unfinished only
-list_halts st F text old number found i count Memory at low none counted unfinished only = tt
 
 -- the states of departures and of members
 abbrev pub departure_states : Version → Schedule → ℕ → List ℤ → CertificateLines
@@ -42,13 +29,8 @@ member_states v c left ms = link v left (with_chain c ms)
 abbrev pub IsDepartureLine : Version → ℤ → List (List ℕ) → Type 0
 IsDepartureLine v = IsNumberLine (codes "departure") (least_departure v) MOST_NUMERATOR
 
-pub least_fits : (v : Version) → SFits w64 (least_departure v)
-least_fits First = omega (arith, ints)
-least_fits Second = omega (arith, ints)
-
-pub IsTime-departure : (v : Version) (d : ℤ) → IsWithin (least_departure v) MOST_NUMERATOR d → IsTime d
-IsTime-departure First d h = (omega (arith, ints, h.0, h.1), omega (arith, ints, h.0, h.1))
-IsTime-departure Second d h = (omega (arith, ints, h.0, h.1), omega (arith, ints, h.0, h.1))
+pub least_is : (v : Version) → (neg_ℤ MOST_NUMERATOR ≤ℤ least_departure v) × (least_departure v ≤ℤ pos 0)
+least_is v = grind (arith, ints)
 
 pub chain_read : (text : List ℕ) (old new : Reading) (v : Version) (c : Certificate) (m : ℕ) → At text old (before_chain v c) → HasRead IsChainLine old.left m new.left → new.number ≡ number_after old.number →
     At text new (link v m (with_chain c []))
@@ -59,13 +41,6 @@ pub chain_fault : (text : List ℕ) (old : Reading) (number : ℕ) (v : Version)
 chain_fault text old number v (Least s ds ms) at none counted = at_fault at none counted (λ e. e) (λ line after step. (step.0, step.1))
 chain_fault text old number v (Never ms) at none counted = at_fault at none counted (λ e. e) (λ line after step. (step.0, step.1))
 
-pushed : (c : Certificate) (ms : List Member) (m : Member) → with_chain c (ms ++ m ∷ []) ≡ with_member (with_chain c ms) m
-pushed (Least s ds chain) ms m = refl
-pushed (Never chain) ms m = refl
-
 pub member_next : (v : Version) (c : Certificate) (m : Member) (left : ℕ) (ms : List Member) (line : List ℕ) → Spells (IsMemberLine v) m line → NextOfCertificate (link v (suc left) (with_chain c ms)) line (link v left (with_chain c (ms ++ m ∷ [])))
-member_next v c m left ms line spells = (m, spells, ap (λ (x : Certificate). link v left x) (pushed c ms m))
-
-pub plain-outcome_line : (b : Bool) (ws : List (List ℕ)) → IsOutcomeLine b ws → plain_line ws ≡ true
-plain-outcome_line true ws h = ap plain_line h
-plain-outcome_line false ws h = ap plain_line h
+member_next v (Least s ds chain) m left ms line spells = (m, spells, refl)
+member_next v (Never chain) m left ms line spells = (m, spells, refl)

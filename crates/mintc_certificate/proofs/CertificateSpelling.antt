@@ -1,7 +1,7 @@
 -- Certificates that are one value have one text.
-use Rattle.std.proofs.Common.{◌≡◌, ℕ, zero, suc, ℤ, Bool, true, false, if◌then◌else◌, List, [], refl, ◌∙◌, sym, subst}
+use Rattle.std.proofs.Common.{◌≡◌, ℕ, zero, suc, ℤ, List, [], refl, subst, arith}
 use Rattle.mintc_timing.specs.declared.clocking.Schedule.{Schedule}
-use Rattle.mintc_lines.specs.Texts.{ScheduleLines, den}
+use Rattle.mintc_lines.specs.Texts.{ScheduleLines}
 use Rattle.mintc_lines.proofs.SharedScheduleLaws.{BeginsSchedule, schedule_step, schedule_back, schedule_spelled}
 use Rattle.mintc_lines.proofs.SharedSpelling.{Rest, rest_none, rest_back, rest_same, rest_count, IsSpelled, IsSpelledStep}
 use Rattle.mintc_lines.proofs.SharedTextLaws.{plain_step, step_by, no_way, one_text_after}
@@ -9,129 +9,89 @@ use Rattle.mintc_certificate.specs.declared.certificate.Certificate.{Certificate
 use Rattle.mintc_certificate.specs.declared.certificate.Certificate.TheVariants.{Least, Never}
 use Rattle.mintc_certificate.specs.declared.members.Member.{Member}
 use Rattle.mintc_certificate.specs.declared.version.Version.{Version}
-use Rattle.mintc_certificate.specs.CertificateText.{NextOfCertificate, IsDeparturesLine, CertificateLines, first, outcome, scheduled, departure, never, link, whole}
+use Rattle.mintc_certificate.specs.CertificateReading.{with_chain}
+use Rattle.mintc_certificate.specs.CertificateText.{NextOfCertificate, IsDeparturesLine, CertificateLines, first, outcome, scheduled, departure, never, link, whole, with_member}
 use Rattle.mintc_certificate.specs.TextLaws.{HaveOneCertificateText}
+use Rattle.mintc_certificate.specs.Valid.{chain_of}
 use Rattle.mintc_certificate.proofs.CertificatePlain.{Begun, certificate_step, certificate_plain, outcome_form, departure_form, departures_form, chain_form, member_form, end_form}
 
--- what a state knows of a certificate with a schedule, and of one without
-abbrev OfLeast : Schedule → List ℤ → List Member → CertificateLines → Type 0
-OfLeast s ds ms first = Unit {0}
-OfLeast s ds ms (outcome v) = Unit {0}
-OfLeast s ds ms (scheduled v lines) = BeginsSchedule lines s
-OfLeast s ds ms (departure v left p es) = (p ≡ s) × Rest es ds left
-OfLeast s ds ms (never v) = ⊥
-OfLeast s ds ms (link v left (Least p es ns)) = (p ≡ s) × (es ≡ ds) × Rest ns ms left
-OfLeast s ds ms (link v left (Never ns)) = ⊥
-OfLeast s ds ms (whole c) = c ≡ Least s ds ms
+-- The certificate has a schedule and departures, of which this holds.
+abbrev OfLeast : Certificate → (Schedule → List ℤ → Type 0) → Type 0
+OfLeast (Least s ds ms) P = P s ds
+OfLeast (Never ms) P = ⊥
 
-abbrev OfNever : List Member → CertificateLines → Type 0
-OfNever ms first = Unit {0}
-OfNever ms (outcome v) = Unit {0}
-OfNever ms (scheduled v lines) = ⊥
-OfNever ms (departure v left p es) = ⊥
-OfNever ms (never v) = Unit {0}
-OfNever ms (link v left (Least p es ns)) = ⊥
-OfNever ms (link v left (Never ns)) = Rest ns ms left
-OfNever ms (whole c) = c ≡ Never ms
+-- The certificate is this one but for its chain, of which so many members are left.
+abbrev OfChain : Certificate → ℕ → Certificate → Type 0
+OfChain q left c = (with_chain q (chain_of c) ≡ c) × Rest (chain_of q) (chain_of c) left
 
+-- what a state knows of the certificate to which it leads
 abbrev Begins : CertificateLines → Certificate → Type 0
-Begins state (Least s ds ms) = OfLeast s ds ms state
-Begins state (Never ms) = OfNever ms state
+Begins first c = Unit {0}
+Begins (outcome v) c = Unit {0}
+Begins (scheduled v lines) c = OfLeast c (λ s ds. BeginsSchedule lines s)
+Begins (departure v left p es) c = OfLeast c (λ s ds. (p ≡ s) × Rest es ds left)
+Begins (never v) c = Never (chain_of c) ≡ c
+Begins (link v left q) c = OfChain q left c
+Begins (whole q) c = q ≡ c
 
-same_parts : (p s : Schedule) (es ds : List ℤ) (ns ms : List Member) → Least p es ns ≡ Least s ds ms → (p ≡ s) × (es ≡ ds) × (ms ≡ ns)
-same_parts p s es ds ns ms e = (cc, cc, cc)
+least_more : (c : Certificate) {P Q : Schedule → List ℤ → Type 0} → OfLeast c P → ((s : Schedule) (ds : List ℤ) → P s ds → Q s ds) → OfLeast c Q
+least_more (Least s ds ms) h f = f s ds h
+least_more (Never ms) h f = h
 
-same_members : (ns ms : List Member) → Never ns ≡ Never ms → ms ≡ ns
-same_members ns ms e = cc
+least_same : (c : Certificate) {P Q : Schedule → List ℤ → Type 0} {R : Type 0} → OfLeast c P → OfLeast c Q → ((s : Schedule) (ds : List ℤ) → P s ds → Q s ds → R) → R
+least_same (Least s ds ms) h g f = f s ds h g
+least_same (Never ms) h g f = absurd h
 
-no_least : (p : Schedule) (es : List ℤ) (ns ms : List Member) → Least p es ns ≡ Never ms → ⊥
-no_least p es ns ms e = cc
+least_begun : (c : Certificate) (p : Schedule) (es : List ℤ) → Least p es (chain_of c) ≡ c → OfLeast c (λ s ds. (p ≡ s) × Rest es ds 0)
+least_begun (Least s ds ms) p es e = let same : ds ≡ es = cc in (cc, rest_none es ds same)
+least_begun (Never ms) p es e = absurd (cc e)
 
--- ---- a certificate with a schedule
+chain_back : (q c : Certificate) (m : Member) (left : ℕ) → OfChain (with_member q m) left c → OfChain q (suc left) c
+chain_back (Least p es ns) c m left k = (k.0, rest_back ns (chain_of c) m left k.1)
+chain_back (Never ns) c m left k = (k.0, rest_back ns (chain_of c) m left k.1)
 
-module _ (s : Schedule) (ds : List ℤ) (ms : List Member) where
-  back_least : (a b : CertificateLines) (line : List ℕ) → NextOfCertificate a line b → OfLeast s ds ms b → OfLeast s ds ms a
-  back_least first b line h g = tt
-  back_least (outcome v) b line h g = tt
-  back_least (scheduled v lines) b line h g = schedule_back (scheduled v) (IsDeparturesLine v) (OfLeast s ds ms) s (λ l k. k) (λ p line b h g. (subst (OfLeast s ds ms) h.2 g).0) lines line b h g
-  back_least (departure v (suc left) p es) b line h g = let k = subst (OfLeast s ds ms) h.2 g in (k.0, rest_back es ds h.0 left k.1)
-  back_least (departure v zero p es) b line h g = let k = subst (OfLeast s ds ms) h.2 g in (k.0, rest_none es ds (sym k.1))
-  back_least (never v) b line h g = subst (OfLeast s ds ms) h.2 g
-  back_least (link v (suc left) (Least p es ns)) b line h g = let k = subst (OfLeast s ds ms) h.2 g in (k.0, k.1, rest_back ns ms h.0 left k.2)
-  back_least (link v (suc left) (Never ns)) b line h g = subst (OfLeast s ds ms) h.2 g
-  back_least (link v zero (Least p es ns)) b line h g = let k = same_parts p s es ds ns ms (subst (OfLeast s ds ms) h.2 g) in (k.0, k.1, rest_none ns ms k.2)
-  back_least (link v zero (Never ns)) b line h g = no_least s ds ms ns (sym (subst (OfLeast s ds ms) h.2 g))
-  back_least (whole c) b line h g = absurd h
+chain_same : (q c : Certificate) (m n : Member) (left : ℕ) → OfChain (with_member q m) left c → OfChain (with_member q n) left c → m ≡ n
+chain_same (Least p es ns) c m n left k l = rest_same ns (chain_of c) m n left left k.1 l.1
+chain_same (Never ns) c m n left k l = rest_same ns (chain_of c) m n left left k.1 l.1
 
-  outcome_least : (v : Version) (x : Bool) → OfLeast s ds ms (if x then scheduled v den else never v) → x ≡ true
-  outcome_least v true g = refl
-  outcome_least v false g = absurd g
+chain_whole : (q : Certificate) → OfChain q 0 q
+chain_whole (Least p es ns) = (refl, rest_none ns ns refl)
+chain_whole (Never ns) = (refl, rest_none ns ns refl)
 
-no_schedule : (ms : List Member) (v : Version) (lines : ScheduleLines) (line : List ℕ) (b : CertificateLines) → NextOfCertificate (scheduled v lines) line b → OfNever ms b → ⊥
-no_schedule ms v lines line b h =
-    (schedule_step (scheduled v) (IsDeparturesLine v) (λ (x : CertificateLines). OfNever ms x → ⊥) (λ l k. k) (λ s. plain_step departures_form (λ n ws h k. k)) lines).keeps b line h
-
-back_never : (ms : List Member) (a b : CertificateLines) (line : List ℕ) → NextOfCertificate a line b → OfNever ms b → OfNever ms a
-back_never ms first b line h g = tt
-back_never ms (outcome v) b line h g = tt
-back_never ms (scheduled v lines) b line h g = no_schedule ms v lines line b h g
-back_never ms (departure v (suc left) p es) b line h g = subst (OfNever ms) h.2 g
-back_never ms (departure v zero p es) b line h g = subst (OfNever ms) h.2 g
-back_never ms (never v) b line h g = tt
-back_never ms (link v (suc left) (Least p es ns)) b line h g = subst (OfNever ms) h.2 g
-back_never ms (link v (suc left) (Never ns)) b line h g = rest_back ns ms h.0 left (subst (OfNever ms) h.2 g)
-back_never ms (link v zero (Least p es ns)) b line h g = no_least p es ns ms (subst (OfNever ms) h.2 g)
-back_never ms (link v zero (Never ns)) b line h g = rest_none ns ms (same_members ns ms (subst (OfNever ms) h.2 g))
-back_never ms (whole c) b line h g = absurd h
-
-outcome_never : (ms : List Member) (v : Version) (x : Bool) → OfNever ms (if x then scheduled v den else never v) → x ≡ false
-outcome_never ms v true g = absurd g
-outcome_never ms v false g = refl
+-- No schedule leads to a certificate without one.
+no_schedule : (ms : List Member) (v : Version) (lines : ScheduleLines) (line : List ℕ) (b : CertificateLines) → NextOfCertificate (scheduled v lines) line b → Begins b (Never ms) → ⊥
+no_schedule ms v lines line b h g =
+    (schedule_step (scheduled v) (IsDeparturesLine v) (λ (x : CertificateLines). Begins x (Never ms) → ⊥) (λ l k. k) (λ s. plain_step departures_form (λ n ws h k. k)) lines).keeps b line h g
 
 back : (a b : CertificateLines) (line : List ℕ) (c : Certificate) → NextOfCertificate a line b → Begins b c → Begins a c
-back a b line (Least s ds ms) h g = back_least s ds ms a b line h g
-back a b line (Never ms) h g = back_never ms a b line h g
+back first b line c h g = tt
+back (outcome v) b line c h g = tt
+back (scheduled v lines) b line (Least s ds ms) h g =
+    schedule_back (scheduled v) (IsDeparturesLine v) (λ x. Begins x (Least s ds ms)) s (λ l k. k) (λ p line b h g. (subst (λ x. Begins x (Least s ds ms)) h.2 g).0) lines line b h g
+back (scheduled v lines) b line (Never ms) h g = no_schedule ms v lines line b h g
+back (departure v (suc left) p es) b line c h g = least_more c (subst (λ x. Begins x c) h.2 g) (λ s ds k. (k.0, rest_back es ds h.0 left k.1))
+back (departure v zero p es) b line c h g = least_begun c p es (subst (λ x. Begins x c) h.2 g).0
+back (never v) b line c h g = (subst (λ x. Begins x c) h.2 g).0
+back (link v (suc left) q) b line c h g = chain_back q c h.0 left (subst (λ x. Begins x c) h.2 g)
+back (link v zero q) b line c h g = subst (OfChain q 0) (subst (λ x. Begins x c) h.2 g) (chain_whole q)
+back (whole q) b line c h g = absurd h
 
--- ---- after the first line, whose number is the version, one line leads on
-
--- to a certificate with a schedule,
-module _ (s : Schedule) (ds : List ℤ) (ms : List Member) where
-  step_least : (a : CertificateLines) → Begun a → IsSpelledStep (NextOfCertificate a) (OfLeast s ds ms)
-  step_least first p = no_way (λ line b h i. p)
-  step_least (outcome v) p = step_by outcome_form (λ x y k l. outcome_least s ds ms v x k ∙ sym (outcome_least s ds ms v y l))
-  step_least (scheduled v lines) p = schedule_spelled (scheduled v) (IsDeparturesLine v) (OfLeast s ds ms) s (λ l k. k) (λ q. step_by departures_form (λ m n k l. rest_count [] ds m n k.1 l.1)) lines
-  step_least (departure v (suc left) q es) p = step_by (departure_form v) (λ x y k l. rest_same es ds x y left left k.1 l.1)
-  step_least (departure v zero q es) p = step_by chain_form (λ m n k l. rest_count [] ms m n k.2 l.2)
-  step_least (never v) p = no_way (λ line b h i. subst (OfLeast s ds ms) h.2 i)
-  step_least (link v (suc left) (Least q es ns)) p = step_by (member_form v) (λ x y k l. rest_same ns ms x y left left k.2 l.2)
-  step_least (link v (suc left) (Never ns)) p = no_way (λ line b h i. subst (OfLeast s ds ms) h.2 i)
-  step_least (link v zero q) p = step_by end_form (λ u w k l. refl)
-  step_least (whole q) p = no_way (λ line b h i. h)
-
--- and to one without.
-module _ (ms : List Member) where
-  step_never : (a : CertificateLines) → Begun a → IsSpelledStep (NextOfCertificate a) (OfNever ms)
-  step_never first p = no_way (λ line b h i. p)
-  step_never (outcome v) p = step_by outcome_form (λ x y k l. outcome_never ms v x k ∙ sym (outcome_never ms v y l))
-  step_never (scheduled v lines) p = no_way (λ line b h i. no_schedule ms v lines line b h i)
-  step_never (departure v (suc left) q es) p = no_way (λ line b h i. subst (OfNever ms) h.2 i)
-  step_never (departure v zero q es) p = no_way (λ line b h i. subst (OfNever ms) h.2 i)
-  step_never (never v) p = step_by chain_form (λ m n k l. rest_count [] ms m n k l)
-  step_never (link v (suc left) (Never ns)) p = step_by (member_form v) (λ x y k l. rest_same ns ms x y left left k l)
-  step_never (link v (suc left) (Least q es ns)) p = no_way (λ line b h i. subst (OfNever ms) h.2 i)
-  step_never (link v zero q) p = step_by end_form (λ u w k l. refl)
-  step_never (whole q) p = no_way (λ line b h i. h)
-
-step : (a : CertificateLines) (f : Certificate) → Begun a → IsSpelledStep (NextOfCertificate a) (λ b. Begins b f)
-step a (Least s ds ms) p = step_least s ds ms a p
-step a (Never ms) p = step_never ms a p
-
-whole_begins : (c : Certificate) → Begins (whole c) c
-whole_begins (Least s ds ms) = refl
-whole_begins (Never ms) = refl
+-- After the first line, whose number is the version, one line leads on.
+step : (a : CertificateLines) (c : Certificate) → Begun a → IsSpelledStep (NextOfCertificate a) (λ b. Begins b c)
+step first c p = no_way (λ line b h i. p)
+step (outcome v) c p = step_by outcome_form (λ x y k l. grind arith)
+step (scheduled v lines) (Least s ds ms) p =
+    schedule_spelled (scheduled v) (IsDeparturesLine v) (λ x. Begins x (Least s ds ms)) s (λ l k. k) (λ q. step_by departures_form (λ m n k l. rest_count [] ds m n k.1 l.1)) lines
+step (scheduled v lines) (Never ms) p = no_way (λ line b h i. no_schedule ms v lines line b h i)
+step (departure v (suc left) q es) c p = step_by (departure_form v) (λ x y k l. least_same c k l (λ s ds k l. rest_same es ds x y left left k.1 l.1))
+step (departure v zero q es) c p = step_by chain_form (λ m n k l. rest_count [] (chain_of c) m n k.1 l.1)
+step (never v) c p = step_by chain_form (λ m n k l. rest_count [] (chain_of c) m n k.1 l.1)
+step (link v (suc left) q) c p = step_by (member_form v) (λ x y k l. chain_same q c x y left k l)
+step (link v zero q) c p = step_by end_form (λ u w k l. refl)
+step (whole q) c p = no_way (λ line b h i. h)
 
 spelled : IsSpelled NextOfCertificate Begun whole Begins
-spelled = record { keeps = λ a b line p h. (certificate_step a).keeps b line h; last = λ c line b h. h; ends = whole_begins; back = back; step = step }
+spelled = record { keeps = λ a b line p h. (certificate_step a).keeps b line h; last = λ c line b h. h; ends = λ c. refl; back = back; step = step }
 
 pub certificates_have_one_text : HaveOneCertificateText
 certificates_have_one_text = one_text_after certificate_plain spelled tt (certificate_step first).keeps (λ c e. cc e)

@@ -1,18 +1,17 @@
 -- The second version says all that the first does.
-use Rattle.std.proofs.Common.{◌≡◌, ℕ, zero, suc, ℤ, Bool, true, false, if◌then◌else◌, List, [], ◌∷◌, ◌++◌, Contains, refl, ap, ◌∙◌, subst, arith, codes}
+use Rattle.std.proofs.Common.{◌≡◌, ℕ, zero, suc, List, [], ◌∷◌, ◌++◌, Contains, refl, ap, ◌∙◌, subst, arith, codes}
 use Rattle.std.proofs.lemmas.Int.{ints}
 use Rattle.std.specs.Fmt.{digits}
-use Rattle.mintc_text.specs.declared.limits.TheConstants.{MOST_NUMERATOR}
-use Rattle.mintc_text.specs.Lines.{Follows, IsWithin, ended}
+use Rattle.mintc_text.specs.Lines.{Follows, ended}
 use Rattle.mintc_lines.specs.Fields.{number}
-use Rattle.mintc_lines.specs.Texts.{den}
 use Rattle.mintc_lines.proofs.SharedScheduleReading.{schedule_carried}
 use Rattle.mintc_lines.proofs.SharedTextLaws.{after_first}
-use Rattle.mintc_certificate.specs.declared.version.Version.{Version}
 use Rattle.mintc_certificate.specs.declared.version.Version.TheVariants.{First, Second}
-use Rattle.mintc_certificate.specs.CertificateText.{NextOfCertificate, IsDeparturesLine, CertificateLines, first, outcome, scheduled, departure, never, link, whole, least_departure}
-use Rattle.mintc_certificate.specs.TextLaws.{SecondSaysFirst}
+use Rattle.mintc_certificate.specs.CertificateText.{NextOfCertificate, IsDeparturesLine, CertificateLines, first, outcome, scheduled, departure, never, link, whole}
+use Rattle.mintc_certificate.specs.TextLaws.{HaveOneCertificateText, SecondSaysFirst}
+use Rattle.mintc_certificate.proofs.CertificateReading.{least_is}
 use Rattle.mintc_certificate.proofs.CertificatePlain.{Begun, certificate_step, certificate_plain}
+use Rattle.mintc_certificate.proofs.CertificateSpelling.{certificates_have_one_text}
 use Rattle.mintc_certificate.proofs.CertificateWritten.{first_written, free_all}
 
 -- a state with the second version in place of its own
@@ -25,21 +24,13 @@ raise (never v) = never Second
 raise (link v left c) = link Second left c
 raise (whole c) = whole c
 
-raise_outcome : (v : Version) (x : Bool) → raise (if x then scheduled v den else never v) ≡ (if x then scheduled Second den else never Second)
-raise_outcome v true = refl
-raise_outcome v false = refl
-
-within_second : (v : Version) (d : ℤ) → IsWithin (least_departure v) MOST_NUMERATOR d → IsWithin (least_departure Second) MOST_NUMERATOR d
-within_second First d h = (omega (arith, ints, h.0), h.1)
-within_second Second d h = h
-
 -- what a line says in a version, it says in the second
 raised : (a b : CertificateLines) (line : List ℕ) → Begun a → NextOfCertificate a line b → NextOfCertificate (raise a) line (raise b)
 raised first b line begun h = absurd begun
-raised (outcome v) b line begun h = (h.0, h.1, ap raise h.2 ∙ raise_outcome v h.0)
+raised (outcome v) b line begun h = (h.0, h.1, ap raise h.2 ∙ (let least = h.0 in grind arith))
 raised (scheduled v lines) b line begun h =
     schedule_carried (scheduled v) (IsDeparturesLine v) (scheduled Second) (IsDeparturesLine Second) raise (λ l. refl) (λ s line b h. (h.0, h.1, ap raise h.2)) lines line b h
-raised (departure v (suc left) s ds) b line begun h = (h.0, (h.1.0, (within_second v h.0 h.1.1.0, h.1.1.1), h.1.2), ap raise h.2)
+raised (departure v (suc left) s ds) b line begun h = (h.0, (h.1.0, ((omega (arith, ints, h.1.1.0.0, least_is v), h.1.1.0.1), h.1.1.1), h.1.2), ap raise h.2)
 raised (departure v zero s ds) b line begun h = (h.0, h.1, ap raise h.2)
 raised (never v) b line begun h = (h.0, h.1, ap raise h.2)
 raised (link v (suc left) c) b line begun h = (h.0, (h.1.0, record { counted = h.1.1.counted; has = tt; spelled = h.1.1.spelled }, h.1.2), ap raise h.2)
@@ -57,7 +48,7 @@ first_line = (1, (codes "certificate" ∷ number 1 ∷ [], (omega arith, omega a
 first_line_free : Contains (codes "certificate 1") 10 → ⊥
 first_line_free = free_all (codes "certificate 1") (certificate_plain.free first (outcome First) (codes "certificate 1") tt first_line)
 
-pub second_says_first : SecondSaysFirst
+second_says_first : SecondSaysFirst
 second_says_first x c h =
     let a = after_first certificate_plain tt (λ e. cc e) (codes "certificate 1") x first_line_free h in
     let state : a.state ≡ outcome First = certificate_plain.one first a.state (outcome First) (codes "certificate 1") tt a.begins first_line in
@@ -67,3 +58,6 @@ second_says_first x c h =
       whole = ap (λ (y : List ℕ). ended (codes "certificate 2") ++ y) a.whole;
       follows = (outcome Second, first_written, raised_all (outcome First) (whole c) a.lines tt rest);
     }
+
+pub canonical_texts : record { one : HaveOneCertificateText; versions : SecondSaysFirst }
+canonical_texts = record { one = certificates_have_one_text; versions = second_says_first }

@@ -1,5 +1,5 @@
 -- What is written of a certificate is its text, and texts of other certificates are others.
-use Rattle.std.proofs.Common.{◌≡◌, ℕ, ℤ, ◌≤◌, List, [], ◌∷◌, ◌++◌, length, map, All, Contains, refl, ap, ◌∙◌, sym, subst, arith, codes, eqb, true, false, append_assoc}
+use Rattle.std.proofs.Common.{◌≡◌, ℕ, suc, ℤ, ◌≤◌, List, [], ◌∷◌, ◌++◌, length, map, All, Contains, refl, ap, ◌∙◌, sym, subst, drop, arith, codes, eqb, true, false, append_assoc}
 use Rattle.std.proofs.lemmas.List.{append-nil}
 use Rattle.std.proofs.lemmas.List.Elements.{All-head, All-tail}
 use Rattle.std.specs.Fmt.{digits}
@@ -16,13 +16,13 @@ use Rattle.mintc_certificate.specs.declared.certificate.Certificate.TheVariants.
 use Rattle.mintc_certificate.specs.declared.members.Member.{Member}
 use Rattle.mintc_certificate.specs.declared.version.Version.TheVariants.{Second}
 use Rattle.mintc_certificate.specs.CertificateReading.{with_chain, before_chain}
-use Rattle.mintc_certificate.specs.CertificateText.{NextOfCertificate, IsCertificateText, CertificateLines, first, outcome, scheduled, departure, never, link, whole, member_words, IsCounted, IsMemberOf, IsChainLine}
+use Rattle.mintc_certificate.specs.CertificateText.{NextOfCertificate, IsCertificateText, CertificateLines, first, outcome, scheduled, departure, never, link, whole, member_words, IsCounted, IsChainLine}
 use Rattle.mintc_certificate.specs.Ranges.{IsDeparture, IsChainInRange, IsCertificateInRange}
 use Rattle.mintc_certificate.specs.TextLaws.{WrittenAreTexts, WrittenAreAll, WrittenAreApart}
 use Rattle.mintc_certificate.specs.Written.{number_line, count_line, phase_line, departure_lines, chain_lines, schedule_lines, lines_of}
 use Rattle.mintc_certificate.proofs.CertificateLaws.{IsCertificateInRange-from_text}
-use Rattle.mintc_certificate.proofs.CertificatePlain.{certificate_plain, certificates_have_one_value}
-use Rattle.mintc_certificate.proofs.CertificateReading.{member_next}
+use Rattle.mintc_certificate.proofs.CertificatePlain.{certificate_plain, certificate_texts}
+use Rattle.mintc_certificate.proofs.CertificateReading.{departure_states, member_states, member_next}
 use Rattle.mintc_certificate.proofs.CertificateSpelling.{certificates_have_one_text}
 
 chain_begins : (c : Certificate) (m : ℕ) → Spells IsChainLine m (count_line (codes "chain") m) → NextOfCertificate (before_chain Second c) (count_line (codes "chain") m) (link Second m (with_chain c []))
@@ -47,27 +47,22 @@ phases_written d t so wo (x ∷ xs) (y ∷ ys) same h g =
     let all = subst (λ (b : List ℤ). R (so ++ x ∷ xs) b) widths one in
     (scheduled Second (phase (length xs) (schedule_of d t (so ++ x ∷ []) (wo ++ y ∷ []))), ((x, y), (_, (All-head IsNumerator x xs h, All-head IsNumerator y ys g, refl), refl), refl), all)
 
-departures_written : (s : Schedule) (so xs : List ℤ) → All IsDeparture xs →
-    Leads (departure Second (length xs) s so) (map (number_line (codes "departure")) xs) (departure Second 0 s (so ++ xs))
-departures_written s so [] h = ap (λ (x : List ℤ). departure Second 0 s x) (sym (append-nil so))
-departures_written s so (x ∷ xs) h =
-    let rest = departures_written s (so ++ x ∷ []) xs (All-tail IsDeparture x xs h) in
-    let all = subst (λ (ds : List ℤ). Leads (departure Second (length xs) s (so ++ x ∷ [])) (map (number_line (codes "departure")) xs) (departure Second 0 s ds)) (append_assoc so (x ∷ []) xs) rest in
-    (departure Second (length xs) s (so ++ x ∷ []), (x, (_, (All-head IsDeparture x xs h, refl), refl), refl), all)
+-- a line for each item of a list leads from as many that are left to none
+list_written : {X : Type 0} (st : ℕ → List X → CertificateLines) (line : X → List ℕ) (P : X → Type 0) → ((left : ℕ) (so : List X) (x : X) → P x → NextOfCertificate (st (suc left) so) (line x) (st left (so ++ x ∷ []))) →
+    (so xs : List X) → All P xs → Leads (st (length xs) so) (map line xs) (st 0 (so ++ xs))
+list_written st line P leads so [] h = ap (st 0) (sym (append-nil so))
+list_written {X} st line P leads so (x ∷ xs) h =
+    let rest = list_written st line P leads (so ++ x ∷ []) xs (All-tail P x xs h) in
+    let all = subst (λ (ys : List X). Leads (st (length xs) (so ++ x ∷ [])) (map line xs) (st 0 ys)) (append_assoc so (x ∷ []) xs) rest in
+    (st (length xs) (so ++ x ∷ []), leads (length xs) so x (All-head P x xs h), all)
 
-has_member : (m : Member) → IsMemberOf Second m
-has_member m = tt
+departures_written : (s : Schedule) (ds : List ℤ) → All IsDeparture ds → Leads (departure Second (length ds) s []) (map (number_line (codes "departure")) ds) (departure Second 0 s ds)
+departures_written s ds h = list_written (departure_states Second s) (number_line (codes "departure")) IsDeparture (λ left so d h. (d, (_, (h, refl), refl), refl)) [] ds h
 
-members_written : (c : Certificate) (so xs : List Member) → All IsCounted xs →
-    Leads (link Second (length xs) (with_chain c so)) (map (λ (m : Member). words (member_words m)) xs) (link Second 0 (with_chain c (so ++ xs)))
-members_written c so [] h = ap (λ (x : List Member). link Second 0 (with_chain c x)) (sym (append-nil so))
-members_written c so (x ∷ xs) h =
-    let rest = members_written c (so ++ x ∷ []) xs (All-tail IsCounted x xs h) in
-    let all = subst (λ (ms : List Member). Leads (link Second (length xs) (with_chain c (so ++ x ∷ []))) (map (λ (m : Member). words (member_words m)) xs) (link Second 0 (with_chain c ms))) (append_assoc so (x ∷ []) xs) rest in (
-      link Second (length xs) (with_chain c (so ++ x ∷ [])),
-      member_next Second c x (length xs) so (words (member_words x)) (member_words x, record { counted = All-head IsCounted x xs h; has = has_member x; spelled = refl }, refl),
-      all,
-    )
+members_written : (c : Certificate) (ms : List Member) → All IsCounted ms → Leads (link Second (length ms) (with_chain c [])) (map (λ (m : Member). words (member_words m)) ms) (link Second 0 (with_chain c ms))
+members_written c ms h =
+    list_written (member_states Second c) (λ (m : Member). words (member_words m)) IsCounted
+    (λ left so m h. member_next Second c m left so (words (member_words m)) (member_words m, record { counted = h; has = tt; spelled = refl }, refl)) [] ms h
 
 end_written : (c : Certificate) → Leads (link Second 0 c) (codes "end" ∷ []) (whole c)
 end_written c = (whole c, (tt, (codes "end" ∷ [], refl, refl), refl), refl)
@@ -88,7 +83,7 @@ schedule_written s h = (
 )
 
 all_departures : (s : Schedule) (ds : List ℤ) → length ds ≤ MOST_COUNT → All IsDeparture ds → Leads (scheduled Second (phase 0 s)) (departure_lines ds) (departure Second 0 s ds)
-all_departures s ds few h = (departure Second (length ds) s [], (length ds, (_, (omega arith, few, refl), refl), refl), departures_written s [] ds h)
+all_departures s ds few h = (departure Second (length ds) s [], (length ds, (_, (omega arith, few, refl), refl), refl), departures_written s ds h)
 
 chain_written : (c : Certificate) (ms : List Member) → IsChainInRange ms → Leads (before_chain Second c) (chain_lines ms) (whole (with_chain c ms))
 chain_written c ms h =
@@ -97,7 +92,7 @@ chain_written c ms h =
       link Second (length ms) (with_chain c []),
       begun,
       Follows-append NextOfCertificate (link Second (length ms) (with_chain c [])) (link Second 0 (with_chain c ms)) (whole (with_chain c ms)) (map (λ (m : Member). words (member_words m)) ms) (codes "end" ∷ [])
-          (members_written c [] ms h.each) (end_written (with_chain c ms)),
+          (members_written c ms h.each) (end_written (with_chain c ms)),
     )
 
 pub first_written : NextOfCertificate first (codes "certificate 2") (outcome Second)
@@ -105,12 +100,10 @@ unfolding digits
 first_written = (2, (codes "certificate" ∷ number 2 ∷ [], (omega arith, omega arith, refl), refl), refl)
 
 abbrev after_written : Certificate → List (List ℕ)
-after_written (Least s ds ms) = codes "least" ∷ schedule_lines s ++ departure_lines ds ++ chain_lines ms
-after_written (Never ms) = codes "never" ∷ chain_lines ms
+after_written c = drop 1 (lines_of c)
 
 lines_written : (c : Certificate) → lines_of c ≡ codes "certificate 2" ∷ after_written c
-lines_written (Least s ds ms) = refl
-lines_written (Never ms) = refl
+lines_written c = grind arith
 
 after_leads : (c : Certificate) → IsCertificateInRange c → Leads (outcome Second) (after_written c) (whole c)
 after_leads (Least s ds ms) h = (
@@ -122,7 +115,7 @@ after_leads (Least s ds ms) h = (
 )
 after_leads (Never ms) h = (never Second, (false, (codes "never" ∷ [], refl, refl), refl), chain_written (Never []) ms h)
 
-pub written_are_texts : WrittenAreTexts
+written_are_texts : WrittenAreTexts
 written_are_texts c h = record {
   lines = codes "certificate 2" ∷ after_written c;
   whole = ap text_of (lines_written c);
@@ -135,13 +128,16 @@ free_all line all h = let f : eqb 10 10 ≡ false = subst (λ (x : ℕ). eqb x 1
 first_free : Contains (codes "certificate 2") 10 → ⊥
 first_free = free_all (codes "certificate 2") (certificate_plain.free first (outcome Second) (codes "certificate 2") tt first_written)
 
-pub written_are_all : WrittenAreAll
+written_are_all : WrittenAreAll
 written_are_all x c h =
     let in_range = IsCertificateInRange-from_text (ended (codes "certificate 2") ++ x) c h in
     let whole : text_of (lines_of c) ≡ ended (codes "certificate 2") ++ text_of (after_written c) = ap text_of (lines_written c) in
     let written = subst (λ (t : List ℕ). IsCertificateText t c) whole (written_are_texts c in_range) in
     ap (λ (y : List ℕ). ended (codes "certificate 2") ++ y) (certificates_have_one_text (codes "certificate 2") x (text_of (after_written c)) c first_free h written) ∙ sym whole
 
-pub written_are_apart : WrittenAreApart
-written_are_apart c d h g e =
-    certificates_have_one_value (text_of (lines_of c)) c d (written_are_texts c h) (subst (λ (t : List ℕ). IsCertificateText t d) (sym e) (written_are_texts d g))
+pub written_texts : record { read : WrittenAreTexts; only : WrittenAreAll; apart : WrittenAreApart }
+written_texts = record {
+  read = written_are_texts;
+  only = written_are_all;
+  apart = λ c d h g e. certificate_texts.value (text_of (lines_of c)) c d (written_are_texts c h) (subst (λ (t : List ℕ). IsCertificateText t d) (sym e) (written_are_texts d g));
+}

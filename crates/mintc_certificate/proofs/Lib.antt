@@ -9,4 +9,3 @@ mod CertificateSpelling
 mod CertificateWritten
 mod CertificateVersions
 mod WorkedCertificate
-mod ChainSumLaws

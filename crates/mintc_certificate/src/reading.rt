@@ -91,6 +91,7 @@ fn departures(alloc: Global, reader: &mut Reader, version: Version) -> Result<De
 }
 
 /// Reads the line of a member.
+#[tactic(auto, using(crate::proofs::MemberLaws::plain_words))]
 fn member_line(alloc: Global, reader: &mut Reader, version: Version) -> Result<Member, Halt>
     ensures read { MatchResult result
         (λ m. HasRead (IsMemberLine version) reader.old.left m reader.new.left)

@@ -44,6 +44,7 @@ fn put_phase_line(lines: &mut Lines, start: i64, width: i64) -> Result<(), OutOf
 }
 
 /// Writes the line of each phase.
+#[tactic(auto, using(crate::proofs::SharedWritingLaws::one_more))]
 fn put_phases(lines: &mut Lines, starts: &[i64], widths: &[i64]) -> Result<(), OutOfMemory>
     requires { length widths.now ≡ length starts.now }
     ensures { OnOk result (lines.new ≡ lines.old ++ text_of (map phase_line (zip starts.now widths.now))) }
@@ -67,6 +68,7 @@ pub fn put_schedule(lines: &mut Lines, schedule: &Schedule) -> Result<(), OutOfM
 }
 
 /// Writes the lines of departures.
+#[tactic(auto, using(crate::proofs::SharedWritingLaws::one_more))]
 pub fn put_departures(lines: &mut Lines, departures: &[i64]) -> Result<(), OutOfMemory>
     ensures { OnOk result (lines.new ≡ lines.old ++ text_of (departure_lines departures.now)) }
 {
@@ -78,6 +80,7 @@ pub fn put_departures(lines: &mut Lines, departures: &[i64]) -> Result<(), OutOf
 }
 
 /// Writes the line of a word and numbers.
+#[tactic(auto, using(crate::proofs::SharedWritingLaws::written))]
 fn put_line(lines: &mut Lines, word: &[u8], numbers: &[u32]) -> Result<(), OutOfMemory>
     ensures { OnOk result (lines.new ≡ lines.old ++ ended (words (word.now ∷ map number numbers.now))) }
 {
@@ -87,6 +90,7 @@ fn put_line(lines: &mut Lines, word: &[u8], numbers: &[u32]) -> Result<(), OutOf
 }
 
 /// Writes the line of a word, two elements and a path between them: how many arcs it has, and then each.
+#[tactic(auto, using(crate::proofs::SharedWritingLaws::written))]
 pub fn put_path(
     lines: &mut Lines,
     word: &[u8],

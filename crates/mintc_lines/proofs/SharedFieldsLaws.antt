@@ -1,13 +1,14 @@
 -- The fields of a line.
-use Rattle.std.proofs.Common.{◌≡◌, ℕ, ℤ, pos, negsuc, ◌≤ℤ◌, suc, ◌<◌, ◌≤◌, ◌^◌, ◌&&◌, Bool, true, false, List, [], ◌∷◌, ◌++◌, length, get_or, take, drop, refl, ap, ◌∙◌, sym, arith, eqb, leb, decimal, All, length-take}
+use Rattle.std.proofs.Common.{◌≡◌, ℕ, ℤ, pos, negsuc, neg_ℤ, ◌≤ℤ◌, suc, ◌<◌, ◌≤◌, ◌+◌, ◌-◌, add-one, ◌^◌, ◌&&◌, Bool, true, false, if◌then◌else◌, List, [], ◌∷◌, ◌++◌, length, get_or, take, drop, refl, ap, ◌∙◌, sym, arith, eqb, leb, decimal, All, length-take}
+use Rattle.std.proofs.lemmas.Fmt.{decimal_is_IsNumeral, decimal_nonempty}
+use Rattle.std.proofs.lemmas.Grind.{common_steps, elements}
 use Rattle.std.proofs.lemmas.Int.{ints}
 use Rattle.std.proofs.lemmas.Bool.{ne_eqb}
 use Rattle.std.proofs.lemmas.Bool.Decides.{nat_tests}
-use Rattle.std.proofs.lemmas.List.{get_or-take, ext_get_or}
+use Rattle.std.proofs.lemmas.List.{get_or-take, take_rest}
 use Rattle.std.proofs.lemmas.List.Elements.{All-from_get_or, All-head, All-tail, All-cons, All-nil}
 use Rattle.std.proofs.lemmas.List.Splits.{slice_split_none, slice_split_at, join_with_byte-slice_split, length-slice_split}
 use Rattle.std.proofs.Math.Seq.{split_at}
-use Rattle.mintc_text.specs.declared.limits.TheConstants.{MOST_DELAY}
 use Rattle.mintc_text.specs.Lines.{words, numeral_of, IsGraphic, IsWithin}
 use Rattle.mintc_text.specs.Words.{IsShort}
 use Rattle.std.proofs.lemmas.Int.Digits.{digits_value-lt}
@@ -15,7 +16,6 @@ use Rattle.std.specs.Str.Parse.{AllDigits, digits_value}
 use Rattle.mintc_text.proofs.SharedDigitsLaws.{ten_to-le}
 use Rattle.mintc_text.proofs.SharedNumeralsLaws.{IsPlain, plain_from_decimal, digit_here, decimal_from_plain}
 use Rattle.mintc_lines.specs.Fields.{fields_of, plain, plain_line}
-use Rattle.mintc_timing.specs.Limits.{IsDelay}
 
 -- ---- a line cut at its spaces
 
@@ -26,19 +26,22 @@ pub fields_last : (bytes : List ℕ) → ((k : ℕ) → k < length bytes → get
 fields_last bytes none = slice_split_none (λ b. eqb b 32) bytes (no_space 32 bytes none)
 
 front_free : (bytes : List ℕ) (at : ℕ) → at < length bytes → ((k : ℕ) → k < at → get_or bytes k 0 ≡ 32 → ⊥) → (k : ℕ) → k < length (take at bytes) → get_or (take at bytes) k 0 ≡ 32 → ⊥
-front_free bytes at h none k within is =
-    let low : k < at = omega (arith, within, length-take at bytes) in
-    none k low (sym (get_or-take at bytes k 0 low) ∙ is)
+front_free bytes at h none k within is = grind (arith, common_steps, none k)
 
-pub fields_first : (bytes : List ℕ) (at : ℕ) → at < length bytes → ((k : ℕ) → k < at → get_or bytes k 0 ≡ 32 → ⊥) → get_or bytes at 0 ≡ 32 → fields_of bytes ≡ take at bytes ∷ fields_of (drop (suc at) bytes)
-fields_first bytes at h none here =
-    let cut : bytes ≡ take at bytes ++ get_or bytes at 0 ∷ drop (suc at) bytes = split_at bytes at 0 h in
-    ap fields_of (cut ∙ ap (λ (b : ℕ). take at bytes ++ b ∷ drop (suc at) bytes) here)
+-- where a space comes first: the word before it, and the words of what is left past it
+pub fields_passed : (bytes : List ℕ) (at : ℕ) → at < length bytes → ((k : ℕ) → k < at → get_or bytes k 0 ≡ 32 → ⊥) → get_or bytes at 0 ≡ 32 →
+    fields_of bytes ≡ take at bytes ∷ fields_of (take (length bytes - (at + 1)) (drop (at + 1) bytes))
+fields_passed bytes at h none here =
+    let left : drop (suc at) bytes ≡ take (length bytes - (at + 1)) (drop (at + 1) bytes) = ap (λ n. drop n bytes) (sym (add-one at)) ∙ sym (take_rest bytes (at + 1)) in
+    ap fields_of (split_at bytes at 0 h ∙ ap (λ (b : ℕ). take at bytes ++ b ∷ drop (suc at) bytes) here)
     ∙ slice_split_at (λ b. eqb b 32) (take at bytes) 32 (drop (suc at) bytes) (no_space 32 (take at bytes) (front_free bytes at h none)) refl
+    ∙ ap (λ w. take at bytes ∷ fields_of w) left
+
+pub ruleset cuts = (fields_last, fields_passed)
 
 -- the words of a line, joined again, are the line
-pub words-fields : (line : List ℕ) → words (fields_of line) ≡ line
-words-fields line = join_with_byte-slice_split 32 line
+pub words_fields : (line : List ℕ) → words (fields_of line) ≡ line
+words_fields line = join_with_byte-slice_split 32 line
 
 -- ---- words whose bytes can be seen
 
@@ -49,25 +52,19 @@ and_parts false b h = absurd (cc h)
 pub and_both : (a b : Bool) → a ≡ true → b ≡ true → (a && b) ≡ true
 and_both a b h g = rw (h, g) refl
 
-graphic_byte : (b : ℕ) → (leb 33 b && leb b 126) ≡ true → (33 ≤ b) × (b ≤ 126)
-graphic_byte b h = let p = and_parts (leb 33 b) (leb b 126) h in (grind (arith, nat_tests, p.0), grind (arith, nat_tests, p.1))
-
-byte_graphic : (b : ℕ) → (33 ≤ b) × (b ≤ 126) → (leb 33 b && leb b 126) ≡ true
-byte_graphic b h = and_both (leb 33 b) (leb b 126) (let g = h.0 in grind (arith, nat_tests)) (let g = h.1 in grind (arith, nat_tests))
-
-pub plain-from_graphic : (w : List ℕ) → All IsGraphic w → plain w ≡ true
-plain-from_graphic [] h = refl
-plain-from_graphic (b ∷ bs) h =
-    and_both (leb 33 b && leb b 126) (plain bs) (byte_graphic b (All-head IsGraphic b bs h)) (plain-from_graphic bs (All-tail IsGraphic b bs h))
+pub plain_graphic : (w : List ℕ) → All IsGraphic w → plain w ≡ true
+plain_graphic [] h = refl
+plain_graphic (b ∷ bs) h =
+    let here = All-head IsGraphic b bs h in
+    and_both (leb 33 b && leb b 126) (plain bs) (grind (arith, nat_tests)) (plain_graphic bs (All-tail IsGraphic b bs h))
 
 -- a plain word has no byte below 33
 pub plain_free : (c : ℕ) (w : List ℕ) → c < 33 → plain w ≡ true → All (λ b. eqb b c ≡ false) w
 plain_free c [] low h = All-nil (λ b. eqb b c ≡ false)
 plain_free c (b ∷ bs) low h =
     let p = and_parts (leb 33 b && leb b 126) (plain bs) h in
-    let g = graphic_byte b p.0 in
-    let apart : b ≡ c → ⊥ = λ e. omega (arith, g) in
-    All-cons (λ x. eqb x c ≡ false) b bs (ne_eqb b c apart) (plain_free c bs low p.1)
+    let first = p.0 in
+    All-cons (λ x. eqb x c ≡ false) b bs (grind (arith, nat_tests)) (plain_free c bs low p.1)
 
 -- such words are the words of the line that they make
 pub fields-words : (ws : List (List ℕ)) → plain_line ws ≡ true → fields_of (words ws) ≡ ws
@@ -85,22 +82,39 @@ digits_graphic n small =
     let digits : IsPlain (decimal n) = plain_from_decimal (decimal n) n small refl in
     All-from_get_or IsGraphic (decimal n) 0 (λ k h. let d = digit_here (decimal n) k digits h in (omega (arith, d), omega (arith, d)))
 
-pub plain-number : (n : ℕ) → n < 10 ^ 19 → plain (decimal n) ≡ true
-plain-number n small = plain-from_graphic (decimal n) (digits_graphic n small)
+pub plain_number : (n : ℕ) → n < 10 ^ 19 → plain (decimal n) ≡ true
+plain_number n small = plain_graphic (decimal n) (digits_graphic n small)
 
-pub plain-numeral : (z : ℤ) → IsShort z → plain (numeral_of z) ≡ true
-plain-numeral (pos n) short = plain-number n (omega (arith, ints, short.1))
-plain-numeral (negsuc n) short = plain-number (suc n) (omega (arith, ints, short.0))
+pub plain_numeral : (z : ℤ) → IsShort z → plain (numeral_of z) ≡ true
+plain_numeral (pos n) short = plain_number n (omega (arith, ints, short.1))
+plain_numeral (negsuc n) short = plain_number (suc n) (omega (arith, ints, short.0))
+
+-- the number that a short numeral is read back as
+unfoldable pub value : List ℕ → ℤ
+value word = if eqb (get_or word 0 0) 45 then neg_ℤ (pos (digits_value 10 (drop 1 word))) else pos (digits_value 10 word)
+
+pub count_of : (n : ℕ) → n < 10 ^ 19 → (decimal n ≡ decimal n) × (value (decimal n) ≡ pos n)
+unfolding value
+count_of n small =
+    let first = digit_here (decimal n) 0 (plain_from_decimal (decimal n) n small refl) (decimal_nonempty n (omega arith)) in
+    (refl, rw (ne_eqb (get_or (decimal n) 0 0) 45 (λ e. omega (arith, first, e))) (ap pos (decimal_is_IsNumeral n (omega arith)).1))
+
+pub value_of : (z : ℤ) → IsShort z → (numeral_of z ≡ numeral_of z) × (value (numeral_of z) ≡ z)
+unfolding value
+value_of (pos n) short = count_of n (omega (arith, ints, short.1))
+value_of (negsuc n) short = (refl, ap (λ k. neg_ℤ (pos k)) (decimal_is_IsNumeral (suc n) (omega (arith, ints, short.0))).1)
+
+pub ruleset read_back = (ints, value_of, count_of)
 
 -- a number that isn't long has a short numeral
 pub short : (least most z : ℤ) → negsuc 999999999999999998 ≤ℤ least → most ≤ℤ pos 999999999999999999 → IsWithin least most z → IsShort z
 short least most z low high within = (omega (arith, ints, within.0), omega (arith, ints, within.1))
 
+-- words that can be seen
+pub ruleset seen = (ints, plain_graphic, plain_number, plain_numeral)
+
 pub fields_some : (bytes : List ℕ) → fields_of bytes ≡ [] → ⊥
 fields_some bytes h = omega (arith, ap length h, length-slice_split (λ b. eqb b 32) bytes)
-
-pub short_delay : (z : ℤ) → IsDelay z → IsShort z
-short_delay z d = short (pos 0) MOST_DELAY z (omega (arith, ints)) (omega (arith, ints)) d
 
 -- digits at the front of a line, of which the first is no zero before others, are the numeral of a number and have no space
 pub record IsFront (rest : List ℕ) (end value : ℕ) : Type 0 where
@@ -124,7 +138,4 @@ front_number rest end value within some few first digits is =
 -- a word at the front of a line, byte by byte
 pub front_word : (rest word : List ℕ) → length word ≤ length rest → ((k : ℕ) → k < length word → (get_or rest k 0 ≡ get_or word k 0) × (get_or rest k 0 ≡ 32 → ⊥)) →
     take (length word) rest ≡ word
-front_word rest word within each =
-    let long : length (take (length word) rest) ≡ length word = omega (arith, length-take (length word) rest) in
-    ext_get_or 0 (take (length word) rest) word long
-    (λ k h. let low : k < length word = omega arith in get_or-take (length word) rest k 0 low ∙ (each k low).0)
+front_word rest word within each = grind (arith, elements)

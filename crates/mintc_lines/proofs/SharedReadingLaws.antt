@@ -1,25 +1,15 @@
 -- Where a reader of lines stands.
-use Rattle.std.proofs.Common.{◌≡◌, ℕ, ℤ, pos, negsuc, ◌≤ℤ◌, suc, ◌<◌, ◌≤◌, ◌+◌, ◌-◌, ◌^◌, true, false, Option, Some, None, MatchOption, Result, Ok, Err, MatchResult, List, [], ◌∷◌, ◌++◌, length, length-append, refl, ap, ◌∙◌, sym, subst, arith, eqb, decimal, All, Contains, append_assoc}
+use Rattle.std.proofs.Common.{◌≡◌, ℕ, suc, ◌<◌, ◌≤◌, ◌+◌, ◌-◌, true, false, Option, Some, None, MatchOption, List, [], ◌∷◌, ◌++◌, length, length-append, refl, ap, ◌∙◌, sym, subst, arith, eqb, All, Contains, append_assoc}
 use Rattle.std.proofs.lemmas.Grind.{flat_map-append, get_or_default_zero}
 use Rattle.std.proofs.lemmas.List.{append_cancel_left, append-nil}
-use Rattle.std.proofs.lemmas.List.Elements.{All-append, All-cons, Contains-append_left, Contains-append_right}
+use Rattle.std.proofs.lemmas.List.Elements.{All-append, All-cons}
 use Rattle.std.proofs.lemmas.List.Splits.{slice_split_at}
 use Rattle.std.specs.List.{slice_split}
 use Rattle.mintc_text.specs.declared.limits.TheConstants.{MOST_BYTES}
-use Rattle.mintc_text.specs.Lines.{words, ended, text_of, numeral_of, Follows, IsFault, IsText}
-use Rattle.mintc_lines.specs.Fields.{plain, plain_line, Spells, IsWordLine, IsNumberLine, IsCountLine, IsNameLine}
-use Rattle.mintc_lines.specs.declared.halt.Halt.{Halt}
-use Rattle.mintc_lines.specs.Reading.{Reading, Halts, HasRead, HasNone, HasPassed, HasStopped, IsAt, number_after}
-use Rattle.mintc_lines.proofs.SharedFieldsLaws.{and_parts, and_both, no_space, plain_free, plain-numeral, plain-number, plain-from_graphic, short}
-
--- the exits of a `?`
-pub at_none : {T : Type 0} (r : Option T) (P : Type 0) (Q : T → Type 0) → r ≡ None → P → MatchOption r P Q
-at_none None P Q e p = p
-at_none (Some x) P Q e p = absurd (cc e)
-
-pub at_halt : {T : Type 0} (r : Result T Halt) (h : Halt) (P : T → Type 0) (fault : Type 0) → ((x : Halt) × (r ≡ Err x) × (x ≡ h)) → Halts fault h → MatchResult r P (Halts fault)
-at_halt (Ok v) h P fault e told = absurd (cc e.1)
-at_halt (Err y) h P fault e told = let same : y ≡ h = cc (e.1, e.2) in subst (Halts fault) (sym same) told
+use Rattle.mintc_text.specs.Lines.{words, ended, text_of, Follows, IsFault, IsText}
+use Rattle.mintc_lines.specs.Fields.{plain, plain_line, Spells}
+use Rattle.mintc_lines.specs.Reading.{Reading, HasRead, HasNone, HasPassed, HasStopped, IsAt, number_after}
+use Rattle.mintc_lines.proofs.SharedFieldsLaws.{and_parts, no_space, plain_free, short}
 
 -- ---- where a line ends
 
@@ -44,18 +34,9 @@ words_free (w ∷ x ∷ ws) h =
     All-append (λ c. eqb c 10 ≡ false) w (32 ∷ words (x ∷ ws)) (plain_free 10 w (omega arith) p.0)
     (All-cons (λ c. eqb c 10 ≡ false) 32 (words (x ∷ ws)) refl (words_free (x ∷ ws) p.1))
 
--- a line that ends in a line feed is there
-pub line_there : (line more : List ℕ) → Contains (ended line ++ more) 10
-line_there line more = Contains-append_left (ended line) more 10 (Contains-append_right line (10 ∷ []) 10 (0, omega arith, refl))
-
 -- ---- a line that is read by its words
 
--- what the reader of words says, said of the text: no line is there
-pub none_there : {V : Type 0} (F : V → List (List ℕ) → Type 0) (left : List ℕ) → ((v : V) (ws : List (List ℕ)) → F v ws → plain_line ws ≡ true) →
-    ((ws : List (List ℕ)) (more : List ℕ) → plain_line ws ≡ true → left ≡ ended (words ws) ++ more → ⊥) → HasNone F left
-none_there F left plain_words none = λ v line more e s. none s.0 more (plain_words v s.0 s.1) (e ∙ ap (λ (l : List ℕ). ended l ++ more) s.2)
-
--- and the next line has these words
+-- what the reader of words says, said of the text: the next line has these words
 pub read_there : {V : Type 0} {T : Type 0} (F : V → List (List ℕ) → Type 0) (see : T → V) (left new : List ℕ) (fields : List (List ℕ)) (r : Option T) →
     ((v : V) (ws : List (List ℕ)) → F v ws → plain_line ws ≡ true) →
     (left ≡ ended (words fields) ++ new) →
@@ -65,19 +46,6 @@ pub read_there : {V : Type 0} {T : Type 0} (F : V → List (List ℕ) → Type 0
 read_there F see left new fields None plain_words whole only h =
     λ v line more e s. h v (subst (F v) (sym (only s.0 more (plain_words v s.0 s.1) (e ∙ ap (λ (l : List ℕ). ended l ++ more) s.2))) s.1)
 read_there F see left new fields (Some x) plain_words whole only h = record { line = words fields; spells = (fields, h, refl); whole = whole }
-
-pub plain-word_line : (word : List ℕ) → plain word ≡ true → (u : Unit {0}) (ws : List (List ℕ)) → IsWordLine word u ws → plain_line ws ≡ true
-plain-word_line word h u ws e = ap plain_line e ∙ h
-
-pub plain-number_line : (word : List ℕ) (least most : ℤ) → plain word ≡ true → negsuc 999999999999999998 ≤ℤ least → most ≤ℤ pos 999999999999999999 →
-    (z : ℤ) (ws : List (List ℕ)) → IsNumberLine word least most z ws → plain_line ws ≡ true
-plain-number_line word least most h low high z ws e = ap plain_line e.1 ∙ and_both (plain word) (plain (numeral_of z)) h (plain-numeral z (short least most z low high e.0))
-
-pub plain-count_line : (word : List ℕ) (least most : ℕ) → plain word ≡ true → most < 2 ^ 32 → (n : ℕ) (ws : List (List ℕ)) → IsCountLine word least most n ws → plain_line ws ≡ true
-plain-count_line word least most h few n ws e = ap plain_line e.2 ∙ and_both (plain word) (plain (decimal n)) h (plain-number n (omega (arith, e.1)))
-
-pub plain-name_line : (word : List ℕ) → plain word ≡ true → (name : List ℕ) (ws : List (List ℕ)) → IsNameLine word name ws → plain_line ws ≡ true
-plain-name_line word h name ws e = ap plain_line e.1 ∙ and_both (plain word) (plain name) h (plain-from_graphic name e.0.graphic)
 
 -- ---- the lines of a format, one after another
 
@@ -98,10 +66,8 @@ passed_on {next = next} {a = a} {b = b} {c = c} {new = new} p q = record {
   whole = p.whole ∙ ap (λ l. text_of p.lines ++ l) q.whole ∙ sym (append_assoc (text_of p.lines) (text_of q.lines) new.left) ∙ ap (λ l. l ++ new.left) (sym (flat_map-append ended p.lines q.lines));
   follows = Follows-append next a b c p.lines q.lines p.follows q.follows;
   count = λ few.
-      let all = length-append p.lines q.lines in
-      let one = p.count (omega (arith, few, all)) in
-      let two = q.count (omega (arith, few, all, one)) in
-      omega (arith, all, one, two);
+      let one = p.count (omega (arith, few, length-append p.lines q.lines)) in
+      omega (arith, length-append p.lines q.lines, one, q.count (omega (arith, few, length-append p.lines q.lines, one)));
 }
 
 pub at_start : {S : Type 0} (next : S → List ℕ → S → Type 0) (start : S) (text : List ℕ) (at : Reading) → length text ≤ MOST_BYTES → at.left ≡ text → at.number ≡ 0 →
@@ -111,11 +77,9 @@ at_start next start text at short left number = record { short = short; passed =
 counted_on : {S : Type 0} (next : S → List ℕ → S → Type 0) (start : S) (text : List ℕ) (old : Reading) (state : S) (number : ℕ) →
     (at : IsAt next start text old state) → number ≡ number_after old.number → number ≡ length at.passed.lines + 1
 counted_on next start text old state number at counted =
-    let lines : List (List ℕ) = at.passed.lines in
-    let whole : text ≡ text_of lines ++ old.left = at.passed.whole in
-    let few : length lines ≤ MOST_BYTES = omega (arith, at.short, length_lines lines, ap length whole, length-append (text_of lines) old.left) in
-    let told : 0 + length lines ≤ 4294967295 → old.number ≡ 0 + length lines = at.passed.count in
-    omega (arith, counted, few, told (omega (arith, few)))
+    let whole : text ≡ text_of at.passed.lines ++ old.left = at.passed.whole in
+    let few : length at.passed.lines ≤ MOST_BYTES = omega (arith, at.short, length_lines at.passed.lines, ap length whole, length-append (text_of at.passed.lines) old.left) in
+    omega (arith, counted, few, at.passed.count (omega (arith, few)))
 
 fault_there : {S : Type 0} {next : S → List ℕ → S → Type 0} {is_end : S → Type 0} {start : S} {text : List ℕ} {number : ℕ} → length text ≤ MOST_BYTES →
     HasStopped next is_end start (record { left = text; number = 0 }) number → IsFault next is_end start text number
@@ -210,11 +174,6 @@ module _ {A S : Type 0} {part : A → List ℕ → A → Type 0} {next : S → L
 -- ---- a list: a state for each number of lines that are left
 
 module _ {S X : Type 0} {next : S → List ℕ → S → Type 0} {start : S} (st : ℕ → List X → S) where
-  pub list_none : (text : List ℕ) (reading : Reading) (found : List X) (count : ℕ) → IsAt next start text reading (st count []) → found ≡ [] → IsAt next start text reading (st (count - 0) found)
-  list_none text reading found count at e =
-      let same : count ≡ count - 0 = omega arith in
-      subst (λ (xs : List X). IsAt next start text reading (st (count - 0) xs)) (sym e) (subst (λ (n : ℕ). IsAt next start text reading (st n [])) same at)
-
   pub list_more : (F : X → List (List ℕ) → Type 0) (text : List ℕ) (old new : Reading) (found found' : List X) (i count : ℕ) (x : X) →
       IsAt next start text old (st (count - i) found) → i < count → HasRead F old.left x new.left → new.number ≡ number_after old.number → found' ≡ found ++ x ∷ [] →
       ((left : ℕ) (all : List X) (line : List ℕ) → Spells F x line → next (st (suc left) all) line (st left (all ++ x ∷ []))) → IsAt next start text new (st (count - (i + 1)) found')

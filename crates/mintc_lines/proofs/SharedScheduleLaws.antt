@@ -1,21 +1,17 @@
 -- What is read as a schedule is in range, and its lines are plain.
-use Rattle.std.proofs.Common.{◌≡◌, ℕ, zero, suc, ℤ, pos, ◌≤◌, ◌+◌, List, [], ◌∷◌, length, length-append, All, refl, ap, ◌∙◌, sym, subst, arith, codes}
+use Rattle.std.proofs.Common.{◌≡◌, ℕ, zero, suc, ℤ, pos, ◌≤◌, ◌+◌, List, [], length, All, refl, ◌∙◌, sym, subst, arith, codes}
+use Rattle.std.proofs.lemmas.Grind.{common_steps}
 use Rattle.std.proofs.lemmas.Int.{ints}
 use Rattle.std.proofs.lemmas.List.Elements.{All-push, All-nil}
 use Rattle.mintc_text.specs.declared.limits.TheConstants.{MOST_PHASES, MOST_DENOMINATOR, MOST_NUMERATOR}
-use Rattle.mintc_text.specs.Lines.{numeral_of}
-use Rattle.mintc_text.specs.Words.{IsShort}
-use Rattle.mintc_text.proofs.SharedNumeralsLaws.{same_numeral}
 use Rattle.mintc_timing.specs.declared.clocking.Schedule.{Schedule}
 use Rattle.mintc_lines.specs.Fields.{IsNumberLine, IsCountLine}
 use Rattle.mintc_timing.specs.Limits.{IsNumerator, IsDenominator, IsInRange}
-use Rattle.mintc_lines.specs.TextLaws.{HaveOneSchedule, HaveNoScheduleFault, HaveOneScheduleFault}
 use Rattle.mintc_lines.specs.Texts.{NextOfSchedule, NextOfText, IsWholeText, IsLast, IsPhaseLine, IsScheduleText, ScheduleLines, den, cycle, phases, phase, TextLines, first, body, whole, no_phases, with_phase}
-use Rattle.mintc_lines.proofs.SharedFieldsLaws.{short}
+use Rattle.mintc_lines.proofs.SharedFieldsLaws.{seen, read_back}
 use Rattle.mintc_lines.proofs.SharedLineLaws.{IsForm, word_form, count_form, number_form}
-use Rattle.mintc_lines.proofs.SharedScheduleReading.{plain-phase_line}
 use Rattle.mintc_lines.proofs.SharedSpelling.{rest_count, Agrees, agrees_none, agrees_back, agrees_same, IsSpelledStep}
-use Rattle.mintc_lines.proofs.SharedTextLaws.{along, IsPlainFormat, IsPlainStep, plain_step, no_step, step_by, text_one_end, text_no_fault, text_one_fault}
+use Rattle.mintc_lines.proofs.SharedTextLaws.{along, IsPlainFormat, IsPlainStep, plain_step, no_step, step_by, ArePlainTexts, plain_texts}
 
 -- what is kept of a schedule while its lines come
 pub record IsSoFar (left : ℕ) (s : Schedule) : Type 0 where
@@ -29,36 +25,13 @@ pub record IsSoFar (left : ℕ) (s : Schedule) : Type 0 where
 
 -- the lines before those of the phases begin it, the line of a phase keeps it, and the last of them ends it
 phases_begun : (d t : ℤ) (left : ℕ) → IsDenominator d → IsNumerator t → 1 ≤ left → left ≤ MOST_PHASES → IsSoFar left (no_phases d t)
-phases_begun d t left den_in cycle_in some few = record {
-  den = den_in;
-  cycle = cycle_in;
-  starts = All-nil IsNumerator;
-  widths = All-nil IsNumerator;
-  alike = refl;
-  some = omega arith;
-  few = omega arith;
-}
+phases_begun d t left den_in cycle_in some few = grind (arith, All-nil)
 
 phase_kept : (left : ℕ) (s : Schedule) (p : ℤ × ℤ) (ws : List (List ℕ)) → IsSoFar (suc left) s → IsPhaseLine p ws → IsSoFar left (with_phase s p)
-phase_kept left s p ws k h = record {
-  den = k.den;
-  cycle = k.cycle;
-  starts = All-push IsNumerator s.starts p.0 k.starts h.0;
-  widths = All-push IsNumerator s.widths p.1 k.widths h.1;
-  alike = omega (arith, k.alike, length-append s.starts (p.0 ∷ []), length-append s.widths (p.1 ∷ []));
-  some = omega (arith, length-append s.starts (p.0 ∷ []));
-  few = omega (arith, k.few, length-append s.starts (p.0 ∷ []));
-}
+phase_kept left s p ws k h = grind (arith, common_steps, All-push)
 
 phases_ended : (s : Schedule) → IsSoFar 0 s → IsInRange s
-phases_ended s k = record {
-  den = k.den;
-  cycle = k.cycle;
-  starts = k.starts;
-  widths = k.widths;
-  phases = (omega (arith, k.some), omega (arith, k.few));
-  alike = k.alike;
-}
+phases_ended s k = grind arith
 
 abbrev pub KeepsSchedule : ScheduleLines → Type 0
 KeepsSchedule den = Unit {0}
@@ -91,20 +64,8 @@ IsInRange-from_text text s h = along NextOfText Keeps keeps_next first h.lines (
 
 -- ---- the forms of a schedule's lines
 
-numerator_short : (z : ℤ) → IsNumerator z → IsShort z
-numerator_short z h = short (pos 0) MOST_NUMERATOR z (omega (arith, ints)) (omega (arith, ints)) h
-
-phase_one : (p q : ℤ × ℤ) (ws : List (List ℕ)) → IsPhaseLine p ws → IsPhaseLine q ws → p ≡ q
-phase_one p q ws h g =
-    let a = h.2 in let b = g.2 in
-    let starts : numeral_of p.0 ≡ numeral_of q.0 = cc in
-    let widths : numeral_of p.1 ≡ numeral_of q.1 = cc in
-    let start : p.0 ≡ q.0 = same_numeral p.0 q.0 (numerator_short p.0 h.0) (numerator_short q.0 g.0) starts in
-    let width : p.1 ≡ q.1 = same_numeral p.1 q.1 (numerator_short p.1 h.1) (numerator_short q.1 g.1) widths in
-    ap (λ (x : ℤ). (x, p.1)) start ∙ ap (λ (x : ℤ). (q.0, x)) width
-
 phase_form : IsForm IsPhaseLine
-phase_form = record { plain = plain-phase_line; one = phase_one; words = λ p ws xs h g. h.2 ∙ sym g.2 }
+phase_form = record { plain = λ p ws h. grind (arith, seen); one = λ p q ws h g. grind (arith, read_back); words = λ p ws xs h g. h.2 ∙ sym g.2 }
 
 den_form : IsForm (IsNumberLine (codes "den") (pos 1) MOST_DENOMINATOR)
 den_form = number_form (codes "den") (pos 1) MOST_DENOMINATOR refl (omega (arith, ints)) (omega (arith, ints))
@@ -159,15 +120,5 @@ text_step (whole s) = no_step
 pub schedule_plain : IsPlainFormat NextOfText Any
 schedule_plain = record { keeps = λ a b line p h. tt; one = λ a b c line p h g. (text_step a).one b c line h g; free = λ a b line p h. (text_step a).free b line h }
 
-whole_same : (s t : Schedule) → whole s ≡ whole t → s ≡ t
-whole_same s t e = cc
-
-pub schedules_have_one_value : HaveOneSchedule
-schedules_have_one_value text s t h g =
-    whole_same s t (text_one_end NextOfText Any schedule_plain first (whole s) (whole t) text tt h g (λ line after step. step) (λ line after step. step))
-
-pub schedules_have_no_fault : HaveNoScheduleFault
-schedules_have_no_fault text s n h f = text_no_fault NextOfText IsWholeText Any schedule_plain first (whole s) text n tt h tt f
-
-pub schedules_have_one_fault : HaveOneScheduleFault
-schedules_have_one_fault text m n f g = text_one_fault NextOfText IsWholeText Any schedule_plain first text m n tt f g
+pub schedule_texts : ArePlainTexts NextOfText IsWholeText first whole
+schedule_texts = plain_texts whole schedule_plain tt (λ s t e. cc e) (λ s. tt)

@@ -1,25 +1,10 @@
 -- What the reader of schedules has read up to each line.
-use Rattle.std.proofs.Common.{◌≡◌, ℕ, zero, suc, ℤ, pos, true, List, [], ◌∷◌, ◌++◌, refl, ap, ◌∙◌, arith}
-use Rattle.std.proofs.lemmas.Int.{ints}
-use Rattle.mintc_text.specs.declared.limits.TheConstants.{MOST_NUMERATOR}
-use Rattle.mintc_text.specs.Lines.{numeral_of, IsFault}
+use Rattle.std.proofs.Common.{◌≡◌, ℕ, zero, suc, List, refl, ap, ◌∙◌}
+use Rattle.mintc_text.specs.Lines.{IsFault}
 use Rattle.mintc_timing.specs.declared.clocking.Schedule.{Schedule}
-use Rattle.mintc_lines.specs.Fields.{plain, plain_line}
 use Rattle.mintc_lines.specs.Reading.{Reading, HasPassed, HasStopped, IsAt}
-use Rattle.mintc_lines.specs.Texts.{NextOfSchedule, NextAlone, AreAll, IsPhaseLine, ScheduleLines, den, cycle, phases, phase, no_phases, with_phase, schedule_of}
-use Rattle.mintc_lines.proofs.SharedFieldsLaws.{and_both, plain-numeral, short}
+use Rattle.mintc_lines.specs.Texts.{NextOfSchedule, NextAlone, AreAll, ScheduleLines, den, cycle, phases, phase, no_phases, with_phase}
 use Rattle.mintc_lines.proofs.SharedReadingLaws.{at_within, at_stopped}
-
-pub plain-phase_line : (p : ℤ × ℤ) (ws : List (List ℕ)) → IsPhaseLine p ws → plain_line ws ≡ true
-plain-phase_line p ws h =
-    ap plain_line h.2
-    ∙ and_both (plain (numeral_of p.0)) (plain (numeral_of p.1)) (plain-numeral p.0 (short (pos 0) MOST_NUMERATOR p.0 (omega (arith, ints)) (omega (arith, ints)) h.0))
-    (plain-numeral p.1 (short (pos 0) MOST_NUMERATOR p.1 (omega (arith, ints)) (omega (arith, ints)) h.1))
-
--- the two lists that a line was added to
-pub pushed : (d t : ℤ) (p : ℤ × ℤ) (starts widths starts' widths' : List ℤ) → starts' ≡ starts ++ p.0 ∷ [] → widths' ≡ widths ++ p.1 ∷ [] →
-    with_phase (schedule_of d t starts widths) p ≡ schedule_of d t starts' widths'
-pushed d t p starts widths starts' widths' e f = cc
 
 -- ---- a schedule's lines as a part of a text
 

@@ -33,12 +33,8 @@ pub record Agrees (left : ℕ) (p s : Schedule) : Type 0 where
   pub widths : Rest p.widths s.widths left
 
 pub agrees_none : (s t : Schedule) → s ≡ t → Agrees 0 s t
-agrees_none s t e = record {
-  den = ap (λ (x : Schedule). x.den) e;
-  cycle = ap (λ (x : Schedule). x.cycle) e;
-  starts = rest_none s.starts t.starts (sym (ap (λ (x : Schedule). x.starts) e));
-  widths = rest_none s.widths t.widths (sym (ap (λ (x : Schedule). x.widths) e));
-}
+agrees_none s t e =
+    subst (Agrees 0 s) e (record { den = refl; cycle = refl; starts = rest_none s.starts s.starts refl; widths = rest_none s.widths s.widths refl })
 
 pub agrees_back : (left : ℕ) (p s : Schedule) (x : ℤ × ℤ) → Agrees left (with_phase p x) s → Agrees (suc left) p s
 agrees_back left p s x k = record { den = k.den; cycle = k.cycle; starts = rest_back p.starts s.starts x.0 left k.starts; widths = rest_back p.widths s.widths x.1 left k.widths }

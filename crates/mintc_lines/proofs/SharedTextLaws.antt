@@ -1,7 +1,8 @@
 -- Texts of plain lines have one end and one fault.
-use Rattle.std.proofs.Common.{◌≡◌, ◌≢◌, ℕ, suc, true, false, List, [], ◌∷◌, ◌++◌, length, length-append, append_assoc, All, Contains, eqb, refl, ap, ◌∙◌, sym, subst, arith}
+use Rattle.std.proofs.Common.{◌≡◌, ℕ, suc, false, List, [], ◌∷◌, ◌++◌, length, length-append, ◌+◌, append_assoc, All, Contains, eqb, refl, ap, ◌∙◌, sym, subst, arith}
+use Rattle.std.proofs.lemmas.List.{append-nil}
 use Rattle.mintc_text.specs.Lines.{Follows, IsText, IsFault, IsStuck, text_of, ended, words}
-use Rattle.mintc_lines.specs.Fields.{fields_of, plain_line, Spells}
+use Rattle.mintc_lines.specs.Fields.{fields_of, Spells}
 use Rattle.mintc_lines.proofs.SharedFieldsLaws.{fields-words}
 use Rattle.mintc_lines.proofs.SharedLineLaws.{IsForm, spelled_same}
 use Rattle.mintc_lines.proofs.SharedSpelling.{IsSpelled, IsSpelledStep, one_text}
@@ -21,68 +22,49 @@ pub record IsPlainFormat {S : Type 0} (next : S → List ℕ → S → Type 0) (
   pub one : (a b c : S) (line : List ℕ) → P a → next a line b → next a line c → b ≡ c
   pub free : (a b : S) (line : List ℕ) → P a → next a line b → All (λ x. eqb x 10 ≡ false) line
 
-no_line : (line more : List ℕ) → [] ≡ ended line ++ more → ⊥
+pub no_line : (line more : List ℕ) → [] ≡ ended line ++ more → ⊥
 no_line line more h = omega (arith, ap length h, length-append (ended line) more, length-append line (10 ∷ []))
 
-split : (line more other left : List ℕ) → All (λ x. eqb x 10 ≡ false) line → All (λ x. eqb x 10 ≡ false) other → ended line ++ more ≡ ended other ++ left → (line ≡ other) × (more ≡ left)
-split line more other left free free' e = one_line line other more left free free' e
-
--- Two ways through one text lead to one end.
-pub one_end : {S : Type 0} (next : S → List ℕ → S → Type 0) → (P : S → Type 0) → IsPlainFormat next P → (a b c : S) (lines others : List (List ℕ)) →
-    P a → text_of lines ≡ text_of others → Follows next a lines b → Follows next a others c → ((line : List ℕ) (after : S) → next b line after → ⊥) → ((line : List ℕ) (after : S) → next c line after → ⊥) → b ≡ c
-one_end next P plain a b c [] [] p e h g b_ends c_ends = sym h ∙ g
-one_end next P plain a b c [] (other ∷ others) p e h g b_ends c_ends = absurd (no_line other (text_of others) e)
-one_end next P plain a b c (line ∷ lines) [] p e h g b_ends c_ends = absurd (no_line line (text_of lines) (sym e))
-one_end {S} next P plain a b c (line ∷ lines) (other ∷ others) p e h g b_ends c_ends =
-    let same = split line (text_of lines) other (text_of others) (plain.free a h.0 line p h.1) (plain.free a g.0 other p g.1) e in
-    let step : h.0 ≡ g.0 = plain.one a h.0 g.0 other p (subst (λ (l : List ℕ). next a l h.0) same.0 h.1) g.1 in
-    one_end next P plain g.0 b c lines others (plain.keeps a g.0 other p g.1) same.1 (subst (λ (s : S). Follows next s lines b) step h.2) g.2 b_ends c_ends
-
--- A text in form has no fault.
-pub no_fault : {S : Type 0} (next : S → List ℕ → S → Type 0) (is_end : S → Type 0) → (P : S → Type 0) → IsPlainFormat next P → (a b state : S) (lines before : List (List ℕ)) (left : List ℕ) →
-    P a → text_of lines ≡ text_of before ++ left → Follows next a lines b → is_end b → Follows next a before state → IsStuck next state left → (is_end state → left ≢ []) → ⊥
-no_fault {S} next is_end P plain a b state [] [] left p e h end g stuck unfinished = unfinished (subst is_end (sym h ∙ g) end) (sym e)
-no_fault {S} next is_end P plain a b state (line ∷ lines) [] left p e h end g stuck unfinished =
-    stuck line (text_of lines) h.0 (sym e) (subst (λ (s : S). next s line h.0) g h.1)
-no_fault {S} next is_end P plain a b state [] (other ∷ before) left p e h end g stuck unfinished = no_line other (text_of before ++ left) (e ∙ append_assoc (ended other) (text_of before) left)
-no_fault {S} next is_end P plain a b state (line ∷ lines) (other ∷ before) left p e h end g stuck unfinished =
-    let same = split line (text_of lines) other (text_of before ++ left) (plain.free a h.0 line p h.1) (plain.free a g.0 other p g.1) (e ∙ append_assoc (ended other) (text_of before) left) in
-    let step : h.0 ≡ g.0 = plain.one a h.0 g.0 other p (subst (λ (l : List ℕ). next a l h.0) same.0 h.1) g.1 in
-    no_fault next is_end P plain g.0 b state lines before left (plain.keeps a g.0 other p g.1) same.1 (subst (λ (s : S). Follows next s lines b) step h.2) end g.2 stuck unfinished
-
--- and a text has at most one faulty line.
-pub one_fault : {S : Type 0} (next : S → List ℕ → S → Type 0) → (P : S → Type 0) → IsPlainFormat next P → (a b c : S) (before others : List (List ℕ)) (left rest : List ℕ) →
-    P a → text_of before ++ left ≡ text_of others ++ rest → Follows next a before b → Follows next a others c → IsStuck next b left → IsStuck next c rest → length before ≡ length others
-one_fault next P plain a b c [] [] left rest p e h g stuck other_stuck = refl
-one_fault {S} next P plain a b c [] (other ∷ others) left rest p e h g stuck other_stuck =
+-- Two ways through one text, each as far as it leads, come to one end.
+pub one_way : {S : Type 0} (next : S → List ℕ → S → Type 0) (P : S → Type 0) → IsPlainFormat next P → (a b c : S) (before others : List (List ℕ)) (left rest : List ℕ) → P a → text_of before ++ left ≡ text_of others ++ rest →
+    Follows next a before b → Follows next a others c → IsStuck next b left → IsStuck next c rest → (b ≡ c) × (left ≡ rest) × (length before ≡ length others)
+one_way next P plain a b c [] [] left rest p e h g stuck other_stuck = (sym h ∙ g, e, refl)
+one_way {S} next P plain a b c [] (other ∷ others) left rest p e h g stuck other_stuck =
     absurd (stuck other (text_of others ++ rest) g.0 (e ∙ append_assoc (ended other) (text_of others) rest) (subst (λ (s : S). next s other g.0) h g.1))
-one_fault {S} next P plain a b c (line ∷ before) [] left rest p e h g stuck other_stuck =
+one_way {S} next P plain a b c (line ∷ before) [] left rest p e h g stuck other_stuck =
     absurd (other_stuck line (text_of before ++ left) h.0 (sym e ∙ append_assoc (ended line) (text_of before) left) (subst (λ (s : S). next s line h.0) g h.1))
-one_fault {S} next P plain a b c (line ∷ before) (other ∷ others) left rest p e h g stuck other_stuck =
-    let same = split line (text_of before ++ left) other (text_of others ++ rest) (plain.free a h.0 line p h.1) (plain.free a g.0 other p g.1)
+one_way {S} next P plain a b c (line ∷ before) (other ∷ others) left rest p e h g stuck other_stuck =
+    let same = one_line line other (text_of before ++ left) (text_of others ++ rest) (plain.free a h.0 line p h.1) (plain.free a g.0 other p g.1)
     (sym (append_assoc (ended line) (text_of before) left) ∙ e ∙ append_assoc (ended other) (text_of others) rest) in
     let step : h.0 ≡ g.0 = plain.one a h.0 g.0 other p (subst (λ (l : List ℕ). next a l h.0) same.0 h.1) g.1 in
-    ap suc (one_fault next P plain g.0 b c before others left rest (plain.keeps a g.0 other p g.1) same.1 (subst (λ (s : S). Follows next s before b) step h.2) g.2 stuck other_stuck)
+    let more = one_way next P plain g.0 b c before others left rest (plain.keeps a g.0 other p g.1) same.1 (subst (λ (s : S). Follows next s before b) step h.2) g.2 stuck other_stuck in
+    (more.0, more.1, ap suc more.2)
 
-pub text_one_end : {S : Type 0} (next : S → List ℕ → S → Type 0) (P : S → Type 0) → IsPlainFormat next P → (start b c : S) (text : List ℕ) → P start → IsText next start b text → IsText next start c text →
-    ((line : List ℕ) (after : S) → next b line after → ⊥) → ((line : List ℕ) (after : S) → next c line after → ⊥) → b ≡ c
-text_one_end next P plain start b c text p h g = one_end next P plain start b c h.lines g.lines p (sym h.whole ∙ g.whole) h.follows g.follows
+-- A text is that of at most one value; where it is that of one, no line is at fault; and at most one line is.
+pub record ArePlainTexts {S E : Type 0} (next : S → List ℕ → S → Type 0) (is_end : S → Type 0) (start : S) (whole : E → S) : Type 0 where
+  pub value : (text : List ℕ) (c d : E) → IsText next start (whole c) text → IsText next start (whole d) text → c ≡ d
+  pub no_fault : (text : List ℕ) (c : E) (n : ℕ) → IsText next start (whole c) text → IsFault next is_end start text n → ⊥
+  pub fault : (text : List ℕ) (m n : ℕ) → IsFault next is_end start text m → IsFault next is_end start text n → m ≡ n
 
-pub text_no_fault : {S : Type 0} (next : S → List ℕ → S → Type 0) (is_end : S → Type 0) (P : S → Type 0) → IsPlainFormat next P → (start end : S) (text : List ℕ) (n : ℕ) → P start → IsText next start end text → is_end end → IsFault next is_end start text n → ⊥
-text_no_fault next is_end P plain start end text n p h e f = no_fault next is_end P plain start end f.state h.lines f.before f.left p (sym h.whole ∙ f.whole) h.follows e f.follows f.stuck f.unfinished
-
-pub text_one_fault : {S : Type 0} (next : S → List ℕ → S → Type 0) (is_end : S → Type 0) (P : S → Type 0) → IsPlainFormat next P → (start : S) (text : List ℕ) (m n : ℕ) → P start → IsFault next is_end start text m → IsFault next is_end start text n → m ≡ n
-text_one_fault next is_end P plain start text m n p f g =
-    omega (arith, f.count, g.count, one_fault next P plain start f.state g.state f.before g.before f.left g.left p (sym f.whole ∙ g.whole) f.follows g.follows f.stuck g.stuck)
+pub plain_texts : {S E : Type 0} {next : S → List ℕ → S → Type 0} {P is_end : S → Type 0} {start : S} (whole : E → S) → IsPlainFormat next P → P start → ((c d : E) → whole c ≡ whole d → c ≡ d) → ((c : E) → is_end (whole c)) →
+    ArePlainTexts next is_end start whole
+plain_texts {next = next} {P = P} {is_end = is_end} {start = start} whole plain p one ends = record {
+  value = λ text c d h g.
+      let way = one_way next P plain start (whole c) (whole d) h.lines g.lines [] [] p (ap (λ l. l ++ []) (sym h.whole ∙ g.whole)) h.follows g.follows (λ line more after e step. no_line line more e) (λ line more after e step. no_line line more e) in
+      one c d way.0;
+  no_fault = λ text c n h f.
+      let way = one_way next P plain start (whole c) f.state h.lines f.before [] f.left p (append-nil (text_of h.lines) ∙ sym h.whole ∙ f.whole) h.follows f.follows (λ line more after e step. no_line line more e) f.stuck in
+      f.unfinished (subst is_end way.0 (ends c)) (sym way.1);
+  fault = λ text m n f g.
+      let way = one_way next P plain start f.state g.state f.before g.before f.left g.left p (sym f.whole ∙ g.whole) f.follows g.follows f.stuck g.stuck in
+      f.count ∙ ap (λ n. n + 1) way.2 ∙ sym g.count;
+}
 
 -- ---- the words of a line are determined by it
 
-pub words_same : (line : List ℕ) (ws xs : List (List ℕ)) → plain_line ws ≡ true → plain_line xs ≡ true → line ≡ words ws → line ≡ words xs → ws ≡ xs
-words_same line ws xs h g e f = sym (fields-words ws h) ∙ ap fields_of (sym e ∙ f) ∙ fields-words xs g
-
 spelled_one : {V : Type 0} (F : V → List (List ℕ) → Type 0) → IsForm F → (v w : V) (line : List ℕ) → Spells F v line → Spells F w line → v ≡ w
 spelled_one F form v w line h g =
-    let same = words_same line h.0 g.0 (form.plain v h.0 h.1) (form.plain w g.0 g.1) h.2 g.2 in
+    let same = sym (fields-words h.0 (form.plain v h.0 h.1)) ∙ ap fields_of (sym h.2 ∙ g.2) ∙ fields-words g.0 (form.plain w g.0 g.1) in
     form.one v w g.0 (subst (F v) same h.1) g.1
 
 -- ---- a state after which lines of one form come

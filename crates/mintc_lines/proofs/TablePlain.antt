@@ -5,17 +5,15 @@ use Rattle.mintc_lines.specs.declared.table_lines.Version.{Version}
 use Rattle.mintc_timing.specs.Design.{Design}
 use Rattle.mintc_lines.specs.Fields.{IsCount, plain, IsCountLine}
 use Rattle.mintc_lines.specs.TableText.{NextOfTable, IsWholeTable, TableLines, first, phases, phase, element, arcs, arc, bound, whole, IsElementLine, IsArcLine, IsBoundLine}
-use Rattle.mintc_lines.specs.TextLaws.{HaveOneDesign, HaveNoTableFault, HaveOneTableFault}
+use Rattle.mintc_lines.proofs.SharedFieldsLaws.{seen, read_back}
 use Rattle.mintc_lines.proofs.SharedLineLaws.{IsForm, word_form, count_form, name_form}
-use Rattle.mintc_lines.proofs.TableOne.{element_one, arc_one, arc_words, bound_one}
-use Rattle.mintc_lines.proofs.TableReading.{plain-element_line, plain-arc_line, plain-bound_line, length-inner_names}
-use Rattle.mintc_lines.proofs.SharedTextLaws.{IsPlainFormat, IsPlainStep, plain_step, no_step, text_one_end, text_no_fault, text_one_fault}
+use Rattle.mintc_lines.proofs.TableOne.{element_one, bound_one}
+use Rattle.mintc_lines.proofs.TableReading.{plain-element_line, seen_points, length-inner_names}
+use Rattle.mintc_lines.proofs.SharedTextLaws.{IsPlainFormat, IsPlainStep, plain_step, no_step, ArePlainTexts, plain_texts}
 
 -- the counts of a design whose lists are counted in its text
-pub record IsCounted (d : Design) : Type 0 where
-  pub phases_few : IsCount (length d.phases)
-  pub elements_few : IsCount (length d.elements)
-  pub inner_few : IsCount (length d.inner)
+abbrev pub IsCounted : Design → Type 0
+IsCounted d = IsCount (length d.phases) × IsCount (length d.elements) × IsCount (length d.inner)
 
 abbrev pub Counted : TableLines → Type 0
 Counted first = Unit {0}
@@ -43,10 +41,10 @@ pub element_form : (v : Version) (k : ℕ) → IsCount k → IsForm (IsElementLi
 element_form v k few = record { plain = plain-element_line v k (omega (arith, few)); one = element_one v k few; words = λ e ws xs h g. h.spelled ∙ sym g.spelled }
 
 pub arc_form : (n m : ℕ) → IsCount n → IsCount m → IsForm (IsArcLine n m)
-arc_form n m few little = record { plain = plain-arc_line n m few little; one = arc_one n m few little; words = arc_words n m }
+arc_form n m few little = record { plain = λ x ws h. grind (arith, seen); one = λ x y ws h g. grind (arith, read_back); words = λ x ws xs h g. grind arith }
 
 pub bound_form : (k : ℕ) → IsCount k → IsForm (IsBoundLine k)
-bound_form k few = record { plain = plain-bound_line k few; one = bound_one k few; words = λ x ws xs h g. h.1 ∙ sym g.1 }
+bound_form k few = record { plain = λ x ws h. grind (arith, seen_points); one = bound_one k few; words = λ x ws xs h g. h.1 ∙ sym g.1 }
 
 pub table_step : (a : TableLines) → Counted a → IsPlainStep (NextOfTable a) After
 table_step first p = plain_step (count_form (codes "table") 1 3 refl (omega arith)) (λ n ws h. (tt, tt))
@@ -55,14 +53,11 @@ table_step (phase v (suc left) d) p = plain_step (name_form (codes "phase") refl
 table_step (phase v zero d) p = plain_step (total_form (codes "elements") 0 refl) (λ n ws h. ((omega (arith, p.0), omega (arith, ap length p.1, h.1)), tt))
 table_step (element v (suc left) d) p = plain_step (element_form v (length d.phases) p.0) (λ e ws h. ((p.0, omega (arith, p.1, length-append d.elements (e ∷ []))), tt))
 table_step (element v zero d) p =
-    plain_step (total_form (codes "inner") 0 refl)
-    (λ m ws h. (record { phases_few = p.0; elements_few = omega (arith, p.1); inner_few = omega (arith, h.1, length-inner_names m) }, tt))
+    plain_step (total_form (codes "inner") 0 refl) (λ m ws h. ((p.0, omega (arith, p.1), omega (arith, h.1, length-inner_names m)), tt))
 table_step (arcs d) p = plain_step (total_form (codes "arcs") 0 refl) (λ n ws h. (p, tt))
-table_step (arc (suc left) d) p =
-    plain_step (arc_form (length d.elements) (length d.inner) p.elements_few p.inner_few)
-    (λ x ws h. (record { phases_few = p.phases_few; elements_few = p.elements_few; inner_few = p.inner_few }, tt))
+table_step (arc (suc left) d) p = plain_step (arc_form (length d.elements) (length d.inner) p.1 p.2) (λ x ws h. (p, tt))
 table_step (arc zero d) p = plain_step (total_form (codes "bounds") 0 refl) (λ n ws h. (p, tt))
-table_step (bound (suc left) d) p = plain_step (bound_form (length d.phases) p.phases_few) (λ x ws h. (record { phases_few = p.phases_few; elements_few = p.elements_few; inner_few = p.inner_few }, tt))
+table_step (bound (suc left) d) p = plain_step (bound_form (length d.phases) p.0) (λ x ws h. (p, tt))
 table_step (bound zero d) p = plain_step (word_form (codes "end") refl) (λ u ws h. (tt, tt))
 table_step (whole d) p = no_step
 
@@ -73,15 +68,5 @@ table_plain = record {
   free = λ a b line p h. (table_step a p).free b line h;
 }
 
-whole_same : (c d : Design) → whole c ≡ whole d → c ≡ d
-whole_same c d e = cc
-
-pub tables_have_one_value : HaveOneDesign
-tables_have_one_value text c d h g =
-    whole_same c d (text_one_end NextOfTable Counted table_plain first (whole c) (whole d) text tt h g (λ line after step. step) (λ line after step. step))
-
-pub tables_have_no_fault : HaveNoTableFault
-tables_have_no_fault text d n h f = text_no_fault NextOfTable IsWholeTable Counted table_plain first (whole d) text n tt h tt f
-
-pub tables_have_one_fault : HaveOneTableFault
-tables_have_one_fault text m n f g = text_one_fault NextOfTable IsWholeTable Counted table_plain first text m n tt f g
+pub table_texts : ArePlainTexts NextOfTable IsWholeTable first whole
+table_texts = plain_texts whole table_plain tt (λ c d e. cc e) (λ d. tt)

@@ -1,8 +1,9 @@
 -- Tables that are one value have one text.
 use Rattle.std.proofs.Common.{◌≡◌, ℕ, zero, suc, List, [], length, refl, ap, ◌∙◌, sym, subst, codes}
 use Rattle.mintc_timing.specs.Design.{Design}
-use Rattle.mintc_lines.specs.TextLaws.{HaveOneTableText}
+use Rattle.mintc_lines.specs.TextLaws.{HaveOneScheduleText, HaveOneTableText}
 use Rattle.mintc_lines.specs.TableText.{NextOfTable, TableLines, first, phases, phase, element, arcs, arc, bound, whole}
+use Rattle.mintc_lines.proofs.ScheduleSpelling.{schedules_have_one_text}
 use Rattle.mintc_lines.proofs.SharedLineLaws.{word_form, name_form}
 use Rattle.mintc_lines.proofs.SharedSpelling.{Rest, rest_none, rest_back, rest_same, rest_count, IsSpelled, IsSpelledStep}
 use Rattle.mintc_lines.proofs.SharedTextLaws.{step_by, no_way, one_text_after}
@@ -20,15 +21,6 @@ Begins (arc left d) f = (f.phases ≡ d.phases) × (f.elements ≡ d.elements) �
 Begins (bound left d) f = (f.phases ≡ d.phases) × (f.elements ≡ d.elements) × (f.inner ≡ d.inner) × (f.arcs ≡ d.arcs) × Rest d.bounds f.bounds left
 Begins (whole d) f = d ≡ f
 
-whole_known : (d f : Design) → d ≡ f → (f.phases ≡ d.phases) × (f.elements ≡ d.elements) × (f.inner ≡ d.inner) × (f.arcs ≡ d.arcs) × Rest d.bounds f.bounds 0
-whole_known d f e = (
-  sym (ap (λ (x : Design). x.phases) e),
-  sym (ap (λ (x : Design). x.elements) e),
-  sym (ap (λ (x : Design). x.inner) e),
-  sym (ap (λ (x : Design). x.arcs) e),
-  rest_none d.bounds f.bounds (sym (ap (λ (x : Design). x.bounds) e)),
-)
-
 back : (a b : TableLines) (line : List ℕ) (f : Design) → NextOfTable a line b → Begins b f → Begins a f
 back first b line f h g = tt
 back (phases v) b line f h g = tt
@@ -40,7 +32,7 @@ back (arcs d) b line f h g = let k = subst (λ (x : TableLines). Begins x f) h.2
 back (arc (suc left) d) b line f h g = let k = subst (λ (x : TableLines). Begins x f) h.2 g in (k.0, k.1, k.2, rest_back d.arcs f.arcs h.0 left k.3)
 back (arc zero d) b line f h g = let k = subst (λ (x : TableLines). Begins x f) h.2 g in (k.0, k.1, k.2, rest_none d.arcs f.arcs k.3)
 back (bound (suc left) d) b line f h g = let k = subst (λ (x : TableLines). Begins x f) h.2 g in (k.0, k.1, k.2, k.3, rest_back d.bounds f.bounds h.0 left k.4)
-back (bound zero d) b line f h g = whole_known d f (subst (λ (x : TableLines). Begins x f) h.2 g)
+back (bound zero d) b line f h g = subst (Begins (bound 0 d)) (subst (λ (x : TableLines). Begins x f) h.2 g) (refl, refl, refl, refl, rest_none d.bounds d.bounds refl)
 back (whole d) b line f h g = absurd h
 
 -- After the first line, whose number is the version, one line leads on.
@@ -52,14 +44,17 @@ step (phase v zero d) f p = step_by (total_form (codes "elements") 0 refl) (λ m
 step (element v (suc left) d) f p = step_by (element_form v (length d.phases) p.0.0) (λ x y k l. rest_same d.elements f.elements x y left left k.1 l.1)
 step (element v zero d) f p = step_by (total_form (codes "inner") 0 refl) (λ m n k l. sym (length-inner_names m) ∙ ap length (sym k.2 ∙ l.2) ∙ length-inner_names n)
 step (arcs d) f p = step_by (total_form (codes "arcs") 0 refl) (λ m n k l. rest_count d.arcs f.arcs m n k.3 l.3)
-step (arc (suc left) d) f p = step_by (arc_form (length d.elements) (length d.inner) p.0.elements_few p.0.inner_few) (λ x y k l. rest_same d.arcs f.arcs x y left left k.3 l.3)
+step (arc (suc left) d) f p = step_by (arc_form (length d.elements) (length d.inner) p.0.1 p.0.2) (λ x y k l. rest_same d.arcs f.arcs x y left left k.3 l.3)
 step (arc zero d) f p = step_by (total_form (codes "bounds") 0 refl) (λ m n k l. rest_count d.bounds f.bounds m n k.4 l.4)
-step (bound (suc left) d) f p = step_by (bound_form (length d.phases) p.0.phases_few) (λ x y k l. rest_same d.bounds f.bounds x y left left k.4 l.4)
+step (bound (suc left) d) f p = step_by (bound_form (length d.phases) p.0.0) (λ x y k l. rest_same d.bounds f.bounds x y left left k.4 l.4)
 step (bound zero d) f p = step_by (word_form (codes "end") refl) (λ u w k l. refl)
 step (whole d) f p = no_way (λ line b h i. h)
 
 spelled : IsSpelled NextOfTable After whole Begins
 spelled = record { keeps = λ a b line p h. (table_step a p.0).keeps b line h; last = λ d line b h. h; ends = λ d. refl; back = back; step = step }
 
-pub tables_have_one_text : HaveOneTableText
+tables_have_one_text : HaveOneTableText
 tables_have_one_text = one_text_after table_plain spelled tt (table_step first tt).keeps (λ d e. cc e)
+
+pub one_texts : record { schedule : HaveOneScheduleText; table : HaveOneTableText }
+one_texts = record { schedule = schedules_have_one_text; table = tables_have_one_text }

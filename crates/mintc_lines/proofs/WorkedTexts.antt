@@ -1,9 +1,10 @@
 -- The texts of the two latches by computation.
-use Rattle.std.proofs.Common.{◌≡◌, ℕ, pos, List, [], ◌∷◌, ◌++◌, codes, decimal, refl, arith, ap, length, length-append}
+use Rattle.std.proofs.Common.{ℕ, pos, List, [], ◌∷◌, codes, decimal, refl, arith}
 use Rattle.std.proofs.lemmas.Int.{ints}
 use Rattle.std.specs.Fmt.{digits}
-use Rattle.mintc_text.specs.Lines.{text_of, ended}
+use Rattle.mintc_text.specs.Lines.{text_of}
 use Rattle.mintc_lines.specs.Texts.{IsScheduleText, IsScheduleFault, first, body, den, cycle, phases, phase, whole, no_phases, with_phase}
+use Rattle.mintc_lines.proofs.SharedTextLaws.{no_line}
 use Rattle.mintc_timing.specs.Worked.{of_100}
 
 abbrev pub text_100 : List ℕ
@@ -41,9 +42,6 @@ schedule_text_100 = record {
   );
 }
 
-ended_is_some : (line more : List ℕ) → ([] ≡ ended line ++ more) → ⊥
-ended_is_some line more h = omega (arith, ap length h, length-append (ended line) more, length-append line (10 ∷ []))
-
 pub empty_schedule_fault : IsScheduleFault [] 1
 empty_schedule_fault = record {
   before = [];
@@ -52,6 +50,6 @@ empty_schedule_fault = record {
   whole = refl;
   follows = refl;
   count = refl;
-  stuck = λ line more after h g. ended_is_some line more h;
+  stuck = λ line more after h g. no_line line more h;
   unfinished = λ e. absurd e;
 }

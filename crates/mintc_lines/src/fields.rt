@@ -78,6 +78,7 @@ impl<'a> Fields<'a> {
     }
 
     /// The next word. None where the last one was read.
+    #[tactic(auto, using(crate::proofs::SharedFieldsLaws::cuts))]
     pub fn word(&mut self) -> Option<&'a [u8]>
         ensures { MatchOption result (self.old ≡ []) (λ word. self.old ≡ word.now ∷ self.new) }
     {

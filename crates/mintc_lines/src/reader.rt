@@ -58,6 +58,7 @@ impl<'a> Reader<'a> {
     }
 
     /// The words of the next line, which is passed. None where the text has no whole line left.
+    #[tactic(auto, using(crate::proofs::SharedFieldsLaws::words_fields))]
     pub fn fields(&mut self) -> Option<Fields<'a>>
         ensures whole { IfSome result (λ fields. self.old.left ≡ ended (words fields) ++ self.new.left) }
         ensures only { IfSome result (λ fields. (ws : List (List ℕ)) (more : List ℕ) → plain_line ws ≡ true → self.old.left ≡ ended (words ws) ++ more → fields ≡ ws) }
@@ -92,6 +93,7 @@ impl<'a> Reader<'a> {
     }
 
     /// Reads a line of this word and a canonical numeral from `least` to `most`, of which none is below 0.
+    #[tactic(auto, using(crate::proofs::SharedFieldsLaws::seen))]
     pub fn count_line(&mut self, word: &[u8], least: u32, most: u32) -> Option<u32>
         requires { plain word.now ≡ true }
         ensures read { MatchOption result (HasNone (IsCountLine word.now least most) self.old.left) (λ n. HasRead (IsCountLine word.now least most) self.old.left n self.new.left) }
@@ -102,6 +104,7 @@ impl<'a> Reader<'a> {
     }
 
     /// Reads a line of this word and a name of 1 to 1,000 bytes from 33 to 126.
+    #[tactic(auto, using(crate::proofs::SharedFieldsLaws::seen))]
     pub fn name_line(&mut self, word: &[u8]) -> Option<&'a [u8]>
         requires { plain word.now ≡ true }
         ensures read { MatchOption result (HasNone (IsNameLine word.now) self.old.left) (λ name. HasRead (IsNameLine word.now) self.old.left name.now self.new.left) }
@@ -114,6 +117,7 @@ impl<'a> Reader<'a> {
     /// Reads a line `phase START WIDTH`: the start and the width of a phase, numerators over the schedule's denominator.
     /// None where the next line is no such line, or where a numeral is not canonical or not from 0 to
     /// 100,000,000,000,000.
+    #[tactic(auto, using(crate::proofs::SharedFieldsLaws::seen))]
     pub fn phase_line(&mut self) -> Option<(i64, i64)>
         ensures read { MatchOption result (HasNone IsPhaseLine self.old.left) (λ p. HasRead IsPhaseLine self.old.left (p.0, p.1) self.new.left) }
         ensures counted { self.new.number ≡ number_after self.old.number }

@@ -169,6 +169,7 @@ fn lettered(word: &[u8]) -> Option<(u8, u32)>
 }
 
 /// The bit of a word from which an arc leads, with so many elements and inner bits: `q` or `n` and a number.
+#[tactic(auto, using(crate::proofs::SharedFieldsLaws::read_back))]
 fn from_bit(word: &[u8], elements: u32, inner: u32) -> Option<u32>
     requires elements { IsCount elements }
     requires inner { IsCount inner }
@@ -185,6 +186,7 @@ fn from_bit(word: &[u8], elements: u32, inner: u32) -> Option<u32>
 }
 
 /// The bit of a word to which an arc leads, with so many elements and inner bits: `d` or `n` and a number.
+#[tactic(auto, using(crate::proofs::SharedFieldsLaws::read_back))]
 fn to_bit(word: &[u8], elements: u32, inner: u32) -> Option<u32>
     requires elements { IsCount elements }
     requires inner { IsCount inner }
@@ -217,6 +219,7 @@ pub fn arc_of(mut fields: Fields, elements: u32, inner: u32) -> Option<TimingArc
 }
 
 /// The moment that a word names, with so many phases: `o`, or `s` or `e` and the number of a phase.
+#[tactic(auto, using(crate::proofs::SharedFieldsLaws::read_back))]
 fn point(word: &[u8], phases: u32) -> Option<Point>
     requires { IsCount phases }
     ensures { MatchOption result

@@ -1,9 +1,7 @@
-use Rattle.mintc_lines.proofs.SharedReadingLaws.{at_none}
-use Rattle.mintc_certificate.proofs.MemberLaws.{apart_none, apart_some}
+use Rattle.std.proofs.Common.{arith, ℕ}
+use Rattle.std.proofs.lemmas.Grind.{common_steps}
+use Rattle.mintc_certificate.specs.MemberWords.{IsTwo}
 use Rattle.mintc_certificate.proofs.member_lines.apart_of.Goals as goal
 
 pub returns-in_err-i : goal.returns-in_err-i
-returns-in_err-i c = λ v. at_none c.from_residual.result _ _ c.from_residual.ensures (apart_none v c.args.fields c.in_err-i.ensures)
-
-pub returns : goal.returns
-returns c = λ v. apart_some v c.args.fields (c.in_ok-i.i, c.in_ok-i.j) c.in_ok-i.ensures
+returns-in_err-i c = let none : (i j : ℕ) → IsTwo (i, j) c.args.fields → ⊥ = λ i j. c.in_err-i.ensures (i, j) in grind (arith, common_steps, none)

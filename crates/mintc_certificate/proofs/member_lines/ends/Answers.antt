@@ -1,9 +1,7 @@
 use Rattle.std.proofs.Common.{◌∷◌, arith}
 use Rattle.mintc_lines.specs.Fields.{number}
-use Rattle.mintc_lines.proofs.SharedReadingLaws.{at_none}
 use Rattle.mintc_certificate.proofs.member_lines.ends.Goals as goal
 
 pub returns-in_err-to : goal.returns-in_err-to
 returns-in_err-to c =
-    at_none c.from_residual-in_err-to.result _ _ c.from_residual-in_err-to.ensures
-    (λ from to count more first second few some e. let told = c.in_ok-from.ensures.2 in c.in_err-to.ensures to (number count ∷ more) (omega arith) second cc)
+    rw c.from_residual-in_err-to.ensures (λ from to count more first second few some e. let told = c.in_ok-from.ensures.2 in c.in_err-to.ensures to (number count ∷ more) (omega arith) second cc)

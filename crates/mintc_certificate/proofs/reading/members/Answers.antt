@@ -1,10 +1,9 @@
-use Rattle.std.proofs.Common.{List, arith, subst, sym}
-use Rattle.std.proofs.lemmas.Result.{err_from_is_err_and}
-use Rattle.mintc_lines.proofs.SharedReadingLaws.{list_none, list_more, list_all, at_halt}
-use Rattle.mintc_certificate.specs.declared.members.Member.{Member}
-use Rattle.mintc_certificate.specs.CertificateReading.{with_chain}
-use Rattle.mintc_certificate.specs.CertificateText.{IsMemberLine, link}
-use Rattle.mintc_certificate.proofs.CertificateReading.{At, chain_read, chain_fault, list_halts, member_states, member_next}
+use Rattle.std.proofs.Common.{arith}
+use Rattle.std.proofs.lemmas.Grind.{common_steps}
+use Rattle.mintc_lines.proofs.SharedReadingLaws.{list_more, list_fault, list_all}
+use Rattle.mintc_certificate.specs.CertificateText.{IsCertificateFault, IsMemberLine}
+use Rattle.mintc_certificate.proofs.CertificateReading.{chain_read, chain_fault, member_states, member_next}
+use Rattle.mintc_certificate.proofs.MemberLaws.{halts_by}
 use Rattle.mintc_certificate.proofs.reading.members.Goals as goal
 
 pub returns-in_default : goal.returns-in_default
@@ -14,12 +13,10 @@ returns-in_default c = λ text d at.
 pub returns-in_err-member : goal.returns-in_err-member
 returns-in_err-member c = λ text d at.
     let begun = chain_read text c.args.reader.now c.count_line.new.self c.args.version d c.in-Some.count at c.in-Some.ensures.read c.in-Some.ensures.counted in
-    at_halt c.from_residual.result c.in_err-member.field-0.0 _ _ (err_from_is_err_and c.from_residual.result c.from_residual.ensures.1)
-    (list_halts (member_states c.args.version d) (IsMemberLine c.args.version) text c.loop-member.reader c.member_line.new.reader.number c.loop-member.found.items c.loop-member._member c.in-Some.count c.in_err-member.field-0.0
-    (c.loop-member.invariant text d begun) (omega arith) c.in_err-member.ensures.read c.in_err-member.ensures.counted (λ left all e. e) (λ left all line after step. (step.0, step.1)))
-
-pub loop-member-init : goal.loop-member-init
-loop-member-init c = λ text d at. list_none (member_states c.args.version d) text c.count_line.new.self c.new-found.result.items c.in-Some.count at c.new-found.ensures.items
+    let told = halts_by {B = IsCertificateFault text c.member_line.new.reader.number}
+    (λ none. list_fault (member_states c.args.version d) (IsMemberLine c.args.version) text c.loop-member.reader c.member_line.new.reader.number c.loop-member.found.items c.loop-member._member c.in-Some.count
+    (c.loop-member.invariant text d begun) (omega arith) none c.in_err-member.ensures.counted (λ left all e. e) (λ left all line after step. (step.0, step.1))) c.in_err-member.field-0.0 c.in_err-member.ensures.read in
+    grind (arith, common_steps)
 
 pub loop-member-preserved : goal.loop-member-preserved
 loop-member-preserved c = λ text d at.
@@ -29,6 +26,5 @@ loop-member-preserved c = λ text d at.
 pub returns : goal.returns
 returns c = λ text d at.
     let begun = chain_read text c.args.reader.now c.count_line.new.self c.args.version d c.in-Some.count at c.in-Some.ensures.read c.in-Some.ensures.counted in
-    let R : List Member → Type 0 = λ ms. At text c.loop-member.reader (link c.args.version 0 (with_chain d ms)) in
-    subst R (sym c.new.ensures)
+    rw c.new.ensures
     (list_all (member_states c.args.version d) text c.loop-member.reader c.loop-member.found.items c.loop-member._member c.in-Some.count (c.loop-member.invariant text d begun) (omega arith))

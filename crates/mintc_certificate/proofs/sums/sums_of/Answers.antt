@@ -1,25 +1,31 @@
-use Rattle.std.proofs.Common.{◌<◌, pos, arith, ◌∙◌}
-use Rattle.mintc_text.specs.declared.limits.TheConstants.{MOST_MEMBERS}
+use Rattle.std.proofs.Common.{◌≡◌, ◌<◌, ◌+◌, ℕ, ℤ, pos, ◌+ℤ◌, List, length, get_or, take, arith}
+use Rattle.std.proofs.lemmas.Grind.{take_at_read}
+use Rattle.std.proofs.lemmas.Int.{ints}
+use Rattle.std.proofs.lemmas.List.{map-append}
+use Rattle.mintc_rings.specs.Rings.{total}
+use Rattle.mintc_rings.proofs.SharedRingLaws.{total-append}
 use Rattle.mintc_timing.specs.declared.link.Link.{Link}
-use Rattle.mintc_certificate.proofs.ChainSumLaws.{sum_step, more_delay, more_cycles}
+use Rattle.mintc_timing.specs.Design.{Design}
+use Rattle.mintc_certificate.specs.declared.members.Member.{Member}
+use Rattle.mintc_certificate.specs.Valid.{link_of, links_of_members}
 use Rattle.mintc_certificate.proofs.sums.sums_of.Goals as goal
+
+-- the link of one member more
+sums_more : (f : Link → ℤ) (design : Design) (chain : List Member) (i : ℕ) (m : Member) → i < length chain → m ≡ get_or chain i m →
+    total f (links_of_members design (take (i + 1) chain)) ≡ total f (links_of_members design (take i chain)) +ℤ f (link_of design m)
+sums_more f design chain i m below is = grind (arith, ints, take_at_read, map-append, total-append)
 
 pub loop-member-preserved : goal.loop-member-preserved
 loop-member-preserved c =
-    let chain = c.args.members.now in
-    let i = c.loop-member.member-index in
-    let link = c.link_of-link.result in
     let below = c.loop-member-test.true in
+    let delay = rw (← c.link_of-link.ensures.value) at (sums_more (λ (k : Link). k.delay) c.args.flat.now c.args.members.now c.loop-member.member-index c.member-item.result below c.member-item.is) in
+    let cycles = rw (← c.link_of-link.ensures.value) at (sums_more (λ (k : Link). pos k.cycles) c.args.flat.now c.args.members.now c.loop-member.member-index c.member-item.result below c.member-item.is) in
     let most = c.requires.chain.most in
-    let few : c.loop-member.member-index < MOST_MEMBERS = omega arith in
-    let h = c.loop-member.invariant in
-    let delay = more_delay _ link.delay i h.delay_low h.delay_high few c.link_of-link.ensures.range in
-    let cycles = more_cycles _ c.from-cycles.result link.cycles i c.from-cycles.ensures h.cycles_low h.cycles_high few c.link_of-link.ensures.cycles in
     record {
-      delay_is = delay.is ∙ sum_step (λ (k : Link). k.delay) c.args.flat.now chain i c.member-item.result link _ below c.member-item.is c.link_of-link.ensures.value h.delay_is;
-      delay_low = rw delay.is delay.low;
-      delay_high = rw delay.is delay.high;
-      cycles_is = cycles.is ∙ sum_step (λ (k : Link). pos k.cycles) c.args.flat.now chain i c.member-item.result link _ below c.member-item.is c.link_of-link.ensures.value h.cycles_is;
-      cycles_low = rw cycles.is cycles.low;
-      cycles_high = rw cycles.is cycles.high;
+      delay_is = omega (arith, ints);
+      delay_low = omega (arith, ints);
+      delay_high = omega (arith, ints);
+      cycles_is = omega (arith, ints);
+      cycles_low = omega (arith, ints);
+      cycles_high = omega (arith, ints);
     }

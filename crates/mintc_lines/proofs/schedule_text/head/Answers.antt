@@ -1,26 +1,23 @@
 use Rattle.std.proofs.Common.{refl}
 use Rattle.mintc_lines.specs.Texts.{NextAlone, den, cycle, phases, no_phases, phase}
 use Rattle.mintc_timing.proofs.SharedFitting.{read_time, IsTime-IsDenominator, IsTime-IsNumerator}
-use Rattle.mintc_lines.proofs.SharedReadingLaws.{at_none, passed_none, passed_stop, passed_more}
+use Rattle.mintc_lines.proofs.SharedReadingLaws.{passed_none, passed_stop, passed_more}
 use Rattle.mintc_lines.proofs.schedule_text.head.Goals as goal
 
 pub returns-in_err-den-clause-read : goal.returns-in_err-den-clause-read
 returns-in_err-den-clause-read c =
-    at_none c.from_residual.result _ _ c.from_residual.ensures
-    (passed_stop (passed_none NextAlone den c.args.reader.now) c.in_err-den.ensures.read c.in_err-den.ensures.counted (λ e. e) (λ line after step. (step.0, step.1)))
+    rw c.from_residual.ensures (passed_stop (passed_none NextAlone den c.args.reader.now) c.in_err-den.ensures.read c.in_err-den.ensures.counted (λ e. e) (λ line after step. (step.0, step.1)))
 
 pub returns-in_err-cycle-clause-read : goal.returns-in_err-cycle-clause-read
 returns-in_err-cycle-clause-read c =
     let one = passed_more c.number_line.new.self (cycle c.in_ok-den.den) (passed_none NextAlone den c.args.reader.now) c.in_ok-den.ensures.read c.in_ok-den.ensures.counted (λ line spells. (_, spells, refl)) in
-    at_none c.from_residual-in_err-cycle.result _ _ c.from_residual-in_err-cycle.ensures
-    (passed_stop one c.in_err-cycle.ensures.read c.in_err-cycle.ensures.counted (λ e. e) (λ line after step. (step.0, step.1)))
+    rw c.from_residual-in_err-cycle.ensures (passed_stop one c.in_err-cycle.ensures.read c.in_err-cycle.ensures.counted (λ e. e) (λ line after step. (step.0, step.1)))
 
 pub returns-in_err-count-clause-read : goal.returns-in_err-count-clause-read
 returns-in_err-count-clause-read c =
     let one = passed_more c.number_line.new.self (cycle c.in_ok-den.den) (passed_none NextAlone den c.args.reader.now) c.in_ok-den.ensures.read c.in_ok-den.ensures.counted (λ line spells. (_, spells, refl)) in
     let two = passed_more c.number_line-2.new.self (phases c.in_ok-den.den c.in_ok-cycle.cycle) one c.in_ok-cycle.ensures.read c.in_ok-cycle.ensures.counted (λ line spells. (_, spells, refl)) in
-    at_none c.from_residual-in_err-count.result _ _ c.from_residual-in_err-count.ensures
-    (passed_stop two c.in_err-count.ensures.read c.in_err-count.ensures.counted (λ e. e) (λ line after step. (step.0, step.1)))
+    rw c.from_residual-in_err-count.ensures (passed_stop two c.in_err-count.ensures.read c.in_err-count.ensures.counted (λ e. e) (λ line after step. (step.0, step.1)))
 
 pub returns-clause-read : goal.returns-clause-read
 returns-clause-read c =

@@ -1,72 +1,51 @@
-use Rattle.std.proofs.Common.{◌≡◌, ◌∷◌, [], sym, ◌∙◌}
+use Rattle.std.proofs.Common.{◌∷◌, []}
 use Rattle.mintc_text.specs.Lines.{numeral_of}
 use Rattle.mintc_lines.specs.declared.table_lines.ElementNumbers.{ElementNumbers}
 use Rattle.mintc_lines.specs.Fields.{AreDelays}
 use Rattle.mintc_timing.proofs.SharedFitting.{read_time, IsTime-IsDelay, IsTime-IsGap}
-use Rattle.mintc_lines.proofs.SharedReadingLaws.{at_none}
-use Rattle.mintc_lines.proofs.TableLineLaws.{element_phase, element_kind, element_made, element_spelled, opening_of, openings_same, same_delays, after_setup, after_hold, after_dq}
+use Rattle.mintc_lines.proofs.TableLineLaws.{element_phase, element_kind, element_read, opening_of, openings_same, same_delays, after_hold, after_dq}
 use Rattle.mintc_lines.proofs.table_lines.element_of.Goals as goal
 
 pub returns-in_err-phase : goal.returns-in_err-phase
 returns-in_err-phase c =
-    at_none c.from_residual-in_err-phase.result _ _ c.from_residual-in_err-phase.ensures
-    (λ e h. c.in_err-phase.ensures e.phase _ h.ranges.phase.0 h.ranges.phase.1
+    rw c.from_residual-in_err-phase.ensures (λ e h. c.in_err-phase.ensures e.phase _ h.ranges.phase.0 h.ranges.phase.1
     (element_phase c.args.version e _ _ _ _ c.in_ok-fixed.ensures c.in_ok-name.ensures.1 h.spelled))
 
 pub returns-in_err-setup : goal.returns-in_err-setup
 returns-in_err-setup c =
-    at_none c.from_residual-in_err-setup.result _ _ c.from_residual-in_err-setup.ensures
-    (λ e h.
+    rw c.from_residual-in_err-setup.ensures (λ e h.
     let kind = element_kind c.args.version e _ _ c.in_ok-flop.flop _ _ _ _ c.kind.new.fields c.in_ok-fixed.ensures c.in_ok-name.ensures.1 c.in_ok-phase.ensures.2 c.in_ok-flop.ensures.1 c.in_ok-flop.ensures.0 h.version h.spelled in
     c.in_err-setup.ensures e.setup _ h.ranges.setup kind.1)
 
 pub returns-in_err-has_hold : goal.returns-in_err-has_hold
 returns-in_err-has_hold c =
-    at_none c.from_residual-in_err-has_hold.result _ _ c.from_residual-in_err-has_hold.ensures
-    (λ e h.
+    rw c.from_residual-in_err-has_hold.ensures (λ e h.
     let kind = element_kind c.args.version e _ _ c.in_ok-flop.flop _ _ _ _ c.kind.new.fields c.in_ok-fixed.ensures c.in_ok-name.ensures.1 c.in_ok-phase.ensures.2 c.in_ok-flop.ensures.1 c.in_ok-flop.ensures.0 h.version h.spelled in
     let a = kind.1 in let b = c.in_ok-setup.ensures.1 in
-    let left : c.number.new.self ≡ after_setup c.args.version e = cc in
-    c.in_err-has_hold.ensures e.has_hold e.hold _ (h.ranges.hold, h.ranges.no_hold) left)
+    c.in_err-has_hold.ensures e.has_hold e.hold (after_hold c.args.version e) (h.ranges.hold, h.ranges.no_hold) cc)
 
 pub returns-in_err-dq : goal.returns-in_err-dq
 returns-in_err-dq c =
-    at_none c.from_residual-in_err-dq.result _ _ c.from_residual-in_err-dq.ensures
-    (λ e h.
+    rw c.from_residual-in_err-dq.ensures (λ e h.
     let kind = element_kind c.args.version e _ _ c.in_ok-flop.flop _ _ _ _ c.kind.new.fields c.in_ok-fixed.ensures c.in_ok-name.ensures.1 c.in_ok-phase.ensures.2 c.in_ok-flop.ensures.1 c.in_ok-flop.ensures.0 h.version h.spelled in
     let a = kind.1 in let b = c.in_ok-setup.ensures.1 in let d = c.in_ok-has_hold.ensures.1 in
-    let setup : c.number.new.self ≡ after_setup c.args.version e = cc in
-    let left : c.hold.new.fields ≡ after_hold c.args.version e = cc in
-    c.in_err-dq.ensures e.dq_min e.dq_max _ (record { low_is = h.ranges.dq_min; high_is = h.ranges.dq_max; ordered = h.ranges.dq }) left)
+    c.in_err-dq.ensures e.dq_min e.dq_max (after_dq c.args.version e) (record { low_is = h.ranges.dq_min; high_is = h.ranges.dq_max; ordered = h.ranges.dq }) cc)
 
 pub returns-in_err-cq : goal.returns-in_err-cq
 returns-in_err-cq c =
-    at_none c.from_residual-in_err-cq.result _ _ c.from_residual-in_err-cq.ensures
-    (λ e h.
+    rw c.from_residual-in_err-cq.ensures (λ e h.
     let kind = element_kind c.args.version e _ _ c.in_ok-flop.flop _ _ _ _ c.kind.new.fields c.in_ok-fixed.ensures c.in_ok-name.ensures.1 c.in_ok-phase.ensures.2 c.in_ok-flop.ensures.1 c.in_ok-flop.ensures.0 h.version h.spelled in
-    let a = kind.1 in let b = c.in_ok-setup.ensures.1 in let d = c.in_ok-has_hold.ensures.1 in
-    let setup : c.number.new.self ≡ after_setup c.args.version e = cc in
-    let hold : c.hold.new.fields ≡ after_hold c.args.version e = cc in
+    let a = kind.1 in let b = c.in_ok-setup.ensures.1 in let d = c.in_ok-has_hold.ensures.1 in let f = c.in_ok-dq.ensures.1 in
     let delays : AreDelays e.dq_min e.dq_max = record { low_is = h.ranges.dq_min; high_is = h.ranges.dq_max; ordered = h.ranges.dq } in
-    let same = same_delays c.in_ok-dq.dq.0 c.in_ok-dq.dq.1 e.dq_min e.dq_max _ _ c.in_ok-dq.ensures.0 delays (sym c.in_ok-dq.ensures.1 ∙ hold) in
-    let f = c.in_ok-dq.ensures.1 in
-    let left : c.delays.new.self ≡ after_dq c.args.version e = cc in
-    c.in_err-cq.ensures e.cq_min e.cq_max _ (opening_of c.args.version c.args.phases e c.in_ok-flop.flop c.in_ok-dq.dq.0 c.in_ok-dq.dq.1 h.ranges h.version kind.0 same.0 same.1) left)
+    let same = same_delays c.in_ok-dq.dq.0 c.in_ok-dq.dq.1 e.dq_min e.dq_max c.delays.new.self (after_dq c.args.version e) c.in_ok-dq.ensures.0 delays cc in
+    c.in_err-cq.ensures e.cq_min e.cq_max (numeral_of e.width ∷ []) (opening_of c.args.version c.args.phases e c.in_ok-flop.flop c.in_ok-dq.dq.0 c.in_ok-dq.dq.1 h.ranges h.version kind.0 same.0 same.1) cc)
 
 pub returns-in_err-width : goal.returns-in_err-width
 returns-in_err-width c =
-    at_none c.from_residual-in_err-width.result _ _ c.from_residual-in_err-width.ensures
-    (λ e h.
+    rw c.from_residual-in_err-width.ensures (λ e h.
     let kind = element_kind c.args.version e _ _ c.in_ok-flop.flop _ _ _ _ c.kind.new.fields c.in_ok-fixed.ensures c.in_ok-name.ensures.1 c.in_ok-phase.ensures.2 c.in_ok-flop.ensures.1 c.in_ok-flop.ensures.0 h.version h.spelled in
-    let a = kind.1 in let b = c.in_ok-setup.ensures.1 in let d = c.in_ok-has_hold.ensures.1 in
-    let setup : c.number.new.self ≡ after_setup c.args.version e = cc in
-    let hold : c.hold.new.fields ≡ after_hold c.args.version e = cc in
-    let delays : AreDelays e.dq_min e.dq_max = record { low_is = h.ranges.dq_min; high_is = h.ranges.dq_max; ordered = h.ranges.dq } in
-    let same = same_delays c.in_ok-dq.dq.0 c.in_ok-dq.dq.1 e.dq_min e.dq_max _ _ c.in_ok-dq.ensures.0 delays (sym c.in_ok-dq.ensures.1 ∙ hold) in
-    let f = c.in_ok-dq.ensures.1 in
-    let left : c.delays.new.self ≡ after_dq c.args.version e = cc in
-    let last : c.openings.new.fields ≡ numeral_of e.width ∷ [] = openings_same c.args.version c.in_ok-cq.cq.0 c.in_ok-cq.cq.1 e.cq_min e.cq_max _ _ (sym c.in_ok-cq.ensures.1 ∙ left) in
-    c.in_err-width.ensures e.width [] h.ranges.width last)
+    let a = kind.1 in let b = c.in_ok-setup.ensures.1 in let d = c.in_ok-has_hold.ensures.1 in let f = c.in_ok-dq.ensures.1 in let g = c.in_ok-cq.ensures.1 in
+    c.in_err-width.ensures e.width [] h.ranges.width (openings_same c.args.version c.in_ok-cq.cq.0 c.in_ok-cq.cq.1 e.cq_min e.cq_max c.openings.new.fields (numeral_of e.width ∷ []) cc))
 
 pub returns : goal.returns
 returns c =
@@ -84,8 +63,6 @@ returns c =
       cq_max = cq.1;
       width = c.in_ok-width.width;
     } in
-    let whole = element_spelled c.args.version c.in_ok-name.name.now n c.args.fields _ _ _ _ _ _ _ _ _ c.in_ok-fixed.ensures c.in_ok-name.ensures.1 c.in_ok-phase.ensures.2 c.in_ok-flop.ensures.1 c.in_ok-setup.ensures.1
-    c.in_ok-has_hold.ensures.1 c.in_ok-dq.ensures.1 c.in_ok-cq.ensures.1 c.in_ok-width.ensures.1 c.in_ok-end.ensures in
     rw (
       read_time n.setup (IsTime-IsGap n.setup c.in_ok-setup.ensures.0),
       read_time n.hold (IsTime-IsGap n.hold c.in_ok-has_hold.ensures.0.0),
@@ -95,5 +72,5 @@ returns c =
       read_time cq.1 (IsTime-IsDelay cq.1 c.in_ok-cq.ensures.0.0.high_is),
       read_time n.width (IsTime-IsDelay n.width c.in_ok-width.ensures.0),
     )
-    (element_made c.args.version c.args.phases c.in_ok-name.name.now n c.args.fields c.in_ok-name.ensures.0 (c.in_ok-phase.ensures.0, c.in_ok-phase.ensures.1) c.in_ok-flop.ensures.0 c.in_ok-setup.ensures.0
-    c.in_ok-has_hold.ensures.0 c.in_ok-dq.ensures.0 c.in_ok-cq.ensures.0 c.in_ok-width.ensures.0 whole)
+    (element_read c.args.version c.args.phases c.in_ok-name.name.now n c.args.fields _ _ _ _ _ _ _ _ _ c.in_ok-fixed.ensures c.in_ok-name.ensures c.in_ok-phase.ensures c.in_ok-flop.ensures c.in_ok-setup.ensures
+    c.in_ok-has_hold.ensures c.in_ok-dq.ensures c.in_ok-cq.ensures c.in_ok-width.ensures c.in_ok-end.ensures)

@@ -25,5 +25,4 @@ loop-arc-preserved c = λ text ps es ns counted inner at.
 pub returns : goal.returns
 returns c = λ text ps es ns counted inner at.
     let begun = at_more c.count_line.new.self (arc c.in-Some.count (design_of ps es ns [] [])) at c.in-Some.ensures.read c.in-Some.ensures.counted (λ line spells. (_, spells, refl)) in
-    let all = so_far_all (arc_states ps es ns) MOST_ARCS text c.loop-arc.reader c.loop-arc.kept.items c.loop-arc._arc c.in-Some.count (c.loop-arc.invariant text ps es ns counted inner begun) (omega arith) (omega arith) in
-    all
+    so_far_all (arc_states ps es ns) MOST_ARCS text c.loop-arc.reader c.loop-arc.kept.items c.loop-arc._arc c.in-Some.count (c.loop-arc.invariant text ps es ns counted inner begun) (omega arith) (omega arith)

@@ -25,5 +25,4 @@ loop-bound-preserved c = λ text ps es ns xs counted at.
 pub returns : goal.returns
 returns c = λ text ps es ns xs counted at.
     let begun = at_more c.count_line.new.self (bound c.in-Some.count (design_of ps es ns xs [])) at c.in-Some.ensures.read c.in-Some.ensures.counted (λ line spells. (_, spells, refl)) in
-    let all = so_far_all (bound_states ps es ns xs) MOST_BOUNDS text c.loop-bound.reader c.loop-bound.kept.items c.loop-bound._bound c.in-Some.count (c.loop-bound.invariant text ps es ns xs counted begun) (omega arith) (omega arith) in
-    all
+    so_far_all (bound_states ps es ns xs) MOST_BOUNDS text c.loop-bound.reader c.loop-bound.kept.items c.loop-bound._bound c.in-Some.count (c.loop-bound.invariant text ps es ns xs counted begun) (omega arith) (omega arith)

@@ -1,14 +1,13 @@
 use Rattle.std.proofs.Common.{arith}
 use Rattle.mintc_lines.specs.ElementWords.{named}
 use Rattle.mintc_lines.specs.TableText.{IsElementLine}
-use Rattle.mintc_lines.proofs.SharedReadingLaws.{at_none, none_there, read_there}
+use Rattle.mintc_lines.proofs.SharedReadingLaws.{read_there}
 use Rattle.mintc_lines.proofs.TableReading.{plain-element_line}
 use Rattle.mintc_lines.proofs.table_text.element_line.Goals as goal
 
 pub returns-in_err-fields-clause-read : goal.returns-in_err-fields-clause-read
 returns-in_err-fields-clause-read c =
-    at_none c.from_residual.result _ _ c.from_residual.ensures
-    (none_there (IsElementLine c.args.version c.args.phases) c.args.reader.now.left (plain-element_line c.args.version c.args.phases (omega arith)) c.in_err-fields.ensures.none)
+    rw c.from_residual.ensures (λ e line more whole s. let same = s.2 in c.in_err-fields.ensures.none s.0 more (plain-element_line c.args.version c.args.phases (omega arith) e s.0 s.1) cc)
 
 pub returns-clause-read : goal.returns-clause-read
 returns-clause-read c =

@@ -27,5 +27,4 @@ loop-element-preserved c = λ text ps counted at.
 pub returns-clause-read : goal.returns-clause-read
 returns-clause-read c = λ text ps counted at.
     let begun = at_more c.count_line.new.self (element c.args.version c.in-Some.count (design_of ps [] [] [] [])) at c.in-Some.ensures.read c.in-Some.ensures.counted (λ line spells. (_, spells, refl)) in
-    let all = so_far_all (element_states c.args.version ps) MOST_ELEMENTS text c.loop-element.reader c.loop-element.kept.items c.loop-element._element c.in-Some.count (c.loop-element.invariant text ps counted begun) (omega arith) (omega arith) in
-    all
+    so_far_all (element_states c.args.version ps) MOST_ELEMENTS text c.loop-element.reader c.loop-element.kept.items c.loop-element._element c.in-Some.count (c.loop-element.invariant text ps counted begun) (omega arith) (omega arith)

@@ -1,10 +1,9 @@
-use Rattle.std.proofs.Common.{◌≡◌, Some, sym, subst, refl, inl, inr}
-use Rattle.std.proofs.lemmas.Result.{IfOk-weaker, MatchResult-weaker}
+use Rattle.std.proofs.Common.{◌≡◌, Some, inr}
+use Rattle.std.proofs.lemmas.Result.{MatchResult-weaker}
 use Rattle.mintc_timing.specs.Design.{Design}
 use Rattle.mintc_timing.specs.Limits.{limit_of}
-use Rattle.mintc_lines.specs.Reading.{Halts}
 use Rattle.mintc_lines.specs.TableReading.{ArePartsOf}
-use Rattle.mintc_lines.specs.TableText.{NextOfTable, first, IsTableText, IsTableFault, IsTableRefusal}
+use Rattle.mintc_lines.specs.TableText.{NextOfTable, first, IsTableRefusal}
 use Rattle.mintc_lines.proofs.SharedReadingLaws.{at_start}
 use Rattle.mintc_lines.proofs.TableLaws.{HasParts-from_text, stops_weaker}
 use Rattle.mintc_lines.proofs.table_text.read_table.Goals as goal
@@ -15,22 +14,9 @@ flat_of-requires c =
     let told = c.in-Ok.ensures text (at_start NextOfTable first text c.new-reader.result c.requires c.new-reader.ensures.left c.new-reader.ensures.number) in
     (told.0, HasParts-from_text text told.0 told.1, told.2)
 
-pub returns-in-Ok-clause-value : goal.returns-in-Ok-clause-value
-returns-in-Ok-clause-value c =
-    let text = c.args.text.now in
-    let told = c.in-Ok.ensures text (at_start NextOfTable first text c.new-reader.result c.requires c.new-reader.ensures.left c.new-reader.ensures.number) in
-    IfOk-weaker c.flat_of.result (λ flat. (d : Design) → ArePartsOf d c.in-Ok.parts → flat ≡ d) (λ flat. IsTableText text flat)
-    (λ flat is. subst (IsTableText text) (sym (is told.0 told.2)) told.1) c.flat_of.ensures.value
-
 pub returns-in-Ok-clause-stop : goal.returns-in-Ok-clause-stop
 returns-in-Ok-clause-stop c =
     let text = c.args.text.now in
     let told = c.in-Ok.ensures text (at_start NextOfTable first text c.new-reader.result c.requires c.new-reader.ensures.left c.new-reader.ensures.number) in
     MatchResult-weaker c.flat_of.result c.flat_of.ensures.stop (λ flat h. h)
     (λ s. stops_weaker (λ r. (d : Design) → ArePartsOf d c.in-Ok.parts → limit_of d ≡ Some r) (IsTableRefusal text) s (λ r is. inr (told.0, told.1, is told.0 told.2)))
-
-pub returns-in-Err-Form-clause-stop : goal.returns-in-Err-Form-clause-stop
-returns-in-Err-Form-clause-stop c =
-    let text = c.args.text.now in
-    let told = c.in-Err-Form.ensures text (at_start NextOfTable first text c.new-reader.result c.requires c.new-reader.ensures.left c.new-reader.ensures.number) in
-    inl (c.number.result, refl, subst (IsTableFault text) (sym c.number.ensures) (subst (Halts (IsTableFault text c.table.new.reader.number)) c.in-Err-Form.field-0-is told))

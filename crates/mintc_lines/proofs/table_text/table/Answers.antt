@@ -1,28 +1,24 @@
-use Rattle.std.proofs.Common.{refl}
-use Rattle.std.proofs.lemmas.Result.{err_from_is_err_and}
+use Rattle.std.proofs.Common.{arith, refl}
+use Rattle.std.proofs.lemmas.Grind.{common_steps}
 use Rattle.mintc_timing.specs.Design.{design_of}
 use Rattle.mintc_lines.specs.TableText.{inner_names, whole}
 use Rattle.mintc_lines.proofs.TableReading.{length-inner_names}
-use Rattle.mintc_lines.proofs.SharedReadingLaws.{at_end, at_fault, at_more, at_past, at_halt}
+use Rattle.mintc_lines.proofs.SharedReadingLaws.{at_end, at_fault, at_more, at_past}
 use Rattle.mintc_lines.proofs.table_text.table.Goals as goal
-
-pub returns-in_err-names : goal.returns-in_err-names
-returns-in_err-names c = λ text at.
-    at_halt c.from_residual.result c.in_err-names.field-0.0 _ _ (err_from_is_err_and c.from_residual.result c.from_residual.ensures.1) (c.in_err-names.ensures.read text at)
 
 pub returns-in_err-joined : goal.returns-in_err-joined
 returns-in_err-joined c = λ text at.
     let one = c.in_ok-names.ensures.read text at in
-    at_halt c.from_residual-in_err-joined.result c.in_err-joined.field-0.0 _ _ (err_from_is_err_and c.from_residual-in_err-joined.result c.from_residual-in_err-joined.ensures.1)
-    (c.in_err-joined.ensures text one.0 one.1 (inner_names c.in_ok-names.inner) one.3.counted (length-inner_names c.in_ok-names.inner) one.4)
+    let told = c.in_err-joined.ensures text one.0 one.1 (inner_names c.in_ok-names.inner) one.3.counted (length-inner_names c.in_ok-names.inner) one.4 in
+    grind (arith, common_steps)
 
 pub returns-in_err-demands : goal.returns-in_err-demands
 returns-in_err-demands c = λ text at.
     let one = c.in_ok-names.ensures.read text at in
     let ns = inner_names c.in_ok-names.inner in
     let two = c.in_ok-joined.ensures text one.0 one.1 ns one.3.counted (length-inner_names c.in_ok-names.inner) one.4 in
-    at_halt c.from_residual-in_err-demands.result c.in_err-demands.field-0.0 _ _ (err_from_is_err_and c.from_residual-in_err-demands.result c.from_residual-in_err-demands.ensures.1)
-    (c.in_err-demands.ensures text one.0 one.1 ns two.0 one.2.counted two.2)
+    let told = c.in_err-demands.ensures text one.0 one.1 ns two.0 one.2.counted two.2 in
+    grind (arith, common_steps)
 
 pub returns-in_default : goal.returns-in_default
 returns-in_default c = λ text at.
@@ -30,8 +26,7 @@ returns-in_default c = λ text at.
     let ns = inner_names c.in_ok-names.inner in
     let two = c.in_ok-joined.ensures text one.0 one.1 ns one.3.counted (length-inner_names c.in_ok-names.inner) one.4 in
     let three = c.in_ok-demands.ensures text one.0 one.1 ns two.0 one.2.counted two.2 in
-    at_fault three.2
-    c.in_default.ensures.read c.in_default.ensures.counted (λ e. e) (λ line after step. (step.0, step.1))
+    at_fault three.2 c.in_default.ensures.read c.in_default.ensures.counted (λ e. e) (λ line after step. (step.0, step.1))
 
 pub returns-in_default-end : goal.returns-in_default-end
 returns-in_default-end c = λ text at.

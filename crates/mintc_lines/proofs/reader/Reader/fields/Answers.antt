@@ -1,17 +1,10 @@
-use Rattle.std.proofs.Common.{◌≡◌, ◌++◌, ℕ, List, ap, ◌∙◌, sym}
-use Rattle.mintc_text.specs.Lines.{ended, words}
+use Rattle.std.proofs.Common.{◌≡◌, ap, ◌∙◌, sym}
+use Rattle.mintc_text.specs.Lines.{words}
 use Rattle.mintc_lines.specs.Fields.{fields_of}
 use Rattle.mintc_lines.specs.Reading.{Reading}
-use Rattle.mintc_lines.proofs.SharedFieldsLaws.{words-fields, fields-words}
+use Rattle.mintc_lines.proofs.SharedFieldsLaws.{fields-words}
 use Rattle.mintc_lines.proofs.SharedReadingLaws.{one_line, line_free, words_free}
 use Rattle.mintc_lines.proofs.reader.Reader.fields.Goals as goal
-
-pub returns-clause-whole : goal.returns-clause-whole
-returns-clause-whole c =
-    let line = c.in_ok-line.line.now in
-    let seen : c.args.self.now.left ≡ c.self.inside.text = ap (λ (r : Reading). r.left) (sym c.self.view_is) in
-    let same : words c.new.result ≡ line = ap words c.new.ensures ∙ words-fields line in
-    seen ∙ c.in_ok-line.ensures.found ∙ ap (λ (l : List ℕ). ended l ++ c.line.new.self) (sym same)
 
 pub returns-clause-only : goal.returns-clause-only
 returns-clause-only c = λ ws more plain_words e.

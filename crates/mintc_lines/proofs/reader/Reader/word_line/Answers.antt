@@ -1,14 +1,9 @@
 use Rattle.mintc_lines.specs.Fields.{IsWordLine}
-use Rattle.mintc_lines.proofs.SharedReadingLaws.{at_none, none_there, read_there, plain-word_line}
+use Rattle.mintc_lines.proofs.SharedLineLaws.{word_form}
+use Rattle.mintc_lines.proofs.SharedReadingLaws.{read_there}
 use Rattle.mintc_lines.proofs.reader.Reader.word_line.Goals as goal
-
-pub returns-in_err-fields-clause-read : goal.returns-in_err-fields-clause-read
-returns-in_err-fields-clause-read c =
-    at_none c.from_residual.result _ _ c.from_residual.ensures
-    (none_there (IsWordLine c.args.word.now) c.args.self.now.left (plain-word_line c.args.word.now c.requires) c.in_err-fields.ensures.none)
 
 pub returns-clause-read : goal.returns-clause-read
 returns-clause-read c =
     let told = c.in_ok-fields.ensures in
-    read_there (IsWordLine c.args.word.now) (λ x. tt) c.args.self.now.left c.fields.new.self.left c.in_ok-fields.fields c.word_of.result
-    (plain-word_line c.args.word.now c.requires) told.whole told.only c.word_of.ensures
+    read_there (IsWordLine c.args.word.now) (λ x. tt) c.args.self.now.left c.fields.new.self.left c.in_ok-fields.fields c.word_of.result (word_form c.args.word.now c.requires).plain told.whole told.only c.word_of.ensures
