@@ -36,10 +36,8 @@ module _ (t : Timing) (limits : IsDesign t.flat) (cycle : Ratio) (is_cycle : IsC
 
   start_range : (p : ℕ) → IsPhase (phase_count t.flat) p → IsNumerator (value_at values (start_node p))
   start_range p h =
-      let origin = exact.moments.origin in
       let start = met.start p h in
       let back = met.cycle p h in
-      let most = is_cycle.num in
       (omega (arith, ints), omega (arith, ints))
 
   width_low : (p : ℕ) → IsPhase (phase_count t.flat) p → pos 0 ≤ℤ (value_at values (end_node p) -ℤ value_at values (start_node p))
@@ -51,7 +49,6 @@ module _ (t : Timing) (limits : IsDesign t.flat) (cycle : Ratio) (is_cycle : IsC
   width_high : (p : ℕ) → IsPhase (phase_count t.flat) p → (value_at values (end_node p) -ℤ value_at values (start_node p)) ≤ℤ pos 4040000000000
   width_high p h =
       let span = met.span p h in
-      let most = is_cycle.num in
       omega (arith, ints)
 
   departure_range : (l : ℕ) → l < element_count t.flat → (element_at t.flat l).flop ≡ false → IsDeparture (value_at values (element_node t.flat l) -ℤ value_at values (start_node (phase_of t.flat l)))

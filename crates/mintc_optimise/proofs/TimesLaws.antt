@@ -100,10 +100,6 @@ pub schedule_in : (t : Timing) (cycle : Ratio) (values : List ℤ) (den num : �
     IsInRange (record { den = narrow (wide den); cycle = narrow (wide num); starts = starts; widths = widths })
 schedule_in t cycle values den num starts widths limits is den_is num_is starts_are starts_in widths_are widths_in =
     let phases = limits.phases in
-    let positive = is.fraction in
-    let few = is.den in
-    let low = is.low in
-    let most = is.num in
     let den_in : IsDenominator den = rw den_is (omega (arith, ints), omega (arith, ints)) in
     let num_in : IsNumerator num = rw num_is (omega (arith, ints), omega (arith, ints)) in
     let some : length starts ≡ phase_count t.flat = ap length starts_are ∙ length-map-range_with_len (λ p. value_at values (start_node p)) 1 (phase_count t.flat) in

@@ -34,8 +34,6 @@ far_below i j h = omega (arith, ints)
 
 far_not_below : (i j : ℕ) → IsPhase 8 i → IsPhase 8 j → (far_start i -ℤ far_start j -ℤ pos 100000000000) ≤ℤ negsuc 9999999999
 far_not_below i j g h =
-    let high = g.1 in
-    let low = h.0 in
     omega (arith, ints)
 
 equal_from_both : (x y : ℤ) → x ≤ℤ y → y ≤ℤ x → x ≡ y
@@ -57,21 +55,14 @@ module _ (t : Timing) (limits : IsDesign t.flat) (ends : HasEnds t) (all : IsOrd
 
   of_eight : (p : ℕ) → IsPhase (phase_count t.flat) p → IsPhase 8 p
   of_eight p h =
-      let low = h.0 in
-      let high = h.1 in
-      let most = limits.phases.1 in
       (omega arith, omega arith)
 
   start_is : (p : ℕ) → IsPhase (phase_count t.flat) p → start_of s p ≡ far_start p
   start_is p h =
-      let low = h.0 in
-      let high = h.1 in
       get_or-map-range_with_len far_start 1 (phase_count t.flat) (p - 1) p (pos 0) (omega arith) (omega arith)
 
   width_is : (p : ℕ) → IsPhase (phase_count t.flat) p → width_of s p ≡ pos 5000000000
   width_is p h =
-      let low = h.0 in
-      let high = h.1 in
       get_or-map-range_with_len (λ p. pos 5000000000) 1 (phase_count t.flat) (p - 1) p (pos 0) (omega arith) (omega arith)
 
   departure_is : (l : ℕ) → l < element_count t.flat → departure d l ≡ opening t l
@@ -90,8 +81,6 @@ module _ (t : Timing) (limits : IsDesign t.flat) (ends : HasEnds t) (all : IsOrd
       go false latch =
           let is = departure_is-latch l h latch in
           let e = limits.each_element l no_element h in
-          let cq = e.cq_max.1 in
-          let dq = e.dq_max.0 in
           omega (arith, ints)
       go true flop =
           let is = departure_is-flop l h flop in
@@ -124,13 +113,10 @@ module _ (t : Timing) (limits : IsDesign t.flat) (ends : HasEnds t) (all : IsOrd
   opens_first : (l : ℕ) → l < element_count t.flat → latest t s d l ≡ late_opening t.flat s l
   opens_first l h =
       let e = limits.each_element l no_element h in
-      let cq = e.cq_max.0 in
-      let dq = e.dq_max.1 in
       let opens = latest-opens t s d l in
       ⊎_elim (λ (is : latest t s d l ≡ late_opening t.flat s l). is)
       (λ (by : ArrivesBy t s d l (latest t s d l)).
       let low = arrives_low by.0 by.1 in
-      let is = by.3 in
       absurd (omega (arith, ints)))
       (latest-attained t s d l)
 
@@ -202,7 +188,6 @@ module _ (t : Timing) (limits : IsDesign t.flat) (ends : HasEnds t) (all : IsOrd
       (greatest-from_each t s d l (λ a. (a +ℤ (element_at t.flat l).setup *ℤ pos 1) ≤ℤ pos 0)
       (λ a by.
       let low = arrives_low by.0 by.1 in
-      let is = by.3 in
       omega (arith, ints)))
 
   keeps_setup : (l : ℕ) → l < element_count t.flat → (b : Bool) → (element_at t.flat l).flop ≡ b → KeepsSetup t s d l

@@ -13,10 +13,6 @@ use Rattle.mintc_optimise.proofs.chain.pair_delay.Goals as goal
 -- What the code takes away is what the link asks for less the element's delay, and it fits.
 subtracted : (asked dq max : ℤ) → asked ≡ dq +ℤ max → IsDelay dq → IsDelay max → (to_z w64 (of_z w64 asked) -ℤ to_z w64 (of_z w64 dq) ≡ asked -ℤ dq) × SFits w64 (asked -ℤ dq)
 subtracted asked dq max is low high =
-    let a = low.0 in
-    let b = low.1 in
-    let d = high.0 in
-    let e = high.1 in
     let one : to_z w64 (of_z w64 asked) ≡ asked = to_z-of_z w64 asked (omega (arith, ints)) in
     let two : to_z w64 (of_z w64 dq) ≡ dq = to_z-of_z w64 dq (omega (arith, ints)) in
     (rw (one, two) refl, omega (arith, ints))

@@ -21,5 +21,4 @@ pub push-requires : goal.push-requires
 push-requires c =
     let count = ap length c.loop-index.invariant.value in
     let same = length-map-range_with_len (λ p. value_at c.args.values.now (end_node p) -ℤ value_at c.args.values.now (start_node p)) 1 c.loop-index.index in
-    let few = c.phases-index-end.ensures.kept.phases.1 in
     omega arith
