@@ -170,7 +170,6 @@ module _ (t u : Timing) (s : Schedule) (f : List ℤ) (clock : HaveOneClock t.fl
     starts = k.starts;
     widths = k.widths;
     each = λ p low high.
-        let count = clock.phases in
         let here = k.each p low high in
         let other = m.each p low (omega arith) in
         record {

@@ -16,18 +16,17 @@ use Rattle.mintc_timing.specs.Links.{links_of}
 use Rattle.mintc_timing.specs.Order.{IsTiming}
 use Rattle.mintc_constraints.specs.Duality.{departures_of}
 use Rattle.mintc_constraints.specs.Laws.{node_count}
-use Rattle.mintc_constraints.specs.Ordinary.{Constraints, IsOrdinary, constraints_of}
+use Rattle.mintc_constraints.specs.Ordinary.{Constraints, constraints_of}
 use Rattle.mintc_timing.proofs.SharedByKind.{All-links}
 use Rattle.mintc_constraints.proofs.SharedOrdinaryLaws.{each_between}
 use Rattle.mintc_timing.proofs.SharedLinkLaws.{ends_of}
 use Rattle.mintc_certificate.specs.Ranges.{IsDeparture}
 use Rattle.mintc_optimise.proofs.SharedStandingLaws.{of_kind}
 use Rattle.mintc_corners.specs.CornerOptimum.{AreDeparturesInRange}
-use Rattle.mintc_corners.specs.Joined.{HasLowKind, IsLow, departures_after, joined, joined_links, lifted_link, no_timing, own_list, own_values, widest, AreSayableAfter}
-use Rattle.mintc_corners.specs.Joint.{AreCorners, joint_nodes}
+use Rattle.mintc_corners.specs.Joined.{HasLowKind, IsLow, departures_after, joined, lifted_link, no_timing, own_list, own_values, widest, AreSayableAfter}
+use Rattle.mintc_corners.specs.Joint.{joint_nodes}
 use Rattle.mintc_corners.specs.Laws.{AreSystems}
 use Rattle.mintc_corners.proofs.LiftLaws.{system_at}
-use Rattle.mintc_corners.proofs.PlaceLaws.{count_is, joined_ordinary}
 use Rattle.mintc_corners.proofs.ValuesLaws.{counts_are}
 
 -- the greatest least width
@@ -96,7 +95,6 @@ module _ (ts : List Timing) (i : ℕ) (t : Timing) (below : i < length ts) (is :
 pub in_range_more : (t : Timing) (ds own : List ℤ) (all new : List (List ℤ)) → IsDesign t.flat → All AreDeparturesInRange all → All IsDeparture ds → ds ≡ departures_of t.flat own → new ≡ all ++ ds ∷ [] → All AreDeparturesInRange new
 in_range_more t ds own all new limits before here is step =
     let count = ap length is ∙ counts_are t own in
-    let few = limits.elements in
     rw step (All-push AreDeparturesInRange all ds before (record { count = omega arith; each = here }))
 
 -- Each link of a corner has few nodes and elements.
@@ -107,10 +105,6 @@ module _ (t : Timing) (limits : IsDesign t.flat) (kept : IsTiming t.flat t.order
   low_kind k (kind.Reach j l) is listed =
       let h = of_kind t limits k (kind.Reach j l) is listed in
       let ends = kept.extremes.each h.0 no_pair h.1 in
-      let from = ends.from in
-      let to = ends.to in
-      let one = h.2 in
-      let two = h.3 in
       let few = limits.elements in
       (omega arith, omega arith)
   low_kind k (kind.Setup l) is listed = let h = (of_kind t limits k (kind.Setup l) is listed).member in let few = limits.elements in omega arith
@@ -122,8 +116,6 @@ module _ (t : Timing) (limits : IsDesign t.flat) (kept : IsTiming t.flat t.order
       let between = All-links t (λ x. (x.from < node_count t.flat) × (x.to < node_count t.flat)) (each_between t limits (ends_of t kept.extremes)) e d h in
       let from = between.0 in
       let to = between.1 in
-      let few = limits.elements in
-      let phases = limits.phases.1 in
       record { from = omega arith; to = omega arith; kind = low_kind k k.kind refl (e, h, get_or_default (links_of t) e k d h) }
 
 module _ (systems : List Timing) (lists : List Constraints) (are : lists ≡ map own_list systems) (c : ℕ) (list : Constraints) (below : c < length systems) (is : list ≡ get_or lists c list) where
@@ -134,12 +126,6 @@ module _ (systems : List Timing) (lists : List Constraints) (are : lists ≡ map
   low_at items kept items_are =
       let here = system_at systems c no_timing kept below in
       rw (items_are, list_at no_timing) (low_links (get_or systems c no_timing) here.0 here.1)
-
--- the joint links are ordinary
-pub ordinary_of : (systems : List Timing) → 1 ≤ length systems → length systems ≤ 4 → AreCorners systems → AreSystems systems → length (flat_map (λ (u : Timing). u.flat.elements) systems) ≤ 2000 →
-    IsOrdinary (constraints_of (joint_nodes systems) (joined_links systems))
-ordinary_of [] some few are kept elements = absurd (omega arith)
-ordinary_of (t ∷ ts) some few are kept elements = let count = count_is t ts in joined_ordinary t ts are kept (omega arith) (omega arith)
 
 pub joined_done : (ts : List Timing) (i : ℕ) (wide : ℕ → ℤ) (clock before : ℕ) (items all : List Link) → length ts ≤ i → items ++ joined wide clock before (drop i ts) ≡ all → items ≡ all
 joined_done ts i wide clock before items all past h =

@@ -115,7 +115,6 @@ pub sayable_of_all : (t : Timing) (ts : List Timing) (values : List ℤ) → Are
 sayable_of_all t ts values besides systems few h =
     let big = side_by_side t ts in
     let phases = phases_are t ts in
-    let count = h.count in
     sayable_in_turn values t ts (2 * phase_count t.flat) 0 refl besides systems (omega arith) (omega arith)
     (record {
       starts = h.starts;
@@ -130,5 +129,4 @@ pub first_schedule : (systems : List Timing) (t : Timing) (clock count : ℕ) (n
     AreSayableOfAll systems values → own ≡ own_values clock 0 count values → schedule_of t.flat num den own ≡ schedule_of (get_or systems 0 no_timing).flat num den values
 first_schedule [] t clock count num den values own some is clock_is count_is h own_is = absurd (omega arith)
 first_schedule (u ∷ ts) t clock count num den values own some is clock_is count_is h own_is =
-    let inside = h.0.inside in
     rw (own_is, clock_is, count_is, is) (own_schedule u 0 (element_count u.flat) num den values (omega arith))

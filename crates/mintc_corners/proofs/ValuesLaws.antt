@@ -102,7 +102,6 @@ module _ (values : List ℤ) where
   all_depart t (u ∷ ts) clock before is besides systems inside =
       let v = side_by_side u ts in
       let all = length-append t.flat.elements v.flat.elements in
-      let same = besides.1.phases in
       let phases = phases_are u ts in
       both_depart t v (departures_of t.flat (own_values clock before (element_count t.flat) values)) (flat_map (λ (d : List ℤ). d) (departures_after clock (before + element_count t.flat) (u ∷ ts) values)) clock before
       (own_departs t (u ∷ ts) clock before is systems (omega arith))
