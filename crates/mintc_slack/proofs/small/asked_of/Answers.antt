@@ -6,5 +6,4 @@ use Rattle.mintc_slack.proofs.small.asked_of.Goals as goal
 pub returns-clause-small : goal.returns-clause-small
 returns-clause-small c =
     let small = asked-small c.args.at.now c.args.link.now c.requires.cycle c.requires.delay c.requires.cycles in
-    let is = c.asked.ensures in
     (omega (arith, ints), omega (arith, ints))
