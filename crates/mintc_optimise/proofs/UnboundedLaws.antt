@@ -36,9 +36,6 @@ far_not_below : (i j : ℕ) → IsPhase 8 i → IsPhase 8 j → (far_start i -�
 far_not_below i j g h =
     omega (arith, ints)
 
-equal_from_both : (x y : ℤ) → x ≤ℤ y → y ≤ℤ x → x ≡ y
-equal_from_both x y g h = omega (arith, ints)
-
 -- A latch's data departs when it opens, a flop's at the start of its phase.
 abbrev opening : Timing → ℕ → ℤ
 opening t l = cond (element_at t.flat l).flop (pos 0) ((element_at t.flat l).cq_max -ℤ (element_at t.flat l).dq_max)
@@ -75,16 +72,13 @@ module _ (t : Timing) (limits : IsDesign t.flat) (ends : HasEnds t) (all : IsOrd
   departure_is-flop l h flop = departure_is l h ∙ ap (λ (b : Bool). cond b (pos 0) ((element_at t.flat l).cq_max -ℤ (element_at t.flat l).dq_max)) flop
 
   departure_at_most : (l : ℕ) → l < element_count t.flat → departure d l ≤ℤ pos 1000000000
-  departure_at_most l h = go (element_at t.flat l).flop refl
+  departure_at_most l h =
+      let e = limits.each_element l no_element h in
+      rw (departure_is l h) (low (element_at t.flat l).flop ((element_at t.flat l).cq_max -ℤ (element_at t.flat l).dq_max) (omega (arith, ints, e.cq_max, e.dq_max)))
     where
-      go : (b : Bool) → (element_at t.flat l).flop ≡ b → departure d l ≤ℤ pos 1000000000
-      go false latch =
-          let is = departure_is-latch l h latch in
-          let e = limits.each_element l no_element h in
-          omega (arith, ints)
-      go true flop =
-          let is = departure_is-flop l h flop in
-          omega (arith, ints)
+      low : (b : Bool) (x : ℤ) → x ≤ℤ pos 1000000000 → cond b (pos 0) x ≤ℤ pos 1000000000
+      low true x h = omega (arith, ints)
+      low false x h = h
 
   shift_low : (i j : ℕ) → IsPhase (phase_count t.flat) i → IsPhase (phase_count t.flat) j → shift_of s i j ≤ℤ negsuc 9999999999
   shift_low i j g h =
@@ -174,25 +168,19 @@ module _ (t : Timing) (limits : IsDesign t.flat) (ends : HasEnds t) (all : IsOrd
   }
 
   -- the setups
-  keeps_setup-latch : (l : ℕ) → l < element_count t.flat → (element_at t.flat l).flop ≡ false → KeepsSetup t s d l
-  keeps_setup-latch l h latch =
+  keeps_setup : (l : ℕ) → l < element_count t.flat → (b : Bool) → (element_at t.flat l).flop ≡ b → KeepsSetup t s d l
+  keeps_setup l h false latch =
       let departs = departure_at_most l h in
       let width = width_is (phase_of t.flat l) (phase_is l h) in
-      let setup = (limits.each_element l no_element h).setup.1 in
+      let setup = (limits.each_element l no_element h).setup in
       (KeepsSetup-latch t s d l latch).1 (omega (arith, ints, clamps))
-
-  keeps_setup-flop : (l : ℕ) → l < element_count t.flat → (element_at t.flat l).flop ≡ true → KeepsSetup t s d l
-  keeps_setup-flop l h flop =
-      let setup = (limits.each_element l no_element h).setup.1 in
+  keeps_setup l h true flop =
+      let setup = (limits.each_element l no_element h).setup in
       rw flop
       (greatest-from_each t s d l (λ a. (a +ℤ (element_at t.flat l).setup *ℤ pos 1) ≤ℤ pos 0)
       (λ a by.
       let low = arrives_low by.0 by.1 in
       omega (arith, ints)))
-
-  keeps_setup : (l : ℕ) → l < element_count t.flat → (b : Bool) → (element_at t.flat l).flop ≡ b → KeepsSetup t s d l
-  keeps_setup l h false latch = keeps_setup-latch l h latch
-  keeps_setup l h true flop = keeps_setup-flop l h flop
 
   pub far_is_right : t.flat.bounds ≡ [] → IsRight t s d
   far_is_right none = record {
