@@ -1,16 +1,15 @@
 -- The member that stands for a safe link, by the link's kind.
-use Rattle.std.proofs.Common.{◌≡◌, ℕ, ◌+◌, ◌*◌, ◌<◌, ℤ, true, List, length, get_or, arith, refl, ap, sym, subst}
+use Rattle.std.proofs.Common.{◌≡◌, ℕ, ◌+◌, ◌*◌, ◌<◌, ℤ, true, List, length, get_or, arith, refl, ap, subst}
 use Rattle.std.specs.List.{All, Contains}
 use Rattle.std.proofs.lemmas.List.Elements.{All-append, All-contains, All-contains_itself}
 use Rattle.mintc_timing.specs.declared.link.Link.{Link}
 use Rattle.mintc_timing.specs.declared.link.LinkKind.{LinkKind}
 use Rattle.mintc_timing.specs.declared.link.LinkKind.TheVariants as kind
-use Rattle.mintc_timing.specs.declared.parts.Pair.{Pair}
 use Rattle.mintc_timing.specs.Design.{Timing, element_at, pair_at, no_pair}
 use Rattle.mintc_timing.specs.Limits.{IsDesign}
 use Rattle.mintc_timing.specs.Links.{links_of}
 use Rattle.mintc_timing.specs.Order.{IsTiming}
-use Rattle.mintc_timing.specs.Paths.{HasExtremes, IsPath, IsLeastDelay, input_of, least_delay}
+use Rattle.mintc_timing.specs.Paths.{IsPath, input_of, least_delay}
 use Rattle.mintc_certificate.specs.declared.members.Member.{Member}
 use Rattle.mintc_certificate.specs.declared.members.Member.TheVariants as member
 use Rattle.mintc_certificate.specs.Valid.{link_of}
@@ -58,26 +57,15 @@ module _ (t : Timing) (limits : IsDesign t.flat) where
     plain_stands k m listed h = record { member = (h.member, is_slowest k m listed h.same); same = ap bare h.same; counted = h.counted }
 
     -- The member for the hold of a pair, with a path that has the pair's least delay.
-    pub hold_stands : (n : ℕ) (p : Pair) (path : List ℕ) → n < length t.pairs → (element_at t.flat (pair_at t n).to).has_hold ≡ true → p ≡ pair_at t n →
-        IsPath t.flat.arcs p.from path (input_of p.to) → least_delay t.flat.arcs path ≡ p.min → StandsFor t (hold_link_of t.flat (n, pair_at t n)) (Hold p.from p.to path)
-    hold_stands n p path h held is is_path summed = subst (λ (q : Pair). StandsFor t (hold_link_of t.flat (n, q)) (Hold p.from p.to path)) is stands
-      where
-        ends : HasExtremes t.flat p
-        ends = subst (λ (q : Pair). HasExtremes t.flat q) (sym is) (kept.extremes.each n no_pair h)
-
-        stands : StandsFor t (hold_link_of t.flat (n, p)) (Hold p.from p.to path)
-        stands =
-            let from = ends.from in
-            let to = ends.to in
-            let short = path_short t.flat.arcs t.order kept.ordered (2 * p.from + 1) path (2 * p.to) is_path.1 in
-            record {
-              member = (
-                from,
-                to,
-                subst (λ (q : Pair). (element_at t.flat q.to).has_hold ≡ true) (sym is) held,
-                is_path,
-                subst (λ (x : ℤ). IsLeastDelay t.flat.arcs p.from (input_of p.to) x) (sym summed) ends.least,
-              );
-              same = ap (λ (x : ℤ). bare (hold_link t.flat 0 p.from p.to x)) summed;
-              counted = (omega arith, omega arith, omega arith, is_path.0, arcs_below t.flat.arcs (2 * p.from + 1) path (2 * p.to) 999999999 (omega arith) is_path.1);
-            }
+    pub hold_stands : (n : ℕ) (path : List ℕ) → n < length t.pairs → (element_at t.flat (pair_at t n).to).has_hold ≡ true → IsPath t.flat.arcs (pair_at t n).from path (input_of (pair_at t n).to) →
+        least_delay t.flat.arcs path ≡ (pair_at t n).min → StandsFor t (hold_link_of t.flat (n, pair_at t n)) (Hold (pair_at t n).from (pair_at t n).to path)
+    hold_stands n path h held is_path summed =
+        let p = pair_at t n in
+        let ends = kept.extremes.each n no_pair h in
+        let count = kept.ordered.count in
+        let short = path_short t.flat.arcs t.order kept.ordered (2 * p.from + 1) path (2 * p.to) is_path.1 in
+        record {
+          member = (ends.from, ends.to, held, is_path, rw summed ends.least);
+          same = ap (λ (x : ℤ). bare (hold_link t.flat 0 p.from p.to x)) summed;
+          counted = (omega arith, omega arith, omega arith, is_path.0, arcs_below t.flat.arcs (2 * p.from + 1) path (2 * p.to) 999999999 (omega arith) is_path.1);
+        }
