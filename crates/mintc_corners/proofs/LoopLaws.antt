@@ -2,7 +2,6 @@
 use Rattle.std.proofs.Common.{◌≡◌, ℕ, ◌<◌, ◌≤◌, ◌+◌, ◌*◌, ℤ, pos, ◌≤ℤ◌, List, [], ◌∷◌, ◌++◌, length, get_or, map, take, drop, arith, refl, ap, ◌∙◌, sym, subst, append_assoc, length-append}
 use Rattle.std.specs.List.{All, Contains, flat_map}
 use Rattle.std.specs.Int.{int_max}
-use Rattle.std.proofs.lemmas.Grind.{flat_map-append}
 use Rattle.std.proofs.Math.ListN.{drop_of_length-le}
 use Rattle.std.proofs.lemmas.Int.{ints, clamps}
 use Rattle.std.proofs.lemmas.List.{append-nil, at_drop_more, get_or-map, get_or_default, map-append, take_more}
@@ -36,12 +35,6 @@ widest_low (t ∷ ts) p = let rest = widest_low ts p in omega (arith, ints, clam
 
 pub widest_begun : (ts : List Timing) (p : ℕ) → int_max (pos 0) (widest ts p) ≡ widest ts p
 widest_begun ts p = let low = widest_low ts p in omega (arith, ints, clamps)
-
-pub widest_done : (ts : List Timing) (i p : ℕ) (width : ℤ) → length ts ≤ i → pos 0 ≤ℤ width → int_max width (widest (drop i ts) p) ≡ widest ts p → width ≡ widest ts p
-widest_done ts i p width past low h =
-    let here = ap (λ (us : List Timing). int_max width (widest us p)) (drop_of_length-le ts past) in
-    let most : int_max width (pos 0) ≡ width = omega (arith, ints, clamps) in
-    sym most ∙ sym here ∙ h
 
 -- the lists of the corners
 made_list : (list : Constraints) (t : Timing) → list.nodes ≡ node_count t.flat → list.links ≡ links_of t → list ≡ own_list t
@@ -140,13 +133,3 @@ pub nodes_of : (systems : List Timing) (t : Timing) (clock before : ℕ) → 1 �
     1 + clock + before ≡ joint_nodes systems
 nodes_of [] t clock before some is clock_is before_is = absurd (omega arith)
 nodes_of (u ∷ ts) t clock before some is clock_is before_is = let same = ap (λ (x : Timing). phase_count x.flat) is in omega arith
-
--- how many links the lists up to one have
-pub links_more : (lists : List Constraints) (i : ℕ) (list : Constraints) → i < length lists → list ≡ get_or lists i list →
-    length (flat_map (λ (l : Constraints). l.links) (take (i + 1) lists)) ≡ length (flat_map (λ (l : Constraints). l.links) (take i lists)) + length list.links
-links_more lists i list below is =
-    let taken = ap (λ (ls : List Constraints). length (flat_map (λ (l : Constraints). l.links) ls)) (take_more lists i list below ∙ ap (λ (l : Constraints). take i lists ++ l ∷ []) (sym is)) in
-    let parts = ap (λ (ks : List Link). length ks) (flat_map-append (λ (l : Constraints). l.links) (take i lists) (list ∷ [])) in
-    let sum = length-append (flat_map (λ (l : Constraints). l.links) (take i lists)) (list.links ++ []) in
-    let own = ap (λ (ks : List Link). length ks) (append-nil list.links) in
-    omega arith

@@ -1,7 +1,7 @@
 -- What two timings side by side have: elements, pairs, and what these ask of the clock.
-use Rattle.std.proofs.Common.{◌≡◌, ℕ, ◌<◌, ◌+◌, ◌==◌, ◌&&◌, ◌||◌, not, ℤ, pos, Bool, true, List, [], ◌∷◌, ◌++◌, length, map, arith, refl, ap, ◌∙◌, sym, ◌⊎◌, Option, Some, None}
+use Rattle.std.proofs.Common.{◌≡◌, ℕ, ◌<◌, ◌≤◌, ◌+◌, ◌-◌, ◌==◌, ◌&&◌, ◌||◌, not, ℤ, pos, Bool, true, List, [], ◌∷◌, ◌++◌, length, map, arith, refl, ap, ◌∙◌, sym, subst, ◌⊎◌, ⊎_elim, length-append, Option, Some, None}
 use Rattle.std.proofs.Math.ListN.{get_or-append}
-use Rattle.std.proofs.lemmas.Bool.{or_cases, or_left, or_right}
+use Rattle.std.proofs.lemmas.Bool.{cases_lt, or_cases, or_left, or_right}
 use Rattle.std.proofs.lemmas.Int.{ints, clamps}
 use Rattle.std.proofs.lemmas.List.{get_or-append-add, get_or-map, map-append}
 use Rattle.std.proofs.lemmas.List.Elements.{All-head, All-tail, filter-append}
@@ -58,6 +58,15 @@ module _ (t u : Timing) where
       (ap (map (λ (x : Element). x.width)) (filter-append (λ (x : Element). x.phase == p) t.flat.elements u.flat.elements)
       ∙ map-append (λ (x : Element). x.width) (filter (λ (x : Element). x.phase == p) t.flat.elements) (filter (λ (x : Element). x.phase == p) u.flat.elements))
       ∙ top-append (map (λ (x : Element). x.width) (filter (λ (x : Element). x.phase == p) t.flat.elements)) (map (λ (x : Element). x.width) (filter (λ (x : Element). x.phase == p) u.flat.elements))
+
+  -- what holds of each element of the one and of the other, holds of each
+  pub each-element : (P : ℕ → Type 0) → ((l : ℕ) → l < n → P l) → ((l : ℕ) → l < element_count u.flat → P (n + l)) → (l : ℕ) → l < element_count b.flat → P l
+  each-element P left right l h = ⊎_elim (λ (low : l < n). left l low)
+      (λ (high : n ≤ l).
+      let all = length-append t.flat.elements u.flat.elements in
+      let is : n + (l - n) ≡ l = omega arith in
+      subst P is (right (l - n) (omega arith)))
+      (cases_lt l n)
 
   module _ (ends : HasEnds t) where
     abbrev HasEnd : Pair → Type 0
