@@ -1,5 +1,5 @@
 -- Raised pairs and the room that is left for them.
-use Rattle.std.proofs.Common.{◌≡◌, ℕ, ◌<◌, ℤ, pos, negsuc, ◌≤ℤ◌, ◌<ℤ◌, ◌+ℤ◌, ◌-ℤ◌, ◌*ℤ◌, Bool, true, false, cond, List, [], ◌∷◌, length, get_or, arith, refl, ap, ◌∙◌, sym, subst, ⊎_elim, ◌⊎◌, inl, inr}
+use Rattle.std.proofs.Common.{◌≡◌, ℕ, zero, suc, ◌<◌, ℤ, pos, negsuc, ◌≤ℤ◌, ◌<ℤ◌, ◌+ℤ◌, ◌-ℤ◌, ◌*ℤ◌, Bool, true, false, cond, List, [], ◌∷◌, length, get_or, arith, refl, ap, sym, subst, ⊎_elim, ◌⊎◌, inl, inr}
 use Rattle.std.proofs.lemmas.Int.{ints, by_lt_z}
 use Rattle.std.proofs.Math.IntN.{*ℤ_comm}
 use Rattle.std.specs.List.{All}
@@ -14,7 +14,7 @@ use Rattle.mintc_timing.specs.Limits.{IsDesign}
 use Rattle.mintc_timing.specs.Links.{links_of, delay_of, cycles_of, element_node, output_node, reach_link, start_node, IsMet}
 use Rattle.mintc_timing.specs.Right.{IsRight, IsLeastCycle, IsHopeless}
 use Rattle.mintc_timing.proofs.SharedDeterminedLaws.{least_cycle_is_determined_lem}
-use Rattle.mintc_timing.proofs.SharedProducts.{add-times, swap-times, times-mono, times-mono_positive}
+use Rattle.mintc_timing.proofs.SharedProducts.{add-times, swap-times, times-mono_positive}
 use Rattle.mintc_constraints.specs.Duality.{moments_of}
 use Rattle.mintc_timing.specs.Paths.{HasEnds}
 use Rattle.mintc_constraints.specs.Laws.{node_count}
@@ -35,20 +35,6 @@ cycles_low : (ks : List Link) → pos 0 ≤ℤ cycles_of ks
 cycles_low [] = omega (arith, ints)
 cycles_low (k ∷ ks) = let rest = cycles_low ks in omega (arith, ints)
 
--- A chain that asks for more than its cycles at num / den, and not at a / b, says that num / den is less.
-cross-below : (delay cycles num den a b : ℤ) → pos 1 ≤ℤ den → pos 1 ≤ℤ b → pos 0 ≤ℤ cycles → (cycles *ℤ num) <ℤ (delay *ℤ den) → (delay *ℤ b) ≤ℤ (cycles *ℤ a) → (num *ℤ b) <ℤ (a *ℤ den)
-cross-below delay (negsuc c) num den a b some some' low over fits = absurd (omega (arith, ints))
-cross-below delay (pos c) num den a b some some' low over fits = by_lt_z (num *ℤ b) (a *ℤ den) (λ h. h)
-    (λ less.
-    let scaled = times-mono (a *ℤ den) (num *ℤ b) c less in
-    let left : (a *ℤ den) *ℤ pos c ≡ (pos c *ℤ a) *ℤ den = swap-times a den (pos c) ∙ ap (λ (x : ℤ). x *ℤ den) (*ℤ_comm a (pos c)) in
-    let right : (num *ℤ b) *ℤ pos c ≡ (pos c *ℤ num) *ℤ b = swap-times num b (pos c) ∙ ap (λ (x : ℤ). x *ℤ b) (*ℤ_comm num (pos c)) in
-    let fits' = times-mono_positive (delay *ℤ b) (pos c *ℤ a) den fits some in
-    let over' = times-mono_positive ((pos c *ℤ num) +ℤ pos 1) (delay *ℤ den) b (omega (arith, ints)) some' in
-    let split = add-times (pos c *ℤ num) (pos 1) b in
-    let same = swap-times delay b den in
-    absurd (omega (arith, ints)))
-
 at-most : {x y : ℤ} → x ≡ y → x ≤ℤ y
 at-most h = omega (arith, ints)
 
@@ -61,6 +47,15 @@ below-most num den s d a b some some' some'' less most = by_lt_z (num *ℤ b) (a
     let grown'' = times-mono_positive (s *ℤ b) (a *ℤ d) den most some in
     let split = add-times (num *ℤ d) (pos 1) b in
     absurd (omega (arith, ints, swap-times a den d, swap-times s den b, swap-times num b d)))
+
+-- A chain that asks for more than its cycles at num / den, and not at a / b, says that num / den is less.
+cross-below : (delay cycles num den a b : ℤ) → pos 1 ≤ℤ den → pos 1 ≤ℤ b → pos 0 ≤ℤ cycles → (cycles *ℤ num) <ℤ (delay *ℤ den) → (delay *ℤ b) ≤ℤ (cycles *ℤ a) → (num *ℤ b) <ℤ (a *ℤ den)
+cross-below delay (negsuc c) num den a b some some' low over fits = absurd (omega (arith, ints))
+cross-below delay (pos zero) num den a b some some' low over fits = by_lt_z (pos 0) delay
+    (λ more. let grown = times-mono_positive (pos 1) delay b (omega (arith, ints)) some' in absurd (omega (arith, ints)))
+    (λ none. let grown = times-mono_positive delay (pos 0) den none some in absurd (omega (arith, ints)))
+cross-below delay (pos (suc c)) num den a b some some' low over fits =
+    below-most num den delay (pos (suc c)) a b some (omega (arith, ints)) some' (rw (*ℤ_comm num (pos (suc c))) over) (rw (*ℤ_comm a (pos (suc c))) fits)
 
 module _ (t : Timing) (limits : IsDesign t.flat) (ends : HasEnds t) (n : ℕ) (below : n < length t.pairs) where
   raised-ends : (u : ℤ) → HasEnds (raised t n u)
