@@ -53,8 +53,7 @@ module _ (ts : List Timing) (i : ℕ) (t : Timing) (below : i < length ts) (is :
 
   pub lists_more : (lists new : List Constraints) (list : Constraints) → lists ≡ map own_list (take i ts) → list.nodes ≡ node_count t.flat → list.links ≡ links_of t → new ≡ lists ++ list ∷ [] → new ≡ map own_list (take (i + 1) ts)
   lists_more lists new list before nodes links step =
-      step ∙ ap (λ (xs : List Constraints). xs ++ list ∷ []) before ∙ ap (λ (x : Constraints). map own_list (take i ts) ++ x ∷ []) (made_list list t nodes links)
-      ∙ sym (map-append own_list (take i ts) (t ∷ [])) ∙ sym (ap (map own_list) taken)
+      rw (step, before, taken, map-append own_list (take i ts) (t ∷ [])) (ap (λ (x : Constraints). map own_list (take i ts) ++ x ∷ []) (made_list list t nodes links))
 
   pub systems_taken : AreSystems (take i ts) → IsDesign t.flat → IsTiming t.flat t.order t.pairs → AreSystems (take (i + 1) ts)
   systems_taken h design kept = subst AreSystems (sym taken) (systems_more (take i ts) t h design kept)
@@ -62,9 +61,7 @@ module _ (ts : List Timing) (i : ℕ) (t : Timing) (below : i < length ts) (is :
   pub joined_more : (wide : ℕ → ℤ) (clock before : ℕ) (items new all : List Link) → items ++ joined wide clock before (drop i ts) ≡ all → new ≡ items ++ map (lifted_link wide clock before) (links_of t) →
       new ++ joined wide clock (before + element_count t.flat) (drop (i + 1) ts) ≡ all
   joined_more wide clock before items new all h step =
-      ap (λ (ks : List Link). ks ++ joined wide clock (before + element_count t.flat) (drop (i + 1) ts)) step
-      ∙ append_assoc items (map (lifted_link wide clock before) (links_of t)) (joined wide clock (before + element_count t.flat) (drop (i + 1) ts))
-      ∙ sym (left (λ us. items ++ joined wide clock before us)) ∙ h
+      rw (step, append_assoc items (map (lifted_link wide clock before) (links_of t)) (joined wide clock (before + element_count t.flat) (drop (i + 1) ts))) (rw (left (joined wide clock before)) at h)
 
   pub elements_more : (before all : ℕ) → before + length (flat_map (λ (u : Timing). u.flat.elements) (drop i ts)) ≡ all →
       (before + element_count t.flat) + length (flat_map (λ (u : Timing). u.flat.elements) (drop (i + 1) ts)) ≡ all
@@ -79,11 +76,7 @@ module _ (ts : List Timing) (i : ℕ) (t : Timing) (below : i < length ts) (is :
   pub departures_more : (clock before : ℕ) (values ds : List ℤ) (all new whole : List (List ℤ)) → all ++ departures_after clock before (drop i ts) values ≡ whole →
       ds ≡ departures_of t.flat (own_values clock before (element_count t.flat) values) → new ≡ all ++ ds ∷ [] → new ++ departures_after clock (before + element_count t.flat) (drop (i + 1) ts) values ≡ whole
   departures_more clock before values ds all new whole h is step =
-      let rest = departures_after clock (before + element_count t.flat) (drop (i + 1) ts) values in
-      ap (λ (xs : List (List ℤ)). xs ++ rest) step
-      ∙ append_assoc all (ds ∷ []) rest
-      ∙ ap (λ (d : List ℤ). all ++ d ∷ rest) is
-      ∙ sym (left (λ us. all ++ departures_after clock before us values)) ∙ h
+      rw (step, append_assoc all (ds ∷ []) (departures_after clock (before + element_count t.flat) (drop (i + 1) ts) values), is) (rw (left (λ us. departures_after clock before us values)) at h)
 
 pub in_range_more : (t : Timing) (ds own : List ℤ) (all new : List (List ℤ)) → IsDesign t.flat → All AreDeparturesInRange all → All IsDeparture ds → ds ≡ departures_of t.flat own → new ≡ all ++ ds ∷ [] → All AreDeparturesInRange new
 in_range_more t ds own all new limits before here is step =
