@@ -122,17 +122,10 @@ module _ (t u : Timing) (s : Schedule) (f : List ℤ) (clock : HaveOneClock t.fl
 
   arrivals-left : (l : ℕ) → l < n → late_arrivals b s f l ≡ late_arrivals t s d l
   arrivals-left l h =
-      ap (map (late_arrival b.flat s f))
-      (filter-append (λ (p : Pair). p.to == l) t.pairs (map (shifted_pair n) u.pairs)
-      ∙ ap (λ (ps : List Pair). filter (λ (p : Pair). p.to == l) t.pairs ++ ps) (none-right l h u.pairs) ∙ append-nil (filter (λ (p : Pair). p.to == l) t.pairs))
-      ∙ some-left l t.pairs ends
+      rw (filter-append (λ (p : Pair). p.to == l) t.pairs (map (shifted_pair n) u.pairs), none-right l h u.pairs, append-nil (filter (λ (p : Pair). p.to == l) t.pairs)) (some-left l t.pairs ends)
 
   arrivals-right : (l : ℕ) → late_arrivals b s f (n + l) ≡ late_arrivals u s e l
-  arrivals-right l =
-      ap (map (late_arrival b.flat s f))
-      (filter-append (λ (p : Pair). p.to == n + l) t.pairs (map (shifted_pair n) u.pairs)
-      ∙ ap (λ (ps : List Pair). ps ++ filter (λ (p : Pair). p.to == n + l) (map (shifted_pair n) u.pairs)) (none-left l t.pairs ends))
-      ∙ some-right l u.pairs
+  arrivals-right l = rw (filter-append (λ (p : Pair). p.to == n + l) t.pairs (map (shifted_pair n) u.pairs), none-left l t.pairs ends) (some-right l u.pairs)
 
   -- so each element asks the same in both
   timed-left : (l : ℕ) → l < n → timed b s f l ≡ timed t s d l

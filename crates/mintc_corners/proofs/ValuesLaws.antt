@@ -67,9 +67,7 @@ module _ (values : List ℤ) where
             let start = own_clock clock before (element_count t.flat) values inside (start_node (phase_of t.flat l)) (omega arith) in
             let at : element_node t.flat l ≡ 1 + clock + l = omega arith in
             let moment = ap (λ (x : ℕ). value_at own x) at ∙ own_element clock before (element_count t.flat) values inside l h in
-            get_or-map-range_with_len (departure_of t.flat own) 0 (element_count t.flat) l l (pos 0) h (omega arith)
-            ∙ ap (λ (x : ℤ). cond (element_at t.flat l).flop (pos 0) (x -ℤ value_at own (start_node (phase_of t.flat l)))) moment
-            ∙ ap (λ (x : ℤ). cond (element_at t.flat l).flop (pos 0) (value_at values (1 + clock + before + l) -ℤ x)) start;
+            rw (get_or-map-range_with_len (departure_of t.flat own) 0 (element_count t.flat) l l (pos 0) h (omega arith), moment, start) refl;
       }
 
   both_depart : (t v : Timing) (ds es : List ℤ) (clock before : ℕ) → AreAll ds clock before t values → AreAll es clock (before + element_count t.flat) v values → AreAll (ds ++ es) clock before (beside t v) values
