@@ -47,14 +47,9 @@ module _ (systems : List Timing) (lists : List Constraints) (are : lists ≡ map
   -- the joint link of the number is the corner's link, numbered among all
   link_is : link_at (joined_links systems) number ≡ lifted_link (widest systems) (clock_count systems) (elements_before systems c) (get_or items i d)
   link_is =
-      let at = sym place.same ∙ ap (λ (xs : List Constraints). length (flat_map (λ (l : Constraints). l.links) (take c xs)) + i) are in
       let few : i < length (links_of (get_or systems c t)) = rw (sym t_is, sym items_own) inside in
-      ap (link_at (joined_links systems)) at
-      ∙ joined_at (widest systems) (clock_count systems) 0 systems c i t no_link below few
-      ∙ ap (λ (n : ℕ). lifted_link (widest systems) (clock_count systems) n (get_or (links_of (get_or systems c t)) i no_link)) (zero-add (elements_before systems c))
-      ∙ ap (λ (u : Timing). lifted_link (widest systems) (clock_count systems) (elements_before systems c) (get_or (links_of u) i no_link)) (sym t_is)
-      ∙ ap (λ (ks : List Link). lifted_link (widest systems) (clock_count systems) (elements_before systems c) (get_or ks i no_link)) (sym items_own)
-      ∙ ap (lifted_link (widest systems) (clock_count systems) (elements_before systems c)) (get_or_default items i no_link d inside)
+      let found = joined_at (widest systems) (clock_count systems) 0 systems c i t no_link below few in
+      rw (← place.same, are) (rw (zero-add (elements_before systems c), ← t_is, ← items_own, get_or_default items i no_link d inside) at found)
 
   -- so the member that stands for that one stands for it
   pub standing : length systems ≤ 4 → AreCorners systems → length (flat_map (λ (u : Timing). u.flat.elements) systems) ≤ 2000 → AreSystems systems → (m : Member) (n : ℕ) → n ≡ corner_number c m →

@@ -35,10 +35,7 @@ read_number x h = ap narrow (read_wide x (omega (arith, ints), omega (arith, int
 
 wide_difference : (a b : ℤ) → IsNumerator b → IsTime (a -ℤ b) → wide (wide a -ℤ wide b) ≡ a -ℤ b
 wide_difference a b h k =
-    let first = read_wide a (omega (arith, ints), omega (arith, ints)) in
-    let second = read_wide b (omega (arith, ints), omega (arith, ints)) in
-    let both : wide a -ℤ wide b ≡ a -ℤ b = ap (λ (x : ℤ). x -ℤ wide b) first ∙ ap (λ (x : ℤ). a -ℤ x) second in
-    ap wide both ∙ read_wide (a -ℤ b) (omega (arith, ints), omega (arith, ints))
+    rw (read_wide a (omega (arith, ints), omega (arith, ints)), read_wide b (omega (arith, ints), omega (arith, ints))) (read_wide (a -ℤ b) (omega (arith, ints), omega (arith, ints)))
 
 pub read_difference : (a b : ℤ) → IsNumerator b → IsTime (a -ℤ b) → narrow (wide (wide a -ℤ wide b)) ≡ a -ℤ b
 read_difference a b h k = ap narrow (wide_difference a b h k) ∙ read_time (a -ℤ b) k

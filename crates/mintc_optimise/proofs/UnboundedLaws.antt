@@ -33,8 +33,7 @@ far_below : (i j : ℕ) → i < j → (far_start i -ℤ far_start j) ≤ℤ negs
 far_below i j h = omega (arith, ints)
 
 far_not_below : (i j : ℕ) → IsPhase 8 i → IsPhase 8 j → (far_start i -ℤ far_start j -ℤ pos 100000000000) ≤ℤ negsuc 9999999999
-far_not_below i j g h =
-    omega (arith, ints)
+far_not_below i j g h = omega (arith, ints)
 
 -- A latch's data departs when it opens, a flop's at the start of its phase.
 abbrev opening : Timing → ℕ → ℤ
@@ -51,8 +50,7 @@ module _ (t : Timing) (limits : IsDesign t.flat) (ends : HasEnds t) (all : IsOrd
   phase_is l h = (limits.each_element l no_element h).phase
 
   of_eight : (p : ℕ) → IsPhase (phase_count t.flat) p → IsPhase 8 p
-  of_eight p h =
-      (omega arith, omega arith)
+  of_eight p h = (omega arith, omega arith)
 
   start_is : (p : ℕ) → IsPhase (phase_count t.flat) p → start_of s p ≡ far_start p
   start_is p h =
@@ -64,12 +62,6 @@ module _ (t : Timing) (limits : IsDesign t.flat) (ends : HasEnds t) (all : IsOrd
 
   departure_is : (l : ℕ) → l < element_count t.flat → departure d l ≡ opening t l
   departure_is l h = get_or-map-range_with_len (opening t) 0 (element_count t.flat) l l (pos 0) h (omega arith)
-
-  departure_is-latch : (l : ℕ) → l < element_count t.flat → (element_at t.flat l).flop ≡ false → departure d l ≡ (element_at t.flat l).cq_max -ℤ (element_at t.flat l).dq_max
-  departure_is-latch l h latch = departure_is l h ∙ ap (λ (b : Bool). cond b (pos 0) ((element_at t.flat l).cq_max -ℤ (element_at t.flat l).dq_max)) latch
-
-  departure_is-flop : (l : ℕ) → l < element_count t.flat → (element_at t.flat l).flop ≡ true → departure d l ≡ pos 0
-  departure_is-flop l h flop = departure_is l h ∙ ap (λ (b : Bool). cond b (pos 0) ((element_at t.flat l).cq_max -ℤ (element_at t.flat l).dq_max)) flop
 
   departure_at_most : (l : ℕ) → l < element_count t.flat → departure d l ≤ℤ pos 1000000000
   departure_at_most l h =
@@ -122,11 +114,11 @@ module _ (t : Timing) (limits : IsDesign t.flat) (ends : HasEnds t) (all : IsOrd
     where
       each_exact : (l : ℕ) → l < element_count t.flat → (b : Bool) → (element_at t.flat l).flop ≡ b → departure d l ≡ late_departure t s d l
       each_exact l h false latch =
-          let is = departure_is-latch l h latch in
+          let is = rw latch at (departure_is l h) in
           let first = opens_first l h in
           let same : departure d l ≡ late_opening t.flat s l = omega (arith, ints) in
           same ∙ sym first ∙ sym (late_departure-latch t s d l latch)
-      each_exact l h true flop = departure_is-flop l h flop ∙ sym (late_departure-flop t s d l flop)
+      each_exact l h true flop = rw flop at (departure_is l h) ∙ sym (late_departure-flop t s d l flop)
 
   -- the clock
   keeps_apart : (i j : ℕ) → IsPhase (phase_count t.flat) i → IsPhase (phase_count t.flat) j → KeepsApart t s i j

@@ -162,17 +162,14 @@ module _ (t : Timing) (limits : IsDesign t.flat) (ends : HasEnds t) (n : ℕ) (b
       fits =
           let delays = add-times (((element_at t.flat p.from).dq_max +ℤ p.max) +ℤ u) (delay_of back) s.den in
           let cycles = add-times (pos c) (cycles_of back) s.cycle in
-          let one = around in
-          let two = reach in
-          omega (arith, ints)
+          omega (arith, ints, around, reach)
 
       too_much : ((pos c +ℤ cycles_of back) *ℤ at.num) <ℤ (((((element_at t.flat p.from).dq_max +ℤ p.max) +ℤ u) +ℤ delay_of back) *ℤ at.den)
       too_much =
           let delays = add-times (((element_at t.flat p.from).dq_max +ℤ p.max) +ℤ u) (delay_of back) at.den in
           let delays' = add-times ((element_at t.flat p.from).dq_max +ℤ p.max) u at.den in
           let cycles = add-times (pos c) (cycles_of back) at.num in
-          let is = walk.2 in
-          omega (arith, ints)
+          omega (arith, ints, walk.2)
 
       above : (at.num *ℤ s.den) <ℤ (s.cycle *ℤ at.den)
       above = cross-below ((((element_at t.flat p.from).dq_max +ℤ p.max) +ℤ u) +ℤ delay_of back) (pos c +ℤ cycles_of back) at.num at.den s.cycle s.den least.positive right.clock.den
