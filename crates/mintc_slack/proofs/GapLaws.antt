@@ -28,7 +28,7 @@ use Rattle.mintc_slack.specs.declared.gaps.Gap.{Gap}
 use Rattle.mintc_slack.specs.declared.nearest.TheConstants.{FAR}
 use Rattle.mintc_slack.specs.Gaps.{AreDistances, AreGaps, AreInRange, ArePotentials, AreShorter, AreShortest, IsInside, gap_of}
 use Rattle.mintc_slack.specs.Answers.{AreSettled}
-use Rattle.mintc_slack.proofs.SizeLaws.{asked-small}
+use Rattle.mintc_slack.proofs.SizeLaws.{asked_small}
 use Rattle.mintc_slack.proofs.WalkedLaws.{are_from}
 
 abbrev pub made : ℕ → ℕ → ℤ → Gap
@@ -53,7 +53,7 @@ far_is = refl
 
 -- what links ask for
 pub ordinary-small : (at : Ratio) (count : ℕ) (k : Link) → IsCycle at → IsOrdinaryLink count k → IsWithin 13000000000000 (asked_by_link at k)
-ordinary-small at count k cycle o = let low = o.delay.0 in let high = o.delay.1 in asked-small at k cycle (omega (arith, ints), omega (arith, ints)) o.cycles
+ordinary-small at count k cycle o = let low = o.delay.0 in let high = o.delay.1 in asked_small at k cycle (omega (arith, ints), omega (arith, ints)) o.cycles
 
 module _ (list : Constraints) (at : Ratio) (potentials : List ℤ) (are : ArePotentials list at potentials) where
   -- the gap of each link

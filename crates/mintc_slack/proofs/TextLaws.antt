@@ -16,13 +16,13 @@ module _ (t : Timing) (extra : List ℤ) (same : length extra ≡ length t.pairs
   count : length all ≡ length extra
   count = length-zip t.pairs extra ∙ omega arith
 
-  pub slacks-more : (i : ℕ) (x : ℤ) (old now new : List ℕ) → i < length extra → get_or extra i (pos 0) ≡ x → now ≡ old ++ text_of (map (slack_line t.flat) (take i all)) →
+  pub slacks_more : (i : ℕ) (x : ℤ) (old now new : List ℕ) → i < length extra → get_or extra i (pos 0) ≡ x → now ≡ old ++ text_of (map (slack_line t.flat) (take i all)) →
       new ≡ now ++ ended (slack_line t.flat (get_or t.pairs i no_pair, x)) → new ≡ old ++ text_of (map (slack_line t.flat) (take (i + 1) all))
-  slacks-more i x old now new h is before step =
+  slacks_more i x old now new h is before step =
       let p : Pair × ℤ = (get_or t.pairs i no_pair, x) in
       let inside : i < length all = omega (arith, count) in
       let at = get_or_default all i p (no_pair, pos 0) inside ∙ get_or-zip t.pairs extra i (no_pair, pos 0) (omega arith) h ∙ ap (λ (y : ℤ). (get_or t.pairs i no_pair, y)) is in
       item_more (slack_line t.flat) [] all i p old now new inside at before step
 
-  pub slacks-all : (i : ℕ) (old now : List ℕ) → length extra ≤ i → now ≡ old ++ text_of (map (slack_line t.flat) (take i all)) → now ≡ old ++ text_of (map (slack_line t.flat) all)
-  slacks-all i old now h before = rw (take_all i all (omega (arith, count))) at before
+  pub slacks_all : (i : ℕ) → length extra ≤ i → take i all ≡ all
+  slacks_all i h = take_all i all (omega (arith, count))

@@ -1,15 +1,9 @@
 use Rattle.std.proofs.Common.{◌+◌, arith}
 use Rattle.mintc_timing.proofs.SharedFitting.{IsTime-IsNumerator}
-use Rattle.mintc_optimise.proofs.TimesLaws.{said_count, said_more}
+use Rattle.mintc_optimise.proofs.TimesLaws.{said_more}
 use Rattle.mintc_optimise.proofs.times.widths.Goals as goal
 
 pub loop-index-preserved : goal.loop-index-preserved
 loop-index-preserved c =
     said_more 1 c.loop-index.index (c.loop-index.index + 1) c.width.result c.loop-index.widths.items c.push.new.self.items (omega arith)
     (IsTime-IsNumerator c.width.result c.width.ensures.in_range) c.width.ensures.value c.width.ensures.in_range c.loop-index.invariant c.push.ensures.items
-
-pub push-requires : goal.push-requires
-push-requires c =
-    let count = said_count 1 c.loop-index.index c.loop-index.widths.items c.loop-index.invariant in
-    let few = c.phases-index-end.ensures.kept.phases.1 in
-    omega arith

@@ -6,7 +6,7 @@ use Rattle.mintc_timing.specs.Design.{pair_at}
 use Rattle.mintc_slack.specs.declared.finding.Entry.{Entry}
 use Rattle.mintc_slack.specs.Answers.{AreSettled}
 use Rattle.mintc_slack.specs.Slack.{IsSlack}
-use Rattle.mintc_slack.proofs.EntryLaws.{done-next, entry-number, entry-same, entry-to, last-entry, ready-kept}
+use Rattle.mintc_slack.proofs.EntryLaws.{done-next, entry_number, entry-same, entry-to, last-entry, ready-kept}
 use Rattle.mintc_slack.proofs.SizeLaws.{narrow, read_narrow}
 use Rattle.mintc_slack.proofs.finding.extras.Goals as goal
 
@@ -14,11 +14,6 @@ pub turn_to-requires-clause-settled : goal.turn_to-requires-clause-settled
 turn_to-requires-clause-settled g c =
     let ready = c.loop-place.invariant.ready in
     rw (c.deref.ensures.value, ready.system, ready.at_is) c.loop-place.invariant.settled
-
-pub slack_of-requires-clause-number : goal.slack_of-requires-clause-number
-slack_of-requires-clause-number g c =
-    let entries = c.in_ok-entries.entries.items in
-    entry-number c.args.system.now entries c.loop-place.place (omega arith) c.in_ok-entries.ensures c.index.result.now c.index.ensures
 
 pub slack_of-requires-clause-settled : goal.slack_of-requires-clause-settled
 slack_of-requires-clause-settled g c =
@@ -28,12 +23,6 @@ slack_of-requires-clause-settled g c =
     let to = entry-to t entries c.loop-place.place (omega arith) c.in_ok-entries.ensures c.index.result.now c.index.ensures in
     rw c.values.ensures (subst (λ l. AreSettled t c.args.cycle.now l c.turn_to.new.room.values) to (rw (c.deref.ensures.value, ready.system, ready.at_is) at c.in_ok-turn_to.ensures.settled))
 
-pub index_mut-requires : goal.index_mut-requires
-index_mut-requires g c =
-    let entries = c.in_ok-entries.entries.items in
-    let inside = entry-number c.args.system.now entries c.loop-place.place (omega arith) c.in_ok-entries.ensures c.index.result.now c.index.ensures in
-    omega arith
-
 pub loop-place-preserved : goal.loop-place-preserved
 loop-place-preserved g c =
     let t = c.args.system.now in
@@ -42,7 +31,7 @@ loop-place-preserved g c =
     let entries = c.in_ok-entries.entries.items in
     let e = c.index.result.now in
     let place = c.loop-place.place in
-    let inside = entry-number t entries place (omega arith) c.in_ok-entries.ensures e c.index.ensures in
+    let inside = entry_number t entries place (omega arith) c.in_ok-entries.ensures e c.index.ensures in
     let P = λ (n : ℕ) (u : ℤ). IsSlack t c.args.cycle.now.num c.args.cycle.now.den n u in
     let x = c.slack_of.result in
     let fits : narrow x ≡ x = read_narrow x c.slack_of.ensures.range in
