@@ -1,8 +1,7 @@
 -- Two timings side by side.
-use Rattle.std.proofs.Common.{◌≡◌, ℕ, ◌<◌, ◌≤◌, ◌+◌, ◌-◌, ◌==◌, ℤ, pos, ◌≤ℤ◌, ◌+ℤ◌, ◌-ℤ◌, ◌*ℤ◌, Bool, true, false, cond, List, [], ◌∷◌, ◌++◌, length, take, drop, map, arith, refl, ap, ◌∙◌, sym, subst, ⊎_elim, ◌↔◌, IfSome, MatchBool, length-append, length-drop}
+use Rattle.std.proofs.Common.{◌≡◌, ℕ, ◌<◌, ◌+◌, ◌==◌, ℤ, pos, ◌≤ℤ◌, ◌+ℤ◌, ◌-ℤ◌, ◌*ℤ◌, Bool, true, false, cond, List, [], ◌∷◌, ◌++◌, length, take, drop, map, arith, refl, ap, ◌∙◌, sym, subst, ⊎_elim, ◌↔◌, IfSome, MatchBool, length-append, length-drop}
 use Rattle.std.proofs.Math.Seq.{drop-append_seam, take-append_seam}
 use Rattle.std.proofs.lemmas.Int.{ints, clamps, by_lt_z}
-use Rattle.std.proofs.lemmas.Bool.{cases_lt}
 use Rattle.std.proofs.lemmas.Bool.Decides.{nat_tests}
 use Rattle.std.proofs.lemmas.List.{append-nil, get_or-drop, get_or-take, length-take, length-take-le}
 use Rattle.std.proofs.lemmas.List.Elements.{All-head, All-tail, filter-append}
@@ -20,7 +19,7 @@ use Rattle.mintc_timing.proofs.SharedProducts.{times-mono_positive}
 use Rattle.mintc_timing.specs.Paths.{HasEnds}
 use Rattle.mintc_corners.specs.Joint.{beside, shifted_pair}
 use Rattle.mintc_corners.specs.Laws.{BesideIsBoth, HaveOneClock}
-use Rattle.mintc_corners.proofs.PartsLaws.{element_beside_left, element_beside_right, feeds-cases, feeds-left, feeds-right, width_beside}
+use Rattle.mintc_corners.proofs.PartsLaws.{each-element, element_beside_left, element_beside_right, feeds-cases, feeds-left, feeds-right, width_beside}
 
 -- A product with the greater of two numbers is at most what those with each are.
 max-times : (x y den w : ℤ) → (x *ℤ den) ≤ℤ w → (y *ℤ den) ≤ℤ w → (int_max x y *ℤ den) ≤ℤ w
@@ -70,9 +69,6 @@ Asks s x = MatchBool x.0.flop (IfSome (greatest_of x.1) (λ a. (a +ℤ x.0.setup
 abbrev timed : Timing → Schedule → List ℤ → ℕ → Element × List ℤ × ℤ
 timed t s f l = (element_at t.flat l, late_arrivals t s f l, departure f l)
 
-same-timed : (x y : Element) (xs ys : List ℤ) (a b : ℤ) → x ≡ y → xs ≡ ys → a ≡ b → ◌≡◌ {A = Element × List ℤ × ℤ} (x, xs, a) (y, ys, b)
-same-timed x y xs ys a b e f g = rw (e, f, g) refl
-
 module _ (t u : Timing) (s : Schedule) (f : List ℤ) (clock : HaveOneClock t.flat u.flat) (ends : HasEnds t) where
   abbrev n : ℕ
   n = element_count t.flat
@@ -89,12 +85,6 @@ module _ (t u : Timing) (s : Schedule) (f : List ℤ) (clock : HaveOneClock t.fl
   abbrev HasEnd : Pair → Type 0
   HasEnd p = (p.from < n) × (p.to < n)
 
-  element-left : (l : ℕ) → l < n → element_at b.flat l ≡ element_at t.flat l
-  element-left l h = element_beside_left t u l h
-
-  element-right : (l : ℕ) → element_at b.flat (n + l) ≡ element_at u.flat l
-  element-right l = element_beside_right t u l
-
   departs-left : (l : ℕ) → l < n → departure f l ≡ departure d l
   departs-left l h = sym (get_or-take n f l (pos 0) h)
 
@@ -102,10 +92,10 @@ module _ (t u : Timing) (s : Schedule) (f : List ℤ) (clock : HaveOneClock t.fl
   departs-right l = sym (get_or-drop n f l (pos 0))
 
   arrival-left : (p : Pair) → HasEnd p → late_arrival b.flat s f p ≡ late_arrival t.flat s d p
-  arrival-left p h = arrival-same s _ _ _ _ _ _ p.max (departs-left p.from h.0) (element-left p.from h.0) (element-left p.to h.1)
+  arrival-left p h = arrival-same s _ _ _ _ _ _ p.max (departs-left p.from h.0) (element_beside_left t u p.from h.0) (element_beside_left t u p.to h.1)
 
   arrival-right : (q : Pair) → late_arrival b.flat s f (shifted_pair n q) ≡ late_arrival u.flat s e q
-  arrival-right q = arrival-same s _ _ _ _ _ _ q.max (departs-right q.from) (element-right q.from) (element-right q.to)
+  arrival-right q = arrival-same s _ _ _ _ _ _ q.max (departs-right q.from) (element_beside_right t u q.from) (element_beside_right t u q.to)
 
   none-right : (l : ℕ) → l < n → (qs : List Pair) → filter (λ (p : Pair). p.to == l) (map (shifted_pair n) qs) ≡ []
   none-right l h [] = refl
@@ -132,24 +122,17 @@ module _ (t u : Timing) (s : Schedule) (f : List ℤ) (clock : HaveOneClock t.fl
 
   arrivals-left : (l : ℕ) → l < n → late_arrivals b s f l ≡ late_arrivals t s d l
   arrivals-left l h =
-      ap (map (late_arrival b.flat s f))
-      (filter-append (λ (p : Pair). p.to == l) t.pairs (map (shifted_pair n) u.pairs)
-      ∙ ap (λ (ps : List Pair). filter (λ (p : Pair). p.to == l) t.pairs ++ ps) (none-right l h u.pairs) ∙ append-nil (filter (λ (p : Pair). p.to == l) t.pairs))
-      ∙ some-left l t.pairs ends
+      rw (filter-append (λ (p : Pair). p.to == l) t.pairs (map (shifted_pair n) u.pairs), none-right l h u.pairs, append-nil (filter (λ (p : Pair). p.to == l) t.pairs)) (some-left l t.pairs ends)
 
   arrivals-right : (l : ℕ) → late_arrivals b s f (n + l) ≡ late_arrivals u s e l
-  arrivals-right l =
-      ap (map (late_arrival b.flat s f))
-      (filter-append (λ (p : Pair). p.to == n + l) t.pairs (map (shifted_pair n) u.pairs)
-      ∙ ap (λ (ps : List Pair). ps ++ filter (λ (p : Pair). p.to == n + l) (map (shifted_pair n) u.pairs)) (none-left l t.pairs ends))
-      ∙ some-right l u.pairs
+  arrivals-right l = rw (filter-append (λ (p : Pair). p.to == n + l) t.pairs (map (shifted_pair n) u.pairs), none-left l t.pairs ends) (some-right l u.pairs)
 
   -- so each element asks the same in both
   timed-left : (l : ℕ) → l < n → timed b s f l ≡ timed t s d l
-  timed-left l h = same-timed _ _ _ _ _ _ (element-left l h) (arrivals-left l h) (departs-left l h)
+  timed-left l h = rw (arrivals-left l h, element_beside_left t u l h, departs-left l h) refl
 
   timed-right : (l : ℕ) → timed b s f (n + l) ≡ timed u s e l
-  timed-right l = same-timed _ _ _ _ _ _ (element-right l) (arrivals-right l) (departs-right l)
+  timed-right l = rw (arrivals-right l, element_beside_right t u l, departs-right l) refl
 
   late-left : (l : ℕ) → l < n → late_departure b s f l ≡ late_departure t s d l
   late-left l h = ap (departs s) (timed-left l h)
@@ -170,7 +153,6 @@ module _ (t u : Timing) (s : Schedule) (f : List ℤ) (clock : HaveOneClock t.fl
     starts = k.starts;
     widths = k.widths;
     each = λ p low high.
-        let count = clock.phases in
         let here = k.each p low high in
         let other = m.each p low (omega arith) in
         record {
@@ -217,15 +199,6 @@ module _ (t u : Timing) (s : Schedule) (f : List ℤ) (clock : HaveOneClock t.fl
         setup = λ l h. subst (Asks s) (timed-right l) (right.setup (n + l) (omega arith));
       }
 
-  -- what holds of each element of the one and of the other, holds of each
-  each-element : (P : ℕ → Type 0) → ((l : ℕ) → l < n → P l) → ((l : ℕ) → l < m → P (n + l)) → (l : ℕ) → l < element_count b.flat → P l
-  each-element P left right l h = ⊎_elim (λ (low : l < n). left l low)
-      (λ (high : n ≤ l).
-      let all = count-beside in
-      let is : n + (l - n) ≡ l = omega arith in
-      subst P is (right (l - n) (omega arith)))
-      (cases_lt l n)
-
   right-beside : IsRight t s d → IsRight u s e → IsRight b s f
   right-beside one two = record {
     clock = clock-beside one.clock two.clock;
@@ -236,11 +209,11 @@ module _ (t u : Timing) (s : Schedule) (f : List ℤ) (clock : HaveOneClock t.fl
           let taken = length-take n f in
           let dropped = length-drop n f in
           omega arith);
-      each = each-element (λ l. departure f l ≡ late_departure b s f l)
+      each = each-element t u (λ l. departure f l ≡ late_departure b s f l)
           (λ l h. departs-left l h ∙ one.exact.each l h ∙ sym (late-left l h))
           (λ l h. departs-right l ∙ two.exact.each l h ∙ sym (late-right l));
     };
-    setup = each-element (KeepsSetup b s f) (λ l h. subst (Asks s) (sym (timed-left l h)) (one.setup l h)) (λ l h. subst (Asks s) (sym (timed-right l)) (two.setup l h));
+    setup = each-element t u (KeepsSetup b s f) (λ l h. subst (Asks s) (sym (timed-left l h)) (one.setup l h)) (λ l h. subst (Asks s) (sym (timed-right l)) (two.setup l h));
   }
 
 pub beside_is_both_lem : BesideIsBoth

@@ -13,5 +13,4 @@ mod MemberLaws
 mod TextLaws
 mod ScheduleLaws
 mod MadeLaws
-mod AnswerLaws
 mod WorkedCorners

@@ -2,7 +2,6 @@
 use Rattle.std.proofs.Common.{◌≡◌, ℕ, ◌<◌, ◌≤◌, ◌+◌, ◌*◌, ℤ, pos, ◌≤ℤ◌, List, [], ◌∷◌, ◌++◌, length, get_or, map, take, drop, arith, refl, ap, ◌∙◌, sym, subst, append_assoc, length-append}
 use Rattle.std.specs.List.{All, Contains, flat_map}
 use Rattle.std.specs.Int.{int_max}
-use Rattle.std.proofs.lemmas.Grind.{flat_map-append}
 use Rattle.std.proofs.Math.ListN.{drop_of_length-le}
 use Rattle.std.proofs.lemmas.Int.{ints, clamps}
 use Rattle.std.proofs.lemmas.List.{append-nil, at_drop_more, get_or-map, get_or_default, map-append, take_more}
@@ -16,18 +15,17 @@ use Rattle.mintc_timing.specs.Links.{links_of}
 use Rattle.mintc_timing.specs.Order.{IsTiming}
 use Rattle.mintc_constraints.specs.Duality.{departures_of}
 use Rattle.mintc_constraints.specs.Laws.{node_count}
-use Rattle.mintc_constraints.specs.Ordinary.{Constraints, IsOrdinary, constraints_of}
+use Rattle.mintc_constraints.specs.Ordinary.{Constraints, constraints_of}
 use Rattle.mintc_timing.proofs.SharedByKind.{All-links}
 use Rattle.mintc_constraints.proofs.SharedOrdinaryLaws.{each_between}
 use Rattle.mintc_timing.proofs.SharedLinkLaws.{ends_of}
 use Rattle.mintc_certificate.specs.Ranges.{IsDeparture}
 use Rattle.mintc_optimise.proofs.SharedStandingLaws.{of_kind}
 use Rattle.mintc_corners.specs.CornerOptimum.{AreDeparturesInRange}
-use Rattle.mintc_corners.specs.Joined.{HasLowKind, IsLow, departures_after, joined, joined_links, lifted_link, no_timing, own_list, own_values, widest, AreSayableAfter}
-use Rattle.mintc_corners.specs.Joint.{AreCorners, joint_nodes}
+use Rattle.mintc_corners.specs.Joined.{HasLowKind, IsLow, departures_after, joined, lifted_link, no_timing, own_list, own_values, widest, AreSayableAfter}
+use Rattle.mintc_corners.specs.Joint.{joint_nodes}
 use Rattle.mintc_corners.specs.Laws.{AreSystems}
 use Rattle.mintc_corners.proofs.LiftLaws.{system_at}
-use Rattle.mintc_corners.proofs.PlaceLaws.{count_is, joined_ordinary}
 use Rattle.mintc_corners.proofs.ValuesLaws.{counts_are}
 
 -- the greatest least width
@@ -37,12 +35,6 @@ widest_low (t ∷ ts) p = let rest = widest_low ts p in omega (arith, ints, clam
 
 pub widest_begun : (ts : List Timing) (p : ℕ) → int_max (pos 0) (widest ts p) ≡ widest ts p
 widest_begun ts p = let low = widest_low ts p in omega (arith, ints, clamps)
-
-pub widest_done : (ts : List Timing) (i p : ℕ) (width : ℤ) → length ts ≤ i → pos 0 ≤ℤ width → int_max width (widest (drop i ts) p) ≡ widest ts p → width ≡ widest ts p
-widest_done ts i p width past low h =
-    let here = ap (λ (us : List Timing). int_max width (widest us p)) (drop_of_length-le ts past) in
-    let most : int_max width (pos 0) ≡ width = omega (arith, ints, clamps) in
-    sym most ∙ sym here ∙ h
 
 -- the lists of the corners
 made_list : (list : Constraints) (t : Timing) → list.nodes ≡ node_count t.flat → list.links ≡ links_of t → list ≡ own_list t
@@ -61,8 +53,7 @@ module _ (ts : List Timing) (i : ℕ) (t : Timing) (below : i < length ts) (is :
 
   pub lists_more : (lists new : List Constraints) (list : Constraints) → lists ≡ map own_list (take i ts) → list.nodes ≡ node_count t.flat → list.links ≡ links_of t → new ≡ lists ++ list ∷ [] → new ≡ map own_list (take (i + 1) ts)
   lists_more lists new list before nodes links step =
-      step ∙ ap (λ (xs : List Constraints). xs ++ list ∷ []) before ∙ ap (λ (x : Constraints). map own_list (take i ts) ++ x ∷ []) (made_list list t nodes links)
-      ∙ sym (map-append own_list (take i ts) (t ∷ [])) ∙ sym (ap (map own_list) taken)
+      rw (step, before, taken, map-append own_list (take i ts) (t ∷ [])) (ap (λ (x : Constraints). map own_list (take i ts) ++ x ∷ []) (made_list list t nodes links))
 
   pub systems_taken : AreSystems (take i ts) → IsDesign t.flat → IsTiming t.flat t.order t.pairs → AreSystems (take (i + 1) ts)
   systems_taken h design kept = subst AreSystems (sym taken) (systems_more (take i ts) t h design kept)
@@ -70,9 +61,7 @@ module _ (ts : List Timing) (i : ℕ) (t : Timing) (below : i < length ts) (is :
   pub joined_more : (wide : ℕ → ℤ) (clock before : ℕ) (items new all : List Link) → items ++ joined wide clock before (drop i ts) ≡ all → new ≡ items ++ map (lifted_link wide clock before) (links_of t) →
       new ++ joined wide clock (before + element_count t.flat) (drop (i + 1) ts) ≡ all
   joined_more wide clock before items new all h step =
-      ap (λ (ks : List Link). ks ++ joined wide clock (before + element_count t.flat) (drop (i + 1) ts)) step
-      ∙ append_assoc items (map (lifted_link wide clock before) (links_of t)) (joined wide clock (before + element_count t.flat) (drop (i + 1) ts))
-      ∙ sym (left (λ us. items ++ joined wide clock before us)) ∙ h
+      rw (step, append_assoc items (map (lifted_link wide clock before) (links_of t)) (joined wide clock (before + element_count t.flat) (drop (i + 1) ts))) (rw (left (joined wide clock before)) at h)
 
   pub elements_more : (before all : ℕ) → before + length (flat_map (λ (u : Timing). u.flat.elements) (drop i ts)) ≡ all →
       (before + element_count t.flat) + length (flat_map (λ (u : Timing). u.flat.elements) (drop (i + 1) ts)) ≡ all
@@ -87,16 +76,11 @@ module _ (ts : List Timing) (i : ℕ) (t : Timing) (below : i < length ts) (is :
   pub departures_more : (clock before : ℕ) (values ds : List ℤ) (all new whole : List (List ℤ)) → all ++ departures_after clock before (drop i ts) values ≡ whole →
       ds ≡ departures_of t.flat (own_values clock before (element_count t.flat) values) → new ≡ all ++ ds ∷ [] → new ++ departures_after clock (before + element_count t.flat) (drop (i + 1) ts) values ≡ whole
   departures_more clock before values ds all new whole h is step =
-      let rest = departures_after clock (before + element_count t.flat) (drop (i + 1) ts) values in
-      ap (λ (xs : List (List ℤ)). xs ++ rest) step
-      ∙ append_assoc all (ds ∷ []) rest
-      ∙ ap (λ (d : List ℤ). all ++ d ∷ rest) is
-      ∙ sym (left (λ us. all ++ departures_after clock before us values)) ∙ h
+      rw (step, append_assoc all (ds ∷ []) (departures_after clock (before + element_count t.flat) (drop (i + 1) ts) values), is) (rw (left (λ us. departures_after clock before us values)) at h)
 
 pub in_range_more : (t : Timing) (ds own : List ℤ) (all new : List (List ℤ)) → IsDesign t.flat → All AreDeparturesInRange all → All IsDeparture ds → ds ≡ departures_of t.flat own → new ≡ all ++ ds ∷ [] → All AreDeparturesInRange new
 in_range_more t ds own all new limits before here is step =
     let count = ap length is ∙ counts_are t own in
-    let few = limits.elements in
     rw step (All-push AreDeparturesInRange all ds before (record { count = omega arith; each = here }))
 
 -- Each link of a corner has few nodes and elements.
@@ -107,10 +91,6 @@ module _ (t : Timing) (limits : IsDesign t.flat) (kept : IsTiming t.flat t.order
   low_kind k (kind.Reach j l) is listed =
       let h = of_kind t limits k (kind.Reach j l) is listed in
       let ends = kept.extremes.each h.0 no_pair h.1 in
-      let from = ends.from in
-      let to = ends.to in
-      let one = h.2 in
-      let two = h.3 in
       let few = limits.elements in
       (omega arith, omega arith)
   low_kind k (kind.Setup l) is listed = let h = (of_kind t limits k (kind.Setup l) is listed).member in let few = limits.elements in omega arith
@@ -122,8 +102,6 @@ module _ (t : Timing) (limits : IsDesign t.flat) (kept : IsTiming t.flat t.order
       let between = All-links t (λ x. (x.from < node_count t.flat) × (x.to < node_count t.flat)) (each_between t limits (ends_of t kept.extremes)) e d h in
       let from = between.0 in
       let to = between.1 in
-      let few = limits.elements in
-      let phases = limits.phases.1 in
       record { from = omega arith; to = omega arith; kind = low_kind k k.kind refl (e, h, get_or_default (links_of t) e k d h) }
 
 module _ (systems : List Timing) (lists : List Constraints) (are : lists ≡ map own_list systems) (c : ℕ) (list : Constraints) (below : c < length systems) (is : list ≡ get_or lists c list) where
@@ -134,12 +112,6 @@ module _ (systems : List Timing) (lists : List Constraints) (are : lists ≡ map
   low_at items kept items_are =
       let here = system_at systems c no_timing kept below in
       rw (items_are, list_at no_timing) (low_links (get_or systems c no_timing) here.0 here.1)
-
--- the joint links are ordinary
-pub ordinary_of : (systems : List Timing) → 1 ≤ length systems → length systems ≤ 4 → AreCorners systems → AreSystems systems → length (flat_map (λ (u : Timing). u.flat.elements) systems) ≤ 2000 →
-    IsOrdinary (constraints_of (joint_nodes systems) (joined_links systems))
-ordinary_of [] some few are kept elements = absurd (omega arith)
-ordinary_of (t ∷ ts) some few are kept elements = let count = count_is t ts in joined_ordinary t ts are kept (omega arith) (omega arith)
 
 pub joined_done : (ts : List Timing) (i : ℕ) (wide : ℕ → ℤ) (clock before : ℕ) (items all : List Link) → length ts ≤ i → items ++ joined wide clock before (drop i ts) ≡ all → items ≡ all
 joined_done ts i wide clock before items all past h =
@@ -154,13 +126,3 @@ pub nodes_of : (systems : List Timing) (t : Timing) (clock before : ℕ) → 1 �
     1 + clock + before ≡ joint_nodes systems
 nodes_of [] t clock before some is clock_is before_is = absurd (omega arith)
 nodes_of (u ∷ ts) t clock before some is clock_is before_is = let same = ap (λ (x : Timing). phase_count x.flat) is in omega arith
-
--- how many links the lists up to one have
-pub links_more : (lists : List Constraints) (i : ℕ) (list : Constraints) → i < length lists → list ≡ get_or lists i list →
-    length (flat_map (λ (l : Constraints). l.links) (take (i + 1) lists)) ≡ length (flat_map (λ (l : Constraints). l.links) (take i lists)) + length list.links
-links_more lists i list below is =
-    let taken = ap (λ (ls : List Constraints). length (flat_map (λ (l : Constraints). l.links) ls)) (take_more lists i list below ∙ ap (λ (l : Constraints). take i lists ++ l ∷ []) (sym is)) in
-    let parts = ap (λ (ks : List Link). length ks) (flat_map-append (λ (l : Constraints). l.links) (take i lists) (list ∷ [])) in
-    let sum = length-append (flat_map (λ (l : Constraints). l.links) (take i lists)) (list.links ++ []) in
-    let own = ap (λ (ks : List Link). length ks) (append-nil list.links) in
-    omega arith

@@ -8,6 +8,7 @@ use Rattle.mintc_timing.specs.Links.{links_of, no_link, link_at}
 use Rattle.mintc_constraints.specs.Ordinary.{Constraints, constraints_of}
 use Rattle.mintc_certificate.specs.declared.members.Member.{Member}
 use Rattle.mintc_optimise.specs.Making.{StandsFor as StandsForOwn}
+use Rattle.mintc_optimise.proofs.SharedStandingLaws.{stand_more}
 use Rattle.mintc_corners.specs.declared.members.CornerMember.{CornerMember}
 use Rattle.mintc_corners.specs.CornerOptimum.{corner_of}
 use Rattle.mintc_corners.specs.Joined.{IsPlace, clock_count, joined_links, lifted_link, own_list, widest, StandForAll, StandsFor, corner_number}
@@ -15,29 +16,19 @@ use Rattle.mintc_corners.specs.Joint.{AreCorners}
 use Rattle.mintc_corners.specs.Laws.{AreSystems}
 use Rattle.mintc_corners.proofs.LiftLaws.{elements_before}
 use Rattle.mintc_corners.proofs.LoopLaws.{list_at}
-use Rattle.mintc_corners.proofs.PlaceLaws.{besides, count_is, joined_at}
-use Rattle.mintc_corners.proofs.StandingLaws.{stand_more, standing_for}
-
-stands_of : (systems : List Timing) (c : ℕ) → c < length systems → (t : Timing) → t ≡ get_or systems c t → (k : Link) (m : Member) → length systems ≤ 4 → AreCorners systems →
-    length (flat_map (λ (u : Timing). u.flat.elements) systems) ≤ 2000 → AreSystems systems → Contains (links_of t) k → StandsForOwn t k m →
-    StandsFor systems (lifted_link (widest systems) (clock_count systems) (elements_before systems c) k) (record { corner = corner_number c m; member = m })
-stands_of [] c below t t_is k m few corners elements kept listed h = absurd (omega arith)
-stands_of (first ∷ rest) c below t t_is k m few corners elements kept listed h =
-    let own : t ≡ corner_of first rest c = t_is ∙ get_or_default (first ∷ rest) c t first below in
-    let count = count_is first rest in
-    standing_for first rest corners kept (besides first rest corners kept (omega arith) (omega arith)) (omega arith) c below k m (subst (λ (u : Timing). Contains (links_of u) k) own listed) (subst (λ (u : Timing). StandsForOwn u k m) own h)
+use Rattle.mintc_corners.proofs.PlaceLaws.{besides, by_first, joined_at}
+use Rattle.mintc_corners.proofs.StandingLaws.{standing_for}
 
 -- one more member, of any corners
 pub stand_read : (systems : List Timing) (chain : List ℕ) (i : ℕ) (members : List CornerMember) (m : CornerMember) → i < length chain → StandForAll systems (take i chain) members →
     StandsFor systems (link_at (joined_links systems) (get_or chain i 0)) m → StandForAll systems (take (i + 1) chain) (members ++ m ∷ [])
 stand_read [] chain i members m h before here = before
-stand_read (t ∷ ts) chain i members m h before here = stand_more t ts chain i members m h before here
+stand_read (t ∷ ts) chain i members m h before here = stand_more (link_at (joined_links (t ∷ ts))) chain i members m h before here
 
 module _ (systems : List Timing) (lists : List Constraints) (are : lists ≡ map own_list systems) (c i number : ℕ) (place : IsPlace lists number c i) (list : Constraints) (list_is : list ≡ get_or lists c list)
     (t : Timing) (t_is : t ≡ get_or systems c t) (items : List Link) (items_are : items ≡ list.links) (d : Link) where
   below : c < length systems
   below =
-      let few = place.corner in
       let same = ap (λ (xs : List Constraints). length xs) are ∙ length-map systems own_list in
       omega arith
 
@@ -56,17 +47,18 @@ module _ (systems : List Timing) (lists : List Constraints) (are : lists ≡ map
   -- the joint link of the number is the corner's link, numbered among all
   link_is : link_at (joined_links systems) number ≡ lifted_link (widest systems) (clock_count systems) (elements_before systems c) (get_or items i d)
   link_is =
-      let at = sym place.same ∙ ap (λ (xs : List Constraints). length (flat_map (λ (l : Constraints). l.links) (take c xs)) + i) are in
       let few : i < length (links_of (get_or systems c t)) = rw (sym t_is, sym items_own) inside in
-      ap (link_at (joined_links systems)) at
-      ∙ joined_at (widest systems) (clock_count systems) 0 systems c i t no_link below few
-      ∙ ap (λ (n : ℕ). lifted_link (widest systems) (clock_count systems) n (get_or (links_of (get_or systems c t)) i no_link)) (zero-add (elements_before systems c))
-      ∙ ap (λ (u : Timing). lifted_link (widest systems) (clock_count systems) (elements_before systems c) (get_or (links_of u) i no_link)) (sym t_is)
-      ∙ ap (λ (ks : List Link). lifted_link (widest systems) (clock_count systems) (elements_before systems c) (get_or ks i no_link)) (sym items_own)
-      ∙ ap (lifted_link (widest systems) (clock_count systems) (elements_before systems c)) (get_or_default items i no_link d inside)
+      let found = joined_at (widest systems) (clock_count systems) 0 systems c i t no_link below few in
+      rw (← place.same, are) (rw (zero-add (elements_before systems c), ← t_is, ← items_own, get_or_default items i no_link d inside) at found)
 
   -- so the member that stands for that one stands for it
   pub standing : length systems ≤ 4 → AreCorners systems → length (flat_map (λ (u : Timing). u.flat.elements) systems) ≤ 2000 → AreSystems systems → (m : Member) (n : ℕ) → n ≡ corner_number c m →
       StandsForOwn t (get_or items i d) m → StandsFor systems (link_at (joined_links systems) number) (record { corner = n; member = m })
   standing few corners elements kept m n n_is h =
-      rw (link_is, n_is) (stands_of systems c below t t_is (get_or items i d) m few corners elements kept listed h)
+      rw (link_is, n_is)
+      (by_first (λ ts. c < length ts → t ≡ get_or ts c t → StandsFor ts (lifted_link (widest ts) (clock_count ts) (elements_before ts c) (get_or items i d)) (record { corner = corner_number c m; member = m }))
+      (λ first rest are own few elements below is.
+      let same : t ≡ corner_of first rest c = is ∙ get_or_default (first ∷ rest) c t first below in
+      standing_for first rest are own (besides first rest are own few elements) few c below (get_or items i d) m
+      (subst (λ (u : Timing). Contains (links_of u) (get_or items i d)) same listed) (subst (λ (u : Timing). StandsForOwn u (get_or items i d) m) same h))
+      systems few corners elements kept below t_is)

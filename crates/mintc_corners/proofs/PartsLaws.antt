@@ -1,7 +1,7 @@
 -- What two timings side by side have: elements, pairs, and what these ask of the clock.
-use Rattle.std.proofs.Common.{◌≡◌, ℕ, ◌<◌, ◌+◌, ◌==◌, ◌&&◌, ◌||◌, not, ℤ, pos, Bool, true, List, [], ◌∷◌, ◌++◌, length, map, arith, refl, ap, ◌∙◌, sym, ◌⊎◌, Option, Some, None}
+use Rattle.std.proofs.Common.{◌≡◌, ℕ, ◌<◌, ◌≤◌, ◌+◌, ◌-◌, ◌==◌, ◌&&◌, ◌||◌, not, ℤ, pos, Bool, true, List, [], ◌∷◌, ◌++◌, length, map, arith, refl, ap, ◌∙◌, sym, subst, ◌⊎◌, ⊎_elim, length-append, Option, Some, None}
 use Rattle.std.proofs.Math.ListN.{get_or-append}
-use Rattle.std.proofs.lemmas.Bool.{or_cases, or_left, or_right}
+use Rattle.std.proofs.lemmas.Bool.{cases_lt, or_cases, or_left, or_right}
 use Rattle.std.proofs.lemmas.Int.{ints, clamps}
 use Rattle.std.proofs.lemmas.List.{get_or-append-add, get_or-map, map-append}
 use Rattle.std.proofs.lemmas.List.Elements.{All-head, All-tail, filter-append}
@@ -54,10 +54,18 @@ module _ (t u : Timing) where
 
   pub width_beside : (p : ℕ) → least_width b.flat p ≡ int_max (least_width t.flat p) (least_width u.flat p)
   width_beside p =
-      ap (λ (xs : List ℤ). greater_of (pos 0) (greatest_of xs))
-      (ap (map (λ (x : Element). x.width)) (filter-append (λ (x : Element). x.phase == p) t.flat.elements u.flat.elements)
-      ∙ map-append (λ (x : Element). x.width) (filter (λ (x : Element). x.phase == p) t.flat.elements) (filter (λ (x : Element). x.phase == p) u.flat.elements))
-      ∙ top-append (map (λ (x : Element). x.width) (filter (λ (x : Element). x.phase == p) t.flat.elements)) (map (λ (x : Element). x.width) (filter (λ (x : Element). x.phase == p) u.flat.elements))
+      let in_phase = filter (λ (x : Element). x.phase == p) in
+      rw (filter-append (λ (x : Element). x.phase == p) t.flat.elements u.flat.elements, map-append (λ (x : Element). x.width) (in_phase t.flat.elements) (in_phase u.flat.elements))
+      (top-append (map (λ (x : Element). x.width) (in_phase t.flat.elements)) (map (λ (x : Element). x.width) (in_phase u.flat.elements)))
+
+  -- what holds of each element of the one and of the other, holds of each
+  pub each-element : (P : ℕ → Type 0) → ((l : ℕ) → l < n → P l) → ((l : ℕ) → l < element_count u.flat → P (n + l)) → (l : ℕ) → l < element_count b.flat → P l
+  each-element P left right l h = ⊎_elim (λ (low : l < n). left l low)
+      (λ (high : n ≤ l).
+      let all = length-append t.flat.elements u.flat.elements in
+      let is : n + (l - n) ≡ l = omega arith in
+      subst P is (right (l - n) (omega arith)))
+      (cases_lt l n)
 
   module _ (ends : HasEnds t) where
     abbrev HasEnd : Pair → Type 0
@@ -76,21 +84,14 @@ module _ (t u : Timing) where
 
     any-left : (i j : ℕ) (ps : List Pair) → All HasEnd ps → list_any (is_pair_between b.flat i j) ps ≡ list_any (is_pair_between t.flat i j) ps
     any-left i j [] h = refl
-    any-left i j (p ∷ ps) h =
-        ap (λ (c : Bool). c || list_any (is_pair_between b.flat i j) ps) (between-left i j p (All-head HasEnd p ps h))
-        ∙ ap (λ (c : Bool). is_pair_between t.flat i j p || c) (any-left i j ps (All-tail HasEnd p ps h))
+    any-left i j (p ∷ ps) h = rw (between-left i j p (All-head HasEnd p ps h), any-left i j ps (All-tail HasEnd p ps h)) refl
 
     any-right : (i j : ℕ) (qs : List Pair) → list_any (is_pair_between b.flat i j) (map (shifted_pair n) qs) ≡ list_any (is_pair_between u.flat i j) qs
     any-right i j [] = refl
-    any-right i j (q ∷ qs) =
-        ap (λ (c : Bool). c || list_any (is_pair_between b.flat i j) (map (shifted_pair n) qs)) (between-right i j q)
-        ∙ ap (λ (c : Bool). is_pair_between u.flat i j q || c) (any-right i j qs)
+    any-right i j (q ∷ qs) = rw (between-right i j q, any-right i j qs) refl
 
     feeds_beside : (i j : ℕ) → feeds_of b i j ≡ (feeds_of t i j || feeds_of u i j)
-    feeds_beside i j =
-        list_any-append (is_pair_between b.flat i j) t.pairs (map (shifted_pair n) u.pairs)
-        ∙ ap (λ (c : Bool). c || list_any (is_pair_between b.flat i j) (map (shifted_pair n) u.pairs)) (any-left i j t.pairs ends)
-        ∙ ap (λ (c : Bool). feeds_of t i j || c) (any-right i j u.pairs)
+    feeds_beside i j = rw (list_any-append (is_pair_between b.flat i j) t.pairs (map (shifted_pair n) u.pairs), any-left i j t.pairs ends, any-right i j u.pairs) refl
 
     pub feeds-left : (i j : ℕ) → feeds_of t i j ≡ true → feeds_of b i j ≡ true
     feeds-left i j fed = feeds_beside i j ∙ or_left (feeds_of t i j) (feeds_of u i j) fed

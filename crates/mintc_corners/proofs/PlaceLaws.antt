@@ -100,3 +100,9 @@ module _ (t : Timing) (ts : List Timing) (are : AreCorners (t ∷ ts)) (systems 
       (carried_ordinary (links_of (side_by_side t ts)) (joined_links (t ∷ ts)) (links_joined t ts are systems besides) (joined_listed t ts are systems besides) (node_count (side_by_side t ts).flat)
       (let all = few_in_turn (widest (t ∷ ts)) (clock_count (t ∷ ts)) 0 (t ∷ ts) systems in omega arith)
       (modest_links_are_ordinary_lem (side_by_side t ts) design (corners_are_modest_lem t ts are systems some few).2))
+
+-- What holds of a first corner and the others, a few with few elements, holds of such corners.
+pub by_first : (P : List Timing → Type 0) → ((t : Timing) (ts : List Timing) → AreCorners (t ∷ ts) → AreSystems (t ∷ ts) → length ts ≤ 3 → element_count (side_by_side t ts).flat ≤ 2000 → P (t ∷ ts)) →
+    (systems : List Timing) → length systems ≤ 4 → AreCorners systems → length (flat_map (λ (u : Timing). u.flat.elements) systems) ≤ 2000 → AreSystems systems → P systems
+by_first P holds [] few are elements kept = absurd are
+by_first P holds (t ∷ ts) few are elements kept = let count = count_is t ts in holds t ts are kept (omega arith) (omega arith)

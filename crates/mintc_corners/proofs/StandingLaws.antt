@@ -1,42 +1,23 @@
 -- The member that stands for a joint link.
-use Rattle.std.proofs.Common.{◌≡◌, ℕ, ◌<◌, ◌≤◌, ◌+◌, ◌*◌, ℤ, List, [], ◌∷◌, ◌++◌, length, get_or, take, arith, ap, ◌∙◌, sym, subst}
+use Rattle.std.proofs.Common.{◌≡◌, ℕ, ◌<◌, ◌≤◌, ◌*◌, List, ◌∷◌, length, arith, ap, ◌∙◌, sym, subst}
 use Rattle.std.specs.List.{Contains}
-use Rattle.std.proofs.lemmas.Int.{ints}
-use Rattle.std.proofs.lemmas.List.{take_more, map-append}
-use Rattle.std.proofs.lemmas.List.Elements.{All-push}
 use Rattle.mintc_timing.specs.declared.link.Link.{Link}
-use Rattle.mintc_timing.specs.declared.link.LinkKind.TheVariants as kind
 use Rattle.mintc_timing.specs.declared.parts.Bound.{Bound}
-use Rattle.mintc_timing.specs.Design.{Timing, no_pair, pair_at, phase_count}
-use Rattle.mintc_timing.specs.Limits.{IsDesign, IsPhase}
-use Rattle.mintc_timing.specs.Links.{links_of, link_at}
-use Rattle.mintc_timing.specs.Order.{IsTiming}
-use Rattle.mintc_timing.specs.Paths.{IsGreatestDelay, greatest_delay, input_of}
-use Rattle.mintc_ratio.specs.Chains.{links_at}
+use Rattle.mintc_timing.specs.Design.{Timing, phase_count}
+use Rattle.mintc_timing.specs.Limits.{IsPhase}
+use Rattle.mintc_timing.specs.Links.{links_of}
+use Rattle.mintc_timing.specs.Paths.{greatest_delay}
 use Rattle.mintc_certificate.specs.declared.members.Member.{Member}
 use Rattle.mintc_certificate.specs.declared.members.Member.TheVariants as member
 use Rattle.mintc_certificate.specs.Valid.{IsMember, link_of}
 use Rattle.mintc_optimise.specs.Making.{StandsFor as StandsForOwn}
-use Rattle.mintc_optimise.proofs.SharedStandingLaws.{of_kind}
-use Rattle.mintc_corners.specs.declared.members.CornerMember.{CornerMember}
-use Rattle.mintc_corners.specs.CornerOptimum.{IsCornerCounted, IsOfCorner, corner_of, link_of_corner}
-use Rattle.mintc_corners.specs.Joined.{joined_links, lifted_link, widest, AreStanding, IsStanding, corner_number}
+use Rattle.mintc_optimise.proofs.SharedStandingLaws.{slowest}
+use Rattle.mintc_corners.specs.CornerOptimum.{IsOfCorner, corner_of, link_of_corner}
+use Rattle.mintc_corners.specs.Joined.{StandsFor, corner_number, lifted_link, widest}
 use Rattle.mintc_corners.specs.Joint.{AreCorners, side_by_side}
 use Rattle.mintc_corners.specs.Laws.{AreBeside, AreSystems}
 use Rattle.mintc_corners.proofs.LiftLaws.{clock_is, elements_before, fed_in_all, in_all, opening_is, opened_is, own_design, own_kept, reach_is, same_bounds, same_phases, setup_is}
 use Rattle.mintc_corners.proofs.PlaceLaws.{before_is}
-
--- The member that stands for a listed reach has a path with the greatest delay.
-slowest : (t : Timing) (limits : IsDesign t.flat) (kept : IsTiming t.flat t.order t.pairs) (k : Link) (j l : ℕ) (path : List ℕ) → Contains (links_of t) k → link_of t.flat (member.Reach j l path) ≡ k →
-    IsGreatestDelay t.flat.arcs j (input_of l) (greatest_delay t.flat.arcs path)
-slowest t limits kept k j l path listed same =
-    let h = of_kind t limits k (kind.Reach j l) (ap (λ (x : Link). x.kind) (sym same)) listed in
-    let greatest = (kept.extremes.each h.0 no_pair h.1).greatest in
-    let asked = ap (λ (x : Link). x.delay) (same ∙ sym h.4) in
-    let sum : (pair_at t h.0).max ≡ greatest_delay t.flat.arcs path = omega (arith, ints) in
-    subst (λ (x : ℤ). IsGreatestDelay t.flat.arcs j (input_of l) x) sum
-    (subst (λ (b : ℕ). IsGreatestDelay t.flat.arcs j (input_of b) (pair_at t h.0).max) h.3
-    (subst (λ (a : ℕ). IsGreatestDelay t.flat.arcs a (input_of (pair_at t h.0).to) (pair_at t h.0).max) h.2 greatest))
 
 module _ (t : Timing) (ts : List Timing) (are : AreCorners (t ∷ ts)) (systems : AreSystems (t ∷ ts)) (besides : AreBeside t ts) (few : length ts ≤ 3) (c : ℕ) (below : c < length (t ∷ ts)) where
   abbrev big : Timing
@@ -86,23 +67,9 @@ module _ (t : Timing) (ts : List Timing) (are : AreCorners (t ∷ ts)) (systems 
   number-few (member.Setup l) = omega arith
   number-few m = omega arith
 
-  pub standing_for : (k : Link) (m : Member) → Contains (links_of own) k → StandsForOwn own k m → IsStanding t ts (lifted k) (record { corner = corner_number c m; member = m })
+  pub standing_for : (k : Link) (m : Member) → Contains (links_of own) k → StandsForOwn own k m → StandsFor (t ∷ ts) (lifted k) (record { corner = corner_number c m; member = m })
   standing_for k m listed h = record {
     member = named k m listed h.same h.member;
     same = lifted_member m h.member ∙ ap lifted h.same;
     counted = (number-few m, h.counted);
   }
-
--- one more member at the end
-pub stand_more : (t : Timing) (ts : List Timing) (chain : List ℕ) (i : ℕ) (members : List CornerMember) (m : CornerMember) → i < length chain → AreStanding t ts (take i chain) members →
-    IsStanding t ts (link_at (joined_links (t ∷ ts)) (get_or chain i 0)) m → AreStanding t ts (take (i + 1) chain) (members ++ m ∷ [])
-stand_more t ts chain i members m h before here =
-    let links = joined_links (t ∷ ts) in
-    record {
-      each = All-push (λ (x : CornerMember). IsOfCorner t ts x.corner x.member) members m before.each here.member;
-      same = map-append (λ (x : CornerMember). link_of_corner t ts x.corner x.member) members (m ∷ [])
-          ∙ ap (λ (ks : List Link). ks ++ link_of_corner t ts m.corner m.member ∷ []) before.same
-          ∙ ap (λ (k : Link). links_at links (take i chain) ++ k ∷ []) here.same
-          ∙ sym (ap (λ (ns : List ℕ). links_at links ns) (take_more chain i 0 h) ∙ map-append (link_at links) (take i chain) (get_or chain i 0 ∷ []));
-      counted = All-push IsCornerCounted members m before.counted here.counted;
-    }

@@ -1,5 +1,5 @@
 -- The turn of the loop that writes the departures of each corner.
-use Rattle.std.proofs.Common.{◌≡◌, ℕ, ℤ, ◌+◌, ◌<◌, List, [], ◌∷◌, ◌++◌, length, get_or, take, codes, ap, ◌∙◌, sym}
+use Rattle.std.proofs.Common.{◌≡◌, ℕ, ℤ, ◌+◌, ◌<◌, List, [], ◌∷◌, ◌++◌, length, get_or, take, codes}
 use Rattle.std.specs.List.{flat_map}
 use Rattle.std.proofs.lemmas.Grind.{flat_map-append}
 use Rattle.std.proofs.lemmas.List.{append-nil, take_more}
@@ -12,7 +12,5 @@ pub corner_more : (corners : List (List ℤ)) (i : ℕ) (d : List ℤ) (old now 
     new ≡ old ++ text_of (count_line (codes "corners") (length corners) ∷ flat_map departure_lines (take (i + 1) corners))
 corner_more corners i d old now new below is before step =
     let head = count_line (codes "corners") (length corners) in
-    let taken = take_more corners i d below ∙ ap (λ (x : List ℤ). take i corners ++ x ∷ []) (sym is) in
-    let lines = ap (flat_map departure_lines) taken ∙ flat_map-append departure_lines (take i corners) (d ∷ []) ∙ ap (λ (ls : List (List ℕ)). flat_map departure_lines (take i corners) ++ ls) (append-nil (departure_lines d)) in
-    texts_joined old now new (head ∷ flat_map departure_lines (take i corners)) (departure_lines d) before step
-    ∙ ap (λ (ls : List (List ℕ)). old ++ text_of (head ∷ ls)) (sym lines)
+    rw (take_more corners i d below, ← is, flat_map-append departure_lines (take i corners) (d ∷ []), append-nil (departure_lines d))
+    (texts_joined old now new (head ∷ flat_map departure_lines (take i corners)) (departure_lines d) before step)

@@ -1,8 +1,7 @@
 -- The moments of a corner's nodes among those of all, and the departures that they are.
-use Rattle.std.proofs.Common.{◌≡◌, ℕ, ◌<◌, ◌≤◌, ◌+◌, ◌-◌, ◌*◌, ℤ, pos, ◌-ℤ◌, cond, List, [], ◌∷◌, ◌++◌, length, get_or, take, drop, arith, refl, ap, ◌∙◌, sym, subst, ⊎_elim, length-append, length-drop}
+use Rattle.std.proofs.Common.{◌≡◌, ℕ, ◌<◌, ◌≤◌, ◌+◌, ◌*◌, ℤ, pos, ◌-ℤ◌, cond, List, [], ◌∷◌, ◌++◌, length, get_or, take, drop, arith, refl, ap, ◌∙◌, sym, subst, length-append, length-drop}
 use Rattle.std.specs.List.{flat_map}
 use Rattle.std.proofs.Math.ListN.{get_or-append}
-use Rattle.std.proofs.lemmas.Bool.{cases_lt}
 use Rattle.std.proofs.lemmas.List.{append-nil, ext_get_or, get_or-append-add, get_or-drop, get_or-take, length-take-le}
 use Rattle.std.proofs.lemmas.List.FromFn.{get_or-map-range_with_len, length-map-range_with_len}
 use Rattle.mintc_walks.specs.Walks.{value_at}
@@ -14,7 +13,7 @@ use Rattle.mintc_corners.specs.Joined.{departures_after, departures_of_all, own_
 use Rattle.mintc_corners.specs.Joint.{beside, side_by_side}
 use Rattle.mintc_corners.specs.Laws.{AreBeside, AreSystems}
 use Rattle.mintc_corners.proofs.JointLaws.{phases_are}
-use Rattle.mintc_corners.proofs.PartsLaws.{element_beside_left, element_beside_right}
+use Rattle.mintc_corners.proofs.PartsLaws.{each-element, element_beside_left, element_beside_right}
 
 module _ (clock before count : ℕ) (values : List ℤ) (inside : 1 + clock + before + count ≤ length values) where
   abbrev own : List ℤ
@@ -68,9 +67,7 @@ module _ (values : List ℤ) where
             let start = own_clock clock before (element_count t.flat) values inside (start_node (phase_of t.flat l)) (omega arith) in
             let at : element_node t.flat l ≡ 1 + clock + l = omega arith in
             let moment = ap (λ (x : ℕ). value_at own x) at ∙ own_element clock before (element_count t.flat) values inside l h in
-            get_or-map-range_with_len (departure_of t.flat own) 0 (element_count t.flat) l l (pos 0) h (omega arith)
-            ∙ ap (λ (x : ℤ). cond (element_at t.flat l).flop (pos 0) (x -ℤ value_at own (start_node (phase_of t.flat l)))) moment
-            ∙ ap (λ (x : ℤ). cond (element_at t.flat l).flop (pos 0) (value_at values (1 + clock + before + l) -ℤ x)) start;
+            rw (get_or-map-range_with_len (departure_of t.flat own) 0 (element_count t.flat) l l (pos 0) h (omega arith), moment, start) refl;
       }
 
   both_depart : (t v : Timing) (ds es : List ℤ) (clock before : ℕ) → AreAll ds clock before t values → AreAll es clock (before + element_count t.flat) v values → AreAll (ds ++ es) clock before (beside t v) values
@@ -79,20 +76,15 @@ module _ (values : List ℤ) where
       let one = first.count in
       record {
         count = (let parts = length-append ds es in omega arith);
-        each = λ l h. ⊎_elim
-            (λ (few : l < element_count t.flat).
-            get_or-append ds es (pos 0) l (omega arith) ∙ first.each l few
-            ∙ sym (ap (departs (1 + clock + before + l) values) (element_beside_left t v l few)))
-            (λ (many : element_count t.flat ≤ l).
-            let is : element_count t.flat + (l - element_count t.flat) ≡ l = omega arith in
-            let node : 1 + clock + (before + element_count t.flat) + (l - element_count t.flat) ≡ 1 + clock + before + (element_count t.flat + (l - element_count t.flat)) = omega arith in
-            subst (λ (x : ℕ). get_or (ds ++ es) x (pos 0) ≡ depart clock before (beside t v) values x) is
-            (ap (λ (n : ℕ). get_or (ds ++ es) (n + (l - element_count t.flat)) (pos 0)) (sym one)
-            ∙ get_or-append-add ds es (l - element_count t.flat) (pos 0)
-            ∙ second.each (l - element_count t.flat) (omega arith)
-            ∙ ap (λ (x : ℕ). departs x values (element_at v.flat (l - element_count t.flat))) node
-            ∙ sym (ap (departs (1 + clock + before + (element_count t.flat + (l - element_count t.flat))) values) (element_beside_right t v (l - element_count t.flat)))))
-            (cases_lt l (element_count t.flat));
+        each = each-element t v (λ l. get_or (ds ++ es) l (pos 0) ≡ depart clock before (beside t v) values l)
+            (λ l few. get_or-append ds es (pos 0) l (omega arith) ∙ first.each l few ∙ sym (ap (departs (1 + clock + before + l) values) (element_beside_left t v l few)))
+            (λ l many.
+            let node : 1 + clock + (before + element_count t.flat) + l ≡ 1 + clock + before + (element_count t.flat + l) = omega arith in
+            ap (λ (n : ℕ). get_or (ds ++ es) (n + l) (pos 0)) (sym first.count)
+            ∙ get_or-append-add ds es l (pos 0)
+            ∙ second.each l many
+            ∙ ap (λ (x : ℕ). departs x values (element_at v.flat l)) node
+            ∙ sym (ap (departs (1 + clock + before + (element_count t.flat + l)) values) (element_beside_right t v l)));
       }
 
   all_depart : (t : Timing) (ts : List Timing) (clock before : ℕ) → clock ≡ 2 * phase_count t.flat → AreBeside t ts → AreSystems (t ∷ ts) → 1 + clock + before + element_count (side_by_side t ts).flat ≤ length values →
@@ -102,7 +94,6 @@ module _ (values : List ℤ) where
   all_depart t (u ∷ ts) clock before is besides systems inside =
       let v = side_by_side u ts in
       let all = length-append t.flat.elements v.flat.elements in
-      let same = besides.1.phases in
       let phases = phases_are u ts in
       both_depart t v (departures_of t.flat (own_values clock before (element_count t.flat) values)) (flat_map (λ (d : List ℤ). d) (departures_after clock (before + element_count t.flat) (u ∷ ts) values)) clock before
       (own_departs t (u ∷ ts) clock before is systems (omega arith))

@@ -1,5 +1,5 @@
 -- The joint links as they are made, those of each corner in turn over one clock, and what the parts of a certificate are made of.
-use Rattle.std.specs.Prelude.{◌≡◌, ◌<◌, ◌≤◌, ◌+◌, ◌*◌, ℕ, suc, ℤ, pos, nat_lt, if◌then◌else◌, List, [], ◌∷◌, ◌++◌, length, slice_index_or, map, flat_map, take, drop, All}
+use Rattle.std.specs.Prelude.{◌≡◌, ◌<◌, ◌≤◌, ◌+◌, ◌*◌, ℕ, suc, ℤ, pos, nat_lt, if◌then◌else◌, List, [], ◌∷◌, ◌++◌, length, slice_index_or, map, flat_map, take, drop}
 use Rattle.std.specs.Int.{int_max}
 use Rattle.mintc_text.specs.declared.limits.TheConstants.{MOST_ELEMENTS}
 use Rattle.mintc_timing.specs.declared.link.Link.{Link}
@@ -7,16 +7,15 @@ use Rattle.mintc_timing.specs.declared.link.LinkKind.{LinkKind}
 use Rattle.mintc_timing.specs.declared.link.LinkKind.TheVariants as kind
 use Rattle.mintc_timing.specs.Clocking.{least_width}
 use Rattle.mintc_timing.specs.Design.{Design, Timing, element_count, phase_count}
-use Rattle.mintc_timing.specs.Links.{link, links_of}
+use Rattle.mintc_timing.specs.Links.{link, link_at, links_of}
 use Rattle.mintc_constraints.specs.Duality.{departures_of}
 use Rattle.mintc_constraints.specs.Laws.{node_count}
 use Rattle.mintc_constraints.specs.Ordinary.{Constraints, constraints_of}
 use Rattle.mintc_certificate.specs.declared.members.Member.{Member}
 use Rattle.mintc_certificate.specs.declared.members.Member.TheVariants as member
-use Rattle.mintc_ratio.specs.Chains.{links_at}
-use Rattle.mintc_optimise.specs.Making.{AreSayable}
+use Rattle.mintc_optimise.specs.Making.{AreSayable, Stands, StandInOrder}
 use Rattle.mintc_corners.specs.declared.members.CornerMember.{CornerMember}
-use Rattle.mintc_corners.specs.CornerOptimum.{IsCornerCounted, IsOfCorner, link_of_corner, links_of_corners}
+use Rattle.mintc_corners.specs.CornerOptimum.{IsCornerCounted, IsOfCorner, link_of_corner}
 
 -- a timing of nothing, which stands for those past the end of a list
 abbrev pub no_timing : Timing
@@ -102,24 +101,15 @@ corner_number c (member.Setup l) = suc c
 corner_number c m = 0
 
 -- The member names what its corner has, and stands for the joint link.
-pub record IsStanding (t : Timing) (ts : List Timing) (k : Link) (m : CornerMember) : Type 0 where
-  pub member : IsOfCorner t ts m.corner m.member
-  pub same : link_of_corner t ts m.corner m.member ≡ k
-  pub counted : IsCornerCounted m
-
 abbrev pub StandsFor : List Timing → Link → CornerMember → Type 0
 StandsFor [] k m = ⊥
-StandsFor (t ∷ ts) k m = IsStanding t ts k m
+StandsFor (t ∷ ts) k m = Stands (λ x. IsOfCorner t ts x.corner x.member) IsCornerCounted (λ x. link_of_corner t ts x.corner x.member) k m
 
 -- The members stand for the joint links of these numbers, in order.
-pub record AreStanding (t : Timing) (ts : List Timing) (chain : List ℕ) (members : List CornerMember) : Type 0 where
-  pub each : All (λ m. IsOfCorner t ts m.corner m.member) members
-  pub same : links_of_corners t ts members ≡ links_at (joined_links (t ∷ ts)) chain
-  pub counted : All IsCornerCounted members
-
 abbrev pub StandForAll : List Timing → List ℕ → List CornerMember → Type 0
 StandForAll [] chain members = ⊥
-StandForAll (t ∷ ts) chain members = AreStanding t ts chain members
+StandForAll (t ∷ ts) chain members =
+    StandInOrder (λ x. IsOfCorner t ts x.corner x.member) IsCornerCounted (λ x. link_of_corner t ts x.corner x.member) (link_at (joined_links (t ∷ ts))) chain members
 
 -- The moments of the corner after so many elements are small enough to be said.
 pub record IsSayable (clock before : ℕ) (design : Design) (values : List ℤ) : Type 0 where

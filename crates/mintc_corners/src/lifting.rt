@@ -42,6 +42,7 @@ fn lifted_kind(before: u32, kind: LinkKind) -> LinkKind
 }
 
 /// The greatest least width of a phase over all corners, in femtoseconds.
+#[tactic(auto, using(crate::proofs::LoopLaws::widest_begun))]
 fn width_of_all(systems: &[System], phase: u32) -> i64
     ensures { result ≡ widest systems.now phase }
 {

@@ -69,6 +69,7 @@ fn put_chain(lines: &mut Lines, members: &[CornerMember]) -> Result<(), OutOfMem
 }
 
 /// Writes the lines of the departures of each corner.
+#[tactic(auto, using(crate::proofs::TextLaws::corner_more))]
 fn put_all_departures(lines: &mut Lines, corners: &[Departures]) -> Result<(), OutOfMemory>
     ensures { OnOk result (lines.new ≡ lines.old ++ text_of (all_departure_lines corners.now)) }
 {

@@ -1,6 +1,6 @@
 -- What is made of the answer of a search over a design's links is a certificate.
-use Rattle.std.proofs.Common.{◌≡◌, ◌≢◌, ℕ, ◌≤◌, ℤ, List, [], ◌∷◌, length, arith, refl, ap, sym, ◌∙◌, subst}
-use Rattle.std.specs.List.{All, AllPairs, Contains}
+use Rattle.std.proofs.Common.{◌≡◌, ◌≢◌, ℕ, ◌≤◌, ℤ, List, [], ◌∷◌, length, arith, ap, sym, ◌∙◌}
+use Rattle.std.specs.List.{All, AllPairs}
 use Rattle.std.proofs.lemmas.List.{length-map, get_or-map}
 use Rattle.std.proofs.lemmas.List.FromFn.{length-map-range_with_len}
 use Rattle.mintc_fraction.specs.Ratio.{Ratio}
@@ -9,16 +9,15 @@ use Rattle.mintc_timing.specs.declared.clocking.Schedule.{Schedule}
 use Rattle.mintc_rings.specs.Rings.{IsClosed}
 use Rattle.mintc_timing.specs.Design.{Timing, element_count}
 use Rattle.mintc_timing.specs.Limits.{IsDesign, IsInRange}
-use Rattle.mintc_timing.specs.Links.{links_of, delay_of, cycles_of, link_at, IsTight, IsStuck}
+use Rattle.mintc_timing.specs.Links.{links_of, link_at}
 use Rattle.mintc_timing.specs.Order.{IsTiming}
-use Rattle.mintc_timing.specs.Right.{IsLeastCycle, IsRight}
-use Rattle.mintc_constraints.specs.Duality.{AreExactMoments, departure_of, departures_of, schedule_of}
+use Rattle.mintc_timing.specs.Right.{IsRight}
+use Rattle.mintc_constraints.specs.Duality.{departure_of, departures_of, schedule_of}
 use Rattle.mintc_constraints.specs.Laws.{node_count}
-use Rattle.mintc_constraints.specs.Ordinary.{Constraints, constraints_of}
+use Rattle.mintc_constraints.specs.Ordinary.{Constraints, IsOrdinary, constraints_of}
 use Rattle.mintc_constraints.specs.Rooms.{Space}
 use Rattle.mintc_constraints.proofs.SharedOrdinaryLaws.{ordinary}
 use Rattle.mintc_timing.proofs.SharedLinkLaws.{ends_of}
-use Rattle.mintc_ratio.specs.declared.searching.Outcome.{Outcome}
 use Rattle.mintc_ratio.specs.declared.searching.Outcome.TheVariants as outcome
 use Rattle.mintc_ratio.specs.Chains.{NamesChain, links_at}
 use Rattle.mintc_ratio.specs.Searched.{HasSearched, IsLeast}
@@ -28,15 +27,13 @@ use Rattle.mintc_certificate.specs.declared.certificate.Certificate.{Certificate
 use Rattle.mintc_certificate.specs.declared.certificate.Certificate.TheVariants.{Least, Never}
 use Rattle.mintc_certificate.specs.Optimal.{IsOptimal}
 use Rattle.mintc_certificate.specs.Ranges.{IsCertificateInRange, IsChainInRange, IsDeparture}
-use Rattle.mintc_certificate.specs.Valid.{IsRing, IsValid, counts, clock, bounds, departures, setups, ring, sums, link_of, links_of_members}
+use Rattle.mintc_certificate.specs.Valid.{IsRing, IsValid, counts, clock, bounds, departures, setups, ring, sums, SchedulePasses, Test, link_of, links_of_members}
 use Rattle.mintc_optimise.specs.Bounded.{CertifiesNeverOnlyWithBounds}
 use Rattle.mintc_optimise.specs.Making.{AreSayable, StandForAll}
-use Rattle.mintc_optimise.specs.Optimum.{HasEarliest, HasSimple, IsEarliest, IsSimple}
-use Rattle.mintc_optimise.proofs.SharedEarliestLaws.{earliest}
-use Rattle.mintc_optimise.proofs.SharedSayingLaws.{are_sayable}
-use Rattle.mintc_optimise.proofs.SolvedLaws.{solved_here}
+use Rattle.mintc_optimise.specs.Optimum.{HasEarliest, HasSimple, IsSimple}
+use Rattle.mintc_optimise.proofs.SolvedLaws.{solved}
 use Rattle.mintc_optimise.proofs.UnboundedLaws.{never_needs_a_bound_lem}
-use Rattle.mintc_optimise.proofs.SharedWalkedLaws.{exact_moments}
+use Rattle.mintc_optimise.proofs.SharedWalkedLaws.{AreLeast, are_least}
 
 -- what a certificate must be
 pub record IsAnswer (t : Timing) (certificate : Certificate) : Type 0 where
@@ -47,136 +44,104 @@ pub record IsAnswer (t : Timing) (certificate : Certificate) : Type 0 where
   pub bounded : CertifiesNeverOnlyWithBounds t.flat certificate
   pub in_range : IsCertificateInRange certificate
 
--- what differs by number, differs by link
-pub AllPairs-named : (links : List Link) (chain : List ℕ) → AllPairs (λ a b. (link_at links a).to ≢ (link_at links b).to) chain → AllPairs (λ (x y : Link). x.to ≢ y.to) (links_at links chain)
-AllPairs-named links chain h i j k less inside e =
-    let count = length-map chain (link_at links) in
-    h i j 0 less (omega arith) (ap (λ (x : Link). x.to) (sym (get_or-map (link_at links) chain i 0 k (omega arith))) ∙ e ∙ ap (λ (x : Link). x.to) (get_or-map (link_at links) chain j 0 k (omega arith)))
+-- Links that lead round, enter no node twice, and are from 1 to 4,096.
+pub record IsRound (ks : List Link) : Type 0 where
+  pub closed : IsClosed (λ (k : Link). k.from) (λ (k : Link). k.to) ks
+  pub once : AllPairs (λ (a b : Link). a.to ≢ b.to) ks
+  pub some : 1 ≤ length ks
+  pub most : length ks ≤ 4096
 
-some_closed : (ks : List Link) → IsClosed (λ k. k.from) (λ k. k.to) ks → 1 ≤ length ks
+some_closed : (ks : List Link) → IsClosed (λ (k : Link). k.from) (λ (k : Link). k.to) ks → 1 ≤ length ks
 some_closed [] h = absurd h
 some_closed (k ∷ ks) h = omega arith
 
+-- The links that a search over any ordinary links names do so.
+pub round : (nodes : ℕ) (links : List Link) (chain : List ℕ) → IsOrdinary (constraints_of nodes links) → NamesChain links chain → IsRound (links_at links chain)
+round nodes links chain all named =
+    let count = length-map chain (link_at links) in
+    let few = few_links nodes links all chain named in
+    let most = all.nodes.1 in
+    record {
+      closed = named.chain.closed;
+      once = λ i j k less inside e.
+          named.once i j 0 less (omega arith) (ap (λ (x : Link). x.to) (sym (get_or-map (link_at links) chain i 0 k (omega arith))) ∙ e ∙ ap (λ (x : Link). x.to) (get_or-map (link_at links) chain j 0 k (omega arith)));
+      some = some_closed (links_at links chain) named.chain.closed;
+      most = omega arith;
+    }
+
 module _ (t : Timing) (limits : IsDesign t.flat) (kept : IsTiming t.flat t.order t.pairs) where
-  -- the answer of a search over the links of the design
-  pub least_of : (list : Constraints) (room : Space) (o : Outcome) (cycle : Ratio) → list ≡ constraints_of (node_count t.flat) (links_of t) → o ≡ outcome.Least cycle → HasSearched list room o →
-      IsLeast (constraints_of (node_count t.flat) (links_of t)) cycle room
-  least_of list room o cycle list_is o_is h =
-      subst (λ (x : Outcome). HasSearched (constraints_of (node_count t.flat) (links_of t)) room x) o_is (subst (λ (x : Constraints). HasSearched x room o) list_is h)
-
-  stuck_of : (list : Constraints) (room : Space) (o : Outcome) → list ≡ constraints_of (node_count t.flat) (links_of t) → o ≡ outcome.Never → HasSearched list room o →
-      HasSearched (constraints_of (node_count t.flat) (links_of t)) room outcome.Never
-  stuck_of list room o list_is o_is h =
-      subst (λ (x : Outcome). HasSearched (constraints_of (node_count t.flat) (links_of t)) room x) o_is (subst (λ (x : Constraints). HasSearched x room o) list_is h)
-
-  stand_of : (list : Constraints) (links : List Link) (numbers chain : List ℕ) (members : List Member) → list ≡ constraints_of (node_count t.flat) (links_of t) → links ≡ list.links → numbers ≡ chain →
-      StandForAll t links numbers members → StandForAll t (links_of t) chain members
-  stand_of list links numbers chain members list_is links_are numbers_are h =
-      subst (λ (ns : List ℕ). StandForAll t (links_of t) ns members) numbers_are
-      (subst (λ (ks : List Link). StandForAll t ks numbers members) (links_are ∙ ap (λ (c : Constraints). c.links) list_is) h)
+  abbrev list : Constraints
+  list = constraints_of (node_count t.flat) (links_of t)
 
   module _ (chain : List ℕ) (named : NamesChain (links_of t) chain) (members : List Member) (stand : StandForAll t (links_of t) chain members) where
+    is_round : IsRound (links_of_members t.flat members)
+    is_round = rw stand.same (round (node_count t.flat) (links_of t) chain (ordinary t limits kept) named)
+
     is_ring : IsRing t members
-    is_ring = (stand.each, subst (λ (ks : List Link). IsClosed (λ k. k.from) (λ k. k.to) ks) (sym stand.same) named.chain.closed)
+    is_ring = (stand.each, is_round.closed)
 
-    delays : delay_of (links_of_members t.flat members) ≡ delay_of (links_at (links_of t) chain)
-    delays = ap (λ (ks : List Link). delay_of ks) stand.same
-
-    cycles : cycles_of (links_of_members t.flat members) ≡ cycles_of (links_at (links_of t) chain)
-    cycles = ap (λ (ks : List Link). cycles_of ks) stand.same
-
-    simple_here : IsSimple t members
-    simple_here = record {
-      listed = subst (λ (ks : List Link). All (Contains (links_of t)) ks) (sym stand.same) named.chain.listed;
-      once = subst (λ (ks : List Link). AllPairs (λ a b. a.to ≢ b.to) ks) (sym stand.same) (AllPairs-named (links_of t) chain named.once);
-    }
+    simple : IsSimple t members
+    simple = record { listed = rw stand.same named.chain.listed; once = is_round.once }
 
     chain_in : IsChainInRange members
     chain_in =
-        let all = ordinary t limits kept in
-        let few = few_links (node_count t.flat) (links_of t) all chain named in
-        let most = all.nodes.1 in
-        let some = some_closed (links_of_members t.flat members) is_ring.1 in
-        let count = ap (λ (ks : List Link). length ks) stand.same in
-        let first = length-map members (link_of t.flat) in
-        let second = length-map chain (link_at (links_of t)) in
+        let round = is_round in
+        let count = length-map members (link_of t.flat) in
         record { some = omega arith; most = omega arith; each = stand.counted }
 
-    valid_never : IsStuck (links_at (links_of t) chain) → IsValid t (Never members)
-    valid_never stuck ring = is_ring
-    valid_never stuck sums = record { turns = cycles ∙ stuck.turns; stuck = rw delays stuck.stuck }
-    valid_never stuck counts = tt
-    valid_never stuck clock = tt
-    valid_never stuck bounds = tt
-    valid_never stuck departures = tt
-    valid_never stuck setups = tt
+  right_passes : (s : Schedule) (d : List ℤ) → IsRight t s d → (test : Test) → SchedulePasses t s d test
+  right_passes s d right counts = (right.clock.starts, right.clock.widths, right.exact.count)
+  right_passes s d right clock = right.clock
+  right_passes s d right bounds = right.bounds
+  right_passes s d right departures = right.exact
+  right_passes s d right setups = right.setup
+  right_passes s d right test = tt
 
-    valid_least : (s : Schedule) (d : List ℤ) (cycle : Ratio) → s.den ≡ cycle.den → s.cycle ≡ cycle.num → IsRight t s d → IsTight (links_at (links_of t) chain) cycle.num cycle.den → IsValid t (Least s d members)
-    valid_least s d cycle den_is cycle_is right tight counts = (right.clock.starts, right.clock.widths, right.exact.count)
-    valid_least s d cycle den_is cycle_is right tight clock = right.clock
-    valid_least s d cycle den_is cycle_is right tight bounds = right.bounds
-    valid_least s d cycle den_is cycle_is right tight departures = right.exact
-    valid_least s d cycle den_is cycle_is right tight setups = right.setup
-    valid_least s d cycle den_is cycle_is right tight ring = is_ring
-    valid_least s d cycle den_is cycle_is right tight sums = record { turns = rw cycles tight.turns; tight = rw (delays, cycles, den_is, cycle_is) tight.tight }
-
-  module _ (room : Space) (cycle : Ratio) (found : IsLeast (constraints_of (node_count t.flat) (links_of t)) cycle room) where
+  module _ (room : Space) (cycle : Ratio) (found : IsLeast list cycle room) where
     abbrev s : Schedule
     s = schedule_of t.flat cycle.num cycle.den room.values
 
     abbrev d : List ℤ
     d = departures_of t.flat room.values
 
-    exact : AreExactMoments t cycle.num cycle.den room.values
-    exact = exact_moments t limits (ends_of t kept.extremes) cycle room.values found.values
+    here : AreLeast t cycle room.values
+    here = are_least t limits (ends_of t kept.extremes) cycle room.values found.values found.cycle_is (links_at (links_of t) room.chain) found.chain.chain found.tight
 
     pub sayable : AreSayable t.flat room.values
-    sayable = are_sayable t limits cycle found.cycle_is room.values exact
+    sayable = here.sayable
 
-    optimal_here : IsLeastCycle t cycle.num cycle.den × IsRight t s d
-    optimal_here = solved_here t limits (ends_of t kept.extremes) room (outcome.Least cycle) found
+    valid : (members : List Member) → StandForAll t (links_of t) room.chain members → IsValid t (Least s d members)
+    valid members stand ring = is_ring room.chain found.chain members stand
+    valid members stand sums = rw stand.same found.tight
+    valid members stand test = right_passes s d here.right test
 
-    module _ (s' : Schedule) (d' : List ℤ) (members : List Member) (s_is : s' ≡ s) (d_is : d' ≡ d) (stand : StandForAll t (links_of t) room.chain members) where
-      -- what holds of the schedule and its departures, holds of those that equal them
-      of_these : (P : Schedule → List ℤ → Type 0) → P s d → P s' d'
-      of_these P h = subst (λ (x : Schedule). P x d') (sym s_is) (subst (λ (y : List ℤ). P s y) (sym d_is) h)
+    -- what the code makes of the answer
+    pub made_least : (members : List Member) (s' : Schedule) (d' : List ℤ) → StandForAll t (links_of t) room.chain members → s' ≡ s → d' ≡ d → IsInRange s' → All IsDeparture d' → IsAnswer t (Least s' d' members)
+    made_least members s' d' stand s_is d_is schedule_in departures_in =
+        let all = length-map-range_with_len (departure_of t.flat room.values) 0 (element_count t.flat) in
+        rw (s_is, d_is) (record {
+          valid = valid members stand;
+          optimal = (here.right, here.least);
+          earliest = here.earliest;
+          simple = simple room.chain found.chain members stand;
+          bounded = tt;
+          in_range = record { schedule_in = rw s_is at schedule_in; count = omega arith; each = rw d_is at departures_in; chain_in = chain_in room.chain found.chain members stand };
+        })
 
-      made : IsInRange s' → All IsDeparture d' → IsAnswer t (Least s' d' members)
-      made schedule_in departures_in =
-          let elements = limits.elements in
-          let count = ap length d_is in
-          let all = length-map-range_with_len (departure_of t.flat room.values) 0 (element_count t.flat) in
-          record {
-            valid = of_these (λ x y. IsValid t (Least x y members)) (valid_least room.chain found.chain members stand s d cycle refl refl optimal_here.1 found.tight);
-            optimal = of_these (λ x y. IsOptimal t (Least x y members)) (optimal_here.1, optimal_here.0);
-            earliest = of_these (IsEarliest t.flat (links_of t)) (earliest t limits (links_of t) cycle room.values found.cycle_is.lowest found.values);
-            simple = simple_here room.chain found.chain members stand;
-            bounded = tt;
-            in_range = record { schedule_in = schedule_in; count = omega arith; each = departures_in; chain_in = chain_in room.chain found.chain members stand };
-          }
+  module _ (room : Space) (members : List Member) (found : HasSearched list room outcome.Never) (stand : StandForAll t (links_of t) room.chain members) where
+    valid_never : IsValid t (Never members)
+    valid_never ring = is_ring room.chain found.0 members stand
+    valid_never sums = rw stand.same found.1
+    valid_never test = tt
 
-  -- what the code makes of the answer
-  module _ (list : Constraints) (room : Space) (o : Outcome) (list_is : list ≡ constraints_of (node_count t.flat) (links_of t)) (searched : HasSearched list room o)
-      (links : List Link) (numbers : List ℕ) (members : List Member) (links_are : links ≡ list.links) (numbers_are : numbers ≡ room.chain) (stand : StandForAll t links numbers members)
-    where
-      pub made_least : (cycle : Ratio) (values moments : List ℤ) (s' : Schedule) (d' : List ℤ) → o ≡ outcome.Least cycle → values ≡ room.values → moments ≡ room.values →
-          s' ≡ schedule_of t.flat cycle.num cycle.den values → d' ≡ departures_of t.flat moments → IsInRange s' → All IsDeparture d' → IsAnswer t (Least s' d' members)
-      made_least cycle values moments s' d' o_is values_are moments_are s_is d_is =
-          made room cycle (least_of list room o cycle list_is o_is searched) s' d' members
-          (s_is ∙ ap (λ (v : List ℤ). schedule_of t.flat cycle.num cycle.den v) values_are)
-          (d_is ∙ ap (λ (v : List ℤ). departures_of t.flat v) moments_are)
-          (stand_of list links numbers room.chain members list_is links_are numbers_are stand)
-
-      pub made_never : o ≡ outcome.Never → IsAnswer t (Never members)
-      made_never o_is =
-          let stuck = stuck_of list room o list_is o_is searched in
-          let stands = stand_of list links numbers room.chain members list_is links_are numbers_are stand in
-          let hopeless = solved_here t limits (ends_of t kept.extremes) room outcome.Never stuck in
-          record {
-            valid = valid_never room.chain stuck.0 members stands stuck.1;
-            optimal = hopeless;
-            earliest = tt;
-            simple = simple_here room.chain stuck.0 members stands;
-            bounded = never_needs_a_bound_lem t limits kept hopeless;
-            in_range = chain_in room.chain stuck.0 members stands;
-          }
+    pub made_never : IsAnswer t (Never members)
+    made_never =
+        let hopeless = solved t limits (ends_of t kept.extremes) room outcome.Never found in
+        record {
+          valid = valid_never;
+          optimal = hopeless;
+          earliest = tt;
+          simple = simple room.chain found.0 members stand;
+          bounded = never_needs_a_bound_lem t limits kept hopeless;
+          in_range = chain_in room.chain found.0 members stand;
+        }

@@ -1,5 +1,5 @@
 -- The values of greatest walks over any links between a design's nodes are the earliest schedule with its departures.
-use Rattle.std.proofs.Common.{◌≡◌, ℕ, ◌-◌, ◌<◌, ℤ, pos, ◌≤ℤ◌, ◌-ℤ◌, ◌+ℤ◌, ◌*ℤ◌, Bool, false, cond, List, arith, ap, ◌∙◌}
+use Rattle.std.proofs.Common.{◌≡◌, ℕ, ◌-◌, ◌<◌, ℤ, pos, ◌≤ℤ◌, ◌-ℤ◌, ◌+ℤ◌, ◌*ℤ◌, false, List, arith, refl, ap}
 use Rattle.std.proofs.lemmas.Int.{ints}
 use Rattle.std.proofs.lemmas.List.FromFn.{get_or-map-range_with_len}
 use Rattle.mintc_fraction.specs.Ratio.{Ratio, IsLowest}
@@ -25,22 +25,19 @@ module _ (t : Timing) (limits : IsDesign t.flat) (links : List Link) (cycle : Ra
   abbrev d : List ℤ
   d = departures_of t.flat values
 
-  start_is : (p : ℕ) → IsPhase (phase_count t.flat) p → start_of s p ≡ value_at values (start_node p)
+  pub start_is : (p : ℕ) → IsPhase (phase_count t.flat) p → start_of s p ≡ value_at values (start_node p)
   start_is p h =
-      let low = h.0 in
-      let high = h.1 in
       get_or-map-range_with_len (λ p. value_at values (start_node p)) 1 (phase_count t.flat) (p - 1) p (pos 0) (omega arith) (omega arith)
 
   width_is : (p : ℕ) → IsPhase (phase_count t.flat) p → width_of s p ≡ value_at values (end_node p) -ℤ value_at values (start_node p)
   width_is p h =
-      let low = h.0 in
-      let high = h.1 in
       get_or-map-range_with_len (λ p. value_at values (end_node p) -ℤ value_at values (start_node p)) 1 (phase_count t.flat) (p - 1) p (pos 0) (omega arith) (omega arith)
 
+  pub end_is : (p : ℕ) → IsPhase (phase_count t.flat) p → end_of s p ≡ value_at values (end_node p)
+  end_is p h = omega (arith, ints, start_is p h, width_is p h)
+
   departure_is : (l : ℕ) → l < element_count t.flat → (element_at t.flat l).flop ≡ false → departure d l ≡ value_at values (element_node t.flat l) -ℤ value_at values (start_node (phase_of t.flat l))
-  departure_is l h latch =
-      get_or-map-range_with_len (departure_of t.flat values) 0 (element_count t.flat) l l (pos 0) h (omega arith)
-      ∙ ap (λ (b : Bool). cond b (pos 0) (value_at values (element_node t.flat l) -ℤ value_at values (start_node (phase_of t.flat l)))) latch
+  departure_is l h latch = rw (get_or-map-range_with_len (departure_of t.flat values) 0 (element_count t.flat) l l (pos 0) h (omega arith), latch) refl
 
   module _ (lowest : IsLowest cycle) (g : AreGreatest (constraints_of (node_count t.flat) links) cycle values) where
     -- No solution has a moment before the value of its node.
@@ -55,10 +52,7 @@ module _ (t : Timing) (limits : IsDesign t.flat) (links : List Link) (cycle : Ra
           let least = least_at factor moment solution (start_node p) (omega arith) in
           omega (arith, ints);
       ends = λ factor moment solution p low high.
-          let start = start_is p (low, high) in
-          let width = width_is p (low, high) in
-          let ends_at : end_of s p ≡ value_at values (end_node p) = omega (arith, ints) in
-          let is = ap (λ x. x *ℤ factor) ends_at in
+          let is = ap (λ x. x *ℤ factor) (end_is p (low, high)) in
           let least = least_at factor moment solution (end_node p) (omega arith) in
           omega (arith, ints);
       latches = λ factor moment solution l h latch.

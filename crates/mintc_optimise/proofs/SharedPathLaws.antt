@@ -10,7 +10,6 @@ use Rattle.mintc_timing.proofs.SharedOrdered.{place, follows}
 pub arcs_below : (arcs : List TimingArc) (a : ℕ) (path : List ℕ) (b most : ℕ) → length arcs ≤ most → Leads arcs a path b → All (λ n. n ≤ most) path
 arcs_below arcs a [] b most h leads = All-nil (λ n. n ≤ most)
 arcs_below arcs a (n ∷ path) b most h leads =
-    let below = leads.0 in
     All-cons (λ n. n ≤ most) n path (omega arith) (arcs_below arcs (arc_at arcs n).to path b most h leads.2)
 
 module _ (arcs : List TimingArc) (order : List ℕ) (is_order : IsOrder arcs order) where

@@ -1,11 +1,11 @@
 -- Exact moments at a cycle time of the search are small enough to be said.
-use Rattle.std.proofs.Common.{◌≡◌, ℕ, ◌<◌, ℤ, pos, negsuc, ◌≤ℤ◌, ◌+ℤ◌, ◌-ℤ◌, ◌*ℤ◌, false, List, arith}
+use Rattle.std.proofs.Common.{◌≡◌, ℕ, ◌<◌, ℤ, pos, negsuc, ◌≤ℤ◌, ◌-ℤ◌, ◌*ℤ◌, false, List, arith}
 use Rattle.std.proofs.lemmas.Int.{ints}
 use Rattle.mintc_fraction.specs.Ratio.{Ratio}
 use Rattle.mintc_walks.specs.Walks.{value_at}
 use Rattle.mintc_timing.specs.Design.{Timing, element_at, element_count, phase_count, phase_of, no_element}
 use Rattle.mintc_timing.specs.Limits.{IsDesign, IsGap, IsDelay, IsNumerator, IsPhase}
-use Rattle.mintc_timing.specs.Links.{element_node, end_node, setup_link, opening_link, start_node, IsMet}
+use Rattle.mintc_timing.specs.Links.{element_node, end_node, start_node, IsMet}
 use Rattle.mintc_timing.proofs.SharedProducts.{times-mono_positive}
 use Rattle.mintc_constraints.specs.Duality.{AreExactMoments}
 use Rattle.mintc_timing.proofs.SharedByKind.{EachKind, EachKind-from_all}
@@ -36,10 +36,8 @@ module _ (t : Timing) (limits : IsDesign t.flat) (cycle : Ratio) (is_cycle : IsC
 
   start_range : (p : ℕ) → IsPhase (phase_count t.flat) p → IsNumerator (value_at values (start_node p))
   start_range p h =
-      let origin = exact.moments.origin in
       let start = met.start p h in
       let back = met.cycle p h in
-      let most = is_cycle.num in
       (omega (arith, ints), omega (arith, ints))
 
   width_low : (p : ℕ) → IsPhase (phase_count t.flat) p → pos 0 ≤ℤ (value_at values (end_node p) -ℤ value_at values (start_node p))
@@ -51,7 +49,6 @@ module _ (t : Timing) (limits : IsDesign t.flat) (cycle : Ratio) (is_cycle : IsC
   width_high : (p : ℕ) → IsPhase (phase_count t.flat) p → (value_at values (end_node p) -ℤ value_at values (start_node p)) ≤ℤ pos 4040000000000
   width_high p h =
       let span = met.span p h in
-      let most = is_cycle.num in
       omega (arith, ints)
 
   departure_range : (l : ℕ) → l < element_count t.flat → (element_at t.flat l).flop ≡ false → IsDeparture (value_at values (element_node t.flat l) -ℤ value_at values (start_node (phase_of t.flat l)))
@@ -60,17 +57,9 @@ module _ (t : Timing) (limits : IsDesign t.flat) (cycle : Ratio) (is_cycle : IsC
       let width = width_high (phase_of t.flat l) e.phase in
       let early = gap_times ((element_at t.flat l).cq_max -ℤ (element_at t.flat l).dq_max) cycle.den (gap_between _ _ e.cq_max e.dq_max) is_cycle.fraction is_cycle.den in
       let late = gap_times (element_at t.flat l).setup cycle.den e.setup is_cycle.fraction is_cycle.den in
-      let opens = opening (met.opening l h) in
-      let closes = setup (met.setup l h) in
+      let opens = rw latch at (met.opening l h) in
+      let closes = rw latch at (met.setup l h) in
       (omega (arith, ints), omega (arith, ints))
-    where
-      opening : IsMet cycle.num cycle.den (value_at values) (opening_link t.flat l) →
-          (value_at values (start_node (phase_of t.flat l)) +ℤ ((element_at t.flat l).cq_max -ℤ (element_at t.flat l).dq_max) *ℤ cycle.den) ≤ℤ value_at values (element_node t.flat l)
-      opening k = let here = rw latch at k in omega (arith, ints)
-
-      setup : IsMet cycle.num cycle.den (value_at values) (setup_link t.flat l) →
-          (value_at values (element_node t.flat l) +ℤ (element_at t.flat l).setup *ℤ cycle.den) ≤ℤ value_at values (end_node (phase_of t.flat l))
-      setup k = let here = rw latch at k in omega (arith, ints)
 
   pub are_sayable : AreSayable t.flat values
   are_sayable = record {

@@ -1,4 +1,4 @@
--- The member that stands for a link of a design, by the link's kind.
+-- Members that stand for links, one after another, and the one that stands for a link of a design, by the link's kind.
 use Rattle.std.proofs.Common.{◌≡◌, ℕ, ◌+◌, ◌*◌, ◌<◌, ℤ, ◌-ℤ◌, List, length, get_or, arith, refl, ap, sym, subst, ◌∙◌, ◌∷◌, [], ◌++◌, take}
 use Rattle.std.specs.List.{All, Contains}
 use Rattle.std.proofs.lemmas.Int.{ints}
@@ -11,16 +11,13 @@ use Rattle.mintc_timing.specs.Design.{Timing, element_at, element_count, pair_at
 use Rattle.mintc_timing.specs.Limits.{IsDesign}
 use Rattle.mintc_timing.specs.Links.{links_of, bound_link, reach_link, no_link, link_at}
 use Rattle.mintc_timing.specs.Order.{IsTiming}
-use Rattle.mintc_timing.specs.Paths.{IsPath, input_of, greatest_delay}
+use Rattle.mintc_timing.specs.Paths.{IsGreatestDelay, IsPath, input_of, greatest_delay}
 use Rattle.mintc_timing.proofs.SharedByKind.{EachKind, All-links}
-use Rattle.mintc_certificate.specs.declared.members.Member.{Member}
 use Rattle.mintc_certificate.specs.declared.members.Member.TheVariants as member
-use Rattle.mintc_certificate.specs.CertificateText.{IsCounted}
-use Rattle.mintc_certificate.specs.Valid.{IsMember, link_of, no_bound}
+use Rattle.mintc_certificate.specs.Valid.{link_of, no_bound}
 use Rattle.mintc_paths.specs.declared.trace.Extreme.TheVariants.{Greatest}
 use Rattle.mintc_paths.specs.Finding.{IsDelayOf}
-use Rattle.mintc_ratio.specs.Chains.{links_at}
-use Rattle.mintc_optimise.specs.Making.{StandsFor, StandForAll}
+use Rattle.mintc_optimise.specs.Making.{Stands, StandInOrder, StandsFor}
 use Rattle.mintc_optimise.proofs.SharedPathLaws.{arcs_below, path_short}
 
 -- What is known of a link by its kind: which member stands for it, and at a reach which pair it is of.
@@ -39,12 +36,25 @@ IsOfKind t k (kind.Setup l) = StandsFor t k (member.Setup l)
 IsOfKind t k (kind.Bound n) = StandsFor t k (member.Bound n)
 IsOfKind t k (kind.Other n) = ⊥
 
+-- one more member at the end
+pub stand_more : {M : Type 0} {meant few : M → Type 0} {shows : M → Link} (link : ℕ → Link) (chain : List ℕ) (i : ℕ) (members : List M) (m : M) → i < length chain →
+    StandInOrder meant few shows link (take i chain) members → Stands meant few shows (link (get_or chain i 0)) m → StandInOrder meant few shows link (take (i + 1) chain) (members ++ m ∷ [])
+stand_more {M} {meant} {few} {shows} link chain i members m h before here = record {
+  each = All-push meant members m before.each here.member;
+  same = rw (take_more chain i 0 h, map-append shows members (m ∷ []), map-append link (take i chain) (get_or chain i 0 ∷ []), before.same, here.same) refl;
+  counted = All-push few members m before.counted here.counted;
+}
+
+-- one more member at the end, of the link that the code reads
+pub stand_read : {M : Type 0} {meant few : M → Type 0} {shows : M → Link} (see : Link → Link) (links : List Link) (chain : List ℕ) (i : ℕ) (members : List M) (m : M) (d : Link) → i < length chain →
+    All (λ e. e < length links) chain → StandInOrder meant few shows (λ e. see (link_at links e)) (take i chain) members → Stands meant few shows (see (get_or links (get_or chain i 0) d)) m →
+    StandInOrder meant few shows (λ e. see (link_at links e)) (take (i + 1) chain) (members ++ m ∷ [])
+stand_read {M} {meant} {few} {shows} see links chain i members m d h exist before here =
+    stand_more (λ e. see (link_at links e)) chain i members m h before (subst (λ (k : Link). Stands meant few shows (see k) m) (get_or_default links (get_or chain i 0) d no_link (exist i 0 h)) here)
+
 module _ (t : Timing) (limits : IsDesign t.flat) where
   each_of_kind : EachKind t (λ k. IsOfKind t k k.kind)
   each_of_kind =
-      let phases = limits.phases.1 in
-      let elements = limits.elements in
-      let bounds = limits.bounds in
       record {
         start = λ p h. let high = h.1 in record { member = h; same = refl; counted = omega arith };
         cycle = λ p h. let high = h.1 in record { member = h; same = refl; counted = omega arith };
@@ -81,13 +91,6 @@ module _ (t : Timing) (limits : IsDesign t.flat) where
         (delay : ℤ) → delay ≡ k.delay -ℤ (element_at t.flat j).dq_max → greatest_delay t.flat.arcs path ≡ delay → StandsFor t k (member.Reach j l path)
     reach_stands k j l path h is_path asked asked_is summed =
         let ends = kept.extremes.each h.0 no_pair h.1 in
-        let from = ends.from in
-        let to = ends.to in
-        let first = h.2 in
-        let second = h.3 in
-        let elements = limits.elements in
-        let arcs = limits.arcs in
-        let count = kept.ordered.count in
         let short = path_short t.flat.arcs t.order kept.ordered (2 * j + 1) path (2 * l) is_path.1 in
         let delay = summed ∙ delay_of_reach k j l h asked asked_is in
         record {
@@ -96,20 +99,10 @@ module _ (t : Timing) (limits : IsDesign t.flat) where
           counted = (omega arith, omega arith, omega arith, is_path.0, arcs_below t.flat.arcs (2 * j + 1) path (2 * l) 999999999 (omega arith) is_path.1);
         }
 
--- one more member at the end
-stand_more : (t : Timing) (links : List Link) (chain : List ℕ) (i : ℕ) (members : List Member) (m : Member) → i < length chain → StandForAll t links (take i chain) members →
-    StandsFor t (link_at links (get_or chain i 0)) m → StandForAll t links (take (i + 1) chain) (members ++ m ∷ [])
-stand_more t links chain i members m h before here = record {
-  each = All-push (IsMember t) members m before.each here.member;
-  same = map-append (link_of t.flat) members (m ∷ [])
-      ∙ ap (λ (ks : List Link). ks ++ link_of t.flat m ∷ []) before.same
-      ∙ ap (λ (k : Link). links_at links (take i chain) ++ k ∷ []) here.same
-      ∙ sym (ap (λ (ns : List ℕ). links_at links ns) (take_more chain i 0 h) ∙ map-append (link_at links) (take i chain) (get_or chain i 0 ∷ []));
-  counted = All-push IsCounted members m before.counted here.counted;
-}
-
--- the same of the link that the code reads
-pub stand_read : (t : Timing) (links : List Link) (chain : List ℕ) (i : ℕ) (members : List Member) (m : Member) (d : Link) → i < length chain → All (λ e. e < length links) chain →
-    StandForAll t links (take i chain) members → StandsFor t (get_or links (get_or chain i 0) d) m → StandForAll t links (take (i + 1) chain) (members ++ m ∷ [])
-stand_read t links chain i members m d h exist before here =
-    stand_more t links chain i members m h before (subst (λ (k : Link). StandsFor t k m) (get_or_default links (get_or chain i 0) d no_link (exist i 0 h)) here)
+    -- The member that stands for a listed reach has a path with the greatest delay.
+    pub slowest : (k : Link) (j l : ℕ) (path : List ℕ) → Contains (links_of t) k → link_of t.flat (member.Reach j l path) ≡ k → IsGreatestDelay t.flat.arcs j (input_of l) (greatest_delay t.flat.arcs path)
+    slowest k j l path listed same =
+        let h = of_kind k (kind.Reach j l) (ap (λ (x : Link). x.kind) (sym same)) listed in
+        let asked = ap (λ (x : Link). x.delay) (same ∙ sym h.4) in
+        let sum : (pair_at t h.0).max ≡ greatest_delay t.flat.arcs path = omega (arith, ints) in
+        rw (h.2, h.3, sum) at (kept.extremes.each h.0 no_pair h.1).greatest

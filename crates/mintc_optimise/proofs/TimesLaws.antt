@@ -1,5 +1,5 @@
 -- What the code reads and gives of moments that can be said.
-use Rattle.std.proofs.Common.{◌≡◌, ℕ, ◌+◌, ◌-◌, ◌*◌, ◌<◌, ℤ, pos, negsuc, ◌≤ℤ◌, ◌-ℤ◌, Bool, false, cond, List, [], ◌∷◌, ◌++◌, length, map, arith, ap, sym, ◌∙◌, SFits, w64, to_z, of_z}
+use Rattle.std.proofs.Common.{◌≡◌, ℕ, ◌+◌, ◌-◌, ◌*◌, ◌<◌, ℤ, pos, negsuc, ◌≤ℤ◌, ◌-ℤ◌, Bool, false, cond, List, [], ◌∷◌, ◌++◌, length, map, arith, refl, ap, sym, ◌∙◌, SFits, w64, to_z, of_z}
 use Rattle.std.specs.Int.{w128}
 use Rattle.std.specs.List.{All, range_with_len}
 use Rattle.std.proofs.lemmas.Int.{ints, to_z-of_z}
@@ -35,25 +35,25 @@ read_number x h = ap narrow (read_wide x (omega (arith, ints), omega (arith, int
 
 wide_difference : (a b : ℤ) → IsNumerator b → IsTime (a -ℤ b) → wide (wide a -ℤ wide b) ≡ a -ℤ b
 wide_difference a b h k =
-    let first = read_wide a (omega (arith, ints), omega (arith, ints)) in
-    let second = read_wide b (omega (arith, ints), omega (arith, ints)) in
-    let both : wide a -ℤ wide b ≡ a -ℤ b = ap (λ (x : ℤ). x -ℤ wide b) first ∙ ap (λ (x : ℤ). a -ℤ x) second in
-    ap wide both ∙ read_wide (a -ℤ b) (omega (arith, ints), omega (arith, ints))
+    rw (read_wide a (omega (arith, ints), omega (arith, ints)), read_wide b (omega (arith, ints), omega (arith, ints))) (read_wide (a -ℤ b) (omega (arith, ints), omega (arith, ints)))
 
 pub read_difference : (a b : ℤ) → IsNumerator b → IsTime (a -ℤ b) → narrow (wide (wide a -ℤ wide b)) ≡ a -ℤ b
 read_difference a b h k = ap narrow (wide_difference a b h k) ∙ read_time (a -ℤ b) k
 
--- one more number that the code says
-pub said_more : (f : ℕ → ℤ) (a i j : ℕ) (x : ℤ) (old new : List ℤ) → a + i ≡ j → IsTime x → x ≡ f j → old ≡ map f (range_with_len a i) → new ≡ old ++ narrow x ∷ [] →
-    new ≡ map f (range_with_len a (i + 1))
-said_more f a i j x old new at fits is before step =
-    step
-    ∙ ap (λ (y : ℤ). old ++ y ∷ []) (read_time x fits ∙ is)
-    ∙ ap (λ (ys : List ℤ). ys ++ f j ∷ []) before
-    ∙ sym (map-range_with_len_more f a i j at)
+-- The numbers said are those of so many places from one on, each in its range.
+pub record AreSaid (In : ℤ → Type 0) (f : ℕ → ℤ) (from count : ℕ) (said : List ℤ) : Type 0 where
+  pub value : said ≡ map f (range_with_len from count)
+  pub in_range : All In said
 
-pub said_all : (P : ℤ → Type 0) (x : ℤ) (old new : List ℤ) → IsTime x → P x → All P old → new ≡ old ++ narrow x ∷ [] → All P new
-said_all P x old new fits here before step = rw (step, read_time x fits) (All-push P old x before here)
+-- one more number that the code says
+pub said_more : {In : ℤ → Type 0} {f : ℕ → ℤ} (a i j : ℕ) (x : ℤ) (old new : List ℤ) → a + i ≡ j → IsTime x → x ≡ f j → In x → AreSaid In f a i old → new ≡ old ++ narrow x ∷ [] → AreSaid In f a (i + 1) new
+said_more {In} {f} a i j x old new at fits is here before step = record {
+  value = rw (step, read_time x fits, is, before.value, map-range_with_len_more f a i j at) refl;
+  in_range = rw (step, read_time x fits) (All-push In old x before.in_range here);
+}
+
+pub said_count : {In : ℤ → Type 0} {f : ℕ → ℤ} (a i : ℕ) (said : List ℤ) → AreSaid In f a i said → length said ≡ i
+said_count {In} {f} a i said are = ap length are.value ∙ length-map-range_with_len f a i
 
 module _ (t : Timing) (values : List ℤ) (sayable : AreSayable t.flat values) where
   pub width_read : (p : ℕ) → IsPhase (phase_count t.flat) p →
@@ -100,10 +100,6 @@ pub schedule_in : (t : Timing) (cycle : Ratio) (values : List ℤ) (den num : �
     IsInRange (record { den = narrow (wide den); cycle = narrow (wide num); starts = starts; widths = widths })
 schedule_in t cycle values den num starts widths limits is den_is num_is starts_are starts_in widths_are widths_in =
     let phases = limits.phases in
-    let positive = is.fraction in
-    let few = is.den in
-    let low = is.low in
-    let most = is.num in
     let den_in : IsDenominator den = rw den_is (omega (arith, ints), omega (arith, ints)) in
     let num_in : IsNumerator num = rw num_is (omega (arith, ints), omega (arith, ints)) in
     let some : length starts ≡ phase_count t.flat = ap length starts_are ∙ length-map-range_with_len (λ p. value_at values (start_node p)) 1 (phase_count t.flat) in

@@ -33,13 +33,7 @@ far_below : (i j : ℕ) → i < j → (far_start i -ℤ far_start j) ≤ℤ negs
 far_below i j h = omega (arith, ints)
 
 far_not_below : (i j : ℕ) → IsPhase 8 i → IsPhase 8 j → (far_start i -ℤ far_start j -ℤ pos 100000000000) ≤ℤ negsuc 9999999999
-far_not_below i j g h =
-    let high = g.1 in
-    let low = h.0 in
-    omega (arith, ints)
-
-equal_from_both : (x y : ℤ) → x ≤ℤ y → y ≤ℤ x → x ≡ y
-equal_from_both x y g h = omega (arith, ints)
+far_not_below i j g h = omega (arith, ints)
 
 -- A latch's data departs when it opens, a flop's at the start of its phase.
 abbrev opening : Timing → ℕ → ℤ
@@ -56,46 +50,27 @@ module _ (t : Timing) (limits : IsDesign t.flat) (ends : HasEnds t) (all : IsOrd
   phase_is l h = (limits.each_element l no_element h).phase
 
   of_eight : (p : ℕ) → IsPhase (phase_count t.flat) p → IsPhase 8 p
-  of_eight p h =
-      let low = h.0 in
-      let high = h.1 in
-      let most = limits.phases.1 in
-      (omega arith, omega arith)
+  of_eight p h = (omega arith, omega arith)
 
   start_is : (p : ℕ) → IsPhase (phase_count t.flat) p → start_of s p ≡ far_start p
   start_is p h =
-      let low = h.0 in
-      let high = h.1 in
       get_or-map-range_with_len far_start 1 (phase_count t.flat) (p - 1) p (pos 0) (omega arith) (omega arith)
 
   width_is : (p : ℕ) → IsPhase (phase_count t.flat) p → width_of s p ≡ pos 5000000000
   width_is p h =
-      let low = h.0 in
-      let high = h.1 in
       get_or-map-range_with_len (λ p. pos 5000000000) 1 (phase_count t.flat) (p - 1) p (pos 0) (omega arith) (omega arith)
 
   departure_is : (l : ℕ) → l < element_count t.flat → departure d l ≡ opening t l
   departure_is l h = get_or-map-range_with_len (opening t) 0 (element_count t.flat) l l (pos 0) h (omega arith)
 
-  departure_is-latch : (l : ℕ) → l < element_count t.flat → (element_at t.flat l).flop ≡ false → departure d l ≡ (element_at t.flat l).cq_max -ℤ (element_at t.flat l).dq_max
-  departure_is-latch l h latch = departure_is l h ∙ ap (λ (b : Bool). cond b (pos 0) ((element_at t.flat l).cq_max -ℤ (element_at t.flat l).dq_max)) latch
-
-  departure_is-flop : (l : ℕ) → l < element_count t.flat → (element_at t.flat l).flop ≡ true → departure d l ≡ pos 0
-  departure_is-flop l h flop = departure_is l h ∙ ap (λ (b : Bool). cond b (pos 0) ((element_at t.flat l).cq_max -ℤ (element_at t.flat l).dq_max)) flop
-
   departure_at_most : (l : ℕ) → l < element_count t.flat → departure d l ≤ℤ pos 1000000000
-  departure_at_most l h = go (element_at t.flat l).flop refl
+  departure_at_most l h =
+      let e = limits.each_element l no_element h in
+      rw (departure_is l h) (low (element_at t.flat l).flop ((element_at t.flat l).cq_max -ℤ (element_at t.flat l).dq_max) (omega (arith, ints, e.cq_max, e.dq_max)))
     where
-      go : (b : Bool) → (element_at t.flat l).flop ≡ b → departure d l ≤ℤ pos 1000000000
-      go false latch =
-          let is = departure_is-latch l h latch in
-          let e = limits.each_element l no_element h in
-          let cq = e.cq_max.1 in
-          let dq = e.dq_max.0 in
-          omega (arith, ints)
-      go true flop =
-          let is = departure_is-flop l h flop in
-          omega (arith, ints)
+      low : (b : Bool) (x : ℤ) → x ≤ℤ pos 1000000000 → cond b (pos 0) x ≤ℤ pos 1000000000
+      low true x h = omega (arith, ints)
+      low false x h = h
 
   shift_low : (i j : ℕ) → IsPhase (phase_count t.flat) i → IsPhase (phase_count t.flat) j → shift_of s i j ≤ℤ negsuc 9999999999
   shift_low i j g h =
@@ -124,13 +99,10 @@ module _ (t : Timing) (limits : IsDesign t.flat) (ends : HasEnds t) (all : IsOrd
   opens_first : (l : ℕ) → l < element_count t.flat → latest t s d l ≡ late_opening t.flat s l
   opens_first l h =
       let e = limits.each_element l no_element h in
-      let cq = e.cq_max.0 in
-      let dq = e.dq_max.1 in
       let opens = latest-opens t s d l in
       ⊎_elim (λ (is : latest t s d l ≡ late_opening t.flat s l). is)
       (λ (by : ArrivesBy t s d l (latest t s d l)).
       let low = arrives_low by.0 by.1 in
-      let is = by.3 in
       absurd (omega (arith, ints)))
       (latest-attained t s d l)
 
@@ -142,11 +114,11 @@ module _ (t : Timing) (limits : IsDesign t.flat) (ends : HasEnds t) (all : IsOrd
     where
       each_exact : (l : ℕ) → l < element_count t.flat → (b : Bool) → (element_at t.flat l).flop ≡ b → departure d l ≡ late_departure t s d l
       each_exact l h false latch =
-          let is = departure_is-latch l h latch in
+          let is = rw latch at (departure_is l h) in
           let first = opens_first l h in
           let same : departure d l ≡ late_opening t.flat s l = omega (arith, ints) in
           same ∙ sym first ∙ sym (late_departure-latch t s d l latch)
-      each_exact l h true flop = departure_is-flop l h flop ∙ sym (late_departure-flop t s d l flop)
+      each_exact l h true flop = rw flop at (departure_is l h) ∙ sym (late_departure-flop t s d l flop)
 
   -- the clock
   keeps_apart : (i j : ℕ) → IsPhase (phase_count t.flat) i → IsPhase (phase_count t.flat) j → KeepsApart t s i j
@@ -188,26 +160,19 @@ module _ (t : Timing) (limits : IsDesign t.flat) (ends : HasEnds t) (all : IsOrd
   }
 
   -- the setups
-  keeps_setup-latch : (l : ℕ) → l < element_count t.flat → (element_at t.flat l).flop ≡ false → KeepsSetup t s d l
-  keeps_setup-latch l h latch =
+  keeps_setup : (l : ℕ) → l < element_count t.flat → (b : Bool) → (element_at t.flat l).flop ≡ b → KeepsSetup t s d l
+  keeps_setup l h false latch =
       let departs = departure_at_most l h in
       let width = width_is (phase_of t.flat l) (phase_is l h) in
-      let setup = (limits.each_element l no_element h).setup.1 in
+      let setup = (limits.each_element l no_element h).setup in
       (KeepsSetup-latch t s d l latch).1 (omega (arith, ints, clamps))
-
-  keeps_setup-flop : (l : ℕ) → l < element_count t.flat → (element_at t.flat l).flop ≡ true → KeepsSetup t s d l
-  keeps_setup-flop l h flop =
-      let setup = (limits.each_element l no_element h).setup.1 in
+  keeps_setup l h true flop =
+      let setup = (limits.each_element l no_element h).setup in
       rw flop
       (greatest-from_each t s d l (λ a. (a +ℤ (element_at t.flat l).setup *ℤ pos 1) ≤ℤ pos 0)
       (λ a by.
       let low = arrives_low by.0 by.1 in
-      let is = by.3 in
       omega (arith, ints)))
-
-  keeps_setup : (l : ℕ) → l < element_count t.flat → (b : Bool) → (element_at t.flat l).flop ≡ b → KeepsSetup t s d l
-  keeps_setup l h false latch = keeps_setup-latch l h latch
-  keeps_setup l h true flop = keeps_setup-flop l h flop
 
   pub far_is_right : t.flat.bounds ≡ [] → IsRight t s d
   far_is_right none = record {

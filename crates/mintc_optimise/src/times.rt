@@ -49,6 +49,7 @@ fn width(system: &System, values: &[i128], phase: u32) -> i64
 }
 
 /// The starts of the phases.
+#[tactic(auto, using(crate::proofs::TimesLaws::said_count))]
 fn starts(system: &System, values: &[i128]) -> PhaseNumbers
     requires { AreSayable system.now.flat values.now }
     ensures value { result ≡ map (λ p. value_at values.now (start_node p)) (phases_of system.now.flat) }
@@ -62,6 +63,7 @@ fn starts(system: &System, values: &[i128]) -> PhaseNumbers
 }
 
 /// The widths of the phases.
+#[tactic(auto, using(crate::proofs::TimesLaws::said_count))]
 fn widths(system: &System, values: &[i128]) -> PhaseNumbers
     requires { AreSayable system.now.flat values.now }
     ensures value { result ≡ map (λ p. value_at values.now (end_node p) -ℤ value_at values.now (start_node p)) (phases_of system.now.flat) }

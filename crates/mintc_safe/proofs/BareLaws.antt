@@ -1,10 +1,10 @@
--- A chain's sums and its closing rest on no link's kind.
-use Rattle.std.proofs.Common.{◌≡◌, ◌≢◌, ◌<◌, ℕ, ℤ, pos, ◌+ℤ◌, List, [], ◌∷◌, length, get_or, map, arith, refl, ap, sym, ◌∙◌, subst, ◌↔◌}
-use Rattle.std.specs.List.{AllPairs}
+-- What a ring of links is and what it shows rest on no link's kind.
+use Rattle.std.proofs.Common.{◌≡◌, ◌<◌, ℕ, ℤ, pos, ◌+ℤ◌, List, [], ◌∷◌, length, get_or, map, arith, refl, ap, sym, ◌∙◌, subst, ◌↔◌}
 use Rattle.std.proofs.lemmas.List.{length-map, get_or-map}
 use Rattle.mintc_timing.specs.declared.link.Link.{Link}
 use Rattle.mintc_rings.specs.Rings.{IsClosed, Joins, total}
-use Rattle.mintc_timing.specs.Links.{delay_of, cycles_of}
+use Rattle.mintc_timing.specs.Links.{IsStuck, IsTight}
+use Rattle.mintc_optimise.proofs.SharedCertificateLaws.{IsRound}
 use Rattle.mintc_safe.specs.SafeOptimum.{bare}
 
 total-bare : (f : Link → ℤ) → ((k : Link) → f (bare k) ≡ f k) → (ks : List Link) → total f (map bare ks) ≡ total f ks
@@ -16,7 +16,7 @@ Joins-bare a b [] = ((λ h. h), (λ h. h))
 Joins-bare a b (k ∷ ks) = let rest = Joins-bare k.to b ks in ((λ h. (h.0, rest.0 h.1)), (λ h. (h.0, rest.1 h.1)))
 
 -- The links lead round.
-abbrev pub AreClosed : List Link → Type 0
+abbrev AreClosed : List Link → Type 0
 AreClosed ks = IsClosed (λ (k : Link). k.from) (λ (k : Link). k.to) ks
 
 closed-bare : (ks : List Link) → AreClosed (map bare ks) ↔ AreClosed ks
@@ -28,16 +28,16 @@ module _ (ks ls : List Link) (same : map bare ks ≡ map bare ls) where
   same_total : (f : Link → ℤ) → ((k : Link) → f (bare k) ≡ f k) → total f ks ≡ total f ls
   same_total f is = sym (total-bare f is ks) ∙ ap (λ (x : List Link). total f x) same ∙ total-bare f is ls
 
-  pub same_delay : delay_of ks ≡ delay_of ls
-  same_delay = same_total (λ k. k.delay) (λ k. refl)
+  pub same_tight : (num den : ℤ) → IsTight ls num den → IsTight ks num den
+  same_tight num den h =
+      let delay = same_total (λ k. k.delay) (λ k. refl) in
+      let turns = same_total (λ k. pos k.cycles) (λ k. refl) in
+      record { turns = rw turns h.turns; tight = rw (delay, turns) h.tight }
 
-  pub same_cycles : cycles_of ks ≡ cycles_of ls
-  same_cycles = same_total (λ k. pos k.cycles) (λ k. refl)
+  pub same_stuck : IsStuck ls → IsStuck ks
+  same_stuck h = record { turns = same_total (λ k. pos k.cycles) (λ k. refl) ∙ h.turns; stuck = rw (same_total (λ k. k.delay) (λ k. refl)) h.stuck }
 
-  pub same_closed : AreClosed ls → AreClosed ks
-  same_closed h = (closed-bare ks).0 (subst AreClosed (sym same) ((closed-bare ls).1 h))
-
-  pub same_length : length ks ≡ length ls
+  same_length : length ks ≡ length ls
   same_length = sym (length-map ks bare) ∙ ap (λ (x : List Link). length x) same ∙ length-map ls bare
 
   -- the nodes that the links enter
@@ -46,7 +46,12 @@ module _ (ks ls : List Link) (same : map bare ks ≡ map bare ls) where
       let count = same_length in
       ap (λ (k : Link). k.to) (sym (get_or-map bare ks i d d h)) ∙ ap (λ (x : List Link). (get_or x i d).to) same ∙ ap (λ (k : Link). k.to) (get_or-map bare ls i d d (omega arith))
 
-  pub same_once : AllPairs (λ (a b : Link). a.to ≢ b.to) ls → AllPairs (λ (a b : Link). a.to ≢ b.to) ks
-  same_once h i j d less inside e =
+  pub same_round : IsRound ls → IsRound ks
+  same_round h =
       let count = same_length in
-      h i j d less (omega arith) (sym (to_at i d (omega arith)) ∙ e ∙ to_at j d inside)
+      record {
+        closed = (closed-bare ks).0 (subst AreClosed (sym same) ((closed-bare ls).1 h.closed));
+        once = λ i j d less inside e. h.once i j d less (omega arith) (sym (to_at i d (omega arith)) ∙ e ∙ to_at j d inside);
+        some = omega arith;
+        most = omega arith;
+      }

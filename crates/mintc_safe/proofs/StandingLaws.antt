@@ -1,28 +1,23 @@
 -- The member that stands for a safe link, by the link's kind.
-use Rattle.std.proofs.Common.{◌≡◌, ℕ, ◌+◌, ◌*◌, ◌<◌, ℤ, true, List, length, get_or, map, arith, refl, ap, sym, subst, ◌∙◌, ◌∷◌, [], ◌++◌, take}
+use Rattle.std.proofs.Common.{◌≡◌, ℕ, ◌+◌, ◌*◌, ◌<◌, ℤ, true, List, length, get_or, arith, refl, ap, subst}
 use Rattle.std.specs.List.{All, Contains}
-use Rattle.std.proofs.lemmas.Int.{ints}
-use Rattle.std.proofs.lemmas.List.{get_or_default, take_more, map-append}
-use Rattle.std.proofs.lemmas.List.Elements.{All-append, All-contains, All-contains_itself, All-push}
+use Rattle.std.proofs.lemmas.List.Elements.{All-append, All-contains, All-contains_itself}
 use Rattle.mintc_timing.specs.declared.link.Link.{Link}
 use Rattle.mintc_timing.specs.declared.link.LinkKind.{LinkKind}
 use Rattle.mintc_timing.specs.declared.link.LinkKind.TheVariants as kind
-use Rattle.mintc_timing.specs.declared.parts.Pair.{Pair}
 use Rattle.mintc_timing.specs.Design.{Timing, element_at, pair_at, no_pair}
 use Rattle.mintc_timing.specs.Limits.{IsDesign}
-use Rattle.mintc_timing.specs.Links.{links_of, no_link, link_at}
+use Rattle.mintc_timing.specs.Links.{links_of}
 use Rattle.mintc_timing.specs.Order.{IsTiming}
-use Rattle.mintc_timing.specs.Paths.{HasExtremes, IsPath, IsGreatestDelay, IsLeastDelay, input_of, greatest_delay, least_delay}
-use Rattle.mintc_ratio.specs.Chains.{links_at}
+use Rattle.mintc_timing.specs.Paths.{IsPath, input_of, least_delay}
 use Rattle.mintc_certificate.specs.declared.members.Member.{Member}
 use Rattle.mintc_certificate.specs.declared.members.Member.TheVariants as member
 use Rattle.mintc_certificate.specs.Valid.{link_of}
 use Rattle.mintc_optimise.specs.Making.{StandsFor as StandsForPlain}
 use Rattle.mintc_optimise.proofs.SharedPathLaws.{arcs_below, path_short}
-use Rattle.mintc_optimise.proofs.SharedStandingLaws.{of_kind}
-use Rattle.mintc_safe.specs.declared.members.SafeMember.{SafeMember}
+use Rattle.mintc_optimise.proofs.SharedStandingLaws.{of_kind, slowest}
 use Rattle.mintc_safe.specs.declared.members.SafeMember.TheVariants.{Plain, Hold}
-use Rattle.mintc_safe.specs.SafeOptimum.{bare, StandsFor, StandForAll, IsSafeCounted, IsSafeMember, IsSlowest, link_of_safe, links_of_safe}
+use Rattle.mintc_safe.specs.SafeOptimum.{bare, StandsFor, IsSlowest}
 use Rattle.mintc_safe.specs.Hold.{hold_link, hold_link_of, hold_links_of, safe_links_of}
 use Rattle.mintc_safe.proofs.HoldLaws.{All-holds}
 
@@ -54,60 +49,23 @@ module _ (t : Timing) (limits : IsDesign t.flat) where
       go which is = of_safe_kind k which is listed
 
   module _ (kept : IsTiming t.flat t.order t.pairs) where
-    -- The member that stands for a listed reach has a path with the greatest delay.
-    slowest : (k : Link) (m : Member) → Contains (links_of t) k → link_of t.flat m ≡ k → IsSlowest t.flat m
-    slowest k (member.Reach j l path) listed same =
-        let h = of_kind t limits k (kind.Reach j l) (ap (λ (x : Link). x.kind) (sym same)) listed in
-        let greatest = (kept.extremes.each h.0 no_pair h.1).greatest in
-        let asked = ap (λ (x : Link). x.delay) (same ∙ sym h.4) in
-        let sum : (pair_at t h.0).max ≡ greatest_delay t.flat.arcs path = omega (arith, ints) in
-        subst (λ (x : ℤ). IsGreatestDelay t.flat.arcs j (input_of l) x) sum
-        (subst (λ (b : ℕ). IsGreatestDelay t.flat.arcs j (input_of b) (pair_at t h.0).max) h.3
-        (subst (λ (a : ℕ). IsGreatestDelay t.flat.arcs a (input_of (pair_at t h.0).to) (pair_at t h.0).max) h.2 greatest))
-    slowest k m listed same = tt
+    is_slowest : (k : Link) (m : Member) → Contains (links_of t) k → link_of t.flat m ≡ k → IsSlowest t.flat m
+    is_slowest k (member.Reach j l path) listed same = slowest t limits kept k j l path listed same
+    is_slowest k m listed same = tt
 
     pub plain_stands : (k : Link) (m : Member) → Contains (links_of t) k → StandsForPlain t k m → StandsFor t k (Plain m)
-    plain_stands k m listed h = record { member = (h.member, slowest k m listed h.same); same = ap bare h.same; counted = h.counted }
+    plain_stands k m listed h = record { member = (h.member, is_slowest k m listed h.same); same = ap bare h.same; counted = h.counted }
 
     -- The member for the hold of a pair, with a path that has the pair's least delay.
-    pub hold_stands : (n : ℕ) (p : Pair) (path : List ℕ) → n < length t.pairs → (element_at t.flat (pair_at t n).to).has_hold ≡ true → p ≡ pair_at t n →
-        IsPath t.flat.arcs p.from path (input_of p.to) → least_delay t.flat.arcs path ≡ p.min → StandsFor t (hold_link_of t.flat (n, pair_at t n)) (Hold p.from p.to path)
-    hold_stands n p path h held is is_path summed = subst (λ (q : Pair). StandsFor t (hold_link_of t.flat (n, q)) (Hold p.from p.to path)) is stands
-      where
-        ends : HasExtremes t.flat p
-        ends = subst (λ (q : Pair). HasExtremes t.flat q) (sym is) (kept.extremes.each n no_pair h)
-
-        stands : StandsFor t (hold_link_of t.flat (n, p)) (Hold p.from p.to path)
-        stands =
-            let from = ends.from in
-            let to = ends.to in
-            let elements = limits.elements in
-            let arcs = limits.arcs in
-            let count = kept.ordered.count in
-            let short = path_short t.flat.arcs t.order kept.ordered (2 * p.from + 1) path (2 * p.to) is_path.1 in
-            record {
-              member = (
-                from,
-                to,
-                subst (λ (q : Pair). (element_at t.flat q.to).has_hold ≡ true) (sym is) held,
-                is_path,
-                subst (λ (x : ℤ). IsLeastDelay t.flat.arcs p.from (input_of p.to) x) (sym summed) ends.least,
-              );
-              same = ap (λ (x : ℤ). bare (hold_link t.flat 0 p.from p.to x)) summed;
-              counted = (omega arith, omega arith, omega arith, is_path.0, arcs_below t.flat.arcs (2 * p.from + 1) path (2 * p.to) 999999999 (omega arith) is_path.1);
-            }
-
--- one more member at the end, of the link that the code reads
-pub stand_read : (t : Timing) (links : List Link) (chain : List ℕ) (i : ℕ) (members : List SafeMember) (m : SafeMember) (d : Link) → i < length chain → All (λ e. e < length links) chain →
-    StandForAll t links (take i chain) members → StandsFor t (get_or links (get_or chain i 0) d) m → StandForAll t links (take (i + 1) chain) (members ++ m ∷ [])
-stand_read t links chain i members m d h exist before here = record {
-  each = All-push (IsSafeMember t) members m before.each here.member;
-  same = ap (map bare) (map-append (link_of_safe t.flat) members (m ∷ []))
-      ∙ map-append bare (links_of_safe t.flat members) (link_of_safe t.flat m ∷ [])
-      ∙ ap (λ (ks : List Link). ks ++ bare (link_of_safe t.flat m) ∷ []) before.same
-      ∙ ap (λ (k : Link). map bare (links_at links (take i chain)) ++ k ∷ []) (here.same ∙ ap bare (get_or_default links (get_or chain i 0) d no_link (exist i 0 h)))
-      ∙ sym (ap (λ (ns : List ℕ). map bare (links_at links ns)) (take_more chain i 0 h)
-      ∙ ap (map bare) (map-append (link_at links) (take i chain) (get_or chain i 0 ∷ []))
-      ∙ map-append bare (links_at links (take i chain)) (link_at links (get_or chain i 0) ∷ []));
-  counted = All-push IsSafeCounted members m before.counted here.counted;
-}
+    pub hold_stands : (n : ℕ) (path : List ℕ) → n < length t.pairs → (element_at t.flat (pair_at t n).to).has_hold ≡ true → IsPath t.flat.arcs (pair_at t n).from path (input_of (pair_at t n).to) →
+        least_delay t.flat.arcs path ≡ (pair_at t n).min → StandsFor t (hold_link_of t.flat (n, pair_at t n)) (Hold (pair_at t n).from (pair_at t n).to path)
+    hold_stands n path h held is_path summed =
+        let p = pair_at t n in
+        let ends = kept.extremes.each n no_pair h in
+        let count = kept.ordered.count in
+        let short = path_short t.flat.arcs t.order kept.ordered (2 * p.from + 1) path (2 * p.to) is_path.1 in
+        record {
+          member = (ends.from, ends.to, held, is_path, rw summed ends.least);
+          same = ap (λ (x : ℤ). bare (hold_link t.flat 0 p.from p.to x)) summed;
+          counted = (omega arith, omega arith, omega arith, is_path.0, arcs_below t.flat.arcs (2 * p.from + 1) path (2 * p.to) 999999999 (omega arith) is_path.1);
+        }

@@ -1,13 +1,13 @@
 -- What a safe certificate must be: when a chain of safe links, with a schedule and departures or alone, shows what it claims,
 -- what more it keeps, and what its parts are made of.
-use Rattle.std.specs.Prelude.{◌≡◌, ◌<◌, List, map, All, IsTrue, ◌≢◌, ◌≤◌, ℤ, [], length, AllPairs, ℕ}
+use Rattle.std.specs.Prelude.{◌<◌, List, map, All, IsTrue, ◌≢◌, ◌≤◌, ℤ, [], length, AllPairs, ℕ}
 use Rattle.mintc_text.specs.declared.limits.TheConstants.{MOST_MEMBERS}
 use Rattle.mintc_timing.specs.declared.clocking.Schedule.{Schedule}
 use Rattle.mintc_timing.specs.declared.link.Link.{Link}
 use Rattle.mintc_rings.specs.Rings.{IsClosed}
 use Rattle.mintc_timing.specs.Design.{Design, Timing, element_count, element_at}
 use Rattle.mintc_timing.specs.Paths.{IsPath, input_of, greatest_delay, least_delay, IsGreatestDelay, IsLeastDelay}
-use Rattle.mintc_timing.specs.Links.{IsTight, IsStuck}
+use Rattle.mintc_timing.specs.Links.{IsTight, IsStuck, link_at}
 use Rattle.mintc_certificate.specs.declared.members.Member.{Member}
 use Rattle.mintc_certificate.specs.declared.members.Member.TheVariants as member
 use Rattle.mintc_certificate.specs.Valid.{IsMember, link_of}
@@ -20,9 +20,9 @@ use Rattle.mintc_lines.specs.Fields.{IsCount}
 use Rattle.mintc_timing.specs.Limits.{IsInRange}
 use Rattle.mintc_certificate.specs.CertificateText.{IsCounted}
 use Rattle.mintc_certificate.specs.Ranges.{IsDeparture}
+use Rattle.mintc_optimise.specs.Making.{Stands, StandInOrder}
 use Rattle.mintc_optimise.specs.Optimum.{IsEarliest}
 use Rattle.mintc_timing.specs.declared.link.LinkKind.TheVariants as kind
-use Rattle.mintc_ratio.specs.Chains.{links_at}
 
 -- A reach's path has the greatest delay of all paths between its two elements.
 abbrev pub IsSlowest : Design → Member → Type 0
@@ -110,13 +110,9 @@ abbrev pub bare : Link → Link
 bare k = record k { kind = kind.Other 0 }
 
 -- The member names what the design has, and stands for the link, its kind aside.
-pub record StandsFor (t : Timing) (k : Link) (m : SafeMember) : Type 0 where
-  pub member : IsSafeMember t m
-  pub same : bare (link_of_safe t.flat m) ≡ bare k
-  pub counted : IsSafeCounted m
+abbrev pub StandsFor : Timing → Link → SafeMember → Type 0
+StandsFor t k m = Stands (IsSafeMember t) IsSafeCounted (λ x. bare (link_of_safe t.flat x)) (bare k) m
 
 -- The members stand for the links of these numbers, in order.
-pub record StandForAll (t : Timing) (links : List Link) (chain : List ℕ) (members : List SafeMember) : Type 0 where
-  pub each : All (IsSafeMember t) members
-  pub same : map bare (links_of_safe t.flat members) ≡ map bare (links_at links chain)
-  pub counted : All IsSafeCounted members
+abbrev pub StandForAll : Timing → List Link → List ℕ → List SafeMember → Type 0
+StandForAll t links chain members = StandInOrder (IsSafeMember t) IsSafeCounted (λ x. bare (link_of_safe t.flat x)) (λ e. bare (link_at links e)) chain members

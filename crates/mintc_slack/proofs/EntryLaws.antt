@@ -28,8 +28,8 @@ module _ (t : Timing) (entries : List Entry) (place : ℕ) (below : place < leng
   pub entry-same : entry_at entries place ≡ e
   entry-same = get_or_default entries place (record { to = 0; number = 0 }) e below ∙ sym is
 
-  pub entry-number : e.number < length t.pairs
-  entry-number = subst (λ (x : Entry). x.number < length t.pairs) (sym is) (are.of_pairs place e below).0
+  pub entry_number : e.number < length t.pairs
+  entry_number = subst (λ (x : Entry). x.number < length t.pairs) (sym is) (are.of_pairs place e below).0
 
   pub entry-to : (entry_at entries place).to ≡ (pair_at t e.number).to
   entry-to = (are.of_pairs place (record { to = 0; number = 0 }) below).1 ∙ ap (λ (x : Entry). (pair_at t x.number).to) entry-same

@@ -1,5 +1,5 @@
 -- Links weighed against potentials, and the distances of walks over them.
-use Rattle.std.proofs.Common.{◌≡◌, ◌≢◌, ℕ, ◌<◌, ◌+◌, ℤ, pos, ◌+ℤ◌, ◌-ℤ◌, ◌≤ℤ◌, ◌<ℤ◌, List, [], ◌∷◌, ◌++◌, length, get_or, map, arith, refl, ap, ◌∙◌, sym, subst, ⊎_elim}
+use Rattle.std.proofs.Common.{◌≡◌, ◌≢◌, ℕ, ◌<◌, ◌+◌, ℤ, pos, ◌+ℤ◌, ◌-ℤ◌, ◌≤ℤ◌, ◌<ℤ◌, List, [], ◌∷◌, ◌++◌, length, get_or, map, arith, refl, ap, ◌∙◌, sym, subst, ⊎_elim, below_more}
 use Rattle.std.proofs.lemmas.Int.{ints}
 use Rattle.std.proofs.lemmas.Bool.{cases_eq}
 use Rattle.std.proofs.lemmas.List.{get_or-map, get_or-set_other, get_or-set_same, get_or_default, length-map}
@@ -14,9 +14,9 @@ use Rattle.mintc_timing.specs.declared.link.Link.{Link}
 use Rattle.mintc_timing.specs.Design.{Timing}
 use Rattle.mintc_timing.specs.Links.{element_node, links_of, no_link, link_at, IsMet}
 use Rattle.mintc_constraints.specs.Laws.{node_count}
-use Rattle.mintc_constraints.specs.Ordinary.{Constraints, constraints_of, IsOrdinaryLink, Leads}
+use Rattle.mintc_constraints.specs.Ordinary.{Constraints, constraints_of, IsOrdinaryLink}
 use Rattle.mintc_constraints.specs.Rooms.{Space}
-use Rattle.mintc_ratio.specs.From.{IsAsked}
+use Rattle.mintc_ratio.specs.From.{AreGreatestFrom, IsAsked}
 use Rattle.mintc_ratio.specs.Greatest.{asked_by, asked_by_link}
 use Rattle.mintc_ratio.specs.Searched.{IsCycle}
 use Rattle.mintc_ratio.proofs.SharedBroughtLaws.{asked_more}
@@ -28,7 +28,7 @@ use Rattle.mintc_slack.specs.declared.gaps.Gap.{Gap}
 use Rattle.mintc_slack.specs.declared.nearest.TheConstants.{FAR}
 use Rattle.mintc_slack.specs.Gaps.{AreDistances, AreGaps, AreInRange, ArePotentials, AreShorter, AreShortest, IsInside, gap_of}
 use Rattle.mintc_slack.specs.Answers.{AreSettled}
-use Rattle.mintc_slack.proofs.SizeLaws.{asked-small}
+use Rattle.mintc_slack.proofs.SizeLaws.{asked_small}
 use Rattle.mintc_slack.proofs.WalkedLaws.{are_from}
 
 abbrev pub made : ℕ → ℕ → ℤ → Gap
@@ -40,10 +40,8 @@ weighed f items links i d g same h is =
 
 -- one value more of a function
 pub written : (f : ℕ → ℤ) (values : List ℤ) (i : ℕ) (z : ℤ) → i < length values → z ≡ f i → ((k : ℕ) → k < i → value_at values k ≡ f k) → (k : ℕ) → k < i + 1 → value_at (slice_set values i z) k ≡ f k
-written f values i z h is before k below = ⊎_elim
-    (λ (e : k ≡ i). ap (λ (n : ℕ). value_at (slice_set values i z) n) e ∙ get_or-set_same values i z (pos 0) h ∙ is ∙ ap f (sym e))
-    (λ (e : k ≡ i → ⊥). get_or-set_other values i k z (pos 0) e ∙ before k (omega arith))
-    (cases_eq k i)
+written f values i z h is before =
+    below_more (λ k. value_at (slice_set values i z) k ≡ f k) i (λ k less. get_or-set_other values i k z (pos 0) (λ e. omega arith) ∙ before k less) (get_or-set_same values i z (pos 0) h ∙ is)
 
 -- a room of which the values alone change
 pub room-kept : (first now new : Space) (values : List ℤ) → now ≡ record first { values = now.values } → new ≡ record now { values = values } → new ≡ record first { values = new.values }
@@ -55,7 +53,7 @@ far_is = refl
 
 -- what links ask for
 pub ordinary-small : (at : Ratio) (count : ℕ) (k : Link) → IsCycle at → IsOrdinaryLink count k → IsWithin 13000000000000 (asked_by_link at k)
-ordinary-small at count k cycle o = let low = o.delay.0 in let high = o.delay.1 in asked-small at k cycle (omega (arith, ints), omega (arith, ints)) o.cycles
+ordinary-small at count k cycle o = let low = o.delay.0 in let high = o.delay.1 in asked_small at k cycle (omega (arith, ints), omega (arith, ints)) o.cycles
 
 module _ (list : Constraints) (at : Ratio) (potentials : List ℤ) (are : ArePotentials list at potentials) where
   -- the gap of each link
@@ -68,12 +66,6 @@ module _ (list : Constraints) (at : Ratio) (potentials : List ℤ) (are : ArePot
       let far = far_is in
       let from = are.small k.from o.from in
       let to = are.small k.to o.to in
-      let a0 = asked.0 in
-      let a1 = asked.1 in
-      let f0 = from.0 in
-      let f1 = from.1 in
-      let t0 = to.0 in
-      let t1 = to.1 in
       record { from = o.from; to = o.to; low = omega (arith, ints); high = omega (arith, ints) }
 
   module _ (gaps : List Gap) (same : IsPermutation (map (gap_of at potentials) list.links) gaps) where
@@ -149,19 +141,14 @@ shorter-by gaps g old x inside range is less within =
     let found = link_of list at potentials are.potentials_are gaps are.permutation g within in
     let e = found.0 in
     let k = link_at list.links e in
-    let rest = inside.low in
-    let first = d.walked g.from (let f = inside.from in omega arith) (omega (arith, ints)) in
-    let from_is : k.from ≡ g.from = ap (λ (y : Gap). y.from) found.2 in
-    let to_is : k.to ≡ g.to = ap (λ (y : Gap). y.to) found.2 in
-    let rest_is : (gap_of at potentials k).rest ≡ g.rest = ap (λ (y : Gap). y.rest) found.2 in
-    let from_value : value_at potentials k.from ≡ value_at potentials g.from = ap (λ (n : ℕ). value_at potentials n) from_is in
-    let to_value : value_at potentials k.to ≡ value_at potentials g.to = ap (λ (n : ℕ). value_at potentials n) to_is in
-    let leads : Leads list.links from (first.0 ++ e ∷ []) g.to =
-    LeadsBy-append (λ (k : Link). k.from) (λ (k : Link). k.to) no_link list.links from first.0 g.from (e ∷ []) g.to first.1 (found.1, from_is, to_is) in
+    subst (λ (y : Gap). IsInside (length old) y → x ≡ value_at old y.from +ℤ y.rest → IsAsked list.links at from y.to (value_at potentials y.to -ℤ value_at potentials from -ℤ x)) found.2
+    (λ inside is.
+    let first = d.walked k.from (let f = inside.from in omega arith) (omega (arith, ints)) in
     let sum = asked-on at list.links first.0 (e ∷ []) in
     let one = asked-one at k in
     let start = first.2 in
-    (first.0 ++ e ∷ [], leads, omega (arith, ints)))
+    (first.0 ++ e ∷ [], LeadsBy-append (λ (k : Link). k.from) (λ (k : Link). k.to) no_link list.links from first.0 k.from (e ∷ []) k.to first.1 (found.1, refl, refl), omega (arith, ints)))
+    inside is)
 
 -- A node is at most as far as node 0, from which the walk of its potential leads to it.
 module _ (now : List ℤ) (v : ℕ) (inside : v < length now) (range : AreInRange now) (some : 0 < length now) (more : value_at now 0 <ℤ value_at now v) where
@@ -179,10 +166,7 @@ module _ (now : List ℤ) (v : ℕ) (inside : v < length now) (range : AreInRang
       (λ list at potentials from are count d near.
       let back = d.walked 0 (omega arith) near in
       let forth = are.potentials_are.greatest.asked v (omega arith) in
-      let zero = are.potentials_are.greatest.here in
       let sum = asked-on at list.links back.0 forth.0 in
-      let one = back.2 in
-      let two = forth.2 in
       (back.0 ++ forth.0, LeadsBy-append (λ (k : Link). k.from) (λ (k : Link). k.to) no_link list.links from back.0 0 forth.0 v back.1 forth.1, omega (arith, ints)))
 
 -- distances that are the least stand for the values of the greatest walks
@@ -193,13 +177,13 @@ module _ (list : Constraints) (at : Ratio) (potentials : List ℤ) (gaps : List 
     d : AreDistances list at potentials from distances
     d = short.walked list at potentials are count
 
-    pub start-zero : value_at values from ≡ pos 0
+    start-zero : value_at values from ≡ pos 0
     start-zero = let v = values_are from inside in let z = d.here in omega (arith, ints)
 
-    pub all-asked : (node : ℕ) → node < list.nodes → IsAsked list.links at from node (value_at values node)
+    all-asked : (node : ℕ) → node < list.nodes → IsAsked list.links at from node (value_at values node)
     all-asked node h = subst (λ (y : ℤ). IsAsked list.links at from node y) (sym (values_are node h)) (d.walked node h (short.near node (omega arith)).1)
 
-    pub all-met : All (IsMet at.num at.den (value_at values)) list.links
+    all-met : All (IsMet at.num at.den (value_at values)) list.links
     all-met e default h =
         let same : get_or list.links e default ≡ link_at list.links e = get_or_default list.links e default no_link h in
         let k = link_at list.links e in
@@ -211,6 +195,9 @@ module _ (list : Constraints) (at : Ratio) (potentials : List ℤ) (gaps : List 
         let v_from = values_are k.from o.from in
         let v_to = values_are k.to o.to in
         rw same (omega (arith, ints))
+
+    pub are-greatest : length values ≡ list.nodes → AreGreatestFrom list at from values
+    are-greatest long = record { count = long; here = start-zero; asked = all-asked; met = all-met }
 
 -- what walks begin with
 pub begun-distances : (list : Constraints) (at : Ratio) (potentials : List ℤ) (from : ℕ) (distances : List ℤ) → length distances ≡ list.nodes → value_at distances from ≡ pos 0 →
@@ -238,20 +225,8 @@ settled-by t list at potentials gaps l distances values links are count inside s
       count = long ∙ count ∙ nodes;
       small = λ node h.
           let near = short.near node (omega arith) in
-          let low = near.0 in
-          let high = near.1 in
           let to = small node (omega arith) in
           let from = small (element_node t.flat l) inside in
-          let t0 = to.0 in
-          let t1 = to.1 in
-          let f0 = from.0 in
-          let f1 = from.1 in
           subst (IsWithin 200000000000000000) (sym (values_at node (omega arith))) (omega (arith, ints), omega (arith, ints));
-      from = are_from t list links at l [] values
-          (record {
-            count = long ∙ count;
-            here = start-zero list at potentials gaps (element_node t.flat l) distances values are count inside short values_at;
-            asked = all-asked list at potentials gaps (element_node t.flat l) distances values are count inside short values_at;
-            met = all-met list at potentials gaps (element_node t.flat l) distances values are count inside short values_at;
-          });
+      from = are_from t list links at l [] values (are-greatest list at potentials gaps (element_node t.flat l) distances values are count inside short values_at (long ∙ count));
     }

@@ -1,10 +1,9 @@
 -- What a search over a design's links says of the design.
-use Rattle.std.proofs.Common.{◌≡◌, ◌≤◌, ℤ, pos, negsuc, ◌≤ℤ◌, ◌*ℤ◌, List, length, arith, refl, subst, unsigned_abs}
+use Rattle.std.proofs.Common.{◌≡◌, ◌≤◌, ℤ, pos, negsuc, ◌≤ℤ◌, List, length, arith, refl, subst, unsigned_abs}
 use Rattle.std.proofs.lemmas.Int.{ints}
 use Rattle.std.specs.List.{All}
 use Rattle.mintc_fraction.specs.Ratio.{Ratio, IsModest}
 use Rattle.mintc_walks.specs.Walks.{value_at}
-use Rattle.mintc_timing.specs.declared.clocking.Schedule.{Schedule}
 use Rattle.mintc_timing.specs.declared.link.Link.{Link}
 use Rattle.mintc_timing.specs.Design.{Timing}
 use Rattle.mintc_timing.specs.Limits.{IsDesign}
@@ -37,14 +36,11 @@ module _ (t : Timing) (limits : IsDesign t.flat) (ends : HasEnds t) (list : Cons
       let chain = subst (λ (ks : List Link). IsChain ks (links_at list.links room.chain)) links_are found.chain.chain in
       record {
         positive = positive;
-        attained = (right.0, right.1, right.2, same right.0 right.3 right.4);
+        attained = (right.0, right.1, right.2, rw (right.3, right.4) refl);
         least = λ s d other.
             tight_fits_no_less_lem (links_at list.links room.chain) cycle.num cycle.den s.cycle s.den positive found.tight
             (met_chains_fit_lem s.cycle s.den (node_time t.flat s d) (links_of t) (links_at list.links room.chain) (right_meets_links_lem t s d limits ends other) chain);
       }
-    where
-      same : (s : Schedule) → s.cycle ≡ cycle.num → s.den ≡ cycle.den → s.cycle *ℤ cycle.den ≡ cycle.num *ℤ s.den
-      same s cycle_is den_is = rw (cycle_is, den_is) refl
 
   pub hopeless_of : NamesChain list.links room.chain → IsStuck (links_at list.links room.chain) → IsHopeless t
   hopeless_of named stuck =

@@ -17,12 +17,8 @@ laps-small (suc zero) (pos n) h k = (omega (arith, ints), omega (arith, ints))
 laps-small (suc zero) (negsuc n) h k = (omega (arith, ints), omega (arith, ints))
 laps-small (suc (suc c)) num h k = absurd (omega arith)
 
-pub asked-small : (cycle : Ratio) (k : Link) → IsCycle cycle → IsWithin 4000000000 k.delay → k.cycles ≤ 1 → IsWithin 13000000000000 (asked_by_link cycle k)
-asked-small cycle k is delay laps =
-    let some = is.fraction in
-    let den = is.den in
-    let low = is.low in
-    let num = is.num in
+pub asked_small : (cycle : Ratio) (k : Link) → IsCycle cycle → IsWithin 4000000000 k.delay → k.cycles ≤ 1 → IsWithin 13000000000000 (asked_by_link cycle k)
+asked_small cycle k is delay laps =
     let product = IsWithin-product 4000000000 2017 k.delay cycle.den delay (omega (arith, ints), omega (arith, ints)) in
     let turns = laps-small k.cycles cycle.num laps (omega (arith, ints), omega (arith, ints)) in
     (omega (arith, ints), omega (arith, ints))
@@ -58,7 +54,6 @@ times-one (negsuc n) = omega (arith, ints)
 pub floor-whole : (at : Ratio) (x u : ℤ) → IsFloor (over x at.den) (pos 1) u → IsWhole at x u
 floor-whole at x u floor =
     let one = times-one x in
-    let low = floor.low in
     record {
       fits = omega (arith, ints);
       most = by_lt_z x ((u +ℤ pos 1) *ℤ at.den) (λ h. h)

@@ -19,7 +19,7 @@ use Rattle.mintc_ratio.specs.From.{AreGreatestFrom, StayWithin}
 use Rattle.mintc_ratio.specs.Searched.{IsCycle}
 use Rattle.mintc_slack.specs.Answers.{AreSettled}
 use Rattle.mintc_slack.specs.Room.{AreFrom}
-use Rattle.mintc_slack.proofs.SizeLaws.{asked-small, larger}
+use Rattle.mintc_slack.proofs.SizeLaws.{asked_small, larger}
 
 -- a link before a walk
 longer : (links : List Link) (k : Link) (a b c : ℕ) → Contains links k → k.from ≡ a → k.to ≡ b →
@@ -74,10 +74,9 @@ module _ (t : Timing) (list : Constraints) (list_is : list ≡ constraints_of (n
 
   pub are_within : IsCycle at → IsOrdinary list → AreBounded 0 starts → StayWithin list at starts values → (node : ℕ) → node < node_count t.flat → IsWithin 30000000000000000 (value_at values node)
   are_within is all bounds stay node h =
-      let most = all.nodes.1 in
       let count = ap (λ (c : Constraints). c.nodes) list_is in
       larger (0 + list.nodes * 13000000000000) 30000000000000000 (value_at values node) (omega arith)
-      (stay 0 13000000000000 bounds (λ n d below. let k = all.each n d below in let low = k.delay.0 in let high = k.delay.1 in asked-small at (get_or list.links n d) is (omega (arith, ints), omega (arith, ints)) k.cycles) node (omega arith))
+      (stay 0 13000000000000 bounds (λ n d below. let k = all.each n d below in let low = k.delay.0 in let high = k.delay.1 in asked_small at (get_or list.links n d) is (omega (arith, ints), omega (arith, ints)) k.cycles) node (omega arith))
 
   pub are_settled : IsCycle at → IsOrdinary list → AreBounded 0 starts → StayWithin list at starts values → AreGreatestFrom list at (element_node t.flat l) values → AreSettled t at l values
   are_settled is all bounds stay h = record {

@@ -105,6 +105,7 @@ fn turn_to<L: Ledger>(
 }
 
 /// The slack of each pair.
+#[tactic(auto, using(crate::proofs::EntryLaws::entry_number))]
 fn extras<L: Ledger>(
     alloc: Global,
     system: &System,
@@ -135,6 +136,7 @@ fn extras<L: Ledger>(
 /// The least cycle of a system, with the slack of each pair: by how many whole femtoseconds its delay may grow with the least
 /// cycle staying as it is, while one more makes it greater or leaves no right schedule. `Never` comes exactly where no
 /// schedule is right.
+#[tactic(auto, using(crate::proofs::SearchLaws::few_in_chain))]
 pub fn slack<L: Ledger>(
     alloc: Global,
     system: &System,

@@ -48,6 +48,7 @@ fn put_pair(
 }
 
 /// Writes the line of each pair.
+#[tactic(auto, using(crate::proofs::TextLaws::slacks_more, crate::proofs::TextLaws::slacks_all))]
 fn put_pairs(lines: &mut Lines, system: &System, extra: &[i64]) -> Result<(), OutOfMemory>
     requires { length extra.now ≡ length system.now.pairs }
     ensures { OnOk result (lines.new ≡ lines.old ++ text_of (map (slack_line system.now.flat) (zip system.now.pairs extra.now))) }

@@ -1,13 +1,5 @@
-use Rattle.std.proofs.Common.{sym}
-use Rattle.mintc_corners.specs.Joined.{clock_count, widest}
 use Rattle.mintc_corners.proofs.MemberLaws.{listed, standing}
-use Rattle.mintc_corners.proofs.PlaceLaws.{joined_length}
 use Rattle.mintc_corners.proofs.chain.corner_member_of.Goals as goal
-
-pub place_of-corner-requires : goal.place_of-corner-requires
-place_of-corner-requires c =
-    let systems = c.args.systems.now in
-    rw (c.requires.lists, sym (joined_length (widest systems) (clock_count systems) 0 systems)) c.requires.number
 
 pub member_of-requires : goal.member_of-requires
 member_of-requires c =

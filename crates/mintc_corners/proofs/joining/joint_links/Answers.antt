@@ -1,9 +1,11 @@
 use Rattle.std.proofs.Common.{◌++◌, List, map, sym, ap, ◌∙◌}
 use Rattle.mintc_timing.specs.declared.link.Link.{Link}
 use Rattle.mintc_timing.specs.Links.{links_of}
-use Rattle.mintc_constraints.specs.Ordinary.{Constraints}
+use Rattle.mintc_constraints.specs.Ordinary.{Constraints, IsOrdinary, constraints_of}
 use Rattle.mintc_corners.specs.Joined.{joined_links, lifted_link, widest}
-use Rattle.mintc_corners.proofs.LoopLaws.{elements_done, elements_more, joined_done, joined_more, list_at, low_at, nodes_of, ordinary_of}
+use Rattle.mintc_corners.specs.Joint.{joint_nodes}
+use Rattle.mintc_corners.proofs.LoopLaws.{elements_done, elements_more, joined_done, joined_more, list_at, low_at, nodes_of}
+use Rattle.mintc_corners.proofs.PlaceLaws.{by_first, joined_ordinary}
 use Rattle.mintc_corners.proofs.joining.joint_links.Goals as goal
 
 pub append_corner-requires-clause-links : goal.append_corner-requires-clause-links
@@ -32,4 +34,4 @@ new-requires c =
     let items = joined_done systems c.loop-corner.corner (widest systems) c.clock_nodes-clock.result c.loop-corner.before c.loop-corner.items.items (joined_links systems) c.loop-corner-test.false c.loop-corner.invariant.0 in
     let before = elements_done systems c.loop-corner.corner c.loop-corner.before _ c.loop-corner-test.false c.loop-corner.invariant.1 in
     let nodes = nodes_of systems c.index-systems-0.result c.clock_nodes-clock.result c.loop-corner.before c.requires.some c.index-systems-0.is c.clock_nodes-clock.ensures.value before in
-    rw (items, nodes) (ordinary_of systems c.requires.some c.requires.few c.requires.alike c.requires.kept c.requires.elements)
+    rw (items, nodes) (by_first (λ ts. IsOrdinary (constraints_of (joint_nodes ts) (joined_links ts))) joined_ordinary systems c.requires.few c.requires.alike c.requires.elements c.requires.kept)

@@ -17,6 +17,7 @@ returns c =
     let t = c.args.system.now in
     let limits = rw c.flat.ensures at c.elements-elements.ensures.kept in
     let kept = c.pairs-pairs.ensures.kept in
-    let p = c.pair-pair.result.now in
-    hold_stands t limits kept c.args.number p c.in_ok-arcs.arcs c.requires.number c.requires.held c.pair-pair.ensures.value
-    c.in_ok-arcs.ensures.path (c.in_ok-arcs.ensures.delay ∙ min_read t limits kept c.args.number c.requires.number p c.pair-pair.ensures.value)
+    let is = c.pair-pair.ensures.value in
+    rw is
+    (hold_stands t limits kept c.args.number c.in_ok-arcs.arcs c.requires.number c.requires.held (rw is at c.in_ok-arcs.ensures.path)
+    (rw is at (c.in_ok-arcs.ensures.delay ∙ min_read t limits kept c.args.number c.requires.number c.pair-pair.result.now is)))

@@ -1,7 +1,9 @@
 use Rattle.std.proofs.Common.{get_or}
+use Rattle.std.proofs.lemmas.List.{take_all}
 use Rattle.std.proofs.lemmas.List.Elements.{Contains-get_or}
+use Rattle.mintc_optimise.proofs.SharedStandingLaws.{stand_read}
 use Rattle.mintc_safe.specs.Hold.{safe_links_of}
-use Rattle.mintc_safe.proofs.StandingLaws.{stand_read}
+use Rattle.mintc_safe.specs.SafeOptimum.{bare}
 use Rattle.mintc_safe.proofs.chain.members.Goals as goal
 
 pub safe_member_of-requires : goal.safe_member_of-requires
@@ -12,5 +14,8 @@ safe_member_of-requires c =
 pub loop-number-preserved : goal.loop-number-preserved
 loop-number-preserved c =
     rw c.in-Ok.ensures.items
-    (stand_read c.args.system.now c.args.links.now c.args.chain.now c.loop-number.number-index c.loop-number.members.items c.in_ok-member.member _ c.loop-number-test.true
+    (stand_read bare c.args.links.now c.args.chain.now c.loop-number.number-index c.loop-number.members.items c.in_ok-member.member _ c.loop-number-test.true
     c.requires.chain c.loop-number.invariant c.in_ok-member.ensures)
+
+pub returns : goal.returns
+returns c = rw c.new-2.ensures (rw (take_all c.loop-number.number-index c.args.chain.now c.loop-number-test.false) at c.loop-number.invariant)

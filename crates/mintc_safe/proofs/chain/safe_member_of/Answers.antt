@@ -5,13 +5,10 @@ use Rattle.mintc_safe.specs.SafeOptimum.{StandsFor}
 use Rattle.mintc_safe.proofs.StandingLaws.{is_of_design, of_safe_kind}
 use Rattle.mintc_safe.proofs.chain.safe_member_of.Goals as goal
 
-pub hold_of-requires-clause-number : goal.hold_of-requires-clause-number
-hold_of-requires-clause-number c =
-    (of_safe_kind c.args.system.now (rw c.flat.ensures at c.elements-elements.ensures.kept) c.args.link.now (kind.Other c.in-Some.number) c.in-Some.ensures c.requires).0
-
-pub hold_of-requires-clause-held : goal.hold_of-requires-clause-held
-hold_of-requires-clause-held c =
-    (of_safe_kind c.args.system.now (rw c.flat.ensures at c.elements-elements.ensures.kept) c.args.link.now (kind.Other c.in-Some.number) c.in-Some.ensures c.requires).1
+pub hold_of-requires : goal.hold_of-requires
+hold_of-requires c =
+    let known = of_safe_kind c.args.system.now (rw c.flat.ensures at c.elements-elements.ensures.kept) c.args.link.now (kind.Other c.in-Some.number) c.in-Some.ensures c.requires in
+    record { number = known.0; held = known.1 }
 
 pub plain_of-requires : goal.plain_of-requires
 plain_of-requires c = is_of_design c.args.system.now (rw c.flat.ensures at c.elements-elements.ensures.kept) c.args.link.now c.in-None.ensures c.requires

@@ -1,14 +1,11 @@
 use Rattle.mintc_timing.proofs.SharedLinkLaws.{ends_of}
-use Rattle.mintc_slack.proofs.SearchLaws.{few_in_chain, hopeless_of, is_modest, least_of}
+use Rattle.mintc_slack.proofs.SearchLaws.{hopeless_of, is_modest, least_of}
 use Rattle.mintc_slack.proofs.finding.slack.Goals as goal
 
 pub returns-in-Never : goal.returns-in-Never
 returns-in-Never g c =
     hopeless_of c.args.system.now (rw c.flat.ensures at c.elements-elements.ensures.kept) (ends_of c.args.system.now c.pairs-pairs.ensures.kept.extremes) c.in_ok-list.list c.in_ok-list.ensures.links c.search.new.room
     c.in-Never.ensures.searched.0 c.in-Never.ensures.searched.1
-
-pub extras-requires-clause-chain : goal.extras-requires-clause-chain
-extras-requires-clause-chain g c = few_in_chain c.in_ok-list.list c.nodes.ensures.kept c.search.new.room c.in-Least.ensures.searched.chain
 
 pub extras-requires-clause-least : goal.extras-requires-clause-least
 extras-requires-clause-least g c =

@@ -1,8 +1,7 @@
-use Rattle.std.proofs.Common.{ℤ, ◌-ℤ◌, ◌∙◌, ap, arith}
+use Rattle.std.proofs.Common.{refl, arith}
 use Rattle.std.proofs.lemmas.Int.{ints}
 use Rattle.mintc_walks.specs.Walks.{value_at}
-use Rattle.mintc_slack.proofs.GapLaws.{made}
-use Rattle.mintc_slack.proofs.SizeLaws.{larger, less-read, narrow, read_narrow, read_wide}
+use Rattle.mintc_slack.proofs.SizeLaws.{larger, less-read, read_narrow, read_wide}
 use Rattle.mintc_slack.proofs.gaps.weigh.Goals as goal
 
 pub overflow_cast-result : goal.overflow_cast-result
@@ -14,8 +13,7 @@ pub returns : goal.returns
 returns c =
     let k = c.args.link.now in
     let values = c.args.potentials.now in
+    let small = c.less-rest.ensures.small in
     let rest = c.less-rest.result in
-    ap (made k.from k.to)
-    (ap narrow (read_wide rest (larger _ _ _ (omega arith) c.less-rest.ensures.small)) ∙ read_narrow rest (larger _ _ _ (omega arith) c.less-rest.ensures.small) ∙ c.less-rest.ensures.value
-    ∙ less-read (value_at values k.to) (value_at values k.from) c.asked_of.result (c.requires.small k.to c.requires.to) (c.requires.small k.from c.requires.from) (larger _ _ _ (omega arith) c.asked_of.ensures.small)
-    ∙ ap (λ (x : ℤ). value_at values k.to -ℤ value_at values k.from -ℤ x) c.asked_of.ensures.value)
+    let read = less-read (value_at values k.to) (value_at values k.from) c.asked_of.result (c.requires.small k.to c.requires.to) (c.requires.small k.from c.requires.from) (larger _ _ _ (omega arith) c.asked_of.ensures.small) in
+    rw (read_wide rest (larger _ _ rest (omega arith) small), read_narrow rest (larger _ _ rest (omega arith) small), c.less-rest.ensures.value, read, c.asked_of.ensures.value) refl

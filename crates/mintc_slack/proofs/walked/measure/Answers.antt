@@ -21,14 +21,11 @@ returns-then-index-lt-FAR-clause-shortest c =
     let far = far_is in
     let home : c.index.result.now ≡ value_at distances 0 = c.index.ensures ∙ get_or_default distances 0 c.index.result.now (pos 0) some in
     let read = read_narrow c.index.result.now (omega (arith, ints), omega (arith, ints)) in
-    let test = c.if-index-lt-FAR.true in
     let near : value_at distances 0 <ℤ FAR = omega (arith, ints) in
     record {
       near = λ node h. ((range node h).0, (let most = c.bring_home.ensures.home node h in omega (arith, ints)));
       least = rw (c.deref-then-index-lt-FAR.ensures.value, c.deref-then-index-lt-FAR-2.ensures.value) at (OnTrue_at is c.are_least.ensures);
       walked = λ list at potentials are count.
-          let total = c.bring_home.ensures.count in
-          let before = c.walk.ensures.count in
           (shorter-on c.args.walker.now.gaps.items _ _ _ (rw c.deref.ensures.value at c.walk.ensures) (c.bring_home.ensures.shorter c.args.walker.now.gaps.items)).kept list at potentials c.args.from are (omega arith)
           (begun-distances list at potentials c.args.from c.begin_at.new.distances.items (omega arith) c.begin_at.ensures.here c.begin_at.ensures.others);
     })

@@ -22,7 +22,6 @@ returns-then-branch-clause-settled g c =
     let kept = c.measure.ensures.kept in
     let nodes = ap (λ (l : Constraints). l.nodes) ready.links in
     let at_node = c.moment-node.ensures.value in
-    let inside = c.moment-node.ensures.inside in
     let short = OnTrue_at c.if-branch.true c.in_ok-measure.ensures.shortest in
     settled-by w.system.now w.list.now w.at.now w.potentials.items w.gaps.items c.args.number v.distances.items c.write.new.room.values ready.links ready.gaps
     (c.measure.ensures.count ∙ ready.count) (omega arith)

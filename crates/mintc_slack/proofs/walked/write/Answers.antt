@@ -14,8 +14,6 @@ loop-node-preserved c =
     let below : i < length c.args.distances.now = (let test = c.loop-node-test.true in omega arith) in
     let range = c.requires.range i below in
     let far = far_is in
-    let low = range.0 in
-    let high = range.1 in
     let from_is : c.from.result ≡ value_at c.args.distances.now i = c.from.ensures ∙ read_narrow (value_at c.args.distances.now i) (omega (arith, ints), omega (arith, ints)) in
     let a : IsWithin 100000000000000000 c.from.result = (omega (arith, ints), omega (arith, ints)) in
     let is = read_wide c.less-value.result (larger _ _ _ (omega arith) c.less-value.ensures.small) ∙ c.less-value.ensures.value ∙ less-read (value_at c.args.potentials.now i) (value_at c.args.potentials.now c.args.from) c.from.result

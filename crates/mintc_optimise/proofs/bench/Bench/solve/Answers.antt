@@ -5,10 +5,10 @@ use Rattle.mintc_optimise.proofs.bench.Bench.solve.Goals as goal
 
 pub returns-clause-solved : goal.returns-clause-solved
 returns-clause-solved g c = λ t limits ends is.
-    let same = ap (λ (b : Workplace). b.list) c.self.view_is in
-    solved t limits ends c.search.new.room c.self.inside.links c.search.result (same ∙ is) c.search.ensures.searched
+    let same = ap (λ (b : Workplace). b.list) c.self.view_is ∙ is in
+    solved t limits ends c.search.new.room c.search.result (rw same at c.search.ensures.searched)
 
 pub returns-clause-bounded : goal.returns-clause-bounded
 returns-clause-bounded g c = λ t limits ends is.
-    let same = ap (λ (b : Workplace). b.list) c.self.view_is in
-    bounded t limits ends c.search.new.room c.self.inside.links c.search.result (same ∙ is) c.self.invariant.ordinary c.search.ensures.searched
+    let same = ap (λ (b : Workplace). b.list) c.self.view_is ∙ is in
+    bounded t limits ends c.search.new.room (rw same at c.self.invariant.ordinary) c.search.result (rw same at c.search.ensures.searched)
