@@ -1,12 +1,12 @@
 -- The lines of slacks, written one by one.
-use Rattle.std.proofs.Common.{◌≡◌, ℕ, ◌+◌, ◌<◌, ◌≤◌, ℤ, pos, List, [], ◌++◌, length, get_or, take, map, arith, ap, ◌∙◌}
-use Rattle.std.proofs.lemmas.List.{get_or_default, take_all}
+use Rattle.std.proofs.Common.{◌≡◌, ℕ, ◌+◌, ◌<◌, ◌≤◌, ℤ, pos, List, [], ◌∷◌, ◌++◌, length, get_or, take, map, arith, append_assoc, sym, ap, ◌∙◌}
+use Rattle.std.proofs.lemmas.List.{get_or_default, map-append, take_all, take_more}
 use Rattle.std.proofs.lemmas.Slice.Zip.{get_or-zip, length-zip}
 use Rattle.std.specs.List.{zip}
 use Rattle.mintc_text.specs.Lines.{ended, text_of}
+use Rattle.mintc_text.proofs.SharedLinesLaws.{text_of-push}
 use Rattle.mintc_timing.specs.declared.parts.Pair.{Pair}
 use Rattle.mintc_timing.specs.Design.{Timing, no_pair}
-use Rattle.mintc_certificate.proofs.SharedWritingLaws.{item_more}
 use Rattle.mintc_slack.specs.SlackText.{slack_line}
 
 module _ (t : Timing) (extra : List ℤ) (same : length extra ≡ length t.pairs) where
@@ -22,7 +22,10 @@ module _ (t : Timing) (extra : List ℤ) (same : length extra ≡ length t.pairs
       let p : Pair × ℤ = (get_or t.pairs i no_pair, x) in
       let inside : i < length all = omega (arith, count) in
       let at = get_or_default all i p (no_pair, pos 0) inside ∙ get_or-zip t.pairs extra i (no_pair, pos 0) (omega arith) h ∙ ap (λ (y : ℤ). (get_or t.pairs i no_pair, y)) is in
-      item_more (slack_line t.flat) [] all i p old now new inside at before step
+      let items = take_more all i p inside ∙ ap (λ (y : Pair × ℤ). take i all ++ y ∷ []) at in
+      let lines = ap (map (slack_line t.flat)) items ∙ map-append (slack_line t.flat) (take i all) (p ∷ []) in
+      let written = append_assoc old (text_of (map (slack_line t.flat) (take i all))) (ended (slack_line t.flat p)) ∙ ap (λ v. old ++ v) (sym (text_of-push (map (slack_line t.flat) (take i all)) (slack_line t.flat p))) in
+      step ∙ ap (λ v. v ++ ended (slack_line t.flat p)) before ∙ written ∙ ap (λ v. old ++ text_of v) (sym lines)
 
   pub slacks_all : (i : ℕ) → length extra ≤ i → take i all ≡ all
   slacks_all i h = take_all i all (omega (arith, count))
