@@ -1,10 +1,8 @@
 -- chains of pairs, followed from the last one down
-use Rattle.std.proofs.Common.{◌≡◌, ℕ, zero, suc, ◌+◌, ◌-◌, ◌<◌, ◌≤◌, ◌==◌, Bool, true, false, cond, ℤ, List, [], ◌∷◌, length, get_or, map, drop, arith, refl, sym, ap, ◌∙◌, subst, ⊎_elim, eq-eqb, ne_eqb}
+use Rattle.std.proofs.Common.{◌≡◌, ℕ, zero, suc, ◌+◌, ◌-◌, ◌<◌, ◌≤◌, ◌==◌, Bool, true, false, cond, ℤ, List, [], ◌∷◌, length, get_or, map, drop, arith, refl, sym, ap, ◌∙◌, subst, eq-eqb, ne_eqb}
 use Rattle.std.proofs.Math.Seq.{drop-cons}
 use Rattle.std.proofs.lemmas.List.{get_or_default}
-use Rattle.std.proofs.lemmas.Bool.{cases_eq}
 use Rattle.std.specs.List.{filter}
-use Rattle.mintc_places.specs.Places.{IsIn}
 use Rattle.std.specs.Int.{int_min}
 use Rattle.mintc_timing.specs.declared.parts.Pair.{Pair}
 use Rattle.mintc_timing.specs.Design.{no_pair}
@@ -14,9 +12,8 @@ use Rattle.mintc_departure.specs.Rounds.{IsArrivalSum, IsFirst}
 use Rattle.mintc_departure.specs.Chains.{end_of, IsLastOf, AreChains}
 use Rattle.mintc_departure.specs.declared.chains.Chains.{Chains}
 use Rattle.mintc_departure.specs.declared.chains.End.{End}
-use Rattle.mintc_departure.specs.declared.chains.End.TheVariants.{First, Second}
+use Rattle.mintc_departure.specs.declared.chains.End.TheVariants.{Second}
 use Rattle.mintc_departure.proofs.SharedLesser.{first-more}
-use Rattle.mintc_departure.proofs.SharedSizes.{below_or_not}
 
 module _ (test : Pair → Bool) (pairs : List Pair) where
   -- a pair that passes, and one that doesn't
@@ -77,16 +74,3 @@ module _ (pairs : List Pair) (side : End) (elements : ℕ) (chains : Chains) (ar
   chain-next n x h e =
       let inside : n < length chains.nexts.items = rw are.nexts_count h in
       subst (λ y. IsLastOf pairs side (end_of side (get_or pairs n no_pair)) n y) (sym (e ∙ get_or_default chains.nexts.items n x 0 inside)) (are.linked.each_pair n h)
-
--- one more pair of a chain that is followed
-pub woken-more : (pairs : List Pair) (l n x : ℕ) (stale : List ℕ) → IsLastOf pairs First l n x → IsIn stale (get_or pairs n no_pair).to →
-    ((m : ℕ) → n < m → m < length pairs → (get_or pairs m no_pair).from ≡ l → IsIn stale (get_or pairs m no_pair).to) →
-    (m : ℕ) → x ≤ m → m < length pairs → (get_or pairs m no_pair).from ≡ l → IsIn stale (get_or pairs m no_pair).to
-woken-more pairs l n x stale last here later m low high is =
-    ⊎_elim
-    (λ below. absurd (last.last m low below is))
-    (λ past. ⊎_elim
-    (λ e. subst (λ (j : ℕ). IsIn stale (get_or pairs j no_pair).to) (sym e) here)
-    (λ ne. later m (omega arith) high is)
-    (cases_eq m n))
-    (below_or_not m n)

@@ -57,21 +57,6 @@ module _ (t : Timing) (s : Schedule) (late : List ℤ) where
         few = rw count few;
       }
 
-  -- by how much departures rise where one of them is written
-  pub written-up : (d e : List ℤ) (n : ℕ) → AreRising t s late d → n < element_count t.flat → e ≡ set d n (early_departure t s d n) →
-      (l : ℕ) → l < element_count t.flat → departure d l ≤ℤ departure e l
-  written-up d e n rising inside write l h =
-      let x = early_departure t s d n in
-      let count = rising.count in
-      ⊎_elim
-      (λ (is : l ≡ n).
-      subst (λ (k : ℕ). departure d k ≤ℤ departure e k) (sym is)
-      (subst (λ z. departure d n ≤ℤ z) (sym (ap (λ (xs : List ℤ). departure xs n) write ∙ get_or-set_same d n x (pos 0) (rw count inside))) (rising.rises n inside)))
-      (λ ne.
-      let other : departure e l ≡ departure d l = ap (λ (xs : List ℤ). departure xs l) write ∙ get_or-set_other d n l x (pos 0) ne in
-      rw other (omega (arith, ints)))
-      (cases_eq l n)
-
   pub written-above : (d e : List ℤ) (n : ℕ) → AreRising t s late d → n < element_count t.flat → e ≡ set d n (early_departure t s d n) → departure d n ≢ early_departure t s d n →
       departure d n <ℤ departure e n
   written-above d e n rising inside write ne =

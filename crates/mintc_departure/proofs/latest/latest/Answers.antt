@@ -6,11 +6,6 @@ use Rattle.mintc_departure.specs.Settled.{IsSum}
 use Rattle.mintc_departure.proofs.NetworkLaws.{arrival-is}
 use Rattle.mintc_departure.proofs.latest.latest.Goals as goal
 
-pub overflow_add-result : goal.overflow_add-result
-overflow_add-result c =
-    let d : IsSum (departure c.args.departures.now c.pair.result.now.from) = c.requires.departures.each c.pair.result.now.from c.pair.ensures.from in
-    omega (arith, ints)
-
 pub returns-clause-value : goal.returns-clause-value
 returns-clause-value c =
     let d : IsSum (departure c.args.departures.now c.pair.result.now.from) = c.requires.departures.each c.pair.result.now.from c.pair.ensures.from in

@@ -1,4 +1,4 @@
-use Rattle.std.proofs.Common.{◌≡◌, ◌<◌, ◌+◌, ◌-◌, ◌==◌, length, drop, map, arith, sym, ap, ◌∙◌, subst, SFits, w64, to_z}
+use Rattle.std.proofs.Common.{◌≡◌, ◌+◌, ◌-◌, ◌==◌, length, drop, map, arith, sym, ap, ◌∙◌, subst, SFits, w64, to_z}
 use Rattle.std.proofs.lemmas.Int.{to_z-of_z}
 use Rattle.std.specs.Int.{w128, int_min}
 use Rattle.std.specs.List.{filter}
@@ -22,12 +22,6 @@ loop-next-init c =
       into = last.has;
       first = into-none (early_arrival t.flat c.args.clocked.now.schedule.now c.args.departures.now) t.pairs c.args.element _ last;
     }
-
-number : (c : goal.After-min-first) → c.loop-next.next - 1 < length c.args.clocked.now.system.now.pairs
-number c = omega arith
-
-pub index-next-requires-in-loop-next : goal.index-next-requires-in-loop-next
-index-next-requires-in-loop-next c = let h = number c in omega (arith, c.args.into.now.nexts.ok.0)
 
 next-last : (c : goal.After-row_known-in-loop-next-2-1) → IsLastOf c.args.clocked.now.system.now.pairs Second c.args.element (c.loop-next.next - 1) c.index-next-in-loop-next.result.now
 next-last c =
@@ -61,10 +55,3 @@ loop-next-preserved c =
       first = into-more f t.pairs c.args.element n _ before _ (omega arith) (c.loop-next.invariant.into n (omega arith)) last range (to_z-of_z w128 _ least ∙ is)
           (subst (λ k. IsFirst (least_of (map f (filter (λ (p : Pair). p.to == c.args.element) (drop k t.pairs)))) before) (sym one) c.loop-next.invariant.first);
     }
-
-pub returns : goal.returns
-returns c =
-    let t = c.args.clocked.now.system.now in
-    let f = early_arrival t.flat c.args.clocked.now.schedule.now c.args.departures.now in
-    let none : c.loop-next.next ≡ 0 = omega arith in
-    subst (λ k. IsFirst (least_of (map f (filter (λ (p : Pair). p.to == c.args.element) (drop k t.pairs)))) (to_z w128 c.loop-next.first-bits)) none c.loop-next.invariant.first

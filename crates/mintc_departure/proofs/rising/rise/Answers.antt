@@ -1,21 +1,11 @@
-use Rattle.std.proofs.Common.{ap, sym, subst}
+use Rattle.std.proofs.Common.{ap, subst}
 use Rattle.mintc_constraints.specs.Rooms.{Space}
 use Rattle.mintc_timing.specs.Design.{element_count}
-use Rattle.mintc_timing.specs.Departures.{AreLate}
 use Rattle.mintc_departure.specs.Rounds.{AreSwept}
 use Rattle.mintc_departure.proofs.EarlyLaws.{rising-sums}
-use Rattle.mintc_departure.proofs.Filling.{kept-early}
 use Rattle.mintc_departure.proofs.Missing.{missing-falls}
 use Rattle.mintc_departure.proofs.SweepLaws.{swept-last}
 use Rattle.mintc_departure.proofs.rising.rise.Goals as goal
-
-pub sweep-requires-clause-late : goal.sweep-requires-clause-late
-sweep-requires-clause-late c = subst (λ xs. AreLate c.args.clocked.now.system.now c.args.clocked.now.schedule.now xs) (sym (ap (λ (r : Space). r.late) c.loop.invariant.kept)) c.requires.late
-
-pub sweep-requires-clause-swept : goal.sweep-requires-clause-swept
-sweep-requires-clause-swept c =
-    subst (λ xs. AreSwept c.args.clocked.now.system.now c.args.clocked.now.schedule.now xs c.loop.room.early c.loop.stale.words.items) (sym (ap (λ (r : Space). r.late) c.loop.invariant.kept))
-    c.loop.invariant.swept
 
 pub loop-smaller : goal.loop-smaller
 loop-smaller c =
@@ -25,12 +15,6 @@ loop-smaller c =
     subst (λ xs. AreSwept t s xs c.sweep.new.room.early c.sweep.new.stale.words.items) (ap (λ (r : Space). r.late) c.loop.invariant.kept) c.sweep.ensures.swept in
     let changed = c.loop-test.ensures.changed in
     missing-falls t s c.args.room.now.late c.loop.room.early c.sweep.new.room.early (element_count t.flat) changed.0 c.sweep.ensures.up swept.rising.before changed.1 changed.2
-
-pub loop-preserved : goal.loop-preserved
-loop-preserved c = record {
-  kept = kept-early c.args.room.now c.loop.room c.sweep.new.room _ c.sweep.ensures.kept c.loop.invariant.kept;
-  swept = subst (λ xs. AreSwept c.args.clocked.now.system.now c.args.clocked.now.schedule.now xs c.sweep.new.room.early c.sweep.new.stale.words.items) (ap (λ (r : Space). r.late) c.loop.invariant.kept) c.sweep.ensures.swept;
-}
 
 pub returns-clause-early : goal.returns-clause-early
 returns-clause-early c =
