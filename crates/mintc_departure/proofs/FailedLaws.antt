@@ -10,18 +10,17 @@ use Rattle.mintc_timing.specs.declared.violation.Violation.{Violation}
 use Rattle.mintc_timing.specs.Violations.{failed}
 
 -- two lists of checks, one after the other
-pub joined : (old now new xs ys : List Violation) → now ≡ old ++ failed xs → new ≡ now ++ failed ys → new ≡ old ++ failed (xs ++ ys)
-joined old now new xs ys before more =
-    more ∙ ap (λ zs. zs ++ failed ys) before ∙ append_assoc old (failed xs) (failed ys) ∙ ap (λ zs. old ++ zs) (sym (filter-append (λ v. int_lt (pos 0) v.amount) xs ys))
+pub failed-append : (xs ys : List Violation) → failed (xs ++ ys) ≡ failed xs ++ failed ys
+failed-append xs ys = filter-append (λ v. int_lt (pos 0) v.amount) xs ys
 
 range-more : (a n : ℕ) → range_with_len a (n + 1) ≡ range_with_len a n ++ (a + n) ∷ []
 range-more a n = sym (map-id (range_with_len a (n + 1))) ∙ map-range_with_len_more (λ k. k) a n (a + n) refl ∙ ap (λ ks. ks ++ (a + n) ∷ []) (map-id (range_with_len a n))
 
--- the same where the items are the numbers of a range
+-- checks of the numbers of a range, one more at a time
 more : (checks : List ℕ → List Violation) → ((xs ys : List ℕ) → checks (xs ++ ys) ≡ checks xs ++ checks ys) → (a n : ℕ) →
     failed (checks (range_with_len a (n + 1))) ≡ failed (checks (range_with_len a n)) ++ failed (checks ((a + n) ∷ []))
 more checks parts a n =
-    ap (λ ks. failed (checks ks)) (range-more a n) ∙ ap failed (parts (range_with_len a n) ((a + n) ∷ [])) ∙ filter-append (λ v. int_lt (pos 0) v.amount) (checks (range_with_len a n)) (checks ((a + n) ∷ []))
+    ap (λ ks. failed (checks ks)) (range-more a n) ∙ ap failed (parts (range_with_len a n) ((a + n) ∷ [])) ∙ failed-append (checks (range_with_len a n)) (checks ((a + n) ∷ []))
 
 pub mapped-more : (f : ℕ → Violation) (a n : ℕ) → failed (map f (range_with_len a (n + 1))) ≡ failed (map f (range_with_len a n)) ++ failed (f (a + n) ∷ [])
 mapped-more f a n = more (map f) (map-append f) a n
@@ -50,7 +49,7 @@ numbered-more f bounds i d h =
     let at : get_or (enumerate_from 0 bounds) i (i, b) ≡ (i, b) =
     get_or-enumerate_from 0 bounds i (i, b) h ∙ ap (λ (k : ℕ). (k, get_or bounds i b)) (zero-add i) ∙ ap (λ (y : Bound). (i, y)) (get_or_default bounds i b d h) in
     ap failed (map_more f (enumerate_from 0 bounds) i (i, b) (rw (length-enumerate_from 0 bounds) h))
-    ∙ filter-append (λ v. int_lt (pos 0) v.amount) (map f (take i (enumerate_from 0 bounds))) (f (get_or (enumerate_from 0 bounds) i (i, b)) ∷ [])
+    ∙ failed-append (map f (take i (enumerate_from 0 bounds))) (f (get_or (enumerate_from 0 bounds) i (i, b)) ∷ [])
     ∙ ap (λ y. failed (map f (take i (enumerate_from 0 bounds))) ++ failed (f y ∷ [])) at
 
 pub ruleset turns = (append_assoc, zero-add, mapped-more, optional-more, flat-more, passing-more)

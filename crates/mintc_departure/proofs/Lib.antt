@@ -16,5 +16,4 @@ mod Gathering
 mod Greater
 mod ElementLaws
 mod LoopSums
-mod JudgedLaws
 mod KeptLaws
