@@ -12,8 +12,8 @@ use Rattle.mintc_timing.specs.Paths.{ArePairs, HasExtremes, input_of}
 use Rattle.mintc_checker.specs.declared.labels.Labels.{Labels}
 use Rattle.mintc_checker.specs.Trails.{LeadsFrom, element_of, IsLabel}
 use Rattle.mintc_checker.specs.Labels.{AreLabels, label_at}
-use Rattle.mintc_checker.specs.Judged.{Decides, IsFedAt, IsFed, OfTiming, timing_of}
-use Rattle.mintc_checker.proofs.Pairing.{pair_of_trail, trail_of_pair}
+use Rattle.mintc_checker.specs.Judged.{IsFedAt, IsFed}
+use Rattle.mintc_checker.proofs.Pairing.{of_timing, pair_of_trail, timing_of, trail_of_pair}
 
 -- Some latch on phase j is reached from phase i.
 abbrev pub IsFedFrom : Design → List Labels → ℕ → ℕ → Type 0
@@ -87,23 +87,10 @@ pub IsFed-from_places : (design : Design) (den : ℤ) (d : List ℤ) (labels : L
     ((k : ℕ) → k < 64 → IsTrue (get_or fed k false) ↔ IsFedFrom design labels (k / 8 + 1) (k % 8 + 1)) → IsFed design fed
 IsFed-from_places design den d labels fed are_labels count each = record {
   count = count;
-  each = λ i j p q along pairs are_pairs.
+  each = λ i j p q. of_timing design (λ t. get_or fed (8 * (i - 1) + (j - 1)) false ≡ feeds_of t i j) (λ along pairs are_pairs.
       let place = place_of i j p q in
       let here = each (8 * (i - 1) + (j - 1)) place.2 in
       fed_is design den d labels are_labels i j p along pairs are_pairs (get_or fed (8 * (i - 1) + (j - 1)) false)
       (subst (λ b. IsTrue (get_or fed (8 * (i - 1) + (j - 1)) false) ↔ IsFedFrom design labels i b) place.1
-      (subst (λ a. IsTrue (get_or fed (8 * (i - 1) + (j - 1)) false) ↔ IsFedFrom design labels a ((8 * (i - 1) + (j - 1)) % 8 + 1)) place.0 here));
+      (subst (λ a. IsTrue (get_or fed (8 * (i - 1) + (j - 1)) false) ↔ IsFedFrom design labels a ((8 * (i - 1) + (j - 1)) % 8 + 1)) place.0 here)));
 }
-
--- What the table says of two phases of the design, and of a phase and the next in a row.
-pub feeding_decided : (design : Design) (fed : List Bool) (i j : ℕ) → IsFed design fed → IsPhase MOST_PHASES (length design.phases) → IsPhase (length design.phases) i → IsPhase (length design.phases) j →
-    Decides design (get_or fed (8 * (i - 1) + (j - 1)) false) (λ t. IsPhase (length design.phases) i × IsPhase (length design.phases) j × IsTrue (feeds_of t i j))
-feeding_decided design fed i j table most p q along pairs are_pairs =
-    let same = table.each i j (p.0, omega (arith, p, most)) (q.0, omega (arith, q, most)) along pairs are_pairs in
-    ((λ h. (p, q, sym same ∙ h)), (λ h. same ∙ h.2))
-
-pub fed_at : (design : Design) (fed : List Bool) (i index : ℕ) → IsFed design fed → IsPhase MOST_PHASES i → index < MOST_PHASES →
-    OfTiming design (λ t. get_or fed (8 * (i - 1) + index) false ≡ feeds_of t i (index + 1))
-fed_at design fed i index table p below along pairs are_pairs =
-    let place : (index + 1) - 1 ≡ index = omega arith in
-    subst (λ n. get_or fed (8 * (i - 1) + n) false ≡ feeds_of (timing_of design along pairs) i (index + 1)) place (table.each i (index + 1) p (omega arith, omega (arith, below)) along pairs are_pairs)

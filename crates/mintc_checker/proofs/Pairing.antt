@@ -13,8 +13,18 @@ use Rattle.mintc_timing.specs.Paths.{IsPath, Leads, ArePairs, HasExtremes, input
 use Rattle.mintc_timing.proofs.SharedExtremesLaws.{greatest_is}
 use Rattle.mintc_timing.proofs.SharedProducts.{times-mono_positive}
 use Rattle.mintc_checker.proofs.Deciding.{same_test, true_or_false}
-use Rattle.mintc_checker.specs.Judged.{timing_of}
+use Rattle.mintc_checker.specs.Judged.{OfTiming}
 use Rattle.mintc_checker.specs.Trails.{LeadsTo, element_of, arrival_along, IsLastArrival}
+
+-- the timing of a design, an order of its arcs and pairs
+abbrev pub timing_of : Design → List ℕ → List Pair → Timing
+timing_of design along pairs' = record { flat = design; order = along; pairs = pairs' }
+
+-- A claim of each order of the arcs, with all pairs, is one of each timing of the design.
+pub of_timing : (design : Design) (P : Timing → Type 0) → ((along : List ℕ) (pairs : List Pair) → ArePairs design pairs → P (timing_of design along pairs)) → OfTiming design P
+of_timing design P h t e are_pairs =
+    let Q : Design → Type 0 = λ f. ArePairs f t.pairs → P (timing_of f t.order t.pairs) in
+    subst Q (sym e) (h t.order t.pairs) are_pairs
 
 not_odd : (j l : ℕ) → 2 * j + 1 ≡ 2 * l → ⊥
 not_odd j l e = omega arith

@@ -1,8 +1,5 @@
-use Rattle.mintc_checker.proofs.Answering.{verdict_of, optimal_of}
+use Rattle.mintc_checker.proofs.Answering.{optimal_of}
 use Rattle.mintc_checker.proofs.examine_flat.Goals as goal
-
-pub returns-clause-verdict : goal.returns-clause-verdict
-returns-clause-verdict c = verdict_of c.args.flat.now c.args.certificate.now c.judge.result c.judge.ensures
 
 pub returns-clause-optimal : goal.returns-clause-optimal
 returns-clause-optimal c = optimal_of c.args.flat.now c.args.certificate.now c.judge.result c.elements-elements.ensures.kept c.valid_is_optimal.ensures c.judge.ensures

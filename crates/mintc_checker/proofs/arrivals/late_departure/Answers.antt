@@ -15,21 +15,21 @@ greater x opens last e h g = let h0 = h.0 in let h1 = h.1 in let g0 = g.0 in let
 
 pub returns-in-Some : goal.returns-in-Some
 returns-in-Some c = record {
-  value = λ d labels along pairs are_pairs.
+  value = λ d labels t e are_pairs.
       let latch = sym (ap (λ (e : Element). e.flop) c.element.ensures.value) ∙ c.if-element.false in
       let last = subst (λ o. IsLastArrival c.args.clocked.now.flat.now c.args.clocked.now.schedule.now d c.args.number o) c.in-Some.is (c.last_arrival.ensures.last d labels) in
       let range = subst (λ (o : Option ℤ). IfSome o IsArrivalTime) c.in-Some.is c.last_arrival.ensures.range in
       greater c.max.result c.opening-open.result c.in-Some.last c.max.ensures.value c.opening-open.ensures.range range
       ∙ ap (λ z. int_max z c.in-Some.last) c.opening-open.ensures.value
-      ∙ departs-latch c.args.clocked.now.flat.now c.args.clocked.now.schedule.now d c.args.number (Some c.in-Some.last) c.args.clocked.now.in_range.den.0 c.requires.number latch last along pairs are_pairs;
+      ∙ departs-latch c.args.clocked.now.flat.now c.args.clocked.now.schedule.now d c.args.number (Some c.in-Some.last) c.args.clocked.now.in_range.den.0 c.requires.number latch last t e are_pairs;
 }
 
 pub returns-in-None : goal.returns-in-None
 returns-in-None c = record {
-  value = λ d labels along pairs are_pairs.
+  value = λ d labels t e are_pairs.
       let latch = sym (ap (λ (e : Element). e.flop) c.element.ensures.value) ∙ c.if-element.false in
       let last = subst (λ o. IsLastArrival c.args.clocked.now.flat.now c.args.clocked.now.schedule.now d c.args.number o) c.in-None.is (c.last_arrival.ensures.last d labels) in
       read_time c.opening-open.result (IsTime-IsModest _ c.opening-open.ensures.range)
       ∙ c.opening-open.ensures.value
-      ∙ departs-latch c.args.clocked.now.flat.now c.args.clocked.now.schedule.now d c.args.number None c.args.clocked.now.in_range.den.0 c.requires.number latch last along pairs are_pairs;
+      ∙ departs-latch c.args.clocked.now.flat.now c.args.clocked.now.schedule.now d c.args.number None c.args.clocked.now.in_range.den.0 c.requires.number latch last t e are_pairs;
 }
