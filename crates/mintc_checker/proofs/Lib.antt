@@ -8,6 +8,5 @@ mod Pairing
 mod Deciding
 mod Scaled
 mod Fed
-mod Bounds
 mod Exact
 mod Answering
