@@ -29,10 +29,8 @@ departure-range d each j = ⊎_elim (λ low. each j (pos 0) low)
 module _ (design : Design) (limits : IsDesign design) (short : ArePathsShort design) where
   product-range : (x den : ℤ) → (pos 0 ≤ℤ x) × (x ≤ℤ pos 2000000000) → IsDenominator den → (pos 0 ≤ℤ (x *ℤ den)) × ((x *ℤ den) ≤ℤ pos 200000000000000)
   product-range x den h g =
-      let one = g.0 in
-      let most = g.1 in
-      let low : (pos 0 *ℤ den) ≤ℤ (x *ℤ den) = times-mono_positive (pos 0) x den h.0 one in
-      let high : (x *ℤ den) ≤ℤ (pos 2000000000 *ℤ den) = times-mono_positive x (pos 2000000000) den h.1 one in
+      let low : (pos 0 *ℤ den) ≤ℤ (x *ℤ den) = times-mono_positive (pos 0) x den h.0 g.0 in
+      let high : (x *ℤ den) ≤ℤ (pos 2000000000 *ℤ den) = times-mono_positive x (pos 2000000000) den h.1 g.0 in
       (omega (arith, ints), omega (arith, ints))
 
   pub trail-range : (den : ℤ) (d : List ℤ) → IsDenominator den → All IsDeparture d → (bit j : ℕ) (path : List ℕ) → LeadsTo design bit j path → IsLate (time_along design den d j path)
@@ -62,7 +60,7 @@ module _ (design : Design) (limits : IsDesign design) (short : ArePathsShort des
 
   IsLate-small : (x : Option ℤ) → IfSome x IsLate → IfSome x (λ z. unsigned_abs z ≤ 2 * 10 ^ 18)
   IsLate-small None h = tt
-  IsLate-small (Some z) h = let low = h.0 in let high = h.1 in omega (arith, ints)
+  IsLate-small (Some z) h = omega (arith, ints)
 
   pub AreLanes-from_labels : (den : ℤ) (d : List ℤ) (IsOfKind : ℕ → List ℕ → Type 0) (labels : List Labels) → IsDenominator den → All IsDeparture d → AreLabelsOf design den d IsOfKind labels →
       (bit : ℕ) → bit < length labels → AreLanes (labels_at labels bit).lanes

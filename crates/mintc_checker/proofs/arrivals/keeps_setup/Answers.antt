@@ -20,10 +20,10 @@ use Rattle.mintc_checker.proofs.arrivals.keeps_setup.Goals as goal
 -- the sum that the code compares
 latch_sum : (x leaves setup : ℤ) → x ≡ int_max (pos 0) (to_z w64 (of_z w64 leaves)) → IsDeparture leaves → IsModest setup →
     to_z w64 (of_z w64 (to_z w64 (of_z w64 x) +ℤ to_z w64 (of_z w64 setup))) ≡ int_max (pos 0) leaves +ℤ setup
-latch_sum x leaves setup e h g = let h0 = h.0 in let h1 = h.1 in let g0 = g.0 in let g1 = g.1 in omega (arith, ints, clamps, e)
+latch_sum x leaves setup e h g = omega (arith, ints, clamps, e)
 
 flop_sum : (last setup : ℤ) → IsArrivalTime last → IsModest setup → to_z w64 (of_z w64 (to_z w64 (of_z w64 last) +ℤ to_z w64 (of_z w64 setup))) ≡ last +ℤ setup
-flop_sum last setup h g = let h0 = h.0 in let h1 = h.1 in let g0 = g.0 in let g1 = g.1 in omega (arith, ints)
+flop_sum last setup h g = omega (arith, ints)
 
 pub returns-then-not-element : goal.returns-then-not-element
 returns-then-not-element c = of_timing _ _ (λ along pairs are_pairs.

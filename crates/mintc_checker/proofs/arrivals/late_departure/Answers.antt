@@ -11,7 +11,7 @@ use Rattle.mintc_checker.proofs.Exact.{departs-latch}
 use Rattle.mintc_checker.proofs.arrivals.late_departure.Goals as goal
 
 greater : (x opens last : ℤ) → x ≡ int_max (to_z w64 (of_z w64 opens)) (to_z w64 (of_z w64 last)) → IsModest opens → IsArrivalTime last → to_z w64 (of_z w64 x) ≡ int_max opens last
-greater x opens last e h g = let h0 = h.0 in let h1 = h.1 in let g0 = g.0 in let g1 = g.1 in omega (arith, ints, clamps, e)
+greater x opens last e h g = omega (arith, ints, clamps, e)
 
 pub returns-in-Some : goal.returns-in-Some
 returns-in-Some c = record {

@@ -14,20 +14,16 @@ label_range : (c : goal.After-max) → IsLate c.in-Some.label
 label_range c = subst (λ (o : Option ℤ). IfSome o IsLate) c.in-Some.is c.requires.label
 
 greater : (c : goal.After-max) → c.max.result ≡ int_max c.in-Some-last.last (c.in-Some.label +ℤ c.args.add)
-greater c =
-    let last = last_range c in
-    let label = label_range c in
-    let add = c.requires.add in
-    omega (arith, ints, clamps, c.max.ensures.value)
+greater c = omega (arith, ints, clamps, c.max.ensures.value, last_range c, label_range c)
 
 within : (x last label add : ℤ) → x ≡ int_max last (label +ℤ add) → IsArrivalTime last → (negsuc 199999999999999 ≤ℤ add) × (add ≤ℤ pos 200000000000000) → IsLate label → IsArrivalTime x
-within x last label add e a b d = let b0 = b.0 in let b1 = b.1 in let a0 = a.0 in let a1 = a.1 in let d0 = d.0 in let d1 = d.1 in (omega (arith, ints, clamps), omega (arith, ints, clamps))
+within x last label add e a b d = (omega (arith, ints, clamps), omega (arith, ints, clamps))
 
 in_range : (c : goal.After-max) → IsArrivalTime c.max.result
 in_range c = within c.max.result c.in-Some-last.last c.in-Some.label c.args.add (greater c) (last_range c) c.requires.add (label_range c)
 
 read : (x : ℤ) → IsArrivalTime x → to_z w64 (of_z w64 x) ≡ x
-read x h = let low = h.0 in let high = h.1 in read_time x (omega (arith, ints), omega (arith, ints))
+read x h = read_time x (omega (arith, ints), omega (arith, ints))
 
 pub returns-clause-value : goal.returns-clause-value
 returns-clause-value c =

@@ -8,15 +8,11 @@ use Rattle.mintc_checker.proofs.labels.carry_arc.Goals as goal
 
 pub carry-requires-clause-from_lanes : goal.carry-requires-clause-from_lanes
 carry-requires-clause-from_lanes c =
-    let count = c.requires.labels.count in
-    let inside = c.arc_at_place-arc.ensures.kept.from in
     AreLanes-from_labels c.args.departing.now.flat.now c.elements-elements.ensures.kept c.args.departing.now.short c.args.departing.now.den c.args.departing.now.departures.now (IsAlong c.args.order.now c.args.place) c.args.labels.now c.args.departing.now.is_den c.args.departing.now.in_range c.requires.labels
     c.arc_at_place-arc.result.from (omega arith)
 
 pub carry-requires-clause-to_lanes : goal.carry-requires-clause-to_lanes
 carry-requires-clause-to_lanes c =
-    let count = c.requires.labels.count in
-    let inside = c.arc_at_place-arc.ensures.kept.to in
     AreLanes-from_labels c.args.departing.now.flat.now c.elements-elements.ensures.kept c.args.departing.now.short c.args.departing.now.den c.args.departing.now.departures.now (IsAlong c.args.order.now c.args.place) c.args.labels.now c.args.departing.now.is_den c.args.departing.now.in_range c.requires.labels
     c.arc_at_place-arc.result.to (omega arith)
 
@@ -27,8 +23,5 @@ returns c =
     let den = c.args.departing.now.den in
     let product : c.scaled.result ≡ arc.max *ℤ den =
     rw (read_time arc.max (IsTime-IsDelay _ c.arc_at_place-arc.ensures.kept.max), read_time den (IsTime-IsDenominator _ c.args.departing.now.is_den)) at c.scaled.ensures.value in
-    let count = c.requires.labels.count in
-    let from_in = c.arc_at_place-arc.ensures.kept.from in
-    let to_in = c.arc_at_place-arc.ensures.kept.to in
     carried design den c.args.departing.now.departures.now c.args.order.now c.requires.order c.args.place (get_or c.args.order.now c.args.place 0) c.requires.place refl
     c.args.labels.now c.carry.new.labels arc c.arc_at_place-arc.ensures.value _ c.carry.auto.labels (omega arith) (omega arith) (read_time c.scaled.result (IsTime-IsModest _ c.scaled.ensures.range) ∙ product) c.carry.ensures.others c.carry.ensures.joined c.requires.labels

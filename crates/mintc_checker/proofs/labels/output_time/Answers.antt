@@ -12,6 +12,4 @@ returns-clause-value c =
     let product : c.scaled.result ≡ (element_of c.args.departing.now.flat.now c.args.number).dq_max *ℤ den =
     rw (read_time e.dq_max (IsTime-IsDelay _ c.element.ensures.kept.dq_max), read_time den (IsTime-IsDenominator _ c.args.departing.now.is_den)) at c.scaled.ensures.value
     ∙ ap (λ (x : Element). x.dq_max *ℤ den) c.element.ensures.value in
-    let a = c.departure_at.ensures.range in
-    let b = c.scaled.ensures.range in
     rw (← product, ← c.departure_at.ensures.value) (omega (arith, ints))
