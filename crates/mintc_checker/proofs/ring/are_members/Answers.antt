@@ -1,4 +1,5 @@
 use Rattle.std.proofs.Common.{arith, subst, sym}
+use Rattle.std.specs.List.{All}
 use Rattle.std.proofs.lemmas.List.{take_all}
 use Rattle.std.proofs.lemmas.List.Elements.{All-more}
 use Rattle.mintc_certificate.specs.declared.members.Member.{Member}
@@ -17,7 +18,8 @@ loop-place-preserved c =
 
 pub returns-then-not-is_member-clause-members : goal.returns-then-not-is_member-clause-members
 returns-then-not-is_member-clause-members c = λ t e are_pairs.
-    denied _ c.if-not-is_member.true (c.is_member.ensures.member t e are_pairs) (λ all. subst (IsMember t) (sym c.index-members-place.is) (all c.loop-place.place c.index-members-place.result c.loop-place-test.true))
+    rw c.if-not-is_member.true at
+    (denied _ c.if-not-is_member.true (c.is_member.ensures.member t e are_pairs) (λ (all : All (IsMember t) c.args.members.now). subst (IsMember t) (sym c.index-members-place.is) (all c.loop-place.place c.index-members-place.result c.loop-place-test.true)))
 
 pub returns-clause-named : goal.returns-clause-named
 returns-clause-named c = rw (take_all c.loop-place.place c.args.members.now (omega arith)) at c.loop-place.invariant.named
