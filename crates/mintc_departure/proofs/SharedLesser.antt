@@ -41,10 +41,6 @@ pub greater-from : (b : ℤ) (o : Option ℤ) → b ≤ℤ greater_of b o
 greater-from b None = omega (arith, ints)
 greater-from b (Some x) = omega (arith, ints, clamps)
 
-pub greater-one : (b : ℤ) (o : Option ℤ) → (greater_of b o ≡ b) ⊎ ((a : ℤ) × (o ≡ Some a) × (greater_of b o ≡ a))
-greater-one b None = inl refl
-greater-one b (Some x) = by_lt_z b x (λ h. inr (x, refl, omega (arith, ints, clamps))) (λ h. inl (omega (arith, ints, clamps)))
-
 module _ {X : Type 0} where
   -- the least of greater numbers is no less
   pub least-mono : (f g : X → ℤ) → ((x : X) → f x ≤ℤ g x) → (xs : List X) → IsNoLater (least_of (map f xs)) (least_of (map g xs))
@@ -75,6 +71,14 @@ module _ {X : Type 0} (f : X → ℤ) (test : X → Bool) (d : X) where
   pub least-some : (xs : List X) → IsSome xs (least_of (map f (filter test xs)))
   least-some [] = inl refl
   least-some (x ∷ xs) = some-step x xs (test x) refl (least-some xs)
+
+  -- so what is at least b is b, or that of some item
+  pub greater-some : (b : ℤ) (xs : List X) → (greater_of b (least_of (map f (filter test xs))) ≡ b)
+      ⊎ ((n : ℕ) × (n < length xs) × (test (get_or xs n d) ≡ true) × (greater_of b (least_of (map f (filter test xs))) ≡ f (get_or xs n d)))
+  greater-some b xs = ⊎_elim
+      (λ none. inl (rw none refl))
+      (λ w. rw w.3 (by_lt_z b (f (get_or xs w.0 d)) (λ h. inr (w.0, w.1, w.2, omega (arith, ints, clamps))) (λ h. inl (omega (arith, ints, clamps)))))
+      (least-some xs)
 
 -- an arrival more
 pub first-more : (o : Option ℤ) (v y : ℤ) → IsArrivalSum y → IsFirst o v → IsFirst (Some (lesser_of y o)) (int_min y v)

@@ -19,4 +19,4 @@ returns c d is =
     let larger : c.max.result ≡ int_max c.early_start-start.result first = omega (arith, ints, clamps, c.max.ensures.value) in
     let fits : SFits w64 c.max.result = omega (arith, ints, clamps) in
     to_z-of_z w64 c.max.result fits
-    ∙ departs-by_first t c.args.clocked.now.schedule.now d c.args.number first c.max.result latch ne is (larger ∙ ap (λ z. int_max z first) start.value)
+    ∙ larger ∙ ap (λ z. int_max z first) start.value ∙ departs-by_first t c.args.clocked.now.schedule.now d c.args.number first latch ne is
