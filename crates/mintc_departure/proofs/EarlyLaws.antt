@@ -7,8 +7,7 @@ use Rattle.std.specs.Int.{int_max}
 use Rattle.mintc_walks.specs.Bounds.{IsWithin}
 use Rattle.mintc_timing.specs.declared.parts.Pair.{Pair}
 use Rattle.mintc_timing.specs.declared.clocking.Schedule.{Schedule}
-use Rattle.mintc_timing.specs.Design.{Timing, element_at, element_count, pair_at, phase_of, no_pair}
-use Rattle.mintc_timing.specs.Clocking.{shift_of}
+use Rattle.mintc_timing.specs.Design.{Timing, element_at, element_count, pair_at, no_pair}
 use Rattle.mintc_timing.specs.Departures.{departure, into, early_arrival, early_arrivals, early_opening, early_departure, late_arrival, late_opening, AreEarly, AreAtMost, AreLate}
 use Rattle.mintc_timing.specs.Extremes.{greater_of, least_of}
 use Rattle.mintc_timing.proofs.SharedDepartureLaws.{late_departure-flop}
@@ -74,9 +73,6 @@ opening-sum cq dq den =
     let whole : (cq -ℤ dq) +ℤ dq ≡ cq = omega (arith, ints) in
     sym (add-times (cq -ℤ dq) dq den) ∙ ap (λ v. v *ℤ den) whole
 
-latch-before : (start q late opens cq_low cq_high dq_high : ℤ) → start +ℤ q ≡ cq_low → cq_low ≤ℤ cq_high → opens +ℤ dq_high ≡ cq_high → opens ≤ℤ late → (start +ℤ q) ≤ℤ (late +ℤ dq_high)
-latch-before start q late opens cq_low cq_high dq_high e h f k = omega (arith, ints)
-
 module _ (t : Timing) (s : Schedule) (fits : IsClocked t s)
     (late : List ℤ) (are_late : AreLate t s late) where
   dq-grow : (l : ℕ) → l < element_count t.flat → ((element_at t.flat l).dq_min *ℤ s.den) ≤ℤ ((element_at t.flat l).dq_max *ℤ s.den)
@@ -91,12 +87,11 @@ module _ (t : Timing) (s : Schedule) (fits : IsClocked t s)
       ⊎_elim
       (λ flop. rw (are_late.exact.each l h ∙ late_departure-flop t s late l flop, flop) (omega (arith, ints)))
       (λ latch.
-      rw latch
-      (latch-before (early_opening t.flat s l) (e.dq_min *ℤ s.den) (departure late l) (late_opening t.flat s l) (e.cq_min *ℤ s.den) (e.cq_max *ℤ s.den) (e.dq_max *ℤ s.den)
-      (opening-sum e.cq_min e.dq_min s.den)
-      (times-mono_positive e.cq_min e.cq_max s.den (element_in_range t s fits l h).cq fits.range.den.0)
-      (opening-sum e.cq_max e.dq_max s.den)
-      (rw latch at starts)))
+      let opens : late_opening t.flat s l ≤ℤ departure late l = rw latch at starts in
+      let low = opening-sum e.cq_min e.dq_min s.den in
+      let high = opening-sum e.cq_max e.dq_max s.den in
+      let cq = times-mono_positive e.cq_min e.cq_max s.den (element_in_range t s fits l h).cq fits.range.den.0 in
+      rw latch (omega (arith, ints)))
       (cases_Bool e.flop)
 
   -- What arrives early is there before what arrives late.
@@ -106,12 +101,10 @@ module _ (t : Timing) (s : Schedule) (fits : IsClocked t s)
   arrival-before d n h before =
       let p = pair_at t n in
       let from = element_at t.flat p.from in
-      sums-before (departure d p.from) (departure late p.from) (from.dq_min *ℤ s.den) (from.dq_max *ℤ s.den) (p.min *ℤ s.den) (p.max *ℤ s.den) ((from.dq_min +ℤ p.min) *ℤ s.den) ((from.dq_max +ℤ p.max) *ℤ s.den) (shift_of s (phase_of t.flat p.from) (phase_of t.flat p.to))
-      (add-times from.dq_min p.min s.den) (add-times from.dq_max p.max s.den) before
-      (times-mono_positive p.min p.max s.den (pair-min_order t.flat t.order t.pairs fits.design fits.timing n no_pair h).1 fits.range.den.0)
-    where
-      sums-before : (d e q r x y low high shift : ℤ) → low ≡ q +ℤ x → high ≡ r +ℤ y → (d +ℤ q) ≤ℤ (e +ℤ r) → x ≤ℤ y → (d +ℤ low +ℤ shift) ≤ℤ (e +ℤ high +ℤ shift)
-      sums-before d e q r x y low high shift a b h k = omega (arith, ints)
+      let low = add-times from.dq_min p.min s.den in
+      let high = add-times from.dq_max p.max s.den in
+      let grow = times-mono_positive p.min p.max s.den (pair-min_order t.flat t.order t.pairs fits.design fits.timing n no_pair h).1 fits.range.den.0 in
+      omega (arith, ints)
 
   round-before : (d : List ℤ) →
       ((l : ℕ) → l < element_count t.flat → (departure d l +ℤ (element_at t.flat l).dq_min *ℤ s.den) ≤ℤ (departure late l +ℤ (element_at t.flat l).dq_max *ℤ s.den)) →
@@ -130,9 +123,6 @@ module _ (t : Timing) (s : Schedule) (fits : IsClocked t s)
       leaves : ℤ
       leaves = greater_of (early_opening t.flat s l) (least_of (early_arrivals t s d l))
 
-      rises : (x y z q r : ℤ) → x ≡ y → y ≤ℤ z → q ≤ℤ r → (x +ℤ q) ≤ℤ (z +ℤ r)
-      rises x y z q r e h k = omega (arith, ints)
-
       by_arrival : (element_at t.flat l).flop ≡ false → (n : ℕ) × (n < length t.pairs) × ((pair_at t n).to == l ≡ true) × (leaves ≡ early_arrival t.flat s d (pair_at t n)) →
           (leaves +ℤ (element_at t.flat l).dq_min *ℤ s.den) ≤ℤ (departure late l +ℤ (element_at t.flat l).dq_max *ℤ s.den)
       by_arrival latch w =
@@ -143,7 +133,8 @@ module _ (t : Timing) (s : Schedule) (fits : IsClocked t s)
           let there = subst P to (arrival-at_most t s late are_late.exact fits.timing.extremes.each n no_pair w.1 (ap (λ (m : ℕ). (element_at t.flat m).flop) to ∙ latch)) in
           let first = arrival-before d n w.1 (before (pair_at t n).from ends.from) in
           let both : early_arrival t.flat s d (pair_at t n) ≤ℤ departure late l = omega (arith, ints) in
-          rises leaves _ (departure late l) ((element_at t.flat l).dq_min *ℤ s.den) ((element_at t.flat l).dq_max *ℤ s.den) w.3 both (dq-grow l h)
+          let grow = dq-grow l h in
+          rw w.3 (omega (arith, ints))
 
   -- The rounds begin where no data reaches an element ..
   pub rising-first : (d : List ℤ) → length d ≡ element_count t.flat → ((l : ℕ) → l < element_count t.flat → departure d l ≡ early_start_of t.flat s l) → AreRising t s late d
