@@ -17,7 +17,7 @@ use Rattle.mintc_timing.proofs.SharedLoops.{arrival-at_most}
 use Rattle.mintc_departure.specs.Clocked.{IsClocked}
 use Rattle.mintc_departure.specs.Networks.{late_travel}
 use Rattle.mintc_departure.proofs.Ladders.{IsGap, all_below}
-use Rattle.mintc_departure.proofs.NetworkLaws.{greater-is, arrival-is, start-latch, exact-starts}
+use Rattle.mintc_departure.proofs.NetworkLaws.{greater-is, arrival-is, exact-starts}
 use Rattle.mintc_departure.proofs.SharedSizes.{start-within, opening-within, travel-within, pair_ends}
 
 -- a number above a bound less 1, and any other as it is
@@ -105,7 +105,7 @@ module _ (t : Timing) (s : Schedule) (fits : IsClocked t s) where
           let w = opening-within t s fits l h in
           let opens : late_opening t.flat s l ≤ℤ pos low = let b = w.1 in omega (arith, ints) in
           greater-is (late_arrival t.flat s down) test t.pairs no_pair (late_opening t.flat s l) (departure down l)
-          (start-kept low 400000000000000 (late_opening t.flat s l) (departure d l) (departure down l) opens (down-is l h) (rw (start-latch t s l e) at (exact-starts t s d exact fits.timing.extremes.each l h)))
+          (start-kept low 400000000000000 (late_opening t.flat s l) (departure d l) (departure down l) opens (down-is l h) (rw e at (exact-starts t s d exact fits.timing.extremes.each l h)))
           (λ n k to. kept n k (eqb-true _ _ to))
           (⊎_elim
           (λ a. inl (start-same low 400000000000000 (late_opening t.flat s l) (departure d l) (departure down l) opens (down-is l h) a))
