@@ -1,9 +1,8 @@
 -- early departures: what a round makes of them, and why they rise to the least solution
-use Rattle.std.proofs.Common.{◌≡◌, ◌≢◌, ℕ, ◌<◌, ◌==◌, ℤ, pos, ◌+ℤ◌, ◌-ℤ◌, ◌*ℤ◌, ◌≤ℤ◌, true, false, List, length, arith, sym, ap, ◌∙◌, Option, Some, None, ◌⊎◌, inl, ⊎_elim, subst}
+use Rattle.std.proofs.Common.{◌≡◌, ℕ, ◌<◌, ◌==◌, ℤ, pos, ◌+ℤ◌, ◌-ℤ◌, ◌*ℤ◌, ◌≤ℤ◌, true, false, List, length, arith, sym, ap, ◌∙◌, ◌⊎◌, inl, ⊎_elim, subst}
 use Rattle.std.proofs.lemmas.Int.{ints}
 use Rattle.std.proofs.lemmas.Bool.{cases_Bool, eqb-true}
 use Rattle.std.proofs.lemmas.List.{get_or_past, ext_get_or}
-use Rattle.std.specs.Int.{int_max}
 use Rattle.mintc_walks.specs.Bounds.{IsWithin}
 use Rattle.mintc_timing.specs.declared.parts.Pair.{Pair}
 use Rattle.mintc_timing.specs.declared.clocking.Schedule.{Schedule}
@@ -14,28 +13,17 @@ use Rattle.mintc_timing.proofs.SharedDepartureLaws.{late_departure-flop}
 use Rattle.mintc_timing.proofs.SharedLoops.{arrival-at_most}
 use Rattle.mintc_timing.proofs.SharedProducts.{add-times, times-mono_positive}
 use Rattle.mintc_departure.specs.Clocked.{IsClocked}
-use Rattle.mintc_departure.specs.Rounds.{early_start_of, early_travel, IsFirst, AreSums, AreRising}
+use Rattle.mintc_departure.specs.Rounds.{early_start_of, early_travel, AreSums, AreRising}
 use Rattle.mintc_departure.specs.Settled.{IsSum}
-use Rattle.mintc_departure.specs.declared.arrivals.TheConstants.{NEVER}
 use Rattle.mintc_departure.proofs.LateSizes.{late-within}
 use Rattle.mintc_departure.proofs.SharedLesser.{greater-mono, greater-from, greater-some, least-mono}
 use Rattle.mintc_departure.proofs.NetworkLaws.{exact-starts}
 use Rattle.mintc_walks.proofs.SharedWithin.{IsWithin-product}
 use Rattle.mintc_departure.proofs.SharedSizes.{below_or_not, element_in_range, pair_ends, pair-min_order}
 
--- A latch with a first arrival departs by it.
-first-greater : (start first : ℤ) (o : Option ℤ) → IsFirst o first → first ≢ NEVER → int_max start first ≡ greater_of start o
-first-greater start first None is ne = absurd (ne is)
-first-greater start first (Some a) is ne = ap (λ z. int_max start z) is.0
-
 module _ (t : Timing) (s : Schedule) where
   pub early-arrival-is : (d : List ℤ) (p : Pair) → early_arrival t.flat s d p ≡ departure d p.from +ℤ early_travel t.flat s p
   early-arrival-is d p = omega (arith, ints)
-
-  -- what the code makes of a first arrival
-  pub departs-by_first : (d : List ℤ) (l : ℕ) (first : ℤ) → (element_at t.flat l).flop ≡ false → first ≢ NEVER → IsFirst (least_of (early_arrivals t s d l)) first →
-      int_max (early_start_of t.flat s l) first ≡ early_departure t s d l
-  departs-by_first d l first latch ne is = rw latch (first-greater (early_opening t.flat s l) first (least_of (early_arrivals t s d l)) is ne)
 
   -- Departures that are nowhere later make departures that are nowhere later.
   arrival-mono : (d e : List ℤ) (p : Pair) → departure d p.from ≤ℤ departure e p.from → early_arrival t.flat s d p ≤ℤ early_arrival t.flat s e p
