@@ -17,13 +17,11 @@ arrives c = ⊎_elim (λ e. absurd (comes c e)) (λ r. r) c.requires.first
 
 pub overflow_add-result-2 : goal.overflow_add-result-2
 overflow_add-result-2 c =
-    let a = arrives c in
-    omega (arith, ints)
+    omega (arith, ints, arrives c)
 
 pub overflow_sub-result : goal.overflow_sub-result
 overflow_sub-result c =
-    let a = arrives c in
-    omega (arith, ints)
+    omega (arith, ints, arrives c)
 
 pub returns-clause-value : goal.returns-clause-value
 returns-clause-value c d is =
@@ -34,10 +32,8 @@ returns-clause-value c d is =
     let has : (element_at t.flat c.args.number).has_hold ≡ true = rw here at c.if-not-element.false in
     let hold : c.scaled-hold.result ≡ (element_at t.flat c.args.number).hold *ℤ s.den =
     rw (read_time e.hold (IsTime-IsGap _ c.element-element.ensures.kept.hold), read_time s.den (IsTime-IsDenominator _ c.args.clocked.now.in_range.den), here) at c.scaled-hold.ensures.value in
-    let a = arrives c in
-    rw (has, first-some _ c.args.first is (comes c)) (ap Some (omega (arith, ints)))
+    rw (has, first-some _ c.args.first is (comes c)) (ap Some (omega (arith, ints, arrives c)))
 
 pub returns-clause-range : goal.returns-clause-range
 returns-clause-range c =
-    let a = arrives c in
-    (omega (arith, ints), omega (arith, ints))
+    (omega (arith, ints, arrives c), omega (arith, ints, arrives c))
