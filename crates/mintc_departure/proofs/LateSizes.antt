@@ -42,10 +42,7 @@ IsLowered low high y z = ((y ≤ℤ low) × (z ≡ y)) ⊎ ((high <ℤ y) × (z 
 -- What an arrival keeps when all high numbers are lowered, across a gap that is as wide as any delay.
 arrival-kept : (low width : ℕ) (a a' b b' w : ℤ) → IsWithin width w → IsLowered (pos low) (pos (low + width)) a a' → IsLowered (pos low) (pos (low + width)) b b' →
     (a +ℤ w) ≤ℤ b → (a' +ℤ w) ≤ℤ b'
-arrival-kept low width a a' b b' w r (inl p) (inl q) h = omega (arith, ints)
-arrival-kept low width a a' b b' w r (inl p) (inr q) h = omega (arith, ints)
-arrival-kept low width a a' b b' w r (inr p) (inl q) h = omega (arith, ints)
-arrival-kept low width a a' b b' w r (inr p) (inr q) h = omega (arith, ints)
+arrival-kept low width a a' b b' w r p q h = grind (arith, ints)
 
 arrival-brought : (low width : ℕ) (a a' b b' w : ℤ) → IsWithin width w → IsLowered (pos low) (pos (low + width)) a a' → IsLowered (pos low) (pos (low + width)) b b' →
     b ≡ a +ℤ w → b' ≡ a' +ℤ w
@@ -55,16 +52,13 @@ arrival-brought low width a a' b b' w r (inr p) (inl q) h = absurd (omega (arith
 arrival-brought low width a a' b b' w r (inr p) (inr q) h = omega (arith, ints)
 
 start-kept : (low width : ℕ) (start b b' : ℤ) → start ≤ℤ pos low → IsLowered (pos low) (pos (low + width)) b b' → start ≤ℤ b → start ≤ℤ b'
-start-kept low width start b b' s (inl p) h = omega (arith, ints)
-start-kept low width start b b' s (inr p) h = omega (arith, ints)
+start-kept low width start b b' s p h = grind (arith, ints)
 
 start-same : (low width : ℕ) (start b b' : ℤ) → start ≤ℤ pos low → IsLowered (pos low) (pos (low + width)) b b' → b ≡ start → b' ≡ start
-start-same low width start b b' s (inl p) h = omega (arith, ints)
-start-same low width start b b' s (inr p) h = absurd (omega (arith, ints))
+start-same low width start b b' s p h = grind (arith, ints)
 
 high-fell : (low width : ℕ) (b b' : ℤ) → IsLowered (pos low) (pos (low + width)) b b' → b ≤ℤ b' → b ≤ℤ pos low
-high-fell low width b b' (inl p) h = p.0
-high-fell low width b b' (inr p) h = absurd (omega (arith, ints))
+high-fell low width b b' p h = grind (arith, ints)
 
 module _ (t : Timing) (s : Schedule) (fits : IsClocked t s) where
   module _ (d : List ℤ) (exact : AreExact t s d) where
