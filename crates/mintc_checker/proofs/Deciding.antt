@@ -17,10 +17,6 @@ alike b decides there back = ((λ h. there (decides.0 h)), (λ q. decides.1 (bac
 pub same_test : (a b : ℕ) → IsTrue (a == b) ↔ (a ≡ b)
 same_test a b = ((λ h. grind (arith, nat_tests)), (λ h. grind (arith, nat_tests)))
 
--- what a test denies
-pub refused : {P : Type 0} (b : Bool) → b ≡ false → IsTrue b ↔ P → P → ⊥
-refused b off decides p = true_or_false b off (decides.1 p)
-
 -- a test that fails decides each claim that asks for its own
 pub denied : {P Q : Type 0} (b : Bool) → b ≡ false → IsTrue b ↔ P → (Q → P) → IsTrue b ↔ Q
 denied b off decides asks = ((λ h. absurd (true_or_false b off h)), (λ q. decides.1 (asks q)))

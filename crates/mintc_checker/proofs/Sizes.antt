@@ -1,8 +1,9 @@
 -- How large labels and arrivals are.
-use Rattle.std.proofs.Common.{ℕ, ◌<◌, ◌≤◌, ◌+◌, ◌*◌, ◌^◌, ℤ, pos, ◌+ℤ◌, ◌*ℤ◌, ◌≤ℤ◌, List, length, arith, sym, ◌⊎◌, ⊎_elim, Option, Some, None, subst}
+use Rattle.std.proofs.Common.{ℕ, ◌<◌, ◌≤◌, ◌+◌, ◌*◌, ◌^◌, ℤ, pos, ◌+ℤ◌, ◌*ℤ◌, ◌≤ℤ◌, List, length, arith, sym, ⊎_elim, Option, Some, None, subst}
 use Rattle.std.specs.Prelude.{IfSome, unsigned_abs}
 use Rattle.std.specs.List.{All}
 use Rattle.std.proofs.lemmas.Int.{ints}
+use Rattle.std.proofs.lemmas.Bool.{cases_lt}
 use Rattle.std.proofs.lemmas.List.{get_or_past}
 use Rattle.mintc_timing.specs.Departures.{departure}
 use Rattle.mintc_timing.specs.Design.{Design, no_element}
@@ -18,13 +19,10 @@ use Rattle.mintc_checker.specs.Trails.{IsGreatestTime, LeadsTo, LeadsFrom, eleme
 use Rattle.mintc_checker.specs.Labels.{labels_at, label_at, AreLabels, AreLabelsOf}
 use Rattle.mintc_checker.specs.Judged.{IsLate, AreTimelyLabels}
 
-low_or_high : (i n : ℕ) → (i < n) ⊎ (n ≤ i)
-low_or_high i n = grind arith
-
 pub departure-range : (d : List ℤ) → All IsDeparture d → (j : ℕ) → IsDeparture (departure d j)
 departure-range d each j = ⊎_elim (λ low. each j (pos 0) low)
     (λ high. subst IsDeparture (sym (get_or_past d j (pos 0) high)) (omega (arith, ints), omega (arith, ints)))
-    (low_or_high j (length d))
+    (cases_lt j (length d))
 
 module _ (design : Design) (limits : IsDesign design) (short : ArePathsShort design) where
   product-range : (x den : ℤ) → (pos 0 ≤ℤ x) × (x ≤ℤ pos 2000000000) → IsDenominator den → (pos 0 ≤ℤ (x *ℤ den)) × ((x *ℤ den) ≤ℤ pos 200000000000000)

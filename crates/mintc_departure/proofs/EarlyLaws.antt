@@ -1,7 +1,7 @@
 -- early departures: what a round makes of them, and why they rise to the least solution
 use Rattle.std.proofs.Common.{◌≡◌, ℕ, ◌<◌, ◌==◌, ℤ, pos, ◌+ℤ◌, ◌-ℤ◌, ◌*ℤ◌, ◌≤ℤ◌, true, false, List, length, arith, sym, ap, ◌∙◌, ◌⊎◌, inl, ⊎_elim, subst}
 use Rattle.std.proofs.lemmas.Int.{ints}
-use Rattle.std.proofs.lemmas.Bool.{cases_Bool, eqb-true}
+use Rattle.std.proofs.lemmas.Bool.{cases_Bool, cases_lt, eqb-true}
 use Rattle.std.proofs.lemmas.List.{get_or_past, ext_get_or}
 use Rattle.mintc_walks.specs.Bounds.{IsWithin}
 use Rattle.mintc_timing.specs.declared.parts.Pair.{Pair}
@@ -19,7 +19,7 @@ use Rattle.mintc_departure.proofs.LateSizes.{late-within}
 use Rattle.mintc_departure.proofs.SharedLesser.{greater-mono, greater-from, greater-some, least-mono}
 use Rattle.mintc_departure.proofs.NetworkLaws.{exact-starts}
 use Rattle.mintc_walks.proofs.SharedWithin.{IsWithin-product}
-use Rattle.mintc_departure.proofs.SharedSizes.{below_or_not, element_in_range, pair_ends, pair-min_order}
+use Rattle.mintc_departure.proofs.SharedSizes.{element_in_range, pair_ends, pair-min_order}
 
 module _ (t : Timing) (s : Schedule) where
   pub early-arrival-is : (d : List ℤ) (p : Pair) → early_arrival t.flat s d p ≡ departure d p.from +ℤ early_travel t.flat s p
@@ -49,7 +49,7 @@ module _ (t : Timing) (s : Schedule) where
       ⊎_elim
       (λ lt. h l lt)
       (λ past. rw (get_or_past d l (pos 0) (rw p past), get_or_past e l (pos 0) (rw q past)) (omega (arith, ints)))
-      (below_or_not l (element_count t.flat))
+      (cases_lt l (element_count t.flat))
 
 -- The second departures are what the first make them.
 abbrev pub IsRound : Timing → Schedule → List ℤ → List ℤ → Type 0

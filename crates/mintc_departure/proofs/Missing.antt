@@ -1,12 +1,12 @@
 -- by how much outputs are early, which falls with each round
 use Rattle.std.proofs.Common.{◌≡◌, ◌≢◌, ℕ, zero, suc, ◌+◌, ◌<◌, ◌≤◌, ℤ, pos, negsuc, ◌+ℤ◌, ◌-ℤ◌, ◌*ℤ◌, ◌≤ℤ◌, ◌<ℤ◌, List, arith, sym, ◌∙◌, ⊎_elim}
 use Rattle.std.proofs.lemmas.Int.{ints, by_lt_z}
+use Rattle.std.proofs.lemmas.Bool.{cases_lt}
 use Rattle.mintc_timing.specs.declared.clocking.Schedule.{Schedule}
 use Rattle.mintc_timing.specs.Design.{Timing, element_at, element_count}
 use Rattle.mintc_timing.specs.Departures.{departure, early_departure}
 use Rattle.mintc_departure.specs.Rounds.{AreRising}
 use Rattle.mintc_departure.proofs.EarlyLaws.{IsRound}
-use Rattle.mintc_departure.proofs.SharedSizes.{below_or_not}
 
 -- a number that is not negative, and 0 for any other
 abbrev pub count_of : ℤ → ℕ
@@ -60,7 +60,7 @@ module _ (t : Timing) (s : Schedule) (late d e : List ℤ) where
       let up_here : departure d n <ℤ departure e n = rw is up in
       let one = count-falls new old (omega (arith, ints)) (omega (arith, ints)) in
       omega arith)
-      (below_or_not j n)
+      (cases_lt j n)
 
 -- A round that changes something leaves less to rise.
 pub round-falls : (t : Timing) (s : Schedule) (late d e : List ℤ) → AreRising t s late d → AreRising t s late e → IsRound t s d e →

@@ -1,7 +1,7 @@
 -- sweeps over stale elements
 use Rattle.std.proofs.Common.{◌≡◌, ◌≢◌, ℕ, suc, ◌+◌, ◌<◌, ◌≤◌, ◌==◌, ℤ, pos, ◌+ℤ◌, ◌≤ℤ◌, ◌<ℤ◌, Bool, true, false, cond, List, [], ◌∷◌, length, get_or, set, map, arith, refl, sym, ap, ◌∙◌, subst, inl, inr, ⊎_elim, eqb-true, length-set, get_or-set_same, get_or-set_other}
 use Rattle.std.proofs.lemmas.Int.{ints, by_lt_z}
-use Rattle.std.proofs.lemmas.Bool.{cases_eq}
+use Rattle.std.proofs.lemmas.Bool.{cases_eq, cases_lt}
 use Rattle.std.specs.List.{filter}
 use Rattle.mintc_places.specs.Places.{IsIn}
 use Rattle.mintc_timing.specs.declared.parts.Pair.{Pair}
@@ -12,7 +12,6 @@ use Rattle.mintc_timing.specs.Extremes.{greater_of, least_of}
 use Rattle.mintc_departure.specs.Clocked.{IsClocked}
 use Rattle.mintc_departure.specs.Rounds.{early_travel, AreRising, AreSwept}
 use Rattle.mintc_departure.proofs.EarlyLaws.{early-arrival-is, rising-part}
-use Rattle.mintc_departure.proofs.SharedSizes.{below_or_not}
 
 -- Two functions that agree on what passes give the same lists.
 module _ (f g : Pair → ℤ) (test : Pair → Bool) where
@@ -112,4 +111,4 @@ none-before at next old new before out only later k lt held =
     (λ (is : k ≡ at). out (subst (λ j. IsIn new j) is held))
     (λ ne. later k (omega arith) lt held)
     (cases_eq k at))
-    (below_or_not k at)
+    (cases_lt k at)
