@@ -59,10 +59,7 @@ module _ (t : Timing) (s : Schedule) (late : List ℤ) where
   pub written-above : (d e : List ℤ) (n : ℕ) → AreRising t s late d → n < element_count t.flat → e ≡ set d n (early_departure t s d n) → departure d n ≢ early_departure t s d n →
       departure d n <ℤ departure e n
   written-above d e n rising inside write ne =
-      let x = early_departure t s d n in
-      let count = rising.count in
-      let here : departure e n ≡ x = ap (λ (xs : List ℤ). departure xs n) write ∙ get_or-set_same d n x (pos 0) (rw count inside) in
-      subst (λ z. departure d n <ℤ z) (sym here) (strictly _ _ (rising.rises n inside) ne)
+      rw (write, get_or-set_same d n (early_departure t s d n) (pos 0) (rw rising.count inside)) (strictly _ _ (rising.rises n inside) ne)
 
   -- The departures are the early ones where none is stale.
   pub swept-last : (d : List ℤ) (stale : List ℕ) → AreSwept t s late d stale → ((l : ℕ) → l < element_count t.flat → IsIn stale l → ⊥) → AreEarly t s d
@@ -92,11 +89,7 @@ module _ (t : Timing) (s : Schedule) (fits : IsClocked t s)
       }
     where
       at_place : (l : ℕ) → l ≡ n → departure e l ≡ early_departure t s d l
-      at_place l is =
-          let x = early_departure t s d n in
-          let count = swept.rising.count in
-          let here : departure e n ≡ x = ap (λ (xs : List ℤ). departure xs n) write ∙ get_or-set_same d n x (pos 0) (rw count inside) in
-          subst (λ (k : ℕ). departure e k ≡ early_departure t s d k) (sym is) here
+      at_place l is = rw (is, write) (get_or-set_same d n (early_departure t s d n) (pos 0) (rw swept.rising.count inside))
 
       elsewhere : (k : ℕ) → k ≢ n → departure e k ≡ departure d k
       elsewhere k ne = ap (λ (xs : List ℤ). departure xs k) write ∙ get_or-set_other d n k (early_departure t s d n) (pos 0) ne
