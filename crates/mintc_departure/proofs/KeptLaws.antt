@@ -16,12 +16,6 @@ moved x y = ((λ h. omega (arith, ints)), (λ h. omega (arith, ints)))
 abbrev pub IsKept : Violation → Type 0
 IsKept v = v.amount ≤ℤ pos 0
 
-not_above : (x : ℤ) → int_lt (pos 0) x ≡ false → x ≤ℤ pos 0
-not_above x h = grind (arith, ints)
-
-above : (x : ℤ) → int_lt (pos 0) x ≡ true → x ≤ℤ pos 0 → ⊥
-above x h k = grind (arith, ints)
-
 nil-left : {X : Type 0} (xs ys : List X) → xs ++ ys ≡ [] → xs ≡ []
 nil-left [] ys e = refl
 nil-left (x ∷ xs) ys e = absurd (cc)
@@ -31,12 +25,8 @@ nil-right [] ys e = e
 nil-right (x ∷ xs) ys e = absurd (cc)
 
 -- Checks of which none is failed: one more, two lists, one check for each item of a list, and the like.
-kept-step : (v : Violation) (vs : List Violation) (b : Bool) → int_lt (pos 0) v.amount ≡ b → (cond b (v ∷ failed vs) (failed vs) ≡ []) ↔ (IsKept v × (failed vs ≡ []))
-kept-step v vs true h = ((λ e. absurd (cc)), (λ k. absurd (above v.amount h k.0)))
-kept-step v vs false h = ((λ e. (not_above v.amount h, e)), (λ k. k.1))
-
 pub kept-cons : (v : Violation) (vs : List Violation) → (failed (v ∷ vs) ≡ []) ↔ (IsKept v × (failed vs ≡ []))
-kept-cons v vs = kept-step v vs (int_lt (pos 0) v.amount) refl
+kept-cons v vs = ((λ e. (grind (arith, ints), grind (arith, ints))), (λ k. grind (arith, ints)))
 
 pub kept-append : (xs ys : List Violation) → (failed (xs ++ ys) ≡ []) ↔ ((failed xs ≡ []) × (failed ys ≡ []))
 kept-append xs ys =
