@@ -2,9 +2,6 @@
 use Rattle.std.proofs.Common.{◌≡◌, Bool, true, false, IsTrue, ◌↔◌, refl, ℕ, ◌==◌, arith}
 use Rattle.std.proofs.lemmas.Bool.Decides.{nat_tests}
 
-pub true_or_false : (b : Bool) → b ≡ false → b ≡ true → ⊥
-true_or_false b h g = cc
-
 -- what holds is decided by true
 pub holds : {Q : Type 0} → Q → IsTrue true ↔ Q
 holds q = ((λ h. q), (λ h. refl))
@@ -19,4 +16,4 @@ same_test a b = ((λ h. grind (arith, nat_tests)), (λ h. grind (arith, nat_test
 
 -- a test that fails decides each claim that asks for its own
 pub denied : {P Q : Type 0} (b : Bool) → b ≡ false → IsTrue b ↔ P → (Q → P) → IsTrue b ↔ Q
-denied b off decides asks = ((λ h. absurd (true_or_false b off h)), (λ q. decides.1 (asks q)))
+denied b off decides asks = ((λ h. absurd (cc)), (λ q. decides.1 (asks q)))

@@ -1,5 +1,5 @@
 -- Which phase feeds which, by the labels.
-use Rattle.std.proofs.Common.{◌≡◌, ℕ, ◌<◌, ◌+◌, ◌-◌, ◌*◌, ◌/◌, ◌%◌, ℤ, ◌==◌, Bool, true, false, not, ◌&&◌, IsTrue, ◌↔◌, List, length, get_or, arith, refl, ap, ◌∙◌, sym, Option, Some, None, subst}
+use Rattle.std.proofs.Common.{◌≡◌, ℕ, ◌<◌, ◌+◌, ◌-◌, ◌*◌, ◌/◌, ◌%◌, ℤ, ◌==◌, Bool, true, false, not, ◌&&◌, IsTrue, ◌↔◌, List, length, get_or, arith, refl, ap, ◌∙◌, Option, Some, None, subst}
 use Rattle.std.specs.Prelude.{IfSome, IsSomeAnd, IsSome}
 use Rattle.std.proofs.lemmas.Bool.Decides.{nat_tests}
 use Rattle.std.proofs.lemmas.List.Folds.{Any-from_list_any, list_any-from_Any}
@@ -37,9 +37,7 @@ attained_of None P h g = absurd (none h)
     none e = cc
 
 same_tests : (b c : Bool) → (b ≡ true → c ≡ true) → (c ≡ true → b ≡ true) → b ≡ c
-same_tests true c f g = sym (f refl)
-same_tests false true f g = g refl
-same_tests false false f g = refl
+same_tests b c f g = grind arith
 
 module _ (design : Design) (den : ℤ) (d : List ℤ) (labels : List Labels) (are_labels : AreLabels design den d labels) (i j : ℕ) (low : IsPhase MOST_PHASES i)
     (along : List ℕ) (pairs : List Pair) (are_pairs : ArePairs design pairs) where

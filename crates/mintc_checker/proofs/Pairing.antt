@@ -12,7 +12,7 @@ use Rattle.mintc_timing.specs.Extremes.{greatest_of, IsGreatest}
 use Rattle.mintc_timing.specs.Paths.{IsPath, Leads, ArePairs, HasExtremes, input_of, output_of, greatest_delay}
 use Rattle.mintc_timing.proofs.SharedExtremesLaws.{greatest_is}
 use Rattle.mintc_timing.proofs.SharedProducts.{times-mono_positive}
-use Rattle.mintc_checker.proofs.Deciding.{same_test, true_or_false}
+use Rattle.mintc_checker.proofs.Deciding.{same_test}
 use Rattle.mintc_checker.specs.Judged.{OfTiming}
 use Rattle.mintc_checker.specs.Trails.{LeadsTo, element_of, arrival_along, IsLastArrival}
 
@@ -81,7 +81,7 @@ module _ (design : Design) (along : List ℕ) (pairs : List Pair) (are_pairs : A
         let found = pair_of_trail l a.0 a.1 inside a.2 in
         let at = found.1 in
         let none : (found.0.to == l) ≡ false = rw at.2 at (h at.0 found.0 at.1) in
-        absurd (true_or_false (found.0.to == l) none (eq-eqb found.0.to l found.4))
+        let same = eq-eqb found.0.to l found.4 in absurd (cc)
     same (Some y) None h g =
         let some = h.attained in
         let p : Pair = some.1 in

@@ -1,5 +1,5 @@
 -- checks of which none is failed
-use Rattle.std.proofs.Common.{◌≡◌, ℕ, ◌+◌, ◌-◌, ◌<◌, ◌≤◌, ℤ, pos, ◌≤ℤ◌, ◌-ℤ◌, Bool, true, false, cond, List, [], ◌∷◌, ◌++◌, map, Option, Some, None, option_map, IfSome, IsTrue, ◌↔◌, arith, int_lt, refl, sym, ap, ◌∙◌, subst}
+use Rattle.std.proofs.Common.{◌≡◌, ℕ, ◌+◌, ◌-◌, ◌<◌, ◌≤◌, ℤ, pos, ◌≤ℤ◌, ◌-ℤ◌, Bool, cond, List, [], ◌∷◌, ◌++◌, map, Option, Some, None, option_map, IfSome, IsTrue, ◌↔◌, arith, int_lt, refl, sym, ap, ◌∙◌, subst}
 use Rattle.std.proofs.lemmas.Int.{ints}
 use Rattle.std.proofs.lemmas.List.FromFn.{length-range_with_len, get_or-range_with_len}
 use Rattle.std.specs.List.{All, cons_option, filter, filter_map, flat_map, range_with_len}
@@ -38,10 +38,7 @@ optional-step constraint None vs = ((λ e. (tt, e)), (λ h. h.1))
 optional-step constraint (Some x) vs = kept-cons (check constraint x) vs
 
 tested-step : {X : Type 0} (f : X → Violation) (x : X) (ys : List X) (b : Bool) → (failed (map f (cond b (x ∷ ys) ys)) ≡ []) ↔ ((IsTrue b → IsKept (f x)) × (failed (map f ys) ≡ []))
-tested-step f x ys true =
-    let first = kept-cons (f x) (map f ys) in
-    ((λ e. let h = first.0 e in (λ _. h.0, h.1)), (λ h. first.1 (h.0 refl, h.1)))
-tested-step f x ys false = ((λ e. (λ h. absurd (cc), e)), (λ h. h.1))
+tested-step f x ys b = ((λ e. ((λ on. grind (arith, ints)), grind (arith, ints))), (λ h. let here = h.0 in grind (arith, ints)))
 
 -- checks that are made item by item
 module _ {X : Type 0} where
