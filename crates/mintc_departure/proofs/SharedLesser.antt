@@ -33,14 +33,10 @@ lesser-mono x y (Some a) None h k = absurd k
 lesser-mono x y (Some a) (Some b) h k = omega (arith, ints, clamps)
 
 pub greater-mono : (b : ℤ) (o p : Option ℤ) → IsNoLater o p → greater_of b o ≤ℤ greater_of b p
-greater-mono b None None k = omega (arith, ints)
-greater-mono b None (Some y) k = absurd k
-greater-mono b (Some x) None k = absurd k
-greater-mono b (Some x) (Some y) k = omega (arith, ints, clamps)
+greater-mono b o p k = grind (arith, ints, clamps)
 
 pub greater-from : (b : ℤ) (o : Option ℤ) → b ≤ℤ greater_of b o
-greater-from b None = omega (arith, ints)
-greater-from b (Some x) = omega (arith, ints, clamps)
+greater-from b o = grind (arith, ints, clamps)
 
 module _ {X : Type 0} where
   -- the least of greater numbers is no less
