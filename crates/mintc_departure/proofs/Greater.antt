@@ -20,10 +20,7 @@ last-some None last is ne = absurd (ne is)
 last-some (Some a) last is ne = ap Some (sym is.0)
 
 greater_of-mono : (x y : ℤ) (o p : Option ℤ) → x ≤ℤ y → IsNoLater o p → greater_of x o ≤ℤ greater_of y p
-greater_of-mono x y None None h k = h
-greater_of-mono x y None (Some b) h k = absurd k
-greater_of-mono x y (Some a) None h k = absurd k
-greater_of-mono x y (Some a) (Some b) h k = omega (arith, ints, clamps)
+greater_of-mono x y o p h k = grind (arith, ints, clamps)
 
 -- the greatest of greater numbers is no less
 pub greatest-mono : {X : Type 0} (f g : X → ℤ) → ((x : X) → f x ≤ℤ g x) → (xs : List X) → IsNoLater (greatest_of (map f xs)) (greatest_of (map g xs))

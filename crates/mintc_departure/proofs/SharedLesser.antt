@@ -13,8 +13,7 @@ least_of-push [] y = refl
 least_of-push (x ∷ xs) y = ap (λ o. Some (lesser_of x o)) (least_of-push xs y) ∙ ap Some (turn x y (least_of xs))
   where
     turn : (x y : ℤ) (o : Option ℤ) → int_min x (lesser_of y o) ≡ int_min y (lesser_of x o)
-    turn x y None = omega (arith, ints, clamps)
-    turn x y (Some z) = omega (arith, ints, clamps)
+    turn x y o = grind (arith, ints, clamps)
 
 min_is : (x y : ℤ) → (int_min x y ≡ x) ⊎ (int_min x y ≡ y)
 min_is x y = by_lt_z x y (λ h. inl (omega (arith, ints, clamps))) (λ h. inr (omega (arith, ints, clamps)))
@@ -27,10 +26,7 @@ IsNoLater (Some x) None = ⊥
 IsNoLater (Some x) (Some y) = x ≤ℤ y
 
 lesser-mono : (x y : ℤ) (o p : Option ℤ) → x ≤ℤ y → IsNoLater o p → lesser_of x o ≤ℤ lesser_of y p
-lesser-mono x y None None h k = h
-lesser-mono x y None (Some b) h k = absurd k
-lesser-mono x y (Some a) None h k = absurd k
-lesser-mono x y (Some a) (Some b) h k = omega (arith, ints, clamps)
+lesser-mono x y o p h k = grind (arith, ints, clamps)
 
 pub greater-mono : (b : ℤ) (o p : Option ℤ) → IsNoLater o p → greater_of b o ≤ℤ greater_of b p
 greater-mono b o p k = grind (arith, ints, clamps)

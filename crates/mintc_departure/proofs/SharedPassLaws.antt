@@ -1,5 +1,5 @@
 -- a schedule breaks nothing exactly where it is right and keeps every hold
-use Rattle.std.proofs.Common.{◌≡◌, ℕ, ◌+◌, ◌-◌, ◌<◌, ◌≤◌, ℤ, pos, ◌≤ℤ◌, ◌+ℤ◌, ◌-ℤ◌, ◌*ℤ◌, Bool, true, false, List, [], ◌∷◌, ◌++◌, map, Option, Some, None, IfSome, MatchBool, IsTrue, ◌↔◌, inl, inr, arith, refl, sym, ◌∙◌, subst, option_map}
+use Rattle.std.proofs.Common.{◌≡◌, ℕ, ◌+◌, ◌-◌, ◌<◌, ◌≤◌, ℤ, pos, ◌≤ℤ◌, ◌+ℤ◌, ◌-ℤ◌, ◌*ℤ◌, Bool, List, [], ◌∷◌, ◌++◌, map, Option, IfSome, MatchBool, IsTrue, ◌↔◌, inl, inr, arith, refl, sym, ◌∙◌, subst, option_map}
 use Rattle.std.proofs.lemmas.Int.{ints, clamps}
 use Rattle.std.specs.Int.{int_max}
 use Rattle.std.specs.List.{All, enumerate_from, filter_map, range_with_len}
@@ -120,10 +120,7 @@ module _ (t : Timing) (s : Schedule) where
   setup-kept : (flop : Bool) (o p : Option ℤ) (setup x y width : ℤ) → IsNoLater o p → x ≤ℤ y →
       MatchBool flop (IfSome p (λ a. (a +ℤ setup) ≤ℤ pos 0)) ((int_max (pos 0) y +ℤ setup) ≤ℤ width) →
       MatchBool flop (IfSome o (λ a. (a +ℤ setup) ≤ℤ pos 0)) ((int_max (pos 0) x +ℤ setup) ≤ℤ width)
-  setup-kept true None p setup x y width n h k = tt
-  setup-kept true (Some a) None setup x y width n h k = absurd n
-  setup-kept true (Some a) (Some b) setup x y width n h k = omega (arith, ints)
-  setup-kept false o p setup x y width n h k = omega (arith, ints, clamps)
+  setup-kept flop o p setup x y width n h k = grind (arith, ints, clamps)
 
   KeepsSetup-mono : (d e : List ℤ) → ((l : ℕ) → departure d l ≤ℤ departure e l) → (l : ℕ) → KeepsSetup t s e l → KeepsSetup t s d l
   KeepsSetup-mono d e h l =
