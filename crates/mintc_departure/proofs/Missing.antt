@@ -15,15 +15,10 @@ count_of (pos n) = n
 count_of (negsuc n) = 0
 
 count-mono : (x y : ℤ) → x ≤ℤ y → count_of x ≤ count_of y
-count-mono (pos n) (pos m) h = omega (arith, ints)
-count-mono (pos n) (negsuc m) h = absurd (omega (arith, ints))
-count-mono (negsuc n) (pos m) h = omega arith
-count-mono (negsuc n) (negsuc m) h = omega arith
+count-mono x y h = grind (arith, ints)
 
 count-falls : (x y : ℤ) → pos 0 ≤ℤ x → x <ℤ y → count_of x < count_of y
-count-falls (pos n) (pos m) p h = omega (arith, ints)
-count-falls (pos n) (negsuc m) p h = absurd (omega (arith, ints))
-count-falls (negsuc n) y p h = absurd (omega (arith, ints))
+count-falls x y p h = grind (arith, ints)
 
 -- by how much the first n outputs are early, added up
 abbrev pub missing : Timing → Schedule → List ℤ → List ℤ → ℕ → ℕ

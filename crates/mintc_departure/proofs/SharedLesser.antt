@@ -1,5 +1,5 @@
 -- least numbers: one more, which item has them, and of greater ones
-use Rattle.std.proofs.Common.{◌≡◌, ℕ, suc, ◌<◌, ℤ, ◌≤ℤ◌, Bool, true, false, cond, List, [], ◌∷◌, ◌++◌, length, get_or, map, arith, refl, sym, ap, ◌∙◌, Option, Some, None, ◌⊎◌, inl, inr, ⊎_elim}
+use Rattle.std.proofs.Common.{◌≡◌, ℕ, suc, ◌<◌, ℤ, ◌≤ℤ◌, Bool, true, false, cond, List, [], ◌∷◌, ◌++◌, length, get_or, map, arith, refl, ap, ◌∙◌, Option, Some, None, ◌⊎◌, inl, inr, ⊎_elim}
 use Rattle.std.proofs.lemmas.Int.{ints, clamps, by_lt_z}
 use Rattle.std.specs.List.{filter}
 use Rattle.std.specs.Int.{int_min}
@@ -75,11 +75,8 @@ module _ {X : Type 0} (f : X → ℤ) (test : X → Bool) (d : X) where
 
 -- an arrival more
 pub first-more : (o : Option ℤ) (v y : ℤ) → IsArrivalSum y → IsFirst o v → IsFirst (Some (lesser_of y o)) (int_min y v)
-first-more None v y r is = let a = r.0 in let b = r.1 in (omega (arith, ints, clamps), r)
-first-more (Some a) v y r is =
-    (omega (arith, ints, clamps), (omega (arith, ints, clamps), omega (arith, ints, clamps)))
+first-more o v y r is = (grind (arith, ints, clamps), (grind (arith, ints, clamps), grind (arith, ints, clamps)))
 
 -- what is found where a number stands for it
 pub first-some : (o : Option ℤ) (first : ℤ) → IsFirst o first → (first ≡ NEVER → ⊥) → o ≡ Some first
-first-some None first is ne = absurd (ne is)
-first-some (Some a) first is ne = ap Some (sym is.0)
+first-some o first is ne = grind arith
