@@ -9,4 +9,3 @@ mod Deciding
 mod Scaled
 mod Fed
 mod Exact
-mod Answering
