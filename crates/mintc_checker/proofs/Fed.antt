@@ -87,8 +87,5 @@ IsFed-from_places design den d labels fed are_labels count each = record {
   count = count;
   each = λ i j p q. of_timing design (λ t. get_or fed (8 * (i - 1) + (j - 1)) false ≡ feeds_of t i j) (λ along pairs are_pairs.
       let place = place_of i j p q in
-      let here = each (8 * (i - 1) + (j - 1)) place.2 in
-      fed_is design den d labels are_labels i j p along pairs are_pairs (get_or fed (8 * (i - 1) + (j - 1)) false)
-      (subst (λ b. IsTrue (get_or fed (8 * (i - 1) + (j - 1)) false) ↔ IsFedFrom design labels i b) place.1
-      (subst (λ a. IsTrue (get_or fed (8 * (i - 1) + (j - 1)) false) ↔ IsFedFrom design labels a ((8 * (i - 1) + (j - 1)) % 8 + 1)) place.0 here)));
+      fed_is design den d labels are_labels i j p along pairs are_pairs (get_or fed (8 * (i - 1) + (j - 1)) false) (rw (place.0, place.1) at (each (8 * (i - 1) + (j - 1)) place.2)));
 }
