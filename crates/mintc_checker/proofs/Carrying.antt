@@ -10,7 +10,7 @@ use Rattle.mintc_timing.proofs.SharedProducts.{add-times}
 use Rattle.mintc_timing.specs.Among.{IsAmong, AreAmong}
 use Rattle.mintc_timing.proofs.SharedOrdered.{Leads-push, AreAmong-push, AreAmong-more, split, inside, all_among, none_among}
 use Rattle.mintc_rings.proofs.SharedRingLaws.{total-push}
-use Rattle.mintc_lanes.specs.Lanes.{lane_at, joined, AreJoined}
+use Rattle.mintc_lanes.specs.Lanes.{joined, AreJoined}
 use Rattle.mintc_checker.specs.declared.labels.Labels.{Labels}
 use Rattle.mintc_checker.specs.Trails.{IsGreatestTime, LeadsFrom, element_of, time_along}
 use Rattle.mintc_checker.specs.Labels.{labels_at, label_at, AreLabels, AreLabelsOf, IsStart, IsAlong}
@@ -87,12 +87,8 @@ module _ (design : Design) (den : ℤ) (d : List ℤ) where
     carried old new w same from_in to_in weight others joins h = record {
       count = same ∙ h.count;
       each = λ bit lane within eight. ⊎_elim
-          (λ (e : bit ≡ to). subst (λ b. IsGreatestTime (Trails (k + 1) (lane + 1) b) (time_along design den d) (label_at new b lane)) (sym e)
-          (subst (λ o. IsGreatestTime (Trails (k + 1) (lane + 1) to) (time_along design den d) o)
-          (sym (joins lane eight ∙ ap (joined int_max (label_at old to lane) (label_at old from lane)) weight))
-          (label-joined (lane + 1) (label_at old to lane) (label_at old from lane) (h.each to lane to_in eight) (h.each from lane from_in eight))))
-          (λ ne. subst (λ (s : Labels). IsGreatestTime (Trails (k + 1) (lane + 1) bit) (time_along design den d) (lane_at s.lanes lane)) (sym (others bit ne))
-          (label-other (lane + 1) bit (label_at old bit lane) ne (h.each bit lane (omega arith) eight)))
+          (λ (e : bit ≡ to). rw (e, joins lane eight, weight) (label-joined (lane + 1) (label_at old to lane) (label_at old from lane) (h.each to lane to_in eight) (h.each from lane from_in eight)))
+          (λ ne. rw (others bit ne) (label-other (lane + 1) bit (label_at old bit lane) ne (h.each bit lane (omega arith) eight)))
           (cases_eq bit to);
     }
 
