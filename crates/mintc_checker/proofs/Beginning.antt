@@ -31,10 +31,8 @@ module _ (design : Design) (den : ℤ) (d : List ℤ) (i lane : ℕ) (time : ℤ
   last : (l bit j : ℕ) (path : List ℕ) → Starts (i + 1) l bit j path → Starts i l bit j path ⊎ ((bit ≡ output_of i) × (l ≡ lane) × (j ≡ i))
   last l bit j path g = ⊎_elim
       (λ (e : j ≡ i).
-      let lead : Leads design.arcs (output_of j) [] bit = subst (λ xs. Leads design.arcs (output_of j) xs bit) g.1.1 g.0.trail.leads in
-      let at : bit ≡ output_of i = sym lead ∙ ap output_of e in
-      let phase : (element_of design i).phase ≡ l + 1 = subst (λ k. (element_of design k).phase ≡ l + 1) e g.0.phase in
-      inr (at, omega arith, e))
+      let phase : (element_of design i).phase ≡ l + 1 = rw e at g.0.phase in
+      inr (sym (rw (g.1.1, e) at g.0.trail.leads), omega arith, e))
       (λ ne. let below = g.1.0 in inl (g.0, (omega arith, g.1.1)))
       (cases_eq j i)
 

@@ -5,7 +5,7 @@ use Rattle.std.proofs.lemmas.Int.{ints}
 use Rattle.std.proofs.lemmas.Bool.{cases_eq}
 use Rattle.mintc_timing.specs.Design.{Design}
 use Rattle.mintc_timing.specs.Order.{IsOrder}
-use Rattle.mintc_timing.specs.Paths.{Leads, arc_at, output_of, greatest_delay}
+use Rattle.mintc_timing.specs.Paths.{arc_at, output_of, greatest_delay}
 use Rattle.mintc_timing.proofs.SharedProducts.{add-times}
 use Rattle.mintc_timing.specs.Among.{IsAmong, AreAmong}
 use Rattle.mintc_timing.proofs.SharedOrdered.{Leads-push, AreAmong-push, AreAmong-more, split, inside, all_among, none_among}
@@ -61,10 +61,7 @@ module _ (design : Design) (den : ℤ) (d : List ℤ) where
     last p bit j path h =
         ⊎_elim (λ old. inl (h.0, old))
         (λ new.
-        let lead : Leads design.arcs (output_of j) new.0 from = subst (λ m. Leads design.arcs (output_of j) new.0 (arc_at design.arcs m).from) is new.2 in
-        let end : bit ≡ to = new.3 ∙ ap (λ m. (arc_at design.arcs m).to) is in
-        let whole : path ≡ new.0 ++ n ∷ [] = new.4 ∙ ap (λ m. new.0 ++ m ∷ []) is in
-        inr (end, (new.0, (record { trail = record { element = h.0.trail.element; leads = lead }; phase = h.0.phase }, new.1), ap (time_along design den d j) whole ∙ time-push j new.0 n)))
+        inr (rw is at new.3, (new.0, (record { trail = record { element = h.0.trail.element; leads = rw is at new.2 }; phase = h.0.phase }, new.1), ap (time_along design den d j) (rw is at new.4) ∙ time-push j new.0 n)))
         (split design.arcs order is_order (output_of j) path bit k low h.0.trail.leads h.1)
 
     -- A bit that the arc doesn't enter keeps its labels; the one that it enters takes those of the other end.
