@@ -118,7 +118,7 @@ module _ (t : Timing) (s : Schedule) (fits : IsClocked t s)
           let to : (pair_at t n).to ≡ l = eqb-true _ _ w.2 in
           let ends = pair_ends t s fits n w.1 in
           let P : ℕ → Type 0 = λ m. late_arrival t.flat s late (pair_at t n) ≤ℤ departure late m in
-          let there = subst P to (arrival-at_most t s late are_late.exact fits.timing.extremes.each n no_pair w.1 (ap (λ (m : ℕ). (element_at t.flat m).flop) to ∙ latch)) in
+          let there = subst P to (arrival-at_most t s late are_late.exact fits.timing.extremes.each n no_pair w.1 (rw to latch)) in
           let first = arrival-before d n w.1 (before (pair_at t n).from ends.from) in
           let grow = dq-grow l h in
           rw w.3 (omega (arith, ints))

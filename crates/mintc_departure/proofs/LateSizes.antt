@@ -111,7 +111,7 @@ module _ (t : Timing) (s : Schedule) (fits : IsClocked t s) where
           kept n k to =
               let ends = pair_ends t s fits n k in
               let P : ℕ → Type 0 = λ m. late_arrival t.flat s d (pair_at t n) ≤ℤ departure d m in
-              let a = subst P to (arrival-at_most t s d exact fits.timing.extremes.each n no_pair k (ap (λ (m : ℕ). (element_at t.flat m).flop) to ∙ e)) in
+              let a = subst P to (arrival-at_most t s d exact fits.timing.extremes.each n no_pair k (rw to e)) in
               rw (arrival-is t s down (pair_at t n))
               (arrival-kept low 400000000000000 (departure d (pair_at t n).from) (departure down (pair_at t n).from) (departure d l) (departure down l) (late_travel t.flat s (pair_at t n))
               (travel-within t s fits n k) (down-is (pair_at t n).from ends.from) (down-is l h) (rw (arrival-is t s d (pair_at t n)) at a))

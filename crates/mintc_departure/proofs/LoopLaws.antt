@@ -1,5 +1,5 @@
 -- a closed chain of positive weight is a loop of pairs of latches
-use Rattle.std.proofs.Common.{◌≡◌, ℕ, zero, suc, ◌-◌, ◌<◌, ◌≢◌, ℤ, pos, ◌+ℤ◌, ◌≤ℤ◌, ◌<ℤ◌, true, false, List, [], ◌∷◌, length, get_or, arith, refl, sym, ap, ◌∙◌, ⊎_elim, subst}
+use Rattle.std.proofs.Common.{◌≡◌, ℕ, zero, suc, ◌-◌, ◌<◌, ◌≢◌, ℤ, pos, ◌+ℤ◌, ◌≤ℤ◌, ◌<ℤ◌, true, false, List, [], ◌∷◌, length, get_or, arith, refl, sym, ap, ◌∙◌, ⊎_elim}
 use Rattle.std.proofs.lemmas.Int.{ints}
 use Rattle.std.proofs.lemmas.Bool.{cases_Bool}
 use Rattle.std.proofs.lemmas.List.Elements.{All-nil, All-cons, All-head, All-tail}
@@ -96,8 +96,7 @@ module _ (t : Timing) (s : Schedule) where
       IsClosed (λ n. (pair_at t n).from) (λ n. (pair_at t n).to) es
   closed_at [] v h positive = absurd (omega (arith, ints))
   closed_at (n ∷ es) v h positive =
-      let P : ℕ → Type 0 = λ m. Joins (λ n. (pair_at t n).from) (λ n. (pair_at t n).to) (pair_at t n).to es m in
-      subst P (sym h.0) h.1
+      rw h.0 h.1
 
   -- A closed chain of positive weight is a loop of pairs of latches.
   pub loop-from_chain : (es : List ℕ) → IsPositiveChain (arcs_of t s) es → (amount : ℤ) × HasLoop t s es amount

@@ -1,5 +1,5 @@
 -- the greatest walks of the network are the late departures
-use Rattle.std.proofs.Common.{◌≡◌, ℕ, ◌<◌, ◌^◌, ℤ, pos, negsuc, ◌+ℤ◌, ◌≤ℤ◌, ◌==◌, Bool, true, false, List, [], length, get_or, map, arith, refl, sym, ap, ◌∙◌, ◌⊎◌, inl, inr, ⊎_elim, eq-eqb, Option, subst}
+use Rattle.std.proofs.Common.{◌≡◌, ℕ, ◌<◌, ◌^◌, ℤ, pos, negsuc, ◌+ℤ◌, ◌≤ℤ◌, ◌==◌, Bool, true, false, List, [], length, get_or, map, arith, refl, sym, ap, ◌∙◌, ◌⊎◌, inl, inr, ⊎_elim, eq-eqb, Option}
 use Rattle.std.proofs.lemmas.Int.{ints}
 use Rattle.std.proofs.lemmas.Bool.{cases_Bool, eqb-true}
 use Rattle.std.proofs.lemmas.List.{get_or-map, length-map, get_or_default}
@@ -132,16 +132,11 @@ module _ (t : Timing) (s : Schedule) (fits : IsClocked t s) where
           let m = (g.met n (rw (arcs-count t s) h) from).1 in
           rw (arrival-is t s values (pair_at t n)) (rw (arc_is t s n h, latch) at m)
 
-      met_at : (l n : ℕ) → n < length t.pairs → (pair_at t n).to ≡ l → (element_at t.flat l).flop ≡ false → late_arrival t.flat s values (pair_at t n) ≤ℤ value_at values l
-      met_at l n h to e =
-          let P : ℕ → Type 0 = λ m. late_arrival t.flat s values (pair_at t n) ≤ℤ value_at values m in
-          subst P to (met n h (ap (λ (m : ℕ). (element_at t.flat m).flop) to ∙ e))
-
       latch_is : (l : ℕ) → l < element_count t.flat → (element_at t.flat l).flop ≡ false → value_at values l ≡ greater_of (late_opening t.flat s l) (greatest_of (late_arrivals t s values l))
       latch_is l h e =
           greater-is (late_arrival t.flat s values) (λ (p : Pair). p.to == l) t.pairs no_pair (late_opening t.flat s l) (value_at values l)
           (rw e at (above_start l h))
-          (λ n k to. met_at l n k (eqb-true _ _ to) e)
+          (λ n k to. let is = eqb-true _ _ to in rw (← is) (met n k (rw is e)))
           (⊎_elim
           (λ a. inl (rw e at (a.1 ∙ each l h)))
           (λ w.

@@ -1,5 +1,5 @@
 -- a schedule breaks nothing exactly where it is right and keeps every hold
-use Rattle.std.proofs.Common.{◌≡◌, ℕ, ◌+◌, ◌-◌, ◌<◌, ◌≤◌, ℤ, pos, ◌≤ℤ◌, ◌+ℤ◌, ◌-ℤ◌, ◌*ℤ◌, Bool, List, [], ◌∷◌, ◌++◌, map, Option, IfSome, MatchBool, IsTrue, ◌↔◌, inl, inr, arith, refl, sym, ◌∙◌, subst, option_map}
+use Rattle.std.proofs.Common.{◌≡◌, ℕ, ◌+◌, ◌-◌, ◌<◌, ◌≤◌, ℤ, pos, ◌≤ℤ◌, ◌+ℤ◌, ◌-ℤ◌, ◌*ℤ◌, Bool, List, [], ◌∷◌, ◌++◌, map, Option, IfSome, MatchBool, IsTrue, ◌↔◌, inl, inr, arith, refl, sym, ◌∙◌, option_map}
 use Rattle.std.proofs.lemmas.Int.{ints, clamps}
 use Rattle.std.specs.Int.{int_max}
 use Rattle.std.specs.List.{All, enumerate_from, filter_map, range_with_len}
@@ -146,7 +146,7 @@ module _ (t : Timing) (s : Schedule) where
       let clock = (clock-kept plain).1 (right.clock, right.bounds) in
       let setups = (setups-kept late).1 (λ l h. KeepsSetup-mono late pass.0.0 below l (right.setup l h)) in
       let same : pass.1.0 ≡ early = early_are_determined_lem t s pass.1.0 early pass.1.1 are_early in
-      let holds = (holds-kept early).1 (λ l h. let P : List ℤ → Type 0 = λ d. KeepsHold t s d l in subst P same (pass.1.2 l h)) in
+      let holds = (holds-kept early).1 (λ l h. rw same at (pass.1.2 l h)) in
       (kept-append (clock_checks t s ++ setup_checks t s late) (hold_checks t s early)).1 ((kept-append (clock_checks t s) (setup_checks t s late)).1 (clock, setups), holds)
 
 no_end : {X : Type 0} (xs : List X) (x : X) (ys : List X) → ys ≡ xs ++ x ∷ [] → ys ≡ [] → ⊥
@@ -168,4 +168,4 @@ pass_is_right_with_late_lem t s late pairs plain (inl h) is =
     absurd (no_end (failed (clock_checks t s)) (check (broken.Loop h.0) h.1) [] h.3 refl)
 pass_is_right_with_late_lem t s late pairs plain (inr h) is =
     let pass = pass-from_none t s plain h.1.0 h.1.1 h.1.2 h.1.3 (sym h.1.4) in
-    subst (λ (d : List ℤ). IsRight t s d) (late_are_determined_lem t s h.1.0 late h.1.2 is) pass.0.1
+    rw (late_are_determined_lem t s h.1.0 late h.1.2 is) at pass.0.1
