@@ -1,5 +1,5 @@
 -- loops that append those checks of a list that are failed
-use Rattle.std.proofs.Common.{◌≡◌, ℕ, ◌+◌, ◌<◌, List, [], ◌∷◌, ◌++◌, length, get_or, take, map, Bool, true, false, cond, Option, refl, sym, ap, ◌∙◌, append_assoc, zero-add, int_lt, pos}
+use Rattle.std.proofs.Common.{arith, ◌≡◌, ℕ, ◌+◌, ◌<◌, List, [], ◌∷◌, ◌++◌, length, get_or, take, map, Bool, cond, Option, refl, sym, ap, ◌∙◌, append_assoc, zero-add, int_lt, pos}
 use Rattle.std.proofs.lemmas.List.{append-nil, get_or_default, map-append, map-id, map_more}
 use Rattle.std.specs.List.{enumerate_from, filter, filter_map, flat_map, range_with_len}
 use Rattle.std.proofs.lemmas.List.FromFn.{map-range_with_len_more, length-enumerate_from, get_or-enumerate_from}
@@ -38,8 +38,7 @@ passing-more f test a n =
     ∙ ap (λ vs. failed (map f (filter test (range_with_len a n))) ++ failed vs) (one (test (a + n)))
   where
     one : (b : Bool) → map f (cond b ((a + n) ∷ []) []) ≡ cond b (f (a + n) ∷ []) []
-    one true = refl
-    one false = refl
+    one b = grind arith
 
 -- one more bound with its number
 pub numbered-more : (f : ℕ × Bound → Violation) (bounds : List Bound) (i : ℕ) (d : Bound) → i < length bounds →
