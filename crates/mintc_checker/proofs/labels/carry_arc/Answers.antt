@@ -27,4 +27,5 @@ returns c =
     let from_in : arc.from < length c.args.labels.now = omega arith in
     let to_in : arc.to < length c.args.labels.now = omega arith in
     carried design den c.args.departing.now.departures.now c.args.order.now c.requires.order c.args.place (get_or c.args.order.now c.args.place 0) c.requires.place refl
-    c.args.labels.now c.carry.new.labels _ c.carry.auto.labels (rw is at from_in) (rw is at to_in) (rw is at (read_time c.scaled.result (IsTime-IsModest _ c.scaled.ensures.range) ∙ product)) (rw is at c.carry.ensures.others) (rw is at c.carry.ensures.joined) c.requires.labels
+    c.args.labels.now c.carry.new.labels _ c.carry.auto.labels (rw is at from_in) (rw is at to_in)
+    (rw is at (read_time c.scaled.result (IsTime-IsModest _ c.scaled.ensures.range) ∙ product)) (rw is at c.carry.ensures.others) (rw is at c.carry.ensures.joined) c.requires.labels

@@ -20,5 +20,6 @@ returns c =
     let n = phase_count t.flat in
     let all : c.judge_bounds.new.violations.items ≡ c.args.violations.now.items ++ failed (checks t s Cycle n ++ checks t s Order (n - 1) ++ checks t s Span n ++ checks t s Width n ++ apart_checks t s ++ bound_checks t.flat s) =
     simp (failed-append, ← append_assoc)
-    (rw (← c.phase_count-count.ensures.value, ← c.in_ok-judge_phases.ensures, ← c.in_ok-judge_phases-2.ensures, ← c.in_ok-judge_phases-3.ensures, ← c.in_ok-judge_phases-4.ensures, c.phase_count-count.ensures.value, ← c.in_ok-judge_aparts.ensures) c.in_ok-judge_bounds.ensures) in
+    (rw (← c.phase_count-count.ensures.value, ← c.in_ok-judge_phases.ensures, ← c.in_ok-judge_phases-2.ensures, ← c.in_ok-judge_phases-3.ensures, ← c.in_ok-judge_phases-4.ensures, c.phase_count-count.ensures.value, ← c.in_ok-judge_aparts.ensures)
+    c.in_ok-judge_bounds.ensures) in
     all
