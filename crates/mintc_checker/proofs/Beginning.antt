@@ -5,7 +5,6 @@ use Rattle.std.proofs.lemmas.Bool.{cases_eq}
 use Rattle.mintc_timing.specs.Departures.{departure}
 use Rattle.mintc_timing.specs.Design.{Design}
 use Rattle.mintc_timing.specs.Paths.{Leads, output_of}
-use Rattle.mintc_lanes.specs.Lanes.{lane_at}
 use Rattle.mintc_checker.specs.declared.labels.Labels.{Labels}
 use Rattle.mintc_checker.specs.Trails.{IsGreatestTime, LeadsFrom, element_of, time_along}
 use Rattle.mintc_checker.specs.Labels.{labels_at, label_at, AreLabelsOf, IsStart}
@@ -32,10 +31,8 @@ module _ (design : Design) (den : ℤ) (d : List ℤ) (i lane : ℕ) (time : ℤ
   last : (l bit j : ℕ) (path : List ℕ) → Starts (i + 1) l bit j path → Starts i l bit j path ⊎ ((bit ≡ output_of i) × (l ≡ lane) × (j ≡ i))
   last l bit j path g = ⊎_elim
       (λ (e : j ≡ i).
-      let lead : Leads design.arcs (output_of j) [] bit = subst (λ xs. Leads design.arcs (output_of j) xs bit) g.1.1 g.0.trail.leads in
-      let at : bit ≡ output_of i = sym lead ∙ ap output_of e in
-      let phase : (element_of design i).phase ≡ l + 1 = subst (λ k. (element_of design k).phase ≡ l + 1) e g.0.phase in
-      inr (at, omega arith, e))
+      let phase : (element_of design i).phase ≡ l + 1 = rw e at g.0.phase in
+      inr (sym (rw (g.1.1, e) at g.0.trail.leads), omega arith, e))
       (λ ne. let below = g.1.0 in inl (g.0, (omega arith, g.1.1)))
       (cases_eq j i)
 
@@ -62,17 +59,15 @@ module _ (design : Design) (den : ℤ) (d : List ℤ) (i lane : ℕ) (time : ℤ
 
   at_output : (l : ℕ) → output_of i < length new → l < 8 → IsOf (output_of i) l (label_at new (output_of i) l)
   at_output l within eight = ⊎_elim
-      (λ (e : l ≡ lane). subst (λ k. IsOf (output_of i) k (label_at new (output_of i) k)) (sym e) (subst (λ o. IsOf (output_of i) lane o) (sym own) label-own))
-      (λ ne. subst (λ o. IsOf (output_of i) l o) (sym (lanes l ne))
-      (label-other l (output_of i) (label_at old (output_of i) l) (λ a b. ne b) (h.each (output_of i) l (omega arith) eight)))
+      (λ (e : l ≡ lane). rw (e, own) label-own)
+      (λ ne. rw (lanes l ne) (label-other l (output_of i) (label_at old (output_of i) l) (λ a b. ne b) (h.each (output_of i) l (omega arith) eight)))
       (cases_eq l lane)
 
   pub AreStarts-more : AreLabelsOf design den d (IsStart (i + 1)) new
   AreStarts-more = record {
     count = same ∙ h.count;
     each = λ bit l within eight. ⊎_elim
-        (λ (e : bit ≡ output_of i). subst (λ b. IsOf b l (label_at new b l)) (sym e) (at_output l (subst (λ b. b < length new) e within) eight))
-        (λ ne. subst (λ (s : Labels). IsOf bit l (lane_at s.lanes l)) (sym (others bit ne))
-        (label-other l bit (label_at old bit l) (λ a b. ne a) (h.each bit l (omega arith) eight)))
+        (λ (e : bit ≡ output_of i). rw e (at_output l (rw e at within) eight))
+        (λ ne. rw (others bit ne) (label-other l bit (label_at old bit l) (λ a b. ne a) (h.each bit l (omega arith) eight)))
         (cases_eq bit (output_of i));
   }

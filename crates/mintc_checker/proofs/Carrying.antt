@@ -1,27 +1,20 @@
 -- Labels along one more arc.
 use Rattle.std.proofs.Common.{◌≡◌, ◌≢◌, ℕ, ◌<◌, ◌+◌, ℤ, ◌+ℤ◌, ◌*ℤ◌, List, [], ◌∷◌, ◌++◌, length, get_or, arith, refl, ap, ◌∙◌, sym, ◌⊎◌, inl, inr, ⊎_elim, Option, subst}
 use Rattle.std.specs.Int.{int_max}
-use Rattle.std.specs.List.{All}
 use Rattle.std.proofs.lemmas.Int.{ints}
 use Rattle.std.proofs.lemmas.Bool.{cases_eq}
-use Rattle.mintc_timing.specs.declared.parts.TimingArc.{TimingArc}
-use Rattle.mintc_timing.specs.Design.{Design, no_arc}
-use Rattle.mintc_timing.specs.Limits.{IsArc}
+use Rattle.mintc_timing.specs.Design.{Design}
 use Rattle.mintc_timing.specs.Order.{IsOrder}
-use Rattle.mintc_timing.specs.Paths.{Leads, arc_at, output_of, greatest_delay}
+use Rattle.mintc_timing.specs.Paths.{arc_at, output_of, greatest_delay}
 use Rattle.mintc_timing.proofs.SharedProducts.{add-times}
 use Rattle.mintc_timing.specs.Among.{IsAmong, AreAmong}
 use Rattle.mintc_timing.proofs.SharedOrdered.{Leads-push, AreAmong-push, AreAmong-more, split, inside, all_among, none_among}
 use Rattle.mintc_rings.proofs.SharedRingLaws.{total-push}
-use Rattle.mintc_lanes.specs.Lanes.{lane_at, joined, AreJoined}
+use Rattle.mintc_lanes.specs.Lanes.{joined, AreJoined}
 use Rattle.mintc_checker.specs.declared.labels.Labels.{Labels}
 use Rattle.mintc_checker.specs.Trails.{IsGreatestTime, LeadsFrom, element_of, time_along}
 use Rattle.mintc_checker.specs.Labels.{labels_at, label_at, AreLabels, AreLabelsOf, IsStart, IsAlong}
 use Rattle.mintc_checker.proofs.Greatest.{greatest_same, greatest_joined}
-
--- an arc of the order is one of the design's
-pub arc_inside : (arcs : List TimingArc) (order : List ℕ) → IsOrder arcs order → (n m : ℕ) → All (IsArc n m) arcs → (i : ℕ) → i < length order → IsArc n m (arc_at arcs (get_or order i 0))
-arc_inside arcs order is_order n m each i below = each (get_or order i 0) no_arc (inside arcs order is_order i below)
 
 module _ (design : Design) (den : ℤ) (d : List ℤ) where
   -- one more arc at the end of a trail
@@ -68,10 +61,7 @@ module _ (design : Design) (den : ℤ) (d : List ℤ) where
     last p bit j path h =
         ⊎_elim (λ old. inl (h.0, old))
         (λ new.
-        let lead : Leads design.arcs (output_of j) new.0 from = subst (λ m. Leads design.arcs (output_of j) new.0 (arc_at design.arcs m).from) is new.2 in
-        let end : bit ≡ to = new.3 ∙ ap (λ m. (arc_at design.arcs m).to) is in
-        let whole : path ≡ new.0 ++ n ∷ [] = new.4 ∙ ap (λ m. new.0 ++ m ∷ []) is in
-        inr (end, (new.0, (record { trail = record { element = h.0.trail.element; leads = lead }; phase = h.0.phase }, new.1), ap (time_along design den d j) whole ∙ time-push j new.0 n)))
+        inr (rw is at new.3, (new.0, (record { trail = record { element = h.0.trail.element; leads = rw is at new.2 }; phase = h.0.phase }, new.1), ap (time_along design den d j) (rw is at new.4) ∙ time-push j new.0 n)))
         (split design.arcs order is_order (output_of j) path bit k low h.0.trail.leads h.1)
 
     -- A bit that the arc doesn't enter keeps its labels; the one that it enters takes those of the other end.
@@ -86,34 +76,18 @@ module _ (design : Design) (den : ℤ) (d : List ℤ) where
         greatest_joined (Trails k p to) (Trails k p from) (Trails (k + 1) p to) (time_along design den d) (time_along design den d) (time_along design den d) ((arc_at design.arcs n).max *ℤ den)
         (λ j path t. (more p to j path t, refl)) (longer p) (λ j path t. ⊎_elim (λ old. inl (old, refl)) (λ new. inr new.1) (last p to j path t)) x y h g
 
-    -- the same of the arc by its number
-    carried_at : (old new : List Labels) (w : ℤ) → length new ≡ length old → from < length old → to < length old → w ≡ (arc_at design.arcs n).max *ℤ den →
+    -- one turn: the row of the arc's end is joined with that of its beginning
+    pub carried : (old new : List Labels) (w : ℤ) → length new ≡ length old → from < length old → to < length old → w ≡ (arc_at design.arcs n).max *ℤ den →
         ((bit : ℕ) → bit ≢ to → labels_at new bit ≡ labels_at old bit) →
         AreJoined int_max (labels_at old to).lanes (labels_at old from).lanes w (labels_at new to).lanes →
         AreLabelsOf design den d (IsAlong order k) old → AreLabelsOf design den d (IsAlong order (k + 1)) new
-    carried_at old new w same from_in to_in weight others joins h = record {
+    carried old new w same from_in to_in weight others joins h = record {
       count = same ∙ h.count;
       each = λ bit lane within eight. ⊎_elim
-          (λ (e : bit ≡ to). subst (λ b. IsGreatestTime (Trails (k + 1) (lane + 1) b) (time_along design den d) (label_at new b lane)) (sym e)
-          (subst (λ o. IsGreatestTime (Trails (k + 1) (lane + 1) to) (time_along design den d) o)
-          (sym (joins lane eight ∙ ap (joined int_max (label_at old to lane) (label_at old from lane)) weight))
-          (label-joined (lane + 1) (label_at old to lane) (label_at old from lane) (h.each to lane to_in eight) (h.each from lane from_in eight))))
-          (λ ne. subst (λ (s : Labels). IsGreatestTime (Trails (k + 1) (lane + 1) bit) (time_along design den d) (lane_at s.lanes lane)) (sym (others bit ne))
-          (label-other (lane + 1) bit (label_at old bit lane) ne (h.each bit lane (omega arith) eight)))
+          (λ (e : bit ≡ to). rw (e, joins lane eight, weight) (label-joined (lane + 1) (label_at old to lane) (label_at old from lane) (h.each to lane to_in eight) (h.each from lane from_in eight)))
+          (λ ne. rw (others bit ne) (label-other (lane + 1) bit (label_at old bit lane) ne (h.each bit lane (omega arith) eight)))
           (cases_eq bit to);
     }
-
-    -- one turn: the row of the arc's end is joined with that of its beginning
-    pub carried : (old new : List Labels) (arc : TimingArc) → arc ≡ arc_at design.arcs n → (w : ℤ) → length new ≡ length old → arc.from < length old → arc.to < length old → w ≡ arc.max *ℤ den →
-        ((bit : ℕ) → bit ≢ arc.to → labels_at new bit ≡ labels_at old bit) →
-        AreJoined int_max (labels_at old arc.to).lanes (labels_at old arc.from).lanes w (labels_at new arc.to).lanes →
-        AreLabelsOf design den d (IsAlong order k) old → AreLabelsOf design den d (IsAlong order (k + 1)) new
-    carried old new arc e w same from_in to_in weight others joins h =
-        carried_at old new w same (subst (λ (a : TimingArc). a.from < length old) e from_in) (subst (λ (a : TimingArc). a.to < length old) e to_in)
-        (weight ∙ ap (λ (a : TimingArc). a.max *ℤ den) e)
-        (subst (λ (a : TimingArc). (bit : ℕ) → bit ≢ a.to → labels_at new bit ≡ labels_at old bit) e others)
-        (subst (λ (a : TimingArc). AreJoined int_max (labels_at old a.to).lanes (labels_at old a.from).lanes w (labels_at new a.to).lanes) e joins)
-        h
 
 -- a path of no arcs is along none of the order, and the other way round
 pub along_none : (design : Design) (den : ℤ) (d : List ℤ) (order : List ℕ) (labels : List Labels) →

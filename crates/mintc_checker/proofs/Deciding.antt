@@ -2,22 +2,9 @@
 use Rattle.std.proofs.Common.{◌≡◌, Bool, true, false, IsTrue, ◌↔◌, refl, ℕ, ◌==◌, arith}
 use Rattle.std.proofs.lemmas.Bool.Decides.{nat_tests}
 
-pub true_or_false : (b : Bool) → b ≡ false → b ≡ true → ⊥
-true_or_false b h g = cc
-
-not_true : IsTrue false → ⊥
-not_true h = cc
-
--- A claim that asks for what a test denies fails.
-pub denied : {P Q : Type 0} (b : Bool) → b ≡ false → IsTrue b ↔ P → (Q → P) → IsTrue false ↔ Q
-denied b off decides asks = ((λ h. absurd (not_true h)), (λ q. absurd (true_or_false b off (decides.1 (asks q)))))
-
--- what holds is decided by true, and what doesn't by false
+-- what holds is decided by true
 pub holds : {Q : Type 0} → Q → IsTrue true ↔ Q
 holds q = ((λ h. q), (λ h. refl))
-
-pub fails : {Q : Type 0} → (Q → ⊥) → IsTrue false ↔ Q
-fails none = ((λ h. absurd (not_true h)), (λ q. absurd (none q)))
 
 -- one test decides two claims that say the same
 pub alike : {P Q : Type 0} (b : Bool) → IsTrue b ↔ P → (P → Q) → (Q → P) → IsTrue b ↔ Q
@@ -27,10 +14,6 @@ alike b decides there back = ((λ h. there (decides.0 h)), (λ q. decides.1 (bac
 pub same_test : (a b : ℕ) → IsTrue (a == b) ↔ (a ≡ b)
 same_test a b = ((λ h. grind (arith, nat_tests)), (λ h. grind (arith, nat_tests)))
 
--- what a test denies
-pub refused : {P : Type 0} (b : Bool) → b ≡ false → IsTrue b ↔ P → P → ⊥
-refused b off decides p = true_or_false b off (decides.1 p)
-
 -- a test that fails decides each claim that asks for its own
-pub denied_as : {P Q : Type 0} (b : Bool) → b ≡ false → IsTrue b ↔ P → (Q → P) → IsTrue b ↔ Q
-denied_as b off decides asks = ((λ h. absurd (true_or_false b off h)), (λ q. decides.1 (asks q)))
+pub denied : {P Q : Type 0} (b : Bool) → b ≡ false → IsTrue b ↔ P → (Q → P) → IsTrue b ↔ Q
+denied b off decides asks = ((λ h. absurd (cc)), (λ q. decides.1 (asks q)))

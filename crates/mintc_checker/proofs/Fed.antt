@@ -1,5 +1,5 @@
 -- Which phase feeds which, by the labels.
-use Rattle.std.proofs.Common.{◌≡◌, ℕ, ◌<◌, ◌+◌, ◌-◌, ◌*◌, ◌/◌, ◌%◌, ℤ, ◌==◌, Bool, true, false, not, ◌&&◌, IsTrue, ◌↔◌, List, length, get_or, arith, refl, ap, ◌∙◌, sym, Option, Some, None, subst}
+use Rattle.std.proofs.Common.{◌≡◌, ℕ, ◌<◌, ◌+◌, ◌-◌, ◌*◌, ◌/◌, ◌%◌, ℤ, ◌==◌, Bool, true, false, not, ◌&&◌, IsTrue, ◌↔◌, List, length, get_or, arith, refl, ap, ◌∙◌, Option, Some, None, subst}
 use Rattle.std.specs.Prelude.{IfSome, IsSomeAnd, IsSome}
 use Rattle.std.proofs.lemmas.Bool.Decides.{nat_tests}
 use Rattle.std.proofs.lemmas.List.Folds.{Any-from_list_any, list_any-from_Any}
@@ -12,8 +12,8 @@ use Rattle.mintc_timing.specs.Paths.{ArePairs, HasExtremes, input_of}
 use Rattle.mintc_checker.specs.declared.labels.Labels.{Labels}
 use Rattle.mintc_checker.specs.Trails.{LeadsFrom, element_of, IsLabel}
 use Rattle.mintc_checker.specs.Labels.{AreLabels, label_at}
-use Rattle.mintc_checker.specs.Judged.{Decides, IsFedAt, IsFed, OfTiming, timing_of}
-use Rattle.mintc_checker.proofs.Pairing.{pair_of_trail, trail_of_pair}
+use Rattle.mintc_checker.specs.Judged.{IsFedAt, IsFed}
+use Rattle.mintc_checker.proofs.Pairing.{of_timing, pair_of_trail, timing_of, trail_of_pair}
 
 -- Some latch on phase j is reached from phase i.
 abbrev pub IsFedFrom : Design → List Labels → ℕ → ℕ → Type 0
@@ -37,9 +37,7 @@ attained_of None P h g = absurd (none h)
     none e = cc
 
 same_tests : (b c : Bool) → (b ≡ true → c ≡ true) → (c ≡ true → b ≡ true) → b ≡ c
-same_tests true c f g = sym (f refl)
-same_tests false true f g = g refl
-same_tests false false f g = refl
+same_tests b c f g = grind arith
 
 module _ (design : Design) (den : ℤ) (d : List ℤ) (labels : List Labels) (are_labels : AreLabels design den d labels) (i j : ℕ) (low : IsPhase MOST_PHASES i)
     (along : List ℕ) (pairs : List Pair) (are_pairs : ArePairs design pairs) where
@@ -87,23 +85,7 @@ pub IsFed-from_places : (design : Design) (den : ℤ) (d : List ℤ) (labels : L
     ((k : ℕ) → k < 64 → IsTrue (get_or fed k false) ↔ IsFedFrom design labels (k / 8 + 1) (k % 8 + 1)) → IsFed design fed
 IsFed-from_places design den d labels fed are_labels count each = record {
   count = count;
-  each = λ i j p q along pairs are_pairs.
+  each = λ i j p q. of_timing design (λ t. get_or fed (8 * (i - 1) + (j - 1)) false ≡ feeds_of t i j) (λ along pairs are_pairs.
       let place = place_of i j p q in
-      let here = each (8 * (i - 1) + (j - 1)) place.2 in
-      fed_is design den d labels are_labels i j p along pairs are_pairs (get_or fed (8 * (i - 1) + (j - 1)) false)
-      (subst (λ b. IsTrue (get_or fed (8 * (i - 1) + (j - 1)) false) ↔ IsFedFrom design labels i b) place.1
-      (subst (λ a. IsTrue (get_or fed (8 * (i - 1) + (j - 1)) false) ↔ IsFedFrom design labels a ((8 * (i - 1) + (j - 1)) % 8 + 1)) place.0 here));
+      fed_is design den d labels are_labels i j p along pairs are_pairs (get_or fed (8 * (i - 1) + (j - 1)) false) (rw (place.0, place.1) at (each (8 * (i - 1) + (j - 1)) place.2)));
 }
-
--- What the table says of two phases of the design, and of a phase and the next in a row.
-pub feeding_decided : (design : Design) (fed : List Bool) (i j : ℕ) → IsFed design fed → IsPhase MOST_PHASES (length design.phases) → IsPhase (length design.phases) i → IsPhase (length design.phases) j →
-    Decides design (get_or fed (8 * (i - 1) + (j - 1)) false) (λ t. IsPhase (length design.phases) i × IsPhase (length design.phases) j × IsTrue (feeds_of t i j))
-feeding_decided design fed i j table most p q along pairs are_pairs =
-    let same = table.each i j (p.0, omega (arith, p, most)) (q.0, omega (arith, q, most)) along pairs are_pairs in
-    ((λ h. (p, q, sym same ∙ h)), (λ h. same ∙ h.2))
-
-pub fed_at : (design : Design) (fed : List Bool) (i index : ℕ) → IsFed design fed → IsPhase MOST_PHASES i → index < MOST_PHASES →
-    OfTiming design (λ t. get_or fed (8 * (i - 1) + index) false ≡ feeds_of t i (index + 1))
-fed_at design fed i index table p below along pairs are_pairs =
-    let place : (index + 1) - 1 ≡ index = omega arith in
-    subst (λ n. get_or fed (8 * (i - 1) + n) false ≡ feeds_of (timing_of design along pairs) i (index + 1)) place (table.each i (index + 1) p (omega arith, omega (arith, below)) along pairs are_pairs)

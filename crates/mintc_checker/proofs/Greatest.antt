@@ -66,14 +66,10 @@ module _ (A B C : ℕ → List ℕ → Type 0) (f g h : ℕ → List ℕ → ℤ
       (one_of x (y +ℤ w))
 
   old_bound : (s v : ℤ) (x y : Option ℤ) → v ≡ s → IsSomeAnd x (λ z. s ≤ℤ z) → IsSomeAnd (joined int_max x y w) (λ z. v ≤ℤ z)
-  old_bound s v (Some x) None e k = omega (arith, ints)
-  old_bound s v (Some x) (Some y) e k = omega (arith, ints, clamps)
-  old_bound s v None y e k = absurd k
+  old_bound s v x y e k = grind (arith, ints, clamps)
 
   new_bound : (s v : ℤ) (x y : Option ℤ) → v ≡ s +ℤ w → IsSomeAnd y (λ z. s ≤ℤ z) → IsSomeAnd (joined int_max x y w) (λ z. v ≤ℤ z)
-  new_bound s v x None e k = absurd k
-  new_bound s v None (Some y) e k = omega (arith, ints)
-  new_bound s v (Some x) (Some y) e k = omega (arith, ints, clamps)
+  new_bound s v x y e k = grind (arith, ints, clamps)
 
   pub greatest_joined : (x y : Option ℤ) → IsGreatestTime A f x → IsGreatestTime B g y → IsGreatestTime C h (joined int_max x y w)
   greatest_joined x y a b = record {

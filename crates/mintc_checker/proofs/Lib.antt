@@ -8,6 +8,4 @@ mod Pairing
 mod Deciding
 mod Scaled
 mod Fed
-mod Bounds
 mod Exact
-mod Answering

@@ -1,20 +1,29 @@
 -- What labels say of a design with all its pairs.
-use Rattle.std.proofs.Common.{◌≡◌, ℕ, ◌<◌, ◌+◌, ◌*◌, ℤ, pos, ◌+ℤ◌, ◌*ℤ◌, ◌≤ℤ◌, ◌==◌, false, List, length, arith, refl, ap, ◌∙◌, sym, Option, Some, None, subst, eq-eqb}
+use Rattle.std.proofs.Common.{◌≡◌, ℕ, ◌<◌, ◌+◌, ◌*◌, ℤ, pos, ◌+ℤ◌, ◌≤ℤ◌, ◌==◌, false, List, length, arith, refl, ap, ◌∙◌, sym, Option, Some, None, subst, eq-eqb}
 use Rattle.std.specs.Prelude.{IsSomeAnd}
 use Rattle.std.specs.List.{Contains}
 use Rattle.std.proofs.lemmas.Int.{ints}
 use Rattle.mintc_timing.specs.declared.parts.Pair.{Pair}
 use Rattle.mintc_timing.specs.declared.clocking.Schedule.{Schedule}
-use Rattle.mintc_timing.specs.Clocking.{shift_of}
-use Rattle.mintc_timing.specs.Departures.{departure, late_arrival, late_arrivals}
+use Rattle.mintc_timing.specs.Departures.{late_arrival, late_arrivals}
 use Rattle.mintc_timing.specs.Design.{Design, Timing}
 use Rattle.mintc_timing.specs.Extremes.{greatest_of, IsGreatest}
 use Rattle.mintc_timing.specs.Paths.{IsPath, Leads, ArePairs, HasExtremes, input_of, output_of, greatest_delay}
 use Rattle.mintc_timing.proofs.SharedExtremesLaws.{greatest_is}
 use Rattle.mintc_timing.proofs.SharedProducts.{times-mono_positive}
-use Rattle.mintc_checker.proofs.Deciding.{same_test, true_or_false}
-use Rattle.mintc_checker.specs.Judged.{timing_of}
+use Rattle.mintc_checker.proofs.Deciding.{same_test}
+use Rattle.mintc_checker.specs.Judged.{OfTiming}
 use Rattle.mintc_checker.specs.Trails.{LeadsTo, element_of, arrival_along, IsLastArrival}
+
+-- the timing of a design, an order of its arcs and pairs
+abbrev pub timing_of : Design → List ℕ → List Pair → Timing
+timing_of design along pairs' = record { flat = design; order = along; pairs = pairs' }
+
+-- A claim of each order of the arcs, with all pairs, is one of each timing of the design.
+pub of_timing : (design : Design) (P : Timing → Type 0) → ((along : List ℕ) (pairs : List Pair) → ArePairs design pairs → P (timing_of design along pairs)) → OfTiming design P
+of_timing design P h t e are_pairs =
+    let Q : Design → Type 0 = λ f. ArePairs f t.pairs → P (timing_of f t.order t.pairs) in
+    subst Q (sym e) (h t.order t.pairs) are_pairs
 
 not_odd : (j l : ℕ) → 2 * j + 1 ≡ 2 * l → ⊥
 not_odd j l e = omega arith
@@ -45,17 +54,13 @@ module _ (design : Design) (along : List ℕ) (pairs : List Pair) (are_pairs : A
 
     -- A pair's arrival is that of a trail with its greatest delay, and at least that of each trail.
     same_arrival : (p : Pair) (path : List ℕ) → p.to ≡ l → greatest_delay design.arcs path ≡ p.max → arrives p.from path ≡ late_arrival t.flat s d p
-    same_arrival p path to is =
-        ap (λ (v : ℤ). departure d p.from +ℤ ((element_of design p.from).dq_max +ℤ v) *ℤ s.den +ℤ shift_of s (element_of design p.from).phase (element_of design l).phase) is
-        ∙ ap (λ (k : ℕ). departure d p.from +ℤ ((element_of design p.from).dq_max +ℤ p.max) *ℤ s.den +ℤ shift_of s (element_of design p.from).phase (element_of design k).phase) (sym to)
+    same_arrival p path to is = rw (is, to) refl
 
     no_later : (p : Pair) (path : List ℕ) → p.to ≡ l → greatest_delay design.arcs path ≤ℤ p.max → arrives p.from path ≤ℤ late_arrival t.flat s d p
     no_later p path to low =
         let sum : ((element_of design p.from).dq_max +ℤ greatest_delay design.arcs path) ≤ℤ ((element_of design p.from).dq_max +ℤ p.max) = omega (arith, ints) in
         let product = times-mono_positive ((element_of design p.from).dq_max +ℤ greatest_delay design.arcs path) ((element_of design p.from).dq_max +ℤ p.max) s.den sum positive in
-        let shift : shift_of s (element_of design p.from).phase (element_of design l).phase ≡ shift_of s (element_of design p.from).phase (element_of design p.to).phase =
-        ap (λ (k : ℕ). shift_of s (element_of design p.from).phase (element_of design k).phase) (sym to) in
-        omega (arith, ints)
+        rw to (omega (arith, ints))
 
     -- each pair to the element arrives no later than the last trail
     pair_bound : (last : Option ℤ) → IsLastArrival design s d l last → (p : Pair) → HasExtremes design p → p.to ≡ l → IsSomeAnd last (λ z. late_arrival t.flat s d p ≤ℤ z)
@@ -71,7 +76,7 @@ module _ (design : Design) (along : List ℕ) (pairs : List Pair) (are_pairs : A
         let found = pair_of_trail l a.0 a.1 inside a.2 in
         let at = found.1 in
         let none : (found.0.to == l) ≡ false = rw at.2 at (h at.0 found.0 at.1) in
-        absurd (true_or_false (found.0.to == l) none (eq-eqb found.0.to l found.4))
+        let same = eq-eqb found.0.to l found.4 in absurd (cc)
     same (Some y) None h g =
         let some = h.attained in
         let p : Pair = some.1 in
@@ -86,8 +91,7 @@ module _ (design : Design) (along : List ℕ) (pairs : List Pair) (are_pairs : A
         let a = g.attained in
         let found = pair_of_trail l a.0 a.1 inside a.2 in
         let at = found.1 in
-        let path : IsPath design.arcs found.0.from a.1 (input_of found.0.to) =
-        subst (λ k. IsPath design.arcs found.0.from a.1 (input_of k)) (sym found.4) (subst (λ k. IsPath design.arcs k a.1 (input_of l)) (sym found.3) (listed l a.0 a.1 a.2)) in
+        let path : IsPath design.arcs found.0.from a.1 (input_of found.0.to) = rw (found.3, found.4) (listed l a.0 a.1 a.2) in
         let below = no_later found.0 a.1 found.4 (found.2.greatest.bound a.1 path) in
         let top : late_arrival t.flat s d found.0 ≤ℤ y = (rw at.2 at (h.bound at.0 found.0 at.1)) (eq-eqb found.0.to l found.4) in
         let from : arrives found.0.from a.1 ≡ z = ap (λ k. arrives k a.1) found.3 ∙ a.3 in

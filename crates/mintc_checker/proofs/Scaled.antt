@@ -21,17 +21,12 @@ equal_bits a b x y e f p q =
 -- the products that the test of a ring compares
 pub delay_fits : (delay den : ℤ) → (negsuc 8191999999999 ≤ℤ delay) × (delay ≤ℤ pos 8192000000000) → IsDenominator den → SFits w64 (delay *ℤ den)
 delay_fits delay den h g =
-    let one = g.0 in
-    let most = g.1 in
-    let low : (negsuc 8191999999999 *ℤ den) ≤ℤ (delay *ℤ den) = times-mono_positive (negsuc 8191999999999) delay den h.0 one in
-    let high : (delay *ℤ den) ≤ℤ (pos 8192000000000 *ℤ den) = times-mono_positive delay (pos 8192000000000) den h.1 one in
+    let low : (negsuc 8191999999999 *ℤ den) ≤ℤ (delay *ℤ den) = times-mono_positive (negsuc 8191999999999) delay den h.0 g.0 in
+    let high : (delay *ℤ den) ≤ℤ (pos 8192000000000 *ℤ den) = times-mono_positive delay (pos 8192000000000) den h.1 g.0 in
     omega (arith, ints)
 
 pub turns_fit : (cycles cycle : ℤ) → (pos 1 ≤ℤ cycles) × (cycles ≤ℤ pos MOST_MEMBERS) → IsNumerator cycle → SFits w64 (cycles *ℤ cycle)
 turns_fit cycles cycle h g =
-    let one = h.0 in
-    let most = h.1 in
-    let turned = *ℤ_comm cycles cycle in
-    let low : (pos 0 *ℤ cycles) ≤ℤ (cycle *ℤ cycles) = times-mono_positive (pos 0) cycle cycles g.0 one in
-    let high : (cycle *ℤ cycles) ≤ℤ (pos 100000000000000 *ℤ cycles) = times-mono_positive cycle (pos 100000000000000) cycles g.1 one in
-    rw turned (omega (arith, ints))
+    let low : (pos 0 *ℤ cycles) ≤ℤ (cycle *ℤ cycles) = times-mono_positive (pos 0) cycle cycles g.0 h.0 in
+    let high : (cycle *ℤ cycles) ≤ℤ (pos 100000000000000 *ℤ cycles) = times-mono_positive cycle (pos 100000000000000) cycles g.1 h.0 in
+    rw (*ℤ_comm cycles cycle) (omega (arith, ints))

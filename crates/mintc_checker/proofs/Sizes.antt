@@ -1,8 +1,9 @@
 -- How large labels and arrivals are.
-use Rattle.std.proofs.Common.{ℕ, ◌<◌, ◌≤◌, ◌+◌, ◌*◌, ◌^◌, ℤ, pos, ◌+ℤ◌, ◌*ℤ◌, ◌≤ℤ◌, List, length, arith, sym, ◌⊎◌, ⊎_elim, Option, Some, None, subst}
+use Rattle.std.proofs.Common.{ℕ, ◌<◌, ◌≤◌, ◌+◌, ◌*◌, ◌^◌, ℤ, pos, ◌+ℤ◌, ◌*ℤ◌, ◌≤ℤ◌, List, length, arith, sym, ⊎_elim, Option, Some, None, subst}
 use Rattle.std.specs.Prelude.{IfSome, unsigned_abs}
 use Rattle.std.specs.List.{All}
 use Rattle.std.proofs.lemmas.Int.{ints}
+use Rattle.std.proofs.lemmas.Bool.{cases_lt}
 use Rattle.std.proofs.lemmas.List.{get_or_past}
 use Rattle.mintc_timing.specs.Departures.{departure}
 use Rattle.mintc_timing.specs.Design.{Design, no_element}
@@ -18,21 +19,16 @@ use Rattle.mintc_checker.specs.Trails.{IsGreatestTime, LeadsTo, LeadsFrom, eleme
 use Rattle.mintc_checker.specs.Labels.{labels_at, label_at, AreLabels, AreLabelsOf}
 use Rattle.mintc_checker.specs.Judged.{IsLate, AreTimelyLabels}
 
-low_or_high : (i n : ℕ) → (i < n) ⊎ (n ≤ i)
-low_or_high i n = grind arith
-
 pub departure-range : (d : List ℤ) → All IsDeparture d → (j : ℕ) → IsDeparture (departure d j)
 departure-range d each j = ⊎_elim (λ low. each j (pos 0) low)
     (λ high. subst IsDeparture (sym (get_or_past d j (pos 0) high)) (omega (arith, ints), omega (arith, ints)))
-    (low_or_high j (length d))
+    (cases_lt j (length d))
 
 module _ (design : Design) (limits : IsDesign design) (short : ArePathsShort design) where
   product-range : (x den : ℤ) → (pos 0 ≤ℤ x) × (x ≤ℤ pos 2000000000) → IsDenominator den → (pos 0 ≤ℤ (x *ℤ den)) × ((x *ℤ den) ≤ℤ pos 200000000000000)
   product-range x den h g =
-      let one = g.0 in
-      let most = g.1 in
-      let low : (pos 0 *ℤ den) ≤ℤ (x *ℤ den) = times-mono_positive (pos 0) x den h.0 one in
-      let high : (x *ℤ den) ≤ℤ (pos 2000000000 *ℤ den) = times-mono_positive x (pos 2000000000) den h.1 one in
+      let low : (pos 0 *ℤ den) ≤ℤ (x *ℤ den) = times-mono_positive (pos 0) x den h.0 g.0 in
+      let high : (x *ℤ den) ≤ℤ (pos 2000000000 *ℤ den) = times-mono_positive x (pos 2000000000) den h.1 g.0 in
       (omega (arith, ints), omega (arith, ints))
 
   pub trail-range : (den : ℤ) (d : List ℤ) → IsDenominator den → All IsDeparture d → (bit j : ℕ) (path : List ℕ) → LeadsTo design bit j path → IsLate (time_along design den d j path)
@@ -62,7 +58,7 @@ module _ (design : Design) (limits : IsDesign design) (short : ArePathsShort des
 
   IsLate-small : (x : Option ℤ) → IfSome x IsLate → IfSome x (λ z. unsigned_abs z ≤ 2 * 10 ^ 18)
   IsLate-small None h = tt
-  IsLate-small (Some z) h = let low = h.0 in let high = h.1 in omega (arith, ints)
+  IsLate-small (Some z) h = omega (arith, ints)
 
   pub AreLanes-from_labels : (den : ℤ) (d : List ℤ) (IsOfKind : ℕ → List ℕ → Type 0) (labels : List Labels) → IsDenominator den → All IsDeparture d → AreLabelsOf design den d IsOfKind labels →
       (bit : ℕ) → bit < length labels → AreLanes (labels_at labels bit).lanes

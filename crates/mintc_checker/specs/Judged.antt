@@ -1,7 +1,6 @@
 -- What the tests speak of: the design with all its pairs.
 use Rattle.std.specs.Prelude.{◌≡◌, ◌+◌, ◌-◌, ◌*◌, ◌<◌, ℕ, ℤ, pos, negsuc, neg_ℤ, ◌≤ℤ◌, IfSome, Bool, false, List, length, slice_index_or, IsTrue, IsFalse, IsSome, All, ◌↔◌, ◌*ℤ◌}
 use Rattle.mintc_text.specs.declared.limits.TheConstants.{MOST_PHASES, MOST_NUMERATOR}
-use Rattle.mintc_timing.specs.declared.parts.Pair.{Pair}
 use Rattle.mintc_timing.specs.Clocking.{feeds_of, least_width, start_of, width_of}
 use Rattle.mintc_timing.specs.Design.{Design, Timing, phase_count}
 use Rattle.mintc_timing.specs.Limits.{IsPhase}
@@ -12,13 +11,9 @@ use Rattle.mintc_checker.specs.declared.labels.Labels.{Labels}
 use Rattle.mintc_checker.specs.Labels.{AreLabels, label_at}
 use Rattle.mintc_checker.specs.Trails.{element_of}
 
--- the timing of a design, an order of its arcs and pairs
-abbrev pub timing_of : Design → List ℕ → List Pair → Timing
-timing_of design along pairs' = record { flat = design; order = along; pairs = pairs' }
-
 -- The claim holds of the design with all its pairs, whatever order of its arcs is given.
 abbrev pub OfTiming : Design → (Timing → Type 0) → Type 0
-OfTiming design P = (along : List ℕ) (pairs : List Pair) → ArePairs design pairs → P (timing_of design along pairs)
+OfTiming design P = (t : Timing) → t.flat ≡ design → ArePairs t.flat t.pairs → P t
 
 -- The answer to a test is true exactly where the claim holds.
 abbrev pub Decides : Design → Bool → (Timing → Type 0) → Type 0

@@ -1,10 +1,7 @@
 -- chains of pairs, followed from the last one down
-use Rattle.std.proofs.Common.{◌≡◌, ℕ, zero, suc, ◌+◌, ◌-◌, ◌<◌, ◌≤◌, ◌==◌, Bool, true, false, cond, ℤ, List, [], ◌∷◌, length, get_or, map, drop, arith, refl, sym, ap, ◌∙◌, subst, ⊎_elim, eq-eqb, ne_eqb}
-use Rattle.std.proofs.Math.Seq.{drop-cons}
-use Rattle.std.proofs.lemmas.List.{get_or_default}
-use Rattle.std.proofs.lemmas.Bool.{cases_eq}
+use Rattle.std.proofs.Common.{◌≡◌, ℕ, zero, suc, ◌+◌, ◌-◌, ◌<◌, ◌≤◌, ◌==◌, Bool, false, cond, ℤ, List, [], ◌∷◌, length, get_or, map, drop, arith, refl, sym, ap, ◌∙◌, subst, eq-eqb, ne_eqb}
+use Rattle.std.proofs.lemmas.List.{drop_more, get_or_default}
 use Rattle.std.specs.List.{filter}
-use Rattle.mintc_places.specs.Places.{IsIn}
 use Rattle.std.specs.Int.{int_min}
 use Rattle.mintc_timing.specs.declared.parts.Pair.{Pair}
 use Rattle.mintc_timing.specs.Design.{no_pair}
@@ -14,30 +11,19 @@ use Rattle.mintc_departure.specs.Rounds.{IsArrivalSum, IsFirst}
 use Rattle.mintc_departure.specs.Chains.{end_of, IsLastOf, AreChains}
 use Rattle.mintc_departure.specs.declared.chains.Chains.{Chains}
 use Rattle.mintc_departure.specs.declared.chains.End.{End}
-use Rattle.mintc_departure.specs.declared.chains.End.TheVariants.{First, Second}
+use Rattle.mintc_departure.specs.declared.chains.End.TheVariants.{Second}
 use Rattle.mintc_departure.proofs.SharedLesser.{first-more}
-use Rattle.mintc_departure.proofs.SharedSizes.{below_or_not}
 
 module _ (test : Pair → Bool) (pairs : List Pair) where
-  -- a pair that passes, and one that doesn't
-  filter-hit : (n : ℕ) → n < length pairs → test (get_or pairs n no_pair) ≡ true →
-      filter test (drop n pairs) ≡ get_or pairs n no_pair ∷ filter test (drop (suc n) pairs)
-  filter-hit n h e =
-      let p = get_or pairs n no_pair in
-      let rest = filter test (drop (suc n) pairs) in
-      ap (λ ps. filter test ps) (drop-cons pairs n no_pair h) ∙ ap (λ (b : Bool). cond b (p ∷ rest) rest) e
-
-  filter-miss : (n : ℕ) → n < length pairs → test (get_or pairs n no_pair) ≡ false → filter test (drop n pairs) ≡ filter test (drop (suc n) pairs)
-  filter-miss n h e =
-      let p = get_or pairs n no_pair in
-      let rest = filter test (drop (suc n) pairs) in
-      ap (λ ps. filter test ps) (drop-cons pairs n no_pair h) ∙ ap (λ (b : Bool). cond b (p ∷ rest) rest) e
+  filter-at : (n : ℕ) → n < length pairs →
+      filter test (drop n pairs) ≡ cond (test (get_or pairs n no_pair)) (get_or pairs n no_pair ∷ filter test (drop (n + 1) pairs)) (filter test (drop (n + 1) pairs))
+  filter-at n h = ap (λ ps. filter test ps) (drop_more pairs n no_pair h)
 
   filter-skip : (k x i : ℕ) → i ≡ k + x → i ≤ length pairs → ((n : ℕ) → x ≤ n → n < i → test (get_or pairs n no_pair) ≡ false) →
       filter test (drop x pairs) ≡ filter test (drop i pairs)
   filter-skip zero x i e h none = ap (λ (j : ℕ). filter test (drop j pairs)) (omega arith)
   filter-skip (suc k) x i e h none =
-      filter-miss x (omega arith) (none x (omega arith) (omega arith)) ∙ filter-skip k (suc x) i (omega arith) h (λ n a b. none n (omega arith) b)
+      rw (none x (omega arith) (omega arith)) at (filter-at x (omega arith)) ∙ filter-skip k (x + 1) i (omega arith) h (λ n a b. none n (omega arith) b)
 
 -- the pairs into an element from the last one of the first i on
 pub into-skip : (pairs : List Pair) (l i x : ℕ) → i ≤ length pairs → IsLastOf pairs Second l i x →
@@ -61,10 +47,8 @@ pub into-more : (f : Pair → ℤ) (pairs : List Pair) (l n x : ℕ) (v w : ℤ)
     IsFirst (least_of (map f (filter (λ (p : Pair). p.to == l) (drop (n + 1) pairs)))) v →
     IsFirst (least_of (map f (filter (λ (p : Pair). p.to == l) (drop x pairs)))) w
 into-more f pairs l n x v w h to is range e first =
-    let more : n + 1 ≡ suc n = omega arith in
-    let now : IsFirst (least_of (map f (filter (λ (p : Pair). p.to == l) (drop (suc n) pairs)))) v = rw more at first in
-    let whole = into-skip pairs l n x (omega arith) is ∙ filter-hit (λ (p : Pair). p.to == l) pairs n h (eq-eqb _ l to) in
-    rw (whole, e) (first-more (least_of (map f (filter (λ (p : Pair). p.to == l) (drop (suc n) pairs)))) v (f (get_or pairs n no_pair)) range now)
+    let whole = into-skip pairs l n x (omega arith) is ∙ rw (eq-eqb _ l to) at (filter-at (λ (p : Pair). p.to == l) pairs n h) in
+    rw (whole, e) (first-more (least_of (map f (filter (λ (p : Pair). p.to == l) (drop (n + 1) pairs)))) v (f (get_or pairs n no_pair)) range first)
 
 -- what the chains give at an element, and behind a pair
 module _ (pairs : List Pair) (side : End) (elements : ℕ) (chains : Chains) (are : AreChains pairs side elements chains) where
@@ -77,16 +61,3 @@ module _ (pairs : List Pair) (side : End) (elements : ℕ) (chains : Chains) (ar
   chain-next n x h e =
       let inside : n < length chains.nexts.items = rw are.nexts_count h in
       subst (λ y. IsLastOf pairs side (end_of side (get_or pairs n no_pair)) n y) (sym (e ∙ get_or_default chains.nexts.items n x 0 inside)) (are.linked.each_pair n h)
-
--- one more pair of a chain that is followed
-pub woken-more : (pairs : List Pair) (l n x : ℕ) (stale : List ℕ) → IsLastOf pairs First l n x → IsIn stale (get_or pairs n no_pair).to →
-    ((m : ℕ) → n < m → m < length pairs → (get_or pairs m no_pair).from ≡ l → IsIn stale (get_or pairs m no_pair).to) →
-    (m : ℕ) → x ≤ m → m < length pairs → (get_or pairs m no_pair).from ≡ l → IsIn stale (get_or pairs m no_pair).to
-woken-more pairs l n x stale last here later m low high is =
-    ⊎_elim
-    (λ below. absurd (last.last m low below is))
-    (λ past. ⊎_elim
-    (λ e. subst (λ (j : ℕ). IsIn stale (get_or pairs j no_pair).to) (sym e) here)
-    (λ ne. later m (omega arith) high is)
-    (cases_eq m n))
-    (below_or_not m n)

@@ -1,56 +1,29 @@
 -- early departures: what a round makes of them, and why they rise to the least solution
-use Rattle.std.proofs.Common.{◌≡◌, ◌≢◌, ℕ, ◌<◌, ◌==◌, ℤ, pos, ◌+ℤ◌, ◌-ℤ◌, ◌*ℤ◌, ◌≤ℤ◌, Bool, true, false, cond, List, length, arith, sym, ap, ◌∙◌, Option, Some, None, ◌⊎◌, inl, ⊎_elim, subst}
+use Rattle.std.proofs.Common.{◌≡◌, ℕ, ◌<◌, ◌==◌, ℤ, pos, ◌+ℤ◌, ◌-ℤ◌, ◌*ℤ◌, ◌≤ℤ◌, true, false, List, length, arith, sym, ap, ◌∙◌, ◌⊎◌, inl, ⊎_elim, subst}
 use Rattle.std.proofs.lemmas.Int.{ints}
-use Rattle.std.proofs.lemmas.Bool.{cases_Bool, eqb-true}
+use Rattle.std.proofs.lemmas.Bool.{cases_Bool, cases_lt, eqb-true}
 use Rattle.std.proofs.lemmas.List.{get_or_past, ext_get_or}
-use Rattle.std.specs.Int.{int_max}
 use Rattle.mintc_walks.specs.Bounds.{IsWithin}
 use Rattle.mintc_timing.specs.declared.parts.Pair.{Pair}
 use Rattle.mintc_timing.specs.declared.clocking.Schedule.{Schedule}
-use Rattle.mintc_timing.specs.Design.{Timing, element_at, element_count, pair_at, phase_of, no_pair}
-use Rattle.mintc_timing.specs.Clocking.{shift_of}
+use Rattle.mintc_timing.specs.Design.{Timing, element_at, element_count, pair_at, no_pair}
 use Rattle.mintc_timing.specs.Departures.{departure, into, early_arrival, early_arrivals, early_opening, early_departure, late_arrival, late_opening, AreEarly, AreAtMost, AreLate}
 use Rattle.mintc_timing.specs.Extremes.{greater_of, least_of}
 use Rattle.mintc_timing.proofs.SharedDepartureLaws.{late_departure-flop}
 use Rattle.mintc_timing.proofs.SharedLoops.{arrival-at_most}
 use Rattle.mintc_timing.proofs.SharedProducts.{add-times, times-mono_positive}
 use Rattle.mintc_departure.specs.Clocked.{IsClocked}
-use Rattle.mintc_departure.specs.Rounds.{early_start_of, early_travel, IsFirst, AreSums, AreRising}
+use Rattle.mintc_departure.specs.Rounds.{early_start_of, early_travel, AreSums, AreRising}
 use Rattle.mintc_departure.specs.Settled.{IsSum}
-use Rattle.mintc_departure.specs.declared.arrivals.TheConstants.{NEVER}
 use Rattle.mintc_departure.proofs.LateSizes.{late-within}
-use Rattle.mintc_departure.proofs.SharedLesser.{greater-mono, greater-from, greater-one, least-mono, least-some}
-use Rattle.mintc_departure.proofs.NetworkLaws.{exact-starts, start-latch}
+use Rattle.mintc_departure.proofs.SharedLesser.{greater-mono, greater-from, greater-some, least-mono}
+use Rattle.mintc_departure.proofs.NetworkLaws.{exact-starts}
 use Rattle.mintc_walks.proofs.SharedWithin.{IsWithin-product}
-use Rattle.mintc_departure.proofs.SharedSizes.{below_or_not, element_in_range, pair_ends, pair-min_order}
-
--- A latch with a first arrival departs by it.
-first-greater : (start first : ℤ) (o : Option ℤ) → IsFirst o first → first ≢ NEVER → int_max start first ≡ greater_of start o
-first-greater start first None is ne = absurd (ne is)
-first-greater start first (Some a) is ne = ap (λ z. int_max start z) is.0
+use Rattle.mintc_departure.proofs.SharedSizes.{element_in_range, pair_ends, pair-min_order}
 
 module _ (t : Timing) (s : Schedule) where
   pub early-arrival-is : (d : List ℤ) (p : Pair) → early_arrival t.flat s d p ≡ departure d p.from +ℤ early_travel t.flat s p
   early-arrival-is d p = omega (arith, ints)
-
-  early-latch : (d : List ℤ) (l : ℕ) → (element_at t.flat l).flop ≡ false → early_departure t s d l ≡ greater_of (early_opening t.flat s l) (least_of (early_arrivals t s d l))
-  early-latch d l h = ap (λ (b : Bool). cond b (pos 0) (greater_of (early_opening t.flat s l) (least_of (early_arrivals t s d l)))) h
-
-  early-flop : (d : List ℤ) (l : ℕ) → (element_at t.flat l).flop ≡ true → early_departure t s d l ≡ pos 0
-  early-flop d l h = ap (λ (b : Bool). cond b (pos 0) (greater_of (early_opening t.flat s l) (least_of (early_arrivals t s d l)))) h
-
-  start-latch_early : (l : ℕ) → (element_at t.flat l).flop ≡ false → early_start_of t.flat s l ≡ early_opening t.flat s l
-  start-latch_early l h = ap (λ (b : Bool). cond b (pos 0) (early_opening t.flat s l)) h
-
-  start-flop_early : (l : ℕ) → (element_at t.flat l).flop ≡ true → early_start_of t.flat s l ≡ pos 0
-  start-flop_early l h = ap (λ (b : Bool). cond b (pos 0) (early_opening t.flat s l)) h
-
-  -- what the code makes of a first arrival
-  pub departs-by_first : (d : List ℤ) (l : ℕ) (first x : ℤ) → (element_at t.flat l).flop ≡ false → first ≢ NEVER → IsFirst (least_of (early_arrivals t s d l)) first →
-      x ≡ int_max (early_start_of t.flat s l) first → x ≡ early_departure t s d l
-  departs-by_first d l first x latch ne is e =
-      e ∙ first-greater (early_start_of t.flat s l) first (least_of (early_arrivals t s d l)) is ne
-      ∙ ap (λ z. greater_of z (least_of (early_arrivals t s d l))) (start-latch_early l latch) ∙ sym (early-latch d l latch)
 
   -- Departures that are nowhere later make departures that are nowhere later.
   arrival-mono : (d e : List ℤ) (p : Pair) → departure d p.from ≤ℤ departure e p.from → early_arrival t.flat s d p ≤ℤ early_arrival t.flat s e p
@@ -59,16 +32,16 @@ module _ (t : Timing) (s : Schedule) where
   early-mono : (d e : List ℤ) → ((l : ℕ) → departure d l ≤ℤ departure e l) → (l : ℕ) → early_departure t s d l ≤ℤ early_departure t s e l
   early-mono d e h l =
       ⊎_elim
-      (λ flop. rw (early-flop d l flop, early-flop e l flop) (omega (arith, ints)))
-      (λ latch. rw (early-latch d l latch, early-latch e l latch) (greater-mono (early_opening t.flat s l) _ _
+      (λ flop. rw flop (omega (arith, ints)))
+      (λ latch. rw latch (greater-mono (early_opening t.flat s l) _ _
       (least-mono (early_arrival t.flat s d) (early_arrival t.flat s e) (λ p. arrival-mono d e p (h p.from)) (into t l))))
       (cases_Bool (element_at t.flat l).flop)
 
   start-least : (d : List ℤ) (l : ℕ) → early_start_of t.flat s l ≤ℤ early_departure t s d l
   start-least d l =
       ⊎_elim
-      (λ flop. rw (start-flop_early l flop, early-flop d l flop) (omega (arith, ints)))
-      (λ latch. rw (start-latch_early l latch, early-latch d l latch) (greater-from (early_opening t.flat s l) (least_of (early_arrivals t s d l))))
+      (λ flop. rw flop (omega (arith, ints)))
+      (λ latch. rw latch (greater-from (early_opening t.flat s l) (least_of (early_arrivals t s d l))))
       (cases_Bool (element_at t.flat l).flop)
 
   pub everywhere : (d e : List ℤ) → length d ≡ element_count t.flat → length e ≡ element_count t.flat → AreAtMost t.flat d e → (l : ℕ) → departure d l ≤ℤ departure e l
@@ -76,7 +49,7 @@ module _ (t : Timing) (s : Schedule) where
       ⊎_elim
       (λ lt. h l lt)
       (λ past. rw (get_or_past d l (pos 0) (rw p past), get_or_past e l (pos 0) (rw q past)) (omega (arith, ints)))
-      (below_or_not l (element_count t.flat))
+      (cases_lt l (element_count t.flat))
 
 -- The second departures are what the first make them.
 abbrev pub IsRound : Timing → Schedule → List ℤ → List ℤ → Type 0
@@ -87,12 +60,6 @@ opening-sum : (cq dq den : ℤ) → (cq -ℤ dq) *ℤ den +ℤ dq *ℤ den ≡ c
 opening-sum cq dq den =
     let whole : (cq -ℤ dq) +ℤ dq ≡ cq = omega (arith, ints) in
     sym (add-times (cq -ℤ dq) dq den) ∙ ap (λ v. v *ℤ den) whole
-
-carry : (x y q z : ℤ) → x ≡ y → (y +ℤ q) ≤ℤ z → (x +ℤ q) ≤ℤ z
-carry x y q z e h = rw e h
-
-latch-before : (start q late opens cq_low cq_high dq_high : ℤ) → start +ℤ q ≡ cq_low → cq_low ≤ℤ cq_high → opens +ℤ dq_high ≡ cq_high → opens ≤ℤ late → (start +ℤ q) ≤ℤ (late +ℤ dq_high)
-latch-before start q late opens cq_low cq_high dq_high e h f k = omega (arith, ints)
 
 module _ (t : Timing) (s : Schedule) (fits : IsClocked t s)
     (late : List ℤ) (are_late : AreLate t s late) where
@@ -106,16 +73,13 @@ module _ (t : Timing) (s : Schedule) (fits : IsClocked t s)
       let starts = exact-starts t s late are_late.exact fits.timing.extremes.each l h in
       let grow = dq-grow l h in
       ⊎_elim
-      (λ flop.
-      let is : departure late l ≡ pos 0 = are_late.exact.each l h ∙ late_departure-flop t s late l flop in
-      rw (start-flop_early t s l flop, is) (omega (arith, ints)))
+      (λ flop. rw (are_late.exact.each l h ∙ late_departure-flop t s late l flop, flop) (omega (arith, ints)))
       (λ latch.
-      rw (start-latch_early t s l latch)
-      (latch-before (early_opening t.flat s l) (e.dq_min *ℤ s.den) (departure late l) (late_opening t.flat s l) (e.cq_min *ℤ s.den) (e.cq_max *ℤ s.den) (e.dq_max *ℤ s.den)
-      (opening-sum e.cq_min e.dq_min s.den)
-      (times-mono_positive e.cq_min e.cq_max s.den (element_in_range t s fits l h).cq fits.range.den.0)
-      (opening-sum e.cq_max e.dq_max s.den)
-      (rw (start-latch t s l latch) at starts)))
+      let opens : late_opening t.flat s l ≤ℤ departure late l = rw latch at starts in
+      let low = opening-sum e.cq_min e.dq_min s.den in
+      let high = opening-sum e.cq_max e.dq_max s.den in
+      let cq = times-mono_positive e.cq_min e.cq_max s.den (element_in_range t s fits l h).cq fits.range.den.0 in
+      rw latch (omega (arith, ints)))
       (cases_Bool e.flop)
 
   -- What arrives early is there before what arrives late.
@@ -125,49 +89,39 @@ module _ (t : Timing) (s : Schedule) (fits : IsClocked t s)
   arrival-before d n h before =
       let p = pair_at t n in
       let from = element_at t.flat p.from in
-      sums-before (departure d p.from) (departure late p.from) (from.dq_min *ℤ s.den) (from.dq_max *ℤ s.den) (p.min *ℤ s.den) (p.max *ℤ s.den) ((from.dq_min +ℤ p.min) *ℤ s.den) ((from.dq_max +ℤ p.max) *ℤ s.den) (shift_of s (phase_of t.flat p.from) (phase_of t.flat p.to))
-      (add-times from.dq_min p.min s.den) (add-times from.dq_max p.max s.den) before
-      (times-mono_positive p.min p.max s.den (pair-min_order t.flat t.order t.pairs fits.design fits.timing n no_pair h).1 fits.range.den.0)
-    where
-      sums-before : (d e q r x y low high shift : ℤ) → low ≡ q +ℤ x → high ≡ r +ℤ y → (d +ℤ q) ≤ℤ (e +ℤ r) → x ≤ℤ y → (d +ℤ low +ℤ shift) ≤ℤ (e +ℤ high +ℤ shift)
-      sums-before d e q r x y low high shift a b h k = omega (arith, ints)
+      let low = add-times from.dq_min p.min s.den in
+      let high = add-times from.dq_max p.max s.den in
+      let grow = times-mono_positive p.min p.max s.den (pair-min_order t.flat t.order t.pairs fits.design fits.timing n no_pair h).1 fits.range.den.0 in
+      omega (arith, ints)
 
   round-before : (d : List ℤ) →
       ((l : ℕ) → l < element_count t.flat → (departure d l +ℤ (element_at t.flat l).dq_min *ℤ s.den) ≤ℤ (departure late l +ℤ (element_at t.flat l).dq_max *ℤ s.den)) →
       (l : ℕ) → l < element_count t.flat → (early_departure t s d l +ℤ (element_at t.flat l).dq_min *ℤ s.den) ≤ℤ (departure late l +ℤ (element_at t.flat l).dq_max *ℤ s.den)
   round-before d before l h =
       ⊎_elim
-      (λ flop. carry _ _ _ _ (early-flop t s d l flop ∙ sym (start-flop_early t s l flop)) (start-before l h))
+      (λ flop. rw flop (rw flop at (start-before l h)))
       (λ latch.
-      rw (early-latch t s d l latch)
+      rw latch
       (⊎_elim
-      (λ opens. carry _ _ _ _ (opens ∙ sym (start-latch_early t s l latch)) (start-before l h))
-      (λ arrives. by_arrival latch arrives.0 arrives.2 (⊎_elim (λ none. absurd (some_or_none arrives.0 _ arrives.1 none)) (λ w. (w.0, w.1, w.2, some-same _ _ (sym arrives.1 ∙ w.3)))
-      (least-some (early_arrival t.flat s d) (λ (p : Pair). p.to == l) no_pair t.pairs)))
-      (greater-one (early_opening t.flat s l) (least_of (early_arrivals t s d l)))))
+      (λ opens. rw opens (rw latch at (start-before l h)))
+      (by_arrival latch)
+      (greater-some (early_arrival t.flat s d) (λ (p : Pair). p.to == l) no_pair (early_opening t.flat s l) t.pairs)))
       (cases_Bool (element_at t.flat l).flop)
     where
-      some_or_none : (a : ℤ) (o : Option ℤ) → o ≡ Some a → o ≡ None → ⊥
-      some_or_none a o e f = cc
+      leaves : ℤ
+      leaves = greater_of (early_opening t.flat s l) (least_of (early_arrivals t s d l))
 
-      some-same : (a b : ℤ) → Some a ≡ Some b → a ≡ b
-      some-same a b e = cc
-
-      rises : (x y z q r : ℤ) → x ≡ y → y ≤ℤ z → q ≤ℤ r → (x +ℤ q) ≤ℤ (z +ℤ r)
-      rises x y z q r e h k = omega (arith, ints)
-
-      by_arrival : (element_at t.flat l).flop ≡ false → (a : ℤ) → greater_of (early_opening t.flat s l) (least_of (early_arrivals t s d l)) ≡ a →
-          (n : ℕ) × (n < length t.pairs) × ((pair_at t n).to == l ≡ true) × (a ≡ early_arrival t.flat s d (pair_at t n)) →
-          (greater_of (early_opening t.flat s l) (least_of (early_arrivals t s d l)) +ℤ (element_at t.flat l).dq_min *ℤ s.den) ≤ℤ (departure late l +ℤ (element_at t.flat l).dq_max *ℤ s.den)
-      by_arrival latch a is w =
+      by_arrival : (element_at t.flat l).flop ≡ false → (n : ℕ) × (n < length t.pairs) × ((pair_at t n).to == l ≡ true) × (leaves ≡ early_arrival t.flat s d (pair_at t n)) →
+          (leaves +ℤ (element_at t.flat l).dq_min *ℤ s.den) ≤ℤ (departure late l +ℤ (element_at t.flat l).dq_max *ℤ s.den)
+      by_arrival latch w =
           let n = w.0 in
           let to : (pair_at t n).to ≡ l = eqb-true _ _ w.2 in
           let ends = pair_ends t s fits n w.1 in
           let P : ℕ → Type 0 = λ m. late_arrival t.flat s late (pair_at t n) ≤ℤ departure late m in
-          let there = subst P to (arrival-at_most t s late are_late.exact fits.timing.extremes.each n no_pair w.1 (ap (λ (m : ℕ). (element_at t.flat m).flop) to ∙ latch)) in
+          let there = subst P to (arrival-at_most t s late are_late.exact fits.timing.extremes.each n no_pair w.1 (rw to latch)) in
           let first = arrival-before d n w.1 (before (pair_at t n).from ends.from) in
-          let both : early_arrival t.flat s d (pair_at t n) ≤ℤ departure late l = omega (arith, ints) in
-          rises _ _ (departure late l) ((element_at t.flat l).dq_min *ℤ s.den) ((element_at t.flat l).dq_max *ℤ s.den) (is ∙ w.3) both (dq-grow l h)
+          let grow = dq-grow l h in
+          rw w.3 (omega (arith, ints))
 
   -- The rounds begin where no data reaches an element ..
   pub rising-first : (d : List ℤ) → length d ≡ element_count t.flat → ((l : ℕ) → l < element_count t.flat → departure d l ≡ early_start_of t.flat s l) → AreRising t s late d
@@ -219,8 +173,8 @@ module _ (t : Timing) (s : Schedule) (fits : IsClocked t s)
           let e = element_in_range t s fits l h in
           let delay : IsWithin 1000000000 ((element_at t.flat l).cq_min -ℤ (element_at t.flat l).dq_min) = (omega (arith, ints), omega (arith, ints)) in
           ⊎_elim
-          (λ flop. rw (start-flop_early t s l flop) (omega (arith, ints), omega (arith, ints)))
-          (λ latch. rw (start-latch_early t s l latch) (times_den _ delay))
+          (λ flop. rw flop (omega (arith, ints), omega (arith, ints)))
+          (λ latch. rw latch (times_den _ delay))
           (cases_Bool (element_at t.flat l).flop)
 
       within : (x first z q r : ℤ) → first ≤ℤ x → (x +ℤ q) ≤ℤ (z +ℤ r) → IsWithin 100000000000000 first → IsWithin 100000000000000 q → IsWithin 100000000000000 r → IsWithin 900100000000000000 z → IsSum x

@@ -1,5 +1,5 @@
 -- checks of which none is failed
-use Rattle.std.proofs.Common.{◌≡◌, ℕ, ◌+◌, ◌-◌, ◌<◌, ◌≤◌, ℤ, pos, ◌≤ℤ◌, ◌-ℤ◌, Bool, true, false, cond, List, [], ◌∷◌, ◌++◌, map, Option, Some, None, option_map, IfSome, IsTrue, ◌↔◌, arith, int_lt, refl, sym, ap, ◌∙◌, subst}
+use Rattle.std.proofs.Common.{◌≡◌, ℕ, ◌+◌, ◌-◌, ◌<◌, ◌≤◌, ℤ, pos, ◌≤ℤ◌, ◌-ℤ◌, Bool, cond, List, [], ◌∷◌, ◌++◌, map, Option, Some, None, option_map, IfSome, IsTrue, ◌↔◌, arith, int_lt, refl, sym, ap, ◌∙◌, subst}
 use Rattle.std.proofs.lemmas.Int.{ints}
 use Rattle.std.proofs.lemmas.List.FromFn.{length-range_with_len, get_or-range_with_len}
 use Rattle.std.specs.List.{All, cons_option, filter, filter_map, flat_map, range_with_len}
@@ -16,12 +16,6 @@ moved x y = ((λ h. omega (arith, ints)), (λ h. omega (arith, ints)))
 abbrev pub IsKept : Violation → Type 0
 IsKept v = v.amount ≤ℤ pos 0
 
-not_above : (x : ℤ) → int_lt (pos 0) x ≡ false → x ≤ℤ pos 0
-not_above x h = grind (arith, ints)
-
-above : (x : ℤ) → int_lt (pos 0) x ≡ true → x ≤ℤ pos 0 → ⊥
-above x h k = grind (arith, ints)
-
 nil-left : {X : Type 0} (xs ys : List X) → xs ++ ys ≡ [] → xs ≡ []
 nil-left [] ys e = refl
 nil-left (x ∷ xs) ys e = absurd (cc)
@@ -31,12 +25,8 @@ nil-right [] ys e = e
 nil-right (x ∷ xs) ys e = absurd (cc)
 
 -- Checks of which none is failed: one more, two lists, one check for each item of a list, and the like.
-kept-step : (v : Violation) (vs : List Violation) (b : Bool) → int_lt (pos 0) v.amount ≡ b → (cond b (v ∷ failed vs) (failed vs) ≡ []) ↔ (IsKept v × (failed vs ≡ []))
-kept-step v vs true h = ((λ e. absurd (cc)), (λ k. absurd (above v.amount h k.0)))
-kept-step v vs false h = ((λ e. (not_above v.amount h, e)), (λ k. k.1))
-
 pub kept-cons : (v : Violation) (vs : List Violation) → (failed (v ∷ vs) ≡ []) ↔ (IsKept v × (failed vs ≡ []))
-kept-cons v vs = kept-step v vs (int_lt (pos 0) v.amount) refl
+kept-cons v vs = ((λ e. (grind (arith, ints), grind (arith, ints))), (λ k. grind (arith, ints)))
 
 pub kept-append : (xs ys : List Violation) → (failed (xs ++ ys) ≡ []) ↔ ((failed xs ≡ []) × (failed ys ≡ []))
 kept-append xs ys =
@@ -48,10 +38,7 @@ optional-step constraint None vs = ((λ e. (tt, e)), (λ h. h.1))
 optional-step constraint (Some x) vs = kept-cons (check constraint x) vs
 
 tested-step : {X : Type 0} (f : X → Violation) (x : X) (ys : List X) (b : Bool) → (failed (map f (cond b (x ∷ ys) ys)) ≡ []) ↔ ((IsTrue b → IsKept (f x)) × (failed (map f ys) ≡ []))
-tested-step f x ys true =
-    let first = kept-cons (f x) (map f ys) in
-    ((λ e. let h = first.0 e in (λ _. h.0, h.1)), (λ h. first.1 (h.0 refl, h.1)))
-tested-step f x ys false = ((λ e. (λ h. absurd (cc), e)), (λ h. h.1))
+tested-step f x ys b = ((λ e. ((λ on. grind (arith, ints)), grind (arith, ints))), (λ h. let here = h.0 in grind (arith, ints)))
 
 -- checks that are made item by item
 module _ {X : Type 0} where

@@ -1,5 +1,5 @@
 -- numbers that leave no wide gap stay below a bound
-use Rattle.std.proofs.Common.{◌≡◌, ℕ, zero, suc, ◌+◌, ◌*◌, ◌<◌, ◌≤◌, ℤ, pos, ◌≤ℤ◌, ◌<ℤ◌, cond, arith, ◌⊎◌, inl, inr, ⊎_elim, below_more}
+use Rattle.std.proofs.Common.{ℕ, zero, suc, ◌+◌, ◌*◌, ◌<◌, ◌≤◌, ℤ, pos, ◌≤ℤ◌, ◌<ℤ◌, cond, arith, ◌⊎◌, inl, inr, ⊎_elim, below_more}
 use Rattle.std.proofs.lemmas.Int.{ints, by_lt_z}
 use lib.Signed.{lt_z}
 
@@ -12,12 +12,6 @@ abbrev count_upto : (ℕ → ℤ) → ℤ → ℕ → ℕ
 count_upto x top zero = 0
 count_upto x top (suc n) = count_upto x top n + one_upto top (x n)
 
-one_if_low : (top y : ℤ) → y ≤ℤ top → one_upto top y ≡ 1
-one_if_low top y h = grind (arith, ints)
-
-none_if_high : (top y : ℤ) → top <ℤ y → one_upto top y ≡ 0
-none_if_high top y h = grind (arith, ints)
-
 -- none of the first n numbers is above the one bound and at most the other
 abbrev pub IsGap : (ℕ → ℤ) → ℤ → ℤ → ℕ → Type 0
 IsGap x low high n = (l : ℕ) → l < n → (x l ≤ℤ low) ⊎ (high <ℤ x l)
@@ -27,7 +21,7 @@ module _ (x : ℕ → ℤ) where
   count_most top zero = omega arith
   count_most top (suc n) =
       let rest = count_most top n in
-      by_lt_z top (x n) (λ h. let e = none_if_high top (x n) h in omega arith) (λ h. let e = one_if_low top (x n) h in omega arith)
+      grind (arith, ints)
 
   upto_suc : (top : ℤ) (n : ℕ) → ((l : ℕ) → l < n → x l ≤ℤ top) → x n ≤ℤ top → (l : ℕ) → l < suc n → x l ≤ℤ top
   upto_suc top n before here l lt = below_more (λ k. x k ≤ℤ top) n before here l (omega arith)
@@ -36,30 +30,20 @@ module _ (x : ℕ → ℤ) where
   all_low top zero h l lt = absurd (omega arith)
   all_low top (suc n) h l lt =
       let most = count_most top n in
-      by_lt_z top (x n)
-      (λ high. let e = none_if_high top (x n) high in absurd (omega arith))
-      (λ low. let e = one_if_low top (x n) low in let rest : n ≤ count_upto x top n = omega arith in upto_suc top n (all_low top n rest) low l lt)
+      by_lt_z top (x n) (λ high. absurd (grind (arith, ints))) (λ low. upto_suc top n (all_low top n (grind (arith, ints))) low l lt)
 
   -- One more number is at most the higher bound, or there is a gap between the two.
   count_or_gap : (low high : ℤ) → low ≤ℤ high → (n : ℕ) →
       (suc (count_upto x low n) ≤ count_upto x high n) ⊎ (IsGap x low high n × (count_upto x low n ≤ count_upto x high n))
   count_or_gap low high h zero = inr ((λ l lt. absurd (omega arith)), omega arith)
   count_or_gap low high h (suc n) =
+      ⊎_elim
+      (λ more. inl (grind (arith, ints)))
+      (λ gap.
       by_lt_z low (x n)
-      (λ above.
-      let e = none_if_high low (x n) above in
-      by_lt_z high (x n)
-      (λ over.
-      let e' = none_if_high high (x n) over in
-      ⊎_elim (λ a. inl (omega arith)) (λ b. let few = b.1 in inr (gap_suc b.0 (inr over), omega arith)) (count_or_gap low high h n))
-      (λ under.
-      let e' = one_if_low high (x n) under in
-      ⊎_elim (λ a. inl (omega arith)) (λ b. let few = b.1 in inl (omega arith)) (count_or_gap low high h n)))
-      (λ below.
-      let e = one_if_low low (x n) below in
-      let under : x n ≤ℤ high = omega (arith, ints) in
-      let e' = one_if_low high (x n) under in
-      ⊎_elim (λ a. inl (omega arith)) (λ b. let few = b.1 in inr (gap_suc b.0 (inl below), omega arith)) (count_or_gap low high h n))
+      (λ above. by_lt_z high (x n) (λ over. inr (gap_suc gap.0 (inr over), grind (arith, ints, gap.1))) (λ under. inl (grind (arith, ints, gap.1))))
+      (λ below. inr (gap_suc gap.0 (inl below), grind (arith, ints, gap.1))))
+      (count_or_gap low high h n)
     where
       gap_suc : IsGap x low high n → (x n ≤ℤ low) ⊎ (high <ℤ x n) → IsGap x low high (suc n)
       gap_suc before here l lt = below_more (λ k. (x k ≤ℤ low) ⊎ (high <ℤ x k)) n before here l (omega arith)

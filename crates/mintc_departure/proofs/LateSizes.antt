@@ -17,7 +17,7 @@ use Rattle.mintc_timing.proofs.SharedLoops.{arrival-at_most}
 use Rattle.mintc_departure.specs.Clocked.{IsClocked}
 use Rattle.mintc_departure.specs.Networks.{late_travel}
 use Rattle.mintc_departure.proofs.Ladders.{IsGap, all_below}
-use Rattle.mintc_departure.proofs.NetworkLaws.{greater-is, arrival-is, start-latch, exact-starts}
+use Rattle.mintc_departure.proofs.NetworkLaws.{greater-is, arrival-is, exact-starts}
 use Rattle.mintc_departure.proofs.SharedSizes.{start-within, opening-within, travel-within, pair_ends}
 
 -- a number above a bound less 1, and any other as it is
@@ -42,10 +42,7 @@ IsLowered low high y z = ((y ≤ℤ low) × (z ≡ y)) ⊎ ((high <ℤ y) × (z 
 -- What an arrival keeps when all high numbers are lowered, across a gap that is as wide as any delay.
 arrival-kept : (low width : ℕ) (a a' b b' w : ℤ) → IsWithin width w → IsLowered (pos low) (pos (low + width)) a a' → IsLowered (pos low) (pos (low + width)) b b' →
     (a +ℤ w) ≤ℤ b → (a' +ℤ w) ≤ℤ b'
-arrival-kept low width a a' b b' w r (inl p) (inl q) h = omega (arith, ints)
-arrival-kept low width a a' b b' w r (inl p) (inr q) h = omega (arith, ints)
-arrival-kept low width a a' b b' w r (inr p) (inl q) h = omega (arith, ints)
-arrival-kept low width a a' b b' w r (inr p) (inr q) h = omega (arith, ints)
+arrival-kept low width a a' b b' w r p q h = grind (arith, ints)
 
 arrival-brought : (low width : ℕ) (a a' b b' w : ℤ) → IsWithin width w → IsLowered (pos low) (pos (low + width)) a a' → IsLowered (pos low) (pos (low + width)) b b' →
     b ≡ a +ℤ w → b' ≡ a' +ℤ w
@@ -55,16 +52,13 @@ arrival-brought low width a a' b b' w r (inr p) (inl q) h = absurd (omega (arith
 arrival-brought low width a a' b b' w r (inr p) (inr q) h = omega (arith, ints)
 
 start-kept : (low width : ℕ) (start b b' : ℤ) → start ≤ℤ pos low → IsLowered (pos low) (pos (low + width)) b b' → start ≤ℤ b → start ≤ℤ b'
-start-kept low width start b b' s (inl p) h = omega (arith, ints)
-start-kept low width start b b' s (inr p) h = omega (arith, ints)
+start-kept low width start b b' s p h = grind (arith, ints)
 
 start-same : (low width : ℕ) (start b b' : ℤ) → start ≤ℤ pos low → IsLowered (pos low) (pos (low + width)) b b' → b ≡ start → b' ≡ start
-start-same low width start b b' s (inl p) h = omega (arith, ints)
-start-same low width start b b' s (inr p) h = absurd (omega (arith, ints))
+start-same low width start b b' s p h = grind (arith, ints)
 
 high-fell : (low width : ℕ) (b b' : ℤ) → IsLowered (pos low) (pos (low + width)) b b' → b ≤ℤ b' → b ≤ℤ pos low
-high-fell low width b b' (inl p) h = p.0
-high-fell low width b b' (inr p) h = absurd (omega (arith, ints))
+high-fell low width b b' p h = grind (arith, ints)
 
 module _ (t : Timing) (s : Schedule) (fits : IsClocked t s) where
   module _ (d : List ℤ) (exact : AreExact t s d) where
@@ -105,7 +99,7 @@ module _ (t : Timing) (s : Schedule) (fits : IsClocked t s) where
           let w = opening-within t s fits l h in
           let opens : late_opening t.flat s l ≤ℤ pos low = let b = w.1 in omega (arith, ints) in
           greater-is (late_arrival t.flat s down) test t.pairs no_pair (late_opening t.flat s l) (departure down l)
-          (start-kept low 400000000000000 (late_opening t.flat s l) (departure d l) (departure down l) opens (down-is l h) (rw (start-latch t s l e) at (exact-starts t s d exact fits.timing.extremes.each l h)))
+          (start-kept low 400000000000000 (late_opening t.flat s l) (departure d l) (departure down l) opens (down-is l h) (rw e at (exact-starts t s d exact fits.timing.extremes.each l h)))
           (λ n k to. kept n k (eqb-true _ _ to))
           (⊎_elim
           (λ a. inl (start-same low 400000000000000 (late_opening t.flat s l) (departure d l) (departure down l) opens (down-is l h) a))
@@ -117,7 +111,7 @@ module _ (t : Timing) (s : Schedule) (fits : IsClocked t s) where
           kept n k to =
               let ends = pair_ends t s fits n k in
               let P : ℕ → Type 0 = λ m. late_arrival t.flat s d (pair_at t n) ≤ℤ departure d m in
-              let a = subst P to (arrival-at_most t s d exact fits.timing.extremes.each n no_pair k (ap (λ (m : ℕ). (element_at t.flat m).flop) to ∙ e)) in
+              let a = subst P to (arrival-at_most t s d exact fits.timing.extremes.each n no_pair k (rw to e)) in
               rw (arrival-is t s down (pair_at t n))
               (arrival-kept low 400000000000000 (departure d (pair_at t n).from) (departure down (pair_at t n).from) (departure d l) (departure down l) (late_travel t.flat s (pair_at t n))
               (travel-within t s fits n k) (down-is (pair_at t n).from ends.from) (down-is l h) (rw (arrival-is t s d (pair_at t n)) at a))

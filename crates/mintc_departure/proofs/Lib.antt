@@ -14,7 +14,5 @@ mod Missing
 mod FailedLaws
 mod Gathering
 mod Greater
-mod ElementLaws
 mod LoopSums
-mod JudgedLaws
 mod KeptLaws

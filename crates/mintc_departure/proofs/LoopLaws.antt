@@ -1,5 +1,5 @@
 -- a closed chain of positive weight is a loop of pairs of latches
-use Rattle.std.proofs.Common.{◌≡◌, ℕ, zero, suc, ◌-◌, ◌<◌, ◌≢◌, ℤ, pos, ◌+ℤ◌, ◌≤ℤ◌, ◌<ℤ◌, true, false, List, [], ◌∷◌, length, get_or, arith, refl, sym, ap, ◌∙◌, ⊎_elim, subst, IsFalse}
+use Rattle.std.proofs.Common.{◌≡◌, ℕ, zero, suc, ◌-◌, ◌<◌, ◌≢◌, ℤ, pos, ◌+ℤ◌, ◌≤ℤ◌, ◌<ℤ◌, true, false, List, [], ◌∷◌, length, get_or, arith, refl, sym, ap, ◌∙◌, ⊎_elim}
 use Rattle.std.proofs.lemmas.Int.{ints}
 use Rattle.std.proofs.lemmas.Bool.{cases_Bool}
 use Rattle.std.proofs.lemmas.List.Elements.{All-nil, All-cons, All-head, All-tail}
@@ -12,7 +12,7 @@ use Rattle.mintc_rings.specs.Rings.{Joins, IsClosed}
 use Rattle.mintc_timing.specs.Design.{Timing, element_at, pair_at}
 use Rattle.mintc_timing.specs.Violations.{HasLoop, loop_amount}
 use Rattle.mintc_departure.specs.Networks.{late_travel, arcs_of}
-use Rattle.mintc_departure.proofs.NetworkLaws.{arcs-count, to_is, latch-from, latch-weight, flop-from, flop-weight}
+use Rattle.mintc_departure.proofs.NetworkLaws.{arcs-count, arc_is}
 
 -- Place by place: each arc begins where the one before ends, and the last one ends where the walk does.
 leads_next : (arcs : List Arc) (es : List ℕ) (u v i d : ℕ) → Leads arcs u es v → suc i < length es →
@@ -59,64 +59,44 @@ module _ (t : Timing) (s : Schedule) where
   walk_to_flop (n ∷ es) u v h e =
       let rest = walk_to_flop es (arc_at (arcs_of t s) n).to v h.2 e in
       let k : n < length t.pairs = rw (arcs-count t s) at h.0 in
-      let to : (pair_at t n).to ≡ v = sym (to_is t s n k) ∙ rest.0 in
+      let to : (pair_at t n).to ≡ v = rw (arc_is t s n k) at rest.0 in
       let flop : (element_at t.flat (pair_at t n).to).flop ≡ true = ap (λ (m : ℕ). (element_at t.flat m).flop) to ∙ e in
-      let w = flop-weight t s n k flop in
-      (sym h.1 ∙ flop-from t s n k flop ∙ to, omega (arith, ints))
+      (sym (rw (arc_is t s n k, flop) at h.1) ∙ to, rw (arc_is t s n k, flop) (omega (arith, ints)))
+
+  -- a pair of latches
+  abbrev JoinsLatches : ℕ → Type 0
+  JoinsLatches n = (n < length t.pairs) × ((element_at t.flat (pair_at t n).to).flop ≡ false) × ((element_at t.flat (pair_at t n).from).flop ≡ false)
 
   -- A walk from a latch meets latches alone.
-  walk_from_latch : (es : List ℕ) (u v : ℕ) → Leads (arcs_of t s) u es v → (element_at t.flat u).flop ≡ false → All (λ n. (element_at t.flat (pair_at t n).to).flop ≡ false) es
-  walk_from_latch [] u v h e = All-nil (λ n. (element_at t.flat (pair_at t n).to).flop ≡ false)
+  walk_from_latch : (es : List ℕ) (u v : ℕ) → Leads (arcs_of t s) u es v → (element_at t.flat u).flop ≡ false → All JoinsLatches es
+  walk_from_latch [] u v h e = All-nil JoinsLatches
   walk_from_latch (n ∷ es) u v h e =
       let k : n < length t.pairs = rw (arcs-count t s) at h.0 in
       let latch : (element_at t.flat (pair_at t n).to).flop ≡ false =
       ⊎_elim
-      (λ flop. let b = ap (λ (m : ℕ). (element_at t.flat m).flop) (sym (flop-from t s n k flop) ∙ h.1) ∙ e in absurd (cc))
+      (λ (flop : (element_at t.flat (pair_at t n).to).flop ≡ true). let b = ap (λ (m : ℕ). (element_at t.flat m).flop) (rw (arc_is t s n k, flop) at h.1) ∙ e in absurd (cc))
       (λ latch. latch)
       (cases_Bool (element_at t.flat (pair_at t n).to).flop) in
-      All-cons (λ n. (element_at t.flat (pair_at t n).to).flop ≡ false) n es latch
-      (walk_from_latch es (arc_at (arcs_of t s) n).to v h.2 (ap (λ (m : ℕ). (element_at t.flat m).flop) (to_is t s n k) ∙ latch))
+      All-cons JoinsLatches n es (k, latch, ap (λ (m : ℕ). (element_at t.flat m).flop) (rw (arc_is t s n k, latch) at h.1) ∙ e)
+      (walk_from_latch es (arc_at (arcs_of t s) n).to v h.2 (rw (arc_is t s n k) latch))
 
-  pairs_exist : (es : List ℕ) (u v : ℕ) → Leads (arcs_of t s) u es v → All (λ n. n < length t.pairs) es
-  pairs_exist [] u v h = All-nil (λ n. n < length t.pairs)
-  pairs_exist (n ∷ es) u v h = All-cons (λ n. n < length t.pairs) n es (rw (arcs-count t s) at h.0) (pairs_exist es (arc_at (arcs_of t s) n).to v h.2)
-
-  abbrev AreLatches : List ℕ → Type 0
-  AreLatches es = All (λ n. (element_at t.flat (pair_at t n).to).flop ≡ false) es
-
-  begin_at_latches : (es : List ℕ) (u v : ℕ) → Leads (arcs_of t s) u es v → (element_at t.flat u).flop ≡ false → All (λ n. IsFalse (element_at t.flat (pair_at t n).from).flop) es
-  begin_at_latches [] u v h e = All-nil (λ n. IsFalse (element_at t.flat (pair_at t n).from).flop)
-  begin_at_latches (n ∷ es) u v h e =
-      let k : n < length t.pairs = rw (arcs-count t s) at h.0 in
-      let latches : AreLatches (n ∷ es) = walk_from_latch (n ∷ es) u v h e in
-      let latch : (element_at t.flat (pair_at t n).to).flop ≡ false = All-head (λ n. (element_at t.flat (pair_at t n).to).flop ≡ false) n es latches in
-      All-cons (λ n. IsFalse (element_at t.flat (pair_at t n).from).flop) n es
-      (ap (λ (m : ℕ). (element_at t.flat m).flop) (sym (latch-from t s n k latch) ∙ h.1) ∙ e)
-      (begin_at_latches es (arc_at (arcs_of t s) n).to v h.2 (ap (λ (m : ℕ). (element_at t.flat m).flop) (to_is t s n k) ∙ latch))
-
-  pairs_join : (es : List ℕ) (u v : ℕ) → Leads (arcs_of t s) u es v → AreLatches es → Joins (λ n. (pair_at t n).from) (λ n. (pair_at t n).to) u es v
+  pairs_join : (es : List ℕ) (u v : ℕ) → Leads (arcs_of t s) u es v → All JoinsLatches es → Joins (λ n. (pair_at t n).from) (λ n. (pair_at t n).to) u es v
   pairs_join [] u v h latches = h
   pairs_join (n ∷ es) u v h latches =
-      let k : n < length t.pairs = rw (arcs-count t s) at h.0 in
-      let latch : (element_at t.flat (pair_at t n).to).flop ≡ false = All-head (λ n. (element_at t.flat (pair_at t n).to).flop ≡ false) n es latches in
-      let rest = All-tail (λ n. (element_at t.flat (pair_at t n).to).flop ≡ false) n es latches in
-      let P : ℕ → Type 0 = λ m. Joins (λ n. (pair_at t n).from) (λ n. (pair_at t n).to) m es v in
-      (sym (latch-from t s n k latch) ∙ h.1, subst P (to_is t s n k) (pairs_join es (arc_at (arcs_of t s) n).to v h.2 rest))
+      let here = All-head JoinsLatches n es latches in
+      (rw (arc_is t s n here.0, here.1) at h.1, rw (arc_is t s n here.0) at (pairs_join es (arc_at (arcs_of t s) n).to v h.2 (All-tail JoinsLatches n es latches)))
 
-  pairs_amount : (es : List ℕ) → All (λ n. n < length t.pairs) es → AreLatches es → loop_amount t s es ≡ weight_of (arcs_of t s) es
-  pairs_amount [] exist latches = refl
-  pairs_amount (n ∷ es) exist latches =
-      let k : n < length t.pairs = All-head (λ n. n < length t.pairs) n es exist in
-      let latch : (element_at t.flat (pair_at t n).to).flop ≡ false = All-head (λ n. (element_at t.flat (pair_at t n).to).flop ≡ false) n es latches in
-      let rest = pairs_amount es (All-tail (λ n. n < length t.pairs) n es exist) (All-tail (λ n. (element_at t.flat (pair_at t n).to).flop ≡ false) n es latches) in
-      ap (λ z. late_travel t.flat s (pair_at t n) +ℤ z) rest ∙ ap (λ z. z +ℤ weight_of (arcs_of t s) es) (sym (latch-weight t s n k latch))
+  pairs_amount : (es : List ℕ) → All JoinsLatches es → loop_amount t s es ≡ weight_of (arcs_of t s) es
+  pairs_amount [] latches = refl
+  pairs_amount (n ∷ es) latches =
+      let here = All-head JoinsLatches n es latches in
+      rw (arc_is t s n here.0, here.1) (ap (λ z. late_travel t.flat s (pair_at t n) +ℤ z) (pairs_amount es (All-tail JoinsLatches n es latches)))
 
   closed_at : (es : List ℕ) (v : ℕ) → Joins (λ n. (pair_at t n).from) (λ n. (pair_at t n).to) v es v → pos 0 <ℤ weight_of (arcs_of t s) es →
       IsClosed (λ n. (pair_at t n).from) (λ n. (pair_at t n).to) es
   closed_at [] v h positive = absurd (omega (arith, ints))
   closed_at (n ∷ es) v h positive =
-      let P : ℕ → Type 0 = λ m. Joins (λ n. (pair_at t n).from) (λ n. (pair_at t n).to) (pair_at t n).to es m in
-      subst P (sym h.0) h.1
+      rw h.0 h.1
 
   -- A closed chain of positive weight is a loop of pairs of latches.
   pub loop-from_chain : (es : List ℕ) → IsPositiveChain (arcs_of t s) es → (amount : ℤ) × HasLoop t s es amount
@@ -124,22 +104,21 @@ module _ (t : Timing) (s : Schedule) where
       let v : ℕ = chain.closed.0 in
       let leads : Leads (arcs_of t s) v es v = chain.closed.1 in
       let positive = chain.positive in
-      let exist = pairs_exist es v v leads in
       ⊎_elim
       (λ flop. let w = (walk_to_flop es v v leads flop).1 in absurd (omega (arith, ints)))
       (λ latch.
-      let latches : AreLatches es = walk_from_latch es v v leads latch in
-      let amount = pairs_amount es exist latches in (
+      let latches : All JoinsLatches es = walk_from_latch es v v leads latch in
+      let amount = pairs_amount es latches in (
         loop_amount t s es,
         record {
           is_loop = record {
-            exist = exist;
-            latches = begin_at_latches es v v leads latch;
+            exist = λ i d within. (latches i d within).0;
+            latches = λ i d within. (latches i d within).2;
             closed = closed_at es v (pairs_join es v v leads latches) positive;
             once = λ i j d lt within.
-                let i_in : i < length es = omega arith in
-                λ e. begin_apart (arcs_of t s) es v leads chain.apart i j d lt within
-                (latch-from t s (get_or es i d) (exist i d i_in) (latches i d i_in) ∙ e ∙ sym (latch-from t s (get_or es j d) (exist j d within) (latches j d within)));
+                let a = latches i d (omega arith) in
+                let b = latches j d within in
+                rw (arc_is t s (get_or es i d) a.0, a.1, arc_is t s (get_or es j d) b.0, b.1) at (begin_apart (arcs_of t s) es v leads chain.apart i j d lt within);
           };
           is_amount = refl;
           above = rw amount positive;

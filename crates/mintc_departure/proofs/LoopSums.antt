@@ -1,5 +1,5 @@
 -- the sum round a loop, which has few pairs
-use Rattle.std.proofs.Common.{◌≡◌, ◌≢◌, ℕ, ◌+◌, ◌<◌, ◌≤◌, ℤ, ◌+ℤ◌, ◌*◌, List, [], ◌∷◌, length, get_or, take, map, arith, sym, ap, ◌∙◌, SFits, w64, to_z, of_z}
+use Rattle.std.proofs.Common.{◌≡◌, ◌≢◌, ℕ, ◌+◌, ◌<◌, ◌≤◌, ℤ, ◌+ℤ◌, ◌*◌, List, length, get_or, take, map, arith, sym, ap, ◌∙◌, SFits, w64, to_z, of_z}
 use Rattle.std.specs.List.{All, AllPairs}
 use Rattle.std.proofs.lemmas.Int.{ints, to_z-of_z}
 use Rattle.std.proofs.lemmas.Bool.Decides.{Decides-eqb}
@@ -13,7 +13,7 @@ use Rattle.mintc_timing.specs.Design.{Timing, element_count, pair_at, no_pair}
 use Rattle.mintc_timing.specs.Limits.{IsTime}
 use Rattle.mintc_timing.specs.Paths.{HasExtremes}
 use Rattle.mintc_timing.specs.Violations.{IsLoop}
-use Rattle.mintc_rings.proofs.SharedRingLaws.{total-append}
+use Rattle.mintc_rings.proofs.SharedRingLaws.{total-push}
 use Rattle.mintc_timing.proofs.SharedFitting.{read_time}
 
 -- numbers below n, no two of them equal, are at most n
@@ -45,17 +45,14 @@ few_pairs t loop extremes ring = let few = few_distinct (element_count t.flat) (
 
 -- the sum with one more number, as at a turn of a loop
 pub total-more : (f : ℕ → ℤ) (xs : List ℕ) (i d : ℕ) → i < length xs → total f (take (i + 1) xs) ≡ total f (take i xs) +ℤ f (get_or xs i d)
-total-more f xs i d h = ap (total f) (take_more xs i d h) ∙ total-append f (take i xs) (get_or xs i d ∷ []) ∙ last (total f (take i xs)) (f (get_or xs i d))
-  where
-    last : (x y : ℤ) → x +ℤ total (λ (z : ℤ). z) (y ∷ []) ≡ x +ℤ y
-    last x y = omega (arith, ints)
+total-more f xs i d h = ap (total f) (take_more xs i d h) ∙ total-push f (take i xs) (get_or xs i d)
 
 -- a sum of fewer than 2,000 times, and one more
 pub sum-within : (i : ℕ) (x y : ℤ) → IsWithin (i * 1000000000000000) x → IsTime y → IsWithin ((i + 1) * 1000000000000000) (x +ℤ y)
-sum-within i x y h k = let a = h.0 in let b = h.1 in let c = k.0 in let d = k.1 in (omega (arith, ints), omega (arith, ints))
+sum-within i x y h k = (omega (arith, ints), omega (arith, ints))
 
 pub sum-fits : (i : ℕ) (x y : ℤ) → i < 2000 → IsWithin (i * 1000000000000000) x → IsTime y → SFits w64 (x +ℤ y)
-sum-fits i x y lt h k = let a = h.0 in let b = h.1 in let c = k.0 in let d = k.1 in omega (arith, ints)
+sum-fits i x y lt h k = omega (arith, ints)
 
 pub read_sum : (i : ℕ) (x y : ℤ) → i < 2000 → IsWithin (i * 1000000000000000) x → IsTime y → to_z w64 (of_z w64 (x +ℤ to_z w64 (of_z w64 y))) ≡ x +ℤ y
 read_sum i x y lt h k = ap (λ z. to_z w64 (of_z w64 (x +ℤ z))) (read_time y k) ∙ to_z-of_z w64 (x +ℤ y) (sum-fits i x y lt h k)

@@ -1,12 +1,13 @@
 -- by how much outputs are early, which falls with each round
 use Rattle.std.proofs.Common.{◌≡◌, ◌≢◌, ℕ, zero, suc, ◌+◌, ◌<◌, ◌≤◌, ℤ, pos, negsuc, ◌+ℤ◌, ◌-ℤ◌, ◌*ℤ◌, ◌≤ℤ◌, ◌<ℤ◌, List, arith, sym, ◌∙◌, ⊎_elim}
-use Rattle.std.proofs.lemmas.Int.{ints, by_lt_z}
+use Rattle.std.proofs.lemmas.Int.{ints}
+use Rattle.std.proofs.lemmas.Bool.{cases_lt}
 use Rattle.mintc_timing.specs.declared.clocking.Schedule.{Schedule}
 use Rattle.mintc_timing.specs.Design.{Timing, element_at, element_count}
 use Rattle.mintc_timing.specs.Departures.{departure, early_departure}
 use Rattle.mintc_departure.specs.Rounds.{AreRising}
 use Rattle.mintc_departure.proofs.EarlyLaws.{IsRound}
-use Rattle.mintc_departure.proofs.SharedSizes.{below_or_not}
+use Rattle.mintc_departure.proofs.SweepLaws.{strictly}
 
 -- a number that is not negative, and 0 for any other
 abbrev pub count_of : ℤ → ℕ
@@ -14,15 +15,10 @@ count_of (pos n) = n
 count_of (negsuc n) = 0
 
 count-mono : (x y : ℤ) → x ≤ℤ y → count_of x ≤ count_of y
-count-mono (pos n) (pos m) h = omega (arith, ints)
-count-mono (pos n) (negsuc m) h = absurd (omega (arith, ints))
-count-mono (negsuc n) (pos m) h = omega arith
-count-mono (negsuc n) (negsuc m) h = omega arith
+count-mono x y h = grind (arith, ints)
 
 count-falls : (x y : ℤ) → pos 0 ≤ℤ x → x <ℤ y → count_of x < count_of y
-count-falls (pos n) (pos m) p h = omega (arith, ints)
-count-falls (pos n) (negsuc m) p h = absurd (omega (arith, ints))
-count-falls (negsuc n) y p h = absurd (omega (arith, ints))
+count-falls x y p h = grind (arith, ints)
 
 -- by how much the first n outputs are early, added up
 abbrev pub missing : Timing → Schedule → List ℤ → List ℤ → ℕ → ℕ
@@ -60,7 +56,7 @@ module _ (t : Timing) (s : Schedule) (late d e : List ℤ) where
       let up_here : departure d n <ℤ departure e n = rw is up in
       let one = count-falls new old (omega (arith, ints)) (omega (arith, ints)) in
       omega arith)
-      (below_or_not j n)
+      (cases_lt j n)
 
 -- A round that changes something leaves less to rise.
 pub round-falls : (t : Timing) (s : Schedule) (late d e : List ℤ) → AreRising t s late d → AreRising t s late e → IsRound t s d e →
@@ -69,7 +65,4 @@ round-falls t s late d e old new round changed =
     let j = changed.0 in
     let rose : departure d j ≤ℤ departure e j = rw (round j changed.1) (old.rises j changed.1) in
     let other : departure d j ≡ departure e j → ⊥ = λ same. changed.2 (sym (round j changed.1) ∙ sym same) in
-    missing-falls t s late d e (element_count t.flat) j (λ l h. rw (round l h) (old.rises l h)) new.before changed.1 (strict _ _ rose other)
-  where
-    strict : (x y : ℤ) → x ≤ℤ y → (x ≡ y → ⊥) → x <ℤ y
-    strict x y h ne = by_lt_z x y (λ k. k) (λ k. absurd (ne (omega (arith, ints))))
+    missing-falls t s late d e (element_count t.flat) j (λ l h. rw (round l h) (old.rises l h)) new.before changed.1 (strictly _ _ rose other)

@@ -1,10 +1,9 @@
 -- the greatest walks of the network are the late departures
-use Rattle.std.proofs.Common.{◌≡◌, ℕ, ◌<◌, ◌^◌, ℤ, pos, negsuc, ◌+ℤ◌, ◌≤ℤ◌, ◌==◌, Bool, true, false, cond, List, [], length, get_or, map, arith, refl, sym, ap, ◌∙◌, ◌⊎◌, inl, inr, ⊎_elim, eq-eqb, Option, subst}
+use Rattle.std.proofs.Common.{◌≡◌, ℕ, ◌<◌, ◌^◌, ℤ, pos, negsuc, ◌+ℤ◌, ◌≤ℤ◌, ◌==◌, Bool, true, false, List, [], length, get_or, map, arith, refl, sym, ap, ◌∙◌, ◌⊎◌, inl, inr, ⊎_elim, eq-eqb, Option}
 use Rattle.std.proofs.lemmas.Int.{ints}
 use Rattle.std.proofs.lemmas.Bool.{cases_Bool, eqb-true}
 use Rattle.std.proofs.lemmas.List.{get_or-map, length-map, get_or_default}
 use Rattle.std.specs.List.{All, filter}
-use Rattle.mintc_walks.specs.declared.network.Arc.{Arc}
 use Rattle.mintc_walks.specs.Bounds.{IsWithin, AreBounded, AreOrdinary}
 use Rattle.mintc_walks.specs.Walks.{arc_at, value_at, IsStart, IsReached}
 use Rattle.mintc_walks.specs.Answers.{Meets, HasGreatest}
@@ -63,43 +62,22 @@ module _ (t : Timing) (s : Schedule) where
   pub arc_is : (n : ℕ) → n < length t.pairs → arc_at (arcs_of t s) n ≡ arc_of t.flat s (pair_at t n)
   arc_is n h = get_or-map (arc_of t.flat s) t.pairs n no_pair (record { from = 0; to = 0; weight = pos 0 }) h
 
-  pub to_is : (n : ℕ) → n < length t.pairs → (arc_at (arcs_of t s) n).to ≡ (pair_at t n).to
-  to_is n h = ap (λ (a : Arc). a.to) (arc_is n h)
-
-  pub latch-from : (n : ℕ) → n < length t.pairs → (element_at t.flat (pair_at t n).to).flop ≡ false → (arc_at (arcs_of t s) n).from ≡ (pair_at t n).from
-  latch-from n h e = ap (λ (a : Arc). a.from) (arc_is n h) ∙ ap (λ (b : Bool). cond b (pair_at t n).to (pair_at t n).from) e
-
-  pub latch-weight : (n : ℕ) → n < length t.pairs → (element_at t.flat (pair_at t n).to).flop ≡ false → (arc_at (arcs_of t s) n).weight ≡ late_travel t.flat s (pair_at t n)
-  latch-weight n h e = ap (λ (a : Arc). a.weight) (arc_is n h) ∙ ap (λ (b : Bool). cond b (negsuc 0) (late_travel t.flat s (pair_at t n))) e
-
-  pub flop-from : (n : ℕ) → n < length t.pairs → (element_at t.flat (pair_at t n).to).flop ≡ true → (arc_at (arcs_of t s) n).from ≡ (pair_at t n).to
-  flop-from n h e = ap (λ (a : Arc). a.from) (arc_is n h) ∙ ap (λ (b : Bool). cond b (pair_at t n).to (pair_at t n).from) e
-
-  pub flop-weight : (n : ℕ) → n < length t.pairs → (element_at t.flat (pair_at t n).to).flop ≡ true → (arc_at (arcs_of t s) n).weight ≡ negsuc 0
-  flop-weight n h e = ap (λ (a : Arc). a.weight) (arc_is n h) ∙ ap (λ (b : Bool). cond b (negsuc 0) (late_travel t.flat s (pair_at t n))) e
-
-  pub start-flop : (l : ℕ) → (element_at t.flat l).flop ≡ true → late_start_of t.flat s l ≡ pos 0
-  start-flop l e = ap (λ (b : Bool). cond b (pos 0) (late_opening t.flat s l)) e
-
-  pub start-latch : (l : ℕ) → (element_at t.flat l).flop ≡ false → late_start_of t.flat s l ≡ late_opening t.flat s l
-  start-latch l e = ap (λ (b : Bool). cond b (pos 0) (late_opening t.flat s l)) e
-
   -- Exact departures meet the arcs, and are nowhere below a start.
   module _ (d : List ℤ) (exact : AreExact t s d) (extremes : All (HasExtremes t.flat) t.pairs) where
     pub exact-meets : Meets (arcs_of t s) (departure d)
     exact-meets n h' =
         let h : n < length t.pairs = rw arcs-count at h' in
         ⊎_elim
-        (λ e. rw (flop-from n h e, flop-weight n h e, to_is n h) (omega (arith, ints)))
-        (λ e. let a = arrival-at_most t s d exact extremes n no_pair h e in rw (latch-from n h e, latch-weight n h e, to_is n h) (omega (arith, ints)))
+        (λ e. rw (arc_is n h) (rw e (omega (arith, ints))))
+        (λ e. let a = arrival-at_most t s d exact extremes n no_pair h e in rw (arc_is n h) (rw e (omega (arith, ints))))
         (cases_Bool (element_at t.flat (pair_at t n).to).flop)
 
     pub exact-starts : (l : ℕ) → l < element_count t.flat → late_start_of t.flat s l ≤ℤ departure d l
     exact-starts l h =
         let is = exact.each l h in
         ⊎_elim
-        (λ e. rw (start-flop l e, is, late_departure-flop t s d l e) (omega (arith, ints)))
-        (λ e. rw (start-latch l e, is, late_departure-latch t s d l e) (greater-least (late_arrival t.flat s d) (λ p. p.to == l) (late_opening t.flat s l) (greatest_of (late_arrivals t s d l))))
+        (λ e. rw is (rw e (omega (arith, ints))))
+        (λ e. rw is (rw e (greater-least (late_arrival t.flat s d) (λ p. p.to == l) (late_opening t.flat s l) (greatest_of (late_arrivals t s d l)))))
         (cases_Bool (element_at t.flat l).flop)
 
 module _ (t : Timing) (s : Schedule) (fits : IsClocked t s) where
@@ -138,39 +116,34 @@ module _ (t : Timing) (s : Schedule) (fits : IsClocked t s) where
       flop_is : (l : ℕ) → l < element_count t.flat → (element_at t.flat l).flop ≡ true → value_at values l ≡ pos 0
       flop_is l h e =
           ⊎_elim
-          (λ a. a.1 ∙ each l h ∙ start-flop t s l e)
+          (λ a. rw e at (a.1 ∙ each l h))
           (λ w.
           let k : w.0 < length t.pairs = rw (arcs-count t s) at w.1 in
-          let to : (pair_at t w.0).to ≡ l = sym (to_is t s w.0 k) ∙ w.2 in
+          let to : (pair_at t w.0).to ≡ l = rw (arc_is t s w.0 k) at w.2 in
           let flop : (element_at t.flat (pair_at t w.0).to).flop ≡ true = ap (λ (m : ℕ). (element_at t.flat m).flop) to ∙ e in
-          let brings = rw (flop-from t s w.0 k flop, flop-weight t s w.0 k flop, to) at w.4 in
+          let brings = rw (arc_is t s w.0 k, flop, to) at w.4 in
           absurd (less-one (value_at values l) brings))
           (g.tight l (rw count h) (reached l h))
 
       met : (n : ℕ) → n < length t.pairs → (element_at t.flat (pair_at t n).to).flop ≡ false → late_arrival t.flat s values (pair_at t n) ≤ℤ value_at values (pair_at t n).to
       met n h latch =
           let ends = pair_ends t s fits n h in
-          let from : IsReached values (arc_at (arcs_of t s) n).from = rw (latch-from t s n h latch) (reached (pair_at t n).from ends.from) in
+          let from : IsReached values (arc_at (arcs_of t s) n).from = rw (arc_is t s n h, latch) (reached (pair_at t n).from ends.from) in
           let m = (g.met n (rw (arcs-count t s) h) from).1 in
-          rw (arrival-is t s values (pair_at t n)) (rw (latch-from t s n h latch, latch-weight t s n h latch, to_is t s n h) at m)
-
-      met_at : (l n : ℕ) → n < length t.pairs → (pair_at t n).to ≡ l → (element_at t.flat l).flop ≡ false → late_arrival t.flat s values (pair_at t n) ≤ℤ value_at values l
-      met_at l n h to e =
-          let P : ℕ → Type 0 = λ m. late_arrival t.flat s values (pair_at t n) ≤ℤ value_at values m in
-          subst P to (met n h (ap (λ (m : ℕ). (element_at t.flat m).flop) to ∙ e))
+          rw (arrival-is t s values (pair_at t n)) (rw (arc_is t s n h, latch) at m)
 
       latch_is : (l : ℕ) → l < element_count t.flat → (element_at t.flat l).flop ≡ false → value_at values l ≡ greater_of (late_opening t.flat s l) (greatest_of (late_arrivals t s values l))
       latch_is l h e =
           greater-is (late_arrival t.flat s values) (λ (p : Pair). p.to == l) t.pairs no_pair (late_opening t.flat s l) (value_at values l)
-          (rw (start-latch t s l e) at (above_start l h))
-          (λ n k to. met_at l n k (eqb-true _ _ to) e)
+          (rw e at (above_start l h))
+          (λ n k to. let is = eqb-true _ _ to in rw (← is) (met n k (rw is e)))
           (⊎_elim
-          (λ a. inl (a.1 ∙ each l h ∙ start-latch t s l e))
+          (λ a. inl (rw e at (a.1 ∙ each l h)))
           (λ w.
           let k : w.0 < length t.pairs = rw (arcs-count t s) at w.1 in
-          let to : (pair_at t w.0).to ≡ l = sym (to_is t s w.0 k) ∙ w.2 in
+          let to : (pair_at t w.0).to ≡ l = rw (arc_is t s w.0 k) at w.2 in
           let latch : (element_at t.flat (pair_at t w.0).to).flop ≡ false = ap (λ (m : ℕ). (element_at t.flat m).flop) to ∙ e in
-          let brings = rw (latch-from t s w.0 k latch, latch-weight t s w.0 k latch) at w.4 in
+          let brings = rw (arc_is t s w.0 k, latch) at w.4 in
           inr (w.0, k, eq-eqb _ _ to, brings ∙ sym (arrival-is t s values (pair_at t w.0))))
           (g.tight l (rw count h) (reached l h)))
 

@@ -1,11 +1,11 @@
 -- what a search of the network gives, as departures or as a loop
-use Rattle.std.proofs.Common.{◌≡◌, ℕ, ◌<◌, ℤ, pos, List, length, take, arith, subst}
+use Rattle.std.proofs.Common.{◌≡◌, ℕ, ◌<◌, ℤ, pos, List, length, arith}
 use Rattle.std.proofs.lemmas.Int.{ints}
 use Rattle.std.proofs.lemmas.List.{take_all}
 use Rattle.std.proofs.lemmas.List.Elements.{All-from_get_or}
 use Rattle.std.specs.List.{All}
 use Rattle.mintc_walks.specs.Walks.{value_at}
-use Rattle.mintc_walks.specs.Answers.{IsPositiveChain, HasGreatest, HasChain}
+use Rattle.mintc_walks.specs.Answers.{HasGreatest, HasChain}
 use Rattle.mintc_timing.specs.declared.clocking.Schedule.{Schedule}
 use Rattle.mintc_timing.specs.Design.{Timing, element_count}
 use Rattle.mintc_timing.specs.Departures.{departure, AreExact, AreLate}
@@ -30,6 +30,4 @@ module _ (t : Timing) (s : Schedule) (fits : IsClocked t s) (starts : List ℤ) 
   pub loop-from_walk : (chain : List ℕ) (len : ℕ) → length chain ≡ len → HasChain (arcs_of t s) starts chain len →
       ((amount : ℤ) × HasLoop t s chain amount) × ((d : List ℤ) → AreExact t s d → ⊥)
   loop-from_walk chain len whole h =
-      let all : take len chain ≡ chain = take_all len chain (omega arith) in
-      let P : List ℕ → Type 0 = λ es. IsPositiveChain (arcs_of t s) es in
-      (loop-from_chain t s chain (subst P all h.positive), λ d exact. h.unmet (departure d) (exact-meets t s d exact fits.timing.extremes.each))
+      (loop-from_chain t s chain (rw (take_all len chain (omega arith)) at h.positive), λ d exact. h.unmet (departure d) (exact-meets t s d exact fits.timing.extremes.each))

@@ -4,6 +4,7 @@ use Rattle.std.proofs.lemmas.Int.{ints, clamps, by_lt_z}
 use Rattle.std.specs.List.{filter}
 use Rattle.std.specs.Int.{int_min}
 use Rattle.mintc_timing.specs.Extremes.{lesser_of, least_of, greater_of}
+use Rattle.mintc_departure.specs.declared.arrivals.TheConstants.{NEVER}
 use Rattle.mintc_departure.specs.Rounds.{IsArrivalSum, IsFirst}
 
 -- one more number at the end
@@ -12,8 +13,7 @@ least_of-push [] y = refl
 least_of-push (x ∷ xs) y = ap (λ o. Some (lesser_of x o)) (least_of-push xs y) ∙ ap Some (turn x y (least_of xs))
   where
     turn : (x y : ℤ) (o : Option ℤ) → int_min x (lesser_of y o) ≡ int_min y (lesser_of x o)
-    turn x y None = omega (arith, ints, clamps)
-    turn x y (Some z) = omega (arith, ints, clamps)
+    turn x y o = grind (arith, ints, clamps)
 
 min_is : (x y : ℤ) → (int_min x y ≡ x) ⊎ (int_min x y ≡ y)
 min_is x y = by_lt_z x y (λ h. inl (omega (arith, ints, clamps))) (λ h. inr (omega (arith, ints, clamps)))
@@ -26,24 +26,13 @@ IsNoLater (Some x) None = ⊥
 IsNoLater (Some x) (Some y) = x ≤ℤ y
 
 lesser-mono : (x y : ℤ) (o p : Option ℤ) → x ≤ℤ y → IsNoLater o p → lesser_of x o ≤ℤ lesser_of y p
-lesser-mono x y None None h k = h
-lesser-mono x y None (Some b) h k = absurd k
-lesser-mono x y (Some a) None h k = absurd k
-lesser-mono x y (Some a) (Some b) h k = omega (arith, ints, clamps)
+lesser-mono x y o p h k = grind (arith, ints, clamps)
 
 pub greater-mono : (b : ℤ) (o p : Option ℤ) → IsNoLater o p → greater_of b o ≤ℤ greater_of b p
-greater-mono b None None k = omega (arith, ints)
-greater-mono b None (Some y) k = absurd k
-greater-mono b (Some x) None k = absurd k
-greater-mono b (Some x) (Some y) k = omega (arith, ints, clamps)
+greater-mono b o p k = grind (arith, ints, clamps)
 
 pub greater-from : (b : ℤ) (o : Option ℤ) → b ≤ℤ greater_of b o
-greater-from b None = omega (arith, ints)
-greater-from b (Some x) = omega (arith, ints, clamps)
-
-pub greater-one : (b : ℤ) (o : Option ℤ) → (greater_of b o ≡ b) ⊎ ((a : ℤ) × (o ≡ Some a) × (greater_of b o ≡ a))
-greater-one b None = inl refl
-greater-one b (Some x) = by_lt_z b x (λ h. inr (x, refl, omega (arith, ints, clamps))) (λ h. inl (omega (arith, ints, clamps)))
+greater-from b o = grind (arith, ints, clamps)
 
 module _ {X : Type 0} where
   -- the least of greater numbers is no less
@@ -76,8 +65,18 @@ module _ {X : Type 0} (f : X → ℤ) (test : X → Bool) (d : X) where
   least-some [] = inl refl
   least-some (x ∷ xs) = some-step x xs (test x) refl (least-some xs)
 
+  -- so what is at least b is b, or that of some item
+  pub greater-some : (b : ℤ) (xs : List X) → (greater_of b (least_of (map f (filter test xs))) ≡ b)
+      ⊎ ((n : ℕ) × (n < length xs) × (test (get_or xs n d) ≡ true) × (greater_of b (least_of (map f (filter test xs))) ≡ f (get_or xs n d)))
+  greater-some b xs = ⊎_elim
+      (λ none. inl (rw none refl))
+      (λ w. rw w.3 (by_lt_z b (f (get_or xs w.0 d)) (λ h. inr (w.0, w.1, w.2, omega (arith, ints, clamps))) (λ h. inl (omega (arith, ints, clamps)))))
+      (least-some xs)
+
 -- an arrival more
 pub first-more : (o : Option ℤ) (v y : ℤ) → IsArrivalSum y → IsFirst o v → IsFirst (Some (lesser_of y o)) (int_min y v)
-first-more None v y r is = let a = r.0 in let b = r.1 in (omega (arith, ints, clamps), r)
-first-more (Some a) v y r is =
-    (omega (arith, ints, clamps), (omega (arith, ints, clamps), omega (arith, ints, clamps)))
+first-more o v y r is = (grind (arith, ints, clamps), (grind (arith, ints, clamps), grind (arith, ints, clamps)))
+
+-- what is found where a number stands for it
+pub first-some : (o : Option ℤ) (first : ℤ) → IsFirst o first → (first ≡ NEVER → ⊥) → o ≡ Some first
+first-some o first is ne = grind arith

@@ -1,5 +1,5 @@
 -- a schedule breaks nothing exactly where it is right and keeps every hold
-use Rattle.std.proofs.Common.{◌≡◌, ℕ, ◌+◌, ◌-◌, ◌<◌, ◌≤◌, ℤ, pos, ◌≤ℤ◌, ◌+ℤ◌, ◌-ℤ◌, ◌*ℤ◌, Bool, true, false, List, [], ◌∷◌, ◌++◌, map, Option, Some, None, IfSome, MatchBool, IsTrue, ◌↔◌, inl, inr, arith, refl, sym, ◌∙◌, subst, option_map}
+use Rattle.std.proofs.Common.{◌≡◌, ℕ, ◌+◌, ◌-◌, ◌<◌, ◌≤◌, ℤ, pos, ◌≤ℤ◌, ◌+ℤ◌, ◌-ℤ◌, ◌*ℤ◌, Bool, List, [], ◌∷◌, ◌++◌, map, Option, IfSome, MatchBool, IsTrue, ◌↔◌, inl, inr, arith, refl, sym, ◌∙◌, option_map}
 use Rattle.std.proofs.lemmas.Int.{ints, clamps}
 use Rattle.std.specs.Int.{int_max}
 use Rattle.std.specs.List.{All, enumerate_from, filter_map, range_with_len}
@@ -48,15 +48,6 @@ rule-kept rule x y n =
     )
 
 module _ (t : Timing) (s : Schedule) where
-  -- what a schedule keeps that fails no check of the clock and the bounds
-  record Keeps : Type 0 where
-    cycle : (p : ℕ) → 1 ≤ p → p ≤ phase_count t.flat → start_of s p ≤ℤ s.cycle
-    order : (p : ℕ) → 1 ≤ p → p < phase_count t.flat → start_of s p ≤ℤ start_of s (p + 1)
-    span : (p : ℕ) → 1 ≤ p → p ≤ phase_count t.flat → width_of s p ≤ℤ s.cycle
-    wide : (p : ℕ) → 1 ≤ p → p ≤ phase_count t.flat → (least_width t.flat p *ℤ s.den) ≤ℤ width_of s p
-    apart : (i : ℕ) → 1 ≤ i → i ≤ phase_count t.flat → EachPhase t.flat (KeepsApart t s i)
-    bounds : All (KeepsBound s) t.flat.bounds
-
   aparts-kept : (failed (apart_checks t s) ≡ []) ↔ ((i : ℕ) → 1 ≤ i → i ≤ phase_count t.flat → EachPhase t.flat (KeepsApart t s i))
   aparts-kept =
       let all = kept-flat (fed_checks t s) (phases_of t.flat) in
@@ -68,8 +59,8 @@ module _ (t : Timing) (s : Schedule) where
         (λ h. all.1 (each.1 (λ i low high. (one i).1 ((some i).1 (λ j low' high' fed. (move i j).1 (h i low (omega arith) j low' (omega arith) fed)))))),
       )
 
-  clock-kept : (failed (clock_checks t s) ≡ []) ↔ Keeps
-  clock-kept =
+  clock-kept : IsOfPhases t.flat s → (failed (clock_checks t s) ≡ []) ↔ (KeepsClock t s × All (KeepsBound s) t.flat.bounds)
+  clock-kept plain =
       let n : ℕ = phase_count t.flat in
       let cycle = rule-kept (λ p. broken.Cycle p) (start_of s) (λ p. s.cycle) n in
       let order = rule-kept (λ p. broken.Order p) (start_of s) (λ p. start_of s (p + 1)) (n - 1) in
@@ -87,52 +78,40 @@ module _ (t : Timing) (s : Schedule) where
             let c = four.0 d.0 in
             let b = three.0 c.0 in
             let a = two.0 b.0 in
-            record { cycle = cycle.0 a.0; order = λ p low high. order.0 a.1 p low (omega arith); span = span.0 b.1; wide = wide.0 c.1; apart = aparts-kept.0 d.1; bounds = bounds.0 f.1 }),
+            let clock : KeepsClock t s = record {
+              den = plain.den;
+              starts = plain.starts;
+              widths = plain.widths;
+              each = λ p low high. record {
+                start = (plain.from_zero (p - 1) (pos 0) (let count = plain.starts in omega arith), cycle.0 a.0 p low high);
+                span = (plain.not_negative (p - 1) (pos 0) (let count = plain.widths in omega arith), span.0 b.1 p low high);
+                order = λ next. order.0 a.1 p low (omega arith);
+                wide = wide.0 c.1 p low high;
+                apart = aparts-kept.0 d.1 p low high;
+              };
+            } in
+            (clock, bounds.0 f.1)),
         (λ k.
-            let orders = order.1 (λ p low high. k.order p low (omega arith)) in
-            six.1 (five.1 (four.1 (three.1 (two.1 (cycle.1 k.cycle, orders), span.1 k.span), wide.1 k.wide), aparts-kept.1 k.apart), bounds.1 k.bounds)),
+            let each = k.0.each in
+            let cycles = cycle.1 (λ p low high. (each p low high).start.1) in
+            let orders = order.1 (λ p low high. (each p low (omega arith)).order (omega arith)) in
+            let spans = span.1 (λ p low high. (each p low high).span.1) in
+            let widths = wide.1 (λ p low high. (each p low high).wide) in
+            six.1 (five.1 (four.1 (three.1 (two.1 (cycles, orders), spans), widths), aparts-kept.1 (λ i low high. (each i low high).apart)), bounds.1 k.1)),
       )
 
-  clock-from_keeps : IsOfPhases t.flat s → Keeps → KeepsClock t s
-  clock-from_keeps plain k = record {
-    den = plain.den;
-    starts = plain.starts;
-    widths = plain.widths;
-    each = λ p low high. record {
-      start = (plain.from_zero (p - 1) (pos 0) (let count = plain.starts in omega arith), k.cycle p low high);
-      span = (plain.not_negative (p - 1) (pos 0) (let count = plain.widths in omega arith), k.span p low high);
-      order = λ next. k.order p low next;
-      wide = k.wide p low high;
-      apart = k.apart p low high;
-    };
-  }
-
-  keeps-from_clock : KeepsClock t s → All (KeepsBound s) t.flat.bounds → Keeps
-  keeps-from_clock k bounds = record {
-    cycle = λ p low high. (k.each p low high).start.1;
-    order = λ p low high. (k.each p low (omega arith)).order high;
-    span = λ p low high. (k.each p low high).span.1;
-    wide = λ p low high. (k.each p low high).wide;
-    apart = λ i low high. (k.each i low high).apart;
-    bounds = bounds;
-  }
-
-  elements-kept : (amount : ℕ → Option ℤ) (constraint : ℕ → Broken) →
-      (failed (filter_map (λ l. option_map (check (constraint l)) (amount l)) (elements_of t.flat)) ≡ []) ↔ ((l : ℕ) → l < element_count t.flat → IfSome (amount l) (λ x. x ≤ℤ pos 0))
-  elements-kept amount constraint =
+  elements-kept : (amount : ℕ → Option ℤ) (constraint : ℕ → Broken) (P : ℕ → Type 0) → ((l : ℕ) → P l ↔ IfSome (amount l) (λ x. x ≤ℤ pos 0)) →
+      (failed (filter_map (λ l. option_map (check (constraint l)) (amount l)) (elements_of t.flat)) ≡ []) ↔ ((l : ℕ) → l < element_count t.flat → P l)
+  elements-kept amount constraint P have =
       let each = kept-optional constraint amount (elements_of t.flat) in
       let all = on_range (λ l. IfSome (amount l) (λ x. x ≤ℤ pos 0)) 0 (element_count t.flat) in
-      ((λ e l h. all.0 (each.0 e) l (omega arith) (omega arith)), (λ h. each.1 (all.1 (λ l low high. h l (omega arith)))))
+      ((λ e l h. (have l).1 (all.0 (each.0 e) l (omega arith) (omega arith))), (λ h. each.1 (all.1 (λ l low high. (have l).0 (h l (omega arith))))))
 
   setups-kept : (late : List ℤ) → (failed (setup_checks t s late) ≡ []) ↔ ((l : ℕ) → l < element_count t.flat → KeepsSetup t s late l)
-  setups-kept late =
-      let all = elements-kept (setup_amount t s late) (λ l. broken.Setup l) in
-      ((λ e l h. (setups_have_amounts_lem t s late l).1 (all.0 e l h)), (λ h. all.1 (λ l lt. (setups_have_amounts_lem t s late l).0 (h l lt))))
+  setups-kept late = elements-kept (setup_amount t s late) (λ l. broken.Setup l) (KeepsSetup t s late) (setups_have_amounts_lem t s late)
 
   holds-kept : (early : List ℤ) → (failed (hold_checks t s early) ≡ []) ↔ ((l : ℕ) → l < element_count t.flat → KeepsHold t s early l)
-  holds-kept early =
-      let all = elements-kept (hold_amount t s early) (λ l. broken.Hold l) in
-      ((λ e l h. (holds_have_amounts_lem t s early l).1 (all.0 e l h)), (λ h. all.1 (λ l lt. (holds_have_amounts_lem t s early l).0 (h l lt))))
+  holds-kept early = elements-kept (hold_amount t s early) (λ l. broken.Hold l) (KeepsHold t s early) (holds_have_amounts_lem t s early)
 
   -- Departures that are nowhere later keep each setup that is kept.
   later-arrival : (d e : List ℤ) (p : Pair) → departure d p.from ≤ℤ departure e p.from → late_arrival t.flat s d p ≤ℤ late_arrival t.flat s e p
@@ -141,10 +120,7 @@ module _ (t : Timing) (s : Schedule) where
   setup-kept : (flop : Bool) (o p : Option ℤ) (setup x y width : ℤ) → IsNoLater o p → x ≤ℤ y →
       MatchBool flop (IfSome p (λ a. (a +ℤ setup) ≤ℤ pos 0)) ((int_max (pos 0) y +ℤ setup) ≤ℤ width) →
       MatchBool flop (IfSome o (λ a. (a +ℤ setup) ≤ℤ pos 0)) ((int_max (pos 0) x +ℤ setup) ≤ℤ width)
-  setup-kept true None p setup x y width n h k = tt
-  setup-kept true (Some a) None setup x y width n h k = absurd n
-  setup-kept true (Some a) (Some b) setup x y width n h k = omega (arith, ints)
-  setup-kept false o p setup x y width n h k = omega (arith, ints, clamps)
+  setup-kept flop o p setup x y width n h k = grind (arith, ints, clamps)
 
   KeepsSetup-mono : (d e : List ℤ) → ((l : ℕ) → departure d l ≤ℤ departure e l) → (l : ℕ) → KeepsSetup t s e l → KeepsSetup t s d l
   KeepsSetup-mono d e h l =
@@ -158,19 +134,19 @@ module _ (t : Timing) (s : Schedule) where
   pass-from_none plain late early are_late are_early e =
       let b = (kept-append (clock_checks t s ++ setup_checks t s late) (hold_checks t s early)).0 e in
       let a = (kept-append (clock_checks t s) (setup_checks t s late)).0 b.0 in
-      let k = clock-kept.0 a.0 in (
-        (late, record { clock = clock-from_keeps plain k; bounds = k.bounds; exact = are_late.exact; setup = (setups-kept late).0 a.1 }),
+      let k = (clock-kept plain).0 a.0 in (
+        (late, record { clock = k.0; bounds = k.1; exact = are_late.exact; setup = (setups-kept late).0 a.1 }),
         (early, are_early, (holds-kept early).0 b.1),
       )
 
-  none-from_pass : (late early : List ℤ) → AreLate t s late → AreEarly t s early → IsPass t s → failed (all_checks late early) ≡ []
-  none-from_pass late early are_late are_early pass =
+  none-from_pass : IsOfPhases t.flat s → (late early : List ℤ) → AreLate t s late → AreEarly t s early → IsPass t s → failed (all_checks late early) ≡ []
+  none-from_pass plain late early are_late are_early pass =
       let right : IsRight t s pass.0.0 = pass.0.1 in
       let below : (l : ℕ) → departure late l ≤ℤ departure pass.0.0 l = everywhere t s late pass.0.0 are_late.exact.count right.exact.count (are_late.least pass.0.0 right.exact) in
-      let clock = clock-kept.1 (keeps-from_clock right.clock right.bounds) in
+      let clock = (clock-kept plain).1 (right.clock, right.bounds) in
       let setups = (setups-kept late).1 (λ l h. KeepsSetup-mono late pass.0.0 below l (right.setup l h)) in
       let same : pass.1.0 ≡ early = early_are_determined_lem t s pass.1.0 early pass.1.1 are_early in
-      let holds = (holds-kept early).1 (λ l h. let P : List ℤ → Type 0 = λ d. KeepsHold t s d l in subst P same (pass.1.2 l h)) in
+      let holds = (holds-kept early).1 (λ l h. rw same at (pass.1.2 l h)) in
       (kept-append (clock_checks t s ++ setup_checks t s late) (hold_checks t s early)).1 ((kept-append (clock_checks t s) (setup_checks t s late)).1 (clock, setups), holds)
 
 no_end : {X : Type 0} (xs : List X) (x : X) (ys : List X) → ys ≡ xs ++ x ∷ [] → ys ≡ [] → ⊥
@@ -183,7 +159,7 @@ pass_means_right_lem t s vs pairs plain (inl h) = (
 )
 pass_means_right_lem t s vs pairs plain (inr h) = (
   (λ e. pass-from_none t s plain h.1.0 h.1.1 h.1.2 h.1.3 (sym h.1.4 ∙ e)),
-  (λ pass. h.1.4 ∙ none-from_pass t s h.1.0 h.1.1 h.1.2 h.1.3 pass),
+  (λ pass. h.1.4 ∙ none-from_pass t s plain h.1.0 h.1.1 h.1.2 h.1.3 pass),
 )
 
 pub pass_is_right_with_late_lem : PassIsRightWithLate
@@ -192,4 +168,4 @@ pass_is_right_with_late_lem t s late pairs plain (inl h) is =
     absurd (no_end (failed (clock_checks t s)) (check (broken.Loop h.0) h.1) [] h.3 refl)
 pass_is_right_with_late_lem t s late pairs plain (inr h) is =
     let pass = pass-from_none t s plain h.1.0 h.1.1 h.1.2 h.1.3 (sym h.1.4) in
-    subst (λ (d : List ℤ). IsRight t s d) (late_are_determined_lem t s h.1.0 late h.1.2 is) pass.0.1
+    rw (late_are_determined_lem t s h.1.0 late h.1.2 is) at pass.0.1

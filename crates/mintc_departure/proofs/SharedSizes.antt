@@ -1,7 +1,7 @@
 -- the sizes of delays, travels and starts
-use Rattle.std.proofs.Common.{ℕ, zero, suc, ◌-◌, ◌<◌, ◌≤◌, ℤ, pos, ◌+ℤ◌, ◌-ℤ◌, ◌*ℤ◌, ◌≤ℤ◌, List, [], ◌∷◌, length, get_or, arith, ◌⊎◌, inl, inr, ⊎_elim}
+use Rattle.std.proofs.Common.{ℕ, ◌-◌, ◌<◌, ℤ, pos, ◌+ℤ◌, ◌-ℤ◌, ◌*ℤ◌, ◌≤ℤ◌, List, [], ◌∷◌, length, get_or, arith, ⊎_elim}
 use Rattle.std.proofs.lemmas.Int.{ints}
-use Rattle.std.proofs.lemmas.Bool.{cases_Bool}
+use Rattle.std.proofs.lemmas.Bool.{cases_Bool, cases_lt}
 use Rattle.mintc_walks.specs.Bounds.{IsWithin}
 use Rattle.mintc_walks.proofs.SharedWithin.{IsWithin-product}
 use Rattle.mintc_timing.specs.declared.clocking.Schedule.{Schedule}
@@ -17,12 +17,6 @@ use Rattle.mintc_timing.proofs.SharedRanges.{pair-max_range}
 use Rattle.mintc_timing.proofs.SharedShifts.{shift-below, shift-not_below}
 use Rattle.mintc_departure.specs.Clocked.{IsClocked}
 use Rattle.mintc_departure.specs.Networks.{late_start_of, late_travel, arc_of}
-
-pub below_or_not : (i j : ℕ) → (i < j) ⊎ (j ≤ i)
-below_or_not zero zero = inr (omega arith)
-below_or_not zero (suc j) = inl (omega arith)
-below_or_not (suc i) zero = inr (omega arith)
-below_or_not (suc i) (suc j) = ⊎_elim (λ h. inl (omega arith)) (λ h. inr (omega arith)) (below_or_not i j)
 
 pub scaled-within : (x den : ℤ) → IsWithin 2000000000 x → IsDenominator den → IsWithin 200000000000000 (x *ℤ den)
 scaled-within x den h d =
@@ -46,7 +40,7 @@ module _ (t : Timing) (s : Schedule) (fits : IsClocked t s) where
       ⊎_elim
       (λ e. rw (shift-below s i j e) (omega (arith, ints), omega (arith, ints)))
       (λ e. rw (shift-not_below s i j e) (omega (arith, ints), omega (arith, ints)))
-      (below_or_not i j)
+      (cases_lt i j)
 
   pub travel-within : (n : ℕ) → n < length t.pairs → IsWithin 400000000000000 (late_travel t.flat s (pair_at t n))
   travel-within n h =

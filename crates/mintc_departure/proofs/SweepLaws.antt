@@ -1,7 +1,7 @@
 -- sweeps over stale elements
 use Rattle.std.proofs.Common.{◌≡◌, ◌≢◌, ℕ, suc, ◌+◌, ◌<◌, ◌≤◌, ◌==◌, ℤ, pos, ◌+ℤ◌, ◌≤ℤ◌, ◌<ℤ◌, Bool, true, false, cond, List, [], ◌∷◌, length, get_or, set, map, arith, refl, sym, ap, ◌∙◌, subst, inl, inr, ⊎_elim, eqb-true, length-set, get_or-set_same, get_or-set_other}
 use Rattle.std.proofs.lemmas.Int.{ints, by_lt_z}
-use Rattle.std.proofs.lemmas.Bool.{cases_eq}
+use Rattle.std.proofs.lemmas.Bool.{cases_eq, cases_lt}
 use Rattle.std.specs.List.{filter}
 use Rattle.mintc_places.specs.Places.{IsIn}
 use Rattle.mintc_timing.specs.declared.parts.Pair.{Pair}
@@ -12,7 +12,6 @@ use Rattle.mintc_timing.specs.Extremes.{greater_of, least_of}
 use Rattle.mintc_departure.specs.Clocked.{IsClocked}
 use Rattle.mintc_departure.specs.Rounds.{early_travel, AreRising, AreSwept}
 use Rattle.mintc_departure.proofs.EarlyLaws.{early-arrival-is, rising-part}
-use Rattle.mintc_departure.proofs.SharedSizes.{below_or_not}
 
 -- Two functions that agree on what passes give the same lists.
 module _ (f g : Pair → ℤ) (test : Pair → Bool) where
@@ -57,28 +56,10 @@ module _ (t : Timing) (s : Schedule) (late : List ℤ) where
         few = rw count few;
       }
 
-  -- by how much departures rise where one of them is written
-  pub written-up : (d e : List ℤ) (n : ℕ) → AreRising t s late d → n < element_count t.flat → e ≡ set d n (early_departure t s d n) →
-      (l : ℕ) → l < element_count t.flat → departure d l ≤ℤ departure e l
-  written-up d e n rising inside write l h =
-      let x = early_departure t s d n in
-      let count = rising.count in
-      ⊎_elim
-      (λ (is : l ≡ n).
-      subst (λ (k : ℕ). departure d k ≤ℤ departure e k) (sym is)
-      (subst (λ z. departure d n ≤ℤ z) (sym (ap (λ (xs : List ℤ). departure xs n) write ∙ get_or-set_same d n x (pos 0) (rw count inside))) (rising.rises n inside)))
-      (λ ne.
-      let other : departure e l ≡ departure d l = ap (λ (xs : List ℤ). departure xs l) write ∙ get_or-set_other d n l x (pos 0) ne in
-      rw other (omega (arith, ints)))
-      (cases_eq l n)
-
   pub written-above : (d e : List ℤ) (n : ℕ) → AreRising t s late d → n < element_count t.flat → e ≡ set d n (early_departure t s d n) → departure d n ≢ early_departure t s d n →
       departure d n <ℤ departure e n
   written-above d e n rising inside write ne =
-      let x = early_departure t s d n in
-      let count = rising.count in
-      let here : departure e n ≡ x = ap (λ (xs : List ℤ). departure xs n) write ∙ get_or-set_same d n x (pos 0) (rw count inside) in
-      subst (λ z. departure d n <ℤ z) (sym here) (strictly _ _ (rising.rises n inside) ne)
+      rw (write, get_or-set_same d n (early_departure t s d n) (pos 0) (rw rising.count inside)) (strictly _ _ (rising.rises n inside) ne)
 
   -- The departures are the early ones where none is stale.
   pub swept-last : (d : List ℤ) (stale : List ℕ) → AreSwept t s late d stale → ((l : ℕ) → l < element_count t.flat → IsIn stale l → ⊥) → AreEarly t s d
@@ -108,11 +89,7 @@ module _ (t : Timing) (s : Schedule) (fits : IsClocked t s)
       }
     where
       at_place : (l : ℕ) → l ≡ n → departure e l ≡ early_departure t s d l
-      at_place l is =
-          let x = early_departure t s d n in
-          let count = swept.rising.count in
-          let here : departure e n ≡ x = ap (λ (xs : List ℤ). departure xs n) write ∙ get_or-set_same d n x (pos 0) (rw count inside) in
-          subst (λ (k : ℕ). departure e k ≡ early_departure t s d k) (sym is) here
+      at_place l is = rw (is, write) (get_or-set_same d n (early_departure t s d n) (pos 0) (rw swept.rising.count inside))
 
       elsewhere : (k : ℕ) → k ≢ n → departure e k ≡ departure d k
       elsewhere k ne = ap (λ (xs : List ℤ). departure xs k) write ∙ get_or-set_other d n k (early_departure t s d n) (pos 0) ne
@@ -127,4 +104,4 @@ none-before at next old new before out only later k lt held =
     (λ (is : k ≡ at). out (subst (λ j. IsIn new j) is held))
     (λ ne. later k (omega arith) lt held)
     (cases_eq k at))
-    (below_or_not k at)
+    (cases_lt k at)

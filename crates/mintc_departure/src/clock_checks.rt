@@ -1,4 +1,6 @@
 //! The list of what a schedule breaks of the clock and the bounds.
+#![tactic(auto, using(crate::proofs::FailedLaws::turns))]
+
 ghost use Rattle.std.specs.Prelude.{◌≡◌, ◌+◌, ◌-◌, ◌*◌, ◌<◌, ◌≤◌, ◌++◌, ◌∷◌, [], ℕ, if◌then◌else◌, map, false, OnOk, length, slice_index_or};
 ghost use Rattle.std.specs.List.{range_with_len};
 ghost use Rattle.mintc_text.specs.declared.limits.TheConstants.{MOST_PHASES};

@@ -1,4 +1,6 @@
 //! What the setups and the holds of the elements ask of a schedule, and by how much it fails.
+#![tactic(auto, using(crate::proofs::FailedLaws::turns))]
+
 ghost use Rattle.std.specs.Prelude.{◌≡◌, ◌<◌, ◌++◌, ◌∷◌, [], ◌⊎◌, ℕ, ℤ, pos, if◌then◌else◌, List, length, filter_map, option_map, IfSome, OnOk};
 ghost use Rattle.mintc_walks.specs.Walks.{value_at};
 ghost use Rattle.mintc_timing.specs.Clocking.{width_of};

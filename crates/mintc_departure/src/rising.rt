@@ -128,11 +128,8 @@ fn sweep(
     let mut changed = false;
     let mut at = stale.next(0);
     while at < count {
-        let rose = touch(clocked, into, out, room, stale, at);
+        changed |= touch(clocked, into, out, room, stale, at);
         at = stale.next(at + 1);
-        if rose {
-            changed = true;
-        }
     }
     changed
 }

@@ -1,7 +1,7 @@
 use Rattle.std.proofs.Common.{sym}
-use Rattle.mintc_checker.proofs.Answering.{optimal_at}
+use Rattle.std.proofs.lemmas.Result.{IfOk-weaker}
 use Rattle.mintc_checker.proofs.examine.Goals as goal
 
 pub returns-clause-optimal : goal.returns-clause-optimal
 returns-clause-optimal c =
-    optimal_at c.args.system.now c.flat.result.now c.args.certificate.now c.examine_flat.result (sym c.flat.ensures) c.pairs-pairs.ensures.kept.extremes c.examine_flat.ensures.optimal
+    IfOk-weaker c.examine_flat.result _ _ (λ v h valid. h valid c.args.system.now (sym c.flat.ensures) c.pairs-pairs.ensures.kept.extremes) c.examine_flat.ensures.optimal

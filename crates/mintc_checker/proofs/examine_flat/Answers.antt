@@ -1,8 +1,7 @@
-use Rattle.mintc_checker.proofs.Answering.{verdict_of, optimal_of}
+use Rattle.std.proofs.lemmas.Result.{IfOk-weaker}
 use Rattle.mintc_checker.proofs.examine_flat.Goals as goal
 
-pub returns-clause-verdict : goal.returns-clause-verdict
-returns-clause-verdict c = verdict_of c.args.flat.now c.args.certificate.now c.judge.result c.judge.ensures
-
 pub returns-clause-optimal : goal.returns-clause-optimal
-returns-clause-optimal c = optimal_of c.args.flat.now c.args.certificate.now c.judge.result c.elements-elements.ensures.kept c.valid_is_optimal.ensures c.judge.ensures
+returns-clause-optimal c =
+    IfOk-weaker c.judge.result _ _
+    (λ v h valid t e are_pairs. c.valid_is_optimal.ensures t c.args.certificate.now (rw e c.elements-elements.ensures.kept) are_pairs (rw valid at (h t e are_pairs))) c.judge.ensures

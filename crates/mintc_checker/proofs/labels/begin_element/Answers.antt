@@ -6,7 +6,6 @@ use Rattle.mintc_checker.proofs.labels.begin_element.Goals as goal
 
 pub returns : goal.returns
 returns c =
-    let kept = c.element.ensures.kept.phase in
     let same : length c.begin.new.labels ≡ length c.args.labels.now = c.begin.auto.labels in
     let phase : (c.element.result.now.phase - 1) + 1 ≡ c.element.result.now.phase = omega arith in
     AreStarts-more c.args.departing.now.flat.now c.args.departing.now.den c.args.departing.now.departures.now c.args.number (c.element.result.now.phase - 1) _ c.args.labels.now c.begin.new.labels

@@ -1,4 +1,4 @@
-use Rattle.std.proofs.Common.{◌≡◌, ◌*ℤ◌, get_or, arith, refl, ◌∙◌}
+use Rattle.std.proofs.Common.{◌≡◌, ◌<◌, ◌*ℤ◌, length, get_or, arith, refl, ◌∙◌}
 use Rattle.mintc_timing.specs.declared.parts.TimingArc.{TimingArc}
 use Rattle.mintc_timing.proofs.SharedFitting.{read_time, IsTime-IsDelay, IsTime-IsDenominator, IsTime-IsModest}
 use Rattle.mintc_checker.specs.Labels.{IsAlong}
@@ -8,15 +8,11 @@ use Rattle.mintc_checker.proofs.labels.carry_arc.Goals as goal
 
 pub carry-requires-clause-from_lanes : goal.carry-requires-clause-from_lanes
 carry-requires-clause-from_lanes c =
-    let count = c.requires.labels.count in
-    let inside = c.arc_at_place-arc.ensures.kept.from in
     AreLanes-from_labels c.args.departing.now.flat.now c.elements-elements.ensures.kept c.args.departing.now.short c.args.departing.now.den c.args.departing.now.departures.now (IsAlong c.args.order.now c.args.place) c.args.labels.now c.args.departing.now.is_den c.args.departing.now.in_range c.requires.labels
     c.arc_at_place-arc.result.from (omega arith)
 
 pub carry-requires-clause-to_lanes : goal.carry-requires-clause-to_lanes
 carry-requires-clause-to_lanes c =
-    let count = c.requires.labels.count in
-    let inside = c.arc_at_place-arc.ensures.kept.to in
     AreLanes-from_labels c.args.departing.now.flat.now c.elements-elements.ensures.kept c.args.departing.now.short c.args.departing.now.den c.args.departing.now.departures.now (IsAlong c.args.order.now c.args.place) c.args.labels.now c.args.departing.now.is_den c.args.departing.now.in_range c.requires.labels
     c.arc_at_place-arc.result.to (omega arith)
 
@@ -27,8 +23,9 @@ returns c =
     let den = c.args.departing.now.den in
     let product : c.scaled.result ≡ arc.max *ℤ den =
     rw (read_time arc.max (IsTime-IsDelay _ c.arc_at_place-arc.ensures.kept.max), read_time den (IsTime-IsDenominator _ c.args.departing.now.is_den)) at c.scaled.ensures.value in
-    let count = c.requires.labels.count in
-    let from_in = c.arc_at_place-arc.ensures.kept.from in
-    let to_in = c.arc_at_place-arc.ensures.kept.to in
+    let is = c.arc_at_place-arc.ensures.value in
+    let from_in : arc.from < length c.args.labels.now = omega arith in
+    let to_in : arc.to < length c.args.labels.now = omega arith in
     carried design den c.args.departing.now.departures.now c.args.order.now c.requires.order c.args.place (get_or c.args.order.now c.args.place 0) c.requires.place refl
-    c.args.labels.now c.carry.new.labels arc c.arc_at_place-arc.ensures.value _ c.carry.auto.labels (omega arith) (omega arith) (read_time c.scaled.result (IsTime-IsModest _ c.scaled.ensures.range) ∙ product) c.carry.ensures.others c.carry.ensures.joined c.requires.labels
+    c.args.labels.now c.carry.new.labels _ c.carry.auto.labels (rw is at from_in) (rw is at to_in)
+    (rw is at (read_time c.scaled.result (IsTime-IsModest _ c.scaled.ensures.range) ∙ product)) (rw is at c.carry.ensures.others) (rw is at c.carry.ensures.joined) c.requires.labels

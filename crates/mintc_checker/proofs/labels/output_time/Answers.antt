@@ -1,6 +1,5 @@
-use Rattle.std.proofs.Common.{◌≡◌, ◌*ℤ◌, arith, ap, ◌∙◌}
+use Rattle.std.proofs.Common.{◌≡◌, ◌*ℤ◌, arith}
 use Rattle.std.proofs.lemmas.Int.{ints}
-use Rattle.mintc_timing.specs.declared.parts.Element.{Element}
 use Rattle.mintc_timing.proofs.SharedFitting.{read_time, IsTime-IsDelay, IsTime-IsDenominator}
 use Rattle.mintc_checker.specs.Trails.{element_of}
 use Rattle.mintc_checker.proofs.labels.output_time.Goals as goal
@@ -8,10 +7,6 @@ use Rattle.mintc_checker.proofs.labels.output_time.Goals as goal
 pub returns-clause-value : goal.returns-clause-value
 returns-clause-value c =
     let den = c.args.departing.now.den in
-    let e : Element = c.element.result.now in
     let product : c.scaled.result ≡ (element_of c.args.departing.now.flat.now c.args.number).dq_max *ℤ den =
-    rw (read_time e.dq_max (IsTime-IsDelay _ c.element.ensures.kept.dq_max), read_time den (IsTime-IsDenominator _ c.args.departing.now.is_den)) at c.scaled.ensures.value
-    ∙ ap (λ (x : Element). x.dq_max *ℤ den) c.element.ensures.value in
-    let a = c.departure_at.ensures.range in
-    let b = c.scaled.ensures.range in
+    rw (read_time c.element.result.now.dq_max (IsTime-IsDelay _ c.element.ensures.kept.dq_max), read_time den (IsTime-IsDenominator _ c.args.departing.now.is_den), c.element.ensures.value) at c.scaled.ensures.value in
     rw (← product, ← c.departure_at.ensures.value) (omega (arith, ints))

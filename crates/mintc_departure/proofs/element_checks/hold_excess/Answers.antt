@@ -1,4 +1,4 @@
-use Rattle.std.proofs.Common.{◌≡◌, ◌+ℤ◌, ◌-ℤ◌, ◌*ℤ◌, true, arith, ap, ◌∙◌, sym, ⊎_elim, of_z}
+use Rattle.std.proofs.Common.{◌≡◌, ◌*ℤ◌, true, Some, arith, ap, ⊎_elim, of_z}
 use Rattle.std.specs.Int.{w128}
 use Rattle.std.proofs.lemmas.Int.{ints}
 use Rattle.mintc_timing.specs.declared.parts.Element.{Element}
@@ -6,7 +6,7 @@ use Rattle.mintc_timing.specs.Design.{element_at}
 use Rattle.mintc_timing.proofs.SharedFitting.{read_time, IsTime-IsGap, IsTime-IsDenominator}
 use Rattle.mintc_departure.specs.declared.arrivals.TheConstants.{NEVER}
 use Rattle.mintc_departure.specs.Rounds.{IsArrivalSum}
-use Rattle.mintc_departure.proofs.ElementLaws.{hold-some, some-is}
+use Rattle.mintc_departure.proofs.SharedLesser.{first-some}
 use Rattle.mintc_departure.proofs.element_checks.hold_excess.Goals as goal
 
 comes : (c : goal.After-result-1) → c.args.first ≡ NEVER → ⊥
@@ -17,13 +17,11 @@ arrives c = ⊎_elim (λ e. absurd (comes c e)) (λ r. r) c.requires.first
 
 pub overflow_add-result-2 : goal.overflow_add-result-2
 overflow_add-result-2 c =
-    let a = arrives c in
-    omega (arith, ints)
+    omega (arith, ints, arrives c)
 
 pub overflow_sub-result : goal.overflow_sub-result
 overflow_sub-result c =
-    let a = arrives c in
-    omega (arith, ints)
+    omega (arith, ints, arrives c)
 
 pub returns-clause-value : goal.returns-clause-value
 returns-clause-value c d is =
@@ -31,14 +29,11 @@ returns-clause-value c d is =
     let s = c.args.clocked.now.schedule.now in
     let e : Element = c.element-element.result.now in
     let here : e ≡ element_at t.flat c.args.number = c.element-element.ensures.value in
-    let has : (element_at t.flat c.args.number).has_hold ≡ true = sym (ap (λ (x : Element). x.has_hold) here) ∙ c.if-not-element.false in
+    let has : (element_at t.flat c.args.number).has_hold ≡ true = rw here at c.if-not-element.false in
     let hold : c.scaled-hold.result ≡ (element_at t.flat c.args.number).hold *ℤ s.den =
-    rw (read_time e.hold (IsTime-IsGap _ c.element-element.ensures.kept.hold), read_time s.den (IsTime-IsDenominator _ c.args.clocked.now.in_range.den)) at c.scaled-hold.ensures.value ∙ ap (λ (x : Element). x.hold *ℤ s.den) here in
-    let amount = hold-some t s d c.args.number c.args.first c.hold_start.result c.scaled-hold.result has is (comes c) c.hold_start.ensures.value hold in
-    let a = arrives c in
-    some-is (c.hold_start.result +ℤ c.scaled-hold.result -ℤ (c.args.first +ℤ s.cycle)) _ _ amount (omega (arith, ints))
+    rw (read_time e.hold (IsTime-IsGap _ c.element-element.ensures.kept.hold), read_time s.den (IsTime-IsDenominator _ c.args.clocked.now.in_range.den), here) at c.scaled-hold.ensures.value in
+    rw (has, first-some _ c.args.first is (comes c)) (ap Some (omega (arith, ints, arrives c)))
 
 pub returns-clause-range : goal.returns-clause-range
 returns-clause-range c =
-    let a = arrives c in
-    (omega (arith, ints), omega (arith, ints))
+    (omega (arith, ints, arrives c), omega (arith, ints, arrives c))

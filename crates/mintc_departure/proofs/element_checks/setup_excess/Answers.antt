@@ -1,4 +1,4 @@
-use Rattle.std.proofs.Common.{◌≡◌, ℤ, pos, ◌+ℤ◌, ◌-ℤ◌, ◌*ℤ◌, ◌≤ℤ◌, true, false, Some, arith, ap, ◌∙◌, sym, ⊎_elim, of_z}
+use Rattle.std.proofs.Common.{◌≡◌, pos, ◌*ℤ◌, true, false, Some, arith, ap, ⊎_elim, of_z}
 use Rattle.std.specs.Int.{w128, int_max}
 use Rattle.std.proofs.lemmas.Int.{ints, clamps}
 use Rattle.mintc_timing.specs.declared.parts.Element.{Element}
@@ -7,21 +7,16 @@ use Rattle.mintc_timing.specs.Design.{element_at, phase_of}
 use Rattle.mintc_timing.proofs.SharedFitting.{read_time, IsTime-IsGap, IsTime-IsDenominator}
 use Rattle.mintc_departure.specs.declared.latest.TheConstants.{LONG_AGO}
 use Rattle.mintc_departure.specs.Rounds.{IsArrivalSum}
-use Rattle.mintc_departure.specs.Settled.{IsSum}
-use Rattle.mintc_departure.proofs.ElementLaws.{setup-latch, setup-flop, some-is}
+use Rattle.mintc_departure.proofs.Greater.{last-some}
 use Rattle.mintc_departure.proofs.element_checks.setup_excess.Goals as goal
 
 -- what the code reads of the greater of 0 and the departure
 opened : (c : goal.After-width) → c.max.result ≡ int_max (pos 0) c.args.time
 opened c = omega (arith, ints, clamps, c.max.ensures.value)
 
-within : (x time : ℤ) → x ≡ int_max (pos 0) time → IsSum time → (pos 0 ≤ℤ x) × (x ≤ℤ pos 1020000000000000000)
-within x time e h = let high = h.1 in (omega (arith, ints, clamps), omega (arith, ints, clamps))
-
 pub overflow_sub-result : goal.overflow_sub-result
 overflow_sub-result c =
-    let sum = within _ _ (opened c) c.requires.time in
-    omega (arith, ints)
+    omega (arith, ints, clamps, opened c)
 
 pub returns-then-not-element-clause-value : goal.returns-then-not-element-clause-value
 returns-then-not-element-clause-value c d leaves is =
@@ -29,18 +24,15 @@ returns-then-not-element-clause-value c d leaves is =
     let s = c.args.clocked.now.schedule.now in
     let e : Element = c.element-element.result.now in
     let here : e ≡ element_at t.flat c.args.number = c.element-element.ensures.value in
-    let latch : (element_at t.flat c.args.number).flop ≡ false = sym (ap (λ (x : Element). x.flop) here) ∙ c.if-not-element.true in
+    let latch : (element_at t.flat c.args.number).flop ≡ false = rw here at c.if-not-element.true in
     let setup : c.scaled-setup.result ≡ (element_at t.flat c.args.number).setup *ℤ s.den =
-    rw (read_time e.setup (IsTime-IsGap _ c.element-element.ensures.kept.setup), read_time s.den (IsTime-IsDenominator _ c.args.clocked.now.in_range.den)) at c.scaled-setup.ensures.value ∙ ap (λ (x : Element). x.setup *ℤ s.den) here in
-    let wide : c.width.result ≡ width_of s (phase_of t.flat c.args.number) = c.width.ensures.value ∙ ap (λ (x : Element). width_of s x.phase) here in
-    let amount = setup-latch t s d c.args.number c.args.time c.scaled-setup.result c.width.result latch leaves setup wide in
-    let sum = within _ _ (opened c) c.requires.time in
-    some-is (c.max.result +ℤ c.scaled-setup.result -ℤ c.width.result) _ _ (ap (λ z. Some (z +ℤ c.scaled-setup.result -ℤ c.width.result)) (opened c) ∙ amount) (omega (arith, ints))
+    rw (read_time e.setup (IsTime-IsGap _ c.element-element.ensures.kept.setup), read_time s.den (IsTime-IsDenominator _ c.args.clocked.now.in_range.den), here) at c.scaled-setup.ensures.value in
+    let wide : c.width.result ≡ width_of s (phase_of t.flat c.args.number) = rw here at c.width.ensures.value in
+    rw (latch, leaves) (ap Some (omega (arith, ints, clamps, opened c)))
 
 pub returns-then-not-element-clause-range : goal.returns-then-not-element-clause-range
 returns-then-not-element-clause-range c =
-    let sum = within _ _ (opened c) c.requires.time in
-    (omega (arith, ints), omega (arith, ints))
+    (omega (arith, ints, clamps, opened c), omega (arith, ints, clamps, opened c))
 
 comes : (c : goal.Else-last-eq-LONG_AGO) → c.args.last ≡ LONG_AGO → ⊥
 comes c = λ e. c.if-last-eq-LONG_AGO.false (ap (of_z w128) e)
@@ -50,8 +42,7 @@ arrives c = ⊎_elim (λ e. absurd (comes c e)) (λ r. r) c.requires.last
 
 pub overflow_add-result-2 : goal.overflow_add-result-2
 overflow_add-result-2 c =
-    let a = arrives c in
-    omega (arith, ints)
+    omega (arith, ints, arrives c)
 
 pub returns-clause-value : goal.returns-clause-value
 returns-clause-value c d leaves is =
@@ -59,14 +50,11 @@ returns-clause-value c d leaves is =
     let s = c.args.clocked.now.schedule.now in
     let e : Element = c.element-element.result.now in
     let here : e ≡ element_at t.flat c.args.number = c.element-element.ensures.value in
-    let flop : (element_at t.flat c.args.number).flop ≡ true = sym (ap (λ (x : Element). x.flop) here) ∙ c.if-not-element.false in
+    let flop : (element_at t.flat c.args.number).flop ≡ true = rw here at c.if-not-element.false in
     let setup : c.scaled-setup.result ≡ (element_at t.flat c.args.number).setup *ℤ s.den =
-    rw (read_time e.setup (IsTime-IsGap _ c.element-element.ensures.kept.setup), read_time s.den (IsTime-IsDenominator _ c.args.clocked.now.in_range.den)) at c.scaled-setup.ensures.value ∙ ap (λ (x : Element). x.setup *ℤ s.den) here in
-    let amount = setup-flop t s d c.args.number c.args.last c.scaled-setup.result flop is (comes c) setup in
-    let a = arrives c in
-    some-is (c.args.last +ℤ c.scaled-setup.result) _ _ amount (omega (arith, ints))
+    rw (read_time e.setup (IsTime-IsGap _ c.element-element.ensures.kept.setup), read_time s.den (IsTime-IsDenominator _ c.args.clocked.now.in_range.den), here) at c.scaled-setup.ensures.value in
+    rw (flop, last-some _ c.args.last is (comes c)) (ap Some (omega (arith, ints, arrives c)))
 
 pub returns-clause-range : goal.returns-clause-range
 returns-clause-range c =
-    let a = arrives c in
-    (omega (arith, ints), omega (arith, ints))
+    (omega (arith, ints, arrives c), omega (arith, ints, arrives c))

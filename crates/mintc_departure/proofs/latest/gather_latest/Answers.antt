@@ -24,11 +24,9 @@ loop-number-preserved c =
     let late : c.loop-number.room.late ≡ c.args.room.now.late = ap (λ (r : Space). r.late) i.kept in
     let h : n < length t.pairs = rw c.pairs-number-end.ensures.value at c.loop-number-test.true in
     let range : IsArrivalSum (f p) = rw late at c.bring_latest.ensures.range in
-    let inside : p.to < length xs = omega (arith, i.count, c.bring_latest.ensures.inside) in
-    let write = ap (λ (r : Space). r.values) c.bring_latest.ensures.value in
-    let written : c.bring_latest.new.room.values ≡ set xs p.to (int_max (f p) (get_or xs p.to (pos 0))) = rw late at write in
+    let written : c.bring_latest.new.room.values ≡ set xs p.to (int_max (f p) (get_or xs p.to (pos 0))) = rw late at (ap (λ (r : Space). r.values) c.bring_latest.ensures.value) in
     record {
       kept = kept-values c.args.room.now c.loop-number.room c.bring_latest.new.room _ c.bring_latest.ensures.value i.kept;
       count = ap length written ∙ length-set xs p.to _ ∙ i.count;
-      gathered = gathered-more greatest_of greater_of int_max IsLast greatest_of-push last-more f t.pairs n _ xs c.bring_latest.new.room.values h range inside written i.gathered;
+      gathered = gathered-more greatest_of greater_of int_max IsLast greatest_of-push last-more f t.pairs n _ xs c.bring_latest.new.room.values h range (omega arith) written i.gathered;
     }

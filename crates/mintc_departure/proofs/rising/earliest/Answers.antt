@@ -1,14 +1,11 @@
-use Rattle.std.proofs.Common.{◌≡◌, ◌<◌, ◌+◌, ◌-◌, ◌==◌, length, drop, map, arith, sym, ap, ◌∙◌, subst, SFits, w64, to_z}
-use Rattle.std.proofs.lemmas.Int.{to_z-of_z}
+use Rattle.std.proofs.Common.{◌≡◌, ◌+◌, ◌-◌, length, arith, sym, subst, to_z, of_z}
+use Rattle.std.proofs.lemmas.Int.{ints, clamps}
 use Rattle.std.specs.Int.{w128, int_min}
-use Rattle.std.specs.List.{filter}
-use Rattle.mintc_timing.specs.declared.parts.Pair.{Pair}
 use Rattle.mintc_timing.specs.Departures.{early_arrival}
 use Rattle.mintc_timing.specs.Design.{element_count, pair_at}
-use Rattle.mintc_timing.specs.Extremes.{least_of}
 use Rattle.mintc_departure.specs.Chains.{IsLastOf}
 use Rattle.mintc_departure.specs.declared.chains.End.TheVariants.{Second}
-use Rattle.mintc_departure.specs.Rounds.{IsArrivalSum, IsFirst}
+use Rattle.mintc_departure.specs.Rounds.{IsArrivalSum}
 use Rattle.mintc_departure.proofs.ChainLaws.{chain-head, chain-next, into-none, into-more}
 use Rattle.mintc_departure.proofs.rising.earliest.Goals as goal
 
@@ -22,12 +19,6 @@ loop-next-init c =
       into = last.has;
       first = into-none (early_arrival t.flat c.args.clocked.now.schedule.now c.args.departures.now) t.pairs c.args.element _ last;
     }
-
-number : (c : goal.After-min-first) → c.loop-next.next - 1 < length c.args.clocked.now.system.now.pairs
-number c = omega arith
-
-pub index-next-requires-in-loop-next : goal.index-next-requires-in-loop-next
-index-next-requires-in-loop-next c = let h = number c in omega (arith, c.args.into.now.nexts.ok.0)
 
 next-last : (c : goal.After-row_known-in-loop-next-2-1) → IsLastOf c.args.clocked.now.system.now.pairs Second c.args.element (c.loop-next.next - 1) c.index-next-in-loop-next.result.now
 next-last c =
@@ -47,24 +38,11 @@ loop-next-preserved c =
     let f = early_arrival t.flat c.args.clocked.now.schedule.now c.args.departures.now in
     let last = next-last c in
     let one : n + 1 ≡ c.loop-next.next = omega arith in
-    let range : IsArrivalSum (f (pair_at t n)) = subst (λ z. IsArrivalSum z) c.arrival.ensures.value c.arrival.ensures.range in
-    let value = c.arrival.ensures.value in
-    let small : SFits w64 c.arrival.result = record { sfits = c.arrival.type_inv } in
-    let time : c.from-time.result ≡ f (pair_at t n) = c.from-time.ensures ∙ to_z-of_z w64 _ small ∙ value in
-    let wide : SFits w128 c.from-time.result = record { sfits = c.from-time.type_inv } in
-    let least : SFits w128 c.min-first.result = record { sfits = c.min-first.type_inv } in
+    let range : IsArrivalSum (f (pair_at t n)) = rw c.arrival.ensures.value at c.arrival.ensures.range in
     let before = to_z w128 c.loop-next.first-bits in
-    let is : c.min-first.result ≡ int_min (f (pair_at t n)) before = c.min-first.ensures.value ∙ ap (λ z. int_min z before) (to_z-of_z w128 _ wide ∙ time) in
+    let is : to_z w128 (of_z w128 c.min-first.result) ≡ int_min (f (pair_at t n)) before = omega (arith, ints, clamps, c.min-first.ensures.value, c.from-time.ensures) in
     record {
       within = omega arith;
       into = last.has;
-      first = into-more f t.pairs c.args.element n _ before _ (omega arith) (c.loop-next.invariant.into n (omega arith)) last range (to_z-of_z w128 _ least ∙ is)
-          (subst (λ k. IsFirst (least_of (map f (filter (λ (p : Pair). p.to == c.args.element) (drop k t.pairs)))) before) (sym one) c.loop-next.invariant.first);
+      first = into-more f t.pairs c.args.element n _ before _ (omega arith) (c.loop-next.invariant.into n (omega arith)) last range is (rw (sym one) at c.loop-next.invariant.first);
     }
-
-pub returns : goal.returns
-returns c =
-    let t = c.args.clocked.now.system.now in
-    let f = early_arrival t.flat c.args.clocked.now.schedule.now c.args.departures.now in
-    let none : c.loop-next.next ≡ 0 = omega arith in
-    subst (λ k. IsFirst (least_of (map f (filter (λ (p : Pair). p.to == c.args.element) (drop k t.pairs)))) (to_z w128 c.loop-next.first-bits)) none c.loop-next.invariant.first

@@ -1,36 +1,18 @@
-use Rattle.std.proofs.Common.{ap, sym, subst}
+use Rattle.std.proofs.Common.{ap}
 use Rattle.mintc_constraints.specs.Rooms.{Space}
 use Rattle.mintc_timing.specs.Design.{element_count}
-use Rattle.mintc_timing.specs.Departures.{AreLate}
-use Rattle.mintc_departure.specs.Rounds.{AreSwept}
 use Rattle.mintc_departure.proofs.EarlyLaws.{rising-sums}
-use Rattle.mintc_departure.proofs.Filling.{kept-early}
 use Rattle.mintc_departure.proofs.Missing.{missing-falls}
 use Rattle.mintc_departure.proofs.SweepLaws.{swept-last}
 use Rattle.mintc_departure.proofs.rising.rise.Goals as goal
-
-pub sweep-requires-clause-late : goal.sweep-requires-clause-late
-sweep-requires-clause-late c = subst (λ xs. AreLate c.args.clocked.now.system.now c.args.clocked.now.schedule.now xs) (sym (ap (λ (r : Space). r.late) c.loop.invariant.kept)) c.requires.late
-
-pub sweep-requires-clause-swept : goal.sweep-requires-clause-swept
-sweep-requires-clause-swept c =
-    subst (λ xs. AreSwept c.args.clocked.now.system.now c.args.clocked.now.schedule.now xs c.loop.room.early c.loop.stale.words.items) (sym (ap (λ (r : Space). r.late) c.loop.invariant.kept))
-    c.loop.invariant.swept
 
 pub loop-smaller : goal.loop-smaller
 loop-smaller c =
     let t = c.args.clocked.now.system.now in
     let s = c.args.clocked.now.schedule.now in
-    let swept : AreSwept t s c.args.room.now.late c.sweep.new.room.early c.sweep.new.stale.words.items =
-    subst (λ xs. AreSwept t s xs c.sweep.new.room.early c.sweep.new.stale.words.items) (ap (λ (r : Space). r.late) c.loop.invariant.kept) c.sweep.ensures.swept in
+    let swept = rw (ap (λ (r : Space). r.late) c.loop.invariant.kept) at c.sweep.ensures.swept in
     let changed = c.loop-test.ensures.changed in
     missing-falls t s c.args.room.now.late c.loop.room.early c.sweep.new.room.early (element_count t.flat) changed.0 c.sweep.ensures.up swept.rising.before changed.1 changed.2
-
-pub loop-preserved : goal.loop-preserved
-loop-preserved c = record {
-  kept = kept-early c.args.room.now c.loop.room c.sweep.new.room _ c.sweep.ensures.kept c.loop.invariant.kept;
-  swept = subst (λ xs. AreSwept c.args.clocked.now.system.now c.args.clocked.now.schedule.now xs c.sweep.new.room.early c.sweep.new.stale.words.items) (ap (λ (r : Space). r.late) c.loop.invariant.kept) c.sweep.ensures.swept;
-}
 
 pub returns-clause-early : goal.returns-clause-early
 returns-clause-early c =
@@ -40,4 +22,4 @@ pub returns-clause-sums : goal.returns-clause-sums
 returns-clause-sums c =
     rising-sums c.args.clocked.now.system.now c.args.clocked.now.schedule.now c.count-count.ensures.kept
     c.args.room.now.late c.requires.late c.sweep.new.room.early
-    (subst (λ xs. AreSwept c.args.clocked.now.system.now c.args.clocked.now.schedule.now xs c.sweep.new.room.early c.sweep.new.stale.words.items) (ap (λ (r : Space). r.late) c.loop.invariant.kept) c.sweep.ensures.swept).rising
+    (rw (ap (λ (r : Space). r.late) c.loop.invariant.kept) at c.sweep.ensures.swept).rising

@@ -1,9 +1,7 @@
-use Rattle.std.proofs.Common.{◌≤ℤ◌, ℤ, List, arith, sym, subst}
-use Rattle.std.proofs.lemmas.Int.{ints}
-use Rattle.mintc_timing.specs.Departures.{departure}
+use Rattle.std.proofs.Common.{ℤ, List, sym, subst}
 use Rattle.mintc_departure.specs.Rounds.{AreSwept}
 use Rattle.mintc_departure.proofs.EarlyLaws.{rising-sums}
-use Rattle.mintc_departure.proofs.SweepLaws.{swept-still, swept-more, written-up, written-above}
+use Rattle.mintc_departure.proofs.SweepLaws.{swept-still, swept-more, written-above}
 use Rattle.mintc_departure.proofs.rising.touch.Goals as goal
 
 pub renew-requires-clause-departures : goal.renew-requires-clause-departures
@@ -19,19 +17,11 @@ returns-then-not-renew-clause-swept c =
     subst (λ (d : List ℤ). AreSwept t s late d c.remove.new.self.words.items) (sym c.if-not-renew.ensures.same)
     (swept-still t s late c.args.room.now.early c.args.element c.args.stale.now.words.items c.remove.new.self.words.items c.requires.swept c.if-not-renew.ensures.still c.remove.ensures.count c.remove.ensures.others)
 
-pub returns-then-not-renew-clause-up : goal.returns-then-not-renew-clause-up
-returns-then-not-renew-clause-up c l h =
-    subst (λ (d : List ℤ). departure c.args.room.now.early l ≤ℤ departure d l) (sym c.if-not-renew.ensures.same) (omega (arith, ints))
-
 pub returns-clause-swept : goal.returns-clause-swept
 returns-clause-swept c =
     swept-more c.args.clocked.now.system.now c.args.clocked.now.schedule.now c.count-count.ensures.kept
     c.args.room.now.late c.requires.late c.args.room.now.early c.renew.new.room.early c.args.element c.args.stale.now.words.items c.remove.new.self.words.items c.wake.new.stale.words.items
     c.requires.swept c.requires.element c.if-not-renew.ensures.written c.remove.ensures.count c.remove.ensures.others c.wake.ensures.count c.wake.ensures.kept c.wake.ensures.woken
-
-pub returns-clause-up : goal.returns-clause-up
-returns-clause-up c =
-    written-up c.args.clocked.now.system.now c.args.clocked.now.schedule.now c.args.room.now.late c.args.room.now.early c.renew.new.room.early c.args.element c.requires.swept.rising c.requires.element c.if-not-renew.ensures.written
 
 pub returns-clause-changed : goal.returns-clause-changed
 returns-clause-changed c =

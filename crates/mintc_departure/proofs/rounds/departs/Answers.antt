@@ -5,7 +5,7 @@ use Rattle.mintc_timing.specs.declared.parts.Element.{Element}
 use Rattle.mintc_timing.specs.Design.{element_at}
 use Rattle.mintc_departure.specs.declared.arrivals.TheConstants.{NEVER}
 use Rattle.mintc_departure.specs.Rounds.{IsArrivalSum}
-use Rattle.mintc_departure.proofs.EarlyLaws.{departs-by_first}
+use Rattle.mintc_departure.proofs.SharedLesser.{first-some}
 use Rattle.mintc_departure.proofs.rounds.departs.Goals as goal
 
 pub returns : goal.returns
@@ -18,5 +18,4 @@ returns c d is =
     let latch : (element_at t.flat c.args.number).flop ≡ false = sym (ap (λ (e : Element). e.flop) c.element.ensures.value) ∙ c.if-element.false in
     let larger : c.max.result ≡ int_max c.early_start-start.result first = omega (arith, ints, clamps, c.max.ensures.value) in
     let fits : SFits w64 c.max.result = omega (arith, ints, clamps) in
-    to_z-of_z w64 c.max.result fits
-    ∙ departs-by_first t c.args.clocked.now.schedule.now d c.args.number first c.max.result latch ne is (larger ∙ ap (λ z. int_max z first) start.value)
+    rw (latch, first-some _ first is ne) (to_z-of_z w64 c.max.result fits ∙ larger ∙ ap (λ z. int_max z first) (rw latch at start.value))

@@ -1,5 +1,5 @@
-use Rattle.std.proofs.Common.{◌≡◌, ◌<◌, length, set, arith, ap, ◌∙◌, SFits, w64, length-set}
-use Rattle.std.proofs.lemmas.Int.{ints, to_z-of_z}
+use Rattle.std.proofs.Common.{◌≡◌, length, set, arith, ap, ◌∙◌, to_z, of_z, w64, length-set}
+use Rattle.std.proofs.lemmas.Int.{ints}
 use Rattle.mintc_constraints.specs.Rooms.{Space}
 use Rattle.mintc_departure.specs.Rounds.{early_start_of}
 use Rattle.mintc_departure.proofs.Filling.{filled-more, kept-early}
@@ -11,12 +11,10 @@ loop-number-preserved c =
     let n = c.loop-number.number in
     let xs = c.loop-number.room.early in
     let x = c.early_start.result in
-    let fits : SFits w64 x = let r = c.early_start.ensures.range in omega (arith, ints) in
-    let write = ap (λ (r : Space). r.early) c.set_early.ensures in
-    let written : c.set_early.new.self.early ≡ set xs n x = write ∙ ap (λ z. set xs n z) (to_z-of_z w64 x fits) in
-    let inside : n < length xs = omega (arith, i.count, c.count-count.ensures.value) in
+    let bits : to_z w64 (of_z w64 x) ≡ x = omega (arith, ints) in
+    let written : c.set_early.new.self.early ≡ set xs n x = rw bits at (ap (λ (r : Space). r.early) c.set_early.ensures) in
     record {
       kept = kept-early c.args.room.now c.loop-number.room c.set_early.new.self _ c.set_early.ensures i.kept;
       count = ap length written ∙ length-set xs n x ∙ i.count;
-      filled = filled-more (early_start_of c.args.clocked.now.system.now.flat c.args.clocked.now.schedule.now) xs c.set_early.new.self.early n x written inside c.early_start.ensures.value i.filled;
+      filled = filled-more (early_start_of c.args.clocked.now.system.now.flat c.args.clocked.now.schedule.now) xs c.set_early.new.self.early n x written (omega arith) c.early_start.ensures.value i.filled;
     }

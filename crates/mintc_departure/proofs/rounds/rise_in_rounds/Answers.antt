@@ -1,8 +1,6 @@
-use Rattle.std.proofs.Common.{◌≡◌, ◌≢◌, ◌<◌, ℕ, ℤ, List, ap, ◌∙◌, sym, subst}
+use Rattle.std.proofs.Common.{ℤ, List, ap, ◌∙◌, sym}
 use Rattle.mintc_constraints.specs.Rooms.{Space}
-use Rattle.mintc_timing.specs.Design.{element_count}
-use Rattle.mintc_timing.specs.Departures.{departure, early_departure}
-use Rattle.mintc_departure.proofs.EarlyLaws.{IsRound, rising-first, rising-more, rising-last, rising-sums}
+use Rattle.mintc_departure.proofs.EarlyLaws.{rising-first, rising-more, rising-last, rising-sums}
 use Rattle.mintc_departure.proofs.Filling.{kept-round}
 use Rattle.mintc_departure.proofs.Missing.{round-falls}
 use Rattle.mintc_departure.proofs.rounds.rise_in_rounds.Goals as goal
@@ -22,38 +20,27 @@ gather-requires-clause-departures c =
 
 pub raise-requires-clause-departures : goal.raise-requires-clause-departures
 raise-requires-clause-departures c =
-    let same : c.gather.new.room.early ≡ c.loop-count.room.early = ap (λ (r : Space). r.early) c.gather.ensures.kept in
-    rw same (rising-sums c.args.clocked.now.system.now c.args.clocked.now.schedule.now c.count-count.ensures.kept c.args.room.now.late c.requires.late _ c.loop-count.invariant.rising)
+    rw (ap (λ (r : Space). r.early) c.gather.ensures.kept)
+    (rising-sums c.args.clocked.now.system.now c.args.clocked.now.schedule.now c.count-count.ensures.kept c.args.room.now.late c.requires.late _ c.loop-count.invariant.rising)
 
 pub returns-then-not-raise-clause-early : goal.returns-then-not-raise-clause-early
 returns-then-not-raise-clause-early c =
-    let t = c.args.clocked.now.system.now in
-    let s = c.args.clocked.now.schedule.now in
-    let e = c.raise.new.room.early in
-    let same : c.gather.new.room.early ≡ c.loop-count.room.early = ap (λ (r : Space). r.early) c.gather.ensures.kept in
-    rising-last t s c.count-count.ensures.kept c.args.room.now.late c.requires.late c.loop-count.room.early e c.loop-count.invariant.rising c.raise.ensures.count
-    (subst (λ (xs : List ℤ). IsRound t s xs e) same c.raise.ensures.each) (subst (λ (xs : List ℤ). IsRound t s xs xs) same (λ l h. sym (c.if-not-raise.ensures.still l h)))
+    let same = ap (λ (r : Space). r.early) c.gather.ensures.kept in
+    rising-last c.args.clocked.now.system.now c.args.clocked.now.schedule.now c.count-count.ensures.kept c.args.room.now.late c.requires.late c.loop-count.room.early c.raise.new.room.early
+    c.loop-count.invariant.rising c.raise.ensures.count (rw same at c.raise.ensures.each) (λ l h. sym ((rw same at c.if-not-raise.ensures.still) l h))
 
 pub loop-count-smaller : goal.loop-count-smaller
 loop-count-smaller c =
     let t = c.args.clocked.now.system.now in
     let s = c.args.clocked.now.schedule.now in
-    let d = c.loop-count.room.early in
-    let e = c.raise.new.room.early in
-    let same : c.gather.new.room.early ≡ d = ap (λ (r : Space). r.early) c.gather.ensures.kept in
-    let round = subst (λ (xs : List ℤ). IsRound t s xs e) same c.raise.ensures.each in
-    let next = rising-more t s c.count-count.ensures.kept c.args.room.now.late c.requires.late d e c.loop-count.invariant.rising c.raise.ensures.count round in
-    round-falls t s c.args.room.now.late d e c.loop-count.invariant.rising next round
-    (subst (λ (xs : List ℤ). (l : ℕ) × (l < element_count t.flat) × (early_departure t s xs l ≢ departure xs l)) same c.if-not-raise.ensures.changed)
+    let same = ap (λ (r : Space). r.early) c.gather.ensures.kept in
+    let round = rw same at c.raise.ensures.each in
+    let next = rising-more t s c.count-count.ensures.kept c.args.room.now.late c.requires.late c.loop-count.room.early c.raise.new.room.early c.loop-count.invariant.rising c.raise.ensures.count round in
+    round-falls t s c.args.room.now.late c.loop-count.room.early c.raise.new.room.early c.loop-count.invariant.rising next round (rw same at c.if-not-raise.ensures.changed)
 
 pub loop-count-preserved : goal.loop-count-preserved
-loop-count-preserved c =
-    let t = c.args.clocked.now.system.now in
-    let s = c.args.clocked.now.schedule.now in
-    let e = c.raise.new.room.early in
-    let same : c.gather.new.room.early ≡ c.loop-count.room.early = ap (λ (r : Space). r.early) c.gather.ensures.kept in
-    record {
-      kept = kept-round c.args.room.now c.loop-count.room c.gather.new.room c.raise.new.room c.gather.ensures.kept c.raise.ensures.kept c.loop-count.invariant.kept;
-      rising = rising-more t s c.count-count.ensures.kept c.args.room.now.late c.requires.late c.loop-count.room.early e c.loop-count.invariant.rising c.raise.ensures.count
-          (subst (λ (xs : List ℤ). IsRound t s xs e) same c.raise.ensures.each);
-    }
+loop-count-preserved c = record {
+  kept = kept-round c.args.room.now c.loop-count.room c.gather.new.room c.raise.new.room c.gather.ensures.kept c.raise.ensures.kept c.loop-count.invariant.kept;
+  rising = rising-more c.args.clocked.now.system.now c.args.clocked.now.schedule.now c.count-count.ensures.kept c.args.room.now.late c.requires.late c.loop-count.room.early c.raise.new.room.early c.loop-count.invariant.rising
+      c.raise.ensures.count (rw (ap (λ (r : Space). r.early) c.gather.ensures.kept) at c.raise.ensures.each);
+}

@@ -1,11 +1,8 @@
-use Rattle.std.proofs.Common.{arith, ap}
+use Rattle.std.proofs.Common.{ap}
 use Rattle.mintc_constraints.specs.Rooms.{Space}
 use Rattle.mintc_departure.proofs.NetworkLaws.{arcs-ordinary, starts-ordinary}
 use Rattle.mintc_departure.proofs.SettledLaws.{sums, settled-from_greatest, loop-from_walk}
 use Rattle.mintc_departure.proofs.settling.settle.Goals as goal
-
-pub walk-requires-clause-bound : goal.walk-requires-clause-bound
-walk-requires-clause-bound g c = omega (arith, c.fill_starts.ensures.count)
 
 pub walk-requires-clause-arcs : goal.walk-requires-clause-arcs
 walk-requires-clause-arcs g c =
