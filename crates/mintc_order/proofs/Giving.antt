@@ -22,7 +22,7 @@ module _ {bits : ℕ} {starts ends marks path nexts given : List ℕ} (s : IsSea
   top = rw (last, through) at (s.is_path.each_bit (length path') (omega arith))
 
   mark_same : get_or marks' bit 0 ≡ 1
-  mark_same = get_or-set_same marks bit 1 0 (let l = s.each_mark in let w = top.within in omega arith)
+  mark_same = get_or-set_same marks bit 1 0 (omega (arith, top))
 
   mark_other : (v : ℕ) → v ≢ bit → get_or marks' v 0 ≡ get_or marks v 0
   mark_other v ne = get_or-set_other marks bit v 1 0 ne
@@ -33,7 +33,7 @@ module _ {bits : ℕ} {starts ends marks path nexts given : List ℕ} (s : IsSea
   each_bit : (i : ℕ) → i < length path' → IsOpen bits starts ends marks' i (get_or path' i 0) (get_or nexts' i 0)
   each_bit i h =
       let o = s.is_path.each_bit i (omega arith) in
-      let ne : get_or path i 0 ≢ bit = λ q. let same = ap (λ (v : ℕ). get_or marks v 0) q in let a = o.mark in let b = top.mark in omega arith in
+      let ne : get_or path i 0 ≢ bit = λ q. omega (arith, top, ap (λ (v : ℕ). get_or marks v 0) q) in
       rw (old i h, old_next i h)
       (record {
         within = o.within;
@@ -52,10 +52,9 @@ module _ {bits : ℕ} {starts ends marks path nexts given : List ℕ} (s : IsSea
   placed : (v i : ℕ) → get_or marks' v 0 ≡ i + 2 → (i < length path') × (get_or path' i 0 ≡ v)
   placed v i h =
       ⊎_elim
-      (λ q. let same = ap (λ (v' : ℕ). get_or marks' v' 0) q in let z = mark_same in absurd (omega arith))
+      (λ q. absurd (omega (arith, mark_same, ap (λ (v' : ℕ). get_or marks' v' 0) q)))
       (λ ne.
       let found = s.is_path.placed v i (sym (mark_other v ne) ∙ h) in
-      let below = found.0 in
       ⊎_elim
       (λ l. (l, old i l ∙ found.1))
       (λ l. let at : i ≡ length path' = omega arith in absurd (ne (sym found.1 ∙ ap (λ (n : ℕ). get_or path n 0) at ∙ last)))
@@ -66,11 +65,11 @@ module _ {bits : ℕ} {starts ends marks path nexts given : List ℕ} (s : IsSea
   before i h = get_or_append_left given (bit ∷ []) 0 i h
 
   at_last : (i : ℕ) → i < length given' → length given ≤ i → get_or given' i 0 ≡ bit
-  at_last i h l = get_or_push given bit 0 i (let len = length_push given bit in omega arith)
+  at_last i h l = get_or_push given bit 0 i (omega (arith, length_push given bit))
 
   -- the bit isn't given out before
   apart : (i : ℕ) → i < length given → get_or given i 0 ≢ bit
-  apart i h = λ q. let same = ap (λ (v : ℕ). get_or marks v 0) q in let a = s.are_given.out i h in let b = top.mark in omega arith
+  apart i h = λ q. omega (arith, top, s.are_given.out i h, ap (λ (v : ℕ). get_or marks v 0) q)
 
   within : (i : ℕ) → i < length given' → get_or given' i 0 < bits
   within i h =
@@ -96,13 +95,11 @@ module _ {bits : ℕ} {starts ends marks path nexts given : List ℕ} (s : IsSea
       ⊎_elim
       (λ l.
       let found = s.are_given.ordered.after i k l (rw (before i l) at p) in
-      let earlier = found.1 in
-      (found.0, earlier, before found.0 (omega arith) ∙ found.2))
+      (found.0, found.1, before found.0 (omega arith) ∙ found.2))
       (λ l.
       let here : IsPlace starts bit k = rw (at_last i h l) at p in
       let found = s.are_given.whole (get_or ends k 0) (top.passed k here.0 here.1) in
-      let below = found.1 in
-      (found.0, omega arith, before found.0 below ∙ get_or_default given found.0 0 (get_or ends k 0) below ∙ found.2))
+      (found.0, omega arith, before found.0 found.1 ∙ get_or_default given found.0 0 (get_or ends k 0) found.1 ∙ found.2))
       (cases_lt i (length given))
 
   out : (i : ℕ) → i < length given' → get_or marks' (get_or given' i 0) 0 ≡ 1
@@ -126,20 +123,12 @@ module _ {bits : ℕ} {starts ends marks path nexts given : List ℕ} (s : IsSea
     are_given = record { ordered = record { within = within; once = once; after = after }; out = out; whole = whole };
   }
 
-  pub stays_met : (v : ℕ) → get_or marks v 0 ≢ 0 → get_or marks' v 0 ≢ 0
-  stays_met v h =
-      ⊎_elim
-      (λ e. rw e (λ q. let m = mark_same in omega arith))
-      (λ ne. rw (mark_other v ne) h)
-      (cases_eq v bit)
-
 -- the same, of what the code wrote
 pub IsSearch-given_as : {bits : ℕ} {starts numbers ends marks path nexts given : List ℕ} {m n : ℕ} → AreParts bits starts numbers ends × IsSearch bits starts ends marks path nexts given → (bit : ℕ) →
     0 < length path → get_or path (length path - 1) 0 ≡ bit → get_or nexts (length path - 1) 0 ≡ get_or starts (bit + 1) 0 → (path' nexts' given' : List ℕ) →
     m ≡ length path - 1 → n ≡ length nexts - 1 → path' ≡ take m path → nexts' ≡ take n nexts → given' ≡ given ++ bit ∷ [] →
     AreParts bits starts numbers ends × IsSearch bits starts ends (set marks bit 1) path' nexts' given'
 IsSearch-given_as {path = path} {nexts = nexts} {m = m} {n = n} s bit some last through path' nexts' given' of_path of_nexts a b c =
-    let l = s.1.is_path.each_next in
     let q : length path' ≡ m = ap (λ (xs : List ℕ). length xs) a ∙ length-take-le m path (omega arith) in
     let r : length nexts' ≡ n = ap (λ (xs : List ℕ). length xs) b ∙ length-take-le n nexts (omega arith) in (
       s.0,
