@@ -17,10 +17,7 @@ use Rattle.mintc_paths.proofs.Rowing.{length-placed, placed_at, placed_past}
 pub place_is : (base : ℕ) (numbers : List ℕ) (row : ℕ) → place_at (places_of base numbers) row ≡ get_or numbers row 0 - base
 place_is base numbers row = ⊎_elim
     (λ (low : row < length numbers). get_or-map (λ (number : ℕ). number - base) numbers row 0 0 low)
-    (λ (past : length numbers ≤ row).
-    let none = get_or_past (places_of base numbers) row 0 (omega (arith, length-map numbers (λ (number : ℕ). number - base))) in
-    let zero = get_or_past numbers row 0 past in
-    omega arith)
+    (λ (past : length numbers ≤ row). omega (arith, get_or_past numbers row 0 past, get_or_past (places_of base numbers) row 0 (omega (arith, length-map numbers (λ (number : ℕ). number - base)))))
     (cases_lt row (length numbers))
 
 pub length-places : (base : ℕ) (numbers : List ℕ) → length (places_of base numbers) ≡ length numbers
@@ -38,9 +35,7 @@ placed_same places olds new old count row same = ⊎_elim
 module _ (places : List ℕ) (sums old : List Sums) (held : AreHeld places sums) (kept : (other : ℕ) → sums_at (placed places sums) other ≡ sums_at old other)
     (row place : ℕ) (inside : row < length places) (is : place ≡ place_at places row) (some : place ≢ 0) where
   pub put_own : (new : Sums) → sums_at (placed places (set sums place new)) row ≡ new
-  put_own new =
-      let below = held.below row in
-      placed_at places (set sums place new) row inside ∙ ap (λ k. sums_at (set sums place new) k) (sym is) ∙ get_or-set_same sums place new no_sums (omega arith)
+  put_own new = placed_at places (set sums place new) row inside ∙ ap (λ k. sums_at (set sums place new) k) (sym is) ∙ get_or-set_same sums place new no_sums (omega (arith, held.below row))
 
   pub put_others : (new : Sums) (other : ℕ) → other ≢ row → sums_at (placed places (set sums place new)) other ≡ sums_at old other
   put_others new other ne =
@@ -50,8 +45,7 @@ module _ (places : List ℕ) (sums old : List Sums) (held : AreHeld places sums)
 
   pub there : (other at : ℕ) (x : Sums) → other < length places → at ≡ place_at places other → x ≡ get_or sums at x → x ≡ sums_at old other
   there other at x low at_is x_is =
-      let below = held.below other in
-      x_is ∙ get_or_default sums at x no_sums (omega arith) ∙ ap (λ k. sums_at sums k) at_is ∙ sym (placed_at places sums other low) ∙ kept other
+      x_is ∙ get_or_default sums at x no_sums (omega (arith, held.below other)) ∙ ap (λ k. sums_at sums k) at_is ∙ sym (placed_at places sums other low) ∙ kept other
 
 -- what the sums in a row become, along an arc that leaves another one
 pub record IsJoined (arc : TimingArc) (to from new : Sums) : Type 0 where
@@ -80,17 +74,13 @@ module _ (base : ℕ) (numbers : List ℕ) (sums old : List Sums) (held : AreHel
   pub given_at : (given : List ℕ) (more : List Sums) → AreHeld given more → ((other : ℕ) → sums_at (placed given more) other ≡ sums_at (placed places sums) other) →
       length given ≡ length places → (row at : ℕ) (x : Sums) → row < length old → at ≡ place_at given row → x ≡ get_or more at x → x ≡ sums_at old row
   given_at given more given_held kept given_count row at x low is x_is =
-      let below = given_held.below row in
-      let count = rows_count in
-      x_is ∙ get_or_default more at x no_sums (omega arith) ∙ ap (λ k. sums_at more k) is ∙ sym (placed_at given more row (omega arith)) ∙ kept row ∙ rows_kept row
+      x_is ∙ get_or_default more at x no_sums (omega (arith, given_held.below row)) ∙ ap (λ k. sums_at more k) is ∙ sym (placed_at given more row (omega (arith, rows_count))) ∙ kept row ∙ rows_kept row
 
   pub held_at : (row at : ℕ) (x : Sums) → row < length old → at ≡ place_at places row → x ≡ get_or sums at x → x ≡ sums_at old row
   held_at = given_at places sums held (λ other. refl) refl
 
   pub held_none : (row : ℕ) → row < length old → place_at places row ≡ 0 → NO_SUMS ≡ sums_at old row
-  held_none row low none =
-      let count = rows_count in
-      sym held.none ∙ ap (λ k. sums_at sums k) (sym none) ∙ sym (placed_at places sums row (omega arith)) ∙ rows_kept row
+  held_none row low none = sym held.none ∙ ap (λ k. sums_at sums k) (sym none) ∙ sym (placed_at places sums row (omega (arith, rows_count))) ∙ rows_kept row
 
   module _ (arc : TimingArc) (from_low : arc.from < length old) (to_low : arc.to < length old) (from : Sums) (from_is : from ≡ sums_at old arc.from) where
     -- the row that the arc enters has this place, maybe a new one
@@ -126,14 +116,14 @@ module _ (places given : List ℕ) (sums : List Sums) (held : AreHeld places sum
       (cases_eq other row))
 
   apart_from_own : (other : ℕ) → other ≢ row → place_at given other ≢ place_at given row
-  apart_from_own other ne e = let low = held.below other in let other_is = given_other other ne in let own = given_own in omega arith
+  apart_from_own other ne e = omega (arith, held.below other, given_other other ne)
 
   pub AreHeld-given : AreHeld given more
   AreHeld-given = record {
     none = more_kept 0 (omega (arith, held.below 0)) ∙ held.none;
     below = λ other. ⊎_elim
-        (λ (e : other ≡ row). let own = given_own in let many = length-append sums (NO_SUMS ∷ []) in let here = ap (λ k. place_at given k) e in omega arith)
-        (λ (ne : other ≢ row). let same = given_other other ne in let low = held.below other in let many = length-append sums (NO_SUMS ∷ []) in omega arith)
+        (λ (e : other ≡ row). omega (arith, length-append sums (NO_SUMS ∷ []), ap (λ k. place_at given k) e))
+        (λ (ne : other ≢ row). omega (arith, given_other other ne, held.below other, length-append sums (NO_SUMS ∷ [])))
         (cases_eq other row);
     apart = λ one other ne same. ⊎_elim
         (λ (e : one ≡ row). absurd (apart_from_own other (λ f. ne (e ∙ sym f)) (sym same ∙ ap (λ k. place_at given k) e)))
@@ -146,10 +136,7 @@ module _ (places given : List ℕ) (sums : List Sums) (held : AreHeld places sum
 
 -- the places once a row has its number
 pub number_own : (base : ℕ) (numbers : List ℕ) (row place : ℕ) → row < length numbers → place_at (places_of base (set numbers row (base + place))) row ≡ place
-number_own base numbers row place inside =
-    let is = place_is base (set numbers row (base + place)) row in
-    let own = get_or-set_same numbers row (base + place) 0 inside in
-    omega arith
+number_own base numbers row place inside = omega (arith, place_is base (set numbers row (base + place)) row, get_or-set_same numbers row (base + place) 0 inside)
 
 pub number_other : (base : ℕ) (numbers : List ℕ) (row number other : ℕ) → other ≢ row → place_at (places_of base (set numbers row number)) other ≡ place_at (places_of base numbers) other
 number_other base numbers row number other ne =
@@ -168,22 +155,14 @@ module _ (places : List ℕ) (sums : List Sums) (off : (row : ℕ) → place_at 
 
 pub all_zero : (count : ℕ) (numbers : List ℕ) → numbers ≡ replicate count 0 → (row : ℕ) → place_at (places_of 0 numbers) row ≡ 0
 all_zero count numbers same row = ⊎_elim
-    (λ (low : row < count). let is = place_is 0 numbers row in let zero : get_or numbers row 0 ≡ 0 = rw same (get_or-replicate {A = ℕ} count row 0 0 low) in omega arith)
-    (λ (past : count ≤ row).
-    let is = place_is 0 numbers row in
-    let long = length-replicate {A = ℕ} count 0 in
-    let zero : get_or numbers row 0 ≡ 0 = rw same (get_or_past (replicate count 0) row 0 (omega arith)) in
-    omega arith)
+    (λ (low : row < count). rw same (omega (arith, place_is 0 (replicate count 0) row, get_or-replicate {A = ℕ} count row 0 0 low)))
+    (λ (past : count ≤ row). rw same (omega (arith, place_is 0 (replicate count 0) row, get_or_past {X = ℕ} (replicate count 0) row 0 (omega (arith, length-replicate {A = ℕ} count 0)))))
     (cases_lt row count)
 
 -- a base above the numbers leaves no places
 pub none_above : (base next : ℕ) (numbers : List ℕ) (sums : List Sums) → AreHeld (places_of base numbers) sums → next ≡ base + (length sums - 1) →
     (row : ℕ) → place_at (places_of next numbers) row ≡ 0
-none_above base next numbers sums held is row =
-    let here = place_is next numbers row in
-    let before = place_is base numbers row in
-    let low = held.below row in
-    omega arith
+none_above base next numbers sums held is row = omega (arith, place_is next numbers row, place_is base numbers row, held.below row)
 
 -- a list of sums without all but the first
 pub first_alone : (sums : List Sums) → sums_at sums 0 ≡ NO_SUMS → 0 < length sums → (sums_at (take 1 sums) 0 ≡ NO_SUMS) × (length (take 1 sums) ≡ 1)

@@ -7,7 +7,6 @@ use Rattle.mintc_timing.specs.declared.parts.TimingArc.{TimingArc}
 use Rattle.mintc_timing.specs.Design.{Design}
 use Rattle.mintc_timing.specs.Order.{IsOrder}
 use Rattle.mintc_timing.specs.Paths.{arc_at, input_of, output_of}
-use Rattle.mintc_timing.proofs.SharedOrdered.{inside}
 use Rattle.mintc_lanes.specs.Lanes.{joined}
 use Rattle.mintc_paths.specs.Among.{IsBest, AtLeast, max_of, min_of}
 use Rattle.mintc_paths.specs.Found.{ArePairsBefore}
@@ -39,7 +38,7 @@ module _ (AtMost : ℤ → ℤ → Type 0) (choose : ℤ → ℤ → ℤ) (choic
         new,
         subst (λ (b : ℕ). IsBest AtMost weight arcs order (suc k) from b new) (sym e)
             (subst (λ (m : ℕ). IsBest AtMost weight arcs order m from (arc_at arcs n).to new) (next k)
-            (IsBest-joined AtMost choose choice weight arcs order is_order k n from there.0 here.0 low refl (inside arcs order is_order k low) old here.1)),
+            (IsBest-joined AtMost choose choice weight arcs order is_order k from there.0 here.0 low old here.1)),
       ))
       (λ (ne : to ≢ (arc_at arcs n).to). (
         there.0,

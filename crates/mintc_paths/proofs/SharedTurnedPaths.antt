@@ -26,18 +26,15 @@ reverse_cons n path = reverse-append (n ∷ []) path
 
 total-reverse : (weight : ℕ → ℤ) (path : List ℕ) → total weight (reverse path) ≡ total weight path
 total-reverse weight [] = refl
-total-reverse weight (n ∷ path) =
-    let rest = total-reverse weight path in
-    let more = ap (total weight) (reverse_cons n path) ∙ total-push weight (reverse path) n in
-    omega (arith, ints)
+total-reverse weight (n ∷ path) = omega (arith, ints, total-reverse weight path, ap (total weight) (reverse_cons n path) ∙ total-push weight (reverse path) n)
 
 total-alike : (f g : ℕ → ℤ) (path : List ℕ) → ((n : ℕ) → f n ≡ g n) → total f path ≡ total g path
 total-alike f g [] same = refl
-total-alike f g (n ∷ path) same = let here = same n in let rest = total-alike f g path same in omega (arith, ints)
+total-alike f g (n ∷ path) same = omega (arith, ints, same n, total-alike f g path same)
 
 some-reverse : (path : List ℕ) → path ≢ [] → reverse path ≢ []
 some-reverse [] some e = some refl
-some-reverse (n ∷ path) some e = let same = length-reverse (n ∷ path) in let none = ap (λ (xs : List ℕ). length xs) e in absurd (omega arith)
+some-reverse (n ∷ path) some e = absurd (omega (arith, length-reverse (n ∷ path), ap (λ (xs : List ℕ). length xs) e))
 
 module _ (n m : ℕ) (places elements : List ℕ) (there : LeadsBack n places elements) (back : LeadsBack n elements places) (arcs : List TimingArc)
     (each : All (IsArc n m) arcs) where
@@ -108,8 +105,7 @@ module _ (n m : ℕ) (places elements : List ℕ) (there : LeadsBack n places el
   module _ (order : List ℕ) (is_order : IsOrder arcs order) where
     pub turned_at : (i : ℕ) → i < length (reverse order) → arc_at turned (get_or (reverse order) i 0) ≡ turned_arc n places (arc_at arcs (get_or order (length order - 1 - i) 0))
     turned_at i below =
-        let same = length-reverse order in
-        let low : i < length order = omega arith in
+        let low : i < length order = omega (arith, length-reverse order) in
         ap (arc_at turned) (get_or-reverse order i 0 low) ∙ arc_turned (get_or order (length order - 1 - i) 0) (inside arcs order is_order (length order - 1 - i) (omega arith))
 
     pub IsOrder-turned : IsOrder turned (reverse order)
@@ -121,8 +117,7 @@ module _ (n m : ℕ) (places elements : List ℕ) (there : LeadsBack n places el
           let at_i = ap (λ (a : TimingArc). a.to) (turned_at i low_i) in
           let at_j = ap (λ (a : TimingArc). a.from) (turned_at j low_j) in
           let e = turned_apart n places elements there back (arc_at arcs (get_or order (length order - 1 - i) 0)).from (arc_at arcs (get_or order (length order - 1 - j) 0)).to (sym at_i ∙ met ∙ at_j) in
-          let sooner = is_order.ordered (length order - 1 - j) (length order - 1 - i) (omega arith) (omega arith) (sym e) in
-          omega arith;
+          omega (arith, is_order.ordered (length order - 1 - j) (length order - 1 - i) (omega arith) (omega arith) (sym e));
     }
 
   -- from the output of the element at a place of the design turned round
@@ -178,7 +173,7 @@ module _ (design : Design) (places elements : List ℕ) (kept : IsDesign design)
     inner = kept.inner;
     phases = kept.phases;
     elements = kept.elements;
-    arcs = let same = length-map design.arcs (turned_arc (length design.elements) places) in let few = kept.arcs in omega arith;
+    arcs = omega (arith, length-map design.arcs (turned_arc (length design.elements) places));
     bounds = kept.bounds;
     each_element = kept.each_element;
     each_arc = each_turned (length design.elements) (length design.inner) places elements there back design.arcs kept.each_arc;

@@ -4,7 +4,6 @@ use Rattle.std.specs.Prelude.{IfSome, IsSomeAnd}
 use Rattle.std.proofs.lemmas.Bool.{cases_lt}
 use Rattle.std.proofs.lemmas.Int.{ints}
 use Rattle.mintc_timing.specs.Design.{Design}
-use Rattle.mintc_timing.specs.Order.{ArePathsShort}
 use Rattle.mintc_timing.specs.Paths.{IsPath, greatest_delay}
 use Rattle.mintc_lanes.specs.Lanes.{lane_at}
 use Rattle.mintc_paths.specs.declared.sums.Sums.{Sums}
@@ -16,21 +15,17 @@ use Rattle.mintc_paths.specs.Refusals.{IsLong, IsFirstLong, AreShortBefore}
 short_path : (design : Design) (j bit : ℕ) (x : Option ℤ) → IsReached design j bit x → IfSome x (λ z. z ≤ℤ pos 1000000000) → (path : List ℕ) → IsPath design.arcs j path bit →
     greatest_delay design.arcs path ≤ℤ pos 1000000000
 short_path design j bit None h g path is = absurd (h path is)
-short_path design j bit (Some z) h g path is = let most = h.0 path is in omega (arith, ints)
+short_path design j bit (Some z) h g path is = omega (arith, ints, h.0 path is)
 
 long_path : (design : Design) (j bit : ℕ) (x : Option ℤ) → IsReached design j bit x → IsSomeAnd x (λ z. pos 1000000000 <ℤ z) → (path : List ℕ) × IsLong design j bit path
 long_path design j bit None h g = absurd g
 long_path design j bit (Some z) h g =
     let above : pos 0 <ℤ z = omega (arith, ints) in
     let found = h.1 above in
-    let sum = found.2 in
     (found.0, (found.1, omega (arith, ints)))
 
 not_long : (design : Design) (j bit : ℕ) (path : List ℕ) → greatest_delay design.arcs path ≤ℤ pos 1000000000 → IsLong design j bit path → ⊥
-not_long design j bit path h g = let above = g.1 in omega (arith, ints)
-
-pub AreShortBefore-all : (design : Design) (n : ℕ) → n ≤ length design.elements → ArePathsShort design → AreShortBefore design n
-AreShortBefore-all design n few short = λ j bit path below is. short j bit path (omega arith) is
+not_long design j bit path h g = omega (arith, ints, g.1)
 
 module _ (design : Design) (first lanes : ℕ) (sums : List Sums) (h : AreExtremes design first lanes sums) (before : AreShortBefore design first) where
   -- no path from the element of a short lane is long

@@ -1,12 +1,8 @@
 use Rattle.std.proofs.Common.{length, refl, arith}
-use Rattle.std.proofs.lemmas.Bool.{OnTrue_at}
 use Rattle.mintc_paths.specs.Sums.{placed}
 use Rattle.mintc_paths.proofs.Rowing.{IsShortLane-placed}
-use Rattle.mintc_paths.proofs.Shortness.{AreShortBefore-all, AreShortBefore-more, IsFirstLong-from_lane}
+use Rattle.mintc_paths.proofs.Shortness.{AreShortBefore-more, IsFirstLong-from_lane}
 use Rattle.mintc_paths.proofs.long.refuse_long.Goals as goal
-
-pub returns-then-known_short-clause-short : goal.returns-then-known_short-clause-short
-returns-then-known_short-clause-short g c = AreShortBefore-all g.design _ c.requires.1.1.0 (OnTrue_at c.if-known_short.true c.requires.1.1.1.1.1.1)
 
 pub returns-then-are_short-clause-short : goal.returns-then-are_short-clause-short
 returns-then-are_short-clause-short g c =

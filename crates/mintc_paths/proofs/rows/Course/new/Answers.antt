@@ -9,12 +9,6 @@ use Rattle.mintc_paths.proofs.Filling.{arc_inside}
 use Rattle.mintc_paths.proofs.SharedFinding.{low_or_at}
 use Rattle.mintc_paths.proofs.rows.Course.new.Goals as goal
 
-pub bounds-arcs-number : goal.bounds-arcs-number
-bounds-arcs-number c =
-    let items : c.items-numbers.result.now ≡ c.args.order.now = c.items-numbers.ensures ∙ c.arcs.ensures in
-    let low : c.loop-number.number-index < length c.args.order.now = subst (λ (xs : List ℕ). c.loop-number.number-index < length xs) items c.loop-number-test.true in
-    rw (c.arcs-arcs.ensures, items) (inside c.args.flat.now.arcs c.args.order.now c.requires.order c.loop-number.number-index low)
-
 -- one more arc of the list, from row to row
 pushed : (arcs : List TimingArc) (order rows : List ℕ) (k from to : ℕ) (along new : List TimingArc) → AreAlong arcs order rows k along →
     from ≡ row_of rows (arc_at arcs (get_or order k 0)).from → to ≡ row_of rows (arc_at arcs (get_or order k 0)).to →
