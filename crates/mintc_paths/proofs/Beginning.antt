@@ -39,19 +39,21 @@ AreBegun-none arcs order first sums h = record {
   absent = λ bit lane inside low g. subst (λ (s : Sums). (lane_at s.greatest lane ≡ None) × (lane_at s.least lane ≡ None)) (sym (h bit inside)) (none_at lane g);
 }
 
-module _ (arcs : List TimingArc) (order : List ℕ) (first lane : ℕ) (old new : List Sums) (same : length new ≡ length old) (below : lane < 8)
-    (others : (bit : ℕ) → bit ≢ output_of (first + lane) → sums_at new bit ≡ sums_at old bit)
-    (lanes : (other : ℕ) → other ≢ lane
-    → (lane_at (sums_at new (output_of (first + lane))).greatest other ≡ lane_at (sums_at old (output_of (first + lane))).greatest other)
-    × (lane_at (sums_at new (output_of (first + lane))).least other ≡ lane_at (sums_at old (output_of (first + lane))).least other))
-    (own : (lane_at (sums_at new (output_of (first + lane))).greatest lane ≡ Some (pos 0)) × (lane_at (sums_at new (output_of (first + lane))).least lane ≡ Some (pos 0)))
+-- what a call of begin leaves in a row, or at a bit
+pub record IsBegun (old new : List Sums) (at lane : ℕ) : Type 0 where
+  pub others : (other : ℕ) → other ≢ at → sums_at new other ≡ sums_at old other
+  pub lanes : (other : ℕ) → other ≢ lane
+      → (lane_at (sums_at new at).greatest other ≡ lane_at (sums_at old at).greatest other) × (lane_at (sums_at new at).least other ≡ lane_at (sums_at old at).least other)
+  pub own : (lane_at (sums_at new at).greatest lane ≡ Some (pos 0)) × (lane_at (sums_at new at).least lane ≡ Some (pos 0))
+
+module _ (arcs : List TimingArc) (order : List ℕ) (first lane : ℕ) (old new : List Sums) (same : length new ≡ length old) (below : lane < 8) (begun : IsBegun old new (output_of (first + lane)) lane)
     (h : AreBegun arcs order first lane old) where
   -- the other lanes are as they were, at each bit
   kept : (bit other : ℕ) → other ≢ lane →
       (lane_at (sums_at new bit).greatest other ≡ lane_at (sums_at old bit).greatest other) × (lane_at (sums_at new bit).least other ≡ lane_at (sums_at old bit).least other)
   kept bit other ne = ⊎_elim
-      (λ e. subst (λ b. (lane_at (sums_at new b).greatest other ≡ lane_at (sums_at old b).greatest other) × (lane_at (sums_at new b).least other ≡ lane_at (sums_at old b).least other)) (sym e) (lanes other ne))
-      (λ apart. (ap (λ (s : Sums). lane_at s.greatest other) (others bit apart), ap (λ (s : Sums). lane_at s.least other) (others bit apart)))
+      (λ e. subst (λ b. (lane_at (sums_at new b).greatest other ≡ lane_at (sums_at old b).greatest other) × (lane_at (sums_at new b).least other ≡ lane_at (sums_at old b).least other)) (sym e) (begun.lanes other ne))
+      (λ apart. (ap (λ (s : Sums). lane_at s.greatest other) (begun.others bit apart), ap (λ (s : Sums). lane_at s.least other) (begun.others bit apart)))
       (cases_eq bit (output_of (first + lane)))
 
   -- the lane is 0 at its output, and absent elsewhere
@@ -60,10 +62,10 @@ module _ (arcs : List TimingArc) (order : List ℕ) (first lane : ℕ) (old new 
 
   at_lane : (bit : ℕ) → bit < length new → IsOwn bit (lane_at (sums_at new bit).greatest lane) × IsOwn bit (lane_at (sums_at new bit).least lane)
   at_lane bit inside = ⊎_elim
-      (λ e. subst (λ b. IsOwn b (lane_at (sums_at new b).greatest lane) × IsOwn b (lane_at (sums_at new b).least lane)) (sym e) (inl (refl, own.0), inl (refl, own.1)))
+      (λ e. subst (λ b. IsOwn b (lane_at (sums_at new b).greatest lane) × IsOwn b (lane_at (sums_at new b).least lane)) (sym e) (inl (refl, begun.own.0), inl (refl, begun.own.1)))
       (λ apart.
       let none = h.absent bit lane (omega arith) (omega arith) below in
-      (inr (apart, ap (λ (s : Sums). lane_at s.greatest lane) (others bit apart) ∙ none.0), inr (apart, ap (λ (s : Sums). lane_at s.least lane) (others bit apart) ∙ none.1)))
+      (inr (apart, ap (λ (s : Sums). lane_at s.greatest lane) (begun.others bit apart) ∙ none.0), inr (apart, ap (λ (s : Sums). lane_at s.least lane) (begun.others bit apart) ∙ none.1)))
       (cases_eq bit (output_of (first + lane)))
 
   IsOwn-within : (bit : ℕ) (x : Option ℤ) → IsOwn bit x → IfSome x (λ z. unsigned_abs z ≤ 0)

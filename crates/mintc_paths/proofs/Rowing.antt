@@ -1,5 +1,5 @@
 -- The rows of the bits.
-use Rattle.std.proofs.Common.{◌≡◌, ◌≢◌, ℕ, ◌<◌, ◌≤◌, ◌+◌, ◌*◌, pos, Some, List, length, get_or, map, arith, ap, ◌∙◌, sym, ⊎_elim, subst, below_more}
+use Rattle.std.proofs.Common.{◌≡◌, ◌≢◌, ℕ, ◌<◌, ◌≤◌, ◌+◌, ◌*◌, List, length, get_or, map, arith, ap, ◌∙◌, sym, ⊎_elim, subst, below_more}
 use Rattle.std.proofs.lemmas.Bool.{cases_lt}
 use Rattle.std.proofs.lemmas.List.{get_or-map, get_or_past}
 use Rattle.std.proofs.Math.ListN.{length-map}
@@ -14,7 +14,7 @@ use Rattle.mintc_paths.specs.Sums.{sums_at, no_sums, row_of, LeadsBack, AreRows,
 use Rattle.mintc_paths.specs.Among.{IsGreatestAmong, IsLeastAmong}
 use Rattle.mintc_paths.specs.Long.{IsShortAt, IsShortLane, AreShortBelow}
 use Rattle.mintc_paths.specs.Reached.{IsPaired}
-use Rattle.mintc_paths.proofs.Beginning.{AreBegun-none, AreBegun-more}
+use Rattle.mintc_paths.proofs.Beginning.{IsBegun, AreBegun-none, AreBegun-more}
 use Rattle.mintc_paths.proofs.Filling.{IsCarried}
 
 pub length-placed : (rows : List ℕ) (sums : List Sums) → length (placed rows sums) ≡ length rows
@@ -56,13 +56,6 @@ module _ (n : ℕ) (rows bits : List ℕ) (h : LeadsBack n rows bits) (old new :
         bounded = rw (old_from, old_to, new_to) carried.bounded;
       }
 
--- what a call of begin leaves in a row, or at a bit
-pub record IsBegun (old new : List Sums) (at lane : ℕ) : Type 0 where
-  pub others : (other : ℕ) → other ≢ at → sums_at new other ≡ sums_at old other
-  pub lanes : (other : ℕ) → other ≢ lane
-      → (lane_at (sums_at new at).greatest other ≡ lane_at (sums_at old at).greatest other) × (lane_at (sums_at new at).least other ≡ lane_at (sums_at old at).least other)
-  pub own : (lane_at (sums_at new at).greatest lane ≡ Some (pos 0)) × (lane_at (sums_at new at).least lane ≡ Some (pos 0))
-
 pub AreBegun-placed_none : (arcs : List TimingArc) (order : List ℕ) (first n : ℕ) (rows : Rows) → AreRows n rows → (sums : List Sums) → length sums ≡ n →
     ((row : ℕ) → row < length sums → sums_at sums row ≡ NO_SUMS) → AreBegun arcs order first 0 (placed rows.of_bits.items sums)
 AreBegun-placed_none arcs order first n rows h sums same none =
@@ -78,8 +71,7 @@ AreBegun-placed_more arcs order first lane n rows h old new few inside begun bef
     let was : sums_at (placed xs old) bit ≡ sums_at old (row_of xs bit) = placed_at xs old bit (omega arith) in
     let is : sums_at (placed xs new) bit ≡ sums_at new (row_of xs bit) = placed_at xs new bit (omega arith) in
     AreBegun-more arcs order first lane (placed xs old) (placed xs new) (length-placed xs new ∙ sym (length-placed xs old)) few
-    (placed_others n xs rows.bits.items h.of_bits old new bit inside begun.others)
-    (rw (was, is) begun.lanes) (rw is begun.own) before
+    (record { others = placed_others n xs rows.bits.items h.of_bits old new bit inside begun.others; lanes = rw (was, is) begun.lanes; own = rw is begun.own }) before
 
 -- each row is that of a bit, so what is known of the sums at the bits is known of those in the rows
 module _ (arcs : List TimingArc) (order : List ℕ) (k first lanes n : ℕ) (rows : Rows) (h : AreRows n rows) (sums : List Sums)

@@ -19,7 +19,7 @@ use Rattle.mintc_timing.specs.Order.{ArePathsShort}
 use Rattle.mintc_paths.specs.Longest.{AreRunsShort}
 use Rattle.mintc_paths.specs.Sums.{row_of, LeadsBack}
 use Rattle.mintc_paths.specs.Turned.{turned_bit, bit_before, turned_arc, turned_arcs, turned_design, pair_back}
-use Rattle.mintc_paths.proofs.Turning.{IsBit, input, output, inner, is_bit, turned_input, turned_output, turned_inner, turned_below, turned_before, turned_apart}
+use Rattle.mintc_paths.proofs.Turning.{before_input, before_output, before_turned, turned_input, turned_output, turned_below, turned_before, turned_apart}
 
 reverse_cons : (n : ℕ) (path : List ℕ) → reverse (n ∷ path) ≡ reverse path ++ n ∷ []
 reverse_cons n path = reverse-append (n ∷ []) path
@@ -80,22 +80,12 @@ module _ (n m : ℕ) (places elements : List ℕ) (there : LeadsBack n places el
   IsArc-turned arc h = record {
     from = turned_below n places elements there back m arc.to h.to;
     to = turned_below n places elements there back m arc.from h.from;
-    leaves = λ l low e. not_entered l low e (is_bit n arc.to);
-    enters = λ l low e. not_left l low e (is_bit n arc.from);
+    leaves = λ l low e. h.enters l low (sym (before_turned n places elements there back arc.to) ∙ ap (bit_before n elements) e ∙ before_input n elements l low);
+    enters = λ l low e. h.leaves (row_of elements l) (back.inside l low) (sym (before_turned n places elements there back arc.from) ∙ ap (bit_before n elements) e ∙ before_output n elements l low);
     min = h.min;
     max = h.max;
     ordered = h.ordered;
   }
-    where
-      not_entered : (l : ℕ) → l < n → goes arc.to ≡ 2 * l → IsBit n arc.to → ⊥
-      not_entered l low e (input k below is) = let at = ap goes is ∙ turned_input n places k below in omega arith
-      not_entered l low e (output k below is) = h.enters k below is
-      not_entered l low e (inner past) = let at = turned_inner n places arc.to past in omega arith
-
-      not_left : (l : ℕ) → l < n → goes arc.from ≡ 2 * l + 1 → IsBit n arc.from → ⊥
-      not_left l low e (input k below is) = h.leaves k below is
-      not_left l low e (output k below is) = let at = ap goes is ∙ turned_output n places k below in omega arith
-      not_left l low e (inner past) = let at = turned_inner n places arc.from past in omega arith
 
   pub each_turned : All (IsArc n m) turned
   each_turned k d below =
@@ -149,16 +139,10 @@ module _ (n m : ℕ) (places elements : List ℕ) (there : LeadsBack n places el
       total (λ k. of (arc_at arcs k)) (reverse path) ≡ total (λ k. of (arc_at turned k)) path
   sum_back of kept path = total-reverse (λ k. of (arc_at arcs k)) path ∙ sym (total-alike (λ k. of (arc_at turned k)) (λ k. of (arc_at arcs k)) path (same_turned of kept))
 
-  max_sum : (path : List ℕ) → total (λ k. (arc_at turned k).max) (reverse path) ≡ total (λ k. (arc_at arcs k).max) path
-  max_sum = sum_turned (λ (a : TimingArc). a.max) (λ arc. refl)
-
-  max_sum_back : (path : List ℕ) → total (λ k. (arc_at arcs k).max) (reverse path) ≡ total (λ k. (arc_at turned k).max) path
-  max_sum_back = sum_back (λ (a : TimingArc). a.max) (λ arc. refl)
-
   pub greatest_back : (a b : ℕ) (x : ℤ) → a < n → b < n → IsGreatestDelay turned a (input_of b) x → IsGreatestDelay arcs b (input_of (row_of elements a)) x
   greatest_back a b x from to h = record {
-    attained = let at = h.attained in (reverse at.0, from_back a b at.0 from to at.1, max_sum_back at.0 ∙ at.2);
-    bound = λ path g. subst (λ z. z ≤ℤ x) (max_sum path) (h.bound (reverse path) (back_again a b path from to g));
+    attained = let at = h.attained in (reverse at.0, from_back a b at.0 from to at.1, sum_back (λ (a : TimingArc). a.max) (λ arc. refl) at.0 ∙ at.2);
+    bound = λ path g. subst (λ z. z ≤ℤ x) (sum_turned (λ (a : TimingArc). a.max) (λ arc. refl) path) (h.bound (reverse path) (back_again a b path from to g));
   }
 
   pub least_back : (a b : ℕ) (x : ℤ) → a < n → b < n → IsLeastDelay turned a (input_of b) x → IsLeastDelay arcs b (input_of (row_of elements a)) x
@@ -190,7 +174,7 @@ module _ (design : Design) (places elements : List ℕ) (kept : IsDesign design)
       let ends : turned_bit n places to ≡ bit = turned_before n places elements there back bit in
       let leads = Leads-back n m places elements there back design.arcs kept.each_arc to from path
       (subst (λ x. Leads (turned_arcs n places design.arcs) x path (turned_bit n places to)) (sym starts) (subst (λ x. Leads (turned_arcs n places design.arcs) (output_of j) path x) (sym ends) is.1)) in
-      subst (λ z. z ≤ℤ pos 1000000000) (max_sum_back n m places elements there back design.arcs kept.each_arc path) (short to (reverse path) from leads)
+      subst (λ z. z ≤ℤ pos 1000000000) (sum_back n m places elements there back design.arcs kept.each_arc (λ (a : TimingArc). a.max) (λ arc. refl) path) (short to (reverse path) from leads)
 
   pub HasExtremes-back : (pair : Pair) → HasExtremes (turned_design places design) pair → HasExtremes design (pair_back elements pair)
   HasExtremes-back pair h = record {

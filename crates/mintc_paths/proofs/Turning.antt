@@ -4,12 +4,6 @@ use Rattle.std.proofs.lemmas.Bool.{cases_lt}
 use Rattle.mintc_paths.specs.Sums.{row_of, LeadsBack}
 use Rattle.mintc_paths.specs.Turned.{turned_bit, bit_before}
 
--- what bits there are of n elements
-pub data IsBit (n : ℕ) (bit : ℕ) : Type 0 where
-  input : (l : ℕ) → l < n → bit ≡ 2 * l → IsBit n bit
-  output : (l : ℕ) → l < n → bit ≡ 2 * l + 1 → IsBit n bit
-  inner : 2 * n ≤ bit → IsBit n bit
-
 pub turned_input : (n : ℕ) (places : List ℕ) (l : ℕ) → l < n → turned_bit n places (2 * l) ≡ 2 * row_of places l + 1
 turned_input n places l below = grind arith
 
@@ -28,26 +22,18 @@ before_output n elements l below = grind arith
 pub before_inner : (n : ℕ) (elements : List ℕ) (bit : ℕ) → 2 * n ≤ bit → bit_before n elements bit ≡ bit
 before_inner n elements bit past = grind arith
 
-pub is_bit : (n bit : ℕ) → IsBit n bit
-is_bit n bit = ⊎_elim
+-- what holds of each input, output and inner bit holds of each bit
+by_bit : (n : ℕ) (P : ℕ → Type 0) → ((l : ℕ) → l < n → P (2 * l)) → ((l : ℕ) → l < n → P (2 * l + 1)) → ((bit : ℕ) → 2 * n ≤ bit → P bit) → (bit : ℕ) → P bit
+by_bit n P at_input at_output at_inner bit = ⊎_elim
     (λ (low : bit < 2 * n). ⊎_elim
-    (λ (e : bit ≡ 2 * (bit / 2)). input (bit / 2) (omega arith) e)
-    (λ (e : bit ≡ 2 * (bit / 2) + 1). output (bit / 2) (omega arith) e)
+    (λ (e : bit ≡ 2 * (bit / 2)). subst P (sym e) (at_input (bit / 2) (omega arith)))
+    (λ (e : bit ≡ 2 * (bit / 2) + 1). subst P (sym e) (at_output (bit / 2) (omega arith)))
     (even_or_odd bit))
-    (λ (high : 2 * n ≤ bit). inner high)
+    (λ (high : 2 * n ≤ bit). at_inner bit high)
     (cases_lt bit (2 * n))
   where
     even_or_odd : (k : ℕ) → (k ≡ 2 * (k / 2)) ⊎ (k ≡ 2 * (k / 2) + 1)
     even_or_odd k = grind arith
-
--- what holds of each kind of bit holds of each bit
-by_bit : (n : ℕ) (P : ℕ → Type 0) → ((l : ℕ) → l < n → P (2 * l)) → ((l : ℕ) → l < n → P (2 * l + 1)) → ((bit : ℕ) → 2 * n ≤ bit → P bit) → (bit : ℕ) → P bit
-by_bit n P at_input at_output at_inner bit = case (is_bit n bit)
-  where
-    case : IsBit n bit → P bit
-    case (input l low e) = subst P (sym e) (at_input l low)
-    case (output l low e) = subst P (sym e) (at_output l low)
-    case (inner past) = at_inner bit past
 
 module _ (n : ℕ) (places elements : List ℕ) (there : LeadsBack n places elements) (back : LeadsBack n elements places) where
   abbrev goes : ℕ → ℕ
@@ -70,15 +56,15 @@ module _ (n : ℕ) (places elements : List ℕ) (there : LeadsBack n places elem
 
   pub turned_below : (m bit : ℕ) → bit < 2 * n + m → turned_bit n places bit < 2 * n + m
   turned_below m = by_bit n (λ bit. bit < 2 * n + m → goes bit < 2 * n + m)
-      (λ l low below. let at = there.inside l low in let is = turned_input n places l low in omega arith)
-      (λ l low below. let is = turned_output n places l low in omega arith)
-      (λ bit past below. let is = turned_inner n places bit past in omega arith)
+      (λ l low below. omega (arith, there.inside l low, turned_input n places l low))
+      (λ l low below. omega (arith, turned_output n places l low))
+      (λ bit past below. omega (arith, turned_inner n places bit past))
 
   pub before_below : (m bit : ℕ) → bit < 2 * n + m → bit_before n elements bit < 2 * n + m
   before_below m = by_bit n (λ bit. bit < 2 * n + m → was bit < 2 * n + m)
-      (λ l low below. let is = before_input n elements l low in omega arith)
-      (λ l low below. let at = back.inside l low in let is = before_output n elements l low in omega arith)
-      (λ bit past below. let is = before_inner n elements bit past in omega arith)
+      (λ l low below. omega (arith, before_input n elements l low))
+      (λ l low below. omega (arith, back.inside l low, before_output n elements l low))
+      (λ bit past below. omega (arith, before_inner n elements bit past))
 
   pub turned_apart : (a b : ℕ) → turned_bit n places a ≡ turned_bit n places b → a ≡ b
   turned_apart a b e = sym (before_turned a) ∙ ap (bit_before n elements) e ∙ before_turned b

@@ -4,7 +4,8 @@ use Rattle.mintc_paths.specs.declared.sums.Sums.{Sums}
 use Rattle.mintc_paths.specs.Sums.{row_of, placed, AreBegun, AreMarked}
 use Rattle.mintc_paths.proofs.Marking.{marked_more}
 use Rattle.mintc_paths.proofs.SharedWaking.{IsAwake-none}
-use Rattle.mintc_paths.proofs.Rowing.{IsBegun, AreBegun-placed_none, AreBegun-placed_more}
+use Rattle.mintc_paths.proofs.Beginning.{IsBegun}
+use Rattle.mintc_paths.proofs.Rowing.{AreBegun-placed_none, AreBegun-placed_more}
 use Rattle.mintc_paths.proofs.sums.clear.Goals as goal
 
 pub loop-lane-init : goal.loop-lane-init
