@@ -1,4 +1,4 @@
-use Rattle.std.proofs.Common.{◌≡◌, ◌+◌, ◌<◌, ◌∷◌, [], ℕ, List, length, set, arith, sym}
+use Rattle.std.proofs.Common.{◌≡◌, ◌+◌, ◌<◌, ◌∷◌, [], ℕ, length, set, arith, sym}
 use Rattle.std.proofs.lemmas.List.{length-append}
 use Rattle.mintc_paths.specs.declared.sums.TheConstants.{NO_SUMS}
 use Rattle.mintc_paths.specs.Held.{places_of}
@@ -12,7 +12,7 @@ place_is c = omega (arith, c.len-place.ensures, c.args.sums.now.ok.0)
 
 pub returns-clause-held : goal.returns-clause-held
 returns-clause-held c =
-    let numbers : List ℕ = c.args.numbers.now.items in
+    let numbers = c.args.numbers.now.items in
     let base : ℕ = c.args.base in
     let row : ℕ = c.args.row in
     let sums = c.args.sums.now.items in
@@ -24,7 +24,7 @@ returns-clause-held c =
 
 pub returns-clause-kept : goal.returns-clause-kept
 returns-clause-kept c =
-    let numbers : List ℕ = c.args.numbers.now.items in
+    let numbers = c.args.numbers.now.items in
     let base : ℕ = c.args.base in
     let row : ℕ = c.args.row in
     let sums = c.args.sums.now.items in

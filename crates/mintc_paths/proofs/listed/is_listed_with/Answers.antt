@@ -28,8 +28,8 @@ total_more weight path i low = ap (total weight) (take_more path i 0 low) ∙ to
 
 pub loop-number-preserved : goal.loop-number-preserved
 loop-number-preserved c =
-    let arcs : List TimingArc = c.arcs-arcs.result.now in
-    let path : List ℕ = c.args.path.now in
+    let arcs = c.arcs-arcs.result.now in
+    let path = c.args.path.now in
     let i : ℕ = c.loop-number.number-index in
     let n : ℕ = get_or path i 0 in
     let below : n < length arcs = omega arith in

@@ -1,6 +1,5 @@
-use Rattle.std.proofs.Common.{◌≡◌, ◌<◌, ◌+◌, ◌*◌, ◌∙◌, ℕ, List, length, arith, sym, subst}
+use Rattle.std.proofs.Common.{◌≡◌, ◌<◌, ◌+◌, ◌*◌, ◌∙◌, ℕ, length, arith, sym, subst}
 use Rattle.std.proofs.lemmas.List.{get_or_default}
-use Rattle.mintc_paths.specs.declared.sums.Sums.{Sums}
 use Rattle.mintc_paths.specs.Sums.{row_of, placed, AreBegun, AreMarked}
 use Rattle.mintc_paths.proofs.Marking.{marked_more}
 use Rattle.mintc_paths.proofs.SharedWaking.{IsAwake-none}
@@ -18,13 +17,13 @@ loop-lane-init c = record {
 
 pub loop-lane-preserved : goal.loop-lane-preserved
 loop-lane-preserved c =
-    let rows : List ℕ = c.args.course.now.rows.of_bits.items in
+    let rows = c.args.course.now.rows.of_bits.items in
     let n : ℕ = length c.args.sums.now in
     let lane : ℕ = c.loop-lane.lane in
     let bit : ℕ = 2 * (c.args.first + lane) + 1 in
     let row : ℕ = c.index-row.result.now in
-    let old : List Sums = c.loop-lane.sums in
-    let new : List Sums = c.begin.new.self in
+    let old = c.loop-lane.sums in
+    let new = c.begin.new.self in
     let h = c.requires.rows.of_bits in
     let count = h.count in
     let inside : bit < n = omega arith in

@@ -1,6 +1,5 @@
-use Rattle.std.proofs.Common.{◌≡◌, ◌<◌, ◌≤◌, ◌+◌, ◌∙◌, ℕ, List, length, arith}
+use Rattle.std.proofs.Common.{◌≡◌, ◌<◌, ◌≤◌, ◌+◌, ◌∙◌, ℕ, length, arith}
 use Rattle.std.proofs.lemmas.List.{get_or_default}
-use Rattle.mintc_timing.specs.declared.parts.TimingArc.{TimingArc}
 use Rattle.mintc_timing.specs.Design.{no_arc}
 use Rattle.mintc_timing.specs.Paths.{arc_at}
 use Rattle.mintc_paths.specs.Awake.{IsAwake}
@@ -54,7 +53,7 @@ carry-requires-clause-alike g c = (ends g (goal.at.carry-requires-clause-alike g
 pub loop-place-preserved : goal.loop-place-preserved
 loop-place-preserved g c =
     let i : ℕ = c.loop-place.place in
-    let along : List TimingArc = c.args.course.now.along.items in
+    let along = c.args.course.now.along.items in
     let all = c.requires.0.is_course.along.count in
     let low : i < length g.of.order = omega (arith, c.args.course.now.along.ok.0) in
     let turn = (goal.at.loop-place-preserved g c).After-index-arc in
@@ -78,7 +77,7 @@ pub returns-clause-extremes : goal.returns-clause-extremes
 returns-clause-extremes g c =
     let all = c.requires.0.is_course.along.count in
     let past : length g.of.order ≤ c.loop-place.place = omega (arith, c.args.course.now.along.ok.0) in
-    let rows : List ℕ = c.args.course.now.rows.of_bits.items in
+    let rows = c.args.course.now.rows.of_bits.items in
     let in_rows = c.requires.0.is_course.rows.of_bits.count in
     let same = length-placed rows c.loop-place.sums in
     AreExtremes-from_sums g.of.design g.of.order c.requires.0.is_ordered.order c.args.first c.args.lanes (placed rows c.loop-place.sums) (omega arith) c.requires.1.1.0 c.requires.0.is_ordered.kept.each_arc
@@ -87,7 +86,7 @@ returns-clause-extremes g c =
 pub next-place-requires-in-loop-place : goal.next-place-requires-in-loop-place
 next-place-requires-in-loop-place g c =
     let i : ℕ = c.loop-place.place in
-    let along : List TimingArc = c.args.course.now.along.items in
+    let along = c.args.course.now.along.items in
     let awake = c.in_ok-carry.ensures.awake (i + 1)
     (IsAwake-next along i c.loop-place.reached c.loop-place.awake _ c.remove.ensures.count c.remove.ensures.others c.loop-place.invariant.awake) in
     awake.ready.few

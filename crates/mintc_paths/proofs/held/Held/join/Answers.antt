@@ -1,9 +1,7 @@
-use Rattle.std.proofs.Common.{◌≡◌, ◌∙◌, ℕ, List, set, arith, refl, ap, sym, subst}
-use Rattle.mintc_timing.specs.declared.parts.TimingArc.{TimingArc}
-use Rattle.mintc_paths.specs.declared.sums.Sums.{Sums}
+use Rattle.std.proofs.Common.{◌≡◌, ◌∙◌, ℕ, List, set, arith, refl, ap, sym}
 use Rattle.mintc_paths.specs.declared.sums.TheConstants.{NO_SUMS}
 use Rattle.mintc_paths.specs.Held.{place_at, places_of}
-use Rattle.mintc_paths.specs.Sums.{sums_at, placed, IsBounded}
+use Rattle.mintc_paths.specs.Sums.{sums_at, placed}
 use Rattle.mintc_paths.proofs.Holding.{IsJoinedOne, held_at, held_none, given_at, joined_at, length-places}
 use Rattle.mintc_paths.proofs.held.Held.join.Goals as goal
 use Rattle.mintc_paths.proofs.held.Held.join.Goals.{After-index-2}
@@ -11,10 +9,10 @@ use Rattle.mintc_paths.proofs.held.Held.join.Goals.{After-index-2}
 pub returns-then-place-gt0 : goal.returns-then-place-gt0
 returns-then-place-gt0 c =
     let base : ℕ = c.self.inside.base in
-    let numbers : List ℕ = c.self.inside.numbers.items in
-    let sums : List Sums = c.self.inside.sums.items in
-    let old : List Sums = c.args.self.now in
-    let arc : TimingArc = c.args.arc in
+    let numbers = c.self.inside.numbers.items in
+    let sums = c.self.inside.sums.items in
+    let old = c.args.self.now in
+    let arc = c.args.arc in
     let place_is = c.place_of-place.ensures ∙ ap (λ (xs : List ℕ). place_at (places_of base xs) arc.to) c.deref.ensures.value in
     let left_is = c.place_of-left.ensures ∙ ap (λ (xs : List ℕ). place_at (places_of base xs) arc.from) c.deref-then-place-gt0.ensures.value in
     let from_is : c.index.result.now ≡ sums_at old arc.from =
@@ -39,12 +37,12 @@ from_is c =
 pub returns : goal.returns
 returns c =
     let base : ℕ = c.self.inside.base in
-    let numbers : List ℕ = c.self.inside.numbers.items in
-    let old : List Sums = c.args.self.now in
-    let arc : TimingArc = c.args.arc in
+    let numbers = c.self.inside.numbers.items in
+    let old = c.args.self.now in
+    let arc = c.args.arc in
     let place_is = c.place_of-place.ensures ∙ ap (λ (xs : List ℕ). place_at (places_of base xs) arc.to) c.deref.ensures.value in
     let given = c.in_ok-place.ensures in
-    let more : List Sums = c.give.new.sums.items in
+    let more = c.give.new.sums.items in
     let places : List ℕ = places_of base c.give.new.numbers.items in
     let count = length-places base c.give.new.numbers.items ∙ given.count ∙ sym (length-places base numbers) in
     let h = c.led_on.ensures in
@@ -57,4 +55,4 @@ returns c =
 
 pub led_on-requires-clause-others_bounded : goal.led_on-requires-clause-others_bounded
 led_on-requires-clause-others_bounded c =
-    subst (λ (s : Sums). IsBounded 1000000000000000 s) (sym (from_is (goal.at.led_on-requires-clause-others_bounded c).After-index-2)) c.requires.from_bounded
+    rw (from_is (goal.at.led_on-requires-clause-others_bounded c).After-index-2) c.requires.from_bounded
