@@ -1,5 +1,5 @@
 -- Sums that are held at places.
-use Rattle.std.proofs.Common.{◌≡◌, ◌≢◌, ◌<◌, ◌≤◌, ◌+◌, ◌-◌, ◌++◌, ◌∷◌, [], ℕ, List, length, get_or, set, take, replicate, arith, refl, ap, ◌∙◌, sym, subst, ⊎_elim, length-set, get_or-set_same, get_or-set_other}
+use Rattle.std.proofs.Common.{◌≡◌, ◌≢◌, ◌<◌, ◌≤◌, ◌+◌, ◌-◌, ◌++◌, ◌∷◌, [], ℕ, List, length, get_or, set, take, replicate, arith, ap, ◌∙◌, sym, subst, ⊎_elim, length-set, get_or-set_same, get_or-set_other}
 use Rattle.std.proofs.lemmas.Bool.{cases_eq, cases_lt}
 use Rattle.std.proofs.lemmas.List.{length-append, get_or_append_left, get_or-replicate, get_or_default, get_or_past, length-replicate, get_or-map}
 use Rattle.std.proofs.Math.ListN.{length-map}
@@ -31,22 +31,6 @@ placed_same places olds new old count row same = ⊎_elim
     (λ (past : length places ≤ row). placed_past places new row past ∙ sym (placed_past olds old row (omega arith)))
     (cases_lt row (length places))
 
--- What the rows hold is as before, and one has this place: what is there is what the row held, and what is written there the row holds then.
-module _ (places : List ℕ) (sums old : List Sums) (held : AreHeld places sums) (kept : (other : ℕ) → sums_at (placed places sums) other ≡ sums_at old other)
-    (row place : ℕ) (inside : row < length places) (is : place ≡ place_at places row) (some : place ≢ 0) where
-  pub put_own : (new : Sums) → sums_at (placed places (set sums place new)) row ≡ new
-  put_own new = placed_at places (set sums place new) row inside ∙ ap (λ k. sums_at (set sums place new) k) (sym is) ∙ get_or-set_same sums place new no_sums (omega (arith, held.below row))
-
-  pub put_others : (new : Sums) (other : ℕ) → other ≢ row → sums_at (placed places (set sums place new)) other ≡ sums_at old other
-  put_others new other ne =
-      placed_same places places (set sums place new) sums (omega arith) other
-      (λ low. get_or-set_other sums place (place_at places other) new no_sums (λ e. some (is ∙ held.apart row other (λ same. ne (sym same)) (sym is ∙ sym e))))
-      ∙ kept other
-
-  pub there : (other at : ℕ) (x : Sums) → other < length places → at ≡ place_at places other → x ≡ get_or sums at x → x ≡ sums_at old other
-  there other at x low at_is x_is =
-      x_is ∙ get_or_default sums at x no_sums (omega (arith, held.below other)) ∙ ap (λ k. sums_at sums k) at_is ∙ sym (placed_at places sums other low) ∙ kept other
-
 -- what the sums in a row become, along an arc that leaves another one
 pub record IsJoined (arc : TimingArc) (to from new : Sums) : Type 0 where
   pub greatest : AreJoined int_max to.greatest from.greatest arc.max new.greatest
@@ -59,44 +43,48 @@ pub record IsJoinedOne (arc : TimingArc) (old new : List Sums) : Type 0 where
   pub others : (row : ℕ) → row ≢ arc.to → sums_at new row ≡ sums_at old row
   pub joined : IsJoined arc (sums_at old arc.to) (sums_at old arc.from) (sums_at new arc.to)
 
--- What the rows hold, by their numbers.
-module _ (base : ℕ) (numbers : List ℕ) (sums old : List Sums) (held : AreHeld (places_of base numbers) sums) (view_is : placed (places_of base numbers) sums ≡ old) where
-  abbrev places : List ℕ
-  places = places_of base numbers
+-- The rows hold at these places what they are seen to hold.
+pub record Holds (places : List ℕ) (sums old : List Sums) : Type 0 where
+  pub held : AreHeld places sums
+  pub kept : (other : ℕ) → sums_at (placed places sums) other ≡ sums_at old other
+  pub count : length places ≡ length old
 
-  rows_count : length places ≡ length old
-  rows_count = sym (length-placed places sums) ∙ ap (λ (v : List Sums). length v) view_is
+-- also once a row is given a place
+pub Holds-given : (base : ℕ) (numbers given : List ℕ) (sums more old : List Sums) → placed (places_of base numbers) sums ≡ old → AreHeld (places_of base given) more →
+    ((other : ℕ) → sums_at (placed (places_of base given) more) other ≡ sums_at (placed (places_of base numbers) sums) other) → length given ≡ length numbers → Holds (places_of base given) more old
+Holds-given base numbers given sums more old view_is held kept count = record {
+  held = held;
+  kept = λ other. kept other ∙ ap (λ (v : List Sums). sums_at v other) view_is;
+  count = omega (arith, length-places base given, length-places base numbers, length-placed (places_of base numbers) sums, ap (λ (v : List Sums). length v) view_is);
+}
 
-  rows_kept : (other : ℕ) → sums_at (placed places sums) other ≡ sums_at old other
-  rows_kept other = ap (λ (v : List Sums). sums_at v other) view_is
-
-  -- what is read at a row's place, also once another row is given one
-  pub given_at : (given : List ℕ) (more : List Sums) → AreHeld given more → ((other : ℕ) → sums_at (placed given more) other ≡ sums_at (placed places sums) other) →
-      length given ≡ length places → (row at : ℕ) (x : Sums) → row < length old → at ≡ place_at given row → x ≡ get_or more at x → x ≡ sums_at old row
-  given_at given more given_held kept given_count row at x low is x_is =
-      x_is ∙ get_or_default more at x no_sums (omega (arith, given_held.below row)) ∙ ap (λ k. sums_at more k) is ∙ sym (placed_at given more row (omega (arith, rows_count))) ∙ kept row ∙ rows_kept row
-
-  pub held_at : (row at : ℕ) (x : Sums) → row < length old → at ≡ place_at places row → x ≡ get_or sums at x → x ≡ sums_at old row
-  held_at = given_at places sums held (λ other. refl) refl
+module _ {places : List ℕ} {sums old : List Sums} (h : Holds places sums old) where
+  -- what is read at a row's place
+  pub read_at : (row at : ℕ) (x : Sums) → row < length old → at ≡ place_at places row → x ≡ get_or sums at x → x ≡ sums_at old row
+  read_at row at x low is x_is =
+      x_is ∙ get_or_default sums at x no_sums (omega (arith, h.held.below row)) ∙ ap (λ k. sums_at sums k) is ∙ sym (placed_at places sums row (omega (arith, h.count))) ∙ h.kept row
 
   pub held_none : (row : ℕ) → row < length old → place_at places row ≡ 0 → NO_SUMS ≡ sums_at old row
-  held_none row low none = sym held.none ∙ ap (λ k. sums_at sums k) (sym none) ∙ sym (placed_at places sums row (omega (arith, rows_count))) ∙ rows_kept row
+  held_none row low none = sym h.held.none ∙ ap (λ k. sums_at sums k) (sym none) ∙ sym (placed_at places sums row (omega (arith, h.count))) ∙ h.kept row
 
-  module _ (arc : TimingArc) (from_low : arc.from < length old) (to_low : arc.to < length old) (from : Sums) (from_is : from ≡ sums_at old arc.from) where
-    -- the row that the arc enters has this place, maybe a new one
-    pub joined_at : (given : List ℕ) (more : List Sums) → AreHeld given more → ((other : ℕ) → sums_at (placed given more) other ≡ sums_at (placed places sums) other) →
-        length given ≡ length places → (place : ℕ) (to new : Sums) → to ≡ sums_at old arc.to → place ≡ place_at given arc.to → place ≢ 0 → IsJoined arc to from new →
-        IsJoinedOne arc old (placed given (set more place new))
-    joined_at given more given_held kept given_count place to new to_is is some h =
-        let count = rows_count in
-        let inside : arc.to < length given = omega arith in
-        let all_kept : (other : ℕ) → sums_at (placed given more) other ≡ sums_at old other = λ other. kept other ∙ rows_kept other in
-        record {
-          count = length-placed given (set more place new) ∙ given_count ∙ count;
-          others = put_others given more old given_held all_kept arc.to place inside is some new;
-          joined = subst (λ s. IsJoined arc (sums_at old arc.to) (sums_at old arc.from) s) (sym (put_own given more old given_held all_kept arc.to place inside is some new))
-              (subst (λ s. IsJoined arc s (sums_at old arc.from) new) to_is (subst (λ s. IsJoined arc to s new) from_is h));
-        }
+  -- What is written at a row's place the row holds then.
+  module _ (row place : ℕ) (inside : row < length old) (is : place ≡ place_at places row) (some : place ≢ 0) (new : Sums) where
+    pub put_own : sums_at (placed places (set sums place new)) row ≡ new
+    put_own = placed_at places (set sums place new) row (omega (arith, h.count)) ∙ ap (λ k. sums_at (set sums place new) k) (sym is) ∙ get_or-set_same sums place new no_sums (omega (arith, h.held.below row))
+
+    pub put_others : (other : ℕ) → other ≢ row → sums_at (placed places (set sums place new)) other ≡ sums_at old other
+    put_others other ne =
+        placed_same places places (set sums place new) sums (omega arith) other
+        (λ low. get_or-set_other sums place (place_at places other) new no_sums (λ e. some (is ∙ h.held.apart row other (λ same. ne (sym same)) (sym is ∙ sym e))))
+        ∙ h.kept other
+
+  pub joined_at : (arc : TimingArc) (place : ℕ) (to from new : Sums) → arc.to < length old → place ≡ place_at places arc.to → place ≢ 0 → to ≡ sums_at old arc.to → from ≡ sums_at old arc.from →
+      IsJoined arc to from new → IsJoinedOne arc old (placed places (set sums place new))
+  joined_at arc place to from new inside is some to_is from_is g = record {
+    count = length-placed places (set sums place new) ∙ h.count;
+    others = put_others arc.to place inside is some new;
+    joined = rw (put_own arc.to place inside is some new, ← to_is, ← from_is) g;
+  }
 
 -- a row without a place gets the next one
 module _ (places given : List ℕ) (sums : List Sums) (held : AreHeld places sums) (row : ℕ) (none : place_at places row ≡ 0) (count : length given ≡ length places)
