@@ -87,16 +87,27 @@ module _ {places : List ℕ} {sums old : List Sums} (h : Holds places sums old) 
   }
 
 -- a row without a place gets the next one
-module _ (places given : List ℕ) (sums : List Sums) (held : AreHeld places sums) (row : ℕ) (none : place_at places row ≡ 0) (count : length given ≡ length places)
-    (given_own : place_at given row ≡ length sums) (given_other : (other : ℕ) → other ≢ row → place_at given other ≡ place_at places other) where
+module _ (base : ℕ) (numbers : List ℕ) (sums : List Sums) (row : ℕ) (held : AreHeld (places_of base numbers) sums) (inside : row < length numbers) (none : place_at (places_of base numbers) row ≡ 0) where
+  abbrev places : List ℕ
+  places = places_of base numbers
+
+  abbrev given : List ℕ
+  given = places_of base (set numbers row (base + length sums))
+
   abbrev more : List Sums
   more = sums ++ NO_SUMS ∷ []
+
+  pub given_own : place_at given row ≡ length sums
+  given_own = omega (arith, place_is base (set numbers row (base + length sums)) row, get_or-set_same numbers row (base + length sums) 0 inside)
+
+  given_other : (other : ℕ) → other ≢ row → place_at given other ≡ place_at places other
+  given_other other ne = place_is base (set numbers row (base + length sums)) other ∙ ap (λ k. k - base) (get_or-set_other numbers row other (base + length sums) 0 ne) ∙ sym (place_is base numbers other)
 
   more_kept : (place : ℕ) → place < length sums → sums_at more place ≡ sums_at sums place
   more_kept place low = get_or_append_left sums (NO_SUMS ∷ []) no_sums place low
 
   pub given_kept : (other : ℕ) → sums_at (placed given more) other ≡ sums_at (placed places sums) other
-  given_kept other = placed_same given places more sums count other (λ low. ⊎_elim
+  given_kept other = placed_same given places more sums (omega (arith, length-places base numbers, length-places base (set numbers row (base + length sums)), length-set {A = ℕ} numbers row (base + length sums))) other (λ low. ⊎_elim
       (λ (e : other ≡ row).
       ap (λ k. sums_at more (place_at given k)) e ∙ ap (λ k. sums_at more k) given_own ∙ get_or-append_seam sums NO_SUMS [] no_sums
       ∙ sym held.none ∙ ap (λ k. sums_at sums k) (sym none) ∙ ap (λ k. sums_at sums (place_at places k)) (sym e))
@@ -104,13 +115,13 @@ module _ (places given : List ℕ) (sums : List Sums) (held : AreHeld places sum
       (cases_eq other row))
 
   apart_from_own : (other : ℕ) → other ≢ row → place_at given other ≢ place_at given row
-  apart_from_own other ne e = omega (arith, held.below other, given_other other ne)
+  apart_from_own other ne e = omega (arith, held.below other, given_other other ne, given_own)
 
   pub AreHeld-given : AreHeld given more
   AreHeld-given = record {
     none = more_kept 0 (omega (arith, held.below 0)) ∙ held.none;
     below = λ other. ⊎_elim
-        (λ (e : other ≡ row). omega (arith, length-append sums (NO_SUMS ∷ []), ap (λ k. place_at given k) e))
+        (λ (e : other ≡ row). omega (arith, given_own, length-append sums (NO_SUMS ∷ []), ap (λ k. place_at given k) e))
         (λ (ne : other ≢ row). omega (arith, given_other other ne, held.below other, length-append sums (NO_SUMS ∷ [])))
         (cases_eq other row);
     apart = λ one other ne same. ⊎_elim
@@ -121,17 +132,6 @@ module _ (places given : List ℕ) (sums : List Sums) (held : AreHeld places sum
         (cases_eq other row))
         (cases_eq one row);
   }
-
--- the places once a row has its number
-pub number_own : (base : ℕ) (numbers : List ℕ) (row place : ℕ) → row < length numbers → place_at (places_of base (set numbers row (base + place))) row ≡ place
-number_own base numbers row place inside = omega (arith, place_is base (set numbers row (base + place)) row, get_or-set_same numbers row (base + place) 0 inside)
-
-pub number_other : (base : ℕ) (numbers : List ℕ) (row number other : ℕ) → other ≢ row → place_at (places_of base (set numbers row number)) other ≡ place_at (places_of base numbers) other
-number_other base numbers row number other ne =
-    place_is base (set numbers row number) other ∙ ap (λ k. k - base) (get_or-set_other numbers row other number 0 ne) ∙ sym (place_is base numbers other)
-
-pub number_count : (base : ℕ) (numbers : List ℕ) (row number : ℕ) → length (places_of base (set numbers row number)) ≡ length (places_of base numbers)
-number_count base numbers row number = length-places base (set numbers row number) ∙ length-set {A = ℕ} numbers row number ∙ sym (length-places base numbers)
 
 -- where no row has a place, there are no sums
 module _ (places : List ℕ) (sums : List Sums) (off : (row : ℕ) → place_at places row ≡ 0) (none : sums_at sums 0 ≡ NO_SUMS) where
