@@ -122,26 +122,17 @@ IsFoundBefore-push design from to old new pair extremes is_from is_to count kept
 pub IsFoundBefore-next : (design : Design) (from : ℕ) (found : Found) → length design.elements ≤ 2000 → IsFoundBefore design from (length design.elements) found → IsFoundBefore design (from + 1) 0 found
 IsFoundBefore-next design from found limit h = record { pairs = h.pairs; are_pairs = ArePairsBefore-next design from h.pairs h.are_pairs; has_pairs = h.has_pairs; few = omega arith }
 
--- what two lanes say
-none_of : (design : Design) (j l : ℕ) (x y : Option ℤ) → x ≡ None → IsPaired design j l x y → (path : List ℕ) → IsPath design.arcs j path (input_of l) → ⊥
-none_of design j l x y e h = subst (λ o. IsPaired design j l o y) e h
-
-extremes_of : (design : Design) (j l : ℕ) (x y : Option ℤ) (max min : ℤ) → x ≡ Some max → y ≡ Some min → IsPaired design j l x y → HasExtremes design (pair_of j l min max)
-extremes_of design j l x y max min e f h = subst (λ o. IsPaired design j l (Some max) o) f (subst (λ o. IsPaired design j l o y) e h)
-
 -- what a call of add_at leaves
 abbrev pub IsAdded : ℕ → ℕ → Option ℤ → Option ℤ → Found → Found → Type 0
 IsAdded from to max min old new = (design : Design) → IsPaired design from to max min → IsFoundBefore design from to old → IsFoundBefore design from (to + 1) new
 
 pub IsAdded-none : (from to : ℕ) (x y : Option ℤ) (found : Found) → x ≡ None → IsAdded from to x y found found
-IsAdded-none from to x y found e = λ design paired h. IsFoundBefore-skip design from to found (none_of design from to x y e paired) h
+IsAdded-none from to x y found e = λ design paired h. IsFoundBefore-skip design from to found (rw e at paired) h
 
-pub IsAdded-some : {T E : Type 0} (r : Result T E) (from to : ℕ) (x y : Option ℤ) (max min max' min' : ℤ) (old new : Found) → x ≡ Some max → y ≡ Some min → max' ≡ max → min' ≡ min → OnOk r (new.count ≡ old.count + 1) →
-    OnOk r (old.count < 200000 → new.pairs.items ≡ old.pairs.items ++ pair_of from to min' max' ∷ []) → OnOk r (IsAdded from to x y old new)
-IsAdded-some (Ok v) from to x y max min max' min' old new e f same_max same_min count kept = λ design paired h.
-    IsFoundBefore-push design from to old new (pair_of from to min' max')
-    (extremes_of design from to x y max' min' (e ∙ ap Some (sym same_max)) (f ∙ ap Some (sym same_min)) paired) refl refl count kept h
-IsAdded-some (Err v) from to x y max min max' min' old new e f same_max same_min count kept = kept
+pub IsAdded-some : {T E : Type 0} (r : Result T E) (from to : ℕ) (x y : Option ℤ) (max min : ℤ) (old new : Found) → x ≡ Some max → y ≡ Some min → OnOk r (new.count ≡ old.count + 1) →
+    OnOk r (old.count < 200000 → new.pairs.items ≡ old.pairs.items ++ pair_of from to min max ∷ []) → OnOk r (IsAdded from to x y old new)
+IsAdded-some (Ok v) from to x y max min old new e f count kept = λ design paired h. IsFoundBefore-push design from to old new (pair_of from to min max) (rw (e, f) at paired) refl refl count kept h
+IsAdded-some (Err v) from to x y max min old new e f count kept = kept
 
 -- What is found are the pairs before some element, which comes after the ends before this one and not after this one.
 abbrev pub IsFoundToEnd : Design → ℕ → List ℕ → ℕ → Found → Type 0
@@ -156,9 +147,8 @@ module _ (design : Design) (rows : Rows) (sums : List Sums) (ends : List ℕ) (a
 
   none_between : (to : ℕ) → to < length design.elements → ((i : ℕ) → i < length ends → end_at ends i ≢ to) → (path : List ℕ) → IsPath design.arcs from path (input_of to) → ⊥
   none_between to below apart =
-      let row : ℕ = row_of rows.of_bits.items (input_of to) in
-      none_of design from to (lane_at (sums_at sums row).greatest lane) (lane_at (sums_at sums row).least lane)
-      (ap (λ (s : Sums). lane_at s.greatest lane) (are_ends.others to below apart) ∙ (none_at lane low).0) (paired_at to below)
+      let none = ap (λ (s : Sums). lane_at s.greatest lane) (are_ends.others to below apart) ∙ (none_at lane low).0 in
+      rw none at (paired_at to below)
 
   skip : (found : Found) (to : ℕ) → to < length design.elements → ((i : ℕ) → i < length ends → end_at ends i ≢ to) → IsFoundBefore design from to found → IsFoundBefore design from (to + 1) found
   skip found to below apart = IsFoundBefore-skip design from to found (none_between to below apart)

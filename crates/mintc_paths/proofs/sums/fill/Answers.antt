@@ -85,8 +85,5 @@ returns-clause-extremes g c =
 
 pub next-place-requires-in-loop-place : goal.next-place-requires-in-loop-place
 next-place-requires-in-loop-place g c =
-    let i : ℕ = c.loop-place.place in
-    let along = c.args.course.now.along.items in
-    let awake = c.in_ok-carry.ensures.awake (i + 1)
-    (IsAwake-next along i c.loop-place.reached c.loop-place.awake _ c.remove.ensures.count c.remove.ensures.others c.loop-place.invariant.awake) in
-    awake.ready.few
+    let rest = IsAwake-next c.args.course.now.along.items c.loop-place.place c.loop-place.reached c.loop-place.awake _ c.remove.ensures.count c.remove.ensures.others c.loop-place.invariant.awake in
+    (c.in_ok-carry.ensures.awake (c.loop-place.place + 1) rest).ready.few
