@@ -1,5 +1,5 @@
 -- Traced paths and pairs.
-use Rattle.std.proofs.Common.{◌≡◌, ◌≢◌, ℕ, ◌<◌, ◌+◌, ◌*◌, ℤ, pos, List, [], length, get_or, arith, refl, ap, ◌∙◌, sym, Option, Some, subst, add-zero}
+use Rattle.std.proofs.Common.{◌≡◌, ℕ, ◌<◌, ℤ, pos, List, [], length, get_or, arith, refl, ap, ◌∙◌, sym, Option, Some, subst, add-zero}
 use Rattle.std.proofs.lemmas.Int.{ints}
 use Rattle.mintc_timing.specs.declared.parts.TimingArc.{TimingArc}
 use Rattle.mintc_timing.specs.declared.parts.Pair.{Pair}
@@ -8,21 +8,17 @@ use Rattle.mintc_timing.specs.Design.{Design, Timing}
 use Rattle.mintc_timing.specs.Order.{IsOrder}
 use Rattle.mintc_timing.specs.Paths.{Leads, IsPath, input_of, output_of, HasExtremes, ArePairs}
 use Rattle.mintc_timing.proofs.SharedOrdered.{all_among, none_round}
-use Rattle.mintc_lanes.specs.Lanes.{lane_at}
 use Rattle.mintc_paths.specs.declared.sums.Sums.{Sums}
 use Rattle.mintc_paths.specs.declared.trace.Extreme.{Extreme}
 use Rattle.mintc_paths.specs.declared.trace.Extreme.TheVariants.{Greatest, Least}
-use Rattle.mintc_paths.specs.Among.{IsGreatestAmong, IsLeastAmong}
 use Rattle.mintc_paths.specs.Sums.{sums_at, AreSums}
 use Rattle.mintc_paths.specs.Trace.{AtMostOf, sum_of, weight_of, extreme_of, AreBestSums, IsBestPath, IsOfPair, IsPairOf}
 use Rattle.mintc_paths.proofs.Tracing.{some_of}
 
 pub AreBestSums-from_sums : (extreme : Extreme) (arcs : List TimingArc) (order : List ℕ) (first : ℕ) (sums : List Sums) → AreSums arcs order (length order) first 1 sums →
     AreBestSums extreme arcs order (output_of first) sums
-AreBestSums-from_sums Greatest arcs order first sums h = λ bit inside.
-    subst (λ j. IsGreatestAmong arcs order (length order) (output_of j) bit (lane_at (sums_at sums bit).greatest 0)) (add-zero first) (h.greatest bit 0 inside (omega arith))
-AreBestSums-from_sums Least arcs order first sums h = λ bit inside.
-    subst (λ j. IsLeastAmong arcs order (length order) (output_of j) bit (lane_at (sums_at sums bit).least 0)) (add-zero first) (h.least bit 0 inside (omega arith))
+AreBestSums-from_sums Greatest arcs order first sums h = λ bit inside. rw (add-zero first) at (h.greatest bit 0 inside (omega arith))
+AreBestSums-from_sums Least arcs order first sums h = λ bit inside. rw (add-zero first) at (h.least bit 0 inside (omega arith))
 
 module _ (extreme : Extreme) (arcs : List TimingArc) (order : List ℕ) (is_order : IsOrder arcs order) (sums : List Sums) (from end : ℕ) (best_sums : AreBestSums extreme arcs order from sums) where
   abbrev sum : ℕ → Option ℤ
@@ -68,17 +64,8 @@ path_of_pair t from to pairs h =
     let a = extremes.greatest.attained in
     (omega arith, omega arith, (a.0, rw (← h.2, ← h.3) a.1.1))
 
-odd_or_even : (j l : ℕ) → 2 * j + 1 ≢ 2 * l
-odd_or_even j l e = omega arith
-
 pub IsOfPair-from_best : (extreme : Extreme) (t : Timing) (from to : ℕ) (path : List ℕ) → ArePairs t.flat t.pairs → IsBestPath extreme t.flat.arcs (output_of from) (input_of to) path →
     IsOfPair extreme t from to path
 IsOfPair-from_best extreme t from to path pairs h =
-    let is : IsPath t.flat.arcs from path (input_of to) = (λ e. odd_or_even from to (subst (λ xs. Leads t.flat.arcs (output_of from) xs (input_of to)) e h.leads), h.leads) in (
-      is,
-      λ k d below e f.
-          let pair : Pair = get_or t.pairs k d in
-          same_extreme extreme t.flat pair path (pairs.each k d below)
-          (subst (λ j. IsPath t.flat.arcs j path (input_of pair.to)) (sym e) (subst (λ l. IsPath t.flat.arcs from path (input_of l)) (sym f) is))
-          (subst (λ j. IsBestPath extreme t.flat.arcs (output_of j) (input_of pair.to) path) (sym e) (subst (λ l. IsBestPath extreme t.flat.arcs (output_of from) (input_of l) path) (sym f) h)),
-    )
+    let is : IsPath t.flat.arcs from path (input_of to) = (λ e. omega (arith, subst (λ xs. Leads t.flat.arcs (output_of from) xs (input_of to)) e h.leads), h.leads) in
+    (is, λ k d below e f. same_extreme extreme t.flat (get_or t.pairs k d) path (pairs.each k d below) (rw (e, f) is) (rw (e, f) h))

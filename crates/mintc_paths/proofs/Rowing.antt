@@ -1,19 +1,15 @@
 -- The rows of the bits.
-use Rattle.std.proofs.Common.{◌≡◌, ◌≢◌, ℕ, ◌<◌, ◌≤◌, ◌+◌, ◌*◌, List, length, get_or, map, arith, ap, ◌∙◌, sym, ⊎_elim, subst, below_more}
+use Rattle.std.proofs.Common.{◌≡◌, ◌≢◌, ℕ, ◌<◌, ◌≤◌, ◌+◌, ◌*◌, List, length, get_or, map, arith, ap, ◌∙◌, sym, ⊎_elim, subst}
 use Rattle.std.proofs.lemmas.Bool.{cases_lt}
-use Rattle.std.proofs.lemmas.List.{get_or-map, get_or_past}
+use Rattle.std.proofs.lemmas.List.{get_or_default, get_or-map, get_or_past, same_lists}
 use Rattle.std.proofs.Math.ListN.{length-map}
 use Rattle.mintc_timing.specs.declared.parts.TimingArc.{TimingArc}
-use Rattle.mintc_timing.specs.Design.{Design}
-use Rattle.mintc_timing.specs.Paths.{output_of, input_of}
-use Rattle.mintc_lanes.specs.Lanes.{lane_at}
+use Rattle.mintc_timing.specs.Paths.{output_of}
 use Rattle.mintc_paths.specs.declared.rows.Rows.{Rows}
 use Rattle.mintc_paths.specs.declared.sums.TheConstants.{NO_SUMS}
 use Rattle.mintc_paths.specs.declared.sums.Sums.{Sums}
 use Rattle.mintc_paths.specs.Sums.{sums_at, no_sums, row_of, LeadsBack, AreRows, placed, moved, IsBounded, IsAlike, AreBegun, AreSums}
-use Rattle.mintc_paths.specs.Among.{IsGreatestAmong, IsLeastAmong}
-use Rattle.mintc_paths.specs.Long.{IsShortAt, IsShortLane, AreShortBelow}
-use Rattle.mintc_paths.specs.Reached.{IsPaired}
+use Rattle.mintc_paths.specs.Long.{IsShortLane}
 use Rattle.mintc_paths.proofs.Beginning.{IsBegun, AreBegun-none, AreBegun-more}
 use Rattle.mintc_paths.proofs.Filling.{IsCarried}
 
@@ -94,29 +90,8 @@ IsShortLane-placed n rows h sums same lane short bit below =
     let inside : bit < length rows.of_bits.items = omega (arith, length-placed rows.of_bits.items sums) in
     rw (placed_at rows.of_bits.items sums bit inside) (short (row_of rows.of_bits.items bit) (omega (arith, h.of_bits.inside bit (omega arith))))
 
--- the same of the bits below one more
-pub AreShortBelow-more : (rows : List ℕ) (sums : List Sums) (lane bit : ℕ) → bit < length rows → AreShortBelow (placed rows sums) lane bit → IsShortAt sums lane (row_of rows bit) →
-    AreShortBelow (placed rows sums) lane (bit + 1)
-AreShortBelow-more rows sums lane bit inside before here =
-    below_more (λ b. IsShortAt (placed rows sums) lane b) bit before (rw (placed_at rows sums bit inside) here)
-
--- what a pair's lanes are in the row of its input
-pub IsPaired-row : (design : Design) (n : ℕ) (rows : Rows) → AreRows n rows → (sums : List Sums) (j l lane : ℕ) → input_of l < n →
-    IsPaired design j l (lane_at (sums_at (placed rows.of_bits.items sums) (input_of l)).greatest lane) (lane_at (sums_at (placed rows.of_bits.items sums) (input_of l)).least lane) →
-    IsPaired design j l (lane_at (sums_at sums (row_of rows.of_bits.items (input_of l))).greatest lane) (lane_at (sums_at sums (row_of rows.of_bits.items (input_of l))).least lane)
-IsPaired-row design n rows h sums j l lane below paired =
-    rw (placed_at rows.of_bits.items sums (input_of l) (omega arith)) at paired
-
 -- rows of the bits' own numbers
-pub AreSums-plain : (arcs : List TimingArc) (order : List ℕ) (k first lanes n : ℕ) (rows : Rows) → AreRows n rows → ((bit : ℕ) → bit < n → row_of rows.of_bits.items bit ≡ bit) →
-    (sums : List Sums) → length sums ≡ n → AreSums arcs order k first lanes (placed rows.of_bits.items sums) → AreSums arcs order k first lanes sums
-AreSums-plain arcs order k first lanes n rows h own sums same g =
-    let all = length-placed rows.of_bits.items sums in
-    let at : (bit : ℕ) → bit < n → sums_at (placed rows.of_bits.items sums) bit ≡ sums_at sums bit =
-    λ bit low. placed_at rows.of_bits.items sums bit (omega arith) ∙ ap (λ r. sums_at sums r) (own bit low) in
-    record {
-      greatest = λ bit lane below few. subst (λ (s : Sums). IsGreatestAmong arcs order k (output_of (first + lane)) bit (lane_at s.greatest lane)) (at bit (omega arith)) (g.greatest bit lane (omega arith) few);
-      least = λ bit lane below few. subst (λ (s : Sums). IsLeastAmong arcs order k (output_of (first + lane)) bit (lane_at s.least lane)) (at bit (omega arith)) (g.least bit lane (omega arith) few);
-      bounded = λ bit below. subst (λ (s : Sums). IsBounded (k * 1000000000) s) (at bit (omega arith)) (g.bounded bit (omega arith));
-      alike = λ bit below. subst (λ (s : Sums). IsAlike s) (at bit (omega arith)) (g.alike bit (omega arith));
-    }
+pub placed_plain : (rows : List ℕ) (sums : List Sums) → length rows ≡ length sums → ((bit : ℕ) → bit < length rows → row_of rows bit ≡ bit) → placed rows sums ≡ sums
+placed_plain rows sums same own = same_lists (placed rows sums) sums (length-placed rows sums ∙ same) (λ bit d below.
+    let low : bit < length rows = omega (arith, length-placed rows sums) in
+    get_or-map (sums_at sums) rows bit 0 d low ∙ ap (sums_at sums) (own bit low) ∙ get_or_default sums bit no_sums d (omega arith))

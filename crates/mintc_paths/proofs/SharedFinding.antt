@@ -16,7 +16,7 @@ use Rattle.mintc_paths.specs.Sums.{sums_at, row_of, AreRows, placed}
 use Rattle.mintc_paths.specs.Found.{Precede, ArePairsBefore, HasPairs, IsFoundBefore, AreEnds, end_at}
 use Rattle.mintc_paths.proofs.Beginning.{none_at}
 use Rattle.mintc_paths.proofs.SharedClimbing.{IsToEnd, IsToEnd-at, IsToEnd-more, IsToEnd-all}
-use Rattle.mintc_paths.proofs.Rowing.{IsPaired-row}
+use Rattle.mintc_paths.proofs.Rowing.{placed_at}
 
 pub low_or_at : (i k : ℕ) → i < k + 1 → (i < k) ⊎ (i ≡ k)
 low_or_at i k h = grind arith
@@ -143,7 +143,7 @@ module _ (design : Design) (rows : Rows) (sums : List Sums) (ends : List ℕ) (a
     (paired : IsPairedLane design (placed rows.of_bits.items sums) from lane) where
   paired_at : (to : ℕ) → to < length design.elements →
       IsPaired design from to (lane_at (sums_at sums (row_of rows.of_bits.items (input_of to))).greatest lane) (lane_at (sums_at sums (row_of rows.of_bits.items (input_of to))).least lane)
-  paired_at to below = IsPaired-row design (length sums) rows are sums from to lane (omega arith) (paired to below)
+  paired_at to below = rw (placed_at rows.of_bits.items sums (input_of to) (omega (arith, are.of_bits.count))) at (paired to below)
 
   none_between : (to : ℕ) → to < length design.elements → ((i : ℕ) → i < length ends → end_at ends i ≢ to) → (path : List ℕ) → IsPath design.arcs from path (input_of to) → ⊥
   none_between to below apart =

@@ -1,12 +1,12 @@
-use Rattle.std.proofs.Common.{◌≡◌, ◌≤◌, ◌+◌, ◌*◌, ◌∙◌, ℕ, List, length, arith, rules, sym, ap, subst}
+use Rattle.std.proofs.Common.{◌≡◌, ◌≤◌, ◌+◌, ◌*◌, ℕ, List, length, arith, rules, sym, ap, subst}
 use Rattle.mintc_timing.specs.Design.{Design}
 use Rattle.mintc_timing.specs.Paths.{input_of, output_of}
-use Rattle.mintc_paths.specs.Ordered.{Ordered, ordered}
-use Rattle.mintc_paths.specs.Sums.{sums_at, placed, AreSums}
+use Rattle.mintc_paths.specs.Ordered.{ordered}
+use Rattle.mintc_paths.specs.Sums.{sums_at, AreSums}
 use Rattle.mintc_paths.specs.Trace.{IsOfPair}
 use Rattle.mintc_paths.proofs.Filling.{IsBounded-weaker}
 use Rattle.mintc_paths.proofs.Pairing.{AreBestSums-from_sums, IsBestPath-from_trace, path_of_pair, IsOfPair-from_best}
-use Rattle.mintc_paths.proofs.Rowing.{AreSums-plain}
+use Rattle.mintc_paths.proofs.Rowing.{placed_plain}
 use Rattle.mintc_paths.proofs.route.best_path.Given.{Over}
 use Rattle.mintc_paths.proofs.route.best_path.Goals as goal
 use Rattle.mintc_paths.proofs.route.best_path.Goals.{In-Ok-fill}
@@ -18,9 +18,9 @@ sums_are g c =
     let order = c.order-order.result.now in
     let of_is : g.of ≡ ordered design order = rw (c.flat-flat.ensures, c.order-order.ensures) c.requires.0 in
     let bits : length c.in-Ok.sums ≡ 2 * length design.elements + length design.inner = search rules in
-    AreSums-plain design.arcs order (length order) c.args.from 1 (2 * length design.elements + length design.inner) c.in-Ok-plain_course.course.rows c.in-Ok-plain_course.ensures.course.rows
-    c.in-Ok-plain_course.ensures.own c.fill.new.sums (c.in-Ok-fill.ensures.count ∙ bits)
-    (subst (λ (o : Ordered). AreSums o.design.arcs o.order (length o.order) c.args.from 1 (placed c.in-Ok-plain_course.course.rows.of_bits.items c.fill.new.sums)) of_is c.in-Ok-fill.ensures.sums)
+    let rows = c.in-Ok-plain_course.course.rows.of_bits.items in
+    let count = c.in-Ok-plain_course.ensures.course.rows.of_bits.count in
+    rw (of_is, placed_plain rows c.fill.new.sums (omega (arith, bits, c.in-Ok-fill.ensures.count)) (λ bit low. c.in-Ok-plain_course.ensures.own bit (omega arith))) at c.in-Ok-fill.ensures.sums
 
 pub trace-requires-clause-bounded : goal.trace-requires-clause-bounded
 trace-requires-clause-bounded g c = λ bit inside.
