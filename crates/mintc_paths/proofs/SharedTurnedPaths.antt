@@ -61,10 +61,9 @@ module _ (n m : ℕ) (places elements : List ℕ) (there : LeadsBack n places el
   Leads-forth from to [] h = ap goes (sym h)
   Leads-forth from to (k ∷ path) h =
       let is = arc_turned k h.0 in
-      let rest = Leads-forth (arc_at arcs k).to to path h.2 in
-      let more = Leads-push turned (goes to) (reverse path) k (omega (arith, count_turned, h.0)) (subst (λ b. Leads turned (goes to) (reverse path) b) (sym (ap (λ (a : TimingArc). a.from) is)) rest) in
-      let ends = subst (λ b. Leads turned (goes to) (reverse path ++ k ∷ []) b) (ap (λ (a : TimingArc). a.to) is ∙ ap goes h.1) more in
-      subst (λ xs. Leads turned (goes to) xs (goes from)) (sym (reverse_cons k path)) ends
+      let rest : Leads turned (goes to) (reverse path) (arc_at turned k).from = rw is (Leads-forth (arc_at arcs k).to to path h.2) in
+      let ends : goes from ≡ (arc_at turned k).to = rw (is, h.1) refl in
+      rw (reverse_cons k path, ends) (Leads-push turned (goes to) (reverse path) k (omega (arith, count_turned, h.0)) rest)
 
   pub Leads-back : (from to : ℕ) (path : List ℕ) → Leads turned (goes to) path (goes from) → Leads arcs from (reverse path) to
   Leads-back from to [] h = turned_apart n places elements there back from to (sym h)
@@ -72,9 +71,8 @@ module _ (n m : ℕ) (places elements : List ℕ) (there : LeadsBack n places el
       let low : k < length arcs = omega (arith, count_turned, h.0) in
       let is = arc_turned k low in
       let met : (arc_at arcs k).to ≡ to = turned_apart n places elements there back (arc_at arcs k).to to (sym (ap (λ (a : TimingArc). a.from) is) ∙ h.1) in
-      let rest = Leads-back from (arc_at arcs k).from path (subst (λ b. Leads turned b path (goes from)) (ap (λ (a : TimingArc). a.to) is) h.2) in
-      let more = Leads-push arcs from (reverse path) k low rest in
-      subst (λ xs. Leads arcs from xs to) (sym (reverse_cons k path)) (subst (λ b. Leads arcs from (reverse path ++ k ∷ []) b) met more)
+      let rest = Leads-back from (arc_at arcs k).from path (rw is at h.2) in
+      rw (reverse_cons k path, ← met) (Leads-push arcs from (reverse path) k low rest)
 
   IsArc-turned : (arc : TimingArc) → IsArc n m arc → IsArc n m (turned_arc n places arc)
   IsArc-turned arc h = record {
