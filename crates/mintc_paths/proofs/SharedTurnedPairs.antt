@@ -1,6 +1,6 @@
 -- Pairs turned back are those of the design.
-use Rattle.std.proofs.Common.{◌≡◌, ◌≢◌, ℕ, ◌<◌, ◌≤◌, ◌+◌, Bool, List, [], ◌∷◌, length, get_or, eqb, map, reverse, arith, refl, ap, ◌∙◌, sym, subst, inl, inr, ⊎_elim}
-use Rattle.std.proofs.lemmas.Bool.{cases_lt, leb-false, leb-true}
+use Rattle.std.proofs.Common.{◌≡◌, ◌≢◌, ℕ, ◌<◌, ◌≤◌, ◌+◌, Bool, List, [], ◌∷◌, length, get_or, eqb, map, reverse, arith, refl, ap, ◌∙◌, sym, subst, inl, inr}
+use Rattle.std.proofs.lemmas.Bool.{leb-false, leb-true}
 use Rattle.std.proofs.lemmas.Bool.Decides.{Decides-eqb}
 use Rattle.std.proofs.lemmas.List.{get_or-map}
 use Rattle.std.proofs.lemmas.Map.Keys.{IsDistinct-IsPermutation}
@@ -38,8 +38,7 @@ AreApart-permutation xs ys moved h =
 module _ (n : ℕ) (few : n ≤ 2000) (elements places : List ℕ) (back : LeadsBack n elements places) (pairs : List Pair)
     (inside : All (λ (p : Pair). (p.from < n) × (p.to < n)) pairs) (ascending : AllAdjacentBelow ComesBefore pairs (length pairs)) where
   key_rises : (p q : Pair) → p.to < 2048 → ComesBefore p q → key_of p < key_of q
-  key_rises p q low (inl h) = omega arith
-  key_rises p q low (inr h) = omega (arith, h)
+  key_rises p q low h = grind arith
 
   -- keys rise along the list
   next_rises : AllAdjacentBelow (λ p q. key_of p < key_of q) pairs (length pairs)
@@ -75,7 +74,7 @@ ascends n few pairs inside apart sorted k d below =
     comes (get_or pairs k d) (get_or pairs (k + 1) d) (omega (arith, inside k d low)) (omega (arith, inside (k + 1) d below)) (omega (arith, sorted k (k + 1) d (omega arith) below))
   where
     comes : (p q : Pair) → p.to < 2048 → q.to < 2048 → key_of p < key_of q → ComesBefore p q
-    comes p q in_p in_q order = ⊎_elim (λ (low : p.from < q.from). inl low) (λ (high : q.from ≤ p.from). let same : p.from ≡ q.from = omega arith in inr (same, omega arith)) (cases_lt p.from q.from)
+    comes p q in_p in_q order = grind arith
 
 -- Each list has an order by keys.
 sorted_of : (xs : List Pair) → (ys : List Pair) × IsPermutation xs ys × IsNonDecreasingBy key_of ys
@@ -97,11 +96,9 @@ module _ (design : Design) (kept : IsDesign design) (places elements : List ℕ)
     each_inside : All (λ (p : Pair). (p.from < length design.elements) × (p.to < length design.elements)) old
     each_inside k d low = let extremes = h.each k d low in (extremes.from, extremes.to)
 
-    each_back : All (HasExtremes design) (map (pair_back elements) old)
-    each_back = All-map (HasExtremes design) (pair_back elements) old (λ k d low. HasExtremes-back design places elements kept there back (get_or old k d) (h.each k d low))
-
     each_sorted : All (HasExtremes design) pairs
-    each_sorted = All-permutation (HasExtremes design) (map (pair_back elements) old) pairs moved each_back
+    each_sorted = All-permutation (HasExtremes design) (map (pair_back elements) old) pairs moved
+        (All-map (HasExtremes design) (pair_back elements) old (λ k d low. HasExtremes-back design places elements kept there back (get_or old k d) (h.each k d low)))
 
     apart : AreApart pairs
     apart = AreApart-permutation (map (pair_back elements) old) pairs moved
