@@ -22,7 +22,7 @@ mark_is marks lane = zero_or_one (mark_in marks lane) (bit_at-lt (get_or marks.w
 pub IsMarkOf-joined : (P Q R : Type 0) (x y z : ℕ) → (R → P ⊎ Q) → (P → R) → (Q → R) → (x < 2) → (y < 2) → z ≡ max x y → IsMarkOf P x → IsMarkOf Q y → IsMarkOf R z
 IsMarkOf-joined P Q R x y z apart left right small_x small_y is p q = record {
   sound = λ e. ⊎_elim (λ one. left (p.sound one)) (λ one. right (q.sound one)) (one_of x y small_x small_y (sym is ∙ e));
-  whole = λ r. ⊎_elim (λ h. let one = p.whole h in omega arith) (λ h. let one = q.whole h in omega arith) (apart r);
+  whole = λ r. ⊎_elim (λ h. omega (arith, p.whole h)) (λ h. omega (arith, q.whole h)) (apart r);
 }
   where
     one_of : (x y : ℕ) → x < 2 → y < 2 → max x y ≡ 1 → (x ≡ 1) ⊎ (y ≡ 1)

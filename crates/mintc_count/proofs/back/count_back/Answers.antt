@@ -1,15 +1,11 @@
-use Rattle.std.proofs.Common.{List, length, subst, ap}
+use Rattle.std.proofs.Common.{List, length, ap}
 use Rattle.std.proofs.lemmas.Result.{IfOk-weaker}
 use Rattle.mintc_timing.specs.declared.parts.Element.{Element}
-use Rattle.mintc_timing.specs.Design.{Design}
-use Rattle.mintc_paths.specs.Sums.{AreRows}
 use Rattle.mintc_count.proofs.Counting.{IsCountBefore-back}
 use Rattle.mintc_count.proofs.back.count_back.Goals as goal
 
 pub returns : goal.returns
 returns c =
-    let design : Design = c.args.flat.now in
-    let count = ap (λ (xs : List Element). length xs) c.elements.ensures.value in
-    let rows : AreRows (length design.elements) c.in_ok-places.places = subst (λ n. AreRows n c.in_ok-places.places) count c.in_ok-places.ensures in
+    let rows = rw (ap (λ (xs : List Element). length xs) c.elements.ensures.value) at c.in_ok-places.ensures in
     IfOk-weaker c.count_turned.result _ _
-    (λ number h. IsCountBefore-back design c.elements.ensures.kept c.in_ok-places.places.of_bits.items c.in_ok-places.places.bits.items rows.of_bits rows.bits number h) c.count_turned.ensures
+    (λ number h. IsCountBefore-back c.args.flat.now c.elements.ensures.kept c.in_ok-places.places.of_bits.items c.in_ok-places.places.bits.items rows.of_bits rows.bits number h) c.count_turned.ensures

@@ -6,8 +6,8 @@ use Rattle.mintc_count.proofs.marks.joined.Goals as goal
 
 pub returns : goal.returns
 returns c = λ lane low.
-    let a : List ℕ = c.args.a.now.words in
-    let b : List ℕ = c.args.b.now.words in
+    let a = c.args.a.now.words in
+    let b = c.args.b.now.words in
     let bit : ℕ = lane % 64 in
     let both : List ℕ =
     bit_or (get_or a 0 0) (get_or b 0 0) ∷ bit_or (get_or a 1 0) (get_or b 1 0) ∷ bit_or (get_or a 2 0) (get_or b 2 0) ∷ bit_or (get_or a 3 0) (get_or b 3 0) ∷ [] in
