@@ -1,6 +1,5 @@
 -- The next arcs of a search's path, from the bit to which it leads back, are a loop.
-use Rattle.std.proofs.Common.{◌≡◌, ℕ, suc, ◌+◌, ◌<◌, List, [], ◌∷◌, length, get_or, refl, sym, ap, ◌∙◌, ⊎_elim, arith}
-use Rattle.std.proofs.lemmas.Bool.{cases_lt}
+use Rattle.std.proofs.Common.{◌≡◌, ℕ, suc, ◌+◌, ◌<◌, List, [], ◌∷◌, length, get_or, refl, sym, ap, ◌∙◌, arith}
 use Rattle.std.proofs.lemmas.List.{get_or_default}
 use Rattle.mintc_timing.specs.declared.parts.TimingArc.{TimingArc}
 use Rattle.mintc_timing.specs.Paths.{arc_at, Leads}
@@ -29,11 +28,7 @@ module _ {bits : ℕ} {starts numbers ends marks path nexts given : List ℕ} (p
 
   -- the next arc of each is one of the bit's
   pub below_stop : (i : ℕ) → i < length path → get_or nexts i 0 < get_or starts (get_or path i 0 + 1) 0
-  below_stop i h =
-      ⊎_elim
-      (λ l. (s.is_path.joined i l).0)
-      (λ l. (closes i (omega arith)).0)
-      (cases_lt (i + 1) (length path))
+  below_stop i h = grind (arith, s.is_path.joined, closes)
 
   pub inside : (i : ℕ) → i < length path → get_or nexts i 0 < length numbers
   inside i h = omega (arith, s.is_path.each_bit i h, below_stop i h, p.inside (get_or path i 0 + 1))
@@ -69,9 +64,7 @@ module _ {bits : ℕ} {starts numbers ends marks path nexts given : List ℕ} (p
         from 0 some ∙ ap (λ (i : ℕ). get_or path i 0) z ∙ (s.is_path.placed bit d mark).1
 
     joined : (i : ℕ) → suc i < length loop → (arc_at arcs (get_or loop i 0)).to ≡ (arc_at arcs (get_or loop (suc i) 0)).from
-    joined i h =
-        let z : d + i + 1 ≡ d + suc i = omega arith in
-        to i (omega arith) ∙ (s.is_path.joined (d + i) (omega (arith, len))).1 ∙ ap (λ (k : ℕ). get_or path k 0) z ∙ sym (from (suc i) h)
+    joined i h = grind (arith, len, to, s.is_path.joined, from)
 
     ends_at : (i : ℕ) → length loop ≡ suc i → (arc_at arcs (get_or loop i 0)).to ≡ bit
     ends_at i q = to i (omega arith) ∙ (closes (d + i) (omega (arith, len))).1

@@ -1,7 +1,6 @@
 -- Lists with each number once, and how many bits a search has met.
-use Rattle.std.proofs.Common.{◌≡◌, ◌≢◌, ℕ, ◌+◌, ◌-◌, ◌<◌, ◌≤◌, List, ◌++◌, length, get_or, eqb, refl, sym, ap, ◌∙◌, ⊎_elim, arith, length-append}
+use Rattle.std.proofs.Common.{◌≡◌, ◌≢◌, ℕ, ◌+◌, ◌-◌, ◌<◌, ◌≤◌, List, ◌++◌, length, get_or, eqb, refl, sym, ap, ◌∙◌, arith, length-append}
 use Rattle.std.specs.List.{All, AllPairs, Contains}
-use Rattle.std.proofs.lemmas.Bool.{cases_lt}
 use Rattle.std.proofs.lemmas.Bool.Decides.{Decides-eqb}
 use Rattle.std.proofs.lemmas.List.{get_or_append_left, get_or-append_right, get_or_default}
 use Rattle.std.proofs.lemmas.List.Folds.{list_any_at}
@@ -42,30 +41,16 @@ module _ {bits : ℕ} {starts ends marks path nexts given : List ℕ} (s : IsSea
 
   -- a bit of the path isn't given out
   waits : (i j : ℕ) → i < length path → j < length given → get_or path i 0 ≢ get_or given j 0
-  waits i j h l = λ e. omega (arith, s.is_path.each_bit i h, s.are_given.out j l, ap (λ (n : ℕ). get_or marks n 0) e)
+  waits i j h l = grind (arith, s.is_path.each_bit, s.are_given.out)
 
   apart_in_path : (i j : ℕ) → i < j → j < length path → get_or path i 0 ≢ get_or path j 0
   apart_in_path i j l h = λ e. omega (arith, s.is_path.each_bit i (omega arith), s.is_path.each_bit j h, ap (λ (n : ℕ). get_or marks n 0) e)
 
   distinct : AllPairs (λ x y. x ≢ y) (path ++ given)
-  distinct i j d l h = λ e.
-      let len = length-append path given in
-      ⊎_elim
-      (λ p.
-      ⊎_elim
-      (λ q. apart_in_path i j l q (sym (in_path i d p) ∙ e ∙ in_path j d q))
-      (λ q. waits i (j - length path) p (omega arith) (sym (in_path i d p) ∙ e ∙ in_given j d q (omega arith)))
-      (cases_lt j (length path)))
-      (λ p. s.are_given.ordered.once (i - length path) (j - length path) (omega arith) (omega arith) (sym (in_given i d p (omega arith)) ∙ e ∙ in_given j d (omega arith) (omega arith)))
-      (cases_lt i (length path))
+  distinct i j d l h = grind (arith, length-append, in_path, in_given, apart_in_path, waits, s.are_given.ordered.once)
 
   below : All (λ x. x < bits) (path ++ given)
-  below k d h =
-      let len = length-append path given in
-      ⊎_elim
-      (λ p. omega (arith, s.is_path.each_bit k p, in_path k d p))
-      (λ p. omega (arith, s.are_given.ordered.within (k - length path) (omega arith), in_given k d p (omega arith)))
-      (cases_lt k (length path))
+  below k d h = grind (arith, length-append, in_path, in_given, s.is_path.each_bit, s.are_given.ordered.within)
 
   -- A bit is on the path or is given out once, so all of these are at most as many as the bits.
   pub IsSearch-few : length path + length given ≤ bits

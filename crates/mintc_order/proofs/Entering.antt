@@ -1,7 +1,7 @@
 -- A bit that goes to the path of a search.
 use Rattle.std.proofs.Common.{◌≡◌, ◌≢◌, ℕ, ◌+◌, ◌<◌, List, [], ◌∷◌, ◌++◌, length, get_or, set, sym, ap, ◌∙◌, ⊎_elim, arith, get_or-set_same, get_or-set_other}
 use Rattle.std.specs.List.{Contains}
-use Rattle.std.proofs.lemmas.Bool.{cases_eq, cases_lt}
+use Rattle.std.proofs.lemmas.Bool.{cases_lt}
 use Rattle.std.proofs.lemmas.List.{get_or_append_left, get_or_push, length_push, length-set}
 use Rattle.mintc_order.specs.Ranges.{AreParts}
 use Rattle.mintc_order.specs.Searches.{EndsAt, IsOpen, IsSearch}
@@ -72,32 +72,13 @@ module _ {bits : ℕ} {starts numbers ends marks path nexts given : List ℕ} (p
   Joins n v w = (n < get_or starts (v + 1) 0) × (get_or ends n 0 ≡ w)
 
   joined : (i : ℕ) → i + 1 < length path' → Joins (get_or nexts' i 0) (get_or path' i 0) (get_or path' (i + 1) 0)
-  joined i h =
-      let len = length_push path bit in
-      rw (old i (omega arith), old_next i (omega arith))
-      (⊎_elim
-      (λ l. rw (old (i + 1) l) (s.is_path.joined i l))
-      (λ l. let q : i + 1 ≡ length path = omega arith in rw (at_last (i + 1) q) (leads i (sym q)))
-      (cases_lt (i + 1) (length path)))
+  joined i h = grind (arith, length_push, old, old_next, at_last, leads, s.is_path.joined)
 
   placed : (v i : ℕ) → get_or marks' v 0 ≡ i + 2 → (i < length path') × (get_or path' i 0 ≡ v)
-  placed v i h =
-      let len = length_push path bit in
-      ⊎_elim
-      (λ q.
-      let at : i ≡ length path = omega (arith, mark_same, ap (λ (v' : ℕ). get_or marks' v' 0) q) in
-      (omega arith, at_last i at ∙ sym q))
-      (λ ne.
-      let found = s.is_path.placed v i (sym (mark_other v ne) ∙ h) in
-      (omega arith, old i found.0 ∙ found.1))
-      (cases_eq v bit)
+  placed v i h = grind (arith, length_push, mark_same, mark_other v, s.is_path.placed v i, old i, at_last i)
 
   whole : (v : ℕ) → get_or marks' v 0 ≡ 1 → Contains given v
-  whole v h =
-      ⊎_elim
-      (λ q. absurd (omega (arith, mark_same, ap (λ (v' : ℕ). get_or marks' v' 0) q)))
-      (λ ne. s.are_given.whole v (sym (mark_other v ne) ∙ h))
-      (cases_eq v bit)
+  whole v h = grind (arith, mark_same, mark_other v, s.are_given.whole v)
 
   pub IsSearch-entered : IsSearch bits starts ends marks' path' nexts' given
   IsSearch-entered = record {

@@ -74,11 +74,7 @@ module _ {arcs : List TimingArc} {bits : ℕ} {starts numbers ends given : List 
     to_new i h l = ap (λ (n : ℕ). (arc_at arcs n).to) (new i h l) ∙ sym (leaving.enters (start + (i - length before)) (below i h l))
 
     number : (i : ℕ) → i < length after → get_or after i 0 < length arcs
-    number i h =
-        ⊎_elim
-        (λ l. rw (a.same i l) (g.number i l))
-        (λ l. rw (new i h l) (all.number (start + (i - length before)) (below i h l)))
-        (cases_lt i (length before))
+    number i h = grind (arith, a.same, g.number, new, all.number, below)
 
     out_old : (i : ℕ) → i < length before → IsOut arcs given (rest + 1) (get_or after i 0)
     out_old i h = rw (a.same i h) (g.out i h)
@@ -111,18 +107,7 @@ module _ {arcs : List TimingArc} {bits : ℕ} {starts numbers ends given : List 
         (cases_lt j (rest + 1))
 
     once : (i j : ℕ) → i < j → j < length after → get_or after i 0 ≢ get_or after j 0
-    once i j l h = λ q.
-        ⊎_elim
-        (λ (m : j < length before). g.once i j l m (sym (a.same i (omega arith)) ∙ q ∙ a.same j m))
-        (λ (m : length before ≤ j).
-        ⊎_elim
-        (λ (n : i < length before).
-        let o = out_old i n in
-        apart rest o.0 (omega arith) o.2 (sym (from_new j h m) ∙ sym (ap (λ (e : ℕ). (arc_at arcs e).from) q) ∙ sym o.3))
-        (λ (n : length before ≤ i).
-        all.once (start + (i - length before)) (start + (j - length before)) (omega arith) (below j h m) (sym (new i (omega arith) n) ∙ q ∙ new j h m))
-        (cases_lt i (length before)))
-        (cases_lt j (length before))
+    once i j l h = let len = grows in grind (arith, a.same i, a.same j, g.once i j, new i, new j, all.once (start + (i - length before)) (start + (j - length before)), below j, out_old i, from_new j, apart rest)
 
     after_all : (i j : ℕ) → i < length after → j < length after → (arc_at arcs (get_or after i 0)).to ≡ (arc_at arcs (get_or after j 0)).from → i < j
     after_all i j h k q =

@@ -28,7 +28,7 @@ module _ {bits : ℕ} {starts ends marks path nexts given : List ℕ} (s : IsSea
   mark_other v ne = get_or-set_other marks bit v 1 0 ne
 
   still : (v : ℕ) → get_or marks v 0 ≡ 1 → get_or marks' v 0 ≡ 1
-  still v h = ⊎_elim (λ q. rw q mark_same) (λ ne. mark_other v ne ∙ h) (cases_eq v bit)
+  still v h = grind (arith, mark_same, mark_other)
 
   each_bit : (i : ℕ) → i < length path' → IsOpen bits starts ends marks' i (get_or path' i 0) (get_or nexts' i 0)
   each_bit i h =
@@ -47,19 +47,10 @@ module _ {bits : ℕ} {starts ends marks path nexts given : List ℕ} (s : IsSea
   Joins n v w = (n < get_or starts (v + 1) 0) × (get_or ends n 0 ≡ w)
 
   joined : (i : ℕ) → i + 1 < length path' → Joins (get_or nexts' i 0) (get_or path' i 0) (get_or path' (i + 1) 0)
-  joined i h = rw (old i (omega arith), old_next i (omega arith), old (i + 1) h) (s.is_path.joined i (omega arith))
+  joined i h = grind (arith, old, old_next, s.is_path.joined i)
 
   placed : (v i : ℕ) → get_or marks' v 0 ≡ i + 2 → (i < length path') × (get_or path' i 0 ≡ v)
-  placed v i h =
-      ⊎_elim
-      (λ q. absurd (omega (arith, mark_same, ap (λ (v' : ℕ). get_or marks' v' 0) q)))
-      (λ ne.
-      let found = s.is_path.placed v i (sym (mark_other v ne) ∙ h) in
-      ⊎_elim
-      (λ l. (l, old i l ∙ found.1))
-      (λ l. let at : i ≡ length path' = omega arith in absurd (ne (sym found.1 ∙ ap (λ (n : ℕ). get_or path n 0) at ∙ last)))
-      (cases_lt i (length path')))
-      (cases_eq v bit)
+  placed v i h = grind (arith, mark_same, mark_other, s.is_path.placed v i, old, last)
 
   before : (i : ℕ) → i < length given → get_or given' i 0 ≡ get_or given i 0
   before i h = get_or_append_left given (bit ∷ []) 0 i h
@@ -72,20 +63,10 @@ module _ {bits : ℕ} {starts ends marks path nexts given : List ℕ} (s : IsSea
   apart i h = λ q. omega (arith, top, s.are_given.out i h, ap (λ (v : ℕ). get_or marks v 0) q)
 
   within : (i : ℕ) → i < length given' → get_or given' i 0 < bits
-  within i h =
-      ⊎_elim
-      (λ l. rw (before i l) (s.are_given.ordered.within i l))
-      (λ l. rw (at_last i h l) top.within)
-      (cases_lt i (length given))
+  within i h = grind (arith, before, at_last, s.are_given.ordered.within, top)
 
   once : (i j : ℕ) → i < j → j < length given' → get_or given' i 0 ≢ get_or given' j 0
-  once i j l h = λ q.
-      let len = length_push given bit in
-      let known : i < length given = omega arith in
-      ⊎_elim
-      (λ m. s.are_given.ordered.once i j l m (sym (before i known) ∙ q ∙ before j m))
-      (λ m. apart i known (sym (before i known) ∙ q ∙ at_last j h m))
-      (cases_lt j (length given))
+  once i j l h = grind (arith, length_push, before, at_last, s.are_given.ordered.once, apart)
 
   abbrev Follows : ℕ → ℕ → Type 0
   Follows i k = (j : ℕ) × (j < i) × (get_or given' j 0 ≡ get_or ends k 0)
@@ -103,11 +84,7 @@ module _ {bits : ℕ} {starts ends marks path nexts given : List ℕ} (s : IsSea
       (cases_lt i (length given))
 
   out : (i : ℕ) → i < length given' → get_or marks' (get_or given' i 0) 0 ≡ 1
-  out i h =
-      ⊎_elim
-      (λ l. rw (before i l) (still (get_or given i 0) (s.are_given.out i l)))
-      (λ l. rw (at_last i h l) mark_same)
-      (cases_lt i (length given))
+  out i h = grind (arith, before, at_last, still, s.are_given.out, mark_same)
 
   whole : (v : ℕ) → get_or marks' v 0 ≡ 1 → Contains given' v
   whole v h =
