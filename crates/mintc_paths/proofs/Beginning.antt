@@ -1,5 +1,5 @@
 -- Sums along no arcs.
-use Rattle.std.proofs.Common.{◌≡◌, ◌≢◌, ℕ, ◌<◌, ◌≤◌, ◌+◌, ◌*◌, ℤ, ◌≤ℤ◌, pos, List, length, arith, refl, ap, ◌∙◌, sym, ◌⊎◌, inl, inr, ⊎_elim, Option, Some, None, subst}
+use Rattle.std.proofs.Common.{◌≡◌, ◌≢◌, ℕ, ◌<◌, ◌≤◌, ◌+◌, ◌*◌, ℤ, ◌≤ℤ◌, pos, List, length, arith, ap, ◌∙◌, sym, ◌⊎◌, inl, inr, ⊎_elim, Option, Some, None, subst}
 use Rattle.std.specs.Prelude.{IfSome, unsigned_abs}
 use Rattle.std.specs.Int.{int_max, int_min}
 use Rattle.std.proofs.lemmas.Int.{ints}
@@ -42,31 +42,21 @@ module _ (arcs : List TimingArc) (order : List ℕ) (first lane : ℕ) (old new 
   -- the other lanes are as they were, at each bit
   kept : (bit other : ℕ) → other ≢ lane →
       (lane_at (sums_at new bit).greatest other ≡ lane_at (sums_at old bit).greatest other) × (lane_at (sums_at new bit).least other ≡ lane_at (sums_at old bit).least other)
-  kept bit other ne = ⊎_elim
-      (λ e. rw e (begun.lanes other ne))
-      (λ apart. (ap (λ (s : Sums). lane_at s.greatest other) (begun.others bit apart), ap (λ (s : Sums). lane_at s.least other) (begun.others bit apart)))
-      (cases_eq bit (output_of (first + lane)))
+  kept bit other ne = grind (arith, begun.others, begun.lanes)
 
   -- the lane is 0 at its output, and absent elsewhere
   abbrev IsOwn : ℕ → Option ℤ → Type 0
   IsOwn bit x = ((bit ≡ output_of (first + lane)) × (x ≡ Some (pos 0))) ⊎ ((bit ≢ output_of (first + lane)) × (x ≡ None))
 
   at_lane : (bit : ℕ) → bit < length new → IsOwn bit (lane_at (sums_at new bit).greatest lane) × IsOwn bit (lane_at (sums_at new bit).least lane)
-  at_lane bit inside = ⊎_elim
-      (λ e. subst (λ b. IsOwn b (lane_at (sums_at new b).greatest lane) × IsOwn b (lane_at (sums_at new b).least lane)) (sym e) (inl (refl, begun.own.0), inl (refl, begun.own.1)))
-      (λ apart.
-      let none = h.absent bit lane (omega arith) (omega arith) below in
-      (inr (apart, ap (λ (s : Sums). lane_at s.greatest lane) (begun.others bit apart) ∙ none.0), inr (apart, ap (λ (s : Sums). lane_at s.least lane) (begun.others bit apart) ∙ none.1)))
-      (cases_eq bit (output_of (first + lane)))
+  at_lane bit inside = grind (arith, begun.others, begun.own, h.absent bit lane)
 
   IsOwn-within : (bit : ℕ) (x : Option ℤ) → IsOwn bit x → IfSome x (λ z. unsigned_abs z ≤ 0)
   IsOwn-within bit x (inl g) = rw g.1 (omega (arith, ints))
   IsOwn-within bit x (inr g) = rw g.1 tt
 
   IsOwn-alike : (bit : ℕ) (x y : Option ℤ) → IsOwn bit x → IsOwn bit y → x ≡ None → y ≡ None
-  IsOwn-alike bit x y (inl g) k e = cc (g.1)
-  IsOwn-alike bit x y (inr g) (inl k) e = absurd (g.0 k.0)
-  IsOwn-alike bit x y (inr g) (inr k) e = k.1
+  IsOwn-alike bit x y g k e = grind arith
 
   by_lane : (P : ℕ → Type 0) (other : ℕ) → P lane → (other ≢ lane → P other) → P other
   by_lane P other here there = ⊎_elim (λ e. subst P (sym e) here) there (cases_eq other lane)

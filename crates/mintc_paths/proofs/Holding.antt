@@ -1,6 +1,5 @@
 -- Sums that are held at places.
-use Rattle.std.proofs.Common.{◌≡◌, ◌≢◌, ◌<◌, ◌≤◌, ◌+◌, ◌-◌, ◌++◌, ◌∷◌, [], ℕ, List, length, get_or, set, take, replicate, arith, ap, ◌∙◌, sym, subst, ⊎_elim, length-set, get_or-set_same, get_or-set_other}
-use Rattle.std.proofs.lemmas.Bool.{cases_eq, cases_lt}
+use Rattle.std.proofs.Common.{◌≡◌, ◌≢◌, ◌<◌, ◌+◌, ◌-◌, ◌++◌, ◌∷◌, [], ℕ, List, length, get_or, set, take, replicate, arith, ap, ◌∙◌, sym, subst, length-set, get_or-set_same, get_or-set_other}
 use Rattle.std.proofs.lemmas.List.{length-append, get_or_append_left, get_or-replicate, get_or_default, get_or_past, length-replicate, get_or-map}
 use Rattle.std.proofs.Math.ListN.{length-map}
 use Rattle.std.proofs.Math.Seq.{get_or-append_seam}
@@ -15,10 +14,7 @@ use Rattle.mintc_paths.proofs.Rowing.{length-placed, placed_at, placed_past}
 
 -- the place of a row, by its number
 pub place_is : (base : ℕ) (numbers : List ℕ) (row : ℕ) → place_at (places_of base numbers) row ≡ get_or numbers row 0 - base
-place_is base numbers row = ⊎_elim
-    (λ (low : row < length numbers). get_or-map (λ (number : ℕ). number - base) numbers row 0 0 low)
-    (λ (past : length numbers ≤ row). omega (arith, get_or_past numbers row 0 past, get_or_past (places_of base numbers) row 0 (omega (arith, length-map numbers (λ (number : ℕ). number - base)))))
-    (cases_lt row (length numbers))
+place_is base numbers row = grind (arith, get_or-map, get_or_past, length-map)
 
 pub length-places : (base : ℕ) (numbers : List ℕ) → length (places_of base numbers) ≡ length numbers
 length-places base numbers = length-map numbers (λ (number : ℕ). number - base)
@@ -26,10 +22,7 @@ length-places base numbers = length-map numbers (λ (number : ℕ). number - bas
 -- where the sums at the place of each row are the same, those of the rows are
 placed_same : (places olds : List ℕ) (new old : List Sums) → length places ≡ length olds → (row : ℕ) →
     (row < length places → sums_at new (place_at places row) ≡ sums_at old (place_at olds row)) → sums_at (placed places new) row ≡ sums_at (placed olds old) row
-placed_same places olds new old count row same = ⊎_elim
-    (λ (low : row < length places). placed_at places new row low ∙ same low ∙ sym (placed_at olds old row (omega arith)))
-    (λ (past : length places ≤ row). placed_past places new row past ∙ sym (placed_past olds old row (omega arith)))
-    (cases_lt row (length places))
+placed_same places olds new old count row same = grind (arith, placed_at, placed_past)
 
 -- what the sums in a row become, along an arc that leaves another one
 pub record IsJoined (arc : TimingArc) (to from new : Sums) : Type 0 where
@@ -107,12 +100,7 @@ module _ (base : ℕ) (numbers : List ℕ) (sums : List Sums) (row : ℕ) (held 
   more_kept place low = get_or_append_left sums (NO_SUMS ∷ []) no_sums place low
 
   pub given_kept : (other : ℕ) → sums_at (placed given more) other ≡ sums_at (placed places sums) other
-  given_kept other = placed_same given places more sums (omega (arith, length-places base numbers, length-places base (set numbers row (base + length sums)), length-set {A = ℕ} numbers row (base + length sums))) other (λ low. ⊎_elim
-      (λ (e : other ≡ row).
-      ap (λ k. sums_at more (place_at given k)) e ∙ ap (λ k. sums_at more k) given_own ∙ get_or-append_seam sums NO_SUMS [] no_sums
-      ∙ sym held.none ∙ ap (λ k. sums_at sums k) (sym none) ∙ ap (λ k. sums_at sums (place_at places k)) (sym e))
-      (λ (ne : other ≢ row). ap (λ k. sums_at more k) (given_other other ne) ∙ more_kept (place_at places other) (held.below other))
-      (cases_eq other row))
+  given_kept other = placed_same given places more sums (omega (arith, length-places base numbers, length-places base (set numbers row (base + length sums)), length-set {A = ℕ} numbers row (base + length sums))) other (λ low. grind (arith, given_own, given_other, held.none, held.below, more_kept, get_or-append_seam))
 
   apart_from_own : (other : ℕ) → other ≢ row → place_at given other ≢ place_at given row
   apart_from_own other ne e = omega (arith, held.below other, given_other other ne, given_own)
@@ -120,17 +108,8 @@ module _ (base : ℕ) (numbers : List ℕ) (sums : List Sums) (row : ℕ) (held 
   pub AreHeld-given : AreHeld given more
   AreHeld-given = record {
     none = more_kept 0 (omega (arith, held.below 0)) ∙ held.none;
-    below = λ other. ⊎_elim
-        (λ (e : other ≡ row). omega (arith, given_own, length-append sums (NO_SUMS ∷ []), ap (λ k. place_at given k) e))
-        (λ (ne : other ≢ row). omega (arith, given_other other ne, held.below other, length-append sums (NO_SUMS ∷ [])))
-        (cases_eq other row);
-    apart = λ one other ne same. ⊎_elim
-        (λ (e : one ≡ row). absurd (apart_from_own other (λ f. ne (e ∙ sym f)) (sym same ∙ ap (λ k. place_at given k) e)))
-        (λ (one_ne : one ≢ row). ⊎_elim
-        (λ (e : other ≡ row). absurd (apart_from_own one one_ne (same ∙ ap (λ k. place_at given k) e)))
-        (λ (other_ne : other ≢ row). given_other one one_ne ∙ held.apart one other ne (sym (given_other one one_ne) ∙ same ∙ given_other other other_ne))
-        (cases_eq other row))
-        (cases_eq one row);
+    below = λ other. grind (arith, given_own, given_other other, held.below other, length-append sums (NO_SUMS ∷ []));
+    apart = λ one other ne same. grind (arith, apart_from_own one, apart_from_own other, given_other one, given_other other, held.apart one other);
   }
 
 -- where no row has a place, there are no sums
@@ -142,10 +121,7 @@ module _ (places : List ℕ) (sums : List Sums) (off : (row : ℕ) → place_at 
   AreHeld-none some = record { none = none; below = λ row. subst (λ k. k < length sums) (sym (off row)) some; apart = λ row other ne same. off row }
 
 pub all_zero : (count : ℕ) (numbers : List ℕ) → numbers ≡ replicate count 0 → (row : ℕ) → place_at (places_of 0 numbers) row ≡ 0
-all_zero count numbers same row = ⊎_elim
-    (λ (low : row < count). rw same (omega (arith, place_is 0 (replicate count 0) row, get_or-replicate {A = ℕ} count row 0 0 low)))
-    (λ (past : count ≤ row). rw same (omega (arith, place_is 0 (replicate count 0) row, get_or_past {X = ℕ} (replicate count 0) row 0 (omega (arith, length-replicate {A = ℕ} count 0)))))
-    (cases_lt row count)
+all_zero count numbers same row = grind (arith, same, place_is 0 numbers row, get_or-replicate {A = ℕ} count row 0 0, get_or_past {X = ℕ} (replicate count 0) row 0, length-replicate {A = ℕ} count 0)
 
 -- a base above the numbers leaves no places
 pub none_above : (base next : ℕ) (numbers : List ℕ) (sums : List Sums) → AreHeld (places_of base numbers) sums → next ≡ base + (length sums - 1) →

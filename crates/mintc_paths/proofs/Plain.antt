@@ -61,10 +61,7 @@ module _ (arcs : List TimingArc) (order : List ℕ) (is_order : IsOrder arcs ord
 
 -- where no row has a sum above the limit, no bit has
 pub within_at : (sums : List ℤ) (row : ℕ) → All (λ z. z ≤ℤ pos 1000000000) sums → bit_sum sums row ≤ℤ pos 1000000000
-within_at sums row all = ⊎_elim
-    (λ (low : row < length sums). all row (pos 0) low)
-    (λ (past : length sums ≤ row). omega (arith, ints, get_or_past sums row (pos 0) past))
-    (cases_lt row (length sums))
+within_at sums row all = grind (arith, ints, get_or_past, all row (pos 0))
 
 -- Where no sum is above the limit, no run of arcs is.
 pub AreRunsShort-carried : (arcs : List TimingArc) (order : List ℕ) (sums : List ℤ) → IsOrder arcs order → AreCarried arcs order (length order) sums →

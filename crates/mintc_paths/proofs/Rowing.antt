@@ -1,6 +1,5 @@
 -- The rows of the bits.
-use Rattle.std.proofs.Common.{◌≡◌, ◌≢◌, ℕ, ◌<◌, ◌≤◌, ◌+◌, ◌*◌, List, length, get_or, map, arith, ap, ◌∙◌, sym, ⊎_elim, subst}
-use Rattle.std.proofs.lemmas.Bool.{cases_lt}
+use Rattle.std.proofs.Common.{◌≡◌, ◌≢◌, ℕ, ◌<◌, ◌≤◌, ◌+◌, ◌*◌, List, length, get_or, map, arith, ap, ◌∙◌, sym, subst}
 use Rattle.std.proofs.lemmas.List.{get_or_default, get_or-map, get_or_past, same_lists}
 use Rattle.std.proofs.Math.ListN.{length-map}
 use Rattle.mintc_timing.specs.declared.parts.TimingArc.{TimingArc}
@@ -25,14 +24,7 @@ placed_past rows sums bit past = get_or_past (placed rows sums) bit no_sums (ome
 -- where one row alone has changed, one bit alone has
 pub moved_others : {X : Type 0} (n : ℕ) (rows bits : List ℕ) → LeadsBack n rows bits → (new old : ℕ → X) (d : X) (end : ℕ) → end < n → ((row : ℕ) → row ≢ row_of rows end → new row ≡ old row) →
     (bit : ℕ) → bit ≢ end → get_or (map new rows) bit d ≡ get_or (map old rows) bit d
-moved_others n rows bits h new old d end below others bit ne =
-    ⊎_elim
-    (λ (low : bit < length rows).
-    get_or-map new rows bit 0 d low
-    ∙ others (row_of rows bit) (λ same. ne (sym (h.leads bit (omega arith)) ∙ ap (λ k. row_of bits k) same ∙ h.leads end below))
-    ∙ sym (get_or-map old rows bit 0 d low))
-    (λ (past : length rows ≤ bit). get_or_past (map new rows) bit d (omega (arith, length-map rows new)) ∙ sym (get_or_past (map old rows) bit d (omega (arith, length-map rows old))))
-    (cases_lt bit (length rows))
+moved_others n rows bits h new old d end below others bit ne = grind (arith, get_or-map new rows bit 0 d, get_or-map old rows bit 0 d, get_or_past (map new rows) bit d, get_or_past (map old rows) bit d, length-map rows new, length-map rows old, h.count, h.leads bit, h.leads end, others (row_of rows bit))
 
 module _ (n : ℕ) (rows bits : List ℕ) (h : LeadsBack n rows bits) (old new : List Sums) where
   pub placed_others : (end : ℕ) → end < n → ((row : ℕ) → row ≢ row_of rows end → sums_at new row ≡ sums_at old row) →

@@ -35,13 +35,7 @@ Precede-last from n a b low h = grind arith
 
 -- a list that ascends, with one more item that comes after its last
 ascending_push : {X : Type 0} (R : X → X → Type 0) (xs : List X) (x : X) → AllAdjacentBelow R xs (length xs) → All (λ y. R y x) xs → AllAdjacentBelow R (xs ++ x ∷ []) (length (xs ++ x ∷ []))
-ascending_push {X} R xs x h g k d below =
-    let count : length (xs ++ x ∷ []) ≡ length xs + 1 = length-append xs (x ∷ []) in
-    let inside : k < length xs = omega arith in
-    ⊎_elim
-    (λ (low : k + 1 < length xs). rw (get_or_append_left xs (x ∷ []) d k inside, get_or_append_left xs (x ∷ []) d (k + 1) low) (h k d low))
-    (λ (e : k + 1 ≡ length xs). rw (get_or_append_left xs (x ∷ []) d k inside, get_or_push xs x d (k + 1) (sym e)) (g k d inside))
-    (low_or_at (k + 1) (length xs) (omega arith))
+ascending_push {X} R xs x h g k d below = grind (arith, length-append, get_or_append_left, get_or_push, h k d, g k d)
 
 pub ArePairsBefore-none : (design : Design) → ArePairsBefore design 0 0 []
 ArePairsBefore-none design = record {

@@ -51,11 +51,7 @@ module _ (n : ℕ) (few : n ≤ 2000) (elements places : List ℕ) (back : Leads
 
   -- a pair's key says that of the pair that it is turned back from
   same_key : (p q : Pair) → p.from < n → q.from < n → key_of (pair_back elements p) ≡ key_of (pair_back elements q) → key_of p ≡ key_of q
-  same_key p q in_p in_q e =
-      let to_p = back.inside p.from in_p in
-      let to_q = back.inside q.from in_q in
-      let at : row_of elements p.from ≡ row_of elements q.from = omega arith in
-      omega (arith, sym (back.leads p.from in_p) ∙ ap (row_of places) at ∙ back.leads q.from in_q)
+  same_key p q in_p in_q e = grind (arith, back.inside p.from, back.inside q.from, back.leads p.from, back.leads q.from)
 
   AreApart-back : AreApart (map (pair_back elements) pairs)
   AreApart-back i j d less low_j e =

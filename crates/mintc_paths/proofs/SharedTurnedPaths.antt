@@ -1,6 +1,5 @@
 -- A design turned round has the same paths, from the back.
-use Rattle.std.proofs.Common.{◌≡◌, ◌≢◌, ℕ, ◌<◌, ◌+◌, ◌-◌, ◌*◌, ℤ, ◌≤ℤ◌, pos, List, [], ◌∷◌, ◌++◌, length, get_or, reverse, arith, refl, ap, ◌∙◌, sym, subst, ⊎_elim}
-use Rattle.std.proofs.lemmas.Bool.{cases_lt}
+use Rattle.std.proofs.Common.{◌≡◌, ◌≢◌, ℕ, ◌<◌, ◌+◌, ◌-◌, ◌*◌, ℤ, ◌≤ℤ◌, pos, List, [], ◌∷◌, ◌++◌, length, get_or, reverse, arith, refl, ap, ◌∙◌, sym, subst}
 use Rattle.std.proofs.lemmas.Int.{ints}
 use Rattle.std.proofs.lemmas.List.{get_or-map, get_or_past, get_or-reverse, length-reverse, reverse-append}
 use Rattle.std.proofs.lemmas.List.Sorted.{Contains-permutation, IsPermutation-reverse}
@@ -52,9 +51,7 @@ module _ (n m : ℕ) (places elements : List ℕ) (there : LeadsBack n places el
 
   -- what the turning leaves of an arc
   same_turned : (of : TimingArc → ℤ) → ((arc : TimingArc) → of (turned_arc n places arc) ≡ of arc) → (k : ℕ) → of (arc_at turned k) ≡ of (arc_at arcs k)
-  same_turned of kept k = ⊎_elim (λ low. ap of (arc_turned k low) ∙ kept (arc_at arcs k))
-      (λ high. ap of (get_or_past turned k no_arc (omega (arith, count_turned)) ∙ sym (get_or_past arcs k no_arc high)))
-      (cases_lt k (length arcs))
+  same_turned of kept k = grind (arith, arc_turned, kept, get_or_past, count_turned)
 
   -- A path of the one is a path of the other, from the back.
   pub Leads-forth : (from to : ℕ) (path : List ℕ) → Leads arcs from path to → Leads turned (goes to) (reverse path) (goes from)

@@ -1,7 +1,6 @@
 -- Long paths and long sums.
-use Rattle.std.proofs.Common.{◌≡◌, ℕ, ◌<◌, ◌≤◌, ◌+◌, ◌-◌, ℤ, ◌≤ℤ◌, ◌<ℤ◌, pos, List, length, arith, sym, ⊎_elim, Option, Some, None, subst}
+use Rattle.std.proofs.Common.{ℕ, ◌<◌, ◌≤◌, ◌+◌, ◌-◌, ℤ, ◌≤ℤ◌, ◌<ℤ◌, pos, List, length, arith, Option, Some, None}
 use Rattle.std.specs.Prelude.{IfSome, IsSomeAnd}
-use Rattle.std.proofs.lemmas.Bool.{cases_lt}
 use Rattle.std.proofs.lemmas.Int.{ints}
 use Rattle.mintc_timing.specs.Design.{Design}
 use Rattle.mintc_timing.specs.Paths.{IsPath, greatest_delay}
@@ -35,12 +34,7 @@ module _ (design : Design) (first lanes : ℕ) (sums : List Sums) (h : AreExtrem
       short_path design (first + lane) bit (lane_at (sums_at sums bit).greatest lane) (h.reached bit lane inside below) (short bit inside) path is
 
   short_from : (end : ℕ) → end ≤ lanes → ((lane : ℕ) → lane < end → IsShortLane sums lane) → AreShortBefore design (first + end)
-  short_from end few short j bit path below is = ⊎_elim
-      (λ (low : j < first). before j bit path low is)
-      (λ (high : first ≤ j).
-      let same : first + (j - first) ≡ j = omega arith in
-      short_lane (j - first) (omega arith) (short (j - first) (omega arith)) bit path (subst (λ i. IsPath design.arcs i path bit) (sym same) is))
-      (cases_lt j first)
+  short_from end few short j bit path below is = grind (arith, before j bit path, short_lane (j - first), short (j - first))
 
   pub AreShortBefore-more : ((lane : ℕ) → lane < lanes → IsShortLane sums lane) → AreShortBefore design (first + lanes)
   AreShortBefore-more short = short_from lanes (omega arith) short
