@@ -13,10 +13,7 @@ use Rattle.mintc_paths.specs.Sums.{LeadsBack, moved, row_of}
 
 -- a mark is 0 or 1
 pub mark_is : (marks : Marks) (lane : ℕ) → (mark_in marks lane ≡ 0) ⊎ (mark_in marks lane ≡ 1)
-mark_is marks lane = zero_or_one (mark_in marks lane) (bit_at-lt (get_or marks.words (lane / 64) 0) (lane % 64))
-  where
-    zero_or_one : (x : ℕ) → x < 2 → (x ≡ 0) ⊎ (x ≡ 1)
-    zero_or_one x h = grind arith
+mark_is marks lane = grind (arith, bit_at-lt (get_or marks.words (lane / 64) 0) (lane % 64))
 
 -- what holds exactly where one of two other things holds
 pub IsMarkOf-joined : (P Q R : Type 0) (x y z : ℕ) → (R → P ⊎ Q) → (P → R) → (Q → R) → (x < 2) → (y < 2) → z ≡ max x y → IsMarkOf P x → IsMarkOf Q y → IsMarkOf R z

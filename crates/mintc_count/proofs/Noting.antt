@@ -26,11 +26,7 @@ pub noted_more : (old new : List Marks) (reached : List Bool) (row : ℕ) → le
     AreMarksReached old reached → AreMarksReached new (set reached row true)
 noted_more old new reached row same others m = record {
   count = length-set {A = Bool} reached row true ∙ m.count ∙ sym same;
-  none = λ r below off.
-      ⊎_elim
-      (λ e. let on : get_or (set reached row true) r false ≡ true = rw e (get_or-set_same reached row true false (omega (arith, m.count, e))) in absurd (cc on))
-      (λ e. others r e ∙ m.none r (omega arith) (sym (get_or-set_other reached row r true false e) ∙ off))
-      (cases_eq r row);
+  none = λ r below off. grind (arith, get_or-set_same reached row true false, get_or-set_other reached row r true false, m.count, m.none r, others r);
 }
 
 -- no lane of no marks is set
@@ -56,10 +52,7 @@ module _ (n : ℕ) (rows bits : List ℕ) (h : LeadsBack n rows bits) (first lan
   elsewhere bit other below ne = ap (λ (m : Marks). mark_in m other) (begun.others (row_of rows bit) (rows_apart n rows bits h bit out below inside ne))
 
   same_lane : (bit other : ℕ) → bit < n → other ≢ lane → mark_at new bit other ≡ mark_at old bit other
-  same_lane bit other below ne = ⊎_elim
-      (λ (e : bit ≡ out). subst (λ b. mark_at new b other ≡ mark_at old b other) (sym e) (begun.lanes other ne))
-      (λ apart. elsewhere bit other below apart)
-      (cases_eq bit out)
+  same_lane bit other below ne = grind (arith, begun.lanes other, elsewhere bit other)
 
   own_lane : (bit : ℕ) → bit < n → IsMarkOf (bit ≡ out) (mark_at new bit lane)
   own_lane bit below = ⊎_elim

@@ -18,16 +18,8 @@ pub set_other : (words : List ℕ) (lane other : ℕ) → lane / 64 < length wor
     bit_at (get_or (with_bit words (lane / 64) (lane % 64)) (other / 64) 0) (other % 64) ≡ bit_at (get_or words (other / 64) 0) (other % 64)
 set_other words lane other inside ne =
     let low : lane % 64 < 64 = omega arith in
-    ⊎_elim
-    (λ (e : other / 64 ≡ lane / 64).
-    let apart : other % 64 ≢ lane % 64 = omega arith in
-    ap (λ k. bit_at (get_or (with_bit words (lane / 64) (lane % 64)) k 0) (other % 64)) e
-    ∙ ap (λ n. bit_at n (other % 64)) (get_or-set_same words (lane / 64) (bit_or (get_or words (lane / 64) 0) (1 * 2 ^ (lane % 64) % 18446744073709551616)) 0 inside)
-    ∙ bit_at_set_other w64 (get_or words (lane / 64) 0) (lane % 64) low (other % 64) apart
-    ∙ ap (λ k. bit_at (get_or words k 0) (other % 64)) (sym e))
-    (λ (far : other / 64 ≢ lane / 64).
-    ap (λ n. bit_at n (other % 64)) (get_or-set_other words (lane / 64) (other / 64) (bit_or (get_or words (lane / 64) 0) (1 * 2 ^ (lane % 64) % 18446744073709551616)) 0 far))
-    (cases_eq (other / 64) (lane / 64))
+    let new : ℕ = bit_or (get_or words (lane / 64) 0) (1 * 2 ^ (lane % 64) % 18446744073709551616) in
+    grind (arith, get_or-set_same words (lane / 64) new 0 inside, get_or-set_other words (lane / 64) (other / 64) new 0, bit_at_set_other w64 (get_or words (lane / 64) 0) (lane % 64) low (other % 64))
 
 -- one of four words
 pub by_word : (P : ℕ → Type 0) → P 0 → P 1 → P 2 → P 3 → (word : ℕ) → word < 4 → P word
