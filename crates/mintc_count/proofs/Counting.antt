@@ -70,8 +70,8 @@ pub IsCountBefore-next : (design : Design) (from count : ℕ) → length design.
 IsCountBefore-next design from count limit h = record { pairs = h.pairs; are_pairs = ArePairsBefore-next design from h.pairs h.are_pairs; is_count = h.is_count; few = omega arith }
 
 -- the pairs of the design turned round are as many as the design's
-pub IsCountBefore-back : (design : Design) → IsDesign design → (places elements : List ℕ) → LeadsBack (length design.elements) places elements → LeadsBack (length design.elements) elements places →
+pub IsCountBefore_back : (design : Design) → IsDesign design → (places elements : List ℕ) → LeadsBack (length design.elements) places elements → LeadsBack (length design.elements) elements places →
     (count : ℕ) → IsCountBefore (turned_design places design) (length design.elements) 0 count → IsCountBefore design (length design.elements) 0 count
-IsCountBefore-back design kept places elements there back count h =
+IsCountBefore_back design kept places elements there back count h =
     let turned = ArePairsBefore-back design kept places elements there back h.pairs h.are_pairs in
     record { pairs = turned.0; are_pairs = turned.1; is_count = turned.2 ∙ h.is_count; few = h.few }

@@ -22,9 +22,9 @@ module _ (design : Design) (from lane : ℕ) (low : lane < 256) (ends : List Mar
       let same : count + mark_in (marks_at ends to) lane ≡ count = omega (arith, none_in (marks_at ends to) lane low (are_listed.others to below apart)) in
       subst (λ k. IsCountBefore design from (to + 1) k) same (IsCountBefore-more design from to count h (marks_at ends to) lane (are_ends to below))
 
-  pub IsCountToEnd-more : (number count : ℕ) → number < length listed → IsCountToEnd design from listed number count →
+  pub IsCountToEnd_more : (number count : ℕ) → number < length listed → IsCountToEnd design from listed number count →
       IsCountToEnd design from listed (number + 1) (count + mark_in (marks_at ends (end_at listed number)) lane)
-  IsCountToEnd-more number count inside h =
+  IsCountToEnd_more number count inside h =
       let to : ℕ = end_at listed number in
       let here = IsToEnd-at (length design.elements) listed are_listed.ascending are_listed.inside (λ k. IsCountBefore design from k count) (skip count) number inside h in
       IsToEnd-more (length design.elements) listed are_listed.ascending are_listed.inside (λ k. IsCountBefore design from k (count + mark_in (marks_at ends to) lane)) number inside

@@ -1,8 +1,7 @@
 -- Rows that are reached and their marks. Arcs that leave no row that is reached change no marks.
-use Rattle.std.proofs.Common.{◌≡◌, ◌≢◌, ◌<◌, ◌≤◌, ◌+◌, ◌*◌, ◌/◌, ◌%◌, ℕ, min, Bool, true, false, List, length, get_or, set, length-set, get_or-set_same, get_or-set_other, ⊎_elim, arith, refl, sym, ◌∙◌, ap, subst}
+use Rattle.std.proofs.Common.{◌≡◌, ◌≢◌, ◌<◌, ◌≤◌, ◌+◌, ◌*◌, ◌%◌, ℕ, min, Bool, true, false, List, length, get_or, set, length-set, get_or-set_same, get_or-set_other, ⊎_elim, arith, refl, sym, ◌∙◌, ap, subst}
 use Rattle.std.proofs.lemmas.Bool.{cases_eq}
 use Rattle.std.proofs.lemmas.Nat.Bits.{bit_at-zero}
-use Rattle.std.specs.Int.{bit_at}
 use Rattle.mintc_places.specs.Places.{IsIn}
 use Rattle.mintc_timing.specs.declared.parts.TimingArc.{TimingArc}
 use Rattle.mintc_timing.specs.Design.{Design}
@@ -19,7 +18,6 @@ use Rattle.mintc_paths.specs.Sums.{row_of, LeadsBack, IsCourse}
 use Rattle.mintc_count.proofs.Leading.{AreCarriedMarks, AreMarksAlong-more, IsMarkOf-same, rows_apart}
 use Rattle.mintc_paths.proofs.SharedClimbing.{climb}
 use Rattle.mintc_paths.proofs.SharedPassing.{from_in, to_in, row_in, not_on}
-use Rattle.mintc_count.proofs.Setting.{by_word}
 
 -- a row that gets marks and is reached
 pub noted_more : (old new : List Marks) (reached : List Bool) (row : ℕ) → length new ≡ length old → ((other : ℕ) → other ≢ row → marks_at new other ≡ marks_at old other) →
@@ -31,8 +29,7 @@ noted_more old new reached row same others m = record {
 
 -- no lane of no marks is set
 pub none_in : (marks : Marks) (lane : ℕ) → lane < 256 → marks ≡ NO_MARKS → mark_in marks lane ≡ 0
-none_in marks lane low e = ap (λ (m : Marks). mark_in m lane) e
-    ∙ by_word (λ word. bit_at (get_or NO_MARKS.words word 0) (lane % 64) ≡ 0) (bit_at-zero (lane % 64)) (bit_at-zero (lane % 64)) (bit_at-zero (lane % 64)) (bit_at-zero (lane % 64)) (lane / 64) (omega arith)
+none_in marks lane low e = grind (arith, e, bit_at-zero (lane % 64))
 
 -- what a call of set leaves
 pub record IsBegunMark (old new : List Marks) (row lane : ℕ) : Type 0 where

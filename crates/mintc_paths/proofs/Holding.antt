@@ -105,8 +105,8 @@ module _ (base : ℕ) (numbers : List ℕ) (sums : List Sums) (row : ℕ) (held 
   apart_from_own : (other : ℕ) → other ≢ row → place_at given other ≢ place_at given row
   apart_from_own other ne e = omega (arith, held.below other, given_other other ne, given_own)
 
-  pub AreHeld-given : AreHeld given more
-  AreHeld-given = record {
+  pub AreHeld_given : AreHeld given more
+  AreHeld_given = record {
     none = more_kept 0 (omega (arith, held.below 0)) ∙ held.none;
     below = λ other. grind (arith, given_own, given_other other, held.below other, length-append sums (NO_SUMS ∷ []));
     apart = λ one other ne same. grind (arith, apart_from_own one, apart_from_own other, given_other one, given_other other, held.apart one other);
@@ -117,8 +117,8 @@ module _ (places : List ℕ) (sums : List Sums) (off : (row : ℕ) → place_at 
   pub placed_none : (row : ℕ) → row < length places → sums_at (placed places sums) row ≡ NO_SUMS
   placed_none row low = placed_at places sums row low ∙ ap (λ k. sums_at sums k) (off row) ∙ none
 
-  pub AreHeld-none : 0 < length sums → AreHeld places sums
-  AreHeld-none some = record { none = none; below = λ row. subst (λ k. k < length sums) (sym (off row)) some; apart = λ row other ne same. off row }
+  pub AreHeld_none : 0 < length sums → AreHeld places sums
+  AreHeld_none some = record { none = none; below = λ row. subst (λ k. k < length sums) (sym (off row)) some; apart = λ row other ne same. off row }
 
 pub all_zero : (count : ℕ) (numbers : List ℕ) → numbers ≡ replicate count 0 → (row : ℕ) → place_at (places_of 0 numbers) row ≡ 0
 all_zero count numbers same row = grind (arith, same, place_is 0 numbers row, get_or-replicate {A = ℕ} count row 0 0, get_or_past {X = ℕ} (replicate count 0) row 0, length-replicate {A = ℕ} count 0)

@@ -28,8 +28,8 @@ sum_placed : (rows : List ℕ) (sums : List ℤ) (bit : ℕ) → bit < length ro
 sum_placed rows sums bit below = get_or-map (bit_sum sums) rows bit 0 (pos 0) below
 
 -- before any arc
-pub AreCarried-no_rows : (arcs : List TimingArc) (order rows : List ℕ) (n : ℕ) (sums : List ℤ) → sums ≡ replicate n (pos 0) → AreCarried arcs order 0 (bit_sums rows sums)
-AreCarried-no_rows arcs order rows n sums same =
+pub AreCarried_no_rows : (arcs : List TimingArc) (order rows : List ℕ) (n : ℕ) (sums : List ℤ) → sums ≡ replicate n (pos 0) → AreCarried arcs order 0 (bit_sums rows sums)
+AreCarried_no_rows arcs order rows n sums same =
     AreCarried-zeros arcs order (bit_sums rows sums) (λ bit. ⊎_elim
     (λ (low : bit < length rows). sum_placed rows sums bit low ∙ ap (λ (x : List ℤ). bit_sum x (row_of rows bit)) same ∙ none_at n (row_of rows bit))
     (λ (past : length rows ≤ bit). get_or_past (bit_sums rows sums) bit (pos 0) (omega (arith, length-map rows (bit_sum sums))))

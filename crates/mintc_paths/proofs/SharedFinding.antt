@@ -18,9 +18,6 @@ use Rattle.mintc_paths.proofs.Beginning.{none_at}
 use Rattle.mintc_paths.proofs.SharedClimbing.{IsToEnd, IsToEnd-at, IsToEnd-more, IsToEnd-all}
 use Rattle.mintc_paths.proofs.Rowing.{placed_at}
 
-pub low_or_at : (i k : ℕ) → i < k + 1 → (i < k) ⊎ (i ≡ k)
-low_or_at i k h = grind arith
-
 Precede-more : (from to a b : ℕ) → Precede from to a b → Precede from (to + 1) a b
 Precede-more from to a b h = grind arith
 
@@ -120,13 +117,13 @@ IsFoundBefore-next design from found limit h = record { pairs = h.pairs; are_pai
 abbrev pub IsAdded : ℕ → ℕ → Option ℤ → Option ℤ → Found → Found → Type 0
 IsAdded from to max min old new = (design : Design) → IsPaired design from to max min → IsFoundBefore design from to old → IsFoundBefore design from (to + 1) new
 
-pub IsAdded-none : (from to : ℕ) (x y : Option ℤ) (found : Found) → x ≡ None → IsAdded from to x y found found
-IsAdded-none from to x y found e = λ design paired h. IsFoundBefore-skip design from to found (rw e at paired) h
+pub IsAdded_none : (from to : ℕ) (x y : Option ℤ) (found : Found) → x ≡ None → IsAdded from to x y found found
+IsAdded_none from to x y found e = λ design paired h. IsFoundBefore-skip design from to found (rw e at paired) h
 
-pub IsAdded-some : {T E : Type 0} (r : Result T E) (from to : ℕ) (x y : Option ℤ) (max min : ℤ) (old new : Found) → x ≡ Some max → y ≡ Some min → OnOk r (new.count ≡ old.count + 1) →
+pub IsAdded_some : {T E : Type 0} (r : Result T E) (from to : ℕ) (x y : Option ℤ) (max min : ℤ) (old new : Found) → x ≡ Some max → y ≡ Some min → OnOk r (new.count ≡ old.count + 1) →
     OnOk r (old.count < 200000 → new.pairs.items ≡ old.pairs.items ++ pair_of from to min max ∷ []) → OnOk r (IsAdded from to x y old new)
-IsAdded-some (Ok v) from to x y max min old new e f count kept = λ design paired h. IsFoundBefore-push design from to old new (pair_of from to min max) (rw (e, f) at paired) refl refl count kept h
-IsAdded-some (Err v) from to x y max min old new e f count kept = kept
+IsAdded_some (Ok v) from to x y max min old new e f count kept = λ design paired h. IsFoundBefore-push design from to old new (pair_of from to min max) (rw (e, f) at paired) refl refl count kept h
+IsAdded_some (Err v) from to x y max min old new e f count kept = kept
 
 -- What is found are the pairs before some element, which comes after the ends before this one and not after this one.
 abbrev pub IsFoundToEnd : Design → ℕ → List ℕ → ℕ → Found → Type 0

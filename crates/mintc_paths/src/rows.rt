@@ -90,7 +90,7 @@ pub struct Course {
 
 impl Course {
     /// The course over these rows.
-    #[tactic(auto, using(mintc_timing::proofs::SharedOrdered::inside))]
+    #[tactic(auto, using(mintc_timing::proofs::SharedOrdered::inside, crate::proofs::Filling::arc_inside))]
     pub fn new(alloc: Global, flat: &Flat, order: &Order, rows: Rows) -> Result<Course, AllocError>
         requires order { IsOrder flat.now.arcs order.now }
         requires rows { AreRows (2 * length flat.now.elements + length flat.now.inner) rows }

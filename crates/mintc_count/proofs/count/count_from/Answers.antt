@@ -1,13 +1,6 @@
-use Rattle.std.proofs.Common.{◌≡◌, ℕ, length, arith}
-use Rattle.mintc_count.proofs.Listing.{IsCountToEnd-more, IsCountToEnd-next}
+use Rattle.std.proofs.Common.{◌≡◌, length, arith}
+use Rattle.mintc_count.proofs.Listing.{IsCountToEnd-next}
 use Rattle.mintc_count.proofs.count.count_from.Goals as goal
-
-pub loop-number-preserved : goal.loop-number-preserved
-loop-number-preserved g c =
-    let listed = c.args.listed.now in
-    let number : ℕ = c.loop-number.number in
-    rw c.mark_of-count.ensures
-    (IsCountToEnd-more g.design c.args.element c.args.lane c.requires.1.1.1.0 c.args.ends.now listed c.requires.1.1.1.1.0 c.requires.1.1.1.1.1.0 number c.loop-number.count c.loop-number-test.true c.loop-number.invariant)
 
 pub returns : goal.returns
 returns g c =

@@ -3,7 +3,7 @@ use Rattle.mintc_paths.specs.declared.sums.TheConstants.{NO_SUMS}
 use Rattle.mintc_paths.specs.Held.{place_at, places_of}
 use Rattle.mintc_paths.specs.Sums.{sums_at}
 use Rattle.mintc_paths.proofs.Rowing.{length-placed}
-use Rattle.mintc_paths.proofs.Holding.{placed_none, AreHeld-none, none_above, first_alone}
+use Rattle.mintc_paths.proofs.Holding.{placed_none, AreHeld_none, none_above, first_alone}
 use Rattle.mintc_paths.proofs.held.Held.clear.Goals as goal
 use Rattle.mintc_paths.proofs.held.Held.clear.Goals.{After-len}
 
@@ -19,7 +19,7 @@ invariant_of-self c =
     let at = (goal.at.invariant_of-self c).After-len in
     let alone = one at in
     rw c.truncate.ensures.items (record {
-      held = AreHeld-none (places_of (c.self.inside.base + (c.len.result - 1)) c.self.inside.numbers.items) _ (off at) alone.0 (omega arith);
+      held = AreHeld_none (places_of (c.self.inside.base + (c.len.result - 1)) c.self.inside.numbers.items) _ (off at) alone.0 (omega arith);
       few = omega (arith, c.self.invariant.few, c.self.invariant.held.below 0, c.len.ensures, c.self.inside.sums.ok.0);
     })
 
