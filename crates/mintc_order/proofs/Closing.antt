@@ -76,12 +76,4 @@ module _ {bits : ℕ} {starts numbers ends marks path nexts given : List ℕ} (p
     }
 
     pub LeavesOnce-closing : LeavesOnce arcs loop
-    LeavesOnce-closing i j k l h = λ q.
-        let n = len in
-        let a = s.is_path.each_bit (d + i) (omega arith) in
-        let b = s.is_path.each_bit (d + j) (omega arith) in
-        let i' = get_or_default loop i k 0 (omega arith) in
-        let j' = get_or_default loop j k 0 h in
-        let e : get_or path (d + i) 0 ≡ get_or path (d + j) 0 =
-        sym (from i (omega arith)) ∙ sym (ap (λ (n' : ℕ). (arc_at arcs n').from) i') ∙ q ∙ ap (λ (n' : ℕ). (arc_at arcs n').from) j' ∙ from j h in
-        omega (arith, ap (λ (v : ℕ). get_or marks v 0) e)
+    LeavesOnce-closing i j k l h = let n = len in grind (arith, from i, from j, s.is_path.each_bit (d + i), s.is_path.each_bit (d + j), get_or_default loop i k 0, get_or_default loop j k 0)

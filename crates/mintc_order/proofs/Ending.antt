@@ -1,7 +1,6 @@
 -- What a search has given out in the end.
-use Rattle.std.proofs.Common.{◌≡◌, ◌≢◌, ℕ, ◌-◌, ◌<◌, List, [], length, get_or, ap, ⊎_elim, arith}
+use Rattle.std.proofs.Common.{◌≡◌, ◌≢◌, ℕ, ◌-◌, ◌<◌, List, [], length, get_or, ap, arith}
 use Rattle.std.specs.List.{Contains}
-use Rattle.std.proofs.lemmas.Bool.{cases_lt}
 use Rattle.mintc_order.specs.Ranges.{AreParts}
 use Rattle.mintc_order.specs.Searches.{AreAfterEnds, IsSearch}
 
@@ -16,9 +15,5 @@ module _ {bits : ℕ} {starts numbers ends marks path nexts given : List ℕ} (s
   pub whole_at_end : path ≡ [] → ((bit : ℕ) → bit < bits → get_or marks bit 0 ≢ 0) → (bit : ℕ) → bit < length starts - 1 → Contains read bit
   whole_at_end empty met bit h =
       let none = ap (λ (xs : List ℕ). length xs) empty in
-      let one : get_or marks bit 0 ≡ 1 =
-      ⊎_elim
-      (λ l. omega (arith, met bit (omega arith)))
-      (λ l. absurd (omega (arith, (s.1.is_path.placed bit (get_or marks bit 0 - 2) (omega arith)).0)))
-      (cases_lt (get_or marks bit 0) 2) in
+      let one : get_or marks bit 0 ≡ 1 = grind (arith, met bit, s.1.is_path.placed bit (get_or marks bit 0 - 2)) in
       rw same (s.1.are_given.whole bit one)

@@ -110,18 +110,7 @@ module _ {arcs : List TimingArc} {bits : ℕ} {starts numbers ends given : List 
     once i j l h = let len = grows in grind (arith, a.same i, a.same j, g.once i j, new i, new j, all.once (start + (i - length before)) (start + (j - length before)), below j, out_old i, from_new j, apart rest)
 
     after_all : (i j : ℕ) → i < length after → j < length after → (arc_at arcs (get_or after i 0)).to ≡ (arc_at arcs (get_or after j 0)).from → i < j
-    after_all i j h k q =
-        ⊎_elim
-        (λ (l : i < length before).
-        ⊎_elim
-        (λ (m : j < length before). g.after i j l m (sym (ap (λ (n : ℕ). (arc_at arcs n).to) (a.same i l)) ∙ q ∙ ap (λ (n : ℕ). (arc_at arcs n).from) (a.same j m)))
-        (λ (m : length before ≤ j). omega arith)
-        (cases_lt j (length before)))
-        (λ (l : length before ≤ i).
-        let earlier = ordered.after rest (start + (i - length before)) in_given (is_place i h l) in
-        let o = out j k in
-        absurd (apart earlier.0 o.0 (omega arith) o.2 (earlier.2 ∙ sym (to_new i h l) ∙ q ∙ sym o.3)))
-        (cases_lt i (length before))
+    after_all i j h k q = let len = grows in grind (arith, a.same i, a.same j, g.after i j, to_new i, ordered.after rest (start + (i - length before)), out j, apart, is_place i)
 
     pub AreGathered-more : AreGathered arcs given rest after
     AreGathered-more = record { number = number; out = out; whole = whole; once = once; after = after_all }
