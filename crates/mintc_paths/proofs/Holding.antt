@@ -93,6 +93,9 @@ module _ (base : ℕ) (numbers : List ℕ) (sums : List Sums) (row : ℕ) (held 
   pub given_own : place_at given row ≡ length sums
   given_own = omega (arith, place_is base (set numbers row (base + length sums)) row, get_or-set_same numbers row (base + length sums) 0 inside)
 
+  count : length given ≡ length places
+  count = omega (arith, length-places base numbers, length-places base (set numbers row (base + length sums)), length-set {A = ℕ} numbers row (base + length sums))
+
   given_other : (other : ℕ) → other ≢ row → place_at given other ≡ place_at places other
   given_other other ne = place_is base (set numbers row (base + length sums)) other ∙ ap (λ k. k - base) (get_or-set_other numbers row other (base + length sums) 0 ne) ∙ sym (place_is base numbers other)
 
@@ -100,7 +103,7 @@ module _ (base : ℕ) (numbers : List ℕ) (sums : List Sums) (row : ℕ) (held 
   more_kept place low = get_or_append_left sums (NO_SUMS ∷ []) no_sums place low
 
   pub given_kept : (other : ℕ) → sums_at (placed given more) other ≡ sums_at (placed places sums) other
-  given_kept other = placed_same given places more sums (omega (arith, length-places base numbers, length-places base (set numbers row (base + length sums)), length-set {A = ℕ} numbers row (base + length sums))) other (λ low. grind (arith, given_own, given_other, held.none, held.below, more_kept, get_or-append_seam))
+  given_kept other = placed_same given places more sums count other (λ low. grind (arith, given_own, given_other, held.none, held.below, more_kept, get_or-append_seam))
 
   apart_from_own : (other : ℕ) → other ≢ row → place_at given other ≢ place_at given row
   apart_from_own other ne e = omega (arith, held.below other, given_other other ne, given_own)

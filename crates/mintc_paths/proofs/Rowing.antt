@@ -24,7 +24,10 @@ placed_past rows sums bit past = get_or_past (placed rows sums) bit no_sums (ome
 -- where one row alone has changed, one bit alone has
 pub moved_others : {X : Type 0} (n : ℕ) (rows bits : List ℕ) → LeadsBack n rows bits → (new old : ℕ → X) (d : X) (end : ℕ) → end < n → ((row : ℕ) → row ≢ row_of rows end → new row ≡ old row) →
     (bit : ℕ) → bit ≢ end → get_or (map new rows) bit d ≡ get_or (map old rows) bit d
-moved_others n rows bits h new old d end below others bit ne = grind (arith, get_or-map new rows bit 0 d, get_or-map old rows bit 0 d, get_or_past (map new rows) bit d, get_or_past (map old rows) bit d, length-map rows new, length-map rows old, h.count, h.leads bit, h.leads end, others (row_of rows bit))
+moved_others n rows bits h new old d end below others bit ne =
+    let many = length-map rows new in
+    let many_old = length-map rows old in
+    grind (arith, get_or-map new rows bit 0 d, get_or-map old rows bit 0 d, get_or_past (map new rows) bit d, get_or_past (map old rows) bit d, h.count, h.leads bit, h.leads end, others (row_of rows bit))
 
 module _ (n : ℕ) (rows bits : List ℕ) (h : LeadsBack n rows bits) (old new : List Sums) where
   pub placed_others : (end : ℕ) → end < n → ((row : ℕ) → row ≢ row_of rows end → sums_at new row ≡ sums_at old row) →

@@ -95,8 +95,13 @@ module _ (design : Design) (order : List ℕ) (is_order : IsOrder design.arcs or
     -- what `carry` asks of the sums in the rows that the arc at a place leaves and enters
     pub ends_small : (i : ℕ) → i < length order → AreSums design.arcs order i first lanes (placed rows sums) → IsSmallAt sums (arc_at course.along.items i)
     ends_small i low h =
-        let small = λ (row : ℕ) (below : row < n). IsBounded-weaker (i * 1000000000) 1000000000000000 (sums_at sums row) (few_arcs i low) (bounded_each design.arcs order i first lanes n course.rows is_course.rows sums h row below) in
-        record { from = small (arc_at course.along.items i).from (row_in i low); to = small (arc_at course.along.items i).to (row_to_in i low); alike = alike_each design.arcs order i first lanes n course.rows is_course.rows sums h (arc_at course.along.items i).from (row_in i low) }
+        let small = λ (row : ℕ) (below : row < n).
+        IsBounded-weaker (i * 1000000000) 1000000000000000 (sums_at sums row) (few_arcs i low) (bounded_each design.arcs order i first lanes n course.rows is_course.rows sums h row below) in
+        record {
+          from = small (arc_at course.along.items i).from (row_in i low);
+          to = small (arc_at course.along.items i).to (row_to_in i low);
+          alike = alike_each design.arcs order i first lanes n course.rows is_course.rows sums h (arc_at course.along.items i).from (row_in i low);
+        }
 
     -- one more arc is carried along
     pub carried_along : (new : List Sums) → length new ≡ length sums → (i : ℕ) → i < length order → IsCarried (arc_at course.along.items i) sums new →

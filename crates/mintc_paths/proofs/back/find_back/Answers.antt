@@ -25,5 +25,6 @@ returns-clause-found c =
     let was = c.deref_mut.ensures.value in
     let same_was = ap (λ (ps : List Pair). length ps) was in
     let is : (with_items found.pairs pairs).items ≡ pairs = with_items_is found.pairs pairs (omega (arith, found.pairs.ok.0, c.turn_pairs.auto.pairs)) in
-    IsFoundBefore-back c.args.flat.now c.elements.ensures.kept c.in-Ok.places.of_bits.items c.in-Ok.places.bits.items rows.of_bits rows.bits found c.in_ok-found.ensures.found c.if-found.false pairs (rw was at c.turn_pairs.ensures.permutation) c.turn_pairs.ensures.sorted
+    IsFoundBefore-back c.args.flat.now c.elements.ensures.kept c.in-Ok.places.of_bits.items c.in-Ok.places.bits.items rows.of_bits rows.bits found c.in_ok-found.ensures.found c.if-found.false pairs
+    (rw was at c.turn_pairs.ensures.permutation) c.turn_pairs.ensures.sorted
     (record { pairs = with_items found.pairs pairs; count = found.count; ends = found.ends }) refl is

@@ -17,7 +17,8 @@ overflow_add-len c = omega (arith, room (goal.at.overflow_add-len c).After-len)
 
 pub returns-clause-search : goal.returns-clause-search
 returns-clause-search c =
-    let same : c.index.result.now ≡ get_or c.args.ranges.now.starts.items c.args.bit 0 = omega (arith, get_or_default c.args.ranges.now.starts.items c.args.bit 0 c.index.result.now (omega (arith, c.requires.search.0.each_start))) in
+    let inside : c.args.bit < length c.args.ranges.now.starts.items = omega (arith, c.requires.search.0.each_start) in
+    let same : c.index.result.now ≡ get_or c.args.ranges.now.starts.items c.args.bit 0 = omega (arith, get_or_default c.args.ranges.now.starts.items c.args.bit 0 c.index.result.now inside) in
     let mark : c.len.result + 1 ≡ length c.args.self.now.path.items + 2 = omega (arith, c.len.ensures, c.in_ok-push.ensures.len) in
     IsSearch-entered_as c.requires.search.0 c.requires.search.1 c.args.bit c.requires.bit c.requires.unmet c.requires.ends
     c.push.new.self.items c.push-2.new.self.items c.index.result.now (c.len.result + 1)
