@@ -1,5 +1,5 @@
 -- Pairs that are counted one after another.
-use Rattle.std.proofs.Common.{◌≡◌, ◌≢◌, ◌<◌, ◌≤◌, ◌+◌, ◌*◌, ℕ, List, [], ◌∷◌, ◌++◌, length, length-append, arith, refl, ap, ◌∙◌, sym, subst, ⊎_elim}
+use Rattle.std.proofs.Common.{◌≡◌, ◌≢◌, ◌<◌, ◌≤◌, ◌+◌, ◌*◌, ℕ, List, [], ◌∷◌, ◌++◌, length, length-append, arith, ap, ◌∙◌, sym, subst, ⊎_elim}
 use Rattle.mintc_timing.specs.declared.parts.Pair.{Pair}
 use Rattle.mintc_timing.specs.Design.{Design}
 use Rattle.mintc_timing.specs.Limits.{IsDesign}
@@ -8,40 +8,35 @@ use Rattle.mintc_timing.specs.Paths.{Leads, IsPath, HasExtremes, input_of, outpu
 use Rattle.mintc_timing.proofs.SharedOrdered.{all_among}
 use Rattle.mintc_count.specs.Count.{AreEndsOf, IsCountBefore, IsPairMark}
 use Rattle.mintc_count.specs.declared.marks.Marks.{Marks}
-use Rattle.mintc_paths.specs.Found.{ArePairsBefore}
 use Rattle.mintc_count.specs.Marks.{AreMarksAlong, mark_in, marks_at}
 use Rattle.mintc_paths.specs.Sums.{row_of, LeadsBack}
 use Rattle.mintc_paths.specs.Turned.{turned_design}
 use Rattle.mintc_paths.proofs.SharedExisting.{pairs_exist_lem}
-use Rattle.mintc_paths.proofs.SharedFinding.{ArePairsBefore-next, ArePairsBefore-none, ArePairsBefore-push, ArePairsBefore-skip}
+use Rattle.mintc_paths.proofs.SharedFinding.{ArePairsBefore-next, ArePairsBefore-push, ArePairsBefore-skip}
 use Rattle.mintc_paths.proofs.SharedTurnedPairs.{ArePairsBefore-back}
 use Rattle.mintc_count.proofs.Leading.{mark_is}
 
-pub IsCountBefore-none : (design : Design) → IsCountBefore design 0 0 0
-IsCountBefore-none design = record { pairs = []; are_pairs = ArePairsBefore-none design; is_count = refl; few = omega arith }
-
 module _ (design : Design) (from to count : ℕ) (h : IsCountBefore design from to count) where
   skipped : ((path : List ℕ) → IsPath design.arcs from path (input_of to) → ⊥) → IsCountBefore design from (to + 1) count
-  skipped none = record { pairs = h.pairs; are_pairs = ArePairsBefore-skip design from to h.pairs h.are_pairs none; is_count = h.is_count; few = let few = h.few in omega arith }
+  skipped none = record { pairs = h.pairs; are_pairs = ArePairsBefore-skip design from to h.pairs h.are_pairs none; is_count = h.is_count; few = omega arith }
 
   pushed : (pair : Pair) → HasExtremes design pair → pair.from ≡ from → pair.to ≡ to → IsCountBefore design from (to + 1) (count + 1)
   pushed pair extremes is_from is_to = record {
     pairs = h.pairs ++ pair ∷ [];
     are_pairs = ArePairsBefore-push design from to h.pairs h.are_pairs pair extremes is_from is_to;
-    is_count = let same = h.is_count in omega (arith, length-append h.pairs (pair ∷ []));
-    few = let few = h.few in omega arith;
+    is_count = omega (arith, length-append h.pairs (pair ∷ []));
+    few = omega arith;
   }
 
   -- the mark at an input is what comes to the count
   pub IsCountBefore-more : (marks : Marks) (lane : ℕ) → IsPairMark design from to (mark_in marks lane) → IsCountBefore design from (to + 1) (count + mark_in marks lane)
   IsCountBefore-more marks lane mark = ⊎_elim
       (λ (zero : mark_in marks lane ≡ 0).
-      let same : count ≡ count + mark_in marks lane = omega arith in
-      subst (λ k. IsCountBefore design from (to + 1) k) same (skipped (λ path is. let one = mark.whole path is in absurd (omega arith))))
+      let same : count + mark_in marks lane ≡ count = omega arith in
+      rw same (skipped (λ path is. absurd (omega (arith, mark.whole path is)))))
       (λ (one : mark_in marks lane ≡ 1).
       let pair = mark.sound one in
-      let same : count + 1 ≡ count + mark_in marks lane = omega arith in
-      subst (λ k. IsCountBefore design from (to + 1) k) same (pushed pair.0 pair.1 pair.2 pair.3))
+      rw one (pushed pair.0 pair.1 pair.2 pair.3))
       (mark_is marks lane)
 
 module _ (design : Design) (order : List ℕ) (is_order : IsOrder design.arcs order) where
@@ -71,17 +66,12 @@ module _ (design : Design) (order : List ℕ) (is_order : IsOrder design.arcs or
         whole = λ path is. same ∙ mark.whole (path, all_among design.arcs order is_order (output_of from) path (input_of to) is.1, is.1);
       }
 
-pub IsCountBefore-next : (design : Design) (from to count : ℕ) → to ≡ length design.elements → length design.elements ≤ 2000 → IsCountBefore design from to count → IsCountBefore design (from + 1) 0 count
-IsCountBefore-next design from to count end limit h = let few = h.few in record {
-  pairs = h.pairs;
-  are_pairs = ArePairsBefore-next design from h.pairs (subst (λ k. ArePairsBefore design from k h.pairs) end h.are_pairs);
-  is_count = h.is_count;
-  few = omega arith;
-}
+pub IsCountBefore-next : (design : Design) (from count : ℕ) → length design.elements ≤ 2000 → IsCountBefore design from (length design.elements) count → IsCountBefore design (from + 1) 0 count
+IsCountBefore-next design from count limit h = record { pairs = h.pairs; are_pairs = ArePairsBefore-next design from h.pairs h.are_pairs; is_count = h.is_count; few = omega arith }
 
 -- the pairs of the design turned round are as many as the design's
-pub IsCountBefore-back : (design : Design) → IsDesign design → (places elements : List ℕ) → LeadsBack (length design.elements) places elements → LeadsBack (length design.elements) elements places →
+pub IsCountBefore_back : (design : Design) → IsDesign design → (places elements : List ℕ) → LeadsBack (length design.elements) places elements → LeadsBack (length design.elements) elements places →
     (count : ℕ) → IsCountBefore (turned_design places design) (length design.elements) 0 count → IsCountBefore design (length design.elements) 0 count
-IsCountBefore-back design kept places elements there back count h =
+IsCountBefore_back design kept places elements there back count h =
     let turned = ArePairsBefore-back design kept places elements there back h.pairs h.are_pairs in
     record { pairs = turned.0; are_pairs = turned.1; is_count = turned.2 ∙ h.is_count; few = h.few }

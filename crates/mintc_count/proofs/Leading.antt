@@ -13,16 +13,13 @@ use Rattle.mintc_paths.specs.Sums.{LeadsBack, moved, row_of}
 
 -- a mark is 0 or 1
 pub mark_is : (marks : Marks) (lane : ℕ) → (mark_in marks lane ≡ 0) ⊎ (mark_in marks lane ≡ 1)
-mark_is marks lane = zero_or_one (mark_in marks lane) (bit_at-lt (get_or marks.words (lane / 64) 0) (lane % 64))
-  where
-    zero_or_one : (x : ℕ) → x < 2 → (x ≡ 0) ⊎ (x ≡ 1)
-    zero_or_one x h = grind arith
+mark_is marks lane = grind (arith, bit_at-lt (get_or marks.words (lane / 64) 0) (lane % 64))
 
 -- what holds exactly where one of two other things holds
 pub IsMarkOf-joined : (P Q R : Type 0) (x y z : ℕ) → (R → P ⊎ Q) → (P → R) → (Q → R) → (x < 2) → (y < 2) → z ≡ max x y → IsMarkOf P x → IsMarkOf Q y → IsMarkOf R z
 IsMarkOf-joined P Q R x y z apart left right small_x small_y is p q = record {
   sound = λ e. ⊎_elim (λ one. left (p.sound one)) (λ one. right (q.sound one)) (one_of x y small_x small_y (sym is ∙ e));
-  whole = λ r. ⊎_elim (λ h. let one = p.whole h in omega arith) (λ h. let one = q.whole h in omega arith) (apart r);
+  whole = λ r. ⊎_elim (λ h. omega (arith, p.whole h)) (λ h. omega (arith, q.whole h)) (apart r);
 }
   where
     one_of : (x y : ℕ) → x < 2 → y < 2 → max x y ≡ 1 → (x ≡ 1) ⊎ (y ≡ 1)

@@ -1,5 +1,5 @@
 -- Pairs that are counted from one listed element to the next.
-use Rattle.std.proofs.Common.{◌≡◌, ◌≢◌, ◌<◌, ◌≤◌, ◌+◌, ℕ, List, length, arith, refl, subst}
+use Rattle.std.proofs.Common.{◌≡◌, ◌≢◌, ◌<◌, ◌≤◌, ◌+◌, ℕ, List, length, arith, subst}
 use Rattle.mintc_timing.specs.Design.{Design}
 use Rattle.mintc_count.specs.declared.marks.Marks.{Marks}
 use Rattle.mintc_count.specs.declared.marks.TheConstants.{NO_MARKS}
@@ -19,13 +19,12 @@ module _ (design : Design) (from lane : ℕ) (low : lane < 256) (ends : List Mar
   -- an element that isn't listed isn't marked
   skip : (count to : ℕ) → to < length design.elements → ((i : ℕ) → i < length listed → end_at listed i ≢ to) → IsCountBefore design from to count → IsCountBefore design from (to + 1) count
   skip count to below apart h =
-      let is : mark_in (marks_at ends to) lane ≡ 0 = none_in (marks_at ends to) lane low (are_listed.others to below apart) in
-      let same : count + mark_in (marks_at ends to) lane ≡ count = omega arith in
+      let same : count + mark_in (marks_at ends to) lane ≡ count = omega (arith, none_in (marks_at ends to) lane low (are_listed.others to below apart)) in
       subst (λ k. IsCountBefore design from (to + 1) k) same (IsCountBefore-more design from to count h (marks_at ends to) lane (are_ends to below))
 
-  pub IsCountToEnd-more : (number count : ℕ) → number < length listed → IsCountToEnd design from listed number count →
+  pub IsCountToEnd_more : (number count : ℕ) → number < length listed → IsCountToEnd design from listed number count →
       IsCountToEnd design from listed (number + 1) (count + mark_in (marks_at ends (end_at listed number)) lane)
-  IsCountToEnd-more number count inside h =
+  IsCountToEnd_more number count inside h =
       let to : ℕ = end_at listed number in
       let here = IsToEnd-at (length design.elements) listed are_listed.ascending are_listed.inside (λ k. IsCountBefore design from k count) (skip count) number inside h in
       IsToEnd-more (length design.elements) listed are_listed.ascending are_listed.inside (λ k. IsCountBefore design from k (count + mark_in (marks_at ends to) lane)) number inside
@@ -33,5 +32,5 @@ module _ (design : Design) (from lane : ℕ) (low : lane < 256) (ends : List Mar
 
   pub IsCountToEnd-next : (count : ℕ) → length design.elements ≤ 2000 → IsCountToEnd design from listed (length listed) count → IsCountBefore design (from + 1) 0 count
   IsCountToEnd-next count limit h =
-      IsCountBefore-next design from (length design.elements) count refl limit
+      IsCountBefore-next design from count limit
       (IsToEnd-all (length design.elements) listed are_listed.ascending are_listed.inside (λ k. IsCountBefore design from k count) (skip count) h)

@@ -1,9 +1,7 @@
 -- Rows that are reached and their marks. Arcs that leave no row that is reached change no marks.
-use Rattle.std.proofs.Common.{◌≡◌, ◌≢◌, ◌<◌, ◌≤◌, ◌+◌, ◌*◌, ◌/◌, ◌%◌, ℕ, min, Bool, true, false, List, length, get_or, set, length-set, get_or-set_same, get_or-set_other, ⊎_elim, arith, refl, sym, ◌∙◌, ap, subst, replicate}
+use Rattle.std.proofs.Common.{◌≡◌, ◌≢◌, ◌<◌, ◌≤◌, ◌+◌, ◌*◌, ◌%◌, ℕ, min, Bool, true, false, List, length, get_or, set, length-set, get_or-set_same, get_or-set_other, ⊎_elim, arith, refl, sym, ◌∙◌, ap, subst}
 use Rattle.std.proofs.lemmas.Bool.{cases_eq}
-use Rattle.std.proofs.lemmas.List.{get_or-replicate, length-replicate}
 use Rattle.std.proofs.lemmas.Nat.Bits.{bit_at-zero}
-use Rattle.std.specs.Int.{bit_at}
 use Rattle.mintc_places.specs.Places.{IsIn}
 use Rattle.mintc_timing.specs.declared.parts.TimingArc.{TimingArc}
 use Rattle.mintc_timing.specs.Design.{Design}
@@ -15,38 +13,23 @@ use Rattle.mintc_paths.specs.declared.awake.Awake.{Awake}
 use Rattle.mintc_count.specs.declared.marks.Marks.{Marks}
 use Rattle.mintc_count.specs.declared.marks.TheConstants.{NO_MARKS}
 use Rattle.mintc_paths.specs.declared.rows.Course.{Course}
-use Rattle.mintc_count.specs.Marks.{marks_at, no_marks, mark_in, IsMarkOf, AreMarksAlong, AreMarksBegun, AreMarksReached}
+use Rattle.mintc_count.specs.Marks.{marks_at, mark_in, IsMarkOf, AreMarksAlong, AreMarksBegun, AreMarksReached}
 use Rattle.mintc_paths.specs.Sums.{row_of, LeadsBack, IsCourse}
 use Rattle.mintc_count.proofs.Leading.{AreCarriedMarks, AreMarksAlong-more, IsMarkOf-same, rows_apart}
 use Rattle.mintc_paths.proofs.SharedClimbing.{climb}
 use Rattle.mintc_paths.proofs.SharedPassing.{from_in, to_in, row_in, not_on}
-use Rattle.mintc_count.proofs.Setting.{by_word}
 
 -- a row that gets marks and is reached
 pub noted_more : (old new : List Marks) (reached : List Bool) (row : ℕ) → length new ≡ length old → ((other : ℕ) → other ≢ row → marks_at new other ≡ marks_at old other) →
     AreMarksReached old reached → AreMarksReached new (set reached row true)
 noted_more old new reached row same others m = record {
   count = length-set {A = Bool} reached row true ∙ m.count ∙ sym same;
-  none = λ r below off.
-      ⊎_elim
-      (λ e. let on : get_or (set reached row true) r false ≡ true = rw e (get_or-set_same reached row true false (omega (arith, m.count, e))) in absurd (cc on))
-      (λ e. others r e ∙ m.none r (omega arith) (sym (get_or-set_other reached row r true false e) ∙ off))
-      (cases_eq r row);
+  none = λ r below off. grind (arith, get_or-set_same reached row true false, get_or-set_other reached row r true false, m.count, m.none r, others r);
 }
-
--- at first there are no marks, and no row is reached
-pub AreMarksReached-none : (count : ℕ) (marks : List Marks) (reached : List Bool) → marks ≡ replicate count NO_MARKS → reached ≡ replicate count false → AreMarksReached marks reached
-AreMarksReached-none count marks reached s r =
-    let long : length marks ≡ count = ap (λ (xs : List Marks). length xs) s ∙ length-replicate {A = Marks} count NO_MARKS in
-    record {
-      count = ap (λ (xs : List Bool). length xs) r ∙ length-replicate {A = Bool} count false ∙ sym long;
-      none = λ row below _. rw s (get_or-replicate {A = Marks} count row NO_MARKS no_marks (omega (arith, long, below)));
-    }
 
 -- no lane of no marks is set
 pub none_in : (marks : Marks) (lane : ℕ) → lane < 256 → marks ≡ NO_MARKS → mark_in marks lane ≡ 0
-none_in marks lane low e = ap (λ (m : Marks). mark_in m lane) e
-    ∙ by_word (λ word. bit_at (get_or NO_MARKS.words word 0) (lane % 64) ≡ 0) (bit_at-zero (lane % 64)) (bit_at-zero (lane % 64)) (bit_at-zero (lane % 64)) (bit_at-zero (lane % 64)) (lane / 64) (omega arith)
+none_in marks lane low e = grind (arith, e, bit_at-zero (lane % 64))
 
 -- what a call of set leaves
 pub record IsBegunMark (old new : List Marks) (row lane : ℕ) : Type 0 where
@@ -66,16 +49,13 @@ module _ (n : ℕ) (rows bits : List ℕ) (h : LeadsBack n rows bits) (first lan
   elsewhere bit other below ne = ap (λ (m : Marks). mark_in m other) (begun.others (row_of rows bit) (rows_apart n rows bits h bit out below inside ne))
 
   same_lane : (bit other : ℕ) → bit < n → other ≢ lane → mark_at new bit other ≡ mark_at old bit other
-  same_lane bit other below ne = ⊎_elim
-      (λ (e : bit ≡ out). subst (λ b. mark_at new b other ≡ mark_at old b other) (sym e) (begun.lanes other ne))
-      (λ apart. elsewhere bit other below apart)
-      (cases_eq bit out)
+  same_lane bit other below ne = grind (arith, begun.lanes other, elsewhere bit other)
 
   own_lane : (bit : ℕ) → bit < n → IsMarkOf (bit ≡ out) (mark_at new bit lane)
   own_lane bit below = ⊎_elim
       (λ (e : bit ≡ out). record { sound = λ _. e; whole = λ _. subst (λ b. mark_at new b lane ≡ 1) (sym e) begun.own })
       (λ (ne : bit ≢ out). record {
-        sound = λ one. let none = elsewhere bit lane below ne ∙ before.absent bit lane below (omega arith) few in absurd (omega arith);
+        sound = λ one. absurd (omega (arith, elsewhere bit lane below ne, before.absent bit lane below (omega arith) few));
         whole = λ e. absurd (ne e);
       })
       (cases_eq bit out)
@@ -96,7 +76,7 @@ module _ (n : ℕ) (rows bits : List ℕ) (h : LeadsBack n rows bits) (first lan
 carried_none : (arc : TimingArc) (marks : List Marks) → marks_at marks arc.from ≡ NO_MARKS → AreCarriedMarks arc marks marks
 carried_none arc marks none = record {
   others = λ row ne. refl;
-  joined = λ lane low. let off = none_in (marks_at marks arc.from) lane low none in omega arith;
+  joined = λ lane low. omega (arith, none_in (marks_at marks arc.from) lane low none);
 }
 
 module _ (design : Design) (order : List ℕ) (is_order : IsOrder design.arcs order) (kept : IsDesign design) (course : Course) (n : ℕ) (is_course : IsCourse n design.arcs order course)
@@ -113,10 +93,6 @@ module _ (design : Design) (order : List ℕ) (is_order : IsOrder design.arcs or
       old new (subst (λ (arc : TimingArc). AreCarriedMarks arc old new) (is_course.along.each k low) carried) before
 
   module _ (marks : List Marks) (count : length marks ≡ n) (reached : List Bool) (marked : AreMarksReached marks reached) where
-    -- the row that the arc at a place leaves
-    abbrev left : ℕ → ℕ
-    left k = (arc_at course.along.items k).from
-
     -- Where none is awake from one place on and before the next, no arc there leaves a row that is reached.
     pub unmarked_next : (awake : Awake) (k next : ℕ) → k ≤ next → k ≤ length order → IsAwake course.along.items k reached awake →
         ((other : ℕ) → k ≤ other → other < next → IsIn awake.places.words.items other → ⊥) → Along k marks → Along (min next (length order)) marks
@@ -124,7 +100,7 @@ module _ (design : Design) (order : List ℕ) (is_order : IsOrder design.arcs or
       where
         step : (i : ℕ) → k ≤ i → i < min next (length order) → Along i marks → Along (i + 1) marks
         step i from below =
-            let all = is_course.along.count in
+            let left : ℕ = (arc_at course.along.items i).from in
             let inside = row_in design order is_order kept course n is_course bits i (omega arith) in
-            let off = not_on (get_or reached (left i) false) (λ on. none i from (omega arith) (is_awake.each i from (omega arith) on)) in
-            marked_along i (omega arith) marks marks (carried_none (arc_at course.along.items i) marks (marked.none (left i) (omega arith) off))
+            let off = not_on (get_or reached left false) (λ on. none i from (omega arith) (is_awake.each i from (omega arith) on)) in
+            marked_along i (omega arith) marks marks (carried_none (arc_at course.along.items i) marks (marked.none left (omega arith) off))

@@ -1,6 +1,5 @@
 -- Marks that are set, and that are joined.
-use Rattle.std.proofs.Common.{◌≡◌, ◌≢◌, ◌<◌, ◌*◌, ◌^◌, ◌/◌, ◌%◌, ℕ, List, length, get_or, set, arith, ap, ◌∙◌, sym, subst, ⊎_elim, get_or-set_same, get_or-set_other, bit_or, w64}
-use Rattle.std.proofs.lemmas.Bool.{cases_eq}
+use Rattle.std.proofs.Common.{◌≡◌, ◌≢◌, ◌<◌, ◌*◌, ◌^◌, ◌/◌, ◌%◌, ℕ, List, length, get_or, set, arith, ap, ◌∙◌, get_or-set_same, get_or-set_other, bit_or, w64}
 use Rattle.std.proofs.lemmas.Nat.Bits.{bit_at_set_same, bit_at_set_other}
 use Rattle.std.specs.Int.{bit_at}
 
@@ -18,20 +17,5 @@ pub set_other : (words : List ℕ) (lane other : ℕ) → lane / 64 < length wor
     bit_at (get_or (with_bit words (lane / 64) (lane % 64)) (other / 64) 0) (other % 64) ≡ bit_at (get_or words (other / 64) 0) (other % 64)
 set_other words lane other inside ne =
     let low : lane % 64 < 64 = omega arith in
-    ⊎_elim
-    (λ (e : other / 64 ≡ lane / 64).
-    let apart : other % 64 ≢ lane % 64 = omega arith in
-    ap (λ k. bit_at (get_or (with_bit words (lane / 64) (lane % 64)) k 0) (other % 64)) e
-    ∙ ap (λ n. bit_at n (other % 64)) (get_or-set_same words (lane / 64) (bit_or (get_or words (lane / 64) 0) (1 * 2 ^ (lane % 64) % 18446744073709551616)) 0 inside)
-    ∙ bit_at_set_other w64 (get_or words (lane / 64) 0) (lane % 64) low (other % 64) apart
-    ∙ ap (λ k. bit_at (get_or words k 0) (other % 64)) (sym e))
-    (λ (far : other / 64 ≢ lane / 64).
-    ap (λ n. bit_at n (other % 64)) (get_or-set_other words (lane / 64) (other / 64) (bit_or (get_or words (lane / 64) 0) (1 * 2 ^ (lane % 64) % 18446744073709551616)) 0 far))
-    (cases_eq (other / 64) (lane / 64))
-
--- one of four words
-pub by_word : (P : ℕ → Type 0) → P 0 → P 1 → P 2 → P 3 → (word : ℕ) → word < 4 → P word
-by_word P a b c d word below = ⊎_elim
-    (λ e. subst P (sym e) a)
-    (λ zero. ⊎_elim (λ e. subst P (sym e) b) (λ one. ⊎_elim (λ e. subst P (sym e) c) (λ two. let is : 3 ≡ word = omega arith in subst P is d) (cases_eq word 2)) (cases_eq word 1))
-    (cases_eq word 0)
+    let new : ℕ = bit_or (get_or words (lane / 64) 0) (1 * 2 ^ (lane % 64) % 18446744073709551616) in
+    grind (arith, get_or-set_same words (lane / 64) new 0 inside, get_or-set_other words (lane / 64) (other / 64) new 0, bit_at_set_other w64 (get_or words (lane / 64) 0) (lane % 64) low (other % 64))

@@ -31,6 +31,7 @@ fn count_turned(
 }
 
 /// The number of all pairs, from the inputs back.
+#[tactic(auto, using(crate::proofs::Counting::IsCountBefore_back))]
 pub fn count_back(
     alloc: Global,
     flat: &Flat,

@@ -21,6 +21,7 @@ use std::alloc::{AllocError, Global};
 
 /// The number of pairs before and from an element, whose marks at the inputs are in this lane. No path leads to an input that
 /// isn't listed.
+#[tactic(auto, using(crate::proofs::Listing::IsCountToEnd_more))]
 fn count_from(count: u64, ends: &[Marks], listed: &[u32], element: u32, lane: usize) -> u64
     ghost design: { Design }
     requires inputs { length ends.now ≡ length design.elements }

@@ -86,6 +86,7 @@ fn begin(
 }
 
 /// The marks that are set in one of two rows.
+#[tactic(auto, using(std::proofs::lemmas::Nat::Bits::bit_at_or))]
 fn joined(a: &Marks, b: &Marks) -> Marks
     ensures { (lane : ℕ) → lane < 256 → mark_in result lane ≡ max (mark_in a.now lane) (mark_in b.now lane) }
 {

@@ -1,6 +1,5 @@
 -- The next arcs of a search's path, from the bit to which it leads back, are a loop.
-use Rattle.std.proofs.Common.{◌≡◌, ℕ, suc, ◌+◌, ◌<◌, List, [], ◌∷◌, length, get_or, refl, sym, ap, ◌∙◌, ⊎_elim, arith}
-use Rattle.std.proofs.lemmas.Bool.{cases_lt}
+use Rattle.std.proofs.Common.{◌≡◌, ℕ, suc, ◌+◌, ◌<◌, List, [], ◌∷◌, length, get_or, refl, sym, ap, ◌∙◌, arith}
 use Rattle.std.proofs.lemmas.List.{get_or_default}
 use Rattle.mintc_timing.specs.declared.parts.TimingArc.{TimingArc}
 use Rattle.mintc_timing.specs.Paths.{arc_at, Leads}
@@ -29,23 +28,14 @@ module _ {bits : ℕ} {starts numbers ends marks path nexts given : List ℕ} (p
 
   -- the next arc of each is one of the bit's
   pub below_stop : (i : ℕ) → i < length path → get_or nexts i 0 < get_or starts (get_or path i 0 + 1) 0
-  below_stop i h =
-      ⊎_elim
-      (λ l. (s.is_path.joined i l).0)
-      (λ l. (closes i (omega arith)).0)
-      (cases_lt (i + 1) (length path))
+  below_stop i h = grind (arith, s.is_path.joined, closes)
 
   pub inside : (i : ℕ) → i < length path → get_or nexts i 0 < length numbers
-  inside i h =
-      let o = s.is_path.each_bit i h in
-      let w = o.within in
-      let b = below_stop i h in
-      let t = p.inside (get_or path i 0 + 1) (omega arith) in
-      omega arith
+  inside i h = omega (arith, s.is_path.each_bit i h, below_stop i h, p.inside (get_or path i 0 + 1))
 
   module _ {arcs : List TimingArc} (leaving : AreLeaving arcs bits starts numbers ends) (all : AreAll arcs numbers) (loop : List ℕ) (closing : IsClosing numbers nexts d (length nexts) loop) where
     len : d + length loop ≡ length path
-    len = let c = closing.count in let l = s.is_path.each_next in omega arith
+    len = omega arith
 
     abbrev arc : ℕ → ℕ
     arc i = get_or numbers (get_or nexts (d + i) 0) 0
@@ -55,20 +45,18 @@ module _ {bits : ℕ} {starts numbers ends marks path nexts given : List ℕ} (p
 
     from : (i : ℕ) → i < length loop → (arc_at arcs (get_or loop i 0)).from ≡ get_or path (d + i) 0
     from i h =
-        let l = len in
-        let o = s.is_path.each_bit (d + i) (omega arith) in
-        ap (λ (n : ℕ). (arc_at arcs n).from) (at i h) ∙ leaving.leaves (get_or path (d + i) 0) (get_or nexts (d + i) 0) o.within (o.first, below_stop (d + i) (omega arith))
+        let o = s.is_path.each_bit (d + i) (omega (arith, len)) in
+        ap (λ (n : ℕ). (arc_at arcs n).from) (at i h) ∙ leaving.leaves (get_or path (d + i) 0) (get_or nexts (d + i) 0) o.within (o.first, below_stop (d + i) (omega (arith, len)))
 
     to : (i : ℕ) → i < length loop → (arc_at arcs (get_or loop i 0)).to ≡ get_or ends (get_or nexts (d + i) 0) 0
     to i h =
-        let l = len in
-        ap (λ (n : ℕ). (arc_at arcs n).to) (at i h) ∙ sym (leaving.enters (get_or nexts (d + i) 0) (inside (d + i) (omega arith)))
+        ap (λ (n : ℕ). (arc_at arcs n).to) (at i h) ∙ sym (leaving.enters (get_or nexts (d + i) 0) (inside (d + i) (omega (arith, len))))
 
     number : (i : ℕ) → i < length loop → get_or loop i 0 < length arcs
-    number i h = let l = len in rw (at i h) (all.number (get_or nexts (d + i) 0) (inside (d + i) (omega arith)))
+    number i h = rw (at i h) (all.number (get_or nexts (d + i) 0) (inside (d + i) (omega (arith, len))))
 
     some : 0 < length loop
-    some = let l = len in let q = at_place in omega arith
+    some = omega (arith, len, at_place)
 
     first : (arc_at arcs (get_or loop 0 0)).from ≡ bit
     first =
@@ -76,30 +64,16 @@ module _ {bits : ℕ} {starts numbers ends marks path nexts given : List ℕ} (p
         from 0 some ∙ ap (λ (i : ℕ). get_or path i 0) z ∙ (s.is_path.placed bit d mark).1
 
     joined : (i : ℕ) → suc i < length loop → (arc_at arcs (get_or loop i 0)).to ≡ (arc_at arcs (get_or loop (suc i) 0)).from
-    joined i h =
-        let l = len in
-        let z : d + i + 1 ≡ d + suc i = omega arith in
-        to i (omega arith) ∙ (s.is_path.joined (d + i) (omega arith)).1 ∙ ap (λ (k : ℕ). get_or path k 0) z ∙ sym (from (suc i) h)
+    joined i h = grind (arith, len, to, s.is_path.joined, from)
 
     ends_at : (i : ℕ) → length loop ≡ suc i → (arc_at arcs (get_or loop i 0)).to ≡ bit
-    ends_at i q = let l = len in to i (omega arith) ∙ (closes (d + i) (omega arith)).1
+    ends_at i q = to i (omega arith) ∙ (closes (d + i) (omega (arith, len))).1
 
     pub IsArcLoop-closing : IsArcLoop arcs loop
     IsArcLoop-closing = record {
-      some = λ e. let z : length loop ≡ 0 = ap (λ (xs : List ℕ). length xs) e in let q = some in omega arith;
+      some = λ e. omega (arith, some, ap (λ (xs : List ℕ). length xs) e);
       closed = (bit, leads arcs loop bit bit some number first joined ends_at);
     }
 
     pub LeavesOnce-closing : LeavesOnce arcs loop
-    LeavesOnce-closing i j k l h = λ q.
-        let n = len in
-        let a = s.is_path.each_bit (d + i) (omega arith) in
-        let b = s.is_path.each_bit (d + j) (omega arith) in
-        let a' = a.mark in
-        let b' = b.mark in
-        let i' = get_or_default loop i k 0 (omega arith) in
-        let j' = get_or_default loop j k 0 h in
-        let e : get_or path (d + i) 0 ≡ get_or path (d + j) 0 =
-        sym (from i (omega arith)) ∙ sym (ap (λ (n' : ℕ). (arc_at arcs n').from) i') ∙ q ∙ ap (λ (n' : ℕ). (arc_at arcs n').from) j' ∙ from j h in
-        let same = ap (λ (v : ℕ). get_or marks v 0) e in
-        omega arith
+    LeavesOnce-closing i j k l h = let n = len in grind (arith, from i, from j, s.is_path.each_bit (d + i), s.is_path.each_bit (d + j), get_or_default loop i k 0, get_or_default loop j k 0)

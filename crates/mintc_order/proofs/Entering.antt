@@ -1,7 +1,7 @@
 -- A bit that goes to the path of a search.
 use Rattle.std.proofs.Common.{◌≡◌, ◌≢◌, ℕ, ◌+◌, ◌<◌, List, [], ◌∷◌, ◌++◌, length, get_or, set, sym, ap, ◌∙◌, ⊎_elim, arith, get_or-set_same, get_or-set_other}
 use Rattle.std.specs.List.{Contains}
-use Rattle.std.proofs.lemmas.Bool.{cases_eq, cases_lt}
+use Rattle.std.proofs.lemmas.Bool.{cases_lt}
 use Rattle.std.proofs.lemmas.List.{get_or_append_left, get_or_push, length_push, length-set}
 use Rattle.mintc_order.specs.Ranges.{AreParts}
 use Rattle.mintc_order.specs.Searches.{EndsAt, IsOpen, IsSearch}
@@ -19,14 +19,14 @@ module _ {bits : ℕ} {starts numbers ends marks path nexts given : List ℕ} (p
   nexts' = nexts ++ get_or starts bit 0 ∷ []
 
   mark_same : get_or marks' bit 0 ≡ length path + 2
-  mark_same = get_or-set_same marks bit (length path + 2) 0 (let l = s.each_mark in omega arith)
+  mark_same = get_or-set_same marks bit (length path + 2) 0 (omega arith)
 
   mark_other : (v : ℕ) → v ≢ bit → get_or marks' v 0 ≡ get_or marks v 0
   mark_other v ne = get_or-set_other marks bit v (length path + 2) 0 ne
 
   -- a bit that is met is another one
   other : (v m : ℕ) → get_or marks v 0 ≡ m + 1 → v ≢ bit
-  other v m h = λ q. let same = ap (λ (v' : ℕ). get_or marks v' 0) q in omega arith
+  other v m h = λ q. omega (arith, ap (λ (v' : ℕ). get_or marks v' 0) q)
 
   still : (v m : ℕ) → get_or marks v 0 ≡ m + 1 → get_or marks' v 0 ≡ m + 1
   still v m h = mark_other v (other v m h) ∙ h
@@ -38,15 +38,15 @@ module _ {bits : ℕ} {starts numbers ends marks path nexts given : List ℕ} (p
   at_last i q = get_or_push path bit 0 i (sym q)
 
   old_next : (i : ℕ) → i < length path → get_or nexts' i 0 ≡ get_or nexts i 0
-  old_next i h = get_or_append_left nexts (get_or starts bit 0 ∷ []) 0 i (let l = s.is_path.each_next in omega arith)
+  old_next i h = get_or_append_left nexts (get_or starts bit 0 ∷ []) 0 i (omega arith)
 
   next_last : (i : ℕ) → i ≡ length path → get_or nexts' i 0 ≡ get_or starts bit 0
-  next_last i q = get_or_push nexts (get_or starts bit 0) 0 i (let l = s.is_path.each_next in omega arith)
+  next_last i q = get_or_push nexts (get_or starts bit 0) 0 i (omega arith)
 
   IsOpen-still : (i v n : ℕ) → IsOpen bits starts ends marks i v n → IsOpen bits starts ends marks' i v n
   IsOpen-still i v n o = record {
     within = o.within;
-    mark = let m = o.mark in let t = still v (i + 1) (omega arith) in omega arith;
+    mark = omega (arith, still v (i + 1));
     first = o.first;
     last = o.last;
     passed = λ k l h. still (get_or ends k 0) 0 (o.passed k l h);
@@ -55,7 +55,7 @@ module _ {bits : ℕ} {starts numbers ends marks path nexts given : List ℕ} (p
   IsOpen-last : (i : ℕ) → i ≡ length path → IsOpen bits starts ends marks' i bit (get_or starts bit 0)
   IsOpen-last i q = record {
     within = in_bits;
-    mark = let m = mark_same in omega arith;
+    mark = omega (arith, mark_same);
     first = omega arith;
     last = p.rising bit in_bits;
     passed = λ k l h. absurd (omega arith);
@@ -72,53 +72,25 @@ module _ {bits : ℕ} {starts numbers ends marks path nexts given : List ℕ} (p
   Joins n v w = (n < get_or starts (v + 1) 0) × (get_or ends n 0 ≡ w)
 
   joined : (i : ℕ) → i + 1 < length path' → Joins (get_or nexts' i 0) (get_or path' i 0) (get_or path' (i + 1) 0)
-  joined i h =
-      let len = length_push path bit in
-      rw (old i (omega arith), old_next i (omega arith))
-      (⊎_elim
-      (λ l. rw (old (i + 1) l) (s.is_path.joined i l))
-      (λ l. let q : i + 1 ≡ length path = omega arith in rw (at_last (i + 1) q) (leads i (sym q)))
-      (cases_lt (i + 1) (length path)))
+  joined i h = grind (arith, length_push, old, old_next, at_last, leads, s.is_path.joined)
 
   placed : (v i : ℕ) → get_or marks' v 0 ≡ i + 2 → (i < length path') × (get_or path' i 0 ≡ v)
-  placed v i h =
-      let len = length_push path bit in
-      ⊎_elim
-      (λ q.
-      let z = ap (λ (v' : ℕ). get_or marks' v' 0) q in
-      let same = mark_same in
-      let at : i ≡ length path = omega arith in
-      (omega arith, at_last i at ∙ sym q))
-      (λ ne.
-      let found = s.is_path.placed v i (sym (mark_other v ne) ∙ h) in
-      let below = found.0 in
-      (omega arith, old i below ∙ found.1))
-      (cases_eq v bit)
+  placed v i h = grind (arith, length_push, mark_same, mark_other v, s.is_path.placed v i, old i, at_last i)
 
   whole : (v : ℕ) → get_or marks' v 0 ≡ 1 → Contains given v
-  whole v h =
-      ⊎_elim
-      (λ q. let z = ap (λ (v' : ℕ). get_or marks' v' 0) q in let same = mark_same in absurd (omega arith))
-      (λ ne. s.are_given.whole v (sym (mark_other v ne) ∙ h))
-      (cases_eq v bit)
+  whole v h = grind (arith, mark_same, mark_other v, s.are_given.whole v)
 
   pub IsSearch-entered : IsSearch bits starts ends marks' path' nexts' given
   IsSearch-entered = record {
     each_mark = length-set marks bit (length path + 2) ∙ s.each_mark;
     is_path = record {
-      each_next = let l = s.is_path.each_next in let a = length_push path bit in let b = length_push nexts (get_or starts bit 0) in omega arith;
+      each_next = omega (arith, length_push path bit, length_push nexts (get_or starts bit 0));
       each_bit = each_bit;
       joined = joined;
       placed = placed;
     };
     are_given = record { ordered = s.are_given.ordered; out = λ i h. still (get_or given i 0) 0 (s.are_given.out i h); whole = whole };
   }
-
-  pub met : get_or marks' bit 0 ≢ 0
-  met = λ q. let m = mark_same in omega arith
-
-  pub stays_met : (v : ℕ) → get_or marks v 0 ≢ 0 → get_or marks' v 0 ≢ 0
-  stays_met v h = ⊎_elim (λ q. rw q met) (λ ne. rw (mark_other v ne) h) (cases_eq v bit)
 
 -- the same, of what the code wrote
 pub IsSearch-entered_as : {bits : ℕ} {starts numbers ends marks path nexts given : List ℕ} (p : AreParts bits starts numbers ends) (s : IsSearch bits starts ends marks path nexts given) (bit : ℕ) →

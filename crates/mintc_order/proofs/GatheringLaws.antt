@@ -1,5 +1,5 @@
 -- An order of arcs, from an order of the bits that they leave.
-use Rattle.std.proofs.Common.{◌≡◌, ◌≢◌, ℕ, ◌+◌, ◌-◌, ◌<◌, ◌≤◌, List, [], length, get_or, sym, ap, ◌∙◌, ⊎_elim, arith}
+use Rattle.std.proofs.Common.{◌≡◌, ◌≢◌, ℕ, ◌+◌, ◌-◌, ◌<◌, ◌≤◌, List, length, get_or, sym, ap, ◌∙◌, ⊎_elim, arith}
 use Rattle.std.specs.List.{Contains}
 use Rattle.std.proofs.lemmas.Bool.{cases_lt}
 use Rattle.std.proofs.lemmas.List.{get_or_default}
@@ -24,15 +24,6 @@ pub record AreGathered (arcs : List TimingArc) (given : List ℕ) (rest : ℕ) (
   pub once : (i j : ℕ) → i < j → j < length gathered → get_or gathered i 0 ≢ get_or gathered j 0
   pub after : (i j : ℕ) → i < length gathered → j < length gathered →
       (arc_at arcs (get_or gathered i 0)).to ≡ (arc_at arcs (get_or gathered j 0)).from → i < j
-
-pub AreGathered-none : (arcs : List TimingArc) (given : List ℕ) → AreGathered arcs given (length given) []
-AreGathered-none arcs given = record {
-  number = λ i h. absurd (omega arith);
-  out = λ i h. absurd (omega arith);
-  whole = λ e j h l m q. absurd (omega arith);
-  once = λ i j l h. absurd (omega arith);
-  after = λ i j h l q. absurd (omega arith);
-}
 
 module _ {arcs : List TimingArc} {bits : ℕ} {starts numbers ends given : List ℕ} (p : AreParts bits starts numbers ends) (leaving : AreLeaving arcs bits starts numbers ends)
     (all : AreAll arcs numbers) (ordered : AreAfterEnds bits starts ends given) where
@@ -62,7 +53,7 @@ module _ {arcs : List TimingArc} {bits : ℕ} {starts numbers ends given : List 
     rises = p.rising bit in_bits
 
     grows : length before ≤ length after
-    grows = let c = a.count in let r = rises in omega arith
+    grows = omega (arith, rises)
 
     -- a new one, and its place
     new : (i : ℕ) → i < length after → length before ≤ i → get_or after i 0 ≡ get_or numbers (start + (i - length before)) 0
@@ -71,10 +62,10 @@ module _ {arcs : List TimingArc} {bits : ℕ} {starts numbers ends given : List 
         ap (λ (n : ℕ). get_or after n 0) (sym z) ∙ a.added (i - length before) (omega arith)
 
     is_place : (i : ℕ) → i < length after → length before ≤ i → IsPlace starts bit (start + (i - length before))
-    is_place i h l = let c = a.count in (omega arith, omega arith)
+    is_place i h l = (omega arith, omega arith)
 
     below : (i : ℕ) → i < length after → length before ≤ i → start + (i - length before) < length numbers
-    below i h l = let at = (is_place i h l).1 in let b = in_bits in let t = p.inside (bit + 1) (omega arith) in omega arith
+    below i h l = omega (arith, is_place i h l, p.inside (bit + 1) (omega (arith, in_bits)))
 
     from_new : (i : ℕ) → i < length after → length before ≤ i → (arc_at arcs (get_or after i 0)).from ≡ bit
     from_new i h l = ap (λ (n : ℕ). (arc_at arcs n).from) (new i h l) ∙ leaving.leaves bit (start + (i - length before)) in_bits (is_place i h l)
@@ -83,11 +74,7 @@ module _ {arcs : List TimingArc} {bits : ℕ} {starts numbers ends given : List 
     to_new i h l = ap (λ (n : ℕ). (arc_at arcs n).to) (new i h l) ∙ sym (leaving.enters (start + (i - length before)) (below i h l))
 
     number : (i : ℕ) → i < length after → get_or after i 0 < length arcs
-    number i h =
-        ⊎_elim
-        (λ l. rw (a.same i l) (g.number i l))
-        (λ l. rw (new i h l) (all.number (start + (i - length before)) (below i h l)))
-        (cases_lt i (length before))
+    number i h = grind (arith, a.same, g.number, new, all.number, below)
 
     out_old : (i : ℕ) → i < length before → IsOut arcs given (rest + 1) (get_or after i 0)
     out_old i h = rw (a.same i h) (g.out i h)
@@ -95,7 +82,7 @@ module _ {arcs : List TimingArc} {bits : ℕ} {starts numbers ends given : List 
     out : (i : ℕ) → i < length after → IsOut arcs given rest (get_or after i 0)
     out i h =
         ⊎_elim
-        (λ l. let o = out_old i l in let least = o.1 in (o.0, omega arith, o.2, o.3))
+        (λ l. let o = out_old i l in (o.0, omega arith, o.2, o.3))
         (λ l. (rest, omega arith, in_given, sym (from_new i h l)))
         (cases_lt i (length before))
 
@@ -109,9 +96,6 @@ module _ {arcs : List TimingArc} {bits : ℕ} {starts numbers ends given : List 
         let at = place e h in
         let k : ℕ = at.0 in
         let placed : IsPlace starts bit k = rw (at.2, from) at (leaving.placed k at.1).1 in
-        let first = placed.0 in
-        let last = placed.1 in
-        let c = a.count in
         let z : start + (k - start) ≡ k = omega arith in (
           length before + (k - start),
           omega arith,
@@ -119,40 +103,14 @@ module _ {arcs : List TimingArc} {bits : ℕ} {starts numbers ends given : List 
         ))
         (λ later.
         let found = g.whole e j h later m q in
-        let low = found.1 in
-        (found.0, omega arith, get_or_default after found.0 e 0 (omega arith) ∙ a.same found.0 low ∙ get_or_default before found.0 0 e low ∙ found.2))
+        (found.0, omega arith, get_or_default after found.0 e 0 (omega arith) ∙ a.same found.0 found.1 ∙ get_or_default before found.0 0 e found.1 ∙ found.2))
         (cases_lt j (rest + 1))
 
     once : (i j : ℕ) → i < j → j < length after → get_or after i 0 ≢ get_or after j 0
-    once i j l h = λ q.
-        ⊎_elim
-        (λ (m : j < length before). g.once i j l m (sym (a.same i (omega arith)) ∙ q ∙ a.same j m))
-        (λ (m : length before ≤ j).
-        ⊎_elim
-        (λ (n : i < length before).
-        let o = out_old i n in
-        let least = o.1 in
-        apart rest o.0 (omega arith) o.2 (sym (from_new j h m) ∙ sym (ap (λ (e : ℕ). (arc_at arcs e).from) q) ∙ sym o.3))
-        (λ (n : length before ≤ i).
-        all.once (start + (i - length before)) (start + (j - length before)) (omega arith) (below j h m) (sym (new i (omega arith) n) ∙ q ∙ new j h m))
-        (cases_lt i (length before)))
-        (cases_lt j (length before))
+    once i j l h = let len = grows in grind (arith, a.same i, a.same j, g.once i j, new i, new j, all.once (start + (i - length before)) (start + (j - length before)), below j, out_old i, from_new j, apart rest)
 
     after_all : (i j : ℕ) → i < length after → j < length after → (arc_at arcs (get_or after i 0)).to ≡ (arc_at arcs (get_or after j 0)).from → i < j
-    after_all i j h k q =
-        ⊎_elim
-        (λ (l : i < length before).
-        ⊎_elim
-        (λ (m : j < length before). g.after i j l m (sym (ap (λ (n : ℕ). (arc_at arcs n).to) (a.same i l)) ∙ q ∙ ap (λ (n : ℕ). (arc_at arcs n).from) (a.same j m)))
-        (λ (m : length before ≤ j). omega arith)
-        (cases_lt j (length before)))
-        (λ (l : length before ≤ i).
-        let earlier = ordered.after rest (start + (i - length before)) in_given (is_place i h l) in
-        let less = earlier.1 in
-        let o = out j k in
-        let least = o.1 in
-        absurd (apart earlier.0 o.0 (omega arith) o.2 (earlier.2 ∙ sym (to_new i h l) ∙ q ∙ sym o.3)))
-        (cases_lt i (length before))
+    after_all i j h k q = let len = grows in grind (arith, a.same i, a.same j, g.after i j, to_new i, ordered.after rest (start + (i - length before)), out j, apart, is_place i)
 
     pub AreGathered-more : AreGathered arcs given rest after
     AreGathered-more = record { number = number; out = out; whole = whole; once = once; after = after_all }

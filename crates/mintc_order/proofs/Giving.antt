@@ -22,18 +22,18 @@ module _ {bits : ℕ} {starts ends marks path nexts given : List ℕ} (s : IsSea
   top = rw (last, through) at (s.is_path.each_bit (length path') (omega arith))
 
   mark_same : get_or marks' bit 0 ≡ 1
-  mark_same = get_or-set_same marks bit 1 0 (let l = s.each_mark in let w = top.within in omega arith)
+  mark_same = get_or-set_same marks bit 1 0 (omega (arith, top))
 
   mark_other : (v : ℕ) → v ≢ bit → get_or marks' v 0 ≡ get_or marks v 0
   mark_other v ne = get_or-set_other marks bit v 1 0 ne
 
   still : (v : ℕ) → get_or marks v 0 ≡ 1 → get_or marks' v 0 ≡ 1
-  still v h = ⊎_elim (λ q. rw q mark_same) (λ ne. mark_other v ne ∙ h) (cases_eq v bit)
+  still v h = grind (arith, mark_same, mark_other)
 
   each_bit : (i : ℕ) → i < length path' → IsOpen bits starts ends marks' i (get_or path' i 0) (get_or nexts' i 0)
   each_bit i h =
       let o = s.is_path.each_bit i (omega arith) in
-      let ne : get_or path i 0 ≢ bit = λ q. let same = ap (λ (v : ℕ). get_or marks v 0) q in let a = o.mark in let b = top.mark in omega arith in
+      let ne : get_or path i 0 ≢ bit = λ q. omega (arith, top, ap (λ (v : ℕ). get_or marks v 0) q) in
       rw (old i h, old_next i h)
       (record {
         within = o.within;
@@ -47,46 +47,26 @@ module _ {bits : ℕ} {starts ends marks path nexts given : List ℕ} (s : IsSea
   Joins n v w = (n < get_or starts (v + 1) 0) × (get_or ends n 0 ≡ w)
 
   joined : (i : ℕ) → i + 1 < length path' → Joins (get_or nexts' i 0) (get_or path' i 0) (get_or path' (i + 1) 0)
-  joined i h = rw (old i (omega arith), old_next i (omega arith), old (i + 1) h) (s.is_path.joined i (omega arith))
+  joined i h = grind (arith, old, old_next, s.is_path.joined i)
 
   placed : (v i : ℕ) → get_or marks' v 0 ≡ i + 2 → (i < length path') × (get_or path' i 0 ≡ v)
-  placed v i h =
-      ⊎_elim
-      (λ q. let same = ap (λ (v' : ℕ). get_or marks' v' 0) q in let z = mark_same in absurd (omega arith))
-      (λ ne.
-      let found = s.is_path.placed v i (sym (mark_other v ne) ∙ h) in
-      let below = found.0 in
-      ⊎_elim
-      (λ l. (l, old i l ∙ found.1))
-      (λ l. let at : i ≡ length path' = omega arith in absurd (ne (sym found.1 ∙ ap (λ (n : ℕ). get_or path n 0) at ∙ last)))
-      (cases_lt i (length path')))
-      (cases_eq v bit)
+  placed v i h = grind (arith, mark_same, mark_other, s.is_path.placed v i, old, last)
 
   before : (i : ℕ) → i < length given → get_or given' i 0 ≡ get_or given i 0
   before i h = get_or_append_left given (bit ∷ []) 0 i h
 
   at_last : (i : ℕ) → i < length given' → length given ≤ i → get_or given' i 0 ≡ bit
-  at_last i h l = get_or_push given bit 0 i (let len = length_push given bit in omega arith)
+  at_last i h l = get_or_push given bit 0 i (omega (arith, length_push given bit))
 
   -- the bit isn't given out before
   apart : (i : ℕ) → i < length given → get_or given i 0 ≢ bit
-  apart i h = λ q. let same = ap (λ (v : ℕ). get_or marks v 0) q in let a = s.are_given.out i h in let b = top.mark in omega arith
+  apart i h = λ q. omega (arith, top, s.are_given.out i h, ap (λ (v : ℕ). get_or marks v 0) q)
 
   within : (i : ℕ) → i < length given' → get_or given' i 0 < bits
-  within i h =
-      ⊎_elim
-      (λ l. rw (before i l) (s.are_given.ordered.within i l))
-      (λ l. rw (at_last i h l) top.within)
-      (cases_lt i (length given))
+  within i h = grind (arith, before, at_last, s.are_given.ordered.within, top)
 
   once : (i j : ℕ) → i < j → j < length given' → get_or given' i 0 ≢ get_or given' j 0
-  once i j l h = λ q.
-      let len = length_push given bit in
-      let known : i < length given = omega arith in
-      ⊎_elim
-      (λ m. s.are_given.ordered.once i j l m (sym (before i known) ∙ q ∙ before j m))
-      (λ m. apart i known (sym (before i known) ∙ q ∙ at_last j h m))
-      (cases_lt j (length given))
+  once i j l h = grind (arith, length_push, before, at_last, s.are_given.ordered.once, apart)
 
   abbrev Follows : ℕ → ℕ → Type 0
   Follows i k = (j : ℕ) × (j < i) × (get_or given' j 0 ≡ get_or ends k 0)
@@ -96,21 +76,15 @@ module _ {bits : ℕ} {starts ends marks path nexts given : List ℕ} (s : IsSea
       ⊎_elim
       (λ l.
       let found = s.are_given.ordered.after i k l (rw (before i l) at p) in
-      let earlier = found.1 in
-      (found.0, earlier, before found.0 (omega arith) ∙ found.2))
+      (found.0, found.1, before found.0 (omega arith) ∙ found.2))
       (λ l.
       let here : IsPlace starts bit k = rw (at_last i h l) at p in
       let found = s.are_given.whole (get_or ends k 0) (top.passed k here.0 here.1) in
-      let below = found.1 in
-      (found.0, omega arith, before found.0 below ∙ get_or_default given found.0 0 (get_or ends k 0) below ∙ found.2))
+      (found.0, omega arith, before found.0 found.1 ∙ get_or_default given found.0 0 (get_or ends k 0) found.1 ∙ found.2))
       (cases_lt i (length given))
 
   out : (i : ℕ) → i < length given' → get_or marks' (get_or given' i 0) 0 ≡ 1
-  out i h =
-      ⊎_elim
-      (λ l. rw (before i l) (still (get_or given i 0) (s.are_given.out i l)))
-      (λ l. rw (at_last i h l) mark_same)
-      (cases_lt i (length given))
+  out i h = grind (arith, before, at_last, still, s.are_given.out, mark_same)
 
   whole : (v : ℕ) → get_or marks' v 0 ≡ 1 → Contains given' v
   whole v h =
@@ -126,20 +100,12 @@ module _ {bits : ℕ} {starts ends marks path nexts given : List ℕ} (s : IsSea
     are_given = record { ordered = record { within = within; once = once; after = after }; out = out; whole = whole };
   }
 
-  pub stays_met : (v : ℕ) → get_or marks v 0 ≢ 0 → get_or marks' v 0 ≢ 0
-  stays_met v h =
-      ⊎_elim
-      (λ e. rw e (λ q. let m = mark_same in omega arith))
-      (λ ne. rw (mark_other v ne) h)
-      (cases_eq v bit)
-
 -- the same, of what the code wrote
 pub IsSearch-given_as : {bits : ℕ} {starts numbers ends marks path nexts given : List ℕ} {m n : ℕ} → AreParts bits starts numbers ends × IsSearch bits starts ends marks path nexts given → (bit : ℕ) →
     0 < length path → get_or path (length path - 1) 0 ≡ bit → get_or nexts (length path - 1) 0 ≡ get_or starts (bit + 1) 0 → (path' nexts' given' : List ℕ) →
     m ≡ length path - 1 → n ≡ length nexts - 1 → path' ≡ take m path → nexts' ≡ take n nexts → given' ≡ given ++ bit ∷ [] →
     AreParts bits starts numbers ends × IsSearch bits starts ends (set marks bit 1) path' nexts' given'
 IsSearch-given_as {path = path} {nexts = nexts} {m = m} {n = n} s bit some last through path' nexts' given' of_path of_nexts a b c =
-    let l = s.1.is_path.each_next in
     let q : length path' ≡ m = ap (λ (xs : List ℕ). length xs) a ∙ length-take-le m path (omega arith) in
     let r : length nexts' ≡ n = ap (λ (xs : List ℕ). length xs) b ∙ length-take-le n nexts (omega arith) in (
       s.0,

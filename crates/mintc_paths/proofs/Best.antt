@@ -8,7 +8,7 @@ use Rattle.mintc_rings.specs.Rings.{total}
 use Rattle.mintc_timing.specs.Paths.{Leads, arc_at}
 use Rattle.mintc_timing.specs.Order.{IsOrder}
 use Rattle.mintc_timing.specs.Among.{IsAmong, AreAmong}
-use Rattle.mintc_timing.proofs.SharedOrdered.{Leads-push, AreAmong-push, AreAmong-more, split, none_among}
+use Rattle.mintc_timing.proofs.SharedOrdered.{Leads-push, AreAmong-push, AreAmong-more, inside, split, none_among}
 use Rattle.mintc_rings.proofs.SharedRingLaws.{total-push}
 use Rattle.mintc_lanes.specs.Lanes.{joined}
 use Rattle.mintc_paths.specs.Among.{IsBest, AtLeast}
@@ -81,12 +81,17 @@ module _ (AtMost : ℤ → ℤ → Type 0) (choose : ℤ → ℤ → ℤ) (choic
   Attains-more k from to None h = tt
   Attains-more k from to (Some z) h = (h.0, AreAmong-more order k h.0 h.1, h.2, h.3)
 
-  Attains-along : (k n from : ℕ) → k < length order → get_or order k 0 ≡ n → n < length arcs → (best : Option ℤ) →
-      IfSome best (Attains k from (arc_at arcs n).from) → IfSome best (λ z. Attains (k + 1) from (arc_at arcs n).to (z +ℤ weight n))
-  Attains-along k n from low is below None h = tt
-  Attains-along k n from low is below (Some z) h =
-      let last : IsAmong order (k + 1) n = (k, omega arith, low, is) in
-      (h.0 ++ n ∷ [], AreAmong-push order (k + 1) h.0 n (AreAmong-more order k h.0 h.1) last, Leads-push arcs from h.0 n below h.2, total-push weight h.0 n ∙ ap (λ z. z +ℤ weight n) h.3)
+  -- the arc at a place of the order
+  abbrev arc_of : ℕ → TimingArc
+  arc_of k = arc_at arcs (get_or order k 0)
+
+  Attains-along : IsOrder arcs order → (k from : ℕ) → k < length order → (best : Option ℤ) →
+      IfSome best (Attains k from (arc_of k).from) → IfSome best (λ z. Attains (k + 1) from (arc_of k).to (z +ℤ weight (get_or order k 0)))
+  Attains-along is_order k from low None h = tt
+  Attains-along is_order k from low (Some z) h =
+      let n : ℕ = get_or order k 0 in
+      let last : IsAmong order (k + 1) n = (k, omega arith, low, refl) in
+      (h.0 ++ n ∷ [], AreAmong-push order (k + 1) h.0 n (AreAmong-more order k h.0 h.1) last, Leads-push arcs from h.0 n (inside arcs order is_order k low) h.2, total-push weight h.0 n ∙ ap (λ z. z +ℤ weight n) h.3)
 
   attained_joined : (k from to : ℕ) (x y : Option ℤ) (w : ℤ) → IfSome x (Attains k from to) → IfSome y (λ z. Attains k from to (z +ℤ w)) →
       IfSome (joined choose x y w) (Attains k from to)
@@ -99,24 +104,20 @@ module _ (AtMost : ℤ → ℤ → Type 0) (choose : ℤ → ℤ → ℤ) (choic
       (choice.one x (y +ℤ w))
 
   -- The arc at k changes the best sum to the bit that it enters alone.
-  pub IsBest-other : IsOrder arcs order → (k from to : ℕ) (x : Option ℤ) → k < length order → to ≢ (arc_at arcs (get_or order k 0)).to →
+  pub IsBest-other : IsOrder arcs order → (k from to : ℕ) (x : Option ℤ) → k < length order → to ≢ (arc_of k).to →
       IsBest AtMost weight arcs order k from to x → IsBest AtMost weight arcs order (k + 1) from to x
   IsBest-other is_order k from to x low ne h = record {
     attained = Attains-more k from to x h.attained;
     bound = λ path g lead. ⊎_elim (λ old. h.bound path old lead) (λ new. absurd (ne new.3)) (split arcs order is_order from path to k low lead g);
   }
 
-  pub IsBest-joined : IsOrder arcs order → (k n from : ℕ) (x y : Option ℤ) → k < length order → get_or order k 0 ≡ n → n < length arcs →
-      IsBest AtMost weight arcs order k from (arc_at arcs n).to x → IsBest AtMost weight arcs order k from (arc_at arcs n).from y →
-      IsBest AtMost weight arcs order (k + 1) from (arc_at arcs n).to (joined choose x y (weight n))
-  IsBest-joined is_order k n from x y low is below h g = record {
-    attained = attained_joined (k + 1) from (arc_at arcs n).to x y (weight n) (Attains-more k from (arc_at arcs n).to x h.attained) (Attains-along k n from low is below y g.attained);
+  pub IsBest-joined : IsOrder arcs order → (k from : ℕ) (x y : Option ℤ) → k < length order →
+      IsBest AtMost weight arcs order k from (arc_of k).to x → IsBest AtMost weight arcs order k from (arc_of k).from y →
+      IsBest AtMost weight arcs order (k + 1) from (arc_of k).to (joined choose x y (weight (get_or order k 0)))
+  IsBest-joined is_order k from x y low h g = let gain : ℤ = weight (get_or order k 0) in record {
+    attained = attained_joined (k + 1) from (arc_of k).to x y gain (Attains-more k from (arc_of k).to x h.attained) (Attains-along is_order k from low y g.attained);
     bound = λ path among lead.
-        ⊎_elim (λ old. old_bound (total weight path) x y (weight n) (h.bound path old lead))
-        (λ new.
-        let sum : total weight new.0 +ℤ weight n ≡ total weight path =
-        ap (λ m. total weight new.0 +ℤ weight m) (sym is) ∙ sym (total-push weight new.0 (get_or order k 0)) ∙ ap (total weight) (sym new.4) in
-        let lead_before : Leads arcs from new.0 (arc_at arcs n).from = subst (λ m. Leads arcs from new.0 (arc_at arcs m).from) is new.2 in
-        subst (λ s. IsSomeAnd (joined choose x y (weight n)) (λ z. AtMost s z)) sum (new_bound (total weight new.0) x y (weight n) (g.bound new.0 new.1 lead_before)))
-        (split arcs order is_order from path (arc_at arcs n).to k low lead among);
+        ⊎_elim (λ old. old_bound (total weight path) x y gain (h.bound path old lead))
+        (λ new. rw (new.4, total-push weight new.0 (get_or order k 0)) (new_bound (total weight new.0) x y gain (g.bound new.0 new.1 new.2)))
+        (split arcs order is_order from path (arc_of k).to k low lead among);
   }

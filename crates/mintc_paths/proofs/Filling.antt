@@ -41,65 +41,53 @@ IsAlike-joined old other new max min h g greatest least lane below none =
     let both = joined_none int_max (lane_at old.greatest lane) (lane_at other.greatest lane) max (sym (greatest lane below) ∙ none) in
     least lane below ∙ none_joined int_min (lane_at old.least lane) (lane_at other.least lane) min (h lane below both.0) (g lane below both.1)
 
-module _ (arcs : List TimingArc) (order : List ℕ) (is_order : IsOrder arcs order) (k n first lanes : ℕ) (old new : List Sums) (same : length new ≡ length old)
-    (low : k < length order) (is : get_or order k 0 ≡ n) (below : n < length arcs) (from_in : (arc_at arcs n).from < length old) (to_in : (arc_at arcs n).to < length old) (few : lanes ≤ 8)
-    (others : (bit : ℕ) → bit ≢ (arc_at arcs n).to → sums_at new bit ≡ sums_at old bit)
-    (greatest : AreJoined int_max (sums_at old (arc_at arcs n).to).greatest (sums_at old (arc_at arcs n).from).greatest (arc_at arcs n).max (sums_at new (arc_at arcs n).to).greatest)
-    (least : AreJoined int_min (sums_at old (arc_at arcs n).to).least (sums_at old (arc_at arcs n).from).least (arc_at arcs n).min (sums_at new (arc_at arcs n).to).least)
-    (bounded : (most : ℕ) → IsBounded most (sums_at old (arc_at arcs n).from) → IsBounded most (sums_at old (arc_at arcs n).to) → IsBounded (most + 1000000000) (sums_at new (arc_at arcs n).to))
-    (h : AreSums arcs order k first lanes old) where
-  abbrev to : ℕ
-  to = (arc_at arcs n).to
-
-  abbrev from : ℕ
-  from = (arc_at arcs n).from
-
-  not_entered : (bit : ℕ) → bit ≢ to → bit ≢ (arc_at arcs (get_or order k 0)).to
-  not_entered bit ne e = ne (e ∙ ap (λ m. (arc_at arcs m).to) is)
-
-  at_end : (P : ℕ → Type 0) (bit : ℕ) → bit ≡ to → P to → P bit
-  at_end P bit e p = subst P (sym e) p
-
-  -- the best sums at the bits, by what is at most what
-  best_more : (AtMost : ℤ → ℤ → Type 0) (choose : ℤ → ℤ → ℤ) → IsChoiceBy AtMost choose → (weight : ℕ → ℤ) (row : Sums → List ℤ) →
-      AreJoined choose (row (sums_at old to)) (row (sums_at old from)) (weight n) (row (sums_at new to)) →
-      ((bit lane : ℕ) → bit < length old → lane < lanes → IsBest AtMost weight arcs order k (output_of (first + lane)) bit (lane_at (row (sums_at old bit)) lane)) →
-      (bit lane : ℕ) → bit < length new → lane < lanes → IsBest AtMost weight arcs order (k + 1) (output_of (first + lane)) bit (lane_at (row (sums_at new bit)) lane)
-  best_more AtMost choose choice weight row joins best bit lane inside g =
-      ⊎_elim
-      (λ e. at_end (λ b. IsBest AtMost weight arcs order (k + 1) (output_of (first + lane)) b (lane_at (row (sums_at new b)) lane)) bit e
-      (subst (λ o. IsBest AtMost weight arcs order (k + 1) (output_of (first + lane)) to o) (sym (joins lane (omega arith)))
-      (IsBest-joined AtMost choose choice weight arcs order is_order k n (output_of (first + lane))
-      (lane_at (row (sums_at old to)) lane) (lane_at (row (sums_at old from)) lane) low is below (best to lane to_in g) (best from lane from_in g))))
-      (λ ne. subst (λ (s : Sums). IsBest AtMost weight arcs order (k + 1) (output_of (first + lane)) bit (lane_at (row s) lane)) (sym (others bit ne))
-      (IsBest-other AtMost choose choice weight arcs order is_order k (output_of (first + lane)) bit (lane_at (row (sums_at old bit)) lane) low
-      (not_entered bit ne) (best bit lane (omega arith) g)))
-      (cases_eq bit to)
-
-  pub AreSums-more : AreSums arcs order (k + 1) first lanes new
-  AreSums-more = record {
-    greatest = best_more ◌≤ℤ◌ int_max greatest_choice (max_of arcs) (λ (s : Sums). s.greatest) greatest h.greatest;
-    least = best_more AtLeast int_min least_choice (min_of arcs) (λ (s : Sums). s.least) least h.least;
-    bounded = λ bit inside. ⊎_elim
-        (λ e. at_end (λ b. IsBounded ((k + 1) * 1000000000) (sums_at new b)) bit e
-        (IsBounded-weaker (k * 1000000000 + 1000000000) ((k + 1) * 1000000000) (sums_at new to) (omega arith) (bounded (k * 1000000000) (h.bounded from from_in) (h.bounded to to_in))))
-        (λ ne. subst (λ (s : Sums). IsBounded ((k + 1) * 1000000000) s) (sym (others bit ne))
-        (IsBounded-weaker (k * 1000000000) ((k + 1) * 1000000000) (sums_at old bit) (omega arith) (h.bounded bit (omega arith))))
-        (cases_eq bit to);
-    alike = λ bit inside. ⊎_elim
-        (λ e. at_end (λ b. IsAlike (sums_at new b)) bit e
-        (IsAlike-joined (sums_at old to) (sums_at old from) (sums_at new to) (arc_at arcs n).max (arc_at arcs n).min (h.alike to to_in) (h.alike from from_in) greatest least))
-        (λ ne. subst (λ (s : Sums). IsAlike s) (sym (others bit ne)) (h.alike bit (omega arith)))
-        (cases_eq bit to);
-  }
-
--- an arc of the order is one of the design's
-pub arc_inside : (arcs : List TimingArc) (order : List ℕ) → IsOrder arcs order → (n m : ℕ) → All (IsArc n m) arcs → (i : ℕ) → i < length order → IsArc n m (arc_at arcs (get_or order i 0))
-arc_inside arcs order is_order n m each i below = each (get_or order i 0) no_arc (inside arcs order is_order i below)
-
 -- what a call of carry leaves
 pub record IsCarried (arc : TimingArc) (old new : List Sums) : Type 0 where
   pub others : (bit : ℕ) → bit ≢ arc.to → sums_at new bit ≡ sums_at old bit
   pub greatest : AreJoined int_max (sums_at old arc.to).greatest (sums_at old arc.from).greatest arc.max (sums_at new arc.to).greatest
   pub least : AreJoined int_min (sums_at old arc.to).least (sums_at old arc.from).least arc.min (sums_at new arc.to).least
   pub bounded : (most : ℕ) → IsBounded most (sums_at old arc.from) → IsBounded most (sums_at old arc.to) → IsBounded (most + 1000000000) (sums_at new arc.to)
+
+module _ (arcs : List TimingArc) (order : List ℕ) (is_order : IsOrder arcs order) (k first lanes : ℕ) (old new : List Sums) (same : length new ≡ length old) (low : k < length order)
+    (from_in : (arc_at arcs (get_or order k 0)).from < length old) (to_in : (arc_at arcs (get_or order k 0)).to < length old) (few : lanes ≤ 8)
+    (carried : IsCarried (arc_at arcs (get_or order k 0)) old new) (h : AreSums arcs order k first lanes old) where
+  abbrev arc : TimingArc
+  arc = arc_at arcs (get_or order k 0)
+
+  at_end : (P : ℕ → Type 0) (bit : ℕ) → bit ≡ arc.to → P arc.to → P bit
+  at_end P bit e p = subst P (sym e) p
+
+  -- the best sums at the bits, by what is at most what
+  best_more : (AtMost : ℤ → ℤ → Type 0) (choose : ℤ → ℤ → ℤ) → IsChoiceBy AtMost choose → (weight : ℕ → ℤ) (row : Sums → List ℤ) →
+      AreJoined choose (row (sums_at old arc.to)) (row (sums_at old arc.from)) (weight (get_or order k 0)) (row (sums_at new arc.to)) →
+      ((bit lane : ℕ) → bit < length old → lane < lanes → IsBest AtMost weight arcs order k (output_of (first + lane)) bit (lane_at (row (sums_at old bit)) lane)) →
+      (bit lane : ℕ) → bit < length new → lane < lanes → IsBest AtMost weight arcs order (k + 1) (output_of (first + lane)) bit (lane_at (row (sums_at new bit)) lane)
+  best_more AtMost choose choice weight row joins best bit lane inside g =
+      ⊎_elim
+      (λ e. at_end (λ b. IsBest AtMost weight arcs order (k + 1) (output_of (first + lane)) b (lane_at (row (sums_at new b)) lane)) bit e
+      (rw (joins lane (omega arith))
+      (IsBest-joined AtMost choose choice weight arcs order is_order k (output_of (first + lane))
+      (lane_at (row (sums_at old arc.to)) lane) (lane_at (row (sums_at old arc.from)) lane) low (best arc.to lane to_in g) (best arc.from lane from_in g))))
+      (λ ne. rw (carried.others bit ne)
+      (IsBest-other AtMost choose choice weight arcs order is_order k (output_of (first + lane)) bit (lane_at (row (sums_at old bit)) lane) low ne (best bit lane (omega arith) g)))
+      (cases_eq bit arc.to)
+
+  pub AreSums-more : AreSums arcs order (k + 1) first lanes new
+  AreSums-more = record {
+    greatest = best_more ◌≤ℤ◌ int_max greatest_choice (max_of arcs) (λ (s : Sums). s.greatest) carried.greatest h.greatest;
+    least = best_more AtLeast int_min least_choice (min_of arcs) (λ (s : Sums). s.least) carried.least h.least;
+    bounded = λ bit inside. ⊎_elim
+        (λ e. at_end (λ b. IsBounded ((k + 1) * 1000000000) (sums_at new b)) bit e
+        (IsBounded-weaker (k * 1000000000 + 1000000000) ((k + 1) * 1000000000) (sums_at new arc.to) (omega arith) (carried.bounded (k * 1000000000) (h.bounded arc.from from_in) (h.bounded arc.to to_in))))
+        (λ ne. rw (carried.others bit ne) (IsBounded-weaker (k * 1000000000) ((k + 1) * 1000000000) (sums_at old bit) (omega arith) (h.bounded bit (omega arith))))
+        (cases_eq bit arc.to);
+    alike = λ bit inside. ⊎_elim
+        (λ e. at_end (λ b. IsAlike (sums_at new b)) bit e
+        (IsAlike-joined (sums_at old arc.to) (sums_at old arc.from) (sums_at new arc.to) arc.max arc.min (h.alike arc.to to_in) (h.alike arc.from from_in) carried.greatest carried.least))
+        (λ ne. rw (carried.others bit ne) (h.alike bit (omega arith)))
+        (cases_eq bit arc.to);
+  }
+
+-- an arc of the order is one of the design's
+pub arc_inside : (arcs : List TimingArc) (order : List ℕ) → IsOrder arcs order → (n m : ℕ) → All (IsArc n m) arcs → (i : ℕ) → i < length order → IsArc n m (arc_at arcs (get_or order i 0))
+arc_inside arcs order is_order n m each i below = each (get_or order i 0) no_arc (inside arcs order is_order i below)

@@ -9,7 +9,6 @@ pub mod SharedClimbing
 mod Best
 mod Filling
 mod Beginning
-mod Refusing
 mod Reaching
 mod Shortness
 mod Tracing

@@ -1,9 +1,6 @@
 -- Rows that are reached, and their sums.
-use Rattle.std.proofs.Common.{◌≡◌, ◌≢◌, ◌<◌, ℕ, Bool, true, false, List, length, get_or, set, length-set, get_or-set_same, get_or-set_other, ⊎_elim, arith, sym, ◌∙◌, ap, replicate}
-use Rattle.std.proofs.lemmas.Bool.{cases_eq}
-use Rattle.std.proofs.lemmas.List.{length-replicate}
+use Rattle.std.proofs.Common.{◌≡◌, ◌≢◌, ℕ, Bool, true, false, List, length, set, length-set, get_or-set_same, get_or-set_other, arith, sym, ◌∙◌}
 use Rattle.mintc_paths.specs.declared.sums.Sums.{Sums}
-use Rattle.mintc_paths.specs.declared.sums.TheConstants.{NO_SUMS}
 use Rattle.mintc_paths.specs.Sums.{sums_at, AreMarked}
 
 -- a bit that gets sums, and its mark
@@ -11,16 +8,5 @@ pub marked_more : (old new : List Sums) (reached : List Bool) (bit : ℕ) → le
     AreMarked old reached → AreMarked new (set reached bit true)
 marked_more old new reached bit same others m = record {
   count = length-set {A = Bool} reached bit true ∙ m.count ∙ sym same;
-  none = λ b below off.
-      ⊎_elim
-      (λ e. let on : get_or (set reached bit true) b false ≡ true = rw e (get_or-set_same reached bit true false (omega (arith, m.count, e))) in absurd (cc on))
-      (λ e. others b e ∙ m.none b (omega arith) (sym (get_or-set_other reached bit b true false e) ∙ off))
-      (cases_eq b bit);
-}
-
--- at first there are no sums, and no bit is marked
-pub AreMarked-none : (count : ℕ) (sums : List Sums) (reached : List Bool) → length sums ≡ count → ((bit : ℕ) → bit < count → sums_at sums bit ≡ NO_SUMS) → reached ≡ replicate count false → AreMarked sums reached
-AreMarked-none count sums reached long none r = record {
-  count = ap (λ (xs : List Bool). length xs) r ∙ length-replicate {A = Bool} count false ∙ sym long;
-  none = λ bit below _. none bit (omega arith);
+  none = λ b below off. grind (arith, get_or-set_same reached bit true false, get_or-set_other reached bit b true false, m.count, m.none b, others b);
 }

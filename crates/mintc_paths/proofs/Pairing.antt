@@ -1,5 +1,5 @@
 -- Traced paths and pairs.
-use Rattle.std.proofs.Common.{◌≡◌, ◌≢◌, ℕ, ◌<◌, ◌+◌, ◌*◌, ℤ, pos, List, [], length, get_or, arith, refl, ap, ◌∙◌, sym, Option, Some, subst, add-zero}
+use Rattle.std.proofs.Common.{◌≡◌, ℕ, ◌<◌, ℤ, pos, List, [], length, get_or, arith, refl, ap, ◌∙◌, sym, Option, Some, subst, add-zero}
 use Rattle.std.proofs.lemmas.Int.{ints}
 use Rattle.mintc_timing.specs.declared.parts.TimingArc.{TimingArc}
 use Rattle.mintc_timing.specs.declared.parts.Pair.{Pair}
@@ -7,23 +7,18 @@ use Rattle.mintc_rings.specs.Rings.{total}
 use Rattle.mintc_timing.specs.Design.{Design, Timing}
 use Rattle.mintc_timing.specs.Order.{IsOrder}
 use Rattle.mintc_timing.specs.Paths.{Leads, IsPath, input_of, output_of, HasExtremes, ArePairs}
-use Rattle.mintc_timing.specs.Among.{AreAmong}
 use Rattle.mintc_timing.proofs.SharedOrdered.{all_among, none_round}
-use Rattle.mintc_lanes.specs.Lanes.{lane_at}
 use Rattle.mintc_paths.specs.declared.sums.Sums.{Sums}
 use Rattle.mintc_paths.specs.declared.trace.Extreme.{Extreme}
 use Rattle.mintc_paths.specs.declared.trace.Extreme.TheVariants.{Greatest, Least}
-use Rattle.mintc_paths.specs.Among.{IsGreatestAmong, IsLeastAmong}
 use Rattle.mintc_paths.specs.Sums.{sums_at, AreSums}
 use Rattle.mintc_paths.specs.Trace.{AtMostOf, sum_of, weight_of, extreme_of, AreBestSums, IsBestPath, IsOfPair, IsPairOf}
-use Rattle.mintc_paths.proofs.Tracing.{some_of, at_some, at_some_and}
+use Rattle.mintc_paths.proofs.Tracing.{some_of}
 
 pub AreBestSums-from_sums : (extreme : Extreme) (arcs : List TimingArc) (order : List ℕ) (first : ℕ) (sums : List Sums) → AreSums arcs order (length order) first 1 sums →
     AreBestSums extreme arcs order (output_of first) sums
-AreBestSums-from_sums Greatest arcs order first sums h = λ bit inside.
-    subst (λ j. IsGreatestAmong arcs order (length order) (output_of j) bit (lane_at (sums_at sums bit).greatest 0)) (add-zero first) (h.greatest bit 0 inside (omega arith))
-AreBestSums-from_sums Least arcs order first sums h = λ bit inside.
-    subst (λ j. IsLeastAmong arcs order (length order) (output_of j) bit (lane_at (sums_at sums bit).least 0)) (add-zero first) (h.least bit 0 inside (omega arith))
+AreBestSums-from_sums Greatest arcs order first sums h = λ bit inside. rw (add-zero first) at (h.greatest bit 0 inside (omega arith))
+AreBestSums-from_sums Least arcs order first sums h = λ bit inside. rw (add-zero first) at (h.least bit 0 inside (omega arith))
 
 module _ (extreme : Extreme) (arcs : List TimingArc) (order : List ℕ) (is_order : IsOrder arcs order) (sums : List Sums) (from end : ℕ) (best_sums : AreBestSums extreme arcs order from sums) where
   abbrev sum : ℕ → Option ℤ
@@ -37,7 +32,7 @@ module _ (extreme : Extreme) (arcs : List TimingArc) (order : List ℕ) (is_orde
   zero_at inside =
       let here = best_sums from inside in
       let some = some_of (sum from) (λ z. AtMostOf extreme (pos 0) z) (here.bound [] tt refl) in
-      let path = at_some (sum from) (λ z. (path : List ℕ) × AreAmong order (length order) path × Leads arcs from path from × (total weight path ≡ z)) some.0 some.1 here.attained in
+      let path = rw some.1 at here.attained in
       some.1 ∙ ap Some (sym path.3 ∙ ap (total weight) (none_round arcs order is_order path.0 from path.2))
 
   pub IsBestPath-from_trace : from < length sums → end < length sums → (path other : List ℕ) → Leads arcs from other end →
@@ -49,49 +44,28 @@ module _ (extreme : Extreme) (arcs : List TimingArc) (order : List ℕ) (is_orde
       let found = traced from some.0 best_sums (zero_at from_in) some.1 in
       record {
         leads = found.0;
-        best = λ any goes. subst (λ z. AtMostOf extreme (total weight any) z) (sym found.1)
-            (at_some_and (sum end) (λ z. AtMostOf extreme (total weight any) z) some.0 some.1 (there.bound any (all_among arcs order is_order from any end goes) goes));
+        best = λ any goes. rw found.1 (rw some.1 at (there.bound any (all_among arcs order is_order from any end goes) goes));
       }
 
 same_extreme : (extreme : Extreme) (design : Design) (pair : Pair) (path : List ℕ) → HasExtremes design pair → IsPath design.arcs pair.from path (input_of pair.to) →
     IsBestPath extreme design.arcs (output_of pair.from) (input_of pair.to) path → total (weight_of extreme design.arcs) path ≡ extreme_of extreme pair
 same_extreme Greatest design pair path h is best =
     let a = h.greatest.attained in
-    let sum = a.2 in
-    let least = best.best a.0 a.1.1 in
-    let most = h.greatest.bound path is in
-    omega (arith, ints)
+    omega (arith, ints, best.best a.0 a.1.1, h.greatest.bound path is)
 same_extreme Least design pair path h is best =
     let a = h.least.attained in
-    let sum = a.2 in
-    let most = best.best a.0 a.1.1 in
-    let least = h.least.bound path is in
-    omega (arith, ints)
+    omega (arith, ints, best.best a.0 a.1.1, h.least.bound path is)
 
 -- some path between the elements of a pair
 pub path_of_pair : (t : Timing) (from to : ℕ) → ArePairs t.flat t.pairs → IsPairOf t.pairs from to →
     (from < length t.flat.elements) × (to < length t.flat.elements) × ((path : List ℕ) × Leads t.flat.arcs (output_of from) path (input_of to))
 path_of_pair t from to pairs h =
-    let at = h.1 in
-    let extremes : HasExtremes t.flat h.0 = subst (λ p. HasExtremes t.flat p) at.2 (pairs.each at.0 h.0 at.1) in
-    let from_in = extremes.from in
-    let to_in = extremes.to in
-    let e = h.2 in
-    let f = h.3 in
+    let extremes : HasExtremes t.flat h.0 = subst (λ p. HasExtremes t.flat p) h.1.2 (pairs.each h.1.0 h.0 h.1.1) in
     let a = extremes.greatest.attained in
-    (omega arith, omega arith, (a.0, subst (λ j. Leads t.flat.arcs (output_of j) a.0 (input_of to)) e (subst (λ l. Leads t.flat.arcs (output_of h.0.from) a.0 (input_of l)) f a.1.1)))
-
-odd_or_even : (j l : ℕ) → 2 * j + 1 ≢ 2 * l
-odd_or_even j l e = omega arith
+    (omega arith, omega arith, (a.0, rw (← h.2, ← h.3) a.1.1))
 
 pub IsOfPair-from_best : (extreme : Extreme) (t : Timing) (from to : ℕ) (path : List ℕ) → ArePairs t.flat t.pairs → IsBestPath extreme t.flat.arcs (output_of from) (input_of to) path →
     IsOfPair extreme t from to path
 IsOfPair-from_best extreme t from to path pairs h =
-    let is : IsPath t.flat.arcs from path (input_of to) = (λ e. odd_or_even from to (subst (λ xs. Leads t.flat.arcs (output_of from) xs (input_of to)) e h.leads), h.leads) in (
-      is,
-      λ k d below e f.
-          let pair : Pair = get_or t.pairs k d in
-          same_extreme extreme t.flat pair path (pairs.each k d below)
-          (subst (λ j. IsPath t.flat.arcs j path (input_of pair.to)) (sym e) (subst (λ l. IsPath t.flat.arcs from path (input_of l)) (sym f) is))
-          (subst (λ j. IsBestPath extreme t.flat.arcs (output_of j) (input_of pair.to) path) (sym e) (subst (λ l. IsBestPath extreme t.flat.arcs (output_of from) (input_of l) path) (sym f) h)),
-    )
+    let is : IsPath t.flat.arcs from path (input_of to) = (λ e. omega (arith, subst (λ xs. Leads t.flat.arcs (output_of from) xs (input_of to)) e h.leads), h.leads) in
+    (is, λ k d below e f. same_extreme extreme t.flat (get_or t.pairs k d) path (pairs.each k d below) (rw (e, f) is) (rw (e, f) h))

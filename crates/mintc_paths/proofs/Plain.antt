@@ -1,5 +1,5 @@
 -- Sums that bound all paths at once.
-use Rattle.std.proofs.Common.{◌≡◌, ◌≢◌, ◌<◌, ◌≤◌, ◌+◌, ◌*◌, ⊎_elim, ℕ, ℤ, pos, ◌+ℤ◌, ◌≤ℤ◌, List, [], ◌∷◌, length, get_or, replicate, arith, ap, sym, subst, All}
+use Rattle.std.proofs.Common.{◌≡◌, ◌≢◌, ◌<◌, ◌≤◌, ◌+◌, ◌*◌, ⊎_elim, ℕ, ℤ, pos, ◌+ℤ◌, ◌≤ℤ◌, List, [], ◌∷◌, length, get_or, replicate, arith, ap, sym, All}
 use Rattle.std.proofs.lemmas.Bool.{cases_eq, cases_lt}
 use Rattle.std.proofs.lemmas.Int.{ints}
 use Rattle.std.proofs.lemmas.List.{get_or-replicate, get_or_past, length-replicate}
@@ -11,12 +11,12 @@ use Rattle.mintc_paths.specs.Longest.{bit_sum, AreCarried, AreRunsShort}
 
 -- before any arc
 pub none_at : (n bit : ℕ) → bit_sum (replicate n (pos 0)) bit ≡ pos 0
-none_at n bit = ⊎_elim (λ (low : bit < n). get_or-replicate n bit (pos 0) (pos 0) low) (λ (past : n ≤ bit). get_or_past (replicate n (pos 0)) bit (pos 0) (let count = length-replicate n (pos 0) in omega arith)) (cases_lt bit n)
+none_at n bit = ⊎_elim (λ (low : bit < n). get_or-replicate n bit (pos 0) (pos 0) low) (λ (past : n ≤ bit). get_or_past (replicate n (pos 0)) bit (pos 0) (omega (arith, length-replicate n (pos 0)))) (cases_lt bit n)
 
 pub AreCarried-zeros : (arcs : List TimingArc) (order : List ℕ) (sums : List ℤ) → ((bit : ℕ) → bit_sum sums bit ≡ pos 0) → AreCarried arcs order 0 sums
 AreCarried-zeros arcs order sums zero = record {
-  low = λ bit. let e = zero bit in omega (arith, ints);
-  high = λ bit. let e = zero bit in omega (arith, ints);
+  low = λ bit. omega (arith, ints, zero bit);
+  high = λ bit. omega (arith, ints, zero bit);
   carried = λ i below. absurd (omega arith);
 }
 
@@ -30,53 +30,41 @@ module _ (arcs : List TimingArc) (order : List ℕ) (is_order : IsOrder arcs ord
       bit_sum sums (arc_of k).to ≤ℤ bit_sum new (arc_of k).to → (bit_sum sums (arc_of k).from +ℤ (arc_of k).max) ≤ℤ bit_sum new (arc_of k).to →
       bit_sum new (arc_of k).to ≤ℤ pos ((k + 1) * 1000000000) → AreCarried arcs order (k + 1) new
   carried_more k sums new below h others kept raised limit = record {
-    low = λ bit. let old = h.low bit in let rest = grows bit in omega (arith, ints);
+    low = λ bit. omega (arith, ints, h.low bit, grows bit);
     high = λ bit. ⊎_elim
-        (λ (is : bit ≡ (arc_of k).to). subst (λ (b : ℕ). bit_sum new b ≤ℤ pos ((k + 1) * 1000000000)) (sym is) limit)
-        (λ (other : bit ≢ (arc_of k).to). let same = others bit other in let old = h.high bit in omega (arith, ints))
+        (λ (is : bit ≡ (arc_of k).to). rw is limit)
+        (λ (other : bit ≢ (arc_of k).to). omega (arith, ints, others bit other, h.high bit))
         (cases_eq bit (arc_of k).to);
     carried = λ i low. ⊎_elim
-        (λ (before : i < k).
-        let same = unmoved i (omega arith) in
-        let old = h.carried i before in
-        let rest = grows (arc_of i).to in
-        omega (arith, ints))
-        (λ (last : k ≤ i).
-        let is : i ≡ k = omega arith in
-        let same = unmoved k (omega arith) in
-        subst (λ (j : ℕ). (bit_sum new (arc_of j).from +ℤ (arc_of j).max) ≤ℤ bit_sum new (arc_of j).to) (sym is) (omega (arith, ints)))
+        (λ (before : i < k). omega (arith, ints, unmoved i (omega arith), h.carried i before, grows (arc_of i).to))
+        (λ (last : k ≤ i). let is : i ≡ k = omega arith in rw is (omega (arith, ints, unmoved k (omega arith))))
         (cases_lt i k);
   }
     where
       grows : (bit : ℕ) → bit_sum sums bit ≤ℤ bit_sum new bit
       grows bit = ⊎_elim
-          (λ (is : bit ≡ (arc_of k).to). subst (λ (b : ℕ). bit_sum sums b ≤ℤ bit_sum new b) (sym is) kept)
-          (λ (other : bit ≢ (arc_of k).to). let same = others bit other in omega (arith, ints))
+          (λ (is : bit ≡ (arc_of k).to). rw is kept)
+          (λ (other : bit ≢ (arc_of k).to). omega (arith, ints, others bit other))
           (cases_eq bit (arc_of k).to)
 
       unmoved : (i : ℕ) → i ≤ k → bit_sum new (arc_of i).from ≡ bit_sum sums (arc_of i).from
-      unmoved i low = others (arc_of i).from (λ e. let later = is_order.ordered k i below (omega arith) (sym e) in omega (arith, later))
+      unmoved i low = others (arc_of i).from (λ e. omega (arith, is_order.ordered k i below (omega arith) (sym e)))
 
   -- Along arcs that lead on, a sum grows by at least their delays.
   along : (sums : List ℤ) → AreCarried arcs order (length order) sums → (from : ℕ) (path : List ℕ) (to : ℕ) → Leads arcs from path to →
       (bit_sum sums from +ℤ greatest_delay arcs path) ≤ℤ bit_sum sums to
-  along sums h from [] to leads = let same : bit_sum sums from ≡ bit_sum sums to = ap (bit_sum sums) leads in omega (arith, ints)
+  along sums h from [] to leads = omega (arith, ints, ap (bit_sum sums) leads)
   along sums h from (n ∷ path) to (below, at, leads) =
       let found = place arcs order is_order n below in
-      let here : (bit_sum sums (arc_at arcs n).from +ℤ (arc_at arcs n).max) ≤ℤ bit_sum sums (arc_at arcs n).to =
-      subst (λ (m : ℕ). (bit_sum sums (arc_at arcs m).from +ℤ (arc_at arcs m).max) ≤ℤ bit_sum sums (arc_at arcs m).to) found.2 (h.carried found.0 found.1) in
-      let start : bit_sum sums (arc_at arcs n).from ≡ bit_sum sums from = ap (bit_sum sums) at in
-      let rest = along sums h (arc_at arcs n).to path to leads in
-      omega (arith, ints)
+      let here = rw found.2 at (h.carried found.0 found.1) in
+      omega (arith, ints, ap (bit_sum sums) at, along sums h (arc_at arcs n).to path to leads)
+
+-- where no row has a sum above the limit, no bit has
+pub within_at : (sums : List ℤ) (row : ℕ) → All (λ z. z ≤ℤ pos 1000000000) sums → bit_sum sums row ≤ℤ pos 1000000000
+within_at sums row all = grind (arith, ints, get_or_past, all row (pos 0))
 
 -- Where no sum is above the limit, no run of arcs is.
 pub AreRunsShort-carried : (arcs : List TimingArc) (order : List ℕ) (sums : List ℤ) → IsOrder arcs order → AreCarried arcs order (length order) sums →
     All (λ z. z ≤ℤ pos 1000000000) sums → AreRunsShort arcs
 AreRunsShort-carried arcs order sums is_order h all = λ from path bit is.
-    let sum = along arcs order is_order sums h from path bit is in
-    let low = h.low from in
-    let high : bit_sum sums bit ≤ℤ pos 1000000000 = ⊎_elim
-    (λ (inside : bit < length sums). all bit (pos 0) inside)
-    (λ (past : length sums ≤ bit). let none = get_or_past sums bit (pos 0) past in omega (arith, ints))
-    (cases_lt bit (length sums)) in
-    omega (arith, ints)
+    omega (arith, ints, along arcs order is_order sums h from path bit is, h.low from, within_at sums bit all)

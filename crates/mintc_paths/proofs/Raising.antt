@@ -1,5 +1,5 @@
 -- Sums that are raised from row to row along a course are raised from bit to bit.
-use Rattle.std.proofs.Common.{◌≡◌, ◌≢◌, ◌<◌, ◌≤◌, ◌+◌, ◌*◌, ⊎_elim, ℕ, ℤ, pos, ◌+ℤ◌, ◌≤ℤ◌, List, length, get_or, replicate, arith, ap, ◌∙◌, sym, subst, All}
+use Rattle.std.proofs.Common.{◌≡◌, ◌≢◌, ◌<◌, ◌≤◌, ◌+◌, ◌*◌, ⊎_elim, ℕ, ℤ, pos, ◌+ℤ◌, ◌≤ℤ◌, List, length, get_or, replicate, arith, ap, ◌∙◌, subst, All}
 use Rattle.std.proofs.lemmas.Bool.{cases_lt}
 use Rattle.std.proofs.lemmas.Int.{ints}
 use Rattle.std.proofs.lemmas.List.{get_or-map, get_or_past}
@@ -15,7 +15,7 @@ use Rattle.mintc_paths.specs.Longest.{bit_sum, bit_sums, AreCarried}
 use Rattle.mintc_paths.specs.Sums.{row_of, moved, IsCourse}
 use Rattle.mintc_paths.proofs.SharedPassing.{arc_of, from_in, to_in, in_design, few_arcs}
 use Rattle.mintc_paths.proofs.Rowing.{moved_others}
-use Rattle.mintc_paths.proofs.Plain.{AreCarried-zeros, carried_more, none_at}
+use Rattle.mintc_paths.proofs.Plain.{AreCarried-zeros, carried_more, none_at, within_at}
 
 -- what a call of raise leaves in the rows
 pub record IsRaised (arc : TimingArc) (old new : List ℤ) : Type 0 where
@@ -27,23 +27,13 @@ pub record IsRaised (arc : TimingArc) (old new : List ℤ) : Type 0 where
 sum_placed : (rows : List ℕ) (sums : List ℤ) (bit : ℕ) → bit < length rows → bit_sum (bit_sums rows sums) bit ≡ bit_sum sums (row_of rows bit)
 sum_placed rows sums bit below = get_or-map (bit_sum sums) rows bit 0 (pos 0) below
 
-sum_past : (rows : List ℕ) (sums : List ℤ) (bit : ℕ) → length rows ≤ bit → bit_sum (bit_sums rows sums) bit ≡ pos 0
-sum_past rows sums bit past = get_or_past (bit_sums rows sums) bit (pos 0) (omega (arith, length-map rows (bit_sum sums)))
-
 -- before any arc
-pub AreCarried-no_rows : (arcs : List TimingArc) (order rows : List ℕ) (n : ℕ) (sums : List ℤ) → sums ≡ replicate n (pos 0) → AreCarried arcs order 0 (bit_sums rows sums)
-AreCarried-no_rows arcs order rows n sums same =
+pub AreCarried_no_rows : (arcs : List TimingArc) (order rows : List ℕ) (n : ℕ) (sums : List ℤ) → sums ≡ replicate n (pos 0) → AreCarried arcs order 0 (bit_sums rows sums)
+AreCarried_no_rows arcs order rows n sums same =
     AreCarried-zeros arcs order (bit_sums rows sums) (λ bit. ⊎_elim
     (λ (low : bit < length rows). sum_placed rows sums bit low ∙ ap (λ (x : List ℤ). bit_sum x (row_of rows bit)) same ∙ none_at n (row_of rows bit))
-    (λ (past : length rows ≤ bit). sum_past rows sums bit past)
+    (λ (past : length rows ≤ bit). get_or_past (bit_sums rows sums) bit (pos 0) (omega (arith, length-map rows (bit_sum sums))))
     (cases_lt bit (length rows)))
-
--- where no row has a sum above the limit, no bit has
-within_at : (sums : List ℤ) (row : ℕ) → All (λ z. z ≤ℤ pos 1000000000) sums → bit_sum sums row ≤ℤ pos 1000000000
-within_at sums row all = ⊎_elim
-    (λ (low : row < length sums). all row (pos 0) low)
-    (λ (past : length sums ≤ row). let none = get_or_past sums row (pos 0) past in omega (arith, ints))
-    (cases_lt row (length sums))
 
 pub within_placed : (rows : List ℕ) (sums : List ℤ) → All (λ z. z ≤ℤ pos 1000000000) sums → All (λ z. z ≤ℤ pos 1000000000) (bit_sums rows sums)
 within_placed rows sums all = All-map (λ (z : ℤ). z ≤ℤ pos 1000000000) (bit_sum sums) rows (λ i d below. within_at sums (get_or rows i d) all)
@@ -57,36 +47,28 @@ module _ (design : Design) (order : List ℕ) (is_order : IsOrder design.arcs or
   here k = arc_of design order is_order kept course n is_course bits k
 
   at_from : (sums : List ℤ) (k : ℕ) → k < length order → bit_sum (bit_sums rows sums) (here k).from ≡ bit_sum sums (row_of rows (here k).from)
-  at_from sums k low = let inside = from_in design order is_order kept course n is_course bits k low in let count = is_course.rows.of_bits.count in sum_placed rows sums (here k).from (omega arith)
+  at_from sums k low = sum_placed rows sums (here k).from (omega (arith, is_course.rows.of_bits.count, from_in design order is_order kept course n is_course bits k low))
 
   at_to : (sums : List ℤ) (k : ℕ) → k < length order → bit_sum (bit_sums rows sums) (here k).to ≡ bit_sum sums (row_of rows (here k).to)
-  at_to sums k low = let inside = to_in design order is_order kept course n is_course bits k low in let count = is_course.rows.of_bits.count in sum_placed rows sums (here k).to (omega arith)
+  at_to sums k low = sum_placed rows sums (here k).to (omega (arith, is_course.rows.of_bits.count, to_in design order is_order kept course n is_course bits k low))
 
   pub row_low : (sums : List ℤ) (k : ℕ) → k < length order → AreCarried design.arcs order k (bit_sums rows sums) → pos 0 ≤ℤ bit_sum sums (arc_at course.along.items k).from
-  row_low sums k low h = subst (λ (a : TimingArc). pos 0 ≤ℤ bit_sum sums a.from) (sym (is_course.along.each k low))
-      (subst (λ (z : ℤ). pos 0 ≤ℤ z) (at_from sums k low) (h.low (here k).from))
+  row_low sums k low h = rw (is_course.along.each k low) (omega (arith, ints, at_from sums k low, h.low (here k).from))
 
   pub row_high : (sums : List ℤ) (k : ℕ) → k < length order → AreCarried design.arcs order k (bit_sums rows sums) → bit_sum sums (arc_at course.along.items k).from ≤ℤ pos 1000000000000000
-  row_high sums k low h = subst (λ (a : TimingArc). bit_sum sums a.from ≤ℤ pos 1000000000000000) (sym (is_course.along.each k low))
-      (let few = few_arcs design order is_order kept course n is_course bits k low in
-      let high = h.high (here k).from in
-      let same = at_from sums k low in
-      omega (arith, ints))
+  row_high sums k low h = rw (is_course.along.each k low) (omega (arith, ints, few_arcs design order is_order kept course n is_course bits k low, h.high (here k).from, at_from sums k low))
 
   pub raised_along : (old new : List ℤ) (k : ℕ) → k < length order → IsRaised (arc_at course.along.items k) old new →
       AreCarried design.arcs order k (bit_sums rows old) → AreCarried design.arcs order (k + 1) (bit_sums rows new)
   raised_along old new k low g h =
       let arc : TimingArc = here k in
       let raised : IsRaised (moved rows arc) old new = subst (λ (a : TimingArc). IsRaised a old new) (is_course.along.each k low) g in
-      let old_from : bit_sum (bit_sums rows old) arc.from ≡ bit_sum old (row_of rows arc.from) = at_from old k low in
-      let old_to : bit_sum (bit_sums rows old) arc.to ≡ bit_sum old (row_of rows arc.to) = at_to old k low in
-      let new_to : bit_sum (bit_sums rows new) arc.to ≡ bit_sum new (row_of rows arc.to) = at_to new k low in
+      let old_from = at_from old k low in
+      let old_to = at_to old k low in
+      let new_to = at_to new k low in
       let from_high = h.high arc.from in
       let to_high = h.high arc.to in
       let delay = (in_design design order is_order kept course n is_course bits k low).max in
-      let delay_high = delay.1 in
-      let less = raised.kept in
-      let more = raised.raised in
       let limit = raised.limit (pos ((k + 1) * 1000000000)) (omega (arith, ints)) (omega (arith, ints)) in
       carried_more design.arcs order is_order k (bit_sums rows old) (bit_sums rows new) low h
       (moved_others n rows course.rows.bits.items is_course.rows.of_bits (bit_sum new) (bit_sum old) (pos 0) arc.to (to_in design order is_order kept course n is_course bits k low) raised.others)

@@ -48,11 +48,8 @@ module _ (design : Design) (order : List ℕ) (is_order : IsOrder design.arcs or
   paired_of j l None y from to h g = none_listed j (input_of l) h
   paired_of j l (Some x) None from to h g = let a = h.attained in g.bound a.0 a.1 a.2
   paired_of j l (Some x) (Some y) from to h g =
-      let ne : output_of j ≢ input_of l = odd_or_even j l in
+      let ne : output_of j ≢ input_of l = λ e. omega arith in
       record { from = from; to = to; greatest = greatest_delay_of j (input_of l) x ne h; least = least_delay_of j (input_of l) y ne g }
-    where
-      odd_or_even : (j l : ℕ) → 2 * j + 1 ≢ 2 * l
-      odd_or_even j l e = omega arith
 
   reached_of : (j bit : ℕ) (x : Option ℤ) → IsGreatestAmong design.arcs order (length order) (output_of j) bit x → IsReached design j bit x
   reached_of j bit None h = none_listed j bit h

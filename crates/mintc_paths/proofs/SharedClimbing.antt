@@ -1,6 +1,5 @@
 -- What holds from one place to a later one, step by step, and from one listed element to the next.
-use Rattle.std.proofs.Common.{◌≡◌, ◌≢◌, ◌<◌, ◌≤◌, ◌+◌, ◌-◌, ℕ, zero, suc, List, length, arith, ap, subst, ⊎_elim}
-use Rattle.std.proofs.lemmas.Bool.{cases_eq, cases_lt}
+use Rattle.std.proofs.Common.{◌≡◌, ◌≢◌, ◌<◌, ◌≤◌, ◌+◌, ◌-◌, ℕ, zero, suc, List, length, arith, subst}
 use Rattle.mintc_paths.specs.Found.{end_at}
 
 climb_by : (P : ℕ → Type 0) (d k : ℕ) → ((i : ℕ) → k ≤ i → i < k + d → P i → P (i + 1)) → P k → P (k + d)
@@ -25,12 +24,9 @@ module _ (n : ℕ) (ends : List ℕ) (ascending : (i k : ℕ) → i < k → k < 
   pub IsToEnd-more : (number : ℕ) → number < length ends → P (end_at ends number + 1) → IsToEnd P n ends (number + 1)
   IsToEnd-more number low h = record {
     place = end_at ends number + 1;
-    inside = let below = inside number low in omega arith;
-    before = λ i sooner. ⊎_elim
-        (λ (e : i ≡ number). let same = ap (end_at ends) e in omega arith)
-        (λ (ne : i ≢ number). let less = ascending i number (omega arith) low in omega arith)
-        (cases_eq i number);
-    after = λ i later below. let more = ascending number i (omega arith) below in omega arith;
+    inside = omega (arith, inside number low);
+    before = λ i sooner. grind (arith, ascending i number);
+    after = λ i later below. omega (arith, ascending number i (omega arith) below);
     holds = h;
   }
 
@@ -40,10 +36,7 @@ module _ (n : ℕ) (ends : List ℕ) (ascending : (i k : ℕ) → i < k → k < 
     up_to number end h some few after = climb P h.place end some (λ to high low. skip to (omega arith) (apart to high low)) h.holds
       where
         apart : (to : ℕ) → h.place ≤ to → to < end → (i : ℕ) → i < length ends → end_at ends i ≢ to
-        apart to high low i below e = ⊎_elim
-            (λ (sooner : i < number). let b = h.before i sooner in omega arith)
-            (λ (later : number ≤ i). let b = after i later below in omega arith)
-            (cases_lt i number)
+        apart to high low i below e = grind (arith, h.before i, after i)
 
     -- the end itself
     pub IsToEnd-at : (number : ℕ) → number < length ends → IsToEnd P n ends number → P (end_at ends number)
@@ -52,10 +45,7 @@ module _ (n : ℕ) (ends : List ℕ) (ascending : (i k : ℕ) → i < k → k < 
         up_to number (end_at ends number) h (h.after number (omega arith) low) (omega arith) at_or_after
       where
         at_or_after : (i : ℕ) → number ≤ i → i < length ends → end_at ends number ≤ end_at ends i
-        at_or_after i later below = ⊎_elim
-            (λ (e : i ≡ number). let same = ap (end_at ends) e in omega arith)
-            (λ (ne : i ≢ number). let more = ascending number i (omega arith) below in omega arith)
-            (cases_eq i number)
+        at_or_after i later below = grind (arith, ascending number i)
 
     -- past all ends
     pub IsToEnd-all : IsToEnd P n ends (length ends) → P n

@@ -1,5 +1,5 @@
 -- The pairs of a design, found one after another.
-use Rattle.std.proofs.Common.{◌≡◌, ◌≢◌, ℕ, zero, suc, ◌<◌, ◌≤◌, ◌+◌, ℤ, pos, ◌≤ℤ◌, List, [], ◌∷◌, ◌++◌, length, get_or, arith, refl, sym, ⊎_elim, Option, Some, None, subst}
+use Rattle.std.proofs.Common.{◌≡◌, ◌≢◌, ℕ, zero, suc, ◌<◌, ◌≤◌, ◌+◌, ℤ, pos, ◌≤ℤ◌, List, [], ◌∷◌, ◌++◌, length, get_or, arith, refl, ⊎_elim, Option, Some, None}
 use Rattle.std.specs.Int.{int_max, int_min}
 use Rattle.std.proofs.lemmas.Bool.{cases_eq}
 use Rattle.mintc_timing.specs.declared.parts.Pair.{Pair}
@@ -7,7 +7,6 @@ use Rattle.mintc_timing.specs.declared.parts.TimingArc.{TimingArc}
 use Rattle.mintc_timing.specs.Design.{Design}
 use Rattle.mintc_timing.specs.Order.{IsOrder}
 use Rattle.mintc_timing.specs.Paths.{arc_at, input_of, output_of}
-use Rattle.mintc_timing.proofs.SharedOrdered.{inside}
 use Rattle.mintc_lanes.specs.Lanes.{joined}
 use Rattle.mintc_paths.specs.Among.{IsBest, AtLeast, max_of, min_of}
 use Rattle.mintc_paths.specs.Found.{ArePairsBefore}
@@ -21,32 +20,24 @@ next : (k : ℕ) → k + 1 ≡ suc k
 next k = omega arith
 
 module _ (AtMost : ℤ → ℤ → Type 0) (choose : ℤ → ℤ → ℤ) (choice : IsChoiceBy AtMost choose) (weight : ℕ → ℤ) (arcs : List TimingArc) (order : List ℕ) (is_order : IsOrder arcs order) where
+  -- along one more arc
+  one_arc : (k : ℕ) → k < length order → (from to : ℕ) (x y : Option ℤ) → IsBest AtMost weight arcs order k from to x → IsBest AtMost weight arcs order k from (arc_at arcs (get_or order k 0)).from y →
+      (z : Option ℤ) × IsBest AtMost weight arcs order (k + 1) from to z
+  one_arc k low from to x y h g = ⊎_elim
+      (λ e. (joined choose x y (weight (get_or order k 0)), rw e (IsBest-joined AtMost choose choice weight arcs order is_order k from x y low (rw e at h) g)))
+      (λ ne. (x, IsBest-other AtMost choose choice weight arcs order is_order k from to x low ne h))
+      (cases_eq to (arc_at arcs (get_or order k 0)).to)
+
   -- there is a best sum, or no path
   best : (k : ℕ) → k ≤ length order → (from to : ℕ) → (x : Option ℤ) × IsBest AtMost weight arcs order k from to x
   best zero few from to = ⊎_elim
-      (λ (e : from ≡ to). (Some (pos 0), subst (λ (b : ℕ). IsBest AtMost weight arcs order 0 from b (Some (pos 0))) e (IsBest-here AtMost choose choice weight arcs order from)))
+      (λ (e : from ≡ to). (Some (pos 0), rw (← e) (IsBest-here AtMost choose choice weight arcs order from)))
       (λ (ne : from ≢ to). (None, IsBest-none AtMost choose choice weight arcs order from to ne))
       (cases_eq from to)
   best (suc k) few from to =
-      let low : k < length order = omega arith in
-      let n : ℕ = get_or order k 0 in
       let there = best k (omega arith) from to in
-      let here = best k (omega arith) from (arc_at arcs n).from in
-      ⊎_elim
-      (λ (e : to ≡ (arc_at arcs n).to).
-      let old = subst (λ (b : ℕ). IsBest AtMost weight arcs order k from b there.0) e there.1 in
-      let new : Option ℤ = joined choose there.0 here.0 (weight n) in (
-        new,
-        subst (λ (b : ℕ). IsBest AtMost weight arcs order (suc k) from b new) (sym e)
-            (subst (λ (m : ℕ). IsBest AtMost weight arcs order m from (arc_at arcs n).to new) (next k)
-            (IsBest-joined AtMost choose choice weight arcs order is_order k n from there.0 here.0 low refl (inside arcs order is_order k low) old here.1)),
-      ))
-      (λ (ne : to ≢ (arc_at arcs n).to). (
-        there.0,
-        subst (λ (m : ℕ). IsBest AtMost weight arcs order m from to there.0) (next k)
-            (IsBest-other AtMost choose choice weight arcs order is_order k from to there.0 low ne there.1),
-      ))
-      (cases_eq to (arc_at arcs n).to)
+      let here = best k (omega arith) from (arc_at arcs (get_or order k 0)).from in
+      rw (← next k) (one_arc k (omega arith) from to there.0 here.0 there.1 here.1)
 
 module _ (design : Design) (order : List ℕ) (is_order : IsOrder design.arcs order) where
   -- one more pair, if the two elements are one
@@ -67,15 +58,14 @@ module _ (design : Design) (order : List ℕ) (is_order : IsOrder design.arcs or
   from_one from from_in pairs before zero few = (pairs, before)
   from_one from from_in pairs before (suc to) few =
       let old = from_one from from_in pairs before to (omega arith) in
-      let new = one_more from to from_in (omega arith) old.0 old.1 in
-      (new.0, subst (λ (m : ℕ). ArePairsBefore design from m new.0) (next to) new.1)
+      rw (← next to) (one_more from to from_in (omega arith) old.0 old.1)
 
   from_all : (from : ℕ) → from ≤ length design.elements → (pairs : List Pair) × ArePairsBefore design from 0 pairs
   from_all zero few = ([], ArePairsBefore-none design)
   from_all (suc from) few =
       let old = from_all from (omega arith) in
       let row = from_one from (omega arith) old.0 old.1 (length design.elements) (omega arith) in
-      (row.0, subst (λ (m : ℕ). ArePairsBefore design m 0 row.0) (next from) (ArePairsBefore-next design from row.0 row.1))
+      (row.0, rw (← next from) (ArePairsBefore-next design from row.0 row.1))
 
 pub pairs_exist_lem : PairsExist
 pairs_exist_lem design order is_order =

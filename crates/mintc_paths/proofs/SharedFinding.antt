@@ -1,11 +1,11 @@
 -- One more pair.
-use Rattle.std.proofs.Common.{min, ◌≡◌, ◌≢◌, ℕ, ◌<◌, ◌≤◌, ◌+◌, ◌*◌, ℤ, List, [], ◌∷◌, ◌++◌, length, arith, refl, ap, ◌∙◌, sym, ◌⊎◌, inl, inr, ⊎_elim, subst, length-append, Option, Some, None}
+use Rattle.std.proofs.Common.{min, ◌≡◌, ◌≢◌, ℕ, ◌<◌, ◌≤◌, ◌+◌, ◌*◌, ℤ, List, [], ◌∷◌, ◌++◌, length, get_or, arith, refl, ap, ◌∙◌, sym, ◌⊎◌, inl, inr, ⊎_elim, subst, length-append, Option, Some, None}
 use Rattle.std.proofs.lemmas.List.{get_or_append_left, get_or_push}
 use Rattle.std.specs.Prelude.{Result, Ok, Err, OnOk}
 use Rattle.mintc_lanes.specs.Lanes.{lane_at}
 use Rattle.mintc_paths.specs.Reached.{IsPaired, IsPairedLane, pair_of}
 use Rattle.std.specs.List.{All, AllAdjacentBelow}
-use Rattle.std.proofs.lemmas.List.Elements.{All-push, All-weaker, Contains-append_left, Contains-push}
+use Rattle.std.proofs.lemmas.List.Elements.{All-push, Contains-append_left, Contains-push}
 use Rattle.mintc_timing.specs.declared.parts.Pair.{Pair}
 use Rattle.mintc_timing.specs.Design.{Design}
 use Rattle.mintc_timing.specs.Paths.{IsPath, input_of, HasExtremes, ComesBefore, ArePairs}
@@ -16,36 +16,23 @@ use Rattle.mintc_paths.specs.Sums.{sums_at, row_of, AreRows, placed}
 use Rattle.mintc_paths.specs.Found.{Precede, ArePairsBefore, HasPairs, IsFoundBefore, AreEnds, end_at}
 use Rattle.mintc_paths.proofs.Beginning.{none_at}
 use Rattle.mintc_paths.proofs.SharedClimbing.{IsToEnd, IsToEnd-at, IsToEnd-more, IsToEnd-all}
-use Rattle.mintc_paths.proofs.Rowing.{IsPaired-row}
-
-pub low_or_at : (i k : ℕ) → i < k + 1 → (i < k) ⊎ (i ≡ k)
-low_or_at i k h = grind arith
+use Rattle.mintc_paths.proofs.Rowing.{placed_at}
 
 Precede-more : (from to a b : ℕ) → Precede from to a b → Precede from (to + 1) a b
-Precede-more from to a b (inl h) = inl h
-Precede-more from to a b (inr h) = inr (h.0, omega (arith, h.1))
+Precede-more from to a b h = grind arith
 
 Precede-split : (from to a b : ℕ) → Precede from (to + 1) a b → Precede from to a b ⊎ ((a ≡ from) × (b ≡ to))
-Precede-split from to a b (inl h) = inl (inl h)
-Precede-split from to a b (inr h) = ⊎_elim (λ low. inl (inr (h.0, low))) (λ e. inr (h.0, e)) (low_or_at b to h.1)
+Precede-split from to a b h = grind arith
 
 Precede-next : (from n a b : ℕ) → Precede from n a b → Precede (from + 1) 0 a b
-Precede-next from n a b (inl h) = inl (omega arith)
-Precede-next from n a b (inr h) = inl (omega (arith, h.0))
+Precede-next from n a b h = grind arith
 
 Precede-last : (from n a b : ℕ) → b < n → Precede (from + 1) 0 a b → Precede from n a b
-Precede-last from n a b low (inl h) = ⊎_elim (λ less. inl less) (λ e. inr (e, low)) (low_or_at a from h)
-Precede-last from n a b low (inr h) = absurd (omega (arith, h.1))
+Precede-last from n a b low h = grind arith
 
 -- a list that ascends, with one more item that comes after its last
 ascending_push : {X : Type 0} (R : X → X → Type 0) (xs : List X) (x : X) → AllAdjacentBelow R xs (length xs) → All (λ y. R y x) xs → AllAdjacentBelow R (xs ++ x ∷ []) (length (xs ++ x ∷ []))
-ascending_push {X} R xs x h g k d below =
-    let count : length (xs ++ x ∷ []) ≡ length xs + 1 = length-append xs (x ∷ []) in
-    let inside : k < length xs = omega arith in
-    ⊎_elim
-    (λ (low : k + 1 < length xs). rw (get_or_append_left xs (x ∷ []) d k inside, get_or_append_left xs (x ∷ []) d (k + 1) low) (h k d low))
-    (λ (e : k + 1 ≡ length xs). rw (get_or_append_left xs (x ∷ []) d k inside, get_or_push xs x d (k + 1) (sym e)) (g k d inside))
-    (low_or_at (k + 1) (length xs) (omega arith))
+ascending_push {X} R xs x h g k d below = grind (arith, length-append, get_or_append_left, get_or_push, h k d, g k d)
 
 pub ArePairsBefore-none : (design : Design) → ArePairsBefore design 0 0 []
 ArePairsBefore-none design = record {
@@ -56,15 +43,14 @@ ArePairsBefore-none design = record {
 }
   where
     none : (j l : ℕ) → Precede 0 0 j l → ⊥
-    none j l (inl h) = omega arith
-    none j l (inr h) = omega (arith, h.1)
+    none j l h = grind arith
 
 module _ (design : Design) (from to : ℕ) (pairs : List Pair) (h : ArePairsBefore design from to pairs) where
   pub ArePairsBefore-skip : ((path : List ℕ) → IsPath design.arcs from path (input_of to) → ⊥) → ArePairsBefore design from (to + 1) pairs
   ArePairsBefore-skip none = record {
     each = h.each;
     ascending = h.ascending;
-    earlier = All-weaker (λ (p : Pair). Precede from to p.from p.to) (λ (p : Pair). Precede from (to + 1) p.from p.to) (λ p g. Precede-more from to p.from p.to g) pairs h.earlier;
+    earlier = λ k d low. Precede-more from to (get_or pairs k d).from (get_or pairs k d).to (h.earlier k d low);
     whole = λ j l path g below is. ⊎_elim (λ old. h.whole j l path old below is)
         (λ new. absurd (none path (subst (λ b. IsPath design.arcs from path (input_of b)) new.1 (subst (λ a. IsPath design.arcs a path (input_of l)) new.0 is))))
         (Precede-split from to j l g);
@@ -73,11 +59,8 @@ module _ (design : Design) (from to : ℕ) (pairs : List Pair) (h : ArePairsBefo
   pub ArePairsBefore-push : (pair : Pair) → HasExtremes design pair → pair.from ≡ from → pair.to ≡ to → ArePairsBefore design from (to + 1) (pairs ++ pair ∷ [])
   ArePairsBefore-push pair extremes is_from is_to = record {
     each = All-push (HasExtremes design) pairs pair h.each extremes;
-    ascending = ascending_push ComesBefore pairs pair h.ascending
-        (All-weaker (λ (p : Pair). Precede from to p.from p.to) (λ p. ComesBefore p pair) comes_before pairs h.earlier);
-    earlier = All-push (λ (p : Pair). Precede from (to + 1) p.from p.to) pairs pair
-        (All-weaker (λ (p : Pair). Precede from to p.from p.to) (λ (p : Pair). Precede from (to + 1) p.from p.to) (λ p g. Precede-more from to p.from p.to g) pairs h.earlier)
-        (inr (is_from, omega arith));
+    ascending = ascending_push ComesBefore pairs pair h.ascending (λ k d low. comes_before (get_or pairs k d) (h.earlier k d low));
+    earlier = All-push (λ (p : Pair). Precede from (to + 1) p.from p.to) pairs pair (λ k d low. Precede-more from to (get_or pairs k d).from (get_or pairs k d).to (h.earlier k d low)) (inr (is_from, omega arith));
     whole = λ j l path g below is. ⊎_elim
         (λ old. let found = h.whole j l path old below is in (found.0, Contains-append_left pairs (pair ∷ []) found.0 found.1, found.2, found.3))
         (λ new. (pair, Contains-push pairs pair, is_from ∙ sym new.0, is_to ∙ sym new.1))
@@ -85,14 +68,13 @@ module _ (design : Design) (from to : ℕ) (pairs : List Pair) (h : ArePairsBefo
   }
     where
       comes_before : (p : Pair) → Precede from to p.from p.to → ComesBefore p pair
-      comes_before p (inl g) = inl (omega arith)
-      comes_before p (inr g) = inr (g.0 ∙ sym is_from, omega (arith, g.1))
+      comes_before p g = grind arith
 
 pub ArePairsBefore-next : (design : Design) (from : ℕ) (pairs : List Pair) → ArePairsBefore design from (length design.elements) pairs → ArePairsBefore design (from + 1) 0 pairs
 ArePairsBefore-next design from pairs h = record {
   each = h.each;
   ascending = h.ascending;
-  earlier = All-weaker (λ (p : Pair). Precede from (length design.elements) p.from p.to) (λ (p : Pair). Precede (from + 1) 0 p.from p.to) (λ p g. Precede-next from (length design.elements) p.from p.to g) pairs h.earlier;
+  earlier = λ k d low. Precede-next from (length design.elements) (get_or pairs k d).from (get_or pairs k d).to (h.earlier k d low);
   whole = λ j l path g below is. h.whole j l path (Precede-last from (length design.elements) j l below g) below is;
 }
 
@@ -106,16 +88,13 @@ ArePairs-from_before design pairs h = record {
 pub HasPairs-push : (old new : Found) (pairs : List Pair) (pair : Pair) → HasPairs old pairs → new.count ≡ old.count + 1 →
     (old.count < 200000 → new.pairs.items ≡ old.pairs.items ++ pair ∷ []) → HasPairs new (pairs ++ pair ∷ [])
 HasPairs-push old new pairs pair h count kept = record {
-  count = let e = h.count in omega (arith, length-append pairs (pair ∷ []));
-  kept = λ few.
-      let n = length-append pairs (pair ∷ []) in
-      let e = h.count in
-      kept (omega arith) ∙ ap (λ xs. xs ++ pair ∷ []) (h.kept (omega arith));
+  count = omega (arith, length-append pairs (pair ∷ []));
+  kept = λ few. let n = length-append pairs (pair ∷ []) in kept (omega arith) ∙ ap (λ xs. xs ++ pair ∷ []) (h.kept (omega arith));
 }
 
 pub IsFoundBefore-skip : (design : Design) (from to : ℕ) (found : Found) → ((path : List ℕ) → IsPath design.arcs from path (input_of to) → ⊥) →
     IsFoundBefore design from to found → IsFoundBefore design from (to + 1) found
-IsFoundBefore-skip design from to found none h = let few = h.few in record {
+IsFoundBefore-skip design from to found none h = record {
   pairs = h.pairs;
   are_pairs = ArePairsBefore-skip design from to h.pairs h.are_pairs none;
   has_pairs = h.has_pairs;
@@ -124,65 +103,27 @@ IsFoundBefore-skip design from to found none h = let few = h.few in record {
 
 pub IsFoundBefore-push : (design : Design) (from to : ℕ) (old new : Found) (pair : Pair) → HasExtremes design pair → pair.from ≡ from → pair.to ≡ to → new.count ≡ old.count + 1 →
     (old.count < 200000 → new.pairs.items ≡ old.pairs.items ++ pair ∷ []) → IsFoundBefore design from to old → IsFoundBefore design from (to + 1) new
-IsFoundBefore-push design from to old new pair extremes is_from is_to count kept h = let few = h.few in record {
+IsFoundBefore-push design from to old new pair extremes is_from is_to count kept h = record {
   pairs = h.pairs ++ pair ∷ [];
   are_pairs = ArePairsBefore-push design from to h.pairs h.are_pairs pair extremes is_from is_to;
   has_pairs = HasPairs-push old new h.pairs pair h.has_pairs count kept;
   few = omega (arith, length-append h.pairs (pair ∷ []));
 }
 
-pub IsFoundBefore-next : (design : Design) (from to : ℕ) (found : Found) → to ≡ length design.elements → length design.elements ≤ 2000 → IsFoundBefore design from to found → IsFoundBefore design (from + 1) 0 found
-IsFoundBefore-next design from to found end limit h = let few = h.few in record {
-  pairs = h.pairs;
-  are_pairs = ArePairsBefore-next design from h.pairs (subst (λ n. ArePairsBefore design from n h.pairs) end h.are_pairs);
-  has_pairs = h.has_pairs;
-  few = omega arith;
-}
-
--- what two lanes say
-none_of : (design : Design) (j l : ℕ) (x y : Option ℤ) → x ≡ None → IsPaired design j l x y → (path : List ℕ) → IsPath design.arcs j path (input_of l) → ⊥
-none_of design j l x y e h = subst (λ o. IsPaired design j l o y) e h
-
-extremes_of : (design : Design) (j l : ℕ) (x y : Option ℤ) (max min : ℤ) → x ≡ Some max → y ≡ Some min → IsPaired design j l x y → HasExtremes design (pair_of j l min max)
-extremes_of design j l x y max min e f h = subst (λ o. IsPaired design j l (Some max) o) f (subst (λ o. IsPaired design j l o y) e h)
+pub IsFoundBefore-next : (design : Design) (from : ℕ) (found : Found) → length design.elements ≤ 2000 → IsFoundBefore design from (length design.elements) found → IsFoundBefore design (from + 1) 0 found
+IsFoundBefore-next design from found limit h = record { pairs = h.pairs; are_pairs = ArePairsBefore-next design from h.pairs h.are_pairs; has_pairs = h.has_pairs; few = omega arith }
 
 -- what a call of add_at leaves
 abbrev pub IsAdded : ℕ → ℕ → Option ℤ → Option ℤ → Found → Found → Type 0
 IsAdded from to max min old new = (design : Design) → IsPaired design from to max min → IsFoundBefore design from to old → IsFoundBefore design from (to + 1) new
 
-pub IsAdded-none : (from to : ℕ) (x y : Option ℤ) (found : Found) → x ≡ None → IsAdded from to x y found found
-IsAdded-none from to x y found e = λ design paired h. IsFoundBefore-skip design from to found (none_of design from to x y e paired) h
+pub IsAdded_none : (from to : ℕ) (x y : Option ℤ) (found : Found) → x ≡ None → IsAdded from to x y found found
+IsAdded_none from to x y found e = λ design paired h. IsFoundBefore-skip design from to found (rw e at paired) h
 
-pub IsAdded-some : {T E : Type 0} (r : Result T E) (from to : ℕ) (x y : Option ℤ) (max min max' min' : ℤ) (old new : Found) → x ≡ Some max → y ≡ Some min → max' ≡ max → min' ≡ min → OnOk r (new.count ≡ old.count + 1) →
-    OnOk r (old.count < 200000 → new.pairs.items ≡ old.pairs.items ++ pair_of from to min' max' ∷ []) → OnOk r (IsAdded from to x y old new)
-IsAdded-some (Ok v) from to x y max min max' min' old new e f same_max same_min count kept = λ design paired h.
-    IsFoundBefore-push design from to old new (pair_of from to min' max')
-    (extremes_of design from to x y max' min' (e ∙ ap Some (sym same_max)) (f ∙ ap Some (sym same_min)) paired) refl refl count kept h
-IsAdded-some (Err v) from to x y max min max' min' old new e f same_max same_min count kept = kept
-
--- what is found in the end
-pub pairs_found : (design : Design) (found : Found) → IsFoundBefore design (length design.elements) 0 found → found.count ≤ 200000 → ArePairs design found.pairs.items
-pairs_found design found h few =
-    let count = h.has_pairs.count in
-    subst (λ ps. ArePairs design ps) (sym (h.has_pairs.kept (omega arith))) (ArePairs-from_before design h.pairs h.are_pairs)
-
-pub few_found : (design : Design) (found : Found) → IsFoundBefore design (length design.elements) 0 found → found.count ≤ 200000 → length found.pairs.items ≤ 200000
-few_found design found h few =
-    let count = h.has_pairs.count in
-    let same : length found.pairs.items ≡ length h.pairs = ap (λ (ps : List Pair). length ps) (h.has_pairs.kept (omega arith)) in
-    omega arith
-
-pub many_found : (design : Design) (found : Found) → IsFoundBefore design (length design.elements) 0 found → 200000 < found.count → found.count ≤ 4000000 →
-    (pairs : List Pair) × ArePairs design pairs × (200000 < length pairs) × (found.count ≡ min (length pairs) 1000000000)
-many_found design found h many few =
-    let count = h.has_pairs.count in
-    (h.pairs, ArePairs-from_before design h.pairs h.are_pairs, omega arith, omega arith)
-
-pub count_found : (design : Design) (n : ℕ) (found : Found) → n ≤ 2000 → IsFoundBefore design n 0 found → found.count ≤ 4000000
-count_found design n found limit h =
-    let count = h.has_pairs.count in
-    let few = h.few in
-    omega arith
+pub IsAdded_some : {T E : Type 0} (r : Result T E) (from to : ℕ) (x y : Option ℤ) (max min : ℤ) (old new : Found) → x ≡ Some max → y ≡ Some min → OnOk r (new.count ≡ old.count + 1) →
+    OnOk r (old.count < 200000 → new.pairs.items ≡ old.pairs.items ++ pair_of from to min max ∷ []) → OnOk r (IsAdded from to x y old new)
+IsAdded_some (Ok v) from to x y max min old new e f count kept = λ design paired h. IsFoundBefore-push design from to old new (pair_of from to min max) (rw (e, f) at paired) refl refl count kept h
+IsAdded_some (Err v) from to x y max min old new e f count kept = kept
 
 -- What is found are the pairs before some element, which comes after the ends before this one and not after this one.
 abbrev pub IsFoundToEnd : Design → ℕ → List ℕ → ℕ → Found → Type 0
@@ -191,27 +132,27 @@ IsFoundToEnd design from ends number found = IsToEnd (λ to. IsFoundBefore desig
 module _ (design : Design) (rows : Rows) (sums : List Sums) (ends : List ℕ) (are : AreRows (length sums) rows) (bits : 2 * length design.elements ≤ length sums)
     (are_ends : AreEnds rows.of_bits.items sums (length design.elements) ends) (from lane : ℕ) (low : lane < 8)
     (paired : IsPairedLane design (placed rows.of_bits.items sums) from lane) where
-  pub paired_at : (to : ℕ) → to < length design.elements →
+  paired_at : (to : ℕ) → to < length design.elements →
       IsPaired design from to (lane_at (sums_at sums (row_of rows.of_bits.items (input_of to))).greatest lane) (lane_at (sums_at sums (row_of rows.of_bits.items (input_of to))).least lane)
-  paired_at to below = IsPaired-row design (length sums) rows are sums from to lane (omega arith) (paired to below)
+  paired_at to below = rw (placed_at rows.of_bits.items sums (input_of to) (omega (arith, are.of_bits.count))) at (paired to below)
 
   none_between : (to : ℕ) → to < length design.elements → ((i : ℕ) → i < length ends → end_at ends i ≢ to) → (path : List ℕ) → IsPath design.arcs from path (input_of to) → ⊥
   none_between to below apart =
-      let row : ℕ = row_of rows.of_bits.items (input_of to) in
-      none_of design from to (lane_at (sums_at sums row).greatest lane) (lane_at (sums_at sums row).least lane)
-      (ap (λ (s : Sums). lane_at s.greatest lane) (are_ends.others to below apart) ∙ (none_at lane low).0) (paired_at to below)
+      let none = ap (λ (s : Sums). lane_at s.greatest lane) (are_ends.others to below apart) ∙ (none_at lane low).0 in
+      rw none at (paired_at to below)
 
   skip : (found : Found) (to : ℕ) → to < length design.elements → ((i : ℕ) → i < length ends → end_at ends i ≢ to) → IsFoundBefore design from to found → IsFoundBefore design from (to + 1) found
   skip found to below apart = IsFoundBefore-skip design from to found (none_between to below apart)
 
-  -- the end itself
-  pub IsFoundToEnd-at : (number : ℕ) (found : Found) → number < length ends → IsFoundToEnd design from ends number found → IsFoundBefore design from (end_at ends number) found
-  IsFoundToEnd-at number found = IsToEnd-at (length design.elements) ends are_ends.ascending are_ends.inside (λ to. IsFoundBefore design from to found) (skip found) number
-
-  pub IsFoundToEnd-more : (number : ℕ) (found : Found) → number < length ends → IsFoundBefore design from (end_at ends number + 1) found → IsFoundToEnd design from ends (number + 1) found
-  IsFoundToEnd-more number found = IsToEnd-more (length design.elements) ends are_ends.ascending are_ends.inside (λ to. IsFoundBefore design from to found) number
+  -- a call of add_at for the end itself
+  pub IsFoundToEnd-more : (number : ℕ) (old new : Found) → number < length ends →
+      IsAdded from (end_at ends number) (lane_at (sums_at sums (row_of rows.of_bits.items (input_of (end_at ends number)))).greatest lane) (lane_at (sums_at sums (row_of rows.of_bits.items (input_of (end_at ends number)))).least lane) old new →
+      IsFoundToEnd design from ends number old → IsFoundToEnd design from ends (number + 1) new
+  IsFoundToEnd-more number old new low added h =
+      let before = IsToEnd-at (length design.elements) ends are_ends.ascending are_ends.inside (λ to. IsFoundBefore design from to old) (skip old) number low h in
+      IsToEnd-more (length design.elements) ends are_ends.ascending are_ends.inside (λ to. IsFoundBefore design from to new) number low (added design (paired_at (end_at ends number) (are_ends.inside number low)) before)
 
   pub IsFoundToEnd-next : (found : Found) → length design.elements ≤ 2000 → IsFoundToEnd design from ends (length ends) found → IsFoundBefore design (from + 1) 0 found
   IsFoundToEnd-next found limit h =
-      IsFoundBefore-next design from (length design.elements) found refl limit
+      IsFoundBefore-next design from found limit
       (IsToEnd-all (length design.elements) ends are_ends.ascending are_ends.inside (λ to. IsFoundBefore design from to found) (skip found) h)

@@ -1,12 +1,12 @@
 -- Arcs that leave no row that is reached change no sums.
-use Rattle.std.proofs.Common.{◌≡◌, ◌≢◌, ℕ, ◌<◌, ◌≤◌, ◌+◌, ◌*◌, min, ℤ, Bool, true, false, List, length, get_or, arith, refl, ap, ◌∙◌, sym, Option, Some, None, subst}
+use Rattle.std.proofs.Common.{◌≡◌, ℕ, ◌<◌, ◌≤◌, ◌+◌, ◌*◌, min, ℤ, Bool, true, false, List, length, get_or, arith, refl, ap, ◌∙◌, sym, Option, Some, None, subst}
 use Rattle.std.specs.Int.{int_max, int_min}
 use Rattle.mintc_timing.specs.declared.parts.TimingArc.{TimingArc}
 use Rattle.mintc_timing.specs.Design.{Design}
 use Rattle.mintc_timing.specs.Limits.{IsArc, IsDelay, IsDesign}
 use Rattle.mintc_timing.specs.Order.{IsOrder}
 use Rattle.mintc_timing.specs.Paths.{arc_at}
-use Rattle.mintc_timing.proofs.SharedOrdered.{apart, inside}
+use Rattle.mintc_timing.proofs.SharedOrdered.{inside}
 use Rattle.mintc_lanes.specs.Lanes.{lane_at, joined, AreJoined}
 use Rattle.mintc_places.specs.Places.{IsIn}
 use Rattle.mintc_paths.specs.Awake.{IsAwake}
@@ -14,11 +14,11 @@ use Rattle.mintc_paths.specs.declared.awake.Awake.{Awake}
 use Rattle.mintc_paths.specs.declared.rows.Course.{Course}
 use Rattle.mintc_paths.specs.declared.sums.Sums.{Sums}
 use Rattle.mintc_paths.specs.declared.sums.TheConstants.{NO_SUMS}
-use Rattle.mintc_paths.specs.Sums.{sums_at, row_of, placed, moved, IsAlike, IsBounded, IsCourse, AreMarked, AreSums}
+use Rattle.mintc_paths.specs.Sums.{sums_at, placed, moved, IsAlike, IsBounded, IsCourse, AreMarked, AreSums}
 use Rattle.mintc_paths.proofs.Beginning.{none_at}
 use Rattle.mintc_paths.proofs.SharedClimbing.{climb}
 use Rattle.mintc_paths.proofs.Filling.{IsBounded-weaker, IsCarried, AreSums-more, arc_inside}
-use Rattle.mintc_paths.proofs.Rowing.{length-placed, alike_row, bounded_row, IsCarried-placed}
+use Rattle.mintc_paths.proofs.Rowing.{length-placed, alike_each, bounded_each, IsCarried-placed}
 
 -- a lane that gets nothing stays
 joined_absent : (choose : ℤ → ℤ → ℤ) (x y : Option ℤ) (w : ℤ) → y ≡ None → x ≡ joined choose x y w
@@ -54,6 +54,12 @@ carried_none arc sums none = record {
   bounded = λ most from to. IsBounded-weaker most (most + 1000000000) (sums_at sums arc.to) (omega arith) to;
 }
 
+-- The sums in the rows that an arc leaves and enters are small, and a lane with no greatest one leaves no least one.
+pub record IsSmallAt (sums : List Sums) (arc : TimingArc) : Type 0 where
+  pub from : IsBounded 1000000000000000 (sums_at sums arc.from)
+  pub to : IsBounded 1000000000000000 (sums_at sums arc.to)
+  pub alike : IsAlike (sums_at sums arc.from)
+
 module _ (design : Design) (order : List ℕ) (is_order : IsOrder design.arcs order) (kept : IsDesign design) (course : Course) (n : ℕ) (is_course : IsCourse n design.arcs order course)
     (bits : n ≡ 2 * length design.elements + length design.inner) where
   -- the arc of the design at a place of the order
@@ -64,10 +70,10 @@ module _ (design : Design) (order : List ℕ) (is_order : IsOrder design.arcs or
   in_design i low = arc_inside design.arcs order is_order (length design.elements) (length design.inner) kept.each_arc i low
 
   pub from_in : (i : ℕ) → i < length order → (arc_of i).from < n
-  from_in i low = let a = (in_design i low).from in omega arith
+  from_in i low = omega (arith, in_design i low)
 
   pub to_in : (i : ℕ) → i < length order → (arc_of i).to < n
-  to_in i low = let a = (in_design i low).to in omega arith
+  to_in i low = omega (arith, in_design i low)
 
   -- The rows that the arc at a place leaves and enters are two.
   pub row_in : (i : ℕ) → i < length order → (arc_at course.along.items i).from < n
@@ -76,41 +82,26 @@ module _ (design : Design) (order : List ℕ) (is_order : IsOrder design.arcs or
   pub row_to_in : (i : ℕ) → i < length order → (arc_at course.along.items i).to < n
   row_to_in i low = subst (λ (x : TimingArc). x.to < n) (sym (is_course.along.each i low)) (is_course.rows.of_bits.inside (arc_of i).to (to_in i low))
 
-  pub apart_rows : (i : ℕ) → i < length order → (arc_at course.along.items i).from ≢ (arc_at course.along.items i).to
-  apart_rows i low = subst (λ (x : TimingArc). x.from ≢ x.to) (sym (is_course.along.each i low))
-      (λ e. apart design.arcs order is_order (get_or order i 0) (inside design.arcs order is_order i low)
-      (sym (is_course.rows.of_bits.leads (arc_of i).from (from_in i low)) ∙ ap (row_of course.rows.bits.items) e ∙ is_course.rows.of_bits.leads (arc_of i).to (to_in i low)))
-
-  pub min_in : (i : ℕ) → i < length order → IsDelay (arc_at course.along.items i).min
-  min_in i low = subst (λ (x : TimingArc). IsDelay x.min) (sym (is_course.along.each i low)) (in_design i low).min
-
   pub max_in : (i : ℕ) → i < length order → IsDelay (arc_at course.along.items i).max
   max_in i low = subst (λ (x : TimingArc). IsDelay x.max) (sym (is_course.along.each i low)) (in_design i low).max
 
   pub few_arcs : (i : ℕ) → i < length order → i * 1000000000 ≤ 1000000000000000
-  few_arcs i low = let count = is_order.count in let most = kept.arcs in omega arith
+  few_arcs i low = omega (arith, is_order.count)
 
   module _ (first lanes : ℕ) (few : lanes ≤ 8) (sums : List Sums) (count : length sums ≡ n) where
     abbrev rows : List ℕ
     rows = course.rows.of_bits.items
 
-    -- the row that the arc at a place leaves
-    abbrev left : ℕ → ℕ
-    left i = (arc_at course.along.items i).from
-
-    pub from_bounded : (i : ℕ) → i < length order → AreSums design.arcs order i first lanes (placed rows sums) → IsBounded 1000000000000000 (sums_at sums (left i))
-    from_bounded i low h = subst (λ (x : TimingArc). IsBounded 1000000000000000 (sums_at sums x.from)) (sym (is_course.along.each i low))
-        (IsBounded-weaker (i * 1000000000) 1000000000000000 (sums_at sums (row_of rows (arc_of i).from)) (few_arcs i low)
-        (bounded_row design.arcs order i first lanes n course.rows is_course.rows sums h (arc_of i).from (from_in i low)))
-
-    pub to_bounded : (i : ℕ) → i < length order → AreSums design.arcs order i first lanes (placed rows sums) → IsBounded 1000000000000000 (sums_at sums (arc_at course.along.items i).to)
-    to_bounded i low h = subst (λ (x : TimingArc). IsBounded 1000000000000000 (sums_at sums x.to)) (sym (is_course.along.each i low))
-        (IsBounded-weaker (i * 1000000000) 1000000000000000 (sums_at sums (row_of rows (arc_of i).to)) (few_arcs i low)
-        (bounded_row design.arcs order i first lanes n course.rows is_course.rows sums h (arc_of i).to (to_in i low)))
-
-    pub from_alike : (i : ℕ) → i < length order → AreSums design.arcs order i first lanes (placed rows sums) → IsAlike (sums_at sums (left i))
-    from_alike i low h = subst (λ (x : TimingArc). IsAlike (sums_at sums x.from)) (sym (is_course.along.each i low))
-        (alike_row design.arcs order i first lanes n course.rows is_course.rows sums h (arc_of i).from (from_in i low))
+    -- what `carry` asks of the sums in the rows that the arc at a place leaves and enters
+    pub ends_small : (i : ℕ) → i < length order → AreSums design.arcs order i first lanes (placed rows sums) → IsSmallAt sums (arc_at course.along.items i)
+    ends_small i low h =
+        let small = λ (row : ℕ) (below : row < n).
+        IsBounded-weaker (i * 1000000000) 1000000000000000 (sums_at sums row) (few_arcs i low) (bounded_each design.arcs order i first lanes n course.rows is_course.rows sums h row below) in
+        record {
+          from = small (arc_at course.along.items i).from (row_in i low);
+          to = small (arc_at course.along.items i).to (row_to_in i low);
+          alike = alike_each design.arcs order i first lanes n course.rows is_course.rows sums h (arc_at course.along.items i).from (row_in i low);
+        }
 
     -- one more arc is carried along
     pub carried_along : (new : List Sums) → length new ≡ length sums → (i : ℕ) → i < length order → IsCarried (arc_at course.along.items i) sums new →
@@ -121,10 +112,7 @@ module _ (design : Design) (order : List ℕ) (is_order : IsOrder design.arcs or
         let before = length-placed rows sums in
         let after = length-placed rows new in
         let of = is_course.rows.of_bits.count in
-        let a = from_in i low in
-        let b = to_in i low in
-        AreSums-more design.arcs order is_order i (get_or order i 0) first lanes (placed rows sums) (placed rows new) (omega arith) low refl (inside design.arcs order is_order i low)
-        (omega arith) (omega arith) few done.others done.greatest done.least done.bounded h
+        AreSums-more design.arcs order is_order i first lanes (placed rows sums) (placed rows new) (omega arith) low (omega (arith, from_in i low)) (omega (arith, to_in i low)) few done h
 
     module _ (reached : List Bool) (marked : AreMarked sums reached) where
       -- Where none is awake from one place on and before the next, no arc there leaves a row that is reached.
@@ -135,7 +123,6 @@ module _ (design : Design) (order : List ℕ) (is_order : IsOrder design.arcs or
         where
           step : (i : ℕ) → k ≤ i → i < min next (length order) → AreSums design.arcs order i first lanes (placed rows sums) → AreSums design.arcs order (i + 1) first lanes (placed rows sums)
           step i from below =
-              let all = is_course.along.count in
-              let inside = row_in i (omega arith) in
-              let off = not_on (get_or reached (left i) false) (λ on. none i from (omega arith) (is_awake.each i from (omega arith) on)) in
-              carried_along sums refl i (omega arith) (carried_none (arc_at course.along.items i) sums (marked.none (left i) (omega arith) off))
+              let left : ℕ = (arc_at course.along.items i).from in
+              let off = not_on (get_or reached left false) (λ on. none i from (omega arith) (is_awake.each i from (omega arith) on)) in
+              carried_along sums refl i (omega arith) (carried_none (arc_at course.along.items i) sums (marked.none left (omega (arith, row_in i (omega arith))) off))

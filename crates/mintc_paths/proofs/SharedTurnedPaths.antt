@@ -1,6 +1,5 @@
 -- A design turned round has the same paths, from the back.
-use Rattle.std.proofs.Common.{◌≡◌, ◌≢◌, ℕ, ◌<◌, ◌+◌, ◌-◌, ◌*◌, ℤ, ◌≤ℤ◌, pos, List, [], ◌∷◌, ◌++◌, length, get_or, reverse, arith, refl, ap, ◌∙◌, sym, subst, ⊎_elim}
-use Rattle.std.proofs.lemmas.Bool.{cases_lt}
+use Rattle.std.proofs.Common.{◌≡◌, ◌≢◌, ℕ, ◌<◌, ◌+◌, ◌-◌, ◌*◌, ℤ, ◌≤ℤ◌, pos, List, [], ◌∷◌, ◌++◌, length, get_or, reverse, arith, refl, ap, ◌∙◌, sym, subst}
 use Rattle.std.proofs.lemmas.Int.{ints}
 use Rattle.std.proofs.lemmas.List.{get_or-map, get_or_past, get_or-reverse, length-reverse, reverse-append}
 use Rattle.std.proofs.lemmas.List.Sorted.{Contains-permutation, IsPermutation-reverse}
@@ -19,25 +18,22 @@ use Rattle.mintc_timing.specs.Order.{ArePathsShort}
 use Rattle.mintc_paths.specs.Longest.{AreRunsShort}
 use Rattle.mintc_paths.specs.Sums.{row_of, LeadsBack}
 use Rattle.mintc_paths.specs.Turned.{turned_bit, bit_before, turned_arc, turned_arcs, turned_design, pair_back}
-use Rattle.mintc_paths.proofs.Turning.{IsBit, input, output, inner, is_bit, turned_input, turned_output, turned_inner, turned_below, turned_before, turned_apart}
+use Rattle.mintc_paths.proofs.Turning.{before_input, before_output, before_turned, turned_input, turned_output, turned_below, turned_before, turned_apart}
 
 reverse_cons : (n : ℕ) (path : List ℕ) → reverse (n ∷ path) ≡ reverse path ++ n ∷ []
 reverse_cons n path = reverse-append (n ∷ []) path
 
 total-reverse : (weight : ℕ → ℤ) (path : List ℕ) → total weight (reverse path) ≡ total weight path
 total-reverse weight [] = refl
-total-reverse weight (n ∷ path) =
-    let rest = total-reverse weight path in
-    let more = ap (total weight) (reverse_cons n path) ∙ total-push weight (reverse path) n in
-    omega (arith, ints)
+total-reverse weight (n ∷ path) = omega (arith, ints, total-reverse weight path, ap (total weight) (reverse_cons n path) ∙ total-push weight (reverse path) n)
 
 total-alike : (f g : ℕ → ℤ) (path : List ℕ) → ((n : ℕ) → f n ≡ g n) → total f path ≡ total g path
 total-alike f g [] same = refl
-total-alike f g (n ∷ path) same = let here = same n in let rest = total-alike f g path same in omega (arith, ints)
+total-alike f g (n ∷ path) same = omega (arith, ints, same n, total-alike f g path same)
 
 some-reverse : (path : List ℕ) → path ≢ [] → reverse path ≢ []
 some-reverse [] some e = some refl
-some-reverse (n ∷ path) some e = let same = length-reverse (n ∷ path) in let none = ap (λ (xs : List ℕ). length xs) e in absurd (omega arith)
+some-reverse (n ∷ path) some e = absurd (omega (arith, length-reverse (n ∷ path), ap (λ (xs : List ℕ). length xs) e))
 
 module _ (n m : ℕ) (places elements : List ℕ) (there : LeadsBack n places elements) (back : LeadsBack n elements places) (arcs : List TimingArc)
     (each : All (IsArc n m) arcs) where
@@ -55,19 +51,16 @@ module _ (n m : ℕ) (places elements : List ℕ) (there : LeadsBack n places el
 
   -- what the turning leaves of an arc
   same_turned : (of : TimingArc → ℤ) → ((arc : TimingArc) → of (turned_arc n places arc) ≡ of arc) → (k : ℕ) → of (arc_at turned k) ≡ of (arc_at arcs k)
-  same_turned of kept k = ⊎_elim (λ low. ap of (arc_turned k low) ∙ kept (arc_at arcs k))
-      (λ high. ap of (get_or_past turned k no_arc (omega (arith, count_turned)) ∙ sym (get_or_past arcs k no_arc high)))
-      (cases_lt k (length arcs))
+  same_turned of kept k = grind (arith, arc_turned, kept, get_or_past, count_turned)
 
   -- A path of the one is a path of the other, from the back.
   pub Leads-forth : (from to : ℕ) (path : List ℕ) → Leads arcs from path to → Leads turned (goes to) (reverse path) (goes from)
   Leads-forth from to [] h = ap goes (sym h)
   Leads-forth from to (k ∷ path) h =
       let is = arc_turned k h.0 in
-      let rest = Leads-forth (arc_at arcs k).to to path h.2 in
-      let more = Leads-push turned (goes to) (reverse path) k (omega (arith, count_turned, h.0)) (subst (λ b. Leads turned (goes to) (reverse path) b) (sym (ap (λ (a : TimingArc). a.from) is)) rest) in
-      let ends = subst (λ b. Leads turned (goes to) (reverse path ++ k ∷ []) b) (ap (λ (a : TimingArc). a.to) is ∙ ap goes h.1) more in
-      subst (λ xs. Leads turned (goes to) xs (goes from)) (sym (reverse_cons k path)) ends
+      let rest : Leads turned (goes to) (reverse path) (arc_at turned k).from = rw is (Leads-forth (arc_at arcs k).to to path h.2) in
+      let ends : goes from ≡ (arc_at turned k).to = rw (is, h.1) refl in
+      rw (reverse_cons k path, ends) (Leads-push turned (goes to) (reverse path) k (omega (arith, count_turned, h.0)) rest)
 
   pub Leads-back : (from to : ℕ) (path : List ℕ) → Leads turned (goes to) path (goes from) → Leads arcs from (reverse path) to
   Leads-back from to [] h = turned_apart n places elements there back from to (sym h)
@@ -75,30 +68,19 @@ module _ (n m : ℕ) (places elements : List ℕ) (there : LeadsBack n places el
       let low : k < length arcs = omega (arith, count_turned, h.0) in
       let is = arc_turned k low in
       let met : (arc_at arcs k).to ≡ to = turned_apart n places elements there back (arc_at arcs k).to to (sym (ap (λ (a : TimingArc). a.from) is) ∙ h.1) in
-      let rest = Leads-back from (arc_at arcs k).from path (subst (λ b. Leads turned b path (goes from)) (ap (λ (a : TimingArc). a.to) is) h.2) in
-      let more = Leads-push arcs from (reverse path) k low rest in
-      subst (λ xs. Leads arcs from xs to) (sym (reverse_cons k path)) (subst (λ b. Leads arcs from (reverse path ++ k ∷ []) b) met more)
+      let rest = Leads-back from (arc_at arcs k).from path (rw is at h.2) in
+      rw (reverse_cons k path, ← met) (Leads-push arcs from (reverse path) k low rest)
 
   IsArc-turned : (arc : TimingArc) → IsArc n m arc → IsArc n m (turned_arc n places arc)
   IsArc-turned arc h = record {
     from = turned_below n places elements there back m arc.to h.to;
     to = turned_below n places elements there back m arc.from h.from;
-    leaves = λ l low e. not_entered l low e (is_bit n arc.to);
-    enters = λ l low e. not_left l low e (is_bit n arc.from);
+    leaves = λ l low e. h.enters l low (sym (before_turned n places elements there back arc.to) ∙ ap (bit_before n elements) e ∙ before_input n elements l low);
+    enters = λ l low e. h.leaves (row_of elements l) (back.inside l low) (sym (before_turned n places elements there back arc.from) ∙ ap (bit_before n elements) e ∙ before_output n elements l low);
     min = h.min;
     max = h.max;
     ordered = h.ordered;
   }
-    where
-      not_entered : (l : ℕ) → l < n → goes arc.to ≡ 2 * l → IsBit n arc.to → ⊥
-      not_entered l low e (input k below is) = let at = ap goes is ∙ turned_input n places k below in omega arith
-      not_entered l low e (output k below is) = h.enters k below is
-      not_entered l low e (inner past) = let at = turned_inner n places arc.to past in omega arith
-
-      not_left : (l : ℕ) → l < n → goes arc.from ≡ 2 * l + 1 → IsBit n arc.from → ⊥
-      not_left l low e (input k below is) = h.leaves k below is
-      not_left l low e (output k below is) = let at = ap goes is ∙ turned_output n places k below in omega arith
-      not_left l low e (inner past) = let at = turned_inner n places arc.from past in omega arith
 
   pub each_turned : All (IsArc n m) turned
   each_turned k d below =
@@ -108,8 +90,7 @@ module _ (n m : ℕ) (places elements : List ℕ) (there : LeadsBack n places el
   module _ (order : List ℕ) (is_order : IsOrder arcs order) where
     pub turned_at : (i : ℕ) → i < length (reverse order) → arc_at turned (get_or (reverse order) i 0) ≡ turned_arc n places (arc_at arcs (get_or order (length order - 1 - i) 0))
     turned_at i below =
-        let same = length-reverse order in
-        let low : i < length order = omega arith in
+        let low : i < length order = omega (arith, length-reverse order) in
         ap (arc_at turned) (get_or-reverse order i 0 low) ∙ arc_turned (get_or order (length order - 1 - i) 0) (inside arcs order is_order (length order - 1 - i) (omega arith))
 
     pub IsOrder-turned : IsOrder turned (reverse order)
@@ -121,8 +102,7 @@ module _ (n m : ℕ) (places elements : List ℕ) (there : LeadsBack n places el
           let at_i = ap (λ (a : TimingArc). a.to) (turned_at i low_i) in
           let at_j = ap (λ (a : TimingArc). a.from) (turned_at j low_j) in
           let e = turned_apart n places elements there back (arc_at arcs (get_or order (length order - 1 - i) 0)).from (arc_at arcs (get_or order (length order - 1 - j) 0)).to (sym at_i ∙ met ∙ at_j) in
-          let sooner = is_order.ordered (length order - 1 - j) (length order - 1 - i) (omega arith) (omega arith) (sym e) in
-          omega arith;
+          omega (arith, is_order.ordered (length order - 1 - j) (length order - 1 - i) (omega arith) (omega arith) (sym e));
     }
 
   -- from the output of the element at a place of the design turned round
@@ -154,16 +134,10 @@ module _ (n m : ℕ) (places elements : List ℕ) (there : LeadsBack n places el
       total (λ k. of (arc_at arcs k)) (reverse path) ≡ total (λ k. of (arc_at turned k)) path
   sum_back of kept path = total-reverse (λ k. of (arc_at arcs k)) path ∙ sym (total-alike (λ k. of (arc_at turned k)) (λ k. of (arc_at arcs k)) path (same_turned of kept))
 
-  max_sum : (path : List ℕ) → total (λ k. (arc_at turned k).max) (reverse path) ≡ total (λ k. (arc_at arcs k).max) path
-  max_sum = sum_turned (λ (a : TimingArc). a.max) (λ arc. refl)
-
-  max_sum_back : (path : List ℕ) → total (λ k. (arc_at arcs k).max) (reverse path) ≡ total (λ k. (arc_at turned k).max) path
-  max_sum_back = sum_back (λ (a : TimingArc). a.max) (λ arc. refl)
-
   pub greatest_back : (a b : ℕ) (x : ℤ) → a < n → b < n → IsGreatestDelay turned a (input_of b) x → IsGreatestDelay arcs b (input_of (row_of elements a)) x
   greatest_back a b x from to h = record {
-    attained = let at = h.attained in (reverse at.0, from_back a b at.0 from to at.1, max_sum_back at.0 ∙ at.2);
-    bound = λ path g. subst (λ z. z ≤ℤ x) (max_sum path) (h.bound (reverse path) (back_again a b path from to g));
+    attained = let at = h.attained in (reverse at.0, from_back a b at.0 from to at.1, sum_back (λ (a : TimingArc). a.max) (λ arc. refl) at.0 ∙ at.2);
+    bound = λ path g. subst (λ z. z ≤ℤ x) (sum_turned (λ (a : TimingArc). a.max) (λ arc. refl) path) (h.bound (reverse path) (back_again a b path from to g));
   }
 
   pub least_back : (a b : ℕ) (x : ℤ) → a < n → b < n → IsLeastDelay turned a (input_of b) x → IsLeastDelay arcs b (input_of (row_of elements a)) x
@@ -178,7 +152,7 @@ module _ (design : Design) (places elements : List ℕ) (kept : IsDesign design)
     inner = kept.inner;
     phases = kept.phases;
     elements = kept.elements;
-    arcs = let same = length-map design.arcs (turned_arc (length design.elements) places) in let few = kept.arcs in omega arith;
+    arcs = omega (arith, length-map design.arcs (turned_arc (length design.elements) places));
     bounds = kept.bounds;
     each_element = kept.each_element;
     each_arc = each_turned (length design.elements) (length design.inner) places elements there back design.arcs kept.each_arc;
@@ -195,7 +169,7 @@ module _ (design : Design) (places elements : List ℕ) (kept : IsDesign design)
       let ends : turned_bit n places to ≡ bit = turned_before n places elements there back bit in
       let leads = Leads-back n m places elements there back design.arcs kept.each_arc to from path
       (subst (λ x. Leads (turned_arcs n places design.arcs) x path (turned_bit n places to)) (sym starts) (subst (λ x. Leads (turned_arcs n places design.arcs) (output_of j) path x) (sym ends) is.1)) in
-      subst (λ z. z ≤ℤ pos 1000000000) (max_sum_back n m places elements there back design.arcs kept.each_arc path) (short to (reverse path) from leads)
+      subst (λ z. z ≤ℤ pos 1000000000) (sum_back n m places elements there back design.arcs kept.each_arc (λ (a : TimingArc). a.max) (λ arc. refl) path) (short to (reverse path) from leads)
 
   pub HasExtremes-back : (pair : Pair) → HasExtremes (turned_design places design) pair → HasExtremes design (pair_back elements pair)
   HasExtremes-back pair h = record {

@@ -26,6 +26,3 @@ IsAwake-next along place reached old new count others h = record {
 pub IsAwake-none : (along : List TimingArc) (place : ℕ) (reached : List Bool) (awake : Awake) → IsReady (length along) awake →
     ((row : ℕ) → get_or reached row false ≡ false) → IsAwake along place reached awake
 IsAwake-none along place reached awake ready off = record { ready = ready; each = λ i from below on. let not_on = off (arc_at along i).from in absurd (cc) }
-
-pub IsReady-fewer : (few many : ℕ) (awake : Awake) → few ≤ many → IsReady many awake → IsReady few awake
-IsReady-fewer few many awake less h = record { room = let before = h.room in omega arith; few = h.few }

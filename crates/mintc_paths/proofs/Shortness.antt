@@ -1,10 +1,8 @@
 -- Long paths and long sums.
-use Rattle.std.proofs.Common.{◌≡◌, ℕ, ◌<◌, ◌≤◌, ◌+◌, ◌-◌, ℤ, ◌≤ℤ◌, ◌<ℤ◌, pos, List, length, arith, sym, ⊎_elim, Option, Some, None, subst}
+use Rattle.std.proofs.Common.{ℕ, ◌<◌, ◌≤◌, ◌+◌, ◌-◌, ℤ, ◌≤ℤ◌, ◌<ℤ◌, pos, List, length, arith, Option, Some, None}
 use Rattle.std.specs.Prelude.{IfSome, IsSomeAnd}
-use Rattle.std.proofs.lemmas.Bool.{cases_lt}
 use Rattle.std.proofs.lemmas.Int.{ints}
 use Rattle.mintc_timing.specs.Design.{Design}
-use Rattle.mintc_timing.specs.Order.{ArePathsShort}
 use Rattle.mintc_timing.specs.Paths.{IsPath, greatest_delay}
 use Rattle.mintc_lanes.specs.Lanes.{lane_at}
 use Rattle.mintc_paths.specs.declared.sums.Sums.{Sums}
@@ -16,21 +14,17 @@ use Rattle.mintc_paths.specs.Refusals.{IsLong, IsFirstLong, AreShortBefore}
 short_path : (design : Design) (j bit : ℕ) (x : Option ℤ) → IsReached design j bit x → IfSome x (λ z. z ≤ℤ pos 1000000000) → (path : List ℕ) → IsPath design.arcs j path bit →
     greatest_delay design.arcs path ≤ℤ pos 1000000000
 short_path design j bit None h g path is = absurd (h path is)
-short_path design j bit (Some z) h g path is = let most = h.0 path is in omega (arith, ints)
+short_path design j bit (Some z) h g path is = omega (arith, ints, h.0 path is)
 
 long_path : (design : Design) (j bit : ℕ) (x : Option ℤ) → IsReached design j bit x → IsSomeAnd x (λ z. pos 1000000000 <ℤ z) → (path : List ℕ) × IsLong design j bit path
 long_path design j bit None h g = absurd g
 long_path design j bit (Some z) h g =
     let above : pos 0 <ℤ z = omega (arith, ints) in
     let found = h.1 above in
-    let sum = found.2 in
     (found.0, (found.1, omega (arith, ints)))
 
 not_long : (design : Design) (j bit : ℕ) (path : List ℕ) → greatest_delay design.arcs path ≤ℤ pos 1000000000 → IsLong design j bit path → ⊥
-not_long design j bit path h g = let above = g.1 in omega (arith, ints)
-
-pub AreShortBefore-all : (design : Design) (n : ℕ) → n ≤ length design.elements → ArePathsShort design → AreShortBefore design n
-AreShortBefore-all design n few short = λ j bit path below is. short j bit path (omega arith) is
+not_long design j bit path h g = omega (arith, ints, g.1)
 
 module _ (design : Design) (first lanes : ℕ) (sums : List Sums) (h : AreExtremes design first lanes sums) (before : AreShortBefore design first) where
   -- no path from the element of a short lane is long
@@ -40,18 +34,13 @@ module _ (design : Design) (first lanes : ℕ) (sums : List Sums) (h : AreExtrem
       short_path design (first + lane) bit (lane_at (sums_at sums bit).greatest lane) (h.reached bit lane inside below) (short bit inside) path is
 
   short_from : (end : ℕ) → end ≤ lanes → ((lane : ℕ) → lane < end → IsShortLane sums lane) → AreShortBefore design (first + end)
-  short_from end few short j bit path below is = ⊎_elim
-      (λ (low : j < first). before j bit path low is)
-      (λ (high : first ≤ j).
-      let same : first + (j - first) ≡ j = omega arith in
-      short_lane (j - first) (omega arith) (short (j - first) (omega arith)) bit path (subst (λ i. IsPath design.arcs i path bit) (sym same) is))
-      (cases_lt j first)
+  short_from end few short j bit path below is = grind (arith, before j bit path, short_lane (j - first), short (j - first))
 
-  pub AreShortBefore-more : ((lane : ℕ) → lane < lanes → IsShortLane sums lane) → AreShortBefore design (first + lanes)
-  AreShortBefore-more short = short_from lanes (omega arith) short
+  pub AreShortBefore_more : ((lane : ℕ) → lane < lanes → IsShortLane sums lane) → AreShortBefore design (first + lanes)
+  AreShortBefore_more short = short_from lanes (omega arith) short
 
-  pub IsFirstLong-from_lane : (lane bit : ℕ) → first + lanes ≤ length design.elements → IsFirstLane sums lanes lane bit → IsFirstLong design (first + lane) bit
-  IsFirstLong-from_lane lane bit few g = let below = g.inside in record {
+  pub IsFirstLong_from_lane : (lane bit : ℕ) → first + lanes ≤ length design.elements → IsFirstLane sums lanes lane bit → IsFirstLong design (first + lane) bit
+  IsFirstLong_from_lane lane bit few g = let below = g.inside in record {
     element = omega arith;
     long = long_path design (first + lane) bit (lane_at (sums_at sums bit).greatest lane) (h.reached bit lane g.at_bit.inside g.inside) g.at_bit.long;
     first_element = λ i other path sooner is. not_long design i other path (short_from lane (omega arith) g.first i other path sooner is.0) is;

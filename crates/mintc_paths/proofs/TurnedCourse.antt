@@ -10,7 +10,7 @@ use Rattle.mintc_paths.specs.declared.rows.Rows.{Rows}
 use Rattle.mintc_paths.specs.declared.rows.Course.{Course}
 use Rattle.mintc_paths.specs.Leaving.{AreLeaving}
 use Rattle.mintc_paths.specs.Sums.{row_of, moved, AreRows, IsCourse}
-use Rattle.mintc_paths.specs.Turned.{turned_bit, bit_before, flipped, turned_arc, turned_arcs}
+use Rattle.mintc_paths.specs.Turned.{turned_bit, bit_before, flipped, turned_arcs}
 use Rattle.mintc_paths.proofs.Filling.{arc_inside}
 use Rattle.mintc_paths.proofs.Turning.{before_turned, turned_before, turned_below, before_below}
 use Rattle.mintc_paths.proofs.SharedTurnedPaths.{turned_at}
@@ -27,16 +27,10 @@ module _ (n total : ℕ) (all : 2 * n ≤ total) (places : Rows) (are_places : A
   was = bit_before n places.bits.items
 
   was_in : (bit : ℕ) → bit < total → was bit < total
-  was_in bit low =
-      let whole : total ≡ 2 * n + (total - 2 * n) = omega arith in
-      let below = before_below n places.of_bits.items places.bits.items are_places.of_bits are_places.bits (total - 2 * n) bit (omega arith) in
-      omega arith
+  was_in bit low = omega (arith, before_below n places.of_bits.items places.bits.items are_places.of_bits are_places.bits (total - 2 * n) bit (omega arith))
 
   goes_in : (bit : ℕ) → bit < total → goes bit < total
-  goes_in bit low =
-      let whole : total ≡ 2 * n + (total - 2 * n) = omega arith in
-      let below = turned_below n places.of_bits.items places.bits.items are_places.of_bits are_places.bits (total - 2 * n) bit (omega arith) in
-      omega arith
+  goes_in bit low = omega (arith, turned_below n places.of_bits.items places.bits.items are_places.of_bits are_places.bits (total - 2 * n) bit (omega arith))
 
   goes_was : (bit : ℕ) → goes (was bit) ≡ bit
   goes_was = turned_before n places.of_bits.items places.bits.items are_places.of_bits are_places.bits
@@ -63,34 +57,35 @@ module _ (n total : ℕ) (all : 2 * n ≤ total) (places : Rows) (are_places : A
   pub rows_turned : (bit : ℕ) → bit < total → row_of new.of_bits.items (goes bit) ≡ row_of old.of_bits.items bit
   rows_turned bit low = each (goes bit) (goes_in bit low) ∙ ap (row_of old.of_bits.items) (was_goes bit)
 
-module _ (design : Design) (order : List ℕ) (is_order : IsOrder design.arcs order) (kept : IsDesign design) (course new : Course) (n m : ℕ)
-    (elements : n ≡ length design.elements) (inner : m ≡ length design.inner)
-    (is_course : IsCourse (2 * n + m) design.arcs order course) (places : Rows) (are_places : AreRows n places) (rows : AreRows (2 * n + m) new.rows)
-    (each : (bit : ℕ) → bit < 2 * n + m → row_of new.rows.of_bits.items (turned_bit n places.of_bits.items bit) ≡ row_of course.rows.of_bits.items bit)
-    (count : length new.along.items ≡ length course.along.items)
-    (flips : (i : ℕ) → i < length course.along.items → arc_at new.along.items i ≡ flipped (arc_at course.along.items (length course.along.items - 1 - i)))
-    (leaving : AreLeaving new.along.items (2 * n + m) new.leaving) where
-  each_arc : (k : ℕ) (d : TimingArc) → k < length design.arcs → IsArc n m (get_or design.arcs k d)
-  each_arc k d low = rw (elements, inner) (kept.each_arc k d low)
+module _ (design : Design) (order : List ℕ) (is_order : IsOrder design.arcs order) (kept : IsDesign design) (course new : Course) (places : Rows) (are_places : AreRows (length design.elements) places) where
+  abbrev n : ℕ
+  n = length design.elements
 
-  at_place : (i : ℕ) → i < length (reverse order) → arc_at new.along.items i ≡ moved new.rows.of_bits.items (arc_at (turned_arcs n places.of_bits.items design.arcs) (get_or (reverse order) i 0))
-  at_place i low =
-      let same = length-reverse order in
-      let all = is_course.along.count in
-      let other : ℕ = length order - 1 - i in
-      let arc : TimingArc = arc_at design.arcs (get_or order other 0) in
-      let is_arc : IsArc n m arc = arc_inside design.arcs order is_order n m each_arc other (omega arith) in
-      let place : length course.along.items - 1 - i ≡ other = omega arith in
-      let was : arc_at course.along.items (length course.along.items - 1 - i) ≡ moved course.rows.of_bits.items arc = ap (arc_at course.along.items) place ∙ is_course.along.each other (omega arith) in
-      let is : arc_at (turned_arcs n places.of_bits.items design.arcs) (get_or (reverse order) i 0) ≡ turned_arc n places.of_bits.items arc =
-      turned_at n m places.of_bits.items places.bits.items are_places.of_bits are_places.bits design.arcs each_arc order is_order i low in
-      let from = each arc.to is_arc.to in
-      let to = each arc.from is_arc.from in
-      flips i (omega arith) ∙ ap flipped was ∙ (rw (from, to) refl) ∙ ap (moved new.rows.of_bits.items) (sym is)
+  abbrev m : ℕ
+  m = length design.inner
 
-  pub IsCourse-turned : IsCourse (2 * n + m) (turned_arcs n places.of_bits.items design.arcs) (reverse order) new
-  IsCourse-turned = record {
-    rows = rows;
-    along = record { count = count ∙ is_course.along.count ∙ sym (length-reverse order); each = at_place };
-    leaving = leaving;
-  }
+  module _ (is_course : IsCourse (2 * n + m) design.arcs order course) (rows : AreRows (2 * n + m) new.rows)
+      (each : (bit : ℕ) → bit < 2 * n + m → row_of new.rows.of_bits.items (turned_bit n places.of_bits.items bit) ≡ row_of course.rows.of_bits.items bit)
+      (count : length new.along.items ≡ length course.along.items)
+      (flips : (i : ℕ) → i < length course.along.items → arc_at new.along.items i ≡ flipped (arc_at course.along.items (length course.along.items - 1 - i)))
+      (leaving : AreLeaving new.along.items (2 * n + m) new.leaving) where
+    at_place : (i : ℕ) → i < length (reverse order) → arc_at new.along.items i ≡ moved new.rows.of_bits.items (arc_at (turned_arcs n places.of_bits.items design.arcs) (get_or (reverse order) i 0))
+    at_place i low =
+        let same = length-reverse order in
+        let all = is_course.along.count in
+        let other : ℕ = length order - 1 - i in
+        let arc : TimingArc = arc_at design.arcs (get_or order other 0) in
+        let is_arc : IsArc n m arc = arc_inside design.arcs order is_order n m kept.each_arc other (omega arith) in
+        let place : length course.along.items - 1 - i ≡ other = omega arith in
+        let was : arc_at course.along.items (length course.along.items - 1 - i) ≡ moved course.rows.of_bits.items arc = ap (arc_at course.along.items) place ∙ is_course.along.each other (omega arith) in
+        let is = turned_at n m places.of_bits.items places.bits.items are_places.of_bits are_places.bits design.arcs kept.each_arc order is_order i low in
+        let from = each arc.to is_arc.to in
+        let to = each arc.from is_arc.from in
+        flips i (omega arith) ∙ ap flipped was ∙ (rw (from, to) refl) ∙ ap (moved new.rows.of_bits.items) (sym is)
+
+    pub IsCourse-turned : IsCourse (2 * n + m) (turned_arcs n places.of_bits.items design.arcs) (reverse order) new
+    IsCourse-turned = record {
+      rows = rows;
+      along = record { count = count ∙ is_course.along.count ∙ sym (length-reverse order); each = at_place };
+      leaving = leaving;
+    }

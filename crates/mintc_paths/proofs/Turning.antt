@@ -1,14 +1,7 @@
 -- A design turned round.
-use Rattle.std.proofs.Common.{◌≡◌, ℕ, ◌<◌, ◌≤◌, ◌+◌, ◌*◌, ◌/◌, List, arith, ap, ◌∙◌, sym, subst, ◌⊎◌, ⊎_elim}
-use Rattle.std.proofs.lemmas.Bool.{cases_lt}
+use Rattle.std.proofs.Common.{◌≡◌, ℕ, ◌<◌, ◌+◌, ◌*◌, List, arith, ap, ◌∙◌, sym}
 use Rattle.mintc_paths.specs.Sums.{row_of, LeadsBack}
 use Rattle.mintc_paths.specs.Turned.{turned_bit, bit_before}
-
--- what bits there are of n elements
-pub data IsBit (n : ℕ) (bit : ℕ) : Type 0 where
-  input : (l : ℕ) → l < n → bit ≡ 2 * l → IsBit n bit
-  output : (l : ℕ) → l < n → bit ≡ 2 * l + 1 → IsBit n bit
-  inner : 2 * n ≤ bit → IsBit n bit
 
 pub turned_input : (n : ℕ) (places : List ℕ) (l : ℕ) → l < n → turned_bit n places (2 * l) ≡ 2 * row_of places l + 1
 turned_input n places l below = grind arith
@@ -16,69 +9,24 @@ turned_input n places l below = grind arith
 pub turned_output : (n : ℕ) (places : List ℕ) (l : ℕ) → l < n → turned_bit n places (2 * l + 1) ≡ 2 * l
 turned_output n places l below = grind arith
 
-pub turned_inner : (n : ℕ) (places : List ℕ) (bit : ℕ) → 2 * n ≤ bit → turned_bit n places bit ≡ bit
-turned_inner n places bit past = grind arith
-
 pub before_input : (n : ℕ) (elements : List ℕ) (l : ℕ) → l < n → bit_before n elements (2 * l) ≡ 2 * l + 1
 before_input n elements l below = grind arith
 
 pub before_output : (n : ℕ) (elements : List ℕ) (l : ℕ) → l < n → bit_before n elements (2 * l + 1) ≡ 2 * row_of elements l
 before_output n elements l below = grind arith
 
-pub before_inner : (n : ℕ) (elements : List ℕ) (bit : ℕ) → 2 * n ≤ bit → bit_before n elements bit ≡ bit
-before_inner n elements bit past = grind arith
-
-pub is_bit : (n bit : ℕ) → IsBit n bit
-is_bit n bit = ⊎_elim
-    (λ (low : bit < 2 * n). ⊎_elim
-    (λ (e : bit ≡ 2 * (bit / 2)). input (bit / 2) (omega arith) e)
-    (λ (e : bit ≡ 2 * (bit / 2) + 1). output (bit / 2) (omega arith) e)
-    (even_or_odd bit))
-    (λ (high : 2 * n ≤ bit). inner high)
-    (cases_lt bit (2 * n))
-  where
-    even_or_odd : (k : ℕ) → (k ≡ 2 * (k / 2)) ⊎ (k ≡ 2 * (k / 2) + 1)
-    even_or_odd k = grind arith
-
--- what holds of each kind of bit holds of each bit
-by_bit : (n : ℕ) (P : ℕ → Type 0) → ((l : ℕ) → l < n → P (2 * l)) → ((l : ℕ) → l < n → P (2 * l + 1)) → ((bit : ℕ) → 2 * n ≤ bit → P bit) → (bit : ℕ) → P bit
-by_bit n P at_input at_output at_inner bit = case (is_bit n bit)
-  where
-    case : IsBit n bit → P bit
-    case (input l low e) = subst P (sym e) (at_input l low)
-    case (output l low e) = subst P (sym e) (at_output l low)
-    case (inner past) = at_inner bit past
-
 module _ (n : ℕ) (places elements : List ℕ) (there : LeadsBack n places elements) (back : LeadsBack n elements places) where
-  abbrev goes : ℕ → ℕ
-  goes = turned_bit n places
-
-  abbrev was : ℕ → ℕ
-  was = bit_before n elements
-
   pub before_turned : (bit : ℕ) → bit_before n elements (turned_bit n places bit) ≡ bit
-  before_turned = by_bit n (λ bit. was (goes bit) ≡ bit)
-      (λ l low. ap was (turned_input n places l low) ∙ before_output n elements (row_of places l) (there.inside l low) ∙ ap (λ k. 2 * k) (there.leads l low))
-      (λ l low. ap was (turned_output n places l low) ∙ before_input n elements l low)
-      (λ bit past. ap was (turned_inner n places bit past) ∙ before_inner n elements bit past)
+  before_turned bit = grind (arith, there.inside, there.leads)
 
   pub turned_before : (bit : ℕ) → turned_bit n places (bit_before n elements bit) ≡ bit
-  turned_before = by_bit n (λ bit. goes (was bit) ≡ bit)
-      (λ l low. ap goes (before_input n elements l low) ∙ turned_output n places l low)
-      (λ l low. ap goes (before_output n elements l low) ∙ turned_input n places (row_of elements l) (back.inside l low) ∙ ap (λ k. 2 * k + 1) (back.leads l low))
-      (λ bit past. ap goes (before_inner n elements bit past) ∙ turned_inner n places bit past)
+  turned_before bit = grind (arith, back.inside, back.leads)
 
   pub turned_below : (m bit : ℕ) → bit < 2 * n + m → turned_bit n places bit < 2 * n + m
-  turned_below m = by_bit n (λ bit. bit < 2 * n + m → goes bit < 2 * n + m)
-      (λ l low below. let at = there.inside l low in let is = turned_input n places l low in omega arith)
-      (λ l low below. let is = turned_output n places l low in omega arith)
-      (λ bit past below. let is = turned_inner n places bit past in omega arith)
+  turned_below m bit low = grind (arith, there.inside)
 
   pub before_below : (m bit : ℕ) → bit < 2 * n + m → bit_before n elements bit < 2 * n + m
-  before_below m = by_bit n (λ bit. bit < 2 * n + m → was bit < 2 * n + m)
-      (λ l low below. let is = before_input n elements l low in omega arith)
-      (λ l low below. let at = back.inside l low in let is = before_output n elements l low in omega arith)
-      (λ bit past below. let is = before_inner n elements bit past in omega arith)
+  before_below m bit low = grind (arith, back.inside)
 
   pub turned_apart : (a b : ℕ) → turned_bit n places a ≡ turned_bit n places b → a ≡ b
   turned_apart a b e = sym (before_turned a) ∙ ap (bit_before n elements) e ∙ before_turned b

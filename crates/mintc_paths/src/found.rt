@@ -54,6 +54,7 @@ impl Found {
     }
 
     /// The pair of two elements, whose sums are in this lane, if they are a pair.
+    #[tactic(auto, using(crate::proofs::SharedFinding::IsAdded_none))]
     fn add_at(&mut self, from: u32, to: u32, sums: &Sums, lane: usize) -> Result<(), OutOfMemory>
         requires count { self.old.count < 2 ^ 62 }
         requires lane { lane < 8 }

@@ -44,6 +44,7 @@ fn is_long(sums: &Sums, lane: usize) -> bool
 }
 
 /// The first bit with a sum of the lane above the limit.
+#[tactic(auto, using(crate::proofs::Rowing::placed_at))]
 fn first_bit(sums: &Held, rows: &Rows, lane: usize) -> Option<usize>
     requires rows { AreRows (length sums.now) rows.now }
     requires lane { lane < 8 }
@@ -60,6 +61,7 @@ fn first_bit(sums: &Held, rows: &Rows, lane: usize) -> Option<usize>
 
 /// Refuses the first path that is too long among those from a block's elements. Where it is known that no path is, there is
 /// nothing to look for.
+#[tactic(auto, using(crate::proofs::Shortness::AreShortBefore_more, crate::proofs::Rowing::IsShortLane_placed, crate::proofs::Shortness::IsFirstLong_from_lane))]
 pub fn refuse_long(block: &Filled, known_short: bool) -> Result<(), Refusal>
     ghost design: { Design }
     requires few { length design.elements ≤ MOST_ELEMENTS }

@@ -56,6 +56,7 @@ fn are_within(sums: &[i64]) -> bool
 }
 
 /// Whether no arcs in a row have a sum above the limit, wherever they begin.
+#[tactic(auto, using(crate::proofs::Raising::AreCarried_no_rows))]
 pub fn are_runs_short(
     alloc: Global,
     flat: &Flat,

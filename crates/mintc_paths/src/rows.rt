@@ -62,6 +62,7 @@ impl Rows {
     }
 
     /// The rows in the order in which the arcs come to the bits.
+    #[tactic(auto, using(mintc_timing::proofs::SharedOrdered::inside))]
     pub fn along(alloc: Global, flat: &Flat, order: &Order) -> Result<Rows, AllocError>
         requires { IsOrder flat.now.arcs order.now }
         ensures { IfOk result (λ rows. AreRows (2 * length flat.now.elements + length flat.now.inner) rows) }
@@ -89,6 +90,7 @@ pub struct Course {
 
 impl Course {
     /// The course over these rows.
+    #[tactic(auto, using(mintc_timing::proofs::SharedOrdered::inside, crate::proofs::Filling::arc_inside))]
     pub fn new(alloc: Global, flat: &Flat, order: &Order, rows: Rows) -> Result<Course, AllocError>
         requires order { IsOrder flat.now.arcs order.now }
         requires rows { AreRows (2 * length flat.now.elements + length flat.now.inner) rows }

@@ -61,6 +61,7 @@ fn is_last(extreme: Extreme, sums: &Held, arc: &TimingArc, bit: u32) -> bool
 }
 
 /// The arcs of a path to a bit with the best sum.
+#[tactic(auto, using(mintc_timing::proofs::SharedOrdered::inside))]
 pub fn trace(
     alloc: Global,
     extreme: Extreme,

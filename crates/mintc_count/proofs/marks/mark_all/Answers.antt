@@ -1,13 +1,11 @@
-use Rattle.std.proofs.Common.{◌≡◌, ◌<◌, ◌≤◌, ◌+◌, ◌∙◌, ℕ, List, length, arith, rules, sym, subst}
+use Rattle.std.proofs.Common.{◌≡◌, ◌<◌, ◌+◌, ◌∙◌, ℕ, length, arith}
 use Rattle.std.proofs.lemmas.List.{get_or_default}
-use Rattle.mintc_timing.specs.declared.parts.TimingArc.{TimingArc}
 use Rattle.mintc_timing.specs.Design.{no_arc}
 use Rattle.mintc_timing.specs.Paths.{arc_at}
 use Rattle.mintc_paths.specs.Awake.{IsAwake}
-use Rattle.mintc_count.specs.Marks.{AreMarksAlong}
 use Rattle.mintc_count.proofs.Leading.{AreCarriedMarks, AreMarksAlong-begun}
 use Rattle.mintc_count.proofs.Noting.{marked_along, unmarked_next}
-use Rattle.mintc_paths.proofs.SharedPassing.{row_in, row_to_in, at_place, at_end}
+use Rattle.mintc_paths.proofs.SharedPassing.{at_place}
 use Rattle.mintc_paths.proofs.SharedWaking.{IsAwake-later, IsAwake-next}
 use Rattle.mintc_count.proofs.marks.mark_all.Given.{Over}
 use Rattle.mintc_count.proofs.marks.mark_all.Goals as goal
@@ -30,40 +28,20 @@ loop-place-init g c =
 arc_is : (g : Over) (c : After-index-arc g) → c.index-arc.result.now ≡ arc_at c.args.course.now.along.items c.loop-place.place
 arc_is g c = c.index-arc.ensures ∙ get_or_default c.args.course.now.along.items c.loop-place.place c.index-arc.result.now no_arc (omega (arith, c.args.course.now.along.ok.0))
 
-pub carry-requires : goal.carry-requires
-carry-requires g c =
-    let i : ℕ = c.loop-place.place in
-    let h = c.requires.0 in
-    let all = h.is_course.along.count in
-    let low : i < length g.of.order = omega (arith, c.args.course.now.along.ok.0) in
-    let is = sym (arc_is g (goal.at.carry-requires g c).After-index-arc) in
-    let inside = row_in g.of.design g.of.order h.is_ordered.order h.is_ordered.kept c.args.course.now (length c.args.marks.now) h.is_course h.bits i low in
-    let inside_to = row_to_in g.of.design g.of.order h.is_ordered.order h.is_ordered.kept c.args.course.now (length c.args.marks.now) h.is_course h.bits i low in
-    record {
-      from = subst (λ (a : TimingArc). a.from < length c.loop-place.marks) is (omega (arith, c.loop-place.invariant.count));
-      to = subst (λ (a : TimingArc). a.to < length c.loop-place.marks) is (omega (arith, c.loop-place.invariant.count));
-      marked = c.loop-place.invariant.marked;
-      leaving = search rules;
-      ready = search rules;
-    }
-
 pub next-place-requires-in-loop-place : goal.next-place-requires-in-loop-place
 next-place-requires-in-loop-place g c =
-    let i : ℕ = c.loop-place.place in
-    let along : List TimingArc = c.args.course.now.along.items in
-    let awake = c.carry.ensures.awake (i + 1)
-    (IsAwake-next along i c.loop-place.reached c.loop-place.awake _ c.remove.ensures.count c.remove.ensures.others c.loop-place.invariant.awake) in
-    awake.ready.few
+    let rest = IsAwake-next c.args.course.now.along.items c.loop-place.place c.loop-place.reached c.loop-place.awake _ c.remove.ensures.count c.remove.ensures.others c.loop-place.invariant.awake in
+    (c.carry.ensures.awake (c.loop-place.place + 1) rest).ready.few
 
 pub loop-place-preserved : goal.loop-place-preserved
 loop-place-preserved g c =
     let i : ℕ = c.loop-place.place in
     let n : ℕ = length c.args.marks.now in
-    let along : List TimingArc = c.args.course.now.along.items in
+    let along = c.args.course.now.along.items in
     let all = c.requires.0.is_course.along.count in
     let low : i < length g.of.order = omega (arith, c.args.course.now.along.ok.0) in
     let is = arc_is g (goal.at.loop-place-preserved g c).After-index-arc in
-    let so_far = subst (λ k. AreMarksAlong n g.of.design.arcs g.of.order k c.args.course.now.rows.of_bits.items c.args.first c.args.lanes c.loop-place.marks) (at_place i (length g.of.order) low) c.loop-place.invariant.along in
+    let so_far = rw (at_place i (length g.of.order) low) at c.loop-place.invariant.along in
     let h = c.carry.ensures in
     let carried : AreCarriedMarks c.index-arc.result.now c.loop-place.marks c.carry.new.marks = record { others = h.others; joined = h.joined } in
     let awake : IsAwake along (i + 1) c.carry.new.reached c.carry.new.awake = h.awake (i + 1)
@@ -74,15 +52,8 @@ loop-place-preserved g c =
           c.args.first c.args.lanes c.requires.1.0 c.carry.new.marks same c.carry.new.reached h.marked c.carry.new.awake (i + 1) c.next-place-in-loop-place.result (omega arith)
           (omega arith) awake c.next-place-in-loop-place.ensures.none
           (marked_along g.of.design g.of.order c.requires.0.is_ordered.order c.requires.0.is_ordered.kept c.args.course.now n c.requires.0.is_course c.requires.0.bits c.args.first c.args.lanes c.requires.1.0
-          i low c.loop-place.marks c.carry.new.marks (subst (λ (a : TimingArc). AreCarriedMarks a c.loop-place.marks c.carry.new.marks) is carried) so_far);
+          i low c.loop-place.marks c.carry.new.marks (rw is at carried) so_far);
       marked = h.marked;
       awake = IsAwake-later along (i + 1) c.next-place-in-loop-place.result c.carry.new.reached c.carry.new.awake (omega arith) awake;
       count = same;
     }
-
-pub returns-clause-along : goal.returns-clause-along
-returns-clause-along g c =
-    let all = c.requires.0.is_course.along.count in
-    let past : length g.of.order ≤ c.loop-place.place = omega (arith, c.args.course.now.along.ok.0) in
-    subst (λ k. AreMarksAlong (length c.args.marks.now) g.of.design.arcs g.of.order k c.args.course.now.rows.of_bits.items c.args.first c.args.lanes c.loop-place.marks)
-    (at_end c.loop-place.place (length g.of.order) past) c.loop-place.invariant.along

@@ -1,24 +1,17 @@
 use Rattle.std.proofs.Common.{◌≡◌, ◌+◌, ◌-◌, ℕ, get_or, subst, arith}
 use Rattle.std.proofs.lemmas.List.{get_or_default}
-use Rattle.mintc_order.proofs.GatheringLaws.{AreGathered, AreGathered-none, AreGathered-more, IsOrder-gathered}
+use Rattle.mintc_order.proofs.GatheringLaws.{AreGathered, AreGathered-more, IsOrder-gathered}
 use Rattle.mintc_order.proofs.gathering.gathered.Goals as goal
-
-pub loop-rest-init : goal.loop-rest-init
-loop-rest-init c = record { rest = omega arith; gathered = rw c.in_ok-gathered.ensures.items (AreGathered-none c.args.arcs.now c.args.given.now) }
 
 pub loop-rest-preserved : goal.loop-rest-preserved
 loop-rest-preserved c =
     let rest : ℕ = c.loop-rest.rest - 1 in
     let back : c.loop-rest.rest ≡ rest + 1 = omega arith in
-    let low = c.loop-rest.invariant.rest in
     let starts = c.args.ranges.now.starts.items in
     let bit : ℕ = get_or c.args.given.now rest 0 in
     let in_bits = c.requires.ordered.within rest (omega arith) in
-    let each = c.requires.parts.each_start in
-    let read = get_or_default starts bit 0 c.index-start.result.now (omega arith) in
-    let read' = get_or_default starts (bit + 1) 0 c.index.result.now (omega arith) in
-    let start : c.index-start.result.now ≡ get_or starts bit 0 = let e = c.index-start.ensures in omega arith in
-    let stop : c.index.result.now ≡ get_or starts (bit + 1) 0 = let e = c.index.ensures in omega arith in
+    let start : c.index-start.result.now ≡ get_or starts bit 0 = omega (arith, get_or_default starts bit 0 c.index-start.result.now (omega arith)) in
+    let stop : c.index.result.now ≡ get_or starts (bit + 1) 0 = omega (arith, get_or_default starts (bit + 1) 0 c.index.result.now (omega arith)) in
     let added = rw (c.deref.ensures.value, start, stop) at c.in_ok-add.ensures in
     record {
       rest = omega arith;

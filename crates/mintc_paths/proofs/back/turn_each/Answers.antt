@@ -1,19 +1,14 @@
-use Rattle.std.proofs.Common.{◌<◌, ◌∙◌, List, length, map, arith, sym}
+use Rattle.std.proofs.Common.{◌∙◌, map, arith, sym}
 use Rattle.std.proofs.lemmas.List.{same_lists, get_or_default, get_or-map}
 use Rattle.std.proofs.Math.ListN.{length-map}
-use Rattle.mintc_timing.specs.declared.parts.Pair.{Pair}
 use Rattle.mintc_timing.specs.Design.{no_pair}
 use Rattle.mintc_paths.specs.Turned.{pair_back}
 use Rattle.mintc_paths.proofs.back.turn_each.Goals as goal
 
 pub returns : goal.returns
 returns c =
-    let old : List Pair = c.args.pairs.now in
-    let new : List Pair = c.loop-number.pairs in
-    let back : Pair → Pair = pair_back c.args.places.now.bits.items in
-    let count = c.loop-number.invariant.count in
-    let whole = c.loop-number-test.false in
-    same_lists new (map back old) (count ∙ sym (length-map old back))
-    (λ k d below.
-    let low : k < length old = omega arith in
-    get_or_default new k d no_pair below ∙ c.loop-number.invariant.done k (omega arith) ∙ sym (get_or-map back old k no_pair d low))
+    let old = c.args.pairs.now in
+    let new = c.loop-number.pairs in
+    let back = pair_back c.args.places.now.bits.items in
+    same_lists new (map back old) (c.loop-number.invariant.count ∙ sym (length-map old back))
+    (λ k d below. get_or_default new k d no_pair below ∙ c.loop-number.invariant.done k (omega arith) ∙ sym (get_or-map back old k no_pair d (omega arith)))

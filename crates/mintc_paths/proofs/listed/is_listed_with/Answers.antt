@@ -1,4 +1,4 @@
-use Rattle.std.proofs.Common.{◌≡◌, ◌<◌, ◌+◌, ◌*◌, ℕ, ℤ, pos, ◌+ℤ◌, ◌≤ℤ◌, List, [], ◌∷◌, ◌++◌, length, get_or, take, arith, ap, refl, sym, subst, ◌∙◌, w64, of_z, to_z}
+use Rattle.std.proofs.Common.{◌≡◌, ◌<◌, ◌+◌, ℕ, ℤ, ◌+ℤ◌, List, length, get_or, take, arith, ap, sym, ◌∙◌, w64, of_z, to_z}
 use Rattle.std.proofs.lemmas.Int.{ints, to_z-of_z}
 use Rattle.std.proofs.lemmas.List.{take_more}
 use Rattle.mintc_timing.specs.declared.parts.TimingArc.{TimingArc}
@@ -17,41 +17,33 @@ is_delay : (extreme : Extreme) (arc : TimingArc) (n m : ℕ) → IsArc n m arc �
 is_delay Greatest arc n m h = h.max
 is_delay Least arc n m h = h.min
 
-leads_more : (arcs : List TimingArc) (from : ℕ) (path : List ℕ) (i n bit : ℕ) → i < length path → get_or path i 0 ≡ n → n < length arcs → (arc_at arcs n).from ≡ bit →
-    Leads arcs from (take i path) bit → Leads arcs from (take (i + 1) path) (arc_at arcs n).to
-leads_more arcs from path i n bit low is below leaves h =
-    subst (λ xs. Leads arcs from xs (arc_at arcs n).to) (sym (take_more path i 0 low ∙ ap (λ m. take i path ++ m ∷ []) is))
-    (Leads-push arcs from (take i path) n below (subst (λ b. Leads arcs from (take i path) b) (sym leaves) h))
+leads_more : (arcs : List TimingArc) (from : ℕ) (path : List ℕ) (i bit : ℕ) → i < length path → get_or path i 0 < length arcs → (arc_at arcs (get_or path i 0)).from ≡ bit →
+    Leads arcs from (take i path) bit → Leads arcs from (take (i + 1) path) (arc_at arcs (get_or path i 0)).to
+leads_more arcs from path i bit low below leaves h = rw (take_more path i 0 low) (Leads-push arcs from (take i path) (get_or path i 0) below (rw leaves h))
 
 total_more : (weight : ℕ → ℤ) (path : List ℕ) (i : ℕ) → i < length path → total weight (take (i + 1) path) ≡ total weight (take i path) +ℤ weight (get_or path i 0)
 total_more weight path i low = ap (total weight) (take_more path i 0 low) ∙ total-push weight (take i path) (get_or path i 0)
 
 pub loop-number-preserved : goal.loop-number-preserved
 loop-number-preserved c =
-    let arcs : List TimingArc = c.arcs-arcs.result.now in
-    let path : List ℕ = c.args.path.now in
+    let arcs = c.arcs-arcs.result.now in
+    let path = c.args.path.now in
     let i : ℕ = c.loop-number.number-index in
     let n : ℕ = get_or path i 0 in
     let below : n < length arcs = omega arith in
     let h = c.loop-number.invariant in
-    let low = h.low in
-    let high = h.high in
     let in_design : IsArc (length c.args.flat.now.elements) (length c.args.flat.now.inner) (arc_at arcs n) =
     rw c.arcs-arcs.ensures (c.elements-elements.ensures.kept.each_arc n no_arc (rw c.arcs-arcs.ensures at below)) in
     let delay : IsDelay c.delay_at-summed.result = rw c.delay_at-summed.ensures (is_delay c.args.wanted.extreme (arc_at arcs n) (length c.args.flat.now.elements) (length c.args.flat.now.inner) in_design) in
-    let lowest = delay.0 in
-    let highest = delay.1 in
     let whole : to_z w64 (of_z w64 c.delay_at-summed.result) ≡ c.delay_at-summed.result = to_z-of_z w64 c.delay_at-summed.result (omega (arith, ints)) in
-    let count = c.elements-elements.ensures.kept.arcs in
     let few : i < length path = c.loop-number-test.true in
-    let all : length arcs ≡ length c.args.flat.now.arcs = ap (λ (xs : List TimingArc). length xs) c.arcs-arcs.ensures in
+    let all = ap (λ (xs : List TimingArc). length xs) c.arcs-arcs.ensures in
     let summed : ℤ = to_z w64 c.loop-number.summed-bits in
-    let sum : to_z w64 (of_z w64 (summed +ℤ c.delay_at-summed.result)) ≡ summed +ℤ c.delay_at-summed.result = to_z-of_z w64 (summed +ℤ c.delay_at-summed.result) (omega (arith, ints)) in
+    let sum : to_z w64 (of_z w64 (summed +ℤ c.delay_at-summed.result)) ≡ summed +ℤ c.delay_at-summed.result = to_z-of_z w64 (summed +ℤ c.delay_at-summed.result) (omega (arith, ints, c.elements-elements.ensures.kept.arcs)) in
     let sum_is : to_z w64 (of_z w64 (summed +ℤ to_z w64 (of_z w64 c.delay_at-summed.result))) ≡ summed +ℤ c.delay_at-summed.result = rw whole sum in
-    let new : ℤ = to_z w64 (of_z w64 (summed +ℤ to_z w64 (of_z w64 c.delay_at-summed.result))) in
     record {
-      leads = rw c.from-bit.ensures (leads_more arcs (output_of c.args.wanted.from) path i n c.loop-number.bit few refl below (sym c.from-in-loop-number.ensures ∙ c.if-from-bit.false) h.leads);
+      leads = rw c.from-bit.ensures (leads_more arcs (output_of c.args.wanted.from) path i c.loop-number.bit few below (sym c.from-in-loop-number.ensures ∙ c.if-from-bit.false) h.leads);
       summed = total_more (weight_of c.args.wanted.extreme arcs) path i few ∙ ap (λ z. z +ℤ weight_of c.args.wanted.extreme arcs n) h.summed ∙ ap (λ z. summed +ℤ z) (sym c.delay_at-summed.ensures) ∙ sym sum_is;
-      low = subst (λ z. pos 0 ≤ℤ z) (sym sum_is) (omega (arith, ints));
-      high = subst (λ z. z ≤ℤ pos ((i + 1) * 1000000000)) (sym sum_is) (omega (arith, ints));
+      low = rw sum_is (omega (arith, ints));
+      high = rw sum_is (omega (arith, ints));
     }

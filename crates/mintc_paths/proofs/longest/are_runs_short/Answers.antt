@@ -2,11 +2,8 @@ use Rattle.std.proofs.Common.{◌≡◌, ◌∙◌, ◌≤ℤ◌, ℤ, pos, List
 use Rattle.std.proofs.lemmas.Bool.{OnTrue_at, OnTrue_from}
 use Rattle.std.proofs.lemmas.List.{with_items_is}
 use Rattle.mintc_paths.proofs.Plain.{AreRunsShort-carried}
-use Rattle.mintc_paths.proofs.Raising.{AreCarried-no_rows, within_placed}
+use Rattle.mintc_paths.proofs.Raising.{within_placed}
 use Rattle.mintc_paths.proofs.longest.are_runs_short.Goals as goal
-
-pub raise_all-requires-clause-none : goal.raise_all-requires-clause-none
-raise_all-requires-clause-none c = AreCarried-no_rows _ _ _ _ _ (c.deref_mut.ensures.value ∙ c.in_ok-sums.ensures.items_if_clones_equal (λ y e. e))
 
 pub returns : goal.returns
 returns c =

@@ -1,10 +1,7 @@
-use Rattle.std.proofs.Common.{◌≡◌, ◌<◌, ◌≤ℤ◌, ◌∙◌, ℕ, pos, length, arith, sym, subst}
+use Rattle.std.proofs.Common.{◌≡◌, ◌<◌, ◌∙◌, ℕ, length, arith}
 use Rattle.std.proofs.lemmas.List.{get_or_default}
-use Rattle.mintc_timing.specs.declared.parts.TimingArc.{TimingArc}
 use Rattle.mintc_timing.specs.Design.{no_arc}
-use Rattle.mintc_timing.specs.Limits.{IsDelay}
 use Rattle.mintc_timing.specs.Paths.{arc_at}
-use Rattle.mintc_paths.specs.Longest.{bit_sum}
 use Rattle.mintc_paths.proofs.SharedPassing.{row_in, row_to_in, max_in}
 use Rattle.mintc_paths.proofs.Raising.{IsRaised, row_low, row_high, raised_along}
 use Rattle.mintc_paths.proofs.longest.raise_all.Goals as goal
@@ -17,17 +14,16 @@ arc_is c = c.index.ensures ∙ get_or_default c.args.course.now.along.items c.lo
 pub raise-requires : goal.raise-requires
 raise-requires c =
     let i : ℕ = c.loop-place.place in
-    let all = c.requires.course.along.count in
-    let low : i < length c.args.order.now = omega (arith, c.args.course.now.along.ok.0) in
-    let is = sym (arc_is (goal.at.raise-requires c).After-index) in
-    let inside = row_in c.args.flat.now c.args.order.now c.requires.order c.elements-elements.ensures.kept c.args.course.now (length c.args.sums.now) c.requires.course c.requires.bits i low in
-    let inside_to = row_to_in c.args.flat.now c.args.order.now c.requires.order c.elements-elements.ensures.kept c.args.course.now (length c.args.sums.now) c.requires.course c.requires.bits i low in
-    record {
-      from = subst (λ (a : TimingArc). a.from < length c.loop-place.sums) is (omega (arith, c.loop-place.invariant.count));
-      to = subst (λ (a : TimingArc). a.to < length c.loop-place.sums) is (omega (arith, c.loop-place.invariant.count));
-      low = subst (λ (a : TimingArc). pos 0 ≤ℤ bit_sum c.loop-place.sums a.from) is (row_low c.args.flat.now c.args.order.now c.requires.order c.elements-elements.ensures.kept c.args.course.now (length c.args.sums.now) c.requires.course c.requires.bits c.loop-place.sums i low c.loop-place.invariant.carried);
-      high = subst (λ (a : TimingArc). bit_sum c.loop-place.sums a.from ≤ℤ pos 1000000000000000) is (row_high c.args.flat.now c.args.order.now c.requires.order c.elements-elements.ensures.kept c.args.course.now (length c.args.sums.now) c.requires.course c.requires.bits c.loop-place.sums i low c.loop-place.invariant.carried);
-      delay = subst (λ (a : TimingArc). IsDelay a.max) is (max_in c.args.flat.now c.args.order.now c.requires.order c.elements-elements.ensures.kept c.args.course.now (length c.args.sums.now) c.requires.course c.requires.bits i low);
+    let low : i < length c.args.order.now = omega (arith, c.args.course.now.along.ok.0, c.requires.course.along.count) in
+    let kept = c.elements-elements.ensures.kept in
+    let inside = row_in c.args.flat.now c.args.order.now c.requires.order kept c.args.course.now (length c.args.sums.now) c.requires.course c.requires.bits i low in
+    let inside_to = row_to_in c.args.flat.now c.args.order.now c.requires.order kept c.args.course.now (length c.args.sums.now) c.requires.course c.requires.bits i low in
+    rw (arc_is (goal.at.raise-requires c).After-index) record {
+      from = omega (arith, c.loop-place.invariant.count);
+      to = omega (arith, c.loop-place.invariant.count);
+      low = row_low c.args.flat.now c.args.order.now c.requires.order kept c.args.course.now (length c.args.sums.now) c.requires.course c.requires.bits c.loop-place.sums i low c.loop-place.invariant.carried;
+      high = row_high c.args.flat.now c.args.order.now c.requires.order kept c.args.course.now (length c.args.sums.now) c.requires.course c.requires.bits c.loop-place.sums i low c.loop-place.invariant.carried;
+      delay = max_in c.args.flat.now c.args.order.now c.requires.order kept c.args.course.now (length c.args.sums.now) c.requires.course c.requires.bits i low;
     }
 
 pub loop-place-preserved : goal.loop-place-preserved
@@ -35,11 +31,11 @@ loop-place-preserved c =
     let i : ℕ = c.loop-place.place in
     let all = c.requires.course.along.count in
     let low : i < length c.args.order.now = omega (arith, c.args.course.now.along.ok.0) in
-    let is = arc_is (goal.at.loop-place-preserved c).After-index in
+    let turn = (goal.at.loop-place-preserved c).After-index in
     let raised : IsRaised c.index.result.now c.loop-place.sums c.raise.new.sums =
     record { others = c.raise.ensures.others; kept = c.raise.ensures.kept; raised = c.raise.ensures.raised; limit = c.raise.ensures.limit } in
     record {
       count = c.raise.auto.sums ∙ c.loop-place.invariant.count;
       carried = raised_along c.args.flat.now c.args.order.now c.requires.order c.elements-elements.ensures.kept c.args.course.now (length c.args.sums.now) c.requires.course c.requires.bits
-          c.loop-place.sums c.raise.new.sums i low (subst (λ (a : TimingArc). IsRaised a c.loop-place.sums c.raise.new.sums) is raised) c.loop-place.invariant.carried;
+          c.loop-place.sums c.raise.new.sums i low (rw (arc_is turn) at raised) c.loop-place.invariant.carried;
     }

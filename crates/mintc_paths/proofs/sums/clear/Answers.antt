@@ -1,10 +1,10 @@
-use Rattle.std.proofs.Common.{◌≡◌, ◌<◌, ◌+◌, ◌*◌, ◌∙◌, ℕ, List, length, arith, sym, subst}
+use Rattle.std.proofs.Common.{◌≡◌, ◌<◌, ◌+◌, ◌*◌, ◌∙◌, ℕ, length, arith}
 use Rattle.std.proofs.lemmas.List.{get_or_default}
-use Rattle.mintc_paths.specs.declared.sums.Sums.{Sums}
-use Rattle.mintc_paths.specs.Sums.{row_of, placed, AreBegun, AreMarked}
+use Rattle.mintc_paths.specs.Sums.{row_of}
 use Rattle.mintc_paths.proofs.Marking.{marked_more}
 use Rattle.mintc_paths.proofs.SharedWaking.{IsAwake-none}
-use Rattle.mintc_paths.proofs.Rowing.{IsBegun, AreBegun-placed_none, AreBegun-placed_more}
+use Rattle.mintc_paths.proofs.Beginning.{IsBegun}
+use Rattle.mintc_paths.proofs.Rowing.{AreBegun-placed_none, AreBegun-placed_more}
 use Rattle.mintc_paths.proofs.sums.clear.Goals as goal
 
 pub loop-lane-init : goal.loop-lane-init
@@ -17,23 +17,21 @@ loop-lane-init c = record {
 
 pub loop-lane-preserved : goal.loop-lane-preserved
 loop-lane-preserved c =
-    let rows : List ℕ = c.args.course.now.rows.of_bits.items in
+    let rows = c.args.course.now.rows.of_bits.items in
     let n : ℕ = length c.args.sums.now in
     let lane : ℕ = c.loop-lane.lane in
     let bit : ℕ = 2 * (c.args.first + lane) + 1 in
     let row : ℕ = c.index-row.result.now in
-    let old : List Sums = c.loop-lane.sums in
-    let new : List Sums = c.begin.new.self in
-    let h = c.requires.rows.of_bits in
-    let count = h.count in
+    let old = c.loop-lane.sums in
+    let new = c.begin.new.self in
     let inside : bit < n = omega arith in
-    let is_row : row ≡ row_of rows bit = c.index-row.ensures ∙ get_or_default rows bit row 0 (omega arith) in
+    let is_row : row ≡ row_of rows bit = c.index-row.ensures ∙ get_or_default rows bit row 0 (omega (arith, c.requires.rows.of_bits.count)) in
     let begun : IsBegun old new row lane = record { others = c.begin.ensures.others; lanes = c.in_ok-begin.ensures.lanes; own = c.in_ok-begin.ensures.own } in
     record {
       begun = λ arcs order.
           AreBegun-placed_more arcs order c.args.first lane n c.args.course.now.rows c.requires.rows old new (omega arith) inside
-          (subst (λ at. IsBegun old new at lane) is_row begun) (c.loop-lane.invariant.begun arcs order);
-      marked = subst (λ marks. AreMarked new marks) (sym c.reach.ensures.reached) (marked_more old new c.loop-lane.reached row c.begin.ensures.count c.begin.ensures.others c.loop-lane.invariant.marked);
+          (rw is_row at begun) (c.loop-lane.invariant.begun arcs order);
+      marked = rw c.reach.ensures.reached (marked_more old new c.loop-lane.reached row c.begin.ensures.count c.begin.ensures.others c.loop-lane.invariant.marked);
       awake = c.reach.ensures.awake 0 c.loop-lane.invariant.awake;
       count = c.begin.ensures.count ∙ c.loop-lane.invariant.count;
     }
@@ -41,4 +39,4 @@ loop-lane-preserved c =
 pub returns-clause-begun : goal.returns-clause-begun
 returns-clause-begun c = λ arcs order.
     let done : c.loop-lane.lane ≡ c.args.lanes = omega arith in
-    subst (λ n. AreBegun arcs order c.args.first n (placed c.args.course.now.rows.of_bits.items c.loop-lane.sums)) done (c.loop-lane.invariant.begun arcs order)
+    rw done at (c.loop-lane.invariant.begun arcs order)

@@ -1,13 +1,11 @@
-use Rattle.std.proofs.Common.{◌≡◌, ◌≢◌, ◌<◌, ◌≤◌, ◌+◌, ◌∙◌, ℕ, List, length, arith, rules, sym, subst}
+use Rattle.std.proofs.Common.{◌≡◌, ◌<◌, ◌≤◌, ◌+◌, ◌∙◌, ℕ, length, arith}
 use Rattle.std.proofs.lemmas.List.{get_or_default}
-use Rattle.mintc_timing.specs.declared.parts.TimingArc.{TimingArc}
 use Rattle.mintc_timing.specs.Design.{no_arc}
-use Rattle.mintc_timing.specs.Limits.{IsDelay}
 use Rattle.mintc_timing.specs.Paths.{arc_at}
 use Rattle.mintc_paths.specs.Awake.{IsAwake}
-use Rattle.mintc_paths.specs.Sums.{IsAlike, IsBounded, AreSums, placed, sums_at}
+use Rattle.mintc_paths.specs.Sums.{AreSums, placed}
 use Rattle.mintc_paths.proofs.Filling.{IsCarried}
-use Rattle.mintc_paths.proofs.SharedPassing.{row_in, row_to_in, apart_rows, min_in, max_in, from_bounded, to_bounded, from_alike, carried_along, passed_next, at_place, at_end}
+use Rattle.mintc_paths.proofs.SharedPassing.{IsSmallAt, ends_small, carried_along, passed_next, at_place, at_end}
 use Rattle.mintc_paths.proofs.Reaching.{AreExtremes-from_sums}
 use Rattle.mintc_paths.proofs.Rowing.{length-placed}
 use Rattle.mintc_paths.proofs.sums.fill.Given.{Over}
@@ -31,41 +29,34 @@ loop-place-init g c =
 arc_is : (g : Over) (c : After-index-arc g) → c.index-arc.result.now ≡ arc_at c.args.course.now.along.items c.loop-place.place
 arc_is g c = c.index-arc.ensures ∙ get_or_default c.args.course.now.along.items c.loop-place.place c.index-arc.result.now no_arc (omega (arith, c.args.course.now.along.ok.0))
 
-pub carry-requires : goal.carry-requires
-carry-requires g c =
-    let i : ℕ = c.loop-place.place in
-    let along : List TimingArc = c.args.course.now.along.items in
+-- the sums along the arcs before it
+so_far : (g : Over) (c : After-index-arc g) → AreSums g.of.design.arcs g.of.order c.loop-place.place c.args.first c.args.lanes (placed c.args.course.now.rows.of_bits.items c.loop-place.sums)
+so_far g c = rw (at_place c.loop-place.place (length g.of.order) (omega (arith, c.args.course.now.along.ok.0, c.requires.0.is_course.along.count))) at c.loop-place.invariant.sums_so_far
+
+-- the sums at its ends
+ends : (g : Over) (c : After-index-arc g) → IsSmallAt c.loop-place.sums c.index-arc.result.now
+ends g c =
     let h = c.requires.0 in
-    let n : ℕ = length c.args.sums.now in
-    let all = h.is_course.along.count in
-    let low : i < length g.of.order = omega (arith, c.args.course.now.along.ok.0) in
-    let is = sym (arc_is g (goal.at.carry-requires g c).After-index-arc) in
-    let so_far = subst (λ k. AreSums g.of.design.arcs g.of.order k c.args.first c.args.lanes (placed c.args.course.now.rows.of_bits.items c.loop-place.sums)) (at_place i (length g.of.order) low) c.loop-place.invariant.sums_so_far in
-    record {
-      from = subst (λ (a : TimingArc). a.from < length c.loop-place.sums) is (subst (λ m. (arc_at along i).from < m) (sym c.loop-place.invariant.count) (row_in g.of.design g.of.order h.is_ordered.order h.is_ordered.kept c.args.course.now n h.is_course h.bits i low));
-      to = subst (λ (a : TimingArc). a.to < length c.loop-place.sums) is (subst (λ m. (arc_at along i).to < m) (sym c.loop-place.invariant.count) (row_to_in g.of.design g.of.order h.is_ordered.order h.is_ordered.kept c.args.course.now n h.is_course h.bits i low));
-      apart = subst (λ (a : TimingArc). a.from ≢ a.to) is (apart_rows g.of.design g.of.order h.is_ordered.order h.is_ordered.kept c.args.course.now n h.is_course h.bits i low);
-      min = subst (λ (a : TimingArc). IsDelay a.min) is (min_in g.of.design g.of.order h.is_ordered.order h.is_ordered.kept c.args.course.now n h.is_course h.bits i low);
-      max = subst (λ (a : TimingArc). IsDelay a.max) is (max_in g.of.design g.of.order h.is_ordered.order h.is_ordered.kept c.args.course.now n h.is_course h.bits i low);
-      from_bounded = subst (λ (a : TimingArc). IsBounded 1000000000000000 (sums_at c.loop-place.sums a.from)) is
-          (from_bounded g.of.design g.of.order h.is_ordered.order h.is_ordered.kept c.args.course.now n h.is_course h.bits c.args.first c.args.lanes c.requires.1.0 c.loop-place.sums c.loop-place.invariant.count i low so_far);
-      to_bounded = subst (λ (a : TimingArc). IsBounded 1000000000000000 (sums_at c.loop-place.sums a.to)) is
-          (to_bounded g.of.design g.of.order h.is_ordered.order h.is_ordered.kept c.args.course.now n h.is_course h.bits c.args.first c.args.lanes c.requires.1.0 c.loop-place.sums c.loop-place.invariant.count i low so_far);
-      alike = subst (λ (a : TimingArc). IsAlike (sums_at c.loop-place.sums a.from)) is
-          (from_alike g.of.design g.of.order h.is_ordered.order h.is_ordered.kept c.args.course.now n h.is_course h.bits c.args.first c.args.lanes c.requires.1.0 c.loop-place.sums c.loop-place.invariant.count i low so_far);
-      marked = c.loop-place.invariant.marked;
-      leaving = search rules;
-      ready = search rules;
-    }
+    rw (arc_is g c)
+    (ends_small g.of.design g.of.order h.is_ordered.order h.is_ordered.kept c.args.course.now (length c.args.sums.now) h.is_course h.bits c.args.first c.args.lanes c.requires.1.0
+    c.loop-place.sums c.loop-place.invariant.count c.loop-place.place (omega (arith, c.args.course.now.along.ok.0, h.is_course.along.count)) (so_far g c))
+
+pub carry-requires-clause-from_bounded : goal.carry-requires-clause-from_bounded
+carry-requires-clause-from_bounded g c = (ends g (goal.at.carry-requires-clause-from_bounded g c).After-index-arc).from
+
+pub carry-requires-clause-to_bounded : goal.carry-requires-clause-to_bounded
+carry-requires-clause-to_bounded g c = (ends g (goal.at.carry-requires-clause-to_bounded g c).After-index-arc).to
+
+pub carry-requires-clause-alike : goal.carry-requires-clause-alike
+carry-requires-clause-alike g c = (ends g (goal.at.carry-requires-clause-alike g c).After-index-arc).alike
 
 pub loop-place-preserved : goal.loop-place-preserved
 loop-place-preserved g c =
     let i : ℕ = c.loop-place.place in
-    let along : List TimingArc = c.args.course.now.along.items in
+    let along = c.args.course.now.along.items in
     let all = c.requires.0.is_course.along.count in
     let low : i < length g.of.order = omega (arith, c.args.course.now.along.ok.0) in
-    let is = arc_is g (goal.at.loop-place-preserved g c).After-index-arc in
-    let so_far = subst (λ k. AreSums g.of.design.arcs g.of.order k c.args.first c.args.lanes (placed c.args.course.now.rows.of_bits.items c.loop-place.sums)) (at_place i (length g.of.order) low) c.loop-place.invariant.sums_so_far in
+    let turn = (goal.at.loop-place-preserved g c).After-index-arc in
     let h = c.in_ok-carry.ensures in
     let carried : IsCarried c.index-arc.result.now c.loop-place.sums c.carry.new.sums = record { others = h.others; greatest = h.greatest; least = h.least; bounded = h.bounded } in
     let awake : IsAwake along (i + 1) c.carry.new.reached c.carry.new.awake = h.awake (i + 1)
@@ -76,32 +67,23 @@ loop-place-preserved g c =
           c.args.first c.args.lanes c.requires.1.0 c.carry.new.sums same c.carry.new.reached h.marked c.carry.new.awake (i + 1) c.next-place-in-loop-place.result (omega arith)
           (omega arith) awake c.next-place-in-loop-place.ensures.none
           (carried_along g.of.design g.of.order c.requires.0.is_ordered.order c.requires.0.is_ordered.kept c.args.course.now (length c.args.sums.now) c.requires.0.is_course c.requires.0.bits
-          c.args.first c.args.lanes c.requires.1.0 c.loop-place.sums c.loop-place.invariant.count c.carry.new.sums h.count i low (subst (λ (a : TimingArc). IsCarried a c.loop-place.sums c.carry.new.sums) is carried) so_far);
+          c.args.first c.args.lanes c.requires.1.0 c.loop-place.sums c.loop-place.invariant.count c.carry.new.sums h.count i low (rw (arc_is g turn) at carried) (so_far g turn));
       marked = h.marked;
       awake = IsAwake-later along (i + 1) c.next-place-in-loop-place.result c.carry.new.reached c.carry.new.awake (omega arith) awake;
       count = same;
     }
 
-pub returns-clause-sums : goal.returns-clause-sums
-returns-clause-sums g c =
-    let all = c.requires.0.is_course.along.count in
-    let past : length g.of.order ≤ c.loop-place.place = omega (arith, c.args.course.now.along.ok.0) in
-    subst (λ k. AreSums g.of.design.arcs g.of.order k c.args.first c.args.lanes (placed c.args.course.now.rows.of_bits.items c.loop-place.sums)) (at_end c.loop-place.place (length g.of.order) past) c.loop-place.invariant.sums_so_far
-
 pub returns-clause-extremes : goal.returns-clause-extremes
 returns-clause-extremes g c =
     let all = c.requires.0.is_course.along.count in
     let past : length g.of.order ≤ c.loop-place.place = omega (arith, c.args.course.now.along.ok.0) in
-    let rows : List ℕ = c.args.course.now.rows.of_bits.items in
+    let rows = c.args.course.now.rows.of_bits.items in
     let in_rows = c.requires.0.is_course.rows.of_bits.count in
     let same = length-placed rows c.loop-place.sums in
     AreExtremes-from_sums g.of.design g.of.order c.requires.0.is_ordered.order c.args.first c.args.lanes (placed rows c.loop-place.sums) (omega arith) c.requires.1.1.0 c.requires.0.is_ordered.kept.each_arc
-    (subst (λ k. AreSums g.of.design.arcs g.of.order k c.args.first c.args.lanes (placed rows c.loop-place.sums)) (at_end c.loop-place.place (length g.of.order) past) c.loop-place.invariant.sums_so_far)
+    (rw (at_end c.loop-place.place (length g.of.order) past) at c.loop-place.invariant.sums_so_far)
 
 pub next-place-requires-in-loop-place : goal.next-place-requires-in-loop-place
 next-place-requires-in-loop-place g c =
-    let i : ℕ = c.loop-place.place in
-    let along : List TimingArc = c.args.course.now.along.items in
-    let awake = c.in_ok-carry.ensures.awake (i + 1)
-    (IsAwake-next along i c.loop-place.reached c.loop-place.awake _ c.remove.ensures.count c.remove.ensures.others c.loop-place.invariant.awake) in
-    awake.ready.few
+    let rest = IsAwake-next c.args.course.now.along.items c.loop-place.place c.loop-place.reached c.loop-place.awake _ c.remove.ensures.count c.remove.ensures.others c.loop-place.invariant.awake in
+    (c.in_ok-carry.ensures.awake (c.loop-place.place + 1) rest).ready.few

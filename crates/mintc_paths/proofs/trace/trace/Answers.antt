@@ -1,4 +1,4 @@
-use Rattle.std.proofs.Common.{◌≡◌, ◌<◌, ◌+◌, ◌-◌, ℕ, length, get_or, arith, refl, subst, ◌∙◌, sym}
+use Rattle.std.proofs.Common.{◌≡◌, ◌<◌, ◌+◌, ◌-◌, ℕ, length, get_or, arith, subst, ◌∙◌, sym}
 use Rattle.std.specs.Prelude.{reverse}
 use Rattle.mintc_timing.specs.Paths.{Leads, arc_at}
 use Rattle.mintc_rings.specs.Rings.{total}
@@ -9,12 +9,6 @@ use Rattle.mintc_paths.proofs.Filling.{arc_inside}
 use Rattle.mintc_paths.proofs.Tracing.{KeepsTraced, KeepsTraced-passed, KeepsTraced-taken, traced_all}
 use Rattle.mintc_paths.proofs.trace.trace.Goals as goal
 use Rattle.mintc_paths.proofs.trace.trace.Goals.{After-is_last}
-
-pub bounds-arcs-number : goal.bounds-arcs-number
-bounds-arcs-number c =
-    let of_order : c.items-numbers.result.now ≡ c.args.order.now = c.items-numbers.ensures ∙ c.arcs.ensures in
-    let low : c.loop-left.left - 1 < length c.args.order.now = omega arith in
-    rw (c.arcs-arcs.ensures, of_order) (inside c.args.flat.now.arcs c.args.order.now c.requires.order (c.loop-left.left - 1) low)
 
 pub is_last-requires-clause-bounded : goal.is_last-requires-clause-bounded
 is_last-requires-clause-bounded c =
@@ -49,7 +43,7 @@ loop-left-preserved c =
     record {
       inside = omega (arith, low turn);
       bit = c.loop-left.invariant.bit;
-      traced = KeepsTraced-passed c.args.extreme c.args.flat.now.arcs c.args.order.now c.requires.order c.args.sums.now c.args.end i (get_or c.args.order.now i 0) c.loop-left.bit c.loop-left.path.items (low turn) refl
+      traced = KeepsTraced-passed c.args.extreme c.args.flat.now.arcs c.args.order.now c.requires.order c.args.sums.now c.args.end i c.loop-left.bit c.loop-left.path.items (low turn)
           (omega (arith, in_design.from)) (omega (arith, in_design.to)) (before turn)
           (λ enters through. let yes = only_if (enters, through) in let never = c.if-is_last.false in absurd (cc));
     }
@@ -65,7 +59,7 @@ loop-left-preserved-then-is_last c =
       inside = omega (arith, low turn);
       bit = rw (c.arcs-arcs.ensures, of_order turn) (omega (arith, in_design.from));
       traced = rw (c.arcs-arcs.ensures, of_order turn, pushed)
-          (KeepsTraced-taken c.args.extreme c.args.flat.now.arcs c.args.order.now c.requires.order c.args.sums.now c.args.end i (get_or c.args.order.now i 0) c.loop-left.bit c.loop-left.path.items (low turn) refl
+          (KeepsTraced-taken c.args.extreme c.args.flat.now.arcs c.args.order.now c.requires.order c.args.sums.now c.args.end i c.loop-left.bit c.loop-left.path.items (low turn)
           (omega (arith, in_design.from)) (omega (arith, in_design.to)) (before turn) last.0 last.1);
     }
 

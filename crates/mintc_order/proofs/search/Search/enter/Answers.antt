@@ -7,7 +7,7 @@ use Rattle.mintc_order.proofs.search.Search.enter.Goals.{After-len}
 
 -- There is room for one bit more.
 room : (c : After-len) → c.len.result + 1 < 4294967296
-room c = omega (arith, IsSearch-few c.requires.search.1, c.len.ensures, c.in_ok-push.ensures.len, c.requires.few)
+room c = omega (arith, IsSearch-few c.requires.search.1)
 
 pub overflow_cast-len : goal.overflow_cast-len
 overflow_cast-len c = omega (arith, room (goal.at.overflow_cast-len c).After-len)
@@ -17,11 +17,9 @@ overflow_add-len c = omega (arith, room (goal.at.overflow_add-len c).After-len)
 
 pub returns-clause-search : goal.returns-clause-search
 returns-clause-search c =
-    let starts = c.requires.search.0.each_start in
-    let in_bits = c.requires.bit in
-    let read = get_or_default c.args.ranges.now.starts.items c.args.bit 0 c.index.result.now (omega arith) in
-    let same : c.index.result.now ≡ get_or c.args.ranges.now.starts.items c.args.bit 0 = let e = c.index.ensures in omega arith in
-    let mark : c.len.result + 1 ≡ length c.args.self.now.path.items + 2 = let len' = c.len.ensures in let pushed = c.in_ok-push.ensures.len in omega arith in
-    IsSearch-entered_as c.requires.search.0 c.requires.search.1 c.args.bit in_bits c.requires.unmet c.requires.ends
+    let inside : c.args.bit < length c.args.ranges.now.starts.items = omega (arith, c.requires.search.0.each_start) in
+    let same : c.index.result.now ≡ get_or c.args.ranges.now.starts.items c.args.bit 0 = omega (arith, get_or_default c.args.ranges.now.starts.items c.args.bit 0 c.index.result.now inside) in
+    let mark : c.len.result + 1 ≡ length c.args.self.now.path.items + 2 = omega (arith, c.len.ensures, c.in_ok-push.ensures.len) in
+    IsSearch-entered_as c.requires.search.0 c.requires.search.1 c.args.bit c.requires.bit c.requires.unmet c.requires.ends
     c.push.new.self.items c.push-2.new.self.items c.index.result.now (c.len.result + 1)
     c.in_ok-push.ensures.items c.in_ok-push-2.ensures.items same mark

@@ -3,7 +3,4 @@ use Rattle.mintc_order.proofs.Counting.{IsSearch-few}
 use Rattle.mintc_order.proofs.search.Search.follow.Goals as goal
 
 pub loop-smaller : goal.loop-smaller
-loop-smaller c =
-    let few = IsSearch-few c.in_ok-step.ensures.search.1 in
-    let step = c.in_ok-step.ensures.step c.if-branch.true in
-    omega (arith, few, step)
+loop-smaller c = omega (arith, IsSearch-few c.in_ok-step.ensures.search.1, c.in_ok-step.ensures.step c.if-branch.true)

@@ -4,7 +4,5 @@ use Rattle.mintc_order.proofs.search.Search.give_out.Goals as goal
 
 pub returns-clause-search : goal.returns-clause-search
 returns-clause-search c =
-    let of_path = c.args.self.now.path.ok in
-    let of_nexts = c.args.self.now.nexts.ok in
     IsSearch-given_as c.requires.search c.args.bit c.requires.some c.requires.last c.requires.through
     c.pop.new.self.items c.pop-2.new.self.items c.push.new.self.items (omega arith) (omega arith) c.pop.ensures.rest c.pop-2.ensures.rest c.in_ok-push.ensures.items

@@ -1,18 +1,11 @@
-use Rattle.std.proofs.Common.{◌∙◌, sym, w64, to_z, of_z}
+use Rattle.std.proofs.Common.{◌∙◌, sym, w64}
 use Rattle.std.proofs.lemmas.Int.{to_z-of_z}
 use Rattle.mintc_lanes.specs.Lanes.{lane_at}
-use Rattle.mintc_paths.proofs.SharedFinding.{IsAdded-none, IsAdded-some}
+use Rattle.mintc_paths.proofs.SharedFinding.{IsAdded_some}
 use Rattle.mintc_paths.proofs.found.Found.add_at.Goals as goal
-
-pub returns-in_default-clause-found : goal.returns-in_default-clause-found
-returns-in_default-clause-found c =
-    IsAdded-none c.args.from c.args.to (lane_at c.args.sums.now.greatest c.args.lane) (lane_at c.args.sums.now.least c.args.lane) c.args.self.now (sym c.sum_in.ensures.value ∙ c.in_default.is)
 
 pub returns-clause-found : goal.returns-clause-found
 returns-clause-found c =
-    let max = c.in-Some.max in
-    let min = c.in-Some-sum_in.min in
-    IsAdded-some c.add.result c.args.from c.args.to (lane_at c.args.sums.now.greatest c.args.lane) (lane_at c.args.sums.now.least c.args.lane) max min
-    (to_z w64 (of_z w64 max)) (to_z w64 (of_z w64 min)) c.args.self.now c.add.new.self
-    (sym c.sum_in.ensures.value ∙ c.in-Some.is) (sym c.sum_in-2.ensures.value ∙ c.in-Some-sum_in.is) (to_z-of_z w64 max c.in-Some.ensures.fits) (to_z-of_z w64 min c.in-Some-sum_in.ensures.fits)
-    c.add.ensures.count c.add.ensures.pairs
+    IsAdded_some c.add.result c.args.from c.args.to (lane_at c.args.sums.now.greatest c.args.lane) (lane_at c.args.sums.now.least c.args.lane) c.in-Some.max c.in-Some-sum_in.min c.args.self.now c.add.new.self
+    (sym c.sum_in.ensures.value ∙ c.in-Some.is) (sym c.sum_in-2.ensures.value ∙ c.in-Some-sum_in.is) c.add.ensures.count
+    (rw (to_z-of_z w64 c.in-Some.max c.in-Some.ensures.fits, to_z-of_z w64 c.in-Some-sum_in.min c.in-Some-sum_in.ensures.fits) at c.add.ensures.pairs)

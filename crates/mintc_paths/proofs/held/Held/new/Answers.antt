@@ -1,14 +1,9 @@
-use Rattle.std.proofs.Common.{◌<◌, ℕ, List, rules, subst, sym}
+use Rattle.std.proofs.Common.{◌<◌, rules, subst, sym}
 use Rattle.mintc_paths.specs.Held.{places_of}
-use Rattle.mintc_paths.proofs.Holding.{placed_none, all_zero, AreHeld-none, length-places}
+use Rattle.mintc_paths.proofs.Holding.{placed_none, all_zero, length-places}
 use Rattle.mintc_paths.proofs.held.Held.new.Goals as goal
-
-pub invariant_of-result : goal.invariant_of-result
-invariant_of-result c =
-    let numbers : List ℕ = c.in_ok-vec.field-0.items in
-    record { held = AreHeld-none (places_of 0 numbers) c.in_ok-vec-2.field-0.items (all_zero c.args.rows numbers (search rules)) (search rules) (search rules); few = search rules }
 
 pub returns-clause-none : goal.returns-clause-none
 returns-clause-none c =
-    let numbers : List ℕ = c.in_ok-vec.field-0.items in
+    let numbers = c.in_ok-vec.field-0.items in
     λ row low. placed_none (places_of 0 numbers) c.in_ok-vec-2.field-0.items (all_zero c.args.rows numbers (search rules)) (search rules) row (subst (λ n. row < n) (sym (length-places 0 numbers)) (search rules))
