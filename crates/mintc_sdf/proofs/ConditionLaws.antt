@@ -46,11 +46,6 @@ step-in both ls t d l _ rest b e = absurd (cc)
 
 pub step-last : (both : Bool) (ls : List Layer) (t : Option (List Token)) (d : ℕ) (ts : List Token) → nat_lt d (length ls) ≡ true → layer_at both ts ≡ None →
     walked both ls t d (opening ∷ ts) ≡ walked both (noted d ls) (Some (opening ∷ ts)) (suc d) ts
-step-last both ls t d [] b e = ap (λ b. walked both (noted_if b d ls) (last_if b (opening ∷ []) t) (suc d) []) b
-step-last both ls t d (opening ∷ ts) b e = ap (λ b. walked both (noted_if b d ls) (last_if b (opening ∷ opening ∷ ts) t) (suc d) (opening ∷ ts)) b
-step-last both ls t d (closing ∷ ts) b e = ap (λ b. walked both (noted_if b d ls) (last_if b (opening ∷ closing ∷ ts) t) (suc d) (closing ∷ ts)) b
-step-last both ls t d (string s ∷ ts) b e = ap (λ b. walked both (noted_if b d ls) (last_if b (opening ∷ string s ∷ ts) t) (suc d) (string s ∷ ts)) b
-step-last both ls t d (bad ∷ ts) b e = ap (λ b. walked both (noted_if b d ls) (last_if b (opening ∷ bad ∷ ts) t) (suc d) (bad ∷ ts)) b
 step-last both ls t d (word k ∷ ts) b e = by (kind_of both k) refl e
   where
     other : Bool → Option (List Token × List Token)
@@ -62,16 +57,13 @@ step-last both ls t d (word k ∷ ts) b e = by (kind_of both k) refl e
     by None f g =
         ap (λ b. chose b (kind_of both k) (λ l. walked both (noted d ls ++ l ∷ []) None (suc d) ts) (other b)) b
         ∙ ap (λ o. chose true o (λ l. walked both (noted d ls ++ l ∷ []) None (suc d) ts) (other true)) f
+step-last both ls t d ts b e = ap (λ b. walked both (noted_if b d ls) (last_if b (opening ∷ ts) t) (suc d) ts) b
 
 pub step-off : (both : Bool) (ls : List Layer) (t : Option (List Token)) (d : ℕ) (ts : List Token) → nat_lt d (length ls) ≡ false →
     walked both ls t d (opening ∷ ts) ≡ walked both ls t (suc d) ts
-step-off both ls t d [] b = ap (λ b. walked both (noted_if b d ls) (last_if b (opening ∷ []) t) (suc d) []) b
-step-off both ls t d (opening ∷ ts) b = ap (λ b. walked both (noted_if b d ls) (last_if b (opening ∷ opening ∷ ts) t) (suc d) (opening ∷ ts)) b
-step-off both ls t d (closing ∷ ts) b = ap (λ b. walked both (noted_if b d ls) (last_if b (opening ∷ closing ∷ ts) t) (suc d) (closing ∷ ts)) b
-step-off both ls t d (string s ∷ ts) b = ap (λ b. walked both (noted_if b d ls) (last_if b (opening ∷ string s ∷ ts) t) (suc d) (string s ∷ ts)) b
-step-off both ls t d (bad ∷ ts) b = ap (λ b. walked both (noted_if b d ls) (last_if b (opening ∷ bad ∷ ts) t) (suc d) (bad ∷ ts)) b
 step-off both ls t d (word k ∷ ts) b =
     ap (λ b. chose b (kind_of both k) (λ l. walked both (noted d ls ++ l ∷ []) None (suc d) ts) (walked both (noted_if b d ls) (last_if b (opening ∷ word k ∷ ts) t) (suc d) (word k ∷ ts))) b
+step-off both ls t d ts b = ap (λ b. walked both (noted_if b d ls) (last_if b (opening ∷ ts) t) (suc d) ts) b
 
 -- what a word or a string does
 pub step-word : (both b : Bool) (ls : List Layer) (t : Option (List Token)) (d : ℕ) (w : List ℕ) (ts : List Token) → nat_lt d (length ls) ≡ b →
@@ -85,25 +77,22 @@ step-string both b ls t d w ts e = ap (λ b. walked both (noted_if b d ls) (last
 -- inside of an item that is no condition nothing is noted
 quiet : (n d : ℕ) (both : Bool) (ls : List Layer) (t : Option (List Token)) (ts : List Token) → length ls ≤ d → length ts ≤ n → walked both ls t d ts ≡ walked both ls t d (after ts)
 unfolding fronts
-quiet zero d both ls t (word w ∷ ts) g h = absurd (omega arith)
+quiet n d both ls t [] g h = refl
+quiet n d both ls t (bad ∷ ts) g h = refl
+quiet n d both ls t (closing ∷ ts) g h = refl
 quiet (suc n) d both ls t (word w ∷ ts) g h = step-word both false ls t d w ts (le-ltb d (length ls) g) ∙ quiet n d both ls t ts g (omega arith)
-quiet zero d both ls t (string w ∷ ts) g h = absurd (omega arith)
 quiet (suc n) d both ls t (string w ∷ ts) g h = step-string both false ls t d w ts (le-ltb d (length ls) g) ∙ quiet n d both ls t ts g (omega arith)
-quiet zero d both ls t (opening ∷ ts) g h = absurd (omega arith)
 quiet (suc n) d both ls t (opening ∷ ts) g h =
     by (after ts) refl (step-off both ls t d ts (le-ltb d (length ls) g) ∙ quiet n (suc d) both ls t ts (omega arith) (omega arith))
     (λ r less. quiet n d both ls t r g less)
   where
-    ajar : (af : List Token) → after ts ≡ af → after_closing af ≡ None → walked both ls t d (opening ∷ ts) ≡ walked both ls t d (after (opening ∷ ts))
-    ajar af k l = ap (walked both ls t d) (sym (unopened ts (ap after_closing k ∙ l)).1)
-
     by : (af : List Token) → after ts ≡ af → walked both ls t d (opening ∷ ts) ≡ walked both ls t (suc d) (after ts) →
         ((r : List Token) → length r ≤ n → walked both ls t d r ≡ walked both ls t d (after r)) → walked both ls t d (opening ∷ ts) ≡ walked both ls t d (after (opening ∷ ts))
     by (closing ∷ r) k same go =
         let size : length (after ts) ≡ suc (length r) = ap length k in
         same ∙ ap (walked both ls t (suc d)) k ∙ go r (omega (arith, after-shorter ts, size)) ∙ ap (walked both ls t d) (sym (opened ts r k).1)
-    by af k same go = ajar af k refl
-quiet n d both ls t _ g h = refl
+    by _ k same go = ap (walked both ls t d) (sym (unopened ts (ap after_closing k)).1)
+quiet zero d both ls t _ g h = absurd (omega arith)
 
 -- What is found, by what forms give: `lst` of the last item of some, `at` of an item that is no condition.
 pub more_by : ℕ → Layer → Layer
@@ -188,11 +177,8 @@ walks {A} both lst at form (suc n) pre l any t (opening ∷ ts) rest h e =
     here : List Token
     here = opening ∷ ts
 
-    ajar : (af : List Token) → after ts ≡ af → after_closing af ≡ None → Walks both lst at pre l any t (opening ∷ ts) rest
-    ajar af k f = absurd (differ (sym (unopened ts (ap after_closing k ∙ f)).1 ∙ e))
-      where
-        differ : opening ∷ ts ≡ closing ∷ rest → ⊥
-        differ f = cc
+    differ : opening ∷ ts ≡ closing ∷ rest → ⊥
+    differ f = cc
 
     plain : (r : List Token) → after ts ≡ closing ∷ r → layer_at both ts ≡ None → Walks both lst at pre (more l) [] (Some (opening ∷ ts)) r rest → Walks both lst at pre l any t (opening ∷ ts) rest
     plain r k f w =
@@ -253,7 +239,7 @@ walks {A} both lst at form (suc n) pre l any t (opening ∷ ts) rest h e =
             let word = layer-word both ts p.1 p.0 f in
             let long : length ts ≡ suc (length p.1) = ap length word.1 in
             inner r p.1 p.0 k f (down (pre ++ more l ∷ []) p.0 p.1 r (omega (arith, long, h)) (sym (ap after word.1) ∙ k)) (λ one s. go pre (more l) one s r less end)
-    by af k go down = ajar af k refl
+    by _ k go down = absurd (differ (sym (unopened ts (ap after_closing k)).1 ∙ e))
 walks both lst at form zero pre l any t _ rest h e = absurd (omega arith)
 
 -- The walk ends at the parenthesis that closes the outermost condition, and what it finds is no condition.
@@ -403,16 +389,11 @@ def-any d is = ap (λ l. limited l (last_def d is)) (sym (more-any (count is)))
 
 def-one : (d : ℕ) (is : Items) → lone_def d is ≡ limited (more_by (count is) layer.Empty) (last_def d is)
 unfolding last_def lone_def more_by
-def-one d (leaf w (leaf v is)) = sym (ap (λ l. limited l (last_def d (leaf w (leaf v is)))) (more-over (count is)))
-def-one d (leaf w (quoted v is)) = sym (ap (λ l. limited l (last_def d (leaf w (quoted v is)))) (more-over (count is)))
-def-one d (leaf w (list v is)) = sym (ap (λ l. limited l (last_def d (leaf w (list v is)))) (more-over (count is)))
-def-one d (quoted w (leaf v is)) = sym (ap (λ l. limited l (last_def d (quoted w (leaf v is)))) (more-over (count is)))
-def-one d (quoted w (quoted v is)) = sym (ap (λ l. limited l (last_def d (quoted w (quoted v is)))) (more-over (count is)))
-def-one d (quoted w (list v is)) = sym (ap (λ l. limited l (last_def d (quoted w (list v is)))) (more-over (count is)))
-def-one d (list w (leaf v is)) = sym (ap (λ l. limited l (last_def d (list w (leaf v is)))) (more-over (count is)))
-def-one d (list w (quoted v is)) = sym (ap (λ l. limited l (last_def d (list w (quoted v is)))) (more-over (count is)))
-def-one d (list w (list v is)) = sym (ap (λ l. limited l (last_def d (list w (list v is)))) (more-over (count is)))
-def-one d _ = refl
+def-one d none = refl
+def-one d (leaf w none) = refl
+def-one d (quoted w none) = refl
+def-one d (list inner none) = refl
+def-one d is = sym (ap (λ l. limited l (last_def d is)) (more-over _))
 
 def-kind : (d : ℕ) (k : List ℕ) (l : Layer) → kind_of true k ≡ Some l → (is : Items) → inner_def d (leaf k is) ≡ limited (more_by (count is) l) (last_def d is)
 unfolding inner_def
