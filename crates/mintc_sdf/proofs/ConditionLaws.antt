@@ -270,6 +270,8 @@ passes-if both true t here h p = h
 passes-if both false t here h p = p
 
 passes : (both : Bool) (ls : List Layer) (t : Option (List Token)) (d : ℕ) (ts start rest : List Token) → Passes both t d ts (walked both ls t d ts) start rest
+passes both ls t d [] start rest e p = absurd (cc)
+passes both ls t d (bad ∷ ts) start rest e p = absurd (cc)
 passes both ls t zero (closing ∷ ts) start rest e p = passes-end both ls t ts start rest e p
 passes both ls t (suc d) (closing ∷ ts) start rest e p = passes both ls t d ts start rest e p
 passes both ls t d (word w ∷ ts) start rest e p =
@@ -295,13 +297,14 @@ passes both ls t d (opening ∷ word k ∷ ts) start rest e p =
     by true (Some l) f g inward other = inward l g
     by true None f g inward other = other true g (plain f)
     by false o f g inward other = other false g p
+passes both ls t d (opening ∷ []) start rest e p = absurd (cc)
 passes both ls t d (opening ∷ opening ∷ ts) start rest e p =
     passes both _ _ (suc d) (opening ∷ ts) start rest e (passes-if both (nat_lt d (length ls)) t (opening ∷ opening ∷ ts) (λ next f. let same : opening ∷ ts ≡ next = cc in ap (layer_at both) (sym same)) p)
 passes both ls t d (opening ∷ closing ∷ ts) start rest e p =
     passes both _ _ (suc d) (closing ∷ ts) start rest e (passes-if both (nat_lt d (length ls)) t (opening ∷ closing ∷ ts) (λ next f. let same : closing ∷ ts ≡ next = cc in ap (layer_at both) (sym same)) p)
 passes both ls t d (opening ∷ string s ∷ ts) start rest e p =
     passes both _ _ (suc d) (string s ∷ ts) start rest e (passes-if both (nat_lt d (length ls)) t (opening ∷ string s ∷ ts) (λ next f. let same : string s ∷ ts ≡ next = cc in ap (layer_at both) (sym same)) p)
-passes both ls t d _ start rest e p = absurd (cc)
+passes both ls t d (opening ∷ bad ∷ ts) start rest e p = absurd (cc)
 
 -- what is found, and what nothing is found of
 shows : {A : Type 0} (at : Items → Option A) (b : Bool) (u : Option (List Token)) (r start rest : List Token) → (if b then None else option_map (with_rest r) u) ≡ Some (start, rest) →
@@ -389,11 +392,16 @@ def-any d is = ap (λ l. limited l (last_def d is)) (sym (more-any (count is)))
 
 def-one : (d : ℕ) (is : Items) → lone_def d is ≡ limited (more_by (count is) layer.Empty) (last_def d is)
 unfolding last_def lone_def more_by
-def-one d none = refl
-def-one d (leaf w none) = refl
-def-one d (quoted w none) = refl
-def-one d (list inner none) = refl
-def-one d is = sym (ap (λ l. limited l (last_def d is)) (more-over _))
+def-one d (leaf w (leaf v is)) = sym (ap (λ l. limited l (last_def d (leaf w (leaf v is)))) (more-over (count is)))
+def-one d (leaf w (quoted v is)) = sym (ap (λ l. limited l (last_def d (leaf w (quoted v is)))) (more-over (count is)))
+def-one d (leaf w (list v is)) = sym (ap (λ l. limited l (last_def d (leaf w (list v is)))) (more-over (count is)))
+def-one d (quoted w (leaf v is)) = sym (ap (λ l. limited l (last_def d (quoted w (leaf v is)))) (more-over (count is)))
+def-one d (quoted w (quoted v is)) = sym (ap (λ l. limited l (last_def d (quoted w (quoted v is)))) (more-over (count is)))
+def-one d (quoted w (list v is)) = sym (ap (λ l. limited l (last_def d (quoted w (list v is)))) (more-over (count is)))
+def-one d (list w (leaf v is)) = sym (ap (λ l. limited l (last_def d (list w (leaf v is)))) (more-over (count is)))
+def-one d (list w (quoted v is)) = sym (ap (λ l. limited l (last_def d (list w (quoted v is)))) (more-over (count is)))
+def-one d (list w (list v is)) = sym (ap (λ l. limited l (last_def d (list w (list v is)))) (more-over (count is)))
+def-one d _ = refl
 
 def-kind : (d : ℕ) (k : List ℕ) (l : Layer) → kind_of true k ≡ Some l → (is : Items) → inner_def d (leaf k is) ≡ limited (more_by (count is) l) (last_def d is)
 unfolding inner_def

@@ -43,9 +43,10 @@ rounds true true zero zero h e f = (omega (arith, ints), omega (arith, ints), om
 rounds true true zero (suc a) h e f = (omega (arith, ints, e), omega (arith, ints), omega (arith, ints))
 rounds true true (suc q) zero h e f = absurd (omega (arith, h))
 rounds true true (suc q) (suc a) h e f = (omega (arith, ints, e), omega (arith, ints, h), omega (arith, ints))
+rounds true false q a h e f = (omega (arith, ints), omega (arith, ints, h), omega (arith, ints, e))
+rounds false false q a h e f = (omega (arith, ints), omega (arith, ints, h), omega (arith, ints, e))
 rounds false true q zero h e f = let none : q ≡ 0 = omega (arith, h) in subst (λ q. Bounds false (neg_ℤ (pos 0)) (neg_ℤ (pos q))) (sym none) (omega (arith, ints), omega (arith, ints), omega (arith, ints))
 rounds false true q (suc a) h e f = absurd (omega (arith, f refl))
-rounds _ false q a h e f = (omega (arith, ints), omega (arith, ints, h), omega (arith, ints, e))
 
 -- one number
 shape : (sign : Bool) (q : ℕ) (left : Bool) → (floor_of sign q left ≡ (if sign then neg_ℤ (pos (away q left)) else pos q)) × (ceiling_of sign q left ≡ (if sign then neg_ℤ (pos q) else pos (away q left)))
