@@ -19,13 +19,6 @@ opened-there ts us vs w e f = ap opened (word-there ts us w e ∙ ap (λ l. word
 pub opened-not : (ts us : List Token) (w : List ℕ) → word_at ts ≡ Some (w, us) → (kind.Opening ≡ kind_of us → ⊥) → opened ts ≡ None
 opened-not ts us w e n = grind arith
 
--- what opens, and with which word
-abbrev Opens : List Token → List Token → Type 0
-Opens ts us = (w : List ℕ) × (ts ≡ word w ∷ opening ∷ us)
-
-pub opened-is : (ts us : List Token) → opened ts ≡ Some us → Opens ts us
-opened-is ts us e = grind arith
-
 -- Groups, of which cells are some
 
 named-append : (gs hs : List Group) → named_in (gs ++ hs) ≡ named_in gs ++ named_in hs
