@@ -1,5 +1,5 @@
 -- The cells of pins that are names, each once: what is left of their rules is how many pins they have.
-use Rattle.std.proofs.Common.{◌≡◌, ℕ, ◌-◌, ◌==◌, length, drop, get_or, Bool, true, false, cond, not, ◌&&◌, List, [], ◌∷◌, ◌++◌, Option, Some, None, IfSome, option_map, bytes_eq, codes, refl, sym, ap, ◌∙◌}
+use Rattle.std.proofs.Common.{◌≡◌, ℕ, Bool, true, false, cond, not, ◌&&◌, List, [], ◌∷◌, ◌++◌, Option, Some, None, IfSome, option_map, bytes_eq, codes, refl, sym, ap, ◌∙◌, arith}
 use Rattle.std.specs.List.{list_all}
 use Rattle.std.proofs.lemmas.Bool.{and_parts}
 use Rattle.mintc_document.specs.Rules.{is_name}
@@ -9,7 +9,7 @@ use Rattle.mintc_cells.specs.Pins.{is_distinct, are_names}
 use Rattle.mintc_cells.specs.Rules.{pins, has_names, has_limits, has_order, has_defaults, is_cell}
 use Rattle.mintc_cells.specs.Entries.{is_kept}
 use Rattle.mintc_liberty.specs.declared.pins.Role.TheVariants as role
-use Rattle.mintc_liberty.specs.Expressions.{Literal, is_among, inverted, literal, expression, peeled, stripped, without_last}
+use Rattle.mintc_liberty.specs.Expressions.{Literal, is_among, inverted, literal, expression, peeled, stripped}
 use Rattle.mintc_liblex.specs.Statements.{Statements}
 use Rattle.mintc_liberty.specs.Meaning.{Pin, Group, last_value, is_pin, fits, are_pins, names, with_role, inputs, outputs, others, stored, stores, latch_by, flop_by, only, clocked, clock_by, gate_by, or_gate, stateless, keeper_by, by_keepers, keepers, kept, is_plain, pins_in, groups, cell_by, cell_of, usable}
 use Rattle.mintc_liberty.specs.Held.{is_between, has_counts}
@@ -17,33 +17,11 @@ use Rattle.mintc_liberty.proofs.PinLaws.{same-name, same-comm, named, named-othe
 
 -- The pin of an expression is one of the pins
 
-marked-among : (ps : List (List ℕ)) (b : Bool) (e n : List ℕ) (o : Option (List ℕ)) → cond (b && is_among ps e) (Some e) o ≡ Some n → (o ≡ Some n → is_among ps n ≡ true) → is_among ps n ≡ true
-marked-among ps b e n o h rest = by b (is_among ps e) refl h
-  where
-    by : (c d : Bool) → is_among ps e ≡ d → cond (c && d) (Some e) o ≡ Some n → is_among ps n ≡ true
-    by true true f g = let same : e ≡ n = cc in ap (is_among ps) (sym same) ∙ f
-    by true false f g = rest g
-    by false d f g = rest g
-
 inverted-among : (ps : List (List ℕ)) (e n : List ℕ) → inverted ps e ≡ Some n → is_among ps n ≡ true
-inverted-among ps e n h =
-    marked-among ps (get_or e 0 0 == 33) (drop 1 e) n (cond ((get_or e (length e - 1) 0 == 39) && is_among ps (without_last e)) (Some (without_last e)) None) h
-    (λ g. marked-among ps (get_or e (length e - 1) 0 == 39) (without_last e) n None g (nothing ps n))
-  where
-    nothing : (ps : List (List ℕ)) (n : List ℕ) → (let o : Option (List ℕ) = None in o) ≡ Some n → is_among ps n ≡ true
-    nothing ps n k = absurd (cc)
+inverted-among ps e n h = grind arith
 
 literal-among : (ps : List (List ℕ)) (e : List ℕ) (l : Literal) → literal ps e ≡ Some l → is_among ps l.0 ≡ true
-literal-among ps e l h = by (is_among ps e) refl (inverted ps e) refl h
-  where
-    by : (b : Bool) → is_among ps e ≡ b → (o : Option (List ℕ)) → inverted ps e ≡ o → cond b (Some (e, true)) (option_map (λ p. (p, false)) o) ≡ Some l → is_among ps l.0 ≡ true
-    by true f o g k =
-        let p : (e, true) ≡ l = cc in
-        ap (λ (q : Literal). is_among ps q.0) (sym p) ∙ f
-    by false f None g k = absurd (cc)
-    by false f (Some n) g k =
-        let p : (n, false) ≡ l = cc in
-        ap (λ (q : Literal). is_among ps q.0) (sym p) ∙ inverted-among ps e n g
+literal-among ps e l h = grind (arith, inverted-among ps e)
 
 expression-among : (ps : List (List ℕ)) (v : Option (List ℕ)) (l : Literal) → expression ps v ≡ Some l → is_among ps l.0 ≡ true
 expression-among ps None l h = absurd (cc)
@@ -55,8 +33,7 @@ abbrev Counted : Cell → Type 0
 Counted cell = (is_cell cell ≡ has_counts cell) × (has_defaults cell ≡ true)
 
 and-one : (b : Bool) → (b && true) ≡ b
-and-one true = refl
-and-one false = refl
+and-one b = grind arith
 
 both : (a b c d : Bool) → a ≡ c → b ≡ d → (a && b) ≡ (c && d)
 both a b c d e f = ap (λ v. v && b) e ∙ ap (λ v. c && v) f
@@ -116,9 +93,7 @@ flop-counted ps s h good =
     (counted-by (flop_by ps s) (named-two ps s h good) (two-and-others ps s.1 s.0.0 (all-distinct ps h) good.1 good.0 good.2) refl refl, refl)
 
 only-one : (xs : List Pin) (p : Pin) → only xs ≡ Some p → xs ≡ p ∷ []
-only-one [] p h = absurd (cc)
-only-one (x ∷ []) p h = let same : x ≡ p = cc in ap (λ y. y ∷ []) same
-only-one (x ∷ y ∷ xs) p h = absurd (cc)
+only-one xs p h = grind arith
 
 clock-cell : (ps : List Pin) (clock output : Pin) (invert : Bool) → are_pins ps ≡ true → is_among (inputs ps) clock.name ≡ true → outputs ps ≡ output.name ∷ [] →
     Counted (Clock clock.name output.name invert (others clock.name clock.name (inputs ps)))
@@ -181,8 +156,7 @@ counted ps (g ∷ []) h = keeper-counted ps g h
 counted ps (g ∷ k ∷ gs) h = tt
 
 pub the-counts : (o : Option Cell) → CountedIf o → IfSome o (λ cell. is_cell cell ≡ has_counts cell)
-the-counts None h = tt
-the-counts (Some cell) h = h.0
+the-counts o h = grind arith
 
 -- a cell that isn't passed over keeps its rules
 kept-good : (o : Option Cell) (cell : Cell) → CountedIf o → kept o ≡ Some cell → (is_cell cell ≡ true) × (has_defaults cell ≡ true)

@@ -9,7 +9,7 @@ use Rattle.mintc_liberty.specs.declared.pins.Role.TheVariants as role
 use Rattle.mintc_liberty.specs.Seen.{pin_seen}
 use Rattle.mintc_liberty.specs.Expressions.{is_among, without_last, inverted, literal, peeled}
 use Rattle.mintc_liberty.specs.Parentheses.{pairs}
-use Rattle.mintc_liberty.specs.Meaning.{Pin, names, inputs, with_role, is_as}
+use Rattle.mintc_liberty.specs.Meaning.{Pin, names, inputs, is_as}
 use Rattle.mintc_liberty.proofs.ParenthesesLaws.{peeled-is, peeled-size}
 use Rattle.mintc_liberty.proofs.TextLaws.{longer}
 
@@ -20,11 +20,7 @@ all-more P x xs h t (suc k) d l = t k d (omega (arith, l))
 -- whether a test holds of a pin that is an input, or of an input behind it
 pub inputs-any : (test : List ℕ → Bool) (p : PinRead) (ps : List Pin) →
     list_any test (inputs (pin_seen p ∷ ps)) ≡ ((is_as role.Input p.role && test p.name.now) || list_any test (inputs ps))
-inputs-any test p ps = by (is_as role.Input p.role)
-  where
-    by : (v : Bool) → list_any test (names (cond v (pin_seen p ∷ with_role role.Input ps) (with_role role.Input ps))) ≡ ((v && test p.name.now) || list_any test (inputs ps))
-    by true = refl
-    by false = refl
+inputs-any test p ps = grind arith
 
 not-le : (m n : ℕ) → nat_le m n ≡ false → n < m
 not-le m n e = grind (arith, nat_tests)
@@ -43,8 +39,7 @@ none-among names size e short h =
     list_any_none (bytes_eq e) names (λ k d l. let less = short k d l in longer e (slice_index_or names k d) (omega (arith, less, h)))
 
 no-and : (a b : Bool) → b ≡ false → (a && b) ≡ false
-no-and true b e = e
-no-and false b e = refl
+no-and a b e = grind arith
 
 -- no expression is longer than a name and a mark
 pub literal-none : (names : List (List ℕ)) (e : List ℕ) → All (λ name. length name + 1 < length e) names → literal names e ≡ None

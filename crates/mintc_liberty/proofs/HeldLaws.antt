@@ -1,5 +1,5 @@
 -- The cell of what is held, group by group.
-use Rattle.std.proofs.Common.{◌≡◌, Bool, true, false, cond, not, ◌&&◌, List, [], ◌∷◌, ◌++◌, Option, Some, None, option_to_list, codes, refl, sym, ap, ◌∙◌, append_assoc}
+use Rattle.std.proofs.Common.{◌≡◌, Bool, true, false, cond, not, ◌&&◌, List, [], ◌∷◌, ◌++◌, Option, Some, None, option_to_list, codes, sym, ap, ◌∙◌, arith, append_assoc}
 use Rattle.mintc_cells.specs.declared.cell.Cell.{Cell}
 use Rattle.mintc_liberty.specs.Expressions.{is_among}
 use Rattle.mintc_liberty.specs.Meaning.{Pin, Group, pins_of, pins_in, are_pins, keeping, keepers, by_keepers, kept, is_plain}
@@ -13,8 +13,7 @@ abbrev rule : Held → List Group → Bool → List Pin → List Group → Optio
 rule h gs plain ps ks = cond (plain && are_pins ps) (kept (by_keepers ps (option_to_list h.keeper ++ ks))) None
 
 and-none : (a : Bool) → (a && false) ≡ false
-and-none true = refl
-and-none false = refl
+and-none a = grind arith
 
 -- pins that may not come with those that are held
 pub broken : (h : Held) (g : Group) → are_pins (h.pins ++ pins_of g) ≡ false → (gs : List Group) → cell_with h (g ∷ gs) ≡ None
@@ -25,8 +24,7 @@ broken h g e gs =
     ∙ ap (λ b. cond b (kept (by_keepers ps (option_to_list h.keeper ++ keepers (g ∷ gs)))) None) (and-none (is_plain (g ∷ gs)))
 
 either-none : (b : Bool) → cond b (let none : Option Cell = None in none) None ≡ None
-either-none true = refl
-either-none false = refl
+either-none b = grind arith
 
 -- a second group that keeps a state
 pub second : (h : Held) (g k : Group) → true ≡ is_among keeping g.name → h.keeper ≡ Some k → (gs : List Group) → cell_with h (g ∷ gs) ≡ None

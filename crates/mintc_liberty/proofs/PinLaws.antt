@@ -1,5 +1,5 @@
 -- Pins one after the other.
-use Rattle.std.proofs.Common.{◌≡◌, ℕ, ◌+◌, ◌<◌, ◌≤◌, nat_le, nat_lt, Bool, true, false, cond, not, ◌&&◌, ◌||◌, List, [], ◌∷◌, ◌++◌, length, Option, Some, None, is_some, bytes_eq, refl, sym, ap, ◌∙◌, arith, length-append, true≢false, inl, inr, ◌⊎◌}
+use Rattle.std.proofs.Common.{◌≡◌, ℕ, ◌+◌, nat_le, nat_lt, Bool, true, false, not, ◌&&◌, ◌||◌, List, [], ◌∷◌, ◌++◌, length, is_some, bytes_eq, refl, sym, ap, ◌∙◌, arith, length-append, true≢false, inl, inr, ◌⊎◌}
 use Rattle.std.specs.List.{list_any, list_all}
 use Rattle.std.proofs.lemmas.Bool.{and_parts}
 use Rattle.std.proofs.lemmas.Bool.Decides.{nat_tests}
@@ -9,9 +9,9 @@ use Rattle.std.proofs.lemmas.Slice.Eq.{bytes_eq-Decides}
 use Rattle.mintc_document.specs.Rules.{is_name}
 use Rattle.mintc_cells.specs.Pins.{is_distinct}
 use Rattle.mintc_liberty.specs.declared.pins.Role.{Role}
-use Rattle.mintc_liberty.specs.declared.pins.Role.TheVariants.{Input, Clock, Output}
+use Rattle.mintc_liberty.specs.declared.pins.Role.TheVariants.{Input, Output}
 use Rattle.mintc_liberty.specs.Expressions.{is_among}
-use Rattle.mintc_liberty.specs.Meaning.{Pin, is_pin, fits, are_pins, names, with_role, has_role, inputs, outputs, others}
+use Rattle.mintc_liberty.specs.Meaning.{Pin, is_pin, fits, are_pins, names, with_role, inputs, outputs, others}
 
 both : {a b : Bool} → a ≡ true → b ≡ true → (a && b) ≡ true
 both {a} {b} e f = rw (e, f) refl
@@ -24,13 +24,10 @@ pub is-same : (x : List ℕ) → bytes_eq x x ≡ true
 is-same x = (bytes_eq-Decides x x).1 refl
 
 pub same-comm : (x y : List ℕ) → bytes_eq x y ≡ bytes_eq y x
-same-comm x y = by (bytes_eq x y) refl (bytes_eq y x) refl
-  where
-    by : (a : Bool) → bytes_eq x y ≡ a → (b : Bool) → bytes_eq y x ≡ b → a ≡ b
-    by true e true f = refl
-    by false e false f = refl
-    by true e false f = absurd (true≢false (sym (is-same x) ∙ ap (λ z. bytes_eq z x) (same-name x y e) ∙ f))
-    by false e true f = absurd (true≢false (sym (is-same y) ∙ ap (λ z. bytes_eq z y) (same-name y x f) ∙ e))
+same-comm x y = grind (arith, bytes_eq-Decides x y, bytes_eq-Decides y x)
+
+or-false : {a b : Bool} → a ≡ false → b ≡ false → (a || b) ≡ false
+or-false {a} {b} e f = rw (e, f) refl
 
 -- names that come first among distinct ones are distinct
 distinct-front : (xs ys : List (List ℕ)) → is_distinct (xs ++ ys) ≡ true → is_distinct xs ≡ true
@@ -40,8 +37,7 @@ distinct-front (x ∷ xs) ys h =
     both (fresh (list_any (bytes_eq x) xs) (list_any (bytes_eq x) ys) (ap not (sym (list_any-append (bytes_eq x) xs ys)) ∙ parts.0)) (distinct-front xs ys parts.1)
   where
     fresh : (a b : Bool) → not (a || b) ≡ true → not a ≡ true
-    fresh true b h = h
-    fresh false b h = refl
+    fresh a b h = grind arith
 
 -- one more name
 distinct-more : (xs : List (List ℕ)) (x : List ℕ) → is_distinct (xs ++ x ∷ []) ≡ (is_distinct xs && not (is_among xs x))
@@ -53,22 +49,7 @@ distinct-more (y ∷ xs) x =
     ∙ regroup (list_any (bytes_eq y) xs) (bytes_eq x y) (is_distinct xs) (is_among xs x)
   where
     regroup : (a b c d : Bool) → (not (a || (b || false)) && (c && not d)) ≡ ((not a && c) && not (b || d))
-    regroup true true true true = refl
-    regroup true true true false = refl
-    regroup true true false true = refl
-    regroup true true false false = refl
-    regroup true false true true = refl
-    regroup true false true false = refl
-    regroup true false false true = refl
-    regroup true false false false = refl
-    regroup false true true true = refl
-    regroup false true true false = refl
-    regroup false true false true = refl
-    regroup false true false false = refl
-    regroup false false true true = refl
-    regroup false false true false = refl
-    regroup false false false true = refl
-    regroup false false false false = refl
+    regroup a b c d = grind arith
 
 -- where some pins fail the rules, so they do with more
 pub fails-with-more : (ps qs : List Pin) → are_pins ps ≡ false → are_pins (ps ++ qs) ≡ false
@@ -84,6 +65,9 @@ fails-with-more ps qs h = by (are_pins (ps ++ qs)) refl
         let apart = distinct-front (names ps) (names qs) (ap is_distinct (sym (map-append (λ (p : Pin). p.name) ps qs)) ∙ parts.1) in
         sym (both (both few all.0) apart) ∙ h
 
+and-one : (b : Bool) → (b && true) ≡ b
+and-one b = grind arith
+
 -- one more pin
 pub one-more : (ps : List Pin) (p : Pin) → are_pins ps ≡ true → are_pins (ps ++ p ∷ []) ≡ ((nat_le (length ps + 1) 80 && is_pin p) && not (is_among (names ps) p.name))
 one-more ps p h =
@@ -96,10 +80,6 @@ one-more ps p h =
     ∙ ap (λ b. (nat_le (length ps + 1) 80 && (is_pin p && true)) && b) (distinct-more (names ps) p.name)
     ∙ ap (λ b. (nat_le (length ps + 1) 80 && (is_pin p && true)) && (b && not (is_among (names ps) p.name))) parts.1
     ∙ ap (λ b. (nat_le (length ps + 1) 80 && b) && not (is_among (names ps) p.name)) (and-one (is_pin p))
-  where
-    and-one : (b : Bool) → (b && true) ≡ b
-    and-one true = refl
-    and-one false = refl
 
 -- pins of a role are pins
 
@@ -109,115 +89,57 @@ and-left a b e = (and_parts a b e).0
 and-right : (a b : Bool) → (a && b) ≡ true → b ≡ true
 and-right a b e = (and_parts a b e).1
 
-pub named : (r : Role) (ps : List Pin) → list_all is_pin ps ≡ true → list_all is_name (names (with_role r ps)) ≡ true
-named r [] h = refl
-named r (p ∷ ps) h = by (has_role r p.has) (named r ps (and-right _ _ h))
-  where
-    by : (v : Bool) → list_all is_name (names (with_role r ps)) ≡ true → list_all is_name (names (cond v (p ∷ with_role r ps) (with_role r ps))) ≡ true
-    by true rest = both (and-left _ _ (and-left _ _ h)) rest
-    by false rest = rest
-
 or-true : (a b : Bool) → (a || b) ≡ true → (a ≡ true) ⊎ (b ≡ true)
-or-true true b h = inl refl
-or-true false b h = inr h
+or-true a b h = grind arith
 
 or-right : (a b : Bool) → b ≡ true → (a || b) ≡ true
-or-right true b h = refl
-or-right false b h = h
+or-right a b h = grind arith
 
 not-true : (a : Bool) → not a ≡ true → a ≡ false
-not-true true h = absurd (true≢false (sym h))
-not-true false h = refl
+not-true a h = grind arith
 
 not-false : (a : Bool) → a ≡ false → not a ≡ true
-not-false true h = absurd (true≢false h)
-not-false false h = refl
+not-false a h = grind arith
 
 -- what would follow from true doesn't
 false-if : (b : Bool) → (b ≡ true → ⊥) → b ≡ false
-false-if true n = absurd (n refl)
-false-if false n = refl
+false-if b n = grind (arith, n)
+
+pub named : (r : Role) (ps : List Pin) → list_all is_pin ps ≡ true → list_all is_name (names (with_role r ps)) ≡ true
+named r [] h = refl
+named r (p ∷ ps) h = grind (arith, named r ps)
 
 pub among-with : (r : Role) (ps : List Pin) (x : List ℕ) → is_among (names (with_role r ps)) x ≡ true → is_among (names ps) x ≡ true
 among-with r [] x h = h
-among-with r (p ∷ ps) x h = by (has_role r p.has) h (λ g. among-with r ps x g)
-  where
-    by : (v : Bool) → is_among (names (cond v (p ∷ with_role r ps) (with_role r ps))) x ≡ true → (is_among (names (with_role r ps)) x ≡ true → is_among (names ps) x ≡ true) →
-        (bytes_eq x p.name || is_among (names ps) x) ≡ true
-    by true g rec = elim (or-true (bytes_eq x p.name) (is_among (names (with_role r ps)) x) g) [ inl e ↦ ap (λ b. b || is_among (names ps) x) e | inr e ↦ or-right (bytes_eq x p.name) (is_among (names ps) x) (rec e) ]
-    by false g rec = or-right (bytes_eq x p.name) (is_among (names ps) x) (rec g)
+among-with r (p ∷ ps) x h = grind (arith, among-with r ps x)
 
 pub distinct-with : (r : Role) (ps : List Pin) → is_distinct (names ps) ≡ true → is_distinct (names (with_role r ps)) ≡ true
 distinct-with r [] h = refl
-distinct-with r (p ∷ ps) h = by (has_role r p.has) (distinct-with r ps (and-right _ _ h))
-  where
-    by : (v : Bool) → is_distinct (names (with_role r ps)) ≡ true → is_distinct (names (cond v (p ∷ with_role r ps) (with_role r ps))) ≡ true
-    by true rest =
-        both (not-false _ (false-if (is_among (names (with_role r ps)) p.name) (λ e. true≢false (sym (among-with r ps p.name e) ∙ not-true _ (and-left _ _ h))))) rest
-    by false rest = rest
+distinct-with r (p ∷ ps) h = grind (arith, distinct-with r ps, among-with r ps p.name)
 
 -- no pin is an input and an output
 pub apart : (ps : List Pin) (x : List ℕ) → is_distinct (names ps) ≡ true → is_among (inputs ps) x ≡ true → is_among (outputs ps) x ≡ false
 apart [] x d h = refl
-apart (p ∷ ps) x d h = by p.has h (λ g. apart ps x (and-right _ _ d) g)
-  where
-    elsewhere : bytes_eq x p.name ≡ true → is_among (names ps) x ≡ true → ⊥
-    elsewhere e g = true≢false (sym (ap (is_among (names ps)) (sym (same-name x p.name e)) ∙ g) ∙ not-true _ (and-left _ _ d))
-
-    by : (o : Option Role) → is_among (names (cond (has_role Input o) (p ∷ with_role Input ps) (with_role Input ps))) x ≡ true → (is_among (inputs ps) x ≡ true → is_among (outputs ps) x ≡ false) →
-        is_among (names (cond (has_role Output o) (p ∷ with_role Output ps) (with_role Output ps))) x ≡ false
-    by None g rec = rec g
-    by (Some Output) g rec =
-        or-false (false-if (bytes_eq x p.name) (λ e. elsewhere e (among-with Input ps x g))) (rec g)
-      where
-        or-false : {a b : Bool} → a ≡ false → b ≡ false → (a || b) ≡ false
-        or-false {a} {b} e f = rw (e, f) refl
-    by (Some Input) g rec =
-        elim (or-true (bytes_eq x p.name) (is_among (inputs ps) x) g) [ inl e ↦ false-if (is_among (outputs ps) x) (λ f. elsewhere e (among-with Output ps x f)) | inr e ↦ rec e ]
-    by (Some Clock) g rec =
-        elim (or-true (bytes_eq x p.name) (is_among (inputs ps) x) g) [ inl e ↦ false-if (is_among (outputs ps) x) (λ f. elsewhere e (among-with Output ps x f)) | inr e ↦ rec e ]
+apart (p ∷ ps) x d h = grind (arith, apart ps x, among-with Input ps x, among-with Output ps x, same-name x p.name)
 
 pub joined : (xs ys : List (List ℕ)) → is_distinct xs ≡ true → is_distinct ys ≡ true → ((x : List ℕ) → is_among xs x ≡ true → is_among ys x ≡ false) → is_distinct (xs ++ ys) ≡ true
 joined [] ys dx dy n = dy
 joined (x ∷ xs) ys dx dy n =
     both (not-false _ (list_any-append (bytes_eq x) xs ys ∙ or-false (not-true _ (and-left _ _ dx)) (n x (ap (λ b. b || is_among xs x) (is-same x)))))
     (joined xs ys (and-right _ _ dx) dy (λ z h. n z (or-right (bytes_eq z x) (is_among xs z) h)))
-  where
-    or-false : {a b : Bool} → a ≡ false → b ≡ false → (a || b) ≡ false
-    or-false {a} {b} e f = rw (e, f) refl
 
 -- the names that are none of two
 pub named-others : (a b : List ℕ) (ns : List (List ℕ)) → list_all is_name ns ≡ true → list_all is_name (others a b ns) ≡ true
 named-others a b [] h = refl
-named-others a b (n ∷ ns) h = by (not (bytes_eq n a || bytes_eq n b)) (named-others a b ns (and-right _ _ h))
-  where
-    by : (v : Bool) → list_all is_name (others a b ns) ≡ true → list_all is_name (cond v (n ∷ others a b ns) (others a b ns)) ≡ true
-    by true rest = both (and-left _ _ h) rest
-    by false rest = rest
+named-others a b (n ∷ ns) h = grind (arith, named-others a b ns)
 
 pub among-others : (a b : List ℕ) (ns : List (List ℕ)) (x : List ℕ) → is_among (others a b ns) x ≡ true → (is_among ns x ≡ true) × (bytes_eq x a ≡ false) × (bytes_eq x b ≡ false)
 among-others a b [] x h = absurd (true≢false (sym h))
-among-others a b (n ∷ ns) x h = by (bytes_eq n a) refl (bytes_eq n b) refl h (λ g. among-others a b ns x g)
-  where
-    by : (u : Bool) → bytes_eq n a ≡ u → (v : Bool) → bytes_eq n b ≡ v → is_among (cond (not (u || v)) (n ∷ others a b ns) (others a b ns)) x ≡ true →
-        (is_among (others a b ns) x ≡ true → (is_among ns x ≡ true) × (bytes_eq x a ≡ false) × (bytes_eq x b ≡ false)) →
-        ((bytes_eq x n || is_among ns x) ≡ true) × (bytes_eq x a ≡ false) × (bytes_eq x b ≡ false)
-    by true e v f g rec = let r = rec g in (or-right (bytes_eq x n) (is_among ns x) r.0, r.1, r.2)
-    by false e true f g rec = let r = rec g in (or-right (bytes_eq x n) (is_among ns x) r.0, r.1, r.2)
-    by false e false f g rec =
-        elim (or-true (bytes_eq x n) (is_among (others a b ns) x) g) [
-          | inl s ↦ (ap (λ t. t || is_among ns x) s, ap (λ z. bytes_eq z a) (same-name x n s) ∙ e, ap (λ z. bytes_eq z b) (same-name x n s) ∙ f)
-          | inr s ↦ let r = rec s in (or-right (bytes_eq x n) (is_among ns x) r.0, r.1, r.2)
-        ]
+among-others a b (n ∷ ns) x h = grind (arith, among-others a b ns x, same-name x n)
 
 pub distinct-others : (a b : List ℕ) (ns : List (List ℕ)) → is_distinct ns ≡ true → is_distinct (others a b ns) ≡ true
 distinct-others a b [] h = refl
-distinct-others a b (n ∷ ns) h = by (not (bytes_eq n a || bytes_eq n b)) (distinct-others a b ns (and-right _ _ h))
-  where
-    by : (v : Bool) → is_distinct (others a b ns) ≡ true → is_distinct (cond v (n ∷ others a b ns) (others a b ns)) ≡ true
-    by true rest =
-        both (not-false _ (false-if (is_among (others a b ns) n) (λ e. true≢false (sym (among-others a b ns n e).0 ∙ not-true _ (and-left _ _ h))))) rest
-    by false rest = rest
+distinct-others a b (n ∷ ns) h = grind (arith, distinct-others a b ns, among-others a b ns n)
 
 -- a name that is among names
 pub name-among : (ns : List (List ℕ)) (x : List ℕ) → list_all is_name ns ≡ true → is_among ns x ≡ true → is_name x ≡ true
@@ -234,18 +156,8 @@ two-and-others ps a b d ina inb n =
     (both (not-false _ (false-if (is_among (others a b (inputs ps)) b) (λ e. true≢false (sym (is-same b) ∙ (among-others a b (inputs ps) b e).2)))) (distinct-others a b (inputs ps) (distinct-with Input ps d))))
     (distinct-with Output ps d) (λ x h. apart ps x d (input x h))
   where
-    or-false : {u v : Bool} → u ≡ false → v ≡ false → (u || v) ≡ false
-    or-false {u} {v} e f = rw (e, f) refl
-
     input : (x : List ℕ) → (bytes_eq x a || (bytes_eq x b || is_among (others a b (inputs ps)) x)) ≡ true → is_among (inputs ps) x ≡ true
-    input x h =
-        elim (or-true (bytes_eq x a) (bytes_eq x b || is_among (others a b (inputs ps)) x) h) [
-          | inl e ↦ ap (is_among (inputs ps)) (same-name x a e) ∙ ina
-          | inr g ↦ elim (or-true (bytes_eq x b) (is_among (others a b (inputs ps)) x) g) [
-            | inl e ↦ ap (is_among (inputs ps)) (same-name x b e) ∙ inb
-            | inr e ↦ (among-others a b (inputs ps) x e).0
-          ]
-        ]
+    input x h = grind (arith, ina, inb, same-name x a, same-name x b, among-others a b (inputs ps) x)
 
 -- one input and others beside the outputs
 pub one-and-others : (ps : List Pin) (a : List ℕ) → is_distinct (names ps) ≡ true → is_among (inputs ps) a ≡ true → is_distinct ((a ∷ others a a (inputs ps)) ++ outputs ps) ≡ true
@@ -255,41 +167,17 @@ one-and-others ps a d ina =
     (distinct-with Output ps d) (λ x h. apart ps x d (input x h))
   where
     input : (x : List ℕ) → (bytes_eq x a || is_among (others a a (inputs ps)) x) ≡ true → is_among (inputs ps) x ≡ true
-    input x h =
-        elim (or-true (bytes_eq x a) (is_among (others a a (inputs ps)) x) h) [
-          | inl e ↦ ap (is_among (inputs ps)) (same-name x a e) ∙ ina
-          | inr e ↦ (among-others a a (inputs ps) x e).0
-        ]
+    input x h = grind (arith, ina, same-name x a, among-others a a (inputs ps) x)
 
 pub inputs-and-outputs : (ps : List Pin) → is_distinct (names ps) ≡ true → is_distinct (inputs ps ++ outputs ps) ≡ true
 inputs-and-outputs ps d = joined (inputs ps) (outputs ps) (distinct-with Input ps d) (distinct-with Output ps d) (λ x h. apart ps x d h)
 
 -- one more pin that has a role, and one that has none
 one-less : (n : ℕ) → nat_le (n + 1) 80 ≡ nat_lt n 80
-one-less n = by (nat_le (n + 1) 80) refl
-  where
-    le-true : (n m : ℕ) → nat_le n m ≡ true → n ≤ m
-    le-true n m e = grind (arith, nat_tests)
-
-    not-le : (n m : ℕ) → nat_le n m ≡ false → m < n
-    not-le n m e = grind (arith, nat_tests)
-
-    is-lt : (n m : ℕ) → n < m → nat_lt n m ≡ true
-    is-lt n m e = grind (arith, nat_tests)
-
-    is-not-lt : (n m : ℕ) → m ≤ n → nat_lt n m ≡ false
-    is-not-lt n m e = grind (arith, nat_tests)
-
-    by : (v : Bool) → nat_le (n + 1) 80 ≡ v → v ≡ nat_lt n 80
-    by true e = let h = le-true (n + 1) 80 e in let s : nat_lt n 80 ≡ true = is-lt n 80 (omega (arith, h)) in cc
-    by false e = let h = not-le (n + 1) 80 e in let s : nat_lt n 80 ≡ false = is-not-lt n 80 (omega (arith, h)) in cc
+one-less n = grind (arith, nat_tests)
 
 pub one-more-with : (ps : List Pin) (p : Pin) → are_pins ps ≡ true → is_some p.has ≡ true → are_pins (ps ++ p ∷ []) ≡ ((nat_lt (length ps) 80 && is_name p.name) && not (is_among (names ps) p.name))
 one-more-with ps p h e =
     one-more ps p h ∙ ap (λ b. (b && is_pin p) && not (is_among (names ps) p.name)) (one-less (length ps))
     ∙ ap (λ b. (nat_lt (length ps) 80 && (is_name p.name && b)) && not (is_among (names ps) p.name)) e
-    ∙ ap (λ b. (nat_lt (length ps) 80 && b) && not (is_among (names ps) p.name)) (with-true (is_name p.name))
-  where
-    with-true : (b : Bool) → (b && true) ≡ b
-    with-true true = refl
-    with-true false = refl
+    ∙ ap (λ b. (nat_lt (length ps) 80 && b) && not (is_among (names ps) p.name)) (and-one (is_name p.name))

@@ -1,5 +1,5 @@
 -- The document of cells describes these cells.
-use Rattle.std.proofs.Common.{◌≡◌, ℕ, suc, max, ◌≤◌, if◌then◌else◌, ℤ, pos, int_le, Bool, true, false, ◌&&◌, ◌||◌, List, [], ◌∷◌, Some, Result, Ok, Err, refl, sym, ap, subst, ◌∙◌, arith}
+use Rattle.std.proofs.Common.{◌≡◌, ℕ, max, ◌≤◌, if◌then◌else◌, ℤ, pos, int_le, Bool, true, false, ◌&&◌, ◌||◌, List, [], ◌∷◌, Some, Result, Ok, Err, refl, sym, ap, subst, ◌∙◌, arith}
 use Rattle.std.specs.List.{list_all}
 use Rattle.toml.specs.Data.{table, Members, items_depth, members_depth}
 use Rattle.mintc_cells.specs.declared.cell.Cell.{Cell}
@@ -23,13 +23,10 @@ all-texts [] = refl
 all-texts (t ∷ ts) = all-texts ts
 
 pub both-left : (a b : Bool) → (a && b) ≡ true → a ≡ true
-both-left true b h = refl
-both-left false b h = h
+both-left a b h = grind arith
 
 pub both-right : (a b : Bool) → (a && b) ≡ true → b ≡ true
-both-right true b h = h
-both-right false true h = refl
-both-right false false h = h
+both-right a b h = grind arith
 
 -- what stands under a name
 under : (name : List ℕ) (ms : Members) (r : Result Cell ℕ) → is_name name ≡ true → read_table (Some ms) ≡ r → cell_of name (table ms) ≡ r
@@ -107,12 +104,10 @@ latch d g high outs ign setup hold has_hold dq_min dq_max cq_min cq_max has_cq w
     ∙ fits shape cell p.2 (p.3 ∙ and-true _ _ (all-texts outs) (all-texts ign)) p.4 p.5 h
   where
     or-left : (a b c : Bool) → (a || (b && c)) ≡ true → (a || b) ≡ true
-    or-left true b c h = refl
-    or-left false b c h = both-left b c h
+    or-left a b c h = grind arith
 
     or-right : (a b c : Bool) → (a || (b && c)) ≡ true → (a || c) ≡ true
-    or-right true b c h = refl
-    or-right false b c h = both-right b c h
+    or-right a b c h = grind arith
 
 -- Flops
 abbrev FlopParts : (d clk : List ℕ) (rising : Bool) (outs ign : List (List ℕ)) (setup hold : ℤ) (has_hold : Bool) (cq_min cq_max width : ℤ) → Type 0
@@ -172,27 +167,11 @@ items-shallow [] = refl
 items-shallow (t ∷ ts) = ap (max 0) (items-shallow ts)
 
 cell-shallow : (cell : Cell) → members_depth (table_of cell) ≤ 1
-cell-shallow (Gate inputs outputs a b) = rw (items-shallow inputs, items-shallow outputs) (omega arith)
-cell-shallow (Latch d g true outs ign setup hold true dq_min dq_max cq_min cq_max true width) = rw (items-shallow outs, items-shallow ign) (omega arith)
-cell-shallow (Latch d g true outs ign setup hold true dq_min dq_max cq_min cq_max false width) = rw (items-shallow outs, items-shallow ign) (omega arith)
-cell-shallow (Latch d g true outs ign setup hold false dq_min dq_max cq_min cq_max true width) = rw (items-shallow outs, items-shallow ign) (omega arith)
-cell-shallow (Latch d g true outs ign setup hold false dq_min dq_max cq_min cq_max false width) = rw (items-shallow outs, items-shallow ign) (omega arith)
-cell-shallow (Latch d g false outs ign setup hold true dq_min dq_max cq_min cq_max true width) = rw (items-shallow outs, items-shallow ign) (omega arith)
-cell-shallow (Latch d g false outs ign setup hold true dq_min dq_max cq_min cq_max false width) = rw (items-shallow outs, items-shallow ign) (omega arith)
-cell-shallow (Latch d g false outs ign setup hold false dq_min dq_max cq_min cq_max true width) = rw (items-shallow outs, items-shallow ign) (omega arith)
-cell-shallow (Latch d g false outs ign setup hold false dq_min dq_max cq_min cq_max false width) = rw (items-shallow outs, items-shallow ign) (omega arith)
-cell-shallow (Flop d clk true outs ign setup hold true cq_min cq_max width) = rw (items-shallow outs, items-shallow ign) (omega arith)
-cell-shallow (Flop d clk true outs ign setup hold false cq_min cq_max width) = rw (items-shallow outs, items-shallow ign) (omega arith)
-cell-shallow (Flop d clk false outs ign setup hold true cq_min cq_max width) = rw (items-shallow outs, items-shallow ign) (omega arith)
-cell-shallow (Flop d clk false outs ign setup hold false cq_min cq_max width) = rw (items-shallow outs, items-shallow ign) (omega arith)
-cell-shallow (Clock input output invert ignored) = rw (items-shallow ignored) (omega arith)
+cell-shallow cell = grind (arith, items-shallow)
 
 cells-shallow : (cells : List (List ℕ × Cell)) → members_depth (tables_of cells) ≤ 2
 cells-shallow [] = omega arith
-cells-shallow (c ∷ cs) = least (suc (members_depth (table_of c.1))) (members_depth (tables_of cs)) (let s = cell-shallow c.1 in omega (arith, s)) (cells-shallow cs)
-  where
-    least : (a b : ℕ) → a ≤ 2 → b ≤ 2 → max a b ≤ 2
-    least a b h k = omega (arith, h, k)
+cells-shallow (c ∷ cs) = omega (arith, cell-shallow c.1, cells-shallow cs)
 
 pub shallow : (cells : List (List ℕ × Cell)) → members_depth (document_of cells) ≤ 80
 shallow cells = let s = cells-shallow cells in omega (arith, s)

@@ -7,8 +7,7 @@ use Rattle.mintc_scan.specs.Bytes.{is_white}
 use Rattle.mintc_liberty.specs.Expressions.{stripped}
 
 false-if : (b : Bool) → (b ≡ true → ⊥) → b ≡ false
-false-if true n = absurd (n refl)
-false-if false n = refl
+false-if b n = grind (arith, n)
 
 take-front : (p q : List ℕ) → take (length p) (p ++ q) ≡ p
 take-front [] q = refl
@@ -45,8 +44,4 @@ pub apart : (a b : List ℕ) → true ≡ not (bytes_eq a b) → a ≡ b → ⊥
 apart a b n e = true≢false (n ∙ ap not ((bytes_eq-Decides a b).1 e))
 
 pub same : (a b : List ℕ) → false ≡ not (bytes_eq a b) → a ≡ b
-same a b n = (bytes_eq-Decides a b).0 (by (bytes_eq a b) n)
-  where
-    by : (v : Bool) → false ≡ not v → v ≡ true
-    by true e = refl
-    by false e = absurd (true≢false (sym e))
+same a b n = (bytes_eq-Decides a b).0 (grind (arith, n))

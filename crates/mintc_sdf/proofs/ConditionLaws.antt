@@ -27,11 +27,6 @@ noted-seam pre any l =
 -- what an opening parenthesis does
 pub step-in : (both : Bool) (ls : List Layer) (t : Option (List Token)) (d : ℕ) (l : Layer) (ts rest : List Token) → nat_lt d (length ls) ≡ true → layer_at both ts ≡ Some (l, rest) →
     walked both ls t d (opening ∷ ts) ≡ walked both (noted d ls ++ l ∷ []) None (suc d) rest
-step-in both ls t d l [] rest b e = absurd (cc)
-step-in both ls t d l (opening ∷ ts) rest b e = absurd (cc)
-step-in both ls t d l (closing ∷ ts) rest b e = absurd (cc)
-step-in both ls t d l (string s ∷ ts) rest b e = absurd (cc)
-step-in both ls t d l (bad ∷ ts) rest b e = absurd (cc)
 step-in both ls t d l (word k ∷ ts) rest b e = by (kind_of both k) refl e
   where
     other : Bool → Option (List Token × List Token)
@@ -47,14 +42,10 @@ step-in both ls t d l (word k ∷ ts) rest b e = by (kind_of both k) refl e
         ap (λ b. chose b (kind_of both k) (λ l. walked both (noted d ls ++ l ∷ []) None (suc d) ts) (other b)) b
         ∙ ap (λ o. chose true o (λ l. walked both (noted d ls ++ l ∷ []) None (suc d) ts) (other true)) f
         ∙ ap (λ (p : Layer × List Token). walked both (noted d ls ++ p.0 ∷ []) None (suc d) p.1) same
+step-in both ls t d l _ rest b e = absurd (cc)
 
 pub step-last : (both : Bool) (ls : List Layer) (t : Option (List Token)) (d : ℕ) (ts : List Token) → nat_lt d (length ls) ≡ true → layer_at both ts ≡ None →
     walked both ls t d (opening ∷ ts) ≡ walked both (noted d ls) (Some (opening ∷ ts)) (suc d) ts
-step-last both ls t d [] b e = ap (λ b. walked both (noted_if b d ls) (last_if b (opening ∷ []) t) (suc d) []) b
-step-last both ls t d (opening ∷ ts) b e = ap (λ b. walked both (noted_if b d ls) (last_if b (opening ∷ opening ∷ ts) t) (suc d) (opening ∷ ts)) b
-step-last both ls t d (closing ∷ ts) b e = ap (λ b. walked both (noted_if b d ls) (last_if b (opening ∷ closing ∷ ts) t) (suc d) (closing ∷ ts)) b
-step-last both ls t d (string s ∷ ts) b e = ap (λ b. walked both (noted_if b d ls) (last_if b (opening ∷ string s ∷ ts) t) (suc d) (string s ∷ ts)) b
-step-last both ls t d (bad ∷ ts) b e = ap (λ b. walked both (noted_if b d ls) (last_if b (opening ∷ bad ∷ ts) t) (suc d) (bad ∷ ts)) b
 step-last both ls t d (word k ∷ ts) b e = by (kind_of both k) refl e
   where
     other : Bool → Option (List Token × List Token)
@@ -66,16 +57,13 @@ step-last both ls t d (word k ∷ ts) b e = by (kind_of both k) refl e
     by None f g =
         ap (λ b. chose b (kind_of both k) (λ l. walked both (noted d ls ++ l ∷ []) None (suc d) ts) (other b)) b
         ∙ ap (λ o. chose true o (λ l. walked both (noted d ls ++ l ∷ []) None (suc d) ts) (other true)) f
+step-last both ls t d ts b e = ap (λ b. walked both (noted_if b d ls) (last_if b (opening ∷ ts) t) (suc d) ts) b
 
 pub step-off : (both : Bool) (ls : List Layer) (t : Option (List Token)) (d : ℕ) (ts : List Token) → nat_lt d (length ls) ≡ false →
     walked both ls t d (opening ∷ ts) ≡ walked both ls t (suc d) ts
-step-off both ls t d [] b = ap (λ b. walked both (noted_if b d ls) (last_if b (opening ∷ []) t) (suc d) []) b
-step-off both ls t d (opening ∷ ts) b = ap (λ b. walked both (noted_if b d ls) (last_if b (opening ∷ opening ∷ ts) t) (suc d) (opening ∷ ts)) b
-step-off both ls t d (closing ∷ ts) b = ap (λ b. walked both (noted_if b d ls) (last_if b (opening ∷ closing ∷ ts) t) (suc d) (closing ∷ ts)) b
-step-off both ls t d (string s ∷ ts) b = ap (λ b. walked both (noted_if b d ls) (last_if b (opening ∷ string s ∷ ts) t) (suc d) (string s ∷ ts)) b
-step-off both ls t d (bad ∷ ts) b = ap (λ b. walked both (noted_if b d ls) (last_if b (opening ∷ bad ∷ ts) t) (suc d) (bad ∷ ts)) b
 step-off both ls t d (word k ∷ ts) b =
     ap (λ b. chose b (kind_of both k) (λ l. walked both (noted d ls ++ l ∷ []) None (suc d) ts) (walked both (noted_if b d ls) (last_if b (opening ∷ word k ∷ ts) t) (suc d) (word k ∷ ts))) b
+step-off both ls t d ts b = ap (λ b. walked both (noted_if b d ls) (last_if b (opening ∷ ts) t) (suc d) ts) b
 
 -- what a word or a string does
 pub step-word : (both b : Bool) (ls : List Layer) (t : Option (List Token)) (d : ℕ) (w : List ℕ) (ts : List Token) → nat_lt d (length ls) ≡ b →
@@ -92,28 +80,19 @@ unfolding fronts
 quiet n d both ls t [] g h = refl
 quiet n d both ls t (bad ∷ ts) g h = refl
 quiet n d both ls t (closing ∷ ts) g h = refl
-quiet zero d both ls t (word w ∷ ts) g h = absurd (omega arith)
 quiet (suc n) d both ls t (word w ∷ ts) g h = step-word both false ls t d w ts (le-ltb d (length ls) g) ∙ quiet n d both ls t ts g (omega arith)
-quiet zero d both ls t (string w ∷ ts) g h = absurd (omega arith)
 quiet (suc n) d both ls t (string w ∷ ts) g h = step-string both false ls t d w ts (le-ltb d (length ls) g) ∙ quiet n d both ls t ts g (omega arith)
-quiet zero d both ls t (opening ∷ ts) g h = absurd (omega arith)
 quiet (suc n) d both ls t (opening ∷ ts) g h =
     by (after ts) refl (step-off both ls t d ts (le-ltb d (length ls) g) ∙ quiet n (suc d) both ls t ts (omega arith) (omega arith))
     (λ r less. quiet n d both ls t r g less)
   where
-    ajar : (af : List Token) → after ts ≡ af → after_closing af ≡ None → walked both ls t d (opening ∷ ts) ≡ walked both ls t d (after (opening ∷ ts))
-    ajar af k l = ap (walked both ls t d) (sym (unopened ts (ap after_closing k ∙ l)).1)
-
     by : (af : List Token) → after ts ≡ af → walked both ls t d (opening ∷ ts) ≡ walked both ls t (suc d) (after ts) →
         ((r : List Token) → length r ≤ n → walked both ls t d r ≡ walked both ls t d (after r)) → walked both ls t d (opening ∷ ts) ≡ walked both ls t d (after (opening ∷ ts))
-    by [] k same go = ajar [] k refl
-    by (opening ∷ r) k same go = ajar (opening ∷ r) k refl
-    by (word w ∷ r) k same go = ajar (word w ∷ r) k refl
-    by (string w ∷ r) k same go = ajar (string w ∷ r) k refl
-    by (bad ∷ r) k same go = ajar (bad ∷ r) k refl
     by (closing ∷ r) k same go =
         let size : length (after ts) ≡ suc (length r) = ap length k in
         same ∙ ap (walked both ls t (suc d)) k ∙ go r (omega (arith, after-shorter ts, size)) ∙ ap (walked both ls t d) (sym (opened ts r k).1)
+    by _ k same go = ap (walked both ls t d) (sym (unopened ts (ap after_closing k)).1)
+quiet zero d both ls t _ g h = absurd (omega arith)
 
 -- What is found, by what forms give: `lst` of the last item of some, `at` of an item that is no condition.
 pub more_by : ℕ → Layer → Layer
@@ -164,16 +143,9 @@ over-first at l ls t = by (is_over l)
 
 none-first : {A : Type 0} (lst : Items → Option A) (is : Items) → lst none ≡ None → (if is_none is then None else lst is) ≡ lst is
 none-first lst none e = sym e
-none-first lst (leaf w is) e = refl
-none-first lst (quoted w is) e = refl
-none-first lst (list inner is) e = refl
+none-first lst _ e = refl
 
 layer-word : (both : Bool) (ts rest : List Token) (l : Layer) → layer_at both ts ≡ Some (l, rest) → (k : List ℕ) × (ts ≡ word k ∷ rest) × (kind_of both k ≡ Some l)
-layer-word both [] rest l e = absurd (cc)
-layer-word both (opening ∷ ts) rest l e = absurd (cc)
-layer-word both (closing ∷ ts) rest l e = absurd (cc)
-layer-word both (string s ∷ ts) rest l e = absurd (cc)
-layer-word both (bad ∷ ts) rest l e = absurd (cc)
 layer-word both (word k ∷ ts) rest l e = by (kind_of both k) refl e
   where
     by : (o : Option Layer) → kind_of both k ≡ o → option_map (with_rest ts) o ≡ Some (l, rest) → (j : List ℕ) × (word k ∷ ts ≡ word j ∷ rest) × (kind_of both j ≡ Some l)
@@ -183,6 +155,7 @@ layer-word both (word k ∷ ts) rest l e = by (kind_of both k) refl e
         let wanted : Layer × List Token = (l, rest) in
         let same : given ≡ wanted = cc in
         (k, ap (λ (p : Layer × List Token). word k ∷ p.1) same, f ∙ ap (λ (p : Layer × List Token). Some p.0) same)
+layer-word both _ rest l e = absurd (cc)
 
 walks : {A : Type 0} (both : Bool) (lst at : Items → Option A) → Form both lst at → (n : ℕ) (pre : List Layer) (l : Layer) (any : List Layer) (t : Option (List Token)) (ts rest : List Token) →
     length ts ≤ n → after ts ≡ closing ∷ rest → Walks both lst at pre l any t ts rest
@@ -190,28 +163,22 @@ unfolding fronts more_by
 walks both lst at form n pre l any t [] rest h e = absurd (cc)
 walks both lst at form n pre l any t (bad ∷ ts) rest h e = absurd (cc)
 walks both lst at form n pre l any t (closing ∷ ts) rest h e = (any, t, ap (walked both (pre ++ l ∷ any) t (length pre)) e, refl)
-walks both lst at form zero pre l any t (word w ∷ ts) rest h e = absurd (omega arith)
 walks both lst at form (suc n) pre l any t (word w ∷ ts) rest h e =
     front-more both lst at pre l any [] t (Some (word w ∷ ts)) (word w ∷ ts) ts rest (leaf w) refl (λ is. refl) (λ is. refl) (form.leaf-is w (items ts))
     (step-word both true (pre ++ l ∷ any) t (length pre) w ts (at-seam pre any l) ∙ ap (λ ls. walked both ls (Some (word w ∷ ts)) (length pre) ts) (noted-seam pre any l))
     (walks both lst at form n pre (more l) [] (Some (word w ∷ ts)) ts rest (omega arith) e)
-walks both lst at form zero pre l any t (string w ∷ ts) rest h e = absurd (omega arith)
 walks both lst at form (suc n) pre l any t (string w ∷ ts) rest h e =
     front-more both lst at pre l any [] t (Some (string w ∷ ts)) (string w ∷ ts) ts rest (quoted w) refl (λ is. refl) (λ is. refl) (form.quoted-is w (items ts))
     (step-string both true (pre ++ l ∷ any) t (length pre) w ts (at-seam pre any l) ∙ ap (λ ls. walked both ls (Some (string w ∷ ts)) (length pre) ts) (noted-seam pre any l))
     (walks both lst at form n pre (more l) [] (Some (string w ∷ ts)) ts rest (omega arith) e)
-walks both lst at form zero pre l any t (opening ∷ ts) rest h e = absurd (omega arith)
 walks {A} both lst at form (suc n) pre l any t (opening ∷ ts) rest h e =
     by (after ts) refl (λ p m one s r less f. walks both lst at form n p m one s r rest less f) (λ p m us r less f. walks both lst at form n p m [] None us r less f)
   where
     here : List Token
     here = opening ∷ ts
 
-    ajar : (af : List Token) → after ts ≡ af → after_closing af ≡ None → Walks both lst at pre l any t (opening ∷ ts) rest
-    ajar af k f = absurd (differ (sym (unopened ts (ap after_closing k ∙ f)).1 ∙ e))
-      where
-        differ : opening ∷ ts ≡ closing ∷ rest → ⊥
-        differ f = cc
+    differ : opening ∷ ts ≡ closing ∷ rest → ⊥
+    differ f = cc
 
     plain : (r : List Token) → after ts ≡ closing ∷ r → layer_at both ts ≡ None → Walks both lst at pre (more l) [] (Some (opening ∷ ts)) r rest → Walks both lst at pre l any t (opening ∷ ts) rest
     plain r k f w =
@@ -255,11 +222,6 @@ walks {A} both lst at form (suc n) pre l any t (opening ∷ ts) rest h e =
         ((p : List Layer) (m : Layer) (one : List Layer) (s : Option (List Token)) (r : List Token) → length r ≤ n → after r ≡ closing ∷ rest → Walks both lst at p m one s r rest) →
         ((p : List Layer) (m : Layer) (us r : List Token) → length us ≤ n → after us ≡ closing ∷ r → Walks both lst at p m [] None us r) →
         Walks both lst at pre l any t (opening ∷ ts) rest
-    by [] k go down = ajar [] k refl
-    by (opening ∷ r) k go down = ajar (opening ∷ r) k refl
-    by (word w ∷ r) k go down = ajar (word w ∷ r) k refl
-    by (string s ∷ r) k go down = ajar (string s ∷ r) k refl
-    by (bad ∷ r) k go down = ajar (bad ∷ r) k refl
     by (closing ∷ r) k go down = kind (layer_at both ts) refl
       where
         size : length (after ts) ≡ suc (length r)
@@ -277,6 +239,8 @@ walks {A} both lst at form (suc n) pre l any t (opening ∷ ts) rest h e =
             let word = layer-word both ts p.1 p.0 f in
             let long : length ts ≡ suc (length p.1) = ap length word.1 in
             inner r p.1 p.0 k f (down (pre ++ more l ∷ []) p.0 p.1 r (omega (arith, long, h)) (sym (ap after word.1) ∙ k)) (λ one s. go pre (more l) one s r less end)
+    by _ k go down = absurd (differ (sym (unopened ts (ap after_closing k)).1 ∙ e))
+walks both lst at form zero pre l any t _ rest h e = absurd (omega arith)
 
 -- The walk ends at the parenthesis that closes the outermost condition, and what it finds is no condition.
 abbrev pub Plain : Bool → List Token → Type 0
@@ -378,14 +342,10 @@ pub found-none : {A : Type 0} (both : Bool) (lst at f : Items → Option A) → 
 found-none both lst at f form outer ts g e = by (after ts) refl
   where
     by : (af : List Token) → after ts ≡ af → inside f ts ≡ None
-    by [] k = inside-open f ts (ap after_closing k)
-    by (opening ∷ r) k = inside-open f ts (ap after_closing k)
-    by (word w ∷ r) k = inside-open f ts (ap after_closing k)
-    by (string s ∷ r) k = inside-open f ts (ap after_closing k)
-    by (bad ∷ r) k = inside-open f ts (ap after_closing k)
     by (closing ∷ r) k =
         let w = walks both lst at form (length ts) [] outer [] None ts r (omega arith) k in
         inside-none f ts (g (items ts) ∙ given both lst at form outer ts r w ∙ shows-none at (has_over (more_by (count (items ts)) outer ∷ w.0)) w.1 r (sym w.2 ∙ e))
+    by _ k = inside-open f ts (ap after_closing k)
 
 -- of a condition, from its keyword on
 pub found-inside : {A : Type 0} (both : Bool) (lst at f : Items → Option A) → Form both lst at → (outer : Layer) (ts start rest : List Token) →
@@ -432,10 +392,6 @@ def-any d is = ap (λ l. limited l (last_def d is)) (sym (more-any (count is)))
 
 def-one : (d : ℕ) (is : Items) → lone_def d is ≡ limited (more_by (count is) layer.Empty) (last_def d is)
 unfolding last_def lone_def more_by
-def-one d none = refl
-def-one d (leaf w none) = refl
-def-one d (quoted w none) = refl
-def-one d (list inner none) = refl
 def-one d (leaf w (leaf v is)) = sym (ap (λ l. limited l (last_def d (leaf w (leaf v is)))) (more-over (count is)))
 def-one d (leaf w (quoted v is)) = sym (ap (λ l. limited l (last_def d (leaf w (quoted v is)))) (more-over (count is)))
 def-one d (leaf w (list v is)) = sym (ap (λ l. limited l (last_def d (leaf w (list v is)))) (more-over (count is)))
@@ -445,6 +401,7 @@ def-one d (quoted w (list v is)) = sym (ap (λ l. limited l (last_def d (quoted 
 def-one d (list w (leaf v is)) = sym (ap (λ l. limited l (last_def d (list w (leaf v is)))) (more-over (count is)))
 def-one d (list w (quoted v is)) = sym (ap (λ l. limited l (last_def d (list w (quoted v is)))) (more-over (count is)))
 def-one d (list w (list v is)) = sym (ap (λ l. limited l (last_def d (list w (list v is)))) (more-over (count is)))
+def-one d _ = refl
 
 def-kind : (d : ℕ) (k : List ℕ) (l : Layer) → kind_of true k ≡ Some l → (is : Items) → inner_def d (leaf k is) ≡ limited (more_by (count is) l) (last_def d is)
 unfolding inner_def

@@ -32,9 +32,6 @@ at-end text before s (Some o) f e h = inr (
   },
 )
 
-first-of : (l m : List Lexeme) (ls ms : List (List Lexeme)) → l ∷ ls ≡ m ∷ ms → l ≡ m
-first-of l m ls ms e = cc
-
 at-next : (text : List ℕ) (before : List (List Lexeme)) (ls : List Lexeme) (more : List (List Lexeme)) (s : State) (o : Option State) →
     ((c : State) → Leads 1 start (before ++ ls ∷ []) c → Answer text) → after_lexemes (length before + 1) s ls ≡ o → lexemes_of text ≡ before ++ ls ∷ more → Leads 1 start before s → Answer text
 at-next text before ls more s (Some c) on f e h =
@@ -49,7 +46,7 @@ at-next text before ls more s None on f e h = inr (
     whole = e;
     leads = h;
     count = refl;
-    stuck = λ l rest form c w is step-on. no-step (length before + 1) s c l form (ap (after_lexemes (length before + 1) s) (first-of l ls rest more (sym w)) ∙ f) is step-on;
+    stuck = λ l rest form c w is step-on. let same : l ≡ ls = cc in no-step (length before + 1) s c l form (ap (after_lexemes (length before + 1) s) same ∙ f) is step-on;
     unfinished = λ none. absurd (cc);
   },
 )

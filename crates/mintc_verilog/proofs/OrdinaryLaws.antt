@@ -1,5 +1,5 @@
 -- The netlist of a text is ordinary.
-use Rattle.std.proofs.Common.{◌≡◌, ℕ, suc, ◌+◌, ◌-◌, ◌≤◌, ◌<◌, ◌^◌, Bool, true, false, ◌&&◌, ◌==◌, if◌then◌else◌, List, [], ◌∷◌, ◌++◌, length, take, drop, map, Option, Some, None, IfSome, sym, ap, ◌∙◌, subst, arith, append_assoc, append-nil, length-append, length-take}
+use Rattle.std.proofs.Common.{◌≡◌, ℕ, ◌+◌, ◌-◌, ◌≤◌, ◌<◌, ◌^◌, Bool, List, [], ◌∷◌, ◌++◌, length, take, drop, map, Option, Some, None, IfSome, sym, ap, ◌∙◌, subst, arith, append_assoc, append-nil, length-append, length-take}
 use Rattle.std.specs.Prelude.{All}
 use Rattle.std.specs.List.{flat_map}
 use Rattle.std.proofs.lemmas.Grind.{flat_map-append}
@@ -8,7 +8,7 @@ use Rattle.std.proofs.lemmas.List.Elements.{All-nil, All-cons, All-tail, All-hea
 use Rattle.mintc_vlex.specs.declared.token_list.Token.{Token}
 use Rattle.mintc_vlex.specs.declared.statement_list.Statement.{Statement}
 use Rattle.mintc_vlex.specs.Tokens.{tokens_of}
-use Rattle.mintc_vlex.specs.Statements.{ends_statement, statements_from, statements_of}
+use Rattle.mintc_vlex.specs.Statements.{statements_from, statements_of}
 use Rattle.mintc_netlist.specs.declared.module.Module.{Module}
 use Rattle.mintc_netlist.specs.Ordinary.{IsItem, IsModule, DontFall, entry_of, entries_of}
 use Rattle.mintc_verilog.specs.declared.parts.Open.{Open}
@@ -76,9 +76,6 @@ stands-on used more entry done done2 current current2 ns h e all count each held
   order = subst (DontFall 1) (sym e) (rise 1 entry (entries_in done current) ns h.first h.below all h.order);
 }
 
-some-same : {A : Type 0} (x y : A) → Some x ≡ Some y → x ≡ y
-some-same x y e = cc
-
 opened : (used n entry : ℕ) (done : List Module) (o : Open) → Stands used entry done None → IsSaid n (said.Opens o) → IsNumbered entry (said.Opens o) → used + n ≤ 67108864 →
     Stands (used + n) (entry + 1) done (Some o)
 opened used n entry done o h s numbered few =
@@ -109,18 +106,17 @@ closed used n entry done o h s few =
 next-stands : (used n entry : ℕ) (done : List Module) (current : Option Open) (s : Said) (c : State) → Stands used entry done current → IsSaid n s → IsNumbered entry s → used + n ≤ 67108864 →
     next done current s ≡ Some c → StandsIn (used + n) (entry + 1) c
 next-stands used n entry done None (said.Opens o) c h s numbered few e =
-    subst (StandsIn (used + n) (entry + 1)) (some-same (state_of done (Some o)) c e) (opened used n entry done o h s numbered few)
+    let same : state_of done (Some o) ≡ c = cc in
+    subst (StandsIn (used + n) (entry + 1)) same (opened used n entry done o h s numbered few)
 next-stands used n entry done None (said.Adds declares items) c h s numbered few e = absurd (cc)
 next-stands used n entry done None said.Closes c h s numbered few e = absurd (cc)
 next-stands used n entry done (Some o) (said.Opens p) c h s numbered few e = absurd (cc)
 next-stands used n entry done (Some o) (said.Adds declares items) c h s numbered few e =
-    subst (StandsIn (used + n) (entry + 1)) (by (declares && o.typed) e) (added used n entry done o declares items h s numbered)
-  where
-    by : (b : Bool) → (if b then None else Some (state_of done (Some (record o { items = o.items ++ items })))) ≡ Some c → state_of done (Some (record o { items = o.items ++ items })) ≡ c
-    by true f = absurd (cc)
-    by false f = some-same _ c f
+    let same : state_of done (Some (record o { items = o.items ++ items })) ≡ c = grind arith in
+    subst (StandsIn (used + n) (entry + 1)) same (added used n entry done o declares items h s numbered)
 next-stands used n entry done (Some o) said.Closes c h s numbered few e =
-    subst (StandsIn (used + n) (entry + 1)) (some-same (state_of (done ++ module_of o ∷ []) None) c e) (closed used n entry done o h s few)
+    let same : state_of (done ++ module_of o ∷ []) None ≡ c = cc in
+    subst (StandsIn (used + n) (entry + 1)) same (closed used n entry done o h s few)
 
 -- how many lexemes statements have together
 abbrev total : List (List Lexeme) → ℕ
@@ -147,20 +143,9 @@ spans (s ∷ ss) = (s.to - s.from) + spans ss
 abbrev statement : ℕ → ℕ → Statement
 statement from to = record { from = from; to = to }
 
-spans-last : (from at : ℕ) (b : Bool) → spans (if b then [] else (statement from at ∷ [])) ≤ at - from
-spans-last from at true = omega arith
-spans-last from at false = omega arith
-
-spans-more : (most : ℕ) (s : Statement) (xs ys : List Statement) (b : Bool) → (s.to - s.from) + spans xs ≤ most → spans ys ≤ most → spans (if b then s ∷ xs else ys) ≤ most
-spans-more most s xs ys true h g = h
-spans-more most s xs ys false h g = g
-
 spans-from : (text : List ℕ) (from at : ℕ) (ts : List Token) → from ≤ at → spans (statements_from text from at ts) ≤ length ts + (at - from)
-spans-from text from at [] h = omega (arith, spans-last from at (from == at))
-spans-from text from at (t ∷ ts) h =
-    let a = spans-from text (at + 1) (at + 1) ts (omega arith) in
-    let b = spans-from text from (at + 1) ts (omega arith) in
-    spans-more (suc (length ts) + (at - from)) (statement from (at + 1)) (statements_from text (at + 1) (at + 1) ts) (statements_from text from (at + 1) ts) (ends_statement text from at t) (omega arith) (omega arith)
+spans-from text from at [] h = grind arith
+spans-from text from at (t ∷ ts) h = grind (arith, spans-from text (at + 1) (at + 1) ts, spans-from text from (at + 1) ts)
 
 total-spans : (text : List ℕ) (ts : List Token) (ss : List Statement) → total (map (lexemes_within text ts) ss) ≤ spans ss
 total-spans text ts [] = omega arith

@@ -1,15 +1,13 @@
 -- What is written with lexemes of a text is ordinary: its numbers, widths, pieces and counts are within their limits.
-use Rattle.std.proofs.Common.{◌≡◌, ℕ, zero, suc, ◌+◌, ◌≤◌, Bool, true, false, ◌&&◌, nat_le, if◌then◌else◌, List, [], ◌∷◌, ◌++◌, length, take, map, Option, Some, None, IfSome, is_some, refl, sym, ap, ◌∙◌, subst, arith, length-append, leb-true, codes, inl, inr}
+use Rattle.std.proofs.Common.{◌≡◌, ℕ, zero, suc, ◌+◌, ◌≤◌, Bool, true, false, List, [], ◌∷◌, ◌++◌, length, map, Option, Some, None, IfSome, is_some, refl, sym, ap, ◌∙◌, subst, arith, length-append, codes, inl, inr}
 use Rattle.std.specs.Prelude.{All}
+use Rattle.std.proofs.lemmas.Bool.Decides.{nat_tests}
 use Rattle.std.proofs.lemmas.List.{length-map}
 use Rattle.std.proofs.lemmas.List.Elements.{All-nil, All-cons, All-tail, All-head, All-append, All-same, All-map}
-use Rattle.mintc_vlex.specs.declared.bytes.Class.TheVariants as class
-use Rattle.mintc_vlex.specs.Bytes.{is_in, run}
 use Rattle.mintc_vlex.specs.declared.token_list.Token.{Token}
 use Rattle.mintc_vlex.specs.declared.token_list.TokenKind.{TokenKind}
 use Rattle.mintc_vlex.specs.declared.token_list.TokenKind.TheVariants as kind
 use Rattle.mintc_netlist.specs.declared.expression.Piece.{Piece}
-use Rattle.mintc_netlist.specs.declared.expression.Piece.TheVariants as piece
 use Rattle.mintc_netlist.specs.declared.expression.Span.{Span}
 use Rattle.mintc_netlist.specs.declared.module.Connection.{Connection}
 use Rattle.mintc_netlist.specs.declared.module.Item.{Item}
@@ -19,12 +17,11 @@ use Rattle.mintc_verilog.specs.declared.parts.Header.{Header}
 use Rattle.mintc_verilog.specs.declared.parts.Decl.{Decl}
 use Rattle.mintc_verilog.specs.declared.parts.Said.{Said}
 use Rattle.mintc_verilog.specs.declared.parts.Said.TheVariants as said
-use Rattle.mintc_verilog.specs.Lexemes.{Lexeme, name, key, number, sized, sign, other, is_reserved, value_from, lexeme_by, lexeme_of}
+use Rattle.mintc_verilog.specs.Lexemes.{Lexeme, name, key, number, sized, sign, lexeme_by, lexeme_of}
 use Rattle.mintc_verilog.specs.Expressions.{Tree, Trees, plain, concat, repeat, one, more, spell_piece, spell, spell_all, repeated, pieces, pieces_all, Repeats, RepeatAll, IsExpression}
 use Rattle.mintc_verilog.specs.Forms.{Assign, Instance, Form, opens, opens_typed, ports, nets, assigns, instances, closes, Listed, IsName, range, IsHeader, IsHeaded, IsDecl, IsAssign, IsNamed, IsOrdered, AreConnections, IsInstance, IsPortList, IsForm}
 use Rattle.mintc_verilog.specs.Netlists.{assign_item, instance_item, header_or, port_items, no_header, says}
 use Rattle.mintc_verilog.proofs.Written.{longer}
-use Rattle.mintc_verilog.proofs.Found.{both-true}
 
 -- a number of at most 65,535, a constant of 1 to 65,536 bits
 abbrev pub IsLexeme : Lexeme → Type 0
@@ -45,25 +42,8 @@ sound-back [] b h = h
 sound-back (l ∷ a) b h = sound-back a b h.1
 
 -- lexemes of tokens
-word-sound : (b : Bool) (bs : List ℕ) → IsLexeme (if b then key bs else name bs)
-word-sound true bs = tt
-word-sound false bs = tt
-
-number-sound : (b : Bool) (n : ℕ) → nat_le n 65535 ≡ b → IsLexeme (if b then number n else other)
-number-sound true n e = leb-true n 65535 e
-number-sound false n e = tt
-
-width-sound : (b : Bool) (w : ℕ) → (nat_le 1 w && nat_le w 65536) ≡ b → IsLexeme (if b then sized w else other)
-width-sound true w e = let h = both-true (nat_le 1 w) (nat_le w 65536) e in (leb-true 1 w h.0, leb-true w 65536 h.1)
-width-sound false w e = tt
-
 lexeme-sound : (k : TokenKind) (bs : List ℕ) → IsLexeme (lexeme_by k bs)
-lexeme-sound kind.Word bs = word-sound (is_reserved bs) bs
-lexeme-sound kind.Escaped bs = tt
-lexeme-sound kind.Digits bs = number-sound _ (value_from 0 bs) refl
-lexeme-sound kind.Constant bs = width-sound _ (value_from 0 (take (run (is_in class.Digit) bs) bs)) refl
-lexeme-sound kind.Sign bs = tt
-lexeme-sound kind.Bad bs = tt
+lexeme-sound k bs = grind (arith, nat_tests)
 
 pub tokens-sound : (text : List ℕ) (ts : List Token) → AreSound (map (lexeme_of text) ts)
 tokens-sound text [] = tt
@@ -71,10 +51,7 @@ tokens-sound text (t ∷ ts) = (lexeme-sound t.kind _, tokens-sound text ts)
 
 -- expressions
 piece-sound : (p : Piece) → AreSound (spell_piece p) → IsPiece p
-piece-sound (piece.Net n) h = tt
-piece-sound (piece.Bit n at) h = h.1.1.0
-piece-sound (piece.Part n msb lsb) h = (h.1.1.0, h.1.1.1.1.0)
-piece-sound (piece.Constant width) h = h.0
+piece-sound p h = grind arith
 
 repeated-all : (n : ℕ) (ps : List Piece) → All IsPiece ps → All IsPiece (repeated n ps)
 repeated-all zero ps h = All-nil IsPiece
@@ -149,8 +126,7 @@ abbrev HasHeader : Option Header → Type 0
 HasHeader o = IfSome o (λ (h : Header). HasSpan h.span)
 
 range-sound : (o : Option Span) → AreSound (range o) → HasSpan o
-range-sound None h = tt
-range-sound (Some s) h = (h.1.0, h.1.1.1.0)
+range-sound o h = grind arith
 
 header-sound : (ls : List Lexeme) (h : Header) → AreSound ls → IsHeader ls h → HasSpan h.span
 header-sound ls h s (wire, e, w) = range-sound h.span (sound-back wire (range h.span) (subst AreSound e s).1)
@@ -163,8 +139,7 @@ decl-sound : (ls : List Lexeme) (d : Decl) → AreFew ls → IsDecl ls d → Has
 decl-sound ls d s (header, e, is) = headed-sound header d.header (sound-front header (name d.name ∷ []) (subst AreSound e s.sound)) is
 
 header-or : (last : Header) (o : Option Header) → HasSpan last.span → HasHeader o → HasSpan (header_or last o).span
-header-or last None h g = h
-header-or last (Some o) h g = g
+header-or last o h g = grind arith
 
 port_items-sound : (entry : ℕ) (last : Header) (ds : List Decl) → HasSpan last.span → All (λ (d : Decl). HasHeader d.header) ds → All IsItem (port_items entry last ds)
 port_items-sound entry last [] h g = All-nil IsItem
@@ -272,18 +247,13 @@ IsNumbered entry said.Closes = Unit {0}
 
 port_items-numbered : (entry : ℕ) (last : Header) (ds : List Decl) → AreNumbered entry (port_items entry last ds)
 port_items-numbered entry last [] = All-nil (λ i. entry_of i ≡ entry)
-port_items-numbered entry last (d ∷ ds) =
-    let here = header_or last d.header in
-    All-cons (λ i. entry_of i ≡ entry) (item.Port entry here.output here.span (d.name ∷ [])) (port_items entry here ds) refl (port_items-numbered entry here ds)
-
-one-numbered : (entry : ℕ) (i : Item) → entry_of i ≡ entry → AreNumbered entry (i ∷ [])
-one-numbered entry i e = All-cons (λ i. entry_of i ≡ entry) i [] e (All-nil (λ i. entry_of i ≡ entry))
+port_items-numbered entry last (d ∷ ds) = grind (arith, All-cons, port_items-numbered entry (header_or last d.header) ds)
 
 pub says-numbered : (entry : ℕ) (f : Form) → IsNumbered entry (says entry f)
 says-numbered entry (opens n ps) = (refl, All-nil (λ i. entry_of i ≡ entry))
 says-numbered entry (opens_typed n ds) = (refl, port_items-numbered entry no_header ds)
-says-numbered entry (ports h ns) = one-numbered entry (item.Port entry h.output h.span ns) refl
-says-numbered entry (nets span ns) = one-numbered entry (item.Wire entry span ns) refl
+says-numbered entry (ports h ns) = grind (arith, All-nil, All-cons)
+says-numbered entry (nets span ns) = grind (arith, All-nil, All-cons)
 says-numbered entry (assigns pairs) = All-map (λ i. entry_of i ≡ entry) (assign_item entry) pairs (λ k d h. refl)
 says-numbered entry (instances cell is) = All-map (λ i. entry_of i ≡ entry) (instance_item entry cell) is (λ k d h. refl)
 says-numbered entry closes = tt

@@ -1,29 +1,20 @@
 -- What is written as an expression is read as its pieces, whatever follows that doesn't go on with it.
-use Rattle.std.proofs.Common.{◌≡◌, ℕ, zero, suc, ◌*◌, ◌<◌, ◌≤◌, Bool, true, ◌&&◌, if◌then◌else◌, List, [], ◌∷◌, ◌++◌, length, Some, None, option_and_then, refl, sym, ap, ◌∙◌, arith, append_assoc, append-nil, length-append, le-leb}
+use Rattle.std.proofs.Common.{◌≡◌, ℕ, zero, suc, ◌*◌, ◌<◌, ◌≤◌, List, [], ◌∷◌, ◌++◌, length, Some, None, option_and_then, refl, ap, ◌∙◌, arith, append_assoc, length-append}
+use Rattle.std.proofs.lemmas.Bool.Decides.{nat_tests}
 use Rattle.mintc_netlist.specs.declared.expression.Piece.{Piece}
-use Rattle.mintc_netlist.specs.declared.expression.Piece.TheVariants as piece
 use Rattle.mintc_verilog.specs.Lexemes.{Lexeme, number, sign}
-use Rattle.mintc_verilog.specs.Expressions.{Tree, Trees, plain, concat, repeat, one, more, spell_piece, spell, spell_all, repeated, pieces, pieces_all, depth, depth_all, Repeats, RepeatAll, IsExpression}
-use Rattle.mintc_verilog.specs.Reading.{Pieces, eat, number_at, plain_at, select_or_net, one_piece, limited, items, join_items, braces, concat_end, repeat_end, innermost, expression}
+use Rattle.mintc_verilog.specs.Expressions.{Tree, Trees, plain, concat, repeat, one, more, spell_piece, spell, spell_all, repeated, pieces, pieces_all, depth, depth_all, Repeats, RepeatAll}
+use Rattle.mintc_verilog.specs.Reading.{Pieces, eat, number_at, plain_at, one_piece, limited, items, join_items, braces, concat_end, repeat_end, innermost, expression}
 
 plain-reads : (p : Piece) (rest : List Lexeme) → eat 91 rest ≡ None → plain_at (spell_piece p ++ rest) ≡ Some (p, rest)
-plain-reads (piece.Net n) rest h = ap (select_or_net n rest) h
-plain-reads (piece.Bit n at) rest h = refl
-plain-reads (piece.Part n msb lsb) rest h = refl
-plain-reads (piece.Constant width) rest h = refl
+plain-reads p rest h = grind arith
 
 no_brace : (p : Piece) (rest : List Lexeme) → eat 123 (spell_piece p ++ rest) ≡ None
-no_brace (piece.Net n) rest = refl
-no_brace (piece.Bit n at) rest = refl
-no_brace (piece.Part n msb lsb) rest = refl
-no_brace (piece.Constant width) rest = refl
+no_brace p rest = grind arith
 
 not_number : (t : Tree) (rest : List Lexeme) → number_at (spell t ++ rest) ≡ None
 unfolding spell
-not_number (plain (piece.Net n)) rest = refl
-not_number (plain (piece.Bit n at)) rest = refl
-not_number (plain (piece.Part n msb lsb)) rest = refl
-not_number (plain (piece.Constant width)) rest = refl
+not_number (plain p) rest = grind arith
 not_number (concat ts) rest = refl
 not_number (repeat n ts) rest = refl
 
@@ -33,21 +24,13 @@ none_number (one t) rest = not_number t rest
 none_number (more t ts) rest = ap number_at (append_assoc (spell t) (sign 44 ∷ spell_all ts) rest) ∙ not_number t _
 
 some_piece : (p : Piece) → 0 < length (spell_piece p)
-some_piece (piece.Net n) = omega arith
-some_piece (piece.Bit n at) = omega arith
-some_piece (piece.Part n msb lsb) = omega arith
-some_piece (piece.Constant width) = omega arith
+some_piece p = grind arith
 
 pub some_lexeme : (t : Tree) → 0 < length (spell t)
 unfolding spell
 some_lexeme (plain p) = some_piece p
 some_lexeme (concat ts) = omega arith
 some_lexeme (repeat n ts) = omega arith
-
-pub some_lexemes : (ts : Trees) → 0 < length (spell_all ts)
-unfolding spell
-some_lexemes (one t) = some_lexeme t
-some_lexemes (more t ts) = omega (arith, some_lexeme t, length-append (spell t) (sign 44 ∷ spell_all ts))
 
 pub length-repeated : (n : ℕ) (ps : List Piece) → length (repeated n ps) ≡ n * length ps
 length-repeated zero ps = omega arith
@@ -64,22 +47,16 @@ unfolding expression innermost
 braced zero ls = refl
 braced (suc d) ls = refl
 
-both : (a b : Bool) → a ≡ true → b ≡ true → (a && b) ≡ true
-both a b e f = rw (e, f) refl
-
 pub limited-fits : (ps : Pieces) (ls : List Lexeme) → length ps ≤ 65536 → limited ps ls ≡ Some (ps, ls)
-limited-fits ps ls h = ap (λ b. if b then Some (ps, ls) else None) (le-leb (length ps) 65536 h)
+limited-fits ps ls h = grind (arith, nat_tests)
 
 repeat-fits : (n : ℕ) (ps : Pieces) (rest : List Lexeme) → 1 ≤ n → length (repeated n ps) ≤ 65536 →
     repeat_end n (ps, sign 125 ∷ sign 125 ∷ rest) ≡ Some (repeated n ps, rest)
-repeat-fits n ps rest h g =
-    ap (λ b. if b then Some (repeated n ps, rest) else None)
-    (both _ _ (le-leb 1 n h) (le-leb (n * length ps) 65536 (omega (arith, length-repeated n ps))))
+repeat-fits n ps rest h g = grind (arith, nat_tests, length-repeated)
 
 -- a repetition has at least the pieces of one turn
 pub longer : (n : ℕ) (ps : Pieces) → 1 ≤ n → length ps ≤ length (repeated n ps)
-longer zero ps h = absurd (omega arith)
-longer (suc n) ps h = omega (arith, length-append ps (repeated n ps))
+longer n ps h = grind (arith, length-append)
 
 mutual
   unfolding items innermost spell pieces depth Repeats
@@ -118,19 +95,3 @@ mutual
       ∙ ap (option_and_then (λ p. join_items (items (expression d) n) p (eat 44 p.1))) (reads t d after (omega arith) r.0 (omega arith) refl)
       ∙ ap (option_and_then (λ q. limited (pieces t ++ q.0) q.1)) (reads-all ts d n rest (omega arith) (omega (arith, some_lexeme t, length-append (spell t) (sign 44 ∷ spell_all ts))) r.1 (omega arith) e f)
       ∙ limited-fits (pieces t ++ pieces_all ts) rest c
-
--- An expression has one reading.
-pub one_reading : (ls : List Lexeme) (ps qs : List Piece) → IsExpression ls ps → IsExpression ls qs → ps ≡ qs
-one_reading ls ps qs h g =
-    let first = whole ls ps h in
-    let second = whole ls qs g in
-    ap (λ (p : Pieces × List Lexeme). p.0) (inner (ps, []) (qs, []) (sym first ∙ second))
-  where
-    inner : (p q : Pieces × List Lexeme) → Some p ≡ Some q → p ≡ q
-    inner p q e = cc
-
-    whole : (ls : List Lexeme) (ps : List Piece) → IsExpression ls ps → expression 32 ls ≡ Some (ps, [])
-    whole ls ps h =
-        ap (expression 32) (h.written ∙ sym (append-nil (spell h.tree)))
-        ∙ reads h.tree 32 [] h.nested h.repeats (omega (arith, h.count, ap length h.stands)) refl
-        ∙ ap (λ l. Some (l, [])) (sym h.stands)

@@ -1,12 +1,12 @@
 use Rattle.std.proofs.Common.{◌≡◌, ◌++◌, ℕ, [], List, None, option_map, filter_map, length, sym, ap, ◌∙◌, subst, arith}
 use Rattle.std.proofs.lemmas.Bool.Decides.{nat_tests}
-use Rattle.std.proofs.lemmas.List.{nil_from_length}
+use Rattle.std.proofs.lemmas.List.{append-nil, nil_from_length}
 use Rattle.std.specs.Borrow.{Bor}
 use Rattle.mintc_cells.specs.Entries.{AreAscending, AreKept, names_of, is_kept}
 use Rattle.mintc_liblex.specs.Statements.{front}
 use Rattle.mintc_liberty.specs.Meaning.{usable, put_all, groups, cells_in}
 use Rattle.mintc_liberty.specs.Places.{is_same, named_cells}
-use Rattle.mintc_liberty.proofs.PlaceLaws.{cells_from, next-same, next-other, named-cells, ascending-kept, all-kept, all-in-order, with-none}
+use Rattle.mintc_liberty.proofs.PlaceLaws.{cells_from, next-same, next-other, named-cells, ascending-kept, all-kept, all-in-order}
 use Rattle.mintc_liberty.proofs.CountLaws.{usable-name, usable-kept}
 use Rattle.mintc_liberty.proofs.texts.library_cells.Goals as goal
 use Rattle.mintc_liberty.proofs.texts.library_cells.Goals.{then-not-is_same+in_ok-add, else-not-is_same}
@@ -36,7 +36,7 @@ returns-in-Ok-clause-cells c =
     let none : length c.loop-place.place-iterator.rest.items ≡ 0 = grind (arith, nat_tests, c.loop-place.place-iterator.rest.ok, c.in-None.ensures.steps.0) in
     let all : cells_from text None c.in_ok-places.places.items ≡ c.loop-place.cells.items =
     ap (cells_from text None) (sym c.into_iter-place-iterator.ensures.into_iter_gives.0) ∙ c.loop-place.invariant
-    ∙ ap (λ ps. c.loop-place.cells.items ++ cells_from text o ps) (nil_from_length c.loop-place.place-iterator.rest.items none) ∙ with-none c.loop-place.cells.items in
+    ∙ ap (λ ps. c.loop-place.cells.items ++ cells_from text o ps) (nil_from_length c.loop-place.place-iterator.rest.items none) ∙ append-nil c.loop-place.cells.items in
     sym all ∙ sym (ap (filter_map usable) c.in_ok-places.ensures) ∙ sym (named-cells (cells_in (groups (front 63 c.args.library.now.tokens).statements)))
 
 pub returns-in-Ok-clause-ordered : goal.returns-in-Ok-clause-ordered
@@ -47,7 +47,7 @@ returns-in-Ok-clause-ordered c =
     let none : length c.loop-place.place-iterator.rest.items ≡ 0 = grind (arith, nat_tests, c.loop-place.place-iterator.rest.ok, c.in-None.ensures.steps.0) in
     let all : filter_map usable es ≡ c.loop-place.cells.items =
     ap (filter_map usable) c.in_ok-places.ensures ∙ ap (cells_from text None) (sym c.into_iter-place-iterator.ensures.into_iter_gives.0) ∙ c.loop-place.invariant
-    ∙ ap (λ ps. c.loop-place.cells.items ++ cells_from text o ps) (nil_from_length c.loop-place.place-iterator.rest.items none) ∙ with-none c.loop-place.cells.items in
+    ∙ ap (λ ps. c.loop-place.cells.items ++ cells_from text o ps) (nil_from_length c.loop-place.place-iterator.rest.items none) ∙ append-nil c.loop-place.cells.items in
     record {
       few = omega (arith, c.in-Ok.ensures.0, c.len.ensures);
       ascending = subst (λ cells. AreAscending (names_of cells)) all (ascending-kept usable usable-name es (all-in-order (named_cells c.args.library.now.tokens) [] tt));

@@ -1,48 +1,57 @@
 use Rattle.std.proofs.Common.{◌≡◌, [], length, true, false, Some, IsOk, sym, ap, subst, ◌∙◌, arith}
-use Rattle.mintc_liblex.specs.Statements.{front, count}
+use Rattle.mintc_liblex.specs.Statements.{Front, front, count}
 use Rattle.mintc_liberty.specs.Texts.{behind_head, is_end, whole, within, library_of}
 use Rattle.mintc_liblex.specs.Reading.{statement_rest}
 use Rattle.mintc_scan.proofs.SharedTokenLaws.{few}
 use Rattle.mintc_liblex.specs.Tokens.{piece_of}
 use Rattle.mintc_liblex.proofs.SharedNestLaws.{step-shorter}
-use Rattle.mintc_liberty.proofs.LibraryLaws.{goes, stops, is-whole, is-broken, no-end, head-shorter}
+use Rattle.mintc_liberty.proofs.LibraryLaws.{one-more, no-more, is-whole, is-broken, no-end, head-shorter}
 use Rattle.mintc_liberty.proofs.texts.syntax_of.Goals as goal
 
 pub overflow_add-result : goal.overflow_add-result
 overflow_add-result c =
-    let less = head-shorter c.new-scanner.result.tokens c.head.new.scanner.tokens c.if-not-head.ensures in
-    let tokens = ap length c.new-scanner.ensures.tokens in
-    let start = ap length c.at-reader.ensures in
-    omega (arith, less, tokens, start, few piece_of 0 c.args.text.now, c.loop-reader.invariant.few)
+    omega (
+      arith,
+      head-shorter c.new-scanner.result.tokens c.head.new.scanner.tokens c.if-not-head.ensures,
+      ap length c.new-scanner.ensures.tokens,
+      ap length c.at-reader.ensures,
+      few piece_of 0 c.args.text.now,
+    )
 
 pub overflow_add-result-then-not-statement : goal.overflow_add-result-then-not-statement
 overflow_add-result-then-not-statement c =
-    let less = head-shorter c.new-scanner.result.tokens c.head.new.scanner.tokens c.if-not-head.ensures in
-    let tokens = ap length c.new-scanner.ensures.tokens in
-    let start = ap length c.at-reader.ensures in
-    omega (arith, less, tokens, start, few piece_of 0 c.args.text.now, c.loop-reader.invariant.few)
+    omega (
+      arith,
+      head-shorter c.new-scanner.result.tokens c.head.new.scanner.tokens c.if-not-head.ensures,
+      ap length c.new-scanner.ensures.tokens,
+      ap length c.at-reader.ensures,
+      few piece_of 0 c.args.text.now,
+    )
 
 pub overflow_add-count : goal.overflow_add-count
 overflow_add-count c =
-    let less = head-shorter c.new-scanner.result.tokens c.head.new.scanner.tokens c.if-not-head.ensures in
-    let tokens = ap length c.new-scanner.ensures.tokens in
-    let start = ap length c.at-reader.ensures in
-    omega (arith, less, tokens, start, few piece_of 0 c.args.text.now, c.loop-reader.invariant.few)
+    omega (
+      arith,
+      head-shorter c.new-scanner.result.tokens c.head.new.scanner.tokens c.if-not-head.ensures,
+      ap length c.new-scanner.ensures.tokens,
+      ap length c.at-reader.ensures,
+      few piece_of 0 c.args.text.now,
+    )
 
 pub returns-then-ends : goal.returns-then-ends
 returns-then-ends c =
     let init = c.at-reader.result in
-    let here = stops 63 c.loop-reader.reader (ap (statement_rest 63) (c.if-mark.ensures [])) in
-    let ending : is_end (front 63 init).after ≡ true = ap is_end (c.loop-reader.invariant.same ∙ here.0 ∙ c.if-mark.ensures []) ∙ sym c.ends.ensures ∙ c.if-ends.true in
+    let here = no-more 63 c.loop-reader.reader (ap (statement_rest 63) (c.if-mark.ensures [])) in
+    let ending : is_end (front 63 init).after ≡ true = ap is_end (c.loop-reader.invariant.same ∙ ap (λ (f : Front). f.after) here ∙ c.if-mark.ensures []) ∙ sym c.ends.ensures ∙ c.if-ends.true in
     let lib : library_of c.args.text.now ≡ whole (front 63 init) = ap (λ ts. within (behind_head ts)) (sym c.new-scanner.ensures.tokens) ∙ ap within (c.if-not-head.ensures ∙ ap Some (sym c.at-reader.ensures)) in
     subst IsOk (sym lib) (is-whole (front 63 init) ending)
 
 pub returns-else-ends : goal.returns-else-ends
 returns-else-ends c =
     let init = c.at-reader.result in
-    let here = stops 63 c.loop-reader.reader (ap (statement_rest 63) (c.if-mark.ensures [])) in
-    let ending : is_end (front 63 init).after ≡ false = ap is_end (c.loop-reader.invariant.same ∙ here.0 ∙ c.if-mark.ensures []) ∙ sym c.ends.ensures ∙ c.if-ends.false in
-    let number : count (front 63 init).statements ≡ c.loop-reader.count = omega (arith, c.loop-reader.invariant.counted, here.1) in
+    let here = no-more 63 c.loop-reader.reader (ap (statement_rest 63) (c.if-mark.ensures [])) in
+    let ending : is_end (front 63 init).after ≡ false = ap is_end (c.loop-reader.invariant.same ∙ ap (λ (f : Front). f.after) here ∙ c.if-mark.ensures []) ∙ sym c.ends.ensures ∙ c.if-ends.false in
+    let number : count (front 63 init).statements ≡ c.loop-reader.count = omega (arith, ap (λ (f : Front). count f.statements) here) in
     let lib : library_of c.args.text.now ≡ whole (front 63 init) = ap (λ ts. within (behind_head ts)) (sym c.new-scanner.ensures.tokens) ∙ ap within (c.if-not-head.ensures ∙ ap Some (sym c.at-reader.ensures)) in
     lib ∙ is-broken (front 63 init) c.loop-reader.count ending number
 
@@ -50,9 +59,9 @@ pub returns-then-not-statement : goal.returns-then-not-statement
 returns-then-not-statement c =
     let init = c.at-reader.result in
     let n = c.if-mark.ensures in
-    let here = stops 63 c.loop-reader.reader (ap (statement_rest 63) (sym n.1) ∙ c.if-not-statement.ensures) in
-    let ending : is_end (front 63 init).after ≡ false = ap is_end (c.loop-reader.invariant.same ∙ here.0) ∙ no-end c.loop-reader.reader n.0 in
-    let number : count (front 63 init).statements ≡ c.loop-reader.count = omega (arith, c.loop-reader.invariant.counted, here.1) in
+    let here = no-more 63 c.loop-reader.reader (ap (statement_rest 63) (sym n.1) ∙ c.if-not-statement.ensures) in
+    let ending : is_end (front 63 init).after ≡ false = ap is_end (c.loop-reader.invariant.same ∙ ap (λ (f : Front). f.after) here) ∙ no-end c.loop-reader.reader n.0 in
+    let number : count (front 63 init).statements ≡ c.loop-reader.count = omega (arith, ap (λ (f : Front). count f.statements) here) in
     let lib : library_of c.args.text.now ≡ whole (front 63 init) = ap (λ ts. within (behind_head ts)) (sym c.new-scanner.ensures.tokens) ∙ ap within (c.if-not-head.ensures ∙ ap Some (sym c.at-reader.ensures)) in
     lib ∙ is-broken (front 63 init) c.loop-reader.count ending number
 
@@ -65,10 +74,10 @@ loop-reader-smaller c =
 pub loop-reader-preserved : goal.loop-reader-preserved
 loop-reader-preserved c =
     let e : statement_rest 63 c.loop-reader.reader ≡ Some c.statement.new.reader = ap (statement_rest 63) (sym c.if-mark.ensures.1) ∙ c.if-not-statement.ensures in
-    let step = goes 63 c.loop-reader.reader c.statement.new.reader e in
+    let step = (one-more 63 c.loop-reader.reader c.statement.new.reader e).2 in
     let less = step-shorter 63 c.loop-reader.reader c.statement.new.reader e in
     record {
-      same = c.loop-reader.invariant.same ∙ step.0;
-      counted = omega (arith, c.loop-reader.invariant.counted, step.1);
+      same = c.loop-reader.invariant.same ∙ ap (λ (f : Front). f.after) step;
+      counted = omega (arith, ap (λ (f : Front). count f.statements) step);
       few = omega (arith, c.loop-reader.invariant.few, less);
     }
