@@ -19,37 +19,13 @@ none_delays = ((omega (arith, ints), omega (arith, ints)), (omega (arith, ints),
 
 -- an arc between two inner bits, into an element, and out of one
 pub inner_arc : (n m b c : ℕ) (r : ℤ × ℤ) → b < m → c < m → AreDelays r → IsArc n m (arc_of (inner_bit n b) (inner_bit n c) r)
-inner_arc n m b c r from to delays = record {
-  from = omega (arith, from);
-  to = omega (arith, to);
-  leaves = λ l less same. omega (arith, less, same);
-  enters = λ l less same. omega (arith, less, same);
-  min = delays.0;
-  max = delays.1;
-  ordered = delays.2;
-}
+inner_arc n m b c r from to delays = grind arith
 
 pub data_arc : (n m b e : ℕ) (r : ℤ × ℤ) → b < m → e < n → AreDelays r → IsArc n m (arc_of (inner_bit n b) (input_of e) r)
-data_arc n m b e r from to delays = record {
-  from = omega (arith, from);
-  to = omega (arith, to);
-  leaves = λ l less same. omega (arith, less, same);
-  enters = λ l less same. omega (arith, same);
-  min = delays.0;
-  max = delays.1;
-  ordered = delays.2;
-}
+data_arc n m b e r from to delays = grind arith
 
 pub output_arc : (n m b e : ℕ) (r : ℤ × ℤ) → b < m → e < n → AreDelays r → IsArc n m (arc_of (output_of e) (inner_bit n b) r)
-output_arc n m b e r to from delays = record {
-  from = omega (arith, from);
-  to = omega (arith, to);
-  leaves = λ l less same. omega (arith, same);
-  enters = λ l less same. omega (arith, less, same);
-  min = delays.0;
-  max = delays.1;
-  ordered = delays.2;
-}
+output_arc n m b e r to from delays = grind arith
 
 -- the arcs of joins
 pub joins_in : (ss : List Said) (n m : ℕ) (joins : List Join) → AreSaid ss → All (λ j. (j.from < m) × (j.to < m)) joins → All (IsArc n m) (map (join_arc (range_of ss) n) joins)

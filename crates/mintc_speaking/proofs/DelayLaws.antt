@@ -1,5 +1,5 @@
 -- Delay after delay.
-use Rattle.std.proofs.Common.{◌≡◌, ◌<◌, ◌+◌, ℕ, List, [], ◌∷◌, ◌++◌, length, take, drop, get_or, Option, Some, None, refl, sym, ap, ◌∙◌, subst, append-nil}
+use Rattle.std.proofs.Common.{◌≡◌, ◌<◌, ◌+◌, ℕ, List, [], ◌∷◌, ◌++◌, length, take, drop, get_or, Option, Some, None, refl, sym, ap, ◌∙◌, subst, append-nil, arith}
 use Rattle.std.specs.Option.{option_or}
 use Rattle.std.proofs.lemmas.List.{take_more, drop_more, take-append-drop}
 use Rattle.std.proofs.lemmas.List.Concat.{flat_map-append}
@@ -20,8 +20,7 @@ top_spoken h cells d is = ap (of_instance h cells [] d.subject) (no_leaf_at_top 
 
 -- ---- refusals
 or_assoc : (a b c : Option Refusal) → option_or a (option_or b c) ≡ option_or (option_or a b) c
-or_assoc (Some x) b c = refl
-or_assoc None b c = refl
+or_assoc a b c = grind arith
 
 refusal_append : (h : Hierarchy) (cells : CellTable) (xs ys : List Delay) → first_refusal h cells (xs ++ ys) ≡ option_or (first_refusal h cells xs) (first_refusal h cells ys)
 refusal_append h cells [] ys = refl

@@ -20,17 +20,9 @@ use Rattle.mintc_speaking.proofs.RangeLaws.{range_push}
 
 -- ---- places
 pub has_place : (h : Hierarchy) (r : Ranges) (x : Answer) → HasRoom (length h.inner) (length h.leaves) r → AreThere h x → HasPlaceOf r x
-has_place h r (answer.Of None) room there = tt
 has_place h r (answer.Of (Some (PathOn leaf from to))) room there = tt
-has_place h r (answer.Of (Some (JoinInto bit))) room there = omega (arith, there, room.joins)
-has_place h r (answer.Of (Some (ArcsFrom bit))) room there = omega (arith, there, room.ports)
-has_place h r (answer.Of (Some (DqOf leaf))) room there = omega (arith, there, room.dq)
-has_place h r (answer.Of (Some (CqOf leaf))) room there = omega (arith, there, room.cq)
-has_place h r (answer.Of (Some (SetupOf leaf))) room there = omega (arith, there, room.setup)
-has_place h r (answer.Of (Some (HoldOf leaf))) room there = omega (arith, there, room.hold)
-has_place h r (answer.Of (Some (WidthOf leaf))) room there = omega (arith, there, room.width)
-has_place h r answer.NoInstance room there = tt
-has_place h r answer.NoArc room there = tt
+has_place h r (answer.Of (Some _)) room there = omega arith
+has_place h r _ room there = tt
 
 -- ---- one delay
 pub taken_one : (entry : ℕ) (m : Matter) (least greatest : ℤ) (old new : Ranges) → IsWidened old new m least greatest → IsSameRoom old new → IsTakenIn entry (of (m ∷ [])) least greatest old new
@@ -58,30 +50,20 @@ taken_both entry (of ms) (of ns) least greatest old mid new first second = recor
       (second.ranges (ss ++ told least greatest ms) (first.ranges ss has));
   room = λ bits leaves room. second.room bits leaves (first.room bits leaves room);
 }
-taken_both entry (of ms) no_instance least greatest old mid new first second = let e = second.unrefused in absurd (cc)
-taken_both entry (of ms) no_arc least greatest old mid new first second = let e = second.unrefused in absurd (cc)
-taken_both entry no_instance b least greatest old mid new first second = let e = first.unrefused in absurd (cc)
-taken_both entry no_arc b least greatest old mid new first second = let e = first.unrefused in absurd (cc)
+taken_both entry _ _ least greatest old mid new first second = let e = first.unrefused in let e2 = second.unrefused in absurd (cc)
 
 -- ---- leaf after leaf
 together_nil : (a : Spoken) → together a (of []) ≡ a
 together_nil (of ms) = ap of (append-nil ms)
-together_nil no_instance = refl
-together_nil no_arc = refl
+together_nil _ = refl
 
 together_assoc : (a b c : Spoken) → together a (together b c) ≡ together (together a b) c
 together_assoc (of ms) (of ns) (of ps) = ap of (sym (append_assoc ms ns ps))
-together_assoc (of ms) (of ns) no_instance = refl
-together_assoc (of ms) (of ns) no_arc = refl
-together_assoc (of ms) no_instance c = refl
-together_assoc (of ms) no_arc c = refl
-together_assoc no_instance b c = refl
-together_assoc no_arc b c = refl
+together_assoc _ _ _ = refl
 
 of_nil : (a : Spoken) → together (of []) a ≡ a
 of_nil (of ms) = refl
-of_nil no_instance = refl
-of_nil no_arc = refl
+of_nil _ = refl
 
 pub each_append : (h : Hierarchy) (cells : CellTable) (s : Subject) (xs ys : List ℕ) → of_each h cells s (xs ++ ys) ≡ together (of_each h cells s xs) (of_each h cells s ys)
 each_append h cells s [] ys = sym (of_nil (of_each h cells s ys))
@@ -94,10 +76,8 @@ each_more h cells s ls k d within =
 -- a refusal after a front that isn't refused
 refused_at : (entry : ℕ) (a b c : Spoken) (r : Refusal) → refusal_of entry a ≡ None → refusal_of entry b ≡ Some r → refusal_of entry (together a (together b c)) ≡ Some r
 refused_at entry (of ms) (of ns) c r front here = absurd (cc)
-refused_at entry (of ms) no_instance c r front here = here
-refused_at entry (of ms) no_arc c r front here = here
-refused_at entry no_instance b c r front here = absurd (cc)
-refused_at entry no_arc b c r front here = absurd (cc)
+refused_at entry (of ms) _ c r front here = here
+refused_at entry _ b c r front here = absurd (cc)
 
 pub each_refused : (h : Hierarchy) (cells : CellTable) (s : Subject) (ls : List ℕ) (k d entry : ℕ) (r : Refusal) → k < length ls → refusal_of entry (of_each h cells s (take k ls)) ≡ None → refusal_of entry (of_leaf h cells (get_or ls k d) s) ≡ Some r →
     refusal_of entry (of_each h cells s ls) ≡ Some r

@@ -108,11 +108,7 @@ group_inside h n k below =
 -- ---- a delay at all of them
 other_every : (h : Hierarchy) (cells : CellTable) (ct : List ℕ) (s : Subject) → IsNoWire s → of_each h cells s (leaves_of h cells ct) ≡ of_every h cells ct s
 other_every h cells ct (subject.Interconnect to) none = absurd (none to refl)
-other_every h cells ct (subject.Iopath from to) none = refl
-other_every h cells ct (subject.Port pin) none = refl
-other_every h cells ct (subject.Setup pin) none = refl
-other_every h cells ct (subject.Hold pin) none = refl
-other_every h cells ct (subject.Width pin) none = refl
+other_every h cells ct _ none = refl
 
 pub every_found : (h : Hierarchy) (cells : CellTable) (ct : List ℕ) (s : Subject) (n : ℕ) → IsFlattened cells h → AreOrdered cells → number_of cells ct ≡ Some n → IsNoWire s → of_each h cells s (leaves_with h n) ≡ of_every h cells ct s
 every_found h cells ct s n shape ordered found none = ap (of_each h cells s) (leaves_found h cells ct n shape ordered found) ∙ other_every h cells ct s none

@@ -30,12 +30,10 @@ key_is s t n m test = key_parts s t n m ((bytes_eq-Decides (key_of s n) (key_of 
 
 -- ---- one more number
 or_some : (o : Option ℕ) (n : ℕ) → Some (unwrap_or o n) ≡ option_or o (Some n)
-or_some None n = refl
-or_some (Some x) n = refl
+or_some o n = grind arith
 
 or_none : (o : Option ℕ) → o ≡ option_or o None
-or_none None = refl
-or_none (Some x) = refl
+or_none o = grind arith
 
 -- the first of one more
 pub called_more : (paths : ℕ → Path) (n : ℕ) (path : Path) → called paths (n + 1) path ≡ option_or (called paths n path) (cond (same_path (paths n) path) (Some n) None)

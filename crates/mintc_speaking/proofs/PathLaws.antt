@@ -17,9 +17,8 @@ Path = List (List ℕ)
 -- ---- equal paths
 pub same_lengths : (a b : Path) → (length a ≡ length b → ⊥) → same_path a b ≡ false
 same_lengths [] [] differ = absurd (differ refl)
-same_lengths [] (y ∷ ys) differ = refl
-same_lengths (x ∷ xs) [] differ = refl
 same_lengths (x ∷ xs) (y ∷ ys) differ = ap (λ b. bytes_eq x y && b) (same_lengths xs ys (λ e. differ (ap suc e))) ∙ and-false (bytes_eq x y)
+same_lengths _ _ differ = refl
 
 pub same_self : (a : Path) → same_path a a ≡ true
 same_self [] = refl

@@ -18,20 +18,16 @@ use Rattle.mintc_speaking.specs.Places.{place_at, HasPlaces, only, whole_of, amo
 
 -- ---- options
 pub or_none : (o : Option PortBit) → o ≡ option_or o None
-or_none None = refl
-or_none (Some p) = refl
+or_none o = grind arith
 
 pub or_assoc : (a b c : Option PortBit) → option_or (option_or a b) c ≡ option_or a (option_or b c)
-or_assoc None b c = refl
-or_assoc (Some p) b c = refl
+or_assoc a b c = grind arith
 
 put_by : (text k : List ℕ) (place : PortBit) (o : Option PortBit) (b : Bool) → (b ≡ true → o ≡ None) → cond b (Some place) o ≡ option_or o (cond b (Some place) None)
-put_by text k place o true none = ap (λ (x : Option PortBit). option_or x (Some place)) (sym (none refl))
-put_by text k place o false none = or_none o
+put_by text k place o b none = grind arith
 
 is_none : (o : Option PortBit) → is_some o ≡ false → o ≡ None
-is_none None no_some = refl
-is_none (Some p) no_some = absurd (cc)
+is_none o no_some = grind arith
 
 module _ {S : Type 0} where
   -- a text that has no place gets one
@@ -49,8 +45,7 @@ map_or f None b = refl
 map_or f (Some p) b = refl
 
 one_port : (f : TopPort → PortBit) (p : TopPort) (b : Bool) → option_map f (cond b (Some p) None) ≡ cond b (Some (f p)) None
-one_port f p true = refl
-one_port f p false = refl
+one_port f p b = grind arith
 
 abbrev whole_bit : TopPort → PortBit
 whole_bit p = port_bit p.output (get_or p.bits 0 0)
@@ -110,8 +105,7 @@ whole_by count q true rest p first is more = let bit : get_or q.bits 0 0 ≡ p.b
 whole_by count q false rest p first is more = more p is
 
 right_true : (a b : Bool) → (a && b) ≡ true → b ≡ true
-right_true true b h = h
-right_true false b h = absurd (cc)
+right_true a b h = grind arith
 
 whole_inside : (count : ℕ) (ports : List TopPort) (k : List ℕ) (p : PortBit) → AreInside count ports → whole_port ports k ≡ Some p → p.bit < count
 whole_inside count [] k p inside is = absurd (cc)

@@ -85,13 +85,5 @@ IsNoWire s = (to : Path) → s ≡ subject.Interconnect to → ⊥
 
 pub other_at : (h : Hierarchy) (cells : CellTable) (path : Path) (s : Subject) (o : Option ℕ) → IsNoWire s → of_leaf_at h cells s o ≡ of_instance h cells path s o
 other_at h cells path (subject.Interconnect to) o none = absurd (none to refl)
-other_at h cells path (subject.Iopath from to) None none = refl
-other_at h cells path (subject.Iopath from to) (Some l) none = refl
-other_at h cells path (subject.Port pin) None none = refl
-other_at h cells path (subject.Port pin) (Some l) none = refl
-other_at h cells path (subject.Setup pin) None none = refl
-other_at h cells path (subject.Setup pin) (Some l) none = refl
-other_at h cells path (subject.Hold pin) None none = refl
-other_at h cells path (subject.Hold pin) (Some l) none = refl
-other_at h cells path (subject.Width pin) None none = refl
-other_at h cells path (subject.Width pin) (Some l) none = refl
+other_at h cells path _ None none = refl
+other_at h cells path _ (Some l) none = refl
