@@ -49,10 +49,15 @@ determined_lem h cells clock delays design other a b = one_made h cells clock de
 
 -- where all are traced, each is
 each_traced : (h : Hierarchy) (cells : CellTable) (spots : List Spot) (before : List ℕ) (l : ℕ) (after ps : List ℕ) → AllZip (IsPhaseOf h cells spots) (before ++ l ∷ after) ps → (p : ℕ) × IsPhaseOf h cells spots l p
-each_traced h cells spots [] l after [] a = absurd a
 each_traced h cells spots [] l after (p ∷ ps) a = (p, a.0)
-each_traced h cells spots (b ∷ before) l after [] a = absurd a
 each_traced h cells spots (b ∷ before) l after (p ∷ ps) a = each_traced h cells spots before l after ps a.1
+each_traced h cells spots [] l after _ a = absurd a
+each_traced h cells spots _ l after _ a = absurd a
+
+untraced_or_made : (h : Hierarchy) (cells : CellTable) (clock : Clock) (delays : List Delay) (design : Design) (e : ℕ) → IsMade h cells clock delays design → IsFirstUntraced h cells (phase_spots h clock) e → ⊥
+untraced_or_made h cells clock delays design e made untraced =
+    let traced = each_traced h cells (phase_spots h clock) untraced.before untraced.leaf untraced.after made.phases (subst (λ (l : List ℕ). AllZip (IsPhaseOf h cells (phase_spots h clock)) l made.phases) untraced.whole made.traced) in
+    untraced.none traced.0 traced.1
 
 no_port_refusal : (tests : List Bool) (refused : Refusal) → first_false tests ≡ None → IsPortRefusal tests refused → ⊥
 no_port_refusal tests (refusal.NoInstance role.Clock entry) none h = none_or (first_false tests) entry none h
@@ -61,9 +66,7 @@ no_port_refusal tests _ none h = h
 refused_or_made : (h : Hierarchy) (cells : CellTable) (clock : Clock) (delays : List Delay) (design : Design) (refused : Refusal) → IsAnnotated h cells clock delays design → IsAnnotateRefusal h cells clock delays refused → ⊥
 refused_or_made h cells clock delays design refused a (no_port port) = no_port_refusal (has_ports h clock) refused a.whole.ports port
 refused_or_made h cells clock delays design refused a (speaks_of_nothing ports speaks) = none_or (first_refusal h cells delays) refused a.whole.speaks speaks
-refused_or_made h cells clock delays design refused a (no_phase ports speaks e same untraced) =
-    let traced = each_traced h cells (phase_spots h clock) untraced.before untraced.leaf untraced.after a.whole.phases (subst (λ (l : List ℕ). AllZip (IsPhaseOf h cells (phase_spots h clock)) l a.whole.phases) untraced.whole a.whole.traced) in
-    untraced.none traced.0 traced.1
+refused_or_made h cells clock delays design refused a (no_phase ports speaks e same untraced) = untraced_or_made h cells clock delays design e a.whole untraced
 refused_or_made h cells clock delays design refused a (too_many other made over) =
     none_or (limit_of other) refused (subst (λ (d : Design). limit_of d ≡ None) (one_made h cells clock delays design other a.whole made) a.within) over
 
@@ -87,11 +90,6 @@ same_place h cells spots l m (x ∷ xs) (y ∷ ys) after others (p ∷ ps) (q �
 one_untraced : (h : Hierarchy) (cells : CellTable) (spots : List Spot) (e f : ℕ) → IsFirstUntraced h cells spots e → IsFirstUntraced h cells spots f → e ≡ f
 one_untraced h cells spots e f a b =
     a.count ∙ same_place h cells spots a.leaf b.leaf a.before b.before a.after b.after a.phases b.phases (sym a.whole ∙ b.whole) a.traced b.traced a.none b.none ∙ sym b.count
-
-untraced_or_made : (h : Hierarchy) (cells : CellTable) (clock : Clock) (delays : List Delay) (design : Design) (e : ℕ) → IsMade h cells clock delays design → IsFirstUntraced h cells (phase_spots h clock) e → ⊥
-untraced_or_made h cells clock delays design e made untraced =
-    let traced = each_traced h cells (phase_spots h clock) untraced.before untraced.leaf untraced.after made.phases (subst (λ (l : List ℕ). AllZip (IsPhaseOf h cells (phase_spots h clock)) l made.phases) untraced.whole made.traced) in
-    untraced.none traced.0 traced.1
 
 one_port : (tests : List Bool) (refused other : Refusal) → IsPortRefusal tests refused → IsPortRefusal tests other → refused ≡ other
 one_port tests (refusal.NoInstance role.Clock entry) (refusal.NoInstance role.Clock number) a b = ap (λ (n : ℕ). refusal.NoInstance role.Clock n) (one_of (first_false tests) entry number a b)

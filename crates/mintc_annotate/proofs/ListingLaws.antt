@@ -65,17 +65,9 @@ pub clock_parts : (names : List (List ℕ)) (ports : List TopPort) (clock : Cloc
     first_false (has_ports_in names ports clock) ≡ option_or (option_or (first_failing (λ test. test) 1 (has_phases_in names ports phases)) (first_failing (λ test. test) (length phases + 1) (has_listed_in ports false inputs)))
     (first_failing (λ test. test) (length phases + length inputs + 1) (has_listed_in ports true outputs))
 clock_parts names ports clock phases inputs outputs a b c =
-    let P : List Bool = has_phases_in names ports phases in
-    let I : List Bool = has_listed_in ports false inputs in
-    let O : List Bool = has_listed_in ports true outputs in
-    let long = length-map phases (λ p. is_some (phase_bit_in names ports p)) in
-    let more = length-map inputs (λ l. is_some (listed_in ports false l)) in
-    let joined = length-append P I in
-    let one : 1 + length P ≡ length phases + 1 = omega (arith, long) in
-    let two : 1 + length (P ++ I) ≡ length phases + length inputs + 1 = omega (arith, long, more, joined) in
-    ap (λ ps. first_false (has_phases_in names ports ps ++ has_listed_in ports false clock.inputs ++ has_listed_in ports true clock.outputs)) (sym a)
-    ∙ ap (λ ls. first_false (P ++ has_listed_in ports false ls ++ has_listed_in ports true clock.outputs)) (sym b)
-    ∙ ap (λ ls. first_false (P ++ I ++ has_listed_in ports true ls)) (sym c)
-    ∙ failing_append 1 (P ++ I) O ∙ ap (λ o. option_or o (first_failing (λ test. test) (1 + length (P ++ I)) O)) (failing_append 1 P I)
-    ∙ ap (λ (n : ℕ). option_or (option_or (first_failing (λ test. test) 1 P) (first_failing (λ test. test) n I)) (first_failing (λ test. test) (1 + length (P ++ I)) O)) one
-    ∙ ap (λ (n : ℕ). option_or (option_or (first_failing (λ test. test) 1 P) (first_failing (λ test. test) (length phases + 1) I)) (first_failing (λ test. test) n O)) two
+    let P : List Bool = has_phases_in names ports clock.phases in
+    let I : List Bool = has_listed_in ports false clock.inputs in
+    let O : List Bool = has_listed_in ports true clock.outputs in
+    let one : 1 + length P ≡ length clock.phases + 1 = omega (arith, length-map clock.phases (λ p. is_some (phase_bit_in names ports p))) in
+    let two : 1 + length (P ++ I) ≡ length clock.phases + length clock.inputs + 1 = omega (arith, one, length-map clock.inputs (λ l. is_some (listed_in ports false l)), length-append P I) in
+    rw (a, b, c, failing_append 1 (P ++ I) O, failing_append 1 P I, one, two) refl

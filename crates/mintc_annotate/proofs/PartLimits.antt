@@ -73,7 +73,6 @@ leaf_in h cells ss n m l (Flop a b c d ignored e f g i j k) are within rules les
 -- a latch or flop has a number among them
 pub numbered : (h : Hierarchy) (cells : CellTable) (l : ℕ) → l < length h.leaves → is_storage (leaf_cell h cells l) ≡ true → number_in h cells l < length (storage h cells)
 numbered h cells l within stored =
-    let test : ℕ → Bool = λ k. is_storage (leaf_cell h cells k) in
     let at = get_or-range_with_len 0 (length h.leaves) l 0 within in
     let place : l < length (all_leaves h) = omega (arith, within, length-range_with_len 0 (length h.leaves)) in
     let here : is_storage (leaf_cell h cells (0 + l)) ≡ true = subst (λ (k : ℕ). is_storage (leaf_cell h cells k) ≡ true) (omega arith) stored in
@@ -102,8 +101,7 @@ listed_inside h output x ports =
     bits_at (length h.inner) (find (λ p. bytes_eq p.name x.port && beq p.output output) h.ports) (λ p e. (found_of (IsPort h) (λ p. bytes_eq p.name x.port && beq p.output output) h.ports p ports e).within)
 
 paired : (m : ℕ) (x : Listed) (bits : List ℕ) → All (λ (b : ℕ). b < m) bits → All (λ (y : Listed × ℕ). y.1 < m) (map (λ b. (x, b)) bits)
-paired m x [] all = All-nil (λ (y : Listed × ℕ). y.1 < m)
-paired m x (b ∷ bits) all = All-cons (λ (y : Listed × ℕ). y.1 < m) (x, b) (map (λ b. (x, b)) bits) (All-head (λ (b : ℕ). b < m) b bits all) (paired m x bits (All-tail (λ (b : ℕ). b < m) b bits all))
+paired m x bits all = All-map (λ (y : Listed × ℕ). y.1 < m) (λ b. (x, b)) bits all
 
 pub all_bits : (h : Hierarchy) (output : Bool) (xs : List Listed) → All (IsPort h) h.ports → All (λ (y : Listed × ℕ). y.1 < length h.inner) (bits_of h output xs)
 all_bits h output [] ports = All-nil (λ (y : Listed × ℕ). y.1 < length h.inner)

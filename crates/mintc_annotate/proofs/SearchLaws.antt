@@ -38,8 +38,7 @@ found_in P (e ∷ ds) b d all same = found_here P (driver_of ds b) e d (e.to == 
 
 -- ---- one more driver
 or_none : (o : Option Drive) → option_or o None ≡ o
-or_none None = refl
-or_none (Some x) = refl
+or_none o = grind arith
 
 -- of another bit
 pushed_other : (ds : List Drive) (d : Drive) (b : ℕ) → eqb d.to b ≡ false → driver_of (ds ++ d ∷ []) b ≡ driver_of ds b
@@ -109,9 +108,7 @@ After-le ds zero m s t end after ends = omega arith
 After-le ds (suc n) zero s t end after ends = absurd (some_differs (driver_of ds s.bit) after.0 ends.0 after.1)
 After-le ds (suc n) (suc m) s t end after ends =
     let same : after.0 ≡ ends.0 = one_driver (driver_of ds s.bit) after.0 ends.0 after.1 ends.1 in
-    let rest : EndsAt ds m (back after.0 s) end = subst (λ (d : Drive). EndsAt ds m (back d s) end) (sym same) ends.2 in
-    let less = After-le ds n m (back after.0 s) t end after.2 rest in
-    omega (arith, less)
+    omega (arith, After-le ds n m (back after.0 s) t end after.2 (subst (λ (d : Drive). EndsAt ds m (back d s) end) (sym same) ends.2))
 
 -- how many steps it takes is said by the bit alone
 same_count : (ds : List Drive) (n m : ℕ) (s t e f : Spot) → EndsAt ds n s e → EndsAt ds m t f → s.bit ≡ t.bit → n ≡ m
@@ -155,16 +152,11 @@ below ds count (suc n) s e h within start q among =
 -- A search that ends does so in fewer steps than there are bits.
 pub ends_soon : (ds : List Drive) (count n : ℕ) (s e : Spot) → AreWithin count ds → s.bit < count → EndsAt ds n s e → n < count
 ends_soon ds count n s e within start h =
-    let few = length-le_from_distinct_below (trail ds n s e h) count (distinct ds n s e h) (below ds count n s e h within start) in
-    let long = length-trail ds n s e h in
-    omega (arith, few, long)
+    omega (arith, length-le_from_distinct_below (trail ds n s e h) count (distinct ds n s e h) (below ds count n s e h within start), length-trail ds n s e h)
 
 -- where the search goes on after as many steps as there are bits, it ends nowhere
 pub never_ends : (ds : List Drive) (count steps : ℕ) (s t : Spot) → AreWithin count ds → s.bit < count → count ≤ steps → After ds steps s t → (n : ℕ) (end : Spot) → EndsAt ds n s end → ⊥
-never_ends ds count steps s t within start many after n end ends =
-    let soon = ends_soon ds count n s end within start ends in
-    let late = After-le ds steps n s t end after ends in
-    omega (arith, soon, late, many)
+never_ends ds count steps s t within start many after n end ends = omega (arith, ends_soon ds count n s end within start ends, After-le ds steps n s t end after ends, many)
 
 -- a spot to which the search comes is among the bits
 pub After-within : (ds : List Drive) (count n : ℕ) (s t : Spot) → AreWithin count ds → s.bit < count → After ds n s t → t.bit < count
@@ -183,7 +175,7 @@ map-id : (xs : List ℕ) → map (λ (x : ℕ). x) xs ≡ xs
 map-id [] = refl
 map-id (x ∷ xs) = ap (λ l. x ∷ l) (map-id xs)
 
-range_more : (k : ℕ) → range_with_len 0 (k + 1) ≡ range_with_len 0 k ++ k ∷ []
+pub range_more : (k : ℕ) → range_with_len 0 (k + 1) ≡ range_with_len 0 k ++ k ∷ []
 range_more k = sym (map-id (range_with_len 0 (k + 1))) ∙ map-range_with_len_more (λ (x : ℕ). x) 0 k k (omega arith) ∙ ap (λ l. l ++ k ∷ []) (map-id (range_with_len 0 k))
 
 -- ---- adding drivers to a table, step by step

@@ -37,17 +37,16 @@ one_end ds (suc n) (suc m) s e f a b =
 -- where the search ends, and no phase is there, it leads to none
 pub no_phase : (ds : List Drive) (spots : List Spot) (n : ℕ) (start end : Spot) → EndsAt ds n start end → first_at 1 spots end ≡ None → (p : ℕ) → IsPhaseFrom ds spots start p → ⊥
 no_phase ds spots n start end ends none p h =
-    let same : end ≡ h.end = one_end ds n h.steps start end h.end ends h.ends in
-    let found : first_at 1 spots end ≡ Some p = ap (first_at 1 spots) same ∙ h.found in
-    absurd (let differs : None ≡ Some p = sym none ∙ found in cc)
+    let found : first_at 1 spots end ≡ Some p = ap (first_at 1 spots) (one_end ds n h.steps start end h.end ends h.ends) ∙ h.found in
+    absurd (cc)
 
 abbrev pub stored : Hierarchy → CellTable → ℕ → Bool
 stored h cells l = is_storage (leaf_cell h cells l)
 
-leaf_number : (h : Hierarchy) (k : ℕ) → k < length h.leaves → get_or (all_leaves h) k 0 ≡ k
+pub leaf_number : (h : Hierarchy) (k : ℕ) → k < length h.leaves → get_or (all_leaves h) k 0 ≡ k
 leaf_number h k within = get_or-range_with_len 0 (length h.leaves) k 0 within ∙ zero-add k
 
-within_all : (h : Hierarchy) (k : ℕ) → k < length h.leaves → k < length (all_leaves h)
+pub within_all : (h : Hierarchy) (k : ℕ) → k < length h.leaves → k < length (all_leaves h)
 within_all h k within = omega (arith, within, length-range_with_len 0 (length h.leaves))
 
 -- the latches and flops up to a leaf, and one more leaf
@@ -80,8 +79,7 @@ from_end ds spots n start end (Some p) ends same = record { steps = n; end = end
 pub one_start : (h : Hierarchy) (l : ℕ) (cell : Cell) (s t : Spot) → IsStart h l cell s → IsStart h l cell t → s ≡ t
 one_start h l (Latch a b c d e f g i j k m n o p) s t x y = x ∙ sym y
 one_start h l (Flop a b c d e f g i j k m) s t x y = x ∙ sym y
-one_start h l (Gate a b c d) s t x y = absurd x
-one_start h l (Clock a b c d) s t x y = absurd x
+one_start h l _ s t x y = absurd x
 
 -- a leaf whose search starts there has the phase to which that leads
 pub phase_of_leaf : (h : Hierarchy) (cells : CellTable) (spots : List Spot) (l p : ℕ) (start : Spot) → IsStart h l (leaf_cell h cells l) start → IsPhaseFrom (drives h cells) spots start p → IsPhaseOf h cells spots l p
