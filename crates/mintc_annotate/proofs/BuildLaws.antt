@@ -112,9 +112,6 @@ pub stored_whole : (h : Hierarchy) (cells : CellTable) (ranges : RangeOf) (phase
 stored_whole h cells ranges phases found k past so = so ∙ ap (λ (l : List ℕ). map (λ x. element_of ranges (dotted (leaf_path h x.0)) x.0 x.1 (leaf_cell h cells x.0)) (zip l phases)) (stored_all h cells k past)
 
 -- the number of the next element
-pub number_yes : (h : Hierarchy) (cells : CellTable) (k : ℕ) → k < length h.leaves → is_storage (leaf_cell h cells k) ≡ true → number_in h cells (k + 1) ≡ number_in h cells k + 1
-number_yes h cells k within is = count_by_more_yes (λ l. is_storage (leaf_cell h cells l)) (all_leaves h) k 0 (within_all h k within) (ap (λ (l : ℕ). is_storage (leaf_cell h cells l)) (leaf_number h k within) ∙ is)
-
 pub number_no : (h : Hierarchy) (cells : CellTable) (k : ℕ) → k < length h.leaves → is_storage (leaf_cell h cells k) ≡ false → number_in h cells (k + 1) ≡ number_in h cells k
 number_no h cells k within is = count_by_more_no (λ l. is_storage (leaf_cell h cells l)) (all_leaves h) k 0 (within_all h k within) (ap (λ (l : ℕ). is_storage (leaf_cell h cells l)) (leaf_number h k within) ∙ is)
 
@@ -123,7 +120,7 @@ pub gate_leaf : (h : Hierarchy) (cells : CellTable) (ranges : RangeOf) (n l : �
     i ≡ length inputs → o ≡ length outputs → flat_map (λ k. map (pin_arc ranges n l leaf.first_pin (least, most) k) (range_with_len i o)) (range_with_len 0 i) ≡ leaf_arcs h cells ranges n l (leaf_cell h cells l)
 gate_leaf h cells ranges n l leaf inputs outputs least most i o at is ins outs =
     let cell : leaf_cell h cells l ≡ Gate inputs outputs least most = ap (λ (x : Leaf). cell_at cells x.cell) at ∙ is in
-    rw (ins, outs, cell, at) refl
+    rw (ins, outs, cell, ← at) refl
 
 -- all arcs
 pub arcs_joined : (h : Hierarchy) (cells : CellTable) (ranges : RangeOf) (s n k : ℕ) (joins : List Join) (ins outs : List Listed) (xs ys : List ListedBit) (a b c d : List TimingArc) → s ≡ length (storage h cells) → n ≡ s + length xs + length ys →

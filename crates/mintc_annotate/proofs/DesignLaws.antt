@@ -1,5 +1,5 @@
 -- One design, and none beside a refusal.
-use Rattle.std.proofs.Common.{◌≡◌, ℕ, suc, length, Bool, List, [], ◌∷◌, ◌++◌, Option, Some, None, refl, sym, ap, ◌∙◌, subst}
+use Rattle.std.proofs.Common.{◌≡◌, ℕ, suc, length, Bool, List, [], ◌∷◌, ◌++◌, Option, Some, None, refl, sym, ap, ◌∙◌, subst, arith}
 use Rattle.std.specs.List.{AllZip}
 use Rattle.mintc_text.specs.declared.refusals.Refusal.{Refusal}
 use Rattle.mintc_text.specs.declared.refusals.Refusal.TheVariants as refusal
@@ -34,11 +34,9 @@ one_phase h cells spots l p q a b =
 
 one_list : (h : Hierarchy) (cells : CellTable) (spots : List Spot) (ls ps qs : List ℕ) → AllZip (IsPhaseOf h cells spots) ls ps → AllZip (IsPhaseOf h cells spots) ls qs → ps ≡ qs
 one_list h cells spots [] [] [] a b = refl
-one_list h cells spots [] (p ∷ ps) qs a b = absurd a
-one_list h cells spots [] [] (q ∷ qs) a b = absurd b
-one_list h cells spots (l ∷ ls) [] qs a b = absurd a
-one_list h cells spots (l ∷ ls) (p ∷ ps) [] a b = absurd b
 one_list h cells spots (l ∷ ls) (p ∷ ps) (q ∷ qs) a b = ap (λ x. x ∷ ps) (one_phase h cells spots l p q a.0 b.0) ∙ ap (λ xs. q ∷ xs) (one_list h cells spots ls ps qs a.1 b.1)
+one_list h cells spots _ _ [] a b = absurd (grind arith)
+one_list h cells spots _ _ (q ∷ qs) a b = absurd (grind arith)
 
 one_made : (h : Hierarchy) (cells : CellTable) (clock : Clock) (delays : List Delay) (design other : Design) → IsMade h cells clock delays design → IsMade h cells clock delays other → design ≡ other
 one_made h cells clock delays design other a b =
@@ -51,7 +49,6 @@ determined_lem h cells clock delays design other a b = one_made h cells clock de
 each_traced : (h : Hierarchy) (cells : CellTable) (spots : List Spot) (before : List ℕ) (l : ℕ) (after ps : List ℕ) → AllZip (IsPhaseOf h cells spots) (before ++ l ∷ after) ps → (p : ℕ) × IsPhaseOf h cells spots l p
 each_traced h cells spots [] l after (p ∷ ps) a = (p, a.0)
 each_traced h cells spots (b ∷ before) l after (p ∷ ps) a = each_traced h cells spots before l after ps a.1
-each_traced h cells spots [] l after _ a = absurd a
 each_traced h cells spots _ l after _ a = absurd a
 
 untraced_or_made : (h : Hierarchy) (cells : CellTable) (clock : Clock) (delays : List Delay) (design : Design) (e : ℕ) → IsMade h cells clock delays design → IsFirstUntraced h cells (phase_spots h clock) e → ⊥
@@ -77,15 +74,13 @@ not_refused_lem = refused_or_made
 same_place : (h : Hierarchy) (cells : CellTable) (spots : List Spot) (l m : ℕ) (xs ys after others ps qs : List ℕ) → xs ++ l ∷ after ≡ ys ++ m ∷ others → AllZip (IsPhaseOf h cells spots) xs ps → AllZip (IsPhaseOf h cells spots) ys qs →
     ((p : ℕ) → IsPhaseOf h cells spots l p → ⊥) → ((p : ℕ) → IsPhaseOf h cells spots m p → ⊥) → length xs ≡ length ys
 same_place h cells spots l m [] [] after others ps qs e a b none other = refl
-same_place h cells spots l m [] (y ∷ ys) after others ps [] e a b none other = absurd b
 same_place h cells spots l m [] (y ∷ ys) after others ps (q ∷ qs) e a b none other = let same : y ≡ l = cc in absurd (none q (subst (λ (x : ℕ). IsPhaseOf h cells spots x q) same b.0))
-same_place h cells spots l m (x ∷ xs) [] after others [] qs e a b none other = absurd a
 same_place h cells spots l m (x ∷ xs) [] after others (p ∷ ps) qs e a b none other = let same : x ≡ m = cc in absurd (other p (subst (λ (y : ℕ). IsPhaseOf h cells spots y p) same a.0))
-same_place h cells spots l m (x ∷ xs) (y ∷ ys) after others [] qs e a b none other = absurd a
-same_place h cells spots l m (x ∷ xs) (y ∷ ys) after others (p ∷ ps) [] e a b none other = absurd b
 same_place h cells spots l m (x ∷ xs) (y ∷ ys) after others (p ∷ ps) (q ∷ qs) e a b none other =
     let rest : xs ++ l ∷ after ≡ ys ++ m ∷ others = cc in
     ap suc (same_place h cells spots l m xs ys after others ps qs rest a.1 b.1 none other)
+same_place h cells spots l m _ (y ∷ ys) after others ps [] e a b none other = absurd b
+same_place h cells spots l m (x ∷ xs) _ after others [] qs e a b none other = absurd a
 
 one_untraced : (h : Hierarchy) (cells : CellTable) (spots : List Spot) (e f : ℕ) → IsFirstUntraced h cells spots e → IsFirstUntraced h cells spots f → e ≡ f
 one_untraced h cells spots e f a b =

@@ -5,7 +5,7 @@ use Rattle.std.specs.List.{AllZip}
 use Rattle.std.proofs.lemmas.Bool.{and_parts}
 use Rattle.std.proofs.lemmas.Bool.Decides.{nat_tests}
 use Rattle.std.proofs.lemmas.Int.{ints}
-use Rattle.std.proofs.lemmas.List.Elements.{All-head, All-tail, All-nil, All-cons, All-append, All-map, All-weaker}
+use Rattle.std.proofs.lemmas.List.Elements.{filter_passes, All-head, All-tail, All-nil, All-cons, All-append, All-map, All-weaker}
 use Rattle.mintc_cells.specs.Rules.{is_cell}
 use Rattle.mintc_document.specs.Rules.{is_delay, is_margin}
 use Rattle.mintc_clock.specs.declared.clock.Clock as clock_type
@@ -94,21 +94,12 @@ stored_in h cells spots ss (l ∷ ls) (p ∷ ps) are rules holds stored traced =
     (All-head (λ k. is_storage (leaf_cell h cells k) ≡ true) l ls stored) (phase_found h cells spots l p traced.0))
     (stored_in h cells spots ss ls ps are rules holds (All-tail (λ k. is_storage (leaf_cell h cells k) ≡ true) l ls stored) traced.1)
 
--- what passes a filter
-passing_here : (test : ℕ → Bool) (x : ℕ) (xs : List ℕ) (b : Bool) → test x ≡ b → All (λ k. test k ≡ true) xs → All (λ k. test k ≡ true) (cond b (x ∷ xs) xs)
-passing_here test x xs true is all = All-cons (λ k. test k ≡ true) x xs is all
-passing_here test x xs false is all = all
-
-passing : (test : ℕ → Bool) (xs : List ℕ) → All (λ k. test k ≡ true) (filter test xs)
-passing test [] = All-nil (λ k. test k ≡ true)
-passing test (x ∷ xs) = passing_here test x (filter test xs) (test x) refl (passing test xs)
-
 -- all elements
 pub elements_in : (h : Hierarchy) (cells : CellTable) (clock : clock_type.Clock) (spots : List Spot) (ss : List Said) (phases : List ℕ) → AreSaid ss →
     ((l : ℕ) → is_storage (leaf_cell h cells l) ≡ true → is_cell (leaf_cell h cells l) ≡ true) → ((l : ℕ) → KeepsHold (leaf_cell h cells l)) → All (KeepsListed (length spots)) clock.inputs → All (KeepsListed (length spots)) clock.outputs →
     AllZip (IsPhaseOf h cells spots) (storage h cells) phases → All (IsElement (length spots)) (elements_of h cells clock (range_of ss) phases)
 elements_in h cells clock spots ss phases are rules holds inputs outputs traced =
     All-append (IsElement (length spots)) _ _
-    (All-append (IsElement (length spots)) _ _ (stored_in h cells spots ss (storage h cells) phases are rules holds (passing (λ l. is_storage (leaf_cell h cells l)) _) traced)
+    (All-append (IsElement (length spots)) _ _ (stored_in h cells spots ss (storage h cells) phases are rules holds (filter_passes (λ l. is_storage (leaf_cell h cells l)) _) traced)
     (ports_in h (length spots) (bits_of h false clock.inputs) (all_listed h false (length spots) clock.inputs inputs)))
     (ports_in h (length spots) (bits_of h true clock.outputs) (all_listed h true (length spots) clock.outputs outputs))

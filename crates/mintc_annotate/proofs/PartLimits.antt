@@ -35,6 +35,7 @@ use Rattle.mintc_speaking.proofs.SharedRangeLimits.{AreSaid, range_in, all_said}
 use Rattle.mintc_annotate.proofs.ElementLimits.{AreDelays, delay_is, order_is, or_in, KeepsHold}
 use Rattle.mintc_annotate.proofs.ArcLimits.{none_delays, inner_arc, data_arc, output_arc, joins_in, inputs_in, outputs_in, pins_count}
 use Rattle.mintc_annotate.proofs.DesignLimits.{elements_in, bound_is}
+use Rattle.mintc_annotate.proofs.TraceLaws.{number_yes}
 
 flat_all : {A : Type 0} (P : A → Type 0) (f : ℕ → List A) (xs : List ℕ) → All (λ x. All P (f x)) xs → All P (flat_map f xs)
 flat_all P f [] all = All-nil P
@@ -73,13 +74,7 @@ leaf_in h cells ss n m l (Flop a b c d ignored e f g i j k) are within rules les
 -- a latch or flop has a number among them
 pub numbered : (h : Hierarchy) (cells : CellTable) (l : ℕ) → l < length h.leaves → is_storage (leaf_cell h cells l) ≡ true → number_in h cells l < length (storage h cells)
 numbered h cells l within stored =
-    let at = get_or-range_with_len 0 (length h.leaves) l 0 within in
-    let place : l < length (all_leaves h) = omega (arith, within, length-range_with_len 0 (length h.leaves)) in
-    let here : is_storage (leaf_cell h cells (0 + l)) ≡ true = subst (λ (k : ℕ). is_storage (leaf_cell h cells k) ≡ true) (omega arith) stored in
-    let more = count_by_more_yes (λ k. is_storage (leaf_cell h cells k)) (all_leaves h) l 0 place (ap (λ (k : ℕ). is_storage (leaf_cell h cells k)) at ∙ here) in
-    let front = sum_by-take-le (λ k. cond (is_storage (leaf_cell h cells k)) 1 0) (all_leaves h) (l + 1) in
-    let whole = length-filter (λ k. is_storage (leaf_cell h cells k)) (all_leaves h) in
-    omega (arith, more, front, whole)
+    omega (arith, number_yes h cells l within stored, sum_by-take-le (λ k. cond (is_storage (leaf_cell h cells k)) 1 0) (all_leaves h) (l + 1), length-filter (λ k. is_storage (leaf_cell h cells k)) (all_leaves h))
 
 -- ---- the whole design
 found_at : {A : Type 0} (P : A → Type 0) (b : Bool) (y x : A) (o : Option A) → P y → (o ≡ Some x → P x) → cond b (Some y) o ≡ Some x → P x

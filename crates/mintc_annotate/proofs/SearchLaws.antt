@@ -191,7 +191,7 @@ Adds-at n m t u xs e f = subst (λ (k : ℕ). Adds k t xs u) e f
 pub joins_more : (joins : List Join) (k : ℕ) (d : Join) → k < length joins → map join_drive (take k joins) ++ join_drive (get_or joins k d) ∷ [] ≡ map join_drive (take (k + 1) joins)
 joins_more joins k d within = sym (ap (map join_drive) (take_more joins k d within) ∙ map-append join_drive (take k joins) (get_or joins k d ∷ []))
 
-pub cells_more : (f : ℕ → List Drive) (k : ℕ) → flat_map f (range_with_len 0 k) ++ f k ≡ flat_map f (range_with_len 0 (k + 1))
+pub cells_more : {X : Type 0} (f : ℕ → List X) (k : ℕ) → flat_map f (range_with_len 0 k) ++ f k ≡ flat_map f (range_with_len 0 (k + 1))
 cells_more f k = sym (ap (flat_map f) (range_more k) ∙ flat_map-append f (range_with_len 0 k) (k ∷ []) ∙ ap (λ l. flat_map f (range_with_len 0 k) ++ l) (append-nil (f k)))
 
 -- what a clock cell drives, by its leaf

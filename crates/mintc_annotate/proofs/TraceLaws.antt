@@ -3,6 +3,8 @@ use Rattle.std.proofs.Common.{◌≡◌, ◌<◌, ◌≤◌, ◌+◌, ℕ, zero,
 use Rattle.std.proofs.lemmas.List.{take_all, drop_more, take-append-drop}
 use Rattle.std.proofs.lemmas.List.Elements.{filter_more, filter-append}
 use Rattle.std.proofs.lemmas.List.FromFn.{length-range_with_len, get_or-range_with_len}
+use Rattle.std.proofs.lemmas.List.Sums.{count_by_more_yes}
+use Rattle.mintc_annotate.specs.Made.{number_in}
 use Rattle.mintc_hierarchy.specs.declared.hierarchy.Hierarchy.{Hierarchy}
 use Rattle.mintc_annotate.specs.declared.searching.Drive.{Drive}
 use Rattle.mintc_annotate.specs.declared.searching.Spot.{Spot}
@@ -48,6 +50,10 @@ leaf_number h k within = get_or-range_with_len 0 (length h.leaves) k 0 within �
 
 pub within_all : (h : Hierarchy) (k : ℕ) → k < length h.leaves → k < length (all_leaves h)
 within_all h k within = omega (arith, within, length-range_with_len 0 (length h.leaves))
+
+-- one more of them, where a leaf is one
+pub number_yes : (h : Hierarchy) (cells : CellTable) (k : ℕ) → k < length h.leaves → is_storage (leaf_cell h cells k) ≡ true → number_in h cells (k + 1) ≡ number_in h cells k + 1
+number_yes h cells k within is = count_by_more_yes (λ l. is_storage (leaf_cell h cells l)) (all_leaves h) k 0 (within_all h k within) (ap (λ (l : ℕ). is_storage (leaf_cell h cells l)) (leaf_number h k within) ∙ is)
 
 -- the latches and flops up to a leaf, and one more leaf
 pub stored_more : (h : Hierarchy) (cells : CellTable) (k : ℕ) (b : Bool) → k < length h.leaves → stored h cells k ≡ b →

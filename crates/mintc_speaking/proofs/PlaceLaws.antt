@@ -11,7 +11,7 @@ use Rattle.mintc_hierarchy.specs.declared.hierarchy.Hierarchy.{Hierarchy}
 use Rattle.mintc_hierarchy.specs.declared.hierarchy.TopPort.{TopPort}
 use Rattle.mintc_hierarchy.specs.Shape.{CellTable, IsFlattened}
 use Rattle.mintc_speaking.specs.Pins.{all_names, inner_name}
-use Rattle.std.proofs.lemmas.Bool.{eqb-true}
+use Rattle.std.proofs.lemmas.Bool.{eqb-true, and_parts}
 use Rattle.mintc_speaking.specs.declared.ports.PortBit.{PortBit}
 use Rattle.mintc_speaking.specs.Ports.{port_bit, port_bits, whole_port, bit_called, place_of, AreInside}
 use Rattle.mintc_speaking.specs.Places.{place_at, HasPlaces, only, whole_of, among_bits}
@@ -41,8 +41,7 @@ module _ {S : Type 0} where
 
 -- ---- ports of one bit
 map_or : (f : TopPort → PortBit) (a b : Option TopPort) → option_map f (option_or a b) ≡ option_or (option_map f a) (option_map f b)
-map_or f None b = refl
-map_or f (Some p) b = refl
+map_or f a b = grind arith
 
 one_port : (f : TopPort → PortBit) (p : TopPort) (b : Bool) → option_map f (cond b (Some p) None) ≡ cond b (Some (f p)) None
 one_port f p b = grind arith
@@ -104,14 +103,11 @@ whole_by : (count : ℕ) (q : TopPort) (b : Bool) (rest : Option TopPort) (p : P
 whole_by count q true rest p first is more = let bit : get_or q.bits 0 0 ≡ p.bit = cc in subst (λ (x : ℕ). x < count) bit (first refl)
 whole_by count q false rest p first is more = more p is
 
-right_true : (a b : Bool) → (a && b) ≡ true → b ≡ true
-right_true a b h = grind arith
-
 whole_inside : (count : ℕ) (ports : List TopPort) (k : List ℕ) (p : PortBit) → AreInside count ports → whole_port ports k ≡ Some p → p.bit < count
 whole_inside count [] k p inside is = absurd (cc)
 whole_inside count (q ∷ ports) k p inside is =
     whole_by count q (is_whole k q) (find (is_whole k) ports) p
-    (λ test. let one : (length q.bits == 1) ≡ true = right_true (bytes_eq q.name k) (length q.bits == 1) test in
+    (λ test. let one : (length q.bits == 1) ≡ true = (and_parts (bytes_eq q.name k) (length q.bits == 1) test).1 in
     All-head (λ (x : TopPort). All (λ b. b < count) x.bits) q ports inside 0 0 (omega (arith, eqb-true (length q.bits) 1 one)))
     is (λ r found. whole_inside count ports k r (All-tail (λ (x : TopPort). All (λ b. b < count) x.bits) q ports inside) found)
 
