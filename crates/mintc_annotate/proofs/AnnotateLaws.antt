@@ -29,11 +29,10 @@ use Rattle.mintc_sdf.specs.declared.delays.Delay.{Delay}
 use Rattle.mintc_sdf.specs.Laws.{IsWithin}
 use Rattle.mintc_hierarchy.specs.declared.hierarchy.Hierarchy.{Hierarchy}
 use Rattle.mintc_hierarchy.specs.Shape.{CellTable, IsFlattened}
-use Rattle.mintc_timing.specs.declared.parts.Element.{Element}
 use Rattle.mintc_timing.specs.declared.parts.TimingArc.{TimingArc}
 use Rattle.mintc_timing.specs.Design.{Design}
 use Rattle.mintc_timing.specs.Limits.{over_limit, quantities, limit_of, HasParts}
-use Rattle.mintc_speaking.specs.Pins.{leaf_at, leaf_cell, no_leaf, all_leaves, all_names, inner_name, is_storage, leaf_path, dotted, input_count, output_numbers}
+use Rattle.mintc_speaking.specs.Pins.{leaf_at, leaf_cell, no_leaf, all_leaves, inner_name, is_storage, leaf_path, dotted, input_count, output_numbers}
 use Rattle.mintc_speaking.specs.Ranges.{look}
 use Rattle.mintc_speaking.specs.Speaking.{Matter, said, range_of, first_refusal, join_into, path_on, arcs_from, dq_of, cq_of, setup_of, hold_of, width_of}
 use Rattle.mintc_annotate.specs.ClockPorts.{has_ports, first_false, IsPortRefusal}
@@ -41,7 +40,7 @@ use Rattle.mintc_annotate.specs.Phases.{storage, phase_spots, IsUntraced, IsPhas
 use Rattle.mintc_annotate.specs.declared.gathering.Gathered.{Gathered}
 use Rattle.mintc_annotate.specs.Counts.{arc_count, leaf_arc_count}
 use Rattle.mintc_annotate.specs.Gathered.{AreGathered, IsSpoken, design_of_gathered}
-use Rattle.mintc_annotate.specs.Made.{RangeOf, bits_of, element_of, port_element, elements_of, arc_of, no_delay, inner_bit, join_arc, gate_arc, leaf_arcs, number_in, input_arcs, output_arcs, arcs_of, arcs_with, design_with, IsMade, IsAnnotated, IsAnnotateRefusal, no_port, speaks_of_nothing, no_phase}
+use Rattle.mintc_annotate.specs.Made.{RangeOf, bits_of, element_of, arc_of, no_delay, inner_bit, join_arc, gate_arc, leaf_arcs, number_in, input_arcs, output_arcs, arcs_with, design_with, IsMade, IsAnnotated, IsAnnotateRefusal, no_port, speaks_of_nothing, no_phase}
 use Rattle.mintc_annotate.proofs.TraceLaws.{stored}
 use Rattle.mintc_annotate.proofs.ElementLimits.{KeepsHold}
 use Rattle.mintc_annotate.proofs.PartLimits.{elements_count, made_has_parts}

@@ -1,10 +1,10 @@
 -- Lists that are built item by item.
-use Rattle.std.proofs.Common.{◌≡◌, ◌<◌, ◌≤◌, ◌+◌, ℕ, ℤ, zero, suc, Bool, true, false, cond, List, [], ◌∷◌, ◌++◌, length, slice_index_or, get_or, map, flat_map, filter, take, drop, zip, sum_by, unwrap_or, All, Result, Ok, Err, IfOk, OnOk, refl, sym, ap, ◌∙◌, subst, arith, append_assoc, append-nil, zero-add, length-append}
+use Rattle.std.proofs.Common.{◌≡◌, ◌<◌, ◌≤◌, ◌+◌, ℕ, ℤ, zero, suc, Bool, true, false, cond, List, [], ◌∷◌, ◌++◌, length, slice_index_or, get_or, map, flat_map, filter, take, drop, zip, sum_by, unwrap_or, All, refl, sym, ap, ◌∙◌, subst, arith, append_assoc, append-nil, length-append}
 use Rattle.std.specs.List.{range_with_len}
 use Rattle.std.proofs.lemmas.List.{take_more, map-append, length-map, take-append-drop, get_or-map}
 use Rattle.std.proofs.lemmas.List.Elements.{filter-append}
-use Rattle.std.proofs.lemmas.List.FromFn.{map-range_with_len_more, length-range_with_len, get_or-range_with_len}
-use Rattle.std.proofs.lemmas.List.Sums.{count_by_more_yes, count_by_more_no, sum_by-append}
+use Rattle.std.proofs.lemmas.List.FromFn.{map-range_with_len_more}
+use Rattle.std.proofs.lemmas.List.Sums.{count_by_more_no, sum_by-append}
 use Rattle.std.proofs.lemmas.Slice.Zip.{length-zip}
 use Rattle.std.proofs.lemmas.Grind.{flat_map-append}
 use Rattle.mintc_cells.specs.declared.cell.Cell.TheVariants.{Gate}
@@ -22,7 +22,7 @@ use Rattle.mintc_timing.specs.declared.parts.Bound.{Bound}
 use Rattle.mintc_timing.specs.Design.{design_of}
 use Rattle.mintc_speaking.specs.Pins.{leaf_at, leaf_cell, all_leaves, is_storage, scope_at, scope_path, leaf_path, dotted}
 use Rattle.mintc_speaking.specs.Names.{front_of}
-use Rattle.mintc_speaking.proofs.SharedNameLaws.{HasParents, path_below}
+use Rattle.mintc_speaking.proofs.SharedNameLaws.{HasParents, path_below, front_push}
 use Rattle.mintc_annotate.specs.declared.listing.ListedBit.{ListedBit}
 use Rattle.mintc_annotate.specs.ClockPorts.{listed_in}
 use Rattle.mintc_annotate.specs.Phases.{storage}
@@ -128,19 +128,7 @@ pub arcs_joined : (h : Hierarchy) (cells : CellTable) (ranges : RangeOf) (s n k 
     d ≡ c ++ output_arcs ranges n k (map (with_port outs) ys) → d ≡ arcs_with h cells ranges (map (with_port ins) xs) (map (with_port outs) ys)
 arcs_joined h cells ranges s n k joins ins outs xs ys a b c d stored many first same e1 e2 e3 e4 = rw (e4, e3, e2, e1, same, first, many, stored, length-map xs (with_port ins), length-map ys (with_port outs)) refl
 
--- ---- results
-pub ok_then : {A E : Type 0} (r : Result A E) (P Q : Type 0) → (P → Q) → OnOk r P → OnOk r Q
-ok_then (Ok x) P Q f h = f h
-ok_then (Err e) P Q f h = h
-
-pub if_ok_then : {A E : Type 0} (r : Result A E) (P Q : A → Type 0) → ((x : A) → P x → Q x) → IfOk r P → IfOk r Q
-if_ok_then (Ok x) P Q f h = f x h
-if_ok_then (Err e) P Q f h = h
-
 -- ---- names
-front_push : (path : List (List ℕ)) (name : List ℕ) → front_of (path ++ name ∷ []) ≡ front_of path ++ (name ++ 46 ∷ [])
-front_push path name = flat_map-append (λ n. n ++ 46 ∷ []) path (name ∷ []) ∙ ap (λ l. front_of path ++ l) (append-nil (name ++ 46 ∷ []))
-
 pub front_below : (h : Hierarchy) (number : ℕ) (scope : Scope) → HasParents h → 1 ≤ number → number < length h.scopes → scope_at h number ≡ scope → front_of (scope_path h number) ≡ front_of (scope_path h scope.parent) ++ (scope.name ++ 46 ∷ [])
 front_below h zero scope parents some within at = absurd (omega (arith, some))
 front_below h (suc m) scope parents some within at =

@@ -4,7 +4,7 @@ use Rattle.std.specs.Prelude.{int_le}
 use Rattle.std.proofs.lemmas.Bool.{and_parts}
 use Rattle.std.proofs.lemmas.Int.{ints}
 use Rattle.mintc_cells.specs.declared.cell.Cell.{Cell}
-use Rattle.mintc_cells.specs.declared.cell.Cell.TheVariants.{Gate, Latch, Flop, Clock}
+use Rattle.mintc_cells.specs.declared.cell.Cell.TheVariants.{Latch, Flop}
 use Rattle.mintc_cells.specs.Rules.{is_cell}
 use Rattle.mintc_document.specs.Rules.{is_delay, is_margin}
 use Rattle.mintc_timing.specs.Limits.{IsElement, IsDelay, IsGap, IsPhase}

@@ -1,5 +1,5 @@
 -- The ports that are listed.
-use Rattle.std.proofs.Common.{◌≡◌, ◌<◌, ◌≤◌, ◌+◌, ℕ, Bool, true, false, ◌&&◌, cond, List, [], ◌∷◌, ◌++◌, length, drop, get_or, find, All, Option, Some, None, option_map, unwrap_or, is_some, bytes_eq, refl, sym, ap, ◌∙◌, arith, length-append}
+use Rattle.std.proofs.Common.{◌≡◌, ◌<◌, ◌≤◌, ◌+◌, ℕ, Bool, true, false, ◌&&◌, List, [], ◌∷◌, ◌++◌, length, drop, get_or, find, All, Option, Some, None, option_map, unwrap_or, is_some, bytes_eq, refl, ap, ◌∙◌, arith, length-append}
 use Rattle.std.specs.Bool.{beq}
 use Rattle.std.specs.Option.{option_or}
 use Rattle.std.proofs.lemmas.List.{drop_more, length-map}
@@ -29,9 +29,7 @@ none_where_empty ports output x some e =
 -- the first that fails is the first that is left
 pub first_here : (ports : List TopPort) (output : Bool) (listed : List Listed) (number n : ℕ) (d : Listed) → number < length listed → listed_in ports output (get_or listed number d) ≡ None →
     first_failing (λ test. test) n (has_listed_in ports output (drop number listed)) ≡ Some n
-first_here ports output listed number n d within none =
-    ap (λ l. first_failing (λ test. test) n (has_listed_in ports output l)) (drop_more listed number d within)
-    ∙ ap (λ (o : Option (List ℕ)). cond (is_some o) (first_failing (λ test. test) (n + 1) (has_listed_in ports output (drop (number + 1) listed))) (Some n)) none
+first_here ports output listed number n d within none = rw (drop_more listed number d within, none) refl
 
 -- ---- tests in parts
 pub failing_append : (n : ℕ) (xs ys : List Bool) → first_failing (λ test. test) n (xs ++ ys) ≡ option_or (first_failing (λ test. test) n xs) (first_failing (λ test. test) (n + length xs) ys)

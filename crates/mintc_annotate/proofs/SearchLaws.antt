@@ -199,6 +199,5 @@ pub clock_drives : (h : Hierarchy) (cells : CellTable) (l : ℕ) (leaf : Leaf) (
     cell_at cells leaf.cell ≡ Clock input output invert ignored → names ≡ ignored → cell_drives h l (leaf_cell h cells l) ≡ drive (leaf.first_pin + (length names + 1)) leaf.first_pin invert ∷ []
 clock_drives h cells l leaf input output invert ignored names at is same =
     let cell : leaf_cell h cells l ≡ Clock input output invert ignored = ap (λ (x : Leaf). cell_at cells x.cell) at ∙ is in
-    let from : (leaf_at h l).first_pin + 0 ≡ leaf.first_pin = omega (arith, ap (λ (x : Leaf). x.first_pin) at) in
-    let to : (leaf_at h l).first_pin + (length ignored + 1) ≡ leaf.first_pin + (length names + 1) = omega (arith, ap (λ (x : Leaf). x.first_pin) at, ap length same) in
-    ap (cell_drives h l) cell ∙ ap (λ (n : ℕ). drive n ((leaf_at h l).first_pin + 0) invert ∷ []) to ∙ ap (λ (n : ℕ). drive (leaf.first_pin + (length names + 1)) n invert ∷ []) from
+    let start : (leaf_at h l).first_pin + 0 ≡ (leaf_at h l).first_pin = omega arith in
+    rw (cell, same, ← at, start) refl

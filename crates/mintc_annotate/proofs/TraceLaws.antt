@@ -1,5 +1,5 @@
 -- Where a storage element's clock comes from.
-use Rattle.std.proofs.Common.{◌≡◌, ◌<◌, ◌≤◌, ◌+◌, ℕ, zero, suc, Bool, true, cond, List, [], ◌∷◌, ◌++◌, length, take, drop, filter, get_or, Option, Some, None, sym, ap, ◌∙◌, subst, arith, zero-add, MatchOption, map, is_some, Result, Ok, Err, MatchResult}
+use Rattle.std.proofs.Common.{◌≡◌, ◌<◌, ◌≤◌, ◌+◌, ℕ, zero, suc, Bool, true, cond, List, [], ◌∷◌, ◌++◌, length, take, drop, filter, get_or, Option, Some, None, refl, sym, ap, ◌∙◌, subst, arith, zero-add, MatchOption, map, is_some, Result, Ok, Err, MatchResult}
 use Rattle.std.proofs.lemmas.List.{take_all, drop_more, take-append-drop}
 use Rattle.std.proofs.lemmas.List.Elements.{filter_more, filter-append}
 use Rattle.std.proofs.lemmas.List.FromFn.{length-range_with_len, get_or-range_with_len}
@@ -18,7 +18,7 @@ use Rattle.mintc_text.specs.declared.refusals.Stop.TheVariants as stop
 use Rattle.mintc_text.specs.declared.refusals.Refusal.TheVariants as refusal
 use Rattle.mintc_text.specs.declared.refusals.Role.TheVariants as role
 use Rattle.mintc_cells.specs.declared.cell.Cell.{Cell}
-use Rattle.mintc_cells.specs.declared.cell.Cell.TheVariants.{Gate, Latch, Flop, Clock}
+use Rattle.mintc_cells.specs.declared.cell.Cell.TheVariants.{Latch, Flop, Clock}
 use Rattle.mintc_clock.specs.declared.clock.Clock as clock_type
 use Rattle.mintc_clock.specs.declared.clock.PhaseDef.{PhaseDef}
 use Rattle.mintc_hierarchy.specs.declared.hierarchy.TopPort.{TopPort}
@@ -58,10 +58,7 @@ number_yes h cells k within is = count_by_more_yes (λ l. is_storage (leaf_cell 
 -- the latches and flops up to a leaf, and one more leaf
 pub stored_more : (h : Hierarchy) (cells : CellTable) (k : ℕ) (b : Bool) → k < length h.leaves → stored h cells k ≡ b →
     filter (stored h cells) (take (k + 1) (all_leaves h)) ≡ filter (stored h cells) (take k (all_leaves h)) ++ cond b (k ∷ []) []
-stored_more h cells k b within is =
-    filter_more (stored h cells) (all_leaves h) k 0 (within_all h k within)
-    ∙ ap (λ (n : ℕ). filter (stored h cells) (take k (all_leaves h)) ++ cond (stored h cells n) (n ∷ []) []) (leaf_number h k within)
-    ∙ ap (λ (t : Bool). filter (stored h cells) (take k (all_leaves h)) ++ cond t (k ∷ []) []) is
+stored_more h cells k b within is = rw (filter_more (stored h cells) (all_leaves h) k 0 (within_all h k within), leaf_number h k within, is) refl
 
 -- all latches and flops, parted at one
 pub stored_split : (h : Hierarchy) (cells : CellTable) (k : ℕ) → k < length h.leaves → stored h cells k ≡ true →
@@ -117,19 +114,11 @@ StopsAt-port h cells clock stop.OutOfMemory none = tt
 abbrev pub tests : List (List ℕ) → List TopPort → List PhaseDef → List Bool
 tests names ports phases = map (λ p. is_some (if_input (place_in names ports p.port))) phases
 
-same_tests : (h : Hierarchy) (clock : clock_type.Clock) (names : List (List ℕ)) (ports : List TopPort) (phases : List PhaseDef) → names ≡ all_names h → ports ≡ h.ports → phases ≡ clock.phases → tests names ports phases ≡ has_phases h clock
-same_tests h clock names ports phases a b c = ap (λ n. tests n ports phases) a ∙ ap (λ p. tests (all_names h) p phases) b ∙ ap (tests (all_names h) h.ports) c
-
-same_spots : (h : Hierarchy) (clock : clock_type.Clock) (names : List (List ℕ)) (ports : List TopPort) (phases : List PhaseDef) → names ≡ all_names h → ports ≡ h.ports → phases ≡ clock.phases → spots_of names ports phases ≡ phase_spots h clock
-same_spots h clock names ports phases a b c = ap (λ n. spots_of n ports phases) a ∙ ap (λ p. spots_of (all_names h) p phases) b ∙ ap (spots_of (all_names h) h.ports) c
-
 pub stop_of_ports : (h : Hierarchy) (cells : CellTable) (clock : clock_type.Clock) (names : List (List ℕ)) (ports : List TopPort) (phases : List PhaseDef) (s : Stop) → names ≡ all_names h → ports ≡ h.ports → phases ≡ clock.phases →
     StopsAt (IsPortRefusal (tests names ports phases)) s → StopsAt (IsTraceRefusal h cells clock) s
-stop_of_ports h cells clock names ports phases s a b c stops = StopsAt-port h cells clock s (subst (λ (ts : List Bool). StopsAt (IsPortRefusal ts) s) (same_tests h clock names ports phases a b c) stops)
+stop_of_ports h cells clock names ports phases s a b c stops = StopsAt-port h cells clock s (rw (a, b, c) at stops)
 
 pub traced_of_spots : (h : Hierarchy) (cells : CellTable) (clock : clock_type.Clock) (names : List (List ℕ)) (ports : List TopPort) (phases : List PhaseDef) (spots : List Spot) (r : Result (List ℕ) Stop) →
     names ≡ all_names h → ports ≡ h.ports → phases ≡ clock.phases → first_false (tests names ports phases) ≡ None → spots ≡ spots_of names ports phases →
     MatchResult r (AreTraced h cells spots) (StopsAt (IsUntraced h cells spots)) → MatchResult r (AreTraces h cells clock) (StopsAt (IsTraceRefusal h cells clock))
-traced_of_spots h cells clock names ports phases spots r a b c none same traced =
-    traced_or_not h cells clock r (ap first_false (sym (same_tests h clock names ports phases a b c)) ∙ none)
-    (subst (λ (ss : List Spot). MatchResult r (AreTraced h cells ss) (StopsAt (IsUntraced h cells ss))) (same ∙ same_spots h clock names ports phases a b c) traced)
+traced_of_spots h cells clock names ports phases spots r a b c none same traced = traced_or_not h cells clock r (rw (a, b, c) at none) (rw (same, a, b, c) at traced)

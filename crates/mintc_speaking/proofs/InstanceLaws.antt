@@ -112,14 +112,15 @@ first_push h n r firsts are found = record {
       (cases_eq s n);
 }
 
+pub top_called : (h : Hierarchy) → 1 ≤ length h.scopes → scope_called h [] ≡ Some 0
+top_called h some = is_called (scope_path h) (length h.scopes) [] 0 (record { within = omega (arith, some); here = refl; before = λ k less. absurd (omega (arith, less)) })
+
 pub top_first : (h : Hierarchy) → 1 ≤ length h.scopes → AreFirst h 1 (0 ∷ [])
 top_first h some = record {
   size = refl;
   each = λ s below.
       let top : s ≡ 0 = omega (arith, below) in
-      let at_top : scope_called h (scope_path h 0) ≡ Some 0 =
-      is_called (scope_path h) (length h.scopes) [] 0 (record { within = omega (arith, some); here = refl; before = λ k less. absurd (omega (arith, less)) }) in
-      subst (λ (k : ℕ). scope_called h (scope_path h k) ≡ Some (slice_index_or (0 ∷ []) k 0)) (sym top) at_top;
+      subst (λ (k : ℕ). scope_called h (scope_path h k) ≡ Some (slice_index_or (0 ∷ []) k 0)) (sym top) (top_called h some);
 }
 
 pub none_in_top : (h : Hierarchy) (path : Path) (name : List ℕ) → called (scope_path h) 1 (path ++ name ∷ []) ≡ None
@@ -152,9 +153,6 @@ module _ {S : Type 0} where
       ∙ ap (λ (p : Path). called paths count (p ++ name ∷ [])) (called_is (scope_path h) (length h.scopes) base s (sym at)).here
 
 -- ---- the top
-pub top_called : (h : Hierarchy) → 1 ≤ length h.scopes → scope_called h [] ≡ Some 0
-top_called h some = is_called (scope_path h) (length h.scopes) [] 0 (record { within = omega (arith, some); here = refl; before = λ k less. absurd (omega (arith, less)) })
-
 pub no_leaf_at_top : (h : Hierarchy) → leaf_called h [] ≡ None
 no_leaf_at_top h = none_called (leaf_path h) (length h.leaves) [] (λ k below same. snoc_not_nil (scope_path h (leaf_at h k).scope) (leaf_at h k).name (sym same))
 

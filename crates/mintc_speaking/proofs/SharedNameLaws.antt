@@ -76,7 +76,7 @@ pub net_called : (h : Hierarchy) (scope : ℕ) (name : List ℕ) (index : Option
 net_called h scope name index front same =
     append_assoc front name (index_text index) ∙ ap (λ l. l ++ (name ++ index_text index)) same ∙ sym (dotted_push (scope_path h scope) (name ++ index_text index))
 
-front_push : (path : List (List ℕ)) (name : List ℕ) → front_of (path ++ name ∷ []) ≡ front_of path ++ (name ++ 46 ∷ [])
+pub front_push : (path : List (List ℕ)) (name : List ℕ) → front_of (path ++ name ∷ []) ≡ front_of path ++ (name ++ 46 ∷ [])
 front_push path name = flat_map-append (λ n. n ++ 46 ∷ []) path (name ∷ []) ∙ ap (λ l. front_of path ++ l) (append-nil (name ++ 46 ∷ []))
 
 pub pin_called : (h : Hierarchy) (l : ℕ) (leaf : Leaf) (pin front : List ℕ) → leaf_at h l ≡ leaf → front ≡ front_of (scope_path h leaf.scope) → (front ++ leaf.name ++ 46 ∷ []) ++ pin ++ [] ≡ inner_name h (Pin l pin)

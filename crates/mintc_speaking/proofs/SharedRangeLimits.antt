@@ -2,7 +2,6 @@
 use Rattle.std.proofs.Common.{◌≡◌, ◌==◌, ℕ, ℤ, pos, neg_ℤ, ◌≤ℤ◌, Bool, true, false, cond, List, [], ◌∷◌, ◌++◌, map, All, Option, Some, None, option_map, refl, subst, arith}
 use Rattle.std.proofs.lemmas.Int.{ints, int_min_is, int_max_is}
 use Rattle.std.proofs.lemmas.List.Elements.{All-head, All-tail}
-use Rattle.std.specs.Int.{int_min, int_max}
 use Rattle.std.specs.Prelude.{int_lt}
 use Rattle.mintc_text.specs.declared.limits.TheConstants.{MOST_DELAY}
 use Rattle.mintc_cells.specs.declared.cell.Cell.{Cell}
@@ -18,7 +17,7 @@ use Rattle.mintc_speaking.specs.declared.ports.PortBit.{PortBit}
 use Rattle.mintc_hierarchy.specs.Shape.{CellTable}
 use Rattle.mintc_speaking.specs.Pins.{leaf_cell, input_pin, output_pin, pin_bit}
 use Rattle.mintc_speaking.specs.Ports.{place_of}
-use Rattle.mintc_speaking.specs.Speaking.{Matter, path_on, join_into, arcs_from, dq_of, cq_of, setup_of, hold_of, width_of, Spoken, of, no_instance, no_arc, of_path, of_check, pins_named, both, of_leaf, at_port, into, at_pin, of_interconnect, of_instance, is_scope, leaf_called, together, of_each, of_every, leaves_of, of_place, spoken, matters, Said, said_by, said, same_matter, widened, range_of}
+use Rattle.mintc_speaking.specs.Speaking.{Matter, join_into, arcs_from, dq_of, cq_of, setup_of, hold_of, width_of, Spoken, of, no_instance, of_path, of_check, pins_named, both, of_leaf, at_port, into, at_pin, of_interconnect, of_instance, is_scope, leaf_called, together, of_each, of_every, leaves_of, of_place, spoken, matters, Said, said_by, said, same_matter, widened, range_of}
 
 -- a delay in femtoseconds, and a time that may be negative
 abbrev pub IsDelay : ℤ → Type 0

@@ -2,6 +2,7 @@
 use Rattle.std.proofs.Common.{◌≡◌, ◌<◌, ◌≤◌, ◌-◌, ℕ, zero, suc, Bool, true, false, ◌||◌, cond, List, [], ◌∷◌, ◌++◌, length, take, get_or, position, Option, Some, None, is_some, IfSome, refl, sym, ap, ◌∙◌, arith, length-append}
 use Rattle.std.specs.List.{list_any, range_with_len}
 use Rattle.std.proofs.lemmas.Bool.{or_left, or_right}
+use Rattle.std.proofs.lemmas.List.Folds.{list_any_none}
 use Rattle.std.proofs.lemmas.List.{get_or_push, take-append-le, take_all}
 use Rattle.mintc_sdf.specs.declared.delays.Subject.{Subject}
 use Rattle.mintc_sdf.specs.declared.delays.Subject.TheVariants as subject
@@ -42,12 +43,8 @@ any_from p [] i d within here = absurd (omega (arith, within))
 any_from p (x ∷ xs) zero d within here = or_left (p x) (list_any p xs) here
 any_from p (x ∷ xs) (suc i) d within here = or_right (p x) (list_any p xs) (any_from p xs i d (omega (arith, within)) here)
 
-none_from : (p : ℕ → Bool) (xs : List ℕ) (d : ℕ) → ((k : ℕ) → k < length xs → p (get_or xs k d) ≡ false) → list_any p xs ≡ false
-none_from p [] d none = refl
-none_from p (x ∷ xs) d none = ap (λ b. b || list_any p xs) (none 0 (omega arith)) ∙ none_from p xs d (λ k below. none (suc k) (omega (arith, below)))
-
 any_by : (p : ℕ → Bool) (xs : List ℕ) (o : Option ℕ) → position p xs ≡ o → list_any p xs ≡ is_some o
-any_by p xs None at = none_from p xs 0 (position_missing p xs 0 at)
+any_by p xs None at = list_any_none p xs (λ k d less. position_missing p xs d at k less)
 any_by p xs (Some i) at = let is = position-Some p xs i 0 at in any_from p xs i 0 is.0 is.1
 
 pub is_scope_called : (h : Hierarchy) (path : Path) → is_scope h path ≡ is_some (scope_called h path)
