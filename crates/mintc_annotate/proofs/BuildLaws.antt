@@ -35,9 +35,7 @@ use Rattle.mintc_annotate.proofs.PartLimits.{all_bits}
 
 -- one more of a map over numbers
 pub pushed : {X : Type 0} (f : ℕ → X) (old found more : List X) (x : X) (first k : ℕ) → found ≡ old ++ map f (range_with_len first k) → more ≡ found ++ x ∷ [] → x ≡ f (first + k) → more ≡ old ++ map f (range_with_len first (k + 1))
-pushed f old found more x first k so next is =
-    next ∙ ap (λ l. l ++ x ∷ []) so ∙ append_assoc old (map f (range_with_len first k)) (x ∷ []) ∙ ap (λ y. old ++ (map f (range_with_len first k) ++ y ∷ [])) is
-    ∙ ap (λ l. old ++ l) (sym (map-range_with_len_more f first k (first + k) refl))
+pushed f old found more x first k so next is = rw (next, so, is, map-range_with_len_more f first k (first + k) refl, append_assoc) refl
 
 pub flat_pushed : {X : Type 0} (f : ℕ → List X) (old found more : List X) (k : ℕ) → found ≡ old ++ flat_map f (range_with_len 0 k) → more ≡ found ++ f k → more ≡ old ++ flat_map f (range_with_len 0 (k + 1))
 flat_pushed f old found more k so next = next ∙ ap (λ l. l ++ f k) so ∙ append_assoc old (flat_map f (range_with_len 0 k)) (f k) ∙ ap (λ l. old ++ l) (cells_more f k)
@@ -54,12 +52,7 @@ place_map listed place (b ∷ bits) = ap (λ l. (slice_index_or listed place no_
 pub bits_pushed : (ports : List TopPort) (output : Bool) (listed : List Listed) (place : ℕ) (found more : List ListedBit) (bits : List ℕ) → place < length listed → map (with_port listed) found ≡ bits_in ports output (take place listed) →
     more ≡ found ++ map (place_bit place) bits → bits ≡ unwrap_or (listed_in ports output (slice_index_or listed place no_listed)) [] → map (with_port listed) more ≡ bits_in ports output (take (place + 1) listed)
 bits_pushed ports output listed place found more bits within so next is =
-    let x : Listed = slice_index_or listed place no_listed in
-    let f : Listed → List (Listed × ℕ) = λ y. map (λ b. (y, b)) (unwrap_or (listed_in ports output y) []) in
-    ap (map (with_port listed)) next ∙ map-append (with_port listed) found (map (place_bit place) bits)
-    ∙ ap (λ l. l ++ map (with_port listed) (map (place_bit place) bits)) so ∙ ap (λ l. bits_in ports output (take place listed) ++ l) (place_map listed place bits ∙ ap (λ bs. map (λ b. (x, b)) bs) is)
-    ∙ ap (λ l. bits_in ports output (take place listed) ++ l) (sym (append-nil (map (λ b. (x, b)) (unwrap_or (listed_in ports output x) []))))
-    ∙ sym (ap (bits_in ports output) (take_more listed place no_listed within) ∙ flat_map-append (λ y. map (λ b. (y, b)) (unwrap_or (listed_in ports output y) [])) (take place listed) (x ∷ []))
+    rw (next, map-append, so, place_map listed place bits, is, take_more listed place no_listed within, flat_map-append, append-nil) refl
 
 -- ---- latches and flops
 zip_push : {A B : Type 0} (xs : List A) (x : A) (ys : List B) (d : B) → length xs < length ys → zip (xs ++ x ∷ []) ys ≡ zip xs ys ++ (x, get_or ys (length xs) d) ∷ []
@@ -80,10 +73,7 @@ front_shorter h cells k within is =
 -- so many elements stand there as latches and flops came before
 pub front_count : (h : Hierarchy) (cells : CellTable) (ranges : RangeOf) (phases : List ℕ) (found : List Element) (k : ℕ) → length phases ≡ length (storage h cells) →
     found ≡ map (λ x. element_of ranges (dotted (leaf_path h x.0)) x.0 x.1 (leaf_cell h cells x.0)) (zip (filter (stored h cells) (take k (all_leaves h))) phases) → length found ≡ length (filter (stored h cells) (take k (all_leaves h)))
-front_count h cells ranges phases found k many so =
-    let long = ap length so ∙ length-map (zip (filter (stored h cells) (take k (all_leaves h))) phases) (λ x. element_of ranges (dotted (leaf_path h x.0)) x.0 x.1 (leaf_cell h cells x.0)) ∙ length-zip (filter (stored h cells) (take k (all_leaves h))) phases in
-    let short = front_short h cells k in
-    omega (arith, long, short, many)
+front_count h cells ranges phases found k many so = rw (so, length-map, length-zip) (omega (arith, front_short h cells k, many))
 
 stored_turn : (h : Hierarchy) (cells : CellTable) (ranges : RangeOf) (phases : List ℕ) (found more : List Element) (k : ℕ) (b : Bool) → k < length h.leaves → length phases ≡ length (storage h cells) → stored h cells k ≡ b →
     found ≡ map (λ x. element_of ranges (dotted (leaf_path h x.0)) x.0 x.1 (leaf_cell h cells x.0)) (zip (filter (stored h cells) (take k (all_leaves h))) phases) →
@@ -91,15 +81,9 @@ stored_turn : (h : Hierarchy) (cells : CellTable) (ranges : RangeOf) (phases : L
     more ≡ map (λ x. element_of ranges (dotted (leaf_path h x.0)) x.0 x.1 (leaf_cell h cells x.0)) (zip (filter (stored h cells) (take (k + 1) (all_leaves h))) phases)
 stored_turn h cells ranges phases found more k true within many is so next =
     let front : List ℕ = filter (stored h cells) (take k (all_leaves h)) in
-    let f : ℕ × ℕ → Element = λ x. element_of ranges (dotted (leaf_path h x.0)) x.0 x.1 (leaf_cell h cells x.0) in
-    let count : length found ≡ length front = front_count h cells ranges phases found k many so in
-    let less : length front < length phases = let l = front_shorter h cells k within is in omega (arith, l, many) in
-    next ∙ ap (λ l. l ++ f (k, slice_index_or phases (length found) 0) ∷ []) so ∙ ap (λ (n : ℕ). map f (zip front phases) ++ f (k, slice_index_or phases n 0) ∷ []) count
-    ∙ sym (ap (λ (l : List ℕ). map f (zip l phases)) (stored_more h cells k true within is) ∙ ap (map f) (zip_push front k phases 0 less) ∙ map-append f (zip front phases) ((k, get_or phases (length front) 0) ∷ []))
-stored_turn h cells ranges phases found more k false within many is so next =
-    let front : List ℕ = filter (stored h cells) (take k (all_leaves h)) in
-    let f : ℕ × ℕ → Element = λ x. element_of ranges (dotted (leaf_path h x.0)) x.0 x.1 (leaf_cell h cells x.0) in
-    next ∙ append-nil found ∙ so ∙ sym (ap (λ (l : List ℕ). map f (zip l phases)) (stored_more h cells k false within is ∙ append-nil front))
+    let less : length front < length phases = omega (arith, front_shorter h cells k within is, many) in
+    rw (next, front_count h cells ranges phases found k many so, so, stored_more h cells k true within is, zip_push front k phases 0 less, map-append (λ (x : ℕ × ℕ). element_of ranges (dotted (leaf_path h x.0)) x.0 x.1 (leaf_cell h cells x.0)) (zip front phases) ((k, get_or phases (length front) 0) ∷ [])) refl
+stored_turn h cells ranges phases found more k false within many is so next = rw (next, so, stored_more h cells k false within is, append-nil, append-nil) refl
 
 pub stored_pushed : (h : Hierarchy) (cells : CellTable) (ranges : RangeOf) (phases : List ℕ) (found more : List Element) (k : ℕ) → k < length h.leaves → length phases ≡ length (storage h cells) →
     found ≡ map (λ x. element_of ranges (dotted (leaf_path h x.0)) x.0 x.1 (leaf_cell h cells x.0)) (zip (filter (stored h cells) (take k (all_leaves h))) phases) →

@@ -8,7 +8,7 @@ use Rattle.mintc_sdf.specs.declared.delays.Delay.{Delay}
 use Rattle.mintc_sdf.specs.declared.delays.Place.TheVariants.{Top}
 use Rattle.mintc_hierarchy.specs.declared.hierarchy.Hierarchy.{Hierarchy}
 use Rattle.mintc_hierarchy.specs.Shape.{CellTable}
-use Rattle.mintc_speaking.specs.Speaking.{Said, spoken, of_instance, of_place, leaf_called, refusal_of, first_refusal, said, said_by}
+use Rattle.mintc_speaking.specs.Speaking.{spoken, of_instance, of_place, leaf_called, refusal_of, first_refusal, said, said_by}
 use Rattle.mintc_speaking.specs.declared.ranges.Ranges.{Ranges}
 use Rattle.mintc_speaking.specs.Ranges.{HasRanges}
 use Rattle.mintc_speaking.specs.Gathered.{IsTakenIn}
@@ -27,16 +27,11 @@ refusal_append h cells [] ys = refl
 refusal_append h cells (d ∷ xs) ys =
     ap (option_or (refusal_of d.entry (spoken h cells d))) (refusal_append h cells xs ys) ∙ or_assoc (refusal_of d.entry (spoken h cells d)) (first_refusal h cells xs) (first_refusal h cells ys)
 
-none_more : (a b : Option Refusal) → a ≡ None → b ≡ None → option_or a (option_or b None) ≡ None
-none_more a b first second = ap (λ (o : Option Refusal). option_or o (option_or b None)) first ∙ ap (λ (o : Option Refusal). option_or o None) second
-
 some_here : (a b c : Option Refusal) (r : Refusal) → a ≡ None → b ≡ Some r → option_or a (option_or b c) ≡ Some r
 some_here a b c r first second = ap (λ (o : Option Refusal). option_or o (option_or b c)) first ∙ ap (λ (o : Option Refusal). option_or o c) second
 
 pub unrefused_more : (h : Hierarchy) (cells : CellTable) (ds : List Delay) (k : ℕ) (d : Delay) → k < length ds → d ≡ get_or ds k d → first_refusal h cells (take k ds) ≡ None → refusal_of d.entry (spoken h cells d) ≡ None → first_refusal h cells (take (k + 1) ds) ≡ None
-unrefused_more h cells ds k d within is before here =
-    ap (first_refusal h cells) (take_more ds k d within ∙ ap (λ (x : Delay). take k ds ++ x ∷ []) (sym is)) ∙ refusal_append h cells (take k ds) (d ∷ [])
-    ∙ none_more (first_refusal h cells (take k ds)) (refusal_of d.entry (spoken h cells d)) before here
+unrefused_more h cells ds k d within is before here = rw (take_more ds k d within, ← is, refusal_append h cells (take k ds) (d ∷ []), before, here) refl
 
 pub refused_here : (h : Hierarchy) (cells : CellTable) (ds : List Delay) (k : ℕ) (d : Delay) (r : Refusal) → k < length ds → d ≡ get_or ds k d → first_refusal h cells (take k ds) ≡ None → refusal_of d.entry (spoken h cells d) ≡ Some r → first_refusal h cells ds ≡ Some r
 refused_here h cells ds k d r within is before here =
@@ -46,9 +41,7 @@ refused_here h cells ds k d r within is before here =
 
 -- ---- what is said
 said_more : (h : Hierarchy) (cells : CellTable) (ds : List Delay) (k : ℕ) (d : Delay) → k < length ds → d ≡ get_or ds k d → said h cells (take (k + 1) ds) ≡ said h cells (take k ds) ++ said_by h cells d
-said_more h cells ds k d within is =
-    ap (said h cells) (take_more ds k d within ∙ ap (λ (x : Delay). take k ds ++ x ∷ []) (sym is)) ∙ flat_map-append (said_by h cells) (take k ds) (d ∷ [])
-    ∙ ap (λ (l : List Said). said h cells (take k ds) ++ l) (append-nil (said_by h cells d))
+said_more h cells ds k d within is = rw (take_more ds k d within, ← is, flat_map-append, append-nil) refl
 
 pub ranges_more : (h : Hierarchy) (cells : CellTable) (ds : List Delay) (k : ℕ) (d : Delay) (old new : Ranges) → k < length ds → d ≡ get_or ds k d → HasRanges old (said h cells (take k ds)) →
     IsTakenIn d.entry (spoken h cells d) d.least d.greatest old new → HasRanges new (said h cells (take (k + 1) ds))

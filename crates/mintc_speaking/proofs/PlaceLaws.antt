@@ -1,5 +1,5 @@
 -- Places by their texts, as a map of them grows.
-use Rattle.std.proofs.Common.{◌≡◌, ◌<◌, ◌+◌, ◌==◌, ◌&&◌, ℕ, Bool, true, false, cond, List, [], ◌∷◌, ◌++◌, map, find, length, take, get_or, bytes_eq, Option, Some, None, is_some, option_map, refl, sym, ap, ◌∙◌, subst, arith, append-nil, Vec, Global, All}
+use Rattle.std.proofs.Common.{◌≡◌, ◌<◌, ◌+◌, ◌==◌, ◌&&◌, ℕ, Bool, true, false, cond, List, [], ◌∷◌, map, find, length, take, get_or, bytes_eq, Option, Some, None, is_some, option_map, refl, sym, ap, ◌∙◌, subst, arith, append-nil, Vec, Global, All}
 use Rattle.std.specs.Option.{option_or}
 use Rattle.std.specs.HashMap.{HashMap}
 use Rattle.std.proofs.lemmas.List.{map-append, length-map, take_more}
@@ -53,28 +53,16 @@ abbrev is_whole : List ℕ → TopPort → Bool
 is_whole k p = bytes_eq p.name k && (length p.bits == 1)
 
 pub whole_more : (ports : List TopPort) (n : ℕ) (port : TopPort) (k : List ℕ) → n < length ports → port ≡ get_or ports n port → whole_port (take (n + 1) ports) k ≡ option_or (whole_port (take n ports) k) (whole_of port k)
-whole_more ports n port k within is =
-    ap (λ (ps : List TopPort). whole_port ps k) (take_more ports n port within ∙ ap (λ (p : TopPort). take n ports ++ p ∷ []) (sym is))
-    ∙ ap (option_map whole_bit) (find-append (is_whole k) (take n ports) (port ∷ []))
-    ∙ map_or whole_bit (find (is_whole k) (take n ports)) (cond (is_whole k port) (Some port) None)
-    ∙ ap (option_or (whole_port (take n ports) k)) (one_port whole_bit port (is_whole k port))
+whole_more ports n port k within is = rw (take_more ports n port within, ← is, find-append, map_or, one_port) refl
 
 -- ---- bits
 pub among_more : (names : List (List ℕ)) (port : TopPort) (n bit : ℕ) (text k : List ℕ) → n < length port.bits → bit ≡ get_or port.bits n bit → text ≡ get_or names bit [] →
     among_bits names port (take (n + 1) port.bits) k ≡ option_or (among_bits names port (take n port.bits) k) (only text (port_bit port.output bit) k)
-among_more names port n bit text k within is called =
-    ap (λ (bs : List ℕ). among_bits names port bs k) (take_more port.bits n bit within ∙ ap (λ (b : ℕ). take n port.bits ++ b ∷ []) (sym is))
-    ∙ ap (find (λ p. bytes_eq (get_or names p.bit []) k)) (map-append (port_bit port.output) (take n port.bits) (bit ∷ []))
-    ∙ find-append (λ p. bytes_eq (get_or names p.bit []) k) (map (port_bit port.output) (take n port.bits)) (port_bit port.output bit ∷ [])
-    ∙ ap (λ (t : List ℕ). option_or (among_bits names port (take n port.bits) k) (only t (port_bit port.output bit) k)) (sym called)
+among_more names port n bit text k within is called = rw (take_more port.bits n bit within, ← is, map-append, find-append, called) refl
 
 pub called_more : (names : List (List ℕ)) (ports : List TopPort) (n : ℕ) (port : TopPort) (k : List ℕ) → n < length ports → port ≡ get_or ports n port →
     bit_called names (take (n + 1) ports) k ≡ option_or (bit_called names (take n ports) k) (among_bits names port port.bits k)
-called_more names ports n port k within is =
-    ap (λ (ps : List TopPort). bit_called names ps k) (take_more ports n port within ∙ ap (λ (p : TopPort). take n ports ++ p ∷ []) (sym is))
-    ∙ ap (find (λ p. bytes_eq (get_or names p.bit []) k)) (flat_map-append (λ (p : TopPort). map (port_bit p.output) p.bits) (take n ports) (port ∷ []))
-    ∙ find-append (λ p. bytes_eq (get_or names p.bit []) k) (port_bits (take n ports)) (map (port_bit port.output) port.bits ++ [])
-    ∙ ap (λ (l : List PortBit). option_or (bit_called names (take n ports) k) (find (λ p. bytes_eq (get_or names p.bit []) k) l)) (append-nil (map (port_bit port.output) port.bits))
+called_more names ports n port k within is = rw (take_more ports n port within, ← is, flat_map-append, find-append, append-nil) refl
 
 -- ---- places are bits that are there
 or_some : (a b : Option PortBit) (p : PortBit) (P : PortBit → Type 0) → option_or a b ≡ Some p → ((q : PortBit) → a ≡ Some q → P q) → ((q : PortBit) → b ≡ Some q → P q) → P p
