@@ -24,8 +24,7 @@ or_assoc a b c = grind arith
 
 refusal_append : (h : Hierarchy) (cells : CellTable) (xs ys : List Delay) → first_refusal h cells (xs ++ ys) ≡ option_or (first_refusal h cells xs) (first_refusal h cells ys)
 refusal_append h cells [] ys = refl
-refusal_append h cells (d ∷ xs) ys =
-    ap (option_or (refusal_of d.entry (spoken h cells d))) (refusal_append h cells xs ys) ∙ or_assoc (refusal_of d.entry (spoken h cells d)) (first_refusal h cells xs) (first_refusal h cells ys)
+refusal_append h cells (d ∷ xs) ys = rw (refusal_append h cells xs ys, or_assoc) refl
 
 some_here : (a b c : Option Refusal) (r : Refusal) → a ≡ None → b ≡ Some r → option_or a (option_or b c) ≡ Some r
 some_here a b c r first second = ap (λ (o : Option Refusal). option_or o (option_or b c)) first ∙ ap (λ (o : Option Refusal). option_or o c) second

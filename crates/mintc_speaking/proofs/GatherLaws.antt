@@ -1,5 +1,5 @@
 -- Delays taken in one after another.
-use Rattle.std.proofs.Common.{◌≡◌, ◌<◌, ◌+◌, ℕ, ℤ, cond, List, [], ◌∷◌, ◌++◌, length, take, drop, get_or, Option, Some, None, refl, sym, ap, ◌∙◌, subst, arith, append_assoc, append-nil}
+use Rattle.std.proofs.Common.{◌≡◌, ◌<◌, ◌+◌, ℕ, ℤ, List, [], ◌∷◌, ◌++◌, length, take, drop, get_or, Some, None, refl, sym, ap, ◌∙◌, subst, arith, append_assoc, append-nil}
 use Rattle.std.proofs.lemmas.List.{map-append, take_more, drop_more, take-append-drop}
 use Rattle.mintc_text.specs.declared.refusals.Refusal.{Refusal}
 use Rattle.mintc_text.specs.declared.refusals.Stop.{Stop}
@@ -12,7 +12,7 @@ use Rattle.mintc_speaking.specs.declared.matters.Matter.TheVariants.{PathOn}
 use Rattle.mintc_speaking.specs.declared.matters.Spoken.{Spoken as Answer}
 use Rattle.mintc_speaking.specs.declared.matters.Spoken.TheVariants as answer
 use Rattle.mintc_speaking.specs.declared.ranges.Ranges.{Ranges}
-use Rattle.mintc_speaking.specs.Speaking.{Matter, Spoken, of, of_leaf, together, of_each, Said, refusal_of, same_matter, widened}
+use Rattle.mintc_speaking.specs.Speaking.{Matter, Spoken, of, of_leaf, together, of_each, Said, refusal_of}
 use Rattle.mintc_speaking.specs.Matters.{AreThere}
 use Rattle.mintc_speaking.specs.Ranges.{HasRoom, HasRanges, IsWidened, IsSameRoom}
 use Rattle.mintc_speaking.specs.Gathered.{told, HasPlaceOf, IsTakenIn}
@@ -28,9 +28,7 @@ has_place h r _ room there = tt
 pub taken_one : (entry : ℕ) (m : Matter) (least greatest : ℤ) (old new : Ranges) → IsWidened old new m least greatest → IsSameRoom old new → IsTakenIn entry (of (m ∷ [])) least greatest old new
 taken_one entry m least greatest old new widen room = record {
   unrefused = refl;
-  ranges = λ ss has k.
-      widen k ∙ ap (λ (o : Option (ℤ × ℤ)). cond (same_matter m k) (Some (widened least greatest o)) o) (has k)
-      ∙ sym (range_push ss (record { matter = m; least = least; greatest = greatest }) k);
+  ranges = λ ss has k. rw (widen k, has k, range_push ss (record { matter = m; least = least; greatest = greatest }) k) refl;
   room = room;
 }
 
@@ -70,8 +68,7 @@ each_append h cells s [] ys = sym (of_nil (of_each h cells s ys))
 each_append h cells s (x ∷ xs) ys = ap (together (of_leaf h cells x s)) (each_append h cells s xs ys) ∙ together_assoc (of_leaf h cells x s) (of_each h cells s xs) (of_each h cells s ys)
 
 pub each_more : (h : Hierarchy) (cells : CellTable) (s : Subject) (ls : List ℕ) (k d : ℕ) → k < length ls → of_each h cells s (take (k + 1) ls) ≡ together (of_each h cells s (take k ls)) (of_leaf h cells (get_or ls k d) s)
-each_more h cells s ls k d within =
-    ap (of_each h cells s) (take_more ls k d within) ∙ each_append h cells s (take k ls) (get_or ls k d ∷ []) ∙ ap (together (of_each h cells s (take k ls))) (together_nil (of_leaf h cells (get_or ls k d) s))
+each_more h cells s ls k d within = rw (take_more ls k d within, each_append h cells s (take k ls) (get_or ls k d ∷ []), together_nil) refl
 
 -- a refusal after a front that isn't refused
 refused_at : (entry : ℕ) (a b c : Spoken) (r : Refusal) → refusal_of entry a ≡ None → refusal_of entry b ≡ Some r → refusal_of entry (together a (together b c)) ≡ Some r

@@ -123,10 +123,7 @@ not_false : (b : Bool) → not b ≡ false → b ≡ true
 not_false b h = grind arith
 
 names_at : (a b : Path) (n : ℕ) (x y : List ℕ) → n < length a → length a ≡ length b → x ≡ get_or a n x → y ≡ get_or b n y → bytes_eq (get_or a n []) (get_or b n []) ≡ bytes_eq x y
-names_at a b n x y within lengths left right =
-    let first : get_or a n [] ≡ x = get_or_default a n [] x within ∙ sym left in
-    let second : get_or b n [] ≡ y = get_or_default b n [] y (omega (arith, within, lengths)) ∙ sym right in
-    ap (λ (z : List ℕ). bytes_eq z (get_or b n [])) first ∙ ap (bytes_eq x) second
+names_at a b n x y within lengths left right = rw (get_or_default a n [] x within, get_or_default b n [] y (omega (arith, within, lengths)), ← left, ← right) refl
 
 pub differ_at : (a b : Path) (n : ℕ) (x y : List ℕ) → n < length a → length a ≡ length b → x ≡ get_or a n x → y ≡ get_or b n y → not (bytes_eq x y) ≡ true → same_path (drop n a) (drop n b) ≡ false
 differ_at a b n x y within lengths left right test =
