@@ -82,8 +82,13 @@ leaf_count h cells ranges n l (Clock a b c d) = refl
 leaves_count : (h : Hierarchy) (cells : CellTable) (ranges : RangeOf) (n : ℕ) (ls : List ℕ) → length (flat_map (λ l. leaf_arcs h cells ranges n l (leaf_cell h cells l)) ls) ≡ sum_by (λ l. arc_count (leaf_cell h cells l)) ls
 leaves_count h cells ranges n [] = refl
 leaves_count h cells ranges n (l ∷ ls) =
-    omega (arith, length-append (leaf_arcs h cells ranges n l (leaf_cell h cells l)) (flat_map (λ k. leaf_arcs h cells ranges n k (leaf_cell h cells k)) ls), leaf_count h cells ranges n l (leaf_cell h cells l),
-    leaves_count h cells ranges n ls, sum_by-append (λ k. arc_count (leaf_cell h cells k)) (l ∷ []) ls)
+    omega (
+      arith,
+      length-append (leaf_arcs h cells ranges n l (leaf_cell h cells l)) (flat_map (λ k. leaf_arcs h cells ranges n k (leaf_cell h cells k)) ls),
+      leaf_count h cells ranges n l (leaf_cell h cells l),
+      leaves_count h cells ranges n ls,
+      sum_by-append (λ k. arc_count (leaf_cell h cells k)) (l ∷ []) ls,
+    )
 
 inputs_count : (n e : ℕ) (xs : List (Listed × ℕ)) → length (input_arcs n e xs) ≡ length xs
 inputs_count n e [] = refl
@@ -99,8 +104,16 @@ arcs_count h cells ranges ins outs =
     let n : ℕ = s + length ins + length outs in
     let joins : List TimingArc = map (join_arc ranges n) h.joins in
     let leaves : List TimingArc = flat_map (λ l. leaf_arcs h cells ranges n l (leaf_cell h cells l)) (all_leaves h) in
-    omega (arith, length-append (joins ++ leaves ++ input_arcs n s ins) (output_arcs ranges n (s + length ins) outs), length-append (joins ++ leaves) (input_arcs n s ins), length-append joins leaves,
-    length-map h.joins (join_arc ranges n), leaves_count h cells ranges n (all_leaves h), inputs_count n s ins, outputs_count ranges n (s + length ins) outs)
+    omega (
+      arith,
+      length-append (joins ++ leaves ++ input_arcs n s ins) (output_arcs ranges n (s + length ins) outs),
+      length-append (joins ++ leaves) (input_arcs n s ins),
+      length-append joins leaves,
+      length-map h.joins (join_arc ranges n),
+      leaves_count h cells ranges n (all_leaves h),
+      inputs_count n s ins,
+      outputs_count ranges n (s + length ins) outs,
+    )
 
 -- the limit of the design is that of its counts
 pub limit_counts : (h : Hierarchy) (cells : CellTable) (clock : clock_type.Clock) (ranges : RangeOf) (phases : List ℕ) → length phases ≡ length (storage h cells) →

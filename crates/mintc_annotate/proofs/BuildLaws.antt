@@ -63,8 +63,11 @@ zip_push (z ∷ xs) x (y ∷ ys) d less = ap (λ l. (z, y) ∷ l) (zip_push xs x
 
 front_short : (h : Hierarchy) (cells : CellTable) (k : ℕ) → length (filter (stored h cells) (take k (all_leaves h))) ≤ length (storage h cells)
 front_short h cells k =
-    omega (arith, ap length (ap (filter (stored h cells)) (sym (take-append-drop k (all_leaves h))) ∙ filter-append (stored h cells) (take k (all_leaves h)) (drop k (all_leaves h))),
-    length-append (filter (stored h cells) (take k (all_leaves h))) (filter (stored h cells) (drop k (all_leaves h))))
+    omega (
+      arith,
+      ap length (ap (filter (stored h cells)) (sym (take-append-drop k (all_leaves h))) ∙ filter-append (stored h cells) (take k (all_leaves h)) (drop k (all_leaves h))),
+      length-append (filter (stored h cells) (take k (all_leaves h))) (filter (stored h cells) (drop k (all_leaves h))),
+    )
 
 pub front_shorter : (h : Hierarchy) (cells : CellTable) (k : ℕ) → k < length h.leaves → stored h cells k ≡ true → length (filter (stored h cells) (take k (all_leaves h))) < length (storage h cells)
 front_shorter h cells k within is =

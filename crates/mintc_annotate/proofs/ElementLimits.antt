@@ -74,9 +74,16 @@ storage_in ss name l phase k (Latch pin_d pin_g high outputs ignored c_setup c_h
     let cq_default : AreDelays (cq_min, cq_max) = (delay_is cq_min cqs.0, delay_is cq_max cqs.1, order_is cq_min cq_max orders.1) in
     let dq = first_in (range_of ss (dq_of l)) (borrowed has_cq (range_of ss (cq_of l))) (dq_min, dq_max) (λ q e. dq_said ss l q are e) (λ q e. borrowed_in has_cq (range_of ss (cq_of l)) q (λ r f. cq_said ss l r are f) e) dq_default in
     let cq = first_in (range_of ss (cq_of l)) (borrowed has_cq (range_of ss (dq_of l))) (cq_min, cq_max) (λ q e. cq_said ss l q are e) (λ q e. borrowed_in has_cq (range_of ss (dq_of l)) q (λ r f. dq_said ss l r are f) e) cq_default in
-    grind (arith, is_phase, dq, cq, greatest_in IsGap (range_of ss (setup_of l)) c_setup (λ q e. (range_in ss (setup_of l) q are e).high) (margin_is c_setup both.0),
-    greatest_in IsGap (range_of ss (hold_of l)) c_hold (λ q e. (range_in ss (hold_of l) q are e).high) (margin_is c_hold both.1), hold_in (range_of ss (hold_of l)) has_hold c_hold keeps,
-    greatest_in IsDelay (range_of ss (width_of l)) c_width (λ q e. (range_in ss (width_of l) q are e).high) (delay_is c_width margins.1))
+    grind (
+      arith,
+      is_phase,
+      dq,
+      cq,
+      greatest_in IsGap (range_of ss (setup_of l)) c_setup (λ q e. (range_in ss (setup_of l) q are e).high) (margin_is c_setup both.0),
+      greatest_in IsGap (range_of ss (hold_of l)) c_hold (λ q e. (range_in ss (hold_of l) q are e).high) (margin_is c_hold both.1),
+      hold_in (range_of ss (hold_of l)) has_hold c_hold keeps,
+      greatest_in IsDelay (range_of ss (width_of l)) c_width (λ q e. (range_in ss (width_of l) q are e).high) (delay_is c_width margins.1),
+    )
 storage_in ss name l phase k (Flop pin_d pin_clock rising outputs ignored c_setup c_hold has_hold cq_min cq_max c_width) are rules keeps stored is_phase =
     let parts = and_parts _ _ rules in
     let limits = and_parts _ _ (and_parts _ _ parts.0).1 in
@@ -85,7 +92,13 @@ storage_in ss name l phase k (Flop pin_d pin_clock rising outputs ignored c_setu
     let delays = and_parts _ _ limits.1 in
     let default : AreDelays (cq_min, cq_max) = (delay_is cq_min delays.0, delay_is cq_max delays.1, order_is cq_min cq_max parts.1) in
     let dq = or_in (range_of ss (dq_of l)) (cq_min, cq_max) (λ q e. dq_said ss l q are e) default in
-    grind (arith, is_phase, dq, greatest_in IsGap (range_of ss (setup_of l)) c_setup (λ q e. (range_in ss (setup_of l) q are e).high) (margin_is c_setup both.0),
-    greatest_in IsGap (range_of ss (hold_of l)) c_hold (λ q e. (range_in ss (hold_of l) q are e).high) (margin_is c_hold both.1), hold_in (range_of ss (hold_of l)) has_hold c_hold keeps,
-    greatest_in IsDelay (range_of ss (width_of l)) c_width (λ q e. (range_in ss (width_of l) q are e).high) (delay_is c_width margins.1))
+    grind (
+      arith,
+      is_phase,
+      dq,
+      greatest_in IsGap (range_of ss (setup_of l)) c_setup (λ q e. (range_in ss (setup_of l) q are e).high) (margin_is c_setup both.0),
+      greatest_in IsGap (range_of ss (hold_of l)) c_hold (λ q e. (range_in ss (hold_of l) q are e).high) (margin_is c_hold both.1),
+      hold_in (range_of ss (hold_of l)) has_hold c_hold keeps,
+      greatest_in IsDelay (range_of ss (width_of l)) c_width (λ q e. (range_in ss (width_of l) q are e).high) (delay_is c_width margins.1),
+    )
 storage_in ss name l phase k _ are rules keeps stored is_phase = absurd (cc)

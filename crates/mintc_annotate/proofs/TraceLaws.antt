@@ -65,9 +65,7 @@ pub stored_split : (h : Hierarchy) (cells : CellTable) (k : ℕ) → k < length 
     storage h cells ≡ filter (stored h cells) (take k (all_leaves h)) ++ k ∷ filter (stored h cells) (drop (k + 1) (all_leaves h))
 stored_split h cells k within is =
     ap (filter (stored h cells)) (sym (take-append-drop k (all_leaves h)) ∙ ap (λ l. take k (all_leaves h) ++ l) (drop_more (all_leaves h) k 0 (within_all h k within)))
-    ∙ filter-append (stored h cells) (take k (all_leaves h)) (get_or (all_leaves h) k 0 ∷ drop (k + 1) (all_leaves h))
-    ∙ ap (λ (n : ℕ). filter (stored h cells) (take k (all_leaves h)) ++ cond (stored h cells n) (n ∷ filter (stored h cells) (drop (k + 1) (all_leaves h))) (filter (stored h cells) (drop (k + 1) (all_leaves h)))) (leaf_number h k within)
-    ∙ ap (λ (t : Bool). filter (stored h cells) (take k (all_leaves h)) ++ cond t (k ∷ filter (stored h cells) (drop (k + 1) (all_leaves h))) (filter (stored h cells) (drop (k + 1) (all_leaves h)))) is
+    ∙ rw (filter-append (stored h cells) (take k (all_leaves h)) (get_or (all_leaves h) k 0 ∷ drop (k + 1) (all_leaves h)), leaf_number h k within, is) refl
 
 pub stored_all : (h : Hierarchy) (cells : CellTable) (k : ℕ) → length h.leaves ≤ k → filter (stored h cells) (take k (all_leaves h)) ≡ storage h cells
 stored_all h cells k past = ap (filter (stored h cells)) (take_all k (all_leaves h) (omega (arith, past, length-range_with_len 0 (length h.leaves))))

@@ -26,17 +26,13 @@ refusal_append : (h : Hierarchy) (cells : CellTable) (xs ys : List Delay) → fi
 refusal_append h cells [] ys = refl
 refusal_append h cells (d ∷ xs) ys = rw (refusal_append h cells xs ys, or_assoc) refl
 
-some_here : (a b c : Option Refusal) (r : Refusal) → a ≡ None → b ≡ Some r → option_or a (option_or b c) ≡ Some r
-some_here a b c r first second = ap (λ (o : Option Refusal). option_or o (option_or b c)) first ∙ ap (λ (o : Option Refusal). option_or o c) second
-
 pub unrefused_more : (h : Hierarchy) (cells : CellTable) (ds : List Delay) (k : ℕ) (d : Delay) → k < length ds → d ≡ get_or ds k d → first_refusal h cells (take k ds) ≡ None → refusal_of d.entry (spoken h cells d) ≡ None → first_refusal h cells (take (k + 1) ds) ≡ None
 unrefused_more h cells ds k d within is before here = rw (take_more ds k d within, ← is, refusal_append h cells (take k ds) (d ∷ []), before, here) refl
 
 pub refused_here : (h : Hierarchy) (cells : CellTable) (ds : List Delay) (k : ℕ) (d : Delay) (r : Refusal) → k < length ds → d ≡ get_or ds k d → first_refusal h cells (take k ds) ≡ None → refusal_of d.entry (spoken h cells d) ≡ Some r → first_refusal h cells ds ≡ Some r
 refused_here h cells ds k d r within is before here =
     ap (first_refusal h cells) (sym (take-append-drop k ds) ∙ ap (λ (l : List Delay). take k ds ++ l) (drop_more ds k d within ∙ ap (λ (x : Delay). x ∷ drop (k + 1) ds) (sym is)))
-    ∙ refusal_append h cells (take k ds) (d ∷ drop (k + 1) ds)
-    ∙ some_here (first_refusal h cells (take k ds)) (refusal_of d.entry (spoken h cells d)) (first_refusal h cells (drop (k + 1) ds)) r before here
+    ∙ rw (refusal_append h cells (take k ds) (d ∷ drop (k + 1) ds), before, here) refl
 
 -- ---- what is said
 said_more : (h : Hierarchy) (cells : CellTable) (ds : List Delay) (k : ℕ) (d : Delay) → k < length ds → d ≡ get_or ds k d → said h cells (take (k + 1) ds) ≡ said h cells (take k ds) ++ said_by h cells d

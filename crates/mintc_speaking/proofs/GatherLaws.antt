@@ -48,7 +48,7 @@ taken_both entry (of ms) (of ns) least greatest old mid new first second = recor
       (second.ranges (ss ++ told least greatest ms) (first.ranges ss has));
   room = λ bits leaves room. second.room bits leaves (first.room bits leaves room);
 }
-taken_both entry _ _ least greatest old mid new first second = let e = first.unrefused in let e2 = second.unrefused in absurd (cc)
+taken_both entry _ _ least greatest old mid new first second = absurd (cc (first.unrefused, second.unrefused))
 
 -- ---- leaf after leaf
 together_nil : (a : Spoken) → together a (of []) ≡ a

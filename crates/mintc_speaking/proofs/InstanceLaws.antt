@@ -40,13 +40,11 @@ pub called_more : (paths : ℕ → Path) (n : ℕ) (path : Path) → called path
 called_more paths n path = range_more (λ k. same_path (paths k) path) n (called paths n path) (same_path (paths n) path) refl refl
 
 pub called_new : (paths : ℕ → Path) (n r : ℕ) → r ≡ unwrap_or (called paths n (paths n)) n → called paths (n + 1) (paths n) ≡ Some r
-called_new paths n r is =
-    called_more paths n (paths n) ∙ ap (λ (b : Bool). option_or (called paths n (paths n)) (cond b (Some n) None)) (same_self (paths n)) ∙ sym (or_some (called paths n (paths n)) n) ∙ ap Some (sym is)
+called_new paths n r is = rw (called_more paths n (paths n), same_self (paths n), is) (sym (or_some (called paths n (paths n)) n))
 
 -- at another path nothing changes
 pub called_old : (paths : ℕ → Path) (n : ℕ) (path : Path) → (paths n ≡ path → ⊥) → called paths n path ≡ called paths (n + 1) path
-called_old paths n path differ =
-    or_none (called paths n path) ∙ sym (called_more paths n path ∙ ap (λ (b : Bool). option_or (called paths n path) (cond b (Some n) None)) (same_differs (paths n) path differ))
+called_old paths n path differ = rw (called_more paths n path, same_differs (paths n) path differ) (or_none (called paths n path))
 
 module _ {S : Type 0} where
   more_at : (h : Hierarchy) (paths : ℕ → Path) (n : ℕ) (old new : HashMap (Vec ℕ Global) ℕ S) (s : ℕ) (name : List ℕ) (r : ℕ) → AreSeen h paths n old → IsFirst h s → paths n ≡ scope_path h s ++ name ∷ [] →

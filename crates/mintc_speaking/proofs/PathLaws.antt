@@ -126,13 +126,11 @@ names_at : (a b : Path) (n : ℕ) (x y : List ℕ) → n < length a → length a
 names_at a b n x y within lengths left right = rw (get_or_default a n [] x within, get_or_default b n [] y (omega (arith, within, lengths)), ← left, ← right) refl
 
 pub differ_at : (a b : Path) (n : ℕ) (x y : List ℕ) → n < length a → length a ≡ length b → x ≡ get_or a n x → y ≡ get_or b n y → not (bytes_eq x y) ≡ true → same_path (drop n a) (drop n b) ≡ false
-differ_at a b n x y within lengths left right test =
-    same_step a b n within (omega (arith, within, lengths)) ∙ ap (λ t. t && same_path (drop (n + 1) a) (drop (n + 1) b)) (names_at a b n x y within lengths left right ∙ not_true (bytes_eq x y) test)
+differ_at a b n x y within lengths left right test = rw (same_step a b n within (omega (arith, within, lengths)), names_at a b n x y within lengths left right, not_true (bytes_eq x y) test) refl
 
 pub alike_at : (a b : Path) (n : ℕ) (x y : List ℕ) → n < length a → length a ≡ length b → x ≡ get_or a n x → y ≡ get_or b n y → not (bytes_eq x y) ≡ false →
     same_path (drop n a) (drop n b) ≡ same_path (drop (n + 1) a) (drop (n + 1) b)
-alike_at a b n x y within lengths left right test =
-    same_step a b n within (omega (arith, within, lengths)) ∙ ap (λ t. t && same_path (drop (n + 1) a) (drop (n + 1) b)) (names_at a b n x y within lengths left right ∙ not_false (bytes_eq x y) test)
+alike_at a b n x y within lengths left right test = rw (same_step a b n within (omega (arith, within, lengths)), names_at a b n x y within lengths left right, not_false (bytes_eq x y) test) refl
 
 pub alike_past : (a b : Path) (n : ℕ) → length a ≤ n → length a ≡ length b → same_path (drop n a) (drop n b) ≡ true
 alike_past a b n past lengths = ap (λ (p : Path). same_path p (drop n b)) (drop_all n a past) ∙ ap (same_path []) (drop_all n b (omega (arith, past, lengths)))
