@@ -29,11 +29,10 @@ use Rattle.mintc_sdf.specs.declared.delays.Delay.{Delay}
 use Rattle.mintc_sdf.specs.Laws.{IsWithin}
 use Rattle.mintc_hierarchy.specs.declared.hierarchy.Hierarchy.{Hierarchy}
 use Rattle.mintc_hierarchy.specs.Shape.{CellTable, IsFlattened}
-use Rattle.mintc_timing.specs.declared.parts.Element.{Element}
 use Rattle.mintc_timing.specs.declared.parts.TimingArc.{TimingArc}
 use Rattle.mintc_timing.specs.Design.{Design}
 use Rattle.mintc_timing.specs.Limits.{over_limit, quantities, limit_of, HasParts}
-use Rattle.mintc_speaking.specs.Pins.{leaf_at, leaf_cell, no_leaf, all_leaves, all_names, inner_name, is_storage, leaf_path, dotted, input_count, output_numbers}
+use Rattle.mintc_speaking.specs.Pins.{leaf_at, leaf_cell, no_leaf, all_leaves, inner_name, is_storage, leaf_path, dotted, input_count, output_numbers}
 use Rattle.mintc_speaking.specs.Ranges.{look}
 use Rattle.mintc_speaking.specs.Speaking.{Matter, said, range_of, first_refusal, join_into, path_on, arcs_from, dq_of, cq_of, setup_of, hold_of, width_of}
 use Rattle.mintc_annotate.specs.ClockPorts.{has_ports, first_false, IsPortRefusal}
@@ -41,7 +40,7 @@ use Rattle.mintc_annotate.specs.Phases.{storage, phase_spots, IsUntraced, IsPhas
 use Rattle.mintc_annotate.specs.declared.gathering.Gathered.{Gathered}
 use Rattle.mintc_annotate.specs.Counts.{arc_count, leaf_arc_count}
 use Rattle.mintc_annotate.specs.Gathered.{AreGathered, IsSpoken, design_of_gathered}
-use Rattle.mintc_annotate.specs.Made.{RangeOf, bits_of, element_of, port_element, elements_of, arc_of, no_delay, inner_bit, join_arc, gate_arc, leaf_arcs, number_in, input_arcs, output_arcs, arcs_of, arcs_with, design_with, IsMade, IsAnnotated, IsAnnotateRefusal, no_port, speaks_of_nothing, no_phase}
+use Rattle.mintc_annotate.specs.Made.{RangeOf, bits_of, element_of, arc_of, no_delay, inner_bit, join_arc, gate_arc, leaf_arcs, number_in, input_arcs, output_arcs, arcs_with, design_with, IsMade, IsAnnotated, IsAnnotateRefusal, no_port, speaks_of_nothing, no_phase}
 use Rattle.mintc_annotate.proofs.TraceLaws.{stored}
 use Rattle.mintc_annotate.proofs.ElementLimits.{KeepsHold}
 use Rattle.mintc_annotate.proofs.PartLimits.{elements_count, made_has_parts}
@@ -68,11 +67,7 @@ stops_phase h cells clock delays stop.OutOfMemory ports speaks untraced = tt
 -- ---- how many
 product : {X : Type 0} (f : ℕ → ℕ → X) (ins outs : List ℕ) → length (flat_map (λ i. map (f i) outs) ins) ≡ length ins * length outs
 product f [] outs = let e : 0 ≡ 0 * length outs = omega arith in e
-product f (i ∷ ins) outs =
-    let rest = product f ins outs in
-    let here = length-map outs (f i) in
-    let e : length outs + length ins * length outs ≡ suc (length ins) * length outs = omega arith in
-    length-append (map (f i) outs) (flat_map (λ k. map (f k) outs) ins) ∙ ap (λ (n : ℕ). n + length (flat_map (λ k. map (f k) outs) ins)) here ∙ ap (λ (n : ℕ). length outs + n) rest ∙ e
+product f (i ∷ ins) outs = omega (arith, product f ins outs, length-map outs (f i), length-append (map (f i) outs) (flat_map (λ k. map (f k) outs) ins))
 
 leaf_count : (h : Hierarchy) (cells : CellTable) (ranges : RangeOf) (n l : ℕ) (cell : Cell) → length (leaf_arcs h cells ranges n l cell) ≡ arc_count cell
 leaf_count h cells ranges n l (Gate inputs outputs a b) =
@@ -87,11 +82,13 @@ leaf_count h cells ranges n l (Clock a b c d) = refl
 leaves_count : (h : Hierarchy) (cells : CellTable) (ranges : RangeOf) (n : ℕ) (ls : List ℕ) → length (flat_map (λ l. leaf_arcs h cells ranges n l (leaf_cell h cells l)) ls) ≡ sum_by (λ l. arc_count (leaf_cell h cells l)) ls
 leaves_count h cells ranges n [] = refl
 leaves_count h cells ranges n (l ∷ ls) =
-    length-append (leaf_arcs h cells ranges n l (leaf_cell h cells l)) (flat_map (λ k. leaf_arcs h cells ranges n k (leaf_cell h cells k)) ls)
-    ∙ ap (λ (m : ℕ). m + length (flat_map (λ k. leaf_arcs h cells ranges n k (leaf_cell h cells k)) ls)) (leaf_count h cells ranges n l (leaf_cell h cells l))
-    ∙ ap (λ (m : ℕ). arc_count (leaf_cell h cells l) + m) (leaves_count h cells ranges n ls)
-    ∙ (let e : arc_count (leaf_cell h cells l) ≡ 0 + arc_count (leaf_cell h cells l) = omega arith in ap (λ (m : ℕ). m + sum_by (λ k. arc_count (leaf_cell h cells k)) ls) e)
-    ∙ sym (sum_by-append (λ k. arc_count (leaf_cell h cells k)) (l ∷ []) ls)
+    omega (
+      arith,
+      length-append (leaf_arcs h cells ranges n l (leaf_cell h cells l)) (flat_map (λ k. leaf_arcs h cells ranges n k (leaf_cell h cells k)) ls),
+      leaf_count h cells ranges n l (leaf_cell h cells l),
+      leaves_count h cells ranges n ls,
+      sum_by-append (λ k. arc_count (leaf_cell h cells k)) (l ∷ []) ls,
+    )
 
 inputs_count : (n e : ℕ) (xs : List (Listed × ℕ)) → length (input_arcs n e xs) ≡ length xs
 inputs_count n e [] = refl
@@ -107,34 +104,27 @@ arcs_count h cells ranges ins outs =
     let n : ℕ = s + length ins + length outs in
     let joins : List TimingArc = map (join_arc ranges n) h.joins in
     let leaves : List TimingArc = flat_map (λ l. leaf_arcs h cells ranges n l (leaf_cell h cells l)) (all_leaves h) in
-    let one = length-append (joins ++ leaves ++ input_arcs n s ins) (output_arcs ranges n (s + length ins) outs) in
-    let two = length-append (joins ++ leaves) (input_arcs n s ins) in
-    let three = length-append joins leaves in
-    let a = length-map h.joins (join_arc ranges n) in
-    let b = leaves_count h cells ranges n (all_leaves h) in
-    let c = inputs_count n s ins in
-    let d = outputs_count ranges n (s + length ins) outs in
-    omega (arith, one, two, three, a, b, c, d)
+    omega (
+      arith,
+      length-append (joins ++ leaves ++ input_arcs n s ins) (output_arcs ranges n (s + length ins) outs),
+      length-append (joins ++ leaves) (input_arcs n s ins),
+      length-append joins leaves,
+      length-map h.joins (join_arc ranges n),
+      leaves_count h cells ranges n (all_leaves h),
+      inputs_count n s ins,
+      outputs_count ranges n (s + length ins) outs,
+    )
 
 -- the limit of the design is that of its counts
 pub limit_counts : (h : Hierarchy) (cells : CellTable) (clock : clock_type.Clock) (ranges : RangeOf) (phases : List ℕ) → length phases ≡ length (storage h cells) →
     limit_of (design_with h cells clock ranges phases) ≡ over_limit (quantities (length h.inner) (length clock.phases) (length phases + length (bits_of h false clock.inputs) + length (bits_of h true clock.outputs))
     (length h.joins + leaf_arc_count h cells + length (bits_of h false clock.inputs) + length (bits_of h true clock.outputs)) (length clock.bounds))
 limit_counts h cells clock ranges phases same =
-    let inner : length (all_names h) ≡ length h.inner = length-map h.inner (inner_name h) in
-    let names : length (map (λ p. p.name) clock.phases) ≡ length clock.phases = length-map clock.phases _ in
-    let elements = elements_count h cells clock ranges phases same ∙ ap (λ (n : ℕ). n + length (bits_of h false clock.inputs) + length (bits_of h true clock.outputs)) (sym same) in
-    let arcs = arcs_count h cells ranges (bits_of h false clock.inputs) (bits_of h true clock.outputs) in
-    ap (λ (n : ℕ). over_limit (quantities n (length (map (λ p. p.name) clock.phases)) (length (elements_of h cells clock ranges phases)) (length (arcs_of h cells clock ranges)) (length clock.bounds))) inner
-    ∙ ap (λ (n : ℕ). over_limit (quantities (length h.inner) n (length (elements_of h cells clock ranges phases)) (length (arcs_of h cells clock ranges)) (length clock.bounds))) names
-    ∙ ap (λ (n : ℕ). over_limit (quantities (length h.inner) (length clock.phases) n (length (arcs_of h cells clock ranges)) (length clock.bounds))) elements
-    ∙ ap (λ (n : ℕ). over_limit (quantities (length h.inner) (length clock.phases) (length phases + length (bits_of h false clock.inputs) + length (bits_of h true clock.outputs)) n (length clock.bounds))) arcs
+    rw (length-map h.inner (inner_name h), length-map clock.phases (λ p. p.name), elements_count h cells clock ranges phases same, arcs_count h cells ranges (bits_of h false clock.inputs) (bits_of h true clock.outputs), same) refl
 
 third_test : (a b c : Bool) (x y z : Kind × ℕ × ℕ) (rest : Option (Kind × ℕ × ℕ)) (f : Kind × ℕ × ℕ → Refusal) → option_map f (cond a (Some x) (cond b (Some y) (cond c (Some z) rest))) ≡ None → c ≡ false
-third_test true b c x y z rest f e = absurd (cc)
-third_test false true c x y z rest f e = absurd (cc)
-third_test false false true x y z rest f e = absurd (cc)
 third_test false false false x y z rest f e = refl
+third_test _ _ _ x y z rest f e = absurd (cc)
 
 pub few_elements : (inner phases elements arcs bounds : ℕ) → over_limit (quantities inner phases elements arcs bounds) ≡ None → elements ≤ MOST_ELEMENTS
 few_elements inner phases elements arcs bounds none =
@@ -151,29 +141,20 @@ flat_same f g [] same = refl
 flat_same f g (x ∷ xs) same = ap (λ l. l ++ flat_map f xs) (same x) ∙ ap (λ l. g x ++ l) (flat_same f g xs same)
 
 element_same : (r q : RangeOf) (name : List ℕ) (l phase : ℕ) (cell : Cell) → ((m : Matter) → r m ≡ q m) → element_of r name l phase cell ≡ element_of q name l phase cell
-element_same r q name l phase (Latch a b c d e f g i j k m n o p) same =
-    let s = same (setup_of l) in let t = same (hold_of l) in let u = same (width_of l) in let v = same (dq_of l) in let w = same (cq_of l) in
-    rw s (rw t (rw u (rw v (rw w refl))))
-element_same r q name l phase (Flop a b c d e f g i j k m) same =
-    let s = same (setup_of l) in let t = same (hold_of l) in let u = same (width_of l) in let v = same (dq_of l) in
-    rw s (rw t (rw u (rw v refl)))
-element_same r q name l phase (Gate a b c d) same = refl
-element_same r q name l phase (Clock a b c d) same = refl
+element_same r q name l phase (Latch a b c d e f g i j k m n o p) same = rw (same (setup_of l), same (hold_of l), same (width_of l), same (dq_of l), same (cq_of l)) refl
+element_same r q name l phase (Flop a b c d e f g i j k m) same = rw (same (setup_of l), same (hold_of l), same (width_of l), same (dq_of l)) refl
+element_same r q name l phase _ same = refl
 
 outputs_same : (r q : RangeOf) (n e : ℕ) (xs : List (Listed × ℕ)) → ((m : Matter) → r m ≡ q m) → output_arcs r n e xs ≡ output_arcs q n e xs
 outputs_same r q n e [] same = refl
-outputs_same r q n e (x ∷ xs) same =
-    ap (λ o. arc_of (inner_bit n x.1) (2 * e) (unwrap_or o no_delay) ∷ output_arcs r n (e + 1) xs) (same (arcs_from x.1))
-    ∙ ap (λ l. arc_of (inner_bit n x.1) (2 * e) (unwrap_or (q (arcs_from x.1)) no_delay) ∷ l) (outputs_same r q n (e + 1) xs same)
+outputs_same r q n e (x ∷ xs) same = rw (same (arcs_from x.1), outputs_same r q n (e + 1) xs same) refl
 
 leaf_same : (h : Hierarchy) (cells : CellTable) (r q : RangeOf) (n l : ℕ) (cell : Cell) → ((m : Matter) → r m ≡ q m) → leaf_arcs h cells r n l cell ≡ leaf_arcs h cells q n l cell
 leaf_same h cells r q n l (Gate ins outs a b) same =
     flat_same (λ i. map (gate_arc h r n l (a, b) i) (range_with_len (length ins) (length outs))) (λ i. map (gate_arc h q n l (a, b) i) (range_with_len (length ins) (length outs))) (range_with_len 0 (length ins)) (λ i.
     map_same (gate_arc h r n l (a, b) i) (gate_arc h q n l (a, b) i) (range_with_len (length ins) (length outs)) (λ o.
     ap (λ x. arc_of (inner_bit n ((leaf_at h l).first_pin + i)) (inner_bit n ((leaf_at h l).first_pin + o)) (unwrap_or x (a, b))) (same (path_on l i o))))
-leaf_same h cells r q n l (Latch a b c d e f g i j k m o p s) same = refl
-leaf_same h cells r q n l (Flop a b c d e f g i j k m) same = refl
-leaf_same h cells r q n l (Clock a b c d) same = refl
+leaf_same h cells r q n l _ same = refl
 
 arcs_same : (h : Hierarchy) (cells : CellTable) (r q : RangeOf) (ins outs : List (Listed × ℕ)) → ((m : Matter) → r m ≡ q m) → arcs_with h cells r ins outs ≡ arcs_with h cells q ins outs
 arcs_same h cells r q ins outs same =
@@ -181,18 +162,13 @@ arcs_same h cells r q ins outs same =
     let n : ℕ = s + length ins + length outs in
     let joins = map_same (join_arc r n) (join_arc q n) h.joins (λ j. ap (λ x. arc_of (inner_bit n j.from) (inner_bit n j.to) (unwrap_or x no_delay)) (same (join_into j.to))) in
     let leaves = flat_same (λ l. leaf_arcs h cells r n l (leaf_cell h cells l)) (λ l. leaf_arcs h cells q n l (leaf_cell h cells l)) (all_leaves h) (λ l. leaf_same h cells r q n l (leaf_cell h cells l) same) in
-    ap (λ x. x ++ flat_map (λ l. leaf_arcs h cells r n l (leaf_cell h cells l)) (all_leaves h) ++ input_arcs n s ins ++ output_arcs r n (s + length ins) outs) joins
-    ∙ ap (λ x. map (join_arc q n) h.joins ++ x ++ input_arcs n s ins ++ output_arcs r n (s + length ins) outs) leaves
-    ∙ ap (λ x. map (join_arc q n) h.joins ++ flat_map (λ l. leaf_arcs h cells q n l (leaf_cell h cells l)) (all_leaves h) ++ input_arcs n s ins ++ x) (outputs_same r q n (s + length ins) outs same)
+    rw (joins, leaves, outputs_same r q n (s + length ins) outs same) refl
 
 pub design_same : (h : Hierarchy) (cells : CellTable) (clock : clock_type.Clock) (r q : RangeOf) (phases : List ℕ) → ((m : Matter) → r m ≡ q m) → design_with h cells clock r phases ≡ design_with h cells clock q phases
 design_same h cells clock r q phases same =
     let stored_ones = map_same (λ (x : ℕ × ℕ). element_of r (dotted (leaf_path h x.0)) x.0 x.1 (leaf_cell h cells x.0)) (λ (x : ℕ × ℕ). element_of q (dotted (leaf_path h x.0)) x.0 x.1 (leaf_cell h cells x.0)) (zip (storage h cells) phases)
     (λ x. element_same r q (dotted (leaf_path h x.0)) x.0 x.1 (leaf_cell h cells x.0) same) in
-    let elements : elements_of h cells clock r phases ≡ elements_of h cells clock q phases = ap (λ l. l ++ map (port_element (all_names h)) (bits_of h false clock.inputs) ++ map (port_element (all_names h)) (bits_of h true clock.outputs)) stored_ones in
-    let arcs : arcs_of h cells clock r ≡ arcs_of h cells clock q = arcs_same h cells r q (bits_of h false clock.inputs) (bits_of h true clock.outputs) same in
-    ap (λ (es : List Element). record { phases = map (λ p. p.name) clock.phases; elements = es; inner = all_names h; arcs = arcs_of h cells clock r; bounds = clock.bounds }) elements
-    ∙ ap (λ (as' : List TimingArc). record { phases = map (λ p. p.name) clock.phases; elements = elements_of h cells clock q phases; inner = all_names h; arcs = as'; bounds = clock.bounds }) arcs
+    rw (stored_ones, arcs_same h cells r q (bits_of h false clock.inputs) (bits_of h true clock.outputs) same) refl
 
 -- ---- what cells keep
 hold_of_defaults : (has_hold : Bool) (hold : ℤ) → (has_hold || is_same hold (pos 0)) ≡ true → has_hold ≡ false → hold ≡ pos 0
@@ -203,8 +179,7 @@ hold_of_defaults false hold h none =
 keeps_hold : (cell : Cell) → has_defaults cell ≡ true → KeepsHold cell
 keeps_hold (Latch a b c d e f hold has_hold g h i j has_cq m) keeps = hold_of_defaults has_hold hold (and_parts (has_hold || is_same hold (pos 0)) (has_cq || (is_same i g && is_same j h)) keeps).0
 keeps_hold (Flop a b c d e f hold has_hold g h i) keeps = hold_of_defaults has_hold hold keeps
-keeps_hold (Gate a b c d) keeps = tt
-keeps_hold (Clock a b c d) keeps = tt
+keeps_hold _ keeps = tt
 
 defaults_at : (cells : CellTable) (at : ℕ) → AreKept cells → at < length cells → has_defaults (cell_at cells at) ≡ true
 defaults_at cells at kept within =
@@ -236,10 +211,7 @@ module _ (h : Hierarchy) (cells : CellTable) (clock : clock_type.Clock) (g : Gat
 
   pub few_stored : length h.leaves ≤ MOST_LEAVES → length g.phases ≤ MOST_LEAVES
   few_stored few =
-      let count = length-filter (stored h cells) (all_leaves h) in
-      let most = count_by-le-length (stored h cells) (all_leaves h) in
-      let long = length-range_with_len 0 (length h.leaves) in
-      omega (arith, as_stored, count, most, long, few)
+      omega (arith, as_stored, length-filter (stored h cells) (all_leaves h), count_by-le-length (stored h cells) (all_leaves h), length-range_with_len 0 (length h.leaves), few)
 
   pub few_gathered : limit_of (design_of_gathered h cells clock g) ≡ None → length g.phases + length (bits_of h false clock.inputs) + length (bits_of h true clock.outputs) ≤ MOST_ELEMENTS
   few_gathered none = few_elements (length h.inner) (length clock.phases) _ (length h.joins + leaf_arc_count h cells + length (bits_of h false clock.inputs) + length (bits_of h true clock.outputs)) (length clock.bounds) (sym (limit_counts h cells clock (look g.ranges) g.phases as_stored) ∙ none)

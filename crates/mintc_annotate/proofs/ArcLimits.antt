@@ -1,7 +1,7 @@
 -- The arcs of the design that is made are within their limits.
-use Rattle.std.proofs.Common.{◌≡◌, ◌<◌, ◌≤◌, ◌+◌, ℕ, ℤ, List, [], ◌∷◌, map, length, All, unwrap_or, sym, arith, length-append}
+use Rattle.std.proofs.Common.{◌≡◌, ◌<◌, ◌≤◌, ◌+◌, ℕ, ℤ, List, [], ◌∷◌, map, length, get_or, All, unwrap_or, sym, arith, length-append}
 use Rattle.std.proofs.lemmas.Int.{ints}
-use Rattle.std.proofs.lemmas.List.Elements.{All-head, All-tail, All-nil, All-cons}
+use Rattle.std.proofs.lemmas.List.Elements.{All-head, All-tail, All-nil, All-cons, All-map}
 use Rattle.mintc_cells.specs.declared.cell.Cell.{Cell}
 use Rattle.mintc_cells.specs.Rules.{pins, inputs_of, outputs_of}
 use Rattle.mintc_hierarchy.specs.declared.hierarchy.Join.{Join}
@@ -19,47 +19,20 @@ none_delays = ((omega (arith, ints), omega (arith, ints)), (omega (arith, ints),
 
 -- an arc between two inner bits, into an element, and out of one
 pub inner_arc : (n m b c : ℕ) (r : ℤ × ℤ) → b < m → c < m → AreDelays r → IsArc n m (arc_of (inner_bit n b) (inner_bit n c) r)
-inner_arc n m b c r from to delays = record {
-  from = omega (arith, from);
-  to = omega (arith, to);
-  leaves = λ l less same. omega (arith, less, same);
-  enters = λ l less same. omega (arith, less, same);
-  min = delays.0;
-  max = delays.1;
-  ordered = delays.2;
-}
+inner_arc n m b c r from to delays = grind arith
 
 pub data_arc : (n m b e : ℕ) (r : ℤ × ℤ) → b < m → e < n → AreDelays r → IsArc n m (arc_of (inner_bit n b) (input_of e) r)
-data_arc n m b e r from to delays = record {
-  from = omega (arith, from);
-  to = omega (arith, to);
-  leaves = λ l less same. omega (arith, less, same);
-  enters = λ l less same. omega (arith, same);
-  min = delays.0;
-  max = delays.1;
-  ordered = delays.2;
-}
+data_arc n m b e r from to delays = grind arith
 
 pub output_arc : (n m b e : ℕ) (r : ℤ × ℤ) → b < m → e < n → AreDelays r → IsArc n m (arc_of (output_of e) (inner_bit n b) r)
-output_arc n m b e r to from delays = record {
-  from = omega (arith, from);
-  to = omega (arith, to);
-  leaves = λ l less same. omega (arith, same);
-  enters = λ l less same. omega (arith, less, same);
-  min = delays.0;
-  max = delays.1;
-  ordered = delays.2;
-}
+output_arc n m b e r to from delays = grind arith
 
 -- the arcs of joins
 pub joins_in : (ss : List Said) (n m : ℕ) (joins : List Join) → AreSaid ss → All (λ j. (j.from < m) × (j.to < m)) joins → All (IsArc n m) (map (join_arc (range_of ss) n) joins)
-joins_in ss n m [] are within = All-nil (IsArc n m)
-joins_in ss n m (j ∷ joins) are within =
-    let here = All-head (λ (j : Join). (j.from < m) × (j.to < m)) j joins within in
-    All-cons (IsArc n m) (join_arc (range_of ss) n j) (map (join_arc (range_of ss) n) joins)
-    (inner_arc n m j.from j.to (unwrap_or (range_of ss (join_into j.to)) no_delay) here.0 here.1
-    (or_in (range_of ss (join_into j.to)) no_delay (λ q e. let i = range_in ss (join_into j.to) q are e in (i.low, i.high, i.ordered)) none_delays))
-    (joins_in ss n m joins are (All-tail (λ (j : Join). (j.from < m) × (j.to < m)) j joins within))
+joins_in ss n m joins are within =
+    All-map (IsArc n m) (join_arc (range_of ss) n) joins (λ i j less. let here = within i j less in
+    inner_arc n m (get_or joins i j).from (get_or joins i j).to (unwrap_or (range_of ss (join_into (get_or joins i j).to)) no_delay) here.0 here.1
+    (or_in (range_of ss (join_into (get_or joins i j).to)) no_delay (λ q e. let r = range_in ss (join_into (get_or joins i j).to) q are e in (r.low, r.high, r.ordered)) none_delays))
 
 -- the arcs of listed ports
 pub inputs_in : (n m e : ℕ) (xs : List (Listed × ℕ)) → e + length xs ≤ n → All (λ (x : Listed × ℕ). x.1 < m) xs → All (IsArc n m) (input_arcs n e xs)

@@ -1,10 +1,10 @@
 -- Lists that are built item by item.
-use Rattle.std.proofs.Common.{◌≡◌, ◌<◌, ◌≤◌, ◌+◌, ℕ, ℤ, zero, suc, Bool, true, false, cond, List, [], ◌∷◌, ◌++◌, length, slice_index_or, get_or, map, flat_map, filter, take, drop, zip, sum_by, unwrap_or, All, Result, Ok, Err, IfOk, OnOk, refl, sym, ap, ◌∙◌, subst, arith, append_assoc, append-nil, zero-add, length-append}
+use Rattle.std.proofs.Common.{◌≡◌, ◌<◌, ◌≤◌, ◌+◌, ℕ, ℤ, zero, suc, Bool, true, false, cond, List, [], ◌∷◌, ◌++◌, length, slice_index_or, get_or, map, flat_map, filter, take, drop, zip, sum_by, unwrap_or, All, refl, sym, ap, ◌∙◌, subst, arith, append_assoc, append-nil, length-append}
 use Rattle.std.specs.List.{range_with_len}
 use Rattle.std.proofs.lemmas.List.{take_more, map-append, length-map, take-append-drop, get_or-map}
 use Rattle.std.proofs.lemmas.List.Elements.{filter-append}
-use Rattle.std.proofs.lemmas.List.FromFn.{map-range_with_len_more, length-range_with_len, get_or-range_with_len}
-use Rattle.std.proofs.lemmas.List.Sums.{count_by_more_yes, count_by_more_no, sum_by-append}
+use Rattle.std.proofs.lemmas.List.FromFn.{map-range_with_len_more}
+use Rattle.std.proofs.lemmas.List.Sums.{count_by_more_no, sum_by-append}
 use Rattle.std.proofs.lemmas.Slice.Zip.{length-zip}
 use Rattle.std.proofs.lemmas.Grind.{flat_map-append}
 use Rattle.mintc_cells.specs.declared.cell.Cell.TheVariants.{Gate}
@@ -22,35 +22,23 @@ use Rattle.mintc_timing.specs.declared.parts.Bound.{Bound}
 use Rattle.mintc_timing.specs.Design.{design_of}
 use Rattle.mintc_speaking.specs.Pins.{leaf_at, leaf_cell, all_leaves, is_storage, scope_at, scope_path, leaf_path, dotted}
 use Rattle.mintc_speaking.specs.Names.{front_of}
-use Rattle.mintc_speaking.proofs.SharedNameLaws.{HasParents, path_below}
+use Rattle.mintc_speaking.proofs.SharedNameLaws.{HasParents, path_below, front_push}
 use Rattle.mintc_annotate.specs.declared.listing.ListedBit.{ListedBit}
 use Rattle.mintc_annotate.specs.ClockPorts.{listed_in}
 use Rattle.mintc_annotate.specs.Phases.{storage}
 use Rattle.mintc_annotate.specs.Counts.{no_listed, place_bit, with_port}
 use Rattle.mintc_annotate.specs.Gathered.{AreBits}
 use Rattle.mintc_annotate.specs.Made.{RangeOf, bits_in, bits_of, number_in, element_of, elements_at, storage_elements, pin_arc, join_arc, leaf_arcs, input_arcs, output_arcs, arcs_with}
-use Rattle.mintc_annotate.proofs.TraceLaws.{stored, stored_more, stored_split, stored_all}
+use Rattle.mintc_annotate.proofs.TraceLaws.{stored, stored_more, stored_split, stored_all, leaf_number, within_all}
+use Rattle.mintc_annotate.proofs.SearchLaws.{range_more, cells_more}
 use Rattle.mintc_annotate.proofs.PartLimits.{all_bits}
 
 -- one more of a map over numbers
 pub pushed : {X : Type 0} (f : ℕ → X) (old found more : List X) (x : X) (first k : ℕ) → found ≡ old ++ map f (range_with_len first k) → more ≡ found ++ x ∷ [] → x ≡ f (first + k) → more ≡ old ++ map f (range_with_len first (k + 1))
-pushed f old found more x first k so next is =
-    next ∙ ap (λ l. l ++ x ∷ []) so ∙ append_assoc old (map f (range_with_len first k)) (x ∷ []) ∙ ap (λ y. old ++ (map f (range_with_len first k) ++ y ∷ [])) is
-    ∙ ap (λ l. old ++ l) (sym (map-range_with_len_more f first k (first + k) refl))
-
--- the lists of one more number
-map-id : (xs : List ℕ) → map (λ (x : ℕ). x) xs ≡ xs
-map-id [] = refl
-map-id (x ∷ xs) = ap (λ l. x ∷ l) (map-id xs)
-
-range_more : (k : ℕ) → range_with_len 0 (k + 1) ≡ range_with_len 0 k ++ k ∷ []
-range_more k = sym (map-id (range_with_len 0 (k + 1))) ∙ map-range_with_len_more (λ (x : ℕ). x) 0 k k (omega arith) ∙ ap (λ l. l ++ k ∷ []) (map-id (range_with_len 0 k))
-
-flat_more : {X : Type 0} (f : ℕ → List X) (k : ℕ) → flat_map f (range_with_len 0 k) ++ f k ≡ flat_map f (range_with_len 0 (k + 1))
-flat_more f k = sym (ap (flat_map f) (range_more k) ∙ flat_map-append f (range_with_len 0 k) (k ∷ []) ∙ ap (λ l. flat_map f (range_with_len 0 k) ++ l) (append-nil (f k)))
+pushed f old found more x first k so next is = rw (next, so, is, map-range_with_len_more f first k (first + k) refl, append_assoc) refl
 
 pub flat_pushed : {X : Type 0} (f : ℕ → List X) (old found more : List X) (k : ℕ) → found ≡ old ++ flat_map f (range_with_len 0 k) → more ≡ found ++ f k → more ≡ old ++ flat_map f (range_with_len 0 (k + 1))
-flat_pushed f old found more k so next = next ∙ ap (λ l. l ++ f k) so ∙ append_assoc old (flat_map f (range_with_len 0 k)) (f k) ∙ ap (λ l. old ++ l) (flat_more f k)
+flat_pushed f old found more k so next = next ∙ ap (λ l. l ++ f k) so ∙ append_assoc old (flat_map f (range_with_len 0 k)) (f k) ∙ ap (λ l. old ++ l) (cells_more f k)
 
 -- a sum over one more number
 pub sum_more : (f : ℕ → ℕ) (k : ℕ) → sum_by f (range_with_len 0 (k + 1)) ≡ sum_by f (range_with_len 0 k) + f k
@@ -64,12 +52,7 @@ place_map listed place (b ∷ bits) = ap (λ l. (slice_index_or listed place no_
 pub bits_pushed : (ports : List TopPort) (output : Bool) (listed : List Listed) (place : ℕ) (found more : List ListedBit) (bits : List ℕ) → place < length listed → map (with_port listed) found ≡ bits_in ports output (take place listed) →
     more ≡ found ++ map (place_bit place) bits → bits ≡ unwrap_or (listed_in ports output (slice_index_or listed place no_listed)) [] → map (with_port listed) more ≡ bits_in ports output (take (place + 1) listed)
 bits_pushed ports output listed place found more bits within so next is =
-    let x : Listed = slice_index_or listed place no_listed in
-    let f : Listed → List (Listed × ℕ) = λ y. map (λ b. (y, b)) (unwrap_or (listed_in ports output y) []) in
-    ap (map (with_port listed)) next ∙ map-append (with_port listed) found (map (place_bit place) bits)
-    ∙ ap (λ l. l ++ map (with_port listed) (map (place_bit place) bits)) so ∙ ap (λ l. bits_in ports output (take place listed) ++ l) (place_map listed place bits ∙ ap (λ bs. map (λ b. (x, b)) bs) is)
-    ∙ ap (λ l. bits_in ports output (take place listed) ++ l) (sym (append-nil (map (λ b. (x, b)) (unwrap_or (listed_in ports output x) []))))
-    ∙ sym (ap (bits_in ports output) (take_more listed place no_listed within) ∙ flat_map-append (λ y. map (λ b. (y, b)) (unwrap_or (listed_in ports output y) [])) (take place listed) (x ∷ []))
+    rw (next, map-append, so, place_map listed place bits, is, take_more listed place no_listed within, flat_map-append, append-nil) refl
 
 -- ---- latches and flops
 zip_push : {A B : Type 0} (xs : List A) (x : A) (ys : List B) (d : B) → length xs < length ys → zip (xs ++ x ∷ []) ys ≡ zip xs ys ++ (x, get_or ys (length xs) d) ∷ []
@@ -80,23 +63,20 @@ zip_push (z ∷ xs) x (y ∷ ys) d less = ap (λ l. (z, y) ∷ l) (zip_push xs x
 
 front_short : (h : Hierarchy) (cells : CellTable) (k : ℕ) → length (filter (stored h cells) (take k (all_leaves h))) ≤ length (storage h cells)
 front_short h cells k =
-    let whole = ap length (ap (filter (stored h cells)) (sym (take-append-drop k (all_leaves h))) ∙ filter-append (stored h cells) (take k (all_leaves h)) (drop k (all_leaves h))) in
-    let parts = length-append (filter (stored h cells) (take k (all_leaves h))) (filter (stored h cells) (drop k (all_leaves h))) in
-    omega (arith, whole, parts)
+    omega (
+      arith,
+      ap length (ap (filter (stored h cells)) (sym (take-append-drop k (all_leaves h))) ∙ filter-append (stored h cells) (take k (all_leaves h)) (drop k (all_leaves h))),
+      length-append (filter (stored h cells) (take k (all_leaves h))) (filter (stored h cells) (drop k (all_leaves h))),
+    )
 
 pub front_shorter : (h : Hierarchy) (cells : CellTable) (k : ℕ) → k < length h.leaves → stored h cells k ≡ true → length (filter (stored h cells) (take k (all_leaves h))) < length (storage h cells)
 front_shorter h cells k within is =
-    let whole = ap length (stored_split h cells k within is) in
-    let parts = length-append (filter (stored h cells) (take k (all_leaves h))) (k ∷ filter (stored h cells) (drop (k + 1) (all_leaves h))) in
-    omega (arith, whole, parts)
+    omega (arith, ap length (stored_split h cells k within is), length-append (filter (stored h cells) (take k (all_leaves h))) (k ∷ filter (stored h cells) (drop (k + 1) (all_leaves h))))
 
 -- so many elements stand there as latches and flops came before
 pub front_count : (h : Hierarchy) (cells : CellTable) (ranges : RangeOf) (phases : List ℕ) (found : List Element) (k : ℕ) → length phases ≡ length (storage h cells) →
     found ≡ map (λ x. element_of ranges (dotted (leaf_path h x.0)) x.0 x.1 (leaf_cell h cells x.0)) (zip (filter (stored h cells) (take k (all_leaves h))) phases) → length found ≡ length (filter (stored h cells) (take k (all_leaves h)))
-front_count h cells ranges phases found k many so =
-    let long = ap length so ∙ length-map (zip (filter (stored h cells) (take k (all_leaves h))) phases) (λ x. element_of ranges (dotted (leaf_path h x.0)) x.0 x.1 (leaf_cell h cells x.0)) ∙ length-zip (filter (stored h cells) (take k (all_leaves h))) phases in
-    let short = front_short h cells k in
-    omega (arith, long, short, many)
+front_count h cells ranges phases found k many so = rw (so, length-map, length-zip) (omega (arith, front_short h cells k, many))
 
 stored_turn : (h : Hierarchy) (cells : CellTable) (ranges : RangeOf) (phases : List ℕ) (found more : List Element) (k : ℕ) (b : Bool) → k < length h.leaves → length phases ≡ length (storage h cells) → stored h cells k ≡ b →
     found ≡ map (λ x. element_of ranges (dotted (leaf_path h x.0)) x.0 x.1 (leaf_cell h cells x.0)) (zip (filter (stored h cells) (take k (all_leaves h))) phases) →
@@ -104,15 +84,9 @@ stored_turn : (h : Hierarchy) (cells : CellTable) (ranges : RangeOf) (phases : L
     more ≡ map (λ x. element_of ranges (dotted (leaf_path h x.0)) x.0 x.1 (leaf_cell h cells x.0)) (zip (filter (stored h cells) (take (k + 1) (all_leaves h))) phases)
 stored_turn h cells ranges phases found more k true within many is so next =
     let front : List ℕ = filter (stored h cells) (take k (all_leaves h)) in
-    let f : ℕ × ℕ → Element = λ x. element_of ranges (dotted (leaf_path h x.0)) x.0 x.1 (leaf_cell h cells x.0) in
-    let count : length found ≡ length front = front_count h cells ranges phases found k many so in
-    let less : length front < length phases = let l = front_shorter h cells k within is in omega (arith, l, many) in
-    next ∙ ap (λ l. l ++ f (k, slice_index_or phases (length found) 0) ∷ []) so ∙ ap (λ (n : ℕ). map f (zip front phases) ++ f (k, slice_index_or phases n 0) ∷ []) count
-    ∙ sym (ap (λ (l : List ℕ). map f (zip l phases)) (stored_more h cells k true within is) ∙ ap (map f) (zip_push front k phases 0 less) ∙ map-append f (zip front phases) ((k, get_or phases (length front) 0) ∷ []))
-stored_turn h cells ranges phases found more k false within many is so next =
-    let front : List ℕ = filter (stored h cells) (take k (all_leaves h)) in
-    let f : ℕ × ℕ → Element = λ x. element_of ranges (dotted (leaf_path h x.0)) x.0 x.1 (leaf_cell h cells x.0) in
-    next ∙ append-nil found ∙ so ∙ sym (ap (λ (l : List ℕ). map f (zip l phases)) (stored_more h cells k false within is ∙ append-nil front))
+    let less : length front < length phases = omega (arith, front_shorter h cells k within is, many) in
+    rw (next, front_count h cells ranges phases found k many so, so, stored_more h cells k true within is, zip_push front k phases 0 less, map-append (λ (x : ℕ × ℕ). element_of ranges (dotted (leaf_path h x.0)) x.0 x.1 (leaf_cell h cells x.0)) (zip front phases) ((k, get_or phases (length front) 0) ∷ [])) refl
+stored_turn h cells ranges phases found more k false within many is so next = rw (next, so, stored_more h cells k false within is, append-nil, append-nil) refl
 
 pub stored_pushed : (h : Hierarchy) (cells : CellTable) (ranges : RangeOf) (phases : List ℕ) (found more : List Element) (k : ℕ) → k < length h.leaves → length phases ≡ length (storage h cells) →
     found ≡ map (λ x. element_of ranges (dotted (leaf_path h x.0)) x.0 x.1 (leaf_cell h cells x.0)) (zip (filter (stored h cells) (take k (all_leaves h))) phases) →
@@ -125,60 +99,23 @@ pub stored_whole : (h : Hierarchy) (cells : CellTable) (ranges : RangeOf) (phase
 stored_whole h cells ranges phases found k past so = so ∙ ap (λ (l : List ℕ). map (λ x. element_of ranges (dotted (leaf_path h x.0)) x.0 x.1 (leaf_cell h cells x.0)) (zip l phases)) (stored_all h cells k past)
 
 -- the number of the next element
-numbered_at : (h : Hierarchy) (k : ℕ) → k < length h.leaves → get_or (all_leaves h) k 0 ≡ k
-numbered_at h k within = get_or-range_with_len 0 (length h.leaves) k 0 within ∙ zero-add k
-
-inside_all : (h : Hierarchy) (k : ℕ) → k < length h.leaves → k < length (all_leaves h)
-inside_all h k within = omega (arith, within, length-range_with_len 0 (length h.leaves))
-
-pub number_yes : (h : Hierarchy) (cells : CellTable) (k : ℕ) → k < length h.leaves → is_storage (leaf_cell h cells k) ≡ true → number_in h cells (k + 1) ≡ number_in h cells k + 1
-number_yes h cells k within is = count_by_more_yes (λ l. is_storage (leaf_cell h cells l)) (all_leaves h) k 0 (inside_all h k within) (ap (λ (l : ℕ). is_storage (leaf_cell h cells l)) (numbered_at h k within) ∙ is)
-
 pub number_no : (h : Hierarchy) (cells : CellTable) (k : ℕ) → k < length h.leaves → is_storage (leaf_cell h cells k) ≡ false → number_in h cells (k + 1) ≡ number_in h cells k
-number_no h cells k within is = count_by_more_no (λ l. is_storage (leaf_cell h cells l)) (all_leaves h) k 0 (inside_all h k within) (ap (λ (l : ℕ). is_storage (leaf_cell h cells l)) (numbered_at h k within) ∙ is)
+number_no h cells k within is = count_by_more_no (λ l. is_storage (leaf_cell h cells l)) (all_leaves h) k 0 (within_all h k within) (ap (λ (l : ℕ). is_storage (leaf_cell h cells l)) (leaf_number h k within) ∙ is)
 
 -- ---- the arcs of a leaf, by its cell
 pub gate_leaf : (h : Hierarchy) (cells : CellTable) (ranges : RangeOf) (n l : ℕ) (leaf : Leaf) (inputs outputs : List (List ℕ)) (least most : ℤ) (i o : ℕ) → leaf_at h l ≡ leaf → cell_at cells leaf.cell ≡ Gate inputs outputs least most →
     i ≡ length inputs → o ≡ length outputs → flat_map (λ k. map (pin_arc ranges n l leaf.first_pin (least, most) k) (range_with_len i o)) (range_with_len 0 i) ≡ leaf_arcs h cells ranges n l (leaf_cell h cells l)
 gate_leaf h cells ranges n l leaf inputs outputs least most i o at is ins outs =
     let cell : leaf_cell h cells l ≡ Gate inputs outputs least most = ap (λ (x : Leaf). cell_at cells x.cell) at ∙ is in
-    ap (λ (m : ℕ). flat_map (λ k. map (pin_arc ranges n l leaf.first_pin (least, most) k) (range_with_len m o)) (range_with_len 0 m)) ins
-    ∙ ap (λ (m : ℕ). flat_map (λ k. map (pin_arc ranges n l leaf.first_pin (least, most) k) (range_with_len (length inputs) m)) (range_with_len 0 (length inputs))) outs
-    ∙ sym (ap (leaf_arcs h cells ranges n l) cell ∙ ap (λ (x : Leaf). flat_map (λ k. map (pin_arc ranges n l x.first_pin (least, most) k) (range_with_len (length inputs) (length outputs))) (range_with_len 0 (length inputs))) at)
+    rw (ins, outs, cell, ← at) refl
 
 -- all arcs
-arcs_shape : Hierarchy → CellTable → RangeOf → ℕ → ℕ → ℕ → List Join → List (Listed × ℕ) → List (Listed × ℕ) → List TimingArc
-arcs_shape h cells ranges s n k joins ins outs =
-    map (join_arc ranges n) joins ++ flat_map (λ l. leaf_arcs h cells ranges n l (leaf_cell h cells l)) (all_leaves h) ++ input_arcs n s ins ++ output_arcs ranges n k outs
-
 pub arcs_joined : (h : Hierarchy) (cells : CellTable) (ranges : RangeOf) (s n k : ℕ) (joins : List Join) (ins outs : List Listed) (xs ys : List ListedBit) (a b c d : List TimingArc) → s ≡ length (storage h cells) → n ≡ s + length xs + length ys →
     k ≡ s + length xs → joins ≡ h.joins → a ≡ map (join_arc ranges n) joins → b ≡ a ++ flat_map (λ l. leaf_arcs h cells ranges n l (leaf_cell h cells l)) (all_leaves h) → c ≡ b ++ input_arcs n s (map (with_port ins) xs) →
     d ≡ c ++ output_arcs ranges n k (map (with_port outs) ys) → d ≡ arcs_with h cells ranges (map (with_port ins) xs) (map (with_port outs) ys)
-unfolding arcs_shape
-arcs_joined h cells ranges s n k joins ins outs xs ys a b c d stored many first same e1 e2 e3 e4 =
-    let one = length-map xs (with_port ins) in
-    let two = length-map ys (with_port outs) in
-    let en : n ≡ length (storage h cells) + length (map (with_port ins) xs) + length (map (with_port outs) ys) = omega (arith, many, stored, one, two) in
-    let ek : k ≡ length (storage h cells) + length (map (with_port ins) xs) = omega (arith, first, stored, one) in
-    e4 ∙ ap (λ l. l ++ output_arcs ranges n k (map (with_port outs) ys)) (e3 ∙ ap (λ l. l ++ input_arcs n s (map (with_port ins) xs)) (e2 ∙ ap (λ l. l ++ flat_map (λ m. leaf_arcs h cells ranges n m (leaf_cell h cells m)) (all_leaves h)) e1))
-    ∙ ap (λ (x : ℕ). arcs_shape h cells ranges x n k joins (map (with_port ins) xs) (map (with_port outs) ys)) stored
-    ∙ ap (λ (x : ℕ). arcs_shape h cells ranges (length (storage h cells)) x k joins (map (with_port ins) xs) (map (with_port outs) ys)) en
-    ∙ ap (λ (x : ℕ). arcs_shape h cells ranges (length (storage h cells)) (length (storage h cells) + length (map (with_port ins) xs) + length (map (with_port outs) ys)) x joins (map (with_port ins) xs) (map (with_port outs) ys)) ek
-    ∙ ap (λ j. arcs_shape h cells ranges (length (storage h cells)) (length (storage h cells) + length (map (with_port ins) xs) + length (map (with_port outs) ys)) (length (storage h cells) + length (map (with_port ins) xs)) j (map (with_port ins) xs) (map (with_port outs) ys)) same
-
--- ---- results
-pub ok_then : {A E : Type 0} (r : Result A E) (P Q : Type 0) → (P → Q) → OnOk r P → OnOk r Q
-ok_then (Ok x) P Q f h = f h
-ok_then (Err e) P Q f h = h
-
-pub if_ok_then : {A E : Type 0} (r : Result A E) (P Q : A → Type 0) → ((x : A) → P x → Q x) → IfOk r P → IfOk r Q
-if_ok_then (Ok x) P Q f h = f x h
-if_ok_then (Err e) P Q f h = h
+arcs_joined h cells ranges s n k joins ins outs xs ys a b c d stored many first same e1 e2 e3 e4 = rw (e4, e3, e2, e1, same, first, many, stored, length-map xs (with_port ins), length-map ys (with_port outs)) refl
 
 -- ---- names
-front_push : (path : List (List ℕ)) (name : List ℕ) → front_of (path ++ name ∷ []) ≡ front_of path ++ (name ++ 46 ∷ [])
-front_push path name = flat_map-append (λ n. n ++ 46 ∷ []) path (name ∷ []) ∙ ap (λ l. front_of path ++ l) (append-nil (name ++ 46 ∷ []))
-
 pub front_below : (h : Hierarchy) (number : ℕ) (scope : Scope) → HasParents h → 1 ≤ number → number < length h.scopes → scope_at h number ≡ scope → front_of (scope_path h number) ≡ front_of (scope_path h scope.parent) ++ (scope.name ++ 46 ∷ [])
 front_below h zero scope parents some within at = absurd (omega (arith, some))
 front_below h (suc m) scope parents some within at =
@@ -200,5 +137,4 @@ as_many_bits h output listed xs are = sym (length-map xs (with_port listed)) ∙
 
 -- ---- the design by its parts
 pub same_design : (ps qs ns ms : List (List ℕ)) (es fs : List Element) (as' bs : List TimingArc) (cs ds : List Bound) → ps ≡ qs → es ≡ fs → ns ≡ ms → as' ≡ bs → cs ≡ ds → design_of ps es ns as' cs ≡ design_of qs fs ms bs ds
-same_design ps qs ns ms es fs as' bs cs ds a b c d e =
-    ap (λ x. design_of x es ns as' cs) a ∙ ap (λ x. design_of qs x ns as' cs) b ∙ ap (λ x. design_of qs fs x as' cs) c ∙ ap (λ x. design_of qs fs ms x cs) d ∙ ap (λ x. design_of qs fs ms bs x) e
+same_design ps qs ns ms es fs as' bs cs ds a b c d e = cc

@@ -1,5 +1,5 @@
 -- One design, and none beside a refusal.
-use Rattle.std.proofs.Common.{◌≡◌, ℕ, suc, length, Bool, List, [], ◌∷◌, ◌++◌, Option, Some, None, refl, sym, ap, ◌∙◌, subst}
+use Rattle.std.proofs.Common.{◌≡◌, ℕ, suc, length, Bool, List, [], ◌∷◌, ◌++◌, Option, Some, None, refl, sym, ap, ◌∙◌, subst, arith}
 use Rattle.std.specs.List.{AllZip}
 use Rattle.mintc_text.specs.declared.refusals.Refusal.{Refusal}
 use Rattle.mintc_text.specs.declared.refusals.Refusal.TheVariants as refusal
@@ -34,11 +34,9 @@ one_phase h cells spots l p q a b =
 
 one_list : (h : Hierarchy) (cells : CellTable) (spots : List Spot) (ls ps qs : List ℕ) → AllZip (IsPhaseOf h cells spots) ls ps → AllZip (IsPhaseOf h cells spots) ls qs → ps ≡ qs
 one_list h cells spots [] [] [] a b = refl
-one_list h cells spots [] (p ∷ ps) qs a b = absurd a
-one_list h cells spots [] [] (q ∷ qs) a b = absurd b
-one_list h cells spots (l ∷ ls) [] qs a b = absurd a
-one_list h cells spots (l ∷ ls) (p ∷ ps) [] a b = absurd b
 one_list h cells spots (l ∷ ls) (p ∷ ps) (q ∷ qs) a b = ap (λ x. x ∷ ps) (one_phase h cells spots l p q a.0 b.0) ∙ ap (λ xs. q ∷ xs) (one_list h cells spots ls ps qs a.1 b.1)
+one_list h cells spots _ _ [] a b = absurd (grind arith)
+one_list h cells spots _ _ (q ∷ qs) a b = absurd (grind arith)
 
 one_made : (h : Hierarchy) (cells : CellTable) (clock : Clock) (delays : List Delay) (design other : Design) → IsMade h cells clock delays design → IsMade h cells clock delays other → design ≡ other
 one_made h cells clock delays design other a b =
@@ -49,10 +47,14 @@ determined_lem h cells clock delays design other a b = one_made h cells clock de
 
 -- where all are traced, each is
 each_traced : (h : Hierarchy) (cells : CellTable) (spots : List Spot) (before : List ℕ) (l : ℕ) (after ps : List ℕ) → AllZip (IsPhaseOf h cells spots) (before ++ l ∷ after) ps → (p : ℕ) × IsPhaseOf h cells spots l p
-each_traced h cells spots [] l after [] a = absurd a
 each_traced h cells spots [] l after (p ∷ ps) a = (p, a.0)
-each_traced h cells spots (b ∷ before) l after [] a = absurd a
 each_traced h cells spots (b ∷ before) l after (p ∷ ps) a = each_traced h cells spots before l after ps a.1
+each_traced h cells spots _ l after _ a = absurd a
+
+untraced_or_made : (h : Hierarchy) (cells : CellTable) (clock : Clock) (delays : List Delay) (design : Design) (e : ℕ) → IsMade h cells clock delays design → IsFirstUntraced h cells (phase_spots h clock) e → ⊥
+untraced_or_made h cells clock delays design e made untraced =
+    let traced = each_traced h cells (phase_spots h clock) untraced.before untraced.leaf untraced.after made.phases (subst (λ (l : List ℕ). AllZip (IsPhaseOf h cells (phase_spots h clock)) l made.phases) untraced.whole made.traced) in
+    untraced.none traced.0 traced.1
 
 no_port_refusal : (tests : List Bool) (refused : Refusal) → first_false tests ≡ None → IsPortRefusal tests refused → ⊥
 no_port_refusal tests (refusal.NoInstance role.Clock entry) none h = none_or (first_false tests) entry none h
@@ -61,9 +63,7 @@ no_port_refusal tests _ none h = h
 refused_or_made : (h : Hierarchy) (cells : CellTable) (clock : Clock) (delays : List Delay) (design : Design) (refused : Refusal) → IsAnnotated h cells clock delays design → IsAnnotateRefusal h cells clock delays refused → ⊥
 refused_or_made h cells clock delays design refused a (no_port port) = no_port_refusal (has_ports h clock) refused a.whole.ports port
 refused_or_made h cells clock delays design refused a (speaks_of_nothing ports speaks) = none_or (first_refusal h cells delays) refused a.whole.speaks speaks
-refused_or_made h cells clock delays design refused a (no_phase ports speaks e same untraced) =
-    let traced = each_traced h cells (phase_spots h clock) untraced.before untraced.leaf untraced.after a.whole.phases (subst (λ (l : List ℕ). AllZip (IsPhaseOf h cells (phase_spots h clock)) l a.whole.phases) untraced.whole a.whole.traced) in
-    untraced.none traced.0 traced.1
+refused_or_made h cells clock delays design refused a (no_phase ports speaks e same untraced) = untraced_or_made h cells clock delays design e a.whole untraced
 refused_or_made h cells clock delays design refused a (too_many other made over) =
     none_or (limit_of other) refused (subst (λ (d : Design). limit_of d ≡ None) (one_made h cells clock delays design other a.whole made) a.within) over
 
@@ -74,24 +74,17 @@ not_refused_lem = refused_or_made
 same_place : (h : Hierarchy) (cells : CellTable) (spots : List Spot) (l m : ℕ) (xs ys after others ps qs : List ℕ) → xs ++ l ∷ after ≡ ys ++ m ∷ others → AllZip (IsPhaseOf h cells spots) xs ps → AllZip (IsPhaseOf h cells spots) ys qs →
     ((p : ℕ) → IsPhaseOf h cells spots l p → ⊥) → ((p : ℕ) → IsPhaseOf h cells spots m p → ⊥) → length xs ≡ length ys
 same_place h cells spots l m [] [] after others ps qs e a b none other = refl
-same_place h cells spots l m [] (y ∷ ys) after others ps [] e a b none other = absurd b
 same_place h cells spots l m [] (y ∷ ys) after others ps (q ∷ qs) e a b none other = let same : y ≡ l = cc in absurd (none q (subst (λ (x : ℕ). IsPhaseOf h cells spots x q) same b.0))
-same_place h cells spots l m (x ∷ xs) [] after others [] qs e a b none other = absurd a
 same_place h cells spots l m (x ∷ xs) [] after others (p ∷ ps) qs e a b none other = let same : x ≡ m = cc in absurd (other p (subst (λ (y : ℕ). IsPhaseOf h cells spots y p) same a.0))
-same_place h cells spots l m (x ∷ xs) (y ∷ ys) after others [] qs e a b none other = absurd a
-same_place h cells spots l m (x ∷ xs) (y ∷ ys) after others (p ∷ ps) [] e a b none other = absurd b
 same_place h cells spots l m (x ∷ xs) (y ∷ ys) after others (p ∷ ps) (q ∷ qs) e a b none other =
     let rest : xs ++ l ∷ after ≡ ys ++ m ∷ others = cc in
     ap suc (same_place h cells spots l m xs ys after others ps qs rest a.1 b.1 none other)
+same_place h cells spots l m _ (y ∷ ys) after others ps [] e a b none other = absurd b
+same_place h cells spots l m (x ∷ xs) _ after others [] qs e a b none other = absurd a
 
 one_untraced : (h : Hierarchy) (cells : CellTable) (spots : List Spot) (e f : ℕ) → IsFirstUntraced h cells spots e → IsFirstUntraced h cells spots f → e ≡ f
 one_untraced h cells spots e f a b =
     a.count ∙ same_place h cells spots a.leaf b.leaf a.before b.before a.after b.after a.phases b.phases (sym a.whole ∙ b.whole) a.traced b.traced a.none b.none ∙ sym b.count
-
-untraced_or_made : (h : Hierarchy) (cells : CellTable) (clock : Clock) (delays : List Delay) (design : Design) (e : ℕ) → IsMade h cells clock delays design → IsFirstUntraced h cells (phase_spots h clock) e → ⊥
-untraced_or_made h cells clock delays design e made untraced =
-    let traced = each_traced h cells (phase_spots h clock) untraced.before untraced.leaf untraced.after made.phases (subst (λ (l : List ℕ). AllZip (IsPhaseOf h cells (phase_spots h clock)) l made.phases) untraced.whole made.traced) in
-    untraced.none traced.0 traced.1
 
 one_port : (tests : List Bool) (refused other : Refusal) → IsPortRefusal tests refused → IsPortRefusal tests other → refused ≡ other
 one_port tests (refusal.NoInstance role.Clock entry) (refusal.NoInstance role.Clock number) a b = ap (λ (n : ℕ). refusal.NoInstance role.Clock n) (one_of (first_false tests) entry number a b)

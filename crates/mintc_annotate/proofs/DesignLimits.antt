@@ -1,11 +1,11 @@
 -- The elements and bounds of the design that is made are within their limits.
-use Rattle.std.proofs.Common.{◌≡◌, ◌<◌, ◌≤◌, ◌+◌, ℕ, Bool, true, false, ◌&&◌, cond, List, [], ◌∷◌, map, length, filter, All, Option, Some, unwrap_or, refl, arith}
+use Rattle.std.proofs.Common.{◌≡◌, ◌<◌, ◌≤◌, ◌+◌, ℕ, Bool, true, false, ◌&&◌, cond, List, [], ◌∷◌, map, length, All, Option, Some, unwrap_or, arith}
 use Rattle.std.specs.Prelude.{int_le, nat_le, zip}
 use Rattle.std.specs.List.{AllZip}
 use Rattle.std.proofs.lemmas.Bool.{and_parts}
 use Rattle.std.proofs.lemmas.Bool.Decides.{nat_tests}
 use Rattle.std.proofs.lemmas.Int.{ints}
-use Rattle.std.proofs.lemmas.List.Elements.{All-head, All-tail, All-nil, All-cons, All-append}
+use Rattle.std.proofs.lemmas.List.Elements.{filter_passes, All-head, All-tail, All-nil, All-cons, All-append, All-map, All-weaker}
 use Rattle.mintc_cells.specs.Rules.{is_cell}
 use Rattle.mintc_document.specs.Rules.{is_delay, is_margin}
 use Rattle.mintc_clock.specs.declared.clock.Clock as clock_type
@@ -42,8 +42,7 @@ bound_is k b h =
     let parts = and_parts (is_point k b.from && is_point k b.to) (is_margin b.gap && nat_le b.cycles 1) h in
     let points = and_parts (is_point k b.from) (is_point k b.to) parts.0 in
     let numbers = and_parts (is_margin b.gap) (nat_le b.cycles 1) parts.1 in
-    let cycles = numbers.1 in
-    record { from = point_is k b.from points.0; to = point_is k b.to points.1; gap = margin_is b.gap numbers.0; cycles = grind (arith, nat_tests, cycles) }
+    record { from = point_is k b.from points.0; to = point_is k b.to points.1; gap = margin_is b.gap numbers.0; cycles = grind (arith, nat_tests, numbers.1) }
 
 -- the element of a bit of a listed port
 port_in : (h : Hierarchy) (k : ℕ) (x : Listed × ℕ) → KeepsListed k x.0 → IsElement k (port_element (all_names h) x)
@@ -54,25 +53,11 @@ port_in h k x keeps =
     let delays = and_parts (is_delay x.0.min && is_delay x.0.max) (int_le x.0.min x.0.max) numbers.0 in
     let each = and_parts (is_delay x.0.min) (is_delay x.0.max) delays.0 in
     let margins = and_parts (is_margin x.0.setup) (is_margin x.0.hold) numbers.1 in
-    record {
-      phase = phase_is k x.0.phase named.1;
-      setup = margin_is x.0.setup margins.0;
-      hold = margin_is x.0.hold margins.1;
-      no_hold = keeps.no_hold;
-      dq_min = delay_is x.0.min each.0;
-      dq_max = delay_is x.0.max each.1;
-      dq = order_is x.0.min x.0.max delays.1;
-      cq_min = delay_is x.0.min each.0;
-      cq_max = delay_is x.0.max each.1;
-      cq = order_is x.0.min x.0.max delays.1;
-      flop = λ is. absurd (cc);
-      width = (omega (arith, ints), omega (arith, ints));
-    }
+    grind (arith, ints, phase_is k x.0.phase named.1, margin_is x.0.setup margins.0, margin_is x.0.hold margins.1, keeps.no_hold, delay_is x.0.min each.0, delay_is x.0.max each.1, order_is x.0.min x.0.max delays.1)
 
 -- all bits of listed ports
 one_listed : (k : ℕ) (x : Listed) (bits : List ℕ) → KeepsListed k x → All (λ (y : Listed × ℕ). KeepsListed k y.0) (map (λ b. (x, b)) bits)
-one_listed k x [] keeps = All-nil (λ (y : Listed × ℕ). KeepsListed k y.0)
-one_listed k x (b ∷ bits) keeps = All-cons (λ (y : Listed × ℕ). KeepsListed k y.0) (x, b) (map (λ b. (x, b)) bits) keeps (one_listed k x bits keeps)
+one_listed k x bits keeps = All-map (λ (y : Listed × ℕ). KeepsListed k y.0) (λ b. (x, b)) bits (λ i d less. keeps)
 
 all_listed : (h : Hierarchy) (output : Bool) (k : ℕ) (xs : List Listed) → All (KeepsListed k) xs → All (λ (y : Listed × ℕ). KeepsListed k y.0) (bits_of h output xs)
 all_listed h output k [] keeps = All-nil (λ (y : Listed × ℕ). KeepsListed k y.0)
@@ -81,9 +66,7 @@ all_listed h output k (x ∷ xs) keeps =
     (one_listed k x (unwrap_or (listed_in h.ports output x) []) (All-head (KeepsListed k) x xs keeps)) (all_listed h output k xs (All-tail (KeepsListed k) x xs keeps))
 
 ports_in : (h : Hierarchy) (k : ℕ) (xs : List (Listed × ℕ)) → All (λ (y : Listed × ℕ). KeepsListed k y.0) xs → All (IsElement k) (map (port_element (all_names h)) xs)
-ports_in h k [] keeps = All-nil (IsElement k)
-ports_in h k (x ∷ xs) keeps =
-    All-cons (IsElement k) (port_element (all_names h) x) (map (port_element (all_names h)) xs) (port_in h k x (All-head (λ (y : Listed × ℕ). KeepsListed k y.0) x xs keeps)) (ports_in h k xs (All-tail (λ (y : Listed × ℕ). KeepsListed k y.0) x xs keeps))
+ports_in h k xs keeps = All-map (IsElement k) (port_element (all_names h)) xs (All-weaker (λ (y : Listed × ℕ). KeepsListed k y.0) (λ y. IsElement k (port_element (all_names h) y)) (port_in h k) xs keeps)
 
 -- a phase that is found is one of them
 found_here : (test : Bool) (n p : ℕ) (rest : Option ℕ) (count : ℕ) → (rest ≡ Some p → (n + 1 ≤ p) × (p < n + 1 + count)) → cond test (Some n) rest ≡ Some p → (n ≤ p) × (p < n + (1 + count))
@@ -94,8 +77,7 @@ found_in : (n : ℕ) (spots : List Spot) (s : Spot) (p : ℕ) → first_at n spo
 found_in n [] s p e = absurd (cc)
 found_in n (t ∷ ts) s p e =
     let here = found_here (same_spot t s) n p (first_at (n + 1) ts s) (length ts) (λ f. found_in (n + 1) ts s p f) e in
-    let low = here.0 in let high = here.1 in
-    (low, omega (arith, high))
+    (here.0, omega (arith, here.1))
 
 phase_found : (h : Hierarchy) (cells : CellTable) (spots : List Spot) (l p : ℕ) → IsPhaseOf h cells spots l p → IsPhase (length spots) p
 phase_found h cells spots l p is = let found = found_in 1 spots is.end p is.found in let low = found.0 in let high = found.1 in (low, omega (arith, high))
@@ -112,21 +94,12 @@ stored_in h cells spots ss (l ∷ ls) (p ∷ ps) are rules holds stored traced =
     (All-head (λ k. is_storage (leaf_cell h cells k) ≡ true) l ls stored) (phase_found h cells spots l p traced.0))
     (stored_in h cells spots ss ls ps are rules holds (All-tail (λ k. is_storage (leaf_cell h cells k) ≡ true) l ls stored) traced.1)
 
--- what passes a filter
-passing_here : (test : ℕ → Bool) (x : ℕ) (xs : List ℕ) (b : Bool) → test x ≡ b → All (λ k. test k ≡ true) xs → All (λ k. test k ≡ true) (cond b (x ∷ xs) xs)
-passing_here test x xs true is all = All-cons (λ k. test k ≡ true) x xs is all
-passing_here test x xs false is all = all
-
-passing : (test : ℕ → Bool) (xs : List ℕ) → All (λ k. test k ≡ true) (filter test xs)
-passing test [] = All-nil (λ k. test k ≡ true)
-passing test (x ∷ xs) = passing_here test x (filter test xs) (test x) refl (passing test xs)
-
 -- all elements
 pub elements_in : (h : Hierarchy) (cells : CellTable) (clock : clock_type.Clock) (spots : List Spot) (ss : List Said) (phases : List ℕ) → AreSaid ss →
     ((l : ℕ) → is_storage (leaf_cell h cells l) ≡ true → is_cell (leaf_cell h cells l) ≡ true) → ((l : ℕ) → KeepsHold (leaf_cell h cells l)) → All (KeepsListed (length spots)) clock.inputs → All (KeepsListed (length spots)) clock.outputs →
     AllZip (IsPhaseOf h cells spots) (storage h cells) phases → All (IsElement (length spots)) (elements_of h cells clock (range_of ss) phases)
 elements_in h cells clock spots ss phases are rules holds inputs outputs traced =
     All-append (IsElement (length spots)) _ _
-    (All-append (IsElement (length spots)) _ _ (stored_in h cells spots ss (storage h cells) phases are rules holds (passing (λ l. is_storage (leaf_cell h cells l)) _) traced)
+    (All-append (IsElement (length spots)) _ _ (stored_in h cells spots ss (storage h cells) phases are rules holds (filter_passes (λ l. is_storage (leaf_cell h cells l)) _) traced)
     (ports_in h (length spots) (bits_of h false clock.inputs) (all_listed h false (length spots) clock.inputs inputs)))
     (ports_in h (length spots) (bits_of h true clock.outputs) (all_listed h true (length spots) clock.outputs outputs))

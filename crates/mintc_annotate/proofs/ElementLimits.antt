@@ -4,7 +4,7 @@ use Rattle.std.specs.Prelude.{int_le}
 use Rattle.std.proofs.lemmas.Bool.{and_parts}
 use Rattle.std.proofs.lemmas.Int.{ints}
 use Rattle.mintc_cells.specs.declared.cell.Cell.{Cell}
-use Rattle.mintc_cells.specs.declared.cell.Cell.TheVariants.{Gate, Latch, Flop, Clock}
+use Rattle.mintc_cells.specs.declared.cell.Cell.TheVariants.{Latch, Flop}
 use Rattle.mintc_cells.specs.Rules.{is_cell}
 use Rattle.mintc_document.specs.Rules.{is_delay, is_margin}
 use Rattle.mintc_timing.specs.Limits.{IsElement, IsDelay, IsGap, IsPhase}
@@ -51,8 +51,7 @@ greatest_in P (Some r) default x z = x r refl
 
 hold_in : (o : Option (ℤ × ℤ)) (has_hold : Bool) (hold : ℤ) → (has_hold ≡ false → hold ≡ pos 0) → IsFalse (is_some o || has_hold) → greatest_or o hold ≡ pos 0
 hold_in None false hold none h = none refl
-hold_in None true hold none h = absurd (cc)
-hold_in (Some r) has_hold hold none h = absurd (cc)
+hold_in _ _ hold none h = absurd (cc)
 
 -- what every cell of a description keeps
 abbrev pub KeepsHold : Cell → Type 0
@@ -75,20 +74,16 @@ storage_in ss name l phase k (Latch pin_d pin_g high outputs ignored c_setup c_h
     let cq_default : AreDelays (cq_min, cq_max) = (delay_is cq_min cqs.0, delay_is cq_max cqs.1, order_is cq_min cq_max orders.1) in
     let dq = first_in (range_of ss (dq_of l)) (borrowed has_cq (range_of ss (cq_of l))) (dq_min, dq_max) (λ q e. dq_said ss l q are e) (λ q e. borrowed_in has_cq (range_of ss (cq_of l)) q (λ r f. cq_said ss l r are f) e) dq_default in
     let cq = first_in (range_of ss (cq_of l)) (borrowed has_cq (range_of ss (dq_of l))) (cq_min, cq_max) (λ q e. cq_said ss l q are e) (λ q e. borrowed_in has_cq (range_of ss (dq_of l)) q (λ r f. dq_said ss l r are f) e) cq_default in
-    record {
-      phase = is_phase;
-      setup = greatest_in IsGap (range_of ss (setup_of l)) c_setup (λ q e. (range_in ss (setup_of l) q are e).high) (margin_is c_setup both.0);
-      hold = greatest_in IsGap (range_of ss (hold_of l)) c_hold (λ q e. (range_in ss (hold_of l) q are e).high) (margin_is c_hold both.1);
-      no_hold = hold_in (range_of ss (hold_of l)) has_hold c_hold keeps;
-      dq_min = dq.0;
-      dq_max = dq.1;
-      dq = dq.2;
-      cq_min = cq.0;
-      cq_max = cq.1;
-      cq = cq.2;
-      flop = λ is. absurd (cc);
-      width = greatest_in IsDelay (range_of ss (width_of l)) c_width (λ q e. (range_in ss (width_of l) q are e).high) (delay_is c_width margins.1);
-    }
+    grind (
+      arith,
+      is_phase,
+      dq,
+      cq,
+      greatest_in IsGap (range_of ss (setup_of l)) c_setup (λ q e. (range_in ss (setup_of l) q are e).high) (margin_is c_setup both.0),
+      greatest_in IsGap (range_of ss (hold_of l)) c_hold (λ q e. (range_in ss (hold_of l) q are e).high) (margin_is c_hold both.1),
+      hold_in (range_of ss (hold_of l)) has_hold c_hold keeps,
+      greatest_in IsDelay (range_of ss (width_of l)) c_width (λ q e. (range_in ss (width_of l) q are e).high) (delay_is c_width margins.1),
+    )
 storage_in ss name l phase k (Flop pin_d pin_clock rising outputs ignored c_setup c_hold has_hold cq_min cq_max c_width) are rules keeps stored is_phase =
     let parts = and_parts _ _ rules in
     let limits = and_parts _ _ (and_parts _ _ parts.0).1 in
@@ -97,19 +92,13 @@ storage_in ss name l phase k (Flop pin_d pin_clock rising outputs ignored c_setu
     let delays = and_parts _ _ limits.1 in
     let default : AreDelays (cq_min, cq_max) = (delay_is cq_min delays.0, delay_is cq_max delays.1, order_is cq_min cq_max parts.1) in
     let dq = or_in (range_of ss (dq_of l)) (cq_min, cq_max) (λ q e. dq_said ss l q are e) default in
-    record {
-      phase = is_phase;
-      setup = greatest_in IsGap (range_of ss (setup_of l)) c_setup (λ q e. (range_in ss (setup_of l) q are e).high) (margin_is c_setup both.0);
-      hold = greatest_in IsGap (range_of ss (hold_of l)) c_hold (λ q e. (range_in ss (hold_of l) q are e).high) (margin_is c_hold both.1);
-      no_hold = hold_in (range_of ss (hold_of l)) has_hold c_hold keeps;
-      dq_min = dq.0;
-      dq_max = dq.1;
-      dq = dq.2;
-      cq_min = dq.0;
-      cq_max = dq.1;
-      cq = dq.2;
-      flop = λ is. (refl, refl);
-      width = greatest_in IsDelay (range_of ss (width_of l)) c_width (λ q e. (range_in ss (width_of l) q are e).high) (delay_is c_width margins.1);
-    }
-storage_in ss name l phase k (Gate a b c d) are rules keeps stored is_phase = absurd (cc)
-storage_in ss name l phase k (Clock a b c d) are rules keeps stored is_phase = absurd (cc)
+    grind (
+      arith,
+      is_phase,
+      dq,
+      greatest_in IsGap (range_of ss (setup_of l)) c_setup (λ q e. (range_in ss (setup_of l) q are e).high) (margin_is c_setup both.0),
+      greatest_in IsGap (range_of ss (hold_of l)) c_hold (λ q e. (range_in ss (hold_of l) q are e).high) (margin_is c_hold both.1),
+      hold_in (range_of ss (hold_of l)) has_hold c_hold keeps,
+      greatest_in IsDelay (range_of ss (width_of l)) c_width (λ q e. (range_in ss (width_of l) q are e).high) (delay_is c_width margins.1),
+    )
+storage_in ss name l phase k _ are rules keeps stored is_phase = absurd (cc)

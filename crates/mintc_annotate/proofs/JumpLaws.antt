@@ -1,5 +1,5 @@
 -- Ways back of many steps.
-use Rattle.std.proofs.Common.{◌≡◌, ◌<◌, ◌≤◌, ◌+◌, ℕ, zero, suc, Bool, true, false, not, cond, List, length, slice_index_or, map, Option, Some, None, refl, sym, ap, ◌∙◌, subst, arith}
+use Rattle.std.proofs.Common.{◌≡◌, ◌<◌, ◌≤◌, ◌+◌, ℕ, zero, suc, Bool, not, cond, List, length, slice_index_or, map, Option, Some, None, refl, sym, ap, ◌∙◌, subst, arith}
 use Rattle.std.specs.List.{range_with_len}
 use Rattle.std.proofs.lemmas.List.{length-map, get_or-map}
 use Rattle.std.proofs.lemmas.List.FromFn.{length-range_with_len, get_or-map-range_with_len}
@@ -47,8 +47,7 @@ led_on ds (suc n) s d driven =
 
 -- ---- the ways of one step
 first_is : (o : Option Drive) (b : ℕ) (high : Bool) → stepped o (spot b high) ≡ jumped (first_jump b o) high
-first_is None b high = refl
-first_is (Some d) b high = refl
+first_is o b high = grind arith
 
 first_within : (count b : ℕ) (o : Option Drive) → ((d : Drive) → o ≡ Some d → d.from < count) → b < count → (first_jump b o).bit < count
 first_within count b None inside less = less
@@ -68,10 +67,7 @@ first_are ds table drivers = record {
 
 -- one way and then another, at a level
 turns_both : (a b high : Bool) (bit : ℕ) → spot bit (turned b (turned a high)) ≡ spot bit (turned (cond a (not b) b) high)
-turns_both true true true bit = refl
-turns_both true true false bit = refl
-turns_both true false high bit = refl
-turns_both false b high bit = refl
+turns_both a b high bit = grind arith
 
 -- the ways of twice as many steps
 pub doubled_are : (ds : List Drive) (n count : ℕ) (jumps : List Jump) → AreJumps ds n count jumps → AreJumps ds (n + n) count (map (doubled_jump jumps) jumps)

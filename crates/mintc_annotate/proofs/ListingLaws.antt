@@ -1,5 +1,5 @@
 -- The ports that are listed.
-use Rattle.std.proofs.Common.{◌≡◌, ◌<◌, ◌≤◌, ◌+◌, ℕ, Bool, true, false, ◌&&◌, cond, List, [], ◌∷◌, ◌++◌, length, drop, get_or, find, All, Option, Some, None, option_map, unwrap_or, is_some, bytes_eq, refl, sym, ap, ◌∙◌, arith, length-append}
+use Rattle.std.proofs.Common.{◌≡◌, ◌<◌, ◌≤◌, ◌+◌, ℕ, Bool, true, false, ◌&&◌, List, [], ◌∷◌, ◌++◌, length, drop, get_or, find, All, Option, Some, None, option_map, unwrap_or, is_some, bytes_eq, refl, ap, ◌∙◌, arith, length-append}
 use Rattle.std.specs.Bool.{beq}
 use Rattle.std.specs.Option.{option_or}
 use Rattle.std.proofs.lemmas.List.{drop_more, length-map}
@@ -29,9 +29,7 @@ none_where_empty ports output x some e =
 -- the first that fails is the first that is left
 pub first_here : (ports : List TopPort) (output : Bool) (listed : List Listed) (number n : ℕ) (d : Listed) → number < length listed → listed_in ports output (get_or listed number d) ≡ None →
     first_failing (λ test. test) n (has_listed_in ports output (drop number listed)) ≡ Some n
-first_here ports output listed number n d within none =
-    ap (λ l. first_failing (λ test. test) n (has_listed_in ports output l)) (drop_more listed number d within)
-    ∙ ap (λ (o : Option (List ℕ)). cond (is_some o) (first_failing (λ test. test) (n + 1) (has_listed_in ports output (drop (number + 1) listed))) (Some n)) none
+first_here ports output listed number n d within none = rw (drop_more listed number d within, none) refl
 
 -- ---- tests in parts
 pub failing_append : (n : ℕ) (xs ys : List Bool) → first_failing (λ test. test) n (xs ++ ys) ≡ option_or (first_failing (λ test. test) n xs) (first_failing (λ test. test) (n + length xs) ys)
@@ -65,17 +63,9 @@ pub clock_parts : (names : List (List ℕ)) (ports : List TopPort) (clock : Cloc
     first_false (has_ports_in names ports clock) ≡ option_or (option_or (first_failing (λ test. test) 1 (has_phases_in names ports phases)) (first_failing (λ test. test) (length phases + 1) (has_listed_in ports false inputs)))
     (first_failing (λ test. test) (length phases + length inputs + 1) (has_listed_in ports true outputs))
 clock_parts names ports clock phases inputs outputs a b c =
-    let P : List Bool = has_phases_in names ports phases in
-    let I : List Bool = has_listed_in ports false inputs in
-    let O : List Bool = has_listed_in ports true outputs in
-    let long = length-map phases (λ p. is_some (phase_bit_in names ports p)) in
-    let more = length-map inputs (λ l. is_some (listed_in ports false l)) in
-    let joined = length-append P I in
-    let one : 1 + length P ≡ length phases + 1 = omega (arith, long) in
-    let two : 1 + length (P ++ I) ≡ length phases + length inputs + 1 = omega (arith, long, more, joined) in
-    ap (λ ps. first_false (has_phases_in names ports ps ++ has_listed_in ports false clock.inputs ++ has_listed_in ports true clock.outputs)) (sym a)
-    ∙ ap (λ ls. first_false (P ++ has_listed_in ports false ls ++ has_listed_in ports true clock.outputs)) (sym b)
-    ∙ ap (λ ls. first_false (P ++ I ++ has_listed_in ports true ls)) (sym c)
-    ∙ failing_append 1 (P ++ I) O ∙ ap (λ o. option_or o (first_failing (λ test. test) (1 + length (P ++ I)) O)) (failing_append 1 P I)
-    ∙ ap (λ (n : ℕ). option_or (option_or (first_failing (λ test. test) 1 P) (first_failing (λ test. test) n I)) (first_failing (λ test. test) (1 + length (P ++ I)) O)) one
-    ∙ ap (λ (n : ℕ). option_or (option_or (first_failing (λ test. test) 1 P) (first_failing (λ test. test) (length phases + 1) I)) (first_failing (λ test. test) n O)) two
+    let P : List Bool = has_phases_in names ports clock.phases in
+    let I : List Bool = has_listed_in ports false clock.inputs in
+    let O : List Bool = has_listed_in ports true clock.outputs in
+    let one : 1 + length P ≡ length clock.phases + 1 = omega (arith, length-map clock.phases (λ p. is_some (phase_bit_in names ports p))) in
+    let two : 1 + length (P ++ I) ≡ length clock.phases + length clock.inputs + 1 = omega (arith, one, length-map clock.inputs (λ l. is_some (listed_in ports false l)), length-append P I) in
+    rw (a, b, c, failing_append 1 (P ++ I) O, failing_append 1 P I, one, two) refl

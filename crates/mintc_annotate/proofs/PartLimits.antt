@@ -1,13 +1,12 @@
 -- All parts of the design that is made are within their limits.
-use Rattle.std.proofs.Common.{◌≡◌, ◌<◌, ◌≤◌, ◌+◌, ℕ, ℤ, Bool, true, false, cond, ◌&&◌, List, [], ◌∷◌, ◌++◌, map, flat_map, length, find, All, Option, Some, None, option_map, unwrap_or, bytes_eq, refl, sym, ap, ◌∙◌, subst, arith, length-append}
+use Rattle.std.proofs.Common.{◌≡◌, ◌<◌, ◌≤◌, ◌+◌, ℕ, ℤ, Bool, true, false, cond, ◌&&◌, List, [], ◌∷◌, ◌++◌, map, flat_map, length, find, All, Option, Some, None, option_map, unwrap_or, bytes_eq, refl, sym, ◌∙◌, subst, arith, length-append}
 use Rattle.std.specs.Prelude.{zip}
 use Rattle.std.specs.Bool.{beq}
 use Rattle.std.proofs.lemmas.Bool.{and_parts}
 use Rattle.std.proofs.lemmas.List.{length-map}
 use Rattle.std.proofs.lemmas.List.Elements.{All-head, All-tail, All-nil, All-cons, All-append, All-map, All-weaker}
-use Rattle.std.proofs.lemmas.List.FromFn.{length-range_with_len, get_or-range_with_len}
 use Rattle.mintc_timing.proofs.SharedMembers.{All-range}
-use Rattle.std.proofs.lemmas.List.Sums.{length-filter, count_by_more_yes, sum_by-take-le}
+use Rattle.std.proofs.lemmas.List.Sums.{length-filter, sum_by-take-le}
 use Rattle.std.proofs.lemmas.Slice.Zip.{AllZip-long, length-zip}
 use Rattle.mintc_cells.specs.declared.cell.Cell.{Cell}
 use Rattle.mintc_cells.specs.declared.cell.Cell.TheVariants.{Gate, Latch, Flop, Clock}
@@ -35,6 +34,7 @@ use Rattle.mintc_speaking.proofs.SharedRangeLimits.{AreSaid, range_in, all_said}
 use Rattle.mintc_annotate.proofs.ElementLimits.{AreDelays, delay_is, order_is, or_in, KeepsHold}
 use Rattle.mintc_annotate.proofs.ArcLimits.{none_delays, inner_arc, data_arc, output_arc, joins_in, inputs_in, outputs_in, pins_count}
 use Rattle.mintc_annotate.proofs.DesignLimits.{elements_in, bound_is}
+use Rattle.mintc_annotate.proofs.TraceLaws.{number_yes}
 
 flat_all : {A : Type 0} (P : A → Type 0) (f : ℕ → List A) (xs : List ℕ) → All (λ x. All P (f x)) xs → All P (flat_map f xs)
 flat_all P f [] all = All-nil P
@@ -73,14 +73,7 @@ leaf_in h cells ss n m l (Flop a b c d ignored e f g i j k) are within rules les
 -- a latch or flop has a number among them
 pub numbered : (h : Hierarchy) (cells : CellTable) (l : ℕ) → l < length h.leaves → is_storage (leaf_cell h cells l) ≡ true → number_in h cells l < length (storage h cells)
 numbered h cells l within stored =
-    let test : ℕ → Bool = λ k. is_storage (leaf_cell h cells k) in
-    let at = get_or-range_with_len 0 (length h.leaves) l 0 within in
-    let place : l < length (all_leaves h) = omega (arith, within, length-range_with_len 0 (length h.leaves)) in
-    let here : is_storage (leaf_cell h cells (0 + l)) ≡ true = subst (λ (k : ℕ). is_storage (leaf_cell h cells k) ≡ true) (omega arith) stored in
-    let more = count_by_more_yes (λ k. is_storage (leaf_cell h cells k)) (all_leaves h) l 0 place (ap (λ (k : ℕ). is_storage (leaf_cell h cells k)) at ∙ here) in
-    let front = sum_by-take-le (λ k. cond (is_storage (leaf_cell h cells k)) 1 0) (all_leaves h) (l + 1) in
-    let whole = length-filter (λ k. is_storage (leaf_cell h cells k)) (all_leaves h) in
-    omega (arith, more, front, whole)
+    omega (arith, number_yes h cells l within stored, sum_by-take-le (λ k. cond (is_storage (leaf_cell h cells k)) 1 0) (all_leaves h) (l + 1), length-filter (λ k. is_storage (leaf_cell h cells k)) (all_leaves h))
 
 -- ---- the whole design
 found_at : {A : Type 0} (P : A → Type 0) (b : Bool) (y x : A) (o : Option A) → P y → (o ≡ Some x → P x) → cond b (Some y) o ≡ Some x → P x
@@ -102,8 +95,7 @@ listed_inside h output x ports =
     bits_at (length h.inner) (find (λ p. bytes_eq p.name x.port && beq p.output output) h.ports) (λ p e. (found_of (IsPort h) (λ p. bytes_eq p.name x.port && beq p.output output) h.ports p ports e).within)
 
 paired : (m : ℕ) (x : Listed) (bits : List ℕ) → All (λ (b : ℕ). b < m) bits → All (λ (y : Listed × ℕ). y.1 < m) (map (λ b. (x, b)) bits)
-paired m x [] all = All-nil (λ (y : Listed × ℕ). y.1 < m)
-paired m x (b ∷ bits) all = All-cons (λ (y : Listed × ℕ). y.1 < m) (x, b) (map (λ b. (x, b)) bits) (All-head (λ (b : ℕ). b < m) b bits all) (paired m x bits (All-tail (λ (b : ℕ). b < m) b bits all))
+paired m x bits all = All-map (λ (y : Listed × ℕ). y.1 < m) (λ b. (x, b)) bits all
 
 pub all_bits : (h : Hierarchy) (output : Bool) (xs : List Listed) → All (IsPort h) h.ports → All (λ (y : Listed × ℕ). y.1 < length h.inner) (bits_of h output xs)
 all_bits h output [] ports = All-nil (λ (y : Listed × ℕ). y.1 < length h.inner)

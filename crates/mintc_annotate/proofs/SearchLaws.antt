@@ -38,8 +38,7 @@ found_in P (e ∷ ds) b d all same = found_here P (driver_of ds b) e d (e.to == 
 
 -- ---- one more driver
 or_none : (o : Option Drive) → option_or o None ≡ o
-or_none None = refl
-or_none (Some x) = refl
+or_none o = grind arith
 
 -- of another bit
 pushed_other : (ds : List Drive) (d : Drive) (b : ℕ) → eqb d.to b ≡ false → driver_of (ds ++ d ∷ []) b ≡ driver_of ds b
@@ -109,9 +108,7 @@ After-le ds zero m s t end after ends = omega arith
 After-le ds (suc n) zero s t end after ends = absurd (some_differs (driver_of ds s.bit) after.0 ends.0 after.1)
 After-le ds (suc n) (suc m) s t end after ends =
     let same : after.0 ≡ ends.0 = one_driver (driver_of ds s.bit) after.0 ends.0 after.1 ends.1 in
-    let rest : EndsAt ds m (back after.0 s) end = subst (λ (d : Drive). EndsAt ds m (back d s) end) (sym same) ends.2 in
-    let less = After-le ds n m (back after.0 s) t end after.2 rest in
-    omega (arith, less)
+    omega (arith, After-le ds n m (back after.0 s) t end after.2 (subst (λ (d : Drive). EndsAt ds m (back d s) end) (sym same) ends.2))
 
 -- how many steps it takes is said by the bit alone
 same_count : (ds : List Drive) (n m : ℕ) (s t e f : Spot) → EndsAt ds n s e → EndsAt ds m t f → s.bit ≡ t.bit → n ≡ m
@@ -155,16 +152,11 @@ below ds count (suc n) s e h within start q among =
 -- A search that ends does so in fewer steps than there are bits.
 pub ends_soon : (ds : List Drive) (count n : ℕ) (s e : Spot) → AreWithin count ds → s.bit < count → EndsAt ds n s e → n < count
 ends_soon ds count n s e within start h =
-    let few = length-le_from_distinct_below (trail ds n s e h) count (distinct ds n s e h) (below ds count n s e h within start) in
-    let long = length-trail ds n s e h in
-    omega (arith, few, long)
+    omega (arith, length-le_from_distinct_below (trail ds n s e h) count (distinct ds n s e h) (below ds count n s e h within start), length-trail ds n s e h)
 
 -- where the search goes on after as many steps as there are bits, it ends nowhere
 pub never_ends : (ds : List Drive) (count steps : ℕ) (s t : Spot) → AreWithin count ds → s.bit < count → count ≤ steps → After ds steps s t → (n : ℕ) (end : Spot) → EndsAt ds n s end → ⊥
-never_ends ds count steps s t within start many after n end ends =
-    let soon = ends_soon ds count n s end within start ends in
-    let late = After-le ds steps n s t end after ends in
-    omega (arith, soon, late, many)
+never_ends ds count steps s t within start many after n end ends = omega (arith, ends_soon ds count n s end within start ends, After-le ds steps n s t end after ends, many)
 
 -- a spot to which the search comes is among the bits
 pub After-within : (ds : List Drive) (count n : ℕ) (s t : Spot) → AreWithin count ds → s.bit < count → After ds n s t → t.bit < count
@@ -183,7 +175,7 @@ map-id : (xs : List ℕ) → map (λ (x : ℕ). x) xs ≡ xs
 map-id [] = refl
 map-id (x ∷ xs) = ap (λ l. x ∷ l) (map-id xs)
 
-range_more : (k : ℕ) → range_with_len 0 (k + 1) ≡ range_with_len 0 k ++ k ∷ []
+pub range_more : (k : ℕ) → range_with_len 0 (k + 1) ≡ range_with_len 0 k ++ k ∷ []
 range_more k = sym (map-id (range_with_len 0 (k + 1))) ∙ map-range_with_len_more (λ (x : ℕ). x) 0 k k (omega arith) ∙ ap (λ l. l ++ k ∷ []) (map-id (range_with_len 0 k))
 
 -- ---- adding drivers to a table, step by step
@@ -199,7 +191,7 @@ Adds-at n m t u xs e f = subst (λ (k : ℕ). Adds k t xs u) e f
 pub joins_more : (joins : List Join) (k : ℕ) (d : Join) → k < length joins → map join_drive (take k joins) ++ join_drive (get_or joins k d) ∷ [] ≡ map join_drive (take (k + 1) joins)
 joins_more joins k d within = sym (ap (map join_drive) (take_more joins k d within) ∙ map-append join_drive (take k joins) (get_or joins k d ∷ []))
 
-pub cells_more : (f : ℕ → List Drive) (k : ℕ) → flat_map f (range_with_len 0 k) ++ f k ≡ flat_map f (range_with_len 0 (k + 1))
+pub cells_more : {X : Type 0} (f : ℕ → List X) (k : ℕ) → flat_map f (range_with_len 0 k) ++ f k ≡ flat_map f (range_with_len 0 (k + 1))
 cells_more f k = sym (ap (flat_map f) (range_more k) ∙ flat_map-append f (range_with_len 0 k) (k ∷ []) ∙ ap (λ l. flat_map f (range_with_len 0 k) ++ l) (append-nil (f k)))
 
 -- what a clock cell drives, by its leaf
@@ -207,6 +199,5 @@ pub clock_drives : (h : Hierarchy) (cells : CellTable) (l : ℕ) (leaf : Leaf) (
     cell_at cells leaf.cell ≡ Clock input output invert ignored → names ≡ ignored → cell_drives h l (leaf_cell h cells l) ≡ drive (leaf.first_pin + (length names + 1)) leaf.first_pin invert ∷ []
 clock_drives h cells l leaf input output invert ignored names at is same =
     let cell : leaf_cell h cells l ≡ Clock input output invert ignored = ap (λ (x : Leaf). cell_at cells x.cell) at ∙ is in
-    let from : (leaf_at h l).first_pin + 0 ≡ leaf.first_pin = omega (arith, ap (λ (x : Leaf). x.first_pin) at) in
-    let to : (leaf_at h l).first_pin + (length ignored + 1) ≡ leaf.first_pin + (length names + 1) = omega (arith, ap (λ (x : Leaf). x.first_pin) at, ap length same) in
-    ap (cell_drives h l) cell ∙ ap (λ (n : ℕ). drive n ((leaf_at h l).first_pin + 0) invert ∷ []) to ∙ ap (λ (n : ℕ). drive (leaf.first_pin + (length names + 1)) n invert ∷ []) from
+    let start : (leaf_at h l).first_pin + 0 ≡ (leaf_at h l).first_pin = omega arith in
+    rw (cell, same, ← at, start) refl

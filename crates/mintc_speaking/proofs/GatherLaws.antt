@@ -1,5 +1,5 @@
 -- Delays taken in one after another.
-use Rattle.std.proofs.Common.{◌≡◌, ◌<◌, ◌+◌, ℕ, ℤ, cond, List, [], ◌∷◌, ◌++◌, length, take, drop, get_or, Option, Some, None, refl, sym, ap, ◌∙◌, subst, arith, append_assoc, append-nil}
+use Rattle.std.proofs.Common.{◌≡◌, ◌<◌, ◌+◌, ℕ, ℤ, List, [], ◌∷◌, ◌++◌, length, take, drop, get_or, Some, None, refl, sym, ap, ◌∙◌, subst, arith, append_assoc, append-nil}
 use Rattle.std.proofs.lemmas.List.{map-append, take_more, drop_more, take-append-drop}
 use Rattle.mintc_text.specs.declared.refusals.Refusal.{Refusal}
 use Rattle.mintc_text.specs.declared.refusals.Stop.{Stop}
@@ -8,11 +8,11 @@ use Rattle.mintc_text.specs.Stops.{StopsAt}
 use Rattle.mintc_sdf.specs.declared.delays.Subject.{Subject}
 use Rattle.mintc_hierarchy.specs.declared.hierarchy.Hierarchy.{Hierarchy}
 use Rattle.mintc_hierarchy.specs.Shape.{CellTable}
-use Rattle.mintc_speaking.specs.declared.matters.Matter.TheVariants.{PathOn, JoinInto, ArcsFrom, DqOf, CqOf, SetupOf, HoldOf, WidthOf}
+use Rattle.mintc_speaking.specs.declared.matters.Matter.TheVariants.{PathOn}
 use Rattle.mintc_speaking.specs.declared.matters.Spoken.{Spoken as Answer}
 use Rattle.mintc_speaking.specs.declared.matters.Spoken.TheVariants as answer
 use Rattle.mintc_speaking.specs.declared.ranges.Ranges.{Ranges}
-use Rattle.mintc_speaking.specs.Speaking.{Matter, Spoken, of, no_instance, no_arc, of_leaf, together, of_each, Said, refusal_of, same_matter, widened}
+use Rattle.mintc_speaking.specs.Speaking.{Matter, Spoken, of, of_leaf, together, of_each, Said, refusal_of}
 use Rattle.mintc_speaking.specs.Matters.{AreThere}
 use Rattle.mintc_speaking.specs.Ranges.{HasRoom, HasRanges, IsWidened, IsSameRoom}
 use Rattle.mintc_speaking.specs.Gathered.{told, HasPlaceOf, IsTakenIn}
@@ -20,25 +20,15 @@ use Rattle.mintc_speaking.proofs.RangeLaws.{range_push}
 
 -- ---- places
 pub has_place : (h : Hierarchy) (r : Ranges) (x : Answer) → HasRoom (length h.inner) (length h.leaves) r → AreThere h x → HasPlaceOf r x
-has_place h r (answer.Of None) room there = tt
 has_place h r (answer.Of (Some (PathOn leaf from to))) room there = tt
-has_place h r (answer.Of (Some (JoinInto bit))) room there = omega (arith, there, room.joins)
-has_place h r (answer.Of (Some (ArcsFrom bit))) room there = omega (arith, there, room.ports)
-has_place h r (answer.Of (Some (DqOf leaf))) room there = omega (arith, there, room.dq)
-has_place h r (answer.Of (Some (CqOf leaf))) room there = omega (arith, there, room.cq)
-has_place h r (answer.Of (Some (SetupOf leaf))) room there = omega (arith, there, room.setup)
-has_place h r (answer.Of (Some (HoldOf leaf))) room there = omega (arith, there, room.hold)
-has_place h r (answer.Of (Some (WidthOf leaf))) room there = omega (arith, there, room.width)
-has_place h r answer.NoInstance room there = tt
-has_place h r answer.NoArc room there = tt
+has_place h r (answer.Of (Some _)) room there = omega arith
+has_place h r _ room there = tt
 
 -- ---- one delay
 pub taken_one : (entry : ℕ) (m : Matter) (least greatest : ℤ) (old new : Ranges) → IsWidened old new m least greatest → IsSameRoom old new → IsTakenIn entry (of (m ∷ [])) least greatest old new
 taken_one entry m least greatest old new widen room = record {
   unrefused = refl;
-  ranges = λ ss has k.
-      widen k ∙ ap (λ (o : Option (ℤ × ℤ)). cond (same_matter m k) (Some (widened least greatest o)) o) (has k)
-      ∙ sym (range_push ss (record { matter = m; least = least; greatest = greatest }) k);
+  ranges = λ ss has k. rw (widen k, has k, range_push ss (record { matter = m; least = least; greatest = greatest }) k) refl;
   room = room;
 }
 
@@ -58,46 +48,33 @@ taken_both entry (of ms) (of ns) least greatest old mid new first second = recor
       (second.ranges (ss ++ told least greatest ms) (first.ranges ss has));
   room = λ bits leaves room. second.room bits leaves (first.room bits leaves room);
 }
-taken_both entry (of ms) no_instance least greatest old mid new first second = let e = second.unrefused in absurd (cc)
-taken_both entry (of ms) no_arc least greatest old mid new first second = let e = second.unrefused in absurd (cc)
-taken_both entry no_instance b least greatest old mid new first second = let e = first.unrefused in absurd (cc)
-taken_both entry no_arc b least greatest old mid new first second = let e = first.unrefused in absurd (cc)
+taken_both entry _ _ least greatest old mid new first second = absurd (cc (first.unrefused, second.unrefused))
 
 -- ---- leaf after leaf
 together_nil : (a : Spoken) → together a (of []) ≡ a
 together_nil (of ms) = ap of (append-nil ms)
-together_nil no_instance = refl
-together_nil no_arc = refl
+together_nil _ = refl
 
 together_assoc : (a b c : Spoken) → together a (together b c) ≡ together (together a b) c
 together_assoc (of ms) (of ns) (of ps) = ap of (sym (append_assoc ms ns ps))
-together_assoc (of ms) (of ns) no_instance = refl
-together_assoc (of ms) (of ns) no_arc = refl
-together_assoc (of ms) no_instance c = refl
-together_assoc (of ms) no_arc c = refl
-together_assoc no_instance b c = refl
-together_assoc no_arc b c = refl
+together_assoc _ _ _ = refl
 
 of_nil : (a : Spoken) → together (of []) a ≡ a
 of_nil (of ms) = refl
-of_nil no_instance = refl
-of_nil no_arc = refl
+of_nil _ = refl
 
 pub each_append : (h : Hierarchy) (cells : CellTable) (s : Subject) (xs ys : List ℕ) → of_each h cells s (xs ++ ys) ≡ together (of_each h cells s xs) (of_each h cells s ys)
 each_append h cells s [] ys = sym (of_nil (of_each h cells s ys))
 each_append h cells s (x ∷ xs) ys = ap (together (of_leaf h cells x s)) (each_append h cells s xs ys) ∙ together_assoc (of_leaf h cells x s) (of_each h cells s xs) (of_each h cells s ys)
 
 pub each_more : (h : Hierarchy) (cells : CellTable) (s : Subject) (ls : List ℕ) (k d : ℕ) → k < length ls → of_each h cells s (take (k + 1) ls) ≡ together (of_each h cells s (take k ls)) (of_leaf h cells (get_or ls k d) s)
-each_more h cells s ls k d within =
-    ap (of_each h cells s) (take_more ls k d within) ∙ each_append h cells s (take k ls) (get_or ls k d ∷ []) ∙ ap (together (of_each h cells s (take k ls))) (together_nil (of_leaf h cells (get_or ls k d) s))
+each_more h cells s ls k d within = rw (take_more ls k d within, each_append h cells s (take k ls) (get_or ls k d ∷ []), together_nil) refl
 
 -- a refusal after a front that isn't refused
 refused_at : (entry : ℕ) (a b c : Spoken) (r : Refusal) → refusal_of entry a ≡ None → refusal_of entry b ≡ Some r → refusal_of entry (together a (together b c)) ≡ Some r
 refused_at entry (of ms) (of ns) c r front here = absurd (cc)
-refused_at entry (of ms) no_instance c r front here = here
-refused_at entry (of ms) no_arc c r front here = here
-refused_at entry no_instance b c r front here = absurd (cc)
-refused_at entry no_arc b c r front here = absurd (cc)
+refused_at entry (of ms) _ c r front here = here
+refused_at entry _ b c r front here = absurd (cc)
 
 pub each_refused : (h : Hierarchy) (cells : CellTable) (s : Subject) (ls : List ℕ) (k d entry : ℕ) (r : Refusal) → k < length ls → refusal_of entry (of_each h cells s (take k ls)) ≡ None → refusal_of entry (of_leaf h cells (get_or ls k d) s) ≡ Some r →
     refusal_of entry (of_each h cells s ls) ≡ Some r

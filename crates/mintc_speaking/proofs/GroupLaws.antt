@@ -108,11 +108,7 @@ group_inside h n k below =
 -- ---- a delay at all of them
 other_every : (h : Hierarchy) (cells : CellTable) (ct : List ℕ) (s : Subject) → IsNoWire s → of_each h cells s (leaves_of h cells ct) ≡ of_every h cells ct s
 other_every h cells ct (subject.Interconnect to) none = absurd (none to refl)
-other_every h cells ct (subject.Iopath from to) none = refl
-other_every h cells ct (subject.Port pin) none = refl
-other_every h cells ct (subject.Setup pin) none = refl
-other_every h cells ct (subject.Hold pin) none = refl
-other_every h cells ct (subject.Width pin) none = refl
+other_every h cells ct _ none = refl
 
 pub every_found : (h : Hierarchy) (cells : CellTable) (ct : List ℕ) (s : Subject) (n : ℕ) → IsFlattened cells h → AreOrdered cells → number_of cells ct ≡ Some n → IsNoWire s → of_each h cells s (leaves_with h n) ≡ of_every h cells ct s
 every_found h cells ct s n shape ordered found none = ap (of_each h cells s) (leaves_found h cells ct n shape ordered found) ∙ other_every h cells ct s none
@@ -140,10 +136,7 @@ swap_test a b = ⊎_elim (λ e. eq-eqb a b e ∙ sym (eq-eqb b a (sym e))) (λ n
 one_leaf : (h : Hierarchy) (n c cell : ℕ) → n < length h.leaves → (leaf_at h n).cell ≡ cell →
     filter (λ k. (leaf_at h k).cell == c) (take (n + 1) (all_leaves h)) ≡ filter (λ k. (leaf_at h k).cell == c) (take n (all_leaves h)) ++ cond (c == cell) (n ∷ []) []
 one_leaf h n c cell within at =
-    filter_more (λ k. (leaf_at h k).cell == c) (all_leaves h) n 0 (omega (arith, within, length-range_with_len 0 (length h.leaves)))
-    ∙ ap (λ (l : ℕ). filter (λ k. (leaf_at h k).cell == c) (take n (all_leaves h)) ++ cond ((leaf_at h l).cell == c) (l ∷ []) []) (number (length h.leaves) n within)
-    ∙ ap (λ (x : ℕ). filter (λ k. (leaf_at h k).cell == c) (take n (all_leaves h)) ++ cond (x == c) (n ∷ []) []) at
-    ∙ ap (λ (b : Bool). filter (λ k. (leaf_at h k).cell == c) (take n (all_leaves h)) ++ cond b (n ∷ []) []) (swap_test cell c)
+    rw (filter_more (λ k. (leaf_at h k).cell == c) (all_leaves h) n 0 (omega (arith, within, length-range_with_len 0 (length h.leaves))), number (length h.leaves) n within, at, swap_test cell c) refl
 
 pub groups_more : (h : Hierarchy) (count n cell : ℕ) (old new : List (Vec ℕ Global)) → n < length h.leaves → (leaf_at h n).cell ≡ cell → length old ≡ count → IsGroupedIn old new cell n →
     ((c : ℕ) (d : Vec ℕ Global) → c < count → (slice_index_or old c d).items ≡ filter (λ k. (leaf_at h k).cell == c) (take n (all_leaves h))) →

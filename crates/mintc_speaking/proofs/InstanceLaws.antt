@@ -30,25 +30,21 @@ key_is s t n m test = key_parts s t n m ((bytes_eq-Decides (key_of s n) (key_of 
 
 -- ---- one more number
 or_some : (o : Option ℕ) (n : ℕ) → Some (unwrap_or o n) ≡ option_or o (Some n)
-or_some None n = refl
-or_some (Some x) n = refl
+or_some o n = grind arith
 
 or_none : (o : Option ℕ) → o ≡ option_or o None
-or_none None = refl
-or_none (Some x) = refl
+or_none o = grind arith
 
 -- the first of one more
 pub called_more : (paths : ℕ → Path) (n : ℕ) (path : Path) → called paths (n + 1) path ≡ option_or (called paths n path) (cond (same_path (paths n) path) (Some n) None)
 called_more paths n path = range_more (λ k. same_path (paths k) path) n (called paths n path) (same_path (paths n) path) refl refl
 
 pub called_new : (paths : ℕ → Path) (n r : ℕ) → r ≡ unwrap_or (called paths n (paths n)) n → called paths (n + 1) (paths n) ≡ Some r
-called_new paths n r is =
-    called_more paths n (paths n) ∙ ap (λ (b : Bool). option_or (called paths n (paths n)) (cond b (Some n) None)) (same_self (paths n)) ∙ sym (or_some (called paths n (paths n)) n) ∙ ap Some (sym is)
+called_new paths n r is = rw (called_more paths n (paths n), same_self (paths n), is) (sym (or_some (called paths n (paths n)) n))
 
 -- at another path nothing changes
 pub called_old : (paths : ℕ → Path) (n : ℕ) (path : Path) → (paths n ≡ path → ⊥) → called paths n path ≡ called paths (n + 1) path
-called_old paths n path differ =
-    or_none (called paths n path) ∙ sym (called_more paths n path ∙ ap (λ (b : Bool). option_or (called paths n path) (cond b (Some n) None)) (same_differs (paths n) path differ))
+called_old paths n path differ = rw (called_more paths n path, same_differs (paths n) path differ) (or_none (called paths n path))
 
 module _ {S : Type 0} where
   more_at : (h : Hierarchy) (paths : ℕ → Path) (n : ℕ) (old new : HashMap (Vec ℕ Global) ℕ S) (s : ℕ) (name : List ℕ) (r : ℕ) → AreSeen h paths n old → IsFirst h s → paths n ≡ scope_path h s ++ name ∷ [] →
@@ -114,14 +110,15 @@ first_push h n r firsts are found = record {
       (cases_eq s n);
 }
 
+pub top_called : (h : Hierarchy) → 1 ≤ length h.scopes → scope_called h [] ≡ Some 0
+top_called h some = is_called (scope_path h) (length h.scopes) [] 0 (record { within = omega (arith, some); here = refl; before = λ k less. absurd (omega (arith, less)) })
+
 pub top_first : (h : Hierarchy) → 1 ≤ length h.scopes → AreFirst h 1 (0 ∷ [])
 top_first h some = record {
   size = refl;
   each = λ s below.
       let top : s ≡ 0 = omega (arith, below) in
-      let at_top : scope_called h (scope_path h 0) ≡ Some 0 =
-      is_called (scope_path h) (length h.scopes) [] 0 (record { within = omega (arith, some); here = refl; before = λ k less. absurd (omega (arith, less)) }) in
-      subst (λ (k : ℕ). scope_called h (scope_path h k) ≡ Some (slice_index_or (0 ∷ []) k 0)) (sym top) at_top;
+      subst (λ (k : ℕ). scope_called h (scope_path h k) ≡ Some (slice_index_or (0 ∷ []) k 0)) (sym top) (top_called h some);
 }
 
 pub none_in_top : (h : Hierarchy) (path : Path) (name : List ℕ) → called (scope_path h) 1 (path ++ name ∷ []) ≡ None
@@ -154,9 +151,6 @@ module _ {S : Type 0} where
       ∙ ap (λ (p : Path). called paths count (p ++ name ∷ [])) (called_is (scope_path h) (length h.scopes) base s (sym at)).here
 
 -- ---- the top
-pub top_called : (h : Hierarchy) → 1 ≤ length h.scopes → scope_called h [] ≡ Some 0
-top_called h some = is_called (scope_path h) (length h.scopes) [] 0 (record { within = omega (arith, some); here = refl; before = λ k less. absurd (omega (arith, less)) })
-
 pub no_leaf_at_top : (h : Hierarchy) → leaf_called h [] ≡ None
 no_leaf_at_top h = none_called (leaf_path h) (length h.leaves) [] (λ k below same. snoc_not_nil (scope_path h (leaf_at h k).scope) (leaf_at h k).name (sym same))
 

@@ -2,6 +2,7 @@
 use Rattle.std.proofs.Common.{◌≡◌, ◌<◌, ◌≤◌, ◌+◌, ℕ, zero, suc, Bool, true, false, not, ◌&&◌, List, [], ◌∷◌, ◌++◌, length, get_or, bytes_eq, Some, None, refl, sym, ap, ◌∙◌, arith, append_assoc, append-nil, drop, take, ◌-◌}
 use Rattle.std.proofs.lemmas.List.{drop_more, drop_all, take_more, take_all, get_or_default}
 use Rattle.std.proofs.Math.Bool.{and-false}
+use Rattle.std.proofs.lemmas.Bool.{and_parts}
 use Rattle.std.proofs.lemmas.Slice.Eq.{bytes_eq-Decides}
 use Rattle.mintc_hierarchy.specs.declared.hierarchy.Hierarchy.{Hierarchy}
 use Rattle.mintc_speaking.specs.Names.{HasNames}
@@ -17,27 +18,17 @@ Path = List (List ℕ)
 -- ---- equal paths
 pub same_lengths : (a b : Path) → (length a ≡ length b → ⊥) → same_path a b ≡ false
 same_lengths [] [] differ = absurd (differ refl)
-same_lengths [] (y ∷ ys) differ = refl
-same_lengths (x ∷ xs) [] differ = refl
 same_lengths (x ∷ xs) (y ∷ ys) differ = ap (λ b. bytes_eq x y && b) (same_lengths xs ys (λ e. differ (ap suc e))) ∙ and-false (bytes_eq x y)
+same_lengths _ _ differ = refl
 
 pub same_self : (a : Path) → same_path a a ≡ true
 same_self [] = refl
 same_self (x ∷ xs) = ap (λ b. b && same_path xs xs) ((bytes_eq-Decides x x).1 refl) ∙ same_self xs
 
-both_true : (a b : Bool) → (a && b) ≡ true → (a ≡ true) × (b ≡ true)
-both_true true b h = (refl, h)
-both_true false b h = absurd (cc)
-
 pub same_is : (a b : Path) → same_path a b ≡ true → a ≡ b
 same_is [] [] h = refl
-same_is [] (y ∷ ys) h = absurd (cc)
-same_is (x ∷ xs) [] h = absurd (cc)
-same_is (x ∷ xs) (y ∷ ys) h =
-    let parts = both_true (bytes_eq x y) (same_path xs ys) h in
-    let head : x ≡ y = (bytes_eq-Decides x y).0 parts.0 in
-    let tail : xs ≡ ys = same_is xs ys parts.1 in
-    cc
+same_is (x ∷ xs) (y ∷ ys) h = let parts = and_parts (bytes_eq x y) (same_path xs ys) h in cc ((bytes_eq-Decides x y).0 parts.0, same_is xs ys parts.1)
+same_is _ _ h = absurd (cc)
 
 differ_by : (a b : Path) (t : Bool) → same_path a b ≡ t → (a ≡ b → ⊥) → same_path a b ≡ false
 differ_by a b true same differ = absurd (differ (same_is a b same))
@@ -50,23 +41,19 @@ same_differs a b differ = differ_by a b (same_path a b) refl differ
 pub same_step : (a b : Path) (n : ℕ) → n < length a → n < length b → same_path (drop n a) (drop n b) ≡ (bytes_eq (get_or a n []) (get_or b n []) && same_path (drop (n + 1) a) (drop (n + 1) b))
 same_step a b n left right = ap (λ (p : Path). same_path p (drop n b)) (drop_more a n [] left) ∙ ap (same_path (get_or a n [] ∷ drop (n + 1) a)) (drop_more b n [] right)
 
--- a path with one more name has one front and one name
-pub snoc_same : (xs ys : Path) (x y : List ℕ) → xs ++ x ∷ [] ≡ ys ++ y ∷ [] → (xs ≡ ys) × (x ≡ y)
-snoc_same [] [] x y e = (refl, cc)
-snoc_same [] (b ∷ []) x y e = absurd (cc)
-snoc_same [] (b ∷ c ∷ ys) x y e = absurd (cc)
-snoc_same (a ∷ []) [] x y e = absurd (cc)
-snoc_same (a ∷ c ∷ xs) [] x y e = absurd (cc)
-snoc_same (a ∷ xs) (b ∷ ys) x y e =
-    let rest : xs ++ x ∷ [] ≡ ys ++ y ∷ [] = cc in
-    let head : a ≡ b = cc in
-    let more = snoc_same xs ys x y rest in
-    let tail : xs ≡ ys = more.0 in
-    (cc, more.1)
-
 pub snoc_not_nil : (xs : Path) (x : List ℕ) → [] ≡ xs ++ x ∷ [] → ⊥
 snoc_not_nil [] x e = cc
 snoc_not_nil (a ∷ xs) x e = cc
+
+-- a path with one more name has one front and one name
+pub snoc_same : (xs ys : Path) (x y : List ℕ) → xs ++ x ∷ [] ≡ ys ++ y ∷ [] → (xs ≡ ys) × (x ≡ y)
+snoc_same [] [] x y e = (refl, cc)
+snoc_same [] (b ∷ ys) x y e = absurd (snoc_not_nil ys y (cc))
+snoc_same (a ∷ xs) [] x y e = absurd (snoc_not_nil xs x (cc))
+snoc_same (a ∷ xs) (b ∷ ys) x y e =
+    let rest : xs ++ x ∷ [] ≡ ys ++ y ∷ [] = cc in
+    let more = snoc_same xs ys x y rest in
+    (cc, more.1)
 
 -- ---- the first of so many
 pub record IsCalled (paths : ℕ → Path) (count : ℕ) (path : Path) (i : ℕ) : Type 0 where
@@ -130,27 +117,20 @@ no_scope_along h path (name ∷ rest) names none =
 
 -- ---- a step of a loop over two paths
 not_true : (b : Bool) → not b ≡ true → b ≡ false
-not_true true h = absurd (cc)
-not_true false h = refl
+not_true b h = grind arith
 
 not_false : (b : Bool) → not b ≡ false → b ≡ true
-not_false true h = refl
-not_false false h = absurd (cc)
+not_false b h = grind arith
 
 names_at : (a b : Path) (n : ℕ) (x y : List ℕ) → n < length a → length a ≡ length b → x ≡ get_or a n x → y ≡ get_or b n y → bytes_eq (get_or a n []) (get_or b n []) ≡ bytes_eq x y
-names_at a b n x y within lengths left right =
-    let first : get_or a n [] ≡ x = get_or_default a n [] x within ∙ sym left in
-    let second : get_or b n [] ≡ y = get_or_default b n [] y (omega (arith, within, lengths)) ∙ sym right in
-    ap (λ (z : List ℕ). bytes_eq z (get_or b n [])) first ∙ ap (bytes_eq x) second
+names_at a b n x y within lengths left right = rw (get_or_default a n [] x within, get_or_default b n [] y (omega (arith, within, lengths)), ← left, ← right) refl
 
 pub differ_at : (a b : Path) (n : ℕ) (x y : List ℕ) → n < length a → length a ≡ length b → x ≡ get_or a n x → y ≡ get_or b n y → not (bytes_eq x y) ≡ true → same_path (drop n a) (drop n b) ≡ false
-differ_at a b n x y within lengths left right test =
-    same_step a b n within (omega (arith, within, lengths)) ∙ ap (λ t. t && same_path (drop (n + 1) a) (drop (n + 1) b)) (names_at a b n x y within lengths left right ∙ not_true (bytes_eq x y) test)
+differ_at a b n x y within lengths left right test = rw (same_step a b n within (omega (arith, within, lengths)), names_at a b n x y within lengths left right, not_true (bytes_eq x y) test) refl
 
 pub alike_at : (a b : Path) (n : ℕ) (x y : List ℕ) → n < length a → length a ≡ length b → x ≡ get_or a n x → y ≡ get_or b n y → not (bytes_eq x y) ≡ false →
     same_path (drop n a) (drop n b) ≡ same_path (drop (n + 1) a) (drop (n + 1) b)
-alike_at a b n x y within lengths left right test =
-    same_step a b n within (omega (arith, within, lengths)) ∙ ap (λ t. t && same_path (drop (n + 1) a) (drop (n + 1) b)) (names_at a b n x y within lengths left right ∙ not_false (bytes_eq x y) test)
+alike_at a b n x y within lengths left right test = rw (same_step a b n within (omega (arith, within, lengths)), names_at a b n x y within lengths left right, not_false (bytes_eq x y) test) refl
 
 pub alike_past : (a b : Path) (n : ℕ) → length a ≤ n → length a ≡ length b → same_path (drop n a) (drop n b) ≡ true
 alike_past a b n past lengths = ap (λ (p : Path). same_path p (drop n b)) (drop_all n a past) ∙ ap (same_path []) (drop_all n b (omega (arith, past, lengths)))

@@ -1,5 +1,5 @@
 -- Places by their texts, as a map of them grows.
-use Rattle.std.proofs.Common.{◌≡◌, ◌<◌, ◌+◌, ◌==◌, ◌&&◌, ℕ, Bool, true, false, cond, List, [], ◌∷◌, ◌++◌, map, find, length, take, get_or, bytes_eq, Option, Some, None, is_some, option_map, refl, sym, ap, ◌∙◌, subst, arith, append-nil, Vec, Global, All}
+use Rattle.std.proofs.Common.{◌≡◌, ◌<◌, ◌+◌, ◌==◌, ◌&&◌, ℕ, Bool, true, false, cond, List, [], ◌∷◌, map, find, length, take, get_or, bytes_eq, Option, Some, None, is_some, option_map, refl, sym, ap, ◌∙◌, subst, arith, append-nil, Vec, Global, All}
 use Rattle.std.specs.Option.{option_or}
 use Rattle.std.specs.HashMap.{HashMap}
 use Rattle.std.proofs.lemmas.List.{map-append, length-map, take_more}
@@ -11,27 +11,23 @@ use Rattle.mintc_hierarchy.specs.declared.hierarchy.Hierarchy.{Hierarchy}
 use Rattle.mintc_hierarchy.specs.declared.hierarchy.TopPort.{TopPort}
 use Rattle.mintc_hierarchy.specs.Shape.{CellTable, IsFlattened}
 use Rattle.mintc_speaking.specs.Pins.{all_names, inner_name}
-use Rattle.std.proofs.lemmas.Bool.{eqb-true}
+use Rattle.std.proofs.lemmas.Bool.{eqb-true, and_parts}
 use Rattle.mintc_speaking.specs.declared.ports.PortBit.{PortBit}
 use Rattle.mintc_speaking.specs.Ports.{port_bit, port_bits, whole_port, bit_called, place_of, AreInside}
 use Rattle.mintc_speaking.specs.Places.{place_at, HasPlaces, only, whole_of, among_bits}
 
 -- ---- options
 pub or_none : (o : Option PortBit) → o ≡ option_or o None
-or_none None = refl
-or_none (Some p) = refl
+or_none o = grind arith
 
 pub or_assoc : (a b c : Option PortBit) → option_or (option_or a b) c ≡ option_or a (option_or b c)
-or_assoc None b c = refl
-or_assoc (Some p) b c = refl
+or_assoc a b c = grind arith
 
 put_by : (text k : List ℕ) (place : PortBit) (o : Option PortBit) (b : Bool) → (b ≡ true → o ≡ None) → cond b (Some place) o ≡ option_or o (cond b (Some place) None)
-put_by text k place o true none = ap (λ (x : Option PortBit). option_or x (Some place)) (sym (none refl))
-put_by text k place o false none = or_none o
+put_by text k place o b none = grind arith
 
 is_none : (o : Option PortBit) → is_some o ≡ false → o ≡ None
-is_none None no_some = refl
-is_none (Some p) no_some = absurd (cc)
+is_none o no_some = grind arith
 
 module _ {S : Type 0} where
   -- a text that has no place gets one
@@ -45,12 +41,10 @@ module _ {S : Type 0} where
 
 -- ---- ports of one bit
 map_or : (f : TopPort → PortBit) (a b : Option TopPort) → option_map f (option_or a b) ≡ option_or (option_map f a) (option_map f b)
-map_or f None b = refl
-map_or f (Some p) b = refl
+map_or f a b = grind arith
 
 one_port : (f : TopPort → PortBit) (p : TopPort) (b : Bool) → option_map f (cond b (Some p) None) ≡ cond b (Some (f p)) None
-one_port f p true = refl
-one_port f p false = refl
+one_port f p b = grind arith
 
 abbrev whole_bit : TopPort → PortBit
 whole_bit p = port_bit p.output (get_or p.bits 0 0)
@@ -59,28 +53,16 @@ abbrev is_whole : List ℕ → TopPort → Bool
 is_whole k p = bytes_eq p.name k && (length p.bits == 1)
 
 pub whole_more : (ports : List TopPort) (n : ℕ) (port : TopPort) (k : List ℕ) → n < length ports → port ≡ get_or ports n port → whole_port (take (n + 1) ports) k ≡ option_or (whole_port (take n ports) k) (whole_of port k)
-whole_more ports n port k within is =
-    ap (λ (ps : List TopPort). whole_port ps k) (take_more ports n port within ∙ ap (λ (p : TopPort). take n ports ++ p ∷ []) (sym is))
-    ∙ ap (option_map whole_bit) (find-append (is_whole k) (take n ports) (port ∷ []))
-    ∙ map_or whole_bit (find (is_whole k) (take n ports)) (cond (is_whole k port) (Some port) None)
-    ∙ ap (option_or (whole_port (take n ports) k)) (one_port whole_bit port (is_whole k port))
+whole_more ports n port k within is = rw (take_more ports n port within, ← is, find-append, map_or, one_port) refl
 
 -- ---- bits
 pub among_more : (names : List (List ℕ)) (port : TopPort) (n bit : ℕ) (text k : List ℕ) → n < length port.bits → bit ≡ get_or port.bits n bit → text ≡ get_or names bit [] →
     among_bits names port (take (n + 1) port.bits) k ≡ option_or (among_bits names port (take n port.bits) k) (only text (port_bit port.output bit) k)
-among_more names port n bit text k within is called =
-    ap (λ (bs : List ℕ). among_bits names port bs k) (take_more port.bits n bit within ∙ ap (λ (b : ℕ). take n port.bits ++ b ∷ []) (sym is))
-    ∙ ap (find (λ p. bytes_eq (get_or names p.bit []) k)) (map-append (port_bit port.output) (take n port.bits) (bit ∷ []))
-    ∙ find-append (λ p. bytes_eq (get_or names p.bit []) k) (map (port_bit port.output) (take n port.bits)) (port_bit port.output bit ∷ [])
-    ∙ ap (λ (t : List ℕ). option_or (among_bits names port (take n port.bits) k) (only t (port_bit port.output bit) k)) (sym called)
+among_more names port n bit text k within is called = rw (take_more port.bits n bit within, ← is, map-append, find-append, called) refl
 
 pub called_more : (names : List (List ℕ)) (ports : List TopPort) (n : ℕ) (port : TopPort) (k : List ℕ) → n < length ports → port ≡ get_or ports n port →
     bit_called names (take (n + 1) ports) k ≡ option_or (bit_called names (take n ports) k) (among_bits names port port.bits k)
-called_more names ports n port k within is =
-    ap (λ (ps : List TopPort). bit_called names ps k) (take_more ports n port within ∙ ap (λ (p : TopPort). take n ports ++ p ∷ []) (sym is))
-    ∙ ap (find (λ p. bytes_eq (get_or names p.bit []) k)) (flat_map-append (λ (p : TopPort). map (port_bit p.output) p.bits) (take n ports) (port ∷ []))
-    ∙ find-append (λ p. bytes_eq (get_or names p.bit []) k) (port_bits (take n ports)) (map (port_bit port.output) port.bits ++ [])
-    ∙ ap (λ (l : List PortBit). option_or (bit_called names (take n ports) k) (find (λ p. bytes_eq (get_or names p.bit []) k) l)) (append-nil (map (port_bit port.output) port.bits))
+called_more names ports n port k within is = rw (take_more ports n port within, ← is, flat_map-append, find-append, append-nil) refl
 
 -- ---- places are bits that are there
 or_some : (a b : Option PortBit) (p : PortBit) (P : PortBit → Type 0) → option_or a b ≡ Some p → ((q : PortBit) → a ≡ Some q → P q) → ((q : PortBit) → b ≡ Some q → P q) → P p
@@ -109,15 +91,11 @@ whole_by : (count : ℕ) (q : TopPort) (b : Bool) (rest : Option TopPort) (p : P
 whole_by count q true rest p first is more = let bit : get_or q.bits 0 0 ≡ p.bit = cc in subst (λ (x : ℕ). x < count) bit (first refl)
 whole_by count q false rest p first is more = more p is
 
-right_true : (a b : Bool) → (a && b) ≡ true → b ≡ true
-right_true true b h = h
-right_true false b h = absurd (cc)
-
 whole_inside : (count : ℕ) (ports : List TopPort) (k : List ℕ) (p : PortBit) → AreInside count ports → whole_port ports k ≡ Some p → p.bit < count
 whole_inside count [] k p inside is = absurd (cc)
 whole_inside count (q ∷ ports) k p inside is =
     whole_by count q (is_whole k q) (find (is_whole k) ports) p
-    (λ test. let one : (length q.bits == 1) ≡ true = right_true (bytes_eq q.name k) (length q.bits == 1) test in
+    (λ test. let one : (length q.bits == 1) ≡ true = (and_parts (bytes_eq q.name k) (length q.bits == 1) test).1 in
     All-head (λ (x : TopPort). All (λ b. b < count) x.bits) q ports inside 0 0 (omega (arith, eqb-true (length q.bits) 1 one)))
     is (λ r found. whole_inside count ports k r (All-tail (λ (x : TopPort). All (λ b. b < count) x.bits) q ports inside) found)
 

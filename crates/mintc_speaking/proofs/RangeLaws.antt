@@ -1,5 +1,5 @@
 -- The least and the greatest of what is said, as it grows.
-use Rattle.std.proofs.Common.{◌≡◌, ℤ, Bool, true, false, cond, List, [], ◌∷◌, ◌++◌, Option, Some, None, refl, ap, ◌∙◌, arith}
+use Rattle.std.proofs.Common.{◌≡◌, ℤ, Bool, true, cond, List, [], ◌∷◌, ◌++◌, Option, Some, None, refl, ap, ◌∙◌, arith}
 use Rattle.std.proofs.lemmas.Int.{ints, int_min_is, int_max_is}
 use Rattle.std.specs.Int.{int_min, int_max}
 use Rattle.mintc_speaking.specs.Speaking.{Matter, Said, same_matter, widened, range_of}
@@ -24,9 +24,7 @@ widened_swap a b c d (Some r) = ap (λ (x : ℤ). (x, int_max b (int_max d r.1))
 swap : (s t : Bool) (a b c d : ℤ) (r : Option (ℤ × ℤ)) →
     cond s (Some (widened a b (cond t (Some (widened c d r)) r))) (cond t (Some (widened c d r)) r) ≡ cond t (Some (widened c d (cond s (Some (widened a b r)) r))) (cond s (Some (widened a b r)) r)
 swap true true a b c d r = ap Some (widened_swap a b c d r)
-swap true false a b c d r = refl
-swap false true a b c d r = refl
-swap false false a b c d r = refl
+swap _ _ a b c d r = refl
 
 -- one more that is said
 pub range_push : (ss : List Said) (s : Said) (m : Matter) → range_of (ss ++ s ∷ []) m ≡ cond (same_matter s.matter m) (Some (widened s.least s.greatest (range_of ss m))) (range_of ss m)

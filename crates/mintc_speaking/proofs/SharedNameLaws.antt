@@ -48,16 +48,16 @@ path_below h m parents within =
     ap (λ (t : Bool). cond t [] (path_within h m (scope_at h (suc m)).parent ++ (scope_at h (suc m)).name ∷ [])) (not_top m)
     ∙ ap (λ l. l ++ (scope_at h (suc m)).name ∷ []) (enough h m (scope_at h (suc m)).parent (scope_at h (suc m)).parent parents (omega (arith, less, within)) (omega (arith, less)) (omega arith))
 
+-- a front and one more name
+pub front_push : (path : List (List ℕ)) (name : List ℕ) → front_of (path ++ name ∷ []) ≡ front_of path ++ (name ++ 46 ∷ [])
+front_push path name = flat_map-append (λ n. n ++ 46 ∷ []) path (name ∷ []) ∙ ap (λ l. front_of path ++ l) (append-nil (name ++ 46 ∷ []))
+
 -- the next front is that of the next scope
 next_is : (h : Hierarchy) (fronts : List (List ℕ)) (number : ℕ) → HasParents h → AreFronts h number fronts → number < length h.scopes → next_front fronts number (scope_at h number) ≡ front_of (scope_path h number)
 next_is h fronts zero parents are within = refl
 next_is h fronts (suc m) parents are within =
     let less = parents (suc m) no_scope (omega arith) within in
-    let name : List ℕ = (scope_at h (suc m)).name in
-    let parent : ℕ = (scope_at h (suc m)).parent in
-    let first : next_front fronts (suc m) (scope_at h (suc m)) ≡ slice_index_or fronts parent [] ++ name ++ 46 ∷ [] = rw (not_top m) refl in
-    first ∙ ap (λ l. l ++ name ++ 46 ∷ []) (are.each parent less) ∙ append_assoc (front_of (scope_path h parent)) name (46 ∷ []) ∙ ap (λ l. front_of (scope_path h parent) ++ l) (sym (append-nil (name ++ 46 ∷ [])))
-    ∙ sym (flat_map-append (λ n. n ++ 46 ∷ []) (scope_path h parent) (name ∷ [])) ∙ ap front_of (sym (path_below h m parents within))
+    rw (path_below h m parents within, front_push, not_top m, are.each (scope_at h (suc m)).parent less, append_assoc) refl
 
 pub fronts_push : (h : Hierarchy) (fronts : List (List ℕ)) (number : ℕ) (name : List ℕ) → HasParents h → AreFronts h number fronts → number < length h.scopes → name ≡ next_front fronts number (scope_at h number) →
     AreFronts h (number + 1) (fronts ++ name ∷ [])
@@ -75,9 +75,6 @@ fronts_push h fronts number name parents are within same = record {
 pub net_called : (h : Hierarchy) (scope : ℕ) (name : List ℕ) (index : Option ℕ) (front : List ℕ) → front ≡ front_of (scope_path h scope) → front ++ name ++ index_text index ≡ inner_name h (Net scope name index)
 net_called h scope name index front same =
     append_assoc front name (index_text index) ∙ ap (λ l. l ++ (name ++ index_text index)) same ∙ sym (dotted_push (scope_path h scope) (name ++ index_text index))
-
-front_push : (path : List (List ℕ)) (name : List ℕ) → front_of (path ++ name ∷ []) ≡ front_of path ++ (name ++ 46 ∷ [])
-front_push path name = flat_map-append (λ n. n ++ 46 ∷ []) path (name ∷ []) ∙ ap (λ l. front_of path ++ l) (append-nil (name ++ 46 ∷ []))
 
 pub pin_called : (h : Hierarchy) (l : ℕ) (leaf : Leaf) (pin front : List ℕ) → leaf_at h l ≡ leaf → front ≡ front_of (scope_path h leaf.scope) → (front ++ leaf.name ++ 46 ∷ []) ++ pin ++ [] ≡ inner_name h (Pin l pin)
 pin_called h l leaf pin front at same =

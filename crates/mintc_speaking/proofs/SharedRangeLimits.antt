@@ -1,8 +1,7 @@
 -- What is said lies within its limits.
-use Rattle.std.proofs.Common.{◌≡◌, ◌==◌, ℕ, ℤ, pos, neg_ℤ, ◌≤ℤ◌, Bool, true, false, cond, List, [], ◌∷◌, ◌++◌, map, All, Option, Some, None, option_map, refl, sym, subst, arith, ◌⊎◌, ⊎_elim, inl, inr}
+use Rattle.std.proofs.Common.{◌≡◌, ◌==◌, ℕ, ℤ, pos, neg_ℤ, ◌≤ℤ◌, Bool, true, false, cond, List, [], ◌∷◌, ◌++◌, map, All, Option, Some, None, option_map, refl, subst, arith}
 use Rattle.std.proofs.lemmas.Int.{ints, int_min_is, int_max_is}
 use Rattle.std.proofs.lemmas.List.Elements.{All-head, All-tail}
-use Rattle.std.specs.Int.{int_min, int_max}
 use Rattle.std.specs.Prelude.{int_lt}
 use Rattle.mintc_text.specs.declared.limits.TheConstants.{MOST_DELAY}
 use Rattle.mintc_cells.specs.declared.cell.Cell.{Cell}
@@ -18,7 +17,7 @@ use Rattle.mintc_speaking.specs.declared.ports.PortBit.{PortBit}
 use Rattle.mintc_hierarchy.specs.Shape.{CellTable}
 use Rattle.mintc_speaking.specs.Pins.{leaf_cell, input_pin, output_pin, pin_bit}
 use Rattle.mintc_speaking.specs.Ports.{place_of}
-use Rattle.mintc_speaking.specs.Speaking.{Matter, path_on, join_into, arcs_from, dq_of, cq_of, setup_of, hold_of, width_of, Spoken, of, no_instance, no_arc, of_path, of_check, pins_named, both, of_leaf, at_port, into, at_pin, of_interconnect, of_instance, is_scope, leaf_called, together, of_each, of_every, leaves_of, of_place, spoken, matters, Said, said_by, said, same_matter, widened, range_of}
+use Rattle.mintc_speaking.specs.Speaking.{Matter, join_into, arcs_from, dq_of, cq_of, setup_of, hold_of, width_of, Spoken, of, no_instance, of_path, of_check, pins_named, both, of_leaf, at_port, into, at_pin, of_interconnect, of_instance, is_scope, leaf_called, together, of_each, of_every, leaves_of, of_place, spoken, matters, Said, said_by, said, same_matter, widened, range_of}
 
 -- a delay in femtoseconds, and a time that may be negative
 abbrev pub IsDelay : ℤ → Type 0
@@ -34,70 +33,13 @@ IsOf (hold_of l) x = IsGap x
 IsOf _ x = IsDelay x
 
 same_limits : (a b : Matter) (x : ℤ) → same_matter a b ≡ true → IsOf a x → IsOf b x
-same_limits (path_on a0 a1 a2) (path_on b0 b1 b2) x e h = h
-same_limits (path_on a0 a1 a2) (join_into b0) x e h = h
-same_limits (path_on a0 a1 a2) (arcs_from b0) x e h = h
-same_limits (path_on a0 a1 a2) (dq_of b0) x e h = h
-same_limits (path_on a0 a1 a2) (cq_of b0) x e h = h
-same_limits (path_on a0 a1 a2) (setup_of b0) x e h = absurd (cc)
-same_limits (path_on a0 a1 a2) (hold_of b0) x e h = absurd (cc)
-same_limits (path_on a0 a1 a2) (width_of b0) x e h = h
-same_limits (join_into a0) (path_on b0 b1 b2) x e h = h
-same_limits (join_into a0) (join_into b0) x e h = h
-same_limits (join_into a0) (arcs_from b0) x e h = h
-same_limits (join_into a0) (dq_of b0) x e h = h
-same_limits (join_into a0) (cq_of b0) x e h = h
-same_limits (join_into a0) (setup_of b0) x e h = absurd (cc)
-same_limits (join_into a0) (hold_of b0) x e h = absurd (cc)
-same_limits (join_into a0) (width_of b0) x e h = h
-same_limits (arcs_from a0) (path_on b0 b1 b2) x e h = h
-same_limits (arcs_from a0) (join_into b0) x e h = h
-same_limits (arcs_from a0) (arcs_from b0) x e h = h
-same_limits (arcs_from a0) (dq_of b0) x e h = h
-same_limits (arcs_from a0) (cq_of b0) x e h = h
-same_limits (arcs_from a0) (setup_of b0) x e h = absurd (cc)
-same_limits (arcs_from a0) (hold_of b0) x e h = absurd (cc)
-same_limits (arcs_from a0) (width_of b0) x e h = h
-same_limits (dq_of a0) (path_on b0 b1 b2) x e h = h
-same_limits (dq_of a0) (join_into b0) x e h = h
-same_limits (dq_of a0) (arcs_from b0) x e h = h
-same_limits (dq_of a0) (dq_of b0) x e h = h
-same_limits (dq_of a0) (cq_of b0) x e h = h
-same_limits (dq_of a0) (setup_of b0) x e h = absurd (cc)
-same_limits (dq_of a0) (hold_of b0) x e h = absurd (cc)
-same_limits (dq_of a0) (width_of b0) x e h = h
-same_limits (cq_of a0) (path_on b0 b1 b2) x e h = h
-same_limits (cq_of a0) (join_into b0) x e h = h
-same_limits (cq_of a0) (arcs_from b0) x e h = h
-same_limits (cq_of a0) (dq_of b0) x e h = h
-same_limits (cq_of a0) (cq_of b0) x e h = h
-same_limits (cq_of a0) (setup_of b0) x e h = absurd (cc)
-same_limits (cq_of a0) (hold_of b0) x e h = absurd (cc)
-same_limits (cq_of a0) (width_of b0) x e h = h
-same_limits (setup_of a0) (path_on b0 b1 b2) x e h = absurd (cc)
-same_limits (setup_of a0) (join_into b0) x e h = absurd (cc)
-same_limits (setup_of a0) (arcs_from b0) x e h = absurd (cc)
-same_limits (setup_of a0) (dq_of b0) x e h = absurd (cc)
-same_limits (setup_of a0) (cq_of b0) x e h = absurd (cc)
-same_limits (setup_of a0) (setup_of b0) x e h = h
-same_limits (setup_of a0) (hold_of b0) x e h = h
-same_limits (setup_of a0) (width_of b0) x e h = absurd (cc)
-same_limits (hold_of a0) (path_on b0 b1 b2) x e h = absurd (cc)
-same_limits (hold_of a0) (join_into b0) x e h = absurd (cc)
-same_limits (hold_of a0) (arcs_from b0) x e h = absurd (cc)
-same_limits (hold_of a0) (dq_of b0) x e h = absurd (cc)
-same_limits (hold_of a0) (cq_of b0) x e h = absurd (cc)
-same_limits (hold_of a0) (setup_of b0) x e h = h
-same_limits (hold_of a0) (hold_of b0) x e h = h
-same_limits (hold_of a0) (width_of b0) x e h = absurd (cc)
-same_limits (width_of a0) (path_on b0 b1 b2) x e h = h
-same_limits (width_of a0) (join_into b0) x e h = h
-same_limits (width_of a0) (arcs_from b0) x e h = h
-same_limits (width_of a0) (dq_of b0) x e h = h
-same_limits (width_of a0) (cq_of b0) x e h = h
-same_limits (width_of a0) (setup_of b0) x e h = absurd (cc)
-same_limits (width_of a0) (hold_of b0) x e h = absurd (cc)
-same_limits (width_of a0) (width_of b0) x e h = h
+same_limits (setup_of l) (setup_of k) x e h = h
+same_limits (hold_of l) (hold_of k) x e h = h
+same_limits (setup_of l) _ x e h = absurd (cc)
+same_limits (hold_of l) _ x e h = absurd (cc)
+same_limits _ (setup_of l) x e h = absurd (cc)
+same_limits _ (hold_of l) x e h = absurd (cc)
+same_limits _ _ x e h = h
 
 -- the numbers of a subject
 abbrev pub IsFor : Subject → ℤ → Type 0
@@ -120,32 +62,28 @@ fits_pins : {A : Type 0} (s : Subject) (f : A → List Matter) (o : Option A) �
 fits_pins s f None give = tt
 fits_pins s f (Some x) give = give x
 
-fit_if : (s : Subject) (b : Bool) (ms ns : List Matter) → Fit s ms → Fit s ns → Fit s (cond b ms ns)
-fit_if s true ms ns a b = a
-fit_if s false ms ns a b = b
+either : {A : Type 0} (P : A → Type 0) (b : Bool) (x y : A) → P x → P y → P (cond b x y)
+either P true x y a b = a
+either P false x y a b = b
 
 fit_path : (from to : List ℕ) (l : ℕ) (cell : Cell) (i o : ℕ) → Fit (subject.Iopath from to) (of_path l cell i o)
 fit_path from to l (Gate a b c d) i o = ((λ x h. h), tt)
 fit_path from to l (Latch a b c d e f g j k m n p q r) i o =
-    fit_if (subject.Iopath from to) (i == 0) (dq_of l ∷ []) (cond (i == 1) (cq_of l ∷ []) []) ((λ x h. h), tt) (fit_if (subject.Iopath from to) (i == 1) (cq_of l ∷ []) [] ((λ x h. h), tt) tt)
-fit_path from to l (Flop a b c d e f g j k m n) i o = fit_if (subject.Iopath from to) (i == 1) (dq_of l ∷ []) [] ((λ x h. h), tt) tt
+    either (Fit (subject.Iopath from to)) (i == 0) (dq_of l ∷ []) (cond (i == 1) (cq_of l ∷ []) []) ((λ x h. h), tt) (either (Fit (subject.Iopath from to)) (i == 1) (cq_of l ∷ []) [] ((λ x h. h), tt) tt)
+fit_path from to l (Flop a b c d e f g j k m n) i o = either (Fit (subject.Iopath from to)) (i == 1) (dq_of l ∷ []) [] ((λ x h. h), tt) tt
 fit_path from to l (Clock a b c d) i o = tt
 
 fits_leaf : (h : Hierarchy) (cells : CellTable) (l : ℕ) (s : Subject) → Fits s (of_leaf h cells l s)
 fits_leaf h cells l (subject.Iopath from to) = fits_pins (subject.Iopath from to) (λ p. of_path l (leaf_cell h cells l) p.0 p.1) (both (input_pin (leaf_cell h cells l) from) (output_pin (leaf_cell h cells l) to)) (λ p. fit_path from to l (leaf_cell h cells l) p.0 p.1)
 fits_leaf h cells l (subject.Port pin) = fits_pins (subject.Port pin) (λ i. join_into (pin_bit h l i) ∷ []) (input_pin (leaf_cell h cells l) pin) (λ i. ((λ x h. h), tt))
-fits_leaf h cells l (subject.Setup pin) = fits_pins (subject.Setup pin) (of_check (leaf_cell h cells l) 0 (setup_of l)) (input_pin (leaf_cell h cells l) pin) (λ i. fit_if (subject.Setup pin) _ (setup_of l ∷ []) [] ((λ x h. h), tt) tt)
-fits_leaf h cells l (subject.Hold pin) = fits_pins (subject.Hold pin) (of_check (leaf_cell h cells l) 0 (hold_of l)) (input_pin (leaf_cell h cells l) pin) (λ i. fit_if (subject.Hold pin) _ (hold_of l ∷ []) [] ((λ x h. h), tt) tt)
-fits_leaf h cells l (subject.Width pin) = fits_pins (subject.Width pin) (of_check (leaf_cell h cells l) 1 (width_of l)) (input_pin (leaf_cell h cells l) pin) (λ i. fit_if (subject.Width pin) _ (width_of l ∷ []) [] ((λ x h. h), tt) tt)
+fits_leaf h cells l (subject.Setup pin) = fits_pins (subject.Setup pin) (of_check (leaf_cell h cells l) 0 (setup_of l)) (input_pin (leaf_cell h cells l) pin) (λ i. either (Fit (subject.Setup pin)) _ (setup_of l ∷ []) [] ((λ x h. h), tt) tt)
+fits_leaf h cells l (subject.Hold pin) = fits_pins (subject.Hold pin) (of_check (leaf_cell h cells l) 0 (hold_of l)) (input_pin (leaf_cell h cells l) pin) (λ i. either (Fit (subject.Hold pin)) _ (hold_of l ∷ []) [] ((λ x h. h), tt) tt)
+fits_leaf h cells l (subject.Width pin) = fits_pins (subject.Width pin) (of_check (leaf_cell h cells l) 1 (width_of l)) (input_pin (leaf_cell h cells l) pin) (λ i. either (Fit (subject.Width pin)) _ (width_of l ∷ []) [] ((λ x h. h), tt) tt)
 fits_leaf h cells l (subject.Interconnect to) = tt
-
-fits_if : (s : Subject) (b : Bool) (x y : Spoken) → Fits s x → Fits s y → Fits s (cond b x y)
-fits_if s true x y a b = a
-fits_if s false x y a b = b
 
 fits_port : (to : List (List ℕ)) (o : Option PortBit) → Fits (subject.Interconnect to) (at_port o)
 fits_port to None = tt
-fits_port to (Some p) = fits_if (subject.Interconnect to) p.output (of (arcs_from p.bit ∷ [])) no_instance ((λ x h. h), tt) tt
+fits_port to (Some p) = either (Fits (subject.Interconnect to)) p.output (of (arcs_from p.bit ∷ [])) no_instance ((λ x h. h), tt) tt
 
 fits_into : (to : List (List ℕ)) (o : Option ℕ) → Fits (subject.Interconnect to) (into o)
 fits_into to None = tt
@@ -162,24 +100,13 @@ fits_interconnect h cells to (name ∷ next ∷ path) = fits_pin h cells to _ _
 
 fits_instance : (h : Hierarchy) (cells : CellTable) (path : List (List ℕ)) (s : Subject) (o : Option ℕ) → Fits s (of_instance h cells path s o)
 fits_instance h cells path (subject.Interconnect to) (Some l) = fits_interconnect h cells to (path ++ to)
-fits_instance h cells path (subject.Interconnect to) None = fits_if (subject.Interconnect to) (is_scope h path) (of_interconnect h cells (path ++ to)) no_instance (fits_interconnect h cells to (path ++ to)) tt
-fits_instance h cells path (subject.Iopath from to) (Some l) = fits_leaf h cells l (subject.Iopath from to)
-fits_instance h cells path (subject.Port pin) (Some l) = fits_leaf h cells l (subject.Port pin)
-fits_instance h cells path (subject.Setup pin) (Some l) = fits_leaf h cells l (subject.Setup pin)
-fits_instance h cells path (subject.Hold pin) (Some l) = fits_leaf h cells l (subject.Hold pin)
-fits_instance h cells path (subject.Width pin) (Some l) = fits_leaf h cells l (subject.Width pin)
-fits_instance h cells path (subject.Iopath from to) None = tt
-fits_instance h cells path (subject.Port pin) None = tt
-fits_instance h cells path (subject.Setup pin) None = tt
-fits_instance h cells path (subject.Hold pin) None = tt
-fits_instance h cells path (subject.Width pin) None = tt
+fits_instance h cells path (subject.Interconnect to) None = either (Fits (subject.Interconnect to)) (is_scope h path) (of_interconnect h cells (path ++ to)) no_instance (fits_interconnect h cells to (path ++ to)) tt
+fits_instance h cells path s (Some l) = fits_leaf h cells l s
+fits_instance h cells path _ None = tt
 
 fits_together : (s : Subject) (a b : Spoken) → Fits s a → Fits s b → Fits s (together a b)
 fits_together s (of ms) (of ns) x y = fit-append s ms ns x y
-fits_together s (of ms) no_instance x y = tt
-fits_together s (of ms) no_arc x y = tt
-fits_together s no_instance b x y = tt
-fits_together s no_arc b x y = tt
+fits_together s _ _ x y = tt
 
 fits_each : (h : Hierarchy) (cells : CellTable) (s : Subject) (ls : List ℕ) → Fits s (of_each h cells s ls)
 fits_each h cells s [] = tt
@@ -187,11 +114,7 @@ fits_each h cells s (l ∷ ls) = fits_together s (of_leaf h cells l s) (of_each 
 
 fits_every : (h : Hierarchy) (cells : CellTable) (celltype : List ℕ) (s : Subject) → Fits s (of_every h cells celltype s)
 fits_every h cells celltype (subject.Interconnect to) = tt
-fits_every h cells celltype (subject.Iopath from to) = fits_each h cells (subject.Iopath from to) (leaves_of h cells celltype)
-fits_every h cells celltype (subject.Port pin) = fits_each h cells (subject.Port pin) (leaves_of h cells celltype)
-fits_every h cells celltype (subject.Setup pin) = fits_each h cells (subject.Setup pin) (leaves_of h cells celltype)
-fits_every h cells celltype (subject.Hold pin) = fits_each h cells (subject.Hold pin) (leaves_of h cells celltype)
-fits_every h cells celltype (subject.Width pin) = fits_each h cells (subject.Width pin) (leaves_of h cells celltype)
+fits_every h cells celltype s = fits_each h cells s (leaves_of h cells celltype)
 
 fits_place : (h : Hierarchy) (cells : CellTable) (d : Delay) (p : Place) → Fits d.subject (of_place h cells d p)
 fits_place h cells d Top = fits_instance h cells [] d.subject None
@@ -215,15 +138,11 @@ AreSaid-append (s ∷ ss) ts a b = (a.0, AreSaid-append ss ts a.1 b)
 said_of : (d : Delay) (ms : List Matter) → IsWithin d → Fit d.subject ms → AreSaid (map (λ m. record { matter = m; least = d.least; greatest = d.greatest }) ms)
 said_of d [] sound fit = tt
 said_of d (m ∷ ms) sound fit =
-    let low = sound.0 in
-    let order = sound.1 in
-    let high = sound.2 in
-    (record { low = fit.0 d.least (low, omega (arith, ints, order, high)); high = fit.0 d.greatest (omega (arith, ints, low, order), high); ordered = order }, said_of d ms sound fit.1)
+    (record { low = fit.0 d.least (sound.0, omega (arith, ints)); high = fit.0 d.greatest (omega (arith, ints), sound.2); ordered = sound.1 }, said_of d ms sound fit.1)
 
 fit_matters : (s : Subject) (x : Spoken) → Fits s x → Fit s (matters x)
 fit_matters s (of ms) h = h
-fit_matters s no_instance h = tt
-fit_matters s no_arc h = tt
+fit_matters s _ h = tt
 
 pub all_said : (h : Hierarchy) (cells : CellTable) (ds : List Delay) → All IsWithin ds → AreSaid (said h cells ds)
 all_said h cells [] sound = tt
@@ -238,31 +157,14 @@ pub record IsRange (m : Matter) (r : ℤ × ℤ) : Type 0 where
   pub high : IsOf m r.1
   pub ordered : r.0 ≤ℤ r.1
 
-either : (b : Bool) (x y : ℤ) → (cond b x y ≡ x) ⊎ (cond b x y ≡ y)
-either true x y = inl refl
-either false x y = inr refl
-
-min_either : (x y : ℤ) → (int_min x y ≡ x) ⊎ (int_min x y ≡ y)
-min_either x y = ⊎_elim inr inl (either (int_lt y x) y x)
-
-max_either : (x y : ℤ) → (int_max x y ≡ x) ⊎ (int_max x y ≡ y)
-max_either x y = either (int_lt y x) x y
-
-of_min : (m : Matter) (x y : ℤ) → IsOf m x → IsOf m y → IsOf m (int_min x y)
-of_min m x y a b = ⊎_elim (λ e. subst (IsOf m) (sym e) a) (λ e. subst (IsOf m) (sym e) b) (min_either x y)
-
-of_max : (m : Matter) (x y : ℤ) → IsOf m x → IsOf m y → IsOf m (int_max x y)
-of_max m x y a b = ⊎_elim (λ e. subst (IsOf m) (sym e) a) (λ e. subst (IsOf m) (sym e) b) (max_either x y)
-
 widened_in : (m : Matter) (least greatest : ℤ) (o : Option (ℤ × ℤ)) → IsOf m least → IsOf m greatest → least ≤ℤ greatest → ((q : ℤ × ℤ) → o ≡ Some q → IsRange m q) → IsRange m (widened least greatest o)
 widened_in m least greatest None low high ordered more = record { low = low; high = high; ordered = ordered }
 widened_in m least greatest (Some q) low high ordered more =
     let rest = more q refl in
-    let order = rest.ordered in
     record {
-      low = of_min m least q.0 low rest.low;
-      high = of_max m greatest q.1 high rest.high;
-      ordered = omega (arith, ints, int_min_is least q.0, int_max_is greatest q.1, ordered, order);
+      low = either (IsOf m) (int_lt q.0 least) q.0 least rest.low low;
+      high = either (IsOf m) (int_lt q.1 greatest) greatest q.1 high rest.high;
+      ordered = omega (arith, ints, int_min_is least q.0, int_max_is greatest q.1);
     }
 
 range_at : (b : Bool) (m : Matter) (s : Said) (o : Option (ℤ × ℤ)) (r : ℤ × ℤ) → same_matter s.matter m ≡ b → IsSaid s → ((q : ℤ × ℤ) → o ≡ Some q → IsRange m q) →

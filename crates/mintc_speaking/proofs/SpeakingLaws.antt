@@ -1,6 +1,8 @@
 -- What delays at an instance speak of.
 use Rattle.std.proofs.Common.{◌≡◌, ◌<◌, ◌≤◌, ◌-◌, ℕ, zero, suc, Bool, true, false, ◌||◌, cond, List, [], ◌∷◌, ◌++◌, length, take, get_or, position, Option, Some, None, is_some, IfSome, refl, sym, ap, ◌∙◌, arith, length-append}
 use Rattle.std.specs.List.{list_any, range_with_len}
+use Rattle.std.proofs.lemmas.Bool.{or_left, or_right}
+use Rattle.std.proofs.lemmas.List.Folds.{list_any_none}
 use Rattle.std.proofs.lemmas.List.{get_or_push, take-append-le, take_all}
 use Rattle.mintc_sdf.specs.declared.delays.Subject.{Subject}
 use Rattle.mintc_sdf.specs.declared.delays.Subject.TheVariants as subject
@@ -38,19 +40,11 @@ of_snoc h cells (x ∷ y ∷ rest) name some =
 -- ---- scopes
 any_from : (p : ℕ → Bool) (xs : List ℕ) (i d : ℕ) → i < length xs → p (get_or xs i d) ≡ true → list_any p xs ≡ true
 any_from p [] i d within here = absurd (omega (arith, within))
-any_from p (x ∷ xs) zero d within here = ap (λ b. b || list_any p xs) here
-any_from p (x ∷ xs) (suc i) d within here = ap (λ b. p x || b) (any_from p xs i d (omega (arith, within)) here) ∙ or_true (p x)
-  where
-    or_true : (b : Bool) → b || true ≡ true
-    or_true true = refl
-    or_true false = refl
-
-none_from : (p : ℕ → Bool) (xs : List ℕ) (d : ℕ) → ((k : ℕ) → k < length xs → p (get_or xs k d) ≡ false) → list_any p xs ≡ false
-none_from p [] d none = refl
-none_from p (x ∷ xs) d none = ap (λ b. b || list_any p xs) (none 0 (omega arith)) ∙ none_from p xs d (λ k below. none (suc k) (omega (arith, below)))
+any_from p (x ∷ xs) zero d within here = or_left (p x) (list_any p xs) here
+any_from p (x ∷ xs) (suc i) d within here = or_right (p x) (list_any p xs) (any_from p xs i d (omega (arith, within)) here)
 
 any_by : (p : ℕ → Bool) (xs : List ℕ) (o : Option ℕ) → position p xs ≡ o → list_any p xs ≡ is_some o
-any_by p xs None at = none_from p xs 0 (position_missing p xs 0 at)
+any_by p xs None at = list_any_none p xs (λ k d less. position_missing p xs d at k less)
 any_by p xs (Some i) at = let is = position-Some p xs i 0 at in any_from p xs i 0 is.0 is.1
 
 pub is_scope_called : (h : Hierarchy) (path : Path) → is_scope h path ≡ is_some (scope_called h path)
@@ -63,9 +57,8 @@ wire_by h cells path to None true scope there = ap (λ (t : Bool). cond t (of_in
 wire_by h cells path to None false scope there = absurd (cc)
 
 nothing_by : (h : Hierarchy) (cells : CellTable) (path to : Path) (leaf : Option ℕ) (b : Bool) → is_scope h path ≡ b → (is_some leaf || b) ≡ false → of_instance h cells path (subject.Interconnect to) leaf ≡ no_instance
-nothing_by h cells path to (Some l) b scope there = absurd (cc)
-nothing_by h cells path to None true scope there = absurd (cc)
 nothing_by h cells path to None false scope there = ap (λ (t : Bool). cond t (of_interconnect h cells (path ++ to)) no_instance) scope
+nothing_by h cells path to _ _ scope there = absurd (cc)
 
 there_is : (h : Hierarchy) (path : Path) (i : Instance) (b : Bool) → IsAt h path i → b ≡ (is_some i.leaf || is_some i.scope) → (is_some (leaf_called h path) || is_scope h path) ≡ b
 there_is h path i b at is =
@@ -85,13 +78,5 @@ IsNoWire s = (to : Path) → s ≡ subject.Interconnect to → ⊥
 
 pub other_at : (h : Hierarchy) (cells : CellTable) (path : Path) (s : Subject) (o : Option ℕ) → IsNoWire s → of_leaf_at h cells s o ≡ of_instance h cells path s o
 other_at h cells path (subject.Interconnect to) o none = absurd (none to refl)
-other_at h cells path (subject.Iopath from to) None none = refl
-other_at h cells path (subject.Iopath from to) (Some l) none = refl
-other_at h cells path (subject.Port pin) None none = refl
-other_at h cells path (subject.Port pin) (Some l) none = refl
-other_at h cells path (subject.Setup pin) None none = refl
-other_at h cells path (subject.Setup pin) (Some l) none = refl
-other_at h cells path (subject.Hold pin) None none = refl
-other_at h cells path (subject.Hold pin) (Some l) none = refl
-other_at h cells path (subject.Width pin) None none = refl
-other_at h cells path (subject.Width pin) (Some l) none = refl
+other_at h cells path _ None none = refl
+other_at h cells path _ (Some l) none = refl

@@ -5,12 +5,13 @@ use Rattle.mintc_hierarchy.specs.declared.hierarchy.Leaf.{Leaf}
 use Rattle.mintc_speaking.specs.Pins.{leaf_at, no_leaf}
 use Rattle.mintc_speaking.specs.Ranges.{look}
 use Rattle.std.specs.List.{range_with_len}
+use Rattle.std.proofs.lemmas.Result.{on_ok_weaker}
 use Rattle.mintc_timing.specs.declared.parts.TimingArc.{TimingArc}
 use Rattle.mintc_annotate.specs.Counts.{gate_at}
 use Rattle.mintc_annotate.specs.Made.{RangeOf, pin_arc}
 use Rattle.mintc_cells.specs.declared.cell.Cell.TheVariants.{Gate}
 use Rattle.mintc_annotate.specs.declared.arcs.GateAt.{GateAt}
-use Rattle.mintc_annotate.proofs.BuildLaws.{ok_then, gate_leaf}
+use Rattle.mintc_annotate.proofs.BuildLaws.{gate_leaf}
 use Rattle.mintc_annotate.proofs.arcs.push_leaf.Goals as goal
 
 pub returns-in-Gate : goal.returns-in-Gate
@@ -23,5 +24,5 @@ returns-in-Gate c =
     let arcs : GateAt → List TimingArc = λ g. flat_map (λ k. map (pin_arc ranges g.elements g.leaf g.first g.default k) (range_with_len g.inputs g.outputs)) (range_with_len 0 g.inputs) in
     let values : gate ≡ gate_at c.args.elements c.args.leaf c.index-items-leaf.result.first_pin (c.in-Gate.min, c.in-Gate.max) (length c.in-Gate.inputs) (length c.in-Gate.outputs) = c.gate_at-gate.ensures in
     let done : OnOk c.push_gate.result (c.push_gate.new.found.items ≡ c.args.found.now.items ++ arcs gate) = c.push_gate.ensures in
-    ok_then c.push_gate.result (c.push_gate.new.found.items ≡ c.args.found.now.items ++ arcs gate) _ (λ e. e ∙ ap (λ l. c.args.found.now.items ++ l) (ap arcs values
+    on_ok_weaker c.push_gate.result (λ e. e ∙ ap (λ l. c.args.found.now.items ++ l) (ap arcs values
     ∙ gate_leaf c.args.hierarchy.now c.args.cells.now ranges c.args.elements c.args.leaf leaf c.in-Gate.inputs c.in-Gate.outputs c.in-Gate.min c.in-Gate.max (length c.in-Gate.inputs) (length c.in-Gate.outputs) at is refl refl)) done

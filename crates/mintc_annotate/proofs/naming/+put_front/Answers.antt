@@ -1,8 +1,9 @@
 use Rattle.std.proofs.Common.{◌≡◌, ◌∙◌, ◌≤◌, ◌++◌, ◌∷◌, [], ℕ, List, slice_index_or, sym, ap, arith, append_assoc}
 use Rattle.std.proofs.lemmas.List.{get_or_default}
+use Rattle.std.proofs.lemmas.Result.{on_ok_weaker}
 use Rattle.mintc_speaking.specs.Pins.{no_scope, scope_at, scope_path}
 use Rattle.mintc_speaking.specs.Names.{front_of}
-use Rattle.mintc_annotate.proofs.BuildLaws.{ok_then, front_below}
+use Rattle.mintc_annotate.proofs.BuildLaws.{front_below}
 use Rattle.mintc_annotate.proofs.naming.+put_front.Goals as goal
 
 pub returns : goal.returns
@@ -12,7 +13,7 @@ returns t c =
     let some : 1 ≤ c.args.number = omega (arith, c.if-number-eq0.false) in
     let front : List ℕ = front_of (scope_path c.args.hierarchy.now c.index-items-number.result.parent) in
     let name : List ℕ = c.index-items-number.result.name in
-    ok_then c.put-2.result _ _ (λ e.
+    on_ok_weaker c.put-2.result (λ e.
     e ∙ ap (λ l. l ++ 46 ∷ []) (c.in_ok-put.ensures.ok ∙ ap (λ l. l ++ c.bytes.result.now) c.in_ok-put_front.ensures ∙ ap (λ l. c.args.lines.now ++ front ++ l) c.bytes.ensures)
     ∙ append_assoc (c.args.lines.now ++ front) name (46 ∷ []) ∙ append_assoc c.args.lines.now front (name ++ 46 ∷ [])
     ∙ ap (λ l. c.args.lines.now ++ l) (sym (front_below c.args.hierarchy.now c.args.number c.index-items-number.result c.requires.names.parents some c.requires.scope at))) c.put-2.ensures.ok

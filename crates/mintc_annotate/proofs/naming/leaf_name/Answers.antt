@@ -1,10 +1,10 @@
 use Rattle.std.proofs.Common.{◌≡◌, ◌∙◌, ◌++◌, ◌∷◌, [], ℕ, List, slice_index_or, sym, ap}
 use Rattle.std.proofs.lemmas.List.{get_or_default}
+use Rattle.std.proofs.lemmas.Result.{IfOk-weaker}
 use Rattle.mintc_hierarchy.specs.declared.hierarchy.Leaf.{Leaf}
 use Rattle.mintc_speaking.specs.Pins.{no_leaf, leaf_at, scope_path, dotted}
 use Rattle.mintc_speaking.specs.Names.{front_of}
 use Rattle.mintc_speaking.proofs.SharedNameLaws.{dotted_push}
-use Rattle.mintc_annotate.proofs.BuildLaws.{if_ok_then}
 use Rattle.mintc_annotate.proofs.naming.leaf_name.Goals as goal
 
 pub returns : goal.returns
@@ -14,5 +14,5 @@ returns c =
     let front : List ℕ = front_of (scope_path c.args.hierarchy.now c.index-items-number.result.scope) in
     let whole : c.deref.result.now ≡ front ++ c.index-items-number.result.name =
     c.deref.ensures.value ∙ c.into_bytes.ensures ∙ c.in_ok-put.ensures.ok ∙ ap (λ l. l ++ c.bytes.result.now) (c.in_ok-put_front.ensures ∙ ap (λ l. l ++ front) c.new-lines.ensures) ∙ ap (λ l. front ++ l) c.bytes.ensures in
-    if_ok_then c.new.result _ _ (λ name e. e ∙ whole ∙ sym (dotted_push (scope_path c.args.hierarchy.now c.index-items-number.result.scope) c.index-items-number.result.name)
+    IfOk-weaker c.new.result _ _ (λ name e. e ∙ whole ∙ sym (dotted_push (scope_path c.args.hierarchy.now c.index-items-number.result.scope) c.index-items-number.result.name)
     ∙ ap (λ (x : Leaf). dotted (scope_path c.args.hierarchy.now x.scope ++ x.name ∷ [])) (sym at)) c.new.ensures
