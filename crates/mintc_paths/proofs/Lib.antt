@@ -7,6 +7,7 @@ pub mod SharedWaking
 pub mod SharedClimbing
 -- Lemmas by topic.
 mod Best
+mod Refusing
 mod Filling
 mod Beginning
 mod Reaching

@@ -125,6 +125,23 @@ pub IsAdded_some : {T E : Type 0} (r : Result T E) (from to : ℕ) (x y : Option
 IsAdded_some (Ok v) from to x y max min old new e f count kept = λ design paired h. IsFoundBefore-push design from to old new (pair_of from to min max) (rw (e, f) at paired) refl refl count kept h
 IsAdded_some (Err v) from to x y max min old new e f count kept = kept
 
+pub pairs_found : (design : Design) (found : Found) → IsFoundBefore design (length design.elements) 0 found → found.count ≤ 200000 → ArePairs design found.pairs.items
+pairs_found design found h few =
+    let count = h.has_pairs.count in
+    subst (λ ps. ArePairs design ps) (sym (h.has_pairs.kept (omega arith))) (ArePairs-from_before design h.pairs h.are_pairs)
+
+pub few_found : (design : Design) (found : Found) → IsFoundBefore design (length design.elements) 0 found → found.count ≤ 200000 → length found.pairs.items ≤ 200000
+few_found design found h few =
+    let count = h.has_pairs.count in
+    let same : length found.pairs.items ≡ length h.pairs = ap (λ (ps : List Pair). length ps) (h.has_pairs.kept (omega arith)) in
+    omega arith
+
+pub many_found : (design : Design) (found : Found) → IsFoundBefore design (length design.elements) 0 found → 200000 < found.count → found.count ≤ 4000000 →
+    (pairs : List Pair) × ArePairs design pairs × (200000 < length pairs) × (found.count ≡ min (length pairs) 1000000000)
+many_found design found h many few =
+    let count = h.has_pairs.count in
+    (h.pairs, ArePairs-from_before design h.pairs h.are_pairs, omega arith, omega arith)
+
 -- What is found are the pairs before some element, which comes after the ends before this one and not after this one.
 abbrev pub IsFoundToEnd : Design → ℕ → List ℕ → ℕ → Found → Type 0
 IsFoundToEnd design from ends number found = IsToEnd (λ to. IsFoundBefore design from to found) (length design.elements) ends number
