@@ -11,11 +11,10 @@ ghost use Rattle.mintc_timing.specs.Paths.{input_of, output_of};
 ghost use Rattle.mintc_annotate.specs.Counts.{with_port, gate_at, IsSmall};
 ghost use Rattle.mintc_annotate.specs.Made.{arc_of, no_delay, inner_bit, join_arc, pin_arc, leaf_arcs, number_in, input_arcs, output_arcs};
 
-use crate::elements::is_storage;
 use crate::listing::ListedBit;
 use mintc_cells::{Cell, Cells};
 use mintc_hierarchy::{Hierarchy, Join};
-use mintc_speaking::Ranges;
+use mintc_speaking::{Ranges, is_storage};
 use mintc_text::{Names, OutOfMemory};
 use mintc_timing::TimingArc;
 
@@ -226,12 +225,8 @@ fn push_leaf(
             ignored,
             outputs,
             ..
-        } => {
-            let inputs = count(ignored) + 2;
-            let outputs = count(outputs);
-            push_stored(found, elements, first, element, inputs, outputs)
         }
-        Cell::Flop {
+        | Cell::Flop {
             ignored,
             outputs,
             ..

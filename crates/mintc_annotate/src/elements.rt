@@ -13,7 +13,7 @@ use crate::naming::leaf_name;
 use mintc_cells::{Cell, Cells};
 use mintc_clock::Listed;
 use mintc_hierarchy::Hierarchy;
-use mintc_speaking::Ranges;
+use mintc_speaking::{Ranges, is_storage};
 use mintc_text::{Name, OutOfMemory};
 use mintc_timing::Element;
 use std::alloc::Global;
@@ -117,20 +117,7 @@ fn element_of(ranges: &Ranges, name: Name, leaf: u32, phase: u32, cell: &Cell) -
                 width: greatest_or(ranges.width(leaf), *width),
             })
         }
-        Cell::Gate { .. } => None,
-        Cell::Clock { .. } => None,
-    }
-}
-
-/// Whether a cell is a latch or a flop.
-pub(crate) fn is_storage(cell: &Cell) -> bool
-    ensures { result ≡ is_storage cell.now }
-{
-    match cell {
-        Cell::Latch { .. } => true,
-        Cell::Flop { .. } => true,
-        Cell::Gate { .. } => false,
-        Cell::Clock { .. } => false,
+        Cell::Gate { .. } | Cell::Clock { .. } => None,
     }
 }
 

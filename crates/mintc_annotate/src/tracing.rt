@@ -37,8 +37,7 @@ fn start_of(hierarchy: &Hierarchy, cells: &Cells, number: usize) -> Option<Spot>
             bit: leaf.first_pin + 1,
             high: *rising,
         }),
-        Cell::Gate { .. } => None,
-        Cell::Clock { .. } => None,
+        Cell::Gate { .. } | Cell::Clock { .. } => None,
     }
 }
 

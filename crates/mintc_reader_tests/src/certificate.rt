@@ -2,13 +2,10 @@
 
 use mintc_certificate::{Certificate, Member, read, write};
 use mintc_text::{Refusal, Role, Stop};
+use mintc_worked::TWO_CERTIFICATE;
 use std::alloc::Global;
 use std::process::Abort;
 use std::test::Fail;
-
-/// The certificate of two latches in a ring.
-const RING: &str =
-    "certificate 2\nleast\nden 1\ncycle 100\nphases 2\nphase 0 10\nphase 10 30\ndepartures 2\ndeparture 0\ndeparture 20\nchain 2\nreach 0 1 1 0\nreach 1 0 1 1\nend\n";
 
 /// One member of each kind.
 const NEVER: &str =
@@ -63,14 +60,14 @@ fn is_rewritten(rt: &impl Abort, alloc: Global, text: &str, wanted: &str) -> Res
 #[test]
 fn certificates_are_read_and_written_again(rt: HostRuntime) -> Result<(), Fail> {
     let alloc = rt.alloc();
-    is_rewritten(&rt, alloc, RING, RING)?;
+    is_rewritten(&rt, alloc, TWO_CERTIFICATE, TWO_CERTIFICATE)?;
     is_rewritten(&rt, alloc, NEVER, NEVER)
 }
 
 #[test]
 fn early_departures_and_many_members_are_written_again(rt: HostRuntime) -> Result<(), Fail> {
     let alloc = rt.alloc();
-    let early = RING.replacen(alloc, "departure 0", "departure -100000000000000", 1)?;
+    let early = TWO_CERTIFICATE.replacen(alloc, "departure 0", "departure -100000000000000", 1)?;
     is_rewritten(&rt, alloc, &early, &early)?;
     let many = members(alloc, 4_096)?;
     is_rewritten(&rt, alloc, &many, &many)
@@ -78,8 +75,8 @@ fn early_departures_and_many_members_are_written_again(rt: HostRuntime) -> Resul
 
 #[test]
 fn both_versions_are_read_as_one_value(rt: HostRuntime) -> Result<(), Fail> {
-    let first = RING.replacen(rt.alloc(), "certificate 2", "certificate 1", 1)?;
-    is_rewritten(&rt, rt.alloc(), &first, RING)
+    let first = TWO_CERTIFICATE.replacen(rt.alloc(), "certificate 2", "certificate 1", 1)?;
+    is_rewritten(&rt, rt.alloc(), &first, TWO_CERTIFICATE)
 }
 
 /// Whether these are the members of `NEVER`, of one kind each.
@@ -133,13 +130,13 @@ fn is_faulty_at_cuts(rt: &impl Abort, alloc: Global, whole: &str) {
 
 #[test]
 fn a_cut_text_has_its_fault_at_the_cut(rt: HostRuntime) {
-    is_faulty_at_cuts(&rt, rt.alloc(), RING);
+    is_faulty_at_cuts(&rt, rt.alloc(), TWO_CERTIFICATE);
     is_faulty_at_cuts(&rt, rt.alloc(), NEVER);
 }
 
 #[test]
 fn a_text_without_an_end_is_faulty(rt: HostRuntime) -> Result<(), Fail> {
-    let endless = RING.replacen(rt.alloc(), "end\n", "", 1)?;
+    let endless = TWO_CERTIFICATE.replacen(rt.alloc(), "end\n", "", 1)?;
     has_fault(&rt, rt.alloc(), &endless, 14);
     Ok(())
 }
@@ -179,7 +176,7 @@ fn a_faulty_line_is_named(rt: HostRuntime) -> Result<(), Fail> {
         ("end\n", "end\n\n", 15),
         ("end\n", "end\nend\n", 15),
     ] {
-        let text = RING.replacen(alloc, old, new, 1)?;
+        let text = TWO_CERTIFICATE.replacen(alloc, old, new, 1)?;
         has_fault(&rt, alloc, &text, *line);
     }
     Ok(())
@@ -199,7 +196,7 @@ fn a_line_of_version_2_is_faulty_in_version_1(rt: HostRuntime) -> Result<(), Fai
         ("departure 0", "departure -1", 9),
         ("reach 0 1 1 0", "opened 0", 12),
     ] {
-        let second = RING.replacen(alloc, old, new, 1)?;
+        let second = TWO_CERTIFICATE.replacen(alloc, old, new, 1)?;
         has_fault(&rt, alloc, &second, 0);
         let first = second.replacen(alloc, "certificate 2", "certificate 1", 1)?;
         has_fault(&rt, alloc, &first, *line);

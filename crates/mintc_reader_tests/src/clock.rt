@@ -4,13 +4,10 @@ use super::texts::shown;
 use mintc_clock::{Clock, Listed, PhaseDef, read_clock};
 use mintc_text::{Refusal, Stop};
 use mintc_timing::{Bound, Point};
+use mintc_worked::TWO_CLOCK;
 use std::alloc::Global;
 use std::process::Abort;
 use std::test::Fail;
-
-/// The clock of the worked files.
-const TWO: &str =
-    "[[phase]]\nname = \"p1\"\nport = \"phi1\"\n[[phase]]\nname = \"p2\"\nport = \"phi2\"\n";
 
 /// A clock with every key.
 const FULL: &str =
@@ -338,7 +335,7 @@ fn clocks_have_their_values(rt: HostRuntime) -> Result<(), Fail> {
     let two = "phase p1 phi1 true;phase p2 phi2 true;";
     let full = "top chip;phase p c[0] true;phase q c[0] false;bound s1 e2 -5 1;bound o s2 16 0;\
 input x 2 3 4 0 0 false;input x 1 7 7 0 0 false;output y 1 0 0 -1 0 true;output z 2 0 0 0 0 false;";
-    has_clock(&rt, rt.alloc(), TWO, two)?;
+    has_clock(&rt, rt.alloc(), TWO_CLOCK, two)?;
     has_clock(&rt, rt.alloc(), FULL, full)
 }
 

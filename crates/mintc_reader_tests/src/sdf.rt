@@ -2,13 +2,10 @@
 
 use mintc_sdf::{Delay, Place, Subject, read_delays};
 use mintc_text::{Name, Refusal, Role, Stop};
+use mintc_worked::TWO_DELAYS;
 use std::alloc::Global;
 use std::process::Abort;
 use std::test::Fail;
-
-/// A file of two buffers.
-const TWO: &str =
-    "(DELAYFILE (SDFVERSION \"3.0\") (DIVIDER /) (TIMESCALE 1ps)\n(CELL (CELLTYPE \"BUF\") (INSTANCE u1/s/b)\n (DELAY (ABSOLUTE (IOPATH A Y (0.020:0.020:0.020)))))\n(CELL (CELLTYPE \"BUF\") (INSTANCE u2/s/b)\n (DELAY (ABSOLUTE (IOPATH A Y (0.060) (0.050))))))\n";
 
 /// Adds a word and its names.
 fn add_names(out: &mut Vec<u8>, word: &[u8], names: &[Name]) -> Result<(), Fail> {
@@ -134,7 +131,7 @@ fn reads_whole_files(rt: HostRuntime) -> Result<(), Fail> {
     let alloc = rt.alloc();
     for (text, wanted) in &[
         (
-            TWO,
+            TWO_DELAYS,
             "4 BUF at u1 s b from A to Y 20 20 | 5 BUF at u2 s b from A to Y 50 60",
         ),
         (
@@ -205,7 +202,7 @@ fn reads_whole_files(rt: HostRuntime) -> Result<(), Fail> {
 #[test]
 fn a_cut_text_has_its_fault_at_the_cut(rt: HostRuntime) -> Result<(), Fail> {
     let alloc = rt.alloc();
-    let text = TWO.as_bytes();
+    let text = TWO_DELAYS.as_bytes();
     let mut depth: u32 = 0;
     let mut whole: u32 = 0;
     for (cut, byte) in text.iter().enumerate() {

@@ -3,21 +3,10 @@
 use mintc_lines::{read_schedule, read_table};
 use mintc_text::{Kind, Refusal, Role, Stop};
 use mintc_timing::{Element, Flat, TimingArc};
+use mintc_worked::{TWO_ENABLED, TWO_FLOPS, TWO_LATCHES, TWO_SCHEDULE};
 use std::alloc::Global;
 use std::process::Abort;
 use std::test::Fail;
-
-/// Two latches in a ring, as a table of each version, and two flops.
-const RING: &str =
-    "table 1\nphases 2\nphase phi1\nphase phi2\nelements 2\nelement a 1 10 - 10 10 0\nelement b 2 10 - 10 10 0\ninner 0\narcs 2\narc q0 d1 20 20\narc q1 d0 60 60\nbounds 0\nend\n";
-
-const FLOPS: &str =
-    "table 2\nphases 1\nphase p\nelements 2\nelement a 1 flop 5 - 10 10 0\nelement b 1 flop 5 - 10 10 0\ninner 0\narcs 2\narc q0 d1 85 85\narc q1 d0 35 35\nbounds 0\nend\n";
-
-const ENABLE: &str =
-    "table 3\nphases 2\nphase phi1\nphase phi2\nelements 2\nelement a 1 latch 10 - 10 10 4 4 0\nelement b 2 latch 10 - 10 10 10 10 0\ninner 0\narcs 2\narc q0 d1 20 20\narc q1 d0 60 60\nbounds 0\nend\n";
-
-const SCHEDULE: &str = "schedule 1\nden 1\ncycle 100\nphases 2\nphase 0 10\nphase 10 30\nend\n";
 
 /// The faulty line of a table, 0 where there is none.
 fn table_fault(alloc: Global, text: &[u8]) -> u32 {
@@ -139,14 +128,14 @@ fn is_ring(design: &Flat) -> bool {
 
 #[test]
 fn a_ring_is_read(rt: HostRuntime) -> Result<(), Fail> {
-    let ring = design(&rt, rt.alloc(), RING).ok_or("refused")?;
+    let ring = design(&rt, rt.alloc(), TWO_LATCHES).ok_or("refused")?;
     assert!(rt; is_ring(&ring));
     Ok(())
 }
 
 #[test]
 fn flops_are_read(rt: HostRuntime) -> Result<(), Fail> {
-    let flops = design(&rt, rt.alloc(), FLOPS).ok_or("refused")?;
+    let flops = design(&rt, rt.alloc(), TWO_FLOPS).ok_or("refused")?;
     assert!(rt; flops.elements().iter().all(|e| e.flop));
     Ok(())
 }
@@ -158,7 +147,7 @@ fn has_delays(element: &Element, dq_max: i64, cq_min: i64, cq_max: i64) -> bool 
 
 #[test]
 fn enable_delays_are_read(rt: HostRuntime) -> Result<(), Fail> {
-    let enable = design(&rt, rt.alloc(), ENABLE).ok_or("refused")?;
+    let enable = design(&rt, rt.alloc(), TWO_ENABLED).ok_or("refused")?;
     let [element, _] = enable.elements() else {
         return Err(Fail::from("other elements"));
     };
@@ -178,15 +167,15 @@ fn is_faulty_at_cuts(rt: &impl Abort, alloc: Global, text: &[u8]) {
 
 #[test]
 fn a_cut_table_has_its_fault_at_the_cut(rt: HostRuntime) {
-    is_faulty_at_cuts(&rt, rt.alloc(), RING.as_bytes());
-    is_faulty_at_cuts(&rt, rt.alloc(), FLOPS.as_bytes());
-    is_faulty_at_cuts(&rt, rt.alloc(), ENABLE.as_bytes());
+    is_faulty_at_cuts(&rt, rt.alloc(), TWO_LATCHES.as_bytes());
+    is_faulty_at_cuts(&rt, rt.alloc(), TWO_FLOPS.as_bytes());
+    is_faulty_at_cuts(&rt, rt.alloc(), TWO_ENABLED.as_bytes());
 }
 
 #[test]
 fn a_cut_schedule_has_its_fault_at_the_cut(rt: HostRuntime) {
     let mut line: u32 = 1;
-    let text = SCHEDULE.as_bytes();
+    let text = TWO_SCHEDULE.as_bytes();
     for (cut, byte) in text.iter().enumerate() {
         assert!(rt; schedule_fault(&text[..cut]) == line, "{cut}");
         line = line.saturating_add((*byte == b'\n') as u32);
@@ -226,9 +215,9 @@ fn a_faulty_line_is_named(rt: HostRuntime) -> Result<(), Fail> {
         ("end\n", "end\n\n", 14),
         ("end\n", "end \n", 13),
     ] {
-        has_fault(&rt, alloc, RING, old, new, *line)?;
+        has_fault(&rt, alloc, TWO_LATCHES, old, new, *line)?;
     }
-    has_fault(&rt, alloc, ENABLE, "1 latch", "1 flop", 6)
+    has_fault(&rt, alloc, TWO_ENABLED, "1 latch", "1 flop", 6)
 }
 
 #[test]
@@ -242,7 +231,7 @@ fn a_faulty_line_of_a_schedule_is_named(rt: HostRuntime) -> Result<(), Fail> {
         ("phases 2", "phases 9", 4),
         ("end\n", "end\nend\n", 8),
     ] {
-        let text = SCHEDULE.replacen(alloc, old, new, 1)?;
+        let text = TWO_SCHEDULE.replacen(alloc, old, new, 1)?;
         assert!(rt; schedule_fault(text.as_bytes()) == *line, "{new}");
     }
     Ok(())
@@ -274,7 +263,7 @@ fn limits_are_refused_with_their_count(rt: HostRuntime) -> Result<(), Fail> {
 #[test]
 fn inner_bits_have_a_limit(rt: HostRuntime) -> Result<(), Fail> {
     let alloc = rt.alloc();
-    let inner = RING.replacen(alloc, "inner 0", "inner 999999999", 1)?;
+    let inner = TWO_LATCHES.replacen(alloc, "inner 0", "inner 999999999", 1)?;
     assert!(rt; table_limit(alloc, inner.as_bytes()) == Some((Kind::Inner, 999_999_999)));
     Ok(())
 }

@@ -3,12 +3,9 @@ use mintc_netlist::{Connection, Item, Module};
 use mintc_text::{Refusal, Role, Stop};
 use mintc_verilog::read_netlist;
 use mintc_vlex::{statements, tokens};
+use mintc_worked::TWO_NETLIST;
 use std::alloc::Global;
 use std::test::Fail;
-
-/// Three modules in the style of a synthesis tool.
-const TWO: &[u8] =
-    b"/* in the style of Yosys */\n(* src = \"two.v:1.1-9.10\" *)\nmodule two(phi1, phi2, y);\n  input phi1;\n  wire phi1;\n  input phi2;\n  wire phi2;\n  output y;\n  wire y;\n  wire \\loop.back ;\n  wire mid;\n  assign y = \\loop.back ;\n  half u1 ( .c(phi1), .i(\\loop.back ), .o(mid) );\n  half u2 ( .c(phi2), .i(mid), .o(\\loop.back ) );\nendmodule\nmodule half(c, i, o);\n  input c;\n  input i;\n  output o;\n  wire q;\n  LAT \\l[0]  ( .D(i), .G(c), .Q(q) );\n  slice s ( .a(q), .t(1'h0), .z(o) );\nendmodule\nmodule slice(a, t, z);\n  input a;\n  input t;\n  output z;\n  BUF b ( .A(a), .Y(z) );\nendmodule\n";
 
 /// Where its statements end.
 const ENDS: [usize; 27] = [
@@ -60,15 +57,16 @@ fn are_worked(modules: &[Module]) -> bool {
 
 #[test]
 fn the_worked_netlist_has_its_statements(rt: HostRuntime) -> Result<(), Fail> {
-    let all = tokens(rt.alloc(), TWO)?;
-    assert!(rt; statements(rt.alloc(), TWO, &all)?.len() == 27);
+    let text = TWO_NETLIST.as_bytes();
+    let all = tokens(rt.alloc(), text)?;
+    assert!(rt; statements(rt.alloc(), text, &all)?.len() == 27);
     Ok(())
 }
 
 #[test]
 fn reads_the_worked_netlist(rt: HostRuntime) -> Result<(), Fail> {
     let alloc = rt.alloc();
-    match read_netlist(alloc, TWO) {
+    match read_netlist(alloc, TWO_NETLIST.as_bytes()) {
         Ok(netlist) => assert!(rt; are_worked(netlist.modules.items())),
         Err(_) => panic!(rt; "no netlist"),
     }
@@ -78,7 +76,8 @@ fn reads_the_worked_netlist(rt: HostRuntime) -> Result<(), Fail> {
 #[test]
 fn cuts_the_worked_netlist(rt: HostRuntime) -> Result<(), Fail> {
     let alloc = rt.alloc();
-    for size in 0..=TWO.len() {
+    let text = TWO_NETLIST.as_bytes();
+    for size in 0..=text.len() {
         let mut want = 1;
         for at in 0..ENDS.len() {
             if ENDS[at] <= size {
@@ -89,7 +88,7 @@ fn cuts_the_worked_netlist(rt: HostRuntime) -> Result<(), Fail> {
             want = 0;
         }
         assert!(rt;
-            fault(alloc, &TWO[..size]) as usize == want,
+            fault(alloc, &text[..size]) as usize == want,
             "of {size} bytes"
         );
     }

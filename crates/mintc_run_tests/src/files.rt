@@ -1,17 +1,8 @@
 //! The files of the rows.
-
-/// A worked design of four files: two latches in a loop, over three levels.
-pub const TWO_V: &str =
-    "/* in the style of Yosys */\n(* src = \"two.v:1.1-9.10\" *)\nmodule two(phi1, phi2, y);\n  input phi1;\n  wire phi1;\n  input phi2;\n  wire phi2;\n  output y;\n  wire y;\n  wire \\loop.back ;\n  wire mid;\n  assign y = \\loop.back ;\n  half u1 ( .c(phi1), .i(\\loop.back ), .o(mid) );\n  half u2 ( .c(phi2), .i(mid), .o(\\loop.back ) );\nendmodule\nmodule half(c, i, o);\n  input c;\n  input i;\n  output o;\n  wire q;\n  LAT \\l[0]  ( .D(i), .G(c), .Q(q) );\n  slice s ( .a(q), .t(1'h0), .z(o) );\nendmodule\nmodule slice(a, t, z);\n  input a;\n  input t;\n  output z;\n  BUF b ( .A(a), .Y(z) );\nendmodule\n";
-
-pub const TWO_SDF: &str =
-    "(DELAYFILE (SDFVERSION \"3.0\") (DIVIDER /) (TIMESCALE 1ps)\n(CELL (CELLTYPE \"BUF\") (INSTANCE u1/s/b)\n (DELAY (ABSOLUTE (IOPATH A Y (0.020:0.020:0.020)))))\n(CELL (CELLTYPE \"BUF\") (INSTANCE u2/s/b)\n (DELAY (ABSOLUTE (IOPATH A Y (0.060) (0.050))))))\n";
-
-pub const TWO_CELLS: &str =
-    "[cell.LAT]\nkind = \"latch\"\nd = \"D\"\ng = \"G\"\noutputs = [\"Q\"]\nsetup = 10\ndq_min = 10\n[cell.BUF]\nkind = \"gate\"\ninputs = [\"A\"]\noutputs = [\"Y\"]\n";
-
-pub const TWO_CLOCK: &str =
-    "[[phase]]\nname = \"p1\"\nport = \"phi1\"\n[[phase]]\nname = \"p2\"\nport = \"phi2\"\n";
+use mintc_worked::{
+    CLOSED_INNER, GREATEST_SUM, SUM_PAST_LIMIT, TWO_CELLS, TWO_CERTIFICATE, TWO_CLOCK, TWO_DELAYS,
+    TWO_ENABLED, TWO_FLOPS, TWO_LATCHES, TWO_NETLIST, TWO_SCHEDULE, TWO_THROUGH_INNER,
+};
 
 /// A Liberty library with the same cells, without numbers.
 const TWO_LIB: &str =
@@ -33,16 +24,10 @@ const FIRST_SDF: &str =
 const SECOND_SDF: &str =
     "(DELAYFILE (TIMESCALE 1 fs)\n(CELL (CELLTYPE \"BUF\") (INSTANCE x) (DELAY (ABSOLUTE (IOPATH A Y (30)))))\n(CELL (CELLTYPE \"BUF\") (INSTANCE y) (DELAY (ABSOLUTE (IOPATH A Y (70))))))\n";
 
-/// Two latches in a ring, and a schedule of them.
-pub const TAB1: &str =
-    "table 1\nphases 2\nphase phi1\nphase phi2\nelements 2\nelement a 1 10 - 10 10 0\nelement b 2 10 - 10 10 0\ninner 0\narcs 2\narc q0 d1 20 20\narc q1 d0 60 60\nbounds 0\nend\n";
-
-pub const SCH1: &str = "schedule 1\nden 1\ncycle 100\nphases 2\nphase 0 10\nphase 10 30\nend\n";
-
 /// The files of the rows, each a name and its bytes.
 pub const FILES: &[(&str, &str)] = &[
-    ("TAB1", TAB1),
-    ("SCH1", SCH1),
+    ("TAB1", TWO_LATCHES),
+    ("SCH1", TWO_SCHEDULE),
     (
         "short.schedule",
         "schedule 1\nden 1\ncycle 99\nphases 2\nphase 0 10\nphase 10 30\nend\n",
@@ -67,14 +52,8 @@ pub const FILES: &[(&str, &str)] = &[
         "bound.table",
         "table 1\nphases 2\nphase phi1\nphase phi2\nelements 2\nelement a 1 10 - 10 10 0\nelement b 2 10 - 10 10 0\ninner 0\narcs 2\narc q0 d1 20 20\narc q1 d0 60 60\nbounds 1\nbound o o 101 1\nend\n",
     ),
-    (
-        "inner.table",
-        "table 1\nphases 2\nphase phi1\nphase phi2\nelements 2\nelement a 1 10 - 10 10 0\nelement b 2 10 - 10 10 0\ninner 1\narcs 3\narc q0 n0 15 15\narc n0 d1 5 5\narc q1 d0 60 60\nbounds 0\nend\n",
-    ),
-    (
-        "flops.table",
-        "table 2\nphases 1\nphase p\nelements 2\nelement a 1 flop 5 - 10 10 0\nelement b 1 flop 5 - 10 10 0\ninner 0\narcs 2\narc q0 d1 85 85\narc q1 d0 35 35\nbounds 0\nend\n",
-    ),
+    ("inner.table", TWO_THROUGH_INNER),
+    ("flops.table", TWO_FLOPS),
     (
         "flops.schedule",
         "schedule 1\nden 1\ncycle 95\nphases 1\nphase 0 0\nend\n",
@@ -87,26 +66,14 @@ pub const FILES: &[(&str, &str)] = &[
         "race.schedule",
         "schedule 1\nden 1\ncycle 100\nphases 1\nphase 0 0\nend\n",
     ),
-    (
-        "enable.table",
-        "table 3\nphases 2\nphase phi1\nphase phi2\nelements 2\nelement a 1 latch 10 - 10 10 4 4 0\nelement b 2 latch 10 - 10 10 10 10 0\ninner 0\narcs 2\narc q0 d1 20 20\narc q1 d0 60 60\nbounds 0\nend\n",
-    ),
-    (
-        "sum.table",
-        "table 1\nphases 1\nphase p\nelements 1\nelement a 1 0 - 0 0 0\ninner 1\narcs 2\narc q0 n0 1000000000 1000000000\narc n0 d0 0 0\nbounds 0\nend\n",
-    ),
-    (
-        "long.table",
-        "table 1\nphases 1\nphase p\nelements 1\nelement a 1 0 - 0 0 0\ninner 1\narcs 2\narc q0 n0 1000000000 1000000000\narc n0 d0 1 1\nbounds 0\nend\n",
-    ),
+    ("enable.table", TWO_ENABLED),
+    ("sum.table", GREATEST_SUM),
+    ("long.table", SUM_PAST_LIMIT),
     (
         "slow.schedule",
         "schedule 1\nden 1\ncycle 1000000000\nphases 1\nphase 0 50\nend\n",
     ),
-    (
-        "closed.table",
-        "table 1\nphases 1\nphase p\nelements 0\ninner 2\narcs 2\narc n0 n1 0 0\narc n1 n0 0 0\nbounds 0\nend\n",
-    ),
+    ("closed.table", CLOSED_INNER),
     (
         "cut.table",
         "table 1\nphases 2\nphase phi1\nphase phi2\nelements 2\n",
@@ -128,16 +95,13 @@ pub const FILES: &[(&str, &str)] = &[
         "tight.table",
         "table 1\nphases 2\nphase phi1\nphase phi2\nelements 2\nelement a 1 10 - 10 10 0\nelement b 2 70 - 10 10 0\ninner 0\narcs 2\narc q0 d1 20 20\narc q1 d0 60 60\nbounds 0\nend\n",
     ),
-    (
-        "CERT1",
-        "certificate 2\nleast\nden 1\ncycle 100\nphases 2\nphase 0 10\nphase 10 30\ndepartures 2\ndeparture 0\ndeparture 20\nchain 2\nreach 0 1 1 0\nreach 1 0 1 1\nend\n",
-    ),
+    ("CERT1", TWO_CERTIFICATE),
     (
         "paths.table",
         "table 1\nphases 1\nphase p\nelements 2\nelement a 1 0 - 0 0 0\nelement b 1 0 - 0 0 0\ninner 1\narcs 3\narc q0 d1 20 20\narc q0 n0 1 1\narc n0 d1 2 2\nbounds 0\nend\n",
     ),
-    ("two.v", TWO_V),
-    ("two.sdf", TWO_SDF),
+    ("two.v", TWO_NETLIST),
+    ("two.sdf", TWO_DELAYS),
     ("two.cells", TWO_CELLS),
     ("two.clock", TWO_CLOCK),
     (
@@ -156,43 +120,57 @@ pub const FILES: &[(&str, &str)] = &[
     ("second.sdf", SECOND_SDF),
 ];
 
-/// Certificates of the first table, each the name of its row, the text after its first line, and what `verify` answers.
-pub const CERTIFICATES: &[(&str, &str, &str)] = &[
-    (
-        "verify-valid",
-        "least\nden 1\ncycle 100\nphases 2\nphase 0 10\nphase 10 30\ndepartures 2\ndeparture 0\ndeparture 20\nchain 2\nreach 0 1 1 0\nreach 1 0 1 1\nend\n",
-        "valid\n",
-    ),
-    (
-        "verify-wrong-departure",
-        "least\nden 1\ncycle 100\nphases 2\nphase 0 10\nphase 10 30\ndepartures 2\ndeparture 0\ndeparture 21\nchain 2\nreach 0 1 1 0\nreach 1 0 1 1\nend\n",
-        "invalid 4\n",
-    ),
-    (
-        "verify-open-chain",
-        "least\nden 1\ncycle 100\nphases 2\nphase 0 10\nphase 10 30\ndepartures 2\ndeparture 0\ndeparture 20\nchain 1\nreach 0 1 1 0\nend\n",
-        "invalid 6\n",
-    ),
-    (
-        "verify-later-departures",
-        "least\nden 1\ncycle 100\nphases 2\nphase 0 15\nphase 15 30\ndepartures 2\ndeparture 5\ndeparture 20\nchain 2\nreach 0 1 1 0\nreach 1 0 1 1\nend\n",
-        "valid\n",
-    ),
-    (
-        "verify-missing-departure",
-        "least\nden 1\ncycle 100\nphases 2\nphase 0 10\nphase 10 30\ndepartures 1\ndeparture 0\nchain 2\nreach 0 1 1 0\nreach 1 0 1 1\nend\n",
-        "invalid 1\n",
-    ),
-    (
-        "verify-above-least",
-        "least\nden 1\ncycle 101\nphases 2\nphase 0 10\nphase 10 30\ndepartures 2\ndeparture 0\ndeparture 20\nchain 2\nreach 0 1 1 0\nreach 1 0 1 1\nend\n",
-        "invalid 7\n",
-    ),
-    (
-        "certificate-without-end",
-        "least\nden 1\ncycle 100\nphases 2\nphase 0 10\nphase 10 30\ndepartures 2\ndeparture 0\ndeparture 20\nchain 2\nreach 0 1 1 0\nreach 1 0 1 1\n",
-        "refused 1 certificate 14\n",
-    ),
+/// An edit of the certificate of the first table, the text `new` in place of `old`, and what `verify` answers.
+pub struct Edit {
+    pub old: &'static str,
+    pub new: &'static str,
+    pub answer: &'static str,
+}
+
+/// The rows on certificates.
+pub const CERTIFICATES: &[Edit] = &[
+    // Row verify-valid.
+    Edit {
+        old: "least",
+        new: "least",
+        answer: "valid\n",
+    },
+    // Row verify-wrong-departure.
+    Edit {
+        old: "departure 20",
+        new: "departure 21",
+        answer: "invalid 4\n",
+    },
+    // Row verify-open-chain.
+    Edit {
+        old: "chain 2\nreach 0 1 1 0\nreach 1 0 1 1\n",
+        new: "chain 1\nreach 0 1 1 0\n",
+        answer: "invalid 6\n",
+    },
+    // Row verify-later-departures.
+    Edit {
+        old: "phase 0 10\nphase 10 30\ndepartures 2\ndeparture 0\n",
+        new: "phase 0 15\nphase 15 30\ndepartures 2\ndeparture 5\n",
+        answer: "valid\n",
+    },
+    // Row verify-missing-departure.
+    Edit {
+        old: "departures 2\ndeparture 0\ndeparture 20\n",
+        new: "departures 1\ndeparture 0\n",
+        answer: "invalid 1\n",
+    },
+    // Row verify-above-least.
+    Edit {
+        old: "cycle 100",
+        new: "cycle 101",
+        answer: "invalid 7\n",
+    },
+    // Row certificate-without-end.
+    Edit {
+        old: "end\n",
+        new: "",
+        answer: "refused 1 certificate 14\n",
+    },
 ];
 
 /// The files of the further rows.
@@ -218,8 +196,8 @@ pub const FURTHER_FILES: &[(&str, &str)] = &[
 /// The files of the rows on libraries: the worked one with a definition, with a cell that can't be used, and one that isn't
 /// closed.
 pub const LIBRARIES: &[(&str, &str)] = &[
-    ("two.v", TWO_V),
-    ("two.sdf", TWO_SDF),
+    ("two.v", TWO_NETLIST),
+    ("two.sdf", TWO_DELAYS),
     ("two.clock", TWO_CLOCK),
     (
         "define.lib",

@@ -1,22 +1,24 @@
 //! Tables at the limits and one past them.
-use super::files::{PAIR_CELLS, PAIR_CLOCK, SCH1};
+use super::files::{PAIR_CELLS, PAIR_CLOCK};
 use super::harness::{is_answered, run_over, shelf_of};
 use super::rows::{CHECK, PASS};
 use mintc_command::Status;
+use mintc_worked::{TWO_LATCHES, TWO_SCHEDULE};
 use std::alloc::{AllocError, Global};
 use std::process::Abort;
 use std::test::Fail;
 
-/// The first two elements of the file TAB1, and so many more that are as the first one.
+/// The two latches, and so many more elements that are as the first one.
 fn many_elements(alloc: Global, count: usize) -> Result<String, AllocError> {
-    let mut text = format!(in alloc;
-        "table 1\nphases 2\nphase phi1\nphase phi2\nelements {count}\nelement a 1 10 - 10 10 0\nelement b 2 10 - 10 10 0\n"
-    )?;
+    let counted = format!(in alloc; "elements {count}\n")?;
+    let mut more = String::new(alloc);
     for _ in 2..count {
-        text.push_str("element a 1 10 - 10 10 0\n")?;
+        more.push_str("element a 1 10 - 10 10 0\n")?;
     }
-    text.push_str("inner 0\narcs 2\narc q0 d1 20 20\narc q1 d0 60 60\nbounds 0\nend\n")?;
-    Ok(text)
+    more.push_str("inner 0\n")?;
+    TWO_LATCHES
+        .replacen(alloc, "elements 2\n", &counted, 1)?
+        .replacen(alloc, "inner 0\n", &more, 1)
 }
 
 /// The table in place of TAB1 is checked with this answer.
@@ -27,7 +29,7 @@ fn is_checked(
     status: Status,
     answer: &str,
 ) -> Result<(), Fail> {
-    let mut shelf = shelf_of(alloc, &[("TAB1", table), ("SCH1", SCH1)], &[])?;
+    let mut shelf = shelf_of(alloc, &[("TAB1", table), ("SCH1", TWO_SCHEDULE)], &[])?;
     let wanted = (status, answer.as_bytes());
     is_answered(rt, alloc, &mut shelf, CHECK, None, wanted)
 }

@@ -1,7 +1,7 @@
 //! Runs on files: netlists that are refused, in which order bits are joined, and the limits.
-use super::files::TWO_CELLS;
 use super::harness::{hold, run_over, sound_shelf};
 use mintc_command::Status;
+use mintc_worked::TWO_CELLS;
 use std::alloc::{AllocError, Global};
 use std::process::Abort;
 use std::test::Fail;

@@ -1,8 +1,8 @@
 //! Runs on the sample, and on the worked files cut.
-use super::files::{TWO_CELLS, TWO_CLOCK, TWO_SDF, TWO_V};
 use super::harness::{bytes_shelf, hold, run_over, shelf_of, sound_shelf, succeeds};
 use mintc_sample::SampleFiles;
 use mintc_text::MemoryShelf;
+use mintc_worked::{TWO_CELLS, TWO_CLOCK, TWO_DELAYS, TWO_NETLIST};
 use std::alloc::Global;
 use std::process::Abort;
 use std::test::Fail;
@@ -61,8 +61,8 @@ fn the_optimum_of_a_sample_is_valid(rt: HostRuntime) -> Result<(), Fail> {
 /// The worked files, and how the answer begins where one of them is cut: delays are out of form until they are whole, and of the
 /// others a front may be in form, so that something later is refused.
 const WORKED: &[(&str, &str, &str)] = &[
-    ("two.v", TWO_V, "refused "),
-    ("two.sdf", TWO_SDF, "refused 1 delays "),
+    ("two.v", TWO_NETLIST, "refused "),
+    ("two.sdf", TWO_DELAYS, "refused 1 delays "),
     ("two.cells", TWO_CELLS, "refused "),
     ("two.clock", TWO_CLOCK, "refused "),
 ];

@@ -1,8 +1,9 @@
 //! The worked rows.
-use super::files::{CERTIFICATES, CORNER_FILES, FILES, FURTHER_FILES, LIBRARIES, TAB1};
+use super::files::{CERTIFICATES, CORNER_FILES, Edit, FILES, FURTHER_FILES, LIBRARIES};
 use super::harness::{bytes_shelf, is_answered, run_over, shelf_of, succeeds};
 use super::rows::{FURTHER, OVER_CORNERS, OVER_FILES, OVER_LIBRARIES, ROWS, Row};
 use mintc_command::Status;
+use mintc_worked::{TWO_CERTIFICATE, TWO_LATCHES};
 use std::alloc::Global;
 use std::process::Abort;
 use std::test::Fail;
@@ -82,28 +83,30 @@ fn status_of(answer: &[u8]) -> Status {
     }
 }
 
-/// A certificate of the first table, in this version, is judged so.
-fn is_judged(
-    rt: &impl Abort,
-    alloc: Global,
-    version: u32,
-    rest: &str,
-    answer: &[u8],
-) -> Result<(), Fail> {
-    let text = format!(in alloc; "certificate {version}\n{rest}")?;
-    let files = [("TAB1", TAB1), ("judged", text.as_str())];
+/// An edited certificate of the first table is judged so.
+fn is_judged(rt: &impl Abort, alloc: Global, first_line: &str, edit: &Edit) -> Result<(), Fail> {
+    let edited = TWO_CERTIFICATE.replacen(alloc, edit.old, edit.new, 1)?;
+    let text = edited.replacen(alloc, "certificate 2", first_line, 1)?;
+    let files = [("TAB1", TWO_LATCHES), ("judged", text.as_str())];
     let mut shelf = shelf_of(alloc, &files, &[])?;
-    let words = "verify table TAB1 judged";
+    let answer = edit.answer.as_bytes();
     let wanted = (status_of(answer), answer);
-    is_answered(rt, alloc, &mut shelf, words, None, wanted)
+    is_answered(
+        rt,
+        alloc,
+        &mut shelf,
+        "verify table TAB1 judged",
+        None,
+        wanted,
+    )
 }
 
 // The rows on certificates, in both versions.
 #[test]
 fn certificates_of_both_versions(rt: HostRuntime) -> Result<(), Fail> {
-    for (_, rest, answer) in CERTIFICATES {
-        is_judged(&rt, rt.alloc(), 1, rest, answer.as_bytes())?;
-        is_judged(&rt, rt.alloc(), 2, rest, answer.as_bytes())?;
+    for edit in CERTIFICATES {
+        is_judged(&rt, rt.alloc(), "certificate 1", edit)?;
+        is_judged(&rt, rt.alloc(), "certificate 2", edit)?;
     }
     Ok(())
 }

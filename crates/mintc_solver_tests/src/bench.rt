@@ -7,14 +7,11 @@ use mintc_ratio::Outcome;
 use mintc_text::Stop;
 use mintc_timing::System;
 use mintc_walks::Steps;
+use mintc_worked::TWO_LATCHES;
 use std::alloc::Global;
 use std::marker::Brand;
 use std::sync::ledger::{Blank, Ledger};
 use std::test::Fail;
-
-/// Two latches in a ring.
-const TWO_LATCHES: &str =
-    "table 1\nphases 2\nphase phi1\nphase phi2\nelements 2\nelement a 1 10 - 10 10 0\nelement b 2 10 - 10 10 0\ninner 0\narcs 2\narc q0 d1 20 20\narc q1 d0 60 60\nbounds 0\nend\n";
 
 /// The system of the ring.
 fn system_of(alloc: Global) -> Result<System, Stop> {

@@ -2,25 +2,10 @@
 use mintc_build::{from_table, system};
 use mintc_text::{Refusal, Stop};
 use mintc_timing::System;
+use mintc_worked::{CLOSED_INNER, GREATEST_SUM, SUM_PAST_LIMIT, TWO_THROUGH_INNER};
 use std::alloc::Global;
 use std::process::Abort;
 use std::test::Fail;
-
-/// Two latches, the arc between them through an inner bit.
-const INNER: &str =
-    "table 1\nphases 2\nphase phi1\nphase phi2\nelements 2\nelement a 1 10 - 10 10 0\nelement b 2 10 - 10 10 0\ninner 1\narcs 3\narc q0 n0 15 15\narc n0 d1 5 5\narc q1 d0 60 60\nbounds 0\nend\n";
-
-/// Two inner bits that lead to one another.
-const CLOSED: &str =
-    "table 1\nphases 1\nphase p\nelements 0\ninner 2\narcs 2\narc n0 n1 0 0\narc n1 n0 0 0\nbounds 0\nend\n";
-
-/// An element whose one path has the greatest sum that there may be.
-const SUM: &str =
-    "table 1\nphases 1\nphase p\nelements 1\nelement a 1 0 - 0 0 0\ninner 1\narcs 2\narc q0 n0 1000000000 1000000000\narc n0 d0 0 0\nbounds 0\nend\n";
-
-/// The same with a femtosecond more.
-const LONG: &str =
-    "table 1\nphases 1\nphase p\nelements 1\nelement a 1 0 - 0 0 0\ninner 1\narcs 2\narc q0 n0 1000000000 1000000000\narc n0 d0 1 1\nbounds 0\nend\n";
 
 /// The system of a table.
 fn built(rt: &impl Abort, alloc: Global, text: &str) -> Result<System, Stop> {
@@ -41,7 +26,7 @@ fn has_pairs(system: &System, wanted: &[(u32, u32, i64, i64)]) -> bool {
 // Row check-inner-bit.
 #[test]
 fn a_path_through_an_inner_bit(rt: HostRuntime) -> Result<(), Fail> {
-    match built(&rt, rt.alloc(), INNER) {
+    match built(&rt, rt.alloc(), TWO_THROUGH_INNER) {
         Ok(system) => assert!(rt; has_pairs(&system, &[(0, 1, 20, 20), (1, 0, 60, 60)])),
         Err(_) => panic!(rt; "no system"),
     }
@@ -51,7 +36,7 @@ fn a_path_through_an_inner_bit(rt: HostRuntime) -> Result<(), Fail> {
 // Row closed-inner-arcs.
 #[test]
 fn arcs_that_lead_round(rt: HostRuntime) -> Result<(), Fail> {
-    match built(&rt, rt.alloc(), CLOSED) {
+    match built(&rt, rt.alloc(), CLOSED_INNER) {
         Err(Stop::Refused(Refusal::CombinationalLoop { arcs })) => {
             assert!(rt; arcs.items() == [0, 1].as_slice() || arcs.items() == [1, 0].as_slice());
         }
@@ -63,7 +48,7 @@ fn arcs_that_lead_round(rt: HostRuntime) -> Result<(), Fail> {
 // Row path-sum-limit.
 #[test]
 fn the_greatest_sum_of_a_path(rt: HostRuntime) {
-    match built(&rt, rt.alloc(), SUM) {
+    match built(&rt, rt.alloc(), GREATEST_SUM) {
         Ok(system) => assert!(rt; has_pairs(&system, &[(0, 0, 1_000_000_000, 1_000_000_000)])),
         Err(_) => panic!(rt; "no system"),
     }
@@ -72,7 +57,7 @@ fn the_greatest_sum_of_a_path(rt: HostRuntime) {
 // Row path-sum-limit.
 #[test]
 fn a_sum_above_the_greatest(rt: HostRuntime) {
-    match built(&rt, rt.alloc(), LONG) {
+    match built(&rt, rt.alloc(), SUM_PAST_LIMIT) {
         Err(Stop::Refused(Refusal::PathRange { element, bit })) => {
             assert!(rt; element == 0 && bit == 0, "{element} {bit}");
         }

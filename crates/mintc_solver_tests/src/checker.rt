@@ -3,6 +3,7 @@ use mintc_build::{from_table, system};
 use mintc_certificate::read;
 use mintc_checker::{Verdict, examine, examine_flat};
 use mintc_timing::System;
+use mintc_worked::{TWO_CERTIFICATE, TWO_ENABLED, TWO_FLOPS, TWO_LATCHES};
 use std::alloc::Global;
 use std::process::Abort;
 use std::test::Fail;
@@ -78,15 +79,7 @@ fn is_judged_in_both(
     Ok(())
 }
 
-/// Two latches in a ring.
-const RING: &str =
-    "table 1\nphases 2\nphase phi1\nphase phi2\nelements 2\nelement a 1 10 - 10 10 0\nelement b 2 10 - 10 10 0\ninner 0\narcs 2\narc q0 d1 20 20\narc q1 d0 60 60\nbounds 0\nend\n";
-
-/// The certificate of the ring.
-const RING_LEAST: &str =
-    "certificate 2\nleast\nden 1\ncycle 100\nphases 2\nphase 0 10\nphase 10 30\ndepartures 2\ndeparture 0\ndeparture 20\nchain 2\nreach 0 1 1 0\nreach 1 0 1 1\nend\n";
-
-/// Edits of that.
+/// Edits of the certificate of two latches.
 const OF_LATCHES: &[Edit] = &[
     ("least", "least", Verdict::Valid),
     (
@@ -132,16 +125,12 @@ const OF_LATCHES: &[Edit] = &[
 #[test]
 fn latches_are_judged(rt: HostRuntime) -> Result<(), Fail> {
     let alloc = rt.alloc();
-    let system = system_of(alloc, RING).ok_or("no system")?;
+    let system = system_of(alloc, TWO_LATCHES).ok_or("no system")?;
     for edit in OF_LATCHES {
-        is_judged_in_both(&rt, alloc, &system, RING_LEAST, edit)?;
+        is_judged_in_both(&rt, alloc, &system, TWO_CERTIFICATE, edit)?;
     }
     Ok(())
 }
-
-/// Two flops in a ring.
-const FLOPS: &str =
-    "table 2\nphases 1\nphase p\nelements 2\nelement a 1 flop 5 - 10 10 0\nelement b 1 flop 5 - 10 10 0\ninner 0\narcs 2\narc q0 d1 85 85\narc q1 d0 35 35\nbounds 0\nend\n";
 
 /// The certificate of the two flops.
 const FLOPS_LEAST: &str =
@@ -205,7 +194,7 @@ const OF_FLOPS_IN_2: &[Edit] = &[
 #[test]
 fn flops_are_judged(rt: HostRuntime) -> Result<(), Fail> {
     let alloc = rt.alloc();
-    let system = system_of(alloc, FLOPS).ok_or("no system")?;
+    let system = system_of(alloc, TWO_FLOPS).ok_or("no system")?;
     for edit in OF_FLOPS {
         is_judged_in_both(&rt, alloc, &system, FLOPS_LEAST, edit)?;
     }
@@ -215,16 +204,12 @@ fn flops_are_judged(rt: HostRuntime) -> Result<(), Fail> {
     Ok(())
 }
 
-/// The ring of latches, of which the first opens its output 4 after its phase's start.
-const ENABLE: &str =
-    "table 3\nphases 2\nphase phi1\nphase phi2\nelements 2\nelement a 1 latch 10 - 10 10 4 4 0\nelement b 2 latch 10 - 10 10 10 10 0\ninner 0\narcs 2\narc q0 d1 20 20\narc q1 d0 60 60\nbounds 0\nend\n";
-
-/// The certificate of that ring.
-const ENABLE_LEAST: &str =
+/// The certificate of the two latches of which the first opens its output late.
+const ENABLED_LEAST: &str =
     "certificate 2\nleast\nden 1\ncycle 100\nphases 2\nphase 0 10\nphase 10 24\ndepartures 2\ndeparture -6\ndeparture 14\nchain 2\nreach 0 1 1 0\nreach 1 0 1 1\nend\n";
 
 /// Edits of that.
-const OF_ENABLE: &[Edit] = &[
+const OF_ENABLED: &[Edit] = &[
     ("least", "least", Verdict::Valid),
     (
         "departure -6\ndeparture 14\n",
@@ -263,11 +248,11 @@ const OF_ENABLE: &[Edit] = &[
 #[test]
 fn enable_delays_are_judged(rt: HostRuntime) -> Result<(), Fail> {
     let alloc = rt.alloc();
-    let system = system_of(alloc, ENABLE).ok_or("no system")?;
-    for edit in OF_ENABLE {
-        is_judged(&rt, alloc, &system, ENABLE_LEAST, edit)?;
+    let system = system_of(alloc, TWO_ENABLED).ok_or("no system")?;
+    for edit in OF_ENABLED {
+        is_judged(&rt, alloc, &system, ENABLED_LEAST, edit)?;
     }
-    assert!(rt; judged_in_both(alloc, &system, RING_LEAST) == Some(Verdict::Valid));
+    assert!(rt; judged_in_both(alloc, &system, TWO_CERTIFICATE) == Some(Verdict::Valid));
     Ok(())
 }
 
@@ -311,9 +296,9 @@ fn broken_bound_is_judged(
 
 /// Tables, and their certificates.
 const OPTIMA: &[(&str, &str)] = &[
-    (RING, RING_LEAST),
-    (FLOPS, FLOPS_LEAST),
-    (ENABLE, ENABLE_LEAST),
+    (TWO_LATCHES, TWO_CERTIFICATE),
+    (TWO_FLOPS, FLOPS_LEAST),
+    (TWO_ENABLED, ENABLED_LEAST),
 ];
 
 #[test]

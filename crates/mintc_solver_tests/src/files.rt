@@ -6,28 +6,16 @@ use mintc_hierarchy::Hierarchy;
 use mintc_text::Stop;
 use mintc_timing::Flat;
 use mintc_verilog::read_netlist;
+use mintc_worked::{TWO_CELLS, TWO_CLOCK, TWO_DELAYS, TWO_NETLIST};
 use std::alloc::Global;
 use std::process::Abort;
 use std::test::Fail;
 
-/// Two latches in a loop, over three levels.
-const NETLIST: &str =
-    "/* in the style of Yosys */\n(* src = \"two.v:1.1-9.10\" *)\nmodule two(phi1, phi2, y);\n  input phi1;\n  wire phi1;\n  input phi2;\n  wire phi2;\n  output y;\n  wire y;\n  wire \\loop.back ;\n  wire mid;\n  assign y = \\loop.back ;\n  half u1 ( .c(phi1), .i(\\loop.back ), .o(mid) );\n  half u2 ( .c(phi2), .i(mid), .o(\\loop.back ) );\nendmodule\nmodule half(c, i, o);\n  input c;\n  input i;\n  output o;\n  wire q;\n  LAT \\l[0]  ( .D(i), .G(c), .Q(q) );\n  slice s ( .a(q), .t(1'h0), .z(o) );\nendmodule\nmodule slice(a, t, z);\n  input a;\n  input t;\n  output z;\n  BUF b ( .A(a), .Y(z) );\nendmodule\n";
-
-const DELAYS: &str =
-    "(DELAYFILE (SDFVERSION \"3.0\") (DIVIDER /) (TIMESCALE 1ps)\n(CELL (CELLTYPE \"BUF\") (INSTANCE u1/s/b)\n (DELAY (ABSOLUTE (IOPATH A Y (0.020:0.020:0.020)))))\n(CELL (CELLTYPE \"BUF\") (INSTANCE u2/s/b)\n (DELAY (ABSOLUTE (IOPATH A Y (0.060) (0.050))))))\n";
-
-const CELLS: &str =
-    "[cell.LAT]\nkind = \"latch\"\nd = \"D\"\ng = \"G\"\noutputs = [\"Q\"]\nsetup = 10\ndq_min = 10\n[cell.BUF]\nkind = \"gate\"\ninputs = [\"A\"]\noutputs = [\"Y\"]\n";
-
-const CLOCK: &str =
-    "[[phase]]\nname = \"p1\"\nport = \"phi1\"\n[[phase]]\nname = \"p2\"\nport = \"phi2\"\n";
-
 /// The hierarchy of a netlist with these cells.
 fn flattened(rt: &impl Abort, alloc: Global, netlist: &str) -> Result<Hierarchy, Stop> {
-    assert!(rt; netlist.len() < 10_000 && CELLS.len() < 10_000);
+    assert!(rt; netlist.len() < 10_000 && TWO_CELLS.len() < 10_000);
     let modules = read_netlist(alloc, netlist.as_bytes())?;
-    let cells = read_cells(alloc, CELLS.as_bytes())?;
+    let cells = read_cells(alloc, TWO_CELLS.as_bytes())?;
     flatten(alloc, &modules, &cells, None)
 }
 
@@ -42,14 +30,14 @@ fn designed(
     assert!(rt;
         netlist.len() < 10_000
             && delays.len() < 10_000
-            && CELLS.len() < 10_000
+            && TWO_CELLS.len() < 10_000
             && clock.len() < 10_000
     );
     from_files(
         alloc,
         netlist.as_bytes(),
         delays.as_bytes(),
-        CELLS.as_bytes(),
+        TWO_CELLS.as_bytes(),
         clock.as_bytes(),
     )
 }
@@ -99,7 +87,7 @@ fn has_counts(hierarchy: &Hierarchy, scopes: usize, leaves: usize, inner: usize)
 // Row worked-netlist-bits.
 #[test]
 fn worked_netlist(rt: HostRuntime) -> Result<(), Fail> {
-    match flattened(&rt, rt.alloc(), NETLIST) {
+    match flattened(&rt, rt.alloc(), TWO_NETLIST) {
         Ok(hierarchy) => {
             assert!(rt; has_counts(&hierarchy, 5, 4, 29));
             assert!(rt; has_joins(&hierarchy, WORKED_JOINS));
@@ -159,7 +147,7 @@ fn has_sizes(flat: &Flat, elements: usize, inner: usize, arcs: usize) -> bool {
 // Row worked-files-design.
 #[test]
 fn worked_files(rt: HostRuntime) -> Result<(), Fail> {
-    match designed(&rt, rt.alloc(), NETLIST, DELAYS, CLOCK) {
+    match designed(&rt, rt.alloc(), TWO_NETLIST, TWO_DELAYS, TWO_CLOCK) {
         Ok(flat) => {
             assert!(rt; has_sizes(&flat, 2, 29, 27));
             assert!(rt; arc(&flat, 23) == Some((20, 20)) && arc(&flat, 26) == Some((50, 60)));
@@ -174,7 +162,7 @@ fn worked_files(rt: HostRuntime) -> Result<(), Fail> {
 fn two_entries_of_one_arc(rt: HostRuntime) -> Result<(), Fail> {
     let twice =
         "(DELAYFILE (DIVIDER /) (TIMESCALE 1 fs)\n(CELL (CELLTYPE \"BUF\") (INSTANCE u1/s/b) (DELAY (ABSOLUTE (IOPATH A Y (5)))))\n(CELL (CELLTYPE \"BUF\") (INSTANCE u1/s/b) (DELAY (ABSOLUTE (IOPATH A Y (3))))))\n";
-    match designed(&rt, rt.alloc(), NETLIST, twice, CLOCK) {
+    match designed(&rt, rt.alloc(), TWO_NETLIST, twice, TWO_CLOCK) {
         Ok(flat) => assert!(rt; arc(&flat, 23) == Some((3, 5))),
         Err(_) => panic!(rt; "no design"),
     }

@@ -4,13 +4,10 @@ use mintc_lines::read_table;
 use mintc_order::order;
 use mintc_text::{Refusal, Stop};
 use mintc_timing::Order;
+use mintc_worked::TWO_THROUGH_INNER;
 use std::alloc::{AllocError, Global};
 use std::process::Abort;
 use std::test::Fail;
-
-/// Two latches, the one arc between them through an inner bit.
-const INNER: &str =
-    "table 1\nphases 2\nphase phi1\nphase phi2\nelements 2\nelement a 1 10 - 10 10 0\nelement b 2 10 - 10 10 0\ninner 1\narcs 3\narc q0 n0 15 15\narc n0 d1 5 5\narc q1 d0 60 60\nbounds 0\nend\n";
 
 /// A table of so many inner bits and of arcs between them.
 fn table(alloc: Global, bits: u32, arcs: &[(u32, u32)]) -> Result<String, AllocError> {
@@ -154,7 +151,7 @@ fn small_designs(rt: HostRuntime) -> Result<(), Fail> {
 
 #[test]
 fn an_inner_bit_between_latches(rt: HostRuntime) -> Result<(), Fail> {
-    match answer(&rt, rt.alloc(), INNER) {
+    match answer(&rt, rt.alloc(), TWO_THROUGH_INNER) {
         Ok(order) => {
             let numbers = order.arcs().items();
             assert!(rt; numbers.len() == 3 && place(numbers, 0) < place(numbers, 1));

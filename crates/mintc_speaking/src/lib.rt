@@ -16,6 +16,7 @@ mod ranges;
 mod speaking;
 
 pub use gathering::gather_ranges;
+pub use matters::is_storage;
 pub use names::inner_names;
 pub use ports::{PortBit, place_in};
 pub use ranges::Ranges;

@@ -2,7 +2,7 @@
 ghost use Rattle.std.specs.Prelude.{◌≡◌, ◌<◌, length, option_map, IfSome};
 ghost use Rattle.mintc_sdf.specs.declared.delays.Subject.TheVariants as subject;
 ghost use Rattle.mintc_hierarchy.specs.Shape.{IsFlattened};
-ghost use Rattle.mintc_speaking.specs.Pins.{leaf_cell, pin_bit, input_pin};
+ghost use Rattle.mintc_speaking.specs.Pins.{leaf_cell, pin_bit, input_pin, is_storage};
 ghost use Rattle.mintc_speaking.specs.Speaking.{of_path, of_check, pins_named, of_leaf};
 ghost use Rattle.mintc_speaking.specs.Matters.{matter_of, matters_of, IsThere, IsSpoken};
 
@@ -57,17 +57,21 @@ fn of_path(cell: &Cell, leaf: u32, from: u32, to: u32) -> Option<Matter>
     }
 }
 
+/// Whether a cell is a latch or a flop.
+pub fn is_storage(cell: &Cell) -> bool
+    ensures { result ≡ is_storage cell.now }
+{
+    match cell {
+        Cell::Latch { .. } | Cell::Flop { .. } => true,
+        Cell::Gate { .. } | Cell::Clock { .. } => false,
+    }
+}
+
 /// What a check at a pin speaks of: of a latch or flop, at the one pin that matters.
 fn of_check(cell: &Cell, wanted: u32, matter: Matter, pin: u32) -> Option<Matter>
     ensures { matters_of result ≡ of_check cell.now wanted (matter_of matter) pin }
 {
-    let is_storage = match cell {
-        Cell::Latch { .. } => true,
-        Cell::Flop { .. } => true,
-        Cell::Gate { .. } => false,
-        Cell::Clock { .. } => false,
-    };
-    if is_storage && pin == wanted {
+    if is_storage(cell) && pin == wanted {
         Some(matter)
     } else {
         None
