@@ -1,7 +1,7 @@
 use Rattle.std.proofs.Common.{false, ap, ◌∙◌, sym}
 use Rattle.mintc_sdf.specs.declared.delays.Subject.TheVariants as subject
 use Rattle.mintc_sdf.specs.Forms.{lone_value, width}
-use Rattle.mintc_sdf.specs.Reading.{inside}
+use Rattle.mintc_sdflex.specs.Reading.{inside}
 use Rattle.mintc_sdf.specs.Sums.{summed}
 use Rattle.mintc_sdf.proofs.ValueLaws.{at-some, when-true}
 use Rattle.mintc_sdf.proofs.ClaimLaws.{Ports, claim-some, width-goes}
