@@ -1,13 +1,13 @@
 -- Conditions of definitions and of ports: what the walk finds is what the forms speak of.
-use Rattle.std.proofs.Common.{◌≡◌, ℕ, Bool, true, false, true≢false, ◌||◌, if◌then◌else◌, List, [], ◌∷◌, Option, Some, None, option_map, codes, bytes_eq, refl, sym, ap, ◌∙◌}
+use Rattle.std.proofs.Common.{◌≡◌, ℕ, Bool, true, false, true≢false, if◌then◌else◌, List, [], ◌∷◌, Option, Some, None, option_map, codes, bytes_eq, refl, sym, ap, ◌∙◌, arith}
 use Rattle.std.specs.Str.{str_to_ascii_lowercase}
 use Rattle.std.proofs.lemmas.Slice.Eq.{bytes_eq-Decides}
 use Rattle.mintc_sdflex.specs.declared.conditions.Layer.{Layer}
 use Rattle.mintc_sdflex.specs.declared.conditions.Layer.TheVariants as layer
 use Rattle.mintc_sdflex.specs.Tokens.{Token}
-use Rattle.mintc_sdflex.specs.Items.{Items, none, leaf, quoted, list, is_none, count, items, fronts}
-use Rattle.mintc_sdflex.specs.Words.{is_key, is_edge, is_signal_edge}
-use Rattle.mintc_sdf.specs.Forms.{Claim, with_items, list_at, iopath, interconnect, port, inner_def, last_def, lone_def, lone_name, inner_port, last_port, port_at}
+use Rattle.mintc_sdflex.specs.Items.{Items, leaf, is_none, count, items, fronts}
+use Rattle.mintc_sdflex.specs.Words.{is_key, is_edge}
+use Rattle.mintc_sdf.specs.Forms.{Claim, with_items, list_at, inner_def, last_def, lone_def, inner_port, last_port, port_at}
 use Rattle.mintc_sdflex.specs.Reading.{word_at, inside, with_rest}
 use Rattle.mintc_sdflex.specs.Conditions.{kind_of, layer_at, walked}
 use Rattle.mintc_sdflex.proofs.SharedInsideLaws.{inside-same, word-next}
@@ -23,12 +23,10 @@ abbrev pub first_of : {A : Type 0} → A × Items → A
 first_of p = p.0
 
 first-with : {A : Type 0} (is : Items) (o : Option A) → option_map first_of (option_map (with_items is) o) ≡ o
-first-with is None = refl
-first-with is (Some a) = refl
+first-with is o = grind arith
 
 pub shown-first : {A : Type 0} (rest : List Token) (o : Option (A × Items)) → option_map (with_rest rest) (option_map first_of o) ≡ shown rest o
-shown-first rest None = refl
-shown-first rest (Some p) = refl
+shown-first rest o = grind arith
 
 -- Definitions
 
@@ -41,42 +39,18 @@ def-any d is = ap (λ l. limited l (last_def d is)) (sym (more-any (count is)))
 
 def-one : (d : ℕ) (is : Items) → lone_def d is ≡ limited (more_by (count is) layer.Empty) (last_def d is)
 unfolding last_def lone_def more_by
-def-one d (leaf w (leaf v is)) = sym (ap (λ l. limited l (last_def d (leaf w (leaf v is)))) (more-over (count is)))
-def-one d (leaf w (quoted v is)) = sym (ap (λ l. limited l (last_def d (leaf w (quoted v is)))) (more-over (count is)))
-def-one d (leaf w (list v is)) = sym (ap (λ l. limited l (last_def d (leaf w (list v is)))) (more-over (count is)))
-def-one d (quoted w (leaf v is)) = sym (ap (λ l. limited l (last_def d (quoted w (leaf v is)))) (more-over (count is)))
-def-one d (quoted w (quoted v is)) = sym (ap (λ l. limited l (last_def d (quoted w (quoted v is)))) (more-over (count is)))
-def-one d (quoted w (list v is)) = sym (ap (λ l. limited l (last_def d (quoted w (list v is)))) (more-over (count is)))
-def-one d (list w (leaf v is)) = sym (ap (λ l. limited l (last_def d (list w (leaf v is)))) (more-over (count is)))
-def-one d (list w (quoted v is)) = sym (ap (λ l. limited l (last_def d (list w (quoted v is)))) (more-over (count is)))
-def-one d (list w (list v is)) = sym (ap (λ l. limited l (last_def d (list w (list v is)))) (more-over (count is)))
-def-one d _ = refl
+def-one d is = grind (arith, more-over)
 
 def-kind : (d : ℕ) (k : List ℕ) (l : Layer) → kind_of true k ≡ Some l → (is : Items) → inner_def d (leaf k is) ≡ limited (more_by (count is) l) (last_def d is)
 unfolding inner_def
 def-kind d k l e is = by (is_key (codes "COND") k) refl (is_key (codes "CONDELSE") k) refl e
   where
-    body : Bool → Bool → Bool → Bool → Bool → Option Claim
-    body a b c e f = if a then iopath is else (if b then interconnect d is else (if c then port is else (if e then last_def d is else (if f then lone_def d is else None))))
-
-    plain : (key : List ℕ) → is_key key k ≡ true → bytes_eq (str_to_ascii_lowercase key) (codes "iopath") ≡ false → bytes_eq (str_to_ascii_lowercase key) (codes "interconnect") ≡ false →
-        bytes_eq (str_to_ascii_lowercase key) (codes "port") ≡ false → inner_def d (leaf k is) ≡ body false false false (is_key (codes "COND") k) (is_key (codes "CONDELSE") k)
-    plain key e f g h =
-        ap (λ a. body a (is_key (codes "INTERCONNECT") k) (is_key (codes "PORT") k) (is_key (codes "COND") k) (is_key (codes "CONDELSE") k)) (keys-differ key (codes "IOPATH") k e ∙ f)
-        ∙ ap (λ b. body false b (is_key (codes "PORT") k) (is_key (codes "COND") k) (is_key (codes "CONDELSE") k)) (keys-differ key (codes "INTERCONNECT") k e ∙ g)
-        ∙ ap (λ c. body false false c (is_key (codes "COND") k) (is_key (codes "CONDELSE") k)) (keys-differ key (codes "PORT") k e ∙ h)
-
-    same : (m : Layer) → Some m ≡ Some l → m ≡ l
-    same m f = cc
-
     by : (a : Bool) → is_key (codes "COND") k ≡ a → (b : Bool) → is_key (codes "CONDELSE") k ≡ b → (if a then Some layer.Any else (if b then Some layer.Empty else None)) ≡ Some l →
         inner_def d (leaf k is) ≡ limited (more_by (count is) l) (last_def d is)
     by true f b g h =
-        plain (codes "COND") f refl refl refl ∙ ap (λ a. body false false false a (is_key (codes "CONDELSE") k)) f
-        ∙ def-any d is ∙ ap (λ m. limited (more_by (count is) m) (last_def d is)) (same layer.Any h)
+        cc (keys-differ (codes "COND") (codes "IOPATH") k f, keys-differ (codes "COND") (codes "INTERCONNECT") k f, keys-differ (codes "COND") (codes "PORT") k f, f, def-any d is, h)
     by false f true g h =
-        plain (codes "CONDELSE") g refl refl refl ∙ ap (λ a. body false false false a (is_key (codes "CONDELSE") k)) f ∙ ap (λ b. body false false false false b) g
-        ∙ def-one d is ∙ ap (λ m. limited (more_by (count is) m) (last_def d is)) (same layer.Empty h)
+        cc (keys-differ (codes "CONDELSE") (codes "IOPATH") k g, keys-differ (codes "CONDELSE") (codes "INTERCONNECT") k g, keys-differ (codes "CONDELSE") (codes "PORT") k g, f, g, def-one d is, h)
     by false f false g h = absurd (cc)
 
 def-form : (d : ℕ) → Form true (last_def d) (def_at d)
@@ -90,10 +64,7 @@ def-form d = record {
 }
   where
     leaf-is : (is : Items) → last_def d is ≡ (if is_none is then None else last_def d is)
-    leaf-is none = refl
-    leaf-is (leaf w is) = refl
-    leaf-is (quoted w is) = refl
-    leaf-is (list inner is) = refl
+    leaf-is is = grind arith
 
 -- a definition that is a condition, from its keyword on
 def-word : (d : ℕ) (ts next : List Token) (l : Layer) → layer_at true ts ≡ Some (l, next) → inside (inner_def d) ts ≡ inside (λ is. limited (more_by (count is) l) (last_def d is)) next
@@ -118,7 +89,17 @@ abbrev item_at : Items → Option (List ℕ)
 item_at is = option_map first_of (port_at is)
 
 no-edge : (k : List ℕ) → is_key (codes "COND") k ≡ true → is_edge k ≡ false
-no-edge k e = by (is_signal_edge k) refl
+no-edge k e =
+    cc (
+      keys-differ (codes "COND") (codes "posedge") k e,
+      keys-differ (codes "COND") (codes "negedge") k e,
+      signal (codes "01") refl,
+      signal (codes "10") refl,
+      signal (codes "0z") refl,
+      signal (codes "z1") refl,
+      signal (codes "1z") refl,
+      signal (codes "z0") refl,
+    )
   where
     signal : (w : List ℕ) → bytes_eq (str_to_ascii_lowercase w) (codes "cond") ≡ false → bytes_eq k w ≡ false
     signal w f = one (bytes_eq k w) refl
@@ -127,31 +108,13 @@ no-edge k e = by (is_signal_edge k) refl
         one false g = refl
         one true g = absurd (true≢false (sym e ∙ ap (is_key (codes "COND")) ((bytes_eq-Decides k w).0 g) ∙ f))
 
-    by : (b : Bool) → is_signal_edge k ≡ b → is_edge k ≡ false
-    by b f =
-        ap (λ a. a || is_key (codes "negedge") k || is_signal_edge k) (keys-differ (codes "COND") (codes "posedge") k e)
-        ∙ ap (λ a. a || is_signal_edge k) (keys-differ (codes "COND") (codes "negedge") k e)
-        ∙ ap (λ a. a || bytes_eq k (codes "10") || bytes_eq k (codes "0z") || bytes_eq k (codes "z1") || bytes_eq k (codes "1z") || bytes_eq k (codes "z0")) (signal (codes "01") refl)
-        ∙ ap (λ a. a || bytes_eq k (codes "0z") || bytes_eq k (codes "z1") || bytes_eq k (codes "1z") || bytes_eq k (codes "z0")) (signal (codes "10") refl)
-        ∙ ap (λ a. a || bytes_eq k (codes "z1") || bytes_eq k (codes "1z") || bytes_eq k (codes "z0")) (signal (codes "0z") refl)
-        ∙ ap (λ a. a || bytes_eq k (codes "1z") || bytes_eq k (codes "z0")) (signal (codes "z1") refl)
-        ∙ ap (λ a. a || bytes_eq k (codes "z0")) (signal (codes "1z") refl)
-        ∙ signal (codes "z0") refl
-
 port-kind : (k : List ℕ) (l : Layer) → kind_of false k ≡ Some l → (is : Items) → inner_port (leaf k is) ≡ limited (more_by (count is) l) (last_port is)
 unfolding inner_port
 port-kind k l e is = by (is_key (codes "COND") k) refl e
   where
-    same : (m : Layer) → Some m ≡ Some l → m ≡ l
-    same m f = cc
-
     by : (a : Bool) → is_key (codes "COND") k ≡ a → (if a then Some layer.Any else None) ≡ Some l → inner_port (leaf k is) ≡ limited (more_by (count is) l) (last_port is)
     by false f h = absurd (cc)
-    by true f h =
-        ap (λ a. if a then lone_name is else (if is_key (codes "COND") k then last_port is else None)) (no-edge k f)
-        ∙ ap (λ a. if a then last_port is else None) f
-        ∙ ap (λ l. limited l (last_port is)) (sym (more-any (count is)))
-        ∙ ap (λ m. limited (more_by (count is) m) (last_port is)) (same layer.Any h)
+    by true f h = cc (no-edge k f, f, more-any (count is), h)
 
 port-form : Form false last_port item_at
 unfolding last_port
@@ -188,16 +151,7 @@ plain-word both ts next k e f = by (kind_of both k) (sym (ap (layer_at both) (wo
     by (Some m) g = absurd (cc)
 
 pub plain-def : (k : List ℕ) → kind_of true k ≡ None → (is_key (codes "COND") k ≡ false) × (is_key (codes "CONDELSE") k ≡ false)
-plain-def k e = by (is_key (codes "COND") k) (is_key (codes "CONDELSE") k) e
-  where
-    by : (a b : Bool) → (if a then Some layer.Any else (if b then Some layer.Empty else None)) ≡ None → (a ≡ false) × (b ≡ false)
-    by true b f = absurd (cc)
-    by false true f = absurd (cc)
-    by false false f = (refl, refl)
+plain-def k e = grind (arith, e)
 
 pub plain-port : (k : List ℕ) → kind_of false k ≡ None → is_key (codes "COND") k ≡ false
-plain-port k e = by (is_key (codes "COND") k) e
-  where
-    by : (a : Bool) → (if a then Some layer.Any else None) ≡ None → a ≡ false
-    by true f = absurd (cc)
-    by false f = refl
+plain-port k e = grind (arith, e)

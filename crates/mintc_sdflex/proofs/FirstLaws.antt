@@ -1,13 +1,12 @@
 -- The first token of a text that begins with one.
-use Rattle.std.proofs.Common.{◌≡◌, ℕ, zero, suc, ◌+◌, ◌<◌, ◌≤◌, Bool, true, false, if◌then◌else◌, ◌==◌, List, [], ◌∷◌, ◌++◌, length, get_or, take, drop, refl, sym, ap, subst, ◌∙◌, arith, length-drop, drop-drop, drop_of_length-le, Option, Some, None, true≢false, true-eqb}
+use Rattle.std.proofs.Common.{◌≡◌, ℕ, zero, suc, ◌+◌, ◌<◌, ◌≤◌, Bool, true, false, if◌then◌else◌, ◌==◌, List, [], ◌∷◌, ◌++◌, length, get_or, take, drop, refl, sym, ap, subst, ◌∙◌, arith, length-drop, drop-drop, drop_of_length-le, Option, Some, None, true-eqb}
 use Rattle.mintc_scan.specs.Bytes.{is_white, string_size, comment_size}
 use Rattle.mintc_scan.specs.Pieces.{Piece, passed, token, front_token, tokens_from, is_token, is_settled}
-use Rattle.mintc_scan.proofs.SharedSizes.{either, byte-some}
+use Rattle.mintc_scan.proofs.SharedSizes.{byte-some}
 use Rattle.mintc_scan.proofs.SharedTokenLaws.{turn}
-use Rattle.mintc_sdflex.specs.declared.reader.Mark.{Mark}
 use Rattle.mintc_sdflex.specs.declared.reader.Mark.TheVariants as mark
 use Rattle.mintc_sdflex.specs.Tokens.{Token, opening, closing, word, string, bad, word_piece, string_piece, comment_piece, slash_piece, word_size, piece_of, tokens_of}
-use Rattle.mintc_sdflex.specs.Reading.{mark_of, mark_by, after_opening, after_closing, word_at, string_at}
+use Rattle.mintc_sdflex.specs.Reading.{mark_of, mark_by, word_at, string_at}
 use Rattle.mintc_sdflex.proofs.Sizes.{piece-fits}
 
 -- from a piece that is known
@@ -51,30 +50,13 @@ at-bad bs e f =
     let some = byte-some bs 34 (omega arith) e in
     at-quote bs None e f ∙ ap (λ l. bad ∷ tokens_of l) (drop_of_length-le bs (omega (arith, length-drop 1 bs)))
 
--- a piece that is passed over is no token
-no-token : (p : Piece Token) (n : ℕ) → p ≡ passed n → is_token p.token ≡ true → ⊥
-no-token p n e h = true≢false (sym h ∙ ap (λ (q : Piece Token). is_token q.token) e)
-
 slash-word : (bs : List ℕ) (o : Option ℕ) → is_token (comment_piece bs o).token ≡ true → comment_piece bs o ≡ word_piece bs
-slash-word bs None h = refl
-slash-word bs (Some n) h = absurd (no-token (comment_piece bs (Some n)) n refl h)
-
-abbrev Holds : List ℕ → Piece Token → Type 0
-Holds bs p = is_token p.token ≡ true → p ≡ word_piece bs
+slash-word bs o h = grind (arith, h)
 
 word-piece : (bs : List ℕ) → (get_or bs 0 0 == 40) ≡ false → (get_or bs 0 0 == 41) ≡ false → (get_or bs 0 0 == 34) ≡ false →
     is_token (piece_of bs).token ≡ true → piece_of bs ≡ word_piece bs
 unfolding piece_of
-word-piece bs e f g =
-    let b = get_or bs 0 0 in
-    let H = Holds bs in
-    either H (is_white b) _ _ (λ _. λ h. absurd (no-token (passed 1) 1 refl h))
-    (λ _. either H (b == 40) _ _ (λ x. absurd (true≢false (sym x ∙ e)))
-    (λ _. either H (b == 41) _ _ (λ x. absurd (true≢false (sym x ∙ f)))
-    (λ _. either H (b == 34) _ _ (λ x. absurd (true≢false (sym x ∙ g)))
-    (λ _. either H (b == 47) _ _
-    (λ _. λ h. slash-word bs (comment_size bs) h)
-    (λ _. λ h. refl)))))
+word-piece bs e f g h = grind (arith, slash-word bs (comment_size bs))
 
 pub at-word : (bs : List ℕ) → 0 < length bs → is_settled piece_of bs ≡ true → (get_or bs 0 0 == 40) ≡ false → (get_or bs 0 0 == 41) ≡ false → (get_or bs 0 0 == 34) ≡ false →
     tokens_of bs ≡ word (take (word_size false bs) bs) ∷ tokens_of (drop (word_size false bs) bs)
@@ -89,48 +71,23 @@ quote-mark bs (Some n) e f = ap mark_of (at-string bs n e f)
 pub marks : (bs : List ℕ) → is_settled piece_of bs ≡ true → mark_by bs ≡ mark_of (tokens_of bs)
 unfolding tokens_from
 marks [] s = refl
-marks (b ∷ bs) s =
-    let M : Mark → Type 0 = λ m. m ≡ mark_of (tokens_of (b ∷ bs)) in
-    either M (b == 40) _ _ (λ e. sym (ap mark_of (at-opening (b ∷ bs) e)))
-    (λ e. either M (b == 41) _ _ (λ f. sym (ap mark_of (at-closing (b ∷ bs) f)))
-    (λ f. either M (b == 34) _ _ (λ g. sym (quote-mark (b ∷ bs) (string_size false 0 bs) g refl))
-    (λ g. sym (ap mark_of (at-word (b ∷ bs) (omega arith) s e f g)))))
+marks (b ∷ bs) s = grind (arith, at-opening (b ∷ bs), at-closing (b ∷ bs), quote-mark (b ∷ bs) (string_size false 0 bs), at-word (b ∷ bs) (omega arith) s)
 
 -- and the other way round
 abbrev Byte : List ℕ → ℕ → Bool → Type 0
 Byte bs v b = (get_or bs 0 0 == v) ≡ b
 
 pub open-byte : (bs : List ℕ) → mark_by bs ≡ mark.Open → Byte bs 40 true
-open-byte [] e = absurd (cc)
-open-byte (b ∷ bs) e =
-    let P : Mark → Type 0 = λ m. m ≡ mark.Open → Byte (b ∷ bs) 40 true in
-    either P (b == 40) _ _ (λ x _. x)
-    (λ _. either P (b == 41) _ _ (λ _ f. absurd (cc))
-    (λ _. either P (b == 34) _ _ (λ _ f. absurd (cc)) (λ _ f. absurd (cc)))) e
+open-byte bs e = grind (arith, e)
 
 pub close-byte : (bs : List ℕ) → mark_by bs ≡ mark.Close → Byte bs 41 true
-close-byte [] e = absurd (cc)
-close-byte (b ∷ bs) e =
-    let P : Mark → Type 0 = λ m. m ≡ mark.Close → Byte (b ∷ bs) 41 true in
-    either P (b == 40) _ _ (λ _ f. absurd (cc))
-    (λ _. either P (b == 41) _ _ (λ x _. x)
-    (λ _. either P (b == 34) _ _ (λ _ f. absurd (cc)) (λ _ f. absurd (cc)))) e
+close-byte bs e = grind (arith, e)
 
 pub quote-byte : (bs : List ℕ) → mark_by bs ≡ mark.Quote → Byte bs 34 true
-quote-byte [] e = absurd (cc)
-quote-byte (b ∷ bs) e =
-    let P : Mark → Type 0 = λ m. m ≡ mark.Quote → Byte (b ∷ bs) 34 true in
-    either P (b == 40) _ _ (λ _ f. absurd (cc))
-    (λ _. either P (b == 41) _ _ (λ _ f. absurd (cc))
-    (λ _. either P (b == 34) _ _ (λ x _. x) (λ _ f. absurd (cc)))) e
+quote-byte bs e = grind (arith, e)
 
 pub word-byte : (bs : List ℕ) → mark_by bs ≡ mark.Word → (0 < length bs) × (Byte bs 40 false × (Byte bs 41 false × Byte bs 34 false))
-word-byte [] e = absurd (cc)
-word-byte (b ∷ bs) e =
-    let P : Mark → Type 0 = λ m. m ≡ mark.Word → (0 < length (b ∷ bs)) × (Byte (b ∷ bs) 40 false × (Byte (b ∷ bs) 41 false × Byte (b ∷ bs) 34 false)) in
-    either P (b == 40) _ _ (λ _ f. absurd (cc))
-    (λ x. either P (b == 41) _ _ (λ _ f. absurd (cc))
-    (λ y. either P (b == 34) _ _ (λ _ f. absurd (cc)) (λ z _. (omega arith, (x, (y, z)))))) e
+word-byte bs e = grind (arith, e)
 
 -- a parenthesis that comes next, and a word
 pub is-opening : (bs : List ℕ) → is_settled piece_of bs ≡ true → mark_of (tokens_of bs) ≡ mark.Open → (1 ≤ length bs) × (tokens_of bs ≡ opening ∷ tokens_of (drop 1 bs))
@@ -145,22 +102,6 @@ is-word bs s e = let b = word-byte bs (marks bs s ∙ e) in at-word bs b.0 s b.1
 
 pub is-quote : (bs : List ℕ) → is_settled piece_of bs ≡ true → mark_of (tokens_of bs) ≡ mark.Quote → (1 ≤ length bs) × Byte bs 34 true
 is-quote bs s e = let b = quote-byte bs (marks bs s ∙ e) in (byte-some bs 34 (omega arith) b, b)
-
-pub not-opening : (ts : List Token) → (mark_of ts ≡ mark.Open → ⊥) → after_opening ts ≡ None
-not-opening (opening ∷ ts) n = absurd (n refl)
-not-opening _ n = refl
-
-pub not-closing : (ts : List Token) → (mark_of ts ≡ mark.Close → ⊥) → after_closing ts ≡ None
-not-closing (closing ∷ ts) n = absurd (n refl)
-not-closing _ n = refl
-
-pub not-word : (ts : List Token) → (mark_of ts ≡ mark.Word → ⊥) → word_at ts ≡ None
-not-word (word w ∷ ts) n = absurd (n refl)
-not-word _ n = refl
-
-pub not-quote : (ts : List Token) → (mark_of ts ≡ mark.Quote → ⊥) → string_at ts ≡ None
-not-quote (string s ∷ ts) n = absurd (n refl)
-not-quote _ n = refl
 
 -- the words and strings that a reader passes
 pub word-front : (text : List ℕ) (at : ℕ) (rest : List ℕ) (n : ℕ) → is_settled piece_of (drop at text) ≡ true → mark_of (tokens_of (drop at text)) ≡ mark.Word →

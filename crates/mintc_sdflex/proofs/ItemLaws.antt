@@ -59,8 +59,7 @@ pub open-list : (ts : List Token) → after_closing (after ts) ≡ None → fron
 open-list ts e = front-opening ts ∙ by (after ts) e
   where
     by : (af : List Token) → after_closing af ≡ None → nest front ts (items ts) af ≡ nothing (opening ∷ ts)
-    by (closing ∷ rest) f = absurd (cc)
-    by _ f = refl
+    by af f = grind (arith, f)
 
 -- passing what is inside of lists
 abbrev skip : ℕ → List Token → Option (List Token)
@@ -91,23 +90,17 @@ pub passed-list : (ts : List Token) → passing 0 ts ≡ after_closing (after ts
 passed-list ts = skips (length ts) 0 ts (omega arith) ∙ by (after ts)
   where
     by : (af : List Token) → skip 0 af ≡ after_closing af
-    by (closing ∷ rest) = refl
-    by _ = refl
+    by af = grind arith
 
 -- one step
 pub step-open : (ts : List Token) → (stepped ts).0 ≡ mark.Open → 0 < length ts
-step-open [] e = absurd (cc)
-step-open (t ∷ ts) e = omega arith
+step-open ts e = grind (arith, e)
 
 pub step-close : (ts : List Token) → (stepped ts).0 ≡ mark.Close → passing 0 ts ≡ Some (stepped ts).1
-step-close (closing ∷ ts) e = refl
-step-close _ e = absurd (cc)
+step-close ts e = grind (arith, e)
 
 pub step-end : (d : ℕ) (ts : List Token) → (stepped ts).0 ≡ mark.End → passing d ts ≡ None
-step-end d [] e = refl
-step-end d (bad ∷ ts) e = refl
-step-end d _ e = absurd (cc)
+step-end d ts e = grind (arith, e)
 
 pub step-opening : (ts : List Token) → (stepped ts).0 ≡ mark.Open → ts ≡ opening ∷ (stepped ts).1
-step-opening (opening ∷ ts) e = refl
-step-opening _ e = absurd (cc)
+step-opening ts e = grind (arith, e)

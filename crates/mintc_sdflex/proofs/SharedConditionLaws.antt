@@ -1,5 +1,5 @@
 -- Conditions: what the walk finds is what the forms speak of.
-use Rattle.std.proofs.Common.{◌≡◌, ℕ, zero, suc, ◌≤◌, nat_lt, Bool, true, false, ◌||◌, if◌then◌else◌, List, [], ◌∷◌, ◌++◌, length, get_or, Option, Some, None, option_map, option_and_then, refl, sym, ap, subst, ◌∙◌, arith, append_assoc, length-append, le-ltb, lt-ltb}
+use Rattle.std.proofs.Common.{◌≡◌, ℕ, zero, suc, ◌≤◌, nat_lt, Bool, true, false, if◌then◌else◌, List, [], ◌∷◌, ◌++◌, length, get_or, Option, Some, None, option_map, option_and_then, refl, sym, ap, subst, ◌∙◌, arith, append_assoc, length-append, le-ltb, lt-ltb}
 use Rattle.std.proofs.Math.Seq.{take-append_seam, get_or-append_seam}
 use Rattle.mintc_sdflex.specs.declared.conditions.Layer.{Layer}
 use Rattle.mintc_sdflex.specs.declared.conditions.Layer.TheVariants as layer
@@ -19,45 +19,30 @@ noted-seam pre any l =
     ap (λ ls. ls ++ more (get_or (pre ++ l ∷ any) (length pre) layer.Any) ∷ []) (take-append_seam pre (l ∷ any))
     ∙ ap (λ k. pre ++ more k ∷ []) (get_or-append_seam pre l any layer.Any)
 
+-- a keyword that opens a condition
+pub layer-word : (both : Bool) (ts rest : List Token) (l : Layer) → layer_at both ts ≡ Some (l, rest) → (k : List ℕ) × (ts ≡ word k ∷ rest) × (kind_of both k ≡ Some l)
+layer-word both (word k ∷ ts) rest l e = by (kind_of both k) refl e
+  where
+    by : (o : Option Layer) → kind_of both k ≡ o → option_map (with_rest ts) o ≡ Some (l, rest) → (j : List ℕ) × (word k ∷ ts ≡ word j ∷ rest) × (kind_of both j ≡ Some l)
+    by None f g = absurd (cc)
+    by (Some m) f g =
+        let same : (m, ts) ≡ (l, rest) = cc in
+        (k, ap (λ (p : Layer × List Token). word k ∷ p.1) same, f ∙ ap (λ (p : Layer × List Token). Some p.0) same)
+layer-word both _ rest l e = absurd (cc)
+
 -- what an opening parenthesis does
 pub step-in : (both : Bool) (ls : List Layer) (t : Option (List Token)) (d : ℕ) (l : Layer) (ts rest : List Token) → nat_lt d (length ls) ≡ true → layer_at both ts ≡ Some (l, rest) →
     walked both ls t d (opening ∷ ts) ≡ walked both (noted d ls ++ l ∷ []) None (suc d) rest
-step-in both ls t d l (word k ∷ ts) rest b e = by (kind_of both k) refl e
-  where
-    other : Bool → Option (List Token × List Token)
-    other b = walked both (noted_if b d ls) (last_if b (opening ∷ word k ∷ ts) t) (suc d) (word k ∷ ts)
-
-    by : (o : Option Layer) → kind_of both k ≡ o → option_map (with_rest ts) o ≡ Some (l, rest) →
-        walked both ls t d (opening ∷ word k ∷ ts) ≡ walked both (noted d ls ++ l ∷ []) None (suc d) rest
-    by None f g = absurd (cc)
-    by (Some m) f g =
-        let given : Layer × List Token = (m, ts) in
-        let wanted : Layer × List Token = (l, rest) in
-        let same : given ≡ wanted = cc in
-        ap (λ b. chose b (kind_of both k) (λ l. walked both (noted d ls ++ l ∷ []) None (suc d) ts) (other b)) b
-        ∙ ap (λ o. chose true o (λ l. walked both (noted d ls ++ l ∷ []) None (suc d) ts) (other true)) f
-        ∙ ap (λ (p : Layer × List Token). walked both (noted d ls ++ p.0 ∷ []) None (suc d) p.1) same
-step-in both ls t d l _ rest b e = absurd (cc)
+step-in both ls t d l ts rest b e = let w = layer-word both ts rest l e in rw (w.1, w.2, b) refl
 
 pub step-last : (both : Bool) (ls : List Layer) (t : Option (List Token)) (d : ℕ) (ts : List Token) → nat_lt d (length ls) ≡ true → layer_at both ts ≡ None →
     walked both ls t d (opening ∷ ts) ≡ walked both (noted d ls) (Some (opening ∷ ts)) (suc d) ts
-step-last both ls t d (word k ∷ ts) b e = by (kind_of both k) refl e
-  where
-    other : Bool → Option (List Token × List Token)
-    other b = walked both (noted_if b d ls) (last_if b (opening ∷ word k ∷ ts) t) (suc d) (word k ∷ ts)
-
-    by : (o : Option Layer) → kind_of both k ≡ o → option_map (with_rest ts) o ≡ None →
-        walked both ls t d (opening ∷ word k ∷ ts) ≡ walked both (noted d ls) (Some (opening ∷ word k ∷ ts)) (suc d) (word k ∷ ts)
-    by (Some m) f g = absurd (cc)
-    by None f g =
-        ap (λ b. chose b (kind_of both k) (λ l. walked both (noted d ls ++ l ∷ []) None (suc d) ts) (other b)) b
-        ∙ ap (λ o. chose true o (λ l. walked both (noted d ls ++ l ∷ []) None (suc d) ts) (other true)) f
+step-last both ls t d (word k ∷ ts) b e = grind (arith, b, e)
 step-last both ls t d ts b e = ap (λ b. walked both (noted_if b d ls) (last_if b (opening ∷ ts) t) (suc d) ts) b
 
 pub step-off : (both : Bool) (ls : List Layer) (t : Option (List Token)) (d : ℕ) (ts : List Token) → nat_lt d (length ls) ≡ false →
     walked both ls t d (opening ∷ ts) ≡ walked both ls t (suc d) ts
-step-off both ls t d (word k ∷ ts) b =
-    ap (λ b. chose b (kind_of both k) (λ l. walked both (noted d ls ++ l ∷ []) None (suc d) ts) (walked both (noted_if b d ls) (last_if b (opening ∷ word k ∷ ts) t) (suc d) (word k ∷ ts))) b
+step-off both ls t d (word k ∷ ts) b = grind (arith, b)
 step-off both ls t d ts b = ap (λ b. walked both (noted_if b d ls) (last_if b (opening ∷ ts) t) (suc d) ts) b
 
 -- what a word or a string does
@@ -140,27 +125,10 @@ front-more both lst at pre l any one t s here next rest put i some size last sam
 )
 
 over-first : {A : Type 0} (at : Items → Option A) (l : Layer) (ls : List Layer) (t : Option (List Token)) → value at (l ∷ ls) t ≡ limited l (value at ls t)
-over-first at l ls t = by (is_over l)
-  where
-    by : (b : Bool) → (if b || has_over ls then None else option_and_then (λ s. at (items s)) t) ≡ (if b then None else value at ls t)
-    by true = refl
-    by false = refl
+over-first at l ls t = grind arith
 
 none-first : {A : Type 0} (lst : Items → Option A) (is : Items) → lst none ≡ None → (if is_none is then None else lst is) ≡ lst is
-none-first lst none e = sym e
-none-first lst _ e = refl
-
-pub layer-word : (both : Bool) (ts rest : List Token) (l : Layer) → layer_at both ts ≡ Some (l, rest) → (k : List ℕ) × (ts ≡ word k ∷ rest) × (kind_of both k ≡ Some l)
-layer-word both (word k ∷ ts) rest l e = by (kind_of both k) refl e
-  where
-    by : (o : Option Layer) → kind_of both k ≡ o → option_map (with_rest ts) o ≡ Some (l, rest) → (j : List ℕ) × (word k ∷ ts ≡ word j ∷ rest) × (kind_of both j ≡ Some l)
-    by None f g = absurd (cc)
-    by (Some m) f g =
-        let given : Layer × List Token = (m, ts) in
-        let wanted : Layer × List Token = (l, rest) in
-        let same : given ≡ wanted = cc in
-        (k, ap (λ (p : Layer × List Token). word k ∷ p.1) same, f ∙ ap (λ (p : Layer × List Token). Some p.0) same)
-layer-word both _ rest l e = absurd (cc)
+none-first lst is e = grind (arith, e)
 
 walks : {A : Type 0} (both : Bool) (lst at : Items → Option A) → Form both lst at → (n : ℕ) (pre : List Layer) (l : Layer) (any : List Layer) (t : Option (List Token)) (ts rest : List Token) →
     length ts ≤ n → after ts ≡ closing ∷ rest → Walks both lst at pre l any t ts rest
@@ -265,18 +233,14 @@ passes-end both ls t ts start rest = by (has_over ls) t
     by true t e p = absurd (cc)
     by false None e p = absurd (cc)
     by false (Some s) e p =
-        let given : List Token × List Token = (s, ts) in
-        let wanted : List Token × List Token = (start, rest) in
-        let same : given ≡ wanted = cc in
+        let same : (s, ts) ≡ (start, rest) = cc in
         (ap (λ (x : List Token × List Token). Some x.1) same, subst (λ (x : List Token × List Token). Plain both x.0) same p)
 
 passes-if : (both b : Bool) (t : Option (List Token)) (here : List Token) → Plain both here → PlainIf both t → PlainIf both (last_if b here t)
-passes-if both true t here h p = h
-passes-if both false t here h p = p
+passes-if both b t here h p = grind (arith, h, p)
 
 passes : (both : Bool) (ls : List Layer) (t : Option (List Token)) (d : ℕ) (ts start rest : List Token) → Passes both t d ts (walked both ls t d ts) start rest
 passes both ls t d [] start rest e p = absurd (cc)
-passes both ls t d (bad ∷ ts) start rest e p = absurd (cc)
 passes both ls t zero (closing ∷ ts) start rest e p = passes-end both ls t ts start rest e p
 passes both ls t (suc d) (closing ∷ ts) start rest e p = passes both ls t d ts start rest e p
 passes both ls t d (word w ∷ ts) start rest e p =
@@ -302,31 +266,22 @@ passes both ls t d (opening ∷ word k ∷ ts) start rest e p =
     by true (Some l) f g inward other = inward l g
     by true None f g inward other = other true g (plain f)
     by false o f g inward other = other false g p
-passes both ls t d (opening ∷ []) start rest e p = absurd (cc)
 passes both ls t d (opening ∷ opening ∷ ts) start rest e p =
     passes both _ _ (suc d) (opening ∷ ts) start rest e (passes-if both (nat_lt d (length ls)) t (opening ∷ opening ∷ ts) (λ next f. let same : opening ∷ ts ≡ next = cc in ap (layer_at both) (sym same)) p)
 passes both ls t d (opening ∷ closing ∷ ts) start rest e p =
     passes both _ _ (suc d) (closing ∷ ts) start rest e (passes-if both (nat_lt d (length ls)) t (opening ∷ closing ∷ ts) (λ next f. let same : closing ∷ ts ≡ next = cc in ap (layer_at both) (sym same)) p)
 passes both ls t d (opening ∷ string s ∷ ts) start rest e p =
-    passes both _ _ (suc d) (string s ∷ ts) start rest e (passes-if both (nat_lt d (length ls)) t (opening ∷ string s ∷ ts) (λ next f. let same : string s ∷ ts ≡ next = cc in ap (layer_at both) (sym same)) p)
-passes both ls t d (opening ∷ bad ∷ ts) start rest e p = absurd (cc)
+    passes both (noted_if (nat_lt d (length ls)) d ls) _ (suc d) (string s ∷ ts) start rest e (passes-if both (nat_lt d (length ls)) t (opening ∷ string s ∷ ts) (λ next f. let same : string s ∷ ts ≡ next = cc in ap (layer_at both) (sym same)) p)
+passes both ls t d _ start rest e p = absurd (cc)
 
 -- what is found, and what nothing is found of
 shows : {A : Type 0} (at : Items → Option A) (b : Bool) (u : Option (List Token)) (r start rest : List Token) → (if b then None else option_map (with_rest r) u) ≡ Some (start, rest) →
     (if b then None else option_and_then (λ s. at (items s)) u) ≡ at (items start)
-shows at true u r start rest e = absurd (cc)
-shows at false None r start rest e = absurd (cc)
-shows at false (Some s) r start rest e =
-    let given : List Token × List Token = (s, r) in
-    let wanted : List Token × List Token = (start, rest) in
-    let same : given ≡ wanted = cc in
-    ap (λ (x : List Token × List Token). at (items x.0)) same
+shows at b u r start rest e = grind (arith, e)
 
 shows-none : {A : Type 0} (at : Items → Option A) (b : Bool) (u : Option (List Token)) (r : List Token) → (if b then None else option_map (with_rest r) u) ≡ None →
     (if b then None else option_and_then (λ s. at (items s)) u) ≡ None
-shows-none at true u r e = refl
-shows-none at false None r e = refl
-shows-none at false (Some s) r e = absurd (cc)
+shows-none at b u r e = grind (arith, e)
 
 given : {A : Type 0} (both : Bool) (lst at : Items → Option A) → Form both lst at → (outer : Layer) (ts rest : List Token) → (w : Walks both lst at [] outer [] None ts rest) →
     limited (more_by (count (items ts)) outer) (lst (items ts)) ≡ value at (more_by (count (items ts)) outer ∷ w.0) w.1

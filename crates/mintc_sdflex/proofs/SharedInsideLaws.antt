@@ -27,14 +27,6 @@ pub items-word : (w : List ℕ) (ts : List Token) → (items (word w ∷ ts) ≡
 unfolding fronts
 items-word w ts = (refl, refl)
 
-pub items-string : (w : List ℕ) (ts : List Token) → (items (string w ∷ ts) ≡ quoted w (items ts)) × (after (string w ∷ ts) ≡ after ts)
-unfolding fronts
-items-string w ts = (refl, refl)
-
-pub items-closing : (ts : List Token) → (items (closing ∷ ts) ≡ none) × (after (closing ∷ ts) ≡ closing ∷ ts)
-unfolding fronts
-items-closing ts = (refl, refl)
-
 -- a closed list, and one that isn't
 abbrev pub Opened : List Token → List Token → Type 0
 Opened ts rest = (items (opening ∷ ts) ≡ list (items ts) (items rest)) × (after (opening ∷ ts) ≡ after rest)
@@ -60,29 +52,17 @@ inside-some {A} f ts a rest e = by (items ts) (after ts) e
 
 -- nothing is given of items out of form, or of a list that isn't closed
 pub inside-none : {A : Type 0} (f : Items → Option A) (ts : List Token) → f (items ts) ≡ None → inside f ts ≡ None
-inside-none {A} f ts e = by (after ts)
-  where
-    by : (af : List Token) → inside_by f (items ts) af ≡ None
-    by (closing ∷ r) = ap (option_map (with_rest r)) e
-    by _ = refl
+inside-none f ts e = grind (arith, e)
 
 pub inside-open : {A : Type 0} (f : Items → Option A) (ts : List Token) → after_closing (after ts) ≡ None → inside f ts ≡ None
-inside-open {A} f ts e = by (items ts) (after ts) e
-  where
-    by : (is : Items) (af : List Token) → after_closing af ≡ None → inside_by f is af ≡ None
-    by is (closing ∷ r) g = absurd (cc)
-    by is _ g = refl
+inside-open f ts e = grind (arith, e)
 
 pub inside-closed : {A : Type 0} (f : Items → Option A) (ts rest : List Token) (a : A) → after ts ≡ closing ∷ rest → f (items ts) ≡ Some a → inside f ts ≡ Some (a, rest)
 inside-closed {A} f ts rest a e g = ap (inside_by f (items ts)) e ∙ ap (option_map (with_rest rest)) g
 
 -- two forms that give the same
 pub inside-same : {A : Type 0} (f g : Items → Option A) (ts : List Token) → ((is : Items) → f is ≡ g is) → inside f ts ≡ inside g ts
-inside-same {A} f g ts h = by (after ts)
-  where
-    by : (af : List Token) → inside_by f (items ts) af ≡ inside_by g (items ts) af
-    by (closing ∷ r) = ap (option_map (with_rest r)) (h (items ts))
-    by _ = refl
+inside-same f g ts h = grind (arith, h (items ts))
 
 -- behind a word, and at the end
 pub inside-word : {A : Type 0} (f : Items → Option A) (ts : List Token) (w : List ℕ) (rest : List Token) → word_at ts ≡ Some (w, rest) → inside f ts ≡ inside (λ is. f (leaf w is)) rest
@@ -133,60 +113,42 @@ opening-none f ts h = by (after ts) refl
     by (closing ∷ r) e = inside-none f (opening ∷ ts) (ap f (opened ts r e).0 ∙ h (items ts) (items r))
     by _ e = inside-open f (opening ∷ ts) (ap after_closing (unopened ts (ap after_closing e)).1)
 
--- a form that needs a word, a string, a list or the end: it gives nothing of what else comes first
+-- nothing is given where nothing is given of what comes first
+of-first : {A : Type 0} (f : Items → Option A) (ts : List Token) → ((rest : List Token) → after_closing ts ≡ Some rest → f none ≡ None) →
+    ((w : List ℕ) (rest : List Token) → word_at ts ≡ Some (w, rest) → (is : Items) → f (leaf w is) ≡ None) →
+    ((w : List ℕ) (rest : List Token) → string_at ts ≡ Some (w, rest) → (is : Items) → f (quoted w is) ≡ None) →
+    ((rest : List Token) → after_opening ts ≡ Some rest → (inner is : Items) → f (list inner is) ≡ None) → inside f ts ≡ None
+unfolding fronts
+of-first f (word w ∷ ts) n g q l = inside-none f (word w ∷ ts) (g w ts refl (items ts))
+of-first f (string w ∷ ts) n g q l = inside-none f (string w ∷ ts) (q w ts refl (items ts))
+of-first f (opening ∷ ts) n g q l = opening-none f ts (l ts refl)
+of-first f (closing ∷ ts) n g q l = inside-none f (closing ∷ ts) (n ts refl)
+of-first f _ n g q l = refl
+
+-- a form that needs a word, a string, a list or the end
 pub needs-word : {A : Type 0} (f : Items → Option A) (ts : List Token) → f none ≡ None → ((w : List ℕ) (is : Items) → f (quoted w is) ≡ None) → ((inner is : Items) → f (list inner is) ≡ None) →
     word_at ts ≡ None → inside f ts ≡ None
-unfolding fronts
-needs-word f (word w ∷ ts) n q l e = absurd (cc)
-needs-word f (string w ∷ ts) n q l e = inside-none f (string w ∷ ts) (q w (items ts))
-needs-word f (opening ∷ ts) n q l e = opening-none f ts l
-needs-word f (closing ∷ ts) n q l e = inside-none f (closing ∷ ts) n
-needs-word f _ n q l e = refl
+needs-word f ts n q l e = of-first f ts (λ _ _. n) (λ w rest x. absurd (cc)) (λ w _ _. q w) (λ _ _. l)
 
 pub needs-string : {A : Type 0} (f : Items → Option A) (ts : List Token) → f none ≡ None → ((w : List ℕ) (is : Items) → f (leaf w is) ≡ None) → ((inner is : Items) → f (list inner is) ≡ None) →
     string_at ts ≡ None → inside f ts ≡ None
-unfolding fronts
-needs-string f (word w ∷ ts) n g l e = inside-none f (word w ∷ ts) (g w (items ts))
-needs-string f (string w ∷ ts) n g l e = absurd (cc)
-needs-string f (opening ∷ ts) n g l e = opening-none f ts l
-needs-string f (closing ∷ ts) n g l e = inside-none f (closing ∷ ts) n
-needs-string f _ n g l e = refl
+needs-string f ts n g l e = of-first f ts (λ _ _. n) (λ w _ _. g w) (λ w rest x. absurd (cc)) (λ _ _. l)
 
 pub needs-list : {A : Type 0} (f : Items → Option A) (ts : List Token) → f none ≡ None → ((w : List ℕ) (is : Items) → f (leaf w is) ≡ None) → ((w : List ℕ) (is : Items) → f (quoted w is) ≡ None) →
     after_opening ts ≡ None → inside f ts ≡ None
-unfolding fronts
-needs-list f (word w ∷ ts) n g q e = inside-none f (word w ∷ ts) (g w (items ts))
-needs-list f (string w ∷ ts) n g q e = inside-none f (string w ∷ ts) (q w (items ts))
-needs-list f (opening ∷ ts) n g q e = absurd (cc)
-needs-list f (closing ∷ ts) n g q e = inside-none f (closing ∷ ts) n
-needs-list f _ n g q e = refl
+needs-list f ts n g q e = of-first f ts (λ _ _. n) (λ w _ _. g w) (λ w _ _. q w) (λ rest x. absurd (cc))
 
 pub needs-end : {A : Type 0} (f : Items → Option A) (ts : List Token) → ((w : List ℕ) (is : Items) → f (leaf w is) ≡ None) → ((w : List ℕ) (is : Items) → f (quoted w is) ≡ None) →
     ((inner is : Items) → f (list inner is) ≡ None) → after_closing ts ≡ None → inside f ts ≡ None
-unfolding fronts
-needs-end f (word w ∷ ts) g q l e = inside-none f (word w ∷ ts) (g w (items ts))
-needs-end f (string w ∷ ts) g q l e = inside-none f (string w ∷ ts) (q w (items ts))
-needs-end f (opening ∷ ts) g q l e = opening-none f ts l
-needs-end f (closing ∷ ts) g q l e = absurd (cc)
-needs-end f _ g q l e = refl
+needs-end f ts g q l e = of-first f ts (λ rest x. absurd (cc)) (λ w _ _. g w) (λ w _ _. q w) (λ _ _. l)
 
 pub needs-word-or-end : {A : Type 0} (f : Items → Option A) (ts : List Token) → ((w : List ℕ) (is : Items) → f (quoted w is) ≡ None) → ((inner is : Items) → f (list inner is) ≡ None) →
     after_closing ts ≡ None → word_at ts ≡ None → inside f ts ≡ None
-unfolding fronts
-needs-word-or-end f (word w ∷ ts) q l e g = absurd (cc)
-needs-word-or-end f (string w ∷ ts) q l e g = inside-none f (string w ∷ ts) (q w (items ts))
-needs-word-or-end f (opening ∷ ts) q l e g = opening-none f ts l
-needs-word-or-end f (closing ∷ ts) q l e g = absurd (cc)
-needs-word-or-end f _ q l e g = refl
+needs-word-or-end f ts q l e g = of-first f ts (λ rest x. absurd (cc)) (λ w rest x. absurd (cc)) (λ w _ _. q w) (λ _ _. l)
 
 pub needs-list-or-end : {A : Type 0} (f : Items → Option A) (ts : List Token) → ((w : List ℕ) (is : Items) → f (leaf w is) ≡ None) → ((w : List ℕ) (is : Items) → f (quoted w is) ≡ None) →
     after_closing ts ≡ None → after_opening ts ≡ None → inside f ts ≡ None
-unfolding fronts
-needs-list-or-end f (word w ∷ ts) g q e h = inside-none f (word w ∷ ts) (g w (items ts))
-needs-list-or-end f (string w ∷ ts) g q e h = inside-none f (string w ∷ ts) (q w (items ts))
-needs-list-or-end f (opening ∷ ts) g q e h = absurd (cc)
-needs-list-or-end f (closing ∷ ts) g q e h = absurd (cc)
-needs-list-or-end f _ g q e h = refl
+needs-list-or-end f ts g q e h = of-first f ts (λ rest x. absurd (cc)) (λ w _ _. g w) (λ w _ _. q w) (λ rest x. absurd (cc))
 
 -- a form of what another form gives
 pub inside-then : {A B : Type 0} (f : Items → Option A) (g : A → Option B) (ts : List Token) (a : A) (rest : List Token) → inside f ts ≡ Some (a, rest) →
@@ -197,15 +159,10 @@ inside-then f g ts a rest e =
 
 -- a form that gives nothing where another gives nothing
 pub rest-none : {A : Type 0} (o : Option A) (rest : List Token) → option_map (with_rest rest) o ≡ None → o ≡ None
-rest-none None rest e = refl
-rest-none (Some a) rest e = absurd (cc)
+rest-none o rest e = grind (arith, e)
 
 pub inside-still : {A B : Type 0} (f : Items → Option A) (g : Items → Option B) (ts : List Token) → (f (items ts) ≡ None → g (items ts) ≡ None) → inside f ts ≡ None → inside g ts ≡ None
-inside-still f g ts h e = by (after ts) e
-  where
-    by : (af : List Token) → inside_by f (items ts) af ≡ None → inside_by g (items ts) af ≡ None
-    by (closing ∷ r) k = ap (option_map (with_rest r)) (h (rest-none (f (items ts)) r k))
-    by _ k = refl
+inside-still f g ts h e = grind (arith, h, e)
 
 pub inside-then_none : {A B : Type 0} (f : Items → Option A) (g : A → Option B) (ts : List Token) → inside f ts ≡ None → inside (λ is. option_and_then g (f is)) ts ≡ None
 inside-then_none f g ts e = inside-still f (λ is. option_and_then g (f is)) ts (ap (option_and_then g)) e
