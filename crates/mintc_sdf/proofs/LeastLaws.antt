@@ -17,18 +17,6 @@ times-mono x y n h =
     let e : up x + down y ≤ up y + down x = omega (arith, ints) in
     omega (arith, ints, mul-le-mul_left n e)
 
-min-left : (x y : ℤ) → int_min x y ≤ℤ x
-min-left x y = omega (arith, ints, clamps)
-
-min-right : (x y : ℤ) → int_min x y ≤ℤ y
-min-right x y = omega (arith, ints, clamps)
-
-max-left : (x y : ℤ) → x ≤ℤ int_max x y
-max-left x y = omega (arith, ints, clamps)
-
-max-right : (x y : ℤ) → y ≤ℤ int_max x y
-max-right x y = omega (arith, ints, clamps)
-
 Any-head : {X : Type 0} (P : X → Type 0) (x : X) (xs : List X) → P x → Any P (x ∷ xs)
 Any-head P x xs h = (0, x, omega arith, refl, h)
 
@@ -70,7 +58,7 @@ least-is scale v (u ∷ us) h =
     let r = least-is scale u us (λ k d g. h (suc k) d (omega arith)) in
     let x = rounded_down scale v in
     let z = least scale u us in (
-      All-cons (Above scale (int_min x z)) v (u ∷ us) (lower scale (int_min x z) x v (min-left x z) f.0) (λ k d g. lower scale (int_min x z) z (get_or (u ∷ us) k d) (min-right x z) (r.0 k d g)),
+      All-cons (Above scale (int_min x z)) v (u ∷ us) (lower scale (int_min x z) x v (omega (arith, ints, clamps)) f.0) (λ k d g. lower scale (int_min x z) z (get_or (u ∷ us) k d) (omega (arith, ints, clamps)) (r.0 k d g)),
       some (int_lt z x) x z f.1 r.1,
     )
   where
@@ -86,7 +74,7 @@ greatest-is scale v (u ∷ us) h =
     let r = greatest-is scale u us (λ k d g. h (suc k) d (omega arith)) in
     let x = rounded_up scale v in
     let z = greatest scale u us in (
-      All-cons (Below scale (int_max x z)) v (u ∷ us) (higher scale (int_max x z) x v (max-left x z) f.0) (λ k d g. higher scale (int_max x z) z (get_or (u ∷ us) k d) (max-right x z) (r.0 k d g)),
+      All-cons (Below scale (int_max x z)) v (u ∷ us) (higher scale (int_max x z) x v (omega (arith, ints, clamps)) f.0) (λ k d g. higher scale (int_max x z) z (get_or (u ∷ us) k d) (omega (arith, ints, clamps)) (r.0 k d g)),
       some (int_lt z x) x z f.1 r.1,
     )
   where

@@ -1,7 +1,7 @@
 -- The numbers of delays are in range.
-use Rattle.std.proofs.Common.{int_lt, ◌≡◌, ℕ, zero, suc, ◌+◌, ◌*◌, ◌/◌, ◌%◌, ◌^◌, ◌<◌, ◌≤◌, nat_lt, Bool, true, false, true≢false, not, ◌&&◌, if◌then◌else◌, List, [], ◌∷◌, ◌++◌, All, Option, Some, None, option_map, Result, Ok, Err, refl, sym, ap, subst, ◌∙◌, arith, ℤ, pos, negsuc, neg_ℤ, ◌≤ℤ◌}
+use Rattle.std.proofs.Common.{◌≡◌, ℕ, ◌*◌, ◌/◌, ◌%◌, ◌^◌, ◌<◌, ◌≤◌, nat_lt, Bool, true, false, not, ◌&&◌, if◌then◌else◌, List, [], ◌∷◌, ◌++◌, All, Option, Some, None, option_map, Result, Ok, Err, refl, sym, ap, subst, ◌∙◌, arith, ℤ, pos, negsuc, neg_ℤ, ◌≤ℤ◌}
 use Rattle.std.specs.Int.{int_min, int_max}
-use Rattle.std.proofs.lemmas.Int.{ints, fold-int_min_bounds, fold-int_max_bounds}
+use Rattle.std.proofs.lemmas.Int.{ints, clamps}
 use Rattle.std.proofs.lemmas.List.Elements.{All-cons}
 use Rattle.std.proofs.lemmas.Bool.Decides.{nat_tests}
 use Rattle.std.proofs.lemmas.Nat.{div-add-mod'}
@@ -9,10 +9,9 @@ use Rattle.mintc_text.specs.declared.refusals.Refusal.{Refusal}
 use Rattle.mintc_text.specs.Decimals.{Number, over, under, away, floor_of, ceiling_of, tens_up}
 use Rattle.mintc_sdf.specs.declared.delays.Delay.{Delay}
 use Rattle.mintc_sdf.specs.declared.numbers.Fault.{Fault}
-use Rattle.mintc_sdf.specs.declared.numbers.Fault.TheVariants as fault
 use Rattle.mintc_sdf.specs.Numbers.{is_far, is_below_zero, rounded_down, rounded_up, least, greatest, number_fault, or_else}
 use Rattle.mintc_sdf.specs.Texts.{Said, may_be_negative, refusal_of, fault_of, first_fault, delays_by, delays_from, said_in, judged, reading, delays_of}
-use Rattle.mintc_sdf.specs.Tokens.{tokens_of}
+use Rattle.mintc_sdflex.specs.Tokens.{tokens_of}
 use Rattle.mintc_sdf.specs.Laws.{IsWithin}
 use Rattle.mintc_sdf.proofs.RoundLaws.{less, quotient, under-some}
 
@@ -24,29 +23,14 @@ abbrev Bounds : Bool → ℤ → ℤ → Type 0
 Bounds negative x y = (low negative ≤ℤ x) × (x ≤ℤ y) × (y ≤ℤ pos (10 ^ 9))
 
 away-least : (q : ℕ) (left : Bool) → q ≤ away q left
-away-least q true = omega arith
-away-least q false = omega arith
+away-least q left = grind arith
 
 away-most : (q m : ℕ) (left : Bool) → q ≤ m → (q ≡ m → left ≡ false) → away q left ≤ m
-away-most q m false h e = h
-away-most q m true h e = by (nat_lt q m) refl
-  where
-    by : (b : Bool) → nat_lt q m ≡ b → q + 1 ≤ m
-    by true f = grind (arith, nat_tests)
-    by false f =
-        let same : q ≡ m = grind (arith, nat_tests) in
-        absurd (true≢false (e same))
+away-most q m left h e = grind (arith, nat_tests, e)
 
 rounds : (negative sign : Bool) (q a : ℕ) → q ≤ a → a ≤ 10 ^ 9 → (sign && not negative ≡ true → a ≡ 0) →
     Bounds negative (if sign then neg_ℤ (pos a) else pos q) (if sign then neg_ℤ (pos q) else pos a)
-rounds true true zero zero h e f = (omega (arith, ints), omega (arith, ints), omega (arith, ints))
-rounds true true zero (suc a) h e f = (omega (arith, ints, e), omega (arith, ints), omega (arith, ints))
-rounds true true (suc q) zero h e f = absurd (omega (arith, h))
-rounds true true (suc q) (suc a) h e f = (omega (arith, ints, e), omega (arith, ints, h), omega (arith, ints))
-rounds true false q a h e f = (omega (arith, ints), omega (arith, ints, h), omega (arith, ints, e))
-rounds false false q a h e f = (omega (arith, ints), omega (arith, ints, h), omega (arith, ints, e))
-rounds false true q zero h e f = let none : q ≡ 0 = omega (arith, h) in subst (λ q. Bounds false (neg_ℤ (pos 0)) (neg_ℤ (pos q))) (sym none) (omega (arith, ints), omega (arith, ints), omega (arith, ints))
-rounds false true q (suc a) h e f = absurd (omega (arith, f refl))
+rounds negative sign q a h e f = grind (arith, ints, f)
 
 -- one number
 shape : (sign : Bool) (q : ℕ) (left : Bool) → (floor_of sign q left ≡ (if sign then neg_ℤ (pos (away q left)) else pos q)) × (ceiling_of sign q left ≡ (if sign then neg_ℤ (pos q) else pos (away q left)))
@@ -81,40 +65,15 @@ number-bounds scale negative v far sign =
     (λ e. ap (λ n. away (n / d) (nat_lt 0 (n % d))) (ap (λ n. (n * scale) * 10 ^ tens_up v.places) (no-digits v.negative (not negative) v.digits e sign) ∙ times-none scale (10 ^ tens_up v.places)) ∙ none-left d some)))
   where
     no-digits : (a b : Bool) (n : ℕ) → (a && b) ≡ true → ((a && nat_lt 0 n) && b) ≡ false → n ≡ 0
-    no-digits false b n e f = absurd (true≢false (sym e))
-    no-digits true false n e f = absurd (true≢false (sym e))
-    no-digits true true n e f = by (nat_lt 0 n) refl f
-      where
-        by : (c : Bool) → nat_lt 0 n ≡ c → (c && true) ≡ false → n ≡ 0
-        by true g h = absurd (true≢false h)
-        by false g h = let none = near-most 0 n g in omega (arith, none)
+    no-digits a b n e f = grind (arith, nat_tests)
 
 -- several numbers
 merge : (negative : Bool) (a b x y : ℤ) → Bounds negative a b → Bounds negative x y → Bounds negative (int_min a x) (int_max b y)
-merge negative a b x y h e = (by (int_lt x a), omega (arith, ints, min, h.1, max), up (int_lt y b))
-  where
-    min : int_min a x ≤ℤ a
-    min = (fold-int_min_bounds a (x ∷ []) (int_min a x) refl).0
-
-    max : b ≤ℤ int_max b y
-    max = (fold-int_max_bounds b (y ∷ []) (int_max b y) refl).0
-
-    by : (t : Bool) → low negative ≤ℤ (if t then x else a)
-    by true = e.0
-    by false = h.0
-
-    up : (t : Bool) → (if t then b else y) ≤ℤ pos (10 ^ 9)
-    up true = h.2
-    up false = e.2
+merge negative a b x y h e = grind (arith, ints, clamps)
 
 number-parts : (scale : ℕ) (negative : Bool) (v : Number) (vs : List Number) → number_fault scale negative (v ∷ vs) ≡ None →
     (is_far scale v ≡ false) × ((is_below_zero v && not negative) ≡ false) × (number_fault scale negative vs ≡ None)
-number-parts scale negative v vs = by (is_far scale v) (is_below_zero v && not negative)
-  where
-    by : (a b : Bool) → (if a then Some fault.Range else (if b then Some fault.Negative else number_fault scale negative vs)) ≡ None → (a ≡ false) × (b ≡ false) × (number_fault scale negative vs ≡ None)
-    by true b e = absurd (cc)
-    by false true e = absurd (cc)
-    by false false e = (refl, refl, e)
+number-parts scale negative v vs e = grind (arith, e)
 
 numbers-bounds : (scale : ℕ) (negative : Bool) (v : Number) (vs : List Number) → number_fault scale negative (v ∷ vs) ≡ None → Bounds negative (least scale v vs) (greatest scale v vs)
 numbers-bounds scale negative v [] e = let p = number-parts scale negative v [] e in number-bounds scale negative v p.0 p.1
@@ -134,8 +93,7 @@ all-within (s ∷ ss) e =
     one-within s s.claim.numbers p.0 (delays_from ss) (all-within ss p.1)
   where
     faultless : (o : Option Fault) → option_map (refusal_of s.entry) o ≡ None → o ≡ None
-    faultless None f = refl
-    faultless (Some x) f = absurd (cc)
+    faultless o f = grind (arith, f)
 
     both : (o : Option Refusal) → fault_of s ≡ o → or_else o (first_fault ss) ≡ None → (number_fault s.scale (may_be_negative s.claim.subject) s.claim.numbers ≡ None) × (first_fault ss ≡ None)
     both None f g = (faultless (number_fault s.scale (may_be_negative s.claim.subject) s.claim.numbers) f, g)

@@ -1,21 +1,11 @@
 -- What the definitions say of one another.
-use Rattle.std.specs.Prelude.{◌≡◌, ℕ, ℤ, pos, neg_ℤ, ◌≤ℤ◌, ◌<ℤ◌, ◌+ℤ◌, ◌*ℤ◌, false, if◌then◌else◌, List, ◌∷◌, ◌++◌, Ok, All, Any}
+use Rattle.std.specs.Prelude.{◌≡◌, ℕ, ℤ, pos, neg_ℤ, ◌≤ℤ◌, ◌<ℤ◌, ◌+ℤ◌, ◌*ℤ◌, false, if◌then◌else◌, List, ◌∷◌, Ok, All, Any}
 use Rattle.mintc_text.specs.declared.limits.TheConstants.{MOST_DELAY}
 use Rattle.mintc_text.specs.Decimals.{Number, with_sign, over, under}
 use Rattle.mintc_sdf.specs.declared.delays.Subject.{Subject}
 use Rattle.mintc_sdf.specs.declared.delays.Delay.{Delay}
-use Rattle.mintc_sdf.specs.Tokens.{Token, closing}
-use Rattle.mintc_sdf.specs.Items.{Items, spell, front, items, after}
 use Rattle.mintc_sdf.specs.Numbers.{is_far, least, greatest}
 use Rattle.mintc_sdf.specs.Texts.{may_be_negative, delays_of}
-
--- Tokens are their items, as these are written, and what stands behind them.
-abbrev pub AreWritten : Type 0
-AreWritten = (ts : List Token) → ts ≡ spell (items ts) ++ after ts
-
--- Items that are written before a closing parenthesis are read back.
-abbrev pub AreReadBack : Type 0
-AreReadBack = (is : Items) (rest : List Token) → front (spell is ++ closing ∷ rest) ≡ record { items = is; after = closing ∷ rest }
 
 -- the least femtoseconds that a number of a subject may have
 abbrev pub lowest : Subject → ℤ

@@ -1,12 +1,5 @@
 //! What the definitions say of one another: each law is the contract of a function that does nothing.
-ghost use Rattle.mintc_sdf.specs.Laws.{AreReadBack, AreRounded, AreWithin, AreWritten};
-
-/// Tokens are their items and what stands behind these, and items that are written in a list are read back: so nothing of
-/// a text is lost, and none of it is read in two ways.
-pub fn items_are_the_tokens()
-    ensures written { AreWritten }
-    ensures read_back { AreReadBack }
-{}
+ghost use Rattle.mintc_sdf.specs.Laws.{AreRounded, AreWithin};
 
 /// In each delay of a text the least number is at most the greatest, and both are from 0, or for a setup or a hold from
 /// -10^9, to 10^9 femtoseconds.
