@@ -41,7 +41,6 @@ fn path_link(flat: &Flat, from: u32, to: u32, path: &[u32]) -> Link
     ensures range { IsSpan result.delay }
     ensures cycles { result.cycles ≤ 1 }
 {
-    let _elements = flat.elements();
     reach_link(flat, from, to, path_delay(flat.arcs(), path))
 }
 
@@ -52,7 +51,6 @@ fn numbered_bound_link(flat: &Flat, index: u32) -> Link
     ensures range { IsSpan result.delay }
     ensures cycles { result.cycles ≤ 1 }
 {
-    let _phases = flat.phases();
     bound_link(index, &flat.bounds()[index as usize])
 }
 

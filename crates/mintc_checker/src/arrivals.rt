@@ -41,7 +41,6 @@ fn last_arrival(clocked: &ClockedDesign<'_>, labels: &[Labels], number: usize) -
     ensures last { (d : List ℤ) → AreLabels clocked.now.flat.now clocked.now.schedule.now.den d labels.now → IsLastArrival clocked.now.flat.now clocked.now.schedule.now d number result }
     ensures range { IfSome result IsArrivalTime }
 {
-    let _elements = clocked.flat.elements();
     let phase = element(clocked.flat, number).phase;
     let mut last = None;
     for lane in 0..clocked.flat.phases().items().len() {

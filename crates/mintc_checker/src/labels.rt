@@ -87,7 +87,6 @@ fn begin_element(labels: &mut [Labels], departing: &DepartingDesign<'_>, number:
     requires labels { AreLabelsOf departing.now.flat.now departing.now.den departing.now.departures.now (IsStart number) labels.old }
     ensures { AreLabelsOf departing.now.flat.now departing.now.den departing.now.departures.now (IsStart (number + 1)) labels.new }
 {
-    let _elements = departing.flat.elements();
     let lane = element(departing.flat, number).phase as usize - 1;
     let time = output_time(departing, number);
     begin(labels, 2 * number + 1, lane, time);
@@ -126,7 +125,6 @@ fn carry_arc(labels: &mut [Labels], departing: &DepartingDesign<'_>, order: &Ord
     requires labels { AreLabelsOf departing.now.flat.now departing.now.den departing.now.departures.now (IsAlong order.now place) labels.old }
     ensures { AreLabelsOf departing.now.flat.now departing.now.den departing.now.departures.now (IsAlong order.now (place + 1)) labels.new }
 {
-    let _elements = departing.flat.elements();
     let arc = arc_at_place(departing.flat, order, place);
     carry(labels, arc.from, arc.to, scaled(arc.max, departing.den));
 }

@@ -64,6 +64,5 @@ pub fn examine(
     ensures verdict { IfOk result (IsVerdict system.now certificate.now) }
     ensures optimal { IfOk result (λ verdict. verdict ≡ Verdict.Valid → IsOptimal system.now certificate.now) }
 {
-    let _pairs = system.pairs();
     examine_flat(alloc, system.flat(), system.order(), certificate)
 }

@@ -69,7 +69,6 @@ fn is_apart(flat: &Flat, fed: &[bool], i: u32, j: u32) -> bool
 fn is_reach(flat: &Flat, from: u32, to: u32, path: &[u32]) -> bool
     ensures { IsTrue result ↔ ((from < length flat.now.elements) × (to < length flat.now.elements) × IsPath flat.now.arcs from path.now (input_of to)) }
 {
-    let _elements = flat.elements();
     is_element(flat, from)
         && is_element(flat, to)
         && !path.is_empty()

@@ -1,6 +1,6 @@
 //! The parts of a design by their numbers.
 ghost use Rattle.std.specs.Prelude.{◌≡◌, ◌<◌, length, slice_index_or};
-ghost use Rattle.mintc_timing.specs.Limits.{IsArc, IsElement};
+ghost use Rattle.mintc_timing.specs.Limits.{IsArc, IsDesign, IsElement};
 ghost use Rattle.mintc_timing.specs.Order.{IsOrder};
 ghost use Rattle.mintc_timing.specs.Paths.{arc_at};
 ghost use Rattle.mintc_checker.specs.Trails.{element_of};
@@ -12,6 +12,7 @@ pub(crate) fn element(flat: &Flat, number: usize) -> &Element
     requires { number < length flat.now.elements }
     ensures value { result.now ≡ element_of flat.now number }
     ensures kept { IsElement (length flat.now.phases) result.now }
+    ensures design { IsDesign flat.now }
 {
     &flat.elements()[number]
 }
@@ -22,8 +23,8 @@ pub(crate) fn arc_at_place(flat: &Flat, order: &Order, place: usize) -> TimingAr
     requires place { place < length order.now }
     ensures value { result ≡ arc_at flat.now.arcs (slice_index_or order.now place 0) }
     ensures kept { IsArc (length flat.now.elements) (length flat.now.inner) result }
+    ensures design { IsDesign flat.now }
 {
-    let _elements = flat.elements();
     let number = order.arcs().items()[place];
     flat.arcs()[number as usize]
 }

@@ -32,7 +32,6 @@ fn feeds_element(flat: &Flat, labels: &[Labels], i: u32, j: u32, number: usize) 
     requires count { length labels.now ≡ 2 * length flat.now.elements + length flat.now.inner }
     ensures { IsTrue result ↔ IsFedAt flat.now labels.now i j number }
 {
-    let _elements = flat.elements();
     let element = element(flat, number);
     if element.flop || element.phase != j {
         return false;

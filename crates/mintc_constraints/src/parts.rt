@@ -40,8 +40,8 @@ pub(crate) fn nodes(system: &System) -> u32
     ensures design { IsDesign system.now.flat }
     ensures timing { IsTiming system.now.flat system.now.order system.now.pairs }
 {
-    let _pairs = system.pairs();
-    1 + 2 * phases(system) + elements(system)
+    let flat = system.flat();
+    1 + 2 * flat.phases().items().len() as u32 + flat.elements().len() as u32
 }
 
 /// The data of a pair's second element comes after that of its first.

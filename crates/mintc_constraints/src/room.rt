@@ -50,27 +50,13 @@ impl Room {
         ensures early { IfOk result (λ r. r.early ≡ []) }
         ensures chain { IfOk result (λ r. r.chain ≡ []) }
     {
-        let Ok(values) = Vec::with_capacity(alloc, nodes) else {
-            return Err(OutOfMemory);
-        };
-        let Ok(before) = Vec::with_capacity(alloc, nodes) else {
-            return Err(OutOfMemory);
-        };
-        let Ok(late) = Vec::with_capacity(alloc, nodes) else {
-            return Err(OutOfMemory);
-        };
-        let Ok(early) = Vec::with_capacity(alloc, nodes) else {
-            return Err(OutOfMemory);
-        };
-        let Ok(chain) = Vec::with_capacity(alloc, nodes) else {
-            return Err(OutOfMemory);
-        };
-        let Ok(marks) = Vec::with_capacity(alloc, nodes) else {
-            return Err(OutOfMemory);
-        };
-        let Ok(tree) = Vec::with_capacity(alloc, nodes) else {
-            return Err(OutOfMemory);
-        };
+        let values = Vec::with_capacity(alloc, nodes)?;
+        let before = Vec::with_capacity(alloc, nodes)?;
+        let late = Vec::with_capacity(alloc, nodes)?;
+        let early = Vec::with_capacity(alloc, nodes)?;
+        let chain = Vec::with_capacity(alloc, nodes)?;
+        let marks = Vec::with_capacity(alloc, nodes)?;
+        let tree = Vec::with_capacity(alloc, nodes)?;
         Ok(Room {
             nodes,
             links,

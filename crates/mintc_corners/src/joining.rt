@@ -19,8 +19,7 @@ pub(crate) fn own_lists(alloc: Global, systems: &[System]) -> Result<Vec<LinkLis
 {
     let mut lists = Vec::new(alloc);
     for system in systems {
-        let _elements = system.flat().elements();
-        let _pairs = system.pairs();
+        let _flat = system.flat();
         let Ok(()) = lists.push(links(alloc, system)?) else {
             return Err(OutOfMemory);
         };

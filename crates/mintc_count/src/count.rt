@@ -120,7 +120,6 @@ fn count_all(alloc: Global, flat: &Flat, order: &Order, course: Course) -> Resul
     ensures count { IfOk result (IsCountBefore flat.now (length flat.now.elements) 0) }
     ensures few { IfOk result (λ count. count ≤ 4000000) }
 {
-    let _elements = flat.elements();
     if !flat.inner().items().is_empty() && are_few_entered(alloc, flat)? {
         return count_back(alloc, flat, order, course);
     }

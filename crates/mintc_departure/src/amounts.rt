@@ -16,8 +16,6 @@ fn least_delay(system: &System, number: usize) -> i64
     ensures value { result ≡ (pair_at system.now number).min }
     ensures range { IsDelay result }
 {
-    let _elements = system.flat().elements();
-    let _pairs = system.pairs();
     system.pair(number).min
 }
 

@@ -24,7 +24,6 @@ impl ClockedSystem<'_> {
         ensures value { result ≡ element_count self.now.system.now.flat }
         ensures kept { IsClocked self.now.system.now self.now.schedule.now }
     {
-        let _pairs = self.system.pairs();
         self.system.flat().elements().len()
     }
 

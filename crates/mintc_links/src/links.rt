@@ -51,7 +51,6 @@ fn moment(flat: &Flat, number: u32) -> u32
     requires { number < length flat.now.elements }
     ensures { result ≡ element_node flat.now number }
 {
-    let _elements = flat.elements();
     2 * flat.phases().items().len() as u32 + 1 + number
 }
 

@@ -6,7 +6,6 @@ ghost use Rattle.mintc_paths.specs.declared.trace.Extreme.TheVariants.{Greatest}
 ghost use Rattle.mintc_paths.specs.Finding.{IsDelayOf};
 ghost use Rattle.mintc_optimise.specs.Making.{StandForAll, StandsFor};
 
-use crate::times::phases;
 use mintc_certificate::{Member, Members};
 use mintc_constraints::{Link, LinkKind};
 use mintc_paths::Finder;
@@ -21,8 +20,7 @@ fn pair_delay(system: &System, link: &Link, from: u32, to: u32) -> i64
     ensures value { result ≡ link.now.delay -ℤ (element_at system.now.flat from).dq_max }
     ensures pair { IsDelayOf Greatest system.now.pairs from to result }
 {
-    let _pairs = system.pairs();
-    let _phases = phases(system);
+    let _flat = system.flat();
     link.delay - system.element(from).dq_max
 }
 
@@ -36,8 +34,7 @@ pub fn member_of(
     requires { Contains (links_of system.now) link.now }
     ensures { IfOk result (StandsFor system.now link.now) }
 {
-    let _pairs = system.pairs();
-    let _phases = phases(system);
+    let _flat = system.flat();
     match link.kind {
         LinkKind::Start { phase } => Ok(Member::Start { phase }),
         LinkKind::Cycle { phase } => Ok(Member::Cycle { phase }),

@@ -12,7 +12,7 @@ ghost use Rattle.mintc_optimise.specs.Optimum.{HasEarliest, HasSimple};
 
 use crate::Bench;
 use crate::chain::members;
-use crate::times::{departures, phases, schedule};
+use crate::times::{departures, schedule};
 use mintc_certificate::Certificate;
 use mintc_constraints::{LinkList, Room};
 use mintc_ratio::Outcome;
@@ -39,8 +39,7 @@ fn certificate(
     ensures bounded { IfOk result (CertifiesNeverOnlyWithBounds system.now.flat) }
     ensures in_range { IfOk result IsCertificateInRange }
 {
-    let _pairs = system.pairs();
-    let _phases = phases(system);
+    let _flat = system.flat();
     let chain = members(alloc, system, list.items(), room.chain())?;
     match outcome {
         Outcome::Least { cycle } => Ok(Certificate::Least {

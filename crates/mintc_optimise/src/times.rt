@@ -18,7 +18,7 @@ use mintc_timing::{PhaseNumbers, Schedule, System};
 use std::alloc::Global;
 
 /// How many phases there are.
-pub(crate) fn phases(system: &System) -> u32
+fn phases(system: &System) -> u32
     ensures value { result ≡ phase_count system.now.flat }
     ensures kept { IsDesign system.now.flat }
 {

@@ -139,8 +139,6 @@ impl Finder {
         requires { IsDelayOf wanted.extreme system.now.pairs wanted.from wanted.to wanted.delay }
         ensures { IfOk result (IsListedWith wanted.extreme system.now.flat.arcs wanted.from wanted.to wanted.delay) }
     {
-        let _pairs = system.pairs();
-        let _elements = system.flat().elements();
         let arcs = system.flat().arcs();
         let (start, end) = (2 * wanted.from + 1, 2 * wanted.to);
         let Ok(path) = self.search(alloc, wanted.extreme, arcs, start, end) else {

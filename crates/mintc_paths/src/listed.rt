@@ -19,7 +19,6 @@ pub struct Wanted {
 pub fn is_listed_with(flat: &Flat, path: &[u32], wanted: Wanted) -> bool
     ensures { OnTrue result (IsListedWith wanted.extreme flat.now.arcs wanted.from wanted.to wanted.delay path.now) }
 {
-    let _elements = flat.elements();
     let arcs = flat.arcs();
     if path.is_empty() || path.len() > arcs.len() {
         return false;

@@ -38,7 +38,6 @@ pub fn best_path(
     requires pair { IsPairOf system.now.pairs from to }
     ensures { IfOk result (IsOfPair extreme system.now from to) }
 {
-    let _pairs = system.pairs();
     let (flat, order) = (system.flat(), system.order());
     let bits = 2 * flat.elements().len() + flat.inner().items().len();
     let Ok(mut sums) = Held::new(alloc, bits) else {

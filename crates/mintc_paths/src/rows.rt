@@ -97,7 +97,6 @@ impl Course {
         ensures course { IfOk result (λ course. IsCourse (2 * length flat.now.elements + length flat.now.inner) flat.now.arcs order.now course) }
         ensures rows { IfOk result (λ course. course.rows ≡ rows) }
     {
-        let _elements = flat.elements();
         let arcs = flat.arcs();
         let numbers = order.arcs().items();
         let mut along = Vec::with_capacity(alloc, numbers.len())?;

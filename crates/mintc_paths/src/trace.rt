@@ -78,7 +78,6 @@ pub fn trace(
         → sum_of extreme (sums_at sums.now from) ≡ Some (pos 0) → sum_of extreme (sums_at sums.now end) ≡ Some best
         → Leads flat.now.arcs from path.items end × (total (weight_of extreme flat.now.arcs) path.items ≡ best)) }
 {
-    let _elements = flat.elements();
     let (arcs, numbers) = (flat.arcs(), order.arcs().items());
     let mut path = Vec::new(alloc);
     let mut bit = end;

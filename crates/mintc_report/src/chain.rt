@@ -20,7 +20,6 @@ fn sums_in(system: &System, chain: &[Member]) -> ChainSums
     ensures delay { result.delay ≡ delay_of (links_of_members system.now.flat chain.now) }
     ensures cycles { result.cycles ≡ cycles_of (links_of_members system.now.flat chain.now) }
 {
-    let _pairs = system.pairs();
     sums_of(system.flat(), chain)
 }
 

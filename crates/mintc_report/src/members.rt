@@ -110,7 +110,6 @@ pub(crate) fn link_at(system: &System, member: &Member) -> Link
     ensures range { IsSpan result.delay }
     ensures cycles { result.cycles ≤ 1 }
 {
-    let _pairs = system.pairs();
     link_of(system.flat(), member)
 }
 
@@ -155,7 +154,7 @@ pub(crate) fn put_member(
     requires counted { IsCounted member.now }
     ensures { OnOk result (lines.new ≡ lines.old ++ text_of (member_lines system.now.flat member.now)) }
 {
-    let _elements = system.flat().elements();
+    let _flat = system.flat();
     let link = link_at(system, member);
     put_names(lines, system, member)?;
     put_amounts(lines, link.delay, i64::from(link.cycles))?;

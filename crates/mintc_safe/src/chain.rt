@@ -34,8 +34,6 @@ fn hold_of(
     requires held { IsTrue (is_held_of system.now.flat (number, pair_at system.now number)) }
     ensures { IfOk result (StandsFor system.now (hold_link_of system.now.flat (number, pair_at system.now number))) }
 {
-    let _elements = system.flat().elements();
-    let _pairs = system.pairs();
     let pair = system.pair(number as usize);
     let arcs = finder.shortest_path_of(alloc, system, pair.from, pair.to, pair.min)?;
     Ok(SafeMember::Hold {
@@ -55,8 +53,7 @@ fn plain_of(
     requires { Contains (links_of system.now) link.now }
     ensures { IfOk result (StandsFor system.now link.now) }
 {
-    let _elements = system.flat().elements();
-    let _pairs = system.pairs();
+    let _flat = system.flat();
     let member = member_of(alloc, system, finder, link)?;
     Ok(SafeMember::Plain { member })
 }
@@ -71,7 +68,7 @@ fn safe_member_of(
     requires { Contains (safe_links_of system.now) link.now }
     ensures { IfOk result (StandsFor system.now link.now) }
 {
-    let _elements = system.flat().elements();
+    let _flat = system.flat();
     match held_pair(link) {
         Some(number) => hold_of(alloc, system, finder, number),
         None => plain_of(alloc, system, finder, link),

@@ -30,8 +30,7 @@ fn certificate(
     requires searched { HasSearched list.now room.now outcome }
     ensures { IfOk result (IsSafeOptimum system.now) }
 {
-    let _elements = system.flat().elements();
-    let _pairs = system.pairs();
+    let _flat = system.flat();
     let chain = members(alloc, system, list.items(), room.chain())?;
     match outcome {
         Outcome::Least { cycle } => Ok(SafeCertificate::Least {

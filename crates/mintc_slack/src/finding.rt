@@ -96,8 +96,7 @@ fn turn_to<L: Ledger>(
     ensures kept { walker.new ≡ record walker.old { distances = walker.new.distances; ahead = walker.new.ahead } }
     ensures count { length walker.new.distances.items ≡ length walker.old.distances.items }
 {
-    let _pairs = walker.system.pairs();
-    let _elements = walker.system.flat().elements();
+    let _flat = walker.system.flat();
     if is_first(entries, place) {
         settle(walker, entries[place].to, room, steps)?;
     }
@@ -144,8 +143,7 @@ pub fn slack<L: Ledger>(
 ) -> Result<Slacks, OutOfMemory>
     ensures { IfOk result (IsSlackAnswer system.now) }
 {
-    let _pairs = system.pairs();
-    let _elements = system.flat().elements();
+    let _flat = system.flat();
     let list = links(alloc, system)?;
     let mut room = Room::reserve(alloc, list.nodes() as usize, list.items().len())?;
     match search(&list, &mut room, steps) {

@@ -51,7 +51,6 @@ pub(crate) fn gaps(
     requires { ArePotentials list.now at.now potentials.now }
     ensures { IfOk result (λ gaps. AreGaps list.now at.now potentials.now gaps.items) }
 {
-    let _nodes = list.nodes();
     let mut gaps = Vec::new(alloc);
     for number in 0..list.items().len() {
         let Ok(()) = gaps.push(weigh(&list.items()[number], at, potentials)) else {

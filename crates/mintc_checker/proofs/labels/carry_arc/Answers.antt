@@ -8,12 +8,12 @@ use Rattle.mintc_checker.proofs.labels.carry_arc.Goals as goal
 
 pub carry-requires-clause-from_lanes : goal.carry-requires-clause-from_lanes
 carry-requires-clause-from_lanes c =
-    AreLanes-from_labels c.args.departing.now.flat.now c.elements-elements.ensures.kept c.args.departing.now.short c.args.departing.now.den c.args.departing.now.departures.now (IsAlong c.args.order.now c.args.place) c.args.labels.now c.args.departing.now.is_den c.args.departing.now.in_range c.requires.labels
+    AreLanes-from_labels c.args.departing.now.flat.now c.arc_at_place-arc.ensures.design c.args.departing.now.short c.args.departing.now.den c.args.departing.now.departures.now (IsAlong c.args.order.now c.args.place) c.args.labels.now c.args.departing.now.is_den c.args.departing.now.in_range c.requires.labels
     c.arc_at_place-arc.result.from (omega arith)
 
 pub carry-requires-clause-to_lanes : goal.carry-requires-clause-to_lanes
 carry-requires-clause-to_lanes c =
-    AreLanes-from_labels c.args.departing.now.flat.now c.elements-elements.ensures.kept c.args.departing.now.short c.args.departing.now.den c.args.departing.now.departures.now (IsAlong c.args.order.now c.args.place) c.args.labels.now c.args.departing.now.is_den c.args.departing.now.in_range c.requires.labels
+    AreLanes-from_labels c.args.departing.now.flat.now c.arc_at_place-arc.ensures.design c.args.departing.now.short c.args.departing.now.den c.args.departing.now.departures.now (IsAlong c.args.order.now c.args.place) c.args.labels.now c.args.departing.now.is_den c.args.departing.now.in_range c.requires.labels
     c.arc_at_place-arc.result.to (omega arith)
 
 pub returns : goal.returns

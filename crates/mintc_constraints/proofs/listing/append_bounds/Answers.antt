@@ -13,7 +13,7 @@ pub loop-number-preserved : goal.loop-number-preserved
 loop-number-preserved c =
     let bounds = c.args.system.now.flat.bounds in
     let n = c.loop-number.number in
-    let same = c.bounds-bounds.ensures.value ∙ ap (λ (d : Design). d.bounds) c.flat.ensures in
+    let same = c.bounds-bounds.ensures.value ∙ ap (λ (d : Design). d.bounds) c.flat.ensures.value in
     let h : n < length bounds = rw same at c.loop-number-test.true in
     let made = rw same at c.bound_link.ensures.value in
     grind (arith, append_assoc, numbered-more (λ (b : ℕ × Bound). bound_link b.0 b.1) bounds 0 n no_bound h)

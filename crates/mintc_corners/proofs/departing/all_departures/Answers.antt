@@ -1,5 +1,4 @@
 use Rattle.std.proofs.Common.{ap, ◌∙◌}
-use Rattle.mintc_timing.specs.Limits.{IsDesign}
 use Rattle.mintc_constraints.specs.Duality.{departures_of}
 use Rattle.mintc_corners.specs.Joined.{departures_of_all}
 use Rattle.mintc_corners.proofs.LoopLaws.{departures_more, in_range_more, sayable_here}
@@ -13,13 +12,12 @@ loop-system-preserved c =
     let clock = c.clock_nodes-clock.result in
     let before = c.loop-system.before in
     let values = c.args.values.now in
-    let elements = c.elements-count.ensures.value ∙ ap (λ d. d.elements) c.flat.ensures in
-    let limits : IsDesign t.flat = rw c.flat.ensures at c.elements-count.ensures.kept in
+    let elements = c.elements-count.ensures.value ∙ ap (λ d. d.elements) c.flat.ensures.value in
     let own = rw elements at (c.deref.ensures.value ∙ c.in_ok-own.ensures) in
     let ds = c.in_ok-departures.ensures.value ∙ ap (departures_of t.flat) own in
     rw elements (
       departures_more systems i t c.loop-system-test.true c.system-item.is clock before values c.in_ok-departures.field-0 c.loop-system.all.items c.push.new.self.items (departures_of_all systems values)
           c.loop-system.invariant.0 ds c.in-Ok.ensures.items,
       (sayable_here systems i t c.loop-system-test.true c.system-item.is clock before values c.loop-system.invariant.1).1,
-      in_range_more t c.in_ok-departures.field-0 _ c.loop-system.all.items c.push.new.self.items limits c.loop-system.invariant.2 c.in_ok-departures.ensures.in_range ds c.in-Ok.ensures.items,
+      in_range_more t c.in_ok-departures.field-0 _ c.loop-system.all.items c.push.new.self.items c.flat.ensures.design c.loop-system.invariant.2 c.in_ok-departures.ensures.in_range ds c.in-Ok.ensures.items,
     )

@@ -15,3 +15,8 @@ returns c =
       value = rw (early-arrival-is c.args.clocked.now.system.now c.args.clocked.now.schedule.now c.args.departures.now _, ← is, ← same) (omega (arith, ints));
       range = (omega (arith, ints), omega (arith, ints));
     }
+
+pub overflow_add-result : goal.overflow_add-result
+overflow_add-result c =
+    let d : IsSum (departure c.args.departures.now c.pair.result.now.from) = c.requires.departures.each c.pair.result.now.from c.pair.ensures.from in
+    omega (arith, ints)

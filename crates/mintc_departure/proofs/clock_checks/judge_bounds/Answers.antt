@@ -19,7 +19,7 @@ pub loop-number-preserved : goal.loop-number-preserved
 loop-number-preserved c =
     let all = c.args.clocked.now.system.now.flat.bounds in
     let n = c.loop-number.number in
-    let bounds = c.bounds-bounds.ensures.value ∙ ap (λ (d : Design). d.bounds) c.flat.ensures in
+    let bounds = c.bounds-bounds.ensures.value ∙ ap (λ (d : Design). d.bounds) c.flat.ensures.value in
     let h : n < length all = rw bounds at c.loop-number-test.true in
     let amount = ap (check (broken.Bound n)) (read_time c.bound_excess.result c.bound_excess.ensures.range ∙ rw bounds at c.bound_excess.ensures.value) in
     grind (arith, append_assoc, numbered-more (bound_check c.args.clocked.now.schedule.now) all n no_bound h, amount)
@@ -27,6 +27,6 @@ loop-number-preserved c =
 pub returns : goal.returns
 returns c =
     let all = c.args.clocked.now.system.now.flat.bounds in
-    let bounds = c.bounds-bounds.ensures.value ∙ ap (λ (d : Design). d.bounds) c.flat.ensures in
+    let bounds = c.bounds-bounds.ensures.value ∙ ap (λ (d : Design). d.bounds) c.flat.ensures.value in
     let h : length all ≤ c.loop-number.number = rw bounds at c.loop-number-test.false in
     rw (take_all c.loop-number.number (enumerate_from 0 all) (rw (length-enumerate_from 0 all) h)) at c.loop-number.invariant

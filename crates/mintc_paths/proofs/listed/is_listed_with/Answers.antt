@@ -33,13 +33,13 @@ loop-number-preserved c =
     let below : n < length arcs = omega arith in
     let h = c.loop-number.invariant in
     let in_design : IsArc (length c.args.flat.now.elements) (length c.args.flat.now.inner) (arc_at arcs n) =
-    rw c.arcs-arcs.ensures (c.elements-elements.ensures.kept.each_arc n no_arc (rw c.arcs-arcs.ensures at below)) in
+    rw c.arcs-arcs.ensures.value (c.arcs-arcs.ensures.kept.each_arc n no_arc (rw c.arcs-arcs.ensures.value at below)) in
     let delay : IsDelay c.delay_at-summed.result = rw c.delay_at-summed.ensures (is_delay c.args.wanted.extreme (arc_at arcs n) (length c.args.flat.now.elements) (length c.args.flat.now.inner) in_design) in
     let whole : to_z w64 (of_z w64 c.delay_at-summed.result) ≡ c.delay_at-summed.result = to_z-of_z w64 c.delay_at-summed.result (omega (arith, ints)) in
     let few : i < length path = c.loop-number-test.true in
-    let all = ap (λ (xs : List TimingArc). length xs) c.arcs-arcs.ensures in
+    let all = ap (λ (xs : List TimingArc). length xs) c.arcs-arcs.ensures.value in
     let summed : ℤ = to_z w64 c.loop-number.summed-bits in
-    let sum : to_z w64 (of_z w64 (summed +ℤ c.delay_at-summed.result)) ≡ summed +ℤ c.delay_at-summed.result = to_z-of_z w64 (summed +ℤ c.delay_at-summed.result) (omega (arith, ints, c.elements-elements.ensures.kept.arcs)) in
+    let sum : to_z w64 (of_z w64 (summed +ℤ c.delay_at-summed.result)) ≡ summed +ℤ c.delay_at-summed.result = to_z-of_z w64 (summed +ℤ c.delay_at-summed.result) (omega (arith, ints, c.arcs-arcs.ensures.kept.arcs)) in
     let sum_is : to_z w64 (of_z w64 (summed +ℤ to_z w64 (of_z w64 c.delay_at-summed.result))) ≡ summed +ℤ c.delay_at-summed.result = rw whole sum in
     record {
       leads = rw c.from-bit.ensures (leads_more arcs (output_of c.args.wanted.from) path i c.loop-number.bit few below (sym c.from-in-loop-number.ensures ∙ c.if-from-bit.false) h.leads);

@@ -14,8 +14,8 @@ pub is_last-requires-clause-bounded : goal.is_last-requires-clause-bounded
 is_last-requires-clause-bounded c =
     let of_order : c.items-numbers.result.now ≡ c.args.order.now = c.items-numbers.ensures ∙ c.arcs.ensures in
     let i : ℕ = c.loop-left.left - 1 in
-    let in_design = arc_inside c.args.flat.now.arcs c.args.order.now c.requires.order (length c.args.flat.now.elements) (length c.args.flat.now.inner) c.elements-elements.ensures.kept.each_arc i (omega arith) in
-    rw (c.arcs-arcs.ensures, of_order) (c.requires.bounded (arc_at c.args.flat.now.arcs (get_or c.args.order.now i 0)).from (omega (arith, in_design.from)))
+    let in_design = arc_inside c.args.flat.now.arcs c.args.order.now c.requires.order (length c.args.flat.now.elements) (length c.args.flat.now.inner) c.arcs-arcs.ensures.kept.each_arc i (omega arith) in
+    rw (c.arcs-arcs.ensures.value, of_order) (c.requires.bounded (arc_at c.args.flat.now.arcs (get_or c.args.order.now i 0)).from (omega (arith, in_design.from)))
 
 -- the numbers that the loop reads
 of_order : (c : After-is_last) → c.items-numbers.result.now ≡ c.args.order.now
@@ -27,7 +27,7 @@ low c = omega arith
 
 -- the arc of this turn
 arc : (c : After-is_last) → IsArc (length c.args.flat.now.elements) (length c.args.flat.now.inner) (arc_at c.args.flat.now.arcs (get_or c.args.order.now (c.loop-left.left - 1) 0))
-arc c = arc_inside c.args.flat.now.arcs c.args.order.now c.requires.order (length c.args.flat.now.elements) (length c.args.flat.now.inner) c.elements-elements.ensures.kept.each_arc (c.loop-left.left - 1) (low c)
+arc c = arc_inside c.args.flat.now.arcs c.args.order.now c.requires.order (length c.args.flat.now.elements) (length c.args.flat.now.inner) c.arcs-arcs.ensures.kept.each_arc (c.loop-left.left - 1) (low c)
 
 -- what is traced before it
 before : (c : After-is_last) → KeepsTraced c.args.extreme c.args.flat.now.arcs c.args.order.now c.args.sums.now c.args.end (c.loop-left.left - 1 + 1) c.loop-left.bit c.loop-left.path.items
@@ -39,7 +39,7 @@ loop-left-preserved c =
     let turn = (goal.at.loop-left-preserved c).After-is_last in
     let i : ℕ = c.loop-left.left - 1 in
     let in_design = arc turn in
-    let only_if = rw (c.arcs-arcs.ensures, of_order turn) at c.is_last.ensures.1 in
+    let only_if = rw (c.arcs-arcs.ensures.value, of_order turn) at c.is_last.ensures.1 in
     record {
       inside = omega (arith, low turn);
       bit = c.loop-left.invariant.bit;
@@ -53,12 +53,12 @@ loop-left-preserved-then-is_last c =
     let turn = (goal.at.loop-left-preserved-then-is_last c).After-is_last in
     let i : ℕ = c.loop-left.left - 1 in
     let in_design = arc turn in
-    let last = rw (c.arcs-arcs.ensures, of_order turn) at (c.is_last.ensures.0 c.if-is_last.true) in
+    let last = rw (c.arcs-arcs.ensures.value, of_order turn) at (c.is_last.ensures.0 c.if-is_last.true) in
     let pushed = rw (of_order turn) at c.in_ok-push.ensures.items in
     record {
       inside = omega (arith, low turn);
-      bit = rw (c.arcs-arcs.ensures, of_order turn) (omega (arith, in_design.from));
-      traced = rw (c.arcs-arcs.ensures, of_order turn, pushed)
+      bit = rw (c.arcs-arcs.ensures.value, of_order turn) (omega (arith, in_design.from));
+      traced = rw (c.arcs-arcs.ensures.value, of_order turn, pushed)
           (KeepsTraced-taken c.args.extreme c.args.flat.now.arcs c.args.order.now c.requires.order c.args.sums.now c.args.end i c.loop-left.bit c.loop-left.path.items (low turn)
           (omega (arith, in_design.from)) (omega (arith, in_design.to)) (before turn) last.0 last.1);
     }

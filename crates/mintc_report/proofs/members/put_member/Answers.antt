@@ -4,7 +4,6 @@ use Rattle.std.proofs.lemmas.Int.{to_z-of_z}
 use Rattle.std.proofs.lemmas.Result.{on_ok_weaker}
 use Rattle.mintc_text.specs.Lines.{spaced, text_of}
 use Rattle.mintc_timing.specs.declared.link.Link.{Link}
-use Rattle.mintc_timing.specs.Limits.{IsDesign}
 use Rattle.mintc_report.specs.Reports.{IsThrough, amount_words, through_line}
 use Rattle.mintc_report.proofs.ReportLaws.{member_written}
 use Rattle.mintc_report.proofs.Throughs.{are_through}
@@ -12,8 +11,7 @@ use Rattle.mintc_report.proofs.members.put_member.Goals as goal
 
 pub put_throughs-requires : goal.put_throughs-requires
 put_throughs-requires c =
-    let design : IsDesign c.args.system.now.flat = subst IsDesign c.flat.ensures c.elements-elements.ensures.kept in
-    subst (All (IsThrough c.args.system.now.flat)) (sym c.later_arcs.ensures) (are_through c.args.system.now c.args.member.now design c.requires.member)
+    subst (All (IsThrough c.args.system.now.flat)) (sym c.later_arcs.ensures) (are_through c.args.system.now c.args.member.now c.flat-flat.ensures.design c.requires.member)
 
 pub returns : goal.returns
 returns c =

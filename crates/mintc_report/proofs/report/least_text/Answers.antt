@@ -16,5 +16,5 @@ returns c =
     rw (to_z-of_z w64 s.den den_fits) at c.in_ok-put_departures.ensures in
     least_written c.args.system.now s c.args.departures.now c.args.chain.now c.lowest.result c.items.result.now c.elements.result.now
     c.new-lines.result c.put_cycle.new.lines c.put_phases.new.lines c.put_departures.new.lines c.put_chain.new.lines c.into_bytes.result.items
-    cycle (c.items.ensures ∙ c.phases.ensures.value ∙ ap (λ (d : Design). d.phases) c.flat-flat.ensures) (c.elements.ensures.value ∙ ap (λ (d : Design). d.elements) c.flat-flat.ensures)
+    cycle (c.items.ensures ∙ c.phases.ensures.value ∙ ap (λ (d : Design). d.phases) c.flat-flat.ensures.value) (c.elements.ensures.value ∙ ap (λ (d : Design). d.elements) c.flat-flat.ensures.value)
     c.new-lines.ensures c.in_ok-put_cycle.ensures c.in_ok-put_phases.ensures lates c.in_ok-put_chain.ensures c.into_bytes.ensures

@@ -9,14 +9,14 @@ pub shortest_path_of-requires : goal.shortest_path_of-requires
 shortest_path_of-requires c =
     let t = c.args.system.now in
     let p = c.pair-pair.result.now in
-    let read = min_read t (rw c.flat.ensures at c.elements-elements.ensures.kept) c.pairs-pairs.ensures.kept c.args.number c.requires.number p c.pair-pair.ensures.value in
+    let read = min_read t c.pair-pair.ensures.design c.pair-pair.ensures.kept c.args.number c.requires.number p c.pair-pair.ensures.value in
     (p, (c.args.number, c.requires.number, get_or_default t.pairs c.args.number p no_pair c.requires.number ∙ sym c.pair-pair.ensures.value), refl, refl, sym read)
 
 pub returns : goal.returns
 returns c =
     let t = c.args.system.now in
-    let limits = rw c.flat.ensures at c.elements-elements.ensures.kept in
-    let kept = c.pairs-pairs.ensures.kept in
+    let limits = c.pair-pair.ensures.design in
+    let kept = c.pair-pair.ensures.kept in
     let is = c.pair-pair.ensures.value in
     rw is
     (hold_stands t limits kept c.args.number c.in_ok-arcs.arcs c.requires.number c.requires.held (rw is at c.in_ok-arcs.ensures.path)

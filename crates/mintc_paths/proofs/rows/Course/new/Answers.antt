@@ -14,7 +14,7 @@ new-requires-clause-inside c = λ k d below.
     let h = c.loop-number.invariant in
     let items : length c.items-numbers.result.now ≡ length order = ap (λ (xs : List ℕ). length xs) (c.items-numbers.ensures ∙ c.arcs.ensures) in
     let here : k < length c.loop-number.along.items = rw c.deref.ensures.value at below in
-    let arc = arc_inside arcs order c.requires.order (length c.args.flat.now.elements) (length c.args.flat.now.inner) c.elements-elements.ensures.kept.each_arc k (omega (arith, h.count)) in
+    let arc = arc_inside arcs order c.requires.order (length c.args.flat.now.elements) (length c.args.flat.now.inner) c.arcs-arcs.ensures.kept.each_arc k (omega (arith, h.count)) in
     let row = c.requires.rows.of_bits.inside (arc_at arcs (get_or order k 0)).from (omega (arith, arc.from)) in
     let is = get_or_default c.loop-number.along.items k d no_arc here ∙ h.each k (omega (arith, h.count)) in
     rw (c.deref.ensures.value, is) (omega (arith, c.requires.rows.of_bits.count, c.args.rows.of_bits.ok.0))
