@@ -1,5 +1,5 @@
 //! Decimals.
-use mintc_text::Decimal;
+use mintc_decimal::Decimal;
 use std::process::Abort;
 
 /// A NUMBER, a scale, and their product rounded up and down, as worked out with exact fractions outside: None where it is more

@@ -1,5 +1,5 @@
 -- The fields of a line.
-use Rattle.std.proofs.Common.{◌≡◌, ℕ, ℤ, pos, negsuc, neg_ℤ, ◌≤ℤ◌, suc, ◌<◌, ◌≤◌, ◌+◌, ◌-◌, add-one, ◌^◌, ◌&&◌, Bool, true, false, if◌then◌else◌, List, [], ◌∷◌, ◌++◌, length, get_or, take, drop, refl, ap, ◌∙◌, sym, arith, eqb, leb, decimal, All, length-take}
+use Rattle.std.proofs.Common.{◌≡◌, ℕ, ℤ, pos, negsuc, neg_ℤ, ◌≤ℤ◌, suc, ◌<◌, ◌≤◌, ◌+◌, ◌-◌, add-one, ◌^◌, ◌&&◌, Bool, true, false, if◌then◌else◌, List, [], ◌∷◌, ◌++◌, length, get_or, take, drop, refl, ap, ◌∙◌, sym, arith, eqb, leb, decimal, All, length-take, lit<}
 use Rattle.std.proofs.lemmas.Fmt.{decimal_is_IsNumeral, decimal_nonempty}
 use Rattle.std.proofs.lemmas.Grind.{common_steps, elements}
 use Rattle.std.proofs.lemmas.Int.{ints}
@@ -12,8 +12,8 @@ use Rattle.std.proofs.Math.Seq.{split_at}
 use Rattle.mintc_text.specs.Lines.{words, numeral_of, IsGraphic, IsWithin}
 use Rattle.mintc_text.specs.Words.{IsShort}
 use Rattle.std.proofs.lemmas.Int.Digits.{digits_value-lt}
+use Rattle.std.proofs.Math.Nat.{pow-le-pow_right}
 use Rattle.std.specs.Str.Parse.{AllDigits, digits_value}
-use Rattle.mintc_text.proofs.SharedDigitsLaws.{ten_to-le}
 use Rattle.mintc_text.proofs.SharedNumeralsLaws.{IsPlain, plain_from_decimal, digit_here, decimal_from_plain}
 use Rattle.mintc_lines.specs.Fields.{fields_of, plain, plain_line}
 
@@ -130,7 +130,7 @@ front_number rest end value within some few first digits is =
     let same : (k : ℕ) → k < end → get_or ds k 0 ≡ get_or rest k 0 = λ k low. get_or-take end rest k 0 low in
     let plain : IsPlain ds = record { some = omega arith; few = omega arith; first = λ e. long ∙ first (sym (same 0 (omega arith)) ∙ e); digits = digits } in
     record {
-      small = omega (arith, is, digits_value-lt 10 ds digits, ten_to-le (length ds) 17 (omega arith));
+      small = omega (arith, is, digits_value-lt 10 ds digits, pow-le-pow_right {n = 10} (lit< tt) {i = length ds} {j = 17} (omega arith));
       word = decimal_from_plain ds plain ∙ ap decimal (sym is);
       free = λ k low e. let d = digit_here ds k plain (omega arith) in omega (arith, d, same k low, e);
     }

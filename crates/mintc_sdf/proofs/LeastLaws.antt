@@ -5,8 +5,8 @@ use Rattle.std.proofs.lemmas.Int.{ints, clamps}
 use Rattle.std.proofs.lemmas.List.Elements.{All-cons}
 use Rattle.std.proofs.Math.Nat.{mul-le-mul_left}
 use borrow.Author.Differences.{up, down}
-use Rattle.mintc_text.specs.Decimals.{Number, over, under, IsFloor, IsCeiling}
-use Rattle.mintc_text.proofs.SharedRoundingLaws.{floor_is, ceiling_is}
+use Rattle.mintc_decimal.specs.Decimals.{Number, over, under, IsFloor, IsCeiling}
+use Rattle.mintc_decimal.proofs.SharedRoundingLaws.{floor_is, ceiling_is}
 use Rattle.mintc_sdf.specs.Numbers.{is_far, rounded_down, rounded_up, least, greatest}
 use Rattle.mintc_sdf.specs.Laws.{femtoseconds, IsLeast, IsGreatest}
 use Rattle.mintc_sdf.proofs.RoundLaws.{quotient, under-some}

@@ -6,7 +6,7 @@ use Rattle.std.proofs.lemmas.List.Elements.{All-cons}
 use Rattle.std.proofs.lemmas.Bool.Decides.{nat_tests}
 use Rattle.std.proofs.lemmas.Nat.{div-add-mod'}
 use Rattle.mintc_text.specs.declared.refusals.Refusal.{Refusal}
-use Rattle.mintc_text.specs.Decimals.{Number, over, under, away, floor_of, ceiling_of, tens_up}
+use Rattle.mintc_decimal.specs.Decimals.{Number, over, under, away, floor_of, ceiling_of, tens_up}
 use Rattle.mintc_sdf.specs.declared.delays.Delay.{Delay}
 use Rattle.mintc_sdf.specs.declared.numbers.Fault.{Fault}
 use Rattle.mintc_sdf.specs.Numbers.{is_far, is_below_zero, rounded_down, rounded_up, least, greatest, number_fault, or_else}

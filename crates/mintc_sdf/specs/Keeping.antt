@@ -1,6 +1,6 @@
 -- What is kept while a text is read: claims, cells and entries.
 use Rattle.std.specs.Prelude.{◌≡◌, ℕ, true, List, [], ◌∷◌, map, Option, Some, None, Result, Ok, Err}
-use Rattle.mintc_text.specs.Decimals.{Number}
+use Rattle.mintc_decimal.specs.Decimals.{Number}
 use Rattle.mintc_sdf.specs.declared.delays.Subject.{Subject}
 use Rattle.mintc_sdf.specs.declared.delays.Subject.TheVariants as subject
 use Rattle.mintc_sdf.specs.declared.numbers.Sum.{Sum}

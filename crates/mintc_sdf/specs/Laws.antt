@@ -1,7 +1,7 @@
 -- What the definitions say of one another.
 use Rattle.std.specs.Prelude.{◌≡◌, ℕ, ℤ, pos, neg_ℤ, ◌≤ℤ◌, ◌<ℤ◌, ◌+ℤ◌, ◌*ℤ◌, false, if◌then◌else◌, List, ◌∷◌, Ok, All, Any}
 use Rattle.mintc_text.specs.declared.limits.TheConstants.{MOST_DELAY}
-use Rattle.mintc_text.specs.Decimals.{Number, with_sign, over, under}
+use Rattle.mintc_decimal.specs.Decimals.{Number, with_sign, over, under}
 use Rattle.mintc_sdf.specs.declared.delays.Subject.{Subject}
 use Rattle.mintc_sdf.specs.declared.delays.Delay.{Delay}
 use Rattle.mintc_sdf.specs.Numbers.{is_far, least, greatest}

@@ -1,7 +1,7 @@
 -- What is known of numbers that come one by one.
 use Rattle.std.specs.Prelude.{ℕ, ℤ, pos, Bool, true, false, not, ◌&&◌, if◌then◌else◌, List, [], ◌∷◌, Option, Some, None}
 use Rattle.std.specs.Int.{int_min, int_max}
-use Rattle.mintc_text.specs.Decimals.{Number}
+use Rattle.mintc_decimal.specs.Decimals.{Number}
 use Rattle.mintc_sdf.specs.declared.numbers.Fault.{Fault}
 use Rattle.mintc_sdf.specs.declared.numbers.Fault.TheVariants as fault
 use Rattle.mintc_sdf.specs.declared.numbers.Sum.{Sum}

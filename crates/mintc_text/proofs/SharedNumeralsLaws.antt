@@ -1,13 +1,13 @@
 -- Numerals, their signs and their digits.
-use Rattle.std.proofs.Common.{◌≡◌, ℕ, ℤ, pos, negsuc, neg_ℤ, ◌≤ℤ◌, ◌<◌, ◌≤◌, ◌^◌, List, ◌∷◌, length, get_or, take, length-take, refl, ap, ◌∙◌, sym, subst, arith, zero, suc, decimal}
+use Rattle.std.proofs.Common.{◌≡◌, ℕ, ℤ, pos, negsuc, neg_ℤ, ◌≤ℤ◌, ◌<◌, ◌≤◌, ◌^◌, List, ◌∷◌, length, get_or, take, length-take, refl, ap, ◌∙◌, sym, subst, arith, zero, suc, decimal, lit<}
 use Rattle.std.proofs.lemmas.Int.{ints}
 use Rattle.std.proofs.lemmas.Int.Digits.{digits_value-lt}
+use Rattle.std.proofs.Math.Nat.{pow-le-pow_right}
 use Rattle.std.proofs.lemmas.Fmt.{digits_decimal, decimal_digit, decimal_nonempty, first_decimal, length-decimal-le, decimal-digits_value, decimal_injective}
 use Rattle.std.proofs.lemmas.Str.Parse.{IsNumeralModel, numerals_by_value, tells_digits, digit_at}
 use Rattle.std.specs.Str.Parse.{AllDigits, digits_value}
 use Rattle.mintc_text.specs.Lines.{numeral_of, IsWithin}
 use Rattle.mintc_text.specs.Words.{IsShort}
-use Rattle.mintc_text.proofs.SharedDigitsLaws.{ten_to-le}
 
 own : IsNumeralModel (AllDigits 10) (digits_value 10)
 own = numerals_by_value (AllDigits 10) tells_digits
@@ -33,7 +33,7 @@ pub plain_from_decimal : (ds : List ℕ) (n : ℕ) → n < 10 ^ 19 → ds ≡ de
 plain_from_decimal ds n small e = subst IsPlain (sym e) (decimal_is_plain n small)
 
 pub small_from_plain : (ds : List ℕ) → length ds ≤ 19 → AllDigits 10 ds → digits_value 10 ds < 10 ^ 19
-small_from_plain ds few digits = omega (arith, digits_value-lt 10 ds digits, ten_to-le (length ds) 19 few)
+small_from_plain ds few digits = omega (arith, digits_value-lt 10 ds digits, pow-le-pow_right {n = 10} (lit< tt) {i = length ds} {j = 19} few)
 
 pub decimal_from_plain : (ds : List ℕ) → IsPlain ds → ds ≡ decimal (digits_value 10 ds)
 decimal_from_plain ds h = sym (decimal-digits_value own ds h.digits h.some h.first (omega (arith, small_from_plain ds h.few h.digits)))
@@ -61,7 +61,7 @@ same_decimal m n small little e = decimal_injective m n (omega arith) (omega ari
 pub small_front : (ds : List ℕ) (i : ℕ) → i < 19 → AllDigits 10 (take i ds) → digits_value 10 (take i ds) < 10 ^ 18
 small_front ds i few digits =
     let short : length (take i ds) ≤ 18 = omega (arith, length-take i ds) in
-    omega (arith, digits_value-lt 10 (take i ds) digits, ten_to-le (length (take i ds)) 18 short)
+    omega (arith, digits_value-lt 10 (take i ds) digits, pow-le-pow_right {n = 10} (lit< tt) {i = length (take i ds)} {j = 18} short)
 
 -- a short numeral is the numeral of one number
 pub same_numeral : (y z : ℤ) → IsShort y → IsShort z → numeral_of y ≡ numeral_of z → y ≡ z

@@ -1,0 +1,2 @@
+pub mod SharedRoundingLaws
+mod DigitsLaws
