@@ -4,6 +4,5 @@ mod CountLaws
 mod LimitLaws
 mod TopLaws
 mod PortLaws
-mod JoinLaws
 mod GrowingLaws
 mod RefusalLaws

@@ -7,7 +7,6 @@
 
 mod counts;
 mod flattening;
-mod joins;
 mod limits;
 mod ports;
 mod tops;

@@ -12,13 +12,13 @@ ghost use Rattle.mintc_flatten.specs.Places.{place_in};
 ghost use Rattle.mintc_flatten.specs.Growing.{lists};
 ghost use Rattle.mintc_netlist.specs.Connections.{ports_of};
 
-use crate::joins::{Site, push_joins};
 use crate::ports::top_ports;
 use mintc_cells::Cells;
 use mintc_hierarchy::{
     Hierarchy, Inner, InnerList, Join, JoinList, Leaf, LeafList, Scope, ScopeList, Target, TopPort,
     TopPortList,
 };
+use mintc_joins::{Site, push_joins};
 use mintc_netlist::{Item, Module, Span};
 use mintc_nets::{Nets, bits, index_at};
 use mintc_targets::{Home, Source, TargetList};

@@ -16,7 +16,7 @@ use Rattle.mintc_hierarchy.specs.Sources.{Source, target_pins}
 use Rattle.mintc_hierarchy.specs.Walks.{place_at}
 use Rattle.mintc_hierarchy.specs.Hierarchies.{joined, wiring_joins}
 use Rattle.mintc_targets.specs.Wired.{no_pin, pin_at, wiring_at}
-use Rattle.mintc_flatten.specs.Joining.{moved}
+use Rattle.mintc_joins.specs.Joining.{moved}
 
 -- one more bit of each side
 joined_more : (x y : Option ℕ) (xs ys : List (Option ℕ)) → joined (x ∷ xs) (y ∷ ys) ≡ joined (x ∷ []) (y ∷ []) ++ joined xs ys

@@ -3,8 +3,8 @@ use Rattle.mintc_hierarchy.specs.Sources.{target_pins}
 use Rattle.mintc_targets.specs.Homes.{source_in}
 use Rattle.mintc_hierarchy.specs.Walks.{place_at}
 use Rattle.mintc_hierarchy.specs.Hierarchies.{wiring_joins}
-use Rattle.mintc_flatten.proofs.JoinLaws.{wirings_turn, wirings_end}
-use Rattle.mintc_flatten.proofs.joins.push_instance.Goals as goal
+use Rattle.mintc_joins.proofs.JoinLaws.{wirings_turn, wirings_end}
+use Rattle.mintc_joins.proofs.joins.push_instance.Goals as goal
 
 pub loop-number-preserved : goal.loop-number-preserved
 loop-number-preserved c =

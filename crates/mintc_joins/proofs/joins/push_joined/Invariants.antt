@@ -1,7 +1,7 @@
 use Rattle.std.proofs.Common.{◌≡◌, ◌++◌, drop}
 use Rattle.mintc_hierarchy.specs.Hierarchies.{joined}
-use Rattle.mintc_flatten.specs.Joining.{moved}
-use Rattle.mintc_flatten.proofs.joins.push_joined.Given as goal
+use Rattle.mintc_joins.specs.Joining.{moved}
+use Rattle.mintc_joins.proofs.joins.push_joined.Given as goal
 
 -- with the joins of the bits that are left there are as many as of all
 abbrev pub invariant-loop-number : goal.invariant-loop-number

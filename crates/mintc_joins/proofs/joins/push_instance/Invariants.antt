@@ -5,7 +5,7 @@ use Rattle.mintc_hierarchy.specs.Sources.{target_pins}
 use Rattle.mintc_targets.specs.Homes.{source_in}
 use Rattle.mintc_hierarchy.specs.Walks.{place_at}
 use Rattle.mintc_hierarchy.specs.Hierarchies.{wiring_joins}
-use Rattle.mintc_flatten.proofs.joins.push_instance.Given as goal
+use Rattle.mintc_joins.proofs.joins.push_instance.Given as goal
 
 -- with the joins of the pins that are left there are as many as of all
 abbrev pub invariant-loop-number : goal.invariant-loop-number

@@ -9,7 +9,7 @@ ghost use Rattle.mintc_hierarchy.specs.Walks.{counts, place_at, step_at};
 ghost use Rattle.mintc_hierarchy.specs.Hierarchies.{joined, numbers_of, wiring_joins, joins_in};
 ghost use Rattle.mintc_targets.specs.Homes.{source_in};
 ghost use Rattle.mintc_targets.specs.Orders.{IsThere};
-ghost use Rattle.mintc_flatten.specs.Joining.{moved};
+ghost use Rattle.mintc_joins.specs.Joining.{moved};
 ghost use Rattle.mintc_targets.specs.Wired.{pin_at, wiring_at, IsOfItem};
 
 use mintc_hierarchy::{Join, Target};

@@ -6,8 +6,8 @@ use Rattle.mintc_targets.specs.Homes.{source_in}
 use Rattle.mintc_hierarchy.specs.Walks.{place_at}
 use Rattle.mintc_hierarchy.specs.Hierarchies.{wiring_joins}
 use Rattle.mintc_targets.specs.Wired.{pin_at}
-use Rattle.mintc_flatten.proofs.JoinLaws.{wired_some, wiring-is}
-use Rattle.mintc_flatten.proofs.joins.push_pin_joins.Goals as goal
+use Rattle.mintc_joins.proofs.JoinLaws.{wired_some, wiring-is}
+use Rattle.mintc_joins.proofs.joins.push_pin_joins.Goals as goal
 
 pub returns : goal.returns
 returns c =

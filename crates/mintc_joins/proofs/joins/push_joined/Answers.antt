@@ -1,8 +1,8 @@
 use Rattle.std.proofs.Common.{◌++◌, ℕ, List, sym, ap, subst, ◌<◌, ◌≤◌, ◌∙◌}
 use Rattle.std.proofs.lemmas.List.{append-nil}
 use Rattle.mintc_hierarchy.specs.declared.hierarchy.Join.{Join}
-use Rattle.mintc_flatten.proofs.JoinLaws.{joined_turn, joined_end}
-use Rattle.mintc_flatten.proofs.joins.push_joined.Goals as goal
+use Rattle.mintc_joins.proofs.JoinLaws.{joined_turn, joined_end}
+use Rattle.mintc_joins.proofs.joins.push_joined.Goals as goal
 
 pub loop-number-preserved : goal.loop-number-preserved
 loop-number-preserved c =
