@@ -9,8 +9,9 @@ use Rattle.mintc_timing.specs.declared.clocking.Schedule.{Schedule}
 use Rattle.mintc_timing.specs.Design.{Timing, element_at, element_count, pair_at, no_pair}
 use Rattle.mintc_timing.specs.Departures.{departure, early_arrival, early_opening, early_departure, AreEarly, AreLate}
 use Rattle.mintc_timing.specs.Extremes.{greater_of, least_of}
-use Rattle.mintc_departure.specs.Clocked.{IsClocked}
-use Rattle.mintc_departure.specs.Rounds.{early_travel, AreRising, AreSwept}
+use Rattle.mintc_settling.specs.Clocked.{IsClocked}
+use Rattle.mintc_departure.specs.Rounds.{AreRising, AreSwept}
+use Rattle.mintc_settling.specs.Travels.{early_travel}
 use Rattle.mintc_departure.proofs.EarlyLaws.{early-arrival-is, rising-part}
 
 -- Two functions that agree on what passes give the same lists.

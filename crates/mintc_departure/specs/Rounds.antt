@@ -7,16 +7,7 @@ use Rattle.mintc_timing.specs.Clocking.{shift_of}
 use Rattle.mintc_timing.specs.Departures.{departure, early_opening, early_departure, AreExactEarly, AreAtMost}
 use Rattle.mintc_places.specs.Places.{IsIn, room}
 use Rattle.mintc_departure.specs.declared.arrivals.TheConstants.{NEVER}
-use Rattle.mintc_departure.specs.Settled.{IsSum}
-
--- When an element's data leaves at the earliest where no data reaches it, counted from the start of its phase.
-abbrev pub early_start_of : Design → Schedule → ℕ → ℤ
-early_start_of design s l = if (element_at design l).flop then pos 0 else early_opening design s l
-
--- By how much later data arrives at the end of a pair than it departs at its beginning, at the earliest, each counted
--- from the start of the element's phase.
-abbrev pub early_travel : Design → Schedule → Pair → ℤ
-early_travel design s p = ((element_at design p.from).dq_min +ℤ p.min) *ℤ s.den +ℤ shift_of s (phase_of design p.from) (phase_of design p.to)
+use Rattle.mintc_settling.specs.Settled.{IsSum}
 
 -- a departure with the delay of one pair added
 abbrev pub IsArrivalSum : ℤ → Type 0

@@ -7,8 +7,8 @@ ghost use Rattle.mintc_timing.specs.Design.{element_count, pair_at};
 ghost use Rattle.mintc_timing.specs.Extremes.{least_of};
 ghost use Rattle.mintc_departure.specs.Rounds.{AreSums, IsArrivalSum, IsFirst};
 
-use crate::clocked_system::ClockedSystem;
 use mintc_constraints::Room;
+use mintc_settling::ClockedSystem;
 
 /// The arrival at an element that no pair leads to: later than any other.
 pub const NEVER: i128 = i128::MAX;

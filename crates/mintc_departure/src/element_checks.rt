@@ -1,5 +1,5 @@
 //! What the setups and the holds of the elements ask of a schedule, and by how much it fails.
-#![tactic(auto, using(crate::proofs::FailedLaws::turns))]
+#![tactic(auto, using(mintc_settling::proofs::SharedFailedLaws::turns))]
 
 ghost use Rattle.std.specs.Prelude.{◌≡◌, ◌<◌, ◌++◌, ◌∷◌, [], ◌⊎◌, ℕ, ℤ, pos, if◌then◌else◌, List, length, filter_map, option_map, IfSome, OnOk};
 ghost use Rattle.mintc_walks.specs.Walks.{value_at};
@@ -11,14 +11,13 @@ ghost use Rattle.mintc_timing.specs.Limits.{IsNumerator};
 ghost use Rattle.mintc_timing.specs.Violations.{check, failed, hold_amount, hold_checks, setup_amount, setup_checks};
 ghost use Rattle.mintc_departure.specs.Excesses.{IsExcess, IsLast};
 ghost use Rattle.mintc_departure.specs.Rounds.{AreSums, IsArrivalSum, IsFirst};
-ghost use Rattle.mintc_departure.specs.Settled.{IsSum};
+ghost use Rattle.mintc_settling.specs.Settled.{IsSum};
 
 use crate::arrivals::NEVER;
-use crate::clock_checks::judge;
-use crate::clocked_system::ClockedSystem;
 use crate::latest::LONG_AGO;
 use mintc_constraints::Room;
 use mintc_links::{scaled, width};
+use mintc_settling::{ClockedSystem, judge};
 use mintc_text::OutOfMemory;
 use mintc_timing::{Broken, Violation};
 

@@ -9,8 +9,8 @@ ghost use Rattle.mintc_departure.specs.Excesses.{IsLast};
 ghost use Rattle.mintc_departure.specs.Rounds.{AreSums, IsArrivalSum};
 
 use crate::arrivals::fill;
-use crate::clocked_system::ClockedSystem;
 use mintc_constraints::Room;
+use mintc_settling::ClockedSystem;
 
 /// The latest arrival at an element that no pair leads to: earlier than any other.
 pub const LONG_AGO: i128 = i128::MIN;

@@ -11,10 +11,10 @@ ghost use Rattle.mintc_departure.specs.Rounds.{AreSums, AreSwept, IsFirst};
 
 use crate::arrivals::{NEVER, arrival, gather};
 use crate::chains::{Chains, End};
-use crate::clocked_system::ClockedSystem;
 use crate::rounds::{departs, fill_early_starts};
 use mintc_constraints::Room;
 use mintc_places::Places;
+use mintc_settling::ClockedSystem;
 use mintc_text::OutOfMemory;
 use mintc_timing::System;
 use std::alloc::Global;

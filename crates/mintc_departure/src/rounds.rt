@@ -6,11 +6,12 @@ ghost use Rattle.mintc_timing.specs.Departures.{departure, early_arrivals, early
 ghost use Rattle.mintc_timing.specs.Design.{element_count, phase_count};
 ghost use Rattle.mintc_timing.specs.Extremes.{least_of};
 ghost use Rattle.mintc_timing.specs.Limits.{IsInRange};
-ghost use Rattle.mintc_departure.specs.Rounds.{early_start_of, AreSums, IsArrivalSum, IsFirst};
+ghost use Rattle.mintc_departure.specs.Rounds.{AreSums, IsArrivalSum, IsFirst};
+ghost use Rattle.mintc_settling.specs.Travels.{early_start_of};
 
 use crate::arrivals::{NEVER, gather};
-use crate::clocked_system::ClockedSystem;
 use mintc_constraints::Room;
+use mintc_settling::ClockedSystem;
 use mintc_timing::{Schedule, System};
 
 /// When an element's data leaves at the earliest, by its earliest arrival.

@@ -8,8 +8,8 @@ use Rattle.mintc_timing.specs.Departures.{departure, early_departure, early_arri
 use Rattle.mintc_timing.specs.Extremes.{least_of}
 use Rattle.mintc_timing.proofs.SharedFitting.{same_bits}
 use Rattle.mintc_departure.specs.Rounds.{IsFirst}
-use Rattle.mintc_departure.specs.Settled.{IsSum}
-use Rattle.mintc_departure.proofs.Filling.{filled-more, kept-early}
+use Rattle.mintc_settling.specs.Settled.{IsSum}
+use Rattle.mintc_settling.proofs.SharedFilling.{filled-more, kept-early}
 use Rattle.mintc_departure.proofs.rounds.raise.Goals as goal
 use Rattle.mintc_departure.proofs.rounds.raise.Goals.{then-time-before, else-time-before}
 
