@@ -6,10 +6,11 @@ use Rattle.mintc_timing.specs.Limits.{IsDesign}
 use Rattle.mintc_timing.specs.Order.{IsOrder}
 use Rattle.mintc_timing.specs.Paths.{Leads, IsPath, HasExtremes, input_of, output_of}
 use Rattle.mintc_timing.proofs.SharedOrdered.{all_among}
+use Rattle.mintc_sums.specs.Placed.{row_of}
 use Rattle.mintc_count.specs.Count.{AreEndsOf, IsCountBefore, IsPairMark}
 use Rattle.mintc_count.specs.declared.marks.Marks.{Marks}
 use Rattle.mintc_count.specs.Marks.{AreMarksAlong, mark_in, marks_at}
-use Rattle.mintc_paths.specs.Sums.{row_of, LeadsBack}
+use Rattle.mintc_paths.specs.Sums.{LeadsBack}
 use Rattle.mintc_paths.specs.Turned.{turned_design}
 use Rattle.mintc_paths.proofs.SharedExisting.{pairs_exist_lem}
 use Rattle.mintc_paths.proofs.SharedFinding.{ArePairsBefore-next, ArePairsBefore-push, ArePairsBefore-skip}

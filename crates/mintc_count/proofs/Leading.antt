@@ -7,9 +7,10 @@ use Rattle.mintc_timing.specs.Among.{IsAmong}
 use Rattle.mintc_timing.specs.Order.{IsOrder}
 use Rattle.mintc_timing.specs.Paths.{Leads, arc_at, output_of}
 use Rattle.mintc_timing.proofs.SharedOrdered.{AreAmong-push, AreAmong-more, Leads-push, inside, none_among, split}
+use Rattle.mintc_sums.specs.Placed.{row_of}
 use Rattle.mintc_count.specs.declared.marks.Marks.{Marks}
 use Rattle.mintc_count.specs.Marks.{AreMarksAlong, AreMarksBegun, IsMarkOf, IsReachedAlong, mark_in, marks_at}
-use Rattle.mintc_paths.specs.Sums.{LeadsBack, moved, row_of}
+use Rattle.mintc_paths.specs.Sums.{LeadsBack, moved}
 
 -- a mark is 0 or 1
 pub mark_is : (marks : Marks) (lane : ℕ) → (mark_in marks lane ≡ 0) ⊎ (mark_in marks lane ≡ 1)

@@ -8,13 +8,14 @@ use Rattle.mintc_timing.specs.Design.{Design}
 use Rattle.mintc_timing.specs.Limits.{IsDesign}
 use Rattle.mintc_timing.specs.Order.{IsOrder}
 use Rattle.mintc_timing.specs.Paths.{arc_at, output_of}
+use Rattle.mintc_sums.specs.Placed.{row_of}
 use Rattle.mintc_paths.specs.Awake.{IsAwake}
 use Rattle.mintc_paths.specs.declared.awake.Awake.{Awake}
 use Rattle.mintc_count.specs.declared.marks.Marks.{Marks}
 use Rattle.mintc_count.specs.declared.marks.TheConstants.{NO_MARKS}
 use Rattle.mintc_paths.specs.declared.rows.Course.{Course}
 use Rattle.mintc_count.specs.Marks.{marks_at, mark_in, IsMarkOf, AreMarksAlong, AreMarksBegun, AreMarksReached}
-use Rattle.mintc_paths.specs.Sums.{row_of, LeadsBack, IsCourse}
+use Rattle.mintc_paths.specs.Sums.{LeadsBack, IsCourse}
 use Rattle.mintc_count.proofs.Leading.{AreCarriedMarks, AreMarksAlong-more, IsMarkOf-same, rows_apart}
 use Rattle.mintc_paths.proofs.SharedClimbing.{climb}
 use Rattle.mintc_paths.proofs.SharedPassing.{from_in, to_in, row_in, not_on}

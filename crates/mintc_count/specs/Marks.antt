@@ -4,9 +4,9 @@ use Rattle.std.specs.Int.{bit_at}
 use Rattle.mintc_timing.specs.declared.parts.TimingArc.{TimingArc}
 use Rattle.mintc_timing.specs.Paths.{Leads, output_of}
 use Rattle.mintc_timing.specs.Among.{AreAmong}
+use Rattle.mintc_sums.specs.Placed.{row_of}
 use Rattle.mintc_count.specs.declared.marks.Marks.{Marks}
 use Rattle.mintc_count.specs.declared.marks.TheConstants.{NO_MARKS}
-use Rattle.mintc_paths.specs.Sums.{row_of}
 
 -- the marks in a row; a row past the end has none
 abbrev pub no_marks : Marks

@@ -3,10 +3,11 @@ ghost use Rattle.std.specs.Prelude.{◌≡◌, ◌≢◌, ◌+◌, ◌*◌, ◌<
 ghost use Rattle.mintc_text.specs.declared.limits.TheConstants.{MOST_ELEMENTS};
 ghost use Rattle.mintc_timing.specs.Paths.{input_of};
 ghost use Rattle.mintc_timing.specs.declared.parts.TimingArc.{TimingArc};
+ghost use Rattle.mintc_sums.specs.Placed.{row_of};
 ghost use Rattle.mintc_paths.specs.Awake.{IsReady, IsAwake};
 ghost use Rattle.mintc_paths.specs.Leaving.{AreLeaving};
 ghost use Rattle.mintc_paths.specs.Ordered.{Ordered, IsCourseOf};
-ghost use Rattle.mintc_paths.specs.Sums.{row_of, AreRows};
+ghost use Rattle.mintc_paths.specs.Sums.{AreRows};
 ghost use Rattle.mintc_count.specs.Count.{AreListed};
 ghost use Rattle.mintc_count.specs.Marks.{mark_in, marks_at, AreMarksBegun, AreMarksAlong, AreMarksReached};
 

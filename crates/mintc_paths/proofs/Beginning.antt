@@ -1,23 +1,19 @@
 -- Sums along no arcs.
-use Rattle.std.proofs.Common.{◌≡◌, ◌≢◌, ℕ, ◌<◌, ◌≤◌, ◌+◌, ◌*◌, ℤ, ◌≤ℤ◌, pos, List, length, arith, ap, ◌∙◌, sym, ◌⊎◌, inl, inr, ⊎_elim, Option, Some, None, subst}
+use Rattle.std.proofs.Common.{◌≡◌, ◌≢◌, ℕ, ◌<◌, ◌≤◌, ◌+◌, ◌*◌, ℤ, ◌≤ℤ◌, pos, List, length, arith, ◌∙◌, sym, ◌⊎◌, inl, inr, ⊎_elim, Option, Some, None, subst}
 use Rattle.std.specs.Prelude.{IfSome, unsigned_abs}
 use Rattle.std.specs.Int.{int_max, int_min}
 use Rattle.std.proofs.lemmas.Int.{ints}
-use Rattle.std.proofs.lemmas.List.{get_or-replicate}
 use Rattle.std.proofs.lemmas.Bool.{cases_eq}
 use Rattle.mintc_timing.specs.declared.parts.TimingArc.{TimingArc}
 use Rattle.mintc_timing.specs.Paths.{output_of}
-use Rattle.mintc_lanes.specs.declared.TheConstants.{ABSENT}
-use Rattle.mintc_lanes.specs.Lanes.{lane_of, lane_at}
-use Rattle.mintc_paths.specs.declared.sums.TheConstants.{NO_SUMS}
-use Rattle.mintc_paths.specs.declared.sums.Sums.{Sums}
+use Rattle.mintc_lanes.specs.Lanes.{lane_at}
+use Rattle.mintc_sums.specs.declared.sums.Sums.{Sums}
+use Rattle.mintc_sums.specs.declared.sums.TheConstants.{NO_SUMS}
+use Rattle.mintc_sums.specs.Sums.{sums_at, IsBounded, IsAlike}
+use Rattle.mintc_sums.proofs.SharedNoSums.{none_at}
 use Rattle.mintc_paths.specs.Among.{IsBest, AtLeast, max_of, min_of}
-use Rattle.mintc_paths.specs.Sums.{sums_at, IsBounded, IsAlike, AreBegun}
+use Rattle.mintc_paths.specs.Sums.{AreBegun}
 use Rattle.mintc_paths.proofs.Best.{greatest_choice, least_choice, IsBest-begun}
-
--- a row of absent lanes
-pub none_at : (lane : ℕ) → lane < 8 → (lane_at NO_SUMS.greatest lane ≡ None) × (lane_at NO_SUMS.least lane ≡ None)
-none_at lane below = let e = get_or-replicate 8 lane ABSENT ABSENT below in (ap lane_of e, ap lane_of e)
 
 pub AreBegun-none : (arcs : List TimingArc) (order : List ℕ) (first : ℕ) (sums : List Sums) → ((bit : ℕ) → bit < length sums → sums_at sums bit ≡ NO_SUMS) → AreBegun arcs order first 0 sums
 AreBegun-none arcs order first sums h = record {

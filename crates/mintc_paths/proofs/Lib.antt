@@ -20,4 +20,3 @@ mod Plain
 mod Raising
 mod Turning
 mod TurnedCourse
-mod Holding

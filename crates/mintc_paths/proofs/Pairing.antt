@@ -8,10 +8,11 @@ use Rattle.mintc_timing.specs.Design.{Design, Timing}
 use Rattle.mintc_timing.specs.Order.{IsOrder}
 use Rattle.mintc_timing.specs.Paths.{Leads, IsPath, input_of, output_of, HasExtremes, ArePairs}
 use Rattle.mintc_timing.proofs.SharedOrdered.{all_among, none_round}
-use Rattle.mintc_paths.specs.declared.sums.Sums.{Sums}
+use Rattle.mintc_sums.specs.declared.sums.Sums.{Sums}
+use Rattle.mintc_sums.specs.Sums.{sums_at}
 use Rattle.mintc_paths.specs.declared.trace.Extreme.{Extreme}
 use Rattle.mintc_paths.specs.declared.trace.Extreme.TheVariants.{Greatest, Least}
-use Rattle.mintc_paths.specs.Sums.{sums_at, AreSums}
+use Rattle.mintc_paths.specs.Sums.{AreSums}
 use Rattle.mintc_paths.specs.Trace.{AtMostOf, sum_of, weight_of, extreme_of, AreBestSums, IsBestPath, IsOfPair, IsPairOf}
 use Rattle.mintc_paths.proofs.Tracing.{some_of}
 

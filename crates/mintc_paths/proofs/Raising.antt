@@ -10,9 +10,10 @@ use Rattle.mintc_timing.specs.Design.{Design}
 use Rattle.mintc_timing.specs.Limits.{IsDesign}
 use Rattle.mintc_timing.specs.Order.{IsOrder}
 use Rattle.mintc_timing.specs.Paths.{arc_at}
+use Rattle.mintc_sums.specs.Placed.{row_of}
 use Rattle.mintc_paths.specs.declared.rows.Course.{Course}
 use Rattle.mintc_paths.specs.Longest.{bit_sum, bit_sums, AreCarried}
-use Rattle.mintc_paths.specs.Sums.{row_of, moved, IsCourse}
+use Rattle.mintc_paths.specs.Sums.{moved, IsCourse}
 use Rattle.mintc_paths.proofs.SharedPassing.{arc_of, from_in, to_in, in_design, few_arcs}
 use Rattle.mintc_paths.proofs.Rowing.{moved_others}
 use Rattle.mintc_paths.proofs.Plain.{AreCarried-zeros, carried_more, none_at, within_at}

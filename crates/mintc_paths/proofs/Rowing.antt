@@ -1,25 +1,19 @@
 -- The rows of the bits.
-use Rattle.std.proofs.Common.{◌≡◌, ◌≢◌, ℕ, ◌<◌, ◌≤◌, ◌+◌, ◌*◌, List, length, get_or, map, arith, ap, ◌∙◌, sym, subst}
+use Rattle.std.proofs.Common.{◌≡◌, ◌≢◌, ℕ, ◌<◌, ◌+◌, ◌*◌, List, length, get_or, map, arith, ap, ◌∙◌, sym, subst}
 use Rattle.std.proofs.lemmas.List.{get_or_default, get_or-map, get_or_past, same_lists}
 use Rattle.std.proofs.Math.ListN.{length-map}
 use Rattle.mintc_timing.specs.declared.parts.TimingArc.{TimingArc}
 use Rattle.mintc_timing.specs.Paths.{output_of}
+use Rattle.mintc_sums.specs.declared.sums.Sums.{Sums}
+use Rattle.mintc_sums.specs.declared.sums.TheConstants.{NO_SUMS}
+use Rattle.mintc_sums.specs.Sums.{sums_at, no_sums, IsBounded, IsAlike}
+use Rattle.mintc_sums.specs.Placed.{row_of, placed}
+use Rattle.mintc_sums.proofs.SharedPlaced.{length-placed, placed_at}
 use Rattle.mintc_paths.specs.declared.rows.Rows.{Rows}
-use Rattle.mintc_paths.specs.declared.sums.TheConstants.{NO_SUMS}
-use Rattle.mintc_paths.specs.declared.sums.Sums.{Sums}
-use Rattle.mintc_paths.specs.Sums.{sums_at, no_sums, row_of, LeadsBack, AreRows, placed, moved, IsBounded, IsAlike, AreBegun, AreSums}
+use Rattle.mintc_paths.specs.Sums.{LeadsBack, AreRows, moved, AreBegun, AreSums}
 use Rattle.mintc_paths.specs.Long.{IsShortLane}
 use Rattle.mintc_paths.proofs.Beginning.{IsBegun, AreBegun-none, AreBegun-more}
 use Rattle.mintc_paths.proofs.Filling.{IsCarried}
-
-pub length-placed : (rows : List ℕ) (sums : List Sums) → length (placed rows sums) ≡ length rows
-length-placed rows sums = length-map rows (sums_at sums)
-
-pub placed_at : (rows : List ℕ) (sums : List Sums) (bit : ℕ) → bit < length rows → sums_at (placed rows sums) bit ≡ sums_at sums (row_of rows bit)
-placed_at rows sums bit below = get_or-map (sums_at sums) rows bit 0 no_sums below
-
-pub placed_past : (rows : List ℕ) (sums : List Sums) (bit : ℕ) → length rows ≤ bit → sums_at (placed rows sums) bit ≡ no_sums
-placed_past rows sums bit past = get_or_past (placed rows sums) bit no_sums (omega (arith, length-placed rows sums))
 
 -- where one row alone has changed, one bit alone has
 pub moved_others : {X : Type 0} (n : ℕ) (rows bits : List ℕ) → LeadsBack n rows bits → (new old : ℕ → X) (d : X) (end : ℕ) → end < n → ((row : ℕ) → row ≢ row_of rows end → new row ≡ old row) →

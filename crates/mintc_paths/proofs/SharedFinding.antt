@@ -3,6 +3,11 @@ use Rattle.std.proofs.Common.{min, ◌≡◌, ◌≢◌, ℕ, ◌<◌, ◌≤◌
 use Rattle.std.proofs.lemmas.List.{get_or_append_left, get_or_push}
 use Rattle.std.specs.Prelude.{Result, Ok, Err, OnOk}
 use Rattle.mintc_lanes.specs.Lanes.{lane_at}
+use Rattle.mintc_sums.specs.declared.sums.Sums.{Sums}
+use Rattle.mintc_sums.specs.Sums.{sums_at}
+use Rattle.mintc_sums.specs.Placed.{row_of, placed}
+use Rattle.mintc_sums.proofs.SharedPlaced.{placed_at}
+use Rattle.mintc_sums.proofs.SharedNoSums.{none_at}
 use Rattle.mintc_paths.specs.Reached.{IsPaired, IsPairedLane, pair_of}
 use Rattle.std.specs.List.{All, AllAdjacentBelow}
 use Rattle.std.proofs.lemmas.List.Elements.{All-push, Contains-append_left, Contains-push}
@@ -11,12 +16,9 @@ use Rattle.mintc_timing.specs.Design.{Design}
 use Rattle.mintc_timing.specs.Paths.{IsPath, input_of, HasExtremes, ComesBefore, ArePairs}
 use Rattle.mintc_paths.specs.declared.found.Found.{Found}
 use Rattle.mintc_paths.specs.declared.rows.Rows.{Rows}
-use Rattle.mintc_paths.specs.declared.sums.Sums.{Sums}
-use Rattle.mintc_paths.specs.Sums.{sums_at, row_of, AreRows, placed}
+use Rattle.mintc_paths.specs.Sums.{AreRows}
 use Rattle.mintc_paths.specs.Found.{Precede, ArePairsBefore, HasPairs, IsFoundBefore, AreEnds, end_at}
-use Rattle.mintc_paths.proofs.Beginning.{none_at}
 use Rattle.mintc_paths.proofs.SharedClimbing.{IsToEnd, IsToEnd-at, IsToEnd-more, IsToEnd-all}
-use Rattle.mintc_paths.proofs.Rowing.{placed_at}
 
 Precede-more : (from to a b : ℕ) → Precede from to a b → Precede from (to + 1) a b
 Precede-more from to a b h = grind arith

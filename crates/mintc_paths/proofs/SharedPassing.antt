@@ -9,16 +9,19 @@ use Rattle.mintc_timing.specs.Paths.{arc_at}
 use Rattle.mintc_timing.proofs.SharedOrdered.{inside}
 use Rattle.mintc_lanes.specs.Lanes.{lane_at, joined, AreJoined}
 use Rattle.mintc_places.specs.Places.{IsIn}
+use Rattle.mintc_sums.specs.declared.sums.Sums.{Sums}
+use Rattle.mintc_sums.specs.declared.sums.TheConstants.{NO_SUMS}
+use Rattle.mintc_sums.specs.Sums.{sums_at, IsAlike, IsBounded}
+use Rattle.mintc_sums.specs.Placed.{placed}
+use Rattle.mintc_sums.proofs.SharedPlaced.{length-placed}
+use Rattle.mintc_sums.proofs.SharedNoSums.{none_at}
 use Rattle.mintc_paths.specs.Awake.{IsAwake}
 use Rattle.mintc_paths.specs.declared.awake.Awake.{Awake}
 use Rattle.mintc_paths.specs.declared.rows.Course.{Course}
-use Rattle.mintc_paths.specs.declared.sums.Sums.{Sums}
-use Rattle.mintc_paths.specs.declared.sums.TheConstants.{NO_SUMS}
-use Rattle.mintc_paths.specs.Sums.{sums_at, placed, moved, IsAlike, IsBounded, IsCourse, AreMarked, AreSums}
-use Rattle.mintc_paths.proofs.Beginning.{none_at}
+use Rattle.mintc_paths.specs.Sums.{moved, IsCourse, AreMarked, AreSums}
 use Rattle.mintc_paths.proofs.SharedClimbing.{climb}
 use Rattle.mintc_paths.proofs.Filling.{IsBounded-weaker, IsCarried, AreSums-more, arc_inside}
-use Rattle.mintc_paths.proofs.Rowing.{length-placed, alike_each, bounded_each, IsCarried-placed}
+use Rattle.mintc_paths.proofs.Rowing.{alike_each, bounded_each, IsCarried-placed}
 
 -- a lane that gets nothing stays
 joined_absent : (choose : ℤ → ℤ → ℤ) (x y : Option ℤ) (w : ℤ) → y ≡ None → x ≡ joined choose x y w

@@ -17,9 +17,10 @@ use Rattle.mintc_timing.specs.Design.{Design, no_pair}
 use Rattle.mintc_timing.specs.Limits.{IsDesign}
 use Rattle.mintc_timing.specs.Paths.{IsPath, input_of, HasExtremes, ComesBefore}
 use Rattle.mintc_timing.proofs.SharedMembers.{Contains-map}
+use Rattle.mintc_sums.specs.Placed.{row_of}
 use Rattle.mintc_paths.specs.declared.found.Found.{Found}
 use Rattle.mintc_paths.specs.Found.{Precede, ArePairsBefore, IsFoundBefore}
-use Rattle.mintc_paths.specs.Sums.{row_of, LeadsBack}
+use Rattle.mintc_paths.specs.Sums.{LeadsBack}
 use Rattle.mintc_paths.specs.Turned.{turned_design, pair_back, key_of}
 use Rattle.mintc_paths.proofs.SharedTurnedPaths.{forth, HasExtremes-back}
 

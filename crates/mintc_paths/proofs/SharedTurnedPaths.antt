@@ -15,8 +15,9 @@ use Rattle.mintc_timing.specs.Paths.{Leads, IsPath, arc_at, input_of, output_of,
 use Rattle.mintc_timing.proofs.SharedOrdered.{inside, Leads-push}
 use Rattle.mintc_rings.proofs.SharedRingLaws.{total-push}
 use Rattle.mintc_timing.specs.Order.{ArePathsShort}
+use Rattle.mintc_sums.specs.Placed.{row_of}
 use Rattle.mintc_paths.specs.Longest.{AreRunsShort}
-use Rattle.mintc_paths.specs.Sums.{row_of, LeadsBack}
+use Rattle.mintc_paths.specs.Sums.{LeadsBack}
 use Rattle.mintc_paths.specs.Turned.{turned_bit, bit_before, turned_arc, turned_arcs, turned_design, pair_back}
 use Rattle.mintc_paths.proofs.Turning.{before_input, before_output, before_turned, turned_input, turned_output, turned_below, turned_before, turned_apart}
 

@@ -9,10 +9,10 @@ use Rattle.mintc_timing.specs.Paths.{Leads, arc_at}
 use Rattle.mintc_timing.specs.Order.{IsOrder}
 use Rattle.mintc_timing.proofs.SharedOrdered.{split, all_among, before_among, inside, Leads-push, none_among}
 use Rattle.mintc_rings.proofs.SharedRingLaws.{total-push}
-use Rattle.mintc_paths.specs.declared.sums.Sums.{Sums}
+use Rattle.mintc_sums.specs.declared.sums.Sums.{Sums}
+use Rattle.mintc_sums.specs.Sums.{sums_at}
 use Rattle.mintc_paths.specs.declared.trace.Extreme.{Extreme}
 use Rattle.mintc_paths.specs.declared.trace.Extreme.TheVariants.{Greatest, Least}
-use Rattle.mintc_paths.specs.Sums.{sums_at}
 use Rattle.mintc_paths.specs.Trace.{AtMostOf, sum_of, weight_of, AreBestSums, IsThrough, IsTraced}
 
 same_sum : (x y : ℤ) → Some x ≡ Some y → x ≡ y

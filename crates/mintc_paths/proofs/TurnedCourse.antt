@@ -6,10 +6,11 @@ use Rattle.mintc_timing.specs.Design.{Design}
 use Rattle.mintc_timing.specs.Limits.{IsArc, IsDesign}
 use Rattle.mintc_timing.specs.Order.{IsOrder}
 use Rattle.mintc_timing.specs.Paths.{arc_at}
+use Rattle.mintc_sums.specs.Placed.{row_of}
 use Rattle.mintc_paths.specs.declared.rows.Rows.{Rows}
 use Rattle.mintc_paths.specs.declared.rows.Course.{Course}
 use Rattle.mintc_paths.specs.Leaving.{AreLeaving}
-use Rattle.mintc_paths.specs.Sums.{row_of, moved, AreRows, IsCourse}
+use Rattle.mintc_paths.specs.Sums.{moved, AreRows, IsCourse}
 use Rattle.mintc_paths.specs.Turned.{turned_bit, bit_before, flipped, turned_arcs}
 use Rattle.mintc_paths.proofs.Filling.{arc_inside}
 use Rattle.mintc_paths.proofs.Turning.{before_turned, turned_before, turned_below, before_below}

@@ -1,6 +1,7 @@
 -- A design turned round.
 use Rattle.std.proofs.Common.{◌≡◌, ℕ, ◌<◌, ◌+◌, ◌*◌, List, arith, ap, ◌∙◌, sym}
-use Rattle.mintc_paths.specs.Sums.{row_of, LeadsBack}
+use Rattle.mintc_sums.specs.Placed.{row_of}
+use Rattle.mintc_paths.specs.Sums.{LeadsBack}
 use Rattle.mintc_paths.specs.Turned.{turned_bit, bit_before}
 
 pub turned_input : (n : ℕ) (places : List ℕ) (l : ℕ) → l < n → turned_bit n places (2 * l) ≡ 2 * row_of places l + 1

@@ -13,4 +13,3 @@ pub mod Turned
 pub mod Ordered
 pub mod Plans
 pub mod Awake
-pub mod Held

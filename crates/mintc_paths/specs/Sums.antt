@@ -1,30 +1,14 @@
 -- Sums of paths to bits, from up to eight elements at a time.
-use Rattle.std.specs.Prelude.{◌≡◌, ◌<◌, ◌≤◌, ◌+◌, ◌*◌, ℕ, None, List, [], length, slice_index_or, map, Bool, false}
+use Rattle.std.specs.Prelude.{◌≡◌, ◌<◌, ◌≤◌, ◌+◌, ◌*◌, ℕ, None, List, length, slice_index_or, Bool, false}
 use Rattle.mintc_timing.specs.declared.parts.TimingArc.{TimingArc}
 use Rattle.mintc_timing.specs.Paths.{output_of, arc_at}
-use Rattle.mintc_lanes.specs.Lanes.{lane_at, AreWithin}
-use Rattle.mintc_paths.specs.declared.sums.Sums.{Sums}
+use Rattle.mintc_lanes.specs.Lanes.{lane_at}
+use Rattle.mintc_sums.specs.declared.sums.Sums.{Sums}
+use Rattle.mintc_sums.specs.declared.sums.TheConstants.{NO_SUMS}
 use Rattle.mintc_paths.specs.declared.rows.Rows.{Rows}
 use Rattle.mintc_paths.specs.declared.rows.Course.{Course}
-use Rattle.mintc_paths.specs.declared.sums.TheConstants.{NO_SUMS}
 use Rattle.mintc_paths.specs.Among.{IsGreatestAmong, IsLeastAmong}
 use Rattle.mintc_paths.specs.Leaving.{AreLeaving}
-
--- the sums at a bit; a bit past the end has none
-abbrev pub no_sums : Sums
-no_sums = record { greatest = []; least = [] }
-
-abbrev pub sums_at : List Sums → ℕ → Sums
-sums_at sums bit = slice_index_or sums bit no_sums
-
--- No sum at a bit is above so many femtoseconds.
-pub record IsBounded (most : ℕ) (sums : Sums) : Type 0 where
-  pub greatest : AreWithin most sums.greatest
-  pub least : AreWithin most sums.least
-
--- A lane with no greatest sum has no least one.
-abbrev pub IsAlike : Sums → Type 0
-IsAlike sums = (lane : ℕ) → lane < 8 → lane_at sums.greatest lane ≡ None → lane_at sums.least lane ≡ None
 
 -- Lane i of each bit has the sums of the paths from element first + i along the first k arcs of the order.
 pub record AreSums (arcs : List TimingArc) (order : List ℕ) (k first lanes : ℕ) (sums : List Sums) : Type 0 where
@@ -38,10 +22,6 @@ pub record AreBegun (arcs : List TimingArc) (order : List ℕ) (first lanes : �
   pub sums_so_far : AreSums arcs order 0 first lanes sums
   pub absent : (bit lane : ℕ) → bit < length sums → lanes ≤ lane → lane < 8 → (lane_at (sums_at sums bit).greatest lane ≡ None) × (lane_at (sums_at sums bit).least lane ≡ None)
 
--- the row in which a bit's sums stand
-abbrev pub row_of : List ℕ → ℕ → ℕ
-row_of rows bit = slice_index_or rows bit 0
-
 -- The second list leads back from each number of the first.
 pub record LeadsBack (n : ℕ) (there back : List ℕ) : Type 0 where
   pub count : length there ≡ n
@@ -52,10 +32,6 @@ pub record LeadsBack (n : ℕ) (there back : List ℕ) : Type 0 where
 pub record AreRows (n : ℕ) (rows : Rows) : Type 0 where
   pub of_bits : LeadsBack n rows.of_bits.items rows.bits.items
   pub bits : LeadsBack n rows.bits.items rows.of_bits.items
-
--- the sums at the bits, from those in the rows
-abbrev pub placed : List ℕ → List Sums → List Sums
-placed rows sums = map (sums_at sums) rows
 
 -- the arc from row to row
 abbrev pub moved : List ℕ → TimingArc → TimingArc

@@ -7,11 +7,11 @@ use Rattle.mintc_timing.specs.Design.{Timing}
 use Rattle.mintc_timing.specs.Paths.{Leads, IsPath, arc_at, input_of}
 use Rattle.mintc_timing.specs.Among.{AreAmong}
 use Rattle.mintc_lanes.specs.Lanes.{lane_at}
-use Rattle.mintc_paths.specs.declared.sums.Sums.{Sums}
+use Rattle.mintc_sums.specs.declared.sums.Sums.{Sums}
+use Rattle.mintc_sums.specs.Sums.{sums_at}
 use Rattle.mintc_paths.specs.declared.trace.Extreme.{Extreme}
 use Rattle.mintc_paths.specs.declared.trace.Extreme.TheVariants.{Greatest, Least}
 use Rattle.mintc_paths.specs.Among.{IsBest, AtLeast}
-use Rattle.mintc_paths.specs.Sums.{sums_at}
 
 -- Some pair of the list is of these two elements.
 abbrev pub IsPairOf : List Pair → ℕ → ℕ → Type 0

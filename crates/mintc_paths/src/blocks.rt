@@ -13,7 +13,6 @@ ghost use Rattle.mintc_paths.specs.Refusals.{IsPathRange};
 use crate::awake::Awake;
 use crate::filled::Filled;
 use crate::found::Found;
-use crate::held::Held;
 use crate::long::refuse_long;
 use crate::rows::{Course, Rows};
 use crate::sums::fill;

@@ -2,8 +2,8 @@
 ghost use Rattle.std.specs.Prelude.{◌≤◌, length};
 ghost use Rattle.mintc_paths.specs.Sums.{AreMarked, AreRows};
 
-use crate::held::Held;
 use crate::rows::Rows;
+use mintc_sums::Held;
 
 /// The sums from so many elements, from the first of them on, a lane for each, and the rows that are reached.
 #[derive(Clone, Copy)]

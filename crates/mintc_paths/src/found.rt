@@ -3,9 +3,8 @@ ghost use Rattle.std.specs.Prelude.{◌≡◌, ◌<◌, ◌≤◌, ◌^◌, ◌+
 ghost use Rattle.mintc_text.specs.declared.limits.TheConstants.{MOST_ELEMENTS};
 
 use crate::filled::Filled;
-use crate::held::Held;
 use crate::rows::Rows;
-use crate::sums::{Sums, sum_in};
+use mintc_sums::{Held, Sums, sum_in};
 use mintc_text::OutOfMemory;
 use mintc_text::limits::MOST_PAIRS;
 use mintc_timing::Pair;
@@ -24,7 +23,8 @@ impl Found {
     ghost use Rattle.mintc_paths.specs.Found.{AreEnds, IsFoundBefore};
     ghost use Rattle.mintc_timing.specs.Design.{Design};
     ghost use Rattle.mintc_lanes.specs.Lanes.{lane_at};
-    ghost use Rattle.mintc_paths.specs.Sums.{AreMarked, AreRows, placed};
+    ghost use Rattle.mintc_sums.specs.Placed.{placed};
+    ghost use Rattle.mintc_paths.specs.Sums.{AreMarked, AreRows};
     ghost use Rattle.mintc_paths.specs.Reached.{IsPaired, IsPairedLane, AreExtremes};
 
     /// No pairs.

@@ -3,7 +3,9 @@ ghost use Rattle.std.specs.Prelude.{◌<◌, ◌≤◌, ◌+◌, ◌^◌, ◌<�
 ghost use Rattle.std.specs.Bool.{OnTrue, OnFalse};
 ghost use Rattle.mintc_text.specs.declared.limits.TheConstants.{MOST_ELEMENTS};
 ghost use Rattle.mintc_lanes.specs.Lanes.{lane_at, AreLanes};
-ghost use Rattle.mintc_paths.specs.Sums.{AreMarked, AreRows, placed, sums_at};
+ghost use Rattle.mintc_sums.specs.Sums.{sums_at};
+ghost use Rattle.mintc_sums.specs.Placed.{placed};
+ghost use Rattle.mintc_paths.specs.Sums.{AreMarked, AreRows};
 ghost use Rattle.mintc_paths.specs.Long.{IsShortLane, IsFirstBit};
 ghost use Rattle.mintc_paths.specs.Reached.{AreExtremes};
 ghost use Rattle.mintc_paths.specs.Refusals.{AreShortBefore, IsPathRange};
@@ -11,10 +13,9 @@ ghost use Rattle.mintc_timing.specs.Design.{Design};
 ghost use Rattle.mintc_timing.specs.Order.{ArePathsShort};
 
 use crate::filled::Filled;
-use crate::held::Held;
 use crate::rows::Rows;
-use crate::sums::Sums;
 use mintc_lanes::max_row;
+use mintc_sums::{Held, Sums};
 use mintc_text::Refusal;
 use mintc_text::limits::MOST_DELAY;
 
@@ -44,7 +45,7 @@ fn is_long(sums: &Sums, lane: usize) -> bool
 }
 
 /// The first bit with a sum of the lane above the limit.
-#[tactic(auto, using(crate::proofs::Rowing::placed_at))]
+#[tactic(auto, using(mintc_sums::proofs::SharedPlaced::placed_at))]
 fn first_bit(sums: &Held, rows: &Rows, lane: usize) -> Option<usize>
     requires rows { AreRows (length sums.now) rows.now }
     requires lane { lane < 8 }

@@ -1,12 +1,12 @@
 //! A path with the sum of a pair.
 ghost use Rattle.std.specs.Prelude.{◌≡◌, ◌<◌, ℕ, ◌+◌, ◌*◌, length, IfOk};
 ghost use Rattle.mintc_timing.specs.Order.{IsOrder};
+ghost use Rattle.mintc_sums.specs.Placed.{row_of};
 ghost use Rattle.mintc_paths.specs.Ordered.{Ordered, ordered};
-ghost use Rattle.mintc_paths.specs.Sums.{row_of, IsCourse};
+ghost use Rattle.mintc_paths.specs.Sums.{IsCourse};
 ghost use Rattle.mintc_paths.specs.Trace.{IsPairOf, IsOfPair};
 
 use crate::awake::Awake;
-use crate::held::Held;
 use crate::rows::{Course, Rows};
 use crate::sums::fill;
 use crate::trace::{Extreme, trace};

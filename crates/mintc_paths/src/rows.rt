@@ -2,7 +2,8 @@
 //! carried along one after another find their sums near each other.
 ghost use Rattle.std.specs.Prelude.{◌≡◌, ◌+◌, ◌*◌, ◌<◌, ◌^◌, ℕ, length, IfOk};
 ghost use Rattle.mintc_timing.specs.Order.{IsOrder};
-ghost use Rattle.mintc_paths.specs.Sums.{row_of, AreRows, IsCourse};
+ghost use Rattle.mintc_sums.specs.Placed.{row_of};
+ghost use Rattle.mintc_paths.specs.Sums.{AreRows, IsCourse};
 
 use mintc_order::Leaving;
 use mintc_timing::{Flat, Order, TimingArc};

@@ -1,45 +1,22 @@
 //! Sums of paths to bits, from up to eight elements at a time.
-ghost use Rattle.std.specs.Prelude.{◌≡◌, ◌≢◌, ◌+◌, ◌*◌, ◌<◌, ◌≤◌, ℕ, List, pos, length, slice_index_or, false, None, Some, IfSome, OnOk, FitsSigned};
-ghost use Rattle.std.specs.Int.{int_max, int_min, w64};
-ghost use Rattle.mintc_lanes.specs.Lanes.{lane_at, AreJoined};
+ghost use Rattle.std.specs.Prelude.{◌≡◌, ◌≢◌, ◌+◌, ◌*◌, ◌<◌, ◌≤◌, ℕ, List, length, slice_index_or, false, OnOk};
+ghost use Rattle.std.specs.Int.{int_max, int_min};
+ghost use Rattle.mintc_lanes.specs.Lanes.{AreJoined};
 ghost use Rattle.mintc_timing.specs.Limits.{IsDelay};
 ghost use Rattle.mintc_timing.specs.declared.parts.TimingArc.{TimingArc};
+ghost use Rattle.mintc_sums.specs.Sums.{sums_at, IsBounded, IsAlike};
+ghost use Rattle.mintc_sums.specs.Placed.{placed};
 ghost use Rattle.mintc_paths.specs.Awake.{IsReady, IsAwake};
 ghost use Rattle.mintc_paths.specs.Ordered.{Ordered, IsCourseOf};
 ghost use Rattle.mintc_paths.specs.Reached.{AreExtremes};
 ghost use Rattle.mintc_paths.specs.Leaving.{AreLeaving};
-ghost use Rattle.mintc_paths.specs.Sums.{sums_at, placed, IsBounded, IsAlike, AreRows, AreBegun, AreMarked, AreSums};
+ghost use Rattle.mintc_paths.specs.Sums.{AreRows, AreBegun, AreMarked, AreSums};
 
 use crate::awake::Awake;
-use crate::held::Held;
 use crate::rows::Course;
-use mintc_lanes::ABSENT;
+use mintc_sums::{Held, NO_SUMS};
 use mintc_timing::TimingArc;
 use std::alloc::AllocError;
-
-/// The greatest and least sums of the paths to a bit, in femtoseconds: a lane for each of eight elements, absent where no
-/// path leads from it.
-#[derive(Clone, Copy)]
-pub struct Sums {
-    pub greatest: [i64; 8],
-    pub least: [i64; 8],
-}
-
-/// The sums where no path leads.
-pub const NO_SUMS: Sums = Sums {
-    greatest: [ABSENT; 8],
-    least: [ABSENT; 8],
-};
-
-/// What a lane of a row holds, if it is present.
-pub fn sum_in(row: &[i64; 8], lane: usize) -> Option<i64>
-    requires { lane < 8 }
-    ensures value { result ≡ lane_at row.now lane }
-    ensures fits { IfSome result (λ sum. FitsSigned w64 sum) }
-{
-    let sum = row[lane];
-    if sum == ABSENT { None } else { Some(sum) }
-}
 
 /// Takes away the sums in the rows that were reached.
 fn wipe(sums: &mut Held, reached: &mut [bool])

@@ -4,11 +4,10 @@ ghost use Rattle.mintc_rings.specs.Rings.{total};
 ghost use Rattle.mintc_timing.specs.Limits.{IsDelay};
 ghost use Rattle.mintc_timing.specs.Order.{IsOrder};
 ghost use Rattle.mintc_timing.specs.Paths.{Leads};
-ghost use Rattle.mintc_paths.specs.Sums.{sums_at, IsBounded};
+ghost use Rattle.mintc_sums.specs.Sums.{sums_at, IsBounded};
 ghost use Rattle.mintc_paths.specs.Trace.{sum_of, delay_of, weight_of, AreBestSums, IsThrough};
 
-use crate::held::Held;
-use crate::sums::{Sums, sum_in};
+use mintc_sums::{Held, Sums, sum_in};
 use mintc_timing::{Flat, Order, TimingArc};
 use std::alloc::{AllocError, Global};
 

@@ -3,7 +3,8 @@ ghost use Rattle.std.specs.Prelude.{◌≡◌, ◌<◌, ◌≤◌, ◌+◌, ◌-
 ghost use Rattle.mintc_text.specs.declared.limits.TheConstants.{MOST_ELEMENTS};
 ghost use Rattle.mintc_timing.specs.Order.{IsOrder};
 ghost use Rattle.mintc_timing.specs.Paths.{arc_at};
-ghost use Rattle.mintc_paths.specs.Sums.{AreRows, IsCourse, row_of};
+ghost use Rattle.mintc_sums.specs.Placed.{row_of};
+ghost use Rattle.mintc_paths.specs.Sums.{AreRows, IsCourse};
 ghost use Rattle.mintc_paths.specs.Turned.{turned_bit, bit_before, flipped, turned_arcs};
 
 use crate::rows::{Course, Rows};

@@ -1,6 +1,6 @@
 use Rattle.std.proofs.Common.{◌≡◌, ◌<◌, ◌+◌, ◌*◌, ◌∙◌, ℕ, length, arith}
 use Rattle.std.proofs.lemmas.List.{get_or_default}
-use Rattle.mintc_paths.specs.Sums.{row_of}
+use Rattle.mintc_sums.specs.Placed.{row_of}
 use Rattle.mintc_count.proofs.Noting.{noted_more, IsBegunMark, AreMarksBegun-more}
 use Rattle.mintc_count.proofs.marks.begin.Goals as goal
 

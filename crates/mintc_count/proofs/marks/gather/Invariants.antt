@@ -1,7 +1,7 @@
 use Rattle.std.proofs.Common.{◌≡◌, ◌<◌, ℕ}
 use Rattle.mintc_timing.specs.Paths.{input_of}
+use Rattle.mintc_sums.specs.Placed.{row_of}
 use Rattle.mintc_count.specs.Marks.{marks_at}
-use Rattle.mintc_paths.specs.Sums.{row_of}
 use Rattle.mintc_count.proofs.marks.gather.Given as goal
 
 -- the inputs so far are gathered

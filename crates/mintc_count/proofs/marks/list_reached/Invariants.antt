@@ -1,6 +1,6 @@
 use Rattle.std.proofs.Common.{◌≡◌, List}
 use Rattle.mintc_timing.specs.Paths.{input_of}
-use Rattle.mintc_paths.specs.Sums.{row_of}
+use Rattle.mintc_sums.specs.Placed.{row_of}
 use Rattle.mintc_count.specs.declared.marks.Marks.{Marks}
 use Rattle.mintc_count.specs.declared.marks.TheConstants.{NO_MARKS}
 use Rattle.mintc_count.specs.Count.{AreListed}

@@ -1,5 +1,5 @@
+use Rattle.mintc_sums.specs.Placed.{placed}
 use Rattle.mintc_paths.specs.Long.{AreShortBelow}
-use Rattle.mintc_paths.specs.Sums.{placed}
 use Rattle.mintc_paths.proofs.long.first_bit.Given as goal
 
 abbrev pub invariant-loop-bit : goal.invariant-loop-bit

@@ -1,6 +1,6 @@
 use Rattle.std.proofs.Common.{ℕ, ◌<◌}
+use Rattle.mintc_sums.specs.Placed.{placed}
 use Rattle.mintc_paths.specs.Long.{IsShortLane}
-use Rattle.mintc_paths.specs.Sums.{placed}
 use Rattle.mintc_paths.proofs.long.refuse_long.Given as goal
 
 -- the lanes so far are short

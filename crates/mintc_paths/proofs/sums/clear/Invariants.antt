@@ -1,7 +1,8 @@
 use Rattle.std.proofs.Common.{◌≡◌, ℕ, List, length}
 use Rattle.mintc_timing.specs.declared.parts.TimingArc.{TimingArc}
+use Rattle.mintc_sums.specs.Placed.{placed}
 use Rattle.mintc_paths.specs.Awake.{IsAwake}
-use Rattle.mintc_paths.specs.Sums.{placed, AreBegun, AreMarked}
+use Rattle.mintc_paths.specs.Sums.{AreBegun, AreMarked}
 use Rattle.mintc_paths.proofs.sums.clear.Given as goal
 
 -- the lanes so far are begun

@@ -2,12 +2,13 @@ use Rattle.std.proofs.Common.{◌≡◌, ◌<◌, ◌≤◌, ◌+◌, ◌∙◌,
 use Rattle.std.proofs.lemmas.List.{get_or_default}
 use Rattle.mintc_timing.specs.Design.{no_arc}
 use Rattle.mintc_timing.specs.Paths.{arc_at}
+use Rattle.mintc_sums.specs.Placed.{placed}
+use Rattle.mintc_sums.proofs.SharedPlaced.{length-placed}
 use Rattle.mintc_paths.specs.Awake.{IsAwake}
-use Rattle.mintc_paths.specs.Sums.{AreSums, placed}
+use Rattle.mintc_paths.specs.Sums.{AreSums}
 use Rattle.mintc_paths.proofs.Filling.{IsCarried}
 use Rattle.mintc_paths.proofs.SharedPassing.{IsSmallAt, ends_small, carried_along, passed_next, at_place, at_end}
 use Rattle.mintc_paths.proofs.Reaching.{AreExtremes-from_sums}
-use Rattle.mintc_paths.proofs.Rowing.{length-placed}
 use Rattle.mintc_paths.proofs.sums.fill.Given.{Over}
 use Rattle.mintc_paths.proofs.sums.fill.Goals as goal
 use Rattle.mintc_paths.proofs.sums.fill.Goals.{After-index-arc}

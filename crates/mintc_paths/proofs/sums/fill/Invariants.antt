@@ -1,6 +1,7 @@
 use Rattle.std.proofs.Common.{◌≡◌, ◌-◌, min, length}
+use Rattle.mintc_sums.specs.Placed.{placed}
 use Rattle.mintc_paths.specs.Awake.{IsAwake}
-use Rattle.mintc_paths.specs.Sums.{placed, AreMarked, AreSums}
+use Rattle.mintc_paths.specs.Sums.{AreMarked, AreSums}
 use Rattle.mintc_paths.proofs.sums.fill.Given as goal
 
 -- the sums along the arcs so far, and what is awake from here on

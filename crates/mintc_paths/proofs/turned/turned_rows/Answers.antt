@@ -1,8 +1,8 @@
 use Rattle.std.proofs.Common.{◌≡◌, ◌∙◌, ◌<◌, ℕ, List, length, arith, ap}
 use Rattle.std.specs.Vec.{with_items}
 use Rattle.std.proofs.lemmas.List.{with_items_is}
+use Rattle.mintc_sums.specs.Placed.{row_of}
 use Rattle.mintc_paths.specs.declared.rows.Rows.{Rows}
-use Rattle.mintc_paths.specs.Sums.{row_of}
 use Rattle.mintc_paths.specs.Turned.{turned_bit, bit_before}
 use Rattle.mintc_paths.proofs.TurnedCourse.{AreRows-turned, rows_turned}
 use Rattle.mintc_paths.proofs.turned.turned_rows.Goals as goal

@@ -1,11 +1,11 @@
 use Rattle.std.proofs.Common.{◌≡◌, ◌+◌, ◌-◌, ℕ, length, take, arith}
-use Rattle.mintc_paths.specs.declared.sums.TheConstants.{NO_SUMS}
-use Rattle.mintc_paths.specs.Held.{place_at, places_of}
-use Rattle.mintc_paths.specs.Sums.{sums_at}
-use Rattle.mintc_paths.proofs.Rowing.{length-placed}
-use Rattle.mintc_paths.proofs.Holding.{placed_none, AreHeld_none, none_above, first_alone}
-use Rattle.mintc_paths.proofs.held.Held.clear.Goals as goal
-use Rattle.mintc_paths.proofs.held.Held.clear.Goals.{After-len}
+use Rattle.mintc_sums.specs.declared.sums.TheConstants.{NO_SUMS}
+use Rattle.mintc_sums.specs.Held.{place_at, places_of}
+use Rattle.mintc_sums.specs.Sums.{sums_at}
+use Rattle.mintc_sums.proofs.SharedPlaced.{length-placed}
+use Rattle.mintc_sums.proofs.Holding.{placed_none, AreHeld_none, none_above, first_alone}
+use Rattle.mintc_sums.proofs.held.Held.clear.Goals as goal
+use Rattle.mintc_sums.proofs.held.Held.clear.Goals.{After-len}
 
 -- once the base is raised by how many sums are held, no row has a place
 off : (c : After-len) (row : ℕ) → place_at (places_of (c.self.inside.base + (c.len.result - 1)) c.self.inside.numbers.items) row ≡ 0

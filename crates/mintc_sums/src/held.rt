@@ -3,8 +3,9 @@ ghost use Rattle.std.specs.Prelude.{◌≡◌, ◌≢◌, ◌<◌, ◌≤◌, �
 ghost use Rattle.std.specs.Int.{int_max, int_min};
 ghost use Rattle.mintc_lanes.specs.Lanes.{lane_at, AreJoined};
 ghost use Rattle.mintc_timing.specs.Limits.{IsDelay};
-ghost use Rattle.mintc_paths.specs.Held.{places_of, place_at, AreNumbered};
-ghost use Rattle.mintc_paths.specs.Sums.{sums_at, placed, IsBounded};
+ghost use Rattle.mintc_sums.specs.Held.{places_of, place_at, AreNumbered};
+ghost use Rattle.mintc_sums.specs.Sums.{sums_at, IsBounded};
+ghost use Rattle.mintc_sums.specs.Placed.{placed};
 
 use crate::sums::{NO_SUMS, Sums};
 use mintc_lanes::{max_plus_row, min_plus_row, plus_row};
@@ -25,9 +26,9 @@ pub struct Held {
 
 impl Model for Held {
     ghost use Rattle.std.specs.Prelude.{List};
-    ghost use Rattle.mintc_paths.specs.declared.sums.Sums.{Sums};
-    ghost use Rattle.mintc_paths.specs.Held.{places_of, AreNumbered};
-    ghost use Rattle.mintc_paths.specs.Sums.{placed};
+    ghost use Rattle.mintc_sums.specs.declared.sums.Sums.{Sums};
+    ghost use Rattle.mintc_sums.specs.Held.{places_of, AreNumbered};
+    ghost use Rattle.mintc_sums.specs.Placed.{placed};
 
     ghost Value = { List Sums };
 

@@ -1,7 +1,7 @@
 use Rattle.std.proofs.Common.{◌<◌, rules, subst, sym}
-use Rattle.mintc_paths.specs.Held.{places_of}
-use Rattle.mintc_paths.proofs.Holding.{placed_none, all_zero, length-places}
-use Rattle.mintc_paths.proofs.held.Held.new.Goals as goal
+use Rattle.mintc_sums.specs.Held.{places_of}
+use Rattle.mintc_sums.proofs.Holding.{placed_none, all_zero, length-places}
+use Rattle.mintc_sums.proofs.held.Held.new.Goals as goal
 
 pub returns-clause-none : goal.returns-clause-none
 returns-clause-none c =

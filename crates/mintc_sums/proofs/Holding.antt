@@ -6,11 +6,12 @@ use Rattle.std.proofs.Math.Seq.{get_or-append_seam}
 use Rattle.std.specs.Int.{int_max, int_min}
 use Rattle.mintc_lanes.specs.Lanes.{AreJoined}
 use Rattle.mintc_timing.specs.declared.parts.TimingArc.{TimingArc}
-use Rattle.mintc_paths.specs.declared.sums.Sums.{Sums}
-use Rattle.mintc_paths.specs.declared.sums.TheConstants.{NO_SUMS}
-use Rattle.mintc_paths.specs.Held.{place_at, places_of, AreHeld}
-use Rattle.mintc_paths.specs.Sums.{sums_at, no_sums, placed, IsBounded}
-use Rattle.mintc_paths.proofs.Rowing.{length-placed, placed_at, placed_past}
+use Rattle.mintc_sums.specs.declared.sums.Sums.{Sums}
+use Rattle.mintc_sums.specs.declared.sums.TheConstants.{NO_SUMS}
+use Rattle.mintc_sums.specs.Held.{place_at, places_of, AreHeld}
+use Rattle.mintc_sums.specs.Sums.{sums_at, no_sums, IsBounded}
+use Rattle.mintc_sums.specs.Placed.{placed}
+use Rattle.mintc_sums.proofs.SharedPlaced.{length-placed, placed_at, placed_past}
 
 -- the place of a row, by its number
 pub place_is : (base : ℕ) (numbers : List ℕ) (row : ℕ) → place_at (places_of base numbers) row ≡ get_or numbers row 0 - base

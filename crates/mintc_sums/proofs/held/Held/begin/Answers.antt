@@ -1,10 +1,10 @@
 use Rattle.std.proofs.Common.{◌∙◌, ap}
 use Rattle.mintc_lanes.specs.Lanes.{lane_at}
-use Rattle.mintc_paths.specs.declared.sums.Sums.{Sums}
-use Rattle.mintc_paths.specs.Held.{places_of}
-use Rattle.mintc_paths.proofs.Holding.{Holds, Holds-given, put_own, put_others, read_at}
-use Rattle.mintc_paths.proofs.held.Held.begin.Goals as goal
-use Rattle.mintc_paths.proofs.held.Held.begin.Goals.{In_ok-place}
+use Rattle.mintc_sums.specs.declared.sums.Sums.{Sums}
+use Rattle.mintc_sums.specs.Held.{places_of}
+use Rattle.mintc_sums.proofs.Holding.{Holds, Holds-given, put_own, put_others, read_at}
+use Rattle.mintc_sums.proofs.held.Held.begin.Goals as goal
+use Rattle.mintc_sums.proofs.held.Held.begin.Goals.{In_ok-place}
 
 -- what the rows hold once the row has a place
 holds : (c : In_ok-place) → Holds (places_of c.self.inside.base c.hold.new.numbers.items) c.hold.new.sums.items c.args.self.now

@@ -2,8 +2,8 @@ use Rattle.std.proofs.Common.{◌∙◌, None, ap, sym, arith, w64}
 use Rattle.std.specs.Int.{int_max, int_min}
 use Rattle.std.proofs.lemmas.Int.{ints, to_z-of_z}
 use Rattle.mintc_lanes.specs.Lanes.{lane_at, joined}
-use Rattle.mintc_paths.proofs.Beginning.{none_at}
-use Rattle.mintc_paths.proofs.held.led_on.Goals as goal
+use Rattle.mintc_sums.proofs.SharedNoSums.{none_at}
+use Rattle.mintc_sums.proofs.held.led_on.Goals as goal
 
 pub returns-clause-greatest : goal.returns-clause-greatest
 returns-clause-greatest c = λ k low.

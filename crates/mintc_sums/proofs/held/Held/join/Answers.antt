@@ -1,10 +1,10 @@
 use Rattle.std.proofs.Common.{◌≡◌, ◌∙◌, ℕ, List, arith, refl, ap}
-use Rattle.mintc_paths.specs.declared.sums.TheConstants.{NO_SUMS}
-use Rattle.mintc_paths.specs.Held.{place_at, places_of}
-use Rattle.mintc_paths.specs.Sums.{sums_at}
-use Rattle.mintc_paths.proofs.Holding.{Holds, Holds-given, read_at, held_none, joined_at}
-use Rattle.mintc_paths.proofs.held.Held.join.Goals as goal
-use Rattle.mintc_paths.proofs.held.Held.join.Goals.{After-place_of-place, After-index-2}
+use Rattle.mintc_sums.specs.declared.sums.TheConstants.{NO_SUMS}
+use Rattle.mintc_sums.specs.Held.{place_at, places_of}
+use Rattle.mintc_sums.specs.Sums.{sums_at}
+use Rattle.mintc_sums.proofs.Holding.{Holds, Holds-given, read_at, held_none, joined_at}
+use Rattle.mintc_sums.proofs.held.Held.join.Goals as goal
+use Rattle.mintc_sums.proofs.held.Held.join.Goals.{After-place_of-place, After-index-2}
 
 -- what the rows hold at first, and the place of the row that the arc enters
 first : (c : After-place_of-place) → Holds (places_of c.self.inside.base c.self.inside.numbers.items) c.self.inside.sums.items c.args.self.now

@@ -1,8 +1,8 @@
 -- The sums that are held, and the rows that have them.
 use Rattle.std.specs.Prelude.{◌≡◌, ◌≢◌, ◌<◌, ◌≤◌, ◌+◌, ◌-◌, ◌^◌, ℕ, List, length, slice_index_or, map}
-use Rattle.mintc_paths.specs.declared.sums.Sums.{Sums}
-use Rattle.mintc_paths.specs.declared.sums.TheConstants.{NO_SUMS}
-use Rattle.mintc_paths.specs.Sums.{sums_at}
+use Rattle.mintc_sums.specs.declared.sums.Sums.{Sums}
+use Rattle.mintc_sums.specs.declared.sums.TheConstants.{NO_SUMS}
+use Rattle.mintc_sums.specs.Sums.{sums_at}
 
 -- the place of a row's sums, 0 where it has none
 abbrev pub place_at : List ℕ → ℕ → ℕ
