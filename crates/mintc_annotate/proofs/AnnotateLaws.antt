@@ -32,9 +32,9 @@ use Rattle.mintc_hierarchy.specs.Shape.{CellTable, IsFlattened}
 use Rattle.mintc_timing.specs.declared.parts.TimingArc.{TimingArc}
 use Rattle.mintc_timing.specs.Design.{Design}
 use Rattle.mintc_timing.specs.Limits.{over_limit, quantities, limit_of, HasParts}
-use Rattle.mintc_speaking.specs.Pins.{leaf_at, leaf_cell, no_leaf, all_leaves, inner_name, is_storage, leaf_path, dotted, input_count, output_numbers}
-use Rattle.mintc_speaking.specs.Ranges.{look}
-use Rattle.mintc_speaking.specs.Speaking.{Matter, said, range_of, first_refusal, join_into, path_on, arcs_from, dq_of, cq_of, setup_of, hold_of, width_of}
+use Rattle.mintc_matters.specs.Pins.{leaf_at, leaf_cell, no_leaf, all_leaves, inner_name, is_storage, leaf_path, dotted, input_count, output_numbers}
+use Rattle.mintc_ranges.specs.Ranges.{look}
+use Rattle.mintc_matters.specs.Speaking.{Matter, said, range_of, first_refusal, join_into, path_on, arcs_from, dq_of, cq_of, setup_of, hold_of, width_of}
 use Rattle.mintc_annotate.specs.ClockPorts.{has_ports, first_false, IsPortRefusal}
 use Rattle.mintc_annotate.specs.Phases.{storage, phase_spots, IsUntraced, IsPhaseOf}
 use Rattle.mintc_annotate.specs.declared.gathering.Gathered.{Gathered}

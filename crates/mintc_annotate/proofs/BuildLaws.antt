@@ -20,9 +20,9 @@ use Rattle.mintc_timing.specs.declared.parts.Element.{Element}
 use Rattle.mintc_timing.specs.declared.parts.TimingArc.{TimingArc}
 use Rattle.mintc_timing.specs.declared.parts.Bound.{Bound}
 use Rattle.mintc_timing.specs.Design.{design_of}
-use Rattle.mintc_speaking.specs.Pins.{leaf_at, leaf_cell, all_leaves, is_storage, scope_at, scope_path, leaf_path, dotted}
-use Rattle.mintc_speaking.specs.Names.{front_of}
-use Rattle.mintc_speaking.proofs.SharedNameLaws.{HasParents, path_below, front_push}
+use Rattle.mintc_matters.specs.Pins.{leaf_at, leaf_cell, all_leaves, is_storage, scope_at, scope_path, leaf_path, dotted}
+use Rattle.mintc_matters.specs.Names.{front_of}
+use Rattle.mintc_matters.proofs.SharedNameLaws.{HasParents, path_below, front_push}
 use Rattle.mintc_annotate.specs.declared.listing.ListedBit.{ListedBit}
 use Rattle.mintc_annotate.specs.ClockPorts.{listed_in}
 use Rattle.mintc_annotate.specs.Phases.{storage}

@@ -20,13 +20,13 @@ use Rattle.mintc_timing.specs.declared.parts.Point.TheVariants.{Origin, Start, E
 use Rattle.mintc_timing.specs.Limits.{IsElement, IsPhase, IsPoint, IsBound}
 use Rattle.mintc_annotate.specs.declared.searching.Spot.{Spot}
 use Rattle.mintc_hierarchy.specs.Shape.{CellTable}
-use Rattle.mintc_speaking.specs.Pins.{leaf_cell, leaf_path, dotted, all_names}
+use Rattle.mintc_matters.specs.Pins.{leaf_cell, leaf_path, dotted, all_names}
 use Rattle.mintc_annotate.specs.ClockPorts.{listed_in}
 use Rattle.mintc_annotate.specs.Phases.{storage, first_at, same_spot, IsPhaseOf}
-use Rattle.mintc_speaking.specs.Pins.{is_storage}
-use Rattle.mintc_speaking.specs.Speaking.{Said, range_of}
+use Rattle.mintc_matters.specs.Pins.{is_storage}
+use Rattle.mintc_matters.specs.Speaking.{Said, range_of}
 use Rattle.mintc_annotate.specs.Made.{element_of, port_element, bits_of, elements_of}
-use Rattle.mintc_speaking.proofs.SharedRangeLimits.{AreSaid}
+use Rattle.mintc_matters.proofs.SharedRangeLimits.{AreSaid}
 use Rattle.mintc_annotate.proofs.ElementLimits.{margin_is, delay_is, order_is, KeepsHold, storage_in}
 
 phase_is : (k p : ℕ) → is_phase k p ≡ true → IsPhase k p

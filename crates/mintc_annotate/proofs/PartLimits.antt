@@ -24,13 +24,13 @@ use Rattle.mintc_sdf.specs.Laws.{IsWithin}
 use Rattle.mintc_timing.specs.Design.{Design}
 use Rattle.mintc_timing.specs.Limits.{IsArc, IsElement, IsBound, HasParts}
 use Rattle.mintc_hierarchy.specs.Shape.{CellTable}
-use Rattle.mintc_speaking.specs.Pins.{leaf_at, leaf_cell, no_leaf, all_leaves, all_names, input_count, output_count, input_numbers, output_numbers, pin_bit, inner_name, dotted, leaf_path}
+use Rattle.mintc_matters.specs.Pins.{leaf_at, leaf_cell, no_leaf, all_leaves, all_names, input_count, output_count, input_numbers, output_numbers, pin_bit, inner_name, dotted, leaf_path}
 use Rattle.mintc_annotate.specs.ClockPorts.{listed_in}
 use Rattle.mintc_annotate.specs.Phases.{storage, phase_spots, IsPhaseOf}
-use Rattle.mintc_speaking.specs.Pins.{is_storage}
-use Rattle.mintc_speaking.specs.Speaking.{Said, said, range_of, path_on}
+use Rattle.mintc_matters.specs.Pins.{is_storage}
+use Rattle.mintc_matters.specs.Speaking.{Said, said, range_of, path_on}
 use Rattle.mintc_annotate.specs.Made.{RangeOf, bits_of, no_delay, gate_arc, gate_arcs, storage_arcs, leaf_arcs, number_in, arcs_of, elements_of, element_of, port_element, IsMade}
-use Rattle.mintc_speaking.proofs.SharedRangeLimits.{AreSaid, range_in, all_said}
+use Rattle.mintc_matters.proofs.SharedRangeLimits.{AreSaid, range_in, all_said}
 use Rattle.mintc_annotate.proofs.ElementLimits.{AreDelays, delay_is, order_is, or_in, KeepsHold}
 use Rattle.mintc_annotate.proofs.ArcLimits.{none_delays, inner_arc, data_arc, output_arc, joins_in, inputs_in, outputs_in, pins_count}
 use Rattle.mintc_annotate.proofs.DesignLimits.{elements_in, bound_is}

@@ -17,7 +17,7 @@ use Rattle.mintc_hierarchy.specs.declared.hierarchy.Hierarchy.{Hierarchy}
 use Rattle.mintc_hierarchy.specs.declared.hierarchy.Leaf.{Leaf}
 use Rattle.mintc_hierarchy.specs.Shape.{CellTable}
 use Rattle.mintc_cells.specs.Entries.{cell_at}
-use Rattle.mintc_speaking.specs.Pins.{leaf_at, leaf_cell}
+use Rattle.mintc_matters.specs.Pins.{leaf_at, leaf_cell}
 use Rattle.mintc_annotate.specs.Phases.{drive, cell_drives, join_drive, driver_of, back, EndsAt}
 use Rattle.mintc_annotate.specs.Searches.{AreDrivers, AreWithin}
 

@@ -9,8 +9,8 @@ use Rattle.mintc_hierarchy.specs.declared.hierarchy.Hierarchy.{Hierarchy}
 use Rattle.mintc_annotate.specs.declared.searching.Drive.{Drive}
 use Rattle.mintc_annotate.specs.declared.searching.Spot.{Spot}
 use Rattle.mintc_annotate.specs.Phases.{storage, drives, driver_of, back, EndsAt, first_at, IsStart, IsPhaseOf, spots_of, phase_spots, AreTraced, IsUntraced, AreTraces, IsTraceRefusal}
-use Rattle.mintc_speaking.specs.Pins.{is_storage}
-use Rattle.mintc_speaking.specs.Ports.{if_input, place_in}
+use Rattle.mintc_matters.specs.Pins.{is_storage}
+use Rattle.mintc_matters.specs.Ports.{if_input, place_in}
 use Rattle.mintc_annotate.specs.ClockPorts.{has_phases, first_false, IsPortRefusal}
 use Rattle.mintc_text.specs.Stops.{StopsAt}
 use Rattle.mintc_text.specs.declared.refusals.Stop.{Stop}
@@ -23,7 +23,7 @@ use Rattle.mintc_clock.specs.declared.clock.Clock as clock_type
 use Rattle.mintc_clock.specs.declared.clock.PhaseDef.{PhaseDef}
 use Rattle.mintc_hierarchy.specs.declared.hierarchy.TopPort.{TopPort}
 use Rattle.mintc_hierarchy.specs.Shape.{CellTable}
-use Rattle.mintc_speaking.specs.Pins.{leaf_cell, all_leaves, all_names}
+use Rattle.mintc_matters.specs.Pins.{leaf_cell, all_leaves, all_names}
 use Rattle.mintc_annotate.specs.Searches.{IsPhaseFrom}
 use Rattle.mintc_annotate.proofs.SearchLaws.{one_driver, some_differs}
 

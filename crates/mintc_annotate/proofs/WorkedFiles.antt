@@ -13,7 +13,7 @@ use Rattle.mintc_annotate.specs.declared.searching.Spot.{Spot}
 use Rattle.mintc_hierarchy.specs.Shape.{CellTable}
 use Rattle.mintc_annotate.specs.ClockPorts.{has_ports, first_false}
 use Rattle.mintc_annotate.specs.Phases.{spot, drive, drives, EndsAt, IsPhaseOf, AreTraced, IsFirstUntraced, phase_spots, first_at}
-use Rattle.mintc_speaking.specs.Speaking.{first_refusal}
+use Rattle.mintc_matters.specs.Speaking.{first_refusal}
 use Rattle.mintc_annotate.specs.Made.{design_made, IsAnnotated}
 
 abbrev pub two : Hierarchy

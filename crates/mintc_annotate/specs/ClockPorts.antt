@@ -10,8 +10,8 @@ use Rattle.mintc_clock.specs.declared.clock.Clock.{Clock}
 use Rattle.mintc_clock.specs.declared.clock.Listed.{Listed}
 use Rattle.mintc_clock.specs.declared.clock.PhaseDef.{PhaseDef}
 use Rattle.mintc_clock.specs.ClockOf.{first_failing}
-use Rattle.mintc_speaking.specs.Pins.{all_names}
-use Rattle.mintc_speaking.specs.Ports.{place_in, if_input}
+use Rattle.mintc_matters.specs.Pins.{all_names}
+use Rattle.mintc_matters.specs.Ports.{place_in, if_input}
 
 -- the bit of a phase: of an input
 abbrev pub phase_bit_in : List (List ℕ) → List TopPort → PhaseDef → Option ℕ

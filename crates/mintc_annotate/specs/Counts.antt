@@ -6,7 +6,7 @@ use Rattle.mintc_cells.specs.declared.cell.Cell.TheVariants.{Gate, Latch, Flop, 
 use Rattle.mintc_hierarchy.specs.declared.hierarchy.Hierarchy.{Hierarchy}
 use Rattle.mintc_hierarchy.specs.Shape.{CellTable}
 use Rattle.mintc_clock.specs.declared.clock.Listed.{Listed}
-use Rattle.mintc_speaking.specs.Pins.{leaf_cell, all_leaves}
+use Rattle.mintc_matters.specs.Pins.{leaf_cell, all_leaves}
 use Rattle.mintc_annotate.specs.declared.listing.ListedBit.{ListedBit}
 use Rattle.mintc_annotate.specs.declared.arcs.GateAt.{GateAt}
 

@@ -6,9 +6,9 @@ use Rattle.mintc_hierarchy.specs.Shape.{CellTable}
 use Rattle.mintc_sdf.specs.declared.delays.Delay.{Delay}
 use Rattle.mintc_clock.specs.declared.clock.Clock.{Clock}
 use Rattle.mintc_clock.specs.declared.clock.Listed.{Listed}
-use Rattle.mintc_speaking.specs.Pins.{all_names}
-use Rattle.mintc_speaking.specs.Ranges.{look, AreRanges}
-use Rattle.mintc_speaking.specs.Speaking.{first_refusal}
+use Rattle.mintc_matters.specs.Pins.{all_names}
+use Rattle.mintc_ranges.specs.Ranges.{look, AreRanges}
+use Rattle.mintc_matters.specs.Speaking.{first_refusal}
 use Rattle.mintc_timing.specs.Design.{Design}
 use Rattle.mintc_annotate.specs.declared.gathering.Gathered.{Gathered}
 use Rattle.mintc_annotate.specs.declared.listing.ListedBit.{ListedBit}

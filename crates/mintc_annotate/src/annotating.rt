@@ -5,7 +5,7 @@ ghost use Rattle.mintc_text.specs.Stops.{StopsAt};
 ghost use Rattle.mintc_hierarchy.specs.Shape.{IsFlattened, IsGivenHierarchy};
 ghost use Rattle.mintc_timing.specs.Limits.{HasParts, over_limit, quantities, limit_of};
 ghost use Rattle.mintc_clock.specs.declared.clock.Clock.{Clock};
-ghost use Rattle.mintc_speaking.specs.Ranges.{look};
+ghost use Rattle.mintc_ranges.specs.Ranges.{look};
 ghost use Rattle.mintc_annotate.specs.Given.{IsGivenClock, AreGivenDelays};
 ghost use Rattle.mintc_annotate.specs.Gathered.{AreGathered, AreListed, design_of_gathered};
 ghost use Rattle.mintc_annotate.specs.Counts.{leaf_arc_count};

@@ -1,7 +1,7 @@
 //! The ports that a clock names.
 ghost use Rattle.std.specs.Prelude.{◌≤◌, length, All, MatchResult};
 ghost use Rattle.mintc_text.specs.Stops.{StopsAt};
-ghost use Rattle.mintc_speaking.specs.Ports.{AreInside};
+ghost use Rattle.mintc_matters.specs.Ports.{AreInside};
 ghost use Rattle.mintc_annotate.specs.ClockPorts.{has_ports_in, IsPortRefusal};
 ghost use Rattle.mintc_annotate.specs.Clocked.{AreClocked};
 

@@ -3,7 +3,7 @@ ghost use Rattle.std.specs.Prelude.{◌≡◌, ◌<◌, ◌≤◌, ◌+◌, ℕ,
 ghost use Rattle.mintc_text.specs.declared.limits.TheConstants.{MOST_INNER};
 ghost use Rattle.mintc_timing.specs.Limits.{over_limit, quantities};
 ghost use Rattle.mintc_hierarchy.specs.Shape.{IsFlattened};
-ghost use Rattle.mintc_speaking.specs.Pins.{input_count, output_count};
+ghost use Rattle.mintc_matters.specs.Pins.{input_count, output_count};
 ghost use Rattle.mintc_annotate.specs.Counts.{arc_count, leaf_arc_count};
 
 use mintc_cells::{Cell, Cells};

@@ -2,7 +2,7 @@
 ghost use Rattle.std.specs.Prelude.{◌≡◌, ◌<◌, ◌++◌, List, length, map, flat_map, [], All, IfOk};
 ghost use Rattle.mintc_hierarchy.specs.Shape.{IsFlattened};
 ghost use Rattle.mintc_annotate.specs.Phases.{drives, join_drive, cell_drives};
-ghost use Rattle.mintc_speaking.specs.Pins.{all_leaves, leaf_cell};
+ghost use Rattle.mintc_matters.specs.Pins.{all_leaves, leaf_cell};
 ghost use Rattle.mintc_annotate.specs.Searches.{AreDrivers};
 ghost use Rattle.mintc_annotate.specs.declared.searching.Drive.{Drive};
 

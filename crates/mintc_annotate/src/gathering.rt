@@ -10,8 +10,10 @@ use crate::tracing::trace_all;
 use mintc_cells::Cells;
 use mintc_clock::Clock;
 use mintc_hierarchy::Hierarchy;
+use mintc_matters::inner_names;
+use mintc_ranges::Ranges;
 use mintc_sdf::Delays;
-use mintc_speaking::{Ranges, gather_ranges, inner_names};
+use mintc_speaking::gather_ranges;
 use mintc_text::{Name, Numbers, Stop};
 use std::alloc::Global;
 

@@ -4,7 +4,7 @@ ghost use Rattle.std.specs.Bool.{beq};
 ghost use Rattle.mintc_text.specs.Stops.{StopsAt};
 ghost use Rattle.mintc_hierarchy.specs.Shape.{IsPort};
 ghost use Rattle.mintc_clock.specs.ClockOf.{first_failing};
-ghost use Rattle.mintc_speaking.specs.Ports.{AreInside};
+ghost use Rattle.mintc_matters.specs.Ports.{AreInside};
 ghost use Rattle.mintc_annotate.specs.ClockPorts.{listed_in, has_listed_in, IsEntryRefusal};
 ghost use Rattle.mintc_annotate.specs.Gathered.{AreBits, AreListed};
 ghost use Rattle.mintc_annotate.specs.Made.{bits_in};

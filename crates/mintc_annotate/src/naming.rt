@@ -1,8 +1,8 @@
 //! What latches and flops are called.
 ghost use Rattle.std.specs.Prelude.{◌≡◌, ◌<◌, ◌++◌, length, OnOk, IfOk};
 ghost use Rattle.mintc_hierarchy.specs.Shape.{IsFlattened};
-ghost use Rattle.mintc_speaking.specs.Names.{HasNames, front_of};
-ghost use Rattle.mintc_speaking.specs.Pins.{scope_path, leaf_path, dotted};
+ghost use Rattle.mintc_matters.specs.Names.{HasNames, front_of};
+ghost use Rattle.mintc_matters.specs.Pins.{scope_path, leaf_path, dotted};
 
 use mintc_hierarchy::Hierarchy;
 use mintc_text::{Lines, Name, OutOfMemory};

@@ -5,8 +5,8 @@ ghost use Rattle.mintc_text.specs.Stops.{StopsAt};
 ghost use Rattle.mintc_hierarchy.specs.Shape.{IsFlattened, IsGivenHierarchy};
 ghost use Rattle.mintc_annotate.specs.Given.{IsGivenClock};
 ghost use Rattle.mintc_annotate.specs.Phases.{drives, IsStart, same_spot, first_at, AreTraced, IsUntraced, AreTraces, IsTraceRefusal};
-ghost use Rattle.mintc_speaking.specs.Pins.{is_storage};
-ghost use Rattle.mintc_speaking.specs.Pins.{leaf_cell};
+ghost use Rattle.mintc_matters.specs.Pins.{is_storage};
+ghost use Rattle.mintc_matters.specs.Pins.{leaf_cell};
 ghost use Rattle.mintc_annotate.specs.Searches.{AreDrivers, AreJumps, IsPhaseFrom};
 ghost use Rattle.mintc_annotate.specs.declared.searching.Drive.{Drive};
 
@@ -16,7 +16,7 @@ use crate::spots::spots_of;
 use mintc_cells::{Cell, Cells};
 use mintc_clock::Clock;
 use mintc_hierarchy::{Hierarchy, hierarchies_are_in_shape};
-use mintc_speaking::inner_names;
+use mintc_matters::inner_names;
 use mintc_text::{Numbers, Refusal, Stop};
 use std::alloc::Global;
 

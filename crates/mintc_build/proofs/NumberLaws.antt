@@ -18,8 +18,8 @@ use Rattle.mintc_clock.specs.Laws.{ClocksAreDetermined}
 use Rattle.mintc_hierarchy.specs.declared.hierarchy.Hierarchy.{Hierarchy}
 use Rattle.mintc_hierarchy.specs.Sources.{source_of}
 use Rattle.mintc_hierarchy.specs.Shape.{CellTable}
-use Rattle.mintc_speaking.specs.Pins.{all_names, all_leaves, leaf_cell, leaf_path, dotted, input_numbers, output_numbers}
-use Rattle.mintc_speaking.specs.Speaking.{range_of, said}
+use Rattle.mintc_matters.specs.Pins.{all_names, all_leaves, leaf_cell, leaf_path, dotted, input_numbers, output_numbers}
+use Rattle.mintc_matters.specs.Speaking.{range_of, said}
 use Rattle.mintc_annotate.specs.Phases.{storage}
 use Rattle.mintc_annotate.specs.Made.{RangeOf, bits_of, element_of, port_element, storage_elements, elements_with, arc_of, no_delay, inner_bit, join_arc, gate_arc, leaf_arcs, input_arcs, output_arcs, arcs_with, design_with, design_made, IsAnnotated}
 use Rattle.mintc_annotate.specs.Laws.{DesignsAreDetermined}

@@ -8,11 +8,11 @@ use Rattle.mintc_sdf.specs.declared.delays.Delay.{Delay}
 use Rattle.mintc_sdf.specs.declared.delays.Place.TheVariants.{Top}
 use Rattle.mintc_hierarchy.specs.declared.hierarchy.Hierarchy.{Hierarchy}
 use Rattle.mintc_hierarchy.specs.Shape.{CellTable}
-use Rattle.mintc_speaking.specs.Speaking.{spoken, of_instance, of_place, leaf_called, refusal_of, first_refusal, said, said_by}
-use Rattle.mintc_speaking.specs.declared.ranges.Ranges.{Ranges}
-use Rattle.mintc_speaking.specs.Ranges.{HasRanges}
+use Rattle.mintc_matters.specs.Speaking.{spoken, of_instance, of_place, leaf_called, refusal_of, first_refusal, said, said_by}
+use Rattle.mintc_ranges.specs.declared.ranges.Ranges.{Ranges}
+use Rattle.mintc_ranges.specs.Ranges.{HasRanges}
 use Rattle.mintc_speaking.specs.Gathered.{IsTakenIn}
-use Rattle.mintc_speaking.proofs.InstanceLaws.{no_leaf_at_top}
+use Rattle.mintc_matters.proofs.SharedInstanceLaws.{no_leaf_at_top}
 
 -- at the top
 pub top_spoken : (h : Hierarchy) (cells : CellTable) (d : Delay) → d.place ≡ Top → of_instance h cells [] d.subject (leaf_called h []) ≡ spoken h cells d

@@ -8,13 +8,13 @@ use Rattle.mintc_text.specs.Stops.{StopsAt}
 use Rattle.mintc_sdf.specs.declared.delays.Subject.{Subject}
 use Rattle.mintc_hierarchy.specs.declared.hierarchy.Hierarchy.{Hierarchy}
 use Rattle.mintc_hierarchy.specs.Shape.{CellTable}
-use Rattle.mintc_speaking.specs.declared.matters.Matter.TheVariants.{PathOn}
-use Rattle.mintc_speaking.specs.declared.matters.Spoken.{Spoken as Answer}
-use Rattle.mintc_speaking.specs.declared.matters.Spoken.TheVariants as answer
-use Rattle.mintc_speaking.specs.declared.ranges.Ranges.{Ranges}
-use Rattle.mintc_speaking.specs.Speaking.{Matter, Spoken, of, of_leaf, together, of_each, Said, refusal_of}
-use Rattle.mintc_speaking.specs.Matters.{AreThere}
-use Rattle.mintc_speaking.specs.Ranges.{HasRoom, HasRanges, IsWidened, IsSameRoom}
+use Rattle.mintc_matters.specs.declared.matters.Matter.TheVariants.{PathOn}
+use Rattle.mintc_matters.specs.declared.matters.Spoken.{Spoken as Answer}
+use Rattle.mintc_matters.specs.declared.matters.Spoken.TheVariants as answer
+use Rattle.mintc_ranges.specs.declared.ranges.Ranges.{Ranges}
+use Rattle.mintc_matters.specs.Speaking.{Matter, Spoken, of, of_leaf, together, of_each, Said, refusal_of}
+use Rattle.mintc_matters.specs.Matters.{AreThere}
+use Rattle.mintc_ranges.specs.Ranges.{HasRoom, HasRanges, IsWidened, IsSameRoom}
 use Rattle.mintc_speaking.specs.Gathered.{told, HasPlaceOf, IsTakenIn}
 use Rattle.mintc_speaking.proofs.RangeLaws.{range_push}
 

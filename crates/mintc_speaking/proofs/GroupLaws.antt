@@ -17,11 +17,11 @@ use Rattle.mintc_sdf.specs.declared.delays.Subject.{Subject}
 use Rattle.mintc_sdf.specs.declared.delays.Subject.TheVariants as subject
 use Rattle.mintc_hierarchy.specs.declared.hierarchy.Hierarchy.{Hierarchy}
 use Rattle.mintc_hierarchy.specs.Shape.{CellTable, IsFlattened}
-use Rattle.mintc_speaking.specs.Pins.{leaf_at, no_leaf, all_leaves}
-use Rattle.mintc_speaking.specs.Speaking.{of, of_each, of_every, leaves_of}
+use Rattle.mintc_matters.specs.Pins.{leaf_at, no_leaf, all_leaves}
+use Rattle.mintc_matters.specs.Speaking.{of, of_each, of_every, leaves_of}
 use Rattle.mintc_speaking.specs.Gathered.{leaves_with, IsGroupedIn}
-use Rattle.mintc_speaking.proofs.FirstLaws.{number, position_missing}
-use Rattle.mintc_speaking.proofs.SpeakingLaws.{IsNoWire}
+use Rattle.mintc_matters.proofs.SharedFirstLaws.{number, position_missing}
+use Rattle.mintc_matters.proofs.SharedSpeakingLaws.{IsNoWire}
 
 -- ---- filters
 filter_same : (p q : ℕ → Bool) (xs : List ℕ) → ((k : ℕ) → k < length xs → p (get_or xs k 0) ≡ q (get_or xs k 0)) → filter p xs ≡ filter q xs

@@ -2,7 +2,7 @@
 use Rattle.std.proofs.Common.{◌≡◌, ℤ, Bool, true, cond, List, [], ◌∷◌, ◌++◌, Option, Some, None, refl, ap, ◌∙◌, arith}
 use Rattle.std.proofs.lemmas.Int.{ints, int_min_is, int_max_is}
 use Rattle.std.specs.Int.{int_min, int_max}
-use Rattle.mintc_speaking.specs.Speaking.{Matter, Said, same_matter, widened, range_of}
+use Rattle.mintc_matters.specs.Speaking.{Matter, Said, same_matter, widened, range_of}
 
 min_swap : (x y z : ℤ) → int_min x (int_min y z) ≡ int_min y (int_min x z)
 min_swap x y z = omega (arith, ints, int_min_is x (int_min y z), int_min_is y z, int_min_is y (int_min x z), int_min_is x z)

@@ -2,12 +2,12 @@
 use Rattle.std.specs.Prelude.{◌≡◌, ◌<◌, ◌==◌, ◌++◌, ◌∷◌, [], if◌then◌else◌, ℕ, ℤ, List, map, length, filter, slice_index_or, None, Some, Vec}
 use Rattle.std.specs.Global.{Global}
 use Rattle.mintc_hierarchy.specs.declared.hierarchy.Hierarchy.{Hierarchy}
-use Rattle.mintc_speaking.specs.declared.matters.Spoken.{Spoken as Answer}
-use Rattle.mintc_speaking.specs.declared.matters.Spoken.TheVariants as answer
-use Rattle.mintc_speaking.specs.declared.ranges.Ranges.{Ranges}
-use Rattle.mintc_speaking.specs.Pins.{leaf_at, all_leaves}
-use Rattle.mintc_speaking.specs.Speaking.{Matter, Spoken, Said, matters, refusal_of}
-use Rattle.mintc_speaking.specs.Ranges.{HasPlace, HasRanges, IsSameRoom}
+use Rattle.mintc_matters.specs.declared.matters.Spoken.{Spoken as Answer}
+use Rattle.mintc_matters.specs.declared.matters.Spoken.TheVariants as answer
+use Rattle.mintc_ranges.specs.declared.ranges.Ranges.{Ranges}
+use Rattle.mintc_matters.specs.Pins.{leaf_at, all_leaves}
+use Rattle.mintc_matters.specs.Speaking.{Matter, Spoken, Said, matters, refusal_of}
+use Rattle.mintc_ranges.specs.Ranges.{HasPlace, HasRanges, IsSameRoom}
 
 -- the leaves of a cell, in their order
 abbrev pub leaves_with : Hierarchy → ℕ → List ℕ

@@ -1,10 +1,1 @@
-pub mod Pins
-pub mod Names
-pub mod Ports
-pub mod Speaking
-pub mod Ranges
-pub mod Matters
-pub mod Instances
-pub mod Scenes
 pub mod Gathered
-pub mod Places

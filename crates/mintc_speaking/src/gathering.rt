@@ -3,22 +3,21 @@ ghost use Rattle.std.specs.Prelude.{◌≡◌, ◌<◌, ℕ, [], length, slice_i
 ghost use Rattle.mintc_text.specs.Stops.{StopsAt};
 ghost use Rattle.mintc_cells.specs.Entries.{AreOrdered};
 ghost use Rattle.mintc_hierarchy.specs.Shape.{IsFlattened};
-ghost use Rattle.mintc_speaking.specs.Pins.{all_names};
-ghost use Rattle.mintc_speaking.specs.Speaking.{of, first_refusal, refusal_of, of_each, of_every, of_instance, leaf_called, spoken};
-ghost use Rattle.mintc_speaking.specs.declared.matters.Spoken.TheVariants as answer;
-ghost use Rattle.mintc_speaking.specs.Matters.{matters_of, spoken_of};
-ghost use Rattle.mintc_speaking.specs.Instances.{IsAt};
-ghost use Rattle.mintc_speaking.specs.Scenes.{IsScene};
-ghost use Rattle.mintc_speaking.specs.Ranges.{HasRoom, HasRanges, AreRanges};
+ghost use Rattle.mintc_matters.specs.Pins.{all_names};
+ghost use Rattle.mintc_matters.specs.Speaking.{of, first_refusal, refusal_of, of_each, of_every, of_instance, leaf_called, spoken};
+ghost use Rattle.mintc_matters.specs.declared.matters.Spoken.TheVariants as answer;
+ghost use Rattle.mintc_matters.specs.Matters.{matters_of, spoken_of};
+ghost use Rattle.mintc_matters.specs.Instances.{IsAt};
+ghost use Rattle.mintc_matters.specs.Scenes.{IsScene};
+ghost use Rattle.mintc_ranges.specs.Ranges.{HasRoom, HasRanges, AreRanges};
 ghost use Rattle.mintc_speaking.specs.Gathered.{AreGrouped, IsGroupedIn, HasPlaceOf, IsTakenIn};
 
-use crate::instances::{Instance, Instances, is_same_path};
-use crate::matters::{Matter, Spoken, at_leaf};
-use crate::places::index_places;
-use crate::ranges::Ranges;
-use crate::speaking::Scene;
 use mintc_cells::Cells;
 use mintc_hierarchy::Hierarchy;
+use mintc_matters::{
+    Instance, Instances, Matter, Scene, Spoken, at_leaf, index_places, is_same_path,
+};
+use mintc_ranges::Ranges;
 use mintc_sdf::{Delay, Place, Subject};
 use mintc_text::{Name, OutOfMemory, Refusal, Role, Stop};
 use std::alloc::Global;

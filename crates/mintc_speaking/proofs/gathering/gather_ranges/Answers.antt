@@ -1,7 +1,7 @@
 use Rattle.std.proofs.Common.{List, length, sym, subst}
 use Rattle.mintc_hierarchy.specs.declared.hierarchy.TopPort.{TopPort}
-use Rattle.mintc_speaking.specs.Ports.{AreInside}
-use Rattle.mintc_speaking.proofs.PlaceLaws.{ports_inside}
+use Rattle.mintc_matters.specs.Ports.{AreInside}
+use Rattle.mintc_matters.proofs.SharedPlaceLaws.{ports_inside}
 use Rattle.mintc_speaking.proofs.gathering.gather_ranges.Goals as goal
 
 pub index_places-requires : goal.index_places-requires

@@ -1,7 +1,7 @@
 use Rattle.std.proofs.Common.{◌≡◌, ◌<◌, ◌≤◌, ◌+◌, ℕ, List, [], length, slice_index_or, sym, ap, ◌∙◌, subst, arith, Vec, Global}
 use Rattle.std.proofs.lemmas.List.{get_or_default}
 use Rattle.mintc_hierarchy.specs.declared.hierarchy.Leaf.{Leaf}
-use Rattle.mintc_speaking.specs.Pins.{leaf_at, no_leaf}
+use Rattle.mintc_matters.specs.Pins.{leaf_at, no_leaf}
 use Rattle.mintc_speaking.proofs.GroupLaws.{cell_within, no_groups_more, groups_more, groups_all}
 use Rattle.mintc_speaking.proofs.gathering.leaves_by_cell.Goals as goal
 

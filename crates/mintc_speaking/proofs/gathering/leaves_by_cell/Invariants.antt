@@ -1,5 +1,5 @@
 use Rattle.std.proofs.Common.{◌≡◌, ◌<◌, ◌==◌, ℕ, [], length, filter, take, slice_index_or, Vec, Global}
-use Rattle.mintc_speaking.specs.Pins.{leaf_at, all_leaves}
+use Rattle.mintc_matters.specs.Pins.{leaf_at, all_leaves}
 use Rattle.mintc_speaking.proofs.gathering.leaves_by_cell.Given as goal
 
 -- the cells so far have no leaves

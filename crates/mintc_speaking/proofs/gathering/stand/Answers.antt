@@ -1,6 +1,6 @@
 use Rattle.std.proofs.Common.{◌≡◌, sym, ◌∙◌, subst}
-use Rattle.mintc_speaking.specs.Instances.{IsAt}
-use Rattle.mintc_speaking.proofs.PathLaws.{Path, same_is}
+use Rattle.mintc_matters.specs.Instances.{IsAt}
+use Rattle.mintc_matters.proofs.SharedPathLaws.{Path, same_is}
 use Rattle.mintc_speaking.proofs.gathering.stand.Goals as goal
 
 pub returns-then-is_same_path : goal.returns-then-is_same_path

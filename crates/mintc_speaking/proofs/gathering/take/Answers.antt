@@ -1,9 +1,9 @@
 use Rattle.std.proofs.Common.{◌≡◌, [], Some, sym, ap, ◌∙◌, subst}
-use Rattle.mintc_speaking.specs.Speaking.{Spoken, of_instance, leaf_called, spoken, refusal_of}
-use Rattle.mintc_speaking.specs.Instances.{IsAt}
+use Rattle.mintc_matters.specs.Speaking.{Spoken, of_instance, leaf_called, spoken, refusal_of}
+use Rattle.mintc_matters.specs.Instances.{IsAt}
 use Rattle.mintc_speaking.specs.Gathered.{IsTakenIn}
-use Rattle.mintc_speaking.proofs.PathLaws.{Path}
-use Rattle.mintc_speaking.proofs.InstanceLaws.{at_top}
+use Rattle.mintc_matters.proofs.SharedPathLaws.{Path}
+use Rattle.mintc_matters.proofs.SharedInstanceLaws.{at_top}
 use Rattle.mintc_speaking.proofs.GatherLaws.{stops_more}
 use Rattle.mintc_speaking.proofs.DelayLaws.{top_spoken}
 use Rattle.mintc_speaking.proofs.gathering.take.Goals as goal

@@ -1,6 +1,6 @@
 use Rattle.std.proofs.Common.{◌≡◌, Some, length, refl}
-use Rattle.mintc_speaking.specs.Speaking.{spoken, refusal_of, first_refusal}
-use Rattle.mintc_speaking.proofs.InstanceLaws.{at_top}
+use Rattle.mintc_matters.specs.Speaking.{spoken, refusal_of, first_refusal}
+use Rattle.mintc_matters.proofs.SharedInstanceLaws.{at_top}
 use Rattle.mintc_speaking.proofs.GatherLaws.{stops_more}
 use Rattle.mintc_speaking.proofs.DelayLaws.{unrefused_more, refused_here, ranges_more}
 use Rattle.mintc_speaking.proofs.gathering.take_all.Goals as goal

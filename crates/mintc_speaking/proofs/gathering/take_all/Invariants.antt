@@ -1,7 +1,7 @@
 use Rattle.std.proofs.Common.{◌≡◌, take, None}
-use Rattle.mintc_speaking.specs.Speaking.{first_refusal, said}
-use Rattle.mintc_speaking.specs.Instances.{IsAt}
-use Rattle.mintc_speaking.specs.Ranges.{HasRanges, IsSameRoom}
+use Rattle.mintc_matters.specs.Speaking.{first_refusal, said}
+use Rattle.mintc_matters.specs.Instances.{IsAt}
+use Rattle.mintc_ranges.specs.Ranges.{HasRanges, IsSameRoom}
 use Rattle.mintc_speaking.proofs.gathering.take_all.Given as goal
 
 -- the delays so far are taken in

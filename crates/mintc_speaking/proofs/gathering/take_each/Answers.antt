@@ -1,6 +1,6 @@
 use Rattle.std.proofs.Common.{◌≡◌, Some, take, length, get_or, sym, ap, ◌∙◌, subst}
-use Rattle.mintc_speaking.specs.Speaking.{Spoken, of_each, of_leaf, refusal_of}
-use Rattle.mintc_speaking.specs.Matters.{spoken_of}
+use Rattle.mintc_matters.specs.Speaking.{Spoken, of_each, of_leaf, refusal_of}
+use Rattle.mintc_matters.specs.Matters.{spoken_of}
 use Rattle.mintc_speaking.specs.Gathered.{IsTakenIn}
 use Rattle.mintc_speaking.proofs.GatherLaws.{has_place, taken_both, each_more, each_refused, stops_more}
 use Rattle.mintc_speaking.proofs.gathering.take_each.Goals as goal

@@ -1,5 +1,5 @@
 use Rattle.std.proofs.Common.{take}
-use Rattle.mintc_speaking.specs.Speaking.{of_each}
+use Rattle.mintc_matters.specs.Speaking.{of_each}
 use Rattle.mintc_speaking.specs.Gathered.{IsTakenIn}
 use Rattle.mintc_speaking.proofs.gathering.take_each.Given as goal
 

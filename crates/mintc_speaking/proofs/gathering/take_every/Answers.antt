@@ -2,7 +2,7 @@ use Rattle.std.proofs.Common.{◌≡◌, ◌<◌, ℕ, List, Some, None, length,
 use Rattle.std.specs.Result.{OnOk, IfErr}
 use Rattle.mintc_text.specs.Stops.{StopsAt}
 use Rattle.mintc_cells.specs.Entries.{number_of}
-use Rattle.mintc_speaking.specs.Speaking.{Spoken, of_each, of_every, refusal_of}
+use Rattle.mintc_matters.specs.Speaking.{Spoken, of_each, of_every, refusal_of}
 use Rattle.mintc_speaking.specs.Gathered.{IsTakenIn, leaves_with}
 use Rattle.mintc_speaking.proofs.GatherLaws.{taken_nothing}
 use Rattle.mintc_speaking.proofs.GroupLaws.{found_cell, group_inside, every_found, every_missing}

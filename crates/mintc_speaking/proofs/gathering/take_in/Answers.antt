@@ -1,8 +1,8 @@
 use Rattle.std.proofs.Common.{sym, subst, w64, SFits, rules}
 use Rattle.std.proofs.lemmas.Int.{to_z-of_z}
-use Rattle.mintc_speaking.specs.declared.matters.Spoken.{Spoken as Answer}
-use Rattle.mintc_speaking.specs.Speaking.{of}
-use Rattle.mintc_speaking.specs.Matters.{matters_of, spoken_of}
+use Rattle.mintc_matters.specs.declared.matters.Spoken.{Spoken as Answer}
+use Rattle.mintc_matters.specs.Speaking.{of}
+use Rattle.mintc_matters.specs.Matters.{matters_of, spoken_of}
 use Rattle.mintc_speaking.specs.Gathered.{IsTakenIn}
 use Rattle.mintc_speaking.proofs.gathering.take_in.Goals as goal
 

@@ -1,9 +1,9 @@
 use Rattle.std.proofs.Common.{sym, subst, w64, Option}
 use Rattle.std.proofs.lemmas.Int.{to_z-of_z}
-use Rattle.mintc_speaking.specs.declared.matters.Matter.{Matter as Told}
-use Rattle.mintc_speaking.specs.Speaking.{of}
-use Rattle.mintc_speaking.specs.Matters.{matters_of, matter_of}
-use Rattle.mintc_speaking.specs.Ranges.{IsWidened}
+use Rattle.mintc_matters.specs.declared.matters.Matter.{Matter as Told}
+use Rattle.mintc_matters.specs.Speaking.{of}
+use Rattle.mintc_matters.specs.Matters.{matters_of, matter_of}
+use Rattle.mintc_ranges.specs.Ranges.{IsWidened}
 use Rattle.mintc_speaking.specs.Gathered.{IsTakenIn}
 use Rattle.mintc_speaking.proofs.GatherLaws.{taken_one}
 use Rattle.mintc_speaking.proofs.gathering.take_told.Goals as goal

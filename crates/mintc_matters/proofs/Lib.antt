@@ -1,0 +1,8 @@
+pub mod SharedNameLaws
+pub mod SharedRangeLimits
+pub mod SharedFirstLaws
+pub mod SharedPathLaws
+pub mod SharedInstanceLaws
+pub mod SharedSpeakingLaws
+pub mod SharedPlaceLaws
+mod PortLaws

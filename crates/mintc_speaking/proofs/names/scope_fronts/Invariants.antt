@@ -1,6 +1,0 @@
-use Rattle.mintc_speaking.specs.Names.{AreFronts}
-use Rattle.mintc_speaking.proofs.names.scope_fronts.Given as goal
-
--- the fronts of the scopes so far
-abbrev pub invariant-loop-number : goal.invariant-loop-number
-invariant-loop-number l = AreFronts l.hierarchy l.number l.found.items
