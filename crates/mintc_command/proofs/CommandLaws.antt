@@ -1,16 +1,16 @@
 -- Words and commands.
-use Rattle.std.proofs.Common.{◌≡◌, ◌≤◌, ◌<◌, ◌-◌, ◌+◌, ◌*◌, ℕ, suc, List, [], ◌∷◌, ◌++◌, codes, length, get_or, replicate, take, drop, arith, refl, ap, ◌∙◌, sym, subst, String, length-drop}
+use Rattle.std.proofs.Common.{◌≡◌, ◌≤◌, ◌-◌, ◌+◌, ◌*◌, ℕ, suc, List, [], ◌++◌, codes, length, get_or, replicate, take, drop, arith, refl, ap, ◌∙◌, sym, subst, String, length-drop}
 use Rattle.std.proofs.lemmas.List.{take_all, drop-map, length-append, length-map, length-replicate}
 use Rattle.std.specs.String.{string_bytes}
 use Rattle.mintc_text.specs.declared.refusals.Role.TheVariants as role
 use Rattle.std.proofs.lemmas.Fmt.{decimal_injective}
-use Rattle.mintc_command.specs.Commands.{AreWordsOf, IsNumberInRange, bytes_of, job_word, source_word, roles_of, words_of}
-use Rattle.mintc_command.specs.declared.command.Command.{Command}
-use Rattle.mintc_command.specs.declared.command.Command.TheVariants.{OfDesign, Sample, Corners}
-use Rattle.mintc_command.specs.declared.command.Job.{Job}
-use Rattle.mintc_command.specs.declared.command.Job.TheVariants.{Check, Optimise, Verify, Report, Safe, Slack}
-use Rattle.mintc_command.specs.declared.command.Source.{Source}
-use Rattle.mintc_command.specs.declared.command.Source.TheVariants.{Table, Files, Liberty}
+use Rattle.mintc_answers.specs.Commands.{AreWordsOf, IsNumberInRange, bytes_of, job_word, source_word, roles_of, words_of}
+use Rattle.mintc_answers.specs.declared.command.Command.{Command}
+use Rattle.mintc_answers.specs.declared.command.Command.TheVariants.{OfDesign, Sample, Corners}
+use Rattle.mintc_answers.specs.declared.command.Job.{Job}
+use Rattle.mintc_answers.specs.declared.command.Job.TheVariants.{Check, Optimise, Verify, Report, Safe, Slack}
+use Rattle.mintc_answers.specs.declared.command.Source.{Source}
+use Rattle.mintc_answers.specs.declared.command.Source.TheVariants.{Table, Files, Liberty}
 
 -- A word asks for one job: the words of jobs, `sample` and `corners` differ in their first or third letters.
 letters : List ℕ → ℕ
@@ -212,22 +212,3 @@ pub read-count : {Z : Type 0} (words : List (String Z)) (n : ℕ) (own command :
     AreWordsOf own own_names (bytes_of words) → AreWordsOf command names (bytes_of words) → length (take (length words - n) (drop n words)) ≡ length names
 read-count {Z} words n own command own_names names is h g =
     sym (length-map (take (length words - n) (drop n words)) string_bytes) ∙ ap (λ (ns : List (List ℕ)). length ns) (read-names words n own command own_names names is h g)
-
--- `corners` with its files, as words have them
-pub corner_words : {Z : Type 0} (words : List (String Z)) (count : ℕ) (first : List ℕ) → IsNumberInRange (Corners count) → length words ≡ count + 4 → first ≡ codes "corners" →
-    bytes_of words ≡ first ∷ bytes_of (drop 1 words) → AreWordsOf (Corners count) (bytes_of (drop 1 words)) (bytes_of words)
-corner_words {Z} words count first in_range many is whole =
-    let names : length (bytes_of (drop 1 words)) ≡ length (drop 1 words) = length-map (drop 1 words) string_bytes in
-    let rest : length (drop 1 words) ≡ length words - 1 = length-drop 1 words in
-    let roles : length (replicate count role.Delays) ≡ count = length-replicate count role.Delays in
-    let all : length (roles_of (Corners count)) ≡ suc (suc (suc (length (replicate count role.Delays)))) = refl in
-    record {
-      count = omega (arith, names, rest, roles, all, many);
-      whole = whole ∙ ap (λ (w : List ℕ). w ∷ bytes_of (drop 1 words)) is;
-      in_range = in_range;
-    }
-
--- words from the first on
-pub first_word : {Z : Type 0} (words : List (String Z)) (word : String Z) → 0 < length words → word ≡ get_or words 0 word → bytes_of words ≡ string_bytes word ∷ bytes_of (drop 1 words)
-first_word {Z} [] word some is = absurd (omega (arith, some))
-first_word {Z} (first ∷ words) word some is = ap (λ (w : String Z). string_bytes w ∷ bytes_of words) (sym is)

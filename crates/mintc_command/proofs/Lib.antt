@@ -2,10 +2,3 @@ mod Calls
 mod CommandLaws
 mod ReadingLaws
 mod AnswerLaws
-mod SourceLaws
-mod JudgementLaws
-mod RefusalLaws
-mod CornerLaws
-mod OptimumLaws
-mod NumberLaws
-mod VerdictLaws

@@ -1,8 +1,1 @@
-pub mod Statuses
-pub mod Commands
-pub mod Contents
-pub mod Sources
-pub mod Jobs
-pub mod Corners
 pub mod Answers
-pub mod Laws

@@ -1,8 +1,8 @@
 //! Reading the files that a command names.
 ghost use Rattle.std.specs.Prelude.{◌≡◌, ◌≢◌, ◌+◌, ◌≤◌, [], length, IfOk, OnOk, Err};
 ghost use Rattle.mintc_text.specs.Outside.{Rose};
+ghost use Rattle.mintc_answers.specs.Commands.{bytes_of};
 ghost use Rattle.mintc_command.specs.Answers.{AreFronts, HoldsAll, MakesAtMost};
-ghost use Rattle.mintc_command.specs.Commands.{bytes_of};
 
 use mintc_text::limits::MOST_BYTES;
 use mintc_text::{Bytes, Shelf, ShelfError};

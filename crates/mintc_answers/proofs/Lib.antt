@@ -1,0 +1,9 @@
+mod WordLaws
+mod AnswerLaws
+mod SourceLaws
+mod JudgementLaws
+mod RefusalLaws
+mod CornerLaws
+mod OptimumLaws
+mod NumberLaws
+mod VerdictLaws

@@ -1,0 +1,82 @@
+//! The answer of `check`: the judgement of a schedule.
+ghost use Rattle.std.specs.Prelude.{◌≡◌, ◌≤◌, length, IfOk, IfErr};
+ghost use Rattle.mintc_text.specs.Stops.{StopsAt};
+ghost use Rattle.mintc_timing.specs.Design.{phase_count};
+ghost use Rattle.mintc_timing.specs.Limits.{IsInRange};
+ghost use Rattle.mintc_answers.specs.Jobs.{IsFileRefused, IsJobAnswer, IsJudgement, IsScheduleOf, IsScheduleRefused};
+
+use crate::answer::Answer;
+use crate::command::Job;
+use crate::status::Status;
+use mintc_constraints::Room;
+use mintc_departure::violations;
+use mintc_lines::read_schedule;
+use mintc_report::{fail_text, pass_text, violations_name_pairs};
+use mintc_text::limits::MOST_BYTES;
+use mintc_text::{Bytes, OutOfMemory, Refusal, Stop};
+use mintc_timing::{Schedule, System};
+use std::alloc::Global;
+
+/// The schedule of a text, which is to have so many phases, or its first refusal.
+fn schedule_of(text: &[u8], phases: usize) -> Result<Schedule, Refusal>
+    requires text { length text.now ≤ MOST_BYTES }
+    requires few { phases ≤ 8 }
+    ensures value { IfOk result (λ schedule. IsScheduleOf text.now phases schedule) }
+    ensures in_range { IfOk result IsInRange }
+    ensures refusal { IfErr result (IsScheduleRefused text.now phases) }
+{
+    let schedule = match read_schedule(text) {
+        Ok(schedule) => schedule,
+        Err(refusal) => return Err(refusal),
+    };
+    let given = schedule.starts.items().len();
+    if phases != given {
+        return Err(Refusal::PhaseMismatch {
+            design: phases as u32,
+            schedule: given as u32,
+        });
+    }
+    Ok(schedule)
+}
+
+/// The judgement of a schedule: a pass, or a fail with all its violations.
+fn judged(alloc: Global, system: &System, schedule: &Schedule) -> Result<Answer, OutOfMemory>
+    requires in_range { IsInRange schedule.now }
+    requires phases { length schedule.now.starts ≡ phase_count system.now.flat }
+    ensures { IfOk result (λ answer. IsJudgement system.now schedule.now answer.status answer.text) }
+{
+    let flat = system.flat();
+    let nodes = 1 + 2 * flat.phases().items().len() + flat.elements().len();
+    let mut room = Room::reserve(alloc, nodes, 0)?;
+    let violations = violations(alloc, system, schedule, &mut room)?;
+    if violations.is_empty() {
+        let text = pass_text(alloc, system, schedule, &room)?;
+        Ok(Answer {
+            status: Status::Done,
+            text: Bytes::new(text),
+        })
+    } else {
+        violations_name_pairs();
+        let text = fail_text(alloc, system, schedule, violations.as_slice())?;
+        Ok(Answer {
+            status: Status::Found,
+            text: Bytes::new(text),
+        })
+    }
+}
+
+/// The judgement of the schedule of a text, or why the text is refused.
+pub fn checked(alloc: Global, system: &System, file: &[u8]) -> Result<Answer, Stop>
+    requires { length file.now ≤ MOST_BYTES }
+    ensures value { IfOk result (λ answer. IsJobAnswer Job.Check system.now file.now answer.status answer.text) }
+    ensures stop { IfErr result (StopsAt (IsFileRefused Job.Check system.now.flat file.now)) }
+{
+    let schedule = match schedule_of(file, system.flat().phases().items().len()) {
+        Ok(schedule) => schedule,
+        Err(refusal) => return Err(Stop::Refused(refusal)),
+    };
+    match judged(alloc, system, &schedule) {
+        Ok(answer) => Ok(answer),
+        Err(OutOfMemory) => Err(Stop::OutOfMemory),
+    }
+}
