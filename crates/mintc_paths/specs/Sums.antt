@@ -5,6 +5,8 @@ use Rattle.mintc_timing.specs.Paths.{output_of, arc_at}
 use Rattle.mintc_lanes.specs.Lanes.{lane_at}
 use Rattle.mintc_sums.specs.declared.sums.Sums.{Sums}
 use Rattle.mintc_sums.specs.declared.sums.TheConstants.{NO_SUMS}
+use Rattle.mintc_sums.specs.Sums.{sums_at, IsBounded, IsAlike}
+use Rattle.mintc_sums.specs.Placed.{row_of}
 use Rattle.mintc_paths.specs.declared.rows.Rows.{Rows}
 use Rattle.mintc_paths.specs.declared.rows.Course.{Course}
 use Rattle.mintc_paths.specs.Among.{IsGreatestAmong, IsLeastAmong}

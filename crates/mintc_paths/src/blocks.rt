@@ -16,6 +16,7 @@ use crate::found::Found;
 use crate::long::refuse_long;
 use crate::rows::{Course, Rows};
 use crate::sums::fill;
+use mintc_sums::Held;
 use mintc_text::Stop;
 use mintc_timing::{Flat, Order};
 use std::alloc::{AllocError, Global};

@@ -10,6 +10,7 @@ use crate::awake::Awake;
 use crate::rows::{Course, Rows};
 use crate::sums::fill;
 use crate::trace::{Extreme, trace};
+use mintc_sums::Held;
 use mintc_text::{Numbers, OutOfMemory};
 use mintc_timing::{Flat, Order, System};
 use std::alloc::{AllocError, Global};
