@@ -1,2 +1,4 @@
 mod LineLaws
 mod RunLaws
+mod TableLaws
+mod PrintLaws

@@ -1,2 +1,4 @@
 pub mod Statuses
+pub mod Tables
+pub mod Puts
 pub mod Conversions

@@ -6,7 +6,8 @@ ghost use Rattle.mintc_text.specs.Refusals.{refusal_line};
 ghost use Rattle.mintc_conversion.specs.Conversions.{IsConverted, IsOfText};
 
 use crate::status::Status;
-use mintc_liberty::{read_liberty, toml_form};
+use crate::tables::toml_form;
+use mintc_liberty::read_liberty;
 use mintc_text::limits::MOST_BYTES;
 use mintc_text::{Bytes, Lines, OutOfMemory, Refusal, Stop};
 use std::alloc::Global;

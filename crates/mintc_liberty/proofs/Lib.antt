@@ -1,16 +1,5 @@
 mod LibraryLaws
-mod ValueLaws
-mod PinLaws
 mod NextLaws
 mod PlaceLaws
 mod SortLaws
-mod HeldLaws
-mod SeenLaws
-mod TextLaws
-mod BytesLaws
-mod ExpressionLaws
-mod CountLaws
-mod ParenthesesLaws
-mod GroupLaws
-mod TableLaws
-mod PrintLaws
+mod UsableLaws

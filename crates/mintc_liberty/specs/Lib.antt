@@ -1,10 +1,3 @@
 pub mod Texts
-pub mod Expressions
 pub mod Meaning
-pub mod Passing
-pub mod Parentheses
-pub mod Seen
-pub mod Held
 pub mod Places
-pub mod Tables
-pub mod Puts

@@ -9,8 +9,9 @@ use Rattle.mintc_liblex.specs.Tokens.{Token, opening, word, is_item, tokens_of}
 use Rattle.mintc_liblex.specs.Reading.{name_at}
 use Rattle.mintc_liblex.specs.Scans.{Scan}
 use Rattle.mintc_liblex.specs.Statements.{Statements, none, taken, front}
-use Rattle.mintc_liberty.specs.Meaning.{Group, groups, cells_in}
-use Rattle.mintc_liberty.specs.Passing.{body_at, group_at}
+use Rattle.mintc_libcell.specs.Meaning.{Group, groups}
+use Rattle.mintc_liberty.specs.Meaning.{cells_in}
+use Rattle.mintc_libcell.specs.Passing.{body_at, group_at}
 
 -- A cell under its name.
 abbrev pub Entry : Type 0

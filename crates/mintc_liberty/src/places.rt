@@ -6,9 +6,9 @@ ghost use Rattle.mintc_liblex.specs.Reading.{statement_rest};
 ghost use Rattle.mintc_liberty.specs.Meaning.{put_all};
 ghost use Rattle.mintc_liberty.specs.Places.{opened, IsBehind, cells_next, named_cells, entry_from, entry_at, entries_at, name_from, place_cmp, is_same, firsts, Ascends};
 
-use crate::groups::{group_at, only_name};
 use crate::texts::ROOM;
 use mintc_document::is_name;
+use mintc_libcell::{group_at, only_name};
 use mintc_liblex::statements::{call, mark, statement};
 use mintc_liblex::{Kind, Reader, Scanner};
 use mintc_sorting::bring_near;

@@ -10,11 +10,10 @@ ghost use Rattle.mintc_liberty.specs.Texts.{behind_name, behind_head, is_empty, 
 ghost use Rattle.mintc_liberty.specs.Places.{entry_at, entries_at};
 ghost use Rattle.mintc_liberty.specs.Meaning.{usable, cells_of_library, liberty_cells};
 
-use crate::cells::cell_of;
-use crate::groups::body;
 use crate::places::{is_same, name_from, sorted_places};
 use mintc_cells::{Cell, Cells};
 use mintc_document::is_name;
+use mintc_libcell::{body, cell_of};
 use mintc_liblex::{Kind, Reader, Scanner, mark, semicolon, statement, statements};
 use mintc_text::{Name, OutOfMemory, Refusal, Role, Stop};
 use std::alloc::Global;

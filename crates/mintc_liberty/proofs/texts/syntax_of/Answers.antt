@@ -5,7 +5,8 @@ use Rattle.mintc_liblex.specs.Reading.{statement_rest}
 use Rattle.mintc_scan.proofs.SharedTokenLaws.{few}
 use Rattle.mintc_liblex.specs.Tokens.{piece_of}
 use Rattle.mintc_liblex.proofs.SharedNestLaws.{step-shorter}
-use Rattle.mintc_liberty.proofs.LibraryLaws.{one-more, no-more, is-whole, is-broken, no-end, head-shorter}
+use Rattle.mintc_libcell.proofs.SharedStepLaws.{one-more, no-more}
+use Rattle.mintc_liberty.proofs.LibraryLaws.{is-whole, is-broken, no-end, head-shorter}
 use Rattle.mintc_liberty.proofs.texts.syntax_of.Goals as goal
 
 pub overflow_add-result : goal.overflow_add-result
