@@ -1,11 +1,17 @@
-//! Tests of fractions, walks, searches and corners, of what no clause says. They stand in a crate of their own, so that nothing is
-//! proved twice.
+//! Tests of fractions, walks, searches and corners, and of pairs, their number and their paths, of what no clause says. They stand in
+//! a crate of their own, so that nothing is proved twice.
 #![tactic(auto)]
 
 #[cfg(test)]
+mod cases;
+#[cfg(test)]
 mod corners;
 #[cfg(test)]
+mod count;
+#[cfg(test)]
 mod fraction;
+#[cfg(test)]
+mod paths;
 #[cfg(test)]
 mod ratio;
 #[cfg(test)]

@@ -1,4 +1,4 @@
-use Rattle.mintc_path_tests.proofs.paths.+listed.Given as goal
+use Rattle.mintc_search_tests.proofs.paths.+listed.Given as goal
 
 abbrev pub decreases-listed : goal.decreases-listed
 decreases-listed l = l.most
