@@ -1,13 +1,12 @@
 -- the early departures: the sizes of sums, and what rounds and sweeps keep
-use Rattle.std.specs.Prelude.{◌≡◌, ◌<◌, ◌≤◌, ◌^◌, ℕ, ℤ, pos, negsuc, ◌+ℤ◌, ◌*ℤ◌, ◌≤ℤ◌, if◌then◌else◌, List, length, Option, Some, None}
-use Rattle.mintc_timing.specs.declared.parts.Pair.{Pair}
+use Rattle.std.specs.Prelude.{◌≡◌, ◌<◌, ◌≤◌, ◌^◌, ℕ, ℤ, pos, negsuc, ◌+ℤ◌, ◌*ℤ◌, ◌≤ℤ◌, List, length, Option, Some, None}
 use Rattle.mintc_timing.specs.declared.clocking.Schedule.{Schedule}
-use Rattle.mintc_timing.specs.Design.{Design, Timing, element_at, element_count, phase_of}
-use Rattle.mintc_timing.specs.Clocking.{shift_of}
-use Rattle.mintc_timing.specs.Departures.{departure, early_opening, early_departure, AreExactEarly, AreAtMost}
+use Rattle.mintc_timing.specs.Design.{Design, Timing, element_at, element_count}
+use Rattle.mintc_timing.specs.Departures.{departure, early_departure, AreExactEarly, AreAtMost}
 use Rattle.mintc_places.specs.Places.{IsIn, room}
 use Rattle.mintc_departure.specs.declared.arrivals.TheConstants.{NEVER}
 use Rattle.mintc_settling.specs.Settled.{IsSum}
+use Rattle.mintc_settling.specs.Travels.{early_start_of}
 
 -- a departure with the delay of one pair added
 abbrev pub IsArrivalSum : ℤ → Type 0
