@@ -7,9 +7,10 @@ use Rattle.mintc_fraction.specs.Ratio.{Ratio}
 use Rattle.mintc_timing.specs.Design.{Timing, pair_at}
 use Rattle.mintc_constraints.specs.Ordinary.{Constraints}
 use Rattle.mintc_slack.specs.declared.finding.Entry.{Entry}
-use Rattle.mintc_slack.specs.declared.walked.Walker.{Walker}
-use Rattle.mintc_slack.specs.Gaps.{AreGaps}
-use Rattle.mintc_slack.specs.Ready.{AreEntries, HasSettled, IsReady, entry_at}
+use Rattle.mintc_walker.specs.declared.walked.Walker.{Walker}
+use Rattle.mintc_walker.specs.Gaps.{AreGaps}
+use Rattle.mintc_slack.specs.Entries.{AreEntries, HasSettled, entry_at}
+use Rattle.mintc_walker.specs.Ready.{IsReady}
 
 pub ready-kept : (t : Timing) (list : Constraints) (at : Ratio) (w v : Walker) → IsReady t list at w → v ≡ record w { distances = v.distances; ahead = v.ahead } →
     length v.distances.items ≡ length w.distances.items → IsReady t list at v

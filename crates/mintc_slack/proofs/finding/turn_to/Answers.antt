@@ -1,4 +1,4 @@
-use Rattle.mintc_slack.specs.Ready.{entry_at}
+use Rattle.mintc_slack.specs.Entries.{entry_at}
 use Rattle.mintc_slack.proofs.finding.turn_to.Goals as goal
 
 pub returns-else-is_first-clause-settled : goal.returns-else-is_first-clause-settled

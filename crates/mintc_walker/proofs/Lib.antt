@@ -1,0 +1,5 @@
+pub mod SharedSizeLaws
+mod RaisedLaws
+mod RoomLaws
+mod WalkedLaws
+mod GapLaws
