@@ -7,8 +7,9 @@ use Rattle.mintc_timing.specs.Design.{Timing, element_count, phase_count}
 use Rattle.mintc_timing.specs.Links.{links_of}
 use Rattle.mintc_timing.proofs.SharedByKind.{All-links, EachKind-from_all, stands}
 use Rattle.mintc_timing.proofs.SharedMembers.{Contains-map}
+use Rattle.mintc_lifting.specs.Lifted.{lifted_link, widest}
 use Rattle.mintc_corners.specs.CornerOptimum.{corner_of}
-use Rattle.mintc_corners.specs.Joined.{joined, joined_links, lifted_link, widest}
+use Rattle.mintc_corners.specs.Joined.{joined, joined_links}
 use Rattle.mintc_corners.specs.Joint.{AreCorners, joint_links_of, side_by_side}
 use Rattle.mintc_corners.specs.Laws.{AreBeside, AreSystems}
 use Rattle.mintc_corners.proofs.LiftLaws.{all_of_each, elements_before, one_of_all}

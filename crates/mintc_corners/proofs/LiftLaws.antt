@@ -25,8 +25,8 @@ use Rattle.mintc_timing.proofs.SharedLinkLaws.{ends_of}
 use Rattle.mintc_certificate.specs.declared.members.Member.{Member}
 use Rattle.mintc_certificate.specs.declared.members.Member.TheVariants as member
 use Rattle.mintc_certificate.specs.Valid.{IsMember, link_of, no_bound}
+use Rattle.mintc_lifting.specs.Lifted.{lifted_link, lifted_node, widest}
 use Rattle.mintc_corners.specs.CornerOptimum.{IsOfClock, corner_of}
-use Rattle.mintc_corners.specs.Joined.{lifted_link, lifted_node, widest}
 use Rattle.mintc_corners.specs.Joint.{AreCorners, beside, shifted_pair, side_by_side}
 use Rattle.mintc_corners.specs.Laws.{AreBeside, AreSystems}
 use Rattle.mintc_corners.proofs.JointLaws.{bounds-same, differ-from, phases_are}

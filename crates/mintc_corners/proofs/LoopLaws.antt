@@ -1,9 +1,7 @@
 -- The turns of the loops over corners.
-use Rattle.std.proofs.Common.{◌≡◌, ℕ, ◌<◌, ◌≤◌, ◌+◌, ◌*◌, ℤ, pos, ◌≤ℤ◌, List, [], ◌∷◌, ◌++◌, length, get_or, map, take, drop, arith, refl, ap, ◌∙◌, sym, subst, append_assoc, length-append}
+use Rattle.std.proofs.Common.{◌≡◌, ℕ, ◌<◌, ◌≤◌, ◌+◌, ◌*◌, ℤ, List, [], ◌∷◌, ◌++◌, length, get_or, map, take, drop, arith, refl, ap, ◌∙◌, sym, subst, append_assoc, length-append}
 use Rattle.std.specs.List.{All, Contains, flat_map}
-use Rattle.std.specs.Int.{int_max}
 use Rattle.std.proofs.Math.ListN.{drop_of_length-le}
-use Rattle.std.proofs.lemmas.Int.{ints, clamps}
 use Rattle.std.proofs.lemmas.List.{append-nil, at_drop_more, get_or-map, get_or_default, map-append, take_more}
 use Rattle.std.proofs.lemmas.List.Elements.{All-push}
 use Rattle.mintc_timing.specs.declared.link.Link.{Link}
@@ -21,20 +19,13 @@ use Rattle.mintc_constraints.proofs.SharedOrdinaryLaws.{each_between}
 use Rattle.mintc_timing.proofs.SharedLinkLaws.{ends_of}
 use Rattle.mintc_certificate.specs.Ranges.{IsDeparture}
 use Rattle.mintc_optimise.proofs.SharedStandingLaws.{of_kind}
+use Rattle.mintc_lifting.specs.Lifted.{HasLowKind, IsLow, lifted_link}
 use Rattle.mintc_corners.specs.CornerOptimum.{AreDeparturesInRange}
-use Rattle.mintc_corners.specs.Joined.{HasLowKind, IsLow, departures_after, joined, lifted_link, no_timing, own_list, own_values, widest, AreSayableAfter}
+use Rattle.mintc_corners.specs.Joined.{departures_after, joined, no_timing, own_list, own_values, AreSayableAfter}
 use Rattle.mintc_corners.specs.Joint.{joint_nodes}
 use Rattle.mintc_corners.specs.Laws.{AreSystems}
 use Rattle.mintc_corners.proofs.LiftLaws.{system_at}
 use Rattle.mintc_corners.proofs.ValuesLaws.{counts_are}
-
--- the greatest least width
-pub widest_low : (ts : List Timing) (p : ℕ) → pos 0 ≤ℤ widest ts p
-widest_low [] p = omega (arith, ints)
-widest_low (t ∷ ts) p = let rest = widest_low ts p in omega (arith, ints, clamps)
-
-pub widest_begun : (ts : List Timing) (p : ℕ) → int_max (pos 0) (widest ts p) ≡ widest ts p
-widest_begun ts p = let low = widest_low ts p in omega (arith, ints, clamps)
 
 -- the lists of the corners
 made_list : (list : Constraints) (t : Timing) → list.nodes ≡ node_count t.flat → list.links ≡ links_of t → list ≡ own_list t

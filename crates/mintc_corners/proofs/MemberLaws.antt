@@ -9,9 +9,10 @@ use Rattle.mintc_constraints.specs.Ordinary.{Constraints, constraints_of}
 use Rattle.mintc_certificate.specs.declared.members.Member.{Member}
 use Rattle.mintc_optimise.specs.Making.{StandsFor as StandsForOwn}
 use Rattle.mintc_optimise.proofs.SharedStandingLaws.{stand_more}
+use Rattle.mintc_lifting.specs.Lifted.{lifted_link, widest}
 use Rattle.mintc_corners.specs.declared.members.CornerMember.{CornerMember}
 use Rattle.mintc_corners.specs.CornerOptimum.{corner_of}
-use Rattle.mintc_corners.specs.Joined.{IsPlace, clock_count, joined_links, lifted_link, own_list, widest, StandForAll, StandsFor, corner_number}
+use Rattle.mintc_corners.specs.Joined.{IsPlace, clock_count, joined_links, own_list, StandForAll, StandsFor, corner_number}
 use Rattle.mintc_corners.specs.Joint.{AreCorners}
 use Rattle.mintc_corners.specs.Laws.{AreSystems}
 use Rattle.mintc_corners.proofs.LiftLaws.{elements_before}

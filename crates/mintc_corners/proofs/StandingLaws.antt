@@ -12,8 +12,9 @@ use Rattle.mintc_certificate.specs.declared.members.Member.TheVariants as member
 use Rattle.mintc_certificate.specs.Valid.{IsMember, link_of}
 use Rattle.mintc_optimise.specs.Making.{StandsFor as StandsForOwn}
 use Rattle.mintc_optimise.proofs.SharedStandingLaws.{slowest}
+use Rattle.mintc_lifting.specs.Lifted.{lifted_link, widest}
 use Rattle.mintc_corners.specs.CornerOptimum.{IsOfCorner, corner_of, link_of_corner}
-use Rattle.mintc_corners.specs.Joined.{StandsFor, corner_number, lifted_link, widest}
+use Rattle.mintc_corners.specs.Joined.{StandsFor, corner_number}
 use Rattle.mintc_corners.specs.Joint.{AreCorners, side_by_side}
 use Rattle.mintc_corners.specs.Laws.{AreBeside, AreSystems}
 use Rattle.mintc_corners.proofs.LiftLaws.{clock_is, elements_before, fed_in_all, in_all, opening_is, opened_is, own_design, own_kept, reach_is, same_bounds, same_phases, setup_is}

@@ -1,50 +1,22 @@
 -- The joint links as they are made, those of each corner in turn over one clock, and what the parts of a certificate are made of.
-use Rattle.std.specs.Prelude.{◌≡◌, ◌<◌, ◌≤◌, ◌+◌, ◌*◌, ℕ, suc, ℤ, pos, nat_lt, if◌then◌else◌, List, [], ◌∷◌, ◌++◌, length, slice_index_or, map, flat_map, take, drop}
-use Rattle.std.specs.Int.{int_max}
+use Rattle.std.specs.Prelude.{◌≡◌, ◌<◌, ◌≤◌, ◌+◌, ◌*◌, ℕ, suc, ℤ, List, [], ◌∷◌, ◌++◌, length, slice_index_or, map, flat_map, take, drop}
 use Rattle.mintc_text.specs.declared.limits.TheConstants.{MOST_ELEMENTS}
 use Rattle.mintc_timing.specs.declared.link.Link.{Link}
-use Rattle.mintc_timing.specs.declared.link.LinkKind.{LinkKind}
-use Rattle.mintc_timing.specs.declared.link.LinkKind.TheVariants as kind
-use Rattle.mintc_timing.specs.Clocking.{least_width}
 use Rattle.mintc_timing.specs.Design.{Design, Timing, element_count, phase_count}
-use Rattle.mintc_timing.specs.Links.{link, link_at, links_of}
+use Rattle.mintc_timing.specs.Links.{link_at, links_of}
 use Rattle.mintc_constraints.specs.Duality.{departures_of}
 use Rattle.mintc_constraints.specs.Laws.{node_count}
 use Rattle.mintc_constraints.specs.Ordinary.{Constraints, constraints_of}
 use Rattle.mintc_certificate.specs.declared.members.Member.{Member}
 use Rattle.mintc_certificate.specs.declared.members.Member.TheVariants as member
 use Rattle.mintc_optimise.specs.Making.{AreSayable, Stands, StandInOrder}
+use Rattle.mintc_lifting.specs.Lifted.{lifted_link, widest}
 use Rattle.mintc_corners.specs.declared.members.CornerMember.{CornerMember}
 use Rattle.mintc_corners.specs.CornerOptimum.{IsCornerCounted, IsOfCorner, link_of_corner}
 
 -- a timing of nothing, which stands for those past the end of a list
 abbrev pub no_timing : Timing
 no_timing = record { flat = record { phases = []; elements = []; inner = []; arcs = []; bounds = [] }; order = []; pairs = [] }
-
--- Node 0 and those of the clock are all corners'; a corner's elements are numbered after those of the corners before.
-abbrev pub lifted_node : ℕ → ℕ → ℕ → ℕ
-lifted_node clock before x = if nat_lt clock x then before + x else x
-
-abbrev pub lifted_kind : ℕ → LinkKind → LinkKind
-lifted_kind before (kind.Opening l) = kind.Opening (before + l)
-lifted_kind before (kind.Opened l) = kind.Opened (before + l)
-lifted_kind before (kind.Reach j l) = kind.Reach (before + j) (before + l)
-lifted_kind before (kind.Setup l) = kind.Setup (before + l)
-lifted_kind before which = which
-
--- Widths are raised to those that all corners ask for.
-abbrev pub lifted_delay : (ℕ → ℤ) → LinkKind → ℤ → ℤ
-lifted_delay wide (kind.Width p) gap = wide p
-lifted_delay wide which gap = gap
-
--- a corner's link among those of all
-abbrev pub lifted_link : (ℕ → ℤ) → ℕ → ℕ → Link → Link
-lifted_link wide clock before k = link (lifted_kind before k.kind) (lifted_node clock before k.from) (lifted_node clock before k.to) (lifted_delay wide k.kind k.delay) k.cycles
-
--- the greatest least width of a phase
-abbrev pub widest : List Timing → ℕ → ℤ
-widest [] p = pos 0
-widest (t ∷ ts) p = int_max (least_width t.flat p) (widest ts p)
 
 -- the links of corners that come after so many elements
 abbrev pub joined : (ℕ → ℤ) → ℕ → ℕ → List Timing → List Link
@@ -61,19 +33,6 @@ joined_links ts = joined (widest ts) (clock_count ts) 0 ts
 -- the links of one corner alone
 abbrev pub own_list : Timing → Constraints
 own_list t = constraints_of (node_count t.flat) (links_of t)
-
--- The link's nodes and elements are few, so that those of all corners are.
-abbrev pub HasLowKind : LinkKind → Type 0
-HasLowKind (kind.Opening l) = l < MOST_ELEMENTS
-HasLowKind (kind.Opened l) = l < MOST_ELEMENTS
-HasLowKind (kind.Reach j l) = (j < MOST_ELEMENTS) × (l < MOST_ELEMENTS)
-HasLowKind (kind.Setup l) = l < MOST_ELEMENTS
-HasLowKind which = Unit {0}
-
-pub record IsLow (k : Link) : Type 0 where
-  pub from : k.from ≤ 2016
-  pub to : k.to ≤ 2016
-  pub kind : HasLowKind k.kind
 
 -- Link i of list c, both counted from 0, is that of the number among the links of all lists.
 pub record IsPlace (lists : List Constraints) (number c i : ℕ) : Type 0 where

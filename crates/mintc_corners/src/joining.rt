@@ -2,12 +2,13 @@
 ghost use Rattle.std.specs.Prelude.{◌≡◌, ◌≤◌, ◌++◌, ◌*◌, IfOk, OnOk, All, length, map, flat_map};
 ghost use Rattle.mintc_text.specs.declared.limits.TheConstants.{MOST_ELEMENTS};
 ghost use Rattle.mintc_constraints.specs.Ordinary.{constraints_of};
+ghost use Rattle.mintc_lifting.specs.Lifted.{IsLow, lifted_link, widest};
 ghost use Rattle.mintc_corners.specs.Joint.{joint_nodes, AreCorners};
-ghost use Rattle.mintc_corners.specs.Joined.{IsLow, joined_links, lifted_link, own_list, widest};
+ghost use Rattle.mintc_corners.specs.Joined.{joined_links, own_list};
 ghost use Rattle.mintc_corners.specs.Laws.{AreSystems};
 
-use crate::lifting::lifted;
 use mintc_constraints::{Link, LinkList, links};
+use mintc_lifting::lifted;
 use mintc_text::OutOfMemory;
 use mintc_timing::System;
 use std::alloc::Global;

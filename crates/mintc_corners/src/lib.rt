@@ -15,7 +15,6 @@ mod chain;
 mod departing;
 mod joining;
 mod laws;
-mod lifting;
 mod members;
 mod searching;
 mod writing;

@@ -1,11 +1,10 @@
 //! The links of a corner among those of all corners.
 ghost use Rattle.std.specs.Prelude.{◌≡◌, ◌≤◌};
 ghost use Rattle.mintc_text.specs.declared.limits.TheConstants.{MOST_ELEMENTS};
-ghost use Rattle.mintc_corners.specs.Joined.{HasLowKind, IsLow, lifted_delay as lifted_delay_of, lifted_kind as lifted_kind_of, lifted_link, lifted_node as lifted_node_of, widest};
+ghost use Rattle.mintc_lifting.specs.Lifted.{HasLowKind, IsLow, lifted_delay as lifted_delay_of, lifted_kind as lifted_kind_of, lifted_link, lifted_node as lifted_node_of, widest};
 
-use mintc_constraints::{Link, LinkKind};
 use mintc_links::width_needed;
-use mintc_timing::System;
+use mintc_timing::{Link, LinkKind, System};
 
 /// The number of a corner's node among those of all: time 0 and the nodes of the clock keep theirs, and the elements come
 /// after those of the corners before.
@@ -42,7 +41,7 @@ fn lifted_kind(before: u32, kind: LinkKind) -> LinkKind
 }
 
 /// The greatest least width of a phase over all corners, in femtoseconds.
-#[tactic(auto, using(crate::proofs::LoopLaws::widest_begun))]
+#[tactic(auto, using(crate::proofs::WidestLaws::widest_begun))]
 fn width_of_all(systems: &[System], phase: u32) -> i64
     ensures { result ≡ widest systems.now phase }
 {
@@ -64,7 +63,7 @@ fn lifted_delay(systems: &[System], link: &Link) -> i64
 }
 
 /// A corner's link among those of all.
-pub(crate) fn lifted(systems: &[System], clock: u32, before: u32, link: &Link) -> Link
+pub fn lifted(systems: &[System], clock: u32, before: u32, link: &Link) -> Link
     requires link { IsLow link.now }
     requires before { before ≤ MOST_ELEMENTS }
     ensures { result ≡ lifted_link (widest systems.now) clock before link.now }

@@ -1,7 +1,7 @@
 use Rattle.std.proofs.Common.{◌≡◌, pos, ◌≤ℤ◌, drop}
 use Rattle.std.specs.Int.{int_max}
-use Rattle.mintc_corners.specs.Joined.{widest}
-use Rattle.mintc_corners.proofs.lifting.width_of_all.Given as goal
+use Rattle.mintc_lifting.specs.Lifted.{widest}
+use Rattle.mintc_lifting.proofs.lifting.width_of_all.Given as goal
 
 -- the greatest so far and of what is left is that of all
 abbrev pub invariant-loop-system : goal.invariant-loop-system
