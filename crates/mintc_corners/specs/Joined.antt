@@ -9,8 +9,8 @@ use Rattle.mintc_timing.specs.Clocking.{least_width}
 use Rattle.mintc_timing.specs.Design.{Design, Timing, element_count, phase_count}
 use Rattle.mintc_timing.specs.Links.{link, link_at, links_of}
 use Rattle.mintc_constraints.specs.Duality.{departures_of}
-use Rattle.mintc_constraints.specs.Laws.{node_count}
-use Rattle.mintc_constraints.specs.Ordinary.{Constraints, constraints_of}
+use Rattle.mintc_listing.specs.Laws.{node_count}
+use Rattle.mintc_listing.specs.Ordinary.{Constraints, constraints_of}
 use Rattle.mintc_certificate.specs.declared.members.Member.{Member}
 use Rattle.mintc_certificate.specs.declared.members.Member.TheVariants as member
 use Rattle.mintc_optimise.specs.Making.{AreSayable, Stands, StandInOrder}

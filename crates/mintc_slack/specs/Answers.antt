@@ -5,7 +5,7 @@ use Rattle.mintc_walks.specs.Bounds.{IsWithin}
 use Rattle.mintc_walks.specs.Walks.{value_at}
 use Rattle.mintc_timing.specs.Design.{Design, Timing}
 use Rattle.mintc_timing.specs.Right.{IsHopeless, IsLeastCycle}
-use Rattle.mintc_constraints.specs.Laws.{node_count}
+use Rattle.mintc_listing.specs.Laws.{node_count}
 use Rattle.mintc_slack.specs.declared.finding.Slacks.{Slacks}
 use Rattle.mintc_slack.specs.declared.finding.Slacks.TheVariants.{Least, Never}
 use Rattle.mintc_slack.specs.Room.{AreFrom}

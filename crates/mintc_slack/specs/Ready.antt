@@ -4,8 +4,8 @@ use Rattle.std.specs.List.{All, Contains}
 use Rattle.mintc_fraction.specs.Ratio.{Ratio}
 use Rattle.mintc_timing.specs.Design.{Timing, pair_at}
 use Rattle.mintc_timing.specs.Links.{links_of}
-use Rattle.mintc_constraints.specs.Laws.{node_count}
-use Rattle.mintc_constraints.specs.Ordinary.{Constraints, constraints_of}
+use Rattle.mintc_listing.specs.Laws.{node_count}
+use Rattle.mintc_listing.specs.Ordinary.{Constraints, constraints_of}
 use Rattle.mintc_ratio.specs.Searched.{IsCycle}
 use Rattle.mintc_slack.specs.declared.finding.Entry.{Entry}
 use Rattle.mintc_slack.specs.declared.walked.Walker.{Walker}
