@@ -12,10 +12,10 @@ use Rattle.mintc_timing.specs.Limits.{IsDesign}
 use Rattle.mintc_timing.specs.Links.{links_of}
 use Rattle.mintc_timing.specs.Order.{IsTiming}
 use Rattle.mintc_constraints.specs.Duality.{departures_of}
-use Rattle.mintc_constraints.specs.Laws.{node_count}
-use Rattle.mintc_constraints.specs.Ordinary.{Constraints, constraints_of}
+use Rattle.mintc_listing.specs.Laws.{node_count}
+use Rattle.mintc_listing.specs.Ordinary.{Constraints, constraints_of}
 use Rattle.mintc_timing.proofs.SharedByKind.{All-links}
-use Rattle.mintc_constraints.proofs.SharedOrdinaryLaws.{each_between}
+use Rattle.mintc_listing.proofs.SharedOrdinaryLaws.{each_between}
 use Rattle.mintc_timing.proofs.SharedLinkLaws.{ends_of}
 use Rattle.mintc_certificate.specs.Ranges.{IsDeparture}
 use Rattle.mintc_optimise.proofs.SharedStandingLaws.{of_kind}

@@ -5,7 +5,7 @@ use Rattle.std.proofs.lemmas.List.{get_or_default, length-map}
 use Rattle.mintc_timing.specs.declared.link.Link.{Link}
 use Rattle.mintc_timing.specs.Design.{Timing}
 use Rattle.mintc_timing.specs.Links.{links_of, no_link, link_at}
-use Rattle.mintc_constraints.specs.Ordinary.{Constraints, constraints_of}
+use Rattle.mintc_listing.specs.Ordinary.{Constraints, constraints_of}
 use Rattle.mintc_certificate.specs.declared.members.Member.{Member}
 use Rattle.mintc_optimise.specs.Making.{StandsFor as StandsForOwn}
 use Rattle.mintc_optimise.proofs.SharedStandingLaws.{stand_more}

@@ -1,7 +1,7 @@
 //! The links of all corners over one clock.
 ghost use Rattle.std.specs.Prelude.{◌≡◌, ◌≤◌, ◌++◌, ◌*◌, IfOk, OnOk, All, length, map, flat_map};
 ghost use Rattle.mintc_text.specs.declared.limits.TheConstants.{MOST_ELEMENTS};
-ghost use Rattle.mintc_constraints.specs.Ordinary.{constraints_of};
+ghost use Rattle.mintc_listing.specs.Ordinary.{constraints_of};
 ghost use Rattle.mintc_lifting.specs.Lifted.{IsLow, lifted_link, widest};
 ghost use Rattle.mintc_corners.specs.Joint.{joint_nodes, AreCorners};
 ghost use Rattle.mintc_corners.specs.Joined.{joined_links, own_list};

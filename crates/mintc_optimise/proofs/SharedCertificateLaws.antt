@@ -13,10 +13,10 @@ use Rattle.mintc_timing.specs.Links.{links_of, link_at}
 use Rattle.mintc_timing.specs.Order.{IsTiming}
 use Rattle.mintc_timing.specs.Right.{IsRight}
 use Rattle.mintc_constraints.specs.Duality.{departure_of, departures_of, schedule_of}
-use Rattle.mintc_constraints.specs.Laws.{node_count}
-use Rattle.mintc_constraints.specs.Ordinary.{Constraints, IsOrdinary, constraints_of}
+use Rattle.mintc_listing.specs.Laws.{node_count}
+use Rattle.mintc_listing.specs.Ordinary.{Constraints, IsOrdinary, constraints_of}
 use Rattle.mintc_constraints.specs.Rooms.{Space}
-use Rattle.mintc_constraints.proofs.SharedOrdinaryLaws.{ordinary}
+use Rattle.mintc_listing.proofs.SharedOrdinaryLaws.{ordinary}
 use Rattle.mintc_timing.proofs.SharedLinkLaws.{ends_of}
 use Rattle.mintc_ratio.specs.declared.searching.Outcome.TheVariants as outcome
 use Rattle.mintc_ratio.specs.Chains.{NamesChain, links_at}

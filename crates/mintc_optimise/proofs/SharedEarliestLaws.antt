@@ -12,8 +12,8 @@ use Rattle.mintc_timing.specs.Design.{Timing, element_at, element_count, phase_c
 use Rattle.mintc_timing.specs.Limits.{IsDesign, IsPhase}
 use Rattle.mintc_timing.specs.Links.{element_node, end_node, start_node}
 use Rattle.mintc_constraints.specs.Duality.{departure_of, departures_of, schedule_of}
-use Rattle.mintc_constraints.specs.Laws.{node_count}
-use Rattle.mintc_constraints.specs.Ordinary.{constraints_of}
+use Rattle.mintc_listing.specs.Laws.{node_count}
+use Rattle.mintc_listing.specs.Ordinary.{constraints_of}
 use Rattle.mintc_ratio.specs.Greatest.{AreGreatest}
 use Rattle.mintc_ratio.proofs.SharedFinerLaws.{finer_lem}
 use Rattle.mintc_optimise.specs.Optimum.{IsEarliest, IsSolution}

@@ -9,7 +9,7 @@ use Rattle.mintc_timing.specs.Links.{element_node, end_node, start_node, IsMet}
 use Rattle.mintc_timing.proofs.SharedProducts.{times-mono_positive}
 use Rattle.mintc_constraints.specs.Duality.{AreExactMoments}
 use Rattle.mintc_timing.proofs.SharedByKind.{EachKind, EachKind-from_all}
-use Rattle.mintc_constraints.proofs.SharedOrdinaryLaws.{least_width-range}
+use Rattle.mintc_listing.proofs.SharedOrdinaryLaws.{least_width-range}
 use Rattle.mintc_certificate.specs.Ranges.{IsDeparture}
 use Rattle.mintc_ratio.specs.Searched.{IsCycle}
 use Rattle.mintc_optimise.specs.Making.{AreSayable}

@@ -29,8 +29,8 @@ impl Model for Bench {
 
 impl Bench {
     ghost use Rattle.mintc_timing.specs.Paths.{HasEnds};
-    ghost use Rattle.mintc_constraints.specs.Laws.{node_count};
-    ghost use Rattle.mintc_constraints.specs.Ordinary.{constraints_of};
+    ghost use Rattle.mintc_listing.specs.Laws.{node_count};
+    ghost use Rattle.mintc_listing.specs.Ordinary.{constraints_of};
     ghost use Rattle.mintc_ratio.specs.Searched.{HasSearched};
     ghost use Rattle.mintc_timing.specs.Design.{Timing};
     ghost use Rattle.mintc_timing.specs.Limits.{IsDesign};

@@ -1,7 +1,7 @@
 //! The least cycle time with its certificate.
 ghost use Rattle.std.specs.Prelude.{◌≡◌, ◌≤◌, ◌+◌, ◌*◌, IfOk};
-ghost use Rattle.mintc_constraints.specs.Laws.{node_count};
-ghost use Rattle.mintc_constraints.specs.Ordinary.{constraints_of};
+ghost use Rattle.mintc_listing.specs.Laws.{node_count};
+ghost use Rattle.mintc_listing.specs.Ordinary.{constraints_of};
 ghost use Rattle.mintc_timing.specs.Links.{links_of};
 ghost use Rattle.mintc_certificate.specs.Optimal.{IsOptimal};
 ghost use Rattle.mintc_certificate.specs.Ranges.{IsCertificateInRange};

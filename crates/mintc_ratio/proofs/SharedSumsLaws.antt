@@ -12,7 +12,7 @@ use Rattle.mintc_timing.specs.declared.link.Link.{Link}
 use Rattle.mintc_rings.specs.Rings.{total}
 use Rattle.mintc_timing.specs.Links.{no_link, delay_of, cycles_of, link_at}
 use Rattle.mintc_rings.proofs.SharedRingLaws.{total-append}
-use Rattle.mintc_constraints.specs.Ordinary.{IsOrdinary, IsOrdinaryLink, constraints_of}
+use Rattle.mintc_listing.specs.Ordinary.{IsOrdinary, IsOrdinaryLink, constraints_of}
 use Rattle.mintc_ratio.specs.Chains.{NamesChain, links_at}
 use Rattle.mintc_ratio.specs.Sums.{IsSmall}
 

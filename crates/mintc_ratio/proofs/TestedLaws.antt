@@ -10,7 +10,7 @@ use Rattle.mintc_timing.specs.declared.link.Link.{Link}
 use Rattle.mintc_rings.specs.Rings.{IsClosed}
 use Rattle.mintc_timing.specs.Links.{Forbids, IsMet, no_link, link_at}
 use Rattle.mintc_rings.proofs.SharedRingLaws.{listed, numbers_of, exist-leads, closed-leads, leads-closed}
-use Rattle.mintc_constraints.specs.Ordinary.{Leads, IsOrdinaryLink}
+use Rattle.mintc_listing.specs.Ordinary.{Leads, IsOrdinaryLink}
 use Rattle.mintc_walks.specs.declared.network.TheConstants.{UNREACHED}
 use Rattle.mintc_walks.specs.Bounds.{IsWithin}
 use Rattle.mintc_walks.specs.Walks.{value_at, IsStart, IsReached}

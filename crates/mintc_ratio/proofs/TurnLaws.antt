@@ -8,7 +8,7 @@ use Rattle.mintc_fraction.specs.Ratio.{Ratio}
 use Rattle.mintc_timing.specs.declared.link.Link.{Link}
 use Rattle.mintc_timing.specs.Links.{delay_of, cycles_of, Forbids}
 use Rattle.mintc_timing.proofs.SharedProducts.{times-mono_positive, swap-times, add-times}
-use Rattle.mintc_constraints.specs.Ordinary.{Constraints, IsOrdinary}
+use Rattle.mintc_listing.specs.Ordinary.{Constraints, IsOrdinary}
 use Rattle.mintc_constraints.specs.Rooms.{Space}
 use Rattle.mintc_ratio.specs.declared.sums.Sums.{Sums}
 use Rattle.mintc_ratio.specs.declared.turns.Turn.{Turn}

@@ -3,7 +3,7 @@ use Rattle.std.specs.Prelude.{◌≡◌, ◌<◌, ◌≤◌, ◌*◌, ◌+◌, �
 use Rattle.mintc_fraction.specs.Ratio.{over, IsFloor}
 use Rattle.mintc_timing.specs.declared.link.Link.{Link}
 use Rattle.mintc_timing.specs.Links.{delay_of, cycles_of, link_at}
-use Rattle.mintc_constraints.specs.Ordinary.{Constraints}
+use Rattle.mintc_listing.specs.Ordinary.{Constraints}
 use Rattle.mintc_constraints.specs.Rooms.{Space}
 use Rattle.mintc_ratio.specs.declared.sums.Sums.{Sums}
 use Rattle.mintc_ratio.specs.declared.turns.Turn.{Turn}

@@ -1,7 +1,7 @@
 //! The least cycle time that keeps hold, with its certificate.
 ghost use Rattle.std.specs.Prelude.{◌≡◌, ◌≤◌, ◌+◌, ◌*◌, IfOk};
-ghost use Rattle.mintc_constraints.specs.Laws.{node_count};
-ghost use Rattle.mintc_constraints.specs.Ordinary.{constraints_of};
+ghost use Rattle.mintc_listing.specs.Laws.{node_count};
+ghost use Rattle.mintc_listing.specs.Ordinary.{constraints_of};
 ghost use Rattle.mintc_ratio.specs.Searched.{HasSearched};
 ghost use Rattle.mintc_safe.specs.Hold.{safe_links_of};
 ghost use Rattle.mintc_safe.specs.SafeOptimum.{IsSafeOptimum};

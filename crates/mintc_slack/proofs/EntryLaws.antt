@@ -5,7 +5,7 @@ use Rattle.std.proofs.lemmas.List.{get_or_default}
 use Rattle.std.specs.Prelude.{slice_set}
 use Rattle.mintc_fraction.specs.Ratio.{Ratio}
 use Rattle.mintc_timing.specs.Design.{Timing, pair_at}
-use Rattle.mintc_constraints.specs.Ordinary.{Constraints}
+use Rattle.mintc_listing.specs.Ordinary.{Constraints}
 use Rattle.mintc_slack.specs.declared.finding.Entry.{Entry}
 use Rattle.mintc_walker.specs.declared.walked.Walker.{Walker}
 use Rattle.mintc_walker.specs.Gaps.{AreGaps}

@@ -10,7 +10,7 @@ use Rattle.mintc_timing.specs.Limits.{IsDesign}
 use Rattle.mintc_timing.specs.Links.{IsChain, links_of, IsMet, IsStuck}
 use Rattle.mintc_timing.specs.Right.{IsHopeless, IsLeastCycle}
 use Rattle.mintc_timing.specs.Paths.{HasEnds}
-use Rattle.mintc_constraints.specs.Ordinary.{Constraints, IsOrdinary}
+use Rattle.mintc_listing.specs.Ordinary.{Constraints, IsOrdinary}
 use Rattle.mintc_constraints.specs.Rooms.{Space}
 use Rattle.mintc_timing.specs.Times.{node_time}
 use Rattle.mintc_timing.proofs.SharedMeetingLaws.{right_meets_links_lem}

@@ -8,10 +8,10 @@ use Rattle.mintc_timing.specs.declared.link.Link.{Link}
 use Rattle.mintc_timing.specs.Design.{Timing, element_at, element_count, phase_count, phase_of, no_element}
 use Rattle.mintc_timing.specs.Limits.{IsDesign, IsPhase}
 use Rattle.mintc_timing.specs.Links.{links_of, element_node, start_node, end_node, cycle_link, setup_link, span_link, link_at}
-use Rattle.mintc_constraints.specs.Laws.{node_count}
-use Rattle.mintc_constraints.specs.Ordinary.{Constraints, IsOrdinary, Leads, constraints_of}
+use Rattle.mintc_listing.specs.Laws.{node_count}
+use Rattle.mintc_listing.specs.Ordinary.{Constraints, IsOrdinary, Leads, constraints_of}
 use Rattle.mintc_timing.proofs.SharedByKind.{stands}
-use Rattle.mintc_constraints.proofs.SharedOrdinaryLaws.{number_of}
+use Rattle.mintc_listing.proofs.SharedOrdinaryLaws.{number_of}
 use Rattle.mintc_walks.specs.declared.network.TheConstants.{UNREACHED}
 use Rattle.mintc_walks.specs.Bounds.{AreBounded, IsWithin}
 use Rattle.mintc_walks.specs.Walks.{value_at}

@@ -3,7 +3,7 @@ use Rattle.std.specs.Prelude.{◌≡◌, ◌<◌, ℕ, ℤ, pos, ◌-ℤ◌, ◌
 use Rattle.std.specs.List.Sorted.{IsPermutation}
 use Rattle.mintc_fraction.specs.Ratio.{Ratio}
 use Rattle.mintc_timing.specs.declared.link.Link.{Link}
-use Rattle.mintc_constraints.specs.Ordinary.{Constraints, IsOrdinary}
+use Rattle.mintc_listing.specs.Ordinary.{Constraints, IsOrdinary}
 use Rattle.mintc_ratio.specs.From.{AreGreatestFrom, IsAsked}
 use Rattle.mintc_ratio.specs.Greatest.{asked_by_link}
 use Rattle.mintc_ratio.specs.Searched.{IsCycle}

@@ -4,7 +4,7 @@ use Rattle.mintc_fraction.specs.Ratio.{Ratio}
 use Rattle.mintc_walks.specs.Bounds.{IsWithin}
 use Rattle.mintc_walks.specs.Walks.{value_at}
 use Rattle.mintc_timing.specs.Design.{Design, Timing}
-use Rattle.mintc_constraints.specs.Laws.{node_count}
+use Rattle.mintc_listing.specs.Laws.{node_count}
 use Rattle.mintc_walker.specs.Room.{AreFrom}
 
 -- Numerators that are small enough to be reckoned with.

@@ -1,7 +1,7 @@
 //! Lists of links that a test writes.
 ghost use Rattle.std.specs.Prelude.{◌≡◌, ◌<◌, ℕ, List, length, All};
 ghost use Rattle.std.specs.Bool.{OnTrue};
-ghost use Rattle.mintc_constraints.specs.Ordinary.{HasPlainLink, IsOrdinary, IsOrdinaryLink, Leads, constraints_of};
+ghost use Rattle.mintc_listing.specs.Ordinary.{HasPlainLink, IsOrdinary, IsOrdinaryLink, Leads, constraints_of};
 ghost use Rattle.mintc_timing.specs.Links.{link_at};
 ghost use Rattle.mintc_ratio.specs.Climbing.{IsPlainAt};
 

@@ -1,7 +1,7 @@
 use Rattle.std.proofs.Common.{◌++◌, List, map, sym, ap, ◌∙◌}
 use Rattle.mintc_timing.specs.declared.link.Link.{Link}
 use Rattle.mintc_timing.specs.Links.{links_of}
-use Rattle.mintc_constraints.specs.Ordinary.{Constraints, IsOrdinary, constraints_of}
+use Rattle.mintc_listing.specs.Ordinary.{Constraints, IsOrdinary, constraints_of}
 use Rattle.mintc_lifting.specs.Lifted.{lifted_link, widest}
 use Rattle.mintc_corners.specs.Joined.{joined_links}
 use Rattle.mintc_corners.specs.Joint.{joint_nodes}

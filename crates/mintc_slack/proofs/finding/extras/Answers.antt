@@ -1,7 +1,7 @@
 use Rattle.std.proofs.Common.{◌≡◌, ◌<◌, ◌≤◌, ℕ, ℤ, pos, length, get_or, arith, ◌∙◌, sym, subst}
 use Rattle.std.proofs.lemmas.List.{get_or_default}
 use Rattle.std.proofs.Math.ListN.{length-set}
-use Rattle.mintc_constraints.specs.Ordinary.{Constraints}
+use Rattle.mintc_listing.specs.Ordinary.{Constraints}
 use Rattle.mintc_timing.specs.Design.{pair_at}
 use Rattle.mintc_slack.specs.declared.finding.Entry.{Entry}
 use Rattle.mintc_walker.specs.Settled.{AreSettled}

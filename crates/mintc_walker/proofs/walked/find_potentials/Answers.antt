@@ -1,5 +1,5 @@
 use Rattle.std.proofs.Common.{ap, ◌∙◌, arith}
-use Rattle.mintc_constraints.specs.Ordinary.{Constraints}
+use Rattle.mintc_listing.specs.Ordinary.{Constraints}
 use Rattle.mintc_walker.proofs.WalkedLaws.{are_within, bounded}
 use Rattle.mintc_walker.proofs.walked.find_potentials.Goals as goal
 

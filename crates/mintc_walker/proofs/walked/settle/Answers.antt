@@ -1,7 +1,7 @@
 use Rattle.std.proofs.Common.{ap, ◌∙◌, sym, subst, arith}
 use Rattle.std.proofs.lemmas.Bool.{OnTrue_at}
 use Rattle.std.specs.List.{All}
-use Rattle.mintc_constraints.specs.Ordinary.{Constraints}
+use Rattle.mintc_listing.specs.Ordinary.{Constraints}
 use Rattle.mintc_walker.specs.declared.walked.Walker.{Walker}
 use Rattle.mintc_walker.specs.Gaps.{AreShortest, IsInside}
 use Rattle.mintc_walker.proofs.GapLaws.{inside-all, settled-by}

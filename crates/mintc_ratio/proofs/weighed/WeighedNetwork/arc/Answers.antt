@@ -5,7 +5,7 @@ use Rattle.std.proofs.lemmas.List.{length-map}
 use Rattle.mintc_fraction.specs.Ratio.{over}
 use Rattle.mintc_timing.specs.declared.link.LinkKind.TheVariants as kind
 use Rattle.mintc_timing.specs.Links.{link, link_at}
-use Rattle.mintc_constraints.specs.Ordinary.{IsOrdinaryLink}
+use Rattle.mintc_listing.specs.Ordinary.{IsOrdinaryLink}
 use Rattle.mintc_walks.specs.Bounds.{IsWithin}
 use Rattle.mintc_ratio.proofs.Weights.{fits_64, fits_128, num_within, den_within}
 use Rattle.mintc_ratio.proofs.Weighing.{arc_is, delay-within}

@@ -1,6 +1,6 @@
 use Rattle.std.proofs.Common.{◌≡◌, ◌<◌, ℕ, List, [], ◌∷◌, ◌++◌, length, refl, sym, ◌∙◌, below_more}
 use Rattle.mintc_timing.specs.declared.link.Link.{Link}
-use Rattle.mintc_constraints.specs.Ordinary.{Leads}
+use Rattle.mintc_listing.specs.Ordinary.{Leads}
 use Rattle.mintc_timing.specs.Links.{link_at}
 use Rattle.mintc_search_tests.proofs.ratio.written.are_entered.Goals as goal
 

@@ -1,5 +1,5 @@
 use Rattle.std.proofs.Common.{ℕ, ◌<◌, List}
-use Rattle.mintc_constraints.specs.Ordinary.{Leads}
+use Rattle.mintc_listing.specs.Ordinary.{Leads}
 use Rattle.mintc_search_tests.proofs.ratio.written.are_entered.Given as goal
 
 abbrev pub invariant-loop-node : goal.invariant-loop-node
