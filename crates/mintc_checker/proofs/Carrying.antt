@@ -12,7 +12,8 @@ use Rattle.mintc_timing.proofs.SharedOrdered.{Leads-push, AreAmong-push, AreAmon
 use Rattle.mintc_rings.proofs.SharedRingLaws.{total-push}
 use Rattle.mintc_lanes.specs.Lanes.{joined, AreJoined}
 use Rattle.mintc_checker.specs.declared.labels.Labels.{Labels}
-use Rattle.mintc_checker.specs.Trails.{IsGreatestTime, LeadsFrom, element_of, time_along}
+use Rattle.mintc_chain_test.specs.Elements.{element_of}
+use Rattle.mintc_checker.specs.Trails.{IsGreatestTime, LeadsFrom, time_along}
 use Rattle.mintc_checker.specs.Labels.{labels_at, label_at, AreLabels, AreLabelsOf, IsStart, IsAlong}
 use Rattle.mintc_checker.proofs.Greatest.{greatest_same, greatest_joined}
 

@@ -5,7 +5,5 @@ mod Beginning
 mod Sizes
 mod Arriving
 mod Pairing
-mod Deciding
-mod Scaled
 mod Fed
 mod Exact

@@ -1,29 +1,14 @@
--- What the tests speak of: the design with all its pairs.
-use Rattle.std.specs.Prelude.{◌≡◌, ◌+◌, ◌-◌, ◌*◌, ◌<◌, ℕ, ℤ, pos, negsuc, neg_ℤ, ◌≤ℤ◌, IfSome, Bool, false, List, length, slice_index_or, IsTrue, IsFalse, IsSome, All, ◌↔◌, ◌*ℤ◌}
-use Rattle.mintc_text.specs.declared.limits.TheConstants.{MOST_PHASES, MOST_NUMERATOR}
-use Rattle.mintc_timing.specs.Clocking.{feeds_of, least_width, start_of, width_of}
-use Rattle.mintc_timing.specs.Design.{Design, Timing, phase_count}
-use Rattle.mintc_timing.specs.Limits.{IsPhase}
-use Rattle.mintc_timing.specs.Paths.{ArePairs, input_of}
+-- How large the labels and arrivals are, and what a phase and its elements ask.
+use Rattle.std.specs.Prelude.{◌≡◌, ◌+◌, ◌-◌, ◌<◌, ℕ, ℤ, pos, negsuc, neg_ℤ, ◌≤ℤ◌, IfSome, List, length, IsFalse, IsSome, All, ◌*ℤ◌}
+use Rattle.mintc_text.specs.declared.limits.TheConstants.{MOST_NUMERATOR}
+use Rattle.mintc_timing.specs.Clocking.{least_width, start_of, width_of}
+use Rattle.mintc_timing.specs.Design.{Design, phase_count}
+use Rattle.mintc_timing.specs.Paths.{input_of}
 use Rattle.mintc_timing.specs.declared.clocking.Schedule.{Schedule}
 use Rattle.mintc_certificate.specs.Ranges.{IsDeparture}
+use Rattle.mintc_chain_test.specs.Elements.{element_of}
 use Rattle.mintc_checker.specs.declared.labels.Labels.{Labels}
 use Rattle.mintc_checker.specs.Labels.{AreLabels, label_at}
-use Rattle.mintc_checker.specs.Trails.{element_of}
-
--- The claim holds of the design with all its pairs, whatever order of its arcs is given.
-abbrev pub OfTiming : Design → (Timing → Type 0) → Type 0
-OfTiming design P = (t : Timing) → t.flat ≡ design → ArePairs t.flat t.pairs → P t
-
--- The answer to a test is true exactly where the claim holds.
-abbrev pub Decides : Design → Bool → (Timing → Type 0) → Type 0
-Decides design answer P = OfTiming design (λ t. IsTrue answer ↔ P t)
-
--- The table has, at place 8 * (i - 1) + (j - 1), whether phase i feeds phase j.
-pub record IsFed (design : Design) (fed : List Bool) : Type 0 where
-  pub count : length fed ≡ 64
-  pub each : (i j : ℕ) → IsPhase MOST_PHASES i → IsPhase MOST_PHASES j →
-      OfTiming design (λ t. slice_index_or fed (8 * (i - 1) + (j - 1)) false ≡ feeds_of t i j)
 
 -- Each label is a time.
 abbrev pub IsLate : ℤ → Type 0

@@ -1,20 +1,17 @@
 -- Trails: data that leaves an element and comes along a path of arcs.
-use Rattle.std.specs.Prelude.{◌≡◌, ◌<◌, ◌≤◌, ℕ, ℤ, ◌+ℤ◌, ◌*ℤ◌, ◌≤ℤ◌, Option, IfSome, IsSomeAnd, List, length, slice_index_or}
-use Rattle.mintc_timing.specs.declared.parts.Element.{Element}
+use Rattle.std.specs.Prelude.{◌≡◌, ◌<◌, ◌≤◌, ℕ, ℤ, ◌+ℤ◌, ◌*ℤ◌, ◌≤ℤ◌, Option, IfSome, IsSomeAnd, List, length}
 use Rattle.mintc_timing.specs.declared.clocking.Schedule.{Schedule}
 use Rattle.mintc_timing.specs.Clocking.{shift_of}
 use Rattle.mintc_timing.specs.Departures.{departure}
-use Rattle.mintc_timing.specs.Design.{Design, no_element}
+use Rattle.mintc_timing.specs.Design.{Design}
 use Rattle.mintc_timing.specs.Paths.{Leads, output_of, input_of, greatest_delay}
+use Rattle.mintc_chain_test.specs.Elements.{element_of}
 
 -- Of the trails, each an element and a path, some trail has this time, and none has a greater one; there is no trail
 -- where there is no time.
 pub record IsGreatestTime (IsTrail : ℕ → List ℕ → Type 0) (time : ℕ → List ℕ → ℤ) (best : Option ℤ) : Type 0 where
   pub attained : IfSome best (λ z. (j : ℕ) × (path : List ℕ) × IsTrail j path × (time j path ≡ z))
   pub bound : (j : ℕ) (path : List ℕ) → IsTrail j path → IsSomeAnd best (λ z. time j path ≤ℤ z)
-
-abbrev pub element_of : Design → ℕ → Element
-element_of design l = slice_index_or design.elements l no_element
 
 -- The path leads from the output of an element of the design to the bit.
 pub record LeadsTo (design : Design) (bit j : ℕ) (path : List ℕ) : Type 0 where

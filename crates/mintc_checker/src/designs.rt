@@ -1,19 +1,10 @@
-//! Designs with what the tests read beside them.
-ghost use Rattle.std.specs.Prelude.{◌≡◌, length, All};
-ghost use Rattle.mintc_timing.specs.Limits.{IsDenominator, IsInRange};
+//! Designs with what labels are made of.
+ghost use Rattle.std.specs.Prelude.{All};
+ghost use Rattle.mintc_timing.specs.Limits.{IsDenominator};
 ghost use Rattle.mintc_timing.specs.Order.{ArePathsShort};
 ghost use Rattle.mintc_certificate.specs.Ranges.{IsDeparture};
 
-use mintc_timing::{Flat, Schedule};
-
-/// A design with a schedule that fits it: its numbers are in range, and it has the design's phases.
-#[derive(Clone, Copy)]
-pub(crate) struct ClockedDesign<'a> {
-    pub flat: &'a Flat,
-    pub schedule: &'a Schedule,
-    ghost in_range: { IsInRange schedule.now },
-    ghost phases: { length schedule.now.starts ≡ length flat.now.phases },
-}
+use mintc_timing::Flat;
 
 /// A design whose paths are short, with departures over a denominator.
 #[derive(Clone, Copy)]

@@ -6,7 +6,7 @@ ghost use Rattle.mintc_timing.specs.Departures.{departure};
 ghost use Rattle.mintc_timing.specs.Limits.{IsTime};
 ghost use Rattle.mintc_timing.specs.Order.{IsOrder};
 ghost use Rattle.mintc_certificate.specs.Ranges.{IsDeparture};
-ghost use Rattle.mintc_checker.specs.Trails.{element_of};
+ghost use Rattle.mintc_chain_test.specs.Elements.{element_of};
 ghost use Rattle.mintc_checker.specs.Judged.{AreTimelyLabels};
 ghost use Rattle.mintc_checker.specs.Labels.{AreLabelsOf, IsStart, label_at, labels_at, IsAlong};
 

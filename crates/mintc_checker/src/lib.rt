@@ -5,8 +5,9 @@
 //! of the design's links, and its sums. It needs no list of pairs: data that leaves the elements of a phase is carried
 //! along the arcs in their order, so that each bit has a label for each phase, the last time at which data comes there
 //! from it. Departures, setups and which phase feeds which are read off the labels. This is the longest path by levels
-//! of static timing analysis, once for each phase. So that a mistake of the search can't hide in its own judge, the
-//! crate stands on none of the search's crates; of a certificate it takes what its members are and their links.
+//! of static timing analysis, once for each phase. The chain is tested by the crate below, mintc_chain_test. So that
+//! a mistake of the search can't hide in its own judge, neither stands on one of the search's crates; of a certificate they take
+//! what its members are and their links.
 //! The crates above get a verdict, and that a valid certificate is that of the least cycle time.
 #![tactic(auto)]
 
@@ -22,9 +23,7 @@ mod arrivals;
 mod designs;
 mod examining;
 mod labels;
-mod members;
 mod reading;
-mod ring;
 mod schedule_tests;
 mod verdict;
 

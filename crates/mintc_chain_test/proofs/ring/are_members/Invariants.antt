@@ -1,8 +1,8 @@
 use Rattle.std.proofs.Common.{take}
 use Rattle.std.specs.List.{All}
 use Rattle.mintc_certificate.specs.Valid.{IsMember, IsNamed}
-use Rattle.mintc_checker.specs.Judged.{OfTiming}
-use Rattle.mintc_checker.proofs.ring.are_members.Given as goal
+use Rattle.mintc_chain_test.specs.Judged.{OfTiming}
+use Rattle.mintc_chain_test.proofs.ring.are_members.Given as goal
 
 -- the members so far are the design's
 abbrev pub invariant-loop-place : goal.invariant-loop-place

@@ -7,8 +7,8 @@ ghost use Rattle.mintc_timing.specs.Limits.{IsPhase};
 ghost use Rattle.mintc_timing.specs.Paths.{IsPath, Leads, arc_at, input_of};
 ghost use Rattle.mintc_certificate.specs.Valid.{IsNamed};
 ghost use Rattle.mintc_certificate.specs.Valid.{IsMember};
-ghost use Rattle.mintc_checker.specs.Judged.{Decides, IsFed};
-ghost use Rattle.mintc_checker.specs.Trails.{element_of};
+ghost use Rattle.mintc_chain_test.specs.Judged.{Decides, IsFed};
+ghost use Rattle.mintc_chain_test.specs.Elements.{element_of};
 
 use mintc_certificate::Member;
 use mintc_timing::{Flat, TimingArc};

@@ -1,5 +1,5 @@
-use Rattle.mintc_checker.proofs.Deciding.{denied, alike}
-use Rattle.mintc_checker.proofs.ring.are_ring.Goals as goal
+use Rattle.mintc_chain_test.proofs.SharedDeciding.{denied, alike}
+use Rattle.mintc_chain_test.proofs.ring.are_ring.Goals as goal
 
 pub returns-then-are_members-clause-ring : goal.returns-then-are_members-clause-ring
 returns-then-are_members-clause-ring c = λ t e are_pairs.

@@ -2,9 +2,9 @@ use Rattle.std.proofs.Common.{ℤ, pos, ◌*ℤ◌, ◌≤ℤ◌, arith, refl, a
 use Rattle.std.proofs.lemmas.Int.{ints}
 use Rattle.mintc_timing.specs.Limits.{IsTime}
 use Rattle.mintc_timing.proofs.SharedFitting.{read_time, test_is, IsTime-IsDenominator, IsTime-IsNumerator}
-use Rattle.mintc_checker.proofs.Deciding.{alike}
-use Rattle.mintc_checker.proofs.Scaled.{scaled_is, equal_bits, delay_fits, turns_fit}
-use Rattle.mintc_checker.proofs.ring.is_tight.Goals as goal
+use Rattle.mintc_chain_test.proofs.SharedDeciding.{alike}
+use Rattle.mintc_chain_test.proofs.SharedScaled.{scaled_is, equal_bits, delay_fits, turns_fit}
+use Rattle.mintc_chain_test.proofs.ring.is_tight.Goals as goal
 
 pub returns-then-sums-ge1 : goal.returns-then-sums-ge1
 returns-then-sums-ge1 c =

@@ -10,7 +10,7 @@ ghost use Rattle.mintc_certificate.specs.Ranges.{IsChainInRange};
 ghost use Rattle.mintc_certificate.specs.Valid.{IsMember, IsRing, links_of_members};
 ghost use Rattle.mintc_timing.specs.Links.{IsTight, IsStuck, no_link};
 ghost use Rattle.mintc_certificate.specs.Valid.{IsNamed};
-ghost use Rattle.mintc_checker.specs.Judged.{Decides, IsFed};
+ghost use Rattle.mintc_chain_test.specs.Judged.{Decides, IsFed};
 
 use crate::designs::ClockedDesign;
 use crate::members::is_member;
@@ -64,7 +64,7 @@ fn lead_round(flat: &Flat, members: &[Member]) -> bool
 }
 
 /// Whether the members are the design's and lead round in a ring: the sixth test.
-pub(crate) fn are_ring(flat: &Flat, fed: &[bool], members: &[Member]) -> bool
+pub fn are_ring(flat: &Flat, fed: &[bool], members: &[Member]) -> bool
     requires short { ArePathsShort flat.now }
     requires fed { IsFed flat.now fed.now }
     requires chain { IsChainInRange members.now }
@@ -75,7 +75,7 @@ pub(crate) fn are_ring(flat: &Flat, fed: &[bool], members: &[Member]) -> bool
 }
 
 /// Whether the ring has a cycle, and takes exactly its cycles: the seventh test of a certificate with a schedule.
-pub(crate) fn is_tight(clocked: &ClockedDesign<'_>, members: &[Member]) -> bool
+pub fn is_tight(clocked: &ClockedDesign<'_>, members: &[Member]) -> bool
     requires short { ArePathsShort clocked.now.flat.now }
     requires named { All (IsNamed clocked.now.flat.now) members.now }
     requires chain { IsChainInRange members.now }
@@ -86,7 +86,7 @@ pub(crate) fn is_tight(clocked: &ClockedDesign<'_>, members: &[Member]) -> bool
 }
 
 /// Whether the ring asks for time and has no cycle: the seventh test of a certificate without a schedule.
-pub(crate) fn is_stuck(flat: &Flat, members: &[Member]) -> bool
+pub fn is_stuck(flat: &Flat, members: &[Member]) -> bool
     requires short { ArePathsShort flat.now }
     requires named { All (IsNamed flat.now) members.now }
     requires chain { IsChainInRange members.now }

@@ -4,8 +4,8 @@ use Rattle.std.proofs.lemmas.List.{take_all}
 use Rattle.std.proofs.lemmas.List.Elements.{All-more}
 use Rattle.mintc_certificate.specs.declared.members.Member.{Member}
 use Rattle.mintc_certificate.specs.Valid.{IsMember, IsNamed}
-use Rattle.mintc_checker.proofs.Deciding.{denied, holds}
-use Rattle.mintc_checker.proofs.ring.are_members.Goals as goal
+use Rattle.mintc_chain_test.proofs.SharedDeciding.{denied, holds}
+use Rattle.mintc_chain_test.proofs.ring.are_members.Goals as goal
 
 pub loop-place-preserved : goal.loop-place-preserved
 loop-place-preserved c =

@@ -6,7 +6,7 @@ use Rattle.mintc_text.specs.declared.limits.TheConstants.{MOST_MEMBERS}
 use Rattle.mintc_timing.specs.Limits.{IsTime, IsDenominator, IsNumerator}
 use Rattle.mintc_timing.proofs.SharedFitting.{read_time, same_bits}
 use Rattle.mintc_timing.proofs.SharedProducts.{times-mono_positive}
-use Rattle.mintc_checker.proofs.Deciding.{same_test}
+use Rattle.mintc_chain_test.proofs.SharedDeciding.{same_test}
 
 -- a product as the code computes it
 pub scaled_is : (product span den : ℤ) → IsTime span → IsTime den → product ≡ to_z w64 (of_z w64 span) *ℤ to_z w64 (of_z w64 den) → product ≡ span *ℤ den

@@ -2,7 +2,7 @@ use Rattle.std.proofs.Common.{◌↔◌, drop}
 use Rattle.mintc_timing.specs.declared.link.Link.{Link}
 use Rattle.mintc_rings.specs.Rings.{IsClosed, Joins}
 use Rattle.mintc_certificate.specs.Valid.{links_of_members}
-use Rattle.mintc_checker.proofs.ring.lead_round.Given as goal
+use Rattle.mintc_chain_test.proofs.ring.lead_round.Given as goal
 
 -- the ring closes where the rest of it leads to the beginning
 abbrev pub invariant-loop-place : goal.invariant-loop-place

@@ -1,6 +1,6 @@
 use Rattle.std.proofs.Common.{◌↔◌, drop}
 use Rattle.mintc_timing.specs.Paths.{Leads}
-use Rattle.mintc_checker.proofs.members.leads.Given as goal
+use Rattle.mintc_chain_test.proofs.members.leads.Given as goal
 
 -- the path leads on where the rest of it does
 abbrev pub invariant-loop-number : goal.invariant-loop-number

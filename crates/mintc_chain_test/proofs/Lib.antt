@@ -1,0 +1,2 @@
+pub mod SharedDeciding
+pub mod SharedScaled
