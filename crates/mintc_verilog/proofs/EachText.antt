@@ -2,7 +2,7 @@
 use Rattle.std.proofs.Common.{◌≡◌, ℕ, ◌+◌, List, [], ◌∷◌, ◌++◌, length, Option, Some, None, is_some, refl, sym, ap, ◌∙◌, subst, arith, append_assoc, append-nil, ◌⊎◌, inl, inr}
 use Rattle.mintc_netlist.specs.declared.module.Netlist.{Netlist}
 use Rattle.mintc_verilog.specs.declared.parts.Open.{Open}
-use Rattle.mintc_verilog.specs.Lexemes.{Lexeme, lexemes_of}
+use Rattle.mintc_expressions.specs.Lexemes.{Lexeme, lexemes_of}
 use Rattle.mintc_verilog.specs.FormReading.{after_lexemes}
 use Rattle.mintc_verilog.specs.Netlists.{State, start, state_of, Leads, IsNetlist, IsFault}
 use Rattle.mintc_verilog.specs.Laws.{HaveAnAnswer}

@@ -14,7 +14,7 @@ use Rattle.mintc_netlist.specs.Ordinary.{IsItem, IsModule, DontFall, entry_of, e
 use Rattle.mintc_verilog.specs.declared.parts.Open.{Open}
 use Rattle.mintc_verilog.specs.declared.parts.Said.{Said}
 use Rattle.mintc_verilog.specs.declared.parts.Said.TheVariants as said
-use Rattle.mintc_verilog.specs.Lexemes.{Lexeme, lexeme_of, lexemes_within, lexemes_of}
+use Rattle.mintc_expressions.specs.Lexemes.{Lexeme, lexeme_of, lexemes_within, lexemes_of}
 use Rattle.mintc_verilog.specs.Netlists.{State, start, state_of, module_of, says, next, Leads}
 use Rattle.mintc_verilog.specs.Laws.{AreOrdinary}
 use Rattle.mintc_verilog.proofs.Sound.{AreSound, tokens-sound, IsSaid, form-sound, IsNumbered, says-numbered}

@@ -1,0 +1,10 @@
+use Rattle.std.proofs.Common.{length}
+use Rattle.mintc_connections.specs.PartReading.{named_at}
+use Rattle.mintc_connections.proofs.Lists.{Listing}
+use Rattle.mintc_connections.proofs.connections.read_all_named.Given as goal
+
+abbrev pub invariant-loop-out : goal.invariant-loop-out
+invariant-loop-out l = Listing named_at l.initial.reader l.out.items l.reader
+
+abbrev pub decreases-loop-out : goal.decreases-loop-out
+decreases-loop-out l = length l.reader

@@ -1,0 +1,6 @@
+pub mod Lexemes
+pub mod Expressions
+pub mod Left
+pub mod Reading
+pub mod Keys
+pub mod Halting
