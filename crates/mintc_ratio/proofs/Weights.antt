@@ -40,8 +40,16 @@ module _ (d f num den : ℤ) (from : f ≡ d) (delay : IsWithin 4000000000 d) (t
       rw (from, to_z-of_z w128 d (fits_128 4000000000 d (lit< tt) delay), to_z-of_z w128 den (fits_128 (10 ^ 7) den (lit< tt) den_within))
       (to_z-of_z w128 (d *ℤ den) (fits_128 (4 * 10 ^ 16) (d *ℤ den) (lit< tt) product_within))
 
+  pub product_fits : SFits w128 (to_z w128 (of_z w128 f) *ℤ to_z w128 (of_z w128 den))
+  product_fits =
+      rw (from, to_z-of_z w128 d (fits_128 4000000000 d (lit< tt) delay), to_z-of_z w128 den (fits_128 (10 ^ 7) den (lit< tt) den_within))
+      (fits_128 (4 * 10 ^ 16) (d *ℤ den) (lit< tt) product_within)
+
   rest_within : IsWithin (2 ^ 79) ((d *ℤ den) -ℤ num)
   rest_within = let p = product_within in let n = num_within in let p0 = p.0 in let p1 = p.1 in let n0 = n.0 in let n1 = n.1 in (omega (arith, ints), omega (arith, ints))
+
+  pub rest_fits : SFits w128 (to_z w128 (of_z w128 (to_z w128 (of_z w128 f) *ℤ to_z w128 (of_z w128 den))) -ℤ to_z w128 (of_z w128 num))
+  rest_fits = rw (product_is, to_z-of_z w128 num (fits_128 (10 ^ 20) num (lit< tt) num_within)) (fits_128 (2 ^ 79) ((d *ℤ den) -ℤ num) (lit< tt) rest_within)
 
   pub rest_is : to_z w128 (of_z w128 (to_z w128 (of_z w128 (to_z w128 (of_z w128 f) *ℤ to_z w128 (of_z w128 den))) -ℤ to_z w128 (of_z w128 num))) ≡ (d *ℤ den) -ℤ num
   rest_is = rw (product_is, to_z-of_z w128 num (fits_128 (10 ^ 20) num (lit< tt) num_within)) (to_z-of_z w128 ((d *ℤ den) -ℤ num) (fits_128 (2 ^ 79) ((d *ℤ den) -ℤ num) (lit< tt) rest_within))

@@ -1,3 +1,4 @@
+use Rattle.std.proofs.lemmas.Grind.{common_steps}
 use Rattle.std.proofs.Common.{◌≤◌, List, length, drop, ap, sym, subst, arith}
 use Rattle.mintc_timing.specs.Design.{Timing}
 use Rattle.mintc_corners.specs.Joint.{AreCorners}
@@ -54,3 +55,6 @@ returns-clause-value c =
     let few = subst (λ (x : List Timing). elements_together x ≤ 2000) c.as_slice.ensures.value c.in_default.ensures in
     let answer = rw c.as_slice-2.ensures.value at c.optimum_of.ensures in
     answered_corners c.optimum_of.result c.args.count c.args.texts.now c.in-Ok.systems.items c.requires.short given few answer
+
+pub corner_systems-requires-clause-few : goal.corner_systems-requires-clause-few
+corner_systems-requires-clause-few c = grind (arith, common_steps)

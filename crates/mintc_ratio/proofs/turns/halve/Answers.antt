@@ -1,3 +1,4 @@
+use Rattle.std.proofs.lemmas.Grind.{common_steps}
 use Rattle.std.proofs.Common.{arith}
 use Rattle.std.proofs.lemmas.Int.{ints}
 use Rattle.mintc_ratio.specs.Chains.{links_at}
@@ -28,3 +29,6 @@ returns-in-Values-clause-turn g c =
     let point = grid_point c.nodes.result c.args.links.now.nodes c.args.middle c.grid_of.result c.new-at.result c.nodes.ensures.value c.grid_of.ensures few c.requires.low c.requires.high c.new-at.ensures in
     let tested = rw point at c.in-Values.ensures.tested in
     (tested.1, tested.2 (few_links c.args.links.now.nodes c.args.links.now.links c.nodes.ensures.kept c.args.room.now.chain c.requires.held.chain))
+
+pub test_at-requires-clause-den : goal.test_at-requires-clause-den
+test_at-requires-clause-den c = grind (arith, common_steps)

@@ -1,3 +1,5 @@
+use Rattle.std.proofs.Common.{arith}
+use Rattle.std.proofs.lemmas.Grind.{common_steps}
 use Rattle.std.proofs.Common.{ap}
 use Rattle.mintc_constraints.specs.Rooms.{Space}
 use Rattle.mintc_settling.proofs.SharedNetworkLaws.{arcs-ordinary, starts-ordinary}
@@ -26,3 +28,6 @@ pub returns-clause-settled : goal.returns-clause-settled
 returns-clause-settled g c =
     loop-from_walk c.args.clocked.now.system.now c.args.clocked.now.schedule.now c.count.ensures.kept c.fill_starts.new.room.values c.fill_starts.ensures.count c.fill_starts.ensures.each
     c.walk.new.self.chain c.in-Chain.len c.in-Chain.ensures.walked.1 c.in-Chain.ensures.walked.0
+
+pub walk-requires-clause-few : goal.walk-requires-clause-few
+walk-requires-clause-few c = grind (arith, common_steps)

@@ -1,3 +1,5 @@
+use Rattle.std.proofs.Common.{arith}
+use Rattle.std.proofs.lemmas.Grind.{common_steps}
 use Rattle.std.proofs.Common.{◌<◌, ◌^◌, pos, length, refl, lit<}
 use Rattle.std.specs.Int.{w64, w128}
 use Rattle.std.proofs.lemmas.Int.{to_z-of_z}
@@ -26,3 +28,12 @@ returns c =
       to_z-of_z w128 w.den (fits_128 (10 ^ 7) w.den (lit< tt) (den_within d d w.num w.den refl delay w.time)),
     ) at c.weight.ensures.value in
     rw c.numbered-link.ensures (arc_is (over w.num w.den) links c.args.number c.weight.result below value c.weight.ensures.small)
+
+pub numbered-link-requires : goal.numbered-link-requires
+numbered-link-requires c = grind (arith, common_steps)
+
+pub weight-requires-clause-delay : goal.weight-requires-clause-delay
+weight-requires-clause-delay c = grind (arith, common_steps)
+
+pub weight-requires-clause-cycles : goal.weight-requires-clause-cycles
+weight-requires-clause-cycles c = grind (arith, common_steps)
