@@ -130,20 +130,27 @@ impl Seen {
             } => self.instance_again(alloc, name, connections.items()),
         }
     }
+
+    /// The first item of a module that gives a name again, of all its items.
+    fn first_again(&mut self, alloc: Global, part: &Module) -> Result<Option<u32>, OutOfMemory>
+        requires none { IsSeenBy self.old [] }
+        ensures { IfOk result (λ first. first ≡ first_after is_name_twice part.now [] part.now.items) }
+    {
+        let items = part.items.items();
+        for item in items {
+            if self.again(alloc, item)? {
+                return Ok(Some(entry(item)));
+            }
+        }
+        Ok(None)
+    }
 }
 
 /// The first item of a module that gives a name again.
 fn first_twice(alloc: Global, part: &Module) -> Result<Option<u32>, OutOfMemory>
     ensures { IfOk result (λ first. first ≡ first_after is_name_twice part.now [] part.now.items) }
 {
-    let mut seen = Seen::new(alloc);
-    let items = part.items.items();
-    for item in items {
-        if seen.again(alloc, item)? {
-            return Ok(Some(entry(item)));
-        }
-    }
-    Ok(None)
+    Seen::new(alloc).first_again(alloc, part)
 }
 
 /// Whether a name comes twice.

@@ -3,7 +3,7 @@ use Rattle.mintc_targets.specs.Homes.{source_in}
 use Rattle.mintc_hierarchy.specs.Faults.{is_second_driver}
 use Rattle.mintc_faults.proofs.ItemLaws.{item-found, items-none, item-passed, own-passed}
 use Rattle.mintc_faults.proofs.DriveLaws.{item_driven, items_more}
-use Rattle.mintc_faults.proofs.drivers.first_driving.Goals as goal
+use Rattle.mintc_faults.proofs.drivers.Driven.first_again.Goals as goal
 
 pub returns-then-branch : goal.returns-then-branch
 returns-then-branch c =
@@ -14,7 +14,7 @@ returns-then-branch c =
     let i = c.index-items-number.result in
     own-passed (is_second_driver s) m (Some c.entry.result) refl
     (item-found (is_second_driver s) m is n i c.entry.result c.loop-number-test.true c.index-items-number.is c.items-items.ensures c.loop-number.invariant.left
-    (item_driven s m (take n is) i c.loop-number.driven c.in_ok-drive_item.field-0 c.loop-number.invariant.driven c.in_ok-drive_item.ensures.again ∙ c.if-branch.true) c.entry.ensures)
+    (item_driven s m (take n is) i c.loop-number.self c.in_ok-drive_item.field-0 c.loop-number.invariant.driven c.in_ok-drive_item.ensures.again ∙ c.if-branch.true) c.entry.ensures)
 
 pub loop-number-preserved : goal.loop-number-preserved
 loop-number-preserved c =
@@ -24,9 +24,9 @@ loop-number-preserved c =
     let n = c.loop-number.number in
     let i = c.index-items-number.result in
     record {
-      driven = items_more s m is n i c.loop-number.driven c.drive_item.new.self c.loop-number-test.true c.index-items-number.is c.loop-number.invariant.driven (c.in_ok-drive_item.ensures.marked c.if-branch.false);
+      driven = items_more s m is n i c.loop-number.self c.drive_item.new.self c.loop-number-test.true c.index-items-number.is c.loop-number.invariant.driven (c.in_ok-drive_item.ensures.marked c.if-branch.false);
       left = item-passed (is_second_driver s) m is n i _ c.loop-number-test.true c.index-items-number.is c.loop-number.invariant.left
-          (item_driven s m (take n is) i c.loop-number.driven c.in_ok-drive_item.field-0 c.loop-number.invariant.driven c.in_ok-drive_item.ensures.again ∙ c.if-branch.false);
+          (item_driven s m (take n is) i c.loop-number.self c.in_ok-drive_item.field-0 c.loop-number.invariant.driven c.in_ok-drive_item.ensures.again ∙ c.if-branch.false);
     }
 
 pub returns : goal.returns

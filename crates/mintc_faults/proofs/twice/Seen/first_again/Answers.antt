@@ -5,7 +5,7 @@ use Rattle.mintc_hierarchy.specs.Faults.{is_name_twice}
 use Rattle.mintc_faults.specs.Firsts.{first_after}
 use Rattle.mintc_faults.specs.Twice.{IsSeenBy}
 use Rattle.mintc_faults.proofs.TwiceLaws.{item_passed, item_found}
-use Rattle.mintc_faults.proofs.twice.first_twice.Goals as goal
+use Rattle.mintc_faults.proofs.twice.Seen.first_again.Goals as goal
 
 pub loop-item-preserved : goal.loop-item-preserved
 loop-item-preserved c =
