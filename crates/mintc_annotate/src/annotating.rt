@@ -157,9 +157,7 @@ fn copied(alloc: Global, bounds: &[Bound]) -> Result<Vec<Bound>, OutOfMemory>
     ensures { IfOk result (λ v. v.items ≡ bounds.now) }
 {
     let mut copy = Vec::new(alloc);
-    for number in 0..bounds.len() {
-        copy.push(bounds[number])?;
-    }
+    copy.extend_from_slice(bounds)?;
     Ok(copy)
 }
 
