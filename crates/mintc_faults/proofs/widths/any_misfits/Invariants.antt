@@ -9,4 +9,4 @@ use Rattle.mintc_faults.proofs.widths.any_misfits.Given as goal
 -- the pins that are left have one where all have
 abbrev pub invariant-loop-number : goal.invariant-loop-number
 invariant-loop-number l = let pins = target_pins (source_in l.source) l.instance.target in
-    list_any (is_wired_badly l.home.part.now) (wirings_from l.number l.instance.item (drop l.number pins)) ≡ list_any (is_wired_badly l.home.part.now) (wirings_of l.instance.item pins)
+    list_any (is_wired_badly l.home.part.now) (wirings_from l.number l.instance.item.now (drop l.number pins)) ≡ list_any (is_wired_badly l.home.part.now) (wirings_of l.instance.item.now pins)
