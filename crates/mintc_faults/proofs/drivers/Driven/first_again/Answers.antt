@@ -1,7 +1,7 @@
 use Rattle.std.proofs.Common.{Some, None, take, refl, ◌∙◌}
 use Rattle.mintc_targets.specs.Homes.{source_in}
 use Rattle.mintc_hierarchy.specs.Faults.{is_second_driver}
-use Rattle.mintc_faults.proofs.ItemLaws.{item-found, items-none, item-passed, own-passed}
+use Rattle.mintc_faults.proofs.ItemLaws.{item-found, items-none, item-passed, own-passed, target_read, target_there}
 use Rattle.mintc_faults.proofs.DriveLaws.{item_driven, items_more}
 use Rattle.mintc_faults.proofs.drivers.Driven.first_again.Goals as goal
 
@@ -33,3 +33,13 @@ pub returns : goal.returns
 returns c =
     let s = source_in c.args.source.now in
     own-passed (is_second_driver s) c.args.home.now.part.now None refl (items-none (is_second_driver s) c.args.home.now.part.now c.items-items.result.now c.loop-number.number c.loop-number-test.false c.items-items.ensures c.loop-number.invariant.left)
+
+pub drive_item-requires-clause-target : goal.drive_item-requires-clause-target
+drive_item-requires-clause-target c =
+    target_read (source_in c.args.source.now) c.args.home.now.part.now c.args.targets.now c.items-items.result.now c.loop-number.number c.index-items-number.result _
+    c.requires.targets c.items-items.ensures c.loop-number-test.true c.index-items-number.is
+
+pub drive_item-requires-clause-there : goal.drive_item-requires-clause-there
+drive_item-requires-clause-there c =
+    target_there (source_in c.args.source.now) c.args.home.now.part.now c.args.targets.now c.items-items.result.now c.loop-number.number c.index-items-number.result _
+    c.requires.targets c.items-items.ensures c.loop-number-test.true c.index-items-number.is
