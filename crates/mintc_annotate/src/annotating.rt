@@ -233,7 +233,13 @@ fn build(
 {
     let parts = parts_of(alloc, hierarchy, cells, clock, &gathered)?;
     let inner = Names::new(gathered.names);
-    match Flat::new(parts.phases, parts.elements, inner, parts.arcs, parts.bounds) {
+    match Flat::new(
+        parts.phases,
+        parts.elements,
+        inner,
+        parts.arcs,
+        parts.bounds,
+    ) {
         Ok(flat) => Ok(flat),
         Err(refusal) => Err(Stop::Refused(refusal)),
     }
