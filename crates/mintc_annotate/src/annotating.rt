@@ -157,10 +157,64 @@ fn copied(alloc: Global, bounds: &[Bound]) -> Result<Vec<Bound>, OutOfMemory>
     ensures { IfOk result (λ v. v.items ≡ bounds.now) }
 {
     let mut copy = Vec::new(alloc);
-    for number in 0..bounds.len() {
-        copy.push(bounds[number])?;
-    }
+    copy.extend_from_slice(bounds)?;
     Ok(copy)
+}
+
+/// The parts of a design besides what its inner bits are called.
+#[derive(Drop)]
+pub(crate) struct Parts {
+    phases: Names,
+    elements: Vec<Element>,
+    arcs: Vec<TimingArc>,
+    bounds: Vec<Bound>,
+}
+
+/// The elements and the arcs of a design within its limits.
+fn elements_and_arcs(
+    alloc: Global,
+    hierarchy: &Hierarchy,
+    cells: &Cells,
+    clock: &Clock,
+    gathered: &Gathered,
+) -> Result<(Vec<Element>, Vec<TimingArc>), OutOfMemory>
+    requires shape { IsFlattened cells.now hierarchy.now }
+    requires gathered { AreGathered hierarchy.now cells.now clock.now gathered.now }
+    requires within { limit_of (design_of_gathered hierarchy.now cells.now clock.now gathered.now) ≡ None }
+    ensures elements { IfOk result (λ both. both.0.items ≡ elements_of hierarchy.now cells.now clock.now (look gathered.now.ranges) gathered.now.phases) }
+    ensures arcs { IfOk result (λ both. both.1.items ≡ arcs_of hierarchy.now cells.now clock.now (look gathered.now.ranges)) }
+{
+    let bits = listed_bits(alloc, hierarchy, clock)?;
+    let elements = elements(alloc, hierarchy, cells, clock, gathered, &bits)?;
+    let arcs = arcs(alloc, hierarchy, cells, gathered, &bits)?;
+    Ok((elements, arcs))
+}
+
+/// The parts of the design of what is gathered, within its limits.
+fn parts_of(
+    alloc: Global,
+    hierarchy: &Hierarchy,
+    cells: &Cells,
+    clock: &Clock,
+    gathered: &Gathered,
+) -> Result<Parts, OutOfMemory>
+    requires shape { IsFlattened cells.now hierarchy.now }
+    requires gathered { AreGathered hierarchy.now cells.now clock.now gathered.now }
+    requires within { limit_of (design_of_gathered hierarchy.now cells.now clock.now gathered.now) ≡ None }
+    ensures phases { IfOk result (λ parts. parts.phases ≡ map (λ p. p.name) clock.now.phases) }
+    ensures elements { IfOk result (λ parts. parts.elements.items ≡ elements_of hierarchy.now cells.now clock.now (look gathered.now.ranges) gathered.now.phases) }
+    ensures arcs { IfOk result (λ parts. parts.arcs.items ≡ arcs_of hierarchy.now cells.now clock.now (look gathered.now.ranges)) }
+    ensures bounds { IfOk result (λ parts. parts.bounds.items ≡ clock.now.bounds) }
+{
+    let phases = Names::new(phase_names(alloc, clock.phases.items())?);
+    let bounds = copied(alloc, clock.bounds.items())?;
+    let (elements, arcs) = elements_and_arcs(alloc, hierarchy, cells, clock, gathered)?;
+    Ok(Parts {
+        phases,
+        elements,
+        arcs,
+        bounds,
+    })
 }
 
 /// The design of what is gathered, within its limits.
@@ -177,12 +231,15 @@ fn build(
     requires within { limit_of (design_of_gathered hierarchy.now cells.now clock.now gathered) ≡ None }
     ensures { MatchResult result (λ flat. flat ≡ design_of_gathered hierarchy.now cells.now clock.now gathered) (StopsAt (λ refused. ⊥)) }
 {
-    let bits = listed_bits(alloc, hierarchy, clock)?;
-    let elements = elements(alloc, hierarchy, cells, clock, &gathered, &bits)?;
-    let arcs = arcs(alloc, hierarchy, cells, &gathered, &bits)?;
-    let phases = Names::new(phase_names(alloc, clock.phases.items())?);
-    let bounds = copied(alloc, clock.bounds.items())?;
-    match Flat::new(phases, elements, Names::new(gathered.names), arcs, bounds) {
+    let parts = parts_of(alloc, hierarchy, cells, clock, &gathered)?;
+    let inner = Names::new(gathered.names);
+    match Flat::new(
+        parts.phases,
+        parts.elements,
+        inner,
+        parts.arcs,
+        parts.bounds,
+    ) {
         Ok(flat) => Ok(flat),
         Err(refusal) => Err(Stop::Refused(refusal)),
     }

@@ -146,6 +146,29 @@ impl Driven {
         }
     }
 
+    /// Drives what an instance connects to the outputs of what it is of, by what is kept of its connections, and says whether a
+    /// bit is driven already.
+    fn drive_pins(
+        &mut self,
+        alloc: Global,
+        room: &mut Vec<Option<u64>>,
+        source: &Source<'_>,
+        home: &Home<'_>,
+        instance: &Instance<'_>,
+    ) -> Result<bool, OutOfMemory>
+        requires there { IsThere (source_in source.now) instance.now.target }
+        requires connected { IsOfItem instance.now.connected.now instance.now.item.now }
+        ensures { IfOk result (λ again. Drives self.old self.new (drives_from home.now.part.now instance.now.item.now 0 (target_pins (source_in source.now) instance.now.target)) again) }
+    {
+        let count = pin_count(source.cells, source.modules, instance.target)?;
+        for number in 0..count {
+            if self.drive_pin(alloc, room, source, home, instance, number)? {
+                return Ok(true);
+            }
+        }
+        Ok(false)
+    }
+
     /// Drives what an instance connects to the outputs of what it is of, and says whether a bit is driven already.
     fn drive_instance(
         &mut self,
@@ -165,13 +188,7 @@ impl Driven {
             target,
             connected,
         };
-        let count = pin_count(source.cells, source.modules, target)?;
-        for number in 0..count {
-            if self.drive_pin(alloc, room, source, home, &instance, number)? {
-                return Ok(true);
-            }
-        }
-        Ok(false)
+        self.drive_pins(alloc, room, source, home, &instance)
     }
 
     /// Drives what an item of a module drives, and says whether a bit is driven already.
@@ -228,6 +245,29 @@ impl Driven {
         }
         Ok(driven)
     }
+
+    /// The first item of a module that drives what is driven already, of all its items, where its inputs are driven.
+    fn first_again(
+        &mut self,
+        alloc: Global,
+        room: &mut Vec<Option<u64>>,
+        source: &Source<'_>,
+        home: &Home<'_>,
+        targets: &[Target],
+    ) -> Result<Option<u32>, OutOfMemory>
+        requires targets { targets.now ≡ targets_in (source_in source.now) home.now.part.now }
+        requires inputs { HasSame self.old (driven_first home.now.part.now) }
+        ensures { IfOk result (λ first. first ≡ first_in (is_second_driver (source_in source.now)) home.now.part.now) }
+    {
+        let items = home.part.items.items();
+        for (number, item) in items.iter().enumerate() {
+            let target = targets[number];
+            if self.drive_item(alloc, room, source, home, item, target)? {
+                return Ok(Some(entry(item)));
+            }
+        }
+        Ok(None)
+    }
 }
 
 /// The first item of a module that drives what is driven already.
@@ -242,14 +282,7 @@ fn first_driving(
 {
     let mut room = Vec::new(alloc);
     let mut driven = Driven::of_inputs(alloc, &mut room, home)?;
-    let items = home.part.items.items();
-    for (number, item) in items.iter().enumerate() {
-        let target = targets[number];
-        if driven.drive_item(alloc, &mut room, source, home, item, target)? {
-            return Ok(Some(entry(item)));
-        }
-    }
-    Ok(None)
+    driven.first_again(alloc, &mut room, source, home, targets)
 }
 
 /// The first statement that drives what is driven already.

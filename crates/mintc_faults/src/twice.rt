@@ -187,6 +187,28 @@ fn first_in_module(
     first_twice(alloc, part)
 }
 
+/// The first statement that gives a name a second time, of all modules.
+fn first_in_modules(
+    alloc: Global,
+    names: &mut NameSet,
+    cells: &Cells,
+    modules: &[Module],
+) -> Result<Option<u32>, OutOfMemory>
+    requires none { names.old ≡ [] }
+    ensures { IfOk result (λ entry. entry ≡ first_at_fault is_name_twice (modules_of (source_of cells.now modules.now))) }
+{
+    for module in modules {
+        if cells.find(module.name.bytes()).is_some() {
+            continue;
+        }
+        let first = first_in_module(alloc, names, module)?;
+        if first.is_some() {
+            return Ok(first);
+        }
+    }
+    Ok(None)
+}
+
 /// The first statement that gives a name a second time.
 pub fn name_twice(
     alloc: Global,
@@ -195,15 +217,5 @@ pub fn name_twice(
 ) -> Result<Option<u32>, OutOfMemory>
     ensures { IfOk result (λ entry. entry ≡ first_at_fault is_name_twice (modules_of (source_of cells.now modules.now))) }
 {
-    let mut names = NameSet::new(alloc);
-    for module in modules {
-        if cells.find(module.name.bytes()).is_some() {
-            continue;
-        }
-        let first = first_in_module(alloc, &mut names, module)?;
-        if first.is_some() {
-            return Ok(first);
-        }
-    }
-    Ok(None)
+    first_in_modules(alloc, &mut NameSet::new(alloc), cells, modules)
 }

@@ -115,6 +115,25 @@ fn pin_misfits(
     }
 }
 
+/// Whether something that an instance connects to a pin doesn't fit, by what is kept of its connections.
+fn any_misfits(
+    source: &Source<'_>,
+    home: &Home<'_>,
+    instance: &Instance<'_>,
+) -> Result<bool, OutOfMemory>
+    requires there { IsThere (source_in source.now) instance.now.target }
+    requires connected { IsOfItem instance.now.connected.now instance.now.item.now }
+    ensures { IfOk result (λ misfits. misfits ≡ list_any (is_wired_badly home.now.part.now) (wirings_of instance.now.item.now (target_pins (source_in source.now) instance.now.target))) }
+{
+    let count = pin_count(source.cells, source.modules, instance.target)?;
+    for number in 0..count {
+        if pin_misfits(source, home, instance, number)? {
+            return Ok(true);
+        }
+    }
+    Ok(false)
+}
+
 /// Whether something that an instance connects to a pin doesn't fit.
 fn instance_misfits(
     alloc: Global,
@@ -132,13 +151,7 @@ fn instance_misfits(
         target,
         connected,
     };
-    let count = pin_count(source.cells, source.modules, target)?;
-    for number in 0..count {
-        if pin_misfits(source, home, &instance, number)? {
-            return Ok(true);
-        }
-    }
-    Ok(false)
+    any_misfits(source, home, &instance)
 }
 
 /// What some items of a module declare.
@@ -192,6 +205,28 @@ impl Declared {
             Item::Instance { .. } => instance_misfits(alloc, source, home, item, target),
         }
     }
+
+    /// The first statement of a module whose widths or selects don't fit, of all its items.
+    fn first_misfit(
+        &mut self,
+        alloc: Global,
+        source: &Source<'_>,
+        home: &Home<'_>,
+        targets: &[Target],
+    ) -> Result<Option<u32>, OutOfMemory>
+        requires targets { targets.now ≡ targets_in (source_in source.now) home.now.part.now }
+        requires none { IsDeclaredBy self.old [] }
+        ensures { IfOk result (λ first. first ≡ first_in (is_misfit (source_in source.now)) home.now.part.now) }
+    {
+        let items = home.part.items.items();
+        for (number, item) in items.iter().enumerate() {
+            if self.misfits(alloc, source, home, item, targets[number])? {
+                return Ok(Some(entry(item)));
+            }
+            self.note(alloc, item)?;
+        }
+        Ok(None)
+    }
 }
 
 /// The first statement of a module whose widths or selects don't fit.
@@ -204,15 +239,7 @@ fn first_misfit(
     requires targets { targets.now ≡ targets_in (source_in source.now) home.now.part.now }
     ensures { IfOk result (λ first. first ≡ first_in (is_misfit (source_in source.now)) home.now.part.now) }
 {
-    let mut declared = Declared::new(alloc);
-    let items = home.part.items.items();
-    for (number, item) in items.iter().enumerate() {
-        if declared.misfits(alloc, source, home, item, targets[number])? {
-            return Ok(Some(entry(item)));
-        }
-        declared.note(alloc, item)?;
-    }
-    Ok(None)
+    Declared::new(alloc).first_misfit(alloc, source, home, targets)
 }
 
 /// The first statement whose widths or selects don't fit.

@@ -1,4 +1,5 @@
-use Rattle.std.proofs.Common.{◌≡◌, ℕ, List, false, is_some, sym, refl, ap, not, ◌∙◌}
+use Rattle.std.proofs.Common.{◌≡◌, ℕ, List, false, is_some, sym, refl, ap, not, ◌∙◌, arith}
+use Rattle.std.proofs.lemmas.Grind.{common_steps}
 use Rattle.mintc_cells.specs.Entries.{number_of}
 use Rattle.mintc_hierarchy.specs.Sources.{source_of, is_stub}
 use Rattle.mintc_hierarchy.specs.Faults.{is_recursive}
@@ -17,3 +18,9 @@ pub returns : goal.returns
 returns c =
     let s = source_of c.args.cells.now c.args.modules.now in
     modules-none (is_recursive s) (λ m. not (is_stub s m)) (λ earlier m before i. refl) c.args.modules.now c.loop-number.number c.loop-number-test.false c.loop-number.invariant
+
+pub loop-number-preserved-then-is_some : goal.loop-number-preserved-then-is_some
+loop-number-preserved-then-is_some c = grind (arith, common_steps)
+
+pub loop-number-preserved : goal.loop-number-preserved
+loop-number-preserved c = grind (arith, common_steps)

@@ -1,4 +1,5 @@
-use Rattle.std.proofs.Common.{◌≡◌, ℕ, List, false, is_some, sym, ap, not, ◌∙◌}
+use Rattle.std.proofs.Common.{◌≡◌, ℕ, List, false, is_some, sym, ap, not, ◌∙◌, arith}
+use Rattle.std.proofs.lemmas.Grind.{common_steps}
 use Rattle.mintc_cells.specs.Entries.{number_of}
 use Rattle.mintc_hierarchy.specs.Sources.{is_stub}
 use Rattle.mintc_targets.specs.Homes.{source_in}
@@ -19,3 +20,9 @@ pub returns : goal.returns
 returns c =
     let s = source_in c.args.source.now in
     modules-none (is_misfit s) (λ m. not (is_stub s m)) (own s) c.args.source.now.modules.now c.loop-number.number c.loop-number-test.false c.loop-number.invariant
+
+pub loop-number-preserved-then-is_some : goal.loop-number-preserved-then-is_some
+loop-number-preserved-then-is_some c = grind (arith, common_steps)
+
+pub loop-number-preserved : goal.loop-number-preserved
+loop-number-preserved c = grind (arith, common_steps)

@@ -2,7 +2,7 @@ use Rattle.std.proofs.Common.{◌≡◌, ℕ, List, false, is_some, sym, ap, not
 use Rattle.mintc_cells.specs.Entries.{number_of}
 use Rattle.mintc_hierarchy.specs.Sources.{source_of, is_stub}
 use Rattle.mintc_faults.proofs.AgainLaws.{again_found, again_none}
-use Rattle.mintc_faults.proofs.twice.name_twice.Goals as goal
+use Rattle.mintc_faults.proofs.twice.first_in_modules.Goals as goal
 
 pub returns-then-is_some-2 : goal.returns-then-is_some-2
 returns-then-is_some-2 c =

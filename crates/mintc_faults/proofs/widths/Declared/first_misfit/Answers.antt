@@ -2,7 +2,7 @@ use Rattle.std.proofs.Common.{take, sym, refl, ◌∙◌}
 use Rattle.mintc_targets.specs.Homes.{source_in}
 use Rattle.mintc_hierarchy.specs.Faults.{is_misfit}
 use Rattle.mintc_faults.proofs.FirstLaws.{first-found, first-none}
-use Rattle.mintc_faults.proofs.widths.first_misfit.Goals as goal
+use Rattle.mintc_faults.proofs.widths.Declared.first_misfit.Goals as goal
 
 pub returns-then-branch : goal.returns-then-branch
 returns-then-branch c =

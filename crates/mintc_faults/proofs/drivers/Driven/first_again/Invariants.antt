@@ -5,12 +5,12 @@ use Rattle.mintc_targets.specs.Homes.{source_in}
 use Rattle.mintc_hierarchy.specs.Faults.{drives_in, is_second_driver}
 use Rattle.mintc_faults.specs.Firsts.{first_after}
 use Rattle.mintc_faults.specs.Driving.{HasSame}
-use Rattle.mintc_faults.proofs.drivers.first_driving.Given as goal
+use Rattle.mintc_faults.proofs.drivers.Driven.first_again.Given as goal
 
 -- the items so far drive what is driven, and what is left has the first at fault
 abbrev pub invariant-loop-number : goal.invariant-loop-number
 invariant-loop-number l = let s = source_in l.source in
     record {
-      driven : HasSame l.driven (driven_first l.home.part.now ++ flat_map (drives_in s l.home.part.now) (take l.number l.items));
+      driven : HasSame l.self (driven_first l.home.part.now ++ flat_map (drives_in s l.home.part.now) (take l.number l.items));
       left : first_after (is_second_driver s) l.home.part.now (take l.number l.items) (drop l.number l.items) ≡ first_after (is_second_driver s) l.home.part.now [] l.items;
     }

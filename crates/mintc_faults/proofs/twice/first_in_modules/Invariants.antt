@@ -1,7 +1,7 @@
 use Rattle.std.proofs.Common.{◌≡◌, [], drop, filter, not}
 use Rattle.mintc_hierarchy.specs.Sources.{source_of, is_stub}
 use Rattle.mintc_faults.specs.Twice.{first_again_of}
-use Rattle.mintc_faults.proofs.twice.name_twice.Given as goal
+use Rattle.mintc_faults.proofs.twice.first_in_modules.Given as goal
 
 -- the modules that are left have the first that gives a name again
 abbrev pub invariant-loop-module : goal.invariant-loop-module

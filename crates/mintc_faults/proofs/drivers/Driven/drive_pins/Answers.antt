@@ -6,13 +6,13 @@ use Rattle.mintc_targets.specs.Homes.{source_in}
 use Rattle.mintc_faults.specs.Driving.{pin_drives, drives_from, Drives}
 use Rattle.mintc_targets.specs.Wired.{no_pin}
 use Rattle.mintc_faults.proofs.DriveLaws.{step_again, step_passed, pins_more, pins_whole}
-use Rattle.mintc_faults.proofs.drivers.Driven.drive_instance.Goals as goal
+use Rattle.mintc_faults.proofs.drivers.Driven.drive_pins.Goals as goal
 
 pub returns-then-branch : goal.returns-then-branch
 returns-then-branch c =
     let m = c.args.home.now.part.now in
-    let i = c.args.item.now in
-    let pins = target_pins (source_in c.args.source.now) c.args.target in
+    let i = c.args.instance.now.item.now in
+    let pins = target_pins (source_in c.args.source.now) c.args.instance.now.target in
     let n = c.loop-number.number in
     let inside : n < length pins = subst (λ (k : ℕ). n < k) c.in_ok-count.ensures c.loop-number-test.true in
     step_again c.args.self.now c.loop-number.self c.drive_pin.new.self (drives_from m i 0 (take n pins)) (pin_drives m i n (get_or pins n no_pin))
@@ -23,8 +23,8 @@ returns-then-branch c =
 pub loop-number-preserved : goal.loop-number-preserved
 loop-number-preserved c =
     let m = c.args.home.now.part.now in
-    let i = c.args.item.now in
-    let pins = target_pins (source_in c.args.source.now) c.args.target in
+    let i = c.args.instance.now.item.now in
+    let pins = target_pins (source_in c.args.source.now) c.args.instance.now.target in
     let n = c.loop-number.number in
     let inside : n < length pins = subst (λ (k : ℕ). n < k) c.in_ok-count.ensures c.loop-number-test.true in
     step_passed c.args.self.now c.loop-number.self c.drive_pin.new.self (drives_from m i 0 (take n pins)) (pin_drives m i n (get_or pins n no_pin))
@@ -33,7 +33,7 @@ loop-number-preserved c =
 pub returns : goal.returns
 returns c =
     let m = c.args.home.now.part.now in
-    let i = c.args.item.now in
-    let pins = target_pins (source_in c.args.source.now) c.args.target in
+    let i = c.args.instance.now.item.now in
+    let pins = target_pins (source_in c.args.source.now) c.args.instance.now.target in
     subst (λ (ps : List Pin). Drives c.args.self.now c.loop-number.self (drives_from m i 0 ps) false)
     (take_all c.loop-number.number pins (subst (λ (k : ℕ). k ≤ c.loop-number.number) c.in_ok-count.ensures c.loop-number-test.false)) c.loop-number.invariant

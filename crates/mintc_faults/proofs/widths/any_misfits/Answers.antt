@@ -5,26 +5,26 @@ use Rattle.mintc_hierarchy.specs.Sources.{target_pins}
 use Rattle.mintc_targets.specs.Homes.{source_in}
 use Rattle.mintc_hierarchy.specs.Faults.{is_wired_badly}
 use Rattle.mintc_faults.proofs.WidthLaws.{pin_passed, pin_found, pins_passed}
-use Rattle.mintc_faults.proofs.widths.instance_misfits.Goals as goal
+use Rattle.mintc_faults.proofs.widths.any_misfits.Goals as goal
 
 pub loop-number-preserved : goal.loop-number-preserved
 loop-number-preserved c =
     let s = source_in c.args.source.now in
-    let pins = target_pins s c.args.target in
+    let pins = target_pins s c.args.instance.now.target in
     let k = c.loop-number.number in
-    pin_passed (is_wired_badly c.args.home.now.part.now) c.args.item.now s c.args.target k c.in_ok-pin_misfits.field-0 (list_any (is_wired_badly c.args.home.now.part.now) (wirings_of c.args.item.now pins))
+    pin_passed (is_wired_badly c.args.home.now.part.now) c.args.instance.now.item.now s c.args.instance.now.target k c.in_ok-pin_misfits.field-0 (list_any (is_wired_badly c.args.home.now.part.now) (wirings_of c.args.instance.now.item.now pins))
     (subst (λ (n : ℕ). k < n) c.in_ok-count.ensures c.loop-number-test.true) c.in_ok-pin_misfits.ensures c.if-branch.false c.loop-number.invariant
 
 pub returns-then-branch : goal.returns-then-branch
 returns-then-branch c =
     let s = source_in c.args.source.now in
-    let pins = target_pins s c.args.target in
+    let pins = target_pins s c.args.instance.now.target in
     let k = c.loop-number.number in
-    pin_found (is_wired_badly c.args.home.now.part.now) c.args.item.now s c.args.target k c.in_ok-pin_misfits.field-0 (list_any (is_wired_badly c.args.home.now.part.now) (wirings_of c.args.item.now pins))
+    pin_found (is_wired_badly c.args.home.now.part.now) c.args.instance.now.item.now s c.args.instance.now.target k c.in_ok-pin_misfits.field-0 (list_any (is_wired_badly c.args.home.now.part.now) (wirings_of c.args.instance.now.item.now pins))
     (subst (λ (n : ℕ). k < n) c.in_ok-count.ensures c.loop-number-test.true) c.in_ok-pin_misfits.ensures c.if-branch.true c.loop-number.invariant
 
 pub returns : goal.returns
 returns c =
-    let pins = target_pins (source_in c.args.source.now) c.args.target in
-    pins_passed (is_wired_badly c.args.home.now.part.now) c.args.item.now pins c.loop-number.number (list_any (is_wired_badly c.args.home.now.part.now) (wirings_of c.args.item.now pins))
+    let pins = target_pins (source_in c.args.source.now) c.args.instance.now.target in
+    pins_passed (is_wired_badly c.args.home.now.part.now) c.args.instance.now.item.now pins c.loop-number.number (list_any (is_wired_badly c.args.home.now.part.now) (wirings_of c.args.instance.now.item.now pins))
     (subst (λ (n : ℕ). n ≤ c.loop-number.number) c.in_ok-count.ensures c.loop-number-test.false) c.loop-number.invariant
