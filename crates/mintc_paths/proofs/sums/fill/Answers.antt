@@ -1,3 +1,4 @@
+use Rattle.std.proofs.lemmas.Grind.{common_steps}
 use Rattle.std.proofs.Common.{◌≡◌, ◌<◌, ◌≤◌, ◌+◌, ◌∙◌, ℕ, length, arith}
 use Rattle.std.proofs.lemmas.List.{get_or_default}
 use Rattle.mintc_timing.specs.Design.{no_arc}
@@ -88,3 +89,18 @@ pub next-place-requires-in-loop-place : goal.next-place-requires-in-loop-place
 next-place-requires-in-loop-place g c =
     let rest = IsAwake-next c.args.course.now.along.items c.loop-place.place c.loop-place.reached c.loop-place.awake _ c.remove.ensures.count c.remove.ensures.others c.loop-place.invariant.awake in
     (c.in_ok-carry.ensures.awake (c.loop-place.place + 1) rest).ready.few
+
+pub carry-requires-clause-from : goal.carry-requires-clause-from
+carry-requires-clause-from c = grind (arith, common_steps)
+
+pub carry-requires-clause-to : goal.carry-requires-clause-to
+carry-requires-clause-to c = grind (arith, common_steps)
+
+pub carry-requires-clause-apart : goal.carry-requires-clause-apart
+carry-requires-clause-apart c = grind (arith, common_steps)
+
+pub carry-requires-clause-min : goal.carry-requires-clause-min
+carry-requires-clause-min c = grind (arith, common_steps)
+
+pub carry-requires-clause-max : goal.carry-requires-clause-max
+carry-requires-clause-max c = grind (arith, common_steps)

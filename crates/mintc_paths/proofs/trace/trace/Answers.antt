@@ -1,3 +1,4 @@
+use Rattle.std.proofs.lemmas.Grind.{common_steps}
 use Rattle.std.proofs.Common.{◌≡◌, ◌<◌, ◌+◌, ◌-◌, ℕ, length, get_or, arith, subst, ◌∙◌, sym}
 use Rattle.std.specs.Prelude.{reverse}
 use Rattle.mintc_timing.specs.Paths.{Leads, arc_at}
@@ -70,3 +71,15 @@ returns c = λ from best sums_are zero best_is.
     let all = traced_all c.args.extreme c.args.flat.now.arcs c.args.order.now c.requires.order c.args.sums.now from c.args.end best sums_are c.loop-left.bit (reverse c.loop-left.path.items) zero
     (traced from best sums_are best_is) in
     subst (λ xs. Leads c.args.flat.now.arcs from xs c.args.end × (total (weight_of c.args.extreme c.args.flat.now.arcs) xs ≡ best)) (sym c.reverse.ensures.items) all
+
+pub is_last-requires-clause-from : goal.is_last-requires-clause-from
+is_last-requires-clause-from c = grind (arith, common_steps)
+
+pub is_last-requires-clause-to : goal.is_last-requires-clause-to
+is_last-requires-clause-to c = grind (arith, common_steps)
+
+pub is_last-requires-clause-min : goal.is_last-requires-clause-min
+is_last-requires-clause-min c = grind (arith, common_steps)
+
+pub is_last-requires-clause-max : goal.is_last-requires-clause-max
+is_last-requires-clause-max c = grind (arith, common_steps)

@@ -1,3 +1,4 @@
+use Rattle.std.proofs.lemmas.Grind.{common_steps}
 use Rattle.std.proofs.Common.{◌≡◌, ◌<◌, ℕ, List, length, get_or, ap, ◌∙◌, arith}
 use Rattle.std.proofs.lemmas.List.{get_or_default}
 use Rattle.mintc_timing.specs.Design.{no_arc}
@@ -18,3 +19,12 @@ new-requires-clause-inside c = λ k d below.
     let row = c.requires.rows.of_bits.inside (arc_at arcs (get_or order k 0)).from (omega (arith, arc.from)) in
     let is = get_or_default c.loop-number.along.items k d no_arc here ∙ h.each k (omega (arith, h.count)) in
     rw (c.deref.ensures.value, is) (omega (arith, c.requires.rows.of_bits.count, c.args.rows.of_bits.ok.0))
+
+pub index-requires : goal.index-requires
+index-requires c = grind (arith, common_steps)
+
+pub index-requires-in-loop-number : goal.index-requires-in-loop-number
+index-requires-in-loop-number c = grind (arith, common_steps)
+
+pub loop-number-preserved : goal.loop-number-preserved
+loop-number-preserved c = grind (arith, common_steps)
