@@ -1,5 +1,5 @@
 //! Reading a cell description.
-ghost use Rattle.std.specs.Prelude.{◌≡◌, ◌≤◌, ◌<◌, ◌+◌, ◌^◌, ◌++◌, ◌∷◌, [], ℕ, List, Some, Err, length, map, IfOk, MatchResult};
+ghost use Rattle.std.specs.Prelude.{◌≡◌, ◌≤◌, ◌<◌, ◌+◌, ◌^◌, ◌++◌, ◌∷◌, [], ℕ, List, Some, Err, length, map, IfOk, OnOk, MatchResult};
 ghost use Rattle.mintc_text.specs.declared.limits.TheConstants.{MOST_BYTES};
 ghost use Rattle.toml.specs.View.{view, table_view};
 ghost use Rattle.mintc_text.specs.Stops.{StopsAt};
@@ -13,7 +13,7 @@ use crate::cells::Cells;
 use crate::shape::{Fault, Shape};
 use crate::{rules, tables};
 use mintc_document::{has_only, is_name, member, text};
-use mintc_text::{Name, Refusal, Stop};
+use mintc_text::{Name, OutOfMemory, Refusal, Stop};
 use std::alloc::Global;
 use toml::{Table, Value};
 
@@ -75,6 +75,13 @@ fn read_entry(
     }
 }
 
+/// Adds a cell with its name.
+fn push_cell(cells: &mut Vec<(Name, Cell)>, cell: (Name, Cell)) -> Result<(), OutOfMemory>
+    ensures { OnOk result (cells.new.items ≡ cells.old.items ++ cell ∷ []) }
+{
+    Ok(cells.push(cell)?)
+}
+
 /// Adds the cell that the next entry stands for.
 fn add_entry(
     alloc: Global,
@@ -91,9 +98,7 @@ fn add_entry(
         return Err(Stop::OutOfMemory);
     };
     let cell = read_entry(alloc, entry, name, value)?;
-    let Ok(()) = cells.push(cell) else {
-        return Err(Stop::OutOfMemory);
-    };
+    push_cell(cells, cell)?;
     Ok(())
 }
 
