@@ -59,12 +59,7 @@ fn read_cell(alloc: Global, name: &str, value: &Value) -> Result<Cell, Fault>
 }
 
 /// The cell that entry number `entry` stands for, under its name.
-fn read_entry(
-    alloc: Global,
-    entry: u32,
-    name: &str,
-    value: &Value,
-) -> Result<(Name, Cell), Stop>
+fn read_entry(alloc: Global, entry: u32, name: &str, value: &Value) -> Result<(Name, Cell), Stop>
     ensures { MatchResult result (IsReadAs (name.now, view value.now))
         (StopsAt (IsBadCellBy (λ n rule. (n ≡ entry) × (cell_of name.now (view value.now) ≡ Err rule)))) }
 {

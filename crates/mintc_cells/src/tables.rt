@@ -89,38 +89,23 @@ pub(crate) fn flop_shape(table: &Table) -> Shape
     }
 }
 
-/// The pins of a latch or a flop: that of the data, that of the control, the outputs, and the others.
+/// What a latch and a flop have alike: the data pin, the outputs, and the pins that are ignored.
 #[derive(Drop)]
 struct Wires {
     data: Name,
-    control: Name,
     outputs: Names,
     ignored: Names,
 }
 
-/// The data pin of a table, and the pin under another key.
-fn data_and_control(
-    alloc: Global,
-    table: &Table,
-    control_key: &str,
-) -> Result<(Name, Name), OutOfMemory>
-    ensures { IfOk result (λ ns. (ns.0 ≡ text_in [] (get_member (codes "d") (table_view table.now))) × (ns.1 ≡ text_in [] (get_member control_key.now (table_view table.now)))) }
-{
-    let data = name(alloc, table, "d")?;
-    Ok((data, name(alloc, table, control_key)?))
-}
-
-/// The pins of a latch or a flop, of which the control pin stands under a key.
-fn wires_of(alloc: Global, table: &Table, control_key: &str) -> Result<Wires, OutOfMemory>
-    ensures { IfOk result (λ w. (w.data ≡ text_in [] (get_member (codes "d") (table_view table.now))) × (w.control ≡ text_in [] (get_member control_key.now (table_view table.now)))
+/// The pins that a latch and a flop have alike.
+fn wires_of(alloc: Global, table: &Table) -> Result<Wires, OutOfMemory>
+    ensures { IfOk result (λ w. (w.data ≡ text_in [] (get_member (codes "d") (table_view table.now)))
         × (w.outputs ≡ texts_in (get_member (codes "outputs") (table_view table.now))) × (w.ignored ≡ texts_in (get_member (codes "ignored") (table_view table.now)))) }
 {
     let outputs = names(alloc, table, "outputs")?;
     let ignored = names(alloc, table, "ignored")?;
-    let (data, control) = data_and_control(alloc, table, control_key)?;
     Ok(Wires {
-        data,
-        control,
+        data: name(alloc, table, "d")?,
         outputs,
         ignored,
     })
@@ -130,12 +115,13 @@ fn wires_of(alloc: Global, table: &Table, control_key: &str) -> Result<Wires, Ou
 pub(crate) fn latch(alloc: Global, table: &Table) -> Result<Cell, OutOfMemory>
     ensures { IfOk result (λ cell. cell ≡ latch_of (table_view table.now)) }
 {
-    let wires = wires_of(alloc, table, "g")?;
+    let pin_g = name(alloc, table, "g")?;
+    let wires = wires_of(alloc, table)?;
     let dq_min = integer(table, "dq_min", 0);
     let dq_max = integer(table, "dq_max", dq_min);
     Ok(Cell::Latch {
         pin_d: wires.data,
-        pin_g: wires.control,
+        pin_g,
         high: text(table, "active", "high") == "high",
         outputs: wires.outputs,
         ignored: wires.ignored,
@@ -155,11 +141,12 @@ pub(crate) fn latch(alloc: Global, table: &Table) -> Result<Cell, OutOfMemory>
 pub(crate) fn flop(alloc: Global, table: &Table) -> Result<Cell, OutOfMemory>
     ensures { IfOk result (λ cell. cell ≡ flop_of (table_view table.now)) }
 {
-    let wires = wires_of(alloc, table, "clock")?;
+    let pin_clock = name(alloc, table, "clock")?;
+    let wires = wires_of(alloc, table)?;
     let cq_min = integer(table, "cq_min", 0);
     Ok(Cell::Flop {
         pin_d: wires.data,
-        pin_clock: wires.control,
+        pin_clock,
         rising: text(table, "edge", "rising") == "rising",
         outputs: wires.outputs,
         ignored: wires.ignored,
