@@ -19,6 +19,17 @@ pub(crate) struct Taken {
 }
 
 impl Taken {
+    /// What no phase has taken.
+    fn new(alloc: Global) -> Taken
+        ensures { AreTaken [] result }
+    {
+        Taken {
+            names: NameSet::new(alloc),
+            highs: NameSet::new(alloc),
+            lows: NameSet::new(alloc),
+        }
+    }
+
     /// Takes a phase's port at its level, and says whether it was free.
     fn take_port(&mut self, alloc: Global, phase: &PhaseDef) -> Result<bool, OutOfMemory>
         ensures free { IfOk result (λ free. free ≡ not (has_port self.old phase.now)) }
@@ -62,11 +73,7 @@ pub(crate) fn names_of(alloc: Global, phases: &[PhaseDef]) -> Result<NameSet, Fa
     requires { length phases.now < 2 ^ 32 }
     ensures { MatchResult result (λ names. (first_clash 1 [] phases.now ≡ None) × (names ≡ names_of phases.now)) (FailsAt (first_clash 1 [] phases.now)) }
 {
-    let mut taken = Taken {
-        names: NameSet::new(alloc),
-        highs: NameSet::new(alloc),
-        lows: NameSet::new(alloc),
-    };
+    let mut taken = Taken::new(alloc);
     taken.take_all(alloc, phases)?;
     Ok(taken.names)
 }
