@@ -81,6 +81,11 @@ carried (Err (stop.Refused (refusal.BadCell n rule))) P P' Q Q' f g h = g n rule
 carried (Err (stop.Refused _)) P P' Q Q' f g h = absurd h
 carried (Err stop.OutOfMemory) P P' Q Q' f g h = tt
 
+-- a stop passed on, at what follows from what it was at
+pub passed_on : {V : Type 0} (r : Result V Stop) (e : Stop) (P : V → Type 0) (Q Q' : ℕ → ℕ → Type 0) → r ≡ Err e → ((n rule : ℕ) → Q n rule → Q' n rule) →
+    StopsAt (IsBadCellBy Q) e → MatchResult r P (StopsAt (IsBadCellBy Q'))
+passed_on r e P Q Q' same g h = subst (λ x. MatchResult x P (StopsAt (IsBadCellBy Q'))) (sym same) (carried (Err e) P P Q Q' (λ v p. p) g h)
+
 -- keys in order have names in byte order
 all_below : (k : String Global) (ks : List (String Global)) → AllByRecursion (λ y. string_cmp k y ≡ Less) ks → AllByRecursion (λ y. slice_cmp nat_cmp (string_bytes k) y ≡ Less) (map string_bytes ks)
 all_below k [] h = tt

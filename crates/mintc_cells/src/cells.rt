@@ -1,5 +1,8 @@
 //! The cells of a description, by name and by number.
-ghost use Rattle.std.specs.Prelude.{◌≡◌, ◌<◌, length, IfOk, [], slice_index_or};
+ghost use Rattle.std.specs.Prelude.{◌≡◌, ◌<◌, ℕ, Vec, nat_eq, length, IfOk, OnOk, [], slice_index_or};
+ghost use Rattle.std.specs.Global.{Global};
+ghost use Rattle.std.specs.Cmp.Lexicographic.{pointwise};
+ghost use Rattle.indexmap.specs.IndexMap.{insert_entry};
 ghost use Rattle.mintc_cells.specs.Entries.{AreOrdered, number_of, name_at, cell_at, is_output};
 ghost use Rattle.mintc_cells.specs.Rules.{pins};
 
@@ -29,6 +32,23 @@ impl Model for Cells {
         × AreKept (map (λ e. (e.0.items, e.1)) c.entries.entries) };
 }
 
+/// Lets a cell go.
+fn discard(_cell: Option<Cell>) {}
+
+/// Puts a cell under a name.
+fn put(
+    alloc: Global,
+    map: &mut IndexMap<Vec<u8>, Cell>,
+    name: &Name,
+    cell: Cell,
+) -> Result<(), OutOfMemory>
+    ensures { OnOk result ((key : Vec ℕ Global) × (key.items ≡ name.now) × (map.new.entries ≡ insert_entry (λ x y. pointwise nat_eq x.items y.items) map.old.entries key cell)) }
+{
+    let bytes = Vec::from_slice(alloc, name.bytes())?;
+    discard(map.insert(bytes, cell)?);
+    Ok(())
+}
+
 impl Cells {
     /// These cells, in this order.
     pub fn new(alloc: Global, entries: Vec<(Name, Cell)>) -> Result<Cells, OutOfMemory>
@@ -37,8 +57,7 @@ impl Cells {
     {
         let mut map = IndexMap::new(alloc);
         for (name, cell) in entries {
-            let bytes = Vec::from_slice(alloc, name.bytes())?;
-            map.insert(bytes, cell)?;
+            put(alloc, &mut map, &name, cell)?;
         }
         Ok(Cells { entries: map })
     }

@@ -1,18 +1,19 @@
 //! Reading a cell description.
-ghost use Rattle.std.specs.Prelude.{◌≡◌, ◌≤◌, Some, length, map, IfOk, MatchResult};
+ghost use Rattle.std.specs.Prelude.{◌≡◌, ◌≤◌, ◌<◌, ◌+◌, ◌^◌, ◌++◌, ◌∷◌, [], ℕ, List, Some, Err, length, map, IfOk, OnOk, MatchResult};
 ghost use Rattle.mintc_text.specs.declared.limits.TheConstants.{MOST_BYTES};
 ghost use Rattle.toml.specs.View.{view, table_view};
 ghost use Rattle.mintc_text.specs.Stops.{StopsAt};
+ghost use Rattle.mintc_cells.specs.declared.cell.Cell.{Cell as CellRead};
 ghost use Rattle.mintc_cells.specs.Description.{least_rule, judged, read_table, cell_of, Reads};
 ghost use Rattle.mintc_cells.specs.Entries.{AreAscending, AreOrdered};
-ghost use Rattle.mintc_cells.specs.CellsOf.{entries, AreRead, IsFirstBad, AreInTable, IsBadTable, AreCells, IsBadCell, IsBadCellBy};
+ghost use Rattle.mintc_cells.specs.CellsOf.{entries, IsReadAs, AreRead, IsFirstBad, AreInTable, IsBadTable, AreCells, IsBadCell, IsBadCellBy};
 
 use crate::cell::Cell;
 use crate::cells::Cells;
 use crate::shape::{Fault, Shape};
 use crate::{rules, tables};
 use mintc_document::{has_only, is_name, member, text};
-use mintc_text::{Name, Refusal, Stop};
+use mintc_text::{Name, OutOfMemory, Refusal, Stop};
 use std::alloc::Global;
 use toml::{Table, Value};
 
@@ -57,6 +58,45 @@ fn read_cell(alloc: Global, name: &str, value: &Value) -> Result<Cell, Fault>
     }
 }
 
+/// The cell that entry number `entry` stands for, under its name.
+fn read_entry(alloc: Global, entry: u32, name: &str, value: &Value) -> Result<(Name, Cell), Stop>
+    ensures { MatchResult result (IsReadAs (name.now, view value.now))
+        (StopsAt (IsBadCellBy (λ n rule. (n ≡ entry) × (cell_of name.now (view value.now) ≡ Err rule)))) }
+{
+    match read_cell(alloc, name, value) {
+        Ok(cell) => Ok((Name::new(alloc, name.as_bytes())?, cell)),
+        Err(Fault::Rule(rule)) => Err(Stop::Refused(Refusal::BadCell { entry, rule })),
+        Err(Fault::OutOfMemory) => Err(Stop::OutOfMemory),
+    }
+}
+
+/// Adds a cell with its name.
+fn push_cell(cells: &mut Vec<(Name, Cell)>, cell: (Name, Cell)) -> Result<(), OutOfMemory>
+    ensures { OnOk result (cells.new.items ≡ cells.old.items ++ cell ∷ []) }
+{
+    Ok(cells.push(cell)?)
+}
+
+/// Adds the cell that the next entry stands for.
+fn add_entry(
+    alloc: Global,
+    cells: &mut Vec<(Name, Cell)>,
+    name: &str,
+    value: &Value,
+) -> Result<(), Stop>
+    requires { length cells.old.items < 2 ^ 32 }
+    ensures { MatchResult result
+        (λ _. (c : List ℕ × CellRead) × IsReadAs (name.now, view value.now) c × (cells.new.items ≡ cells.old.items ++ c ∷ []) × (length cells.old.items + 1 < 2 ^ 32))
+        (StopsAt (IsBadCellBy (λ n rule. (n ≡ length cells.old.items + 1) × (cell_of name.now (view value.now) ≡ Err rule)))) }
+{
+    let Ok(entry) = u32::try_from(cells.len() + 1) else {
+        return Err(Stop::OutOfMemory);
+    };
+    let cell = read_entry(alloc, entry, name, value)?;
+    push_cell(cells, cell)?;
+    Ok(())
+}
+
 /// The cells that the entries of a table stand for.
 #[tactic(auto, using(crate::proofs::EntriesLaws::ascending))]
 fn read_entries(alloc: Global, table: &Table) -> Result<Vec<(Name, Cell)>, Stop>
@@ -67,20 +107,7 @@ fn read_entries(alloc: Global, table: &Table) -> Result<Vec<(Name, Cell)>, Stop>
 {
     let mut cells = Vec::new(alloc);
     for (key, value) in table.iter() {
-        let Ok(entry) = u32::try_from(cells.len() + 1) else {
-            return Err(Stop::OutOfMemory);
-        };
-        let cell = match read_cell(alloc, key.as_str(), value) {
-            Ok(cell) => cell,
-            Err(Fault::Rule(rule)) => return Err(Stop::Refused(Refusal::BadCell { entry, rule })),
-            Err(Fault::OutOfMemory) => return Err(Stop::OutOfMemory),
-        };
-        let Ok(name) = Name::new(alloc, key.as_bytes()) else {
-            return Err(Stop::OutOfMemory);
-        };
-        let Ok(()) = cells.push((name, cell)) else {
-            return Err(Stop::OutOfMemory);
-        };
+        add_entry(alloc, &mut cells, key.as_str(), value)?;
     }
     Ok(cells)
 }

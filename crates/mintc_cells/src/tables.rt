@@ -1,6 +1,8 @@
 //! The tables of the four kinds of cells: the shape of each, and the cell that it stands for.
-ghost use Rattle.std.specs.Prelude.{◌≡◌, IfOk};
+ghost use Rattle.std.specs.Prelude.{◌≡◌, [], codes, IfOk};
+ghost use Rattle.toml.specs.Data.{get_member};
 ghost use Rattle.toml.specs.View.{table_view};
+ghost use Rattle.mintc_document.specs.Lookups.{text_in, texts_in};
 ghost use Rattle.mintc_cells.specs.Description.{has_pins, gate_shape, latch_shape, flop_shape, clock_shape, gate_of, latch_of, flop_of, clock_of};
 
 use crate::cell::Cell;
@@ -9,7 +11,7 @@ use mintc_document::{
     are_integers, are_names, flag, has, has_only, integer, is_flag, is_integer, is_one_of, is_text,
     name, names, text,
 };
-use mintc_text::OutOfMemory;
+use mintc_text::{Name, Names, OutOfMemory};
 use std::alloc::Global;
 use toml::Table;
 
@@ -87,22 +89,42 @@ pub(crate) fn flop_shape(table: &Table) -> Shape
     }
 }
 
+/// What a latch and a flop have alike: the data pin, the outputs, and the pins that are ignored.
+#[derive(Drop)]
+struct Wires {
+    data: Name,
+    outputs: Names,
+    ignored: Names,
+}
+
+/// The pins that a latch and a flop have alike.
+fn wires_of(alloc: Global, table: &Table) -> Result<Wires, OutOfMemory>
+    ensures { IfOk result (λ w. (w.data ≡ text_in [] (get_member (codes "d") (table_view table.now)))
+        × (w.outputs ≡ texts_in (get_member (codes "outputs") (table_view table.now))) × (w.ignored ≡ texts_in (get_member (codes "ignored") (table_view table.now)))) }
+{
+    let outputs = names(alloc, table, "outputs")?;
+    let ignored = names(alloc, table, "ignored")?;
+    Ok(Wires {
+        data: name(alloc, table, "d")?,
+        outputs,
+        ignored,
+    })
+}
+
 /// The latch that a table stands for.
 pub(crate) fn latch(alloc: Global, table: &Table) -> Result<Cell, OutOfMemory>
     ensures { IfOk result (λ cell. cell ≡ latch_of (table_view table.now)) }
 {
-    let pin_d = name(alloc, table, "d")?;
     let pin_g = name(alloc, table, "g")?;
-    let outputs = names(alloc, table, "outputs")?;
-    let ignored = names(alloc, table, "ignored")?;
+    let wires = wires_of(alloc, table)?;
     let dq_min = integer(table, "dq_min", 0);
     let dq_max = integer(table, "dq_max", dq_min);
     Ok(Cell::Latch {
-        pin_d,
+        pin_d: wires.data,
         pin_g,
         high: text(table, "active", "high") == "high",
-        outputs,
-        ignored,
+        outputs: wires.outputs,
+        ignored: wires.ignored,
         setup: integer(table, "setup", 0),
         hold: integer(table, "hold", 0),
         has_hold: has(table, "hold"),
@@ -119,17 +141,15 @@ pub(crate) fn latch(alloc: Global, table: &Table) -> Result<Cell, OutOfMemory>
 pub(crate) fn flop(alloc: Global, table: &Table) -> Result<Cell, OutOfMemory>
     ensures { IfOk result (λ cell. cell ≡ flop_of (table_view table.now)) }
 {
-    let pin_d = name(alloc, table, "d")?;
     let pin_clock = name(alloc, table, "clock")?;
-    let outputs = names(alloc, table, "outputs")?;
-    let ignored = names(alloc, table, "ignored")?;
+    let wires = wires_of(alloc, table)?;
     let cq_min = integer(table, "cq_min", 0);
     Ok(Cell::Flop {
-        pin_d,
+        pin_d: wires.data,
         pin_clock,
         rising: text(table, "edge", "rising") == "rising",
-        outputs,
-        ignored,
+        outputs: wires.outputs,
+        ignored: wires.ignored,
         setup: integer(table, "setup", 0),
         hold: integer(table, "hold", 0),
         has_hold: has(table, "hold"),

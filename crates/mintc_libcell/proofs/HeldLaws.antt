@@ -1,8 +1,10 @@
 -- The cell of what is held, group by group.
-use Rattle.std.proofs.Common.{◌≡◌, Bool, true, false, cond, not, ◌&&◌, List, [], ◌∷◌, ◌++◌, Option, Some, None, option_to_list, codes, sym, ap, ◌∙◌, arith, append_assoc}
+use Rattle.std.proofs.Common.{◌≡◌, ℕ, Bool, true, false, cond, not, ◌&&◌, List, [], ◌∷◌, ◌++◌, Option, Some, None, is_some, option_map, option_to_list, codes, refl, sym, ap, ◌∙◌, arith, append_assoc}
 use Rattle.mintc_cells.specs.declared.cell.Cell.{Cell}
 use Rattle.mintc_libcell.specs.Expressions.{is_among}
 use Rattle.mintc_libcell.specs.Meaning.{Pin, Group, pins_of, pins_in, are_pins, keeping, keepers, by_keepers, kept, is_plain}
+use Rattle.mintc_libcell.specs.declared.groups.Group.{Group as GroupRead}
+use Rattle.mintc_libcell.specs.Seen.{group_seen}
 use Rattle.mintc_libcell.specs.Held.{Held, cell_with}
 use Rattle.mintc_libcell.proofs.PinLaws.{fails-with-more}
 
@@ -15,6 +17,10 @@ rule h gs plain ps ks = cond (plain && are_pins ps) (kept (by_keepers ps (option
 and-none : (a : Bool) → (a && false) ≡ false
 and-none a = grind arith
 
+-- pins of several bits
+pub wide : (h : Held) (g : Group) → true ≡ is_wide g → (gs : List Group) → cell_with h (g ∷ gs) ≡ None
+wide h g e gs = ap (λ b. rule h gs (not b && is_plain gs) (h.pins ++ pins_in (g ∷ gs)) (keepers (g ∷ gs))) (sym e)
+
 -- pins that may not come with those that are held
 pub broken : (h : Held) (g : Group) → are_pins (h.pins ++ pins_of g) ≡ false → (gs : List Group) → cell_with h (g ∷ gs) ≡ None
 broken h g e gs =
@@ -25,6 +31,15 @@ broken h g e gs =
 
 either-none : (b : Bool) → cond b (let none : Option Cell = None in none) None ≡ None
 either-none b = grind arith
+
+-- whether a group that keeps a state was read
+pub some-held : (room : ℕ) (o : Option GroupRead) → true ≡ is_some o → (k : Group) × (option_map (group_seen room) o ≡ Some k)
+some-held room None e = absurd (cc)
+some-held room (Some g) e = (group_seen room g, refl)
+
+pub none-held : (room : ℕ) (o : Option GroupRead) → false ≡ is_some o → option_map (group_seen room) o ≡ None
+none-held room None e = refl
+none-held room (Some g) e = absurd (cc)
 
 -- a second group that keeps a state
 pub second : (h : Held) (g k : Group) → true ≡ is_among keeping g.name → h.keeper ≡ Some k → (gs : List Group) → cell_with h (g ∷ gs) ≡ None
@@ -43,3 +58,13 @@ next h n g e p gs k =
     ap (λ b. rule h gs (not b && is_plain gs) (h.pins ++ pins_in (g ∷ gs)) (keepers (g ∷ gs))) (sym e)
     ∙ ap (λ ps. rule h gs (is_plain gs) ps (keepers (g ∷ gs))) same
     ∙ ap (λ ks. cond (is_plain gs && are_pins (n.pins ++ pins_in gs)) (kept (by_keepers (n.pins ++ pins_in gs) ks)) None) k
+
+pub next-plain : (h : Held) (g : Group) (ps : List Pin) → false ≡ is_wide g → ps ≡ h.pins ++ pins_of g → false ≡ is_among keeping g.name → (gs : List Group) →
+    cell_with h (g ∷ gs) ≡ cell_with record { pins = ps; keeper = h.keeper } gs
+next-plain h g ps e p k gs = next h record { pins = ps; keeper = h.keeper } g e p gs (ap (λ b. option_to_list h.keeper ++ cond b (g ∷ keepers gs) (keepers gs)) (sym k))
+
+pub next-kept : (h : Held) (g : Group) (ps : List Pin) → false ≡ is_wide g → ps ≡ h.pins ++ pins_of g → true ≡ is_among keeping g.name → h.keeper ≡ None → (gs : List Group) →
+    cell_with h (g ∷ gs) ≡ cell_with record { pins = ps; keeper = Some g } gs
+next-kept h g ps e p k n gs =
+    next h record { pins = ps; keeper = Some g } g e p gs
+    (ap (λ b. option_to_list h.keeper ++ cond b (g ∷ keepers gs) (keepers gs)) (sym k) ∙ ap (λ o. option_to_list o ++ g ∷ keepers gs) n)

@@ -1,10 +1,11 @@
 //! The cell of a group.
-ghost use Rattle.std.specs.Prelude.{◌≡◌, ◌<◌, ◌-◌, ◌&&◌, length, nat_le, Some, None, true, IfOk, IfSome, IfNone, option_map};
+ghost use Rattle.std.specs.Prelude.{◌≡◌, ◌<◌, ◌-◌, ◌&&◌, codes, length, nat_le, Some, None, true, IfOk, IfSome, IfNone, option_map};
 ghost use Rattle.mintc_cells.specs.Rules.{is_cell};
+ghost use Rattle.mintc_libcell.specs.Expressions.{expression};
 ghost use Rattle.mintc_liblex.specs.Statements.{front};
 ghost use Rattle.mintc_libcell.specs.Seen.{group_seen, pins_seen};
 ghost use Rattle.mintc_libcell.specs.Held.{held, cell_held, is_between, has_counts};
-ghost use Rattle.mintc_libcell.specs.Meaning.{stores, latch_by, flop_by, clock_by, gate_by, stateless, keeper_by, with_role, only, kept, cell_of};
+ghost use Rattle.mintc_libcell.specs.Meaning.{last_value, inputs, outputs, others, stores, latch_by, flop_by, clock_by, gate_by, stateless, keeper_by, with_role, only, kept, cell_of};
 ghost use Rattle.mintc_libcell.specs.declared.pins.Role.TheVariants as role;
 
 use crate::expressions::{Literal, expression};
@@ -24,6 +25,21 @@ struct Stored<'a> {
     data_pin: &'a [u8],
 }
 
+/// The expression that the last attribute of a name is, directly in the group that the reader stands in.
+fn last_expression<'a>(
+    alloc: Global,
+    pins: &[Pin<'a>],
+    inside: &Reader,
+    key: &[u8],
+    room: u32,
+) -> Result<Option<Literal<'a>>, OutOfMemory>
+    ensures none { IfOk result (λ o. IfNone o (expression (inputs (pins_seen pins.now)) (last_value key.now (front room inside.now).statements) ≡ None)) }
+    ensures some { IfOk result (λ o. IfSome o (λ l. expression (inputs (pins_seen pins.now)) (last_value key.now (front room inside.now).statements) ≡ Some (l.name.now, l.is_plain))) }
+{
+    let value = last_value(inside, key, room);
+    expression(alloc, pins, &value)
+}
+
 /// The two pins that two attributes of a group name.
 fn stores<'a>(
     alloc: Global,
@@ -37,12 +53,10 @@ fn stores<'a>(
     ensures some { IfOk result (λ o. IfSome o (λ s. stores (pins_seen pins.now) control_key.now data_key.now (front room inside.now).statements
         ≡ Some ((s.control.name.now, s.control.is_plain), s.data_pin.now))) }
 {
-    let control_value = last_value(inside, control_key, room);
-    let Some(control) = expression(alloc, pins, &control_value)? else {
+    let Some(control) = last_expression(alloc, pins, inside, control_key, room)? else {
         return Ok(None);
     };
-    let data_value = last_value(inside, data_key, room);
-    let Some(stored) = expression(alloc, pins, &data_value)? else {
+    let Some(stored) = last_expression(alloc, pins, inside, data_key, room)? else {
         return Ok(None);
     };
     if control.name == stored.name {
@@ -54,16 +68,50 @@ fn stores<'a>(
     }))
 }
 
+/// The pins of a latch or a flop: that of the data, that of the control, the outputs, and the inputs that are neither.
+#[derive(Drop)]
+struct Wires {
+    data: Name,
+    control: Name,
+    outputs: Names,
+    ignored: Names,
+}
+
+/// Two names.
+fn two_names(alloc: Global, one: &[u8], two: &[u8]) -> Result<(Name, Name), OutOfMemory>
+    ensures { IfOk result (λ ns. (ns.0 ≡ one.now) × (ns.1 ≡ two.now)) }
+{
+    let first = Name::new(alloc, one)?;
+    Ok((first, Name::new(alloc, two)?))
+}
+
+/// The pins of a latch or a flop.
+fn wires_of(alloc: Global, pins: &[Pin], stored: &Stored) -> Result<Wires, OutOfMemory>
+    ensures { IfOk result (λ w. (w.data ≡ stored.now.data_pin.now) × (w.control ≡ stored.now.control.name.now)
+        × (w.outputs ≡ outputs (pins_seen pins.now)) × (w.ignored ≡ others stored.now.data_pin.now stored.now.control.name.now (inputs (pins_seen pins.now)))) }
+{
+    let outputs = names(alloc, pins, Role::Output)?;
+    let ignored = others(alloc, pins, stored.data_pin, stored.control.name)?;
+    let (data, control) = two_names(alloc, stored.data_pin, stored.control.name)?;
+    Ok(Wires {
+        data,
+        control,
+        outputs,
+        ignored,
+    })
+}
+
 /// A latch without numbers.
 fn latch(alloc: Global, pins: &[Pin], stored: &Stored) -> Result<Cell, OutOfMemory>
     ensures { IfOk result (λ cell. cell ≡ latch_by (pins_seen pins.now) ((stored.now.control.name.now, stored.now.control.is_plain), stored.now.data_pin.now)) }
 {
+    let wires = wires_of(alloc, pins, stored)?;
     Ok(Cell::Latch {
-        pin_d: Name::new(alloc, stored.data_pin)?,
-        pin_g: Name::new(alloc, stored.control.name)?,
+        pin_d: wires.data,
+        pin_g: wires.control,
         high: stored.control.is_plain,
-        outputs: names(alloc, pins, Role::Output)?,
-        ignored: others(alloc, pins, stored.data_pin, stored.control.name)?,
+        outputs: wires.outputs,
+        ignored: wires.ignored,
         setup: 0,
         hold: 0,
         has_hold: false,
@@ -80,12 +128,13 @@ fn latch(alloc: Global, pins: &[Pin], stored: &Stored) -> Result<Cell, OutOfMemo
 fn flop(alloc: Global, pins: &[Pin], stored: &Stored) -> Result<Cell, OutOfMemory>
     ensures { IfOk result (λ cell. cell ≡ flop_by (pins_seen pins.now) ((stored.now.control.name.now, stored.now.control.is_plain), stored.now.data_pin.now)) }
 {
+    let wires = wires_of(alloc, pins, stored)?;
     Ok(Cell::Flop {
-        pin_d: Name::new(alloc, stored.data_pin)?,
-        pin_clock: Name::new(alloc, stored.control.name)?,
+        pin_d: wires.data,
+        pin_clock: wires.control,
         rising: stored.control.is_plain,
-        outputs: names(alloc, pins, Role::Output)?,
-        ignored: others(alloc, pins, stored.data_pin, stored.control.name)?,
+        outputs: wires.outputs,
+        ignored: wires.ignored,
         setup: 0,
         hold: 0,
         has_hold: false,
@@ -93,6 +142,36 @@ fn flop(alloc: Global, pins: &[Pin], stored: &Stored) -> Result<Cell, OutOfMemor
         cq_max: 0,
         width: 0,
     })
+}
+
+/// The latch of the statements in its group, None where it is passed over.
+fn latch_of(
+    alloc: Global,
+    pins: &[Pin],
+    inside: &Reader,
+    room: u32,
+) -> Result<Option<Cell>, OutOfMemory>
+    ensures { IfOk result (λ o. o ≡ option_map (latch_by (pins_seen pins.now)) (stores (pins_seen pins.now) (codes "enable") (codes "data_in") (front room inside.now).statements)) }
+{
+    match stores(alloc, pins, inside, b"enable", b"data_in", room)? {
+        Some(stored) => Ok(Some(latch(alloc, pins, &stored)?)),
+        None => Ok(None),
+    }
+}
+
+/// The flop of the statements in its group, None where it is passed over.
+fn flop_of(
+    alloc: Global,
+    pins: &[Pin],
+    inside: &Reader,
+    room: u32,
+) -> Result<Option<Cell>, OutOfMemory>
+    ensures { IfOk result (λ o. o ≡ option_map (flop_by (pins_seen pins.now)) (stores (pins_seen pins.now) (codes "clocked_on") (codes "next_state") (front room inside.now).statements)) }
+{
+    match stores(alloc, pins, inside, b"clocked_on", b"next_state", room)? {
+        Some(stored) => Ok(Some(flop(alloc, pins, &stored)?)),
+        None => Ok(None),
+    }
 }
 
 /// The cell of a group that keeps a state, None where it is passed over.
@@ -105,22 +184,9 @@ fn keeper(
     ensures { IfOk result (λ o. o ≡ keeper_by (pins_seen pins.now) (group_seen room group.now)) }
 {
     if group.name == b"latch".as_slice() {
-        match stores(alloc, pins, &group.inside, b"enable", b"data_in", room)? {
-            Some(stored) => Ok(Some(latch(alloc, pins, &stored)?)),
-            None => Ok(None),
-        }
+        latch_of(alloc, pins, &group.inside, room)
     } else if group.name == b"ff".as_slice() {
-        match stores(
-            alloc,
-            pins,
-            &group.inside,
-            b"clocked_on",
-            b"next_state",
-            room,
-        )? {
-            Some(stored) => Ok(Some(flop(alloc, pins, &stored)?)),
-            None => Ok(None),
-        }
+        flop_of(alloc, pins, &group.inside, room)
     } else {
         Ok(None)
     }
@@ -142,11 +208,13 @@ fn clock(alloc: Global, pins: &[Pin]) -> Result<Option<Cell>, OutOfMemory>
     if function.name != input.name {
         return Ok(None);
     }
+    let ignored = others(alloc, pins, input.name, input.name)?;
+    let (input, output) = two_names(alloc, input.name, output.name)?;
     Ok(Some(Cell::Clock {
-        input: Name::new(alloc, input.name)?,
-        output: Name::new(alloc, output.name)?,
+        input,
+        output,
         invert: !function.is_plain,
-        ignored: others(alloc, pins, input.name, input.name)?,
+        ignored,
     }))
 }
 

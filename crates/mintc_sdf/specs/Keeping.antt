@@ -1,5 +1,5 @@
 -- What is kept while a text is read: claims, cells and entries.
-use Rattle.std.specs.Prelude.{◌≡◌, ℕ, true, List, [], ◌∷◌, map, Option, Some, None, Result, Ok, Err}
+use Rattle.std.specs.Prelude.{◌≡◌, ℕ, true, List, [], ◌∷◌, map, Option, Some, None, option_map, Result, Ok, Err}
 use Rattle.mintc_decimal.specs.Decimals.{Number}
 use Rattle.mintc_sdf.specs.declared.delays.Subject.{Subject}
 use Rattle.mintc_sdf.specs.declared.delays.Subject.TheVariants as subject
@@ -7,8 +7,8 @@ use Rattle.mintc_sdf.specs.declared.numbers.Sum.{Sum}
 use Rattle.mintc_sdf.specs.declared.found.Context.{Context}
 use Rattle.mintc_sdf.specs.declared.texts.State.{State}
 use Rattle.mintc_sdflex.specs.Tokens.{Token}
-use Rattle.mintc_sdflex.specs.Items.{items, after}
-use Rattle.mintc_sdf.specs.Forms.{Claim, claim, Cell, settings}
+use Rattle.mintc_sdflex.specs.Items.{Items, items, after}
+use Rattle.mintc_sdf.specs.Forms.{Claim, claim, two_ports, lone_value, Cell, settings}
 use Rattle.mintc_sdf.specs.Texts.{Said, said_by, Progress, may_be_negative, entries, whole, is_end}
 use Rattle.mintc_sdf.specs.Sums.{no_numbers, added}
 use Rattle.mintc_sdf.specs.Finding.{Finding, nothing_found, keep_one, keep, said}
@@ -16,6 +16,10 @@ use Rattle.mintc_sdf.specs.Finding.{Finding, nothing_found, keep_one, keep, said
 -- A form gives a claim of this subject, whose numbers were taken in, and this is left.
 abbrev pub IsClaim : ℕ → Option (Claim × List Token) → Subject → Sum → List Token → Type 0
 IsClaim scale o subject sum rest = (ns : List Number) × (o ≡ Some (claim subject ns, rest)) × (sum ≡ added scale (may_be_negative subject) no_numbers ns)
+
+-- two ports and a value, which say this of the first port
+abbrev pub pin_claim : (List ℕ → Subject) → Items → Option Claim
+pin_claim s is = two_ports (λ pin rest. option_map (claim (s pin)) (lone_value rest)) is
 
 -- The form gives a setup and a hold of this pin, whose numbers were taken in.
 abbrev pub IsBoth : ℕ → Option (List Claim × List Token) → List ℕ → Sum → Sum → List Token → Type 0

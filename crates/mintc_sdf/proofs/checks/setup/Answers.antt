@@ -1,17 +1,17 @@
-use Rattle.std.proofs.Common.{true, ap, ◌∙◌, sym, option_map}
-use Rattle.std.proofs.lemmas.Bool.{MatchBool-at_true}
-use Rattle.std.proofs.lemmas.Option.{MatchOption-at_some}
+use Rattle.std.proofs.Common.{◌≡◌, true, List, ℕ, None, refl}
+use Rattle.std.proofs.lemmas.Option.{MatchOption-at_some, MatchOption-at_none}
+use Rattle.mintc_sdf.specs.declared.delays.Subject.{Subject}
 use Rattle.mintc_sdf.specs.declared.delays.Subject.TheVariants as subject
-use Rattle.mintc_sdf.specs.Forms.{claim, lone_value, setup}
 use Rattle.mintc_sdflex.specs.Reading.{inside}
-use Rattle.mintc_sdf.specs.Sums.{summed}
-use Rattle.mintc_sdf.proofs.ClaimLaws.{Ports, claim-some, ports-go}
+use Rattle.mintc_sdf.specs.Texts.{may_be_negative}
+use Rattle.mintc_sdf.specs.Keeping.{pin_claim, IsClaim}
 use Rattle.mintc_sdf.proofs.checks.setup.Goals as goal
 
-pub returns-clause-some : goal.returns-clause-some
-returns-clause-some c =
-    let first = MatchOption-at_some _ (Ports c.args.reader.now c.port.new.reader) c.in-Some.pin c.in-Some.is c.in_ok-pin.ensures.some in
-    let second = MatchOption-at_some _ (Ports c.port.new.reader c.port-2.new.reader) c.in-Some-2._edge c.in-Some-2.is c.in_ok-_edge.ensures.some in
-    claim-some c.args.scale (subject.Setup c.in-Some.pin) c.lone_value.new.sum lone_value (inside setup c.args.reader.now) c.port-2.new.reader c.lone_value.new.reader
-    (ports-go (λ pin is. option_map (claim (subject.Setup pin)) (lone_value is)) c.args.reader.now c.port.new.reader c.port-2.new.reader c.in-Some.pin c.in-Some-2._edge first second)
-    (ap (λ s. summed c.args.scale true s (inside lone_value c.port-2.new.reader)) (sym c.no_numbers-sum.ensures) ∙ MatchBool-at_true _ _ c.if-not-branch.false c.in_ok-lone_value.ensures)
+pub returns-in-Some-clause-some : goal.returns-in-Some-clause-some
+returns-in-Some-clause-some c =
+    MatchOption-at_some _ (λ r. (s : List ℕ → Subject) → may_be_negative (s r.0) ≡ true → IsClaim c.args.scale (inside (pin_claim s) c.args.reader.now) (s r.0) r.1 c.pin_and_sum.new.reader)
+    (c.in-Some.pin, c.in-Some.sum) c.in-Some.is c.in_ok-pin.ensures.some subject.Setup refl
+
+pub returns-in-None-clause-none : goal.returns-in-None-clause-none
+returns-in-None-clause-none c =
+    MatchOption-at_none ((s : List ℕ → Subject) → inside (pin_claim s) c.args.reader.now ≡ None) _ c.in-None.is c.in_ok-pin.ensures.none subject.Setup
