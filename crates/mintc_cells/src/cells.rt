@@ -32,9 +32,6 @@ impl Model for Cells {
         × AreKept (map (λ e. (e.0.items, e.1)) c.entries.entries) };
 }
 
-/// Lets a cell go.
-fn discard(_cell: Option<Cell>) {}
-
 /// Puts a cell under a name.
 fn put(
     alloc: Global,
@@ -45,7 +42,7 @@ fn put(
     ensures { OnOk result ((key : Vec ℕ Global) × (key.items ≡ name.now) × (map.new.entries ≡ insert_entry (λ x y. pointwise nat_eq x.items y.items) map.old.entries key cell)) }
 {
     let bytes = Vec::from_slice(alloc, name.bytes())?;
-    discard(map.insert(bytes, cell)?);
+    drop(map.insert(bytes, cell)?);
     Ok(())
 }
 
