@@ -3,7 +3,7 @@
 use mintc_certificate::{Certificate, Member, read, write};
 use mintc_text::{Refusal, Role, Stop};
 use mintc_worked::TWO_CERTIFICATE;
-use std::alloc::Global;
+use std::alloc::{AllocError, Global};
 use std::process::Abort;
 use std::test::Fail;
 
@@ -41,7 +41,7 @@ fn fault(alloc: Global, text: &[u8]) -> u32 {
 }
 
 /// A certificate without a schedule of so many members.
-fn members(alloc: Global, count: u32) -> Result<String, Fail> {
+fn members(alloc: Global, count: u32) -> Result<String, AllocError> {
     let mut text = format!(in alloc; "certificate 2\nnever\nchain {count}\n")?;
     for _ in 0..count {
         text.push_str("start 1\n")?;

@@ -8,18 +8,24 @@ use mintc_cells::{Cell, Cells, read_cells};
 use mintc_conversion::toml_form;
 use mintc_liberty::read_liberty;
 use mintc_text::{Refusal, Role, Stop};
-use std::alloc::Global;
+use std::alloc::{AllocError, Global};
 use std::process::Abort;
 use std::test::Fail;
 
+/// Adds a cell's name, its text and an end.
+fn push_cell(text: &mut String, name: &str, cell: &str) -> Result<(), AllocError> {
+    text.push_str(name)?;
+    text.push_str(" ")?;
+    text.push_str(cell)?;
+    text.push_str(";")
+}
+
 /// The cells, each with its name and an end.
-fn cells_text(alloc: Global, cells: &Cells) -> Result<String, Fail> {
+fn cells_text(alloc: Global, cells: &Cells) -> Result<String, AllocError> {
     let mut text = String::new(alloc);
     for number in 0..cells.count() {
-        text.push_str(shown(cells.name(number))?)?;
-        text.push_str(" ")?;
-        text.push_str(cell_text(alloc, cells.cell(number))?.as_str())?;
-        text.push_str(";")?;
+        let cell = cell_text(alloc, cells.cell(number))?;
+        push_cell(&mut text, shown(cells.name(number)), &cell)?;
     }
     Ok(text)
 }
@@ -28,7 +34,7 @@ fn cells_text(alloc: Global, cells: &Cells) -> Result<String, Fail> {
 fn read(rt: &impl Abort, alloc: Global, text: &[u8]) -> Result<String, Fail> {
     assert!(rt; text.len() < 60_000_000);
     match read_liberty(alloc, text) {
-        Ok(cells) => cells_text(alloc, &cells),
+        Ok(cells) => Ok(cells_text(alloc, &cells)?),
         Err(
             Stop::Refused(
                 Refusal::Syntax {
@@ -113,7 +119,7 @@ fn repeated(
     piece: &[u8],
     count: usize,
     tail: &[u8],
-) -> Result<Vec<u8>, Fail> {
+) -> Result<Vec<u8>, AllocError> {
     let mut text = Vec::new(alloc);
     text.extend_from_slice(head)?;
     for _ in 0..count {
@@ -160,12 +166,9 @@ fn long_values(rt: HostRuntime) -> Result<(), Fail> {
 }
 
 /// The cells of a description.
-fn described(rt: &impl Abort, alloc: Global, text: &[u8]) -> Result<Cells, Fail> {
+fn described(rt: &impl Abort, alloc: Global, text: &[u8]) -> Option<Cells> {
     assert!(rt; text.len() < 60_000_000);
-    match read_cells(alloc, text) {
-        Ok(cells) => Ok(cells),
-        Err(_) => Err("no cells")?,
-    }
+    read_cells(alloc, text).ok()
 }
 
 /// Both cells have the same numbers.
@@ -174,18 +177,20 @@ fn have_equal_numbers(
     alloc: Global,
     cell: &Cell,
     back: &Cell,
-) -> Result<(), Fail> {
+) -> Result<(), AllocError> {
     let wanted = numbers_text(alloc, cell)?;
     let found = numbers_text(alloc, back)?;
     assert!(rt; wanted.as_str() == found.as_str(), "{found}");
     Ok(())
 }
 
-/// Both have the same cells.
-fn are_alike(rt: &impl Abort, alloc: Global, cells: &Cells, back: &Cells) -> Result<(), Fail> {
-    let wanted = cells_text(alloc, cells)?;
-    let found = cells_text(alloc, back)?;
-    assert!(rt; wanted.as_str() == found.as_str(), "{found}");
+/// The cells of both have the same numbers.
+fn have_all_equal_numbers(
+    rt: &impl Abort,
+    alloc: Global,
+    cells: &Cells,
+    back: &Cells,
+) -> Result<(), AllocError> {
     for number in 0..cells.count() {
         assert!(rt; number < back.count());
         have_equal_numbers(rt, alloc, cells.cell(number), back.cell(number))?;
@@ -193,11 +198,36 @@ fn are_alike(rt: &impl Abort, alloc: Global, cells: &Cells, back: &Cells) -> Res
     Ok(())
 }
 
+/// Both have the same cells.
+fn are_alike(
+    rt: &impl Abort,
+    alloc: Global,
+    cells: &Cells,
+    back: &Cells,
+) -> Result<(), AllocError> {
+    let wanted = cells_text(alloc, cells)?;
+    let found = cells_text(alloc, back)?;
+    assert!(rt; wanted.as_str() == found.as_str(), "{found}");
+    have_all_equal_numbers(rt, alloc, cells, back)
+}
+
+/// What the form of cells is read as.
+fn read_back(rt: &impl Abort, alloc: Global, cells: &Cells) -> Option<Cells> {
+    let form = toml_form(alloc, cells).ok()?;
+    described(rt, alloc, &form)
+}
+
+/// The form of cells is read as these very cells.
+fn are_read_back(rt: &impl Abort, alloc: Global, cells: &Cells) -> Result<(), Fail> {
+    let back = read_back(rt, alloc, cells).ok_or("no cells")?;
+    are_alike(rt, alloc, cells, &back)?;
+    Ok(())
+}
+
 /// The form of a description's cells is read as these very cells.
 fn comes_back(rt: &impl Abort, alloc: Global, text: &[u8]) -> Result<(), Fail> {
-    let cells = described(rt, alloc, text)?;
-    let back = described(rt, alloc, &toml_form(alloc, &cells)?)?;
-    are_alike(rt, alloc, &cells, &back)
+    let cells = described(rt, alloc, text).ok_or("no cells")?;
+    are_read_back(rt, alloc, &cells)
 }
 
 #[test]

@@ -3,12 +3,12 @@
 use mintc_sdf::{Delay, Place, Subject, read_delays};
 use mintc_text::{Name, Refusal, Role, Stop};
 use mintc_worked::TWO_DELAYS;
-use std::alloc::Global;
+use std::alloc::{AllocError, Global};
 use std::process::Abort;
 use std::test::Fail;
 
 /// Adds a word and its names.
-fn add_names(out: &mut Vec<u8>, word: &[u8], names: &[Name]) -> Result<(), Fail> {
+fn add_names(out: &mut Vec<u8>, word: &[u8], names: &[Name]) -> Result<(), AllocError> {
     out.extend_from_slice(word)?;
     for name in names {
         out.push(b' ')?;
@@ -18,14 +18,14 @@ fn add_names(out: &mut Vec<u8>, word: &[u8], names: &[Name]) -> Result<(), Fail>
 }
 
 /// Adds a word and a pin.
-fn add_pin(out: &mut Vec<u8>, word: &[u8], pin: &Name) -> Result<(), Fail> {
+fn add_pin(out: &mut Vec<u8>, word: &[u8], pin: &Name) -> Result<(), AllocError> {
     out.extend_from_slice(word)?;
     out.extend_from_slice(pin.bytes())?;
     Ok(())
 }
 
 /// Adds where a delay is.
-fn add_place(out: &mut Vec<u8>, place: &Place) -> Result<(), Fail> {
+fn add_place(out: &mut Vec<u8>, place: &Place) -> Result<(), AllocError> {
     match place {
         Place::Top => add_names(out, b" top", &[]),
         Place::Every => add_names(out, b" every", &[]),
@@ -34,7 +34,7 @@ fn add_place(out: &mut Vec<u8>, place: &Place) -> Result<(), Fail> {
 }
 
 /// Adds what a delay is of.
-fn add_subject(out: &mut Vec<u8>, delay: &Delay) -> Result<(), Fail> {
+fn add_subject(out: &mut Vec<u8>, delay: &Delay) -> Result<(), AllocError> {
     match &delay.subject {
         Subject::Iopath { from, to } => {
             add_pin(out, b" from ", from)?;
@@ -52,7 +52,7 @@ fn add_subject(out: &mut Vec<u8>, delay: &Delay) -> Result<(), Fail> {
 }
 
 /// Adds a line that a delay is.
-fn add_delay(out: &mut Vec<u8>, alloc: Global, delay: &Delay) -> Result<(), Fail> {
+fn add_delay(out: &mut Vec<u8>, alloc: Global, delay: &Delay) -> Result<(), AllocError> {
     let Delay {
         entry,
         least,
@@ -68,7 +68,7 @@ fn add_delay(out: &mut Vec<u8>, alloc: Global, delay: &Delay) -> Result<(), Fail
 }
 
 /// Delays with a stroke between them.
-fn delays_text(alloc: Global, delays: &[Delay]) -> Result<Vec<u8>, Fail> {
+fn delays_text(alloc: Global, delays: &[Delay]) -> Result<Vec<u8>, AllocError> {
     let mut out = Vec::new(alloc);
     for delay in delays {
         if !out.is_empty() {
@@ -80,7 +80,7 @@ fn delays_text(alloc: Global, delays: &[Delay]) -> Result<Vec<u8>, Fail> {
 }
 
 /// Why there are no delays: a word and an entry.
-fn stop_text(alloc: Global, stop: &Stop) -> Result<Vec<u8>, Fail> {
+fn stop_text(alloc: Global, stop: &Stop) -> Result<Vec<u8>, AllocError> {
     let (word, entry) = match stop {
         Stop::Refused(
             Refusal::Syntax {
@@ -96,7 +96,7 @@ fn stop_text(alloc: Global, stop: &Stop) -> Result<Vec<u8>, Fail> {
 }
 
 /// What a text gives: its delays with a stroke between them, or its refusal.
-fn answer(alloc: Global, text: &[u8]) -> Result<Vec<u8>, Fail> {
+fn answer(alloc: Global, text: &[u8]) -> Result<Vec<u8>, AllocError> {
     if text.len() > 67_108_864 {
         return Ok(Vec::new(alloc));
     }
@@ -107,19 +107,19 @@ fn answer(alloc: Global, text: &[u8]) -> Result<Vec<u8>, Fail> {
 }
 
 /// A text gives what is wanted.
-fn is_answered(rt: &impl Abort, alloc: Global, text: &str, wanted: &str) -> Result<(), Fail> {
+fn is_answered(rt: &impl Abort, alloc: Global, text: &str, wanted: &str) -> Result<(), AllocError> {
     let found = answer(alloc, text.as_bytes())?;
     assert!(rt; found.as_slice() == wanted.as_bytes(), "{text}");
     Ok(())
 }
 
 /// A file with one CELL of a leaf, its second entry, in femtoseconds.
-fn leaf(alloc: Global, parts: &str) -> Result<String, Fail> {
-    Ok(format!(in alloc; "(DELAYFILE(TIMESCALE 1 fs)(CELL(CELLTYPE \"C\")(INSTANCE i){parts}))")?)
+fn leaf(alloc: Global, parts: &str) -> Result<String, AllocError> {
+    format!(in alloc; "(DELAYFILE(TIMESCALE 1 fs)(CELL(CELLTYPE \"C\")(INSTANCE i){parts}))")
 }
 
 /// A file with one definition.
-fn definition(alloc: Global, text: &str) -> Result<String, Fail> {
+fn definition(alloc: Global, text: &str) -> Result<String, AllocError> {
     leaf(
         alloc,
         format!(in alloc; "(DELAY(ABSOLUTE {text}))")?.as_str(),
@@ -344,7 +344,8 @@ fn conditions_nest(rt: HostRuntime) -> Result<(), Fail> {
         text.push_str("))")?;
     }
     let text = definition(alloc, text.as_str())?;
-    is_answered(&rt, alloc, text.as_str(), "2 C at i port d 1 1")
+    is_answered(&rt, alloc, text.as_str(), "2 C at i port d 1 1")?;
+    Ok(())
 }
 
 #[test]

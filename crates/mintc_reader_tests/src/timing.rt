@@ -4,7 +4,7 @@ use mintc_lines::{read_schedule, read_table};
 use mintc_text::{Kind, Refusal, Role, Stop};
 use mintc_timing::{Element, Flat, TimingArc};
 use mintc_worked::{TWO_ENABLED, TWO_FLOPS, TWO_LATCHES, TWO_SCHEDULE};
-use std::alloc::Global;
+use std::alloc::{AllocError, Global};
 use std::process::Abort;
 use std::test::Fail;
 
@@ -66,7 +66,7 @@ fn add_rows(
     head: &str,
     count: u32,
     row: &str,
-) -> Result<(), Fail> {
+) -> Result<(), AllocError> {
     text.push_str(&format!(in alloc; "{head} {count}\n")?)?;
     for _ in 0..count {
         text.push_str(row)?;
@@ -75,7 +75,7 @@ fn add_rows(
 }
 
 /// A table with so many phases, elements and bounds.
-fn table_of(alloc: Global, phases: u32, elements: u32, bounds: u32) -> Result<String, Fail> {
+fn table_of(alloc: Global, phases: u32, elements: u32, bounds: u32) -> Result<String, AllocError> {
     let mut text = String::new(alloc);
     let element = "element e 1 0 - 0 0 0\n";
     add_rows(&mut text, alloc, "table 1\nphases", phases, "phase p\n")?;
