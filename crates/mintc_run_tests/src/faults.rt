@@ -1,5 +1,5 @@
 //! Reads and writes that fail.
-use super::files::FILES;
+use super::files::files;
 use super::harness::{is_answered, run_on, run_over, shelf_of, succeeds};
 use super::rows::CHECK;
 use mintc_command::Status;
@@ -55,13 +55,8 @@ fn is_read(alloc: Global, shelf: &mut MemoryShelf) -> bool {
 
 /// A read is made to fail, and so is the one after the next. The shelf's next calls have the numbers after the one that failed:
 /// so no read was made after it.
-fn read_fails(
-    rt: &impl Abort,
-    alloc: Global,
-    words: &str,
-    number: u32,
-) -> Result<(), OutOfMemory> {
-    let mut shelf = shelf_of(alloc, FILES, &[number, number.saturating_add(2)])?;
+fn read_fails(rt: &impl Abort, alloc: Global, words: &str, number: u32) -> Result<(), OutOfMemory> {
+    let mut shelf = shelf_of(alloc, files(), &[number, number.saturating_add(2)])?;
     let wanted = (Status::ReadFault, b"".as_slice());
     is_answered(rt, alloc, &mut shelf, words, None, wanted);
     assert!(rt;
@@ -100,7 +95,7 @@ fn write_fails(rt: &impl Abort, alloc: Global, shelf: &mut MemoryShelf, words: &
 
 /// The write of a run is made to fail after each number of bytes.
 fn write_of_run_fails(rt: &impl Abort, alloc: Global, words: &str) -> Result<(), OutOfMemory> {
-    let mut shelf = shelf_of(alloc, FILES, &[])?;
+    let mut shelf = shelf_of(alloc, files(), &[])?;
     let (_, text) = run_over(alloc, &mut shelf, words, None)?;
     write_fails(rt, alloc, &mut shelf, words, text.as_slice());
     Ok(())
@@ -138,7 +133,7 @@ fn answers_again(
     number: u32,
     answer: &[u8],
 ) -> Result<(), OutOfMemory> {
-    let mut shelf = shelf_of(alloc, FILES, &[number])?;
+    let mut shelf = shelf_of(alloc, files(), &[number])?;
     let (failed, _) = run_over(alloc, &mut shelf, words, None)?;
     assert!(rt; failed == Status::ReadFault, "{words}");
     succeeds(rt, alloc, &mut shelf, words, answer);
@@ -162,7 +157,7 @@ fn the_next_call_answers(
 /// Each run is made again after each of its reads failed.
 fn each_next_call_answers(rt: &impl Abort, alloc: Global, runs: &[Run]) -> Result<(), OutOfMemory> {
     for run in runs {
-        let (_, text) = run_on(alloc, FILES, run.0)?;
+        let (_, text) = run_on(alloc, files(), run.0)?;
         the_next_call_answers(rt, alloc, run, text.as_slice())?;
     }
     Ok(())

@@ -129,7 +129,10 @@ pub fn is_answered(
     failing_write: Option<(u32, usize)>,
     wanted: (Status, &[u8]),
 ) {
-    assert!(rt; has_answer(alloc, shelf, line, failing_write, wanted), "{line}");
+    assert!(rt;
+        has_answer(alloc, shelf, line, failing_write, wanted),
+        "{line}"
+    );
 }
 
 /// A run over this shelf succeeds with this text.

@@ -121,11 +121,7 @@ fn many_flops(alloc: Global, count: usize) -> Result<String, AllocError> {
 }
 
 /// What is answered for two corners of a netlist, the second with these delays.
-fn answered(
-    alloc: Global,
-    netlist: &str,
-    second: &str,
-) -> Result<(Status, Vec<u8>), OutOfMemory> {
+fn answered(alloc: Global, netlist: &str, second: &str) -> Result<(Status, Vec<u8>), OutOfMemory> {
     let files = [
         ("many.v", netlist),
         ("pair.cells", PAIR_CELLS),

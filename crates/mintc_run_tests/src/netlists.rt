@@ -1,5 +1,5 @@
 //! Runs on files: netlists that are refused, in which order bits are joined, and the limits.
-use super::harness::{push_text, run_on};
+use super::harness::{Held, hold, push_text, run_over, sound_shelf};
 use mintc_command::Status;
 use mintc_text::OutOfMemory;
 use mintc_worked::TWO_CELLS;
@@ -10,6 +10,16 @@ use std::test::Fail;
 /// One phase on the port `c`.
 const CLOCK: &str = "[[phase]]\nname = \"p\"\nport = \"c\"\n";
 
+/// A netlist `v`, delays `d`, cells `c` and a clock `k` for a shelf.
+fn held(alloc: Global, netlist: &str, delays: &str, clock: &str) -> Result<Held, OutOfMemory> {
+    let mut held = Vec::new(alloc);
+    hold(alloc, &mut held, "v", netlist.as_bytes())?;
+    hold(alloc, &mut held, "d", delays.as_bytes())?;
+    hold(alloc, &mut held, "c", TWO_CELLS.as_bytes())?;
+    hold(alloc, &mut held, "k", clock.as_bytes())?;
+    Ok(held)
+}
+
 /// A run with these words on a netlist `v` with these delays `d`, cells `c`, and this clock `k`.
 fn answered(
     alloc: Global,
@@ -18,8 +28,8 @@ fn answered(
     delays: &str,
     clock: &str,
 ) -> Result<(Status, Vec<u8>), OutOfMemory> {
-    let files = [("v", netlist), ("d", delays), ("c", TWO_CELLS), ("k", clock)];
-    run_on(alloc, &files, words)
+    let mut shelf = sound_shelf(alloc, held(alloc, netlist, delays, clock)?);
+    run_over(alloc, &mut shelf, words, None)
 }
 
 /// A run of `optimise` on these.
@@ -244,12 +254,7 @@ fn too_large_numbers(rt: HostRuntime) -> Result<(), Fail> {
 }
 
 /// The slacks of a netlist whose module of two latches is connected to this.
-fn has_slacks(
-    rt: &impl Abort,
-    alloc: Global,
-    expr: &str,
-    answer: &str,
-) -> Result<(), OutOfMemory> {
+fn has_slacks(rt: &impl Abort, alloc: Global, expr: &str, answer: &str) -> Result<(), OutOfMemory> {
     let netlist = format!(in alloc;
         "module t(c, x); input c; input [0:1] x; pair p (.c(c), .i({expr})); endmodule module pair(c, i); input c; input [1:0] i; LAT a (.D(i[1]), .G(c)); LAT b (.D(i[0]), .G(c)); endmodule"
     )?;

@@ -72,13 +72,23 @@ fn is_valid(
     Ok(())
 }
 
+/// The optimum of a sample's files is valid.
+fn optimum_is_valid(
+    rt: &impl Abort,
+    alloc: Global,
+    sample: &SampleFiles,
+) -> Result<(), OutOfMemory> {
+    let found = optimum(alloc, sample)?;
+    is_valid(rt, alloc, sample, found.as_slice())
+}
+
 // Row verify-sample-seven.
 #[test]
-fn the_optimum_of_a_sample_is_valid(rt: HostRuntime) -> Result<(), Fail> {
-    let sample = mintc_sample::files(rt.alloc(), 7)?;
-    let found = optimum(rt.alloc(), &sample)?;
-    is_valid(&rt, rt.alloc(), &sample, found.as_slice())?;
-    Ok(())
+fn the_optimum_of_a_sample_is_valid(rt: HostRuntime) {
+    match mintc_sample::files(rt.alloc(), 7) {
+        Ok(sample) => assert!(rt; optimum_is_valid(&rt, rt.alloc(), &sample).is_ok()),
+        Err(_) => panic!(rt; "no memory"),
+    }
 }
 
 /// The worked files, and how the answer begins where one of them is cut: delays are out of form until they are whole, and of the

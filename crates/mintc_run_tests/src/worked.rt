@@ -1,5 +1,5 @@
 //! The worked rows.
-use super::files::{CERTIFICATES, CORNER_FILES, Edit, FILES, FURTHER_FILES, LIBRARIES};
+use super::files::{CERTIFICATES, CORNER_FILES, Edit, FURTHER_FILES, LIBRARIES, files};
 use super::harness::{bytes_shelf, is_answered, run_on, shelf_of, succeeds};
 use super::rows::{FURTHER, OVER_CORNERS, OVER_FILES, OVER_LIBRARIES, ROWS, Row};
 use mintc_command::Status;
@@ -34,7 +34,7 @@ fn rows_are_answered(rt: &impl Abort, alloc: Global, files: &[(&str, &str)], row
 
 #[test]
 fn worked_rows(rt: HostRuntime) {
-    rows_are_answered(&rt, rt.alloc(), FILES, ROWS);
+    rows_are_answered(&rt, rt.alloc(), files(), ROWS);
 }
 
 #[test]
@@ -54,7 +54,7 @@ fn rows_over_corners(rt: HostRuntime) {
 
 #[test]
 fn rows_over_files(rt: HostRuntime) {
-    rows_are_answered(&rt, rt.alloc(), FILES, OVER_FILES);
+    rows_are_answered(&rt, rt.alloc(), files(), OVER_FILES);
 }
 
 /// The status with which `verify` gives this answer.
@@ -128,7 +128,7 @@ fn optimum_is_valid(rt: &impl Abort, alloc: Global, table: &str) -> Result<(), O
 // What `optimise` writes is what `verify` calls valid.
 #[test]
 fn optima_are_valid(rt: HostRuntime) -> Result<(), Fail> {
-    for (_, text) in FILES {
+    for (_, text) in files() {
         optimum_is_valid(&rt, rt.alloc(), text)?;
     }
     Ok(())
