@@ -298,7 +298,12 @@ fn add_bounds(text: &mut String, alloc: Global, bounds: &[Bound]) -> Result<(), 
 }
 
 /// Adds the listed ports of a list.
-fn add_listed(text: &mut String, alloc: Global, word: &str, list: &[Listed]) -> Result<(), AllocError> {
+fn add_listed(
+    text: &mut String,
+    alloc: Global,
+    word: &str,
+    list: &[Listed],
+) -> Result<(), AllocError> {
     for listed in list {
         push_row(text, listed_text(alloc, word, listed))?;
     }

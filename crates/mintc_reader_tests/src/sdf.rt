@@ -126,6 +126,28 @@ fn definition(alloc: Global, text: &str) -> Result<String, AllocError> {
     )
 }
 
+/// A file with one CELL of a leaf with these parts gives what is wanted.
+fn leaf_is_answered(
+    rt: &impl Abort,
+    alloc: Global,
+    parts: &str,
+    wanted: &str,
+) -> Result<(), AllocError> {
+    let text = leaf(alloc, parts)?;
+    is_answered(rt, alloc, text.as_str(), wanted)
+}
+
+/// A file with one definition gives what is wanted.
+fn definition_is_answered(
+    rt: &impl Abort,
+    alloc: Global,
+    defined: &str,
+    wanted: &str,
+) -> Result<(), AllocError> {
+    let text = definition(alloc, defined)?;
+    is_answered(rt, alloc, text.as_str(), wanted)
+}
+
 #[test]
 fn reads_whole_files(rt: HostRuntime) -> Result<(), Fail> {
     let alloc = rt.alloc();
@@ -199,6 +221,27 @@ fn reads_whole_files(rt: HostRuntime) -> Result<(), Fail> {
     Ok(())
 }
 
+/// What a cut of the worked delays gives: as the whole where the last byte alone is cut, else a fault at this entry.
+fn cut_wanted(alloc: Global, is_last: bool, entry: u32) -> Result<Vec<u8>, AllocError> {
+    if is_last {
+        answer(alloc, TWO_DELAYS.as_bytes())
+    } else {
+        Ok(format!(in alloc; "syntax {entry}")?.into_bytes())
+    }
+}
+
+/// Whether a cut of the worked delays gives what is wanted.
+fn is_cut_answered(
+    alloc: Global,
+    cut: &[u8],
+    is_last: bool,
+    entry: u32,
+) -> Result<bool, AllocError> {
+    let wanted = cut_wanted(alloc, is_last, entry)?;
+    let found = answer(alloc, cut)?;
+    Ok(found.as_slice() == wanted.as_slice())
+}
+
 #[test]
 fn a_cut_text_has_its_fault_at_the_cut(rt: HostRuntime) -> Result<(), Fail> {
     let alloc = rt.alloc();
@@ -207,13 +250,9 @@ fn a_cut_text_has_its_fault_at_the_cut(rt: HostRuntime) -> Result<(), Fail> {
     let mut whole: u32 = 0;
     for (cut, byte) in text.iter().enumerate() {
         let entry = if cut < 10 { 0 } else { whole.saturating_add(1) };
-        let wanted = if cut + 1 == text.len() {
-            answer(alloc, text)?
-        } else {
-            Vec::from_slice(alloc, format!(in alloc; "syntax {entry}")?.as_bytes())?
-        };
+        let is_last = cut + 1 == text.len();
         assert!(rt;
-            answer(alloc, &text[..cut])?.as_slice() == wanted.as_slice(),
+            is_cut_answered(alloc, &text[..cut], is_last, entry)?,
             "{cut}"
         );
         if *byte == b'(' {
@@ -284,8 +323,7 @@ fn reads_definitions(rt: HostRuntime) -> Result<(), Fail> {
         ("(IOPATH A Y (-1) (1e10))", "negative 2"),
         ("(IOPATH A Y (-1)) (PORT p (x))", "syntax 2"),
     ] {
-        let text = definition(alloc, text)?;
-        is_answered(&rt, alloc, text.as_str(), wanted)?;
+        definition_is_answered(&rt, alloc, text, wanted)?;
     }
     Ok(())
 }
@@ -326,15 +364,13 @@ fn conditions_stand_for_their_last_item(rt: HostRuntime) -> Result<(), Fail> {
         ("(PORT (COND a (COND)) (1))", "syntax 2"),
         ("(PORT (CONDELSE d) (1))", "syntax 2"),
     ] {
-        let text = definition(alloc, text)?;
-        is_answered(&rt, alloc, text.as_str(), wanted)?;
+        definition_is_answered(&rt, alloc, text, wanted)?;
     }
     Ok(())
 }
 
-#[test]
-fn conditions_nest(rt: HostRuntime) -> Result<(), Fail> {
-    let alloc = rt.alloc();
+/// Conditions that nest, 400 deep.
+fn nested_conditions(alloc: Global) -> Result<String, AllocError> {
     let mut text = String::new(alloc);
     for _ in 0..200 {
         text.push_str("(COND a (CONDELSE ")?;
@@ -343,8 +379,14 @@ fn conditions_nest(rt: HostRuntime) -> Result<(), Fail> {
     for _ in 0..200 {
         text.push_str("))")?;
     }
-    let text = definition(alloc, text.as_str())?;
-    is_answered(&rt, alloc, text.as_str(), "2 C at i port d 1 1")?;
+    Ok(text)
+}
+
+#[test]
+fn conditions_nest(rt: HostRuntime) -> Result<(), Fail> {
+    let alloc = rt.alloc();
+    let text = nested_conditions(alloc)?;
+    definition_is_answered(&rt, alloc, text.as_str(), "2 C at i port d 1 1")?;
     Ok(())
 }
 
@@ -378,8 +420,7 @@ fn reads_checks_and_parts(rt: HostRuntime) -> Result<(), Fail> {
         ("(ABSOLUTE)", "syntax 2"),
         ("x", "syntax 2"),
     ] {
-        let text = leaf(alloc, text)?;
-        is_answered(&rt, alloc, text.as_str(), wanted)?;
+        leaf_is_answered(&rt, alloc, text, wanted)?;
     }
     Ok(())
 }

@@ -191,7 +191,7 @@ fn has_fault(
     old: &str,
     new: &str,
     line: u32,
-) -> Result<(), Fail> {
+) -> Result<(), AllocError> {
     let text = table.replacen(alloc, old, new, 1)?;
     assert!(rt; table_fault(alloc, text.as_bytes()) == line, "{new}");
     Ok(())
@@ -217,7 +217,8 @@ fn a_faulty_line_is_named(rt: HostRuntime) -> Result<(), Fail> {
     ] {
         has_fault(&rt, alloc, TWO_LATCHES, old, new, *line)?;
     }
-    has_fault(&rt, alloc, TWO_ENABLED, "1 latch", "1 flop", 6)
+    has_fault(&rt, alloc, TWO_ENABLED, "1 latch", "1 flop", 6)?;
+    Ok(())
 }
 
 #[test]
