@@ -32,10 +32,7 @@ pub fn push_elements(text: &mut String, elements: u32) -> Result<(), AllocError>
 /// Adds the inner bits and the arcs of a case.
 fn push_arcs(alloc: Global, text: &mut String, case: &Case) -> Result<(), AllocError> {
     let (inner, count) = (case.inner, case.arcs.len());
-    push_row(
-        text,
-        format!(in alloc; "inner {inner}\narcs {count}\n"),
-    )?;
+    push_row(text, format!(in alloc; "inner {inner}\narcs {count}\n"))?;
     for arc in case.arcs {
         push_row(text, format!(in alloc; "arc {arc}\n"))?;
     }

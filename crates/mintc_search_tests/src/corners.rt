@@ -110,9 +110,7 @@ const HOPELESS: Row = Row {
 fn systems_of(rt: &impl Abort, alloc: Global, row: &Row) -> Option<Vec<System>> {
     let mut systems = Vec::new(alloc);
     for table in row.tables {
-        systems
-            .push(system_of_text(rt, alloc, table).ok()?)
-            .ok()?;
+        systems.push(system_of_text(rt, alloc, table).ok()?).ok()?;
     }
     Some(systems)
 }

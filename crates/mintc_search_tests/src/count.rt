@@ -91,7 +91,11 @@ fn counted_crowd(rt: &impl Abort, alloc: Global, elements: usize) -> Result<u64,
 fn counted_as_listed(rt: &impl Abort, alloc: Global, case: &Case) -> Option<u64> {
     let text = text_of(alloc, case).ok()?;
     let count = counted(rt, alloc, &text).ok();
-    if count == listed(rt, alloc, &text) { count } else { None }
+    if count == listed(rt, alloc, &text) {
+        count
+    } else {
+        None
+    }
 }
 
 #[test]

@@ -58,7 +58,7 @@ fn stands_to(a: &Fraction, b: &Fraction, order: Ordering) -> bool
 fn has_product(a: &Fraction, by: i128, product: (i128, i128)) -> bool
     requires { IsModest a.now }
 {
-    by.unsigned_abs() <= 1_000_000_000_000 && has_value(&a.scale(by), product)
+    by.unsigned_abs() <= MOST_DEN.unsigned_abs() && has_value(&a.scale(by), product)
 }
 
 /// Whether a grid is in range, and a fraction has these neighbours on it.
@@ -83,8 +83,14 @@ fn give(rt: &impl Abort, a: &Fraction, b: &Fraction, case: &Case)
 {
     assert!(rt; stands_to(a, b, case.order), "{a} to {b}");
     assert!(rt; has_value(&a.add(b), case.sum), "{a} and {b}");
-    assert!(rt; has_product(a, case.by, case.product), "{a} times");
-    assert!(rt; has_neighbours(a, case.grid, case.floor, case.ceiling), "{a} at");
+    assert!(rt;
+        has_product(a, case.by, case.product),
+        "{a} times the factor"
+    );
+    assert!(rt;
+        has_neighbours(a, case.grid, case.floor, case.ceiling),
+        "{a} on the grid"
+    );
     assert!(rt; has_lowest(a, case.lowest), "{a} reduced");
 }
 
