@@ -7,7 +7,7 @@ use super::texts::{cell_text, numbers_text, shown};
 use cases::{CELLS, EXAMPLE, IGNORING, PINS, SAID, TEXTS};
 use mintc_cells::{Cell, Cells, read_cells};
 use mintc_text::{Refusal, Stop};
-use std::alloc::Global;
+use std::alloc::{AllocError, Global};
 use std::process::Abort;
 use std::test::Fail;
 
@@ -33,33 +33,47 @@ fn has_fault(rt: &impl Abort, alloc: Global, text: &str, want: Option<(u32, u32)
 }
 
 /// A cell on one line.
-fn line_of(alloc: Global, cell: &Cell) -> Result<String, Fail> {
+fn line_of(alloc: Global, cell: &Cell) -> Result<String, AllocError> {
     let pins = cell_text(alloc, cell)?;
     let numbers = numbers_text(alloc, cell)?;
     let between = if numbers.is_empty() { "" } else { " " };
-    Ok(format!(in alloc; "{pins}{between}{numbers}")?)
+    format!(in alloc; "{pins}{between}{numbers}")
+}
+
+/// Adds a cell's name and its line.
+fn push_cell(text: &mut String, name: &str, line: &str) -> Result<(), AllocError> {
+    text.push_str(name)?;
+    text.push_str(" ")?;
+    text.push_str(line)?;
+    text.push_str(";")
 }
 
 /// All cells, each with its name.
-fn cells_text(alloc: Global, cells: &Cells) -> Result<String, Fail> {
+fn cells_text(alloc: Global, cells: &Cells) -> Result<String, AllocError> {
     let mut text = String::new(alloc);
     for at in 0..cells.count() {
-        let name = shown(cells.name(at))?;
         let cell = line_of(alloc, cells.cell(at))?;
-        text.push_str(&format!(in alloc; "{name} {cell};")?)?;
+        push_cell(&mut text, shown(cells.name(at)), &cell)?;
     }
     Ok(text)
 }
 
 /// The pins of a cell in cell order, an output with a `>`.
-fn pins_text(alloc: Global, cells: &Cells, name: &[u8]) -> Result<String, Fail> {
-    let at = cells.find(name).ok_or("no cell")?;
-    if at >= cells.count() {
-        return Err("no cell")?;
-    }
+fn pins_text(alloc: Global, cells: &Cells, name: &[u8]) -> Result<String, AllocError> {
     let mut text = String::new(alloc);
+    if let Some(at) = cells.find(name) {
+        add_pins(&mut text, cells, at)?;
+    }
+    Ok(text)
+}
+
+/// Adds the pins of the cell at a place, where there is one.
+fn add_pins(text: &mut String, cells: &Cells, at: u32) -> Result<(), AllocError> {
+    if at >= cells.count() {
+        return Ok(());
+    }
     for number in 0..cells.pin_count(at) {
-        let pin = shown(cells.pin(at, number).bytes())?;
+        let pin = shown(cells.pin(at, number).bytes());
         text.push_str(if cells.is_output(at, number) {
             ">"
         } else {
@@ -67,13 +81,18 @@ fn pins_text(alloc: Global, cells: &Cells, name: &[u8]) -> Result<String, Fail> 
         })?;
         text.push_str(pin)?;
     }
-    Ok(text)
+    Ok(())
+}
+
+/// What the cells of a text are.
+fn said_of(rt: &impl Abort, alloc: Global, text: &str) -> Option<String> {
+    let cells = cells(rt, alloc, text)?;
+    cells_text(alloc, &cells).ok()
 }
 
 /// A text has cells that are these.
 fn has_cells(rt: &impl Abort, alloc: Global, text: &str, want: &str) -> Result<(), Fail> {
-    let cells = cells(rt, alloc, text).ok_or("refused")?;
-    let said = cells_text(alloc, &cells)?;
+    let said = said_of(rt, alloc, text).ok_or("refused")?;
     assert!(rt; said.as_str() == want, "{said}");
     Ok(())
 }
@@ -94,9 +113,17 @@ fn has_pins(
     cells: &Cells,
     name: &str,
     pins: &str,
-) -> Result<(), Fail> {
+) -> Result<(), AllocError> {
     let found = pins_text(alloc, cells, name.as_bytes())?;
     assert!(rt; found.as_str() == pins, "{name}: {found}");
+    Ok(())
+}
+
+/// The cells of the example have their pins.
+fn have_pins(rt: &impl Abort, alloc: Global, cells: &Cells) -> Result<(), AllocError> {
+    for (name, pins) in PINS {
+        has_pins(rt, alloc, cells, name, pins)?;
+    }
     Ok(())
 }
 
@@ -104,10 +131,20 @@ fn has_pins(
 #[test]
 fn pins_stand_in_order(rt: HostRuntime) -> Result<(), Fail> {
     let cells = cells(&rt, rt.alloc(), EXAMPLE).ok_or("refused")?;
-    for (name, pins) in PINS {
-        has_pins(&rt, rt.alloc(), &cells, name, pins)?;
-    }
+    have_pins(&rt, rt.alloc(), &cells)?;
     assert!(rt; cells.find(b"DLL") == Some(3) && cells.find(b"DLK").is_none());
+    Ok(())
+}
+
+/// A cell of these keys is refused for this entry and rule, or for none.
+fn cell_has_fault(
+    rt: &impl Abort,
+    alloc: Global,
+    keys: &str,
+    want: Option<(u32, u32)>,
+) -> Result<(), AllocError> {
+    let text = format!(in alloc; "[cell.X]\n{keys}")?;
+    has_fault(rt, alloc, text.as_str(), want);
     Ok(())
 }
 
@@ -119,14 +156,13 @@ fn rules_fail_in_order(rt: HostRuntime) -> Result<(), Fail> {
         has_fault(&rt, rt.alloc(), text, *want);
     }
     for (keys, rule) in CELLS {
-        let text = format!(in rt.alloc(); "[cell.X]\n{keys}")?;
-        has_fault(&rt, rt.alloc(), text.as_str(), rule.map(|rule| (1, rule)));
+        cell_has_fault(&rt, rt.alloc(), keys, rule.map(|rule| (1, rule)))?;
     }
     Ok(())
 }
 
 /// So many names of a list, each another one.
-fn list_text(alloc: Global, word: &str, count: u32) -> Result<String, Fail> {
+fn list_text(alloc: Global, word: &str, count: u32) -> Result<String, AllocError> {
     let mut text = format!(in alloc; "{word} = [")?;
     for number in 0..count {
         text.push_str(&format!(in alloc; "\"{word}{number}\",")?)?;
@@ -136,20 +172,20 @@ fn list_text(alloc: Global, word: &str, count: u32) -> Result<String, Fail> {
 }
 
 /// A gate with so many inputs and outputs.
-fn gate(alloc: Global, inputs: u32, outputs: u32) -> Result<String, Fail> {
+fn gate(alloc: Global, inputs: u32, outputs: u32) -> Result<String, AllocError> {
     let inputs = list_text(alloc, "inputs", inputs)?;
     let outputs = list_text(alloc, "outputs", outputs)?;
-    Ok(format!(in alloc; "[cell.X]\nkind = \"gate\"\n{inputs}{outputs}")?)
+    format!(in alloc; "[cell.X]\nkind = \"gate\"\n{inputs}{outputs}")
 }
 
 /// A cell with these keys and so many ignored pins.
-fn ignoring(alloc: Global, keys: &str, count: u32) -> Result<String, Fail> {
+fn ignoring(alloc: Global, keys: &str, count: u32) -> Result<String, AllocError> {
     let ignored = list_text(alloc, "ignored", count)?;
-    Ok(format!(in alloc; "[cell.X]\n{keys}{ignored}")?)
+    format!(in alloc; "[cell.X]\n{keys}{ignored}")
 }
 
 /// So many bytes of a name.
-fn long_name(alloc: Global, count: u32) -> Result<String, Fail> {
+fn long_name(alloc: Global, count: u32) -> Result<String, AllocError> {
     let mut name = String::new(alloc);
     for _ in 0..count {
         name.push_str("!")?;
@@ -158,15 +194,15 @@ fn long_name(alloc: Global, count: u32) -> Result<String, Fail> {
 }
 
 /// A cell whose name has so many bytes.
-fn named(alloc: Global, count: u32) -> Result<String, Fail> {
+fn named(alloc: Global, count: u32) -> Result<String, AllocError> {
     let name = long_name(alloc, count)?;
-    Ok(format!(in alloc; "[cell.\"{name}\"]\nkind = \"clock\"\ninput = \"a\"\noutput = \"y\"\n")?)
+    format!(in alloc; "[cell.\"{name}\"]\nkind = \"clock\"\ninput = \"a\"\noutput = \"y\"\n")
 }
 
 /// A cell with a pin whose name has so many bytes.
-fn with_pin(alloc: Global, count: u32) -> Result<String, Fail> {
+fn with_pin(alloc: Global, count: u32) -> Result<String, AllocError> {
     let name = long_name(alloc, count)?;
-    Ok(format!(in alloc; "[cell.X]\nkind = \"clock\"\ninput = \"a\"\noutput = \"{name}\"\n")?)
+    format!(in alloc; "[cell.X]\nkind = \"clock\"\ninput = \"a\"\noutput = \"{name}\"\n")
 }
 
 /// Lists of pins have their limits.

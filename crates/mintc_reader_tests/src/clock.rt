@@ -5,7 +5,7 @@ use mintc_clock::{Clock, Listed, PhaseDef, read_clock};
 use mintc_text::{Refusal, Stop};
 use mintc_timing::{Bound, Point};
 use mintc_worked::TWO_CLOCK;
-use std::alloc::Global;
+use std::alloc::{AllocError, Global};
 use std::process::Abort;
 use std::test::Fail;
 
@@ -244,87 +244,107 @@ fn has_fault(rt: &impl Abort, alloc: Global, text: &str, want: Option<(u32, u32)
 }
 
 /// A point in words.
-fn point_text(alloc: Global, point: &Point) -> Result<String, Fail> {
-    Ok(match point {
-        Point::Origin => format!(in alloc; "o")?,
-        Point::Start(phase) => format!(in alloc; "s{phase}")?,
-        Point::End(phase) => format!(in alloc; "e{phase}")?,
-    })
+fn point_text(alloc: Global, point: &Point) -> Result<String, AllocError> {
+    match point {
+        Point::Origin => format!(in alloc; "o"),
+        Point::Start(phase) => format!(in alloc; "s{phase}"),
+        Point::End(phase) => format!(in alloc; "e{phase}"),
+    }
 }
 
 /// A phase on one line.
-fn phase_text(alloc: Global, phase: &PhaseDef) -> Result<String, Fail> {
-    let name = shown(phase.name.bytes())?;
-    let port = shown(phase.port.bytes())?;
+fn phase_text(alloc: Global, phase: &PhaseDef) -> Result<String, AllocError> {
+    let name = shown(phase.name.bytes());
+    let port = shown(phase.port.bytes());
     let high = phase.high;
-    Ok(format!(in alloc; "phase {name} {port} {high};")?)
+    format!(in alloc; "phase {name} {port} {high};")
 }
 
 /// A bound on one line.
-fn bound_text(alloc: Global, bound: &Bound) -> Result<String, Fail> {
+fn bound_text(alloc: Global, bound: &Bound) -> Result<String, AllocError> {
     let from = point_text(alloc, &bound.from)?;
     let to = point_text(alloc, &bound.to)?;
     let (gap, cycles) = (bound.gap, bound.cycles);
-    Ok(format!(in alloc; "bound {from} {to} {gap} {cycles};")?)
+    format!(in alloc; "bound {from} {to} {gap} {cycles};")
 }
 
 /// A listed port on one line.
-fn listed_text(alloc: Global, word: &str, listed: &Listed) -> Result<String, Fail> {
-    let port = shown(listed.port.bytes())?;
+fn listed_text(alloc: Global, word: &str, listed: &Listed) -> Result<String, AllocError> {
+    let port = shown(listed.port.bytes());
     let (phase, min, max) = (listed.phase, listed.min, listed.max);
     let (setup, hold, has_hold) = (listed.setup, listed.hold, listed.has_hold);
-    Ok(format!(in alloc; "{word} {port} {phase} {min} {max} {setup} {hold} {has_hold};")?)
+    format!(in alloc; "{word} {port} {phase} {min} {max} {setup} {hold} {has_hold};")
+}
+
+/// Adds a row, where there was memory for it.
+fn push_row(text: &mut String, row: Result<String, AllocError>) -> Result<(), AllocError> {
+    text.push_str(&row?)
 }
 
 /// Adds phases.
-fn add_phases(text: &mut String, alloc: Global, phases: &[PhaseDef]) -> Result<(), Fail> {
+fn add_phases(text: &mut String, alloc: Global, phases: &[PhaseDef]) -> Result<(), AllocError> {
     for phase in phases {
-        text.push_str(&phase_text(alloc, phase)?)?;
+        push_row(text, phase_text(alloc, phase))?;
     }
     Ok(())
 }
 
 /// Adds bounds.
-fn add_bounds(text: &mut String, alloc: Global, bounds: &[Bound]) -> Result<(), Fail> {
+fn add_bounds(text: &mut String, alloc: Global, bounds: &[Bound]) -> Result<(), AllocError> {
     for bound in bounds {
-        text.push_str(&bound_text(alloc, bound)?)?;
+        push_row(text, bound_text(alloc, bound))?;
     }
     Ok(())
 }
 
 /// Adds the listed ports of a list.
-fn add_listed(text: &mut String, alloc: Global, word: &str, list: &[Listed]) -> Result<(), Fail> {
+fn add_listed(
+    text: &mut String,
+    alloc: Global,
+    word: &str,
+    list: &[Listed],
+) -> Result<(), AllocError> {
     for listed in list {
-        text.push_str(&listed_text(alloc, word, listed)?)?;
+        push_row(text, listed_text(alloc, word, listed))?;
     }
     Ok(())
 }
 
 /// The top of a clock, where it is named.
-fn top_text(alloc: Global, clock: &Clock) -> Result<String, Fail> {
+fn top_text(alloc: Global, clock: &Clock) -> Result<String, AllocError> {
     match &clock.top {
         Some(top) => {
-            let name = shown(top.bytes())?;
-            Ok(format!(in alloc; "top {name};")?)
+            let name = shown(top.bytes());
+            format!(in alloc; "top {name};")
         }
         None => Ok(String::new(alloc)),
     }
 }
 
+/// Adds all that a clock says but its top.
+fn add_parts(text: &mut String, alloc: Global, clock: &Clock) -> Result<(), AllocError> {
+    add_phases(text, alloc, clock.phases.items())?;
+    add_bounds(text, alloc, clock.bounds.items())?;
+    add_listed(text, alloc, "input", clock.inputs.items())?;
+    add_listed(text, alloc, "output", clock.outputs.items())
+}
+
 /// All that a clock says, on one line.
-fn clock_text(alloc: Global, clock: &Clock) -> Result<String, Fail> {
+fn clock_text(alloc: Global, clock: &Clock) -> Result<String, AllocError> {
     let mut text = top_text(alloc, clock)?;
-    add_phases(&mut text, alloc, clock.phases.items())?;
-    add_bounds(&mut text, alloc, clock.bounds.items())?;
-    add_listed(&mut text, alloc, "input", clock.inputs.items())?;
-    add_listed(&mut text, alloc, "output", clock.outputs.items())?;
+    add_parts(&mut text, alloc, clock)?;
     Ok(text)
+}
+
+/// What the clock of a text says.
+fn said_of(rt: &impl Abort, alloc: Global, text: &str) -> Option<String> {
+    let clock = clock(rt, alloc, text)?;
+    clock_text(alloc, &clock).ok()
 }
 
 /// A text has a clock that says this.
 fn has_clock(rt: &impl Abort, alloc: Global, text: &str, want: &str) -> Result<(), Fail> {
-    let clock = clock(rt, alloc, text).ok_or("refused")?;
-    let said = clock_text(alloc, &clock)?;
+    let said = said_of(rt, alloc, text).ok_or("refused")?;
     assert!(rt; said.as_str() == want, "{said}");
     Ok(())
 }
@@ -339,6 +359,18 @@ input x 2 3 4 0 0 false;input x 1 7 7 0 0 false;output y 1 0 0 -1 0 true;output 
     has_clock(&rt, rt.alloc(), FULL, full)
 }
 
+/// A description of the phase p and these items is refused for this entry and rule, or for none.
+fn items_have_fault(
+    rt: &impl Abort,
+    alloc: Global,
+    items: &str,
+    want: Option<(u32, u32)>,
+) -> Result<(), AllocError> {
+    let text = format!(in alloc; "{PHASE}{items}")?;
+    has_fault(rt, alloc, text.as_str(), want);
+    Ok(())
+}
+
 /// Each rule fails first where it should, at its limit and one past it.
 #[test]
 fn rules_fail_in_order(rt: HostRuntime) -> Result<(), Fail> {
@@ -347,8 +379,7 @@ fn rules_fail_in_order(rt: HostRuntime) -> Result<(), Fail> {
         has_fault(&rt, rt.alloc(), text, *want);
     }
     for (items, want) in ITEMS {
-        let text = format!(in rt.alloc(); "{PHASE}{items}")?;
-        has_fault(&rt, rt.alloc(), text.as_str(), *want);
+        items_have_fault(&rt, rt.alloc(), items, *want)?;
     }
     Ok(())
 }
@@ -367,12 +398,12 @@ const NAMED: &[(&str, (u32, u32))] = &[
 ];
 
 /// A description with a name of so many bytes.
-fn named(alloc: Global, text: &str, count: u32) -> Result<String, Fail> {
+fn named(alloc: Global, text: &str, count: u32) -> Result<String, AllocError> {
     let mut name = String::new(alloc);
     for _ in 0..count {
         name.push_str("~")?;
     }
-    Ok(text.replacen(alloc, "*", name.as_str(), 1)?)
+    text.replacen(alloc, "*", name.as_str(), 1)
 }
 
 /// A name has at most 255 bytes.

@@ -8,24 +8,30 @@ use mintc_cells::{Cell, Cells, read_cells};
 use mintc_conversion::toml_form;
 use mintc_liberty::read_liberty;
 use mintc_text::{Refusal, Role, Stop};
-use std::alloc::Global;
+use std::alloc::{AllocError, Global};
 use std::process::Abort;
 use std::test::Fail;
 
+/// Adds a cell's name, its text and an end.
+fn push_cell(text: &mut String, name: &str, cell: &str) -> Result<(), AllocError> {
+    text.push_str(name)?;
+    text.push_str(" ")?;
+    text.push_str(cell)?;
+    text.push_str(";")
+}
+
 /// The cells, each with its name and an end.
-fn cells_text(alloc: Global, cells: &Cells) -> Result<String, Fail> {
+fn cells_text(alloc: Global, cells: &Cells) -> Result<String, AllocError> {
     let mut text = String::new(alloc);
     for number in 0..cells.count() {
-        text.push_str(shown(cells.name(number))?)?;
-        text.push_str(" ")?;
-        text.push_str(cell_text(alloc, cells.cell(number))?.as_str())?;
-        text.push_str(";")?;
+        let cell = cell_text(alloc, cells.cell(number))?;
+        push_cell(&mut text, shown(cells.name(number)), &cell)?;
     }
     Ok(text)
 }
 
 /// What a text is read as.
-fn read(rt: &impl Abort, alloc: Global, text: &[u8]) -> Result<String, Fail> {
+fn read(rt: &impl Abort, alloc: Global, text: &[u8]) -> Result<String, AllocError> {
     assert!(rt; text.len() < 60_000_000);
     match read_liberty(alloc, text) {
         Ok(cells) => cells_text(alloc, &cells),
@@ -36,13 +42,13 @@ fn read(rt: &impl Abort, alloc: Global, text: &[u8]) -> Result<String, Fail> {
                     entry,
                 },
             ),
-        ) => Ok(format!(in alloc; "syntax {entry}")?),
-        Err(_) => Err("another refusal")?,
+        ) => format!(in alloc; "syntax {entry}"),
+        Err(_) => String::from_str(alloc, "another refusal"),
     }
 }
 
 /// Texts are read as what stands beside them.
-fn are_read(rt: &impl Abort, alloc: Global, cases: &[(&str, &str)]) -> Result<(), Fail> {
+fn are_read(rt: &impl Abort, alloc: Global, cases: &[(&str, &str)]) -> Result<(), AllocError> {
     for (text, said) in cases {
         let found = read(rt, alloc, text.as_bytes())?;
         assert!(rt; found.as_str() == *said, "{text}");
@@ -58,11 +64,16 @@ fn is_of_cell(text: &str, said: &str) -> bool {
     }
 }
 
+/// What a library of one cell C with this inside is read as.
+fn read_cell(rt: &impl Abort, alloc: Global, inside: &str) -> Result<String, AllocError> {
+    let text = format!(in alloc; "library (t) {{ cell (C) {{ {inside} }} }}")?;
+    read(rt, alloc, text.as_bytes())
+}
+
 /// A library of one cell C with this inside is read as C with what stands beside it.
-fn are_cells(rt: &impl Abort, alloc: Global, cases: &[(&str, &str)]) -> Result<(), Fail> {
+fn are_cells(rt: &impl Abort, alloc: Global, cases: &[(&str, &str)]) -> Result<(), AllocError> {
     for (inside, said) in cases {
-        let text = format!(in alloc; "library (t) {{ cell (C) {{ {inside} }} }}")?;
-        let found = read(rt, alloc, text.as_bytes())?;
+        let found = read_cell(rt, alloc, inside)?;
         assert!(rt; is_of_cell(found.as_str(), said), "{inside}");
     }
     Ok(())
@@ -70,37 +81,46 @@ fn are_cells(rt: &impl Abort, alloc: Global, cases: &[(&str, &str)]) -> Result<(
 
 #[test]
 fn worked_texts(rt: HostRuntime) -> Result<(), Fail> {
-    are_read(&rt, rt.alloc(), &ROWS)
+    are_read(&rt, rt.alloc(), &ROWS)?;
+    Ok(())
 }
 
 #[test]
 fn grammar(rt: HostRuntime) -> Result<(), Fail> {
-    are_read(&rt, rt.alloc(), &GRAMMAR)
+    are_read(&rt, rt.alloc(), &GRAMMAR)?;
+    Ok(())
 }
 
 #[test]
 fn libraries(rt: HostRuntime) -> Result<(), Fail> {
-    are_read(&rt, rt.alloc(), &LIBRARIES)
+    are_read(&rt, rt.alloc(), &LIBRARIES)?;
+    Ok(())
 }
 
 #[test]
 fn kinds(rt: HostRuntime) -> Result<(), Fail> {
-    are_cells(&rt, rt.alloc(), &KINDS)
+    are_cells(&rt, rt.alloc(), &KINDS)?;
+    Ok(())
 }
 
 #[test]
 fn sayings(rt: HostRuntime) -> Result<(), Fail> {
-    are_cells(&rt, rt.alloc(), &SAYINGS)
+    are_cells(&rt, rt.alloc(), &SAYINGS)?;
+    Ok(())
+}
+
+/// What a library of a cell B with this inside, and of a cell C, is read as.
+fn read_beside(rt: &impl Abort, alloc: Global, inside: &str) -> Result<String, AllocError> {
+    let text = format!(in alloc;
+        "library (t) {{ cell (B) {{ {inside} }} cell (C) {{ pin (Y) {{ direction : output ; }} }} }}"
+    )?;
+    read(rt, alloc, text.as_bytes())
 }
 
 #[test]
 fn unusable_cells_are_passed_over(rt: HostRuntime) -> Result<(), Fail> {
-    let alloc = rt.alloc();
     for inside in UNUSABLE_CELLS.iter() {
-        let text = format!(in alloc;
-            "library (t) {{ cell (B) {{ {inside} }} cell (C) {{ pin (Y) {{ direction : output ; }} }} }}"
-        )?;
-        let found = read(&rt, alloc, text.as_bytes())?;
+        let found = read_beside(&rt, rt.alloc(), inside)?;
         assert!(rt; found.as_str() == "C gate [] [Y];", "{inside}");
     }
     Ok(())
@@ -113,7 +133,7 @@ fn repeated(
     piece: &[u8],
     count: usize,
     tail: &[u8],
-) -> Result<Vec<u8>, Fail> {
+) -> Result<Vec<u8>, AllocError> {
     let mut text = Vec::new(alloc);
     text.extend_from_slice(head)?;
     for _ in 0..count {
@@ -124,7 +144,7 @@ fn repeated(
 }
 
 /// What a library is read as with groups that nest so deep in it.
-fn nested(rt: &impl Abort, alloc: Global, depth: usize) -> Result<String, Fail> {
+fn nested(rt: &impl Abort, alloc: Global, depth: usize) -> Result<String, AllocError> {
     let head = repeated(alloc, b"library (t) {", b"g(){", depth, b"")?;
     let text = repeated(alloc, &head, b"}", depth, b"}")?;
     read(rt, alloc, &text)
@@ -160,12 +180,9 @@ fn long_values(rt: HostRuntime) -> Result<(), Fail> {
 }
 
 /// The cells of a description.
-fn described(rt: &impl Abort, alloc: Global, text: &[u8]) -> Result<Cells, Fail> {
+fn described(rt: &impl Abort, alloc: Global, text: &[u8]) -> Option<Cells> {
     assert!(rt; text.len() < 60_000_000);
-    match read_cells(alloc, text) {
-        Ok(cells) => Ok(cells),
-        Err(_) => Err("no cells")?,
-    }
+    read_cells(alloc, text).ok()
 }
 
 /// Both cells have the same numbers.
@@ -174,18 +191,20 @@ fn have_equal_numbers(
     alloc: Global,
     cell: &Cell,
     back: &Cell,
-) -> Result<(), Fail> {
+) -> Result<(), AllocError> {
     let wanted = numbers_text(alloc, cell)?;
     let found = numbers_text(alloc, back)?;
     assert!(rt; wanted.as_str() == found.as_str(), "{found}");
     Ok(())
 }
 
-/// Both have the same cells.
-fn are_alike(rt: &impl Abort, alloc: Global, cells: &Cells, back: &Cells) -> Result<(), Fail> {
-    let wanted = cells_text(alloc, cells)?;
-    let found = cells_text(alloc, back)?;
-    assert!(rt; wanted.as_str() == found.as_str(), "{found}");
+/// The cells of both have the same numbers.
+fn have_all_equal_numbers(
+    rt: &impl Abort,
+    alloc: Global,
+    cells: &Cells,
+    back: &Cells,
+) -> Result<(), AllocError> {
     for number in 0..cells.count() {
         assert!(rt; number < back.count());
         have_equal_numbers(rt, alloc, cells.cell(number), back.cell(number))?;
@@ -193,11 +212,36 @@ fn are_alike(rt: &impl Abort, alloc: Global, cells: &Cells, back: &Cells) -> Res
     Ok(())
 }
 
+/// Both have the same cells.
+fn are_alike(
+    rt: &impl Abort,
+    alloc: Global,
+    cells: &Cells,
+    back: &Cells,
+) -> Result<(), AllocError> {
+    let wanted = cells_text(alloc, cells)?;
+    let found = cells_text(alloc, back)?;
+    assert!(rt; wanted.as_str() == found.as_str(), "{found}");
+    have_all_equal_numbers(rt, alloc, cells, back)
+}
+
+/// What the form of cells is read as.
+fn read_back(rt: &impl Abort, alloc: Global, cells: &Cells) -> Option<Cells> {
+    let form = toml_form(alloc, cells).ok()?;
+    described(rt, alloc, &form)
+}
+
+/// The form of cells is read as these very cells.
+fn are_read_back(rt: &impl Abort, alloc: Global, cells: &Cells) -> Result<(), Fail> {
+    let back = read_back(rt, alloc, cells).ok_or("no cells")?;
+    are_alike(rt, alloc, cells, &back)?;
+    Ok(())
+}
+
 /// The form of a description's cells is read as these very cells.
 fn comes_back(rt: &impl Abort, alloc: Global, text: &[u8]) -> Result<(), Fail> {
-    let cells = described(rt, alloc, text)?;
-    let back = described(rt, alloc, &toml_form(alloc, &cells)?)?;
-    are_alike(rt, alloc, &cells, &back)
+    let cells = described(rt, alloc, text).ok_or("no cells")?;
+    are_read_back(rt, alloc, &cells)
 }
 
 #[test]
@@ -222,7 +266,7 @@ fn enclosed(
     opening: usize,
     inside: &str,
     closing: usize,
-) -> Result<String, Fail> {
+) -> Result<String, AllocError> {
     let head = repeated(
         alloc,
         b"library (t) { cell (C) { pin (AB) { direction : input ; clock : true ; } pin (Y) { direction : output ; function : \"",

@@ -3,12 +3,12 @@
 use mintc_sdf::{Delay, Place, Subject, read_delays};
 use mintc_text::{Name, Refusal, Role, Stop};
 use mintc_worked::TWO_DELAYS;
-use std::alloc::Global;
+use std::alloc::{AllocError, Global};
 use std::process::Abort;
 use std::test::Fail;
 
 /// Adds a word and its names.
-fn add_names(out: &mut Vec<u8>, word: &[u8], names: &[Name]) -> Result<(), Fail> {
+fn add_names(out: &mut Vec<u8>, word: &[u8], names: &[Name]) -> Result<(), AllocError> {
     out.extend_from_slice(word)?;
     for name in names {
         out.push(b' ')?;
@@ -18,14 +18,14 @@ fn add_names(out: &mut Vec<u8>, word: &[u8], names: &[Name]) -> Result<(), Fail>
 }
 
 /// Adds a word and a pin.
-fn add_pin(out: &mut Vec<u8>, word: &[u8], pin: &Name) -> Result<(), Fail> {
+fn add_pin(out: &mut Vec<u8>, word: &[u8], pin: &Name) -> Result<(), AllocError> {
     out.extend_from_slice(word)?;
     out.extend_from_slice(pin.bytes())?;
     Ok(())
 }
 
 /// Adds where a delay is.
-fn add_place(out: &mut Vec<u8>, place: &Place) -> Result<(), Fail> {
+fn add_place(out: &mut Vec<u8>, place: &Place) -> Result<(), AllocError> {
     match place {
         Place::Top => add_names(out, b" top", &[]),
         Place::Every => add_names(out, b" every", &[]),
@@ -34,7 +34,7 @@ fn add_place(out: &mut Vec<u8>, place: &Place) -> Result<(), Fail> {
 }
 
 /// Adds what a delay is of.
-fn add_subject(out: &mut Vec<u8>, delay: &Delay) -> Result<(), Fail> {
+fn add_subject(out: &mut Vec<u8>, delay: &Delay) -> Result<(), AllocError> {
     match &delay.subject {
         Subject::Iopath { from, to } => {
             add_pin(out, b" from ", from)?;
@@ -52,7 +52,7 @@ fn add_subject(out: &mut Vec<u8>, delay: &Delay) -> Result<(), Fail> {
 }
 
 /// Adds a line that a delay is.
-fn add_delay(out: &mut Vec<u8>, alloc: Global, delay: &Delay) -> Result<(), Fail> {
+fn add_delay(out: &mut Vec<u8>, alloc: Global, delay: &Delay) -> Result<(), AllocError> {
     let Delay {
         entry,
         least,
@@ -68,7 +68,7 @@ fn add_delay(out: &mut Vec<u8>, alloc: Global, delay: &Delay) -> Result<(), Fail
 }
 
 /// Delays with a stroke between them.
-fn delays_text(alloc: Global, delays: &[Delay]) -> Result<Vec<u8>, Fail> {
+fn delays_text(alloc: Global, delays: &[Delay]) -> Result<Vec<u8>, AllocError> {
     let mut out = Vec::new(alloc);
     for delay in delays {
         if !out.is_empty() {
@@ -80,7 +80,7 @@ fn delays_text(alloc: Global, delays: &[Delay]) -> Result<Vec<u8>, Fail> {
 }
 
 /// Why there are no delays: a word and an entry.
-fn stop_text(alloc: Global, stop: &Stop) -> Result<Vec<u8>, Fail> {
+fn stop_text(alloc: Global, stop: &Stop) -> Result<Vec<u8>, AllocError> {
     let (word, entry) = match stop {
         Stop::Refused(
             Refusal::Syntax {
@@ -96,7 +96,7 @@ fn stop_text(alloc: Global, stop: &Stop) -> Result<Vec<u8>, Fail> {
 }
 
 /// What a text gives: its delays with a stroke between them, or its refusal.
-fn answer(alloc: Global, text: &[u8]) -> Result<Vec<u8>, Fail> {
+fn answer(alloc: Global, text: &[u8]) -> Result<Vec<u8>, AllocError> {
     if text.len() > 67_108_864 {
         return Ok(Vec::new(alloc));
     }
@@ -107,23 +107,45 @@ fn answer(alloc: Global, text: &[u8]) -> Result<Vec<u8>, Fail> {
 }
 
 /// A text gives what is wanted.
-fn is_answered(rt: &impl Abort, alloc: Global, text: &str, wanted: &str) -> Result<(), Fail> {
+fn is_answered(rt: &impl Abort, alloc: Global, text: &str, wanted: &str) -> Result<(), AllocError> {
     let found = answer(alloc, text.as_bytes())?;
     assert!(rt; found.as_slice() == wanted.as_bytes(), "{text}");
     Ok(())
 }
 
 /// A file with one CELL of a leaf, its second entry, in femtoseconds.
-fn leaf(alloc: Global, parts: &str) -> Result<String, Fail> {
-    Ok(format!(in alloc; "(DELAYFILE(TIMESCALE 1 fs)(CELL(CELLTYPE \"C\")(INSTANCE i){parts}))")?)
+fn leaf(alloc: Global, parts: &str) -> Result<String, AllocError> {
+    format!(in alloc; "(DELAYFILE(TIMESCALE 1 fs)(CELL(CELLTYPE \"C\")(INSTANCE i){parts}))")
 }
 
 /// A file with one definition.
-fn definition(alloc: Global, text: &str) -> Result<String, Fail> {
+fn definition(alloc: Global, text: &str) -> Result<String, AllocError> {
     leaf(
         alloc,
         format!(in alloc; "(DELAY(ABSOLUTE {text}))")?.as_str(),
     )
+}
+
+/// A file with one CELL of a leaf with these parts gives what is wanted.
+fn leaf_is_answered(
+    rt: &impl Abort,
+    alloc: Global,
+    parts: &str,
+    wanted: &str,
+) -> Result<(), AllocError> {
+    let text = leaf(alloc, parts)?;
+    is_answered(rt, alloc, text.as_str(), wanted)
+}
+
+/// A file with one definition gives what is wanted.
+fn definition_is_answered(
+    rt: &impl Abort,
+    alloc: Global,
+    defined: &str,
+    wanted: &str,
+) -> Result<(), AllocError> {
+    let text = definition(alloc, defined)?;
+    is_answered(rt, alloc, text.as_str(), wanted)
 }
 
 #[test]
@@ -199,6 +221,27 @@ fn reads_whole_files(rt: HostRuntime) -> Result<(), Fail> {
     Ok(())
 }
 
+/// What a cut of the worked delays gives: as the whole where the last byte alone is cut, else a fault at this entry.
+fn cut_wanted(alloc: Global, is_last: bool, entry: u32) -> Result<Vec<u8>, AllocError> {
+    if is_last {
+        answer(alloc, TWO_DELAYS.as_bytes())
+    } else {
+        Ok(format!(in alloc; "syntax {entry}")?.into_bytes())
+    }
+}
+
+/// Whether a cut of the worked delays gives what is wanted.
+fn is_cut_answered(
+    alloc: Global,
+    cut: &[u8],
+    is_last: bool,
+    entry: u32,
+) -> Result<bool, AllocError> {
+    let wanted = cut_wanted(alloc, is_last, entry)?;
+    let found = answer(alloc, cut)?;
+    Ok(found.as_slice() == wanted.as_slice())
+}
+
 #[test]
 fn a_cut_text_has_its_fault_at_the_cut(rt: HostRuntime) -> Result<(), Fail> {
     let alloc = rt.alloc();
@@ -207,13 +250,9 @@ fn a_cut_text_has_its_fault_at_the_cut(rt: HostRuntime) -> Result<(), Fail> {
     let mut whole: u32 = 0;
     for (cut, byte) in text.iter().enumerate() {
         let entry = if cut < 10 { 0 } else { whole.saturating_add(1) };
-        let wanted = if cut + 1 == text.len() {
-            answer(alloc, text)?
-        } else {
-            Vec::from_slice(alloc, format!(in alloc; "syntax {entry}")?.as_bytes())?
-        };
+        let is_last = cut + 1 == text.len();
         assert!(rt;
-            answer(alloc, &text[..cut])?.as_slice() == wanted.as_slice(),
+            is_cut_answered(alloc, &text[..cut], is_last, entry)?,
             "{cut}"
         );
         if *byte == b'(' {
@@ -284,8 +323,7 @@ fn reads_definitions(rt: HostRuntime) -> Result<(), Fail> {
         ("(IOPATH A Y (-1) (1e10))", "negative 2"),
         ("(IOPATH A Y (-1)) (PORT p (x))", "syntax 2"),
     ] {
-        let text = definition(alloc, text)?;
-        is_answered(&rt, alloc, text.as_str(), wanted)?;
+        definition_is_answered(&rt, alloc, text, wanted)?;
     }
     Ok(())
 }
@@ -326,15 +364,13 @@ fn conditions_stand_for_their_last_item(rt: HostRuntime) -> Result<(), Fail> {
         ("(PORT (COND a (COND)) (1))", "syntax 2"),
         ("(PORT (CONDELSE d) (1))", "syntax 2"),
     ] {
-        let text = definition(alloc, text)?;
-        is_answered(&rt, alloc, text.as_str(), wanted)?;
+        definition_is_answered(&rt, alloc, text, wanted)?;
     }
     Ok(())
 }
 
-#[test]
-fn conditions_nest(rt: HostRuntime) -> Result<(), Fail> {
-    let alloc = rt.alloc();
+/// Conditions that nest, 400 deep.
+fn nested_conditions(alloc: Global) -> Result<String, AllocError> {
     let mut text = String::new(alloc);
     for _ in 0..200 {
         text.push_str("(COND a (CONDELSE ")?;
@@ -343,8 +379,15 @@ fn conditions_nest(rt: HostRuntime) -> Result<(), Fail> {
     for _ in 0..200 {
         text.push_str("))")?;
     }
-    let text = definition(alloc, text.as_str())?;
-    is_answered(&rt, alloc, text.as_str(), "2 C at i port d 1 1")
+    Ok(text)
+}
+
+#[test]
+fn conditions_nest(rt: HostRuntime) -> Result<(), Fail> {
+    let alloc = rt.alloc();
+    let text = nested_conditions(alloc)?;
+    definition_is_answered(&rt, alloc, text.as_str(), "2 C at i port d 1 1")?;
+    Ok(())
 }
 
 #[test]
@@ -377,8 +420,7 @@ fn reads_checks_and_parts(rt: HostRuntime) -> Result<(), Fail> {
         ("(ABSOLUTE)", "syntax 2"),
         ("x", "syntax 2"),
     ] {
-        let text = leaf(alloc, text)?;
-        is_answered(&rt, alloc, text.as_str(), wanted)?;
+        leaf_is_answered(&rt, alloc, text, wanted)?;
     }
     Ok(())
 }

@@ -1,34 +1,36 @@
 //! Cells as texts.
 use mintc_cells::Cell;
 use mintc_text::{Name, Names};
-use std::alloc::Global;
+use std::alloc::{AllocError, Global};
 use std::str;
-use std::test::Fail;
 
 /// A name's text.
-pub fn shown(name: &[u8]) -> Result<&str, Fail> {
-    match str::from_utf8(name) {
-        Ok(text) => Ok(text),
-        Err(_) => Err("no text")?,
-    }
+pub fn shown(name: &[u8]) -> &str {
+    str::from_utf8(name).unwrap_or("no text")
 }
 
-/// Names in brackets.
-pub fn names_text(alloc: Global, names: &Names) -> Result<String, Fail> {
-    let mut text = String::new(alloc);
-    for name in names.items() {
+/// Adds names with a space between them.
+fn push_names(text: &mut String, names: &[Name]) -> Result<(), AllocError> {
+    for name in names {
         if !text.is_empty() {
             text.push_str(" ")?;
         }
-        text.push_str(shown(name.bytes())?)?;
+        text.push_str(shown(name.bytes()))?;
     }
-    Ok(format!(in alloc; "[{text}]")?)
+    Ok(())
+}
+
+/// Names in brackets.
+pub fn names_text(alloc: Global, names: &Names) -> Result<String, AllocError> {
+    let mut text = String::new(alloc);
+    push_names(&mut text, names.items())?;
+    format!(in alloc; "[{text}]")
 }
 
 /// A gate's kind and pins.
-fn gate_text(alloc: Global, inputs: &Names, outputs: &Names) -> Result<String, Fail> {
+fn gate_text(alloc: Global, inputs: &Names, outputs: &Names) -> Result<String, AllocError> {
     let (inputs, outputs) = (names_text(alloc, inputs)?, names_text(alloc, outputs)?);
-    Ok(format!(in alloc; "gate {inputs} {outputs}")?)
+    format!(in alloc; "gate {inputs} {outputs}")
 }
 
 /// A latch's or flop's kind and pins.
@@ -38,10 +40,10 @@ fn stored_text(
     pins: (&Name, &Name),
     is_plain: bool,
     lists: (&Names, &Names),
-) -> Result<String, Fail> {
-    let (data, control) = (shown(pins.0.bytes())?, shown(pins.1.bytes())?);
+) -> Result<String, AllocError> {
+    let (data, control) = (shown(pins.0.bytes()), shown(pins.1.bytes()));
     let (outputs, ignored) = (names_text(alloc, lists.0)?, names_text(alloc, lists.1)?);
-    Ok(format!(in alloc; "{kind} {data} {control} {is_plain} {outputs} {ignored}")?)
+    format!(in alloc; "{kind} {data} {control} {is_plain} {outputs} {ignored}")
 }
 
 /// A clock cell's kind and pins.
@@ -50,14 +52,14 @@ fn clock_text(
     pins: (&Name, &Name),
     invert: bool,
     ignored: &Names,
-) -> Result<String, Fail> {
-    let (from, to) = (shown(pins.0.bytes())?, shown(pins.1.bytes())?);
+) -> Result<String, AllocError> {
+    let (from, to) = (shown(pins.0.bytes()), shown(pins.1.bytes()));
     let ignored = names_text(alloc, ignored)?;
-    Ok(format!(in alloc; "clock {from} {to} {invert} {ignored}")?)
+    format!(in alloc; "clock {from} {to} {invert} {ignored}")
 }
 
 /// A cell's kind and pins.
-pub fn cell_text(alloc: Global, cell: &Cell) -> Result<String, Fail> {
+pub fn cell_text(alloc: Global, cell: &Cell) -> Result<String, AllocError> {
     match cell {
         Cell::Gate {
             inputs,
@@ -96,9 +98,9 @@ pub fn cell_text(alloc: Global, cell: &Cell) -> Result<String, Fail> {
 }
 
 /// A cell's numbers; a clock cell has none.
-pub fn numbers_text(alloc: Global, cell: &Cell) -> Result<String, Fail> {
-    Ok(match cell {
-        Cell::Gate { min, max, .. } => format!(in alloc; "{min} {max}")?,
+pub fn numbers_text(alloc: Global, cell: &Cell) -> Result<String, AllocError> {
+    match cell {
+        Cell::Gate { min, max, .. } => format!(in alloc; "{min} {max}"),
         Cell::Latch {
             setup,
             hold,
@@ -112,7 +114,7 @@ pub fn numbers_text(alloc: Global, cell: &Cell) -> Result<String, Fail> {
             ..
         } => format!(in alloc;
             "{setup} {hold} {has_hold} {dq_min} {dq_max} {cq_min} {cq_max} {has_cq} {width}"
-        )?,
+        ),
         Cell::Flop {
             setup,
             hold,
@@ -121,7 +123,7 @@ pub fn numbers_text(alloc: Global, cell: &Cell) -> Result<String, Fail> {
             cq_max,
             width,
             ..
-        } => format!(in alloc; "{setup} {hold} {has_hold} {cq_min} {cq_max} {width}")?,
-        Cell::Clock { .. } => String::new(alloc),
-    })
+        } => format!(in alloc; "{setup} {hold} {has_hold} {cq_min} {cq_max} {width}"),
+        Cell::Clock { .. } => Ok(String::new(alloc)),
+    }
 }

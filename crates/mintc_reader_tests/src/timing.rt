@@ -4,7 +4,7 @@ use mintc_lines::{read_schedule, read_table};
 use mintc_text::{Kind, Refusal, Role, Stop};
 use mintc_timing::{Element, Flat, TimingArc};
 use mintc_worked::{TWO_ENABLED, TWO_FLOPS, TWO_LATCHES, TWO_SCHEDULE};
-use std::alloc::Global;
+use std::alloc::{AllocError, Global};
 use std::process::Abort;
 use std::test::Fail;
 
@@ -66,7 +66,7 @@ fn add_rows(
     head: &str,
     count: u32,
     row: &str,
-) -> Result<(), Fail> {
+) -> Result<(), AllocError> {
     text.push_str(&format!(in alloc; "{head} {count}\n")?)?;
     for _ in 0..count {
         text.push_str(row)?;
@@ -75,7 +75,7 @@ fn add_rows(
 }
 
 /// A table with so many phases, elements and bounds.
-fn table_of(alloc: Global, phases: u32, elements: u32, bounds: u32) -> Result<String, Fail> {
+fn table_of(alloc: Global, phases: u32, elements: u32, bounds: u32) -> Result<String, AllocError> {
     let mut text = String::new(alloc);
     let element = "element e 1 0 - 0 0 0\n";
     add_rows(&mut text, alloc, "table 1\nphases", phases, "phase p\n")?;
@@ -191,7 +191,7 @@ fn has_fault(
     old: &str,
     new: &str,
     line: u32,
-) -> Result<(), Fail> {
+) -> Result<(), AllocError> {
     let text = table.replacen(alloc, old, new, 1)?;
     assert!(rt; table_fault(alloc, text.as_bytes()) == line, "{new}");
     Ok(())
@@ -217,7 +217,8 @@ fn a_faulty_line_is_named(rt: HostRuntime) -> Result<(), Fail> {
     ] {
         has_fault(&rt, alloc, TWO_LATCHES, old, new, *line)?;
     }
-    has_fault(&rt, alloc, TWO_ENABLED, "1 latch", "1 flop", 6)
+    has_fault(&rt, alloc, TWO_ENABLED, "1 latch", "1 flop", 6)?;
+    Ok(())
 }
 
 #[test]

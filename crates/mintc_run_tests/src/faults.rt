@@ -1,9 +1,9 @@
 //! Reads and writes that fail.
-use super::files::FILES;
-use super::harness::{is_answered, run_over, shelf_of, succeeds};
+use super::files::files;
+use super::harness::{is_answered, run_on, run_over, shelf_of, succeeds};
 use super::rows::CHECK;
 use mintc_command::Status;
-use mintc_text::{MemoryShelf, Shelf};
+use mintc_text::{MemoryShelf, OutOfMemory, Shelf};
 use std::alloc::Global;
 use std::process::Abort;
 use std::test::Fail;
@@ -55,10 +55,10 @@ fn is_read(alloc: Global, shelf: &mut MemoryShelf) -> bool {
 
 /// A read is made to fail, and so is the one after the next. The shelf's next calls have the numbers after the one that failed:
 /// so no read was made after it.
-fn read_fails(rt: &impl Abort, alloc: Global, words: &str, number: u32) -> Result<(), Fail> {
-    let mut shelf = shelf_of(alloc, FILES, &[number, number.saturating_add(2)])?;
+fn read_fails(rt: &impl Abort, alloc: Global, words: &str, number: u32) -> Result<(), OutOfMemory> {
+    let mut shelf = shelf_of(alloc, files(), &[number, number.saturating_add(2)])?;
     let wanted = (Status::ReadFault, b"".as_slice());
-    is_answered(rt, alloc, &mut shelf, words, None, wanted)?;
+    is_answered(rt, alloc, &mut shelf, words, None, wanted);
     assert!(rt;
         is_read(alloc, &mut shelf) && !is_read(alloc, &mut shelf),
         "{words}"
@@ -67,7 +67,7 @@ fn read_fails(rt: &impl Abort, alloc: Global, words: &str, number: u32) -> Resul
 }
 
 /// Each read is made to fail, of each run.
-fn each_read_fails(rt: &impl Abort, alloc: Global, runs: &[Run]) -> Result<(), Fail> {
+fn each_read_fails(rt: &impl Abort, alloc: Global, runs: &[Run]) -> Result<(), OutOfMemory> {
     for (words, count) in runs {
         for number in 0..u32::from(*count) {
             read_fails(rt, alloc, words, number)?;
@@ -85,15 +85,26 @@ fn every_read_fails(rt: HostRuntime) -> Result<(), Fail> {
     Ok(())
 }
 
+/// The write of this text is made to fail after each number of bytes.
+fn write_fails(rt: &impl Abort, alloc: Global, shelf: &mut MemoryShelf, words: &str, text: &[u8]) {
+    for length in 0..text.len() {
+        let wanted = (Status::WriteFault, &text[..length]);
+        is_answered(rt, alloc, shelf, words, Some((0, length)), wanted);
+    }
+}
+
+/// The write of a run is made to fail after each number of bytes.
+fn write_of_run_fails(rt: &impl Abort, alloc: Global, words: &str) -> Result<(), OutOfMemory> {
+    let mut shelf = shelf_of(alloc, files(), &[])?;
+    let (_, text) = run_over(alloc, &mut shelf, words, None)?;
+    write_fails(rt, alloc, &mut shelf, words, text.as_slice());
+    Ok(())
+}
+
 /// Each write is made to fail after each number of bytes, of each run.
 fn each_write_fails(rt: &impl Abort, alloc: Global, runs: &[Run]) -> Result<(), Fail> {
     for (words, _) in runs {
-        let mut shelf = shelf_of(alloc, FILES, &[])?;
-        let (_, text) = run_over(alloc, &mut shelf, words, None)?;
-        for length in 0..text.len() {
-            let wanted = (Status::WriteFault, &text.as_slice()[..length]);
-            is_answered(rt, alloc, &mut shelf, words, Some((0, length)), wanted)?;
-        }
+        write_of_run_fails(rt, alloc, words)?;
     }
     Ok(())
 }
@@ -121,21 +132,33 @@ fn answers_again(
     words: &str,
     number: u32,
     answer: &[u8],
-) -> Result<(), Fail> {
-    let mut shelf = shelf_of(alloc, FILES, &[number])?;
+) -> Result<(), OutOfMemory> {
+    let mut shelf = shelf_of(alloc, files(), &[number])?;
     let (failed, _) = run_over(alloc, &mut shelf, words, None)?;
     assert!(rt; failed == Status::ReadFault, "{words}");
-    succeeds(rt, alloc, &mut shelf, words, answer)
+    succeeds(rt, alloc, &mut shelf, words, answer);
+    Ok(())
+}
+
+/// A run with this answer is made again after each of its reads failed.
+fn the_next_call_answers(
+    rt: &impl Abort,
+    alloc: Global,
+    run: &Run,
+    answer: &[u8],
+) -> Result<(), OutOfMemory> {
+    let (words, count) = *run;
+    for number in 0..u32::from(count) {
+        answers_again(rt, alloc, words, number, answer)?;
+    }
+    Ok(())
 }
 
 /// Each run is made again after each of its reads failed.
-fn the_next_call_answers(rt: &impl Abort, alloc: Global, runs: &[Run]) -> Result<(), Fail> {
-    for (words, count) in runs {
-        let mut sound = shelf_of(alloc, FILES, &[])?;
-        let (_, text) = run_over(alloc, &mut sound, words, None)?;
-        for number in 0..u32::from(*count) {
-            answers_again(rt, alloc, words, number, text.as_slice())?;
-        }
+fn each_next_call_answers(rt: &impl Abort, alloc: Global, runs: &[Run]) -> Result<(), OutOfMemory> {
+    for run in runs {
+        let (_, text) = run_on(alloc, files(), run.0)?;
+        the_next_call_answers(rt, alloc, run, text.as_slice())?;
     }
     Ok(())
 }
@@ -144,7 +167,7 @@ fn the_next_call_answers(rt: &impl Abort, alloc: Global, runs: &[Run]) -> Result
 #[test]
 fn the_same_call_after_a_fault(rt: HostRuntime) -> Result<(), Fail> {
     for runs in &[ON_TABLES, ON_FILES, ON_LIBRARIES] {
-        the_next_call_answers(&rt, rt.alloc(), runs)?;
+        each_next_call_answers(&rt, rt.alloc(), runs)?;
     }
     Ok(())
 }

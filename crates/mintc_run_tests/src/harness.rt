@@ -1,17 +1,26 @@
 //! Runs over a shelf and a sink in memory.
 use mintc_command::{Status, run};
-use mintc_text::{MemoryShelf, MemorySink, Name, Numbers};
-use std::alloc::Global;
+use mintc_text::{MemoryShelf, MemorySink, Name, Numbers, OutOfMemory};
+use std::alloc::{AllocError, Global};
 use std::process::Abort;
-use std::test::Fail;
+
+/// Adds a text, where there was memory for it.
+pub fn push_text(text: &mut String, more: Result<String, AllocError>) -> Result<(), AllocError> {
+    text.push_str(&more?)
+}
 
 /// Files for a shelf, each a name and its bytes.
 pub type Held = Vec<(Name, Vec<u8>)>;
 
+/// A file for a shelf.
+fn file_of(alloc: Global, name: &str, text: &[u8]) -> Result<(Name, Vec<u8>), OutOfMemory> {
+    let bytes = Vec::from_slice(alloc, text)?;
+    Ok((Name::new(alloc, name.as_bytes())?, bytes))
+}
+
 /// Adds a file to those for a shelf.
-pub fn hold(alloc: Global, held: &mut Held, name: &str, text: &[u8]) -> Result<(), Fail> {
-    let name = Name::new(alloc, name.as_bytes())?;
-    held.push((name, Vec::from_slice(alloc, text)?))?;
+pub fn hold(alloc: Global, held: &mut Held, name: &str, text: &[u8]) -> Result<(), OutOfMemory> {
+    held.push(file_of(alloc, name, text)?)?;
     Ok(())
 }
 
@@ -21,7 +30,7 @@ pub fn sound_shelf(alloc: Global, held: Held) -> MemoryShelf {
 }
 
 /// A shelf of files of these bytes, none of whose calls fail.
-pub fn bytes_shelf(alloc: Global, files: &[(&str, &[u8])]) -> Result<MemoryShelf, Fail> {
+pub fn bytes_shelf(alloc: Global, files: &[(&str, &[u8])]) -> Result<MemoryShelf, OutOfMemory> {
     let mut held = Vec::new(alloc);
     for file in files {
         hold(alloc, &mut held, file.0, file.1)?;
@@ -29,40 +38,86 @@ pub fn bytes_shelf(alloc: Global, files: &[(&str, &[u8])]) -> Result<MemoryShelf
     Ok(sound_shelf(alloc, held))
 }
 
+/// Files of these texts for a shelf.
+fn held_texts(alloc: Global, files: &[(&str, &str)]) -> Result<Held, OutOfMemory> {
+    let mut held = Vec::new(alloc);
+    for file in files {
+        hold(alloc, &mut held, file.0, file.1.as_bytes())?;
+    }
+    Ok(held)
+}
+
 /// A shelf of these files, whose calls of these numbers fail.
 pub fn shelf_of(
     alloc: Global,
     files: &[(&str, &str)],
     failing: &[u32],
-) -> Result<MemoryShelf, Fail> {
-    let mut held = Vec::new(alloc);
-    for file in files {
-        hold(alloc, &mut held, file.0, file.1.as_bytes())?;
-    }
+) -> Result<MemoryShelf, OutOfMemory> {
     let failing = Vec::from_slice(alloc, failing)?;
+    let held = held_texts(alloc, files)?;
     Ok(MemoryShelf::new(held, Numbers::new(failing)))
 }
 
-/// The words of a line.
-fn words_of(alloc: Global, line: &str) -> Result<Vec<String>, Fail> {
-    let mut words = Vec::new(alloc);
+/// Adds the words of a line.
+fn push_words(alloc: Global, words: &mut Vec<String>, line: &str) -> Result<(), AllocError> {
     for word in line.split_whitespace() {
         words.push(String::from_str(alloc, word)?)?;
     }
+    Ok(())
+}
+
+/// The words of a line.
+fn words_of(alloc: Global, line: &str) -> Result<Vec<String>, AllocError> {
+    let mut words = Vec::new(alloc);
+    push_words(alloc, &mut words, line)?;
     Ok(words)
 }
 
-/// A run over this shelf, and a sink whose first write may be made to fail: its status and what the sink took.
+/// A run with these words over this shelf, and a sink whose first write may be made to fail: its status and what the sink took.
+fn run_words(
+    alloc: Global,
+    shelf: &mut MemoryShelf,
+    words: &[String],
+    failing_write: Option<(u32, usize)>,
+) -> Result<(Status, Vec<u8>), OutOfMemory> {
+    let mut sink = MemorySink::new(alloc, 1_000_000, failing_write)?;
+    let status = run(alloc, words, shelf, &mut sink);
+    Ok((status, Vec::from_slice(alloc, sink.taken())?))
+}
+
+/// A run with the words of this line.
 pub fn run_over(
     alloc: Global,
     shelf: &mut MemoryShelf,
     line: &str,
     failing_write: Option<(u32, usize)>,
-) -> Result<(Status, Vec<u8>), Fail> {
+) -> Result<(Status, Vec<u8>), OutOfMemory> {
     let words = words_of(alloc, line)?;
-    let mut sink = MemorySink::new(alloc, 1_000_000, failing_write)?;
-    let status = run(alloc, words.as_slice(), shelf, &mut sink);
-    Ok((status, Vec::from_slice(alloc, sink.taken())?))
+    run_words(alloc, shelf, words.as_slice(), failing_write)
+}
+
+/// A run with the words of this line over a shelf of these files.
+pub fn run_on(
+    alloc: Global,
+    files: &[(&str, &str)],
+    line: &str,
+) -> Result<(Status, Vec<u8>), OutOfMemory> {
+    let mut shelf = shelf_of(alloc, files, &[])?;
+    run_over(alloc, &mut shelf, line, None)
+}
+
+/// Whether a run over this shelf, and a sink whose first write may be made to fail, has this status, and the sink took this text.
+fn has_answer(
+    alloc: Global,
+    shelf: &mut MemoryShelf,
+    line: &str,
+    failing_write: Option<(u32, usize)>,
+    wanted: (Status, &[u8]),
+) -> bool {
+    match run_over(alloc, shelf, line, failing_write) {
+        Ok((status, taken)) => status == wanted.0 && taken.as_slice() == wanted.1,
+        Err(_) => false,
+    }
 }
 
 /// A run over this shelf, and a sink whose first write may be made to fail, has this status, and the sink took this text.
@@ -73,22 +128,14 @@ pub fn is_answered(
     line: &str,
     failing_write: Option<(u32, usize)>,
     wanted: (Status, &[u8]),
-) -> Result<(), Fail> {
-    let (status, taken) = run_over(alloc, shelf, line, failing_write)?;
+) {
     assert!(rt;
-        status == wanted.0 && taken.as_slice() == wanted.1,
+        has_answer(alloc, shelf, line, failing_write, wanted),
         "{line}"
     );
-    Ok(())
 }
 
 /// A run over this shelf succeeds with this text.
-pub fn succeeds(
-    rt: &impl Abort,
-    alloc: Global,
-    shelf: &mut MemoryShelf,
-    line: &str,
-    text: &[u8],
-) -> Result<(), Fail> {
-    is_answered(rt, alloc, shelf, line, None, (Status::Done, text))
+pub fn succeeds(rt: &impl Abort, alloc: Global, shelf: &mut MemoryShelf, line: &str, text: &[u8]) {
+    is_answered(rt, alloc, shelf, line, None, (Status::Done, text));
 }

@@ -1,24 +1,34 @@
 //! Tables at the limits and one past them.
 use super::files::{PAIR_CELLS, PAIR_CLOCK};
-use super::harness::{is_answered, run_over, shelf_of};
+use super::harness::{is_answered, push_text, run_on, shelf_of};
 use super::rows::{CHECK, PASS};
 use mintc_command::Status;
+use mintc_text::OutOfMemory;
 use mintc_worked::{TWO_LATCHES, TWO_SCHEDULE};
 use std::alloc::{AllocError, Global};
 use std::process::Abort;
 use std::test::Fail;
 
-/// The two latches, and so many more elements that are as the first one.
-fn many_elements(alloc: Global, count: usize) -> Result<String, AllocError> {
-    let counted = format!(in alloc; "elements {count}\n")?;
+/// The rows after those of the two latches, for so many elements that are as the first one.
+fn more_elements(alloc: Global, count: usize) -> Result<String, AllocError> {
     let mut more = String::new(alloc);
     for _ in 2..count {
         more.push_str("element a 1 10 - 10 10 0\n")?;
     }
     more.push_str("inner 0\n")?;
-    TWO_LATCHES
-        .replacen(alloc, "elements 2\n", &counted, 1)?
-        .replacen(alloc, "inner 0\n", &more, 1)
+    Ok(more)
+}
+
+/// The two latches, with so many elements in their count.
+fn counted(alloc: Global, count: usize) -> Result<String, AllocError> {
+    let row = format!(in alloc; "elements {count}\n")?;
+    TWO_LATCHES.replacen(alloc, "elements 2\n", &row, 1)
+}
+
+/// The two latches, and so many more elements that are as the first one.
+fn many_elements(alloc: Global, count: usize) -> Result<String, AllocError> {
+    let more = more_elements(alloc, count)?;
+    counted(alloc, count)?.replacen(alloc, "inner 0\n", &more, 1)
 }
 
 /// The table in place of TAB1 is checked with this answer.
@@ -28,22 +38,39 @@ fn is_checked(
     table: &str,
     status: Status,
     answer: &str,
-) -> Result<(), Fail> {
+) -> Result<(), OutOfMemory> {
     let mut shelf = shelf_of(alloc, &[("TAB1", table), ("SCH1", TWO_SCHEDULE)], &[])?;
     let wanted = (status, answer.as_bytes());
-    is_answered(rt, alloc, &mut shelf, CHECK, None, wanted)
+    is_answered(rt, alloc, &mut shelf, CHECK, None, wanted);
+    Ok(())
+}
+
+/// The pass of that table.
+fn many_passes(alloc: Global, count: usize) -> Result<String, AllocError> {
+    let mut pass = String::from_str(alloc, PASS)?;
+    for _ in 2..count {
+        pass.push_str("element a late 0/1 early 0/1\n")?;
+    }
+    Ok(pass)
 }
 
 // Row element-limit.
 #[test]
 fn as_many_elements_as_there_may_be(rt: HostRuntime) -> Result<(), Fail> {
     let alloc = rt.alloc();
+    let pass = many_passes(alloc, 2_000)?;
     let table = many_elements(alloc, 2_000)?;
-    let mut pass = String::from_str(alloc, PASS)?;
-    for _ in 2..2_000 {
-        pass.push_str("element a late 0/1 early 0/1\n")?;
+    is_checked(&rt, alloc, table.as_str(), Status::Done, pass.as_str())?;
+    Ok(())
+}
+
+/// Adds so many bounds, and the end.
+fn push_bounds(alloc: Global, text: &mut String, bounds: usize) -> Result<(), AllocError> {
+    push_text(text, format!(in alloc; "bounds {bounds}\n"))?;
+    for _ in 0..bounds {
+        text.push_str("bound o o 0 0\n")?;
     }
-    is_checked(&rt, alloc, table.as_str(), Status::Done, pass.as_str())
+    text.push_str("end\n")
 }
 
 /// A table with nothing in it but so many phases and bounds.
@@ -53,11 +80,7 @@ fn empty_table(alloc: Global, phases: usize, bounds: usize) -> Result<String, Al
         text.push_str("phase p\n")?;
     }
     text.push_str("elements 0\ninner 0\narcs 0\n")?;
-    text.push_str(format!(in alloc; "bounds {bounds}\n")?.as_str())?;
-    for _ in 0..bounds {
-        text.push_str("bound o o 0 0\n")?;
-    }
-    text.push_str("end\n")?;
+    push_bounds(alloc, &mut text, bounds)?;
     Ok(text)
 }
 
@@ -66,7 +89,8 @@ fn empty_table(alloc: Global, phases: usize, bounds: usize) -> Result<String, Al
 fn an_element_too_many(rt: HostRuntime) -> Result<(), Fail> {
     let table = many_elements(rt.alloc(), 2_001)?;
     let answer = "refused 17 elements 2001\n";
-    is_checked(&rt, rt.alloc(), &table, Status::Refused, answer)
+    is_checked(&rt, rt.alloc(), &table, Status::Refused, answer)?;
+    Ok(())
 }
 
 // A phase and a bound too many; and as many phases and bounds as there may be.
@@ -87,10 +111,26 @@ fn one_past_the_limits(rt: HostRuntime) -> Result<(), Fail> {
 fn many_flops(alloc: Global, count: usize) -> Result<String, AllocError> {
     let mut text = String::from_str(alloc, "module m(c1, c2); input c1, c2; wire p;")?;
     for number in 0..count {
-        text.push_str(format!(in alloc; " FF f{number} (.D(p), .C(c1));")?.as_str())?;
+        push_text(
+            &mut text,
+            format!(in alloc; " FF f{number} (.D(p), .C(c1));"),
+        )?;
     }
     text.push_str(" endmodule\n")?;
     Ok(text)
+}
+
+/// What is answered for two corners of a netlist, the second with these delays.
+fn answered(alloc: Global, netlist: &str, second: &str) -> Result<(Status, Vec<u8>), OutOfMemory> {
+    let files = [
+        ("many.v", netlist),
+        ("pair.cells", PAIR_CELLS),
+        ("pair.clock", PAIR_CLOCK),
+        ("no.sdf", "(DELAYFILE)\n"),
+        ("cut.sdf", "(DELAYFILE"),
+    ];
+    let words = format!(in alloc; "corners many.v pair.cells pair.clock no.sdf {second}")?;
+    run_on(alloc, &files, words.as_str())
 }
 
 /// Two corners of a netlist, the second with these delays, are answered with this status and front.
@@ -101,19 +141,10 @@ fn are_answered(
     second: &str,
     status: Status,
     front: &str,
-) -> Result<(), Fail> {
-    let files = [
-        ("many.v", netlist),
-        ("pair.cells", PAIR_CELLS),
-        ("pair.clock", PAIR_CLOCK),
-        ("no.sdf", "(DELAYFILE)\n"),
-        ("cut.sdf", "(DELAYFILE"),
-    ];
-    let mut shelf = shelf_of(alloc, &files, &[])?;
-    let words = format!(in alloc; "corners many.v pair.cells pair.clock no.sdf {second}")?;
-    let (answered, taken) = run_over(alloc, &mut shelf, words.as_str(), None)?;
+) -> Result<(), OutOfMemory> {
+    let (found, taken) = answered(alloc, netlist, second)?;
     assert!(rt;
-        answered == status && taken.as_slice().starts_with(front.as_bytes()),
+        found == status && taken.as_slice().starts_with(front.as_bytes()),
         "{front}"
     );
     Ok(())

@@ -1,6 +1,7 @@
 //! Runs on files: netlists that are refused, in which order bits are joined, and the limits.
-use super::harness::{hold, run_over, sound_shelf};
+use super::harness::{Held, hold, push_text, run_over, sound_shelf};
 use mintc_command::Status;
+use mintc_text::OutOfMemory;
 use mintc_worked::TWO_CELLS;
 use std::alloc::{AllocError, Global};
 use std::process::Abort;
@@ -9,6 +10,16 @@ use std::test::Fail;
 /// One phase on the port `c`.
 const CLOCK: &str = "[[phase]]\nname = \"p\"\nport = \"c\"\n";
 
+/// A netlist `v`, delays `d`, cells `c` and a clock `k` for a shelf.
+fn held(alloc: Global, netlist: &str, delays: &str, clock: &str) -> Result<Held, OutOfMemory> {
+    let mut held = Vec::new(alloc);
+    hold(alloc, &mut held, "v", netlist.as_bytes())?;
+    hold(alloc, &mut held, "d", delays.as_bytes())?;
+    hold(alloc, &mut held, "c", TWO_CELLS.as_bytes())?;
+    hold(alloc, &mut held, "k", clock.as_bytes())?;
+    Ok(held)
+}
+
 /// A run with these words on a netlist `v` with these delays `d`, cells `c`, and this clock `k`.
 fn answered(
     alloc: Global,
@@ -16,13 +27,8 @@ fn answered(
     netlist: &str,
     delays: &str,
     clock: &str,
-) -> Result<(Status, Vec<u8>), Fail> {
-    let mut held = Vec::new(alloc);
-    hold(alloc, &mut held, "v", netlist.as_bytes())?;
-    hold(alloc, &mut held, "d", delays.as_bytes())?;
-    hold(alloc, &mut held, "c", TWO_CELLS.as_bytes())?;
-    hold(alloc, &mut held, "k", clock.as_bytes())?;
-    let mut shelf = sound_shelf(alloc, held);
+) -> Result<(Status, Vec<u8>), OutOfMemory> {
+    let mut shelf = sound_shelf(alloc, held(alloc, netlist, delays, clock)?);
     run_over(alloc, &mut shelf, words, None)
 }
 
@@ -32,7 +38,7 @@ fn optimised(
     netlist: &str,
     delays: &str,
     clock: &str,
-) -> Result<(Status, Vec<u8>), Fail> {
+) -> Result<(Status, Vec<u8>), OutOfMemory> {
     answered(alloc, "optimise files v d c k", netlist, delays, clock)
 }
 
@@ -71,7 +77,12 @@ const TEXTS: &[(&str, &str)] = &[
 ];
 
 /// A netlist is refused with one of these answers.
-fn is_refused(rt: &impl Abort, alloc: Global, netlist: &str, answers: &[&str]) -> Result<(), Fail> {
+fn is_refused(
+    rt: &impl Abort,
+    alloc: Global,
+    netlist: &str,
+    answers: &[&str],
+) -> Result<(), OutOfMemory> {
     let (status, taken) = optimised(alloc, netlist, "(DELAYFILE)", CLOCK)?;
     assert!(rt;
         status == Status::Refused && answers.iter().any(|a| a.as_bytes() == taken.as_slice()),
@@ -80,12 +91,22 @@ fn is_refused(rt: &impl Abort, alloc: Global, netlist: &str, answers: &[&str]) -
     Ok(())
 }
 
+/// The module `m` with this body is refused with one of these answers.
+fn is_refused_body(
+    rt: &impl Abort,
+    alloc: Global,
+    body: &str,
+    answers: &[&str],
+) -> Result<(), OutOfMemory> {
+    let netlist = format!(in alloc; "module m(c); input c; {body} endmodule")?;
+    is_refused(rt, alloc, netlist.as_str(), answers)
+}
+
 #[test]
 fn refused_netlists(rt: HostRuntime) -> Result<(), Fail> {
     let alloc = rt.alloc();
     for (body, answers) in BODIES {
-        let netlist = format!(in alloc; "module m(c); input c; {body} endmodule")?;
-        is_refused(&rt, alloc, netlist.as_str(), answers)?;
+        is_refused_body(&rt, alloc, body, answers)?;
     }
     for (text, answer) in TEXTS {
         is_refused(&rt, alloc, text, &[*answer])?;
@@ -103,6 +124,21 @@ fn an_output_that_is_connected_to_nothing(rt: HostRuntime) -> Result<(), Fail> {
     Ok(())
 }
 
+/// Adds the module of a number, with some instances of the next.
+fn push_module(
+    alloc: Global,
+    text: &mut String,
+    number: usize,
+    instances: usize,
+) -> Result<(), AllocError> {
+    push_text(text, format!(in alloc; "module t{number}(c); input c;"))?;
+    let next = number.saturating_add(1);
+    for instance in 0..instances {
+        push_text(text, format!(in alloc; " t{next} u{instance} (.c(c));"))?;
+    }
+    text.push_str(" endmodule\n")
+}
+
 /// So many modules, each but the last with some instances of the next; the last has a body of its own.
 fn modules(
     alloc: Global,
@@ -112,14 +148,12 @@ fn modules(
 ) -> Result<String, AllocError> {
     let mut text = String::new(alloc);
     for number in 1..count {
-        text.push_str(format!(in alloc; "module t{number}(c); input c;")?.as_str())?;
-        for instance in 0..instances {
-            let next = number + 1;
-            text.push_str(format!(in alloc; " t{next} u{instance} (.c(c));")?.as_str())?;
-        }
-        text.push_str(" endmodule\n")?;
+        push_module(alloc, &mut text, number, instances)?;
     }
-    text.push_str(format!(in alloc; "module t{count}(c); input c; {body} endmodule\n")?.as_str())?;
+    push_text(
+        &mut text,
+        format!(in alloc; "module t{count}(c); input c; {body} endmodule\n"),
+    )?;
     Ok(text)
 }
 
@@ -161,7 +195,7 @@ fn begins(
     delays: &str,
     clock: &str,
     front: &str,
-) -> Result<(), Fail> {
+) -> Result<(), OutOfMemory> {
     let (_, taken) = optimised(alloc, netlist, delays, clock)?;
     assert!(rt; taken.as_slice().starts_with(front.as_bytes()), "{front}");
     Ok(())
@@ -188,7 +222,8 @@ fn too_many_elements(rt: HostRuntime) -> Result<(), Fail> {
     let netlist = "module m(c, x); input c; input [2000:0] x; endmodule";
     let clock = format!(in alloc; "{CLOCK}[[input]]\nport = \"x\"\nphase = \"p\"\n")?;
     let front = "refused 17 elements 2001\n";
-    begins(&rt, alloc, netlist, "(DELAYFILE)", &clock, front)
+    begins(&rt, alloc, netlist, "(DELAYFILE)", &clock, front)?;
+    Ok(())
 }
 
 #[test]
@@ -200,7 +235,8 @@ fn deep_braces(rt: HostRuntime) -> Result<(), Fail> {
         "(DELAYFILE)",
         CLOCK,
         "certificate 2\n",
-    )
+    )?;
+    Ok(())
 }
 
 // Row limits-and-one-past: numbers of delays.
@@ -213,11 +249,12 @@ fn too_large_numbers(rt: HostRuntime) -> Result<(), Fail> {
     let near =
         "(DELAYFILE (TIMESCALE 1 us) (CELL (CELLTYPE \"BUF\") (INSTANCE b) (DELAY (ABSOLUTE (IOPATH A Y (1.0))))))";
     begins(&rt, alloc, leaf, far, CLOCK, "refused 18 2\n")?;
-    begins(&rt, alloc, leaf, near, CLOCK, "certificate 2\n")
+    begins(&rt, alloc, leaf, near, CLOCK, "certificate 2\n")?;
+    Ok(())
 }
 
 /// The slacks of a netlist whose module of two latches is connected to this.
-fn has_slacks(rt: &impl Abort, alloc: Global, expr: &str, answer: &str) -> Result<(), Fail> {
+fn has_slacks(rt: &impl Abort, alloc: Global, expr: &str, answer: &str) -> Result<(), OutOfMemory> {
     let netlist = format!(in alloc;
         "module t(c, x); input c; input [0:1] x; pair p (.c(c), .i({expr})); endmodule module pair(c, i); input c; input [1:0] i; LAT a (.D(i[1]), .G(c)); LAT b (.D(i[0]), .G(c)); endmodule"
     )?;
@@ -238,5 +275,6 @@ fn pairs_follow_the_order_of_bits(rt: HostRuntime) -> Result<(), Fail> {
     let plain = "cycle 10/1\nslack x[1] p.b 10\nslack x[0] p.a 10\n";
     has_slacks(&rt, alloc, "x", plain)?;
     let turned = "cycle 10/1\nslack x[1] p.a 10\nslack x[0] p.b 10\n";
-    has_slacks(&rt, alloc, "{x[1], x[0]}", turned)
+    has_slacks(&rt, alloc, "{x[1], x[0]}", turned)?;
+    Ok(())
 }

@@ -1,10 +1,11 @@
 //! The worked rows.
-use super::files::{CERTIFICATES, CORNER_FILES, Edit, FILES, FURTHER_FILES, LIBRARIES};
-use super::harness::{bytes_shelf, is_answered, run_over, shelf_of, succeeds};
+use super::files::{CERTIFICATES, CORNER_FILES, Edit, FURTHER_FILES, LIBRARIES, files};
+use super::harness::{bytes_shelf, is_answered, run_on, shelf_of, succeeds};
 use super::rows::{FURTHER, OVER_CORNERS, OVER_FILES, OVER_LIBRARIES, ROWS, Row};
 use mintc_command::Status;
+use mintc_text::OutOfMemory;
 use mintc_worked::{TWO_CERTIFICATE, TWO_LATCHES};
-use std::alloc::Global;
+use std::alloc::{AllocError, Global};
 use std::process::Abort;
 use std::test::Fail;
 
@@ -16,60 +17,44 @@ fn is_of_row(row: &Row, text: &[u8]) -> bool {
     }
 }
 
-/// A run of the row over these files ends as it may.
-fn row_is_answered(
-    rt: &impl Abort,
-    alloc: Global,
-    files: &[(&str, &str)],
-    row: &Row,
-) -> Result<(), Fail> {
-    let mut shelf = shelf_of(alloc, files, &[])?;
-    let (status, taken) = run_over(alloc, &mut shelf, row.words, None)?;
-    assert!(rt;
-        status == row.status && is_of_row(row, taken.as_slice()),
-        "{} {}",
-        row.name,
-        row.words
-    );
-    Ok(())
+/// Whether a run of the row over these files ends as it may.
+fn ends_so(alloc: Global, files: &[(&str, &str)], row: &Row) -> bool {
+    match run_on(alloc, files, row.words) {
+        Ok((status, taken)) => status == row.status && is_of_row(row, taken.as_slice()),
+        Err(_) => false,
+    }
 }
 
 /// Each row over these files ends as it may.
-fn rows_are_answered(
-    rt: &impl Abort,
-    alloc: Global,
-    files: &[(&str, &str)],
-    rows: &[Row],
-) -> Result<(), Fail> {
+fn rows_are_answered(rt: &impl Abort, alloc: Global, files: &[(&str, &str)], rows: &[Row]) {
     for row in rows {
-        row_is_answered(rt, alloc, files, row)?;
+        assert!(rt; ends_so(alloc, files, row), "{} {}", row.name, row.words);
     }
-    Ok(())
 }
 
 #[test]
-fn worked_rows(rt: HostRuntime) -> Result<(), Fail> {
-    rows_are_answered(&rt, rt.alloc(), FILES, ROWS)
+fn worked_rows(rt: HostRuntime) {
+    rows_are_answered(&rt, rt.alloc(), files(), ROWS);
 }
 
 #[test]
-fn further_rows(rt: HostRuntime) -> Result<(), Fail> {
-    rows_are_answered(&rt, rt.alloc(), FURTHER_FILES, FURTHER)
+fn further_rows(rt: HostRuntime) {
+    rows_are_answered(&rt, rt.alloc(), FURTHER_FILES, FURTHER);
 }
 
 #[test]
-fn rows_over_libraries(rt: HostRuntime) -> Result<(), Fail> {
-    rows_are_answered(&rt, rt.alloc(), LIBRARIES, OVER_LIBRARIES)
+fn rows_over_libraries(rt: HostRuntime) {
+    rows_are_answered(&rt, rt.alloc(), LIBRARIES, OVER_LIBRARIES);
 }
 
 #[test]
-fn rows_over_corners(rt: HostRuntime) -> Result<(), Fail> {
-    rows_are_answered(&rt, rt.alloc(), CORNER_FILES, OVER_CORNERS)
+fn rows_over_corners(rt: HostRuntime) {
+    rows_are_answered(&rt, rt.alloc(), CORNER_FILES, OVER_CORNERS);
 }
 
 #[test]
-fn rows_over_files(rt: HostRuntime) -> Result<(), Fail> {
-    rows_are_answered(&rt, rt.alloc(), FILES, OVER_FILES)
+fn rows_over_files(rt: HostRuntime) {
+    rows_are_answered(&rt, rt.alloc(), files(), OVER_FILES);
 }
 
 /// The status with which `verify` gives this answer.
@@ -83,13 +68,9 @@ fn status_of(answer: &[u8]) -> Status {
     }
 }
 
-/// An edited certificate of the first table is judged so.
-fn is_judged(rt: &impl Abort, alloc: Global, first_line: &str, edit: &Edit) -> Result<(), Fail> {
-    let edited = TWO_CERTIFICATE.replacen(alloc, edit.old, edit.new, 1)?;
-    let text = edited.replacen(alloc, "certificate 2", first_line, 1)?;
-    let files = [("TAB1", TWO_LATCHES), ("judged", text.as_str())];
-    let mut shelf = shelf_of(alloc, &files, &[])?;
-    let answer = edit.answer.as_bytes();
+/// A certificate of the first table is judged so.
+fn is_judged(rt: &impl Abort, alloc: Global, text: &str, answer: &[u8]) -> Result<(), OutOfMemory> {
+    let mut shelf = shelf_of(alloc, &[("TAB1", TWO_LATCHES), ("judged", text)], &[])?;
     let wanted = (status_of(answer), answer);
     is_answered(
         rt,
@@ -98,21 +79,31 @@ fn is_judged(rt: &impl Abort, alloc: Global, first_line: &str, edit: &Edit) -> R
         "verify table TAB1 judged",
         None,
         wanted,
-    )
+    );
+    Ok(())
+}
+
+/// An edited certificate of the first table, with this first line.
+fn edited(alloc: Global, first_line: &str, edit: &Edit) -> Result<String, AllocError> {
+    let edited = TWO_CERTIFICATE.replacen(alloc, edit.old, edit.new, 1)?;
+    edited.replacen(alloc, "certificate 2", first_line, 1)
 }
 
 // The rows on certificates, in both versions.
 #[test]
 fn certificates_of_both_versions(rt: HostRuntime) -> Result<(), Fail> {
+    let alloc = rt.alloc();
     for edit in CERTIFICATES {
-        is_judged(&rt, rt.alloc(), "certificate 1", edit)?;
-        is_judged(&rt, rt.alloc(), "certificate 2", edit)?;
+        for first_line in &["certificate 1", "certificate 2"] {
+            let text = edited(alloc, first_line, edit)?;
+            is_judged(&rt, alloc, &text, edit.answer.as_bytes())?;
+        }
     }
     Ok(())
 }
 
 /// A certificate that is found for a table is valid.
-fn is_valid(rt: &impl Abort, alloc: Global, table: &str, found: &[u8]) -> Result<(), Fail> {
+fn is_valid(rt: &impl Abort, alloc: Global, table: &str, found: &[u8]) -> Result<(), OutOfMemory> {
     let files = [("a.table", table.as_bytes()), ("found", found)];
     let mut shelf = bytes_shelf(alloc, &files)?;
     succeeds(
@@ -121,19 +112,24 @@ fn is_valid(rt: &impl Abort, alloc: Global, table: &str, found: &[u8]) -> Result
         &mut shelf,
         "verify table a.table found",
         b"valid\n",
-    )
+    );
+    Ok(())
+}
+
+/// What `optimise` writes for a table is what `verify` calls valid, where it isn't refused.
+fn optimum_is_valid(rt: &impl Abort, alloc: Global, table: &str) -> Result<(), OutOfMemory> {
+    let (status, found) = run_on(alloc, &[("a.table", table)], "optimise table a.table")?;
+    if status == Status::Refused {
+        return Ok(());
+    }
+    is_valid(rt, alloc, table, found.as_slice())
 }
 
 // What `optimise` writes is what `verify` calls valid.
 #[test]
 fn optima_are_valid(rt: HostRuntime) -> Result<(), Fail> {
-    let alloc = rt.alloc();
-    for (_, text) in FILES {
-        let mut shelf = shelf_of(alloc, &[("a.table", *text)], &[])?;
-        let (status, taken) = run_over(alloc, &mut shelf, "optimise table a.table", None)?;
-        if status != Status::Refused {
-            is_valid(&rt, alloc, text, taken.as_slice())?;
-        }
+    for (_, text) in files() {
+        optimum_is_valid(&rt, rt.alloc(), text)?;
     }
     Ok(())
 }

@@ -16,20 +16,25 @@ pub struct Case {
     pub arcs: &'static [&'static str],
 }
 
-/// Writes a row for each element of a case.
-fn push_elements(text: &mut String, elements: u32) -> Result<(), AllocError> {
+/// Adds a row, where there was memory for it.
+pub fn push_row(text: &mut String, row: Result<String, AllocError>) -> Result<(), AllocError> {
+    text.push_str(&row?)
+}
+
+/// Adds a row for each of so many elements.
+pub fn push_elements(text: &mut String, elements: u32) -> Result<(), AllocError> {
     for _ in 0..elements {
         text.push_str("element a 1 0 - 0 0 0\n")?;
     }
     Ok(())
 }
 
-/// Writes the inner bits and the arcs of a case.
+/// Adds the inner bits and the arcs of a case.
 fn push_arcs(alloc: Global, text: &mut String, case: &Case) -> Result<(), AllocError> {
     let (inner, count) = (case.inner, case.arcs.len());
-    text.push_str(&format!(in alloc; "inner {inner}\narcs {count}\n")?)?;
+    push_row(text, format!(in alloc; "inner {inner}\narcs {count}\n"))?;
     for arc in case.arcs {
-        text.push_str(&format!(in alloc; "arc {arc}\n")?)?;
+        push_row(text, format!(in alloc; "arc {arc}\n"))?;
     }
     text.push_str("bounds 0\nend\n")
 }
@@ -49,12 +54,16 @@ pub fn design_of_text(rt: &impl Abort, alloc: Global, text: &str) -> Result<Flat
     read_table(alloc, text.as_bytes())
 }
 
-/// The system of a table's text.
-pub fn system_of_text(rt: &impl Abort, alloc: Global, text: &str) -> Result<System, Stop> {
-    let flat = design_of_text(rt, alloc, text)?;
+/// The system of a design.
+fn system_of_design(alloc: Global, flat: Flat) -> Result<System, Stop> {
     let order = order(alloc, &flat)?;
     let pairs = extremes(alloc, &flat, &order)?;
     Ok(System::new(flat, order, pairs))
+}
+
+/// The system of a table's text, or what stops it.
+pub fn system_of_text(rt: &impl Abort, alloc: Global, text: &str) -> Result<System, Stop> {
+    system_of_design(alloc, design_of_text(rt, alloc, text)?)
 }
 
 pub const NINE: Case = Case {

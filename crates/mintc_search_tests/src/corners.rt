@@ -4,12 +4,9 @@ ghost use Rattle.mintc_corners.specs.CornerOptimum.{IsCornerInRange};
 
 mod alike;
 
+use crate::cases::system_of_text;
 use alike::are_corners;
 use mintc_corners::{CornerCertificate, corners, corners_text};
-use mintc_lines::read_table;
-use mintc_order::order;
-use mintc_paths::extremes;
-use mintc_text::Stop;
 use mintc_timing::System;
 use mintc_walks::Steps;
 use std::alloc::Global;
@@ -25,15 +22,6 @@ struct Row {
     tables: &'static [&'static str],
     answer: &'static str,
     chains: &'static [&'static str],
-}
-
-/// The system of a table.
-fn system_of(rt: &impl Abort, alloc: Global, table: &str) -> Result<System, Stop> {
-    assert!(rt; table.len() < 100_000);
-    let flat = read_table(alloc, table.as_bytes())?;
-    let order = order(alloc, &flat)?;
-    let pairs = extremes(alloc, &flat, &order)?;
-    Ok(System::new(flat, order, pairs))
 }
 
 /// The certificate of systems.
@@ -119,13 +107,24 @@ const HOPELESS: Row = Row {
 };
 
 /// The systems of a row.
-fn systems_of(rt: &impl Abort, alloc: Global, row: &Row) -> Result<Vec<System>, Fail> {
+fn systems_of(rt: &impl Abort, alloc: Global, row: &Row) -> Option<Vec<System>> {
     let mut systems = Vec::new(alloc);
     for table in row.tables {
-        let system = system_of(rt, alloc, table).ok().ok_or(row.name)?;
-        systems.push(system).ok().ok_or(row.name)?;
+        systems.push(system_of_text(rt, alloc, table).ok()?).ok()?;
     }
-    Ok(systems)
+    Some(systems)
+}
+
+/// The certificate of a row.
+fn certificate_of(rt: &impl Abort, alloc: Global, row: &Row) -> Option<CornerCertificate>
+    ensures { IfSome result IsCornerInRange }
+{
+    found::<Brand>(alloc, &systems_of(rt, alloc, row)?, Blank::new(1))
+}
+
+/// The text of a row's certificate.
+fn certificate_text(rt: &impl Abort, alloc: Global, row: &Row) -> Option<Vec<u8>> {
+    corners_text(alloc, &certificate_of(rt, alloc, row)?).ok()
 }
 
 /// Whether a text is the answer of a row, with one of its chains.
@@ -138,11 +137,8 @@ fn is_of_row(row: &Row, text: &[u8]) -> bool {
 
 #[test]
 fn rows_have_their_certificates(rt: HostRuntime) -> Result<(), Fail> {
-    let alloc = rt.alloc();
     for row in &[TWO, THREE, FOUR, HOPELESS] {
-        let systems = systems_of(&rt, alloc, row)?;
-        let certificate = found::<Brand>(alloc, &systems, Blank::new(1)).ok_or(row.name)?;
-        let text = corners_text(alloc, &certificate).ok().ok_or(row.name)?;
+        let text = certificate_text(&rt, rt.alloc(), row).ok_or(row.name)?;
         assert!(rt; is_of_row(row, text.as_slice()), "{}", row.name);
     }
     Ok(())

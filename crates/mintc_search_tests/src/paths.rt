@@ -1,11 +1,11 @@
 //! Tests of what no clause says: the worked designs, and small ones against a plain listing of all paths.
-ghost use Rattle.std.specs.Prelude.{◌<◌, length};
+ghost use Rattle.std.specs.Prelude.{◌<◌, ◌≤◌, length};
 ghost use Rattle.std.specs.Bool.{OnTrue};
 ghost use Rattle.mintc_paths.specs.Trace.{IsPairOf};
 
 use crate::cases::{
     ABOVE_LIMIT, AT_LIMIT, Case, DIAMOND, ELEVEN, ENDS, INNER, NINE, NONE, PARALLEL, PATHS, SELVES,
-    UNLED, system_of_text, text_of,
+    UNLED, push_elements, push_row, system_of_text, text_of,
 };
 use mintc_paths::{Finder, path_of, shortest_path_of};
 use mintc_text::{Kind, Refusal, Stop};
@@ -27,12 +27,17 @@ fn is_pair(pairs: &[Pair], from: u32, to: u32) -> bool
     false
 }
 
+/// The system of a case, or what stops it.
+fn built(rt: &impl Abort, alloc: Global, case: &Case) -> Result<System, Stop> {
+    match text_of(alloc, case) {
+        Ok(text) => system_of_text(rt, alloc, &text),
+        Err(_) => Err(Stop::OutOfMemory),
+    }
+}
+
 /// The system of a case.
-fn system_of(rt: &impl Abort, alloc: Global, case: &Case) -> Result<System, Stop> {
-    let Ok(text) = text_of(alloc, case) else {
-        return Err(Stop::OutOfMemory);
-    };
-    system_of_text(rt, alloc, &text)
+fn system_of(rt: &impl Abort, alloc: Global, case: &Case) -> Option<System> {
+    built(rt, alloc, case).ok()
 }
 
 /// What a list of pairs gives for two elements.
@@ -143,19 +148,46 @@ fn check_pairs(rt: &impl Abort, pairs: &[Pair], wanted: &[Wanted]) {
     }
 }
 
-#[test]
-fn pairs_are_found(rt: HostRuntime) -> Result<(), Fail> {
-    let alloc = rt.alloc();
-    for (case, wanted) in &[(NINE, NINE_PAIRS), (INNER, INNER_PAIRS)] {
-        let system = system_of(&rt, alloc, case).ok().ok_or(case.name)?;
-        check_pairs(&rt, system.pairs(), wanted);
+/// A case has these pairs and no others.
+fn has_pairs(rt: &impl Abort, case: &Case, wanted: &[Wanted], alloc: Global) {
+    match system_of(rt, alloc, case) {
+        Some(system) => check_pairs(rt, system.pairs(), wanted),
+        None => panic!(rt; "{}", case.name),
     }
-    Ok(())
 }
 
 #[test]
-fn pairs_are_those_of_a_listing(rt: HostRuntime) -> Result<(), Fail> {
-    let alloc = rt.alloc();
+fn pairs_are_found(rt: HostRuntime) {
+    has_pairs(&rt, &NINE, NINE_PAIRS, rt.alloc());
+    has_pairs(&rt, &INNER, INNER_PAIRS, rt.alloc());
+}
+
+/// Whether the pairs of a system with so many elements are those of a listing.
+fn has_listed(system: &System, elements: u32) -> bool
+    requires { elements ≤ 11 }
+{
+    let arcs = system.flat().arcs();
+    for from in 0..elements {
+        for to in 0..elements {
+            let wanted = listed(arcs, 2 * from + 1, 2 * to, arcs.len());
+            if given(system.pairs(), from, to) != wanted {
+                return false;
+            }
+        }
+    }
+    true
+}
+
+/// Whether a case is small, and its pairs are those of a listing.
+fn is_as_listed(rt: &impl Abort, alloc: Global, case: &Case) -> bool {
+    match system_of(rt, alloc, case) {
+        Some(system) => case.elements <= 11 && has_listed(&system, case.elements),
+        None => false,
+    }
+}
+
+#[test]
+fn pairs_are_those_of_a_listing(rt: HostRuntime) {
     for case in &[
         NINE,
         INNER,
@@ -169,21 +201,8 @@ fn pairs_are_those_of_a_listing(rt: HostRuntime) -> Result<(), Fail> {
         ELEVEN,
         FEW_ENTERED,
     ] {
-        let system = system_of(&rt, alloc, case).ok().ok_or(case.name)?;
-        let arcs = system.flat().arcs();
-        assert!(rt; case.elements <= 11);
-        for from in 0..case.elements {
-            for to in 0..case.elements {
-                assert!(rt;
-                    given(system.pairs(), from, to)
-                        == listed(arcs, 2 * from + 1, 2 * to, arcs.len()),
-                    "{}",
-                    case.name
-                );
-            }
-        }
+        assert!(rt; is_as_listed(&rt, rt.alloc(), case), "{}", case.name);
     }
-    Ok(())
 }
 
 /// Whether the paths with the greatest and the least sum for these elements have these arcs.
@@ -208,11 +227,12 @@ fn are_paths(
 }
 
 #[test]
-fn paths_have_the_sums(rt: HostRuntime) -> Result<(), Fail> {
+fn paths_have_the_sums(rt: HostRuntime) {
     let alloc = rt.alloc();
-    let system = system_of(&rt, alloc, &PATHS).ok().ok_or("refused")?;
-    assert!(rt; are_paths(alloc, &system, (0, 1), &[0], &[1, 2]));
-    Ok(())
+    match system_of(&rt, alloc, &PATHS) {
+        Some(system) => assert!(rt; are_paths(alloc, &system, (0, 1), &[0], &[1, 2])),
+        None => panic!(rt; "refused"),
+    }
 }
 
 /// Whether a path with the greatest sum is found for the pair at this place.
@@ -256,66 +276,104 @@ fn are_all_searched(alloc: Global, system: &System) -> bool {
     are_found(alloc, &mut finder, system) && finder.missed() == 0
 }
 
-#[test]
-fn searches_find_the_paths(rt: HostRuntime) -> Result<(), Fail> {
-    let alloc = rt.alloc();
-    for case in &[NINE, INNER, PATHS, PARALLEL, SELVES, ENDS, DIAMOND, ELEVEN] {
-        let system = system_of(&rt, alloc, case).ok().ok_or(case.name)?;
-        assert!(rt; are_all_searched(alloc, &system), "{}", case.name);
+/// Whether the search by itself finds both paths for each pair of a case.
+fn is_searched(rt: &impl Abort, alloc: Global, case: &Case) -> bool {
+    match system_of(rt, alloc, case) {
+        Some(system) => are_all_searched(alloc, &system),
+        None => false,
     }
-    Ok(())
+}
+
+#[test]
+fn searches_find_the_paths(rt: HostRuntime) {
+    for case in &[NINE, INNER, PATHS, PARALLEL, SELVES, ENDS, DIAMOND, ELEVEN] {
+        assert!(rt; is_searched(&rt, rt.alloc(), case), "{}", case.name);
+    }
+}
+
+/// The rows of a design before the arcs between its inner bits.
+const DEEP: &str =
+    "table 1\nphases 1\nphase p\nelements 2\nelement a 1 0 - 0 0 0\nelement b 1 0 - 0 0 0\ninner 140\narcs 280\n\
+arc q0 n0 3 4\narc q1 n70 0 1\narc n139 d1 2 2\narc n40 d0 7 7\n";
+
+/// Adds arcs from each inner bit to the next and to the one after it.
+fn push_deep(alloc: Global, text: &mut String) -> Result<(), AllocError> {
+    for bit in 0..138 {
+        let (next, other) = (bit + 1, bit + 2);
+        push_row(
+            text,
+            format!(in alloc; "arc n{bit} n{next} 1 2\narc n{bit} n{other} 1 5\n"),
+        )?;
+    }
+    text.push_str("bounds 0\nend\n")
 }
 
 /// A row of 140 inner bits with arcs to the next bit and to the one after it, so that rows fill several words of marks.
 fn deep_text(alloc: Global) -> Result<String, AllocError> {
-    let mut text = String::new(alloc);
-    text.push_str("table 1\nphases 1\nphase p\nelements 2\n")?;
-    text.push_str("element a 1 0 - 0 0 0\nelement b 1 0 - 0 0 0\ninner 140\narcs 280\n")?;
-    text.push_str("arc q0 n0 3 4\narc q1 n70 0 1\narc n139 d1 2 2\narc n40 d0 7 7\n")?;
-    for bit in 0..138 {
-        let (next, other) = (bit + 1, bit + 2);
-        text.push_str(&format!(in alloc; "arc n{bit} n{next} 1 2\narc n{bit} n{other} 1 5\n")?)?;
-    }
-    text.push_str("bounds 0\nend\n")?;
+    let mut text = String::from_str(alloc, DEEP)?;
+    push_deep(alloc, &mut text)?;
     Ok(text)
 }
 
-#[test]
-fn searches_go_through_many_rows(rt: HostRuntime) -> Result<(), Fail> {
-    let alloc = rt.alloc();
-    let text = deep_text(alloc).ok().ok_or("no memory")?;
-    let system = system_of_text(&rt, alloc, &text).ok().ok_or("refused")?;
-    assert!(rt; system.pairs().len() == 3);
-    assert!(rt; are_all_searched(alloc, &system));
-    Ok(())
-}
-
-/// A finder, which may be of another system, finds the paths of a case.
-fn finds(rt: &impl Abort, alloc: Global, finder: &mut Finder, case: &Case) -> Result<(), Fail> {
-    let system = system_of(rt, alloc, case).ok().ok_or(case.name)?;
-    assert!(rt; are_found(alloc, finder, &system), "{}", case.name);
-    Ok(())
-}
-
-#[test]
-fn finders_of_another_system_find_the_paths(rt: HostRuntime) -> Result<(), Fail> {
-    let alloc = rt.alloc();
-    let other = system_of(&rt, alloc, &NINE).ok().ok_or("refused")?;
-    let mut finder = Finder::new(alloc, &other).ok().ok_or("no memory")?;
-    for case in &[PARALLEL, SELVES, ELEVEN] {
-        finds(&rt, alloc, &mut finder, case)?;
+/// The system of that design.
+fn deep_system(rt: &impl Abort, alloc: Global) -> Option<System> {
+    match deep_text(alloc) {
+        Ok(text) => system_of_text(rt, alloc, &text).ok(),
+        Err(_) => None,
     }
-    Ok(())
+}
+
+#[test]
+fn searches_go_through_many_rows(rt: HostRuntime) {
+    let alloc = rt.alloc();
+    match deep_system(&rt, alloc) {
+        Some(system) => {
+            assert!(rt; system.pairs().len() == 3);
+            assert!(rt; are_all_searched(alloc, &system));
+        }
+        None => panic!(rt; "refused"),
+    }
+}
+
+/// Whether a finder, which may be of another system, finds the paths of a case.
+fn finds(rt: &impl Abort, alloc: Global, finder: &mut Finder, case: &Case) -> bool {
+    match system_of(rt, alloc, case) {
+        Some(system) => are_found(alloc, finder, &system),
+        None => false,
+    }
+}
+
+/// A finder finds the paths of some cases.
+fn finds_all(rt: &impl Abort, alloc: Global, finder: &mut Finder) {
+    for case in &[PARALLEL, SELVES, ELEVEN] {
+        assert!(rt; finds(rt, alloc, finder, case), "{}", case.name);
+    }
+}
+
+/// A finder of the system of a case.
+fn finder_of(rt: &impl Abort, alloc: Global, case: &Case) -> Option<Finder> {
+    match system_of(rt, alloc, case) {
+        Some(system) => Finder::new(alloc, &system).ok(),
+        None => None,
+    }
+}
+
+#[test]
+fn finders_of_another_system_find_the_paths(rt: HostRuntime) {
+    match finder_of(&rt, rt.alloc(), &NINE) {
+        Some(mut finder) => finds_all(&rt, rt.alloc(), &mut finder),
+        None => panic!(rt; "no finder"),
+    }
 }
 
 #[test]
 fn a_sum_at_the_limit_is_none_above(rt: HostRuntime) {
-    assert!(rt; system_of(&rt, rt.alloc(), &AT_LIMIT).is_ok());
+    assert!(rt; system_of(&rt, rt.alloc(), &AT_LIMIT).is_some());
 }
 
 /// The element and the bit of the path of a case that is too long.
 fn too_long(rt: &impl Abort, alloc: Global, case: &Case) -> Option<(u32, u32)> {
-    match system_of(rt, alloc, case) {
+    match built(rt, alloc, case) {
         Err(Stop::Refused(Refusal::PathRange { element, bit })) => Some((element, bit)),
         _ => None,
     }
@@ -328,39 +386,44 @@ fn a_sum_above_the_limit_is_refused(rt: HostRuntime) {
     assert!(rt; too_long(&rt, alloc, &FEW_ENTERED_TOO_LONG) == Some((1, 4)));
 }
 
-/// An inner bit that 2,000 outputs enter and that leads to 101 inputs.
-fn many_text(alloc: Global) -> Result<String, AllocError> {
-    let mut text = String::new(alloc);
-    text.push_str("table 1\nphases 1\nphase p\nelements 2000\n")?;
-    for _ in 0..2000 {
-        text.push_str("element a 1 0 - 0 0 0\n")?;
-    }
+/// Adds an inner bit that 2,000 outputs enter and that leads to 101 inputs.
+fn push_many(alloc: Global, text: &mut String) -> Result<(), AllocError> {
     text.push_str("inner 1\narcs 2101\n")?;
     for from in 0..2000 {
-        text.push_str(&format!(in alloc; "arc q{from} n0 1 2\n")?)?;
+        push_row(text, format!(in alloc; "arc q{from} n0 1 2\n"))?;
     }
     for to in 0..101 {
-        text.push_str(&format!(in alloc; "arc n0 d{to} 3 4\n")?)?;
+        push_row(text, format!(in alloc; "arc n0 d{to} 3 4\n"))?;
     }
-    text.push_str("bounds 0\nend\n")?;
+    text.push_str("bounds 0\nend\n")
+}
+
+/// A table with that inner bit.
+fn many_text(alloc: Global) -> Result<String, AllocError> {
+    let mut text = String::from_str(alloc, "table 1\nphases 1\nphase p\nelements 2000\n")?;
+    push_elements(&mut text, 2000)?;
+    push_many(alloc, &mut text)?;
     Ok(text)
+}
+
+/// How many pairs a table has, where they are too many.
+fn too_many(rt: &impl Abort, alloc: Global, text: &str) -> Option<u64> {
+    match system_of_text(rt, alloc, text) {
+        Err(
+            Stop::Refused(
+                Refusal::Limit {
+                    kind: Kind::Pairs,
+                    count,
+                },
+            ),
+        ) => Some(count),
+        _ => None,
+    }
 }
 
 #[test]
 fn pairs_beyond_the_limit_are_counted_from_the_inputs(rt: HostRuntime) -> Result<(), Fail> {
-    let alloc = rt.alloc();
-    let text = many_text(alloc).ok().ok_or("no memory")?;
-    let Err(
-        Stop::Refused(
-            Refusal::Limit {
-                kind: Kind::Pairs,
-                count,
-            },
-        ),
-    ) = system_of_text(&rt, alloc, &text)
-    else {
-        return Err("accepted".into());
-    };
-    assert!(rt; count == 202_000, "{count}");
+    let text = many_text(rt.alloc())?;
+    assert!(rt; too_many(&rt, rt.alloc(), &text) == Some(202_000));
     Ok(())
 }

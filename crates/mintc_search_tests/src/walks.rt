@@ -3,7 +3,7 @@ ghost use Rattle.std.specs.Bool.{OnTrue};
 ghost use Rattle.mintc_walks.specs.Bounds.{AreBounded, AreOrdinary, IsWithin};
 
 use mintc_walks::{Answer, Arc, NONE, Network, UNREACHED, greatest_walks_uncounted};
-use std::alloc::Global;
+use std::alloc::{AllocError, Global};
 use std::process::Abort;
 use std::test::Fail;
 
@@ -80,7 +80,7 @@ fn find(
     arcs: &[Arc],
     starts: &[i128],
     first: &[u32],
-) -> Result<Found, Fail> {
+) -> Result<Found, AllocError> {
     let nodes = starts.len();
     assert!(rt; 0 < nodes && nodes <= 4096 && arcs.len() < 1 << 32);
     assert!(rt; first.len() == nodes && are_ordinary(nodes, arcs) && are_bounded(starts));
@@ -108,7 +108,7 @@ fn find(
 type Row = (u32, u32, i128);
 
 /// Arcs in a list.
-fn arcs_of(alloc: Global, rows: &[Row]) -> Result<Vec<Arc>, Fail> {
+fn arcs_of(alloc: Global, rows: &[Row]) -> Result<Vec<Arc>, AllocError> {
     let mut arcs = Vec::new(alloc);
     for &(from, to, weight) in rows {
         arcs.push(Arc { from, to, weight })?;
@@ -220,11 +220,26 @@ const NETWORKS: &[Case] = &[
     },
 ];
 
-/// The walks in a case's network are those that it names.
-fn is_answered(rt: &impl Abort, alloc: Global, case: &Case) -> Result<(), Fail> {
+/// What the walks find that begin with no arcs of a list.
+fn find_anew(
+    rt: &impl Abort,
+    alloc: Global,
+    arcs: &[Arc],
+    starts: &[i128],
+) -> Result<Found, AllocError> {
+    let none = vec![in alloc; NONE; starts.len()]?;
+    find(rt, alloc, arcs, starts, &none)
+}
+
+/// What the walks find in a case's network.
+fn found_in(rt: &impl Abort, alloc: Global, case: &Case) -> Result<Found, AllocError> {
     let arcs = arcs_of(alloc, case.arcs)?;
-    let none = vec![in alloc; NONE; case.starts.len()]?;
-    let mut found = find(rt, alloc, &arcs, case.starts, &none)?;
+    find_anew(rt, alloc, &arcs, case.starts)
+}
+
+/// The walks in a case's network are those that it names.
+fn is_answered(rt: &impl Abort, alloc: Global, case: &Case) -> Result<(), AllocError> {
+    let mut found = found_in(rt, alloc, case)?;
     assert!(rt;
         has_answer(&mut found, case.values, case.chain),
         "{}",
@@ -310,8 +325,8 @@ const KEPT: &[Kept] = &[
     },
 ];
 
-/// The walks that begin with a case's arcs are those that it names.
-fn is_kept(rt: &impl Abort, alloc: Global, case: &Kept) -> Result<(), Fail> {
+/// What the walks find that begin with a case's arcs.
+fn found_with(rt: &impl Abort, alloc: Global, case: &Kept) -> Result<Found, AllocError> {
     let rows = [
         (0, 1, 2),
         (1, 2, 2),
@@ -321,7 +336,12 @@ fn is_kept(rt: &impl Abort, alloc: Global, case: &Kept) -> Result<(), Fail> {
     ];
     let arcs = arcs_of(alloc, &rows)?;
     let starts = [0, UNREACHED, UNREACHED, UNREACHED];
-    let mut found = find(rt, alloc, &arcs, &starts, &case.first)?;
+    find(rt, alloc, &arcs, &starts, &case.first)
+}
+
+/// The walks that begin with a case's arcs are those that it names.
+fn is_kept(rt: &impl Abort, alloc: Global, case: &Kept) -> Result<(), AllocError> {
+    let mut found = found_with(rt, alloc, case)?;
     assert!(rt;
         has_answer(&mut found, case.values, case.chain),
         "{}",
@@ -340,7 +360,7 @@ fn wrong_trees(rt: HostRuntime) -> Result<(), Fail> {
 }
 
 /// A ring of so many nodes whose arcs have weight 0 but the one that closes it. Each arc stands before the one that it follows.
-fn ring_of(alloc: Global, nodes: u32, closing: i128) -> Result<Vec<Arc>, Fail>
+fn ring_of(alloc: Global, nodes: u32, closing: i128) -> Result<Vec<Arc>, AllocError>
     requires { 1 ≤ nodes }
 {
     let mut arcs = Vec::new(alloc);
@@ -380,15 +400,19 @@ fn is_right(found: &Found, closing: i128) -> bool {
     }
 }
 
+/// What the walks find that begin at one node of a ring of 2,000.
+fn found_in_ring(rt: &impl Abort, alloc: Global, closing: i128) -> Result<Found, AllocError> {
+    let mut starts = vec![in alloc; UNREACHED; 2000]?;
+    starts[0] = 0;
+    let arcs = ring_of(alloc, 2000, closing)?;
+    find_anew(rt, alloc, &arcs, &starts)
+}
+
 // Each pass takes the walks one arc further, so that the last pass that may be taken is needed.
 #[test]
 fn a_ring_of_two_thousand(rt: HostRuntime) -> Result<(), Fail> {
-    let mut starts = vec![in rt.alloc(); UNREACHED; 2000]?;
-    starts[0] = 0;
-    let none = vec![in rt.alloc(); NONE; 2000]?;
     for closing in &[-1, 0, 1] {
-        let arcs = ring_of(rt.alloc(), 2000, *closing)?;
-        let found = find(&rt, rt.alloc(), &arcs, &starts, &none)?;
+        let found = found_in_ring(&rt, rt.alloc(), *closing)?;
         assert!(rt; is_right(&found, *closing), "{closing}");
     }
     Ok(())

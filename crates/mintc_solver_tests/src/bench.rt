@@ -1,22 +1,15 @@
 //! A bench finds the same cycle time each time.
 ghost use Rattle.std.specs.Prelude.{◌≡◌, ◌<◌};
 
-use mintc_build::{from_table, system};
+use super::systems::system_of;
 use mintc_optimise::Bench;
 use mintc_ratio::Outcome;
-use mintc_text::Stop;
-use mintc_timing::System;
 use mintc_walks::Steps;
 use mintc_worked::TWO_LATCHES;
 use std::alloc::Global;
 use std::marker::Brand;
+use std::process::Abort;
 use std::sync::ledger::{Blank, Ledger};
-use std::test::Fail;
-
-/// The system of the ring.
-fn system_of(alloc: Global) -> Result<System, Stop> {
-    system(alloc, from_table(alloc, TWO_LATCHES.as_bytes())?)
-}
 
 /// The cycle times that two searches on one bench find.
 fn solved_twice<L: Ledger>(bench: &mut Bench, blank: Blank) -> Option<[(i128, i128); 2]>
@@ -34,12 +27,19 @@ fn solved_twice<L: Ledger>(bench: &mut Bench, blank: Blank) -> Option<[(i128, i1
     Some([(first.num(), first.den()), (second.num(), second.den())])
 }
 
+/// A bench for the ring.
+fn bench_of(rt: &impl Abort, alloc: Global) -> Option<Bench> {
+    let system = system_of(rt, alloc, TWO_LATCHES)?;
+    Bench::reserve(alloc, &system).ok()
+}
+
 #[test]
-fn bench_solves_twice(rt: HostRuntime) -> Result<(), Fail> {
-    let alloc = rt.alloc();
-    let system = system_of(alloc).ok().ok_or("refused")?;
-    let mut bench = Bench::reserve(alloc, &system).ok().ok_or("no memory")?;
-    let cycles = solved_twice::<Brand>(&mut bench, Blank::new(1)).ok_or("never")?;
-    assert!(rt; cycles == [(100, 1), (100, 1)]);
-    Ok(())
+fn bench_solves_twice(rt: HostRuntime) {
+    match bench_of(&rt, rt.alloc()) {
+        Some(mut bench) => {
+            let cycles = solved_twice::<Brand>(&mut bench, Blank::new(1));
+            assert!(rt; cycles == Some([(100, 1), (100, 1)]));
+        }
+        None => panic!(rt; "no bench"),
+    }
 }

@@ -1,17 +1,9 @@
 //! Worked rows, of what no clause says: with memory a design has its system, or its refusal, and files have their design.
-use mintc_build::{from_table, system};
+use super::systems::built;
 use mintc_text::{Refusal, Stop};
 use mintc_timing::System;
 use mintc_worked::{CLOSED_INNER, GREATEST_SUM, SUM_PAST_LIMIT, TWO_THROUGH_INNER};
-use std::alloc::Global;
-use std::process::Abort;
 use std::test::Fail;
-
-/// The system of a table.
-fn built(rt: &impl Abort, alloc: Global, text: &str) -> Result<System, Stop> {
-    assert!(rt; text.len() < 1_000);
-    system(alloc, from_table(alloc, text.as_bytes())?)
-}
 
 /// Whether these are the pairs of a system: the two elements, the least and the greatest delay.
 fn has_pairs(system: &System, wanted: &[(u32, u32, i64, i64)]) -> bool {

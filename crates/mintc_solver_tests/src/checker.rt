@@ -1,6 +1,8 @@
 //! Tests of what no clause says: certificates that pass, and for each of the seven tests some that fail it first.
-use mintc_build::{from_table, system};
-use mintc_certificate::read;
+ghost use Rattle.mintc_certificate.specs.Ranges.{IsCertificateInRange};
+
+use super::systems::system_of;
+use mintc_certificate::{Certificate, read};
 use mintc_checker::{Verdict, examine, examine_flat};
 use mintc_timing::System;
 use mintc_worked::{TWO_CERTIFICATE, TWO_ENABLED, TWO_FLOPS, TWO_LATCHES};
@@ -8,12 +10,18 @@ use std::alloc::Global;
 use std::process::Abort;
 use std::test::Fail;
 
-/// The system of a table.
-fn system_of(alloc: Global, table: &str) -> Option<System> {
-    if table.len() > 1_000 {
-        return None;
+/// The verdict of both calls on a certificate, where they agree.
+fn agreed(alloc: Global, system: &System, certificate: &Certificate) -> Option<Verdict>
+    requires { IsCertificateInRange certificate.now }
+{
+    let _pairs = system.pairs();
+    let of_flat = examine_flat(alloc, system.flat(), system.order(), certificate).ok()?;
+    let of_system = examine(alloc, system, certificate).ok()?;
+    if of_flat == of_system {
+        Some(of_system)
+    } else {
+        None
     }
-    system(alloc, from_table(alloc, table.as_bytes()).ok()?).ok()
 }
 
 /// The verdict of both calls on a text of a certificate, where they agree.
@@ -22,61 +30,62 @@ fn judged(alloc: Global, system: &System, text: &str) -> Option<Verdict> {
         return None;
     }
     let certificate = read(alloc, text.as_bytes()).ok()?;
-    let _pairs = system.pairs();
-    let of_flat = examine_flat(alloc, system.flat(), system.order(), &certificate).ok()?;
-    let of_system = examine(alloc, system, &certificate).ok()?;
-    if of_flat == of_system {
-        Some(of_system)
-    } else {
-        None
-    }
+    agreed(alloc, system, &certificate)
+}
+
+/// The verdict on a text after one text in it is put in place of another.
+fn judged_with(
+    alloc: Global,
+    system: &System,
+    text: &str,
+    old: &str,
+    new: &str,
+) -> Option<Verdict> {
+    let edited = text.replacen(alloc, old, new, 1).ok()?;
+    judged(alloc, system, &edited)
 }
 
 /// The verdict on a text in version 2 and on the same in version 1, where they agree.
 fn judged_in_both(alloc: Global, system: &System, text: &str) -> Option<Verdict> {
-    let first = text
-        .replacen(alloc, "certificate 2", "certificate 1", 1)
-        .ok()?;
-    let verdict = judged(alloc, system, text)?;
-    if judged(alloc, system, &first)? == verdict {
-        Some(verdict)
-    } else {
-        None
-    }
+    let second = judged(alloc, system, text)?;
+    let first = judged_with(alloc, system, text, "certificate 2", "certificate 1")?;
+    if first == second { Some(second) } else { None }
 }
 
 /// A certificate with one text in place of another, and its verdict.
 type Edit = (&'static str, &'static str, Verdict);
 
-/// An edited certificate has its verdict.
-fn is_judged(
-    rt: &impl Abort,
+/// The verdict on an edited certificate in both versions, where they agree.
+fn judged_in_both_with(
     alloc: Global,
     system: &System,
     certificate: &str,
     edit: &Edit,
-) -> Result<(), Fail> {
-    let (old, new, verdict) = edit;
-    let text = certificate.replacen(alloc, old, new, 1)?;
-    assert!(rt; judged(alloc, system, &text) == Some(*verdict), "{new}");
-    Ok(())
+) -> Option<Verdict> {
+    let text = certificate.replacen(alloc, edit.0, edit.1, 1).ok()?;
+    judged_in_both(alloc, system, &text)
 }
 
-/// An edited certificate has its verdict in both versions.
-fn is_judged_in_both(
+/// Edited certificates have their verdicts.
+fn are_judged(rt: &impl Abort, alloc: Global, system: &System, certificate: &str, edits: &[Edit]) {
+    for (old, new, verdict) in edits {
+        let found = judged_with(alloc, system, certificate, old, new);
+        assert!(rt; found == Some(*verdict), "{new}");
+    }
+}
+
+/// Edited certificates have their verdicts in both versions.
+fn are_judged_in_both(
     rt: &impl Abort,
     alloc: Global,
     system: &System,
     certificate: &str,
-    edit: &Edit,
-) -> Result<(), Fail> {
-    let (old, new, verdict) = edit;
-    let text = certificate.replacen(alloc, old, new, 1)?;
-    assert!(rt;
-        judged_in_both(alloc, system, &text) == Some(*verdict),
-        "{new}"
-    );
-    Ok(())
+    edits: &[Edit],
+) {
+    for edit in edits {
+        let found = judged_in_both_with(alloc, system, certificate, edit);
+        assert!(rt; found == Some(edit.2), "{}", edit.1);
+    }
 }
 
 /// Edits of the certificate of two latches.
@@ -125,10 +134,8 @@ const OF_LATCHES: &[Edit] = &[
 #[test]
 fn latches_are_judged(rt: HostRuntime) -> Result<(), Fail> {
     let alloc = rt.alloc();
-    let system = system_of(alloc, TWO_LATCHES).ok_or("no system")?;
-    for edit in OF_LATCHES {
-        is_judged_in_both(&rt, alloc, &system, TWO_CERTIFICATE, edit)?;
-    }
+    let system = system_of(&rt, alloc, TWO_LATCHES).ok_or("no system")?;
+    are_judged_in_both(&rt, alloc, &system, TWO_CERTIFICATE, OF_LATCHES);
     Ok(())
 }
 
@@ -194,13 +201,9 @@ const OF_FLOPS_IN_2: &[Edit] = &[
 #[test]
 fn flops_are_judged(rt: HostRuntime) -> Result<(), Fail> {
     let alloc = rt.alloc();
-    let system = system_of(alloc, TWO_FLOPS).ok_or("no system")?;
-    for edit in OF_FLOPS {
-        is_judged_in_both(&rt, alloc, &system, FLOPS_LEAST, edit)?;
-    }
-    for edit in OF_FLOPS_IN_2 {
-        is_judged(&rt, alloc, &system, FLOPS_LEAST, edit)?;
-    }
+    let system = system_of(&rt, alloc, TWO_FLOPS).ok_or("no system")?;
+    are_judged_in_both(&rt, alloc, &system, FLOPS_LEAST, OF_FLOPS);
+    are_judged(&rt, alloc, &system, FLOPS_LEAST, OF_FLOPS_IN_2);
     Ok(())
 }
 
@@ -248,31 +251,14 @@ const OF_ENABLED: &[Edit] = &[
 #[test]
 fn enable_delays_are_judged(rt: HostRuntime) -> Result<(), Fail> {
     let alloc = rt.alloc();
-    let system = system_of(alloc, TWO_ENABLED).ok_or("no system")?;
-    for edit in OF_ENABLED {
-        is_judged(&rt, alloc, &system, ENABLED_LEAST, edit)?;
-    }
+    let system = system_of(&rt, alloc, TWO_ENABLED).ok_or("no system")?;
+    are_judged(&rt, alloc, &system, ENABLED_LEAST, OF_ENABLED);
     assert!(rt; judged_in_both(alloc, &system, TWO_CERTIFICATE) == Some(Verdict::Valid));
     Ok(())
 }
 
-/// The certificate of a table with a bound that it meets, and of one with a loop by itself in place of a path.
-fn met_bound_is_judged(
-    rt: &impl Abort,
-    alloc: Global,
-    table: &str,
-    certificate: &str,
-) -> Result<(), Fail> {
-    let met = table.replacen(alloc, "bounds 0\n", "bounds 1\nbound o o 100 1\n", 1)?;
-    let system = system_of(alloc, &met).ok_or("no system")?;
-    for edit in OF_BOUND {
-        is_judged(rt, alloc, &system, certificate, edit)?;
-    }
-    Ok(())
-}
-
-/// Edits of a certificate where a bound is met.
-const OF_BOUND: &[Edit] = &[
+/// Edits of a certificate where a bound is met: one has a loop by itself in place of a path.
+const OF_MET: &[Edit] = &[
     ("least", "least", Verdict::Valid),
     (
         "chain 2\nreach 0 1 1 0\n",
@@ -281,17 +267,39 @@ const OF_BOUND: &[Edit] = &[
     ),
 ];
 
-/// The certificate of a table with a bound that it breaks.
-fn broken_bound_is_judged(
+/// The certificate as it is where a bound is broken.
+const OF_BROKEN: &[Edit] = &[("least", "least", Verdict::Invalid(3))];
+
+/// The bound that a table gets in place of none, and the edits of its certificate.
+const OF_BOUNDS: &[(&str, &[Edit])] = &[
+    ("bounds 1\nbound o o 100 1\n", OF_MET),
+    ("bounds 1\nbound o o 101 1\n", OF_BROKEN),
+];
+
+/// The system of an edited table.
+fn edited_system(
     rt: &impl Abort,
     alloc: Global,
     table: &str,
-    certificate: &str,
+    old: &str,
+    new: &str,
+) -> Option<System> {
+    let text = table.replacen(alloc, old, new, 1).ok()?;
+    system_of(rt, alloc, &text)
+}
+
+/// The edited certificate of a table has its verdicts where the table has a bound.
+fn bound_is_judged(
+    rt: &impl Abort,
+    alloc: Global,
+    optimum: &(&str, &str),
+    bound: &str,
+    edits: &[Edit],
 ) -> Result<(), Fail> {
-    let broken = table.replacen(alloc, "bounds 0\n", "bounds 1\nbound o o 101 1\n", 1)?;
-    let system = system_of(alloc, &broken).ok_or("no system")?;
-    let same = ("least", "least", Verdict::Invalid(3));
-    is_judged(rt, alloc, &system, certificate, &same)
+    let (table, certificate) = *optimum;
+    let system = edited_system(rt, alloc, table, "bounds 0\n", bound).ok_or("no system")?;
+    are_judged(rt, alloc, &system, certificate, edits);
+    Ok(())
 }
 
 /// Tables, and their certificates.
@@ -303,9 +311,10 @@ const OPTIMA: &[(&str, &str)] = &[
 
 #[test]
 fn bounds_are_judged(rt: HostRuntime) -> Result<(), Fail> {
-    for (table, certificate) in OPTIMA {
-        met_bound_is_judged(&rt, rt.alloc(), table, certificate)?;
-        broken_bound_is_judged(&rt, rt.alloc(), table, certificate)?;
+    for optimum in OPTIMA {
+        for (bound, edits) in OF_BOUNDS {
+            bound_is_judged(&rt, rt.alloc(), optimum, bound, edits)?;
+        }
     }
     Ok(())
 }
@@ -317,16 +326,10 @@ const STUCK: &str =
 /// The certificate of that latch.
 const STUCK_NEVER: &str = "certificate 2\nnever\nchain 3\nopen 0\nsetup 0\nbound 0\nend\n";
 
-/// The certificate of that latch is judged so on its edited table.
-fn is_judged_on(rt: &impl Abort, alloc: Global, edit: &Edit) -> Result<(), Fail> {
-    let (old, new, verdict) = edit;
-    let table = STUCK.replacen(alloc, old, new, 1)?;
-    let system = system_of(alloc, &table).ok_or("no system")?;
-    assert!(rt;
-        judged_in_both(alloc, &system, STUCK_NEVER) == Some(*verdict),
-        "{new}"
-    );
-    Ok(())
+/// The verdict on the certificate of that latch on its edited table.
+fn judged_on(rt: &impl Abort, alloc: Global, edit: &Edit) -> Option<Verdict> {
+    let system = edited_system(rt, alloc, STUCK, edit.0, edit.1)?;
+    judged_in_both(alloc, &system, STUCK_NEVER)
 }
 
 /// Edits of that.
@@ -359,20 +362,16 @@ const OF_STUCK_TABLE: &[Edit] = &[
 #[test]
 fn chains_alone_are_judged(rt: HostRuntime) -> Result<(), Fail> {
     let alloc = rt.alloc();
-    let system = system_of(alloc, STUCK).ok_or("no system")?;
-    for edit in OF_STUCK {
-        is_judged_in_both(&rt, alloc, &system, STUCK_NEVER, edit)?;
-    }
-    for edit in OF_STUCK_IN_2 {
-        is_judged(&rt, alloc, &system, STUCK_NEVER, edit)?;
-    }
+    let system = system_of(&rt, alloc, STUCK).ok_or("no system")?;
+    are_judged_in_both(&rt, alloc, &system, STUCK_NEVER, OF_STUCK);
+    are_judged(&rt, alloc, &system, STUCK_NEVER, OF_STUCK_IN_2);
     Ok(())
 }
 
 #[test]
-fn chains_alone_are_judged_on_other_tables(rt: HostRuntime) -> Result<(), Fail> {
+fn chains_alone_are_judged_on_other_tables(rt: HostRuntime) {
     for edit in OF_STUCK_TABLE {
-        is_judged_on(&rt, rt.alloc(), edit)?;
+        let found = judged_on(&rt, rt.alloc(), edit);
+        assert!(rt; found == Some(edit.2), "{}", edit.1);
     }
-    Ok(())
 }

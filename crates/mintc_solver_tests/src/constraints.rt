@@ -1,46 +1,14 @@
 //! With memory, a system has its links.
 
-use mintc_constraints::{Link, links};
-use mintc_text::{Name, Names, Numbers};
-use mintc_timing::{Bound, Flat, Order, Point, System};
+use super::systems::system_of;
+use mintc_constraints::{Link, LinkList, links};
 use std::alloc::Global;
 use std::process::Abort;
 use std::test::Fail;
 
 /// A design with two phases, bounds of each kind, and nothing else.
-fn bounded(alloc: Global) -> Option<System> {
-    let mut phases = Vec::new(alloc);
-    phases.push(Name::new(alloc, b"p").ok()?).ok()?;
-    phases.push(Name::new(alloc, b"q").ok()?).ok()?;
-    let mut bounds = Vec::new(alloc);
-    let least = Bound {
-        from: Point::Origin,
-        to: Point::Origin,
-        gap: 50,
-        cycles: 1,
-    };
-    bounds.push(least).ok()?;
-    let overlap = Bound {
-        from: Point::End(1),
-        to: Point::Start(2),
-        gap: -5,
-        cycles: 0,
-    };
-    bounds.push(overlap).ok()?;
-    let flat = Flat::new(
-        Names::new(phases),
-        Vec::new(alloc),
-        Names::new(Vec::new(alloc)),
-        Vec::new(alloc),
-        bounds,
-    )
-    .ok()?;
-    Some(System::new(
-        flat,
-        Order::new(Numbers::new(Vec::new(alloc))),
-        Vec::new(alloc),
-    ))
-}
+const BOUNDED: &str =
+    "table 1\nphases 2\nphase p\nphase q\nelements 0\ninner 0\narcs 0\nbounds 2\nbound o o 50 1\nbound e1 s2 -5 0\nend\n";
 
 /// From, to, delay and cycles of a link.
 fn parts(link: &Link) -> (u32, u32, i64, u32) {
@@ -71,11 +39,15 @@ fn are_links(rt: &impl Abort, links: &[Link]) {
     }
 }
 
+/// The list of links of that design.
+fn listed(rt: &impl Abort, alloc: Global) -> Option<LinkList> {
+    let system = system_of(rt, alloc, BOUNDED)?;
+    links(alloc, &system).ok()
+}
+
 #[test]
 fn system_has_links(rt: HostRuntime) -> Result<(), Fail> {
-    let alloc = rt.alloc();
-    let system = bounded(alloc).ok_or("no system")?;
-    let list = links(alloc, &system).ok().ok_or("no links")?;
+    let list = listed(&rt, rt.alloc()).ok_or("no links")?;
     assert!(rt; list.nodes() == 5);
     are_links(&rt, list.items());
     Ok(())

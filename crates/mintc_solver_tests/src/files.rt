@@ -1,22 +1,33 @@
 //! Worked files: their hierarchy, and their design.
+ghost use Rattle.mintc_netlist.specs.Ordinary.{IsOrdinary};
+
 use mintc_build::from_files;
 use mintc_cells::read_cells;
 use mintc_flatten::flatten;
 use mintc_hierarchy::Hierarchy;
+use mintc_netlist::Netlist;
 use mintc_text::Stop;
 use mintc_timing::Flat;
 use mintc_verilog::read_netlist;
 use mintc_worked::{TWO_CELLS, TWO_CLOCK, TWO_DELAYS, TWO_NETLIST};
-use std::alloc::Global;
+use std::alloc::{AllocError, Global};
 use std::process::Abort;
 use std::test::Fail;
 
+/// The hierarchy of modules with these cells.
+fn flattened_modules(rt: &impl Abort, alloc: Global, modules: &Netlist) -> Result<Hierarchy, Stop>
+    requires { IsOrdinary modules.now }
+{
+    assert!(rt; TWO_CELLS.len() < 10_000);
+    let cells = read_cells(alloc, TWO_CELLS.as_bytes())?;
+    flatten(alloc, modules, &cells, None)
+}
+
 /// The hierarchy of a netlist with these cells.
 fn flattened(rt: &impl Abort, alloc: Global, netlist: &str) -> Result<Hierarchy, Stop> {
-    assert!(rt; netlist.len() < 10_000 && TWO_CELLS.len() < 10_000);
+    assert!(rt; netlist.len() < 10_000);
     let modules = read_netlist(alloc, netlist.as_bytes())?;
-    let cells = read_cells(alloc, TWO_CELLS.as_bytes())?;
-    flatten(alloc, &modules, &cells, None)
+    flattened_modules(rt, alloc, &modules)
 }
 
 /// The design of files with these cells.
@@ -97,22 +108,33 @@ fn worked_netlist(rt: HostRuntime) -> Result<(), Fail> {
     Ok(())
 }
 
+/// Whether these are the joins of a netlist's hierarchy, in their order.
+fn is_joined(rt: &impl Abort, alloc: Global, netlist: &str, wanted: &[(u32, u32)]) -> bool {
+    match flattened(rt, alloc, netlist) {
+        Ok(hierarchy) => has_joins(&hierarchy, wanted),
+        Err(_) => false,
+    }
+}
+
+/// Two bits of an instance are connected to this.
+fn connected(alloc: Global, expr: &str) -> Result<String, AllocError> {
+    format!(in alloc;
+        "module t(c, x); input c; input [0:1] x; pair p (.c(c), .i({expr})); endmodule module pair(c, i); input c; input [1:0] i; endmodule"
+    )
+}
+
+/// What the bits are connected to, and the joins.
+const CONNECTED: &[(&str, &[(u32, u32)])] = &[
+    ("x", &[(0, 3), (1, 4), (2, 5)]),
+    ("{x[1], x[0]}", &[(0, 3), (2, 4), (1, 5)]),
+];
+
 // Row bit-order: bits are joined from the right, whatever their indexes.
 #[test]
 fn bits_are_joined_from_the_right(rt: HostRuntime) -> Result<(), Fail> {
-    let alloc = rt.alloc();
-    let cases = [
-        ("x", [(0, 3), (1, 4), (2, 5)]),
-        ("{x[1], x[0]}", [(0, 3), (2, 4), (1, 5)]),
-    ];
-    for (expr, wanted) in &cases {
-        let netlist = format!(in alloc;
-            "module t(c, x); input c; input [0:1] x; pair p (.c(c), .i({expr})); endmodule module pair(c, i); input c; input [1:0] i; endmodule"
-        )?;
-        match flattened(&rt, alloc, netlist.as_str()) {
-            Ok(hierarchy) => assert!(rt; has_joins(&hierarchy, wanted), "{expr}"),
-            Err(_) => panic!(rt; "no hierarchy"),
-        }
+    for (expr, wanted) in CONNECTED {
+        let netlist = connected(rt.alloc(), expr)?;
+        assert!(rt; is_joined(&rt, rt.alloc(), &netlist, wanted), "{expr}");
     }
     Ok(())
 }
@@ -120,16 +142,11 @@ fn bits_are_joined_from_the_right(rt: HostRuntime) -> Result<(), Fail> {
 // Two vectors with an inverter in a module, and an instance of it. The inner bits are p[0], p[1], q[1] and q[0] of t, a[0], a[1], y[0]
 // and y[1] of m, and the inverter's pins.
 #[test]
-fn joins_from_the_top(rt: HostRuntime) -> Result<(), Fail> {
+fn joins_from_the_top(rt: HostRuntime) {
     let netlist =
         "module m(a, y); input [1:0] a; output [1:0] y; BUF u (.A(a[0]), .Y(y[1])); endmodule module t(p); input [1:0] p; wire [0:1] q; m i (.y(q), .a({1'b0, p[1]})); endmodule";
-    match flattened(&rt, rt.alloc(), netlist) {
-        Ok(hierarchy) => {
-            assert!(rt; has_joins(&hierarchy, &[(1, 4), (6, 2), (7, 3), (4, 8), (9, 7)]));
-        }
-        Err(_) => panic!(rt; "no hierarchy"),
-    }
-    Ok(())
+    let joins = [(1, 4), (6, 2), (7, 3), (4, 8), (9, 7)];
+    assert!(rt; is_joined(&rt, rt.alloc(), netlist, &joins));
 }
 
 /// The least and the greatest delay of an arc.

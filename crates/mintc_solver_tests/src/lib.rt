@@ -18,3 +18,5 @@ mod files;
 mod order;
 #[cfg(test)]
 mod report;
+#[cfg(test)]
+mod systems;

@@ -33,25 +33,29 @@ fn finds_words(rt: HostRuntime) {
     }
 }
 
-/// Words with numbers, a line feed, a fraction and a list.
-fn written(alloc: Global) -> Result<Vec<u8>, OutOfMemory> {
-    let mut lines = Lines::new(alloc);
+/// Puts words with numbers, a line feed, a fraction and a list.
+fn put(lines: &mut Lines) -> Result<(), OutOfMemory> {
     for (word, number) in &[(b"cycle ".as_slice(), i128::MIN), (b" ".as_slice(), 0)] {
         lines.put(word)?;
         lines.number(*number)?;
     }
     lines.put(b"\n")?;
     lines.fraction(-12, 5)?;
-    lines.numbers(&[7, 0, u32::MAX])?;
+    lines.numbers(&[7, 0, u32::MAX])
+}
+
+/// The text of them.
+fn written(alloc: Global) -> Result<Vec<u8>, OutOfMemory> {
+    let mut lines = Lines::new(alloc);
+    put(&mut lines)?;
     Ok(lines.into_bytes())
 }
+
+const WRITTEN: &[u8] = b"cycle -170141183460469231731687303715884105728 0\n-12/5 7 0 4294967295";
 
 #[test]
 fn writes(rt: HostRuntime) -> Result<(), Fail> {
     let bytes = written(rt.alloc())?;
-    assert_eq!(rt;
-        bytes.as_slice(),
-        b"cycle -170141183460469231731687303715884105728 0\n-12/5 7 0 4294967295".as_slice()
-    );
+    assert!(rt; bytes.as_slice() == WRITTEN);
     Ok(())
 }

@@ -1,7 +1,7 @@
 use Rattle.std.proofs.Common.{ℕ, ◌*◌, ◌^◌, ◌<◌, ◌≤◌}
 use Rattle.std.specs.Prelude.{unsigned_abs, IfSome}
 use Rattle.mintc_lanes.specs.Lanes.{lane_at}
-use Rattle.mintc_base_tests.proofs.lanes.are_lanes.Given as goal
+use Rattle.mintc_search_tests.proofs.lanes.are_lanes.Given as goal
 
 -- the lanes so far are small enough
 abbrev pub invariant-loop-lane : goal.invariant-loop-lane

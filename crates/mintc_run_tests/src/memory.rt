@@ -1,27 +1,12 @@
 //! The outside in memory.
-use mintc_text::{MemoryShelf, MemorySink, Name, Numbers, Shelf, ShelfError, Sink};
+use super::harness::shelf_of;
+use mintc_text::{MemoryShelf, MemorySink, Shelf, ShelfError, Sink};
 use std::alloc::Global;
 use std::process::Abort;
 use std::test::Fail;
 
 /// Files, of which the first of a name counts.
 const FILES: &[(&str, &str)] = &[("a", "first"), ("b", ""), ("a", "second")];
-
-/// A file for a shelf.
-fn held(alloc: Global, name: &str, bytes: &str) -> Result<(Name, Vec<u8>), Fail> {
-    let name = Name::new(alloc, name.as_bytes())?;
-    Ok((name, Vec::from_slice(alloc, bytes.as_bytes())?))
-}
-
-/// A shelf of these files, whose calls 2 and 5 fail.
-fn shelf(alloc: Global) -> Result<MemoryShelf, Fail> {
-    let mut files = Vec::new(alloc);
-    for (name, bytes) in FILES {
-        files.push(held(alloc, name, bytes)?)?;
-    }
-    let failing = Vec::from_slice(alloc, &[2, 5])?;
-    Ok(MemoryShelf::new(files, Numbers::new(failing)))
-}
 
 /// Whether a read gave this text, or failed where there is none.
 fn gave(read: Result<Vec<u8>, ShelfError>, text: Option<&str>) -> bool {
@@ -43,14 +28,19 @@ const READS: &[(&str, usize, Option<&str>)] = &[
     ("a", 0, Some("")),
 ];
 
-#[test]
-fn reads_files(rt: HostRuntime) -> Result<(), Fail> {
-    let alloc = rt.alloc();
-    let mut shelf = shelf(alloc)?;
+/// A shelf gives what is wanted, read after read.
+fn gives(rt: &impl Abort, alloc: Global, shelf: &mut MemoryShelf) {
     for (name, most, text) in READS {
         let read = shelf.read(alloc, name, *most);
         assert!(rt; gave(read, *text), "{name}, at most {most}");
     }
+}
+
+#[test]
+fn reads_files(rt: HostRuntime) -> Result<(), Fail> {
+    // Its calls 2 and 5 fail.
+    let mut shelf = shelf_of(rt.alloc(), FILES, &[2, 5])?;
+    gives(&rt, rt.alloc(), &mut shelf);
     Ok(())
 }
 
