@@ -1,3 +1,4 @@
+use Rattle.std.proofs.lemmas.Grind.{common_steps}
 use Rattle.std.proofs.Common.{◌≡◌, ◌<◌, length, pos, set, get_or, arith, ap, ◌∙◌, length-set}
 use Rattle.std.specs.Int.{int_min}
 use Rattle.mintc_constraints.specs.Rooms.{Space}
@@ -28,3 +29,6 @@ loop-number-preserved c =
       count = ap length written ∙ length-set xs p.to _ ∙ i.count;
       gathered = gathered-more least_of lesser_of int_min IsFirst least_of-push first-more f t.pairs n _ xs c.bring.new.room.values h range (omega arith) written i.gathered;
     }
+
+pub returns-clause-each : goal.returns-clause-each
+returns-clause-each c = grind (arith, common_steps)

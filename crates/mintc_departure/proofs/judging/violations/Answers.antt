@@ -1,3 +1,5 @@
+use Rattle.std.proofs.Common.{arith}
+use Rattle.std.proofs.lemmas.Grind.{common_steps}
 use Rattle.std.proofs.Common.{◌++◌, List, ap, ◌∙◌, append_assoc, inr}
 use Rattle.mintc_timing.specs.declared.violation.Violation.{Violation}
 use Rattle.mintc_timing.specs.Violations.{failed, clock_checks, setup_checks, hold_checks}
@@ -20,3 +22,6 @@ returns-in_ok-judge_elements-in-Settled-clause-violations c =
       no_loop t s late settled.exact c.pairs-pairs.ensures.kept.extremes.each,
       (late, early, settled, judged.early, rw (append_assoc (clock_checks t s) (setup_checks t s late) (hold_checks t s early), failed-append (clock_checks t s) elements) (judged.violations ∙ ap (λ vs. vs ++ failed elements) clock)),
     )
+
+pub returns-in_ok-push_loop-in-Loop-clause-late : goal.returns-in_ok-push_loop-in-Loop-clause-late
+returns-in_ok-push_loop-in-Loop-clause-late c = grind (arith, common_steps)

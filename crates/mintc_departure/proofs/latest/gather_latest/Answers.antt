@@ -1,3 +1,4 @@
+use Rattle.std.proofs.lemmas.Grind.{common_steps}
 use Rattle.std.proofs.Common.{◌≡◌, ◌<◌, length, pos, set, get_or, arith, ap, ◌∙◌, length-set}
 use Rattle.std.specs.Int.{int_max}
 use Rattle.mintc_constraints.specs.Rooms.{Space}
@@ -30,3 +31,6 @@ loop-number-preserved c =
       count = ap length written ∙ length-set xs p.to _ ∙ i.count;
       gathered = gathered-more greatest_of greater_of int_max IsLast greatest_of-push last-more f t.pairs n _ xs c.bring_latest.new.room.values h range (omega arith) written i.gathered;
     }
+
+pub returns-clause-each : goal.returns-clause-each
+returns-clause-each c = grind (arith, common_steps)

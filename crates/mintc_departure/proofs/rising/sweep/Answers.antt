@@ -1,3 +1,4 @@
+use Rattle.std.proofs.lemmas.Grind.{common_steps}
 use Rattle.std.proofs.Common.{◌<◌, arith, ap, subst, ⊎_elim}
 use Rattle.std.proofs.lemmas.Int.{ints}
 use Rattle.std.proofs.lemmas.Bool.{OnTrue_at, OnFalse_at, or_cases, or_parts}
@@ -30,3 +31,6 @@ loop-at-preserved c =
           let off = or_parts _ _ e in
           none-before c.loop-at.at _ c.loop-at.stale.words.items stale (i.none off.0) (OnFalse_at off.1 touched.out) (OnFalse_at off.1 touched.only) c.next-at-in-loop-at.ensures.none;
     }
+
+pub loop-at-init : goal.loop-at-init
+loop-at-init c = grind (arith, common_steps)

@@ -1,3 +1,4 @@
+use Rattle.std.proofs.lemmas.Grind.{common_steps}
 use Rattle.std.proofs.Common.{◌≡◌, ◌-◌, ◌++◌, ◌∷◌, ◌≤◌, [], take, length, length-append, sym, ap, ◌∙◌, arith, subst, append_assoc}
 use Rattle.std.proofs.lemmas.Bool.Decides.{nat_tests}
 use Rattle.mintc_matters.specs.Speaking.{leaf_called, at_pin, of_interconnect}
@@ -45,3 +46,9 @@ returns c =
     ap (λ o. at_pin h cells o name) leaf ∙ sym (of_snoc h cells (path ++ front) name (omega (arith, some, length-append path front)))
     ∙ ap (of_interconnect h cells) (append_assoc path front (name ∷ []) ∙ ap (λ (p : Path). path ++ p) whole) in
     subst (IsSpoken h c.to_pin-2.result) right c.to_pin-2.ensures
+
+pub returns-then-is_empty : goal.returns-then-is_empty
+returns-then-is_empty c = grind (arith, common_steps)
+
+pub returns-then-is_empty-2 : goal.returns-then-is_empty-2
+returns-then-is_empty-2 c = grind (arith, common_steps)
