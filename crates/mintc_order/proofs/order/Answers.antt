@@ -1,3 +1,4 @@
+use Rattle.std.proofs.lemmas.Grind.{common_steps}
 use Rattle.std.proofs.Common.{arith}
 use Rattle.mintc_order.proofs.Ending.{ordered_at_end, whole_at_end}
 use Rattle.mintc_order.proofs.order.Goals as goal
@@ -8,3 +9,6 @@ gathered-requires-clause-ordered c = ordered_at_end c.loop-root.invariant.search
 pub gathered-requires-clause-whole : goal.gathered-requires-clause-whole
 gathered-requires-clause-whole c =
     whole_at_end c.loop-root.invariant.search c.deref.result.now c.deref.ensures.value c.loop-root.invariant.empty (λ bit h. c.loop-root.invariant.met bit (omega arith))
+
+pub loop-root-init : goal.loop-root-init
+loop-root-init c = grind (arith, common_steps)

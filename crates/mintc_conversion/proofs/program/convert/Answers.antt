@@ -1,3 +1,4 @@
+use Rattle.std.proofs.lemmas.Grind.{common_steps}
 use Rattle.std.proofs.Common.{◌+◌, ℕ, List, arith, subst, inl, inr}
 use Rattle.mintc_text.specs.Outside.{Holds, IsFront}
 use Rattle.mintc_text.specs.declared.limits.TheConstants.{MOST_BYTES}
@@ -32,3 +33,39 @@ returns-in-Ok-clause-usage g c = λ none.
 pub returns-in-Ok-clause-no_reads : goal.returns-in-Ok-clause-no_reads
 returns-in-Ok-clause-no_reads g c = λ none.
     absurd (none _ (one-name c.args.words.now c.index-words-0.result _ (omega (arith, c.if-words-ne1.false)) c.index-words-0.is c.as_str.ensures.value))
+
+pub returns-then-words-ne1-clause-usage_only : goal.returns-then-words-ne1-clause-usage_only
+returns-then-words-ne1-clause-usage_only c = grind (arith, common_steps)
+
+pub returns-then-words-ne1-clause-written : goal.returns-then-words-ne1-clause-written
+returns-then-words-ne1-clause-written c = grind (arith, common_steps)
+
+pub returns-then-words-ne1-clause-held : goal.returns-then-words-ne1-clause-held
+returns-then-words-ne1-clause-held c = grind (arith, common_steps)
+
+pub returns-then-words-ne1-clause-complete : goal.returns-then-words-ne1-clause-complete
+returns-then-words-ne1-clause-complete c = grind (arith, common_steps)
+
+pub returns-in-Ok-answer_to-clause-usage : goal.returns-in-Ok-answer_to-clause-usage
+returns-in-Ok-answer_to-clause-usage c = grind (arith, common_steps)
+
+pub returns-in-Ok-answer_to-clause-no_reads : goal.returns-in-Ok-answer_to-clause-no_reads
+returns-in-Ok-answer_to-clause-no_reads c = grind (arith, common_steps)
+
+pub returns-in-Err-Failed-clause-usage : goal.returns-in-Err-Failed-clause-usage
+returns-in-Err-Failed-clause-usage c = grind (arith, common_steps)
+
+pub returns-in-Err-Failed-clause-sound : goal.returns-in-Err-Failed-clause-sound
+returns-in-Err-Failed-clause-sound c = grind (arith, common_steps)
+
+pub returns-in-Err-Failed-clause-no_reads : goal.returns-in-Err-Failed-clause-no_reads
+returns-in-Err-Failed-clause-no_reads c = grind (arith, common_steps)
+
+pub returns-in-Err-Failed-clause-complete : goal.returns-in-Err-Failed-clause-complete
+returns-in-Err-Failed-clause-complete c = grind (arith, common_steps)
+
+pub returns-clause-usage : goal.returns-clause-usage
+returns-clause-usage c = grind (arith, common_steps)
+
+pub returns-clause-no_reads : goal.returns-clause-no_reads
+returns-clause-no_reads c = grind (arith, common_steps)

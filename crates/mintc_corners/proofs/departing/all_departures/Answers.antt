@@ -1,3 +1,5 @@
+use Rattle.std.proofs.Common.{arith}
+use Rattle.std.proofs.lemmas.Grind.{common_steps}
 use Rattle.std.proofs.Common.{ap, ◌∙◌}
 use Rattle.mintc_constraints.specs.Duality.{departures_of}
 use Rattle.mintc_corners.specs.Joined.{departures_of_all}
@@ -21,3 +23,18 @@ loop-system-preserved c =
       (sayable_here systems i t c.loop-system-test.true c.system-item.is clock before values c.loop-system.invariant.1).1,
       in_range_more t c.in_ok-departures.field-0 _ c.loop-system.all.items c.push.new.self.items c.flat.ensures.design c.loop-system.invariant.2 c.in_ok-departures.ensures.in_range ds c.in-Ok.ensures.items,
     )
+
+pub own_values-requires-clause-before : goal.own_values-requires-clause-before
+own_values-requires-clause-before c = grind (arith, common_steps)
+
+pub own_values-requires-clause-inside : goal.own_values-requires-clause-inside
+own_values-requires-clause-inside c = grind (arith, common_steps)
+
+pub departures-requires : goal.departures-requires
+departures-requires c = grind (arith, common_steps)
+
+pub overflow_add-before : goal.overflow_add-before
+overflow_add-before c = grind (arith, common_steps)
+
+pub returns-clause-value : goal.returns-clause-value
+returns-clause-value c = grind (arith, common_steps)

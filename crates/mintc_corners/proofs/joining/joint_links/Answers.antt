@@ -1,3 +1,5 @@
+use Rattle.std.proofs.Common.{arith}
+use Rattle.std.proofs.lemmas.Grind.{common_steps}
 use Rattle.std.proofs.Common.{◌++◌, List, map, sym, ap, ◌∙◌}
 use Rattle.mintc_timing.specs.declared.link.Link.{Link}
 use Rattle.mintc_timing.specs.Links.{links_of}
@@ -36,3 +38,9 @@ new-requires c =
     let before = elements_done systems c.loop-corner.corner c.loop-corner.before _ c.loop-corner-test.false c.loop-corner.invariant.1 in
     let nodes = nodes_of systems c.index-systems-0.result c.clock_nodes-clock.result c.loop-corner.before c.requires.some c.index-systems-0.is c.clock_nodes-clock.ensures.value before in
     rw (items, nodes) (by_first (λ ts. IsOrdinary (constraints_of (joint_nodes ts) (joined_links ts))) joined_ordinary systems c.requires.few c.requires.alike c.requires.elements c.requires.kept)
+
+pub bounds-lists-corner : goal.bounds-lists-corner
+bounds-lists-corner c = grind (arith, common_steps)
+
+pub returns : goal.returns
+returns c = grind (arith, common_steps)

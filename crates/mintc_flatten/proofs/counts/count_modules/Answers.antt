@@ -1,3 +1,4 @@
+use Rattle.std.proofs.lemmas.Grind.{common_steps}
 use Rattle.std.proofs.Common.{◌≡◌, ◌<◌, ◌+◌, ℕ, List, length, get_or, subst, sym, ap, ◌∙◌, arith}
 use Rattle.std.specs.List.{All}
 use Rattle.std.proofs.lemmas.List.{get_or-map, length-set}
@@ -46,3 +47,12 @@ loop-number-preserved c =
       length = length-set c.loop-number.table.items k c.module_count.result ∙ size;
       counted = counted_step s c.args.order.now i c.loop-number.table.items c.module_count.result within c.loop-number.invariant.counted one;
     }
+
+pub bounds-targets-at : goal.bounds-targets-at
+bounds-targets-at c = grind (arith, common_steps)
+
+pub bounds-bits-at : goal.bounds-bits-at
+bounds-bits-at c = grind (arith, common_steps)
+
+pub module_count-requires-clause-bits : goal.module_count-requires-clause-bits
+module_count-requires-clause-bits c = grind (arith, common_steps)

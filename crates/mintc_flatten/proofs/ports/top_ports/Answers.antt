@@ -1,3 +1,5 @@
+use Rattle.std.proofs.Common.{arith}
+use Rattle.std.proofs.lemmas.Grind.{common_steps}
 use Rattle.std.proofs.Common.{◌≤◌, ℕ, List, map, length, sym, ap, ◌∙◌, subst}
 use Rattle.std.proofs.lemmas.List.{take_all}
 use Rattle.std.proofs.lemmas.Simd.{map-map}
@@ -12,3 +14,6 @@ returns c =
     c.loop-name.invariant
     ∙ ap (map (λ (name : List ℕ). top_port (port_of m name))) (take_all c.loop-name.name-index m.ports past)
     ∙ sym (map-map top_port (port_of m) m.ports)
+
+pub loop-name-preserved : goal.loop-name-preserved
+loop-name-preserved c = grind (arith, common_steps)

@@ -1,3 +1,4 @@
+use Rattle.std.proofs.lemmas.Grind.{common_steps}
 use Rattle.std.proofs.Common.{◌≡◌, ◌<◌, ◌-ℤ◌, ℤ, List, length, arith, ap, ◌∙◌}
 use Rattle.std.proofs.lemmas.Int.{ints}
 use Rattle.std.proofs.Math.ListN.{length-set}
@@ -26,3 +27,6 @@ loop-node-preserved c =
           ∙ written (λ n. value_at c.args.potentials.now n -ℤ value_at c.args.potentials.now c.args.from -ℤ value_at c.args.distances.now n) c.loop-node.room.values i _
           (omega arith) (is ∙ ap (λ (x : ℤ). value_at c.args.potentials.now i -ℤ value_at c.args.potentials.now c.args.from -ℤ x) from_is) c.loop-node.invariant.2 k h,
     )
+
+pub loop-node-init : goal.loop-node-init
+loop-node-init c = grind (arith, common_steps)

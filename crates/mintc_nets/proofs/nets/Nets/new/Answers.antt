@@ -1,3 +1,5 @@
+use Rattle.std.proofs.Common.{arith}
+use Rattle.std.proofs.lemmas.Grind.{common_steps}
 use Rattle.std.proofs.Common.{◌≡◌, ◌+◌, ◌++◌, [], ◌<◌, ℕ, List, ◌∙◌, ap, subst, rules, length, get_or, drop}
 use Rattle.mintc_netlist.specs.Nets.{names_of, range_of}
 use Rattle.mintc_nets.specs.Tables.{bit_count, firsts_from}
@@ -18,3 +20,6 @@ loop-place-preserved c =
           ∙ firsts_step m names k c.loop-place.count c.in-Some.next c.name.result.now c.loop-place.firsts.items (firsts_from m 0 names) inside at c.loop-place.invariant.0 more,
       count_step m names k c.loop-place.count c.in-Some.next c.name.result.now inside at c.loop-place.invariant.1 more,
     )
+
+pub returns : goal.returns
+returns c = grind (arith, common_steps)
