@@ -1,7 +1,7 @@
 //! The program `liberty2toml`: a Liberty text to a description of its cells in TOML.
 #![tactic(auto)]
 
-use mintc_conversion::convert;
+use liberty2toml_command::convert;
 use mintc_text::{FolderShelf, StreamSink};
 use std::alloc::AllocError;
 use std::process::ExitCode;

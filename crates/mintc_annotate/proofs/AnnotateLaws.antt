@@ -21,20 +21,20 @@ use Rattle.mintc_cells.specs.declared.cell.Cell.TheVariants.{Gate, Latch, Flop, 
 use Rattle.mintc_cells.specs.Rules.{is_cell, has_defaults, is_same}
 use Rattle.mintc_cells.specs.Entries.{AreKept, is_kept, cell_at, no_cell}
 use Rattle.mintc_cells.proofs.SharedPinsLaws.{kept_at}
-use Rattle.mintc_document.specs.Rules.{is_name}
+use Rattle.mintc_toml.specs.Rules.{is_name}
 use Rattle.mintc_clock.specs.declared.clock.Clock as clock_type
 use Rattle.mintc_clock.specs.declared.clock.Listed.{Listed}
 use Rattle.mintc_clock.specs.Laws.{KeepsLimits}
 use Rattle.mintc_sdf.specs.declared.delays.Delay.{Delay}
 use Rattle.mintc_sdf.specs.Laws.{IsWithin}
-use Rattle.mintc_hierarchy.specs.declared.hierarchy.Hierarchy.{Hierarchy}
-use Rattle.mintc_hierarchy.specs.Shape.{CellTable, IsFlattened}
+use Rattle.mintc_flatten_hierarchy.specs.declared.hierarchy.Hierarchy.{Hierarchy}
+use Rattle.mintc_flatten_hierarchy.specs.Shape.{CellTable, IsFlattened}
 use Rattle.mintc_timing.specs.declared.parts.TimingArc.{TimingArc}
 use Rattle.mintc_timing.specs.Design.{Design}
 use Rattle.mintc_timing.specs.Limits.{over_limit, quantities, limit_of, HasParts}
-use Rattle.mintc_matters.specs.Pins.{leaf_at, leaf_cell, no_leaf, all_leaves, inner_name, is_storage, leaf_path, dotted, input_count, output_numbers}
-use Rattle.mintc_ranges.specs.Ranges.{look}
-use Rattle.mintc_matters.specs.Speaking.{Matter, said, range_of, first_refusal, join_into, path_on, arcs_from, dq_of, cq_of, setup_of, hold_of, width_of}
+use Rattle.mintc_annotate_resolve.specs.Pins.{leaf_at, leaf_cell, no_leaf, all_leaves, inner_name, is_storage, leaf_path, dotted, input_count, output_numbers}
+use Rattle.mintc_annotate_delays.specs.Ranges.{look}
+use Rattle.mintc_annotate_resolve.specs.Speaking.{Matter, said, range_of, first_refusal, join_into, path_on, arcs_from, dq_of, cq_of, setup_of, hold_of, width_of}
 use Rattle.mintc_annotate.specs.ClockPorts.{has_ports, first_false, IsPortRefusal}
 use Rattle.mintc_annotate.specs.Phases.{storage, phase_spots, IsUntraced, IsPhaseOf}
 use Rattle.mintc_annotate.specs.declared.gathering.Gathered.{Gathered}

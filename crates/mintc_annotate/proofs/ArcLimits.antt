@@ -4,14 +4,14 @@ use Rattle.std.proofs.lemmas.Int.{ints}
 use Rattle.std.proofs.lemmas.List.Elements.{All-head, All-tail, All-nil, All-cons, All-map}
 use Rattle.mintc_cells.specs.declared.cell.Cell.{Cell}
 use Rattle.mintc_cells.specs.Rules.{pins, inputs_of, outputs_of}
-use Rattle.mintc_hierarchy.specs.declared.hierarchy.Join.{Join}
+use Rattle.mintc_flatten_hierarchy.specs.declared.hierarchy.Join.{Join}
 use Rattle.mintc_clock.specs.declared.clock.Listed.{Listed}
 use Rattle.mintc_timing.specs.Limits.{IsArc}
 use Rattle.mintc_timing.specs.Paths.{input_of, output_of}
-use Rattle.mintc_matters.specs.Pins.{input_count, output_count}
-use Rattle.mintc_matters.specs.Speaking.{Said, range_of, join_into, arcs_from}
+use Rattle.mintc_annotate_resolve.specs.Pins.{input_count, output_count}
+use Rattle.mintc_annotate_resolve.specs.Speaking.{Said, range_of, join_into, arcs_from}
 use Rattle.mintc_annotate.specs.Made.{arc_of, no_delay, inner_bit, join_arc, input_arcs, output_arcs}
-use Rattle.mintc_matters.proofs.SharedRangeLimits.{AreSaid, range_in}
+use Rattle.mintc_annotate_resolve.proofs.SharedRangeLimits.{AreSaid, range_in}
 use Rattle.mintc_annotate.proofs.ElementLimits.{AreDelays, or_in}
 
 pub none_delays : AreDelays no_delay

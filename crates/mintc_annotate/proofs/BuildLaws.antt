@@ -9,20 +9,20 @@ use Rattle.std.proofs.lemmas.Slice.Zip.{length-zip}
 use Rattle.std.proofs.lemmas.Grind.{flat_map-append}
 use Rattle.mintc_cells.specs.declared.cell.Cell.TheVariants.{Gate}
 use Rattle.mintc_cells.specs.Entries.{cell_at}
-use Rattle.mintc_hierarchy.specs.declared.hierarchy.Hierarchy.{Hierarchy}
-use Rattle.mintc_hierarchy.specs.declared.hierarchy.Leaf.{Leaf}
-use Rattle.mintc_hierarchy.specs.declared.hierarchy.TopPort.{TopPort}
-use Rattle.mintc_hierarchy.specs.declared.hierarchy.Join.{Join}
-use Rattle.mintc_hierarchy.specs.declared.hierarchy.Scope.{Scope}
-use Rattle.mintc_hierarchy.specs.Shape.{CellTable, IsPort}
+use Rattle.mintc_flatten_hierarchy.specs.declared.hierarchy.Hierarchy.{Hierarchy}
+use Rattle.mintc_flatten_hierarchy.specs.declared.hierarchy.Leaf.{Leaf}
+use Rattle.mintc_flatten_hierarchy.specs.declared.hierarchy.TopPort.{TopPort}
+use Rattle.mintc_flatten_hierarchy.specs.declared.hierarchy.Join.{Join}
+use Rattle.mintc_flatten_hierarchy.specs.declared.hierarchy.Scope.{Scope}
+use Rattle.mintc_flatten_hierarchy.specs.Shape.{CellTable, IsPort}
 use Rattle.mintc_clock.specs.declared.clock.Listed.{Listed}
 use Rattle.mintc_timing.specs.declared.parts.Element.{Element}
 use Rattle.mintc_timing.specs.declared.parts.TimingArc.{TimingArc}
 use Rattle.mintc_timing.specs.declared.parts.Bound.{Bound}
 use Rattle.mintc_timing.specs.Design.{design_of}
-use Rattle.mintc_matters.specs.Pins.{leaf_at, leaf_cell, all_leaves, is_storage, scope_at, scope_path, leaf_path, dotted}
-use Rattle.mintc_matters.specs.Names.{front_of}
-use Rattle.mintc_matters.proofs.SharedNameLaws.{HasParents, path_below, front_push}
+use Rattle.mintc_annotate_resolve.specs.Pins.{leaf_at, leaf_cell, all_leaves, is_storage, scope_at, scope_path, leaf_path, dotted}
+use Rattle.mintc_annotate_resolve.specs.Names.{front_of}
+use Rattle.mintc_annotate_resolve.proofs.SharedNameLaws.{HasParents, path_below, front_push}
 use Rattle.mintc_annotate.specs.declared.listing.ListedBit.{ListedBit}
 use Rattle.mintc_annotate.specs.ClockPorts.{listed_in}
 use Rattle.mintc_annotate.specs.Phases.{storage}

@@ -4,18 +4,18 @@ use Rattle.std.specs.List.{AllZip}
 use Rattle.mintc_text.specs.declared.refusals.Refusal.{Refusal}
 use Rattle.mintc_text.specs.declared.refusals.Refusal.TheVariants as refusal
 use Rattle.mintc_text.specs.declared.refusals.Role.TheVariants as role
-use Rattle.mintc_hierarchy.specs.declared.hierarchy.Hierarchy.{Hierarchy}
+use Rattle.mintc_flatten_hierarchy.specs.declared.hierarchy.Hierarchy.{Hierarchy}
 use Rattle.mintc_clock.specs.declared.clock.Clock.{Clock}
 use Rattle.mintc_sdf.specs.declared.delays.Delay.{Delay}
 use Rattle.mintc_timing.specs.Design.{Design}
 use Rattle.mintc_timing.specs.Limits.{limit_of}
 use Rattle.mintc_annotate.specs.declared.searching.Spot.{Spot}
-use Rattle.mintc_hierarchy.specs.Shape.{CellTable}
-use Rattle.mintc_matters.specs.Pins.{leaf_cell}
+use Rattle.mintc_flatten_hierarchy.specs.Shape.{CellTable}
+use Rattle.mintc_annotate_resolve.specs.Pins.{leaf_cell}
 use Rattle.mintc_annotate.specs.ClockPorts.{has_ports, first_false, IsPortRefusal}
 use Rattle.mintc_annotate.specs.Phases.{storage, drives, EndsAt, first_at, phase_spots, IsPhaseOf, IsFirstUntraced}
 use Rattle.mintc_annotate.specs.Made.{design_made, IsMade, IsAnnotated, IsAnnotateRefusal, no_port, speaks_of_nothing, no_phase, too_many}
-use Rattle.mintc_matters.specs.Speaking.{first_refusal}
+use Rattle.mintc_annotate_resolve.specs.Speaking.{first_refusal}
 use Rattle.mintc_annotate.specs.Laws.{DesignsAreDetermined, DesignsAreNotRefused, AnnotateRefusalsAreDetermined}
 use Rattle.mintc_annotate.proofs.TraceLaws.{one_start, one_end}
 

@@ -7,26 +7,24 @@ use Rattle.std.proofs.lemmas.Bool.Decides.{nat_tests}
 use Rattle.std.proofs.lemmas.Int.{ints}
 use Rattle.std.proofs.lemmas.List.Elements.{filter_passes, All-head, All-tail, All-nil, All-cons, All-append, All-map, All-weaker}
 use Rattle.mintc_cells.specs.Rules.{is_cell}
-use Rattle.mintc_document.specs.Rules.{is_delay, is_margin}
+use Rattle.mintc_toml.specs.Rules.{is_delay, is_margin, is_name}
 use Rattle.mintc_clock.specs.declared.clock.Clock as clock_type
 use Rattle.mintc_clock.specs.declared.clock.Listed.{Listed}
 use Rattle.mintc_clock.specs.Values.{is_phase, is_point, is_bound, has_delays, has_margins}
 use Rattle.mintc_clock.specs.Laws.{KeepsListed}
-use Rattle.mintc_document.specs.Rules.{is_name}
-use Rattle.mintc_hierarchy.specs.declared.hierarchy.Hierarchy.{Hierarchy}
+use Rattle.mintc_flatten_hierarchy.specs.declared.hierarchy.Hierarchy.{Hierarchy}
 use Rattle.mintc_timing.specs.declared.parts.Bound.{Bound}
 use Rattle.mintc_timing.specs.declared.parts.Point.{Point}
 use Rattle.mintc_timing.specs.declared.parts.Point.TheVariants.{Origin, Start, End}
 use Rattle.mintc_timing.specs.Limits.{IsElement, IsPhase, IsPoint, IsBound}
 use Rattle.mintc_annotate.specs.declared.searching.Spot.{Spot}
-use Rattle.mintc_hierarchy.specs.Shape.{CellTable}
-use Rattle.mintc_matters.specs.Pins.{leaf_cell, leaf_path, dotted, all_names}
+use Rattle.mintc_flatten_hierarchy.specs.Shape.{CellTable}
+use Rattle.mintc_annotate_resolve.specs.Pins.{leaf_cell, leaf_path, dotted, all_names, is_storage}
 use Rattle.mintc_annotate.specs.ClockPorts.{listed_in}
 use Rattle.mintc_annotate.specs.Phases.{storage, first_at, same_spot, IsPhaseOf}
-use Rattle.mintc_matters.specs.Pins.{is_storage}
-use Rattle.mintc_matters.specs.Speaking.{Said, range_of}
+use Rattle.mintc_annotate_resolve.specs.Speaking.{Said, range_of}
 use Rattle.mintc_annotate.specs.Made.{element_of, port_element, bits_of, elements_of}
-use Rattle.mintc_matters.proofs.SharedRangeLimits.{AreSaid}
+use Rattle.mintc_annotate_resolve.proofs.SharedRangeLimits.{AreSaid}
 use Rattle.mintc_annotate.proofs.ElementLimits.{margin_is, delay_is, order_is, KeepsHold, storage_in}
 
 phase_is : (k p : ℕ) → is_phase k p ≡ true → IsPhase k p

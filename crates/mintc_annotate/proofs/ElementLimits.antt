@@ -6,12 +6,12 @@ use Rattle.std.proofs.lemmas.Int.{ints}
 use Rattle.mintc_cells.specs.declared.cell.Cell.{Cell}
 use Rattle.mintc_cells.specs.declared.cell.Cell.TheVariants.{Latch, Flop}
 use Rattle.mintc_cells.specs.Rules.{is_cell}
-use Rattle.mintc_document.specs.Rules.{is_delay, is_margin}
+use Rattle.mintc_toml.specs.Rules.{is_delay, is_margin}
 use Rattle.mintc_timing.specs.Limits.{IsElement, IsDelay, IsGap, IsPhase}
-use Rattle.mintc_matters.specs.Pins.{is_storage}
-use Rattle.mintc_matters.specs.Speaking.{Said, range_of, dq_of, cq_of, setup_of, hold_of, width_of}
+use Rattle.mintc_annotate_resolve.specs.Pins.{is_storage}
+use Rattle.mintc_annotate_resolve.specs.Speaking.{Said, range_of, dq_of, cq_of, setup_of, hold_of, width_of}
 use Rattle.mintc_annotate.specs.Made.{first_range, borrowed, greatest_or, element_of}
-use Rattle.mintc_matters.proofs.SharedRangeLimits.{AreSaid, range_in}
+use Rattle.mintc_annotate_resolve.proofs.SharedRangeLimits.{AreSaid, range_in}
 
 pub margin_is : (z : ℤ) → is_margin z ≡ true → IsGap z
 margin_is z h = let p = and_parts (int_le (negsuc 999999999) z) (int_le z (pos 1000000000)) h in let low = p.0 in let high = p.1 in (grind (arith, ints, low), grind (arith, ints, high))

@@ -9,7 +9,7 @@ use Rattle.mintc_text.specs.declared.refusals.Refusal.TheVariants as refusal
 use Rattle.mintc_text.specs.declared.refusals.Role.TheVariants as role
 use Rattle.mintc_text.specs.declared.refusals.Stop.{Stop}
 use Rattle.mintc_text.specs.declared.refusals.Stop.TheVariants as stop
-use Rattle.mintc_hierarchy.specs.declared.hierarchy.TopPort.{TopPort}
+use Rattle.mintc_flatten_hierarchy.specs.declared.hierarchy.TopPort.{TopPort}
 use Rattle.mintc_clock.specs.declared.clock.Clock.{Clock}
 use Rattle.mintc_clock.specs.declared.clock.Listed.{Listed}
 use Rattle.mintc_clock.specs.declared.clock.PhaseDef.{PhaseDef}

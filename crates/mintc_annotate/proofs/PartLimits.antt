@@ -11,26 +11,24 @@ use Rattle.std.proofs.lemmas.Slice.Zip.{AllZip-long, length-zip}
 use Rattle.mintc_cells.specs.declared.cell.Cell.{Cell}
 use Rattle.mintc_cells.specs.declared.cell.Cell.TheVariants.{Gate, Latch, Flop, Clock}
 use Rattle.mintc_cells.specs.Rules.{pins, is_cell}
-use Rattle.mintc_document.specs.Rules.{is_delay}
+use Rattle.mintc_toml.specs.Rules.{is_delay}
 use Rattle.mintc_clock.specs.declared.clock.Clock as clock_type
 use Rattle.mintc_clock.specs.declared.clock.Listed.{Listed}
 use Rattle.mintc_clock.specs.Laws.{KeepsListed, KeepsLimits}
 use Rattle.mintc_clock.specs.Values.{is_bound}
-use Rattle.mintc_hierarchy.specs.declared.hierarchy.Hierarchy.{Hierarchy}
-use Rattle.mintc_hierarchy.specs.declared.hierarchy.TopPort.{TopPort}
-use Rattle.mintc_hierarchy.specs.Shape.{IsFlattened, IsPort}
+use Rattle.mintc_flatten_hierarchy.specs.declared.hierarchy.Hierarchy.{Hierarchy}
+use Rattle.mintc_flatten_hierarchy.specs.declared.hierarchy.TopPort.{TopPort}
+use Rattle.mintc_flatten_hierarchy.specs.Shape.{IsFlattened, IsPort, CellTable}
 use Rattle.mintc_sdf.specs.declared.delays.Delay.{Delay}
 use Rattle.mintc_sdf.specs.Laws.{IsWithin}
 use Rattle.mintc_timing.specs.Design.{Design}
 use Rattle.mintc_timing.specs.Limits.{IsArc, IsElement, IsBound, HasParts}
-use Rattle.mintc_hierarchy.specs.Shape.{CellTable}
-use Rattle.mintc_matters.specs.Pins.{leaf_at, leaf_cell, no_leaf, all_leaves, all_names, input_count, output_count, input_numbers, output_numbers, pin_bit, inner_name, dotted, leaf_path}
+use Rattle.mintc_annotate_resolve.specs.Pins.{leaf_at, leaf_cell, no_leaf, all_leaves, all_names, input_count, output_count, input_numbers, output_numbers, pin_bit, inner_name, dotted, leaf_path, is_storage}
 use Rattle.mintc_annotate.specs.ClockPorts.{listed_in}
 use Rattle.mintc_annotate.specs.Phases.{storage, phase_spots, IsPhaseOf}
-use Rattle.mintc_matters.specs.Pins.{is_storage}
-use Rattle.mintc_matters.specs.Speaking.{Said, said, range_of, path_on}
+use Rattle.mintc_annotate_resolve.specs.Speaking.{Said, said, range_of, path_on}
 use Rattle.mintc_annotate.specs.Made.{RangeOf, bits_of, no_delay, gate_arc, gate_arcs, storage_arcs, leaf_arcs, number_in, arcs_of, elements_of, element_of, port_element, IsMade}
-use Rattle.mintc_matters.proofs.SharedRangeLimits.{AreSaid, range_in, all_said}
+use Rattle.mintc_annotate_resolve.proofs.SharedRangeLimits.{AreSaid, range_in, all_said}
 use Rattle.mintc_annotate.proofs.ElementLimits.{AreDelays, delay_is, order_is, or_in, KeepsHold}
 use Rattle.mintc_annotate.proofs.ArcLimits.{none_delays, inner_arc, data_arc, output_arc, joins_in, inputs_in, outputs_in, pins_count}
 use Rattle.mintc_annotate.proofs.DesignLimits.{elements_in, bound_is}

@@ -11,13 +11,13 @@ use Rattle.std.proofs.lemmas.List.Folds.{find-append}
 use Rattle.std.proofs.lemmas.Map.Steps.{length-le_from_distinct_below}
 use Rattle.mintc_annotate.specs.declared.searching.Drive.{Drive}
 use Rattle.mintc_annotate.specs.declared.searching.Spot.{Spot}
-use Rattle.mintc_hierarchy.specs.declared.hierarchy.Join.{Join}
+use Rattle.mintc_flatten_hierarchy.specs.declared.hierarchy.Join.{Join}
 use Rattle.mintc_cells.specs.declared.cell.Cell.TheVariants.{Clock}
-use Rattle.mintc_hierarchy.specs.declared.hierarchy.Hierarchy.{Hierarchy}
-use Rattle.mintc_hierarchy.specs.declared.hierarchy.Leaf.{Leaf}
-use Rattle.mintc_hierarchy.specs.Shape.{CellTable}
+use Rattle.mintc_flatten_hierarchy.specs.declared.hierarchy.Hierarchy.{Hierarchy}
+use Rattle.mintc_flatten_hierarchy.specs.declared.hierarchy.Leaf.{Leaf}
+use Rattle.mintc_flatten_hierarchy.specs.Shape.{CellTable}
 use Rattle.mintc_cells.specs.Entries.{cell_at}
-use Rattle.mintc_matters.specs.Pins.{leaf_at, leaf_cell}
+use Rattle.mintc_annotate_resolve.specs.Pins.{leaf_at, leaf_cell}
 use Rattle.mintc_annotate.specs.Phases.{drive, cell_drives, join_drive, driver_of, back, EndsAt}
 use Rattle.mintc_annotate.specs.Searches.{AreDrivers, AreWithin}
 

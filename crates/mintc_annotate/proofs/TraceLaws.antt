@@ -5,12 +5,12 @@ use Rattle.std.proofs.lemmas.List.Elements.{filter_more, filter-append}
 use Rattle.std.proofs.lemmas.List.FromFn.{length-range_with_len, get_or-range_with_len}
 use Rattle.std.proofs.lemmas.List.Sums.{count_by_more_yes}
 use Rattle.mintc_annotate.specs.Made.{number_in}
-use Rattle.mintc_hierarchy.specs.declared.hierarchy.Hierarchy.{Hierarchy}
+use Rattle.mintc_flatten_hierarchy.specs.declared.hierarchy.Hierarchy.{Hierarchy}
 use Rattle.mintc_annotate.specs.declared.searching.Drive.{Drive}
 use Rattle.mintc_annotate.specs.declared.searching.Spot.{Spot}
 use Rattle.mintc_annotate.specs.Phases.{storage, drives, driver_of, back, EndsAt, first_at, IsStart, IsPhaseOf, spots_of, phase_spots, AreTraced, IsUntraced, AreTraces, IsTraceRefusal}
-use Rattle.mintc_matters.specs.Pins.{is_storage}
-use Rattle.mintc_matters.specs.Ports.{if_input, place_in}
+use Rattle.mintc_annotate_resolve.specs.Pins.{is_storage, leaf_cell, all_leaves, all_names}
+use Rattle.mintc_annotate_resolve.specs.Ports.{if_input, place_in}
 use Rattle.mintc_annotate.specs.ClockPorts.{has_phases, first_false, IsPortRefusal}
 use Rattle.mintc_text.specs.Stops.{StopsAt}
 use Rattle.mintc_text.specs.declared.refusals.Stop.{Stop}
@@ -21,9 +21,8 @@ use Rattle.mintc_cells.specs.declared.cell.Cell.{Cell}
 use Rattle.mintc_cells.specs.declared.cell.Cell.TheVariants.{Latch, Flop, Clock}
 use Rattle.mintc_clock.specs.declared.clock.Clock as clock_type
 use Rattle.mintc_clock.specs.declared.clock.PhaseDef.{PhaseDef}
-use Rattle.mintc_hierarchy.specs.declared.hierarchy.TopPort.{TopPort}
-use Rattle.mintc_hierarchy.specs.Shape.{CellTable}
-use Rattle.mintc_matters.specs.Pins.{leaf_cell, all_leaves, all_names}
+use Rattle.mintc_flatten_hierarchy.specs.declared.hierarchy.TopPort.{TopPort}
+use Rattle.mintc_flatten_hierarchy.specs.Shape.{CellTable}
 use Rattle.mintc_annotate.specs.Searches.{IsPhaseFrom}
 use Rattle.mintc_annotate.proofs.SearchLaws.{one_driver, some_differs}
 

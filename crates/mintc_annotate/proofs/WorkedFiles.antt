@@ -1,8 +1,8 @@
 -- The worked files: two latches in a ring of two halves, each with a buffer.
 use Rattle.std.proofs.Common.{◌≡◌, ℕ, zero, suc, pos, true, false, List, [], ◌∷◌, length, slice_index_or, Some, None, codes, refl, sym, ap, subst}
 use Rattle.mintc_cells.specs.declared.cell.Cell.TheVariants.{Gate, Latch}
-use Rattle.mintc_hierarchy.specs.declared.hierarchy.Hierarchy.{Hierarchy}
-use Rattle.mintc_hierarchy.specs.declared.hierarchy.Inner.TheVariants.{Net, Pin}
+use Rattle.mintc_flatten_hierarchy.specs.declared.hierarchy.Hierarchy.{Hierarchy}
+use Rattle.mintc_flatten_hierarchy.specs.declared.hierarchy.Inner.TheVariants.{Net, Pin}
 use Rattle.mintc_clock.specs.declared.clock.Clock as clock_type
 use Rattle.mintc_sdf.specs.declared.delays.Delay.{Delay}
 use Rattle.mintc_sdf.specs.declared.delays.Place.TheVariants.{Path}
@@ -10,10 +10,10 @@ use Rattle.mintc_sdf.specs.declared.delays.Subject.TheVariants as subject
 use Rattle.mintc_timing.specs.Design.{Design, no_arc}
 use Rattle.mintc_timing.specs.Limits.{limit_of}
 use Rattle.mintc_annotate.specs.declared.searching.Spot.{Spot}
-use Rattle.mintc_hierarchy.specs.Shape.{CellTable}
+use Rattle.mintc_flatten_hierarchy.specs.Shape.{CellTable}
 use Rattle.mintc_annotate.specs.ClockPorts.{has_ports, first_false}
 use Rattle.mintc_annotate.specs.Phases.{spot, drive, drives, EndsAt, IsPhaseOf, AreTraced, IsFirstUntraced, phase_spots, first_at}
-use Rattle.mintc_matters.specs.Speaking.{first_refusal}
+use Rattle.mintc_annotate_resolve.specs.Speaking.{first_refusal}
 use Rattle.mintc_annotate.specs.Made.{design_made, IsAnnotated}
 
 abbrev pub two : Hierarchy

@@ -4,14 +4,14 @@ use Rattle.std.specs.Bool.{beq}
 use Rattle.mintc_text.specs.declared.refusals.Refusal.{Refusal}
 use Rattle.mintc_text.specs.declared.refusals.Refusal.TheVariants as refusal
 use Rattle.mintc_text.specs.declared.refusals.Role.TheVariants as role
-use Rattle.mintc_hierarchy.specs.declared.hierarchy.Hierarchy.{Hierarchy}
-use Rattle.mintc_hierarchy.specs.declared.hierarchy.TopPort.{TopPort}
+use Rattle.mintc_flatten_hierarchy.specs.declared.hierarchy.Hierarchy.{Hierarchy}
+use Rattle.mintc_flatten_hierarchy.specs.declared.hierarchy.TopPort.{TopPort}
 use Rattle.mintc_clock.specs.declared.clock.Clock.{Clock}
 use Rattle.mintc_clock.specs.declared.clock.Listed.{Listed}
 use Rattle.mintc_clock.specs.declared.clock.PhaseDef.{PhaseDef}
 use Rattle.mintc_clock.specs.ClockOf.{first_failing}
-use Rattle.mintc_matters.specs.Pins.{all_names}
-use Rattle.mintc_matters.specs.Ports.{place_in, if_input}
+use Rattle.mintc_annotate_resolve.specs.Pins.{all_names}
+use Rattle.mintc_annotate_resolve.specs.Ports.{place_in, if_input}
 
 -- the bit of a phase: of an input
 abbrev pub phase_bit_in : List (List ℕ) → List TopPort → PhaseDef → Option ℕ

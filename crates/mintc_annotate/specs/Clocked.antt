@@ -1,7 +1,7 @@
 -- What a clock names, as it is kept.
 use Rattle.std.specs.Prelude.{◌≡◌, ◌<◌, ℕ, min, true, false, List, length, None}
 use Rattle.mintc_text.specs.declared.limits.TheConstants.{MOST_TOLD}
-use Rattle.mintc_hierarchy.specs.declared.hierarchy.TopPort.{TopPort}
+use Rattle.mintc_flatten_hierarchy.specs.declared.hierarchy.TopPort.{TopPort}
 use Rattle.mintc_clock.specs.declared.clock.Clock.{Clock}
 use Rattle.mintc_annotate.specs.declared.clocked.Clocked.{Clocked}
 use Rattle.mintc_annotate.specs.ClockPorts.{has_ports_in, first_false}

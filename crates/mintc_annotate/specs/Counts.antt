@@ -3,10 +3,10 @@ use Rattle.std.specs.Prelude.{◌<◌, ◌≤◌, ℕ, ◌+◌, ◌*◌, ℤ, po
 use Rattle.mintc_text.specs.declared.limits.TheConstants.{MOST_ELEMENTS, MOST_INNER}
 use Rattle.mintc_cells.specs.declared.cell.Cell.{Cell}
 use Rattle.mintc_cells.specs.declared.cell.Cell.TheVariants.{Gate, Latch, Flop, Clock}
-use Rattle.mintc_hierarchy.specs.declared.hierarchy.Hierarchy.{Hierarchy}
-use Rattle.mintc_hierarchy.specs.Shape.{CellTable}
+use Rattle.mintc_flatten_hierarchy.specs.declared.hierarchy.Hierarchy.{Hierarchy}
+use Rattle.mintc_flatten_hierarchy.specs.Shape.{CellTable}
 use Rattle.mintc_clock.specs.declared.clock.Listed.{Listed}
-use Rattle.mintc_matters.specs.Pins.{leaf_cell, all_leaves}
+use Rattle.mintc_annotate_resolve.specs.Pins.{leaf_cell, all_leaves}
 use Rattle.mintc_annotate.specs.declared.listing.ListedBit.{ListedBit}
 use Rattle.mintc_annotate.specs.declared.arcs.GateAt.{GateAt}
 

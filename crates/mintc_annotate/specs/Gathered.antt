@@ -1,14 +1,14 @@
 -- What is gathered for a design before it is made.
 use Rattle.std.specs.Prelude.{◌≡◌, min, Bool, true, false, List, length, map, All, None}
 use Rattle.mintc_text.specs.declared.limits.TheConstants.{MOST_TOLD}
-use Rattle.mintc_hierarchy.specs.declared.hierarchy.Hierarchy.{Hierarchy}
-use Rattle.mintc_hierarchy.specs.Shape.{CellTable}
+use Rattle.mintc_flatten_hierarchy.specs.declared.hierarchy.Hierarchy.{Hierarchy}
+use Rattle.mintc_flatten_hierarchy.specs.Shape.{CellTable}
 use Rattle.mintc_sdf.specs.declared.delays.Delay.{Delay}
 use Rattle.mintc_clock.specs.declared.clock.Clock.{Clock}
 use Rattle.mintc_clock.specs.declared.clock.Listed.{Listed}
-use Rattle.mintc_matters.specs.Pins.{all_names}
-use Rattle.mintc_ranges.specs.Ranges.{look, AreRanges}
-use Rattle.mintc_matters.specs.Speaking.{first_refusal}
+use Rattle.mintc_annotate_resolve.specs.Pins.{all_names}
+use Rattle.mintc_annotate_delays.specs.Ranges.{look, AreRanges}
+use Rattle.mintc_annotate_resolve.specs.Speaking.{first_refusal}
 use Rattle.mintc_timing.specs.Design.{Design}
 use Rattle.mintc_annotate.specs.declared.gathering.Gathered.{Gathered}
 use Rattle.mintc_annotate.specs.declared.listing.ListedBit.{ListedBit}

@@ -1,11 +1,11 @@
 -- What holds of the design that files make.
 use Rattle.std.specs.Prelude.{◌≡◌, List}
 use Rattle.mintc_text.specs.declared.refusals.Refusal.{Refusal}
-use Rattle.mintc_hierarchy.specs.declared.hierarchy.Hierarchy.{Hierarchy}
+use Rattle.mintc_flatten_hierarchy.specs.declared.hierarchy.Hierarchy.{Hierarchy}
 use Rattle.mintc_clock.specs.declared.clock.Clock.{Clock}
 use Rattle.mintc_sdf.specs.declared.delays.Delay.{Delay}
 use Rattle.mintc_timing.specs.Design.{Design}
-use Rattle.mintc_hierarchy.specs.Shape.{CellTable}
+use Rattle.mintc_flatten_hierarchy.specs.Shape.{CellTable}
 use Rattle.mintc_annotate.specs.Made.{IsAnnotated, IsAnnotateRefusal}
 
 -- There is one design at most, and none beside a refusal.

@@ -5,9 +5,9 @@ use Rattle.mintc_text.specs.declared.refusals.Refusal.{Refusal}
 use Rattle.mintc_text.specs.declared.refusals.Refusal.TheVariants as refusal
 use Rattle.mintc_cells.specs.declared.cell.Cell.{Cell}
 use Rattle.mintc_cells.specs.declared.cell.Cell.TheVariants.{Gate, Latch, Flop, Clock}
-use Rattle.mintc_hierarchy.specs.declared.hierarchy.Hierarchy.{Hierarchy}
-use Rattle.mintc_hierarchy.specs.declared.hierarchy.Join.{Join}
-use Rattle.mintc_hierarchy.specs.declared.hierarchy.TopPort.{TopPort}
+use Rattle.mintc_flatten_hierarchy.specs.declared.hierarchy.Hierarchy.{Hierarchy}
+use Rattle.mintc_flatten_hierarchy.specs.declared.hierarchy.Join.{Join}
+use Rattle.mintc_flatten_hierarchy.specs.declared.hierarchy.TopPort.{TopPort}
 use Rattle.mintc_sdf.specs.declared.delays.Delay.{Delay}
 use Rattle.mintc_clock.specs.declared.clock.Clock as clock_type
 use Rattle.mintc_clock.specs.declared.clock.Listed.{Listed}
@@ -16,12 +16,11 @@ use Rattle.mintc_timing.specs.declared.parts.TimingArc.{TimingArc}
 use Rattle.mintc_timing.specs.Design.{Design, no_element}
 use Rattle.mintc_timing.specs.Limits.{limit_of}
 use Rattle.mintc_timing.specs.Paths.{input_of, output_of}
-use Rattle.mintc_hierarchy.specs.Shape.{CellTable}
-use Rattle.mintc_matters.specs.Pins.{leaf_at, leaf_cell, all_leaves, input_numbers, output_numbers, pin_bit, leaf_path, dotted, all_names}
+use Rattle.mintc_flatten_hierarchy.specs.Shape.{CellTable}
+use Rattle.mintc_annotate_resolve.specs.Pins.{leaf_at, leaf_cell, all_leaves, input_numbers, output_numbers, pin_bit, leaf_path, dotted, all_names, is_storage}
 use Rattle.mintc_annotate.specs.ClockPorts.{listed_in, has_ports, first_false, IsPortRefusal}
 use Rattle.mintc_annotate.specs.Phases.{storage, phase_spots, AreTraced, IsFirstUntraced}
-use Rattle.mintc_matters.specs.Pins.{is_storage}
-use Rattle.mintc_matters.specs.Speaking.{Matter, said, first_refusal, range_of, path_on, join_into, arcs_from, dq_of, cq_of, setup_of, hold_of, width_of}
+use Rattle.mintc_annotate_resolve.specs.Speaking.{Matter, said, first_refusal, range_of, path_on, join_into, arcs_from, dq_of, cq_of, setup_of, hold_of, width_of}
 
 -- what is the least and the greatest that is said of a matter, if anything is
 abbrev pub RangeOf : Type 0

@@ -8,14 +8,14 @@ use Rattle.mintc_cells.specs.declared.cell.Cell.{Cell}
 use Rattle.mintc_annotate.specs.declared.searching.Drive.{Drive}
 use Rattle.mintc_annotate.specs.declared.searching.Spot.{Spot}
 use Rattle.mintc_cells.specs.declared.cell.Cell.TheVariants.{Latch, Flop, Clock}
-use Rattle.mintc_hierarchy.specs.declared.hierarchy.Hierarchy.{Hierarchy}
-use Rattle.mintc_hierarchy.specs.declared.hierarchy.Join.{Join}
-use Rattle.mintc_hierarchy.specs.declared.hierarchy.TopPort.{TopPort}
+use Rattle.mintc_flatten_hierarchy.specs.declared.hierarchy.Hierarchy.{Hierarchy}
+use Rattle.mintc_flatten_hierarchy.specs.declared.hierarchy.Join.{Join}
+use Rattle.mintc_flatten_hierarchy.specs.declared.hierarchy.TopPort.{TopPort}
 use Rattle.mintc_clock.specs.declared.clock.Clock as clock_type
 use Rattle.mintc_clock.specs.declared.clock.PhaseDef.{PhaseDef}
-use Rattle.mintc_hierarchy.specs.Shape.{CellTable}
-use Rattle.mintc_matters.specs.Pins.{is_storage, leaf_cell, all_leaves, pin_bit, all_names}
-use Rattle.mintc_matters.specs.Ports.{if_input, place_in}
+use Rattle.mintc_flatten_hierarchy.specs.Shape.{CellTable}
+use Rattle.mintc_annotate_resolve.specs.Pins.{is_storage, leaf_cell, all_leaves, pin_bit, all_names}
+use Rattle.mintc_annotate_resolve.specs.Ports.{if_input, place_in}
 use Rattle.mintc_annotate.specs.ClockPorts.{has_phases, first_false, IsPortRefusal}
 
 -- the leaves that are latches or flops, in leaf order: element e is that of leaf number e of these

@@ -2,10 +2,10 @@
 ghost use Rattle.std.specs.Prelude.{◌≡◌, ◌<◌, ◌≤◌, ◌+◌, ℕ, length, map, min, None, All, IfOk, MatchResult};
 ghost use Rattle.mintc_text.specs.declared.limits.TheConstants.{MOST_ELEMENTS, MOST_INNER, MOST_LEAVES, MOST_TOLD};
 ghost use Rattle.mintc_text.specs.Stops.{StopsAt};
-ghost use Rattle.mintc_hierarchy.specs.Shape.{IsFlattened, IsGivenHierarchy};
+ghost use Rattle.mintc_flatten_hierarchy.specs.Shape.{IsFlattened, IsGivenHierarchy};
 ghost use Rattle.mintc_timing.specs.Limits.{HasParts, over_limit, quantities, limit_of};
 ghost use Rattle.mintc_clock.specs.declared.clock.Clock.{Clock};
-ghost use Rattle.mintc_ranges.specs.Ranges.{look};
+ghost use Rattle.mintc_annotate_delays.specs.Ranges.{look};
 ghost use Rattle.mintc_annotate.specs.Given.{IsGivenClock, AreGivenDelays};
 ghost use Rattle.mintc_annotate.specs.Gathered.{AreGathered, AreListed, design_of_gathered};
 ghost use Rattle.mintc_annotate.specs.Counts.{leaf_arc_count};
@@ -19,7 +19,7 @@ use crate::gathering::{Gathered, gather};
 use crate::listing::{ListedBits, listed_bits};
 use mintc_cells::Cells;
 use mintc_clock::{Clock, PhaseDef, clocks_keep_limits};
-use mintc_hierarchy::{Hierarchy, hierarchies_are_in_shape};
+use mintc_flatten_hierarchy::{Hierarchy, hierarchies_are_in_shape};
 use mintc_sdf::{Delays, delays_are_within};
 use mintc_text::{Name, Names, OutOfMemory, Refusal, Stop};
 use mintc_timing::{Bound, Element, Flat, TimingArc};
@@ -153,7 +153,7 @@ fn phase_names(alloc: Global, phases: &[PhaseDef]) -> Result<Vec<Name>, OutOfMem
 }
 
 /// The same bounds once more.
-fn copied(alloc: Global, bounds: &[Bound]) -> Result<Vec<Bound>, OutOfMemory>
+fn copy_bounds(alloc: Global, bounds: &[Bound]) -> Result<Vec<Bound>, OutOfMemory>
     ensures { IfOk result (λ v. v.items ≡ bounds.now) }
 {
     let mut copy = Vec::new(alloc);
@@ -207,7 +207,7 @@ fn parts_of(
     ensures bounds { IfOk result (λ parts. parts.bounds.items ≡ clock.now.bounds) }
 {
     let phases = Names::new(phase_names(alloc, clock.phases.items())?);
-    let bounds = copied(alloc, clock.bounds.items())?;
+    let bounds = copy_bounds(alloc, clock.bounds.items())?;
     let (elements, arcs) = elements_and_arcs(alloc, hierarchy, cells, clock, gathered)?;
     Ok(Parts {
         phases,
@@ -246,7 +246,7 @@ fn build(
 }
 
 /// The same over a hierarchy in shape.
-fn annotated(
+fn annotate_in_shape(
     alloc: Global,
     hierarchy: &Hierarchy,
     cells: &Cells,
@@ -289,5 +289,5 @@ pub fn annotate(
         (StopsAt (IsAnnotateRefusal hierarchy.now cells.now clock.now delays.now.items)) }
 {
     hierarchies_are_in_shape();
-    annotated(alloc, hierarchy, cells, clock, delays)
+    annotate_in_shape(alloc, hierarchy, cells, clock, delays)
 }

@@ -2,20 +2,20 @@
 ghost use Rattle.std.specs.Prelude.{◌≡◌, ◌<◌, ◌≤◌, ◌+◌, ◌++◌, ◌∷◌, [], List, length, map, flat_map, true, All, OnOk};
 ghost use Rattle.std.specs.List.{range_with_len};
 ghost use Rattle.mintc_text.specs.declared.limits.TheConstants.{MOST_ELEMENTS, MOST_INNER};
-ghost use Rattle.mintc_hierarchy.specs.Shape.{IsFlattened};
-ghost use Rattle.mintc_matters.specs.Pins.{leaf_cell, all_leaves, is_storage};
+ghost use Rattle.mintc_flatten_hierarchy.specs.Shape.{IsFlattened};
+ghost use Rattle.mintc_annotate_resolve.specs.Pins.{leaf_cell, all_leaves, is_storage};
 ghost use Rattle.mintc_clock.specs.declared.clock.Listed.{Listed};
-ghost use Rattle.mintc_ranges.specs.Ranges.{look};
+ghost use Rattle.mintc_annotate_delays.specs.Ranges.{look};
 ghost use Rattle.mintc_annotate.specs.Phases.{storage};
 ghost use Rattle.mintc_timing.specs.Paths.{input_of, output_of};
 ghost use Rattle.mintc_annotate.specs.Counts.{with_port, gate_at, IsSmall};
 ghost use Rattle.mintc_annotate.specs.Made.{arc_of, no_delay, inner_bit, join_arc, pin_arc, leaf_arcs, number_in, input_arcs, output_arcs};
 
 use crate::listing::ListedBit;
+use mintc_annotate_delays::Ranges;
+use mintc_annotate_resolve::is_storage;
 use mintc_cells::{Cell, Cells};
-use mintc_hierarchy::{Hierarchy, Join};
-use mintc_matters::is_storage;
-use mintc_ranges::Ranges;
+use mintc_flatten_hierarchy::{Hierarchy, Join};
 use mintc_text::{Names, OutOfMemory};
 use mintc_timing::TimingArc;
 

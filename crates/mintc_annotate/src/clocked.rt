@@ -1,7 +1,7 @@
 //! The ports that a clock names.
 ghost use Rattle.std.specs.Prelude.{◌≤◌, length, All, MatchResult};
 ghost use Rattle.mintc_text.specs.Stops.{StopsAt};
-ghost use Rattle.mintc_matters.specs.Ports.{AreInside};
+ghost use Rattle.mintc_annotate_resolve.specs.Ports.{AreInside};
 ghost use Rattle.mintc_annotate.specs.ClockPorts.{has_ports_in, IsPortRefusal};
 ghost use Rattle.mintc_annotate.specs.Clocked.{AreClocked};
 
@@ -9,7 +9,7 @@ use crate::listing::count_bits;
 use crate::searching::Spot;
 use crate::spots::spots_of;
 use mintc_clock::Clock;
-use mintc_hierarchy::TopPort;
+use mintc_flatten_hierarchy::TopPort;
 use mintc_text::{Name, Stop};
 use std::alloc::Global;
 

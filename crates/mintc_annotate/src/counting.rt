@@ -2,12 +2,12 @@
 ghost use Rattle.std.specs.Prelude.{◌≡◌, ◌<◌, ◌≤◌, ◌+◌, ℕ, length, min};
 ghost use Rattle.mintc_text.specs.declared.limits.TheConstants.{MOST_INNER};
 ghost use Rattle.mintc_timing.specs.Limits.{over_limit, quantities};
-ghost use Rattle.mintc_hierarchy.specs.Shape.{IsFlattened};
-ghost use Rattle.mintc_matters.specs.Pins.{input_count, output_count};
+ghost use Rattle.mintc_flatten_hierarchy.specs.Shape.{IsFlattened};
+ghost use Rattle.mintc_annotate_resolve.specs.Pins.{input_count, output_count};
 ghost use Rattle.mintc_annotate.specs.Counts.{arc_count, leaf_arc_count};
 
 use mintc_cells::{Cell, Cells};
-use mintc_hierarchy::Hierarchy;
+use mintc_flatten_hierarchy::Hierarchy;
 use mintc_text::limits::{MOST_ARCS, MOST_BOUNDS, MOST_ELEMENTS, MOST_PHASES, MOST_TOLD};
 use mintc_text::{Kind, Refusal};
 

@@ -1,14 +1,14 @@
 //! What drives each bit of a hierarchy.
 ghost use Rattle.std.specs.Prelude.{◌≡◌, ◌<◌, ◌++◌, List, length, map, flat_map, [], All, IfOk};
-ghost use Rattle.mintc_hierarchy.specs.Shape.{IsFlattened};
+ghost use Rattle.mintc_flatten_hierarchy.specs.Shape.{IsFlattened};
 ghost use Rattle.mintc_annotate.specs.Phases.{drives, join_drive, cell_drives};
-ghost use Rattle.mintc_matters.specs.Pins.{all_leaves, leaf_cell};
+ghost use Rattle.mintc_annotate_resolve.specs.Pins.{all_leaves, leaf_cell};
 ghost use Rattle.mintc_annotate.specs.Searches.{AreDrivers};
 ghost use Rattle.mintc_annotate.specs.declared.searching.Drive.{Drive};
 
-use crate::searching::{Drive, add, undriven};
+use crate::searching::{Drive, add, no_drivers};
 use mintc_cells::{Cell, Cells};
-use mintc_hierarchy::{Hierarchy, Join};
+use mintc_flatten_hierarchy::{Hierarchy, Join};
 use mintc_text::OutOfMemory;
 use std::alloc::Global;
 
@@ -91,7 +91,7 @@ pub(crate) fn drivers(
     requires { IsFlattened cells.now hierarchy.now }
     ensures { IfOk result (λ table. AreDrivers (drives hierarchy.now cells.now) (length hierarchy.now.inner) table.items) }
 {
-    let mut table = undriven(alloc, hierarchy.inner.items().len())?;
+    let mut table = no_drivers(alloc, hierarchy.inner.items().len())?;
     add_all(&mut table, hierarchy, cells);
     Ok(table)
 }

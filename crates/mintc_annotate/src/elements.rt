@@ -1,20 +1,20 @@
 //! The elements of a design.
 ghost use Rattle.std.specs.Prelude.{◌≡◌, ◌<◌, ◌≤◌, ◌++◌, ◌∷◌, [], length, map, slice_index_or, true, false, All, MatchOption, IfOk, OnOk};
-ghost use Rattle.mintc_hierarchy.specs.Shape.{IsFlattened};
-ghost use Rattle.mintc_matters.specs.Names.{HasNames};
-ghost use Rattle.mintc_matters.specs.Pins.{leaf_cell, leaf_path, dotted, is_storage};
-ghost use Rattle.mintc_ranges.specs.Ranges.{look};
+ghost use Rattle.mintc_flatten_hierarchy.specs.Shape.{IsFlattened};
+ghost use Rattle.mintc_annotate_resolve.specs.Names.{HasNames};
+ghost use Rattle.mintc_annotate_resolve.specs.Pins.{leaf_cell, leaf_path, dotted, is_storage};
+ghost use Rattle.mintc_annotate_delays.specs.Ranges.{look};
 ghost use Rattle.mintc_annotate.specs.Phases.{storage};
 ghost use Rattle.mintc_annotate.specs.Counts.{with_port, IsListedBit};
 ghost use Rattle.mintc_annotate.specs.Made.{first_range, borrowed, greatest_or, element_of, port_element, storage_elements, elements_at};
 
 use crate::listing::ListedBit;
 use crate::naming::leaf_name;
+use mintc_annotate_delays::Ranges;
+use mintc_annotate_resolve::is_storage;
 use mintc_cells::{Cell, Cells};
 use mintc_clock::Listed;
-use mintc_hierarchy::Hierarchy;
-use mintc_matters::is_storage;
-use mintc_ranges::Ranges;
+use mintc_flatten_hierarchy::Hierarchy;
 use mintc_text::{Name, OutOfMemory};
 use mintc_timing::Element;
 use std::alloc::Global;

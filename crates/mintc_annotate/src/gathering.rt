@@ -1,19 +1,18 @@
 //! What is gathered for a design before it is made.
 ghost use Rattle.std.specs.Prelude.{MatchResult};
 ghost use Rattle.mintc_text.specs.Stops.{StopsAt};
-ghost use Rattle.mintc_hierarchy.specs.Shape.{IsFlattened};
+ghost use Rattle.mintc_flatten_hierarchy.specs.Shape.{IsFlattened};
 ghost use Rattle.mintc_annotate.specs.Gathered.{AreGathered, IsSpoken};
 ghost use Rattle.mintc_annotate.specs.Made.{IsAnnotateRefusal};
 
 use crate::clocked::clock_ports;
 use crate::tracing::trace_all;
+use mintc_annotate_delays::{Ranges, gather_ranges};
+use mintc_annotate_resolve::inner_names;
 use mintc_cells::Cells;
 use mintc_clock::Clock;
-use mintc_hierarchy::Hierarchy;
-use mintc_matters::inner_names;
-use mintc_ranges::Ranges;
+use mintc_flatten_hierarchy::Hierarchy;
 use mintc_sdf::Delays;
-use mintc_speaking::gather_ranges;
 use mintc_text::{Name, Numbers, Stop};
 use std::alloc::Global;
 

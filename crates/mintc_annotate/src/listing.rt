@@ -2,16 +2,16 @@
 ghost use Rattle.std.specs.Prelude.{◌≡◌, ◌<◌, ◌≤◌, ◌+◌, ◌++◌, ◌&&◌, [], length, map, min, is_some, bytes_eq, unwrap_or, None, All, IfOk, OnOk, OnErr, MatchResult};
 ghost use Rattle.std.specs.Bool.{beq};
 ghost use Rattle.mintc_text.specs.Stops.{StopsAt};
-ghost use Rattle.mintc_hierarchy.specs.Shape.{IsPort};
+ghost use Rattle.mintc_flatten_hierarchy.specs.Shape.{IsPort};
 ghost use Rattle.mintc_clock.specs.ClockOf.{first_failing};
-ghost use Rattle.mintc_matters.specs.Ports.{AreInside};
+ghost use Rattle.mintc_annotate_resolve.specs.Ports.{AreInside};
 ghost use Rattle.mintc_annotate.specs.ClockPorts.{listed_in, has_listed_in, IsEntryRefusal};
 ghost use Rattle.mintc_annotate.specs.Gathered.{AreBits, AreListed};
 ghost use Rattle.mintc_annotate.specs.Made.{bits_in};
 ghost use Rattle.mintc_annotate.specs.Counts.{with_port, place_bit};
 
 use mintc_clock::{Clock, Listed};
-use mintc_hierarchy::{Hierarchy, TopPort};
+use mintc_flatten_hierarchy::{Hierarchy, TopPort};
 use mintc_text::limits::MOST_TOLD;
 use mintc_text::{OutOfMemory, Refusal, Role, Stop};
 use std::alloc::Global;

@@ -1,10 +1,10 @@
 //! What latches and flops are called.
 ghost use Rattle.std.specs.Prelude.{◌≡◌, ◌<◌, ◌++◌, length, OnOk, IfOk};
-ghost use Rattle.mintc_hierarchy.specs.Shape.{IsFlattened};
-ghost use Rattle.mintc_matters.specs.Names.{HasNames, front_of};
-ghost use Rattle.mintc_matters.specs.Pins.{scope_path, leaf_path, dotted};
+ghost use Rattle.mintc_flatten_hierarchy.specs.Shape.{IsFlattened};
+ghost use Rattle.mintc_annotate_resolve.specs.Names.{HasNames, front_of};
+ghost use Rattle.mintc_annotate_resolve.specs.Pins.{scope_path, leaf_path, dotted};
 
-use mintc_hierarchy::Hierarchy;
+use mintc_flatten_hierarchy::Hierarchy;
 use mintc_text::{Lines, Name, OutOfMemory};
 use std::alloc::Global;
 

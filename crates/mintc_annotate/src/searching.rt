@@ -33,7 +33,7 @@ pub(crate) struct Jump {
 }
 
 /// So many bits that nothing drives.
-pub(crate) fn undriven(alloc: Global, count: usize) -> Result<Vec<Option<Drive>>, OutOfMemory>
+pub(crate) fn no_drivers(alloc: Global, count: usize) -> Result<Vec<Option<Drive>>, OutOfMemory>
     ensures { IfOk result (λ table. AreDrivers [] count table.items) }
 {
     let mut table = Vec::new(alloc);
@@ -101,7 +101,7 @@ fn then_jump(one: Jump, other: Jump) -> Jump
 }
 
 /// Twice as many steps.
-fn doubled(alloc: Global, jumps: &[Jump]) -> Result<Vec<Jump>, OutOfMemory>
+fn twice_as_far(alloc: Global, jumps: &[Jump]) -> Result<Vec<Jump>, OutOfMemory>
     requires { All (λ j. j.bit < length jumps.now) jumps.now }
     ensures { IfOk result (λ v. v.items ≡ map (doubled_jump jumps.now) jumps.now) }
 {
@@ -124,7 +124,7 @@ pub(crate) fn jumps(alloc: Global, table: &[Option<Drive>]) -> Result<Vec<Jump>,
 {
     let mut found = first_jumps(alloc, table)?;
     for round in 0..18u32 {
-        let Ok(more) = doubled(alloc, &found) else {
+        let Ok(more) = twice_as_far(alloc, &found) else {
             return Err(OutOfMemory);
         };
         found = more;

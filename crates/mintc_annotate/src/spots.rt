@@ -1,14 +1,14 @@
 //! Where the phases stand.
 ghost use Rattle.std.specs.Prelude.{◌≡◌, ◌<◌, ◌^◌, ◌-◌, length, None, IfOk, MatchResult};
 ghost use Rattle.mintc_text.specs.Stops.{StopsAt};
-ghost use Rattle.mintc_matters.specs.Ports.{AreInside, place_in, if_input};
+ghost use Rattle.mintc_annotate_resolve.specs.Ports.{AreInside, place_in, if_input};
 ghost use Rattle.mintc_annotate.specs.ClockPorts.{has_phases_in, first_false, IsPortRefusal};
 ghost use Rattle.mintc_annotate.specs.Phases.{spots_of};
 
 use crate::searching::Spot;
+use mintc_annotate_resolve::place_in;
 use mintc_clock::PhaseDef;
-use mintc_hierarchy::TopPort;
-use mintc_matters::place_in;
+use mintc_flatten_hierarchy::TopPort;
 use mintc_text::{Name, Refusal, Role, Stop};
 use std::alloc::Global;
 

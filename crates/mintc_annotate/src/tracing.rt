@@ -2,21 +2,20 @@
 ghost use Rattle.std.specs.Prelude.{◌≡◌, ◌<◌, ◌≤◌, ◌^◌, ◌-◌, All, ℕ, List, length, true, false, MatchResult, MatchOption};
 ghost use Rattle.mintc_text.specs.declared.limits.TheConstants.{MOST_INNER};
 ghost use Rattle.mintc_text.specs.Stops.{StopsAt};
-ghost use Rattle.mintc_hierarchy.specs.Shape.{IsFlattened, IsGivenHierarchy};
+ghost use Rattle.mintc_flatten_hierarchy.specs.Shape.{IsFlattened, IsGivenHierarchy};
 ghost use Rattle.mintc_annotate.specs.Given.{IsGivenClock};
 ghost use Rattle.mintc_annotate.specs.Phases.{drives, IsStart, same_spot, first_at, AreTraced, IsUntraced, AreTraces, IsTraceRefusal};
-ghost use Rattle.mintc_matters.specs.Pins.{is_storage};
-ghost use Rattle.mintc_matters.specs.Pins.{leaf_cell};
+ghost use Rattle.mintc_annotate_resolve.specs.Pins.{is_storage, leaf_cell};
 ghost use Rattle.mintc_annotate.specs.Searches.{AreDrivers, AreJumps, IsPhaseFrom};
 ghost use Rattle.mintc_annotate.specs.declared.searching.Drive.{Drive};
 
 use crate::drivers::drivers;
 use crate::searching::{Drive, Jump, Spot, end_of, jumps};
 use crate::spots::spots_of;
+use mintc_annotate_resolve::inner_names;
 use mintc_cells::{Cell, Cells};
 use mintc_clock::Clock;
-use mintc_hierarchy::{Hierarchy, hierarchies_are_in_shape};
-use mintc_matters::inner_names;
+use mintc_flatten_hierarchy::{Hierarchy, hierarchies_are_in_shape};
 use mintc_text::{Numbers, Refusal, Stop};
 use std::alloc::Global;
 
@@ -130,7 +129,7 @@ pub(crate) fn trace_all(
 }
 
 /// The same over a hierarchy in shape.
-fn traced_phases(
+fn trace_in_shape(
     alloc: Global,
     hierarchy: &Hierarchy,
     cells: &Cells,
@@ -163,5 +162,5 @@ pub fn trace_phases(
     ensures { MatchResult result (AreTraces hierarchy.now cells.now clock.now) (StopsAt (IsTraceRefusal hierarchy.now cells.now clock.now)) }
 {
     hierarchies_are_in_shape();
-    traced_phases(alloc, hierarchy, cells, clock)
+    trace_in_shape(alloc, hierarchy, cells, clock)
 }

@@ -15,11 +15,11 @@ use Rattle.mintc_cells.specs.Laws.{BadCellsAreDetermined, CellsAreDetermined, Ce
 use Rattle.mintc_clock.specs.declared.clock.Clock.{Clock}
 use Rattle.mintc_clock.specs.ClockOf.{IsClock, IsClockRefusal}
 use Rattle.mintc_clock.specs.Laws.{BadClocksAreDetermined, ClocksAreDetermined, ClocksAreNotRefused}
-use Rattle.mintc_hierarchy.specs.declared.hierarchy.Hierarchy.{Hierarchy}
-use Rattle.mintc_hierarchy.specs.Sources.{Source, source_of}
-use Rattle.mintc_hierarchy.specs.Hierarchies.{hierarchy_of}
-use Rattle.mintc_hierarchy.specs.Refusals.{tops_of, refusal_of, IsHierarchy, IsRefusal}
-use Rattle.mintc_hierarchy.specs.Shape.{CellTable}
+use Rattle.mintc_flatten_hierarchy.specs.declared.hierarchy.Hierarchy.{Hierarchy}
+use Rattle.mintc_flatten_hierarchy.specs.Sources.{Source, source_of}
+use Rattle.mintc_flatten_hierarchy.specs.Hierarchies.{hierarchy_of}
+use Rattle.mintc_flatten_hierarchy.specs.Refusals.{tops_of, refusal_of, IsHierarchy, IsRefusal}
+use Rattle.mintc_flatten_hierarchy.specs.Shape.{CellTable}
 use Rattle.mintc_annotate.specs.Made.{IsAnnotated, IsAnnotateRefusal}
 use Rattle.mintc_annotate.specs.Laws.{AnnotateRefusalsAreDetermined, DesignsAreDetermined, DesignsAreNotRefused}
 use Rattle.mintc_liberty.specs.Meaning.{liberty_cells}

@@ -15,15 +15,15 @@ use Rattle.mintc_cells.specs.Laws.{CellsAreDetermined}
 use Rattle.mintc_clock.specs.declared.clock.Clock as clock_type
 use Rattle.mintc_clock.specs.declared.clock.Listed.{Listed}
 use Rattle.mintc_clock.specs.Laws.{ClocksAreDetermined}
-use Rattle.mintc_hierarchy.specs.declared.hierarchy.Hierarchy.{Hierarchy}
-use Rattle.mintc_hierarchy.specs.Sources.{source_of}
-use Rattle.mintc_hierarchy.specs.Shape.{CellTable}
-use Rattle.mintc_matters.specs.Pins.{all_names, all_leaves, leaf_cell, leaf_path, dotted, input_numbers, output_numbers}
-use Rattle.mintc_matters.specs.Speaking.{range_of, said}
+use Rattle.mintc_flatten_hierarchy.specs.declared.hierarchy.Hierarchy.{Hierarchy}
+use Rattle.mintc_flatten_hierarchy.specs.Sources.{source_of}
+use Rattle.mintc_flatten_hierarchy.specs.Shape.{CellTable}
+use Rattle.mintc_annotate_resolve.specs.Pins.{all_names, all_leaves, leaf_cell, leaf_path, dotted, input_numbers, output_numbers}
+use Rattle.mintc_annotate_resolve.specs.Speaking.{range_of, said}
 use Rattle.mintc_annotate.specs.Phases.{storage}
 use Rattle.mintc_annotate.specs.Made.{RangeOf, bits_of, element_of, port_element, storage_elements, elements_with, arc_of, no_delay, inner_bit, join_arc, gate_arc, leaf_arcs, input_arcs, output_arcs, arcs_with, design_with, design_made, IsAnnotated}
 use Rattle.mintc_annotate.specs.Laws.{DesignsAreDetermined}
-use Rattle.mintc_corners.specs.Joint.{unnumbered, undelayed, DifferInNumbers}
+use Rattle.mintc_timing.specs.Numbers.{unnumbered, undelayed, DifferInNumbers}
 use Rattle.mintc_build.specs.Laws.{CornersDifferInNumbers}
 use Rattle.mintc_build.proofs.FilesLaws.{one_netlist, one_hierarchy, moved, moved_design}
 

@@ -12,10 +12,10 @@ use Rattle.mintc_cells.specs.CellsOf.{AreCells, IsBadCell, IsBadCellBy}
 use Rattle.mintc_liberty.specs.Meaning.{liberty_cells}
 use Rattle.mintc_clock.specs.declared.clock.Clock.{Clock}
 use Rattle.mintc_clock.specs.ClockOf.{IsClock, IsClockRefusal}
-use Rattle.mintc_hierarchy.specs.declared.hierarchy.Hierarchy.{Hierarchy}
-use Rattle.mintc_hierarchy.specs.Sources.{source_of}
-use Rattle.mintc_hierarchy.specs.Refusals.{IsHierarchy, IsRefusal}
-use Rattle.mintc_hierarchy.specs.Shape.{CellTable}
+use Rattle.mintc_flatten_hierarchy.specs.declared.hierarchy.Hierarchy.{Hierarchy}
+use Rattle.mintc_flatten_hierarchy.specs.Sources.{source_of}
+use Rattle.mintc_flatten_hierarchy.specs.Refusals.{IsHierarchy, IsRefusal}
+use Rattle.mintc_flatten_hierarchy.specs.Shape.{CellTable}
 use Rattle.mintc_annotate.specs.Made.{IsAnnotated, IsAnnotateRefusal}
 use Rattle.mintc_build.specs.declared.files.CellFile.{CellFile}
 use Rattle.mintc_build.specs.declared.files.CellFile.TheVariants.{Description, Library}

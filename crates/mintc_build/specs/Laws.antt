@@ -4,7 +4,7 @@ use Rattle.mintc_text.specs.declared.refusals.Refusal.{Refusal}
 use Rattle.mintc_text.specs.declared.refusals.Refusal.TheVariants as refusal
 use Rattle.mintc_timing.specs.Accepted.{IsAccepted}
 use Rattle.mintc_timing.specs.Design.{Design}
-use Rattle.mintc_corners.specs.Joint.{DifferInNumbers}
+use Rattle.mintc_timing.specs.Numbers.{DifferInNumbers}
 use Rattle.mintc_build.specs.Designs.{IsDesignRefusal}
 use Rattle.mintc_build.specs.FilesDesign.{CellText, IsDesignOver, IsFilesDesign, IsRefusalOver}
 

@@ -2,15 +2,15 @@
 ghost use Rattle.std.specs.Prelude.{◌≡◌, ◌≤◌, length, IfOk, IfErr};
 ghost use Rattle.mintc_text.specs.declared.limits.TheConstants.{MOST_BYTES};
 ghost use Rattle.mintc_text.specs.Stops.{StopsAt};
-ghost use Rattle.mintc_lines.specs.TableText.{IsTableRefusal, IsTableText};
+ghost use Rattle.mintc_timing_text.specs.TableText.{IsTableRefusal, IsTableText};
 ghost use Rattle.mintc_build.specs.Designs.{HasSystem, IsDesignRefusal};
 
-use mintc_count::count_pairs;
-use mintc_lines::read_table;
 use mintc_order::{order, orders_exclude_loops};
 use mintc_paths::extremes;
+use mintc_paths_count::count_pairs;
 use mintc_text::Stop;
 use mintc_timing::{Flat, Order, System};
+use mintc_timing_text::read_table;
 use std::alloc::Global;
 
 /// The design of a table. The refusal is Syntax with the first line out of form, counted from 1, or Limit of the first

@@ -37,7 +37,7 @@ fn cells_of(alloc: Global, file: CellFile) -> Result<Cells, Stop>
 }
 
 /// The design of a netlist, delays, cells of either form and a clock, or their first refusal.
-fn designed(
+fn design_of_texts(
     alloc: Global,
     netlist: &[u8],
     delays: &[u8],
@@ -91,7 +91,7 @@ pub fn from_files(
     ensures value { IfOk result (λ flat. IsFilesDesign netlist.now delays.now cells.now clock.now flat) }
     ensures stop { IfErr result (StopsAt (IsFilesRefusal netlist.now delays.now cells.now clock.now)) }
 {
-    designed(
+    design_of_texts(
         alloc,
         netlist,
         delays,
@@ -116,7 +116,7 @@ pub fn from_liberty(
     ensures value { IfOk result (λ flat. IsLibertyDesign netlist.now delays.now liberty.now clock.now flat) }
     ensures stop { IfErr result (StopsAt (IsLibertyRefusal netlist.now delays.now liberty.now clock.now)) }
 {
-    designed(
+    design_of_texts(
         alloc,
         netlist,
         delays,

@@ -1,7 +1,7 @@
 -- A text gives one list of cells or one refusal.
 use Rattle.std.proofs.Common.{◌≡◌, ℕ, ◌+◌, List, [], ◌∷◌, ◌++◌, length, Ok, Err, Result, Option, Some, None, refl, sym, ap, ◌∙◌, subst, arith}
 use Rattle.toml.specs.Data.{Members}
-use Rattle.mintc_document.specs.Documents.{IsDocument}
+use Rattle.mintc_toml.specs.Documents.{IsDocument}
 use Rattle.mintc_cells.specs.declared.cell.Cell.{Cell}
 use Rattle.mintc_cells.specs.Description.{cell_of}
 use Rattle.mintc_cells.specs.Entries.{AreAscending}

@@ -15,7 +15,7 @@ use Rattle.mintc_text.specs.declared.refusals.Refusal.TheVariants as refusal
 use Rattle.toml.specs.Data.{Data, Members, get_member, as_table}
 use Rattle.mintc_cells.specs.declared.shape.Fault.{Fault}
 use Rattle.mintc_cells.specs.declared.shape.Fault.TheVariants as fault
-use Rattle.mintc_document.specs.Lookups.{has_only}
+use Rattle.mintc_toml.specs.Lookups.{has_only}
 use Rattle.mintc_cells.specs.Description.{cell_of, Reads}
 use Rattle.mintc_text.specs.Stops.{StopsAt}
 use Rattle.mintc_cells.specs.CellsOf.{Entry, entries, IsReadAs, AreRead, AreInTable, IsFirstBad, described, IsBadCellBy}

@@ -4,8 +4,8 @@ use Rattle.std.specs.List.{list_all}
 use Rattle.std.proofs.lemmas.Bool.{and_parts}
 use Rattle.std.proofs.lemmas.Bool.Decides.{nat_tests}
 use Rattle.toml.specs.Data.{Data, Members, get_member, as_table}
-use Rattle.mintc_document.specs.Lookups.{integer_in, text_in}
-use Rattle.mintc_document.specs.Rules.{is_name}
+use Rattle.mintc_toml.specs.Lookups.{integer_in, text_in}
+use Rattle.mintc_toml.specs.Rules.{is_name}
 use Rattle.mintc_cells.specs.declared.cell.Cell.{Cell}
 use Rattle.mintc_cells.specs.declared.shape.Shape.{Shape}
 use Rattle.mintc_cells.specs.Pins.{is_distinct}

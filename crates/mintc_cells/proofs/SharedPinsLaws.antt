@@ -5,7 +5,7 @@ use Rattle.std.proofs.lemmas.Bool.Decides.{nat_tests}
 use Rattle.std.proofs.lemmas.List.Sums.{AllPass-from_list_all}
 use Rattle.mintc_cells.specs.declared.cell.Cell.{Cell}
 use Rattle.mintc_cells.specs.declared.cell.Cell.TheVariants.{Gate, Latch, Flop, Clock}
-use Rattle.mintc_document.specs.Rules.{is_name}
+use Rattle.mintc_toml.specs.Rules.{is_name}
 use Rattle.mintc_cells.specs.Pins.{are_names}
 use Rattle.mintc_cells.specs.Rules.{pins, is_cell, has_names}
 use Rattle.mintc_cells.specs.Entries.{is_kept, AreKept, cell_at, no_cell}

@@ -4,8 +4,8 @@ use Rattle.std.specs.List.{AllZip}
 use Rattle.toml.specs.Data.{Data, Members, no_members, member, get_member, as_table}
 use Rattle.mintc_text.specs.declared.refusals.Refusal.{Refusal}
 use Rattle.mintc_text.specs.declared.refusals.Refusal.TheVariants as refusal
-use Rattle.mintc_document.specs.Documents.{IsDocument}
-use Rattle.mintc_document.specs.Lookups.{has_only}
+use Rattle.mintc_toml.specs.Documents.{IsDocument}
+use Rattle.mintc_toml.specs.Lookups.{has_only}
 use Rattle.mintc_cells.specs.declared.cell.Cell.{Cell}
 use Rattle.mintc_cells.specs.Entries.{AreAscending}
 use Rattle.mintc_cells.specs.Description.{cell_of}

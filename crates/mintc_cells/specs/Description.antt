@@ -6,8 +6,8 @@ use Rattle.mintc_cells.specs.declared.shape.Fault.{Fault}
 use Rattle.mintc_cells.specs.declared.shape.Fault.TheVariants as fault
 use Rattle.mintc_cells.specs.declared.cell.Cell.{Cell}
 use Rattle.mintc_cells.specs.declared.cell.Cell.TheVariants.{Gate, Latch, Flop, Clock}
-use Rattle.mintc_document.specs.Lookups.{text_in, is_text_in, texts_in, are_texts_in, integer_in, is_integer_in, flag_in, is_flag_in, has_only, is_one_of, are_integers}
-use Rattle.mintc_document.specs.Rules.{is_name}
+use Rattle.mintc_toml.specs.Lookups.{text_in, is_text_in, texts_in, are_texts_in, integer_in, is_integer_in, flag_in, is_flag_in, has_only, is_one_of, are_integers}
+use Rattle.mintc_toml.specs.Rules.{is_name}
 use Rattle.mintc_cells.specs.Pins.{is_distinct}
 use Rattle.mintc_cells.specs.Rules.{pins, has_names, has_limits, has_order}
 

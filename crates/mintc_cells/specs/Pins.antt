@@ -1,7 +1,7 @@
 -- The names of pins.
 use Rattle.std.specs.Prelude.{ℕ, Bool, true, not, ◌&&◌, List, [], ◌∷◌, length, nat_le, bytes_eq}
 use Rattle.std.specs.List.{list_any, list_all}
-use Rattle.mintc_document.specs.Rules.{is_name}
+use Rattle.mintc_toml.specs.Rules.{is_name}
 
 -- no name comes twice
 abbrev pub is_distinct : List (List ℕ) → Bool

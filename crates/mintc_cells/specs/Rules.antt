@@ -2,7 +2,7 @@
 use Rattle.std.specs.Prelude.{ℕ, ℤ, pos, int_le, Bool, true, ◌&&◌, ◌||◌, List, [], ◌∷◌, ◌++◌}
 use Rattle.mintc_cells.specs.declared.cell.Cell.{Cell}
 use Rattle.mintc_cells.specs.declared.cell.Cell.TheVariants.{Gate, Latch, Flop, Clock}
-use Rattle.mintc_document.specs.Rules.{is_name, is_delay, is_margin}
+use Rattle.mintc_toml.specs.Rules.{is_name, is_delay, is_margin}
 use Rattle.mintc_cells.specs.Pins.{are_names, is_distinct}
 
 -- the pins of a cell that aren't outputs, and its outputs

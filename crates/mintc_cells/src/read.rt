@@ -12,8 +12,8 @@ use crate::cell::Cell;
 use crate::cells::Cells;
 use crate::shape::{Fault, Shape};
 use crate::{rules, tables};
-use mintc_document::{has_only, is_name, member, text};
 use mintc_text::{Name, OutOfMemory, Refusal, Stop};
+use mintc_toml::{has_only, is_name, member, text};
 use std::alloc::Global;
 use toml::{Table, Value};
 

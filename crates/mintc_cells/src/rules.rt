@@ -1,7 +1,7 @@
 //! The rules on a cell's value.
 ghost use Rattle.std.specs.Prelude.{◌≡◌, ◌<◌, ◌+◌, ◌&&◌, length, bytes_eq, drop, slice_index_or, []};
 ghost use Rattle.std.specs.List.{list_any, list_all};
-ghost use Rattle.mintc_document.specs.Rules.{is_name};
+ghost use Rattle.mintc_toml.specs.Rules.{is_name};
 ghost use Rattle.mintc_cells.specs.Description.{least_rule};
 ghost use Rattle.mintc_cells.specs.Pins.{are_names, is_distinct};
 ghost use Rattle.mintc_cells.specs.Rules.{pins, has_names, has_limits, has_order, are_delays, are_limits};
@@ -9,8 +9,8 @@ ghost use Rattle.mintc_cells.specs.Rules.{pins, has_names, has_limits, has_order
 use crate::cell::Cell;
 use crate::pins::{pin, pin_count};
 use crate::shape::Shape;
-use mintc_document::{is_delay, is_margin, is_name};
 use mintc_text::{Name, Names};
+use mintc_toml::{is_delay, is_margin, is_name};
 
 /// Whether all names are in form.
 fn are_all_names(names: &[Name]) -> bool

@@ -2,16 +2,16 @@
 ghost use Rattle.std.specs.Prelude.{◌≡◌, [], codes, IfOk};
 ghost use Rattle.toml.specs.Data.{get_member};
 ghost use Rattle.toml.specs.View.{table_view};
-ghost use Rattle.mintc_document.specs.Lookups.{text_in, texts_in};
+ghost use Rattle.mintc_toml.specs.Lookups.{text_in, texts_in};
 ghost use Rattle.mintc_cells.specs.Description.{has_pins, gate_shape, latch_shape, flop_shape, clock_shape, gate_of, latch_of, flop_of, clock_of};
 
 use crate::cell::Cell;
 use crate::shape::Shape;
-use mintc_document::{
+use mintc_text::{Name, Names, OutOfMemory};
+use mintc_toml::{
     are_integers, are_names, flag, has, has_only, integer, is_flag, is_integer, is_one_of, is_text,
     name, names, text,
 };
-use mintc_text::{Name, Names, OutOfMemory};
 use std::alloc::Global;
 use toml::Table;
 

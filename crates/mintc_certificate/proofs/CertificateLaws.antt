@@ -6,8 +6,8 @@ use Rattle.std.proofs.lemmas.List.Elements.{All-push, All-nil}
 use Rattle.mintc_text.specs.declared.limits.TheConstants.{MOST_MEMBERS, MOST_COUNT}
 use Rattle.mintc_timing.specs.declared.clocking.Schedule.{Schedule}
 use Rattle.mintc_timing.specs.Limits.{IsInRange}
-use Rattle.mintc_lines.proofs.SharedScheduleLaws.{KeepsSchedule, schedule_keeps}
-use Rattle.mintc_lines.proofs.SharedTextLaws.{along}
+use Rattle.mintc_timing_text.proofs.SharedScheduleLaws.{KeepsSchedule, schedule_keeps}
+use Rattle.mintc_timing_text.proofs.SharedTextLaws.{along}
 use Rattle.mintc_certificate.specs.declared.certificate.Certificate.{Certificate}
 use Rattle.mintc_certificate.specs.declared.certificate.Certificate.TheVariants.{Least, Never}
 use Rattle.mintc_certificate.specs.declared.members.Member.{Member}

@@ -2,10 +2,10 @@
 use Rattle.std.proofs.Common.{zero, suc, refl, ap, ◌∙◌, sym, arith, codes}
 use Rattle.std.proofs.lemmas.Int.{ints}
 use Rattle.mintc_text.specs.declared.limits.TheConstants.{MOST_NUMERATOR, MOST_MEMBERS, MOST_COUNT}
-use Rattle.mintc_lines.specs.Fields.{plain_line, IsWordLine, IsCountLine}
-use Rattle.mintc_lines.proofs.SharedLineLaws.{IsForm, word_form, count_form, number_form}
-use Rattle.mintc_lines.proofs.SharedScheduleLaws.{schedule_step}
-use Rattle.mintc_lines.proofs.SharedTextLaws.{IsPlainFormat, IsPlainStep, plain_step, no_step, ArePlainTexts, plain_texts}
+use Rattle.mintc_timing_text.specs.Fields.{plain_line, IsWordLine, IsCountLine}
+use Rattle.mintc_timing_text.proofs.SharedLineLaws.{IsForm, word_form, count_form, number_form}
+use Rattle.mintc_timing_text.proofs.SharedScheduleLaws.{schedule_step}
+use Rattle.mintc_timing_text.proofs.SharedTextLaws.{IsPlainFormat, IsPlainStep, plain_step, no_step, ArePlainTexts, plain_texts}
 use Rattle.mintc_certificate.specs.declared.version.Version.{Version}
 use Rattle.mintc_certificate.specs.CertificateText.{NextOfCertificate, IsDeparturesLine, IsWholeCertificate, CertificateLines, first, outcome, scheduled, departure, never, link, whole, least_departure, IsOutcomeLine, IsChainLine, IsMemberLine}
 use Rattle.mintc_certificate.proofs.CertificateReading.{IsDepartureLine, least_is}

@@ -3,9 +3,9 @@ use Rattle.std.proofs.Common.{◌≡◌, ℕ, suc, ℤ, pos, neg_ℤ, ◌≤ℤ�
 use Rattle.std.proofs.lemmas.Int.{ints}
 use Rattle.mintc_text.specs.declared.limits.TheConstants.{MOST_NUMERATOR}
 use Rattle.mintc_timing.specs.declared.clocking.Schedule.{Schedule}
-use Rattle.mintc_lines.specs.Fields.{Spells, IsNumberLine}
-use Rattle.mintc_lines.specs.Reading.{Reading, HasRead, HasNone, IsAt, number_after}
-use Rattle.mintc_lines.proofs.SharedReadingLaws.{at_more, at_fault}
+use Rattle.mintc_timing_text.specs.Fields.{Spells, IsNumberLine}
+use Rattle.mintc_timing_text.specs.Reading.{Reading, HasRead, HasNone, IsAt, number_after}
+use Rattle.mintc_timing_text.proofs.SharedReadingLaws.{at_more, at_fault}
 use Rattle.mintc_certificate.specs.declared.certificate.Certificate.{Certificate}
 use Rattle.mintc_certificate.specs.declared.certificate.Certificate.TheVariants.{Least, Never}
 use Rattle.mintc_certificate.specs.declared.members.Member.{Member}

@@ -1,10 +1,10 @@
 -- Certificates that are one value have one text.
 use Rattle.std.proofs.Common.{◌≡◌, ℕ, zero, suc, ℤ, List, [], refl, subst, arith}
 use Rattle.mintc_timing.specs.declared.clocking.Schedule.{Schedule}
-use Rattle.mintc_lines.specs.Texts.{ScheduleLines}
-use Rattle.mintc_lines.proofs.SharedScheduleLaws.{BeginsSchedule, schedule_step, schedule_back, schedule_spelled}
-use Rattle.mintc_lines.proofs.SharedSpelling.{Rest, rest_none, rest_back, rest_same, rest_count, IsSpelled, IsSpelledStep}
-use Rattle.mintc_lines.proofs.SharedTextLaws.{plain_step, step_by, no_way, one_text_after}
+use Rattle.mintc_timing_text.specs.Texts.{ScheduleLines}
+use Rattle.mintc_timing_text.proofs.SharedScheduleLaws.{BeginsSchedule, schedule_step, schedule_back, schedule_spelled}
+use Rattle.mintc_timing_text.proofs.SharedSpelling.{Rest, rest_none, rest_back, rest_same, rest_count, IsSpelled, IsSpelledStep}
+use Rattle.mintc_timing_text.proofs.SharedTextLaws.{plain_step, step_by, no_way, one_text_after}
 use Rattle.mintc_certificate.specs.declared.certificate.Certificate.{Certificate}
 use Rattle.mintc_certificate.specs.declared.certificate.Certificate.TheVariants.{Least, Never}
 use Rattle.mintc_certificate.specs.declared.members.Member.{Member}

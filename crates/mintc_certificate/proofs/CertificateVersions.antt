@@ -3,9 +3,9 @@ use Rattle.std.proofs.Common.{◌≡◌, ℕ, zero, suc, List, [], ◌∷◌, �
 use Rattle.std.proofs.lemmas.Int.{ints}
 use Rattle.std.specs.Fmt.{digits}
 use Rattle.mintc_text.specs.Lines.{Follows, ended}
-use Rattle.mintc_lines.specs.Fields.{number}
-use Rattle.mintc_lines.proofs.SharedScheduleReading.{schedule_carried}
-use Rattle.mintc_lines.proofs.SharedTextLaws.{after_first}
+use Rattle.mintc_timing_text.specs.Fields.{number}
+use Rattle.mintc_timing_text.proofs.SharedScheduleReading.{schedule_carried}
+use Rattle.mintc_timing_text.proofs.SharedTextLaws.{after_first}
 use Rattle.mintc_certificate.specs.declared.version.Version.TheVariants.{First, Second}
 use Rattle.mintc_certificate.specs.CertificateText.{NextOfCertificate, IsDeparturesLine, CertificateLines, first, outcome, scheduled, departure, never, link, whole}
 use Rattle.mintc_certificate.specs.TextLaws.{HaveOneCertificateText, SecondSaysFirst}

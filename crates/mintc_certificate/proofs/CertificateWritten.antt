@@ -7,10 +7,10 @@ use Rattle.std.specs.List.{zip}
 use Rattle.mintc_text.specs.declared.limits.TheConstants.{MOST_COUNT}
 use Rattle.mintc_text.specs.Lines.{Follows, ended, text_of, words}
 use Rattle.mintc_timing.specs.declared.clocking.Schedule.{Schedule}
-use Rattle.mintc_lines.specs.Fields.{number, Spells}
+use Rattle.mintc_timing_text.specs.Fields.{number, Spells}
 use Rattle.mintc_timing.specs.Limits.{IsNumerator, IsInRange}
-use Rattle.mintc_lines.specs.Texts.{den, cycle, phases, phase, schedule_of, no_phases}
-use Rattle.mintc_lines.proofs.SharedReadingLaws.{Follows-append}
+use Rattle.mintc_timing_text.specs.Texts.{den, cycle, phases, phase, schedule_of, no_phases}
+use Rattle.mintc_timing_text.proofs.SharedReadingLaws.{Follows-append}
 use Rattle.mintc_certificate.specs.declared.certificate.Certificate.{Certificate}
 use Rattle.mintc_certificate.specs.declared.certificate.Certificate.TheVariants.{Least, Never}
 use Rattle.mintc_certificate.specs.declared.members.Member.{Member}

@@ -9,11 +9,11 @@ use Rattle.std.specs.List.{All}
 use Rattle.std.specs.Str.{bytes_eq}
 use Rattle.std.specs.Str.Parse.{digits_value}
 use Rattle.mintc_text.specs.declared.limits.TheConstants.{MOST_COUNT}
-use Rattle.mintc_lines.specs.Fields.{IsCount, number, plain, plain_line}
-use Rattle.mintc_lines.specs.Reading.{Halts}
-use Rattle.mintc_lines.proofs.SharedFieldsLaws.{and_both, plain_number}
-use Rattle.mintc_lines.specs.declared.halt.Halt.{Halt}
-use Rattle.mintc_lines.specs.declared.halt.Halt.TheVariants.{Form, Memory}
+use Rattle.mintc_timing_text.specs.Fields.{IsCount, number, plain, plain_line}
+use Rattle.mintc_timing_text.specs.Reading.{Halts}
+use Rattle.mintc_timing_text.proofs.SharedFieldsLaws.{and_both, plain_number}
+use Rattle.mintc_timing_text.specs.declared.halt.Halt.{Halt}
+use Rattle.mintc_timing_text.specs.declared.halt.Halt.TheVariants.{Form, Memory}
 use Rattle.mintc_certificate.specs.declared.member_lines.MemberWord.{MemberWord}
 use Rattle.mintc_certificate.specs.declared.member_lines.MemberWord.TheVariants.{One, Apart, Reach}
 use Rattle.mintc_certificate.specs.declared.member_lines.Single.TheVariants as one

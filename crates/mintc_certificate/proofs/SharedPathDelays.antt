@@ -9,7 +9,7 @@ use Rattle.mintc_timing.specs.Design.{Design, no_arc}
 use Rattle.mintc_timing.specs.Limits.{IsDelay, IsDesign}
 use Rattle.mintc_timing.specs.Order.{ArePathsShort}
 use Rattle.mintc_timing.specs.Paths.{Leads, arc_at, output_of, greatest_delay}
-use Rattle.mintc_rings.proofs.SharedRingLaws.{total-append}
+use Rattle.mintc_graph.proofs.SharedRingLaws.{total-append}
 
 -- one more arc of a sum
 pub delay_more : (arcs : List TimingArc) (path : List ℕ) (i : ℕ) → i < length path →

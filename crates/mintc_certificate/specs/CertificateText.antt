@@ -6,8 +6,8 @@ use Rattle.mintc_text.specs.declared.refusals.Refusal.{Refusal}
 use Rattle.mintc_text.specs.declared.refusals.Refusal.TheVariants as refusal
 use Rattle.mintc_text.specs.declared.refusals.Role.TheVariants as role
 use Rattle.mintc_timing.specs.declared.clocking.Schedule.{Schedule}
-use Rattle.mintc_lines.specs.Fields.{IsCount, number, Spells, IsWordLine, IsNumberLine, IsCountLine}
-use Rattle.mintc_lines.specs.Texts.{ScheduleLines, den, NextOfSchedule}
+use Rattle.mintc_timing_text.specs.Fields.{IsCount, number, Spells, IsWordLine, IsNumberLine, IsCountLine}
+use Rattle.mintc_timing_text.specs.Texts.{ScheduleLines, den, NextOfSchedule}
 use Rattle.std.specs.List.{All}
 use Rattle.mintc_certificate.specs.declared.members.Member.{Member}
 use Rattle.mintc_certificate.specs.declared.members.Member.TheVariants as member

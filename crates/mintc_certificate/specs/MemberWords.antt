@@ -1,6 +1,6 @@
 -- The words that name a member of a chain.
 use Rattle.std.specs.Prelude.{◌≡◌, ℕ, List, [], ◌∷◌, length, map, codes, All}
-use Rattle.mintc_lines.specs.Fields.{IsCount, number}
+use Rattle.mintc_timing_text.specs.Fields.{IsCount, number}
 use Rattle.mintc_certificate.specs.declared.member_lines.MemberWord.{MemberWord}
 use Rattle.mintc_certificate.specs.declared.member_lines.MemberWord.TheVariants.{One, Apart, Reach}
 use Rattle.mintc_certificate.specs.declared.member_lines.Single.{Single}

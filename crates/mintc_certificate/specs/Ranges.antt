@@ -4,7 +4,7 @@ use Rattle.mintc_text.specs.declared.limits.TheConstants.{MOST_NUMERATOR, MOST_M
 use Rattle.mintc_text.specs.Lines.{IsWithin}
 use Rattle.mintc_timing.specs.declared.clocking.Schedule.{Schedule}
 use Rattle.mintc_timing.specs.Limits.{IsInRange}
-use Rattle.mintc_lines.specs.Fields.{IsCount}
+use Rattle.mintc_timing_text.specs.Fields.{IsCount}
 use Rattle.mintc_certificate.specs.declared.members.Member.{Member}
 use Rattle.mintc_certificate.specs.declared.certificate.Certificate.{Certificate}
 use Rattle.mintc_certificate.specs.declared.certificate.Certificate.TheVariants.{Least, Never}

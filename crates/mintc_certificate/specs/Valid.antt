@@ -8,7 +8,7 @@ use Rattle.mintc_certificate.specs.declared.members.Member.{Member}
 use Rattle.mintc_certificate.specs.declared.members.Member.TheVariants as member
 use Rattle.mintc_certificate.specs.declared.certificate.Certificate.{Certificate}
 use Rattle.mintc_certificate.specs.declared.certificate.Certificate.TheVariants.{Least, Never}
-use Rattle.mintc_rings.specs.Rings.{IsClosed}
+use Rattle.mintc_graph.specs.Rings.{IsClosed}
 use Rattle.mintc_timing.specs.Design.{Design, Timing, phase_count, element_count, element_at}
 use Rattle.mintc_timing.specs.Limits.{IsPhase}
 use Rattle.mintc_timing.specs.Paths.{IsPath, input_of, greatest_delay}

@@ -6,15 +6,14 @@ ghost use Rattle.mintc_timing.specs.Links.{bound_link as bound_link_of, reach_li
 ghost use Rattle.mintc_timing.specs.Order.{ArePathsShort};
 ghost use Rattle.mintc_timing.specs.Paths.{IsPath, greatest_delay, input_of};
 ghost use Rattle.mintc_certificate.specs.CertificateText.{IsCounted};
-ghost use Rattle.mintc_certificate.specs.Valid.{IsNamed};
-ghost use Rattle.mintc_certificate.specs.Valid.{no_bound, link_of as link_of_member};
+ghost use Rattle.mintc_certificate.specs.Valid.{IsNamed, no_bound, link_of as link_of_member};
 
 use crate::Member;
-use mintc_links::{
+use mintc_timing::{Flat, Link, TimingArc};
+use mintc_timing_links::{
     apart_link, bound_link, cycle_link, opened_link, opening_link, order_link, reach_link,
     setup_link, span_link, start_link, width_link,
 };
-use mintc_timing::{Flat, Link, TimingArc};
 
 /// The sum of the greatest delays along a path, in femtoseconds.
 fn path_delay(arcs: &[TimingArc], path: &[u32]) -> i64

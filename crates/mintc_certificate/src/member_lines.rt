@@ -1,19 +1,19 @@
 //! The lines of members, each read by its words.
 ghost use Rattle.std.specs.Prelude.{◌≡◌, ◌≤◌, ◌∷◌, ℕ, List, MatchOption, MatchResult, MatchBool, Ok, Err, codes};
-ghost use Rattle.mintc_lines.specs.Fields.{IsCount, number};
+ghost use Rattle.mintc_timing_text.specs.Fields.{IsCount, number};
 ghost use Rattle.mintc_certificate.specs.declared.member_lines.MemberWord.{MemberWord};
 ghost use Rattle.mintc_certificate.specs.declared.member_lines.Single.{Single};
 ghost use Rattle.mintc_certificate.specs.declared.members.Member.{Member};
 ghost use Rattle.mintc_certificate.specs.declared.version.Version.{Version};
 ghost use Rattle.mintc_certificate.specs.CertificateText.{IsMemberOf, IsMemberLine};
-ghost use Rattle.mintc_lines.specs.Reading.{Halts};
+ghost use Rattle.mintc_timing_text.specs.Reading.{Halts};
 ghost use Rattle.mintc_certificate.specs.MemberWords.{single, single_word, member_word, IsOne, IsTwo, AreNumbers};
 
 use crate::Member;
 use crate::version::Version;
-use mintc_lines::{Fields, Halt};
 use mintc_text::Numbers;
 use mintc_text::limits::MOST_COUNT;
+use mintc_timing_text::{Fields, Halt};
 use std::alloc::Global;
 
 /// The members that have one number.
@@ -204,7 +204,7 @@ fn reach_of(alloc: Global, mut fields: Fields) -> Result<Member, Halt>
 }
 
 /// The member of an option. Where there is none, the line is out of form.
-fn formed(member: Option<Member>) -> Result<Member, Halt>
+fn or_malformed(member: Option<Member>) -> Result<Member, Halt>
     ensures { MatchOption member (result ≡ Err Halt.Form) (λ m. result ≡ Ok m) }
 {
     match member {
@@ -226,8 +226,8 @@ pub(crate) fn member_of(alloc: Global, mut fields: Fields, version: Version) -> 
         return Err(Halt::Form);
     };
     match word {
-        MemberWord::One(single) => formed(single_of(fields, version, single)),
-        MemberWord::Apart => formed(apart_of(fields)),
+        MemberWord::One(single) => or_malformed(single_of(fields, version, single)),
+        MemberWord::Apart => or_malformed(apart_of(fields)),
         MemberWord::Reach => reach_of(alloc, fields),
     }
 }

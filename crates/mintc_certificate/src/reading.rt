@@ -3,22 +3,21 @@ ghost use Rattle.std.specs.Prelude.{◌≡◌, ◌≤◌, ℕ, ℤ, List, Bool, 
 ghost use Rattle.mintc_text.specs.declared.limits.TheConstants.{MOST_BYTES};
 ghost use Rattle.mintc_text.specs.Stops.{StopsAt};
 ghost use Rattle.mintc_timing.specs.declared.clocking.Schedule.{Schedule};
-ghost use Rattle.mintc_lines.specs.Reading.{HasNone, HasRead, IsAt, number_after, Halts};
-ghost use Rattle.mintc_lines.specs.Texts.{den, phase};
+ghost use Rattle.mintc_timing_text.specs.Reading.{HasNone, HasRead, IsAt, number_after, Halts};
+ghost use Rattle.mintc_timing_text.specs.Texts.{den, phase};
 ghost use Rattle.mintc_certificate.specs.declared.certificate.Certificate.{Certificate};
 ghost use Rattle.mintc_certificate.specs.declared.members.Member.{Member};
 ghost use Rattle.mintc_certificate.specs.declared.version.Version.{Version};
 ghost use Rattle.mintc_certificate.specs.CertificateReading.{with_chain, before_chain};
-ghost use Rattle.mintc_certificate.specs.CertificateText.{version_of, least_departure, IsMemberLine, IsOutcomeLine, NextOfCertificate, IsCertificateText, IsCertificateFault, IsCertificateRefusal, first, scheduled, departure, link};
-ghost use Rattle.mintc_certificate.specs.CertificateText.{never as no_schedule};
+ghost use Rattle.mintc_certificate.specs.CertificateText.{version_of, least_departure, IsMemberLine, IsOutcomeLine, NextOfCertificate, IsCertificateText, IsCertificateFault, IsCertificateRefusal, first, scheduled, departure, link, never as no_schedule};
 ghost use Rattle.mintc_certificate.specs.Ranges.{IsCertificateInRange};
 
 use crate::member_lines::member_of;
 use crate::version::Version;
 use crate::{Certificate, Departures, Member, Members};
-use mintc_lines::{Fields, Halt, Reader, schedule_lines};
 use mintc_text::limits::{MOST_COUNT, MOST_MEMBERS, MOST_NUMERATOR};
 use mintc_text::{Refusal, Role, Stop};
+use mintc_timing_text::{Fields, Halt, Reader, schedule_lines};
 use std::alloc::Global;
 
 /// The version of a text whose first line has this number.

@@ -3,9 +3,8 @@ ghost use Rattle.std.specs.Prelude.{◌≡◌, pos, negsuc, ◌≤ℤ◌, All};
 ghost use Rattle.mintc_text.specs.declared.limits.TheConstants.{MOST_MEMBERS};
 ghost use Rattle.mintc_timing.specs.Links.{cycles_of, delay_of};
 ghost use Rattle.mintc_timing.specs.Order.{ArePathsShort};
-ghost use Rattle.mintc_certificate.specs.Valid.{IsNamed};
+ghost use Rattle.mintc_certificate.specs.Valid.{IsNamed, links_of_members};
 ghost use Rattle.mintc_certificate.specs.Ranges.{IsChainInRange};
-ghost use Rattle.mintc_certificate.specs.Valid.{links_of_members};
 
 use crate::links::link_of;
 use crate::members::Member;

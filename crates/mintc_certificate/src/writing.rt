@@ -1,7 +1,7 @@
 //! The text of a certificate.
 ghost use Rattle.std.specs.Prelude.{◌≡◌, ◌<◌, ◌^◌, ◌++◌, ◌∷◌, IfOk, OnOk, length, map, zip, All};
 ghost use Rattle.mintc_text.specs.Lines.{ended, text_of, words};
-ghost use Rattle.mintc_lines.specs.Fields.{number};
+ghost use Rattle.mintc_timing_text.specs.Fields.{number};
 ghost use Rattle.mintc_timing.specs.Limits.{IsInRange};
 ghost use Rattle.mintc_certificate.specs.CertificateText.{IsCounted, member_words};
 ghost use Rattle.mintc_certificate.specs.Ranges.{IsCertificateInRange};

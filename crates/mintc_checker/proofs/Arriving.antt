@@ -8,7 +8,7 @@ use Rattle.mintc_timing.specs.Design.{Design, no_element}
 use Rattle.mintc_timing.specs.Limits.{IsDesign}
 use Rattle.mintc_timing.specs.Paths.{input_of}
 use Rattle.mintc_lanes.specs.Lanes.{joined}
-use Rattle.mintc_chain_test.specs.Elements.{element_of}
+use Rattle.mintc_checker.specs.Elements.{element_of}
 use Rattle.mintc_checker.specs.Trails.{LeadsTo, LeadsFrom, LeadsFromUpTo, time_along, arrival_along, IsLabel, IsLastArrival, IsLastUpTo}
 use Rattle.mintc_checker.proofs.Greatest.{greatest_alike, greatest_joined}
 

@@ -6,7 +6,7 @@ use Rattle.mintc_timing.specs.Departures.{departure}
 use Rattle.mintc_timing.specs.Design.{Design}
 use Rattle.mintc_timing.specs.Paths.{Leads, output_of}
 use Rattle.mintc_checker.specs.declared.labels.Labels.{Labels}
-use Rattle.mintc_chain_test.specs.Elements.{element_of}
+use Rattle.mintc_checker.specs.Elements.{element_of}
 use Rattle.mintc_checker.specs.Trails.{IsGreatestTime, LeadsFrom, time_along}
 use Rattle.mintc_checker.specs.Labels.{labels_at, label_at, AreLabelsOf, IsStart}
 use Rattle.mintc_checker.proofs.Greatest.{greatest_of_one, greatest_same}

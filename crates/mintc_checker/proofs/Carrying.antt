@@ -9,10 +9,10 @@ use Rattle.mintc_timing.specs.Paths.{arc_at, output_of, greatest_delay}
 use Rattle.mintc_timing.proofs.SharedProducts.{add-times}
 use Rattle.mintc_timing.specs.Among.{IsAmong, AreAmong}
 use Rattle.mintc_timing.proofs.SharedOrdered.{Leads-push, AreAmong-push, AreAmong-more, split, inside, all_among, none_among}
-use Rattle.mintc_rings.proofs.SharedRingLaws.{total-push}
+use Rattle.mintc_graph.proofs.SharedRingLaws.{total-push}
 use Rattle.mintc_lanes.specs.Lanes.{joined, AreJoined}
 use Rattle.mintc_checker.specs.declared.labels.Labels.{Labels}
-use Rattle.mintc_chain_test.specs.Elements.{element_of}
+use Rattle.mintc_checker.specs.Elements.{element_of}
 use Rattle.mintc_checker.specs.Trails.{IsGreatestTime, LeadsFrom, time_along}
 use Rattle.mintc_checker.specs.Labels.{labels_at, label_at, AreLabels, AreLabelsOf, IsStart, IsAlong}
 use Rattle.mintc_checker.proofs.Greatest.{greatest_same, greatest_joined}

@@ -6,8 +6,8 @@ use Rattle.mintc_timing.specs.Design.{Design}
 use Rattle.mintc_timing.specs.Extremes.{greater_of, greatest_of}
 use Rattle.mintc_timing.specs.Right.{KeepsSetup}
 use Rattle.mintc_timing.proofs.SharedSetupLaws.{KeepsSetup-flop}
-use Rattle.mintc_chain_test.specs.Judged.{OfTiming}
-use Rattle.mintc_chain_test.specs.Elements.{element_of}
+use Rattle.mintc_checker.specs.Decided.{OfTiming}
+use Rattle.mintc_checker.specs.Elements.{element_of}
 use Rattle.mintc_checker.specs.Trails.{IsLastArrival}
 use Rattle.mintc_checker.proofs.Pairing.{arrivals_are, of_timing, timing_of}
 

@@ -10,10 +10,10 @@ use Rattle.mintc_timing.specs.Design.{Design, Timing}
 use Rattle.mintc_timing.specs.Limits.{IsPhase}
 use Rattle.mintc_timing.specs.Paths.{ArePairs, HasExtremes, input_of}
 use Rattle.mintc_checker.specs.declared.labels.Labels.{Labels}
-use Rattle.mintc_chain_test.specs.Elements.{element_of}
+use Rattle.mintc_checker.specs.Elements.{element_of}
 use Rattle.mintc_checker.specs.Trails.{LeadsFrom, IsLabel}
 use Rattle.mintc_checker.specs.Labels.{AreLabels, label_at}
-use Rattle.mintc_chain_test.specs.Judged.{IsFed}
+use Rattle.mintc_checker.specs.Decided.{IsFed}
 use Rattle.mintc_checker.specs.Judged.{IsFedAt}
 use Rattle.mintc_checker.proofs.Pairing.{of_timing, pair_of_trail, timing_of, trail_of_pair}
 

@@ -1,3 +1,5 @@
+mod Deciding
+mod Scaled
 pub mod SharedFirsts
 mod Greatest
 mod Carrying

@@ -11,9 +11,9 @@ use Rattle.mintc_timing.specs.Extremes.{greatest_of, IsGreatest}
 use Rattle.mintc_timing.specs.Paths.{IsPath, Leads, ArePairs, HasExtremes, input_of, output_of, greatest_delay}
 use Rattle.mintc_timing.proofs.SharedExtremesLaws.{greatest_is}
 use Rattle.mintc_timing.proofs.SharedProducts.{times-mono_positive}
-use Rattle.mintc_chain_test.proofs.SharedDeciding.{same_test}
-use Rattle.mintc_chain_test.specs.Judged.{OfTiming}
-use Rattle.mintc_chain_test.specs.Elements.{element_of}
+use Rattle.mintc_checker.proofs.Deciding.{same_test}
+use Rattle.mintc_checker.specs.Decided.{OfTiming}
+use Rattle.mintc_checker.specs.Elements.{element_of}
 use Rattle.mintc_checker.specs.Trails.{LeadsTo, arrival_along, IsLastArrival}
 
 -- the timing of a design, an order of its arcs and pairs

@@ -15,7 +15,7 @@ use Rattle.mintc_certificate.specs.Ranges.{IsDeparture}
 use Rattle.mintc_certificate.proofs.SharedPathDelays.{path-range}
 use Rattle.mintc_lanes.specs.Lanes.{AreLanes}
 use Rattle.mintc_checker.specs.declared.labels.Labels.{Labels}
-use Rattle.mintc_chain_test.specs.Elements.{element_of}
+use Rattle.mintc_checker.specs.Elements.{element_of}
 use Rattle.mintc_checker.specs.Trails.{IsGreatestTime, LeadsTo, LeadsFrom, time_along}
 use Rattle.mintc_checker.specs.Labels.{labels_at, label_at, AreLabels, AreLabelsOf}
 use Rattle.mintc_checker.specs.Judged.{IsLate, AreTimelyLabels}

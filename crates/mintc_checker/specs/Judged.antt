@@ -6,7 +6,7 @@ use Rattle.mintc_timing.specs.Design.{Design, phase_count}
 use Rattle.mintc_timing.specs.Paths.{input_of}
 use Rattle.mintc_timing.specs.declared.clocking.Schedule.{Schedule}
 use Rattle.mintc_certificate.specs.Ranges.{IsDeparture}
-use Rattle.mintc_chain_test.specs.Elements.{element_of}
+use Rattle.mintc_checker.specs.Elements.{element_of}
 use Rattle.mintc_checker.specs.declared.labels.Labels.{Labels}
 use Rattle.mintc_checker.specs.Labels.{AreLabels, label_at}
 

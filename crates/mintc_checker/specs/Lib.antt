@@ -1,3 +1,5 @@
+pub mod Elements
+pub mod Decided
 pub mod Verdicts
 pub mod Trails
 pub mod Labels

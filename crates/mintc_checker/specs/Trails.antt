@@ -5,7 +5,7 @@ use Rattle.mintc_timing.specs.Clocking.{shift_of}
 use Rattle.mintc_timing.specs.Departures.{departure}
 use Rattle.mintc_timing.specs.Design.{Design}
 use Rattle.mintc_timing.specs.Paths.{Leads, output_of, input_of, greatest_delay}
-use Rattle.mintc_chain_test.specs.Elements.{element_of}
+use Rattle.mintc_checker.specs.Elements.{element_of}
 
 -- Of the trails, each an element and a path, some trail has this time, and none has a greater one; there is no trail
 -- where there is no time.

@@ -6,16 +6,16 @@ ghost use Rattle.mintc_timing.specs.Departures.{AreExact, departure, late_depart
 ghost use Rattle.mintc_timing.specs.Design.{element_count};
 ghost use Rattle.mintc_timing.specs.Limits.{IsModest};
 ghost use Rattle.mintc_timing.specs.Right.{KeepsSetup};
-ghost use Rattle.mintc_chain_test.specs.Judged.{Decides, OfTiming};
+ghost use Rattle.mintc_checker.specs.Decided.{Decides, OfTiming};
 ghost use Rattle.mintc_checker.specs.Judged.{AreTimely, AreTimelyLabels, IsArrivalTime, IsLate};
 ghost use Rattle.mintc_checker.specs.Labels.{AreLabels};
 ghost use Rattle.mintc_checker.specs.Trails.{IsLastArrival};
 
+use crate::clocked_design::ClockedDesign;
 use crate::labels::{Labels, departure_at, label_in};
 use crate::reading::element;
-use mintc_chain_test::ClockedDesign;
-use mintc_links::{scaled, width};
 use mintc_timing::shift;
+use mintc_timing_links::{scaled, width};
 
 /// The later of two times, of which the second is moved; either may be absent.
 fn later(last: Option<i64>, label: Option<i64>, add: i64) -> Option<i64>

@@ -6,16 +6,16 @@ ghost use Rattle.mintc_timing.specs.Departures.{departure};
 ghost use Rattle.mintc_timing.specs.Limits.{IsTime};
 ghost use Rattle.mintc_timing.specs.Order.{IsOrder};
 ghost use Rattle.mintc_certificate.specs.Ranges.{IsDeparture};
-ghost use Rattle.mintc_chain_test.specs.Elements.{element_of};
+ghost use Rattle.mintc_checker.specs.Elements.{element_of};
 ghost use Rattle.mintc_checker.specs.Judged.{AreTimelyLabels};
 ghost use Rattle.mintc_checker.specs.Labels.{AreLabelsOf, IsStart, label_at, labels_at, IsAlong};
 
-use crate::designs::DepartingDesign;
+use crate::departing_design::DepartingDesign;
 use crate::reading::{arc_at_place, element};
 use mintc_lanes::{ABSENT, max_plus_row};
-use mintc_links::scaled;
 use mintc_text::OutOfMemory;
 use mintc_timing::Order;
+use mintc_timing_links::scaled;
 use std::alloc::Global;
 
 /// A label for each phase at a bit, in femtoseconds times a denominator; that of phase p in lane p - 1.

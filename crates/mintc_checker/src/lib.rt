@@ -5,9 +5,15 @@
 //! of the design's links, and its sums. It needs no list of pairs: data that leaves the elements of a phase is carried
 //! along the arcs in their order, so that each bit has a label for each phase, the last time at which data comes there
 //! from it. Departures, setups and which phase feeds which are read off the labels. This is the longest path by levels
-//! of static timing analysis, once for each phase. The chain is tested by the crate below, mintc_chain_test. So that
-//! a mistake of the search can't hide in its own judge, neither stands on one of the search's crates; of a certificate they take
-//! what its members are and their links.
+//! of static timing analysis, once for each phase.
+//!
+//! A chain of links that leads round forbids each cycle time at which its delay is more than its cycles take. So two tests show what
+//! a chain does: the first goes over its members one by one, the second adds up their links. They ask for which phase feeds which,
+//! and for nothing else that has to be found: a reach has the arcs of its path with it. With a schedule the chain has to take exactly
+//! its cycles at the cycle time; without one it has to ask for time and have no cycle.
+//!
+//! So that a mistake of the search can't hide in its own judge, this crate stands on none of the search's crates; of a certificate
+//! it takes what its members are and their links.
 //! The crates above get a verdict, and that a valid certificate is that of the least cycle time.
 #![tactic(auto)]
 
@@ -20,9 +26,12 @@ ghost use Rattle.mintc_timing.specs.Paths.{ArePairs};
 ghost use Rattle.mintc_checker.specs.Verdicts.{IsVerdict};
 
 mod arrivals;
-mod designs;
+mod chain;
+mod clocked_design;
+mod departing_design;
 mod examining;
 mod labels;
+mod members;
 mod reading;
 mod schedule_tests;
 mod verdict;

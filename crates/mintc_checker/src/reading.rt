@@ -3,7 +3,7 @@ ghost use Rattle.std.specs.Prelude.{◌≡◌, ◌<◌, length, slice_index_or};
 ghost use Rattle.mintc_timing.specs.Limits.{IsArc, IsDesign, IsElement};
 ghost use Rattle.mintc_timing.specs.Order.{IsOrder};
 ghost use Rattle.mintc_timing.specs.Paths.{arc_at};
-ghost use Rattle.mintc_chain_test.specs.Elements.{element_of};
+ghost use Rattle.mintc_checker.specs.Elements.{element_of};
 
 use mintc_timing::{Element, Flat, Order, TimingArc};
 

@@ -4,17 +4,17 @@ ghost use Rattle.mintc_text.specs.declared.limits.TheConstants.{MOST_PHASES};
 ghost use Rattle.mintc_timing.specs.Clocking.{KeepsApart, KeepsBound, KeepsClock, KeepsPhase, EachPhase, crosses_of, end_of, least_width, start_of, width_of};
 ghost use Rattle.mintc_timing.specs.Limits.{IsBound, IsPhase};
 ghost use Rattle.mintc_certificate.specs.Valid.{HasCounts};
-ghost use Rattle.mintc_chain_test.specs.Judged.{Decides, IsFed};
+ghost use Rattle.mintc_checker.specs.Decided.{Decides, IsFed};
 ghost use Rattle.mintc_checker.specs.Judged.{AreTimelyLabels, IsFedAt, KeepsOwn};
 
-use crate::designs::DepartingDesign;
+use crate::clocked_design::ClockedDesign;
+use crate::departing_design::DepartingDesign;
 use crate::labels::{Labels, label_in};
 use crate::reading::element;
-use mintc_chain_test::ClockedDesign;
-use mintc_links::{
+use mintc_timing::{Bound, Flat, Schedule};
+use mintc_timing_links::{
     apart_excess, bound_excess, cycle_excess, order_excess, span_excess, width_excess,
 };
-use mintc_timing::{Bound, Flat, Schedule};
 
 /// Whether the schedule has the design's phases, and the departures are as many as its elements: the first test.
 pub(crate) fn has_counts(flat: &Flat, schedule: &Schedule, departures: &[i64]) -> bool

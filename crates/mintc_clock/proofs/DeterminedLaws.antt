@@ -1,7 +1,7 @@
 -- A text gives one clock or one refusal.
 use Rattle.std.proofs.Common.{◌≡◌, ℕ, List, Some, None, sym, ap, ◌∙◌}
 use Rattle.toml.specs.Data.{Members}
-use Rattle.mintc_document.specs.Documents.{IsDocument}
+use Rattle.mintc_toml.specs.Documents.{IsDocument}
 use Rattle.mintc_clock.specs.ClockOf.{fault_of, clock_of, no_document, bad_document}
 use Rattle.mintc_clock.specs.Laws.{ClocksAreDetermined, ClocksAreNotRefused, BadClocksAreDetermined}
 

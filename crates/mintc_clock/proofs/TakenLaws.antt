@@ -7,7 +7,7 @@ use Rattle.mintc_clock.specs.declared.clock.PhaseDef.{PhaseDef}
 use Rattle.mintc_clock.specs.declared.clashing.Taken.{Taken}
 use Rattle.mintc_clock.specs.Values.{clashes}
 use Rattle.mintc_clock.specs.ClockOf.{names_of, first_clash}
-use Rattle.mintc_names.specs.Names.{is_among, with_name}
+use Rattle.mintc_text_names.specs.Names.{is_among, with_name}
 use Rattle.mintc_clock.specs.Taken.{has_port, has_some, with_phase, ports_at, AreTaken}
 
 -- one phase more, by whether its name, its port and its level are those asked for

@@ -1,7 +1,7 @@
 -- What the phases so far have taken, so that no later one may have it again.
 use Rattle.std.specs.Prelude.{◌≡◌, ℕ, Bool, true, false, ◌||◌, if◌then◌else◌, List, [], ◌∷◌}
 use Rattle.std.specs.Bool.{beq}
-use Rattle.mintc_names.specs.Names.{is_among, with_name}
+use Rattle.mintc_text_names.specs.Names.{is_among, with_name}
 use Rattle.mintc_clock.specs.declared.clock.PhaseDef.{PhaseDef}
 use Rattle.mintc_clock.specs.declared.clashing.Taken.{Taken}
 use Rattle.mintc_clock.specs.ClockOf.{names_of}

@@ -6,8 +6,8 @@ ghost use Rattle.mintc_clock.specs.Taken.{has_port, has_some, with_port, with_ph
 
 use crate::clock::PhaseDef;
 use crate::fault::Fault;
-use mintc_names::NameSet;
 use mintc_text::OutOfMemory;
+use mintc_text_names::NameSet;
 use std::alloc::Global;
 
 /// What the phases so far have taken: their names, and their ports at each level.

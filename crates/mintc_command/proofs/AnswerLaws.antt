@@ -1,13 +1,13 @@
 -- Answers over the files that a command names.
 use Rattle.std.proofs.Common.{◌≡◌, ◌≢◌, ◌+◌, ℕ, List, [], ◌∷◌, length, refl, sym, subst, arith, Option}
 use Rattle.mintc_text.specs.Outside.{Files}
-use Rattle.mintc_answers.specs.Answers.{IsDefined, IsOfCommand}
+use Rattle.mintc_command_answers.specs.Answers.{IsDefined, IsOfCommand}
 use Rattle.mintc_command.specs.Answers.{AreFronts, IsNotRefused, IsComplete, IsAnswer}
-use Rattle.mintc_answers.specs.Commands.{AreWordsOf}
-use Rattle.mintc_answers.specs.declared.command.Command.{Command}
+use Rattle.mintc_command_answers.specs.Commands.{AreWordsOf}
+use Rattle.mintc_command_answers.specs.declared.command.Command.{Command}
 use Rattle.mintc_text.specs.declared.limits.TheConstants.{MOST_BYTES}
-use Rattle.mintc_answers.specs.declared.status.Status.{Status}
-use Rattle.mintc_answers.specs.declared.status.Status.TheVariants.{Done, Found, Refused, Usage, ReadFault, WriteFault, OutOfMemory}
+use Rattle.mintc_command_answers.specs.declared.status.Status.{Status}
+use Rattle.mintc_command_answers.specs.declared.status.Status.TheVariants.{Done, Found, Refused, Usage, ReadFault, WriteFault, OutOfMemory}
 
 pub IsOfCommand-no_fault : (status : Status) → IsOfCommand status → status ≢ WriteFault
 IsOfCommand-no_fault Done h e = cc

@@ -4,13 +4,13 @@ use Rattle.std.proofs.lemmas.List.{take_all, drop-map, length-append, length-map
 use Rattle.std.specs.String.{string_bytes}
 use Rattle.mintc_text.specs.declared.refusals.Role.TheVariants as role
 use Rattle.std.proofs.lemmas.Fmt.{decimal_injective}
-use Rattle.mintc_answers.specs.Commands.{AreWordsOf, IsNumberInRange, bytes_of, job_word, source_word, roles_of, words_of}
-use Rattle.mintc_answers.specs.declared.command.Command.{Command}
-use Rattle.mintc_answers.specs.declared.command.Command.TheVariants.{OfDesign, Sample, Corners}
-use Rattle.mintc_answers.specs.declared.command.Job.{Job}
-use Rattle.mintc_answers.specs.declared.command.Job.TheVariants.{Check, Optimise, Verify, Report, Safe, Slack}
-use Rattle.mintc_answers.specs.declared.command.Source.{Source}
-use Rattle.mintc_answers.specs.declared.command.Source.TheVariants.{Table, Files, Liberty}
+use Rattle.mintc_command_answers.specs.Commands.{AreWordsOf, IsNumberInRange, bytes_of, job_word, source_word, roles_of, words_of}
+use Rattle.mintc_command_answers.specs.declared.command.Command.{Command}
+use Rattle.mintc_command_answers.specs.declared.command.Command.TheVariants.{OfDesign, Sample, Corners}
+use Rattle.mintc_command_answers.specs.declared.command.Job.{Job}
+use Rattle.mintc_command_answers.specs.declared.command.Job.TheVariants.{Check, Optimise, Verify, Report, Safe, Slack}
+use Rattle.mintc_command_answers.specs.declared.command.Source.{Source}
+use Rattle.mintc_command_answers.specs.declared.command.Source.TheVariants.{Table, Files, Liberty}
 
 -- A word asks for one job: the words of jobs, `sample` and `corners` differ in their first or third letters.
 letters : List ℕ → ℕ

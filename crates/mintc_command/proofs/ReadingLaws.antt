@@ -6,7 +6,7 @@ use Rattle.std.proofs.lemmas.List.{length-map, take_more, map-append, length-app
 use Rattle.std.proofs.lemmas.List.Elements.{All-nil, All-cons, All-append}
 use Rattle.mintc_text.specs.Outside.{Files, Holds, IsFront, CountsCall, Rose}
 use Rattle.mintc_command.specs.Answers.{AreFronts, HoldsAll, MakesAtMost}
-use Rattle.mintc_answers.specs.Commands.{bytes_of}
+use Rattle.mintc_command_answers.specs.Commands.{bytes_of}
 use Rattle.mintc_command.proofs.Calls.{MakesAtMost-none, MakesAtMost-more, MakesAtMost-fewer}
 
 -- A shelf after the files of some names were read: what it is now, against what it was.

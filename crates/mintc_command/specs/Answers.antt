@@ -5,11 +5,11 @@ use Rattle.mintc_text.specs.declared.limits.TheConstants.{MOST_BYTES}
 use Rattle.mintc_text.specs.Lines.{ended}
 use Rattle.mintc_text.specs.Outside.{Files, Holds, IsFront, Takes, TakesFront}
 use Rattle.mintc_text.specs.declared.refusals.Refusal.{Refusal}
-use Rattle.mintc_answers.specs.Answers.{IsDefined, IsFirstRefusal}
-use Rattle.mintc_answers.specs.Commands.{AreWordsOf, IsCommand}
-use Rattle.mintc_answers.specs.declared.command.Command.{Command}
-use Rattle.mintc_answers.specs.declared.status.Status.{Status}
-use Rattle.mintc_answers.specs.declared.status.Status.TheVariants.{Done, Found, Usage, ReadFault, WriteFault, OutOfMemory}
+use Rattle.mintc_command_answers.specs.Answers.{IsDefined, IsFirstRefusal}
+use Rattle.mintc_command_answers.specs.Commands.{AreWordsOf, IsCommand}
+use Rattle.mintc_command_answers.specs.declared.command.Command.{Command}
+use Rattle.mintc_command_answers.specs.declared.status.Status.{Status}
+use Rattle.mintc_command_answers.specs.declared.status.Status.TheVariants.{Done, Found, Usage, ReadFault, WriteFault, OutOfMemory}
 
 -- the line that is written where the words are no command
 abbrev pub usage_line : List ℕ

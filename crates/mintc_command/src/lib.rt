@@ -9,7 +9,7 @@
 mod program;
 mod reading;
 
-pub use mintc_answers::{
+pub use mintc_command_answers::{
     Status, optima_are_verified, refusals_are_determined, refusals_exclude_answers,
 };
 pub use program::run;

@@ -1,12 +1,12 @@
 //! A run: words, files, one answer.
 ghost use Rattle.std.specs.Prelude.{◌≡◌, ◌≢◌, ◌⊎◌, ℕ, List, Option, length};
 ghost use Rattle.mintc_text.specs.Outside.{Files, Rose};
-ghost use Rattle.mintc_answers.specs.declared.command.Command.{Command};
-ghost use Rattle.mintc_answers.specs.Commands.{AreWordsOf, IsCommand, bytes_of};
+ghost use Rattle.mintc_command_answers.specs.declared.command.Command.{Command};
+ghost use Rattle.mintc_command_answers.specs.Commands.{AreWordsOf, IsCommand, bytes_of};
 ghost use Rattle.mintc_command.specs.Answers.{HoldsAll, IsAfterReading, IsAnswer, IsComplete, IsNotRefused, IsOfNoCommand, MakesAtMost, NameFile, Writes};
 
 use crate::reading::read_files;
-use mintc_answers::{Status, answer_to, command_of};
+use mintc_command_answers::{Status, answer_to, command_of};
 use mintc_text::{OutOfMemory, Shelf, ShelfError, Sink};
 use std::alloc::Global;
 

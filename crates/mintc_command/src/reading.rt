@@ -1,7 +1,7 @@
 //! Reading the files that a command names.
 ghost use Rattle.std.specs.Prelude.{◌≡◌, ◌≢◌, ◌+◌, ◌≤◌, [], length, IfOk, OnOk, Err};
 ghost use Rattle.mintc_text.specs.Outside.{Rose};
-ghost use Rattle.mintc_answers.specs.Commands.{bytes_of};
+ghost use Rattle.mintc_command_answers.specs.Commands.{bytes_of};
 ghost use Rattle.mintc_command.specs.Answers.{AreFronts, HoldsAll, MakesAtMost};
 
 use mintc_text::limits::MOST_BYTES;

@@ -1,11 +1,11 @@
 //! A room: lists for the nodes of a network, and for what is found there.
 ghost use Rattle.std.specs.Prelude.{◌≡◌, ◌≤◌, ◌<◌, ◌+◌, ◌^◌, [], pos, IfOk, length, replicate, slice_set};
-ghost use Rattle.mintc_walks.specs.Bounds.{AreBounded, AreOrdinary};
+ghost use Rattle.mintc_graph_walks.specs.Bounds.{AreBounded, AreOrdinary};
 ghost use Rattle.mintc_constraints.specs.Walked.{HasWalked};
 
 use crate::lists::{fill, grow};
+use mintc_graph_walks::{Answer, NONE, Network, Steps, greatest_walks};
 use mintc_text::OutOfMemory;
-use mintc_walks::{Answer, NONE, Network, Steps, greatest_walks};
 use std::alloc::Global;
 use std::marker::Model;
 use std::sync::ledger::Ledger;

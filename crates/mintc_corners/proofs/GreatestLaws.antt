@@ -2,9 +2,9 @@
 use Rattle.std.proofs.Common.{ℕ, ℤ, ◌≤ℤ◌, List, ap, ◌∙◌, subst}
 use Rattle.std.specs.List.{All, Contains}
 use Rattle.mintc_fraction.specs.Ratio.{Ratio}
-use Rattle.mintc_walks.specs.Walks.{value_at}
+use Rattle.mintc_graph_walks.specs.Walks.{value_at}
 use Rattle.mintc_timing.specs.declared.link.Link.{Link}
-use Rattle.mintc_listing.specs.Ordinary.{constraints_of}
+use Rattle.mintc_constraints.specs.Ordinary.{constraints_of}
 use Rattle.mintc_ratio.specs.Greatest.{AreGreatest, asked_by}
 use Rattle.mintc_timing.specs.Links.{IsMet}
 use Rattle.mintc_corners.proofs.TransferLaws.{carried, carried_all}

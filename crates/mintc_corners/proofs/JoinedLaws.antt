@@ -7,7 +7,7 @@ use Rattle.mintc_timing.specs.Design.{Timing, element_count, phase_count}
 use Rattle.mintc_timing.specs.Links.{links_of}
 use Rattle.mintc_timing.proofs.SharedByKind.{All-links, EachKind-from_all, stands}
 use Rattle.mintc_timing.proofs.SharedMembers.{Contains-map}
-use Rattle.mintc_lifting.specs.Lifted.{lifted_link, widest}
+use Rattle.mintc_corners.specs.Lifted.{lifted_link, widest}
 use Rattle.mintc_corners.specs.CornerOptimum.{corner_of}
 use Rattle.mintc_corners.specs.Joined.{joined, joined_links}
 use Rattle.mintc_corners.specs.Joint.{AreCorners, joint_links_of, side_by_side}
@@ -41,20 +41,20 @@ module _ (t : Timing) (ts : List Timing) (are : AreCorners (t ∷ ts)) (systems 
   abbrev clock : ℕ
   clock = 2 * phase_count t.flat
 
-  abbrev lifted : ℕ → Link → Link
-  lifted at = lifted_link (widest (t ∷ ts)) clock at
+  abbrev joint_link : ℕ → Link → Link
+  joint_link at = lifted_link (widest (t ∷ ts)) clock at
 
   -- each joint link stands in the one list and in the other
   pub joined_listed : All (Contains (joint_links_of t ts)) (joined_links (t ∷ ts))
   joined_listed = in_turn (widest (t ∷ ts)) clock (Contains (joint_links_of t ts)) t 0 (t ∷ ts)
       (λ c at below is.
       let same : at ≡ elements_before (t ∷ ts) c = omega arith in
-      rw same (All-links (corner_of t ts c) (λ k. Contains (joint_links_of t ts) (lifted (elements_before (t ∷ ts) c) k))
+      rw same (All-links (corner_of t ts c) (λ k. Contains (joint_links_of t ts) (joint_link (elements_before (t ∷ ts) c) k))
       (one_of_all t ts are systems besides c below (Contains (joint_links_of t ts)) (stands (side_by_side t ts)))))
 
   pub links_joined : All (Contains (joined_links (t ∷ ts))) (joint_links_of t ts)
   links_joined = All-links (side_by_side t ts) (Contains (joined_links (t ∷ ts)))
       (all_of_each t ts are systems besides (Contains (joined_links (t ∷ ts)))
-      (λ c below. EachKind-from_all (corner_of t ts c) (λ k. Contains (joined_links (t ∷ ts)) (lifted (elements_before (t ∷ ts) c) k))
+      (λ c below. EachKind-from_all (corner_of t ts c) (λ k. Contains (joined_links (t ∷ ts)) (joint_link (elements_before (t ∷ ts) c) k))
       (λ n d h. stands_there (widest (t ∷ ts)) clock t 0 (t ∷ ts) c (elements_before (t ∷ ts) c) below (omega arith) (get_or (links_of (corner_of t ts c)) n d)
       (All-contains_itself (links_of (corner_of t ts c)) n d h))))

@@ -12,7 +12,8 @@ use Rattle.mintc_timing.specs.Right.{IsRight}
 use Rattle.mintc_timing.proofs.SharedRanges.{pair-max_range}
 use Rattle.mintc_timing.specs.Paths.{HasEnds}
 use Rattle.mintc_timing.proofs.SharedLinkLaws.{ends_of}
-use Rattle.mintc_corners.specs.Joint.{AreCorners, AreJointlyRight, DifferInNumbers, beside, shifted_pair, side_by_side}
+use Rattle.mintc_corners.specs.Joint.{AreCorners, AreJointlyRight, beside, shifted_pair, side_by_side}
+use Rattle.mintc_timing.specs.Numbers.{DifferInNumbers}
 use Rattle.mintc_corners.specs.Laws.{AreBeside, AreSystems, CornersAreModest, HaveOneClock, JointCycleIsLeast, JointlyHopelessIsHopeless}
 use Rattle.mintc_corners.proofs.BesideLaws.{beside_in_parts, beside_is_both_lem}
 

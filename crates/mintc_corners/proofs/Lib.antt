@@ -1,3 +1,4 @@
+mod WidestLaws
 mod PartsLaws
 mod BesideLaws
 mod JointLaws

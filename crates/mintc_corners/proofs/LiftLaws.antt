@@ -25,7 +25,7 @@ use Rattle.mintc_timing.proofs.SharedLinkLaws.{ends_of}
 use Rattle.mintc_certificate.specs.declared.members.Member.{Member}
 use Rattle.mintc_certificate.specs.declared.members.Member.TheVariants as member
 use Rattle.mintc_certificate.specs.Valid.{IsMember, link_of, no_bound}
-use Rattle.mintc_lifting.specs.Lifted.{lifted_link, lifted_node, widest}
+use Rattle.mintc_corners.specs.Lifted.{lifted_link, lifted_node, widest}
 use Rattle.mintc_corners.specs.CornerOptimum.{IsOfClock, corner_of}
 use Rattle.mintc_corners.specs.Joint.{AreCorners, beside, shifted_pair, side_by_side}
 use Rattle.mintc_corners.specs.Laws.{AreBeside, AreSystems}
@@ -166,8 +166,8 @@ module _ (t : Timing) (ts : List Timing) (are : AreCorners (t ∷ ts)) (systems 
   abbrev clock : ℕ
   clock = 2 * phase_count t.flat
 
-  abbrev lifted : ℕ → Link → Link
-  lifted c = lifted_link (widest (t ∷ ts)) clock (elements_before (t ∷ ts) c)
+  abbrev joint_link : ℕ → Link → Link
+  joint_link c = lifted_link (widest (t ∷ ts)) clock (elements_before (t ∷ ts) c)
 
   module _ (c : ℕ) (below : c < length (t ∷ ts)) where
     abbrev own : Timing
@@ -216,28 +216,28 @@ module _ (t : Timing) (ts : List Timing) (are : AreCorners (t ∷ ts)) (systems 
     output false p l h = goes l
 
     -- links of elements
-    pub opening_is : (l : ℕ) → l < element_count own.flat → opening_link big.flat (off + l) ≡ lifted c (opening_link own.flat l)
+    pub opening_is : (l : ℕ) → l < element_count own.flat → opening_link big.flat (off + l) ≡ joint_link c (opening_link own.flat l)
     opening_is l h =
         let low = phase_low l h in
         ap (λ (e : Element). opens (off + l) (element_node big.flat (off + l)) e) (element_is l h) ∙ same_link (kind.Opening (off + l)) _ _ _ _ _ _ 0 (stays (start_node (phase_of own.flat l)) (omega arith)) (goes l) refl
 
-    pub opened_is : (l : ℕ) → l < element_count own.flat → opened_link big.flat (off + l) ≡ lifted c (opened_link own.flat l)
+    pub opened_is : (l : ℕ) → l < element_count own.flat → opened_link big.flat (off + l) ≡ joint_link c (opened_link own.flat l)
     opened_is l h =
         let low = phase_low l h in
         ap (λ (e : Element). keeps (off + l) e) (element_is l h) ∙ of_clock (kind.Opened (off + l)) (start_node (phase_of own.flat l)) (end_node (phase_of own.flat l)) _ _ 0 (omega arith) (omega arith) refl
 
-    pub setup_is : (l : ℕ) → l < element_count own.flat → setup_link big.flat (off + l) ≡ lifted c (setup_link own.flat l)
+    pub setup_is : (l : ℕ) → l < element_count own.flat → setup_link big.flat (off + l) ≡ joint_link c (setup_link own.flat l)
     setup_is l h =
         ap (λ (e : Element). sets (off + l) (element_node big.flat (off + l)) e) (element_is l h)
         ∙ same_link (kind.Setup (off + l)) _ _ _ _ _ _ 0 (goes l) (closing (element_at own.flat l).flop (phase_of own.flat l) (phase_low l h)) refl
 
-    pub reach_is : (j l : ℕ) (gap : ℤ) → j < element_count own.flat → l < element_count own.flat → reach_link big.flat (off + j) (off + l) gap ≡ lifted c (reach_link own.flat j l gap)
+    pub reach_is : (j l : ℕ) (gap : ℤ) → j < element_count own.flat → l < element_count own.flat → reach_link big.flat (off + j) (off + l) gap ≡ joint_link c (reach_link own.flat j l gap)
     reach_is j l gap g h =
         ap (λ (d : Element). reaches (off + j) (off + l) (element_node big.flat (off + j)) (element_node big.flat (off + l)) gap d (element_at big.flat (off + l))) (element_is j g)
         ∙ ap (λ (e : Element). reaches (off + j) (off + l) (element_node big.flat (off + j)) (element_node big.flat (off + l)) gap (element_at own.flat j) e) (element_is l h)
         ∙ same_link (kind.Reach (off + j) (off + l)) _ _ _ _ _ _ _ (output (element_at own.flat j).flop (phase_of own.flat j) j (phase_low j g)) (goes l) refl
 
-    bound_is : (n : ℕ) (e : Bound) → n < length own.flat.bounds → bound_link n (get_or big.flat.bounds n e) ≡ lifted c (bound_link n (get_or own.flat.bounds n e))
+    bound_is : (n : ℕ) (e : Bound) → n < length own.flat.bounds → bound_link n (get_or big.flat.bounds n e) ≡ joint_link c (bound_link n (get_or own.flat.bounds n e))
     bound_is n e h =
         let b = get_or own.flat.bounds n e in
         let in_range = own_design.each_bound n e h in
@@ -245,7 +245,7 @@ module _ (t : Timing) (ts : List Timing) (are : AreCorners (t ∷ ts)) (systems 
         ∙ of_clock (kind.Bound n) (point_node b.from) (point_node b.to) _ _ _ (point_low (phase_count own.flat) b.from in_range.from) (point_low (phase_count own.flat) b.to in_range.to) refl
 
     -- those of the clock and of bounds
-    pub clock_is : (m : Member) → IsOfClock m → IsMember own m → link_of big.flat m ≡ lifted c (link_of own.flat m)
+    pub clock_is : (m : Member) → IsOfClock m → IsMember own m → link_of big.flat m ≡ joint_link c (link_of own.flat m)
     clock_is (member.Start p) of_it h = of_clock (kind.Start p) 0 (start_node p) _ _ 0 (omega arith) (omega arith) refl
     clock_is (member.Cycle p) of_it h = of_clock (kind.Cycle p) (start_node p) 0 _ _ 1 (omega arith) (omega arith) refl
     clock_is (member.Order p) of_it h = of_clock (kind.Order p) (start_node p) (start_node (p + 1)) _ _ 0 (omega arith) (omega arith) refl
@@ -270,7 +270,7 @@ module _ (t : Timing) (ts : List Timing) (are : AreCorners (t ∷ ts)) (systems 
     abbrev pair_of : Timing → ℕ → Link
     pair_of x m = reach_link x.flat (pair_at x m).from (pair_at x m).to (pair_at x m).max
 
-    pair_is : (m : ℕ) → m < pair_count own → pair_of big (before_one pair_count (t ∷ ts) c + m) ≡ lifted c (pair_of own m)
+    pair_is : (m : ℕ) → m < pair_count own → pair_of big (before_one pair_count (t ∷ ts) c + m) ≡ joint_link c (pair_of own m)
     pair_is m h =
         let at = pair_among t ts c m t below h in
         let ends = ends_of own own_kept.extremes m no_pair h in
@@ -280,7 +280,7 @@ module _ (t : Timing) (ts : List Timing) (are : AreCorners (t ∷ ts)) (systems 
     among_elements l h = among_all elements_in elements_sum t ts c l t below h
 
     -- what holds of each link of all, holds of each of the corner, as it is numbered among all
-    pub one_of_all : (P : Link → Type 0) → EachKind big P → EachKind own (λ k. P (lifted c k))
+    pub one_of_all : (P : Link → Type 0) → EachKind big P → EachKind own (λ k. P (joint_link c k))
     one_of_all P all = record {
       start = λ p h. subst P (clock_is (member.Start p) tt h) (all.start p (in_all p h));
       cycle = λ p h. subst P (clock_is (member.Cycle p) tt h) (all.cycle p (in_all p h));
@@ -296,11 +296,11 @@ module _ (t : Timing) (ts : List Timing) (are : AreCorners (t ∷ ts)) (systems 
     }
 
   -- and what holds of those of each corner, holds of all
-  module _ (P : Link → Type 0) (each : (c : ℕ) → c < length (t ∷ ts) → EachKind (corner_of t ts c) (λ k. P (lifted c k))) where
-    first : EachKind t (λ k. P (lifted 0 k))
+  module _ (P : Link → Type 0) (each : (c : ℕ) → c < length (t ∷ ts) → EachKind (corner_of t ts c) (λ k. P (joint_link c k))) where
+    first : EachKind t (λ k. P (joint_link 0 k))
     first = each 0 (omega arith)
 
-    by_first : (m : Member) → IsOfClock m → IsMember t m → P (lifted 0 (link_of t.flat m)) → P (link_of big.flat m)
+    by_first : (m : Member) → IsOfClock m → IsMember t m → P (joint_link 0 (link_of t.flat m)) → P (link_of big.flat m)
     by_first m of_it h holds = subst P (sym (clock_is 0 (omega arith) m of_it h)) holds
 
     in_first : (p : ℕ) → IsPhase (phase_count big.flat) p → IsPhase (phase_count t.flat) p

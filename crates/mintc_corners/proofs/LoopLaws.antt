@@ -12,14 +12,14 @@ use Rattle.mintc_timing.specs.Limits.{IsDesign}
 use Rattle.mintc_timing.specs.Links.{links_of}
 use Rattle.mintc_timing.specs.Order.{IsTiming}
 use Rattle.mintc_constraints.specs.Duality.{departures_of}
-use Rattle.mintc_listing.specs.Laws.{node_count}
-use Rattle.mintc_listing.specs.Ordinary.{Constraints, constraints_of}
+use Rattle.mintc_constraints.specs.Laws.{node_count}
+use Rattle.mintc_constraints.specs.Ordinary.{Constraints, constraints_of}
 use Rattle.mintc_timing.proofs.SharedByKind.{All-links}
-use Rattle.mintc_listing.proofs.SharedOrdinaryLaws.{each_between}
+use Rattle.mintc_constraints.proofs.SharedOrdinaryLaws.{each_between}
 use Rattle.mintc_timing.proofs.SharedLinkLaws.{ends_of}
 use Rattle.mintc_certificate.specs.Ranges.{IsDeparture}
 use Rattle.mintc_optimise.proofs.SharedStandingLaws.{of_kind}
-use Rattle.mintc_lifting.specs.Lifted.{HasLowKind, IsLow, lifted_link}
+use Rattle.mintc_corners.specs.Lifted.{HasLowKind, IsLow, lifted_link}
 use Rattle.mintc_corners.specs.CornerOptimum.{AreDeparturesInRange}
 use Rattle.mintc_corners.specs.Joined.{departures_after, joined, no_timing, own_list, own_values, AreSayableAfter}
 use Rattle.mintc_corners.specs.Joint.{joint_nodes}

@@ -11,8 +11,8 @@ use Rattle.mintc_timing.specs.Links.{IsChain, links_of, IsStuck}
 use Rattle.mintc_timing.specs.Right.{IsRight}
 use Rattle.mintc_constraints.specs.Duality.{departures_of, schedule_of}
 use Rattle.mintc_timing.specs.Paths.{HasEnds}
-use Rattle.mintc_listing.specs.Laws.{node_count}
-use Rattle.mintc_listing.specs.Ordinary.{Constraints, constraints_of}
+use Rattle.mintc_constraints.specs.Laws.{node_count}
+use Rattle.mintc_constraints.specs.Ordinary.{Constraints, constraints_of}
 use Rattle.mintc_constraints.specs.Rooms.{Space}
 use Rattle.mintc_constraints.proofs.SharedChainLaws.{stuck_is_hopeless_lem}
 use Rattle.mintc_ratio.specs.declared.searching.Outcome.TheVariants as outcome

@@ -5,11 +5,11 @@ use Rattle.std.proofs.lemmas.List.{get_or_default, length-map}
 use Rattle.mintc_timing.specs.declared.link.Link.{Link}
 use Rattle.mintc_timing.specs.Design.{Timing}
 use Rattle.mintc_timing.specs.Links.{links_of, no_link, link_at}
-use Rattle.mintc_listing.specs.Ordinary.{Constraints, constraints_of}
+use Rattle.mintc_constraints.specs.Ordinary.{Constraints, constraints_of}
 use Rattle.mintc_certificate.specs.declared.members.Member.{Member}
 use Rattle.mintc_optimise.specs.Making.{StandsFor as StandsForOwn}
 use Rattle.mintc_optimise.proofs.SharedStandingLaws.{stand_more}
-use Rattle.mintc_lifting.specs.Lifted.{lifted_link, widest}
+use Rattle.mintc_corners.specs.Lifted.{lifted_link, widest}
 use Rattle.mintc_corners.specs.declared.members.CornerMember.{CornerMember}
 use Rattle.mintc_corners.specs.CornerOptimum.{corner_of}
 use Rattle.mintc_corners.specs.Joined.{IsPlace, clock_count, joined_links, own_list, StandForAll, StandsFor, corner_number}

@@ -9,12 +9,13 @@ use Rattle.mintc_timing.specs.declared.parts.Element.{Element}
 use Rattle.mintc_timing.specs.Design.{Timing, element_count}
 use Rattle.mintc_timing.specs.Limits.{IsDesign}
 use Rattle.mintc_timing.specs.Links.{links_of}
-use Rattle.mintc_listing.specs.Laws.{node_count}
-use Rattle.mintc_listing.specs.Ordinary.{Constraints, IsOrdinary, constraints_of}
-use Rattle.mintc_listing.proofs.SharedOrdinaryLaws.{few_links}
+use Rattle.mintc_constraints.specs.Laws.{node_count}
+use Rattle.mintc_constraints.specs.Ordinary.{Constraints, IsOrdinary, constraints_of}
+use Rattle.mintc_constraints.proofs.SharedOrdinaryLaws.{few_links}
 use Rattle.mintc_constraints.proofs.SharedModestLaws.{modest_links_are_ordinary_lem}
-use Rattle.mintc_lifting.specs.Lifted.{lifted_link, widest}
-use Rattle.mintc_corners.specs.Joint.{joint_nodes, side_by_side, AreCorners, DifferInNumbers}
+use Rattle.mintc_corners.specs.Lifted.{lifted_link, widest}
+use Rattle.mintc_corners.specs.Joint.{joint_nodes, side_by_side, AreCorners}
+use Rattle.mintc_timing.specs.Numbers.{DifferInNumbers}
 use Rattle.mintc_corners.specs.Joined.{clock_count, joined, joined_links, own_list}
 use Rattle.mintc_corners.specs.Laws.{AreBeside, AreSystems}
 use Rattle.mintc_corners.proofs.JointLaws.{corners_are_modest_lem, differ-from, phases_are}

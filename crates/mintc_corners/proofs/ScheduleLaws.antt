@@ -1,7 +1,7 @@
 -- The schedule that the moments of all nodes stand for is that of each corner's own.
 use Rattle.std.proofs.Common.{◌≡◌, ℕ, zero, suc, ◌<◌, ◌≤◌, ◌+◌, ◌*◌, ℤ, ◌-ℤ◌, false, List, [], ◌∷◌, length, get_or, map, arith, refl, ap, ◌∙◌, subst, length-append}
 use Rattle.std.specs.List.{range_with_len}
-use Rattle.mintc_walks.specs.Walks.{value_at}
+use Rattle.mintc_graph_walks.specs.Walks.{value_at}
 use Rattle.mintc_timing.specs.Design.{Timing, element_at, element_count, no_element, phase_count, phase_of}
 use Rattle.mintc_timing.specs.declared.parts.Element.{Element}
 use Rattle.mintc_timing.specs.Limits.{IsDesign, IsNumerator}

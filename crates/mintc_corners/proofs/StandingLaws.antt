@@ -12,7 +12,7 @@ use Rattle.mintc_certificate.specs.declared.members.Member.TheVariants as member
 use Rattle.mintc_certificate.specs.Valid.{IsMember, link_of}
 use Rattle.mintc_optimise.specs.Making.{StandsFor as StandsForOwn}
 use Rattle.mintc_optimise.proofs.SharedStandingLaws.{slowest}
-use Rattle.mintc_lifting.specs.Lifted.{lifted_link, widest}
+use Rattle.mintc_corners.specs.Lifted.{lifted_link, widest}
 use Rattle.mintc_corners.specs.CornerOptimum.{IsOfCorner, corner_of, link_of_corner}
 use Rattle.mintc_corners.specs.Joined.{StandsFor, corner_number}
 use Rattle.mintc_corners.specs.Joint.{AreCorners, side_by_side}
@@ -27,11 +27,11 @@ module _ (t : Timing) (ts : List Timing) (are : AreCorners (t ∷ ts)) (systems 
   abbrev own : Timing
   own = corner_of t ts c
 
-  abbrev lifted : Link → Link
-  lifted = lifted_link (widest (t ∷ ts)) (2 * phase_count t.flat) (elements_before (t ∷ ts) c)
+  abbrev joint_link : Link → Link
+  joint_link = lifted_link (widest (t ∷ ts)) (2 * phase_count t.flat) (elements_before (t ∷ ts) c)
 
   -- what a member stands for in all corners
-  lifted_member : (m : Member) → IsMember own m → link_of_corner t ts (corner_number c m) m ≡ lifted (link_of own.flat m)
+  lifted_member : (m : Member) → IsMember own m → link_of_corner t ts (corner_number c m) m ≡ joint_link (link_of own.flat m)
   lifted_member (member.Opening l) h = rw (sym (before_is t ts c are below)) (opening_is t ts are systems besides c below l h)
   lifted_member (member.Opened l) h = rw (sym (before_is t ts c are below)) (opened_is t ts are systems besides c below l h.0)
   lifted_member (member.Reach j l path) h = rw (sym (before_is t ts c are below)) (reach_is t ts are systems besides c below j l (greatest_delay own.flat.arcs path) h.0 h.1)
@@ -68,9 +68,9 @@ module _ (t : Timing) (ts : List Timing) (are : AreCorners (t ∷ ts)) (systems 
   number-few (member.Setup l) = omega arith
   number-few m = omega arith
 
-  pub standing_for : (k : Link) (m : Member) → Contains (links_of own) k → StandsForOwn own k m → StandsFor (t ∷ ts) (lifted k) (record { corner = corner_number c m; member = m })
+  pub standing_for : (k : Link) (m : Member) → Contains (links_of own) k → StandsForOwn own k m → StandsFor (t ∷ ts) (joint_link k) (record { corner = corner_number c m; member = m })
   standing_for k m listed h = record {
     member = named k m listed h.same h.member;
-    same = lifted_member m h.member ∙ ap lifted h.same;
+    same = lifted_member m h.member ∙ ap joint_link h.same;
     counted = (number-few m, h.counted);
   }

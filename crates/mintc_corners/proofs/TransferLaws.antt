@@ -4,8 +4,8 @@ use Rattle.std.specs.List.{All, Contains}
 use Rattle.std.proofs.lemmas.List.Elements.{All-contains}
 use Rattle.mintc_timing.specs.declared.link.Link.{Link}
 use Rattle.mintc_timing.specs.Links.{IsChain, no_link, link_at}
-use Rattle.mintc_listing.specs.Ordinary.{HasPlainLink, IsOrdinary, IsOrdinaryLink, Leads, constraints_of}
-use Rattle.mintc_listing.proofs.SharedOrdinaryLaws.{number_of}
+use Rattle.mintc_constraints.specs.Ordinary.{HasPlainLink, IsOrdinary, IsOrdinaryLink, Leads, constraints_of}
+use Rattle.mintc_constraints.proofs.SharedOrdinaryLaws.{number_of}
 
 -- a walk over a list is one, with other numbers, over each list that has its links
 module _ (xs ys : List Link) (sub : All (Contains ys) xs) where

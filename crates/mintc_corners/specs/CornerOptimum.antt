@@ -3,7 +3,7 @@ use Rattle.std.specs.Prelude.{◌<◌, ◌*◌, ◌+◌, ℕ, zero, suc, List, �
 use Rattle.mintc_text.specs.declared.limits.TheConstants.{MOST_MEMBERS}
 use Rattle.mintc_timing.specs.declared.clocking.Schedule.{Schedule}
 use Rattle.mintc_timing.specs.declared.link.Link.{Link}
-use Rattle.mintc_rings.specs.Rings.{IsClosed}
+use Rattle.mintc_graph.specs.Rings.{IsClosed}
 use Rattle.mintc_timing.specs.Design.{Design, Timing, element_count}
 use Rattle.mintc_timing.specs.Paths.{input_of, greatest_delay, IsGreatestDelay}
 use Rattle.mintc_timing.specs.Links.{IsTight, IsStuck, opening_link, opened_link, reach_link, setup_link}
@@ -14,7 +14,7 @@ use Rattle.mintc_corners.specs.declared.members.CornerMember.{CornerMember}
 use Rattle.mintc_corners.specs.declared.certificate.CornerCertificate.{CornerCertificate}
 use Rattle.mintc_corners.specs.declared.certificate.CornerCertificate.TheVariants.{Least, Never}
 use Rattle.mintc_corners.specs.Joint.{AreJointlyRight, IsJointCycle, AreJointlyHopeless, side_by_side, joint_links_of}
-use Rattle.mintc_lines.specs.Fields.{IsCount}
+use Rattle.mintc_timing_text.specs.Fields.{IsCount}
 use Rattle.mintc_timing.specs.Limits.{IsInRange}
 use Rattle.mintc_certificate.specs.CertificateText.{IsCounted}
 use Rattle.mintc_certificate.specs.Ranges.{IsDeparture}

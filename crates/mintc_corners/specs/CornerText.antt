@@ -1,7 +1,7 @@
 -- Corners texts.
 use Rattle.std.specs.Prelude.{ℕ, ℤ, List, [], ◌∷◌, ◌++◌, length, map, flat_map, codes}
 use Rattle.mintc_text.specs.Lines.{words}
-use Rattle.mintc_lines.specs.Fields.{number}
+use Rattle.mintc_timing_text.specs.Fields.{number}
 use Rattle.mintc_certificate.specs.declared.members.Member.{Member}
 use Rattle.mintc_certificate.specs.declared.members.Member.TheVariants as member
 use Rattle.mintc_certificate.specs.CertificateText.{member_words}

@@ -5,12 +5,12 @@ use Rattle.mintc_timing.specs.declared.link.Link.{Link}
 use Rattle.mintc_timing.specs.Design.{Design, Timing, element_count, phase_count}
 use Rattle.mintc_timing.specs.Links.{link_at, links_of}
 use Rattle.mintc_constraints.specs.Duality.{departures_of}
-use Rattle.mintc_listing.specs.Laws.{node_count}
-use Rattle.mintc_listing.specs.Ordinary.{Constraints, constraints_of}
+use Rattle.mintc_constraints.specs.Laws.{node_count}
+use Rattle.mintc_constraints.specs.Ordinary.{Constraints, constraints_of}
 use Rattle.mintc_certificate.specs.declared.members.Member.{Member}
 use Rattle.mintc_certificate.specs.declared.members.Member.TheVariants as member
 use Rattle.mintc_optimise.specs.Making.{AreSayable, Stands, StandInOrder}
-use Rattle.mintc_lifting.specs.Lifted.{lifted_link, widest}
+use Rattle.mintc_corners.specs.Lifted.{lifted_link, widest}
 use Rattle.mintc_corners.specs.declared.members.CornerMember.{CornerMember}
 use Rattle.mintc_corners.specs.CornerOptimum.{IsCornerCounted, IsOfCorner, link_of_corner}
 

@@ -1,3 +1,4 @@
+pub mod Lifted
 pub mod Joint
 pub mod Laws
 pub mod CornerText

@@ -1,14 +1,14 @@
 //! The links of all corners over one clock.
 ghost use Rattle.std.specs.Prelude.{◌≡◌, ◌≤◌, ◌++◌, ◌*◌, IfOk, OnOk, All, length, map, flat_map};
 ghost use Rattle.mintc_text.specs.declared.limits.TheConstants.{MOST_ELEMENTS};
-ghost use Rattle.mintc_listing.specs.Ordinary.{constraints_of};
-ghost use Rattle.mintc_lifting.specs.Lifted.{IsLow, lifted_link, widest};
+ghost use Rattle.mintc_constraints.specs.Ordinary.{constraints_of};
+ghost use Rattle.mintc_corners.specs.Lifted.{IsLow, lifted_link, widest};
 ghost use Rattle.mintc_corners.specs.Joint.{joint_nodes, AreCorners};
 ghost use Rattle.mintc_corners.specs.Joined.{joined_links, own_list};
 ghost use Rattle.mintc_corners.specs.Laws.{AreSystems};
 
+use crate::joint_links::joint_link;
 use mintc_constraints::{Link, LinkList, links};
-use mintc_lifting::lifted;
 use mintc_text::OutOfMemory;
 use mintc_timing::System;
 use std::alloc::Global;
@@ -41,7 +41,7 @@ fn append_corner(
     ensures { OnOk result (items.new.items ≡ items.old.items ++ map (lifted_link (widest systems.now) clock before) links.now) }
 {
     for link in links {
-        let Ok(()) = items.push(lifted(systems, clock, before, link)) else {
+        let Ok(()) = items.push(joint_link(systems, clock, before, link)) else {
             return Err(OutOfMemory);
         };
     }

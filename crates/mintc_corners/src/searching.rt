@@ -1,7 +1,7 @@
 //! The least cycle time of several corners, with its certificate.
 ghost use Rattle.std.specs.Prelude.{◌≡◌, ◌≤◌, ◌+◌, ◌*◌, IfOk, length, map, flat_map};
 ghost use Rattle.mintc_text.specs.declared.limits.TheConstants.{MOST_ELEMENTS};
-ghost use Rattle.mintc_listing.specs.Ordinary.{constraints_of};
+ghost use Rattle.mintc_constraints.specs.Ordinary.{constraints_of};
 ghost use Rattle.mintc_ratio.specs.Searched.{HasSearched};
 ghost use Rattle.mintc_corners.specs.CornerOptimum.{IsOptimumOf};
 ghost use Rattle.mintc_corners.specs.Joint.{joint_nodes, AreCorners};
@@ -13,10 +13,10 @@ use crate::chain::members;
 use crate::departing::{all_departures, joint_schedule};
 use crate::joining::{joint_links, own_lists};
 use mintc_constraints::{LinkList, Room};
+use mintc_graph_walks::Steps;
 use mintc_ratio::{Outcome, search};
 use mintc_text::OutOfMemory;
 use mintc_timing::System;
-use mintc_walks::Steps;
 use std::alloc::Global;
 use std::sync::ledger::Ledger;
 

@@ -1,7 +1,7 @@
 //! The text of a corner certificate.
 ghost use Rattle.std.specs.Prelude.{◌≡◌, ◌<◌, ◌^◌, ◌++◌, ◌∷◌, [], IfOk, OnOk, All, codes, length, map};
 ghost use Rattle.mintc_text.specs.Lines.{ended, text_of, words};
-ghost use Rattle.mintc_lines.specs.Fields.{number};
+ghost use Rattle.mintc_timing_text.specs.Fields.{number};
 ghost use Rattle.mintc_timing.specs.Limits.{IsInRange};
 ghost use Rattle.mintc_corners.specs.CornerOptimum.{IsCornerCounted, IsCornerInRange};
 ghost use Rattle.mintc_corners.specs.CornerText.{all_departure_lines, corner_chain_lines, corner_lines, corner_words};

@@ -3,7 +3,7 @@ use Rattle.std.proofs.Common.{◌≡◌, ℕ, ◌<◌, ◌==◌, ℤ, pos, ◌+�
 use Rattle.std.proofs.lemmas.Int.{ints}
 use Rattle.std.proofs.lemmas.Bool.{cases_Bool, cases_lt, eqb-true}
 use Rattle.std.proofs.lemmas.List.{get_or_past, ext_get_or}
-use Rattle.mintc_walks.specs.Bounds.{IsWithin}
+use Rattle.mintc_graph_walks.specs.Bounds.{IsWithin}
 use Rattle.mintc_timing.specs.declared.parts.Pair.{Pair}
 use Rattle.mintc_timing.specs.declared.clocking.Schedule.{Schedule}
 use Rattle.mintc_timing.specs.Design.{Timing, element_at, element_count, pair_at, no_pair}
@@ -12,15 +12,15 @@ use Rattle.mintc_timing.specs.Extremes.{greater_of, least_of}
 use Rattle.mintc_timing.proofs.SharedDepartureLaws.{late_departure-flop}
 use Rattle.mintc_timing.proofs.SharedLoops.{arrival-at_most}
 use Rattle.mintc_timing.proofs.SharedProducts.{add-times, times-mono_positive}
-use Rattle.mintc_settling.specs.Clocked.{IsClocked}
+use Rattle.mintc_departure.specs.Clocked.{IsClocked}
 use Rattle.mintc_departure.specs.Rounds.{AreSums, AreRising}
-use Rattle.mintc_settling.specs.Travels.{early_start_of, early_travel}
-use Rattle.mintc_settling.specs.Settled.{IsSum}
-use Rattle.mintc_settling.proofs.SharedLateSizes.{late-within}
+use Rattle.mintc_departure.specs.Travels.{early_start_of, early_travel}
+use Rattle.mintc_departure.specs.Settled.{IsSum}
+use Rattle.mintc_departure.proofs.LateSizes.{late-within}
 use Rattle.mintc_departure.proofs.SharedLesser.{greater-mono, greater-from, greater-some, least-mono}
-use Rattle.mintc_settling.proofs.SharedNetworkLaws.{exact-starts}
-use Rattle.mintc_walks.proofs.SharedWithin.{IsWithin-product}
-use Rattle.mintc_settling.proofs.SharedSizes.{element_in_range, pair_ends, pair-min_order}
+use Rattle.mintc_departure.proofs.NetworkLaws.{exact-starts}
+use Rattle.mintc_graph_walks.proofs.SharedWithin.{IsWithin-product}
+use Rattle.mintc_departure.proofs.SharedSizes.{element_in_range, pair_ends, pair-min_order}
 
 module _ (t : Timing) (s : Schedule) where
   pub early-arrival-is : (d : List ℤ) (p : Pair) → early_arrival t.flat s d p ≡ departure d p.from +ℤ early_travel t.flat s p

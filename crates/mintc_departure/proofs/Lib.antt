@@ -1,3 +1,11 @@
+pub mod SharedSizes
+mod NetworkLaws
+mod LateSizes
+mod FailedLaws
+mod Filling
+mod LoopLaws
+mod SettledLaws
+mod Ladders
 pub mod SharedLesser
 pub mod SharedPassLaws
 mod ChainLaws

@@ -7,13 +7,13 @@ use Rattle.std.proofs.lemmas.List.{get_or-map, length-map, take_more}
 use Rattle.std.proofs.lemmas.Map.Made.{IsDistinct-from_AllPairs}
 use Rattle.std.proofs.lemmas.Map.Steps.{length-le_from_distinct_below}
 use Rattle.std.proofs.lemmas.Map.Views.{Contains-from_any}
-use Rattle.mintc_walks.specs.Bounds.{IsWithin}
-use Rattle.mintc_rings.specs.Rings.{total}
+use Rattle.mintc_graph_walks.specs.Bounds.{IsWithin}
+use Rattle.mintc_graph.specs.Rings.{total}
 use Rattle.mintc_timing.specs.Design.{Timing, element_count, pair_at, no_pair}
 use Rattle.mintc_timing.specs.Limits.{IsTime}
 use Rattle.mintc_timing.specs.Paths.{HasExtremes}
 use Rattle.mintc_timing.specs.Violations.{IsLoop}
-use Rattle.mintc_rings.proofs.SharedRingLaws.{total-push}
+use Rattle.mintc_graph.proofs.SharedRingLaws.{total-push}
 use Rattle.mintc_timing.proofs.SharedFitting.{read_time}
 
 -- numbers below n, no two of them equal, are at most n

@@ -19,13 +19,13 @@ use Rattle.mintc_timing.specs.Violations.{check, failed, phases_of, elements_of,
 use Rattle.mintc_timing.proofs.SharedAmountLaws.{setups_have_amounts_lem, holds_have_amounts_lem}
 use Rattle.mintc_timing.proofs.SharedDeterminedLaws.{early_are_determined_lem, late_are_determined_lem}
 use Rattle.mintc_timing.proofs.SharedLoops.{no_loop}
-use Rattle.mintc_settling.specs.Checks.{apart_check, bound_check, fed_checks}
+use Rattle.mintc_departure.specs.Checks.{apart_check, bound_check, fed_checks}
 use Rattle.mintc_departure.specs.Laws.{IsOfPhases, IsPass, PassIsRightWithLate, PassMeansRight}
 use Rattle.mintc_departure.proofs.EarlyLaws.{everywhere}
 use Rattle.mintc_departure.proofs.Greater.{greatest-mono}
 use Rattle.mintc_departure.proofs.KeptLaws.{IsKept, moved, nil-right, kept-cons, kept-append, kept-map, kept-flat, kept-tested, kept-optional, on_range}
 use Rattle.mintc_departure.proofs.SharedLesser.{IsNoLater}
-use Rattle.mintc_settling.proofs.SharedNetworkLaws.{arrival-is}
+use Rattle.mintc_departure.proofs.NetworkLaws.{arrival-is}
 
 -- the checks of bounds, whatever their numbers
 bounds-kept : (s : Schedule) (n : ℕ) (bounds : List Bound) → (failed (map (bound_check s) (enumerate_from n bounds)) ≡ []) ↔ All (KeepsBound s) bounds

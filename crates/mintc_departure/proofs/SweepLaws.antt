@@ -3,15 +3,15 @@ use Rattle.std.proofs.Common.{◌≡◌, ◌≢◌, ℕ, suc, ◌+◌, ◌<◌, 
 use Rattle.std.proofs.lemmas.Int.{ints, by_lt_z}
 use Rattle.std.proofs.lemmas.Bool.{cases_eq, cases_lt}
 use Rattle.std.specs.List.{filter}
-use Rattle.mintc_places.specs.Places.{IsIn}
+use Rattle.mintc_bitset.specs.BitSet.{IsIn}
 use Rattle.mintc_timing.specs.declared.parts.Pair.{Pair}
 use Rattle.mintc_timing.specs.declared.clocking.Schedule.{Schedule}
 use Rattle.mintc_timing.specs.Design.{Timing, element_at, element_count, pair_at, no_pair}
 use Rattle.mintc_timing.specs.Departures.{departure, early_arrival, early_opening, early_departure, AreEarly, AreLate}
 use Rattle.mintc_timing.specs.Extremes.{greater_of, least_of}
-use Rattle.mintc_settling.specs.Clocked.{IsClocked}
+use Rattle.mintc_departure.specs.Clocked.{IsClocked}
 use Rattle.mintc_departure.specs.Rounds.{AreRising, AreSwept}
-use Rattle.mintc_settling.specs.Travels.{early_travel}
+use Rattle.mintc_departure.specs.Travels.{early_travel}
 use Rattle.mintc_departure.proofs.EarlyLaws.{early-arrival-is, rising-part}
 
 -- Two functions that agree on what passes give the same lists.

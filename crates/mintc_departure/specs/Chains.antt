@@ -1,11 +1,10 @@
 -- the pairs that have each element at one end, as chains of numbers from the last one down
-use Rattle.std.specs.Prelude.{◌≡◌, ◌≢◌, ◌<◌, ◌≤◌, ◌+◌, ℕ, List, length, slice_index}
+use Rattle.std.specs.Prelude.{◌≡◌, ◌≢◌, ◌<◌, ◌≤◌, ◌+◌, ℕ, List, length, slice_index, slice_index_or}
 use Rattle.mintc_timing.specs.declared.parts.Pair.{Pair}
 use Rattle.mintc_timing.specs.Design.{no_pair}
 use Rattle.mintc_departure.specs.declared.chains.Chains.{Chains}
 use Rattle.mintc_departure.specs.declared.chains.End.{End}
 use Rattle.mintc_departure.specs.declared.chains.End.TheVariants.{First, Second}
-use Rattle.std.specs.Prelude.{slice_index_or}
 
 -- the element at an end of a pair
 abbrev pub end_of : End → Pair → ℕ

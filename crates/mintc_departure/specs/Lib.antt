@@ -1,3 +1,8 @@
+pub mod Clocked
+pub mod Checks
+pub mod Networks
+pub mod Travels
+pub mod Settled
 pub mod Rounds
 pub mod Chains
 pub mod Excesses

@@ -3,10 +3,10 @@ use Rattle.std.specs.Prelude.{◌≡◌, ◌<◌, ◌≤◌, ◌^◌, ℕ, ℤ, 
 use Rattle.mintc_timing.specs.declared.clocking.Schedule.{Schedule}
 use Rattle.mintc_timing.specs.Design.{Design, Timing, element_at, element_count}
 use Rattle.mintc_timing.specs.Departures.{departure, early_departure, AreExactEarly, AreAtMost}
-use Rattle.mintc_places.specs.Places.{IsIn, room}
+use Rattle.mintc_bitset.specs.BitSet.{IsIn, room}
 use Rattle.mintc_departure.specs.declared.arrivals.TheConstants.{NEVER}
-use Rattle.mintc_settling.specs.Settled.{IsSum}
-use Rattle.mintc_settling.specs.Travels.{early_start_of}
+use Rattle.mintc_departure.specs.Settled.{IsSum}
+use Rattle.mintc_departure.specs.Travels.{early_start_of}
 
 -- a departure with the delay of one pair added
 abbrev pub IsArrivalSum : ℤ → Type 0

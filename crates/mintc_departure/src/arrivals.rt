@@ -1,14 +1,14 @@
 //! The earliest arrivals at each element.
 ghost use Rattle.std.specs.Prelude.{◌≡◌, ◌<◌, ◌≤◌, ℕ, length, slice_set};
 ghost use Rattle.std.specs.Int.{int_min};
-ghost use Rattle.mintc_walks.specs.Walks.{value_at};
+ghost use Rattle.mintc_graph_walks.specs.Walks.{value_at};
 ghost use Rattle.mintc_timing.specs.Departures.{early_arrival, early_arrivals};
 ghost use Rattle.mintc_timing.specs.Design.{element_count, pair_at};
 ghost use Rattle.mintc_timing.specs.Extremes.{least_of};
 ghost use Rattle.mintc_departure.specs.Rounds.{AreSums, IsArrivalSum, IsFirst};
 
+use crate::clocked_system::ClockedSystem;
 use mintc_constraints::Room;
-use mintc_settling::ClockedSystem;
 
 /// The arrival at an element that no pair leads to: later than any other.
 pub const NEVER: i128 = i128::MAX;

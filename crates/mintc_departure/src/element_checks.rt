@@ -1,8 +1,8 @@
 //! What the setups and the holds of the elements ask of a schedule, and by how much it fails.
-#![tactic(auto, using(mintc_settling::proofs::SharedFailedLaws::turns))]
+#![tactic(auto, using(crate::proofs::FailedLaws::turns))]
 
 ghost use Rattle.std.specs.Prelude.{◌≡◌, ◌<◌, ◌++◌, ◌∷◌, [], ◌⊎◌, ℕ, ℤ, pos, if◌then◌else◌, List, length, filter_map, option_map, IfSome, OnOk};
-ghost use Rattle.mintc_walks.specs.Walks.{value_at};
+ghost use Rattle.mintc_graph_walks.specs.Walks.{value_at};
 ghost use Rattle.mintc_timing.specs.Clocking.{width_of};
 ghost use Rattle.mintc_timing.specs.Departures.{departure, early_arrivals, late_arrivals};
 ghost use Rattle.mintc_timing.specs.Design.{element_at, element_count, phase_of};
@@ -11,15 +11,16 @@ ghost use Rattle.mintc_timing.specs.Limits.{IsNumerator};
 ghost use Rattle.mintc_timing.specs.Violations.{check, failed, hold_amount, hold_checks, setup_amount, setup_checks};
 ghost use Rattle.mintc_departure.specs.Excesses.{IsExcess, IsLast};
 ghost use Rattle.mintc_departure.specs.Rounds.{AreSums, IsArrivalSum, IsFirst};
-ghost use Rattle.mintc_settling.specs.Settled.{IsSum};
+ghost use Rattle.mintc_departure.specs.Settled.{IsSum};
 
 use crate::arrivals::NEVER;
+use crate::clock_checks::judge;
+use crate::clocked_system::ClockedSystem;
 use crate::latest::LONG_AGO;
 use mintc_constraints::Room;
-use mintc_links::{scaled, width};
-use mintc_settling::{ClockedSystem, judge};
 use mintc_text::OutOfMemory;
 use mintc_timing::{Broken, Violation};
+use mintc_timing_links::{scaled, width};
 
 /// By how much an element fails its setup, by its late departure and its latest arrival; a flop that no pair leads to has
 /// no setup to keep.

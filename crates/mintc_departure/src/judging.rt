@@ -4,13 +4,15 @@ ghost use Rattle.mintc_timing.specs.Departures.{AreEarly, AreLate};
 ghost use Rattle.mintc_timing.specs.Design.{element_count, phase_count};
 ghost use Rattle.mintc_timing.specs.Limits.{IsInRange};
 ghost use Rattle.mintc_timing.specs.Violations.{AreViolations, IsLoop, check, failed, hold_checks, loop_amount, setup_checks};
-ghost use Rattle.mintc_settling.specs.Settled.{IsSum};
+ghost use Rattle.mintc_departure.specs.Settled.{IsSum};
 
+use crate::clock_checks::judge_clock;
+use crate::clocked_system::ClockedSystem;
 use crate::element_checks::{judge_holds, judge_setups};
 use crate::latest::gather_latest;
-use crate::rising::rise_early;
+use crate::rising::sweep_early;
+use crate::settling::{Settling, late};
 use mintc_constraints::Room;
-use mintc_settling::{ClockedSystem, Settling, judge_clock, late};
 use mintc_text::{Numbers, OutOfMemory};
 use mintc_timing::{Broken, Schedule, System, Violation};
 use std::alloc::Global;
@@ -77,7 +79,7 @@ fn judge_elements(
 {
     gather_latest(clocked, room);
     judge_setups(clocked, room, violations)?;
-    rise_early(alloc, clocked, room)?;
+    sweep_early(alloc, clocked, room)?;
     judge_holds(clocked, room, violations)
 }
 

@@ -1,7 +1,7 @@
 //! The latest arrivals at each element.
 ghost use Rattle.std.specs.Prelude.{◌≡◌, ◌<◌, ◌≤◌, ℕ, length, slice_set};
 ghost use Rattle.std.specs.Int.{int_max};
-ghost use Rattle.mintc_walks.specs.Walks.{value_at};
+ghost use Rattle.mintc_graph_walks.specs.Walks.{value_at};
 ghost use Rattle.mintc_timing.specs.Departures.{late_arrival, late_arrivals};
 ghost use Rattle.mintc_timing.specs.Design.{element_count, pair_at};
 ghost use Rattle.mintc_timing.specs.Extremes.{greatest_of};
@@ -9,8 +9,8 @@ ghost use Rattle.mintc_departure.specs.Excesses.{IsLast};
 ghost use Rattle.mintc_departure.specs.Rounds.{AreSums, IsArrivalSum};
 
 use crate::arrivals::fill;
+use crate::clocked_system::ClockedSystem;
 use mintc_constraints::Room;
-use mintc_settling::ClockedSystem;
 
 /// The latest arrival at an element that no pair leads to: earlier than any other.
 pub const LONG_AGO: i128 = i128::MIN;

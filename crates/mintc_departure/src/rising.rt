@@ -1,8 +1,8 @@
 //! The early departures: each rises to what the others make it, and only elements that may change are looked at.
 ghost use Rattle.std.specs.Prelude.{◌≡◌, ◌≢◌, ◌<◌, ◌≤◌, ◌<ℤ◌, ◌≤ℤ◌, ◌+◌, ◌*◌, ◌^◌, ℕ, length, slice_set, IfOk, OnOk};
 ghost use Rattle.std.specs.Bool.{OnTrue, OnFalse};
-ghost use Rattle.mintc_walks.specs.Walks.{value_at};
-ghost use Rattle.mintc_places.specs.Places.{IsIn, room};
+ghost use Rattle.mintc_graph_walks.specs.Walks.{value_at};
+ghost use Rattle.mintc_bitset.specs.BitSet.{IsIn, room};
 ghost use Rattle.mintc_timing.specs.Departures.{departure, early_arrivals, early_departure, AreEarly, AreLate};
 ghost use Rattle.mintc_timing.specs.Design.{element_count, pair_at, phase_count};
 ghost use Rattle.mintc_timing.specs.Extremes.{least_of};
@@ -11,10 +11,10 @@ ghost use Rattle.mintc_departure.specs.Rounds.{AreSums, AreSwept, IsFirst};
 
 use crate::arrivals::{NEVER, arrival, gather};
 use crate::chains::{Chains, End};
+use crate::clocked_system::ClockedSystem;
 use crate::rounds::{departs, fill_early_starts};
+use mintc_bitset::BitSet;
 use mintc_constraints::Room;
-use mintc_places::Places;
-use mintc_settling::ClockedSystem;
 use mintc_text::OutOfMemory;
 use mintc_timing::System;
 use std::alloc::Global;
@@ -38,7 +38,7 @@ fn earliest(clocked: &ClockedSystem<'_>, into: &Chains, departures: &[i64], elem
 }
 
 /// Makes an element's departure what its earliest arrival makes it. Whether it's another one.
-fn renew(clocked: &ClockedSystem<'_>, into: &Chains, room: &mut Room, element: usize) -> bool
+fn recompute(clocked: &ClockedSystem<'_>, into: &Chains, room: &mut Room, element: usize) -> bool
     requires into { AreChains clocked.now.system.now.pairs End.Second (element_count clocked.now.system.now.flat) into.now }
     requires departures { AreSums clocked.now.system.now.flat room.old.early }
     requires element { element < element_count clocked.now.system.now.flat }
@@ -60,7 +60,7 @@ fn renew(clocked: &ClockedSystem<'_>, into: &Chains, room: &mut Room, element: u
 }
 
 /// Takes in each element that a pair from this one leads to.
-fn wake(system: &System, out: &Chains, stale: &mut Places, element: usize)
+fn wake(system: &System, out: &Chains, stale: &mut BitSet, element: usize)
     requires out { AreChains system.now.pairs End.First (element_count system.now.flat) out.now }
     requires element { element < element_count system.now.flat }
     requires places { element_count system.now.flat ≤ room stale.old.words.items }
@@ -82,7 +82,7 @@ fn touch(
     into: &Chains,
     out: &Chains,
     room: &mut Room,
-    stale: &mut Places,
+    stale: &mut BitSet,
     element: usize,
 ) -> bool
     requires into { AreChains clocked.now.system.now.pairs End.Second (element_count clocked.now.system.now.flat) into.now }
@@ -99,7 +99,7 @@ fn touch(
 {
     let _count = clocked.count();
     stale.remove(element);
-    if !renew(clocked, into, room, element) {
+    if !recompute(clocked, into, room, element) {
         return false;
     }
     wake(clocked.system, out, stale, element);
@@ -112,7 +112,7 @@ fn sweep(
     into: &Chains,
     out: &Chains,
     room: &mut Room,
-    stale: &mut Places,
+    stale: &mut BitSet,
 ) -> bool
     requires into { AreChains clocked.now.system.now.pairs End.Second (element_count clocked.now.system.now.flat) into.now }
     requires out { AreChains clocked.now.system.now.pairs End.First (element_count clocked.now.system.now.flat) out.now }
@@ -135,13 +135,13 @@ fn sweep(
 }
 
 /// The places of so many elements, all in it.
-fn all_of(alloc: Global, count: usize) -> Result<Places, OutOfMemory>
+fn all_of(alloc: Global, count: usize) -> Result<BitSet, OutOfMemory>
     requires { count < 2 ^ 32 }
     ensures places { IfOk result (λ places. count ≤ room places.words.items) }
     ensures few { IfOk result (λ places. length places.words.items ≤ 2 ^ 32) }
     ensures all { IfOk result (λ places. (l : ℕ) → l < count → IsIn places.words.items l) }
 {
-    let Ok(mut places) = Places::new(alloc, count) else {
+    let Ok(mut places) = BitSet::new(alloc, count) else {
         return Err(OutOfMemory);
     };
     for place in 0..count {
@@ -156,7 +156,7 @@ fn rise(
     into: &Chains,
     out: &Chains,
     room: &mut Room,
-    stale: &mut Places,
+    stale: &mut BitSet,
 )
     requires into { AreChains clocked.now.system.now.pairs End.Second (element_count clocked.now.system.now.flat) into.now }
     requires out { AreChains clocked.now.system.now.pairs End.First (element_count clocked.now.system.now.flat) out.now }
@@ -171,7 +171,7 @@ fn rise(
 }
 
 /// The early departures, by the room's late ones. The earliest arrivals by them are then the room's values.
-pub(crate) fn rise_early(
+pub(crate) fn sweep_early(
     alloc: Global,
     clocked: &ClockedSystem<'_>,
     room: &mut Room,

@@ -1,17 +1,17 @@
 //! The early departures: rounds that rise from where no data reaches an element, until nothing changes.
 ghost use Rattle.std.specs.Prelude.{◌≡◌, ◌≢◌, ◌<◌, ◌≤◌, ◌+◌, ◌*◌, ◌⊎◌, ℕ, ℤ, List, length};
 ghost use Rattle.std.specs.Bool.{OnTrue, OnFalse};
-ghost use Rattle.mintc_walks.specs.Walks.{value_at};
+ghost use Rattle.mintc_graph_walks.specs.Walks.{value_at};
 ghost use Rattle.mintc_timing.specs.Departures.{departure, early_arrivals, early_departure, AreEarly, AreLate};
 ghost use Rattle.mintc_timing.specs.Design.{element_count, phase_count};
 ghost use Rattle.mintc_timing.specs.Extremes.{least_of};
 ghost use Rattle.mintc_timing.specs.Limits.{IsInRange};
 ghost use Rattle.mintc_departure.specs.Rounds.{AreSums, IsArrivalSum, IsFirst};
-ghost use Rattle.mintc_settling.specs.Travels.{early_start_of};
+ghost use Rattle.mintc_departure.specs.Travels.{early_start_of};
 
 use crate::arrivals::{NEVER, gather};
+use crate::clocked_system::ClockedSystem;
 use mintc_constraints::Room;
-use mintc_settling::ClockedSystem;
 use mintc_timing::{Schedule, System};
 
 /// When an element's data leaves at the earliest, by its earliest arrival.

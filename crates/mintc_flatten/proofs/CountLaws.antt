@@ -6,17 +6,17 @@ use Rattle.std.proofs.lemmas.List.Elements.{All-from_recursion}
 use Rattle.mintc_cells.specs.Rules.{pins}
 use Rattle.mintc_netlist.specs.declared.module.Item.{Item}
 use Rattle.mintc_netlist.specs.Nets.{nets_of}
-use Rattle.mintc_hierarchy.specs.declared.targets.Target.{Target}
-use Rattle.mintc_hierarchy.specs.declared.targets.Target.TheVariants.{OfCell, OfModule, OfNothing}
+use Rattle.mintc_flatten_hierarchy.specs.declared.targets.Target.{Target}
+use Rattle.mintc_flatten_hierarchy.specs.declared.targets.Target.TheVariants.{OfCell, OfModule, OfNothing}
 use Rattle.mintc_flatten.specs.declared.counts.Count.{Count}
-use Rattle.mintc_hierarchy.specs.Sources.{Source, module_at, cell_at, target_in, targets_in}
-use Rattle.mintc_hierarchy.specs.Walks.{Counts, counts, plus, deepest, depth}
+use Rattle.mintc_flatten_hierarchy.specs.Sources.{Source, module_at, cell_at, target_in, targets_in}
+use Rattle.mintc_flatten_hierarchy.specs.Walks.{Counts, counts, plus, deepest, depth}
 use Rattle.mintc_flatten.specs.Totals.{part, sum_parts, capped, IsCapped, IsCount, no_count, IsCounted, AreCounted, depth_of, greatest_depth}
-use Rattle.mintc_targets.specs.Orders.{IsThere, Stands, IsOrder}
-use Rattle.mintc_targets.proofs.SharedThereLaws.{there}
+use Rattle.mintc_flatten_binding.specs.Orders.{IsThere, Stands, IsOrder}
+use Rattle.mintc_flatten_binding.proofs.SharedThereLaws.{there}
 use Rattle.mintc_flatten.proofs.OrderLaws.{all_in-parts, depth-parts}
-use Rattle.mintc_hierarchy.proofs.SharedOrderedLaws.{plus_assoc, none_plus, plus_none}
-use Rattle.mintc_hierarchy.proofs.SharedLengthLaws.{length-pins_of}
+use Rattle.mintc_flatten_hierarchy.proofs.SharedOrderedLaws.{plus_assoc, none_plus, plus_none}
+use Rattle.mintc_flatten_hierarchy.proofs.SharedLengthLaws.{length-pins_of}
 
 pub capped_sum : (a b : ℕ) → capped (capped a + capped b) ≡ capped (a + b)
 capped_sum a b = omega arith

@@ -6,22 +6,22 @@ use Rattle.std.proofs.lemmas.List.{length-map, append-nil}
 use Rattle.mintc_cells.specs.Rules.{pins}
 use Rattle.mintc_netlist.specs.declared.module.Item.{Item}
 use Rattle.mintc_netlist.specs.Nets.{nets_of}
-use Rattle.mintc_hierarchy.specs.declared.targets.Target.{Target}
-use Rattle.mintc_hierarchy.specs.declared.targets.Target.TheVariants.{OfCell, OfModule, OfNothing}
-use Rattle.mintc_hierarchy.specs.declared.hierarchy.Scope.{Scope}
-use Rattle.mintc_hierarchy.specs.declared.hierarchy.Leaf.{Leaf}
-use Rattle.mintc_hierarchy.specs.declared.hierarchy.Inner.{Inner}
-use Rattle.mintc_hierarchy.specs.declared.hierarchy.Join.{Join}
-use Rattle.mintc_hierarchy.specs.declared.hierarchy.Inner.TheVariants as inner
-use Rattle.mintc_hierarchy.specs.declared.hierarchy.TopPort.{TopPort}
-use Rattle.mintc_hierarchy.specs.declared.hierarchy.Hierarchy.{Hierarchy}
+use Rattle.mintc_flatten_hierarchy.specs.declared.targets.Target.{Target}
+use Rattle.mintc_flatten_hierarchy.specs.declared.targets.Target.TheVariants.{OfCell, OfModule, OfNothing}
+use Rattle.mintc_flatten_hierarchy.specs.declared.hierarchy.Scope.{Scope}
+use Rattle.mintc_flatten_hierarchy.specs.declared.hierarchy.Leaf.{Leaf}
+use Rattle.mintc_flatten_hierarchy.specs.declared.hierarchy.Inner.{Inner}
+use Rattle.mintc_flatten_hierarchy.specs.declared.hierarchy.Join.{Join}
+use Rattle.mintc_flatten_hierarchy.specs.declared.hierarchy.Inner.TheVariants as inner
+use Rattle.mintc_flatten_hierarchy.specs.declared.hierarchy.TopPort.{TopPort}
+use Rattle.mintc_flatten_hierarchy.specs.declared.hierarchy.Hierarchy.{Hierarchy}
 use Rattle.mintc_netlist.specs.Connections.{ports_of}
-use Rattle.mintc_hierarchy.specs.Sources.{Source, module_at, cell_at, target_in}
-use Rattle.mintc_hierarchy.specs.Walks.{Counts, counts, plus, size_of, Place, place_at, Step, step_at, total, after, steps_from, inside, walk}
-use Rattle.mintc_hierarchy.specs.Hierarchies.{scope_in, leaf_in, inner_in, joins_in, net_of, nets_in, hierarchy_of, top_scope, top_port}
+use Rattle.mintc_flatten_hierarchy.specs.Sources.{Source, module_at, cell_at, target_in}
+use Rattle.mintc_flatten_hierarchy.specs.Walks.{Counts, counts, plus, size_of, Place, place_at, Step, step_at, total, after, steps_from, inside, walk}
+use Rattle.mintc_flatten_hierarchy.specs.Hierarchies.{scope_in, leaf_in, inner_in, joins_in, net_of, nets_in, hierarchy_of, top_scope, top_port}
 use Rattle.mintc_flatten.specs.Growing.{Lists, lists, sizes, grown_by, grown, grown_all}
-use Rattle.mintc_hierarchy.proofs.SharedOrderedLaws.{plus_assoc, plus_none, none_plus}
-use Rattle.mintc_hierarchy.proofs.SharedLengthLaws.{length-pins_of}
+use Rattle.mintc_flatten_hierarchy.proofs.SharedOrderedLaws.{plus_assoc, plus_none, none_plus}
+use Rattle.mintc_flatten_hierarchy.proofs.SharedLengthLaws.{length-pins_of}
 
 same_counts : (a b c x y z : ℕ) → a ≡ x → b ≡ y → c ≡ z → counts a b c ≡ counts x y z
 same_counts a b c x y z p q r = ap (λ n. counts n b c) p ∙ ap (λ n. counts x n c) q ∙ ap (λ n. counts x y n) r

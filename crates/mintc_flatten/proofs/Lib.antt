@@ -1,3 +1,4 @@
+mod JoinLaws
 mod TotalLaws
 mod OrderLaws
 mod CountLaws

@@ -9,12 +9,12 @@ use Rattle.mintc_text.specs.declared.refusals.Kind.TheVariants as kind
 use Rattle.mintc_text.specs.declared.refusals.Refusal.{Refusal}
 use Rattle.mintc_text.specs.declared.refusals.Refusal.TheVariants as refusal
 use Rattle.mintc_flatten.specs.declared.counts.Count.{Count}
-use Rattle.mintc_hierarchy.specs.Sources.{Source, module_at, is_stub}
-use Rattle.mintc_hierarchy.specs.Walks.{depth}
+use Rattle.mintc_flatten_hierarchy.specs.Sources.{Source, module_at, is_stub}
+use Rattle.mintc_flatten_hierarchy.specs.Walks.{depth}
 use Rattle.mintc_flatten.specs.Totals.{all_in, capped, IsCount, AreCounted, no_count}
-use Rattle.mintc_targets.specs.Orders.{HoldsAll}
-use Rattle.mintc_hierarchy.specs.Hierarchies.{hierarchy_of}
-use Rattle.mintc_hierarchy.specs.Refusals.{over_limit, limit_refusal}
+use Rattle.mintc_flatten_binding.specs.Orders.{HoldsAll}
+use Rattle.mintc_flatten_hierarchy.specs.Hierarchies.{hierarchy_of}
+use Rattle.mintc_flatten_hierarchy.specs.Refusals.{over_limit, limit_refusal}
 use Rattle.mintc_flatten.proofs.TotalLaws.{hierarchy-scopes, hierarchy-leaves, hierarchy-inner}
 
 passes_alike : (n a : ℕ) → n < MOST_TOLD → nat_lt n (capped a) ≡ nat_lt n a

@@ -1,12 +1,12 @@
 -- In an order of modules, the counts of each follow from those of the modules that it instantiates.
 use Rattle.std.proofs.Common.{◌≡◌, ℕ, zero, suc, ◌<◌, ◌≤◌, List, [], ◌∷◌, length, slice_index, max, add-zero, refl, sym, ap, ◌∙◌, subst, arith}
 use Rattle.std.specs.List.{AllByRecursion}
-use Rattle.mintc_hierarchy.specs.declared.targets.Target.{Target}
-use Rattle.mintc_hierarchy.specs.declared.targets.Target.TheVariants.{OfCell, OfModule, OfNothing}
-use Rattle.mintc_hierarchy.specs.Sources.{Source, module_at, cell_at, pins_of, targets_in}
-use Rattle.mintc_hierarchy.specs.Walks.{Counts, counts, plus, size_of, deepest, depth}
+use Rattle.mintc_flatten_hierarchy.specs.declared.targets.Target.{Target}
+use Rattle.mintc_flatten_hierarchy.specs.declared.targets.Target.TheVariants.{OfCell, OfModule, OfNothing}
+use Rattle.mintc_flatten_hierarchy.specs.Sources.{Source, module_at, cell_at, pins_of, targets_in}
+use Rattle.mintc_flatten_hierarchy.specs.Walks.{Counts, counts, plus, size_of, deepest, depth}
 use Rattle.mintc_flatten.specs.Totals.{sum_of, content, all_in, part, sum_parts}
-use Rattle.mintc_targets.specs.Orders.{Stands, IsOrder}
+use Rattle.mintc_flatten_binding.specs.Orders.{Stands, IsOrder}
 
 -- two depths at which the modules of an order have the same inside
 abbrev Same : Source → List ℕ → ℕ → ℕ → ℕ → Type 0

@@ -5,9 +5,9 @@ use Rattle.std.proofs.lemmas.Simd.{map-map}
 use Rattle.mintc_netlist.specs.declared.module.Module.{Module}
 use Rattle.mintc_netlist.specs.Nets.{Bit, bits_of, range_of, is_output, place_of}
 use Rattle.mintc_netlist.specs.Connections.{port_of}
-use Rattle.mintc_hierarchy.specs.declared.hierarchy.TopPort.{TopPort}
-use Rattle.mintc_hierarchy.specs.Hierarchies.{top_port}
-use Rattle.mintc_nets.specs.Tables.{bit_place}
+use Rattle.mintc_flatten_hierarchy.specs.declared.hierarchy.TopPort.{TopPort}
+use Rattle.mintc_flatten_hierarchy.specs.Hierarchies.{top_port}
+use Rattle.mintc_netlist_nets.specs.Tables.{bit_place}
 
 -- what is there among some options
 abbrev there : List (Option ℕ) → List ℕ

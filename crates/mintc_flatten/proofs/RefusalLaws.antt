@@ -6,8 +6,8 @@ use Rattle.mintc_text.specs.declared.refusals.Refusal.TheVariants as refusal
 use Rattle.mintc_text.specs.declared.refusals.Stop.{Stop}
 use Rattle.mintc_text.specs.declared.refusals.Stop.TheVariants as stop
 use Rattle.mintc_text.specs.Stops.{StopsAt}
-use Rattle.mintc_hierarchy.specs.Sources.{Source}
-use Rattle.mintc_hierarchy.specs.Refusals.{top_refusal}
+use Rattle.mintc_flatten_hierarchy.specs.Sources.{Source}
+use Rattle.mintc_flatten_hierarchy.specs.Refusals.{top_refusal}
 
 pub stops-more : (P Q : Refusal → Type 0) → ((r : Refusal) → P r → Q r) → (s : Stop) → StopsAt P s → StopsAt Q s
 stops-more P Q f (stop.Refused r) h = f r h

@@ -5,11 +5,11 @@ use Rattle.std.proofs.lemmas.List.{take_more}
 use Rattle.std.proofs.lemmas.List.Elements.{filter-append}
 use Rattle.mintc_netlist.specs.declared.module.Item.{Item}
 use Rattle.mintc_netlist.specs.declared.module.Module.{Module}
-use Rattle.mintc_hierarchy.specs.declared.targets.Target.{Target}
-use Rattle.mintc_hierarchy.specs.declared.targets.Target.TheVariants.{OfCell, OfModule, OfNothing}
-use Rattle.mintc_hierarchy.specs.Sources.{Source, module_at, is_stub, scope_number, target_in, targets_in}
-use Rattle.mintc_hierarchy.specs.Refusals.{instantiates}
-use Rattle.mintc_targets.proofs.SharedBoolLaws.{or_assoc, or_false}
+use Rattle.mintc_flatten_hierarchy.specs.declared.targets.Target.{Target}
+use Rattle.mintc_flatten_hierarchy.specs.declared.targets.Target.TheVariants.{OfCell, OfModule, OfNothing}
+use Rattle.mintc_flatten_hierarchy.specs.Sources.{Source, module_at, is_stub, scope_number, target_in, targets_in}
+use Rattle.mintc_flatten_hierarchy.specs.Refusals.{instantiates}
+use Rattle.mintc_flatten_binding.proofs.SharedBoolLaws.{or_assoc, or_false}
 use Rattle.mintc_flatten.specs.Tops.{is_module, is_any_module, Marks, AreMarks}
 
 any_one : (k : ℕ) (t : Target) (xs : List ℕ) (b : Bool) → list_any (nat_eq k) xs ≡ b → list_any (nat_eq k) (cons_option (scope_number t) xs) ≡ (is_module k t || b)

@@ -4,13 +4,13 @@ use Rattle.std.proofs.lemmas.List.{length-map}
 use Rattle.std.specs.List.{flat_map}
 use Rattle.mintc_netlist.specs.declared.module.Item.{Item}
 use Rattle.mintc_netlist.specs.Nets.{nets_of}
-use Rattle.mintc_hierarchy.specs.declared.targets.Target.{Target}
-use Rattle.mintc_hierarchy.specs.declared.targets.Target.TheVariants.{OfCell, OfModule, OfNothing}
-use Rattle.mintc_hierarchy.specs.Sources.{Source, module_at, target_in}
-use Rattle.mintc_hierarchy.specs.Walks.{Counts, counts, plus, size_of, Place, place_at, Step, step_at, total, after, steps_from, steps_inside, inside, walk}
-use Rattle.mintc_hierarchy.specs.Hierarchies.{inner_in, net_of, nets_in, hierarchy_of}
-use Rattle.mintc_hierarchy.proofs.SharedOrderedLaws.{plus_assoc, none_plus}
-use Rattle.mintc_hierarchy.proofs.SharedLengthLaws.{scopes-length, leaves-length, inner-length}
+use Rattle.mintc_flatten_hierarchy.specs.declared.targets.Target.{Target}
+use Rattle.mintc_flatten_hierarchy.specs.declared.targets.Target.TheVariants.{OfCell, OfModule, OfNothing}
+use Rattle.mintc_flatten_hierarchy.specs.Sources.{Source, module_at, target_in}
+use Rattle.mintc_flatten_hierarchy.specs.Walks.{Counts, counts, plus, size_of, Place, place_at, Step, step_at, total, after, steps_from, steps_inside, inside, walk}
+use Rattle.mintc_flatten_hierarchy.specs.Hierarchies.{inner_in, net_of, nets_in, hierarchy_of}
+use Rattle.mintc_flatten_hierarchy.proofs.SharedOrderedLaws.{plus_assoc, none_plus}
+use Rattle.mintc_flatten_hierarchy.proofs.SharedLengthLaws.{scopes-length, leaves-length, inner-length}
 use Rattle.mintc_flatten.specs.Totals.{sum_of, content_by, content, all_in}
 
 pub total-append : (s : Source) (xs ys : List Step) → total s (xs ++ ys) ≡ plus (total s xs) (total s ys)

@@ -1,14 +1,14 @@
 -- The lists of a hierarchy while they grow, step by step.
 use Rattle.std.specs.Prelude.{List, [], ◌∷◌, ◌++◌, length}
 use Rattle.std.specs.Option.{option_to_list}
-use Rattle.mintc_hierarchy.specs.declared.targets.Target.{Target}
-use Rattle.mintc_hierarchy.specs.declared.hierarchy.Scope.{Scope}
-use Rattle.mintc_hierarchy.specs.declared.hierarchy.Leaf.{Leaf}
-use Rattle.mintc_hierarchy.specs.declared.hierarchy.Inner.{Inner}
-use Rattle.mintc_hierarchy.specs.declared.hierarchy.Join.{Join}
-use Rattle.mintc_hierarchy.specs.Sources.{Source, target_in}
-use Rattle.mintc_hierarchy.specs.Walks.{Counts, counts, Step}
-use Rattle.mintc_hierarchy.specs.Hierarchies.{scope_in, leaf_in, inner_in, joins_in}
+use Rattle.mintc_flatten_hierarchy.specs.declared.targets.Target.{Target}
+use Rattle.mintc_flatten_hierarchy.specs.declared.hierarchy.Scope.{Scope}
+use Rattle.mintc_flatten_hierarchy.specs.declared.hierarchy.Leaf.{Leaf}
+use Rattle.mintc_flatten_hierarchy.specs.declared.hierarchy.Inner.{Inner}
+use Rattle.mintc_flatten_hierarchy.specs.declared.hierarchy.Join.{Join}
+use Rattle.mintc_flatten_hierarchy.specs.Sources.{Source, target_in}
+use Rattle.mintc_flatten_hierarchy.specs.Walks.{Counts, counts, Step}
+use Rattle.mintc_flatten_hierarchy.specs.Hierarchies.{scope_in, leaf_in, inner_in, joins_in}
 
 pub record Lists : Type 0 where
   pub scopes : List Scope

@@ -1,3 +1,4 @@
+pub mod Joining
 pub mod Growing
 pub mod Places
 pub mod Tops

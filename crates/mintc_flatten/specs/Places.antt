@@ -1,5 +1,5 @@
 -- A scope in which the walk stands, as the code has it.
-use Rattle.mintc_hierarchy.specs.Walks.{Place, place_at}
+use Rattle.mintc_flatten_hierarchy.specs.Walks.{Place, place_at}
 use Rattle.mintc_flatten.specs.declared.walk.Place as scope
 
 abbrev pub place_in : scope.Place → Place

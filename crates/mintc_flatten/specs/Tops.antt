@@ -1,11 +1,11 @@
 -- Which modules are instantiated, as marks.
 use Rattle.std.specs.Prelude.{◌≡◌, ◌<◌, ℕ, nat_eq, Bool, false, not, ◌||◌, List, length, take, filter}
 use Rattle.std.specs.List.{list_any}
-use Rattle.mintc_hierarchy.specs.declared.targets.Target.{Target}
-use Rattle.mintc_hierarchy.specs.Sources.{Source, is_stub}
-use Rattle.mintc_hierarchy.specs.Refusals.{instantiates}
-use Rattle.mintc_hierarchy.specs.declared.targets.Target.TheVariants.{OfModule}
-use Rattle.mintc_targets.specs.Orders.{mark_at}
+use Rattle.mintc_flatten_hierarchy.specs.declared.targets.Target.{Target}
+use Rattle.mintc_flatten_hierarchy.specs.Sources.{Source, is_stub}
+use Rattle.mintc_flatten_hierarchy.specs.Refusals.{instantiates}
+use Rattle.mintc_flatten_hierarchy.specs.declared.targets.Target.TheVariants.{OfModule}
+use Rattle.mintc_flatten_binding.specs.Orders.{mark_at}
 
 -- whether a target is the module of a number, and whether some target is
 abbrev pub is_module : ℕ → Target → Bool

@@ -3,11 +3,11 @@ use Rattle.std.specs.Prelude.{◌≡◌, ◌<◌, ℕ, zero, suc, List, [], ◌�
 use Rattle.mintc_text.specs.declared.limits.TheConstants.{MOST_TOLD}
 use Rattle.mintc_netlist.specs.declared.module.Module.{Module}
 use Rattle.mintc_netlist.specs.Nets.{nets_of}
-use Rattle.mintc_hierarchy.specs.declared.targets.Target.{Target}
-use Rattle.mintc_hierarchy.specs.declared.targets.Target.TheVariants.{OfCell, OfModule, OfNothing}
+use Rattle.mintc_flatten_hierarchy.specs.declared.targets.Target.{Target}
+use Rattle.mintc_flatten_hierarchy.specs.declared.targets.Target.TheVariants.{OfCell, OfModule, OfNothing}
 use Rattle.mintc_flatten.specs.declared.counts.Count.{Count}
-use Rattle.mintc_hierarchy.specs.Sources.{Source, module_at, targets_in}
-use Rattle.mintc_hierarchy.specs.Walks.{Counts, counts, plus, size_of, depth, deepest}
+use Rattle.mintc_flatten_hierarchy.specs.Sources.{Source, module_at, targets_in}
+use Rattle.mintc_flatten_hierarchy.specs.Walks.{Counts, counts, plus, size_of, depth, deepest}
 
 -- some targets, each by itself and with what stands inside it
 abbrev pub sum_of : Source → (Target → Counts) → List Target → Counts

@@ -1,17 +1,17 @@
 //! How many scopes, leaves and inner bits a hierarchy has, and how deep it is, without building it.
 ghost use Rattle.std.specs.Prelude.{◌≡◌, ◌<◌, ◌≤◌, ◌+◌, ◌^◌, ◌-◌, ◌∷◌, ◌++◌, [], ℕ, suc, max, length, map, take, slice_index, slice_index_or, IfOk};
 ghost use Rattle.std.specs.List.{All};
-ghost use Rattle.mintc_hierarchy.specs.Sources.{source_of, targets_in};
-ghost use Rattle.mintc_hierarchy.specs.Walks.{counts, plus};
-ghost use Rattle.mintc_nets.specs.Tables.{table_of};
+ghost use Rattle.mintc_flatten_hierarchy.specs.Sources.{source_of, targets_in};
+ghost use Rattle.mintc_flatten_hierarchy.specs.Walks.{counts, plus};
+ghost use Rattle.mintc_netlist_nets.specs.Tables.{table_of};
 ghost use Rattle.mintc_flatten.specs.Totals.{capped, part, sum_parts, IsCapped, IsCounted, depth_of, greatest_depth, AreCounted, net_count};
-ghost use Rattle.mintc_targets.specs.Orders.{IsOrder};
+ghost use Rattle.mintc_flatten_binding.specs.Orders.{IsOrder};
 
 use mintc_cells::Cells;
-use mintc_hierarchy::Target;
+use mintc_flatten_binding::TargetList;
+use mintc_flatten_hierarchy::Target;
 use mintc_netlist::Module;
-use mintc_nets::Nets;
-use mintc_targets::TargetList;
+use mintc_netlist_nets::Nets;
 use mintc_text::OutOfMemory;
 use mintc_text::limits::MOST_TOLD;
 use std::alloc::Global;

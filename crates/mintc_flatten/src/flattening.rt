@@ -3,22 +3,22 @@ ghost use Rattle.std.specs.Prelude.{◌≡◌, ◌<◌, ◌^◌, ◌∷◌, [], 
 ghost use Rattle.std.specs.Option.{option_copied};
 ghost use Rattle.mintc_text.specs.Stops.{StopsAt};
 ghost use Rattle.mintc_netlist.specs.Ordinary.{IsOrdinary};
-ghost use Rattle.mintc_hierarchy.specs.Sources.{source_of, module_at, is_stub, targets_in};
-ghost use Rattle.mintc_nets.specs.Tables.{table_of};
-ghost use Rattle.mintc_hierarchy.specs.Refusals.{statements_refusal, recursive_refusal, tops_of, top_refusal, limit_refusal, IsHierarchy, IsRefusal};
+ghost use Rattle.mintc_flatten_hierarchy.specs.Sources.{source_of, module_at, is_stub, targets_in};
+ghost use Rattle.mintc_netlist_nets.specs.Tables.{table_of};
+ghost use Rattle.mintc_flatten_hierarchy.specs.Refusals.{statements_refusal, recursive_refusal, tops_of, top_refusal, limit_refusal, IsHierarchy, IsRefusal};
 
 use crate::limits::check_limits;
 use crate::tops::find_tops;
 use crate::walk::hierarchy;
 use mintc_cells::Cells;
-use mintc_faults::{
+use mintc_flatten_binding::{Source, TargetList, find_nets, find_targets};
+use mintc_flatten_hierarchy::Hierarchy;
+use mintc_flatten_rules::{
     refuse_name_twice, refuse_no_module, refuse_no_pin, refuse_recursive, refuse_two_drivers,
     refuse_width,
 };
-use mintc_hierarchy::Hierarchy;
 use mintc_netlist::{Module, Netlist};
-use mintc_nets::Nets;
-use mintc_targets::{Source, TargetList, find_nets, find_targets};
+use mintc_netlist_nets::Nets;
 use mintc_text::{Name, OutOfMemory, Refusal, Stop};
 use std::alloc::Global;
 

@@ -2,15 +2,15 @@
 ghost use Rattle.std.specs.Prelude.{◌≡◌, ◌<◌, ◌^◌, ◌∷◌, [], None, Some, map, length, min, false, OnOk, IfErr};
 ghost use Rattle.mintc_text.specs.Stops.{StopsAt};
 ghost use Rattle.mintc_text.specs.declared.refusals.Kind.TheVariants as kind;
-ghost use Rattle.mintc_hierarchy.specs.Sources.{source_of, module_at, is_stub, targets_in};
-ghost use Rattle.mintc_nets.specs.Tables.{table_of};
-ghost use Rattle.mintc_hierarchy.specs.Refusals.{over_limit, limit_refusal};
+ghost use Rattle.mintc_flatten_hierarchy.specs.Sources.{source_of, module_at, is_stub, targets_in};
+ghost use Rattle.mintc_netlist_nets.specs.Tables.{table_of};
+ghost use Rattle.mintc_flatten_hierarchy.specs.Refusals.{over_limit, limit_refusal};
 
 use crate::counts::{Count, count_modules, net_counts};
 use mintc_cells::Cells;
+use mintc_flatten_binding::{TargetList, modules_in_order};
 use mintc_netlist::Module;
-use mintc_nets::Nets;
-use mintc_targets::{TargetList, modules_in_order};
+use mintc_netlist_nets::Nets;
 use mintc_text::limits::{MOST_DEPTH, MOST_INNER, MOST_LEAVES, MOST_SCOPES, MOST_TOLD};
 use mintc_text::{Kind, Refusal, Stop};
 use std::alloc::Global;

@@ -1,12 +1,12 @@
 //! The ports of the top.
 ghost use Rattle.std.specs.Prelude.{◌≡◌, Some, map, IfOk, IfSome};
-ghost use Rattle.mintc_nets.specs.Tables.{table_of};
+ghost use Rattle.mintc_netlist_nets.specs.Tables.{table_of};
 ghost use Rattle.mintc_netlist.specs.Connections.{port_of, ports_of};
-ghost use Rattle.mintc_hierarchy.specs.Hierarchies.{top_port};
+ghost use Rattle.mintc_flatten_hierarchy.specs.Hierarchies.{top_port};
 
-use mintc_hierarchy::TopPort;
+use mintc_flatten_hierarchy::TopPort;
 use mintc_netlist::Module;
-use mintc_nets::Nets;
+use mintc_netlist_nets::Nets;
 use mintc_text::{Name, Numbers, OutOfMemory};
 use std::alloc::Global;
 

@@ -3,15 +3,15 @@ ghost use Rattle.std.specs.Prelude.{◌≡◌, ◌<◌, ◌^◌, ◌&&◌, ℕ, 
 ghost use Rattle.std.specs.List.{list_any};
 ghost use Rattle.std.specs.Option.{option_copied, is_some};
 ghost use Rattle.mintc_cells.specs.Entries.{number_of};
-ghost use Rattle.mintc_hierarchy.specs.Sources.{source_of, module_at, is_stub, targets_in};
-ghost use Rattle.mintc_hierarchy.specs.Refusals.{may_be_top, tops_of};
+ghost use Rattle.mintc_flatten_hierarchy.specs.Sources.{source_of, module_at, is_stub, targets_in};
+ghost use Rattle.mintc_flatten_hierarchy.specs.Refusals.{may_be_top, tops_of};
 ghost use Rattle.mintc_flatten.specs.Tops.{is_module, is_any_module, Marks, AreMarks};
-ghost use Rattle.mintc_targets.specs.Orders.{mark_at};
+ghost use Rattle.mintc_flatten_binding.specs.Orders.{mark_at};
 
 use mintc_cells::Cells;
-use mintc_hierarchy::Target;
+use mintc_flatten_binding::TargetList;
+use mintc_flatten_hierarchy::Target;
 use mintc_netlist::Module;
-use mintc_targets::TargetList;
 use mintc_text::{Name, OutOfMemory};
 use std::alloc::Global;
 
@@ -75,7 +75,7 @@ fn is_stub(cells: &Cells, part: &Module) -> bool
 }
 
 /// Whether a module may be the top.
-fn may_be(
+fn is_top_candidate(
     cells: &Cells,
     modules: &[Module],
     number: usize,
@@ -124,7 +124,7 @@ pub fn find_tops(
     let marks = find_marks(alloc, cells, modules, targets)?;
     let mut tops = Vec::new(alloc);
     for number in 0..modules.len() {
-        let passes = may_be(cells, modules, number, &marks, top);
+        let passes = is_top_candidate(cells, modules, number, &marks, top);
         push_if(&mut tops, number as u32, passes)?;
     }
     Ok(tops)

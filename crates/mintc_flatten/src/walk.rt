@@ -1,27 +1,27 @@
 //! The walk from the top down, which makes the lists of a hierarchy.
 ghost use Rattle.std.specs.Prelude.{◌≡◌, ◌<◌, ◌^◌, ◌++◌, ◌∷◌, [], ℕ, map, length, slice_index_or, IfOk, OnOk};
 ghost use Rattle.mintc_cells.specs.Entries.{cell_at};
-ghost use Rattle.mintc_hierarchy.specs.Sources.{module_at, target_in, targets_in};
-ghost use Rattle.mintc_hierarchy.specs.Walks.{counts, place_at, step_at, steps_from, inside};
+ghost use Rattle.mintc_flatten_hierarchy.specs.Sources.{module_at, target_in, targets_in};
+ghost use Rattle.mintc_flatten_hierarchy.specs.Walks.{counts, place_at, step_at, steps_from, inside};
 ghost use Rattle.mintc_netlist.specs.Nets.{bit_of, bits_of};
-ghost use Rattle.mintc_nets.specs.Tables.{table_of};
-ghost use Rattle.mintc_hierarchy.specs.Hierarchies.{net_of, name_of, statement_of, nets_in, pins_in, joins_in, top_scope, top_port, hierarchy_of};
-ghost use Rattle.mintc_targets.specs.Homes.{source_in};
-ghost use Rattle.mintc_targets.specs.Orders.{IsThere};
+ghost use Rattle.mintc_netlist_nets.specs.Tables.{table_of};
+ghost use Rattle.mintc_flatten_hierarchy.specs.Hierarchies.{net_of, name_of, statement_of, nets_in, pins_in, joins_in, top_scope, top_port, hierarchy_of};
+ghost use Rattle.mintc_flatten_binding.specs.Homes.{source_in};
+ghost use Rattle.mintc_flatten_binding.specs.Orders.{IsThere};
 ghost use Rattle.mintc_flatten.specs.Places.{place_in};
 ghost use Rattle.mintc_flatten.specs.Growing.{lists};
 ghost use Rattle.mintc_netlist.specs.Connections.{ports_of};
 
+use crate::joins::{JoinSite, push_joins};
 use crate::ports::top_ports;
 use mintc_cells::Cells;
-use mintc_hierarchy::{
+use mintc_flatten_binding::{ModuleNets, Source, TargetList};
+use mintc_flatten_hierarchy::{
     Hierarchy, Inner, InnerList, Join, JoinList, Leaf, LeafList, Scope, ScopeList, Target, TopPort,
     TopPortList,
 };
-use mintc_joins::{Site, push_joins};
 use mintc_netlist::{Item, Module, Span};
-use mintc_nets::{Nets, bits, index_at};
-use mintc_targets::{Home, Source, TargetList};
+use mintc_netlist_nets::{Nets, bits, index_at};
 use mintc_text::{Name, OutOfMemory};
 use std::alloc::Global;
 use std::marker::Model;
@@ -44,7 +44,7 @@ impl Model for Walk {
 }
 
 /// A number that is known to be small.
-fn small(number: usize) -> Result<u32, OutOfMemory>
+fn to_u32(number: usize) -> Result<u32, OutOfMemory>
     ensures { IfOk result (λ n. n ≡ number) }
 {
     match u32::try_from(number) {
@@ -164,7 +164,7 @@ pub struct Plan<'a> {
 /// A scope: its module, its number, and its first inner bit.
 #[derive(Clone, Copy)]
 pub struct Place<'a> {
-    home: Home<'a>,
+    home: ModuleNets<'a>,
     scope: u32,
     first: u32,
 }
@@ -185,7 +185,7 @@ impl Place<'_> {
         ensures { OnOk result ((scopes leaves : ℕ) →
             joins.new.items ≡ joins.old.items ++ joins_in (source_in source.now) (step_at (place_in self.now) (counts scopes leaves own) item.now) item.now) }
     {
-        let site = Site {
+        let site = JoinSite {
             source: *source,
             home: self.home,
             first: self.first,
@@ -196,7 +196,7 @@ impl Place<'_> {
 }
 
 impl Walk {
-    ghost use Rattle.mintc_hierarchy.specs.declared.targets.Target.TheVariants.{OfCell, OfModule, OfNothing};
+    ghost use Rattle.mintc_flatten_hierarchy.specs.declared.targets.Target.TheVariants.{OfCell, OfModule, OfNothing};
     ghost use Rattle.mintc_flatten.specs.Growing.{Lists, lists, sizes, grown, grown_by, grown_all};
 
     /// Takes in a leaf that stands in a scope.
@@ -212,8 +212,8 @@ impl Walk {
         requires target { OfCell cell ≡ target_in (source_in source.now) item.now }
         ensures { OnOk result (self.new ≡ grown_by (source_in source.now) self.old (step_at (place_in place.now) (sizes self.old) item.now) (OfCell cell)) }
     {
-        let number = small(self.leaves.len())?;
-        let own = small(self.inner.len())?;
+        let number = to_u32(self.leaves.len())?;
+        let own = to_u32(self.inner.len())?;
         let name = item_name(alloc, item)?;
         let leaf = Leaf {
             scope: place.scope,
@@ -243,8 +243,8 @@ impl Walk {
         requires target { OfModule number ≡ target_in (source_in source.now) item.now }
         ensures { OnOk result (self.new ≡ grown_by (source_in source.now) self.old (step_at (place_in place.now) (sizes self.old) item.now) (OfModule number)) }
     {
-        let scope = small(self.scopes.len())?;
-        let own = small(self.inner.len())?;
+        let scope = to_u32(self.scopes.len())?;
+        let own = to_u32(self.inner.len())?;
         let name = item_name(alloc, item)?;
         let new = Scope {
             module: number,
@@ -272,7 +272,7 @@ impl Walk {
         requires { OfNothing ≡ target_in (source_in source.now) item.now }
         ensures { OnOk result (self.new ≡ grown_by (source_in source.now) self.old (step_at (place_in place.now) (sizes self.old) item.now) OfNothing) }
     {
-        let own = small(self.inner.len())?;
+        let own = to_u32(self.inner.len())?;
         let target = Target::OfNothing;
         place.push_joins(alloc, &mut self.joins, source, own, item, target)
     }
@@ -314,8 +314,8 @@ impl Walk {
         ensures { OnOk result (self.new ≡ grown_all (source_in plan.now.source) self.old
             (step_at (place_in place.now) (sizes self.old) item.now ∷ inside (source_in plan.now.source) deep (sizes self.old) item.now)) }
     {
-        let scope = small(self.scopes.len())?;
-        let own = small(self.inner.len())?;
+        let scope = to_u32(self.scopes.len())?;
+        let own = to_u32(self.inner.len())?;
         self.step(alloc, &plan.source, place, item, target)?;
         if deep == 0 {
             return Ok(());
@@ -346,7 +346,7 @@ impl Walk {
         let part = &plan.source.modules[number as usize];
         let nets = &plan.source.nets[number as usize];
         let place = Place {
-            home: Home { part, nets },
+            home: ModuleNets { part, nets },
             scope,
             first,
         };

@@ -1,3 +1,4 @@
+mod PresortLaws
 mod LibraryLaws
 mod NextLaws
 mod PlaceLaws

@@ -1,10 +1,10 @@
 -- A library in the grammar, and one that isn't.
 use Rattle.std.proofs.Common.{◌≡◌, ℕ, ◌+◌, ◌<◌, true, false, List, length, Some, None, Err, IsOk, refl, arith}
-use Rattle.mintc_liblex.specs.declared.reader.Kind.TheVariants as kind
-use Rattle.mintc_liblex.specs.Tokens.{Token, after_left}
-use Rattle.mintc_liblex.specs.Statements.{Front, count}
+use Rattle.mintc_liberty_tokens.specs.declared.reader.Kind.TheVariants as kind
+use Rattle.mintc_liberty_tokens.specs.Tokens.{Token, after_left}
+use Rattle.mintc_liberty_tokens.specs.Statements.{Front, count}
 use Rattle.mintc_liberty.specs.Texts.{behind_head, is_end, whole}
-use Rattle.mintc_liblex.specs.Reading.{kind_of}
+use Rattle.mintc_liberty_tokens.specs.Reading.{kind_of}
 
 pub is-whole : (f : Front) → is_end f.after ≡ true → IsOk (whole f)
 is-whole f e = rw e refl

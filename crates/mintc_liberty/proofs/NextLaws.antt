@@ -2,17 +2,17 @@
 use Rattle.std.proofs.Common.{◌≡◌, ℕ, Bool, true, false, not, cond, List, [], ◌∷◌, ◌++◌, filter, Option, Some, None, MatchBool, MatchOption, bytes_eq, codes, refl, sym, ap, ◌∙◌, arith}
 use Rattle.std.proofs.lemmas.Grind.{flat_map-append}
 use Rattle.std.proofs.lemmas.List.Elements.{filter-append}
-use Rattle.mintc_document.specs.Rules.{is_name}
-use Rattle.mintc_liblex.specs.declared.reader.Kind.TheVariants as kind
-use Rattle.mintc_liblex.specs.Tokens.{Token, opening, word, is_item}
-use Rattle.mintc_liblex.specs.Statements.{taken, front}
-use Rattle.mintc_liblex.specs.Reading.{kind_of, word_at, name_at, statement_rest}
-use Rattle.mintc_liblex.proofs.SharedNestLaws.{word-there}
-use Rattle.mintc_libcell.specs.Meaning.{Group, groups, only_name}
+use Rattle.mintc_toml.specs.Rules.{is_name}
+use Rattle.mintc_liberty_tokens.specs.declared.reader.Kind.TheVariants as kind
+use Rattle.mintc_liberty_tokens.specs.Tokens.{Token, opening, word, is_item}
+use Rattle.mintc_liberty_tokens.specs.Statements.{taken, front}
+use Rattle.mintc_liberty_tokens.specs.Reading.{kind_of, word_at, name_at, statement_rest}
+use Rattle.mintc_liberty_tokens.proofs.SharedNestLaws.{word-there}
+use Rattle.mintc_liberty_cell.specs.Meaning.{Group, groups, only_name}
 use Rattle.mintc_liberty.specs.Meaning.{cells_in, cell_in, under}
-use Rattle.mintc_libcell.specs.Passing.{group_at, body_at}
+use Rattle.mintc_liberty_cell.specs.Passing.{group_at, body_at}
 use Rattle.mintc_liberty.specs.Places.{is_named, named_in, named_cells, next_in, cells_next, opened, entry_from, statements_in, name_or_none}
-use Rattle.mintc_libcell.proofs.SharedGroupLaws.{group_if, group-step, group-end}
+use Rattle.mintc_liberty_cell.proofs.SharedGroupLaws.{group_if, group-step, group-end}
 
 pub opened-there : (ts us vs : List Token) (w : List ℕ) → word_at ts ≡ Some (w, us) → us ≡ opening ∷ vs → opened ts ≡ Some vs
 opened-there ts us vs w e f = ap opened (word-there ts us w e ∙ ap (λ l. word w ∷ l) f)

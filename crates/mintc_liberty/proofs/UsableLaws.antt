@@ -1,11 +1,11 @@
 -- A cell that is used has its name, and keeps its rules.
 use Rattle.std.proofs.Common.{◌≡◌, ℕ, Bool, true, false, cond, List, Option, Some, None, option_map, refl, sym, ap, ◌∙◌}
-use Rattle.mintc_document.specs.Rules.{is_name}
+use Rattle.mintc_toml.specs.Rules.{is_name}
 use Rattle.mintc_cells.specs.declared.cell.Cell.{Cell}
 use Rattle.mintc_cells.specs.Entries.{is_kept}
-use Rattle.mintc_liblex.specs.Statements.{Statements}
-use Rattle.mintc_libcell.specs.Meaning.{groups, cell_of}
-use Rattle.mintc_libcell.proofs.SharedCountLaws.{both, cell-good}
+use Rattle.mintc_liberty_tokens.specs.Statements.{Statements}
+use Rattle.mintc_liberty_cell.specs.Meaning.{groups, cell_of}
+use Rattle.mintc_liberty_cell.proofs.SharedCountLaws.{both, cell-good}
 use Rattle.mintc_liberty.specs.Meaning.{usable}
 
 used : (b : Bool) (name : List ℕ) (inner : Statements) (c : List ℕ × Cell) → is_name name ≡ b → (o : Option Cell) → cell_of inner ≡ o →

@@ -2,10 +2,10 @@
 use Rattle.std.specs.Prelude.{ℕ, if◌then◌else◌, List, [], ◌∷◌, flat_map, filter_map, Option, Some, None, option_map, Result, Ok, Err, codes, bytes_eq}
 use Rattle.std.specs.Ordering.{nat_cmp, match_ordering}
 use Rattle.std.specs.Cmp.Lexicographic.{slice_cmp}
-use Rattle.mintc_document.specs.Rules.{is_name}
+use Rattle.mintc_toml.specs.Rules.{is_name}
 use Rattle.mintc_cells.specs.declared.cell.Cell.{Cell}
-use Rattle.mintc_liblex.specs.Statements.{Statements}
-use Rattle.mintc_libcell.specs.Meaning.{Group, groups, only_name, cell_of}
+use Rattle.mintc_liberty_tokens.specs.Statements.{Statements}
+use Rattle.mintc_liberty_cell.specs.Meaning.{Group, groups, only_name, cell_of}
 use Rattle.mintc_liberty.specs.Texts.{library_of}
 
 abbrev pub under : Statements → Option (List ℕ) → List (List ℕ × Statements)

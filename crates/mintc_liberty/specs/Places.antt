@@ -4,14 +4,14 @@ use Rattle.std.specs.List.{AllPairs}
 use Rattle.std.specs.Ordering.{nat_cmp, ordering_then}
 use Rattle.std.specs.declared.cmp.Ordering.{Ordering}
 use Rattle.std.specs.Cmp.Lexicographic.{slice_cmp}
-use Rattle.mintc_document.specs.Rules.{is_name}
-use Rattle.mintc_liblex.specs.Tokens.{Token, opening, word, is_item, tokens_of}
-use Rattle.mintc_liblex.specs.Reading.{name_at}
-use Rattle.mintc_liblex.specs.Scans.{Scan}
-use Rattle.mintc_liblex.specs.Statements.{Statements, none, taken, front}
-use Rattle.mintc_libcell.specs.Meaning.{Group, groups}
+use Rattle.mintc_toml.specs.Rules.{is_name}
+use Rattle.mintc_liberty_tokens.specs.Tokens.{Token, opening, word, is_item, tokens_of}
+use Rattle.mintc_liberty_tokens.specs.Reading.{name_at}
+use Rattle.mintc_liberty_tokens.specs.Scans.{Scan}
+use Rattle.mintc_liberty_tokens.specs.Statements.{Statements, none, taken, front}
+use Rattle.mintc_liberty_cell.specs.Meaning.{Group, groups}
 use Rattle.mintc_liberty.specs.Meaning.{cells_in}
-use Rattle.mintc_libcell.specs.Passing.{body_at, group_at}
+use Rattle.mintc_liberty_cell.specs.Passing.{body_at, group_at}
 
 -- A cell under its name.
 abbrev pub Entry : Type 0

@@ -1,7 +1,7 @@
 -- A Liberty text: one group `library` with one item.
 use Rattle.std.specs.Prelude.{ℕ, ◌+◌, Bool, true, false, if◌then◌else◌, List, [], ◌∷◌, Option, Some, None, option_and_then, Result, Ok, Err, codes, bytes_eq}
-use Rattle.mintc_liblex.specs.Tokens.{Token, right, is_item, tokens_of, word_at, past, after_opening, after_closing, after_left}
-use Rattle.mintc_liblex.specs.Statements.{Statements, Front, past_semicolon, count, front}
+use Rattle.mintc_liberty_tokens.specs.Tokens.{Token, right, is_item, tokens_of, word_at, past, after_opening, after_closing, after_left}
+use Rattle.mintc_liberty_tokens.specs.Statements.{Statements, Front, past_semicolon, count, front}
 
 abbrev pub behind_name : List Token → Option (List Token)
 behind_name ts = option_and_then after_left (option_and_then after_closing (option_and_then (past is_item) (after_opening ts)))

@@ -1,18 +1,18 @@
 //! The places in a text where the cells of its library stand, in byte order of their names.
 ghost use Rattle.std.specs.Prelude.{◌≡◌, ◌≤◌, ◌<◌, ◌∷◌, List, [], drop, length, Some, None, IfOk, IfSome, IfNone, OnSome, MatchBool, MatchOption, option_map};
-ghost use Rattle.mintc_liblex.specs.Tokens.{Token};
-ghost use Rattle.mintc_liblex.specs.Scans.{IsAhead};
-ghost use Rattle.mintc_liblex.specs.Reading.{statement_rest};
+ghost use Rattle.mintc_liberty_tokens.specs.Tokens.{Token};
+ghost use Rattle.mintc_liberty_tokens.specs.Scans.{IsAhead};
+ghost use Rattle.mintc_liberty_tokens.specs.Reading.{statement_rest};
 ghost use Rattle.mintc_liberty.specs.Meaning.{put_all};
 ghost use Rattle.mintc_liberty.specs.Places.{opened, IsBehind, cells_next, named_cells, entry_from, entry_at, entries_at, name_from, place_cmp, is_same, firsts, Ascends};
 
+use crate::presorting::presort;
 use crate::texts::ROOM;
-use mintc_document::is_name;
-use mintc_libcell::{group_at, only_name};
-use mintc_liblex::statements::{call, mark, statement};
-use mintc_liblex::{Kind, Reader, Scanner};
-use mintc_sorting::bring_near;
+use mintc_liberty_cell::{group_at, only_name};
+use mintc_liberty_tokens::statements::{call, mark, statement};
+use mintc_liberty_tokens::{Kind, Reader, Scanner};
 use mintc_text::OutOfMemory;
+use mintc_toml::is_name;
 use std::alloc::Global;
 use std::cmp::Ordering;
 
@@ -138,7 +138,7 @@ pub fn sorted_places(alloc: Global, text: &[u8], library: &Scanner) -> Result<Ve
 {
     let mut places = places_of(alloc, library, most_cells(text))?;
     let room = (text.len() / 2).saturating_sub(places.len().saturating_mul(4)) / 16;
-    bring_near(alloc, library, &mut places, room)?;
+    presort(alloc, library, &mut places, room)?;
     places.sort_unstable_by(
         |one: &u32, two: &u32| -> Ordering
             ensures { result ≡ place_cmp library.entry.now.text one.now two.now }

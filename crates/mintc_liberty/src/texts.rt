@@ -5,17 +5,17 @@ ghost use Rattle.mintc_text.specs.declared.refusals.Refusal.TheVariants.{Syntax}
 ghost use Rattle.mintc_text.specs.declared.refusals.Role.TheVariants as role;
 ghost use Rattle.mintc_text.specs.Stops.{StopsAt};
 ghost use Rattle.mintc_cells.specs.Entries.{AreOrdered};
-ghost use Rattle.mintc_liblex.specs.Statements.{past_semicolon, front};
+ghost use Rattle.mintc_liberty_tokens.specs.Statements.{past_semicolon, front};
 ghost use Rattle.mintc_liberty.specs.Texts.{behind_name, behind_head, is_empty, library_of};
 ghost use Rattle.mintc_liberty.specs.Places.{entry_at, entries_at};
 ghost use Rattle.mintc_liberty.specs.Meaning.{usable, cells_of_library, liberty_cells};
 
 use crate::places::{is_same, name_from, sorted_places};
 use mintc_cells::{Cell, Cells};
-use mintc_document::is_name;
-use mintc_libcell::{body, cell_of};
-use mintc_liblex::{Kind, Reader, Scanner, mark, semicolon, statement, statements};
+use mintc_liberty_cell::{body, cell_of};
+use mintc_liberty_tokens::{Kind, Reader, Scanner, mark, semicolon, statement, statements};
 use mintc_text::{Name, OutOfMemory, Refusal, Role, Stop};
+use mintc_toml::is_name;
 use std::alloc::Global;
 
 /// How deep groups nest in the library, which is the first of 64.

@@ -6,17 +6,17 @@ use Rattle.std.proofs.lemmas.List.FromFn.{length-map-range_with_len}
 use Rattle.mintc_fraction.specs.Ratio.{Ratio}
 use Rattle.mintc_timing.specs.declared.link.Link.{Link}
 use Rattle.mintc_timing.specs.declared.clocking.Schedule.{Schedule}
-use Rattle.mintc_rings.specs.Rings.{IsClosed}
+use Rattle.mintc_graph.specs.Rings.{IsClosed}
 use Rattle.mintc_timing.specs.Design.{Timing, element_count}
 use Rattle.mintc_timing.specs.Limits.{IsDesign, IsInRange}
 use Rattle.mintc_timing.specs.Links.{links_of, link_at}
 use Rattle.mintc_timing.specs.Order.{IsTiming}
 use Rattle.mintc_timing.specs.Right.{IsRight}
 use Rattle.mintc_constraints.specs.Duality.{departure_of, departures_of, schedule_of}
-use Rattle.mintc_listing.specs.Laws.{node_count}
-use Rattle.mintc_listing.specs.Ordinary.{Constraints, IsOrdinary, constraints_of}
+use Rattle.mintc_constraints.specs.Laws.{node_count}
+use Rattle.mintc_constraints.specs.Ordinary.{Constraints, IsOrdinary, constraints_of}
 use Rattle.mintc_constraints.specs.Rooms.{Space}
-use Rattle.mintc_listing.proofs.SharedOrdinaryLaws.{ordinary}
+use Rattle.mintc_constraints.proofs.SharedOrdinaryLaws.{ordinary}
 use Rattle.mintc_timing.proofs.SharedLinkLaws.{ends_of}
 use Rattle.mintc_ratio.specs.declared.searching.Outcome.TheVariants as outcome
 use Rattle.mintc_ratio.specs.Chains.{NamesChain, links_at}

@@ -3,7 +3,7 @@ use Rattle.std.proofs.Common.{◌≡◌, ℕ, ◌-◌, ◌<◌, ℤ, pos, ◌≤
 use Rattle.std.proofs.lemmas.Int.{ints}
 use Rattle.std.proofs.lemmas.List.FromFn.{get_or-map-range_with_len}
 use Rattle.mintc_fraction.specs.Ratio.{Ratio, IsLowest}
-use Rattle.mintc_walks.specs.Walks.{value_at}
+use Rattle.mintc_graph_walks.specs.Walks.{value_at}
 use Rattle.mintc_timing.specs.declared.link.Link.{Link}
 use Rattle.mintc_timing.specs.declared.clocking.Schedule.{Schedule}
 use Rattle.mintc_timing.specs.Clocking.{start_of, width_of, end_of}
@@ -12,8 +12,8 @@ use Rattle.mintc_timing.specs.Design.{Timing, element_at, element_count, phase_c
 use Rattle.mintc_timing.specs.Limits.{IsDesign, IsPhase}
 use Rattle.mintc_timing.specs.Links.{element_node, end_node, start_node}
 use Rattle.mintc_constraints.specs.Duality.{departure_of, departures_of, schedule_of}
-use Rattle.mintc_listing.specs.Laws.{node_count}
-use Rattle.mintc_listing.specs.Ordinary.{constraints_of}
+use Rattle.mintc_constraints.specs.Laws.{node_count}
+use Rattle.mintc_constraints.specs.Ordinary.{constraints_of}
 use Rattle.mintc_ratio.specs.Greatest.{AreGreatest}
 use Rattle.mintc_ratio.proofs.SharedFinerLaws.{finer_lem}
 use Rattle.mintc_optimise.specs.Optimum.{IsEarliest, IsSolution}

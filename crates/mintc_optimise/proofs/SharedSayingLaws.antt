@@ -2,14 +2,14 @@
 use Rattle.std.proofs.Common.{◌≡◌, ℕ, ◌<◌, ℤ, pos, negsuc, ◌≤ℤ◌, ◌-ℤ◌, ◌*ℤ◌, false, List, arith}
 use Rattle.std.proofs.lemmas.Int.{ints}
 use Rattle.mintc_fraction.specs.Ratio.{Ratio}
-use Rattle.mintc_walks.specs.Walks.{value_at}
+use Rattle.mintc_graph_walks.specs.Walks.{value_at}
 use Rattle.mintc_timing.specs.Design.{Timing, element_at, element_count, phase_count, phase_of, no_element}
 use Rattle.mintc_timing.specs.Limits.{IsDesign, IsGap, IsDelay, IsNumerator, IsPhase}
 use Rattle.mintc_timing.specs.Links.{element_node, end_node, start_node, IsMet}
 use Rattle.mintc_timing.proofs.SharedProducts.{times-mono_positive}
 use Rattle.mintc_constraints.specs.Duality.{AreExactMoments}
 use Rattle.mintc_timing.proofs.SharedByKind.{EachKind, EachKind-from_all}
-use Rattle.mintc_listing.proofs.SharedOrdinaryLaws.{least_width-range}
+use Rattle.mintc_constraints.proofs.SharedOrdinaryLaws.{least_width-range}
 use Rattle.mintc_certificate.specs.Ranges.{IsDeparture}
 use Rattle.mintc_ratio.specs.Searched.{IsCycle}
 use Rattle.mintc_optimise.specs.Making.{AreSayable}

@@ -9,12 +9,12 @@ use Rattle.mintc_timing.specs.Links.{links_of, element_node, IsChain, IsTight}
 use Rattle.mintc_timing.specs.Right.{IsLeastCycle, IsRight}
 use Rattle.mintc_constraints.specs.Duality.{AreExactMoments, departures_of, schedule_of}
 use Rattle.mintc_timing.specs.Paths.{HasEnds}
-use Rattle.mintc_listing.specs.Laws.{node_count}
-use Rattle.mintc_listing.specs.Ordinary.{constraints_of}
+use Rattle.mintc_constraints.specs.Laws.{node_count}
+use Rattle.mintc_constraints.specs.Ordinary.{constraints_of}
 use Rattle.mintc_timing.proofs.SharedByKind.{All-links}
 use Rattle.mintc_constraints.proofs.SharedChainLaws.{tight_is_least_lem}
 use Rattle.mintc_constraints.proofs.SharedMomentLaws.{moments_are_right_lem}
-use Rattle.mintc_listing.proofs.SharedOrdinaryLaws.{each_between}
+use Rattle.mintc_constraints.proofs.SharedOrdinaryLaws.{each_between}
 use Rattle.mintc_ratio.specs.Greatest.{AreGreatest}
 use Rattle.mintc_ratio.specs.Searched.{IsCycle}
 use Rattle.mintc_ratio.proofs.SharedBroughtLaws.{greatest_are_brought_lem}

@@ -16,11 +16,11 @@ use Rattle.mintc_timing.proofs.SharedDepartureLaws.{late_departure-latch, late_d
 use Rattle.mintc_timing.proofs.SharedSetupLaws.{KeepsSetup-latch}
 use Rattle.mintc_timing.proofs.SharedShifts.{crosses-below, crosses-not_below}
 use Rattle.mintc_timing.specs.Paths.{HasEnds}
-use Rattle.mintc_listing.specs.Laws.{node_count}
-use Rattle.mintc_listing.specs.Ordinary.{IsOrdinary, IsOrdinaryLink, constraints_of}
+use Rattle.mintc_constraints.specs.Laws.{node_count}
+use Rattle.mintc_constraints.specs.Ordinary.{IsOrdinary, IsOrdinaryLink, constraints_of}
 use Rattle.mintc_timing.proofs.SharedArrivals.{latest, ArrivesBy, latest-opens, latest-attained, greatest-from_each}
 use Rattle.mintc_timing.proofs.SharedByKind.{EachKind-from_all}
-use Rattle.mintc_listing.proofs.SharedOrdinaryLaws.{least_width-range, ordinary}
+use Rattle.mintc_constraints.proofs.SharedOrdinaryLaws.{least_width-range, ordinary}
 use Rattle.mintc_timing.proofs.SharedLinkLaws.{ends_of}
 use Rattle.mintc_optimise.specs.Bounded.{UnboundedHasRight, NeverNeedsABound}
 

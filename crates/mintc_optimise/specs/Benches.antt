@@ -3,7 +3,7 @@ use Rattle.std.specs.Prelude.{◌≤◌, length}
 use Rattle.mintc_timing.specs.Design.{Timing}
 use Rattle.mintc_timing.specs.Right.{IsRight, IsLeastCycle, IsHopeless}
 use Rattle.mintc_constraints.specs.Duality.{schedule_of, departures_of}
-use Rattle.mintc_listing.specs.Ordinary.{Constraints, IsOrdinary}
+use Rattle.mintc_constraints.specs.Ordinary.{Constraints, IsOrdinary}
 use Rattle.mintc_constraints.specs.Rooms.{Space}
 use Rattle.mintc_ratio.specs.declared.searching.Outcome.{Outcome}
 use Rattle.mintc_ratio.specs.declared.searching.Outcome.TheVariants.{Least, Never}

@@ -1,12 +1,12 @@
 -- What the parts of a certificate are made of.
 use Rattle.std.specs.Prelude.{◌≡◌, ◌<◌, ℕ, ℤ, ◌-ℤ◌, IsFalse, List, length, map, All}
-use Rattle.mintc_walks.specs.Walks.{value_at}
+use Rattle.mintc_graph_walks.specs.Walks.{value_at}
 use Rattle.mintc_timing.specs.declared.link.Link.{Link}
 use Rattle.mintc_timing.specs.Clocking.{EachPhase}
 use Rattle.mintc_timing.specs.Design.{Design, Timing, element_at, element_count, phase_of}
 use Rattle.mintc_timing.specs.Limits.{IsNumerator}
 use Rattle.mintc_timing.specs.Links.{start_node, end_node, element_node, link_at}
-use Rattle.mintc_listing.specs.Laws.{node_count}
+use Rattle.mintc_constraints.specs.Laws.{node_count}
 use Rattle.mintc_certificate.specs.declared.members.Member.{Member}
 use Rattle.mintc_certificate.specs.CertificateText.{IsCounted}
 use Rattle.mintc_certificate.specs.Ranges.{IsDeparture}

@@ -2,10 +2,10 @@
 ghost use Rattle.std.specs.Prelude.{◌≡◌, ◌≤◌, ◌+◌, ◌*◌, IfOk};
 
 use mintc_constraints::{LinkList, Room, links};
+use mintc_graph_walks::Steps;
 use mintc_ratio::{Outcome, search};
 use mintc_text::OutOfMemory;
 use mintc_timing::System;
-use mintc_walks::Steps;
 use std::alloc::Global;
 use std::marker::Model;
 use std::sync::ledger::Ledger;
@@ -29,8 +29,8 @@ impl Model for Bench {
 
 impl Bench {
     ghost use Rattle.mintc_timing.specs.Paths.{HasEnds};
-    ghost use Rattle.mintc_listing.specs.Laws.{node_count};
-    ghost use Rattle.mintc_listing.specs.Ordinary.{constraints_of};
+    ghost use Rattle.mintc_constraints.specs.Laws.{node_count};
+    ghost use Rattle.mintc_constraints.specs.Ordinary.{constraints_of};
     ghost use Rattle.mintc_ratio.specs.Searched.{HasSearched};
     ghost use Rattle.mintc_timing.specs.Design.{Timing};
     ghost use Rattle.mintc_timing.specs.Limits.{IsDesign};

@@ -1,7 +1,7 @@
 //! The least cycle time with its certificate.
 ghost use Rattle.std.specs.Prelude.{◌≡◌, ◌≤◌, ◌+◌, ◌*◌, IfOk};
-ghost use Rattle.mintc_listing.specs.Laws.{node_count};
-ghost use Rattle.mintc_listing.specs.Ordinary.{constraints_of};
+ghost use Rattle.mintc_constraints.specs.Laws.{node_count};
+ghost use Rattle.mintc_constraints.specs.Ordinary.{constraints_of};
 ghost use Rattle.mintc_timing.specs.Links.{links_of};
 ghost use Rattle.mintc_certificate.specs.Optimal.{IsOptimal};
 ghost use Rattle.mintc_certificate.specs.Ranges.{IsCertificateInRange};
@@ -15,10 +15,10 @@ use crate::chain::members;
 use crate::times::{departures, schedule};
 use mintc_certificate::Certificate;
 use mintc_constraints::{LinkList, Room};
+use mintc_graph_walks::Steps;
 use mintc_ratio::Outcome;
 use mintc_text::OutOfMemory;
 use mintc_timing::System;
-use mintc_walks::Steps;
 use std::alloc::Global;
 use std::sync::ledger::Ledger;
 

@@ -1,6 +1,6 @@
 //! The schedule and the departures that moments of the nodes stand for.
 ghost use Rattle.std.specs.Prelude.{◌≡◌, ◌<◌, ◌-ℤ◌, IfOk, All, map};
-ghost use Rattle.mintc_walks.specs.Walks.{value_at};
+ghost use Rattle.mintc_graph_walks.specs.Walks.{value_at};
 ghost use Rattle.mintc_timing.specs.Design.{element_count, phase_count};
 ghost use Rattle.mintc_timing.specs.Limits.{IsDesign, IsInRange, IsNumerator, IsPhase};
 ghost use Rattle.mintc_timing.specs.Links.{end_node, start_node};

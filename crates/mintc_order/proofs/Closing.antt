@@ -5,7 +5,7 @@ use Rattle.mintc_timing.specs.declared.parts.TimingArc.{TimingArc}
 use Rattle.mintc_timing.specs.Paths.{arc_at, Leads}
 use Rattle.mintc_timing.specs.Accepted.{IsArcLoop, LeavesOnce}
 use Rattle.mintc_order.specs.Listings.{AreAll}
-use Rattle.mintc_order.specs.Ranges.{AreParts, AreLeaving}
+use Rattle.mintc_order.specs.OutgoingArcs.{AreParts, AreLeaving}
 use Rattle.mintc_order.specs.Searches.{EndsAt, IsClosing, IsSearch}
 
 -- Arcs of which each enters the bit that the next one leaves lead on.

@@ -1,7 +1,7 @@
 -- What a search has given out in the end.
 use Rattle.std.proofs.Common.{◌≡◌, ◌≢◌, ℕ, ◌-◌, ◌<◌, List, [], length, get_or, ap, arith}
 use Rattle.std.specs.List.{Contains}
-use Rattle.mintc_order.specs.Ranges.{AreParts}
+use Rattle.mintc_order.specs.OutgoingArcs.{AreParts}
 use Rattle.mintc_order.specs.Searches.{AreAfterEnds, IsSearch}
 
 -- Once the path is empty and all bits are met, all are given out.

@@ -3,7 +3,7 @@ use Rattle.std.proofs.Common.{◌≡◌, ◌≢◌, ℕ, ◌+◌, ◌<◌, List,
 use Rattle.std.specs.List.{Contains}
 use Rattle.std.proofs.lemmas.Bool.{cases_lt}
 use Rattle.std.proofs.lemmas.List.{get_or_append_left, get_or_push, length_push, length-set}
-use Rattle.mintc_order.specs.Ranges.{AreParts}
+use Rattle.mintc_order.specs.OutgoingArcs.{AreParts}
 use Rattle.mintc_order.specs.Searches.{EndsAt, IsOpen, IsSearch}
 
 -- A bit that isn't met, and that the next arc of the path's last bit enters, goes to the path.

@@ -8,7 +8,7 @@ use Rattle.mintc_timing.specs.Paths.{arc_at}
 use Rattle.mintc_timing.specs.Order.{IsOrder}
 use Rattle.mintc_order.specs.Gatherings.{IsAdded}
 use Rattle.mintc_order.specs.Listings.{AreAll}
-use Rattle.mintc_order.specs.Ranges.{AreLeaving, AreParts, IsPlace}
+use Rattle.mintc_order.specs.OutgoingArcs.{AreLeaving, AreParts, IsPlace}
 use Rattle.mintc_order.specs.Searches.{AreAfterEnds}
 use Rattle.mintc_order.proofs.Counting.{AreAll-count}
 

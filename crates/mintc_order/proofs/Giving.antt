@@ -4,7 +4,7 @@ use Rattle.std.specs.List.{Contains}
 use Rattle.std.proofs.lemmas.Bool.{cases_eq, cases_lt}
 use Rattle.std.proofs.lemmas.List.{get_or_append_left, get_or_default, get_or_push, get_or-take, length_push, length-set, length-take-le}
 use Rattle.std.proofs.lemmas.List.Elements.{Contains-push, Contains-append_left}
-use Rattle.mintc_order.specs.Ranges.{AreParts, IsPlace}
+use Rattle.mintc_order.specs.OutgoingArcs.{AreParts, IsPlace}
 use Rattle.mintc_order.specs.Searches.{IsOpen, IsSearch}
 
 -- The path's last bit, all of whose arcs are passed, is given out.

@@ -2,6 +2,6 @@ pub mod Counts
 pub mod Gatherings
 pub mod Indexes
 pub mod Listings
-pub mod Ranges
+pub mod OutgoingArcs
 pub mod Refusals
 pub mod Searches

@@ -1,9 +1,9 @@
 -- What holds while a search from bit to bit gives out each bit after all bits that its arcs enter. `marks` has 0 for a bit that
 -- isn't met, 1 for one that is given out, and for one of the path its place there, counted from 2.
 use Rattle.std.specs.Prelude.{◌≡◌, ◌≢◌, ◌<◌, ◌≤◌, ◌+◌, ◌*◌, ℕ, List, length, slice_index, Contains}
-use Rattle.mintc_order.specs.declared.ranges.Ranges.{Ranges}
+use Rattle.mintc_order.specs.declared.outgoing.OutgoingArcs.{OutgoingArcs}
 use Rattle.mintc_order.specs.declared.search.Search.{Search}
-use Rattle.mintc_order.specs.Ranges.{IsPlace, AreParts}
+use Rattle.mintc_order.specs.OutgoingArcs.{IsPlace, AreParts}
 
 -- The bits that the bit's arcs enter from one place to before another are given out.
 abbrev pub ArePassed : List ℕ → List ℕ → ℕ → ℕ → Type 0
@@ -43,7 +43,7 @@ pub record IsSearch (bits : ℕ) (starts ends marks path nexts given : List ℕ)
   pub is_path : IsSearchPath bits starts ends marks path nexts
   pub are_given : AreGiven bits starts ends marks given
 
-abbrev pub IsSearching : ℕ → Ranges → Search → Type 0
+abbrev pub IsSearching : ℕ → OutgoingArcs → Search → Type 0
 IsSearching bits ranges search =
     AreParts bits ranges.starts.items ranges.numbers.items ranges.ends.items
     × IsSearch bits ranges.starts.items ranges.ends.items search.marks.items search.path.items search.nexts.items search.given.items

@@ -3,10 +3,10 @@ ghost use Rattle.std.specs.Prelude.{◌≡◌, ◌<◌, ◌≤◌, ◌-◌, ℕ,
 ghost use Rattle.mintc_timing.specs.Order.{IsOrder};
 ghost use Rattle.mintc_order.specs.Gatherings.{IsAdded};
 ghost use Rattle.mintc_order.specs.Listings.{AreAll};
-ghost use Rattle.mintc_order.specs.Ranges.{AreLeaving, AreParts};
+ghost use Rattle.mintc_order.specs.OutgoingArcs.{AreLeaving, AreParts};
 ghost use Rattle.mintc_order.specs.Searches.{AreAfterEnds};
 
-use crate::ranges::Ranges;
+use crate::outgoing::OutgoingArcs;
 use mintc_timing::TimingArc;
 use std::alloc::{AllocError, Global};
 
@@ -26,7 +26,7 @@ fn add(numbers: &[u32], start: u32, stop: u32, gathered: &mut Vec<u32>) -> Resul
 pub fn gathered(
     alloc: Global,
     arcs: &[TimingArc],
-    ranges: &Ranges,
+    ranges: &OutgoingArcs,
     given: &[u32],
 ) -> Result<Vec<u32>, AllocError>
     requires parts { AreParts (length ranges.now.starts.items - 1) ranges.now.starts.items ranges.now.numbers.items ranges.now.ends.items }

@@ -15,7 +15,7 @@ ghost use Rattle.mintc_order.specs.Refusals.{NamesLoop};
 mod gathering;
 mod laws;
 mod leaving;
-mod ranges;
+mod outgoing;
 mod search;
 
 use gathering::gathered;
@@ -23,7 +23,7 @@ pub use laws::orders_exclude_loops;
 pub use leaving::Leaving;
 use mintc_text::{Numbers, Stop};
 use mintc_timing::{Flat, Order};
-use ranges::Ranges;
+use outgoing::OutgoingArcs;
 use search::Search;
 use std::alloc::Global;
 
@@ -36,7 +36,7 @@ pub fn order(alloc: Global, flat: &Flat) -> Result<Order, Stop>
     ensures stop { IfErr result (StopsAt (NamesLoop flat.now.arcs)) }
 {
     let bits = 2 * flat.elements().len() + flat.inner().items().len();
-    let Ok(ranges) = Ranges::new(alloc, flat.arcs(), bits) else {
+    let Ok(ranges) = OutgoingArcs::new(alloc, flat.arcs(), bits) else {
         return Err(Stop::OutOfMemory);
     };
     let Ok(mut search) = Search::new(alloc, bits) else {

@@ -2,7 +2,7 @@
 //! out each bit after all bits that its arcs enter.
 ghost use Rattle.std.specs.Prelude.{◌≡◌, ◌≢◌, ◌<◌, ◌≤◌, ◌^◌, ◌-◌, ◌+◌, [], ℕ, List, length, IfOk, IfErr, OnOk, IsTrue, IsFalse, slice_index, slice_set, replicate};
 
-use crate::ranges::Ranges;
+use crate::outgoing::OutgoingArcs;
 use mintc_text::{Numbers, Refusal, Stop};
 use std::alloc::{AllocError, Global};
 
@@ -27,7 +27,7 @@ pub struct Search {
 impl Search {
     ghost use Rattle.mintc_text.specs.Stops.{StopsAt};
     ghost use Rattle.mintc_timing.specs.declared.parts.TimingArc.{TimingArc};
-    ghost use Rattle.mintc_order.specs.Ranges.{AreLeaving, AreParts};
+    ghost use Rattle.mintc_order.specs.OutgoingArcs.{AreLeaving, AreParts};
     ghost use Rattle.mintc_order.specs.Refusals.{NamesLoop};
     ghost use Rattle.mintc_order.specs.Listings.{AreAll};
     ghost use Rattle.mintc_order.specs.Searches.{ArePassed, EndsAt, IsClosing, IsSearch, IsSearching, steps_of};
@@ -48,7 +48,7 @@ impl Search {
     }
 
     /// Takes a bit that isn't met to the path.
-    fn enter(&mut self, ranges: &Ranges, bit: u32) -> Result<(), AllocError>
+    fn enter(&mut self, ranges: &OutgoingArcs, bit: u32) -> Result<(), AllocError>
         requires few { length self.old.marks.items < 2 ^ 32 - 2 }
         requires search { IsSearching (length self.old.marks.items) ranges.now self.old }
         requires bit { bit < length self.old.marks.items }
@@ -83,7 +83,7 @@ impl Search {
     }
 
     /// Gives out the path's last bit, where all bits that its arcs enter are given out.
-    fn give_out(&mut self, ranges: &Ranges, bit: u32) -> Result<(), AllocError>
+    fn give_out(&mut self, ranges: &OutgoingArcs, bit: u32) -> Result<(), AllocError>
         requires search { IsSearching (length self.old.marks.items) ranges.now self.old }
         requires some { 0 < length self.old.path.items }
         requires last { slice_index self.old.path.items (length self.old.path.items - 1) ≡ bit }
@@ -113,7 +113,7 @@ impl Search {
     }
 
     /// The refusal with a loop: the next arcs of the path's bits from the one of this mark, to which the path leads back.
-    fn refuse(&self, alloc: Global, ranges: &Ranges, bit: u32) -> Stop
+    fn refuse(&self, alloc: Global, ranges: &OutgoingArcs, bit: u32) -> Stop
         requires search { IsSearching (length self.now.marks.items) ranges.now self.now }
         requires bit { bit < length self.now.marks.items }
         requires met { slice_index self.now.marks.items bit ≢ 0 }
@@ -131,7 +131,7 @@ impl Search {
     }
 
     /// Passes the arcs of the path's last bit, as far as the bits that they enter are given out, and gives the next one's place.
-    fn go_on(&mut self, ranges: &Ranges, bit: u32) -> u32
+    fn go_on(&mut self, ranges: &OutgoingArcs, bit: u32) -> u32
         requires search { IsSearching (length self.old.marks.items) ranges.now self.old }
         requires some { 0 < length self.old.path.items }
         requires last { slice_index self.old.path.items (length self.old.path.items - 1) ≡ bit }
@@ -154,7 +154,7 @@ impl Search {
     }
 
     /// Takes a bit to the path, or gives out the path's last, or says that there is none.
-    fn step(&mut self, alloc: Global, ranges: &Ranges) -> Result<bool, Stop>
+    fn step(&mut self, alloc: Global, ranges: &OutgoingArcs) -> Result<bool, Stop>
         requires few { length self.old.marks.items < 2 ^ 32 - 2 }
         requires search { IsSearching (length self.old.marks.items) ranges.now self.old }
         ensures search { OnOk result (IsSearching (length self.old.marks.items) ranges.now self.new) }
@@ -180,7 +180,7 @@ impl Search {
     }
 
     /// Gives out all bits to which arcs lead from the root, and the root.
-    pub fn follow(&mut self, alloc: Global, ranges: &Ranges, root: u32) -> Result<(), Stop>
+    pub fn follow(&mut self, alloc: Global, ranges: &OutgoingArcs, root: u32) -> Result<(), Stop>
         requires few { length self.old.marks.items < 2 ^ 32 - 2 }
         requires search { IsSearching (length self.old.marks.items) ranges.now self.old }
         requires root { root < length self.old.marks.items }

@@ -7,10 +7,10 @@ use Rattle.std.proofs.lemmas.Bool.{cases_eq}
 use Rattle.mintc_timing.specs.declared.parts.TimingArc.{TimingArc}
 use Rattle.mintc_timing.specs.Paths.{output_of}
 use Rattle.mintc_lanes.specs.Lanes.{lane_at}
-use Rattle.mintc_sums.specs.declared.sums.Sums.{Sums}
-use Rattle.mintc_sums.specs.declared.sums.TheConstants.{NO_SUMS}
-use Rattle.mintc_sums.specs.Sums.{sums_at, IsBounded, IsAlike}
-use Rattle.mintc_sums.proofs.SharedNoSums.{none_at}
+use Rattle.mintc_paths_sums.specs.declared.sums.Sums.{Sums}
+use Rattle.mintc_paths_sums.specs.declared.sums.TheConstants.{NO_SUMS}
+use Rattle.mintc_paths_sums.specs.Sums.{sums_at, IsBounded, IsAlike}
+use Rattle.mintc_paths_sums.proofs.SharedNoSums.{none_at}
 use Rattle.mintc_paths.specs.Among.{IsBest, AtLeast, max_of, min_of}
 use Rattle.mintc_paths.specs.Sums.{AreBegun}
 use Rattle.mintc_paths.proofs.Best.{greatest_choice, least_choice, IsBest-begun}

@@ -11,8 +11,8 @@ use Rattle.mintc_timing.specs.Limits.{IsArc}
 use Rattle.mintc_timing.specs.Order.{IsOrder}
 use Rattle.mintc_timing.proofs.SharedOrdered.{inside}
 use Rattle.mintc_lanes.specs.Lanes.{lane_at, joined, AreJoined, AreWithin}
-use Rattle.mintc_sums.specs.declared.sums.Sums.{Sums}
-use Rattle.mintc_sums.specs.Sums.{sums_at, IsBounded, IsAlike}
+use Rattle.mintc_paths_sums.specs.declared.sums.Sums.{Sums}
+use Rattle.mintc_paths_sums.specs.Sums.{sums_at, IsBounded, IsAlike}
 use Rattle.mintc_paths.specs.Among.{IsBest, AtLeast, max_of, min_of}
 use Rattle.mintc_paths.specs.Sums.{AreSums}
 use Rattle.mintc_paths.proofs.Best.{IsChoiceBy, greatest_choice, least_choice, IsBest-other, IsBest-joined}

@@ -1,7 +1,7 @@
 -- Rows that are reached, and their sums.
 use Rattle.std.proofs.Common.{◌≡◌, ◌≢◌, ℕ, Bool, true, false, List, length, set, length-set, get_or-set_same, get_or-set_other, arith, sym, ◌∙◌}
-use Rattle.mintc_sums.specs.declared.sums.Sums.{Sums}
-use Rattle.mintc_sums.specs.Sums.{sums_at}
+use Rattle.mintc_paths_sums.specs.declared.sums.Sums.{Sums}
+use Rattle.mintc_paths_sums.specs.Sums.{sums_at}
 use Rattle.mintc_paths.specs.Sums.{AreMarked}
 
 -- a bit that gets sums, and its mark

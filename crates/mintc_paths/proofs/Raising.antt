@@ -10,8 +10,8 @@ use Rattle.mintc_timing.specs.Design.{Design}
 use Rattle.mintc_timing.specs.Limits.{IsDesign}
 use Rattle.mintc_timing.specs.Order.{IsOrder}
 use Rattle.mintc_timing.specs.Paths.{arc_at}
-use Rattle.mintc_sums.specs.Placed.{row_of}
-use Rattle.mintc_paths.specs.declared.rows.Course.{Course}
+use Rattle.mintc_paths_sums.specs.Placed.{row_of}
+use Rattle.mintc_paths.specs.declared.rows.ArcSequence.{ArcSequence}
 use Rattle.mintc_paths.specs.Longest.{bit_sum, bit_sums, AreCarried}
 use Rattle.mintc_paths.specs.Sums.{moved, IsCourse}
 use Rattle.mintc_paths.proofs.SharedPassing.{arc_of, from_in, to_in, in_design, few_arcs}
@@ -39,7 +39,7 @@ AreCarried_no_rows arcs order rows n sums same =
 pub within_placed : (rows : List ℕ) (sums : List ℤ) → All (λ z. z ≤ℤ pos 1000000000) sums → All (λ z. z ≤ℤ pos 1000000000) (bit_sums rows sums)
 within_placed rows sums all = All-map (λ (z : ℤ). z ≤ℤ pos 1000000000) (bit_sum sums) rows (λ i d below. within_at sums (get_or rows i d) all)
 
-module _ (design : Design) (order : List ℕ) (is_order : IsOrder design.arcs order) (kept : IsDesign design) (course : Course) (n : ℕ) (is_course : IsCourse n design.arcs order course)
+module _ (design : Design) (order : List ℕ) (is_order : IsOrder design.arcs order) (kept : IsDesign design) (course : ArcSequence) (n : ℕ) (is_course : IsCourse n design.arcs order course)
     (bits : n ≡ 2 * length design.elements + length design.inner) where
   abbrev rows : List ℕ
   rows = course.rows.of_bits.items

@@ -9,8 +9,8 @@ use Rattle.mintc_timing.specs.Paths.{Leads, IsPath, arc_at, input_of, output_of,
 use Rattle.mintc_timing.specs.Order.{IsOrder}
 use Rattle.mintc_timing.proofs.SharedOrdered.{all_among}
 use Rattle.mintc_lanes.specs.Lanes.{lane_at}
-use Rattle.mintc_sums.specs.declared.sums.Sums.{Sums}
-use Rattle.mintc_sums.specs.Sums.{sums_at}
+use Rattle.mintc_paths_sums.specs.declared.sums.Sums.{Sums}
+use Rattle.mintc_paths_sums.specs.Sums.{sums_at}
 use Rattle.mintc_paths.specs.Among.{IsGreatestAmong, IsLeastAmong}
 use Rattle.mintc_paths.specs.Sums.{AreSums}
 use Rattle.mintc_paths.specs.Reached.{IsPaired, IsReached, AreExtremes}

@@ -4,11 +4,11 @@ use Rattle.std.proofs.lemmas.List.{get_or_default, get_or-map, get_or_past, same
 use Rattle.std.proofs.Math.ListN.{length-map}
 use Rattle.mintc_timing.specs.declared.parts.TimingArc.{TimingArc}
 use Rattle.mintc_timing.specs.Paths.{output_of}
-use Rattle.mintc_sums.specs.declared.sums.Sums.{Sums}
-use Rattle.mintc_sums.specs.declared.sums.TheConstants.{NO_SUMS}
-use Rattle.mintc_sums.specs.Sums.{sums_at, no_sums, IsBounded, IsAlike}
-use Rattle.mintc_sums.specs.Placed.{row_of, placed}
-use Rattle.mintc_sums.proofs.SharedPlaced.{length-placed, placed_at}
+use Rattle.mintc_paths_sums.specs.declared.sums.Sums.{Sums}
+use Rattle.mintc_paths_sums.specs.declared.sums.TheConstants.{NO_SUMS}
+use Rattle.mintc_paths_sums.specs.Sums.{sums_at, no_sums, IsBounded, IsAlike}
+use Rattle.mintc_paths_sums.specs.Placed.{row_of, placed}
+use Rattle.mintc_paths_sums.proofs.SharedPlaced.{length-placed, placed_at}
 use Rattle.mintc_paths.specs.declared.rows.Rows.{Rows}
 use Rattle.mintc_paths.specs.Sums.{LeadsBack, AreRows, moved, AreBegun, AreSums}
 use Rattle.mintc_paths.specs.Long.{IsShortLane}

@@ -3,11 +3,11 @@ use Rattle.std.proofs.Common.{min, ◌≡◌, ◌≢◌, ℕ, ◌<◌, ◌≤◌
 use Rattle.std.proofs.lemmas.List.{get_or_append_left, get_or_push}
 use Rattle.std.specs.Prelude.{Result, Ok, Err, OnOk}
 use Rattle.mintc_lanes.specs.Lanes.{lane_at}
-use Rattle.mintc_sums.specs.declared.sums.Sums.{Sums}
-use Rattle.mintc_sums.specs.Sums.{sums_at}
-use Rattle.mintc_sums.specs.Placed.{row_of, placed}
-use Rattle.mintc_sums.proofs.SharedPlaced.{placed_at}
-use Rattle.mintc_sums.proofs.SharedNoSums.{none_at}
+use Rattle.mintc_paths_sums.specs.declared.sums.Sums.{Sums}
+use Rattle.mintc_paths_sums.specs.Sums.{sums_at}
+use Rattle.mintc_paths_sums.specs.Placed.{row_of, placed}
+use Rattle.mintc_paths_sums.proofs.SharedPlaced.{placed_at}
+use Rattle.mintc_paths_sums.proofs.SharedNoSums.{none_at}
 use Rattle.mintc_paths.specs.Reached.{IsPaired, IsPairedLane, pair_of}
 use Rattle.std.specs.List.{All, AllAdjacentBelow}
 use Rattle.std.proofs.lemmas.List.Elements.{All-push, Contains-append_left, Contains-push}

@@ -8,16 +8,16 @@ use Rattle.mintc_timing.specs.Order.{IsOrder}
 use Rattle.mintc_timing.specs.Paths.{arc_at}
 use Rattle.mintc_timing.proofs.SharedOrdered.{inside}
 use Rattle.mintc_lanes.specs.Lanes.{lane_at, joined, AreJoined}
-use Rattle.mintc_places.specs.Places.{IsIn}
-use Rattle.mintc_sums.specs.declared.sums.Sums.{Sums}
-use Rattle.mintc_sums.specs.declared.sums.TheConstants.{NO_SUMS}
-use Rattle.mintc_sums.specs.Sums.{sums_at, IsAlike, IsBounded}
-use Rattle.mintc_sums.specs.Placed.{placed}
-use Rattle.mintc_sums.proofs.SharedPlaced.{length-placed}
-use Rattle.mintc_sums.proofs.SharedNoSums.{none_at}
-use Rattle.mintc_paths.specs.Awake.{IsAwake}
-use Rattle.mintc_paths.specs.declared.awake.Awake.{Awake}
-use Rattle.mintc_paths.specs.declared.rows.Course.{Course}
+use Rattle.mintc_bitset.specs.BitSet.{IsIn}
+use Rattle.mintc_paths_sums.specs.declared.sums.Sums.{Sums}
+use Rattle.mintc_paths_sums.specs.declared.sums.TheConstants.{NO_SUMS}
+use Rattle.mintc_paths_sums.specs.Sums.{sums_at, IsAlike, IsBounded}
+use Rattle.mintc_paths_sums.specs.Placed.{placed}
+use Rattle.mintc_paths_sums.proofs.SharedPlaced.{length-placed}
+use Rattle.mintc_paths_sums.proofs.SharedNoSums.{none_at}
+use Rattle.mintc_paths.specs.Worklist.{IsAwake}
+use Rattle.mintc_paths.specs.declared.worklist.Worklist.{Worklist}
+use Rattle.mintc_paths.specs.declared.rows.ArcSequence.{ArcSequence}
 use Rattle.mintc_paths.specs.Sums.{moved, IsCourse, AreMarked, AreSums}
 use Rattle.mintc_paths.proofs.SharedClimbing.{climb}
 use Rattle.mintc_paths.proofs.Filling.{IsBounded-weaker, IsCarried, AreSums-more, arc_inside}
@@ -63,7 +63,7 @@ pub record IsSmallAt (sums : List Sums) (arc : TimingArc) : Type 0 where
   pub to : IsBounded 1000000000000000 (sums_at sums arc.to)
   pub alike : IsAlike (sums_at sums arc.from)
 
-module _ (design : Design) (order : List ℕ) (is_order : IsOrder design.arcs order) (kept : IsDesign design) (course : Course) (n : ℕ) (is_course : IsCourse n design.arcs order course)
+module _ (design : Design) (order : List ℕ) (is_order : IsOrder design.arcs order) (kept : IsDesign design) (course : ArcSequence) (n : ℕ) (is_course : IsCourse n design.arcs order course)
     (bits : n ≡ 2 * length design.elements + length design.inner) where
   -- the arc of the design at a place of the order
   abbrev pub arc_of : ℕ → TimingArc
@@ -119,7 +119,7 @@ module _ (design : Design) (order : List ℕ) (is_order : IsOrder design.arcs or
 
     module _ (reached : List Bool) (marked : AreMarked sums reached) where
       -- Where none is awake from one place on and before the next, no arc there leaves a row that is reached.
-      pub passed_next : (awake : Awake) (k next : ℕ) → k ≤ next → k ≤ length order → IsAwake course.along.items k reached awake →
+      pub passed_next : (awake : Worklist) (k next : ℕ) → k ≤ next → k ≤ length order → IsAwake course.along.items k reached awake →
           ((other : ℕ) → k ≤ other → other < next → IsIn awake.places.words.items other → ⊥) →
           AreSums design.arcs order k first lanes (placed rows sums) → AreSums design.arcs order (min next (length order)) first lanes (placed rows sums)
       passed_next awake k next low high is_awake none h = climb (λ x. AreSums design.arcs order x first lanes (placed rows sums)) k (min next (length order)) (omega arith) step h

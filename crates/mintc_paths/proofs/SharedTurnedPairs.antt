@@ -17,7 +17,7 @@ use Rattle.mintc_timing.specs.Design.{Design, no_pair}
 use Rattle.mintc_timing.specs.Limits.{IsDesign}
 use Rattle.mintc_timing.specs.Paths.{IsPath, input_of, HasExtremes, ComesBefore}
 use Rattle.mintc_timing.proofs.SharedMembers.{Contains-map}
-use Rattle.mintc_sums.specs.Placed.{row_of}
+use Rattle.mintc_paths_sums.specs.Placed.{row_of}
 use Rattle.mintc_paths.specs.declared.found.Found.{Found}
 use Rattle.mintc_paths.specs.Found.{Precede, ArePairsBefore, IsFoundBefore}
 use Rattle.mintc_paths.specs.Sums.{LeadsBack}

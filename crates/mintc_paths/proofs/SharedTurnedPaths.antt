@@ -7,15 +7,14 @@ use Rattle.std.proofs.Math.ListN.{length-map}
 use Rattle.std.specs.List.{All}
 use Rattle.mintc_timing.specs.declared.parts.TimingArc.{TimingArc}
 use Rattle.mintc_timing.specs.declared.parts.Pair.{Pair}
-use Rattle.mintc_rings.specs.Rings.{total}
+use Rattle.mintc_graph.specs.Rings.{total}
 use Rattle.mintc_timing.specs.Design.{Design, no_arc}
 use Rattle.mintc_timing.specs.Limits.{IsArc, IsDesign}
-use Rattle.mintc_timing.specs.Order.{IsOrder}
+use Rattle.mintc_timing.specs.Order.{IsOrder, ArePathsShort}
 use Rattle.mintc_timing.specs.Paths.{Leads, IsPath, arc_at, input_of, output_of, HasExtremes, IsGreatestDelay, IsLeastDelay}
 use Rattle.mintc_timing.proofs.SharedOrdered.{inside, Leads-push}
-use Rattle.mintc_rings.proofs.SharedRingLaws.{total-push}
-use Rattle.mintc_timing.specs.Order.{ArePathsShort}
-use Rattle.mintc_sums.specs.Placed.{row_of}
+use Rattle.mintc_graph.proofs.SharedRingLaws.{total-push}
+use Rattle.mintc_paths_sums.specs.Placed.{row_of}
 use Rattle.mintc_paths.specs.Longest.{AreRunsShort}
 use Rattle.mintc_paths.specs.Sums.{LeadsBack}
 use Rattle.mintc_paths.specs.Turned.{turned_bit, bit_before, turned_arc, turned_arcs, turned_design, pair_back}

@@ -5,8 +5,8 @@ use Rattle.std.proofs.lemmas.Int.{ints}
 use Rattle.mintc_timing.specs.Design.{Design}
 use Rattle.mintc_timing.specs.Paths.{IsPath, greatest_delay}
 use Rattle.mintc_lanes.specs.Lanes.{lane_at}
-use Rattle.mintc_sums.specs.declared.sums.Sums.{Sums}
-use Rattle.mintc_sums.specs.Sums.{sums_at}
+use Rattle.mintc_paths_sums.specs.declared.sums.Sums.{Sums}
+use Rattle.mintc_paths_sums.specs.Sums.{sums_at}
 use Rattle.mintc_paths.specs.Reached.{IsReached, AreExtremes}
 use Rattle.mintc_paths.specs.Long.{IsShortLane, IsFirstLane}
 use Rattle.mintc_paths.specs.Refusals.{IsLong, IsFirstLong, AreShortBefore}

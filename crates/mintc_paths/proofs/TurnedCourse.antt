@@ -6,9 +6,9 @@ use Rattle.mintc_timing.specs.Design.{Design}
 use Rattle.mintc_timing.specs.Limits.{IsArc, IsDesign}
 use Rattle.mintc_timing.specs.Order.{IsOrder}
 use Rattle.mintc_timing.specs.Paths.{arc_at}
-use Rattle.mintc_sums.specs.Placed.{row_of}
+use Rattle.mintc_paths_sums.specs.Placed.{row_of}
 use Rattle.mintc_paths.specs.declared.rows.Rows.{Rows}
-use Rattle.mintc_paths.specs.declared.rows.Course.{Course}
+use Rattle.mintc_paths.specs.declared.rows.ArcSequence.{ArcSequence}
 use Rattle.mintc_paths.specs.Leaving.{AreLeaving}
 use Rattle.mintc_paths.specs.Sums.{moved, AreRows, IsCourse}
 use Rattle.mintc_paths.specs.Turned.{turned_bit, bit_before, flipped, turned_arcs}
@@ -58,7 +58,7 @@ module _ (n total : ℕ) (all : 2 * n ≤ total) (places : Rows) (are_places : A
   pub rows_turned : (bit : ℕ) → bit < total → row_of new.of_bits.items (goes bit) ≡ row_of old.of_bits.items bit
   rows_turned bit low = each (goes bit) (goes_in bit low) ∙ ap (row_of old.of_bits.items) (was_goes bit)
 
-module _ (design : Design) (order : List ℕ) (is_order : IsOrder design.arcs order) (kept : IsDesign design) (course new : Course) (places : Rows) (are_places : AreRows (length design.elements) places) where
+module _ (design : Design) (order : List ℕ) (is_order : IsOrder design.arcs order) (kept : IsDesign design) (course new : ArcSequence) (places : Rows) (are_places : AreRows (length design.elements) places) where
   abbrev n : ℕ
   n = length design.elements
 

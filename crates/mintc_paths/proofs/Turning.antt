@@ -1,6 +1,6 @@
 -- A design turned round.
 use Rattle.std.proofs.Common.{◌≡◌, ℕ, ◌<◌, ◌+◌, ◌*◌, List, arith, ap, ◌∙◌, sym}
-use Rattle.mintc_sums.specs.Placed.{row_of}
+use Rattle.mintc_paths_sums.specs.Placed.{row_of}
 use Rattle.mintc_paths.specs.Sums.{LeadsBack}
 use Rattle.mintc_paths.specs.Turned.{turned_bit, bit_before}
 

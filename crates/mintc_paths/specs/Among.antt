@@ -1,7 +1,7 @@
 -- The best sum of the paths along the first arcs of an order.
 use Rattle.std.specs.Prelude.{◌≡◌, ℕ, ℤ, ◌≤ℤ◌, Option, IfSome, IsSomeAnd, List}
 use Rattle.mintc_timing.specs.declared.parts.TimingArc.{TimingArc}
-use Rattle.mintc_rings.specs.Rings.{total}
+use Rattle.mintc_graph.specs.Rings.{total}
 use Rattle.mintc_timing.specs.Paths.{Leads, arc_at}
 use Rattle.mintc_timing.specs.Among.{AreAmong}
 

@@ -12,4 +12,4 @@ pub mod Finding
 pub mod Turned
 pub mod Ordered
 pub mod Plans
-pub mod Awake
+pub mod Worklist

@@ -2,8 +2,8 @@
 use Rattle.std.specs.Prelude.{◌<◌, ℕ, ◌<ℤ◌, ◌≤ℤ◌, IfSome, IsSomeAnd, List, length}
 use Rattle.mintc_text.specs.declared.limits.TheConstants.{MOST_DELAY}
 use Rattle.mintc_lanes.specs.Lanes.{lane_at}
-use Rattle.mintc_sums.specs.declared.sums.Sums.{Sums}
-use Rattle.mintc_sums.specs.Sums.{sums_at}
+use Rattle.mintc_paths_sums.specs.declared.sums.Sums.{Sums}
+use Rattle.mintc_paths_sums.specs.Sums.{sums_at}
 
 -- The lane's greatest sum is above 10^9 femtoseconds, or it is not.
 abbrev pub IsLongAt : List Sums → ℕ → ℕ → Type 0

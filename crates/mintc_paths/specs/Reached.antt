@@ -4,8 +4,8 @@ use Rattle.mintc_timing.specs.declared.parts.Pair.{Pair}
 use Rattle.mintc_timing.specs.Design.{Design}
 use Rattle.mintc_timing.specs.Paths.{IsPath, input_of, greatest_delay, HasExtremes}
 use Rattle.mintc_lanes.specs.Lanes.{lane_at}
-use Rattle.mintc_sums.specs.declared.sums.Sums.{Sums}
-use Rattle.mintc_sums.specs.Sums.{sums_at}
+use Rattle.mintc_paths_sums.specs.declared.sums.Sums.{Sums}
+use Rattle.mintc_paths_sums.specs.Sums.{sums_at}
 
 abbrev pub pair_of : ℕ → ℕ → ℤ → ℤ → Pair
 pair_of a b min max = record { from = a; to = b; min = min; max = max }

@@ -3,12 +3,12 @@ use Rattle.std.specs.Prelude.{◌≡◌, ◌<◌, ◌≤◌, ◌+◌, ◌*◌, �
 use Rattle.mintc_timing.specs.declared.parts.TimingArc.{TimingArc}
 use Rattle.mintc_timing.specs.Paths.{output_of, arc_at}
 use Rattle.mintc_lanes.specs.Lanes.{lane_at}
-use Rattle.mintc_sums.specs.declared.sums.Sums.{Sums}
-use Rattle.mintc_sums.specs.declared.sums.TheConstants.{NO_SUMS}
-use Rattle.mintc_sums.specs.Sums.{sums_at, IsBounded, IsAlike}
-use Rattle.mintc_sums.specs.Placed.{row_of}
+use Rattle.mintc_paths_sums.specs.declared.sums.Sums.{Sums}
+use Rattle.mintc_paths_sums.specs.declared.sums.TheConstants.{NO_SUMS}
+use Rattle.mintc_paths_sums.specs.Sums.{sums_at, IsBounded, IsAlike}
+use Rattle.mintc_paths_sums.specs.Placed.{row_of}
 use Rattle.mintc_paths.specs.declared.rows.Rows.{Rows}
-use Rattle.mintc_paths.specs.declared.rows.Course.{Course}
+use Rattle.mintc_paths.specs.declared.rows.ArcSequence.{ArcSequence}
 use Rattle.mintc_paths.specs.Among.{IsGreatestAmong, IsLeastAmong}
 use Rattle.mintc_paths.specs.Leaving.{AreLeaving}
 
@@ -45,7 +45,7 @@ pub record AreAlong (arcs : List TimingArc) (order : List ℕ) (rows : List ℕ)
   pub each : (i : ℕ) → i < k → arc_at along i ≡ moved rows (arc_at arcs (slice_index_or order i 0))
 
 -- The course has rows for so many bits with the arcs that leave them, and all arcs in their order.
-pub record IsCourse (n : ℕ) (arcs : List TimingArc) (order : List ℕ) (course : Course) : Type 0 where
+pub record IsCourse (n : ℕ) (arcs : List TimingArc) (order : List ℕ) (course : ArcSequence) : Type 0 where
   pub rows : AreRows n course.rows
   pub along : AreAlong arcs order course.rows.of_bits.items (length order) course.along.items
   pub leaving : AreLeaving course.along.items n course.leaving

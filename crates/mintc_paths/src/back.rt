@@ -10,8 +10,8 @@ ghost use Rattle.mintc_paths.specs.Turned.{turned_design, turned_arcs, pair_back
 
 use crate::blocks::{Plan, find_along};
 use crate::found::Found;
-use crate::rows::{Course, Rows};
-use crate::turned::{places_along, turned_course};
+use crate::rows::{ArcSequence, Rows};
+use crate::turned::{element_order, turned_course};
 use mintc_text::OutOfMemory;
 use mintc_text::limits::MOST_PAIRS;
 use mintc_timing::{Flat, Order, Pair};
@@ -55,7 +55,7 @@ fn find_turned(
     alloc: Global,
     flat: &Flat,
     order: &Order,
-    course: &Course,
+    course: &ArcSequence,
     places: &Rows,
 ) -> Result<Found, OutOfMemory>
     ghost of: { Ordered }
@@ -79,11 +79,11 @@ fn find_turned(
 }
 
 /// Finds the pairs from the inputs back. Where they are more than are kept, their number alone counts.
-pub fn find_back(
+pub fn find_backward(
     alloc: Global,
     flat: &Flat,
     order: &Order,
-    course: Course,
+    course: ArcSequence,
 ) -> Result<Found, OutOfMemory>
     requires order { IsOrder flat.now.arcs order.now }
     requires course { IsCourse (2 * length flat.now.elements + length flat.now.inner) flat.now.arcs order.now course }
@@ -92,7 +92,7 @@ pub fn find_back(
     ensures few { IfOk result (λ found. found.count ≤ 4000000) }
 {
     let elements = flat.elements().len() as u32;
-    let Ok(places) = places_along(alloc, elements, &course.rows) else {
+    let Ok(places) = element_order(alloc, elements, &course.rows) else {
         return Err(OutOfMemory);
     };
     let Ok(course) = turned_course(alloc, flat, order, course, &places) else {

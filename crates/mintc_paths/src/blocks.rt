@@ -3,38 +3,38 @@ ghost use Rattle.std.specs.Prelude.{◌≡◌, ◌<◌, ◌≤◌, ◌+◌, ◌*
 ghost use Rattle.std.specs.Bool.{OnTrue};
 ghost use Rattle.mintc_text.specs.Stops.{StopsAt};
 ghost use Rattle.mintc_timing.specs.Order.{IsOrder, ArePathsShort};
-ghost use Rattle.mintc_paths.specs.Awake.{IsReady};
+ghost use Rattle.mintc_paths.specs.Worklist.{IsReady};
 ghost use Rattle.mintc_paths.specs.Found.{IsFoundBefore};
 ghost use Rattle.mintc_paths.specs.Ordered.{Ordered, ordered};
 ghost use Rattle.mintc_paths.specs.Plans.{IsPlanOf};
 ghost use Rattle.mintc_paths.specs.Sums.{IsCourse, AreMarked};
 ghost use Rattle.mintc_paths.specs.Refusals.{IsPathRange};
 
-use crate::awake::Awake;
 use crate::filled::Filled;
 use crate::found::Found;
 use crate::long::refuse_long;
-use crate::rows::{Course, Rows};
+use crate::rows::{ArcSequence, Rows};
 use crate::sums::fill;
-use mintc_sums::Held;
+use crate::worklist::Worklist;
+use mintc_paths_sums::SparseRows;
 use mintc_text::Stop;
 use mintc_timing::{Flat, Order};
 use std::alloc::{AllocError, Global};
 
 /// The course over rows in the order in which the arcs come to the bits.
-pub fn course_of(alloc: Global, flat: &Flat, order: &Order) -> Result<Course, AllocError>
+pub fn course_of(alloc: Global, flat: &Flat, order: &Order) -> Result<ArcSequence, AllocError>
     requires { IsOrder flat.now.arcs order.now }
     ensures { IfOk result (λ course. IsCourse (2 * length flat.now.elements + length flat.now.inner) flat.now.arcs order.now course) }
 {
     let rows = Rows::along(alloc, flat, order)?;
-    Course::new(alloc, flat, order, rows)
+    ArcSequence::new(alloc, flat, order, rows)
 }
 
 /// What all blocks have in common: a course, how many elements its design has, and whether it is known that no path there is
 /// too long.
 #[derive(Clone, Copy)]
 pub struct Plan<'a> {
-    pub course: &'a Course,
+    pub course: &'a ArcSequence,
     pub elements: u32,
     pub known_short: bool,
 }
@@ -43,9 +43,9 @@ pub struct Plan<'a> {
 fn find_each(
     alloc: Global,
     plan: &Plan,
-    sums: &mut Held,
+    sums: &mut SparseRows,
     reached: &mut [bool],
-    awake: &mut Awake,
+    awake: &mut Worklist,
 ) -> Result<Found, Stop>
     ghost of: { Ordered }
     requires plan { IsPlanOf (length sums.old) of plan.now }
@@ -91,24 +91,24 @@ pub fn find_along(alloc: Global, plan: &Plan) -> Result<Found, Stop>
     ensures stop { IfErr result (StopsAt (IsPathRange of.design)) }
 {
     let bits = plan.course.rows.of_bits.len();
-    let Ok(mut sums) = Held::new(alloc, bits) else {
+    let Ok(mut sums) = SparseRows::new(alloc, bits) else {
         return Err(Stop::OutOfMemory);
     };
     let Ok(mut reached) = vec![in alloc; false; bits] else {
         return Err(Stop::OutOfMemory);
     };
-    let Ok(mut awake) = Awake::new(alloc, plan.course.along.len()) else {
+    let Ok(mut awake) = Worklist::new(alloc, plan.course.along.len()) else {
         return Err(Stop::OutOfMemory);
     };
     find_each(alloc, plan, &mut sums, &mut reached, &mut awake)
 }
 
 /// Finds the pairs from the outputs on.
-pub fn find_forth(
+pub fn find_forward(
     alloc: Global,
     flat: &Flat,
     order: &Order,
-    course: &Course,
+    course: &ArcSequence,
     known_short: bool,
 ) -> Result<Found, Stop>
     ghost of: { Ordered }

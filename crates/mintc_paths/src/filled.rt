@@ -3,12 +3,12 @@ ghost use Rattle.std.specs.Prelude.{◌≤◌, length};
 ghost use Rattle.mintc_paths.specs.Sums.{AreMarked, AreRows};
 
 use crate::rows::Rows;
-use mintc_sums::Held;
+use mintc_paths_sums::SparseRows;
 
 /// The sums from so many elements, from the first of them on, a lane for each, and the rows that are reached.
 #[derive(Clone, Copy)]
 pub struct Filled<'a> {
-    pub sums: &'a Held,
+    pub sums: &'a SparseRows,
     pub reached: &'a [bool],
     pub rows: &'a Rows,
     pub first: u32,

@@ -8,7 +8,7 @@ ghost use Rattle.mintc_paths.specs.Finding.{IsDelayOf, IsListedWith};
 use crate::listed::{Wanted, is_listed_with};
 use crate::reached::{Arrival, Reached};
 use crate::route::best_path;
-use crate::steps::Steps;
+use crate::successors::Successors;
 use crate::trace::Extreme;
 use mintc_text::{Numbers, OutOfMemory};
 use mintc_timing::{System, TimingArc};
@@ -17,7 +17,7 @@ use std::alloc::{AllocError, Global};
 /// A search for paths in a system.
 #[derive(Drop)]
 pub struct Finder {
-    steps: Steps,
+    steps: Successors,
     reached: Reached,
     /// How many of the paths that were asked for the search hasn't found.
     missed: u64,
@@ -26,7 +26,7 @@ pub struct Finder {
 impl Finder {
     /// A search over the arcs of a system, which is to be that of each call.
     pub fn new(alloc: Global, system: &System) -> Result<Finder, OutOfMemory> {
-        let Ok(steps) = Steps::new(alloc, system.flat(), system.order()) else {
+        let Ok(steps) = Successors::new(alloc, system.flat(), system.order()) else {
             return Err(OutOfMemory);
         };
         let Ok(reached) = Reached::new(alloc, steps.given as usize) else {

@@ -4,7 +4,7 @@ ghost use Rattle.mintc_text.specs.declared.limits.TheConstants.{MOST_ELEMENTS};
 
 use crate::filled::Filled;
 use crate::rows::Rows;
-use mintc_sums::{Held, Sums, sum_in};
+use mintc_paths_sums::{SparseRows, Sums, sum_in};
 use mintc_text::OutOfMemory;
 use mintc_text::limits::MOST_PAIRS;
 use mintc_timing::Pair;
@@ -23,7 +23,7 @@ impl Found {
     ghost use Rattle.mintc_paths.specs.Found.{AreEnds, IsFoundBefore};
     ghost use Rattle.mintc_timing.specs.Design.{Design};
     ghost use Rattle.mintc_lanes.specs.Lanes.{lane_at};
-    ghost use Rattle.mintc_sums.specs.Placed.{placed};
+    ghost use Rattle.mintc_paths_sums.specs.Placed.{placed};
     ghost use Rattle.mintc_paths.specs.Sums.{AreMarked, AreRows};
     ghost use Rattle.mintc_paths.specs.Reached.{IsPaired, IsPairedLane, AreExtremes};
 
@@ -74,7 +74,7 @@ impl Found {
     /// The pairs from an element, whose sums are in this lane. It leads to none but the ends.
     fn add_from(
         &mut self,
-        sums: &Held,
+        sums: &SparseRows,
         rows: &Rows,
         element: u32,
         lane: usize,

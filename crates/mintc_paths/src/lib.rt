@@ -1,6 +1,6 @@
 //! The pairs of a design with the extremes of their listed paths, and a path for each of these.
 //!
-//! The greatest and the least sums from eight elements stand in rows of mintc_sums, one for each bit, a lane for each element.
+//! The greatest and the least sums from eight elements stand in rows of mintc_paths_sums, one for each bit, a lane for each element.
 //! They are filled by one pass over the arcs in their order, each after all arcs into the bit that it leaves: so are the
 //! longest and the shortest paths of a graph without loops found (the order after A. B. Kahn, "Topological sorting of large
 //! networks", 1962; the pass in T. H. Cormen and others, "Introduction to Algorithms", 2009, section 24.2). Only arcs that
@@ -18,7 +18,6 @@ ghost use Rattle.mintc_timing.specs.Paths.{ArePairs, IsPath, input_of, greatest_
 ghost use Rattle.mintc_paths.specs.Refusals.{IsExtremesRefusal};
 ghost use Rattle.mintc_paths.specs.Trace.{IsPairOf};
 
-mod awake;
 mod back;
 mod blocks;
 mod filled;
@@ -31,28 +30,29 @@ mod longest;
 mod reached;
 mod route;
 mod rows;
-mod steps;
+mod successors;
 mod sums;
 mod trace;
 mod turned;
 mod ways;
+mod worklist;
 
-pub use awake::Awake;
 pub use blocks::course_of;
 pub use finder::Finder;
 use found::Found;
 pub use laws::pairs_exist;
-pub use longest::are_plainly_short;
+pub use longest::bound_is_within_limit;
 use mintc_text::limits::MOST_PAIRS;
 use mintc_text::{Kind, Numbers, OutOfMemory, Refusal, Stop};
 use mintc_timing::{Flat, Order, Pair, System};
 use route::best_path;
-pub use rows::{Course, Rows};
+pub use rows::{ArcSequence, Rows};
 use std::alloc::Global;
 use trace::Extreme;
-pub use turned::{places_along, turned_course};
-pub use ways::are_few_entered;
+pub use turned::{element_order, turned_course};
 use ways::find;
+pub use ways::is_backward_cheaper;
+pub use worklist::Worklist;
 
 /// All pairs of the design, in ascending order of their elements, with the least and the greatest sum of the listed
 /// paths between them, in femtoseconds. The refusal is PathRange with the first element that a listed path with a

@@ -3,8 +3,8 @@ ghost use Rattle.std.specs.Prelude.{◌<◌, ◌≤◌, ◌+◌, ◌^◌, ◌<�
 ghost use Rattle.std.specs.Bool.{OnTrue, OnFalse};
 ghost use Rattle.mintc_text.specs.declared.limits.TheConstants.{MOST_ELEMENTS};
 ghost use Rattle.mintc_lanes.specs.Lanes.{lane_at, AreLanes};
-ghost use Rattle.mintc_sums.specs.Sums.{sums_at};
-ghost use Rattle.mintc_sums.specs.Placed.{placed};
+ghost use Rattle.mintc_paths_sums.specs.Sums.{sums_at};
+ghost use Rattle.mintc_paths_sums.specs.Placed.{placed};
 ghost use Rattle.mintc_paths.specs.Sums.{AreMarked, AreRows};
 ghost use Rattle.mintc_paths.specs.Long.{IsShortLane, IsFirstBit};
 ghost use Rattle.mintc_paths.specs.Reached.{AreExtremes};
@@ -15,12 +15,12 @@ ghost use Rattle.mintc_timing.specs.Order.{ArePathsShort};
 use crate::filled::Filled;
 use crate::rows::Rows;
 use mintc_lanes::max_row;
-use mintc_sums::{Held, Sums};
+use mintc_paths_sums::{SparseRows, Sums};
 use mintc_text::Refusal;
 use mintc_text::limits::MOST_DELAY;
 
 /// Whether no sum is above the limit.
-fn are_short(sums: &Held, reached: &[bool]) -> bool
+fn are_short(sums: &SparseRows, reached: &[bool]) -> bool
     requires marked { AreMarked sums.now reached.now }
     requires bounded { (row : ℕ) → row < length sums.now → AreLanes (sums_at sums.now row).greatest }
     ensures { OnTrue result ((lane : ℕ) → lane < 8 → IsShortLane sums.now lane) }
@@ -45,8 +45,8 @@ fn is_long(sums: &Sums, lane: usize) -> bool
 }
 
 /// The first bit with a sum of the lane above the limit.
-#[tactic(auto, using(mintc_sums::proofs::SharedPlaced::placed_at))]
-fn first_bit(sums: &Held, rows: &Rows, lane: usize) -> Option<usize>
+#[tactic(auto, using(mintc_paths_sums::proofs::SharedPlaced::placed_at))]
+fn first_bit(sums: &SparseRows, rows: &Rows, lane: usize) -> Option<usize>
     requires rows { AreRows (length sums.now) rows.now }
     requires lane { lane < 8 }
     ensures { MatchOption result (IsShortLane (placed rows.now.of_bits.items sums.now) lane) (λ bit. IsFirstBit (placed rows.now.of_bits.items sums.now) lane bit) }

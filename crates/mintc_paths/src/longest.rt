@@ -6,7 +6,7 @@ ghost use Rattle.mintc_timing.specs.Order.{IsOrder, ArePathsShort};
 ghost use Rattle.mintc_paths.specs.Longest.{bit_sum, bit_sums, AreCarried, AreRunsShort};
 ghost use Rattle.mintc_paths.specs.Sums.{IsCourse};
 
-use crate::rows::Course;
+use crate::rows::ArcSequence;
 use mintc_text::limits::MOST_DELAY;
 use mintc_timing::{Flat, Order, TimingArc};
 use std::alloc::{AllocError, Global};
@@ -30,7 +30,7 @@ fn raise(sums: &mut [i64], arc: TimingArc)
 }
 
 /// Makes the sums, which are 0 in each row, the greatest along arcs that end there, wherever they begin, in femtoseconds.
-fn raise_all(sums: &mut [i64], flat: &Flat, order: &Order, course: &Course)
+fn raise_all(sums: &mut [i64], flat: &Flat, order: &Order, course: &ArcSequence)
     requires order { IsOrder flat.now.arcs order.now }
     requires bits { length sums.old ≡ 2 * length flat.now.elements + length flat.now.inner }
     requires course { IsCourse (length sums.old) flat.now.arcs order.now course.now }
@@ -57,11 +57,11 @@ fn are_within(sums: &[i64]) -> bool
 
 /// Whether no arcs in a row have a sum above the limit, wherever they begin.
 #[tactic(auto, using(crate::proofs::Raising::AreCarried_no_rows))]
-pub fn are_runs_short(
+pub fn runs_are_within_limit(
     alloc: Global,
     flat: &Flat,
     order: &Order,
-    course: &Course,
+    course: &ArcSequence,
 ) -> Result<bool, AllocError>
     requires order { IsOrder flat.now.arcs order.now }
     requires course { IsCourse (2 * length flat.now.elements + length flat.now.inner) flat.now.arcs order.now course.now }
@@ -73,15 +73,15 @@ pub fn are_runs_short(
 }
 
 /// Whether it is plain that no path is too long, since no arcs in a row are, wherever they begin.
-pub fn are_plainly_short(
+pub fn bound_is_within_limit(
     alloc: Global,
     flat: &Flat,
     order: &Order,
-    course: &Course,
+    course: &ArcSequence,
 ) -> Result<bool, AllocError>
     requires order { IsOrder flat.now.arcs order.now }
     requires course { IsCourse (2 * length flat.now.elements + length flat.now.inner) flat.now.arcs order.now course.now }
     ensures { IfOk result (λ short. OnTrue short (ArePathsShort flat.now)) }
 {
-    are_runs_short(alloc, flat, order, course)
+    runs_are_within_limit(alloc, flat, order, course)
 }

@@ -1,29 +1,29 @@
 //! A path with the sum of a pair.
 ghost use Rattle.std.specs.Prelude.{◌≡◌, ◌<◌, ℕ, ◌+◌, ◌*◌, length, IfOk};
 ghost use Rattle.mintc_timing.specs.Order.{IsOrder};
-ghost use Rattle.mintc_sums.specs.Placed.{row_of};
+ghost use Rattle.mintc_paths_sums.specs.Placed.{row_of};
 ghost use Rattle.mintc_paths.specs.Ordered.{Ordered, ordered};
 ghost use Rattle.mintc_paths.specs.Sums.{IsCourse};
 ghost use Rattle.mintc_paths.specs.Trace.{IsPairOf, IsOfPair};
 
-use crate::awake::Awake;
-use crate::rows::{Course, Rows};
+use crate::rows::{ArcSequence, Rows};
 use crate::sums::fill;
 use crate::trace::{Extreme, trace};
-use mintc_sums::Held;
+use crate::worklist::Worklist;
+use mintc_paths_sums::SparseRows;
 use mintc_text::{Numbers, OutOfMemory};
 use mintc_timing::{Flat, Order, System};
 use std::alloc::{AllocError, Global};
 
 /// The course over rows of the bits' own numbers.
-fn plain_course(alloc: Global, flat: &Flat, order: &Order) -> Result<Course, AllocError>
+fn plain_course(alloc: Global, flat: &Flat, order: &Order) -> Result<ArcSequence, AllocError>
     requires { IsOrder flat.now.arcs order.now }
     ensures course { IfOk result (λ course. IsCourse (2 * length flat.now.elements + length flat.now.inner) flat.now.arcs order.now course) }
     ensures own { IfOk result (λ course. (bit : ℕ) → bit < 2 * length flat.now.elements + length flat.now.inner → row_of course.rows.of_bits.items bit ≡ bit) }
 {
     let bits = 2 * flat.elements().len() + flat.inner().items().len();
     let rows = Rows::plain(alloc, bits)?;
-    Course::new(alloc, flat, order, rows)
+    ArcSequence::new(alloc, flat, order, rows)
 }
 
 /// The arcs of a listed path from one element to another with the greatest or the least sum.
@@ -41,7 +41,7 @@ pub fn best_path(
 {
     let (flat, order) = (system.flat(), system.order());
     let bits = 2 * flat.elements().len() + flat.inner().items().len();
-    let Ok(mut sums) = Held::new(alloc, bits) else {
+    let Ok(mut sums) = SparseRows::new(alloc, bits) else {
         return Err(OutOfMemory);
     };
     let Ok(mut reached) = vec![in alloc; false; bits] else {
@@ -50,7 +50,7 @@ pub fn best_path(
     let Ok(course) = plain_course(alloc, flat, order) else {
         return Err(OutOfMemory);
     };
-    let Ok(mut awake) = Awake::new(alloc, course.along.len()) else {
+    let Ok(mut awake) = Worklist::new(alloc, course.along.len()) else {
         return Err(OutOfMemory);
     };
     let Ok(()) = fill(&mut sums, &mut reached, &mut awake, &course, from, 1) else {

@@ -2,7 +2,7 @@
 //! carried along one after another find their sums near each other.
 ghost use Rattle.std.specs.Prelude.{◌≡◌, ◌+◌, ◌*◌, ◌<◌, ◌^◌, ℕ, length, IfOk};
 ghost use Rattle.mintc_timing.specs.Order.{IsOrder};
-ghost use Rattle.mintc_sums.specs.Placed.{row_of};
+ghost use Rattle.mintc_paths_sums.specs.Placed.{row_of};
 ghost use Rattle.mintc_paths.specs.Sums.{AreRows, IsCourse};
 
 use mintc_order::Leaving;
@@ -83,16 +83,21 @@ impl Rows {
 
 /// The arcs in their order, one after another as they are carried along, each from row to row.
 #[derive(Drop)]
-pub struct Course {
+pub struct ArcSequence {
     pub rows: Rows,
     pub along: Vec<TimingArc>,
     pub leaving: Leaving,
 }
 
-impl Course {
+impl ArcSequence {
     /// The course over these rows.
     #[tactic(auto, using(mintc_timing::proofs::SharedOrdered::inside, crate::proofs::Filling::arc_inside))]
-    pub fn new(alloc: Global, flat: &Flat, order: &Order, rows: Rows) -> Result<Course, AllocError>
+    pub fn new(
+        alloc: Global,
+        flat: &Flat,
+        order: &Order,
+        rows: Rows,
+    ) -> Result<ArcSequence, AllocError>
         requires order { IsOrder flat.now.arcs order.now }
         requires rows { AreRows (2 * length flat.now.elements + length flat.now.inner) rows }
         ensures course { IfOk result (λ course. IsCourse (2 * length flat.now.elements + length flat.now.inner) flat.now.arcs order.now course) }
@@ -108,7 +113,7 @@ impl Course {
             along.push(arc)?;
         }
         let leaving = Leaving::new(alloc, &along, rows.of_bits.len())?;
-        Ok(Course {
+        Ok(ArcSequence {
             rows,
             along,
             leaving,

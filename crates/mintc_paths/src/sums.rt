@@ -4,22 +4,22 @@ ghost use Rattle.std.specs.Int.{int_max, int_min};
 ghost use Rattle.mintc_lanes.specs.Lanes.{AreJoined};
 ghost use Rattle.mintc_timing.specs.Limits.{IsDelay};
 ghost use Rattle.mintc_timing.specs.declared.parts.TimingArc.{TimingArc};
-ghost use Rattle.mintc_sums.specs.Sums.{sums_at, IsBounded, IsAlike};
-ghost use Rattle.mintc_sums.specs.Placed.{placed};
-ghost use Rattle.mintc_paths.specs.Awake.{IsReady, IsAwake};
+ghost use Rattle.mintc_paths_sums.specs.Sums.{sums_at, IsBounded, IsAlike};
+ghost use Rattle.mintc_paths_sums.specs.Placed.{placed};
+ghost use Rattle.mintc_paths.specs.Worklist.{IsReady, IsAwake};
 ghost use Rattle.mintc_paths.specs.Ordered.{Ordered, IsCourseOf};
 ghost use Rattle.mintc_paths.specs.Reached.{AreExtremes};
 ghost use Rattle.mintc_paths.specs.Leaving.{AreLeaving};
 ghost use Rattle.mintc_paths.specs.Sums.{AreRows, AreBegun, AreMarked, AreSums};
 
-use crate::awake::Awake;
-use crate::rows::Course;
-use mintc_sums::{Held, NO_SUMS};
+use crate::rows::ArcSequence;
+use crate::worklist::Worklist;
+use mintc_paths_sums::{NO_SUMS, SparseRows};
 use mintc_timing::TimingArc;
 use std::alloc::AllocError;
 
 /// Takes away the sums in the rows that were reached.
-fn wipe(sums: &mut Held, reached: &mut [bool])
+fn wipe(sums: &mut SparseRows, reached: &mut [bool])
     requires marked { AreMarked sums.old reached.old }
     ensures count { length sums.new ≡ length sums.old }
     ensures none { (row : ℕ) → row < length sums.new → sums_at sums.new row ≡ NO_SUMS }
@@ -32,10 +32,10 @@ fn wipe(sums: &mut Held, reached: &mut [bool])
 
 /// Makes the sums those of the empty paths from so many elements.
 fn clear(
-    sums: &mut Held,
+    sums: &mut SparseRows,
     reached: &mut [bool],
-    awake: &mut Awake,
-    course: &Course,
+    awake: &mut Worklist,
+    course: &ArcSequence,
     first: u32,
     lanes: usize,
 ) -> Result<(), AllocError>
@@ -61,10 +61,10 @@ fn clear(
 
 /// Carries the sums in the row that the arc leaves, if it is reached, to the row that it enters.
 fn carry(
-    sums: &mut Held,
+    sums: &mut SparseRows,
     reached: &mut [bool],
-    awake: &mut Awake,
-    course: &Course,
+    awake: &mut Worklist,
+    course: &ArcSequence,
     arc: TimingArc,
 ) -> Result<(), AllocError>
     requires from { arc.from < length sums.old }
@@ -97,10 +97,10 @@ fn carry(
 /// Makes the sums those of the listed paths, and of the empty ones, from up to eight elements from `first` on. A row
 /// without sums isn't marked as reached. Only the arcs that leave rows that are reached are looked at.
 pub fn fill(
-    sums: &mut Held,
+    sums: &mut SparseRows,
     reached: &mut [bool],
-    awake: &mut Awake,
-    course: &Course,
+    awake: &mut Worklist,
+    course: &ArcSequence,
     first: u32,
     lanes: usize,
 ) -> Result<(), AllocError>

@@ -1,13 +1,13 @@
 //! A path with the greatest or the least sum, traced back along the order.
 ghost use Rattle.std.specs.Prelude.{◌≡◌, ◌<◌, ◌+◌, ◌*◌, ◌↔◌, ℕ, ℤ, pos, length, Some, IfOk, IsTrue};
-ghost use Rattle.mintc_rings.specs.Rings.{total};
+ghost use Rattle.mintc_graph.specs.Rings.{total};
 ghost use Rattle.mintc_timing.specs.Limits.{IsDelay};
 ghost use Rattle.mintc_timing.specs.Order.{IsOrder};
 ghost use Rattle.mintc_timing.specs.Paths.{Leads};
-ghost use Rattle.mintc_sums.specs.Sums.{sums_at, IsBounded};
+ghost use Rattle.mintc_paths_sums.specs.Sums.{sums_at, IsBounded};
 ghost use Rattle.mintc_paths.specs.Trace.{sum_of, delay_of, weight_of, AreBestSums, IsThrough};
 
-use mintc_sums::{Held, Sums, sum_in};
+use mintc_paths_sums::{SparseRows, Sums, sum_in};
 use mintc_timing::{Flat, Order, TimingArc};
 use std::alloc::{AllocError, Global};
 
@@ -39,7 +39,7 @@ pub fn delay_at(extreme: Extreme, arc: &TimingArc) -> i64
 }
 
 /// Whether a best path to the bit can end with the arc: whether it enters the bit, and the best sum there goes through it.
-fn is_last(extreme: Extreme, sums: &Held, arc: &TimingArc, bit: u32) -> bool
+fn is_last(extreme: Extreme, sums: &SparseRows, arc: &TimingArc, bit: u32) -> bool
     requires from { arc.now.from < length sums.now }
     requires to { arc.now.to < length sums.now }
     requires min { IsDelay arc.now.min }
@@ -66,7 +66,7 @@ pub fn trace(
     extreme: Extreme,
     flat: &Flat,
     order: &Order,
-    sums: &Held,
+    sums: &SparseRows,
     end: u32,
 ) -> Result<Vec<u32>, AllocError>
     requires bits { length sums.now ≡ 2 * length flat.now.elements + length flat.now.inner }

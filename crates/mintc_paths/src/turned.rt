@@ -3,11 +3,11 @@ ghost use Rattle.std.specs.Prelude.{◌≡◌, ◌<◌, ◌≤◌, ◌+◌, ◌-
 ghost use Rattle.mintc_text.specs.declared.limits.TheConstants.{MOST_ELEMENTS};
 ghost use Rattle.mintc_timing.specs.Order.{IsOrder};
 ghost use Rattle.mintc_timing.specs.Paths.{arc_at};
-ghost use Rattle.mintc_sums.specs.Placed.{row_of};
+ghost use Rattle.mintc_paths_sums.specs.Placed.{row_of};
 ghost use Rattle.mintc_paths.specs.Sums.{AreRows, IsCourse};
 ghost use Rattle.mintc_paths.specs.Turned.{turned_bit, bit_before, flipped, turned_arcs};
 
-use crate::rows::{Course, Rows};
+use crate::rows::{ArcSequence, Rows};
 use mintc_order::Leaving;
 use mintc_timing::{Flat, Order, TimingArc};
 use std::alloc::{AllocError, Global};
@@ -113,7 +113,7 @@ fn turned_rows(alloc: Global, rows: Rows, elements: u32, places: &Rows) -> Resul
 }
 
 /// The places of the elements, in the order of the rows of their inputs.
-pub fn places_along(alloc: Global, elements: u32, rows: &Rows) -> Result<Rows, AllocError>
+pub fn element_order(alloc: Global, elements: u32, rows: &Rows) -> Result<Rows, AllocError>
     requires few { elements ≤ MOST_ELEMENTS }
     ensures { IfOk result (λ places. AreRows elements places) }
 {
@@ -132,16 +132,16 @@ pub fn turned_course(
     alloc: Global,
     flat: &Flat,
     order: &Order,
-    course: Course,
+    course: ArcSequence,
     places: &Rows,
-) -> Result<Course, AllocError>
+) -> Result<ArcSequence, AllocError>
     requires order { IsOrder flat.now.arcs order.now }
     requires course { IsCourse (2 * length flat.now.elements + length flat.now.inner) flat.now.arcs order.now course }
     requires places { AreRows (length flat.now.elements) places.now }
     ensures { IfOk result (λ turned. IsCourse (2 * length flat.now.elements + length flat.now.inner) (turned_arcs (length flat.now.elements) places.now.of_bits.items flat.now.arcs) (reverse order.now) turned) }
 {
     let elements = flat.elements().len() as u32;
-    let Course {
+    let ArcSequence {
         rows,
         mut along,
         leaving,
@@ -150,7 +150,7 @@ pub fn turned_course(
     let rows = turned_rows(alloc, rows, elements, places)?;
     turn_arcs(&mut along);
     let leaving = Leaving::new(alloc, &along, rows.of_bits.len())?;
-    Ok(Course {
+    Ok(ArcSequence {
         rows,
         along,
         leaving,

@@ -5,10 +5,10 @@ ghost use Rattle.mintc_timing.specs.Order.{IsOrder, ArePathsShort};
 ghost use Rattle.mintc_paths.specs.Found.{IsFoundBefore};
 ghost use Rattle.mintc_paths.specs.Refusals.{IsPathRange};
 
-use crate::back::find_back;
-use crate::blocks::{course_of, find_forth};
+use crate::back::find_backward;
+use crate::blocks::{course_of, find_forward};
 use crate::found::Found;
-use crate::longest::are_runs_short;
+use crate::longest::runs_are_within_limit;
 use mintc_text::Stop;
 use mintc_timing::{Flat, Order};
 use std::alloc::{AllocError, Global};
@@ -25,7 +25,7 @@ fn count_marked(marks: &[bool]) -> usize {
 }
 
 /// Whether inner bits enter the inputs of less than half as many elements as the outputs that enter inner bits.
-pub fn are_few_entered(alloc: Global, flat: &Flat) -> Result<bool, AllocError> {
+pub fn is_backward_cheaper(alloc: Global, flat: &Flat) -> Result<bool, AllocError> {
     let elements = flat.elements().len();
     let mut entered = vec![in alloc; false; elements]?;
     let mut left = vec![in alloc; false; elements]?;
@@ -52,16 +52,16 @@ pub fn find(alloc: Global, flat: &Flat, order: &Order) -> Result<Found, Stop>
     let Ok(course) = course_of(alloc, flat, order) else {
         return Err(Stop::OutOfMemory);
     };
-    let Ok(known_short) = are_runs_short(alloc, flat, order, &course) else {
+    let Ok(known_short) = runs_are_within_limit(alloc, flat, order, &course) else {
         return Err(Stop::OutOfMemory);
     };
-    let Ok(few) = are_few_entered(alloc, flat) else {
+    let Ok(few) = is_backward_cheaper(alloc, flat) else {
         return Err(Stop::OutOfMemory);
     };
     if !known_short || !few {
-        return find_forth(alloc, flat, order, &course, known_short);
+        return find_forward(alloc, flat, order, &course, known_short);
     }
-    match find_back(alloc, flat, order, course) {
+    match find_backward(alloc, flat, order, course) {
         Ok(found) => Ok(found),
         Err(_) => Err(Stop::OutOfMemory),
     }

@@ -2,7 +2,7 @@
 use Rattle.std.proofs.Common.{◌≡◌, ◌≤◌, ◌*◌, ◌^◌, ℕ, ℤ, pos, ◌≤ℤ◌, arith, lit<, to_z, of_z, ◌∙◌}
 use Rattle.std.specs.Int.{w128}
 use Rattle.mintc_fraction.specs.Ratio.{Ratio, over}
-use Rattle.mintc_walks.specs.Bounds.{IsWithin}
+use Rattle.mintc_graph_walks.specs.Bounds.{IsWithin}
 use Rattle.mintc_ratio.proofs.Weights.{fits_128}
 use Rattle.std.proofs.lemmas.Int.{ints, to_z-of_z}
 use Rattle.std.proofs.lemmas.Nat.{mul-le}

@@ -7,7 +7,7 @@ use Rattle.mintc_timing.specs.declared.link.Link.{Link}
 use Rattle.mintc_timing.specs.Links.{link_at, no_link}
 use Rattle.mintc_ratio.specs.Chains.{NamesChain}
 use Rattle.mintc_ratio.specs.Climbing.{IsPlainAt}
-use Rattle.mintc_rings.proofs.SharedRingLaws.{listed}
+use Rattle.mintc_graph.proofs.SharedRingLaws.{listed}
 
 -- a link from node 0 to node 1 and one back are a chain
 pub rest_named : (links : List Link) (forth back : ℕ) → IsPlainAt links 0 1 0 forth → IsPlainAt links 1 0 1 back → NamesChain links (forth ∷ back ∷ [])

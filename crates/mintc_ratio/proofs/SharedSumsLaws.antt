@@ -7,12 +7,12 @@ use Rattle.std.proofs.lemmas.List.{get_or-map, length-map, take_more, take_all, 
 use Rattle.std.proofs.lemmas.Map.Made.{IsDistinct-from_AllPairs}
 use Rattle.std.proofs.lemmas.Map.Steps.{length-le_from_distinct_below}
 use Rattle.std.proofs.lemmas.Map.Views.{Contains-from_any}
-use Rattle.mintc_walks.specs.Bounds.{IsWithin}
+use Rattle.mintc_graph_walks.specs.Bounds.{IsWithin}
 use Rattle.mintc_timing.specs.declared.link.Link.{Link}
-use Rattle.mintc_rings.specs.Rings.{total}
+use Rattle.mintc_graph.specs.Rings.{total}
 use Rattle.mintc_timing.specs.Links.{no_link, delay_of, cycles_of, link_at}
-use Rattle.mintc_rings.proofs.SharedRingLaws.{total-append}
-use Rattle.mintc_listing.specs.Ordinary.{IsOrdinary, IsOrdinaryLink, constraints_of}
+use Rattle.mintc_graph.proofs.SharedRingLaws.{total-append}
+use Rattle.mintc_constraints.specs.Ordinary.{IsOrdinary, IsOrdinaryLink, constraints_of}
 use Rattle.mintc_ratio.specs.Chains.{NamesChain, links_at}
 use Rattle.mintc_ratio.specs.Sums.{IsSmall}
 

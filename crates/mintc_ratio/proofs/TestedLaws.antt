@@ -7,14 +7,14 @@ use Rattle.std.proofs.lemmas.List.Elements.{All-head}
 use Rattle.std.proofs.lemmas.Bool.{cases_eq}
 use Rattle.mintc_fraction.specs.Ratio.{Ratio, over}
 use Rattle.mintc_timing.specs.declared.link.Link.{Link}
-use Rattle.mintc_rings.specs.Rings.{IsClosed}
+use Rattle.mintc_graph.specs.Rings.{IsClosed}
 use Rattle.mintc_timing.specs.Links.{Forbids, IsMet, no_link, link_at}
-use Rattle.mintc_rings.proofs.SharedRingLaws.{listed, numbers_of, exist-leads, closed-leads, leads-closed}
-use Rattle.mintc_listing.specs.Ordinary.{Leads, IsOrdinaryLink}
-use Rattle.mintc_walks.specs.declared.network.TheConstants.{UNREACHED}
-use Rattle.mintc_walks.specs.Bounds.{IsWithin}
-use Rattle.mintc_walks.specs.Walks.{value_at, IsStart, IsReached}
-use Rattle.mintc_walks.specs.Answers.{Meets, HasGreatest, HasChain}
+use Rattle.mintc_graph.proofs.SharedRingLaws.{listed, numbers_of, exist-leads, closed-leads, leads-closed}
+use Rattle.mintc_constraints.specs.Ordinary.{Leads, IsOrdinaryLink}
+use Rattle.mintc_graph_walks.specs.declared.network.TheConstants.{UNREACHED}
+use Rattle.mintc_graph_walks.specs.Bounds.{IsWithin}
+use Rattle.mintc_graph_walks.specs.Walks.{value_at, IsStart, IsReached}
+use Rattle.mintc_graph_walks.specs.Answers.{Meets, HasGreatest, HasChain}
 use Rattle.mintc_ratio.specs.Chains.{links_at, NamesChain}
 use Rattle.mintc_ratio.specs.Greatest.{asked_by, AreGreatest}
 use Rattle.mintc_ratio.specs.Tested.{NoneForbids}

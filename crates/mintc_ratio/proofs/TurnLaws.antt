@@ -8,11 +8,11 @@ use Rattle.mintc_fraction.specs.Ratio.{Ratio}
 use Rattle.mintc_timing.specs.declared.link.Link.{Link}
 use Rattle.mintc_timing.specs.Links.{delay_of, cycles_of, Forbids}
 use Rattle.mintc_timing.proofs.SharedProducts.{times-mono_positive, swap-times, add-times}
-use Rattle.mintc_listing.specs.Ordinary.{Constraints, IsOrdinary}
+use Rattle.mintc_constraints.specs.Ordinary.{Constraints, IsOrdinary}
 use Rattle.mintc_constraints.specs.Rooms.{Space}
 use Rattle.mintc_ratio.specs.declared.sums.Sums.{Sums}
-use Rattle.mintc_ratio.specs.declared.turns.Turn.{Turn}
-use Rattle.mintc_ratio.specs.declared.turns.Turn.TheVariants.{Found, Held, Free}
+use Rattle.mintc_ratio.specs.declared.turns.TestResult.{TestResult}
+use Rattle.mintc_ratio.specs.declared.turns.TestResult.TheVariants.{Found, Held, Free}
 use Rattle.mintc_ratio.specs.Chains.{links_at}
 use Rattle.mintc_ratio.specs.Climbing.{IsHeld, IsOfChain, IsJump}
 use Rattle.mintc_ratio.specs.Greatest.{AreGreatest}
@@ -73,7 +73,7 @@ steeper a delay more cycles turns p q same h =
 -- ---- turns
 
 -- a chain that forbids the ratio that is held, as a turn
-pub jump_turn : (list : Constraints) (held : Sums) (a : Ratio) (room : Space) (turn : Turn) → pos 1 ≤ℤ a.den → 1 ≤ held.cycles → a.num *ℤ pos held.cycles ≡ held.delay *ℤ a.den →
+pub jump_turn : (list : Constraints) (held : Sums) (a : Ratio) (room : Space) (turn : TestResult) → pos 1 ≤ℤ a.den → 1 ≤ held.cycles → a.num *ℤ pos held.cycles ≡ held.delay *ℤ a.den →
     Forbids (links_at list.links room.chain) a.num a.den → IsOfChain list room turn → IsJump list held room turn
 jump_turn list held a room (Found outcome) p q same forbids h = h
 jump_turn list held a room (Held sums) p q same forbids h =

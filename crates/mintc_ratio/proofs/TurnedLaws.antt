@@ -1,12 +1,12 @@
 -- What one turn of the search keeps.
 use Rattle.std.proofs.Common.{◌≡◌, ◌≤◌, ◌<◌, ◌*◌, ◌+◌, ◌-◌, ◌/◌, ◌^◌, ℕ, zero, suc, ℤ, pos, ◌+ℤ◌, ◌-ℤ◌, ◌*ℤ◌, ◌≤ℤ◌, ◌<ℤ◌, arith, ⊎_elim, ◌⊎◌, min, lit<, to_z, of_z}
 use Rattle.std.specs.Int.{w128}
-use Rattle.mintc_walks.specs.Bounds.{IsWithin}
+use Rattle.mintc_graph_walks.specs.Bounds.{IsWithin}
 use Rattle.mintc_ratio.proofs.Weights.{fits_128}
 use Rattle.std.proofs.lemmas.Int.{ints, to_z-of_z}
 use Rattle.std.proofs.Math.Nat.{pow-suc}
 use Rattle.mintc_fraction.specs.Ratio.{over}
-use Rattle.mintc_listing.specs.Ordinary.{Constraints, IsOrdinary}
+use Rattle.mintc_constraints.specs.Ordinary.{Constraints, IsOrdinary}
 use Rattle.mintc_constraints.specs.Rooms.{Space}
 use Rattle.mintc_ratio.specs.declared.sums.Sums.{Sums}
 use Rattle.mintc_ratio.specs.Climbing.{IsHeld, IsLow, IsSteeper, IsClimbing, grid_of}

@@ -6,12 +6,12 @@ use Rattle.std.proofs.lemmas.List.{get_or-map, length-map}
 use Rattle.mintc_fraction.specs.Ratio.{Ratio}
 use Rattle.mintc_timing.specs.declared.link.Link.{Link}
 use Rattle.mintc_timing.specs.Links.{no_link, delay_of, cycles_of, link_at}
-use Rattle.mintc_listing.specs.Ordinary.{Leads, IsOrdinaryLink}
-use Rattle.mintc_rings.proofs.SharedRingLaws.{LeadsBy-map, LeadsBy-of_map}
-use Rattle.mintc_walks.specs.declared.network.Arc.{Arc}
-use Rattle.mintc_walks.specs.Bounds.{IsWithin, AreOrdinary}
-use Rattle.mintc_walks.specs.Walks.{arc_at, no_arc, weight_of}
-use Rattle.mintc_walks.specs.Walks as walks
+use Rattle.mintc_constraints.specs.Ordinary.{Leads, IsOrdinaryLink}
+use Rattle.mintc_graph.proofs.SharedRingLaws.{LeadsBy-map, LeadsBy-of_map}
+use Rattle.mintc_graph_walks.specs.declared.network.Arc.{Arc}
+use Rattle.mintc_graph_walks.specs.Bounds.{IsWithin, AreOrdinary}
+use Rattle.mintc_graph_walks.specs.Walks.{arc_at, no_arc, weight_of}
+use Rattle.mintc_graph_walks.specs.Walks as walks
 use Rattle.mintc_ratio.specs.Chains.{links_at}
 use Rattle.mintc_ratio.specs.Greatest.{asked_by, asked_by_link}
 use Rattle.mintc_ratio.specs.Weighed.{IsTestable, weighed, arcs_of}

@@ -1,13 +1,12 @@
 -- Sizes of what links ask for, in 64 and in 128 bits.
-use Rattle.std.proofs.Common.{◌≡◌, ℕ, zero, suc, ℤ, pos, negsuc, ◌*◌, ◌^◌, ◌+ℤ◌, ◌-ℤ◌, ◌*ℤ◌, ◌<◌, ◌≤◌, refl, ⊎_elim, ◌⊎◌, inl, inr, arith}
+use Rattle.std.proofs.Common.{◌≡◌, ℕ, zero, suc, ℤ, pos, negsuc, ◌*◌, ◌^◌, ◌+ℤ◌, ◌-ℤ◌, ◌*ℤ◌, ◌<◌, ◌≤◌, refl, ⊎_elim, ◌⊎◌, inl, inr, arith, SFits, to_z, of_z, lit<}
 use Rattle.std.proofs.lemmas.Int.{ints, to_z-of_z, fits_signed_from_abs}
-use Rattle.std.proofs.Common.{SFits, to_z, of_z, lit<}
 use Rattle.std.specs.Int.{w64, w128}
 use Rattle.mintc_timing.proofs.SharedProducts.{add-times}
 use Rattle.mintc_fraction.specs.Ratio.{over}
 use Rattle.mintc_ratio.specs.Weighed.{IsTestable}
-use Rattle.mintc_walks.specs.Bounds.{IsWithin}
-use Rattle.mintc_walks.proofs.SharedWithin.{abs_within, IsWithin-product}
+use Rattle.mintc_graph_walks.specs.Bounds.{IsWithin}
+use Rattle.mintc_graph_walks.proofs.SharedWithin.{abs_within, IsWithin-product}
 
 pub fits_128 : (b : ℕ) (z : ℤ) → b < 2 ^ 127 → IsWithin b z → SFits w128 z
 fits_128 b z h k = let a = abs_within b z k in fits_signed_from_abs w128 z (omega arith)

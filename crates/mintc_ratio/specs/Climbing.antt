@@ -3,13 +3,13 @@ use Rattle.std.specs.Prelude.{◌≡◌, ◌<◌, ◌≤◌, ◌*◌, ◌+◌, �
 use Rattle.mintc_fraction.specs.Ratio.{over, IsFloor}
 use Rattle.mintc_timing.specs.declared.link.Link.{Link}
 use Rattle.mintc_timing.specs.Links.{delay_of, cycles_of, link_at}
-use Rattle.mintc_listing.specs.Ordinary.{Constraints}
+use Rattle.mintc_constraints.specs.Ordinary.{Constraints}
 use Rattle.mintc_constraints.specs.Rooms.{Space}
 use Rattle.mintc_ratio.specs.declared.sums.Sums.{Sums}
-use Rattle.mintc_ratio.specs.declared.turns.Turn.{Turn}
-use Rattle.mintc_ratio.specs.declared.turns.Turn.TheVariants.{Found, Held, Free}
-use Rattle.mintc_ratio.specs.declared.advancing.Advance.{Advance}
-use Rattle.mintc_ratio.specs.declared.advancing.Advance.TheVariants.{Over, On}
+use Rattle.mintc_ratio.specs.declared.turns.TestResult.{TestResult}
+use Rattle.mintc_ratio.specs.declared.turns.TestResult.TheVariants.{Found, Held, Free}
+use Rattle.mintc_ratio.specs.declared.advancing.SearchState.{SearchState}
+use Rattle.mintc_ratio.specs.declared.advancing.SearchState.TheVariants.{Over, On}
 use Rattle.mintc_ratio.specs.Chains.{links_at, NamesChain}
 use Rattle.mintc_ratio.specs.Searched.{HasSearched}
 use Rattle.mintc_ratio.specs.Sums.{HasSums, IsSmall}
@@ -45,20 +45,20 @@ abbrev pub IsSteeper : Sums → Sums → Type 0
 IsSteeper old new = (old.delay *ℤ pos new.cycles) <ℤ (new.delay *ℤ pos old.cycles)
 
 -- A chain as a turn: one that forbids every cycle time, or one with a cycle.
-abbrev pub IsOfChain : Constraints → Space → Turn → Type 0
+abbrev pub IsOfChain : Constraints → Space → TestResult → Type 0
 IsOfChain list room (Found outcome) = HasSearched list room outcome
 IsOfChain list room (Held sums) = IsHeld list room sums
 IsOfChain list room Free = ⊥
 
 -- What a test of the ratio that is held leaves: an outcome, or a chain with a greater ratio.
-abbrev pub IsJump : Constraints → Sums → Space → Turn → Type 0
+abbrev pub IsJump : Constraints → Sums → Space → TestResult → Type 0
 IsJump list held room (Found outcome) = HasSearched list room outcome
 IsJump list held room (Held sums) = IsHeld list room sums × IsSteeper held sums
 IsJump list held room Free = ⊥
 
 -- What a test at a part of the grid leaves: a chain that forbids every cycle time, a chain with a greater ratio, or the
 -- chain that was held, and no chain forbids that cycle time.
-abbrev pub IsHalving : Constraints → ℤ → Space → Space → Turn → Type 0
+abbrev pub IsHalving : Constraints → ℤ → Space → Space → TestResult → Type 0
 IsHalving list middle old new (Found outcome) = HasSearched list new outcome
 IsHalving list middle old new (Held sums) = IsHeld list new sums × ((middle *ℤ pos sums.cycles) <ℤ (sums.delay *ℤ grid_of list.nodes))
 IsHalving list middle old new Free = NoneForbids list.links (over middle (grid_of list.nodes)) × (new.chain ≡ old.chain)
@@ -84,6 +84,6 @@ pub record IsClimbing (list : Constraints) (start begun : ℕ) (room : Space) (h
   pub few : now + (halvings + 1) * (list.nodes + 1) ≤ start + 68 * (list.nodes + 1)
 
 -- What a turn of such a search leaves: an outcome, or the search goes on from other sums and another high cycle time.
-abbrev pub IsAdvanced : Constraints → ℕ → ℕ → Space → ℕ → Advance → Type 0
+abbrev pub IsAdvanced : Constraints → ℕ → ℕ → Space → ℕ → SearchState → Type 0
 IsAdvanced list start begun room now (Over outcome) = HasSearched list room outcome × (now ≤ start + 68 * (list.nodes + 1))
 IsAdvanced list start begun room now (On held high) = (halvings : ℕ) × IsClimbing list start begun room held high halvings now

@@ -2,7 +2,7 @@
 use Rattle.std.specs.Prelude.{pos, ◌≤ℤ◌}
 use Rattle.mintc_fraction.specs.Ratio.{Ratio, IsFraction, IsLowest}
 use Rattle.mintc_timing.specs.Links.{IsTight, IsStuck}
-use Rattle.mintc_listing.specs.Ordinary.{Constraints}
+use Rattle.mintc_constraints.specs.Ordinary.{Constraints}
 use Rattle.mintc_constraints.specs.Rooms.{Space}
 use Rattle.mintc_ratio.specs.declared.searching.Outcome.{Outcome}
 use Rattle.mintc_ratio.specs.declared.searching.Outcome.TheVariants.{Least, Never}

@@ -2,7 +2,7 @@
 use Rattle.std.specs.Prelude.{◌^◌, pos, ◌≤ℤ◌, List, map}
 use Rattle.mintc_fraction.specs.Ratio.{Ratio}
 use Rattle.mintc_timing.specs.declared.link.Link.{Link}
-use Rattle.mintc_walks.specs.declared.network.Arc.{Arc}
+use Rattle.mintc_graph_walks.specs.declared.network.Arc.{Arc}
 use Rattle.mintc_ratio.specs.Greatest.{asked_by_link}
 
 -- a cycle time at which links can be tested

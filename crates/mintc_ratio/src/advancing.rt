@@ -5,14 +5,14 @@ ghost use Rattle.mintc_ratio.specs.Climbing.{IsAdvanced, IsClimbing};
 use crate::budget::may_jump;
 use crate::searching::Outcome;
 use crate::sums::{Sums, low_of};
-use crate::turns::{Turn, halve, jump};
+use crate::turns::{TestResult, test_held_ratio, test_midpoint};
 use mintc_constraints::{LinkList, Room};
-use mintc_walks::Steps;
+use mintc_graph_walks::Steps;
 use std::sync::ledger::Ledger;
 
 /// What a turn leaves.
 #[derive(Clone, Copy, Debug)]
-pub(crate) enum Advance {
+pub(crate) enum SearchState {
     /// The search is over.
     Over { outcome: Outcome },
     /// The room holds a chain with these sums, and no chain with a cycle forbids the cycle time of `high` parts of the grid.
@@ -48,7 +48,7 @@ pub(crate) fn take_turn<L: Ledger>(
     begun: u64,
     room: &mut Room,
     steps: &mut Steps<L>,
-) -> Advance
+) -> SearchState
     requires nodes { links.now.nodes ≤ room.old.nodes }
     requires links { length links.now.links ≤ room.old.links }
     requires climbing { (start : ℕ) × (halvings : ℕ) × IsClimbing links.now start begun room.old held high halvings steps.old }
@@ -63,17 +63,17 @@ pub(crate) fn take_turn<L: Ledger>(
     let low = low_of(nodes, held);
     let width = width_of(low, high);
     if may_jump(nodes, begun, steps.taken(), width) {
-        match jump(links, held, room, steps) {
-            Turn::Found { outcome } => Advance::Over { outcome },
-            Turn::Held { sums } => Advance::On { held: sums, high },
-            Turn::Free => unreachable!(),
+        match test_held_ratio(links, held, room, steps) {
+            TestResult::Found { outcome } => SearchState::Over { outcome },
+            TestResult::Held { sums } => SearchState::On { held: sums, high },
+            TestResult::Free => unreachable!(),
         }
     } else {
         let middle = middle_of(low, width);
-        match halve(links, held, middle, room, steps) {
-            Turn::Found { outcome } => Advance::Over { outcome },
-            Turn::Held { sums } => Advance::On { held: sums, high },
-            Turn::Free => Advance::On { held, high: middle },
+        match test_midpoint(links, held, middle, room, steps) {
+            TestResult::Found { outcome } => SearchState::Over { outcome },
+            TestResult::Held { sums } => SearchState::On { held: sums, high },
+            TestResult::Free => SearchState::On { held, high: middle },
         }
     }
 }

@@ -1,6 +1,6 @@
 //! The chain of the first two nodes, which shows that no cycle time is below 0.
 ghost use Rattle.std.specs.Prelude.{◌≡◌, ◌≤◌, ◌<◌, ◌^◌, ◌↔◌, IsTrue, pos, length};
-ghost use Rattle.mintc_listing.specs.Ordinary.{HasPlainLink};
+ghost use Rattle.mintc_constraints.specs.Ordinary.{HasPlainLink};
 ghost use Rattle.mintc_timing.specs.Links.{cycles_of, delay_of};
 ghost use Rattle.mintc_ratio.specs.Chains.{NamesChain, links_at};
 ghost use Rattle.mintc_ratio.specs.Climbing.{IsPlainAt};

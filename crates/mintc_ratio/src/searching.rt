@@ -3,14 +3,14 @@ ghost use Rattle.std.specs.Prelude.{◌≡◌, ◌≤◌, ◌+◌, ◌*◌, ℕ,
 ghost use Rattle.mintc_ratio.specs.Climbing.{IsClimbing, top_of};
 ghost use Rattle.mintc_ratio.specs.Searched.{HasSearched};
 
-use crate::advancing::{Advance, take_turn};
+use crate::advancing::{SearchState, take_turn};
 use crate::rest::hold_rest;
 use crate::sums::Sums;
-use crate::turns::{Turn, turn_of};
+use crate::turns::{TestResult, turn_of};
 use crate::{Test, test_at};
 use mintc_constraints::{LinkList, Room};
 use mintc_fraction::Fraction;
-use mintc_walks::Steps;
+use mintc_graph_walks::Steps;
 use std::sync::ledger::Ledger;
 
 /// What the search for the least cycle time finds.
@@ -32,7 +32,7 @@ fn top_of(nodes: u32) -> i128
 }
 
 /// Searches on from a chain in the room, in as many steps as are left.
-fn climb<L: Ledger>(
+fn search_from<L: Ledger>(
     links: &LinkList,
     first: Sums,
     begun: u64,
@@ -53,8 +53,8 @@ fn climb<L: Ledger>(
     let mut high = top_of(links.nodes());
     loop {
         match take_turn(links, held, high, begun, room, steps) {
-            Advance::Over { outcome } => return outcome,
-            Advance::On {
+            SearchState::Over { outcome } => return outcome,
+            SearchState::On {
                 held: next,
                 high: lower,
             } => {
@@ -89,9 +89,9 @@ pub fn search<L: Ledger>(links: &LinkList, room: &mut Room, steps: &mut Steps<L>
             Outcome::Least { cycle: rest }
         }
         Test::Chain => match turn_of(links, room) {
-            Turn::Found { outcome } => outcome,
-            Turn::Held { sums } => climb(links, sums, begun, room, steps),
-            Turn::Free => unreachable!(),
+            TestResult::Found { outcome } => outcome,
+            TestResult::Held { sums } => search_from(links, sums, begun, room, steps),
+            TestResult::Free => unreachable!(),
         },
     }
 }

@@ -1,6 +1,6 @@
 //! The sums of a chain, and its ratio.
 ghost use Rattle.std.specs.Prelude.{◌≡◌, ◌≤◌, ◌*◌, pos, ◌≤ℤ◌};
-ghost use Rattle.mintc_listing.specs.Ordinary.{IsOrdinary, constraints_of};
+ghost use Rattle.mintc_constraints.specs.Ordinary.{IsOrdinary, constraints_of};
 ghost use Rattle.mintc_fraction.specs.Ratio.{IsEqual, over};
 ghost use Rattle.mintc_ratio.specs.Chains.{NamesChain, links_at};
 ghost use Rattle.mintc_ratio.specs.Climbing.{IsLow, grid_of};

@@ -1,12 +1,12 @@
 //! The test of one cycle time.
 ghost use Rattle.std.specs.Prelude.{◌≡◌, ◌≢◌, ◌<◌, ◌≤◌, ◌+◌, ◌^◌, ℕ, pos, ◌≤ℤ◌, length};
-ghost use Rattle.mintc_walks.specs.Walks.{value_at};
+ghost use Rattle.mintc_graph_walks.specs.Walks.{value_at};
 ghost use Rattle.mintc_ratio.specs.Tested.{HasTested};
 
 use crate::weighed::Weighed;
 use mintc_constraints::{LinkList, Room};
 use mintc_fraction::Fraction;
-use mintc_walks::{Answer, Steps, UNREACHED};
+use mintc_graph_walks::{Answer, Steps, UNREACHED};
 use std::sync::ledger::Ledger;
 
 /// What a test of a cycle time finds.

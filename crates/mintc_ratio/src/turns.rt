@@ -9,12 +9,12 @@ use crate::sums::{Sums, grid_of, ratio_of, sums_of};
 use crate::{Test, test_at};
 use mintc_constraints::{LinkList, Room};
 use mintc_fraction::Fraction;
-use mintc_walks::Steps;
+use mintc_graph_walks::Steps;
 use std::sync::ledger::Ledger;
 
 /// What a turn finds.
 #[derive(Clone, Copy, Debug)]
-pub(crate) enum Turn {
+pub(crate) enum TestResult {
     /// The search is over.
     Found { outcome: Outcome },
     /// The room holds a chain with these sums.
@@ -24,28 +24,28 @@ pub(crate) enum Turn {
 }
 
 /// The chain in the room as a turn: one that forbids every cycle time ends the search.
-pub(crate) fn turn_of(links: &LinkList, room: &Room) -> Turn
+pub(crate) fn turn_of(links: &LinkList, room: &Room) -> TestResult
     requires chain { NamesChain links.now.links room.now.chain }
     requires low { pos 1 ≤ℤ delay_of (links_at links.now.links room.now.chain) }
     ensures { IsOfChain links.now room.now result }
 {
     let sums = sums_of(links.nodes(), links.items(), room.chain());
     if sums.cycles == 0 {
-        Turn::Found {
+        TestResult::Found {
             outcome: Outcome::Never,
         }
     } else {
-        Turn::Held { sums }
+        TestResult::Held { sums }
     }
 }
 
 /// Tests the ratio of the chain that the room holds.
-pub(crate) fn jump<L: Ledger>(
+pub(crate) fn test_held_ratio<L: Ledger>(
     links: &LinkList,
     held: Sums,
     room: &mut Room,
     steps: &mut Steps<L>,
-) -> Turn
+) -> TestResult
     requires nodes { links.now.nodes ≤ room.old.nodes }
     requires links { length links.now.links ≤ room.old.links }
     requires held { IsHeld links.now room.old held }
@@ -60,7 +60,7 @@ pub(crate) fn jump<L: Ledger>(
     let _nodes = links.nodes();
     let cycle = ratio_of(held);
     match test_at(links, &cycle, room, steps) {
-        Test::Values => Turn::Found {
+        Test::Values => TestResult::Found {
             outcome: Outcome::Least { cycle },
         },
         Test::Chain => turn_of(links, room),
@@ -68,13 +68,13 @@ pub(crate) fn jump<L: Ledger>(
 }
 
 /// Tests the cycle time of so many parts of the grid.
-pub(crate) fn halve<L: Ledger>(
+pub(crate) fn test_midpoint<L: Ledger>(
     links: &LinkList,
     held: Sums,
     middle: i128,
     room: &mut Room,
     steps: &mut Steps<L>,
-) -> Turn
+) -> TestResult
     requires nodes { links.now.nodes ≤ room.old.nodes }
     requires links { length links.now.links ≤ room.old.links }
     requires held { IsHeld links.now room.old held }
@@ -90,7 +90,7 @@ pub(crate) fn halve<L: Ledger>(
 {
     let at = Fraction::new(middle, grid_of(links.nodes()));
     match test_at(links, &at, room, steps) {
-        Test::Values => Turn::Free,
+        Test::Values => TestResult::Free,
         Test::Chain => turn_of(links, room),
     }
 }

@@ -2,7 +2,7 @@
 use Rattle.std.proofs.Common.{◌≡◌, ◌<◌, ℕ, ℤ, pos, ◌+ℤ◌, List, [], ◌∷◌, length, get_or, map, arith, refl, ap, sym, ◌∙◌, subst, ◌↔◌}
 use Rattle.std.proofs.lemmas.List.{length-map, get_or-map}
 use Rattle.mintc_timing.specs.declared.link.Link.{Link}
-use Rattle.mintc_rings.specs.Rings.{IsClosed, Joins, total}
+use Rattle.mintc_graph.specs.Rings.{IsClosed, Joins, total}
 use Rattle.mintc_timing.specs.Links.{IsStuck, IsTight}
 use Rattle.mintc_optimise.proofs.SharedCertificateLaws.{IsRound}
 use Rattle.mintc_safe.specs.SafeOptimum.{bare}

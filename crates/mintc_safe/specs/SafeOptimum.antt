@@ -4,7 +4,7 @@ use Rattle.std.specs.Prelude.{◌<◌, List, map, All, IsTrue, ◌≢◌, ◌≤
 use Rattle.mintc_text.specs.declared.limits.TheConstants.{MOST_MEMBERS}
 use Rattle.mintc_timing.specs.declared.clocking.Schedule.{Schedule}
 use Rattle.mintc_timing.specs.declared.link.Link.{Link}
-use Rattle.mintc_rings.specs.Rings.{IsClosed}
+use Rattle.mintc_graph.specs.Rings.{IsClosed}
 use Rattle.mintc_timing.specs.Design.{Design, Timing, element_count, element_at}
 use Rattle.mintc_timing.specs.Paths.{IsPath, input_of, greatest_delay, least_delay, IsGreatestDelay, IsLeastDelay}
 use Rattle.mintc_timing.specs.Links.{IsTight, IsStuck, link_at}
@@ -16,7 +16,7 @@ use Rattle.mintc_safe.specs.declared.members.SafeMember.TheVariants.{Plain, Hold
 use Rattle.mintc_safe.specs.declared.certificate.SafeCertificate.{SafeCertificate}
 use Rattle.mintc_safe.specs.declared.certificate.SafeCertificate.TheVariants.{Least, Never}
 use Rattle.mintc_safe.specs.Hold.{IsSafe, IsSafeCycle, IsHopelessForHold, hold_link, safe_links_of}
-use Rattle.mintc_lines.specs.Fields.{IsCount}
+use Rattle.mintc_timing_text.specs.Fields.{IsCount}
 use Rattle.mintc_timing.specs.Limits.{IsInRange}
 use Rattle.mintc_certificate.specs.CertificateText.{IsCounted}
 use Rattle.mintc_certificate.specs.Ranges.{IsDeparture}

@@ -1,7 +1,7 @@
 -- Safe texts.
 use Rattle.std.specs.Prelude.{ℕ, List, [], ◌∷◌, ◌++◌, length, map, codes}
 use Rattle.mintc_text.specs.Lines.{words}
-use Rattle.mintc_lines.specs.Fields.{number}
+use Rattle.mintc_timing_text.specs.Fields.{number}
 use Rattle.mintc_certificate.specs.CertificateText.{member_words}
 use Rattle.mintc_certificate.specs.Written.{count_line, schedule_lines, departure_lines}
 use Rattle.mintc_safe.specs.declared.members.SafeMember.{SafeMember}

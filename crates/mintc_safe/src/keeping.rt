@@ -1,7 +1,7 @@
 //! The least cycle time that keeps hold, with its certificate.
 ghost use Rattle.std.specs.Prelude.{◌≡◌, ◌≤◌, ◌+◌, ◌*◌, IfOk};
-ghost use Rattle.mintc_listing.specs.Laws.{node_count};
-ghost use Rattle.mintc_listing.specs.Ordinary.{constraints_of};
+ghost use Rattle.mintc_constraints.specs.Laws.{node_count};
+ghost use Rattle.mintc_constraints.specs.Ordinary.{constraints_of};
 ghost use Rattle.mintc_ratio.specs.Searched.{HasSearched};
 ghost use Rattle.mintc_safe.specs.Hold.{safe_links_of};
 ghost use Rattle.mintc_safe.specs.SafeOptimum.{IsSafeOptimum};
@@ -10,11 +10,11 @@ use crate::SafeCertificate;
 use crate::chain::members;
 use crate::holds::safe_links;
 use mintc_constraints::{LinkList, Room};
+use mintc_graph_walks::Steps;
 use mintc_optimise::{departures, schedule};
 use mintc_ratio::{Outcome, search};
 use mintc_text::OutOfMemory;
 use mintc_timing::System;
-use mintc_walks::Steps;
 use std::alloc::Global;
 use std::sync::ledger::Ledger;
 

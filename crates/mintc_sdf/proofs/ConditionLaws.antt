@@ -2,16 +2,16 @@
 use Rattle.std.proofs.Common.{◌≡◌, ℕ, Bool, true, false, true≢false, if◌then◌else◌, List, [], ◌∷◌, Option, Some, None, option_map, codes, bytes_eq, refl, sym, ap, ◌∙◌, arith}
 use Rattle.std.specs.Str.{str_to_ascii_lowercase}
 use Rattle.std.proofs.lemmas.Slice.Eq.{bytes_eq-Decides}
-use Rattle.mintc_sdflex.specs.declared.conditions.Layer.{Layer}
-use Rattle.mintc_sdflex.specs.declared.conditions.Layer.TheVariants as layer
-use Rattle.mintc_sdflex.specs.Tokens.{Token}
-use Rattle.mintc_sdflex.specs.Items.{Items, leaf, is_none, count, items, fronts}
-use Rattle.mintc_sdflex.specs.Words.{is_key, is_edge}
+use Rattle.mintc_sdf_tokens.specs.declared.conditions.Layer.{Layer}
+use Rattle.mintc_sdf_tokens.specs.declared.conditions.Layer.TheVariants as layer
+use Rattle.mintc_sdf_tokens.specs.Tokens.{Token}
+use Rattle.mintc_sdf_tokens.specs.Items.{Items, leaf, is_none, count, items, fronts}
+use Rattle.mintc_sdf_tokens.specs.Words.{is_key, is_edge}
 use Rattle.mintc_sdf.specs.Forms.{Claim, with_items, list_at, inner_def, last_def, lone_def, inner_port, last_port, port_at}
-use Rattle.mintc_sdflex.specs.Reading.{word_at, inside, with_rest}
-use Rattle.mintc_sdflex.specs.Conditions.{kind_of, layer_at, walked}
-use Rattle.mintc_sdflex.proofs.SharedInsideLaws.{inside-same, word-next}
-use Rattle.mintc_sdflex.proofs.SharedConditionLaws.{more_by, more-any, more-over, limited, Form, layer-word, Plain, found-none, found-inside}
+use Rattle.mintc_sdf_tokens.specs.Reading.{word_at, inside, with_rest}
+use Rattle.mintc_sdf_tokens.specs.Conditions.{kind_of, layer_at, walked}
+use Rattle.mintc_sdf_tokens.proofs.SharedInsideLaws.{inside-same, word-next}
+use Rattle.mintc_sdf_tokens.proofs.SharedConditionLaws.{more_by, more-any, more-over, limited, Form, layer-word, Plain, found-none, found-inside}
 use Rattle.mintc_sdf.proofs.ShownLaws.{shown}
 
 -- distinct keywords

@@ -11,7 +11,7 @@ use Rattle.mintc_sdf.specs.declared.delays.Delay.{Delay}
 use Rattle.mintc_sdf.specs.declared.numbers.Fault.{Fault}
 use Rattle.mintc_sdf.specs.Numbers.{is_far, is_below_zero, rounded_down, rounded_up, least, greatest, number_fault, or_else}
 use Rattle.mintc_sdf.specs.Texts.{Said, may_be_negative, refusal_of, fault_of, first_fault, delays_by, delays_from, said_in, judged, reading, delays_of}
-use Rattle.mintc_sdflex.specs.Tokens.{tokens_of}
+use Rattle.mintc_sdf_tokens.specs.Tokens.{tokens_of}
 use Rattle.mintc_sdf.specs.Laws.{IsWithin}
 use Rattle.mintc_sdf.proofs.RoundLaws.{less, quotient, under-some}
 

@@ -2,10 +2,10 @@
 use Rattle.std.proofs.Common.{◌≡◌, ℕ, Option, Some, None, List, ap, ◌∙◌}
 use Rattle.mintc_sdf.specs.declared.delays.Subject.{Subject}
 use Rattle.mintc_sdf.specs.declared.numbers.Sum.{Sum}
-use Rattle.mintc_sdflex.specs.Tokens.{Token}
-use Rattle.mintc_sdflex.specs.Items.{Items, items}
+use Rattle.mintc_sdf_tokens.specs.Tokens.{Token}
+use Rattle.mintc_sdf_tokens.specs.Items.{Items, items}
 use Rattle.mintc_sdf.specs.Forms.{Claim, claim, list_at, inner_def}
-use Rattle.mintc_sdflex.specs.Reading.{after_opening, inside}
+use Rattle.mintc_sdf_tokens.specs.Reading.{after_opening, inside}
 use Rattle.mintc_sdf.specs.Keeping.{IsClaim}
 use Rattle.mintc_sdf.proofs.CellLaws.{at-bad, at-some}
 

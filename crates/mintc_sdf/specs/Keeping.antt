@@ -6,8 +6,8 @@ use Rattle.mintc_sdf.specs.declared.delays.Subject.TheVariants as subject
 use Rattle.mintc_sdf.specs.declared.numbers.Sum.{Sum}
 use Rattle.mintc_sdf.specs.declared.found.Context.{Context}
 use Rattle.mintc_sdf.specs.declared.texts.State.{State}
-use Rattle.mintc_sdflex.specs.Tokens.{Token}
-use Rattle.mintc_sdflex.specs.Items.{Items, items, after}
+use Rattle.mintc_sdf_tokens.specs.Tokens.{Token}
+use Rattle.mintc_sdf_tokens.specs.Items.{Items, items, after}
 use Rattle.mintc_sdf.specs.Forms.{Claim, claim, two_ports, lone_value, Cell, settings}
 use Rattle.mintc_sdf.specs.Texts.{Said, said_by, Progress, may_be_negative, entries, whole, is_end}
 use Rattle.mintc_sdf.specs.Sums.{no_numbers, added}

@@ -5,7 +5,7 @@ use Rattle.mintc_decimal.specs.Decimals.{Number}
 use Rattle.mintc_sdf.specs.declared.numbers.Fault.{Fault}
 use Rattle.mintc_sdf.specs.declared.numbers.Fault.TheVariants as fault
 use Rattle.mintc_sdf.specs.declared.numbers.Sum.{Sum}
-use Rattle.mintc_sdflex.specs.Tokens.{Token}
+use Rattle.mintc_sdf_tokens.specs.Tokens.{Token}
 use Rattle.mintc_sdf.specs.Numbers.{is_far, is_below_zero, rounded_down, rounded_up, or_else}
 
 -- Whether there is any, their least and greatest, and the first fault.

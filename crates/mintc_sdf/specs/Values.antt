@@ -1,7 +1,7 @@
 -- What a reader finds of values.
 use Rattle.std.specs.Prelude.{ℕ, suc, ◌+◌, nat_le, ◌&&◌, ◌==◌, if◌then◌else◌, List, [], ◌∷◌, Option, Some, None}
 use Rattle.mintc_decimal.specs.Decimals.{Number}
-use Rattle.mintc_sdflex.specs.Items.{Items, none, leaf, count}
+use Rattle.mintc_sdf_tokens.specs.Items.{Items, none, leaf, count}
 use Rattle.mintc_sdf.specs.Forms.{all_values, value_word}
 
 -- how many bytes stand before the first colon

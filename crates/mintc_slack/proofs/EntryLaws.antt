@@ -5,22 +5,22 @@ use Rattle.std.proofs.lemmas.List.{get_or_default}
 use Rattle.std.specs.Prelude.{slice_set}
 use Rattle.mintc_fraction.specs.Ratio.{Ratio}
 use Rattle.mintc_timing.specs.Design.{Timing, pair_at}
-use Rattle.mintc_listing.specs.Ordinary.{Constraints}
+use Rattle.mintc_constraints.specs.Ordinary.{Constraints}
 use Rattle.mintc_slack.specs.declared.finding.Entry.{Entry}
-use Rattle.mintc_walker.specs.declared.walked.Walker.{Walker}
-use Rattle.mintc_walker.specs.Gaps.{AreGaps}
+use Rattle.mintc_slack.specs.declared.walked.SlackWalks.{SlackWalks}
+use Rattle.mintc_slack.specs.Gaps.{AreGaps}
 use Rattle.mintc_slack.specs.Entries.{AreEntries, HasSettled, entry_at}
-use Rattle.mintc_walker.specs.Ready.{IsReady}
+use Rattle.mintc_slack.specs.Ready.{IsReady}
 
-pub ready-kept : (t : Timing) (list : Constraints) (at : Ratio) (w v : Walker) → IsReady t list at w → v ≡ record w { distances = v.distances; ahead = v.ahead } →
+pub ready-kept : (t : Timing) (list : Constraints) (at : Ratio) (w v : SlackWalks) → IsReady t list at w → v ≡ record w { distances = v.distances; ahead = v.ahead } →
     length v.distances.items ≡ length w.distances.items → IsReady t list at v
 ready-kept t list at w v h kept count = record {
-  system = ap (λ (x : Walker). x.system.now) kept ∙ h.system;
-  list_is = ap (λ (x : Walker). x.list.now) kept ∙ h.list_is;
-  at_is = ap (λ (x : Walker). x.at.now) kept ∙ h.at_is;
+  system = ap (λ (x : SlackWalks). x.system.now) kept ∙ h.system;
+  list_is = ap (λ (x : SlackWalks). x.list.now) kept ∙ h.list_is;
+  at_is = ap (λ (x : SlackWalks). x.at.now) kept ∙ h.at_is;
   links = h.links;
   cycle = h.cycle;
-  gaps = subst (λ (x : Walker). AreGaps list at x.potentials.items x.gaps.items) (sym kept) h.gaps;
+  gaps = subst (λ (x : SlackWalks). AreGaps list at x.potentials.items x.gaps.items) (sym kept) h.gaps;
   count = count ∙ h.count;
 }
 

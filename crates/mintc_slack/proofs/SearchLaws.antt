@@ -3,14 +3,14 @@ use Rattle.std.proofs.Common.{◌≡◌, ◌≤◌, ℤ, pos, negsuc, ◌≤ℤ�
 use Rattle.std.proofs.lemmas.Int.{ints}
 use Rattle.std.specs.List.{All}
 use Rattle.mintc_fraction.specs.Ratio.{Ratio, IsModest}
-use Rattle.mintc_walks.specs.Walks.{value_at}
+use Rattle.mintc_graph_walks.specs.Walks.{value_at}
 use Rattle.mintc_timing.specs.declared.link.Link.{Link}
 use Rattle.mintc_timing.specs.Design.{Timing}
 use Rattle.mintc_timing.specs.Limits.{IsDesign}
 use Rattle.mintc_timing.specs.Links.{IsChain, links_of, IsMet, IsStuck}
 use Rattle.mintc_timing.specs.Right.{IsHopeless, IsLeastCycle}
 use Rattle.mintc_timing.specs.Paths.{HasEnds}
-use Rattle.mintc_listing.specs.Ordinary.{Constraints, IsOrdinary}
+use Rattle.mintc_constraints.specs.Ordinary.{Constraints, IsOrdinary}
 use Rattle.mintc_constraints.specs.Rooms.{Space}
 use Rattle.mintc_timing.specs.Times.{node_time}
 use Rattle.mintc_timing.proofs.SharedMeetingLaws.{right_meets_links_lem}

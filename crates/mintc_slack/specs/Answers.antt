@@ -5,7 +5,7 @@ use Rattle.mintc_timing.specs.Design.{Timing}
 use Rattle.mintc_timing.specs.Right.{IsHopeless, IsLeastCycle}
 use Rattle.mintc_slack.specs.declared.finding.Slacks.{Slacks}
 use Rattle.mintc_slack.specs.declared.finding.Slacks.TheVariants.{Least, Never}
-use Rattle.mintc_walker.specs.Slack.{AreSlacks}
+use Rattle.mintc_slack.specs.Slack.{AreSlacks}
 
 -- The least cycle in lowest terms, and the slack of each pair; or no schedule is right.
 pub record HasSlacks (t : Timing) (cycle : Ratio) (extra : List ℤ) : Type 0 where

@@ -4,24 +4,25 @@ ghost use Rattle.std.specs.Bool.{OnFalse};
 ghost use Rattle.mintc_timing.specs.Design.{element_count};
 ghost use Rattle.mintc_timing.specs.Links.{links_of};
 ghost use Rattle.mintc_timing.specs.Right.{IsLeastCycle};
-ghost use Rattle.mintc_listing.specs.Laws.{node_count};
-ghost use Rattle.mintc_listing.specs.Ordinary.{constraints_of};
+ghost use Rattle.mintc_constraints.specs.Laws.{node_count};
+ghost use Rattle.mintc_constraints.specs.Ordinary.{constraints_of};
 ghost use Rattle.mintc_ratio.specs.Searched.{IsCycle};
 ghost use Rattle.mintc_ratio.specs.Tested.{NoneForbids};
-ghost use Rattle.mintc_walker.specs.Settled.{AreSettled};
+ghost use Rattle.mintc_slack.specs.WalkedFrom.{AreSettled};
 ghost use Rattle.mintc_slack.specs.Answers.{IsSlackAnswer};
 ghost use Rattle.mintc_slack.specs.Entries.{AreEntries, HasSettled, entry_at};
-ghost use Rattle.mintc_walker.specs.Ready.{IsReady};
-ghost use Rattle.mintc_walker.specs.Slack.{AreSlacks};
+ghost use Rattle.mintc_slack.specs.Ready.{IsReady};
+ghost use Rattle.mintc_slack.specs.Slack.{AreSlacks};
 
+use crate::pair_room::slack_of;
+use crate::walked::{SlackWalks, longest_walks_from, prepare};
 use mintc_certificate::Departures;
 use mintc_constraints::{LinkList, Room, links};
 use mintc_fraction::Fraction;
+use mintc_graph_walks::Steps;
 use mintc_ratio::{Outcome, search};
 use mintc_text::OutOfMemory;
 use mintc_timing::System;
-use mintc_walker::{Walker, prepare, settle, slack_of};
-use mintc_walks::Steps;
 use std::alloc::Global;
 use std::sync::ledger::Ledger;
 
@@ -80,7 +81,7 @@ fn is_first(entries: &[Entry], place: usize) -> bool
 fn turn_to<L: Ledger>(
     entries: &[Entry],
     place: usize,
-    walker: &mut Walker,
+    walker: &mut SlackWalks,
     room: &mut Room,
     steps: &mut Steps<L>,
 ) -> Result<(), OutOfMemory>
@@ -99,7 +100,7 @@ fn turn_to<L: Ledger>(
 {
     let _flat = walker.system.flat();
     if is_first(entries, place) {
-        settle(walker, entries[place].to, room, steps)?;
+        longest_walks_from(walker, entries[place].to, room, steps)?;
     }
     Ok(())
 }

@@ -3,7 +3,7 @@ use Rattle.std.proofs.Common.{◌≡◌, ℕ, ℤ, pos, ◌≤ℤ◌, ◌+ℤ◌
 use Rattle.std.proofs.lemmas.Int.{ints}
 use Rattle.std.proofs.lemmas.List.Elements.{All-head, All-tail, All-contains}
 use Rattle.std.specs.List.{All, Contains}
-use Rattle.mintc_rings.specs.Rings.{Joins, IsClosed}
+use Rattle.mintc_graph.specs.Rings.{Joins, IsClosed}
 use Rattle.mintc_timing.specs.declared.link.Link.{Link}
 use Rattle.mintc_timing.specs.Links.{IsMet, IsChain, delay_of, cycles_of}
 use Rattle.std.proofs.Math.IntN.{*ℤ_comm}

@@ -4,7 +4,7 @@ use Rattle.std.proofs.Math.IntN.{zero-*ℤ}
 use Rattle.std.proofs.lemmas.Int.{ints}
 use Rattle.std.proofs.lemmas.List.{same_lists, get_or_default}
 use Rattle.mintc_timing.specs.declared.parts.TimingArc.{TimingArc}
-use Rattle.mintc_rings.proofs.SharedRingLaws.{total-append, LeadsBy-append}
+use Rattle.mintc_graph.proofs.SharedRingLaws.{total-append, LeadsBy-append}
 use Rattle.mintc_timing.specs.Design.{element_count, no_arc}
 use Rattle.mintc_timing.specs.Links.{delay_of}
 use Rattle.mintc_timing.specs.Paths.{arc_at}

@@ -5,7 +5,7 @@ use Rattle.std.specs.List.{All}
 use Rattle.std.proofs.lemmas.List.Elements.{All-head, All-tail}
 use Rattle.mintc_timing.specs.declared.parts.Pair.{Pair}
 use Rattle.mintc_timing.specs.declared.clocking.Schedule.{Schedule}
-use Rattle.mintc_rings.specs.Rings.{total, Joins}
+use Rattle.mintc_graph.specs.Rings.{total, Joins}
 use Rattle.mintc_timing.specs.Design.{Timing, element_at, phase_of, pair_at}
 use Rattle.mintc_timing.specs.Departures.{AreExact, departure, late_arrival, late_opening}
 use Rattle.mintc_timing.specs.Clocking.{shift_of}

@@ -1,8 +1,8 @@
 -- Each text stands for a netlist, or a statement of it is at fault.
 use Rattle.std.proofs.Common.{◌≡◌, ℕ, ◌+◌, List, [], ◌∷◌, ◌++◌, length, Option, Some, None, is_some, refl, sym, ap, ◌∙◌, subst, arith, append_assoc, append-nil, ◌⊎◌, inl, inr}
 use Rattle.mintc_netlist.specs.declared.module.Netlist.{Netlist}
-use Rattle.mintc_verilog.specs.declared.parts.Open.{Open}
-use Rattle.mintc_expressions.specs.Lexemes.{Lexeme, lexemes_of}
+use Rattle.mintc_verilog.specs.declared.open_module.OpenModule.{OpenModule}
+use Rattle.mintc_verilog_expressions.specs.Lexemes.{Lexeme, lexemes_of}
 use Rattle.mintc_verilog.specs.FormReading.{after_lexemes}
 use Rattle.mintc_verilog.specs.Netlists.{State, start, state_of, Leads, IsNetlist, IsFault}
 use Rattle.mintc_verilog.specs.Laws.{HaveAnAnswer}
@@ -14,7 +14,7 @@ Answer text = ((n : Netlist) × IsNetlist text n) ⊎ ((k : ℕ) × IsFault text
 abbrev netlist : State → Netlist
 netlist s = record { modules = s.done }
 
-at-end : (text : List ℕ) (before : List (List Lexeme)) (s : State) (o : Option Open) → s.current ≡ o → lexemes_of text ≡ before ++ [] → Leads 1 start before s → Answer text
+at-end : (text : List ℕ) (before : List (List Lexeme)) (s : State) (o : Option OpenModule) → s.current ≡ o → lexemes_of text ≡ before ++ [] → Leads 1 start before s → Answer text
 at-end text before s None f e h =
     let ends : s ≡ state_of s.done None = ap (state_of s.done) f in
     inl (netlist s, subst (λ l. Leads 1 start l (state_of s.done None)) (sym (e ∙ append-nil before)) (subst (Leads 1 start before) ends h))

@@ -11,21 +11,21 @@ use Rattle.mintc_vlex.specs.Tokens.{tokens_of}
 use Rattle.mintc_vlex.specs.Statements.{statements_from, statements_of}
 use Rattle.mintc_netlist.specs.declared.module.Module.{Module}
 use Rattle.mintc_netlist.specs.Ordinary.{IsItem, IsModule, DontFall, entry_of, entries_of}
-use Rattle.mintc_verilog.specs.declared.parts.Open.{Open}
-use Rattle.mintc_verilog.specs.declared.parts.Said.{Said}
-use Rattle.mintc_verilog.specs.declared.parts.Said.TheVariants as said
-use Rattle.mintc_expressions.specs.Lexemes.{Lexeme, lexeme_of, lexemes_within, lexemes_of}
+use Rattle.mintc_verilog.specs.declared.open_module.OpenModule.{OpenModule}
+use Rattle.mintc_verilog.specs.declared.open_module.Said.{Said}
+use Rattle.mintc_verilog.specs.declared.open_module.Said.TheVariants as said
+use Rattle.mintc_verilog_expressions.specs.Lexemes.{Lexeme, lexeme_of, lexemes_within, lexemes_of}
 use Rattle.mintc_verilog.specs.Netlists.{State, start, state_of, module_of, says, next, Leads}
 use Rattle.mintc_verilog.specs.Laws.{AreOrdinary}
 use Rattle.mintc_verilog.proofs.Sound.{AreSound, tokens-sound, IsSaid, form-sound, IsNumbered, says-numbered}
 use Rattle.mintc_verilog.proofs.StatementLaws.{tokens-few}
 
 -- the numbers of statements so far
-abbrev held_entries : Option Open → List ℕ
+abbrev held_entries : Option OpenModule → List ℕ
 held_entries None = []
 held_entries (Some o) = o.entry ∷ map entry_of o.items
 
-abbrev entries_in : List Module → Option Open → List ℕ
+abbrev entries_in : List Module → Option OpenModule → List ℕ
 entries_in done current = flat_map entries_of done ++ held_entries current
 
 abbrev AreUpTo : ℕ → List ℕ → Type 0
@@ -49,11 +49,11 @@ raise e ms ns b s =
     All-append (λ n. n ≤ e + 1) ms ns (All-weaker (λ n. n ≤ e) (λ n. n ≤ e + 1) (λ n h. omega arith) ms b) (All-weaker (λ n. n ≡ e) (λ n. n ≤ e + 1) (λ n h. omega (arith, h)) ns s)
 
 -- a module that is open, with items from so many lexemes
-abbrev IsHeld : ℕ → Open → Type 0
+abbrev IsHeld : ℕ → OpenModule → Type 0
 IsHeld used o = (length o.ports < 2 ^ 32) × (length o.items ≤ used) × All IsItem o.items
 
 -- what is known before the statement with a number, after so many lexemes
-record Stands (used entry : ℕ) (done : List Module) (current : Option Open) : Type 0 where
+record Stands (used entry : ℕ) (done : List Module) (current : Option OpenModule) : Type 0 where
   count : length done ≤ used
   each : All IsModule done
   held : IfSome current (IsHeld used)
@@ -64,7 +64,7 @@ record Stands (used entry : ℕ) (done : List Module) (current : Option Open) : 
 abbrev StandsIn : ℕ → ℕ → State → Type 0
 StandsIn used entry s = Stands used entry s.done s.current
 
-stands-on : (used more entry : ℕ) (done done2 : List Module) (current current2 : Option Open) (ns : List ℕ) → Stands used entry done current →
+stands-on : (used more entry : ℕ) (done done2 : List Module) (current current2 : Option OpenModule) (ns : List ℕ) → Stands used entry done current →
     entries_in done2 current2 ≡ entries_in done current ++ ns → AreAll entry ns → length done2 ≤ more → All IsModule done2 → IfSome current2 (IsHeld more) →
     Stands more (entry + 1) done2 current2
 stands-on used more entry done done2 current current2 ns h e all count each held = record {
@@ -76,7 +76,7 @@ stands-on used more entry done done2 current current2 ns h e all count each held
   order = subst (DontFall 1) (sym e) (rise 1 entry (entries_in done current) ns h.first h.below all h.order);
 }
 
-opened : (used n entry : ℕ) (done : List Module) (o : Open) → Stands used entry done None → IsSaid n (said.Opens o) → IsNumbered entry (said.Opens o) → used + n ≤ 67108864 →
+opened : (used n entry : ℕ) (done : List Module) (o : OpenModule) → Stands used entry done None → IsSaid n (said.Opens o) → IsNumbered entry (said.Opens o) → used + n ≤ 67108864 →
     Stands (used + n) (entry + 1) done (Some o)
 opened used n entry done o h s numbered few =
     stands-on used (used + n) entry done done None (Some o) (held_entries (Some o)) h
@@ -84,7 +84,7 @@ opened used n entry done o h s numbered few =
     (All-cons (λ k. k ≡ entry) o.entry (map entry_of o.items) numbered.0 (All-map (λ k. k ≡ entry) entry_of o.items numbered.1))
     (omega (arith, h.count)) h.each (omega (arith, s.0), omega (arith, s.1), s.2)
 
-added : (used n entry : ℕ) (done : List Module) (o : Open) (declares : Bool) (items : List _) → Stands used entry done (Some o) → IsSaid n (said.Adds declares items) → IsNumbered entry (said.Adds declares items) →
+added : (used n entry : ℕ) (done : List Module) (o : OpenModule) (declares : Bool) (items : List _) → Stands used entry done (Some o) → IsSaid n (said.Adds declares items) → IsNumbered entry (said.Adds declares items) →
     Stands (used + n) (entry + 1) done (Some (record o { items = o.items ++ items }))
 added used n entry done o declares items h s numbered =
     let flat = flat_map entries_of done in
@@ -93,7 +93,7 @@ added used n entry done o declares items h s numbered =
     (All-map (λ k. k ≡ entry) entry_of items numbered)
     (omega (arith, h.count)) h.each (h.held.0, omega (arith, h.held.1, s.0, length-append o.items items), All-append IsItem o.items items h.held.2 s.1)
 
-closed : (used n entry : ℕ) (done : List Module) (o : Open) → Stands used entry done (Some o) → 1 ≤ n → used + n ≤ 67108864 → Stands (used + n) (entry + 1) (done ++ module_of o ∷ []) None
+closed : (used n entry : ℕ) (done : List Module) (o : OpenModule) → Stands used entry done (Some o) → 1 ≤ n → used + n ≤ 67108864 → Stands (used + n) (entry + 1) (done ++ module_of o ∷ []) None
 closed used n entry done o h s few =
     let flat = flat_map entries_of done in
     stands-on used (used + n) entry done (done ++ module_of o ∷ []) (Some o) None [] h
@@ -103,7 +103,7 @@ closed used n entry done o h s few =
     (All-push IsModule done (module_of o) h.each (record { ports = h.held.0; items = omega (arith, h.held.1); each = h.held.2 }))
     tt
 
-next-stands : (used n entry : ℕ) (done : List Module) (current : Option Open) (s : Said) (c : State) → Stands used entry done current → IsSaid n s → IsNumbered entry s → used + n ≤ 67108864 →
+next-stands : (used n entry : ℕ) (done : List Module) (current : Option OpenModule) (s : Said) (c : State) → Stands used entry done current → IsSaid n s → IsNumbered entry s → used + n ≤ 67108864 →
     next done current s ≡ Some c → StandsIn (used + n) (entry + 1) c
 next-stands used n entry done None (said.Opens o) c h s numbered few e =
     let same : state_of done (Some o) ≡ c = cc in

@@ -12,17 +12,17 @@ use Rattle.mintc_netlist.specs.declared.module.Connection.{Connection}
 use Rattle.mintc_netlist.specs.declared.module.Item.{Item}
 use Rattle.mintc_netlist.specs.declared.module.Item.TheVariants as item
 use Rattle.mintc_netlist.specs.Ordinary.{IsNumber, IsSpan, IsPiece, IsExpr, IsConnection, IsItem, entry_of}
-use Rattle.mintc_connections.specs.declared.parts.Header.{Header}
-use Rattle.mintc_connections.specs.declared.parts.Decl.{Decl}
-use Rattle.mintc_verilog.specs.declared.parts.Said.{Said}
-use Rattle.mintc_verilog.specs.declared.parts.Said.TheVariants as said
-use Rattle.mintc_expressions.specs.Lexemes.{Lexeme, name, key, number, sized, sign, lexeme_by, lexeme_of}
-use Rattle.mintc_expressions.specs.Expressions.{Tree, Trees, plain, concat, repeat, one, more, spell_piece, spell, spell_all, repeated, pieces, pieces_all, Repeats, RepeatAll, IsExpression}
-use Rattle.mintc_connections.specs.Parts.{Assign, Instance, Listed, IsName, range, IsHeader, IsHeaded, IsDecl, IsAssign, IsNamed, IsOrdered, AreConnections, IsInstance}
+use Rattle.mintc_verilog.specs.declared.declarations.Header.{Header}
+use Rattle.mintc_verilog.specs.declared.declarations.Decl.{Decl}
+use Rattle.mintc_verilog.specs.declared.open_module.Said.{Said}
+use Rattle.mintc_verilog.specs.declared.open_module.Said.TheVariants as said
+use Rattle.mintc_verilog_expressions.specs.Lexemes.{Lexeme, name, key, number, sized, sign, lexeme_by, lexeme_of}
+use Rattle.mintc_verilog_expressions.specs.Expressions.{Tree, Trees, plain, concat, repeat, one, more, spell_piece, spell, spell_all, repeated, pieces, pieces_all, Repeats, RepeatAll, IsExpression}
+use Rattle.mintc_verilog.specs.StatementParts.{Assign, Instance, Listed, IsName, range, IsHeader, IsHeaded, IsDecl, IsAssign, IsNamed, IsOrdered, AreConnections, IsInstance}
 use Rattle.mintc_verilog.specs.Forms.{Form, opens, opens_typed, ports, nets, assigns, instances, closes, IsPortList, IsForm}
-use Rattle.mintc_connections.specs.Items.{assign_item, instance_item}
+use Rattle.mintc_verilog.specs.StatementItems.{assign_item, instance_item}
 use Rattle.mintc_verilog.specs.Netlists.{header_or, port_items, no_header, says}
-use Rattle.mintc_expressions.proofs.SharedWritten.{longer}
+use Rattle.mintc_verilog_expressions.proofs.SharedWritten.{longer}
 
 -- a number of at most 65,535, a constant of 1 to 65,536 bits
 abbrev pub IsLexeme : Lexeme → Type 0

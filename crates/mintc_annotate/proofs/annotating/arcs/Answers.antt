@@ -1,5 +1,5 @@
 use Rattle.std.proofs.Common.{◌≡◌, ◌∙◌, ◌+◌, ℕ, length, ap, arith}
-use Rattle.mintc_ranges.specs.Ranges.{look}
+use Rattle.mintc_annotate_delays.specs.Ranges.{look}
 use Rattle.mintc_annotate.specs.Phases.{storage}
 use Rattle.mintc_annotate.proofs.BuildLaws.{arcs_joined}
 use Rattle.mintc_annotate.proofs.annotating.arcs.Goals as goal

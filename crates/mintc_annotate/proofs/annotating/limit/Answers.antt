@@ -1,5 +1,5 @@
 use Rattle.std.proofs.Common.{◌∙◌, length, sym, ap, arith}
-use Rattle.mintc_ranges.specs.Ranges.{look}
+use Rattle.mintc_annotate_delays.specs.Ranges.{look}
 use Rattle.mintc_annotate.proofs.AnnotateLaws.{as_stored, few_stored, limit_counts}
 use Rattle.mintc_annotate.proofs.annotating.limit.Goals as goal
 

@@ -1,8 +1,8 @@
 use Rattle.std.proofs.Common.{◌∙◌, ◌+◌, ℕ, slice_index_or, sym, ap}
 use Rattle.std.proofs.lemmas.List.{get_or_default}
 use Rattle.mintc_cells.specs.Entries.{cell_at}
-use Rattle.mintc_hierarchy.specs.declared.hierarchy.Leaf.{Leaf}
-use Rattle.mintc_matters.specs.Pins.{is_storage, no_leaf}
+use Rattle.mintc_flatten_hierarchy.specs.declared.hierarchy.Leaf.{Leaf}
+use Rattle.mintc_annotate_resolve.specs.Pins.{is_storage, no_leaf}
 use Rattle.mintc_annotate.proofs.BuildLaws.{number_no}
 use Rattle.mintc_annotate.proofs.TraceLaws.{number_yes}
 use Rattle.mintc_annotate.proofs.arcs.next_element.Goals as goal

@@ -1,6 +1,6 @@
 use Rattle.std.proofs.Common.{◌≡◌, ◌++◌, map, flat_map}
 use Rattle.std.specs.List.{range_with_len}
-use Rattle.mintc_ranges.specs.Ranges.{look}
+use Rattle.mintc_annotate_delays.specs.Ranges.{look}
 use Rattle.mintc_annotate.specs.Made.{pin_arc}
 use Rattle.mintc_annotate.proofs.arcs.push_gate.Given as goal
 

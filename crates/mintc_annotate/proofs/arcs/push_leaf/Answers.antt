@@ -1,9 +1,9 @@
 use Rattle.std.proofs.Common.{◌≡◌, ◌∙◌, ◌++◌, List, length, map, flat_map, OnOk, refl, slice_index_or, sym, ap}
 use Rattle.std.proofs.lemmas.List.{get_or_default}
 use Rattle.mintc_cells.specs.Entries.{cell_at}
-use Rattle.mintc_hierarchy.specs.declared.hierarchy.Leaf.{Leaf}
-use Rattle.mintc_matters.specs.Pins.{leaf_at, no_leaf}
-use Rattle.mintc_ranges.specs.Ranges.{look}
+use Rattle.mintc_flatten_hierarchy.specs.declared.hierarchy.Leaf.{Leaf}
+use Rattle.mintc_annotate_resolve.specs.Pins.{leaf_at, no_leaf}
+use Rattle.mintc_annotate_delays.specs.Ranges.{look}
 use Rattle.std.specs.List.{range_with_len}
 use Rattle.std.proofs.lemmas.Result.{on_ok_weaker}
 use Rattle.mintc_timing.specs.declared.parts.TimingArc.{TimingArc}

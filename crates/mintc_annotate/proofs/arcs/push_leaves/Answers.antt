@@ -1,6 +1,6 @@
 use Rattle.std.proofs.Common.{◌<◌, length, ap, arith}
-use Rattle.mintc_matters.specs.Pins.{leaf_cell}
-use Rattle.mintc_ranges.specs.Ranges.{look}
+use Rattle.mintc_annotate_resolve.specs.Pins.{leaf_cell}
+use Rattle.mintc_annotate_delays.specs.Ranges.{look}
 use Rattle.mintc_annotate.specs.Made.{leaf_arcs}
 use Rattle.mintc_annotate.proofs.BuildLaws.{flat_pushed}
 use Rattle.mintc_annotate.proofs.PartLimits.{numbered}

@@ -1,7 +1,7 @@
 use Rattle.std.proofs.Common.{◌≡◌, ◌≤◌, ◌++◌, flat_map}
 use Rattle.std.specs.List.{range_with_len}
-use Rattle.mintc_matters.specs.Pins.{leaf_cell}
-use Rattle.mintc_ranges.specs.Ranges.{look}
+use Rattle.mintc_annotate_resolve.specs.Pins.{leaf_cell}
+use Rattle.mintc_annotate_delays.specs.Ranges.{look}
 use Rattle.mintc_annotate.specs.Made.{leaf_arcs, number_in}
 use Rattle.mintc_annotate.proofs.arcs.push_leaves.Given as goal
 

@@ -1,6 +1,6 @@
 use Rattle.std.proofs.Common.{◌≡◌, ◌+◌, ◌++◌, List, map, drop}
 use Rattle.mintc_clock.specs.declared.clock.Listed.{Listed}
-use Rattle.mintc_ranges.specs.Ranges.{look}
+use Rattle.mintc_annotate_delays.specs.Ranges.{look}
 use Rattle.mintc_annotate.specs.Counts.{with_port}
 use Rattle.mintc_annotate.specs.Made.{output_arcs}
 use Rattle.mintc_annotate.proofs.arcs.push_outputs.Given as goal

@@ -1,5 +1,5 @@
 use Rattle.std.proofs.Common.{rules}
-use Rattle.mintc_ranges.specs.Ranges.{look}
+use Rattle.mintc_annotate_delays.specs.Ranges.{look}
 use Rattle.mintc_annotate.specs.Made.{pin_arc, arc_of}
 use Rattle.mintc_annotate.proofs.BuildLaws.{pushed}
 use Rattle.mintc_annotate.proofs.arcs.push_row.Goals as goal

@@ -2,8 +2,8 @@ use Rattle.std.proofs.Common.{◌≡◌, ◌∙◌, ◌<◌, ◌+◌, ℕ, lengt
 use Rattle.std.specs.List.{range_with_len}
 use Rattle.std.proofs.lemmas.List.{get_or_default}
 use Rattle.mintc_cells.specs.Entries.{cell_at}
-use Rattle.mintc_hierarchy.specs.declared.hierarchy.Leaf.{Leaf}
-use Rattle.mintc_matters.specs.Pins.{leaf_cell, no_leaf}
+use Rattle.mintc_flatten_hierarchy.specs.declared.hierarchy.Leaf.{Leaf}
+use Rattle.mintc_annotate_resolve.specs.Pins.{leaf_cell, no_leaf}
 use Rattle.mintc_annotate.specs.Counts.{arc_count}
 use Rattle.mintc_annotate.proofs.BuildLaws.{sum_more}
 use Rattle.mintc_annotate.proofs.counting.leaf_arc_count.Goals as goal

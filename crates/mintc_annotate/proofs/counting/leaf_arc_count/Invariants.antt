@@ -1,6 +1,6 @@
 use Rattle.std.proofs.Common.{◌≡◌, ◌≤◌, ◌*◌, sum_by}
 use Rattle.std.specs.List.{range_with_len}
-use Rattle.mintc_matters.specs.Pins.{leaf_cell}
+use Rattle.mintc_annotate_resolve.specs.Pins.{leaf_cell}
 use Rattle.mintc_annotate.specs.Counts.{arc_count}
 use Rattle.mintc_annotate.proofs.counting.leaf_arc_count.Given as goal
 

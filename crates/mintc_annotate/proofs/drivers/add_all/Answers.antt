@@ -1,6 +1,6 @@
 use Rattle.std.proofs.Common.{◌++◌, [], length, map, flat_map, ap}
 use Rattle.mintc_annotate.specs.Phases.{join_drive, cell_drives}
-use Rattle.mintc_matters.specs.Pins.{all_leaves, leaf_cell}
+use Rattle.mintc_annotate_resolve.specs.Pins.{all_leaves, leaf_cell}
 use Rattle.mintc_annotate.proofs.SearchLaws.{Adds-then, Adds-at}
 use Rattle.mintc_annotate.proofs.drivers.add_all.Goals as goal
 

@@ -1,7 +1,7 @@
 use Rattle.std.proofs.Common.{◌≡◌, ◌∙◌, sym, subst, ap, length, ◌++◌, List, slice_index_or}
 use Rattle.std.proofs.lemmas.List.{get_or_default}
 use Rattle.mintc_annotate.specs.declared.searching.Drive.{Drive}
-use Rattle.mintc_matters.specs.Pins.{leaf_at, no_leaf}
+use Rattle.mintc_annotate_resolve.specs.Pins.{leaf_at, no_leaf}
 use Rattle.mintc_annotate.specs.Searches.{AreDrivers}
 use Rattle.mintc_annotate.proofs.SearchLaws.{clock_drives}
 use Rattle.mintc_annotate.proofs.drivers.add_cell.Goals as goal

@@ -1,7 +1,7 @@
 use Rattle.std.proofs.Common.{◌≡◌, ◌++◌, ◌∙◌, ap, subst, length, flat_map, arith, ℕ}
 use Rattle.std.specs.List.{range_with_len}
 use Rattle.mintc_annotate.specs.Phases.{cell_drives}
-use Rattle.mintc_matters.specs.Pins.{leaf_cell}
+use Rattle.mintc_annotate_resolve.specs.Pins.{leaf_cell}
 use Rattle.mintc_annotate.specs.Searches.{AreDrivers}
 use Rattle.mintc_annotate.proofs.SearchLaws.{Adds-then, Adds-at, cells_more}
 use Rattle.mintc_annotate.proofs.drivers.add_cells.Goals as goal

@@ -2,7 +2,7 @@ use Rattle.std.proofs.Common.{◌≡◌, ◌++◌, List, length, flat_map}
 use Rattle.std.specs.List.{range_with_len}
 use Rattle.mintc_annotate.specs.declared.searching.Drive.{Drive}
 use Rattle.mintc_annotate.specs.Phases.{cell_drives}
-use Rattle.mintc_matters.specs.Pins.{leaf_cell}
+use Rattle.mintc_annotate_resolve.specs.Pins.{leaf_cell}
 use Rattle.mintc_annotate.specs.Searches.{AreDrivers}
 use Rattle.mintc_annotate.proofs.drivers.add_cells.Given as goal
 

@@ -1,5 +1,5 @@
 use Rattle.std.proofs.Common.{◌<◌, ◌≤◌, length, ap, arith}
-use Rattle.mintc_ranges.specs.Ranges.{look}
+use Rattle.mintc_annotate_delays.specs.Ranges.{look}
 use Rattle.mintc_annotate.proofs.BuildLaws.{front_count, front_shorter, stored_pushed, stored_whole}
 use Rattle.mintc_annotate.proofs.elements.push_storage.Goals as goal
 

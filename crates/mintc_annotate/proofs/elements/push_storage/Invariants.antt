@@ -1,6 +1,6 @@
 use Rattle.std.proofs.Common.{◌≡◌, map, take, filter, zip}
-use Rattle.mintc_matters.specs.Pins.{leaf_cell, all_leaves, is_storage, leaf_path, dotted}
-use Rattle.mintc_ranges.specs.Ranges.{look}
+use Rattle.mintc_annotate_resolve.specs.Pins.{leaf_cell, all_leaves, is_storage, leaf_path, dotted}
+use Rattle.mintc_annotate_delays.specs.Ranges.{look}
 use Rattle.mintc_annotate.specs.Made.{element_of}
 use Rattle.mintc_annotate.proofs.elements.push_storage.Given as goal
 

@@ -1,6 +1,6 @@
 use Rattle.std.proofs.Common.{◌≡◌, ◌∙◌}
-use Rattle.mintc_hierarchy.specs.declared.hierarchy.Hierarchy.{Hierarchy}
-use Rattle.mintc_matters.specs.Pins.{all_names}
+use Rattle.mintc_flatten_hierarchy.specs.declared.hierarchy.Hierarchy.{Hierarchy}
+use Rattle.mintc_annotate_resolve.specs.Pins.{all_names}
 use Rattle.mintc_annotate.specs.Clocked.{AreClocked}
 use Rattle.mintc_annotate.specs.Phases.{phase_spots}
 use Rattle.mintc_annotate.proofs.AnnotateLaws.{stops_port, stops_phase}

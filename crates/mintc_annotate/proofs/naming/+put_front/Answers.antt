@@ -1,8 +1,8 @@
 use Rattle.std.proofs.Common.{◌≡◌, ◌∙◌, ◌≤◌, ◌++◌, ◌∷◌, [], ℕ, List, slice_index_or, sym, ap, arith, append_assoc}
 use Rattle.std.proofs.lemmas.List.{get_or_default}
 use Rattle.std.proofs.lemmas.Result.{on_ok_weaker}
-use Rattle.mintc_matters.specs.Pins.{no_scope, scope_at, scope_path}
-use Rattle.mintc_matters.specs.Names.{front_of}
+use Rattle.mintc_annotate_resolve.specs.Pins.{no_scope, scope_at, scope_path}
+use Rattle.mintc_annotate_resolve.specs.Names.{front_of}
 use Rattle.mintc_annotate.proofs.BuildLaws.{front_below}
 use Rattle.mintc_annotate.proofs.naming.+put_front.Goals as goal
 

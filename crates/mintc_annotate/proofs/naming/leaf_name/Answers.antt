@@ -1,10 +1,10 @@
 use Rattle.std.proofs.Common.{◌≡◌, ◌∙◌, ◌++◌, ◌∷◌, [], ℕ, List, slice_index_or, sym, ap}
 use Rattle.std.proofs.lemmas.List.{get_or_default}
 use Rattle.std.proofs.lemmas.Result.{IfOk-weaker}
-use Rattle.mintc_hierarchy.specs.declared.hierarchy.Leaf.{Leaf}
-use Rattle.mintc_matters.specs.Pins.{no_leaf, leaf_at, scope_path, dotted}
-use Rattle.mintc_matters.specs.Names.{front_of}
-use Rattle.mintc_matters.proofs.SharedNameLaws.{dotted_push}
+use Rattle.mintc_flatten_hierarchy.specs.declared.hierarchy.Leaf.{Leaf}
+use Rattle.mintc_annotate_resolve.specs.Pins.{no_leaf, leaf_at, scope_path, dotted}
+use Rattle.mintc_annotate_resolve.specs.Names.{front_of}
+use Rattle.mintc_annotate_resolve.proofs.SharedNameLaws.{dotted_push}
 use Rattle.mintc_annotate.proofs.naming.leaf_name.Goals as goal
 
 pub returns : goal.returns

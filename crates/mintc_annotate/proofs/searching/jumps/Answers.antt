@@ -8,8 +8,8 @@ use Rattle.mintc_annotate.proofs.searching.jumps.Goals as goal
 pub loop-round-init : goal.loop-round-init
 loop-round-init c = λ ds drivers. subst (λ (v : List Jump). AreJumps ds 1 (length c.args.table.now) v) (sym c.in_ok-found.ensures) (first_are ds c.args.table.now drivers)
 
-pub doubled-requires : goal.doubled-requires
-doubled-requires c =
+pub twice_as_far-requires : goal.twice_as_far-requires
+twice_as_far-requires c =
     let are = c.loop-round.invariant c.requires.table.0 c.requires.table.1 in
     subst (λ (v : List Jump). All (λ j. j.bit < length v) v) (sym c.deref.ensures.value) (subst (λ (n : ℕ). All (λ j. j.bit < n) c.loop-round.found.items) (sym are.size) are.within)
 

@@ -1,6 +1,6 @@
 use Rattle.std.proofs.Common.{◌≡◌, ◌+◌, ◌++◌, length, drop, map, is_some}
 use Rattle.mintc_clock.specs.ClockOf.{first_failing}
-use Rattle.mintc_matters.specs.Ports.{place_in, if_input}
+use Rattle.mintc_annotate_resolve.specs.Ports.{place_in, if_input}
 use Rattle.mintc_annotate.specs.ClockPorts.{first_false}
 use Rattle.mintc_annotate.specs.Phases.{spots_of}
 use Rattle.mintc_annotate.proofs.spots.spots_of.Given as goal

@@ -1,8 +1,7 @@
 use Rattle.std.proofs.Common.{take, filter}
 use Rattle.std.specs.List.{AllZip}
 use Rattle.mintc_annotate.specs.Phases.{IsPhaseOf}
-use Rattle.mintc_matters.specs.Pins.{is_storage}
-use Rattle.mintc_matters.specs.Pins.{leaf_cell, all_leaves}
+use Rattle.mintc_annotate_resolve.specs.Pins.{is_storage, leaf_cell, all_leaves}
 use Rattle.mintc_annotate.proofs.tracing.trace.Given as goal
 
 -- the latches and flops so far have these phases

@@ -1,6 +1,6 @@
 use Rattle.std.proofs.Common.{◌≡◌, sym, rules, true, codes, [], ◌∷◌}
 use Rattle.toml.specs.View.{view, table_view}
-use Rattle.mintc_document.specs.Lookups.{has_only}
+use Rattle.mintc_toml.specs.Lookups.{has_only}
 use Rattle.mintc_cells.specs.CellsOf.{entries, AreRead, IsFirstBad, AreDescribed, AreInTable, IsBadTable, bad_entry}
 use Rattle.mintc_cells.proofs.EntriesLaws.{described_at, carried, nothing_ordered, nothing_described}
 use Rattle.mintc_cells.proofs.read.read_document.Goals as goal

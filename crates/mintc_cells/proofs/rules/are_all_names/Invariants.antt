@@ -1,6 +1,6 @@
 use Rattle.std.proofs.Common.{◌≡◌, drop}
 use Rattle.std.specs.List.{list_all}
-use Rattle.mintc_document.specs.Rules.{is_name}
+use Rattle.mintc_toml.specs.Rules.{is_name}
 use Rattle.mintc_cells.proofs.rules.are_all_names.Given as goal
 
 -- it depends on the names that are left

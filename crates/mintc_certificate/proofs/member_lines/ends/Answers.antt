@@ -1,5 +1,5 @@
 use Rattle.std.proofs.Common.{◌∷◌, arith}
-use Rattle.mintc_lines.specs.Fields.{number}
+use Rattle.mintc_timing_text.specs.Fields.{number}
 use Rattle.mintc_certificate.proofs.member_lines.ends.Goals as goal
 
 pub returns-in_err-to : goal.returns-in_err-to

@@ -1,7 +1,7 @@
 use Rattle.std.proofs.Common.{if◌then◌else◌, refl}
-use Rattle.mintc_lines.specs.Texts.{den}
+use Rattle.mintc_timing_text.specs.Texts.{den}
 use Rattle.mintc_certificate.specs.CertificateText.{outcome, scheduled, never, version_of}
-use Rattle.mintc_lines.proofs.SharedReadingLaws.{at_fault, at_more}
+use Rattle.mintc_timing_text.proofs.SharedReadingLaws.{at_fault, at_more}
 use Rattle.mintc_certificate.proofs.reading.certificate.Goals as goal
 
 pub returns-in_default : goal.returns-in_default

@@ -2,7 +2,7 @@ use Rattle.std.proofs.Common.{refl, arith}
 use Rattle.std.proofs.lemmas.Grind.{common_steps}
 use Rattle.mintc_certificate.specs.CertificateReading.{with_chain}
 use Rattle.mintc_certificate.specs.CertificateText.{whole}
-use Rattle.mintc_lines.proofs.SharedReadingLaws.{at_end, at_fault, at_more, at_past}
+use Rattle.mintc_timing_text.proofs.SharedReadingLaws.{at_end, at_fault, at_more, at_past}
 use Rattle.mintc_certificate.proofs.reading.chain.Goals as goal
 
 pub returns-in_err-chain : goal.returns-in_err-chain

@@ -4,7 +4,7 @@ use Rattle.mintc_timing.proofs.SharedFitting.{read_time}
 use Rattle.mintc_certificate.specs.declared.version.Version.{Version}
 use Rattle.mintc_certificate.specs.CertificateText.{departure, least_departure}
 use Rattle.mintc_certificate.proofs.CertificateReading.{departure_states, IsDepartureLine, least_is}
-use Rattle.mintc_lines.proofs.SharedReadingLaws.{at_fault, at_more, list_more, list_fault, list_all}
+use Rattle.mintc_timing_text.proofs.SharedReadingLaws.{at_fault, at_more, list_more, list_fault, list_all}
 use Rattle.mintc_certificate.proofs.reading.departures.Goals as goal
 
 fits_as : (x : ℤ) (v : Version) → x ≡ least_departure v → SFits w64 x

@@ -1,6 +1,6 @@
 use Rattle.std.proofs.Common.{[], arith}
 use Rattle.std.proofs.lemmas.Grind.{common_steps}
-use Rattle.mintc_lines.proofs.SharedScheduleReading.{schedule_read, schedule_fault}
+use Rattle.mintc_timing_text.proofs.SharedScheduleReading.{schedule_read, schedule_fault}
 use Rattle.mintc_certificate.specs.declared.certificate.Certificate.TheVariants.{Least}
 use Rattle.mintc_certificate.specs.CertificateText.{scheduled, IsDeparturesLine}
 use Rattle.mintc_certificate.proofs.reading.least.Goals as goal

@@ -1,6 +1,6 @@
 use Rattle.std.proofs.Common.{arith}
 use Rattle.std.proofs.lemmas.Grind.{common_steps}
-use Rattle.mintc_lines.proofs.SharedReadingLaws.{list_more, list_fault, list_all}
+use Rattle.mintc_timing_text.proofs.SharedReadingLaws.{list_more, list_fault, list_all}
 use Rattle.mintc_certificate.specs.CertificateText.{IsCertificateFault, IsMemberLine}
 use Rattle.mintc_certificate.proofs.CertificateReading.{chain_read, chain_fault, member_states, member_next}
 use Rattle.mintc_certificate.proofs.MemberLaws.{halts_by}

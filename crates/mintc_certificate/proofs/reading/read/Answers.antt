@@ -1,5 +1,5 @@
 use Rattle.mintc_certificate.specs.CertificateText.{NextOfCertificate, first}
-use Rattle.mintc_lines.proofs.SharedReadingLaws.{at_start}
+use Rattle.mintc_timing_text.proofs.SharedReadingLaws.{at_start}
 use Rattle.mintc_certificate.proofs.CertificateLaws.{IsCertificateInRange-from_text}
 use Rattle.mintc_certificate.proofs.reading.read.Goals as goal
 

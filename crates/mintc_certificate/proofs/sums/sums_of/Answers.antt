@@ -2,8 +2,8 @@ use Rattle.std.proofs.Common.{◌≡◌, ◌<◌, ◌+◌, ℕ, ℤ, pos, ◌+�
 use Rattle.std.proofs.lemmas.Grind.{take_at_read}
 use Rattle.std.proofs.lemmas.Int.{ints}
 use Rattle.std.proofs.lemmas.List.{map-append}
-use Rattle.mintc_rings.specs.Rings.{total}
-use Rattle.mintc_rings.proofs.SharedRingLaws.{total-append}
+use Rattle.mintc_graph.specs.Rings.{total}
+use Rattle.mintc_graph.proofs.SharedRingLaws.{total-append}
 use Rattle.mintc_timing.specs.declared.link.Link.{Link}
 use Rattle.mintc_timing.specs.Design.{Design}
 use Rattle.mintc_certificate.specs.declared.members.Member.{Member}

@@ -1,6 +1,6 @@
 use Rattle.std.proofs.Common.{◌≡◌, ◌<◌, ℕ}
 use Rattle.mintc_timing.specs.Departures.{departure, late_departure}
-use Rattle.mintc_chain_test.specs.Judged.{OfTiming}
+use Rattle.mintc_checker.specs.Decided.{OfTiming}
 use Rattle.mintc_checker.proofs.arrivals.are_exact.Given as goal
 
 -- the elements so far have exact departures

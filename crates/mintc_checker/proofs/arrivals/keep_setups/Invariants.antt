@@ -1,6 +1,6 @@
 use Rattle.std.proofs.Common.{◌<◌, ℕ}
 use Rattle.mintc_timing.specs.Right.{KeepsSetup}
-use Rattle.mintc_chain_test.specs.Judged.{OfTiming}
+use Rattle.mintc_checker.specs.Decided.{OfTiming}
 use Rattle.mintc_checker.proofs.arrivals.keep_setups.Given as goal
 
 -- the elements so far keep their setups

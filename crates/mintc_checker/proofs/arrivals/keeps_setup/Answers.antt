@@ -7,11 +7,11 @@ use Rattle.mintc_timing.specs.Departures.{departure}
 use Rattle.mintc_timing.proofs.SharedFitting.{read_time, test_is, IsTime-IsGap, IsTime-IsDenominator, IsTime-IsNumerator}
 use Rattle.mintc_timing.proofs.SharedSetupLaws.{KeepsSetup-latch}
 use Rattle.mintc_checker.specs.Judged.{IsArrivalTime}
-use Rattle.mintc_chain_test.specs.Elements.{element_of}
+use Rattle.mintc_checker.specs.Elements.{element_of}
 use Rattle.mintc_checker.specs.Trails.{IsLastArrival}
-use Rattle.mintc_chain_test.proofs.SharedDeciding.{holds}
+use Rattle.mintc_checker.proofs.Deciding.{holds}
 use Rattle.mintc_checker.proofs.Pairing.{of_timing, timing_of}
-use Rattle.mintc_chain_test.proofs.SharedScaled.{scaled_is}
+use Rattle.mintc_checker.proofs.Scaled.{scaled_is}
 use Rattle.mintc_checker.proofs.Exact.{setup-flop, setup-none}
 use Rattle.mintc_checker.proofs.arrivals.keeps_setup.Goals as goal
 

@@ -3,7 +3,7 @@ use Rattle.std.proofs.lemmas.List.{take_all}
 use Rattle.std.proofs.lemmas.List.Elements.{All-more}
 use Rattle.mintc_timing.specs.Clocking.{KeepsBound}
 use Rattle.mintc_certificate.specs.Valid.{no_bound}
-use Rattle.mintc_chain_test.proofs.SharedDeciding.{holds}
+use Rattle.mintc_checker.proofs.Deciding.{holds}
 use Rattle.mintc_checker.proofs.schedule_tests.keeps_bounds.Goals as goal
 
 pub loop-number-preserved : goal.loop-number-preserved

@@ -1,7 +1,7 @@
 use Rattle.std.proofs.Common.{◌≡◌, ◌+◌, ◌-◌, length, arith, ap, ◌∙◌, subst}
 use borrow.Author.Count.{below_more}
 use Rattle.mintc_timing.specs.Clocking.{KeepsPhase}
-use Rattle.mintc_chain_test.proofs.SharedDeciding.{holds}
+use Rattle.mintc_checker.proofs.Deciding.{holds}
 use Rattle.mintc_checker.proofs.schedule_tests.keeps_clock.Goals as goal
 
 pub loop-index-preserved : goal.loop-index-preserved

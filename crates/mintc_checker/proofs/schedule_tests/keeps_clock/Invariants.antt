@@ -1,6 +1,6 @@
 use Rattle.std.proofs.Common.{◌<◌, ◌+◌, ℕ}
 use Rattle.mintc_timing.specs.Clocking.{KeepsPhase}
-use Rattle.mintc_chain_test.specs.Judged.{OfTiming}
+use Rattle.mintc_checker.specs.Decided.{OfTiming}
 use Rattle.mintc_checker.proofs.schedule_tests.keeps_clock.Given as goal
 
 -- the phases so far are kept

@@ -1,5 +1,5 @@
 use Rattle.mintc_checker.specs.Judged.{KeepsOwn}
-use Rattle.mintc_chain_test.proofs.SharedDeciding.{alike}
+use Rattle.mintc_checker.proofs.Deciding.{alike}
 use Rattle.mintc_checker.proofs.schedule_tests.keeps_phase.Goals as goal
 
 pub returns-then-keeps_own : goal.returns-then-keeps_own

@@ -1,7 +1,7 @@
 use Rattle.std.proofs.Common.{◌≡◌, ℕ, List, length, ap, ◌∙◌, sym, subst, inl, inr, Err}
 use Rattle.mintc_command.specs.Answers.{IsNotRefused}
-use Rattle.mintc_answers.specs.declared.command.Command.{Command}
-use Rattle.mintc_answers.specs.declared.status.Status.TheVariants.{Usage, WriteFault}
+use Rattle.mintc_command_answers.specs.declared.command.Command.{Command}
+use Rattle.mintc_command_answers.specs.declared.status.Status.TheVariants.{Usage, WriteFault}
 use Rattle.mintc_command.proofs.AnswerLaws.{IsOfCommand-no_usage, answered, as_many, completed}
 use Rattle.mintc_command.proofs.CommandLaws.{one_command, read-count, read-names}
 use Rattle.mintc_command.proofs.program.run.Goals as goal

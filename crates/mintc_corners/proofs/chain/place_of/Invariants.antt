@@ -1,6 +1,6 @@
 use Rattle.std.proofs.Common.{◌≡◌, ◌+◌, length, take}
 use Rattle.std.specs.List.{flat_map}
-use Rattle.mintc_listing.specs.Ordinary.{Constraints}
+use Rattle.mintc_constraints.specs.Ordinary.{Constraints}
 use Rattle.mintc_corners.proofs.chain.place_of.Given as goal
 
 -- the links of the lists so far are taken off

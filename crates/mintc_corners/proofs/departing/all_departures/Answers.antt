@@ -1,6 +1,5 @@
-use Rattle.std.proofs.Common.{arith}
+use Rattle.std.proofs.Common.{arith, ap, ◌∙◌}
 use Rattle.std.proofs.lemmas.Grind.{common_steps}
-use Rattle.std.proofs.Common.{ap, ◌∙◌}
 use Rattle.mintc_constraints.specs.Duality.{departures_of}
 use Rattle.mintc_corners.specs.Joined.{departures_of_all}
 use Rattle.mintc_corners.proofs.LoopLaws.{departures_more, in_range_more, sayable_here}

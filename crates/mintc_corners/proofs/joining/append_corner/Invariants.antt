@@ -1,5 +1,5 @@
 use Rattle.std.proofs.Common.{◌≡◌, ◌++◌, map, take}
-use Rattle.mintc_lifting.specs.Lifted.{lifted_link, widest}
+use Rattle.mintc_corners.specs.Lifted.{lifted_link, widest}
 use Rattle.mintc_corners.proofs.joining.append_corner.Given as goal
 
 -- the links so far

@@ -1,10 +1,9 @@
-use Rattle.std.proofs.Common.{arith}
+use Rattle.std.proofs.Common.{arith, ◌++◌, List, map, sym, ap, ◌∙◌}
 use Rattle.std.proofs.lemmas.Grind.{common_steps}
-use Rattle.std.proofs.Common.{◌++◌, List, map, sym, ap, ◌∙◌}
 use Rattle.mintc_timing.specs.declared.link.Link.{Link}
 use Rattle.mintc_timing.specs.Links.{links_of}
-use Rattle.mintc_listing.specs.Ordinary.{Constraints, IsOrdinary, constraints_of}
-use Rattle.mintc_lifting.specs.Lifted.{lifted_link, widest}
+use Rattle.mintc_constraints.specs.Ordinary.{Constraints, IsOrdinary, constraints_of}
+use Rattle.mintc_corners.specs.Lifted.{lifted_link, widest}
 use Rattle.mintc_corners.specs.Joined.{joined_links}
 use Rattle.mintc_corners.specs.Joint.{joint_nodes}
 use Rattle.mintc_corners.proofs.LoopLaws.{elements_done, elements_more, joined_done, joined_more, list_at, low_at, nodes_of}

@@ -1,7 +1,7 @@
 use Rattle.std.proofs.Common.{◌≡◌, ◌+◌, ◌++◌, drop, length}
 use Rattle.std.specs.List.{flat_map}
 use Rattle.mintc_timing.specs.Design.{Timing}
-use Rattle.mintc_lifting.specs.Lifted.{widest}
+use Rattle.mintc_corners.specs.Lifted.{widest}
 use Rattle.mintc_corners.specs.Joined.{joined, joined_links}
 use Rattle.mintc_corners.proofs.joining.joint_links.Given as goal
 

@@ -1,6 +1,6 @@
 use Rattle.std.proofs.Common.{◌∷◌, [], codes, map, length}
 use Rattle.std.proofs.lemmas.Result.{on_ok_weaker}
-use Rattle.mintc_lines.specs.Fields.{number}
+use Rattle.mintc_timing_text.specs.Fields.{number}
 use Rattle.mintc_certificate.proofs.SharedWritingLaws.{line_in_parts}
 use Rattle.mintc_corners.proofs.writing.put_reach.Goals as goal
 

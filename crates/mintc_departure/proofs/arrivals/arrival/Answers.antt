@@ -2,7 +2,7 @@ use Rattle.std.proofs.Common.{◌≡◌, arith, ap}
 use Rattle.std.proofs.lemmas.Int.{ints}
 use Rattle.mintc_timing.specs.declared.parts.Pair.{Pair}
 use Rattle.mintc_timing.specs.Departures.{departure}
-use Rattle.mintc_settling.specs.Settled.{IsSum}
+use Rattle.mintc_departure.specs.Settled.{IsSum}
 use Rattle.mintc_departure.proofs.EarlyLaws.{early-arrival-is}
 use Rattle.mintc_departure.proofs.arrivals.arrival.Goals as goal
 

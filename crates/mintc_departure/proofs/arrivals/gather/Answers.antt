@@ -6,7 +6,7 @@ use Rattle.mintc_timing.specs.Departures.{early_arrival}
 use Rattle.mintc_timing.specs.Design.{pair_at}
 use Rattle.mintc_timing.specs.Extremes.{least_of, lesser_of}
 use Rattle.mintc_departure.specs.Rounds.{IsArrivalSum, IsFirst}
-use Rattle.mintc_settling.proofs.SharedFilling.{kept-values}
+use Rattle.mintc_departure.proofs.Filling.{kept-values}
 use Rattle.mintc_departure.proofs.Gathering.{gathered-more}
 use Rattle.mintc_departure.proofs.SharedLesser.{first-more, least_of-push}
 use Rattle.mintc_departure.proofs.arrivals.gather.Goals as goal

@@ -2,7 +2,7 @@ use Rattle.std.proofs.Common.{◌<◌, ◌+ℤ◌, take, arith, ap, ◌∙◌, s
 use Rattle.mintc_timing.specs.Design.{pair_at}
 use Rattle.mintc_timing.specs.Violations.{loop_amount}
 use Rattle.mintc_timing.proofs.SharedFitting.{read_time}
-use Rattle.mintc_settling.specs.Networks.{late_travel}
+use Rattle.mintc_departure.specs.Networks.{late_travel}
 use Rattle.mintc_departure.proofs.LoopSums.{few_pairs, read_sum, sum-fits, sum-within, total-more}
 use Rattle.mintc_departure.proofs.judging.loop_excess.Goals as goal
 

@@ -1,6 +1,5 @@
-use Rattle.std.proofs.Common.{◌≡◌, take}
-use Rattle.mintc_walks.specs.Bounds.{IsWithin}
-use Rattle.std.proofs.Common.{◌*◌}
+use Rattle.std.proofs.Common.{◌≡◌, take, ◌*◌}
+use Rattle.mintc_graph_walks.specs.Bounds.{IsWithin}
 use Rattle.mintc_timing.specs.Violations.{loop_amount}
 use Rattle.mintc_departure.proofs.judging.loop_excess.Given as goal
 

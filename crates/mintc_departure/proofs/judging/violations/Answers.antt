@@ -1,10 +1,9 @@
-use Rattle.std.proofs.Common.{arith}
+use Rattle.std.proofs.Common.{arith, ◌++◌, List, ap, ◌∙◌, append_assoc, inr}
 use Rattle.std.proofs.lemmas.Grind.{common_steps}
-use Rattle.std.proofs.Common.{◌++◌, List, ap, ◌∙◌, append_assoc, inr}
 use Rattle.mintc_timing.specs.declared.violation.Violation.{Violation}
 use Rattle.mintc_timing.specs.Violations.{failed, clock_checks, setup_checks, hold_checks}
 use Rattle.mintc_timing.proofs.SharedLoops.{no_loop}
-use Rattle.mintc_settling.proofs.SharedFailedLaws.{failed-append}
+use Rattle.mintc_departure.proofs.FailedLaws.{failed-append}
 use Rattle.mintc_departure.proofs.judging.violations.Goals as goal
 
 -- Where departures settle, no loop is above 0, and the list is that of the clock, then that of the elements.

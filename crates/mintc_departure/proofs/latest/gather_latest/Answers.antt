@@ -8,7 +8,7 @@ use Rattle.mintc_timing.specs.Extremes.{greater_of, greatest_of}
 use Rattle.mintc_timing.proofs.SharedExtremesLaws.{greatest_of-push}
 use Rattle.mintc_departure.specs.Excesses.{IsLast}
 use Rattle.mintc_departure.specs.Rounds.{IsArrivalSum}
-use Rattle.mintc_settling.proofs.SharedFilling.{kept-values}
+use Rattle.mintc_departure.proofs.Filling.{kept-values}
 use Rattle.mintc_departure.proofs.Gathering.{gathered-more}
 use Rattle.mintc_departure.proofs.Greater.{last-more}
 use Rattle.mintc_departure.proofs.latest.gather_latest.Goals as goal

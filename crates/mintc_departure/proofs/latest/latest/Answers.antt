@@ -2,8 +2,8 @@ use Rattle.std.proofs.Common.{◌≡◌, arith, ap}
 use Rattle.std.proofs.lemmas.Int.{ints}
 use Rattle.mintc_timing.specs.declared.parts.Pair.{Pair}
 use Rattle.mintc_timing.specs.Departures.{departure}
-use Rattle.mintc_settling.specs.Settled.{IsSum}
-use Rattle.mintc_settling.proofs.SharedNetworkLaws.{arrival-is}
+use Rattle.mintc_departure.specs.Settled.{IsSum}
+use Rattle.mintc_departure.proofs.NetworkLaws.{arrival-is}
 use Rattle.mintc_departure.proofs.latest.latest.Goals as goal
 
 pub returns : goal.returns

@@ -1,5 +1,5 @@
 use Rattle.std.proofs.Common.{◌≤◌, ◌<◌, ◌^◌, ℕ, length}
-use Rattle.mintc_places.specs.Places.{IsIn, room}
+use Rattle.mintc_bitset.specs.BitSet.{IsIn, room}
 use Rattle.mintc_departure.proofs.rising.all_of.Given as goal
 
 -- the places so far are in it

@@ -5,7 +5,7 @@ use Rattle.std.proofs.lemmas.Bool.{OnTrue_at, OnFalse_at, or_cases, or_parts}
 use Rattle.mintc_constraints.specs.Rooms.{Space}
 use Rattle.mintc_timing.specs.Design.{element_count}
 use Rattle.mintc_departure.specs.Rounds.{AreSwept}
-use Rattle.mintc_settling.proofs.SharedFilling.{kept-early}
+use Rattle.mintc_departure.proofs.Filling.{kept-early}
 use Rattle.mintc_departure.proofs.SweepLaws.{none-before}
 use Rattle.mintc_departure.proofs.rising.sweep.Goals as goal
 

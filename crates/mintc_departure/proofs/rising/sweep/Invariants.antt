@@ -1,5 +1,5 @@
 use Rattle.std.proofs.Common.{◌≡◌, ◌-◌, ◌<◌, ◌≤ℤ◌, ◌<ℤ◌, ℕ, true, false}
-use Rattle.mintc_places.specs.Places.{IsIn}
+use Rattle.mintc_bitset.specs.BitSet.{IsIn}
 use Rattle.mintc_timing.specs.Departures.{departure}
 use Rattle.mintc_timing.specs.Design.{element_count}
 use Rattle.mintc_departure.specs.Rounds.{AreSwept}

@@ -1,5 +1,5 @@
 use Rattle.std.proofs.Common.{◌≡◌, ◌+◌, ◌<◌, ◌≤◌, ℕ, length}
-use Rattle.mintc_places.specs.Places.{IsIn}
+use Rattle.mintc_bitset.specs.BitSet.{IsIn}
 use Rattle.mintc_timing.specs.Design.{pair_at}
 use Rattle.mintc_departure.proofs.rising.wake.Given as goal
 

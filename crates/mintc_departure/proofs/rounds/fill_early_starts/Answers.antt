@@ -1,8 +1,8 @@
 use Rattle.std.proofs.Common.{◌≡◌, length, set, arith, ap, ◌∙◌, to_z, of_z, w64, length-set}
 use Rattle.std.proofs.lemmas.Int.{ints}
 use Rattle.mintc_constraints.specs.Rooms.{Space}
-use Rattle.mintc_settling.specs.Travels.{early_start_of}
-use Rattle.mintc_settling.proofs.SharedFilling.{filled-more, kept-early}
+use Rattle.mintc_departure.specs.Travels.{early_start_of}
+use Rattle.mintc_departure.proofs.Filling.{filled-more, kept-early}
 use Rattle.mintc_departure.proofs.rounds.fill_early_starts.Goals as goal
 
 pub loop-number-preserved : goal.loop-number-preserved

@@ -1,6 +1,6 @@
 use Rattle.std.proofs.Common.{◌≡◌, ◌<◌, ℕ, pos, length, get_or}
 use Rattle.mintc_timing.specs.Design.{element_count}
-use Rattle.mintc_settling.specs.Travels.{early_start_of}
+use Rattle.mintc_departure.specs.Travels.{early_start_of}
 use Rattle.mintc_departure.proofs.rounds.fill_early_starts.Given as goal
 
 -- the departures so far are starts, and nothing else has changed

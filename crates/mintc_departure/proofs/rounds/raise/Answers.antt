@@ -2,14 +2,14 @@ use Rattle.std.proofs.Common.{◌≡◌, ◌≢◌, ◌<◌, ◌+◌, ◌≤◌,
 use Rattle.std.specs.Int.{w128}
 use Rattle.std.proofs.lemmas.Int.{ints, to_z-of_z}
 use Rattle.mintc_constraints.specs.Rooms.{Space}
-use Rattle.mintc_walks.specs.Walks.{value_at}
+use Rattle.mintc_graph_walks.specs.Walks.{value_at}
 use Rattle.mintc_timing.specs.Design.{element_count}
 use Rattle.mintc_timing.specs.Departures.{departure, early_departure, early_arrivals}
 use Rattle.mintc_timing.specs.Extremes.{least_of}
 use Rattle.mintc_timing.proofs.SharedFitting.{same_bits}
 use Rattle.mintc_departure.specs.Rounds.{IsFirst}
-use Rattle.mintc_settling.specs.Settled.{IsSum}
-use Rattle.mintc_settling.proofs.SharedFilling.{filled-more, kept-early}
+use Rattle.mintc_departure.specs.Settled.{IsSum}
+use Rattle.mintc_departure.proofs.Filling.{filled-more, kept-early}
 use Rattle.mintc_departure.proofs.rounds.raise.Goals as goal
 use Rattle.mintc_departure.proofs.rounds.raise.Goals.{then-time-before, else-time-before}
 

@@ -1,7 +1,7 @@
 use Rattle.std.proofs.Common.{ℤ, List, ap, ◌∙◌, sym}
 use Rattle.mintc_constraints.specs.Rooms.{Space}
 use Rattle.mintc_departure.proofs.EarlyLaws.{rising-first, rising-more, rising-last, rising-sums}
-use Rattle.mintc_settling.proofs.SharedFilling.{kept-round}
+use Rattle.mintc_departure.proofs.Filling.{kept-round}
 use Rattle.mintc_departure.proofs.Missing.{round-falls}
 use Rattle.mintc_departure.proofs.rounds.rise_in_rounds.Goals as goal
 

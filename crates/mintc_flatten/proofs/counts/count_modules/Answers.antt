@@ -3,13 +3,13 @@ use Rattle.std.proofs.Common.{◌≡◌, ◌<◌, ◌+◌, ℕ, List, length, ge
 use Rattle.std.specs.List.{All}
 use Rattle.std.proofs.lemmas.List.{get_or-map, length-set}
 use Rattle.mintc_netlist.specs.Nets.{nets_of}
-use Rattle.mintc_hierarchy.specs.declared.targets.Target.{Target}
+use Rattle.mintc_flatten_hierarchy.specs.declared.targets.Target.{Target}
 use Rattle.mintc_flatten.specs.declared.counts.Count.{Count}
-use Rattle.mintc_hierarchy.specs.Sources.{source_of, module_at, no_module, targets_in}
-use Rattle.mintc_hierarchy.specs.Walks.{counts, plus}
+use Rattle.mintc_flatten_hierarchy.specs.Sources.{source_of, module_at, no_module, targets_in}
+use Rattle.mintc_flatten_hierarchy.specs.Walks.{counts, plus}
 use Rattle.mintc_flatten.specs.Totals.{IsCounted, IsCapped, IsCount, sum_parts, greatest_depth, net_count, capped}
 use Rattle.mintc_flatten.proofs.CountLaws.{counted_targets, greatest_depth-le, module_counted, counted_step}
-use Rattle.mintc_targets.proofs.SharedThereLaws.{kept_at}
+use Rattle.mintc_flatten_binding.proofs.SharedThereLaws.{kept_at}
 use Rattle.mintc_flatten.proofs.counts.count_modules.Goals as goal
 
 pub module_count-requires-clause-counted : goal.module_count-requires-clause-counted

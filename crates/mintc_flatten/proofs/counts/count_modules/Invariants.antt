@@ -1,5 +1,5 @@
 use Rattle.std.proofs.Common.{◌≡◌, length}
-use Rattle.mintc_hierarchy.specs.Sources.{source_of}
+use Rattle.mintc_flatten_hierarchy.specs.Sources.{source_of}
 use Rattle.mintc_flatten.specs.Totals.{AreCounted}
 use Rattle.mintc_flatten.proofs.counts.count_modules.Given as goal
 

@@ -1,9 +1,9 @@
 use Rattle.std.proofs.Common.{List, take, get_or, subst, sym, arith}
 use Rattle.std.proofs.lemmas.List.{take_more}
-use Rattle.mintc_hierarchy.specs.declared.targets.Target.{Target}
-use Rattle.mintc_hierarchy.specs.declared.targets.Target.TheVariants.{OfCell}
-use Rattle.mintc_hierarchy.specs.Sources.{source_of}
-use Rattle.mintc_hierarchy.specs.Walks.{counts, plus}
+use Rattle.mintc_flatten_hierarchy.specs.declared.targets.Target.{Target}
+use Rattle.mintc_flatten_hierarchy.specs.declared.targets.Target.TheVariants.{OfCell}
+use Rattle.mintc_flatten_hierarchy.specs.Sources.{source_of}
+use Rattle.mintc_flatten_hierarchy.specs.Walks.{counts, plus}
 use Rattle.mintc_flatten.specs.Totals.{sum_parts, IsCapped, greatest_depth}
 use Rattle.mintc_flatten.proofs.CountLaws.{count_step}
 use Rattle.mintc_flatten.proofs.counts.items_count.Goals as goal

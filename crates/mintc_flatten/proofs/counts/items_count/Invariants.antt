@@ -1,7 +1,7 @@
 use Rattle.std.proofs.Common.{◌≡◌, ◌≤◌, ℕ, take}
 use Rattle.mintc_text.specs.declared.limits.TheConstants.{MOST_TOLD}
-use Rattle.mintc_hierarchy.specs.Sources.{source_of}
-use Rattle.mintc_hierarchy.specs.Walks.{counts, plus}
+use Rattle.mintc_flatten_hierarchy.specs.Sources.{source_of}
+use Rattle.mintc_flatten_hierarchy.specs.Walks.{counts, plus}
 use Rattle.mintc_flatten.specs.Totals.{capped, sum_parts, IsCapped, greatest_depth}
 use Rattle.mintc_flatten.proofs.counts.items_count.Given as goal
 

@@ -1,8 +1,8 @@
 use Rattle.std.proofs.Common.{◌≡◌, ◌+◌, ◌<◌, ◌++◌, ◌∷◌, [], ℕ, List, map, take, min, length, get_or, sym, ap, ◌∙◌, subst}
 use Rattle.std.proofs.lemmas.List.{take_more, map-append, get_or-map, length-map}
 use Rattle.mintc_text.specs.declared.limits.TheConstants.{MOST_TOLD}
-use Rattle.mintc_nets.specs.Tables.{NetTable, table_of}
-use Rattle.mintc_hierarchy.specs.Sources.{no_module}
+use Rattle.mintc_netlist_nets.specs.Tables.{NetTable, table_of}
+use Rattle.mintc_flatten_hierarchy.specs.Sources.{no_module}
 use Rattle.mintc_flatten.specs.Totals.{net_count}
 use Rattle.mintc_flatten.proofs.counts.net_counts.Goals as goal
 

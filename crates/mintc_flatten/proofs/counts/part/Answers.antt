@@ -1,5 +1,5 @@
 use Rattle.std.proofs.Common.{ap, ◌∙◌}
-use Rattle.mintc_hierarchy.specs.Sources.{source_of}
+use Rattle.mintc_flatten_hierarchy.specs.Sources.{source_of}
 use Rattle.mintc_flatten.specs.Totals.{capped}
 use Rattle.mintc_flatten.proofs.CountLaws.{cell_count}
 use Rattle.mintc_flatten.proofs.counts.part.Goals as goal

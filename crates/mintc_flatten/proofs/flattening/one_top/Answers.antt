@@ -1,8 +1,8 @@
 use Rattle.std.proofs.Common.{◌≡◌, length, sym, ◌∙◌, arith}
 use Rattle.std.specs.Option.{option_copied}
-use Rattle.mintc_hierarchy.specs.Sources.{source_of}
+use Rattle.mintc_flatten_hierarchy.specs.Sources.{source_of}
 use Rattle.mintc_flatten.proofs.RefusalLaws.{one_of}
-use Rattle.mintc_hierarchy.proofs.SharedShapeLaws.{top_there, top_live}
+use Rattle.mintc_flatten_hierarchy.proofs.SharedShapeLaws.{top_there, top_live}
 use Rattle.mintc_flatten.proofs.flattening.one_top.Goals as goal
 
 pub returns-then-len-eq1-clause-there : goal.returns-then-len-eq1-clause-there

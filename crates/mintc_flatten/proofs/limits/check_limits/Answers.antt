@@ -1,5 +1,5 @@
 use Rattle.std.proofs.Common.{◌∙◌}
-use Rattle.mintc_hierarchy.specs.Sources.{source_of}
+use Rattle.mintc_flatten_hierarchy.specs.Sources.{source_of}
 use Rattle.mintc_flatten.proofs.LimitLaws.{judged}
 use Rattle.mintc_flatten.proofs.limits.check_limits.Goals as goal
 

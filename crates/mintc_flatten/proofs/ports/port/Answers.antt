@@ -1,6 +1,6 @@
 use Rattle.std.proofs.Common.{◌≡◌, ◌++◌, ℕ, List, Option, map, ap, ◌∙◌}
 use Rattle.mintc_netlist.specs.Nets.{bits_of, range_of, is_output}
-use Rattle.mintc_nets.specs.Tables.{bit_place}
+use Rattle.mintc_netlist_nets.specs.Tables.{bit_place}
 use Rattle.mintc_flatten.proofs.PortLaws.{numbers-are, port-is}
 use Rattle.mintc_flatten.proofs.ports.port.Goals as goal
 

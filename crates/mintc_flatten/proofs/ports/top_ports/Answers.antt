@@ -1,10 +1,9 @@
-use Rattle.std.proofs.Common.{arith}
+use Rattle.std.proofs.Common.{arith, ◌≤◌, ℕ, List, map, length, sym, ap, ◌∙◌, subst}
 use Rattle.std.proofs.lemmas.Grind.{common_steps}
-use Rattle.std.proofs.Common.{◌≤◌, ℕ, List, map, length, sym, ap, ◌∙◌, subst}
 use Rattle.std.proofs.lemmas.List.{take_all}
 use Rattle.std.proofs.lemmas.Simd.{map-map}
 use Rattle.mintc_netlist.specs.Connections.{port_of}
-use Rattle.mintc_hierarchy.specs.Hierarchies.{top_port}
+use Rattle.mintc_flatten_hierarchy.specs.Hierarchies.{top_port}
 use Rattle.mintc_flatten.proofs.ports.top_ports.Goals as goal
 
 pub returns : goal.returns

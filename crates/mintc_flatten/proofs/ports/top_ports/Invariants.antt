@@ -1,6 +1,6 @@
 use Rattle.std.proofs.Common.{◌≡◌, ℕ, List, map, take}
 use Rattle.mintc_netlist.specs.Connections.{port_of}
-use Rattle.mintc_hierarchy.specs.Hierarchies.{top_port}
+use Rattle.mintc_flatten_hierarchy.specs.Hierarchies.{top_port}
 use Rattle.mintc_flatten.proofs.ports.top_ports.Given as goal
 
 -- the ports so far

@@ -1,7 +1,7 @@
 use Rattle.std.proofs.Common.{◌≡◌, ap, sym, ◌∙◌}
-use Rattle.mintc_hierarchy.specs.Sources.{source_of, module_at, no_module, targets_in}
+use Rattle.mintc_flatten_hierarchy.specs.Sources.{source_of, module_at, no_module, targets_in}
 use Rattle.std.proofs.lemmas.List.{get_or_read}
-use Rattle.mintc_targets.proofs.SharedThereLaws.{kept_at}
+use Rattle.mintc_flatten_binding.proofs.SharedThereLaws.{kept_at}
 use Rattle.mintc_flatten.proofs.TopLaws.{marks_step, marks_skip}
 use Rattle.mintc_flatten.proofs.tops.mark_modules.Goals as goal
 

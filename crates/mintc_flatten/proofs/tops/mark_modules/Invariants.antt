@@ -1,4 +1,4 @@
-use Rattle.mintc_hierarchy.specs.Sources.{source_of}
+use Rattle.mintc_flatten_hierarchy.specs.Sources.{source_of}
 use Rattle.mintc_flatten.specs.Tops.{AreMarks}
 use Rattle.mintc_flatten.proofs.tops.mark_modules.Given as goal
 

@@ -3,8 +3,8 @@ use Rattle.std.proofs.lemmas.List.{take_all}
 use Rattle.std.proofs.lemmas.Simd.{map-map}
 use Rattle.mintc_netlist.specs.declared.expression.Span.{Span}
 use Rattle.mintc_netlist.specs.Nets.{bit_of, bits_of, indexes}
-use Rattle.mintc_hierarchy.specs.declared.hierarchy.Inner.{Inner}
-use Rattle.mintc_hierarchy.specs.Hierarchies.{net_of}
+use Rattle.mintc_flatten_hierarchy.specs.declared.hierarchy.Inner.{Inner}
+use Rattle.mintc_flatten_hierarchy.specs.Hierarchies.{net_of}
 use Rattle.mintc_flatten.proofs.walk.push_net.Goals as goal
 
 pub returns : goal.returns

@@ -1,6 +1,6 @@
 use Rattle.std.proofs.Common.{◌≡◌, ◌++◌, Some, map, take}
 use Rattle.mintc_netlist.specs.Nets.{bit_of, indexes}
-use Rattle.mintc_hierarchy.specs.Hierarchies.{net_of}
+use Rattle.mintc_flatten_hierarchy.specs.Hierarchies.{net_of}
 use Rattle.mintc_flatten.proofs.walk.push_net.Given as goal
 
 -- the bits so far are taken in

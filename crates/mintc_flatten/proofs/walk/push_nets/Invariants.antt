@@ -1,8 +1,8 @@
 use Rattle.std.proofs.Common.{◌≡◌, ◌++◌, map, take}
 use Rattle.std.specs.List.{flat_map}
 use Rattle.mintc_netlist.specs.Nets.{names_of}
-use Rattle.mintc_nets.proofs.SharedPlaceLaws.{bits_in}
-use Rattle.mintc_hierarchy.specs.Hierarchies.{net_of}
+use Rattle.mintc_netlist_nets.proofs.SharedPlaceLaws.{bits_in}
+use Rattle.mintc_flatten_hierarchy.specs.Hierarchies.{net_of}
 use Rattle.mintc_flatten.proofs.walk.push_nets.Given as goal
 
 -- the nets so far are taken in

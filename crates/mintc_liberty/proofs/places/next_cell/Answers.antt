@@ -1,6 +1,6 @@
 use Rattle.std.proofs.Common.{◌≡◌, ◌∷◌, [], ◌++◌, Some, sym, ap, ◌∙◌, arith}
-use Rattle.mintc_liblex.proofs.SharedNestLaws.{step-shorter}
-use Rattle.mintc_liblex.proofs.SharedPassingLaws.{ahead-then}
+use Rattle.mintc_liberty_tokens.proofs.SharedNestLaws.{step-shorter}
+use Rattle.mintc_liberty_tokens.proofs.SharedPassingLaws.{ahead-then}
 use Rattle.mintc_liberty.specs.Places.{opened, cells_next, named_cells, entry_from, entry_at}
 use Rattle.mintc_liberty.proofs.NextLaws.{at-none, cells-step, cells-end}
 use Rattle.mintc_liberty.proofs.places.next_cell.Goals as goal

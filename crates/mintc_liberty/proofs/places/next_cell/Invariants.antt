@@ -1,5 +1,5 @@
 use Rattle.std.proofs.Common.{◌≡◌, ◌≤◌, length}
-use Rattle.mintc_liblex.specs.Scans.{IsAhead}
+use Rattle.mintc_liberty_tokens.specs.Scans.{IsAhead}
 use Rattle.mintc_liberty.specs.Places.{named_cells}
 use Rattle.mintc_liberty.proofs.places.next_cell.Given as goal
 

@@ -1,5 +1,5 @@
 use Rattle.std.proofs.Common.{[]}
-use Rattle.mintc_liblex.proofs.SharedPassingLaws.{both-ways}
+use Rattle.mintc_liberty_tokens.proofs.SharedPassingLaws.{both-ways}
 use Rattle.mintc_liberty.proofs.NextLaws.{opened-there, opened-not}
 use Rattle.mintc_liberty.proofs.places.opens.Goals as goal
 

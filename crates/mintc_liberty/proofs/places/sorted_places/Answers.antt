@@ -7,6 +7,6 @@ use Rattle.mintc_liberty.proofs.places.sorted_places.Goals as goal
 pub returns : goal.returns
 returns c =
     let text = c.args.library.now.text in
-    let moved = moved-back c.in_ok-places.places.items c.bring_near.new.places c.in_ok-places.places.len (subst (λ (ps : List ℕ). IsPermutation ps c.bring_near.new.places) c.deref_mut.ensures.value c.bring_near.ensures.permutation) (c.bring_near.ensures.len ∙ c.deref_mut.ensures.len) in
+    let moved = moved-back c.in_ok-places.places.items c.presort.new.places c.in_ok-places.places.len (subst (λ (ps : List ℕ). IsPermutation ps c.presort.new.places) c.deref_mut.ensures.value c.presort.ensures.permutation) (c.presort.ensures.len ∙ c.deref_mut.ensures.len) in
     sorted-firsts text _ _ _ c.in_ok-places.ensures.cells c.in_ok-places.ensures.ascending (IsPermutation-trans _ _ _ moved c.sort_unstable_by.ensures.permutation)
     (sorted-rises text _ c.sort_unstable_by.ensures.sorted (λ a r q k. search rules))

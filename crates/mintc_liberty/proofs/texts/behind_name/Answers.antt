@@ -1,7 +1,7 @@
 use Rattle.std.proofs.Common.{◌≡◌, [], List, Option, option_and_then, ap, ◌∙◌}
-use Rattle.mintc_liblex.specs.Tokens.{Token, after_closing, after_left}
+use Rattle.mintc_liberty_tokens.specs.Tokens.{Token, after_closing, after_left}
 use Rattle.mintc_liberty.specs.Texts.{behind_name}
-use Rattle.mintc_liblex.proofs.SharedPassingLaws.{both-ways, not-closing}
+use Rattle.mintc_liberty_tokens.proofs.SharedPassingLaws.{both-ways, not-closing}
 use Rattle.mintc_liberty.proofs.LibraryLaws.{not-left}
 use Rattle.mintc_liberty.proofs.texts.behind_name.Goals as goal
 

@@ -3,8 +3,8 @@ use Rattle.std.proofs.lemmas.Bool.Decides.{nat_tests}
 use Rattle.std.proofs.lemmas.List.{append-nil, nil_from_length}
 use Rattle.std.specs.Borrow.{Bor}
 use Rattle.mintc_cells.specs.Entries.{AreAscending, AreKept, names_of, is_kept}
-use Rattle.mintc_liblex.specs.Statements.{front}
-use Rattle.mintc_libcell.specs.Meaning.{groups}
+use Rattle.mintc_liberty_tokens.specs.Statements.{front}
+use Rattle.mintc_liberty_cell.specs.Meaning.{groups}
 use Rattle.mintc_liberty.specs.Meaning.{usable, put_all, cells_in}
 use Rattle.mintc_liberty.specs.Places.{is_same, named_cells}
 use Rattle.mintc_liberty.proofs.PlaceLaws.{cells_from, next-same, next-other, named-cells, ascending-kept, all-kept, all-in-order}

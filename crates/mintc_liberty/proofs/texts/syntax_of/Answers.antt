@@ -1,11 +1,11 @@
 use Rattle.std.proofs.Common.{◌≡◌, [], length, true, false, Some, IsOk, sym, ap, subst, ◌∙◌, arith}
-use Rattle.mintc_liblex.specs.Statements.{Front, front, count}
+use Rattle.mintc_liberty_tokens.specs.Statements.{Front, front, count}
 use Rattle.mintc_liberty.specs.Texts.{behind_head, is_end, whole, within, library_of}
-use Rattle.mintc_liblex.specs.Reading.{statement_rest}
-use Rattle.mintc_scan.proofs.SharedTokenLaws.{few}
-use Rattle.mintc_liblex.specs.Tokens.{piece_of}
-use Rattle.mintc_liblex.proofs.SharedNestLaws.{step-shorter}
-use Rattle.mintc_libcell.proofs.SharedStepLaws.{one-more, no-more}
+use Rattle.mintc_liberty_tokens.specs.Reading.{statement_rest}
+use Rattle.mintc_text_scan.proofs.SharedTokenLaws.{few}
+use Rattle.mintc_liberty_tokens.specs.Tokens.{piece_of}
+use Rattle.mintc_liberty_tokens.proofs.SharedNestLaws.{step-shorter}
+use Rattle.mintc_liberty_cell.proofs.SharedStepLaws.{one-more, no-more}
 use Rattle.mintc_liberty.proofs.LibraryLaws.{is-whole, is-broken, no-end, head-shorter}
 use Rattle.mintc_liberty.proofs.texts.syntax_of.Goals as goal
 

@@ -1,5 +1,5 @@
 use Rattle.std.proofs.Common.{◌≡◌, ◌≤◌, ◌+◌, length}
-use Rattle.mintc_liblex.specs.Statements.{front, count}
+use Rattle.mintc_liberty_tokens.specs.Statements.{front, count}
 use Rattle.mintc_liberty.proofs.texts.syntax_of.Given as goal
 
 -- what is left in the end is the same, and so many statements are passed

@@ -1,4 +1,4 @@
-use Rattle.mintc_walks.specs.Walks.{value_at}
+use Rattle.mintc_graph_walks.specs.Walks.{value_at}
 use Rattle.mintc_timing.specs.Limits.{IsNumerator}
 use Rattle.mintc_timing.specs.Links.{start_node}
 use Rattle.mintc_optimise.proofs.TimesLaws.{AreSaid}

@@ -1,5 +1,5 @@
 use Rattle.std.proofs.Common.{◌-ℤ◌}
-use Rattle.mintc_walks.specs.Walks.{value_at}
+use Rattle.mintc_graph_walks.specs.Walks.{value_at}
 use Rattle.mintc_timing.specs.Limits.{IsNumerator}
 use Rattle.mintc_timing.specs.Links.{end_node, start_node}
 use Rattle.mintc_optimise.proofs.TimesLaws.{AreSaid}

@@ -1,6 +1,6 @@
 use Rattle.std.proofs.Common.{◌≡◌, ◌<◌, ◌*◌, ◌^◌, ◌∙◌, ℕ, length, arith}
 use Rattle.mintc_lanes.specs.Lanes.{AreLanes}
-use Rattle.mintc_sums.specs.Sums.{sums_at}
+use Rattle.mintc_paths_sums.specs.Sums.{sums_at}
 use Rattle.mintc_paths.proofs.Filling.{IsBounded-weaker}
 use Rattle.mintc_paths.proofs.Rowing.{bounded_each}
 use Rattle.mintc_paths.proofs.blocks.find_each.Goals as goal

@@ -1,5 +1,5 @@
 use Rattle.std.proofs.Common.{◌≡◌, ◌≤◌, ◌-◌, length}
-use Rattle.mintc_paths.specs.Awake.{IsReady}
+use Rattle.mintc_paths.specs.Worklist.{IsReady}
 use Rattle.mintc_paths.specs.Found.{IsFoundBefore}
 use Rattle.mintc_paths.specs.Sums.{AreMarked}
 use Rattle.mintc_paths.specs.Refusals.{AreShortBefore}

@@ -2,12 +2,12 @@ use Rattle.std.proofs.Common.{◌≡◌, ◌<◌, ◌+◌, ℕ, ℤ, ◌+ℤ◌,
 use Rattle.std.proofs.lemmas.Int.{ints, to_z-of_z}
 use Rattle.std.proofs.lemmas.List.{take_more}
 use Rattle.mintc_timing.specs.declared.parts.TimingArc.{TimingArc}
-use Rattle.mintc_rings.specs.Rings.{total}
+use Rattle.mintc_graph.specs.Rings.{total}
 use Rattle.mintc_timing.specs.Design.{no_arc}
 use Rattle.mintc_timing.specs.Limits.{IsArc, IsDelay}
 use Rattle.mintc_timing.specs.Paths.{arc_at, output_of, Leads}
 use Rattle.mintc_timing.proofs.SharedOrdered.{Leads-push}
-use Rattle.mintc_rings.proofs.SharedRingLaws.{total-push}
+use Rattle.mintc_graph.proofs.SharedRingLaws.{total-push}
 use Rattle.mintc_paths.specs.declared.trace.Extreme.{Extreme}
 use Rattle.mintc_paths.specs.declared.trace.Extreme.TheVariants.{Greatest, Least}
 use Rattle.mintc_paths.specs.Trace.{weight_of, delay_of}

@@ -1,5 +1,5 @@
 use Rattle.std.proofs.Common.{◌≡◌, ◌*◌, pos, ◌≤ℤ◌, take}
-use Rattle.mintc_rings.specs.Rings.{total}
+use Rattle.mintc_graph.specs.Rings.{total}
 use Rattle.mintc_timing.specs.Paths.{Leads, output_of}
 use Rattle.mintc_paths.specs.Trace.{weight_of}
 use Rattle.mintc_paths.proofs.listed.is_listed_with.Given as goal

@@ -1,4 +1,4 @@
-use Rattle.mintc_sums.specs.Placed.{placed}
+use Rattle.mintc_paths_sums.specs.Placed.{placed}
 use Rattle.mintc_paths.specs.Long.{AreShortBelow}
 use Rattle.mintc_paths.proofs.long.first_bit.Given as goal
 

@@ -1,5 +1,5 @@
 use Rattle.std.proofs.Common.{ℕ, ◌<◌}
-use Rattle.mintc_sums.specs.Placed.{placed}
+use Rattle.mintc_paths_sums.specs.Placed.{placed}
 use Rattle.mintc_paths.specs.Long.{IsShortLane}
 use Rattle.mintc_paths.proofs.long.refuse_long.Given as goal
 

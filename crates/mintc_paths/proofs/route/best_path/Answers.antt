@@ -1,7 +1,7 @@
 use Rattle.std.proofs.Common.{◌≡◌, ◌≤◌, ◌+◌, ◌*◌, ℕ, List, length, arith, rules, sym, ap, subst}
 use Rattle.mintc_timing.specs.Design.{Design}
 use Rattle.mintc_timing.specs.Paths.{input_of, output_of}
-use Rattle.mintc_sums.specs.Sums.{sums_at}
+use Rattle.mintc_paths_sums.specs.Sums.{sums_at}
 use Rattle.mintc_paths.specs.Ordered.{ordered}
 use Rattle.mintc_paths.specs.Sums.{AreSums}
 use Rattle.mintc_paths.specs.Trace.{IsOfPair}

@@ -1,6 +1,6 @@
 use Rattle.std.proofs.Common.{◌≡◌, ◌<◌, ◌+◌, ◌*◌, ◌∙◌, ℕ, length, arith}
 use Rattle.std.proofs.lemmas.List.{get_or_default}
-use Rattle.mintc_sums.specs.Placed.{row_of}
+use Rattle.mintc_paths_sums.specs.Placed.{row_of}
 use Rattle.mintc_paths.proofs.Marking.{marked_more}
 use Rattle.mintc_paths.proofs.SharedWaking.{IsAwake-none}
 use Rattle.mintc_paths.proofs.Beginning.{IsBegun}

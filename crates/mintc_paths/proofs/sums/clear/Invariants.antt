@@ -1,7 +1,7 @@
 use Rattle.std.proofs.Common.{◌≡◌, ℕ, List, length}
 use Rattle.mintc_timing.specs.declared.parts.TimingArc.{TimingArc}
-use Rattle.mintc_sums.specs.Placed.{placed}
-use Rattle.mintc_paths.specs.Awake.{IsAwake}
+use Rattle.mintc_paths_sums.specs.Placed.{placed}
+use Rattle.mintc_paths.specs.Worklist.{IsAwake}
 use Rattle.mintc_paths.specs.Sums.{AreBegun, AreMarked}
 use Rattle.mintc_paths.proofs.sums.clear.Given as goal
 

@@ -3,9 +3,9 @@ use Rattle.std.proofs.Common.{◌≡◌, ◌<◌, ◌≤◌, ◌+◌, ◌∙◌,
 use Rattle.std.proofs.lemmas.List.{get_or_default}
 use Rattle.mintc_timing.specs.Design.{no_arc}
 use Rattle.mintc_timing.specs.Paths.{arc_at}
-use Rattle.mintc_sums.specs.Placed.{placed}
-use Rattle.mintc_sums.proofs.SharedPlaced.{length-placed}
-use Rattle.mintc_paths.specs.Awake.{IsAwake}
+use Rattle.mintc_paths_sums.specs.Placed.{placed}
+use Rattle.mintc_paths_sums.proofs.SharedPlaced.{length-placed}
+use Rattle.mintc_paths.specs.Worklist.{IsAwake}
 use Rattle.mintc_paths.specs.Sums.{AreSums}
 use Rattle.mintc_paths.proofs.Filling.{IsCarried}
 use Rattle.mintc_paths.proofs.SharedPassing.{IsSmallAt, ends_small, carried_along, passed_next, at_place, at_end}

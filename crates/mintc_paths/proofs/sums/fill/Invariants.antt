@@ -1,6 +1,6 @@
 use Rattle.std.proofs.Common.{◌≡◌, ◌-◌, min, length}
-use Rattle.mintc_sums.specs.Placed.{placed}
-use Rattle.mintc_paths.specs.Awake.{IsAwake}
+use Rattle.mintc_paths_sums.specs.Placed.{placed}
+use Rattle.mintc_paths.specs.Worklist.{IsAwake}
 use Rattle.mintc_paths.specs.Sums.{AreMarked, AreSums}
 use Rattle.mintc_paths.proofs.sums.fill.Given as goal
 

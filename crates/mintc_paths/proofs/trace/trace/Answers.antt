@@ -2,7 +2,7 @@ use Rattle.std.proofs.lemmas.Grind.{common_steps}
 use Rattle.std.proofs.Common.{◌≡◌, ◌<◌, ◌+◌, ◌-◌, ℕ, length, get_or, arith, subst, ◌∙◌, sym}
 use Rattle.std.specs.Prelude.{reverse}
 use Rattle.mintc_timing.specs.Paths.{Leads, arc_at}
-use Rattle.mintc_rings.specs.Rings.{total}
+use Rattle.mintc_graph.specs.Rings.{total}
 use Rattle.mintc_timing.specs.Limits.{IsArc}
 use Rattle.mintc_timing.proofs.SharedOrdered.{inside}
 use Rattle.mintc_paths.specs.Trace.{weight_of}

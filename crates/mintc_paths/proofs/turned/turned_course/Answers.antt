@@ -5,7 +5,7 @@ use Rattle.mintc_timing.specs.declared.parts.Element.{Element}
 use Rattle.mintc_timing.specs.declared.parts.TimingArc.{TimingArc}
 use Rattle.mintc_timing.specs.Design.{no_arc}
 use Rattle.mintc_timing.specs.Paths.{arc_at}
-use Rattle.mintc_paths.specs.declared.rows.Course.{Course}
+use Rattle.mintc_paths.specs.declared.rows.ArcSequence.{ArcSequence}
 use Rattle.mintc_paths.specs.Leaving.{AreLeaving}
 use Rattle.mintc_paths.specs.Turned.{flipped}
 use Rattle.mintc_paths.proofs.SharedPassing.{row_to_in}
@@ -32,7 +32,7 @@ pub returns : goal.returns
 returns c =
     let at = (goal.at.returns c).After-len in
     let old = c.args.course in
-    let new : Course = record { rows = c.in_ok-rows.rows; along = with_items old.along c.turn_arcs.new.along; leaving = c.in_ok-leaving.leaving } in
+    let new : ArcSequence = record { rows = c.in_ok-rows.rows; along = with_items old.along c.turn_arcs.new.along; leaving = c.in_ok-leaving.leaving } in
     let rows = rw c.requires.course.rows.of_bits.count at c.in_ok-rows.ensures.rows in
     let leaving : AreLeaving c.deref.result.now c.len.result new.leaving = record { rows_have = c.in_ok-leaving.ensures.bits; arcs_have = c.in_ok-leaving.ensures.arcs; index = c.in_ok-leaving.ensures.index } in
     IsCourse-turned c.args.flat.now c.args.order.now c.requires.order c.elements.ensures.kept old new c.args.places.now c.requires.places c.requires.course rows

@@ -1,5 +1,5 @@
 use Rattle.mintc_paths.specs.Ordered.{ordered}
 use Rattle.mintc_paths.proofs.ways.find.Given as goal
 
-abbrev pub ghost-find_forth : goal.ghost-find_forth
-ghost-find_forth a = ordered a.flat.now a.order.now
+abbrev pub ghost-find_forward : goal.ghost-find_forward
+ghost-find_forward a = ordered a.flat.now a.order.now

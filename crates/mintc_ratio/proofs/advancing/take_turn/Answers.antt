@@ -56,8 +56,8 @@ middle_of-middle-requires-clause-width g c =
     let wide = rw (read_high c.args.high c.low_of-low.result r, read_low c.args.high c.low_of-low.result r) at c.width_of-width.ensures in
     width_small c.args.high c.low_of-low.result c.width_of-width.result r wide
 
-pub halve-requires-clause-low : goal.halve-requires-clause-low
-halve-requires-clause-low g c =
+pub test_midpoint-requires-clause-low : goal.test_midpoint-requires-clause-low
+test_midpoint-requires-clause-low g c =
     let s = c.requires.climbing in
     let floor = rw c.nodes-nodes.ensures.value at c.low_of-low.ensures in
     let r = range_of c.args.links.now c.nodes-nodes.ensures.kept s.0 c.args.begun c.args.room.now c.args.held c.args.high c.low_of-low.result s.1 c.args.steps.now s.2 floor in
@@ -65,8 +65,8 @@ halve-requires-clause-low g c =
     let middle = rw (read_low c.args.high c.low_of-low.result r) at c.middle_of-middle.ensures in
     rw (read_middle c.args.high c.low_of-low.result c.middle_of-middle.result c.width_of-width.result r wide middle) (middle_low c.args.high c.low_of-low.result c.width_of-width.result r)
 
-pub halve-requires-clause-high : goal.halve-requires-clause-high
-halve-requires-clause-high g c =
+pub test_midpoint-requires-clause-high : goal.test_midpoint-requires-clause-high
+test_midpoint-requires-clause-high g c =
     let s = c.requires.climbing in
     let floor = rw c.nodes-nodes.ensures.value at c.low_of-low.ensures in
     let r = range_of c.args.links.now c.nodes-nodes.ensures.kept s.0 c.args.begun c.args.room.now c.args.held c.args.high c.low_of-low.result s.1 c.args.steps.now s.2 floor in
@@ -87,30 +87,30 @@ returns-in-Held-clause-advanced g c =
     let turn = c.in-Held.ensures.turn in
     rw (read_high c.args.high c.low_of-low.result r)
     (jumped_on c.args.links.now c.nodes-nodes.ensures.kept start c.args.begun c.args.room.now c.args.held c.args.high c.low_of-low.result halvings c.args.steps.now c.width_of-width.result now floor wide
-    c.jump.new.room c.jump.new.steps c.in-Held.ensures.cost c.in-Held.ensures.some c.in-Held.sums c.taken.result c.taken.ensures may turn.0 turn.1)
+    c.test_held_ratio.new.room c.test_held_ratio.new.steps c.in-Held.ensures.cost c.in-Held.ensures.some c.in-Held.sums c.taken.result c.taken.ensures may turn.0 turn.1)
 
-pub returns-in-Held-halve-clause-advanced : goal.returns-in-Held-halve-clause-advanced
-returns-in-Held-halve-clause-advanced g c =
+pub returns-in-Held-test_midpoint-clause-advanced : goal.returns-in-Held-test_midpoint-clause-advanced
+returns-in-Held-test_midpoint-clause-advanced g c =
     λ start halvings now.
     let s = c.requires.climbing in
     let floor = rw c.nodes-nodes.ensures.value at c.low_of-low.ensures in
     let r = range_of c.args.links.now c.nodes-nodes.ensures.kept s.0 c.args.begun c.args.room.now c.args.held c.args.high c.low_of-low.result s.1 c.args.steps.now s.2 floor in
     let wide = rw (read_high c.args.high c.low_of-low.result r, read_low c.args.high c.low_of-low.result r) at c.width_of-width.ensures in
     let middle = rw (read_low c.args.high c.low_of-low.result r) at c.middle_of-middle.ensures in
-    let turn = rw (read_middle c.args.high c.low_of-low.result c.middle_of-middle.result c.width_of-width.result r wide middle) at c.in-Held-halve.ensures.turn in
+    let turn = rw (read_middle c.args.high c.low_of-low.result c.middle_of-middle.result c.width_of-width.result r wide middle) at c.in-Held-test_midpoint.ensures.turn in
     rw (read_high c.args.high c.low_of-low.result r)
     (halved_on c.args.links.now c.nodes-nodes.ensures.kept start c.args.begun c.args.room.now c.args.held c.args.high c.low_of-low.result halvings c.args.steps.now c.width_of-width.result now floor wide
-    c.halve.new.room c.halve.new.steps c.in-Held-halve.ensures.cost c.in-Held-halve.ensures.some c.in-Held-halve.sums c.if-may_jump.ensures.wide turn.0 turn.1)
+    c.test_midpoint.new.room c.test_midpoint.new.steps c.in-Held-test_midpoint.ensures.cost c.in-Held-test_midpoint.ensures.some c.in-Held-test_midpoint.sums c.if-may_jump.ensures.wide turn.0 turn.1)
 
-pub returns-in-Free-halve-clause-advanced : goal.returns-in-Free-halve-clause-advanced
-returns-in-Free-halve-clause-advanced g c =
+pub returns-in-Free-test_midpoint-clause-advanced : goal.returns-in-Free-test_midpoint-clause-advanced
+returns-in-Free-test_midpoint-clause-advanced g c =
     λ start halvings now.
     let s = c.requires.climbing in
     let floor = rw c.nodes-nodes.ensures.value at c.low_of-low.ensures in
     let r = range_of c.args.links.now c.nodes-nodes.ensures.kept s.0 c.args.begun c.args.room.now c.args.held c.args.high c.low_of-low.result s.1 c.args.steps.now s.2 floor in
     let wide = rw (read_high c.args.high c.low_of-low.result r, read_low c.args.high c.low_of-low.result r) at c.width_of-width.ensures in
     let middle = rw (read_low c.args.high c.low_of-low.result r) at c.middle_of-middle.ensures in
-    let turn = rw (read_middle c.args.high c.low_of-low.result c.middle_of-middle.result c.width_of-width.result r wide middle) at c.in-Free-halve.ensures.turn in
+    let turn = rw (read_middle c.args.high c.low_of-low.result c.middle_of-middle.result c.width_of-width.result r wide middle) at c.in-Free-test_midpoint.ensures.turn in
     rw (read_middle c.args.high c.low_of-low.result c.middle_of-middle.result c.width_of-width.result r wide middle)
     (freed_on c.args.links.now c.nodes-nodes.ensures.kept start c.args.begun c.args.room.now c.args.held c.args.high c.low_of-low.result halvings c.args.steps.now c.width_of-width.result now floor wide
-    c.halve.new.room c.halve.new.steps c.in-Free-halve.ensures.cost c.in-Free-halve.ensures.some c.if-may_jump.ensures.wide turn.0 turn.1)
+    c.test_midpoint.new.room c.test_midpoint.new.steps c.in-Free-test_midpoint.ensures.cost c.in-Free-test_midpoint.ensures.some c.if-may_jump.ensures.wide turn.0 turn.1)

@@ -1,7 +1,7 @@
 use Rattle.std.proofs.Common.{◌≡◌, pos, arith, lit<, ◌∙◌}
 use Rattle.std.specs.Int.{w64, w128}
 use Rattle.std.proofs.lemmas.Int.{ints, to_z-of_z}
-use Rattle.mintc_walks.specs.Bounds.{IsWithin}
+use Rattle.mintc_graph_walks.specs.Bounds.{IsWithin}
 use Rattle.mintc_fraction.specs.Ratio.{over}
 use Rattle.mintc_ratio.proofs.Weights.{fits_64, fits_128}
 use Rattle.mintc_ratio.proofs.CycleLaws.{IsCycle-reduced}

@@ -1,6 +1,6 @@
 use Rattle.std.proofs.Common.{◌≡◌, ◌<◌, ◌+ℤ◌, get_or, arith, lit<, to_z, of_z, w64, SFits}
 use Rattle.std.proofs.lemmas.Int.{to_z-of_z}
-use Rattle.mintc_listing.specs.Ordinary.{IsOrdinaryLink}
+use Rattle.mintc_constraints.specs.Ordinary.{IsOrdinaryLink}
 use Rattle.mintc_timing.specs.Links.{link_at}
 use Rattle.mintc_ratio.proofs.Weights.{fits_64}
 use Rattle.mintc_ratio.proofs.Weighing.{delay-within}

@@ -2,7 +2,7 @@ use Rattle.std.proofs.Common.{◌≡◌, true, List, ℕ, None, refl}
 use Rattle.std.proofs.lemmas.Option.{MatchOption-at_some, MatchOption-at_none}
 use Rattle.mintc_sdf.specs.declared.delays.Subject.{Subject}
 use Rattle.mintc_sdf.specs.declared.delays.Subject.TheVariants as subject
-use Rattle.mintc_sdflex.specs.Reading.{inside}
+use Rattle.mintc_sdf_tokens.specs.Reading.{inside}
 use Rattle.mintc_sdf.specs.Texts.{may_be_negative}
 use Rattle.mintc_sdf.specs.Keeping.{pin_claim, IsClaim}
 use Rattle.mintc_sdf.proofs.checks.hold.Goals as goal

@@ -2,7 +2,7 @@ use Rattle.std.proofs.Common.{◌≡◌, true, Some}
 use Rattle.std.proofs.lemmas.Option.{MatchOption-at_some}
 use Rattle.mintc_sdf.specs.Forms.{lone_value}
 use Rattle.mintc_sdf.specs.Sums.{no_numbers, summed}
-use Rattle.mintc_sdflex.specs.Reading.{inside}
+use Rattle.mintc_sdf_tokens.specs.Reading.{inside}
 use Rattle.mintc_sdf.proofs.ClaimLaws.{Pins, pin-done}
 use Rattle.mintc_sdf.proofs.checks.pin_and_sum.Goals as goal
 

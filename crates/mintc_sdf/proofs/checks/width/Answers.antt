@@ -3,7 +3,7 @@ use Rattle.std.proofs.lemmas.Option.{MatchOption-at_some}
 use Rattle.mintc_sdf.proofs.CellLaws.{at-goes}
 use Rattle.mintc_sdf.specs.declared.delays.Subject.TheVariants as subject
 use Rattle.mintc_sdf.specs.Forms.{lone_value, width, claim, port_at}
-use Rattle.mintc_sdflex.specs.Reading.{inside}
+use Rattle.mintc_sdf_tokens.specs.Reading.{inside}
 use Rattle.mintc_sdf.specs.Sums.{no_numbers, summed}
 use Rattle.mintc_sdf.proofs.ClaimLaws.{Ports, claim-some}
 use Rattle.mintc_sdf.proofs.checks.width.Goals as goal

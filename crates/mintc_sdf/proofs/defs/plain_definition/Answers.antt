@@ -1,5 +1,5 @@
 use Rattle.std.proofs.Common.{None, true, refl, sym}
-use Rattle.mintc_sdflex.proofs.SharedInsideLaws.{inside-word, inside-none, needs-word}
+use Rattle.mintc_sdf_tokens.proofs.SharedInsideLaws.{inside-word, inside-none, needs-word}
 use Rattle.mintc_sdf.specs.Forms.{inner_def}
 use Rattle.mintc_sdf.proofs.ConditionLaws.{plain-word, plain-def}
 use Rattle.mintc_sdf.proofs.defs.plain_definition.Goals as goal

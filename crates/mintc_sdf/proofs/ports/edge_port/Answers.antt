@@ -1,5 +1,5 @@
 use Rattle.std.proofs.Common.{None, false, refl, sym}
-use Rattle.mintc_sdflex.proofs.SharedInsideLaws.{inside-word, inside-none, needs-word}
+use Rattle.mintc_sdf_tokens.proofs.SharedInsideLaws.{inside-word, inside-none, needs-word}
 use Rattle.mintc_sdf.specs.Forms.{inner_port}
 use Rattle.mintc_sdf.proofs.ConditionLaws.{plain-word, plain-port}
 use Rattle.mintc_sdf.proofs.ports.edge_port.Goals as goal

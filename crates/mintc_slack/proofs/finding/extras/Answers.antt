@@ -1,13 +1,13 @@
 use Rattle.std.proofs.Common.{◌≡◌, ◌<◌, ◌≤◌, ℕ, ℤ, pos, length, get_or, arith, ◌∙◌, sym, subst}
 use Rattle.std.proofs.lemmas.List.{get_or_default}
 use Rattle.std.proofs.Math.ListN.{length-set}
-use Rattle.mintc_listing.specs.Ordinary.{Constraints}
+use Rattle.mintc_constraints.specs.Ordinary.{Constraints}
 use Rattle.mintc_timing.specs.Design.{pair_at}
 use Rattle.mintc_slack.specs.declared.finding.Entry.{Entry}
-use Rattle.mintc_walker.specs.Settled.{AreSettled}
-use Rattle.mintc_walker.specs.Slack.{IsSlack}
+use Rattle.mintc_slack.specs.WalkedFrom.{AreSettled}
+use Rattle.mintc_slack.specs.Slack.{IsSlack}
 use Rattle.mintc_slack.proofs.EntryLaws.{done-next, entry_number, entry-same, entry-to, last-entry, ready-kept}
-use Rattle.mintc_walker.proofs.SharedSizeLaws.{narrow, read_narrow}
+use Rattle.mintc_slack.proofs.SizeLaws.{narrow, read_narrow}
 use Rattle.mintc_slack.proofs.finding.extras.Goals as goal
 
 pub turn_to-requires-clause-settled : goal.turn_to-requires-clause-settled

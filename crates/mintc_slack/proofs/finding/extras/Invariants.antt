@@ -1,8 +1,8 @@
 use Rattle.std.proofs.Common.{◌≡◌, ◌<◌, ◌≤◌, ℕ, pos, length, get_or}
-use Rattle.mintc_walker.specs.Settled.{AreSettled}
+use Rattle.mintc_slack.specs.WalkedFrom.{AreSettled}
 use Rattle.mintc_slack.specs.Entries.{HasSettled, entry_at}
-use Rattle.mintc_walker.specs.Ready.{IsReady}
-use Rattle.mintc_walker.specs.Slack.{IsSlack}
+use Rattle.mintc_slack.specs.Ready.{IsReady}
+use Rattle.mintc_slack.specs.Slack.{IsSlack}
 use Rattle.mintc_slack.proofs.finding.extras.Given as goal
 
 -- the slacks of the entries before this one are found, and the room has the values of the last of them

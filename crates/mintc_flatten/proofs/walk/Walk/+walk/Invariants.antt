@@ -1,7 +1,7 @@
 use Rattle.std.proofs.Common.{◌≡◌, ◌+◌, ◌*◌, drop}
-use Rattle.mintc_targets.specs.Homes.{source_in}
+use Rattle.mintc_flatten_binding.specs.Homes.{source_in}
 use Rattle.mintc_flatten.specs.Places.{place_in}
-use Rattle.mintc_hierarchy.specs.Walks.{steps_from, inside}
+use Rattle.mintc_flatten_hierarchy.specs.Walks.{steps_from, inside}
 use Rattle.mintc_flatten.specs.Growing.{sizes, grown_all}
 use Rattle.mintc_flatten.proofs.walk.Walk.+walk.Given as goal
 

@@ -1,6 +1,6 @@
 use Rattle.std.proofs.Common.{◌≡◌, ◌<◌, ◌*◌, ◌∙◌, ℕ, List, length, arith, ap, get_or}
 use Rattle.std.proofs.lemmas.List.{get_or_default}
-use Rattle.mintc_sums.specs.Placed.{row_of}
+use Rattle.mintc_paths_sums.specs.Placed.{row_of}
 use Rattle.mintc_paths.specs.Found.{end_at}
 use Rattle.mintc_paths.proofs.SharedFinding.{IsFoundToEnd-more, IsFoundToEnd-next}
 use Rattle.mintc_paths.proofs.found.Found.add_from.Goals as goal

@@ -1,5 +1,5 @@
 use Rattle.std.proofs.Common.{◌≡◌, List}
-use Rattle.mintc_sums.specs.declared.sums.Sums.{Sums}
+use Rattle.mintc_paths_sums.specs.declared.sums.Sums.{Sums}
 use Rattle.mintc_paths.specs.Found.{AreEnds}
 use Rattle.mintc_paths.specs.Sums.{AreMarked}
 use Rattle.mintc_paths.proofs.found.Found.list_ends.Given as goal

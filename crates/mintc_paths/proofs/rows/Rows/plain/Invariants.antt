@@ -1,5 +1,5 @@
 use Rattle.std.proofs.Common.{◌≡◌, ◌<◌, ℕ, length}
-use Rattle.mintc_sums.specs.Placed.{row_of}
+use Rattle.mintc_paths_sums.specs.Placed.{row_of}
 use Rattle.mintc_paths.proofs.rows.Rows.plain.Given as goal
 
 -- the rows so far are those of the bits' own numbers

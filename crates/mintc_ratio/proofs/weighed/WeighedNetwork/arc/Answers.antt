@@ -1,14 +1,13 @@
-use Rattle.std.proofs.Common.{arith}
+use Rattle.std.proofs.Common.{arith, ◌<◌, ◌^◌, pos, length, refl, lit<}
 use Rattle.std.proofs.lemmas.Grind.{common_steps}
-use Rattle.std.proofs.Common.{◌<◌, ◌^◌, pos, length, refl, lit<}
 use Rattle.std.specs.Int.{w64, w128}
 use Rattle.std.proofs.lemmas.Int.{to_z-of_z}
 use Rattle.std.proofs.lemmas.List.{length-map}
 use Rattle.mintc_fraction.specs.Ratio.{over}
 use Rattle.mintc_timing.specs.declared.link.LinkKind.TheVariants as kind
 use Rattle.mintc_timing.specs.Links.{link, link_at}
-use Rattle.mintc_listing.specs.Ordinary.{IsOrdinaryLink}
-use Rattle.mintc_walks.specs.Bounds.{IsWithin}
+use Rattle.mintc_constraints.specs.Ordinary.{IsOrdinaryLink}
+use Rattle.mintc_graph_walks.specs.Bounds.{IsWithin}
 use Rattle.mintc_ratio.proofs.Weights.{fits_64, fits_128, num_within, den_within}
 use Rattle.mintc_ratio.proofs.Weighing.{arc_is, delay-within}
 use Rattle.mintc_ratio.proofs.weighed.WeighedNetwork.arc.Goals as goal

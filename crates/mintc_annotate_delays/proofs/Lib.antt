@@ -1,0 +1,5 @@
+mod TableLaws
+mod RangeLaws
+mod GatherLaws
+mod DelayLaws
+mod GroupLaws

@@ -1,0 +1,39 @@
+use Rattle.std.proofs.Common.{◌≡◌, Some, length, refl}
+use Rattle.mintc_annotate_resolve.specs.Speaking.{spoken, refusal_of, first_refusal}
+use Rattle.mintc_annotate_resolve.proofs.SharedInstanceLaws.{at_top}
+use Rattle.mintc_annotate_delays.proofs.GatherLaws.{stops_more}
+use Rattle.mintc_annotate_delays.proofs.DelayLaws.{unrefused_more, refused_here, ranges_more}
+use Rattle.mintc_annotate_delays.proofs.gathering.apply_all.Goals as goal
+
+pub loop-number-init : goal.loop-number-init
+loop-number-init c = record {
+  unrefused = refl;
+  ranges = c.requires.empty;
+  room = λ bits leaves room. room;
+  last = at_top c.args.scene.now.hierarchy.now c.requires.scene.shape.some_scope;
+}
+
+pub apply_delay-requires-clause-room : goal.apply_delay-requires-clause-room
+apply_delay-requires-clause-room c =
+    let h = c.args.scene.now.hierarchy.now in
+    c.loop-number.invariant.room (length h.inner) (length h.leaves) c.requires.room
+
+pub loop-number-preserved : goal.loop-number-preserved
+loop-number-preserved c =
+    let h = c.args.scene.now.hierarchy.now in
+    let cells = c.args.scene.now.cells.now in
+    let d = c.index-delays-number.result in
+    record {
+      unrefused = unrefused_more h cells c.args.delays.now c.loop-number.number d c.loop-number-test.true c.index-delays-number.is c.loop-number.invariant.unrefused c.in-Ok.ensures.ok.unrefused;
+      ranges = ranges_more h cells c.args.delays.now c.loop-number.number d c.loop-number.ranges c.apply_delay.new.ranges c.loop-number-test.true c.index-delays-number.is c.loop-number.invariant.ranges c.in-Ok.ensures.ok;
+      room = λ bits leaves room. c.in-Ok.ensures.ok.room bits leaves (c.loop-number.invariant.room bits leaves room);
+      last = c.in-Ok.ensures.stands;
+    }
+
+pub returns-in-Err-clause-err : goal.returns-in-Err-clause-err
+returns-in-Err-clause-err c =
+    let h = c.args.scene.now.hierarchy.now in
+    let cells = c.args.scene.now.cells.now in
+    let d = c.index-delays-number.result in
+    stops_more (λ r. refusal_of d.entry (spoken h cells d) ≡ Some r) (λ r. first_refusal h cells c.args.delays.now ≡ Some r)
+    (λ r known. refused_here h cells c.args.delays.now c.loop-number.number d r c.loop-number-test.true c.index-delays-number.is c.loop-number.invariant.unrefused known) c.in-Err.stop c.in-Err.ensures.err

@@ -1,0 +1,42 @@
+-- What is taken in of delays.
+use Rattle.std.specs.Prelude.{◌≡◌, ◌<◌, ◌==◌, ◌++◌, ◌∷◌, [], if◌then◌else◌, ℕ, ℤ, List, map, length, filter, slice_index_or, None, Some, Vec}
+use Rattle.std.specs.Global.{Global}
+use Rattle.mintc_flatten_hierarchy.specs.declared.hierarchy.Hierarchy.{Hierarchy}
+use Rattle.mintc_annotate_resolve.specs.declared.matters.Spoken.{Spoken as Answer}
+use Rattle.mintc_annotate_resolve.specs.declared.matters.Spoken.TheVariants as answer
+use Rattle.mintc_annotate_delays.specs.declared.ranges.Ranges.{Ranges}
+use Rattle.mintc_annotate_resolve.specs.Pins.{leaf_at, all_leaves}
+use Rattle.mintc_annotate_resolve.specs.Speaking.{Matter, Spoken, Said, matters, refusal_of}
+use Rattle.mintc_annotate_delays.specs.Ranges.{HasPlace, HasRanges, IsSameRoom}
+
+-- the leaves of a cell, in their order
+abbrev pub leaves_with : Hierarchy → ℕ → List ℕ
+leaves_with h cell = filter (λ l. (leaf_at h l).cell == cell) (all_leaves h)
+
+-- the leaves of each of so many cells
+pub record AreGrouped (h : Hierarchy) (count : ℕ) (groups : List (Vec ℕ Global)) : Type 0 where
+  pub size : length groups ≡ count
+  pub each : (c : ℕ) (d : Vec ℕ Global) → c < count → (slice_index_or groups c d).items ≡ leaves_with h c
+
+-- one more leaf of a cell
+abbrev pub IsGroupedIn : List (Vec ℕ Global) → List (Vec ℕ Global) → ℕ → ℕ → Type 0
+IsGroupedIn old new cell leaf =
+    (length new ≡ length old)
+    × ((c : ℕ) (d : Vec ℕ Global) → c < length old → (slice_index_or new c d).items ≡ (slice_index_or old c d).items ++ (if c == cell then leaf ∷ [] else []))
+
+-- what is said of some matters by one delay
+abbrev pub told : ℤ → ℤ → List Matter → List Said
+told least greatest ms = map (λ m. record { matter = m; least = least; greatest = greatest }) ms
+
+-- the matter of an answer has its place
+abbrev pub HasPlaceOf : Ranges → Answer → Type 0
+HasPlaceOf r (answer.Of None) = Unit {0}
+HasPlaceOf r (answer.Of (Some matter)) = HasPlace r matter
+HasPlaceOf r answer.NoInstance = Unit {0}
+HasPlaceOf r answer.NoArc = Unit {0}
+
+-- A delay of an entry is taken in: it is not refused, and the ranges have what it says besides.
+pub record IsTakenIn (entry : ℕ) (spoken : Spoken) (least greatest : ℤ) (old new : Ranges) : Type 0 where
+  pub unrefused : refusal_of entry spoken ≡ None
+  pub ranges : (ss : List Said) → HasRanges old ss → HasRanges new (ss ++ told least greatest (matters spoken))
+  pub room : IsSameRoom old new

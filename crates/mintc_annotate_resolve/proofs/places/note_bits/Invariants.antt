@@ -1,0 +1,8 @@
+use Rattle.std.proofs.Common.{take}
+use Rattle.std.specs.Option.{option_or}
+use Rattle.mintc_annotate_resolve.specs.Places.{HasPlaces, place_at, among_bits}
+use Rattle.mintc_annotate_resolve.proofs.places.note_bits.Given as goal
+
+-- the bits so far are taken in
+abbrev pub invariant-loop-number : goal.invariant-loop-number
+invariant-loop-number l = HasPlaces l.places (λ k. option_or (place_at l.fn.places k) (among_bits l.names l.port (take l.number l.port.bits) k))

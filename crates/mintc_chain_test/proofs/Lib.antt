@@ -1,2 +1,0 @@
-pub mod SharedDeciding
-pub mod SharedScaled

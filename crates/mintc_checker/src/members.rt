@@ -1,0 +1,98 @@
+//! The tests of single members.
+ghost use Rattle.std.specs.Prelude.{◌≡◌, ◌<◌, length, IsTrue, IsFalse, ◌↔◌};
+ghost use Rattle.std.specs.Bool.{OnTrue};
+ghost use Rattle.mintc_timing.specs.Clocking.{feeds_of};
+ghost use Rattle.mintc_timing.specs.Design.{phase_count};
+ghost use Rattle.mintc_timing.specs.Limits.{IsPhase};
+ghost use Rattle.mintc_timing.specs.Paths.{IsPath, Leads, arc_at, input_of};
+ghost use Rattle.mintc_certificate.specs.Valid.{IsNamed, IsMember};
+ghost use Rattle.mintc_checker.specs.Decided.{Decides, IsFed};
+ghost use Rattle.mintc_checker.specs.Elements.{element_of};
+
+use mintc_certificate::Member;
+use mintc_timing::{Flat, TimingArc};
+
+/// Whether an arc exists and leaves a bit.
+fn leaves(arcs: &[TimingArc], number: u32, bit: u32) -> bool
+    ensures { IsTrue result ↔ ((number < length arcs.now) × ((arc_at arcs.now number).from ≡ bit)) }
+{
+    (number as usize) < arcs.len() && arcs[number as usize].from == bit
+}
+
+/// Whether the arcs of a path lead from one bit to another.
+fn leads(arcs: &[TimingArc], from: u32, path: &[u32], to: u32) -> bool
+    ensures { IsTrue result ↔ Leads arcs.now from path.now to }
+{
+    let mut at = from;
+    for number in path {
+        if !leaves(arcs, *number, at) {
+            return false;
+        }
+        at = arcs[*number as usize].to;
+    }
+    at == to
+}
+
+/// Whether a phase is one of the design's.
+fn is_phase(flat: &Flat, phase: u32) -> bool
+    ensures { IsTrue result ↔ IsPhase (length flat.now.phases) phase }
+{
+    1 <= phase && phase as usize <= flat.phases().items().len()
+}
+
+/// Whether an element is one of the design's.
+fn is_element(flat: &Flat, element: u32) -> bool
+    ensures { IsTrue result ↔ (element < length flat.now.elements) }
+{
+    (element as usize) < flat.elements().len()
+}
+
+/// Whether an element is a latch of the design.
+fn is_latch(flat: &Flat, element: u32) -> bool
+    ensures { IsTrue result ↔ ((element < length flat.now.elements) × IsFalse (element_of flat.now element).flop) }
+{
+    is_element(flat, element) && !flat.elements()[element as usize].flop
+}
+
+/// Whether a phase is one of the design's, and feeds another one of them.
+fn is_apart(flat: &Flat, fed: &[bool], i: u32, j: u32) -> bool
+    requires { IsFed flat.now fed.now }
+    ensures phases { OnTrue result (IsPhase (length flat.now.phases) i × IsPhase (length flat.now.phases) j) }
+    ensures fed { Decides flat.now result (λ t. IsPhase (phase_count t.flat) i × IsPhase (phase_count t.flat) j × IsTrue (feeds_of t i j)) }
+{
+    let _phases = flat.phases();
+    is_phase(flat, i) && is_phase(flat, j) && fed[8 * (i as usize - 1) + (j as usize - 1)]
+}
+
+/// Whether a path of arcs leads from the output of one element to the input of another.
+fn is_reach(flat: &Flat, from: u32, to: u32, path: &[u32]) -> bool
+    ensures { IsTrue result ↔ ((from < length flat.now.elements) × (to < length flat.now.elements) × IsPath flat.now.arcs from path.now (input_of to)) }
+{
+    is_element(flat, from)
+        && is_element(flat, to)
+        && !path.is_empty()
+        && leads(flat.arcs(), 2 * from + 1, path, 2 * to)
+}
+
+/// Whether a member is one of the design's.
+pub(crate) fn is_member(flat: &Flat, fed: &[bool], member: &Member) -> bool
+    requires { IsFed flat.now fed.now }
+    ensures named { OnTrue result (IsNamed flat.now member.now) }
+    ensures member { Decides flat.now result (λ t. IsMember t member.now) }
+{
+    match member {
+        Member::Start { phase } => is_phase(flat, *phase),
+        Member::Cycle { phase } => is_phase(flat, *phase),
+        Member::Order { phase } => {
+            1 <= *phase && (*phase as usize) < flat.phases().items().len()
+        }
+        Member::Span { phase } => is_phase(flat, *phase),
+        Member::Width { phase } => is_phase(flat, *phase),
+        Member::Apart { i, j } => is_apart(flat, fed, *i, *j),
+        Member::Opening { element } => is_element(flat, *element),
+        Member::Opened { element } => is_latch(flat, *element),
+        Member::Reach { from, to, arcs } => is_reach(flat, *from, *to, arcs.items()),
+        Member::Setup { element } => is_element(flat, *element),
+        Member::Bound { index } => (*index as usize) < flat.bounds().len(),
+    }
+}

@@ -1,0 +1,150 @@
+//! The answer to a command, from the bytes of its files.
+ghost use Rattle.std.specs.Prelude.{◌≡◌, ◌≤◌, length, IfOk, IfErr};
+ghost use Rattle.mintc_text.specs.Stops.{StopsAt};
+ghost use Rattle.mintc_command_answers.specs.Answers.{IsAnswerOn, IsContentAnswer, IsContentRefusal, IsDefined, IsOfCommand};
+ghost use Rattle.mintc_command_answers.specs.Commands.{IsNumberInRange, roles_of};
+ghost use Rattle.mintc_command_answers.specs.Contents.{content_roles, sample_texts};
+ghost use Rattle.mintc_command_answers.specs.Jobs.{IsFileRefused, IsJobAnswer};
+ghost use Rattle.mintc_command_answers.specs.Sources.{AreShort};
+
+use crate::answer::Answer;
+use crate::checking::check_answer;
+use crate::command::{Command, Job, Source};
+use crate::corners::corners_answer;
+use crate::keeping::safe_answer;
+use crate::optimum::{optimise_answer, report_answer, summary_answer};
+use crate::refusing::refused;
+use crate::slacks::slack_answer;
+use crate::source::{Ordered, ordered_of, own_file, system_of, too_long};
+use crate::verifying::verify_answer;
+use mintc_sample::files;
+use mintc_text::limits::MOST_BYTES;
+use mintc_text::{Bytes, OutOfMemory, Refusal, Stop};
+use mintc_timing::System;
+use std::alloc::Global;
+
+/// The answer to a job on a system and on the file that stands beside the design's, or why that file is refused.
+fn answered(alloc: Global, job: Job, system: &System, file: &[u8]) -> Result<Answer, Stop>
+    requires { length file.now ≤ MOST_BYTES }
+    ensures value { IfOk result (λ answer. IsJobAnswer job system.now file.now answer.status answer.text) }
+    ensures stop { IfErr result (StopsAt (IsFileRefused job system.now.flat file.now)) }
+{
+    let _pairs = system.pairs();
+    let answer = match job {
+        Job::Check => return check_answer(alloc, system, file),
+        Job::Verify => return verify_answer(alloc, system.flat(), system.order(), file),
+        Job::Optimise => optimise_answer(alloc, system),
+        Job::Report => report_answer(alloc, system),
+        Job::Safe => safe_answer(alloc, system),
+        Job::Slack => slack_answer(alloc, system),
+    };
+    match answer {
+        Ok(answer) => Ok(answer),
+        Err(OutOfMemory) => Err(Stop::OutOfMemory),
+    }
+}
+
+/// The verdict on a certificate, from the texts of a design and of the certificate, none of them too long, or their first
+/// refusal.
+fn verdict_answer(alloc: Global, source: Source, texts: &mut [Bytes]) -> Result<Answer, Stop>
+    requires count { length texts.old ≡ length (content_roles (Command.OfDesign Job.Verify source)) }
+    requires short { AreShort texts.old }
+    ensures value { IfOk result (λ answer. IsContentAnswer (Command.OfDesign Job.Verify source) texts.old answer.status answer.text) }
+    ensures stop { IfErr result (StopsAt (IsContentRefusal (Command.OfDesign Job.Verify source) texts.old)) }
+{
+    let Ordered { flat, order } = match ordered_of(alloc, source, texts) {
+        Ok(ordered) => ordered,
+        Err(stop) => return Err(stop),
+    };
+    verify_answer(alloc, &flat, &order, own_file(source, texts))
+}
+
+/// The answer to a job on the texts of a design and of the file beside them, none of them too long, or their first refusal.
+fn design_answer(
+    alloc: Global,
+    job: Job,
+    source: Source,
+    texts: &mut [Bytes],
+) -> Result<Answer, Stop>
+    requires count { length texts.old ≡ length (content_roles (Command.OfDesign job source)) }
+    requires short { AreShort texts.old }
+    ensures value { IfOk result (λ answer. IsContentAnswer (Command.OfDesign job source) texts.old answer.status answer.text) }
+    ensures stop { IfErr result (StopsAt (IsContentRefusal (Command.OfDesign job source) texts.old)) }
+{
+    if let Job::Verify = job {
+        return verdict_answer(alloc, source, texts);
+    }
+    let system = match system_of(alloc, source, texts) {
+        Ok(system) => system,
+        Err(stop) => return Err(stop),
+    };
+    answered(alloc, job, &system, own_file(source, texts))
+}
+
+/// The summary of a sample from its texts, none of them too long, or their first refusal.
+fn sample_answer(alloc: Global, number: u64, texts: &mut [Bytes]) -> Result<Answer, Stop>
+    requires count { length texts.old ≡ length (content_roles (Command.Sample number)) }
+    requires short { AreShort texts.old }
+    ensures value { IfOk result (λ answer. IsContentAnswer (Command.Sample number) texts.old answer.status answer.text) }
+    ensures stop { IfErr result (StopsAt (IsContentRefusal (Command.Sample number) texts.old)) }
+{
+    let system = match system_of(alloc, Source::Files, texts) {
+        Ok(system) => system,
+        Err(stop) => return Err(stop),
+    };
+    match summary_answer(alloc, number, &system) {
+        Ok(answer) => Ok(answer),
+        Err(OutOfMemory) => Err(Stop::OutOfMemory),
+    }
+}
+
+/// The answer to a command on the texts that it works on: the text of their first refusal, or what is answered where nothing
+/// is refused.
+fn answer_on(alloc: Global, command: Command, texts: &mut [Bytes]) -> Result<Answer, OutOfMemory>
+    requires count { length texts.old ≡ length (content_roles command) }
+    requires in_range { IsNumberInRange command }
+    ensures value { IfOk result (λ answer. IsAnswerOn command texts.old answer.status answer.text) }
+    ensures status { IfOk result (λ answer. IsOfCommand answer.status) }
+{
+    if let Some(refusal) = too_long(command.content_roles(), texts) {
+        return refused(alloc, &refusal);
+    }
+    let answer = match command {
+        Command::OfDesign { job, source } => design_answer(alloc, job, source, texts),
+        Command::Sample { number } => sample_answer(alloc, number, texts),
+        Command::Corners { count } => return corners_answer(alloc, count, texts),
+    };
+    match answer {
+        Ok(answer) => Ok(answer),
+        Err(Stop::Refused(refusal)) => refused(alloc, &refusal),
+        Err(Stop::OutOfMemory) => Err(OutOfMemory),
+    }
+}
+
+/// The texts of the sample of a number, in the order of the files that they stand for.
+fn sample_texts(alloc: Global, number: u64) -> Result<[Bytes; 4], OutOfMemory>
+    ensures { IfOk result (λ texts. texts ≡ sample_texts number) }
+{
+    let sample = files(alloc, number)?;
+    Ok([sample.netlist, sample.delays, sample.cells, sample.clock])
+}
+
+/// The answer to a command, of the bytes of its files.
+pub fn answer_to(
+    alloc: Global,
+    command: Command,
+    files: &mut [Bytes],
+) -> Result<Answer, OutOfMemory>
+    requires count { length files.old ≡ length (roles_of command) }
+    requires in_range { IsNumberInRange command }
+    ensures defined { IfOk result (λ answer. IsDefined command files.old answer.status answer.text) }
+    ensures status { IfOk result (λ answer. IsOfCommand answer.status) }
+{
+    match command {
+        Command::OfDesign { .. } | Command::Corners { .. } => answer_on(alloc, command, files),
+        Command::Sample { number } => {
+            let mut texts = sample_texts(alloc, number)?;
+            answer_on(alloc, Command::Sample { number }, texts.as_mut_slice())
+        }
+    }
+}

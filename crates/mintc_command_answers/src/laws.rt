@@ -1,0 +1,38 @@
+//! What the definitions of refusals and answers say: a law is the contract of a function that only calls laws.
+ghost use Rattle.mintc_command_answers.specs.Laws.{OptimaAreVerified, RefusalsAreDetermined, RefusalsExcludeAnswers};
+
+use mintc_build::{
+    accepted_designs_are_not_refused, design_refusals_are_determined, files_are_plain,
+};
+use mintc_certificate::{certificate_texts_are_plain, written_certificates_are_read};
+use mintc_timing_text::{schedule_texts_are_plain, table_texts_are_plain};
+
+/// Where there is a first refusal, its line is the only answer.
+pub fn refusals_exclude_answers()
+    ensures { RefusalsExcludeAnswers }
+{
+    schedule_texts_are_plain();
+    table_texts_are_plain();
+    certificate_texts_are_plain();
+    accepted_designs_are_not_refused();
+    files_are_plain();
+}
+
+/// There is one first refusal, but for the choice of a loop of arcs.
+pub fn refusals_are_determined()
+    ensures { RefusalsAreDetermined }
+{
+    schedule_texts_are_plain();
+    table_texts_are_plain();
+    certificate_texts_are_plain();
+    accepted_designs_are_not_refused();
+    files_are_plain();
+    design_refusals_are_determined();
+}
+
+/// What `optimise` answers, `verify` calls valid.
+pub fn optima_are_verified()
+    ensures { OptimaAreVerified }
+{
+    written_certificates_are_read();
+}

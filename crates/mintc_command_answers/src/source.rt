@@ -1,0 +1,150 @@
+//! From the files that a command names to the system of their design.
+ghost use Rattle.std.specs.Prelude.{◌≡◌, ◌≤◌, ◌<◌, length, MatchOption, IfOk, IfErr};
+ghost use Rattle.mintc_text.specs.Stops.{StopsAt};
+ghost use Rattle.mintc_command_answers.specs.Commands.{source_roles};
+ghost use Rattle.mintc_timing.specs.Limits.{IsDesign};
+ghost use Rattle.mintc_build.specs.Designs.{IsDesignRefusal};
+ghost use Rattle.mintc_command_answers.specs.Sources.{AreShort, Describes, Gives, GivesOrdered, HasNoDesign, IsLengthRefusal, IsSourceRefused, IsSystemOf, own_file};
+
+use crate::command::Source;
+use mintc_build::{from_files, from_liberty, from_table, system, system_order};
+use mintc_text::limits::MOST_BYTES;
+use mintc_text::{Bytes, Refusal, Role, Stop};
+use mintc_timing::{Flat, Order, System, systems_are_accepted};
+use std::alloc::Global;
+
+/// The refusal of the first file that is too long.
+pub fn too_long(roles: &[Role], files: &[Bytes]) -> Option<Refusal>
+    requires { length files.now ≡ length roles.now }
+    ensures { MatchOption result (AreShort files.now) (IsLengthRefusal roles.now files.now) }
+{
+    for place in 0..files.len() {
+        if files[place].items().len() > MOST_BYTES {
+            return Some(Refusal::TooLong { role: roles[place] });
+        }
+    }
+    None
+}
+
+/// The design that the first files stand for, or their first refusal.
+fn design_of(alloc: Global, source: Source, files: &[Bytes]) -> Result<Flat, Stop>
+    requires all { length (source_roles source) ≤ length files.now }
+    requires short { AreShort files.now }
+    ensures value { IfOk result (λ flat. Describes source files.now flat) }
+    ensures stop { IfErr result (StopsAt (HasNoDesign source files.now)) }
+{
+    match source {
+        Source::Table => from_table(alloc, files[0].items()),
+        Source::Files => from_files(
+            alloc,
+            files[0].items(),
+            files[1].items(),
+            files[2].items(),
+            files[3].items(),
+        ),
+        Source::Liberty => from_liberty(
+            alloc,
+            files[0].items(),
+            files[1].items(),
+            files[2].items(),
+            files[3].items(),
+        ),
+    }
+}
+
+/// The system of a design, or its first refusal.
+pub fn accepted_system(alloc: Global, flat: Flat) -> Result<System, Stop>
+    ensures limits { IsDesign flat }
+    ensures value { IfOk result (IsSystemOf flat) }
+    ensures stop { IfErr result (StopsAt (IsDesignRefusal flat)) }
+{
+    systems_are_accepted();
+    let _phases = flat.phases();
+    match system(alloc, flat) {
+        Ok(system) => {
+            let _pairs = system.pairs();
+            Ok(system)
+        }
+        Err(stop) => Err(stop),
+    }
+}
+
+/// Gives back the memory of the files of a design, which comes first. The file that stands after them stays.
+fn give_back(alloc: Global, source: Source, files: &mut [Bytes])
+    requires { AreShort files.old }
+    ensures own { own_file source files.new ≡ own_file source files.old }
+    ensures short { AreShort files.new }
+{
+    let count = match source {
+        Source::Table => 1,
+        Source::Files | Source::Liberty => 4,
+    };
+    for place in 0..files.len().min(count) {
+        files[place] = Bytes::new(Vec::new(alloc));
+    }
+}
+
+/// The system of the design that the first files give, or the first refusal of these files. The memory of these files is given
+/// back once the design is read.
+pub fn system_of(alloc: Global, source: Source, files: &mut [Bytes]) -> Result<System, Stop>
+    requires all { length (source_roles source) ≤ length files.old }
+    requires short { AreShort files.old }
+    ensures value { IfOk result (Gives source files.old) }
+    ensures stop { IfErr result (StopsAt (IsSourceRefused source files.old)) }
+    ensures own { own_file source files.new ≡ own_file source files.old }
+    ensures short { AreShort files.new }
+{
+    let flat = match design_of(alloc, source, files) {
+        Ok(flat) => flat,
+        Err(stop) => return Err(stop),
+    };
+    give_back(alloc, source, files);
+    accepted_system(alloc, flat)
+}
+
+/// A design and an order of its arcs.
+#[derive(Drop)]
+pub struct Ordered {
+    pub flat: Flat,
+    pub order: Order,
+}
+
+/// The design that the first files give, where it has a system, or the first refusal of these files. Its pairs aren't listed.
+/// The memory of these files is given back once the design is read.
+pub fn ordered_of(alloc: Global, source: Source, files: &mut [Bytes]) -> Result<Ordered, Stop>
+    requires all { length (source_roles source) ≤ length files.old }
+    requires short { AreShort files.old }
+    ensures value { IfOk result (λ ordered. GivesOrdered source files.old ordered.flat ordered.order) }
+    ensures stop { IfErr result (StopsAt (IsSourceRefused source files.old)) }
+    ensures own { own_file source files.new ≡ own_file source files.old }
+    ensures short { AreShort files.new }
+{
+    let flat = match design_of(alloc, source, files) {
+        Ok(flat) => flat,
+        Err(stop) => return Err(stop),
+    };
+    give_back(alloc, source, files);
+    systems_are_accepted();
+    let _phases = flat.phases();
+    match system_order(alloc, &flat) {
+        Ok(order) => Ok(Ordered { flat, order }),
+        Err(stop) => Err(stop),
+    }
+}
+
+/// The bytes of the file that stands after those of the design, or none where there is no such file.
+pub fn own_file(source: Source, files: &[Bytes]) -> &[u8]
+    requires { AreShort files.now }
+    ensures value { result.now ≡ own_file source files.now }
+    ensures short { length result.now ≤ MOST_BYTES }
+{
+    let place = match source {
+        Source::Table => 1,
+        Source::Files | Source::Liberty => 4,
+    };
+    if place < files.len() {
+        files[place].items()
+    } else {
+        &[]
+    }
+}

@@ -1,3 +1,0 @@
-pub mod Parts
-pub mod PartReading
-pub mod Items

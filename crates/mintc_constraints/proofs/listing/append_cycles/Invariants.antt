@@ -1,0 +1,8 @@
+use Rattle.std.proofs.Common.{◌≡◌, ◌++◌, map}
+use Rattle.std.specs.List.{range_with_len}
+use Rattle.mintc_timing.specs.Links.{cycle_link}
+use Rattle.mintc_constraints.proofs.listing.append_cycles.Given as goal
+
+-- the links of the phases so far are there
+abbrev pub invariant-loop-index : goal.invariant-loop-index
+invariant-loop-index l = l.items.items ≡ l.fn.items.items ++ map cycle_link (range_with_len 1 l.index)

@@ -1,0 +1,10 @@
+use Rattle.std.proofs.Common.{◌≡◌}
+use Rattle.mintc_timing.specs.Links.{links_of}
+use Rattle.mintc_constraints.proofs.SharedOrdinaryLaws.{links_are_ordinary_lem}
+use Rattle.mintc_constraints.proofs.listing.links.Goals as goal
+
+pub new-requires : goal.new-requires
+new-requires c =
+    let t = c.args.system.now in
+    let items : c.append_all.new.items.items ≡ links_of t = rw c.new-items.ensures.items at c.in_ok-append_all.ensures in
+    rw (c.nodes.ensures.value, items) (links_are_ordinary_lem t c.nodes.ensures.design c.nodes.ensures.timing)

@@ -1,4 +1,0 @@
-use Rattle.mintc_count.proofs.count.count_along.Given as goal
-
-abbrev pub ghost-count_each : goal.ghost-count_each
-ghost-count_each g a = g.of

@@ -1,9 +1,0 @@
-use Rattle.std.proofs.Common.{false, take}
-use Rattle.mintc_hierarchy.specs.Sources.{target_pins}
-use Rattle.mintc_targets.specs.Homes.{source_in}
-use Rattle.mintc_faults.specs.Driving.{Drives, drives_from}
-use Rattle.mintc_faults.proofs.drivers.Driven.drive_pins.Given as goal
-
--- what is connected to the pins so far is driven
-abbrev pub invariant-loop-number : goal.invariant-loop-number
-invariant-loop-number l = Drives l.initial.self l.self (drives_from l.home.part.now l.instance.item.now 0 (take l.number (target_pins (source_in l.source) l.instance.target))) false

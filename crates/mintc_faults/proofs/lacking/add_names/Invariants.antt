@@ -1,8 +1,0 @@
-use Rattle.std.proofs.Common.{◌≡◌, take}
-use Rattle.std.specs.List.{fold}
-use Rattle.mintc_names.specs.Names.{with_name}
-use Rattle.mintc_faults.proofs.lacking.add_names.Given as goal
-
--- the names so far are taken in
-abbrev pub invariant-loop-name : goal.invariant-loop-name
-invariant-loop-name l = l.set ≡ fold with_name l.initial.set (take l.name-index l.names)

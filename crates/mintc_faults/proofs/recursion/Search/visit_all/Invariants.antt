@@ -1,7 +1,0 @@
-use Rattle.std.proofs.Common.{◌≡◌, take}
-use Rattle.mintc_faults.specs.Searching.{with_targets}
-use Rattle.mintc_faults.proofs.recursion.Search.visit_all.Given as goal
-
--- the targets so far are taken in
-abbrev pub invariant-loop-target : goal.invariant-loop-target
-invariant-loop-target l = l.self ≡ with_targets l.initial.self (take l.target-index l.targets)

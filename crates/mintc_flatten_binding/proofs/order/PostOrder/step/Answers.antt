@@ -1,0 +1,18 @@
+use Rattle.std.proofs.Common.{arith}
+use Rattle.std.proofs.lemmas.Grind.{common_steps}
+use Rattle.mintc_flatten_binding.proofs.order.PostOrder.step.Goals as goal
+
+pub bounds-targets-number : goal.bounds-targets-number
+bounds-targets-number c = grind (arith, common_steps)
+
+pub look-requires-clause-next : goal.look-requires-clause-next
+look-requires-clause-next c = grind (arith, common_steps)
+
+pub look-requires-clause-target : goal.look-requires-clause-target
+look-requires-clause-target c = grind (arith, common_steps)
+
+pub look-requires-clause-small : goal.look-requires-clause-small
+look-requires-clause-small c = grind (arith, common_steps)
+
+pub give_out-requires-clause-passed : goal.give_out-requires-clause-passed
+give_out-requires-clause-passed c = grind (arith, common_steps)

@@ -1,0 +1,83 @@
+-- What is flattened, and what the names of cells mean in it.
+use Rattle.std.specs.Prelude.{ℕ, ◌+◌, Bool, true, false, not, is_some, Option, None, Some, List, [], ◌∷◌, ◌++◌, map, length, slice_index_or, filter, bytes_eq, position}
+use Rattle.std.specs.List.{filter_map}
+use Rattle.mintc_cells.specs.declared.cell.Cell.{Cell}
+use Rattle.mintc_cells.specs.Rules.{inputs_of, outputs_of}
+use Rattle.mintc_cells.specs.Entries.{number_of, cell_at as cell_numbered}
+use Rattle.mintc_netlist.specs.declared.module.Item.{Item}
+use Rattle.mintc_netlist.specs.declared.module.Item.TheVariants as item
+use Rattle.mintc_netlist.specs.declared.module.Module.{Module}
+use Rattle.mintc_netlist.specs.Connections.{Pin, pin_of, ports_of}
+use Rattle.mintc_flatten_hierarchy.specs.declared.targets.Target.{Target}
+use Rattle.mintc_flatten_hierarchy.specs.declared.targets.Target.TheVariants.{OfCell, OfModule, OfNothing}
+
+-- The cells that are described, and all modules of a netlist. Cells and modules are counted from 0.
+pub record Source : Type 0 where
+  pub cells : List (List ℕ × Cell)
+  pub modules : List Module
+
+abbrev pub source_of : List (List ℕ × Cell) → List Module → Source
+source_of cells modules = record { cells = cells; modules = modules }
+
+abbrev pub no_module : Module
+no_module = record { entry = 0; name = []; ports = []; items = [] }
+
+abbrev pub module_at : Source → ℕ → Module
+module_at s k = slice_index_or s.modules k no_module
+
+abbrev pub cell_at : Source → ℕ → Cell
+cell_at s n = cell_numbered s.cells n
+
+-- a module whose name is that of a described cell is a stub, and only the others count
+abbrev pub is_stub : Source → Module → Bool
+is_stub s m = is_some (number_of s.cells m.name)
+
+abbrev pub modules_of : Source → List Module
+modules_of s = filter (λ m. not (is_stub s m)) s.modules
+
+abbrev pub chosen : Option ℕ → Option ℕ → Target
+chosen (Some cell) number = OfCell cell
+chosen None (Some number) = OfModule number
+chosen None None = OfNothing
+
+abbrev pub is_called : List ℕ → Module → Bool
+is_called name m = bytes_eq name m.name
+
+-- what the name of an instance's cell means
+abbrev pub target_of : Source → List ℕ → Target
+target_of s name = chosen (number_of s.cells name) (position (is_called name) s.modules)
+
+-- what an item is an instance of
+abbrev pub target_in : Source → Item → Target
+target_in s (item.Instance entry cell name by_name connections) = target_of s cell
+target_in s _ = OfNothing
+
+-- the pins of a cell, in cell order from a number on
+abbrev pub pins_from : Bool → ℕ → List (List ℕ) → List Pin
+pins_from output number [] = []
+pins_from output number (name ∷ names) = pin_of name output (number ∷ []) ∷ pins_from output (number + 1) names
+
+abbrev pub pins_of : Cell → List Pin
+pins_of cell = pins_from false 0 (inputs_of cell) ++ pins_from true (length (inputs_of cell)) (outputs_of cell)
+
+-- the pins of what an instance is of
+abbrev pub target_pins : Source → Target → List Pin
+target_pins s (OfCell n) = pins_of (cell_at s n)
+target_pins s (OfModule k) = ports_of (module_at s k)
+target_pins s OfNothing = []
+
+abbrev pub pins_at : Source → Item → List Pin
+pins_at s i = target_pins s (target_in s i)
+
+-- the number of the module of which an item is an instance
+abbrev pub scope_number : Target → Option ℕ
+scope_number (OfModule k) = Some k
+scope_number _ = None
+
+-- the modules that a module instantiates, in the order of its instances
+abbrev pub children_of : Source → Module → List ℕ
+children_of s m = filter_map (λ i. scope_number (target_in s i)) m.items
+
+-- what each item of a module is an instance of
+abbrev pub targets_in : Source → Module → List Target
+targets_in s m = map (target_in s) m.items

@@ -1,0 +1,227 @@
+//! Instances on closed chains of instantiations.
+ghost use Rattle.std.specs.Prelude.{◌≡◌, ◌<◌, ◌^◌, [], None, Some, length, map, replicate, slice_index, false, IfOk, OnOk};
+ghost use Rattle.mintc_netlist.specs.Statements.{statement_of, first_at_fault};
+ghost use Rattle.mintc_flatten_hierarchy.specs.Sources.{source_of, targets_in, target_in, modules_of};
+ghost use Rattle.mintc_flatten_hierarchy.specs.Faults.{leads, leads_back, is_recursive};
+ghost use Rattle.mintc_flatten_hierarchy.specs.Refusals.{name_twice_refusal};
+ghost use Rattle.mintc_flatten_rules.specs.Firsts.{first_in};
+ghost use Rattle.mintc_flatten_rules.specs.Searching.{with_module, with_target, with_targets};
+
+use mintc_cells::Cells;
+use mintc_flatten_binding::{TargetList, modules_in_order};
+use mintc_flatten_hierarchy::Target;
+use mintc_netlist::{Module, entry};
+use mintc_text::OutOfMemory;
+use std::alloc::Global;
+use std::marker::Model;
+
+/// The modules that a search has found, each once.
+#[derive(Drop)]
+pub struct Search {
+    /// In the order in which they were found.
+    visited: Vec<u32>,
+    /// For each module whether it was found.
+    seen: Vec<bool>,
+}
+
+impl Model for Search {
+    ghost use Rattle.mintc_flatten_rules.specs.Searching.{Found};
+
+    ghost Value = { Found };
+
+    ghost view = { λ s. record { visited = s.visited.items; seen = s.seen.items } };
+}
+
+impl Search {
+    /// Nothing is found of so many modules.
+    fn new(alloc: Global, count: usize) -> Result<Search, OutOfMemory>
+        ensures visited { IfOk result (λ search. search.visited ≡ []) }
+        ensures seen { IfOk result (λ search. search.seen ≡ replicate count false) }
+    {
+        let Ok(seen) = vec![in alloc; false; count] else {
+            return Err(OutOfMemory);
+        };
+        Ok(Search {
+            visited: Vec::new(alloc),
+            seen,
+        })
+    }
+
+    /// How many modules are found.
+    fn len(&self) -> usize
+        ensures { result ≡ length self.now.visited }
+    {
+        self.visited.len()
+    }
+
+    /// The module of a place among them.
+    fn number(&self, place: usize) -> u32
+        requires { place < length self.now.visited }
+        ensures { result ≡ slice_index self.now.visited place }
+    {
+        self.visited[place]
+    }
+
+    /// Takes in a module, where it wasn't found before.
+    fn visit(&mut self, number: u32) -> Result<(), OutOfMemory>
+        ensures there { OnOk result (number < length self.old.seen) }
+        ensures found { OnOk result (self.new ≡ with_module self.old number) }
+    {
+        let at = number as usize;
+        if at >= self.seen.len() {
+            return Err(OutOfMemory);
+        }
+        if self.seen[at] {
+            return Ok(());
+        }
+        let Ok(()) = self.visited.push(number) else {
+            return Err(OutOfMemory);
+        };
+        self.seen[at] = true;
+        Ok(())
+    }
+
+    /// Takes in the module that a target is.
+    fn visit_target(&mut self, target: Target) -> Result<(), OutOfMemory>
+        ensures { OnOk result (self.new ≡ with_target self.old target) }
+    {
+        match target {
+            Target::OfModule(number) => {
+                self.visit(number)?;
+                Ok(())
+            }
+            _ => Ok(()),
+        }
+    }
+
+    /// Takes in the modules among targets.
+    fn visit_all(&mut self, targets: &[Target]) -> Result<(), OutOfMemory>
+        ensures { OnOk result (self.new ≡ with_targets self.old targets.now) }
+    {
+        for target in targets {
+            self.visit_target(*target)?;
+        }
+        Ok(())
+    }
+}
+
+/// Whether a module leads to a module of a name, itself counted.
+fn leads(
+    alloc: Global,
+    cells: &Cells,
+    modules: &[Module],
+    targets: &[TargetList],
+    name: &[u8],
+    start: u32,
+) -> Result<bool, OutOfMemory>
+    requires { targets.now ≡ map (targets_in (source_of cells.now modules.now)) modules.now }
+    ensures { IfOk result (λ found. found ≡ leads (source_of cells.now modules.now) (length modules.now) name.now start) }
+{
+    let mut search = Search::new(alloc, modules.len())?;
+    search.visit(start)?;
+    for place in 0..modules.len() {
+        if place >= search.len() {
+            return Ok(false);
+        }
+        let number = search.number(place) as usize;
+        if name == modules[number].name.bytes() {
+            return Ok(true);
+        }
+        search.visit_all(targets[number].items())?;
+    }
+    if search.len() > modules.len() {
+        return Err(OutOfMemory);
+    }
+    Ok(false)
+}
+
+/// Whether a target leads to a module of the name of its home.
+fn leads_back(
+    alloc: Global,
+    cells: &Cells,
+    modules: &[Module],
+    targets: &[TargetList],
+    home: &Module,
+    target: Target,
+) -> Result<bool, OutOfMemory>
+    requires { targets.now ≡ map (targets_in (source_of cells.now modules.now)) modules.now }
+    ensures { IfOk result (λ found. found ≡ leads_back (source_of cells.now modules.now) home.now target) }
+{
+    match target {
+        Target::OfModule(number) => {
+            let found = leads(alloc, cells, modules, targets, home.name.bytes(), number)?;
+            Ok(found)
+        }
+        _ => Ok(false),
+    }
+}
+
+/// The first instance of a module that leads back to it.
+fn first_leading(
+    alloc: Global,
+    cells: &Cells,
+    modules: &[Module],
+    targets: &[TargetList],
+    home: &Module,
+    own: &[Target],
+) -> Result<Option<u32>, OutOfMemory>
+    requires targets { targets.now ≡ map (targets_in (source_of cells.now modules.now)) modules.now }
+    requires own { own.now ≡ targets_in (source_of cells.now modules.now) home.now }
+    ensures { IfOk result (λ first. first ≡ first_in (is_recursive (source_of cells.now modules.now)) home.now) }
+{
+    let items = home.items.items();
+    for (number, item) in items.iter().enumerate() {
+        if leads_back(alloc, cells, modules, targets, home, own[number])? {
+            return Ok(Some(entry(item)));
+        }
+    }
+    Ok(None)
+}
+
+/// The first instance on a closed chain of instantiations, by a search from each instance.
+fn search_all(
+    alloc: Global,
+    cells: &Cells,
+    modules: &[Module],
+    targets: &[TargetList],
+) -> Result<Option<u32>, OutOfMemory>
+    requires { targets.now ≡ map (targets_in (source_of cells.now modules.now)) modules.now }
+    ensures { IfOk result (λ entry. entry ≡ first_at_fault (is_recursive (source_of cells.now modules.now)) (modules_of (source_of cells.now modules.now))) }
+{
+    for (number, home) in modules.iter().enumerate() {
+        if cells.find(home.name.bytes()).is_some() {
+            continue;
+        }
+        let first = first_leading(
+            alloc,
+            cells,
+            modules,
+            targets,
+            home,
+            targets[number].items(),
+        )?;
+        if first.is_some() {
+            return Ok(first);
+        }
+    }
+    Ok(None)
+}
+
+/// The first instance on a closed chain of instantiations. Where the modules have an order in which each stands behind those that it
+/// instantiates, there is none.
+pub fn recursive(
+    alloc: Global,
+    cells: &Cells,
+    modules: &[Module],
+    targets: &[TargetList],
+) -> Result<Option<u32>, OutOfMemory>
+    requires few { length modules.now < 2 ^ 32 }
+    requires names { name_twice_refusal (source_of cells.now modules.now) ≡ None }
+    requires targets { targets.now ≡ map (targets_in (source_of cells.now modules.now)) modules.now }
+    ensures { IfOk result (λ entry. entry ≡ first_at_fault (is_recursive (source_of cells.now modules.now)) (modules_of (source_of cells.now modules.now))) }
+{
+    if let Ok(_order) = modules_in_order(alloc, cells, modules, targets) {
+        return Ok(None);
+    }
+    search_all(alloc, cells, modules, targets)
+}

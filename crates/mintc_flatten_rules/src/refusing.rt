@@ -1,0 +1,114 @@
+//! The refusals of statements, each by itself.
+ghost use Rattle.std.specs.Prelude.{◌≡◌, ◌<◌, ◌^◌, None, Some, length, map, OnOk, IfErr};
+ghost use Rattle.mintc_text.specs.Stops.{StopsAt};
+ghost use Rattle.mintc_flatten_hierarchy.specs.Sources.{source_of, targets_in};
+ghost use Rattle.mintc_flatten_binding.specs.Homes.{source_in};
+ghost use Rattle.mintc_flatten_hierarchy.specs.Refusals.{name_twice_refusal, no_module_refusal, recursive_refusal, no_pin_refusal, width_refusal, two_drivers_refusal};
+
+use crate::name_twice::name_twice;
+use crate::no_module::no_module;
+use crate::no_pin::no_pin;
+use crate::recursive::recursive;
+use crate::two_drivers::second_driver;
+use crate::widths::misfit;
+use mintc_cells::Cells;
+use mintc_flatten_binding::{Source, TargetList};
+use mintc_netlist::Module;
+use mintc_text::{Refusal, Stop};
+use std::alloc::Global;
+
+/// Refuses a name that is given twice.
+pub fn refuse_name_twice(alloc: Global, cells: &Cells, modules: &[Module]) -> Result<(), Stop>
+    ensures passes { OnOk result (name_twice_refusal (source_of cells.now modules.now) ≡ None) }
+    ensures stop { IfErr result (StopsAt (λ r. name_twice_refusal (source_of cells.now modules.now) ≡ Some r)) }
+{
+    match name_twice(alloc, cells, modules) {
+        Ok(None) => Ok(()),
+        Ok(Some(entry)) => Err(Stop::Refused(Refusal::NameTwice { entry })),
+        Err(_) => Err(Stop::OutOfMemory),
+    }
+}
+
+/// Refuses an instance of nothing.
+pub fn refuse_no_module(
+    cells: &Cells,
+    modules: &[Module],
+    targets: &[TargetList],
+) -> Result<(), Stop>
+    requires { targets.now ≡ map (targets_in (source_of cells.now modules.now)) modules.now }
+    ensures passes { OnOk result (no_module_refusal (source_of cells.now modules.now) ≡ None) }
+    ensures stop { IfErr result (StopsAt (λ r. no_module_refusal (source_of cells.now modules.now) ≡ Some r)) }
+{
+    match no_module(cells, modules, targets) {
+        None => Ok(()),
+        Some(entry) => Err(Stop::Refused(Refusal::NoModule { entry })),
+    }
+}
+
+/// Refuses an instance on a closed chain.
+pub fn refuse_recursive(
+    alloc: Global,
+    cells: &Cells,
+    modules: &[Module],
+    targets: &[TargetList],
+) -> Result<(), Stop>
+    requires few { length modules.now < 2 ^ 32 }
+    requires names { name_twice_refusal (source_of cells.now modules.now) ≡ None }
+    requires targets { targets.now ≡ map (targets_in (source_of cells.now modules.now)) modules.now }
+    ensures passes { OnOk result (recursive_refusal (source_of cells.now modules.now) ≡ None) }
+    ensures stop { IfErr result (StopsAt (λ r. recursive_refusal (source_of cells.now modules.now) ≡ Some r)) }
+{
+    match recursive(alloc, cells, modules, targets) {
+        Ok(None) => Ok(()),
+        Ok(Some(entry)) => Err(Stop::Refused(Refusal::Recursive { entry })),
+        Err(_) => Err(Stop::OutOfMemory),
+    }
+}
+
+/// Refuses a port or pin that isn't there.
+pub fn refuse_no_pin(
+    alloc: Global,
+    cells: &Cells,
+    modules: &[Module],
+    targets: &[TargetList],
+) -> Result<(), Stop>
+    requires { targets.now ≡ map (targets_in (source_of cells.now modules.now)) modules.now }
+    ensures passes { OnOk result (no_pin_refusal (source_of cells.now modules.now) ≡ None) }
+    ensures stop { IfErr result (StopsAt (λ r. no_pin_refusal (source_of cells.now modules.now) ≡ Some r)) }
+{
+    match no_pin(alloc, cells, modules, targets) {
+        Ok(None) => Ok(()),
+        Ok(Some(entry)) => Err(Stop::Refused(Refusal::NoPin { entry })),
+        Err(_) => Err(Stop::OutOfMemory),
+    }
+}
+
+/// Refuses widths and selects that don't fit.
+pub fn refuse_width(alloc: Global, source: &Source<'_>, targets: &[TargetList]) -> Result<(), Stop>
+    requires { targets.now ≡ map (targets_in (source_in source.now)) source.now.modules.now }
+    ensures passes { OnOk result (width_refusal (source_in source.now) ≡ None) }
+    ensures stop { IfErr result (StopsAt (λ r. width_refusal (source_in source.now) ≡ Some r)) }
+{
+    match misfit(alloc, source, targets) {
+        Ok(None) => Ok(()),
+        Ok(Some(entry)) => Err(Stop::Refused(Refusal::Width { entry })),
+        Err(_) => Err(Stop::OutOfMemory),
+    }
+}
+
+/// Refuses a second driver of a bit.
+pub fn refuse_two_drivers(
+    alloc: Global,
+    source: &Source<'_>,
+    targets: &[TargetList],
+) -> Result<(), Stop>
+    requires { targets.now ≡ map (targets_in (source_in source.now)) source.now.modules.now }
+    ensures passes { OnOk result (two_drivers_refusal (source_in source.now) ≡ None) }
+    ensures stop { IfErr result (StopsAt (λ r. two_drivers_refusal (source_in source.now) ≡ Some r)) }
+{
+    match second_driver(alloc, source, targets) {
+        Ok(None) => Ok(()),
+        Ok(Some(entry)) => Err(Stop::Refused(Refusal::TwoDrivers { entry })),
+        Err(_) => Err(Stop::OutOfMemory),
+    }
+}

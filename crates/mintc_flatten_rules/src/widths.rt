@@ -1,0 +1,271 @@
+//! Widths and selects that don't fit.
+ghost use Rattle.std.specs.Prelude.{◌≡◌, ◌<◌, ◌++◌, ◌∷◌, ◌&&◌, ◌||◌, [], None, not, nat_eq, map, length, IfOk, OnOk};
+ghost use Rattle.std.specs.List.{list_any};
+ghost use Rattle.std.specs.Option.{option_eq};
+ghost use Rattle.mintc_netlist.specs.Statements.{first_at_fault};
+ghost use Rattle.mintc_netlist.specs.Expressions.{width_of, selects_fit, has_constant};
+ghost use Rattle.mintc_netlist.specs.Connections.{wiring_of, wirings_of};
+ghost use Rattle.mintc_flatten_hierarchy.specs.Sources.{target_in, target_pins, targets_in, modules_of};
+ghost use Rattle.mintc_flatten_hierarchy.specs.Faults.{span_eq, is_wired_badly, is_misfit};
+ghost use Rattle.mintc_flatten_rules.specs.Firsts.{first_in};
+ghost use Rattle.mintc_flatten_binding.specs.Homes.{source_in};
+ghost use Rattle.mintc_flatten_binding.specs.Orders.{IsThere};
+ghost use Rattle.mintc_flatten_rules.specs.Widths.{differs};
+ghost use Rattle.mintc_flatten_binding.specs.Wired.{pin_at, wiring_at, IsOfItem};
+
+use mintc_flatten_binding::{
+    ConnectionIndex, Instance, ModuleNets, Source, TargetList, is_output, pin_count, pin_name,
+    pin_width,
+};
+use mintc_flatten_hierarchy::Target;
+use mintc_netlist::{Item, Piece, Span, entry};
+use mintc_netlist_nets::{Declarations, has_constant};
+use mintc_text::limits::MOST_WIDTH;
+use mintc_text::{Name, OutOfMemory};
+use std::alloc::Global;
+
+/// Whether two ranges are the same.
+fn is_same_range(one: Option<Span>, other: Option<Span>) -> bool
+    ensures { result ≡ option_eq span_eq one other }
+{
+    match (one, other) {
+        (Some(one), Some(other)) => one.msb == other.msb && one.lsb == other.lsb,
+        (None, None) => true,
+        _ => false,
+    }
+}
+
+/// Whether a name is declared with another range.
+fn differs(declared: &Declarations, span: Option<Span>, name: &[u8]) -> bool
+    ensures { result ≡ differs declared.now span name.now }
+{
+    match declared.find(name) {
+        Some(declaration) => !is_same_range(span, declaration.span),
+        None => false,
+    }
+}
+
+/// Whether one of some names is declared with another range.
+fn any_differs(declared: &Declarations, span: Option<Span>, names: &[Name]) -> bool
+    ensures { result ≡ list_any (differs declared.now span) names.now }
+{
+    for name in names {
+        if differs(declared, span, name.bytes()) {
+            return true;
+        }
+    }
+    false
+}
+
+/// How many bits an expression has.
+fn width(home: &ModuleNets<'_>, pieces: &[Piece]) -> Result<u64, OutOfMemory>
+    ensures { IfOk result (λ width. width ≡ width_of home.now.part.now pieces.now) }
+{
+    if MOST_WIDTH < pieces.len() {
+        return Err(OutOfMemory);
+    }
+    Ok(home.nets.width(home.part, pieces))
+}
+
+/// Whether the sides of an assign don't fit.
+fn assign_misfits(
+    home: &ModuleNets<'_>,
+    left: &[Piece],
+    right: &[Piece],
+) -> Result<bool, OutOfMemory>
+    ensures { IfOk result (λ misfits. misfits ≡
+        ((not (selects_fit home.now.part.now left.now && selects_fit home.now.part.now right.now) || not (nat_eq (width_of home.now.part.now left.now) (width_of home.now.part.now right.now))) || has_constant left.now)) }
+{
+    let same = width(home, left)? == width(home, right)?;
+    let fit = home.nets.selects_fit(home.part, left) && home.nets.selects_fit(home.part, right);
+    Ok(!fit || !same || has_constant(left))
+}
+
+/// Whether what is connected to a pin doesn't fit.
+fn is_wired_badly(
+    source: &Source<'_>,
+    home: &ModuleNets<'_>,
+    target: Target,
+    number: u32,
+    pieces: &[Piece],
+) -> Result<bool, OutOfMemory>
+    requires there { IsThere (source_in source.now) target }
+    requires pin { number < length (target_pins (source_in source.now) target) }
+    ensures { IfOk result (λ bad. bad ≡ is_wired_badly home.now.part.now (wiring_of (pin_at (source_in source.now) target number) pieces.now)) }
+{
+    let same = width(home, pieces)? == pin_width(source, target, number);
+    let fit = home.nets.selects_fit(home.part, pieces);
+    let output = is_output(source, target, number);
+    Ok(!fit || !same || (output && has_constant(pieces)))
+}
+
+/// Whether what an instance connects to a pin, if anything, doesn't fit.
+fn pin_misfits(
+    source: &Source<'_>,
+    home: &ModuleNets<'_>,
+    instance: &Instance<'_>,
+    number: u32,
+) -> Result<bool, OutOfMemory>
+    requires there { IsThere (source_in source.now) instance.now.target }
+    requires pin { number < length (target_pins (source_in source.now) instance.now.target) }
+    requires connected { IsOfItem instance.now.connected.now instance.now.item.now }
+    ensures { IfOk result (λ misfits. misfits ≡ list_any (is_wired_badly home.now.part.now) (wiring_at instance.now.item.now (source_in source.now) instance.now.target number)) }
+{
+    let target = instance.target;
+    let name = pin_name(source.cells, source.modules, target, number);
+    let connected = instance.connected;
+    match connected.expression(instance.item, number as usize, name) {
+        Some(expr) => is_wired_badly(source, home, target, number, expr.items()),
+        None => Ok(false),
+    }
+}
+
+/// Whether something that an instance connects to a pin doesn't fit, by what is kept of its connections.
+fn any_misfits(
+    source: &Source<'_>,
+    home: &ModuleNets<'_>,
+    instance: &Instance<'_>,
+) -> Result<bool, OutOfMemory>
+    requires there { IsThere (source_in source.now) instance.now.target }
+    requires connected { IsOfItem instance.now.connected.now instance.now.item.now }
+    ensures { IfOk result (λ misfits. misfits ≡ list_any (is_wired_badly home.now.part.now) (wirings_of instance.now.item.now (target_pins (source_in source.now) instance.now.target))) }
+{
+    let count = pin_count(source.cells, source.modules, instance.target)?;
+    for number in 0..count {
+        if pin_misfits(source, home, instance, number)? {
+            return Ok(true);
+        }
+    }
+    Ok(false)
+}
+
+/// Whether something that an instance connects to a pin doesn't fit.
+fn instance_misfits(
+    alloc: Global,
+    source: &Source<'_>,
+    home: &ModuleNets<'_>,
+    item: &Item,
+    target: Target,
+) -> Result<bool, OutOfMemory>
+    requires there { IsThere (source_in source.now) target }
+    ensures { IfOk result (λ misfits. misfits ≡ list_any (is_wired_badly home.now.part.now) (wirings_of item.now (target_pins (source_in source.now) target))) }
+{
+    let connected = &ConnectionIndex::new(alloc, item)?;
+    let instance = Instance {
+        item,
+        target,
+        connected,
+    };
+    any_misfits(source, home, &instance)
+}
+
+/// What some items of a module declare.
+#[derive(Drop)]
+pub struct Declared {
+    ports: Declarations,
+    nets: Declarations,
+}
+
+impl Declared {
+    ghost use Rattle.std.specs.Prelude.{List};
+    ghost use Rattle.mintc_netlist.specs.declared.module.Item.{Item};
+    ghost use Rattle.mintc_flatten_rules.specs.Widths.{IsDeclaredBy, misfits_after};
+
+    /// Nothing.
+    fn new(alloc: Global) -> Declared
+        ensures { IsDeclaredBy result [] }
+    {
+        Declared {
+            ports: Declarations::new(alloc),
+            nets: Declarations::new(alloc),
+        }
+    }
+
+    /// Takes in what an item declares.
+    fn note(&mut self, alloc: Global, item: &Item) -> Result<(), OutOfMemory>
+        ensures { OnOk result ((before : List Item) → IsDeclaredBy self.old before → IsDeclaredBy self.new (before ++ item.now ∷ [])) }
+    {
+        self.ports.note_ports(alloc, item)?;
+        self.nets.note_nets(alloc, item)
+    }
+
+    /// Whether an item doesn't fit after these.
+    fn misfits(
+        &self,
+        alloc: Global,
+        source: &Source<'_>,
+        home: &ModuleNets<'_>,
+        item: &Item,
+        target: Target,
+    ) -> Result<bool, OutOfMemory>
+        requires target { target ≡ target_in (source_in source.now) item.now }
+        ensures { IfOk result (λ misfits. (before : List Item) → IsDeclaredBy self.now before → misfits ≡ misfits_after (source_in source.now) home.now.part.now before item.now) }
+    {
+        match item {
+            Item::Port { span, names, .. } => Ok(any_differs(&self.nets, *span, names.items())),
+            Item::Wire { span, names, .. } => Ok(any_differs(&self.ports, *span, names.items())),
+            Item::Assign { left, right, .. } => {
+                assign_misfits(home, left.items(), right.items())
+            }
+            Item::Instance { .. } => instance_misfits(alloc, source, home, item, target),
+        }
+    }
+
+    /// The first statement of a module whose widths or selects don't fit, of all its items.
+    fn first_misfit(
+        &mut self,
+        alloc: Global,
+        source: &Source<'_>,
+        home: &ModuleNets<'_>,
+        targets: &[Target],
+    ) -> Result<Option<u32>, OutOfMemory>
+        requires targets { targets.now ≡ targets_in (source_in source.now) home.now.part.now }
+        requires none { IsDeclaredBy self.old [] }
+        ensures { IfOk result (λ first. first ≡ first_in (is_misfit (source_in source.now)) home.now.part.now) }
+    {
+        let items = home.part.items.items();
+        for (number, item) in items.iter().enumerate() {
+            if self.misfits(alloc, source, home, item, targets[number])? {
+                return Ok(Some(entry(item)));
+            }
+            self.note(alloc, item)?;
+        }
+        Ok(None)
+    }
+}
+
+/// The first statement of a module whose widths or selects don't fit.
+fn first_misfit(
+    alloc: Global,
+    source: &Source<'_>,
+    home: &ModuleNets<'_>,
+    targets: &[Target],
+) -> Result<Option<u32>, OutOfMemory>
+    requires targets { targets.now ≡ targets_in (source_in source.now) home.now.part.now }
+    ensures { IfOk result (λ first. first ≡ first_in (is_misfit (source_in source.now)) home.now.part.now) }
+{
+    Declared::new(alloc).first_misfit(alloc, source, home, targets)
+}
+
+/// The first statement whose widths or selects don't fit.
+pub fn misfit(
+    alloc: Global,
+    source: &Source<'_>,
+    targets: &[TargetList],
+) -> Result<Option<u32>, OutOfMemory>
+    requires { targets.now ≡ map (targets_in (source_in source.now)) source.now.modules.now }
+    ensures { IfOk result (λ entry. entry ≡ first_at_fault (is_misfit (source_in source.now)) (modules_of (source_in source.now))) }
+{
+    for (number, part) in source.modules.iter().enumerate() {
+        if source.cells.find(part.name.bytes()).is_some() {
+            continue;
+        }
+        let nets = &source.nets[number];
+        let home = ModuleNets { part, nets };
+        let first = first_misfit(alloc, source, &home, targets[number].items())?;
+        if first.is_some() {
+            return Ok(first);
+        }
+    }
+    Ok(None)
+}

@@ -1,0 +1,94 @@
+-- What a pass over the arcs keeps.
+use Rattle.std.proofs.Common.{Bool, true, false, ◌≡◌, ℕ, ℤ, ◌+◌, ◌*◌, ◌^◌, ◌≤ℤ◌, ◌<ℤ◌, ◌<◌, List, length, Option, Some, None, set, ⊎_elim, refl, sym, arith, ◌∙◌}
+use Rattle.std.specs.Bool.{OnTrue, OnFalse}
+use Rattle.std.proofs.lemmas.Int.{ints}
+use Rattle.std.proofs.lemmas.Bool.{cases_lt}
+use Rattle.mintc_graph_walks.specs.declared.network.Arc.{Arc}
+use Rattle.mintc_graph_walks.specs.declared.network.TheConstants.{UNREACHED}
+use Rattle.mintc_graph_walks.specs.Walks.{arc_at, value_at, brought}
+use Rattle.mintc_graph_walks.specs.Bounds.{IsWithin, AreBounded}
+use Rattle.mintc_graph_walks.specs.Rises.{HasPassed}
+use Rattle.mintc_graph_walks.proofs.Rising.{set_same, set_grows}
+use Rattle.mintc_graph_walks.proofs.Relaxing.{HasRelaxed-none, HasRelaxed-then, HasRelaxed-raised}
+
+pub HasPassed-none : (arcs : List Arc) (values : List ℤ) (before : List ℕ) → HasPassed arcs 0 values before values before None
+HasPassed-none arcs values before = record {
+  relaxed = HasRelaxed-none arcs 0 values before;
+  carried = λ e h r. absurd (omega arith);
+  risen = tt;
+  still = refl;
+}
+
+module _ (arcs : List Arc) (i : ℕ) (old : List ℤ) (old_before : List ℕ) (values : List ℤ) (before : List ℕ) (raised : Option ℕ) (p : HasPassed arcs i old old_before values before raised)
+    (below : i < length arcs) (few : length arcs < 2 ^ 32) (nodes : length old < 2 ^ 32) (lengths : length values ≡ length old) (same : length before ≡ length old) (bounded : AreBounded (2 ^ 125) old)
+    (inside : (arc_at arcs i).from < length old) (fits : (arc_at arcs i).to < length old) (weight : IsWithin (2 ^ 80) (arc_at arcs i).weight) where
+  now_bounded : AreBounded (2 ^ 125 + i * 2 ^ 80) values
+  now_bounded = p.relaxed.bounded (2 ^ 125) bounded
+
+  -- nothing is raised by arc i
+  module _ (met : UNREACHED <ℤ value_at values (arc_at arcs i).from → brought values (arc_at arcs i) ≤ℤ value_at values (arc_at arcs i).to) where
+    kept_carried : UNREACHED <ℤ value_at old (arc_at arcs i).from → (UNREACHED <ℤ value_at values (arc_at arcs i).to) × (brought old (arc_at arcs i) ≤ℤ value_at values (arc_at arcs i).to)
+    kept_carried r =
+        let g = p.relaxed.grows (arc_at arcs i).from in
+        let r' : UNREACHED <ℤ value_at values (arc_at arcs i).from = omega (arith, ints) in
+        let m = met r' in
+        let w = (now_bounded (arc_at arcs i).from (rw lengths inside)).1 r' in
+        (omega (arith, ints), omega (arith, ints))
+
+    pub HasPassed-kept : HasPassed arcs (i + 1) old old_before values before raised
+    HasPassed-kept = record {
+      relaxed = HasRelaxed-then arcs i 1 old old_before values before values before lengths p.relaxed (HasRelaxed-none arcs 1 values before);
+      carried = λ e h r. ⊎_elim (λ l. p.carried e l r) (λ l. let q : e ≡ i = omega arith in rw q (kept_carried (rw q at r))) (cases_lt e i);
+      risen = p.risen;
+      still = p.still;
+    }
+
+  -- arc i raises its end
+  module _ (reached : UNREACHED <ℤ value_at values (arc_at arcs i).from) (more : value_at values (arc_at arcs i).to <ℤ brought values (arc_at arcs i)) where
+    abbrev to : ℕ
+    to = (arc_at arcs i).to
+
+    abbrev new : List ℤ
+    new = set values to (brought values (arc_at arcs i))
+
+    fits_now : to < length values
+    fits_now = rw lengths fits
+
+    new_grows : (v : ℕ) → value_at values v ≤ℤ value_at new v
+    new_grows = set_grows values to (brought values (arc_at arcs i)) fits_now more
+
+    new_to : value_at new to ≡ brought values (arc_at arcs i)
+    new_to = set_same values to (brought values (arc_at arcs i)) fits_now more to refl
+
+    new_carried : UNREACHED <ℤ value_at old (arc_at arcs i).from → (UNREACHED <ℤ value_at new to) × (brought old (arc_at arcs i) ≤ℤ value_at new to)
+    new_carried r =
+        let g = p.relaxed.grows (arc_at arcs i).from in
+        let l = (now_bounded to fits_now).0 in
+        let s = new_to in
+        (omega (arith, ints), omega (arith, ints))
+
+    pub HasPassed-raised : HasPassed arcs (i + 1) old old_before new (set before to i) (Some to)
+    HasPassed-raised = record {
+      relaxed = HasRelaxed-then arcs i 1 old old_before values before new (set before to i) lengths p.relaxed
+          (HasRelaxed-raised arcs values before i (same ∙ sym lengths) below few (rw lengths inside) fits_now weight reached more);
+      carried = λ e h r. ⊎_elim
+          (λ l. let c = p.carried e l r in let n = new_grows (arc_at arcs e).to in (omega (arith, ints), omega (arith, ints)))
+          (λ l. let q : e ≡ i = omega arith in rw q (new_carried (rw q at r)))
+          (cases_lt e i);
+      risen = (let g = p.relaxed.grows to in let s = new_to in (fits, omega (arith, ints)));
+      still = tt;
+    }
+
+  -- the same two steps, from what `relax` ensures: whether it raised, and what holds where it did or didn't
+  module _ (a : Arc) (values' : List ℤ) (before' : List ℕ) (raised' : Option ℕ) (raises : Bool) (is_arc : a ≡ arc_at arcs i) where
+    pub kept_by_relax : raises ≡ false → OnFalse raises (UNREACHED <ℤ value_at values a.from → brought values a ≤ℤ value_at values a.to) → OnFalse raises (values' ≡ values) → OnFalse raises (before' ≡ before) → raised' ≡ raised →
+        HasPassed arcs (i + 1) old old_before values' before' raised'
+    kept_by_relax kept met ev eb er = rw (rw kept at ev, rw kept at eb, er) (HasPassed-kept (rw is_arc at rw kept at met))
+
+    pub raised_by_relax : raises ≡ true → OnTrue raises (UNREACHED <ℤ value_at values a.from) → OnTrue raises (value_at values a.to <ℤ brought values a) →
+        OnTrue raises (values' ≡ set values a.to (brought values a)) → OnTrue raises (before' ≡ set before a.to i) → raised' ≡ Some a.to →
+        HasPassed arcs (i + 1) old old_before values' before' raised'
+    raised_by_relax rises reached more ev eb er = rw (rw rises at ev, rw rises at eb, er, is_arc) (HasPassed-raised (rw is_arc at rw rises at reached) (rw is_arc at rw rises at more))
+
+  pub value_in_range : (a : Arc) → a ≡ arc_at arcs i → UNREACHED <ℤ value_at values a.from → IsWithin (2 ^ 126) (value_at values a.from)
+  value_in_range a ea r = rw ea (let r' = rw ea at r in let w = (now_bounded (arc_at arcs i).from (rw lengths inside)).1 r' in (omega (arith, ints), omega (arith, ints)))

@@ -1,0 +1,146 @@
+//! The greatest walks, or a closed chain of positive weight.
+ghost use Rattle.std.specs.Prelude.{◌≡◌, ◌<◌, ◌≤◌, ◌+◌, ◌^◌, length, IfNone, IfSome};
+ghost use Rattle.mintc_graph_walks.specs.Answers.{IsAnswered, IsKept};
+ghost use Rattle.mintc_graph_walks.specs.Bounds.{AreBounded, AreOrdinary};
+ghost use Rattle.mintc_graph_walks.specs.Chains.{AreParents, IsRing, IsRooted};
+
+use crate::chains::{Ring, collect, mark};
+use crate::network::{NONE, Network};
+use crate::rings::heaviest;
+use crate::rise::{pass, relax_all};
+use crate::steps::Steps;
+use crate::trees::list_tree;
+use std::marker::Brand;
+use std::sync::ledger::{Blank, Ledger};
+
+/// What was found.
+#[derive(Clone, Copy, Debug, PartialEq, Eq)]
+pub enum Answer {
+    /// `values` has for each node the greatest value of a walk to it, or `UNREACHED`.
+    Values,
+    /// The first `len` numbers of `chain` are the arcs of a closed chain of positive weight, in order.
+    Chain { len: usize },
+}
+
+/// A ring among the arcs by which the nodes were raised: the one that weighs most on the mean, else one behind the node
+/// raised last.
+fn find_ring<N: Network>(net: &N, before: &[u32], raised: u32, marks: &mut [u32]) -> Option<Ring>
+    requires same { length marks.old ≡ length before.now }
+    requires nodes { length before.now ≤ 4096 }
+    requires raised { raised < length before.now }
+    requires arcs { AreOrdinary (length before.now) (N.arcs net.now) }
+    requires parents { AreParents (N.arcs net.now) before.now }
+    ensures ring { IfSome result (λ r. IsRing (N.arcs net.now) before.now marks.new r.node r.len) }
+    ensures none { IfNone result (IsRooted (N.arcs net.now) before.now raised) }
+{
+    if let Some(node) = heaviest(net, before, raised, marks)
+        && let Some(ring) = mark(net, before, node, marks)
+    {
+        return Some(ring);
+    }
+    mark(net, before, raised, marks)
+}
+
+/// The greatest value of the walks to each node, which is the value where a walk begins and the sum of its arcs' weights;
+/// or, exactly where a walk leads to one, a closed chain of positive weight.
+///
+/// `values` comes in with the value at which a walk may begin at each node, or `UNREACHED`. The five buffers have one
+/// item for each of 1 to 4096 nodes. After `Chain` the numbers in `values` say nothing; `before` and `marks` are for
+/// work alone. `tree` comes in with numbers of arcs that are taken first, in their order: any numbers will do, also of no arc,
+/// and it goes out with those by which a walk through a network that is little different takes fewer steps. A step is one pass
+/// over the arcs: there is at least one, and at most one for each node.
+pub fn greatest_walks<N: Network, L: Ledger>(
+    net: &N,
+    values: &mut [i128],
+    before: &mut [u32],
+    marks: &mut [u32],
+    tree: &mut [u32],
+    chain: &mut [u32],
+    steps: &mut Steps<L>,
+) -> Answer
+    requires some { 0 < length values.old }
+    requires nodes { length values.old ≤ 4096 }
+    requires before { length before.old ≡ length values.old }
+    requires marks { length marks.old ≡ length values.old }
+    requires tree { length tree.old ≡ length values.old }
+    requires chain { length chain.old ≡ length values.old }
+    requires few { length (N.arcs net.now) < 2 ^ 32 }
+    requires arcs { AreOrdinary (length values.old) (N.arcs net.now) }
+    requires starts { AreBounded (2 ^ 80) values.old }
+
+    ensures answer { IsAnswered (N.arcs net.now) values.old values.new chain.new result }
+    ensures kept { IsKept chain.old chain.new result }
+    ensures some { steps.old < steps.new }
+    ensures cost { steps.new ≤ steps.old + length values.old }
+{
+    before.fill(NONE);
+    relax_all(net, tree, values, before);
+    for round in 0..values.len() {
+        steps.tick();
+        let Some(raised) = pass(net, values, before) else {
+            return Answer::Values;
+        };
+        if let Some(ring) = find_ring(net, before, raised, marks) {
+            collect(net, before, marks, ring, chain);
+            return Answer::Chain { len: ring.len };
+        }
+        list_tree(net, before, marks, tree);
+        relax_all(net, tree, values, before);
+    }
+    unreachable!()
+}
+
+/// `greatest_walks` with a counter of its own.
+fn walks_from_blank<N: Network, L: Ledger>(
+    net: &N,
+    values: &mut [i128],
+    before: &mut [u32],
+    marks: &mut [u32],
+    tree: &mut [u32],
+    chain: &mut [u32],
+    blank: Blank,
+) -> Answer
+    requires name { blank.name ≡ L.name }
+    requires parts { blank.parts ≡ L.parts }
+    requires part { 0 < L.parts }
+    requires some { 0 < length values.old }
+    requires nodes { length values.old ≤ 4096 }
+    requires before { length before.old ≡ length values.old }
+    requires marks { length marks.old ≡ length values.old }
+    requires tree { length tree.old ≡ length values.old }
+    requires chain { length chain.old ≡ length values.old }
+    requires few { length (N.arcs net.now) < 2 ^ 32 }
+    requires arcs { AreOrdinary (length values.old) (N.arcs net.now) }
+    requires starts { AreBounded (2 ^ 80) values.old }
+
+    ensures answer { IsAnswered (N.arcs net.now) values.old values.new chain.new result }
+    ensures kept { IsKept chain.old chain.new result }
+{
+    let mut steps = Steps::<L>::open(blank);
+    greatest_walks(net, values, before, marks, tree, chain, &mut steps)
+}
+
+/// The same as `greatest_walks`, for callers that count no steps.
+pub fn greatest_walks_uncounted<N: Network>(
+    net: &N,
+    values: &mut [i128],
+    before: &mut [u32],
+    marks: &mut [u32],
+    tree: &mut [u32],
+    chain: &mut [u32],
+) -> Answer
+    requires some { 0 < length values.old }
+    requires nodes { length values.old ≤ 4096 }
+    requires before { length before.old ≡ length values.old }
+    requires marks { length marks.old ≡ length values.old }
+    requires tree { length tree.old ≡ length values.old }
+    requires chain { length chain.old ≡ length values.old }
+    requires few { length (N.arcs net.now) < 2 ^ 32 }
+    requires arcs { AreOrdinary (length values.old) (N.arcs net.now) }
+    requires starts { AreBounded (2 ^ 80) values.old }
+
+    ensures answer { IsAnswered (N.arcs net.now) values.old values.new chain.new result }
+    ensures kept { IsKept chain.old chain.new result }
+{
+    walks_from_blank::<N, Brand>(net, values, before, marks, tree, chain, Blank::new(1))
+}

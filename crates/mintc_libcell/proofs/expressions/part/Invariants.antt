@@ -1,8 +1,0 @@
-use Rattle.std.proofs.Common.{◌≡◌, ◌-◌, ◌++◌, take, drop}
-use Rattle.mintc_libcell.specs.Expressions.{stripped}
-use Rattle.mintc_libcell.specs.Passing.{value_bytes}
-use Rattle.mintc_libcell.proofs.expressions.part.Given as goal
-
--- so many are still to be added
-abbrev pub invariant-loop : goal.invariant-loop
-invariant-loop l = l.part.items ++ take (l.size - l.counter) (stripped l.bytes) ≡ take l.size (drop l.from (stripped (value_bytes l.value)))

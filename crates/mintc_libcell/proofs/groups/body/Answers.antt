@@ -1,7 +1,0 @@
-use Rattle.std.proofs.Common.{[], Some, option_and_then, sym, ap, ◌∙◌}
-use Rattle.mintc_liblex.specs.Tokens.{after_left}
-use Rattle.mintc_liblex.specs.Reading.{items_rest}
-use Rattle.mintc_libcell.proofs.groups.body.Goals as goal
-
-pub returns-then-mark : goal.returns-then-mark
-returns-then-mark c = ap (option_and_then after_left) (ap items_rest (sym c.copy-inside.ensures) ∙ c.if-not-items.ensures ∙ ap Some (c.if-mark.ensures []))

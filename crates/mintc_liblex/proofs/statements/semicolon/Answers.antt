@@ -1,7 +1,0 @@
-use Rattle.std.proofs.Common.{[], sym, ap, ◌∙◌}
-use Rattle.mintc_liblex.specs.Statements.{past_semicolon}
-use Rattle.mintc_liblex.proofs.SharedPassingLaws.{same-tokens, no-semicolon, one-way}
-use Rattle.mintc_liblex.proofs.statements.semicolon.Goals as goal
-
-pub returns-clause-passed : goal.returns-clause-passed
-returns-clause-passed c = one-way c.mark.result c.mark.ensures.passed (λ f. sym (ap past_semicolon (f []))) (λ n. same-tokens _ _ n.1 ∙ sym (no-semicolon c.args.scanner.now.tokens n.0))

@@ -1,7 +1,0 @@
-use Rattle.std.proofs.Common.{◌≡◌, drop}
-use Rattle.mintc_matters.specs.Ports.{bit_called}
-use Rattle.mintc_matters.proofs.ports.bit_called.Given as goal
-
--- it depends on the ports that are left
-abbrev pub invariant-loop-number : goal.invariant-loop-number
-invariant-loop-number l = bit_called l.names l.ports l.text ≡ bit_called l.names (drop l.number l.ports) l.text

@@ -1,9 +1,0 @@
-use Rattle.std.proofs.Common.{◌≡◌, [], drop, map, find, bytes_eq, slice_index_or}
-use Rattle.mintc_matters.specs.Ports.{port_bit}
-use Rattle.mintc_matters.proofs.ports.bit_of.Given as goal
-
--- it depends on the bits that are left
-abbrev pub invariant-loop-number : goal.invariant-loop-number
-invariant-loop-number l =
-    find (λ p. bytes_eq (slice_index_or l.names p.bit []) l.text) (map (port_bit l.port.output) l.port.bits)
-    ≡ find (λ p. bytes_eq (slice_index_or l.names p.bit []) l.text) (map (port_bit l.port.output) (drop l.number l.port.bits))

@@ -1,7 +1,0 @@
-use Rattle.std.proofs.Common.{◌≡◌, drop}
-use Rattle.mintc_matters.specs.Ports.{whole_port}
-use Rattle.mintc_matters.proofs.ports.whole_port.Given as goal
-
--- it depends on the ports that are left
-abbrev pub invariant-loop-port : goal.invariant-loop-port
-invariant-loop-port l = whole_port l.ports l.text ≡ whole_port (drop l.port-index l.ports) l.text

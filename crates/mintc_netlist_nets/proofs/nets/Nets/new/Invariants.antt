@@ -1,0 +1,11 @@
+use Rattle.std.proofs.Common.{◌≡◌, ◌++◌, take, drop}
+use Rattle.mintc_netlist.specs.Nets.{names_of}
+use Rattle.mintc_netlist_nets.specs.Tables.{firsts_from}
+use Rattle.mintc_netlist_nets.proofs.SharedTableLaws.{bits_before}
+use Rattle.mintc_netlist_nets.proofs.nets.Nets.new.Given as goal
+
+-- the first bits of the nets so far are known, and how many bits these have
+abbrev pub invariant-loop-place : goal.invariant-loop-place
+invariant-loop-place l =
+    (l.firsts.items ++ firsts_from l.home l.count (drop l.place (names_of l.home)) ≡ firsts_from l.home 0 (names_of l.home))
+    × (l.count ≡ bits_before l.home (take l.place (names_of l.home)))

@@ -1,0 +1,164 @@
+//! The number of a design's pairs.
+ghost use Rattle.std.specs.Prelude.{◌≡◌, ◌<◌, ◌≤◌, ◌+◌, ◌*◌, length, IfOk, IfErr, OnOk};
+ghost use Rattle.mintc_text.specs.declared.limits.TheConstants.{MOST_ELEMENTS};
+ghost use Rattle.mintc_text.specs.Stops.{StopsAt};
+ghost use Rattle.mintc_timing.specs.Design.{Design};
+ghost use Rattle.mintc_timing.specs.Order.{IsOrder, ArePathsShort};
+ghost use Rattle.mintc_paths.specs.Worklist.{IsReady};
+ghost use Rattle.mintc_paths_count.specs.Count.{AreEndsOf, AreListed, IsCountBefore, IsPairCount};
+ghost use Rattle.mintc_paths_count.specs.Marks.{marks_at, AreMarksReached};
+ghost use Rattle.mintc_paths.specs.Ordered.{Ordered, IsCourseOf, ordered};
+ghost use Rattle.mintc_paths.specs.Refusals.{IsExtremesRefusal};
+ghost use Rattle.mintc_paths.specs.Sums.{IsCourse};
+
+use crate::back::count_back;
+use crate::marks::{Marks, NO_MARKS, gather, list_reached, mark_all, mark_of};
+use mintc_paths::{
+    ArcSequence, Worklist, bound_is_within_limit, course_of, extremes, is_backward_cheaper,
+};
+use mintc_text::limits::MOST_PAIRS;
+use mintc_text::{Kind, Refusal, Stop};
+use mintc_timing::{Flat, Order};
+use std::alloc::{AllocError, Global};
+
+/// The number of pairs before and from an element, whose marks at the inputs are in this lane. No path leads to an input that
+/// isn't listed.
+#[tactic(auto, using(crate::proofs::Listing::IsCountToEnd_more))]
+fn count_from(count: u64, ends: &[Marks], listed: &[u32], element: u32, lane: usize) -> u64
+    ghost design: { Design }
+    requires inputs { length ends.now ≡ length design.elements }
+    requires few { length design.elements ≤ MOST_ELEMENTS }
+    requires element { element < length design.elements }
+    requires lane { lane < 256 }
+    requires ends { AreEndsOf design element lane ends.now }
+    requires listed { AreListed (λ to. marks_at ends.now to ≡ NO_MARKS) (length design.elements) listed.now }
+    requires count { IsCountBefore design element 0 count }
+    ensures { IsCountBefore design (element + 1) 0 result }
+{
+    let mut count = count;
+    for number in 0..listed.len() {
+        let to = listed[number] as usize;
+        count += mark_of(&ends[to], lane);
+    }
+    count
+}
+
+/// The number of all pairs of a design with as many elements as there are ends, which are marked by 256 at a time.
+fn count_each(
+    alloc: Global,
+    course: &ArcSequence,
+    marks: &mut [Marks],
+    reached: &mut [bool],
+    awake: &mut Worklist,
+    ends: &mut [Marks],
+) -> Result<u64, AllocError>
+    ghost of: { Ordered }
+    requires course { IsCourseOf (length marks.old) of course.now }
+    requires inputs { length ends.old ≡ length of.design.elements }
+    requires marked { AreMarksReached marks.old reached.old }
+    requires ready { IsReady (length course.now.along.items) awake.old }
+    ensures { IfOk result (IsCountBefore of.design (length of.design.elements) 0) }
+{
+    let elements = ends.len() as u32;
+    let mut listed = Vec::new(alloc);
+    let mut count = 0;
+    let mut first = 0;
+    while first < elements {
+        let lanes = (elements - first).min(256);
+        mark_all(marks, reached, awake, course, first, lanes as usize);
+        gather(ends, marks, &course.rows);
+        list_reached(&mut listed, reached, &course.rows, elements)?;
+        for lane in 0..lanes {
+            count = count_from(count, ends, &listed, first + lane, lane as usize);
+        }
+        first += lanes;
+    }
+    Ok(count)
+}
+
+/// The number of all pairs of a design with so many elements, along a course of its arcs.
+pub fn count_along(alloc: Global, course: &ArcSequence, elements: u32) -> Result<u64, AllocError>
+    ghost of: { Ordered }
+    requires course { IsCourseOf (length course.now.rows.of_bits.items) of course.now }
+    requires count { elements ≡ length of.design.elements }
+    ensures count { IfOk result (IsCountBefore of.design (length of.design.elements) 0) }
+{
+    let bits = course.rows.of_bits.len();
+    let mut marks = vec![in alloc; NO_MARKS; bits]?;
+    let mut reached = vec![in alloc; false; bits]?;
+    let mut awake = Worklist::new(alloc, course.along.len())?;
+    let mut ends = vec![in alloc; NO_MARKS; elements as usize]?;
+    count_each(
+        alloc,
+        course,
+        &mut marks,
+        &mut reached,
+        &mut awake,
+        &mut ends,
+    )
+}
+
+/// The number of all pairs, from the outputs on.
+fn count_forth(
+    alloc: Global,
+    flat: &Flat,
+    order: &Order,
+    course: &ArcSequence,
+) -> Result<u64, AllocError>
+    ghost of: { Ordered }
+    requires of { of ≡ ordered flat.now order.now }
+    requires order { IsOrder flat.now.arcs order.now }
+    requires course { IsCourse (2 * length flat.now.elements + length flat.now.inner) flat.now.arcs order.now course.now }
+    ensures { IfOk result (IsCountBefore flat.now (length flat.now.elements) 0) }
+{
+    let elements = flat.elements().len() as u32;
+    count_along(alloc, course, elements)
+}
+
+/// The number of all pairs, by the way that has less to carry. Without inner bits that is from the outputs on.
+fn count_all(
+    alloc: Global,
+    flat: &Flat,
+    order: &Order,
+    course: ArcSequence,
+) -> Result<u64, AllocError>
+    requires order { IsOrder flat.now.arcs order.now }
+    requires course { IsCourse (2 * length flat.now.elements + length flat.now.inner) flat.now.arcs order.now course }
+    ensures count { IfOk result (IsCountBefore flat.now (length flat.now.elements) 0) }
+    ensures few { IfOk result (λ count. count ≤ 4000000) }
+{
+    if !flat.inner().items().is_empty() && is_backward_cheaper(alloc, flat)? {
+        return count_back(alloc, flat, order, course);
+    }
+    count_forth(alloc, flat, order, &course)
+}
+
+/// The number of the design's pairs, without a list of them. The refusals are those of `extremes`.
+pub fn count_pairs(alloc: Global, flat: &Flat, order: &Order) -> Result<u64, Stop>
+    requires { IsOrder flat.now.arcs order.now }
+    ensures count { IfOk result (IsPairCount flat.now) }
+    ensures few { IfOk result (λ count. count ≤ MOST_PAIRS) }
+    ensures short { OnOk result (ArePathsShort flat.now) }
+    ensures stop { IfErr result (StopsAt (IsExtremesRefusal flat.now)) }
+{
+    let Ok(course) = course_of(alloc, flat, order) else {
+        return Err(Stop::OutOfMemory);
+    };
+    let Ok(known_short) = bound_is_within_limit(alloc, flat, order, &course) else {
+        return Err(Stop::OutOfMemory);
+    };
+    if !known_short {
+        let pairs = extremes(alloc, flat, order)?;
+        return Ok(pairs.len() as u64);
+    }
+    let Ok(count) = count_all(alloc, flat, order, course) else {
+        return Err(Stop::OutOfMemory);
+    };
+    if count > MOST_PAIRS as u64 {
+        return Err(Stop::Refused(Refusal::Limit {
+            kind: Kind::Pairs,
+            count,
+        }));
+    }
+    Ok(count)
+}

@@ -1,0 +1,193 @@
+//! Marks at bits, of up to 256 elements at a time: whether a path leads there from each of them.
+ghost use Rattle.std.specs.Prelude.{◌≡◌, ◌≢◌, ◌+◌, ◌*◌, ◌<◌, ◌≤◌, ℕ, List, length, max, slice_index_or, false, OnOk};
+ghost use Rattle.mintc_text.specs.declared.limits.TheConstants.{MOST_ELEMENTS};
+ghost use Rattle.mintc_timing.specs.Paths.{input_of};
+ghost use Rattle.mintc_timing.specs.declared.parts.TimingArc.{TimingArc};
+ghost use Rattle.mintc_paths_sums.specs.Placed.{row_of};
+ghost use Rattle.mintc_paths.specs.Worklist.{IsReady, IsAwake};
+ghost use Rattle.mintc_paths.specs.Leaving.{AreLeaving};
+ghost use Rattle.mintc_paths.specs.Ordered.{Ordered, IsCourseOf};
+ghost use Rattle.mintc_paths.specs.Sums.{AreRows};
+ghost use Rattle.mintc_paths_count.specs.Count.{AreListed};
+ghost use Rattle.mintc_paths_count.specs.Marks.{mark_in, marks_at, AreMarksBegun, AreMarksAlong, AreMarksReached};
+
+use mintc_paths::{ArcSequence, Rows, Worklist};
+use mintc_timing::TimingArc;
+use std::alloc::AllocError;
+
+/// The marks of 256 elements, a bit for each.
+#[derive(Clone, Copy)]
+pub struct Marks {
+    pub words: [u64; 4],
+}
+
+/// The marks where no path leads.
+pub const NO_MARKS: Marks = Marks { words: [0; 4] };
+
+/// The mark of a lane, 1 where it is set.
+pub fn mark_of(marks: &Marks, lane: usize) -> u64
+    requires { lane < 256 }
+    ensures { result ≡ mark_in marks.now lane }
+{
+    (marks.words[lane / 64] >> (lane % 64)) & 1
+}
+
+/// Sets the mark of a lane in a row.
+fn set(marks: &mut [Marks], row: usize, lane: usize)
+    requires row { row < length marks.old }
+    requires lane { lane < 256 }
+    ensures others { (other : ℕ) → other ≢ row → marks_at marks.new other ≡ marks_at marks.old other }
+    ensures lanes { (other : ℕ) → other ≢ lane → mark_in (marks_at marks.new row) other ≡ mark_in (marks_at marks.old row) other }
+    ensures own { mark_in (marks_at marks.new row) lane ≡ 1 }
+{
+    let at = &mut marks[row];
+    at.words[lane / 64] |= 1 << (lane % 64);
+}
+
+/// Takes away the marks in the rows that were reached.
+fn wipe(marks: &mut [Marks], reached: &mut [bool])
+    requires marked { AreMarksReached marks.old reached.old }
+    ensures none { (row : ℕ) → row < length marks.new → marks_at marks.new row ≡ NO_MARKS }
+    ensures marked { AreMarksReached marks.new reached.new }
+    ensures off { (row : ℕ) → slice_index_or reached.new row false ≡ false }
+{
+    for row in 0..marks.len() {
+        if reached[row] {
+            marks[row] = NO_MARKS;
+            reached[row] = false;
+        }
+    }
+}
+
+/// Sets the marks of so many elements, each at its own output, and no others.
+fn begin(
+    marks: &mut [Marks],
+    reached: &mut [bool],
+    awake: &mut Worklist,
+    course: &ArcSequence,
+    first: u32,
+    lanes: usize,
+)
+    requires lanes { lanes ≤ 256 }
+    requires outputs { 2 * (first + lanes) ≤ length marks.old }
+    requires rows { AreRows (length marks.old) course.now.rows }
+    requires leaving { AreLeaving course.now.along.items (length marks.old) course.now.leaving }
+    requires marked { AreMarksReached marks.old reached.old }
+    requires ready { IsReady (length course.now.along.items) awake.old }
+    ensures begun { AreMarksBegun (length marks.old) course.now.rows.of_bits.items first lanes marks.new }
+    ensures marked { AreMarksReached marks.new reached.new }
+    ensures awake { IsAwake course.now.along.items 0 reached.new awake.new }
+{
+    wipe(marks, reached);
+    for lane in 0..lanes {
+        let row = course.rows.of_bits[2 * (first as usize + lane) + 1];
+        set(marks, row as usize, lane);
+        awake.reach(reached, course, row);
+    }
+}
+
+/// The marks that are set in one of two rows.
+#[tactic(auto, using(std::proofs::lemmas::Nat::Bits::bit_at_or))]
+fn joined(a: &Marks, b: &Marks) -> Marks
+    ensures { (lane : ℕ) → lane < 256 → mark_in result lane ≡ max (mark_in a.now lane) (mark_in b.now lane) }
+{
+    Marks {
+        words: [
+            a.words[0] | b.words[0],
+            a.words[1] | b.words[1],
+            a.words[2] | b.words[2],
+            a.words[3] | b.words[3],
+        ],
+    }
+}
+
+/// Sets in the row that the arc enters what is set in the row that it leaves, if that is reached.
+fn carry(
+    marks: &mut [Marks],
+    reached: &mut [bool],
+    awake: &mut Worklist,
+    course: &ArcSequence,
+    arc: TimingArc,
+)
+    requires from { arc.from < length marks.old }
+    requires to { arc.to < length marks.old }
+    requires marked { AreMarksReached marks.old reached.old }
+    requires leaving { AreLeaving course.now.along.items (length marks.old) course.now.leaving }
+    requires ready { IsReady (length course.now.along.items) awake.old }
+    ensures marked { AreMarksReached marks.new reached.new }
+    ensures awake { (place : ℕ) → IsAwake course.now.along.items place reached.old awake.old
+        → IsAwake course.now.along.items place reached.new awake.new }
+    ensures others { (row : ℕ) → row ≢ arc.to → marks_at marks.new row ≡ marks_at marks.old row }
+    ensures joined { (lane : ℕ) → lane < 256
+        → mark_in (marks_at marks.new arc.to) lane ≡ max (mark_in (marks_at marks.old arc.to) lane) (mark_in (marks_at marks.old arc.from) lane) }
+{
+    if reached[arc.from as usize] {
+        awake.reach(reached, course, arc.to);
+        let to = arc.to as usize;
+        marks[to] = joined(&marks[to], &marks[arc.from as usize]);
+    }
+}
+
+/// Makes the marks those of the listed paths, and of the empty ones, from so many elements. A row without marks isn't
+/// marked as reached. Only the arcs that leave rows that are reached are looked at.
+pub fn mark_all(
+    marks: &mut [Marks],
+    reached: &mut [bool],
+    awake: &mut Worklist,
+    course: &ArcSequence,
+    first: u32,
+    lanes: usize,
+)
+    ghost of: { Ordered }
+    requires course { IsCourseOf (length marks.old) of course.now }
+    requires lanes { lanes ≤ 256 }
+    requires elements { first + lanes ≤ length of.design.elements }
+    requires marked { AreMarksReached marks.old reached.old }
+    requires ready { IsReady (length course.now.along.items) awake.old }
+    ensures marked { AreMarksReached marks.new reached.new }
+    ensures ready { IsReady (length course.now.along.items) awake.new }
+    ensures along { AreMarksAlong (length marks.old) of.design.arcs of.order (length of.order) course.now.rows.of_bits.items first lanes marks.new }
+{
+    begin(marks, reached, awake, course, first, lanes);
+    let mut place = awake.places.next(0);
+    while place < course.along.len() {
+        awake.places.remove(place);
+        let arc = course.along[place];
+        carry(marks, reached, awake, course, arc);
+        place = awake.places.next(place + 1);
+    }
+}
+
+/// The marks at the inputs of the elements.
+pub fn gather(ends: &mut [Marks], marks: &[Marks], rows: &Rows)
+    requires inputs { 2 * length ends.old ≤ length marks.now }
+    requires rows { AreRows (length marks.now) rows.now }
+    ensures { (to : ℕ) → to < length ends.new → marks_at ends.new to ≡ marks_at marks.now (row_of rows.now.of_bits.items (input_of to)) }
+{
+    for to in 0..ends.len() {
+        ends[to] = marks[rows.of_bits[2 * to] as usize];
+    }
+}
+
+/// Lists the elements whose inputs are reached, in ascending order.
+pub fn list_reached(
+    listed: &mut Vec<u32>,
+    reached: &[bool],
+    rows: &Rows,
+    elements: u32,
+) -> Result<(), AllocError>
+    requires limit { elements ≤ MOST_ELEMENTS }
+    requires inputs { 2 * elements ≤ length reached.now }
+    requires rows { AreRows (length reached.now) rows.now }
+    ensures { OnOk result ((marks : List Marks) → AreMarksReached marks reached.now
+        → AreListed (λ to. marks_at marks (row_of rows.now.of_bits.items (input_of to)) ≡ NO_MARKS) elements listed.new.items) }
+{
+    listed.clear();
+    for to in 0..elements {
+        let row = rows.of_bits[2 * to as usize];
+        if reached[row as usize] {
+            listed.push(to)?;
+        }
+    }
+    Ok(())
+}

@@ -1,0 +1,20 @@
+-- The sums of paths to a bit, from up to eight elements at a time.
+use Rattle.std.specs.Prelude.{◌≡◌, ◌<◌, ℕ, None, List, [], slice_index_or}
+use Rattle.mintc_lanes.specs.Lanes.{lane_at, AreWithin}
+use Rattle.mintc_paths_sums.specs.declared.sums.Sums.{Sums}
+
+-- the sums at a bit; a bit past the end has none
+abbrev pub no_sums : Sums
+no_sums = record { greatest = []; least = [] }
+
+abbrev pub sums_at : List Sums → ℕ → Sums
+sums_at sums bit = slice_index_or sums bit no_sums
+
+-- No sum at a bit is above so many femtoseconds.
+pub record IsBounded (most : ℕ) (sums : Sums) : Type 0 where
+  pub greatest : AreWithin most sums.greatest
+  pub least : AreWithin most sums.least
+
+-- A lane with no greatest sum has no least one.
+abbrev pub IsAlike : Sums → Type 0
+IsAlike sums = (lane : ℕ) → lane < 8 → lane_at sums.greatest lane ≡ None → lane_at sums.least lane ≡ None

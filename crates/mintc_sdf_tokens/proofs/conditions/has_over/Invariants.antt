@@ -1,0 +1,7 @@
+use Rattle.std.proofs.Common.{◌≡◌, drop}
+use Rattle.mintc_sdf_tokens.specs.Conditions.{has_over}
+use Rattle.mintc_sdf_tokens.proofs.conditions.has_over.Given as goal
+
+-- none so far
+abbrev pub invariant-loop-at : goal.invariant-loop-at
+invariant-loop-at l = has_over l.layers ≡ has_over (drop l.at l.layers)

@@ -1,0 +1,71 @@
+-- The items that tokens write: words, strings, and lists of items in parentheses. Every construct of a delay text is such a
+-- list.
+use Rattle.std.specs.Prelude.{ℕ, zero, suc, Bool, true, false, List, [], ◌∷◌, ◌++◌, length}
+use Rattle.mintc_sdf_tokens.specs.Tokens.{Token, opening, closing, word, string, bad}
+
+-- Nothing; or a word, a string, or a list of items, and more items.
+pub data Items : Type 0 where
+  none : Items
+  leaf : List ℕ → Items → Items
+  quoted : List ℕ → Items → Items
+  list : Items → Items → Items
+
+-- how items are written
+unfoldable pub spell : Items → List Token
+spell none = []
+spell (leaf w is) = word w ∷ spell is
+spell (quoted s is) = string s ∷ spell is
+spell (list inner is) = opening ∷ spell inner ++ closing ∷ spell is
+
+abbrev pub is_none : Items → Bool
+is_none none = true
+is_none _ = false
+
+-- how many items
+abbrev pub count : Items → ℕ
+count none = 0
+count (leaf w is) = suc (count is)
+count (quoted s is) = suc (count is)
+count (list inner is) = suc (count is)
+
+-- The items that stand whole at the front of tokens, and the tokens behind them: none, or those from the first on that no
+-- whole item begins with.
+pub record Front : Type 0 where
+  pub items : Items
+  pub after : List Token
+
+abbrev pub nothing : List Token → Front
+nothing ts = record { items = none; after = ts }
+
+abbrev pub with_leaf : List ℕ → Front → Front
+with_leaf w f = record { items = leaf w f.items; after = f.after }
+
+abbrev pub with_quoted : List ℕ → Front → Front
+with_quoted s f = record { items = quoted s f.items; after = f.after }
+
+abbrev pub with_list : Items → Front → Front
+with_list inner f = record { items = list inner f.items; after = f.after }
+
+-- Behind an opening parenthesis: a list, if what follows its items closes it.
+abbrev pub nest : (List Token → Front) → List Token → Items → List Token → Front
+nest go ts inner (closing ∷ rest) = with_list inner (go rest)
+nest go ts inner _ = nothing (opening ∷ ts)
+
+-- The number bounds the turns; as many as there are tokens are enough.
+unfoldable pub fronts : ℕ → List Token → Front
+fronts zero ts = nothing ts
+fronts (suc n) [] = nothing []
+fronts (suc n) (word w ∷ ts) = with_leaf w (fronts n ts)
+fronts (suc n) (string s ∷ ts) = with_quoted s (fronts n ts)
+fronts (suc n) (opening ∷ ts) = nest (fronts n) ts (fronts n ts).items (fronts n ts).after
+fronts (suc n) (closing ∷ ts) = nothing (closing ∷ ts)
+fronts (suc n) (bad ∷ ts) = nothing (bad ∷ ts)
+
+abbrev pub front : List Token → Front
+front ts = fronts (length ts) ts
+
+abbrev pub items : List Token → Items
+items ts = (front ts).items
+
+abbrev pub after : List Token → List Token
+after ts = (front ts).after

@@ -1,6 +1,0 @@
-use Rattle.std.proofs.Common.{◌≡◌, ◌+◌, false, drop}
-use Rattle.mintc_sdflex.specs.Tokens.{word_size}
-use Rattle.mintc_sdflex.proofs.bytes.word_size.Given as goal
-
-abbrev pub invariant-loop-at : goal.invariant-loop-at
-invariant-loop-at l = word_size false l.bytes ≡ l.at + word_size l.kept (drop l.at l.bytes)

@@ -1,7 +1,0 @@
-use Rattle.std.proofs.Common.{◌≡◌, map, take}
-use Rattle.mintc_corners.specs.Joint.{undelayed}
-use Rattle.mintc_search_tests.proofs.corners.alike.same_arcs.Given as goal
-
--- those so far are the same
-abbrev pub invariant-loop-index : goal.invariant-loop-index
-invariant-loop-index l = map undelayed (take l.index l.second) ≡ map undelayed (take l.index l.first)

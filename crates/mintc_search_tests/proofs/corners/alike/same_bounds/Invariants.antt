@@ -1,6 +1,0 @@
-use Rattle.std.proofs.Common.{◌≡◌, take}
-use Rattle.mintc_search_tests.proofs.corners.alike.same_bounds.Given as goal
-
--- those so far are the same
-abbrev pub invariant-loop-index : goal.invariant-loop-index
-invariant-loop-index l = take l.index l.second ≡ take l.index l.first

@@ -1,4 +1,0 @@
-use Rattle.mintc_search_tests.proofs.ratio.find.Given as goal
-
-abbrev pub ghosts-searched : goal.ghosts-searched
-ghosts-searched a = record { name = a.blank.name; parts = a.blank.parts }

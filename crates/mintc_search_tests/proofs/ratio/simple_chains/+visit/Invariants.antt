@@ -1,4 +1,0 @@
-use Rattle.mintc_search_tests.proofs.ratio.simple_chains.+visit.Given as goal
-
-abbrev pub decreases-visit : goal.decreases-visit
-decreases-visit l = l.left

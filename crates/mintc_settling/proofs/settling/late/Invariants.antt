@@ -1,4 +1,0 @@
-use Rattle.mintc_settling.proofs.settling.late.Given as goal
-
-abbrev pub ghosts-settle : goal.ghosts-settle
-ghosts-settle a = record { name = a.blank.name; parts = a.blank.parts }

@@ -1,0 +1,6 @@
+use Rattle.mintc_slack.specs.Gaps.{AreShorter}
+use Rattle.mintc_slack.proofs.nearest.leave.Given as goal
+
+-- the distances so far
+abbrev pub invariant-loop-place : goal.invariant-loop-place
+invariant-loop-place l = AreShorter l.gaps l.fn.distances.items l.distances.items

@@ -1,4 +1,0 @@
-mod RangeLaws
-mod GatherLaws
-mod DelayLaws
-mod GroupLaws

@@ -1,6 +1,0 @@
--- The cells and the modules of a netlist, as the code has them.
-use Rattle.mintc_hierarchy.specs.Sources.{Source, source_of}
-use Rattle.mintc_targets.specs.declared.tables.Source as table
-
-abbrev pub source_in : table.Source → Source
-source_in s = source_of s.cells.now s.modules.now

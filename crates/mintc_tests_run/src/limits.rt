@@ -1,0 +1,176 @@
+//! Tables at the limits and one past them.
+use super::files::{PAIR_CELLS, PAIR_CLOCK};
+use super::harness::{is_answered, push_text, run_on, shelf_of};
+use super::rows::{CHECK, PASS};
+use mintc_command::Status;
+use mintc_tests_designs::{TWO_LATCHES, TWO_SCHEDULE};
+use mintc_text::OutOfMemory;
+use std::alloc::{AllocError, Global};
+use std::process::Abort;
+use std::test::Fail;
+
+/// The rows after those of the two latches, for so many elements that are as the first one.
+fn more_elements(alloc: Global, count: usize) -> Result<String, AllocError> {
+    let mut more = String::new(alloc);
+    for _ in 2..count {
+        more.push_str("element a 1 10 - 10 10 0\n")?;
+    }
+    more.push_str("inner 0\n")?;
+    Ok(more)
+}
+
+/// The two latches, with so many elements in their count.
+fn counted(alloc: Global, count: usize) -> Result<String, AllocError> {
+    let row = format!(in alloc; "elements {count}\n")?;
+    TWO_LATCHES.replacen(alloc, "elements 2\n", &row, 1)
+}
+
+/// The two latches, and so many more elements that are as the first one.
+fn many_elements(alloc: Global, count: usize) -> Result<String, AllocError> {
+    let more = more_elements(alloc, count)?;
+    counted(alloc, count)?.replacen(alloc, "inner 0\n", &more, 1)
+}
+
+/// The table in place of TAB1 is checked with this answer.
+fn is_checked(
+    rt: &impl Abort,
+    alloc: Global,
+    table: &str,
+    status: Status,
+    answer: &str,
+) -> Result<(), OutOfMemory> {
+    let mut shelf = shelf_of(alloc, &[("TAB1", table), ("SCH1", TWO_SCHEDULE)], &[])?;
+    let wanted = (status, answer.as_bytes());
+    is_answered(rt, alloc, &mut shelf, CHECK, None, wanted);
+    Ok(())
+}
+
+/// The pass of that table.
+fn many_passes(alloc: Global, count: usize) -> Result<String, AllocError> {
+    let mut pass = String::from_str(alloc, PASS)?;
+    for _ in 2..count {
+        pass.push_str("element a late 0/1 early 0/1\n")?;
+    }
+    Ok(pass)
+}
+
+// Row element-limit.
+#[test]
+fn as_many_elements_as_there_may_be(rt: HostRuntime) -> Result<(), Fail> {
+    let alloc = rt.alloc();
+    let pass = many_passes(alloc, 2_000)?;
+    let table = many_elements(alloc, 2_000)?;
+    is_checked(&rt, alloc, table.as_str(), Status::Done, pass.as_str())?;
+    Ok(())
+}
+
+/// Adds so many bounds, and the end.
+fn push_bounds(alloc: Global, text: &mut String, bounds: usize) -> Result<(), AllocError> {
+    push_text(text, format!(in alloc; "bounds {bounds}\n"))?;
+    for _ in 0..bounds {
+        text.push_str("bound o o 0 0\n")?;
+    }
+    text.push_str("end\n")
+}
+
+/// A table with nothing in it but so many phases and bounds.
+fn empty_table(alloc: Global, phases: usize, bounds: usize) -> Result<String, AllocError> {
+    let mut text = format!(in alloc; "table 1\nphases {phases}\n")?;
+    for _ in 0..phases {
+        text.push_str("phase p\n")?;
+    }
+    text.push_str("elements 0\ninner 0\narcs 0\n")?;
+    push_bounds(alloc, &mut text, bounds)?;
+    Ok(text)
+}
+
+// An element too many.
+#[test]
+fn an_element_too_many(rt: HostRuntime) -> Result<(), Fail> {
+    let table = many_elements(rt.alloc(), 2_001)?;
+    let answer = "refused 17 elements 2001\n";
+    is_checked(&rt, rt.alloc(), &table, Status::Refused, answer)?;
+    Ok(())
+}
+
+// A phase and a bound too many; and as many phases and bounds as there may be.
+#[test]
+fn one_past_the_limits(rt: HostRuntime) -> Result<(), Fail> {
+    for (phases, bounds, answer) in &[
+        (9, 64, "refused 17 phases 9\n"),
+        (8, 65, "refused 17 bounds 65\n"),
+        (8, 64, "refused 19 8 2\n"),
+    ] {
+        let table = empty_table(rt.alloc(), *phases, *bounds)?;
+        is_checked(&rt, rt.alloc(), &table, Status::Refused, answer)?;
+    }
+    Ok(())
+}
+
+/// A netlist of so many flops, none of which is fed by another.
+fn many_flops(alloc: Global, count: usize) -> Result<String, AllocError> {
+    let mut text = String::from_str(alloc, "module m(c1, c2); input c1, c2; wire p;")?;
+    for number in 0..count {
+        push_text(
+            &mut text,
+            format!(in alloc; " FF f{number} (.D(p), .C(c1));"),
+        )?;
+    }
+    text.push_str(" endmodule\n")?;
+    Ok(text)
+}
+
+/// What is answered for two corners of a netlist, the second with these delays.
+fn answered(alloc: Global, netlist: &str, second: &str) -> Result<(Status, Vec<u8>), OutOfMemory> {
+    let files = [
+        ("many.v", netlist),
+        ("pair.cells", PAIR_CELLS),
+        ("pair.clock", PAIR_CLOCK),
+        ("no.sdf", "(DELAYFILE)\n"),
+        ("cut.sdf", "(DELAYFILE"),
+    ];
+    let words = format!(in alloc; "corners many.v pair.cells pair.clock no.sdf {second}")?;
+    run_on(alloc, &files, words.as_str())
+}
+
+/// Two corners of a netlist, the second with these delays, are answered with this status and front.
+fn are_answered(
+    rt: &impl Abort,
+    alloc: Global,
+    netlist: &str,
+    second: &str,
+    status: Status,
+    front: &str,
+) -> Result<(), OutOfMemory> {
+    let (found, taken) = answered(alloc, netlist, second)?;
+    assert!(rt;
+        found == status && taken.as_slice().starts_with(front.as_bytes()),
+        "{front}"
+    );
+    Ok(())
+}
+
+// Two corners have as many elements together as a design may have, or two more; but a corner that is refused comes before.
+#[test]
+fn corners_at_the_limit_of_elements(rt: HostRuntime) -> Result<(), Fail> {
+    let alloc = rt.alloc();
+    for (count, second, status, front) in &[
+        (1_000, "no.sdf", Status::Done, "corners 1\nleast\n"),
+        (
+            1_001,
+            "no.sdf",
+            Status::Refused,
+            "refused 17 elements 2002\n",
+        ),
+        (
+            1_001,
+            "cut.sdf",
+            Status::Refused,
+            "refused 22 2\nrefused 1 delays 1\n",
+        ),
+    ] {
+        let netlist = many_flops(alloc, *count)?;
+        are_answered(&rt, alloc, &netlist, second, *status, front)?;
+    }
+    Ok(())
+}

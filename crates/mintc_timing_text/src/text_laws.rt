@@ -1,0 +1,25 @@
+//! Laws of the texts of schedules and tables.
+ghost use Rattle.mintc_timing_text.specs.TextLaws.{HaveOneSchedule, HaveNoScheduleFault, HaveOneScheduleFault, HaveOneDesign, HaveNoTableFault, HaveOneTableFault, HaveOneScheduleText, HaveOneTableText};
+
+/// A text is that of at most one schedule; where it is that of one, no line is at fault; and at most one line is.
+#[tactic(auto, using(crate::proofs::SharedScheduleLaws::schedule_texts))]
+pub fn schedule_texts_are_plain()
+    ensures value { HaveOneSchedule }
+    ensures no_fault { HaveNoScheduleFault }
+    ensures fault { HaveOneScheduleFault }
+{}
+
+/// A text is that of at most one design; where it is that of one, no line is at fault; and at most one line is.
+#[tactic(auto, using(crate::proofs::TablePlain::table_texts))]
+pub fn table_texts_are_plain()
+    ensures value { HaveOneDesign }
+    ensures no_fault { HaveNoTableFault }
+    ensures fault { HaveOneTableFault }
+{}
+
+/// A schedule has one text, and a design one with a given first line, which is its version.
+#[tactic(auto, using(crate::proofs::TableSpelling::one_texts))]
+pub fn texts_are_canonical()
+    ensures schedule { HaveOneScheduleText }
+    ensures table { HaveOneTableText }
+{}

@@ -1,5 +1,0 @@
-pub mod SharedSizeLaws
-mod RaisedLaws
-mod RoomLaws
-mod WalkedLaws
-mod GapLaws

@@ -1,6 +1,0 @@
-use Rattle.mintc_walker.specs.Gaps.{AreShorter}
-use Rattle.mintc_walker.proofs.nearest.leave.Given as goal
-
--- the distances so far
-abbrev pub invariant-loop-place : goal.invariant-loop-place
-invariant-loop-place l = AreShorter l.gaps l.fn.distances.items l.distances.items

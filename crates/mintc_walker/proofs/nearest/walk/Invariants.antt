@@ -1,6 +1,0 @@
-use Rattle.mintc_walker.specs.Gaps.{AreShorter}
-use Rattle.mintc_walker.proofs.nearest.walk.Given as goal
-
--- the distances so far
-abbrev pub invariant-loop-step : goal.invariant-loop-step
-invariant-loop-step l = AreShorter l.gaps l.fn.distances.items l.distances.items
