@@ -14,7 +14,7 @@ use std::alloc::Global;
 
 /// A status and the text that goes with it.
 #[derive(Drop)]
-pub struct Answer {
+pub(crate) struct Answer {
     pub status: Status,
     pub text: Bytes,
 }
@@ -70,7 +70,7 @@ fn short_answer(alloc: Global, text: &[u8]) -> Result<Answer, OutOfMemory>
 }
 
 /// The answer to a text, of which no more than one byte over the most that it may have need be there.
-pub fn answer_to(alloc: Global, text: &[u8]) -> Result<Answer, OutOfMemory>
+pub(crate) fn answer_to(alloc: Global, text: &[u8]) -> Result<Answer, OutOfMemory>
     ensures value { IfOk result (λ answer. IsConverted text.now answer.status answer.text) }
     ensures status { IfOk result (λ answer. IsOfText answer.status) }
 {

@@ -282,7 +282,7 @@ fn named_tables(alloc: Global, cells: &Cells) -> Result<Table, OutOfMemory>
 }
 
 /// The text of the document of some cells.
-fn printed(alloc: Global, document: &Table, cells: &Cells) -> Result<Vec<u8>, OutOfMemory>
+fn document_text(alloc: Global, document: &Table, cells: &Cells) -> Result<Vec<u8>, OutOfMemory>
     requires document { table_view document.now ≡ document_of cells.now }
     requires kept { AreOrdered cells.now }
     ensures { IfOk result (λ text. AreCells text.items cells.now) }
@@ -300,5 +300,5 @@ pub fn toml_form(alloc: Global, cells: &Cells) -> Result<Vec<u8>, OutOfMemory>
     let named = named_tables(alloc, cells)?;
     let mut document = Table::new(alloc);
     put(alloc, &mut document, "cell", Value::Table(named))?;
-    printed(alloc, &document, cells)
+    document_text(alloc, &document, cells)
 }

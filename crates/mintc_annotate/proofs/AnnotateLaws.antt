@@ -34,13 +34,13 @@ use Rattle.mintc_timing.specs.Design.{Design}
 use Rattle.mintc_timing.specs.Limits.{over_limit, quantities, limit_of, HasParts}
 use Rattle.mintc_annotate_resolve.specs.Pins.{leaf_at, leaf_cell, no_leaf, all_leaves, inner_name, is_storage, leaf_path, dotted, input_count, output_numbers}
 use Rattle.mintc_annotate_delays.specs.Ranges.{look}
-use Rattle.mintc_annotate_resolve.specs.Speaking.{Matter, said, range_of, first_refusal, join_into, path_on, arcs_from, dq_of, cq_of, setup_of, hold_of, width_of}
+use Rattle.mintc_annotate_resolve.specs.Resolution.{Target, said, range_of, first_refusal, join_into, path_on, arcs_from, dq_of, cq_of, setup_of, hold_of, width_of}
 use Rattle.mintc_annotate.specs.ClockPorts.{has_ports, first_false, IsPortRefusal}
 use Rattle.mintc_annotate.specs.Phases.{storage, phase_spots, IsUntraced, IsPhaseOf}
 use Rattle.mintc_annotate.specs.declared.gathering.Gathered.{Gathered}
 use Rattle.mintc_annotate.specs.Counts.{arc_count, leaf_arc_count}
-use Rattle.mintc_annotate.specs.Gathered.{AreGathered, IsSpoken, design_of_gathered}
-use Rattle.mintc_annotate.specs.Made.{RangeOf, bits_of, element_of, arc_of, no_delay, inner_bit, join_arc, gate_arc, leaf_arcs, number_in, input_arcs, output_arcs, arcs_with, design_with, IsMade, IsAnnotated, IsAnnotateRefusal, no_port, speaks_of_nothing, no_phase}
+use Rattle.mintc_annotate.specs.Gathered.{AreGathered, IsResolved, design_of_gathered}
+use Rattle.mintc_annotate.specs.Made.{RangeOf, bits_of, element_of, arc_of, no_delay, inner_bit, join_arc, gate_arc, leaf_arcs, number_in, input_arcs, output_arcs, arcs_with, design_with, IsMade, IsAnnotated, IsAnnotateRefusal, no_port, annotates_nothing, no_phase}
 use Rattle.mintc_annotate.proofs.TraceLaws.{stored}
 use Rattle.mintc_annotate.proofs.ElementLimits.{KeepsHold}
 use Rattle.mintc_annotate.proofs.PartLimits.{elements_count, made_has_parts}
@@ -50,19 +50,19 @@ pub stops_port : (h : Hierarchy) (cells : CellTable) (clock : clock_type.Clock) 
 stops_port h cells clock delays (stop.Refused r) port = no_port port
 stops_port h cells clock delays stop.OutOfMemory port = tt
 
-pub stops_speaking : (h : Hierarchy) (cells : CellTable) (clock : clock_type.Clock) (delays : List Delay) (s : Stop) → first_false (has_ports h clock) ≡ None → StopsAt (λ r. first_refusal h cells delays ≡ Some r) s → StopsAt (IsAnnotateRefusal h cells clock delays) s
-stops_speaking h cells clock delays (stop.Refused r) ports speaks = speaks_of_nothing ports speaks
-stops_speaking h cells clock delays stop.OutOfMemory ports speaks = tt
+pub stops_resolving : (h : Hierarchy) (cells : CellTable) (clock : clock_type.Clock) (delays : List Delay) (s : Stop) → first_false (has_ports h clock) ≡ None → StopsAt (λ r. first_refusal h cells delays ≡ Some r) s → StopsAt (IsAnnotateRefusal h cells clock delays) s
+stops_resolving h cells clock delays (stop.Refused r) ports annotates = annotates_nothing ports annotates
+stops_resolving h cells clock delays stop.OutOfMemory ports annotates = tt
 
 phase_refusal : (h : Hierarchy) (cells : CellTable) (clock : clock_type.Clock) (delays : List Delay) (r : Refusal) → first_false (has_ports h clock) ≡ None → first_refusal h cells delays ≡ None → IsUntraced h cells (phase_spots h clock) r →
     IsAnnotateRefusal h cells clock delays r
-phase_refusal h cells clock delays (refusal.NoPhase e) ports speaks untraced = no_phase ports speaks e refl untraced
-phase_refusal h cells clock delays _ ports speaks untraced = absurd untraced
+phase_refusal h cells clock delays (refusal.NoPhase e) ports annotates untraced = no_phase ports annotates e refl untraced
+phase_refusal h cells clock delays _ ports annotates untraced = absurd untraced
 
 pub stops_phase : (h : Hierarchy) (cells : CellTable) (clock : clock_type.Clock) (delays : List Delay) (s : Stop) → first_false (has_ports h clock) ≡ None → first_refusal h cells delays ≡ None → StopsAt (IsUntraced h cells (phase_spots h clock)) s →
     StopsAt (IsAnnotateRefusal h cells clock delays) s
-stops_phase h cells clock delays (stop.Refused r) ports speaks untraced = phase_refusal h cells clock delays r ports speaks untraced
-stops_phase h cells clock delays stop.OutOfMemory ports speaks untraced = tt
+stops_phase h cells clock delays (stop.Refused r) ports annotates untraced = phase_refusal h cells clock delays r ports annotates untraced
+stops_phase h cells clock delays stop.OutOfMemory ports annotates untraced = tt
 
 -- ---- how many
 product : {X : Type 0} (f : ℕ → ℕ → X) (ins outs : List ℕ) → length (flat_map (λ i. map (f i) outs) ins) ≡ length ins * length outs
@@ -140,23 +140,23 @@ flat_same : {X Y : Type 0} (f g : X → List Y) (xs : List X) → ((x : X) → f
 flat_same f g [] same = refl
 flat_same f g (x ∷ xs) same = ap (λ l. l ++ flat_map f xs) (same x) ∙ ap (λ l. g x ++ l) (flat_same f g xs same)
 
-element_same : (r q : RangeOf) (name : List ℕ) (l phase : ℕ) (cell : Cell) → ((m : Matter) → r m ≡ q m) → element_of r name l phase cell ≡ element_of q name l phase cell
+element_same : (r q : RangeOf) (name : List ℕ) (l phase : ℕ) (cell : Cell) → ((m : Target) → r m ≡ q m) → element_of r name l phase cell ≡ element_of q name l phase cell
 element_same r q name l phase (Latch a b c d e f g i j k m n o p) same = rw (same (setup_of l), same (hold_of l), same (width_of l), same (dq_of l), same (cq_of l)) refl
 element_same r q name l phase (Flop a b c d e f g i j k m) same = rw (same (setup_of l), same (hold_of l), same (width_of l), same (dq_of l)) refl
 element_same r q name l phase _ same = refl
 
-outputs_same : (r q : RangeOf) (n e : ℕ) (xs : List (Listed × ℕ)) → ((m : Matter) → r m ≡ q m) → output_arcs r n e xs ≡ output_arcs q n e xs
+outputs_same : (r q : RangeOf) (n e : ℕ) (xs : List (Listed × ℕ)) → ((m : Target) → r m ≡ q m) → output_arcs r n e xs ≡ output_arcs q n e xs
 outputs_same r q n e [] same = refl
 outputs_same r q n e (x ∷ xs) same = rw (same (arcs_from x.1), outputs_same r q n (e + 1) xs same) refl
 
-leaf_same : (h : Hierarchy) (cells : CellTable) (r q : RangeOf) (n l : ℕ) (cell : Cell) → ((m : Matter) → r m ≡ q m) → leaf_arcs h cells r n l cell ≡ leaf_arcs h cells q n l cell
+leaf_same : (h : Hierarchy) (cells : CellTable) (r q : RangeOf) (n l : ℕ) (cell : Cell) → ((m : Target) → r m ≡ q m) → leaf_arcs h cells r n l cell ≡ leaf_arcs h cells q n l cell
 leaf_same h cells r q n l (Gate ins outs a b) same =
     flat_same (λ i. map (gate_arc h r n l (a, b) i) (range_with_len (length ins) (length outs))) (λ i. map (gate_arc h q n l (a, b) i) (range_with_len (length ins) (length outs))) (range_with_len 0 (length ins)) (λ i.
     map_same (gate_arc h r n l (a, b) i) (gate_arc h q n l (a, b) i) (range_with_len (length ins) (length outs)) (λ o.
     ap (λ x. arc_of (inner_bit n ((leaf_at h l).first_pin + i)) (inner_bit n ((leaf_at h l).first_pin + o)) (unwrap_or x (a, b))) (same (path_on l i o))))
 leaf_same h cells r q n l _ same = refl
 
-arcs_same : (h : Hierarchy) (cells : CellTable) (r q : RangeOf) (ins outs : List (Listed × ℕ)) → ((m : Matter) → r m ≡ q m) → arcs_with h cells r ins outs ≡ arcs_with h cells q ins outs
+arcs_same : (h : Hierarchy) (cells : CellTable) (r q : RangeOf) (ins outs : List (Listed × ℕ)) → ((m : Target) → r m ≡ q m) → arcs_with h cells r ins outs ≡ arcs_with h cells q ins outs
 arcs_same h cells r q ins outs same =
     let s : ℕ = length (storage h cells) in
     let n : ℕ = s + length ins + length outs in
@@ -164,7 +164,7 @@ arcs_same h cells r q ins outs same =
     let leaves = flat_same (λ l. leaf_arcs h cells r n l (leaf_cell h cells l)) (λ l. leaf_arcs h cells q n l (leaf_cell h cells l)) (all_leaves h) (λ l. leaf_same h cells r q n l (leaf_cell h cells l) same) in
     rw (joins, leaves, outputs_same r q n (s + length ins) outs same) refl
 
-pub design_same : (h : Hierarchy) (cells : CellTable) (clock : clock_type.Clock) (r q : RangeOf) (phases : List ℕ) → ((m : Matter) → r m ≡ q m) → design_with h cells clock r phases ≡ design_with h cells clock q phases
+pub design_same : (h : Hierarchy) (cells : CellTable) (clock : clock_type.Clock) (r q : RangeOf) (phases : List ℕ) → ((m : Target) → r m ≡ q m) → design_with h cells clock r phases ≡ design_with h cells clock q phases
 design_same h cells clock r q phases same =
     let stored_ones = map_same (λ (x : ℕ × ℕ). element_of r (dotted (leaf_path h x.0)) x.0 x.1 (leaf_cell h cells x.0)) (λ (x : ℕ × ℕ). element_of q (dotted (leaf_path h x.0)) x.0 x.1 (leaf_cell h cells x.0)) (zip (storage h cells) phases)
     (λ x. element_same r q (dotted (leaf_path h x.0)) x.0 x.1 (leaf_cell h cells x.0) same) in
@@ -216,9 +216,9 @@ module _ (h : Hierarchy) (cells : CellTable) (clock : clock_type.Clock) (g : Gat
   pub few_gathered : limit_of (design_of_gathered h cells clock g) ≡ None → length g.phases + length (bits_of h false clock.inputs) + length (bits_of h true clock.outputs) ≤ MOST_ELEMENTS
   few_gathered none = few_elements (length h.inner) (length clock.phases) _ (length h.joins + leaf_arc_count h cells + length (bits_of h false clock.inputs) + length (bits_of h true clock.outputs)) (length clock.bounds) (sym (limit_counts h cells clock (look g.ranges) g.phases as_stored) ∙ none)
 
-  pub made_of : (delays : List Delay) → IsSpoken h cells delays g → IsMade h cells clock delays (design_of_gathered h cells clock g)
-  made_of delays spoken =
-      record { ports = are.ports; speaks = spoken.speaks; phases = g.phases; traced = are.traced; made = design_same h cells clock (look g.ranges) (range_of (said h cells delays)) g.phases spoken.ranges }
+  pub made_of : (delays : List Delay) → IsResolved h cells delays g → IsMade h cells clock delays (design_of_gathered h cells clock g)
+  made_of delays resolved =
+      record { ports = are.ports; annotates = resolved.annotates; phases = g.phases; traced = are.traced; made = design_same h cells clock (look g.ranges) (range_of (said h cells delays)) g.phases resolved.ranges }
 
 pub parts_of : (h : Hierarchy) (cells : CellTable) (clock : clock_type.Clock) (delays : List Delay) (design : Design) → IsFlattened cells h → AreKept cells → KeepsLimits clock → All IsWithin delays → IsMade h cells clock delays design → HasParts design
 parts_of h cells clock delays design shape kept keeps sound made =

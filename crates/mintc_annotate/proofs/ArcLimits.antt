@@ -9,7 +9,7 @@ use Rattle.mintc_clock.specs.declared.clock.Listed.{Listed}
 use Rattle.mintc_timing.specs.Limits.{IsArc}
 use Rattle.mintc_timing.specs.Paths.{input_of, output_of}
 use Rattle.mintc_annotate_resolve.specs.Pins.{input_count, output_count}
-use Rattle.mintc_annotate_resolve.specs.Speaking.{Said, range_of, join_into, arcs_from}
+use Rattle.mintc_annotate_resolve.specs.Resolution.{Said, range_of, join_into, arcs_from}
 use Rattle.mintc_annotate.specs.Made.{arc_of, no_delay, inner_bit, join_arc, input_arcs, output_arcs}
 use Rattle.mintc_annotate_resolve.proofs.SharedRangeLimits.{AreSaid, range_in}
 use Rattle.mintc_annotate.proofs.ElementLimits.{AreDelays, or_in}

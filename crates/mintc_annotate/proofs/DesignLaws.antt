@@ -14,8 +14,8 @@ use Rattle.mintc_flatten_hierarchy.specs.Shape.{CellTable}
 use Rattle.mintc_annotate_resolve.specs.Pins.{leaf_cell}
 use Rattle.mintc_annotate.specs.ClockPorts.{has_ports, first_false, IsPortRefusal}
 use Rattle.mintc_annotate.specs.Phases.{storage, drives, EndsAt, first_at, phase_spots, IsPhaseOf, IsFirstUntraced}
-use Rattle.mintc_annotate.specs.Made.{design_made, IsMade, IsAnnotated, IsAnnotateRefusal, no_port, speaks_of_nothing, no_phase, too_many}
-use Rattle.mintc_annotate_resolve.specs.Speaking.{first_refusal}
+use Rattle.mintc_annotate.specs.Made.{design_made, IsMade, IsAnnotated, IsAnnotateRefusal, no_port, annotates_nothing, no_phase, too_many}
+use Rattle.mintc_annotate_resolve.specs.Resolution.{first_refusal}
 use Rattle.mintc_annotate.specs.Laws.{DesignsAreDetermined, DesignsAreNotRefused, AnnotateRefusalsAreDetermined}
 use Rattle.mintc_annotate.proofs.TraceLaws.{one_start, one_end}
 
@@ -62,8 +62,8 @@ no_port_refusal tests _ none h = h
 
 refused_or_made : (h : Hierarchy) (cells : CellTable) (clock : Clock) (delays : List Delay) (design : Design) (refused : Refusal) → IsAnnotated h cells clock delays design → IsAnnotateRefusal h cells clock delays refused → ⊥
 refused_or_made h cells clock delays design refused a (no_port port) = no_port_refusal (has_ports h clock) refused a.whole.ports port
-refused_or_made h cells clock delays design refused a (speaks_of_nothing ports speaks) = none_or (first_refusal h cells delays) refused a.whole.speaks speaks
-refused_or_made h cells clock delays design refused a (no_phase ports speaks e same untraced) = untraced_or_made h cells clock delays design e a.whole untraced
+refused_or_made h cells clock delays design refused a (annotates_nothing ports annotates) = none_or (first_refusal h cells delays) refused a.whole.annotates annotates
+refused_or_made h cells clock delays design refused a (no_phase ports annotates e same untraced) = untraced_or_made h cells clock delays design e a.whole untraced
 refused_or_made h cells clock delays design refused a (too_many other made over) =
     none_or (limit_of other) refused (subst (λ (d : Design). limit_of d ≡ None) (one_made h cells clock delays design other a.whole made) a.within) over
 
@@ -93,21 +93,21 @@ one_port tests _ other a b = absurd a
 
 one_refusal : (h : Hierarchy) (cells : CellTable) (clock : Clock) (delays : List Delay) (refused other : Refusal) → IsAnnotateRefusal h cells clock delays refused → IsAnnotateRefusal h cells clock delays other → refused ≡ other
 one_refusal h cells clock delays refused other (no_port a) (no_port b) = one_port (has_ports h clock) refused other a b
-one_refusal h cells clock delays refused other (no_port a) (speaks_of_nothing ports b) = absurd (no_port_refusal (has_ports h clock) refused ports a)
-one_refusal h cells clock delays refused other (no_port a) (no_phase ports speaks e same b) = absurd (no_port_refusal (has_ports h clock) refused ports a)
+one_refusal h cells clock delays refused other (no_port a) (annotates_nothing ports b) = absurd (no_port_refusal (has_ports h clock) refused ports a)
+one_refusal h cells clock delays refused other (no_port a) (no_phase ports annotates e same b) = absurd (no_port_refusal (has_ports h clock) refused ports a)
 one_refusal h cells clock delays refused other (no_port a) (too_many design made over) = absurd (no_port_refusal (has_ports h clock) refused made.ports a)
-one_refusal h cells clock delays refused other (speaks_of_nothing ports a) (no_port b) = absurd (no_port_refusal (has_ports h clock) other ports b)
-one_refusal h cells clock delays refused other (speaks_of_nothing ports a) (speaks_of_nothing others b) = one_of (first_refusal h cells delays) refused other a b
-one_refusal h cells clock delays refused other (speaks_of_nothing ports a) (no_phase others speaks e same b) = absurd (none_or (first_refusal h cells delays) refused speaks a)
-one_refusal h cells clock delays refused other (speaks_of_nothing ports a) (too_many design made over) = absurd (none_or (first_refusal h cells delays) refused made.speaks a)
-one_refusal h cells clock delays refused other (no_phase ports speaks e same a) (no_port b) = absurd (no_port_refusal (has_ports h clock) other ports b)
-one_refusal h cells clock delays refused other (no_phase ports speaks e same a) (speaks_of_nothing others b) = absurd (none_or (first_refusal h cells delays) other speaks b)
-one_refusal h cells clock delays refused other (no_phase ports speaks e same a) (no_phase others speaks_too f same_too b) =
+one_refusal h cells clock delays refused other (annotates_nothing ports a) (no_port b) = absurd (no_port_refusal (has_ports h clock) other ports b)
+one_refusal h cells clock delays refused other (annotates_nothing ports a) (annotates_nothing others b) = one_of (first_refusal h cells delays) refused other a b
+one_refusal h cells clock delays refused other (annotates_nothing ports a) (no_phase others annotates e same b) = absurd (none_or (first_refusal h cells delays) refused annotates a)
+one_refusal h cells clock delays refused other (annotates_nothing ports a) (too_many design made over) = absurd (none_or (first_refusal h cells delays) refused made.annotates a)
+one_refusal h cells clock delays refused other (no_phase ports annotates e same a) (no_port b) = absurd (no_port_refusal (has_ports h clock) other ports b)
+one_refusal h cells clock delays refused other (no_phase ports annotates e same a) (annotates_nothing others b) = absurd (none_or (first_refusal h cells delays) other annotates b)
+one_refusal h cells clock delays refused other (no_phase ports annotates e same a) (no_phase others annotates_too f same_too b) =
     same ∙ ap refusal.NoPhase (one_untraced h cells (phase_spots h clock) e f a b) ∙ sym same_too
-one_refusal h cells clock delays refused other (no_phase ports speaks e same a) (too_many design made over) = absurd (untraced_or_made h cells clock delays design e made a)
+one_refusal h cells clock delays refused other (no_phase ports annotates e same a) (too_many design made over) = absurd (untraced_or_made h cells clock delays design e made a)
 one_refusal h cells clock delays refused other (too_many design made over) (no_port b) = absurd (no_port_refusal (has_ports h clock) other made.ports b)
-one_refusal h cells clock delays refused other (too_many design made over) (speaks_of_nothing others b) = absurd (none_or (first_refusal h cells delays) other made.speaks b)
-one_refusal h cells clock delays refused other (too_many design made over) (no_phase others speaks e same b) = absurd (untraced_or_made h cells clock delays design e made b)
+one_refusal h cells clock delays refused other (too_many design made over) (annotates_nothing others b) = absurd (none_or (first_refusal h cells delays) other made.annotates b)
+one_refusal h cells clock delays refused other (too_many design made over) (no_phase others annotates e same b) = absurd (untraced_or_made h cells clock delays design e made b)
 one_refusal h cells clock delays refused other (too_many design made over) (too_many design_too made_too over_too) =
     one_of (limit_of design) refused other over (ap limit_of (one_made h cells clock delays design design_too made made_too) ∙ over_too)
 

@@ -22,7 +22,7 @@ use Rattle.mintc_flatten_hierarchy.specs.Shape.{CellTable}
 use Rattle.mintc_annotate_resolve.specs.Pins.{leaf_cell, leaf_path, dotted, all_names, is_storage}
 use Rattle.mintc_annotate.specs.ClockPorts.{listed_in}
 use Rattle.mintc_annotate.specs.Phases.{storage, first_at, same_spot, IsPhaseOf}
-use Rattle.mintc_annotate_resolve.specs.Speaking.{Said, range_of}
+use Rattle.mintc_annotate_resolve.specs.Resolution.{Said, range_of}
 use Rattle.mintc_annotate.specs.Made.{element_of, port_element, bits_of, elements_of}
 use Rattle.mintc_annotate_resolve.proofs.SharedRangeLimits.{AreSaid}
 use Rattle.mintc_annotate.proofs.ElementLimits.{margin_is, delay_is, order_is, KeepsHold, storage_in}

@@ -9,8 +9,8 @@ use Rattle.mintc_cells.specs.Rules.{is_cell}
 use Rattle.mintc_toml.specs.Rules.{is_delay, is_margin}
 use Rattle.mintc_timing.specs.Limits.{IsElement, IsDelay, IsGap, IsPhase}
 use Rattle.mintc_annotate_resolve.specs.Pins.{is_storage}
-use Rattle.mintc_annotate_resolve.specs.Speaking.{Said, range_of, dq_of, cq_of, setup_of, hold_of, width_of}
-use Rattle.mintc_annotate.specs.Made.{first_range, borrowed, greatest_or, element_of}
+use Rattle.mintc_annotate_resolve.specs.Resolution.{Said, range_of, dq_of, cq_of, setup_of, hold_of, width_of}
+use Rattle.mintc_annotate.specs.Made.{first_range, unless_own_cq, greatest_or, element_of}
 use Rattle.mintc_annotate_resolve.proofs.SharedRangeLimits.{AreSaid, range_in}
 
 pub margin_is : (z : ℤ) → is_margin z ≡ true → IsGap z
@@ -32,7 +32,7 @@ dq_said ss l r are e = let i = range_in ss (dq_of l) r are e in (i.low, i.high, 
 cq_said : (ss : List Said) (l : ℕ) (r : ℤ × ℤ) → AreSaid ss → range_of ss (cq_of l) ≡ Some r → AreDelays r
 cq_said ss l r are e = let i = range_in ss (cq_of l) r are e in (i.low, i.high, i.ordered)
 
-borrowed_in : (has_cq : Bool) (o : Option (ℤ × ℤ)) (r : ℤ × ℤ) → ((q : ℤ × ℤ) → o ≡ Some q → AreDelays q) → borrowed has_cq o ≡ Some r → AreDelays r
+borrowed_in : (has_cq : Bool) (o : Option (ℤ × ℤ)) (r : ℤ × ℤ) → ((q : ℤ × ℤ) → o ≡ Some q → AreDelays q) → unless_own_cq has_cq o ≡ Some r → AreDelays r
 borrowed_in true o r give e = absurd (cc)
 borrowed_in false o r give e = give r e
 
@@ -72,8 +72,8 @@ storage_in ss name l phase k (Latch pin_d pin_g high outputs ignored c_setup c_h
     let orders = and_parts _ _ parts.1 in
     let dq_default : AreDelays (dq_min, dq_max) = (delay_is dq_min dqs.0, delay_is dq_max dqs.1, order_is dq_min dq_max orders.0) in
     let cq_default : AreDelays (cq_min, cq_max) = (delay_is cq_min cqs.0, delay_is cq_max cqs.1, order_is cq_min cq_max orders.1) in
-    let dq = first_in (range_of ss (dq_of l)) (borrowed has_cq (range_of ss (cq_of l))) (dq_min, dq_max) (λ q e. dq_said ss l q are e) (λ q e. borrowed_in has_cq (range_of ss (cq_of l)) q (λ r f. cq_said ss l r are f) e) dq_default in
-    let cq = first_in (range_of ss (cq_of l)) (borrowed has_cq (range_of ss (dq_of l))) (cq_min, cq_max) (λ q e. cq_said ss l q are e) (λ q e. borrowed_in has_cq (range_of ss (dq_of l)) q (λ r f. dq_said ss l r are f) e) cq_default in
+    let dq = first_in (range_of ss (dq_of l)) (unless_own_cq has_cq (range_of ss (cq_of l))) (dq_min, dq_max) (λ q e. dq_said ss l q are e) (λ q e. borrowed_in has_cq (range_of ss (cq_of l)) q (λ r f. cq_said ss l r are f) e) dq_default in
+    let cq = first_in (range_of ss (cq_of l)) (unless_own_cq has_cq (range_of ss (dq_of l))) (cq_min, cq_max) (λ q e. cq_said ss l q are e) (λ q e. borrowed_in has_cq (range_of ss (dq_of l)) q (λ r f. dq_said ss l r are f) e) cq_default in
     grind (
       arith,
       is_phase,

@@ -9,7 +9,7 @@ use Rattle.mintc_annotate.specs.declared.searching.Drive.{Drive}
 use Rattle.mintc_annotate.specs.declared.searching.Spot.{Spot}
 use Rattle.mintc_annotate.specs.declared.searching.Jump.{Jump}
 use Rattle.mintc_annotate.specs.Phases.{driver_of, spot, turned, back, EndsAt}
-use Rattle.mintc_annotate.specs.Searches.{AreDrivers, AreJumps, stepped, onward, no_jump, first_jump, jumped, doubled_jump}
+use Rattle.mintc_annotate.specs.Searches.{AreDrivers, AreJumps, stepped, onward, no_jump, first_jump, spot_after, doubled_jump}
 use Rattle.mintc_annotate.proofs.SearchLaws.{After, never_ends, some_differs, found_in}
 
 -- some steps and then others
@@ -46,7 +46,7 @@ led_on ds (suc n) s d driven =
     led_if ds n s d (driver_of ds s.bit) refl driven (λ e is. led_on ds n (back e s) d (ap (λ (o : Option Drive). driver_of ds (onward ds n (stepped o s)).bit) (sym is) ∙ driven))
 
 -- ---- the ways of one step
-first_is : (o : Option Drive) (b : ℕ) (high : Bool) → stepped o (spot b high) ≡ jumped (first_jump b o) high
+first_is : (o : Option Drive) (b : ℕ) (high : Bool) → stepped o (spot b high) ≡ spot_after (first_jump b o) high
 first_is o b high = grind arith
 
 first_within : (count b : ℕ) (o : Option Drive) → ((d : Drive) → o ≡ Some d → d.from < count) → b < count → (first_jump b o).bit < count
@@ -62,7 +62,7 @@ first_are ds table drivers = record {
       first_within (length table) b (slice_index_or table b None) (λ d is. (found_in (λ e. (e.to < length table) × (e.from < length table)) ds b d drivers.within (sym (drivers.each b (omega (arith, less))) ∙ is)).1) (omega (arith, less))));
   each = λ b high less.
       ap (λ (o : Option Drive). stepped o (spot b high)) (sym (drivers.each b less)) ∙ first_is (slice_index_or table b None) b high
-      ∙ ap (λ (j : Jump). jumped j high) (sym (get_or-map-range_with_len (λ b. first_jump b (slice_index_or table b None)) 0 (length table) b b no_jump less (omega arith)));
+      ∙ ap (λ (j : Jump). spot_after j high) (sym (get_or-map-range_with_len (λ b. first_jump b (slice_index_or table b None)) 0 (length table) b b no_jump less (omega arith)));
 }
 
 -- one way and then another, at a level
@@ -81,12 +81,12 @@ doubled_are ds n count jumps are = record {
       let inside : one.bit < count = All-get_or (λ k. k.bit < count) jumps b no_jump here are.within in
       onward_more ds n n (spot b high) ∙ ap (onward ds n) (are.each b high less) ∙ are.each one.bit (turned one.turns high) inside
       ∙ turns_both one.turns (slice_index_or jumps one.bit no_jump).turns high (slice_index_or jumps one.bit no_jump).bit
-      ∙ ap (λ (j : Jump). jumped j high) (sym (get_or-map (doubled_jump jumps) jumps b no_jump no_jump here));
+      ∙ ap (λ (j : Jump). spot_after j high) (sym (get_or-map (doubled_jump jumps) jumps b no_jump no_jump here));
 }
 
 -- where the ways of so many steps lead, a search that ends is at its end
 pub ended : (ds : List Drive) (steps : ℕ) (table : List (Option Drive)) (jumps : List Jump) (start end : Spot) → AreDrivers ds (length table) table → AreJumps ds steps (length table) jumps → length table ≤ steps →
-    start.bit < length table → end ≡ jumped (slice_index_or jumps start.bit no_jump) start.high → slice_index_or table end.bit None ≡ None → (n : ℕ) × EndsAt ds n start end
+    start.bit < length table → end ≡ spot_after (slice_index_or jumps start.bit no_jump) start.high → slice_index_or table end.bit None ≡ None → (n : ℕ) × EndsAt ds n start end
 ended ds steps table jumps start end drivers are many within is none =
     let reached : onward ds steps start ≡ end = are.each start.bit start.high within ∙ sym is in
     let inside : end.bit < length table = subst (λ (s : Spot). s.bit < length table) (sym is) (All-get_or (λ k. k.bit < length table) jumps start.bit no_jump (omega (arith, within, are.size)) are.within) in
@@ -95,7 +95,7 @@ ended ds steps table jumps start end drivers are many within is none =
     (found.0, subst (λ (s : Spot). EndsAt ds found.0 start s) reached found.1)
 
 pub goes_round : (ds : List Drive) (steps : ℕ) (table : List (Option Drive)) (jumps : List Jump) (start end : Spot) (d : Drive) → AreDrivers ds (length table) table → AreJumps ds steps (length table) jumps → length table ≤ steps →
-    start.bit < length table → end ≡ jumped (slice_index_or jumps start.bit no_jump) start.high → slice_index_or table end.bit None ≡ Some d → (n : ℕ) (other : Spot) → EndsAt ds n start other → ⊥
+    start.bit < length table → end ≡ spot_after (slice_index_or jumps start.bit no_jump) start.high → slice_index_or table end.bit None ≡ Some d → (n : ℕ) (other : Spot) → EndsAt ds n start other → ⊥
 goes_round ds steps table jumps start end d drivers are many within is some =
     let reached : onward ds steps start ≡ end = are.each start.bit start.high within ∙ sym is in
     let inside : end.bit < length table = subst (λ (s : Spot). s.bit < length table) (sym is) (All-get_or (λ k. k.bit < length table) jumps start.bit no_jump (omega (arith, within, are.size)) are.within) in

@@ -26,7 +26,7 @@ use Rattle.mintc_timing.specs.Limits.{IsArc, IsElement, IsBound, HasParts}
 use Rattle.mintc_annotate_resolve.specs.Pins.{leaf_at, leaf_cell, no_leaf, all_leaves, all_names, input_count, output_count, input_numbers, output_numbers, pin_bit, inner_name, dotted, leaf_path, is_storage}
 use Rattle.mintc_annotate.specs.ClockPorts.{listed_in}
 use Rattle.mintc_annotate.specs.Phases.{storage, phase_spots, IsPhaseOf}
-use Rattle.mintc_annotate_resolve.specs.Speaking.{Said, said, range_of, path_on}
+use Rattle.mintc_annotate_resolve.specs.Resolution.{Said, said, range_of, path_on}
 use Rattle.mintc_annotate.specs.Made.{RangeOf, bits_of, no_delay, gate_arc, gate_arcs, storage_arcs, leaf_arcs, number_in, arcs_of, elements_of, element_of, port_element, IsMade}
 use Rattle.mintc_annotate_resolve.proofs.SharedRangeLimits.{AreSaid, range_in, all_said}
 use Rattle.mintc_annotate.proofs.ElementLimits.{AreDelays, delay_is, order_is, or_in, KeepsHold}

@@ -13,7 +13,7 @@ use Rattle.mintc_annotate.specs.declared.searching.Spot.{Spot}
 use Rattle.mintc_flatten_hierarchy.specs.Shape.{CellTable}
 use Rattle.mintc_annotate.specs.ClockPorts.{has_ports, first_false}
 use Rattle.mintc_annotate.specs.Phases.{spot, drive, drives, EndsAt, IsPhaseOf, AreTraced, IsFirstUntraced, phase_spots, first_at}
-use Rattle.mintc_annotate_resolve.specs.Speaking.{first_refusal}
+use Rattle.mintc_annotate_resolve.specs.Resolution.{first_refusal}
 use Rattle.mintc_annotate.specs.Made.{design_made, IsAnnotated}
 
 abbrev pub two : Hierarchy
@@ -59,8 +59,8 @@ abbrev pub tied_clock : clock_type.Clock
 tied_clock = record { top = None; phases = record { name = codes "p"; port = codes "c"; high = true } ∷ []; bounds = []; inputs = []; outputs = [] }
 
 -- ---- row worked-files-design: the design, with 2 elements, 29 inner bits and 27 arcs
-pub two_speaks : first_refusal two two_cells two_delays ≡ None
-two_speaks = refl
+pub two_annotates : first_refusal two two_cells two_delays ≡ None
+two_annotates = refl
 
 pub two_ports : first_false (has_ports two two_clock) ≡ None
 two_ports = refl
@@ -91,7 +91,7 @@ two_traced = (first_latch, (second_latch, tt))
 
 pub two_annotated : IsAnnotated two two_cells two_clock two_delays two_design
 two_annotated = record {
-  whole = record { ports = two_ports; speaks = two_speaks; phases = 1 ∷ 2 ∷ []; traced = two_traced; made = sym two_made };
+  whole = record { ports = two_ports; annotates = two_annotates; phases = 1 ∷ 2 ∷ []; traced = two_traced; made = sym two_made };
   within = two_within;
 }
 

@@ -8,7 +8,7 @@ use Rattle.mintc_clock.specs.declared.clock.Clock.{Clock}
 use Rattle.mintc_clock.specs.declared.clock.Listed.{Listed}
 use Rattle.mintc_annotate_resolve.specs.Pins.{all_names}
 use Rattle.mintc_annotate_delays.specs.Ranges.{look, AreRanges}
-use Rattle.mintc_annotate_resolve.specs.Speaking.{first_refusal}
+use Rattle.mintc_annotate_resolve.specs.Resolution.{first_refusal}
 use Rattle.mintc_timing.specs.Design.{Design}
 use Rattle.mintc_annotate.specs.declared.gathering.Gathered.{Gathered}
 use Rattle.mintc_annotate.specs.declared.listing.ListedBit.{ListedBit}
@@ -27,9 +27,9 @@ pub record AreGathered (h : Hierarchy) (cells : CellTable) (clock : Clock) (g : 
   pub inputs : g.inputs ≡ min (length (bits_of h false clock.inputs)) MOST_TOLD
   pub outputs : g.outputs ≡ min (length (bits_of h true clock.outputs)) MOST_TOLD
 
--- Each delay speaks of something that is there, and the ranges are those of all that they say.
-pub record IsSpoken (h : Hierarchy) (cells : CellTable) (delays : List Delay) (g : Gathered) : Type 0 where
-  pub speaks : first_refusal h cells delays ≡ None
+-- Each delay annotates something that is there, and the ranges are those of all that they say.
+pub record IsResolved (h : Hierarchy) (cells : CellTable) (delays : List Delay) (g : Gathered) : Type 0 where
+  pub annotates : first_refusal h cells delays ≡ None
   pub ranges : AreRanges h cells delays g.ranges
 
 -- the design that is made of it

@@ -20,11 +20,11 @@ use Rattle.mintc_flatten_hierarchy.specs.Shape.{CellTable}
 use Rattle.mintc_annotate_resolve.specs.Pins.{leaf_at, leaf_cell, all_leaves, input_numbers, output_numbers, pin_bit, leaf_path, dotted, all_names, is_storage}
 use Rattle.mintc_annotate.specs.ClockPorts.{listed_in, has_ports, first_false, IsPortRefusal}
 use Rattle.mintc_annotate.specs.Phases.{storage, phase_spots, AreTraced, IsFirstUntraced}
-use Rattle.mintc_annotate_resolve.specs.Speaking.{Matter, said, first_refusal, range_of, path_on, join_into, arcs_from, dq_of, cq_of, setup_of, hold_of, width_of}
+use Rattle.mintc_annotate_resolve.specs.Resolution.{Target, said, first_refusal, range_of, path_on, join_into, arcs_from, dq_of, cq_of, setup_of, hold_of, width_of}
 
--- what is the least and the greatest that is said of a matter, if anything is
+-- what is the least and the greatest that is said of a target, if anything is
 abbrev pub RangeOf : Type 0
-RangeOf = Matter → Option (ℤ × ℤ)
+RangeOf = Target → Option (ℤ × ℤ)
 
 -- ---- the numbers of an element
 -- the first that is there
@@ -32,11 +32,11 @@ abbrev pub first_range : Option (ℤ × ℤ) → Option (ℤ × ℤ) → ℤ × 
 first_range said other default = unwrap_or (option_or said other) default
 
 -- Of a latch whose cell has no delays of its own from the enable, each of the two ranges stands for the other where
--- nothing speaks of that.
-abbrev pub borrowed : Bool → Option (ℤ × ℤ) → Option (ℤ × ℤ)
-borrowed has_cq other = if has_cq then None else other
+-- nothing annotates it.
+abbrev pub unless_own_cq : Bool → Option (ℤ × ℤ) → Option (ℤ × ℤ)
+unless_own_cq has_cq other = if has_cq then None else other
 
--- the greatest number that speaks of it, else the default
+-- the greatest number that annotates it, else the default
 abbrev pub greatest_or : Option (ℤ × ℤ) → ℤ → ℤ
 greatest_or None default = default
 greatest_or (Some r) default = r.1
@@ -49,7 +49,7 @@ storage_element name phase flop setup hold has_hold dq cq width =
 abbrev pub element_of : RangeOf → List ℕ → ℕ → ℕ → Cell → Element
 element_of ranges name l phase (Latch pin_d pin_g high outputs ignored cell_setup cell_hold has_hold dq_min dq_max cq_min cq_max has_cq cell_width) =
     storage_element name phase false (greatest_or (ranges (setup_of l)) cell_setup) (greatest_or (ranges (hold_of l)) cell_hold) (is_some (ranges (hold_of l)) || has_hold)
-    (first_range (ranges (dq_of l)) (borrowed has_cq (ranges (cq_of l))) (dq_min, dq_max)) (first_range (ranges (cq_of l)) (borrowed has_cq (ranges (dq_of l))) (cq_min, cq_max))
+    (first_range (ranges (dq_of l)) (unless_own_cq has_cq (ranges (cq_of l))) (dq_min, dq_max)) (first_range (ranges (cq_of l)) (unless_own_cq has_cq (ranges (dq_of l))) (cq_min, cq_max))
     (greatest_or (ranges (width_of l)) cell_width)
 element_of ranges name l phase (Flop pin_d pin_clock rising outputs ignored cell_setup cell_hold has_hold cq_min cq_max cell_width) =
     storage_element name phase true (greatest_or (ranges (setup_of l)) cell_setup) (greatest_or (ranges (hold_of l)) cell_hold) (is_some (ranges (hold_of l)) || has_hold)
@@ -154,10 +154,10 @@ design_with h cells clock ranges phases = record {
 abbrev pub design_made : Hierarchy → CellTable → clock_type.Clock → List Delay → List ℕ → Design
 design_made h cells clock delays phases = design_with h cells clock (range_of (said h cells delays)) phases
 
--- All ports are there, each delay speaks of something that is there, and each latch and flop has its phase.
+-- All ports are there, each delay annotates something that is there, and each latch and flop has its phase.
 pub record IsMade (h : Hierarchy) (cells : CellTable) (clock : clock_type.Clock) (delays : List Delay) (design : Design) : Type 0 where
   pub ports : first_false (has_ports h clock) ≡ None
-  pub speaks : first_refusal h cells delays ≡ None
+  pub annotates : first_refusal h cells delays ≡ None
   pub phases : List ℕ
   pub traced : AreTraced h cells (phase_spots h clock) phases
   pub made : design ≡ design_made h cells clock delays phases
@@ -170,7 +170,7 @@ pub record IsAnnotated (h : Hierarchy) (cells : CellTable) (clock : clock_type.C
 -- What it refuses, in the order of a run.
 pub data IsAnnotateRefusal (h : Hierarchy) (cells : CellTable) (clock : clock_type.Clock) (delays : List Delay) (refused : Refusal) : Type 0 where
   no_port : IsPortRefusal (has_ports h clock) refused → IsAnnotateRefusal h cells clock delays refused
-  speaks_of_nothing : first_false (has_ports h clock) ≡ None → first_refusal h cells delays ≡ Some refused → IsAnnotateRefusal h cells clock delays refused
+  annotates_nothing : first_false (has_ports h clock) ≡ None → first_refusal h cells delays ≡ Some refused → IsAnnotateRefusal h cells clock delays refused
   no_phase : first_false (has_ports h clock) ≡ None → first_refusal h cells delays ≡ None → (e : ℕ) → refused ≡ refusal.NoPhase e → IsFirstUntraced h cells (phase_spots h clock) e →
       IsAnnotateRefusal h cells clock delays refused
   too_many : (design : Design) → IsMade h cells clock delays design → limit_of design ≡ Some refused → IsAnnotateRefusal h cells clock delays refused

@@ -50,8 +50,8 @@ first_jump b (Some d) = jump_to d.from d.inverts
 abbrev pub then_jump : Jump → Jump → Jump
 then_jump one other = jump_to other.bit (if one.turns then not other.turns else other.turns)
 
-abbrev pub jumped : Jump → Bool → Spot
-jumped j high = spot j.bit (turned j.turns high)
+abbrev pub spot_after : Jump → Bool → Spot
+spot_after j high = spot j.bit (turned j.turns high)
 
 -- a way, and from its end that of the end
 abbrev pub doubled_jump : List Jump → Jump → Jump
@@ -61,4 +61,4 @@ doubled_jump jumps j = then_jump j (slice_index_or jumps j.bit no_jump)
 pub record AreJumps (ds : List Drive) (n count : ℕ) (jumps : List Jump) : Type 0 where
   pub size : length jumps ≡ count
   pub within : All (λ j. j.bit < count) jumps
-  pub each : (b : ℕ) (high : Bool) → b < count → onward ds n (spot b high) ≡ jumped (slice_index_or jumps b no_jump) high
+  pub each : (b : ℕ) (high : Bool) → b < count → onward ds n (spot b high) ≡ spot_after (slice_index_or jumps b no_jump) high

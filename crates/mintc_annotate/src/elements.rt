@@ -6,7 +6,7 @@ ghost use Rattle.mintc_annotate_resolve.specs.Pins.{leaf_cell, leaf_path, dotted
 ghost use Rattle.mintc_annotate_delays.specs.Ranges.{look};
 ghost use Rattle.mintc_annotate.specs.Phases.{storage};
 ghost use Rattle.mintc_annotate.specs.Counts.{with_port, IsListedBit};
-ghost use Rattle.mintc_annotate.specs.Made.{first_range, borrowed, greatest_or, element_of, port_element, storage_elements, elements_at};
+ghost use Rattle.mintc_annotate.specs.Made.{first_range, unless_own_cq, greatest_or, element_of, port_element, storage_elements, elements_at};
 
 use crate::listing::ListedBit;
 use crate::naming::leaf_name;
@@ -37,8 +37,8 @@ fn first_range(
 }
 
 /// The range that stands for another, unless the cell has delays of its own from the enable.
-fn borrowed(has_cq: bool, other: Option<(i64, i64)>) -> Option<(i64, i64)>
-    ensures { result ≡ borrowed has_cq other }
+fn unless_own_cq(has_cq: bool, other: Option<(i64, i64)>) -> Option<(i64, i64)>
+    ensures { result ≡ unless_own_cq has_cq other }
 {
     if has_cq { None } else { other }
 }
@@ -72,12 +72,12 @@ fn element_of(ranges: &Ranges, name: Name, leaf: u32, phase: u32, cell: &Cell) -
         } => {
             let dq = first_range(
                 ranges.dq(leaf),
-                borrowed(*has_cq, ranges.cq(leaf)),
+                unless_own_cq(*has_cq, ranges.cq(leaf)),
                 (*dq_min, *dq_max),
             );
             let cq = first_range(
                 ranges.cq(leaf),
-                borrowed(*has_cq, ranges.dq(leaf)),
+                unless_own_cq(*has_cq, ranges.dq(leaf)),
                 (*cq_min, *cq_max),
             );
             Some(Element {

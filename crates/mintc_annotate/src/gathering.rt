@@ -2,7 +2,7 @@
 ghost use Rattle.std.specs.Prelude.{MatchResult};
 ghost use Rattle.mintc_text.specs.Stops.{StopsAt};
 ghost use Rattle.mintc_flatten_hierarchy.specs.Shape.{IsFlattened};
-ghost use Rattle.mintc_annotate.specs.Gathered.{AreGathered, IsSpoken};
+ghost use Rattle.mintc_annotate.specs.Gathered.{AreGathered, IsResolved};
 ghost use Rattle.mintc_annotate.specs.Made.{IsAnnotateRefusal};
 
 use crate::clocked::clock_ports;
@@ -37,7 +37,7 @@ pub(crate) fn gather(
     delays: &Delays,
 ) -> Result<Gathered, Stop>
     requires { IsFlattened cells.now hierarchy.now }
-    ensures { MatchResult result (λ g. AreGathered hierarchy.now cells.now clock.now g × IsSpoken hierarchy.now cells.now delays.now.items g)
+    ensures { MatchResult result (λ g. AreGathered hierarchy.now cells.now clock.now g × IsResolved hierarchy.now cells.now delays.now.items g)
         (StopsAt (IsAnnotateRefusal hierarchy.now cells.now clock.now delays.now.items)) }
 {
     let Ok(names) = inner_names(alloc, hierarchy) else {

@@ -50,7 +50,7 @@ fn port_bits<'a>(ports: &'a [TopPort], output: bool, listed: &Listed) -> &'a [u3
 }
 
 /// A count with more added, or `MOST_TOLD` where it is larger.
-fn capped(count: u64, more: usize) -> u64
+fn add_up_to_most(count: u64, more: usize) -> u64
     requires { count ≤ MOST_TOLD }
     ensures { result ≡ min (count + more) MOST_TOLD }
 {
@@ -82,7 +82,7 @@ pub(crate) fn count_bits(
                 entry: before + number as u32 + 1,
             }));
         }
-        total = capped(total, bits.len());
+        total = add_up_to_most(total, bits.len());
     }
     Ok(total)
 }

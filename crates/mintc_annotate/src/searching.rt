@@ -3,7 +3,7 @@ ghost use Rattle.std.specs.Prelude.{◌≡◌, ◌<◌, ◌≤◌, ◌^◌, ◌+
 ghost use Rattle.std.specs.List.{range_with_len};
 ghost use Rattle.mintc_text.specs.declared.limits.TheConstants.{MOST_INNER};
 ghost use Rattle.mintc_annotate.specs.Phases.{EndsAt};
-ghost use Rattle.mintc_annotate.specs.Searches.{AreDrivers, IsTable, AreJumps, first_jump, then_jump, doubled_jump, jumped};
+ghost use Rattle.mintc_annotate.specs.Searches.{AreDrivers, IsTable, AreJumps, first_jump, then_jump, doubled_jump, spot_after};
 ghost use Rattle.mintc_annotate.specs.declared.searching.Drive.{Drive};
 ghost use Rattle.mintc_annotate.specs.declared.searching.Spot.{Spot};
 
@@ -133,8 +133,8 @@ pub(crate) fn jumps(alloc: Global, table: &[Option<Drive>]) -> Result<Vec<Jump>,
 }
 
 /// Where a way back leads from a spot.
-fn jumped(jump: Jump, spot: Spot) -> Spot
-    ensures { result ≡ jumped jump spot.high }
+fn spot_after(jump: Jump, spot: Spot) -> Spot
+    ensures { result ≡ spot_after jump spot.high }
 {
     Spot {
         bit: jump.bit,
@@ -150,7 +150,7 @@ pub(crate) fn end_of(table: &[Option<Drive>], jumps: &[Jump], start: Spot) -> Op
     ensures { (ds : List Drive) → AreDrivers ds (length table.now) table.now → AreJumps ds MOST_INNER (length table.now) jumps.now →
         MatchOption result ((n : ℕ) (end : Spot) → EndsAt ds n start end → ⊥) (λ end. (n : ℕ) × EndsAt ds n start end) }
 {
-    let end = jumped(jumps[start.bit as usize], start);
+    let end = spot_after(jumps[start.bit as usize], start);
     match table[end.bit as usize] {
         None => Some(end),
         Some(_) => None,

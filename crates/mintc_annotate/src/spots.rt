@@ -6,7 +6,7 @@ ghost use Rattle.mintc_annotate.specs.ClockPorts.{has_phases_in, first_false, Is
 ghost use Rattle.mintc_annotate.specs.Phases.{spots_of};
 
 use crate::searching::Spot;
-use mintc_annotate_resolve::place_in;
+use mintc_annotate_resolve::port_bit_named;
 use mintc_clock::PhaseDef;
 use mintc_flatten_hierarchy::TopPort;
 use mintc_text::{Name, Refusal, Role, Stop};
@@ -17,7 +17,7 @@ fn phase_bit(names: &[Name], ports: &[TopPort], text: &[u8]) -> Option<u32>
     requires { AreInside (length names.now) ports.now }
     ensures { result ≡ if_input (place_in names.now ports.now text.now) }
 {
-    match place_in(names, ports, text) {
+    match port_bit_named(names, ports, text) {
         Some(place) => if place.output { None } else { Some(place.bit) },
         None => None,
     }

@@ -8,15 +8,15 @@ use Rattle.mintc_sdf.specs.declared.delays.Delay.{Delay}
 use Rattle.mintc_sdf.specs.declared.delays.Place.TheVariants.{Top}
 use Rattle.mintc_flatten_hierarchy.specs.declared.hierarchy.Hierarchy.{Hierarchy}
 use Rattle.mintc_flatten_hierarchy.specs.Shape.{CellTable}
-use Rattle.mintc_annotate_resolve.specs.Speaking.{spoken, of_instance, of_place, leaf_called, refusal_of, first_refusal, said, said_by}
+use Rattle.mintc_annotate_resolve.specs.Resolution.{resolved, of_instance, of_place, leaf_called, refusal_of, first_refusal, said, said_by}
 use Rattle.mintc_annotate_delays.specs.declared.ranges.Ranges.{Ranges}
 use Rattle.mintc_annotate_delays.specs.Ranges.{HasRanges}
 use Rattle.mintc_annotate_delays.specs.Gathered.{IsTakenIn}
 use Rattle.mintc_annotate_resolve.proofs.SharedInstanceLaws.{no_leaf_at_top}
 
 -- at the top
-pub top_spoken : (h : Hierarchy) (cells : CellTable) (d : Delay) → d.place ≡ Top → of_instance h cells [] d.subject (leaf_called h []) ≡ spoken h cells d
-top_spoken h cells d is = ap (of_instance h cells [] d.subject) (no_leaf_at_top h) ∙ ap (of_place h cells d) (sym is)
+pub top_resolved : (h : Hierarchy) (cells : CellTable) (d : Delay) → d.place ≡ Top → of_instance h cells [] d.subject (leaf_called h []) ≡ resolved h cells d
+top_resolved h cells d is = ap (of_instance h cells [] d.subject) (no_leaf_at_top h) ∙ ap (of_place h cells d) (sym is)
 
 -- ---- refusals
 or_assoc : (a b c : Option Refusal) → option_or a (option_or b c) ≡ option_or (option_or a b) c
@@ -26,10 +26,10 @@ refusal_append : (h : Hierarchy) (cells : CellTable) (xs ys : List Delay) → fi
 refusal_append h cells [] ys = refl
 refusal_append h cells (d ∷ xs) ys = rw (refusal_append h cells xs ys, or_assoc) refl
 
-pub unrefused_more : (h : Hierarchy) (cells : CellTable) (ds : List Delay) (k : ℕ) (d : Delay) → k < length ds → d ≡ get_or ds k d → first_refusal h cells (take k ds) ≡ None → refusal_of d.entry (spoken h cells d) ≡ None → first_refusal h cells (take (k + 1) ds) ≡ None
+pub unrefused_more : (h : Hierarchy) (cells : CellTable) (ds : List Delay) (k : ℕ) (d : Delay) → k < length ds → d ≡ get_or ds k d → first_refusal h cells (take k ds) ≡ None → refusal_of d.entry (resolved h cells d) ≡ None → first_refusal h cells (take (k + 1) ds) ≡ None
 unrefused_more h cells ds k d within is before here = rw (take_more ds k d within, ← is, refusal_append h cells (take k ds) (d ∷ []), before, here) refl
 
-pub refused_here : (h : Hierarchy) (cells : CellTable) (ds : List Delay) (k : ℕ) (d : Delay) (r : Refusal) → k < length ds → d ≡ get_or ds k d → first_refusal h cells (take k ds) ≡ None → refusal_of d.entry (spoken h cells d) ≡ Some r → first_refusal h cells ds ≡ Some r
+pub refused_here : (h : Hierarchy) (cells : CellTable) (ds : List Delay) (k : ℕ) (d : Delay) (r : Refusal) → k < length ds → d ≡ get_or ds k d → first_refusal h cells (take k ds) ≡ None → refusal_of d.entry (resolved h cells d) ≡ Some r → first_refusal h cells ds ≡ Some r
 refused_here h cells ds k d r within is before here =
     ap (first_refusal h cells) (sym (take-append-drop k ds) ∙ ap (λ (l : List Delay). take k ds ++ l) (drop_more ds k d within ∙ ap (λ (x : Delay). x ∷ drop (k + 1) ds) (sym is)))
     ∙ rw (refusal_append h cells (take k ds) (d ∷ drop (k + 1) ds), before, here) refl
@@ -39,6 +39,6 @@ said_more : (h : Hierarchy) (cells : CellTable) (ds : List Delay) (k : ℕ) (d :
 said_more h cells ds k d within is = rw (take_more ds k d within, ← is, flat_map-append, append-nil) refl
 
 pub ranges_more : (h : Hierarchy) (cells : CellTable) (ds : List Delay) (k : ℕ) (d : Delay) (old new : Ranges) → k < length ds → d ≡ get_or ds k d → HasRanges old (said h cells (take k ds)) →
-    IsTakenIn d.entry (spoken h cells d) d.least d.greatest old new → HasRanges new (said h cells (take (k + 1) ds))
+    IsTakenIn d.entry (resolved h cells d) d.least d.greatest old new → HasRanges new (said h cells (take (k + 1) ds))
 ranges_more h cells ds k d old new within is has taken =
     subst (HasRanges new) (sym (said_more h cells ds k d within is)) (taken.ranges (said h cells (take k ds)) has)

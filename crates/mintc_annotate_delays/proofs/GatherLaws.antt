@@ -8,14 +8,14 @@ use Rattle.mintc_text.specs.Stops.{StopsAt}
 use Rattle.mintc_sdf.specs.declared.delays.Subject.{Subject}
 use Rattle.mintc_flatten_hierarchy.specs.declared.hierarchy.Hierarchy.{Hierarchy}
 use Rattle.mintc_flatten_hierarchy.specs.Shape.{CellTable}
-use Rattle.mintc_annotate_resolve.specs.declared.matters.Matter.TheVariants.{PathOn}
-use Rattle.mintc_annotate_resolve.specs.declared.matters.Spoken.{Spoken as Answer}
-use Rattle.mintc_annotate_resolve.specs.declared.matters.Spoken.TheVariants as answer
+use Rattle.mintc_annotate_resolve.specs.declared.targets.Target.TheVariants.{PathOn}
+use Rattle.mintc_annotate_resolve.specs.declared.targets.Resolved.{Resolved as Answer}
+use Rattle.mintc_annotate_resolve.specs.declared.targets.Resolved.TheVariants as answer
 use Rattle.mintc_annotate_delays.specs.declared.ranges.Ranges.{Ranges}
-use Rattle.mintc_annotate_resolve.specs.Speaking.{Matter, Spoken, of, of_leaf, together, of_each, Said, refusal_of}
-use Rattle.mintc_annotate_resolve.specs.Matters.{AreThere}
+use Rattle.mintc_annotate_resolve.specs.Resolution.{Target, Resolved, of, of_leaf, together, of_each, Said, refusal_of}
+use Rattle.mintc_annotate_resolve.specs.Targets.{AreThere}
 use Rattle.mintc_annotate_delays.specs.Ranges.{HasRoom, HasRanges, IsWidened, IsSameRoom}
-use Rattle.mintc_annotate_delays.specs.Gathered.{told, HasPlaceOf, IsTakenIn}
+use Rattle.mintc_annotate_delays.specs.Gathered.{annotated, HasPlaceOf, IsTakenIn}
 use Rattle.mintc_annotate_delays.proofs.RangeLaws.{range_push}
 
 -- ---- places
@@ -25,10 +25,10 @@ has_place h r (answer.Of (Some _)) room there = omega arith
 has_place h r _ room there = tt
 
 -- ---- one delay
-pub taken_one : (entry : ℕ) (m : Matter) (least greatest : ℤ) (old new : Ranges) → IsWidened old new m least greatest → IsSameRoom old new → IsTakenIn entry (of (m ∷ [])) least greatest old new
+pub taken_one : (entry : ℕ) (m : Target) (least greatest : ℤ) (old new : Ranges) → IsWidened old new m least greatest → IsSameRoom old new → IsTakenIn entry (of (m ∷ [])) least greatest old new
 taken_one entry m least greatest old new widen room = record {
   unrefused = refl;
-  ranges = λ ss has k. rw (widen k, has k, range_push ss (record { matter = m; least = least; greatest = greatest }) k) refl;
+  ranges = λ ss has k. rw (widen k, has k, range_push ss (record { target = m; least = least; greatest = greatest }) k) refl;
   room = room;
 }
 
@@ -40,26 +40,26 @@ taken_nothing entry least greatest r = record {
 }
 
 -- one after another
-pub taken_both : (entry : ℕ) (a b : Spoken) (least greatest : ℤ) (old mid new : Ranges) → IsTakenIn entry a least greatest old mid → IsTakenIn entry b least greatest mid new → IsTakenIn entry (together a b) least greatest old new
+pub taken_both : (entry : ℕ) (a b : Resolved) (least greatest : ℤ) (old mid new : Ranges) → IsTakenIn entry a least greatest old mid → IsTakenIn entry b least greatest mid new → IsTakenIn entry (together a b) least greatest old new
 taken_both entry (of ms) (of ns) least greatest old mid new first second = record {
   unrefused = refl;
   ranges = λ ss has.
-      subst (HasRanges new) (append_assoc ss (told least greatest ms) (told least greatest ns) ∙ ap (λ (l : List Said). ss ++ l) (sym (map-append (λ (m : Matter). record { matter = m; least = least; greatest = greatest }) ms ns)))
-      (second.ranges (ss ++ told least greatest ms) (first.ranges ss has));
+      subst (HasRanges new) (append_assoc ss (annotated least greatest ms) (annotated least greatest ns) ∙ ap (λ (l : List Said). ss ++ l) (sym (map-append (λ (m : Target). record { target = m; least = least; greatest = greatest }) ms ns)))
+      (second.ranges (ss ++ annotated least greatest ms) (first.ranges ss has));
   room = λ bits leaves room. second.room bits leaves (first.room bits leaves room);
 }
 taken_both entry _ _ least greatest old mid new first second = absurd (cc (first.unrefused, second.unrefused))
 
 -- ---- leaf after leaf
-together_nil : (a : Spoken) → together a (of []) ≡ a
+together_nil : (a : Resolved) → together a (of []) ≡ a
 together_nil (of ms) = ap of (append-nil ms)
 together_nil _ = refl
 
-together_assoc : (a b c : Spoken) → together a (together b c) ≡ together (together a b) c
+together_assoc : (a b c : Resolved) → together a (together b c) ≡ together (together a b) c
 together_assoc (of ms) (of ns) (of ps) = ap of (sym (append_assoc ms ns ps))
 together_assoc _ _ _ = refl
 
-of_nil : (a : Spoken) → together (of []) a ≡ a
+of_nil : (a : Resolved) → together (of []) a ≡ a
 of_nil (of ms) = refl
 of_nil _ = refl
 
@@ -71,7 +71,7 @@ pub each_more : (h : Hierarchy) (cells : CellTable) (s : Subject) (ls : List ℕ
 each_more h cells s ls k d within = rw (take_more ls k d within, each_append h cells s (take k ls) (get_or ls k d ∷ []), together_nil) refl
 
 -- a refusal after a front that isn't refused
-refused_at : (entry : ℕ) (a b c : Spoken) (r : Refusal) → refusal_of entry a ≡ None → refusal_of entry b ≡ Some r → refusal_of entry (together a (together b c)) ≡ Some r
+refused_at : (entry : ℕ) (a b c : Resolved) (r : Refusal) → refusal_of entry a ≡ None → refusal_of entry b ≡ Some r → refusal_of entry (together a (together b c)) ≡ Some r
 refused_at entry (of ms) (of ns) c r front here = absurd (cc)
 refused_at entry (of ms) _ c r front here = here
 refused_at entry _ b c r front here = absurd (cc)

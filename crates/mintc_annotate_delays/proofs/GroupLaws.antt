@@ -17,10 +17,10 @@ use Rattle.mintc_sdf.specs.declared.delays.Subject.TheVariants as subject
 use Rattle.mintc_flatten_hierarchy.specs.declared.hierarchy.Hierarchy.{Hierarchy}
 use Rattle.mintc_flatten_hierarchy.specs.Shape.{CellTable, IsFlattened}
 use Rattle.mintc_annotate_resolve.specs.Pins.{leaf_at, no_leaf, all_leaves}
-use Rattle.mintc_annotate_resolve.specs.Speaking.{of, of_each, of_every, leaves_of}
+use Rattle.mintc_annotate_resolve.specs.Resolution.{of, of_each, of_every, leaves_of}
 use Rattle.mintc_annotate_delays.specs.Gathered.{leaves_with, IsGroupedIn}
 use Rattle.mintc_annotate_resolve.proofs.SharedFirstLaws.{number, position_missing}
-use Rattle.mintc_annotate_resolve.proofs.SharedSpeakingLaws.{IsNoWire}
+use Rattle.mintc_annotate_resolve.proofs.SharedResolutionLaws.{IsNoWire}
 
 -- ---- filters
 filter_same : (p q : ℕ → Bool) (xs : List ℕ) → ((k : ℕ) → k < length xs → p (get_or xs k 0) ≡ q (get_or xs k 0)) → filter p xs ≡ filter q xs

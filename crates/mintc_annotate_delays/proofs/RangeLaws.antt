@@ -2,7 +2,7 @@
 use Rattle.std.proofs.Common.{◌≡◌, ℤ, Bool, true, cond, List, [], ◌∷◌, ◌++◌, Option, Some, None, refl, ap, ◌∙◌, arith}
 use Rattle.std.proofs.lemmas.Int.{ints, int_min_is, int_max_is}
 use Rattle.std.specs.Int.{int_min, int_max}
-use Rattle.mintc_annotate_resolve.specs.Speaking.{Matter, Said, same_matter, widened, range_of}
+use Rattle.mintc_annotate_resolve.specs.Resolution.{Target, Said, same_target, widened, range_of}
 
 min_swap : (x y z : ℤ) → int_min x (int_min y z) ≡ int_min y (int_min x z)
 min_swap x y z = omega (arith, ints, int_min_is x (int_min y z), int_min_is y z, int_min_is y (int_min x z), int_min_is x z)
@@ -27,8 +27,8 @@ swap true true a b c d r = ap Some (widened_swap a b c d r)
 swap _ _ a b c d r = refl
 
 -- one more that is said
-pub range_push : (ss : List Said) (s : Said) (m : Matter) → range_of (ss ++ s ∷ []) m ≡ cond (same_matter s.matter m) (Some (widened s.least s.greatest (range_of ss m))) (range_of ss m)
+pub range_push : (ss : List Said) (s : Said) (m : Target) → range_of (ss ++ s ∷ []) m ≡ cond (same_target s.target m) (Some (widened s.least s.greatest (range_of ss m))) (range_of ss m)
 range_push [] s m = refl
 range_push (x ∷ ss) s m =
-    ap (λ r. cond (same_matter x.matter m) (Some (widened x.least x.greatest r)) r) (range_push ss s m)
-    ∙ swap (same_matter x.matter m) (same_matter s.matter m) x.least x.greatest s.least s.greatest (range_of ss m)
+    ap (λ r. cond (same_target x.target m) (Some (widened x.least x.greatest r)) r) (range_push ss s m)
+    ∙ swap (same_target x.target m) (same_target s.target m) x.least x.greatest s.least s.greatest (range_of ss m)

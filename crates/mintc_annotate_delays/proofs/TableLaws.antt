@@ -2,7 +2,7 @@
 use Rattle.std.proofs.Common.{◌≡◌, ℕ, ℤ, Bool, true, false, cond, ◌&&◌, nat_eq, Some, refl, ap, arith}
 use Rattle.std.proofs.lemmas.Bool.Decides.{nat_tests}
 use Rattle.std.specs.HashMap.{HashMap}
-use Rattle.mintc_annotate_resolve.specs.Speaking.{widened}
+use Rattle.mintc_annotate_resolve.specs.Resolution.{widened}
 use Rattle.mintc_annotate_delays.specs.Ranges.{same_key, path_at}
 
 same_by : (a b c d e f : ℕ) (x y z : Bool) → nat_eq a d ≡ x → nat_eq b e ≡ y → nat_eq c f ≡ z → (x && y) && z ≡ true → (a ≡ d) × (b ≡ e) × (c ≡ f)

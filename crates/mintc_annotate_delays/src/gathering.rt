@@ -1,20 +1,20 @@
-//! The ranges of all that delays speak of.
+//! The ranges of all that delays annotate.
 ghost use Rattle.std.specs.Prelude.{◌≡◌, ◌<◌, ℕ, [], length, slice_index_or, None, Some, IfOk, IfErr, OnOk, MatchResult};
 ghost use Rattle.mintc_text.specs.Stops.{StopsAt};
 ghost use Rattle.mintc_cells.specs.Entries.{AreOrdered};
 ghost use Rattle.mintc_flatten_hierarchy.specs.Shape.{IsFlattened};
 ghost use Rattle.mintc_annotate_resolve.specs.Pins.{all_names};
-ghost use Rattle.mintc_annotate_resolve.specs.Speaking.{of, first_refusal, refusal_of, of_each, of_every, of_instance, leaf_called, spoken};
-ghost use Rattle.mintc_annotate_resolve.specs.declared.matters.Spoken.TheVariants as answer;
-ghost use Rattle.mintc_annotate_resolve.specs.Matters.{matters_of, spoken_of};
+ghost use Rattle.mintc_annotate_resolve.specs.Resolution.{of, first_refusal, refusal_of, of_each, of_every, of_instance, leaf_called, resolved};
+ghost use Rattle.mintc_annotate_resolve.specs.declared.targets.Resolved.TheVariants as answer;
+ghost use Rattle.mintc_annotate_resolve.specs.Targets.{targets_of, resolved_of};
 ghost use Rattle.mintc_annotate_resolve.specs.Instances.{IsAt};
-ghost use Rattle.mintc_annotate_resolve.specs.Scenes.{IsScene};
+ghost use Rattle.mintc_annotate_resolve.specs.Lookups.{IsLookup};
 ghost use Rattle.mintc_annotate_delays.specs.Ranges.{HasRoom, HasRanges, AreRanges};
 ghost use Rattle.mintc_annotate_delays.specs.Gathered.{AreGrouped, IsGroupedIn, HasPlaceOf, IsTakenIn};
 
 use crate::ranges::Ranges;
 use mintc_annotate_resolve::{
-    Instance, Instances, Matter, Scene, Spoken, at_leaf, index_places, is_same_path,
+    Instance, Instances, Lookup, Resolved, Target, at_leaf, index_places, is_same_path,
 };
 use mintc_cells::Cells;
 use mintc_flatten_hierarchy::Hierarchy;
@@ -29,58 +29,68 @@ struct PathInstance<'a> {
     instance: Instance,
 }
 
-/// Takes in numbers of a matter, if there is one.
-fn apply_matter(
+/// Takes in numbers of a target, if there is one.
+fn apply_target(
     ranges: &mut Ranges,
-    told: Option<Matter>,
+    annotated: Option<Target>,
     least: i64,
     greatest: i64,
 ) -> Result<(), OutOfMemory>
-    requires { HasPlaceOf ranges.old (answer.Of told) }
-    ensures { OnOk result ((entry : ℕ) → IsTakenIn entry (of (matters_of told)) least greatest ranges.old ranges.new) }
+    requires { HasPlaceOf ranges.old (answer.Of annotated) }
+    ensures { OnOk result ((entry : ℕ) → IsTakenIn entry (of (targets_of annotated)) least greatest ranges.old ranges.new) }
 {
-    let Some(matter) = told else {
+    let Some(target) = annotated else {
         return Ok(());
     };
-    ranges.widen(matter, least, greatest)?;
+    ranges.widen(target, least, greatest)?;
     Ok(())
 }
 
-/// Takes in what a delay speaks of.
-fn apply_spoken(ranges: &mut Ranges, spoken: Spoken, delay: &Delay) -> Result<(), Stop>
-    requires { HasPlaceOf ranges.old spoken }
-    ensures ok { OnOk result (IsTakenIn delay.now.entry (spoken_of spoken) delay.now.least delay.now.greatest ranges.old ranges.new) }
-    ensures err { IfErr result (StopsAt (λ refused. refusal_of delay.now.entry (spoken_of spoken) ≡ Some refused)) }
+/// Takes in what a delay annotates.
+fn apply_resolved(ranges: &mut Ranges, resolved: Resolved, delay: &Delay) -> Result<(), Stop>
+    requires { HasPlaceOf ranges.old resolved }
+    ensures ok { OnOk result (IsTakenIn delay.now.entry (resolved_of resolved) delay.now.least delay.now.greatest ranges.old ranges.new) }
+    ensures err { IfErr result (StopsAt (λ refused. refusal_of delay.now.entry (resolved_of resolved) ≡ Some refused)) }
 {
-    match spoken {
-        Spoken::Of(told) => match apply_matter(ranges, told, delay.least, delay.greatest) {
+    match resolved {
+        Resolved::Of(annotated) => match apply_target(
+            ranges,
+            annotated,
+            delay.least,
+            delay.greatest,
+        ) {
             Ok(()) => Ok(()),
             Err(_) => Err(Stop::OutOfMemory),
         },
-        Spoken::NoInstance => Err(Stop::Refused(Refusal::NoInstance {
+        Resolved::NoInstance => Err(Stop::Refused(Refusal::NoInstance {
             role: Role::Delays,
             entry: delay.entry,
         })),
-        Spoken::NoArc => Err(Stop::Refused(Refusal::NoArc { entry: delay.entry })),
+        Resolved::NoArc => Err(Stop::Refused(Refusal::NoArc { entry: delay.entry })),
     }
 }
 
 /// Takes in a delay at some leaves.
 fn apply_at_leaves(
-    scene: &Scene<'_>,
+    lookup: &Lookup<'_>,
     ranges: &mut Ranges,
     leaves: &[u32],
     delay: &Delay,
 ) -> Result<(), Stop>
-    requires scene { IsScene scene.now }
-    requires room { HasRoom (length scene.now.hierarchy.now.inner) (length scene.now.hierarchy.now.leaves) ranges.old }
-    requires leaves { (k : ℕ) → k < length leaves.now → slice_index_or leaves.now k 0 < length scene.now.hierarchy.now.leaves }
-    ensures ok { OnOk result (IsTakenIn delay.now.entry (of_each scene.now.hierarchy.now scene.now.cells.now delay.now.subject leaves.now) delay.now.least delay.now.greatest ranges.old ranges.new) }
-    ensures err { IfErr result (StopsAt (λ refused. refusal_of delay.now.entry (of_each scene.now.hierarchy.now scene.now.cells.now delay.now.subject leaves.now) ≡ Some refused)) }
+    requires lookup { IsLookup lookup.now }
+    requires room { HasRoom (length lookup.now.hierarchy.now.inner) (length lookup.now.hierarchy.now.leaves) ranges.old }
+    requires leaves { (k : ℕ) → k < length leaves.now → slice_index_or leaves.now k 0 < length lookup.now.hierarchy.now.leaves }
+    ensures ok { OnOk result (IsTakenIn delay.now.entry (of_each lookup.now.hierarchy.now lookup.now.cells.now delay.now.subject leaves.now) delay.now.least delay.now.greatest ranges.old ranges.new) }
+    ensures err { IfErr result (StopsAt (λ refused. refusal_of delay.now.entry (of_each lookup.now.hierarchy.now lookup.now.cells.now delay.now.subject leaves.now) ≡ Some refused)) }
 {
     for number in 0..leaves.len() {
-        let spoken = at_leaf(scene.hierarchy, scene.cells, leaves[number], &delay.subject);
-        match apply_spoken(ranges, spoken, delay) {
+        let resolved = at_leaf(
+            lookup.hierarchy,
+            lookup.cells,
+            leaves[number],
+            &delay.subject,
+        );
+        match apply_resolved(ranges, resolved, delay) {
             Ok(()) => {}
             Err(stop) => return Err(stop),
         }
@@ -90,62 +100,62 @@ fn apply_at_leaves(
 
 /// The instance that a path names, which is often that of the delay before.
 fn instance_at<'a>(
-    scene: &Scene<'_>,
+    lookup: &Lookup<'_>,
     key: &mut Vec<u8>,
     last: PathInstance<'a>,
     path: &'a [Name],
 ) -> Result<PathInstance<'a>, OutOfMemory>
-    requires scene { IsScene scene.now }
-    requires last { IsAt scene.now.hierarchy.now last.path.now last.instance }
-    ensures { IfOk result (λ s. (s.path.now ≡ path.now) × IsAt scene.now.hierarchy.now path.now s.instance) }
+    requires lookup { IsLookup lookup.now }
+    requires last { IsAt lookup.now.hierarchy.now last.path.now last.instance }
+    ensures { IfOk result (λ s. (s.path.now ≡ path.now) × IsAt lookup.now.hierarchy.now path.now s.instance) }
 {
     if is_same_path(last.path, path) {
         return Ok(last);
     }
-    let instance = scene.instances.instance(key, path)?;
+    let instance = lookup.instances.instance(key, path)?;
     Ok(PathInstance { path, instance })
 }
 
 /// Takes in a delay at the instance of a path.
 fn apply_at_instance(
-    scene: &Scene<'_>,
+    lookup: &Lookup<'_>,
     ranges: &mut Ranges,
     key: &mut Vec<u8>,
     instance: Instance,
     path: &[Name],
     delay: &Delay,
 ) -> Result<(), Stop>
-    requires scene { IsScene scene.now }
-    requires room { HasRoom (length scene.now.hierarchy.now.inner) (length scene.now.hierarchy.now.leaves) ranges.old }
-    requires instance { IsAt scene.now.hierarchy.now path.now instance }
-    ensures ok { OnOk result (IsTakenIn delay.now.entry (of_instance scene.now.hierarchy.now scene.now.cells.now path.now delay.now.subject (leaf_called scene.now.hierarchy.now path.now)) delay.now.least delay.now.greatest ranges.old ranges.new) }
-    ensures err { IfErr result (StopsAt (λ refused. refusal_of delay.now.entry (of_instance scene.now.hierarchy.now scene.now.cells.now path.now delay.now.subject (leaf_called scene.now.hierarchy.now path.now)) ≡ Some refused)) }
+    requires lookup { IsLookup lookup.now }
+    requires room { HasRoom (length lookup.now.hierarchy.now.inner) (length lookup.now.hierarchy.now.leaves) ranges.old }
+    requires instance { IsAt lookup.now.hierarchy.now path.now instance }
+    ensures ok { OnOk result (IsTakenIn delay.now.entry (of_instance lookup.now.hierarchy.now lookup.now.cells.now path.now delay.now.subject (leaf_called lookup.now.hierarchy.now path.now)) delay.now.least delay.now.greatest ranges.old ranges.new) }
+    ensures err { IfErr result (StopsAt (λ refused. refusal_of delay.now.entry (of_instance lookup.now.hierarchy.now lookup.now.cells.now path.now delay.now.subject (leaf_called lookup.now.hierarchy.now path.now)) ≡ Some refused)) }
 {
-    let spoken = scene.at_instance(key, instance, path, &delay.subject)?;
-    apply_spoken(ranges, spoken, delay)
+    let resolved = lookup.at_instance(key, instance, path, &delay.subject)?;
+    apply_resolved(ranges, resolved, delay)
 }
 
 /// Takes in a delay at every leaf of its cell type.
 fn apply_at_cell_type(
-    scene: &Scene<'_>,
+    lookup: &Lookup<'_>,
     groups: &[Vec<u32>],
     ranges: &mut Ranges,
     delay: &Delay,
 ) -> Result<(), Stop>
-    requires scene { IsScene scene.now }
-    requires groups { AreGrouped scene.now.hierarchy.now (length scene.now.cells.now) groups.now }
-    requires cells { AreOrdered scene.now.cells.now }
-    requires room { HasRoom (length scene.now.hierarchy.now.inner) (length scene.now.hierarchy.now.leaves) ranges.old }
-    ensures ok { OnOk result (IsTakenIn delay.now.entry (of_every scene.now.hierarchy.now scene.now.cells.now delay.now.celltype delay.now.subject) delay.now.least delay.now.greatest ranges.old ranges.new) }
-    ensures err { IfErr result (StopsAt (λ refused. refusal_of delay.now.entry (of_every scene.now.hierarchy.now scene.now.cells.now delay.now.celltype delay.now.subject) ≡ Some refused)) }
+    requires lookup { IsLookup lookup.now }
+    requires groups { AreGrouped lookup.now.hierarchy.now (length lookup.now.cells.now) groups.now }
+    requires cells { AreOrdered lookup.now.cells.now }
+    requires room { HasRoom (length lookup.now.hierarchy.now.inner) (length lookup.now.hierarchy.now.leaves) ranges.old }
+    ensures ok { OnOk result (IsTakenIn delay.now.entry (of_every lookup.now.hierarchy.now lookup.now.cells.now delay.now.celltype delay.now.subject) delay.now.least delay.now.greatest ranges.old ranges.new) }
+    ensures err { IfErr result (StopsAt (λ refused. refusal_of delay.now.entry (of_every lookup.now.hierarchy.now lookup.now.cells.now delay.now.celltype delay.now.subject) ≡ Some refused)) }
 {
     match &delay.subject {
         Subject::Interconnect { .. } => Err(Stop::Refused(Refusal::NoInstance {
             role: Role::Delays,
             entry: delay.entry,
         })),
-        _ => match scene.cells.find(delay.celltype.bytes()) {
-            Some(cell) => apply_at_leaves(scene, ranges, &groups[cell as usize], delay),
+        _ => match lookup.cells.find(delay.celltype.bytes()) {
+            Some(cell) => apply_at_leaves(lookup, ranges, &groups[cell as usize], delay),
             None => Ok(()),
         },
     }
@@ -153,24 +163,24 @@ fn apply_at_cell_type(
 
 /// Takes in a delay; where the path of the next may begin.
 fn apply_delay<'a>(
-    scene: &Scene<'_>,
+    lookup: &Lookup<'_>,
     groups: &[Vec<u32>],
     ranges: &mut Ranges,
     key: &mut Vec<u8>,
     last: PathInstance<'a>,
     delay: &'a Delay,
 ) -> Result<PathInstance<'a>, Stop>
-    requires scene { IsScene scene.now }
-    requires groups { AreGrouped scene.now.hierarchy.now (length scene.now.cells.now) groups.now }
-    requires cells { AreOrdered scene.now.cells.now }
-    requires room { HasRoom (length scene.now.hierarchy.now.inner) (length scene.now.hierarchy.now.leaves) ranges.old }
-    requires last { IsAt scene.now.hierarchy.now last.path.now last.instance }
-    ensures ok { OnOk result (IsTakenIn delay.now.entry (spoken scene.now.hierarchy.now scene.now.cells.now delay.now) delay.now.least delay.now.greatest ranges.old ranges.new) }
-    ensures stands { IfOk result (λ s. IsAt scene.now.hierarchy.now s.path.now s.instance) }
-    ensures err { IfErr result (StopsAt (λ refused. refusal_of delay.now.entry (spoken scene.now.hierarchy.now scene.now.cells.now delay.now) ≡ Some refused)) }
+    requires lookup { IsLookup lookup.now }
+    requires groups { AreGrouped lookup.now.hierarchy.now (length lookup.now.cells.now) groups.now }
+    requires cells { AreOrdered lookup.now.cells.now }
+    requires room { HasRoom (length lookup.now.hierarchy.now.inner) (length lookup.now.hierarchy.now.leaves) ranges.old }
+    requires last { IsAt lookup.now.hierarchy.now last.path.now last.instance }
+    ensures ok { OnOk result (IsTakenIn delay.now.entry (resolved lookup.now.hierarchy.now lookup.now.cells.now delay.now) delay.now.least delay.now.greatest ranges.old ranges.new) }
+    ensures stands { IfOk result (λ s. IsAt lookup.now.hierarchy.now s.path.now s.instance) }
+    ensures err { IfErr result (StopsAt (λ refused. refusal_of delay.now.entry (resolved lookup.now.hierarchy.now lookup.now.cells.now delay.now) ≡ Some refused)) }
 {
     match &delay.place {
-        Place::Every => match apply_at_cell_type(scene, groups, ranges, delay) {
+        Place::Every => match apply_at_cell_type(lookup, groups, ranges, delay) {
             Ok(()) => Ok(last),
             Err(stop) => Err(stop),
         },
@@ -182,14 +192,14 @@ fn apply_delay<'a>(
                     leaf: None,
                 },
             };
-            match apply_at_instance(scene, ranges, key, top.instance, top.path, delay) {
+            match apply_at_instance(lookup, ranges, key, top.instance, top.path, delay) {
                 Ok(()) => Ok(top),
                 Err(stop) => Err(stop),
             }
         }
         Place::Path(path) => {
-            let next = instance_at(scene, key, last, path.items())?;
-            match apply_at_instance(scene, ranges, key, next.instance, next.path, delay) {
+            let next = instance_at(lookup, key, last, path.items())?;
+            match apply_at_instance(lookup, ranges, key, next.instance, next.path, delay) {
                 Ok(()) => Ok(next),
                 Err(stop) => Err(stop),
             }
@@ -200,18 +210,18 @@ fn apply_delay<'a>(
 /// Takes in all delays.
 fn apply_all(
     alloc: Global,
-    scene: &Scene<'_>,
+    lookup: &Lookup<'_>,
     groups: &[Vec<u32>],
     ranges: &mut Ranges,
     delays: &[Delay],
 ) -> Result<(), Stop>
-    requires scene { IsScene scene.now }
-    requires groups { AreGrouped scene.now.hierarchy.now (length scene.now.cells.now) groups.now }
-    requires cells { AreOrdered scene.now.cells.now }
-    requires room { HasRoom (length scene.now.hierarchy.now.inner) (length scene.now.hierarchy.now.leaves) ranges.old }
+    requires lookup { IsLookup lookup.now }
+    requires groups { AreGrouped lookup.now.hierarchy.now (length lookup.now.cells.now) groups.now }
+    requires cells { AreOrdered lookup.now.cells.now }
+    requires room { HasRoom (length lookup.now.hierarchy.now.inner) (length lookup.now.hierarchy.now.leaves) ranges.old }
     requires empty { HasRanges ranges.old [] }
-    ensures ok { OnOk result (AreRanges scene.now.hierarchy.now scene.now.cells.now delays.now ranges.new × (first_refusal scene.now.hierarchy.now scene.now.cells.now delays.now ≡ None)) }
-    ensures err { IfErr result (StopsAt (λ refused. first_refusal scene.now.hierarchy.now scene.now.cells.now delays.now ≡ Some refused)) }
+    ensures ok { OnOk result (AreRanges lookup.now.hierarchy.now lookup.now.cells.now delays.now ranges.new × (first_refusal lookup.now.hierarchy.now lookup.now.cells.now delays.now ≡ None)) }
+    ensures err { IfErr result (StopsAt (λ refused. first_refusal lookup.now.hierarchy.now lookup.now.cells.now delays.now ≡ Some refused)) }
 {
     let mut key = Vec::new(alloc);
     let mut last = PathInstance {
@@ -222,7 +232,7 @@ fn apply_all(
         },
     };
     for number in 0..delays.len() {
-        match apply_delay(scene, groups, ranges, &mut key, last, &delays[number]) {
+        match apply_delay(lookup, groups, ranges, &mut key, last, &delays[number]) {
             Ok(next) => last = next,
             Err(stop) => return Err(stop),
         }
@@ -260,7 +270,7 @@ fn leaves_by_cell(
     Ok(groups)
 }
 
-/// The ranges of all that delays speak of. The refusal is that of the first delay that speaks of nothing that is there:
+/// The ranges of all that delays annotate. The refusal is that of the first delay that annotates nothing that is there:
 /// NoInstance of the delays, or NoArc.
 pub fn gather_ranges(
     alloc: Global,
@@ -283,13 +293,13 @@ pub fn gather_ranges(
         hierarchy.leaves.items().len(),
     )?;
     let places = index_places(alloc, names, hierarchy.ports.items())?;
-    let scene = Scene {
+    let lookup = Lookup {
         hierarchy,
         cells,
         places,
         instances,
     };
-    match apply_all(alloc, &scene, &groups, &mut ranges, delays) {
+    match apply_all(alloc, &lookup, &groups, &mut ranges, delays) {
         Ok(()) => Ok(ranges),
         Err(stop) => Err(stop),
     }

@@ -1,15 +1,15 @@
-//! The least and the greatest of all numbers that speak of a matter.
+//! The least and the greatest of all numbers that annotate a target.
 ghost use Rattle.std.specs.Prelude.{◌≡◌, ◌<◌, ℕ, [], cond, None, Some, length, slice_index_or, IfOk, OnOk};
-ghost use Rattle.mintc_annotate_resolve.specs.Speaking.{path_on, join_into, arcs_from, dq_of, cq_of, setup_of, hold_of, width_of, widened};
-ghost use Rattle.mintc_annotate_resolve.specs.Matters.{matter_of};
-ghost use Rattle.mintc_annotate_delays.specs.Ranges.{look, path_at, same_key, AreUnspoken, IsWidenedAt, HasRoom, HasRanges, HasPlace, IsWidened, IsSameRoom};
+ghost use Rattle.mintc_annotate_resolve.specs.Resolution.{path_on, join_into, arcs_from, dq_of, cq_of, setup_of, hold_of, width_of, widened};
+ghost use Rattle.mintc_annotate_resolve.specs.Targets.{target_of};
+ghost use Rattle.mintc_annotate_delays.specs.Ranges.{look, path_at, same_key, AreUnannotated, IsWidenedAt, HasRoom, HasRanges, HasPlace, IsWidened, IsSameRoom};
 
-use mintc_annotate_resolve::Matter;
+use mintc_annotate_resolve::Target;
 use mintc_text::OutOfMemory;
 use std::alloc::Global;
 use std::collections::HashMap;
 
-/// The least and the greatest number that speaks of each matter: of gates by their leaf and two pins, of joins and of the
+/// The least and the greatest number that annotates each target: of gates by their leaf and two pins, of joins and of the
 /// arcs that leave ports by their bit, of latches and flops by their leaf.
 #[derive(Drop)]
 pub struct Ranges {
@@ -23,15 +23,15 @@ pub struct Ranges {
     width: Vec<Option<(i64, i64)>>,
 }
 
-/// So many places, of which nothing speaks.
+/// So many places that nothing annotates.
 fn empty_ranges(alloc: Global, count: usize) -> Result<Vec<Option<(i64, i64)>>, OutOfMemory>
-    ensures { IfOk result (λ v. AreUnspoken count v.items) }
+    ensures { IfOk result (λ v. AreUnannotated count v.items) }
 {
     Ok(vec![in alloc; None; count]?)
 }
 
 /// A range with one more delay.
-fn widened(range: Option<(i64, i64)>, least: i64, greatest: i64) -> (i64, i64)
+fn widen_range(range: Option<(i64, i64)>, least: i64, greatest: i64) -> (i64, i64)
     ensures { result ≡ widened least greatest range }
 {
     match range {
@@ -46,7 +46,7 @@ fn widen_at(list: &mut [Option<(i64, i64)>], place: u32, least: i64, greatest: i
     ensures { IsWidenedAt list.old list.new place least greatest }
 {
     let at = place as usize;
-    list[at] = Some(widened(list[at], least, greatest));
+    list[at] = Some(widen_range(list[at], least, greatest));
 }
 
 /// Widens the range of a key.
@@ -58,7 +58,7 @@ fn widen_path(
 ) -> Result<(), OutOfMemory>
     ensures { OnOk result ((k : ℕ × ℕ × ℕ) → path_at paths.new k ≡ cond (same_key key k) (Some (widened least greatest (path_at paths.old k))) (path_at paths.old k)) }
 {
-    let range = widened(paths.get(&key).copied(), least, greatest);
+    let range = widen_range(paths.get(&key).copied(), least, greatest);
     paths.insert(key, range)?;
     Ok(())
 }
@@ -146,26 +146,26 @@ impl Ranges {
         })
     }
 
-    /// Takes in a delay that speaks of a matter. After an error the ranges are of no use.
-    pub fn widen(&mut self, matter: Matter, least: i64, greatest: i64) -> Result<(), OutOfMemory>
-        requires { HasPlace self.old matter }
-        ensures widened { OnOk result (IsWidened self.old self.new (matter_of matter) least greatest) }
+    /// Takes in a delay that annotates a target. After an error the ranges are of no use.
+    pub fn widen(&mut self, target: Target, least: i64, greatest: i64) -> Result<(), OutOfMemory>
+        requires { HasPlace self.old target }
+        ensures widened { OnOk result (IsWidened self.old self.new (target_of target) least greatest) }
         ensures room { OnOk result (IsSameRoom self.old self.new) }
     {
-        match matter {
-            Matter::PathOn { leaf, from, to } => widen_path(
+        match target {
+            Target::PathOn { leaf, from, to } => widen_path(
                 &mut self.paths,
                 (leaf, from, to),
                 least,
                 greatest,
             )?,
-            Matter::JoinInto { bit } => widen_at(&mut self.joins, bit, least, greatest),
-            Matter::ArcsFrom { bit } => widen_at(&mut self.ports, bit, least, greatest),
-            Matter::DqOf { leaf } => widen_at(&mut self.dq, leaf, least, greatest),
-            Matter::CqOf { leaf } => widen_at(&mut self.cq, leaf, least, greatest),
-            Matter::SetupOf { leaf } => widen_at(&mut self.setup, leaf, least, greatest),
-            Matter::HoldOf { leaf } => widen_at(&mut self.hold, leaf, least, greatest),
-            Matter::WidthOf { leaf } => widen_at(&mut self.width, leaf, least, greatest),
+            Target::JoinInto { bit } => widen_at(&mut self.joins, bit, least, greatest),
+            Target::ArcsFrom { bit } => widen_at(&mut self.ports, bit, least, greatest),
+            Target::DqOf { leaf } => widen_at(&mut self.dq, leaf, least, greatest),
+            Target::CqOf { leaf } => widen_at(&mut self.cq, leaf, least, greatest),
+            Target::SetupOf { leaf } => widen_at(&mut self.setup, leaf, least, greatest),
+            Target::HoldOf { leaf } => widen_at(&mut self.hold, leaf, least, greatest),
+            Target::WidthOf { leaf } => widen_at(&mut self.width, leaf, least, greatest),
         }
         Ok(())
     }

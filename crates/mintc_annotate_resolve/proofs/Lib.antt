@@ -3,6 +3,6 @@ pub mod SharedRangeLimits
 pub mod SharedFirstLaws
 pub mod SharedPathLaws
 pub mod SharedInstanceLaws
-pub mod SharedSpeakingLaws
+pub mod SharedResolutionLaws
 pub mod SharedPlaceLaws
 mod PortLaws

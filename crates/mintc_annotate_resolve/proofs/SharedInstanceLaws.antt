@@ -10,7 +10,7 @@ use Rattle.mintc_flatten_hierarchy.specs.declared.hierarchy.Scope.{Scope}
 use Rattle.mintc_flatten_hierarchy.specs.declared.hierarchy.Leaf.{Leaf}
 use Rattle.mintc_annotate_resolve.specs.Names.{HasNames}
 use Rattle.mintc_annotate_resolve.specs.Pins.{scope_at, leaf_at, scope_path, leaf_path}
-use Rattle.mintc_annotate_resolve.specs.Speaking.{same_path, leaf_called}
+use Rattle.mintc_annotate_resolve.specs.Resolution.{same_path, leaf_called}
 use Rattle.mintc_annotate_resolve.specs.Instances.{key_of, IsKey, seen, called, scope_called, IsFirst, AreFirst, AreSeen, IsAt}
 use Rattle.mintc_annotate_resolve.proofs.SharedFirstLaws.{range_more}
 use Rattle.mintc_annotate_resolve.proofs.SharedPathLaws.{Path, same_self, same_differs, snoc_same, snoc_not_nil, called_is, is_called, none_called, first_of, one_first}

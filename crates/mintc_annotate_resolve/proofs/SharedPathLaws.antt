@@ -7,7 +7,7 @@ use Rattle.std.proofs.lemmas.Slice.Eq.{bytes_eq-Decides}
 use Rattle.mintc_flatten_hierarchy.specs.declared.hierarchy.Hierarchy.{Hierarchy}
 use Rattle.mintc_annotate_resolve.specs.Names.{HasNames}
 use Rattle.mintc_annotate_resolve.specs.Pins.{no_scope, no_leaf, scope_at, leaf_at, scope_path, leaf_path}
-use Rattle.mintc_annotate_resolve.specs.Speaking.{same_path, leaf_called}
+use Rattle.mintc_annotate_resolve.specs.Resolution.{same_path, leaf_called}
 use Rattle.mintc_annotate_resolve.specs.Instances.{called, scope_called, IsFirst}
 use Rattle.mintc_annotate_resolve.proofs.SharedNameLaws.{path_below}
 use Rattle.mintc_annotate_resolve.proofs.SharedFirstLaws.{range_found, range_first, range_none, range_missing}

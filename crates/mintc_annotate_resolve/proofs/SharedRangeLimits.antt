@@ -17,7 +17,7 @@ use Rattle.mintc_annotate_resolve.specs.declared.ports.PortBit.{PortBit}
 use Rattle.mintc_flatten_hierarchy.specs.Shape.{CellTable}
 use Rattle.mintc_annotate_resolve.specs.Pins.{leaf_cell, input_pin, output_pin, pin_bit}
 use Rattle.mintc_annotate_resolve.specs.Ports.{place_of}
-use Rattle.mintc_annotate_resolve.specs.Speaking.{Matter, join_into, arcs_from, dq_of, cq_of, setup_of, hold_of, width_of, Spoken, of, no_instance, of_path, of_check, pins_named, both, of_leaf, at_port, into, at_pin, of_interconnect, of_instance, is_scope, leaf_called, together, of_each, of_every, leaves_of, of_place, spoken, matters, Said, said_by, said, same_matter, widened, range_of}
+use Rattle.mintc_annotate_resolve.specs.Resolution.{Target, join_into, arcs_from, dq_of, cq_of, setup_of, hold_of, width_of, Resolved, of, no_instance, of_path, of_check, pins_named, both, of_leaf, at_port, into, at_pin, of_interconnect, of_instance, is_scope, leaf_called, together, of_each, of_every, leaves_of, of_place, resolved, targets, Said, said_by, said, same_target, widened, range_of}
 
 -- a delay in femtoseconds, and a time that may be negative
 abbrev pub IsDelay : ℤ → Type 0
@@ -26,13 +26,13 @@ IsDelay x = (pos 0 ≤ℤ x) × (x ≤ℤ MOST_DELAY)
 abbrev pub IsGap : ℤ → Type 0
 IsGap x = (neg_ℤ MOST_DELAY ≤ℤ x) × (x ≤ℤ MOST_DELAY)
 
--- the limits of the numbers that speak of a matter
-abbrev pub IsOf : Matter → ℤ → Type 0
+-- the limits of the numbers that annotate a target
+abbrev pub IsOf : Target → ℤ → Type 0
 IsOf (setup_of l) x = IsGap x
 IsOf (hold_of l) x = IsGap x
 IsOf _ x = IsDelay x
 
-same_limits : (a b : Matter) (x : ℤ) → same_matter a b ≡ true → IsOf a x → IsOf b x
+same_limits : (a b : Target) (x : ℤ) → same_target a b ≡ true → IsOf a x → IsOf b x
 same_limits (setup_of l) (setup_of k) x e h = h
 same_limits (hold_of l) (hold_of k) x e h = h
 same_limits (setup_of l) _ x e h = absurd (cc)
@@ -45,20 +45,20 @@ same_limits _ _ x e h = h
 abbrev pub IsFor : Subject → ℤ → Type 0
 IsFor s x = (lowest s ≤ℤ x) × (x ≤ℤ MOST_DELAY)
 
--- what a subject's numbers may speak of
-abbrev pub Fit : Subject → List Matter → Type 0
+-- what a subject's numbers may annotate
+abbrev pub Fit : Subject → List Target → Type 0
 Fit s [] = Unit {0}
 Fit s (m ∷ ms) = ((x : ℤ) → IsFor s x → IsOf m x) × Fit s ms
 
-abbrev pub Fits : Subject → Spoken → Type 0
+abbrev pub Fits : Subject → Resolved → Type 0
 Fits s (of ms) = Fit s ms
 Fits s _ = Unit {0}
 
-fit-append : (s : Subject) (ms ns : List Matter) → Fit s ms → Fit s ns → Fit s (ms ++ ns)
+fit-append : (s : Subject) (ms ns : List Target) → Fit s ms → Fit s ns → Fit s (ms ++ ns)
 fit-append s [] ns a b = b
 fit-append s (m ∷ ms) ns a b = (a.0, fit-append s ms ns a.1 b)
 
-fits_pins : {A : Type 0} (s : Subject) (f : A → List Matter) (o : Option A) → ((x : A) → Fit s (f x)) → Fits s (pins_named (option_map f o))
+fits_pins : {A : Type 0} (s : Subject) (f : A → List Target) (o : Option A) → ((x : A) → Fit s (f x)) → Fits s (pins_named (option_map f o))
 fits_pins s f None give = tt
 fits_pins s f (Some x) give = give x
 
@@ -104,7 +104,7 @@ fits_instance h cells path (subject.Interconnect to) None = either (Fits (subjec
 fits_instance h cells path s (Some l) = fits_leaf h cells l s
 fits_instance h cells path _ None = tt
 
-fits_together : (s : Subject) (a b : Spoken) → Fits s a → Fits s b → Fits s (together a b)
+fits_together : (s : Subject) (a b : Resolved) → Fits s a → Fits s b → Fits s (together a b)
 fits_together s (of ms) (of ns) x y = fit-append s ms ns x y
 fits_together s _ _ x y = tt
 
@@ -123,8 +123,8 @@ fits_place h cells d (Path path) = fits_instance h cells path d.subject (leaf_ca
 
 -- ---- all that is said
 pub record IsSaid (s : Said) : Type 0 where
-  pub low : IsOf s.matter s.least
-  pub high : IsOf s.matter s.greatest
+  pub low : IsOf s.target s.least
+  pub high : IsOf s.target s.greatest
   pub ordered : s.least ≤ℤ s.greatest
 
 abbrev pub AreSaid : List Said → Type 0
@@ -135,29 +135,29 @@ AreSaid-append : (ss ts : List Said) → AreSaid ss → AreSaid ts → AreSaid (
 AreSaid-append [] ts a b = b
 AreSaid-append (s ∷ ss) ts a b = (a.0, AreSaid-append ss ts a.1 b)
 
-said_of : (d : Delay) (ms : List Matter) → IsWithin d → Fit d.subject ms → AreSaid (map (λ m. record { matter = m; least = d.least; greatest = d.greatest }) ms)
+said_of : (d : Delay) (ms : List Target) → IsWithin d → Fit d.subject ms → AreSaid (map (λ m. record { target = m; least = d.least; greatest = d.greatest }) ms)
 said_of d [] sound fit = tt
 said_of d (m ∷ ms) sound fit =
     (record { low = fit.0 d.least (sound.0, omega (arith, ints)); high = fit.0 d.greatest (omega (arith, ints), sound.2); ordered = sound.1 }, said_of d ms sound fit.1)
 
-fit_matters : (s : Subject) (x : Spoken) → Fits s x → Fit s (matters x)
-fit_matters s (of ms) h = h
-fit_matters s _ h = tt
+fit_targets : (s : Subject) (x : Resolved) → Fits s x → Fit s (targets x)
+fit_targets s (of ms) h = h
+fit_targets s _ h = tt
 
 pub all_said : (h : Hierarchy) (cells : CellTable) (ds : List Delay) → All IsWithin ds → AreSaid (said h cells ds)
 all_said h cells [] sound = tt
 all_said h cells (d ∷ ds) sound =
     AreSaid-append (said_by h cells d) (said h cells ds)
-    (said_of d (matters (spoken h cells d)) (All-head IsWithin d ds sound) (fit_matters d.subject (spoken h cells d) (fits_place h cells d d.place)))
+    (said_of d (targets (resolved h cells d)) (All-head IsWithin d ds sound) (fit_targets d.subject (resolved h cells d) (fits_place h cells d d.place)))
     (all_said h cells ds (All-tail IsWithin d ds sound))
 
--- ---- the range of a matter
-pub record IsRange (m : Matter) (r : ℤ × ℤ) : Type 0 where
+-- ---- the range of a target
+pub record IsRange (m : Target) (r : ℤ × ℤ) : Type 0 where
   pub low : IsOf m r.0
   pub high : IsOf m r.1
   pub ordered : r.0 ≤ℤ r.1
 
-widened_in : (m : Matter) (least greatest : ℤ) (o : Option (ℤ × ℤ)) → IsOf m least → IsOf m greatest → least ≤ℤ greatest → ((q : ℤ × ℤ) → o ≡ Some q → IsRange m q) → IsRange m (widened least greatest o)
+widened_in : (m : Target) (least greatest : ℤ) (o : Option (ℤ × ℤ)) → IsOf m least → IsOf m greatest → least ≤ℤ greatest → ((q : ℤ × ℤ) → o ≡ Some q → IsRange m q) → IsRange m (widened least greatest o)
 widened_in m least greatest None low high ordered more = record { low = low; high = high; ordered = ordered }
 widened_in m least greatest (Some q) low high ordered more =
     let rest = more q refl in
@@ -167,14 +167,14 @@ widened_in m least greatest (Some q) low high ordered more =
       ordered = omega (arith, ints, int_min_is least q.0, int_max_is greatest q.1);
     }
 
-range_at : (b : Bool) (m : Matter) (s : Said) (o : Option (ℤ × ℤ)) (r : ℤ × ℤ) → same_matter s.matter m ≡ b → IsSaid s → ((q : ℤ × ℤ) → o ≡ Some q → IsRange m q) →
+range_at : (b : Bool) (m : Target) (s : Said) (o : Option (ℤ × ℤ)) (r : ℤ × ℤ) → same_target s.target m ≡ b → IsSaid s → ((q : ℤ × ℤ) → o ≡ Some q → IsRange m q) →
     cond b (Some (widened s.least s.greatest o)) o ≡ Some r → IsRange m r
 range_at true m s o r same is more e =
     let this : widened s.least s.greatest o ≡ r = cc in
-    subst (IsRange m) this (widened_in m s.least s.greatest o (same_limits s.matter m s.least same is.low) (same_limits s.matter m s.greatest same is.high) is.ordered more)
+    subst (IsRange m) this (widened_in m s.least s.greatest o (same_limits s.target m s.least same is.low) (same_limits s.target m s.greatest same is.high) is.ordered more)
 range_at false m s o r same is more e = more r e
 
--- the range of a matter is within its limits, the least at most the greatest
-pub range_in : (ss : List Said) (m : Matter) (r : ℤ × ℤ) → AreSaid ss → range_of ss m ≡ Some r → IsRange m r
+-- the range of a target is within its limits, the least at most the greatest
+pub range_in : (ss : List Said) (m : Target) (r : ℤ × ℤ) → AreSaid ss → range_of ss m ≡ Some r → IsRange m r
 range_in [] m r are e = absurd (cc)
-range_in (s ∷ ss) m r are e = range_at (same_matter s.matter m) m s (range_of ss m) r refl are.0 (λ q more. range_in ss m q are.1 more) e
+range_in (s ∷ ss) m r are e = range_at (same_target s.target m) m s (range_of ss m) r refl are.0 (λ q more. range_in ss m q are.1 more) e

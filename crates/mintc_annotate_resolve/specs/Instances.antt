@@ -5,7 +5,7 @@ use Rattle.std.specs.HashMap.{HashMap, get_by}
 use Rattle.std.specs.Global.{Global}
 use Rattle.mintc_flatten_hierarchy.specs.declared.hierarchy.Hierarchy.{Hierarchy}
 use Rattle.mintc_annotate_resolve.specs.Pins.{scope_path, leaf_path}
-use Rattle.mintc_annotate_resolve.specs.Speaking.{same_path, leaf_called}
+use Rattle.mintc_annotate_resolve.specs.Resolution.{same_path, leaf_called}
 use Rattle.mintc_annotate_resolve.specs.declared.instances.Instances.{Instances}
 use Rattle.mintc_annotate_resolve.specs.declared.instances.Instance.{Instance}
 

@@ -1,8 +1,8 @@
 pub mod Pins
 pub mod Names
 pub mod Ports
-pub mod Speaking
-pub mod Matters
+pub mod Resolution
+pub mod Targets
 pub mod Instances
-pub mod Scenes
+pub mod Lookups
 pub mod Places

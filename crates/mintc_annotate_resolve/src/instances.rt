@@ -3,7 +3,7 @@ ghost use Rattle.std.specs.Prelude.{◌≡◌, ◌<◌, ◌≤◌, ◌^◌, ℕ,
 ghost use Rattle.mintc_flatten_hierarchy.specs.declared.hierarchy.Hierarchy.{Hierarchy};
 ghost use Rattle.mintc_annotate_resolve.specs.Names.{HasNames};
 ghost use Rattle.mintc_annotate_resolve.specs.Pins.{scope_path, leaf_path};
-ghost use Rattle.mintc_annotate_resolve.specs.Speaking.{same_path, leaf_called};
+ghost use Rattle.mintc_annotate_resolve.specs.Resolution.{same_path, leaf_called};
 ghost use Rattle.mintc_annotate_resolve.specs.Instances.{key_of, IsKey, seen, scope_called, AreFirst, AreSeen, AreIndexed, IsAt};
 
 use mintc_flatten_hierarchy::Hierarchy;

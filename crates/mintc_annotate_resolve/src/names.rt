@@ -9,7 +9,12 @@ use mintc_text::{Lines, Name, OutOfMemory};
 use std::alloc::Global;
 
 /// Three pieces as one name.
-fn joined(alloc: Global, first: &[u8], second: &[u8], third: &[u8]) -> Result<Name, OutOfMemory>
+fn concatenate(
+    alloc: Global,
+    first: &[u8],
+    second: &[u8],
+    third: &[u8],
+) -> Result<Name, OutOfMemory>
     ensures { IfOk result (λ name. name ≡ first.now ++ second.now ++ third.now) }
 {
     let mut lines = Lines::new(alloc);
@@ -29,7 +34,7 @@ fn net_name(
     ensures { IfOk result (λ n. n ≡ front.now ++ name.now ++ index_text index) }
 {
     let Some(index) = index else {
-        return joined(alloc, front, name, b"");
+        return concatenate(alloc, front, name, b"");
     };
     let mut lines = Lines::new(alloc);
     lines.put(front)?;
@@ -48,7 +53,7 @@ fn front(alloc: Global, fronts: &[Name], number: usize, scope: &Scope) -> Result
     if number == 0 {
         return Name::new(alloc, b"");
     }
-    joined(
+    concatenate(
         alloc,
         fronts[scope.parent as usize].bytes(),
         scope.name.bytes(),
@@ -76,7 +81,7 @@ fn scope_fronts(alloc: Global, hierarchy: &Hierarchy) -> Result<Vec<Name>, OutOf
 }
 
 /// What a bit is called.
-fn called(
+fn name_of_bit(
     alloc: Global,
     hierarchy: &Hierarchy,
     fronts: &[Name],
@@ -96,13 +101,13 @@ fn called(
         ),
         Inner::Pin { leaf, pin } => {
             let leaf = &hierarchy.leaves.items()[*leaf as usize];
-            let front = joined(
+            let front = concatenate(
                 alloc,
                 fronts[leaf.scope as usize].bytes(),
                 leaf.name.bytes(),
                 b".",
             )?;
-            joined(alloc, front.bytes(), pin.bytes(), b"")
+            concatenate(alloc, front.bytes(), pin.bytes(), b"")
         }
     }
 }
@@ -116,7 +121,7 @@ pub fn inner_names(alloc: Global, hierarchy: &Hierarchy) -> Result<Vec<Name>, Ou
     let inner = hierarchy.inner.items();
     let mut names = Vec::new(alloc);
     for number in 0..inner.len() {
-        let Ok(name) = called(alloc, hierarchy, &fronts, &inner[number]) else {
+        let Ok(name) = name_of_bit(alloc, hierarchy, &fronts, &inner[number]) else {
             return Err(OutOfMemory);
         };
         let Ok(()) = names.push(name) else {

@@ -67,7 +67,7 @@ fn bit_called(names: &[Name], ports: &[TopPort], text: &[u8]) -> Option<PortBit>
 }
 
 /// The bit that a text names.
-pub fn place_in(names: &[Name], ports: &[TopPort], text: &[u8]) -> Option<PortBit>
+pub fn port_bit_named(names: &[Name], ports: &[TopPort], text: &[u8]) -> Option<PortBit>
     requires { AreInside (length names.now) ports.now }
     ensures { result ≡ place_in names.now ports.now text.now }
 {

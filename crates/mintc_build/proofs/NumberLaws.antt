@@ -19,7 +19,7 @@ use Rattle.mintc_flatten_hierarchy.specs.declared.hierarchy.Hierarchy.{Hierarchy
 use Rattle.mintc_flatten_hierarchy.specs.Sources.{source_of}
 use Rattle.mintc_flatten_hierarchy.specs.Shape.{CellTable}
 use Rattle.mintc_annotate_resolve.specs.Pins.{all_names, all_leaves, leaf_cell, leaf_path, dotted, input_numbers, output_numbers}
-use Rattle.mintc_annotate_resolve.specs.Speaking.{range_of, said}
+use Rattle.mintc_annotate_resolve.specs.Resolution.{range_of, said}
 use Rattle.mintc_annotate.specs.Phases.{storage}
 use Rattle.mintc_annotate.specs.Made.{RangeOf, bits_of, element_of, port_element, storage_elements, elements_with, arc_of, no_delay, inner_bit, join_arc, gate_arc, leaf_arcs, input_arcs, output_arcs, arcs_with, design_with, design_made, IsAnnotated}
 use Rattle.mintc_annotate.specs.Laws.{DesignsAreDetermined}
@@ -129,7 +129,7 @@ annotated_alike one h cells clock ds es design other a b =
     let alike : DifferInNumbers here there = ranges_alike h cells clock (range_of (said h cells ds)) (range_of (said h cells es)) phases in
     let same : other ≡ there = b.whole.made in
     let within : limit_of here ≡ None = sym (limits_alike here there alike) ∙ sym (ap limit_of same) ∙ b.within in
-    let made : IsAnnotated h cells clock ds here = record { whole = record { ports = a.whole.ports; speaks = a.whole.speaks; phases = phases; traced = b.whole.traced; made = refl }; within = within } in
+    let made : IsAnnotated h cells clock ds here = record { whole = record { ports = a.whole.ports; annotates = a.whole.annotates; phases = phases; traced = b.whole.traced; made = refl }; within = within } in
     subst (λ (d : Design). DifferInNumbers d other) (one h cells clock ds here design made a) (subst (DifferInNumbers here) (sym same) alike)
 
 -- ---- files

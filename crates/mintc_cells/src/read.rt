@@ -18,7 +18,7 @@ use std::alloc::Global;
 use toml::{Table, Value};
 
 /// The cell, unless it fails a rule.
-fn judged(shape: Shape, cell: Cell) -> Result<Cell, Fault>
+fn check_rules(shape: Shape, cell: Cell) -> Result<Cell, Fault>
     ensures { Reads (judged cell (least_rule shape cell)) result }
 {
     match rules::least_rule(&shape, &cell) {
@@ -33,13 +33,13 @@ fn read_table(alloc: Global, table: &Table) -> Result<Cell, Fault>
 {
     let kind = text(table, "kind", "");
     if kind == "gate" {
-        judged(tables::gate_shape(table), tables::gate(alloc, table)?)
+        check_rules(tables::gate_shape(table), tables::gate(alloc, table)?)
     } else if kind == "latch" {
-        judged(tables::latch_shape(table), tables::latch(alloc, table)?)
+        check_rules(tables::latch_shape(table), tables::latch(alloc, table)?)
     } else if kind == "flop" {
-        judged(tables::flop_shape(table), tables::flop(alloc, table)?)
+        check_rules(tables::flop_shape(table), tables::flop(alloc, table)?)
     } else if kind == "clock" {
-        judged(tables::clock_shape(table), tables::clock(alloc, table)?)
+        check_rules(tables::clock_shape(table), tables::clock(alloc, table)?)
     } else {
         Err(Fault::Rule(2))
     }

@@ -15,7 +15,7 @@ use crate::clocked_design::ClockedDesign;
 use crate::labels::{Labels, departure_at, label_in};
 use crate::reading::element;
 use mintc_timing::shift;
-use mintc_timing_links::{scaled, width};
+use mintc_timing_links::{times_denominator, width};
 
 /// The later of two times, of which the second is moved; either may be absent.
 fn later(last: Option<i64>, label: Option<i64>, add: i64) -> Option<i64>
@@ -58,7 +58,7 @@ fn opening(clocked: &ClockedDesign<'_>, number: usize) -> i64
     ensures range { IsModest result }
 {
     let element = element(clocked.flat, number);
-    scaled(element.cq_max - element.dq_max, clocked.schedule.den)
+    times_denominator(element.cq_max - element.dq_max, clocked.schedule.den)
 }
 
 /// When an element's data leaves, as the labels make it.
@@ -118,7 +118,7 @@ fn keeps_setup(
     ensures { Decides clocked.now.flat.now result (λ t. KeepsSetup t clocked.now.schedule.now departures.now number) }
 {
     let element = element(clocked.flat, number);
-    let setup = scaled(element.setup, clocked.schedule.den);
+    let setup = times_denominator(element.setup, clocked.schedule.den);
     if !element.flop {
         let leaves = i64::max(0, departure_at(departures, number));
         return leaves + setup <= width(clocked.schedule, element.phase);

@@ -15,7 +15,7 @@ use crate::reading::{arc_at_place, element};
 use mintc_lanes::{ABSENT, max_plus_row};
 use mintc_text::OutOfMemory;
 use mintc_timing::Order;
-use mintc_timing_links::scaled;
+use mintc_timing_links::times_denominator;
 use std::alloc::Global;
 
 /// A label for each phase at a bit, in femtoseconds times a denominator; that of phase p in lane p - 1.
@@ -65,7 +65,7 @@ fn output_time(departing: &DepartingDesign<'_>, number: usize) -> i64
     ensures range { IsTime result }
 {
     departure_at(departing.departures, number)
-        + scaled(element(departing.flat, number).dq_max, departing.den)
+        + times_denominator(element(departing.flat, number).dq_max, departing.den)
 }
 
 /// Begins a lane at a bit.
@@ -126,7 +126,12 @@ fn carry_arc(labels: &mut [Labels], departing: &DepartingDesign<'_>, order: &Ord
     ensures { AreLabelsOf departing.now.flat.now departing.now.den departing.now.departures.now (IsAlong order.now (place + 1)) labels.new }
 {
     let arc = arc_at_place(departing.flat, order, place);
-    carry(labels, arc.from, arc.to, scaled(arc.max, departing.den));
+    carry(
+        labels,
+        arc.from,
+        arc.to,
+        times_denominator(arc.max, departing.den),
+    );
 }
 
 /// Carries the labels along all arcs.

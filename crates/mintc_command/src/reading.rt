@@ -9,7 +9,7 @@ use mintc_text::{Bytes, Shelf, ShelfError};
 use std::alloc::Global;
 
 /// The first bytes of each file, at most one more than a file may have. No read is made after one that fails.
-pub fn read_files<S: Shelf>(
+pub(crate) fn read_files<S: Shelf>(
     alloc: Global,
     shelf: &mut S,
     names: &[String],

@@ -14,8 +14,8 @@ use Rattle.mintc_corners.specs.CornerOptimum.{IsOptimumOf}
 use Rattle.mintc_corners.specs.CornerText.{corner_lines}
 use Rattle.mintc_command_answers.specs.Sources.{Gives, IsSourceRefused, file_at}
 use Rattle.mintc_command_answers.specs.declared.command.Source.TheVariants.{Files}
-use Rattle.mintc_command_answers.specs.declared.corners.CornerStop.{CornerStop}
-use Rattle.mintc_command_answers.specs.declared.corners.CornerStop.TheVariants as stop
+use Rattle.mintc_command_answers.specs.declared.corners_answers.CornerStop.{CornerStop}
+use Rattle.mintc_command_answers.specs.declared.corners_answers.CornerStop.TheVariants as stop
 use Rattle.mintc_command_answers.specs.declared.status.Status.{Status}
 use Rattle.mintc_command_answers.specs.declared.status.Status.TheVariants.{Done, Found}
 

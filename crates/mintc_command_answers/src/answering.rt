@@ -8,15 +8,15 @@ ghost use Rattle.mintc_command_answers.specs.Jobs.{IsFileRefused, IsJobAnswer};
 ghost use Rattle.mintc_command_answers.specs.Sources.{AreShort};
 
 use crate::answer::Answer;
-use crate::checking::check_answer;
+use crate::check_answers::check_answer;
 use crate::command::{Command, Job, Source};
-use crate::corners::corners_answer;
-use crate::keeping::safe_answer;
-use crate::optimum::{optimise_answer, report_answer, summary_answer};
-use crate::refusing::refused;
-use crate::slacks::slack_answer;
+use crate::corners_answers::corners_answer;
+use crate::optimise_answers::{optimise_answer, report_answer, summary_answer};
+use crate::refusal_answers::refusal_answer;
+use crate::safe_answers::safe_answer;
+use crate::slack_answers::slack_answer;
 use crate::source::{Ordered, ordered_of, own_file, system_of, too_long};
-use crate::verifying::verify_answer;
+use crate::verify_answers::verify_answer;
 use mintc_sample::files;
 use mintc_text::limits::MOST_BYTES;
 use mintc_text::{Bytes, OutOfMemory, Refusal, Stop};
@@ -24,7 +24,7 @@ use mintc_timing::System;
 use std::alloc::Global;
 
 /// The answer to a job on a system and on the file that stands beside the design's, or why that file is refused.
-fn answered(alloc: Global, job: Job, system: &System, file: &[u8]) -> Result<Answer, Stop>
+fn job_answer(alloc: Global, job: Job, system: &System, file: &[u8]) -> Result<Answer, Stop>
     requires { length file.now ≤ MOST_BYTES }
     ensures value { IfOk result (λ answer. IsJobAnswer job system.now file.now answer.status answer.text) }
     ensures stop { IfErr result (StopsAt (IsFileRefused job system.now.flat file.now)) }
@@ -78,7 +78,7 @@ fn design_answer(
         Ok(system) => system,
         Err(stop) => return Err(stop),
     };
-    answered(alloc, job, &system, own_file(source, texts))
+    job_answer(alloc, job, &system, own_file(source, texts))
 }
 
 /// The summary of a sample from its texts, none of them too long, or their first refusal.
@@ -107,7 +107,7 @@ fn answer_on(alloc: Global, command: Command, texts: &mut [Bytes]) -> Result<Ans
     ensures status { IfOk result (λ answer. IsOfCommand answer.status) }
 {
     if let Some(refusal) = too_long(command.content_roles(), texts) {
-        return refused(alloc, &refusal);
+        return refusal_answer(alloc, &refusal);
     }
     let answer = match command {
         Command::OfDesign { job, source } => design_answer(alloc, job, source, texts),
@@ -116,7 +116,7 @@ fn answer_on(alloc: Global, command: Command, texts: &mut [Bytes]) -> Result<Ans
     };
     match answer {
         Ok(answer) => Ok(answer),
-        Err(Stop::Refused(refusal)) => refused(alloc, &refusal),
+        Err(Stop::Refused(refusal)) => refusal_answer(alloc, &refusal),
         Err(Stop::OutOfMemory) => Err(OutOfMemory),
     }
 }

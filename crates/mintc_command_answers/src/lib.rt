@@ -10,17 +10,17 @@
 
 mod answer;
 mod answering;
-mod checking;
+mod check_answers;
 mod command;
-mod corners;
-mod keeping;
+mod corners_answers;
 mod laws;
-mod optimum;
-mod refusing;
-mod slacks;
+mod optimise_answers;
+mod refusal_answers;
+mod safe_answers;
+mod slack_answers;
 mod source;
 mod status;
-mod verifying;
+mod verify_answers;
 
 pub use answer::Answer;
 pub use answering::answer_to;

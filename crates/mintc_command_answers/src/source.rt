@@ -14,7 +14,7 @@ use mintc_timing::{Flat, Order, System, systems_are_accepted};
 use std::alloc::Global;
 
 /// The refusal of the first file that is too long.
-pub fn too_long(roles: &[Role], files: &[Bytes]) -> Option<Refusal>
+pub(crate) fn too_long(roles: &[Role], files: &[Bytes]) -> Option<Refusal>
     requires { length files.now ≡ length roles.now }
     ensures { MatchOption result (AreShort files.now) (IsLengthRefusal roles.now files.now) }
 {
@@ -53,7 +53,7 @@ fn design_of(alloc: Global, source: Source, files: &[Bytes]) -> Result<Flat, Sto
 }
 
 /// The system of a design, or its first refusal.
-pub fn accepted_system(alloc: Global, flat: Flat) -> Result<System, Stop>
+pub(crate) fn accepted_system(alloc: Global, flat: Flat) -> Result<System, Stop>
     ensures limits { IsDesign flat }
     ensures value { IfOk result (IsSystemOf flat) }
     ensures stop { IfErr result (StopsAt (IsDesignRefusal flat)) }
@@ -86,7 +86,7 @@ fn give_back(alloc: Global, source: Source, files: &mut [Bytes])
 
 /// The system of the design that the first files give, or the first refusal of these files. The memory of these files is given
 /// back once the design is read.
-pub fn system_of(alloc: Global, source: Source, files: &mut [Bytes]) -> Result<System, Stop>
+pub(crate) fn system_of(alloc: Global, source: Source, files: &mut [Bytes]) -> Result<System, Stop>
     requires all { length (source_roles source) ≤ length files.old }
     requires short { AreShort files.old }
     ensures value { IfOk result (Gives source files.old) }
@@ -104,14 +104,18 @@ pub fn system_of(alloc: Global, source: Source, files: &mut [Bytes]) -> Result<S
 
 /// A design and an order of its arcs.
 #[derive(Drop)]
-pub struct Ordered {
+pub(crate) struct Ordered {
     pub flat: Flat,
     pub order: Order,
 }
 
 /// The design that the first files give, where it has a system, or the first refusal of these files. Its pairs aren't listed.
 /// The memory of these files is given back once the design is read.
-pub fn ordered_of(alloc: Global, source: Source, files: &mut [Bytes]) -> Result<Ordered, Stop>
+pub(crate) fn ordered_of(
+    alloc: Global,
+    source: Source,
+    files: &mut [Bytes],
+) -> Result<Ordered, Stop>
     requires all { length (source_roles source) ≤ length files.old }
     requires short { AreShort files.old }
     ensures value { IfOk result (λ ordered. GivesOrdered source files.old ordered.flat ordered.order) }
@@ -133,7 +137,7 @@ pub fn ordered_of(alloc: Global, source: Source, files: &mut [Bytes]) -> Result<
 }
 
 /// The bytes of the file that stands after those of the design, or none where there is no such file.
-pub fn own_file(source: Source, files: &[Bytes]) -> &[u8]
+pub(crate) fn own_file(source: Source, files: &[Bytes]) -> &[u8]
     requires { AreShort files.now }
     ensures value { result.now ≡ own_file source files.now }
     ensures short { length result.now ≤ MOST_BYTES }

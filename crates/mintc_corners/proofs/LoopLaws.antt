@@ -21,7 +21,7 @@ use Rattle.mintc_certificate.specs.Ranges.{IsDeparture}
 use Rattle.mintc_optimise.proofs.SharedStandingLaws.{of_kind}
 use Rattle.mintc_corners.specs.Lifted.{HasLowKind, IsLow, lifted_link}
 use Rattle.mintc_corners.specs.CornerOptimum.{AreDeparturesInRange}
-use Rattle.mintc_corners.specs.Joined.{departures_after, joined, no_timing, own_list, own_values, AreSayableAfter}
+use Rattle.mintc_corners.specs.Joined.{departures_after, joined, no_timing, own_list, corner_values, AreSayableAfter}
 use Rattle.mintc_corners.specs.Joint.{joint_nodes}
 use Rattle.mintc_corners.specs.Laws.{AreSystems}
 use Rattle.mintc_corners.proofs.LiftLaws.{system_at}
@@ -65,7 +65,7 @@ module _ (ts : List Timing) (i : ℕ) (t : Timing) (below : i < length ts) (is :
   sayable_here clock before values h = subst (λ (us : List Timing). AreSayableAfter clock before us values) (left (λ us. us)) h
 
   pub departures_more : (clock before : ℕ) (values ds : List ℤ) (all new whole : List (List ℤ)) → all ++ departures_after clock before (drop i ts) values ≡ whole →
-      ds ≡ departures_of t.flat (own_values clock before (element_count t.flat) values) → new ≡ all ++ ds ∷ [] → new ++ departures_after clock (before + element_count t.flat) (drop (i + 1) ts) values ≡ whole
+      ds ≡ departures_of t.flat (corner_values clock before (element_count t.flat) values) → new ≡ all ++ ds ∷ [] → new ++ departures_after clock (before + element_count t.flat) (drop (i + 1) ts) values ≡ whole
   departures_more clock before values ds all new whole h is step =
       rw (step, append_assoc all (ds ∷ []) (departures_after clock (before + element_count t.flat) (drop (i + 1) ts) values), is) (rw (left (λ us. departures_after clock before us values)) at h)
 

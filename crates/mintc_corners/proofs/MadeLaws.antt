@@ -25,7 +25,7 @@ use Rattle.mintc_optimise.proofs.SharedWalkedLaws.{AreLeast, are_least}
 use Rattle.mintc_corners.specs.declared.members.CornerMember.{CornerMember}
 use Rattle.mintc_corners.specs.declared.certificate.CornerCertificate.TheVariants.{Least, Never}
 use Rattle.mintc_corners.specs.CornerOptimum.{AreDeparturesInRange, IsCornerChainInRange, IsCornerOptimum, IsCornerRing, IsOptimumOf, link_of_corner, links_of_corners}
-use Rattle.mintc_corners.specs.Joined.{departures_after, departures_of_all, joined_links, no_timing, own_values, AreSayableOfAll, StandForAll}
+use Rattle.mintc_corners.specs.Joined.{departures_after, departures_of_all, joined_links, no_timing, corner_values, AreSayableOfAll, StandForAll}
 use Rattle.mintc_corners.specs.Joint.{AreCorners, AreJointlyRight, joint_links_of, joint_nodes, side_by_side}
 use Rattle.mintc_corners.specs.Laws.{AreBeside, AreSystems}
 use Rattle.mintc_corners.proofs.BesideLaws.{beside_in_parts}
@@ -48,11 +48,11 @@ all_departures ds = flat_map (λ (d : List ℤ). d) ds
 -- A schedule that is right side by side, is right in each corner with its part of the departures.
 split_as : (t : Timing) (ts : List Timing) (s : Schedule) (clock before : ℕ) (values : List ℤ) → AreBeside t ts → IsRight (side_by_side t ts) s (all_departures (departures_after clock before (t ∷ ts) values)) →
     AreJointlyRight (t ∷ ts) s (departures_after clock before (t ∷ ts) values)
-split_as t [] s clock before values are right = (subst (IsRight t s) (append-nil (departures_of t.flat (own_values clock before (element_count t.flat) values))) right, tt)
+split_as t [] s clock before values are right = (subst (IsRight t s) (append-nil (departures_of t.flat (corner_values clock before (element_count t.flat) values))) right, tt)
 split_as t (u ∷ ts) s clock before values are right =
-    let d = departures_of t.flat (own_values clock before (element_count t.flat) values) in
+    let d = departures_of t.flat (corner_values clock before (element_count t.flat) values) in
     let rest = all_departures (departures_after clock (before + element_count t.flat) (u ∷ ts) values) in
-    let both = (beside_in_parts t (side_by_side u ts) s d rest are.1 are.0 (counts_are t (own_values clock before (element_count t.flat) values))).0 right in
+    let both = (beside_in_parts t (side_by_side u ts) s d rest are.1 are.0 (counts_are t (corner_values clock before (element_count t.flat) values))).0 right in
     (both.0, split_as u ts s clock (before + element_count t.flat) values are.2 both.1)
 
 module _ (t : Timing) (ts : List Timing) (are : AreCorners (t ∷ ts)) (systems : AreSystems (t ∷ ts)) (some : length ts ≤ 3) (few : element_count (side_by_side t ts).flat ≤ 2000) where

@@ -9,7 +9,7 @@ use Rattle.mintc_timing.specs.Links.{element_node, end_node, start_node}
 use Rattle.mintc_constraints.specs.Duality.{schedule_of}
 use Rattle.mintc_certificate.specs.Ranges.{IsDeparture}
 use Rattle.mintc_optimise.specs.Making.{AreSayable}
-use Rattle.mintc_corners.specs.Joined.{no_timing, own_values, AreSayableAfter, AreSayableOfAll, IsSayable}
+use Rattle.mintc_corners.specs.Joined.{no_timing, corner_values, AreSayableAfter, AreSayableOfAll, IsSayable}
 use Rattle.mintc_corners.specs.Joint.{beside, side_by_side}
 use Rattle.mintc_corners.specs.Laws.{AreBeside, AreSystems}
 use Rattle.mintc_corners.proofs.JointLaws.{phases_are}
@@ -22,9 +22,9 @@ same_phases a zero f g same = refl
 same_phases a (suc k) f g same = rw (same a (omega arith), same_phases (a + 1) k f g (λ p h. same p (omega arith))) refl
 
 pub own_schedule : (t : Timing) (before count : ℕ) (num den : ℤ) (values : List ℤ) → 1 + 2 * phase_count t.flat + before + count ≤ length values →
-    schedule_of t.flat num den (own_values (2 * phase_count t.flat) before count values) ≡ schedule_of t.flat num den values
+    schedule_of t.flat num den (corner_values (2 * phase_count t.flat) before count values) ≡ schedule_of t.flat num den values
 own_schedule t before count num den values inside =
-    let own = own_values (2 * phase_count t.flat) before count values in
+    let own = corner_values (2 * phase_count t.flat) before count values in
     let at : (node : ℕ) → node ≤ 2 * phase_count t.flat → value_at own node ≡ value_at values node = own_clock (2 * phase_count t.flat) before count values inside in
     let starts = same_phases 1 (phase_count t.flat) (λ (p : ℕ). value_at own (start_node p)) (λ (p : ℕ). value_at values (start_node p)) (λ p h. at (start_node p) (omega arith)) in
     let widths = same_phases 1 (phase_count t.flat) (λ (p : ℕ). value_at own (end_node p) -ℤ value_at own (start_node p)) (λ (p : ℕ). value_at values (end_node p) -ℤ value_at values (start_node p))
@@ -46,7 +46,7 @@ module _ (values : List ℤ) (k : ℕ) (starts : (p : ℕ) → 1 ≤ p → p ≤
 
     own_sayable : (t : Timing) (before : ℕ) → phase_count t.flat ≡ k → IsDesign t.flat → before ≤ 2000 → 1 + 2 * k + before + element_count t.flat ≤ length values → DepartInRange before t → IsSayable (2 * k) before t.flat values
     own_sayable t before same limits few inside h =
-        let own = own_values (2 * k) before (element_count t.flat) values in
+        let own = corner_values (2 * k) before (element_count t.flat) values in
         let at : (node : ℕ) → node ≤ 2 * k → value_at own node ≡ value_at values node = own_clock (2 * k) before (element_count t.flat) values inside in
         record {
           before_few = few;
@@ -102,7 +102,7 @@ sayable_of_all t ts values besides systems few h =
 
 -- The schedule that the first corner's own moments stand for.
 pub first_schedule : (systems : List Timing) (t : Timing) (clock count : ℕ) (num den : ℤ) (values own : List ℤ) → 1 ≤ length systems → t ≡ get_or systems 0 t → clock ≡ 2 * phase_count t.flat → count ≡ element_count t.flat →
-    AreSayableOfAll systems values → own ≡ own_values clock 0 count values → schedule_of t.flat num den own ≡ schedule_of (get_or systems 0 no_timing).flat num den values
+    AreSayableOfAll systems values → own ≡ corner_values clock 0 count values → schedule_of t.flat num den own ≡ schedule_of (get_or systems 0 no_timing).flat num den values
 first_schedule [] t clock count num den values own some is clock_is count_is h own_is = absurd (omega arith)
 first_schedule (u ∷ ts) t clock count num den values own some is clock_is count_is h own_is =
     rw (own_is, clock_is, count_is, is) (own_schedule u 0 (element_count u.flat) num den values (omega arith))

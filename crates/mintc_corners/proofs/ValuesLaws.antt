@@ -9,7 +9,7 @@ use Rattle.mintc_timing.specs.declared.parts.Element.{Element}
 use Rattle.mintc_timing.specs.Design.{Timing, element_at, element_count, no_element, phase_count, phase_of}
 use Rattle.mintc_timing.specs.Links.{element_node, start_node}
 use Rattle.mintc_constraints.specs.Duality.{departure_of, departures_of}
-use Rattle.mintc_corners.specs.Joined.{departures_after, departures_of_all, own_values}
+use Rattle.mintc_corners.specs.Joined.{departures_after, departures_of_all, corner_values}
 use Rattle.mintc_corners.specs.Joint.{beside, side_by_side}
 use Rattle.mintc_corners.specs.Laws.{AreBeside, AreSystems}
 use Rattle.mintc_corners.proofs.JointLaws.{phases_are}
@@ -17,7 +17,7 @@ use Rattle.mintc_corners.proofs.PartsLaws.{each-element, element_beside_left, el
 
 module _ (clock before count : ℕ) (values : List ℤ) (inside : 1 + clock + before + count ≤ length values) where
   abbrev own : List ℤ
-  own = own_values clock before count values
+  own = corner_values clock before count values
 
   front : length (take (1 + clock) values) ≡ 1 + clock
   front = length-take-le (1 + clock) values (omega arith)
@@ -57,9 +57,9 @@ record AreAll (ds : List ℤ) (clock before : ℕ) (t : Timing) (values : List �
 
 module _ (values : List ℤ) where
   own_departs : (t : Timing) (ts : List Timing) (clock before : ℕ) → clock ≡ 2 * phase_count t.flat → AreSystems (t ∷ ts) → 1 + clock + before + element_count t.flat ≤ length values →
-      AreAll (departures_of t.flat (own_values clock before (element_count t.flat) values)) clock before t values
+      AreAll (departures_of t.flat (corner_values clock before (element_count t.flat) values)) clock before t values
   own_departs t ts clock before is systems inside =
-      let own = own_values clock before (element_count t.flat) values in
+      let own = corner_values clock before (element_count t.flat) values in
       record {
         count = length-map-range_with_len (departure_of t.flat own) 0 (element_count t.flat);
         each = λ l h.
@@ -90,12 +90,12 @@ module _ (values : List ℤ) where
   all_depart : (t : Timing) (ts : List Timing) (clock before : ℕ) → clock ≡ 2 * phase_count t.flat → AreBeside t ts → AreSystems (t ∷ ts) → 1 + clock + before + element_count (side_by_side t ts).flat ≤ length values →
       AreAll (flat_map (λ (d : List ℤ). d) (departures_after clock before (t ∷ ts) values)) clock before (side_by_side t ts) values
   all_depart t [] clock before is besides systems inside =
-      subst (λ (ds : List ℤ). AreAll ds clock before t values) (sym (append-nil (departures_of t.flat (own_values clock before (element_count t.flat) values)))) (own_departs t [] clock before is systems inside)
+      subst (λ (ds : List ℤ). AreAll ds clock before t values) (sym (append-nil (departures_of t.flat (corner_values clock before (element_count t.flat) values)))) (own_departs t [] clock before is systems inside)
   all_depart t (u ∷ ts) clock before is besides systems inside =
       let v = side_by_side u ts in
       let all = length-append t.flat.elements v.flat.elements in
       let phases = phases_are u ts in
-      both_depart t v (departures_of t.flat (own_values clock before (element_count t.flat) values)) (flat_map (λ (d : List ℤ). d) (departures_after clock (before + element_count t.flat) (u ∷ ts) values)) clock before
+      both_depart t v (departures_of t.flat (corner_values clock before (element_count t.flat) values)) (flat_map (λ (d : List ℤ). d) (departures_after clock (before + element_count t.flat) (u ∷ ts) values)) clock before
       (own_departs t (u ∷ ts) clock before is systems (omega arith))
       (all_depart u ts clock (before + element_count t.flat) (omega arith) besides.2 systems.2 (omega arith))
 

@@ -41,12 +41,12 @@ pub record IsPlace (lists : List Constraints) (number c i : ℕ) : Type 0 where
   pub same : length (flat_map (λ l. l.links) (take c lists)) + i ≡ number
 
 -- the moments of a corner's nodes
-abbrev pub own_values : ℕ → ℕ → ℕ → List ℤ → List ℤ
-own_values clock before count values = take (1 + clock) values ++ take count (drop (1 + clock + before) values)
+abbrev pub corner_values : ℕ → ℕ → ℕ → List ℤ → List ℤ
+corner_values clock before count values = take (1 + clock) values ++ take count (drop (1 + clock + before) values)
 
 abbrev pub departures_after : ℕ → ℕ → List Timing → List ℤ → List (List ℤ)
 departures_after clock before [] values = []
-departures_after clock before (t ∷ ts) values = departures_of t.flat (own_values clock before (element_count t.flat) values) ∷ departures_after clock (before + element_count t.flat) ts values
+departures_after clock before (t ∷ ts) values = departures_of t.flat (corner_values clock before (element_count t.flat) values) ∷ departures_after clock (before + element_count t.flat) ts values
 
 abbrev pub departures_of_all : List Timing → List ℤ → List (List ℤ)
 departures_of_all ts values = departures_after (clock_count ts) 0 ts values
@@ -74,7 +74,7 @@ StandForAll (t ∷ ts) chain members =
 pub record IsSayable (clock before : ℕ) (design : Design) (values : List ℤ) : Type 0 where
   pub before_few : before ≤ MOST_ELEMENTS
   pub inside : 1 + clock + before + element_count design ≤ length values
-  pub sayable : AreSayable design (own_values clock before (element_count design) values)
+  pub sayable : AreSayable design (corner_values clock before (element_count design) values)
 
 abbrev pub AreSayableAfter : ℕ → ℕ → List Timing → List ℤ → Type 0
 AreSayableAfter clock before [] values = Unit {0}

@@ -16,7 +16,7 @@ use mintc_timing::System;
 use std::alloc::Global;
 
 /// Of which corner a joint link is, counted from 0, and its number among that corner's links.
-fn place_of(lists: &[LinkList], number: usize) -> (usize, usize)
+fn corner_of_link(lists: &[LinkList], number: usize) -> (usize, usize)
     requires { number < length (flat_map (λ l. l.links) lists.now) }
     ensures { IsPlace lists.now number result.0 result.1 }
 {
@@ -63,7 +63,7 @@ fn corner_member_of(
     ensures member { IfOk result (StandsFor systems.now (link_at (joined_links systems.now) number)) }
     ensures finders { length finders.new.items ≡ length systems.now }
 {
-    let (corner, own) = place_of(lists, number as usize);
+    let (corner, own) = corner_of_link(lists, number as usize);
     let link = &lists[corner].items()[own];
     let member = member_of(alloc, &systems[corner], &mut finders[corner], link)?;
     Ok(CornerMember {

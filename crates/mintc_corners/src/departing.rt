@@ -5,7 +5,7 @@ ghost use Rattle.mintc_timing.specs.Limits.{IsInRange};
 ghost use Rattle.mintc_constraints.specs.Duality.{schedule_of};
 ghost use Rattle.mintc_ratio.specs.Searched.{IsCycle};
 ghost use Rattle.mintc_corners.specs.CornerOptimum.{AreDeparturesInRange};
-ghost use Rattle.mintc_corners.specs.Joined.{departures_of_all, no_timing, own_values as own_values_of, AreSayableOfAll};
+ghost use Rattle.mintc_corners.specs.Joined.{departures_of_all, no_timing, corner_values as corner_values_of, AreSayableOfAll};
 
 use crate::DeparturesList;
 use crate::joining::clock_nodes;
@@ -17,7 +17,7 @@ use std::alloc::Global;
 
 /// The moments of a corner's nodes: those of time 0 and the clock, and those of its elements, which come after those of the
 /// corners before.
-fn own_values(
+fn corner_values(
     alloc: Global,
     clock: usize,
     before: usize,
@@ -27,7 +27,7 @@ fn own_values(
     requires clock { clock ≤ 16 }
     requires before { before ≤ MOST_ELEMENTS }
     requires inside { 1 + clock + before + count ≤ length values.now }
-    ensures { IfOk result (λ own. own.items ≡ own_values_of clock before count values.now) }
+    ensures { IfOk result (λ own. own.items ≡ corner_values_of clock before count values.now) }
 {
     let mut own = Vec::new(alloc);
     let Ok(()) = own.extend_from_slice(&values[..1 + clock]) else {
@@ -56,7 +56,7 @@ pub(crate) fn joint_schedule(
     let system = &systems[0];
     let clock = clock_nodes(system) as usize;
     let count = system.flat().elements().len();
-    let own = own_values(alloc, clock, 0, count, values)?;
+    let own = corner_values(alloc, clock, 0, count, values)?;
     Ok(schedule(system, cycle, &own))
 }
 
@@ -76,7 +76,7 @@ pub(crate) fn all_departures(
     let mut all = Vec::new(alloc);
     for system in systems {
         let count = system.flat().elements().len();
-        let own = own_values(alloc, clock, before, count, values)?;
+        let own = corner_values(alloc, clock, before, count, values)?;
         let Ok(()) = all.push(departures(alloc, system, &own)?) else {
             return Err(OutOfMemory);
         };

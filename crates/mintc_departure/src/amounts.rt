@@ -8,7 +8,7 @@ ghost use Rattle.mintc_departure.specs.Travels.{early_start_of, early_travel};
 
 use crate::clocked_system::ClockedSystem;
 use mintc_timing::{System, shift};
-use mintc_timing_links::scaled;
+use mintc_timing_links::times_denominator;
 
 /// The least delay of a pair.
 fn least_delay(system: &System, number: usize) -> i64
@@ -28,7 +28,7 @@ impl ClockedSystem<'_> {
         ensures value { result ≡ delay *ℤ self.now.schedule.now.den +ℤ shift_of self.now.schedule.now i j }
         ensures range { IsTime result }
     {
-        scaled(delay, self.schedule.den) + shift(self.schedule, i, j)
+        times_denominator(delay, self.schedule.den) + shift(self.schedule, i, j)
     }
 
     /// By how much later data arrives at the end of a pair than it departs at its beginning, at the latest.
@@ -53,7 +53,7 @@ impl ClockedSystem<'_> {
         if element.flop {
             0
         } else {
-            scaled(element.cq_max - element.dq_max, self.schedule.den)
+            times_denominator(element.cq_max - element.dq_max, self.schedule.den)
         }
     }
 
@@ -80,7 +80,7 @@ impl ClockedSystem<'_> {
         if element.flop {
             0
         } else {
-            scaled(element.cq_min - element.dq_min, self.schedule.den)
+            times_denominator(element.cq_min - element.dq_min, self.schedule.den)
         }
     }
 }

@@ -11,7 +11,7 @@ use crate::clocked_system::ClockedSystem;
 use mintc_constraints::Room;
 
 /// The arrival at an element that no pair leads to: later than any other.
-pub const NEVER: i128 = i128::MAX;
+pub(crate) const NEVER: i128 = i128::MAX;
 
 /// When data that leaves the first element of a pair reaches the second one at the earliest.
 pub(crate) fn arrival(clocked: &ClockedSystem<'_>, departures: &[i64], number: usize) -> i64
@@ -24,7 +24,7 @@ pub(crate) fn arrival(clocked: &ClockedSystem<'_>, departures: &[i64], number: u
 }
 
 /// Lowers the value of a pair's second element to the pair's arrival.
-fn bring(clocked: &ClockedSystem<'_>, room: &mut Room, number: usize)
+fn lower_to(clocked: &ClockedSystem<'_>, room: &mut Room, number: usize)
     requires departures { AreSums clocked.now.system.now.flat room.old.early }
     requires number { number < length clocked.now.system.now.pairs }
     requires count { length room.old.values ≡ element_count clocked.now.system.now.flat }
@@ -64,6 +64,6 @@ pub(crate) fn gather(clocked: &ClockedSystem<'_>, room: &mut Room)
 {
     fill(room, clocked.count(), NEVER);
     for number in 0..clocked.system.pairs().len() {
-        bring(clocked, room, number);
+        lower_to(clocked, room, number);
     }
 }

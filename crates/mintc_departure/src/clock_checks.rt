@@ -36,7 +36,7 @@ pub(crate) fn judge(
 
 /// What is asked of each phase by itself, or with the next one.
 #[derive(Clone, Copy)]
-pub enum PhaseRule {
+pub(crate) enum PhaseRule {
     /// It starts within the cycle.
     Cycle,
     /// It starts no later than the next one.

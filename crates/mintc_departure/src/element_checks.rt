@@ -20,7 +20,7 @@ use crate::latest::LONG_AGO;
 use mintc_constraints::Room;
 use mintc_text::OutOfMemory;
 use mintc_timing::{Broken, Violation};
-use mintc_timing_links::{scaled, width};
+use mintc_timing_links::{times_denominator, width};
 
 /// By how much an element fails its setup, by its late departure and its latest arrival; a flop that no pair leads to has
 /// no setup to keep.
@@ -33,7 +33,7 @@ fn setup_excess(clocked: &ClockedSystem<'_>, time: i64, last: i128, number: u32)
     ensures range { IfSome result IsExcess }
 {
     let element = clocked.system.element(number);
-    let setup = scaled(element.setup, clocked.schedule.den);
+    let setup = times_denominator(element.setup, clocked.schedule.den);
     if !element.flop {
         return Some(i64::max(0, time) + setup - width(clocked.schedule, element.phase));
     }
@@ -112,7 +112,7 @@ fn hold_excess(clocked: &ClockedSystem<'_>, first: i128, number: u32) -> Option<
     if first == NEVER {
         return None;
     }
-    let hold = scaled(element.hold, clocked.schedule.den);
+    let hold = times_denominator(element.hold, clocked.schedule.den);
     Some(hold_start(clocked, number) + hold - (first as i64 + clocked.schedule.cycle))
 }
 

@@ -13,7 +13,7 @@ use crate::clocked_system::ClockedSystem;
 use mintc_constraints::Room;
 
 /// The latest arrival at an element that no pair leads to: earlier than any other.
-pub const LONG_AGO: i128 = i128::MIN;
+pub(crate) const LONG_AGO: i128 = i128::MIN;
 
 /// When data that leaves the first element of a pair reaches the second one at the latest.
 fn latest(clocked: &ClockedSystem<'_>, departures: &[i64], number: usize) -> i64

@@ -12,7 +12,7 @@ ghost use Rattle.mintc_departure.specs.Rounds.{AreSums, AreSwept, IsFirst};
 use crate::arrivals::{NEVER, arrival, gather};
 use crate::chains::{Chains, End};
 use crate::clocked_system::ClockedSystem;
-use crate::rounds::{departs, fill_early_starts};
+use crate::rounds::{departure_by, fill_early_starts};
 use mintc_bitset::BitSet;
 use mintc_constraints::Room;
 use mintc_text::OutOfMemory;
@@ -51,7 +51,7 @@ fn recompute(clocked: &ClockedSystem<'_>, into: &Chains, room: &mut Room, elemen
     let _count = clocked.count();
     let first = earliest(clocked, into, room.early(), element);
     let before = room.early()[element];
-    let time = departs(clocked, element as u32, first);
+    let time = departure_by(clocked, element as u32, first);
     if time == before {
         return false;
     }
@@ -77,7 +77,7 @@ fn wake(system: &System, out: &Chains, stale: &mut BitSet, element: usize)
 }
 
 /// Renews an element, which is then stale only where a pair leads from it to itself. Whether it has another departure.
-fn touch(
+fn recompute_at(
     clocked: &ClockedSystem<'_>,
     into: &Chains,
     out: &Chains,
@@ -128,7 +128,7 @@ fn sweep(
     let mut changed = false;
     let mut at = stale.next(0);
     while at < count {
-        changed |= touch(clocked, into, out, room, stale, at);
+        changed |= recompute_at(clocked, into, out, room, stale, at);
         at = stale.next(at + 1);
     }
     changed

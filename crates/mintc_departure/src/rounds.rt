@@ -15,7 +15,7 @@ use mintc_constraints::Room;
 use mintc_timing::{Schedule, System};
 
 /// When an element's data leaves at the earliest, by its earliest arrival.
-pub(crate) fn departs(clocked: &ClockedSystem<'_>, number: u32, first: i128) -> i64
+pub(crate) fn departure_by(clocked: &ClockedSystem<'_>, number: u32, first: i128) -> i64
     requires number { number < element_count clocked.now.system.now.flat }
     requires first { (first ≡ NEVER) ⊎ IsArrivalSum first }
     ensures { (d : List ℤ) → IsFirst (least_of (early_arrivals clocked.now.system.now clocked.now.schedule.now d number)) first →
@@ -59,7 +59,7 @@ fn raise(clocked: &ClockedSystem<'_>, room: &mut Room) -> bool
     let mut changed = false;
     for number in 0..clocked.count() {
         let before = room.early()[number];
-        let time = departs(clocked, number as u32, room.values()[number]);
+        let time = departure_by(clocked, number as u32, room.values()[number]);
         room.set_early(number, time);
         if time != before {
             changed = true;

@@ -1,4 +1,4 @@
--- Counts that are capped, one target at a time.
+-- Counts that are capped, one binding at a time.
 use Rattle.std.proofs.Common.{◌≡◌, ◌≢◌, ◌⊎◌, inl, inr, ℕ, zero, suc, ◌+◌, ◌<◌, ◌≤◌, map, slice_index, get_or, set, get_or-set_same, get_or-set_other, List, [], ◌∷◌, ◌++◌, length, max, refl, sym, ap, ◌∙◌, subst, arith}
 use Rattle.std.specs.List.{All, AllByRecursion}
 use Rattle.std.proofs.lemmas.Bool.{cases_eq}
@@ -6,10 +6,10 @@ use Rattle.std.proofs.lemmas.List.Elements.{All-from_recursion}
 use Rattle.mintc_cells.specs.Rules.{pins}
 use Rattle.mintc_netlist.specs.declared.module.Item.{Item}
 use Rattle.mintc_netlist.specs.Nets.{nets_of}
-use Rattle.mintc_flatten_hierarchy.specs.declared.targets.Target.{Target}
-use Rattle.mintc_flatten_hierarchy.specs.declared.targets.Target.TheVariants.{OfCell, OfModule, OfNothing}
+use Rattle.mintc_flatten_hierarchy.specs.declared.bindings.Binding.{Binding}
+use Rattle.mintc_flatten_hierarchy.specs.declared.bindings.Binding.TheVariants.{OfCell, OfModule, OfNothing}
 use Rattle.mintc_flatten.specs.declared.counts.Count.{Count}
-use Rattle.mintc_flatten_hierarchy.specs.Sources.{Source, module_at, cell_at, target_in, targets_in}
+use Rattle.mintc_flatten_hierarchy.specs.Sources.{Source, module_at, cell_at, binding_in, bindings_in}
 use Rattle.mintc_flatten_hierarchy.specs.Walks.{Counts, counts, plus, deepest, depth}
 use Rattle.mintc_flatten.specs.Totals.{part, sum_parts, capped, IsCapped, IsCount, no_count, IsCounted, AreCounted, depth_of, greatest_depth}
 use Rattle.mintc_flatten_binding.specs.Orders.{IsThere, Stands, IsOrder}
@@ -21,14 +21,14 @@ use Rattle.mintc_flatten_hierarchy.proofs.SharedLengthLaws.{length-pins_of}
 pub capped_sum : (a b : ℕ) → capped (capped a + capped b) ≡ capped (a + b)
 capped_sum a b = omega arith
 
-pub parts-push : (s : Source) (ts : List Target) (t : Target) → sum_parts s (ts ++ t ∷ []) ≡ plus (sum_parts s ts) (part s t)
+pub parts-push : (s : Source) (ts : List Binding) (t : Binding) → sum_parts s (ts ++ t ∷ []) ≡ plus (sum_parts s ts) (part s t)
 parts-push s [] t = plus_none (part s t) ∙ sym (none_plus (part s t))
 parts-push s (x ∷ ts) t = ap (plus (part s x)) (parts-push s ts t) ∙ sym (plus_assoc (part s x) (sum_parts s ts) (part s t))
 
 max_assoc : (a b c : ℕ) → max a (max b c) ≡ max (max a b) c
 max_assoc a b c = omega arith
 
-pub depth-push : (s : Source) (ts : List Target) (t : Target) → greatest_depth s (ts ++ t ∷ []) ≡ max (greatest_depth s ts) (depth_of s t)
+pub depth-push : (s : Source) (ts : List Binding) (t : Binding) → greatest_depth s (ts ++ t ∷ []) ≡ max (greatest_depth s ts) (depth_of s t)
 depth-push s [] (OfCell n) = refl
 depth-push s [] (OfModule k) = omega arith
 depth-push s [] OfNothing = refl
@@ -39,8 +39,8 @@ depth-push s (OfModule k ∷ ts) t = ap (max (depth s (length s.modules) k)) (de
 capped_step : (m c p own a b ab : ℕ) → c ≡ capped (own + a) → p ≡ capped b → m ≡ capped (c + p) → ab ≡ a + b → m ≡ capped (own + ab)
 capped_step m c p own a b ab h k e sum = omega arith
 
--- the counts with one more target
-pub count_step : (s : Source) (own : ℕ) (ts : List Target) (t : Target) (count p more : Count) →
+-- the counts with one more binding
+pub count_step : (s : Source) (own : ℕ) (ts : List Binding) (t : Binding) (count p more : Count) →
     IsCapped (plus (counts 1 0 own) (sum_parts s ts)) (greatest_depth s ts) count → IsCapped (part s t) (depth_of s t) p →
     more.scopes ≡ capped (count.scopes + p.scopes) → more.leaves ≡ capped (count.leaves + p.leaves) → more.inner ≡ capped (count.inner + p.inner) → more.depth ≡ max count.depth p.depth →
     IsCapped (plus (counts 1 0 own) (sum_parts s (ts ++ t ∷ []))) (greatest_depth s (ts ++ t ∷ [])) more
@@ -57,14 +57,14 @@ count_step s own ts t count p more h k a b c d =
     }
 
 -- a cell's counts
-pub cell_count : (s : Source) (n x : ℕ) (t : Target) → t ≡ OfCell n → x ≡ capped (length (pins (cell_at s n))) →
+pub cell_count : (s : Source) (n x : ℕ) (t : Binding) → t ≡ OfCell n → x ≡ capped (length (pins (cell_at s n))) →
     IsCapped (part s t) (depth_of s t) (record { scopes = 0; leaves = 1; inner = x; depth = 0 })
-cell_count s n x t is e = subst (λ (u : Target). IsCapped (part s u) (depth_of s u) (record { scopes = 0; leaves = 1; inner = x; depth = 0 })) (sym is)
+cell_count s n x t is e = subst (λ (u : Binding). IsCapped (part s u) (depth_of s u) (record { scopes = 0; leaves = 1; inner = x; depth = 0 })) (sym is)
     (record { scopes = refl; leaves = refl; inner = e ∙ ap capped (sym (length-pins_of (cell_at s n))); depth = refl })
 
 -- The items of the module at place i of an order are counted once those before it are.
 counted_one : (s : Source) (order : List ℕ) (i : ℕ) (table : List Count) → IsOrder s order → i < length order → AreCounted s order i table → length table ≡ length s.modules →
-    (t : Target) → IsThere s t → Stands order i t → IsCounted s table t
+    (t : Binding) → IsThere s t → Stands order i t → IsCounted s table t
 counted_one s order i table h inside counted same (OfCell n) is_there stands = is_there
 counted_one s order i table h inside counted same OfNothing is_there stands = tt
 counted_one s order i table h inside counted same (OfModule k) is_there (j, before, is) =
@@ -74,18 +74,18 @@ counted_one s order i table h inside counted same (OfModule k) is_there (j, befo
     subst (λ (n : ℕ). IsCounted s table (OfModule n)) is (within, counted.each j before)
 
 counted_all : (s : Source) (order : List ℕ) (i : ℕ) (table : List Count) → IsOrder s order → i < length order → AreCounted s order i table → length table ≡ length s.modules →
-    (is : List Item) → AllByRecursion (Stands order i) (map (target_in s) is) → AllByRecursion (IsCounted s table) (map (target_in s) is)
+    (is : List Item) → AllByRecursion (Stands order i) (map (binding_in s) is) → AllByRecursion (IsCounted s table) (map (binding_in s) is)
 counted_all s order i table h inside counted same [] all = tt
 counted_all s order i table h inside counted same (x ∷ is) all =
-    (counted_one s order i table h inside counted same (target_in s x) (there s x) all.0, counted_all s order i table h inside counted same is all.1)
+    (counted_one s order i table h inside counted same (binding_in s x) (there s x) all.0, counted_all s order i table h inside counted same is all.1)
 
-pub counted_targets : (s : Source) (order : List ℕ) (i : ℕ) (table : List Count) → IsOrder s order → i < length order → AreCounted s order i table → length table ≡ length s.modules →
-    All (IsCounted s table) (targets_in s (module_at s (slice_index order i)))
-counted_targets s order i table h inside counted same =
-    All-from_recursion (IsCounted s table) (targets_in s (module_at s (slice_index order i))) (counted_all s order i table h inside counted same (module_at s (slice_index order i)).items (h.behind i inside))
+pub counted_bindings : (s : Source) (order : List ℕ) (i : ℕ) (table : List Count) → IsOrder s order → i < length order → AreCounted s order i table → length table ≡ length s.modules →
+    All (IsCounted s table) (bindings_in s (module_at s (slice_index order i)))
+counted_bindings s order i table h inside counted same =
+    All-from_recursion (IsCounted s table) (bindings_in s (module_at s (slice_index order i))) (counted_all s order i table h inside counted same (module_at s (slice_index order i)).items (h.behind i inside))
 
 -- no module is deeper than there are instances in one another
-deepest-le : (f : ℕ → ℕ) (most : ℕ) → ((k : ℕ) → f k ≤ most) → (ts : List Target) → deepest f ts ≤ most
+deepest-le : (f : ℕ → ℕ) (most : ℕ) → ((k : ℕ) → f k ≤ most) → (ts : List Binding) → deepest f ts ≤ most
 deepest-le f most h [] = omega arith
 deepest-le f most h (OfCell n ∷ ts) = deepest-le f most h ts
 deepest-le f most h (OfNothing ∷ ts) = deepest-le f most h ts
@@ -93,14 +93,14 @@ deepest-le f most h (OfModule k ∷ ts) = let a = h k in let b = deepest-le f mo
 
 depth-le : (s : Source) (deep k : ℕ) → depth s deep k ≤ suc deep
 depth-le s zero k = omega arith
-depth-le s (suc deep) k = let a = deepest-le (depth s deep) (suc deep) (depth-le s deep) (targets_in s (module_at s k)) in omega arith
+depth-le s (suc deep) k = let a = deepest-le (depth s deep) (suc deep) (depth-le s deep) (bindings_in s (module_at s k)) in omega arith
 
-pub greatest_depth-le : (s : Source) (ts : List Target) → greatest_depth s ts ≤ suc (length s.modules)
+pub greatest_depth-le : (s : Source) (ts : List Binding) → greatest_depth s ts ≤ suc (length s.modules)
 greatest_depth-le s ts = deepest-le (depth s (length s.modules)) (suc (length s.modules)) (depth-le s (length s.modules)) ts
 
 -- the count of the module at place i of an order
 pub module_counted : (s : Source) (order : List ℕ) (i : ℕ) (c : Count) → IsOrder s order → i < length order →
-    IsCapped (plus (counts 1 0 (length (nets_of (module_at s (slice_index order i))))) (sum_parts s (targets_in s (module_at s (slice_index order i))))) (greatest_depth s (targets_in s (module_at s (slice_index order i))) + 1) c →
+    IsCapped (plus (counts 1 0 (length (nets_of (module_at s (slice_index order i))))) (sum_parts s (bindings_in s (module_at s (slice_index order i))))) (greatest_depth s (bindings_in s (module_at s (slice_index order i))) + 1) c →
     IsCount s (slice_index order i) c
 module_counted s order i c h inside k =
     let e = all_in-parts s order h i inside in

@@ -11,8 +11,8 @@ use Rattle.mintc_netlist.specs.declared.module.Module.{Module}
 use Rattle.mintc_netlist.specs.Expressions.{expression_places}
 use Rattle.mintc_netlist.specs.Connections.{Pin, Wiring, wiring_of, expression_at, wirings_from}
 use Rattle.mintc_flatten_hierarchy.specs.declared.hierarchy.Join.{Join}
-use Rattle.mintc_flatten_hierarchy.specs.declared.targets.Target.{Target}
-use Rattle.mintc_flatten_hierarchy.specs.Sources.{Source, target_pins}
+use Rattle.mintc_flatten_hierarchy.specs.declared.bindings.Binding.{Binding}
+use Rattle.mintc_flatten_hierarchy.specs.Sources.{Source, binding_pins}
 use Rattle.mintc_flatten_hierarchy.specs.Walks.{place_at}
 use Rattle.mintc_flatten_hierarchy.specs.Hierarchies.{joined, wiring_joins}
 use Rattle.mintc_flatten_binding.specs.Wired.{no_pin, pin_at, wiring_at}
@@ -84,10 +84,10 @@ wirings_cons : (f : Wiring → List Join) (o : Option Wiring) (ws : List Wiring)
 wirings_cons f None ws = refl
 wirings_cons f (Some w) ws = ap (λ (js : List Join). js ++ flat_map f ws) (sym (append-nil (f w)))
 
-pub wirings_turn : (f : Wiring → List Join) (i : Item) (s : Source) (t : Target) (k : ℕ) (old new : List Join) → k < length (target_pins s t) → new ≡ old ++ flat_map f (wiring_at i s t k) →
-    new ++ flat_map f (wirings_from (k + 1) i (drop (k + 1) (target_pins s t))) ≡ old ++ flat_map f (wirings_from k i (drop k (target_pins s t)))
+pub wirings_turn : (f : Wiring → List Join) (i : Item) (s : Source) (t : Binding) (k : ℕ) (old new : List Join) → k < length (binding_pins s t) → new ≡ old ++ flat_map f (wiring_at i s t k) →
+    new ++ flat_map f (wirings_from (k + 1) i (drop (k + 1) (binding_pins s t))) ≡ old ++ flat_map f (wirings_from k i (drop k (binding_pins s t)))
 wirings_turn f i s t k old new inside more =
-    let pins = target_pins s t in
+    let pins = binding_pins s t in
     let here : drop k pins ≡ pin_at s t k ∷ drop (k + 1) pins = drop_more pins k no_pin inside in
     ap (λ (js : List Join). js ++ flat_map f (wirings_from (k + 1) i (drop (k + 1) pins))) more
     ∙ append_assoc old (flat_map f (wiring_at i s t k)) (flat_map f (wirings_from (k + 1) i (drop (k + 1) pins)))

@@ -5,21 +5,21 @@ use Rattle.std.proofs.lemmas.List.{take_more}
 use Rattle.std.proofs.lemmas.List.Elements.{filter-append}
 use Rattle.mintc_netlist.specs.declared.module.Item.{Item}
 use Rattle.mintc_netlist.specs.declared.module.Module.{Module}
-use Rattle.mintc_flatten_hierarchy.specs.declared.targets.Target.{Target}
-use Rattle.mintc_flatten_hierarchy.specs.declared.targets.Target.TheVariants.{OfCell, OfModule, OfNothing}
-use Rattle.mintc_flatten_hierarchy.specs.Sources.{Source, module_at, is_stub, scope_number, target_in, targets_in}
+use Rattle.mintc_flatten_hierarchy.specs.declared.bindings.Binding.{Binding}
+use Rattle.mintc_flatten_hierarchy.specs.declared.bindings.Binding.TheVariants.{OfCell, OfModule, OfNothing}
+use Rattle.mintc_flatten_hierarchy.specs.Sources.{Source, module_at, is_stub, scope_number, binding_in, bindings_in}
 use Rattle.mintc_flatten_hierarchy.specs.Refusals.{instantiates}
 use Rattle.mintc_flatten_binding.proofs.SharedBoolLaws.{or_assoc, or_false}
 use Rattle.mintc_flatten.specs.Tops.{is_module, is_any_module, Marks, AreMarks}
 
-any_one : (k : ℕ) (t : Target) (xs : List ℕ) (b : Bool) → list_any (nat_eq k) xs ≡ b → list_any (nat_eq k) (cons_option (scope_number t) xs) ≡ (is_module k t || b)
+any_one : (k : ℕ) (t : Binding) (xs : List ℕ) (b : Bool) → list_any (nat_eq k) xs ≡ b → list_any (nat_eq k) (cons_option (scope_number t) xs) ≡ (is_module k t || b)
 any_one k (OfCell n) xs b h = h
 any_one k (OfModule j) xs b h = ap (λ c. nat_eq k j || c) h
 any_one k OfNothing xs b h = h
 
-any_children : (s : Source) (k : ℕ) (is : List Item) → list_any (nat_eq k) (filter_map (λ i. scope_number (target_in s i)) is) ≡ is_any_module (map (target_in s) is) k
+any_children : (s : Source) (k : ℕ) (is : List Item) → list_any (nat_eq k) (filter_map (λ i. scope_number (binding_in s i)) is) ≡ is_any_module (map (binding_in s) is) k
 any_children s k [] = refl
-any_children s k (i ∷ is) = any_one k (target_in s i) (filter_map (λ i. scope_number (target_in s i)) is) (is_any_module (map (target_in s) is) k) (any_children s k is)
+any_children s k (i ∷ is) = any_one k (binding_in s i) (filter_map (λ i. scope_number (binding_in s i)) is) (is_any_module (map (binding_in s) is) k) (any_children s k is)
 
 -- what some of a list and one more instantiate
 any_by : (p : Module → Bool) (x m : Module) (ms : List Module) (live : Module → Bool) (b : Bool) →
@@ -41,8 +41,8 @@ any_next s n m k b inside is stub =
     ∙ any_push (instantiates s k) (λ m. not (is_stub s m)) (take n s.modules) m
     ∙ ap (λ (c : Bool). list_any (instantiates s k) (filter (λ m. not (is_stub s m)) (take n s.modules)) || list_any (instantiates s k) (cond (not c) (m ∷ []) [])) stub
 
-pub marks_step : (s : Source) (n : ℕ) (marks more : List Bool) (m : Module) (ts : List Target) → AreMarks s n marks → n < length s.modules → m ≡ get_or s.modules n m → is_stub s m ≡ false →
-    ts ≡ targets_in s m → Marks marks more (is_any_module ts) → AreMarks s (n + 1) more
+pub marks_step : (s : Source) (n : ℕ) (marks more : List Bool) (m : Module) (ts : List Binding) → AreMarks s n marks → n < length s.modules → m ≡ get_or s.modules n m → is_stub s m ≡ false →
+    ts ≡ bindings_in s m → Marks marks more (is_any_module ts) → AreMarks s (n + 1) more
 marks_step s n marks more m ts h inside is live same added = record {
   same_length = added.same_length ∙ h.same_length;
   each = λ k below.
@@ -51,7 +51,7 @@ marks_step s n marks more m ts h inside is live same added = record {
       added.each k within
       ∙ ap (λ (b : Bool). b || is_any_module ts k) (h.each k below)
       ∙ ap (λ (b : Bool). list_any (instantiates s k) (filter (λ m. not (is_stub s m)) (take n s.modules)) || b)
-      (ap (λ (xs : List Target). is_any_module xs k) same ∙ sym (any_children s k m.items) ∙ sym (or_false (instantiates s k m)))
+      (ap (λ (xs : List Binding). is_any_module xs k) same ∙ sym (any_children s k m.items) ∙ sym (or_false (instantiates s k m)))
       ∙ sym (any_next s n m k false inside is live);
 }
 

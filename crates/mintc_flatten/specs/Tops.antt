@@ -1,18 +1,18 @@
 -- Which modules are instantiated, as marks.
 use Rattle.std.specs.Prelude.{◌≡◌, ◌<◌, ℕ, nat_eq, Bool, false, not, ◌||◌, List, length, take, filter}
 use Rattle.std.specs.List.{list_any}
-use Rattle.mintc_flatten_hierarchy.specs.declared.targets.Target.{Target}
+use Rattle.mintc_flatten_hierarchy.specs.declared.bindings.Binding.{Binding}
 use Rattle.mintc_flatten_hierarchy.specs.Sources.{Source, is_stub}
 use Rattle.mintc_flatten_hierarchy.specs.Refusals.{instantiates}
-use Rattle.mintc_flatten_hierarchy.specs.declared.targets.Target.TheVariants.{OfModule}
+use Rattle.mintc_flatten_hierarchy.specs.declared.bindings.Binding.TheVariants.{OfModule}
 use Rattle.mintc_flatten_binding.specs.Orders.{mark_at}
 
--- whether a target is the module of a number, and whether some target is
-abbrev pub is_module : ℕ → Target → Bool
+-- whether a binding is the module of a number, and whether some binding is
+abbrev pub is_module : ℕ → Binding → Bool
 is_module k (OfModule j) = nat_eq k j
 is_module k _ = false
 
-abbrev pub is_any_module : List Target → ℕ → Bool
+abbrev pub is_any_module : List Binding → ℕ → Bool
 is_any_module ts k = list_any (is_module k) ts
 
 -- The marks are those before, and those of further modules.

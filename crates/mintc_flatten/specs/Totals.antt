@@ -3,23 +3,23 @@ use Rattle.std.specs.Prelude.{◌≡◌, ◌<◌, ℕ, zero, suc, List, [], ◌�
 use Rattle.mintc_text.specs.declared.limits.TheConstants.{MOST_TOLD}
 use Rattle.mintc_netlist.specs.declared.module.Module.{Module}
 use Rattle.mintc_netlist.specs.Nets.{nets_of}
-use Rattle.mintc_flatten_hierarchy.specs.declared.targets.Target.{Target}
-use Rattle.mintc_flatten_hierarchy.specs.declared.targets.Target.TheVariants.{OfCell, OfModule, OfNothing}
+use Rattle.mintc_flatten_hierarchy.specs.declared.bindings.Binding.{Binding}
+use Rattle.mintc_flatten_hierarchy.specs.declared.bindings.Binding.TheVariants.{OfCell, OfModule, OfNothing}
 use Rattle.mintc_flatten.specs.declared.counts.Count.{Count}
-use Rattle.mintc_flatten_hierarchy.specs.Sources.{Source, module_at, targets_in}
+use Rattle.mintc_flatten_hierarchy.specs.Sources.{Source, module_at, bindings_in}
 use Rattle.mintc_flatten_hierarchy.specs.Walks.{Counts, counts, plus, size_of, depth, deepest}
 
--- some targets, each by itself and with what stands inside it
-abbrev pub sum_of : Source → (Target → Counts) → List Target → Counts
+-- some bindings, each by itself and with what stands inside it
+abbrev pub sum_of : Source → (Binding → Counts) → List Binding → Counts
 sum_of s inside [] = counts 0 0 0
 sum_of s inside (t ∷ ts) = plus (plus (size_of s t) (inside t)) (sum_of s inside ts)
 
-abbrev pub content_by : Source → (Target → Counts) → Target → Counts
-content_by s inside (OfModule k) = sum_of s inside (targets_in s (module_at s k))
+abbrev pub content_by : Source → (Binding → Counts) → Binding → Counts
+content_by s inside (OfModule k) = sum_of s inside (bindings_in s (module_at s k))
 content_by s inside _ = counts 0 0 0
 
--- what stands inside a target, so many instances deep
-abbrev pub content : Source → ℕ → Target → Counts
+-- what stands inside a binding, so many instances deep
+abbrev pub content : Source → ℕ → Binding → Counts
 content s zero t = counts 0 0 0
 content s (suc deep) t = content_by s (content s deep) t
 
@@ -27,12 +27,12 @@ content s (suc deep) t = content_by s (content s deep) t
 abbrev pub all_in : Source → ℕ → Counts
 all_in s top = plus (size_of s (OfModule top)) (content s (suc (length s.modules)) (OfModule top))
 
--- what a target has with all that stands inside it
-abbrev pub part : Source → Target → Counts
+-- what a binding has with all that stands inside it
+abbrev pub part : Source → Binding → Counts
 part s (OfModule k) = all_in s k
 part s t = size_of s t
 
-abbrev pub sum_parts : Source → List Target → Counts
+abbrev pub sum_parts : Source → List Binding → Counts
 sum_parts s [] = counts 0 0 0
 sum_parts s (t ∷ ts) = plus (part s t) (sum_parts s ts)
 
@@ -54,18 +54,18 @@ IsCount s k count = IsCapped (all_in s k) (depth s (length s.modules) k) count
 abbrev pub no_count : Count
 no_count = record { scopes = 0; leaves = 0; inner = 0; depth = 0 }
 
--- The target is there, and if it is a module, it is counted.
-abbrev pub IsCounted : Source → List Count → Target → Type 0
+-- The binding is there, and if it is a module, it is counted.
+abbrev pub IsCounted : Source → List Count → Binding → Type 0
 IsCounted s table (OfCell n) = n < length s.cells
 IsCounted s table (OfModule k) = (k < length table) × IsCount s k (slice_index_or table k no_count)
 IsCounted s table OfNothing = Unit {0}
 
--- how deep a target is
-abbrev pub depth_of : Source → Target → ℕ
+-- how deep a binding is
+abbrev pub depth_of : Source → Binding → ℕ
 depth_of s (OfModule k) = depth s (length s.modules) k
 depth_of s _ = 0
 
-abbrev pub greatest_depth : Source → List Target → ℕ
+abbrev pub greatest_depth : Source → List Binding → ℕ
 greatest_depth s ts = deepest (depth s (length s.modules)) ts
 
 -- how many bits the nets of a module have, capped

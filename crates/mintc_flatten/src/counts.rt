@@ -1,15 +1,15 @@
 //! How many scopes, leaves and inner bits a hierarchy has, and how deep it is, without building it.
 ghost use Rattle.std.specs.Prelude.{◌≡◌, ◌<◌, ◌≤◌, ◌+◌, ◌^◌, ◌-◌, ◌∷◌, ◌++◌, [], ℕ, suc, max, length, map, take, slice_index, slice_index_or, IfOk};
 ghost use Rattle.std.specs.List.{All};
-ghost use Rattle.mintc_flatten_hierarchy.specs.Sources.{source_of, targets_in};
+ghost use Rattle.mintc_flatten_hierarchy.specs.Sources.{source_of, bindings_in};
 ghost use Rattle.mintc_flatten_hierarchy.specs.Walks.{counts, plus};
 ghost use Rattle.mintc_netlist_nets.specs.Tables.{table_of};
 ghost use Rattle.mintc_flatten.specs.Totals.{capped, part, sum_parts, IsCapped, IsCounted, depth_of, greatest_depth, AreCounted, net_count};
 ghost use Rattle.mintc_flatten_binding.specs.Orders.{IsOrder};
 
 use mintc_cells::Cells;
-use mintc_flatten_binding::TargetList;
-use mintc_flatten_hierarchy::Target;
+use mintc_flatten_binding::BindingList;
+use mintc_flatten_hierarchy::Binding;
 use mintc_netlist::Module;
 use mintc_netlist_nets::Nets;
 use mintc_text::OutOfMemory;
@@ -18,27 +18,27 @@ use std::alloc::Global;
 
 /// The counts of the hierarchy from a module. The first three are capped at `MOST_TOLD`.
 #[derive(Clone, Copy)]
-pub struct Count {
+pub(crate) struct Count {
     pub scopes: u64,
     pub leaves: u64,
     pub inner: u64,
     pub depth: u64,
 }
 
-/// What an item's target has with all that stands inside it.
-fn part(cells: &Cells, modules: &[Module], table: &[Count], target: Target) -> Count
-    requires { IsCounted (source_of cells.now modules.now) table.now target }
-    ensures { IsCapped (part (source_of cells.now modules.now) target) (depth_of (source_of cells.now modules.now) target) result }
+/// What an item's binding has with all that stands inside it.
+fn part(cells: &Cells, modules: &[Module], table: &[Count], binding: Binding) -> Count
+    requires { IsCounted (source_of cells.now modules.now) table.now binding }
+    ensures { IsCapped (part (source_of cells.now modules.now) binding) (depth_of (source_of cells.now modules.now) binding) result }
 {
-    match target {
-        Target::OfCell(number) => Count {
+    match binding {
+        Binding::OfCell(number) => Count {
             scopes: 0,
             leaves: 1,
             inner: u64::from(cells.pin_count(number)).min(MOST_TOLD),
             depth: 0,
         },
-        Target::OfModule(number) => table[number as usize],
-        Target::OfNothing => Count {
+        Binding::OfModule(number) => table[number as usize],
+        Binding::OfNothing => Count {
             scopes: 0,
             leaves: 0,
             inner: 0,
@@ -47,7 +47,7 @@ fn part(cells: &Cells, modules: &[Module], table: &[Count], target: Target) -> C
     }
 }
 
-/// The counts so far and those of one more target.
+/// The counts so far and those of one more binding.
 fn with_part(count: Count, part: Count) -> Count
     requires scopes { count.scopes ≤ MOST_TOLD }
     requires leaves { count.leaves ≤ MOST_TOLD }
@@ -73,13 +73,13 @@ fn items_count(
     cells: &Cells,
     modules: &[Module],
     table: &[Count],
-    targets: &[Target],
+    bindings: &[Binding],
     bits: u64,
 ) -> Count
-    requires counted { All (IsCounted (source_of cells.now modules.now) table.now) targets.now }
+    requires counted { All (IsCounted (source_of cells.now modules.now) table.now) bindings.now }
     requires bits { bits ≤ MOST_TOLD }
     ensures { (own : ℕ) → bits ≡ capped own →
-        IsCapped (plus (counts 1 0 own) (sum_parts (source_of cells.now modules.now) targets.now)) (greatest_depth (source_of cells.now modules.now) targets.now) result }
+        IsCapped (plus (counts 1 0 own) (sum_parts (source_of cells.now modules.now) bindings.now)) (greatest_depth (source_of cells.now modules.now) bindings.now) result }
 {
     let mut count = Count {
         scopes: 1,
@@ -87,27 +87,27 @@ fn items_count(
         inner: bits,
         depth: 0,
     };
-    for target in targets {
-        count = with_part(count, part(cells, modules, table, *target));
+    for binding in bindings {
+        count = with_part(count, part(cells, modules, table, *binding));
     }
     count
 }
 
-/// The counts of the hierarchy from a module, from its nets, its items' targets and the counts of the modules among them.
-pub fn module_count(
+/// The counts of the hierarchy from a module, from its nets, its items' bindings and the counts of the modules among them.
+pub(crate) fn module_count(
     cells: &Cells,
     modules: &[Module],
     table: &[Count],
-    targets: &[Target],
+    bindings: &[Binding],
     bits: u64,
 ) -> Count
-    requires counted { All (IsCounted (source_of cells.now modules.now) table.now) targets.now }
+    requires counted { All (IsCounted (source_of cells.now modules.now) table.now) bindings.now }
     requires bits { bits ≤ MOST_TOLD }
-    requires shallow { greatest_depth (source_of cells.now modules.now) targets.now < 2 ^ 33 }
+    requires shallow { greatest_depth (source_of cells.now modules.now) bindings.now < 2 ^ 33 }
     ensures { (own : ℕ) → bits ≡ capped own →
-        IsCapped (plus (counts 1 0 own) (sum_parts (source_of cells.now modules.now) targets.now)) (greatest_depth (source_of cells.now modules.now) targets.now + 1) result }
+        IsCapped (plus (counts 1 0 own) (sum_parts (source_of cells.now modules.now) bindings.now)) (greatest_depth (source_of cells.now modules.now) bindings.now + 1) result }
 {
-    let items = items_count(cells, modules, table, targets, bits);
+    let items = items_count(cells, modules, table, bindings, bits);
     Count {
         scopes: items.scopes,
         leaves: items.leaves,
@@ -118,16 +118,16 @@ pub fn module_count(
 
 /// The counts of the hierarchies from the modules of an order, in which each stands behind those that it instantiates. Of the
 /// other modules nothing is said.
-pub fn count_modules(
+pub(crate) fn count_modules(
     alloc: Global,
     cells: &Cells,
     modules: &[Module],
-    targets: &[TargetList],
+    bindings: &[BindingList],
     bits: &[u64],
     order: &[u32],
 ) -> Result<Vec<Count>, OutOfMemory>
     requires order { IsOrder (source_of cells.now modules.now) order.now }
-    requires targets { targets.now ≡ map (targets_in (source_of cells.now modules.now)) modules.now }
+    requires bindings { bindings.now ≡ map (bindings_in (source_of cells.now modules.now)) modules.now }
     requires bits { bits.now ≡ map net_count modules.now }
     requires few { length modules.now < 2 ^ 32 }
     ensures each { IfOk result (λ table. AreCounted (source_of cells.now modules.now) order.now (length order.now) table.items) }
@@ -144,13 +144,17 @@ pub fn count_modules(
     };
     for number in order {
         let at = *number as usize;
-        table[at] = module_count(cells, modules, &table, targets[at].items(), bits[at]);
+        table[at] = module_count(cells, modules, &table, bindings[at].items(), bits[at]);
     }
     Ok(table)
 }
 
 /// How many bits the nets of each module have, capped at `MOST_TOLD`.
-pub fn net_counts(alloc: Global, modules: &[Module], nets: &[Nets]) -> Result<Vec<u64>, OutOfMemory>
+pub(crate) fn net_counts(
+    alloc: Global,
+    modules: &[Module],
+    nets: &[Nets],
+) -> Result<Vec<u64>, OutOfMemory>
     requires { nets.now ≡ map table_of modules.now }
     ensures { IfOk result (λ counts. counts.items ≡ map net_count modules.now) }
 {

@@ -4,10 +4,10 @@ ghost use Rattle.std.specs.List.{flat_map};
 ghost use Rattle.std.specs.Option.{option_to_list};
 ghost use Rattle.mintc_netlist.specs.Connections.{wirings_of};
 ghost use Rattle.mintc_netlist.specs.Expressions.{expression_places};
-ghost use Rattle.mintc_flatten_hierarchy.specs.Sources.{target_in, target_pins};
+ghost use Rattle.mintc_flatten_hierarchy.specs.Sources.{binding_in, binding_pins};
 ghost use Rattle.mintc_flatten_hierarchy.specs.Walks.{counts, place_at, step_at};
 ghost use Rattle.mintc_flatten_hierarchy.specs.Hierarchies.{joined, numbers_of, wiring_joins, joins_in};
-ghost use Rattle.mintc_flatten_binding.specs.Homes.{source_in};
+ghost use Rattle.mintc_flatten_binding.specs.NetsOfModules.{source_in};
 ghost use Rattle.mintc_flatten_binding.specs.Orders.{IsThere};
 ghost use Rattle.mintc_flatten.specs.Joining.{moved};
 ghost use Rattle.mintc_flatten_binding.specs.Wired.{pin_at, wiring_at, IsOfItem};
@@ -15,7 +15,7 @@ ghost use Rattle.mintc_flatten_binding.specs.Wired.{pin_at, wiring_at, IsOfItem}
 use mintc_flatten_binding::{
     ConnectionIndex, Instance, ModuleNets, Source, is_output, pin_count, pin_name, push_pin,
 };
-use mintc_flatten_hierarchy::{Join, Target};
+use mintc_flatten_hierarchy::{Binding, Join};
 use mintc_netlist::{Item, Piece};
 use mintc_text::OutOfMemory;
 use std::alloc::Global;
@@ -78,7 +78,7 @@ fn push_joined(
 #[derive(Clone, Copy)]
 pub(crate) struct JoinSite<'a> {
     pub source: Source<'a>,
-    pub home: ModuleNets<'a>,
+    pub module_nets: ModuleNets<'a>,
     pub first: u32,
     pub own: u32,
 }
@@ -91,9 +91,9 @@ fn push_assign(
     left: &[Piece],
     right: &[Piece],
 ) -> Result<(), OutOfMemory>
-    ensures { OnOk result (joins.new.items ≡ joins.old.items ++ joined (numbers_of (place_at site.now.home.part.now 0 site.now.first) right.now) (numbers_of (place_at site.now.home.part.now 0 site.now.first) left.now)) }
+    ensures { OnOk result (joins.new.items ≡ joins.old.items ++ joined (numbers_of (place_at site.now.module_nets.part.now 0 site.now.first) right.now) (numbers_of (place_at site.now.module_nets.part.now 0 site.now.first) left.now)) }
 {
-    let ModuleNets { part, nets, .. } = site.home;
+    let ModuleNets { part, nets, .. } = site.module_nets;
     let mut froms = Vec::new(alloc);
     nets.push_places(alloc, part, right, &mut froms)?;
     let mut tos = Vec::new(alloc);
@@ -144,21 +144,21 @@ impl Ends {
         &mut self,
         alloc: Global,
         site: &JoinSite<'_>,
-        target: Target,
+        binding: Binding,
         number: u32,
         pieces: &[Piece],
     ) -> Result<(), OutOfMemory>
-        requires there { IsThere (source_in site.now.source) target }
-        requires pin { number < length (target_pins (source_in site.now.source) target) }
-        ensures pin { OnOk result (self.new.pin.items ≡ map Some (pin_at (source_in site.now.source) target number).places) }
-        ensures net { OnOk result (self.new.net.items ≡ expression_places site.now.home.part.now pieces.now) }
+        requires there { IsThere (source_in site.now.source) binding }
+        requires pin { number < length (binding_pins (source_in site.now.source) binding) }
+        ensures pin { OnOk result (self.new.pin.items ≡ map Some (pin_at (source_in site.now.source) binding number).places) }
+        ensures net { OnOk result (self.new.net.items ≡ expression_places site.now.module_nets.part.now pieces.now) }
     {
         self.pin.clear();
         self.net.clear();
-        push_pin(alloc, &site.source, target, number, &mut self.pin)?;
-        site.home
+        push_pin(alloc, &site.source, binding, number, &mut self.pin)?;
+        site.module_nets
             .nets
-            .push_places(alloc, site.home.part, pieces, &mut self.net)
+            .push_places(alloc, site.module_nets.part, pieces, &mut self.net)
     }
 }
 
@@ -171,21 +171,21 @@ fn push_pin_joins(
     instance: &Instance<'_>,
     number: u32,
 ) -> Result<(), OutOfMemory>
-    requires there { IsThere (source_in site.now.source) instance.now.target }
-    requires pin { number < length (target_pins (source_in site.now.source) instance.now.target) }
+    requires there { IsThere (source_in site.now.source) instance.now.binding }
+    requires pin { number < length (binding_pins (source_in site.now.source) instance.now.binding) }
     requires connected { IsOfItem instance.now.connected.now instance.now.item.now }
     ensures { OnOk result (joins.new.items ≡ joins.old.items ++
-        flat_map (wiring_joins (place_at site.now.home.part.now 0 site.now.first) site.now.own) (wiring_at instance.now.item.now (source_in site.now.source) instance.now.target number)) }
+        flat_map (wiring_joins (place_at site.now.module_nets.part.now 0 site.now.first) site.now.own) (wiring_at instance.now.item.now (source_in site.now.source) instance.now.binding number)) }
 {
     let source = &site.source;
-    let target = instance.target;
-    let name = pin_name(source.cells, source.modules, target, number);
+    let binding = instance.binding;
+    let name = pin_name(source.cells, source.modules, binding, number);
     let connected = instance.connected;
     let Some(expr) = connected.expression(instance.item, number as usize, name) else {
         return Ok(());
     };
-    ends.find(alloc, site, target, number, expr.items())?;
-    let output = is_output(source, target, number);
+    ends.find(alloc, site, binding, number, expr.items())?;
+    let output = is_output(source, binding, number);
     ends.push_joins(joins, output, site.own, site.first)
 }
 
@@ -195,20 +195,20 @@ fn push_instance(
     joins: &mut Vec<Join>,
     site: &JoinSite<'_>,
     item: &Item,
-    target: Target,
+    binding: Binding,
 ) -> Result<(), OutOfMemory>
-    requires { IsThere (source_in site.now.source) target }
+    requires { IsThere (source_in site.now.source) binding }
     ensures { OnOk result (joins.new.items ≡ joins.old.items ++
-        flat_map (wiring_joins (place_at site.now.home.part.now 0 site.now.first) site.now.own) (wirings_of item.now (target_pins (source_in site.now.source) target))) }
+        flat_map (wiring_joins (place_at site.now.module_nets.part.now 0 site.now.first) site.now.own) (wirings_of item.now (binding_pins (source_in site.now.source) binding))) }
 {
     let connected = &ConnectionIndex::new(alloc, item)?;
     let instance = Instance {
         item,
-        target,
+        binding,
         connected,
     };
     let mut ends = Ends::new(alloc);
-    let count = pin_count(site.source.cells, site.source.modules, target)?;
+    let count = pin_count(site.source.cells, site.source.modules, binding)?;
     for number in 0..count {
         push_pin_joins(alloc, joins, &mut ends, site, &instance, number)?;
     }
@@ -221,17 +221,17 @@ pub(crate) fn push_joins(
     joins: &mut Vec<Join>,
     site: &JoinSite<'_>,
     item: &Item,
-    target: Target,
+    binding: Binding,
 ) -> Result<(), OutOfMemory>
-    requires target { target ≡ target_in (source_in site.now.source) item.now }
-    requires there { IsThere (source_in site.now.source) target }
+    requires binding { binding ≡ binding_in (source_in site.now.source) item.now }
+    requires there { IsThere (source_in site.now.source) binding }
     ensures { OnOk result ((scope scopes leaves : ℕ) →
-        joins.new.items ≡ joins.old.items ++ joins_in (source_in site.now.source) (step_at (place_at site.now.home.part.now scope site.now.first) (counts scopes leaves site.now.own) item.now) item.now) }
+        joins.new.items ≡ joins.old.items ++ joins_in (source_in site.now.source) (step_at (place_at site.now.module_nets.part.now scope site.now.first) (counts scopes leaves site.now.own) item.now) item.now) }
 {
     match item {
         Item::Assign { left, right, .. } => {
             push_assign(alloc, joins, site, left.items(), right.items())
         }
-        _ => push_instance(alloc, joins, site, item, target),
+        _ => push_instance(alloc, joins, site, item, binding),
     }
 }

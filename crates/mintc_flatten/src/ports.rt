@@ -51,7 +51,11 @@ fn port(alloc: Global, module: &Module, nets: &Nets, name: &Name) -> Result<TopP
 }
 
 /// The ports of the top.
-pub fn top_ports(alloc: Global, module: &Module, nets: &Nets) -> Result<Vec<TopPort>, OutOfMemory>
+pub(crate) fn top_ports(
+    alloc: Global,
+    module: &Module,
+    nets: &Nets,
+) -> Result<Vec<TopPort>, OutOfMemory>
     requires { nets.now ≡ table_of «module».now }
     ensures { IfOk result (λ ports. ports.items ≡ map top_port (ports_of «module».now)) }
 {

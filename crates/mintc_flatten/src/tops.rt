@@ -3,41 +3,41 @@ ghost use Rattle.std.specs.Prelude.{◌≡◌, ◌<◌, ◌^◌, ◌&&◌, ℕ, 
 ghost use Rattle.std.specs.List.{list_any};
 ghost use Rattle.std.specs.Option.{option_copied, is_some};
 ghost use Rattle.mintc_cells.specs.Entries.{number_of};
-ghost use Rattle.mintc_flatten_hierarchy.specs.Sources.{source_of, module_at, is_stub, targets_in};
+ghost use Rattle.mintc_flatten_hierarchy.specs.Sources.{source_of, module_at, is_stub, bindings_in};
 ghost use Rattle.mintc_flatten_hierarchy.specs.Refusals.{may_be_top, tops_of};
 ghost use Rattle.mintc_flatten.specs.Tops.{is_module, is_any_module, Marks, AreMarks};
 ghost use Rattle.mintc_flatten_binding.specs.Orders.{mark_at};
 
 use mintc_cells::Cells;
-use mintc_flatten_binding::TargetList;
-use mintc_flatten_hierarchy::Target;
+use mintc_flatten_binding::BindingList;
+use mintc_flatten_hierarchy::Binding;
 use mintc_netlist::Module;
 use mintc_text::{Name, OutOfMemory};
 use std::alloc::Global;
 
-/// Marks the module that a target is.
-fn mark_one(marks: &mut [bool], target: Target)
-    ensures { Marks marks.old marks.new (λ k. is_module k target) }
+/// Marks the module that a binding is.
+fn mark_one(marks: &mut [bool], binding: Binding)
+    ensures { Marks marks.old marks.new (λ k. is_module k binding) }
 {
-    if let Target::OfModule(number) = target {
+    if let Binding::OfModule(number) = binding {
         if (number as usize) < marks.len() {
             marks[number as usize] = true;
         }
     }
 }
 
-/// Marks the modules among targets.
-fn mark_all(marks: &mut [bool], targets: &[Target])
-    ensures { Marks marks.old marks.new (is_any_module targets.now) }
+/// Marks the modules among bindings.
+fn mark_all(marks: &mut [bool], bindings: &[Binding])
+    ensures { Marks marks.old marks.new (is_any_module bindings.now) }
 {
-    for target in targets {
-        mark_one(marks, *target);
+    for binding in bindings {
+        mark_one(marks, *binding);
     }
 }
 
 /// Marks what modules that are no stubs instantiate, where nothing is marked yet.
-fn mark_modules(cells: &Cells, modules: &[Module], targets: &[TargetList], marks: &mut [bool])
-    requires targets { targets.now ≡ map (targets_in (source_of cells.now modules.now)) modules.now }
+fn mark_modules(cells: &Cells, modules: &[Module], bindings: &[BindingList], marks: &mut [bool])
+    requires bindings { bindings.now ≡ map (bindings_in (source_of cells.now modules.now)) modules.now }
     requires length { length marks.old ≡ length modules.now }
     requires fresh { (k : ℕ) → mark_at marks.old k ≡ false }
     ensures { AreMarks (source_of cells.now modules.now) (length modules.now) marks.new }
@@ -46,7 +46,7 @@ fn mark_modules(cells: &Cells, modules: &[Module], targets: &[TargetList], marks
         if is_stub(cells, &modules[number]) {
             continue;
         }
-        mark_all(marks, targets[number].items());
+        mark_all(marks, bindings[number].items());
     }
 }
 
@@ -55,15 +55,15 @@ fn find_marks(
     alloc: Global,
     cells: &Cells,
     modules: &[Module],
-    targets: &[TargetList],
+    bindings: &[BindingList],
 ) -> Result<Vec<bool>, OutOfMemory>
-    requires { targets.now ≡ map (targets_in (source_of cells.now modules.now)) modules.now }
+    requires { bindings.now ≡ map (bindings_in (source_of cells.now modules.now)) modules.now }
     ensures { IfOk result (λ marks. AreMarks (source_of cells.now modules.now) (length modules.now) marks.items) }
 {
     let Ok(mut marks) = vec![in alloc; false; modules.len()] else {
         return Err(OutOfMemory);
     };
-    mark_modules(cells, modules, targets, &mut marks);
+    mark_modules(cells, modules, bindings, &mut marks);
     Ok(marks)
 }
 
@@ -110,18 +110,18 @@ fn push_if(tops: &mut Vec<u32>, number: u32, passes: bool) -> Result<(), OutOfMe
 }
 
 /// The modules that may be the top: those of a name, or else those that none instantiates.
-pub fn find_tops(
+pub(crate) fn find_tops(
     alloc: Global,
     cells: &Cells,
     modules: &[Module],
-    targets: &[TargetList],
+    bindings: &[BindingList],
     top: Option<&Name>,
 ) -> Result<Vec<u32>, OutOfMemory>
-    requires targets { targets.now ≡ map (targets_in (source_of cells.now modules.now)) modules.now }
+    requires bindings { bindings.now ≡ map (bindings_in (source_of cells.now modules.now)) modules.now }
     requires few { length modules.now < 2 ^ 32 }
     ensures { IfOk result (λ tops. tops.items ≡ tops_of (source_of cells.now modules.now) (option_copied top.entry)) }
 {
-    let marks = find_marks(alloc, cells, modules, targets)?;
+    let marks = find_marks(alloc, cells, modules, bindings)?;
     let mut tops = Vec::new(alloc);
     for number in 0..modules.len() {
         let passes = is_top_candidate(cells, modules, number, &marks, top);

@@ -1,12 +1,12 @@
 //! The walk from the top down, which makes the lists of a hierarchy.
 ghost use Rattle.std.specs.Prelude.{◌≡◌, ◌<◌, ◌^◌, ◌++◌, ◌∷◌, [], ℕ, map, length, slice_index_or, IfOk, OnOk};
 ghost use Rattle.mintc_cells.specs.Entries.{cell_at};
-ghost use Rattle.mintc_flatten_hierarchy.specs.Sources.{module_at, target_in, targets_in};
+ghost use Rattle.mintc_flatten_hierarchy.specs.Sources.{module_at, binding_in, bindings_in};
 ghost use Rattle.mintc_flatten_hierarchy.specs.Walks.{counts, place_at, step_at, steps_from, inside};
 ghost use Rattle.mintc_netlist.specs.Nets.{bit_of, bits_of};
 ghost use Rattle.mintc_netlist_nets.specs.Tables.{table_of};
 ghost use Rattle.mintc_flatten_hierarchy.specs.Hierarchies.{net_of, name_of, statement_of, nets_in, pins_in, joins_in, top_scope, top_port, hierarchy_of};
-ghost use Rattle.mintc_flatten_binding.specs.Homes.{source_in};
+ghost use Rattle.mintc_flatten_binding.specs.NetsOfModules.{source_in};
 ghost use Rattle.mintc_flatten_binding.specs.Orders.{IsThere};
 ghost use Rattle.mintc_flatten.specs.Places.{place_in};
 ghost use Rattle.mintc_flatten.specs.Growing.{lists};
@@ -15,10 +15,10 @@ ghost use Rattle.mintc_netlist.specs.Connections.{ports_of};
 use crate::joins::{JoinSite, push_joins};
 use crate::ports::top_ports;
 use mintc_cells::Cells;
-use mintc_flatten_binding::{ModuleNets, Source, TargetList};
+use mintc_flatten_binding::{BindingList, ModuleNets, Source};
 use mintc_flatten_hierarchy::{
-    Hierarchy, Inner, InnerList, Join, JoinList, Leaf, LeafList, Scope, ScopeList, Target, TopPort,
-    TopPortList,
+    Binding, Hierarchy, Inner, InnerList, Join, JoinList, Leaf, LeafList, Scope, ScopeList,
+    TopPort, TopPortList,
 };
 use mintc_netlist::{Item, Module, Span};
 use mintc_netlist_nets::{Nets, bits, index_at};
@@ -28,7 +28,7 @@ use std::marker::Model;
 
 /// The lists of a hierarchy as far as the walk has come.
 #[derive(Drop)]
-pub struct Walk {
+pub(crate) struct Walk {
     scopes: Vec<Scope>,
     leaves: Vec<Leaf>,
     inner: Vec<Inner>,
@@ -155,16 +155,16 @@ fn push_nets(
 
 /// A netlist that is walked through, with what each instance of each module is of.
 #[derive(Clone, Copy)]
-pub struct Plan<'a> {
+pub(crate) struct Plan<'a> {
     source: Source<'a>,
-    targets: &'a [TargetList],
-    ghost are_of: { targets.now ≡ map (targets_in (source_in source)) source.modules.now },
+    bindings: &'a [BindingList],
+    ghost are_of: { bindings.now ≡ map (bindings_in (source_in source)) source.modules.now },
 }
 
 /// A scope: its module, its number, and its first inner bit.
 #[derive(Clone, Copy)]
-pub struct Place<'a> {
-    home: ModuleNets<'a>,
+pub(crate) struct Place<'a> {
+    module_nets: ModuleNets<'a>,
     scope: u32,
     first: u32,
 }
@@ -178,25 +178,25 @@ impl Place<'_> {
         source: &Source<'_>,
         own: u32,
         item: &Item,
-        target: Target,
+        binding: Binding,
     ) -> Result<(), OutOfMemory>
-        requires target { target ≡ target_in (source_in source.now) item.now }
-        requires there { IsThere (source_in source.now) target }
+        requires binding { binding ≡ binding_in (source_in source.now) item.now }
+        requires there { IsThere (source_in source.now) binding }
         ensures { OnOk result ((scopes leaves : ℕ) →
             joins.new.items ≡ joins.old.items ++ joins_in (source_in source.now) (step_at (place_in self.now) (counts scopes leaves own) item.now) item.now) }
     {
         let site = JoinSite {
             source: *source,
-            home: self.home,
+            module_nets: self.module_nets,
             first: self.first,
             own,
         };
-        push_joins(alloc, joins, &site, item, target)
+        push_joins(alloc, joins, &site, item, binding)
     }
 }
 
 impl Walk {
-    ghost use Rattle.mintc_flatten_hierarchy.specs.declared.targets.Target.TheVariants.{OfCell, OfModule, OfNothing};
+    ghost use Rattle.mintc_flatten_hierarchy.specs.declared.bindings.Binding.TheVariants.{OfCell, OfModule, OfNothing};
     ghost use Rattle.mintc_flatten.specs.Growing.{Lists, lists, sizes, grown, grown_by, grown_all};
 
     /// Takes in a leaf that stands in a scope.
@@ -209,7 +209,7 @@ impl Walk {
         cell: u32,
     ) -> Result<(), OutOfMemory>
         requires cell { cell < length source.now.cells.now }
-        requires target { OfCell cell ≡ target_in (source_in source.now) item.now }
+        requires binding { OfCell cell ≡ binding_in (source_in source.now) item.now }
         ensures { OnOk result (self.new ≡ grown_by (source_in source.now) self.old (step_at (place_in place.now) (sizes self.old) item.now) (OfCell cell)) }
     {
         let number = to_u32(self.leaves.len())?;
@@ -226,8 +226,8 @@ impl Walk {
             return Err(OutOfMemory);
         };
         push_pins(alloc, &mut self.inner, source.cells, number, cell)?;
-        let target = Target::OfCell(cell);
-        place.push_joins(alloc, &mut self.joins, source, own, item, target)
+        let binding = Binding::OfCell(cell);
+        place.push_joins(alloc, &mut self.joins, source, own, item, binding)
     }
 
     /// Takes in a scope that stands in a scope.
@@ -240,7 +240,7 @@ impl Walk {
         number: u32,
     ) -> Result<(), OutOfMemory>
         requires number { number < length source.now.modules.now }
-        requires target { OfModule number ≡ target_in (source_in source.now) item.now }
+        requires binding { OfModule number ≡ binding_in (source_in source.now) item.now }
         ensures { OnOk result (self.new ≡ grown_by (source_in source.now) self.old (step_at (place_in place.now) (sizes self.old) item.now) (OfModule number)) }
     {
         let scope = to_u32(self.scopes.len())?;
@@ -257,8 +257,8 @@ impl Walk {
         let part = &source.modules[number as usize];
         let nets = &source.nets[number as usize];
         push_nets(alloc, &mut self.inner, part, nets, scope)?;
-        let target = Target::OfModule(number);
-        place.push_joins(alloc, &mut self.joins, source, own, item, target)
+        let binding = Binding::OfModule(number);
+        place.push_joins(alloc, &mut self.joins, source, own, item, binding)
     }
 
     /// Takes in an item that is no instance.
@@ -269,12 +269,12 @@ impl Walk {
         place: &Place<'_>,
         item: &Item,
     ) -> Result<(), OutOfMemory>
-        requires { OfNothing ≡ target_in (source_in source.now) item.now }
+        requires { OfNothing ≡ binding_in (source_in source.now) item.now }
         ensures { OnOk result (self.new ≡ grown_by (source_in source.now) self.old (step_at (place_in place.now) (sizes self.old) item.now) OfNothing) }
     {
         let own = to_u32(self.inner.len())?;
-        let target = Target::OfNothing;
-        place.push_joins(alloc, &mut self.joins, source, own, item, target)
+        let binding = Binding::OfNothing;
+        place.push_joins(alloc, &mut self.joins, source, own, item, binding)
     }
 
     /// Takes in an item of a scope.
@@ -284,16 +284,16 @@ impl Walk {
         source: &Source<'_>,
         place: &Place<'_>,
         item: &Item,
-        target: Target,
+        binding: Binding,
     ) -> Result<(), OutOfMemory>
-        requires target { target ≡ target_in (source_in source.now) item.now }
-        requires there { IsThere (source_in source.now) target }
+        requires binding { binding ≡ binding_in (source_in source.now) item.now }
+        requires there { IsThere (source_in source.now) binding }
         ensures { OnOk result (self.new ≡ grown (source_in source.now) self.old (step_at (place_in place.now) (sizes self.old) item.now)) }
     {
-        match target {
-            Target::OfCell(cell) => self.leaf(alloc, source, place, item, cell),
-            Target::OfModule(number) => self.scope(alloc, source, place, item, number),
-            Target::OfNothing => self.pass(alloc, source, place, item),
+        match binding {
+            Binding::OfCell(cell) => self.leaf(alloc, source, place, item, cell),
+            Binding::OfModule(number) => self.scope(alloc, source, place, item, number),
+            Binding::OfNothing => self.pass(alloc, source, place, item),
         }
     }
 
@@ -306,22 +306,22 @@ impl Walk {
         deep: usize,
         place: &Place<'_>,
         item: &Item,
-        target: Target,
+        binding: Binding,
     ) -> Result<(), OutOfMemory>
-        requires target { target ≡ target_in (source_in plan.now.source) item.now }
-        requires there { IsThere (source_in plan.now.source) target }
+        requires binding { binding ≡ binding_in (source_in plan.now.source) item.now }
+        requires there { IsThere (source_in plan.now.source) binding }
         requires deep { deep < 2 ^ 32 }
         ensures { OnOk result (self.new ≡ grown_all (source_in plan.now.source) self.old
             (step_at (place_in place.now) (sizes self.old) item.now ∷ inside (source_in plan.now.source) deep (sizes self.old) item.now)) }
     {
         let scope = to_u32(self.scopes.len())?;
         let own = to_u32(self.inner.len())?;
-        self.step(alloc, &plan.source, place, item, target)?;
+        self.step(alloc, &plan.source, place, item, binding)?;
         if deep == 0 {
             return Ok(());
         }
-        match target {
-            Target::OfModule(number) => self.enter(alloc, plan, deep - 1, number, scope, own),
+        match binding {
+            Binding::OfModule(number) => self.enter(alloc, plan, deep - 1, number, scope, own),
             _ => Ok(()),
         }
     }
@@ -346,12 +346,12 @@ impl Walk {
         let part = &plan.source.modules[number as usize];
         let nets = &plan.source.nets[number as usize];
         let place = Place {
-            home: ModuleNets { part, nets },
+            module_nets: ModuleNets { part, nets },
             scope,
             first,
         };
         let items = part.items.items();
-        let list = plan.targets[number as usize].items();
+        let list = plan.bindings[number as usize].items();
         for (at, item) in items.iter().enumerate() {
             self.visit(alloc, plan, deep, &place, item, list[at])?;
         }
@@ -386,13 +386,13 @@ fn begin(alloc: Global, source: &Source<'_>, top: u32) -> Result<Walk, OutOfMemo
 }
 
 /// The hierarchy from a module.
-pub fn hierarchy(
+pub(crate) fn hierarchy(
     alloc: Global,
     source: &Source<'_>,
-    targets: &[TargetList],
+    bindings: &[BindingList],
     top: u32,
 ) -> Result<Hierarchy, OutOfMemory>
-    requires targets { targets.now ≡ map (targets_in (source_in source.now)) source.now.modules.now }
+    requires bindings { bindings.now ≡ map (bindings_in (source_in source.now)) source.now.modules.now }
     requires top { top < length source.now.modules.now }
     requires few { length source.now.modules.now < 2 ^ 32 }
     ensures { IfOk result (λ h. h ≡ hierarchy_of (source_in source.now) top) }
@@ -402,7 +402,7 @@ pub fn hierarchy(
     let mut walk = begin(alloc, source, top)?;
     let plan = Plan {
         source: *source,
-        targets,
+        bindings,
     };
     walk.enter(alloc, &plan, source.modules.len(), top, 0, 0)?;
     Ok(finish(walk, ports))

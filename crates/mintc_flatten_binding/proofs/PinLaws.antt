@@ -9,9 +9,9 @@ use Rattle.mintc_netlist.specs.Connections.{Pin, pin_of, port_of}
 use Rattle.mintc_netlist.specs.declared.module.Module.{Module}
 use Rattle.mintc_netlist.specs.Nets.{bits_of, range_of, place_of}
 use Rattle.mintc_netlist_nets.specs.Tables.{bit_place}
-use Rattle.mintc_flatten_hierarchy.specs.declared.targets.Target.{Target}
-use Rattle.mintc_flatten_hierarchy.specs.declared.targets.Target.TheVariants.{OfCell, OfModule}
-use Rattle.mintc_flatten_hierarchy.specs.Sources.{Source, module_at, cell_at, pins_from, pins_of, target_pins}
+use Rattle.mintc_flatten_hierarchy.specs.declared.bindings.Binding.{Binding}
+use Rattle.mintc_flatten_hierarchy.specs.declared.bindings.Binding.TheVariants.{OfCell, OfModule}
+use Rattle.mintc_flatten_hierarchy.specs.Sources.{Source, module_at, cell_at, pins_from, pins_of, binding_pins}
 use Rattle.std.proofs.lemmas.Simd.{map-map}
 use Rattle.mintc_flatten_binding.specs.Wired.{no_pin, pin_at}
 use Rattle.mintc_flatten_hierarchy.proofs.SharedLengthLaws.{length-pins_of}
@@ -63,27 +63,27 @@ pub pin-is : (cell : Cell) (k : ℕ) → k < length (pins cell) → get_or (pins
 pin-is cell k h =
     among_both (inputs_of cell) (outputs_of cell) k (is_output cell k) refl (subst (λ (n : ℕ). k < n) (length-append (inputs_of cell) (outputs_of cell)) h)
 
--- the same of a target that is a cell
-pub count-cell : (s : Source) (t : Target) (n : ℕ) → t ≡ OfCell n → length (target_pins s t) ≡ length (pins (cell_at s n))
-count-cell s t n is = ap (λ (t : Target). length (target_pins s t)) is ∙ length-pins_of (cell_at s n)
+-- the same of a binding that is a cell
+pub count-cell : (s : Source) (t : Binding) (n : ℕ) → t ≡ OfCell n → length (binding_pins s t) ≡ length (pins (cell_at s n))
+count-cell s t n is = ap (λ (t : Binding). length (binding_pins s t)) is ∙ length-pins_of (cell_at s n)
 
-pub inside-cell : (s : Source) (t : Target) (n k : ℕ) → t ≡ OfCell n → k < length (target_pins s t) → k < length (pins (cell_at s n))
+pub inside-cell : (s : Source) (t : Binding) (n k : ℕ) → t ≡ OfCell n → k < length (binding_pins s t) → k < length (pins (cell_at s n))
 inside-cell s t n k is h = subst (λ (i : ℕ). k < i) (count-cell s t n is) h
 
-pub pin-cell : (s : Source) (t : Target) (n k : ℕ) → t ≡ OfCell n → k < length (target_pins s t) →
+pub pin-cell : (s : Source) (t : Binding) (n k : ℕ) → t ≡ OfCell n → k < length (binding_pins s t) →
     pin_at s t k ≡ pin_of (get_or (pins (cell_at s n)) k []) (is_output (cell_at s n) k) (k ∷ [])
-pin-cell s t n k is h = ap (λ (t : Target). pin_at s t k) is ∙ pin-is (cell_at s n) k (inside-cell s t n k is h)
+pin-cell s t n k is h = ap (λ (t : Binding). pin_at s t k) is ∙ pin-is (cell_at s n) k (inside-cell s t n k is h)
 
 -- and of one that is a module
-pub inside-module : (s : Source) (t : Target) (j k : ℕ) → t ≡ OfModule j → k < length (target_pins s t) → k < length (module_at s j).ports
-inside-module s t j k is h = subst (λ (i : ℕ). k < i) (ap (λ (t : Target). length (target_pins s t)) is ∙ length-map (module_at s j).ports (port_of (module_at s j))) h
+pub inside-module : (s : Source) (t : Binding) (j k : ℕ) → t ≡ OfModule j → k < length (binding_pins s t) → k < length (module_at s j).ports
+inside-module s t j k is h = subst (λ (i : ℕ). k < i) (ap (λ (t : Binding). length (binding_pins s t)) is ∙ length-map (module_at s j).ports (port_of (module_at s j))) h
 
-pub pin-module : (s : Source) (t : Target) (j k : ℕ) → t ≡ OfModule j → k < length (target_pins s t) → pin_at s t k ≡ port_of (module_at s j) (get_or (module_at s j).ports k [])
+pub pin-module : (s : Source) (t : Binding) (j k : ℕ) → t ≡ OfModule j → k < length (binding_pins s t) → pin_at s t k ≡ port_of (module_at s j) (get_or (module_at s j).ports k [])
 pin-module s t j k is h =
-    ap (λ (t : Target). pin_at s t k) is ∙ get_or-map (port_of (module_at s j)) (module_at s j).ports k [] no_pin (inside-module s t j k is h)
+    ap (λ (t : Binding). pin_at s t k) is ∙ get_or-map (port_of (module_at s j)) (module_at s j).ports k [] no_pin (inside-module s t j k is h)
 
 -- the places of a module's pin, as those of a net
-pub port-places : (s : Source) (t : Target) (j k : ℕ) (m : Module) (name : List ℕ) → t ≡ OfModule j → k < length (target_pins s t) → m ≡ module_at s j → name ≡ get_or (module_at s j).ports k [] →
+pub port-places : (s : Source) (t : Binding) (j k : ℕ) (m : Module) (name : List ℕ) → t ≡ OfModule j → k < length (binding_pins s t) → m ≡ module_at s j → name ≡ get_or (module_at s j).ports k [] →
     map (bit_place m) (bits_of name (range_of m name)) ≡ map Some (pin_at s t k).places
 port-places s t j k m name is h at called =
     ap (λ (m : Module). map (bit_place m) (bits_of name (range_of m name))) at

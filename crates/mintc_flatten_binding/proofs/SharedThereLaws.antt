@@ -6,7 +6,7 @@ use Rattle.mintc_cells.specs.Entries.{number_of}
 use Rattle.mintc_netlist.specs.declared.module.Item.{Item}
 use Rattle.mintc_netlist.specs.declared.module.Item.TheVariants as item
 use Rattle.mintc_netlist.specs.declared.module.Module.{Module}
-use Rattle.mintc_flatten_hierarchy.specs.Sources.{Source, no_module, module_at, chosen, is_called, target_in}
+use Rattle.mintc_flatten_hierarchy.specs.Sources.{Source, no_module, module_at, chosen, is_called, binding_in}
 use Rattle.mintc_flatten_binding.specs.Orders.{IsThere}
 use Rattle.mintc_flatten_binding.proofs.IndexLaws.{position_within}
 
@@ -21,7 +21,7 @@ cell_within s name =
     let e : length (map (λ (x : List ℕ × Cell). x.0) s.cells) ≡ length s.cells = length-map s.cells (λ (x : List ℕ × Cell). x.0) in
     subst (λ (m : ℕ). IfSome (number_of s.cells name) (λ n. n < m)) e (position_within (bytes_eq name) (map (λ (x : List ℕ × Cell). x.0) s.cells))
 
-pub there : (s : Source) (i : Item) → IsThere s (target_in s i)
+pub there : (s : Source) (i : Item) → IsThere s (binding_in s i)
 there s (item.Instance entry cell name by_name connections) =
     chosen_there s (number_of s.cells cell) (position (is_called cell) s.modules) (cell_within s cell) (position_within (is_called cell) s.modules)
 there s (item.Port entry output span names) = tt

@@ -1,4 +1,4 @@
-pub mod Homes
+pub mod NetsOfModules
 pub mod Named
 pub mod PostOrder
 pub mod Orders

@@ -5,20 +5,20 @@ use Rattle.mintc_netlist.specs.declared.module.Connection.{Connection}
 use Rattle.mintc_netlist.specs.declared.module.Item.{Item}
 use Rattle.mintc_netlist.specs.declared.module.Item.TheVariants as item
 use Rattle.mintc_netlist.specs.Connections.{Pin, pin_of, is_to, Wiring, wiring_of, expression_at}
-use Rattle.mintc_flatten_hierarchy.specs.declared.targets.Target.{Target}
-use Rattle.mintc_flatten_hierarchy.specs.Sources.{Source, target_pins}
+use Rattle.mintc_flatten_hierarchy.specs.declared.bindings.Binding.{Binding}
+use Rattle.mintc_flatten_hierarchy.specs.Sources.{Source, binding_pins}
 use Rattle.mintc_flatten_binding.specs.declared.connection_index.ConnectionIndex.{ConnectionIndex}
 use Rattle.mintc_flatten_binding.specs.declared.connection_index.TheConstants.{FEW}
 
--- a pin of a target by its number
+-- a pin of a binding by its number
 abbrev pub no_pin : Pin
 no_pin = pin_of [] false []
 
-abbrev pub pin_at : Source → Target → ℕ → Pin
-pin_at s t number = slice_index_or (target_pins s t) number no_pin
+abbrev pub pin_at : Source → Binding → ℕ → Pin
+pin_at s t number = slice_index_or (binding_pins s t) number no_pin
 
 -- the wiring of a pin by its number, if an expression is connected to it
-abbrev pub wiring_at : Item → Source → Target → ℕ → List Wiring
+abbrev pub wiring_at : Item → Source → Binding → ℕ → List Wiring
 wiring_at i s t number = option_to_list (option_map (wiring_of (pin_at s t number)) (expression_at i number (pin_at s t number).name))
 
 -- Each pin that connections name stands once among the names, and the number beside it is that of the first connection to it.

@@ -53,7 +53,10 @@ impl ConnectionIndex {
     }
 
     /// Some connections by the names of their pins.
-    fn named(alloc: Global, connections: &[Connection]) -> Result<ConnectionIndex, OutOfMemory>
+    fn by_pin_name(
+        alloc: Global,
+        connections: &[Connection],
+    ) -> Result<ConnectionIndex, OutOfMemory>
         ensures { IfOk result (λ connected. IsConnectedBy connected connections.now) }
     {
         let mut connected = ConnectionIndex::empty(alloc);
@@ -74,7 +77,7 @@ impl ConnectionIndex {
                 ..
             } => {
                 if *by_name && FEW < connections.items().len() {
-                    ConnectionIndex::named(alloc, connections.items())
+                    ConnectionIndex::by_pin_name(alloc, connections.items())
                 } else {
                     Ok(ConnectionIndex::empty(alloc))
                 }

@@ -6,18 +6,18 @@
 //! both read these tables, and so look no name up again.
 #![tactic(auto)]
 
+mod bindings;
 mod connection_index;
 mod instance;
 mod order;
 mod pins;
 mod resolve;
 mod tables;
-mod targets;
 
+pub use bindings::BindingList;
 pub use connection_index::ConnectionIndex;
 pub use instance::Instance;
 pub use order::modules_in_order;
 pub use pins::{is_output, pin_count, pin_name, pin_width, push_pin};
-pub use resolve::find_targets;
+pub use resolve::find_bindings;
 pub use tables::{ModuleNets, Source, find_nets};
-pub use targets::TargetList;

@@ -1,20 +1,20 @@
 //! An order of the modules in which each stands behind those that it instantiates, by a depth-first search.
 ghost use Rattle.std.specs.Prelude.{◌≡◌, ◌<◌, ◌^◌, ◌+◌, map, length, slice_index, slice_index_or, IsTrue, IfOk, OnOk};
 ghost use Rattle.std.specs.List.{All, AllByRecursion};
-ghost use Rattle.mintc_flatten_hierarchy.specs.Sources.{Source, source_of, module_at, targets_in};
+ghost use Rattle.mintc_flatten_hierarchy.specs.Sources.{Source, source_of, module_at, bindings_in};
 ghost use Rattle.mintc_flatten_binding.specs.Orders.{IsOrder, HoldsAll};
 ghost use Rattle.mintc_flatten_binding.specs.PostOrder.{IsPlaced};
 
-use crate::targets::TargetList;
+use crate::bindings::BindingList;
 use mintc_cells::Cells;
-use mintc_flatten_hierarchy::Target;
+use mintc_flatten_hierarchy::Binding;
 use mintc_netlist::Module;
 use mintc_text::OutOfMemory;
 use std::alloc::Global;
 
 /// What a search has found.
 #[derive(Drop)]
-pub struct PostOrder {
+pub(crate) struct PostOrder {
     /// The modules that are given out.
     order: Vec<u32>,
     /// For each module one more than its place in the order, or 0.
@@ -64,7 +64,7 @@ impl PostOrder {
         requires number { number < length modules.now }
         requires few { length modules.now < 2 ^ 32 }
         requires fresh { slice_index self.old.places.items number ≡ 0 }
-        requires passed { AllByRecursion (IsPlaced self.old.places.items) (targets_in (source_of cells.now modules.now) (module_at (source_of cells.now modules.now) number)) }
+        requires passed { AllByRecursion (IsPlaced self.old.places.items) (bindings_in (source_of cells.now modules.now) (module_at (source_of cells.now modules.now) number)) }
         ensures { OnOk result (IsOrderingOf (source_of cells.now modules.now) self.new) }
     {
         let Ok(()) = self.order.push(number) else {
@@ -79,13 +79,13 @@ impl PostOrder {
     }
 
     /// Passes the next item of a module, of which what it instantiates is given out.
-    fn pass(&mut self, cells: &Cells, modules: &[Module], number: u32, target: Target)
+    fn pass(&mut self, cells: &Cells, modules: &[Module], number: u32, binding: Binding)
         requires ordering { IsOrderingOf (source_of cells.now modules.now) self.old }
         requires number { number < length modules.now }
-        requires next { slice_index self.old.nexts.items number < length (targets_in (source_of cells.now modules.now) (module_at (source_of cells.now modules.now) number)) }
-        requires target { slice_index_or (targets_in (source_of cells.now modules.now) (module_at (source_of cells.now modules.now) number)) (slice_index self.old.nexts.items number) target ≡ target }
-        requires small { length (targets_in (source_of cells.now modules.now) (module_at (source_of cells.now modules.now) number)) < 2 ^ 64 }
-        requires placed { IsPlaced self.old.places.items target }
+        requires next { slice_index self.old.nexts.items number < length (bindings_in (source_of cells.now modules.now) (module_at (source_of cells.now modules.now) number)) }
+        requires binding { slice_index_or (bindings_in (source_of cells.now modules.now) (module_at (source_of cells.now modules.now) number)) (slice_index self.old.nexts.items number) binding ≡ binding }
+        requires small { length (bindings_in (source_of cells.now modules.now) (module_at (source_of cells.now modules.now) number)) < 2 ^ 64 }
+        requires placed { IsPlaced self.old.places.items binding }
         ensures { IsOrderingOf (source_of cells.now modules.now) self.new }
     {
         let next = self.nexts[number as usize] + 1;
@@ -115,28 +115,28 @@ impl PostOrder {
         cells: &Cells,
         modules: &[Module],
         number: u32,
-        target: Target,
+        binding: Binding,
     ) -> Result<(), OutOfMemory>
         requires ordering { IsOrderingOf (source_of cells.now modules.now) self.old }
         requires number { number < length modules.now }
-        requires next { slice_index self.old.nexts.items number < length (targets_in (source_of cells.now modules.now) (module_at (source_of cells.now modules.now) number)) }
-        requires target { slice_index_or (targets_in (source_of cells.now modules.now) (module_at (source_of cells.now modules.now) number)) (slice_index self.old.nexts.items number) target ≡ target }
-        requires small { length (targets_in (source_of cells.now modules.now) (module_at (source_of cells.now modules.now) number)) < 2 ^ 64 }
+        requires next { slice_index self.old.nexts.items number < length (bindings_in (source_of cells.now modules.now) (module_at (source_of cells.now modules.now) number)) }
+        requires binding { slice_index_or (bindings_in (source_of cells.now modules.now) (module_at (source_of cells.now modules.now) number)) (slice_index self.old.nexts.items number) binding ≡ binding }
+        requires small { length (bindings_in (source_of cells.now modules.now) (module_at (source_of cells.now modules.now) number)) < 2 ^ 64 }
         ensures { OnOk result (IsOrderingOf (source_of cells.now modules.now) self.new) }
     {
-        match target {
-            Target::OfModule(child) => {
+        match binding {
+            Binding::OfModule(child) => {
                 if child as usize >= self.places.len() {
                     return Err(OutOfMemory);
                 }
                 if self.places[child as usize] == 0 {
                     return self.open(child);
                 }
-                self.pass(cells, modules, number, target);
+                self.pass(cells, modules, number, binding);
                 Ok(())
             }
             _ => {
-                self.pass(cells, modules, number, target);
+                self.pass(cells, modules, number, binding);
                 Ok(())
             }
         }
@@ -147,10 +147,10 @@ impl PostOrder {
         &mut self,
         cells: &Cells,
         modules: &[Module],
-        targets: &[TargetList],
+        bindings: &[BindingList],
     ) -> Result<bool, OutOfMemory>
         requires ordering { IsOrderingOf (source_of cells.now modules.now) self.old }
-        requires targets { targets.now ≡ map (targets_in (source_of cells.now modules.now)) modules.now }
+        requires bindings { bindings.now ≡ map (bindings_in (source_of cells.now modules.now)) modules.now }
         requires few { length modules.now < 2 ^ 32 }
         ensures { OnOk result (IsOrderingOf (source_of cells.now modules.now) self.new) }
     {
@@ -160,7 +160,7 @@ impl PostOrder {
         if number as usize >= modules.len() {
             return Err(OutOfMemory);
         }
-        let list = targets[number as usize].items();
+        let list = bindings[number as usize].items();
         let next = self.nexts[number as usize];
         if next < list.len() {
             let Ok(()) = self.path.push(number) else {
@@ -180,11 +180,11 @@ impl PostOrder {
         &mut self,
         cells: &Cells,
         modules: &[Module],
-        targets: &[TargetList],
+        bindings: &[BindingList],
         number: u32,
     ) -> Result<(), OutOfMemory>
         requires ordering { IsOrderingOf (source_of cells.now modules.now) self.old }
-        requires targets { targets.now ≡ map (targets_in (source_of cells.now modules.now)) modules.now }
+        requires bindings { bindings.now ≡ map (bindings_in (source_of cells.now modules.now)) modules.now }
         requires few { length modules.now < 2 ^ 32 }
         ensures { OnOk result (IsOrderingOf (source_of cells.now modules.now) self.new) }
     {
@@ -193,7 +193,7 @@ impl PostOrder {
         }
         self.open(number)?;
         for _ in 0..u64::MAX {
-            if !self.step(cells, modules, targets)? {
+            if !self.step(cells, modules, bindings)? {
                 return Ok(());
             }
         }
@@ -213,16 +213,16 @@ pub fn modules_in_order(
     alloc: Global,
     cells: &Cells,
     modules: &[Module],
-    targets: &[TargetList],
+    bindings: &[BindingList],
 ) -> Result<Vec<u32>, OutOfMemory>
-    requires targets { targets.now ≡ map (targets_in (source_of cells.now modules.now)) modules.now }
+    requires bindings { bindings.now ≡ map (bindings_in (source_of cells.now modules.now)) modules.now }
     requires few { length modules.now < 2 ^ 32 }
     ensures order { IfOk result (λ order. IsOrder (source_of cells.now modules.now) order.items) }
     ensures whole { IfOk result (λ order. HoldsAll (source_of cells.now modules.now) order.items) }
 {
     let mut search = PostOrder::new(alloc, cells, modules)?;
     for number in 0..modules.len() as u32 {
-        search.follow(cells, modules, targets, number)?;
+        search.follow(cells, modules, bindings, number)?;
     }
     if !are_placed(&search.places) {
         return Err(OutOfMemory);

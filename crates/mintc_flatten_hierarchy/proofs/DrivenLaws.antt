@@ -18,9 +18,9 @@ use Rattle.mintc_netlist.specs.Statements.{Statement, statements_of, number_of, 
 use Rattle.mintc_flatten_hierarchy.specs.declared.hierarchy.Leaf.{Leaf}
 use Rattle.mintc_flatten_hierarchy.specs.declared.hierarchy.Join.{Join}
 use Rattle.mintc_flatten_hierarchy.specs.declared.hierarchy.Hierarchy.{Hierarchy}
-use Rattle.mintc_flatten_hierarchy.specs.declared.targets.Target.{Target}
-use Rattle.mintc_flatten_hierarchy.specs.declared.targets.Target.TheVariants.{OfCell, OfModule, OfNothing}
-use Rattle.mintc_flatten_hierarchy.specs.Sources.{Source, source_of, no_module, module_at, cell_at, is_stub, modules_of, target_in, pins_from, pins_of, target_pins, pins_at}
+use Rattle.mintc_flatten_hierarchy.specs.declared.bindings.Binding.{Binding}
+use Rattle.mintc_flatten_hierarchy.specs.declared.bindings.Binding.TheVariants.{OfCell, OfModule, OfNothing}
+use Rattle.mintc_flatten_hierarchy.specs.Sources.{Source, source_of, no_module, module_at, cell_at, is_stub, modules_of, binding_in, pins_from, pins_of, binding_pins, pins_at}
 use Rattle.mintc_flatten_hierarchy.specs.Faults.{is_name_twice, is_misfit, drives_in, is_second_driver}
 use Rattle.mintc_flatten_hierarchy.specs.Walks.{Counts, counts, plus, size_of, Place, place_at, Step, step_at, total, after, steps_from, steps_inside, inside, walk}
 use Rattle.mintc_flatten_hierarchy.specs.Hierarchies.{numbers_of, joined, wiring_joins, joins_in, leaf_in, hierarchy_of}
@@ -29,7 +29,7 @@ use Rattle.mintc_flatten_hierarchy.specs.Shape.{CellTable}
 use Rattle.mintc_flatten_hierarchy.specs.Driven.{IsOutputPin}
 use Rattle.mintc_flatten_hierarchy.proofs.CountLaws.{how_many, how_many-append, how_many-map, once_apart, none_at, found, below, below_most, below_rises, below_next, between, between_fills, between_there}
 use Rattle.mintc_flatten_hierarchy.proofs.SharedLengthLaws.{length-pins_of}
-use Rattle.mintc_flatten_hierarchy.proofs.PassedLaws.{HasPlacedItems, all_placed, none_found, kept_at, not_stub, IsThere, target_there}
+use Rattle.mintc_flatten_hierarchy.proofs.PassedLaws.{HasPlacedItems, all_placed, none_found, kept_at, not_stub, IsThere, binding_there}
 use Rattle.mintc_flatten_hierarchy.proofs.SharedShapeLaws.{all_recursion, none_left, mapped_none, top_there, top_live}
 use Rattle.mintc_flatten_hierarchy.proofs.OnceLaws.{input_places, HasPortsOnce, DrivesOnce, modules_once, modules_drive, FillsNets, fills_nets}
 
@@ -56,10 +56,10 @@ numbers_at n first [] = refl
 numbers_at n first (None ∷ os) = let more = numbers_at n first os in omega (arith, more)
 numbers_at n first (Some at ∷ os) = let more = numbers_at n first os in omega (arith, more)
 
-expression_ends : (n : ℕ) (place : Place) (froms : List (Option ℕ)) (pieces : List Piece) → ends n (joined froms (numbers_of place pieces)) ≤ found n place.first (places_in place.home pieces)
+expression_ends : (n : ℕ) (place : Place) (froms : List (Option ℕ)) (pieces : List Piece) → ends n (joined froms (numbers_of place pieces)) ≤ found n place.first (places_in place.module_nets pieces)
 expression_ends n place froms pieces =
     let most = joined_ends n froms (numbers_of place pieces) in
-    let same = numbers_at n place.first (expression_places place.home pieces) in
+    let same = numbers_at n place.first (expression_places place.module_nets pieces) in
     omega (arith, most, same)
 
 pin_ends : (n first : ℕ) (froms : List (Option ℕ)) (places : List ℕ) → ends n (joined froms (map (λ at. Some (first + at)) places)) ≤ found n first places
@@ -75,14 +75,14 @@ driven_by m ws = flat_map (λ (w : Wiring). places_in m w.pieces) (filter (λ (w
 abbrev led_to : List Wiring → List ℕ
 led_to ws = flat_map (λ (w : Wiring). w.pin.places) (filter (λ (w : Wiring). not w.pin.output) ws)
 
-wiring_by : (n first : ℕ) (place : Place) (w : Wiring) (ws : List Wiring) (output : Bool) → ends n (flat_map (wiring_joins place first) ws) ≤ found n place.first (driven_by place.home ws) + found n first (led_to ws) →
+wiring_by : (n first : ℕ) (place : Place) (w : Wiring) (ws : List Wiring) (output : Bool) → ends n (flat_map (wiring_joins place first) ws) ≤ found n place.first (driven_by place.module_nets ws) + found n first (led_to ws) →
     ends n (cond output (joined (map (λ at. Some (first + at)) w.pin.places) (numbers_of place w.pieces)) (joined (numbers_of place w.pieces) (map (λ at. Some (first + at)) w.pin.places)) ++ flat_map (wiring_joins place first) ws)
-    ≤ found n place.first (flat_map (λ (w : Wiring). places_in place.home w.pieces) (cond output (w ∷ filter (λ (w : Wiring). w.pin.output) ws) (filter (λ (w : Wiring). w.pin.output) ws)))
+    ≤ found n place.first (flat_map (λ (w : Wiring). places_in place.module_nets w.pieces) (cond output (w ∷ filter (λ (w : Wiring). w.pin.output) ws) (filter (λ (w : Wiring). w.pin.output) ws)))
     + found n first (flat_map (λ (w : Wiring). w.pin.places) (cond (not output) (w ∷ filter (λ (w : Wiring). not w.pin.output) ws) (filter (λ (w : Wiring). not w.pin.output) ws)))
 wiring_by n first place w ws true more =
     let parts = how_many-append (λ (j : Join). nat_eq n j.to) (joined (map (λ at. Some (first + at)) w.pin.places) (numbers_of place w.pieces)) (flat_map (wiring_joins place first) ws) in
     let here = expression_ends n place (map (λ at. Some (first + at)) w.pin.places) w.pieces in
-    let whole = how_many-append (λ at. nat_eq n (place.first + at)) (places_in place.home w.pieces) (driven_by place.home ws) in
+    let whole = how_many-append (λ at. nat_eq n (place.first + at)) (places_in place.module_nets w.pieces) (driven_by place.module_nets ws) in
     omega (arith, parts, here, whole, more)
 wiring_by n first place w ws false more =
     let parts = how_many-append (λ (j : Join). nat_eq n j.to) (joined (numbers_of place w.pieces) (map (λ at. Some (first + at)) w.pin.places)) (flat_map (wiring_joins place first) ws) in
@@ -90,7 +90,7 @@ wiring_by n first place w ws false more =
     let whole = how_many-append (λ at. nat_eq n (first + at)) w.pin.places (led_to ws) in
     omega (arith, parts, here, whole, more)
 
-wirings_ends : (n first : ℕ) (place : Place) (ws : List Wiring) → ends n (flat_map (wiring_joins place first) ws) ≤ found n place.first (driven_by place.home ws) + found n first (led_to ws)
+wirings_ends : (n first : ℕ) (place : Place) (ws : List Wiring) → ends n (flat_map (wiring_joins place first) ws) ≤ found n place.first (driven_by place.module_nets ws) + found n first (led_to ws)
 wirings_ends n first place [] = omega arith
 wirings_ends n first place (w ∷ ws) = wiring_by n first place w ws w.pin.output (wirings_ends n first place ws)
 
@@ -121,7 +121,7 @@ wired_ends n first number i (pin ∷ pins) =
 
 -- the ends of a step's joins are what its item drives in its scope, and input pins of what it is an instance of
 step_ends : (s : Source) (n : ℕ) (step : Step) (i : Item) →
-    ends n (joins_in s step i) ≤ found n step.place.first (drives_in s step.place.home i) + found n step.before.inner (input_places (pins_at s i))
+    ends n (joins_in s step i) ≤ found n step.place.first (drives_in s step.place.module_nets i) + found n step.before.inner (input_places (pins_at s i))
 step_ends s n step (item.Assign entry left right) = let here = expression_ends n step.place (numbers_of step.place right) left in omega (arith, here)
 step_ends s n step (item.Instance entry cell name by_name connections) =
     let all = wirings_ends n step.before.inner step.place (wirings_of (item.Instance entry cell name by_name connections) (pins_at s (item.Instance entry cell name by_name connections))) in
@@ -150,13 +150,13 @@ inner-append s [] ys = omega arith
 inner-append s (x ∷ xs) ys = let more = inner-append s xs ys in omega (arith, more)
 
 -- whether a number is that of an output pin of an instance of a cell, and of how many among some steps
-abbrev outs : Source → ℕ → ℕ → Target → ℕ
+abbrev outs : Source → ℕ → ℕ → Binding → ℕ
 outs s n first (OfCell c) = between (first + length (inputs_of (cell_at s c))) (first + length (pins (cell_at s c))) n
 outs s n first t = 0
 
 abbrev all_outs : Source → ℕ → List Step → ℕ
 all_outs s n [] = 0
-all_outs s n (step ∷ steps) = outs s n step.before.inner (target_in s step.item) + all_outs s n steps
+all_outs s n (step ∷ steps) = outs s n step.before.inner (binding_in s step.item) + all_outs s n steps
 
 outs-append : (s : Source) (n : ℕ) (xs ys : List Step) → all_outs s n (xs ++ ys) ≡ all_outs s n xs + all_outs s n ys
 outs-append s n [] ys = omega arith
@@ -165,12 +165,12 @@ outs-append s n (x ∷ xs) ys = let more = outs-append s n xs ys in omega (arith
 -- What drives an instance's input pins, its own output pins and all that stands inside it fill what it brings, each number once at most.
 abbrev FillsInside : Source → ℕ → (Counts → Item → List Step) → Type 0
 FillsInside s n within = (before : Counts) (i : Item) →
-    ((found n before.inner (input_places (pins_at s i)) + outs s n before.inner (target_in s i)) + (all_ends s n (within before i) + all_outs s n (within before i))) + below before.inner n
-    ≤ below (before.inner + ((size_of s (target_in s i)).inner + (total s (within before i)).inner)) n
+    ((found n before.inner (input_places (pins_at s i)) + outs s n before.inner (binding_in s i)) + (all_ends s n (within before i) + all_outs s n (within before i))) + below before.inner n
+    ≤ below (before.inner + ((size_of s (binding_in s i)).inner + (total s (within before i)).inner)) n
 
 steps_fill : (s : Source) (n : ℕ) (within : Counts → Item → List Step) → FillsInside s n within → (place : Place) (before : Counts) (is : List Item) →
     (all_ends s n (steps_from s within place before is) + all_outs s n (steps_from s within place before is)) + below before.inner n
-    ≤ found n place.first (flat_map (drives_in s place.home) is) + below (before.inner + (total s (steps_from s within place before is)).inner) n
+    ≤ found n place.first (flat_map (drives_in s place.module_nets) is) + below (before.inner + (total s (steps_from s within place before is)).inner) n
 steps_fill s n within each place before [] = let rises = below_rises before.inner (before.inner + 0) n (omega arith) in omega (arith, rises)
 steps_fill s n within each place before (i ∷ is) =
     let parts = ends-append s n (step_at place before i ∷ within before i) (steps_from s within place (after s before (step_at place before i ∷ within before i)) is) in
@@ -179,7 +179,7 @@ steps_fill s n within each place before (i ∷ is) =
     let here = step_ends s n (step_at place before i) i in
     let child = each before i in
     let more = steps_fill s n within each place (after s before (step_at place before i ∷ within before i)) is in
-    let whole = how_many-append (λ at. nat_eq n (place.first + at)) (drives_in s place.home i) (flat_map (drives_in s place.home) is) in
+    let whole = how_many-append (λ at. nat_eq n (place.first + at)) (drives_in s place.module_nets i) (flat_map (drives_in s place.module_nets) is) in
     let count = inner-append s (step_at place before i ∷ within before i) (steps_from s within place (after s before (step_at place before i ∷ within before i)) is) in
     let high = ap (λ (k : ℕ). below (before.inner + k) n) count in
     let turned = ap (λ (k : ℕ). below k n) (add_assoc before.inner (total s (step_at place before i ∷ within before i)).inner (total s (steps_from s within place (after s before (step_at place before i ∷ within before i)) is)).inner) in
@@ -230,26 +230,26 @@ cell_fills s n b c =
     omega (arith, parts, ins, none, own, low, mid, high)
 
 -- what an instance is of, and all that stands inside it
-abbrev FillsTarget : Source → Target → Type 0
-FillsTarget s (OfModule k) = FillsNets s (module_at s k)
-FillsTarget s t = Unit {0}
+abbrev FillsBinding : Source → Binding → Type 0
+FillsBinding s (OfModule k) = FillsNets s (module_at s k)
+FillsBinding s t = Unit {0}
 
-target_by : (s : Source) (n : ℕ) (within : Counts → Item → List Step) → FillsInside s n within → (before : Counts) (t : Target) → FillsTarget s t →
-    ((found n before.inner (input_places (target_pins s t)) + outs s n before.inner t) + (all_ends s n (steps_inside s within before t) + all_outs s n (steps_inside s within before t))) + below before.inner n
+binding_by : (s : Source) (n : ℕ) (within : Counts → Item → List Step) → FillsInside s n within → (before : Counts) (t : Binding) → FillsBinding s t →
+    ((found n before.inner (input_places (binding_pins s t)) + outs s n before.inner t) + (all_ends s n (steps_inside s within before t) + all_outs s n (steps_inside s within before t))) + below before.inner n
     ≤ below (before.inner + ((size_of s t).inner + (total s (steps_inside s within before t)).inner)) n
-target_by s n within each before (OfModule k) nets =
+binding_by s n within each before (OfModule k) nets =
     let all = steps_fill s n within each (place_at (module_at s k) before.scopes before.inner) (plus before (size_of s (OfModule k))) (module_at s k).items in
     let own = nets n before.inner in
     let turned = ap (λ (a : ℕ). below a n) (add_assoc before.inner (length (nets_of (module_at s k))) (total s (steps_inside s within before (OfModule k))).inner) in
     omega (arith, all, own, turned)
-target_by s n within each before (OfCell c) nets =
+binding_by s n within each before (OfCell c) nets =
     let own = cell_fills s n before.inner c in
     let rises = below_rises (before.inner + length (pins_of (cell_at s c))) (before.inner + (length (pins_of (cell_at s c)) + 0)) n (omega arith) in
     omega (arith, own, rises)
-target_by s n within each before OfNothing nets = let rises = below_rises before.inner (before.inner + (0 + 0)) n (omega arith) in omega (arith, rises)
+binding_by s n within each before OfNothing nets = let rises = below_rises before.inner (before.inner + (0 + 0)) n (omega arith) in omega (arith, rises)
 
-alone : (s : Source) (n : ℕ) (before : Counts) (t : Target) → FillsTarget s t →
-    ((found n before.inner (input_places (target_pins s t)) + outs s n before.inner t) + (0 + 0)) + below before.inner n ≤ below (before.inner + ((size_of s t).inner + 0)) n
+alone : (s : Source) (n : ℕ) (before : Counts) (t : Binding) → FillsBinding s t →
+    ((found n before.inner (input_places (binding_pins s t)) + outs s n before.inner t) + (0 + 0)) + below before.inner n ≤ below (before.inner + ((size_of s t).inner + 0)) n
 alone s n before (OfModule k) nets =
     let own = nets n before.inner in
     let rises = below_rises (before.inner + length (nets_of (module_at s k))) (before.inner + (length (nets_of (module_at s k)) + 0)) n (omega arith) in
@@ -260,14 +260,14 @@ alone s n before (OfCell c) nets =
     omega (arith, own, rises)
 alone s n before OfNothing nets = let rises = below_rises before.inner (before.inner + (0 + 0)) n (omega arith) in omega (arith, rises)
 
-inside_fills : (s : Source) (n : ℕ) → ((i : Item) → FillsTarget s (target_in s i)) → (deep : ℕ) → FillsInside s n (inside s deep)
-inside_fills s n nets zero = λ before i. alone s n before (target_in s i) (nets i)
-inside_fills s n nets (suc deep) = λ before i. target_by s n (inside s deep) (inside_fills s n nets deep) before (target_in s i) (nets i)
+inside_fills : (s : Source) (n : ℕ) → ((i : Item) → FillsBinding s (binding_in s i)) → (deep : ℕ) → FillsInside s n (inside s deep)
+inside_fills s n nets zero = λ before i. alone s n before (binding_in s i) (nets i)
+inside_fills s n nets (suc deep) = λ before i. binding_by s n (inside s deep) (inside_fills s n nets deep) before (binding_in s i) (nets i)
 
 -- at most one join of the whole walk ends at a number, and none at that of an output pin
-walk_once : (s : Source) (top n : ℕ) → ((i : Item) → FillsTarget s (target_in s i)) → FillsNets s (module_at s top) → all_ends s n (walk s top) + all_outs s n (walk s top) ≤ 1
+walk_once : (s : Source) (top n : ℕ) → ((i : Item) → FillsBinding s (binding_in s i)) → FillsNets s (module_at s top) → all_ends s n (walk s top) + all_outs s n (walk s top) ≤ 1
 walk_once s top n nets of_top =
-    let all = target_by s n (inside s (length s.modules)) (inside_fills s n nets (length s.modules)) (counts 0 0 0) (OfModule top) of_top in
+    let all = binding_by s n (inside s (length s.modules)) (inside_fills s n nets (length s.modules)) (counts 0 0 0) (OfModule top) of_top in
     let most = below_most (0 + ((size_of s (OfModule top)).inner + (total s (walk s top)).inner)) n in
     omega (arith, all, most)
 
@@ -300,7 +300,7 @@ live_fills s passed k inside live =
     no_fault : (test : Statement → Bool) (kind : ℕ → Refusal) (s : Source) → refused_by test kind s ≡ None → find test (statements_of (modules_of s)) ≡ None
     no_fault test kind s h = mapped_none number_of (find test (statements_of (modules_of s))) (mapped_none kind (first_at_fault test (modules_of s)) h)
 
-fills_by : (s : Source) → ArePassed s → (t : Target) → IsThere s t → FillsTarget s t
+fills_by : (s : Source) → ArePassed s → (t : Binding) → IsThere s t → FillsBinding s t
 fills_by s passed (OfModule k) there = live_fills s passed k there.0 there.1
 fills_by s passed (OfCell c) there = tt
 fills_by s passed OfNothing there = tt
@@ -309,7 +309,7 @@ fills_by s passed OfNothing there = tt
 abbrev HasOuts : Source → List Step → Leaf → Type 0
 HasOuts s steps leaf = (n : ℕ) → IsOutputPin s.cells leaf n → 1 ≤ all_outs s n steps
 
-outs_by : (s : Source) (x : Step) (xs : List Step) (t : Target) → target_in s x.item ≡ t → IfSome (leaf_in x t) (HasOuts s (x ∷ xs))
+outs_by : (s : Source) (x : Step) (xs : List Step) (t : Binding) → binding_in s x.item ≡ t → IfSome (leaf_in x t) (HasOuts s (x ∷ xs))
 outs_by s x xs (OfCell c) e = λ n pin.
     let here = between_there (x.before.inner + length (inputs_of (cell_at s c))) (x.before.inner + length (pins (cell_at s c))) n pin.0 pin.1 in
     let same = ap (outs s n x.before.inner) e in
@@ -324,11 +324,11 @@ later_all : (s : Source) (x : Step) (xs : List Step) (leaves : List Leaf) → Al
 later_all s x xs [] h = tt
 later_all s x xs (leaf ∷ leaves) h = (later_outs s x xs leaf h.0, later_all s x xs leaves h.1)
 
-leaves_have : (s : Source) (steps : List Step) → AllByRecursion (HasOuts s steps) (filter_map (λ (step : Step). leaf_in step (target_in s step.item)) steps)
+leaves_have : (s : Source) (steps : List Step) → AllByRecursion (HasOuts s steps) (filter_map (λ (step : Step). leaf_in step (binding_in s step.item)) steps)
 leaves_have s [] = tt
 leaves_have s (x ∷ xs) =
-    all_recursion (HasOuts s (x ∷ xs)) (leaf_in x (target_in s x.item)) (filter_map (λ (step : Step). leaf_in step (target_in s step.item)) xs) (outs_by s x xs (target_in s x.item) refl)
-    (later_all s x xs (filter_map (λ (step : Step). leaf_in step (target_in s step.item)) xs) (leaves_have s xs))
+    all_recursion (HasOuts s (x ∷ xs)) (leaf_in x (binding_in s x.item)) (filter_map (λ (step : Step). leaf_in step (binding_in s step.item)) xs) (outs_by s x xs (binding_in s x.item) refl)
+    (later_all s x xs (filter_map (λ (step : Step). leaf_in step (binding_in s step.item)) xs) (leaves_have s xs))
 
 -- no join ends at an output pin of such a leaf
 abbrev EndsApart : CellTable → List Join → Leaf → Type 0
@@ -352,7 +352,7 @@ hierarchy_once s top h is n =
     let both = none_left (statements_refusal s) (top_refusal s (tops_of s top)) is.unrefused in
     let passed = all_passed s both.0 in
     let of_top = live_fills s passed is.number (top_there s top is.number is.one_top) (top_live s top is.number is.one_top) in
-    walk_once s is.number n (λ i. fills_by s passed (target_in s i) (target_there s i)) of_top
+    walk_once s is.number n (λ i. fills_by s passed (binding_in s i) (binding_there s i)) of_top
 
 driven_by_one : (s : Source) (top : Option (List ℕ)) (h : Hierarchy) → IsHierarchy s top h → AllPairs (λ (a b : Join). a.to ≢ b.to) h.joins
 driven_by_one s top h is =

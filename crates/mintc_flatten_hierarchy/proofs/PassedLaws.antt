@@ -18,12 +18,12 @@ use Rattle.mintc_netlist.specs.Expressions.{expression_places, width_of, selects
 use Rattle.mintc_netlist.specs.Connections.{Pin, is_to, connection_at, expression_at, Wiring, wiring_of, wirings_from, wirings_of}
 use Rattle.mintc_netlist.specs.Statements.{statement_of, items_from, module_statements, statements_from, statements_of, number_of, first_at_fault}
 use Rattle.mintc_netlist_nets.proofs.SharedTableLaws.{found_place}
-use Rattle.mintc_flatten_hierarchy.specs.declared.targets.Target.{Target}
-use Rattle.mintc_flatten_hierarchy.specs.declared.targets.Target.TheVariants.{OfCell, OfModule, OfNothing}
-use Rattle.mintc_flatten_hierarchy.specs.Sources.{Source, no_module, module_at, is_stub, modules_of, is_called, chosen, target_in, pins_at}
+use Rattle.mintc_flatten_hierarchy.specs.declared.bindings.Binding.{Binding}
+use Rattle.mintc_flatten_hierarchy.specs.declared.bindings.Binding.TheVariants.{OfCell, OfModule, OfNothing}
+use Rattle.mintc_flatten_hierarchy.specs.Sources.{Source, no_module, module_at, is_stub, modules_of, is_called, chosen, binding_in, pins_at}
 use Rattle.mintc_flatten_hierarchy.specs.Faults.{is_wired_badly, is_misfit}
 use Rattle.mintc_flatten_hierarchy.proofs.PlacedLaws.{IsPlace, IsKnown, all_left, all_right, expression_placed, firsts-among}
-use Rattle.mintc_flatten_hierarchy.proofs.SharedOrderedLaws.{KnowsTarget}
+use Rattle.mintc_flatten_hierarchy.proofs.SharedOrderedLaws.{KnowsBinding}
 
 -- The bits of an item's expressions have places: both sides of an assign, and what an instance connects.
 abbrev pub IsPlacedWiring : Module → Wiring → Type 0
@@ -233,7 +233,7 @@ position_passes test xs d p h =
     let here = found_place test xs p h in
     (here.1, subst (λ (k : ℕ). test (slice_index_or xs k d) ≡ true) here.0 (at_found test xs d (subst (λ (k : ℕ). k < length xs) (sym here.0) here.1)))
 
-abbrev pub IsThere : Source → Target → Type 0
+abbrev pub IsThere : Source → Binding → Type 0
 IsThere s (OfCell n) = n < length s.cells
 IsThere s (OfModule k) = (k < length s.modules) × (is_stub s (module_at s k) ≡ false)
 IsThere s OfNothing = Unit {0}
@@ -252,16 +252,16 @@ chosen_there s name None (Some k) h e =
     (found.0, ap is_some (ap (cell_number s.cells) (sym same) ∙ h))
 chosen_there s name None None h e = tt
 
-pub target_there : (s : Source) (i : Item) → IsThere s (target_in s i)
-target_there s (item.Instance entry cell name by_name connections) = chosen_there s cell (cell_number s.cells cell) (position (is_called cell) s.modules) refl refl
-target_there s (item.Port entry output span names) = tt
-target_there s (item.Wire entry span names) = tt
-target_there s (item.Assign entry left right) = tt
+pub binding_there : (s : Source) (i : Item) → IsThere s (binding_in s i)
+binding_there s (item.Instance entry cell name by_name connections) = chosen_there s cell (cell_number s.cells cell) (position (is_called cell) s.modules) refl refl
+binding_there s (item.Port entry output span names) = tt
+binding_there s (item.Wire entry span names) = tt
+binding_there s (item.Assign entry left right) = tt
 
-knows_by : (s : Source) (t : Target) → AllByRecursion (HasPlacedItems s) (modules_of s) → IsThere s t → KnowsTarget s (IsPlacedItem s) t
+knows_by : (s : Source) (t : Binding) → AllByRecursion (HasPlacedItems s) (modules_of s) → IsThere s t → KnowsBinding s (IsPlacedItem s) t
 knows_by s (OfCell n) all there = tt
 knows_by s (OfModule k) all there = live_placed s k all there.0 there.1
 knows_by s OfNothing all there = tt
 
-pub knows_target : (s : Source) (i : Item) → AllByRecursion (HasPlacedItems s) (modules_of s) → KnowsTarget s (IsPlacedItem s) (target_in s i)
-knows_target s i all = knows_by s (target_in s i) all (target_there s i)
+pub knows_binding : (s : Source) (i : Item) → AllByRecursion (HasPlacedItems s) (modules_of s) → KnowsBinding s (IsPlacedItem s) (binding_in s i)
+knows_binding s i all = knows_by s (binding_in s i) all (binding_there s i)

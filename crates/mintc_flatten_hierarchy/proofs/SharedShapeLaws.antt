@@ -26,9 +26,9 @@ use Rattle.mintc_flatten_hierarchy.specs.declared.hierarchy.Scope.{Scope}
 use Rattle.mintc_flatten_hierarchy.specs.declared.hierarchy.Inner.TheVariants as inner
 use Rattle.mintc_flatten_hierarchy.specs.declared.hierarchy.Join.{Join}
 use Rattle.mintc_flatten_hierarchy.specs.declared.hierarchy.Hierarchy.{Hierarchy}
-use Rattle.mintc_flatten_hierarchy.specs.declared.targets.Target.{Target}
-use Rattle.mintc_flatten_hierarchy.specs.declared.targets.Target.TheVariants.{OfCell, OfModule, OfNothing}
-use Rattle.mintc_flatten_hierarchy.specs.Sources.{Source, source_of, module_at, cell_at, is_stub, modules_of, target_in, pins_from, pins_of, target_pins, pins_at}
+use Rattle.mintc_flatten_hierarchy.specs.declared.bindings.Binding.{Binding}
+use Rattle.mintc_flatten_hierarchy.specs.declared.bindings.Binding.TheVariants.{OfCell, OfModule, OfNothing}
+use Rattle.mintc_flatten_hierarchy.specs.Sources.{Source, source_of, module_at, cell_at, is_stub, modules_of, binding_in, pins_from, pins_of, binding_pins, pins_at}
 use Rattle.mintc_flatten_hierarchy.specs.Faults.{is_misfit}
 use Rattle.mintc_flatten_hierarchy.specs.Walks.{Counts, counts, plus, size_of, Place, Step, walk, depth}
 use Rattle.mintc_flatten_hierarchy.specs.Hierarchies.{scope_in, leaf_in, net_of, nets_in, inner_in, numbers_of, join_of, joined, wiring_joins, joins_in, top_scope, top_port, hierarchy_of}
@@ -37,25 +37,25 @@ use Rattle.mintc_flatten_hierarchy.specs.Shape.{CellTable, IsLeaf, IsPort, IsInn
 use Rattle.mintc_flatten_hierarchy.proofs.PlacedLaws.{IsPlace, IsKnown, name_placed}
 use Rattle.mintc_flatten_hierarchy.proofs.SharedOrderedLaws.{AreInOrder, walk_in_order, IsWithin, all_within, IsPlacedStep, walk_placed}
 use Rattle.mintc_flatten_hierarchy.proofs.SharedLengthLaws.{scopes-length, leaves-length, inner-length, length-pins_of}
-use Rattle.mintc_flatten_hierarchy.proofs.PassedLaws.{IsPlacedWiring, IsPlacedItem, HasPlacedItems, ports_known, all_placed, live_placed, IsThere, target_there, knows_target}
+use Rattle.mintc_flatten_hierarchy.proofs.PassedLaws.{IsPlacedWiring, IsPlacedItem, HasPlacedItems, ports_known, all_placed, live_placed, IsThere, binding_there, knows_binding}
 
 -- scopes, of which each comes after its parent
 abbrev FollowParents : ℕ → List Scope → Type 0
 FollowParents m [] = Unit {0}
 FollowParents m (x ∷ xs) = (x.parent < m) × FollowParents (m + 1) xs
 
-scopes_turn : (n : ℕ) (step : Step) (t : Target) (rest : List Scope) (s : Source) → step.place.scope < n → FollowParents (n + (size_of s t).scopes) rest → FollowParents n (cons_option (scope_in step t) rest)
+scopes_turn : (n : ℕ) (step : Step) (t : Binding) (rest : List Scope) (s : Source) → step.place.scope < n → FollowParents (n + (size_of s t).scopes) rest → FollowParents n (cons_option (scope_in step t) rest)
 scopes_turn n step (OfCell c) rest s before h = subst (λ (m : ℕ). FollowParents m rest) (add-zero n) h
 scopes_turn n step (OfModule k) rest s before h = (before, h)
 scopes_turn n step OfNothing rest s before h = subst (λ (m : ℕ). FollowParents m rest) (add-zero n) h
 
 scopes_follow : (s : Source) (before : Counts) (steps : List Step) → AreInOrder s before steps → AllByRecursion (IsPlacedStep (IsPlacedItem s)) steps →
-    FollowParents before.scopes (filter_map (λ (step : Step). scope_in step (target_in s step.item)) steps)
+    FollowParents before.scopes (filter_map (λ (step : Step). scope_in step (binding_in s step.item)) steps)
 scopes_follow s before [] ordered placed = tt
 scopes_follow s before (x ∷ xs) ordered placed =
-    scopes_turn before.scopes x (target_in s x.item) (filter_map (λ (step : Step). scope_in step (target_in s step.item)) xs) s
+    scopes_turn before.scopes x (binding_in s x.item) (filter_map (λ (step : Step). scope_in step (binding_in s step.item)) xs) s
     (subst (λ (c : Counts). x.place.scope < c.scopes) ordered.0 placed.0.scope)
-    (scopes_follow s (plus before (size_of s (target_in s x.item))) xs ordered.1 placed.1)
+    (scopes_follow s (plus before (size_of s (binding_in s x.item))) xs ordered.1 placed.1)
 
 parent_at : (m : ℕ) (xs : List Scope) (k : ℕ) (d : Scope) → FollowParents m xs → k < length xs → (slice_index_or xs k d).parent < m + k
 parent_at m [] k d h inside = absurd (omega arith)
@@ -71,7 +71,7 @@ pub all_recursion : {X : Type 0} (P : X → Type 0) (o : Option X) (xs : List X)
 all_recursion P None xs h k = k
 all_recursion P (Some x) xs h k = (h, k)
 
-leaf_by : (s : Source) (h : Hierarchy) (step : Step) (t : Target) → IsThere s t → step.place.scope < length h.scopes → step.before.inner + (size_of s t).inner ≤ length h.inner → IfSome (leaf_in step t) (IsLeaf s.cells h)
+leaf_by : (s : Source) (h : Hierarchy) (step : Step) (t : Binding) → IsThere s t → step.place.scope < length h.scopes → step.before.inner + (size_of s t).inner ≤ length h.inner → IfSome (leaf_in step t) (IsLeaf s.cells h)
 leaf_by s h step (OfCell n) there scope inside = record { scope = scope; cell = there; within = omega (arith, inside, length-pins_of (cell_at s n)) }
 leaf_by s h step (OfModule k) there scope inside = tt
 leaf_by s h step OfNothing there scope inside = tt
@@ -80,24 +80,24 @@ abbrev counts_of : Hierarchy → Counts
 counts_of h = counts (length h.scopes) (length h.leaves) (length h.inner)
 
 leaves_in : (s : Source) (h : Hierarchy) (steps : List Step) → AllByRecursion (IsWithin s (counts_of h)) steps → AllByRecursion (IsPlacedStep (IsPlacedItem s)) steps →
-    AllByRecursion (IsLeaf s.cells h) (filter_map (λ (step : Step). leaf_in step (target_in s step.item)) steps)
+    AllByRecursion (IsLeaf s.cells h) (filter_map (λ (step : Step). leaf_in step (binding_in s step.item)) steps)
 leaves_in s h [] within placed = tt
 leaves_in s h (x ∷ xs) within placed =
-    all_recursion (IsLeaf s.cells h) (leaf_in x (target_in s x.item)) (filter_map (λ (step : Step). leaf_in step (target_in s step.item)) xs)
-    (leaf_by s h x (target_in s x.item) (target_there s x.item) (omega (arith, placed.0.scope, within.0.scopes)) within.0.inner)
+    all_recursion (IsLeaf s.cells h) (leaf_in x (binding_in s x.item)) (filter_map (λ (step : Step). leaf_in step (binding_in s step.item)) xs)
+    (leaf_by s h x (binding_in s x.item) (binding_there s x.item) (omega (arith, placed.0.scope, within.0.scopes)) within.0.inner)
     (leaves_in s h xs within.1 placed.1)
 
 -- inner bits
-inner_by : (s : Source) (h : Hierarchy) (step : Step) (t : Target) → step.before.scopes + (size_of s t).scopes ≤ length h.scopes → step.before.leaves + (size_of s t).leaves ≤ length h.leaves → All (IsInner h) (inner_in s step t)
+inner_by : (s : Source) (h : Hierarchy) (step : Step) (t : Binding) → step.before.scopes + (size_of s t).scopes ≤ length h.scopes → step.before.leaves + (size_of s t).leaves ≤ length h.leaves → All (IsInner h) (inner_in s step t)
 inner_by s h step (OfCell n) a b = All-map (IsInner h) (λ name. inner.Pin step.before.leaves name) (pins (cell_at s n)) (λ k d inside. omega (arith, b))
 inner_by s h step (OfModule k) a b = All-map (IsInner h) (net_of step.before.scopes) (nets_of (module_at s k)) (λ k d inside. omega (arith, a))
 inner_by s h step OfNothing a b = All-nil (IsInner h)
 
-inner_all : (s : Source) (h : Hierarchy) (steps : List Step) → AllByRecursion (IsWithin s (counts_of h)) steps → All (IsInner h) (flat_map (λ (step : Step). inner_in s step (target_in s step.item)) steps)
+inner_all : (s : Source) (h : Hierarchy) (steps : List Step) → AllByRecursion (IsWithin s (counts_of h)) steps → All (IsInner h) (flat_map (λ (step : Step). inner_in s step (binding_in s step.item)) steps)
 inner_all s h [] within = All-nil (IsInner h)
 inner_all s h (x ∷ xs) within =
-    All-append (IsInner h) (inner_in s x (target_in s x.item)) (flat_map (λ (step : Step). inner_in s step (target_in s step.item)) xs)
-    (inner_by s h x (target_in s x.item) within.0.scopes within.0.leaves) (inner_all s h xs within.1)
+    All-append (IsInner h) (inner_in s x (binding_in s x.item)) (flat_map (λ (step : Step). inner_in s step (binding_in s step.item)) xs)
+    (inner_by s h x (binding_in s x.item) within.0.scopes within.0.leaves) (inner_all s h xs within.1)
 
 -- joins
 abbrev IsBelow : ℕ → Option ℕ → Type 0
@@ -121,12 +121,12 @@ number_below : (m : Module) (first n : ℕ) (o : Option ℕ) → first + length 
 number_below m first n None room h = tt
 number_below m first n (Some at) room h = omega (arith, room, h)
 
-numbers_below : (place : Place) (pieces : List Piece) (n : ℕ) → place.first + length (nets_of place.home) ≤ n → All (IsPlace place.home) (expression_places place.home pieces) → All (IsBelow n) (numbers_of place pieces)
+numbers_below : (place : Place) (pieces : List Piece) (n : ℕ) → place.first + length (nets_of place.module_nets) ≤ n → All (IsPlace place.module_nets) (expression_places place.module_nets pieces) → All (IsBelow n) (numbers_of place pieces)
 numbers_below place pieces n room h =
-    All-map (IsBelow n) (option_map (λ at. place.first + at)) (expression_places place.home pieces)
-    (All-weaker (IsPlace place.home) (λ o. IsBelow n (option_map (λ at. place.first + at) o)) (λ o k. number_below place.home place.first n o room k) (expression_places place.home pieces) h)
+    All-map (IsBelow n) (option_map (λ at. place.first + at)) (expression_places place.module_nets pieces)
+    (All-weaker (IsPlace place.module_nets) (λ o. IsBelow n (option_map (λ at. place.first + at) o)) (λ o k. number_below place.module_nets place.first n o room k) (expression_places place.module_nets pieces) h)
 
--- the places of a target's pins
+-- the places of a binding's pins
 abbrev pub HasPlaces : ℕ → Pin → Type 0
 HasPlaces size p = All (λ at. at < size) p.places
 
@@ -146,15 +146,15 @@ ports_placed m [] h = tt
 ports_placed m (name ∷ names) h =
     (All-map (λ at. at < length (nets_of m)) (place_of m) (bits_of name (range_of m name)) (name_placed m name (All-head (IsKnown m) name names h)), ports_placed m names (All-tail (IsKnown m) name names h))
 
-target_placed : (s : Source) (t : Target) → AllByRecursion (HasPlaces (size_of s t).inner) (target_pins s t)
-target_placed s (OfCell n) =
+binding_placed : (s : Source) (t : Binding) → AllByRecursion (HasPlaces (size_of s t).inner) (binding_pins s t)
+binding_placed s (OfCell n) =
     let cell = cell_at s n in
     let count = length-append (inputs_of cell) (outputs_of cell) in
     let same = length-pins_of cell in
     all_append (HasPlaces (length (pins_of cell))) (pins_from false 0 (inputs_of cell)) (pins_from true (length (inputs_of cell)) (outputs_of cell))
     (pins_placed false (length (pins_of cell)) 0 (inputs_of cell) (omega (arith, count, same))) (pins_placed true (length (pins_of cell)) (length (inputs_of cell)) (outputs_of cell) (omega (arith, count, same)))
-target_placed s (OfModule k) = ports_placed (module_at s k) (module_at s k).ports (ports_known (module_at s k))
-target_placed s OfNothing = tt
+binding_placed s (OfModule k) = ports_placed (module_at s k) (module_at s k).ports (ports_known (module_at s k))
+binding_placed s OfNothing = tt
 
 wired_by : (size : ℕ) (pin : Pin) (o : Option (List Piece)) (ws : List Wiring) → HasPlaces size pin → AllByRecursion (λ (w : Wiring). HasPlaces size w.pin) ws → AllByRecursion (λ (w : Wiring). HasPlaces size w.pin) (cons_option (option_map (wiring_of pin) o) ws)
 wired_by size pin None ws h k = k
@@ -167,12 +167,12 @@ wired_places size n i (pin ∷ pins) h = wired_by size pin (expression_at i n pi
 pin_numbers : (first size n : ℕ) (places : List ℕ) → first + size ≤ n → All (λ at. at < size) places → All (IsBelow n) (map (λ at. Some (first + at)) places)
 pin_numbers first size n places room h = All-map (IsBelow n) (λ at. Some (first + at)) places (All-weaker (λ at. at < size) (λ at. first + at < n) (λ at k. omega (arith, room, k)) places h)
 
-wiring_by : (place : Place) (first size n : ℕ) (w : Wiring) (output : Bool) → place.first + length (nets_of place.home) ≤ n → first + size ≤ n → IsPlacedWiring place.home w → HasPlaces size w.pin →
+wiring_by : (place : Place) (first size n : ℕ) (w : Wiring) (output : Bool) → place.first + length (nets_of place.module_nets) ≤ n → first + size ≤ n → IsPlacedWiring place.module_nets w → HasPlaces size w.pin →
     All (HasEnds n) (cond output (joined (map (λ at. Some (first + at)) w.pin.places) (numbers_of place w.pieces)) (joined (numbers_of place w.pieces) (map (λ at. Some (first + at)) w.pin.places)))
 wiring_by place first size n w true a b h k = joined_below n (map (λ at. Some (first + at)) w.pin.places) (numbers_of place w.pieces) (pin_numbers first size n w.pin.places b k) (numbers_below place w.pieces n a h)
 wiring_by place first size n w false a b h k = joined_below n (numbers_of place w.pieces) (map (λ at. Some (first + at)) w.pin.places) (numbers_below place w.pieces n a h) (pin_numbers first size n w.pin.places b k)
 
-wirings_below : (place : Place) (first size n : ℕ) (ws : List Wiring) → place.first + length (nets_of place.home) ≤ n → first + size ≤ n → AllByRecursion (IsPlacedWiring place.home) ws →
+wirings_below : (place : Place) (first size n : ℕ) (ws : List Wiring) → place.first + length (nets_of place.module_nets) ≤ n → first + size ≤ n → AllByRecursion (IsPlacedWiring place.module_nets) ws →
     AllByRecursion (λ (w : Wiring). HasPlaces size w.pin) ws → All (HasEnds n) (flat_map (wiring_joins place first) ws)
 wirings_below place first size n [] a b h k = All-nil (HasEnds n)
 wirings_below place first size n (w ∷ ws) a b h k =
@@ -183,15 +183,15 @@ no_wirings number i [] none = refl
 no_wirings number i (pin ∷ pins) none =
     ap (λ (o : Option (List Piece)). cons_option (option_map (wiring_of pin) o) (wirings_from (number + 1) i pins)) (none number pin.name) ∙ no_wirings (number + 1) i pins none
 
-step_joins : (s : Source) (step : Step) (n : ℕ) (i : Item) → step.place.first + length (nets_of step.place.home) ≤ n → step.before.inner + (size_of s (target_in s i)).inner ≤ n → IsPlacedItem s step.place.home i → All (HasEnds n) (joins_in s step i)
+step_joins : (s : Source) (step : Step) (n : ℕ) (i : Item) → step.place.first + length (nets_of step.place.module_nets) ≤ n → step.before.inner + (size_of s (binding_in s i)).inner ≤ n → IsPlacedItem s step.place.module_nets i → All (HasEnds n) (joins_in s step i)
 step_joins s step n (item.Assign entry left right) a b known =
     joined_below n (numbers_of step.place right) (numbers_of step.place left) (numbers_below step.place right n a known.1) (numbers_below step.place left n a known.0)
 step_joins s step n (item.Instance entry cell name by_name connections) a b known =
     let i = item.Instance entry cell name by_name connections in
-    wirings_below step.place step.before.inner (size_of s (target_in s (item.Instance entry cell name by_name connections))).inner n
+    wirings_below step.place step.before.inner (size_of s (binding_in s (item.Instance entry cell name by_name connections))).inner n
     (wirings_of (item.Instance entry cell name by_name connections) (pins_at s (item.Instance entry cell name by_name connections))) a b known
-    (wired_places (size_of s (target_in s (item.Instance entry cell name by_name connections))).inner 0 (item.Instance entry cell name by_name connections)
-    (pins_at s (item.Instance entry cell name by_name connections)) (target_placed s (target_in s (item.Instance entry cell name by_name connections))))
+    (wired_places (size_of s (binding_in s (item.Instance entry cell name by_name connections))).inner 0 (item.Instance entry cell name by_name connections)
+    (pins_at s (item.Instance entry cell name by_name connections)) (binding_placed s (binding_in s (item.Instance entry cell name by_name connections))))
 step_joins s step n (item.Port entry output span names) a b known = All-nil (HasEnds n)
 step_joins s step n (item.Wire entry span names) a b known = All-nil (HasEnds n)
 
@@ -286,21 +286,21 @@ shape_of s top passed inside live kept =
     let h = hierarchy_of s top in
     let steps = walk s top in
     let ordered = walk_in_order s top in
-    let placed = walk_placed s (IsPlacedItem s) top (λ i. knows_target s i passed) (live_placed s top passed inside live) in
+    let placed = walk_placed s (IsPlacedItem s) top (λ i. knows_binding s i passed) (live_placed s top passed inside live) in
     let a = scopes-length s (walk s top) in
     let b = leaves-length s (walk s top) in
     let c = inner-length s (walk s top) in
-    let d = length-append (nets_in 0 (module_at s top)) (flat_map (λ (step : Step). inner_in s step (target_in s step.item)) (walk s top)) in
+    let d = length-append (nets_in 0 (module_at s top)) (flat_map (λ (step : Step). inner_in s step (binding_in s step.item)) (walk s top)) in
     let e = length-map (nets_of (module_at s top)) (net_of 0) in
     let within = all_within s (counts_of (hierarchy_of s top)) (plus (counts 0 0 0) (size_of s (OfModule top))) (walk s top) ordered (omega (arith, a)) (omega (arith, b)) (omega (arith, c, d, e)) in
     record {
       some_scope = omega arith;
       few_scopes = kept.scopes;
-      parents = parents_by (top_scope top) (filter_map (λ (step : Step). scope_in step (target_in s step.item)) (walk s top))
+      parents = parents_by (top_scope top) (filter_map (λ (step : Step). scope_in step (binding_in s step.item)) (walk s top))
           (scopes_follow s (plus (counts 0 0 0) (size_of s (OfModule top))) (walk s top) ordered placed);
       few_leaves = kept.leaves;
-      each_leaf = All-from_recursion (IsLeaf s.cells (hierarchy_of s top)) (filter_map (λ (step : Step). leaf_in step (target_in s step.item)) (walk s top)) (leaves_in s (hierarchy_of s top) (walk s top) within placed);
-      each_inner = All-append (IsInner (hierarchy_of s top)) (nets_in 0 (module_at s top)) (flat_map (λ (step : Step). inner_in s step (target_in s step.item)) (walk s top))
+      each_leaf = All-from_recursion (IsLeaf s.cells (hierarchy_of s top)) (filter_map (λ (step : Step). leaf_in step (binding_in s step.item)) (walk s top)) (leaves_in s (hierarchy_of s top) (walk s top) within placed);
+      each_inner = All-append (IsInner (hierarchy_of s top)) (nets_in 0 (module_at s top)) (flat_map (λ (step : Step). inner_in s step (binding_in s step.item)) (walk s top))
           (All-map (IsInner (hierarchy_of s top)) (net_of 0) (nets_of (module_at s top)) (λ k d inside. omega arith)) (inner_all s (hierarchy_of s top) (walk s top) within);
       few_bits = kept.inner;
       each_join = joins_all s (hierarchy_of s top) (walk s top) within placed;

@@ -13,9 +13,9 @@ use Rattle.mintc_netlist.specs.Nets.{port_names, net_names, span_of, declares_po
 use Rattle.mintc_netlist.specs.Expressions.{width_of, selects_fit, has_constant}
 use Rattle.mintc_netlist.specs.Connections.{Pin, pin_names, named_pins, Wiring, wirings_of, drives, driven_first}
 use Rattle.mintc_netlist.specs.Statements.{Statement}
-use Rattle.mintc_flatten_hierarchy.specs.declared.targets.Target.{Target}
-use Rattle.mintc_flatten_hierarchy.specs.declared.targets.Target.TheVariants.{OfCell, OfModule, OfNothing}
-use Rattle.mintc_flatten_hierarchy.specs.Sources.{Source, module_at, is_called, target_in, pins_at, children_of}
+use Rattle.mintc_flatten_hierarchy.specs.declared.bindings.Binding.{Binding}
+use Rattle.mintc_flatten_hierarchy.specs.declared.bindings.Binding.TheVariants.{OfCell, OfModule, OfNothing}
+use Rattle.mintc_flatten_hierarchy.specs.Sources.{Source, module_at, is_called, binding_in, pins_at, children_of}
 
 -- Names given twice: a second module of a name; a name twice in a port list; two port declarations, two net declarations or two
 -- instances of a name in one module; a pin connected twice by name.
@@ -24,7 +24,7 @@ instance_names (item.Instance entry cell name by_name connections) = name ∷ []
 instance_names _ = []
 
 abbrev pub gives_again : Statement → Option Item → Bool
-gives_again st None = list_any (is_called st.home.name) st.earlier || comes_again bytes_eq [] st.home.ports
+gives_again st None = list_any (is_called st.module_nets.name) st.earlier || comes_again bytes_eq [] st.module_nets.ports
 gives_again st (Some (item.Port entry output span names)) = comes_again bytes_eq (flat_map port_names st.before) names
 gives_again st (Some (item.Wire entry span names)) = comes_again bytes_eq (flat_map net_names st.before) names
 gives_again st (Some (item.Assign entry left right)) = false
@@ -35,12 +35,12 @@ abbrev pub is_name_twice : Statement → Bool
 is_name_twice st = gives_again st st.item
 
 -- Instances of what is neither described nor a module.
-abbrev pub is_nothing : Target → Bool
+abbrev pub is_nothing : Binding → Bool
 is_nothing OfNothing = true
 is_nothing _ = false
 
 abbrev pub has_no_module : Source → Option Item → Bool
-has_no_module s (Some (item.Instance entry cell name by_name connections)) = is_nothing (target_in s (item.Instance entry cell name by_name connections))
+has_no_module s (Some (item.Instance entry cell name by_name connections)) = is_nothing (binding_in s (item.Instance entry cell name by_name connections))
 has_no_module s _ = false
 
 abbrev pub is_no_module : Source → Statement → Bool
@@ -51,28 +51,28 @@ abbrev pub leads : Source → ℕ → List ℕ → ℕ → Bool
 leads s zero name k = is_called name (module_at s k)
 leads s (suc most) name k = is_called name (module_at s k) || list_any (leads s most name) (children_of s (module_at s k))
 
-abbrev pub leads_back : Source → Module → Target → Bool
-leads_back s home (OfModule k) = leads s (length s.modules) home.name k
-leads_back s home _ = false
+abbrev pub leads_back : Source → Module → Binding → Bool
+leads_back s module_nets (OfModule k) = leads s (length s.modules) module_nets.name k
+leads_back s module_nets _ = false
 
 abbrev pub is_recursive : Source → Statement → Bool
-is_recursive s st = option_map_or (λ i. leads_back s st.home (target_in s i)) st.item false
+is_recursive s st = option_map_or (λ i. leads_back s st.module_nets (binding_in s i)) st.item false
 
 -- Ports and pins that aren't there: a port of a port list without a direction; a port declaration that isn't in the list; a pin
 -- that the cell or module doesn't have; more ordered connections than ports; ordered connections, one or more, to a described cell.
-abbrev pub is_leaf : Target → Bool
+abbrev pub is_leaf : Binding → Bool
 is_leaf (OfCell n) = true
 is_leaf _ = false
 
-abbrev pub misses : Bool → Target → List Pin → List Connection → Bool
-misses true target pins connections = list_any (λ name. not (is_among name (pin_names pins))) (named_pins connections)
-misses false target pins connections = nat_lt 0 (length connections) && (is_leaf target || nat_lt (length pins) (length connections))
+abbrev pub misses : Bool → Binding → List Pin → List Connection → Bool
+misses true binding pins connections = list_any (λ name. not (is_among name (pin_names pins))) (named_pins connections)
+misses false binding pins connections = nat_lt 0 (length connections) && (is_leaf binding || nat_lt (length pins) (length connections))
 
 abbrev pub lacks_pin : Source → Statement → Option Item → Bool
-lacks_pin s st None = list_any (λ name. not (list_any (declares_port name) st.home.items)) st.home.ports
-lacks_pin s st (Some (item.Port entry output span names)) = list_any (λ name. not (is_among name st.home.ports)) names
+lacks_pin s st None = list_any (λ name. not (list_any (declares_port name) st.module_nets.items)) st.module_nets.ports
+lacks_pin s st (Some (item.Port entry output span names)) = list_any (λ name. not (is_among name st.module_nets.ports)) names
 lacks_pin s st (Some (item.Instance entry cell name by_name connections)) =
-    misses by_name (target_in s (item.Instance entry cell name by_name connections)) (pins_at s (item.Instance entry cell name by_name connections)) connections
+    misses by_name (binding_in s (item.Instance entry cell name by_name connections)) (pins_at s (item.Instance entry cell name by_name connections)) connections
 lacks_pin s st _ = false
 
 abbrev pub is_no_pin : Source → Statement → Bool
@@ -93,9 +93,9 @@ abbrev pub misfits : Source → Statement → Option Item → Bool
 misfits s st (Some (item.Port entry output span names)) = list_any (λ name. option_map_or (is_of_other_range span) (find (declares_net name) st.before) false) names
 misfits s st (Some (item.Wire entry span names)) = list_any (λ name. option_map_or (is_of_other_range span) (find (declares_port name) st.before) false) names
 misfits s st (Some (item.Assign entry left right)) =
-    (not (selects_fit st.home left && selects_fit st.home right) || not (nat_eq (width_of st.home left) (width_of st.home right))) || has_constant left
+    (not (selects_fit st.module_nets left && selects_fit st.module_nets right) || not (nat_eq (width_of st.module_nets left) (width_of st.module_nets right))) || has_constant left
 misfits s st (Some (item.Instance entry cell name by_name connections)) =
-    list_any (is_wired_badly st.home) (wirings_of (item.Instance entry cell name by_name connections) (pins_at s (item.Instance entry cell name by_name connections)))
+    list_any (is_wired_badly st.module_nets) (wirings_of (item.Instance entry cell name by_name connections) (pins_at s (item.Instance entry cell name by_name connections)))
 misfits s st None = false
 
 abbrev pub is_misfit : Source → Statement → Bool
@@ -106,4 +106,4 @@ abbrev pub drives_in : Source → Module → Item → List ℕ
 drives_in s m i = drives m (pins_at s i) i
 
 abbrev pub is_second_driver : Source → Statement → Bool
-is_second_driver s st = option_map_or (λ i. comes_again nat_eq (driven_first st.home ++ flat_map (drives_in s st.home) st.before) (drives_in s st.home i)) st.item false
+is_second_driver s st = option_map_or (λ i. comes_again nat_eq (driven_first st.module_nets ++ flat_map (drives_in s st.module_nets) st.before) (drives_in s st.module_nets i)) st.item false

@@ -18,9 +18,9 @@ use Rattle.mintc_flatten_hierarchy.specs.declared.hierarchy.Inner.TheVariants as
 use Rattle.mintc_flatten_hierarchy.specs.declared.hierarchy.Join.{Join}
 use Rattle.mintc_flatten_hierarchy.specs.declared.hierarchy.TopPort.{TopPort}
 use Rattle.mintc_flatten_hierarchy.specs.declared.hierarchy.Hierarchy.{Hierarchy}
-use Rattle.mintc_flatten_hierarchy.specs.declared.targets.Target.{Target}
-use Rattle.mintc_flatten_hierarchy.specs.declared.targets.Target.TheVariants.{OfCell, OfModule, OfNothing}
-use Rattle.mintc_flatten_hierarchy.specs.Sources.{Source, module_at, cell_at, target_in, pins_at}
+use Rattle.mintc_flatten_hierarchy.specs.declared.bindings.Binding.{Binding}
+use Rattle.mintc_flatten_hierarchy.specs.declared.bindings.Binding.TheVariants.{OfCell, OfModule, OfNothing}
+use Rattle.mintc_flatten_hierarchy.specs.Sources.{Source, module_at, cell_at, binding_in, pins_at}
 use Rattle.mintc_flatten_hierarchy.specs.Walks.{Place, Step, walk}
 
 abbrev pub name_of : Item → List ℕ
@@ -32,11 +32,11 @@ statement_of (item.Instance entry cell name by_name connections) = entry
 statement_of _ = 0
 
 -- the scope that a step is, or the leaf
-abbrev pub scope_in : Step → Target → Option Scope
+abbrev pub scope_in : Step → Binding → Option Scope
 scope_in step (OfModule k) = Some (record { «module» = k; parent = step.place.scope; name = name_of step.item })
 scope_in step _ = None
 
-abbrev pub leaf_in : Step → Target → Option Leaf
+abbrev pub leaf_in : Step → Binding → Option Leaf
 leaf_in step (OfCell n) = Some (record { scope = step.place.scope; name = name_of step.item; cell = n; first_pin = step.before.inner; entry = statement_of step.item })
 leaf_in step _ = None
 
@@ -50,14 +50,14 @@ nets_in number m = map (net_of number) (nets_of m)
 abbrev pub pins_in : ℕ → Cell → List Inner
 pins_in number cell = map (λ name. inner.Pin number name) (pins cell)
 
-abbrev pub inner_in : Source → Step → Target → List Inner
+abbrev pub inner_in : Source → Step → Binding → List Inner
 inner_in s step (OfCell n) = pins_in step.before.leaves (cell_at s n)
 inner_in s step (OfModule k) = nets_in step.before.scopes (module_at s k)
 inner_in s step OfNothing = []
 
 -- the inner bits that an expression stands for in a scope, from the rightmost; none for a constant's
 abbrev pub numbers_of : Place → List Piece → List (Option ℕ)
-numbers_of place pieces = map (option_map (λ at. place.first + at)) (expression_places place.home pieces)
+numbers_of place pieces = map (option_map (λ at. place.first + at)) (expression_places place.module_nets pieces)
 
 abbrev pub join_of : ℕ → ℕ → Join
 join_of from to = record { from = from; to = to }
@@ -88,9 +88,9 @@ top_port p = record { name = p.name; output = p.output; bits = p.places }
 
 abbrev pub hierarchy_from : Source → ℕ → List Step → Hierarchy
 hierarchy_from s top steps = record {
-  scopes = top_scope top ∷ filter_map (λ (step : Step). scope_in step (target_in s step.item)) steps;
-  leaves = filter_map (λ (step : Step). leaf_in step (target_in s step.item)) steps;
-  inner = nets_in 0 (module_at s top) ++ flat_map (λ (step : Step). inner_in s step (target_in s step.item)) steps;
+  scopes = top_scope top ∷ filter_map (λ (step : Step). scope_in step (binding_in s step.item)) steps;
+  leaves = filter_map (λ (step : Step). leaf_in step (binding_in s step.item)) steps;
+  inner = nets_in 0 (module_at s top) ++ flat_map (λ (step : Step). inner_in s step (binding_in s step.item)) steps;
   joins = flat_map (λ (step : Step). joins_in s step step.item) steps;
   ports = map top_port (ports_of (module_at s top));
 }

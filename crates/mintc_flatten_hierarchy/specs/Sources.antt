@@ -8,8 +8,8 @@ use Rattle.mintc_netlist.specs.declared.module.Item.{Item}
 use Rattle.mintc_netlist.specs.declared.module.Item.TheVariants as item
 use Rattle.mintc_netlist.specs.declared.module.Module.{Module}
 use Rattle.mintc_netlist.specs.Connections.{Pin, pin_of, ports_of}
-use Rattle.mintc_flatten_hierarchy.specs.declared.targets.Target.{Target}
-use Rattle.mintc_flatten_hierarchy.specs.declared.targets.Target.TheVariants.{OfCell, OfModule, OfNothing}
+use Rattle.mintc_flatten_hierarchy.specs.declared.bindings.Binding.{Binding}
+use Rattle.mintc_flatten_hierarchy.specs.declared.bindings.Binding.TheVariants.{OfCell, OfModule, OfNothing}
 
 -- The cells that are described, and all modules of a netlist. Cells and modules are counted from 0.
 pub record Source : Type 0 where
@@ -35,7 +35,7 @@ is_stub s m = is_some (number_of s.cells m.name)
 abbrev pub modules_of : Source → List Module
 modules_of s = filter (λ m. not (is_stub s m)) s.modules
 
-abbrev pub chosen : Option ℕ → Option ℕ → Target
+abbrev pub chosen : Option ℕ → Option ℕ → Binding
 chosen (Some cell) number = OfCell cell
 chosen None (Some number) = OfModule number
 chosen None None = OfNothing
@@ -44,13 +44,13 @@ abbrev pub is_called : List ℕ → Module → Bool
 is_called name m = bytes_eq name m.name
 
 -- what the name of an instance's cell means
-abbrev pub target_of : Source → List ℕ → Target
-target_of s name = chosen (number_of s.cells name) (position (is_called name) s.modules)
+abbrev pub binding_of : Source → List ℕ → Binding
+binding_of s name = chosen (number_of s.cells name) (position (is_called name) s.modules)
 
 -- what an item is an instance of
-abbrev pub target_in : Source → Item → Target
-target_in s (item.Instance entry cell name by_name connections) = target_of s cell
-target_in s _ = OfNothing
+abbrev pub binding_in : Source → Item → Binding
+binding_in s (item.Instance entry cell name by_name connections) = binding_of s cell
+binding_in s _ = OfNothing
 
 -- the pins of a cell, in cell order from a number on
 abbrev pub pins_from : Bool → ℕ → List (List ℕ) → List Pin
@@ -61,23 +61,23 @@ abbrev pub pins_of : Cell → List Pin
 pins_of cell = pins_from false 0 (inputs_of cell) ++ pins_from true (length (inputs_of cell)) (outputs_of cell)
 
 -- the pins of what an instance is of
-abbrev pub target_pins : Source → Target → List Pin
-target_pins s (OfCell n) = pins_of (cell_at s n)
-target_pins s (OfModule k) = ports_of (module_at s k)
-target_pins s OfNothing = []
+abbrev pub binding_pins : Source → Binding → List Pin
+binding_pins s (OfCell n) = pins_of (cell_at s n)
+binding_pins s (OfModule k) = ports_of (module_at s k)
+binding_pins s OfNothing = []
 
 abbrev pub pins_at : Source → Item → List Pin
-pins_at s i = target_pins s (target_in s i)
+pins_at s i = binding_pins s (binding_in s i)
 
 -- the number of the module of which an item is an instance
-abbrev pub scope_number : Target → Option ℕ
+abbrev pub scope_number : Binding → Option ℕ
 scope_number (OfModule k) = Some k
 scope_number _ = None
 
 -- the modules that a module instantiates, in the order of its instances
 abbrev pub children_of : Source → Module → List ℕ
-children_of s m = filter_map (λ i. scope_number (target_in s i)) m.items
+children_of s m = filter_map (λ i. scope_number (binding_in s i)) m.items
 
 -- what each item of a module is an instance of
-abbrev pub targets_in : Source → Module → List Target
-targets_in s m = map (target_in s) m.items
+abbrev pub bindings_in : Source → Module → List Binding
+bindings_in s m = map (binding_in s) m.items

@@ -6,13 +6,13 @@
 //! the crates that name bits, read delays and make designs stand on these lists alone.
 #![tactic(auto)]
 
+mod bindings;
 mod hierarchy;
 mod laws;
-mod targets;
 
+pub use bindings::Binding;
 pub use hierarchy::{
     Hierarchy, Inner, InnerList, Join, JoinList, Leaf, LeafList, Scope, ScopeList, TopPort,
     TopPortList,
 };
 pub use laws::{bits_have_one_driver, hierarchies_are_in_shape, outputs_have_no_driver};
-pub use targets::Target;

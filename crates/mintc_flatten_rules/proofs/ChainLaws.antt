@@ -12,9 +12,9 @@ use Rattle.mintc_text_names.specs.Names.{is_among}
 use Rattle.mintc_netlist.specs.Again.{comes_again}
 use Rattle.mintc_netlist.specs.Ordinary.{entry_of}
 use Rattle.mintc_netlist.specs.Statements.{Statement, statement_of, first_at_fault}
-use Rattle.mintc_flatten_hierarchy.specs.declared.targets.Target.{Target}
-use Rattle.mintc_flatten_hierarchy.specs.declared.targets.Target.TheVariants.{OfCell, OfModule, OfNothing}
-use Rattle.mintc_flatten_hierarchy.specs.Sources.{Source, module_at, no_module, is_stub, is_called, modules_of, scope_number, target_in, targets_in, children_of}
+use Rattle.mintc_flatten_hierarchy.specs.declared.bindings.Binding.{Binding}
+use Rattle.mintc_flatten_hierarchy.specs.declared.bindings.Binding.TheVariants.{OfCell, OfModule, OfNothing}
+use Rattle.mintc_flatten_hierarchy.specs.Sources.{Source, module_at, no_module, is_stub, is_called, modules_of, scope_number, binding_in, bindings_in, children_of}
 use Rattle.mintc_flatten_hierarchy.specs.Faults.{leads, leads_back, is_name_twice, is_recursive}
 use Rattle.mintc_flatten_hierarchy.specs.Refusals.{name_twice_refusal}
 use Rattle.mintc_text.specs.declared.refusals.Refusal.TheVariants as refusal
@@ -28,12 +28,12 @@ use Rattle.mintc_flatten_binding.proofs.SharedOrderingLaws.{each}
 use Rattle.mintc_flatten_rules.proofs.SearchLaws.{none_of, or_none}
 
 -- What an instance is of, as it is kept.
-pub own_target : (s : Source) (m : Module) (own : List Target) (is : List Item) (n : ℕ) (i : Item) (d : Target) → own ≡ targets_in s m → is ≡ m.items → n < length is → i ≡ get_or is n i → get_or own n d ≡ target_in s i
-own_target s m own is n i d e f inside same =
-    ap (λ (ts : List Target). get_or ts n d) e
-    ∙ ap (λ (l : List Item). get_or (map (target_in s) l) n d) (sym f)
-    ∙ get_or-map (target_in s) is n i d inside
-    ∙ ap (target_in s) (sym same)
+pub own_binding : (s : Source) (m : Module) (own : List Binding) (is : List Item) (n : ℕ) (i : Item) (d : Binding) → own ≡ bindings_in s m → is ≡ m.items → n < length is → i ≡ get_or is n i → get_or own n d ≡ binding_in s i
+own_binding s m own is n i d e f inside same =
+    ap (λ (ts : List Binding). get_or ts n d) e
+    ∙ ap (λ (l : List Item). get_or (map (binding_in s) l) n d) (sym f)
+    ∙ get_or-map (binding_in s) is n i d inside
+    ∙ ap (binding_in s) (sym same)
 
 -- Names that are given once.
 unnamed : {A B : Type 0} (f : A → B) (o : Option A) → option_map f o ≡ None → o ≡ None
@@ -130,7 +130,7 @@ one_name s i j h low other live lives same = by_order (nat_lt i j) (nat_lt j i) 
 abbrev Others : Source → List ℕ → List ℕ → ℕ → Type 0
 Others s name order p = (j : ℕ) → j < p → is_called name (module_at s (slice_index order j)) ≡ false
 
-not_by : (s : Source) (name order : List ℕ) (most j p : ℕ) → j ≤ p → ((i : ℕ) → i < p → leads s most name (slice_index order i) ≡ false) → (t : Target) → Stands order j t → IfSome (scope_number t) (λ k. leads s most name k ≡ false)
+not_by : (s : Source) (name order : List ℕ) (most j p : ℕ) → j ≤ p → ((i : ℕ) → i < p → leads s most name (slice_index order i) ≡ false) → (t : Binding) → Stands order j t → IfSome (scope_number t) (λ k. leads s most name k ≡ false)
 not_by s name order most j p le h (OfCell c) stands = tt
 not_by s name order most j p le h OfNothing stands = tt
 not_by s name order most j p le h (OfModule k) (i, before, is) = let below : i < p = omega arith in subst (λ (n : ℕ). leads s most name n ≡ false) is (h i below)
@@ -142,7 +142,7 @@ not_before s name order p h le others (suc most) j before =
     let inside : j < length order = omega arith in
     let low : j ≤ p = omega arith in
     or_none (is_called name m) (list_any (leads s most name) (children_of s m)) (others j before)
-    (none_of s (leads s most name) m.items (each (not_by s name order most j p low (not_before s name order p h le others most)) (targets_in s m) (h.behind j inside)))
+    (none_of s (leads s most name) m.items (each (not_by s name order most j p low (not_before s name order p h le others most)) (bindings_in s m) (h.behind j inside)))
 
 -- the first place of an order with a test
 record FirstPlace (test : ℕ → Bool) (order : List ℕ) : Type 0 where
@@ -168,33 +168,33 @@ first_place test (x ∷ xs) zero inside h = first_by test x xs (test x) refl (λ
 first_place test (x ∷ xs) (suc i) inside h = let below : i < length xs = omega arith in first_by test x xs (test x) refl (λ e. first_place test xs i below h)
 
 -- No instance of a module leads back to it.
-back_by : (s : Source) (m : Module) (order : List ℕ) (p : ℕ) → ((i : ℕ) → i < p → leads s (length s.modules) m.name (slice_index order i) ≡ false) → (t : Target) → Stands order p t → leads_back s m t ≡ false
+back_by : (s : Source) (m : Module) (order : List ℕ) (p : ℕ) → ((i : ℕ) → i < p → leads s (length s.modules) m.name (slice_index order i) ≡ false) → (t : Binding) → Stands order p t → leads_back s m t ≡ false
 back_by s m order p h (OfCell c) stands = refl
 back_by s m order p h OfNothing stands = refl
 back_by s m order p h (OfModule k) (i, before, is) = subst (λ (n : ℕ). leads s (length s.modules) m.name n ≡ false) is (h i before)
 
 none_back : (s : Source) (order : List ℕ) (k : ℕ) → IsOrder s order → HoldsAll s order → name_twice_refusal s ≡ None → k < length s.modules → is_stub s (module_at s k) ≡ false →
-    AllByRecursion (λ t. leads_back s (module_at s k) t ≡ false) (targets_in s (module_at s k))
+    AllByRecursion (λ t. leads_back s (module_at s k) t ≡ false) (bindings_in s (module_at s k))
 none_back s order k h all once inside live =
-    let home = module_at s k in
+    let module_nets = module_at s k in
     let at = all k inside live in
-    let found : is_called home.name (module_at s (slice_index order at.0)) ≡ true = ap (λ (n : ℕ). is_called home.name (module_at s n)) at.2 ∙ (bytes_eq-Decides home.name home.name).1 refl in
-    let first = first_place (λ n. is_called home.name (module_at s n)) order at.0 at.1 found in
+    let found : is_called module_nets.name (module_at s (slice_index order at.0)) ≡ true = ap (λ (n : ℕ). is_called module_nets.name (module_at s n)) at.2 ∙ (bytes_eq-Decides module_nets.name module_nets.name).1 refl in
+    let first = first_place (λ n. is_called module_nets.name (module_at s n)) order at.0 at.1 found in
     let number = slice_index order first.place in
-    let named : home.name ≡ (module_at s number).name = (bytes_eq-Decides home.name (module_at s number).name).0 first.passes in
+    let named : module_nets.name ≡ (module_at s number).name = (bytes_eq-Decides module_nets.name (module_at s number).name).0 first.passes in
     let lives : is_stub s (module_at s number) ≡ false = sym (ap (λ (n : List ℕ). is_some (number_of s.cells n)) named) ∙ live in
     let same : number ≡ k = one_name s number k once (h.number first.place first.inside) inside lives live (sym named) in
     let within = first.inside in
     let le : first.place ≤ length order = omega arith in
-    subst (λ (n : ℕ). AllByRecursion (λ t. leads_back s home t ≡ false) (targets_in s (module_at s n))) same
-    (each (back_by s home order first.place (not_before s home.name order first.place h le first.before (length s.modules))) (targets_in s (module_at s number)) (h.behind first.place first.inside))
+    subst (λ (n : ℕ). AllByRecursion (λ t. leads_back s module_nets t ≡ false) (bindings_in s (module_at s n))) same
+    (each (back_by s module_nets order first.place (not_before s module_nets.name order first.place h le first.before (length s.modules))) (bindings_in s (module_at s number)) (h.behind first.place first.inside))
 
 -- So there is no first at fault.
 passed_by : (b : Bool) (x : ℕ) (o : Option ℕ) → b ≡ false → o ≡ None → cond b (Some x) o ≡ None
 passed_by false x o e h = h
 passed_by true x o e h = cc
 
-none_after : (s : Source) (m : Module) (before is : List Item) → AllByRecursion (λ t. leads_back s m t ≡ false) (map (target_in s) is) → first_after (is_recursive s) m before is ≡ None
+none_after : (s : Source) (m : Module) (before is : List Item) → AllByRecursion (λ t. leads_back s m t ≡ false) (map (binding_in s) is) → first_after (is_recursive s) m before is ≡ None
 none_after s m before [] h = refl
 none_after s m before (i ∷ is) h =
     passed_by (is_recursive s (statement_of [] m before (Some i))) (entry_of i) (first_after (is_recursive s) m (before ++ i ∷ []) is) h.0 (none_after s m (before ++ i ∷ []) is h.1)

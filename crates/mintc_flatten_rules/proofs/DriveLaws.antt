@@ -17,8 +17,8 @@ use Rattle.mintc_netlist.specs.Expressions.{piece_bits, expression_bits, express
 use Rattle.mintc_netlist.specs.Connections.{Pin, port_of, expression_at, Wiring, wiring_of, wirings_from, places_in, drives, driven_first}
 use Rattle.mintc_netlist_nets.specs.Tables.{bit_place}
 use Rattle.mintc_netlist.specs.Statements.{statement_of}
-use Rattle.mintc_flatten_hierarchy.specs.declared.targets.Target.{Target}
-use Rattle.mintc_flatten_hierarchy.specs.Sources.{Source, pins_at, target_in, target_pins}
+use Rattle.mintc_flatten_hierarchy.specs.declared.bindings.Binding.{Binding}
+use Rattle.mintc_flatten_hierarchy.specs.Sources.{Source, pins_at, binding_in, binding_pins}
 use Rattle.mintc_flatten_hierarchy.specs.Faults.{drives_in, is_second_driver}
 use Rattle.mintc_flatten_binding.proofs.SharedBoolLaws.{or_assoc}
 use Rattle.mintc_flatten_rules.specs.Driving.{HasSame, Drives, TakesIn, port_drives, pin_drives, drives_from}
@@ -157,10 +157,10 @@ pins_more m i pins n d inside =
 pub pins_whole : (m : Module) (i : Item) (pins : List Pin) (n : ℕ) → drives_from m i 0 pins ≡ drives_from m i 0 (take n pins) ++ drives_from m i (0 + length (take n pins)) (drop n pins)
 pins_whole m i pins n = ap (drives_from m i 0) (sym (take-append-drop n pins)) ∙ pins-append m i 0 (take n pins) (drop n pins)
 
-pub item_drives : (s : Source) (m : Module) (i : Item) (t : Target) (entry : ℕ) (cell name : List ℕ) (by_name : Bool) (cs : List Connection) → i ≡ item.Instance entry cell name by_name cs → t ≡ target_in s i →
-    drives_from m i 0 (target_pins s t) ≡ drives_in s m i
-item_drives s m i t entry cell name by_name cs is target =
-    ap (λ (u : Target). drives_from m i 0 (target_pins s u)) target
+pub item_drives : (s : Source) (m : Module) (i : Item) (t : Binding) (entry : ℕ) (cell name : List ℕ) (by_name : Bool) (cs : List Connection) → i ≡ item.Instance entry cell name by_name cs → t ≡ binding_in s i →
+    drives_from m i 0 (binding_pins s t) ≡ drives_in s m i
+item_drives s m i t entry cell name by_name cs is binding =
+    ap (λ (u : Binding). drives_from m i 0 (binding_pins s u)) binding
     ∙ instance_drives m i 0 (pins_at s i)
     ∙ ap (λ (j : Item). flat_map (λ (w : Wiring). places_in m w.pieces) (filter (λ (w : Wiring). w.pin.output) (wirings_from 0 j (pins_at s i)))) is
     ∙ ap (drives m (pins_at s i)) (sym is)

@@ -5,8 +5,8 @@ use Rattle.mintc_netlist.specs.declared.module.Item.{Item}
 use Rattle.mintc_netlist.specs.declared.module.Module.{Module}
 use Rattle.mintc_netlist.specs.Ordinary.{entry_of}
 use Rattle.mintc_netlist.specs.Statements.{Statement, statement_of}
-use Rattle.mintc_flatten_hierarchy.specs.declared.targets.Target.{Target}
-use Rattle.mintc_flatten_hierarchy.specs.Sources.{Source, target_in, targets_in}
+use Rattle.mintc_flatten_hierarchy.specs.declared.bindings.Binding.{Binding}
+use Rattle.mintc_flatten_hierarchy.specs.Sources.{Source, binding_in, bindings_in}
 use Rattle.mintc_flatten_binding.specs.Orders.{IsThere}
 use Rattle.mintc_flatten_binding.proofs.SharedThereLaws.{there}
 use Rattle.mintc_flatten_rules.specs.Firsts.{first_in, first_after}
@@ -43,12 +43,12 @@ own-found test m here = sym (ap (λ (b : Bool). cond b (Some m.entry) (first_aft
 pub own-passed : (test : Statement → Bool) (m : Module) (found : Option ℕ) → test (statement_of [] m [] None) ≡ false → found ≡ first_after test m [] m.items → found ≡ first_in test m
 own-passed test m found here is = is ∙ sym (ap (λ (b : Bool). cond b (Some m.entry) (first_after test m [] m.items)) here) ∙ sym (first_in-is test m)
 
--- what is kept of a module at the place of an item is the target of that item, and is there
-pub target_read : (s : Source) (m : Module) (ts : List Target) (is : List Item) (n : ℕ) (i : Item) (d : Target) → ts ≡ targets_in s m → is ≡ m.items → n < length is → i ≡ get_or is n i →
-    get_or ts n d ≡ target_in s i
-target_read s m ts is n i d targets items inside same =
-    ap (λ (l : List Target). get_or l n d) (targets ∙ ap (map (target_in s)) (sym items)) ∙ get_or-map (target_in s) is n i d inside ∙ ap (target_in s) (sym same)
+-- what is kept of a module at the place of an item is the binding of that item, and is there
+pub binding_read : (s : Source) (m : Module) (ts : List Binding) (is : List Item) (n : ℕ) (i : Item) (d : Binding) → ts ≡ bindings_in s m → is ≡ m.items → n < length is → i ≡ get_or is n i →
+    get_or ts n d ≡ binding_in s i
+binding_read s m ts is n i d bindings items inside same =
+    ap (λ (l : List Binding). get_or l n d) (bindings ∙ ap (map (binding_in s)) (sym items)) ∙ get_or-map (binding_in s) is n i d inside ∙ ap (binding_in s) (sym same)
 
-pub target_there : (s : Source) (m : Module) (ts : List Target) (is : List Item) (n : ℕ) (i : Item) (d : Target) → ts ≡ targets_in s m → is ≡ m.items → n < length is → i ≡ get_or is n i →
+pub binding_there : (s : Source) (m : Module) (ts : List Binding) (is : List Item) (n : ℕ) (i : Item) (d : Binding) → ts ≡ bindings_in s m → is ≡ m.items → n < length is → i ≡ get_or is n i →
     IsThere s (get_or ts n d)
-target_there s m ts is n i d targets items inside same = subst (IsThere s) (sym (target_read s m ts is n i d targets items inside same)) (there s i)
+binding_there s m ts is n i d bindings items inside same = subst (IsThere s) (sym (binding_read s m ts is n i d bindings items inside same)) (there s i)

@@ -15,8 +15,8 @@ use Rattle.mintc_netlist.specs.Nets.{port_names, declares_port}
 use Rattle.mintc_netlist.specs.Connections.{Pin, pin_names, port_of}
 use Rattle.mintc_netlist.specs.Statements.{statement_of}
 use Rattle.mintc_netlist_nets.proofs.SharedNetLaws.{among_last}
-use Rattle.mintc_flatten_hierarchy.specs.declared.targets.Target.{Target}
-use Rattle.mintc_flatten_hierarchy.specs.declared.targets.Target.TheVariants.{OfCell, OfModule}
+use Rattle.mintc_flatten_hierarchy.specs.declared.bindings.Binding.{Binding}
+use Rattle.mintc_flatten_hierarchy.specs.declared.bindings.Binding.TheVariants.{OfCell, OfModule}
 use Rattle.mintc_flatten_hierarchy.specs.Sources.{Source, module_at, cell_at, pins_from, pins_of}
 use Rattle.mintc_flatten_hierarchy.specs.Faults.{is_no_pin}
 use Rattle.mintc_flatten_rules.specs.Firsts.{IsOfModule}
@@ -99,16 +99,16 @@ cell_pins cell =
     ∙ ap (λ (ns : List (List ℕ)). ns ++ pin_names (pins_from true (length (inputs_of cell)) (outputs_of cell))) (pins_names false 0 (inputs_of cell))
     ∙ ap (λ (ns : List (List ℕ)). inputs_of cell ++ ns) (pins_names true (length (inputs_of cell)) (outputs_of cell))
 
-pub is_pin_of_cell : (s : Source) (n : ℕ) (t : Target) (name : List ℕ) → t ≡ OfCell n → is_among name (pins (cell_at s n)) ≡ is_pin s t name
+pub is_pin_of_cell : (s : Source) (n : ℕ) (t : Binding) (name : List ℕ) → t ≡ OfCell n → is_among name (pins (cell_at s n)) ≡ is_pin s t name
 is_pin_of_cell s n t name is =
-    sym (ap (is_among name) (cell_pins (cell_at s n))) ∙ ap (λ (u : Target). is_pin s u name) (sym is)
+    sym (ap (is_among name) (cell_pins (cell_at s n))) ∙ ap (λ (u : Binding). is_pin s u name) (sym is)
 
-pub is_pin_of_module : (s : Source) (k : ℕ) (t : Target) (name : List ℕ) (set : List (List ℕ)) → t ≡ OfModule k → set ≡ port_set (module_at s k) → is_among name set ≡ is_pin s t name
+pub is_pin_of_module : (s : Source) (k : ℕ) (t : Binding) (name : List ℕ) (set : List (List ℕ)) → t ≡ OfModule k → set ≡ port_set (module_at s k) → is_among name set ≡ is_pin s t name
 is_pin_of_module s k t name set is same =
     ap (is_among name) same
     ∙ among_set name (module_at s k).ports
     ∙ sym (ap (is_among name) (port_pins (module_at s k) (module_at s k).ports))
-    ∙ ap (λ (u : Target). is_pin s u name) (sym is)
+    ∙ ap (λ (u : Binding). is_pin s u name) (sym is)
 
 -- what lacks a pin doesn't depend on the modules before
 pub own_pin : (s : Source) → IsOfModule (is_no_pin s)

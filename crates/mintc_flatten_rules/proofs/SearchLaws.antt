@@ -4,12 +4,12 @@ use Rattle.std.specs.List.{AllByRecursion, list_any, filter_map, cons_option}
 use Rattle.std.proofs.lemmas.Bool.{cases_eq}
 use Rattle.std.proofs.lemmas.List.{length-set, length_push, length-replicate, get_or_append_left, get_or_push}
 use Rattle.mintc_netlist.specs.declared.module.Item.{Item}
-use Rattle.mintc_flatten_hierarchy.specs.declared.targets.Target.{Target}
-use Rattle.mintc_flatten_hierarchy.specs.declared.targets.Target.TheVariants.{OfCell, OfModule, OfNothing}
-use Rattle.mintc_flatten_hierarchy.specs.Sources.{Source, module_at, is_called, scope_number, target_in, targets_in, children_of}
+use Rattle.mintc_flatten_hierarchy.specs.declared.bindings.Binding.{Binding}
+use Rattle.mintc_flatten_hierarchy.specs.declared.bindings.Binding.TheVariants.{OfCell, OfModule, OfNothing}
+use Rattle.mintc_flatten_hierarchy.specs.Sources.{Source, module_at, is_called, scope_number, binding_in, bindings_in, children_of}
 use Rattle.mintc_flatten_hierarchy.specs.Faults.{leads}
 use Rattle.mintc_flatten_binding.specs.Orders.{mark_at, IsThere}
-use Rattle.mintc_flatten_rules.specs.Searching.{Found, with_module, with_target, with_targets, IsMarked, IsBehind, IsFound, ArePassed}
+use Rattle.mintc_flatten_rules.specs.Searching.{Found, with_module, with_binding, with_bindings, IsMarked, IsBehind, IsFound, ArePassed}
 use Rattle.mintc_flatten_binding.proofs.SharedThereLaws.{there}
 use Rattle.mintc_flatten_binding.proofs.SharedOrderingLaws.{each, last_or_before}
 
@@ -118,56 +118,56 @@ one_more s name start f k n false e h inside le behind =
       get_or-set_same f.seen k true false within,
     )
 
-abbrev Leads : Source → List ℕ → ℕ → ℕ → Target → Type 0
+abbrev Leads : Source → List ℕ → ℕ → ℕ → Binding → Type 0
 Leads s name start n t = IfSome (scope_number t) (λ k. IsBehind s name start n k)
 
-target_more : (s : Source) (name : List ℕ) (start : ℕ) (f : Found) (t : Target) (n : ℕ) → IsFound s name start f → IsThere s t → n ≤ length f.visited → Leads s name start n t →
-    IsFound s name start (with_target f t) × Grows f (with_target f t) × IsMarked (with_target f t).seen t
-target_more s name start f (OfCell c) n h is_there le behind = (h, grows_not f, tt)
-target_more s name start f OfNothing n h is_there le behind = (h, grows_not f, tt)
-target_more s name start f (OfModule k) n h is_there le behind = one_more s name start f k n (mark_at f.seen k) refl h is_there le behind
+binding_more : (s : Source) (name : List ℕ) (start : ℕ) (f : Found) (t : Binding) (n : ℕ) → IsFound s name start f → IsThere s t → n ≤ length f.visited → Leads s name start n t →
+    IsFound s name start (with_binding f t) × Grows f (with_binding f t) × IsMarked (with_binding f t).seen t
+binding_more s name start f (OfCell c) n h is_there le behind = (h, grows_not f, tt)
+binding_more s name start f OfNothing n h is_there le behind = (h, grows_not f, tt)
+binding_more s name start f (OfModule k) n h is_there le behind = one_more s name start f k n (mark_at f.seen k) refl h is_there le behind
 
-mark_kept : (f g : Found) (t : Target) → Grows f g → IsMarked f.seen t → IsMarked g.seen t
+mark_kept : (f g : Found) (t : Binding) → Grows f g → IsMarked f.seen t → IsMarked g.seen t
 mark_kept f g (OfCell c) grows h = tt
 mark_kept f g OfNothing grows h = tt
 mark_kept f g (OfModule k) grows h = grows.kept k h
 
-targets_more : (s : Source) (name : List ℕ) (start : ℕ) (f : Found) (ts : List Target) (n : ℕ) → IsFound s name start f → AllByRecursion (IsThere s) ts → n ≤ length f.visited → AllByRecursion (Leads s name start n) ts →
-    IsFound s name start (with_targets f ts) × Grows f (with_targets f ts) × AllByRecursion (IsMarked (with_targets f ts).seen) ts
-targets_more s name start f [] n h are_there le behind = (h, grows_not f, tt)
-targets_more s name start f (t ∷ ts) n h are_there le behind =
-    let one = target_more s name start f t n h are_there.0 le behind.0 in
+bindings_more : (s : Source) (name : List ℕ) (start : ℕ) (f : Found) (ts : List Binding) (n : ℕ) → IsFound s name start f → AllByRecursion (IsThere s) ts → n ≤ length f.visited → AllByRecursion (Leads s name start n) ts →
+    IsFound s name start (with_bindings f ts) × Grows f (with_bindings f ts) × AllByRecursion (IsMarked (with_bindings f ts).seen) ts
+bindings_more s name start f [] n h are_there le behind = (h, grows_not f, tt)
+bindings_more s name start f (t ∷ ts) n h are_there le behind =
+    let one = binding_more s name start f t n h are_there.0 le behind.0 in
     let longer = one.1.longer in
-    let more : n ≤ length (with_target f t).visited = omega arith in
-    let rest = targets_more s name start (with_target f t) ts n one.0 are_there.1 more behind.1 in
-    (rest.0, grows_on f (with_target f t) (with_targets f (t ∷ ts)) one.1 rest.1, (mark_kept (with_target f t) (with_targets f (t ∷ ts)) t rest.1 one.2, rest.2))
+    let more : n ≤ length (with_binding f t).visited = omega arith in
+    let rest = bindings_more s name start (with_binding f t) ts n one.0 are_there.1 more behind.1 in
+    (rest.0, grows_on f (with_binding f t) (with_bindings f (t ∷ ts)) one.1 rest.1, (mark_kept (with_binding f t) (with_bindings f (t ∷ ts)) t rest.1 one.2, rest.2))
 
 -- What a module instantiates is one instantiation further behind.
 abbrev pub kids : Source → List Item → List ℕ
-kids s is = filter_map (λ i. scope_number (target_in s i)) is
+kids s is = filter_map (λ i. scope_number (binding_in s i)) is
 
-abbrev IsKid : List ℕ → Target → Type 0
+abbrev IsKid : List ℕ → Binding → Type 0
 IsKid whole t = IfSome (scope_number t) (λ k. (q : ℕ → Bool) → q k ≡ true → list_any q whole ≡ true)
 
-are_there : (s : Source) (is : List Item) → AllByRecursion (IsThere s) (map (target_in s) is)
+are_there : (s : Source) (is : List Item) → AllByRecursion (IsThere s) (map (binding_in s) is)
 are_there s [] = tt
 are_there s (i ∷ is) = (there s i, are_there s is)
 
-kid_here : (whole rest : List ℕ) (t : Target) → ((q : ℕ → Bool) → list_any q (cons_option (scope_number t) rest) ≡ true → list_any q whole ≡ true) → IsKid whole t
+kid_here : (whole rest : List ℕ) (t : Binding) → ((q : ℕ → Bool) → list_any q (cons_option (scope_number t) rest) ≡ true → list_any q whole ≡ true) → IsKid whole t
 kid_here whole rest (OfCell c) sub = tt
 kid_here whole rest OfNothing sub = tt
 kid_here whole rest (OfModule k) sub = λ q e. sub q (or_left (q k) (list_any q rest) e)
 
-kid_later : (rest : List ℕ) (t : Target) (q : ℕ → Bool) → list_any q rest ≡ true → list_any q (cons_option (scope_number t) rest) ≡ true
+kid_later : (rest : List ℕ) (t : Binding) (q : ℕ → Bool) → list_any q rest ≡ true → list_any q (cons_option (scope_number t) rest) ≡ true
 kid_later rest (OfCell c) q h = h
 kid_later rest OfNothing q h = h
 kid_later rest (OfModule k) q h = or_right (q k) (list_any q rest) h
 
-are_kids : (s : Source) (whole : List ℕ) (is : List Item) → ((q : ℕ → Bool) → list_any q (kids s is) ≡ true → list_any q whole ≡ true) → AllByRecursion (IsKid whole) (map (target_in s) is)
+are_kids : (s : Source) (whole : List ℕ) (is : List Item) → ((q : ℕ → Bool) → list_any q (kids s is) ≡ true → list_any q whole ≡ true) → AllByRecursion (IsKid whole) (map (binding_in s) is)
 are_kids s whole [] sub = tt
-are_kids s whole (i ∷ is) sub = (kid_here whole (kids s is) (target_in s i) sub, are_kids s whole is (λ q h. sub q (kid_later (kids s is) (target_in s i) q h)))
+are_kids s whole (i ∷ is) sub = (kid_here whole (kids s is) (binding_in s i) sub, are_kids s whole is (λ q h. sub q (kid_later (kids s is) (binding_in s i) q h)))
 
-kid_behind : (s : Source) (name : List ℕ) (start n k : ℕ) → IsBehind s name start n k → (t : Target) → IsKid (children_of s (module_at s k)) t → Leads s name start (n + 1) t
+kid_behind : (s : Source) (name : List ℕ) (start n k : ℕ) → IsBehind s name start n k → (t : Binding) → IsKid (children_of s (module_at s k)) t → Leads s name start (n + 1) t
 kid_behind s name start n k behind (OfCell c) kid = tt
 kid_behind s name start n k behind OfNothing kid = tt
 kid_behind s name start n k behind (OfModule c) kid = λ most e.
@@ -183,29 +183,29 @@ other_one s name f g n i h grows inside other (inl before) =
 other_one s name f g n i h grows inside other (inr last) =
     ap (λ (j : ℕ). is_called name (module_at s (slice_index g.visited j))) last ∙ ap (λ (k : ℕ). is_called name (module_at s k)) (grows.same n inside) ∙ other
 
-targets_one : (s : Source) (name : List ℕ) (f g : Found) (n i : ℕ) → ArePassed s name f n → Grows f g → n < length f.visited → AllByRecursion (IsMarked g.seen) (targets_in s (module_at s (slice_index f.visited n))) → (i < n) ⊎ (i ≡ n) →
-    AllByRecursion (IsMarked g.seen) (targets_in s (module_at s (slice_index g.visited i)))
-targets_one s name f g n i h grows inside marked (inl before) =
+bindings_one : (s : Source) (name : List ℕ) (f g : Found) (n i : ℕ) → ArePassed s name f n → Grows f g → n < length f.visited → AllByRecursion (IsMarked g.seen) (bindings_in s (module_at s (slice_index f.visited n))) → (i < n) ⊎ (i ≡ n) →
+    AllByRecursion (IsMarked g.seen) (bindings_in s (module_at s (slice_index g.visited i)))
+bindings_one s name f g n i h grows inside marked (inl before) =
     let within : i < length f.visited = omega arith in
-    subst (λ (k : ℕ). AllByRecursion (IsMarked g.seen) (targets_in s (module_at s k))) (sym (grows.same i within))
-    (each (λ t. mark_kept f g t grows) (targets_in s (module_at s (slice_index f.visited i))) (h.targets i before))
-targets_one s name f g n i h grows inside marked (inr last) =
-    subst (λ (k : ℕ). AllByRecursion (IsMarked g.seen) (targets_in s (module_at s k))) (sym (ap (λ (j : ℕ). slice_index g.visited j) last ∙ grows.same n inside)) marked
+    subst (λ (k : ℕ). AllByRecursion (IsMarked g.seen) (bindings_in s (module_at s k))) (sym (grows.same i within))
+    (each (λ t. mark_kept f g t grows) (bindings_in s (module_at s (slice_index f.visited i))) (h.bindings i before))
+bindings_one s name f g n i h grows inside marked (inr last) =
+    subst (λ (k : ℕ). AllByRecursion (IsMarked g.seen) (bindings_in s (module_at s k))) (sym (ap (λ (j : ℕ). slice_index g.visited j) last ∙ grows.same n inside)) marked
 
 pub passed_one : (s : Source) (name : List ℕ) (start : ℕ) (f g : Found) (n : ℕ) → IsFound s name start f → ArePassed s name f n → n < length f.visited →
-    is_called name (module_at s (slice_index f.visited n)) ≡ false → g ≡ with_targets f (targets_in s (module_at s (slice_index f.visited n))) → IsFound s name start g × ArePassed s name g (n + 1)
+    is_called name (module_at s (slice_index f.visited n)) ≡ false → g ≡ with_bindings f (bindings_in s (module_at s (slice_index f.visited n))) → IsFound s name start g × ArePassed s name g (n + 1)
 passed_one s name start f g n h passed inside other is =
     let k = slice_index f.visited n in
     let m = module_at s k in
     let le : n + 1 ≤ length f.visited = omega arith in
-    let all = targets_more s name start f (targets_in s m) (n + 1) h (are_there s m.items) le
-    (each (kid_behind s name start n k (h.behind n inside)) (targets_in s m) (are_kids s (children_of s m) m.items (λ q e. e))) in
+    let all = bindings_more s name start f (bindings_in s m) (n + 1) h (are_there s m.items) le
+    (each (kid_behind s name start n k (h.behind n inside)) (bindings_in s m) (are_kids s (children_of s m) m.items (λ q e. e))) in
     let longer = all.1.longer in
-    let done : ArePassed s name (with_targets f (targets_in s m)) (n + 1) =
+    let done : ArePassed s name (with_bindings f (bindings_in s m)) (n + 1) =
     record {
       most = omega arith;
-      other = λ i below. other_one s name f (with_targets f (targets_in s m)) n i passed all.1 inside other (last_or_before i n below);
-      targets = λ i below. targets_one s name f (with_targets f (targets_in s m)) n i passed all.1 inside all.2 (last_or_before i n below);
+      other = λ i below. other_one s name f (with_bindings f (bindings_in s m)) n i passed all.1 inside other (last_or_before i n below);
+      bindings = λ i below. bindings_one s name f (with_bindings f (bindings_in s m)) n i passed all.1 inside all.2 (last_or_before i n below);
     } in
     (subst (IsFound s name start) (sym is) all.0, subst (λ (x : Found). ArePassed s name x (n + 1)) (sym is) done)
 
@@ -217,16 +217,16 @@ leads_to s name start f n h inside low called =
     sym (leads_more s name (0 + n) (length s.modules) start le (h.behind n inside 0 called))
 
 -- Where all are passed, none leads to the name.
-none_one : (q : ℕ → Bool) (rest : List ℕ) (t : Target) → IfSome (scope_number t) (λ k. q k ≡ false) → list_any q rest ≡ false → list_any q (cons_option (scope_number t) rest) ≡ false
+none_one : (q : ℕ → Bool) (rest : List ℕ) (t : Binding) → IfSome (scope_number t) (λ k. q k ≡ false) → list_any q rest ≡ false → list_any q (cons_option (scope_number t) rest) ≡ false
 none_one q rest (OfCell c) e h = h
 none_one q rest OfNothing e h = h
 none_one q rest (OfModule k) e h = or_none (q k) (list_any q rest) e h
 
-pub none_of : (s : Source) (q : ℕ → Bool) (is : List Item) → AllByRecursion (λ t. IfSome (scope_number t) (λ k. q k ≡ false)) (map (target_in s) is) → list_any q (kids s is) ≡ false
+pub none_of : (s : Source) (q : ℕ → Bool) (is : List Item) → AllByRecursion (λ t. IfSome (scope_number t) (λ k. q k ≡ false)) (map (binding_in s) is) → list_any q (kids s is) ≡ false
 none_of s q [] h = refl
-none_of s q (i ∷ is) h = none_one q (kids s is) (target_in s i) h.0 (none_of s q is h.1)
+none_of s q (i ∷ is) h = none_one q (kids s is) (binding_in s i) h.0 (none_of s q is h.1)
 
-none_by : (seen : List Bool) (q : ℕ → Bool) → ((k : ℕ) → mark_at seen k ≡ true → q k ≡ false) → (t : Target) → IsMarked seen t → IfSome (scope_number t) (λ k. q k ≡ false)
+none_by : (seen : List Bool) (q : ℕ → Bool) → ((k : ℕ) → mark_at seen k ≡ true → q k ≡ false) → (t : Binding) → IsMarked seen t → IfSome (scope_number t) (λ k. q k ≡ false)
 none_by seen q f (OfCell c) h = tt
 none_by seen q f OfNothing h = tt
 none_by seen q f (OfModule k) h = f k h
@@ -241,7 +241,7 @@ none_leads s name start f n h passed past (suc most) i inside =
     (each (none_by f.seen (leads s most name) (λ k marked.
     let at = h.marked k marked in
     subst (λ (j : ℕ). leads s most name j ≡ false) at.2 (none_leads s name start f n h passed past most at.0 at.1)))
-    (targets_in s m) (passed.targets i below)))
+    (bindings_in s m) (passed.bindings i below)))
 
 pub leads_not : (s : Source) (name : List ℕ) (start : ℕ) (f : Found) (n : ℕ) → IsFound s name start f → ArePassed s name f n → length f.visited ≤ n → false ≡ leads s (length s.modules) name start
 leads_not s name start f n h passed past =
@@ -283,4 +283,4 @@ pub begun : (s : Source) (name : List ℕ) (start : ℕ) (f g : Found) → f.vis
 begun s name start f g empty fresh inside is =
     let none : (k : ℕ) → mark_at f.seen k ≡ false = λ k. ap (λ (l : List Bool). mark_at l k) fresh ∙ fresh_mark (length s.modules) k in
     let found = start_by s name start f (mark_at f.seen start) empty (ap (λ (l : List Bool). length l) fresh ∙ length-replicate (length s.modules) false) none inside refl in
-    (subst (IsFound s name start) (sym is) found, record { most = omega arith; other = λ i below. absurd (omega arith); targets = λ i below. absurd (omega arith) })
+    (subst (IsFound s name start) (sym is) found, record { most = omega arith; other = λ i below. absurd (omega arith); bindings = λ i below. absurd (omega arith) })

@@ -12,8 +12,8 @@ use Rattle.mintc_netlist.specs.Nets.{declares_port, declares_net}
 use Rattle.mintc_netlist.specs.Connections.{Pin, Wiring, wiring_of, expression_at, wirings_from}
 use Rattle.mintc_netlist_nets.specs.declared.declared.Declaration.{Declaration}
 use Rattle.mintc_netlist_nets.proofs.SharedLookLaws.{look-ports, look-nets}
-use Rattle.mintc_flatten_hierarchy.specs.declared.targets.Target.{Target}
-use Rattle.mintc_flatten_hierarchy.specs.Sources.{Source, target_pins}
+use Rattle.mintc_flatten_hierarchy.specs.declared.bindings.Binding.{Binding}
+use Rattle.mintc_flatten_hierarchy.specs.Sources.{Source, binding_pins}
 use Rattle.mintc_flatten_hierarchy.specs.Faults.{is_of_other_range, is_misfit}
 use Rattle.mintc_flatten_binding.specs.Wired.{no_pin, pin_at, wiring_at}
 use Rattle.mintc_flatten_rules.specs.Widths.{is_other, differs, IsDeclared}
@@ -51,23 +51,23 @@ any_cons f (Some w) ws = or_assoc (f w) (list_any f ws)
     or_assoc true b = refl
     or_assoc false b = refl
 
-any_turn : (f : Wiring → Bool) (i : Item) (s : Source) (t : Target) (k : ℕ) (b : Bool) → k < length (target_pins s t) → b ≡ list_any f (wiring_at i s t k) →
-    list_any f (wirings_from k i (drop k (target_pins s t))) ≡ (b || list_any f (wirings_from (k + 1) i (drop (k + 1) (target_pins s t))))
+any_turn : (f : Wiring → Bool) (i : Item) (s : Source) (t : Binding) (k : ℕ) (b : Bool) → k < length (binding_pins s t) → b ≡ list_any f (wiring_at i s t k) →
+    list_any f (wirings_from k i (drop k (binding_pins s t))) ≡ (b || list_any f (wirings_from (k + 1) i (drop (k + 1) (binding_pins s t))))
 any_turn f i s t k b inside is =
-    let pins = target_pins s t in
+    let pins = binding_pins s t in
     ap (λ (ps : List Pin). list_any f (wirings_from k i ps)) (drop_more pins k no_pin inside)
     ∙ any_cons f (option_map (wiring_of (pin_at s t k)) (expression_at i k (pin_at s t k).name)) (wirings_from (k + 1) i (drop (k + 1) pins))
     ∙ ap (λ (c : Bool). c || list_any f (wirings_from (k + 1) i (drop (k + 1) pins))) (sym is)
 
-pub pin_passed : (f : Wiring → Bool) (i : Item) (s : Source) (t : Target) (k : ℕ) (b whole : Bool) → k < length (target_pins s t) → b ≡ list_any f (wiring_at i s t k) → b ≡ false →
-    list_any f (wirings_from k i (drop k (target_pins s t))) ≡ whole → list_any f (wirings_from (k + 1) i (drop (k + 1) (target_pins s t))) ≡ whole
+pub pin_passed : (f : Wiring → Bool) (i : Item) (s : Source) (t : Binding) (k : ℕ) (b whole : Bool) → k < length (binding_pins s t) → b ≡ list_any f (wiring_at i s t k) → b ≡ false →
+    list_any f (wirings_from k i (drop k (binding_pins s t))) ≡ whole → list_any f (wirings_from (k + 1) i (drop (k + 1) (binding_pins s t))) ≡ whole
 pin_passed f i s t k b whole inside is none left =
-    sym (any_turn f i s t k b inside is ∙ ap (λ (c : Bool). c || list_any f (wirings_from (k + 1) i (drop (k + 1) (target_pins s t)))) none) ∙ left
+    sym (any_turn f i s t k b inside is ∙ ap (λ (c : Bool). c || list_any f (wirings_from (k + 1) i (drop (k + 1) (binding_pins s t)))) none) ∙ left
 
-pub pin_found : (f : Wiring → Bool) (i : Item) (s : Source) (t : Target) (k : ℕ) (b whole : Bool) → k < length (target_pins s t) → b ≡ list_any f (wiring_at i s t k) → b ≡ true →
-    list_any f (wirings_from k i (drop k (target_pins s t))) ≡ whole → true ≡ whole
+pub pin_found : (f : Wiring → Bool) (i : Item) (s : Source) (t : Binding) (k : ℕ) (b whole : Bool) → k < length (binding_pins s t) → b ≡ list_any f (wiring_at i s t k) → b ≡ true →
+    list_any f (wirings_from k i (drop k (binding_pins s t))) ≡ whole → true ≡ whole
 pin_found f i s t k b whole inside is some left =
-    sym (any_turn f i s t k b inside is ∙ ap (λ (c : Bool). c || list_any f (wirings_from (k + 1) i (drop (k + 1) (target_pins s t)))) some) ∙ left
+    sym (any_turn f i s t k b inside is ∙ ap (λ (c : Bool). c || list_any f (wirings_from (k + 1) i (drop (k + 1) (binding_pins s t)))) some) ∙ left
 
 pub pins_passed : (f : Wiring → Bool) (i : Item) (pins : List Pin) (k : ℕ) (whole : Bool) → length pins ≤ k → list_any f (wirings_from k i (drop k pins)) ≡ whole → false ≡ whole
 pins_passed f i pins k whole past left = sym (ap (λ (ps : List Pin). list_any f (wirings_from k i ps)) (drop_all k pins past)) ∙ left

@@ -7,8 +7,8 @@ use Rattle.mintc_text_names.specs.Names.{is_among, with_name}
 use Rattle.mintc_netlist.specs.Nets.{port_names}
 use Rattle.mintc_netlist.specs.Connections.{pin_names}
 use Rattle.mintc_netlist.specs.Statements.{statement_of}
-use Rattle.mintc_flatten_hierarchy.specs.declared.targets.Target.{Target}
-use Rattle.mintc_flatten_hierarchy.specs.Sources.{Source, target_pins}
+use Rattle.mintc_flatten_hierarchy.specs.declared.bindings.Binding.{Binding}
+use Rattle.mintc_flatten_hierarchy.specs.Sources.{Source, binding_pins}
 use Rattle.mintc_flatten_hierarchy.specs.Faults.{is_leaf, is_no_pin}
 
 -- some names, each once
@@ -26,13 +26,13 @@ declared_set m = name_set (flat_map port_names m.items)
 abbrev pub lacks_any : List (List ℕ) → List (List ℕ) → Bool
 lacks_any names wanted = list_any (λ name. not (is_among name names)) wanted
 
--- whether a target has a pin of a name
-abbrev pub is_pin : Source → Target → List ℕ → Bool
-is_pin s t name = is_among name (pin_names (target_pins s t))
+-- whether a binding has a pin of a name
+abbrev pub is_pin : Source → Binding → List ℕ → Bool
+is_pin s t name = is_among name (pin_names (binding_pins s t))
 
--- whether a target takes fewer ordered connections than there are
-abbrev pub takes_fewer : Source → Target → ℕ → Bool
-takes_fewer s t count = nat_lt 0 count && (is_leaf t || nat_lt (length (target_pins s t)) count)
+-- whether a binding takes fewer ordered connections than there are
+abbrev pub takes_fewer : Source → Binding → ℕ → Bool
+takes_fewer s t count = nat_lt 0 count && (is_leaf t || nat_lt (length (binding_pins s t)) count)
 
 -- whether an item of a module lacks a pin
 abbrev pub lacks_item : Source → Module → Item → Bool

@@ -2,8 +2,8 @@
 use Rattle.std.specs.Prelude.{◌≡◌, ◌<◌, ◌≤◌, ◌+◌, ℕ, Bool, true, false, cond, List, [], ◌∷◌, ◌++◌, length, fold, slice_index, slice_set, IfSome}
 use Rattle.std.specs.List.{AllByRecursion}
 use Rattle.std.specs.Option.{option_map_or}
-use Rattle.mintc_flatten_hierarchy.specs.declared.targets.Target.{Target}
-use Rattle.mintc_flatten_hierarchy.specs.Sources.{Source, module_at, is_called, scope_number, targets_in}
+use Rattle.mintc_flatten_hierarchy.specs.declared.bindings.Binding.{Binding}
+use Rattle.mintc_flatten_hierarchy.specs.Sources.{Source, module_at, is_called, scope_number, bindings_in}
 use Rattle.mintc_flatten_hierarchy.specs.Faults.{leads}
 use Rattle.mintc_flatten_binding.specs.Orders.{mark_at}
 
@@ -12,18 +12,18 @@ pub record Found : Type 0 where
   pub visited : List ℕ
   pub seen : List Bool
 
--- one more module, and what some targets instantiate
+-- one more module, and what some bindings instantiate
 abbrev pub with_module : Found → ℕ → Found
 with_module f k = cond (mark_at f.seen k) f (record { visited = f.visited ++ k ∷ []; seen = slice_set f.seen k true })
 
-abbrev pub with_target : Found → Target → Found
-with_target f t = option_map_or (with_module f) (scope_number t) f
+abbrev pub with_binding : Found → Binding → Found
+with_binding f t = option_map_or (with_module f) (scope_number t) f
 
-abbrev pub with_targets : Found → List Target → Found
-with_targets f ts = fold with_target f ts
+abbrev pub with_bindings : Found → List Binding → Found
+with_bindings f ts = fold with_binding f ts
 
--- what a target instantiates, if anything, is marked
-abbrev pub IsMarked : List Bool → Target → Type 0
+-- what a binding instantiates, if anything, is marked
+abbrev pub IsMarked : List Bool → Binding → Type 0
 IsMarked seen t = IfSome (scope_number t) (λ k. mark_at seen k ≡ true)
 
 -- Where module k leads to the name, the start does, with so many instantiations more.
@@ -44,4 +44,4 @@ pub record IsFound (s : Source) (name : List ℕ) (start : ℕ) (f : Found) : Ty
 pub record ArePassed (s : Source) (name : List ℕ) (f : Found) (n : ℕ) : Type 0 where
   pub most : n ≤ length f.visited
   pub other : (i : ℕ) → i < n → is_called name (module_at s (slice_index f.visited i)) ≡ false
-  pub targets : (i : ℕ) → i < n → AllByRecursion (IsMarked f.seen) (targets_in s (module_at s (slice_index f.visited i)))
+  pub bindings : (i : ℕ) → i < n → AllByRecursion (IsMarked f.seen) (bindings_in s (module_at s (slice_index f.visited i)))

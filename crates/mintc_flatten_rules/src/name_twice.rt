@@ -54,7 +54,7 @@ fn add_pin(alloc: Global, names: &mut NameSet, connection: &Connection) -> Resul
 
 /// The names that some items of a module give.
 #[derive(Drop)]
-pub struct Seen {
+pub(crate) struct Seen {
     ports: NameSet,
     nets: NameSet,
     instances: NameSet,
@@ -66,7 +66,7 @@ impl Seen {
     ghost use Rattle.mintc_netlist.specs.declared.module.Item.{Item};
 
     /// No names.
-    pub fn new(alloc: Global) -> Seen
+    pub(crate) fn new(alloc: Global) -> Seen
         ensures { IsSeenBy result [] }
     {
         Seen {
@@ -115,7 +115,7 @@ impl Seen {
     }
 
     /// Takes in the names that an item gives, and says whether it gives one again.
-    pub fn again(&mut self, alloc: Global, item: &Item) -> Result<bool, OutOfMemory>
+    pub(crate) fn again(&mut self, alloc: Global, item: &Item) -> Result<bool, OutOfMemory>
         ensures again { IfOk result (λ again. (before : List Item) → IsSeenBy self.old before → again ≡ gives_item before item.now) }
         ensures seen { IfOk result (λ again. (before : List Item) → IsSeenBy self.old before → again ≡ false → IsSeenBy self.new (before ++ item.now ∷ [])) }
     {
@@ -210,7 +210,7 @@ fn first_in_modules(
 }
 
 /// The first statement that gives a name a second time.
-pub fn name_twice(
+pub(crate) fn name_twice(
     alloc: Global,
     cells: &Cells,
     modules: &[Module],

@@ -8,15 +8,15 @@ ghost use Rattle.mintc_text_names.specs.Names.{is_among, with_name};
 ghost use Rattle.mintc_netlist.specs.Nets.{port_names};
 ghost use Rattle.mintc_netlist.specs.Connections.{named_pins};
 ghost use Rattle.mintc_netlist.specs.Statements.{statement_of, first_at_fault};
-ghost use Rattle.mintc_flatten_hierarchy.specs.Sources.{source_of, target_in, targets_in, modules_of};
+ghost use Rattle.mintc_flatten_hierarchy.specs.Sources.{source_of, binding_in, bindings_in, modules_of};
 ghost use Rattle.mintc_flatten_hierarchy.specs.Faults.{misses, is_no_pin};
 ghost use Rattle.mintc_flatten_rules.specs.Firsts.{first_in, first_after};
 ghost use Rattle.mintc_flatten_rules.specs.Lacking.{name_set, port_set, declared_set, lacks_any, is_pin, takes_fewer, lacks_item};
 ghost use Rattle.mintc_flatten_binding.specs.Orders.{IsThere};
 
 use mintc_cells::Cells;
-use mintc_flatten_binding::TargetList;
-use mintc_flatten_hierarchy::Target;
+use mintc_flatten_binding::BindingList;
+use mintc_flatten_hierarchy::Binding;
 use mintc_netlist::{Connection, Item, Module, entry};
 use mintc_text::{Name, OutOfMemory};
 use mintc_text_names::NameSet;
@@ -117,15 +117,21 @@ fn is_cell_pin(cells: &Cells, cell: u32, name: &[u8]) -> bool
 }
 
 /// Whether what an item is an instance of has a pin of a name.
-fn is_pin(cells: &Cells, modules: &[Module], ports: &[NameSet], target: Target, name: &[u8]) -> bool
+fn is_pin(
+    cells: &Cells,
+    modules: &[Module],
+    ports: &[NameSet],
+    binding: Binding,
+    name: &[u8],
+) -> bool
     requires ports { ports.now ≡ map port_set modules.now }
-    requires there { IsThere (source_of cells.now modules.now) target }
-    ensures { result ≡ is_pin (source_of cells.now modules.now) target name.now }
+    requires there { IsThere (source_of cells.now modules.now) binding }
+    ensures { result ≡ is_pin (source_of cells.now modules.now) binding name.now }
 {
-    match target {
-        Target::OfCell(number) => is_cell_pin(cells, number, name),
-        Target::OfModule(number) => has(&ports[number as usize], name),
-        Target::OfNothing => false,
+    match binding {
+        Binding::OfCell(number) => is_cell_pin(cells, number, name),
+        Binding::OfModule(number) => has(&ports[number as usize], name),
+        Binding::OfNothing => false,
     }
 }
 
@@ -134,15 +140,15 @@ fn names_none(
     cells: &Cells,
     modules: &[Module],
     ports: &[NameSet],
-    target: Target,
+    binding: Binding,
     connection: &Connection,
 ) -> bool
     requires ports { ports.now ≡ map port_set modules.now }
-    requires there { IsThere (source_of cells.now modules.now) target }
-    ensures { result ≡ option_map_or (λ name. not (is_pin (source_of cells.now modules.now) target name)) connection.now.pin false }
+    requires there { IsThere (source_of cells.now modules.now) binding }
+    ensures { result ≡ option_map_or (λ name. not (is_pin (source_of cells.now modules.now) binding name)) connection.now.pin false }
 {
     match &connection.pin {
-        Some(name) => !is_pin(cells, modules, ports, target, name.bytes()),
+        Some(name) => !is_pin(cells, modules, ports, binding, name.bytes()),
         None => false,
     }
 }
@@ -152,15 +158,15 @@ fn names_missing(
     cells: &Cells,
     modules: &[Module],
     ports: &[NameSet],
-    target: Target,
+    binding: Binding,
     connections: &[Connection],
 ) -> bool
     requires ports { ports.now ≡ map port_set modules.now }
-    requires there { IsThere (source_of cells.now modules.now) target }
-    ensures { result ≡ list_any (λ name. not (is_pin (source_of cells.now modules.now) target name)) (named_pins connections.now) }
+    requires there { IsThere (source_of cells.now modules.now) binding }
+    ensures { result ≡ list_any (λ name. not (is_pin (source_of cells.now modules.now) binding name)) (named_pins connections.now) }
 {
     for connection in connections {
-        if names_none(cells, modules, ports, target, connection) {
+        if names_none(cells, modules, ports, binding, connection) {
             return true;
         }
     }
@@ -168,12 +174,12 @@ fn names_missing(
 }
 
 /// Whether what an item is an instance of takes fewer ordered connections than there are.
-fn takes_fewer(cells: &Cells, modules: &[Module], target: Target, count: usize) -> bool
-    requires { IsThere (source_of cells.now modules.now) target }
-    ensures { result ≡ takes_fewer (source_of cells.now modules.now) target count }
+fn takes_fewer(cells: &Cells, modules: &[Module], binding: Binding, count: usize) -> bool
+    requires { IsThere (source_of cells.now modules.now) binding }
+    ensures { result ≡ takes_fewer (source_of cells.now modules.now) binding count }
 {
-    match target {
-        Target::OfModule(number) => modules[number as usize].ports.items().len() < count,
+    match binding {
+        Binding::OfModule(number) => modules[number as usize].ports.items().len() < count,
         _ => count > 0,
     }
 }
@@ -186,12 +192,12 @@ fn lacks(
     part: &Module,
     own: &NameSet,
     item: &Item,
-    target: Target,
+    binding: Binding,
 ) -> bool
     requires ports { ports.now ≡ map port_set modules.now }
     requires own { own.now ≡ port_set part.now }
-    requires target { target ≡ target_in (source_of cells.now modules.now) item.now }
-    requires there { IsThere (source_of cells.now modules.now) target }
+    requires binding { binding ≡ binding_in (source_of cells.now modules.now) item.now }
+    requires there { IsThere (source_of cells.now modules.now) binding }
     ensures { result ≡ lacks_item (source_of cells.now modules.now) part.now item.now }
 {
     match item {
@@ -202,9 +208,9 @@ fn lacks(
             ..
         } => {
             if *by_name {
-                names_missing(cells, modules, ports, target, connections.items())
+                names_missing(cells, modules, ports, binding, connections.items())
             } else {
-                takes_fewer(cells, modules, target, connections.items().len())
+                takes_fewer(cells, modules, binding, connections.items().len())
             }
         }
         _ => false,
@@ -218,16 +224,16 @@ fn first_lacking(
     ports: &[NameSet],
     part: &Module,
     own: &NameSet,
-    targets: &[Target],
+    bindings: &[Binding],
 ) -> Option<u32>
     requires ports { ports.now ≡ map port_set modules.now }
     requires own { own.now ≡ port_set part.now }
-    requires targets { targets.now ≡ targets_in (source_of cells.now modules.now) part.now }
+    requires bindings { bindings.now ≡ bindings_in (source_of cells.now modules.now) part.now }
     ensures { result ≡ first_after (is_no_pin (source_of cells.now modules.now)) part.now [] part.now.items }
 {
     let items = part.items.items();
     for (number, item) in items.iter().enumerate() {
-        if lacks(cells, modules, ports, part, own, item, targets[number]) {
+        if lacks(cells, modules, ports, part, own, item, bindings[number]) {
             return Some(entry(item));
         }
     }
@@ -242,27 +248,27 @@ fn first_in_module(
     ports: &[NameSet],
     part: &Module,
     own: &NameSet,
-    targets: &[Target],
+    bindings: &[Binding],
 ) -> Result<Option<u32>, OutOfMemory>
     requires ports { ports.now ≡ map port_set modules.now }
     requires own { own.now ≡ port_set part.now }
-    requires targets { targets.now ≡ targets_in (source_of cells.now modules.now) part.now }
+    requires bindings { bindings.now ≡ bindings_in (source_of cells.now modules.now) part.now }
     ensures { IfOk result (λ first. first ≡ first_in (is_no_pin (source_of cells.now modules.now)) part.now) }
 {
     if lacks_direction(alloc, part)? {
         return Ok(Some(part.entry));
     }
-    Ok(first_lacking(cells, modules, ports, part, own, targets))
+    Ok(first_lacking(cells, modules, ports, part, own, bindings))
 }
 
 /// The first statement that names a port or pin that isn't there.
-pub fn no_pin(
+pub(crate) fn no_pin(
     alloc: Global,
     cells: &Cells,
     modules: &[Module],
-    targets: &[TargetList],
+    bindings: &[BindingList],
 ) -> Result<Option<u32>, OutOfMemory>
-    requires { targets.now ≡ map (targets_in (source_of cells.now modules.now)) modules.now }
+    requires { bindings.now ≡ map (bindings_in (source_of cells.now modules.now)) modules.now }
     ensures { IfOk result (λ entry. entry ≡ first_at_fault (is_no_pin (source_of cells.now modules.now)) (modules_of (source_of cells.now modules.now))) }
 {
     let ports = port_sets(alloc, modules)?;
@@ -277,7 +283,7 @@ pub fn no_pin(
             &ports,
             part,
             &ports[number],
-            targets[number].items(),
+            bindings[number].items(),
         )?;
         if first.is_some() {
             return Ok(first);

@@ -1,15 +1,15 @@
 //! Instances on closed chains of instantiations.
 ghost use Rattle.std.specs.Prelude.{◌≡◌, ◌<◌, ◌^◌, [], None, Some, length, map, replicate, slice_index, false, IfOk, OnOk};
 ghost use Rattle.mintc_netlist.specs.Statements.{statement_of, first_at_fault};
-ghost use Rattle.mintc_flatten_hierarchy.specs.Sources.{source_of, targets_in, target_in, modules_of};
+ghost use Rattle.mintc_flatten_hierarchy.specs.Sources.{source_of, bindings_in, binding_in, modules_of};
 ghost use Rattle.mintc_flatten_hierarchy.specs.Faults.{leads, leads_back, is_recursive};
 ghost use Rattle.mintc_flatten_hierarchy.specs.Refusals.{name_twice_refusal};
 ghost use Rattle.mintc_flatten_rules.specs.Firsts.{first_in};
-ghost use Rattle.mintc_flatten_rules.specs.Searching.{with_module, with_target, with_targets};
+ghost use Rattle.mintc_flatten_rules.specs.Searching.{with_module, with_binding, with_bindings};
 
 use mintc_cells::Cells;
-use mintc_flatten_binding::{TargetList, modules_in_order};
-use mintc_flatten_hierarchy::Target;
+use mintc_flatten_binding::{BindingList, modules_in_order};
+use mintc_flatten_hierarchy::Binding;
 use mintc_netlist::{Module, entry};
 use mintc_text::OutOfMemory;
 use std::alloc::Global;
@@ -17,7 +17,7 @@ use std::marker::Model;
 
 /// The modules that a search has found, each once.
 #[derive(Drop)]
-pub struct Search {
+pub(crate) struct Search {
     /// In the order in which they were found.
     visited: Vec<u32>,
     /// For each module whether it was found.
@@ -81,12 +81,12 @@ impl Search {
         Ok(())
     }
 
-    /// Takes in the module that a target is.
-    fn visit_target(&mut self, target: Target) -> Result<(), OutOfMemory>
-        ensures { OnOk result (self.new ≡ with_target self.old target) }
+    /// Takes in the module that a binding is.
+    fn visit_binding(&mut self, binding: Binding) -> Result<(), OutOfMemory>
+        ensures { OnOk result (self.new ≡ with_binding self.old binding) }
     {
-        match target {
-            Target::OfModule(number) => {
+        match binding {
+            Binding::OfModule(number) => {
                 self.visit(number)?;
                 Ok(())
             }
@@ -94,12 +94,12 @@ impl Search {
         }
     }
 
-    /// Takes in the modules among targets.
-    fn visit_all(&mut self, targets: &[Target]) -> Result<(), OutOfMemory>
-        ensures { OnOk result (self.new ≡ with_targets self.old targets.now) }
+    /// Takes in the modules among bindings.
+    fn visit_all(&mut self, bindings: &[Binding]) -> Result<(), OutOfMemory>
+        ensures { OnOk result (self.new ≡ with_bindings self.old bindings.now) }
     {
-        for target in targets {
-            self.visit_target(*target)?;
+        for binding in bindings {
+            self.visit_binding(*binding)?;
         }
         Ok(())
     }
@@ -110,11 +110,11 @@ fn leads(
     alloc: Global,
     cells: &Cells,
     modules: &[Module],
-    targets: &[TargetList],
+    bindings: &[BindingList],
     name: &[u8],
     start: u32,
 ) -> Result<bool, OutOfMemory>
-    requires { targets.now ≡ map (targets_in (source_of cells.now modules.now)) modules.now }
+    requires { bindings.now ≡ map (bindings_in (source_of cells.now modules.now)) modules.now }
     ensures { IfOk result (λ found. found ≡ leads (source_of cells.now modules.now) (length modules.now) name.now start) }
 {
     let mut search = Search::new(alloc, modules.len())?;
@@ -127,7 +127,7 @@ fn leads(
         if name == modules[number].name.bytes() {
             return Ok(true);
         }
-        search.visit_all(targets[number].items())?;
+        search.visit_all(bindings[number].items())?;
     }
     if search.len() > modules.len() {
         return Err(OutOfMemory);
@@ -135,21 +135,28 @@ fn leads(
     Ok(false)
 }
 
-/// Whether a target leads to a module of the name of its home.
+/// Whether a binding leads to a module of the name of the module that it stands in.
 fn leads_back(
     alloc: Global,
     cells: &Cells,
     modules: &[Module],
-    targets: &[TargetList],
-    home: &Module,
-    target: Target,
+    bindings: &[BindingList],
+    module_nets: &Module,
+    binding: Binding,
 ) -> Result<bool, OutOfMemory>
-    requires { targets.now ≡ map (targets_in (source_of cells.now modules.now)) modules.now }
-    ensures { IfOk result (λ found. found ≡ leads_back (source_of cells.now modules.now) home.now target) }
+    requires { bindings.now ≡ map (bindings_in (source_of cells.now modules.now)) modules.now }
+    ensures { IfOk result (λ found. found ≡ leads_back (source_of cells.now modules.now) module_nets.now binding) }
 {
-    match target {
-        Target::OfModule(number) => {
-            let found = leads(alloc, cells, modules, targets, home.name.bytes(), number)?;
+    match binding {
+        Binding::OfModule(number) => {
+            let found = leads(
+                alloc,
+                cells,
+                modules,
+                bindings,
+                module_nets.name.bytes(),
+                number,
+            )?;
             Ok(found)
         }
         _ => Ok(false),
@@ -161,17 +168,17 @@ fn first_leading(
     alloc: Global,
     cells: &Cells,
     modules: &[Module],
-    targets: &[TargetList],
-    home: &Module,
-    own: &[Target],
+    bindings: &[BindingList],
+    module_nets: &Module,
+    own: &[Binding],
 ) -> Result<Option<u32>, OutOfMemory>
-    requires targets { targets.now ≡ map (targets_in (source_of cells.now modules.now)) modules.now }
-    requires own { own.now ≡ targets_in (source_of cells.now modules.now) home.now }
-    ensures { IfOk result (λ first. first ≡ first_in (is_recursive (source_of cells.now modules.now)) home.now) }
+    requires bindings { bindings.now ≡ map (bindings_in (source_of cells.now modules.now)) modules.now }
+    requires own { own.now ≡ bindings_in (source_of cells.now modules.now) module_nets.now }
+    ensures { IfOk result (λ first. first ≡ first_in (is_recursive (source_of cells.now modules.now)) module_nets.now) }
 {
-    let items = home.items.items();
+    let items = module_nets.items.items();
     for (number, item) in items.iter().enumerate() {
-        if leads_back(alloc, cells, modules, targets, home, own[number])? {
+        if leads_back(alloc, cells, modules, bindings, module_nets, own[number])? {
             return Ok(Some(entry(item)));
         }
     }
@@ -183,22 +190,22 @@ fn search_all(
     alloc: Global,
     cells: &Cells,
     modules: &[Module],
-    targets: &[TargetList],
+    bindings: &[BindingList],
 ) -> Result<Option<u32>, OutOfMemory>
-    requires { targets.now ≡ map (targets_in (source_of cells.now modules.now)) modules.now }
+    requires { bindings.now ≡ map (bindings_in (source_of cells.now modules.now)) modules.now }
     ensures { IfOk result (λ entry. entry ≡ first_at_fault (is_recursive (source_of cells.now modules.now)) (modules_of (source_of cells.now modules.now))) }
 {
-    for (number, home) in modules.iter().enumerate() {
-        if cells.find(home.name.bytes()).is_some() {
+    for (number, module_nets) in modules.iter().enumerate() {
+        if cells.find(module_nets.name.bytes()).is_some() {
             continue;
         }
         let first = first_leading(
             alloc,
             cells,
             modules,
-            targets,
-            home,
-            targets[number].items(),
+            bindings,
+            module_nets,
+            bindings[number].items(),
         )?;
         if first.is_some() {
             return Ok(first);
@@ -209,19 +216,19 @@ fn search_all(
 
 /// The first instance on a closed chain of instantiations. Where the modules have an order in which each stands behind those that it
 /// instantiates, there is none.
-pub fn recursive(
+pub(crate) fn recursive(
     alloc: Global,
     cells: &Cells,
     modules: &[Module],
-    targets: &[TargetList],
+    bindings: &[BindingList],
 ) -> Result<Option<u32>, OutOfMemory>
     requires few { length modules.now < 2 ^ 32 }
     requires names { name_twice_refusal (source_of cells.now modules.now) ≡ None }
-    requires targets { targets.now ≡ map (targets_in (source_of cells.now modules.now)) modules.now }
+    requires bindings { bindings.now ≡ map (bindings_in (source_of cells.now modules.now)) modules.now }
     ensures { IfOk result (λ entry. entry ≡ first_at_fault (is_recursive (source_of cells.now modules.now)) (modules_of (source_of cells.now modules.now))) }
 {
-    if let Ok(_order) = modules_in_order(alloc, cells, modules, targets) {
+    if let Ok(_order) = modules_in_order(alloc, cells, modules, bindings) {
         return Ok(None);
     }
-    search_all(alloc, cells, modules, targets)
+    search_all(alloc, cells, modules, bindings)
 }

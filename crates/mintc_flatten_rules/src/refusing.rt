@@ -1,8 +1,8 @@
 //! The refusals of statements, each by itself.
 ghost use Rattle.std.specs.Prelude.{◌≡◌, ◌<◌, ◌^◌, None, Some, length, map, OnOk, IfErr};
 ghost use Rattle.mintc_text.specs.Stops.{StopsAt};
-ghost use Rattle.mintc_flatten_hierarchy.specs.Sources.{source_of, targets_in};
-ghost use Rattle.mintc_flatten_binding.specs.Homes.{source_in};
+ghost use Rattle.mintc_flatten_hierarchy.specs.Sources.{source_of, bindings_in};
+ghost use Rattle.mintc_flatten_binding.specs.NetsOfModules.{source_in};
 ghost use Rattle.mintc_flatten_hierarchy.specs.Refusals.{name_twice_refusal, no_module_refusal, recursive_refusal, no_pin_refusal, width_refusal, two_drivers_refusal};
 
 use crate::name_twice::name_twice;
@@ -12,7 +12,7 @@ use crate::recursive::recursive;
 use crate::two_drivers::second_driver;
 use crate::widths::misfit;
 use mintc_cells::Cells;
-use mintc_flatten_binding::{Source, TargetList};
+use mintc_flatten_binding::{BindingList, Source};
 use mintc_netlist::Module;
 use mintc_text::{Refusal, Stop};
 use std::alloc::Global;
@@ -33,13 +33,13 @@ pub fn refuse_name_twice(alloc: Global, cells: &Cells, modules: &[Module]) -> Re
 pub fn refuse_no_module(
     cells: &Cells,
     modules: &[Module],
-    targets: &[TargetList],
+    bindings: &[BindingList],
 ) -> Result<(), Stop>
-    requires { targets.now ≡ map (targets_in (source_of cells.now modules.now)) modules.now }
+    requires { bindings.now ≡ map (bindings_in (source_of cells.now modules.now)) modules.now }
     ensures passes { OnOk result (no_module_refusal (source_of cells.now modules.now) ≡ None) }
     ensures stop { IfErr result (StopsAt (λ r. no_module_refusal (source_of cells.now modules.now) ≡ Some r)) }
 {
-    match no_module(cells, modules, targets) {
+    match no_module(cells, modules, bindings) {
         None => Ok(()),
         Some(entry) => Err(Stop::Refused(Refusal::NoModule { entry })),
     }
@@ -50,15 +50,15 @@ pub fn refuse_recursive(
     alloc: Global,
     cells: &Cells,
     modules: &[Module],
-    targets: &[TargetList],
+    bindings: &[BindingList],
 ) -> Result<(), Stop>
     requires few { length modules.now < 2 ^ 32 }
     requires names { name_twice_refusal (source_of cells.now modules.now) ≡ None }
-    requires targets { targets.now ≡ map (targets_in (source_of cells.now modules.now)) modules.now }
+    requires bindings { bindings.now ≡ map (bindings_in (source_of cells.now modules.now)) modules.now }
     ensures passes { OnOk result (recursive_refusal (source_of cells.now modules.now) ≡ None) }
     ensures stop { IfErr result (StopsAt (λ r. recursive_refusal (source_of cells.now modules.now) ≡ Some r)) }
 {
-    match recursive(alloc, cells, modules, targets) {
+    match recursive(alloc, cells, modules, bindings) {
         Ok(None) => Ok(()),
         Ok(Some(entry)) => Err(Stop::Refused(Refusal::Recursive { entry })),
         Err(_) => Err(Stop::OutOfMemory),
@@ -70,13 +70,13 @@ pub fn refuse_no_pin(
     alloc: Global,
     cells: &Cells,
     modules: &[Module],
-    targets: &[TargetList],
+    bindings: &[BindingList],
 ) -> Result<(), Stop>
-    requires { targets.now ≡ map (targets_in (source_of cells.now modules.now)) modules.now }
+    requires { bindings.now ≡ map (bindings_in (source_of cells.now modules.now)) modules.now }
     ensures passes { OnOk result (no_pin_refusal (source_of cells.now modules.now) ≡ None) }
     ensures stop { IfErr result (StopsAt (λ r. no_pin_refusal (source_of cells.now modules.now) ≡ Some r)) }
 {
-    match no_pin(alloc, cells, modules, targets) {
+    match no_pin(alloc, cells, modules, bindings) {
         Ok(None) => Ok(()),
         Ok(Some(entry)) => Err(Stop::Refused(Refusal::NoPin { entry })),
         Err(_) => Err(Stop::OutOfMemory),
@@ -84,12 +84,16 @@ pub fn refuse_no_pin(
 }
 
 /// Refuses widths and selects that don't fit.
-pub fn refuse_width(alloc: Global, source: &Source<'_>, targets: &[TargetList]) -> Result<(), Stop>
-    requires { targets.now ≡ map (targets_in (source_in source.now)) source.now.modules.now }
+pub fn refuse_width(
+    alloc: Global,
+    source: &Source<'_>,
+    bindings: &[BindingList],
+) -> Result<(), Stop>
+    requires { bindings.now ≡ map (bindings_in (source_in source.now)) source.now.modules.now }
     ensures passes { OnOk result (width_refusal (source_in source.now) ≡ None) }
     ensures stop { IfErr result (StopsAt (λ r. width_refusal (source_in source.now) ≡ Some r)) }
 {
-    match misfit(alloc, source, targets) {
+    match misfit(alloc, source, bindings) {
         Ok(None) => Ok(()),
         Ok(Some(entry)) => Err(Stop::Refused(Refusal::Width { entry })),
         Err(_) => Err(Stop::OutOfMemory),
@@ -100,13 +104,13 @@ pub fn refuse_width(alloc: Global, source: &Source<'_>, targets: &[TargetList]) 
 pub fn refuse_two_drivers(
     alloc: Global,
     source: &Source<'_>,
-    targets: &[TargetList],
+    bindings: &[BindingList],
 ) -> Result<(), Stop>
-    requires { targets.now ≡ map (targets_in (source_in source.now)) source.now.modules.now }
+    requires { bindings.now ≡ map (bindings_in (source_in source.now)) source.now.modules.now }
     ensures passes { OnOk result (two_drivers_refusal (source_in source.now) ≡ None) }
     ensures stop { IfErr result (StopsAt (λ r. two_drivers_refusal (source_in source.now) ≡ Some r)) }
 {
-    match second_driver(alloc, source, targets) {
+    match second_driver(alloc, source, bindings) {
         Ok(None) => Ok(()),
         Ok(Some(entry)) => Err(Stop::Refused(Refusal::TwoDrivers { entry })),
         Err(_) => Err(Stop::OutOfMemory),

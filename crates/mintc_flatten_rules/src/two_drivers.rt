@@ -4,19 +4,19 @@ ghost use Rattle.std.specs.List.{filter_map};
 ghost use Rattle.std.specs.Option.{option_to_list};
 ghost use Rattle.mintc_netlist.specs.Connections.{places_in, driven_first};
 ghost use Rattle.mintc_netlist.specs.Statements.{first_at_fault};
-ghost use Rattle.mintc_flatten_hierarchy.specs.Sources.{target_pins, target_in, targets_in, modules_of};
+ghost use Rattle.mintc_flatten_hierarchy.specs.Sources.{binding_pins, binding_in, bindings_in, modules_of};
 ghost use Rattle.mintc_flatten_hierarchy.specs.Faults.{drives_in, is_second_driver};
 ghost use Rattle.mintc_flatten_rules.specs.Firsts.{first_in};
 ghost use Rattle.mintc_flatten_rules.specs.Driving.{HasSame, Drives, TakesIn, port_drives, pin_drives, drives_from};
-ghost use Rattle.mintc_flatten_binding.specs.Homes.{source_in};
+ghost use Rattle.mintc_flatten_binding.specs.NetsOfModules.{source_in};
 ghost use Rattle.mintc_flatten_binding.specs.Orders.{IsThere};
 ghost use Rattle.mintc_flatten_binding.specs.Wired.{pin_at, IsOfItem};
 
 use indexmap::IndexSet;
 use mintc_flatten_binding::{
-    ConnectionIndex, Instance, ModuleNets, Source, TargetList, is_output, pin_count, pin_name,
+    BindingList, ConnectionIndex, Instance, ModuleNets, Source, is_output, pin_count, pin_name,
 };
-use mintc_flatten_hierarchy::Target;
+use mintc_flatten_hierarchy::Binding;
 use mintc_netlist::{Item, Piece, entry};
 use mintc_text::{Name, OutOfMemory};
 use std::alloc::Global;
@@ -25,7 +25,7 @@ use std::slice;
 
 /// Places of driven bits, each once, seen as their list.
 #[derive(Drop)]
-pub struct Driven {
+pub(crate) struct Driven {
     places: IndexSet<u64>,
 }
 
@@ -89,14 +89,15 @@ impl Driven {
         &mut self,
         alloc: Global,
         room: &mut Vec<Option<u64>>,
-        home: &ModuleNets<'_>,
+        module_nets: &ModuleNets<'_>,
         piece: &Piece,
     ) -> Result<bool, OutOfMemory>
-        ensures { IfOk result (λ again. Drives self.old self.new (places_in home.now.part.now (piece.now ∷ [])) again) }
+        ensures { IfOk result (λ again. Drives self.old self.new (places_in module_nets.now.part.now (piece.now ∷ [])) again) }
     {
         room.clear();
-        home.nets
-            .push_places(alloc, home.part, slice::from_ref(piece), room)?;
+        module_nets
+            .nets
+            .push_places(alloc, module_nets.part, slice::from_ref(piece), room)?;
         self.drive_places(room)
     }
 
@@ -105,14 +106,14 @@ impl Driven {
         &mut self,
         alloc: Global,
         room: &mut Vec<Option<u64>>,
-        home: &ModuleNets<'_>,
+        module_nets: &ModuleNets<'_>,
         pieces: &[Piece],
     ) -> Result<bool, OutOfMemory>
-        ensures { IfOk result (λ again. Drives self.old self.new (places_in home.now.part.now pieces.now) again) }
+        ensures { IfOk result (λ again. Drives self.old self.new (places_in module_nets.now.part.now pieces.now) again) }
     {
         for number in 0..pieces.len() {
             let piece = &pieces[pieces.len() - 1 - number];
-            if self.drive_piece(alloc, room, home, piece)? {
+            if self.drive_piece(alloc, room, module_nets, piece)? {
                 return Ok(true);
             }
         }
@@ -125,23 +126,23 @@ impl Driven {
         alloc: Global,
         room: &mut Vec<Option<u64>>,
         source: &Source<'_>,
-        home: &ModuleNets<'_>,
+        module_nets: &ModuleNets<'_>,
         instance: &Instance<'_>,
         number: u32,
     ) -> Result<bool, OutOfMemory>
-        requires there { IsThere (source_in source.now) instance.now.target }
-        requires pin { number < length (target_pins (source_in source.now) instance.now.target) }
+        requires there { IsThere (source_in source.now) instance.now.binding }
+        requires pin { number < length (binding_pins (source_in source.now) instance.now.binding) }
         requires connected { IsOfItem instance.now.connected.now instance.now.item.now }
-        ensures { IfOk result (λ again. Drives self.old self.new (pin_drives home.now.part.now instance.now.item.now number (pin_at (source_in source.now) instance.now.target number)) again) }
+        ensures { IfOk result (λ again. Drives self.old self.new (pin_drives module_nets.now.part.now instance.now.item.now number (pin_at (source_in source.now) instance.now.binding number)) again) }
     {
-        let target = instance.target;
-        if !is_output(source, target, number) {
+        let binding = instance.binding;
+        if !is_output(source, binding, number) {
             return Ok(false);
         }
-        let name = pin_name(source.cells, source.modules, target, number);
+        let name = pin_name(source.cells, source.modules, binding, number);
         let connected = instance.connected;
         match connected.expression(instance.item, number as usize, name) {
-            Some(expr) => self.drive_pieces(alloc, room, home, expr.items()),
+            Some(expr) => self.drive_pieces(alloc, room, module_nets, expr.items()),
             None => Ok(false),
         }
     }
@@ -153,16 +154,16 @@ impl Driven {
         alloc: Global,
         room: &mut Vec<Option<u64>>,
         source: &Source<'_>,
-        home: &ModuleNets<'_>,
+        module_nets: &ModuleNets<'_>,
         instance: &Instance<'_>,
     ) -> Result<bool, OutOfMemory>
-        requires there { IsThere (source_in source.now) instance.now.target }
+        requires there { IsThere (source_in source.now) instance.now.binding }
         requires connected { IsOfItem instance.now.connected.now instance.now.item.now }
-        ensures { IfOk result (λ again. Drives self.old self.new (drives_from home.now.part.now instance.now.item.now 0 (target_pins (source_in source.now) instance.now.target)) again) }
+        ensures { IfOk result (λ again. Drives self.old self.new (drives_from module_nets.now.part.now instance.now.item.now 0 (binding_pins (source_in source.now) instance.now.binding)) again) }
     {
-        let count = pin_count(source.cells, source.modules, instance.target)?;
+        let count = pin_count(source.cells, source.modules, instance.binding)?;
         for number in 0..count {
-            if self.drive_pin(alloc, room, source, home, instance, number)? {
+            if self.drive_pin(alloc, room, source, module_nets, instance, number)? {
                 return Ok(true);
             }
         }
@@ -175,20 +176,20 @@ impl Driven {
         alloc: Global,
         room: &mut Vec<Option<u64>>,
         source: &Source<'_>,
-        home: &ModuleNets<'_>,
+        module_nets: &ModuleNets<'_>,
         item: &Item,
-        target: Target,
+        binding: Binding,
     ) -> Result<bool, OutOfMemory>
-        requires there { IsThere (source_in source.now) target }
-        ensures { IfOk result (λ again. Drives self.old self.new (drives_from home.now.part.now item.now 0 (target_pins (source_in source.now) target)) again) }
+        requires there { IsThere (source_in source.now) binding }
+        ensures { IfOk result (λ again. Drives self.old self.new (drives_from module_nets.now.part.now item.now 0 (binding_pins (source_in source.now) binding)) again) }
     {
         let connected = &ConnectionIndex::new(alloc, item)?;
         let instance = Instance {
             item,
-            target,
+            binding,
             connected,
         };
-        self.drive_pins(alloc, room, source, home, &instance)
+        self.drive_pins(alloc, room, source, module_nets, &instance)
     }
 
     /// Drives what an item of a module drives, and says whether a bit is driven already.
@@ -197,17 +198,24 @@ impl Driven {
         alloc: Global,
         room: &mut Vec<Option<u64>>,
         source: &Source<'_>,
-        home: &ModuleNets<'_>,
+        module_nets: &ModuleNets<'_>,
         item: &Item,
-        target: Target,
+        binding: Binding,
     ) -> Result<bool, OutOfMemory>
-        requires target { target ≡ target_in (source_in source.now) item.now }
-        requires there { IsThere (source_in source.now) target }
-        ensures { IfOk result (λ again. Drives self.old self.new (drives_in (source_in source.now) home.now.part.now item.now) again) }
+        requires binding { binding ≡ binding_in (source_in source.now) item.now }
+        requires there { IsThere (source_in source.now) binding }
+        ensures { IfOk result (λ again. Drives self.old self.new (drives_in (source_in source.now) module_nets.now.part.now item.now) again) }
     {
         match item {
-            Item::Assign { left, .. } => self.drive_pieces(alloc, room, home, left.items()),
-            Item::Instance { .. } => self.drive_instance(alloc, room, source, home, item, target),
+            Item::Assign { left, .. } => self.drive_pieces(alloc, room, module_nets, left.items()),
+            Item::Instance { .. } => self.drive_instance(
+                alloc,
+                room,
+                source,
+                module_nets,
+                item,
+                binding,
+            ),
             _ => Ok(false),
         }
     }
@@ -217,16 +225,18 @@ impl Driven {
         &mut self,
         alloc: Global,
         room: &mut Vec<Option<u64>>,
-        home: &ModuleNets<'_>,
+        module_nets: &ModuleNets<'_>,
         name: &Name,
     ) -> Result<(), OutOfMemory>
-        ensures { OnOk result (TakesIn self.old self.new (port_drives home.now.part.now name.now)) }
+        ensures { OnOk result (TakesIn self.old self.new (port_drives module_nets.now.part.now name.now)) }
     {
-        if home.nets.is_output(home.part, name.bytes()) {
+        if module_nets.nets.is_output(module_nets.part, name.bytes()) {
             return Ok(());
         }
         room.clear();
-        home.nets.push_net(alloc, home.part, name.bytes(), room)?;
+        module_nets
+            .nets
+            .push_net(alloc, module_nets.part, name.bytes(), room)?;
         self.take_in(room)?;
         Ok(())
     }
@@ -235,13 +245,13 @@ impl Driven {
     fn of_inputs(
         alloc: Global,
         room: &mut Vec<Option<u64>>,
-        home: &ModuleNets<'_>,
+        module_nets: &ModuleNets<'_>,
     ) -> Result<Driven, OutOfMemory>
-        ensures { IfOk result (λ driven. HasSame driven (driven_first home.now.part.now)) }
+        ensures { IfOk result (λ driven. HasSame driven (driven_first module_nets.now.part.now)) }
     {
         let mut driven = Driven::new(alloc);
-        for name in home.part.ports.items() {
-            driven.take_port(alloc, room, home, name)?;
+        for name in module_nets.part.ports.items() {
+            driven.take_port(alloc, room, module_nets, name)?;
         }
         Ok(driven)
     }
@@ -252,17 +262,17 @@ impl Driven {
         alloc: Global,
         room: &mut Vec<Option<u64>>,
         source: &Source<'_>,
-        home: &ModuleNets<'_>,
-        targets: &[Target],
+        module_nets: &ModuleNets<'_>,
+        bindings: &[Binding],
     ) -> Result<Option<u32>, OutOfMemory>
-        requires targets { targets.now ≡ targets_in (source_in source.now) home.now.part.now }
-        requires inputs { HasSame self.old (driven_first home.now.part.now) }
-        ensures { IfOk result (λ first. first ≡ first_in (is_second_driver (source_in source.now)) home.now.part.now) }
+        requires bindings { bindings.now ≡ bindings_in (source_in source.now) module_nets.now.part.now }
+        requires inputs { HasSame self.old (driven_first module_nets.now.part.now) }
+        ensures { IfOk result (λ first. first ≡ first_in (is_second_driver (source_in source.now)) module_nets.now.part.now) }
     {
-        let items = home.part.items.items();
+        let items = module_nets.part.items.items();
         for (number, item) in items.iter().enumerate() {
-            let target = targets[number];
-            if self.drive_item(alloc, room, source, home, item, target)? {
+            let binding = bindings[number];
+            if self.drive_item(alloc, room, source, module_nets, item, binding)? {
                 return Ok(Some(entry(item)));
             }
         }
@@ -274,24 +284,24 @@ impl Driven {
 fn first_driving(
     alloc: Global,
     source: &Source<'_>,
-    home: &ModuleNets<'_>,
-    targets: &[Target],
+    module_nets: &ModuleNets<'_>,
+    bindings: &[Binding],
 ) -> Result<Option<u32>, OutOfMemory>
-    requires targets { targets.now ≡ targets_in (source_in source.now) home.now.part.now }
-    ensures { IfOk result (λ first. first ≡ first_in (is_second_driver (source_in source.now)) home.now.part.now) }
+    requires bindings { bindings.now ≡ bindings_in (source_in source.now) module_nets.now.part.now }
+    ensures { IfOk result (λ first. first ≡ first_in (is_second_driver (source_in source.now)) module_nets.now.part.now) }
 {
     let mut room = Vec::new(alloc);
-    let mut driven = Driven::of_inputs(alloc, &mut room, home)?;
-    driven.first_again(alloc, &mut room, source, home, targets)
+    let mut driven = Driven::of_inputs(alloc, &mut room, module_nets)?;
+    driven.first_again(alloc, &mut room, source, module_nets, bindings)
 }
 
 /// The first statement that drives what is driven already.
-pub fn second_driver(
+pub(crate) fn second_driver(
     alloc: Global,
     source: &Source<'_>,
-    targets: &[TargetList],
+    bindings: &[BindingList],
 ) -> Result<Option<u32>, OutOfMemory>
-    requires { targets.now ≡ map (targets_in (source_in source.now)) source.now.modules.now }
+    requires { bindings.now ≡ map (bindings_in (source_in source.now)) source.now.modules.now }
     ensures { IfOk result (λ entry. entry ≡ first_at_fault (is_second_driver (source_in source.now)) (modules_of (source_in source.now))) }
 {
     for (number, part) in source.modules.iter().enumerate() {
@@ -299,8 +309,8 @@ pub fn second_driver(
             continue;
         }
         let nets = &source.nets[number];
-        let home = ModuleNets { part, nets };
-        let first = first_driving(alloc, source, &home, targets[number].items())?;
+        let module_nets = ModuleNets { part, nets };
+        let first = first_driving(alloc, source, &module_nets, bindings[number].items())?;
         if first.is_some() {
             return Ok(first);
         }

@@ -5,19 +5,19 @@ ghost use Rattle.std.specs.Option.{option_eq};
 ghost use Rattle.mintc_netlist.specs.Statements.{first_at_fault};
 ghost use Rattle.mintc_netlist.specs.Expressions.{width_of, selects_fit, has_constant};
 ghost use Rattle.mintc_netlist.specs.Connections.{wiring_of, wirings_of};
-ghost use Rattle.mintc_flatten_hierarchy.specs.Sources.{target_in, target_pins, targets_in, modules_of};
+ghost use Rattle.mintc_flatten_hierarchy.specs.Sources.{binding_in, binding_pins, bindings_in, modules_of};
 ghost use Rattle.mintc_flatten_hierarchy.specs.Faults.{span_eq, is_wired_badly, is_misfit};
 ghost use Rattle.mintc_flatten_rules.specs.Firsts.{first_in};
-ghost use Rattle.mintc_flatten_binding.specs.Homes.{source_in};
+ghost use Rattle.mintc_flatten_binding.specs.NetsOfModules.{source_in};
 ghost use Rattle.mintc_flatten_binding.specs.Orders.{IsThere};
 ghost use Rattle.mintc_flatten_rules.specs.Widths.{differs};
 ghost use Rattle.mintc_flatten_binding.specs.Wired.{pin_at, wiring_at, IsOfItem};
 
 use mintc_flatten_binding::{
-    ConnectionIndex, Instance, ModuleNets, Source, TargetList, is_output, pin_count, pin_name,
+    BindingList, ConnectionIndex, Instance, ModuleNets, Source, is_output, pin_count, pin_name,
     pin_width,
 };
-use mintc_flatten_hierarchy::Target;
+use mintc_flatten_hierarchy::Binding;
 use mintc_netlist::{Item, Piece, Span, entry};
 use mintc_netlist_nets::{Declarations, has_constant};
 use mintc_text::limits::MOST_WIDTH;
@@ -58,64 +58,65 @@ fn any_differs(declared: &Declarations, span: Option<Span>, names: &[Name]) -> b
 }
 
 /// How many bits an expression has.
-fn width(home: &ModuleNets<'_>, pieces: &[Piece]) -> Result<u64, OutOfMemory>
-    ensures { IfOk result (λ width. width ≡ width_of home.now.part.now pieces.now) }
+fn width(module_nets: &ModuleNets<'_>, pieces: &[Piece]) -> Result<u64, OutOfMemory>
+    ensures { IfOk result (λ width. width ≡ width_of module_nets.now.part.now pieces.now) }
 {
     if MOST_WIDTH < pieces.len() {
         return Err(OutOfMemory);
     }
-    Ok(home.nets.width(home.part, pieces))
+    Ok(module_nets.nets.width(module_nets.part, pieces))
 }
 
 /// Whether the sides of an assign don't fit.
 fn assign_misfits(
-    home: &ModuleNets<'_>,
+    module_nets: &ModuleNets<'_>,
     left: &[Piece],
     right: &[Piece],
 ) -> Result<bool, OutOfMemory>
     ensures { IfOk result (λ misfits. misfits ≡
-        ((not (selects_fit home.now.part.now left.now && selects_fit home.now.part.now right.now) || not (nat_eq (width_of home.now.part.now left.now) (width_of home.now.part.now right.now))) || has_constant left.now)) }
+        ((not (selects_fit module_nets.now.part.now left.now && selects_fit module_nets.now.part.now right.now) || not (nat_eq (width_of module_nets.now.part.now left.now) (width_of module_nets.now.part.now right.now))) || has_constant left.now)) }
 {
-    let same = width(home, left)? == width(home, right)?;
-    let fit = home.nets.selects_fit(home.part, left) && home.nets.selects_fit(home.part, right);
+    let same = width(module_nets, left)? == width(module_nets, right)?;
+    let fit = module_nets.nets.selects_fit(module_nets.part, left)
+        && module_nets.nets.selects_fit(module_nets.part, right);
     Ok(!fit || !same || has_constant(left))
 }
 
 /// Whether what is connected to a pin doesn't fit.
 fn is_wired_badly(
     source: &Source<'_>,
-    home: &ModuleNets<'_>,
-    target: Target,
+    module_nets: &ModuleNets<'_>,
+    binding: Binding,
     number: u32,
     pieces: &[Piece],
 ) -> Result<bool, OutOfMemory>
-    requires there { IsThere (source_in source.now) target }
-    requires pin { number < length (target_pins (source_in source.now) target) }
-    ensures { IfOk result (λ bad. bad ≡ is_wired_badly home.now.part.now (wiring_of (pin_at (source_in source.now) target number) pieces.now)) }
+    requires there { IsThere (source_in source.now) binding }
+    requires pin { number < length (binding_pins (source_in source.now) binding) }
+    ensures { IfOk result (λ bad. bad ≡ is_wired_badly module_nets.now.part.now (wiring_of (pin_at (source_in source.now) binding number) pieces.now)) }
 {
-    let same = width(home, pieces)? == pin_width(source, target, number);
-    let fit = home.nets.selects_fit(home.part, pieces);
-    let output = is_output(source, target, number);
+    let same = width(module_nets, pieces)? == pin_width(source, binding, number);
+    let fit = module_nets.nets.selects_fit(module_nets.part, pieces);
+    let output = is_output(source, binding, number);
     Ok(!fit || !same || (output && has_constant(pieces)))
 }
 
 /// Whether what an instance connects to a pin, if anything, doesn't fit.
 fn pin_misfits(
     source: &Source<'_>,
-    home: &ModuleNets<'_>,
+    module_nets: &ModuleNets<'_>,
     instance: &Instance<'_>,
     number: u32,
 ) -> Result<bool, OutOfMemory>
-    requires there { IsThere (source_in source.now) instance.now.target }
-    requires pin { number < length (target_pins (source_in source.now) instance.now.target) }
+    requires there { IsThere (source_in source.now) instance.now.binding }
+    requires pin { number < length (binding_pins (source_in source.now) instance.now.binding) }
     requires connected { IsOfItem instance.now.connected.now instance.now.item.now }
-    ensures { IfOk result (λ misfits. misfits ≡ list_any (is_wired_badly home.now.part.now) (wiring_at instance.now.item.now (source_in source.now) instance.now.target number)) }
+    ensures { IfOk result (λ misfits. misfits ≡ list_any (is_wired_badly module_nets.now.part.now) (wiring_at instance.now.item.now (source_in source.now) instance.now.binding number)) }
 {
-    let target = instance.target;
-    let name = pin_name(source.cells, source.modules, target, number);
+    let binding = instance.binding;
+    let name = pin_name(source.cells, source.modules, binding, number);
     let connected = instance.connected;
     match connected.expression(instance.item, number as usize, name) {
-        Some(expr) => is_wired_badly(source, home, target, number, expr.items()),
+        Some(expr) => is_wired_badly(source, module_nets, binding, number, expr.items()),
         None => Ok(false),
     }
 }
@@ -123,16 +124,16 @@ fn pin_misfits(
 /// Whether something that an instance connects to a pin doesn't fit, by what is kept of its connections.
 fn any_misfits(
     source: &Source<'_>,
-    home: &ModuleNets<'_>,
+    module_nets: &ModuleNets<'_>,
     instance: &Instance<'_>,
 ) -> Result<bool, OutOfMemory>
-    requires there { IsThere (source_in source.now) instance.now.target }
+    requires there { IsThere (source_in source.now) instance.now.binding }
     requires connected { IsOfItem instance.now.connected.now instance.now.item.now }
-    ensures { IfOk result (λ misfits. misfits ≡ list_any (is_wired_badly home.now.part.now) (wirings_of instance.now.item.now (target_pins (source_in source.now) instance.now.target))) }
+    ensures { IfOk result (λ misfits. misfits ≡ list_any (is_wired_badly module_nets.now.part.now) (wirings_of instance.now.item.now (binding_pins (source_in source.now) instance.now.binding))) }
 {
-    let count = pin_count(source.cells, source.modules, instance.target)?;
+    let count = pin_count(source.cells, source.modules, instance.binding)?;
     for number in 0..count {
-        if pin_misfits(source, home, instance, number)? {
+        if pin_misfits(source, module_nets, instance, number)? {
             return Ok(true);
         }
     }
@@ -143,25 +144,25 @@ fn any_misfits(
 fn instance_misfits(
     alloc: Global,
     source: &Source<'_>,
-    home: &ModuleNets<'_>,
+    module_nets: &ModuleNets<'_>,
     item: &Item,
-    target: Target,
+    binding: Binding,
 ) -> Result<bool, OutOfMemory>
-    requires there { IsThere (source_in source.now) target }
-    ensures { IfOk result (λ misfits. misfits ≡ list_any (is_wired_badly home.now.part.now) (wirings_of item.now (target_pins (source_in source.now) target))) }
+    requires there { IsThere (source_in source.now) binding }
+    ensures { IfOk result (λ misfits. misfits ≡ list_any (is_wired_badly module_nets.now.part.now) (wirings_of item.now (binding_pins (source_in source.now) binding))) }
 {
     let connected = &ConnectionIndex::new(alloc, item)?;
     let instance = Instance {
         item,
-        target,
+        binding,
         connected,
     };
-    any_misfits(source, home, &instance)
+    any_misfits(source, module_nets, &instance)
 }
 
 /// What some items of a module declare.
 #[derive(Drop)]
-pub struct Declared {
+pub(crate) struct Declared {
     ports: Declarations,
     nets: Declarations,
 }
@@ -194,20 +195,20 @@ impl Declared {
         &self,
         alloc: Global,
         source: &Source<'_>,
-        home: &ModuleNets<'_>,
+        module_nets: &ModuleNets<'_>,
         item: &Item,
-        target: Target,
+        binding: Binding,
     ) -> Result<bool, OutOfMemory>
-        requires target { target ≡ target_in (source_in source.now) item.now }
-        ensures { IfOk result (λ misfits. (before : List Item) → IsDeclaredBy self.now before → misfits ≡ misfits_after (source_in source.now) home.now.part.now before item.now) }
+        requires binding { binding ≡ binding_in (source_in source.now) item.now }
+        ensures { IfOk result (λ misfits. (before : List Item) → IsDeclaredBy self.now before → misfits ≡ misfits_after (source_in source.now) module_nets.now.part.now before item.now) }
     {
         match item {
             Item::Port { span, names, .. } => Ok(any_differs(&self.nets, *span, names.items())),
             Item::Wire { span, names, .. } => Ok(any_differs(&self.ports, *span, names.items())),
             Item::Assign { left, right, .. } => {
-                assign_misfits(home, left.items(), right.items())
+                assign_misfits(module_nets, left.items(), right.items())
             }
-            Item::Instance { .. } => instance_misfits(alloc, source, home, item, target),
+            Item::Instance { .. } => instance_misfits(alloc, source, module_nets, item, binding),
         }
     }
 
@@ -216,16 +217,16 @@ impl Declared {
         &mut self,
         alloc: Global,
         source: &Source<'_>,
-        home: &ModuleNets<'_>,
-        targets: &[Target],
+        module_nets: &ModuleNets<'_>,
+        bindings: &[Binding],
     ) -> Result<Option<u32>, OutOfMemory>
-        requires targets { targets.now ≡ targets_in (source_in source.now) home.now.part.now }
+        requires bindings { bindings.now ≡ bindings_in (source_in source.now) module_nets.now.part.now }
         requires none { IsDeclaredBy self.old [] }
-        ensures { IfOk result (λ first. first ≡ first_in (is_misfit (source_in source.now)) home.now.part.now) }
+        ensures { IfOk result (λ first. first ≡ first_in (is_misfit (source_in source.now)) module_nets.now.part.now) }
     {
-        let items = home.part.items.items();
+        let items = module_nets.part.items.items();
         for (number, item) in items.iter().enumerate() {
-            if self.misfits(alloc, source, home, item, targets[number])? {
+            if self.misfits(alloc, source, module_nets, item, bindings[number])? {
                 return Ok(Some(entry(item)));
             }
             self.note(alloc, item)?;
@@ -238,22 +239,22 @@ impl Declared {
 fn first_misfit(
     alloc: Global,
     source: &Source<'_>,
-    home: &ModuleNets<'_>,
-    targets: &[Target],
+    module_nets: &ModuleNets<'_>,
+    bindings: &[Binding],
 ) -> Result<Option<u32>, OutOfMemory>
-    requires targets { targets.now ≡ targets_in (source_in source.now) home.now.part.now }
-    ensures { IfOk result (λ first. first ≡ first_in (is_misfit (source_in source.now)) home.now.part.now) }
+    requires bindings { bindings.now ≡ bindings_in (source_in source.now) module_nets.now.part.now }
+    ensures { IfOk result (λ first. first ≡ first_in (is_misfit (source_in source.now)) module_nets.now.part.now) }
 {
-    Declared::new(alloc).first_misfit(alloc, source, home, targets)
+    Declared::new(alloc).first_misfit(alloc, source, module_nets, bindings)
 }
 
 /// The first statement whose widths or selects don't fit.
-pub fn misfit(
+pub(crate) fn misfit(
     alloc: Global,
     source: &Source<'_>,
-    targets: &[TargetList],
+    bindings: &[BindingList],
 ) -> Result<Option<u32>, OutOfMemory>
-    requires { targets.now ≡ map (targets_in (source_in source.now)) source.now.modules.now }
+    requires { bindings.now ≡ map (bindings_in (source_in source.now)) source.now.modules.now }
     ensures { IfOk result (λ entry. entry ≡ first_at_fault (is_misfit (source_in source.now)) (modules_of (source_in source.now))) }
 {
     for (number, part) in source.modules.iter().enumerate() {
@@ -261,8 +262,8 @@ pub fn misfit(
             continue;
         }
         let nets = &source.nets[number];
-        let home = ModuleNets { part, nets };
-        let first = first_misfit(alloc, source, &home, targets[number].items())?;
+        let module_nets = ModuleNets { part, nets };
+        let first = first_misfit(alloc, source, &module_nets, bindings[number].items())?;
         if first.is_some() {
             return Ok(first);
         }

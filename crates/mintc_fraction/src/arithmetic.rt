@@ -3,7 +3,7 @@ ghost use Rattle.std.specs.Prelude.{◌≡◌, ◌^◌, ◌≤◌, pos, ◌+ℤ�
 ghost use Rattle.std.specs.Int.{IsGcd, ◌∣◌};
 
 /// A product of a number that may be a numerator and one that may be a denominator.
-pub fn product(x: i128, y: i128) -> i128
+pub(crate) fn product(x: i128, y: i128) -> i128
     requires x { unsigned_abs x ≤ 10 ^ 22 }
     requires y { unsigned_abs y ≤ 10 ^ 12 }
     ensures value { result ≡ x *ℤ y }
@@ -13,7 +13,7 @@ pub fn product(x: i128, y: i128) -> i128
 }
 
 /// The greatest whole number at most `x / y`.
-pub fn rounded_down(x: i128, y: i128) -> i128
+pub(crate) fn rounded_down(x: i128, y: i128) -> i128
     requires x { unsigned_abs x ≤ 10 ^ 34 }
     requires y { pos 1 ≤ℤ y }
     ensures low { (result *ℤ y) ≤ℤ x }
@@ -24,7 +24,7 @@ pub fn rounded_down(x: i128, y: i128) -> i128
 }
 
 /// The number that is `x` divided by one of its divisors.
-pub fn quotient(x: i128, y: i128) -> i128
+pub(crate) fn quotient(x: i128, y: i128) -> i128
     requires y { pos 1 ≤ℤ y }
     requires exact { unsigned_abs y ∣ unsigned_abs x }
     ensures { result *ℤ y ≡ x }
@@ -50,7 +50,7 @@ fn euclid(x: u128, y: u128) -> u128
 }
 
 /// The greatest common divisor of a number and of one that is at least 1.
-pub fn greatest_divisor(x: i128, y: i128) -> i128
+pub(crate) fn greatest_divisor(x: i128, y: i128) -> i128
     requires some { pos 1 ≤ℤ y }
     requires few { y ≤ℤ pos (10 ^ 12) }
     ensures divisor { IsGcd (unsigned_abs x) (unsigned_abs y) (unsigned_abs result) }

@@ -6,13 +6,18 @@ use crate::network::{NONE, Network};
 
 /// A node on a closed chain, and the chain's length.
 #[derive(Clone, Copy)]
-pub struct Ring {
+pub(crate) struct Ring {
     pub node: u32,
     pub len: usize,
 }
 
 /// Goes back from `last`, marking each node, until a marked node or one that was never raised.
-pub fn mark<N: Network>(net: &N, before: &[u32], last: u32, marks: &mut [u32]) -> Option<Ring>
+pub(crate) fn mark<N: Network>(
+    net: &N,
+    before: &[u32],
+    last: u32,
+    marks: &mut [u32],
+) -> Option<Ring>
     requires same { length marks.old ≡ length before.now }
     requires nodes { length before.now < 2 ^ 32 }
     requires last { last < length before.now }
@@ -45,7 +50,13 @@ pub fn mark<N: Network>(net: &N, before: &[u32], last: u32, marks: &mut [u32]) -
 }
 
 /// Writes the arcs of the ring, in order.
-pub fn collect<N: Network>(net: &N, before: &[u32], marks: &[u32], ring: Ring, chain: &mut [u32])
+pub(crate) fn collect<N: Network>(
+    net: &N,
+    before: &[u32],
+    marks: &[u32],
+    ring: Ring,
+    chain: &mut [u32],
+)
     requires same { length chain.old ≡ length before.now }
     requires parents { AreParents (N.arcs net.now) before.now }
     requires ring { IsRing (N.arcs net.now) before.now marks.now ring.node ring.len }

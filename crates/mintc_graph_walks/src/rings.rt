@@ -67,7 +67,12 @@ fn node_of(step: u32, last: u32, nodes: u32) -> u32
 }
 
 /// A node of the ring whose arcs have the greatest mean weight. Of several such, the one behind `last` where it is among them.
-pub fn heaviest<N: Network>(net: &N, before: &[u32], last: u32, marks: &mut [u32]) -> Option<u32>
+pub(crate) fn heaviest<N: Network>(
+    net: &N,
+    before: &[u32],
+    last: u32,
+    marks: &mut [u32],
+) -> Option<u32>
     requires marks { length marks.old ≡ length before.now }
     requires nodes { length before.now ≤ 4096 }
     requires last { last < length before.now }

@@ -36,7 +36,7 @@ fn relax(values: &mut [i128], before: &mut [u32], number: u32, arc: Arc) -> bool
 }
 
 /// Relaxes each arc once, and gives the node that was raised last, if any was.
-pub fn pass<N: Network>(net: &N, values: &mut [i128], before: &mut [u32]) -> Option<u32>
+pub(crate) fn pass<N: Network>(net: &N, values: &mut [i128], before: &mut [u32]) -> Option<u32>
     requires same { length before.old ≡ length values.old }
     requires nodes { length values.old < 2 ^ 32 }
     requires few { length (N.arcs net.now) < 2 ^ 32 }
@@ -70,7 +70,7 @@ fn relax_numbered<N: Network>(net: &N, number: u32, values: &mut [i128], before:
 }
 
 /// Relaxes the arcs of these numbers, in the list's order, and passes over numbers of no arc.
-pub fn relax_all<N: Network>(net: &N, list: &[u32], values: &mut [i128], before: &mut [u32])
+pub(crate) fn relax_all<N: Network>(net: &N, list: &[u32], values: &mut [i128], before: &mut [u32])
     requires same { length before.old ≡ length values.old }
     requires short { length list.now < 2 ^ 32 }
     requires few { length (N.arcs net.now) < 2 ^ 32 }

@@ -37,7 +37,7 @@ fn list_back<N: Network>(
 
 /// Lists the arcs by which the nodes were raised, the arc into a node ahead of the arcs out of it where they close no chain;
 /// then `NONE`, as often as there is place.
-pub fn list_tree<N: Network>(net: &N, before: &[u32], marks: &mut [u32], list: &mut [u32])
+pub(crate) fn list_tree<N: Network>(net: &N, before: &[u32], marks: &mut [u32], list: &mut [u32])
     requires marks { length marks.old ≡ length before.now }
     requires list { length list.old ≡ length before.now }
     requires nodes { length before.now < 2 ^ 32 }

@@ -19,7 +19,7 @@ fn numbers(row: &[i64; 8]) -> i64x8
 }
 
 /// The numbers of `row` where `other` is absent, those of `sum` where `row` is, and else those of `chosen`.
-fn joined(row: i64x8, other: i64x8, sum: i64x8, chosen: i64x8) -> i64x8
+fn choose_lanes(row: i64x8, other: i64x8, sum: i64x8, chosen: i64x8) -> i64x8
     requires row { IsVector row }
     requires other { IsVector other }
     requires sum { IsVector sum }
@@ -63,7 +63,7 @@ pub fn min_plus_row(row: &mut [i64; 8], other: &[i64; 8], add: i64)
     let own = numbers(row);
     let others = numbers(other);
     let sum = sums(others, add);
-    *row = joined(own, others, sum, lesser(own, sum)).to_array();
+    *row = choose_lanes(own, others, sum, lesser(own, sum)).to_array();
 }
 
 /// The lanes of `other` with `add`: what a row whose lanes are all absent becomes beside it.

@@ -8,7 +8,7 @@ use std::simd::prelude::*;
 
 /// The greater of each two numbers. The sign of their difference says which: that takes fewer steps than to compare
 /// numbers of 64 bits on a processor that compares only those of 32.
-pub fn greater(x: i64x8, y: i64x8) -> i64x8
+pub(crate) fn greater(x: i64x8, y: i64x8) -> i64x8
     requires x { IsVector x }
     requires y { IsVector y }
     requires near { (k : ℕ) → k < 8 → FitsSigned w64 (number_at x k -ℤ number_at y k) }
@@ -19,7 +19,7 @@ pub fn greater(x: i64x8, y: i64x8) -> i64x8
 }
 
 /// The lesser of each two numbers, by the sign of their difference.
-pub fn lesser(x: i64x8, y: i64x8) -> i64x8
+pub(crate) fn lesser(x: i64x8, y: i64x8) -> i64x8
     requires x { IsVector x }
     requires y { IsVector y }
     requires near { (k : ℕ) → k < 8 → FitsSigned w64 (number_at x k -ℤ number_at y k) }
@@ -30,7 +30,7 @@ pub fn lesser(x: i64x8, y: i64x8) -> i64x8
 }
 
 /// Each number with one number added.
-pub fn sums(x: i64x8, add: i64) -> i64x8
+pub(crate) fn sums(x: i64x8, add: i64) -> i64x8
     requires x { IsVector x }
     requires fits { (k : ℕ) → k < 8 → FitsSigned w64 (number_at x k +ℤ add) }
     ensures vector { IsVector result }
@@ -40,7 +40,7 @@ pub fn sums(x: i64x8, add: i64) -> i64x8
 }
 
 /// The numbers of `absent` where those of `x` are `ABSENT`, and else those of `present`.
-pub fn where_absent(x: i64x8, absent: i64x8, present: i64x8) -> i64x8
+pub(crate) fn where_absent(x: i64x8, absent: i64x8, present: i64x8) -> i64x8
     requires x { IsVector x }
     requires absent { IsVector absent }
     requires present { IsVector present }
@@ -51,7 +51,7 @@ pub fn where_absent(x: i64x8, absent: i64x8, present: i64x8) -> i64x8
 }
 
 /// The numbers four places on, round the end.
-pub fn turned_by_four(x: i64x8) -> i64x8
+pub(crate) fn turned_by_four(x: i64x8) -> i64x8
     requires { IsVector x }
     ensures vector { IsVector result }
     ensures numbers { HasNumbers result (λ k. number_at x ((k + 4) % 8)) }
@@ -60,7 +60,7 @@ pub fn turned_by_four(x: i64x8) -> i64x8
 }
 
 /// The numbers two places on, round the end.
-pub fn turned_by_two(x: i64x8) -> i64x8
+pub(crate) fn turned_by_two(x: i64x8) -> i64x8
     requires { IsVector x }
     ensures vector { IsVector result }
     ensures numbers { HasNumbers result (λ k. number_at x ((k + 2) % 8)) }
@@ -69,7 +69,7 @@ pub fn turned_by_two(x: i64x8) -> i64x8
 }
 
 /// The numbers one place on, round the end.
-pub fn turned_by_one(x: i64x8) -> i64x8
+pub(crate) fn turned_by_one(x: i64x8) -> i64x8
     requires { IsVector x }
     ensures vector { IsVector result }
     ensures numbers { HasNumbers result (λ k. number_at x ((k + 1) % 8)) }

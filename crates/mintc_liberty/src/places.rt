@@ -7,9 +7,9 @@ ghost use Rattle.mintc_liberty.specs.Meaning.{put_all};
 ghost use Rattle.mintc_liberty.specs.Places.{opened, IsBehind, cells_next, named_cells, entry_from, entry_at, entries_at, name_from, place_cmp, is_same, firsts, Ascends};
 
 use crate::presorting::presort;
-use crate::texts::ROOM;
+use crate::texts::MOST_OPEN;
 use mintc_liberty_cell::{group_at, only_name};
-use mintc_liberty_tokens::statements::{call, mark, statement};
+use mintc_liberty_tokens::statements::{call, eat_sign, statement};
 use mintc_liberty_tokens::{Kind, Reader, Scanner};
 use mintc_text::OutOfMemory;
 use mintc_toml::is_name;
@@ -22,7 +22,7 @@ fn opens(scanner: &mut Scanner) -> bool
     ensures ahead { IsAhead scanner.old scanner.new }
 {
     match scanner.word() {
-        Some(_) => mark(scanner, Kind::Opening),
+        Some(_) => eat_sign(scanner, Kind::Opening),
         None => false,
     }
 }
@@ -36,14 +36,14 @@ fn pass(scanner: &mut Scanner) -> Option<usize>
 {
     let mut behind = scanner.copy();
     if !opens(&mut behind) {
-        return if statement(scanner, ROOM) {
+        return if statement(scanner, MOST_OPEN) {
             Some(scanner.place())
         } else {
             None
         };
     }
     let place = behind.place();
-    if !call(&mut behind, ROOM) {
+    if !call(&mut behind, MOST_OPEN) {
         return None;
     }
     *scanner = behind;
@@ -113,7 +113,7 @@ fn places_of(alloc: Global, library: &Scanner, most: usize) -> Result<Vec<u32>, 
 }
 
 /// The name at a place.
-pub fn name_from<'a>(library: &Scanner<'a>, place: u32) -> &'a [u8]
+pub(crate) fn name_from<'a>(library: &Scanner<'a>, place: u32) -> &'a [u8]
     ensures { result.now ≡ name_from library.now.text place }
 {
     match library.from_place(place as usize).name() {
@@ -133,7 +133,11 @@ fn compare(library: &Scanner, one: u32, two: u32) -> Ordering
 
 /// The places of the cells with a name, in byte order of the names, and as they come where names are the same. What is kept to sort
 /// them takes no more than half of the text with them.
-pub fn sorted_places(alloc: Global, text: &[u8], library: &Scanner) -> Result<Vec<u32>, OutOfMemory>
+pub(crate) fn sorted_places(
+    alloc: Global,
+    text: &[u8],
+    library: &Scanner,
+) -> Result<Vec<u32>, OutOfMemory>
     ensures { IfOk result (λ places. put_all (named_cells library.now.tokens) [] ≡ entries_at library.now.text (firsts library.now.text None places.items)) }
 {
     let mut places = places_of(alloc, library, most_cells(text))?;
@@ -148,7 +152,7 @@ pub fn sorted_places(alloc: Global, text: &[u8], library: &Scanner) -> Result<Ve
 }
 
 /// Whether a name was the one before.
-pub fn is_same(before: Option<&[u8]>, name: &[u8]) -> bool
+pub(crate) fn is_same(before: Option<&[u8]>, name: &[u8]) -> bool
     ensures { result ≡ is_same (option_map (λ b. b.now) before.entry) name.now }
 {
     match before {

@@ -13,28 +13,28 @@ ghost use Rattle.mintc_liberty.specs.Meaning.{usable, cells_of_library, liberty_
 use crate::places::{is_same, name_from, sorted_places};
 use mintc_cells::{Cell, Cells};
 use mintc_liberty_cell::{body, cell_of};
-use mintc_liberty_tokens::{Kind, Reader, Scanner, mark, semicolon, statement, statements};
+use mintc_liberty_tokens::{Kind, Reader, Scanner, eat_sign, semicolon, statement, statements};
 use mintc_text::{Name, OutOfMemory, Refusal, Role, Stop};
 use mintc_toml::is_name;
 use std::alloc::Global;
 
 /// How deep groups nest in the library, which is the first of 64.
-pub const ROOM: u32 = 63;
+pub(crate) const MOST_OPEN: u32 = 63;
 
 /// Behind `library`, passes `( item ) {`.
 fn behind_name(scanner: &mut Scanner) -> bool
     ensures { MatchBool result (behind_name scanner.old.tokens ≡ Some scanner.new.tokens) (behind_name scanner.old.tokens ≡ None) }
 {
-    if !statements::mark(scanner, Kind::Opening) {
+    if !statements::eat_sign(scanner, Kind::Opening) {
         return false;
     }
     if !statements::item(scanner) {
         return false;
     }
-    if !statements::mark(scanner, Kind::Closing) {
+    if !statements::eat_sign(scanner, Kind::Closing) {
         return false;
     }
-    statements::mark(scanner, Kind::Left)
+    statements::eat_sign(scanner, Kind::Left)
 }
 
 /// Passes `library ( item ) {`.
@@ -59,7 +59,7 @@ fn ends(reader: &mut Reader) -> bool
 }
 
 /// The number of the text's Syntax, none where it is in the grammar.
-pub fn syntax_of(text: &[u8]) -> Option<usize>
+pub(crate) fn syntax_of(text: &[u8]) -> Option<usize>
     ensures { MatchOption result (IsOk (library_of text.now)) (λ n. library_of text.now ≡ Err n) }
 {
     let mut scanner = Scanner::new(text);
@@ -69,14 +69,14 @@ pub fn syntax_of(text: &[u8]) -> Option<usize>
     let mut reader = Reader::at(&scanner);
     let mut count = 0;
     loop {
-        if mark(&mut reader, Kind::Right) {
+        if eat_sign(&mut reader, Kind::Right) {
             return if ends(&mut reader) {
                 None
             } else {
                 Some(count + 1)
             };
         }
-        if !statement(&mut reader, ROOM) {
+        if !statement(&mut reader, MOST_OPEN) {
             return Some(count + 1);
         }
         count += 1;
@@ -94,7 +94,7 @@ fn usable(alloc: Global, library: &Scanner, place: u32) -> Result<Option<(Name, 
     let Some(inside) = body(&Reader::at(&library.from_place(place as usize))) else {
         return Ok(None);
     };
-    match cell_of(alloc, &inside, ROOM - 1)? {
+    match cell_of(alloc, &inside, MOST_OPEN - 1)? {
         Some(cell) => Ok(Some((Name::new(alloc, name)?, cell))),
         None => Ok(None),
     }

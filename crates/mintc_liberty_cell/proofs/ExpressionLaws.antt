@@ -7,7 +7,7 @@ use Rattle.std.proofs.lemmas.List.Folds.{list_any_none}
 use Rattle.mintc_liberty_cell.specs.declared.pins.Pin.{Pin as PinRead}
 use Rattle.mintc_liberty_cell.specs.declared.pins.Role.TheVariants as role
 use Rattle.mintc_liberty_cell.specs.Seen.{pin_seen}
-use Rattle.mintc_liberty_cell.specs.Expressions.{is_among, without_last, inverted, literal, peeled}
+use Rattle.mintc_liberty_cell.specs.Expressions.{is_among, without_last, inverted_input, literal, peeled}
 use Rattle.mintc_liberty_cell.specs.Parentheses.{pairs}
 use Rattle.mintc_liberty_cell.specs.Meaning.{Pin, names, inputs, is_as}
 use Rattle.mintc_liberty_cell.proofs.ParenthesesLaws.{peeled-is, peeled-size}
@@ -49,7 +49,7 @@ literal-none names e short =
     let whole = none-among names (length e) e short (omega arith) in
     let front = no-and (slice_index e 0 == 33) (is_among names (drop 1 e)) (none-among names (length e) (drop 1 e) short (omega (arith, one))) in
     let back = no-and (slice_index e (length e - 1) == 39) (is_among names (without_last e)) (none-among names (length e) (without_last e) short (omega (arith, other))) in
-    ap (λ v. cond v (Some (e, true)) (option_map (λ p. (p, false)) (inverted names e))) whole
+    ap (λ v. cond v (Some (e, true)) (option_map (λ p. (p, false)) (inverted_input names e))) whole
     ∙ ap (option_map (λ p. (p, false))) (ap (λ v. cond v (Some (drop 1 e)) (cond ((slice_index e (length e - 1) == 39) && is_among names (without_last e)) (Some (without_last e)) None)) front
     ∙ ap (λ v. cond v (Some (without_last e)) None) back)
 

@@ -8,7 +8,7 @@ use Rattle.mintc_cells.specs.declared.cell.Cell.TheVariants.{Clock}
 use Rattle.mintc_cells.specs.Pins.{is_distinct, are_names}
 use Rattle.mintc_cells.specs.Rules.{pins, has_names, has_limits, has_order, has_defaults, is_cell}
 use Rattle.mintc_liberty_cell.specs.declared.pins.Role.TheVariants as role
-use Rattle.mintc_liberty_cell.specs.Expressions.{Literal, is_among, inverted, literal, expression, peeled, stripped}
+use Rattle.mintc_liberty_cell.specs.Expressions.{Literal, is_among, inverted_input, literal, expression, peeled, stripped}
 use Rattle.mintc_liberty_tokens.specs.Statements.{Statements}
 use Rattle.mintc_liberty_cell.specs.Meaning.{Pin, Group, last_value, is_pin, fits, are_pins, names, with_role, inputs, outputs, others, stored, stores, latch_by, flop_by, only, clocked, clock_by, gate_by, or_gate, stateless, keeper_by, by_keepers, keepers, kept, is_plain, pins_in, cell_by}
 use Rattle.mintc_liberty_cell.specs.Held.{is_between, has_counts}
@@ -16,11 +16,11 @@ use Rattle.mintc_liberty_cell.proofs.PinLaws.{same-name, same-comm, named, named
 
 -- The pin of an expression is one of the pins
 
-inverted-among : (ps : List (List ℕ)) (e n : List ℕ) → inverted ps e ≡ Some n → is_among ps n ≡ true
-inverted-among ps e n h = grind arith
+inverted_input-among : (ps : List (List ℕ)) (e n : List ℕ) → inverted_input ps e ≡ Some n → is_among ps n ≡ true
+inverted_input-among ps e n h = grind arith
 
 literal-among : (ps : List (List ℕ)) (e : List ℕ) (l : Literal) → literal ps e ≡ Some l → is_among ps l.0 ≡ true
-literal-among ps e l h = grind (arith, inverted-among ps e)
+literal-among ps e l h = grind (arith, inverted_input-among ps e)
 
 expression-among : (ps : List (List ℕ)) (v : Option (List ℕ)) (l : Literal) → expression ps v ≡ Some l → is_among ps l.0 ≡ true
 expression-among ps None l h = absurd (cc)

@@ -40,15 +40,15 @@ abbrev pub Literal : Type 0
 Literal = List ℕ × Bool
 
 -- `!P` or `P'` of one of these pins
-abbrev pub inverted : List (List ℕ) → List ℕ → Option (List ℕ)
-inverted pins e =
+abbrev pub inverted_input : List (List ℕ) → List ℕ → Option (List ℕ)
+inverted_input pins e =
     if (slice_index e 0 == 33) && is_among pins (drop 1 e) then Some (drop 1 e)
     else (if (slice_index e (length e - 1) == 39) && is_among pins (without_last e) then Some (without_last e)
     else None)
 
 -- `P`, `!P` or `P'`
 abbrev pub literal : List (List ℕ) → List ℕ → Option Literal
-literal pins e = if is_among pins e then Some (e, true) else option_map (λ p. (p, false)) (inverted pins e)
+literal pins e = if is_among pins e then Some (e, true) else option_map (λ p. (p, false)) (inverted_input pins e)
 
 -- the expression that a value is over one of these pins
 abbrev pub expression : List (List ℕ) → Option (List ℕ) → Option Literal

@@ -9,7 +9,7 @@ use std::marker::Model;
 
 /// The bytes that are left of a value: those of a token, and the tokens behind it.
 #[derive(Drop)]
-pub struct ValueBytes<'a> {
+pub(crate) struct ValueBytes<'a> {
     piece: &'a [u8],
     behind: Reader<'a>,
 }
@@ -25,7 +25,7 @@ impl<'a> Model for ValueBytes<'a> {
 
 impl<'a> ValueBytes<'a> {
     /// All bytes of a value.
-    pub fn new(value: &Reader<'a>) -> ValueBytes<'a>
+    pub(crate) fn new(value: &Reader<'a>) -> ValueBytes<'a>
         ensures { result ≡ value_bytes value.now }
     {
         ValueBytes {
@@ -51,7 +51,7 @@ impl<'a> ValueBytes<'a> {
     }
 
     /// Passes white space and the byte behind it, if one comes.
-    pub fn next(&mut self) -> Option<u8>
+    pub(crate) fn next(&mut self) -> Option<u8>
         ensures none { IfNone result ((stripped self.old ≡ []) × (stripped self.new ≡ [])) }
         ensures some { IfSome result (λ b. stripped self.old ≡ b ∷ stripped self.new) }
     {
@@ -65,7 +65,7 @@ impl<'a> ValueBytes<'a> {
 }
 
 /// What is left of a value behind so many bytes, white space not counted.
-pub fn bytes_from<'a>(value: &Reader<'a>, from: usize) -> ValueBytes<'a>
+pub(crate) fn bytes_from<'a>(value: &Reader<'a>, from: usize) -> ValueBytes<'a>
     ensures { stripped result ≡ drop from (stripped (value_bytes value.now)) }
 {
     let mut bytes = ValueBytes::new(value);

@@ -282,7 +282,7 @@ fn has_counts(cell: &Cell) -> bool
 }
 
 /// A cell within the rules of a cell description, whose pins are names, each once.
-fn kept(cell: Option<Cell>) -> Option<Cell>
+fn if_within_rules(cell: Option<Cell>) -> Option<Cell>
     requires { IfSome cell (λ c. is_cell c ≡ has_counts c) }
     ensures { result ≡ kept cell }
 {
@@ -298,7 +298,7 @@ pub fn cell_of(alloc: Global, inside: &Reader, room: u32) -> Result<Option<Cell>
     ensures { IfOk result (λ o. o ≡ cell_of (front room inside.now).statements) }
 {
     match parts_of(alloc, inside, room)? {
-        Some(parts) => Ok(kept(cell_by(alloc, &parts, room - 1)?)),
+        Some(parts) => Ok(if_within_rules(cell_by(alloc, &parts, room - 1)?)),
         None => Ok(None),
     }
 }

@@ -1,6 +1,6 @@
 //! Expressions over one pin.
 ghost use Rattle.std.specs.Prelude.{◌≡◌, ◌+◌, ◌&&◌, nat_le, take, drop, length, IfOk, IfSome, IfNone, Some, None, true, false, option_map};
-ghost use Rattle.mintc_liberty_cell.specs.Expressions.{stripped, is_among, literal, inverted, expression};
+ghost use Rattle.mintc_liberty_cell.specs.Expressions.{stripped, is_among, literal, inverted_input, expression};
 ghost use Rattle.std.specs.List.{list_any};
 ghost use Rattle.mintc_liberty_cell.specs.Meaning.{inputs, is_as};
 ghost use Rattle.mintc_liberty_cell.specs.declared.pins.Role.TheVariants as role;
@@ -17,7 +17,7 @@ use std::alloc::Global;
 
 /// A pin by its name, and whether it is meant as it is and not inverted.
 #[derive(Clone, Copy)]
-pub struct Literal<'a> {
+pub(crate) struct Literal<'a> {
     pub name: &'a [u8],
     pub is_plain: bool,
 }
@@ -138,7 +138,7 @@ fn input_named<'a>(pins: &[Pin<'a>], name: &[u8]) -> Option<&'a [u8]>
 }
 
 /// The input of a name that a mark stands beside.
-fn marked<'a>(pins: &[Pin<'a>], has_mark: bool, name: &[u8]) -> Option<&'a [u8]>
+fn input_beside_mark<'a>(pins: &[Pin<'a>], has_mark: bool, name: &[u8]) -> Option<&'a [u8]>
     ensures none { IfNone result ((has_mark && is_among (inputs (pins_seen pins.now)) name.now) ≡ false) }
     ensures some { IfSome result (λ n. ((has_mark && is_among (inputs (pins_seen pins.now)) name.now) ≡ true) × (n.now ≡ name.now)) }
 {
@@ -150,15 +150,15 @@ fn marked<'a>(pins: &[Pin<'a>], has_mark: bool, name: &[u8]) -> Option<&'a [u8]>
 }
 
 /// `!P` or `P'` of an input.
-fn inverted<'a>(pins: &[Pin<'a>], bytes: &[u8]) -> Option<&'a [u8]>
-    ensures none { IfNone result (inverted (inputs (pins_seen pins.now)) bytes.now ≡ None) }
-    ensures some { IfSome result (λ n. inverted (inputs (pins_seen pins.now)) bytes.now ≡ Some n.now) }
+fn inverted_input<'a>(pins: &[Pin<'a>], bytes: &[u8]) -> Option<&'a [u8]>
+    ensures none { IfNone result (inverted_input (inputs (pins_seen pins.now)) bytes.now ≡ None) }
+    ensures some { IfSome result (λ n. inverted_input (inputs (pins_seen pins.now)) bytes.now ≡ Some n.now) }
 {
-    if let Some(name) = marked(pins, byte_at(bytes, 0) == b'!', rest_from(bytes, 1)) {
+    if let Some(name) = input_beside_mark(pins, byte_at(bytes, 0) == b'!', rest_from(bytes, 1)) {
         return Some(name);
     }
     let last = bytes.len().saturating_sub(1);
-    marked(pins, byte_at(bytes, last) == b'\'', &bytes[..last])
+    input_beside_mark(pins, byte_at(bytes, last) == b'\'', &bytes[..last])
 }
 
 /// `P`, `!P` or `P'` of an input.
@@ -172,7 +172,7 @@ fn literal_of<'a>(pins: &[Pin<'a>], bytes: &[u8]) -> Option<Literal<'a>>
             is_plain: true,
         });
     }
-    match inverted(pins, bytes) {
+    match inverted_input(pins, bytes) {
         Some(name) => Some(Literal {
             name,
             is_plain: false,
@@ -182,7 +182,7 @@ fn literal_of<'a>(pins: &[Pin<'a>], bytes: &[u8]) -> Option<Literal<'a>>
 }
 
 /// The expression over an input that a value is.
-pub fn expression<'a>(
+pub(crate) fn expression<'a>(
     alloc: Global,
     pins: &[Pin<'a>],
     value: &Option<Reader>,

@@ -6,7 +6,7 @@ ghost use Rattle.mintc_liberty_cell.specs.Meaning.{groups, only_name};
 ghost use Rattle.mintc_liberty_cell.specs.Passing.{group_at, body_at};
 ghost use Rattle.mintc_liberty_cell.specs.Seen.{group_seen};
 
-use mintc_liberty_tokens::{Kind, Reader, item, items, mark, statement};
+use mintc_liberty_tokens::{Kind, Reader, eat_sign, item, items, statement};
 
 /// A group: its name, what begins with its items, and what begins with the statements inside.
 #[derive(Drop)]
@@ -24,7 +24,7 @@ pub fn body<'a>(items_here: &Reader<'a>) -> Option<Reader<'a>>
     if !items(&mut inside) {
         return None;
     }
-    if mark(&mut inside, Kind::Left) {
+    if eat_sign(&mut inside, Kind::Left) {
         Some(inside)
     } else {
         None
@@ -40,7 +40,7 @@ pub fn group_at<'a>(reader: &Reader<'a>) -> Option<Group<'a>>
     let Some(name) = items.word() else {
         return None;
     };
-    if !mark(&mut items, Kind::Opening) {
+    if !eat_sign(&mut items, Kind::Opening) {
         return None;
     }
     match body(&items) {
@@ -54,7 +54,7 @@ pub fn group_at<'a>(reader: &Reader<'a>) -> Option<Group<'a>>
 }
 
 /// Passes the statements up to the next group, and that one.
-pub fn next_group<'a>(reader: &mut Reader<'a>, room: u32) -> Option<Group<'a>>
+pub(crate) fn next_group<'a>(reader: &mut Reader<'a>, room: u32) -> Option<Group<'a>>
     ensures none { IfNone result (groups (front room reader.old).statements ≡ []) }
     ensures some { IfSome result (λ g. groups (front room reader.old).statements ≡ group_seen (room - 1) g ∷ groups (front room reader.new).statements) }
     ensures shorter { OnSome result (length reader.new < length reader.old) }
@@ -71,7 +71,7 @@ pub fn next_group<'a>(reader: &mut Reader<'a>, room: u32) -> Option<Group<'a>>
 }
 
 /// Passes the items up to the next name, and that one.
-pub fn next_name<'a>(items: &mut Reader<'a>) -> Option<&'a [u8]>
+pub(crate) fn next_name<'a>(items: &mut Reader<'a>) -> Option<&'a [u8]>
     ensures none { IfNone result (names_in (taken is_item items.old) ≡ []) }
     ensures some { IfSome result (λ name. names_in (taken is_item items.old) ≡ name.now ∷ names_in (taken is_item items.new)) }
     ensures shorter { OnSome result (length items.new < length items.old) }

@@ -14,7 +14,7 @@ use std::alloc::Global;
 
 /// What is read of a cell: its pins, and the group that keeps its state, if it has one.
 #[derive(Drop)]
-pub struct Parts<'a> {
+pub(crate) struct Parts<'a> {
     pub pins: Vec<Pin<'a>>,
     pub keeper: Option<Group<'a>>,
 }
@@ -62,7 +62,7 @@ fn add<'a>(parts: &mut Parts<'a>, group: Group<'a>, room: u32) -> Result<bool, O
 }
 
 /// The parts of a cell, None where it is passed over.
-pub fn parts_of<'a>(
+pub(crate) fn parts_of<'a>(
     alloc: Global,
     inside: &Reader<'a>,
     room: u32,

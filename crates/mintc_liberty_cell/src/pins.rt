@@ -18,7 +18,7 @@ use std::alloc::Global;
 
 /// What a pin is for its cell; a clock is an input too.
 #[derive(Clone, Copy, PartialEq, Eq)]
-pub enum Role {
+pub(crate) enum Role {
     Input,
     Clock,
     Output,
@@ -26,14 +26,14 @@ pub enum Role {
 
 /// A pin: its name, its role, and what begins with the value of its function.
 #[derive(Drop)]
-pub struct Pin<'a> {
+pub(crate) struct Pin<'a> {
     pub name: &'a [u8],
     pub role: Role,
     pub function: Option<Reader<'a>>,
 }
 
 /// Whether a pin of one role is one of another.
-pub fn is_as(wanted: Role, role: Role) -> bool
+pub(crate) fn is_as(wanted: Role, role: Role) -> bool
     ensures { result ≡ is_as wanted role }
 {
     match (wanted, role) {
@@ -82,7 +82,7 @@ fn may_come(pins: &[Pin], name: &[u8]) -> bool
 }
 
 /// Whether a pin is an input of this name.
-pub fn is_input(pin: &Pin, name: &[u8]) -> bool
+pub(crate) fn is_input(pin: &Pin, name: &[u8]) -> bool
     ensures { result ≡ (is_as role.Input pin.now.role && bytes_eq name.now pin.now.name.now) }
 {
     is_as(Role::Input, pin.role) && name == pin.name
@@ -138,7 +138,7 @@ fn add_pin<'a>(
 }
 
 /// Adds the pins of a group, unless a cell that has them is passed over.
-pub fn add_pins<'a>(
+pub(crate) fn add_pins<'a>(
     pins: &mut Vec<Pin<'a>>,
     group: &Group<'a>,
     room: u32,
@@ -162,7 +162,7 @@ pub fn add_pins<'a>(
 }
 
 /// The names of the pins of a role.
-pub fn names(alloc: Global, pins: &[Pin], role: Role) -> Result<Names, OutOfMemory>
+pub(crate) fn names(alloc: Global, pins: &[Pin], role: Role) -> Result<Names, OutOfMemory>
     ensures { IfOk result (λ ns. ns ≡ names (with_role role (pins_seen pins.now))) }
 {
     let mut found = Vec::new(alloc);
@@ -175,7 +175,12 @@ pub fn names(alloc: Global, pins: &[Pin], role: Role) -> Result<Names, OutOfMemo
 }
 
 /// The names of the inputs that are none of two.
-pub fn others(alloc: Global, pins: &[Pin], one: &[u8], two: &[u8]) -> Result<Names, OutOfMemory>
+pub(crate) fn others(
+    alloc: Global,
+    pins: &[Pin],
+    one: &[u8],
+    two: &[u8],
+) -> Result<Names, OutOfMemory>
     ensures { IfOk result (λ ns. ns ≡ others one.now two.now (inputs (pins_seen pins.now))) }
 {
     let mut found = Vec::new(alloc);
@@ -188,7 +193,7 @@ pub fn others(alloc: Global, pins: &[Pin], one: &[u8], two: &[u8]) -> Result<Nam
 }
 
 /// The only pin of a role.
-pub fn only<'p, 'a>(pins: &'p [Pin<'a>], role: Role) -> Option<&'p Pin<'a>>
+pub(crate) fn only<'p, 'a>(pins: &'p [Pin<'a>], role: Role) -> Option<&'p Pin<'a>>
     ensures none { IfNone result (only (with_role role (pins_seen pins.now)) ≡ None) }
     ensures some { IfSome result (λ p. only (with_role role (pins_seen pins.now)) ≡ Some (pin_seen p.now)) }
 {

@@ -4,11 +4,11 @@ ghost use Rattle.mintc_liberty_cell.specs.Passing.{value_bytes, attribute_at, va
 ghost use Rattle.mintc_liberty_tokens.specs.Statements.{front};
 ghost use Rattle.mintc_liberty_cell.specs.Meaning.{or_else, last_value, says};
 
-use mintc_liberty_tokens::{Kind, Reader, mark, statement, value_token};
+use mintc_liberty_tokens::{Kind, Reader, eat_sign, statement, value_token};
 
 /// An attribute's name and what begins with its value.
 #[derive(Drop)]
-pub struct Found<'a> {
+pub(crate) struct Found<'a> {
     pub name: &'a [u8],
     pub value: Reader<'a>,
 }
@@ -22,7 +22,7 @@ fn attribute_at<'a>(reader: &Reader<'a>) -> Option<Found<'a>>
     let Some(name) = value.word() else {
         return None;
     };
-    if mark(&mut value, Kind::Colon) {
+    if eat_sign(&mut value, Kind::Colon) {
         Some(Found { name, value })
     } else {
         None
@@ -45,7 +45,7 @@ fn later<'a>(found: Option<Reader<'a>>, next: Option<Found<'a>>, name: &[u8]) ->
 }
 
 /// What begins with the value of the last attribute of a name, directly in the group that the reader stands in.
-pub fn last_value<'a>(inside: &Reader<'a>, name: &[u8], room: u32) -> Option<Reader<'a>>
+pub(crate) fn last_value<'a>(inside: &Reader<'a>, name: &[u8], room: u32) -> Option<Reader<'a>>
     ensures { option_map value_bytes result ≡ last_value name.now (front room inside.now).statements }
 {
     let mut reader = inside.copy();
@@ -79,7 +79,7 @@ fn is_text(value: &Reader, text: &[u8]) -> bool
 }
 
 /// Whether the last attribute of a name, directly in the group that the reader stands in, has this value.
-pub fn says(inside: &Reader, name: &[u8], text: &[u8], room: u32) -> bool
+pub(crate) fn says(inside: &Reader, name: &[u8], text: &[u8], room: u32) -> bool
     ensures { result ≡ says name.now text.now (front room inside.now).statements }
 {
     match last_value(inside, name, room) {

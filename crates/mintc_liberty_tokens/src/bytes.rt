@@ -27,7 +27,7 @@ fn stops_word(bytes: &[u8], at: usize) -> bool
 }
 
 /// How many bytes the word at the front has.
-pub fn word_size(bytes: &[u8]) -> usize
+pub(crate) fn word_size(bytes: &[u8]) -> usize
     ensures value { result ≡ word_size bytes.now }
     ensures within { result ≤ length bytes.now }
 {

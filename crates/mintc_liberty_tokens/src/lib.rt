@@ -13,5 +13,5 @@ pub mod statements;
 mod trivia;
 
 pub use laws::statements_are_the_tokens;
-pub use reader::{Kind, Reader, item, items, mark, semicolon, statement, value_token};
+pub use reader::{Kind, Reader, eat_sign, item, items, semicolon, statement, value_token};
 pub use scanner::Scanner;

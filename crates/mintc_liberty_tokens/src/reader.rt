@@ -100,11 +100,11 @@ impl<'a> Reader<'a> {
 }
 
 /// Passes a sign of this kind, if it comes next.
-pub fn mark(reader: &mut Reader, kind: Kind) -> bool
+pub fn eat_sign(reader: &mut Reader, kind: Kind) -> bool
     requires { is_sign_kind kind ≡ true }
     ensures { MatchBool result ((w : List ℕ) → reader.old ≡ token_of kind w ∷ reader.new) ((kind ≡ kind_of reader.old → ⊥) × (reader.new ≡ reader.old)) }
 {
-    statements::mark(&mut reader.scanner, kind)
+    statements::eat_sign(&mut reader.scanner, kind)
 }
 
 /// Passes a token of a value, if one comes next, and gives what it stands for.

@@ -9,7 +9,7 @@ use crate::reader::Kind;
 use crate::scanner::Scanner;
 
 /// Passes a sign of this kind, if it comes next.
-pub fn mark(scanner: &mut Scanner, kind: Kind) -> bool
+pub fn eat_sign(scanner: &mut Scanner, kind: Kind) -> bool
     requires { is_sign_kind kind ≡ true }
     ensures passed { MatchBool result ((w : List ℕ) → scanner.old.tokens ≡ token_of kind w ∷ scanner.new.tokens) ((kind ≡ kind_of scanner.old.tokens → ⊥) × (scanner.new ≡ scanner.old)) }
     ensures ahead { IsAhead scanner.old scanner.new }
@@ -88,7 +88,7 @@ fn value(scanner: &mut Scanner) -> bool
         return false;
     }
     while pass_value(scanner) {}
-    mark(scanner, Kind::Semicolon)
+    eat_sign(scanner, Kind::Semicolon)
 }
 
 /// Behind `WORD (`, passes the items and their parenthesis.
@@ -97,7 +97,7 @@ pub fn items(scanner: &mut Scanner) -> bool
     ensures ahead { IsAhead scanner.old scanner.new }
 {
     while item(scanner) {}
-    mark(scanner, Kind::Closing)
+    eat_sign(scanner, Kind::Closing)
 }
 
 /// Passes a `;`, if it comes next.
@@ -105,7 +105,7 @@ pub fn semicolon(scanner: &mut Scanner)
     ensures passed { scanner.new.tokens ≡ past_semicolon scanner.old.tokens }
     ensures ahead { IsAhead scanner.old scanner.new }
 {
-    mark(scanner, Kind::Semicolon);
+    eat_sign(scanner, Kind::Semicolon);
 }
 
 /// Behind `WORD (`, passes the rest of a group or of a statement of the second form.
@@ -117,7 +117,7 @@ pub fn call(scanner: &mut Scanner, room: u32) -> bool
     if !items(scanner) {
         return false;
     }
-    if !mark(scanner, Kind::Left) {
+    if !eat_sign(scanner, Kind::Left) {
         semicolon(scanner);
         return true;
     }
@@ -140,10 +140,10 @@ pub fn statement(scanner: &mut Scanner, room: u32) -> bool
     let Some(_) = scanner.word() else {
         return false;
     };
-    if mark(scanner, Kind::Colon) {
+    if eat_sign(scanner, Kind::Colon) {
         return value(scanner);
     }
-    if !mark(scanner, Kind::Opening) {
+    if !eat_sign(scanner, Kind::Opening) {
         return false;
     }
     call(scanner, room)
@@ -156,7 +156,7 @@ fn statements(scanner: &mut Scanner, room: u32) -> bool
     ensures ahead { IsAhead scanner.old scanner.new }
 {
     loop {
-        if mark(scanner, Kind::Right) {
+        if eat_sign(scanner, Kind::Right) {
             return true;
         }
         if !statement(scanner, room) {

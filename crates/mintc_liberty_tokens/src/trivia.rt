@@ -46,7 +46,7 @@ fn trivia_size(text: &[u8], at: usize, last: usize) -> usize
 }
 
 /// The place of the next token, or the end.
-pub fn skip_trivia(text: &[u8], from: usize, last: usize) -> usize
+pub(crate) fn skip_trivia(text: &[u8], from: usize, last: usize) -> usize
     requires within { from ≤ length text.now }
     requires last { EndsBefore text.now last }
     ensures same { tokens_of (drop result text.now) ≡ tokens_of (drop from text.now) }

@@ -127,7 +127,7 @@ fn add_all_mentions(alloc: Global, names: &mut NameSet, items: &[Item]) -> Resul
 }
 
 /// The names of a module's nets, in their order.
-pub fn net_set(alloc: Global, module: &Module) -> Result<NameSet, OutOfMemory>
+pub(crate) fn net_set(alloc: Global, module: &Module) -> Result<NameSet, OutOfMemory>
     ensures { IfOk result (λ names. names ≡ names_of «module».now) }
 {
     let mut names = NameSet::new(alloc);

@@ -118,7 +118,7 @@ impl Nets {
     }
 
     /// The place of a bit of a name that was looked up: where the name is found, and its range.
-    fn place_in(
+    fn net_place(
         &self,
         home: &Module,
         name: &[u8],
@@ -157,7 +157,7 @@ impl Nets {
         let span = self.range(home, name);
         for number in 0..bits(Some(part)) {
             let index = index_at(part, number as u32);
-            let place = self.place_in(home, name, found, span, Some(index));
+            let place = self.net_place(home, name, found, span, Some(index));
             let Ok(()) = places.push(Some(place)) else {
                 return Err(OutOfMemory);
             };
@@ -170,7 +170,7 @@ impl Nets {
         requires { self.now ≡ table_of home.now }
         ensures { result ≡ place_of home.now (bit_of name.now index) }
     {
-        self.place_in(
+        self.net_place(
             home,
             name,
             self.names.find(name),

@@ -31,7 +31,7 @@ pub fn index_at(span: Span, number: u32) -> u32
 }
 
 /// Whether an index lies within a range.
-pub fn is_inside(span: Span, at: u32) -> bool
+pub(crate) fn is_inside(span: Span, at: u32) -> bool
     ensures { result ≡ is_inside span at }
 {
     span.msb.min(span.lsb) <= at && at <= span.msb.max(span.lsb)
@@ -39,7 +39,7 @@ pub fn is_inside(span: Span, at: u32) -> bool
 
 /// How far a bit stands from the rightmost bit of its net, and None where the net has no such bit. A net without a range has the bit
 /// without an index, and a vector those with the indexes of its range.
-pub fn offset(span: Option<Span>, index: Option<u32>) -> Option<u64>
+pub(crate) fn offset(span: Option<Span>, index: Option<u32>) -> Option<u64>
     ensures value { result ≡ offset_of span index }
     ensures within { IfSome result (λ at. at < bit_count span) }
 {

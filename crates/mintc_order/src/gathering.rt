@@ -23,7 +23,7 @@ fn add(numbers: &[u32], start: u32, stop: u32, gathered: &mut Vec<u32>) -> Resul
 }
 
 /// The arcs that leave each bit, from the bit that is given out last to the first.
-pub fn gathered(
+pub(crate) fn order_from_postorder(
     alloc: Global,
     arcs: &[TimingArc],
     ranges: &OutgoingArcs,
@@ -46,7 +46,7 @@ pub fn gathered(
             &ranges.numbers,
             start,
             ranges.starts[bit + 1],
-            &mut gathered,
+            &mut order_from_postorder,
         )?;
     }
     Ok(gathered)

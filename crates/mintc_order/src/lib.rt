@@ -18,7 +18,7 @@ mod leaving;
 mod outgoing;
 mod search;
 
-use gathering::gathered;
+use gathering::order_from_postorder;
 pub use laws::orders_exclude_loops;
 pub use leaving::Leaving;
 use mintc_text::{Numbers, Stop};
@@ -45,7 +45,7 @@ pub fn order(alloc: Global, flat: &Flat) -> Result<Order, Stop>
     for root in 0..bits {
         search.follow(alloc, &ranges, root as u32)?;
     }
-    match gathered(alloc, flat.arcs(), &ranges, &search.given) {
+    match order_from_postorder(alloc, flat.arcs(), &ranges, &search.given) {
         Ok(order) => Ok(Order::new(Numbers::new(order))),
         Err(_) => Err(Stop::OutOfMemory),
     }

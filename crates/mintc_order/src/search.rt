@@ -13,7 +13,7 @@ const GIVEN: u32 = 1;
 
 /// What a search has found.
 #[derive(Drop)]
-pub struct Search {
+pub(crate) struct Search {
     /// For each bit its mark, or its place in the path, counted from 2.
     pub marks: Vec<u32>,
     /// Bits that aren't given out, each but the first entered by the next arc of the one before.
@@ -33,7 +33,7 @@ impl Search {
     ghost use Rattle.mintc_order.specs.Searches.{ArePassed, EndsAt, IsClosing, IsSearch, IsSearching, steps_of};
 
     /// A search that has met no bit.
-    pub fn new(alloc: Global, bits: usize) -> Result<Search, AllocError>
+    pub(crate) fn new(alloc: Global, bits: usize) -> Result<Search, AllocError>
         ensures marks { IfOk result (λ s. s.marks.items ≡ replicate bits 0) }
         ensures path { IfOk result (λ s. s.path.items ≡ []) }
         ensures nexts { IfOk result (λ s. s.nexts.items ≡ []) }
@@ -100,7 +100,12 @@ impl Search {
     }
 
     /// The next arcs of the path's bits from this place on.
-    fn closed(&self, alloc: Global, numbers: &[u32], first: usize) -> Result<Vec<u32>, AllocError>
+    fn cycle_from(
+        &self,
+        alloc: Global,
+        numbers: &[u32],
+        first: usize,
+    ) -> Result<Vec<u32>, AllocError>
         requires inside { (i : ℕ) → i < length self.now.nexts.items → slice_index self.now.nexts.items i < length numbers.now }
         requires first { first ≤ length self.now.nexts.items }
         ensures { IfOk result (λ arcs. IsClosing numbers.now self.now.nexts.items first (length self.now.nexts.items) arcs.items) }
@@ -122,7 +127,7 @@ impl Search {
         ensures { (arcs : List TimingArc) → AreLeaving arcs (length self.now.marks.items) ranges.now.starts.items ranges.now.numbers.items ranges.now.ends.items → AreAll arcs ranges.now.numbers.items → StopsAt (NamesLoop arcs) result }
     {
         let first = self.marks[bit as usize] as usize - 2;
-        match self.closed(alloc, &ranges.numbers, first) {
+        match self.cycle_from(alloc, &ranges.numbers, first) {
             Ok(arcs) => Stop::Refused(Refusal::CombinationalLoop {
                 arcs: Numbers::new(arcs),
             }),
@@ -180,7 +185,12 @@ impl Search {
     }
 
     /// Gives out all bits to which arcs lead from the root, and the root.
-    pub fn follow(&mut self, alloc: Global, ranges: &OutgoingArcs, root: u32) -> Result<(), Stop>
+    pub(crate) fn follow(
+        &mut self,
+        alloc: Global,
+        ranges: &OutgoingArcs,
+        root: u32,
+    ) -> Result<(), Stop>
         requires few { length self.old.marks.items < 2 ^ 32 - 2 }
         requires search { IsSearching (length self.old.marks.items) ranges.now self.old }
         requires root { root < length self.old.marks.items }

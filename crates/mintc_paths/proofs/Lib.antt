@@ -1,8 +1,8 @@
 pub mod SharedFinding
 pub mod SharedPassing
 pub mod SharedExisting
-pub mod SharedTurnedPaths
-pub mod SharedTurnedPairs
+pub mod SharedReversedPaths
+pub mod SharedReversedPairs
 pub mod SharedWaking
 pub mod SharedClimbing
 -- Lemmas by topic.
@@ -18,5 +18,5 @@ mod Marking
 mod Rowing
 mod Plain
 mod Raising
-mod Turning
-mod TurnedCourse
+mod Reversing
+mod ReversedSequence

@@ -18,7 +18,7 @@ use Rattle.mintc_paths_sums.proofs.SharedNoSums.{none_at}
 use Rattle.mintc_paths.specs.Worklist.{IsAwake}
 use Rattle.mintc_paths.specs.declared.worklist.Worklist.{Worklist}
 use Rattle.mintc_paths.specs.declared.rows.ArcSequence.{ArcSequence}
-use Rattle.mintc_paths.specs.Sums.{moved, IsCourse, AreMarked, AreSums}
+use Rattle.mintc_paths.specs.Sums.{moved, IsSequence, AreMarked, AreSums}
 use Rattle.mintc_paths.proofs.SharedClimbing.{climb}
 use Rattle.mintc_paths.proofs.Filling.{IsBounded-weaker, IsCarried, AreSums-more, arc_inside}
 use Rattle.mintc_paths.proofs.Rowing.{alike_each, bounded_each, IsCarried-placed}
@@ -63,7 +63,7 @@ pub record IsSmallAt (sums : List Sums) (arc : TimingArc) : Type 0 where
   pub to : IsBounded 1000000000000000 (sums_at sums arc.to)
   pub alike : IsAlike (sums_at sums arc.from)
 
-module _ (design : Design) (order : List ℕ) (is_order : IsOrder design.arcs order) (kept : IsDesign design) (course : ArcSequence) (n : ℕ) (is_course : IsCourse n design.arcs order course)
+module _ (design : Design) (order : List ℕ) (is_order : IsOrder design.arcs order) (kept : IsDesign design) (sequence : ArcSequence) (n : ℕ) (is_sequence : IsSequence n design.arcs order sequence)
     (bits : n ≡ 2 * length design.elements + length design.inner) where
   -- the arc of the design at a place of the order
   abbrev pub arc_of : ℕ → TimingArc
@@ -79,53 +79,53 @@ module _ (design : Design) (order : List ℕ) (is_order : IsOrder design.arcs or
   to_in i low = omega (arith, in_design i low)
 
   -- The rows that the arc at a place leaves and enters are two.
-  pub row_in : (i : ℕ) → i < length order → (arc_at course.along.items i).from < n
-  row_in i low = subst (λ (x : TimingArc). x.from < n) (sym (is_course.along.each i low)) (is_course.rows.of_bits.inside (arc_of i).from (from_in i low))
+  pub row_in : (i : ℕ) → i < length order → (arc_at sequence.along.items i).from < n
+  row_in i low = subst (λ (x : TimingArc). x.from < n) (sym (is_sequence.along.each i low)) (is_sequence.rows.of_bits.inside (arc_of i).from (from_in i low))
 
-  pub row_to_in : (i : ℕ) → i < length order → (arc_at course.along.items i).to < n
-  row_to_in i low = subst (λ (x : TimingArc). x.to < n) (sym (is_course.along.each i low)) (is_course.rows.of_bits.inside (arc_of i).to (to_in i low))
+  pub row_to_in : (i : ℕ) → i < length order → (arc_at sequence.along.items i).to < n
+  row_to_in i low = subst (λ (x : TimingArc). x.to < n) (sym (is_sequence.along.each i low)) (is_sequence.rows.of_bits.inside (arc_of i).to (to_in i low))
 
-  pub max_in : (i : ℕ) → i < length order → IsDelay (arc_at course.along.items i).max
-  max_in i low = subst (λ (x : TimingArc). IsDelay x.max) (sym (is_course.along.each i low)) (in_design i low).max
+  pub max_in : (i : ℕ) → i < length order → IsDelay (arc_at sequence.along.items i).max
+  max_in i low = subst (λ (x : TimingArc). IsDelay x.max) (sym (is_sequence.along.each i low)) (in_design i low).max
 
   pub few_arcs : (i : ℕ) → i < length order → i * 1000000000 ≤ 1000000000000000
   few_arcs i low = omega (arith, is_order.count)
 
   module _ (first lanes : ℕ) (few : lanes ≤ 8) (sums : List Sums) (count : length sums ≡ n) where
     abbrev rows : List ℕ
-    rows = course.rows.of_bits.items
+    rows = sequence.rows.of_bits.items
 
     -- what `carry` asks of the sums in the rows that the arc at a place leaves and enters
-    pub ends_small : (i : ℕ) → i < length order → AreSums design.arcs order i first lanes (placed rows sums) → IsSmallAt sums (arc_at course.along.items i)
+    pub ends_small : (i : ℕ) → i < length order → AreSums design.arcs order i first lanes (placed rows sums) → IsSmallAt sums (arc_at sequence.along.items i)
     ends_small i low h =
         let small = λ (row : ℕ) (below : row < n).
-        IsBounded-weaker (i * 1000000000) 1000000000000000 (sums_at sums row) (few_arcs i low) (bounded_each design.arcs order i first lanes n course.rows is_course.rows sums h row below) in
+        IsBounded-weaker (i * 1000000000) 1000000000000000 (sums_at sums row) (few_arcs i low) (bounded_each design.arcs order i first lanes n sequence.rows is_sequence.rows sums h row below) in
         record {
-          from = small (arc_at course.along.items i).from (row_in i low);
-          to = small (arc_at course.along.items i).to (row_to_in i low);
-          alike = alike_each design.arcs order i first lanes n course.rows is_course.rows sums h (arc_at course.along.items i).from (row_in i low);
+          from = small (arc_at sequence.along.items i).from (row_in i low);
+          to = small (arc_at sequence.along.items i).to (row_to_in i low);
+          alike = alike_each design.arcs order i first lanes n sequence.rows is_sequence.rows sums h (arc_at sequence.along.items i).from (row_in i low);
         }
 
     -- one more arc is carried along
-    pub carried_along : (new : List Sums) → length new ≡ length sums → (i : ℕ) → i < length order → IsCarried (arc_at course.along.items i) sums new →
+    pub carried_along : (new : List Sums) → length new ≡ length sums → (i : ℕ) → i < length order → IsCarried (arc_at sequence.along.items i) sums new →
         AreSums design.arcs order i first lanes (placed rows sums) → AreSums design.arcs order (i + 1) first lanes (placed rows new)
     carried_along new same i low carried h =
-        let of_rows : IsCarried (moved rows (arc_of i)) sums new = subst (λ (a : TimingArc). IsCarried a sums new) (is_course.along.each i low) carried in
-        let done = IsCarried-placed n rows course.rows.bits.items is_course.rows.of_bits sums new (arc_of i) (from_in i low) (to_in i low) of_rows in
+        let of_rows : IsCarried (moved rows (arc_of i)) sums new = subst (λ (a : TimingArc). IsCarried a sums new) (is_sequence.along.each i low) carried in
+        let done = IsCarried-placed n rows sequence.rows.bits.items is_sequence.rows.of_bits sums new (arc_of i) (from_in i low) (to_in i low) of_rows in
         let before = length-placed rows sums in
         let after = length-placed rows new in
-        let of = is_course.rows.of_bits.count in
+        let of = is_sequence.rows.of_bits.count in
         AreSums-more design.arcs order is_order i first lanes (placed rows sums) (placed rows new) (omega arith) low (omega (arith, from_in i low)) (omega (arith, to_in i low)) few done h
 
     module _ (reached : List Bool) (marked : AreMarked sums reached) where
       -- Where none is awake from one place on and before the next, no arc there leaves a row that is reached.
-      pub passed_next : (awake : Worklist) (k next : ℕ) → k ≤ next → k ≤ length order → IsAwake course.along.items k reached awake →
+      pub passed_next : (awake : Worklist) (k next : ℕ) → k ≤ next → k ≤ length order → IsAwake sequence.along.items k reached awake →
           ((other : ℕ) → k ≤ other → other < next → IsIn awake.places.words.items other → ⊥) →
           AreSums design.arcs order k first lanes (placed rows sums) → AreSums design.arcs order (min next (length order)) first lanes (placed rows sums)
       passed_next awake k next low high is_awake none h = climb (λ x. AreSums design.arcs order x first lanes (placed rows sums)) k (min next (length order)) (omega arith) step h
         where
           step : (i : ℕ) → k ≤ i → i < min next (length order) → AreSums design.arcs order i first lanes (placed rows sums) → AreSums design.arcs order (i + 1) first lanes (placed rows sums)
           step i from below =
-              let left : ℕ = (arc_at course.along.items i).from in
+              let left : ℕ = (arc_at sequence.along.items i).from in
               let off = not_on (get_or reached left false) (λ on. none i from (omega arith) (is_awake.each i from (omega arith) on)) in
-              carried_along sums refl i (omega arith) (carried_none (arc_at course.along.items i) sums (marked.none left (omega (arith, row_in i (omega arith))) off))
+              carried_along sums refl i (omega arith) (carried_none (arc_at sequence.along.items i) sums (marked.none left (omega (arith, row_in i (omega arith))) off))

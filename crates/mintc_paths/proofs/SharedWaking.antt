@@ -1,4 +1,4 @@
--- The arcs that are awake along a course.
+-- The arcs that are awake along a sequence.
 use Rattle.std.proofs.Common.{◌≡◌, ◌≢◌, ℕ, ◌≤◌, ◌+◌, Bool, false, List, length, get_or, arith}
 use Rattle.mintc_bitset.specs.BitSet.{IsIn}
 use Rattle.mintc_timing.specs.declared.parts.TimingArc.{TimingArc}

@@ -9,7 +9,7 @@ pub mod Trace
 pub mod Longest
 pub mod Existing
 pub mod Finding
-pub mod Turned
+pub mod Reversed
 pub mod Ordered
 pub mod Plans
 pub mod Worklist

@@ -4,7 +4,7 @@ use Rattle.mintc_timing.specs.Design.{Design}
 use Rattle.mintc_timing.specs.Limits.{IsDesign}
 use Rattle.mintc_timing.specs.Order.{IsOrder}
 use Rattle.mintc_paths.specs.declared.rows.ArcSequence.{ArcSequence}
-use Rattle.mintc_paths.specs.Sums.{IsCourse}
+use Rattle.mintc_paths.specs.Sums.{IsSequence}
 
 pub record Ordered : Type 0 where
   pub design : Design
@@ -18,8 +18,8 @@ pub record IsOrdered (of : Ordered) : Type 0 where
 abbrev pub ordered : Design → List ℕ → Ordered
 ordered design order = record { design = design; order = order }
 
--- The course has so many rows, one for each bit of the design, and its arcs in their order.
-pub record IsCourseOf (n : ℕ) (of : Ordered) (course : ArcSequence) : Type 0 where
+-- The sequence has so many rows, one for each bit of the design, and its arcs in their order.
+pub record IsSequenceOf (n : ℕ) (of : Ordered) (sequence : ArcSequence) : Type 0 where
   pub is_ordered : IsOrdered of
   pub bits : n ≡ 2 * length of.design.elements + length of.design.inner
-  pub is_course : IsCourse n of.design.arcs of.order course
+  pub is_sequence : IsSequence n of.design.arcs of.order sequence

@@ -44,11 +44,11 @@ pub record AreAlong (arcs : List TimingArc) (order : List ℕ) (rows : List ℕ)
   pub count : length along ≡ k
   pub each : (i : ℕ) → i < k → arc_at along i ≡ moved rows (arc_at arcs (slice_index_or order i 0))
 
--- The course has rows for so many bits with the arcs that leave them, and all arcs in their order.
-pub record IsCourse (n : ℕ) (arcs : List TimingArc) (order : List ℕ) (course : ArcSequence) : Type 0 where
-  pub rows : AreRows n course.rows
-  pub along : AreAlong arcs order course.rows.of_bits.items (length order) course.along.items
-  pub leaving : AreLeaving course.along.items n course.leaving
+-- The sequence has rows for so many bits with the arcs that leave them, and all arcs in their order.
+pub record IsSequence (n : ℕ) (arcs : List TimingArc) (order : List ℕ) (sequence : ArcSequence) : Type 0 where
+  pub rows : AreRows n sequence.rows
+  pub along : AreAlong arcs order sequence.rows.of_bits.items (length order) sequence.along.items
+  pub leaving : AreLeaving sequence.along.items n sequence.leaving
 
 -- There is a mark for each row, and one that isn't marked as reached has no sums.
 pub record AreMarked (sums : List Sums) (reached : List Bool) : Type 0 where

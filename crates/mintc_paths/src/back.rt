@@ -5,13 +5,13 @@ ghost use Rattle.mintc_timing.specs.Order.{IsOrder};
 ghost use Rattle.mintc_paths.specs.Found.{IsFoundBefore};
 ghost use Rattle.mintc_paths.specs.Longest.{AreRunsShort};
 ghost use Rattle.mintc_paths.specs.Ordered.{Ordered, ordered};
-ghost use Rattle.mintc_paths.specs.Sums.{AreRows, IsCourse};
-ghost use Rattle.mintc_paths.specs.Turned.{turned_design, turned_arcs, pair_back, key_of};
+ghost use Rattle.mintc_paths.specs.Sums.{AreRows, IsSequence};
+ghost use Rattle.mintc_paths.specs.Reversed.{reversed_design, reversed_arcs, pair_back, key_of};
 
 use crate::blocks::{Plan, find_along};
 use crate::found::Found;
+use crate::reversed::{element_order, reversed_sequence};
 use crate::rows::{ArcSequence, Rows};
-use crate::turned::{element_order, turned_course};
 use mintc_text::OutOfMemory;
 use mintc_text::limits::MOST_PAIRS;
 use mintc_timing::{Flat, Order, Pair};
@@ -25,7 +25,7 @@ fn key_of(pair: &Pair) -> u64
 }
 
 /// Turns each pair back.
-fn turn_each(pairs: &mut [Pair], places: &Rows)
+fn reverse_each(pairs: &mut [Pair], places: &Rows)
     requires inside { All (λ pair. pair.from < length places.now.bits.items) pairs.old }
     ensures { pairs.new ≡ map (pair_back places.now.bits.items) pairs.old }
 {
@@ -41,34 +41,34 @@ fn turn_each(pairs: &mut [Pair], places: &Rows)
 }
 
 /// Turns the pairs back, and brings them into order.
-fn turn_pairs(pairs: &mut [Pair], places: &Rows)
+fn reverse_pairs(pairs: &mut [Pair], places: &Rows)
     requires inside { All (λ pair. pair.from < length places.now.bits.items) pairs.old }
     ensures permutation { IsPermutation (map (pair_back places.now.bits.items) pairs.old) pairs.new }
     ensures sorted { IsNonDecreasingBy key_of pairs.new }
 {
-    turn_each(pairs, places);
+    reverse_each(pairs, places);
     pairs.sort_unstable_by_key(|pair: &Pair| key_of(pair));
 }
 
-/// Finds the pairs of the design turned round. As no path is too long there, none is refused.
-fn find_turned(
+/// Finds the pairs of the design reversed. As no path is too long there, none is refused.
+fn find_reversed(
     alloc: Global,
     flat: &Flat,
     order: &Order,
-    course: &ArcSequence,
+    sequence: &ArcSequence,
     places: &Rows,
 ) -> Result<Found, OutOfMemory>
     ghost of: { Ordered }
-    requires of { of ≡ ordered (turned_design places.now.of_bits.items flat.now) (reverse order.now) }
+    requires of { of ≡ ordered (reversed_design places.now.of_bits.items flat.now) (reverse order.now) }
     requires order { IsOrder flat.now.arcs order.now }
-    requires course { IsCourse (2 * length flat.now.elements + length flat.now.inner) (turned_arcs (length flat.now.elements) places.now.of_bits.items flat.now.arcs) (reverse order.now) course.now }
+    requires sequence { IsSequence (2 * length flat.now.elements + length flat.now.inner) (reversed_arcs (length flat.now.elements) places.now.of_bits.items flat.now.arcs) (reverse order.now) sequence.now }
     requires places { AreRows (length flat.now.elements) places.now }
     requires short { AreRunsShort flat.now.arcs }
-    ensures found { IfOk result (IsFoundBefore (turned_design places.now.of_bits.items flat.now) (length flat.now.elements) 0) }
+    ensures found { IfOk result (IsFoundBefore (reversed_design places.now.of_bits.items flat.now) (length flat.now.elements) 0) }
 {
     let elements = flat.elements().len() as u32;
     let plan = Plan {
-        course,
+        sequence,
         elements,
         known_short: true,
     };
@@ -79,29 +79,29 @@ fn find_turned(
 }
 
 /// Finds the pairs from the inputs back. Where they are more than are kept, their number alone counts.
-pub fn find_backward(
+pub(crate) fn find_backward(
     alloc: Global,
     flat: &Flat,
     order: &Order,
-    course: ArcSequence,
+    sequence: ArcSequence,
 ) -> Result<Found, OutOfMemory>
     requires order { IsOrder flat.now.arcs order.now }
-    requires course { IsCourse (2 * length flat.now.elements + length flat.now.inner) flat.now.arcs order.now course }
+    requires sequence { IsSequence (2 * length flat.now.elements + length flat.now.inner) flat.now.arcs order.now sequence }
     requires short { AreRunsShort flat.now.arcs }
     ensures found { IfOk result (IsFoundBefore flat.now (length flat.now.elements) 0) }
     ensures few { IfOk result (λ found. found.count ≤ 4000000) }
 {
     let elements = flat.elements().len() as u32;
-    let Ok(places) = element_order(alloc, elements, &course.rows) else {
+    let Ok(places) = element_order(alloc, elements, &sequence.rows) else {
         return Err(OutOfMemory);
     };
-    let Ok(course) = turned_course(alloc, flat, order, course, &places) else {
+    let Ok(sequence) = reversed_sequence(alloc, flat, order, sequence, &places) else {
         return Err(OutOfMemory);
     };
-    let mut found = find_turned(alloc, flat, order, &course, &places)?;
+    let mut found = find_reversed(alloc, flat, order, &sequence, &places)?;
     if found.count > MOST_PAIRS as u64 {
         return Ok(found);
     }
-    turn_pairs(&mut found.pairs, &places);
+    reverse_pairs(&mut found.pairs, &places);
     Ok(found)
 }

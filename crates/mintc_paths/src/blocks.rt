@@ -7,7 +7,7 @@ ghost use Rattle.mintc_paths.specs.Worklist.{IsReady};
 ghost use Rattle.mintc_paths.specs.Found.{IsFoundBefore};
 ghost use Rattle.mintc_paths.specs.Ordered.{Ordered, ordered};
 ghost use Rattle.mintc_paths.specs.Plans.{IsPlanOf};
-ghost use Rattle.mintc_paths.specs.Sums.{IsCourse, AreMarked};
+ghost use Rattle.mintc_paths.specs.Sums.{IsSequence, AreMarked};
 ghost use Rattle.mintc_paths.specs.Refusals.{IsPathRange};
 
 use crate::filled::Filled;
@@ -21,20 +21,20 @@ use mintc_text::Stop;
 use mintc_timing::{Flat, Order};
 use std::alloc::{AllocError, Global};
 
-/// The course over rows in the order in which the arcs come to the bits.
-pub fn course_of(alloc: Global, flat: &Flat, order: &Order) -> Result<ArcSequence, AllocError>
+/// The sequence over rows in the order in which the arcs come to the bits.
+pub fn sequence_of(alloc: Global, flat: &Flat, order: &Order) -> Result<ArcSequence, AllocError>
     requires { IsOrder flat.now.arcs order.now }
-    ensures { IfOk result (λ course. IsCourse (2 * length flat.now.elements + length flat.now.inner) flat.now.arcs order.now course) }
+    ensures { IfOk result (λ sequence. IsSequence (2 * length flat.now.elements + length flat.now.inner) flat.now.arcs order.now sequence) }
 {
     let rows = Rows::along(alloc, flat, order)?;
     ArcSequence::new(alloc, flat, order, rows)
 }
 
-/// What all blocks have in common: a course, how many elements its design has, and whether it is known that no path there is
+/// What all blocks have in common: a sequence, how many elements its design has, and whether it is known that no path there is
 /// too long.
 #[derive(Clone, Copy)]
-pub struct Plan<'a> {
-    pub course: &'a ArcSequence,
+pub(crate) struct Plan<'a> {
+    pub sequence: &'a ArcSequence,
     pub elements: u32,
     pub known_short: bool,
 }
@@ -50,7 +50,7 @@ fn find_each(
     ghost of: { Ordered }
     requires plan { IsPlanOf (length sums.old) of plan.now }
     requires marked { AreMarked sums.old reached.old }
-    requires ready { IsReady (length plan.now.course.now.along.items) awake.old }
+    requires ready { IsReady (length plan.now.sequence.now.along.items) awake.old }
     ensures found { IfOk result (IsFoundBefore of.design (length of.design.elements) 0) }
     ensures few { IfOk result (λ found. found.count ≤ 4000000) }
     ensures short { OnOk result (ArePathsShort of.design) }
@@ -60,13 +60,13 @@ fn find_each(
     let mut first = 0;
     while first < plan.elements {
         let lanes = (plan.elements - first).min(8);
-        let Ok(()) = fill(sums, reached, awake, plan.course, first, lanes as usize) else {
+        let Ok(()) = fill(sums, reached, awake, plan.sequence, first, lanes as usize) else {
             return Err(Stop::OutOfMemory);
         };
         let block = Filled {
             sums,
             reached,
-            rows: &plan.course.rows,
+            rows: &plan.sequence.rows,
             first,
             lanes: lanes as usize,
         };
@@ -81,40 +81,40 @@ fn find_each(
     Ok(found)
 }
 
-/// Finds the pairs of a design along a course of its arcs.
-pub fn find_along(alloc: Global, plan: &Plan) -> Result<Found, Stop>
+/// Finds the pairs of a design along a sequence of its arcs.
+pub(crate) fn find_along(alloc: Global, plan: &Plan) -> Result<Found, Stop>
     ghost of: { Ordered }
-    requires { IsPlanOf (length plan.now.course.now.rows.of_bits.items) of plan.now }
+    requires { IsPlanOf (length plan.now.sequence.now.rows.of_bits.items) of plan.now }
     ensures found { IfOk result (IsFoundBefore of.design (length of.design.elements) 0) }
     ensures few { IfOk result (λ found. found.count ≤ 4000000) }
     ensures short { OnOk result (ArePathsShort of.design) }
     ensures stop { IfErr result (StopsAt (IsPathRange of.design)) }
 {
-    let bits = plan.course.rows.of_bits.len();
+    let bits = plan.sequence.rows.of_bits.len();
     let Ok(mut sums) = SparseRows::new(alloc, bits) else {
         return Err(Stop::OutOfMemory);
     };
     let Ok(mut reached) = vec![in alloc; false; bits] else {
         return Err(Stop::OutOfMemory);
     };
-    let Ok(mut awake) = Worklist::new(alloc, plan.course.along.len()) else {
+    let Ok(mut awake) = Worklist::new(alloc, plan.sequence.along.len()) else {
         return Err(Stop::OutOfMemory);
     };
     find_each(alloc, plan, &mut sums, &mut reached, &mut awake)
 }
 
 /// Finds the pairs from the outputs on.
-pub fn find_forward(
+pub(crate) fn find_forward(
     alloc: Global,
     flat: &Flat,
     order: &Order,
-    course: &ArcSequence,
+    sequence: &ArcSequence,
     known_short: bool,
 ) -> Result<Found, Stop>
     ghost of: { Ordered }
     requires of { of ≡ ordered flat.now order.now }
     requires order { IsOrder flat.now.arcs order.now }
-    requires course { IsCourse (2 * length flat.now.elements + length flat.now.inner) flat.now.arcs order.now course.now }
+    requires sequence { IsSequence (2 * length flat.now.elements + length flat.now.inner) flat.now.arcs order.now sequence.now }
     requires known { OnTrue known_short (ArePathsShort flat.now) }
     ensures found { IfOk result (IsFoundBefore flat.now (length flat.now.elements) 0) }
     ensures few { IfOk result (λ found. found.count ≤ 4000000) }
@@ -123,7 +123,7 @@ pub fn find_forward(
 {
     let elements = flat.elements().len() as u32;
     let plan = Plan {
-        course,
+        sequence,
         elements,
         known_short,
     };

@@ -7,7 +7,7 @@ use mintc_paths_sums::SparseRows;
 
 /// The sums from so many elements, from the first of them on, a lane for each, and the rows that are reached.
 #[derive(Clone, Copy)]
-pub struct Filled<'a> {
+pub(crate) struct Filled<'a> {
     pub sums: &'a SparseRows,
     pub reached: &'a [bool],
     pub rows: &'a Rows,

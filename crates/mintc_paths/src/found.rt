@@ -12,7 +12,7 @@ use std::alloc::Global;
 
 /// The first 200,000 pairs found, and the number of all.
 #[derive(Drop)]
-pub struct Found {
+pub(crate) struct Found {
     pub pairs: Vec<Pair>,
     pub count: u64,
     /// The elements whose inputs are reached in the block at hand, in ascending order.
@@ -28,7 +28,7 @@ impl Found {
     ghost use Rattle.mintc_paths.specs.Reached.{IsPaired, IsPairedLane, AreExtremes};
 
     /// No pairs.
-    pub fn new(alloc: Global) -> Found
+    pub(crate) fn new(alloc: Global) -> Found
         ensures pairs { result.pairs.items ≡ [] }
         ensures count { result.count ≡ 0 }
     {
@@ -40,7 +40,7 @@ impl Found {
     }
 
     /// One more pair.
-    pub fn add(&mut self, pair: Pair) -> Result<(), OutOfMemory>
+    pub(crate) fn add(&mut self, pair: Pair) -> Result<(), OutOfMemory>
         requires { self.old.count < 2 ^ 62 }
         ensures count { OnOk result (self.new.count ≡ self.old.count + 1) }
         ensures pairs { OnOk result (self.old.count < MOST_PAIRS → self.new.pairs.items ≡ self.old.pairs.items ++ pair ∷ []) }
@@ -119,7 +119,7 @@ impl Found {
     }
 
     /// The pairs from a block's elements, of a design with so many.
-    pub fn add_all(&mut self, block: &Filled, elements: u32) -> Result<(), OutOfMemory>
+    pub(crate) fn add_all(&mut self, block: &Filled, elements: u32) -> Result<(), OutOfMemory>
         ghost design: { Design }
         requires elements { elements ≡ length design.elements }
         requires limit { elements ≤ MOST_ELEMENTS }

@@ -5,7 +5,7 @@
 //! longest and the shortest paths of a graph without loops found (the order after A. B. Kahn, "Topological sorting of large
 //! networks", 1962; the pass in T. H. Cormen and others, "Introduction to Algorithms", 2009, section 24.2). Only arcs that
 //! leave rows that are reached are looked at. Where few inputs are entered, sums are carried from there back, through the
-//! design turned round. A path is traced back from its end. A `Finder` does so for many pairs, by sweeps of what lies between
+//! design reversed. A path is traced back from its end. A `Finder` does so for many pairs, by sweeps of what lies between
 //! their elements alone. The crates above get all pairs, or the first path that is too long, and a path with the sum that they
 //! ask for.
 #![tactic(auto)]
@@ -28,16 +28,16 @@ mod listed;
 mod long;
 mod longest;
 mod reached;
+mod reversed;
 mod route;
 mod rows;
 mod successors;
 mod sums;
 mod trace;
-mod turned;
 mod ways;
 mod worklist;
 
-pub use blocks::course_of;
+pub use blocks::sequence_of;
 pub use finder::Finder;
 use found::Found;
 pub use laws::pairs_exist;
@@ -45,11 +45,11 @@ pub use longest::bound_is_within_limit;
 use mintc_text::limits::MOST_PAIRS;
 use mintc_text::{Kind, Numbers, OutOfMemory, Refusal, Stop};
 use mintc_timing::{Flat, Order, Pair, System};
+pub use reversed::{element_order, reversed_sequence};
 use route::best_path;
 pub use rows::{ArcSequence, Rows};
 use std::alloc::Global;
 use trace::Extreme;
-pub use turned::{element_order, turned_course};
 use ways::find;
 pub use ways::is_backward_cheaper;
 pub use worklist::Worklist;

@@ -8,7 +8,7 @@ use mintc_timing::Flat;
 
 /// A path that is asked for: from one element to another, with the greatest or the least sum, which is known, in femtoseconds.
 #[derive(Clone, Copy)]
-pub struct Wanted {
+pub(crate) struct Wanted {
     pub extreme: Extreme,
     pub from: u32,
     pub to: u32,
@@ -16,7 +16,7 @@ pub struct Wanted {
 }
 
 /// Whether the arcs are a path that is asked for.
-pub fn is_listed_with(flat: &Flat, path: &[u32], wanted: Wanted) -> bool
+pub(crate) fn is_listed_with(flat: &Flat, path: &[u32], wanted: Wanted) -> bool
     ensures { OnTrue result (IsListedWith wanted.extreme flat.now.arcs wanted.from wanted.to wanted.delay path.now) }
 {
     let arcs = flat.arcs();

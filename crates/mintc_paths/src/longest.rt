@@ -4,7 +4,7 @@ ghost use Rattle.std.specs.Bool.{OnTrue};
 ghost use Rattle.mintc_timing.specs.Limits.{IsDelay};
 ghost use Rattle.mintc_timing.specs.Order.{IsOrder, ArePathsShort};
 ghost use Rattle.mintc_paths.specs.Longest.{bit_sum, bit_sums, AreCarried, AreRunsShort};
-ghost use Rattle.mintc_paths.specs.Sums.{IsCourse};
+ghost use Rattle.mintc_paths.specs.Sums.{IsSequence};
 
 use crate::rows::ArcSequence;
 use mintc_text::limits::MOST_DELAY;
@@ -30,16 +30,16 @@ fn raise(sums: &mut [i64], arc: TimingArc)
 }
 
 /// Makes the sums, which are 0 in each row, the greatest along arcs that end there, wherever they begin, in femtoseconds.
-fn raise_all(sums: &mut [i64], flat: &Flat, order: &Order, course: &ArcSequence)
+fn raise_all(sums: &mut [i64], flat: &Flat, order: &Order, sequence: &ArcSequence)
     requires order { IsOrder flat.now.arcs order.now }
     requires bits { length sums.old ≡ 2 * length flat.now.elements + length flat.now.inner }
-    requires course { IsCourse (length sums.old) flat.now.arcs order.now course.now }
-    requires none { AreCarried flat.now.arcs order.now 0 (bit_sums course.now.rows.of_bits.items sums.old) }
-    ensures { AreCarried flat.now.arcs order.now (length order.now) (bit_sums course.now.rows.of_bits.items sums.new) }
+    requires sequence { IsSequence (length sums.old) flat.now.arcs order.now sequence.now }
+    requires none { AreCarried flat.now.arcs order.now 0 (bit_sums sequence.now.rows.of_bits.items sums.old) }
+    ensures { AreCarried flat.now.arcs order.now (length order.now) (bit_sums sequence.now.rows.of_bits.items sums.new) }
 {
     let _elements = flat.elements();
-    for place in 0..course.along.len() {
-        raise(sums, course.along[place]);
+    for place in 0..sequence.along.len() {
+        raise(sums, sequence.along[place]);
     }
 }
 
@@ -57,18 +57,18 @@ fn are_within(sums: &[i64]) -> bool
 
 /// Whether no arcs in a row have a sum above the limit, wherever they begin.
 #[tactic(auto, using(crate::proofs::Raising::AreCarried_no_rows))]
-pub fn runs_are_within_limit(
+pub(crate) fn runs_are_within_limit(
     alloc: Global,
     flat: &Flat,
     order: &Order,
-    course: &ArcSequence,
+    sequence: &ArcSequence,
 ) -> Result<bool, AllocError>
     requires order { IsOrder flat.now.arcs order.now }
-    requires course { IsCourse (2 * length flat.now.elements + length flat.now.inner) flat.now.arcs order.now course.now }
+    requires sequence { IsSequence (2 * length flat.now.elements + length flat.now.inner) flat.now.arcs order.now sequence.now }
     ensures { IfOk result (λ short. OnTrue short (AreRunsShort flat.now.arcs)) }
 {
-    let mut sums = vec![in alloc; 0; course.rows.of_bits.len()]?;
-    raise_all(&mut sums, flat, order, course);
+    let mut sums = vec![in alloc; 0; sequence.rows.of_bits.len()]?;
+    raise_all(&mut sums, flat, order, sequence);
     Ok(are_within(&sums))
 }
 
@@ -77,11 +77,11 @@ pub fn bound_is_within_limit(
     alloc: Global,
     flat: &Flat,
     order: &Order,
-    course: &ArcSequence,
+    sequence: &ArcSequence,
 ) -> Result<bool, AllocError>
     requires order { IsOrder flat.now.arcs order.now }
-    requires course { IsCourse (2 * length flat.now.elements + length flat.now.inner) flat.now.arcs order.now course.now }
+    requires sequence { IsSequence (2 * length flat.now.elements + length flat.now.inner) flat.now.arcs order.now sequence.now }
     ensures { IfOk result (λ short. OnTrue short (ArePathsShort flat.now)) }
 {
-    runs_are_within_limit(alloc, flat, order, course)
+    runs_are_within_limit(alloc, flat, order, sequence)
 }

@@ -3,7 +3,7 @@ ghost use Rattle.std.specs.Prelude.{◌≡◌, ◌<◌, ℕ, ◌+◌, ◌*◌, l
 ghost use Rattle.mintc_timing.specs.Order.{IsOrder};
 ghost use Rattle.mintc_paths_sums.specs.Placed.{row_of};
 ghost use Rattle.mintc_paths.specs.Ordered.{Ordered, ordered};
-ghost use Rattle.mintc_paths.specs.Sums.{IsCourse};
+ghost use Rattle.mintc_paths.specs.Sums.{IsSequence};
 ghost use Rattle.mintc_paths.specs.Trace.{IsPairOf, IsOfPair};
 
 use crate::rows::{ArcSequence, Rows};
@@ -15,11 +15,11 @@ use mintc_text::{Numbers, OutOfMemory};
 use mintc_timing::{Flat, Order, System};
 use std::alloc::{AllocError, Global};
 
-/// The course over rows of the bits' own numbers.
-fn plain_course(alloc: Global, flat: &Flat, order: &Order) -> Result<ArcSequence, AllocError>
+/// The sequence over rows of the bits' own numbers.
+fn plain_sequence(alloc: Global, flat: &Flat, order: &Order) -> Result<ArcSequence, AllocError>
     requires { IsOrder flat.now.arcs order.now }
-    ensures course { IfOk result (λ course. IsCourse (2 * length flat.now.elements + length flat.now.inner) flat.now.arcs order.now course) }
-    ensures own { IfOk result (λ course. (bit : ℕ) → bit < 2 * length flat.now.elements + length flat.now.inner → row_of course.rows.of_bits.items bit ≡ bit) }
+    ensures sequence { IfOk result (λ sequence. IsSequence (2 * length flat.now.elements + length flat.now.inner) flat.now.arcs order.now sequence) }
+    ensures own { IfOk result (λ sequence. (bit : ℕ) → bit < 2 * length flat.now.elements + length flat.now.inner → row_of sequence.rows.of_bits.items bit ≡ bit) }
 {
     let bits = 2 * flat.elements().len() + flat.inner().items().len();
     let rows = Rows::plain(alloc, bits)?;
@@ -27,7 +27,7 @@ fn plain_course(alloc: Global, flat: &Flat, order: &Order) -> Result<ArcSequence
 }
 
 /// The arcs of a listed path from one element to another with the greatest or the least sum.
-pub fn best_path(
+pub(crate) fn best_path(
     alloc: Global,
     extreme: Extreme,
     system: &System,
@@ -47,13 +47,13 @@ pub fn best_path(
     let Ok(mut reached) = vec![in alloc; false; bits] else {
         return Err(OutOfMemory);
     };
-    let Ok(course) = plain_course(alloc, flat, order) else {
+    let Ok(sequence) = plain_sequence(alloc, flat, order) else {
         return Err(OutOfMemory);
     };
-    let Ok(mut awake) = Worklist::new(alloc, course.along.len()) else {
+    let Ok(mut awake) = Worklist::new(alloc, sequence.along.len()) else {
         return Err(OutOfMemory);
     };
-    let Ok(()) = fill(&mut sums, &mut reached, &mut awake, &course, from, 1) else {
+    let Ok(()) = fill(&mut sums, &mut reached, &mut awake, &sequence, from, 1) else {
         return Err(OutOfMemory);
     };
     match trace(alloc, extreme, flat, order, &sums, 2 * to) {

@@ -3,7 +3,7 @@
 ghost use Rattle.std.specs.Prelude.{◌≡◌, ◌+◌, ◌*◌, ◌<◌, ◌^◌, ℕ, length, IfOk};
 ghost use Rattle.mintc_timing.specs.Order.{IsOrder};
 ghost use Rattle.mintc_paths_sums.specs.Placed.{row_of};
-ghost use Rattle.mintc_paths.specs.Sums.{AreRows, IsCourse};
+ghost use Rattle.mintc_paths.specs.Sums.{AreRows, IsSequence};
 
 use mintc_order::Leaving;
 use mintc_timing::{Flat, Order, TimingArc};
@@ -90,7 +90,7 @@ pub struct ArcSequence {
 }
 
 impl ArcSequence {
-    /// The course over these rows.
+    /// The sequence over these rows.
     #[tactic(auto, using(mintc_timing::proofs::SharedOrdered::inside, crate::proofs::Filling::arc_inside))]
     pub fn new(
         alloc: Global,
@@ -100,8 +100,8 @@ impl ArcSequence {
     ) -> Result<ArcSequence, AllocError>
         requires order { IsOrder flat.now.arcs order.now }
         requires rows { AreRows (2 * length flat.now.elements + length flat.now.inner) rows }
-        ensures course { IfOk result (λ course. IsCourse (2 * length flat.now.elements + length flat.now.inner) flat.now.arcs order.now course) }
-        ensures rows { IfOk result (λ course. course.rows ≡ rows) }
+        ensures sequence { IfOk result (λ sequence. IsSequence (2 * length flat.now.elements + length flat.now.inner) flat.now.arcs order.now sequence) }
+        ensures rows { IfOk result (λ sequence. sequence.rows ≡ rows) }
     {
         let arcs = flat.arcs();
         let numbers = order.arcs().items();

@@ -7,7 +7,7 @@ ghost use Rattle.mintc_timing.specs.declared.parts.TimingArc.{TimingArc};
 ghost use Rattle.mintc_paths_sums.specs.Sums.{sums_at, IsBounded, IsAlike};
 ghost use Rattle.mintc_paths_sums.specs.Placed.{placed};
 ghost use Rattle.mintc_paths.specs.Worklist.{IsReady, IsAwake};
-ghost use Rattle.mintc_paths.specs.Ordered.{Ordered, IsCourseOf};
+ghost use Rattle.mintc_paths.specs.Ordered.{Ordered, IsSequenceOf};
 ghost use Rattle.mintc_paths.specs.Reached.{AreExtremes};
 ghost use Rattle.mintc_paths.specs.Leaving.{AreLeaving};
 ghost use Rattle.mintc_paths.specs.Sums.{AreRows, AreBegun, AreMarked, AreSums};
@@ -35,26 +35,26 @@ fn clear(
     sums: &mut SparseRows,
     reached: &mut [bool],
     awake: &mut Worklist,
-    course: &ArcSequence,
+    sequence: &ArcSequence,
     first: u32,
     lanes: usize,
 ) -> Result<(), AllocError>
     requires lanes { lanes ≤ 8 }
     requires outputs { 2 * (first + lanes) ≤ length sums.old }
-    requires rows { AreRows (length sums.old) course.now.rows }
-    requires leaving { AreLeaving course.now.along.items (length sums.old) course.now.leaving }
+    requires rows { AreRows (length sums.old) sequence.now.rows }
+    requires leaving { AreLeaving sequence.now.along.items (length sums.old) sequence.now.leaving }
     requires marked { AreMarked sums.old reached.old }
-    requires ready { IsReady (length course.now.along.items) awake.old }
+    requires ready { IsReady (length sequence.now.along.items) awake.old }
     ensures count { length sums.new ≡ length sums.old }
-    ensures begun { OnOk result ((arcs : List TimingArc) (order : List ℕ) → AreBegun arcs order first lanes (placed course.now.rows.of_bits.items sums.new)) }
+    ensures begun { OnOk result ((arcs : List TimingArc) (order : List ℕ) → AreBegun arcs order first lanes (placed sequence.now.rows.of_bits.items sums.new)) }
     ensures marked { OnOk result (AreMarked sums.new reached.new) }
-    ensures awake { OnOk result (IsAwake course.now.along.items 0 reached.new awake.new) }
+    ensures awake { OnOk result (IsAwake sequence.now.along.items 0 reached.new awake.new) }
 {
     wipe(sums, reached);
     for lane in 0..lanes {
-        let row = course.rows.of_bits[2 * (first as usize + lane) + 1];
+        let row = sequence.rows.of_bits[2 * (first as usize + lane) + 1];
         sums.begin(row, lane)?;
-        awake.reach(reached, course, row);
+        awake.reach(reached, sequence, row);
     }
     Ok(())
 }
@@ -64,7 +64,7 @@ fn carry(
     sums: &mut SparseRows,
     reached: &mut [bool],
     awake: &mut Worklist,
-    course: &ArcSequence,
+    sequence: &ArcSequence,
     arc: TimingArc,
 ) -> Result<(), AllocError>
     requires from { arc.from < length sums.old }
@@ -76,19 +76,19 @@ fn carry(
     requires to_bounded { IsBounded 1000000000000000 (sums_at sums.old arc.to) }
     requires alike { IsAlike (sums_at sums.old arc.from) }
     requires marked { AreMarked sums.old reached.old }
-    requires leaving { AreLeaving course.now.along.items (length sums.old) course.now.leaving }
-    requires ready { IsReady (length course.now.along.items) awake.old }
+    requires leaving { AreLeaving sequence.now.along.items (length sums.old) sequence.now.leaving }
+    requires ready { IsReady (length sequence.now.along.items) awake.old }
     ensures count { length sums.new ≡ length sums.old }
     ensures marked { OnOk result (AreMarked sums.new reached.new) }
-    ensures awake { OnOk result ((place : ℕ) → IsAwake course.now.along.items place reached.old awake.old
-        → IsAwake course.now.along.items place reached.new awake.new) }
+    ensures awake { OnOk result ((place : ℕ) → IsAwake sequence.now.along.items place reached.old awake.old
+        → IsAwake sequence.now.along.items place reached.new awake.new) }
     ensures others { (bit : ℕ) → bit ≢ arc.to → sums_at sums.new bit ≡ sums_at sums.old bit }
     ensures greatest { OnOk result (AreJoined int_max (sums_at sums.old arc.to).greatest (sums_at sums.old arc.from).greatest arc.max (sums_at sums.new arc.to).greatest) }
     ensures least { OnOk result (AreJoined int_min (sums_at sums.old arc.to).least (sums_at sums.old arc.from).least arc.min (sums_at sums.new arc.to).least) }
     ensures bounded { OnOk result ((most : ℕ) → IsBounded most (sums_at sums.old arc.from) → IsBounded most (sums_at sums.old arc.to) → IsBounded (most + 1000000000) (sums_at sums.new arc.to)) }
 {
     if reached[arc.from as usize] {
-        awake.reach(reached, course, arc.to);
+        awake.reach(reached, sequence, arc.to);
         sums.join(arc)?;
     }
     Ok(())
@@ -96,32 +96,32 @@ fn carry(
 
 /// Makes the sums those of the listed paths, and of the empty ones, from up to eight elements from `first` on. A row
 /// without sums isn't marked as reached. Only the arcs that leave rows that are reached are looked at.
-pub fn fill(
+pub(crate) fn fill(
     sums: &mut SparseRows,
     reached: &mut [bool],
     awake: &mut Worklist,
-    course: &ArcSequence,
+    sequence: &ArcSequence,
     first: u32,
     lanes: usize,
 ) -> Result<(), AllocError>
     ghost of: { Ordered }
-    requires course { IsCourseOf (length sums.old) of course.now }
+    requires sequence { IsSequenceOf (length sums.old) of sequence.now }
     requires lanes { lanes ≤ 8 }
     requires elements { first + lanes ≤ length of.design.elements }
     requires marked { AreMarked sums.old reached.old }
-    requires ready { IsReady (length course.now.along.items) awake.old }
+    requires ready { IsReady (length sequence.now.along.items) awake.old }
     ensures count { length sums.new ≡ length sums.old }
     ensures marked { OnOk result (AreMarked sums.new reached.new) }
-    ensures ready { OnOk result (IsReady (length course.now.along.items) awake.new) }
-    ensures sums { OnOk result (AreSums of.design.arcs of.order (length of.order) first lanes (placed course.now.rows.of_bits.items sums.new)) }
-    ensures extremes { OnOk result (AreExtremes of.design first lanes (placed course.now.rows.of_bits.items sums.new)) }
+    ensures ready { OnOk result (IsReady (length sequence.now.along.items) awake.new) }
+    ensures sums { OnOk result (AreSums of.design.arcs of.order (length of.order) first lanes (placed sequence.now.rows.of_bits.items sums.new)) }
+    ensures extremes { OnOk result (AreExtremes of.design first lanes (placed sequence.now.rows.of_bits.items sums.new)) }
 {
-    clear(sums, reached, awake, course, first, lanes)?;
+    clear(sums, reached, awake, sequence, first, lanes)?;
     let mut place = awake.places.next(0);
-    while place < course.along.len() {
+    while place < sequence.along.len() {
         awake.places.remove(place);
-        let arc = course.along[place];
-        carry(sums, reached, awake, course, arc)?;
+        let arc = sequence.along[place];
+        carry(sums, reached, awake, sequence, arc)?;
         place = awake.places.next(place + 1);
     }
     Ok(())

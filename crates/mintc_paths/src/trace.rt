@@ -29,7 +29,7 @@ fn sum_at(extreme: Extreme, sums: &Sums) -> Option<i64>
 }
 
 /// The arc's delay.
-pub fn delay_at(extreme: Extreme, arc: &TimingArc) -> i64
+pub(crate) fn delay_at(extreme: Extreme, arc: &TimingArc) -> i64
     ensures { result ≡ delay_of extreme arc.now }
 {
     match extreme {
@@ -61,7 +61,7 @@ fn is_last(extreme: Extreme, sums: &SparseRows, arc: &TimingArc, bit: u32) -> bo
 
 /// The arcs of a path to a bit with the best sum.
 #[tactic(auto, using(mintc_timing::proofs::SharedOrdered::inside))]
-pub fn trace(
+pub(crate) fn trace(
     alloc: Global,
     extreme: Extreme,
     flat: &Flat,

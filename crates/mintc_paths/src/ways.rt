@@ -6,7 +6,7 @@ ghost use Rattle.mintc_paths.specs.Found.{IsFoundBefore};
 ghost use Rattle.mintc_paths.specs.Refusals.{IsPathRange};
 
 use crate::back::find_backward;
-use crate::blocks::{course_of, find_forward};
+use crate::blocks::{find_forward, sequence_of};
 use crate::found::Found;
 use crate::longest::runs_are_within_limit;
 use mintc_text::Stop;
@@ -42,26 +42,26 @@ pub fn is_backward_cheaper(alloc: Global, flat: &Flat) -> Result<bool, AllocErro
 }
 
 /// Finds the design's pairs. Where no path can be too long and few inputs are entered, sums are carried from there.
-pub fn find(alloc: Global, flat: &Flat, order: &Order) -> Result<Found, Stop>
+pub(crate) fn find(alloc: Global, flat: &Flat, order: &Order) -> Result<Found, Stop>
     requires { IsOrder flat.now.arcs order.now }
     ensures found { IfOk result (IsFoundBefore flat.now (length flat.now.elements) 0) }
     ensures few { IfOk result (λ found. found.count ≤ 4000000) }
     ensures short { OnOk result (ArePathsShort flat.now) }
     ensures stop { IfErr result (StopsAt (IsPathRange flat.now)) }
 {
-    let Ok(course) = course_of(alloc, flat, order) else {
+    let Ok(sequence) = sequence_of(alloc, flat, order) else {
         return Err(Stop::OutOfMemory);
     };
-    let Ok(known_short) = runs_are_within_limit(alloc, flat, order, &course) else {
+    let Ok(known_short) = runs_are_within_limit(alloc, flat, order, &sequence) else {
         return Err(Stop::OutOfMemory);
     };
     let Ok(few) = is_backward_cheaper(alloc, flat) else {
         return Err(Stop::OutOfMemory);
     };
     if !known_short || !few {
-        return find_forward(alloc, flat, order, &course, known_short);
+        return find_forward(alloc, flat, order, &sequence, known_short);
     }
-    match find_backward(alloc, flat, order, course) {
+    match find_backward(alloc, flat, order, sequence) {
         Ok(found) => Ok(found),
         Err(_) => Err(Stop::OutOfMemory),
     }

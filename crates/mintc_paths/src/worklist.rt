@@ -1,5 +1,5 @@
 //! The arcs that leave the rows that are reached, so that no others are looked at. They stand in a set of their places along a
-//! course.
+//! sequence.
 ghost use Rattle.std.specs.Prelude.{◌≡◌, ◌<◌, ◌≤◌, ◌^◌, ℕ, true, length, slice_set, IfOk};
 ghost use Rattle.mintc_paths.specs.Worklist.{IsReady, IsAwake};
 ghost use Rattle.mintc_bitset.specs.BitSet.{IsIn, room};
@@ -10,7 +10,7 @@ use crate::rows::ArcSequence;
 use mintc_bitset::BitSet;
 use std::alloc::{AllocError, Global};
 
-/// The arcs along a course that are awake.
+/// The arcs along a sequence that are awake.
 #[derive(Drop)]
 pub struct Worklist {
     /// The places of the arcs that leave rows which are reached and are still to come.
@@ -19,19 +19,19 @@ pub struct Worklist {
 
 /// Takes in the arcs that leave a row.
 #[inline(never)]
-fn wake(places: &mut BitSet, course: &ArcSequence, row: usize)
-    requires room { length course.now.along.items ≤ room places.old.words.items }
-    requires row { row < length course.now.leaving.lasts.items }
-    requires leaving { AreLeaving course.now.along.items (length course.now.leaving.lasts.items) course.now.leaving }
+fn wake(places: &mut BitSet, sequence: &ArcSequence, row: usize)
+    requires room { length sequence.now.along.items ≤ room places.old.words.items }
+    requires row { row < length sequence.now.leaving.lasts.items }
+    requires leaving { AreLeaving sequence.now.along.items (length sequence.now.leaving.lasts.items) sequence.now.leaving }
     ensures count { length places.new.words.items ≡ length places.old.words.items }
     ensures kept { (place : ℕ) → IsIn places.old.words.items place → IsIn places.new.words.items place }
-    ensures awake { (place : ℕ) → place < length course.now.along.items → (arc_at course.now.along.items place).from ≡ row → IsIn places.new.words.items place }
+    ensures awake { (place : ℕ) → place < length sequence.now.along.items → (arc_at sequence.now.along.items place).from ≡ row → IsIn places.new.words.items place }
 {
-    let mut next = course.leaving.lasts[row];
+    let mut next = sequence.leaving.lasts[row];
     while next > 0 {
         let place = next as usize - 1;
         places.insert(place);
-        next = course.leaving.nexts[place];
+        next = sequence.leaving.nexts[place];
     }
 }
 
@@ -47,18 +47,18 @@ impl Worklist {
 
     /// Marks a row as reached, and wakes the arcs that leave it.
     #[inline(always)]
-    pub fn reach(&mut self, reached: &mut [bool], course: &ArcSequence, row: u32)
+    pub fn reach(&mut self, reached: &mut [bool], sequence: &ArcSequence, row: u32)
         requires row { row < length reached.old }
-        requires leaving { AreLeaving course.now.along.items (length reached.old) course.now.leaving }
-        requires ready { IsReady (length course.now.along.items) self.old }
+        requires leaving { AreLeaving sequence.now.along.items (length reached.old) sequence.now.leaving }
+        requires ready { IsReady (length sequence.now.along.items) self.old }
         ensures reached { reached.new ≡ slice_set reached.old row true }
-        ensures awake { (place : ℕ) → IsAwake course.now.along.items place reached.old self.old
-            → IsAwake course.now.along.items place reached.new self.new }
+        ensures awake { (place : ℕ) → IsAwake sequence.now.along.items place reached.old self.old
+            → IsAwake sequence.now.along.items place reached.new self.new }
     {
         let at = row as usize;
         if !reached[at] {
             reached[at] = true;
-            wake(&mut self.places, course, at);
+            wake(&mut self.places, sequence, at);
         }
     }
 }

@@ -11,10 +11,10 @@ use Rattle.mintc_paths_count.specs.Count.{AreEndsOf, IsCountBefore, IsPairMark}
 use Rattle.mintc_paths_count.specs.declared.marks.Marks.{Marks}
 use Rattle.mintc_paths_count.specs.Marks.{AreMarksAlong, mark_in, marks_at}
 use Rattle.mintc_paths.specs.Sums.{LeadsBack}
-use Rattle.mintc_paths.specs.Turned.{turned_design}
+use Rattle.mintc_paths.specs.Reversed.{reversed_design}
 use Rattle.mintc_paths.proofs.SharedExisting.{pairs_exist_lem}
 use Rattle.mintc_paths.proofs.SharedFinding.{ArePairsBefore-next, ArePairsBefore-push, ArePairsBefore-skip}
-use Rattle.mintc_paths.proofs.SharedTurnedPairs.{ArePairsBefore-back}
+use Rattle.mintc_paths.proofs.SharedReversedPairs.{ArePairsBefore-back}
 use Rattle.mintc_paths_count.proofs.Leading.{mark_is}
 
 module _ (design : Design) (from to count : ℕ) (h : IsCountBefore design from to count) where
@@ -70,9 +70,9 @@ module _ (design : Design) (order : List ℕ) (is_order : IsOrder design.arcs or
 pub IsCountBefore-next : (design : Design) (from count : ℕ) → length design.elements ≤ 2000 → IsCountBefore design from (length design.elements) count → IsCountBefore design (from + 1) 0 count
 IsCountBefore-next design from count limit h = record { pairs = h.pairs; are_pairs = ArePairsBefore-next design from h.pairs h.are_pairs; is_count = h.is_count; few = omega arith }
 
--- the pairs of the design turned round are as many as the design's
+-- the pairs of the design reversed are as many as the design's
 pub IsCountBefore_back : (design : Design) → IsDesign design → (places elements : List ℕ) → LeadsBack (length design.elements) places elements → LeadsBack (length design.elements) elements places →
-    (count : ℕ) → IsCountBefore (turned_design places design) (length design.elements) 0 count → IsCountBefore design (length design.elements) 0 count
+    (count : ℕ) → IsCountBefore (reversed_design places design) (length design.elements) 0 count → IsCountBefore design (length design.elements) 0 count
 IsCountBefore_back design kept places elements there back count h =
-    let turned = ArePairsBefore-back design kept places elements there back h.pairs h.are_pairs in
-    record { pairs = turned.0; are_pairs = turned.1; is_count = turned.2 ∙ h.is_count; few = h.few }
+    let reversed = ArePairsBefore-back design kept places elements there back h.pairs h.are_pairs in
+    record { pairs = reversed.0; are_pairs = reversed.1; is_count = reversed.2 ∙ h.is_count; few = h.few }

@@ -15,7 +15,7 @@ use Rattle.mintc_paths_count.specs.declared.marks.Marks.{Marks}
 use Rattle.mintc_paths_count.specs.declared.marks.TheConstants.{NO_MARKS}
 use Rattle.mintc_paths.specs.declared.rows.ArcSequence.{ArcSequence}
 use Rattle.mintc_paths_count.specs.Marks.{marks_at, mark_in, IsMarkOf, AreMarksAlong, AreMarksBegun, AreMarksReached}
-use Rattle.mintc_paths.specs.Sums.{LeadsBack, IsCourse}
+use Rattle.mintc_paths.specs.Sums.{LeadsBack, IsSequence}
 use Rattle.mintc_paths_count.proofs.Leading.{AreCarriedMarks, AreMarksAlong-more, IsMarkOf-same, rows_apart}
 use Rattle.mintc_paths.proofs.SharedClimbing.{climb}
 use Rattle.mintc_paths.proofs.SharedPassing.{from_in, to_in, row_in, not_on}
@@ -80,28 +80,28 @@ carried_none arc marks none = record {
   joined = λ lane low. omega (arith, none_in (marks_at marks arc.from) lane low none);
 }
 
-module _ (design : Design) (order : List ℕ) (is_order : IsOrder design.arcs order) (kept : IsDesign design) (course : ArcSequence) (n : ℕ) (is_course : IsCourse n design.arcs order course)
+module _ (design : Design) (order : List ℕ) (is_order : IsOrder design.arcs order) (kept : IsDesign design) (sequence : ArcSequence) (n : ℕ) (is_sequence : IsSequence n design.arcs order sequence)
     (bits : n ≡ 2 * length design.elements + length design.inner) (first lanes : ℕ) (few : lanes ≤ 256) where
   -- the marks along so many arcs
   abbrev pub Along : ℕ → List Marks → Type 0
-  Along k marks = AreMarksAlong n design.arcs order k course.rows.of_bits.items first lanes marks
+  Along k marks = AreMarksAlong n design.arcs order k sequence.rows.of_bits.items first lanes marks
 
   -- one more arc is carried along
-  pub marked_along : (k : ℕ) → k < length order → (old new : List Marks) → AreCarriedMarks (arc_at course.along.items k) old new → Along k old → Along (k + 1) new
+  pub marked_along : (k : ℕ) → k < length order → (old new : List Marks) → AreCarriedMarks (arc_at sequence.along.items k) old new → Along k old → Along (k + 1) new
   marked_along k low old new carried before =
-      AreMarksAlong-more n design.arcs order is_order course.rows.of_bits.items course.rows.bits.items is_course.rows.of_bits k first lanes few low
-      (from_in design order is_order kept course n is_course bits k low) (to_in design order is_order kept course n is_course bits k low)
-      old new (subst (λ (arc : TimingArc). AreCarriedMarks arc old new) (is_course.along.each k low) carried) before
+      AreMarksAlong-more n design.arcs order is_order sequence.rows.of_bits.items sequence.rows.bits.items is_sequence.rows.of_bits k first lanes few low
+      (from_in design order is_order kept sequence n is_sequence bits k low) (to_in design order is_order kept sequence n is_sequence bits k low)
+      old new (subst (λ (arc : TimingArc). AreCarriedMarks arc old new) (is_sequence.along.each k low) carried) before
 
   module _ (marks : List Marks) (count : length marks ≡ n) (reached : List Bool) (marked : AreMarksReached marks reached) where
     -- Where none is awake from one place on and before the next, no arc there leaves a row that is reached.
-    pub unmarked_next : (awake : Worklist) (k next : ℕ) → k ≤ next → k ≤ length order → IsAwake course.along.items k reached awake →
+    pub unmarked_next : (awake : Worklist) (k next : ℕ) → k ≤ next → k ≤ length order → IsAwake sequence.along.items k reached awake →
         ((other : ℕ) → k ≤ other → other < next → IsIn awake.places.words.items other → ⊥) → Along k marks → Along (min next (length order)) marks
     unmarked_next awake k next low high is_awake none h = climb (λ x. Along x marks) k (min next (length order)) (omega arith) step h
       where
         step : (i : ℕ) → k ≤ i → i < min next (length order) → Along i marks → Along (i + 1) marks
         step i from below =
-            let left : ℕ = (arc_at course.along.items i).from in
-            let inside = row_in design order is_order kept course n is_course bits i (omega arith) in
+            let left : ℕ = (arc_at sequence.along.items i).from in
+            let inside = row_in design order is_order kept sequence n is_sequence bits i (omega arith) in
             let off = not_on (get_or reached left false) (λ on. none i from (omega arith) (is_awake.each i from (omega arith) on)) in
-            marked_along i (omega arith) marks marks (carried_none (arc_at course.along.items i) marks (marked.none left (omega arith) off))
+            marked_along i (omega arith) marks marks (carried_none (arc_at sequence.along.items i) marks (marked.none left (omega arith) off))

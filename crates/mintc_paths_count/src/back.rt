@@ -3,47 +3,47 @@ ghost use Rattle.std.specs.Prelude.{◌≡◌, ◌+◌, ◌*◌, length, reverse
 ghost use Rattle.mintc_timing.specs.Order.{IsOrder};
 ghost use Rattle.mintc_paths_count.specs.Count.{IsCountBefore};
 ghost use Rattle.mintc_paths.specs.Ordered.{Ordered, ordered};
-ghost use Rattle.mintc_paths.specs.Sums.{AreRows, IsCourse};
-ghost use Rattle.mintc_paths.specs.Turned.{turned_design, turned_arcs};
+ghost use Rattle.mintc_paths.specs.Sums.{AreRows, IsSequence};
+ghost use Rattle.mintc_paths.specs.Reversed.{reversed_design, reversed_arcs};
 
 use crate::count::count_along;
-use mintc_paths::{ArcSequence, Rows, element_order, turned_course};
+use mintc_paths::{ArcSequence, Rows, element_order, reversed_sequence};
 use mintc_timing::{Flat, Order};
 use std::alloc::{AllocError, Global};
 
-/// The number of all pairs of the design turned round.
-fn count_turned(
+/// The number of all pairs of the design reversed.
+fn count_reversed(
     alloc: Global,
     flat: &Flat,
     order: &Order,
-    course: &ArcSequence,
+    sequence: &ArcSequence,
     places: &Rows,
 ) -> Result<u64, AllocError>
     ghost of: { Ordered }
-    requires of { of ≡ ordered (turned_design places.now.of_bits.items flat.now) (reverse order.now) }
+    requires of { of ≡ ordered (reversed_design places.now.of_bits.items flat.now) (reverse order.now) }
     requires order { IsOrder flat.now.arcs order.now }
-    requires course { IsCourse (2 * length flat.now.elements + length flat.now.inner) (turned_arcs (length flat.now.elements) places.now.of_bits.items flat.now.arcs) (reverse order.now) course.now }
+    requires sequence { IsSequence (2 * length flat.now.elements + length flat.now.inner) (reversed_arcs (length flat.now.elements) places.now.of_bits.items flat.now.arcs) (reverse order.now) sequence.now }
     requires places { AreRows (length flat.now.elements) places.now }
-    ensures { IfOk result (IsCountBefore (turned_design places.now.of_bits.items flat.now) (length flat.now.elements) 0) }
+    ensures { IfOk result (IsCountBefore (reversed_design places.now.of_bits.items flat.now) (length flat.now.elements) 0) }
 {
     let elements = flat.elements().len() as u32;
-    count_along(alloc, course, elements)
+    count_along(alloc, sequence, elements)
 }
 
 /// The number of all pairs, from the inputs back.
 #[tactic(auto, using(crate::proofs::Counting::IsCountBefore_back))]
-pub fn count_back(
+pub(crate) fn count_back(
     alloc: Global,
     flat: &Flat,
     order: &Order,
-    course: ArcSequence,
+    sequence: ArcSequence,
 ) -> Result<u64, AllocError>
     requires order { IsOrder flat.now.arcs order.now }
-    requires course { IsCourse (2 * length flat.now.elements + length flat.now.inner) flat.now.arcs order.now course }
+    requires sequence { IsSequence (2 * length flat.now.elements + length flat.now.inner) flat.now.arcs order.now sequence }
     ensures { IfOk result (IsCountBefore flat.now (length flat.now.elements) 0) }
 {
     let elements = flat.elements().len() as u32;
-    let places = element_order(alloc, elements, &course.rows)?;
-    let course = turned_course(alloc, flat, order, course, &places)?;
-    count_turned(alloc, flat, order, &course, &places)
+    let places = element_order(alloc, elements, &sequence.rows)?;
+    let sequence = reversed_sequence(alloc, flat, order, sequence, &places)?;
+    count_reversed(alloc, flat, order, &sequence, &places)
 }

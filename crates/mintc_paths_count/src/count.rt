@@ -7,14 +7,14 @@ ghost use Rattle.mintc_timing.specs.Order.{IsOrder, ArePathsShort};
 ghost use Rattle.mintc_paths.specs.Worklist.{IsReady};
 ghost use Rattle.mintc_paths_count.specs.Count.{AreEndsOf, AreListed, IsCountBefore, IsPairCount};
 ghost use Rattle.mintc_paths_count.specs.Marks.{marks_at, AreMarksReached};
-ghost use Rattle.mintc_paths.specs.Ordered.{Ordered, IsCourseOf, ordered};
+ghost use Rattle.mintc_paths.specs.Ordered.{Ordered, IsSequenceOf, ordered};
 ghost use Rattle.mintc_paths.specs.Refusals.{IsExtremesRefusal};
-ghost use Rattle.mintc_paths.specs.Sums.{IsCourse};
+ghost use Rattle.mintc_paths.specs.Sums.{IsSequence};
 
 use crate::back::count_back;
 use crate::marks::{Marks, NO_MARKS, gather, list_reached, mark_all, mark_of};
 use mintc_paths::{
-    ArcSequence, Worklist, bound_is_within_limit, course_of, extremes, is_backward_cheaper,
+    ArcSequence, Worklist, bound_is_within_limit, extremes, is_backward_cheaper, sequence_of,
 };
 use mintc_text::limits::MOST_PAIRS;
 use mintc_text::{Kind, Refusal, Stop};
@@ -46,17 +46,17 @@ fn count_from(count: u64, ends: &[Marks], listed: &[u32], element: u32, lane: us
 /// The number of all pairs of a design with as many elements as there are ends, which are marked by 256 at a time.
 fn count_each(
     alloc: Global,
-    course: &ArcSequence,
+    sequence: &ArcSequence,
     marks: &mut [Marks],
     reached: &mut [bool],
     awake: &mut Worklist,
     ends: &mut [Marks],
 ) -> Result<u64, AllocError>
     ghost of: { Ordered }
-    requires course { IsCourseOf (length marks.old) of course.now }
+    requires sequence { IsSequenceOf (length marks.old) of sequence.now }
     requires inputs { length ends.old ≡ length of.design.elements }
     requires marked { AreMarksReached marks.old reached.old }
-    requires ready { IsReady (length course.now.along.items) awake.old }
+    requires ready { IsReady (length sequence.now.along.items) awake.old }
     ensures { IfOk result (IsCountBefore of.design (length of.design.elements) 0) }
 {
     let elements = ends.len() as u32;
@@ -65,9 +65,9 @@ fn count_each(
     let mut first = 0;
     while first < elements {
         let lanes = (elements - first).min(256);
-        mark_all(marks, reached, awake, course, first, lanes as usize);
-        gather(ends, marks, &course.rows);
-        list_reached(&mut listed, reached, &course.rows, elements)?;
+        mark_all(marks, reached, awake, sequence, first, lanes as usize);
+        gather(ends, marks, &sequence.rows);
+        list_reached(&mut listed, reached, &sequence.rows, elements)?;
         for lane in 0..lanes {
             count = count_from(count, ends, &listed, first + lane, lane as usize);
         }
@@ -76,21 +76,25 @@ fn count_each(
     Ok(count)
 }
 
-/// The number of all pairs of a design with so many elements, along a course of its arcs.
-pub fn count_along(alloc: Global, course: &ArcSequence, elements: u32) -> Result<u64, AllocError>
+/// The number of all pairs of a design with so many elements, along a sequence of its arcs.
+pub(crate) fn count_along(
+    alloc: Global,
+    sequence: &ArcSequence,
+    elements: u32,
+) -> Result<u64, AllocError>
     ghost of: { Ordered }
-    requires course { IsCourseOf (length course.now.rows.of_bits.items) of course.now }
+    requires sequence { IsSequenceOf (length sequence.now.rows.of_bits.items) of sequence.now }
     requires count { elements ≡ length of.design.elements }
     ensures count { IfOk result (IsCountBefore of.design (length of.design.elements) 0) }
 {
-    let bits = course.rows.of_bits.len();
+    let bits = sequence.rows.of_bits.len();
     let mut marks = vec![in alloc; NO_MARKS; bits]?;
     let mut reached = vec![in alloc; false; bits]?;
-    let mut awake = Worklist::new(alloc, course.along.len())?;
+    let mut awake = Worklist::new(alloc, sequence.along.len())?;
     let mut ends = vec![in alloc; NO_MARKS; elements as usize]?;
     count_each(
         alloc,
-        course,
+        sequence,
         &mut marks,
         &mut reached,
         &mut awake,
@@ -99,20 +103,20 @@ pub fn count_along(alloc: Global, course: &ArcSequence, elements: u32) -> Result
 }
 
 /// The number of all pairs, from the outputs on.
-fn count_forth(
+fn count_forward(
     alloc: Global,
     flat: &Flat,
     order: &Order,
-    course: &ArcSequence,
+    sequence: &ArcSequence,
 ) -> Result<u64, AllocError>
     ghost of: { Ordered }
     requires of { of ≡ ordered flat.now order.now }
     requires order { IsOrder flat.now.arcs order.now }
-    requires course { IsCourse (2 * length flat.now.elements + length flat.now.inner) flat.now.arcs order.now course.now }
+    requires sequence { IsSequence (2 * length flat.now.elements + length flat.now.inner) flat.now.arcs order.now sequence.now }
     ensures { IfOk result (IsCountBefore flat.now (length flat.now.elements) 0) }
 {
     let elements = flat.elements().len() as u32;
-    count_along(alloc, course, elements)
+    count_along(alloc, sequence, elements)
 }
 
 /// The number of all pairs, by the way that has less to carry. Without inner bits that is from the outputs on.
@@ -120,17 +124,17 @@ fn count_all(
     alloc: Global,
     flat: &Flat,
     order: &Order,
-    course: ArcSequence,
+    sequence: ArcSequence,
 ) -> Result<u64, AllocError>
     requires order { IsOrder flat.now.arcs order.now }
-    requires course { IsCourse (2 * length flat.now.elements + length flat.now.inner) flat.now.arcs order.now course }
+    requires sequence { IsSequence (2 * length flat.now.elements + length flat.now.inner) flat.now.arcs order.now sequence }
     ensures count { IfOk result (IsCountBefore flat.now (length flat.now.elements) 0) }
     ensures few { IfOk result (λ count. count ≤ 4000000) }
 {
     if !flat.inner().items().is_empty() && is_backward_cheaper(alloc, flat)? {
-        return count_back(alloc, flat, order, course);
+        return count_back(alloc, flat, order, sequence);
     }
-    count_forth(alloc, flat, order, &course)
+    count_forward(alloc, flat, order, &sequence)
 }
 
 /// The number of the design's pairs, without a list of them. The refusals are those of `extremes`.
@@ -141,17 +145,17 @@ pub fn count_pairs(alloc: Global, flat: &Flat, order: &Order) -> Result<u64, Sto
     ensures short { OnOk result (ArePathsShort flat.now) }
     ensures stop { IfErr result (StopsAt (IsExtremesRefusal flat.now)) }
 {
-    let Ok(course) = course_of(alloc, flat, order) else {
+    let Ok(sequence) = sequence_of(alloc, flat, order) else {
         return Err(Stop::OutOfMemory);
     };
-    let Ok(known_short) = bound_is_within_limit(alloc, flat, order, &course) else {
+    let Ok(known_short) = bound_is_within_limit(alloc, flat, order, &sequence) else {
         return Err(Stop::OutOfMemory);
     };
     if !known_short {
         let pairs = extremes(alloc, flat, order)?;
         return Ok(pairs.len() as u64);
     }
-    let Ok(count) = count_all(alloc, flat, order, course) else {
+    let Ok(count) = count_all(alloc, flat, order, sequence) else {
         return Err(Stop::OutOfMemory);
     };
     if count > MOST_PAIRS as u64 {

@@ -6,7 +6,7 @@ ghost use Rattle.mintc_timing.specs.declared.parts.TimingArc.{TimingArc};
 ghost use Rattle.mintc_paths_sums.specs.Placed.{row_of};
 ghost use Rattle.mintc_paths.specs.Worklist.{IsReady, IsAwake};
 ghost use Rattle.mintc_paths.specs.Leaving.{AreLeaving};
-ghost use Rattle.mintc_paths.specs.Ordered.{Ordered, IsCourseOf};
+ghost use Rattle.mintc_paths.specs.Ordered.{Ordered, IsSequenceOf};
 ghost use Rattle.mintc_paths.specs.Sums.{AreRows};
 ghost use Rattle.mintc_paths_count.specs.Count.{AreListed};
 ghost use Rattle.mintc_paths_count.specs.Marks.{mark_in, marks_at, AreMarksBegun, AreMarksAlong, AreMarksReached};
@@ -17,15 +17,15 @@ use std::alloc::AllocError;
 
 /// The marks of 256 elements, a bit for each.
 #[derive(Clone, Copy)]
-pub struct Marks {
+pub(crate) struct Marks {
     pub words: [u64; 4],
 }
 
 /// The marks where no path leads.
-pub const NO_MARKS: Marks = Marks { words: [0; 4] };
+pub(crate) const NO_MARKS: Marks = Marks { words: [0; 4] };
 
 /// The mark of a lane, 1 where it is set.
-pub fn mark_of(marks: &Marks, lane: usize) -> u64
+pub(crate) fn mark_of(marks: &Marks, lane: usize) -> u64
     requires { lane < 256 }
     ensures { result ≡ mark_in marks.now lane }
 {
@@ -64,31 +64,31 @@ fn begin(
     marks: &mut [Marks],
     reached: &mut [bool],
     awake: &mut Worklist,
-    course: &ArcSequence,
+    sequence: &ArcSequence,
     first: u32,
     lanes: usize,
 )
     requires lanes { lanes ≤ 256 }
     requires outputs { 2 * (first + lanes) ≤ length marks.old }
-    requires rows { AreRows (length marks.old) course.now.rows }
-    requires leaving { AreLeaving course.now.along.items (length marks.old) course.now.leaving }
+    requires rows { AreRows (length marks.old) sequence.now.rows }
+    requires leaving { AreLeaving sequence.now.along.items (length marks.old) sequence.now.leaving }
     requires marked { AreMarksReached marks.old reached.old }
-    requires ready { IsReady (length course.now.along.items) awake.old }
-    ensures begun { AreMarksBegun (length marks.old) course.now.rows.of_bits.items first lanes marks.new }
+    requires ready { IsReady (length sequence.now.along.items) awake.old }
+    ensures begun { AreMarksBegun (length marks.old) sequence.now.rows.of_bits.items first lanes marks.new }
     ensures marked { AreMarksReached marks.new reached.new }
-    ensures awake { IsAwake course.now.along.items 0 reached.new awake.new }
+    ensures awake { IsAwake sequence.now.along.items 0 reached.new awake.new }
 {
     wipe(marks, reached);
     for lane in 0..lanes {
-        let row = course.rows.of_bits[2 * (first as usize + lane) + 1];
+        let row = sequence.rows.of_bits[2 * (first as usize + lane) + 1];
         set(marks, row as usize, lane);
-        awake.reach(reached, course, row);
+        awake.reach(reached, sequence, row);
     }
 }
 
 /// The marks that are set in one of two rows.
 #[tactic(auto, using(std::proofs::lemmas::Nat::Bits::bit_at_or))]
-fn joined(a: &Marks, b: &Marks) -> Marks
+fn union(a: &Marks, b: &Marks) -> Marks
     ensures { (lane : ℕ) → lane < 256 → mark_in result lane ≡ max (mark_in a.now lane) (mark_in b.now lane) }
 {
     Marks {
@@ -106,60 +106,60 @@ fn carry(
     marks: &mut [Marks],
     reached: &mut [bool],
     awake: &mut Worklist,
-    course: &ArcSequence,
+    sequence: &ArcSequence,
     arc: TimingArc,
 )
     requires from { arc.from < length marks.old }
     requires to { arc.to < length marks.old }
     requires marked { AreMarksReached marks.old reached.old }
-    requires leaving { AreLeaving course.now.along.items (length marks.old) course.now.leaving }
-    requires ready { IsReady (length course.now.along.items) awake.old }
+    requires leaving { AreLeaving sequence.now.along.items (length marks.old) sequence.now.leaving }
+    requires ready { IsReady (length sequence.now.along.items) awake.old }
     ensures marked { AreMarksReached marks.new reached.new }
-    ensures awake { (place : ℕ) → IsAwake course.now.along.items place reached.old awake.old
-        → IsAwake course.now.along.items place reached.new awake.new }
+    ensures awake { (place : ℕ) → IsAwake sequence.now.along.items place reached.old awake.old
+        → IsAwake sequence.now.along.items place reached.new awake.new }
     ensures others { (row : ℕ) → row ≢ arc.to → marks_at marks.new row ≡ marks_at marks.old row }
     ensures joined { (lane : ℕ) → lane < 256
         → mark_in (marks_at marks.new arc.to) lane ≡ max (mark_in (marks_at marks.old arc.to) lane) (mark_in (marks_at marks.old arc.from) lane) }
 {
     if reached[arc.from as usize] {
-        awake.reach(reached, course, arc.to);
+        awake.reach(reached, sequence, arc.to);
         let to = arc.to as usize;
-        marks[to] = joined(&marks[to], &marks[arc.from as usize]);
+        marks[to] = union(&marks[to], &marks[arc.from as usize]);
     }
 }
 
 /// Makes the marks those of the listed paths, and of the empty ones, from so many elements. A row without marks isn't
 /// marked as reached. Only the arcs that leave rows that are reached are looked at.
-pub fn mark_all(
+pub(crate) fn mark_all(
     marks: &mut [Marks],
     reached: &mut [bool],
     awake: &mut Worklist,
-    course: &ArcSequence,
+    sequence: &ArcSequence,
     first: u32,
     lanes: usize,
 )
     ghost of: { Ordered }
-    requires course { IsCourseOf (length marks.old) of course.now }
+    requires sequence { IsSequenceOf (length marks.old) of sequence.now }
     requires lanes { lanes ≤ 256 }
     requires elements { first + lanes ≤ length of.design.elements }
     requires marked { AreMarksReached marks.old reached.old }
-    requires ready { IsReady (length course.now.along.items) awake.old }
+    requires ready { IsReady (length sequence.now.along.items) awake.old }
     ensures marked { AreMarksReached marks.new reached.new }
-    ensures ready { IsReady (length course.now.along.items) awake.new }
-    ensures along { AreMarksAlong (length marks.old) of.design.arcs of.order (length of.order) course.now.rows.of_bits.items first lanes marks.new }
+    ensures ready { IsReady (length sequence.now.along.items) awake.new }
+    ensures along { AreMarksAlong (length marks.old) of.design.arcs of.order (length of.order) sequence.now.rows.of_bits.items first lanes marks.new }
 {
-    begin(marks, reached, awake, course, first, lanes);
+    begin(marks, reached, awake, sequence, first, lanes);
     let mut place = awake.places.next(0);
-    while place < course.along.len() {
+    while place < sequence.along.len() {
         awake.places.remove(place);
-        let arc = course.along[place];
-        carry(marks, reached, awake, course, arc);
+        let arc = sequence.along[place];
+        carry(marks, reached, awake, sequence, arc);
         place = awake.places.next(place + 1);
     }
 }
 
 /// The marks at the inputs of the elements.
-pub fn gather(ends: &mut [Marks], marks: &[Marks], rows: &Rows)
+pub(crate) fn gather(ends: &mut [Marks], marks: &[Marks], rows: &Rows)
     requires inputs { 2 * length ends.old ≤ length marks.now }
     requires rows { AreRows (length marks.now) rows.now }
     ensures { (to : ℕ) → to < length ends.new → marks_at ends.new to ≡ marks_at marks.now (row_of rows.now.of_bits.items (input_of to)) }
@@ -170,7 +170,7 @@ pub fn gather(ends: &mut [Marks], marks: &[Marks], rows: &Rows)
 }
 
 /// Lists the elements whose inputs are reached, in ascending order.
-pub fn list_reached(
+pub(crate) fn list_reached(
     listed: &mut Vec<u32>,
     reached: &[bool],
     rows: &Rows,

@@ -38,7 +38,7 @@ impl Model for SparseRows {
 }
 
 /// The place of a row, 0 where it has none.
-fn place_of(numbers: &[u32], base: u32, row: usize) -> usize
+fn slot_of(numbers: &[u32], base: u32, row: usize) -> usize
     requires { row < length numbers.now }
     ensures { result ≡ place_at (places_of base numbers.now) row }
 {
@@ -87,7 +87,7 @@ fn hold(
     ensures place { IfOk result (λ place. place ≡ place_at (places_of base numbers.new.items) row) }
     ensures some { IfOk result (λ place. place ≢ 0) }
 {
-    let place = place_of(numbers, base, row as usize);
+    let place = slot_of(numbers, base, row as usize);
     if place > 0 {
         return Ok(place);
     }
@@ -160,7 +160,7 @@ impl SparseRows {
         requires { row < length self.now }
         ensures { result.now ≡ sums_at self.now row }
     {
-        let place = place_of(&self.numbers, self.base, row);
+        let place = slot_of(&self.numbers, self.base, row);
         &self.sums[place]
     }
 
@@ -203,15 +203,15 @@ impl SparseRows {
         ensures least { OnOk result (AreJoined int_min (sums_at self.old arc.to).least (sums_at self.old arc.from).least arc.min (sums_at self.new arc.to).least) }
         ensures bounded { OnOk result ((most : ℕ) → IsBounded most (sums_at self.old arc.from) → IsBounded most (sums_at self.old arc.to) → IsBounded (most + 1000000000) (sums_at self.new arc.to)) }
     {
-        let place = place_of(&self.numbers, self.base, arc.to as usize);
+        let place = slot_of(&self.numbers, self.base, arc.to as usize);
         if place > 0 {
-            let left = place_of(&self.numbers, self.base, arc.from as usize);
+            let left = slot_of(&self.numbers, self.base, arc.from as usize);
             let from = self.sums[left];
             join_rows(&mut self.sums[place], &from, arc);
             return Ok(());
         }
         let place = give(&mut self.numbers, self.base, &mut self.sums, arc.to)?;
-        let left = place_of(&self.numbers, self.base, arc.from as usize);
+        let left = slot_of(&self.numbers, self.base, arc.from as usize);
         let others = self.sums[left];
         self.sums[place] = led_on(&others, arc);
         Ok(())

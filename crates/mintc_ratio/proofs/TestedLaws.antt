@@ -18,7 +18,7 @@ use Rattle.mintc_graph_walks.specs.Answers.{Meets, HasGreatest, HasChain}
 use Rattle.mintc_ratio.specs.Chains.{links_at, NamesChain}
 use Rattle.mintc_ratio.specs.Greatest.{asked_by, AreGreatest}
 use Rattle.mintc_ratio.specs.Tested.{NoneForbids}
-use Rattle.mintc_ratio.specs.Weighed.{IsTestable, arcs_of}
+use Rattle.mintc_ratio.specs.LinksAt.{IsTestable, arcs_of}
 use Rattle.mintc_ratio.proofs.Weights.{fits_128, num_within, den_within}
 use Rattle.mintc_ratio.proofs.Weighing.{from_is, to_is, weight_is, arcs-from_links, links-from_arcs, weight-asked}
 

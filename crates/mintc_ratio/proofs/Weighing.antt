@@ -14,7 +14,7 @@ use Rattle.mintc_graph_walks.specs.Walks.{arc_at, no_arc, weight_of}
 use Rattle.mintc_graph_walks.specs.Walks as walks
 use Rattle.mintc_ratio.specs.Chains.{links_at}
 use Rattle.mintc_ratio.specs.Greatest.{asked_by, asked_by_link}
-use Rattle.mintc_ratio.specs.Weighed.{IsTestable, weighed, arcs_of}
+use Rattle.mintc_ratio.specs.LinksAt.{IsTestable, weighed, arcs_of}
 use Rattle.mintc_ratio.proofs.Weights.{weight_step, weight_small, fits_128}
 
 pub delay-within : (n : ℕ) (k : Link) → IsOrdinaryLink n k → IsWithin 4000000000 k.delay

@@ -4,7 +4,7 @@ use Rattle.std.proofs.lemmas.Int.{ints, to_z-of_z, fits_signed_from_abs}
 use Rattle.std.specs.Int.{w64, w128}
 use Rattle.mintc_timing.proofs.SharedProducts.{add-times}
 use Rattle.mintc_fraction.specs.Ratio.{over}
-use Rattle.mintc_ratio.specs.Weighed.{IsTestable}
+use Rattle.mintc_ratio.specs.LinksAt.{IsTestable}
 use Rattle.mintc_graph_walks.specs.Bounds.{IsWithin}
 use Rattle.mintc_graph_walks.proofs.SharedWithin.{abs_within, IsWithin-product}
 

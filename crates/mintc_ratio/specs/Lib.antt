@@ -1,6 +1,6 @@
 pub mod Chains
 pub mod Greatest
-pub mod Weighed
+pub mod LinksAt
 pub mod Sums
 pub mod Tested
 pub mod Searched

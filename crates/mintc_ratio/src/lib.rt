@@ -21,7 +21,7 @@ mod testing;
 mod turns;
 mod weighed;
 
-pub use from::{asked, walk_from};
+pub use from::{walk_from, weight_at};
 pub use laws::{greatest_are_brought, least_at_each_denominator, outcomes_are_determined};
 pub use searching::{Outcome, search};
 pub use testing::{Test, test_at};

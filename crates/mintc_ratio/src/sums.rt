@@ -7,7 +7,7 @@ ghost use Rattle.mintc_ratio.specs.Climbing.{IsLow, grid_of};
 ghost use Rattle.mintc_ratio.specs.Searched.{IsCycle};
 ghost use Rattle.mintc_ratio.specs.Sums.{HasSums, IsSmall};
 
-use crate::weighed::numbered;
+use crate::weighed::nth_link;
 use mintc_fraction::Fraction;
 use mintc_timing::Link;
 
@@ -28,7 +28,7 @@ pub(crate) fn sums_of(nodes: u32, links: &[Link], chain: &[u32]) -> Sums
     let mut delay = 0;
     let mut cycles = 0;
     for number in chain {
-        let link = numbered(links, *number as usize);
+        let link = nth_link(links, *number as usize);
         delay += link.delay;
         cycles += link.cycles;
     }

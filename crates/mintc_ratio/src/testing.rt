@@ -3,7 +3,7 @@ ghost use Rattle.std.specs.Prelude.{◌≡◌, ◌≢◌, ◌<◌, ◌≤◌, �
 ghost use Rattle.mintc_graph_walks.specs.Walks.{value_at};
 ghost use Rattle.mintc_ratio.specs.Tested.{HasTested};
 
-use crate::weighed::Weighed;
+use crate::weighed::LinksAt;
 use mintc_constraints::{LinkList, Room};
 use mintc_fraction::Fraction;
 use mintc_graph_walks::{Answer, Steps, UNREACHED};
@@ -73,7 +73,7 @@ pub fn test_at<L: Ledger>(
     cut_chain(room, nodes as usize);
     begin(room, nodes as usize);
     let (num, den) = (at.num(), at.den());
-    let network = Weighed {
+    let network = LinksAt {
         nodes,
         links: links.items(),
         num,

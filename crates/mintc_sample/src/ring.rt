@@ -7,7 +7,7 @@ use mintc_text::{Lines, OutOfMemory};
 use std::alloc::Global;
 
 /// The latches of a ring.
-pub const LATCHES: u64 = 2_000;
+pub(crate) const LATCHES: u64 = 2_000;
 
 /// Writes a word and a number after it.
 pub(crate) fn put_numbered(lines: &mut Lines, word: &[u8], number: u64) -> Result<(), OutOfMemory>
@@ -54,7 +54,7 @@ fn put_ring(lines: &mut Lines, count: u64) -> Result<(), OutOfMemory>
 }
 
 /// The netlist: one module, with a gate and a latch for each place of the ring.
-pub fn netlist(alloc: Global) -> Result<Vec<u8>, OutOfMemory>
+pub(crate) fn netlist(alloc: Global) -> Result<Vec<u8>, OutOfMemory>
     ensures { IfOk result (λ text. text.items ≡ netlist_text) }
 {
     let mut lines = Lines::new(alloc);

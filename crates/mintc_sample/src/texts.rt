@@ -25,7 +25,7 @@ const CLOCK: &[u8] =
     b"[[phase]]\nname = \"p1\"\nport = \"c1\"\n[[phase]]\nname = \"p2\"\nport = \"c2\"\n";
 
 /// Some bytes of their own.
-fn owned(alloc: Global, bytes: &[u8]) -> Result<Bytes, OutOfMemory>
+fn copy_bytes(alloc: Global, bytes: &[u8]) -> Result<Bytes, OutOfMemory>
     ensures { IfOk result (λ owned. owned ≡ bytes.now) }
 {
     let mut lines = Lines::new(alloc);
@@ -37,14 +37,14 @@ fn owned(alloc: Global, bytes: &[u8]) -> Result<Bytes, OutOfMemory>
 fn cells(alloc: Global) -> Result<Bytes, OutOfMemory>
     ensures { IfOk result (λ text. text ≡ cells_text) }
 {
-    owned(alloc, CELLS)
+    copy_bytes(alloc, CELLS)
 }
 
 /// The clock of each sample.
 fn clock(alloc: Global) -> Result<Bytes, OutOfMemory>
     ensures { IfOk result (λ text. text ≡ clock_text) }
 {
-    owned(alloc, CLOCK)
+    copy_bytes(alloc, CLOCK)
 }
 
 /// The texts of the sample of a number: a ring of 2,000 latches on two phases. The number alone decides them.

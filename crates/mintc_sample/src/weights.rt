@@ -58,7 +58,7 @@ fn put_cells(lines: &mut Lines, number: u64, count: u64) -> Result<(), OutOfMemo
 }
 
 /// The delays of the sample of a number: one entry for each gate.
-pub fn delays(alloc: Global, number: u64) -> Result<Vec<u8>, OutOfMemory>
+pub(crate) fn delays(alloc: Global, number: u64) -> Result<Vec<u8>, OutOfMemory>
     ensures { IfOk result (λ text. text.items ≡ delays_text number) }
 {
     let mut lines = Lines::new(alloc);

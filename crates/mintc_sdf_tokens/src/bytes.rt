@@ -19,7 +19,7 @@ fn goes_on(b: u8, kept: bool) -> bool
 }
 
 /// How many bytes the word at the front has.
-pub fn word_size(bytes: &[u8]) -> usize
+pub(crate) fn word_size(bytes: &[u8]) -> usize
     ensures value { result ≡ word_size false bytes.now }
     ensures within { result ≤ length bytes.now }
 {

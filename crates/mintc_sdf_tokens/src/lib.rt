@@ -19,5 +19,5 @@ pub use conditions::{Layer, condition, innermost};
 pub use laws::items_are_the_tokens;
 pub use reader::{Reader, TokenKind};
 pub use words::{
-    is_edge, is_key, names, product, push_name, time_of, times_of, unescaped, unit_of,
+    is_edge, is_key, names, product, push_name, time_of, times_of, unit_of, without_escapes,
 };

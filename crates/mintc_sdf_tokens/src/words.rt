@@ -100,7 +100,7 @@ fn push_kept(out: &mut Vec<u8>, b: u8, kept: bool) -> Result<(), OutOfMemory>
 }
 
 /// A word without its backslashes.
-pub fn unescaped(alloc: Global, word: &[u8]) -> Result<Name, OutOfMemory>
+pub fn without_escapes(alloc: Global, word: &[u8]) -> Result<Name, OutOfMemory>
     ensures { IfOk result (λ name. name ≡ unescaped word.now) }
 {
     let mut out = Vec::new(alloc);
@@ -149,7 +149,7 @@ pub fn names(alloc: Global, word: &[u8], divider: u8) -> Result<Names, OutOfMemo
     let mut rest = word;
     loop {
         let size = piece_size(rest, divider);
-        push_name(&mut out, unescaped(alloc, &rest[..size])?)?;
+        push_name(&mut out, without_escapes(alloc, &rest[..size])?)?;
         if size == rest.len() {
             return Ok(Names::new(out));
         }

@@ -7,22 +7,22 @@ ghost use Rattle.mintc_graph_walks.specs.Bounds.{IsWithin};
 ghost use Rattle.mintc_slack.specs.PairRoom.{IsWhole};
 
 use mintc_fraction::Fraction;
-use mintc_ratio::asked;
+use mintc_ratio::weight_at;
 use mintc_timing::Link;
 
 /// What a link asks for.
-pub fn asked_of(link: &Link, at: &Fraction) -> i128
+pub(crate) fn asked_of(link: &Link, at: &Fraction) -> i128
     requires delay { IsWithin 4000000000 link.now.delay }
     requires cycles { link.now.cycles ≤ 1 }
     requires cycle { IsCycle at.now }
     ensures value { result ≡ asked_by_link at.now link.now }
     ensures small { IsWithin 13000000000000 result }
 {
-    asked(link, at)
+    weight_at(link, at)
 }
 
 /// A difference less a third number.
-pub fn less(x: i128, y: i128, z: i128) -> i128
+pub(crate) fn minus_both(x: i128, y: i128, z: i128) -> i128
     requires x { IsWithin 30000000000000000 x }
     requires y { IsWithin 30000000000000000 y }
     requires z { IsWithin 100000000000000000 z }
@@ -33,7 +33,7 @@ pub fn less(x: i128, y: i128, z: i128) -> i128
 }
 
 /// What a sum leaves of nothing.
-pub fn negated_sum(x: i128, y: i128) -> i128
+pub(crate) fn negated_sum(x: i128, y: i128) -> i128
     requires x { IsWithin 200000000000000000 x }
     requires y { IsWithin 13000000000000 y }
     ensures value { result ≡ neg_ℤ (x +ℤ y) }
@@ -43,7 +43,7 @@ pub fn negated_sum(x: i128, y: i128) -> i128
 }
 
 /// The sum of two distances.
-pub fn sum(x: i64, y: i64) -> i64
+pub(crate) fn sum(x: i64, y: i64) -> i64
     requires x { IsWithin 100000000000000000 x }
     requires y { IsWithin 100000000000000000 y }
     ensures { result ≡ x +ℤ y }
@@ -72,7 +72,7 @@ fn floor_of(left: i128, cycle: &Fraction) -> i128
 }
 
 /// The same with 64 bits.
-pub fn floor_to_i64(left: i128, cycle: &Fraction) -> i64
+pub(crate) fn floor_to_i64(left: i128, cycle: &Fraction) -> i64
     requires cycle { IsCycle cycle.now }
     requires left { IsWithin 400000000000000000 left }
     ensures whole { IsWhole cycle.now left result }

@@ -15,10 +15,10 @@ use std::cmp::Reverse;
 use std::collections::BinaryHeap;
 
 /// The distance of a node that no walk is known to, in femtoseconds times the cycle's denominator. Others are less.
-pub const FAR: i64 = 100_000_000_000_000_000;
+pub(crate) const FAR: i64 = 100_000_000_000_000_000;
 
 /// The nodes that are ahead, each with its distance, the nearest first.
-pub type Ahead = BinaryHeap<(Reverse<i64>, u32), Global>;
+pub(crate) type Ahead = BinaryHeap<(Reverse<i64>, u32), Global>;
 
 /// Makes the distance of a gap's end that of its beginning and the gap, where that is less, and less than the one of node 0;
 /// says whether it did.
@@ -74,7 +74,7 @@ fn leave(
 }
 
 /// Shortens distances from a node, until node 0 is the nearest of those ahead.
-pub fn walk(
+pub(crate) fn walk(
     gaps: &[ReducedCost],
     firsts: &[usize],
     from: u32,
@@ -102,7 +102,7 @@ pub fn walk(
 }
 
 /// Makes no distance greater than that of node 0, from which each node is as near.
-pub fn cap_at_origin(distances: &mut Vec<i64>)
+pub(crate) fn cap_at_origin(distances: &mut Vec<i64>)
     requires some { 0 < length distances.old.items }
     requires range { AreInRange distances.old.items }
     ensures count { length distances.new.items ≡ length distances.old.items }
@@ -118,7 +118,7 @@ pub fn cap_at_origin(distances: &mut Vec<i64>)
 }
 
 /// Whether no gap makes a distance less.
-pub fn are_least(gaps: &[ReducedCost], distances: &[i64]) -> bool
+pub(crate) fn are_least(gaps: &[ReducedCost], distances: &[i64]) -> bool
     requires inside { All (IsInside (length distances.now)) gaps.now }
     requires range { AreInRange distances.now }
     ensures { OnTrue result (AreLeast gaps.now distances.now) }

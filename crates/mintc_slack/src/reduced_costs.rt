@@ -6,7 +6,7 @@ ghost use Rattle.mintc_graph_walks.specs.Bounds.{IsWithin};
 ghost use Rattle.mintc_graph_walks.specs.Walks.{value_at};
 ghost use Rattle.mintc_slack.specs.Gaps.{AreGaps, ArePotentials, gap_of};
 
-use crate::arithmetic::{asked_of, less};
+use crate::arithmetic::{asked_of, minus_both};
 use mintc_constraints::LinkList;
 use mintc_fraction::Fraction;
 use mintc_text::OutOfMemory;
@@ -16,7 +16,7 @@ use std::alloc::Global;
 /// A link, and by how much the value of its end exceeds what the link brings there, in femtoseconds times the cycle's
 /// denominator.
 #[derive(Clone, Copy, PartialEq, Eq, PartialOrd, Ord, Drop)]
-pub struct ReducedCost {
+pub(crate) struct ReducedCost {
     pub from: u32,
     pub to: u32,
     pub rest: i64,
@@ -33,7 +33,7 @@ fn weigh(link: &Link, at: &Fraction, potentials: &[i128]) -> ReducedCost
     ensures { result ≡ gap_of at.now potentials.now link.now }
 {
     let (from, to) = (potentials[link.from as usize], potentials[link.to as usize]);
-    let rest = less(to, from, asked_of(link, at));
+    let rest = minus_both(to, from, asked_of(link, at));
     ReducedCost {
         from: link.from,
         to: link.to,
@@ -42,7 +42,7 @@ fn weigh(link: &Link, at: &Fraction, potentials: &[i128]) -> ReducedCost
 }
 
 /// The gaps of links, by the nodes that they leave.
-pub fn gaps(
+pub(crate) fn gaps(
     alloc: Global,
     list: &LinkList,
     at: &Fraction,
@@ -62,7 +62,11 @@ pub fn gaps(
 }
 
 /// Where the gaps that leave each node begin.
-pub fn firsts(alloc: Global, gaps: &[ReducedCost], nodes: u32) -> Result<Vec<usize>, OutOfMemory> {
+pub(crate) fn firsts(
+    alloc: Global,
+    gaps: &[ReducedCost],
+    nodes: u32,
+) -> Result<Vec<usize>, OutOfMemory> {
     let mut firsts = Vec::new(alloc);
     for _node in 0..nodes {
         let Ok(()) = firsts.push(0) else {

@@ -6,12 +6,12 @@ use std::alloc::Global;
 use std::process::Abort;
 
 /// The system of a table, or what stops it.
-pub fn built(rt: &impl Abort, alloc: Global, text: &str) -> Result<System, Stop> {
+pub(crate) fn built(rt: &impl Abort, alloc: Global, text: &str) -> Result<System, Stop> {
     assert!(rt; text.len() < 1_000);
     system(alloc, from_table(alloc, text.as_bytes())?)
 }
 
 /// The system of a table.
-pub fn system_of(rt: &impl Abort, alloc: Global, table: &str) -> Option<System> {
+pub(crate) fn system_of(rt: &impl Abort, alloc: Global, table: &str) -> Option<System> {
     built(rt, alloc, table).ok()
 }

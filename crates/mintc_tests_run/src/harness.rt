@@ -5,12 +5,15 @@ use std::alloc::{AllocError, Global};
 use std::process::Abort;
 
 /// Adds a text, where there was memory for it.
-pub fn push_text(text: &mut String, more: Result<String, AllocError>) -> Result<(), AllocError> {
+pub(crate) fn push_text(
+    text: &mut String,
+    more: Result<String, AllocError>,
+) -> Result<(), AllocError> {
     text.push_str(&more?)
 }
 
 /// Files for a shelf, each a name and its bytes.
-pub type Held = Vec<(Name, Vec<u8>)>;
+pub(crate) type Held = Vec<(Name, Vec<u8>)>;
 
 /// A file for a shelf.
 fn file_of(alloc: Global, name: &str, text: &[u8]) -> Result<(Name, Vec<u8>), OutOfMemory> {
@@ -19,18 +22,26 @@ fn file_of(alloc: Global, name: &str, text: &[u8]) -> Result<(Name, Vec<u8>), Ou
 }
 
 /// Adds a file to those for a shelf.
-pub fn hold(alloc: Global, held: &mut Held, name: &str, text: &[u8]) -> Result<(), OutOfMemory> {
+pub(crate) fn hold(
+    alloc: Global,
+    held: &mut Held,
+    name: &str,
+    text: &[u8],
+) -> Result<(), OutOfMemory> {
     held.push(file_of(alloc, name, text)?)?;
     Ok(())
 }
 
 /// A shelf of files, none of whose calls fail.
-pub fn sound_shelf(alloc: Global, held: Held) -> MemoryShelf {
+pub(crate) fn sound_shelf(alloc: Global, held: Held) -> MemoryShelf {
     MemoryShelf::new(held, Numbers::new(Vec::new(alloc)))
 }
 
 /// A shelf of files of these bytes, none of whose calls fail.
-pub fn bytes_shelf(alloc: Global, files: &[(&str, &[u8])]) -> Result<MemoryShelf, OutOfMemory> {
+pub(crate) fn bytes_shelf(
+    alloc: Global,
+    files: &[(&str, &[u8])],
+) -> Result<MemoryShelf, OutOfMemory> {
     let mut held = Vec::new(alloc);
     for file in files {
         hold(alloc, &mut held, file.0, file.1)?;
@@ -48,7 +59,7 @@ fn held_texts(alloc: Global, files: &[(&str, &str)]) -> Result<Held, OutOfMemory
 }
 
 /// A shelf of these files, whose calls of these numbers fail.
-pub fn shelf_of(
+pub(crate) fn shelf_of(
     alloc: Global,
     files: &[(&str, &str)],
     failing: &[u32],
@@ -86,7 +97,7 @@ fn run_words(
 }
 
 /// A run with the words of this line.
-pub fn run_over(
+pub(crate) fn run_over(
     alloc: Global,
     shelf: &mut MemoryShelf,
     line: &str,
@@ -97,7 +108,7 @@ pub fn run_over(
 }
 
 /// A run with the words of this line over a shelf of these files.
-pub fn run_on(
+pub(crate) fn run_on(
     alloc: Global,
     files: &[(&str, &str)],
     line: &str,
@@ -121,7 +132,7 @@ fn has_answer(
 }
 
 /// A run over this shelf, and a sink whose first write may be made to fail, has this status, and the sink took this text.
-pub fn is_answered(
+pub(crate) fn is_answered(
     rt: &impl Abort,
     alloc: Global,
     shelf: &mut MemoryShelf,
@@ -136,6 +147,12 @@ pub fn is_answered(
 }
 
 /// A run over this shelf succeeds with this text.
-pub fn succeeds(rt: &impl Abort, alloc: Global, shelf: &mut MemoryShelf, line: &str, text: &[u8]) {
+pub(crate) fn succeeds(
+    rt: &impl Abort,
+    alloc: Global,
+    shelf: &mut MemoryShelf,
+    line: &str,
+    text: &[u8],
+) {
     is_answered(rt, alloc, shelf, line, None, (Status::Done, text));
 }

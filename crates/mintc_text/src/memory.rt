@@ -121,7 +121,7 @@ impl Model for MemorySink {
 }
 
 /// How many of so many bytes the call with this number may take.
-fn allowed(failing: Option<(u32, usize)>, call: u32, count: usize) -> usize
+fn allowance(failing: Option<(u32, usize)>, call: u32, count: usize) -> usize
     ensures { result ≡ allowed failing call count }
 {
     match failing {
@@ -197,7 +197,7 @@ impl Sink for MemorySink {
     {
         let room = self.room - self.taken.len();
         let fails = is_failing(self.failing, self.calls);
-        let count = allowed(self.failing, self.calls, bytes.len()).min(room);
+        let count = allowance(self.failing, self.calls, bytes.len()).min(room);
         self.calls = self.calls.saturating_add(1);
         match self.taken.extend_from_slice(&bytes[..count]) {
             Ok(()) if !fails && bytes.len() <= room => Ok(()),

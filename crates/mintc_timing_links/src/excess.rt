@@ -7,7 +7,7 @@ use crate::links::width_needed;
 use mintc_timing::{Bound, Flat, Point, Schedule, crosses};
 
 /// A span of time in femtoseconds, times the denominator.
-pub fn scaled(span: i64, den: i64) -> i64
+pub fn times_denominator(span: i64, den: i64) -> i64
     requires span { IsSpan span }
     requires den { IsDenominator den }
     ensures value { result ≡ span *ℤ den }
@@ -51,7 +51,7 @@ fn time(schedule: &Schedule, point: Point) -> i64
 }
 
 /// The time of no cycle or of one.
-fn taken(cycles: u32, schedule: &Schedule) -> i64
+fn time_of_cycles(cycles: u32, schedule: &Schedule) -> i64
     requires in_range { IsInRange schedule.now }
     requires cycles { cycles ≤ 1 }
     ensures value { result ≡ pos cycles *ℤ schedule.now.cycle }
@@ -98,7 +98,7 @@ pub fn width_excess(flat: &Flat, schedule: &Schedule, phase: u32) -> i64
     ensures value { result ≡ least_width flat.now phase *ℤ schedule.now.den -ℤ width_of schedule.now phase }
     ensures range { IsTime result }
 {
-    scaled(width_needed(flat, phase), schedule.den) - width(schedule, phase)
+    times_denominator(width_needed(flat, phase), schedule.den) - width(schedule, phase)
 }
 
 /// By how much phase `j` ends after phase `i` starts, the cycles taken off.
@@ -109,7 +109,9 @@ pub fn apart_excess(schedule: &Schedule, i: u32, j: u32) -> i64
     ensures value { result ≡ end_of schedule.now j -ℤ pos (crosses_of j i) *ℤ schedule.now.cycle -ℤ start_of schedule.now i }
     ensures range { IsTime result }
 {
-    start(schedule, j) + width(schedule, j) - taken(crosses(j, i), schedule) - start(schedule, i)
+    start(schedule, j) + width(schedule, j)
+        - time_of_cycles(crosses(j, i), schedule)
+        - start(schedule, i)
 }
 
 /// By how much the later point of a bound comes too soon.
@@ -119,7 +121,7 @@ pub fn bound_excess(schedule: &Schedule, bound: &Bound) -> i64
     ensures value { result ≡ time_of schedule.now bound.now.from +ℤ bound.now.gap *ℤ schedule.now.den -ℤ pos bound.now.cycles *ℤ schedule.now.cycle -ℤ time_of schedule.now bound.now.to }
     ensures range { IsTime result }
 {
-    let gap = scaled(bound.gap, schedule.den);
-    let earliest = time(schedule, bound.from) + gap - taken(bound.cycles, schedule);
+    let gap = times_denominator(bound.gap, schedule.den);
+    let earliest = time(schedule, bound.from) + gap - time_of_cycles(bound.cycles, schedule);
     earliest - time(schedule, bound.to)
 }

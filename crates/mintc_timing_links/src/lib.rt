@@ -10,7 +10,7 @@ mod excess;
 mod links;
 
 pub use excess::{
-    apart_excess, bound_excess, cycle_excess, order_excess, scaled, span_excess, width,
+    apart_excess, bound_excess, cycle_excess, order_excess, span_excess, times_denominator, width,
     width_excess,
 };
 pub use links::{

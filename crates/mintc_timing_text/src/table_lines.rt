@@ -16,7 +16,7 @@ use mintc_timing::{Bound, Point, TimingArc};
 
 /// What the texts of a version of tables can say.
 #[derive(Clone, Copy)]
-pub enum Version {
+pub(crate) enum Version {
     /// Latches alone.
     Latches,
     /// Latches and flops.
@@ -27,7 +27,7 @@ pub enum Version {
 
 /// An element without its name. All times are in femtoseconds.
 #[derive(Clone, Copy)]
-pub struct ElementNumbers {
+pub(crate) struct ElementNumbers {
     pub phase: u32,
     pub flop: bool,
     pub setup: i64,
@@ -41,7 +41,7 @@ pub struct ElementNumbers {
 }
 
 /// The version of a table's first line.
-pub fn version_of(number: u32) -> Version
+pub(crate) fn version_of(number: u32) -> Version
     ensures { result ≡ version_of number }
 {
     if number == 1 {
@@ -117,7 +117,7 @@ fn openings(fields: &mut Fields, version: Version, flop: bool, dq: (i64, i64)) -
 }
 
 /// The element of a line, in a table of so many phases.
-pub fn element_of<'a>(
+pub(crate) fn element_of<'a>(
     mut fields: Fields<'a>,
     version: Version,
     phases: u32,
@@ -203,7 +203,7 @@ fn to_bit(word: &[u8], elements: u32, inner: u32) -> Option<u32>
 }
 
 /// The arc of a line, in a table of so many elements and inner bits.
-pub fn arc_of(mut fields: Fields, elements: u32, inner: u32) -> Option<TimingArc>
+pub(crate) fn arc_of(mut fields: Fields, elements: u32, inner: u32) -> Option<TimingArc>
     requires elements { IsCount elements }
     requires inner { IsCount inner }
     ensures { MatchOption result
@@ -241,7 +241,7 @@ fn point(word: &[u8], phases: u32) -> Option<Point>
 }
 
 /// The bound of a line, in a table of so many phases.
-pub fn bound_of(mut fields: Fields, phases: u32) -> Option<Bound>
+pub(crate) fn bound_of(mut fields: Fields, phases: u32) -> Option<Bound>
     requires { IsCount phases }
     ensures { MatchOption result
         ((x : Bound) → IsBoundLine phases x fields.entry → ⊥)

@@ -8,7 +8,7 @@ use std::marker::Model;
 
 /// Items, seen as their list.
 #[derive(Drop)]
-pub struct Items {
+pub(crate) struct Items {
     items: Vec<Item>,
 }
 
@@ -23,21 +23,21 @@ impl Model for Items {
 
 impl Items {
     /// These items.
-    pub fn new(items: Vec<Item>) -> Items
+    pub(crate) fn new(items: Vec<Item>) -> Items
         ensures { result ≡ items.items }
     {
         Items { items }
     }
 
     /// Moves items to the end of these.
-    pub fn append(&mut self, more: Items) -> Result<(), OutOfMemory>
+    pub(crate) fn append(&mut self, more: Items) -> Result<(), OutOfMemory>
         ensures { OnOk result (self.new ≡ self.old ++ more) }
     {
         append(&mut self.items, more.items)
     }
 
     /// The items themselves.
-    pub fn into_vec(self) -> Vec<Item>
+    pub(crate) fn into_vec(self) -> Vec<Item>
         ensures { result.items ≡ self }
     {
         self.items
@@ -46,7 +46,7 @@ impl Items {
 
 /// A module that is open, and whether its ports have directions already.
 #[derive(Drop)]
-pub struct OpenModule {
+pub(crate) struct OpenModule {
     pub entry: u32,
     pub name: Name,
     pub ports: Names,
@@ -56,7 +56,7 @@ pub struct OpenModule {
 
 /// What a statement does.
 #[derive(Drop)]
-pub enum Said {
+pub(crate) enum Said {
     /// It opens a module.
     Opens { open: OpenModule },
     /// It adds items to the open one. Declarations of ports may stand only after a plain list.

@@ -6,7 +6,7 @@ ghost use Rattle.mintc_vlex.specs.declared.bytes.Class.TheVariants as class;
 ghost use Rattle.mintc_vlex.specs.Bytes.{is_in, run};
 
 /// The value of the digits. None exactly where it is above the limit.
-pub fn value_within(digits: &[u8], most: u32) -> Option<u32>
+pub(crate) fn value_within(digits: &[u8], most: u32) -> Option<u32>
     requires { most ≤ MOST_WIDTH }
     ensures { MatchOption result (most < value_from 0 digits.now) (λ n. (n ≡ value_from 0 digits.now) × (n ≤ most)) }
 {
@@ -27,7 +27,7 @@ fn is_digit(b: u8) -> bool
 }
 
 /// How many digits stand at the front.
-pub fn digit_count(bytes: &[u8]) -> usize
+pub(crate) fn digit_count(bytes: &[u8]) -> usize
     ensures value { result ≡ run (is_in class.Digit) bytes.now }
     ensures within { result ≤ length bytes.now }
 {

@@ -4,7 +4,7 @@ ghost use Rattle.mintc_verilog_expressions.specs.Lexemes.{is_reserved, is_module
 
 /// Whether a word is no name.
 #[tactic(auto, unfolding(crate::specs::Lexemes::is_reserved))]
-pub fn is_reserved(word: &[u8]) -> bool
+pub(crate) fn is_reserved(word: &[u8]) -> bool
     ensures { result ≡ is_reserved word.now }
 {
     is_module_word(word)

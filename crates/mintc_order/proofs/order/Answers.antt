@@ -3,11 +3,11 @@ use Rattle.std.proofs.Common.{arith}
 use Rattle.mintc_order.proofs.Ending.{ordered_at_end, whole_at_end}
 use Rattle.mintc_order.proofs.order.Goals as goal
 
-pub gathered-requires-clause-ordered : goal.gathered-requires-clause-ordered
-gathered-requires-clause-ordered c = ordered_at_end c.loop-root.invariant.search c.deref.result.now c.deref.ensures.value
+pub order_from_postorder-requires-clause-ordered : goal.order_from_postorder-requires-clause-ordered
+order_from_postorder-requires-clause-ordered c = ordered_at_end c.loop-root.invariant.search c.deref.result.now c.deref.ensures.value
 
-pub gathered-requires-clause-whole : goal.gathered-requires-clause-whole
-gathered-requires-clause-whole c =
+pub order_from_postorder-requires-clause-whole : goal.order_from_postorder-requires-clause-whole
+order_from_postorder-requires-clause-whole c =
     whole_at_end c.loop-root.invariant.search c.deref.result.now c.deref.ensures.value c.loop-root.invariant.empty (λ bit h. c.loop-root.invariant.met bit (omega arith))
 
 pub loop-root-init : goal.loop-root-init

@@ -1,5 +1,5 @@
 use Rattle.std.proofs.Common.{◌≡◌, Some, length, refl}
-use Rattle.mintc_annotate_resolve.specs.Speaking.{spoken, refusal_of, first_refusal}
+use Rattle.mintc_annotate_resolve.specs.Resolution.{resolved, refusal_of, first_refusal}
 use Rattle.mintc_annotate_resolve.proofs.SharedInstanceLaws.{at_top}
 use Rattle.mintc_annotate_delays.proofs.GatherLaws.{stops_more}
 use Rattle.mintc_annotate_delays.proofs.DelayLaws.{unrefused_more, refused_here, ranges_more}
@@ -10,18 +10,18 @@ loop-number-init c = record {
   unrefused = refl;
   ranges = c.requires.empty;
   room = λ bits leaves room. room;
-  last = at_top c.args.scene.now.hierarchy.now c.requires.scene.shape.some_scope;
+  last = at_top c.args.lookup.now.hierarchy.now c.requires.lookup.shape.some_scope;
 }
 
 pub apply_delay-requires-clause-room : goal.apply_delay-requires-clause-room
 apply_delay-requires-clause-room c =
-    let h = c.args.scene.now.hierarchy.now in
+    let h = c.args.lookup.now.hierarchy.now in
     c.loop-number.invariant.room (length h.inner) (length h.leaves) c.requires.room
 
 pub loop-number-preserved : goal.loop-number-preserved
 loop-number-preserved c =
-    let h = c.args.scene.now.hierarchy.now in
-    let cells = c.args.scene.now.cells.now in
+    let h = c.args.lookup.now.hierarchy.now in
+    let cells = c.args.lookup.now.cells.now in
     let d = c.index-delays-number.result in
     record {
       unrefused = unrefused_more h cells c.args.delays.now c.loop-number.number d c.loop-number-test.true c.index-delays-number.is c.loop-number.invariant.unrefused c.in-Ok.ensures.ok.unrefused;
@@ -32,8 +32,8 @@ loop-number-preserved c =
 
 pub returns-in-Err-clause-err : goal.returns-in-Err-clause-err
 returns-in-Err-clause-err c =
-    let h = c.args.scene.now.hierarchy.now in
-    let cells = c.args.scene.now.cells.now in
+    let h = c.args.lookup.now.hierarchy.now in
+    let cells = c.args.lookup.now.cells.now in
     let d = c.index-delays-number.result in
-    stops_more (λ r. refusal_of d.entry (spoken h cells d) ≡ Some r) (λ r. first_refusal h cells c.args.delays.now ≡ Some r)
+    stops_more (λ r. refusal_of d.entry (resolved h cells d) ≡ Some r) (λ r. first_refusal h cells c.args.delays.now ≡ Some r)
     (λ r known. refused_here h cells c.args.delays.now c.loop-number.number d r c.loop-number-test.true c.index-delays-number.is c.loop-number.invariant.unrefused known) c.in-Err.stop c.in-Err.ensures.err

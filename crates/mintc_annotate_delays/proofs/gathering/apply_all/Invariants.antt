@@ -1,5 +1,5 @@
 use Rattle.std.proofs.Common.{◌≡◌, take, None}
-use Rattle.mintc_annotate_resolve.specs.Speaking.{first_refusal, said}
+use Rattle.mintc_annotate_resolve.specs.Resolution.{first_refusal, said}
 use Rattle.mintc_annotate_resolve.specs.Instances.{IsAt}
 use Rattle.mintc_annotate_delays.specs.Ranges.{HasRanges, IsSameRoom}
 use Rattle.mintc_annotate_delays.proofs.gathering.apply_all.Given as goal
@@ -7,8 +7,8 @@ use Rattle.mintc_annotate_delays.proofs.gathering.apply_all.Given as goal
 -- the delays so far are taken in
 abbrev pub invariant-loop-number : goal.invariant-loop-number
 invariant-loop-number l = record {
-  unrefused : first_refusal l.scene.hierarchy.now l.scene.cells.now (take l.number l.delays) ≡ None;
-  ranges : HasRanges l.ranges (said l.scene.hierarchy.now l.scene.cells.now (take l.number l.delays));
+  unrefused : first_refusal l.lookup.hierarchy.now l.lookup.cells.now (take l.number l.delays) ≡ None;
+  ranges : HasRanges l.ranges (said l.lookup.hierarchy.now l.lookup.cells.now (take l.number l.delays));
   room : IsSameRoom l.fn.ranges l.ranges;
-  last : IsAt l.scene.hierarchy.now l.last.path.now l.last.instance;
+  last : IsAt l.lookup.hierarchy.now l.last.path.now l.last.instance;
 }

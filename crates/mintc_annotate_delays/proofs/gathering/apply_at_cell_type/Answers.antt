@@ -2,7 +2,7 @@ use Rattle.std.proofs.Common.{◌≡◌, ◌<◌, ℕ, List, Some, None, length,
 use Rattle.std.specs.Result.{OnOk, IfErr}
 use Rattle.mintc_text.specs.Stops.{StopsAt}
 use Rattle.mintc_cells.specs.Entries.{number_of}
-use Rattle.mintc_annotate_resolve.specs.Speaking.{Spoken, of_each, of_every, refusal_of}
+use Rattle.mintc_annotate_resolve.specs.Resolution.{Resolved, of_each, of_every, refusal_of}
 use Rattle.mintc_annotate_delays.specs.Gathered.{IsTakenIn, leaves_with}
 use Rattle.mintc_annotate_delays.proofs.GatherLaws.{taken_nothing}
 use Rattle.mintc_annotate_delays.proofs.GroupLaws.{found_cell, group_inside, every_found, every_missing}
@@ -10,39 +10,39 @@ use Rattle.mintc_annotate_delays.proofs.gathering.apply_at_cell_type.Goals as go
 
 pub apply_at_leaves-requires : goal.apply_at_leaves-requires
 apply_at_leaves-requires c =
-    let h = c.args.scene.now.hierarchy.now in
-    let cells = c.args.scene.now.cells.now in
+    let h = c.args.lookup.now.hierarchy.now in
+    let cells = c.args.lookup.now.cells.now in
     let found : number_of cells c.args.delay.now.celltype ≡ Some c.in-Some.cell = ap (number_of cells) (sym c.bytes.ensures) ∙ sym c.in-Some.ensures in
     let group : c.deref.result.now ≡ leaves_with h c.in-Some.cell =
     c.deref.ensures.value ∙ ap (λ (v : Vec ℕ Global). v.items) c.index-groups-cell.is ∙ c.requires.groups.each c.in-Some.cell c.index-groups-cell.result (found_cell cells c.args.delay.now.celltype c.in-Some.cell found).0 in
     record {
-      scene = c.requires.scene;
+      lookup = c.requires.lookup;
       room = c.requires.room;
       leaves = subst (λ (ls : List ℕ). (k : ℕ) → k < length ls → get_or ls k 0 < length h.leaves) (sym group) (group_inside h c.in-Some.cell);
     }
 
 pub returns-in-Some : goal.returns-in-Some
 returns-in-Some c =
-    let h = c.args.scene.now.hierarchy.now in
-    let cells = c.args.scene.now.cells.now in
+    let h = c.args.lookup.now.hierarchy.now in
+    let cells = c.args.lookup.now.cells.now in
     let d = c.args.delay.now in
     let found : number_of cells d.celltype ≡ Some c.in-Some.cell = ap (number_of cells) (sym c.bytes.ensures) ∙ sym c.in-Some.ensures in
     let group : c.deref.result.now ≡ leaves_with h c.in-Some.cell =
     c.deref.ensures.value ∙ ap (λ (v : Vec ℕ Global). v.items) c.index-groups-cell.is ∙ c.requires.groups.each c.in-Some.cell c.index-groups-cell.result (found_cell cells d.celltype c.in-Some.cell found).0 in
     let every : of_each h cells d.subject c.deref.result.now ≡ of_every h cells d.celltype d.subject =
-    ap (of_each h cells d.subject) group ∙ every_found h cells d.celltype d.subject c.in-Some.cell c.requires.scene.shape c.requires.cells found c.in_default.not-Interconnect in
+    ap (of_each h cells d.subject) group ∙ every_found h cells d.celltype d.subject c.in-Some.cell c.requires.lookup.shape c.requires.cells found c.in_default.not-Interconnect in
     record {
-      ok = subst (λ (x : Spoken). OnOk c.apply_at_leaves.result (IsTakenIn d.entry x d.least d.greatest c.args.ranges.now c.apply_at_leaves.new.ranges)) every c.apply_at_leaves.ensures.ok;
-      err = subst (λ (x : Spoken). IfErr c.apply_at_leaves.result (StopsAt (λ refused. refusal_of d.entry x ≡ Some refused))) every c.apply_at_leaves.ensures.err;
+      ok = subst (λ (x : Resolved). OnOk c.apply_at_leaves.result (IsTakenIn d.entry x d.least d.greatest c.args.ranges.now c.apply_at_leaves.new.ranges)) every c.apply_at_leaves.ensures.ok;
+      err = subst (λ (x : Resolved). IfErr c.apply_at_leaves.result (StopsAt (λ refused. refusal_of d.entry x ≡ Some refused))) every c.apply_at_leaves.ensures.err;
     }
 
 pub returns-in-None : goal.returns-in-None
 returns-in-None c =
-    let h = c.args.scene.now.hierarchy.now in
-    let cells = c.args.scene.now.cells.now in
+    let h = c.args.lookup.now.hierarchy.now in
+    let cells = c.args.lookup.now.cells.now in
     let d = c.args.delay.now in
     let missing : number_of cells d.celltype ≡ None = ap (number_of cells) (sym c.bytes.ensures) ∙ sym c.in-None.ensures in
     record {
-      ok = subst (λ (x : Spoken). IsTakenIn d.entry x d.least d.greatest c.args.ranges.now c.args.ranges.now) (every_missing h cells d.celltype d.subject c.requires.scene.shape missing c.in_default.not-Interconnect) (taken_nothing d.entry d.least d.greatest c.args.ranges.now);
+      ok = subst (λ (x : Resolved). IsTakenIn d.entry x d.least d.greatest c.args.ranges.now c.args.ranges.now) (every_missing h cells d.celltype d.subject c.requires.lookup.shape missing c.in_default.not-Interconnect) (taken_nothing d.entry d.least d.greatest c.args.ranges.now);
       err = tt;
     }

@@ -1,33 +1,33 @@
 use Rattle.std.proofs.Common.{◌≡◌, Some, take, length, get_or, sym, ap, ◌∙◌, subst}
-use Rattle.mintc_annotate_resolve.specs.Speaking.{Spoken, of_each, of_leaf, refusal_of}
-use Rattle.mintc_annotate_resolve.specs.Matters.{spoken_of}
+use Rattle.mintc_annotate_resolve.specs.Resolution.{Resolved, of_each, of_leaf, refusal_of}
+use Rattle.mintc_annotate_resolve.specs.Targets.{resolved_of}
 use Rattle.mintc_annotate_delays.specs.Gathered.{IsTakenIn}
 use Rattle.mintc_annotate_delays.proofs.GatherLaws.{has_place, taken_both, each_more, each_refused, stops_more}
 use Rattle.mintc_annotate_delays.proofs.gathering.apply_at_leaves.Goals as goal
 
-pub apply_spoken-requires : goal.apply_spoken-requires
-apply_spoken-requires c =
-    let h = c.args.scene.now.hierarchy.now in
-    has_place h c.loop-number.ranges c.at_leaf-spoken.result (c.loop-number.invariant.room (length h.inner) (length h.leaves) c.requires.room) c.at_leaf-spoken.ensures.there
+pub apply_resolved-requires : goal.apply_resolved-requires
+apply_resolved-requires c =
+    let h = c.args.lookup.now.hierarchy.now in
+    has_place h c.loop-number.ranges c.at_leaf-resolved.result (c.loop-number.invariant.room (length h.inner) (length h.leaves) c.requires.room) c.at_leaf-resolved.ensures.there
 
 pub loop-number-preserved : goal.loop-number-preserved
 loop-number-preserved c =
-    let h = c.args.scene.now.hierarchy.now in
-    let cells = c.args.scene.now.cells.now in
+    let h = c.args.lookup.now.hierarchy.now in
+    let cells = c.args.lookup.now.cells.now in
     let d = c.args.delay.now in
     let k = c.loop-number.number in
-    let one : Spoken = of_leaf h cells (get_or c.args.leaves.now k 0) d.subject in
-    let here : IsTakenIn d.entry one d.least d.greatest c.loop-number.ranges c.apply_spoken.new.ranges =
-    subst (λ (x : Spoken). IsTakenIn d.entry x d.least d.greatest c.loop-number.ranges c.apply_spoken.new.ranges) c.at_leaf-spoken.ensures.right c.in-Ok.ensures.ok in
-    subst (λ (x : Spoken). IsTakenIn d.entry x d.least d.greatest c.args.ranges.now c.apply_spoken.new.ranges) (sym (each_more h cells d.subject c.args.leaves.now k 0 c.loop-number-test.true))
-    (taken_both d.entry (of_each h cells d.subject (take k c.args.leaves.now)) one d.least d.greatest c.args.ranges.now c.loop-number.ranges c.apply_spoken.new.ranges c.loop-number.invariant here)
+    let one : Resolved = of_leaf h cells (get_or c.args.leaves.now k 0) d.subject in
+    let here : IsTakenIn d.entry one d.least d.greatest c.loop-number.ranges c.apply_resolved.new.ranges =
+    subst (λ (x : Resolved). IsTakenIn d.entry x d.least d.greatest c.loop-number.ranges c.apply_resolved.new.ranges) c.at_leaf-resolved.ensures.right c.in-Ok.ensures.ok in
+    subst (λ (x : Resolved). IsTakenIn d.entry x d.least d.greatest c.args.ranges.now c.apply_resolved.new.ranges) (sym (each_more h cells d.subject c.args.leaves.now k 0 c.loop-number-test.true))
+    (taken_both d.entry (of_each h cells d.subject (take k c.args.leaves.now)) one d.least d.greatest c.args.ranges.now c.loop-number.ranges c.apply_resolved.new.ranges c.loop-number.invariant here)
 
 pub returns-in-Err-clause-err : goal.returns-in-Err-clause-err
 returns-in-Err-clause-err c =
-    let h = c.args.scene.now.hierarchy.now in
-    let cells = c.args.scene.now.cells.now in
+    let h = c.args.lookup.now.hierarchy.now in
+    let cells = c.args.lookup.now.cells.now in
     let d = c.args.delay.now in
     let k = c.loop-number.number in
-    stops_more (λ r. refusal_of d.entry (spoken_of c.at_leaf-spoken.result) ≡ Some r) (λ r. refusal_of d.entry (of_each h cells d.subject c.args.leaves.now) ≡ Some r)
-    (λ r known. each_refused h cells d.subject c.args.leaves.now k 0 d.entry r c.loop-number-test.true c.loop-number.invariant.unrefused (ap (refusal_of d.entry) (sym c.at_leaf-spoken.ensures.right) ∙ known))
+    stops_more (λ r. refusal_of d.entry (resolved_of c.at_leaf-resolved.result) ≡ Some r) (λ r. refusal_of d.entry (of_each h cells d.subject c.args.leaves.now) ≡ Some r)
+    (λ r known. each_refused h cells d.subject c.args.leaves.now k 0 d.entry r c.loop-number-test.true c.loop-number.invariant.unrefused (ap (refusal_of d.entry) (sym c.at_leaf-resolved.ensures.right) ∙ known))
     c.in-Err.stop c.in-Err.ensures.err

@@ -1,5 +1,5 @@
 use Rattle.std.proofs.Common.{◌≡◌, drop}
-use Rattle.mintc_annotate_resolve.specs.Speaking.{same_path}
+use Rattle.mintc_annotate_resolve.specs.Resolution.{same_path}
 use Rattle.mintc_annotate_resolve.proofs.instances.is_same_path.Given as goal
 
 -- it depends on the names that are left

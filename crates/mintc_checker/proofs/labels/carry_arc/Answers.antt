@@ -21,11 +21,11 @@ returns c =
     let arc : TimingArc = c.arc_at_place-arc.result in
     let design = c.args.departing.now.flat.now in
     let den = c.args.departing.now.den in
-    let product : c.scaled.result ≡ arc.max *ℤ den =
-    rw (read_time arc.max (IsTime-IsDelay _ c.arc_at_place-arc.ensures.kept.max), read_time den (IsTime-IsDenominator _ c.args.departing.now.is_den)) at c.scaled.ensures.value in
+    let product : c.times_denominator.result ≡ arc.max *ℤ den =
+    rw (read_time arc.max (IsTime-IsDelay _ c.arc_at_place-arc.ensures.kept.max), read_time den (IsTime-IsDenominator _ c.args.departing.now.is_den)) at c.times_denominator.ensures.value in
     let is = c.arc_at_place-arc.ensures.value in
     let from_in : arc.from < length c.args.labels.now = omega arith in
     let to_in : arc.to < length c.args.labels.now = omega arith in
     carried design den c.args.departing.now.departures.now c.args.order.now c.requires.order c.args.place (get_or c.args.order.now c.args.place 0) c.requires.place refl
     c.args.labels.now c.carry.new.labels _ c.carry.auto.labels (rw is at from_in) (rw is at to_in)
-    (rw is at (read_time c.scaled.result (IsTime-IsModest _ c.scaled.ensures.range) ∙ product)) (rw is at c.carry.ensures.others) (rw is at c.carry.ensures.joined) c.requires.labels
+    (rw is at (read_time c.times_denominator.result (IsTime-IsModest _ c.times_denominator.ensures.range) ∙ product)) (rw is at c.carry.ensures.others) (rw is at c.carry.ensures.joined) c.requires.labels

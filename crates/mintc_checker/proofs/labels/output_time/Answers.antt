@@ -7,6 +7,6 @@ use Rattle.mintc_checker.proofs.labels.output_time.Goals as goal
 pub returns-clause-value : goal.returns-clause-value
 returns-clause-value c =
     let den = c.args.departing.now.den in
-    let product : c.scaled.result ≡ (element_of c.args.departing.now.flat.now c.args.number).dq_max *ℤ den =
-    rw (read_time c.element.result.now.dq_max (IsTime-IsDelay _ c.element.ensures.kept.dq_max), read_time den (IsTime-IsDenominator _ c.args.departing.now.is_den), c.element.ensures.value) at c.scaled.ensures.value in
+    let product : c.times_denominator.result ≡ (element_of c.args.departing.now.flat.now c.args.number).dq_max *ℤ den =
+    rw (read_time c.element.result.now.dq_max (IsTime-IsDelay _ c.element.ensures.kept.dq_max), read_time den (IsTime-IsDenominator _ c.args.departing.now.is_den), c.element.ensures.value) at c.times_denominator.ensures.value in
     rw (← product, ← c.departure_at.ensures.value) (omega (arith, ints))

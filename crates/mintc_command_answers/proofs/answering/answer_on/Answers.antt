@@ -6,7 +6,7 @@ use Rattle.mintc_command_answers.proofs.answering.answer_on.Goals.{in-OfDesign, 
 
 pub returns-in-Some-clause-value : goal.returns-in-Some-clause-value
 returns-in-Some-clause-value c =
-    refused_length c.refused.result c.args.command c.args.texts.now c.content_roles.result.now c.in-Some.refusal c.content_roles.ensures c.in-Some.ensures c.refused.ensures.status c.refused.ensures.text
+    refused_length c.refusal_answer.result c.args.command c.args.texts.now c.content_roles.result.now c.in-Some.refusal c.content_roles.ensures c.in-Some.ensures c.refusal_answer.ensures.status c.refusal_answer.ensures.text
 
 pub returns-in-Err-Refused-clause-value : goal.returns-in-Err-Refused-clause-value
 returns-in-Err-Refused-clause-value c =
@@ -15,12 +15,12 @@ returns-in-Err-Refused-clause-value c =
           let own = OfDesign w.in-OfDesign.job w.in-OfDesign.source in
           let refused = stopped (λ r. IsContentRefusal own c.args.texts.now r) c.match-command.answer w.design_answer-answer.result c.in-Err-Refused.field-0 c.in-Err-Refused.refusal
           w.answer-is c.in-Err-Refused.is c.in-Err-Refused.field-0-is w.design_answer-answer.ensures.stop in
-          refused_content c.refused-in-Err-Refused.result c.args.command own c.args.texts.now c.in-Err-Refused.refusal (λ text line. line) w.in-OfDesign.is c.in_default.ensures refused
-          c.refused-in-Err-Refused.ensures.status c.refused-in-Err-Refused.ensures.text
+          refused_content c.refusal_answer-in-Err-Refused.result c.args.command own c.args.texts.now c.in-Err-Refused.refusal (λ text line. line) w.in-OfDesign.is c.in_default.ensures refused
+          c.refusal_answer-in-Err-Refused.ensures.status c.refusal_answer-in-Err-Refused.ensures.text
       | in-Sample w ↦
           let own = Sample w.in-Sample.number in
           let refused = stopped (λ r. IsContentRefusal own c.args.texts.now r) c.match-command.answer w.sample_answer-answer.result c.in-Err-Refused.field-0 c.in-Err-Refused.refusal
           w.answer-is c.in-Err-Refused.is c.in-Err-Refused.field-0-is w.sample_answer-answer.ensures.stop in
-          refused_content c.refused-in-Err-Refused.result c.args.command own c.args.texts.now c.in-Err-Refused.refusal (λ text line. line) w.in-Sample.is c.in_default.ensures refused
-          c.refused-in-Err-Refused.ensures.status c.refused-in-Err-Refused.ensures.text
+          refused_content c.refusal_answer-in-Err-Refused.result c.args.command own c.args.texts.now c.in-Err-Refused.refusal (λ text line. line) w.in-Sample.is c.in_default.ensures refused
+          c.refusal_answer-in-Err-Refused.ensures.status c.refusal_answer-in-Err-Refused.ensures.text
     ]

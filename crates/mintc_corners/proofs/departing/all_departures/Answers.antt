@@ -23,11 +23,11 @@ loop-system-preserved c =
       in_range_more t c.in_ok-departures.field-0 _ c.loop-system.all.items c.push.new.self.items c.flat.ensures.design c.loop-system.invariant.2 c.in_ok-departures.ensures.in_range ds c.in-Ok.ensures.items,
     )
 
-pub own_values-requires-clause-before : goal.own_values-requires-clause-before
-own_values-requires-clause-before c = grind (arith, common_steps)
+pub corner_values-requires-clause-before : goal.corner_values-requires-clause-before
+corner_values-requires-clause-before c = grind (arith, common_steps)
 
-pub own_values-requires-clause-inside : goal.own_values-requires-clause-inside
-own_values-requires-clause-inside c = grind (arith, common_steps)
+pub corner_values-requires-clause-inside : goal.corner_values-requires-clause-inside
+corner_values-requires-clause-inside c = grind (arith, common_steps)
 
 pub departures-requires : goal.departures-requires
 departures-requires c = grind (arith, common_steps)

@@ -22,12 +22,12 @@ loop-number-preserved c =
     let f = early_arrival t.flat s c.args.room.now.early in
     let early : c.loop-number.room.early ≡ c.args.room.now.early = ap (λ (r : Space). r.early) i.kept in
     let h : n < length t.pairs = rw c.pairs-number-end.ensures.value at c.loop-number-test.true in
-    let range : IsArrivalSum (f p) = rw early at c.bring.ensures.range in
-    let written : c.bring.new.room.values ≡ set xs p.to (int_min (f p) (get_or xs p.to (pos 0))) = rw early at (ap (λ (r : Space). r.values) c.bring.ensures.value) in
+    let range : IsArrivalSum (f p) = rw early at c.lower_to.ensures.range in
+    let written : c.lower_to.new.room.values ≡ set xs p.to (int_min (f p) (get_or xs p.to (pos 0))) = rw early at (ap (λ (r : Space). r.values) c.lower_to.ensures.value) in
     record {
-      kept = kept-values c.args.room.now c.loop-number.room c.bring.new.room _ c.bring.ensures.value i.kept;
+      kept = kept-values c.args.room.now c.loop-number.room c.lower_to.new.room _ c.lower_to.ensures.value i.kept;
       count = ap length written ∙ length-set xs p.to _ ∙ i.count;
-      gathered = gathered-more least_of lesser_of int_min IsFirst least_of-push first-more f t.pairs n _ xs c.bring.new.room.values h range (omega arith) written i.gathered;
+      gathered = gathered-more least_of lesser_of int_min IsFirst least_of-push first-more f t.pairs n _ xs c.lower_to.new.room.values h range (omega arith) written i.gathered;
     }
 
 pub returns-clause-each : goal.returns-clause-each

@@ -30,8 +30,8 @@ returns-clause-value c d is =
     let e : Element = c.element-element.result.now in
     let here : e ≡ element_at t.flat c.args.number = c.element-element.ensures.value in
     let has : (element_at t.flat c.args.number).has_hold ≡ true = rw here at c.if-not-element.false in
-    let hold : c.scaled-hold.result ≡ (element_at t.flat c.args.number).hold *ℤ s.den =
-    rw (read_time e.hold (IsTime-IsGap _ c.element-element.ensures.kept.hold), read_time s.den (IsTime-IsDenominator _ c.args.clocked.now.in_range.den), here) at c.scaled-hold.ensures.value in
+    let hold : c.times_denominator-hold.result ≡ (element_at t.flat c.args.number).hold *ℤ s.den =
+    rw (read_time e.hold (IsTime-IsGap _ c.element-element.ensures.kept.hold), read_time s.den (IsTime-IsDenominator _ c.args.clocked.now.in_range.den), here) at c.times_denominator-hold.ensures.value in
     rw (has, first-some _ c.args.first is (comes c)) (ap Some (omega (arith, ints, arrives c)))
 
 pub returns-clause-range : goal.returns-clause-range

@@ -25,8 +25,8 @@ returns-then-not-element-clause-value c d leaves is =
     let e : Element = c.element-element.result.now in
     let here : e ≡ element_at t.flat c.args.number = c.element-element.ensures.value in
     let latch : (element_at t.flat c.args.number).flop ≡ false = rw here at c.if-not-element.true in
-    let setup : c.scaled-setup.result ≡ (element_at t.flat c.args.number).setup *ℤ s.den =
-    rw (read_time e.setup (IsTime-IsGap _ c.element-element.ensures.kept.setup), read_time s.den (IsTime-IsDenominator _ c.args.clocked.now.in_range.den), here) at c.scaled-setup.ensures.value in
+    let setup : c.times_denominator-setup.result ≡ (element_at t.flat c.args.number).setup *ℤ s.den =
+    rw (read_time e.setup (IsTime-IsGap _ c.element-element.ensures.kept.setup), read_time s.den (IsTime-IsDenominator _ c.args.clocked.now.in_range.den), here) at c.times_denominator-setup.ensures.value in
     let wide : c.width.result ≡ width_of s (phase_of t.flat c.args.number) = rw here at c.width.ensures.value in
     rw (latch, leaves) (ap Some (omega (arith, ints, clamps, opened c)))
 
@@ -51,8 +51,8 @@ returns-clause-value c d leaves is =
     let e : Element = c.element-element.result.now in
     let here : e ≡ element_at t.flat c.args.number = c.element-element.ensures.value in
     let flop : (element_at t.flat c.args.number).flop ≡ true = rw here at c.if-not-element.false in
-    let setup : c.scaled-setup.result ≡ (element_at t.flat c.args.number).setup *ℤ s.den =
-    rw (read_time e.setup (IsTime-IsGap _ c.element-element.ensures.kept.setup), read_time s.den (IsTime-IsDenominator _ c.args.clocked.now.in_range.den), here) at c.scaled-setup.ensures.value in
+    let setup : c.times_denominator-setup.result ≡ (element_at t.flat c.args.number).setup *ℤ s.den =
+    rw (read_time e.setup (IsTime-IsGap _ c.element-element.ensures.kept.setup), read_time s.den (IsTime-IsDenominator _ c.args.clocked.now.in_range.den), here) at c.times_denominator-setup.ensures.value in
     rw (flop, last-some _ c.args.last is (comes c)) (ap Some (omega (arith, ints, arrives c)))
 
 pub returns-clause-range : goal.returns-clause-range

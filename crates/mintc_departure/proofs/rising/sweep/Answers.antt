@@ -14,9 +14,9 @@ loop-at-preserved c =
     let t = c.args.clocked.now.system.now in
     let s = c.args.clocked.now.schedule.now in
     let i = c.loop-at.invariant in
-    let room = c.touch-changed.new.room in
-    let stale = c.touch-changed.new.stale.words.items in
-    let touched = c.touch-changed.ensures in
+    let room = c.recompute_at-changed.new.room in
+    let stale = c.recompute_at-changed.new.stale.words.items in
+    let touched = c.recompute_at-changed.ensures in
     record {
       kept = kept-early c.args.room.now c.loop-at.room room _ touched.kept i.kept;
       swept = subst (λ xs. AreSwept t s xs room.early stale) (ap (λ (r : Space). r.late) i.kept) touched.swept;

@@ -28,12 +28,12 @@ loop-number-preserved c =
     let i = c.loop-number.invariant in
     let n = c.loop-number.number in
     let xs = c.loop-number.room.early in
-    let x = c.departs-time.result in
+    let x = c.departure_by-time.result in
     let h : n < element_count t.flat = omega (arith, c.count-number-end.ensures.value) in
     let value = ap (λ (vs : List ℤ). value_at vs n) (c.values.ensures ∙ ap (λ (r : Space). r.values) i.kept) in
     let first : IsFirst (least_of (early_arrivals t s old n)) (value_at c.args.room.now.values n) = c.requires.firsts n h in
-    let time_is : x ≡ early_departure t s old n = c.departs-time.ensures old (rw (value, to_z-of_z w128 _ (first-fits _ _ first)) first) in
-    let fits : SFits w64 x = record { sfits = c.departs-time.type_inv } in
+    let time_is : x ≡ early_departure t s old n = c.departure_by-time.ensures old (rw (value, to_z-of_z w128 _ (first-fits _ _ first)) first) in
+    let fits : SFits w64 x = record { sfits = c.departure_by-time.type_inv } in
     let write = ap (λ (r : Space). r.early) c.set_early.ensures in
     let written : c.set_early.new.self.early ≡ set xs n x = write ∙ ap (λ z. set xs n z) (to_z-of_z w64 x fits) in
     let inside : n < length xs = omega (arith, i.count) in

@@ -5,11 +5,11 @@ use Rattle.mintc_flatten_hierarchy.specs.Walks.{counts, plus}
 use Rattle.mintc_flatten.specs.Totals.{capped, sum_parts, IsCapped, greatest_depth}
 use Rattle.mintc_flatten.proofs.counts.items_count.Given as goal
 
--- the counts are those of the targets so far
-abbrev pub invariant-loop-target : goal.invariant-loop-target
-invariant-loop-target l = let s = source_of l.cells l.modules in record {
+-- the counts are those of the bindings so far
+abbrev pub invariant-loop-binding : goal.invariant-loop-binding
+invariant-loop-binding l = let s = source_of l.cells l.modules in record {
   scopes : l.count.scopes ≤ MOST_TOLD;
   leaves : l.count.leaves ≤ MOST_TOLD;
   inner : l.count.inner ≤ MOST_TOLD;
-  sums : (own : ℕ) → l.bits ≡ capped own → IsCapped (plus (counts 1 0 own) (sum_parts s (take l.target-index l.targets))) (greatest_depth s (take l.target-index l.targets)) l.count;
+  sums : (own : ℕ) → l.bits ≡ capped own → IsCapped (plus (counts 1 0 own) (sum_parts s (take l.binding-index l.bindings))) (greatest_depth s (take l.binding-index l.bindings)) l.count;
 }

@@ -3,7 +3,7 @@ use Rattle.std.proofs.lemmas.List.{get_or_read}
 use Rattle.mintc_netlist.specs.declared.module.Module.{Module}
 use Rattle.mintc_netlist.specs.Connections.{ports_of}
 use Rattle.mintc_flatten_hierarchy.specs.Sources.{module_at, no_module}
-use Rattle.mintc_flatten_binding.specs.Homes.{source_in}
+use Rattle.mintc_flatten_binding.specs.NetsOfModules.{source_in}
 use Rattle.mintc_flatten_hierarchy.specs.Walks.{place_at, steps_from, inside}
 use Rattle.mintc_flatten_hierarchy.specs.Hierarchies.{top_port}
 use Rattle.mintc_flatten.specs.Growing.{Lists, sizes, grown_all}

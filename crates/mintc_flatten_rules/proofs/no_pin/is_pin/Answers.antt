@@ -7,11 +7,11 @@ use Rattle.mintc_flatten_binding.specs.Orders.{IsThere}
 use Rattle.mintc_flatten_rules.proofs.no_pin.is_pin.Goals as goal
 
 pub returns-in-OfCell : goal.returns-in-OfCell
-returns-in-OfCell c = c.is_cell_pin.ensures ∙ is_pin_of_cell (source_of c.args.cells.now c.args.modules.now) c.in-OfCell.number c.args.target c.args.name.now c.in-OfCell.is
+returns-in-OfCell c = c.is_cell_pin.ensures ∙ is_pin_of_cell (source_of c.args.cells.now c.args.modules.now) c.in-OfCell.number c.args.binding c.args.name.now c.in-OfCell.is
 
 pub returns-in-OfModule : goal.returns-in-OfModule
 returns-in-OfModule c =
     let s = source_of c.args.cells.now c.args.modules.now in
     c.has.ensures
-    ∙ is_pin_of_module s c.in-OfModule.number c.args.target c.args.name.now c.index-ports-number.result c.in-OfModule.is
+    ∙ is_pin_of_module s c.in-OfModule.number c.args.binding c.args.name.now c.index-ports-number.result c.in-OfModule.is
     (kept_at s port_set c.args.ports.now c.in-OfModule.number c.index-ports-number.result c.requires.ports (subst (IsThere s) c.in-OfModule.is c.requires.there) c.index-ports-number.is)

@@ -7,4 +7,4 @@ use Rattle.mintc_flatten_rules.proofs.recursive.first_leading.Given as goal
 -- what is left has the first at fault
 abbrev pub invariant-loop-number : goal.invariant-loop-number
 invariant-loop-number l = let test = is_recursive (source_of l.cells l.modules) in
-    first_after test l.home (take l.number l.items) (drop l.number l.items) ≡ first_after test l.home [] l.items
+    first_after test l.module_nets (take l.number l.items) (drop l.number l.items) ≡ first_after test l.module_nets [] l.items

@@ -2,7 +2,7 @@ use Rattle.std.proofs.Common.{◌≡◌, ℕ, List, false, is_some, sym, ap, not
 use Rattle.std.proofs.lemmas.Grind.{common_steps}
 use Rattle.mintc_cells.specs.Entries.{number_of}
 use Rattle.mintc_flatten_hierarchy.specs.Sources.{is_stub}
-use Rattle.mintc_flatten_binding.specs.Homes.{source_in}
+use Rattle.mintc_flatten_binding.specs.NetsOfModules.{source_in}
 use Rattle.mintc_flatten_hierarchy.specs.Faults.{is_misfit}
 use Rattle.mintc_flatten_rules.proofs.FirstLaws.{modules-found, modules-none}
 use Rattle.mintc_flatten_rules.proofs.WidthLaws.{own}

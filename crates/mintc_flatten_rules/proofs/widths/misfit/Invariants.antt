@@ -1,6 +1,6 @@
 use Rattle.std.proofs.Common.{◌≡◌, drop, filter, not}
 use Rattle.mintc_flatten_hierarchy.specs.Sources.{is_stub}
-use Rattle.mintc_flatten_binding.specs.Homes.{source_in}
+use Rattle.mintc_flatten_binding.specs.NetsOfModules.{source_in}
 use Rattle.mintc_flatten_hierarchy.specs.Faults.{is_misfit}
 use Rattle.mintc_flatten_rules.specs.Firsts.{first_of}
 use Rattle.mintc_flatten_rules.proofs.widths.misfit.Given as goal

@@ -29,17 +29,17 @@ lesser-requires-clause-near c = λ k lt.
     rw (own_is, read_is c.sums-sum.result c.sums-sum.ensures.vector)
     (sum_differs (number_at c.args.row.now k) (number_at c.args.other.now k) (number_at c.sums-sum.result k) c.args.add (c.requires.row k lt) (c.requires.other k lt) c.requires.add (sums k lt))
 
-pub joined-requires-clause-row : goal.joined-requires-clause-row
-joined-requires-clause-row c = read_vector _ c.numbers-own.ensures.vector
+pub choose_lanes-requires-clause-row : goal.choose_lanes-requires-clause-row
+choose_lanes-requires-clause-row c = read_vector _ c.numbers-own.ensures.vector
 
-pub joined-requires-clause-other : goal.joined-requires-clause-other
-joined-requires-clause-other c = read_vector _ c.numbers-others.ensures.vector
+pub choose_lanes-requires-clause-other : goal.choose_lanes-requires-clause-other
+choose_lanes-requires-clause-other c = read_vector _ c.numbers-others.ensures.vector
 
-pub joined-requires-clause-sum : goal.joined-requires-clause-sum
-joined-requires-clause-sum c = read_vector _ c.sums-sum.ensures.vector
+pub choose_lanes-requires-clause-sum : goal.choose_lanes-requires-clause-sum
+choose_lanes-requires-clause-sum c = read_vector _ c.sums-sum.ensures.vector
 
-pub joined-requires-clause-chosen : goal.joined-requires-clause-chosen
-joined-requires-clause-chosen c = read_vector _ c.lesser.ensures.vector
+pub choose_lanes-requires-clause-chosen : goal.choose_lanes-requires-clause-chosen
+choose_lanes-requires-clause-chosen c = read_vector _ c.lesser.ensures.vector
 
 pub returns : goal.returns
 returns c =
@@ -49,14 +49,14 @@ returns c =
     let others_is : read c.numbers-others.result ≡ other = read_is c.numbers-others.result c.numbers-others.ensures.vector ∙ c.numbers-others.ensures.numbers in
     let sum_is = read_is c.sums-sum.result c.sums-sum.ensures.vector in
     let chosen_is = read_is c.lesser.result c.lesser.ensures.vector in
-    let lanes : AreJoined int_min row other c.args.add c.joined.result =
-    are_joined int_min row other c.sums-sum.result c.lesser.result c.joined.result c.args.add IsChoice-int_min c.requires.row c.requires.other c.requires.add
+    let lanes : AreJoined int_min row other c.args.add c.choose_lanes.result =
+    are_joined int_min row other c.sums-sum.result c.lesser.result c.choose_lanes.result c.args.add IsChoice-int_min c.requires.row c.requires.other c.requires.add
     (rw (others_is, to_z-of_z w64 c.args.add c.ranges.add) at c.sums-sum.ensures.numbers)
     (rw (own_is, sum_is) at c.lesser.ensures.numbers)
-    (rw (own_is, others_is, sum_is, chosen_is) at c.joined.ensures.numbers) in
-    rw (read_is c.joined.result c.joined.ensures.vector)
+    (rw (own_is, others_is, sum_is, chosen_is) at c.choose_lanes.ensures.numbers) in
+    rw (read_is c.choose_lanes.result c.choose_lanes.ensures.vector)
     record {
       lanes = lanes;
-      present = are_present int_min row other c.joined.result c.args.add lanes;
-      bounds = are_within int_min row other c.joined.result c.args.add IsChoice-int_min lanes;
+      present = are_present int_min row other c.choose_lanes.result c.args.add lanes;
+      bounds = are_within int_min row other c.choose_lanes.result c.args.add IsChoice-int_min lanes;
     }

@@ -5,4 +5,4 @@ use Rattle.mintc_liberty.proofs.places.opens.Goals as goal
 
 pub returns-in-Some-clause-passed : goal.returns-in-Some-clause-passed
 returns-in-Some-clause-passed c =
-    both-ways c.mark.result c.mark.ensures.passed (λ f. opened-there _ _ _ _ c.in-Some.ensures.some (f [])) (λ n. opened-not _ _ _ c.in-Some.ensures.some n.0)
+    both-ways c.eat_sign.result c.eat_sign.ensures.passed (λ f. opened-there _ _ _ _ c.in-Some.ensures.some (f [])) (λ n. opened-not _ _ _ c.in-Some.ensures.some n.0)

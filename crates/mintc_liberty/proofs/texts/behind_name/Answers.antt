@@ -9,16 +9,16 @@ abbrev behind_item : Option (List Token) → Option (List Token)
 behind_item o = option_and_then after_left (option_and_then after_closing o)
 
 pub returns-then-not-item : goal.returns-then-not-item
-returns-then-not-item c = ap behind_name (c.if-not-mark.ensures.passed []) ∙ ap behind_item c.if-not-item.ensures.passed.0
+returns-then-not-item c = ap behind_name (c.if-not-eat_sign.ensures.passed []) ∙ ap behind_item c.if-not-item.ensures.passed.0
 
-pub returns-then-not-mark-2 : goal.returns-then-not-mark-2
-returns-then-not-mark-2 c =
-    ap behind_name (c.if-not-mark.ensures.passed []) ∙ ap behind_item c.if-not-item.ensures.passed
-    ∙ ap (option_and_then after_left) (not-closing c.item.new.scanner.tokens c.if-not-mark-2.ensures.passed.0)
+pub returns-then-not-eat_sign-2 : goal.returns-then-not-eat_sign-2
+returns-then-not-eat_sign-2 c =
+    ap behind_name (c.if-not-eat_sign.ensures.passed []) ∙ ap behind_item c.if-not-item.ensures.passed
+    ∙ ap (option_and_then after_left) (not-closing c.item.new.scanner.tokens c.if-not-eat_sign-2.ensures.passed.0)
 
 pub returns : goal.returns
 returns c =
-    let chain : behind_name c.args.scanner.now.tokens ≡ after_left c.mark-2.new.scanner.tokens =
-    ap behind_name (c.if-not-mark.ensures.passed []) ∙ ap behind_item c.if-not-item.ensures.passed
-    ∙ ap (λ ts. option_and_then after_left (after_closing ts)) (c.if-not-mark-2.ensures.passed []) in
-    both-ways c.mark-3.result c.mark-3.ensures.passed (λ f. chain ∙ ap after_left (f [])) (λ n. chain ∙ not-left c.mark-2.new.scanner.tokens n.0)
+    let chain : behind_name c.args.scanner.now.tokens ≡ after_left c.eat_sign-2.new.scanner.tokens =
+    ap behind_name (c.if-not-eat_sign.ensures.passed []) ∙ ap behind_item c.if-not-item.ensures.passed
+    ∙ ap (λ ts. option_and_then after_left (after_closing ts)) (c.if-not-eat_sign-2.ensures.passed []) in
+    both-ways c.eat_sign-3.result c.eat_sign-3.ensures.passed (λ f. chain ∙ ap after_left (f [])) (λ n. chain ∙ not-left c.eat_sign-2.new.scanner.tokens n.0)

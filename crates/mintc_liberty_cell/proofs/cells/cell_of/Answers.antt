@@ -7,8 +7,8 @@ use Rattle.mintc_liberty_tokens.proofs.SharedPassingLaws.{if-some}
 use Rattle.mintc_liberty_cell.proofs.SharedCountLaws.{CountedIf, counted, the-counts}
 use Rattle.mintc_liberty_cell.proofs.cells.cell_of.Goals as goal
 
-pub kept-requires : goal.kept-requires
-kept-requires c =
+pub if_within_rules-requires : goal.if_within_rules-requires
+if_within_rules-requires c =
     let parts = c.in-Some.parts in
     let held_now = held (c.args.room - 1) parts in
     let are : are_pins (pins_seen parts.pins.items) ≡ true =

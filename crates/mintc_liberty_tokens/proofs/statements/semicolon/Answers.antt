@@ -4,4 +4,4 @@ use Rattle.mintc_liberty_tokens.proofs.SharedPassingLaws.{same-tokens, no-semico
 use Rattle.mintc_liberty_tokens.proofs.statements.semicolon.Goals as goal
 
 pub returns-clause-passed : goal.returns-clause-passed
-returns-clause-passed c = one-way c.mark.result c.mark.ensures.passed (λ f. sym (ap past_semicolon (f []))) (λ n. same-tokens _ _ n.1 ∙ sym (no-semicolon c.args.scanner.now.tokens n.0))
+returns-clause-passed c = one-way c.eat_sign.result c.eat_sign.ensures.passed (λ f. sym (ap past_semicolon (f []))) (λ n. same-tokens _ _ n.1 ∙ sym (no-semicolon c.args.scanner.now.tokens n.0))

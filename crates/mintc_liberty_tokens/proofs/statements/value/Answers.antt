@@ -8,4 +8,4 @@ pub returns-clause-passed : goal.returns-clause-passed
 returns-clause-passed c =
     let chain : value_rest c.args.scanner.now.tokens ≡ after_semicolon c.pass_value-in-loop.new.scanner.tokens =
     c.loop.invariant.same ∙ ap after_semicolon (past-none is_value c.loop.scanner.tokens c.loop-test.ensures.passed.0 ∙ sym (same-tokens _ _ c.loop-test.ensures.passed.1)) in
-    both-ways c.mark.result c.mark.ensures.passed (λ f. chain ∙ ap after_semicolon (f [])) (λ n. chain ∙ not-semicolon c.pass_value-in-loop.new.scanner.tokens n.0)
+    both-ways c.eat_sign.result c.eat_sign.ensures.passed (λ f. chain ∙ ap after_semicolon (f [])) (λ n. chain ∙ not-semicolon c.pass_value-in-loop.new.scanner.tokens n.0)

@@ -4,7 +4,7 @@ use Rattle.std.proofs.lemmas.List.{with_items_is}
 use Rattle.mintc_timing.specs.declared.parts.Element.{Element}
 use Rattle.mintc_timing.specs.declared.parts.Pair.{Pair}
 use Rattle.mintc_paths.specs.Sums.{AreRows}
-use Rattle.mintc_paths.proofs.SharedTurnedPairs.{IsFoundBefore-back, IsFoundBefore-many}
+use Rattle.mintc_paths.proofs.SharedReversedPairs.{IsFoundBefore-back, IsFoundBefore-many}
 use Rattle.mintc_paths.proofs.back.find_backward.Goals as goal
 use Rattle.mintc_paths.proofs.back.find_backward.Goals.{In-Ok}
 
@@ -21,10 +21,10 @@ pub returns-clause-found : goal.returns-clause-found
 returns-clause-found c =
     let rows = rows_are (goal.at.returns-clause-found c).In-Ok in
     let found = c.in_ok-found.found in
-    let pairs = c.turn_pairs.new.pairs in
+    let pairs = c.reverse_pairs.new.pairs in
     let was = c.deref_mut.ensures.value in
     let same_was = ap (λ (ps : List Pair). length ps) was in
-    let is : (with_items found.pairs pairs).items ≡ pairs = with_items_is found.pairs pairs (omega (arith, found.pairs.ok.0, c.turn_pairs.auto.pairs)) in
+    let is : (with_items found.pairs pairs).items ≡ pairs = with_items_is found.pairs pairs (omega (arith, found.pairs.ok.0, c.reverse_pairs.auto.pairs)) in
     IsFoundBefore-back c.args.flat.now c.elements.ensures.kept c.in-Ok.places.of_bits.items c.in-Ok.places.bits.items rows.of_bits rows.bits found c.in_ok-found.ensures.found c.if-found.false pairs
-    (rw was at c.turn_pairs.ensures.permutation) c.turn_pairs.ensures.sorted
+    (rw was at c.reverse_pairs.ensures.permutation) c.reverse_pairs.ensures.sorted
     (record { pairs = with_items found.pairs pairs; count = found.count; ends = found.ends }) refl is

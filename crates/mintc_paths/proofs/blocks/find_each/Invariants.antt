@@ -8,7 +8,7 @@ use Rattle.mintc_paths.proofs.blocks.find_each.Given as goal
 abbrev pub invariant-loop-first : goal.invariant-loop-first
 invariant-loop-first g l = record {
   marked : AreMarked l.sums l.reached;
-  ready : IsReady (length l.plan.course.now.along.items) l.awake;
+  ready : IsReady (length l.plan.sequence.now.along.items) l.awake;
   found : IsFoundBefore g.of.design l.first 0 l.found;
   short : AreShortBefore g.of.design l.first;
   inside : l.first ≤ l.plan.elements;

@@ -6,5 +6,5 @@ use Rattle.mintc_paths.proofs.longest.raise_all.Given as goal
 abbrev pub invariant-loop-place : goal.invariant-loop-place
 invariant-loop-place l = record {
   count : length l.sums ≡ length l.fn.sums;
-  carried : AreCarried l.flat.arcs l.order l.place (bit_sums l.course.rows.of_bits.items l.sums);
+  carried : AreCarried l.flat.arcs l.order l.place (bit_sums l.sequence.rows.of_bits.items l.sums);
 }

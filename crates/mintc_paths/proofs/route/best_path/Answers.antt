@@ -19,9 +19,9 @@ sums_are g c =
     let order = c.order-order.result.now in
     let of_is : g.of ≡ ordered design order = rw (c.flat-flat.ensures.value, c.order-order.ensures) c.requires.0 in
     let bits : length c.in-Ok.sums ≡ 2 * length design.elements + length design.inner = search rules in
-    let rows = c.in-Ok-plain_course.course.rows.of_bits.items in
-    let count = c.in-Ok-plain_course.ensures.course.rows.of_bits.count in
-    rw (of_is, placed_plain rows c.fill.new.sums (omega (arith, bits, c.in-Ok-fill.ensures.count)) (λ bit low. c.in-Ok-plain_course.ensures.own bit (omega arith))) at c.in-Ok-fill.ensures.sums
+    let rows = c.in-Ok-plain_sequence.sequence.rows.of_bits.items in
+    let count = c.in-Ok-plain_sequence.ensures.sequence.rows.of_bits.count in
+    rw (of_is, placed_plain rows c.fill.new.sums (omega (arith, bits, c.in-Ok-fill.ensures.count)) (λ bit low. c.in-Ok-plain_sequence.ensures.own bit (omega arith))) at c.in-Ok-fill.ensures.sums
 
 pub trace-requires-clause-bounded : goal.trace-requires-clause-bounded
 trace-requires-clause-bounded g c = λ bit inside.

@@ -9,15 +9,15 @@ use Rattle.mintc_paths.proofs.sums.clear.Goals as goal
 
 pub loop-lane-init : goal.loop-lane-init
 loop-lane-init c = record {
-  begun = λ arcs order. AreBegun-placed_none arcs order c.args.first (length c.args.sums.now) c.args.course.now.rows c.requires.rows c.wipe.new.sums c.wipe.ensures.count c.wipe.ensures.none;
+  begun = λ arcs order. AreBegun-placed_none arcs order c.args.first (length c.args.sums.now) c.args.sequence.now.rows c.requires.rows c.wipe.new.sums c.wipe.ensures.count c.wipe.ensures.none;
   marked = c.wipe.ensures.marked;
-  awake = IsAwake-none c.args.course.now.along.items 0 c.wipe.new.reached c.args.awake.now c.requires.ready c.wipe.ensures.off;
+  awake = IsAwake-none c.args.sequence.now.along.items 0 c.wipe.new.reached c.args.awake.now c.requires.ready c.wipe.ensures.off;
   count = c.wipe.ensures.count;
 }
 
 pub loop-lane-preserved : goal.loop-lane-preserved
 loop-lane-preserved c =
-    let rows = c.args.course.now.rows.of_bits.items in
+    let rows = c.args.sequence.now.rows.of_bits.items in
     let n : ℕ = length c.args.sums.now in
     let lane : ℕ = c.loop-lane.lane in
     let bit : ℕ = 2 * (c.args.first + lane) + 1 in
@@ -29,7 +29,7 @@ loop-lane-preserved c =
     let begun : IsBegun old new row lane = record { others = c.begin.ensures.others; lanes = c.in_ok-begin.ensures.lanes; own = c.in_ok-begin.ensures.own } in
     record {
       begun = λ arcs order.
-          AreBegun-placed_more arcs order c.args.first lane n c.args.course.now.rows c.requires.rows old new (omega arith) inside
+          AreBegun-placed_more arcs order c.args.first lane n c.args.sequence.now.rows c.requires.rows old new (omega arith) inside
           (rw is_row at begun) (c.loop-lane.invariant.begun arcs order);
       marked = rw c.reach.ensures.reached (marked_more old new c.loop-lane.reached row c.begin.ensures.count c.begin.ensures.others c.loop-lane.invariant.marked);
       awake = c.reach.ensures.awake 0 c.loop-lane.invariant.awake;

@@ -19,29 +19,29 @@ pub loop-place-init : goal.loop-place-init
 loop-place-init g c =
     let begun = c.in_ok-clear.ensures.begun g.of.design.arcs g.of.order in
     record {
-      sums_so_far = passed_next g.of.design g.of.order c.requires.0.is_ordered.order c.requires.0.is_ordered.kept c.args.course.now (length c.args.sums.now) c.requires.0.is_course c.requires.0.bits
+      sums_so_far = passed_next g.of.design g.of.order c.requires.0.is_ordered.order c.requires.0.is_ordered.kept c.args.sequence.now (length c.args.sums.now) c.requires.0.is_sequence c.requires.0.bits
           c.args.first c.args.lanes c.requires.1.0 c.clear.new.sums c.in_ok-clear.ensures.count c.clear.new.reached c.in_ok-clear.ensures.marked c.clear.new.awake 0 c.next-place.result (omega arith)
           (omega arith) c.in_ok-clear.ensures.awake c.next-place.ensures.none begun.sums_so_far;
       marked = c.in_ok-clear.ensures.marked;
-      awake = IsAwake-later c.args.course.now.along.items 0 c.next-place.result c.clear.new.reached c.clear.new.awake (omega arith) c.in_ok-clear.ensures.awake;
+      awake = IsAwake-later c.args.sequence.now.along.items 0 c.next-place.result c.clear.new.reached c.clear.new.awake (omega arith) c.in_ok-clear.ensures.awake;
       count = c.in_ok-clear.ensures.count;
     }
 
 -- the arc that the loop reads
-arc_is : (g : Over) (c : After-index-arc g) → c.index-arc.result.now ≡ arc_at c.args.course.now.along.items c.loop-place.place
-arc_is g c = c.index-arc.ensures ∙ get_or_default c.args.course.now.along.items c.loop-place.place c.index-arc.result.now no_arc (omega (arith, c.args.course.now.along.ok.0))
+arc_is : (g : Over) (c : After-index-arc g) → c.index-arc.result.now ≡ arc_at c.args.sequence.now.along.items c.loop-place.place
+arc_is g c = c.index-arc.ensures ∙ get_or_default c.args.sequence.now.along.items c.loop-place.place c.index-arc.result.now no_arc (omega (arith, c.args.sequence.now.along.ok.0))
 
 -- the sums along the arcs before it
-so_far : (g : Over) (c : After-index-arc g) → AreSums g.of.design.arcs g.of.order c.loop-place.place c.args.first c.args.lanes (placed c.args.course.now.rows.of_bits.items c.loop-place.sums)
-so_far g c = rw (at_place c.loop-place.place (length g.of.order) (omega (arith, c.args.course.now.along.ok.0, c.requires.0.is_course.along.count))) at c.loop-place.invariant.sums_so_far
+so_far : (g : Over) (c : After-index-arc g) → AreSums g.of.design.arcs g.of.order c.loop-place.place c.args.first c.args.lanes (placed c.args.sequence.now.rows.of_bits.items c.loop-place.sums)
+so_far g c = rw (at_place c.loop-place.place (length g.of.order) (omega (arith, c.args.sequence.now.along.ok.0, c.requires.0.is_sequence.along.count))) at c.loop-place.invariant.sums_so_far
 
 -- the sums at its ends
 ends : (g : Over) (c : After-index-arc g) → IsSmallAt c.loop-place.sums c.index-arc.result.now
 ends g c =
     let h = c.requires.0 in
     rw (arc_is g c)
-    (ends_small g.of.design g.of.order h.is_ordered.order h.is_ordered.kept c.args.course.now (length c.args.sums.now) h.is_course h.bits c.args.first c.args.lanes c.requires.1.0
-    c.loop-place.sums c.loop-place.invariant.count c.loop-place.place (omega (arith, c.args.course.now.along.ok.0, h.is_course.along.count)) (so_far g c))
+    (ends_small g.of.design g.of.order h.is_ordered.order h.is_ordered.kept c.args.sequence.now (length c.args.sums.now) h.is_sequence h.bits c.args.first c.args.lanes c.requires.1.0
+    c.loop-place.sums c.loop-place.invariant.count c.loop-place.place (omega (arith, c.args.sequence.now.along.ok.0, h.is_sequence.along.count)) (so_far g c))
 
 pub carry-requires-clause-from_bounded : goal.carry-requires-clause-from_bounded
 carry-requires-clause-from_bounded g c = (ends g (goal.at.carry-requires-clause-from_bounded g c).After-index-arc).from
@@ -55,9 +55,9 @@ carry-requires-clause-alike g c = (ends g (goal.at.carry-requires-clause-alike g
 pub loop-place-preserved : goal.loop-place-preserved
 loop-place-preserved g c =
     let i : ℕ = c.loop-place.place in
-    let along = c.args.course.now.along.items in
-    let all = c.requires.0.is_course.along.count in
-    let low : i < length g.of.order = omega (arith, c.args.course.now.along.ok.0) in
+    let along = c.args.sequence.now.along.items in
+    let all = c.requires.0.is_sequence.along.count in
+    let low : i < length g.of.order = omega (arith, c.args.sequence.now.along.ok.0) in
     let turn = (goal.at.loop-place-preserved g c).After-index-arc in
     let h = c.in_ok-carry.ensures in
     let carried : IsCarried c.index-arc.result.now c.loop-place.sums c.carry.new.sums = record { others = h.others; greatest = h.greatest; least = h.least; bounded = h.bounded } in
@@ -65,10 +65,10 @@ loop-place-preserved g c =
     (IsAwake-next along i c.loop-place.reached c.loop-place.awake _ c.remove.ensures.count c.remove.ensures.others c.loop-place.invariant.awake) in
     let same : length c.carry.new.sums ≡ length c.args.sums.now = h.count ∙ c.loop-place.invariant.count in
     record {
-      sums_so_far = passed_next g.of.design g.of.order c.requires.0.is_ordered.order c.requires.0.is_ordered.kept c.args.course.now (length c.args.sums.now) c.requires.0.is_course c.requires.0.bits
+      sums_so_far = passed_next g.of.design g.of.order c.requires.0.is_ordered.order c.requires.0.is_ordered.kept c.args.sequence.now (length c.args.sums.now) c.requires.0.is_sequence c.requires.0.bits
           c.args.first c.args.lanes c.requires.1.0 c.carry.new.sums same c.carry.new.reached h.marked c.carry.new.awake (i + 1) c.next-place-in-loop-place.result (omega arith)
           (omega arith) awake c.next-place-in-loop-place.ensures.none
-          (carried_along g.of.design g.of.order c.requires.0.is_ordered.order c.requires.0.is_ordered.kept c.args.course.now (length c.args.sums.now) c.requires.0.is_course c.requires.0.bits
+          (carried_along g.of.design g.of.order c.requires.0.is_ordered.order c.requires.0.is_ordered.kept c.args.sequence.now (length c.args.sums.now) c.requires.0.is_sequence c.requires.0.bits
           c.args.first c.args.lanes c.requires.1.0 c.loop-place.sums c.loop-place.invariant.count c.carry.new.sums h.count i low (rw (arc_is g turn) at carried) (so_far g turn));
       marked = h.marked;
       awake = IsAwake-later along (i + 1) c.next-place-in-loop-place.result c.carry.new.reached c.carry.new.awake (omega arith) awake;
@@ -77,17 +77,17 @@ loop-place-preserved g c =
 
 pub returns-clause-extremes : goal.returns-clause-extremes
 returns-clause-extremes g c =
-    let all = c.requires.0.is_course.along.count in
-    let past : length g.of.order ≤ c.loop-place.place = omega (arith, c.args.course.now.along.ok.0) in
-    let rows = c.args.course.now.rows.of_bits.items in
-    let in_rows = c.requires.0.is_course.rows.of_bits.count in
+    let all = c.requires.0.is_sequence.along.count in
+    let past : length g.of.order ≤ c.loop-place.place = omega (arith, c.args.sequence.now.along.ok.0) in
+    let rows = c.args.sequence.now.rows.of_bits.items in
+    let in_rows = c.requires.0.is_sequence.rows.of_bits.count in
     let same = length-placed rows c.loop-place.sums in
     AreExtremes-from_sums g.of.design g.of.order c.requires.0.is_ordered.order c.args.first c.args.lanes (placed rows c.loop-place.sums) (omega arith) c.requires.1.1.0 c.requires.0.is_ordered.kept.each_arc
     (rw (at_end c.loop-place.place (length g.of.order) past) at c.loop-place.invariant.sums_so_far)
 
 pub next-place-requires-in-loop-place : goal.next-place-requires-in-loop-place
 next-place-requires-in-loop-place g c =
-    let rest = IsAwake-next c.args.course.now.along.items c.loop-place.place c.loop-place.reached c.loop-place.awake _ c.remove.ensures.count c.remove.ensures.others c.loop-place.invariant.awake in
+    let rest = IsAwake-next c.args.sequence.now.along.items c.loop-place.place c.loop-place.reached c.loop-place.awake _ c.remove.ensures.count c.remove.ensures.others c.loop-place.invariant.awake in
     (c.in_ok-carry.ensures.awake (c.loop-place.place + 1) rest).ready.few
 
 pub carry-requires-clause-from : goal.carry-requires-clause-from

@@ -8,7 +8,7 @@ abbrev pub invariant-loop-first : goal.invariant-loop-first
 invariant-loop-first g l = record {
   count : IsCountBefore g.of.design l.first 0 l.count;
   marked : AreMarksReached l.marks l.reached;
-  ready : IsReady (length l.course.along.items) l.awake;
+  ready : IsReady (length l.sequence.along.items) l.awake;
   inside : l.first ≤ l.elements;
   bits : length l.marks ≡ length l.fn.marks;
   inputs : length l.ends ≡ length l.fn.ends;

@@ -17,10 +17,10 @@ turn c =
     )
 
 -- what the code adds
-read : (c : goal.After-delay-1) → to_z w64 (of_z w64 c.numbered-link.result.now.delay) ≡ (link_at c.args.links.now (get_or c.args.chain.now c.loop-number.number-index 0)).delay
+read : (c : goal.After-delay-1) → to_z w64 (of_z w64 c.nth_link-link.result.now.delay) ≡ (link_at c.args.links.now (get_or c.args.chain.now c.loop-number.number-index 0)).delay
 read c =
     let k = link_at c.args.links.now (get_or c.args.chain.now c.loop-number.number-index 0) in
-    rw c.numbered-link.ensures (to_z-of_z w64 k.delay (fits_64 4000000000 k.delay (lit< tt) (delay-within c.args.nodes k (turn c).0)))
+    rw c.nth_link-link.ensures (to_z-of_z w64 k.delay (fits_64 4000000000 k.delay (lit< tt) (delay-within c.args.nodes k (turn c).0)))
 
 fits : (c : goal.After-delay-1) → SFits w64 (to_z w64 c.loop-number.delay-bits +ℤ (link_at c.args.links.now (get_or c.args.chain.now c.loop-number.number-index 0)).delay)
 fits c =
@@ -35,12 +35,12 @@ overflow_add-cycles c =
     let one = (turn c).0.cycles in
     let lt = (turn c).1 in
     let few = c.loop-number.invariant.few in
-    rw c.numbered-link.ensures (omega arith)
+    rw c.nth_link-link.ensures (omega arith)
 
 pub loop-number-preserved : goal.loop-number-preserved
 loop-number-preserved c =
     let k = link_at c.args.links.now (get_or c.args.chain.now c.loop-number.number-index 0) in
-    rw (read c, to_z-of_z w64 (to_z w64 c.loop-number.delay-bits +ℤ k.delay) (fits c), c.numbered-link.ensures)
+    rw (read c, to_z-of_z w64 (to_z w64 c.loop-number.delay-bits +ℤ k.delay) (fits c), c.nth_link-link.ensures)
     (summed-more c.args.nodes c.args.links.now c.args.chain.now c.loop-number.number-index _ _ c.loop-number-test.true (turn c).0 c.loop-number.invariant)
 
 pub returns-clause-small : goal.returns-clause-small

@@ -8,7 +8,7 @@ use Rattle.mintc_sdf.proofs.ports.plain_port.Goals as goal
 pub returns-in-Some-clause-some : goal.returns-in-Some-clause-some
 returns-in-Some-clause-some c =
     let p = port-word c.args.reader.now c.word.new.self c.in-Some.word.now c.in-Some.ensures.some in
-    (p.0 ∙ ap (λ n. Some (n, items c.word.new.self)) (sym c.in_ok-unescaped.ensures), p.1)
+    (p.0 ∙ ap (λ n. Some (n, items c.word.new.self)) (sym c.in_ok-without_escapes.ensures), p.1)
 
 pub returns-then-not-open-clause-none : goal.returns-then-not-open-clause-none
 returns-then-not-open-clause-none c =

@@ -6,7 +6,7 @@ pub returns-then-size-rest : goal.returns-then-size-rest
 returns-then-size-rest c =
     c.new.ensures
     ∙ names-end _ _ _ _ _ _ c.piece_size-size.ensures.value c.if-size-rest.true c.loop-out.invariant.whole
-    (c.in_ok-push_name.ensures ∙ ap (λ n. c.loop-out.out.items ++ n ∷ []) c.in_ok-unescaped.ensures)
+    (c.in_ok-push_name.ensures ∙ ap (λ n. c.loop-out.out.items ++ n ∷ []) c.in_ok-without_escapes.ensures)
 
 pub overflow_add-size : goal.overflow_add-size
 overflow_add-size c = omega (arith, c.loop-out.invariant.few, c.piece_size-size.ensures.within)
@@ -17,5 +17,5 @@ loop-out-preserved c =
     record {
       few = omega (arith, c.loop-out.invariant.few, ap length c.rest_from-rest.ensures, length-drop (c.piece_size-size.result + 1) c.loop-out.rest.now);
       whole = names-turn _ _ _ _ _ _ _ c.piece_size-size.ensures.value size c.loop-out.invariant.whole
-          (c.in_ok-push_name.ensures ∙ ap (λ n. c.loop-out.out.items ++ n ∷ []) c.in_ok-unescaped.ensures) c.rest_from-rest.ensures;
+          (c.in_ok-push_name.ensures ∙ ap (λ n. c.loop-out.out.items ++ n ∷ []) c.in_ok-without_escapes.ensures) c.rest_from-rest.ensures;
     }

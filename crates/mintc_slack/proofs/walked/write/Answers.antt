@@ -17,7 +17,7 @@ loop-node-preserved c =
     let far = far_is in
     let from_is : c.from.result ≡ value_at c.args.distances.now i = c.from.ensures ∙ read_narrow (value_at c.args.distances.now i) (omega (arith, ints), omega (arith, ints)) in
     let a : IsWithin 100000000000000000 c.from.result = (omega (arith, ints), omega (arith, ints)) in
-    let is = read_wide c.less-value.result (larger _ _ _ (omega arith) c.less-value.ensures.small) ∙ c.less-value.ensures.value ∙ less-read (value_at c.args.potentials.now i) (value_at c.args.potentials.now c.args.from) c.from.result
+    let is = read_wide c.minus_both-value.result (larger _ _ _ (omega arith) c.minus_both-value.ensures.small) ∙ c.minus_both-value.ensures.value ∙ less-read (value_at c.args.potentials.now i) (value_at c.args.potentials.now c.args.from) c.from.result
     (c.requires.small i (let n = c.requires.count in omega arith)) (c.requires.small c.args.from (let n = c.requires.count in let f = c.requires.inside in omega arith)) a in
     let values_are = ap (λ (r : Space). r.values) c.set_values.ensures in
     let count = c.loop-node.invariant.1 in (

@@ -1,6 +1,6 @@
 use Rattle.std.proofs.Common.{◌≡◌, ◌-◌, ◌++◌, ◌∷◌, ◌≤◌, [], Some, None, take, length, sym, ap, ◌∙◌, arith, subst}
 use Rattle.std.proofs.lemmas.Bool.Decides.{nat_tests}
-use Rattle.mintc_annotate_resolve.specs.Speaking.{leaf_called}
+use Rattle.mintc_annotate_resolve.specs.Resolution.{leaf_called}
 use Rattle.mintc_annotate_resolve.specs.Instances.{scope_called, IsAt}
 use Rattle.mintc_annotate_resolve.proofs.SharedPathLaws.{Path, last_split, no_names}
 use Rattle.mintc_annotate_resolve.proofs.SharedInstanceLaws.{at_top, top_called}

@@ -1,6 +1,6 @@
 use Rattle.std.proofs.Common.{◌≡◌, ◌-◌, ◌++◌, ◌∷◌, [], take, length, ap, ◌∙◌, append_assoc}
 use Rattle.std.proofs.lemmas.Result.{IfOk-weaker}
-use Rattle.mintc_annotate_resolve.specs.Speaking.{leaf_called}
+use Rattle.mintc_annotate_resolve.specs.Resolution.{leaf_called}
 use Rattle.mintc_annotate_resolve.proofs.SharedPathLaws.{Path, last_split}
 use Rattle.mintc_annotate_resolve.proofs.instances.Instances.leaf_below.Goals as goal
 

@@ -10,7 +10,7 @@ pub returns-clause-value : goal.returns-clause-value
 returns-clause-value c =
     let den = c.args.self.now.schedule.now.den in
     let den_fits : SFits w64 den = omega (arith, ints) in
-    let product : c.scaled.result ≡ c.args.delay *ℤ den = rw (to_z-of_z w64 c.args.delay c.ranges.delay, to_z-of_z w64 den den_fits) at c.scaled.ensures.value in
+    let product : c.times_denominator.result ≡ c.args.delay *ℤ den = rw (to_z-of_z w64 c.args.delay c.ranges.delay, to_z-of_z w64 den den_fits) at c.times_denominator.ensures.value in
     let shifted = c.shift.ensures.value in
     rw (← product, ← shifted) (omega (arith, ints))
 

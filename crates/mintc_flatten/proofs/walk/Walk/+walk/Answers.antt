@@ -1,7 +1,7 @@
 use Rattle.std.proofs.Common.{◌≡◌, ◌+◌, ◌∷◌, List, drop, get_or, sym, ap, ◌∙◌}
 use Rattle.std.proofs.lemmas.List.{drop_more}
 use Rattle.mintc_netlist.specs.declared.module.Item.{Item}
-use Rattle.mintc_flatten_binding.specs.Homes.{source_in}
+use Rattle.mintc_flatten_binding.specs.NetsOfModules.{source_in}
 use Rattle.mintc_flatten_hierarchy.specs.Walks.{place_at, steps_from, inside}
 use Rattle.mintc_flatten.specs.Growing.{Lists, sizes, grown_all}
 use Rattle.mintc_flatten.proofs.GrowingLaws.{grown-turn}

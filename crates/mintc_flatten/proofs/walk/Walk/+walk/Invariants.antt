@@ -1,5 +1,5 @@
 use Rattle.std.proofs.Common.{◌≡◌, ◌+◌, ◌*◌, drop}
-use Rattle.mintc_flatten_binding.specs.Homes.{source_in}
+use Rattle.mintc_flatten_binding.specs.NetsOfModules.{source_in}
 use Rattle.mintc_flatten.specs.Places.{place_in}
 use Rattle.mintc_flatten_hierarchy.specs.Walks.{steps_from, inside}
 use Rattle.mintc_flatten.specs.Growing.{sizes, grown_all}

@@ -2,14 +2,14 @@ use Rattle.std.proofs.Common.{arith}
 use Rattle.std.proofs.lemmas.Grind.{common_steps}
 use Rattle.mintc_flatten_binding.proofs.order.PostOrder.step.Goals as goal
 
-pub bounds-targets-number : goal.bounds-targets-number
-bounds-targets-number c = grind (arith, common_steps)
+pub bounds-bindings-number : goal.bounds-bindings-number
+bounds-bindings-number c = grind (arith, common_steps)
 
 pub look-requires-clause-next : goal.look-requires-clause-next
 look-requires-clause-next c = grind (arith, common_steps)
 
-pub look-requires-clause-target : goal.look-requires-clause-target
-look-requires-clause-target c = grind (arith, common_steps)
+pub look-requires-clause-binding : goal.look-requires-clause-binding
+look-requires-clause-binding c = grind (arith, common_steps)
 
 pub look-requires-clause-small : goal.look-requires-clause-small
 look-requires-clause-small c = grind (arith, common_steps)

@@ -1,7 +1,7 @@
 use Rattle.std.proofs.Common.{◌≡◌, take}
-use Rattle.mintc_flatten_rules.specs.Searching.{with_targets}
+use Rattle.mintc_flatten_rules.specs.Searching.{with_bindings}
 use Rattle.mintc_flatten_rules.proofs.recursive.Search.visit_all.Given as goal
 
--- the targets so far are taken in
-abbrev pub invariant-loop-target : goal.invariant-loop-target
-invariant-loop-target l = l.self ≡ with_targets l.initial.self (take l.target-index l.targets)
+-- the bindings so far are taken in
+abbrev pub invariant-loop-binding : goal.invariant-loop-binding
+invariant-loop-binding l = l.self ≡ with_bindings l.initial.self (take l.binding-index l.bindings)

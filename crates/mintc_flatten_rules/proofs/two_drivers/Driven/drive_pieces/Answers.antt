@@ -5,7 +5,7 @@ use Rattle.mintc_flatten_rules.proofs.two_drivers.Driven.drive_pieces.Goals as g
 
 pub returns-then-branch : goal.returns-then-branch
 returns-then-branch c =
-    let m = c.args.home.now.part.now in
+    let m = c.args.module_nets.now.part.now in
     let ps = c.args.pieces.now in
     let n = c.loop-number.number in
     let p = c.index-pieces-pieces.result in
@@ -19,7 +19,7 @@ returns-then-branch c =
 
 pub loop-number-preserved : goal.loop-number-preserved
 loop-number-preserved c =
-    let m = c.args.home.now.part.now in
+    let m = c.args.module_nets.now.part.now in
     let ps = c.args.pieces.now in
     let n = c.loop-number.number in
     let p = c.index-pieces-pieces.result in

@@ -5,4 +5,4 @@ use Rattle.mintc_flatten_rules.proofs.two_drivers.Driven.drive_pieces.Given as g
 
 -- the last pieces are driven
 abbrev pub invariant-loop-number : goal.invariant-loop-number
-invariant-loop-number l = Drives l.initial.self l.self (places_in l.home.part.now (drop (length l.pieces - l.number) l.pieces)) false
+invariant-loop-number l = Drives l.initial.self l.self (places_in l.module_nets.part.now (drop (length l.pieces - l.number) l.pieces)) false

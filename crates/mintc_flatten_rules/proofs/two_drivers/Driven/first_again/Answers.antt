@@ -1,14 +1,14 @@
 use Rattle.std.proofs.Common.{Some, None, take, refl, ◌∙◌}
-use Rattle.mintc_flatten_binding.specs.Homes.{source_in}
+use Rattle.mintc_flatten_binding.specs.NetsOfModules.{source_in}
 use Rattle.mintc_flatten_hierarchy.specs.Faults.{is_second_driver}
-use Rattle.mintc_flatten_rules.proofs.ItemLaws.{item-found, items-none, item-passed, own-passed, target_read, target_there}
+use Rattle.mintc_flatten_rules.proofs.ItemLaws.{item-found, items-none, item-passed, own-passed, binding_read, binding_there}
 use Rattle.mintc_flatten_rules.proofs.DriveLaws.{item_driven, items_more}
 use Rattle.mintc_flatten_rules.proofs.two_drivers.Driven.first_again.Goals as goal
 
 pub returns-then-branch : goal.returns-then-branch
 returns-then-branch c =
     let s = source_in c.args.source.now in
-    let m = c.args.home.now.part.now in
+    let m = c.args.module_nets.now.part.now in
     let is = c.items-items.result.now in
     let n = c.loop-number.number in
     let i = c.index-items-number.result in
@@ -19,7 +19,7 @@ returns-then-branch c =
 pub loop-number-preserved : goal.loop-number-preserved
 loop-number-preserved c =
     let s = source_in c.args.source.now in
-    let m = c.args.home.now.part.now in
+    let m = c.args.module_nets.now.part.now in
     let is = c.items-items.result.now in
     let n = c.loop-number.number in
     let i = c.index-items-number.result in
@@ -32,14 +32,14 @@ loop-number-preserved c =
 pub returns : goal.returns
 returns c =
     let s = source_in c.args.source.now in
-    own-passed (is_second_driver s) c.args.home.now.part.now None refl (items-none (is_second_driver s) c.args.home.now.part.now c.items-items.result.now c.loop-number.number c.loop-number-test.false c.items-items.ensures c.loop-number.invariant.left)
+    own-passed (is_second_driver s) c.args.module_nets.now.part.now None refl (items-none (is_second_driver s) c.args.module_nets.now.part.now c.items-items.result.now c.loop-number.number c.loop-number-test.false c.items-items.ensures c.loop-number.invariant.left)
 
-pub drive_item-requires-clause-target : goal.drive_item-requires-clause-target
-drive_item-requires-clause-target c =
-    target_read (source_in c.args.source.now) c.args.home.now.part.now c.args.targets.now c.items-items.result.now c.loop-number.number c.index-items-number.result _
-    c.requires.targets c.items-items.ensures c.loop-number-test.true c.index-items-number.is
+pub drive_item-requires-clause-binding : goal.drive_item-requires-clause-binding
+drive_item-requires-clause-binding c =
+    binding_read (source_in c.args.source.now) c.args.module_nets.now.part.now c.args.bindings.now c.items-items.result.now c.loop-number.number c.index-items-number.result _
+    c.requires.bindings c.items-items.ensures c.loop-number-test.true c.index-items-number.is
 
 pub drive_item-requires-clause-there : goal.drive_item-requires-clause-there
 drive_item-requires-clause-there c =
-    target_there (source_in c.args.source.now) c.args.home.now.part.now c.args.targets.now c.items-items.result.now c.loop-number.number c.index-items-number.result _
-    c.requires.targets c.items-items.ensures c.loop-number-test.true c.index-items-number.is
+    binding_there (source_in c.args.source.now) c.args.module_nets.now.part.now c.args.bindings.now c.items-items.result.now c.loop-number.number c.index-items-number.result _
+    c.requires.bindings c.items-items.ensures c.loop-number-test.true c.index-items-number.is

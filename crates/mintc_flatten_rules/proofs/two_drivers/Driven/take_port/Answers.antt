@@ -7,7 +7,7 @@ use Rattle.mintc_flatten_rules.proofs.two_drivers.Driven.take_port.Goals as goal
 
 pub returns : goal.returns
 returns c = λ place.
-    let m = c.args.home.now.part.now in
+    let m = c.args.module_nets.now.part.now in
     let name = c.args.name.now in
     let bits = bits_of name (range_of m name) in
     let room : c.deref.result.now ≡ map (bit_place m) bits =

@@ -8,8 +8,8 @@ use Rattle.mintc_order.proofs.search.Search.refuse.Goals.{After-index}
 mark : (c : After-index) → get_or c.args.self.now.marks.items c.args.bit 0 ≡ c.index.result.now - 2 + 2
 mark c = omega (arith, get_or_default c.args.self.now.marks.items c.args.bit 0 c.index.result.now c.requires.bit, c.requires.waits, c.requires.met)
 
-pub closed-requires-clause-first : goal.closed-requires-clause-first
-closed-requires-clause-first c = omega (arith, at_place c.requires.search.0 c.requires.search.1 c.args.bit (c.index.result.now - 2) (mark (goal.at.closed-requires-clause-first c).After-index) c.requires.ends)
+pub cycle_from-requires-clause-first : goal.cycle_from-requires-clause-first
+cycle_from-requires-clause-first c = omega (arith, at_place c.requires.search.0 c.requires.search.1 c.args.bit (c.index.result.now - 2) (mark (goal.at.cycle_from-requires-clause-first c).After-index) c.requires.ends)
 
 pub returns-in-Ok : goal.returns-in-Ok
 returns-in-Ok c = λ arcs leaving all.

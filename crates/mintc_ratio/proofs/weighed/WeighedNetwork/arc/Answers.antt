@@ -21,15 +21,15 @@ returns c =
     let d = (link_at links c.args.number).delay in
     let delay : IsWithin 4000000000 d = delay-within w.nodes (link_at links c.args.number) ordinary in
     let value = rw (
-      c.numbered-link.ensures,
+      c.nth_link-link.ensures,
       to_z-of_z w64 d (fits_64 4000000000 d (lit< tt) delay),
       to_z-of_z w128 w.num (fits_128 (10 ^ 20) w.num (lit< tt) (num_within d d w.num w.den refl delay w.time)),
       to_z-of_z w128 w.den (fits_128 (10 ^ 7) w.den (lit< tt) (den_within d d w.num w.den refl delay w.time)),
     ) at c.weight.ensures.value in
-    rw c.numbered-link.ensures (arc_is (over w.num w.den) links c.args.number c.weight.result below value c.weight.ensures.small)
+    rw c.nth_link-link.ensures (arc_is (over w.num w.den) links c.args.number c.weight.result below value c.weight.ensures.small)
 
-pub numbered-link-requires : goal.numbered-link-requires
-numbered-link-requires c = grind (arith, common_steps)
+pub nth_link-link-requires : goal.nth_link-link-requires
+nth_link-link-requires c = grind (arith, common_steps)
 
 pub weight-requires-clause-delay : goal.weight-requires-clause-delay
 weight-requires-clause-delay c = grind (arith, common_steps)

@@ -1,4 +1,0 @@
-use Rattle.mintc_command_answers.proofs.corners.optimum_of.Given as goal
-
-abbrev pub ghosts-certificate_from : goal.ghosts-certificate_from
-ghosts-certificate_from a = record { name = a.blank.name; parts = a.blank.parts }

@@ -1,0 +1,39 @@
+use Rattle.std.proofs.Common.{◌≡◌, ◌∙◌, [], arith, sym}
+use Rattle.std.proofs.lemmas.List.{get_or_read}
+use Rattle.mintc_text.specs.Stops.{StopsAt}
+use Rattle.mintc_build.specs.FilesDesign.{IsFilesDesign, IsFilesRefusal}
+use Rattle.mintc_command_answers.specs.Corners.{files_with}
+use Rattle.mintc_command_answers.specs.Sources.{file_at}
+use Rattle.mintc_command_answers.specs.declared.command.Source.TheVariants.{Files}
+use Rattle.mintc_command_answers.proofs.SourceLaws.{Gives-system, Refuses-system, StopsAt-design}
+use Rattle.mintc_command_answers.proofs.corners_answers.corner_system.Goals as goal
+
+pub returns-in-Err-clause-stop : goal.returns-in-Err-clause-stop
+returns-in-Err-clause-stop c =
+    let all = c.requires.all in
+    let v : c.items.result.now ≡ file_at c.args.texts.now 0 = c.items.ensures ∙ get_or_read c.args.texts.now 0 c.index-texts-0.result (omega (arith, all)) c.index-texts-0.is [] in
+    let e : c.items-3.result.now ≡ file_at c.args.texts.now 1 = c.items-3.ensures ∙ get_or_read c.args.texts.now 1 c.index-texts-1.result (omega (arith, all)) c.index-texts-1.is [] in
+    let k : c.items-4.result.now ≡ file_at c.args.texts.now 2 = c.items-4.ensures ∙ get_or_read c.args.texts.now 2 c.index-texts-2.result (omega (arith, all)) c.index-texts-2.is [] in
+    let own : StopsAt (IsFilesRefusal (file_at c.args.texts.now 0) c.args.delays.now (file_at c.args.texts.now 1) (file_at c.args.texts.now 2)) c.in-Err.stop =
+    rw (sym v, sym c.items-2.ensures, sym e, sym k) c.in-Err.ensures.stop in
+    StopsAt-design Files (files_with c.args.texts.now c.args.delays.now) c.in-Err.stop own
+
+pub returns-clause-value : goal.returns-clause-value
+returns-clause-value c =
+    let all = c.requires.all in
+    let v : c.items.result.now ≡ file_at c.args.texts.now 0 = c.items.ensures ∙ get_or_read c.args.texts.now 0 c.index-texts-0.result (omega (arith, all)) c.index-texts-0.is [] in
+    let e : c.items-3.result.now ≡ file_at c.args.texts.now 1 = c.items-3.ensures ∙ get_or_read c.args.texts.now 1 c.index-texts-1.result (omega (arith, all)) c.index-texts-1.is [] in
+    let k : c.items-4.result.now ≡ file_at c.args.texts.now 2 = c.items-4.ensures ∙ get_or_read c.args.texts.now 2 c.index-texts-2.result (omega (arith, all)) c.index-texts-2.is [] in
+    let own : IsFilesDesign (file_at c.args.texts.now 0) c.args.delays.now (file_at c.args.texts.now 1) (file_at c.args.texts.now 2) c.in-Ok.flat =
+    rw (sym v, sym c.items-2.ensures, sym e, sym k) c.in-Ok.ensures.value in
+    Gives-system Files (files_with c.args.texts.now c.args.delays.now) c.in-Ok.flat c.accepted_system.result own c.accepted_system.ensures.value
+
+pub returns-clause-stop : goal.returns-clause-stop
+returns-clause-stop c =
+    let all = c.requires.all in
+    let v : c.items.result.now ≡ file_at c.args.texts.now 0 = c.items.ensures ∙ get_or_read c.args.texts.now 0 c.index-texts-0.result (omega (arith, all)) c.index-texts-0.is [] in
+    let e : c.items-3.result.now ≡ file_at c.args.texts.now 1 = c.items-3.ensures ∙ get_or_read c.args.texts.now 1 c.index-texts-1.result (omega (arith, all)) c.index-texts-1.is [] in
+    let k : c.items-4.result.now ≡ file_at c.args.texts.now 2 = c.items-4.ensures ∙ get_or_read c.args.texts.now 2 c.index-texts-2.result (omega (arith, all)) c.index-texts-2.is [] in
+    let own : IsFilesDesign (file_at c.args.texts.now 0) c.args.delays.now (file_at c.args.texts.now 1) (file_at c.args.texts.now 2) c.in-Ok.flat =
+    rw (sym v, sym c.items-2.ensures, sym e, sym k) c.in-Ok.ensures.value in
+    Refuses-system Files (files_with c.args.texts.now c.args.delays.now) c.in-Ok.flat c.accepted_system.result own c.accepted_system.ensures.limits c.accepted_system.ensures.stop

@@ -1,4 +1,0 @@
-use Rattle.mintc_command_answers.proofs.keeping.safe_answer.Given as goal
-
-abbrev pub ghosts-safe_from : goal.ghosts-safe_from
-ghosts-safe_from a = record { name = a.blank.name; parts = a.blank.parts }

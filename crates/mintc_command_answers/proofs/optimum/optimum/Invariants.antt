@@ -1,4 +1,0 @@
-use Rattle.mintc_command_answers.proofs.optimum.optimum.Given as goal
-
-abbrev pub ghosts-optimum_from : goal.ghosts-optimum_from
-ghosts-optimum_from a = record { name = a.blank.name; parts = a.blank.parts }

@@ -1,4 +1,0 @@
-use Rattle.mintc_command_answers.proofs.slacks.slack_answer.Given as goal
-
-abbrev pub ghosts-slacks_from : goal.ghosts-slacks_from
-ghosts-slacks_from a = record { name = a.blank.name; parts = a.blank.parts }

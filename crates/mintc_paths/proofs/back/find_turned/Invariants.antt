@@ -1,4 +1,0 @@
-use Rattle.mintc_paths.proofs.back.find_turned.Given as goal
-
-abbrev pub ghost-find_along : goal.ghost-find_along
-ghost-find_along g a = g.of

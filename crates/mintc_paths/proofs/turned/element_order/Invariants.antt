@@ -1,5 +1,0 @@
-use Rattle.mintc_paths.specs.Sums.{AreRows}
-use Rattle.mintc_paths.proofs.turned.element_order.Given as goal
-
-abbrev pub invariant-loop-bit : goal.invariant-loop-bit
-invariant-loop-bit l = AreRows l.elements l.places

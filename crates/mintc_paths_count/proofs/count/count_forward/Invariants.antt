@@ -1,0 +1,4 @@
+use Rattle.mintc_paths_count.proofs.count.count_forward.Given as goal
+
+abbrev pub ghost-count_along : goal.ghost-count_along
+ghost-count_along g a = g.of
