@@ -64,13 +64,13 @@ fn push_constant(places: &mut Vec<Option<u64>>, width: u32) -> Result<(), OutOfM
 
 impl Nets {
     /// How many bits a piece has.
-    fn piece_width(&self, home: &Module, piece: &Piece) -> u64
-        requires { self.now ≡ table_of home.now }
-        ensures value { result ≡ length (piece_bits home.now piece.now) }
+    fn piece_width(&self, module_nets: &Module, piece: &Piece) -> u64
+        requires { self.now ≡ table_of module_nets.now }
+        ensures value { result ≡ length (piece_bits module_nets.now piece.now) }
         ensures most { result ≤ 2 ^ 32 }
     {
         match piece {
-            Piece::Net { name } => bits(self.range(home, name.bytes())),
+            Piece::Net { name } => bits(self.range(module_nets, name.bytes())),
             Piece::Bit { .. } => 1,
             Piece::Part { msb, lsb, .. } => bits(Some(Span {
                 msb: *msb,
@@ -81,30 +81,30 @@ impl Nets {
     }
 
     /// How many bits an expression has.
-    pub fn width(&self, home: &Module, pieces: &[Piece]) -> u64
-        requires table { self.now ≡ table_of home.now }
+    pub fn width(&self, module_nets: &Module, pieces: &[Piece]) -> u64
+        requires table { self.now ≡ table_of module_nets.now }
         requires few { length pieces.now ≤ MOST_WIDTH }
-        ensures { result ≡ width_of home.now pieces.now }
+        ensures { result ≡ width_of module_nets.now pieces.now }
     {
         let mut width = 0;
         for piece in pieces {
-            width += self.piece_width(home, piece);
+            width += self.piece_width(module_nets, piece);
         }
         width
     }
 
     /// Whether a piece's select fits the range of its name.
-    fn piece_fits(&self, home: &Module, piece: &Piece) -> bool
-        requires { self.now ≡ table_of home.now }
-        ensures { result ≡ piece_fits home.now piece.now }
+    fn piece_fits(&self, module_nets: &Module, piece: &Piece) -> bool
+        requires { self.now ≡ table_of module_nets.now }
+        ensures { result ≡ piece_fits module_nets.now piece.now }
     {
         match piece {
             Piece::Bit { name, at } => is_part(
-                self.range(home, name.bytes()),
+                self.range(module_nets, name.bytes()),
                 Span { msb: *at, lsb: *at },
             ),
             Piece::Part { name, msb, lsb } => is_part(
-                self.range(home, name.bytes()),
+                self.range(module_nets, name.bytes()),
                 Span {
                     msb: *msb,
                     lsb: *lsb,
@@ -115,12 +115,12 @@ impl Nets {
     }
 
     /// Whether the selects of an expression fit the ranges of their names.
-    pub fn selects_fit(&self, home: &Module, pieces: &[Piece]) -> bool
-        requires { self.now ≡ table_of home.now }
-        ensures { result ≡ selects_fit home.now pieces.now }
+    pub fn selects_fit(&self, module_nets: &Module, pieces: &[Piece]) -> bool
+        requires { self.now ≡ table_of module_nets.now }
+        ensures { result ≡ selects_fit module_nets.now pieces.now }
     {
         for piece in pieces {
-            if !self.piece_fits(home, piece) {
+            if !self.piece_fits(module_nets, piece) {
                 return false;
             }
         }
@@ -131,24 +131,24 @@ impl Nets {
     fn push_piece(
         &self,
         alloc: Global,
-        home: &Module,
+        module_nets: &Module,
         piece: &Piece,
         places: &mut Vec<Option<u64>>,
     ) -> Result<(), OutOfMemory>
-        requires { self.now ≡ table_of home.now }
-        ensures { OnOk result (places.new.items ≡ places.old.items ++ map (option_map (place_of home.now)) (piece_bits home.now piece.now)) }
+        requires { self.now ≡ table_of module_nets.now }
+        ensures { OnOk result (places.new.items ≡ places.old.items ++ map (option_map (place_of module_nets.now)) (piece_bits module_nets.now piece.now)) }
     {
         match piece {
-            Piece::Net { name } => self.push_net(alloc, home, name.bytes(), places),
+            Piece::Net { name } => self.push_net(alloc, module_nets, name.bytes(), places),
             Piece::Bit { name, at } => {
-                push_place(places, self.place(home, name.bytes(), Some(*at)))
+                push_place(places, self.place(module_nets, name.bytes(), Some(*at)))
             }
             Piece::Part { name, msb, lsb } => {
                 let part = Span {
                     msb: *msb,
                     lsb: *lsb,
                 };
-                self.push_part(alloc, home, name.bytes(), part, places)
+                self.push_part(alloc, module_nets, name.bytes(), part, places)
             }
             Piece::Constant { width } => push_constant(places, *width),
         }
@@ -158,15 +158,20 @@ impl Nets {
     pub fn push_places(
         &self,
         alloc: Global,
-        home: &Module,
+        module_nets: &Module,
         pieces: &[Piece],
         places: &mut Vec<Option<u64>>,
     ) -> Result<(), OutOfMemory>
-        requires { self.now ≡ table_of home.now }
-        ensures { OnOk result (places.new.items ≡ places.old.items ++ expression_places home.now pieces.now) }
+        requires { self.now ≡ table_of module_nets.now }
+        ensures { OnOk result (places.new.items ≡ places.old.items ++ expression_places module_nets.now pieces.now) }
     {
         for number in 0..pieces.len() {
-            self.push_piece(alloc, home, &pieces[pieces.len() - 1 - number], places)?;
+            self.push_piece(
+                alloc,
+                module_nets,
+                &pieces[pieces.len() - 1 - number],
+                places,
+            )?;
         }
         Ok(())
     }

@@ -32,10 +32,15 @@ impl Model for Nets {
 }
 
 /// The range of a name, by the declarations of a module.
-fn range(home: &Module, ports: &Declarations, wires: &Declarations, name: &[u8]) -> Option<Span>
-    requires ports { ports.now ≡ declared_ports home.now }
-    requires wires { wires.now ≡ declared_nets home.now }
-    ensures { result ≡ range_of home.now name.now }
+fn range(
+    module_nets: &Module,
+    ports: &Declarations,
+    wires: &Declarations,
+    name: &[u8],
+) -> Option<Span>
+    requires ports { ports.now ≡ declared_ports module_nets.now }
+    requires wires { wires.now ≡ declared_nets module_nets.now }
+    ensures { result ≡ range_of module_nets.now name.now }
 {
     match ports.find(name) {
         Some(declaration) => declaration.span,
@@ -48,17 +53,17 @@ fn range(home: &Module, ports: &Declarations, wires: &Declarations, name: &[u8])
 
 impl Nets {
     /// The nets of a module.
-    pub fn new(alloc: Global, home: &Module) -> Result<Nets, OutOfMemory>
-        ensures { IfOk result (λ nets. nets ≡ table_of home.now) }
+    pub fn new(alloc: Global, module_nets: &Module) -> Result<Nets, OutOfMemory>
+        ensures { IfOk result (λ nets. nets ≡ table_of module_nets.now) }
     {
-        let names = net_set(alloc, home)?;
-        let items = home.items.items();
+        let names = net_set(alloc, module_nets)?;
+        let items = module_nets.items.items();
         let ports = Declarations::of_ports(alloc, items)?;
         let wires = Declarations::of_nets(alloc, items)?;
         let mut firsts = Vec::new(alloc);
         let mut count: u64 = 0;
         for place in 0..names.len() {
-            let width = bits(range(home, &ports, &wires, names.name(place)));
+            let width = bits(range(module_nets, &ports, &wires, names.name(place)));
             let Some(next) = count.checked_add(width) else {
                 return Err(OutOfMemory);
             };
@@ -99,17 +104,17 @@ impl Nets {
     }
 
     /// The range of a name.
-    pub fn range(&self, home: &Module, name: &[u8]) -> Option<Span>
-        requires { self.now ≡ table_of home.now }
-        ensures { result ≡ range_of home.now name.now }
+    pub fn range(&self, module_nets: &Module, name: &[u8]) -> Option<Span>
+        requires { self.now ≡ table_of module_nets.now }
+        ensures { result ≡ range_of module_nets.now name.now }
     {
-        range(home, &self.ports, &self.wires, name)
+        range(module_nets, &self.ports, &self.wires, name)
     }
 
     /// Whether a name is declared as an output.
-    pub fn is_output(&self, home: &Module, name: &[u8]) -> bool
-        requires { self.now ≡ table_of home.now }
-        ensures { result ≡ is_output home.now name.now }
+    pub fn is_output(&self, module_nets: &Module, name: &[u8]) -> bool
+        requires { self.now ≡ table_of module_nets.now }
+        ensures { result ≡ is_output module_nets.now name.now }
     {
         match self.ports.find(name) {
             Some(declaration) => declaration.output,
@@ -120,16 +125,16 @@ impl Nets {
     /// The place of a bit of a name that was looked up: where the name is found, and its range.
     fn net_place(
         &self,
-        home: &Module,
+        module_nets: &Module,
         name: &[u8],
         found: Option<usize>,
         span: Option<Span>,
         index: Option<u32>,
     ) -> u64
-        requires table { self.now ≡ table_of home.now }
-        requires found { found ≡ position (bytes_eq name.now) (names_of home.now) }
-        requires span { span ≡ range_of home.now name.now }
-        ensures { result ≡ place_of home.now (bit_of name.now index) }
+        requires table { self.now ≡ table_of module_nets.now }
+        requires found { found ≡ position (bytes_eq name.now) (names_of module_nets.now) }
+        requires span { span ≡ range_of module_nets.now name.now }
+        ensures { result ≡ place_of module_nets.now (bit_of name.now index) }
     {
         let count = self.count;
         match found {
@@ -145,19 +150,19 @@ impl Nets {
     pub(crate) fn push_part(
         &self,
         alloc: Global,
-        home: &Module,
+        module_nets: &Module,
         name: &[u8],
         part: Span,
         places: &mut Vec<Option<u64>>,
     ) -> Result<(), OutOfMemory>
-        requires { self.now ≡ table_of home.now }
-        ensures { OnOk result (places.new.items ≡ places.old.items ++ map (part_place home.now name.now) (indexes part)) }
+        requires { self.now ≡ table_of module_nets.now }
+        ensures { OnOk result (places.new.items ≡ places.old.items ++ map (part_place module_nets.now name.now) (indexes part)) }
     {
         let found = self.names.find(name);
-        let span = self.range(home, name);
+        let span = self.range(module_nets, name);
         for number in 0..bits(Some(part)) {
             let index = index_at(part, number as u32);
-            let place = self.net_place(home, name, found, span, Some(index));
+            let place = self.net_place(module_nets, name, found, span, Some(index));
             let Ok(()) = places.push(Some(place)) else {
                 return Err(OutOfMemory);
             };
@@ -166,15 +171,15 @@ impl Nets {
     }
 
     /// The place of a bit among the bits of the module's nets; how many these are, where it is none of them.
-    pub fn place(&self, home: &Module, name: &[u8], index: Option<u32>) -> u64
-        requires { self.now ≡ table_of home.now }
-        ensures { result ≡ place_of home.now (bit_of name.now index) }
+    pub fn place(&self, module_nets: &Module, name: &[u8], index: Option<u32>) -> u64
+        requires { self.now ≡ table_of module_nets.now }
+        ensures { result ≡ place_of module_nets.now (bit_of name.now index) }
     {
         self.net_place(
-            home,
+            module_nets,
             name,
             self.names.find(name),
-            self.range(home, name),
+            self.range(module_nets, name),
             index,
         )
     }
@@ -183,16 +188,16 @@ impl Nets {
     pub fn push_net(
         &self,
         alloc: Global,
-        home: &Module,
+        module_nets: &Module,
         name: &[u8],
         places: &mut Vec<Option<u64>>,
     ) -> Result<(), OutOfMemory>
-        requires { self.now ≡ table_of home.now }
-        ensures { OnOk result (places.new.items ≡ places.old.items ++ map (bit_place home.now) (bits_of name.now (range_of home.now name.now))) }
+        requires { self.now ≡ table_of module_nets.now }
+        ensures { OnOk result (places.new.items ≡ places.old.items ++ map (bit_place module_nets.now) (bits_of name.now (range_of module_nets.now name.now))) }
     {
-        match self.range(home, name) {
-            Some(span) => self.push_part(alloc, home, name, span, places),
-            None => push_place(places, self.place(home, name, None)),
+        match self.range(module_nets, name) {
+            Some(span) => self.push_part(alloc, module_nets, name, span, places),
+            None => push_place(places, self.place(module_nets, name, None)),
         }
     }
 }

@@ -46,7 +46,7 @@ pub(crate) fn order_from_postorder(
             &ranges.numbers,
             start,
             ranges.starts[bit + 1],
-            &mut order_from_postorder,
+            &mut gathered,
         )?;
     }
     Ok(gathered)

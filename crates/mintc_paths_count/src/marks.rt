@@ -88,7 +88,7 @@ fn begin(
 
 /// The marks that are set in one of two rows.
 #[tactic(auto, using(std::proofs::lemmas::Nat::Bits::bit_at_or))]
-fn union(a: &Marks, b: &Marks) -> Marks
+fn union_of(a: &Marks, b: &Marks) -> Marks
     ensures { (lane : ℕ) → lane < 256 → mark_in result lane ≡ max (mark_in a.now lane) (mark_in b.now lane) }
 {
     Marks {
@@ -124,7 +124,7 @@ fn carry(
     if reached[arc.from as usize] {
         awake.reach(reached, sequence, arc.to);
         let to = arc.to as usize;
-        marks[to] = union(&marks[to], &marks[arc.from as usize]);
+        marks[to] = union_of(&marks[to], &marks[arc.from as usize]);
     }
 }
 

@@ -7,7 +7,7 @@ use Rattle.mintc_netlist_nets.proofs.nets.Nets.new.Goals as goal
 
 pub loop-place-preserved : goal.loop-place-preserved
 loop-place-preserved c =
-    let m = c.args.home.now in
+    let m = c.args.module_nets.now in
     let k = c.loop-place.place in
     let names = names_of m in
     let inside : k < length names = subst (λ (ns : List (List ℕ)). k < length ns) c.in_ok-names.ensures (subst (λ (n : ℕ). k < n) c.len-place-end.ensures c.loop-place-test.true) in

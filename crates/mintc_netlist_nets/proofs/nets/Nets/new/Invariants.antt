@@ -7,5 +7,5 @@ use Rattle.mintc_netlist_nets.proofs.nets.Nets.new.Given as goal
 -- the first bits of the nets so far are known, and how many bits these have
 abbrev pub invariant-loop-place : goal.invariant-loop-place
 invariant-loop-place l =
-    (l.firsts.items ++ firsts_from l.home l.count (drop l.place (names_of l.home)) ≡ firsts_from l.home 0 (names_of l.home))
-    × (l.count ≡ bits_before l.home (take l.place (names_of l.home)))
+    (l.firsts.items ++ firsts_from l.module_nets l.count (drop l.place (names_of l.module_nets)) ≡ firsts_from l.module_nets 0 (names_of l.module_nets))
+    × (l.count ≡ bits_before l.module_nets (take l.place (names_of l.module_nets)))

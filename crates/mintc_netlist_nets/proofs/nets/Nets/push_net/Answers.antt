@@ -8,7 +8,7 @@ use Rattle.mintc_netlist_nets.proofs.nets.Nets.push_net.Goals as goal
 
 pub returns-in-Some : goal.returns-in-Some
 returns-in-Some c =
-    let m = c.args.home.now in
+    let m = c.args.module_nets.now in
     let name = c.args.name.now in
     let same : map (part_place m name) (indexes c.in-Some.span) ≡ map (bit_place m) (bits_of name (range_of m name)) =
     sym (map-map (bit_place m) (λ i. bit_of name (Some i)) (indexes c.in-Some.span)) ∙ ap (λ (span : Option Span). map (bit_place m) (bits_of name span)) (sym c.in-Some.is ∙ c.range.ensures) in

@@ -5,4 +5,4 @@ use Rattle.mintc_netlist_nets.proofs.nets.Nets.push_part.Given as goal
 
 -- the places of the bits so far are taken in
 abbrev pub invariant-loop-number : goal.invariant-loop-number
-invariant-loop-number l = l.places.items ≡ l.initial.places.items ++ map (part_place l.home l.name) (take l.number (indexes l.part))
+invariant-loop-number l = l.places.items ≡ l.initial.places.items ++ map (part_place l.module_nets l.name) (take l.number (indexes l.part))

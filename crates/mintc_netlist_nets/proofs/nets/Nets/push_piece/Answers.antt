@@ -8,7 +8,7 @@ use Rattle.mintc_netlist_nets.proofs.nets.Nets.push_piece.Goals as goal
 
 pub returns-in-Net : goal.returns-in-Net
 returns-in-Net c =
-    let m = c.args.home.now in
+    let m = c.args.module_nets.now in
     let same : map (bit_place m) (bits_of c.bytes.result.now (range_of m c.bytes.result.now)) ≡ places_of m (piece_bits m c.args.piece.now) =
     some_places m (bits_of c.bytes.result.now (range_of m c.bytes.result.now))
     ∙ ap (λ (n : List ℕ). places_of m (map Some (bits_of n (range_of m n)))) c.bytes.ensures
@@ -17,7 +17,7 @@ returns-in-Net c =
 
 pub returns-in-Part : goal.returns-in-Part
 returns-in-Part c =
-    let m = c.args.home.now in
+    let m = c.args.module_nets.now in
     let is = indexes (span_from c.in-Part.msb c.in-Part.lsb) in
     let same : map (part_place m c.bytes-in-Part.result.now) is ≡ places_of m (piece_bits m c.args.piece.now) =
     part_places m c.bytes-in-Part.result.now is
@@ -27,6 +27,6 @@ returns-in-Part c =
 
 pub returns-in-Constant : goal.returns-in-Constant
 returns-in-Constant c =
-    let m = c.args.home.now in
+    let m = c.args.module_nets.now in
     let same = no_places m c.in-Constant.width ∙ ap (λ p. places_of m (piece_bits m p)) (sym c.in-Constant.is) in
     subst (λ (bits : List (Option ℕ)). OnOk c.push_constant.result (c.push_constant.new.places.items ≡ c.args.places.now.items ++ bits)) same c.push_constant.ensures

@@ -10,4 +10,4 @@ loop-number-preserved c =
     let piece = c.index-pieces-pieces.result in
     let inside : k < length (reverse ps) = subst (λ (n : ℕ). k < n) (sym (length-reverse ps)) c.loop-number-test.true in
     let at : piece ≡ get_or (reverse ps) k piece = c.index-pieces-pieces.is ∙ sym (get_or-reverse ps k piece c.loop-number-test.true) in
-    places_step c.args.home.now (reverse ps) k piece c.args.places.now.items c.loop-number.places.items c.push_piece.new.places.items inside at c.loop-number.invariant c.in_ok-push_piece.ensures
+    places_step c.args.module_nets.now (reverse ps) k piece c.args.places.now.items c.loop-number.places.items c.push_piece.new.places.items inside at c.loop-number.invariant c.in_ok-push_piece.ensures

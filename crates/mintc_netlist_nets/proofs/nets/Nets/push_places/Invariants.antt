@@ -6,4 +6,4 @@ use Rattle.mintc_netlist_nets.proofs.nets.Nets.push_places.Given as goal
 
 -- the places of the pieces so far, from the last one, are taken in
 abbrev pub invariant-loop-number : goal.invariant-loop-number
-invariant-loop-number l = l.places.items ≡ l.initial.places.items ++ places_of l.home (flat_map (piece_bits l.home) (take l.number (reverse l.pieces)))
+invariant-loop-number l = l.places.items ≡ l.initial.places.items ++ places_of l.module_nets (flat_map (piece_bits l.module_nets) (take l.number (reverse l.pieces)))

@@ -10,6 +10,6 @@ overflow_add-width c =
 
 pub returns : goal.returns
 returns c =
-    let m = c.args.home.now in
+    let m = c.args.module_nets.now in
     let ps = c.args.pieces.now in
     c.loop-piece.invariant.0 ∙ ap (width_in m) (take_all c.loop-piece.piece-index ps c.loop-piece-test.false) ∙ sym (width_turned m ps)
