@@ -269,3 +269,28 @@ fn refusal_17_has_the_count_of_inner_bits(rt: HostRuntime) -> Result<(), Fail> {
     assert!(rt; table_limit(alloc, inner.as_bytes()) == Some((Kind::Inner, 999_999_999)));
     Ok(())
 }
+
+/// The count of so many arcs, and the rows of all but the two of the ring.
+fn more_arcs(alloc: Global, count: u32) -> Result<String, AllocError> {
+    let mut text = format!(in alloc; "arcs {count}\n")?;
+    for _ in 2..count {
+        text.push_str("arc q0 d1 20 20\n")?;
+    }
+    Ok(text)
+}
+
+/// The ring with so many arcs.
+fn with_arcs(alloc: Global, count: u32) -> Result<String, AllocError> {
+    let more = more_arcs(alloc, count)?;
+    TWO_LATCHES.replacen(alloc, "arcs 2\n", &more, 1)
+}
+
+#[test]
+fn refusal_17_has_the_count_of_arcs(rt: HostRuntime) -> Result<(), Fail> {
+    let alloc = rt.alloc();
+    for (count, limit) in &[(524_288, None), (524_289, Some((Kind::Arcs, 524_289)))] {
+        let text = with_arcs(alloc, *count)?;
+        assert!(rt; has_limit(alloc, text.as_bytes(), *limit), "{count}");
+    }
+    Ok(())
+}
