@@ -1,9 +1,20 @@
-//! Worked rows, of what no clause says: with memory a design has its system, or its refusal, and files have their design.
-use super::systems::built;
-use mintc_tests_designs::{CLOSED_INNER, GREATEST_SUM, SUM_PAST_LIMIT, TWO_THROUGH_INNER};
+//! mintc_build: with memory a table has its system or its refusal, and files have their design.
+use mintc_build::{from_files, from_table, system};
+use mintc_tests_designs::{
+    CLOSED_INNER, GREATEST_SUM, SUM_PAST_LIMIT, TWO_CELLS, TWO_CLOCK, TWO_DELAYS, TWO_NETLIST,
+    TWO_THROUGH_INNER,
+};
 use mintc_text::{Refusal, Stop};
-use mintc_timing::System;
+use mintc_timing::{Flat, System};
+use std::alloc::Global;
+use std::process::Abort;
 use std::test::Fail;
+
+/// The system of a table, or what stops it.
+fn built(rt: &impl Abort, alloc: Global, text: &str) -> Result<System, Stop> {
+    assert!(rt; text.len() < 1_000);
+    system(alloc, from_table(alloc, text.as_bytes())?)
+}
 
 /// Whether these are the pairs of a system: the two elements, the least and the greatest delay.
 fn has_pairs(system: &System, wanted: &[(u32, u32, i64, i64)]) -> bool {
@@ -17,7 +28,7 @@ fn has_pairs(system: &System, wanted: &[(u32, u32, i64, i64)]) -> bool {
 
 // Row check-inner-bit.
 #[test]
-fn a_path_through_an_inner_bit(rt: HostRuntime) -> Result<(), Fail> {
+fn a_path_through_an_inner_bit_makes_a_pair(rt: HostRuntime) -> Result<(), Fail> {
     match built(&rt, rt.alloc(), TWO_THROUGH_INNER) {
         Ok(system) => assert!(rt; has_pairs(&system, &[(0, 1, 20, 20), (1, 0, 60, 60)])),
         Err(_) => panic!(rt; "no system"),
@@ -27,7 +38,7 @@ fn a_path_through_an_inner_bit(rt: HostRuntime) -> Result<(), Fail> {
 
 // Row closed-inner-arcs.
 #[test]
-fn arcs_that_lead_round(rt: HostRuntime) -> Result<(), Fail> {
+fn refusal_16_names_arcs_that_lead_round(rt: HostRuntime) -> Result<(), Fail> {
     match built(&rt, rt.alloc(), CLOSED_INNER) {
         Err(Stop::Refused(Refusal::CombinationalLoop { arcs })) => {
             assert!(rt; arcs.items() == [0, 1].as_slice() || arcs.items() == [1, 0].as_slice());
@@ -39,7 +50,7 @@ fn arcs_that_lead_round(rt: HostRuntime) -> Result<(), Fail> {
 
 // Row path-sum-limit.
 #[test]
-fn the_greatest_sum_of_a_path(rt: HostRuntime) {
+fn a_path_may_have_the_greatest_sum(rt: HostRuntime) {
     match built(&rt, rt.alloc(), GREATEST_SUM) {
         Ok(system) => assert!(rt; has_pairs(&system, &[(0, 0, 1_000_000_000, 1_000_000_000)])),
         Err(_) => panic!(rt; "no system"),
@@ -48,11 +59,59 @@ fn the_greatest_sum_of_a_path(rt: HostRuntime) {
 
 // Row path-sum-limit.
 #[test]
-fn a_sum_above_the_greatest(rt: HostRuntime) {
+fn refusal_21_names_a_path_above_the_greatest_sum(rt: HostRuntime) {
     match built(&rt, rt.alloc(), SUM_PAST_LIMIT) {
         Err(Stop::Refused(Refusal::PathRange { element, bit })) => {
             assert!(rt; element == 0 && bit == 0, "{element} {bit}");
         }
         _ => panic!(rt; "no refusal"),
     }
+}
+
+/// The design of files with these cells.
+pub fn designed(
+    rt: &impl Abort,
+    alloc: Global,
+    netlist: &str,
+    delays: &str,
+    clock: &str,
+) -> Result<Flat, Stop> {
+    assert!(rt;
+        netlist.len() < 10_000
+            && delays.len() < 10_000
+            && TWO_CELLS.len() < 10_000
+            && clock.len() < 10_000
+    );
+    from_files(
+        alloc,
+        netlist.as_bytes(),
+        delays.as_bytes(),
+        TWO_CELLS.as_bytes(),
+        clock.as_bytes(),
+    )
+}
+
+/// The least and the greatest delay of an arc.
+pub fn arc(flat: &Flat, number: usize) -> Option<(i64, i64)> {
+    flat.arcs().get(number).map(|arc| (arc.min, arc.max))
+}
+
+/// Whether a design has so many elements, inner bits and arcs.
+fn has_sizes(flat: &Flat, elements: usize, inner: usize, arcs: usize) -> bool {
+    flat.elements().len() == elements
+        && flat.inner().items().len() == inner
+        && flat.arcs().len() == arcs
+}
+
+// Row worked-files-design.
+#[test]
+fn worked_files_have_their_design(rt: HostRuntime) -> Result<(), Fail> {
+    match designed(&rt, rt.alloc(), TWO_NETLIST, TWO_DELAYS, TWO_CLOCK) {
+        Ok(flat) => {
+            assert!(rt; has_sizes(&flat, 2, 29, 27));
+            assert!(rt; arc(&flat, 23) == Some((20, 20)) && arc(&flat, 26) == Some((50, 60)));
+        }
+        Err(_) => panic!(rt; "no design"),
+    }
+    Ok(())
 }

@@ -1,22 +1,13 @@
-//! Tests of designs and of what is answered of them, of what no clause says. They stand in a crate of their own, so that nothing is
-//! proved twice.
+//! Tests of what makes a design (layer 5), of what no clause says. Each module has the name of the crate whose public calls it
+//! tries, without `mintc_`: the hierarchy of a netlist, the delays of its arcs, systems of tables and designs of files, and samples.
+//! What the files of a netlist are refused for is tried by mintc_tests_run, `refusals` and `limits`.
 #![tactic(auto)]
 
 #[cfg(test)]
-mod bench;
+mod annotate;
 #[cfg(test)]
 mod build;
 #[cfg(test)]
-mod checker;
+mod flatten;
 #[cfg(test)]
-mod constraints;
-#[cfg(test)]
-mod departure;
-#[cfg(test)]
-mod files;
-#[cfg(test)]
-mod order;
-#[cfg(test)]
-mod report;
-#[cfg(test)]
-mod systems;
+mod sample;

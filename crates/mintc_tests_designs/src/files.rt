@@ -1,4 +1,4 @@
-//! The first design as a netlist, with its delays, cells and clock.
+//! The first design as a netlist, with its delays, cells and clock; and its cells as a library.
 
 /// The two latches as a netlist over three levels, in the style of a synthesis tool.
 pub const TWO_NETLIST: &str =
@@ -15,3 +15,15 @@ pub const TWO_CELLS: &str =
 /// Its clock: two phases, each with its port.
 pub const TWO_CLOCK: &str =
     "[[phase]]\nname = \"p1\"\nport = \"phi1\"\n[[phase]]\nname = \"p2\"\nport = \"phi2\"\n";
+
+/// A Liberty library with the same cells, without numbers.
+pub const TWO_LIBRARY: &str =
+    "library (t) { cell (BUF) { area : 1.0 ; pin (A) { direction : input ; } pin (Y) { direction : output ; function : \"A\" ; } } cell (LAT) { latch (IQ, IQN) { enable : \"G\" ; data_in : \"D\" ; } pin (D) { direction : input ; } pin (G) { direction : input ; clock : true ; } pin (Q) { direction : output ; function : \"IQ\" ; } } }";
+
+/// The same library with a definition as its first statement.
+pub const DEFINING_LIBRARY: &str =
+    "library (t) { define (x, cell, float) ; cell (BUF) { area : 1.0 ; pin (A) { direction : input ; } pin (Y) { direction : output ; function : \"A\" ; } } cell (LAT) { latch (IQ, IQN) { enable : \"G\" ; data_in : \"D\" ; } pin (D) { direction : input ; } pin (G) { direction : input ; clock : true ; } pin (Q) { direction : output ; function : \"IQ\" ; } } }";
+
+/// The same library with a bus in its buffer, which so can't be used.
+pub const UNUSABLE_LIBRARY: &str =
+    "library (t) { cell (BUF) { bus (B) { } area : 1.0 ; pin (A) { direction : input ; } pin (Y) { direction : output ; function : \"A\" ; } } cell (LAT) { latch (IQ, IQN) { enable : \"G\" ; data_in : \"D\" ; } pin (D) { direction : input ; } pin (G) { direction : input ; clock : true ; } pin (Q) { direction : output ; function : \"IQ\" ; } } }";

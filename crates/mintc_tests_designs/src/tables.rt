@@ -35,3 +35,19 @@ pub const GREATEST_SUM: &str =
 /// The same with a femtosecond more.
 pub const SUM_PAST_LIMIT: &str =
     "table 1\nphases 1\nphase p\nelements 1\nelement a 1 0 - 0 0 0\ninner 1\narcs 2\narc q0 n0 1000000000 1000000000\narc n0 d0 1 1\nbounds 0\nend\n";
+
+/// Two latches in a ring on one phase, of which the first holds for 18. Its least cycle time is 51/2, and 29 with that hold kept.
+pub const HELD: &str =
+    "table 1\nphases 1\nphase p\nelements 2\nelement a 1 0 18 0 0 0\nelement b 1 0 - 0 0 0\ninner 0\narcs 2\narc q0 d1 31 31\narc q1 d0 20 20\nbounds 0\nend\n";
+
+/// The same with a hold of 21, a femtosecond more than the delay of the path to it.
+pub const HELD_TOO_LONG: &str =
+    "table 1\nphases 1\nphase p\nelements 2\nelement a 1 0 21 0 0 0\nelement b 1 0 - 0 0 0\ninner 0\narcs 2\narc q0 d1 31 31\narc q1 d0 20 20\nbounds 0\nend\n";
+
+/// The first two latches, and a path of 5 from the first one's output to its own input.
+pub const OWN_LOOP: &str =
+    "table 1\nphases 2\nphase phi1\nphase phi2\nelements 2\nelement a 1 10 - 10 10 0\nelement b 2 10 - 10 10 0\ninner 0\narcs 3\narc q0 d1 20 20\narc q1 d0 60 60\narc q0 d0 5 5\nbounds 0\nend\n";
+
+/// A latch whose pulse may be at most 75 000 wide, and has to be 80 000.
+pub const HOPELESS: &str =
+    "table 1\nphases 1\nphase pulse\nelements 1\nelement state 1 20000 - 40000 45000 80000\ninner 0\narcs 1\narc q0 d0 150000 200000\nbounds 2\nbound s1 e1 60000 0\nbound e1 s1 -75000 0\nend\n";

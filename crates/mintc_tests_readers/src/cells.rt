@@ -1,9 +1,9 @@
-//! Tests of cell descriptions: the values of cells with all keys and with none but those they need, and each rule at its limit
-//! and one past it.
+//! Cell descriptions of mintc_cells: the values of cells with all keys and with none but those that they need, and each rule of
+//! refusal 13 at its limit and one past it.
 
 mod cases;
 
-use super::texts::{cell_text, numbers_text, shown};
+use super::cell_texts::{cell_text, numbers_text, push_cell, shown};
 use cases::{CELLS, EXAMPLE, IGNORING, PINS, SAID, TEXTS};
 use mintc_cells::{Cell, Cells, read_cells};
 use mintc_text::{Refusal, Stop};
@@ -40,16 +40,8 @@ fn line_of(alloc: Global, cell: &Cell) -> Result<String, AllocError> {
     format!(in alloc; "{pins}{between}{numbers}")
 }
 
-/// Adds a cell's name and its line.
-fn push_cell(text: &mut String, name: &str, line: &str) -> Result<(), AllocError> {
-    text.push_str(name)?;
-    text.push_str(" ")?;
-    text.push_str(line)?;
-    text.push_str(";")
-}
-
-/// All cells, each with its name.
-fn cells_text(alloc: Global, cells: &Cells) -> Result<String, AllocError> {
+/// All cells with their numbers, each with its name.
+fn lines_text(alloc: Global, cells: &Cells) -> Result<String, AllocError> {
     let mut text = String::new(alloc);
     for at in 0..cells.count() {
         let cell = line_of(alloc, cells.cell(at))?;
@@ -87,7 +79,7 @@ fn add_pins(text: &mut String, cells: &Cells, at: u32) -> Result<(), AllocError>
 /// What the cells of a text are.
 fn said_of(rt: &impl Abort, alloc: Global, text: &str) -> Option<String> {
     let cells = cells(rt, alloc, text)?;
-    cells_text(alloc, &cells).ok()
+    lines_text(alloc, &cells).ok()
 }
 
 /// A text has cells that are these.
@@ -129,7 +121,7 @@ fn have_pins(rt: &impl Abort, alloc: Global, cells: &Cells) -> Result<(), AllocE
 
 /// The pins of a cell stand in cell order, and a name finds its cell.
 #[test]
-fn pins_stand_in_order(rt: HostRuntime) -> Result<(), Fail> {
+fn pins_stand_in_cell_order(rt: HostRuntime) -> Result<(), Fail> {
     let cells = cells(&rt, rt.alloc(), EXAMPLE).ok_or("refused")?;
     have_pins(&rt, rt.alloc(), &cells)?;
     assert!(rt; cells.find(b"DLL") == Some(3) && cells.find(b"DLK").is_none());
@@ -150,7 +142,7 @@ fn cell_has_fault(
 
 /// Each rule fails first where it should, at its limit and one past it.
 #[test]
-fn rules_fail_in_order(rt: HostRuntime) -> Result<(), Fail> {
+fn refusal_13_names_the_cell_and_the_first_rule(rt: HostRuntime) -> Result<(), Fail> {
     assert!(rt; fault(&rt, rt.alloc(), b"\xff") == Some((0, 0)));
     for (text, want) in TEXTS {
         has_fault(&rt, rt.alloc(), text, *want);
@@ -207,7 +199,7 @@ fn with_pin(alloc: Global, count: u32) -> Result<String, AllocError> {
 
 /// Lists of pins have their limits.
 #[test]
-fn lists_are_short(rt: HostRuntime) -> Result<(), Fail> {
+fn lists_of_pins_are_short(rt: HostRuntime) -> Result<(), Fail> {
     let alloc = rt.alloc();
     for (inputs, outputs, want) in &[
         (64, 16, None),
@@ -225,7 +217,7 @@ fn lists_are_short(rt: HostRuntime) -> Result<(), Fail> {
 
 /// Names have at most 255 bytes.
 #[test]
-fn names_are_short(rt: HostRuntime) -> Result<(), Fail> {
+fn names_have_at_most_255_bytes(rt: HostRuntime) -> Result<(), Fail> {
     let alloc = rt.alloc();
     for (count, name, pin) in &[(255, None, None), (256, Some((1, 2)), Some((1, 4)))] {
         has_fault(&rt, alloc, &named(alloc, *count)?, *name);

@@ -1,6 +1,6 @@
-//! Tests of clock descriptions: the value of one that has every key, and each rule at its limit and one past it.
+//! Clock descriptions of mintc_clock: the value of one that has every key, and each rule of refusal 14 at its limit and one past it.
 
-use super::texts::shown;
+use super::cell_texts::shown;
 use mintc_clock::{Clock, Listed, PhaseDef, read_clock};
 use mintc_tests_designs::TWO_CLOCK;
 use mintc_text::{Refusal, Stop};
@@ -373,7 +373,7 @@ fn items_have_fault(
 
 /// Each rule fails first where it should, at its limit and one past it.
 #[test]
-fn rules_fail_in_order(rt: HostRuntime) -> Result<(), Fail> {
+fn refusal_14_names_the_item_and_the_first_rule(rt: HostRuntime) -> Result<(), Fail> {
     assert!(rt; fault(&rt, rt.alloc(), b"\xff") == Some((0, 0)));
     for (text, want) in PHASES {
         has_fault(&rt, rt.alloc(), text, *want);
@@ -408,7 +408,7 @@ fn named(alloc: Global, text: &str, count: u32) -> Result<String, AllocError> {
 
 /// A name has at most 255 bytes.
 #[test]
-fn names_are_short(rt: HostRuntime) -> Result<(), Fail> {
+fn names_have_at_most_255_bytes(rt: HostRuntime) -> Result<(), Fail> {
     for (text, fault) in NAMED {
         has_fault(&rt, rt.alloc(), &named(rt.alloc(), text, 255)?, None);
         has_fault(

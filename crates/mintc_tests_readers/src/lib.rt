@@ -1,27 +1,26 @@
-//! Tests of the readers, of decimals and of sorting, of what no clause says. They stand in a crate of their own, so that a reader
-//! isn't proved twice.
+//! Tests of the texts that are read (layers 1, 2 and 4), of what no clause says. Each module has the name of the crate whose public
+//! calls it tries, without `mintc_`: decimals; files, names, numerals and lines of mintc_text; tables and schedules; tokens and
+//! statements of Verilog; delays; descriptions of cells and of the clock; Liberty texts, and their form in TOML.
 #![tactic(auto)]
 
 #[cfg(test)]
-mod cells;
+mod cell_texts;
 #[cfg(test)]
-mod certificate;
+mod cells;
 #[cfg(test)]
 mod clock;
 #[cfg(test)]
-mod conversion;
-#[cfg(test)]
-mod decimals;
+mod decimal;
 #[cfg(test)]
 mod liberty;
 #[cfg(test)]
+mod liberty2toml_command;
+#[cfg(test)]
 mod sdf;
 #[cfg(test)]
-mod sorting;
+mod text;
 #[cfg(test)]
-mod texts;
-#[cfg(test)]
-mod timing;
+mod timing_text;
 #[cfg(test)]
 mod verilog;
 #[cfg(test)]

@@ -1,34 +1,15 @@
-//! What no clause says: that the reader succeeds where memory is ample, and that long texts take little of the stack. Worked texts,
-//! with their cells.
+//! Liberty texts of mintc_liberty: the cells that they say, those that are passed over, the statement at fault (refusal 1), and that
+//! long and deep texts take little of the stack.
 mod cases;
+mod presorting;
 
-use super::texts::{cell_text, numbers_text, shown};
-use cases::{DESCRIPTION, GRAMMAR, KINDS, LIBRARIES, ROWS, SAYINGS, UNUSABLE_CELLS, WORKED};
-use liberty2toml_command::toml_form;
-use mintc_cells::{Cell, Cells, read_cells};
+use super::cell_texts::cells_text;
+use cases::{FORMS, KINDS, OTHER_FORMS, SEVERAL, UNUSABLE_CELLS, WORKED};
 use mintc_liberty::read_liberty;
 use mintc_text::{Refusal, Role, Stop};
 use std::alloc::{AllocError, Global};
 use std::process::Abort;
 use std::test::Fail;
-
-/// Adds a cell's name, its text and an end.
-fn push_cell(text: &mut String, name: &str, cell: &str) -> Result<(), AllocError> {
-    text.push_str(name)?;
-    text.push_str(" ")?;
-    text.push_str(cell)?;
-    text.push_str(";")
-}
-
-/// The cells, each with its name and an end.
-fn cells_text(alloc: Global, cells: &Cells) -> Result<String, AllocError> {
-    let mut text = String::new(alloc);
-    for number in 0..cells.count() {
-        let cell = cell_text(alloc, cells.cell(number))?;
-        push_cell(&mut text, shown(cells.name(number)), &cell)?;
-    }
-    Ok(text)
-}
 
 /// What a text is read as.
 fn read(rt: &impl Abort, alloc: Global, text: &[u8]) -> Result<String, AllocError> {
@@ -80,32 +61,32 @@ fn are_cells(rt: &impl Abort, alloc: Global, cases: &[(&str, &str)]) -> Result<(
 }
 
 #[test]
-fn worked_texts(rt: HostRuntime) -> Result<(), Fail> {
-    are_read(&rt, rt.alloc(), &ROWS)?;
+fn worked_libraries_have_their_cells(rt: HostRuntime) -> Result<(), Fail> {
+    are_read(&rt, rt.alloc(), &WORKED)?;
     Ok(())
 }
 
 #[test]
-fn grammar(rt: HostRuntime) -> Result<(), Fail> {
-    are_read(&rt, rt.alloc(), &GRAMMAR)?;
+fn refusal_1_names_the_statement_at_fault(rt: HostRuntime) -> Result<(), Fail> {
+    are_read(&rt, rt.alloc(), &FORMS)?;
     Ok(())
 }
 
 #[test]
-fn libraries(rt: HostRuntime) -> Result<(), Fail> {
-    are_read(&rt, rt.alloc(), &LIBRARIES)?;
+fn several_cells_are_kept_or_passed_over(rt: HostRuntime) -> Result<(), Fail> {
+    are_read(&rt, rt.alloc(), &SEVERAL)?;
     Ok(())
 }
 
 #[test]
-fn kinds(rt: HostRuntime) -> Result<(), Fail> {
+fn cells_have_their_kind_and_pins(rt: HostRuntime) -> Result<(), Fail> {
     are_cells(&rt, rt.alloc(), &KINDS)?;
     Ok(())
 }
 
 #[test]
-fn sayings(rt: HostRuntime) -> Result<(), Fail> {
-    are_cells(&rt, rt.alloc(), &SAYINGS)?;
+fn what_is_said_twice_or_in_another_form_has_its_meaning(rt: HostRuntime) -> Result<(), Fail> {
+    are_cells(&rt, rt.alloc(), &OTHER_FORMS)?;
     Ok(())
 }
 
@@ -151,7 +132,7 @@ fn nested(rt: &impl Abort, alloc: Global, depth: usize) -> Result<String, AllocE
 }
 
 #[test]
-fn depth(rt: HostRuntime) -> Result<(), Fail> {
+fn refusal_1_comes_where_groups_nest_too_deep(rt: HostRuntime) -> Result<(), Fail> {
     for (depth, said) in &[(63, ""), (64, "syntax 1"), (200_000, "syntax 1")] {
         let found = nested(&rt, rt.alloc(), *depth)?;
         assert!(rt; found.as_str() == *said, "{depth}");
@@ -160,14 +141,14 @@ fn depth(rt: HostRuntime) -> Result<(), Fail> {
 }
 
 #[test]
-fn open_comments(rt: HostRuntime) -> Result<(), Fail> {
+fn many_comments_are_skipped(rt: HostRuntime) -> Result<(), Fail> {
     let text = repeated(rt.alloc(), b"library (t) {", b"a(/* );", 100_000, b"}")?;
     assert!(rt; read(&rt, rt.alloc(), &text)?.is_empty());
     Ok(())
 }
 
 #[test]
-fn long_values(rt: HostRuntime) -> Result<(), Fail> {
+fn a_long_value_is_skipped(rt: HostRuntime) -> Result<(), Fail> {
     let text = repeated(
         rt.alloc(),
         b"library (t) { a : ",
@@ -177,86 +158,6 @@ fn long_values(rt: HostRuntime) -> Result<(), Fail> {
     )?;
     assert!(rt; read(&rt, rt.alloc(), &text)?.is_empty());
     Ok(())
-}
-
-/// The cells of a description.
-fn described(rt: &impl Abort, alloc: Global, text: &[u8]) -> Option<Cells> {
-    assert!(rt; text.len() < 60_000_000);
-    read_cells(alloc, text).ok()
-}
-
-/// Both cells have the same numbers.
-fn have_equal_numbers(
-    rt: &impl Abort,
-    alloc: Global,
-    cell: &Cell,
-    back: &Cell,
-) -> Result<(), AllocError> {
-    let wanted = numbers_text(alloc, cell)?;
-    let found = numbers_text(alloc, back)?;
-    assert!(rt; wanted.as_str() == found.as_str(), "{found}");
-    Ok(())
-}
-
-/// The cells of both have the same numbers.
-fn have_all_equal_numbers(
-    rt: &impl Abort,
-    alloc: Global,
-    cells: &Cells,
-    back: &Cells,
-) -> Result<(), AllocError> {
-    for number in 0..cells.count() {
-        assert!(rt; number < back.count());
-        have_equal_numbers(rt, alloc, cells.cell(number), back.cell(number))?;
-    }
-    Ok(())
-}
-
-/// Both have the same cells.
-fn are_alike(
-    rt: &impl Abort,
-    alloc: Global,
-    cells: &Cells,
-    back: &Cells,
-) -> Result<(), AllocError> {
-    let wanted = cells_text(alloc, cells)?;
-    let found = cells_text(alloc, back)?;
-    assert!(rt; wanted.as_str() == found.as_str(), "{found}");
-    have_all_equal_numbers(rt, alloc, cells, back)
-}
-
-/// What the form of cells is read as.
-fn read_back(rt: &impl Abort, alloc: Global, cells: &Cells) -> Option<Cells> {
-    let form = toml_form(alloc, cells).ok()?;
-    described(rt, alloc, &form)
-}
-
-/// The form of cells is read as these very cells.
-fn are_read_back(rt: &impl Abort, alloc: Global, cells: &Cells) -> Result<(), Fail> {
-    let back = read_back(rt, alloc, cells).ok_or("no cells")?;
-    are_alike(rt, alloc, cells, &back)?;
-    Ok(())
-}
-
-/// The form of a description's cells is read as these very cells.
-fn comes_back(rt: &impl Abort, alloc: Global, text: &[u8]) -> Result<(), Fail> {
-    let cells = described(rt, alloc, text).ok_or("no cells")?;
-    are_read_back(rt, alloc, &cells)
-}
-
-#[test]
-fn worked_cells_come_back(rt: HostRuntime) -> Result<(), Fail> {
-    comes_back(&rt, rt.alloc(), WORKED.as_bytes())
-}
-
-#[test]
-fn all_keys_come_back(rt: HostRuntime) -> Result<(), Fail> {
-    comes_back(&rt, rt.alloc(), DESCRIPTION.as_bytes())
-}
-
-#[test]
-fn no_cells_come_back(rt: HostRuntime) -> Result<(), Fail> {
-    comes_back(&rt, rt.alloc(), b"")
 }
 
 /// A clock cell whose function is in so many parentheses.
@@ -294,9 +195,8 @@ const ENCLOSED: &[(usize, &str, usize, &str)] = &[
     (400_000, "!AB", 400_000, "C clock AB Y true [];"),
 ];
 
-/// Long expressions mean what short ones do.
 #[test]
-fn long_expressions(rt: HostRuntime) -> Result<(), Fail> {
+fn long_expressions_mean_what_short_ones_do(rt: HostRuntime) -> Result<(), Fail> {
     for (opening, inside, closing, wanted) in ENCLOSED {
         let found = enclosed(&rt, rt.alloc(), *opening, inside, *closing)?;
         assert!(rt; found.as_str() == *wanted, "with {inside}");

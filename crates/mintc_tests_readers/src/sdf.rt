@@ -1,4 +1,4 @@
-//! What no clause says: that the reader succeeds where memory is ample. Worked texts and what is refused, with their answers.
+//! Delays of mintc_sdf: worked texts with what they say, and texts that are refused by number 1 (syntax), 12 (negative) or 18 (range).
 
 use mintc_sdf::{Delay, Place, Subject, read_delays};
 use mintc_tests_designs::TWO_DELAYS;
@@ -149,7 +149,7 @@ fn definition_is_answered(
 }
 
 #[test]
-fn reads_whole_files(rt: HostRuntime) -> Result<(), Fail> {
+fn whole_files_are_read_or_refused(rt: HostRuntime) -> Result<(), Fail> {
     let alloc = rt.alloc();
     for (text, wanted) in &[
         (
@@ -243,7 +243,7 @@ fn is_cut_answered(
 }
 
 #[test]
-fn a_cut_text_has_its_fault_at_the_cut(rt: HostRuntime) -> Result<(), Fail> {
+fn refusal_1_names_the_entry_at_a_cut(rt: HostRuntime) -> Result<(), Fail> {
     let alloc = rt.alloc();
     let text = TWO_DELAYS.as_bytes();
     let mut depth: u32 = 0;
@@ -267,7 +267,7 @@ fn a_cut_text_has_its_fault_at_the_cut(rt: HostRuntime) -> Result<(), Fail> {
 }
 
 #[test]
-fn reads_definitions(rt: HostRuntime) -> Result<(), Fail> {
+fn definitions_of_delays_are_read_or_refused(rt: HostRuntime) -> Result<(), Fail> {
     let alloc = rt.alloc();
     for (text, wanted) in &[
         (
@@ -383,7 +383,7 @@ fn nested_conditions(alloc: Global) -> Result<String, AllocError> {
 }
 
 #[test]
-fn conditions_nest(rt: HostRuntime) -> Result<(), Fail> {
+fn conditions_nest_400_deep(rt: HostRuntime) -> Result<(), Fail> {
     let alloc = rt.alloc();
     let text = nested_conditions(alloc)?;
     definition_is_answered(&rt, alloc, text.as_str(), "2 C at i port d 1 1")?;
@@ -391,7 +391,7 @@ fn conditions_nest(rt: HostRuntime) -> Result<(), Fail> {
 }
 
 #[test]
-fn reads_checks_and_parts(rt: HostRuntime) -> Result<(), Fail> {
+fn timing_checks_are_read_or_refused(rt: HostRuntime) -> Result<(), Fail> {
     let alloc = rt.alloc();
     for (text, wanted) in &[
         (

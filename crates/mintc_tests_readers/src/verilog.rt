@@ -1,9 +1,8 @@
-//! Tests of what no clause says: that netlists are read where memory is ample, and the first statement at fault.
+//! Netlists of mintc_verilog: the modules of the worked one, and the first statement at fault (refusal 1).
 use mintc_netlist::{Connection, Item, Module};
 use mintc_tests_designs::TWO_NETLIST;
 use mintc_text::{Refusal, Role, Stop};
 use mintc_verilog::read_netlist;
-use mintc_vlex::{statements, tokens};
 use std::alloc::Global;
 use std::test::Fail;
 
@@ -56,15 +55,7 @@ fn are_worked(modules: &[Module]) -> bool {
 }
 
 #[test]
-fn the_worked_netlist_has_its_statements(rt: HostRuntime) -> Result<(), Fail> {
-    let text = TWO_NETLIST.as_bytes();
-    let all = tokens(rt.alloc(), text)?;
-    assert!(rt; statements(rt.alloc(), text, &all)?.len() == 27);
-    Ok(())
-}
-
-#[test]
-fn reads_the_worked_netlist(rt: HostRuntime) -> Result<(), Fail> {
+fn the_worked_netlist_has_its_modules(rt: HostRuntime) -> Result<(), Fail> {
     let alloc = rt.alloc();
     match read_netlist(alloc, TWO_NETLIST.as_bytes()) {
         Ok(netlist) => assert!(rt; are_worked(netlist.modules.items())),
@@ -74,7 +65,7 @@ fn reads_the_worked_netlist(rt: HostRuntime) -> Result<(), Fail> {
 }
 
 #[test]
-fn cuts_the_worked_netlist(rt: HostRuntime) -> Result<(), Fail> {
+fn refusal_1_names_the_statement_at_a_cut(rt: HostRuntime) -> Result<(), Fail> {
     let alloc = rt.alloc();
     let text = TWO_NETLIST.as_bytes();
     for size in 0..=text.len() {
@@ -96,7 +87,7 @@ fn cuts_the_worked_netlist(rt: HostRuntime) -> Result<(), Fail> {
 }
 
 #[test]
-fn names_the_first_fault(rt: HostRuntime) -> Result<(), Fail> {
+fn refusal_1_names_the_first_statement_at_fault(rt: HostRuntime) -> Result<(), Fail> {
     let alloc = rt.alloc();
     for (text, want) in &[
         ("", 0),
@@ -214,7 +205,7 @@ fn have_latch(modules: &[Module]) -> bool {
 }
 
 #[test]
-fn reads_a_pin_with_nothing(rt: HostRuntime) {
+fn a_pin_may_be_connected_to_nothing(rt: HostRuntime) {
     let text = b"module m(c); input c; LAT \\a;  (.D(w), .G(c), .Q()); endmodule";
     match read_netlist(rt.alloc(), text.as_slice()) {
         Ok(netlist) => assert!(rt; have_latch(netlist.modules.items())),

@@ -1,8 +1,9 @@
-//! Reads and writes that fail.
+//! Reads and writes that fail: the status and what is written, and the same call made again.
 use super::files::files;
-use super::harness::{is_answered, run_on, run_over, shelf_of, succeeds};
+use super::harness::{is_answered, run_on, run_over, succeeds};
 use super::rows::CHECK;
 use mintc_command::Status;
+use mintc_tests_designs::shelf_of;
 use mintc_text::{MemoryShelf, OutOfMemory, Shelf};
 use std::alloc::Global;
 use std::process::Abort;
@@ -78,7 +79,7 @@ fn each_read_fails(rt: &impl Abort, alloc: Global, runs: &[Run]) -> Result<(), O
 
 // Rows failing-read and every-read-fails.
 #[test]
-fn every_read_fails(rt: HostRuntime) -> Result<(), Fail> {
+fn a_failing_read_ends_the_run(rt: HostRuntime) -> Result<(), Fail> {
     for runs in &[ON_TABLES, ON_FILES, ON_LIBRARIES] {
         each_read_fails(&rt, rt.alloc(), runs)?;
     }
@@ -111,17 +112,17 @@ fn each_write_fails(rt: &impl Abort, alloc: Global, runs: &[Run]) -> Result<(), 
 
 // Rows failing-write and every-write-length.
 #[test]
-fn every_write_fails_on_tables(rt: HostRuntime) -> Result<(), Fail> {
+fn a_failing_write_ends_a_run_on_tables(rt: HostRuntime) -> Result<(), Fail> {
     each_write_fails(&rt, rt.alloc(), ON_TABLES)
 }
 
 #[test]
-fn every_write_fails_on_files(rt: HostRuntime) -> Result<(), Fail> {
+fn a_failing_write_ends_a_run_on_files(rt: HostRuntime) -> Result<(), Fail> {
     each_write_fails(&rt, rt.alloc(), ON_FILES)
 }
 
 #[test]
-fn every_write_fails_on_libraries(rt: HostRuntime) -> Result<(), Fail> {
+fn a_failing_write_ends_a_run_on_libraries(rt: HostRuntime) -> Result<(), Fail> {
     each_write_fails(&rt, rt.alloc(), ON_LIBRARIES)
 }
 
@@ -165,7 +166,7 @@ fn each_next_call_answers(rt: &impl Abort, alloc: Global, runs: &[Run]) -> Resul
 
 // Row same-call-after-a-fault.
 #[test]
-fn the_same_call_after_a_fault(rt: HostRuntime) -> Result<(), Fail> {
+fn the_same_call_after_a_fault_has_its_answer(rt: HostRuntime) -> Result<(), Fail> {
     for runs in &[ON_TABLES, ON_FILES, ON_LIBRARIES] {
         each_next_call_answers(&rt, rt.alloc(), runs)?;
     }

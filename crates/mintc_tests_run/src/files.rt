@@ -1,21 +1,18 @@
 //! The files of the rows.
 use mintc_tests_designs::{
-    CLOSED_INNER, GREATEST_SUM, SUM_PAST_LIMIT, TWO_CELLS, TWO_CERTIFICATE, TWO_CLOCK, TWO_DELAYS,
-    TWO_ENABLED, TWO_FLOPS, TWO_LATCHES, TWO_NETLIST, TWO_SCHEDULE, TWO_THROUGH_INNER,
+    CLOSED_INNER, DEFINING_LIBRARY, GREATEST_SUM, HELD, HELD_TOO_LONG, OWN_LOOP, SUM_PAST_LIMIT,
+    TWO_CELLS, TWO_CERTIFICATE, TWO_CLOCK, TWO_DELAYS, TWO_ENABLED, TWO_FLOPS, TWO_LATCHES,
+    TWO_LIBRARY, TWO_NETLIST, TWO_SCHEDULE, TWO_THROUGH_INNER, UNUSABLE_LIBRARY,
 };
-
-/// A Liberty library with the same cells, without numbers.
-const TWO_LIB: &str =
-    "library (t) { cell (BUF) { area : 1.0 ; pin (A) { direction : input ; } pin (Y) { direction : output ; function : \"A\" ; } } cell (LAT) { latch (IQ, IQN) { enable : \"G\" ; data_in : \"D\" ; } pin (D) { direction : input ; } pin (G) { direction : input ; clock : true ; } pin (Q) { direction : output ; function : \"IQ\" ; } } }";
 
 /// A netlist of two flops in a ring, each of another phase.
 const PAIR_V: &str =
     "module m(c1, c2); input c1, c2; wire p, q, r, s; FF a (.D(s), .C(c1), .Q(p)); BUF x (.A(p), .Y(q)); FF b (.D(q), .C(c2), .Q(r)); BUF y (.A(r), .Y(s)); endmodule\n";
 
-pub(crate) const PAIR_CELLS: &str =
+pub const PAIR_CELLS: &str =
     "[cell.FF]\nkind = \"flop\"\nd = \"D\"\nclock = \"C\"\noutputs = [\"Q\"]\n[cell.BUF]\nkind = \"gate\"\ninputs = [\"A\"]\noutputs = [\"Y\"]\n";
 
-pub(crate) const PAIR_CLOCK: &str =
+pub const PAIR_CLOCK: &str =
     "[[phase]]\nname = \"p1\"\nport = \"c1\"\n[[phase]]\nname = \"p2\"\nport = \"c2\"\n";
 
 const FIRST_SDF: &str =
@@ -108,7 +105,7 @@ const FILES: &[(&str, &str)] = &[
         "two.certificate",
         "certificate 2\nleast\nden 1\ncycle 100\nphases 2\nphase 0 10\nphase 10 30\ndepartures 2\ndeparture 0\ndeparture 20\nchain 2\nreach 0 1 11 22 6 7 9 23 10 8 3 12 14 24\nreach 1 0 11 25 16 17 19 26 20 18 13 2 4 21\nend\n",
     ),
-    ("two.lib", TWO_LIB),
+    ("two.lib", TWO_LIBRARY),
     (
         "library.certificate",
         "certificate 2\nleast\nden 1\ncycle 80\nphases 2\nphase 0 0\nphase 0 20\ndepartures 2\ndeparture 0\ndeparture 20\nchain 2\nreach 0 1 11 22 6 7 9 23 10 8 3 12 14 24\nreach 1 0 11 25 16 17 19 26 20 18 13 2 4 21\nend\n",
@@ -121,14 +118,14 @@ const FILES: &[(&str, &str)] = &[
 ];
 
 /// An edit of the certificate of the first table, the text `new` in place of `old`, and what `verify` answers.
-pub(crate) struct Edit {
+pub struct Edit {
     pub old: &'static str,
     pub new: &'static str,
     pub answer: &'static str,
 }
 
 /// The rows on certificates.
-pub(crate) const CERTIFICATES: &[Edit] = &[
+pub const CERTIFICATES: &[Edit] = &[
     // Row verify-valid.
     Edit {
         old: "least",
@@ -174,50 +171,35 @@ pub(crate) const CERTIFICATES: &[Edit] = &[
 ];
 
 /// The files of the rows. Each function that names them by this costs the proof less than one that names the list.
-pub(crate) fn files() -> &'static [(&'static str, &'static str)] {
+pub fn files() -> &'static [(&'static str, &'static str)] {
     FILES
 }
 
-/// The files of the further rows.
-pub(crate) const FURTHER_FILES: &[(&str, &str)] = &[
-    (
-        "own.table",
-        "table 1\nphases 2\nphase phi1\nphase phi2\nelements 2\nelement a 1 10 - 10 10 0\nelement b 2 10 - 10 10 0\ninner 0\narcs 3\narc q0 d1 20 20\narc q1 d0 60 60\narc q0 d0 5 5\nbounds 0\nend\n",
-    ),
+/// The files of the rows of `safe` and `slack`.
+pub const SAFE_AND_SLACK_FILES: &[(&str, &str)] = &[
+    ("own.table", OWN_LOOP),
     (
         "half-own.table",
         "table 1\nphases 1\nphase p\nelements 2\nelement a 1 0 - 0 0 0\nelement b 1 0 - 0 0 0\ninner 0\narcs 3\narc q0 d1 31 31\narc q1 d0 20 20\narc q1 d1 20 20\nbounds 0\nend\n",
     ),
-    (
-        "half-hold.table",
-        "table 1\nphases 1\nphase p\nelements 2\nelement a 1 0 18 0 0 0\nelement b 1 0 - 0 0 0\ninner 0\narcs 2\narc q0 d1 31 31\narc q1 d0 20 20\nbounds 0\nend\n",
-    ),
-    (
-        "half-never.table",
-        "table 1\nphases 1\nphase p\nelements 2\nelement a 1 0 21 0 0 0\nelement b 1 0 - 0 0 0\ninner 0\narcs 2\narc q0 d1 31 31\narc q1 d0 20 20\nbounds 0\nend\n",
-    ),
+    ("half-hold.table", HELD),
+    ("half-never.table", HELD_TOO_LONG),
 ];
 
 /// The files of the rows on libraries: the worked one with a definition, with a cell that can't be used, and one that isn't
 /// closed.
-pub(crate) const LIBRARIES: &[(&str, &str)] = &[
+pub const LIBRARIES: &[(&str, &str)] = &[
     ("two.v", TWO_NETLIST),
     ("two.sdf", TWO_DELAYS),
     ("two.clock", TWO_CLOCK),
-    (
-        "define.lib",
-        "library (t) { define (x, cell, float) ; cell (BUF) { area : 1.0 ; pin (A) { direction : input ; } pin (Y) { direction : output ; function : \"A\" ; } } cell (LAT) { latch (IQ, IQN) { enable : \"G\" ; data_in : \"D\" ; } pin (D) { direction : input ; } pin (G) { direction : input ; clock : true ; } pin (Q) { direction : output ; function : \"IQ\" ; } } }",
-    ),
-    (
-        "unusable.lib",
-        "library (t) { cell (BUF) { bus (B) { } area : 1.0 ; pin (A) { direction : input ; } pin (Y) { direction : output ; function : \"A\" ; } } cell (LAT) { latch (IQ, IQN) { enable : \"G\" ; data_in : \"D\" ; } pin (D) { direction : input ; } pin (G) { direction : input ; clock : true ; } pin (Q) { direction : output ; function : \"IQ\" ; } } }",
-    ),
+    ("define.lib", DEFINING_LIBRARY),
+    ("unusable.lib", UNUSABLE_LIBRARY),
     ("open.lib", "library (t) { cell (A) {"),
 ];
 
 /// The files of the rows on corners, beside those that all rows have: delays under which x and y are faster, or x slower; a text
 /// that is cut off; delays of an instance that isn't there; and a clock whose second phase begins too late for any cycle.
-pub(crate) const CORNER_FILES: &[(&str, &str)] = &[
+pub const CORNER_FILES: &[(&str, &str)] = &[
     ("pair.v", PAIR_V),
     ("pair.cells", PAIR_CELLS),
     ("pair.clock", PAIR_CLOCK),

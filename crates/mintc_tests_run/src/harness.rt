@@ -1,87 +1,27 @@
 //! Runs over a shelf and a sink in memory.
 use mintc_command::{Status, run};
-use mintc_text::{MemoryShelf, MemorySink, Name, Numbers, OutOfMemory};
+use mintc_tests_designs::{Held, TWO_CELLS, hold, shelf_of, words_of};
+use mintc_text::{MemoryShelf, MemorySink, Numbers, OutOfMemory};
 use std::alloc::{AllocError, Global};
 use std::process::Abort;
 
 /// Adds a text, where there was memory for it.
-pub(crate) fn push_text(
-    text: &mut String,
-    more: Result<String, AllocError>,
-) -> Result<(), AllocError> {
+pub fn push_text(text: &mut String, more: Result<String, AllocError>) -> Result<(), AllocError> {
     text.push_str(&more?)
 }
 
-/// Files for a shelf, each a name and its bytes.
-pub(crate) type Held = Vec<(Name, Vec<u8>)>;
-
-/// A file for a shelf.
-fn file_of(alloc: Global, name: &str, text: &[u8]) -> Result<(Name, Vec<u8>), OutOfMemory> {
-    let bytes = Vec::from_slice(alloc, text)?;
-    Ok((Name::new(alloc, name.as_bytes())?, bytes))
-}
-
-/// Adds a file to those for a shelf.
-pub(crate) fn hold(
-    alloc: Global,
-    held: &mut Held,
-    name: &str,
-    text: &[u8],
-) -> Result<(), OutOfMemory> {
-    held.push(file_of(alloc, name, text)?)?;
-    Ok(())
-}
-
 /// A shelf of files, none of whose calls fail.
-pub(crate) fn sound_shelf(alloc: Global, held: Held) -> MemoryShelf {
+pub fn sound_shelf(alloc: Global, held: Held) -> MemoryShelf {
     MemoryShelf::new(held, Numbers::new(Vec::new(alloc)))
 }
 
 /// A shelf of files of these bytes, none of whose calls fail.
-pub(crate) fn bytes_shelf(
-    alloc: Global,
-    files: &[(&str, &[u8])],
-) -> Result<MemoryShelf, OutOfMemory> {
+pub fn bytes_shelf(alloc: Global, files: &[(&str, &[u8])]) -> Result<MemoryShelf, OutOfMemory> {
     let mut held = Vec::new(alloc);
     for file in files {
         hold(alloc, &mut held, file.0, file.1)?;
     }
     Ok(sound_shelf(alloc, held))
-}
-
-/// Files of these texts for a shelf.
-fn held_texts(alloc: Global, files: &[(&str, &str)]) -> Result<Held, OutOfMemory> {
-    let mut held = Vec::new(alloc);
-    for file in files {
-        hold(alloc, &mut held, file.0, file.1.as_bytes())?;
-    }
-    Ok(held)
-}
-
-/// A shelf of these files, whose calls of these numbers fail.
-pub(crate) fn shelf_of(
-    alloc: Global,
-    files: &[(&str, &str)],
-    failing: &[u32],
-) -> Result<MemoryShelf, OutOfMemory> {
-    let failing = Vec::from_slice(alloc, failing)?;
-    let held = held_texts(alloc, files)?;
-    Ok(MemoryShelf::new(held, Numbers::new(failing)))
-}
-
-/// Adds the words of a line.
-fn push_words(alloc: Global, words: &mut Vec<String>, line: &str) -> Result<(), AllocError> {
-    for word in line.split_whitespace() {
-        words.push(String::from_str(alloc, word)?)?;
-    }
-    Ok(())
-}
-
-/// The words of a line.
-fn words_of(alloc: Global, line: &str) -> Result<Vec<String>, AllocError> {
-    let mut words = Vec::new(alloc);
-    push_words(alloc, &mut words, line)?;
-    Ok(words)
 }
 
 /// A run with these words over this shelf, and a sink whose first write may be made to fail: its status and what the sink took.
@@ -97,7 +37,7 @@ fn run_words(
 }
 
 /// A run with the words of this line.
-pub(crate) fn run_over(
+pub fn run_over(
     alloc: Global,
     shelf: &mut MemoryShelf,
     line: &str,
@@ -108,7 +48,7 @@ pub(crate) fn run_over(
 }
 
 /// A run with the words of this line over a shelf of these files.
-pub(crate) fn run_on(
+pub fn run_on(
     alloc: Global,
     files: &[(&str, &str)],
     line: &str,
@@ -132,7 +72,7 @@ fn has_answer(
 }
 
 /// A run over this shelf, and a sink whose first write may be made to fail, has this status, and the sink took this text.
-pub(crate) fn is_answered(
+pub fn is_answered(
     rt: &impl Abort,
     alloc: Global,
     shelf: &mut MemoryShelf,
@@ -147,12 +87,70 @@ pub(crate) fn is_answered(
 }
 
 /// A run over this shelf succeeds with this text.
-pub(crate) fn succeeds(
+pub fn succeeds(rt: &impl Abort, alloc: Global, shelf: &mut MemoryShelf, line: &str, text: &[u8]) {
+    is_answered(rt, alloc, shelf, line, None, (Status::Done, text));
+}
+
+/// One phase on the port `c`.
+pub const CLOCK: &str = "[[phase]]\nname = \"p\"\nport = \"c\"\n";
+
+/// A netlist `v`, delays `d`, cells `c` and a clock `k` for a shelf.
+fn held(alloc: Global, netlist: &str, delays: &str, clock: &str) -> Result<Held, OutOfMemory> {
+    let mut held = Vec::new(alloc);
+    hold(alloc, &mut held, "v", netlist.as_bytes())?;
+    hold(alloc, &mut held, "d", delays.as_bytes())?;
+    hold(alloc, &mut held, "c", TWO_CELLS.as_bytes())?;
+    hold(alloc, &mut held, "k", clock.as_bytes())?;
+    Ok(held)
+}
+
+/// A run with these words on a netlist `v` with these delays `d`, cells `c`, and this clock `k`.
+pub fn run_files(
+    alloc: Global,
+    words: &str,
+    netlist: &str,
+    delays: &str,
+    clock: &str,
+) -> Result<(Status, Vec<u8>), OutOfMemory> {
+    let mut shelf = sound_shelf(alloc, held(alloc, netlist, delays, clock)?);
+    run_over(alloc, &mut shelf, words, None)
+}
+
+/// A run of `optimise` on these.
+pub fn optimised(
+    alloc: Global,
+    netlist: &str,
+    delays: &str,
+    clock: &str,
+) -> Result<(Status, Vec<u8>), OutOfMemory> {
+    run_files(alloc, "optimise files v d c k", netlist, delays, clock)
+}
+
+/// A netlist is refused with one of these answers.
+pub fn is_refused(
     rt: &impl Abort,
     alloc: Global,
-    shelf: &mut MemoryShelf,
-    line: &str,
-    text: &[u8],
-) {
-    is_answered(rt, alloc, shelf, line, None, (Status::Done, text));
+    netlist: &str,
+    answers: &[&str],
+) -> Result<(), OutOfMemory> {
+    let (status, taken) = optimised(alloc, netlist, "(DELAYFILE)", CLOCK)?;
+    assert!(rt;
+        status == Status::Refused && answers.iter().any(|a| a.as_bytes() == taken.as_slice()),
+        "{netlist}"
+    );
+    Ok(())
+}
+
+/// The answer on these begins so.
+pub fn begins(
+    rt: &impl Abort,
+    alloc: Global,
+    netlist: &str,
+    delays: &str,
+    clock: &str,
+    front: &str,
+) -> Result<(), OutOfMemory> {
+    let (_, taken) = optimised(alloc, netlist, delays, clock)?;
+    assert!(rt; taken.as_slice().starts_with(front.as_bytes()), "{front}");
+    Ok(())
 }

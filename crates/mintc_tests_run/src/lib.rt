@@ -1,10 +1,9 @@
-//! Tests of `run`: worked rows, over a shelf and a sink in memory. No clause says that memory is there: each run
-//! here has enough of it, so a run that always answers a want of memory fails each test. And tests of texts, numerals, names,
-//! files and samples, of what no clause says.
+//! Tests of `run` and of what it writes (layer 7), over a shelf and a sink in memory. No clause says that memory is there: each run here
+//! has enough of it, so a run that always answers a want of memory fails each test. `rows` has the worked rows, `refusals` a test for
+//! each number of docs/refusals.md, `limits` number 17, `netlists` what is accepted, `faults` reads and writes that fail, `samples` runs
+//! on samples, and `report` the lines of mintc_report.
 #![tactic(auto)]
 
-#[cfg(test)]
-mod adapters;
 #[cfg(test)]
 mod faults;
 #[cfg(test)]
@@ -14,20 +13,12 @@ mod harness;
 #[cfg(test)]
 mod limits;
 #[cfg(test)]
-mod memory;
-#[cfg(test)]
-mod names;
-#[cfg(test)]
 mod netlists;
 #[cfg(test)]
-mod numerals;
+mod refusals;
+#[cfg(test)]
+mod report;
 #[cfg(test)]
 mod rows;
 #[cfg(test)]
-mod sample_texts;
-#[cfg(test)]
 mod samples;
-#[cfg(test)]
-mod texts;
-#[cfg(test)]
-mod worked;

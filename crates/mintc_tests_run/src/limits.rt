@@ -1,9 +1,9 @@
-//! Tables at the limits and one past them.
+//! Tables, netlists and corners at the limits and one past them (refusal 17).
 use super::files::{PAIR_CELLS, PAIR_CLOCK};
-use super::harness::{is_answered, push_text, run_on, shelf_of};
+use super::harness::{CLOCK, begins, is_answered, is_refused, push_text, run_on};
 use super::rows::{CHECK, PASS};
 use mintc_command::Status;
-use mintc_tests_designs::{TWO_LATCHES, TWO_SCHEDULE};
+use mintc_tests_designs::{TWO_LATCHES, TWO_SCHEDULE, shelf_of};
 use mintc_text::OutOfMemory;
 use std::alloc::{AllocError, Global};
 use std::process::Abort;
@@ -56,7 +56,7 @@ fn many_passes(alloc: Global, count: usize) -> Result<String, AllocError> {
 
 // Row element-limit.
 #[test]
-fn as_many_elements_as_there_may_be(rt: HostRuntime) -> Result<(), Fail> {
+fn a_table_may_have_2000_elements(rt: HostRuntime) -> Result<(), Fail> {
     let alloc = rt.alloc();
     let pass = many_passes(alloc, 2_000)?;
     let table = many_elements(alloc, 2_000)?;
@@ -84,9 +84,8 @@ fn empty_table(alloc: Global, phases: usize, bounds: usize) -> Result<String, Al
     Ok(text)
 }
 
-// An element too many.
 #[test]
-fn an_element_too_many(rt: HostRuntime) -> Result<(), Fail> {
+fn refusal_17_of_elements_of_a_table(rt: HostRuntime) -> Result<(), Fail> {
     let table = many_elements(rt.alloc(), 2_001)?;
     let answer = "refused 17 elements 2001\n";
     is_checked(&rt, rt.alloc(), &table, Status::Refused, answer)?;
@@ -95,7 +94,7 @@ fn an_element_too_many(rt: HostRuntime) -> Result<(), Fail> {
 
 // A phase and a bound too many; and as many phases and bounds as there may be.
 #[test]
-fn one_past_the_limits(rt: HostRuntime) -> Result<(), Fail> {
+fn refusal_17_of_phases_and_bounds_of_a_table(rt: HostRuntime) -> Result<(), Fail> {
     for (phases, bounds, answer) in &[
         (9, 64, "refused 17 phases 9\n"),
         (8, 65, "refused 17 bounds 65\n"),
@@ -104,6 +103,90 @@ fn one_past_the_limits(rt: HostRuntime) -> Result<(), Fail> {
         let table = empty_table(rt.alloc(), *phases, *bounds)?;
         is_checked(&rt, rt.alloc(), &table, Status::Refused, answer)?;
     }
+    Ok(())
+}
+
+/// Adds the module of a number, with some instances of the next.
+fn push_module(
+    alloc: Global,
+    text: &mut String,
+    number: usize,
+    instances: usize,
+) -> Result<(), AllocError> {
+    push_text(text, format!(in alloc; "module t{number}(c); input c;"))?;
+    let next = number.saturating_add(1);
+    for instance in 0..instances {
+        push_text(text, format!(in alloc; " t{next} u{instance} (.c(c));"))?;
+    }
+    text.push_str(" endmodule\n")
+}
+
+/// So many modules, each but the last with some instances of the next; the last has a body of its own.
+fn modules(
+    alloc: Global,
+    count: usize,
+    instances: usize,
+    body: &str,
+) -> Result<String, AllocError> {
+    let mut text = String::new(alloc);
+    for number in 1..count {
+        push_module(alloc, &mut text, number, instances)?;
+    }
+    push_text(
+        &mut text,
+        format!(in alloc; "module t{count}(c); input c; {body} endmodule\n"),
+    )?;
+    Ok(text)
+}
+
+/// Four leaves.
+const LEAVES: &str = "BUF a (.A(c)); BUF b (.A(c)); BUF d (.A(c)); BUF e (.A(c));";
+
+// Row limits-and-one-past: scopes, depth, leaves.
+#[test]
+fn refusal_17_of_scopes_depth_and_leaves(rt: HostRuntime) -> Result<(), Fail> {
+    let alloc = rt.alloc();
+    for (count, instances, body, answer) in &[
+        (16, 2, "", "refused 17 scopes 65535\n"),
+        (30, 2, "", "refused 17 scopes 1000000000\n"),
+        (33, 1, "", "refused 17 depth 33\n"),
+        (15, 2, LEAVES, "refused 17 leaves 65536\n"),
+    ] {
+        let netlist = modules(alloc, *count, *instances, body)?;
+        is_refused(&rt, alloc, netlist.as_str(), &[*answer])?;
+    }
+    Ok(())
+}
+
+/// A module with four nets of many bits beside its port.
+fn wide(alloc: Global, last: u32) -> Result<String, AllocError> {
+    format!(in alloc;
+        "module m(c); input c; wire [65535:0] w1; wire [65535:0] w2; wire [65535:0] w3; wire [{last}:0] w4; endmodule"
+    )
+}
+
+// Row limits-and-one-past: inner bits.
+#[test]
+fn refusal_17_of_inner_bits(rt: HostRuntime) -> Result<(), Fail> {
+    let alloc = rt.alloc();
+    for (last, front) in &[
+        (65_535, "refused 17 inner 262145\n"),
+        (65_534, "certificate 2\n"),
+    ] {
+        let netlist = wide(alloc, *last)?;
+        begins(&rt, alloc, &netlist, "(DELAYFILE)", CLOCK, front)?;
+    }
+    Ok(())
+}
+
+// Row limits-and-one-past: elements.
+#[test]
+fn refusal_17_of_elements_of_files(rt: HostRuntime) -> Result<(), Fail> {
+    let alloc = rt.alloc();
+    let netlist = "module m(c, x); input c; input [2000:0] x; endmodule";
+    let clock = format!(in alloc; "{CLOCK}[[input]]\nport = \"x\"\nphase = \"p\"\n")?;
+    let front = "refused 17 elements 2001\n";
+    begins(&rt, alloc, netlist, "(DELAYFILE)", &clock, front)?;
     Ok(())
 }
 
@@ -152,7 +235,7 @@ fn are_answered(
 
 // Two corners have as many elements together as a design may have, or two more; but a corner that is refused comes before.
 #[test]
-fn corners_at_the_limit_of_elements(rt: HostRuntime) -> Result<(), Fail> {
+fn refusal_17_of_elements_of_corners(rt: HostRuntime) -> Result<(), Fail> {
     let alloc = rt.alloc();
     for (count, second, status, front) in &[
         (1_000, "no.sdf", Status::Done, "corners 1\nleast\n"),

@@ -1,7 +1,7 @@
-//! Runs on the sample, and on the worked files cut.
-use super::harness::{Held, bytes_shelf, hold, run_over, shelf_of, sound_shelf, succeeds};
+//! Runs on samples, and on the worked files cut at each byte.
+use super::harness::{bytes_shelf, run_over, sound_shelf, succeeds};
 use mintc_sample::SampleFiles;
-use mintc_tests_designs::{TWO_CELLS, TWO_CLOCK, TWO_DELAYS, TWO_NETLIST};
+use mintc_tests_designs::{Held, TWO_CELLS, TWO_CLOCK, TWO_DELAYS, TWO_NETLIST, hold, shelf_of};
 use mintc_text::{MemoryShelf, OutOfMemory};
 use std::alloc::Global;
 use std::process::Abort;
@@ -149,7 +149,7 @@ fn is_cut_at_each_byte(
 
 // Each of the worked files, cut at each byte. Some ends are white space alone.
 #[test]
-fn files_cut_at_each_byte(rt: HostRuntime) -> Result<(), Fail> {
+fn files_cut_at_each_byte_are_refused_or_whole(rt: HostRuntime) -> Result<(), Fail> {
     let alloc = rt.alloc();
     let whole = cut_answer(alloc, "", 0)?;
     for file in WORKED {

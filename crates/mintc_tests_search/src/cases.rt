@@ -1,15 +1,9 @@
 //! Small designs as tables.
-use mintc_order::order;
-use mintc_paths::extremes;
-use mintc_text::Stop;
-use mintc_timing::{Flat, System};
-use mintc_timing_text::read_table;
 use std::alloc::{AllocError, Global};
-use std::process::Abort;
 
 /// A table with so many elements and inner bits, and these arcs.
 #[derive(Clone, Copy)]
-pub(crate) struct Case {
+pub struct Case {
     pub name: &'static str,
     pub elements: u32,
     pub inner: u32,
@@ -17,15 +11,12 @@ pub(crate) struct Case {
 }
 
 /// Adds a row, where there was memory for it.
-pub(crate) fn push_row(
-    text: &mut String,
-    row: Result<String, AllocError>,
-) -> Result<(), AllocError> {
+pub fn push_row(text: &mut String, row: Result<String, AllocError>) -> Result<(), AllocError> {
     text.push_str(&row?)
 }
 
 /// Adds a row for each of so many elements.
-pub(crate) fn push_elements(text: &mut String, elements: u32) -> Result<(), AllocError> {
+pub fn push_elements(text: &mut String, elements: u32) -> Result<(), AllocError> {
     for _ in 0..elements {
         text.push_str("element a 1 0 - 0 0 0\n")?;
     }
@@ -43,7 +34,7 @@ fn push_arcs(alloc: Global, text: &mut String, case: &Case) -> Result<(), AllocE
 }
 
 /// The text of a case's table.
-pub(crate) fn text_of(alloc: Global, case: &Case) -> Result<String, AllocError> {
+pub fn text_of(alloc: Global, case: &Case) -> Result<String, AllocError> {
     let elements = case.elements;
     let mut text = format!(in alloc; "table 1\nphases 1\nphase p\nelements {elements}\n")?;
     push_elements(&mut text, elements)?;
@@ -51,25 +42,7 @@ pub(crate) fn text_of(alloc: Global, case: &Case) -> Result<String, AllocError> 
     Ok(text)
 }
 
-/// The design of a table's text.
-pub(crate) fn design_of_text(rt: &impl Abort, alloc: Global, text: &str) -> Result<Flat, Stop> {
-    assert!(rt; text.len() < 100_000);
-    read_table(alloc, text.as_bytes())
-}
-
-/// The system of a design.
-fn system_of_design(alloc: Global, flat: Flat) -> Result<System, Stop> {
-    let order = order(alloc, &flat)?;
-    let pairs = extremes(alloc, &flat, &order)?;
-    Ok(System::new(flat, order, pairs))
-}
-
-/// The system of a table's text, or what stops it.
-pub(crate) fn system_of_text(rt: &impl Abort, alloc: Global, text: &str) -> Result<System, Stop> {
-    system_of_design(alloc, design_of_text(rt, alloc, text)?)
-}
-
-pub(crate) const NINE: Case = Case {
+pub const NINE: Case = Case {
     name: "nine elements",
     elements: 9,
     inner: 1,
@@ -87,49 +60,49 @@ pub(crate) const NINE: Case = Case {
     ],
 };
 
-pub(crate) const INNER: Case = Case {
+pub const INNER: Case = Case {
     name: "an inner bit",
     elements: 2,
     inner: 1,
     arcs: &["q0 n0 15 15", "n0 d1 5 5", "q1 d0 60 60"],
 };
 
-pub(crate) const PATHS: Case = Case {
+pub const PATHS: Case = Case {
     name: "two paths",
     elements: 2,
     inner: 1,
     arcs: &["q0 d1 20 20", "q0 n0 1 1", "n0 d1 2 2"],
 };
 
-pub(crate) const AT_LIMIT: Case = Case {
+pub const AT_LIMIT: Case = Case {
     name: "a sum of 10^9",
     elements: 1,
     inner: 1,
     arcs: &["q0 n0 1000000000 1000000000", "n0 d0 0 0"],
 };
 
-pub(crate) const ABOVE_LIMIT: Case = Case {
+pub const ABOVE_LIMIT: Case = Case {
     name: "a sum above 10^9",
     elements: 1,
     inner: 1,
     arcs: &["q0 n0 1000000000 1000000000", "n0 d0 1 1"],
 };
 
-pub(crate) const UNLED: Case = Case {
+pub const UNLED: Case = Case {
     name: "arcs above 10^9 that no element leads to",
     elements: 1,
     inner: 3,
     arcs: &["n0 n1 1000000000 1000000000", "n1 n2 1 1", "q0 d0 5 6"],
 };
 
-pub(crate) const NONE: Case = Case {
+pub const NONE: Case = Case {
     name: "no arcs",
     elements: 2,
     inner: 0,
     arcs: &[],
 };
 
-pub(crate) const PARALLEL: Case = Case {
+pub const PARALLEL: Case = Case {
     name: "parallel arcs",
     elements: 2,
     inner: 2,
@@ -147,7 +120,7 @@ pub(crate) const PARALLEL: Case = Case {
     ],
 };
 
-pub(crate) const SELVES: Case = Case {
+pub const SELVES: Case = Case {
     name: "elements that lead to themselves",
     elements: 3,
     inner: 2,
@@ -162,7 +135,7 @@ pub(crate) const SELVES: Case = Case {
     ],
 };
 
-pub(crate) const ENDS: Case = Case {
+pub const ENDS: Case = Case {
     name: "a bit that no path leads to, and one that leads nowhere",
     elements: 2,
     inner: 3,
@@ -175,7 +148,7 @@ pub(crate) const ENDS: Case = Case {
     ],
 };
 
-pub(crate) const DIAMOND: Case = Case {
+pub const DIAMOND: Case = Case {
     name: "a diamond",
     elements: 1,
     inner: 3,
@@ -188,7 +161,7 @@ pub(crate) const DIAMOND: Case = Case {
     ],
 };
 
-pub(crate) const ELEVEN: Case = Case {
+pub const ELEVEN: Case = Case {
     name: "elements beyond eight",
     elements: 11,
     inner: 2,

@@ -1,10 +1,10 @@
-//! Tests of what no clause says: with memory, the worked corners have the certificates that are worked out by hand.
+//! `corners` of mintc_corners: with memory, the worked corners have the certificates that are worked out by hand.
 ghost use Rattle.std.specs.Prelude.{◌≡◌, ◌<◌, IfSome};
 ghost use Rattle.mintc_corners.specs.CornerOptimum.{IsCornerInRange};
 
 mod alike;
 
-use crate::cases::system_of_text;
+use crate::systems::system_of_text;
 use alike::are_corners;
 use mintc_corners::{CornerCertificate, corners, corners_text};
 use mintc_graph_walks::Steps;
@@ -136,7 +136,7 @@ fn is_of_row(row: &Row, text: &[u8]) -> bool {
 }
 
 #[test]
-fn rows_have_their_certificates(rt: HostRuntime) -> Result<(), Fail> {
+fn worked_corners_have_their_certificates(rt: HostRuntime) -> Result<(), Fail> {
     for row in &[TWO, THREE, FOUR, HOPELESS] {
         let text = certificate_text(&rt, rt.alloc(), row).ok_or(row.name)?;
         assert!(rt; is_of_row(row, text.as_slice()), "{}", row.name);

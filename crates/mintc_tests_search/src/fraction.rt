@@ -1,3 +1,4 @@
+//! `Fraction` of mintc_fraction: what fractions give as rational numbers, at the limits too, and how one is written.
 ghost use Rattle.std.specs.Prelude.{unsigned_abs, IfSome};
 ghost use Rattle.mintc_fraction.specs.Ratio.{IsModest};
 
@@ -276,14 +277,14 @@ const CASES: &[Case] = &[
 ];
 
 #[test]
-fn as_rational_numbers(rt: HostRuntime) {
+fn fractions_are_rational_numbers(rt: HostRuntime) {
     for case in CASES {
         check(&rt, case);
     }
 }
 
 #[test]
-fn texts(rt: HostRuntime) -> Result<(), Fail> {
+fn a_fraction_is_written_with_both_numbers(rt: HostRuntime) -> Result<(), Fail> {
     let text = format!(in rt.alloc(); "{} {}", Fraction::new(-6, 4), Fraction::new(0, 1))?;
     assert!(rt; text.as_str() == "-6/4 0/1", "{text}");
     Ok(())

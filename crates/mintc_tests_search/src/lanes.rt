@@ -1,4 +1,4 @@
-//! Rows of lanes.
+//! Rows of mintc_lanes: what is added and compared in each lane, at the limits and where lanes are absent.
 ghost use Rattle.std.specs.Prelude.{unsigned_abs};
 ghost use Rattle.std.specs.Bool.{OnTrue};
 ghost use Rattle.mintc_lanes.specs.Lanes.{AreLanes};
@@ -150,7 +150,7 @@ fn check(rt: &impl Abort, case: &Case) {
 }
 
 #[test]
-fn rows_of_lanes(rt: HostRuntime) {
+fn rows_are_added_and_compared_lane_by_lane(rt: HostRuntime) {
     for case in CASES {
         check(&rt, case);
     }

@@ -1,22 +1,44 @@
-//! Tests of lanes, places, fractions, walks, searches and corners, and of pairs, their number and their paths, of what no clause says.
-//! They stand in a crate of their own, so that nothing is proved twice.
+//! Tests of kernels, search and judgement (layers 1, 3 and 6), of what no clause says. Each module has the name of the crate whose
+//! public calls it tries, without `mintc_`: fractions, lanes, sets and walks; orders, paths and their number; links, ratios and
+//! cycles, the optimum, the safe cycle, slack and corners; departures, certificates and what judges them. Beside them, `systems` and
+//! `cases` make small systems, and `link_rows` lists of links.
 #![tactic(auto)]
 
 #[cfg(test)]
+mod bitset;
+#[cfg(test)]
 mod cases;
+#[cfg(test)]
+mod certificate;
+#[cfg(test)]
+mod checker;
+#[cfg(test)]
+mod constraints;
 #[cfg(test)]
 mod corners;
 #[cfg(test)]
-mod count;
+mod departure;
 #[cfg(test)]
 mod fraction;
 #[cfg(test)]
+mod graph_walks;
+#[cfg(test)]
 mod lanes;
+#[cfg(test)]
+mod link_rows;
+#[cfg(test)]
+mod optimise;
+#[cfg(test)]
+mod order;
 #[cfg(test)]
 mod paths;
 #[cfg(test)]
-mod places;
+mod paths_count;
 #[cfg(test)]
 mod ratio;
 #[cfg(test)]
-mod walks;
+mod safe;
+#[cfg(test)]
+mod slack;
+#[cfg(test)]
+mod systems;

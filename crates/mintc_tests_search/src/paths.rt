@@ -1,12 +1,13 @@
-//! Tests of what no clause says: the worked designs, and small ones against a plain listing of all paths.
+//! Pairs and paths of mintc_paths: the worked designs, small ones against a plain listing of all paths, and the limits.
 ghost use Rattle.std.specs.Prelude.{◌<◌, ◌≤◌, length};
 ghost use Rattle.std.specs.Bool.{OnTrue};
 ghost use Rattle.mintc_paths.specs.Trace.{IsPairOf};
 
 use crate::cases::{
     ABOVE_LIMIT, AT_LIMIT, Case, DIAMOND, ELEVEN, ENDS, INNER, NINE, NONE, PARALLEL, PATHS, SELVES,
-    UNLED, push_elements, push_row, system_of_text, text_of,
+    UNLED, push_elements, push_row, text_of,
 };
+use crate::systems::system_of_text;
 use mintc_paths::{Finder, path_of, shortest_path_of};
 use mintc_text::{Kind, Refusal, Stop};
 use mintc_timing::{Pair, System, TimingArc};
@@ -157,7 +158,7 @@ fn has_pairs(rt: &impl Abort, case: &Case, wanted: &[Wanted], alloc: Global) {
 }
 
 #[test]
-fn pairs_are_found(rt: HostRuntime) {
+fn worked_designs_have_their_pairs(rt: HostRuntime) {
     has_pairs(&rt, &NINE, NINE_PAIRS, rt.alloc());
     has_pairs(&rt, &INNER, INNER_PAIRS, rt.alloc());
 }
@@ -227,7 +228,7 @@ fn are_paths(
 }
 
 #[test]
-fn paths_have_the_sums(rt: HostRuntime) {
+fn paths_have_the_greatest_and_the_least_sum(rt: HostRuntime) {
     let alloc = rt.alloc();
     match system_of(&rt, alloc, &PATHS) {
         Some(system) => assert!(rt; are_paths(alloc, &system, (0, 1), &[0], &[1, 2])),
@@ -367,7 +368,7 @@ fn finders_of_another_system_find_the_paths(rt: HostRuntime) {
 }
 
 #[test]
-fn a_sum_at_the_limit_is_none_above(rt: HostRuntime) {
+fn a_sum_at_the_limit_is_accepted(rt: HostRuntime) {
     assert!(rt; system_of(&rt, rt.alloc(), &AT_LIMIT).is_some());
 }
 
@@ -380,7 +381,7 @@ fn too_long(rt: &impl Abort, alloc: Global, case: &Case) -> Option<(u32, u32)> {
 }
 
 #[test]
-fn a_sum_above_the_limit_is_refused(rt: HostRuntime) {
+fn refusal_21_names_the_element_and_the_bit(rt: HostRuntime) {
     let alloc = rt.alloc();
     assert!(rt; too_long(&rt, alloc, &ABOVE_LIMIT) == Some((0, 0)));
     assert!(rt; too_long(&rt, alloc, &FEW_ENTERED_TOO_LONG) == Some((1, 4)));
@@ -422,7 +423,7 @@ fn too_many(rt: &impl Abort, alloc: Global, text: &str) -> Option<u64> {
 }
 
 #[test]
-fn pairs_beyond_the_limit_are_counted_from_the_inputs(rt: HostRuntime) -> Result<(), Fail> {
+fn refusal_17_has_the_count_of_pairs(rt: HostRuntime) -> Result<(), Fail> {
     let text = many_text(rt.alloc())?;
     assert!(rt; too_many(&rt, rt.alloc(), &text) == Some(202_000));
     Ok(())

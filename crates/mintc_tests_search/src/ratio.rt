@@ -1,10 +1,10 @@
-//! Tests of the search: what it finds for lists of links that are written out, and for small ones all of whose chains are
+//! `search` of mintc_ratio: what it finds for lists of links that are written out, and for small ones all of whose chains are
 //! listed.
 ghost use Rattle.std.specs.Prelude.{◌≡◌, ◌<◌};
 
 mod simple_chains;
-mod written;
 
+use crate::link_rows::{Row, TWO_PHASES, joined, list_of};
 use mintc_constraints::{LinkList, Room};
 use mintc_graph_walks::Steps;
 use mintc_ratio::{Outcome, search};
@@ -13,7 +13,6 @@ use std::alloc::Global;
 use std::marker::Brand;
 use std::sync::ledger::{Blank, Ledger};
 use std::test::Fail;
-use written::{Row, written};
 
 /// What a search finds: the cycle time as a numerator and a denominator, or none where every one is forbidden; how many
 /// links the chain has; and how many steps were taken.
@@ -45,7 +44,7 @@ fn searched<L: Ledger>(alloc: Global, list: &LinkList, blank: Blank) -> Option<F
 
 /// What a search finds for these links.
 fn find(alloc: Global, nodes: u32, rows: &[Row]) -> Option<Found> {
-    let list = written(alloc, nodes, rows)?;
+    let list = list_of(alloc, nodes, rows)?;
     searched::<Brand>(alloc, &list, Blank::new(1))
 }
 
@@ -59,41 +58,40 @@ fn is_in_time(nodes: u32, found: Found) -> bool {
 struct Case {
     name: &'static str,
     nodes: u32,
-    rows: &'static [Row],
+    rows: &'static [&'static [Row]],
     cycle: Option<(i128, i128)>,
 }
+
+/// What two latches add, each on one of two phases, of which the first has a setup of 10 in its phase.
+const TWO_LATCHES: &[Row] = &[
+    (4, 1, 0, 1),
+    (2, 3, 0, 0),
+    (1, 5, 0, 0),
+    (3, 6, 0, 0),
+    (1, 2, 10, 0),
+];
 
 const CASES: &[Case] = &[
     Case {
         name: "two latches in a loop",
         nodes: 7,
         rows: &[
-            (0, 1, 0, 0),
-            (0, 3, 0, 0),
-            (1, 0, 0, 1),
-            (3, 0, 0, 1),
-            (1, 3, 0, 0),
-            (2, 1, 0, 1),
-            (4, 3, 0, 1),
-            (1, 2, 0, 0),
-            (3, 4, 0, 0),
-            (4, 1, 0, 1),
-            (2, 3, 0, 0),
-            (1, 5, 0, 0),
-            (3, 6, 0, 0),
-            (1, 2, 10, 0),
-            (3, 4, 10, 0),
-            (5, 6, 30, 0),
-            (6, 5, 70, 1),
-            (5, 2, 10, 0),
-            (6, 4, 10, 0),
+            TWO_PHASES,
+            TWO_LATCHES,
+            &[
+                (3, 4, 10, 0),
+                (5, 6, 30, 0),
+                (6, 5, 70, 1),
+                (5, 2, 10, 0),
+                (6, 4, 10, 0),
+            ],
         ],
         cycle: Some((100, 1)),
     },
     Case {
         name: "half a step",
         nodes: 5,
-        rows: &[
+        rows: &[&[
             (0, 1, 0, 0),
             (1, 0, 0, 1),
             (2, 1, 0, 1),
@@ -107,19 +105,19 @@ const CASES: &[Case] = &[
             (4, 3, 20, 1),
             (3, 2, 0, 0),
             (4, 2, 0, 0),
-        ],
+        ]],
         cycle: Some((51, 2)),
     },
     Case {
         name: "no elements",
         nodes: 3,
-        rows: &[(0, 1, 0, 0), (1, 0, 0, 1), (2, 1, 0, 1), (1, 2, 0, 0)],
+        rows: &[&[(0, 1, 0, 0), (1, 0, 0, 1), (2, 1, 0, 1), (1, 2, 0, 0)]],
         cycle: Some((0, 1)),
     },
     Case {
         name: "never",
         nodes: 4,
-        rows: &[
+        rows: &[&[
             (0, 1, 0, 0),
             (1, 0, 0, 1),
             (2, 1, 0, 1),
@@ -128,41 +126,32 @@ const CASES: &[Case] = &[
             (1, 2, 10, 0),
             (3, 2, 10, 0),
             (2, 1, -5, 0),
-        ],
+        ]],
         cycle: None,
     },
     Case {
         name: "two tight chains",
         nodes: 7,
         rows: &[
-            (0, 1, 0, 0),
-            (0, 3, 0, 0),
-            (1, 0, 0, 1),
-            (3, 0, 0, 1),
-            (1, 3, 0, 0),
-            (2, 1, 0, 1),
-            (4, 3, 0, 1),
-            (1, 2, 0, 0),
-            (3, 4, 0, 0),
-            (4, 1, 0, 1),
-            (2, 3, 0, 0),
-            (1, 5, 0, 0),
-            (3, 6, 0, 0),
-            (1, 2, 10, 0),
-            (3, 4, 70, 0),
-            (5, 6, 30, 0),
-            (6, 5, 70, 1),
-            (5, 2, 10, 0),
-            (6, 4, 70, 0),
+            TWO_PHASES,
+            TWO_LATCHES,
+            &[
+                (3, 4, 70, 0),
+                (5, 6, 30, 0),
+                (6, 5, 70, 1),
+                (5, 2, 10, 0),
+                (6, 4, 70, 0),
+            ],
         ],
         cycle: Some((100, 1)),
     },
 ];
 
 #[test]
-fn designs(rt: HostRuntime) -> Result<(), Fail> {
+fn written_links_have_their_cycle_time(rt: HostRuntime) -> Result<(), Fail> {
     for case in CASES {
-        let result = find(rt.alloc(), case.nodes, case.rows).ok_or("not ordinary")?;
+        let rows = joined(rt.alloc(), case.rows)?;
+        let result = find(rt.alloc(), case.nodes, &rows).ok_or("not ordinary")?;
         assert!(rt;
             result.cycle == case.cycle && is_in_time(case.nodes, result),
             "{}",
@@ -173,7 +162,7 @@ fn designs(rt: HostRuntime) -> Result<(), Fail> {
 }
 
 #[test]
-fn rest_is_two_links(rt: HostRuntime) -> Result<(), Fail> {
+fn links_that_ask_for_nothing_have_a_chain_of_two(rt: HostRuntime) -> Result<(), Fail> {
     let rows = [(0, 1, 0, 0), (1, 0, 0, 1), (0, 2, 0, 0)];
     let result = find(rt.alloc(), 3, &rows).ok_or("not ordinary")?;
     assert!(rt; result.cycle == Some((0, 1)) && result.chain == 2);
@@ -209,7 +198,7 @@ fn agrees_at(alloc: Global, seed: u64) -> bool {
 }
 
 #[test]
-fn all_simple_chains(rt: HostRuntime) {
+fn drawn_links_have_the_greatest_ratio_of_their_chains(rt: HostRuntime) {
     for seed in 0..300 {
         assert!(rt; agrees_at(rt.alloc(), seed), "at {seed}");
     }

@@ -1,9 +1,6 @@
 //! Cell descriptions with what they say, and with the rules that they fail.
 
-/// The cells of the worked files.
-const TWO: &str =
-    "[cell.LAT]\nkind = \"latch\"\nd = \"D\"\ng = \"G\"\noutputs = [\"Q\"]\nsetup = 10\ndq_min = 10\n\
-[cell.BUF]\nkind = \"gate\"\ninputs = [\"A\"]\noutputs = [\"Y\"]\n";
+use mintc_tests_designs::TWO_CELLS;
 
 /// A cell of each kind with every key, the example of docs/formats.md.
 pub(super) const EXAMPLE: &str =
@@ -232,7 +229,7 @@ pub(super) const CELLS: &[(&str, Option<u32>)] = &[
 /// Descriptions with what they say.
 pub(super) const SAID: &[(&str, &str)] = &[
     (
-        TWO,
+        TWO_CELLS,
         "BUF gate [A] [Y] 0 0;LAT latch D G true [Q] [] 10 0 false 10 10 10 10 false 0;",
     ),
     (EXAMPLE, EXAMPLE_SAID),

@@ -1,35 +1,19 @@
 //! Liberty texts with what they say: their cells, or the number of their Syntax.
 
-/// The library of the worked files.
-const TWO: &str =
-    "library (t) { cell (BUF) { area : 1.0 ; pin (A) { direction : input ; } pin (Y) { direction : output ; function : \"A\" ; } } \
-cell (LAT) { latch (IQ, IQN) { enable : \"G\" ; data_in : \"D\" ; } pin (D) { direction : input ; } pin (G) { direction : input ; clock : true ; } \
-pin (Q) { direction : output ; function : \"IQ\" ; } } }";
+use mintc_tests_designs::{DEFINING_LIBRARY, TWO_LIBRARY, UNUSABLE_LIBRARY};
 
 const TWO_SAID: &str = "BUF gate [A] [Y];LAT latch D G true [Q] [];";
 
-/// The same with `define (x, cell, float) ;` as the first statement.
-const DEFINING: &str =
-    "library (t) { define (x, cell, float) ; cell (BUF) { area : 1.0 ; pin (A) { direction : input ; } pin (Y) { direction : output ; function : \"A\" ; } } \
-cell (LAT) { latch (IQ, IQN) { enable : \"G\" ; data_in : \"D\" ; } pin (D) { direction : input ; } pin (G) { direction : input ; clock : true ; } \
-pin (Q) { direction : output ; function : \"IQ\" ; } } }";
-
-/// The same with a `bus` in BUF, which can't be used.
-const UNUSABLE: &str =
-    "library (t) { cell (BUF) { bus (B) { } area : 1.0 ; pin (A) { direction : input ; } pin (Y) { direction : output ; function : \"A\" ; } } \
-cell (LAT) { latch (IQ, IQN) { enable : \"G\" ; data_in : \"D\" ; } pin (D) { direction : input ; } pin (G) { direction : input ; clock : true ; } \
-pin (Q) { direction : output ; function : \"IQ\" ; } } }";
-
 /// The worked texts.
-pub(super) const ROWS: [(&str, &str); 4] = [
-    (TWO, TWO_SAID),
-    (DEFINING, TWO_SAID),
-    (UNUSABLE, "LAT latch D G true [Q] [];"),
+pub(super) const WORKED: [(&str, &str); 4] = [
+    (TWO_LIBRARY, TWO_SAID),
+    (DEFINING_LIBRARY, TWO_SAID),
+    (UNUSABLE_LIBRARY, "LAT latch D G true [Q] [];"),
     ("library (t) { cell (A) {", "syntax 1"),
 ];
 
 /// Whole texts without a cell, and texts that are out of form.
-pub(super) const GRAMMAR: [(&str, &str); 28] = [
+pub(super) const FORMS: [(&str, &str); 28] = [
     ("", "syntax 0"),
     ("lib (t) { }", "syntax 0"),
     ("\"library\" (t) { }", "syntax 0"),
@@ -113,7 +97,7 @@ pub(super) const KINDS: [(&str, &str); 12] = [
 ];
 
 /// What is said twice, in another form, or of pins that aren't seen.
-pub(super) const SAYINGS: [(&str, &str); 7] = [
+pub(super) const OTHER_FORMS: [(&str, &str); 7] = [
     (
         "pin (Y) { direction : input ; direction : \"out\" put ; }",
         "gate [] [Y]",
@@ -169,7 +153,7 @@ pub(super) const UNUSABLE_CELLS: [&str; 20] = [
 ];
 
 /// Several cells of a library.
-pub(super) const LIBRARIES: [(&str, &str); 5] = [
+pub(super) const SEVERAL: [(&str, &str); 5] = [
     (
         "library (t) { cell (b) { pin (Y) { direction : output ; } } cell (a) { pin (Z) { direction : output ; } } }",
         "a gate [] [Z];b gate [] [Y];",
@@ -191,17 +175,3 @@ pub(super) const LIBRARIES: [(&str, &str); 5] = [
         "",
     ),
 ];
-
-/// The cells of the worked files.
-pub(super) const WORKED: &str =
-    "[cell.LAT]\nkind = \"latch\"\nd = \"D\"\ng = \"G\"\noutputs = [\"Q\"]\nsetup = 10\ndq_min = 10\n\
-[cell.BUF]\nkind = \"gate\"\ninputs = [\"A\"]\noutputs = [\"Y\"]\n";
-
-/// Cells with all keys, cells with few, and names that a key has to quote.
-pub(super) const DESCRIPTION: &str =
-    "[cell.DLL]\nkind = \"latch\"\nd = \"D\"\ng = \"GN\"\noutputs = [\"Q\", \"QN\"]\nactive = \"low\"\nignored = [\"SE\"]\nsetup = 30_000\nhold = -5_000\n\
-dq_min = 40_000\ndq_max = 60_000\ncq_min = 50_000\ncq_max = 70_000\nwidth = 100_000\n\
-[cell.LAT]\nkind = \"latch\"\nd = \"D\"\ng = \"G\"\noutputs = [\"Q\"]\ndq_min = 10\n\
-[cell.\"a.b\"]\nkind = \"gate\"\ninputs = [\"A\", \"\\\"\"]\noutputs = [\"Y\"]\nmin = 3\nmax = 4\n\
-[cell.DFN]\nkind = \"flop\"\nd = \"D\"\nclock = \"CPN\"\noutputs = [\"Q\"]\nedge = \"falling\"\nhold = 0\ncq_max = 7\n\
-[cell.CKINV]\nkind = \"clock\"\ninput = \"I\"\noutput = \"ZN\"\ninvert = true\nignored = [\"TE\"]\n";

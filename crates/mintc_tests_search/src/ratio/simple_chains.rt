@@ -1,7 +1,7 @@
 //! Small lists of links at random, and the greatest ratio of their chains, found by a list of all that enter no node twice.
 ghost use Rattle.std.specs.Prelude.{◌<◌};
 
-use super::written::Row;
+use crate::link_rows::Row;
 use std::alloc::Global;
 
 /// The greatest ratio of chains so far, at least 0/1, and whether one of them takes time and has no cycle.

@@ -1,4 +1,0 @@
-use Rattle.mintc_tests_design.proofs.bench.bench_solves_twice.Given as goal
-
-abbrev pub ghosts-solved_twice : goal.ghosts-solved_twice
-ghosts-solved_twice g a = record { name = a.blank.name; parts = a.blank.parts }
