@@ -69,7 +69,7 @@ fn refusal_21_names_a_path_above_the_greatest_sum(rt: HostRuntime) {
 }
 
 /// The design of files with these cells.
-pub fn designed(
+pub(crate) fn designed(
     rt: &impl Abort,
     alloc: Global,
     netlist: &str,
@@ -92,7 +92,7 @@ pub fn designed(
 }
 
 /// The least and the greatest delay of an arc.
-pub fn arc(flat: &Flat, number: usize) -> Option<(i64, i64)> {
+pub(crate) fn arc(flat: &Flat, number: usize) -> Option<(i64, i64)> {
     flat.arcs().get(number).map(|arc| (arc.min, arc.max))
 }
 

@@ -5,7 +5,7 @@ use std::alloc::{AllocError, Global};
 use std::str;
 
 /// A name's text.
-pub fn shown(name: &[u8]) -> &str {
+pub(crate) fn shown(name: &[u8]) -> &str {
     str::from_utf8(name).unwrap_or("no text")
 }
 
@@ -21,7 +21,7 @@ fn push_names(text: &mut String, names: &[Name]) -> Result<(), AllocError> {
 }
 
 /// Names in brackets.
-pub fn names_text(alloc: Global, names: &Names) -> Result<String, AllocError> {
+pub(crate) fn names_text(alloc: Global, names: &Names) -> Result<String, AllocError> {
     let mut text = String::new(alloc);
     push_names(&mut text, names.items())?;
     format!(in alloc; "[{text}]")
@@ -59,7 +59,7 @@ fn clock_text(
 }
 
 /// A cell's kind and pins.
-pub fn cell_text(alloc: Global, cell: &Cell) -> Result<String, AllocError> {
+pub(crate) fn cell_text(alloc: Global, cell: &Cell) -> Result<String, AllocError> {
     match cell {
         Cell::Gate {
             inputs,
@@ -98,7 +98,7 @@ pub fn cell_text(alloc: Global, cell: &Cell) -> Result<String, AllocError> {
 }
 
 /// A cell's numbers; a clock cell has none.
-pub fn numbers_text(alloc: Global, cell: &Cell) -> Result<String, AllocError> {
+pub(crate) fn numbers_text(alloc: Global, cell: &Cell) -> Result<String, AllocError> {
     match cell {
         Cell::Gate { min, max, .. } => format!(in alloc; "{min} {max}"),
         Cell::Latch {
@@ -129,7 +129,7 @@ pub fn numbers_text(alloc: Global, cell: &Cell) -> Result<String, AllocError> {
 }
 
 /// Adds a cell's name, its text and an end.
-pub fn push_cell(text: &mut String, name: &str, cell: &str) -> Result<(), AllocError> {
+pub(crate) fn push_cell(text: &mut String, name: &str, cell: &str) -> Result<(), AllocError> {
     text.push_str(name)?;
     text.push_str(" ")?;
     text.push_str(cell)?;
@@ -137,7 +137,7 @@ pub fn push_cell(text: &mut String, name: &str, cell: &str) -> Result<(), AllocE
 }
 
 /// Cells without their numbers, each with its name and an end.
-pub fn cells_text(alloc: Global, cells: &Cells) -> Result<String, AllocError> {
+pub(crate) fn cells_text(alloc: Global, cells: &Cells) -> Result<String, AllocError> {
     let mut text = String::new(alloc);
     for number in 0..cells.count() {
         let cell = cell_text(alloc, cells.cell(number))?;

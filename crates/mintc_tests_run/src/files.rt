@@ -9,10 +9,10 @@ use mintc_tests_designs::{
 const PAIR_V: &str =
     "module m(c1, c2); input c1, c2; wire p, q, r, s; FF a (.D(s), .C(c1), .Q(p)); BUF x (.A(p), .Y(q)); FF b (.D(q), .C(c2), .Q(r)); BUF y (.A(r), .Y(s)); endmodule\n";
 
-pub const PAIR_CELLS: &str =
+pub(crate) const PAIR_CELLS: &str =
     "[cell.FF]\nkind = \"flop\"\nd = \"D\"\nclock = \"C\"\noutputs = [\"Q\"]\n[cell.BUF]\nkind = \"gate\"\ninputs = [\"A\"]\noutputs = [\"Y\"]\n";
 
-pub const PAIR_CLOCK: &str =
+pub(crate) const PAIR_CLOCK: &str =
     "[[phase]]\nname = \"p1\"\nport = \"c1\"\n[[phase]]\nname = \"p2\"\nport = \"c2\"\n";
 
 const FIRST_SDF: &str =
@@ -118,14 +118,14 @@ const FILES: &[(&str, &str)] = &[
 ];
 
 /// An edit of the certificate of the first table, the text `new` in place of `old`, and what `verify` answers.
-pub struct Edit {
+pub(crate) struct Edit {
     pub old: &'static str,
     pub new: &'static str,
     pub answer: &'static str,
 }
 
 /// The rows on certificates.
-pub const CERTIFICATES: &[Edit] = &[
+pub(crate) const CERTIFICATES: &[Edit] = &[
     // Row verify-valid.
     Edit {
         old: "least",
@@ -171,12 +171,12 @@ pub const CERTIFICATES: &[Edit] = &[
 ];
 
 /// The files of the rows. Each function that names them by this costs the proof less than one that names the list.
-pub fn files() -> &'static [(&'static str, &'static str)] {
+pub(crate) fn files() -> &'static [(&'static str, &'static str)] {
     FILES
 }
 
 /// The files of the rows of `safe` and `slack`.
-pub const SAFE_AND_SLACK_FILES: &[(&str, &str)] = &[
+pub(crate) const SAFE_AND_SLACK_FILES: &[(&str, &str)] = &[
     ("own.table", OWN_LOOP),
     (
         "half-own.table",
@@ -188,7 +188,7 @@ pub const SAFE_AND_SLACK_FILES: &[(&str, &str)] = &[
 
 /// The files of the rows on libraries: the worked one with a definition, with a cell that can't be used, and one that isn't
 /// closed.
-pub const LIBRARIES: &[(&str, &str)] = &[
+pub(crate) const LIBRARIES: &[(&str, &str)] = &[
     ("two.v", TWO_NETLIST),
     ("two.sdf", TWO_DELAYS),
     ("two.clock", TWO_CLOCK),
@@ -199,7 +199,7 @@ pub const LIBRARIES: &[(&str, &str)] = &[
 
 /// The files of the rows on corners, beside those that all rows have: delays under which x and y are faster, or x slower; a text
 /// that is cut off; delays of an instance that isn't there; and a clock whose second phase begins too late for any cycle.
-pub const CORNER_FILES: &[(&str, &str)] = &[
+pub(crate) const CORNER_FILES: &[(&str, &str)] = &[
     ("pair.v", PAIR_V),
     ("pair.cells", PAIR_CELLS),
     ("pair.clock", PAIR_CLOCK),

@@ -6,17 +6,23 @@ use std::alloc::{AllocError, Global};
 use std::process::Abort;
 
 /// Adds a text, where there was memory for it.
-pub fn push_text(text: &mut String, more: Result<String, AllocError>) -> Result<(), AllocError> {
+pub(crate) fn push_text(
+    text: &mut String,
+    more: Result<String, AllocError>,
+) -> Result<(), AllocError> {
     text.push_str(&more?)
 }
 
 /// A shelf of files, none of whose calls fail.
-pub fn sound_shelf(alloc: Global, held: Held) -> MemoryShelf {
+pub(crate) fn sound_shelf(alloc: Global, held: Held) -> MemoryShelf {
     MemoryShelf::new(held, Numbers::new(Vec::new(alloc)))
 }
 
 /// A shelf of files of these bytes, none of whose calls fail.
-pub fn bytes_shelf(alloc: Global, files: &[(&str, &[u8])]) -> Result<MemoryShelf, OutOfMemory> {
+pub(crate) fn bytes_shelf(
+    alloc: Global,
+    files: &[(&str, &[u8])],
+) -> Result<MemoryShelf, OutOfMemory> {
     let mut held = Vec::new(alloc);
     for file in files {
         hold(alloc, &mut held, file.0, file.1)?;
@@ -37,7 +43,7 @@ fn run_words(
 }
 
 /// A run with the words of this line.
-pub fn run_over(
+pub(crate) fn run_over(
     alloc: Global,
     shelf: &mut MemoryShelf,
     line: &str,
@@ -48,7 +54,7 @@ pub fn run_over(
 }
 
 /// A run with the words of this line over a shelf of these files.
-pub fn run_on(
+pub(crate) fn run_on(
     alloc: Global,
     files: &[(&str, &str)],
     line: &str,
@@ -72,7 +78,7 @@ fn has_answer(
 }
 
 /// A run over this shelf, and a sink whose first write may be made to fail, has this status, and the sink took this text.
-pub fn is_answered(
+pub(crate) fn is_answered(
     rt: &impl Abort,
     alloc: Global,
     shelf: &mut MemoryShelf,
@@ -87,12 +93,18 @@ pub fn is_answered(
 }
 
 /// A run over this shelf succeeds with this text.
-pub fn succeeds(rt: &impl Abort, alloc: Global, shelf: &mut MemoryShelf, line: &str, text: &[u8]) {
+pub(crate) fn succeeds(
+    rt: &impl Abort,
+    alloc: Global,
+    shelf: &mut MemoryShelf,
+    line: &str,
+    text: &[u8],
+) {
     is_answered(rt, alloc, shelf, line, None, (Status::Done, text));
 }
 
 /// One phase on the port `c`.
-pub const CLOCK: &str = "[[phase]]\nname = \"p\"\nport = \"c\"\n";
+pub(crate) const CLOCK: &str = "[[phase]]\nname = \"p\"\nport = \"c\"\n";
 
 /// A netlist `v`, delays `d`, cells `c` and a clock `k` for a shelf.
 fn held(alloc: Global, netlist: &str, delays: &str, clock: &str) -> Result<Held, OutOfMemory> {
@@ -105,7 +117,7 @@ fn held(alloc: Global, netlist: &str, delays: &str, clock: &str) -> Result<Held,
 }
 
 /// A run with these words on a netlist `v` with these delays `d`, cells `c`, and this clock `k`.
-pub fn run_files(
+pub(crate) fn run_files(
     alloc: Global,
     words: &str,
     netlist: &str,
@@ -117,7 +129,7 @@ pub fn run_files(
 }
 
 /// A run of `optimise` on these.
-pub fn optimised(
+pub(crate) fn optimised(
     alloc: Global,
     netlist: &str,
     delays: &str,
@@ -127,7 +139,7 @@ pub fn optimised(
 }
 
 /// A netlist is refused with one of these answers.
-pub fn is_refused(
+pub(crate) fn is_refused(
     rt: &impl Abort,
     alloc: Global,
     netlist: &str,
@@ -142,7 +154,7 @@ pub fn is_refused(
 }
 
 /// The answer on these begins so.
-pub fn begins(
+pub(crate) fn begins(
     rt: &impl Abort,
     alloc: Global,
     netlist: &str,

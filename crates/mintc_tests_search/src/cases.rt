@@ -3,7 +3,7 @@ use std::alloc::{AllocError, Global};
 
 /// A table with so many elements and inner bits, and these arcs.
 #[derive(Clone, Copy)]
-pub struct Case {
+pub(crate) struct Case {
     pub name: &'static str,
     pub elements: u32,
     pub inner: u32,
@@ -11,12 +11,15 @@ pub struct Case {
 }
 
 /// Adds a row, where there was memory for it.
-pub fn push_row(text: &mut String, row: Result<String, AllocError>) -> Result<(), AllocError> {
+pub(crate) fn push_row(
+    text: &mut String,
+    row: Result<String, AllocError>,
+) -> Result<(), AllocError> {
     text.push_str(&row?)
 }
 
 /// Adds a row for each of so many elements.
-pub fn push_elements(text: &mut String, elements: u32) -> Result<(), AllocError> {
+pub(crate) fn push_elements(text: &mut String, elements: u32) -> Result<(), AllocError> {
     for _ in 0..elements {
         text.push_str("element a 1 0 - 0 0 0\n")?;
     }
@@ -34,7 +37,7 @@ fn push_arcs(alloc: Global, text: &mut String, case: &Case) -> Result<(), AllocE
 }
 
 /// The text of a case's table.
-pub fn text_of(alloc: Global, case: &Case) -> Result<String, AllocError> {
+pub(crate) fn text_of(alloc: Global, case: &Case) -> Result<String, AllocError> {
     let elements = case.elements;
     let mut text = format!(in alloc; "table 1\nphases 1\nphase p\nelements {elements}\n")?;
     push_elements(&mut text, elements)?;
@@ -42,7 +45,7 @@ pub fn text_of(alloc: Global, case: &Case) -> Result<String, AllocError> {
     Ok(text)
 }
 
-pub const NINE: Case = Case {
+pub(crate) const NINE: Case = Case {
     name: "nine elements",
     elements: 9,
     inner: 1,
@@ -60,49 +63,49 @@ pub const NINE: Case = Case {
     ],
 };
 
-pub const INNER: Case = Case {
+pub(crate) const INNER: Case = Case {
     name: "an inner bit",
     elements: 2,
     inner: 1,
     arcs: &["q0 n0 15 15", "n0 d1 5 5", "q1 d0 60 60"],
 };
 
-pub const PATHS: Case = Case {
+pub(crate) const PATHS: Case = Case {
     name: "two paths",
     elements: 2,
     inner: 1,
     arcs: &["q0 d1 20 20", "q0 n0 1 1", "n0 d1 2 2"],
 };
 
-pub const AT_LIMIT: Case = Case {
+pub(crate) const AT_LIMIT: Case = Case {
     name: "a sum of 10^9",
     elements: 1,
     inner: 1,
     arcs: &["q0 n0 1000000000 1000000000", "n0 d0 0 0"],
 };
 
-pub const ABOVE_LIMIT: Case = Case {
+pub(crate) const ABOVE_LIMIT: Case = Case {
     name: "a sum above 10^9",
     elements: 1,
     inner: 1,
     arcs: &["q0 n0 1000000000 1000000000", "n0 d0 1 1"],
 };
 
-pub const UNLED: Case = Case {
+pub(crate) const UNLED: Case = Case {
     name: "arcs above 10^9 that no element leads to",
     elements: 1,
     inner: 3,
     arcs: &["n0 n1 1000000000 1000000000", "n1 n2 1 1", "q0 d0 5 6"],
 };
 
-pub const NONE: Case = Case {
+pub(crate) const NONE: Case = Case {
     name: "no arcs",
     elements: 2,
     inner: 0,
     arcs: &[],
 };
 
-pub const PARALLEL: Case = Case {
+pub(crate) const PARALLEL: Case = Case {
     name: "parallel arcs",
     elements: 2,
     inner: 2,
@@ -120,7 +123,7 @@ pub const PARALLEL: Case = Case {
     ],
 };
 
-pub const SELVES: Case = Case {
+pub(crate) const SELVES: Case = Case {
     name: "elements that lead to themselves",
     elements: 3,
     inner: 2,
@@ -135,7 +138,7 @@ pub const SELVES: Case = Case {
     ],
 };
 
-pub const ENDS: Case = Case {
+pub(crate) const ENDS: Case = Case {
     name: "a bit that no path leads to, and one that leads nowhere",
     elements: 2,
     inner: 3,
@@ -148,7 +151,7 @@ pub const ENDS: Case = Case {
     ],
 };
 
-pub const DIAMOND: Case = Case {
+pub(crate) const DIAMOND: Case = Case {
     name: "a diamond",
     elements: 1,
     inner: 3,
@@ -161,7 +164,7 @@ pub const DIAMOND: Case = Case {
     ],
 };
 
-pub const ELEVEN: Case = Case {
+pub(crate) const ELEVEN: Case = Case {
     name: "elements beyond eight",
     elements: 11,
     inner: 2,

@@ -10,10 +10,10 @@ use mintc_timing::{Link, LinkKind};
 use std::alloc::{AllocError, Global};
 
 /// A link's from, to, delay and cycles.
-pub type Row = (u32, u32, i64, u32);
+pub(crate) type Row = (u32, u32, i64, u32);
 
 /// The links of the clock with two phases, before those that phases have with one another through their elements.
-pub const TWO_PHASES: &[Row] = &[
+pub(crate) const TWO_PHASES: &[Row] = &[
     (0, 1, 0, 0),
     (0, 3, 0, 0),
     (1, 0, 0, 1),
@@ -26,7 +26,7 @@ pub const TWO_PHASES: &[Row] = &[
 ];
 
 /// The rows of several slices, one after another.
-pub fn joined(alloc: Global, parts: &[&[Row]]) -> Result<Vec<Row>, AllocError> {
+pub(crate) fn joined(alloc: Global, parts: &[&[Row]]) -> Result<Vec<Row>, AllocError> {
     let mut rows = Vec::new(alloc);
     for part in parts {
         rows.extend_from_slice(part)?;
@@ -127,7 +127,7 @@ fn link_of(row: Row) -> Link {
 }
 
 /// A list of these links between so many nodes, or none where it isn't ordinary.
-pub fn list_of(alloc: Global, nodes: u32, rows: &[Row]) -> Option<LinkList> {
+pub(crate) fn list_of(alloc: Global, nodes: u32, rows: &[Row]) -> Option<LinkList> {
     let mut links = Vec::new(alloc);
     for row in rows {
         links.push(link_of(*row)).ok()?;

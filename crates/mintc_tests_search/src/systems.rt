@@ -8,7 +8,7 @@ use std::alloc::Global;
 use std::process::Abort;
 
 /// The design of a table's text.
-pub fn design_of_text(rt: &impl Abort, alloc: Global, text: &str) -> Result<Flat, Stop> {
+pub(crate) fn design_of_text(rt: &impl Abort, alloc: Global, text: &str) -> Result<Flat, Stop> {
     assert!(rt; text.len() < 100_000);
     read_table(alloc, text.as_bytes())
 }
@@ -21,11 +21,11 @@ fn system_of_design(alloc: Global, flat: Flat) -> Result<System, Stop> {
 }
 
 /// The system of a table's text, or what stops it.
-pub fn system_of_text(rt: &impl Abort, alloc: Global, text: &str) -> Result<System, Stop> {
+pub(crate) fn system_of_text(rt: &impl Abort, alloc: Global, text: &str) -> Result<System, Stop> {
     system_of_design(alloc, design_of_text(rt, alloc, text)?)
 }
 
 /// The system of a table's text, where it is not refused.
-pub fn system_of(rt: &impl Abort, alloc: Global, text: &str) -> Option<System> {
+pub(crate) fn system_of(rt: &impl Abort, alloc: Global, text: &str) -> Option<System> {
     system_of_text(rt, alloc, text).ok()
 }

@@ -2,16 +2,17 @@
 use mintc_command::Status;
 
 /// The words of which faults are made, and their answer.
-pub const CHECK: &str = "check table TAB1 SCH1";
+pub(crate) const CHECK: &str = "check table TAB1 SCH1";
 
-pub const PASS: &str = "pass\nelement a late 0/1 early 0/1\nelement b late 20/1 early 20/1\n";
+pub(crate) const PASS: &str =
+    "pass\nelement a late 0/1 early 0/1\nelement b late 20/1 early 20/1\n";
 
 const USAGE: &str =
     "usage: mintc check|optimise|verify|report|safe|slack table|files|liberty FILE.. | mintc sample N | mintc corners V C K D D..\n";
 
 /// A run over the files of the rows, and what may come of it: a status, and a text with this front and one of these ends.
 #[derive(Clone, Copy)]
-pub struct Row {
+pub(crate) struct Row {
     pub name: &'static str,
     pub words: &'static str,
     pub status: Status,
@@ -20,7 +21,7 @@ pub struct Row {
 }
 
 /// Rows of `check`, `optimise` and `report`, and words that are no command.
-pub const OVER_TABLES: &[Row] = &[
+pub(crate) const OVER_TABLES: &[Row] = &[
     Row {
         name: "check-two-latch-loop",
         words: "check table TAB1 SCH1",
@@ -340,7 +341,7 @@ pub const OVER_TABLES: &[Row] = &[
 ];
 
 /// Rows of `safe` and `slack`, and words that are no command, over files of their own.
-pub const OF_SAFE_AND_SLACK: &[Row] = &[
+pub(crate) const OF_SAFE_AND_SLACK: &[Row] = &[
     Row {
         name: "safe-half-step",
         words: "safe table half-hold.table",
@@ -415,7 +416,7 @@ pub const OF_SAFE_AND_SLACK: &[Row] = &[
 ];
 
 /// Rows over the worked files.
-pub const OVER_FILES: &[Row] = &[
+pub(crate) const OVER_FILES: &[Row] = &[
     Row {
         name: "optimise-liberty",
         words: "optimise liberty two.v two.sdf two.lib two.clock",
@@ -470,7 +471,7 @@ pub const OVER_FILES: &[Row] = &[
 ];
 
 /// Rows over the libraries.
-pub const OVER_LIBRARIES: &[Row] = &[
+pub(crate) const OVER_LIBRARIES: &[Row] = &[
     Row {
         name: "liberty-define",
         words: "optimise liberty two.v two.sdf define.lib two.clock",
@@ -498,7 +499,7 @@ pub const OVER_LIBRARIES: &[Row] = &[
 ];
 
 /// Rows over the files on corners.
-pub const OVER_CORNERS: &[Row] = &[
+pub(crate) const OVER_CORNERS: &[Row] = &[
     Row {
         name: "corners-two-files",
         words: "corners pair.v pair.cells pair.clock first.sdf second.sdf",
