@@ -14,7 +14,7 @@ mod decimal;
 #[cfg(test)]
 mod liberty;
 #[cfg(test)]
-mod liberty2toml_command;
+mod liberty2toml_runs;
 #[cfg(test)]
 mod sdf;
 #[cfg(test)]

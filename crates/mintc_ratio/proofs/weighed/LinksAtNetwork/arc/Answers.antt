@@ -10,7 +10,7 @@ use Rattle.mintc_constraints.specs.Ordinary.{IsOrdinaryLink}
 use Rattle.mintc_graph_walks.specs.Bounds.{IsWithin}
 use Rattle.mintc_ratio.proofs.Weights.{fits_64, fits_128, num_within, den_within}
 use Rattle.mintc_ratio.proofs.Weighing.{arc_is, delay-within}
-use Rattle.mintc_ratio.proofs.weighed.WeighedNetwork.arc.Goals as goal
+use Rattle.mintc_ratio.proofs.weighed.LinksAtNetwork.arc.Goals as goal
 
 pub returns : goal.returns
 returns c =
