@@ -261,7 +261,10 @@ fn is_written_again(alloc: Global, shelf: &mut MemoryShelf, line: &str, text: &[
 fn run_is_written_again(rt: &impl Abort, alloc: Global, line: &str) -> Result<(), OutOfMemory> {
     let mut shelf = shelf_of(alloc, files(), &[])?;
     let (_, text) = run_over(alloc, &mut shelf, line, None)?;
-    assert!(rt; is_written_again(alloc, &mut shelf, line, text.as_slice()), "{line}");
+    assert!(rt;
+        is_written_again(alloc, &mut shelf, line, text.as_slice()),
+        "{line}"
+    );
     Ok(())
 }
 

@@ -188,7 +188,12 @@ fn wide(alloc: Global, last: u32) -> Result<String, AllocError> {
 #[test]
 fn refusal_17_of_inner_bits(rt: HostRuntime) -> Result<(), Fail> {
     let alloc = rt.alloc();
-    is_refused(&rt, alloc, &wide(alloc, 65_535)?, &["refused 17 inner 262145\n"])?;
+    is_refused(
+        &rt,
+        alloc,
+        &wide(alloc, 65_535)?,
+        &["refused 17 inner 262145\n"],
+    )?;
     let netlist = wide(alloc, 65_534)?;
     is_optimised(&rt, alloc, &netlist, "(DELAYFILE)", CLOCK, NO_ELEMENT)?;
     Ok(())
@@ -200,7 +205,11 @@ fn refusal_17_of_elements_of_files(rt: HostRuntime) -> Result<(), Fail> {
     let alloc = rt.alloc();
     let netlist = "module m(c, x); input c; input [2000:0] x; endmodule";
     let clock = format!(in alloc; "{CLOCK}[[input]]\nport = \"x\"\nphase = \"p\"\n")?;
-    let wanted = (Status::Refused, "refused 17 elements 2001\n", [""].as_slice());
+    let wanted = (
+        Status::Refused,
+        "refused 17 elements 2001\n",
+        [""].as_slice(),
+    );
     is_optimised(&rt, alloc, netlist, "(DELAYFILE)", &clock, wanted)?;
     Ok(())
 }

@@ -44,7 +44,14 @@ const OF_UNCONNECTED: Wanted<'static> = (
 #[test]
 fn an_output_may_be_connected_to_nothing(rt: HostRuntime) -> Result<(), Fail> {
     let alloc = rt.alloc();
-    is_optimised(&rt, alloc, UNCONNECTED, "(DELAYFILE)", CLOCK, OF_UNCONNECTED)?;
+    is_optimised(
+        &rt,
+        alloc,
+        UNCONNECTED,
+        "(DELAYFILE)",
+        CLOCK,
+        OF_UNCONNECTED,
+    )?;
     has_slacks(&rt, alloc, UNCONNECTED, CLOCK, "cycle 10/1\n")?;
     Ok(())
 }

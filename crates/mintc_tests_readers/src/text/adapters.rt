@@ -137,7 +137,10 @@ fn files_of_a_folder_are_read(rt: HostRuntime) -> Result<(), Fail> {
     let name = format!(in alloc; "mintc_text_{}.tmp", process::id(rt.process()))?;
     for length in &[0, 7, 65_536, 131_073, LONG] {
         let text = long_text(alloc, *length)?;
-        assert!(rt; is_stored(&rt, alloc, name.as_str(), text.as_slice())?, "{length}");
+        assert!(rt;
+            is_stored(&rt, alloc, name.as_str(), text.as_slice())?,
+            "{length}"
+        );
     }
     Ok(())
 }
@@ -217,7 +220,10 @@ fn a_failing_write_stops(rt: HostRuntime) -> Result<(), Fail> {
     for (room, most, left) in FULL {
         let taken = long_text(rt.alloc(), *room)?;
         let wanted = (false, *left);
-        assert!(rt; written(text.as_slice(), taken.as_slice(), *most) == wanted, "{room} by {most}");
+        assert!(rt;
+            written(text.as_slice(), taken.as_slice(), *most) == wanted,
+            "{room} by {most}"
+        );
     }
     Ok(())
 }

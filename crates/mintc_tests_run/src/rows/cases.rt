@@ -5,8 +5,7 @@ use mintc_command::Status;
 /// The words of which faults are made, and their answer.
 pub(crate) const CHECK: &str = "check table TAB1 SCH1";
 
-const PASS: &str =
-    "pass\nelement a late 0/1 early 0/1\nelement b late 20/1 early 20/1\n";
+const PASS: &str = "pass\nelement a late 0/1 early 0/1\nelement b late 20/1 early 20/1\n";
 
 const USAGE: &str =
     "usage: mintc check|optimise|verify|report|safe|slack table|files|liberty FILE.. | mintc sample N | mintc corners V C K D D..\n";
