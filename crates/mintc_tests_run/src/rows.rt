@@ -3,7 +3,7 @@ mod cases;
 
 use super::files::{CERTIFICATES, CORNER_FILES, Edit, LIBRARIES, SAFE_AND_SLACK_FILES, files};
 use super::harness::{bytes_shelf, is_answered, is_wanted, run_on, succeeds};
-pub use cases::CHECK;
+pub(crate) use cases::CHECK;
 use cases::{OF_SAFE_AND_SLACK, OVER_CORNERS, OVER_FILES, OVER_LIBRARIES, OVER_TABLES, Row};
 use mintc_command::Status;
 use mintc_tests_designs::{TWO_CERTIFICATE, TWO_LATCHES, shelf_of};

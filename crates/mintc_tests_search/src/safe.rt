@@ -30,23 +30,29 @@ fn certificate_of(rt: &impl Abort, alloc: Global, table: &str) -> Option<SafeCer
     found::<Brand>(alloc, &system, Blank::new(1))
 }
 
-/// The least cycle time of a system, with no hold kept: its numerator and its denominator.
-fn optimum<L: Ledger>(alloc: Global, system: &System, blank: Blank) -> Option<(i64, i64)>
+/// The certificate of a system, with no hold kept.
+fn optimum<L: Ledger>(alloc: Global, system: &System, blank: Blank) -> Option<Certificate>
     requires name { blank.name ≡ L.name }
     requires parts { blank.parts ≡ L.parts }
     requires part { 0 < L.parts }
 {
     let mut steps = Steps::<L>::open(blank);
-    match optimise(alloc, system, &mut steps) {
-        Ok(Certificate::Least { schedule, .. }) => Some((schedule.cycle, schedule.den)),
-        _ => None,
+    optimise(alloc, system, &mut steps).ok()
+}
+
+/// The cycle time of a certificate: its numerator and its denominator.
+fn cycle_of(certificate: &Certificate) -> Option<(i64, i64)> {
+    match certificate {
+        Certificate::Least { schedule, .. } => Some((schedule.cycle, schedule.den)),
+        Certificate::Never { .. } => None,
     }
 }
 
 /// The least cycle time of a table, with no hold kept.
 fn least(rt: &impl Abort, alloc: Global, table: &str) -> Option<(i64, i64)> {
     let system = system_of(rt, alloc, table)?;
-    optimum::<Brand>(alloc, &system, Blank::new(1))
+    let certificate = optimum::<Brand>(alloc, &system, Blank::new(1))?;
+    cycle_of(&certificate)
 }
 
 /// A schedule's denominator, cycle, starts and widths, and the departures.

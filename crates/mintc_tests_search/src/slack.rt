@@ -60,18 +60,23 @@ fn are_slacks(pairs: &[Pair], extra: &[i64], wanted: &[Wanted]) -> bool {
         && extra.iter().zip(wanted).all(|(e, w)| *e == w.2)
 }
 
+/// Whether this is the cycle time, and these the slacks of a system's pairs.
+fn are_least(system: &System, found: &Slacks, cycle: (i128, i128), wanted: &[Wanted]) -> bool {
+    match found {
+        Slacks::Least {
+            cycle: least,
+            extra,
+        } => (least.num(), least.den()) == cycle
+            && are_slacks(system.pairs(), extra.items(), wanted),
+        Slacks::Never => false,
+    }
+}
+
 /// Whether a system has this least cycle time and these slacks.
 fn has_slacks(alloc: Global, system: &System, cycle: (i128, i128), wanted: &[Wanted]) -> bool {
     match slacks_of(alloc, system) {
-        Some(
-            Slacks::Least {
-                cycle: least,
-                extra,
-            },
-        ) => {
-            (least.num(), least.den()) == cycle && are_slacks(system.pairs(), extra.items(), wanted)
-        }
-        _ => false,
+        Some(found) => are_least(system, &found, cycle, wanted),
+        None => false,
     }
 }
 
