@@ -101,8 +101,8 @@ def wrong_statuses(program, folder, words, bad, refusal, usage):
 
 
 def long_check():
-    """A table, a schedule and what `check` answers: the first latch leads to the second, the third to the fourth and so on, each way
-    takes a cycle and as many femtoseconds as its first latch's number, and so long after its phase starts comes the data."""
+    """A table, a schedule, and what `check` answers. Latch 0 leads to latch 1, 2 to 3 and so on; the way from latch n takes n
+    femtoseconds more than a cycle, so that its data comes n after the phase starts."""
     names = [f"{number:080}" for number in range(2_000)]
     elements = "".join(f"element {name} 1 0 - 0 0 0\n" for name in names)
     arcs = "".join(f"arc q{n} d{n + 1} {100_000 + n} {100_000 + n}\n" for n in range(0, 2_000, 2))
