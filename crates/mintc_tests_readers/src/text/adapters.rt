@@ -72,7 +72,7 @@ fn are_read(rt: &impl Abort, alloc: Global, text: &[u8], step: usize) {
 #[test]
 fn short_reads_are_joined(rt: HostRuntime) -> Result<(), Fail> {
     let text = long_text(rt.alloc(), LONG)?;
-    for step in &[999, 40_000, 1_000_000] {
+    for step in &[20_011, 65_535, 1_000_000] {
         are_read(&rt, rt.alloc(), text.as_slice(), *step);
     }
     Ok(())
