@@ -1,12 +1,47 @@
-"""Runs the program that the gate has just proved and built on each example: for each line `mintc WORDS > ANSWER` of a file `command`
-below examples/, in its folder, the program writes what the file ANSWER has. Where a chain begins is free, so its lines are compared
-as a ring."""
+"""Runs the programs that the gate has just proved and built, and says what isn't as it should be. No run here may write on standard
+error.
+
+- Examples: for each line `mintc WORDS > ANSWER` of a file `command` below examples/, in its folder, the program writes what the file
+  ANSWER has, and ends with the status in the same line of a file `status` beside it, 0 where there is no such file. Where a chain
+  begins is free, so its lines are compared as a ring.
+- Statuses 2 to 7 of each program: 0 and 1 are those of examples.
+- Pieces: a table and its answer, each longer than 131,072 bytes, by files and by pipes.
+"""
+import os
 import pathlib
+import resource
+import signal
 import subprocess
 import sys
+import tempfile
 
 TOP = pathlib.Path(__file__).resolve().parent.parent
-PROGRAM = TOP / "crates/mintc/out/mintc"
+MINTC = TOP / "crates/mintc/out/mintc"
+LIBERTY2TOML = TOP / "crates/liberty2toml/out/liberty2toml"
+USAGE = (
+    b"usage: mintc check|optimise|verify|report|safe|slack table|files|liberty FILE.. | mintc sample N | mintc corners V C K D D..\n"
+)
+
+
+def run(program, words, folder, **how):
+    """A run of a program in a folder: its status, what it writes, and what it writes on standard error."""
+    how = {"stdout": subprocess.PIPE, "stderr": subprocess.PIPE, "timeout": 60, **how}
+    ran = subprocess.run([program, *words], cwd=folder, **how)
+    return ran.returncode, ran.stdout or b"", ran.stderr
+
+
+def limited(kind, most):
+    """What a child does before it becomes the program: it limits itself, and fails at the limit in place of being ended there."""
+    def limit():
+        signal.signal(signal.SIGXFSZ, signal.SIG_IGN)
+        resource.setrlimit(kind, (most, most))
+    return limit
+
+
+def differences(what, ran, status, output):
+    """Says where a run has another status or output, or writes on standard error."""
+    if ran != (status, output, b""):
+        yield f"{what}: {ran[0]}, {ran[1][:99]}, {ran[2][:99]} in place of {status}, {output[:99]}"
 
 
 def parted(text):
@@ -17,24 +52,100 @@ def parted(text):
 
 
 def is_same(text, wanted):
+    """Whether a text is the wanted one, wherever its chain begins."""
     front, chain = parted(text)
     other_front, ring = parted(wanted)
     turns = [ring[n:] + ring[:n] for n in range(len(ring))] or [ring]
     return front == other_front and chain in turns
 
 
-def wrong():
+def wrong_examples():
+    """Examples with another answer or status."""
     for command in sorted((TOP / "examples").rglob("command")):
-        for line in command.read_text().splitlines():
-            words, answer = line.removeprefix("mintc ").split(" > ")
-            ran = subprocess.run([PROGRAM, *words.split()], cwd=command.parent, stdout=subprocess.PIPE, timeout=60)
-            if not is_same(ran.stdout.decode(), (command.parent / answer).read_text()):
-                yield f"{command.parent.relative_to(TOP)}: {line}"
+        folder, lines = command.parent, command.read_text().splitlines()
+        stated = folder / "status"
+        statuses = stated.read_text().split() if stated.is_file() else ["0"] * len(lines)
+        if len(statuses) != len(lines):
+            yield f"{stated}: {len(lines)} lines are wanted"
+        for line, status in zip(lines, statuses):
+            words, answer = line.split(" > ")
+            wanted = (folder / answer).read_text()
+            ran = run(MINTC, words.split()[1:], folder)
+            output = ran[1] if is_same(ran[1].decode(), wanted) else wanted.encode()
+            yield from differences(f"{folder.relative_to(TOP)}: {line}", ran, int(status), output)
 
 
-if not PROGRAM.is_file():
-    sys.exit(f"{PROGRAM} isn't there: rt ci builds it")
+def wrong_statuses(program, folder, words, bad, refusal, usage):
+    """Statuses of a program that don't come where they should. The words have an answer; a file `bad` in place of the last one is
+    refused."""
+    *before, _ = words
+    with tempfile.NamedTemporaryFile() as large:
+        large.truncate(60_000_000)
+        enough_for_words = limited(resource.RLIMIT_AS, 64_000_000)
+        for what, ran, status, output in [
+            ("a refused file", run(program, [*before, bad], folder), 2, refusal),
+            ("no words", run(program, [], folder), 3, usage),
+            ("a word too many", run(program, [*words, bad], folder), 3, usage),
+            ("a missing file", run(program, [*before, "missing"], folder), 4, b""),
+            ("a folder as a file", run(program, [*before, "."], folder), 4, b""),
+            ("little memory", run(program, [*before, large.name], folder, preexec_fn=enough_for_words), 6, b""),
+            ("a word that is no UTF-8", run(program, [*before, b"\xff"], folder), 7, b""),
+        ]:
+            yield from differences(f"{program.name}, {what}", ran, status, output)
+    with open("/dev/full", "wb") as full:
+        yield from differences(f"{program.name}, a full output", run(program, words, folder, stdout=full), 5, b"")
+    reader, writer = os.pipe()
+    os.close(reader)
+    yield from differences(f"{program.name}, a closed output", run(program, words, folder, stdout=writer), 5, b"")
+    os.close(writer)
+
+
+def long_check():
+    """A table, a schedule, and what `check` answers. Latch 0 leads to latch 1, 2 to 3 and so on; the way from latch n takes n
+    femtoseconds more than a cycle, so that its data comes n after the phase starts."""
+    names = [f"{number:080}" for number in range(2_000)]
+    elements = "".join(f"element {name} 1 0 - 0 0 0\n" for name in names)
+    arcs = "".join(f"arc q{n} d{n + 1} {100_000 + n} {100_000 + n}\n" for n in range(0, 2_000, 2))
+    table = f"table 1\nphases 1\nphase p\nelements 2000\n{elements}inner 0\narcs 1000\n{arcs}bounds 0\nend\n"
+    schedule = "schedule 1\nden 1\ncycle 100000\nphases 1\nphase 0 50000\nend\n"
+    times = [number - 1 if number % 2 else 0 for number in range(2_000)]
+    lines = "".join(f"element {name} late {time}/1 early {time}/1\n" for name, time in zip(names, times))
+    return table.encode(), schedule.encode(), f"pass\n{lines}".encode()
+
+
+def wrong_pieces():
+    """Runs that read or write another text than they should, where it is longer than two pieces of 65,536 bytes."""
+    table, schedule, answer = long_check()
+    assert min(len(table), len(answer)) > 131_072
+    with tempfile.TemporaryDirectory() as name:
+        folder = pathlib.Path(name)
+        (folder / "table").write_bytes(table)
+        (folder / "schedule").write_bytes(schedule)
+        words = ["check", "table", "table", "schedule"]
+        yield from differences("a long table", run(MINTC, words, folder), 0, answer)
+        piped = ["check", "table", "/dev/stdin", "schedule"]
+        yield from differences("a long table by a pipe", run(MINTC, piped, folder, input=table), 0, answer)
+        with open(folder / "front", "wb") as front:
+            ran = run(MINTC, words, folder, stdout=front, preexec_fn=limited(resource.RLIMIT_FSIZE, 100_000))
+        written = (ran[0], (folder / "front").read_bytes(), ran[2])
+        yield from differences("a file that takes 100,000 bytes", written, 5, answer[:100_000])
+
+
+def wrong():
+    yield from wrong_examples()
+    latches, ring = TOP / "examples/two-latches", TOP / "examples/from-tools/latch-ring"
+    check = ["check", "table", "two.table", "two.schedule"]
+    yield from wrong_statuses(MINTC, latches, check, "two.table", b"refused 1 schedule 1\n", USAGE)
+    yield from wrong_statuses(
+        LIBERTY2TOML, ring, ["cells.lib"], "netlist.v", b"refused 1 cells 0\n", b"usage: liberty2toml FILE\n"
+    )
+    yield from wrong_pieces()
+
+
+for program in (MINTC, LIBERTY2TOML):
+    if not program.is_file():
+        sys.exit(f"{program} isn't there: rt ci builds it")
 found = list(wrong())
 if found:
-    sys.exit("these examples have other answers:\n" + "\n".join(found))
-print("the examples have their answers")
+    sys.exit("\n".join(["these runs are other than they should be:", *found]))
+print("the examples have their answers and statuses, and the programs the statuses of faults")

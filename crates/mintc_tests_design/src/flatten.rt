@@ -1,4 +1,4 @@
-//! `flatten` of mintc_flatten: the hierarchy of the worked netlist, and the bits that are joined.
+//! `flatten` of mintc_flatten: the hierarchy of the worked netlist, the bits that are joined, and netlists that are refused.
 ghost use Rattle.mintc_netlist.specs.Ordinary.{IsOrdinary};
 
 use mintc_cells::read_cells;
@@ -6,7 +6,7 @@ use mintc_flatten::flatten;
 use mintc_flatten_hierarchy::Hierarchy;
 use mintc_netlist::Netlist;
 use mintc_tests_designs::{TWO_CELLS, TWO_NETLIST};
-use mintc_text::Stop;
+use mintc_text::{Refusal, Stop};
 use mintc_verilog::read_netlist;
 use std::alloc::{AllocError, Global};
 use std::process::Abort;
@@ -91,17 +91,24 @@ fn is_joined(rt: &impl Abort, alloc: Global, netlist: &str, wanted: &[(u32, u32)
     }
 }
 
-/// Two bits of an instance are connected to this.
+/// The two bits of an instance with two latches are connected to this.
 fn connected(alloc: Global, expr: &str) -> Result<String, AllocError> {
     format!(in alloc;
-        "module t(c, x); input c; input [0:1] x; pair p (.c(c), .i({expr})); endmodule module pair(c, i); input c; input [1:0] i; endmodule"
+        "module t(c, x); input c; input [0:1] x; pair p (.c(c), .i({expr})); endmodule module pair(c, i); input c; input [1:0] i; LAT a (.D(i[1]), .G(c)); LAT b (.D(i[0]), .G(c)); endmodule"
     )
 }
 
-/// What the bits are connected to, and the joins.
+/// What the bits are connected to, and the joins. The inner bits are c, x[1] and x[0] of t, c, i[0] and i[1] of the instance, and the
+/// pins D, G and Q of each latch.
 const CONNECTED: &[(&str, &[(u32, u32)])] = &[
-    ("x", &[(0, 3), (1, 4), (2, 5)]),
-    ("{x[1], x[0]}", &[(0, 3), (2, 4), (1, 5)]),
+    (
+        "x",
+        &[(0, 3), (1, 4), (2, 5), (5, 6), (3, 7), (4, 9), (3, 10)],
+    ),
+    (
+        "{x[1], x[0]}",
+        &[(0, 3), (2, 4), (1, 5), (5, 6), (3, 7), (4, 9), (3, 10)],
+    ),
 ];
 
 // Row bit-order: bits are joined from the right, whatever their indexes.
@@ -112,6 +119,53 @@ fn bits_are_joined_from_the_right(rt: HostRuntime) -> Result<(), Fail> {
         assert!(rt; is_joined(&rt, rt.alloc(), &netlist, wanted), "{expr}");
     }
     Ok(())
+}
+
+/// The number of a refusal of the hierarchy, and its statement or count.
+fn number_of(stop: &Stop) -> Option<(u8, u32)> {
+    match stop {
+        Stop::Refused(Refusal::NameTwice { entry }) => Some((3, *entry)),
+        Stop::Refused(Refusal::NoModule { entry }) => Some((4, *entry)),
+        Stop::Refused(Refusal::Recursive { entry }) => Some((5, *entry)),
+        Stop::Refused(Refusal::NoPin { entry }) => Some((6, *entry)),
+        Stop::Refused(Refusal::Width { entry }) => Some((7, *entry)),
+        Stop::Refused(Refusal::TwoDrivers { entry }) => Some((8, *entry)),
+        Stop::Refused(Refusal::TopUnclear { count }) => Some((9, *count)),
+        _ => None,
+    }
+}
+
+/// Whether a netlist is refused with this number, at this statement or with this count.
+fn is_refused(rt: &impl Abort, alloc: Global, netlist: &str, wanted: (u8, u32)) -> bool {
+    match flattened(rt, alloc, netlist) {
+        Ok(_) => false,
+        Err(stop) => number_of(&stop) == Some(wanted),
+    }
+}
+
+/// Netlists, and the numbers of their refusals.
+const REFUSED: &[(&str, (u8, u32))] = &[
+    ("module m(c); input c; wire w; wire w; endmodule", (3, 4)),
+    ("module m(c); input c; FOO a (); endmodule", (4, 3)),
+    ("module m(c); input c; m u (.c(c)); endmodule", (5, 3)),
+    (
+        "module m(c); input c; LAT a (.D(1'b0), .G(c), .E(c)); endmodule",
+        (6, 3),
+    ),
+    (
+        "module m(c); input c; wire [1:0] w; assign w = c; endmodule",
+        (7, 4),
+    ),
+    ("module m(c); input c; assign c = 1'b0; endmodule", (8, 3)),
+    ("", (9, 0)),
+];
+
+// Row refused-netlists, at `flatten`.
+#[test]
+fn refusals_3_to_9_name_their_statements(rt: HostRuntime) {
+    for (netlist, wanted) in REFUSED {
+        assert!(rt; is_refused(&rt, rt.alloc(), netlist, *wanted), "{netlist}");
+    }
 }
 
 // Two vectors with an inverter in a module, and an instance of it. The inner bits are p[0], p[1], q[1] and q[0] of t, a[0], a[1], y[0]

@@ -1,10 +1,11 @@
-//! Reads and writes that fail: the status and what is written, and the same call made again.
+//! Reads and writes that fail, and files that are missing: the status and what is written, the order of the reads, and the same call
+//! made again.
 use super::files::files;
 use super::harness::{is_answered, run_on, run_over, succeeds};
 use super::rows::CHECK;
-use mintc_command::Status;
-use mintc_tests_designs::shelf_of;
-use mintc_text::{MemoryShelf, OutOfMemory, Shelf};
+use mintc_command::{Status, run};
+use mintc_tests_designs::{hold, shelf_of, words_of};
+use mintc_text::{MemoryShelf, MemorySink, Numbers, OutOfMemory, Shelf};
 use std::alloc::Global;
 use std::process::Abort;
 use std::test::Fail;
@@ -49,21 +50,22 @@ const ON_LIBRARIES: &[Run] = &[
     ("slack liberty two.v two.sdf two.lib two.clock", 4),
 ];
 
-/// Whether a file can be read.
+/// Whether a file can be read that no run here names.
 fn is_read(alloc: Global, shelf: &mut MemoryShelf) -> bool {
-    shelf.read(alloc, "TAB1", 1).is_ok()
+    shelf.read(alloc, "empty.table", 1).is_ok()
 }
 
-/// A read is made to fail, and so is the one after the next. The shelf's next calls have the numbers after the one that failed:
-/// so no read was made after it.
+/// A run ends at a read, over a shelf whose call after the next one is to fail. So no read was made after it.
+fn ends_at_read(rt: &impl Abort, alloc: Global, shelf: &mut MemoryShelf, words: &str) {
+    let wanted = (Status::ReadFault, b"".as_slice());
+    is_answered(rt, alloc, shelf, words, None, wanted);
+    assert!(rt; is_read(alloc, shelf) && !is_read(alloc, shelf), "{words}");
+}
+
+/// A read is made to fail, and so is the one after the next.
 fn read_fails(rt: &impl Abort, alloc: Global, words: &str, number: u32) -> Result<(), OutOfMemory> {
     let mut shelf = shelf_of(alloc, files(), &[number, number.saturating_add(2)])?;
-    let wanted = (Status::ReadFault, b"".as_slice());
-    is_answered(rt, alloc, &mut shelf, words, None, wanted);
-    assert!(rt;
-        is_read(alloc, &mut shelf) && !is_read(alloc, &mut shelf),
-        "{words}"
-    );
+    ends_at_read(rt, alloc, &mut shelf, words);
     Ok(())
 }
 
@@ -82,6 +84,55 @@ fn each_read_fails(rt: &impl Abort, alloc: Global, runs: &[Run]) -> Result<(), O
 fn a_failing_read_ends_the_run(rt: HostRuntime) -> Result<(), Fail> {
     for runs in &[ON_TABLES, ON_FILES, ON_LIBRARIES] {
         each_read_fails(&rt, rt.alloc(), runs)?;
+    }
+    Ok(())
+}
+
+/// A shelf of the files of the rows but for one, whose call of this number fails.
+fn shelf_without(alloc: Global, name: &str, failing: u32) -> Result<MemoryShelf, OutOfMemory> {
+    let mut held = Vec::new(alloc);
+    for file in files() {
+        if file.0 != name {
+            hold(alloc, &mut held, file.0, file.1.as_bytes())?;
+        }
+    }
+    let failing = Vec::from_slice(alloc, &[failing])?;
+    Ok(MemoryShelf::new(held, Numbers::new(failing)))
+}
+
+/// The file of the read of this number is missing.
+fn file_is_missing(
+    rt: &impl Abort,
+    alloc: Global,
+    words: &str,
+    name: &str,
+    number: u32,
+) -> Result<(), OutOfMemory> {
+    let mut shelf = shelf_without(alloc, name, number.saturating_add(2))?;
+    ends_at_read(rt, alloc, &mut shelf, words);
+    Ok(())
+}
+
+/// Each file of a run is missing in turn. It is read after the files before it, and none is read after it.
+fn each_file_is_missing(rt: &impl Abort, alloc: Global, run: &Run) -> Result<(), OutOfMemory> {
+    let (line, count) = *run;
+    let words = words_of(alloc, line)?;
+    let first = words.len().saturating_sub(usize::from(count));
+    let mut number: u32 = 0;
+    for name in &words[first..] {
+        file_is_missing(rt, alloc, line, name.as_str(), number)?;
+        number = number.saturating_add(1);
+    }
+    Ok(())
+}
+
+// Only where each run reads its files in the order of its words does each missing file end it after so many reads.
+#[test]
+fn files_are_read_in_the_order_of_the_words(rt: HostRuntime) -> Result<(), Fail> {
+    for runs in &[ON_TABLES, ON_FILES, ON_LIBRARIES] {
+        for run in *runs {
+            each_file_is_missing(&rt, rt.alloc(), run)?;
+        }
     }
     Ok(())
 }
@@ -164,11 +215,66 @@ fn each_next_call_answers(rt: &impl Abort, alloc: Global, runs: &[Run]) -> Resul
     Ok(())
 }
 
-// Row same-call-after-a-fault.
+// Row same-call-after-a-fault: after a read that failed.
 #[test]
-fn the_same_call_after_a_fault_has_its_answer(rt: HostRuntime) -> Result<(), Fail> {
+fn the_same_call_after_a_failed_read_has_its_answer(rt: HostRuntime) -> Result<(), Fail> {
     for runs in &[ON_TABLES, ON_FILES, ON_LIBRARIES] {
         each_next_call_answers(&rt, rt.alloc(), runs)?;
+    }
+    Ok(())
+}
+
+/// A run whose write fails after three bytes, and the same run over the same shelf and sink: both statuses, and what the sink took.
+fn run_twice(
+    alloc: Global,
+    shelf: &mut MemoryShelf,
+    line: &str,
+) -> Result<(Status, Status, Vec<u8>), OutOfMemory> {
+    let words = words_of(alloc, line)?;
+    let mut sink = MemorySink::new(alloc, 1_000_000, Some((0, 3)))?;
+    let failed = run(alloc, words.as_slice(), shelf, &mut sink);
+    let again = run(alloc, words.as_slice(), shelf, &mut sink);
+    Ok((failed, again, Vec::from_slice(alloc, sink.taken())?))
+}
+
+/// Whether these are three bytes of a text, and then the text.
+fn is_front_and_text(taken: &[u8], text: &[u8]) -> bool {
+    match taken.strip_prefix(&text[..text.len().min(3)]) {
+        Some(rest) => rest == text,
+        None => false,
+    }
+}
+
+/// Whether a run with this answer has it again after its write failed.
+fn is_written_again(alloc: Global, shelf: &mut MemoryShelf, line: &str, text: &[u8]) -> bool {
+    match run_twice(alloc, shelf, line) {
+        Ok((failed, again, taken)) => {
+            failed == Status::WriteFault
+                && again == Status::Done
+                && is_front_and_text(taken.as_slice(), text)
+        }
+        Err(_) => false,
+    }
+}
+
+/// A run is made again after its write failed.
+fn run_is_written_again(rt: &impl Abort, alloc: Global, line: &str) -> Result<(), OutOfMemory> {
+    let mut shelf = shelf_of(alloc, files(), &[])?;
+    let (_, text) = run_over(alloc, &mut shelf, line, None)?;
+    assert!(rt;
+        is_written_again(alloc, &mut shelf, line, text.as_slice()),
+        "{line}"
+    );
+    Ok(())
+}
+
+// Row same-call-after-a-fault: after a write that failed.
+#[test]
+fn the_same_call_after_a_failed_write_has_its_answer(rt: HostRuntime) -> Result<(), Fail> {
+    for runs in &[ON_TABLES, ON_FILES, ON_LIBRARIES] {
+        for (line, _) in *runs {
+            run_is_written_again(&rt, rt.alloc(), line)?;
+        }
     }
     Ok(())
 }

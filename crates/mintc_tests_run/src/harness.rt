@@ -103,6 +103,32 @@ pub(crate) fn succeeds(
     is_answered(rt, alloc, shelf, line, None, (Status::Done, text));
 }
 
+/// What may come of a run: a status, and a text with this front and one of these ends.
+pub(crate) type Wanted<'a> = (Status, &'a str, &'a [&'a str]);
+
+/// Whether a run with this status and text ended as it may.
+pub(crate) fn is_wanted(status: Status, text: &[u8], wanted: Wanted<'_>) -> bool {
+    match text.strip_prefix(wanted.1.as_bytes()) {
+        Some(end) => status == wanted.0 && wanted.2.iter().any(|e| e.as_bytes() == end),
+        None => false,
+    }
+}
+
+/// What `optimise` gives for a netlist that is accepted and has one phase and no element.
+pub(crate) const NO_ELEMENT: Wanted<'static> = (
+    Status::Done,
+    "certificate 2\nleast\nden 1\ncycle 0\nphases 1\nphase 0 0\ndepartures 0\n",
+    NO_TIME,
+);
+
+/// The ends of a certificate whose phase takes no time.
+pub(crate) const NO_TIME: &[&str] = &[
+    "chain 2\nstart 1\ncycle 1\nend\n",
+    "chain 2\ncycle 1\nstart 1\nend\n",
+    "chain 2\nwidth 1\nspan 1\nend\n",
+    "chain 2\nspan 1\nwidth 1\nend\n",
+];
+
 /// One phase on the port `c`.
 pub(crate) const CLOCK: &str = "[[phase]]\nname = \"p\"\nport = \"c\"\n";
 
@@ -128,14 +154,18 @@ pub(crate) fn run_files(
     run_over(alloc, &mut shelf, words, None)
 }
 
-/// A run of `optimise` on these.
-pub(crate) fn optimised(
+/// A run of `optimise` on these ends as it may.
+pub(crate) fn is_optimised(
+    rt: &impl Abort,
     alloc: Global,
     netlist: &str,
     delays: &str,
     clock: &str,
-) -> Result<(Status, Vec<u8>), OutOfMemory> {
-    run_files(alloc, "optimise files v d c k", netlist, delays, clock)
+    wanted: Wanted<'_>,
+) -> Result<(), OutOfMemory> {
+    let (status, taken) = run_files(alloc, "optimise files v d c k", netlist, delays, clock)?;
+    assert!(rt; is_wanted(status, taken.as_slice(), wanted), "{netlist}");
+    Ok(())
 }
 
 /// A netlist is refused with one of these answers.
@@ -145,24 +175,6 @@ pub(crate) fn is_refused(
     netlist: &str,
     answers: &[&str],
 ) -> Result<(), OutOfMemory> {
-    let (status, taken) = optimised(alloc, netlist, "(DELAYFILE)", CLOCK)?;
-    assert!(rt;
-        status == Status::Refused && answers.iter().any(|a| a.as_bytes() == taken.as_slice()),
-        "{netlist}"
-    );
-    Ok(())
-}
-
-/// The answer on these begins so.
-pub(crate) fn begins(
-    rt: &impl Abort,
-    alloc: Global,
-    netlist: &str,
-    delays: &str,
-    clock: &str,
-    front: &str,
-) -> Result<(), OutOfMemory> {
-    let (_, taken) = optimised(alloc, netlist, delays, clock)?;
-    assert!(rt; taken.as_slice().starts_with(front.as_bytes()), "{front}");
-    Ok(())
+    let wanted = (Status::Refused, "", answers);
+    is_optimised(rt, alloc, netlist, "(DELAYFILE)", CLOCK, wanted)
 }

@@ -1,9 +1,10 @@
 //! Tables, netlists and corners at the limits and one past them (refusal 17).
 use super::files::{PAIR_CELLS, PAIR_CLOCK};
-use super::harness::{CLOCK, begins, is_answered, is_refused, push_text, run_on};
-use super::rows::{CHECK, PASS};
+use super::harness::{
+    CLOCK, NO_ELEMENT, NO_TIME, Wanted, is_optimised, is_refused, is_wanted, push_text, run_on,
+};
 use mintc_command::Status;
-use mintc_tests_designs::{TWO_LATCHES, TWO_SCHEDULE, shelf_of};
+use mintc_tests_designs::TWO_LATCHES;
 use mintc_text::OutOfMemory;
 use std::alloc::{AllocError, Global};
 use std::process::Abort;
@@ -31,36 +32,42 @@ fn many_elements(alloc: Global, count: usize) -> Result<String, AllocError> {
     counted(alloc, count)?.replacen(alloc, "inner 0\n", &more, 1)
 }
 
-/// The table in place of TAB1 is checked with this answer.
-fn is_checked(
+/// A run of `optimise` on a table ends as it may.
+fn table_is_optimised(
     rt: &impl Abort,
     alloc: Global,
     table: &str,
-    status: Status,
-    answer: &str,
+    wanted: Wanted<'_>,
 ) -> Result<(), OutOfMemory> {
-    let mut shelf = shelf_of(alloc, &[("TAB1", table), ("SCH1", TWO_SCHEDULE)], &[])?;
-    let wanted = (status, answer.as_bytes());
-    is_answered(rt, alloc, &mut shelf, CHECK, None, wanted);
+    let (status, taken) = run_on(alloc, &[("TAB1", table)], "optimise table TAB1")?;
+    assert!(rt; is_wanted(status, taken.as_slice(), wanted), "{}", wanted.1);
     Ok(())
 }
 
-/// The pass of that table.
-fn many_passes(alloc: Global, count: usize) -> Result<String, AllocError> {
-    let mut pass = String::from_str(alloc, PASS)?;
+/// The certificate of that table, up to its chain.
+fn many_departures(alloc: Global, count: usize) -> Result<String, AllocError> {
+    let mut front = format!(in alloc;
+        "certificate 2\nleast\nden 1\ncycle 100\nphases 2\nphase 0 10\nphase 10 30\ndepartures {count}\ndeparture 0\ndeparture 20\n"
+    )?;
     for _ in 2..count {
-        pass.push_str("element a late 0/1 early 0/1\n")?;
+        front.push_str("departure 0\n")?;
     }
-    Ok(pass)
+    Ok(front)
 }
+
+/// The chain of that table, which may begin with either member.
+const CHAINS: &[&str] = &[
+    "chain 2\nreach 0 1 1 0\nreach 1 0 1 1\nend\n",
+    "chain 2\nreach 1 0 1 1\nreach 0 1 1 0\nend\n",
+];
 
 // Row element-limit.
 #[test]
 fn a_table_may_have_2000_elements(rt: HostRuntime) -> Result<(), Fail> {
     let alloc = rt.alloc();
-    let pass = many_passes(alloc, 2_000)?;
+    let front = many_departures(alloc, 2_000)?;
     let table = many_elements(alloc, 2_000)?;
-    is_checked(&rt, alloc, table.as_str(), Status::Done, pass.as_str())?;
+    table_is_optimised(&rt, alloc, &table, (Status::Done, &front, CHAINS))?;
     Ok(())
 }
 
@@ -88,20 +95,32 @@ fn empty_table(alloc: Global, phases: usize, bounds: usize) -> Result<String, Al
 fn refusal_17_of_elements_of_a_table(rt: HostRuntime) -> Result<(), Fail> {
     let table = many_elements(rt.alloc(), 2_001)?;
     let answer = "refused 17 elements 2001\n";
-    is_checked(&rt, rt.alloc(), &table, Status::Refused, answer)?;
+    table_is_optimised(&rt, rt.alloc(), &table, (Status::Refused, answer, &[""]))?;
     Ok(())
 }
 
-// A phase and a bound too many; and as many phases and bounds as there may be.
+/// Of tables with nothing in them but so many phases and bounds, what `optimise` gives: a phase and a bound too many, and as many as
+/// there may be.
+const OF_EMPTY: &[(usize, usize, Wanted<'static>)] = &[
+    (9, 64, (Status::Refused, "refused 17 phases 9\n", &[""])),
+    (8, 65, (Status::Refused, "refused 17 bounds 65\n", &[""])),
+    (
+        8,
+        64,
+        (
+            Status::Done,
+            "certificate 2\nleast\nden 1\ncycle 0\nphases 8\nphase 0 0\nphase 0 0\nphase 0 0\nphase 0 0\nphase 0 0\nphase 0 0\nphase 0 0\nphase 0 0\ndepartures 0\n",
+            NO_TIME,
+        ),
+    ),
+];
+
+// Row limits-and-one-past: phases and bounds.
 #[test]
 fn refusal_17_of_phases_and_bounds_of_a_table(rt: HostRuntime) -> Result<(), Fail> {
-    for (phases, bounds, answer) in &[
-        (9, 64, "refused 17 phases 9\n"),
-        (8, 65, "refused 17 bounds 65\n"),
-        (8, 64, "refused 19 8 2\n"),
-    ] {
+    for (phases, bounds, wanted) in OF_EMPTY {
         let table = empty_table(rt.alloc(), *phases, *bounds)?;
-        is_checked(&rt, rt.alloc(), &table, Status::Refused, answer)?;
+        table_is_optimised(&rt, rt.alloc(), &table, *wanted)?;
     }
     Ok(())
 }
@@ -169,13 +188,14 @@ fn wide(alloc: Global, last: u32) -> Result<String, AllocError> {
 #[test]
 fn refusal_17_of_inner_bits(rt: HostRuntime) -> Result<(), Fail> {
     let alloc = rt.alloc();
-    for (last, front) in &[
-        (65_535, "refused 17 inner 262145\n"),
-        (65_534, "certificate 2\n"),
-    ] {
-        let netlist = wide(alloc, *last)?;
-        begins(&rt, alloc, &netlist, "(DELAYFILE)", CLOCK, front)?;
-    }
+    is_refused(
+        &rt,
+        alloc,
+        &wide(alloc, 65_535)?,
+        &["refused 17 inner 262145\n"],
+    )?;
+    let netlist = wide(alloc, 65_534)?;
+    is_optimised(&rt, alloc, &netlist, "(DELAYFILE)", CLOCK, NO_ELEMENT)?;
     Ok(())
 }
 
@@ -185,8 +205,12 @@ fn refusal_17_of_elements_of_files(rt: HostRuntime) -> Result<(), Fail> {
     let alloc = rt.alloc();
     let netlist = "module m(c, x); input c; input [2000:0] x; endmodule";
     let clock = format!(in alloc; "{CLOCK}[[input]]\nport = \"x\"\nphase = \"p\"\n")?;
-    let front = "refused 17 elements 2001\n";
-    begins(&rt, alloc, netlist, "(DELAYFILE)", &clock, front)?;
+    let wanted = (
+        Status::Refused,
+        "refused 17 elements 2001\n",
+        [""].as_slice(),
+    );
+    is_optimised(&rt, alloc, netlist, "(DELAYFILE)", &clock, wanted)?;
     Ok(())
 }
 

@@ -1,6 +1,6 @@
 //! Each refusal by its number: texts that are refused, of which most are the smallest ones of docs/refusals.md. Number 17 is tried in
 //! `limits`.
-use super::harness::{CLOCK, begins, is_answered, is_refused};
+use super::harness::{CLOCK, NO_ELEMENT, is_answered, is_optimised, is_refused};
 use mintc_command::Status;
 use mintc_tests_designs::{SUM_PAST_LIMIT, TWO_CELLS, TWO_LATCHES, shelf_of};
 use mintc_text::{MemoryShelf, Name, Numbers, OutOfMemory};
@@ -272,19 +272,35 @@ fn refusal_11_of_pins_that_a_leaf_does_not_have(rt: HostRuntime) -> Result<(), F
     Ok(())
 }
 
-const OF_12: &[Run] = &[(
-    "optimise files v d c k",
-    &[
-        ("v", LEAF),
-        (
-            "d",
-            "(DELAYFILE(CELL(CELLTYPE\"\")(INSTANCE)(DELAY(ABSOLUTE(PORT a(-1))))))",
-        ),
-        ("c", TWO_CELLS),
-        ("k", CLOCK),
-    ],
-    "refused 12 1\n",
-)];
+// The second is row negative-delay.
+const OF_12: &[Run] = &[
+    (
+        "optimise files v d c k",
+        &[
+            ("v", LEAF),
+            (
+                "d",
+                "(DELAYFILE(CELL(CELLTYPE\"\")(INSTANCE)(DELAY(ABSOLUTE(PORT a(-1))))))",
+            ),
+            ("c", TWO_CELLS),
+            ("k", CLOCK),
+        ],
+        "refused 12 1\n",
+    ),
+    (
+        "optimise files v d c k",
+        &[
+            ("v", LEAF),
+            (
+                "d",
+                "(DELAYFILE (SDFVERSION \"3.0\") (DIVIDER /) (TIMESCALE 1 ns)\n(CELL (CELLTYPE \"BUF\") (INSTANCE b) (DELAY (ABSOLUTE (IOPATH A Y (-0.1))))))\n",
+            ),
+            ("c", TWO_CELLS),
+            ("k", CLOCK),
+        ],
+        "refused 12 4\n",
+    ),
+];
 
 #[test]
 fn refusal_12_of_a_negative_delay(rt: HostRuntime) -> Result<(), Fail> {
@@ -393,8 +409,9 @@ fn refusal_18_of_delays_above_the_limit(rt: HostRuntime) -> Result<(), Fail> {
         "(DELAYFILE (TIMESCALE 1 us) (CELL (CELLTYPE \"BUF\") (INSTANCE b) (DELAY (ABSOLUTE (IOPATH A Y (1.0000000000000001))))))";
     let near =
         "(DELAYFILE (TIMESCALE 1 us) (CELL (CELLTYPE \"BUF\") (INSTANCE b) (DELAY (ABSOLUTE (IOPATH A Y (1.0))))))";
-    begins(&rt, alloc, LEAF, far, CLOCK, "refused 18 2\n")?;
-    begins(&rt, alloc, LEAF, near, CLOCK, "certificate 2\n")?;
+    let refused = (Status::Refused, "refused 18 2\n", [""].as_slice());
+    is_optimised(&rt, alloc, LEAF, far, CLOCK, refused)?;
+    is_optimised(&rt, alloc, LEAF, near, CLOCK, NO_ELEMENT)?;
     Ok(())
 }
 

@@ -2,8 +2,8 @@
 mod cases;
 
 use super::files::{CERTIFICATES, CORNER_FILES, Edit, LIBRARIES, SAFE_AND_SLACK_FILES, files};
-use super::harness::{bytes_shelf, is_answered, run_on, succeeds};
-pub(crate) use cases::{CHECK, PASS};
+use super::harness::{bytes_shelf, is_answered, is_wanted, run_on, succeeds};
+pub(crate) use cases::CHECK;
 use cases::{OF_SAFE_AND_SLACK, OVER_CORNERS, OVER_FILES, OVER_LIBRARIES, OVER_TABLES, Row};
 use mintc_command::Status;
 use mintc_tests_designs::{TWO_CERTIFICATE, TWO_LATCHES, shelf_of};
@@ -12,18 +12,12 @@ use std::alloc::{AllocError, Global};
 use std::process::Abort;
 use std::test::Fail;
 
-/// Whether the text is one that may come of the row.
-fn is_of_row(row: &Row, text: &[u8]) -> bool {
-    match text.strip_prefix(row.front.as_bytes()) {
-        Some(end) => row.ends.iter().any(|e| e.as_bytes() == end),
-        None => false,
-    }
-}
-
 /// Whether a run of the row over these files ends as it may.
 fn ends_so(alloc: Global, files: &[(&str, &str)], row: &Row) -> bool {
     match run_on(alloc, files, row.words) {
-        Ok((status, taken)) => status == row.status && is_of_row(row, taken.as_slice()),
+        Ok((status, taken)) => {
+            is_wanted(status, taken.as_slice(), (row.status, row.front, row.ends))
+        }
         Err(_) => false,
     }
 }
