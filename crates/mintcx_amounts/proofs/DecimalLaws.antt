@@ -28,6 +28,8 @@ pub trimmed_other : (p q : ℕ) → q % 10 ≢ 0 → trimmed p q ≡ record { di
 trimmed_other zero q h = refl
 trimmed_other (suc p) q h = stays p q (q % 10 == 0) refl h
 
+pub ruleset turns = (trimmed_zero, trimmed_whole, trimmed_other)
+
 -- one place more
 pub with_point_more : (p q : ℕ) → 0 < p → with_point p q ≡ with_point (p - 1) (q / 10) ++ (48 + q % 10) ∷ []
 with_point_more zero q some = absurd (omega arith)

@@ -22,3 +22,5 @@ nano_is cycle h g =
     let large : int_lt cycle.num (pos 10000 *ℤ cycle.den) ≡ false = grind (arith, ints) in
     let larger : int_lt cycle.num (pos 100000000 *ℤ cycle.den) ≡ false = grind (arith, ints) in
     rw (large, larger) refl
+
+pub ruleset cases = (femto_is, pico_is, nano_is)

@@ -1,5 +1,6 @@
 -- Amounts of time as they are shown.
-use Rattle.std.specs.Prelude.{◌≡◌, ℕ, ◌+◌, ◌*◌, ◌/◌, ◌%◌, ◌==◌, not, pos, Bool, List, [], ◌∷◌, ◌++◌, if◌then◌else◌, unsigned_abs, int_lt}
+use Rattle.std.specs.Prelude.{◌≡◌, ℕ, ◌+◌, ◌*◌, ◌/◌, ◌%◌, ◌==◌, not, pos, Bool, List, [], ◌∷◌, ◌++◌, if◌then◌else◌}
+use Rattle.std.specs.Prelude.{unsigned_abs, int_lt}
 use Rattle.mintc_text.specs.Lines.{numeral_of}
 use Rattle.mintc_fraction.specs.Ratio.{Ratio, IsFraction, IsEqual, IsLowest}
 use Rattle.mintcx_amounts.specs.declared.unit.Unit.{Unit}
@@ -12,9 +13,11 @@ use Rattle.mintcx_amounts.specs.Decimals.{decimal_text, trimmed}
 abbrev pub is_short : ℕ → ℕ → Bool
 is_short n scale = (n * 1000000) % scale == 0
 
--- the size n / scale as a decimal: of six places where these are enough, else of the nearest thousandths, a half upwards
+-- the size n / scale as a decimal: of six places where these are enough, else of the nearest thousandths, a half
+-- upwards
 abbrev pub size_of : ℕ → ℕ → Decimal
-size_of n scale = if is_short n scale then trimmed 6 (n * 1000000 / scale) else trimmed 3 ((n * 2000 + scale) / (scale * 2))
+size_of n scale =
+    if is_short n scale then trimmed 6 (n * 1000000 / scale) else trimmed 3 ((n * 2000 + scale) / (scale * 2))
 
 -- how a fraction of femtoseconds is shown in a unit
 abbrev pub scale_of : Unit → Ratio → ℕ

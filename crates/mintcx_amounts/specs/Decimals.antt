@@ -14,4 +14,5 @@ decimal_text d = if d.places == 0 then decimal d.digits else with_point d.places
 -- the decimal of so many places and these digits without zeros at the end of its places
 abbrev pub trimmed : ℕ → ℕ → Decimal
 trimmed zero digits = record { digits = digits; places = 0 }
-trimmed (suc places) digits = if digits % 10 == 0 then trimmed places (digits / 10) else record { digits = digits; places = suc places }
+trimmed (suc places) digits =
+    if digits % 10 == 0 then trimmed places (digits / 10) else record { digits = digits; places = suc places }

@@ -1,5 +1,6 @@
 -- How near the texts are to what they show.
-use Rattle.std.specs.Prelude.{◌≡◌, ◌≢◌, ◌+◌, ◌*◌, ◌%◌, ◌^◌, ◌<◌, ◌≤◌, ℤ, pos, ◌*ℤ◌, ◌≤ℤ◌, neg_ℤ, true, false, if◌then◌else◌}
+use Rattle.std.specs.Prelude.{◌≡◌, ◌≢◌, ◌+◌, ◌*◌, ◌%◌, ◌^◌, ◌<◌, ◌≤◌, ℤ, pos, ◌*ℤ◌, ◌≤ℤ◌, neg_ℤ, true, false}
+use Rattle.std.specs.Prelude.{if◌then◌else◌}
 use Rattle.mintc_fraction.specs.Ratio.{Ratio, over, IsFraction, IsEqual, IsAtMost, IsBelow, sum_of}
 use Rattle.mintcx_amounts.specs.declared.unit.Unit.{Unit}
 use Rattle.mintcx_amounts.specs.declared.amount.Shown.{Shown}
@@ -22,8 +23,8 @@ half = over (pos 1) (pos 2000)
 abbrev pub IsNear : Ratio → Ratio → Type 0
 IsNear a b = IsAtMost a (sum_of b half) × IsAtMost b (sum_of a half)
 
--- What is shown of an amount: exactly it, or, rounded, a value near it. It is rounded only where no number of millionths
--- is the amount. It has at most six places, rounded at most three, and no zero at their end.
+-- What is shown of an amount: exactly it, or, rounded, a value near it. It is rounded only where no number of
+-- millionths is the amount. It has at most six places, rounded at most three, and no zero at their end.
 pub record Shows (amount : Ratio) (s : Shown) : Type 0 where
   pub exact : s.rounded ≡ false → IsEqual (shown_value s) amount
   pub near : s.rounded ≡ true → IsNear (shown_value s) amount

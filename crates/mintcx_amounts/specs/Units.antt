@@ -18,4 +18,7 @@ unit_word Nano = codes "ns"
 
 -- the unit for the times of an answer with this cycle time
 abbrev pub unit_of : Ratio → Unit
-unit_of cycle = if int_lt cycle.num (pos 10000 *ℤ cycle.den) then Femto else if int_lt cycle.num (pos 100000000 *ℤ cycle.den) then Pico else Nano
+unit_of cycle =
+    if int_lt cycle.num (pos 10000 *ℤ cycle.den) then Femto else
+    if int_lt cycle.num (pos 100000000 *ℤ cycle.den) then Pico else
+    Nano

@@ -55,8 +55,8 @@ fn sign_of(negative: bool) -> &'static [u8]
     if negative { b"-" } else { b"" }
 }
 
-/// Writes an amount of femtoseconds in a unit, without the unit's name: exactly where six places are enough, else a `~` and
-/// the amount rounded to three places.
+/// Writes an amount of femtoseconds in a unit, without the unit's name: exactly where six places are enough, else a `~`
+/// and the amount rounded to three places.
 ///
 /// A want of memory may leave a part of it behind.
 pub fn put_amount(lines: &mut Lines, amount: &Fraction, unit: Unit) -> Result<(), OutOfMemory>

@@ -12,7 +12,7 @@ pub(crate) struct Decimal {
 }
 
 /// The decimal `digits / 10^places` without zeros at the end of its places.
-#[tactic(auto, using(crate::proofs::DecimalLaws::trimmed_zero, crate::proofs::DecimalLaws::trimmed_other, crate::proofs::DecimalLaws::trimmed_whole))]
+#[tactic(auto, using(crate::proofs::DecimalLaws::turns))]
 pub(crate) fn trimmed(mut digits: u128, mut places: u32) -> Decimal
     ensures value { result ≡ trimmed places digits }
     ensures few { result.digits ≤ digits }

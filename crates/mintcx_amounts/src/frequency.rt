@@ -38,8 +38,8 @@ pub(crate) struct Frequency {
     pub(crate) band: Band,
 }
 
-/// The frequency of a cycle time in femtoseconds, rounded down: in MHz below 10^4 of them, in GHz below 10^4 of these, else
-/// in THz.
+/// The frequency of a cycle time in femtoseconds, rounded down: in MHz below 10^4 of them, in GHz below 10^4 of these,
+/// else in THz.
 fn frequency_of(cycle: &Fraction) -> Frequency
     requires modest { IsModest cycle.now }
     requires some { pos 1 ≤ℤ cycle.now.num }

@@ -19,7 +19,7 @@ pub enum Unit {
 impl Unit {
     /// The unit for the times of an answer with this cycle time, in femtoseconds: femtoseconds below 10^4 of them,
     /// picoseconds below 10^8, else nanoseconds.
-    #[tactic(auto, using(crate::proofs::UnitLaws::femto_is, crate::proofs::UnitLaws::pico_is, crate::proofs::UnitLaws::nano_is))]
+    #[tactic(auto, using(crate::proofs::UnitLaws::cases))]
     pub fn of_cycle(cycle: &Fraction) -> Unit
         requires { IsModest cycle.now }
         ensures { result ≡ unit_of cycle.now }
