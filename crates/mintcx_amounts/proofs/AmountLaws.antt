@@ -6,7 +6,7 @@ use Rattle.std.proofs.lemmas.Bool.Decides.{nat_tests}
 use Rattle.std.proofs.lemmas.Int.{ints, unsigned_abs-mul}
 use Rattle.std.proofs.lemmas.Nat.{div-add-mod'}
 use Rattle.std.proofs.Math.Nat.{mul-le-mul_right, mul-mod_left, pow-suc, div-mul-le_self, lt-div-mul-add}
-use Rattle.mintc_fraction.specs.Ratio.{Ratio, over, IsFraction, IsEqual}
+use Rattle.mintc_fraction.specs.Ratio.{over}
 use Rattle.mintc_fraction.proofs.SharedProducts.{add-times}
 use Rattle.mintcx_amounts.specs.declared.unit.Unit.{Unit}
 use Rattle.mintcx_amounts.specs.declared.unit.Unit.TheVariants.{Femto, Pico, Nano}

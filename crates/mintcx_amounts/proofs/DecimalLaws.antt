@@ -1,8 +1,7 @@
 -- Steps of decimals.
-use Rattle.std.proofs.Common.{◌≡◌, ◌≢◌, ℕ, zero, suc, ◌+◌, ◌-◌, ◌/◌, ◌%◌, ◌<◌, ◌≤◌, ◌==◌, Bool, true, false, if◌then◌else◌, List, [], ◌∷◌, ◌++◌, refl, arith}
+use Rattle.std.proofs.Common.{◌≡◌, ◌≢◌, ℕ, zero, suc, ◌+◌, ◌-◌, ◌/◌, ◌%◌, ◌<◌, ◌≤◌, ◌==◌, Bool, true, false, if◌then◌else◌, [], ◌∷◌, ◌++◌, refl, arith}
 use Rattle.std.proofs.lemmas.Bool.Decides.{nat_tests}
-use Rattle.mintcx_amounts.specs.declared.decimal.Decimal.{Decimal}
-use Rattle.mintcx_amounts.specs.Decimals.{trimmed, with_point, decimal_text}
+use Rattle.mintcx_amounts.specs.Decimals.{trimmed, with_point}
 
 -- a zero at the end is left out
 zero_out : (p q : ℕ) (test : Bool) → (q % 10 == 0) ≡ test → q % 10 ≡ 0 →

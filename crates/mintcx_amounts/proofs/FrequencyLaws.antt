@@ -1,12 +1,12 @@
 -- What is shown of a frequency.
-use Rattle.std.proofs.Common.{◌≡◌, ℕ, ◌+◌, ◌*◌, ◌/◌, ◌^◌, ◌<◌, ◌≤◌, ℤ, pos, negsuc, ◌≤ℤ◌, ◌<ℤ◌, Bool, true, false, if◌then◌else◌, arith, lit<}
+use Rattle.std.proofs.Common.{ℕ, ◌+◌, ◌*◌, ◌/◌, ◌^◌, ◌<◌, ◌≤◌, ℤ, pos, negsuc, ◌≤ℤ◌, Bool, true, false, if◌then◌else◌, arith, lit<}
 use Rattle.std.specs.Prelude.{nat_lt}
 use Rattle.std.proofs.lemmas.Int.{ints}
 use Rattle.std.proofs.Math.Nat.{mul-le-mul_right, div-mul-le_self, lt-div-mul-add}
-use Rattle.mintc_fraction.specs.Ratio.{Ratio, over, IsFraction, IsAtMost, IsBelow}
+use Rattle.mintc_fraction.specs.Ratio.{over, IsAtMost, IsBelow}
 use Rattle.mintcx_amounts.specs.declared.frequency.Frequency.{Frequency}
 use Rattle.mintcx_amounts.specs.declared.frequency.Band.TheVariants.{Mega, Giga, Tera}
-use Rattle.mintcx_amounts.specs.Frequencies.{hertz, in_band, frequency_of, true_frequency}
+use Rattle.mintcx_amounts.specs.Frequencies.{hertz, frequency_of, true_frequency}
 use Rattle.mintcx_amounts.specs.Laws.{FrequenciesAreBelow}
 
 -- a frequency of t thousandths of k megahertz each, where x / n thousandths of a megahertz are shown
