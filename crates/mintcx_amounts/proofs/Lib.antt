@@ -1,0 +1,4 @@
+mod AmountLaws
+mod DecimalLaws
+mod FrequencyLaws
+mod UnitLaws

@@ -1,0 +1,5 @@
+pub mod Units
+pub mod Decimals
+pub mod Amounts
+pub mod Frequencies
+pub mod Laws
