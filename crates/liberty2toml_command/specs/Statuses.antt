@@ -1,7 +1,8 @@
 -- The number of each status.
 use Rattle.std.specs.Prelude.{ℕ}
 use Rattle.liberty2toml_command.specs.declared.status.Status.{Status}
-use Rattle.liberty2toml_command.specs.declared.status.Status.TheVariants.{Done, Refused, Usage, ReadFault, WriteFault, OutOfMemory}
+use Rattle.liberty2toml_command.specs.declared.status.Status.TheVariants.{Done, Refused, Usage, ReadFault, WriteFault}
+use Rattle.liberty2toml_command.specs.declared.status.Status.TheVariants.{OutOfMemory}
 
 -- the exit status
 abbrev pub number_of : Status → ℕ

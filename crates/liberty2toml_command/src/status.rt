@@ -1,8 +1,8 @@
 //! How a conversion ended.
 ghost use Rattle.std.specs.Prelude.{◌≡◌};
 
-/// How a conversion ended; `number` is the exit status, which means what it means of mintc. Nothing is ever wrong with a library
-/// that is read, so there is no 1.
+/// How a conversion ended; `number` is the exit status, which means what it means of mintc. Nothing is ever wrong
+/// with a library that is read, so there is no 1.
 #[derive(Clone, Copy, Debug, PartialEq, Eq)]
 pub enum Status {
     /// The TOML form is written.

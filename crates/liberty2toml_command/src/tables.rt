@@ -5,7 +5,8 @@ ghost use Rattle.toml.specs.View.{view, table_view};
 ghost use Rattle.mintc_cells.specs.CellsOf.{AreCells};
 ghost use Rattle.mintc_cells.specs.Entries.{AreOrdered};
 ghost use Rattle.liberty2toml_command.specs.Tables.{text_items, texts, one_of, table_of, tables_of, document_of};
-ghost use Rattle.liberty2toml_command.specs.Puts.{put_member, put_if, kind_of, put_pins, put_lists, put_sense, put_delays, put_checks};
+ghost use Rattle.liberty2toml_command.specs.Puts.{put_member, put_if, kind_of, put_pins, put_lists, put_sense};
+ghost use Rattle.liberty2toml_command.specs.Puts.{put_delays, put_checks};
 
 use mintc_cells::{Cell, Cells};
 use mintc_text::{Name, Names, OutOfMemory};
@@ -19,10 +20,7 @@ fn text_value(alloc: Global, bytes: &[u8]) -> Result<Value, OutOfMemory>
     let Ok(text) = str::from_utf8(bytes) else {
         return Err(OutOfMemory);
     };
-    match Value::string(alloc, text) {
-        Ok(value) => Ok(value),
-        Err(_) => Err(OutOfMemory),
-    }
+    Ok(Value::string(alloc, text)?)
 }
 
 /// Texts as a value.
@@ -32,9 +30,7 @@ fn texts_value(alloc: Global, names: &[Name]) -> Result<Value, OutOfMemory>
     let mut items = Vec::new(alloc);
     for at in 0..names.len() {
         let value = text_value(alloc, names[at].bytes())?;
-        let Ok(()) = items.push(value) else {
-            return Err(OutOfMemory);
-        };
+        items.push(value)?;
     }
     Ok(Value::Array(items))
 }
@@ -43,12 +39,8 @@ fn texts_value(alloc: Global, names: &[Name]) -> Result<Value, OutOfMemory>
 fn put(alloc: Global, members: &mut Table, key: &str, value: Value) -> Result<(), OutOfMemory>
     ensures { OnOk result (table_view members.new ≡ put_member key.now (view value) (table_view members.old)) }
 {
-    let Ok(key) = String::from_str(alloc, key) else {
-        return Err(OutOfMemory);
-    };
-    let Ok(_) = members.insert(key, value) else {
-        return Err(OutOfMemory);
-    };
+    let key = String::from_str(alloc, key)?;
+    members.insert(key, value)?;
     Ok(())
 }
 
@@ -260,7 +252,8 @@ fn cell_table(alloc: Global, cell: &Cell) -> Result<Table, OutOfMemory>
 
 /// Puts the table of a cell under its name. Bytes that are no text have none; names are.
 fn put_cell(alloc: Global, named: &mut Table, name: &[u8], cell: &Cell) -> Result<(), OutOfMemory>
-    ensures { OnOk result (table_view named.new ≡ put_member name.now (table (table_of cell.now)) (table_view named.old)) }
+    ensures { OnOk result (table_view named.new
+        ≡ put_member name.now (table (table_of cell.now)) (table_view named.old)) }
 {
     let Ok(key) = str::from_utf8(name) else {
         return Err(OutOfMemory);

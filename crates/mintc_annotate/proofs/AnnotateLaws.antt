@@ -9,6 +9,7 @@ use Rattle.std.proofs.lemmas.List.{length-map, get_or_past}
 use Rattle.std.proofs.lemmas.List.FromFn.{length-range_with_len}
 use Rattle.std.proofs.lemmas.List.Sums.{sum_by-append, length-filter, count_by-le-length, AllPass-from_list_all}
 use Rattle.std.proofs.lemmas.Slice.Zip.{AllZip-long}
+use Rattle.mintc_text.specs.Refusals.{over_limit}
 use Rattle.mintc_text.specs.declared.limits.TheConstants.{MOST_ELEMENTS, MOST_LEAVES}
 use Rattle.mintc_text.specs.Stops.{StopsAt}
 use Rattle.mintc_text.specs.declared.refusals.Kind.{Kind}
@@ -31,7 +32,7 @@ use Rattle.mintc_flatten_hierarchy.specs.declared.hierarchy.Hierarchy.{Hierarchy
 use Rattle.mintc_flatten_hierarchy.specs.Shape.{CellTable, IsFlattened}
 use Rattle.mintc_timing.specs.declared.parts.TimingArc.{TimingArc}
 use Rattle.mintc_timing.specs.Design.{Design}
-use Rattle.mintc_timing.specs.Limits.{over_limit, quantities, limit_of, HasParts}
+use Rattle.mintc_timing.specs.Limits.{quantities, limit_of, HasParts}
 use Rattle.mintc_annotate_resolve.specs.Pins.{leaf_at, leaf_cell, no_leaf, all_leaves, inner_name, is_storage, leaf_path, dotted, input_count, output_numbers}
 use Rattle.mintc_annotate_delays.specs.Ranges.{look}
 use Rattle.mintc_annotate_resolve.specs.Resolution.{Target, said, range_of, first_refusal, join_into, path_on, arcs_from, dq_of, cq_of, setup_of, hold_of, width_of}

@@ -18,8 +18,8 @@ use Rattle.mintc_annotate.specs.Counts.{with_port, IsListedBit}
 use Rattle.mintc_annotate.specs.Phases.{phase_spots, AreTraced}
 use Rattle.mintc_annotate.specs.Made.{bits_of, design_with}
 
--- All ports are there; what inner bits are called, the phases of latches and flops, and how many bits are listed, up to the
--- greatest count that is told.
+-- All ports are there; what inner bits are called, the phases of latches and flops, and how many bits are listed,
+-- up to the greatest count that is told.
 pub record AreGathered (h : Hierarchy) (cells : CellTable) (clock : Clock) (g : Gathered) : Type 0 where
   pub ports : first_false (has_ports h clock) ≡ None
   pub names : g.names.items ≡ all_names h

@@ -10,11 +10,17 @@ use Rattle.mintc_annotate.specs.Made.{IsAnnotated, IsAnnotateRefusal}
 
 -- There is one design at most, and none beside a refusal.
 abbrev pub DesignsAreDetermined : Type 0
-DesignsAreDetermined = (h : Hierarchy) (cells : CellTable) (clock : Clock) (delays : List Delay) (design other : Design) → IsAnnotated h cells clock delays design → IsAnnotated h cells clock delays other → design ≡ other
+DesignsAreDetermined = (h : Hierarchy) (cells : CellTable) (clock : Clock) (delays : List Delay)
+    (design other : Design) → IsAnnotated h cells clock delays design → IsAnnotated h cells clock delays other →
+    design ≡ other
 
+-- No design stands beside a refusal.
 abbrev pub DesignsAreNotRefused : Type 0
-DesignsAreNotRefused = (h : Hierarchy) (cells : CellTable) (clock : Clock) (delays : List Delay) (design : Design) (refused : Refusal) → IsAnnotated h cells clock delays design → IsAnnotateRefusal h cells clock delays refused → ⊥
+DesignsAreNotRefused = (h : Hierarchy) (cells : CellTable) (clock : Clock) (delays : List Delay) (design : Design)
+    (refused : Refusal) → IsAnnotated h cells clock delays design → IsAnnotateRefusal h cells clock delays refused → ⊥
 
 -- There is one refusal at most.
 abbrev pub AnnotateRefusalsAreDetermined : Type 0
-AnnotateRefusalsAreDetermined = (h : Hierarchy) (cells : CellTable) (clock : Clock) (delays : List Delay) (refused other : Refusal) → IsAnnotateRefusal h cells clock delays refused → IsAnnotateRefusal h cells clock delays other → refused ≡ other
+AnnotateRefusalsAreDetermined = (h : Hierarchy) (cells : CellTable) (clock : Clock) (delays : List Delay)
+    (refused other : Refusal) → IsAnnotateRefusal h cells clock delays refused →
+    IsAnnotateRefusal h cells clock delays other → refused ≡ other

@@ -1,5 +1,6 @@
 -- What the table of a search holds.
-use Rattle.std.specs.Prelude.{◌≡◌, ◌<◌, ℕ, zero, suc, Bool, false, not, if◌then◌else◌, List, length, slice_index_or, Option, None, Some, All}
+use Rattle.std.specs.Prelude.{◌≡◌, ◌<◌, ℕ, zero, suc, Bool, false, not, if◌then◌else◌, List, length, slice_index_or}
+use Rattle.std.specs.Prelude.{Option, None, Some, All}
 use Rattle.mintc_annotate.specs.declared.searching.Drive.{Drive}
 use Rattle.mintc_annotate.specs.declared.searching.Spot.{Spot}
 use Rattle.mintc_annotate.specs.declared.searching.Jump.{Jump}
@@ -32,13 +33,16 @@ abbrev pub stepped : Option Drive → Spot → Spot
 stepped None s = s
 stepped (Some d) s = back d s
 
+-- so many steps back from a spot
 abbrev pub onward : List Drive → ℕ → Spot → Spot
 onward ds zero s = s
 onward ds (suc n) s = onward ds n (stepped (driver_of ds s.bit) s)
 
+-- a way back by its parts
 abbrev pub jump_to : ℕ → Bool → Jump
 jump_to bit turns = record { bit = bit; turns = turns }
 
+-- a way back that stands for those past the end of a list
 abbrev pub no_jump : Jump
 no_jump = jump_to 0 false
 
@@ -47,9 +51,11 @@ abbrev pub first_jump : ℕ → Option Drive → Jump
 first_jump b None = jump_to b false
 first_jump b (Some d) = jump_to d.from d.inverts
 
+-- one way back and then another
 abbrev pub then_jump : Jump → Jump → Jump
 then_jump one other = jump_to other.bit (if one.turns then not other.turns else other.turns)
 
+-- where a way back leads at a level
 abbrev pub spot_after : Jump → Bool → Spot
 spot_after j high = spot j.bit (turned j.turns high)
 
@@ -61,4 +67,5 @@ doubled_jump jumps j = then_jump j (slice_index_or jumps j.bit no_jump)
 pub record AreJumps (ds : List Drive) (n count : ℕ) (jumps : List Jump) : Type 0 where
   pub size : length jumps ≡ count
   pub within : All (λ j. j.bit < count) jumps
-  pub each : (b : ℕ) (high : Bool) → b < count → onward ds n (spot b high) ≡ spot_after (slice_index_or jumps b no_jump) high
+  pub each : (b : ℕ) (high : Bool) → b < count →
+      onward ds n (spot b high) ≡ spot_after (slice_index_or jumps b no_jump) high

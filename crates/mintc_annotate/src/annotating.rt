@@ -1,9 +1,10 @@
 //! The design of files.
 ghost use Rattle.std.specs.Prelude.{◌≡◌, ◌<◌, ◌≤◌, ◌+◌, ℕ, length, map, min, None, All, IfOk, MatchResult};
+ghost use Rattle.mintc_text.specs.Refusals.{over_limit};
 ghost use Rattle.mintc_text.specs.declared.limits.TheConstants.{MOST_ELEMENTS, MOST_INNER, MOST_LEAVES, MOST_TOLD};
 ghost use Rattle.mintc_text.specs.Stops.{StopsAt};
 ghost use Rattle.mintc_flatten_hierarchy.specs.Shape.{IsFlattened, IsGivenHierarchy};
-ghost use Rattle.mintc_timing.specs.Limits.{HasParts, over_limit, quantities, limit_of};
+ghost use Rattle.mintc_timing.specs.Limits.{HasParts, quantities, limit_of};
 ghost use Rattle.mintc_clock.specs.declared.clock.Clock.{Clock};
 ghost use Rattle.mintc_annotate_delays.specs.Ranges.{look};
 ghost use Rattle.mintc_annotate.specs.Given.{IsGivenClock, AreGivenDelays};
@@ -13,20 +14,21 @@ ghost use Rattle.mintc_annotate.specs.Phases.{storage};
 ghost use Rattle.mintc_annotate.specs.Made.{elements_of, arcs_of, IsAnnotated, IsAnnotateRefusal};
 
 use crate::arcs::{push_inputs, push_joins, push_leaves, push_outputs};
-use crate::counting::{first_over, leaf_arc_count};
+use crate::counting::leaf_arc_count;
 use crate::elements::{push_ports, push_storage};
 use crate::gathering::{Gathered, gather};
 use crate::listing::{ListedBits, listed_bits};
+use crate::timed::Timed;
 use mintc_cells::Cells;
 use mintc_clock::{Clock, PhaseDef, clocks_keep_limits};
 use mintc_flatten_hierarchy::{Hierarchy, hierarchies_are_in_shape};
 use mintc_sdf::{Delays, delays_are_within};
 use mintc_text::{Name, Names, OutOfMemory, Refusal, Stop};
-use mintc_timing::{Bound, Element, Flat, TimingArc};
+use mintc_timing::{Bound, Element, Flat, TimingArc, first_over};
 use std::alloc::Global;
 
-/// The refusal of the first quantity of the design that passes its limit, by its latches and flops and by the bits of its
-/// listed ports.
+/// The refusal of the first quantity of the design that passes its limit, by its latches and flops and by the bits
+/// of its listed ports.
 fn limit_by_counts(
     hierarchy: &Hierarchy,
     cells: &Cells,
@@ -39,7 +41,8 @@ fn limit_by_counts(
     requires stored { stored ≤ MOST_LEAVES }
     requires inputs { inputs ≤ MOST_TOLD }
     requires outputs { outputs ≤ MOST_TOLD }
-    ensures { (i o : ℕ) → inputs ≡ min i MOST_TOLD → outputs ≡ min o MOST_TOLD → result ≡ over_limit (quantities (length hierarchy.now.inner) (length clock.now.phases) (stored + i + o)
+    ensures { (i o : ℕ) → inputs ≡ min i MOST_TOLD → outputs ≡ min o MOST_TOLD →
+        result ≡ over_limit (quantities (length hierarchy.now.inner) (length clock.now.phases) (stored + i + o)
         (length hierarchy.now.joins + leaf_arc_count hierarchy.now cells.now + i + o) (length clock.now.bounds)) }
 {
     let elements = stored as u64 + inputs + outputs;
@@ -48,10 +51,11 @@ fn limit_by_counts(
         + inputs
         + outputs;
     first_over(
-        clock.phases.items().len() as u64,
-        elements,
-        arcs,
-        clock.bounds.items().len() as u64,
+        hierarchy.inner.items().len(),
+        clock.phases.items().len(),
+        elements as usize,
+        arcs as usize,
+        clock.bounds.items().len(),
     )
 }
 
@@ -89,27 +93,22 @@ fn elements(
     requires shape { IsFlattened cells.now hierarchy.now }
     requires gathered { AreGathered hierarchy.now cells.now clock.now gathered.now }
     requires bits { AreListed hierarchy.now clock.now bits.now }
-    ensures { IfOk result (λ v. v.items ≡ elements_of hierarchy.now cells.now clock.now (look gathered.now.ranges) gathered.now.phases) }
+    ensures { IfOk result
+        (λ v. v.items ≡ elements_of hierarchy.now cells.now clock.now (look gathered.now.ranges) gathered.now.phases) }
 {
-    let names = &gathered.names;
-    let mut found = Vec::new(alloc);
-    let phases = gathered.phases.items();
-    push_storage(
-        alloc,
+    let timed = Timed {
         hierarchy,
         cells,
-        &gathered.ranges,
-        phases,
-        &mut found,
-    )?;
-    push_ports(alloc, names, clock.inputs.items(), &bits.inputs, &mut found)?;
-    push_ports(
-        alloc,
-        names,
-        clock.outputs.items(),
-        &bits.outputs,
-        &mut found,
-    )?;
+        ranges: &gathered.ranges,
+    };
+    let names = &gathered.names;
+    let phases = gathered.phases.items();
+    let mut found = Vec::new(alloc);
+    push_storage(alloc, &timed, phases, &mut found)?;
+    let inputs = clock.inputs.items();
+    push_ports(alloc, names, inputs, &bits.inputs, &mut found)?;
+    let outputs = clock.outputs.items();
+    push_ports(alloc, names, outputs, &bits.outputs, &mut found)?;
     Ok(found)
 }
 
@@ -125,16 +124,23 @@ fn arcs(
     requires stored { length gathered.now.phases ≡ length (storage hierarchy.now cells.now) }
     requires inputs { All (λ x. x.bit < MOST_INNER) bits.now.inputs.items }
     requires outputs { All (λ x. x.bit < MOST_INNER) bits.now.outputs.items }
-    requires few { length gathered.now.phases + length bits.now.inputs.items + length bits.now.outputs.items ≤ MOST_ELEMENTS }
-    ensures { (clock : Clock) → AreListed hierarchy.now clock bits.now → IfOk result (λ v. v.items ≡ arcs_of hierarchy.now cells.now clock (look gathered.now.ranges)) }
+    requires few { length gathered.now.phases + length bits.now.inputs.items + length bits.now.outputs.items ≤
+        MOST_ELEMENTS }
+    ensures { (clock : Clock) → AreListed hierarchy.now clock bits.now →
+        IfOk result (λ v. v.items ≡ arcs_of hierarchy.now cells.now clock (look gathered.now.ranges)) }
 {
     let ranges = &gathered.ranges;
     let stored = gathered.phases.items().len() as u32;
     let first_output = stored + bits.inputs.len() as u32;
     let elements = first_output + bits.outputs.len() as u32;
+    let timed = Timed {
+        hierarchy,
+        cells,
+        ranges,
+    };
     let mut found = Vec::new(alloc);
     push_joins(&mut found, ranges, elements, hierarchy.joins.items())?;
-    push_leaves(&mut found, hierarchy, cells, ranges, elements)?;
+    push_leaves(&mut found, &timed, elements)?;
     push_inputs(&mut found, elements, stored, &bits.inputs)?;
     push_outputs(&mut found, ranges, elements, first_output, &bits.outputs)?;
     Ok(found)
@@ -181,8 +187,10 @@ fn elements_and_arcs(
     requires shape { IsFlattened cells.now hierarchy.now }
     requires gathered { AreGathered hierarchy.now cells.now clock.now gathered.now }
     requires within { limit_of (design_of_gathered hierarchy.now cells.now clock.now gathered.now) ≡ None }
-    ensures elements { IfOk result (λ both. both.0.items ≡ elements_of hierarchy.now cells.now clock.now (look gathered.now.ranges) gathered.now.phases) }
-    ensures arcs { IfOk result (λ both. both.1.items ≡ arcs_of hierarchy.now cells.now clock.now (look gathered.now.ranges)) }
+    ensures elements { IfOk result (λ both. both.0.items
+        ≡ elements_of hierarchy.now cells.now clock.now (look gathered.now.ranges) gathered.now.phases) }
+    ensures arcs { IfOk result (λ both. both.1.items
+        ≡ arcs_of hierarchy.now cells.now clock.now (look gathered.now.ranges)) }
 {
     let bits = listed_bits(alloc, hierarchy, clock)?;
     let elements = elements(alloc, hierarchy, cells, clock, gathered, &bits)?;
@@ -202,8 +210,10 @@ fn parts_of(
     requires gathered { AreGathered hierarchy.now cells.now clock.now gathered.now }
     requires within { limit_of (design_of_gathered hierarchy.now cells.now clock.now gathered.now) ≡ None }
     ensures phases { IfOk result (λ parts. parts.phases ≡ map (λ p. p.name) clock.now.phases) }
-    ensures elements { IfOk result (λ parts. parts.elements.items ≡ elements_of hierarchy.now cells.now clock.now (look gathered.now.ranges) gathered.now.phases) }
-    ensures arcs { IfOk result (λ parts. parts.arcs.items ≡ arcs_of hierarchy.now cells.now clock.now (look gathered.now.ranges)) }
+    ensures elements { IfOk result (λ parts. parts.elements.items
+        ≡ elements_of hierarchy.now cells.now clock.now (look gathered.now.ranges) gathered.now.phases) }
+    ensures arcs { IfOk result (λ parts. parts.arcs.items
+        ≡ arcs_of hierarchy.now cells.now clock.now (look gathered.now.ranges)) }
     ensures bounds { IfOk result (λ parts. parts.bounds.items ≡ clock.now.bounds) }
 {
     let phases = Names::new(phase_names(alloc, clock.phases.items())?);
@@ -229,20 +239,18 @@ fn build(
     requires gathered { AreGathered hierarchy.now cells.now clock.now gathered }
     requires parts { HasParts (design_of_gathered hierarchy.now cells.now clock.now gathered) }
     requires within { limit_of (design_of_gathered hierarchy.now cells.now clock.now gathered) ≡ None }
-    ensures { MatchResult result (λ flat. flat ≡ design_of_gathered hierarchy.now cells.now clock.now gathered) (StopsAt (λ refused. ⊥)) }
+    ensures { MatchResult result (λ flat. flat ≡ design_of_gathered hierarchy.now cells.now clock.now gathered)
+        (StopsAt (λ refused. ⊥)) }
 {
     let parts = parts_of(alloc, hierarchy, cells, clock, &gathered)?;
     let inner = Names::new(gathered.names);
-    match Flat::new(
+    Ok(Flat::new(
         parts.phases,
         parts.elements,
         inner,
         parts.arcs,
         parts.bounds,
-    ) {
-        Ok(flat) => Ok(flat),
-        Err(refusal) => Err(Stop::Refused(refusal)),
-    }
+    )?)
 }
 
 /// The same over a hierarchy in shape.
@@ -263,18 +271,15 @@ fn annotate_in_shape(
     delays_are_within();
     // The rules that cells keep are known from the count on.
     let _count = cells.count();
-    let gathered = match gather(alloc, hierarchy, cells, clock, delays) {
-        Ok(gathered) => gathered,
-        Err(stop) => return Err(stop),
-    };
+    let gathered = gather(alloc, hierarchy, cells, clock, delays)?;
     match limit(hierarchy, cells, clock, &gathered) {
         Some(refusal) => Err(Stop::Refused(refusal)),
         None => build(alloc, hierarchy, cells, clock, gathered),
     }
 }
 
-/// The design of a hierarchy with its cells, clock and delays. The refusal is NoInstance of the clock, NoInstance or NoArc of
-/// the first delay that has one, NoPhase, or Limit of phases, elements, arcs or bounds; in that order.
+/// The design of a hierarchy with its cells, clock and delays. The refusal is NoInstance of the clock, NoInstance
+/// or NoArc of the first delay that has one, NoPhase, or Limit of phases, elements, arcs or bounds; in that order.
 pub fn annotate(
     alloc: Global,
     hierarchy: &Hierarchy,

@@ -9,9 +9,11 @@ ghost use Rattle.mintc_annotate_delays.specs.Ranges.{look};
 ghost use Rattle.mintc_annotate.specs.Phases.{storage};
 ghost use Rattle.mintc_timing.specs.Paths.{input_of, output_of};
 ghost use Rattle.mintc_annotate.specs.Counts.{with_port, gate_at, IsSmall};
-ghost use Rattle.mintc_annotate.specs.Made.{arc_of, no_delay, inner_bit, join_arc, pin_arc, leaf_arcs, number_in, input_arcs, output_arcs};
+ghost use Rattle.mintc_annotate.specs.Made.{arc_of, no_delay, inner_bit, join_arc, pin_arc, leaf_arcs, number_in};
+ghost use Rattle.mintc_annotate.specs.Made.{input_arcs, output_arcs};
 
 use crate::listing::ListedBit;
+use crate::timed::Timed;
 use mintc_annotate_delays::Ranges;
 use mintc_annotate_resolve::is_storage;
 use mintc_cells::{Cell, Cells};
@@ -90,7 +92,9 @@ fn push_row(
 ) -> Result<(), OutOfMemory>
     requires gate { IsSmall gate }
     requires input { input < gate.inputs }
-    ensures { OnOk result (found.new.items ≡ found.old.items ++ map (pin_arc (look ranges.now) gate.elements gate.leaf gate.first gate.default input) (range_with_len gate.inputs gate.outputs)) }
+    ensures { OnOk result (found.new.items ≡ found.old.items
+        ++ map (pin_arc (look ranges.now) gate.elements gate.leaf gate.first gate.default input)
+        (range_with_len gate.inputs gate.outputs)) }
 {
     for number in 0..gate.outputs {
         let output = gate.inputs + number;
@@ -110,7 +114,9 @@ fn push_row(
 /// Adds the arcs of a gate: from each input in order to each output.
 fn push_gate(found: &mut Vec<TimingArc>, ranges: &Ranges, gate: GateAt) -> Result<(), OutOfMemory>
     requires gate { IsSmall gate }
-    ensures { OnOk result (found.new.items ≡ found.old.items ++ flat_map (λ i. map (pin_arc (look ranges.now) gate.elements gate.leaf gate.first gate.default i) (range_with_len gate.inputs gate.outputs)) (range_with_len 0 gate.inputs)) }
+    ensures { OnOk result (found.new.items ≡ found.old.items
+        ++ flat_map (λ i. map (pin_arc (look ranges.now) gate.elements gate.leaf gate.first gate.default i)
+        (range_with_len gate.inputs gate.outputs)) (range_with_len 0 gate.inputs)) }
 {
     for input in 0..gate.inputs {
         push_row(found, ranges, gate, input)?;
@@ -130,7 +136,9 @@ fn push_pins(
     requires elements { elements ≤ MOST_ELEMENTS }
     requires element { element < MOST_ELEMENTS }
     requires pins { first + (inputs + outputs) ≤ MOST_INNER }
-    ensures { OnOk result (found.new.items ≡ found.old.items ++ map (λ o. arc_of (output_of element) (inner_bit elements (first + o)) no_delay) (range_with_len inputs outputs)) }
+    ensures { OnOk result (found.new.items ≡ found.old.items
+        ++ map (λ o. arc_of (output_of element) (inner_bit elements (first + o)) no_delay)
+        (range_with_len inputs outputs)) }
 {
     for number in 0..outputs {
         push_arc(
@@ -143,24 +151,6 @@ fn push_pins(
     Ok(())
 }
 
-/// Adds the arcs of a latch or flop: from its data pin to the element's input, and from its output to each output pin.
-fn push_stored(
-    found: &mut Vec<TimingArc>,
-    elements: u32,
-    first: u32,
-    element: u32,
-    inputs: u32,
-    outputs: u32,
-) -> Result<(), OutOfMemory>
-    requires elements { elements ≤ MOST_ELEMENTS }
-    requires element { element < MOST_ELEMENTS }
-    requires pins { first + (inputs + outputs) ≤ MOST_INNER }
-    ensures { OnOk result (found.new.items ≡ found.old.items ++ (arc_of (inner_bit elements (first + 0)) (input_of element) no_delay ∷ map (λ o. arc_of (output_of element) (inner_bit elements (first + o)) no_delay) (range_with_len inputs outputs))) }
-{
-    push_arc(found, inner_bit(elements, first), 2 * element, (0, 0))?;
-    push_pins(found, elements, first, element, inputs, outputs)
-}
-
 /// How many pins these names are.
 fn count(names: &Names) -> u32
     requires { length names.now ≤ MOST_INNER }
@@ -169,25 +159,47 @@ fn count(names: &Names) -> u32
     names.items().len() as u32
 }
 
+/// Adds the arcs of a latch or flop, whose inputs are two and those that are ignored: from its data pin to the
+/// element's input, and from its output to each output pin.
+fn push_stored(
+    found: &mut Vec<TimingArc>,
+    elements: u32,
+    first: u32,
+    element: u32,
+    ignored: &Names,
+    outputs: &Names,
+) -> Result<(), OutOfMemory>
+    requires elements { elements ≤ MOST_ELEMENTS }
+    requires element { element < MOST_ELEMENTS }
+    requires pins { first + (length ignored.now + 2 + length outputs.now) ≤ MOST_INNER }
+    ensures { OnOk result (found.new.items ≡ found.old.items
+        ++ (arc_of (inner_bit elements (first + 0)) (input_of element) no_delay ∷
+        map (λ o. arc_of (output_of element) (inner_bit elements (first + o)) no_delay)
+        (range_with_len (length ignored.now + 2) (length outputs.now)))) }
+{
+    push_arc(found, inner_bit(elements, first), 2 * element, (0, 0))?;
+    let inputs = count(ignored) + 2;
+    push_pins(found, elements, first, element, inputs, count(outputs))
+}
+
 /// The gate of a leaf.
 fn gate_at(
     elements: u32,
     leaf: u32,
     first: u32,
-    min: &i64,
-    max: &i64,
+    default: (i64, i64),
     inputs: &Names,
     outputs: &Names,
 ) -> GateAt
     requires inputs { length inputs.now ≤ MOST_INNER }
     requires outputs { length outputs.now ≤ MOST_INNER }
-    ensures { result ≡ gate_at elements leaf first (min.now, max.now) (length inputs.now) (length outputs.now) }
+    ensures { result ≡ gate_at elements leaf first default (length inputs.now) (length outputs.now) }
 {
     GateAt {
         elements,
         leaf,
         first,
-        default: (*min, *max),
+        default,
         inputs: count(inputs),
         outputs: count(outputs),
     }
@@ -196,31 +208,31 @@ fn gate_at(
 /// Adds the arcs of a leaf, whose latch or flop is an element of this number.
 fn push_leaf(
     found: &mut Vec<TimingArc>,
-    hierarchy: &Hierarchy,
-    cells: &Cells,
-    ranges: &Ranges,
+    timed: &Timed<'_>,
     elements: u32,
     leaf: u32,
     element: u32,
 ) -> Result<(), OutOfMemory>
-    requires shape { IsFlattened cells.now hierarchy.now }
+    requires shape { IsFlattened timed.now.cells.now timed.now.hierarchy.now }
     requires elements { elements ≤ MOST_ELEMENTS }
-    requires leaf { leaf < length hierarchy.now.leaves }
-    requires element { element ≡ number_in hierarchy.now cells.now leaf }
-    requires few { is_storage (leaf_cell hierarchy.now cells.now leaf) ≡ true → element < MOST_ELEMENTS }
-    ensures { OnOk result (found.new.items ≡ found.old.items ++ leaf_arcs hierarchy.now cells.now (look ranges.now) elements leaf (leaf_cell hierarchy.now cells.now leaf)) }
+    requires leaf { leaf < length timed.now.hierarchy.now.leaves }
+    requires element { element ≡ number_in timed.now.hierarchy.now timed.now.cells.now leaf }
+    requires few { is_storage (leaf_cell timed.now.hierarchy.now timed.now.cells.now leaf) ≡ true →
+        element < MOST_ELEMENTS }
+    ensures { OnOk result (found.new.items ≡ found.old.items ++ leaf_arcs timed.now.hierarchy.now timed.now.cells.now
+        (look timed.now.ranges.now) elements leaf (leaf_cell timed.now.hierarchy.now timed.now.cells.now leaf)) }
 {
-    let at = &hierarchy.leaves.items()[leaf as usize];
+    let at = &timed.hierarchy.leaves.items()[leaf as usize];
     let first = at.first_pin;
-    match cells.cell(at.cell) {
+    match timed.cells.cell(at.cell) {
         Cell::Gate {
             inputs,
             outputs,
             min,
             max,
         } => {
-            let gate = gate_at(elements, leaf, first, min, max, inputs, outputs);
-            push_gate(found, ranges, gate)
+            let gate = gate_at(elements, leaf, first, (*min, *max), inputs, outputs);
+            push_gate(found, timed.ranges, gate)
         }
         Cell::Latch {
             ignored,
@@ -231,11 +243,7 @@ fn push_leaf(
             ignored,
             outputs,
             ..
-        } => {
-            let inputs = count(ignored) + 2;
-            let outputs = count(outputs);
-            push_stored(found, elements, first, element, inputs, outputs)
-        }
+        } => push_stored(found, elements, first, element, ignored, outputs),
         Cell::Clock { .. } => Ok(()),
     }
 }
@@ -259,20 +267,20 @@ fn next_element(hierarchy: &Hierarchy, cells: &Cells, leaf: u32, element: u32) -
 /// Adds the arcs of all leaves.
 pub(crate) fn push_leaves(
     found: &mut Vec<TimingArc>,
-    hierarchy: &Hierarchy,
-    cells: &Cells,
-    ranges: &Ranges,
+    timed: &Timed<'_>,
     elements: u32,
 ) -> Result<(), OutOfMemory>
-    requires shape { IsFlattened cells.now hierarchy.now }
+    requires shape { IsFlattened timed.now.cells.now timed.now.hierarchy.now }
     requires elements { elements ≤ MOST_ELEMENTS }
-    requires few { length (storage hierarchy.now cells.now) ≤ MOST_ELEMENTS }
-    ensures { OnOk result (found.new.items ≡ found.old.items ++ flat_map (λ l. leaf_arcs hierarchy.now cells.now (look ranges.now) elements l (leaf_cell hierarchy.now cells.now l)) (all_leaves hierarchy.now)) }
+    requires few { length (storage timed.now.hierarchy.now timed.now.cells.now) ≤ MOST_ELEMENTS }
+    ensures { OnOk result (found.new.items ≡ found.old.items
+        ++ flat_map (λ l. leaf_arcs timed.now.hierarchy.now timed.now.cells.now (look timed.now.ranges.now) elements l
+        (leaf_cell timed.now.hierarchy.now timed.now.cells.now l)) (all_leaves timed.now.hierarchy.now)) }
 {
     let mut element = 0;
-    for leaf in 0..hierarchy.leaves.items().len() as u32 {
-        push_leaf(found, hierarchy, cells, ranges, elements, leaf, element)?;
-        element = next_element(hierarchy, cells, leaf, element);
+    for leaf in 0..timed.hierarchy.leaves.items().len() as u32 {
+        push_leaf(found, timed, elements, leaf, element)?;
+        element = next_element(timed.hierarchy, timed.cells, leaf, element);
     }
     Ok(())
 }
@@ -287,7 +295,8 @@ pub(crate) fn push_inputs(
     requires elements { elements ≤ MOST_ELEMENTS }
     requires first { first + length bits.now ≤ elements }
     requires bits { All (λ x. x.bit < MOST_INNER) bits.now }
-    ensures { (listed : List Listed) → OnOk result (found.new.items ≡ found.old.items ++ input_arcs elements first (map (with_port listed) bits.now)) }
+    ensures { (listed : List Listed) →
+        OnOk result (found.new.items ≡ found.old.items ++ input_arcs elements first (map (with_port listed) bits.now)) }
 {
     for number in 0..bits.len() {
         push_arc(
@@ -311,7 +320,9 @@ pub(crate) fn push_outputs(
     requires elements { elements ≤ MOST_ELEMENTS }
     requires first { first + length bits.now ≤ elements }
     requires bits { All (λ x. x.bit < MOST_INNER) bits.now }
-    ensures { (listed : List Listed) → OnOk result (found.new.items ≡ found.old.items ++ output_arcs (look ranges.now) elements first (map (with_port listed) bits.now)) }
+    ensures { (listed : List Listed) →
+        OnOk result (found.new.items ≡ found.old.items
+        ++ output_arcs (look ranges.now) elements first (map (with_port listed) bits.now)) }
 {
     for number in 0..bits.len() {
         let bit = bits[number].bit;

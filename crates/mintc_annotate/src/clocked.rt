@@ -21,8 +21,8 @@ pub(crate) struct Clocked {
     pub(crate) outputs: u64,
 }
 
-/// The ports that a clock names. The refusal is NoInstance of the clock, with the first phase whose port isn't one bit of an
-/// input, or the first listed port that isn't there.
+/// The ports that a clock names. The refusal is NoInstance of the clock, with the first phase whose port isn't one
+/// bit of an input, or the first listed port that isn't there.
 pub(crate) fn clock_ports(
     alloc: Global,
     names: &[Name],
@@ -31,7 +31,8 @@ pub(crate) fn clock_ports(
 ) -> Result<Clocked, Stop>
     requires inside { AreInside (length names.now) ports.now }
     requires some { All (λ p. 1 ≤ length p.bits) ports.now }
-    ensures { MatchResult result (AreClocked names.now ports.now clock.now) (StopsAt (IsPortRefusal (has_ports_in names.now ports.now clock.now))) }
+    ensures { MatchResult result (AreClocked names.now ports.now clock.now)
+        (StopsAt (IsPortRefusal (has_ports_in names.now ports.now clock.now))) }
 {
     let phases = clock.phases.items();
     let inputs = clock.inputs.items();
@@ -42,21 +43,13 @@ pub(crate) fn clock_ports(
     {
         return Err(Stop::OutOfMemory);
     }
-    let spots = match spots_of(alloc, names, ports, phases) {
-        Ok(spots) => spots,
-        Err(stop) => return Err(stop),
-    };
+    let spots = spots_of(alloc, names, ports, phases)?;
     let before = phases.len() as u32;
-    let input_bits = match count_bits(ports, false, inputs, before) {
-        Ok(count) => count,
-        Err(stop) => return Err(stop),
-    };
-    match count_bits(ports, true, outputs, before + inputs.len() as u32) {
-        Ok(output_bits) => Ok(Clocked {
-            spots,
-            inputs: input_bits,
-            outputs: output_bits,
-        }),
-        Err(stop) => Err(stop),
-    }
+    let input_bits = count_bits(ports, false, inputs, before)?;
+    let output_bits = count_bits(ports, true, outputs, before + inputs.len() as u32)?;
+    Ok(Clocked {
+        spots,
+        inputs: input_bits,
+        outputs: output_bits,
+    })
 }

@@ -16,7 +16,8 @@ use std::alloc::Global;
 fn add_joins(table: &mut [Option<Drive>], joins: &[Join])
     requires { All (λ j. (j.from < length table.old) × (j.to < length table.old)) joins.now }
     ensures size { length table.new ≡ length table.old }
-    ensures added { (ds : List Drive) → AreDrivers ds (length table.old) table.old → AreDrivers (ds ++ map join_drive joins.now) (length table.old) table.new }
+    ensures added { (ds : List Drive) → AreDrivers ds (length table.old) table.old →
+        AreDrivers (ds ++ map join_drive joins.now) (length table.old) table.new }
 {
     for number in 0..joins.len() {
         let join = joins[number];
@@ -37,7 +38,9 @@ fn add_cell(table: &mut [Option<Drive>], hierarchy: &Hierarchy, cells: &Cells, n
     requires bits { length table.old ≡ length hierarchy.now.inner }
     requires leaf { number < length hierarchy.now.leaves }
     ensures size { length table.new ≡ length table.old }
-    ensures added { (ds : List Drive) → AreDrivers ds (length table.old) table.old → AreDrivers (ds ++ cell_drives hierarchy.now number (leaf_cell hierarchy.now cells.now number)) (length table.old) table.new }
+    ensures added { (ds : List Drive) → AreDrivers ds (length table.old) table.old →
+        AreDrivers (ds ++ cell_drives hierarchy.now number (leaf_cell hierarchy.now cells.now number))
+        (length table.old) table.new }
 {
     let leaf = &hierarchy.leaves.items()[number];
     if let Cell::Clock {
@@ -64,7 +67,8 @@ fn add_cells(table: &mut [Option<Drive>], hierarchy: &Hierarchy, cells: &Cells)
     requires bits { length table.old ≡ length hierarchy.now.inner }
     ensures size { length table.new ≡ length table.old }
     ensures added { (ds : List Drive) → AreDrivers ds (length table.old) table.old →
-        AreDrivers (ds ++ flat_map (λ l. cell_drives hierarchy.now l (leaf_cell hierarchy.now cells.now l)) (all_leaves hierarchy.now)) (length table.old) table.new }
+        AreDrivers (ds ++ flat_map (λ l. cell_drives hierarchy.now l (leaf_cell hierarchy.now cells.now l))
+        (all_leaves hierarchy.now)) (length table.old) table.new }
 {
     for number in 0..hierarchy.leaves.items().len() {
         add_cell(table, hierarchy, cells, number);
@@ -76,7 +80,8 @@ fn add_all(table: &mut [Option<Drive>], hierarchy: &Hierarchy, cells: &Cells)
     requires shape { IsFlattened cells.now hierarchy.now }
     requires bits { length table.old ≡ length hierarchy.now.inner }
     ensures size { length table.new ≡ length table.old }
-    ensures added { AreDrivers [] (length table.old) table.old → AreDrivers (drives hierarchy.now cells.now) (length table.old) table.new }
+    ensures added { AreDrivers [] (length table.old) table.old →
+        AreDrivers (drives hierarchy.now cells.now) (length table.old) table.new }
 {
     add_joins(table, hierarchy.joins.items());
     add_cells(table, hierarchy, cells);
@@ -89,7 +94,8 @@ pub(crate) fn drivers(
     cells: &Cells,
 ) -> Result<Vec<Option<Drive>>, OutOfMemory>
     requires { IsFlattened cells.now hierarchy.now }
-    ensures { IfOk result (λ table. AreDrivers (drives hierarchy.now cells.now) (length hierarchy.now.inner) table.items) }
+    ensures { IfOk result
+        (λ table. AreDrivers (drives hierarchy.now cells.now) (length hierarchy.now.inner) table.items) }
 {
     let mut table = no_drivers(alloc, hierarchy.inner.items().len())?;
     add_all(&mut table, hierarchy, cells);

@@ -16,8 +16,8 @@ use mintc_sdf::Delays;
 use mintc_text::{Name, Numbers, Stop};
 use std::alloc::Global;
 
-/// What inner bits are called, what delays say, the phases of latches and flops, and how many bits the listed inputs and outputs
-/// have, each up to `MOST_TOLD`.
+/// What inner bits are called, what delays say, the phases of latches and flops, and how many bits the listed
+/// inputs and outputs have, each up to `MOST_TOLD`.
 #[derive(Drop)]
 pub(crate) struct Gathered {
     pub(crate) names: Vec<Name>,
@@ -27,8 +27,8 @@ pub(crate) struct Gathered {
     pub(crate) outputs: u64,
 }
 
-/// All that is gathered. The refusal is NoInstance of the clock, NoInstance or NoArc of the first delay that has one, or NoPhase;
-/// in that order.
+/// All that is gathered. The refusal is NoInstance of the clock, NoInstance or NoArc of the first delay that has
+/// one, or NoPhase; in that order.
 pub(crate) fn gather(
     alloc: Global,
     hierarchy: &Hierarchy,
@@ -37,28 +37,19 @@ pub(crate) fn gather(
     delays: &Delays,
 ) -> Result<Gathered, Stop>
     requires { IsFlattened cells.now hierarchy.now }
-    ensures { MatchResult result (λ g. AreGathered hierarchy.now cells.now clock.now g × IsResolved hierarchy.now cells.now delays.now.items g)
+    ensures { MatchResult result (λ g. AreGathered hierarchy.now cells.now clock.now g
+        × IsResolved hierarchy.now cells.now delays.now.items g)
         (StopsAt (IsAnnotateRefusal hierarchy.now cells.now clock.now delays.now.items)) }
 {
-    let Ok(names) = inner_names(alloc, hierarchy) else {
-        return Err(Stop::OutOfMemory);
-    };
-    let clocked = match clock_ports(alloc, &names, hierarchy.ports.items(), clock) {
-        Ok(clocked) => clocked,
-        Err(stop) => return Err(stop),
-    };
-    let ranges = match gather_ranges(alloc, hierarchy, cells, &names, delays.items.items()) {
-        Ok(ranges) => ranges,
-        Err(stop) => return Err(stop),
-    };
-    match trace_all(alloc, hierarchy, cells, &clocked.spots) {
-        Ok(phases) => Ok(Gathered {
-            names,
-            ranges,
-            phases,
-            inputs: clocked.inputs,
-            outputs: clocked.outputs,
-        }),
-        Err(stop) => Err(stop),
-    }
+    let names = inner_names(alloc, hierarchy)?;
+    let clocked = clock_ports(alloc, &names, hierarchy.ports.items(), clock)?;
+    let ranges = gather_ranges(alloc, hierarchy, cells, &names, delays.items.items())?;
+    let phases = trace_all(alloc, hierarchy, cells, &clocked.spots)?;
+    Ok(Gathered {
+        names,
+        ranges,
+        phases,
+        inputs: clocked.inputs,
+        outputs: clocked.outputs,
+    })
 }

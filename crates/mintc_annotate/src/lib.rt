@@ -1,9 +1,10 @@
 //! The design of files: a hierarchy with its cells, a clock and delays becomes elements and arcs.
 //!
-//! The phase of a latch or flop is found by a search back from its enable or clock pin, along joins and through the cells of the
-//! clock's tree. What drives each bit is noted first; then the ways back are doubled, round by round, until each leads to the
-//! end of its search, so that long chains before many latches cost no more than short ones. What passes a limit is found by
-//! counts, before anything is built. The design is the one of specs/Made.antt, list by list.
+//! The phase of a latch or flop is found by a search back from its enable or clock pin, along joins and through the
+//! cells of the clock's tree. What drives each bit is noted first; then the ways back are doubled, round by round,
+//! until each leads to the end of its search, so that long chains before many latches cost no more than short ones.
+//! What passes a limit is found by counts, before anything is built. The design is the one of specs/Made.antt, list
+//! by list.
 //!
 //! The crates above get a design within its limits, or the first refusal.
 #![tactic(auto)]
@@ -20,6 +21,7 @@ mod listing;
 mod naming;
 mod searching;
 mod spots;
+mod timed;
 mod tracing;
 
 pub use annotating::annotate;

@@ -1,5 +1,6 @@
 //! The bits of listed ports.
-ghost use Rattle.std.specs.Prelude.{◌≡◌, ◌<◌, ◌≤◌, ◌+◌, ◌++◌, ◌&&◌, [], length, map, min, is_some, bytes_eq, unwrap_or, None, All, IfOk, OnOk, OnErr, MatchResult};
+ghost use Rattle.std.specs.Prelude.{◌≡◌, ◌<◌, ◌≤◌, ◌+◌, ◌++◌, ◌&&◌, [], length, map, min, is_some, bytes_eq, unwrap_or};
+ghost use Rattle.std.specs.Prelude.{None, All, IfOk, OnOk, OnErr, MatchResult};
 ghost use Rattle.std.specs.Bool.{beq};
 ghost use Rattle.mintc_text.specs.Stops.{StopsAt};
 ghost use Rattle.mintc_flatten_hierarchy.specs.Shape.{IsPort};
@@ -58,8 +59,8 @@ fn add_up_to_most(count: u64, more: usize) -> u64
     (count + more).min(MOST_TOLD)
 }
 
-/// How many bits listed ports have, or `MOST_TOLD` where there are more. The refusal is NoInstance of the clock with the
-/// first that is no whole port of this direction; entries are counted on from those before.
+/// How many bits listed ports have, or `MOST_TOLD` where there are more. The refusal is NoInstance of the clock
+/// with the first that is no whole port of this direction; entries are counted on from those before.
 pub(crate) fn count_bits(
     ports: &[TopPort],
     output: bool,
@@ -70,8 +71,10 @@ pub(crate) fn count_bits(
     requires before { before ≤ 2000000000 }
     requires few { length listed.now < 1000000000 }
     ensures { MatchResult result
-        (λ n. (first_failing (λ test. test) (before + 1) (has_listed_in ports.now output listed.now) ≡ None) × (n ≡ min (length (bits_in ports.now output listed.now)) MOST_TOLD))
-        (StopsAt (IsEntryRefusal (first_failing (λ test. test) (before + 1) (has_listed_in ports.now output listed.now)))) }
+        (λ n. (first_failing (λ test. test) (before + 1) (has_listed_in ports.now output listed.now) ≡ None)
+        × (n ≡ min (length (bits_in ports.now output listed.now)) MOST_TOLD))
+        (StopsAt (IsEntryRefusal
+        (first_failing (λ test. test) (before + 1) (has_listed_in ports.now output listed.now)))) }
 {
     let mut total = 0;
     for number in 0..listed.len() {
@@ -107,7 +110,8 @@ fn bits_in(
     output: bool,
     listed: &[Listed],
 ) -> Result<Vec<ListedBit>, OutOfMemory>
-    ensures { IfOk result (λ v. (map (with_port listed.now) v.items ≡ bits_in ports.now output listed.now) × All (λ x. x.place < length listed.now) v.items) }
+    ensures { IfOk result (λ v. (map (with_port listed.now) v.items ≡ bits_in ports.now output listed.now)
+        × All (λ x. x.place < length listed.now) v.items) }
 {
     let mut found = Vec::new(alloc);
     for place in 0..listed.len() {

@@ -1,9 +1,11 @@
 //! The search back from a bit.
-ghost use Rattle.std.specs.Prelude.{◌≡◌, ◌<◌, ◌≤◌, ◌^◌, ◌++◌, ◌∷◌, [], ℕ, List, length, slice_index_or, None, IfOk, MatchOption, All, map};
+ghost use Rattle.std.specs.Prelude.{◌≡◌, ◌<◌, ◌≤◌, ◌^◌, ◌++◌, ◌∷◌, [], ℕ, List, length, slice_index_or, None, IfOk};
+ghost use Rattle.std.specs.Prelude.{MatchOption, All, map};
 ghost use Rattle.std.specs.List.{range_with_len};
 ghost use Rattle.mintc_text.specs.declared.limits.TheConstants.{MOST_INNER};
 ghost use Rattle.mintc_annotate.specs.Phases.{EndsAt};
-ghost use Rattle.mintc_annotate.specs.Searches.{AreDrivers, IsTable, AreJumps, first_jump, then_jump, doubled_jump, spot_after};
+ghost use Rattle.mintc_annotate.specs.Searches.{AreDrivers, IsTable, AreJumps, first_jump, then_jump, doubled_jump};
+ghost use Rattle.mintc_annotate.specs.Searches.{spot_after};
 ghost use Rattle.mintc_annotate.specs.declared.searching.Drive.{Drive};
 ghost use Rattle.mintc_annotate.specs.declared.searching.Spot.{Spot};
 
@@ -38,9 +40,7 @@ pub(crate) fn no_drivers(alloc: Global, count: usize) -> Result<Vec<Option<Drive
 {
     let mut table = Vec::new(alloc);
     for number in 0..count {
-        let Ok(()) = table.push(None) else {
-            return Err(OutOfMemory);
-        };
+        table.push(None)?;
     }
     Ok(table)
 }
@@ -50,7 +50,8 @@ pub(crate) fn add(table: &mut [Option<Drive>], drive: Drive)
     requires to { drive.to < length table.old }
     requires from { drive.from < length table.old }
     ensures size { length table.new ≡ length table.old }
-    ensures added { (ds : List Drive) → AreDrivers ds (length table.old) table.old → AreDrivers (ds ++ drive ∷ []) (length table.old) table.new }
+    ensures added { (ds : List Drive) → AreDrivers ds (length table.old) table.old →
+        AreDrivers (ds ++ drive ∷ []) (length table.old) table.new }
 {
     let at = drive.to as usize;
     if table[at].is_none() {
@@ -79,13 +80,12 @@ fn first_jump(table: &[Option<Drive>], bit: usize) -> Jump
 /// One step back from each bit.
 fn first_jumps(alloc: Global, table: &[Option<Drive>]) -> Result<Vec<Jump>, OutOfMemory>
     requires { length table.now ≤ MOST_INNER }
-    ensures { IfOk result (λ v. v.items ≡ map (λ b. first_jump b (slice_index_or table.now b None)) (range_with_len 0 (length table.now))) }
+    ensures { IfOk result
+        (λ v. v.items ≡ map (λ b. first_jump b (slice_index_or table.now b None)) (range_with_len 0 (length table.now))) }
 {
     let mut found = Vec::new(alloc);
     for bit in 0..table.len() {
-        let Ok(()) = found.push(first_jump(table, bit)) else {
-            return Err(OutOfMemory);
-        };
+        found.push(first_jump(table, bit))?;
     }
     Ok(found)
 }
@@ -108,9 +108,7 @@ fn twice_as_far(alloc: Global, jumps: &[Jump]) -> Result<Vec<Jump>, OutOfMemory>
     let mut found = Vec::new(alloc);
     for number in 0..jumps.len() {
         let jump = jumps[number];
-        let Ok(()) = found.push(then_jump(jump, jumps[jump.bit as usize])) else {
-            return Err(OutOfMemory);
-        };
+        found.push(then_jump(jump, jumps[jump.bit as usize]))?;
     }
     Ok(found)
 }
@@ -120,13 +118,12 @@ fn twice_as_far(alloc: Global, jumps: &[Jump]) -> Result<Vec<Jump>, OutOfMemory>
 pub(crate) fn jumps(alloc: Global, table: &[Option<Drive>]) -> Result<Vec<Jump>, OutOfMemory>
     requires size { length table.now ≤ MOST_INNER }
     requires table { IsTable table.now }
-    ensures { IfOk result (λ v. (ds : List Drive) → AreDrivers ds (length table.now) table.now → AreJumps ds MOST_INNER (length table.now) v.items) }
+    ensures { IfOk result (λ v. (ds : List Drive) → AreDrivers ds (length table.now) table.now →
+        AreJumps ds MOST_INNER (length table.now) v.items) }
 {
     let mut found = first_jumps(alloc, table)?;
     for round in 0..18u32 {
-        let Ok(more) = twice_as_far(alloc, &found) else {
-            return Err(OutOfMemory);
-        };
+        let more = twice_as_far(alloc, &found)?;
         found = more;
     }
     Ok(found)
@@ -147,7 +144,8 @@ pub(crate) fn end_of(table: &[Option<Drive>], jumps: &[Jump], start: Spot) -> Op
     requires size { length table.now ≤ MOST_INNER }
     requires jumps { (length jumps.now ≡ length table.now) × All (λ j. j.bit < length table.now) jumps.now }
     requires start { start.bit < length table.now }
-    ensures { (ds : List Drive) → AreDrivers ds (length table.now) table.now → AreJumps ds MOST_INNER (length table.now) jumps.now →
+    ensures { (ds : List Drive) → AreDrivers ds (length table.now) table.now →
+        AreJumps ds MOST_INNER (length table.now) jumps.now →
         MatchOption result ((n : ℕ) (end : Spot) → EndsAt ds n start end → ⊥) (λ end. (n : ℕ) × EndsAt ds n start end) }
 {
     let end = spot_after(jumps[start.bit as usize], start);

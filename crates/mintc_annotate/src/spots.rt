@@ -32,7 +32,8 @@ pub(crate) fn spots_of(
 ) -> Result<Vec<Spot>, Stop>
     requires { AreInside (length names.now) ports.now }
     ensures value { MatchResult result
-        (λ v. (first_false (has_phases_in names.now ports.now phases.now) ≡ None) × (v.items ≡ spots_of names.now ports.now phases.now))
+        (λ v. (first_false (has_phases_in names.now ports.now phases.now) ≡ None)
+        × (v.items ≡ spots_of names.now ports.now phases.now))
         (StopsAt (IsPortRefusal (has_phases_in names.now ports.now phases.now))) }
     ensures few { IfOk result (λ v. length v.items < 2 ^ 32 - 1) }
 {
@@ -48,12 +49,10 @@ pub(crate) fn spots_of(
                 entry: number as u32 + 1,
             }));
         };
-        let Ok(()) = spots.push(Spot {
+        spots.push(Spot {
             bit,
             high: phase.high,
-        }) else {
-            return Err(Stop::OutOfMemory);
-        };
+        })?;
     }
     Ok(spots)
 }

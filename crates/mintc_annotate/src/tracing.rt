@@ -1,10 +1,12 @@
 //! The phases of latches and flops.
-ghost use Rattle.std.specs.Prelude.{◌≡◌, ◌<◌, ◌≤◌, ◌^◌, ◌-◌, All, ℕ, List, length, true, false, MatchResult, MatchOption};
+ghost use Rattle.std.specs.Prelude.{◌≡◌, ◌<◌, ◌≤◌, ◌^◌, ◌-◌, All, ℕ, List, length, true, false, MatchResult};
+ghost use Rattle.std.specs.Prelude.{MatchOption};
 ghost use Rattle.mintc_text.specs.declared.limits.TheConstants.{MOST_INNER};
 ghost use Rattle.mintc_text.specs.Stops.{StopsAt};
 ghost use Rattle.mintc_flatten_hierarchy.specs.Shape.{IsFlattened, IsGivenHierarchy};
 ghost use Rattle.mintc_annotate.specs.Given.{IsGivenClock};
-ghost use Rattle.mintc_annotate.specs.Phases.{drives, IsStart, same_spot, first_at, AreTraced, IsUntraced, AreTraces, IsTraceRefusal};
+ghost use Rattle.mintc_annotate.specs.Phases.{drives, IsStart, same_spot, first_at, AreTraced, IsUntraced, AreTraces};
+ghost use Rattle.mintc_annotate.specs.Phases.{IsTraceRefusal};
 ghost use Rattle.mintc_annotate_resolve.specs.Pins.{is_storage, leaf_cell};
 ghost use Rattle.mintc_annotate.specs.Searches.{AreDrivers, AreJumps, IsPhaseFrom};
 ghost use Rattle.mintc_annotate.specs.declared.searching.Drive.{Drive};
@@ -24,7 +26,9 @@ fn start_of(hierarchy: &Hierarchy, cells: &Cells, number: usize) -> Option<Spot>
     requires shape { IsFlattened cells.now hierarchy.now }
     requires leaf { number < length hierarchy.now.leaves }
     ensures { MatchOption result (is_storage (leaf_cell hierarchy.now cells.now number) ≡ false)
-        (λ s. (is_storage (leaf_cell hierarchy.now cells.now number) ≡ true) × IsStart hierarchy.now number (leaf_cell hierarchy.now cells.now number) s × (s.bit < length hierarchy.now.inner)) }
+        (λ s. (is_storage (leaf_cell hierarchy.now cells.now number) ≡ true)
+        × IsStart hierarchy.now number (leaf_cell hierarchy.now cells.now number) s
+        × (s.bit < length hierarchy.now.inner)) }
 {
     let leaf = &hierarchy.leaves.items()[number];
     match cells.cell(leaf.cell) {
@@ -66,7 +70,8 @@ fn phase_from(table: &[Option<Drive>], jumps: &[Jump], spots: &[Spot], start: Sp
     requires jumps { (length jumps.now ≡ length table.now) × All (λ j. j.bit < length table.now) jumps.now }
     requires spots { length spots.now < 2 ^ 32 - 1 }
     requires start { start.bit < length table.now }
-    ensures { (ds : List Drive) → AreDrivers ds (length table.now) table.now → AreJumps ds MOST_INNER (length table.now) jumps.now →
+    ensures { (ds : List Drive) → AreDrivers ds (length table.now) table.now →
+        AreJumps ds MOST_INNER (length table.now) jumps.now →
         MatchOption result ((p : ℕ) → IsPhaseFrom ds spots.now start p → ⊥) (IsPhaseFrom ds spots.now start) }
 {
     match end_of(table, jumps, start) {
@@ -88,7 +93,8 @@ fn trace(
     requires table { AreDrivers (drives hierarchy.now cells.now) (length hierarchy.now.inner) table.now }
     requires jumps { AreJumps (drives hierarchy.now cells.now) MOST_INNER (length hierarchy.now.inner) jumps.now }
     requires spots { length spots.now < 2 ^ 32 - 1 }
-    ensures { MatchResult result (AreTraced hierarchy.now cells.now spots.now) (StopsAt (IsUntraced hierarchy.now cells.now spots.now)) }
+    ensures { MatchResult result (AreTraced hierarchy.now cells.now spots.now)
+        (StopsAt (IsUntraced hierarchy.now cells.now spots.now)) }
 {
     let mut phases = Vec::new(alloc);
     for number in 0..hierarchy.leaves.items().len() {
@@ -96,14 +102,10 @@ fn trace(
             continue;
         };
         let Some(phase) = phase_from(table, jumps, spots, start) else {
-            let Ok(element) = u32::try_from(phases.len()) else {
-                return Err(Stop::OutOfMemory);
-            };
+            let element = u32::try_from(phases.len())?;
             return Err(Stop::Refused(Refusal::NoPhase { element }));
         };
-        let Ok(()) = phases.push(phase) else {
-            return Err(Stop::OutOfMemory);
-        };
+        phases.push(phase)?;
     }
     Ok(Numbers::new(phases))
 }
@@ -117,14 +119,11 @@ pub(crate) fn trace_all(
 ) -> Result<Numbers, Stop>
     requires shape { IsFlattened cells.now hierarchy.now }
     requires spots { length spots.now < 2 ^ 32 - 1 }
-    ensures { MatchResult result (AreTraced hierarchy.now cells.now spots.now) (StopsAt (IsUntraced hierarchy.now cells.now spots.now)) }
+    ensures { MatchResult result (AreTraced hierarchy.now cells.now spots.now)
+        (StopsAt (IsUntraced hierarchy.now cells.now spots.now)) }
 {
-    let Ok(table) = drivers(alloc, hierarchy, cells) else {
-        return Err(Stop::OutOfMemory);
-    };
-    let Ok(jumps) = jumps(alloc, &table) else {
-        return Err(Stop::OutOfMemory);
-    };
+    let table = drivers(alloc, hierarchy, cells)?;
+    let jumps = jumps(alloc, &table)?;
     trace(alloc, hierarchy, cells, &table, &jumps, spots)
 }
 
@@ -137,20 +136,16 @@ fn trace_in_shape(
 ) -> Result<Numbers, Stop>
     requires shape { IsFlattened cells.now hierarchy.now }
     requires clock { IsGivenClock clock.now }
-    ensures { MatchResult result (AreTraces hierarchy.now cells.now clock.now) (StopsAt (IsTraceRefusal hierarchy.now cells.now clock.now)) }
+    ensures { MatchResult result (AreTraces hierarchy.now cells.now clock.now)
+        (StopsAt (IsTraceRefusal hierarchy.now cells.now clock.now)) }
 {
-    let Ok(names) = inner_names(alloc, hierarchy) else {
-        return Err(Stop::OutOfMemory);
-    };
-    let spots = match spots_of(alloc, &names, hierarchy.ports.items(), clock.phases.items()) {
-        Ok(spots) => spots,
-        Err(stop) => return Err(stop),
-    };
+    let names = inner_names(alloc, hierarchy)?;
+    let spots = spots_of(alloc, &names, hierarchy.ports.items(), clock.phases.items())?;
     trace_all(alloc, hierarchy, cells, &spots)
 }
 
-/// The phase of each latch and flop, from 1, in leaf order. The refusal is NoInstance of the clock, with the first phase
-/// whose port isn't one bit of an input of the top, or NoPhase of the first latch or flop that has none.
+/// The phase of each latch and flop, from 1, in leaf order. The refusal is NoInstance of the clock, with the first
+/// phase whose port isn't one bit of an input of the top, or NoPhase of the first latch or flop that has none.
 pub fn trace_phases(
     alloc: Global,
     hierarchy: &Hierarchy,
@@ -159,7 +154,8 @@ pub fn trace_phases(
 ) -> Result<Numbers, Stop>
     requires hierarchy { IsGivenHierarchy cells.now hierarchy.now }
     requires clock { IsGivenClock clock.now }
-    ensures { MatchResult result (AreTraces hierarchy.now cells.now clock.now) (StopsAt (IsTraceRefusal hierarchy.now cells.now clock.now)) }
+    ensures { MatchResult result (AreTraces hierarchy.now cells.now clock.now)
+        (StopsAt (IsTraceRefusal hierarchy.now cells.now clock.now)) }
 {
     hierarchies_are_in_shape();
     trace_in_shape(alloc, hierarchy, cells, clock)

@@ -5,18 +5,28 @@ use Rattle.std.proofs.lemmas.List.{take_more, drop_more, take-append-drop}
 use Rattle.std.proofs.lemmas.List.Concat.{flat_map-append}
 use Rattle.mintc_text.specs.declared.refusals.Refusal.{Refusal}
 use Rattle.mintc_sdf.specs.declared.delays.Delay.{Delay}
-use Rattle.mintc_sdf.specs.declared.delays.Place.TheVariants.{Top}
+use Rattle.mintc_sdf.specs.declared.delays.Place.{Place}
+use Rattle.mintc_sdf.specs.declared.delays.Place.TheVariants.{Top, Every, Path}
 use Rattle.mintc_flatten_hierarchy.specs.declared.hierarchy.Hierarchy.{Hierarchy}
 use Rattle.mintc_flatten_hierarchy.specs.Shape.{CellTable}
 use Rattle.mintc_annotate_resolve.specs.Resolution.{resolved, of_instance, of_place, leaf_called, refusal_of, first_refusal, said, said_by}
 use Rattle.mintc_annotate_delays.specs.declared.ranges.Ranges.{Ranges}
 use Rattle.mintc_annotate_delays.specs.Ranges.{HasRanges}
-use Rattle.mintc_annotate_delays.specs.Gathered.{IsTakenIn}
+use Rattle.mintc_annotate_delays.specs.Gathered.{IsTakenIn, path_of}
 use Rattle.mintc_annotate_resolve.proofs.SharedInstanceLaws.{no_leaf_at_top}
 
--- at the top
-pub top_resolved : (h : Hierarchy) (cells : CellTable) (d : Delay) → d.place ≡ Top → of_instance h cells [] d.subject (leaf_called h []) ≡ resolved h cells d
-top_resolved h cells d is = ap (of_instance h cells [] d.subject) (no_leaf_at_top h) ∙ ap (of_place h cells d) (sym is)
+-- at the one instance of a place
+resolved_at : (h : Hierarchy) (cells : CellTable) (d : Delay) (place : Place) (path : List (List ℕ)) → path_of place ≡ Some path → of_instance h cells path d.subject (leaf_called h path) ≡ of_place h cells d place
+resolved_at h cells d Top path is =
+    let top : [] ≡ path = cc in
+    subst (λ (p : List (List ℕ)). of_instance h cells p d.subject (leaf_called h p) ≡ of_place h cells d Top) top (ap (of_instance h cells [] d.subject) (no_leaf_at_top h))
+resolved_at h cells d Every path is = absurd (cc)
+resolved_at h cells d (Path named) path is =
+    let same : named ≡ path = cc in
+    subst (λ (p : List (List ℕ)). of_instance h cells p d.subject (leaf_called h p) ≡ of_place h cells d (Path named)) same refl
+
+pub path_resolved : (h : Hierarchy) (cells : CellTable) (d : Delay) (path : List (List ℕ)) → path_of d.place ≡ Some path → of_instance h cells path d.subject (leaf_called h path) ≡ resolved h cells d
+path_resolved h cells d path is = resolved_at h cells d d.place path is
 
 -- ---- refusals
 or_assoc : (a b c : Option Refusal) → option_or a (option_or b c) ≡ option_or (option_or a b) c

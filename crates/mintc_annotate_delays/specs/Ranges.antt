@@ -1,15 +1,20 @@
 -- What a table of ranges holds.
-use Rattle.std.specs.Prelude.{◌≡◌, ◌<◌, ℕ, ℤ, cond, Bool, List, length, slice_index_or, slice_set, Option, Some, None, nat_eq, ◌&&◌}
+use Rattle.std.specs.Prelude.{◌≡◌, ◌<◌, ℕ, ℤ, cond, Bool, List, length, slice_index_or, slice_set, Option, Some, None}
+use Rattle.std.specs.Prelude.{nat_eq, ◌&&◌}
 use Rattle.std.specs.HashMap.{HashMap, get}
 use Rattle.mintc_flatten_hierarchy.specs.declared.hierarchy.Hierarchy.{Hierarchy}
 use Rattle.mintc_flatten_hierarchy.specs.Shape.{CellTable}
 use Rattle.mintc_sdf.specs.declared.delays.Delay.{Delay}
 use Rattle.mintc_annotate_resolve.specs.declared.targets.Target.{Target as Annotated}
-use Rattle.mintc_annotate_resolve.specs.declared.targets.Target.TheVariants.{PathOn, JoinInto, ArcsFrom, DqOf, CqOf, SetupOf, HoldOf, WidthOf}
+use Rattle.mintc_annotate_resolve.specs.declared.targets.Target.TheVariants.{PathOn, JoinInto, ArcsFrom, DqOf, CqOf}
+use Rattle.mintc_annotate_resolve.specs.declared.targets.Target.TheVariants.{SetupOf, HoldOf, WidthOf}
 use Rattle.mintc_annotate_delays.specs.declared.ranges.Ranges.{Ranges}
-use Rattle.mintc_annotate_resolve.specs.Resolution.{Target, path_on, join_into, arcs_from, dq_of, cq_of, setup_of, hold_of, width_of, Said, said, same_target, widened, range_of}
+use Rattle.mintc_annotate_resolve.specs.Resolution.{Target, path_on, join_into, arcs_from, dq_of, cq_of, setup_of}
+use Rattle.mintc_annotate_resolve.specs.Resolution.{hold_of, width_of, Said, said, same_target, widened, range_of}
 
 -- ---- by leaf and two pins
+
+-- whether two keys are one
 abbrev pub same_key : ℕ × ℕ × ℕ → ℕ × ℕ × ℕ → Bool
 same_key x y = (nat_eq x.0 y.0 && nat_eq x.1 y.1) && nat_eq x.2 y.2
 
@@ -18,13 +23,16 @@ module _ {S : Type 0} where
   path_at m k = get same_key m k
 
 -- ---- by place
+
+-- So many places have no range.
 pub record AreUnannotated (count : ℕ) (list : List (Option (ℤ × ℤ))) : Type 0 where
   pub size : length list ≡ count
   pub each : (k : ℕ) → slice_index_or list k None ≡ None
 
 -- one place is widened
 abbrev pub IsWidenedAt : List (Option (ℤ × ℤ)) → List (Option (ℤ × ℤ)) → ℕ → ℤ → ℤ → Type 0
-IsWidenedAt old new place least greatest = new ≡ slice_set old place (Some (widened least greatest (slice_index_or old place None)))
+IsWidenedAt old new place least greatest = new
+    ≡ slice_set old place (Some (widened least greatest (slice_index_or old place None)))
 
 -- ---- the range of a target
 abbrev pub look : Ranges → Target → Option (ℤ × ℤ)
@@ -46,8 +54,11 @@ abbrev pub AreRanges : Hierarchy → CellTable → List Delay → Ranges → Typ
 AreRanges h cells ds r = HasRanges r (said h cells ds)
 
 -- ---- one more delay
+
+-- the range of one target is widened
 abbrev pub IsWidened : Ranges → Ranges → Target → ℤ → ℤ → Type 0
-IsWidened old new annotated least greatest = (m : Target) → look new m ≡ cond (same_target annotated m) (Some (widened least greatest (look old m))) (look old m)
+IsWidened old new annotated least greatest = (m : Target) →
+    look new m ≡ cond (same_target annotated m) (Some (widened least greatest (look old m))) (look old m)
 
 -- there is a place for each bit and each leaf
 pub record HasRoom (bits leaves : ℕ) (r : Ranges) : Type 0 where
@@ -59,6 +70,7 @@ pub record HasRoom (bits leaves : ℕ) (r : Ranges) : Type 0 where
   pub hold : length r.hold.items ≡ leaves
   pub width : length r.width.items ≡ leaves
 
+-- there are as many places as before
 abbrev pub IsSameRoom : Ranges → Ranges → Type 0
 IsSameRoom old new = (bits leaves : ℕ) → HasRoom bits leaves old → HasRoom bits leaves new
 

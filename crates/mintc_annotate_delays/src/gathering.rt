@@ -1,16 +1,18 @@
 //! The ranges of all that delays annotate.
-ghost use Rattle.std.specs.Prelude.{◌≡◌, ◌<◌, ℕ, [], length, slice_index_or, None, Some, IfOk, IfErr, OnOk, MatchResult};
+ghost use Rattle.std.specs.Prelude.{◌≡◌, ◌<◌, ℕ, [], length, slice_index_or, None, Some, IfOk, IfErr, OnOk};
+ghost use Rattle.std.specs.Prelude.{MatchOption, MatchResult};
 ghost use Rattle.mintc_text.specs.Stops.{StopsAt};
 ghost use Rattle.mintc_cells.specs.Entries.{AreOrdered};
 ghost use Rattle.mintc_flatten_hierarchy.specs.Shape.{IsFlattened};
 ghost use Rattle.mintc_annotate_resolve.specs.Pins.{all_names};
-ghost use Rattle.mintc_annotate_resolve.specs.Resolution.{of, first_refusal, refusal_of, of_each, of_every, of_instance, leaf_called, resolved};
+ghost use Rattle.mintc_annotate_resolve.specs.Resolution.{of, first_refusal, refusal_of, of_each, of_every};
+ghost use Rattle.mintc_annotate_resolve.specs.Resolution.{of_instance, leaf_called, resolved};
 ghost use Rattle.mintc_annotate_resolve.specs.declared.targets.Resolved.TheVariants as answer;
 ghost use Rattle.mintc_annotate_resolve.specs.Targets.{targets_of, resolved_of};
 ghost use Rattle.mintc_annotate_resolve.specs.Instances.{IsAt};
 ghost use Rattle.mintc_annotate_resolve.specs.Lookups.{IsLookup};
 ghost use Rattle.mintc_annotate_delays.specs.Ranges.{HasRoom, HasRanges, AreRanges};
-ghost use Rattle.mintc_annotate_delays.specs.Gathered.{AreGrouped, IsGroupedIn, HasPlaceOf, IsTakenIn};
+ghost use Rattle.mintc_annotate_delays.specs.Gathered.{AreGrouped, IsGroupedIn, HasPlaceOf, IsTakenIn, path_of};
 
 use crate::ranges::Ranges;
 use mintc_annotate_resolve::{
@@ -37,7 +39,8 @@ fn apply_target(
     greatest: i64,
 ) -> Result<(), OutOfMemory>
     requires { HasPlaceOf ranges.old (answer.Of annotated) }
-    ensures { OnOk result ((entry : ℕ) → IsTakenIn entry (of (targets_of annotated)) least greatest ranges.old ranges.new) }
+    ensures { OnOk result ((entry : ℕ) →
+        IsTakenIn entry (of (targets_of annotated)) least greatest ranges.old ranges.new) }
 {
     let Some(target) = annotated else {
         return Ok(());
@@ -49,19 +52,15 @@ fn apply_target(
 /// Takes in what a delay annotates.
 fn apply_resolved(ranges: &mut Ranges, resolved: Resolved, delay: &Delay) -> Result<(), Stop>
     requires { HasPlaceOf ranges.old resolved }
-    ensures ok { OnOk result (IsTakenIn delay.now.entry (resolved_of resolved) delay.now.least delay.now.greatest ranges.old ranges.new) }
+    ensures ok { OnOk result
+        (IsTakenIn delay.now.entry (resolved_of resolved) delay.now.least delay.now.greatest ranges.old ranges.new) }
     ensures err { IfErr result (StopsAt (λ refused. refusal_of delay.now.entry (resolved_of resolved) ≡ Some refused)) }
 {
     match resolved {
-        Resolved::Of(annotated) => match apply_target(
-            ranges,
-            annotated,
-            delay.least,
-            delay.greatest,
-        ) {
-            Ok(()) => Ok(()),
-            Err(_) => Err(Stop::OutOfMemory),
-        },
+        Resolved::Of(annotated) => {
+            apply_target(ranges, annotated, delay.least, delay.greatest)?;
+            Ok(())
+        }
         Resolved::NoInstance => Err(Stop::Refused(Refusal::NoInstance {
             role: Role::Delays,
             entry: delay.entry,
@@ -78,10 +77,16 @@ fn apply_at_leaves(
     delay: &Delay,
 ) -> Result<(), Stop>
     requires lookup { IsLookup lookup.now }
-    requires room { HasRoom (length lookup.now.hierarchy.now.inner) (length lookup.now.hierarchy.now.leaves) ranges.old }
-    requires leaves { (k : ℕ) → k < length leaves.now → slice_index_or leaves.now k 0 < length lookup.now.hierarchy.now.leaves }
-    ensures ok { OnOk result (IsTakenIn delay.now.entry (of_each lookup.now.hierarchy.now lookup.now.cells.now delay.now.subject leaves.now) delay.now.least delay.now.greatest ranges.old ranges.new) }
-    ensures err { IfErr result (StopsAt (λ refused. refusal_of delay.now.entry (of_each lookup.now.hierarchy.now lookup.now.cells.now delay.now.subject leaves.now) ≡ Some refused)) }
+    requires room { HasRoom (length lookup.now.hierarchy.now.inner)
+        (length lookup.now.hierarchy.now.leaves) ranges.old }
+    requires leaves { (k : ℕ) → k < length leaves.now →
+        slice_index_or leaves.now k 0 < length lookup.now.hierarchy.now.leaves }
+    ensures ok { OnOk result
+        (IsTakenIn delay.now.entry (of_each lookup.now.hierarchy.now lookup.now.cells.now delay.now.subject leaves.now)
+        delay.now.least delay.now.greatest ranges.old ranges.new) }
+    ensures err { IfErr result
+        (StopsAt (λ refused. refusal_of delay.now.entry
+        (of_each lookup.now.hierarchy.now lookup.now.cells.now delay.now.subject leaves.now) ≡ Some refused)) }
 {
     for number in 0..leaves.len() {
         let resolved = at_leaf(
@@ -90,10 +95,7 @@ fn apply_at_leaves(
             leaves[number],
             &delay.subject,
         );
-        match apply_resolved(ranges, resolved, delay) {
-            Ok(()) => {}
-            Err(stop) => return Err(stop),
-        }
+        apply_resolved(ranges, resolved, delay)?;
     }
     Ok(())
 }
@@ -126,10 +128,16 @@ fn apply_at_instance(
     delay: &Delay,
 ) -> Result<(), Stop>
     requires lookup { IsLookup lookup.now }
-    requires room { HasRoom (length lookup.now.hierarchy.now.inner) (length lookup.now.hierarchy.now.leaves) ranges.old }
+    requires room { HasRoom (length lookup.now.hierarchy.now.inner)
+        (length lookup.now.hierarchy.now.leaves) ranges.old }
     requires instance { IsAt lookup.now.hierarchy.now path.now instance }
-    ensures ok { OnOk result (IsTakenIn delay.now.entry (of_instance lookup.now.hierarchy.now lookup.now.cells.now path.now delay.now.subject (leaf_called lookup.now.hierarchy.now path.now)) delay.now.least delay.now.greatest ranges.old ranges.new) }
-    ensures err { IfErr result (StopsAt (λ refused. refusal_of delay.now.entry (of_instance lookup.now.hierarchy.now lookup.now.cells.now path.now delay.now.subject (leaf_called lookup.now.hierarchy.now path.now)) ≡ Some refused)) }
+    ensures ok { OnOk result
+        (IsTakenIn delay.now.entry (of_instance lookup.now.hierarchy.now lookup.now.cells.now path.now delay.now.subject
+        (leaf_called lookup.now.hierarchy.now path.now)) delay.now.least delay.now.greatest ranges.old ranges.new) }
+    ensures err { IfErr result
+        (StopsAt (λ refused. refusal_of delay.now.entry
+        (of_instance lookup.now.hierarchy.now lookup.now.cells.now path.now delay.now.subject
+        (leaf_called lookup.now.hierarchy.now path.now)) ≡ Some refused)) }
 {
     let resolved = lookup.at_instance(key, instance, path, &delay.subject)?;
     apply_resolved(ranges, resolved, delay)
@@ -145,9 +153,15 @@ fn apply_at_cell_type(
     requires lookup { IsLookup lookup.now }
     requires groups { AreGrouped lookup.now.hierarchy.now (length lookup.now.cells.now) groups.now }
     requires cells { AreOrdered lookup.now.cells.now }
-    requires room { HasRoom (length lookup.now.hierarchy.now.inner) (length lookup.now.hierarchy.now.leaves) ranges.old }
-    ensures ok { OnOk result (IsTakenIn delay.now.entry (of_every lookup.now.hierarchy.now lookup.now.cells.now delay.now.celltype delay.now.subject) delay.now.least delay.now.greatest ranges.old ranges.new) }
-    ensures err { IfErr result (StopsAt (λ refused. refusal_of delay.now.entry (of_every lookup.now.hierarchy.now lookup.now.cells.now delay.now.celltype delay.now.subject) ≡ Some refused)) }
+    requires room { HasRoom (length lookup.now.hierarchy.now.inner)
+        (length lookup.now.hierarchy.now.leaves) ranges.old }
+    ensures ok { OnOk result
+        (IsTakenIn delay.now.entry
+        (of_every lookup.now.hierarchy.now lookup.now.cells.now delay.now.celltype delay.now.subject) delay.now.least
+        delay.now.greatest ranges.old ranges.new) }
+    ensures err { IfErr result
+        (StopsAt (λ refused. refusal_of delay.now.entry
+        (of_every lookup.now.hierarchy.now lookup.now.cells.now delay.now.celltype delay.now.subject) ≡ Some refused)) }
 {
     match &delay.subject {
         Subject::Interconnect { .. } => Err(Stop::Refused(Refusal::NoInstance {
@@ -161,7 +175,18 @@ fn apply_at_cell_type(
     }
 }
 
-/// Takes in a delay; where the path of the next may begin.
+/// The path of the one instance of a place, where it isn't every instance.
+fn path_of(place: &Place) -> Option<&[Name]>
+    ensures { MatchOption result (path_of place.now ≡ None) (λ path. path_of place.now ≡ Some path.now) }
+{
+    match place {
+        Place::Every => None,
+        Place::Top => Some(&[]),
+        Place::Path(path) => Some(path.items()),
+    }
+}
+
+/// Takes in a delay, and gives the instance at which it was looked for, or else the last.
 fn apply_delay<'a>(
     lookup: &Lookup<'_>,
     groups: &[Vec<u32>],
@@ -173,36 +198,26 @@ fn apply_delay<'a>(
     requires lookup { IsLookup lookup.now }
     requires groups { AreGrouped lookup.now.hierarchy.now (length lookup.now.cells.now) groups.now }
     requires cells { AreOrdered lookup.now.cells.now }
-    requires room { HasRoom (length lookup.now.hierarchy.now.inner) (length lookup.now.hierarchy.now.leaves) ranges.old }
+    requires room { HasRoom (length lookup.now.hierarchy.now.inner)
+        (length lookup.now.hierarchy.now.leaves) ranges.old }
     requires last { IsAt lookup.now.hierarchy.now last.path.now last.instance }
-    ensures ok { OnOk result (IsTakenIn delay.now.entry (resolved lookup.now.hierarchy.now lookup.now.cells.now delay.now) delay.now.least delay.now.greatest ranges.old ranges.new) }
+    ensures ok { OnOk result
+        (IsTakenIn delay.now.entry (resolved lookup.now.hierarchy.now lookup.now.cells.now delay.now) delay.now.least
+        delay.now.greatest ranges.old ranges.new) }
     ensures stands { IfOk result (λ s. IsAt lookup.now.hierarchy.now s.path.now s.instance) }
-    ensures err { IfErr result (StopsAt (λ refused. refusal_of delay.now.entry (resolved lookup.now.hierarchy.now lookup.now.cells.now delay.now) ≡ Some refused)) }
+    ensures err { IfErr result
+        (StopsAt (λ refused. refusal_of delay.now.entry
+        (resolved lookup.now.hierarchy.now lookup.now.cells.now delay.now) ≡ Some refused)) }
 {
-    match &delay.place {
-        Place::Every => match apply_at_cell_type(lookup, groups, ranges, delay) {
-            Ok(()) => Ok(last),
-            Err(stop) => Err(stop),
-        },
-        Place::Top => {
-            let top = PathInstance {
-                path: &[],
-                instance: Instance {
-                    scope: Some(0),
-                    leaf: None,
-                },
-            };
-            match apply_at_instance(lookup, ranges, key, top.instance, top.path, delay) {
-                Ok(()) => Ok(top),
-                Err(stop) => Err(stop),
-            }
+    match path_of(&delay.place) {
+        None => {
+            apply_at_cell_type(lookup, groups, ranges, delay)?;
+            Ok(last)
         }
-        Place::Path(path) => {
-            let next = instance_at(lookup, key, last, path.items())?;
-            match apply_at_instance(lookup, ranges, key, next.instance, next.path, delay) {
-                Ok(()) => Ok(next),
-                Err(stop) => Err(stop),
-            }
+        Some(path) => {
+            let next = instance_at(lookup, key, last, path)?;
+            apply_at_instance(lookup, ranges, key, next.instance, next.path, delay)?;
+            Ok(next)
         }
     }
 }
@@ -218,10 +233,13 @@ fn apply_all(
     requires lookup { IsLookup lookup.now }
     requires groups { AreGrouped lookup.now.hierarchy.now (length lookup.now.cells.now) groups.now }
     requires cells { AreOrdered lookup.now.cells.now }
-    requires room { HasRoom (length lookup.now.hierarchy.now.inner) (length lookup.now.hierarchy.now.leaves) ranges.old }
+    requires room { HasRoom (length lookup.now.hierarchy.now.inner)
+        (length lookup.now.hierarchy.now.leaves) ranges.old }
     requires empty { HasRanges ranges.old [] }
-    ensures ok { OnOk result (AreRanges lookup.now.hierarchy.now lookup.now.cells.now delays.now ranges.new × (first_refusal lookup.now.hierarchy.now lookup.now.cells.now delays.now ≡ None)) }
-    ensures err { IfErr result (StopsAt (λ refused. first_refusal lookup.now.hierarchy.now lookup.now.cells.now delays.now ≡ Some refused)) }
+    ensures ok { OnOk result (AreRanges lookup.now.hierarchy.now lookup.now.cells.now delays.now ranges.new
+        × (first_refusal lookup.now.hierarchy.now lookup.now.cells.now delays.now ≡ None)) }
+    ensures err { IfErr result
+        (StopsAt (λ refused. first_refusal lookup.now.hierarchy.now lookup.now.cells.now delays.now ≡ Some refused)) }
 {
     let mut key = Vec::new(alloc);
     let mut last = PathInstance {
@@ -232,10 +250,7 @@ fn apply_all(
         },
     };
     for number in 0..delays.len() {
-        match apply_delay(lookup, groups, ranges, &mut key, last, &delays[number]) {
-            Ok(next) => last = next,
-            Err(stop) => return Err(stop),
-        }
+        last = apply_delay(lookup, groups, ranges, &mut key, last, &delays[number])?;
     }
     Ok(())
 }
@@ -281,7 +296,8 @@ pub fn gather_ranges(
 ) -> Result<Ranges, Stop>
     requires shape { IsFlattened cells.now hierarchy.now }
     requires names { names.now ≡ all_names hierarchy.now }
-    ensures { MatchResult result (λ r. AreRanges hierarchy.now cells.now delays.now r × (first_refusal hierarchy.now cells.now delays.now ≡ None))
+    ensures { MatchResult result (λ r. AreRanges hierarchy.now cells.now delays.now r
+        × (first_refusal hierarchy.now cells.now delays.now ≡ None))
         (StopsAt (λ refused. first_refusal hierarchy.now cells.now delays.now ≡ Some refused)) }
 {
     let cell_count = cells.count();
@@ -299,8 +315,6 @@ pub fn gather_ranges(
         places,
         instances,
     };
-    match apply_all(alloc, &lookup, &groups, &mut ranges, delays) {
-        Ok(()) => Ok(ranges),
-        Err(stop) => Err(stop),
-    }
+    apply_all(alloc, &lookup, &groups, &mut ranges, delays)?;
+    Ok(ranges)
 }

@@ -1,16 +1,18 @@
 //! The least and the greatest of all numbers that annotate a target.
 ghost use Rattle.std.specs.Prelude.{◌≡◌, ◌<◌, ℕ, [], cond, None, Some, length, slice_index_or, IfOk, OnOk};
-ghost use Rattle.mintc_annotate_resolve.specs.Resolution.{path_on, join_into, arcs_from, dq_of, cq_of, setup_of, hold_of, width_of, widened};
+ghost use Rattle.mintc_annotate_resolve.specs.Resolution.{path_on, join_into, arcs_from, dq_of, cq_of, setup_of};
+ghost use Rattle.mintc_annotate_resolve.specs.Resolution.{hold_of, width_of, widened};
 ghost use Rattle.mintc_annotate_resolve.specs.Targets.{target_of};
-ghost use Rattle.mintc_annotate_delays.specs.Ranges.{look, path_at, same_key, AreUnannotated, IsWidenedAt, HasRoom, HasRanges, HasPlace, IsWidened, IsSameRoom};
+ghost use Rattle.mintc_annotate_delays.specs.Ranges.{look, path_at, same_key, AreUnannotated, IsWidenedAt, HasRoom};
+ghost use Rattle.mintc_annotate_delays.specs.Ranges.{HasRanges, HasPlace, IsWidened, IsSameRoom};
 
 use mintc_annotate_resolve::Target;
 use mintc_text::OutOfMemory;
 use std::alloc::Global;
 use std::collections::HashMap;
 
-/// The least and the greatest number that annotates each target: of gates by their leaf and two pins, of joins and of the
-/// arcs that leave ports by their bit, of latches and flops by their leaf.
+/// The least and the greatest number that annotates each target: of gates by their leaf and two pins, of joins and
+/// of the arcs that leave ports by their bit, of latches and flops by their leaf.
 #[derive(Drop)]
 pub struct Ranges {
     paths: HashMap<(u32, u32, u32), (i64, i64)>,
@@ -56,7 +58,9 @@ fn widen_path(
     least: i64,
     greatest: i64,
 ) -> Result<(), OutOfMemory>
-    ensures { OnOk result ((k : ℕ × ℕ × ℕ) → path_at paths.new k ≡ cond (same_key key k) (Some (widened least greatest (path_at paths.old k))) (path_at paths.old k)) }
+    ensures { OnOk result ((k : ℕ × ℕ × ℕ) →
+        path_at paths.new k ≡ cond (same_key key k) (Some (widened least greatest (path_at paths.old k)))
+        (path_at paths.old k)) }
 {
     let range = widen_range(paths.get(&key).copied(), least, greatest);
     paths.insert(key, range)?;

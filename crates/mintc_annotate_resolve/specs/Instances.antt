@@ -1,5 +1,6 @@
 -- Instances by their names: what an index of them holds.
-use Rattle.std.specs.Prelude.{◌≡◌, ◌<◌, ℕ, ◌/◌, ◌%◌, List, [], ◌∷◌, ◌++◌, length, slice_index_or, position, Option, Some, bytes_eq, Vec}
+use Rattle.std.specs.Prelude.{◌≡◌, ◌<◌, ℕ, ◌/◌, ◌%◌, List, [], ◌∷◌, ◌++◌, length, slice_index_or, position, Option}
+use Rattle.std.specs.Prelude.{Some, bytes_eq, Vec}
 use Rattle.std.specs.List.{range_with_len}
 use Rattle.std.specs.HashMap.{HashMap, get_by}
 use Rattle.std.specs.Global.{Global}
@@ -26,6 +27,7 @@ module _ {S : Type 0} where
 abbrev pub called : (ℕ → List (List ℕ)) → ℕ → List (List ℕ) → Option ℕ
 called paths count path = position (λ n. same_path (paths n) path) (range_with_len 0 count)
 
+-- the first scope of a path
 abbrev pub scope_called : Hierarchy → List (List ℕ) → Option ℕ
 scope_called h path = called (scope_path h) (length h.scopes) path
 
@@ -41,7 +43,8 @@ pub record AreFirst (h : Hierarchy) (count : ℕ) (firsts : List ℕ) : Type 0 w
 module _ {S : Type 0} where
   -- the map has what stands in each scope, of the first so many
   abbrev pub AreSeen : Hierarchy → (ℕ → List (List ℕ)) → ℕ → HashMap (Vec ℕ Global) ℕ S → Type 0
-  AreSeen h paths count m = (s : ℕ) → IsFirst h s → (name : List ℕ) → IsKey (key_of s name) → seen m (key_of s name) ≡ called paths count (scope_path h s ++ name ∷ [])
+  AreSeen h paths count m = (s : ℕ) → IsFirst h s → (name : List ℕ) → IsKey (key_of s name) →
+      seen m (key_of s name) ≡ called paths count (scope_path h s ++ name ∷ [])
 
 -- all scopes and leaves by their names
 pub record AreIndexed (h : Hierarchy) (index : Instances) : Type 0 where

@@ -1,5 +1,7 @@
 -- The fronts of the names in scopes.
-use Rattle.std.specs.Prelude.{◌≡◌, ◌<◌, ℕ, List, [], ◌∷◌, ◌++◌, length, flat_map, slice_index_or, if◌then◌else◌, ◌==◌, ◌≤◌, All}
+use Rattle.std.specs.Prelude.{◌≡◌, ◌<◌, ℕ, List, [], ◌∷◌, ◌++◌, length, flat_map, slice_index_or, if◌then◌else◌, ◌==◌}
+use Rattle.std.specs.Prelude.{◌≤◌, All}
+use Rattle.mintc_text.specs.Signs.{dot}
 use Rattle.mintc_flatten_hierarchy.specs.declared.hierarchy.Hierarchy.{Hierarchy}
 use Rattle.mintc_flatten_hierarchy.specs.declared.hierarchy.Scope.{Scope}
 use Rattle.mintc_flatten_hierarchy.specs.Shape.{IsInner}
@@ -7,7 +9,7 @@ use Rattle.mintc_annotate_resolve.specs.Pins.{scope_path}
 
 -- the names of a path, each with a point behind it
 abbrev pub front_of : List (List ℕ) → List ℕ
-front_of path = flat_map (λ n. n ++ 46 ∷ []) path
+front_of path = flat_map (λ n. n ++ dot ∷ []) path
 
 -- the fronts of the names in the first so many scopes
 pub record AreFronts (h : Hierarchy) (count : ℕ) (fronts : List (List ℕ)) : Type 0 where
@@ -16,7 +18,9 @@ pub record AreFronts (h : Hierarchy) (count : ℕ) (fronts : List (List ℕ)) : 
 
 -- the front of a scope, by those of the scopes before it
 abbrev pub next_front : List (List ℕ) → ℕ → Scope → List ℕ
-next_front fronts number scope = if number == 0 then [] else slice_index_or fronts scope.parent [] ++ scope.name ++ 46 ∷ []
+next_front fronts number scope = if number == 0 then [] else slice_index_or fronts scope.parent [] ++ scope.name
+    ++ dot ∷
+    []
 
 -- each scope has its parent before it, each leaf its scope and each bit its scope or leaf
 pub record HasNames (h : Hierarchy) : Type 0 where

@@ -1,5 +1,6 @@
 -- The bits of ports by their texts.
-use Rattle.std.specs.Prelude.{◌≡◌, ℕ, ◌==◌, ◌&&◌, if◌then◌else◌, List, [], length, map, find, slice_index_or, Option, Some, None, bytes_eq, Vec}
+use Rattle.std.specs.Prelude.{◌≡◌, ℕ, ◌==◌, ◌&&◌, if◌then◌else◌, List, [], length, map, find, slice_index_or, Option}
+use Rattle.std.specs.Prelude.{Some, None, bytes_eq, Vec}
 use Rattle.std.specs.Global.{Global}
 use Rattle.std.specs.HashMap.{HashMap, get_by}
 use Rattle.mintc_flatten_hierarchy.specs.declared.hierarchy.Hierarchy.{Hierarchy}
@@ -27,7 +28,8 @@ only text place k = if bytes_eq text k then Some place else None
 
 -- the place that a port gives its whole name
 abbrev pub whole_of : TopPort → List ℕ → Option PortBit
-whole_of port k = if bytes_eq port.name k && (length port.bits == 1) then Some (port_bit port.output (slice_index_or port.bits 0 0)) else None
+whole_of port k = if bytes_eq port.name k && (length port.bits == 1)
+    then Some (port_bit port.output (slice_index_or port.bits 0 0)) else None
 
 -- the place that some bits of a port give
 abbrev pub among_bits : List (List ℕ) → TopPort → List ℕ → List ℕ → Option PortBit

@@ -2,11 +2,14 @@
 use Rattle.std.specs.Prelude.{◌≡◌, ◌<◌, List, [], ◌∷◌, length, Option, Some, None}
 use Rattle.mintc_flatten_hierarchy.specs.declared.hierarchy.Hierarchy.{Hierarchy}
 use Rattle.mintc_annotate_resolve.specs.declared.targets.Target.{Target as Annotated}
-use Rattle.mintc_annotate_resolve.specs.declared.targets.Target.TheVariants.{PathOn, JoinInto, ArcsFrom, DqOf, CqOf, SetupOf, HoldOf, WidthOf}
+use Rattle.mintc_annotate_resolve.specs.declared.targets.Target.TheVariants.{PathOn, JoinInto, ArcsFrom, DqOf, CqOf}
+use Rattle.mintc_annotate_resolve.specs.declared.targets.Target.TheVariants.{SetupOf, HoldOf, WidthOf}
 use Rattle.mintc_annotate_resolve.specs.declared.targets.Resolved.{Resolved as Answer}
 use Rattle.mintc_annotate_resolve.specs.declared.targets.Resolved.TheVariants as answer
-use Rattle.mintc_annotate_resolve.specs.Resolution.{Target, path_on, join_into, arcs_from, dq_of, cq_of, setup_of, hold_of, width_of, Resolved, of, no_instance, no_arc}
+use Rattle.mintc_annotate_resolve.specs.Resolution.{Target, path_on, join_into, arcs_from, dq_of, cq_of, setup_of}
+use Rattle.mintc_annotate_resolve.specs.Resolution.{hold_of, width_of, Resolved, of, no_instance, no_arc}
 
+-- the target that the code has
 abbrev pub target_of : Annotated → Target
 target_of (PathOn leaf from to) = path_on leaf from to
 target_of (JoinInto bit) = join_into bit
@@ -17,10 +20,12 @@ target_of (SetupOf leaf) = setup_of leaf
 target_of (HoldOf leaf) = hold_of leaf
 target_of (WidthOf leaf) = width_of leaf
 
+-- the target that the code has, if any
 abbrev pub targets_of : Option Annotated → List Target
 targets_of None = []
 targets_of (Some annotated) = target_of annotated ∷ []
 
+-- the answer that the code has
 abbrev pub resolved_of : Answer → Resolved
 resolved_of (answer.Of annotated) = of (targets_of annotated)
 resolved_of answer.NoInstance = no_instance
@@ -37,6 +42,7 @@ IsThere h (SetupOf leaf) = leaf < length h.leaves
 IsThere h (HoldOf leaf) = leaf < length h.leaves
 IsThere h (WidthOf leaf) = leaf < length h.leaves
 
+-- the bit or the leaf of an answer is there
 abbrev pub AreThere : Hierarchy → Answer → Type 0
 AreThere h (answer.Of None) = Unit {0}
 AreThere h (answer.Of (Some annotated)) = IsThere h annotated

@@ -1,10 +1,12 @@
 //! Instances by their names.
-ghost use Rattle.std.specs.Prelude.{◌≡◌, ◌<◌, ◌≤◌, ◌^◌, ℕ, List, [], ◌∷◌, ◌++◌, length, cond, unwrap_or, bytes_eq, Some, None, IfOk, OnOk, is_some, ◌||◌};
+ghost use Rattle.std.specs.Prelude.{◌≡◌, ◌<◌, ◌≤◌, ◌^◌, ℕ, List, [], ◌∷◌, ◌++◌, length, cond, unwrap_or, bytes_eq};
+ghost use Rattle.std.specs.Prelude.{Some, None, IfOk, OnOk, is_some, ◌||◌};
 ghost use Rattle.mintc_flatten_hierarchy.specs.declared.hierarchy.Hierarchy.{Hierarchy};
 ghost use Rattle.mintc_annotate_resolve.specs.Names.{HasNames};
 ghost use Rattle.mintc_annotate_resolve.specs.Pins.{scope_path, leaf_path};
 ghost use Rattle.mintc_annotate_resolve.specs.Resolution.{same_path, leaf_called};
-ghost use Rattle.mintc_annotate_resolve.specs.Instances.{key_of, IsKey, seen, scope_called, AreFirst, AreSeen, AreIndexed, IsAt};
+ghost use Rattle.mintc_annotate_resolve.specs.Instances.{key_of, IsKey, seen, scope_called, AreFirst, AreSeen};
+ghost use Rattle.mintc_annotate_resolve.specs.Instances.{AreIndexed, IsAt};
 
 use mintc_flatten_hierarchy::Hierarchy;
 use mintc_text::{Name, OutOfMemory};
@@ -14,7 +16,8 @@ use std::collections::HashMap;
 /// Numbers by the scope in which they stand and their names there.
 type Children = HashMap<Vec<u8>, u32>;
 
-/// The scopes and the leaves of a hierarchy by their names. A scope stands for all that have its path, and it is the first of these.
+/// The scopes and the leaves of a hierarchy by their names. A scope stands for all that have its path, and it is
+/// the first of these.
 #[derive(Drop)]
 pub struct Instances {
     scopes: Children,
@@ -87,8 +90,10 @@ fn note(
     name: &[u8],
     number: u32,
 ) -> Result<u32, OutOfMemory>
-    ensures first { IfOk result (λ n. IsKey (key_of scope name.now) × (n ≡ unwrap_or (seen children.old (key_of scope name.now)) number)) }
-    ensures seen { IfOk result (λ n. (k : List ℕ) → IsKey k → seen children.new k ≡ cond (bytes_eq (key_of scope name.now) k) (Some n) (seen children.old k)) }
+    ensures first { IfOk result (λ n. IsKey (key_of scope name.now)
+        × (n ≡ unwrap_or (seen children.old (key_of scope name.now)) number)) }
+    ensures seen { IfOk result (λ n. (k : List ℕ) → IsKey k →
+        seen children.new k ≡ cond (bytes_eq (key_of scope name.now) k) (Some n) (seen children.old k)) }
 {
     let mut key = Vec::new(alloc);
     write_key(&mut key, scope, name)?;
@@ -110,7 +115,8 @@ fn note_scopes(
     requires few { length hierarchy.now.scopes < 2 ^ 32 }
     requires empty { (k : List ℕ) → seen children.old k ≡ None }
     ensures firsts { IfOk result (λ v. AreFirst hierarchy.now (length hierarchy.now.scopes) v.items) }
-    ensures seen { OnOk result (AreSeen hierarchy.now (scope_path hierarchy.now) (length hierarchy.now.scopes) children.new) }
+    ensures seen { OnOk result
+        (AreSeen hierarchy.now (scope_path hierarchy.now) (length hierarchy.now.scopes) children.new) }
 {
     let scopes = hierarchy.scopes.items();
     let mut firsts = Vec::new(alloc);
@@ -169,7 +175,8 @@ impl Instances {
         scope: Option<u32>,
         name: &[u8],
     ) -> Result<Option<u32>, OutOfMemory>
-        ensures { IfOk result (λ o. (h : Hierarchy) (base : List (List ℕ)) → HasNames h → AreIndexed h self.now → scope ≡ scope_called h base → o ≡ scope_called h (base ++ name.now ∷ [])) }
+        ensures { IfOk result (λ o. (h : Hierarchy) (base : List (List ℕ)) → HasNames h → AreIndexed h self.now →
+            scope ≡ scope_called h base → o ≡ scope_called h (base ++ name.now ∷ [])) }
     {
         match scope {
             Some(number) => find(&self.scopes, key, number, name),
@@ -184,7 +191,8 @@ impl Instances {
         scope: Option<u32>,
         name: &[u8],
     ) -> Result<Option<u32>, OutOfMemory>
-        ensures { IfOk result (λ o. (h : Hierarchy) (base : List (List ℕ)) → HasNames h → AreIndexed h self.now → scope ≡ scope_called h base → o ≡ leaf_called h (base ++ name.now ∷ [])) }
+        ensures { IfOk result (λ o. (h : Hierarchy) (base : List (List ℕ)) → HasNames h → AreIndexed h self.now →
+            scope ≡ scope_called h base → o ≡ leaf_called h (base ++ name.now ∷ [])) }
     {
         match scope {
             Some(number) => find(&self.leaves, key, number, name),
@@ -199,7 +207,8 @@ impl Instances {
         scope: Option<u32>,
         path: &[Name],
     ) -> Result<Option<u32>, OutOfMemory>
-        ensures { IfOk result (λ o. (h : Hierarchy) (base : List (List ℕ)) → HasNames h → AreIndexed h self.now → scope ≡ scope_called h base → o ≡ scope_called h (base ++ path.now)) }
+        ensures { IfOk result (λ o. (h : Hierarchy) (base : List (List ℕ)) → HasNames h → AreIndexed h self.now →
+            scope ≡ scope_called h base → o ≡ scope_called h (base ++ path.now)) }
     {
         let mut found = scope;
         for name in path {
@@ -216,7 +225,8 @@ impl Instances {
         path: &[Name],
     ) -> Result<Option<u32>, OutOfMemory>
         requires { 1 ≤ length path.now }
-        ensures { IfOk result (λ o. (h : Hierarchy) (base : List (List ℕ)) → HasNames h → AreIndexed h self.now → scope ≡ scope_called h base → o ≡ leaf_called h (base ++ path.now)) }
+        ensures { IfOk result (λ o. (h : Hierarchy) (base : List (List ℕ)) → HasNames h → AreIndexed h self.now →
+            scope ≡ scope_called h base → o ≡ leaf_called h (base ++ path.now)) }
     {
         let last = path.len() - 1;
         let parent = self.scope_below(key, scope, &path[..last])?;
@@ -225,7 +235,8 @@ impl Instances {
 
     /// The scope and the leaf that a path names.
     pub fn instance(&self, key: &mut Vec<u8>, path: &[Name]) -> Result<Instance, OutOfMemory>
-        ensures { IfOk result (λ i. (h : Hierarchy) → HasNames h → 1 ≤ length h.scopes → AreIndexed h self.now → IsAt h path.now i) }
+        ensures { IfOk result (λ i. (h : Hierarchy) → HasNames h → 1 ≤ length h.scopes → AreIndexed h self.now →
+            IsAt h path.now i) }
     {
         if path.is_empty() {
             return Ok(Instance {

@@ -1,8 +1,9 @@
 //! What the bits and ports of a hierarchy are called, and of what a delay annotates.
 //!
-//! A delay names an instance by its path, and there a pin or a port. What it then annotates is a target: the arc of a gate, the join
-//! into a pin, or one of the numbers of a latch or flop. The definitions are those of specs/Speaking.antt. The crates above get the
-//! target that one delay annotates at one instance, if any, or that it names nothing.
+//! A delay names an instance by its path, and there a pin or a port. What it then annotates is a target: the arc of
+//! a gate, the join into a pin, or one of the numbers of a latch or flop. The definitions are those of
+//! specs/Resolution.antt. The crates above get the target that one delay annotates at one instance, if any, or that
+//! it names nothing.
 #![tactic(auto)]
 
 mod instances;

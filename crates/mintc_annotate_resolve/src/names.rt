@@ -70,12 +70,8 @@ fn scope_fronts(alloc: Global, hierarchy: &Hierarchy) -> Result<Vec<Name>, OutOf
     let mut found = Vec::new(alloc);
     for number in 0..scopes.len() {
         let scope = &scopes[number];
-        let Ok(name) = front(alloc, &found, number, scope) else {
-            return Err(OutOfMemory);
-        };
-        let Ok(()) = found.push(name) else {
-            return Err(OutOfMemory);
-        };
+        let name = front(alloc, &found, number, scope)?;
+        found.push(name)?;
     }
     Ok(found)
 }
@@ -121,12 +117,8 @@ pub fn inner_names(alloc: Global, hierarchy: &Hierarchy) -> Result<Vec<Name>, Ou
     let inner = hierarchy.inner.items();
     let mut names = Vec::new(alloc);
     for number in 0..inner.len() {
-        let Ok(name) = name_of_bit(alloc, hierarchy, &fronts, &inner[number]) else {
-            return Err(OutOfMemory);
-        };
-        let Ok(()) = names.push(name) else {
-            return Err(OutOfMemory);
-        };
+        let name = name_of_bit(alloc, hierarchy, &fronts, &inner[number])?;
+        names.push(name)?;
     }
     Ok(names)
 }

@@ -75,7 +75,8 @@ fn note_bits(
     port: &TopPort,
 ) -> Result<(), OutOfMemory>
     requires { All (λ b. b < length names.now) port.now.bits }
-    ensures { OnOk result (HasPlaces places.new (λ k. option_or (place_at places.old k) (among_bits names.now port.now port.now.bits k))) }
+    ensures { OnOk result
+        (HasPlaces places.new (λ k. option_or (place_at places.old k) (among_bits names.now port.now port.now.bits k))) }
 {
     let bits = port.bits.items();
     for number in 0..bits.len() {
@@ -101,7 +102,8 @@ fn note_all_bits(
     ports: &[TopPort],
 ) -> Result<(), OutOfMemory>
     requires { AreInside (length names.now) ports.now }
-    ensures { OnOk result (HasPlaces places.new (λ k. option_or (place_at places.old k) (bit_called names.now ports.now k))) }
+    ensures { OnOk result
+        (HasPlaces places.new (λ k. option_or (place_at places.old k) (bit_called names.now ports.now k))) }
 {
     for number in 0..ports.len() {
         note_bits(places, alloc, names, &ports[number])?;

@@ -37,7 +37,8 @@ fn whole_port(ports: &[TopPort], text: &[u8]) -> Option<PortBit>
 /// The bit of a port that is called so.
 fn bit_of(names: &[Name], port: &TopPort, text: &[u8]) -> Option<PortBit>
     requires { All (λ b. b < length names.now) port.now.bits }
-    ensures { result ≡ find (λ p. bytes_eq (slice_index_or names.now p.bit []) text.now) (map (port_bit port.now.output) port.now.bits) }
+    ensures { result ≡ find (λ p. bytes_eq (slice_index_or names.now p.bit []) text.now)
+        (map (port_bit port.now.output) port.now.bits) }
 {
     let bits = port.bits.items();
     for number in 0..bits.len() {

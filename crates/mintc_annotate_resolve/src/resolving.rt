@@ -17,7 +17,8 @@ use mintc_sdf::Subject;
 use mintc_text::{Name, OutOfMemory};
 use std::collections::HashMap;
 
-/// What delays may annotate: a hierarchy with its cells, the bits of its ports by their texts, and its instances by their names.
+/// What delays may annotate: a hierarchy with its cells, the bits of its ports by their texts, and its instances by
+/// their names.
 #[derive(Drop)]
 pub struct Lookup<'a> {
     pub hierarchy: &'a Hierarchy,
@@ -30,7 +31,8 @@ impl Lookup<'_> {
     /// What a wire to a text of the top annotates.
     fn to_port(&self, key: &mut Vec<u8>, text: &[u8]) -> Result<Resolved, OutOfMemory>
         requires { IsLookup self.now }
-        ensures { IfOk result (λ s. IsResolved self.now.hierarchy.now s (at_port (place_of self.now.hierarchy.now text.now))) }
+        ensures { IfOk result
+            (λ s. IsResolved self.now.hierarchy.now s (at_port (place_of self.now.hierarchy.now text.now))) }
     {
         let Some(place) = find_place(&self.places, key, text)? else {
             return Ok(Resolved::NoInstance);
@@ -46,7 +48,8 @@ impl Lookup<'_> {
     fn to_pin(&self, leaf: Option<u32>, pin: &[u8]) -> Resolved
         requires lookup { IsLookup self.now }
         requires leaf { IfSome leaf (λ l. l < length self.now.hierarchy.now.leaves) }
-        ensures { IsResolved self.now.hierarchy.now result (at_pin self.now.hierarchy.now self.now.cells.now leaf pin.now) }
+        ensures { IsResolved self.now.hierarchy.now result
+            (at_pin self.now.hierarchy.now self.now.cells.now leaf pin.now) }
     {
         let Some(leaf) = leaf else {
             return Resolved::NoInstance;
@@ -60,7 +63,9 @@ impl Lookup<'_> {
     /// What a wire to the end of a path from the top annotates.
     fn to_end(&self, key: &mut Vec<u8>, path: &[Name]) -> Result<Resolved, OutOfMemory>
         requires { IsLookup self.now }
-        ensures { IfOk result (λ s. IsResolved self.now.hierarchy.now s (of_interconnect self.now.hierarchy.now self.now.cells.now path.now)) }
+        ensures { IfOk result
+            (λ s. IsResolved self.now.hierarchy.now s
+            (of_interconnect self.now.hierarchy.now self.now.cells.now path.now)) }
     {
         if path.is_empty() {
             return Ok(Resolved::NoInstance);
@@ -83,7 +88,9 @@ impl Lookup<'_> {
     ) -> Result<Resolved, OutOfMemory>
         requires lookup { IsLookup self.now }
         requires instance { IsAt self.now.hierarchy.now path.now instance }
-        ensures { IfOk result (λ s. IsResolved self.now.hierarchy.now s (of_interconnect self.now.hierarchy.now self.now.cells.now (path.now ++ to.now))) }
+        ensures { IfOk result
+            (λ s. IsResolved self.now.hierarchy.now s
+            (of_interconnect self.now.hierarchy.now self.now.cells.now (path.now ++ to.now))) }
     {
         if path.is_empty() {
             return self.to_end(key, to);
@@ -103,7 +110,8 @@ impl Lookup<'_> {
     fn at_leaf_of(&self, instance: Instance, subject: &Subject) -> Resolved
         requires lookup { IsLookup self.now }
         requires leaf { IfSome instance.leaf (λ l. l < length self.now.hierarchy.now.leaves) }
-        ensures { IsResolved self.now.hierarchy.now result (of_leaf_at self.now.hierarchy.now self.now.cells.now subject.now instance.leaf) }
+        ensures { IsResolved self.now.hierarchy.now result
+            (of_leaf_at self.now.hierarchy.now self.now.cells.now subject.now instance.leaf) }
     {
         match instance.leaf {
             Some(leaf) => at_leaf(self.hierarchy, self.cells, leaf, subject),
@@ -121,7 +129,10 @@ impl Lookup<'_> {
     ) -> Result<Resolved, OutOfMemory>
         requires lookup { IsLookup self.now }
         requires instance { IsAt self.now.hierarchy.now path.now instance }
-        ensures { IfOk result (λ s. IsResolved self.now.hierarchy.now s (of_instance self.now.hierarchy.now self.now.cells.now path.now (subject.Interconnect to.now) (leaf_called self.now.hierarchy.now path.now))) }
+        ensures { IfOk result
+            (λ s. IsResolved self.now.hierarchy.now s
+            (of_instance self.now.hierarchy.now self.now.cells.now path.now (subject.Interconnect to.now)
+            (leaf_called self.now.hierarchy.now path.now))) }
     {
         if !instance.is_there() {
             return Ok(Resolved::NoInstance);
@@ -139,7 +150,10 @@ impl Lookup<'_> {
     ) -> Result<Resolved, OutOfMemory>
         requires lookup { IsLookup self.now }
         requires instance { IsAt self.now.hierarchy.now path.now instance }
-        ensures { IfOk result (λ s. IsResolved self.now.hierarchy.now s (of_instance self.now.hierarchy.now self.now.cells.now path.now subject.now (leaf_called self.now.hierarchy.now path.now))) }
+        ensures { IfOk result
+            (λ s. IsResolved self.now.hierarchy.now s
+            (of_instance self.now.hierarchy.now self.now.cells.now path.now subject.now
+            (leaf_called self.now.hierarchy.now path.now))) }
     {
         match subject {
             Subject::Interconnect { to } => self.wire(key, instance, path, to.items()),

@@ -11,8 +11,8 @@ use mintc_cells::{Cell, Cells};
 use mintc_flatten_hierarchy::Hierarchy;
 use mintc_sdf::Subject;
 
-/// What a number may annotate: the arc of a gate, the join into a bit, the arcs that leave a bit of a port, or a number of
-/// the latch or flop of a leaf.
+/// What a number may annotate: the arc of a gate, the join into a bit, the arcs that leave a bit of a port, or a
+/// number of the latch or flop of a leaf.
 #[derive(Clone, Copy, Debug)]
 pub enum Target {
     PathOn { leaf: u32, from: u32, to: u32 },
@@ -98,7 +98,8 @@ fn iopath(hierarchy: &Hierarchy, cells: &Cells, leaf: u32, from: &[u8], to: &[u8
 pub(crate) fn input_bit(hierarchy: &Hierarchy, cells: &Cells, leaf: u32, pin: &[u8]) -> Option<u32>
     requires shape { IsFlattened cells.now hierarchy.now }
     requires leaf { leaf < length hierarchy.now.leaves }
-    ensures bit { result ≡ option_map (pin_bit hierarchy.now leaf) (input_pin (leaf_cell hierarchy.now cells.now leaf) pin.now) }
+    ensures bit { result ≡ option_map (pin_bit hierarchy.now leaf)
+        (input_pin (leaf_cell hierarchy.now cells.now leaf) pin.now) }
     ensures there { IfSome result (λ b. b < length hierarchy.now.inner) }
 {
     let instance = &hierarchy.leaves.items()[leaf as usize];
@@ -133,7 +134,8 @@ fn check(
     requires leaf { leaf < length hierarchy.now.leaves }
     requires target { IsThere hierarchy.now target }
     ensures { IsResolved hierarchy.now result
-        (pins_named (option_map (of_check (leaf_cell hierarchy.now cells.now leaf) wanted (target_of target)) (input_pin (leaf_cell hierarchy.now cells.now leaf) pin.now))) }
+        (pins_named (option_map (of_check (leaf_cell hierarchy.now cells.now leaf) wanted (target_of target))
+        (input_pin (leaf_cell hierarchy.now cells.now leaf) pin.now))) }
 {
     let cell = hierarchy.leaves.items()[leaf as usize].cell;
     match input_pin(cells, cell, pin) {

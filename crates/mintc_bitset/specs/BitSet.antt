@@ -2,6 +2,7 @@
 use Rattle.std.specs.Prelude.{◌≡◌, ◌*◌, ◌/◌, ◌%◌, ℕ, List, length, slice_index_or}
 use Rattle.std.specs.Int.{bit_at}
 
+-- Bit `place % 64` of word `place / 64` is set.
 abbrev pub IsIn : List ℕ → ℕ → Type 0
 IsIn words place = bit_at (slice_index_or words (place / 64) 0) (place % 64) ≡ 1
 

@@ -101,7 +101,8 @@ impl BitSet {
     pub fn remove(&mut self, place: usize)
         ensures count { length self.new.words.items ≡ length self.old.words.items }
         ensures removed { IsIn self.new.words.items place → ⊥ }
-        ensures others { (other : ℕ) → other ≢ place → IsIn self.old.words.items other → IsIn self.new.words.items other }
+        ensures others { (other : ℕ) → other ≢ place → IsIn self.old.words.items other →
+            IsIn self.new.words.items other }
         ensures only { (other : ℕ) → IsIn self.new.words.items other → IsIn self.old.words.items other }
     {
         if place / 64 < self.words.len() {

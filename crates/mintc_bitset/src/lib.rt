@@ -1,8 +1,9 @@
 //! A set of places, a bit for each, in words of 64.
 //!
-//! The next place in it is found word by word, so that a stretch of places which aren't in it costs little: 64 of them are passed
-//! over at once. Rows of sums, elements whose departures are stale and marks of a count are kept so. Each call says what is in the
-//! set after it, and the next place comes with the promise that none stands before it.
+//! The next place in it is found word by word, so that a stretch of places which aren't in it costs little: 64 of
+//! them are passed over at once. Rows of sums, elements whose departures are stale and marks of a count are kept
+//! so. Each call says what is in the set after it, and the next place comes with the promise that none stands
+//! before it.
 #![tactic(auto)]
 
 mod bit_set;

@@ -2,10 +2,11 @@
 use Rattle.std.proofs.Common.{◌≡◌, ℕ, ◌+◌, false, true, List, [], ◌∷◌, ◌++◌, map, flat_map, length, None, refl, sym, ap, ◌∙◌, subst}
 use Rattle.std.specs.Prelude.{zip}
 use Rattle.std.proofs.lemmas.List.{map-append, length-map}
+use Rattle.mintc_text.specs.Refusals.{over_limit}
 use Rattle.mintc_timing.specs.declared.parts.Element.{Element}
 use Rattle.mintc_timing.specs.declared.parts.TimingArc.{TimingArc}
 use Rattle.mintc_timing.specs.Design.{Design}
-use Rattle.mintc_timing.specs.Limits.{over_limit, quantities, limit_of}
+use Rattle.mintc_timing.specs.Limits.{quantities, limit_of}
 use Rattle.mintc_timing.specs.Paths.{input_of}
 use Rattle.mintc_verilog.specs.Laws.{HaveOneNetlist}
 use Rattle.mintc_sdf.specs.declared.delays.Delay.{Delay}

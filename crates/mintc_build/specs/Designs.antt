@@ -8,7 +8,8 @@ use Rattle.mintc_timing.specs.Order.{IsTiming}
 use Rattle.mintc_order.specs.Refusals.{NamesLoop}
 use Rattle.mintc_paths.specs.Refusals.{IsExtremesRefusal}
 
--- Why a design has no system: its arcs lead round; or they don't, and a listed path is too long or the pairs are too many.
+-- Why a design has no system: its arcs lead round; or they don't, and a listed path is too long or the pairs are
+-- too many.
 abbrev pub IsDesignRefusal : Design → Refusal → Type 0
 IsDesignRefusal design refused =
     NamesLoop design.arcs refused

@@ -20,11 +20,13 @@ use Rattle.mintc_annotate.specs.Made.{IsAnnotated, IsAnnotateRefusal}
 use Rattle.mintc_build.specs.declared.files.CellFile.{CellFile}
 use Rattle.mintc_build.specs.declared.files.CellFile.TheVariants.{Description, Library}
 
--- What the cells are read from: a description, or a Liberty library. A text of theirs describes cells, or gives a refusal.
+-- What the cells are read from: a description, or a Liberty library. A text of theirs describes cells, or gives a
+-- refusal.
 pub record CellText : Type 1 where
   pub Describes : CellTable → Type 0
   pub Refuses : Refusal → Type 0
 
+-- the cells of a description
 abbrev pub described_by : List ℕ → CellText
 described_by text = record { Describes = AreCells text; Refuses = IsBadCellBy (IsBadCell text) }
 
@@ -32,13 +34,16 @@ described_by text = record { Describes = AreCells text; Refuses = IsBadCellBy (I
 abbrev pub IsLibraryRefusal : List ℕ → Refusal → Type 0
 IsLibraryRefusal text refused = (n : ℕ) × (liberty_cells text ≡ Err n) × (refused ≡ refusal.Syntax role.Cells n)
 
+-- the cells of a library
 abbrev pub library_by : List ℕ → CellText
 library_by text = record { Describes = λ cells. liberty_cells text ≡ Ok cells; Refuses = IsLibraryRefusal text }
 
+-- the bytes of the file that cells are read from
 abbrev pub file_bytes : CellFile → List ℕ
 file_bytes (Description text) = text.now
 file_bytes (Library text) = text.now
 
+-- what the file says that cells are read from
 abbrev pub cell_text : CellFile → CellText
 cell_text (Description text) = described_by text.now
 cell_text (Library text) = library_by text.now
@@ -48,7 +53,8 @@ abbrev pub IsNetlistRefusal : List ℕ → Refusal → Type 0
 IsNetlistRefusal text refused = (n : ℕ) × (refused ≡ refusal.Syntax role.Netlist n) × IsFault text n
 
 -- All four texts are in form, and these are what they give.
-pub record AreRead (v d : List ℕ) (c : CellText) (k : List ℕ) (netlist : Netlist) (delays : List Delay) (cells : CellTable) (clock : Clock) : Type 0 where
+pub record AreRead (v d : List ℕ) (c : CellText) (k : List ℕ) (netlist : Netlist) (delays : List Delay)
+    (cells : CellTable) (clock : Clock) : Type 0 where
   pub netlist_read : IsNetlist v netlist
   pub delays_read : delays_of d ≡ Ok delays
   pub cells_read : c.Describes cells
@@ -58,6 +64,7 @@ pub record AreRead (v d : List ℕ) (c : CellText) (k : List ℕ) (netlist : Net
 abbrev pub IsHierarchyOf : Netlist → CellTable → Clock → Hierarchy → Type 0
 IsHierarchyOf netlist cells clock h = IsHierarchy (source_of cells netlist.modules) clock.top h
 
+-- the refusal of such a hierarchy
 abbrev pub IsHierarchyRefusal : Netlist → CellTable → Clock → Refusal → Type 0
 IsHierarchyRefusal netlist cells clock refused = IsRefusal (source_of cells netlist.modules) clock.top refused
 
@@ -72,21 +79,28 @@ pub record IsDesignOver (v d : List ℕ) (c : CellText) (k : List ℕ) (design :
   pub flat : IsHierarchyOf netlist cells clock hierarchy
   pub annotated : IsAnnotated hierarchy cells clock delays design
 
--- Their first refusal, in the order of a run: of each text after those before it, then of the hierarchy, then of the rest.
+-- Their first refusal, in the order of a run: of each text after those before it, then of the hierarchy, then of
+-- the rest.
 pub data IsRefusalOver (v d : List ℕ) (c : CellText) (k : List ℕ) (refused : Refusal) : Type 0 where
   of_netlist : IsNetlistRefusal v refused → IsRefusalOver v d c k refused
   of_delays : (netlist : Netlist) → IsNetlist v netlist → delays_of d ≡ Err refused → IsRefusalOver v d c k refused
-  of_cells : (netlist : Netlist) (delays : List Delay) → IsNetlist v netlist → delays_of d ≡ Ok delays → c.Refuses refused → IsRefusalOver v d c k refused
-  of_clock : (netlist : Netlist) (delays : List Delay) (cells : CellTable) → IsNetlist v netlist → delays_of d ≡ Ok delays → c.Describes cells → IsClockRefusal k refused → IsRefusalOver v d c k refused
-  of_hierarchy : (netlist : Netlist) (delays : List Delay) (cells : CellTable) (clock : Clock) → AreRead v d c k netlist delays cells clock → IsHierarchyRefusal netlist cells clock refused →
+  of_cells : (netlist : Netlist) (delays : List Delay) → IsNetlist v netlist → delays_of d ≡ Ok delays →
+      c.Refuses refused → IsRefusalOver v d c k refused
+  of_clock : (netlist : Netlist) (delays : List Delay) (cells : CellTable) → IsNetlist v netlist →
+      delays_of d ≡ Ok delays → c.Describes cells → IsClockRefusal k refused → IsRefusalOver v d c k refused
+  of_hierarchy : (netlist : Netlist) (delays : List Delay) (cells : CellTable) (clock : Clock) →
+      AreRead v d c k netlist delays cells clock → IsHierarchyRefusal netlist cells clock refused →
       IsRefusalOver v d c k refused
-  of_design : (netlist : Netlist) (delays : List Delay) (cells : CellTable) (clock : Clock) (hierarchy : Hierarchy) → AreRead v d c k netlist delays cells clock →
-      IsHierarchyOf netlist cells clock hierarchy → IsAnnotateRefusal hierarchy cells clock delays refused → IsRefusalOver v d c k refused
+  of_design : (netlist : Netlist) (delays : List Delay) (cells : CellTable) (clock : Clock) (hierarchy : Hierarchy) →
+      AreRead v d c k netlist delays cells clock →
+      IsHierarchyOf netlist cells clock hierarchy → IsAnnotateRefusal hierarchy cells clock delays refused →
+      IsRefusalOver v d c k refused
 
 -- The design of a netlist, delays, a cell description and a clock; and their first refusal.
 abbrev pub IsFilesDesign : List ℕ → List ℕ → List ℕ → List ℕ → Design → Type 0
 IsFilesDesign v d c k design = IsDesignOver v d (described_by c) k design
 
+-- the first refusal of a netlist, delays, a cell description and a clock
 abbrev pub IsFilesRefusal : List ℕ → List ℕ → List ℕ → List ℕ → Refusal → Type 0
 IsFilesRefusal v d c k refused = IsRefusalOver v d (described_by c) k refused
 
@@ -94,5 +108,6 @@ IsFilesRefusal v d c k refused = IsRefusalOver v d (described_by c) k refused
 abbrev pub IsLibertyDesign : List ℕ → List ℕ → List ℕ → List ℕ → Design → Type 0
 IsLibertyDesign v d l k design = IsDesignOver v d (library_by l) k design
 
+-- the same with the cells of a Liberty library
 abbrev pub IsLibertyRefusal : List ℕ → List ℕ → List ℕ → List ℕ → Refusal → Type 0
 IsLibertyRefusal v d l k refused = IsRefusalOver v d (library_by l) k refused

@@ -18,15 +18,20 @@ IsLoopRefusal refused = (loop : List ℕ) × (refused ≡ refusal.CombinationalL
 
 -- A design has one refusal, but for the choice of a loop.
 abbrev pub DesignRefusalsAreDetermined : Type 0
-DesignRefusalsAreDetermined = (design : Design) (refused other : Refusal) → IsDesignRefusal design refused → IsDesignRefusal design other →
+DesignRefusalsAreDetermined = (design : Design) (refused other : Refusal) → IsDesignRefusal design refused →
+    IsDesignRefusal design other →
     (refused ≡ other) ⊎ (IsLoopRefusal refused × IsLoopRefusal other)
 
 -- Texts whose cells are read in one form have one design or one refusal at most, and never both.
 pub record ArePlain (by : List ℕ → CellText) : Type 0 where
-  pub one_design : (v d c k : List ℕ) (design other : Design) → IsDesignOver v d (by c) k design → IsDesignOver v d (by c) k other → design ≡ other
-  pub no_refusal : (v d c k : List ℕ) (design : Design) (refused : Refusal) → IsDesignOver v d (by c) k design → IsRefusalOver v d (by c) k refused → ⊥
-  pub one_refusal : (v d c k : List ℕ) (refused other : Refusal) → IsRefusalOver v d (by c) k refused → IsRefusalOver v d (by c) k other → refused ≡ other
+  pub one_design : (v d c k : List ℕ) (design other : Design) → IsDesignOver v d (by c) k design →
+      IsDesignOver v d (by c) k other → design ≡ other
+  pub no_refusal : (v d c k : List ℕ) (design : Design) (refused : Refusal) → IsDesignOver v d (by c) k design →
+      IsRefusalOver v d (by c) k refused → ⊥
+  pub one_refusal : (v d c k : List ℕ) (refused other : Refusal) → IsRefusalOver v d (by c) k refused →
+      IsRefusalOver v d (by c) k other → refused ≡ other
 
 -- Designs of one netlist, one cell description and one clock, whatever their delays, differ in numbers alone.
 abbrev pub CornersDifferInNumbers : Type 0
-CornersDifferInNumbers = (v d e c k : List ℕ) (design other : Design) → IsFilesDesign v d c k design → IsFilesDesign v e c k other → DifferInNumbers design other
+CornersDifferInNumbers = (v d e c k : List ℕ) (design other : Design) → IsFilesDesign v d c k design →
+    IsFilesDesign v e c k other → DifferInNumbers design other

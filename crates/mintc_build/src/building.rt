@@ -29,27 +29,20 @@ pub fn system(alloc: Global, flat: Flat) -> Result<System, Stop>
     ensures value { IfOk result (λ system. system.flat ≡ flat) }
     ensures stop { IfErr result (StopsAt (IsDesignRefusal flat)) }
 {
-    let order = match order(alloc, &flat) {
-        Ok(order) => order,
-        Err(stop) => return Err(stop),
-    };
+    let order = order(alloc, &flat)?;
     orders_exclude_loops();
-    match extremes(alloc, &flat, &order) {
-        Ok(pairs) => Ok(System::new(flat, order, pairs)),
-        Err(stop) => Err(stop),
-    }
+    let pairs = extremes(alloc, &flat, &order)?;
+    Ok(System::new(flat, order, pairs))
 }
 
-/// An order of the design's arcs, for a design that has a system, whose pairs are counted and not listed. The refusals are
-/// those of `system`.
+/// An order of the design's arcs, for a design that has a system, whose pairs are counted and not listed. The
+/// refusals are those of `system`.
 pub fn system_order(alloc: Global, flat: &Flat) -> Result<Order, Stop>
     ensures system { IfOk result (HasSystem flat.now) }
     ensures stop { IfErr result (StopsAt (IsDesignRefusal flat.now)) }
 {
     let order = order(alloc, flat)?;
     orders_exclude_loops();
-    match count_pairs(alloc, flat, &order) {
-        Ok(_) => Ok(order),
-        Err(stop) => Err(stop),
-    }
+    count_pairs(alloc, flat, &order)?;
+    Ok(order)
 }

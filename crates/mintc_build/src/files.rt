@@ -2,7 +2,8 @@
 ghost use Rattle.std.specs.Prelude.{◌≡◌, ◌≤◌, length, IfOk, IfErr};
 ghost use Rattle.mintc_text.specs.declared.limits.TheConstants.{MOST_BYTES};
 ghost use Rattle.mintc_text.specs.Stops.{StopsAt};
-ghost use Rattle.mintc_build.specs.FilesDesign.{IsDesignOver, IsFilesDesign, IsFilesRefusal, IsLibertyDesign, IsLibertyRefusal, IsRefusalOver, cell_text, file_bytes};
+ghost use Rattle.mintc_build.specs.FilesDesign.{IsDesignOver, IsFilesDesign, IsFilesRefusal, IsLibertyDesign};
+ghost use Rattle.mintc_build.specs.FilesDesign.{IsLibertyRefusal, IsRefusalOver, cell_text, file_bytes};
 
 use mintc_annotate::annotate;
 use mintc_cells::{Cells, read_cells};
@@ -51,32 +52,17 @@ fn design_of_texts(
     ensures value { IfOk result (λ flat. IsDesignOver netlist.now delays.now (cell_text cells.entry) clock.now flat) }
     ensures stop { IfErr result (StopsAt (IsRefusalOver netlist.now delays.now (cell_text cells.entry) clock.now)) }
 {
-    let modules = match read_netlist(alloc, netlist) {
-        Ok(modules) => modules,
-        Err(stop) => return Err(stop),
-    };
-    let said = match read_delays(alloc, delays) {
-        Ok(said) => said,
-        Err(stop) => return Err(stop),
-    };
-    let described = match cells_of(alloc, cells) {
-        Ok(described) => described,
-        Err(stop) => return Err(stop),
-    };
-    let clocked = match read_clock(alloc, clock) {
-        Ok(clocked) => clocked,
-        Err(stop) => return Err(stop),
-    };
-    let hierarchy = match flatten(alloc, &modules, &described, clocked.top.as_ref()) {
-        Ok(hierarchy) => hierarchy,
-        Err(stop) => return Err(stop),
-    };
+    let modules = read_netlist(alloc, netlist)?;
+    let said = read_delays(alloc, delays)?;
+    let described = cells_of(alloc, cells)?;
+    let clocked = read_clock(alloc, clock)?;
+    let hierarchy = flatten(alloc, &modules, &described, clocked.top.as_ref())?;
     annotate(alloc, &hierarchy, &described, &clocked, &said)
 }
 
-/// The design of a netlist, delays, cells and a clock. The refusal is the first in the order of a run: Syntax of the netlist; Syntax,
-/// Range or Negative of the delays; BadCell; BadClock; those of the hierarchy; those of the clock's ports, of what delays speak
-/// of, of phases, and of limits.
+/// The design of a netlist, delays, cells and a clock. The refusal is the first in the order of a run: Syntax of
+/// the netlist; Syntax, Range or Negative of the delays; BadCell; BadClock; those of the hierarchy; those of the
+/// clock's ports, of what delays speak of, of phases, and of limits.
 pub fn from_files(
     alloc: Global,
     netlist: &[u8],
@@ -100,8 +86,8 @@ pub fn from_files(
     )
 }
 
-/// The design of a netlist, delays, a Liberty library and a clock. The refusals are those of files, with the Syntax of the
-/// library in the place of BadCell.
+/// The design of a netlist, delays, a Liberty library and a clock. The refusals are those of files, with the Syntax
+/// of the library in the place of BadCell.
 pub fn from_liberty(
     alloc: Global,
     netlist: &[u8],

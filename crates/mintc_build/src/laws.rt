@@ -1,6 +1,7 @@
 //! What the definitions of designs and refusals say: a law is the contract of a function that does nothing of its own.
 ghost use Rattle.mintc_build.specs.FilesDesign.{described_by, library_by};
-ghost use Rattle.mintc_build.specs.Laws.{AcceptedAreNotRefused, ArePlain, CornersDifferInNumbers, DesignRefusalsAreDetermined};
+ghost use Rattle.mintc_build.specs.Laws.{AcceptedAreNotRefused, ArePlain, CornersDifferInNumbers};
+ghost use Rattle.mintc_build.specs.Laws.{DesignRefusalsAreDetermined};
 
 use mintc_annotate::{
     annotate_refusals_are_determined, designs_are_determined, designs_are_not_refused,

@@ -1,5 +1,6 @@
 -- What the bytes of a cell description stand for.
-use Rattle.std.specs.Prelude.{◌≡◌, ℕ, ◌+◌, List, [], ◌∷◌, ◌++◌, length, map, Option, Some, None, option_map, Ok, Err, codes, if◌then◌else◌}
+use Rattle.std.specs.Prelude.{◌≡◌, ℕ, ◌+◌, List, [], ◌∷◌, ◌++◌, length, map, Option, Some, None, option_map, Ok, Err}
+use Rattle.std.specs.Prelude.{codes, if◌then◌else◌}
 use Rattle.std.specs.List.{AllZip}
 use Rattle.toml.specs.Data.{Data, Members, no_members, member, get_member, as_table}
 use Rattle.mintc_text.specs.declared.refusals.Refusal.{Refusal}
@@ -14,6 +15,7 @@ use Rattle.mintc_cells.specs.Description.{cell_of}
 abbrev pub Entry : Type 0
 Entry = List ℕ × Data
 
+-- the entries of a table, in its order
 abbrev pub entries : Members → List Entry
 entries no_members = []
 entries (member k d ms) = (k, d) ∷ entries ms
@@ -23,6 +25,7 @@ abbrev pub entries_at : Option Data → Option (List Entry)
 entries_at None = Some []
 entries_at (Some d) = option_map entries (as_table d)
 
+-- the entries that a document describes, None where it has other keys or `cell` is no table
 abbrev pub described : Members → Option (List Entry)
 described ms = if has_only (codes "cell" ∷ []) ms then entries_at (get_member (codes "cell") ms) else None
 
@@ -35,6 +38,7 @@ pub record AreDescribed (ms : Members) (es : List Entry) : Type 0 where
 abbrev pub IsReadAs : Entry → List ℕ × Cell → Type 0
 IsReadAs e c = (c.0 ≡ e.0) × (cell_of e.0 e.1 ≡ Ok c.1)
 
+-- each of these cells is that of the entry in its place
 abbrev pub AreRead : List Entry → List (List ℕ × Cell) → Type 0
 AreRead es cells = AllZip IsReadAs es cells
 

@@ -1,12 +1,14 @@
 -- The cell that a table of a description stands for, and the least of its rules that fails.
-use Rattle.std.specs.Prelude.{◌≡◌, ℕ, pos, Bool, true, false, not, ◌&&◌, ◌||◌, is_some, if◌then◌else◌, List, [], ◌∷◌, Option, Some, None, Result, Ok, Err, codes, bytes_eq}
+use Rattle.std.specs.Prelude.{◌≡◌, ℕ, pos, Bool, true, false, not, ◌&&◌, ◌||◌, is_some, if◌then◌else◌, List, [], ◌∷◌}
+use Rattle.std.specs.Prelude.{Option, Some, None, Result, Ok, Err, codes, bytes_eq}
 use Rattle.toml.specs.Data.{Data, Members, get_member, as_table}
 use Rattle.mintc_cells.specs.declared.shape.Shape.{Shape}
 use Rattle.mintc_cells.specs.declared.shape.Fault.{Fault}
 use Rattle.mintc_cells.specs.declared.shape.Fault.TheVariants as fault
 use Rattle.mintc_cells.specs.declared.cell.Cell.{Cell}
 use Rattle.mintc_cells.specs.declared.cell.Cell.TheVariants.{Gate, Latch, Flop, Clock}
-use Rattle.mintc_toml.specs.Lookups.{text_in, is_text_in, texts_in, are_texts_in, integer_in, is_integer_in, flag_in, is_flag_in, has_only, is_one_of, are_integers}
+use Rattle.mintc_toml.specs.Lookups.{text_in, is_text_in, texts_in, are_texts_in, integer_in, is_integer_in, flag_in}
+use Rattle.mintc_toml.specs.Lookups.{is_flag_in, has_only, is_one_of, are_integers}
 use Rattle.mintc_toml.specs.Rules.{is_name}
 use Rattle.mintc_cells.specs.Pins.{is_distinct}
 use Rattle.mintc_cells.specs.Rules.{pins, has_names, has_limits, has_order}
@@ -20,10 +22,12 @@ gate_shape ms = record {
   switches = true;
 }
 
+-- the shape of a clock cell's table
 abbrev pub clock_shape : Members → Shape
 clock_shape ms = record {
   keys = has_only (codes "kind" ∷ codes "input" ∷ codes "output" ∷ codes "invert" ∷ codes "ignored" ∷ []) ms;
-  pins = (is_text_in false (get_member (codes "input") ms) && is_text_in false (get_member (codes "output") ms)) && are_texts_in true (get_member (codes "ignored") ms);
+  pins = (is_text_in false (get_member (codes "input") ms) && is_text_in false (get_member (codes "output") ms))
+      && are_texts_in true (get_member (codes "ignored") ms);
   numbers = true;
   switches = is_flag_in (get_member (codes "invert") ms);
 }
@@ -32,46 +36,67 @@ clock_shape ms = record {
 abbrev pub gate_of : Members → Cell
 gate_of ms =
     let min = integer_in (pos 0) (get_member (codes "min") ms) in
-    Gate (texts_in (get_member (codes "inputs") ms)) (texts_in (get_member (codes "outputs") ms)) min (integer_in min (get_member (codes "max") ms))
+    Gate (texts_in (get_member (codes "inputs") ms)) (texts_in (get_member (codes "outputs") ms)) min
+    (integer_in min (get_member (codes "max") ms))
 
+-- the clock cell that a table stands for
 abbrev pub clock_of : Members → Cell
 clock_of ms =
-    Clock (text_in [] (get_member (codes "input") ms)) (text_in [] (get_member (codes "output") ms)) (flag_in false (get_member (codes "invert") ms))
+    Clock (text_in [] (get_member (codes "input") ms)) (text_in [] (get_member (codes "output") ms))
+    (flag_in false (get_member (codes "invert") ms))
     (texts_in (get_member (codes "ignored") ms))
 
 -- the keys of the pins of a latch or flop
 abbrev pub has_pins : List ℕ → List ℕ → Members → Bool
-has_pins first second ms = (is_text_in false (get_member first ms) && is_text_in false (get_member second ms)) && (are_texts_in false (get_member (codes "outputs") ms) && are_texts_in true (get_member (codes "ignored") ms))
+has_pins first second ms = (is_text_in false (get_member first ms) && is_text_in false (get_member second ms))
+    && (are_texts_in false (get_member (codes "outputs") ms) && are_texts_in true (get_member (codes "ignored") ms))
 
+-- the shape of a latch's table
 abbrev pub latch_shape : Members → Shape
 latch_shape ms = record {
-  keys = has_only (codes "kind" ∷ codes "d" ∷ codes "g" ∷ codes "outputs" ∷ codes "active" ∷ codes "ignored" ∷ codes "setup" ∷ codes "hold" ∷ codes "dq_min" ∷ codes "dq_max" ∷ codes "cq_min" ∷ codes "cq_max" ∷ codes "width" ∷ []) ms;
+  keys = has_only (codes "kind" ∷ codes "d" ∷ codes "g" ∷ codes "outputs" ∷ codes "active" ∷ codes "ignored" ∷
+      codes "setup" ∷ codes "hold" ∷ codes "dq_min" ∷ codes "dq_max" ∷ codes "cq_min" ∷ codes "cq_max" ∷ codes "width" ∷
+      []) ms;
   pins = has_pins (codes "d") (codes "g") ms;
-  numbers = are_integers (codes "setup" ∷ codes "hold" ∷ codes "dq_min" ∷ codes "dq_max" ∷ codes "cq_min" ∷ codes "cq_max" ∷ codes "width" ∷ []) ms;
+  numbers = are_integers (codes "setup" ∷ codes "hold" ∷ codes "dq_min" ∷ codes "dq_max" ∷ codes "cq_min" ∷
+      codes "cq_max" ∷ codes "width" ∷ []) ms;
   switches = is_one_of (codes "high" ∷ codes "low" ∷ []) (codes "high") (get_member (codes "active") ms);
 }
 
+-- the shape of a flop's table
 abbrev pub flop_shape : Members → Shape
 flop_shape ms = record {
-  keys = has_only (codes "kind" ∷ codes "d" ∷ codes "clock" ∷ codes "outputs" ∷ codes "edge" ∷ codes "ignored" ∷ codes "setup" ∷ codes "hold" ∷ codes "cq_min" ∷ codes "cq_max" ∷ codes "width" ∷ []) ms;
+  keys = has_only (codes "kind" ∷ codes "d" ∷ codes "clock" ∷ codes "outputs" ∷ codes "edge" ∷ codes "ignored" ∷
+      codes "setup" ∷ codes "hold" ∷ codes "cq_min" ∷ codes "cq_max" ∷ codes "width" ∷ []) ms;
   pins = has_pins (codes "d") (codes "clock") ms;
   numbers = are_integers (codes "setup" ∷ codes "hold" ∷ codes "cq_min" ∷ codes "cq_max" ∷ codes "width" ∷ []) ms;
   switches = is_one_of (codes "rising" ∷ codes "falling" ∷ []) (codes "rising") (get_member (codes "edge") ms);
 }
 
+-- the latch that a table stands for
 abbrev pub latch_of : Members → Cell
 latch_of ms =
     let dq_min = integer_in (pos 0) (get_member (codes "dq_min") ms) in
     let dq_max = integer_in dq_min (get_member (codes "dq_max") ms) in
-    Latch (text_in [] (get_member (codes "d") ms)) (text_in [] (get_member (codes "g") ms)) (bytes_eq (text_in (codes "high") (get_member (codes "active") ms)) (codes "high")) (texts_in (get_member (codes "outputs") ms)) (texts_in (get_member (codes "ignored") ms))
-    (integer_in (pos 0) (get_member (codes "setup") ms)) (integer_in (pos 0) (get_member (codes "hold") ms)) (is_some (get_member (codes "hold") ms)) dq_min dq_max
-    (integer_in dq_min (get_member (codes "cq_min") ms)) (integer_in dq_max (get_member (codes "cq_max") ms)) (is_some (get_member (codes "cq_min") ms) || is_some (get_member (codes "cq_max") ms)) (integer_in (pos 0) (get_member (codes "width") ms))
+    Latch (text_in [] (get_member (codes "d") ms)) (text_in [] (get_member (codes "g") ms))
+    (bytes_eq (text_in (codes "high") (get_member (codes "active") ms)) (codes "high"))
+    (texts_in (get_member (codes "outputs") ms)) (texts_in (get_member (codes "ignored") ms))
+    (integer_in (pos 0) (get_member (codes "setup") ms)) (integer_in (pos 0) (get_member (codes "hold") ms))
+    (is_some (get_member (codes "hold") ms)) dq_min dq_max
+    (integer_in dq_min (get_member (codes "cq_min") ms)) (integer_in dq_max (get_member (codes "cq_max") ms))
+    (is_some (get_member (codes "cq_min") ms) || is_some (get_member (codes "cq_max") ms))
+    (integer_in (pos 0) (get_member (codes "width") ms))
 
+-- the flop that a table stands for
 abbrev pub flop_of : Members → Cell
 flop_of ms =
     let cq_min = integer_in (pos 0) (get_member (codes "cq_min") ms) in
-    Flop (text_in [] (get_member (codes "d") ms)) (text_in [] (get_member (codes "clock") ms)) (bytes_eq (text_in (codes "rising") (get_member (codes "edge") ms)) (codes "rising")) (texts_in (get_member (codes "outputs") ms)) (texts_in (get_member (codes "ignored") ms))
-    (integer_in (pos 0) (get_member (codes "setup") ms)) (integer_in (pos 0) (get_member (codes "hold") ms)) (is_some (get_member (codes "hold") ms)) cq_min (integer_in cq_min (get_member (codes "cq_max") ms)) (integer_in (pos 0) (get_member (codes "width") ms))
+    Flop (text_in [] (get_member (codes "d") ms)) (text_in [] (get_member (codes "clock") ms))
+    (bytes_eq (text_in (codes "rising") (get_member (codes "edge") ms)) (codes "rising"))
+    (texts_in (get_member (codes "outputs") ms)) (texts_in (get_member (codes "ignored") ms))
+    (integer_in (pos 0) (get_member (codes "setup") ms)) (integer_in (pos 0) (get_member (codes "hold") ms))
+    (is_some (get_member (codes "hold") ms)) cq_min (integer_in cq_min (get_member (codes "cq_max") ms))
+    (integer_in (pos 0) (get_member (codes "width") ms))
 
 -- the least rule that a cell of this shape fails
 abbrev pub least_rule : Shape → Cell → Option ℕ
@@ -98,6 +123,7 @@ read_as kind ms =
     else (if bytes_eq kind (codes "clock") then judged (clock_of ms) (least_rule (clock_shape ms) (clock_of ms))
     else Err 2)))
 
+-- what the table of an entry stands for, rule 2 where it is no table
 abbrev pub read_table : Option Members → Result Cell ℕ
 read_table None = Err 2
 read_table (Some ms) = read_as (text_in [] (get_member (codes "kind") ms)) ms

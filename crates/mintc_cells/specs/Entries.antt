@@ -1,5 +1,6 @@
 -- What the entries of a `Cells` keep.
-use Rattle.std.specs.Prelude.{ℕ, ◌<◌, ◌^◌, List, [], map, length, Option, bytes_eq, position, Bool, ◌&&◌, IsTrue, nat_le, pos, slice_index_or}
+use Rattle.std.specs.Prelude.{ℕ, ◌<◌, ◌^◌, List, [], map, length, Option, bytes_eq, position, Bool, ◌&&◌, IsTrue}
+use Rattle.std.specs.Prelude.{nat_le, pos, slice_index_or}
 use Rattle.std.specs.List.{list_all}
 use Rattle.std.specs.Ordering.{nat_cmp}
 use Rattle.std.specs.Cmp.Lexicographic.{slice_cmp}
@@ -25,6 +26,7 @@ number_of cells name = position (bytes_eq name) (names_of cells)
 abbrev pub is_kept : List ℕ × Cell → Bool
 is_kept entry = (is_name entry.0 && is_cell entry.1) && has_defaults entry.1
 
+-- so it is with each of them
 abbrev pub AreKept : List (List ℕ × Cell) → Type 0
 AreKept cells = IsTrue (list_all is_kept cells)
 
@@ -32,9 +34,11 @@ AreKept cells = IsTrue (list_all is_kept cells)
 abbrev pub no_cell : List ℕ × Cell
 no_cell = ([], Gate [] [] (pos 0) (pos 0))
 
+-- the name of the cell with a number
 abbrev pub name_at : List (List ℕ × Cell) → ℕ → List ℕ
 name_at cells at = (slice_index_or cells at no_cell).0
 
+-- the cell with a number
 abbrev pub cell_at : List (List ℕ × Cell) → ℕ → Cell
 cell_at cells at = (slice_index_or cells at no_cell).1
 

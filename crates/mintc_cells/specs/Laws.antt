@@ -10,12 +10,15 @@ CellsAreDetermined = (text : List ℕ) (a b : List (List ℕ × Cell)) → AreCe
 
 -- a text that has cells isn't refused
 abbrev pub CellsAreNotRefused : Type 0
-CellsAreNotRefused = (text : List ℕ) (cells : List (List ℕ × Cell)) (n rule : ℕ) → AreCells text cells → IsBadCell text n rule → ⊥
+CellsAreNotRefused = (text : List ℕ) (cells : List (List ℕ × Cell)) (n rule : ℕ) → AreCells text cells →
+    IsBadCell text n rule → ⊥
 
 -- a text has one refusal at most
 abbrev pub BadCellsAreDetermined : Type 0
-BadCellsAreDetermined = (text : List ℕ) (n rule m other : ℕ) → IsBadCell text n rule → IsBadCell text m other → (n ≡ m) × (rule ≡ other)
+BadCellsAreDetermined = (text : List ℕ) (n rule m other : ℕ) → IsBadCell text n rule → IsBadCell text m other → (n ≡ m)
+    × (rule ≡ other)
 
 -- the cells of a text ascend by their names, and each keeps its rules
 abbrev pub CellsKeepRules : Type 0
-CellsKeepRules = (text : List ℕ) (cells : List (List ℕ × Cell)) → AreCells text cells → AreAscending (names_of cells) × AreKept cells
+CellsKeepRules = (text : List ℕ) (cells : List (List ℕ × Cell)) → AreCells text cells → AreAscending (names_of cells)
+    × AreKept cells

@@ -28,7 +28,8 @@ impl Model for Cells {
 
     ghost view = { λ c. map (λ e. (e.0.items, e.1)) c.entries.entries };
 
-    ghost invariant = { λ c. (length c.entries.entries < 2 ^ 32) × AreAscending (names_of (map (λ e. (e.0.items, e.1)) c.entries.entries))
+    ghost invariant = { λ c. (length c.entries.entries < 2 ^ 32)
+        × AreAscending (names_of (map (λ e. (e.0.items, e.1)) c.entries.entries))
         × AreKept (map (λ e. (e.0.items, e.1)) c.entries.entries) };
 }
 
@@ -39,7 +40,8 @@ fn put(
     name: &Name,
     cell: Cell,
 ) -> Result<(), OutOfMemory>
-    ensures { OnOk result ((key : Vec ℕ Global) × (key.items ≡ name.now) × (map.new.entries ≡ insert_entry (λ x y. pointwise nat_eq x.items y.items) map.old.entries key cell)) }
+    ensures { OnOk result ((key : Vec ℕ Global) × (key.items ≡ name.now)
+        × (map.new.entries ≡ insert_entry (λ x y. pointwise nat_eq x.items y.items) map.old.entries key cell)) }
 {
     let bytes = Vec::from_slice(alloc, name.bytes())?;
     drop(map.insert(bytes, cell)?);

@@ -1,8 +1,10 @@
-//! The cells that a cell description gives: gates, latches, flops and the cells of the clock's tree, under their names.
+//! The cells that a cell description gives: gates, latches, flops and the cells of the clock's tree, under their
+//! names.
 //!
-//! A description is a TOML document with a table `cell`. What a table stands for is built first, with defaults for what it lacks,
-//! and judged then: a rule is a test on the shape of the table, and one on the cell. So the cells of a `Cells` keep their
-//! rules whatever they were read from. The texts are those of docs/formats.md, "Cell description".
+//! A description is a TOML document with a table `cell`. What a table stands for is built first, with defaults for
+//! what it lacks, and judged then: a rule is a test on the shape of the table, and one on the cell. So the cells of
+//! a `Cells` keep their rules whatever they were read from. The texts are those of docs/formats.md, "Cell
+//! description".
 //!
 //! The crates above find a cell by its name or number, and see its pins in one order: inputs, then outputs.
 #![tactic(auto)]

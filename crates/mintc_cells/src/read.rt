@@ -1,12 +1,14 @@
 //! Reading a cell description.
-ghost use Rattle.std.specs.Prelude.{◌≡◌, ◌≤◌, ◌<◌, ◌+◌, ◌^◌, ◌++◌, ◌∷◌, [], ℕ, List, Some, Err, length, map, IfOk, OnOk, MatchResult};
+ghost use Rattle.std.specs.Prelude.{◌≡◌, ◌≤◌, ◌<◌, ◌+◌, ◌^◌, ◌++◌, ◌∷◌, [], ℕ, List, Some, Err, length, map, IfOk};
+ghost use Rattle.std.specs.Prelude.{OnOk, MatchResult};
 ghost use Rattle.mintc_text.specs.declared.limits.TheConstants.{MOST_BYTES};
 ghost use Rattle.toml.specs.View.{view, table_view};
 ghost use Rattle.mintc_text.specs.Stops.{StopsAt};
 ghost use Rattle.mintc_cells.specs.declared.cell.Cell.{Cell as CellRead};
 ghost use Rattle.mintc_cells.specs.Description.{least_rule, judged, read_table, cell_of, Reads};
 ghost use Rattle.mintc_cells.specs.Entries.{AreAscending, AreOrdered};
-ghost use Rattle.mintc_cells.specs.CellsOf.{entries, IsReadAs, AreRead, IsFirstBad, AreInTable, IsBadTable, AreCells, IsBadCell, IsBadCellBy};
+ghost use Rattle.mintc_cells.specs.CellsOf.{entries, IsReadAs, AreRead, IsFirstBad, AreInTable, IsBadTable, AreCells};
+ghost use Rattle.mintc_cells.specs.CellsOf.{IsBadCell, IsBadCellBy};
 
 use crate::cell::Cell;
 use crate::cells::Cells;
@@ -86,12 +88,12 @@ fn add_entry(
 ) -> Result<(), Stop>
     requires { length cells.old.items < 2 ^ 32 }
     ensures { MatchResult result
-        (λ _. (c : List ℕ × CellRead) × IsReadAs (name.now, view value.now) c × (cells.new.items ≡ cells.old.items ++ c ∷ []) × (length cells.old.items + 1 < 2 ^ 32))
-        (StopsAt (IsBadCellBy (λ n rule. (n ≡ length cells.old.items + 1) × (cell_of name.now (view value.now) ≡ Err rule)))) }
+        (λ _. (c : List ℕ × CellRead) × IsReadAs (name.now, view value.now) c
+        × (cells.new.items ≡ cells.old.items ++ c ∷ []) × (length cells.old.items + 1 < 2 ^ 32))
+        (StopsAt (IsBadCellBy (λ n rule. (n ≡ length cells.old.items + 1)
+        × (cell_of name.now (view value.now) ≡ Err rule)))) }
 {
-    let Ok(entry) = u32::try_from(cells.len() + 1) else {
-        return Err(Stop::OutOfMemory);
-    };
+    let entry = u32::try_from(cells.len() + 1)?;
     let cell = read_entry(alloc, entry, name, value)?;
     push_cell(cells, cell)?;
     Ok(())
@@ -132,7 +134,8 @@ fn read_document(alloc: Global, document: &Table) -> Result<Vec<(Name, Cell)>, S
 
 /// The cells that a text describes.
 fn read_text(alloc: Global, text: &[u8]) -> Result<Vec<(Name, Cell)>, Stop>
-    ensures value { MatchResult result (λ cells. AreCells text.now cells.items) (StopsAt (IsBadCellBy (IsBadCell text.now))) }
+    ensures value { MatchResult result (λ cells. AreCells text.now cells.items)
+        (StopsAt (IsBadCellBy (IsBadCell text.now))) }
     ensures ordered { IfOk result (λ cells. AreOrdered cells.items) }
 {
     match toml::table_from_slice(alloc, text) {

@@ -35,7 +35,8 @@ fn are_names(names: &Names, least: usize, most: usize) -> bool
 /// Whether the name of a pin comes again after it.
 fn comes_again(cell: &Cell, number: usize) -> bool
     requires { number < length (pins cell.now) }
-    ensures { result ≡ list_any (bytes_eq (slice_index_or (pins cell.now) number [])) (drop (number + 1) (pins cell.now)) }
+    ensures { result ≡ list_any (bytes_eq (slice_index_or (pins cell.now) number []))
+        (drop (number + 1) (pins cell.now)) }
 {
     let count = pin_count(cell);
     for other in number + 1..count {

@@ -3,7 +3,8 @@ ghost use Rattle.std.specs.Prelude.{◌≡◌, [], codes, IfOk};
 ghost use Rattle.toml.specs.Data.{get_member};
 ghost use Rattle.toml.specs.View.{table_view};
 ghost use Rattle.mintc_toml.specs.Lookups.{text_in, texts_in};
-ghost use Rattle.mintc_cells.specs.Description.{has_pins, gate_shape, latch_shape, flop_shape, clock_shape, gate_of, latch_of, flop_of, clock_of};
+ghost use Rattle.mintc_cells.specs.Description.{has_pins, gate_shape, latch_shape, flop_shape, clock_shape, gate_of};
+ghost use Rattle.mintc_cells.specs.Description.{latch_of, flop_of, clock_of};
 
 use crate::cell::Cell;
 use crate::shape::Shape;
@@ -100,7 +101,8 @@ struct Wires {
 /// The pins that a latch and a flop have alike.
 fn wires_of(alloc: Global, table: &Table) -> Result<Wires, OutOfMemory>
     ensures { IfOk result (λ w. (w.data ≡ text_in [] (get_member (codes "d") (table_view table.now)))
-        × (w.outputs ≡ texts_in (get_member (codes "outputs") (table_view table.now))) × (w.ignored ≡ texts_in (get_member (codes "ignored") (table_view table.now)))) }
+        × (w.outputs ≡ texts_in (get_member (codes "outputs") (table_view table.now)))
+        × (w.ignored ≡ texts_in (get_member (codes "ignored") (table_view table.now)))) }
 {
     let outputs = names(alloc, table, "outputs")?;
     let ignored = names(alloc, table, "ignored")?;

@@ -12,8 +12,8 @@ use Rattle.mintc_text.specs.declared.limits.TheConstants.{MOST_COUNT}
 use Rattle.mintc_timing_text.specs.Fields.{IsCount, number, plain, plain_line}
 use Rattle.mintc_timing_text.specs.Reading.{Halts}
 use Rattle.mintc_timing_text.proofs.SharedFieldsLaws.{and_both, plain_number}
-use Rattle.mintc_timing_text.specs.declared.halt.Halt.{Halt}
-use Rattle.mintc_timing_text.specs.declared.halt.Halt.TheVariants.{Form, Memory}
+use Rattle.mintc_text.specs.declared.read_error.ReadError.{ReadError}
+use Rattle.mintc_text.specs.declared.read_error.ReadError.TheVariants.{Malformed, OutOfMemory}
 use Rattle.mintc_certificate.specs.declared.member_lines.MemberWord.{MemberWord}
 use Rattle.mintc_certificate.specs.declared.member_lines.MemberWord.TheVariants.{One, Apart, Reach}
 use Rattle.mintc_certificate.specs.declared.member_lines.Single.TheVariants as one
@@ -73,9 +73,9 @@ reach_none v rest j l count more few is none m h =
     grind (arith, each, value_of)
 
 -- what is said where a form is missing
-pub halts_by : {A B : Type 0} → (A → B) → (h : Halt) → Halts A h → Halts B h
-halts_by f Form a = f a
-halts_by f Memory a = tt
+pub halts_by : {A B : Type 0} → (A → B) → (h : ReadError) → Halts A h → Halts B h
+halts_by f Malformed a = f a
+halts_by f OutOfMemory a = tt
 
 -- ---- so many numbers
 

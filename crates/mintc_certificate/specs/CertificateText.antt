@@ -1,5 +1,6 @@
 -- The text of a certificate, line by line, and its first line out of form.
-use Rattle.std.specs.Prelude.{◌≡◌, ◌≢◌, ◌==◌, ℕ, zero, suc, ℤ, pos, neg_ℤ, Bool, if◌then◌else◌, List, [], ◌∷◌, ◌++◌, length, map, codes}
+use Rattle.std.specs.Prelude.{◌≡◌, ◌≢◌, ◌==◌, ℕ, zero, suc, ℤ, pos, neg_ℤ, Bool, if◌then◌else◌, List, [], ◌∷◌, ◌++◌}
+use Rattle.std.specs.Prelude.{length, map, codes}
 use Rattle.mintc_text.specs.declared.limits.TheConstants.{MOST_NUMERATOR, MOST_MEMBERS, MOST_COUNT}
 use Rattle.mintc_text.specs.Lines.{IsText, IsFault}
 use Rattle.mintc_text.specs.declared.refusals.Refusal.{Refusal}
@@ -89,29 +90,38 @@ IsChainLine = IsCountLine (codes "chain") 1 MOST_MEMBERS
 
 -- the line after those of a schedule, which says how many departures follow
 abbrev pub IsDeparturesLine : Version → Schedule → List ℕ → CertificateLines → Type 0
-IsDeparturesLine v s line after = (n : ℕ) × Spells (IsCountLine (codes "departures") 0 MOST_COUNT) n line × (after ≡ departure v n s [])
+IsDeparturesLine v s line after = (n : ℕ) × Spells (IsCountLine (codes "departures") 0 MOST_COUNT) n line
+    × (after ≡ departure v n s [])
 
 -- the form of the line that may come next
 abbrev pub NextOfCertificate : CertificateLines → List ℕ → CertificateLines → Type 0
-NextOfCertificate first line after = (n : ℕ) × Spells (IsCountLine (codes "certificate") 1 2) n line × (after ≡ outcome (version_of n))
-NextOfCertificate (outcome v) line after = (least : Bool) × Spells IsOutcomeLine least line × (after ≡ (if least then scheduled v den else never v))
+NextOfCertificate first line after = (n : ℕ) × Spells (IsCountLine (codes "certificate") 1 2) n line
+    × (after ≡ outcome (version_of n))
+NextOfCertificate (outcome v) line after = (least : Bool) × Spells IsOutcomeLine least line
+    × (after ≡ (if least then scheduled v den else never v))
 NextOfCertificate (scheduled v lines) line after = NextOfSchedule (scheduled v) (IsDeparturesLine v) lines line after
 NextOfCertificate (departure v (suc left) s ds) line after =
-    (d : ℤ) × Spells (IsNumberLine (codes "departure") (least_departure v) MOST_NUMERATOR) d line × (after ≡ departure v left s (ds ++ d ∷ []))
-NextOfCertificate (departure v zero s ds) line after = (m : ℕ) × Spells IsChainLine m line × (after ≡ link v m (Least s ds []))
+    (d : ℤ) × Spells (IsNumberLine (codes "departure") (least_departure v) MOST_NUMERATOR) d line
+    × (after ≡ departure v left s (ds ++ d ∷ []))
+NextOfCertificate (departure v zero s ds) line after = (m : ℕ) × Spells IsChainLine m line
+    × (after ≡ link v m (Least s ds []))
 NextOfCertificate (never v) line after = (m : ℕ) × Spells IsChainLine m line × (after ≡ link v m (Never []))
-NextOfCertificate (link v (suc left) c) line after = (m : Member) × Spells (IsMemberLine v) m line × (after ≡ link v left (with_member c m))
-NextOfCertificate (link v zero c) line after = (u : Unit {0}) × Spells (IsWordLine (codes "end")) u line × (after ≡ whole c)
+NextOfCertificate (link v (suc left) c) line after = (m : Member) × Spells (IsMemberLine v) m line
+    × (after ≡ link v left (with_member c m))
+NextOfCertificate (link v zero c) line after = (u : Unit {0}) × Spells (IsWordLine (codes "end")) u line
+    × (after ≡ whole c)
 NextOfCertificate (whole c) line after = ⊥
 
+-- the last line was read
 abbrev pub IsWholeCertificate : CertificateLines → Type 0
 IsWholeCertificate (whole c) = Unit {0}
 IsWholeCertificate lines = ⊥
 
--- The text is one of the certificate's; and line n is the first that is out of form.
+-- The text is one of the certificate's.
 abbrev pub IsCertificateText : List ℕ → Certificate → Type 0
 IsCertificateText text certificate = IsText NextOfCertificate first (whole certificate) text
 
+-- Line n, counted from 1, is the first that is out of form.
 abbrev pub IsCertificateFault : List ℕ → ℕ → Type 0
 IsCertificateFault text n = IsFault NextOfCertificate IsWholeCertificate first text n
 

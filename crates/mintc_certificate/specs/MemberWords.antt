@@ -20,6 +20,7 @@ single_word one.Opened = codes "opened"
 single_word one.Setup = codes "setup"
 single_word one.Bound = codes "bound"
 
+-- the first word of a member's line
 abbrev pub member_word : MemberWord → List ℕ
 member_word (One word) = single_word word
 member_word Apart = codes "apart"
@@ -37,13 +38,15 @@ single one.Opened n = member.Opened n
 single one.Setup n = member.Setup n
 single one.Bound n = member.Bound n
 
--- The words are one number; two; so many.
+-- The words are one number.
 abbrev pub IsOne : ℕ → List (List ℕ) → Type 0
 IsOne n ws = IsCount n × (ws ≡ number n ∷ [])
 
+-- The words are two numbers.
 abbrev pub IsTwo : ℕ × ℕ → List (List ℕ) → Type 0
 IsTwo p ws = IsCount p.0 × IsCount p.1 × (ws ≡ number p.0 ∷ number p.1 ∷ [])
 
+-- The words are so many numbers.
 pub record AreNumbers (count : ℕ) (numbers : List ℕ) (ws : List (List ℕ)) : Type 0 where
   pub counted : length numbers ≡ count
   pub each : All IsCount numbers

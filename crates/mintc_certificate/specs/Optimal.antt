@@ -9,9 +9,11 @@ use Rattle.mintc_certificate.specs.Valid.{IsValid}
 
 -- The certificate's schedule is right and its cycle is the least; or, where it has none, no schedule is right.
 abbrev pub IsOptimal : Timing → Certificate → Type 0
-IsOptimal t (Least schedule departures chain) = IsRight t schedule departures × IsLeastCycle t schedule.cycle schedule.den
+IsOptimal t (Least schedule departures chain) = IsRight t schedule departures
+    × IsLeastCycle t schedule.cycle schedule.den
 IsOptimal t (Never chain) = IsHopeless t
 
 -- Whatever is valid is optimal.
 abbrev pub ValidIsOptimal : Type 0
-ValidIsOptimal = (t : Timing) (certificate : Certificate) → IsDesign t.flat → ArePairs t.flat t.pairs → IsValid t certificate → IsOptimal t certificate
+ValidIsOptimal = (t : Timing) (certificate : Certificate) → IsDesign t.flat → ArePairs t.flat t.pairs →
+    IsValid t certificate → IsOptimal t certificate

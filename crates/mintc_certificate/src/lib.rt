@@ -1,7 +1,8 @@
 //! Certificates: what shows that a cycle time is the least, or that none is right.
 //!
-//! A certificate is a schedule with its departures and a chain of constraints that forbids every smaller cycle time, or a
-//! chain alone that forbids all. Here stand its parts, the links of its members, what makes it valid, and its text.
+//! A certificate is a schedule with its departures and a chain of constraints that forbids every smaller cycle
+//! time, or a chain alone that forbids all. Here stand its parts, the links of its members, what makes it valid,
+//! and its text.
 #![tactic(auto)]
 
 mod certificate;

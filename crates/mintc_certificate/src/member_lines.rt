@@ -11,9 +11,9 @@ ghost use Rattle.mintc_certificate.specs.MemberWords.{single, single_word, membe
 
 use crate::Member;
 use crate::version::Version;
-use mintc_text::Numbers;
 use mintc_text::limits::MOST_COUNT;
-use mintc_timing_text::{Fields, Halt};
+use mintc_text::{Numbers, ReadError};
+use mintc_timing_text::Fields;
 use std::alloc::Global;
 
 /// The members that have one number.
@@ -106,7 +106,8 @@ fn member_with(word: Single, number: u32) -> Member
 
 /// Whether a version of the text has the members of this word.
 fn has(version: Version, word: Single) -> bool
-    ensures { MatchBool result ((n : ℕ) → IsMemberOf version (single word n)) ((n : ℕ) → IsMemberOf version (single word n) → ⊥) }
+    ensures { MatchBool result ((n : ℕ) → IsMemberOf version (single word n)) ((n : ℕ) →
+        IsMemberOf version (single word n) → ⊥) }
 {
     match (version, word) {
         (Version::First, Single::Opened) => false,
@@ -134,7 +135,7 @@ fn two(mut fields: Fields) -> Option<(u32, u32)>
 }
 
 /// The last numbers of a line, so many.
-fn numbers(alloc: Global, mut fields: Fields, count: u32) -> Result<Numbers, Halt>
+fn numbers(alloc: Global, mut fields: Fields, count: u32) -> Result<Numbers, ReadError>
     ensures { MatchResult result
         (λ found. AreNumbers count found fields.entry)
         (Halts ((found : List ℕ) → AreNumbers count found fields.entry → ⊥)) }
@@ -142,14 +143,12 @@ fn numbers(alloc: Global, mut fields: Fields, count: u32) -> Result<Numbers, Hal
     let mut found = Vec::new(alloc);
     for _number in 0..count {
         let Some(number) = fields.count(0, MOST_COUNT) else {
-            return Err(Halt::Form);
+            return Err(ReadError::Malformed);
         };
-        let Ok(()) = found.push(number) else {
-            return Err(Halt::Memory);
-        };
+        found.push(number)?;
     }
     let Some(()) = fields.end() else {
-        return Err(Halt::Form);
+        return Err(ReadError::Malformed);
     };
     Ok(Numbers::new(found))
 }
@@ -159,7 +158,8 @@ fn ends(fields: &mut Fields) -> Option<(u32, u32, u32)>
     ensures { MatchOption result
         ((from to count : ℕ) (more : List (List ℕ)) → IsCount from → IsCount to → IsCount count → 1 ≤ count →
         fields.old ≡ number from ∷ number to ∷ number count ∷ more → ⊥)
-        (λ e. IsCount e.0 × IsCount e.1 × IsCount e.2 × (1 ≤ e.2) × (fields.old ≡ number e.0 ∷ number e.1 ∷ number e.2 ∷ fields.new)) }
+        (λ e. IsCount e.0 × IsCount e.1 × IsCount e.2 × (1 ≤ e.2)
+        × (fields.old ≡ number e.0 ∷ number e.1 ∷ number e.2 ∷ fields.new)) }
 {
     let from = fields.count(0, MOST_COUNT)?;
     let to = fields.count(0, MOST_COUNT)?;
@@ -191,39 +191,43 @@ fn apart_of(fields: Fields) -> Option<Member>
 }
 
 /// A reach, from the words after the first.
-fn reach_of(alloc: Global, mut fields: Fields) -> Result<Member, Halt>
+fn reach_of(alloc: Global, mut fields: Fields) -> Result<Member, ReadError>
     ensures { (version : Version) → MatchResult result
         (λ m. IsMemberLine version m (codes "reach" ∷ fields.entry))
         (Halts ((m : Member) → IsMemberLine version m (codes "reach" ∷ fields.entry) → ⊥)) }
 {
     let Some((from, to, count)) = ends(&mut fields) else {
-        return Err(Halt::Form);
+        return Err(ReadError::Malformed);
     };
     let arcs = numbers(alloc, fields, count)?;
     Ok(Member::Reach { from, to, arcs })
 }
 
 /// The member of an option. Where there is none, the line is out of form.
-fn or_malformed(member: Option<Member>) -> Result<Member, Halt>
-    ensures { MatchOption member (result ≡ Err Halt.Form) (λ m. result ≡ Ok m) }
+fn or_malformed(member: Option<Member>) -> Result<Member, ReadError>
+    ensures { MatchOption member (result ≡ Err ReadError.Malformed) (λ m. result ≡ Ok m) }
 {
     match member {
         Some(member) => Ok(member),
-        None => Err(Halt::Form),
+        None => Err(ReadError::Malformed),
     }
 }
 
 /// The member of a line.
-pub(crate) fn member_of(alloc: Global, mut fields: Fields, version: Version) -> Result<Member, Halt>
+pub(crate) fn member_of(
+    alloc: Global,
+    mut fields: Fields,
+    version: Version,
+) -> Result<Member, ReadError>
     ensures { MatchResult result
         (λ m. IsMemberLine version m fields.entry)
         (Halts ((m : Member) → IsMemberLine version m fields.entry → ⊥)) }
 {
     let Some(first) = fields.word() else {
-        return Err(Halt::Form);
+        return Err(ReadError::Malformed);
     };
     let Some(word) = member_word(first) else {
-        return Err(Halt::Form);
+        return Err(ReadError::Malformed);
     };
     match word {
         MemberWord::One(single) => or_malformed(single_of(fields, version, single)),

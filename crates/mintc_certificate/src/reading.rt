@@ -9,15 +9,18 @@ ghost use Rattle.mintc_certificate.specs.declared.certificate.Certificate.{Certi
 ghost use Rattle.mintc_certificate.specs.declared.members.Member.{Member};
 ghost use Rattle.mintc_certificate.specs.declared.version.Version.{Version};
 ghost use Rattle.mintc_certificate.specs.CertificateReading.{with_chain, before_chain};
-ghost use Rattle.mintc_certificate.specs.CertificateText.{version_of, least_departure, IsMemberLine, IsOutcomeLine, NextOfCertificate, IsCertificateText, IsCertificateFault, IsCertificateRefusal, first, scheduled, departure, link, never as no_schedule};
+ghost use Rattle.mintc_certificate.specs.CertificateText.{version_of, least_departure, IsMemberLine, IsOutcomeLine};
+ghost use Rattle.mintc_certificate.specs.CertificateText.{NextOfCertificate, IsCertificateText, IsCertificateFault};
+ghost use Rattle.mintc_certificate.specs.CertificateText.{IsCertificateRefusal, first, scheduled, departure, link};
+ghost use Rattle.mintc_certificate.specs.CertificateText.{never as no_schedule};
 ghost use Rattle.mintc_certificate.specs.Ranges.{IsCertificateInRange};
 
 use crate::member_lines::member_of;
 use crate::version::Version;
 use crate::{Certificate, Departures, Member, Members};
 use mintc_text::limits::{MOST_COUNT, MOST_MEMBERS, MOST_NUMERATOR};
-use mintc_text::{Refusal, Role, Stop};
-use mintc_timing_text::{Fields, Halt, Reader, schedule_lines};
+use mintc_text::{ReadError, Refusal, Role, Stop};
+use mintc_timing_text::{Fields, Reader, schedule_lines};
 use std::alloc::Global;
 
 /// The version of a text whose first line has this number.
@@ -59,7 +62,8 @@ fn outcome_of(mut fields: Fields) -> Option<bool>
 
 /// Reads the line that says whether a schedule follows.
 fn outcome_line(reader: &mut Reader) -> Option<bool>
-    ensures read { MatchOption result (HasNone IsOutcomeLine reader.old.left) (λ b. HasRead IsOutcomeLine reader.old.left b reader.new.left) }
+    ensures read { MatchOption result (HasNone IsOutcomeLine reader.old.left)
+        (λ b. HasRead IsOutcomeLine reader.old.left b reader.new.left) }
     ensures counted { reader.new.number ≡ number_after reader.old.number }
 {
     let fields = reader.fields()?;
@@ -67,86 +71,85 @@ fn outcome_line(reader: &mut Reader) -> Option<bool>
 }
 
 /// Reads the number of departures and their lines.
-fn departures(alloc: Global, reader: &mut Reader, version: Version) -> Result<Departures, Halt>
-    ensures { (text : List ℕ) (s : Schedule) → IsAt NextOfCertificate first text reader.old (scheduled version (phase 0 s)) →
+fn departures(alloc: Global, reader: &mut Reader, version: Version) -> Result<Departures, ReadError>
+    ensures { (text : List ℕ) (s : Schedule) →
+        IsAt NextOfCertificate first text reader.old (scheduled version (phase 0 s)) →
         MatchResult result
         (λ ds. IsAt NextOfCertificate first text reader.new (departure version 0 s ds))
         (Halts (IsCertificateFault text reader.new.number)) }
 {
     let least = least_departure(version);
     let Some(count) = reader.count_line(b"departures", 0, MOST_COUNT) else {
-        return Err(Halt::Form);
+        return Err(ReadError::Malformed);
     };
     let mut found = Vec::new(alloc);
     for _departure in 0..count {
         let Some(departure) = reader.number_line(b"departure", least, MOST_NUMERATOR) else {
-            return Err(Halt::Form);
+            return Err(ReadError::Malformed);
         };
-        let Ok(()) = found.push(departure) else {
-            return Err(Halt::Memory);
-        };
+        found.push(departure)?;
     }
     Ok(Departures::new(found))
 }
 
 /// Reads the line of a member.
 #[tactic(auto, using(crate::proofs::MemberLaws::plain_words))]
-fn member_line(alloc: Global, reader: &mut Reader, version: Version) -> Result<Member, Halt>
+fn member_line(alloc: Global, reader: &mut Reader, version: Version) -> Result<Member, ReadError>
     ensures read { MatchResult result
         (λ m. HasRead (IsMemberLine version) reader.old.left m reader.new.left)
         (Halts (HasNone (IsMemberLine version) reader.old.left)) }
     ensures counted { reader.new.number ≡ number_after reader.old.number }
 {
     let Some(fields) = reader.fields() else {
-        return Err(Halt::Form);
+        return Err(ReadError::Malformed);
     };
     member_of(alloc, fields, version)
 }
 
 /// Reads the number of members and their lines.
-fn members(alloc: Global, reader: &mut Reader, version: Version) -> Result<Members, Halt>
-    ensures { (text : List ℕ) (c : Certificate) → IsAt NextOfCertificate first text reader.old (before_chain version c) →
+fn members(alloc: Global, reader: &mut Reader, version: Version) -> Result<Members, ReadError>
+    ensures { (text : List ℕ) (c : Certificate) →
+        IsAt NextOfCertificate first text reader.old (before_chain version c) →
         MatchResult result
         (λ chain. IsAt NextOfCertificate first text reader.new (link version 0 (with_chain c chain)))
         (Halts (IsCertificateFault text reader.new.number)) }
 {
     let Some(count) = reader.count_line(b"chain", 1, MOST_MEMBERS as u32) else {
-        return Err(Halt::Form);
+        return Err(ReadError::Malformed);
     };
     let mut found = Vec::new(alloc);
     for _member in 0..count {
         let member = member_line(alloc, reader, version)?;
-        let Ok(()) = found.push(member) else {
-            return Err(Halt::Memory);
-        };
+        found.push(member)?;
     }
     Ok(Members::new(found))
 }
 
 /// Reads the lines of a chain and the last line, and that none follows.
-fn chain(alloc: Global, reader: &mut Reader, version: Version) -> Result<Members, Halt>
-    ensures { (text : List ℕ) (c : Certificate) → IsAt NextOfCertificate first text reader.old (before_chain version c) →
+fn chain(alloc: Global, reader: &mut Reader, version: Version) -> Result<Members, ReadError>
+    ensures { (text : List ℕ) (c : Certificate) →
+        IsAt NextOfCertificate first text reader.old (before_chain version c) →
         MatchResult result
         (λ chain. IsCertificateText text (with_chain c chain))
         (Halts (IsCertificateFault text reader.new.number)) }
 {
     let chain = members(alloc, reader, version)?;
     let Some(()) = reader.word_line(b"end") else {
-        return Err(Halt::Form);
+        return Err(ReadError::Malformed);
     };
     let Some(()) = reader.end() else {
-        return Err(Halt::Form);
+        return Err(ReadError::Malformed);
     };
     Ok(chain)
 }
 
 /// Reads the lines after `least`.
-fn least(alloc: Global, reader: &mut Reader, version: Version) -> Result<Certificate, Halt>
+fn least(alloc: Global, reader: &mut Reader, version: Version) -> Result<Certificate, ReadError>
     ensures { (text : List ℕ) → IsAt NextOfCertificate first text reader.old (scheduled version den) →
         MatchResult result (IsCertificateText text) (Halts (IsCertificateFault text reader.new.number)) }
 {
     let Some(schedule) = schedule_lines(reader) else {
-        return Err(Halt::Form);
+        return Err(ReadError::Malformed);
     };
     let departures = departures(alloc, reader, version)?;
     let chain = chain(alloc, reader, version)?;
@@ -158,7 +161,7 @@ fn least(alloc: Global, reader: &mut Reader, version: Version) -> Result<Certifi
 }
 
 /// Reads the lines after `never`.
-fn never(alloc: Global, reader: &mut Reader, version: Version) -> Result<Certificate, Halt>
+fn never(alloc: Global, reader: &mut Reader, version: Version) -> Result<Certificate, ReadError>
     ensures { (text : List ℕ) → IsAt NextOfCertificate first text reader.old (no_schedule version) →
         MatchResult result (IsCertificateText text) (Halts (IsCertificateFault text reader.new.number)) }
 {
@@ -167,16 +170,16 @@ fn never(alloc: Global, reader: &mut Reader, version: Version) -> Result<Certifi
 }
 
 /// Reads all lines of a certificate, and that none follows.
-fn certificate(alloc: Global, reader: &mut Reader) -> Result<Certificate, Halt>
+fn certificate(alloc: Global, reader: &mut Reader) -> Result<Certificate, ReadError>
     ensures { (text : List ℕ) → IsAt NextOfCertificate first text reader.old first →
         MatchResult result (IsCertificateText text) (Halts (IsCertificateFault text reader.new.number)) }
 {
     let Some(number) = reader.count_line(b"certificate", 1, 2) else {
-        return Err(Halt::Form);
+        return Err(ReadError::Malformed);
     };
     let version = version_of(number);
     let Some(has_schedule) = outcome_line(reader) else {
-        return Err(Halt::Form);
+        return Err(ReadError::Malformed);
     };
     if has_schedule {
         least(alloc, reader, version)
@@ -196,10 +199,10 @@ pub fn read(alloc: Global, text: &[u8]) -> Result<Certificate, Stop>
     let mut reader = Reader::new(text);
     match certificate(alloc, &mut reader) {
         Ok(certificate) => Ok(certificate),
-        Err(Halt::Form) => Err(Stop::Refused(Refusal::Syntax {
+        Err(ReadError::Malformed) => Err(Stop::Refused(Refusal::Syntax {
             role: Role::Certificate,
             entry: reader.number(),
         })),
-        Err(Halt::Memory) => Err(Stop::OutOfMemory),
+        Err(ReadError::OutOfMemory) => Err(Stop::OutOfMemory),
     }
 }

@@ -1,5 +1,7 @@
 //! Laws of the text of certificates.
-ghost use Rattle.mintc_certificate.specs.TextLaws.{HaveOneCertificate, HaveNoCertificateFault, HaveOneCertificateFault, HaveOneCertificateText, SecondSaysFirst, WrittenAreTexts, WrittenAreAll, WrittenAreApart};
+ghost use Rattle.mintc_certificate.specs.TextLaws.{HaveOneCertificate, HaveNoCertificateFault, HaveOneCertificateFault};
+ghost use Rattle.mintc_certificate.specs.TextLaws.{HaveOneCertificateText, SecondSaysFirst, WrittenAreTexts};
+ghost use Rattle.mintc_certificate.specs.TextLaws.{WrittenAreAll, WrittenAreApart};
 
 /// A text is that of at most one certificate; where it is that of one, no line is at fault; and at most one line is.
 #[tactic(auto, using(crate::proofs::CertificatePlain::certificate_texts))]

@@ -5,7 +5,8 @@ ghost use Rattle.mintc_timing_text.specs.Fields.{number};
 ghost use Rattle.mintc_timing.specs.Limits.{IsInRange};
 ghost use Rattle.mintc_certificate.specs.CertificateText.{IsCounted, member_words};
 ghost use Rattle.mintc_certificate.specs.Ranges.{IsCertificateInRange};
-ghost use Rattle.mintc_certificate.specs.Written.{chain_lines, count_line, departure_lines, least_lines, lines_of, never_lines, number_line, phase_line, schedule_lines};
+ghost use Rattle.mintc_certificate.specs.Written.{chain_lines, count_line, departure_lines, least_lines, lines_of};
+ghost use Rattle.mintc_certificate.specs.Written.{never_lines, number_line, phase_line, schedule_lines};
 
 use crate::{Certificate, Member};
 use mintc_text::{Lines, OutOfMemory};
@@ -99,7 +100,8 @@ pub fn put_path(
     arcs: &[u32],
 ) -> Result<(), OutOfMemory>
     requires { length arcs.now < 2 ^ 32 }
-    ensures { OnOk result (lines.new ≡ lines.old ++ ended (words (word.now ∷ number from ∷ number to ∷ number (length arcs.now) ∷ map number arcs.now))) }
+    ensures { OnOk result (lines.new ≡ lines.old
+        ++ ended (words (word.now ∷ number from ∷ number to ∷ number (length arcs.now) ∷ map number arcs.now))) }
 {
     lines.put(word)?;
     lines.numbers(&[from, to, arcs.len() as u32])?;

@@ -4,11 +4,10 @@ use Rattle.std.specs.Int.{int_max}
 use Rattle.std.proofs.lemmas.Bool.{cases_eq}
 use Rattle.mintc_timing.specs.declared.clocking.Schedule.{Schedule}
 use Rattle.mintc_timing.specs.Clocking.{shift_of}
-use Rattle.mintc_timing.specs.Design.{Design, no_element}
+use Rattle.mintc_timing.specs.Design.{Design, no_element, element_at}
 use Rattle.mintc_timing.specs.Limits.{IsDesign}
 use Rattle.mintc_timing.specs.Paths.{input_of}
 use Rattle.mintc_lanes.specs.Lanes.{joined}
-use Rattle.mintc_checker.specs.Elements.{element_of}
 use Rattle.mintc_checker.specs.Trails.{LeadsTo, LeadsFrom, LeadsFromUpTo, time_along, arrival_along, IsLabel, IsLastArrival, IsLastUpTo}
 use Rattle.mintc_checker.proofs.Greatest.{greatest_alike, greatest_joined}
 
@@ -21,17 +20,17 @@ module _ (design : Design) (limits : IsDesign design) (s : Schedule) (d : List �
       (λ j path k. let low = k.phase in (record { trail = k.trail; phase = omega arith }, refl))
       (λ j path k. let at = k.phase in (path, record { trail = k.trail; phase = omega arith }, moved j path k.phase))
       (λ j path k. ⊎_elim
-      (λ (e : (element_of design j).phase ≡ p + 1). inr (path, record { trail = k.trail; phase = e }, moved j path e))
+      (λ (e : (element_at design j).phase ≡ p + 1). inr (path, record { trail = k.trail; phase = e }, moved j path e))
       (λ ne. let low = k.phase in inl (record { trail = k.trail; phase = omega arith }, refl))
-      (cases_eq (element_of design j).phase (p + 1)))
+      (cases_eq (element_at design j).phase (p + 1)))
       last label h g
     where
-      moved : (j : ℕ) (path : List ℕ) → (element_of design j).phase ≡ p + 1 → arrival_along design s d q j path ≡ time_along design s.den d j path +ℤ w
+      moved : (j : ℕ) (path : List ℕ) → (element_at design j).phase ≡ p + 1 → arrival_along design s d q j path ≡ time_along design s.den d j path +ℤ w
       moved j path e = ap (λ r. time_along design s.den d j path +ℤ shift_of s r q) e ∙ ap (λ v. time_along design s.den d j path +ℤ v) (sym is)
 
-  pub last-all : (p : ℕ) (last : Option ℤ) → p ≡ length design.phases → q ≡ (element_of design l).phase → IsLastUpTo design s d p l q last → IsLastArrival design s d l last
+  pub last-all : (p : ℕ) (last : Option ℤ) → p ≡ length design.phases → q ≡ (element_at design l).phase → IsLastUpTo design s d p l q last → IsLastArrival design s d l last
   last-all p last all own h =
-      greatest_alike (LeadsFromUpTo design p (input_of l)) (LeadsTo design (input_of l)) (arrival_along design s d q) (arrival_along design s d (element_of design l).phase)
+      greatest_alike (LeadsFromUpTo design p (input_of l)) (LeadsTo design (input_of l)) (arrival_along design s d q) (arrival_along design s d (element_at design l).phase)
       (λ j path k. (k.trail, ap (λ r. arrival_along design s d r j path) (sym own)))
       (λ j path k.
       let named = (limits.each_element j no_element k.element).phase in

@@ -3,24 +3,23 @@ use Rattle.std.proofs.Common.{◌≡◌, ◌≢◌, ℕ, ◌<◌, ◌+◌, ℤ, 
 use Rattle.std.proofs.lemmas.Int.{ints}
 use Rattle.std.proofs.lemmas.Bool.{cases_eq}
 use Rattle.mintc_timing.specs.Departures.{departure}
-use Rattle.mintc_timing.specs.Design.{Design}
+use Rattle.mintc_timing.specs.Design.{Design, element_at}
 use Rattle.mintc_timing.specs.Paths.{Leads, output_of}
 use Rattle.mintc_checker.specs.declared.labels.Labels.{Labels}
-use Rattle.mintc_checker.specs.Elements.{element_of}
 use Rattle.mintc_checker.specs.Trails.{IsGreatestTime, LeadsFrom, time_along}
 use Rattle.mintc_checker.specs.Labels.{labels_at, label_at, AreLabelsOf, IsStart}
 use Rattle.mintc_checker.proofs.Greatest.{greatest_of_one, greatest_same}
 
 -- the time of an empty path
-pub time-empty : (design : Design) (den : ℤ) (d : List ℤ) (j : ℕ) → time_along design den d j [] ≡ departure d j +ℤ (element_of design j).dq_max *ℤ den
+pub time-empty : (design : Design) (den : ℤ) (d : List ℤ) (j : ℕ) → time_along design den d j [] ≡ departure d j +ℤ (element_at design j).dq_max *ℤ den
 time-empty design den d j =
-    let dq : ℤ = (element_of design j).dq_max in
+    let dq : ℤ = (element_at design j).dq_max in
     let none : dq +ℤ pos 0 ≡ dq = omega (arith, ints) in
     ap (λ v. departure d j +ℤ v *ℤ den) none
 
 module _ (design : Design) (den : ℤ) (d : List ℤ) (i lane : ℕ) (time : ℤ) (old new : List Labels) (same : length new ≡ length old)
-    (inside : i < length design.elements) (of_phase : lane + 1 ≡ (element_of design i).phase)
-    (is : time ≡ departure d i +ℤ (element_of design i).dq_max *ℤ den)
+    (inside : i < length design.elements) (of_phase : lane + 1 ≡ (element_at design i).phase)
+    (is : time ≡ departure d i +ℤ (element_at design i).dq_max *ℤ den)
     (others : (other : ℕ) → other ≢ output_of i → labels_at new other ≡ labels_at old other)
     (lanes : (other : ℕ) → other ≢ lane → label_at new (output_of i) other ≡ label_at old (output_of i) other)
     (own : label_at new (output_of i) lane ≡ Some time)
@@ -32,7 +31,7 @@ module _ (design : Design) (den : ℤ) (d : List ℤ) (i lane : ℕ) (time : ℤ
   last : (l bit j : ℕ) (path : List ℕ) → Starts (i + 1) l bit j path → Starts i l bit j path ⊎ ((bit ≡ output_of i) × (l ≡ lane) × (j ≡ i))
   last l bit j path g = ⊎_elim
       (λ (e : j ≡ i).
-      let phase : (element_of design i).phase ≡ l + 1 = rw e at g.0.phase in
+      let phase : (element_at design i).phase ≡ l + 1 = rw e at g.0.phase in
       inr (sym (rw (g.1.1, e) at g.0.trail.leads), omega arith, e))
       (λ ne. let below = g.1.0 in inl (g.0, (omega arith, g.1.1)))
       (cases_eq j i)
@@ -53,7 +52,7 @@ module _ (design : Design) (den : ℤ) (d : List ℤ) (i lane : ℕ) (time : ℤ
       (λ j path g.
       let at : output_of j ≡ output_of i = subst (λ xs. Leads design.arcs (output_of j) xs (output_of i)) g.1.1 g.0.trail.leads in
       let here : j ≡ i = omega arith in
-      ap (time_along design den d j) g.1.1 ∙ time-empty design den d j ∙ ap (λ k. departure d k +ℤ (element_of design k).dq_max *ℤ den) here ∙ sym is)
+      ap (time_along design den d j) g.1.1 ∙ time-empty design den d j ∙ ap (λ k. departure d k +ℤ (element_at design k).dq_max *ℤ den) here ∙ sym is)
 
   abbrev IsOf : ℕ → ℕ → Option ℤ → Type 0
   IsOf bit l x = IsGreatestTime (Starts (i + 1) l bit) (time_along design den d) x

@@ -3,7 +3,7 @@ use Rattle.std.proofs.Common.{◌≡◌, ◌≢◌, ℕ, ◌<◌, ◌+◌, ℤ, 
 use Rattle.std.specs.Int.{int_max}
 use Rattle.std.proofs.lemmas.Int.{ints}
 use Rattle.std.proofs.lemmas.Bool.{cases_eq}
-use Rattle.mintc_timing.specs.Design.{Design}
+use Rattle.mintc_timing.specs.Design.{Design, element_at}
 use Rattle.mintc_timing.specs.Order.{IsOrder}
 use Rattle.mintc_timing.specs.Paths.{arc_at, output_of, greatest_delay}
 use Rattle.mintc_timing.proofs.SharedProducts.{add-times}
@@ -12,7 +12,6 @@ use Rattle.mintc_timing.proofs.SharedOrdered.{Leads-push, AreAmong-push, AreAmon
 use Rattle.mintc_graph.proofs.SharedRingLaws.{total-push}
 use Rattle.mintc_lanes.specs.Lanes.{joined, AreJoined}
 use Rattle.mintc_checker.specs.declared.labels.Labels.{Labels}
-use Rattle.mintc_checker.specs.Elements.{element_of}
 use Rattle.mintc_checker.specs.Trails.{IsGreatestTime, LeadsFrom, time_along}
 use Rattle.mintc_checker.specs.Labels.{labels_at, label_at, AreLabels, AreLabelsOf, IsStart, IsAlong}
 use Rattle.mintc_checker.proofs.Greatest.{greatest_same, greatest_joined}
@@ -23,7 +22,7 @@ module _ (design : Design) (den : ℤ) (d : List ℤ) where
   time-push j path n =
       let weight : ℕ → ℤ = λ m. (arc_at design.arcs m).max in
       let sum : greatest_delay design.arcs (path ++ n ∷ []) ≡ greatest_delay design.arcs path +ℤ weight n = total-push weight path n in
-      let dq : ℤ = (element_of design j).dq_max in
+      let dq : ℤ = (element_at design j).dq_max in
       let whole : dq +ℤ greatest_delay design.arcs (path ++ n ∷ []) ≡ (dq +ℤ greatest_delay design.arcs path) +ℤ weight n = omega (arith, ints) in
       let times : (dq +ℤ greatest_delay design.arcs (path ++ n ∷ [])) *ℤ den ≡ (dq +ℤ greatest_delay design.arcs path) *ℤ den +ℤ weight n *ℤ den =
       ap (λ v. v *ℤ den) whole ∙ add-times (dq +ℤ greatest_delay design.arcs path) (weight n) den in

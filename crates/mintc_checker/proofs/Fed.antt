@@ -6,11 +6,10 @@ use Rattle.std.proofs.lemmas.List.Folds.{Any-from_list_any, list_any-from_Any}
 use Rattle.mintc_text.specs.declared.limits.TheConstants.{MOST_PHASES}
 use Rattle.mintc_timing.specs.declared.parts.Pair.{Pair}
 use Rattle.mintc_timing.specs.Clocking.{feeds_of, is_pair_between}
-use Rattle.mintc_timing.specs.Design.{Design, Timing}
+use Rattle.mintc_timing.specs.Design.{Design, Timing, element_at}
 use Rattle.mintc_timing.specs.Limits.{IsPhase}
 use Rattle.mintc_timing.specs.Paths.{ArePairs, HasExtremes, input_of}
 use Rattle.mintc_checker.specs.declared.labels.Labels.{Labels}
-use Rattle.mintc_checker.specs.Elements.{element_of}
 use Rattle.mintc_checker.specs.Trails.{LeadsFrom, IsLabel}
 use Rattle.mintc_checker.specs.Labels.{AreLabels, label_at}
 use Rattle.mintc_checker.specs.Decided.{IsFed}
@@ -59,18 +58,18 @@ module _ (design : Design) (den : ℤ) (d : List ℤ) (labels : List Labels) (ar
       let leads = trail.1.2 in
       let found = pair_of_trail design along pairs are_pairs l trail.1.0 trail.1.1 h.1 leads.trail in
       let p : Pair = found.0 in
-      let from : (element_of design p.from).phase ≡ i = ap (λ k. (element_of design k).phase) found.3 ∙ leads.phase in
-      let to : (element_of design p.to).phase ≡ j = ap (λ k. (element_of design k).phase) found.4 ∙ h.2.0 in
-      let latch : (element_of design p.to).flop ≡ false = ap (λ k. (element_of design k).flop) found.4 ∙ h.2.1 in
+      let from : (element_at design p.from).phase ≡ i = ap (λ k. (element_at design k).phase) found.3 ∙ leads.phase in
+      let to : (element_at design p.to).phase ≡ j = ap (λ k. (element_at design k).phase) found.4 ∙ h.2.0 in
+      let latch : (element_at design p.to).flop ≡ false = ap (λ k. (element_at design k).flop) found.4 ∙ h.2.1 in
       let at = found.1 in
-      list_any-from_Any (is_pair_between t.flat i j) pairs (at.0, p, at.1, at.2, all_three (element_of design p.from).phase (element_of design p.to).phase i j (element_of design p.to).flop from to latch)
+      list_any-from_Any (is_pair_between t.flat i j) pairs (at.0, p, at.1, at.2, all_three (element_at design p.from).phase (element_at design p.to).phase i j (element_at design p.to).flop from to latch)
 
   pub pair-fed : feeds_of t i j ≡ true → IsFedFrom design labels i j
   pair-fed h =
       let some = Any-from_list_any (is_pair_between t.flat i j) pairs h in
       let p : Pair = some.1 in
       let extremes : HasExtremes design p = rw some.3 at (are_pairs.each some.0 p some.2) in
-      let tests = three (element_of design p.from).phase (element_of design p.to).phase i j (element_of design p.to).flop some.4 in
+      let tests = three (element_at design p.from).phase (element_at design p.to).phase i j (element_at design p.to).flop some.4 in
       let trail = trail_of_pair design along pairs are_pairs p extremes in
       let leads : LeadsFrom design i (input_of p.to) p.from trail.0 = record { trail = trail.1; phase = tests.0 } in
       let l : ℕ = p.to in

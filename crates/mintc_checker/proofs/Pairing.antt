@@ -6,14 +6,13 @@ use Rattle.std.proofs.lemmas.Int.{ints}
 use Rattle.mintc_timing.specs.declared.parts.Pair.{Pair}
 use Rattle.mintc_timing.specs.declared.clocking.Schedule.{Schedule}
 use Rattle.mintc_timing.specs.Departures.{late_arrival, late_arrivals}
-use Rattle.mintc_timing.specs.Design.{Design, Timing}
+use Rattle.mintc_timing.specs.Design.{Design, Timing, element_at}
 use Rattle.mintc_timing.specs.Extremes.{greatest_of, IsGreatest}
 use Rattle.mintc_timing.specs.Paths.{IsPath, Leads, ArePairs, HasExtremes, input_of, output_of, greatest_delay}
 use Rattle.mintc_timing.proofs.SharedExtremesLaws.{greatest_is}
 use Rattle.mintc_timing.proofs.SharedProducts.{times-mono_positive}
 use Rattle.mintc_checker.proofs.Deciding.{same_test}
 use Rattle.mintc_checker.specs.Decided.{OfTiming}
-use Rattle.mintc_checker.specs.Elements.{element_of}
 use Rattle.mintc_checker.specs.Trails.{LeadsTo, arrival_along, IsLastArrival}
 
 -- the timing of a design, an order of its arcs and pairs
@@ -51,7 +50,7 @@ module _ (design : Design) (along : List ℕ) (pairs : List Pair) (are_pairs : A
 
   module _ (s : Schedule) (d : List ℤ) (positive : pos 1 ≤ℤ s.den) (l : ℕ) (inside : l < length design.elements) where
     abbrev arrives : ℕ → List ℕ → ℤ
-    arrives j path = arrival_along design s d (element_of design l).phase j path
+    arrives j path = arrival_along design s d (element_at design l).phase j path
 
     -- A pair's arrival is that of a trail with its greatest delay, and at least that of each trail.
     same_arrival : (p : Pair) (path : List ℕ) → p.to ≡ l → greatest_delay design.arcs path ≡ p.max → arrives p.from path ≡ late_arrival t.flat s d p
@@ -59,8 +58,8 @@ module _ (design : Design) (along : List ℕ) (pairs : List Pair) (are_pairs : A
 
     no_later : (p : Pair) (path : List ℕ) → p.to ≡ l → greatest_delay design.arcs path ≤ℤ p.max → arrives p.from path ≤ℤ late_arrival t.flat s d p
     no_later p path to low =
-        let sum : ((element_of design p.from).dq_max +ℤ greatest_delay design.arcs path) ≤ℤ ((element_of design p.from).dq_max +ℤ p.max) = omega (arith, ints) in
-        let product = times-mono_positive ((element_of design p.from).dq_max +ℤ greatest_delay design.arcs path) ((element_of design p.from).dq_max +ℤ p.max) s.den sum positive in
+        let sum : ((element_at design p.from).dq_max +ℤ greatest_delay design.arcs path) ≤ℤ ((element_at design p.from).dq_max +ℤ p.max) = omega (arith, ints) in
+        let product = times-mono_positive ((element_at design p.from).dq_max +ℤ greatest_delay design.arcs path) ((element_at design p.from).dq_max +ℤ p.max) s.den sum positive in
         rw to (omega (arith, ints))
 
     -- each pair to the element arrives no later than the last trail

@@ -6,7 +6,7 @@ use Rattle.std.proofs.lemmas.Int.{ints}
 use Rattle.std.proofs.lemmas.Bool.{cases_lt}
 use Rattle.std.proofs.lemmas.List.{get_or_past}
 use Rattle.mintc_timing.specs.Departures.{departure}
-use Rattle.mintc_timing.specs.Design.{Design, no_element}
+use Rattle.mintc_timing.specs.Design.{Design, no_element, element_at}
 use Rattle.mintc_timing.specs.Limits.{IsDesign, IsDenominator}
 use Rattle.mintc_timing.specs.Order.{ArePathsShort}
 use Rattle.mintc_timing.specs.Paths.{greatest_delay}
@@ -15,7 +15,6 @@ use Rattle.mintc_certificate.specs.Ranges.{IsDeparture}
 use Rattle.mintc_certificate.proofs.SharedPathDelays.{path-range}
 use Rattle.mintc_lanes.specs.Lanes.{AreLanes}
 use Rattle.mintc_checker.specs.declared.labels.Labels.{Labels}
-use Rattle.mintc_checker.specs.Elements.{element_of}
 use Rattle.mintc_checker.specs.Trails.{IsGreatestTime, LeadsTo, LeadsFrom, time_along}
 use Rattle.mintc_checker.specs.Labels.{labels_at, label_at, AreLabels, AreLabelsOf}
 use Rattle.mintc_checker.specs.Judged.{IsLate, AreTimelyLabels}
@@ -37,8 +36,8 @@ module _ (design : Design) (limits : IsDesign design) (short : ArePathsShort des
       let leaves = departure-range d each j in
       let dq = (limits.each_element j no_element h.element).dq_max in
       let delay = path-range design limits short j bit path h.element h.leads in
-      let sum : (pos 0 ≤ℤ ((element_of design j).dq_max +ℤ greatest_delay design.arcs path)) × (((element_of design j).dq_max +ℤ greatest_delay design.arcs path) ≤ℤ pos 2000000000) = (omega (arith, ints), omega (arith, ints)) in
-      let product = product-range ((element_of design j).dq_max +ℤ greatest_delay design.arcs path) den sum is_den in
+      let sum : (pos 0 ≤ℤ ((element_at design j).dq_max +ℤ greatest_delay design.arcs path)) × (((element_at design j).dq_max +ℤ greatest_delay design.arcs path) ≤ℤ pos 2000000000) = (omega (arith, ints), omega (arith, ints)) in
+      let product = product-range ((element_at design j).dq_max +ℤ greatest_delay design.arcs path) den sum is_den in
       (omega (arith, ints), omega (arith, ints))
 
   -- what some trail attains is of that size

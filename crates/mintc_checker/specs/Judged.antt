@@ -1,12 +1,12 @@
 -- How large the labels and arrivals are, and what a phase and its elements ask.
-use Rattle.std.specs.Prelude.{◌≡◌, ◌+◌, ◌-◌, ◌<◌, ℕ, ℤ, pos, negsuc, neg_ℤ, ◌≤ℤ◌, IfSome, List, length, IsFalse, IsSome, All, ◌*ℤ◌}
+use Rattle.std.specs.Prelude.{◌≡◌, ◌+◌, ◌-◌, ◌<◌, ℕ, ℤ, pos, negsuc, neg_ℤ, ◌≤ℤ◌, IfSome, List, length, IsFalse, IsSome}
+use Rattle.std.specs.Prelude.{All, ◌*ℤ◌}
 use Rattle.mintc_text.specs.declared.limits.TheConstants.{MOST_NUMERATOR}
 use Rattle.mintc_timing.specs.Clocking.{least_width, start_of, width_of}
-use Rattle.mintc_timing.specs.Design.{Design, phase_count}
+use Rattle.mintc_timing.specs.Design.{Design, phase_count, element_at}
 use Rattle.mintc_timing.specs.Paths.{input_of}
 use Rattle.mintc_timing.specs.declared.clocking.Schedule.{Schedule}
 use Rattle.mintc_certificate.specs.Ranges.{IsDeparture}
-use Rattle.mintc_checker.specs.Elements.{element_of}
 use Rattle.mintc_checker.specs.declared.labels.Labels.{Labels}
 use Rattle.mintc_checker.specs.Labels.{AreLabels, label_at}
 
@@ -14,6 +14,7 @@ use Rattle.mintc_checker.specs.Labels.{AreLabels, label_at}
 abbrev pub IsLate : ℤ → Type 0
 IsLate x = (neg_ℤ MOST_NUMERATOR ≤ℤ x) × (x ≤ℤ pos 300000000000000)
 
+-- Each label at each bit is a time.
 abbrev pub AreTimely : List Labels → Type 0
 AreTimely labels = (bit lane : ℕ) → bit < length labels → lane < 8 → IfSome (label_at labels bit lane) IsLate
 
@@ -29,7 +30,8 @@ IsArrivalTime x = (negsuc 299999999999999 ≤ℤ x) × (x ≤ℤ pos 50000000000
 
 -- Element l is a latch on phase j, and data of phase i reaches it.
 abbrev pub IsFedAt : Design → List Labels → ℕ → ℕ → ℕ → Type 0
-IsFedAt design labels i j l = ((element_of design l).phase ≡ j) × IsFalse (element_of design l).flop × IsSome (label_at labels (input_of l) (i - 1))
+IsFedAt design labels i j l = ((element_at design l).phase ≡ j) × IsFalse (element_at design l).flop
+    × IsSome (label_at labels (input_of l) (i - 1))
 
 -- What the clock asks of phase p by itself: that its start and its width are in range, that the next phase starts no
 -- sooner, and that it is as wide as its elements ask.

@@ -6,10 +6,11 @@ use Rattle.mintc_lanes.specs.Lanes.{lane_at}
 use Rattle.mintc_checker.specs.declared.labels.Labels.{Labels}
 use Rattle.mintc_checker.specs.Trails.{IsGreatestTime, LeadsFrom, time_along, IsLabel}
 
--- the labels at a bit; a bit past the end has none
+-- what stands for the labels at a bit past the end
 abbrev pub no_labels : Labels
 no_labels = record { lanes = [] }
 
+-- the labels at a bit
 abbrev pub labels_at : List Labels → ℕ → Labels
 labels_at labels bit = slice_index_or labels bit no_labels
 
@@ -18,15 +19,18 @@ abbrev pub label_at : List Labels → ℕ → ℕ → Option ℤ
 label_at labels bit lane = lane_at (labels_at labels bit).lanes lane
 
 -- Each lane has the greatest time of the trails from its phase that are of a kind.
-pub record AreLabelsOf (design : Design) (den : ℤ) (d : List ℤ) (IsOfKind : ℕ → List ℕ → Type 0) (labels : List Labels) : Type 0 where
+pub record AreLabelsOf (design : Design) (den : ℤ) (d : List ℤ) (IsOfKind : ℕ → List ℕ →
+    Type 0) (labels : List Labels) : Type 0 where
   pub count : length labels ≡ 2 * length design.elements + length design.inner
   pub each : (bit lane : ℕ) → bit < length labels → lane < 8 →
-      IsGreatestTime (λ j path. LeadsFrom design (lane + 1) bit j path × IsOfKind j path) (time_along design den d) (label_at labels bit lane)
+      IsGreatestTime (λ j path. LeadsFrom design (lane + 1) bit j path × IsOfKind j path) (time_along design den d)
+      (label_at labels bit lane)
 
 -- Each lane has the label of its phase.
 pub record AreLabels (design : Design) (den : ℤ) (d : List ℤ) (labels : List Labels) : Type 0 where
   pub count : length labels ≡ 2 * length design.elements + length design.inner
-  pub each : (bit lane : ℕ) → bit < length labels → lane < 8 → IsLabel design den d (lane + 1) bit (label_at labels bit lane)
+  pub each : (bit lane : ℕ) → bit < length labels → lane < 8 →
+      IsLabel design den d (lane + 1) bit (label_at labels bit lane)
 
 -- the trails along no arcs from the elements below a number
 abbrev pub IsStart : ℕ → ℕ → List ℕ → Type 0

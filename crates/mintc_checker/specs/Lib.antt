@@ -1,4 +1,3 @@
-pub mod Elements
 pub mod Decided
 pub mod Verdicts
 pub mod Trails

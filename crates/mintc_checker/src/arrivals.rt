@@ -13,7 +13,6 @@ ghost use Rattle.mintc_checker.specs.Trails.{IsLastArrival};
 
 use crate::clocked_design::ClockedDesign;
 use crate::labels::{Labels, departure_at, label_in};
-use crate::reading::element;
 use mintc_timing::shift;
 use mintc_timing_links::{times_denominator, width};
 
@@ -35,40 +34,46 @@ fn later(last: Option<i64>, label: Option<i64>, add: i64) -> Option<i64>
 }
 
 /// When the last data arrives at an element, counted from the start of its phase; None where no trail leads to it.
-fn last_arrival(clocked: &ClockedDesign<'_>, labels: &[Labels], number: usize) -> Option<i64>
+fn last_arrival(clocked: &ClockedDesign<'_>, labels: &[Labels], number: u32) -> Option<i64>
     requires number { number < length clocked.now.flat.now.elements }
     requires count { length labels.now ≡ 2 * length clocked.now.flat.now.elements + length clocked.now.flat.now.inner }
     requires timely { AreTimely labels.now }
-    ensures last { (d : List ℤ) → AreLabels clocked.now.flat.now clocked.now.schedule.now.den d labels.now → IsLastArrival clocked.now.flat.now clocked.now.schedule.now d number result }
+    ensures last { (d : List ℤ) → AreLabels clocked.now.flat.now clocked.now.schedule.now.den d labels.now →
+        IsLastArrival clocked.now.flat.now clocked.now.schedule.now d number result }
     ensures range { IfSome result IsArrivalTime }
 {
-    let phase = element(clocked.flat, number).phase;
+    let phase = clocked.flat.element(number).phase;
     let mut last = None;
-    for lane in 0..clocked.flat.phases().items().len() {
-        let add = shift(clocked.schedule, lane as u32 + 1, phase);
-        last = later(last, label_in(labels, 2 * number, lane), add);
+    for lane in 0..clocked.flat.phase_count() {
+        let add = shift(clocked.schedule, lane + 1, phase);
+        last = later(
+            last,
+            label_in(labels, 2 * number as usize, lane as usize),
+            add,
+        );
     }
     last
 }
 
 /// When an element opens.
-fn opening(clocked: &ClockedDesign<'_>, number: usize) -> i64
+fn opening(clocked: &ClockedDesign<'_>, number: u32) -> i64
     requires number { number < length clocked.now.flat.now.elements }
     ensures value { result ≡ late_opening clocked.now.flat.now clocked.now.schedule.now number }
     ensures range { IsModest result }
 {
-    let element = element(clocked.flat, number);
+    let element = clocked.flat.element(number);
     times_denominator(element.cq_max - element.dq_max, clocked.schedule.den)
 }
 
 /// When an element's data leaves, as the labels make it.
-fn late_departure(clocked: &ClockedDesign<'_>, labels: &[Labels], number: usize) -> i64
+fn late_departure(clocked: &ClockedDesign<'_>, labels: &[Labels], number: u32) -> i64
     requires number { number < length clocked.now.flat.now.elements }
     requires count { length labels.now ≡ 2 * length clocked.now.flat.now.elements + length clocked.now.flat.now.inner }
     requires timely { AreTimely labels.now }
-    ensures value { (d : List ℤ) → AreLabels clocked.now.flat.now clocked.now.schedule.now.den d labels.now → OfTiming clocked.now.flat.now (λ t. result ≡ departure_of t clocked.now.schedule.now d number) }
+    ensures value { (d : List ℤ) → AreLabels clocked.now.flat.now clocked.now.schedule.now.den d labels.now →
+        OfTiming clocked.now.flat.now (λ t. result ≡ departure_of t clocked.now.schedule.now d number) }
 {
-    if element(clocked.flat, number).flop {
+    if clocked.flat.element(number).flop {
         return 0;
     }
     let open = opening(clocked, number);
@@ -79,17 +84,13 @@ fn late_departure(clocked: &ClockedDesign<'_>, labels: &[Labels], number: usize)
 }
 
 /// Whether an element's departure is what the labels make it.
-fn is_exact(
-    clocked: &ClockedDesign<'_>,
-    labels: &[Labels],
-    departures: &[i64],
-    number: usize,
-) -> bool
+fn is_exact(clocked: &ClockedDesign<'_>, labels: &[Labels], departures: &[i64], number: u32) -> bool
     requires number { number < length clocked.now.flat.now.elements }
     requires labels { AreTimelyLabels clocked.now.flat.now clocked.now.schedule.now.den departures.now labels.now }
-    ensures { Decides clocked.now.flat.now result (λ t. departure departures.now number ≡ departure_of t clocked.now.schedule.now departures.now number) }
+    ensures { Decides clocked.now.flat.now result (λ t. departure departures.now number
+        ≡ departure_of t clocked.now.schedule.now departures.now number) }
 {
-    departure_at(departures, number) == late_departure(clocked, labels, number)
+    departure_at(departures, number as usize) == late_departure(clocked, labels, number)
 }
 
 /// Whether all departures are exact: the fourth test.
@@ -98,7 +99,7 @@ pub(crate) fn are_exact(clocked: &ClockedDesign<'_>, labels: &[Labels], departur
     requires labels { AreTimelyLabels clocked.now.flat.now clocked.now.schedule.now.den departures.now labels.now }
     ensures { Decides clocked.now.flat.now result (λ t. AreExact t clocked.now.schedule.now departures.now) }
 {
-    for number in 0..clocked.flat.elements().len() {
+    for number in 0..clocked.flat.element_count() {
         if !is_exact(clocked, labels, departures, number) {
             return false;
         }
@@ -111,16 +112,16 @@ fn keeps_setup(
     clocked: &ClockedDesign<'_>,
     labels: &[Labels],
     departures: &[i64],
-    number: usize,
+    number: u32,
 ) -> bool
     requires number { number < length clocked.now.flat.now.elements }
     requires labels { AreTimelyLabels clocked.now.flat.now clocked.now.schedule.now.den departures.now labels.now }
     ensures { Decides clocked.now.flat.now result (λ t. KeepsSetup t clocked.now.schedule.now departures.now number) }
 {
-    let element = element(clocked.flat, number);
+    let element = clocked.flat.element(number);
     let setup = times_denominator(element.setup, clocked.schedule.den);
     if !element.flop {
-        let leaves = i64::max(0, departure_at(departures, number));
+        let leaves = i64::max(0, departure_at(departures, number as usize));
         return leaves + setup <= width(clocked.schedule, element.phase);
     }
     match last_arrival(clocked, labels, number) {
@@ -136,9 +137,10 @@ pub(crate) fn keep_setups(
     departures: &[i64],
 ) -> bool
     requires labels { AreTimelyLabels clocked.now.flat.now clocked.now.schedule.now.den departures.now labels.now }
-    ensures { Decides clocked.now.flat.now result (λ t. (l : ℕ) → l < element_count t.flat → KeepsSetup t clocked.now.schedule.now departures.now l) }
+    ensures { Decides clocked.now.flat.now result (λ t. (l : ℕ) → l < element_count t.flat →
+        KeepsSetup t clocked.now.schedule.now departures.now l) }
 {
-    for number in 0..clocked.flat.elements().len() {
+    for number in 0..clocked.flat.element_count() {
         if !keeps_setup(clocked, labels, departures, number) {
             return false;
         }

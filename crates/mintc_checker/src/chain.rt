@@ -22,8 +22,8 @@ fn are_members(flat: &Flat, fed: &[bool], members: &[Member]) -> bool
     ensures named { OnTrue result (All (IsNamed flat.now) members.now) }
     ensures members { Decides flat.now result (λ t. All (IsMember t) members.now) }
 {
-    for place in 0..members.len() {
-        if !is_member(flat, fed, &members[place]) {
+    for member in members {
+        if !is_member(flat, fed, member) {
             return false;
         }
     }
@@ -48,7 +48,8 @@ fn lead_round(flat: &Flat, members: &[Member]) -> bool
     requires short { ArePathsShort flat.now }
     requires named { All (IsNamed flat.now) members.now }
     requires chain { IsChainInRange members.now }
-    ensures { IsTrue result ↔ IsClosed (λ (k : LinkValue). k.from) (λ (k : LinkValue). k.to) (links_of_members flat.now members.now) }
+    ensures { IsTrue result ↔ IsClosed (λ (k : LinkValue). k.from) (λ (k : LinkValue). k.to)
+        (links_of_members flat.now members.now) }
 {
     let first = link_at(flat, members, 0);
     let mut at = first.to;
@@ -78,7 +79,8 @@ pub(crate) fn is_tight(clocked: &ClockedDesign<'_>, members: &[Member]) -> bool
     requires short { ArePathsShort clocked.now.flat.now }
     requires named { All (IsNamed clocked.now.flat.now) members.now }
     requires chain { IsChainInRange members.now }
-    ensures { IsTrue result ↔ IsTight (links_of_members clocked.now.flat.now members.now) clocked.now.schedule.now.cycle clocked.now.schedule.now.den }
+    ensures { IsTrue result ↔ IsTight (links_of_members clocked.now.flat.now members.now) clocked.now.schedule.now.cycle
+        clocked.now.schedule.now.den }
 {
     let sums = sums_of(clocked.flat, members);
     1 <= sums.cycles && sums.delay * clocked.schedule.den == sums.cycles * clocked.schedule.cycle

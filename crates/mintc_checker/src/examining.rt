@@ -58,7 +58,9 @@ fn judge_least(
     requires order { IsOrder flat.now.arcs order.now }
     requires short { ArePathsShort flat.now }
     requires in_range { IsLeastInRange schedule.now departures.now chain.now }
-    ensures { IfOk result (λ verdict. OfTiming flat.now (λ t. IsVerdict t (Certificate.Least schedule.now departures.now chain.now) verdict)) }
+    ensures { IfOk result
+        (λ verdict. OfTiming flat.now
+        (λ t. IsVerdict t (Certificate.Least schedule.now departures.now chain.now) verdict)) }
 {
     if !has_counts(flat, schedule, departures) {
         return Ok(Verdict::Invalid(1));

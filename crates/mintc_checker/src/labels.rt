@@ -1,17 +1,18 @@
 //! Labels of phases at all bits: when data comes there at the latest.
-ghost use Rattle.std.specs.Prelude.{◌≡◌, ◌≢◌, ◌+◌, ◌*◌, ◌^◌, ◌<◌, ◌≤◌, ◌+ℤ◌, ◌*ℤ◌, ℕ, length, None, Some, IfOk, All, unsigned_abs};
+ghost use Rattle.std.specs.Prelude.{◌≡◌, ◌≢◌, ◌+◌, ◌*◌, ◌^◌, ◌<◌, ◌≤◌, ◌+ℤ◌, ◌*ℤ◌, ℕ, length, None, Some, IfOk, All};
+ghost use Rattle.std.specs.Prelude.{unsigned_abs};
 ghost use Rattle.std.specs.Int.{int_max};
 ghost use Rattle.mintc_lanes.specs.Lanes.{lane_at, AreJoined, AreLanes};
 ghost use Rattle.mintc_timing.specs.Departures.{departure};
-ghost use Rattle.mintc_timing.specs.Limits.{IsTime};
+ghost use Rattle.mintc_timing.specs.Limits.{IsDesign, IsTime};
 ghost use Rattle.mintc_timing.specs.Order.{IsOrder};
 ghost use Rattle.mintc_certificate.specs.Ranges.{IsDeparture};
-ghost use Rattle.mintc_checker.specs.Elements.{element_of};
+ghost use Rattle.mintc_timing.specs.Design.{element_at};
 ghost use Rattle.mintc_checker.specs.Judged.{AreTimelyLabels};
 ghost use Rattle.mintc_checker.specs.Labels.{AreLabelsOf, IsStart, label_at, labels_at, IsAlong};
 
 use crate::departing_design::DepartingDesign;
-use crate::reading::{arc_at_place, element};
+use crate::reading::arc_at_place;
 use mintc_lanes::{ABSENT, max_plus_row};
 use mintc_text::OutOfMemory;
 use mintc_timing::Order;
@@ -59,13 +60,15 @@ pub(crate) fn departure_at(departures: &[i64], number: usize) -> i64
 }
 
 /// When an element's data leaves its output.
-fn output_time(departing: &DepartingDesign<'_>, number: usize) -> i64
+fn output_time(departing: &DepartingDesign<'_>, number: u32) -> i64
     requires number { number < length departing.now.flat.now.elements }
-    ensures value { result ≡ departure departing.now.departures.now number +ℤ (element_of departing.now.flat.now number).dq_max *ℤ departing.now.den }
+    ensures value { result
+        ≡ departure departing.now.departures.now number +ℤ
+        (element_at departing.now.flat.now number).dq_max *ℤ departing.now.den }
     ensures range { IsTime result }
 {
-    departure_at(departing.departures, number)
-        + times_denominator(element(departing.flat, number).dq_max, departing.den)
+    departure_at(departing.departures, number as usize)
+        + times_denominator(departing.flat.element(number).dq_max, departing.den)
 }
 
 /// Begins a lane at a bit.
@@ -82,23 +85,28 @@ fn begin(labels: &mut [Labels], bit: usize, lane: usize, time: i64)
 }
 
 /// Begins the lane of an element's phase at its output.
-fn begin_element(labels: &mut [Labels], departing: &DepartingDesign<'_>, number: usize)
+fn begin_element(labels: &mut [Labels], departing: &DepartingDesign<'_>, number: u32)
     requires number { number < length departing.now.flat.now.elements }
-    requires labels { AreLabelsOf departing.now.flat.now departing.now.den departing.now.departures.now (IsStart number) labels.old }
-    ensures { AreLabelsOf departing.now.flat.now departing.now.den departing.now.departures.now (IsStart (number + 1)) labels.new }
+    requires labels { AreLabelsOf departing.now.flat.now departing.now.den departing.now.departures.now
+        (IsStart number) labels.old }
+    ensures { AreLabelsOf departing.now.flat.now departing.now.den departing.now.departures.now
+        (IsStart (number + 1)) labels.new }
 {
-    let lane = element(departing.flat, number).phase as usize - 1;
+    let lane = departing.flat.element(number).phase as usize - 1;
     let time = output_time(departing, number);
-    begin(labels, 2 * number + 1, lane, time);
+    begin(labels, 2 * number as usize + 1, lane, time);
 }
 
 /// Makes the labels those of the empty paths.
 fn begin_all(labels: &mut [Labels], departing: &DepartingDesign<'_>)
-    requires count { length labels.old ≡ 2 * length departing.now.flat.now.elements + length departing.now.flat.now.inner }
+    requires count { length labels.old
+        ≡ 2 * length departing.now.flat.now.elements + length departing.now.flat.now.inner }
     requires absent { (bit : ℕ) → bit < length labels.old → labels_at labels.old bit ≡ NO_LABELS }
-    ensures { AreLabelsOf departing.now.flat.now departing.now.den departing.now.departures.now (IsStart (length departing.now.flat.now.elements)) labels.new }
+    ensures labels { AreLabelsOf departing.now.flat.now departing.now.den departing.now.departures.now
+        (IsStart (length departing.now.flat.now.elements)) labels.new }
+    ensures design { IsDesign departing.now.flat.now }
 {
-    for number in 0..departing.flat.elements().len() {
+    for number in 0..departing.flat.element_count() {
         begin_element(labels, departing, number);
     }
 }
@@ -111,7 +119,8 @@ fn carry(labels: &mut [Labels], from: u32, to: u32, add: i64)
     requires from_lanes { AreLanes (labels_at labels.old from).lanes }
     requires to_lanes { AreLanes (labels_at labels.old to).lanes }
     ensures others { (bit : ℕ) → bit ≢ to → labels_at labels.new bit ≡ labels_at labels.old bit }
-    ensures joined { AreJoined int_max (labels_at labels.old to).lanes (labels_at labels.old from).lanes add (labels_at labels.new to).lanes }
+    ensures joined { AreJoined int_max (labels_at labels.old to).lanes (labels_at labels.old from).lanes add
+        (labels_at labels.new to).lanes }
 {
     let row = labels[from as usize].lanes;
     let at = &mut labels[to as usize];
@@ -122,8 +131,10 @@ fn carry(labels: &mut [Labels], from: u32, to: u32, add: i64)
 fn carry_arc(labels: &mut [Labels], departing: &DepartingDesign<'_>, order: &Order, place: usize)
     requires order { IsOrder departing.now.flat.now.arcs order.now }
     requires place { place < length order.now }
-    requires labels { AreLabelsOf departing.now.flat.now departing.now.den departing.now.departures.now (IsAlong order.now place) labels.old }
-    ensures { AreLabelsOf departing.now.flat.now departing.now.den departing.now.departures.now (IsAlong order.now (place + 1)) labels.new }
+    requires labels { AreLabelsOf departing.now.flat.now departing.now.den departing.now.departures.now
+        (IsAlong order.now place) labels.old }
+    ensures { AreLabelsOf departing.now.flat.now departing.now.den departing.now.departures.now
+        (IsAlong order.now (place + 1)) labels.new }
 {
     let arc = arc_at_place(departing.flat, order, place);
     carry(
@@ -137,8 +148,10 @@ fn carry_arc(labels: &mut [Labels], departing: &DepartingDesign<'_>, order: &Ord
 /// Carries the labels along all arcs.
 fn carry_all(labels: &mut [Labels], departing: &DepartingDesign<'_>, order: &Order)
     requires order { IsOrder departing.now.flat.now.arcs order.now }
-    requires labels { AreLabelsOf departing.now.flat.now departing.now.den departing.now.departures.now (IsAlong order.now 0) labels.old }
-    ensures { AreLabelsOf departing.now.flat.now departing.now.den departing.now.departures.now (IsAlong order.now (length order.now)) labels.new }
+    requires labels { AreLabelsOf departing.now.flat.now departing.now.den departing.now.departures.now
+        (IsAlong order.now 0) labels.old }
+    ensures { AreLabelsOf departing.now.flat.now departing.now.den departing.now.departures.now
+        (IsAlong order.now (length order.now)) labels.new }
 {
     for place in 0..order.arcs().items().len() {
         carry_arc(labels, departing, order, place);
@@ -148,11 +161,11 @@ fn carry_all(labels: &mut [Labels], departing: &DepartingDesign<'_>, order: &Ord
 /// Makes the labels those of the design.
 fn fill(labels: &mut [Labels], departing: &DepartingDesign<'_>, order: &Order)
     requires order { IsOrder departing.now.flat.now.arcs order.now }
-    requires count { length labels.old ≡ 2 * length departing.now.flat.now.elements + length departing.now.flat.now.inner }
+    requires count { length labels.old
+        ≡ 2 * length departing.now.flat.now.elements + length departing.now.flat.now.inner }
     requires absent { (bit : ℕ) → bit < length labels.old → labels_at labels.old bit ≡ NO_LABELS }
     ensures { AreTimelyLabels departing.now.flat.now departing.now.den departing.now.departures.now labels.new }
 {
-    let _elements = departing.flat.elements();
     begin_all(labels, departing);
     carry_all(labels, departing, order);
 }
@@ -164,14 +177,10 @@ pub(crate) fn labels_of(
     order: &Order,
 ) -> Result<Vec<Labels>, OutOfMemory>
     requires order { IsOrder departing.now.flat.now.arcs order.now }
-    ensures { IfOk result (λ labels. AreTimelyLabels departing.now.flat.now departing.now.den departing.now.departures.now labels.items) }
+    ensures { IfOk result
+        (λ labels. AreTimelyLabels departing.now.flat.now departing.now.den departing.now.departures.now labels.items) }
 {
-    let bits = 2 * departing.flat.elements().len() + departing.flat.inner().items().len();
-    match vec![in alloc; NO_LABELS; bits] {
-        Ok(mut labels) => {
-            fill(&mut labels, departing, order);
-            Ok(labels)
-        }
-        Err(_) => Err(OutOfMemory),
-    }
+    let mut labels = vec![in alloc; NO_LABELS; departing.flat.bit_count()]?;
+    fill(&mut labels, departing, order);
+    Ok(labels)
 }

@@ -1,20 +1,21 @@
 //! The judgement of a certificate by itself: seven tests, without a search.
 //!
-//! A certificate of a least cycle is a schedule with departures, and a chain of links that forbids each smaller cycle.
-//! The tests ask in turn for its counts, the clock, the bounds, exact departures, the setups, that the chain is a ring
-//! of the design's links, and its sums. It needs no list of pairs: data that leaves the elements of a phase is carried
-//! along the arcs in their order, so that each bit has a label for each phase, the last time at which data comes there
-//! from it. Departures, setups and which phase feeds which are read off the labels. This is the longest path by levels
-//! of static timing analysis, once for each phase.
+//! A certificate of a least cycle is a schedule with departures, and a chain of links that forbids each smaller
+//! cycle. The tests ask in turn for its counts, the clock, the bounds, exact departures, the setups, that the chain
+//! is a ring of the design's links, and its sums. It needs no list of pairs: data that leaves the elements of a
+//! phase is carried along the arcs in their order, so that each bit has a label for each phase, the last time at
+//! which data comes there from it. Departures, setups and which phase feeds which are read off the labels. This is
+//! the longest path by levels of static timing analysis, once for each phase.
 //!
-//! A chain of links that leads round forbids each cycle time at which its delay is more than its cycles take. So two tests show what
-//! a chain does: the first goes over its members one by one, the second adds up their links. They ask for which phase feeds which,
-//! and for nothing else that has to be found: a reach has the arcs of its path with it. With a schedule the chain has to take exactly
-//! its cycles at the cycle time; without one it has to ask for time and have no cycle.
+//! A chain of links that leads round forbids each cycle time at which its delay is more than its cycles take. So
+//! two tests show what a chain does: the first goes over its members one by one, the second adds up their links.
+//! They ask for which phase feeds which, and for nothing else that has to be found: a reach has the arcs of its
+//! path with it. With a schedule the chain has to take exactly its cycles at the cycle time; without one it has to
+//! ask for time and have no cycle.
 //!
-//! So that a mistake of the search can't hide in its own judge, this crate stands on none of the search's crates; of a certificate
-//! it takes what its members are and their links.
-//! The crates above get a verdict, and that a valid certificate is that of the least cycle time.
+//! So that a mistake of the search can't hide in its own judge, this crate stands on none of the search's crates;
+//! of a certificate it takes what its members are and their links. The crates above get a verdict, and that a valid
+//! certificate is that of the least cycle time.
 #![tactic(auto)]
 
 ghost use Rattle.std.specs.Prelude.{◌≡◌, IfOk};
@@ -54,8 +55,10 @@ pub fn examine_flat(
     requires order { IsOrder flat.now.arcs order.now }
     requires short { ArePathsShort flat.now }
     requires in_range { IsCertificateInRange certificate.now }
-    ensures verdict { IfOk result (λ verdict. (t : Timing) → t.flat ≡ flat.now → ArePairs t.flat t.pairs → IsVerdict t certificate.now verdict) }
-    ensures optimal { IfOk result (λ verdict. verdict ≡ Verdict.Valid → (t : Timing) → t.flat ≡ flat.now → ArePairs t.flat t.pairs → IsOptimal t certificate.now) }
+    ensures verdict { IfOk result (λ verdict. (t : Timing) → t.flat ≡ flat.now → ArePairs t.flat t.pairs →
+        IsVerdict t certificate.now verdict) }
+    ensures optimal { IfOk result (λ verdict. verdict ≡ Verdict.Valid → (t : Timing) → t.flat ≡ flat.now →
+        ArePairs t.flat t.pairs → IsOptimal t certificate.now) }
 {
     valid_is_optimal();
     let _elements = flat.elements();

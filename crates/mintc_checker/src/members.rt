@@ -1,13 +1,13 @@
 //! The tests of single members.
 ghost use Rattle.std.specs.Prelude.{◌≡◌, ◌<◌, length, IsTrue, IsFalse, ◌↔◌};
 ghost use Rattle.std.specs.Bool.{OnTrue};
+ghost use Rattle.mintc_text.specs.declared.limits.TheConstants.{MOST_PHASES};
 ghost use Rattle.mintc_timing.specs.Clocking.{feeds_of};
-ghost use Rattle.mintc_timing.specs.Design.{phase_count};
+ghost use Rattle.mintc_timing.specs.Design.{phase_count, element_at};
 ghost use Rattle.mintc_timing.specs.Limits.{IsPhase};
 ghost use Rattle.mintc_timing.specs.Paths.{IsPath, Leads, arc_at, input_of};
 ghost use Rattle.mintc_certificate.specs.Valid.{IsNamed, IsMember};
 ghost use Rattle.mintc_checker.specs.Decided.{Decides, IsFed};
-ghost use Rattle.mintc_checker.specs.Elements.{element_of};
 
 use mintc_certificate::Member;
 use mintc_timing::{Flat, TimingArc};
@@ -35,38 +35,40 @@ fn leads(arcs: &[TimingArc], from: u32, path: &[u32], to: u32) -> bool
 
 /// Whether a phase is one of the design's.
 fn is_phase(flat: &Flat, phase: u32) -> bool
-    ensures { IsTrue result ↔ IsPhase (length flat.now.phases) phase }
+    ensures phase { IsTrue result ↔ IsPhase (length flat.now.phases) phase }
+    ensures few { OnTrue result (IsPhase MOST_PHASES phase) }
 {
-    1 <= phase && phase as usize <= flat.phases().items().len()
+    1 <= phase && phase <= flat.phase_count()
 }
 
 /// Whether an element is one of the design's.
 fn is_element(flat: &Flat, element: u32) -> bool
     ensures { IsTrue result ↔ (element < length flat.now.elements) }
 {
-    (element as usize) < flat.elements().len()
+    element < flat.element_count()
 }
 
 /// Whether an element is a latch of the design.
 fn is_latch(flat: &Flat, element: u32) -> bool
-    ensures { IsTrue result ↔ ((element < length flat.now.elements) × IsFalse (element_of flat.now element).flop) }
+    ensures { IsTrue result ↔ ((element < length flat.now.elements) × IsFalse (element_at flat.now element).flop) }
 {
-    is_element(flat, element) && !flat.elements()[element as usize].flop
+    is_element(flat, element) && !flat.element(element).flop
 }
 
 /// Whether a phase is one of the design's, and feeds another one of them.
 fn is_apart(flat: &Flat, fed: &[bool], i: u32, j: u32) -> bool
     requires { IsFed flat.now fed.now }
     ensures phases { OnTrue result (IsPhase (length flat.now.phases) i × IsPhase (length flat.now.phases) j) }
-    ensures fed { Decides flat.now result (λ t. IsPhase (phase_count t.flat) i × IsPhase (phase_count t.flat) j × IsTrue (feeds_of t i j)) }
+    ensures fed { Decides flat.now result (λ t. IsPhase (phase_count t.flat) i × IsPhase (phase_count t.flat) j
+        × IsTrue (feeds_of t i j)) }
 {
-    let _phases = flat.phases();
     is_phase(flat, i) && is_phase(flat, j) && fed[8 * (i as usize - 1) + (j as usize - 1)]
 }
 
 /// Whether a path of arcs leads from the output of one element to the input of another.
 fn is_reach(flat: &Flat, from: u32, to: u32, path: &[u32]) -> bool
-    ensures { IsTrue result ↔ ((from < length flat.now.elements) × (to < length flat.now.elements) × IsPath flat.now.arcs from path.now (input_of to)) }
+    ensures { IsTrue result ↔ ((from < length flat.now.elements) × (to < length flat.now.elements)
+        × IsPath flat.now.arcs from path.now (input_of to)) }
 {
     is_element(flat, from)
         && is_element(flat, to)
@@ -83,9 +85,7 @@ pub(crate) fn is_member(flat: &Flat, fed: &[bool], member: &Member) -> bool
     match member {
         Member::Start { phase } => is_phase(flat, *phase),
         Member::Cycle { phase } => is_phase(flat, *phase),
-        Member::Order { phase } => {
-            1 <= *phase && (*phase as usize) < flat.phases().items().len()
-        }
+        Member::Order { phase } => 1 <= *phase && *phase < flat.phase_count(),
         Member::Span { phase } => is_phase(flat, *phase),
         Member::Width { phase } => is_phase(flat, *phase),
         Member::Apart { i, j } => is_apart(flat, fed, *i, *j),

@@ -1,7 +1,8 @@
 //! The tests of a schedule against the counts, the clock and the bounds.
 ghost use Rattle.std.specs.Prelude.{◌≡◌, ◌+◌, ◌-◌, ◌*◌, ◌<◌, ◌≤◌, ◌≤ℤ◌, ◌-ℤ◌, ◌*ℤ◌, pos, ℕ, length, IsTrue, ◌↔◌, All};
 ghost use Rattle.mintc_text.specs.declared.limits.TheConstants.{MOST_PHASES};
-ghost use Rattle.mintc_timing.specs.Clocking.{KeepsApart, KeepsBound, KeepsClock, KeepsPhase, EachPhase, crosses_of, end_of, least_width, start_of, width_of};
+ghost use Rattle.mintc_timing.specs.Clocking.{KeepsApart, KeepsBound, KeepsClock, KeepsPhase, EachPhase, crosses_of};
+ghost use Rattle.mintc_timing.specs.Clocking.{end_of, least_width, start_of, width_of};
 ghost use Rattle.mintc_timing.specs.Limits.{IsBound, IsPhase};
 ghost use Rattle.mintc_certificate.specs.Valid.{HasCounts};
 ghost use Rattle.mintc_checker.specs.Decided.{Decides, IsFed};
@@ -10,7 +11,6 @@ ghost use Rattle.mintc_checker.specs.Judged.{AreTimelyLabels, IsFedAt, KeepsOwn}
 use crate::clocked_design::ClockedDesign;
 use crate::departing_design::DepartingDesign;
 use crate::labels::{Labels, label_in};
-use crate::reading::element;
 use mintc_timing::{Bound, Flat, Schedule};
 use mintc_timing_links::{
     apart_excess, bound_excess, cycle_excess, order_excess, span_excess, width_excess,
@@ -28,17 +28,17 @@ pub(crate) fn has_counts(flat: &Flat, schedule: &Schedule, departures: &[i64]) -
 }
 
 /// Whether data of phase `i` reaches an element, if that is a latch on phase `j`.
-fn feeds_element(flat: &Flat, labels: &[Labels], i: u32, j: u32, number: usize) -> bool
+fn feeds_element(flat: &Flat, labels: &[Labels], i: u32, j: u32, number: u32) -> bool
     requires first { IsPhase MOST_PHASES i }
     requires number { number < length flat.now.elements }
     requires count { length labels.now ≡ 2 * length flat.now.elements + length flat.now.inner }
     ensures { IsTrue result ↔ IsFedAt flat.now labels.now i j number }
 {
-    let element = element(flat, number);
+    let element = flat.element(number);
     if element.flop || element.phase != j {
         return false;
     }
-    label_in(labels, 2 * number, i as usize - 1).is_some()
+    label_in(labels, 2 * number as usize, i as usize - 1).is_some()
 }
 
 /// Whether phase `i` feeds phase `j`.
@@ -47,7 +47,7 @@ fn feeds(flat: &Flat, labels: &[Labels], i: u32, j: u32) -> bool
     requires count { length labels.now ≡ 2 * length flat.now.elements + length flat.now.inner }
     ensures { IsTrue result ↔ ((l : ℕ) × (l < length flat.now.elements) × IsFedAt flat.now labels.now i j l) }
 {
-    for number in 0..flat.elements().len() {
+    for number in 0..flat.element_count() {
         if feeds_element(flat, labels, i, j, number) {
             return true;
         }
@@ -76,7 +76,9 @@ pub(crate) fn feeds_table(departing: &DepartingDesign<'_>, labels: &[Labels]) ->
 fn keeps_apart(clocked: &ClockedDesign<'_>, asked: bool, i: u32, j: u32) -> bool
     requires first { IsPhase (length clocked.now.schedule.now.starts) i }
     requires second { IsPhase (length clocked.now.schedule.now.starts) j }
-    ensures { IsTrue result ↔ (IsTrue asked → (end_of clocked.now.schedule.now j -ℤ pos (crosses_of j i) *ℤ clocked.now.schedule.now.cycle) ≤ℤ start_of clocked.now.schedule.now i) }
+    ensures { IsTrue result ↔ (IsTrue asked →
+        (end_of clocked.now.schedule.now j -ℤ pos (crosses_of j i) *ℤ clocked.now.schedule.now.cycle) ≤ℤ start_of
+        clocked.now.schedule.now i) }
 {
     !asked || apart_excess(clocked.schedule, i, j) <= 0
 }
@@ -87,9 +89,9 @@ fn keeps_aparts(clocked: &ClockedDesign<'_>, fed: &[bool], i: u32) -> bool
     requires fed { IsFed clocked.now.flat.now fed.now }
     ensures { Decides clocked.now.flat.now result (λ t. EachPhase t.flat (KeepsApart t clocked.now.schedule.now i)) }
 {
-    for index in 0..clocked.flat.phases().items().len() {
-        let asked = fed[8 * (i as usize - 1) + index];
-        if !keeps_apart(clocked, asked, i, index as u32 + 1) {
+    for index in 0..clocked.flat.phase_count() {
+        let asked = fed[8 * (i as usize - 1) + index as usize];
+        if !keeps_apart(clocked, asked, i, index + 1) {
             return false;
         }
     }
@@ -115,7 +117,8 @@ fn fits_cycle(clocked: &ClockedDesign<'_>, phase: u32) -> bool
 /// Whether a phase starts no later than the next one, if there is one.
 fn starts_in_order(clocked: &ClockedDesign<'_>, phase: u32) -> bool
     requires phase { IsPhase (length clocked.now.schedule.now.starts) phase }
-    ensures { IsTrue result ↔ (phase < length clocked.now.schedule.now.starts → start_of clocked.now.schedule.now phase ≤ℤ start_of clocked.now.schedule.now (phase + 1)) }
+    ensures { IsTrue result ↔ (phase < length clocked.now.schedule.now.starts →
+        start_of clocked.now.schedule.now phase ≤ℤ start_of clocked.now.schedule.now (phase + 1)) }
 {
     phase as usize == clocked.schedule.starts.items().len()
         || order_excess(clocked.schedule, phase) <= 0
@@ -124,7 +127,9 @@ fn starts_in_order(clocked: &ClockedDesign<'_>, phase: u32) -> bool
 /// Whether a phase is as wide as its elements ask.
 fn is_wide(clocked: &ClockedDesign<'_>, phase: u32) -> bool
     requires phase { IsPhase (length clocked.now.schedule.now.starts) phase }
-    ensures { IsTrue result ↔ ((least_width clocked.now.flat.now phase *ℤ clocked.now.schedule.now.den) ≤ℤ width_of clocked.now.schedule.now phase) }
+    ensures { IsTrue result ↔
+        ((least_width clocked.now.flat.now phase *ℤ clocked.now.schedule.now.den) ≤ℤ width_of clocked.now.schedule.now
+        phase) }
 {
     width_excess(clocked.flat, clocked.schedule, phase) <= 0
 }
@@ -154,8 +159,8 @@ pub(crate) fn keeps_clock(clocked: &ClockedDesign<'_>, fed: &[bool]) -> bool
     requires fed { IsFed clocked.now.flat.now fed.now }
     ensures { Decides clocked.now.flat.now result (λ t. KeepsClock t clocked.now.schedule.now) }
 {
-    for index in 0..clocked.flat.phases().items().len() {
-        if !keeps_phase(clocked, fed, index as u32 + 1) {
+    for index in 0..clocked.flat.phase_count() {
+        if !keeps_phase(clocked, fed, index + 1) {
             return false;
         }
     }
@@ -174,9 +179,8 @@ fn keeps_bound(clocked: &ClockedDesign<'_>, bound: &Bound) -> bool
 pub(crate) fn keeps_bounds(clocked: &ClockedDesign<'_>) -> bool
     ensures { IsTrue result ↔ All (KeepsBound clocked.now.schedule.now) clocked.now.flat.now.bounds }
 {
-    let bounds = clocked.flat.bounds();
-    for number in 0..bounds.len() {
-        if !keeps_bound(clocked, &bounds[number]) {
+    for bound in clocked.flat.bounds() {
+        if !keeps_bound(clocked, bound) {
             return false;
         }
     }

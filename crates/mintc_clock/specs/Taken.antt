@@ -10,6 +10,7 @@ use Rattle.mintc_clock.specs.ClockOf.{names_of}
 abbrev pub has_port : Taken → PhaseDef → Bool
 has_port taken p = is_among p.port (if p.high then taken.highs else taken.lows)
 
+-- whether its name or its port is taken
 abbrev pub has_some : Taken → PhaseDef → Bool
 has_some taken p = is_among p.name taken.names || has_port taken p
 
@@ -21,8 +22,10 @@ with_port taken p = record {
   lows = if p.high then taken.lows else with_name taken.lows p.port;
 }
 
+-- what is taken, with the name and the port of a phase
 abbrev pub with_phase : Taken → PhaseDef → Taken
-with_phase taken p = with_port (record { names = with_name taken.names p.name; highs = taken.highs; lows = taken.lows }) p
+with_phase taken p = with_port (record { names = with_name taken.names p.name; highs = taken.highs; lows = taken.lows })
+    p
 
 -- the ports of the phases with a level
 abbrev pub ports_at : Bool → List PhaseDef → List (List ℕ)

@@ -52,11 +52,13 @@ impl Taken {
         Ok(named && ported)
     }
 
-    /// Takes what some phases have, unless one clashes with an earlier one: then the number, from 1, of the first that does.
+    /// Takes what some phases have, unless one clashes with an earlier one: then the number, from 1, of the first
+    /// that does.
     fn take_all(&mut self, alloc: Global, phases: &[PhaseDef]) -> Result<(), Fault>
         requires few { length phases.now < 2 ^ 32 }
         requires none { AreTaken [] self.old }
-        ensures { MatchResult result (λ _. (first_clash 1 [] phases.now ≡ None) × AreTaken phases.now self.new) (FailsAt (first_clash 1 [] phases.now)) }
+        ensures { MatchResult result (λ _. (first_clash 1 [] phases.now ≡ None)
+            × AreTaken phases.now self.new) (FailsAt (first_clash 1 [] phases.now)) }
     {
         for number in 0..phases.len() {
             let free = self.take(alloc, &phases[number])?;
@@ -71,7 +73,8 @@ impl Taken {
 /// The names of some phases, unless one clashes with an earlier one: then the number, from 1, of the first that does.
 pub(crate) fn names_of(alloc: Global, phases: &[PhaseDef]) -> Result<NameSet, Fault>
     requires { length phases.now < 2 ^ 32 }
-    ensures { MatchResult result (λ names. (first_clash 1 [] phases.now ≡ None) × (names ≡ names_of phases.now)) (FailsAt (first_clash 1 [] phases.now)) }
+    ensures { MatchResult result (λ names. (first_clash 1 [] phases.now ≡ None)
+        × (names ≡ names_of phases.now)) (FailsAt (first_clash 1 [] phases.now)) }
 {
     let mut taken = Taken::new(alloc);
     taken.take_all(alloc, phases)?;

@@ -9,11 +9,13 @@ use Rattle.mintc_command_answers.specs.Answers.{IsDefined, IsFirstRefusal}
 use Rattle.mintc_command_answers.specs.Commands.{AreWordsOf, IsCommand}
 use Rattle.mintc_command_answers.specs.declared.command.Command.{Command}
 use Rattle.mintc_command_answers.specs.declared.status.Status.{Status}
-use Rattle.mintc_command_answers.specs.declared.status.Status.TheVariants.{Done, Found, Usage, ReadFault, WriteFault, OutOfMemory}
+use Rattle.mintc_command_answers.specs.declared.status.Status.TheVariants.{Done, Found, Usage, ReadFault, WriteFault}
+use Rattle.mintc_command_answers.specs.declared.status.Status.TheVariants.{OutOfMemory}
 
 -- the line that is written where the words are no command
 abbrev pub usage_line : List ℕ
-usage_line = ended (codes "usage: mintc check|optimise|verify|report|safe|slack table|files|liberty FILE.. | mintc sample N | mintc corners V C K D D..")
+usage_line = ended (codes
+    "usage: mintc check|optimise|verify|report|safe|slack table|files|liberty FILE.. | mintc sample N | mintc corners V C K D D..")
 
 -- The words are those of a command that names a file.
 abbrev pub NameFile : List (List ℕ) → Type 0
@@ -30,7 +32,8 @@ AreFronts files most names fronts = AllZip (λ name front. IsFront files name mo
 -- Whatever the files of these names are read as, the command refuses none of them.
 abbrev pub IsNotRefused : Option Files → Command → List (List ℕ) → Type 0
 IsNotRefused files command names =
-    (fronts : List (List ℕ)) (refused : Refusal) → AreFronts files (MOST_BYTES + 1) names fronts → IsFirstRefusal command fronts refused → ⊥
+    (fronts : List (List ℕ)) (refused : Refusal) → AreFronts files (MOST_BYTES + 1) names fronts →
+    IsFirstRefusal command fronts refused → ⊥
 
 -- The status is that of an answer which isn't a refusal, or memory was wanting.
 abbrev pub IsComplete : Status → Type 0
@@ -39,12 +42,13 @@ IsComplete Found = Unit {0}
 IsComplete OutOfMemory = Unit {0}
 IsComplete status = ⊥
 
--- The defined answer of words over a shelf's files: that of a command on the first bytes of the files that it names, one
--- byte more than a file may have, or the usage line.
+-- The defined answer of words over a shelf's files: that of a command on the first bytes of the files that it
+-- names, one byte more than a file may have, or the usage line.
 abbrev pub IsAnswer : List (List ℕ) → Option Files → Status → List ℕ → Type 0
 IsAnswer words files Usage text = (IsCommand words → ⊥) × (text ≡ usage_line)
 IsAnswer words files status text =
-    (command : Command) × (names : List (List ℕ)) × AreWordsOf command names words × (fronts : List (List ℕ)) × AreFronts files (MOST_BYTES + 1) names fronts
+    (command : Command) × (names : List (List ℕ)) × AreWordsOf command names words × (fronts : List (List ℕ))
+    × AreFronts files (MOST_BYTES + 1) names fronts
     × IsDefined command fronts status text
 
 -- What a run leaves of the bytes that the sink took: with an answer its text at the end, with a failed write a front of
@@ -52,7 +56,8 @@ IsAnswer words files status text =
 abbrev pub Writes : List (List ℕ) → Option Files → Status → Option (List ℕ) → Option (List ℕ) → Type 0
 Writes words files ReadFault before now = now ≡ before
 Writes words files OutOfMemory before now = now ≡ before
-Writes words files WriteFault before now = (status : Status) × (text : List ℕ) × IsAnswer words files status text × TakesFront before now text
+Writes words files WriteFault before now = (status : Status) × (text : List ℕ) × IsAnswer words files status text
+    × TakesFront before now text
 Writes words files status before now = (text : List ℕ) × IsAnswer words files status text × Takes before now text
 
 -- The status is one that comes only after all files were read.

@@ -1,9 +1,9 @@
 //! The program as one call: words and files in, a status and one text out.
 //!
-//! `run` judges the words, reads the files that they name, has the answer worked out whole in memory, and writes it by one
-//! call of the sink. Its contract is the headline: the status and the text are the defined answer of the command and the bytes of
-//! its files, whatever shelf and sink stand behind the traits; where a file can't be read, the answer can't be written or memory
-//! ends, the status says so, and that status has no other cause.
+//! `run` judges the words, reads the files that they name, has the answer worked out whole in memory, and writes it
+//! by one call of the sink. Its contract is the headline: the status and the text are the defined answer of the
+//! command and the bytes of its files, whatever shelf and sink stand behind the traits; where a file can't be read,
+//! the answer can't be written or memory ends, the status says so, and that status has no other cause.
 #![tactic(auto)]
 
 mod program;

@@ -14,13 +14,15 @@ pub(crate) fn read_files<S: Shelf>(
     shelf: &mut S,
     names: &[String],
 ) -> Result<Vec<Bytes>, ShelfError>
-    ensures fronts { IfOk result (λ files. AreFronts (S.files shelf.old) (MOST_BYTES + 1) (bytes_of names.now) files.items) }
+    ensures fronts { IfOk result
+        (λ files. AreFronts (S.files shelf.old) (MOST_BYTES + 1) (bytes_of names.now) files.items) }
     ensures held { OnOk result (HoldsAll (S.files shelf.old) (bytes_of names.now)) }
     ensures same { S.files shelf.new ≡ S.files shelf.old }
     ensures later { S.faults shelf.old ≤ S.faults shelf.new }
     ensures cause { result ≡ Err ShelfError.Failed → Rose (S.faults shelf.old) (S.faults shelf.new) }
     ensures some { result ≡ Err ShelfError.Failed → bytes_of names.now ≢ [] }
-    ensures sound { S.is_sound shelf.old → HoldsAll (S.files shelf.old) (bytes_of names.now) → result ≢ Err ShelfError.Failed }
+    ensures sound { S.is_sound shelf.old → HoldsAll (S.files shelf.old) (bytes_of names.now) →
+        result ≢ Err ShelfError.Failed }
     ensures reads { MakesAtMost (length names.now) (S.calls shelf.old) (S.calls shelf.new) }
 {
     let mut files = Vec::new(alloc);

@@ -7,3 +7,4 @@ mod CornerLaws
 mod OptimumLaws
 mod NumberLaws
 mod VerdictLaws
+mod StatusLaws

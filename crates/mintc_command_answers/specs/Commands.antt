@@ -1,5 +1,6 @@
 -- The words of commands.
-use Rattle.std.specs.Prelude.{◌≡◌, ◌≤◌, ◌<◌, ◌^◌, ℕ, List, [], ◌∷◌, ◌++◌, length, map, replicate, codes, decimal, String}
+use Rattle.std.specs.Prelude.{◌≡◌, ◌≤◌, ◌<◌, ◌^◌, ℕ, List, [], ◌∷◌, ◌++◌, length, map, replicate, codes, decimal}
+use Rattle.std.specs.Prelude.{String}
 use Rattle.std.specs.String.{string_bytes}
 use Rattle.mintc_text.specs.declared.refusals.Role.{Role}
 use Rattle.mintc_text.specs.declared.refusals.Role.TheVariants as role
@@ -14,7 +15,7 @@ use Rattle.mintc_command_answers.specs.declared.command.Source.TheVariants.{Tabl
 abbrev pub bytes_of : {Z : Type 0} → List (String Z) → List (List ℕ)
 bytes_of words = map string_bytes words
 
--- the word of what is asked, and of what a design is read from
+-- the word of a job
 abbrev pub job_word : Job → List ℕ
 job_word Check = codes "check"
 job_word Optimise = codes "optimise"
@@ -23,6 +24,7 @@ job_word Report = codes "report"
 job_word Safe = codes "safe"
 job_word Slack = codes "slack"
 
+-- the word of a source
 abbrev pub source_word : Source → List ℕ
 source_word Table = codes "table"
 source_word Files = codes "files"

@@ -11,6 +11,7 @@ use Rattle.mintc_command_answers.specs.declared.command.Source.TheVariants.{File
 abbrev pub sample_texts : ℕ → List (List ℕ)
 sample_texts number = netlist_text ∷ delays_text number ∷ cells_text ∷ clock_text ∷ []
 
+-- the texts that a command works on: those of its files, or of its sample
 abbrev pub contents_of : Command → List (List ℕ) → List (List ℕ)
 contents_of (OfDesign job source) files = files
 contents_of (Sample number) files = sample_texts number

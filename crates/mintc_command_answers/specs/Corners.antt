@@ -1,5 +1,5 @@
--- What `corners` is asked of: the files of a netlist, cells and a clock, and two to four delay files, each of which makes a
--- corner with the others.
+-- What `corners` is asked of: the files of a netlist, cells and a clock, and two to four delay files, each of which
+-- makes a corner with the others.
 use Rattle.std.specs.Prelude.{◌≡◌, ◌<◌, ◌*◌, ◌⊎◌, ℕ, suc, List, [], ◌∷◌, length, map, drop}
 use Rattle.std.specs.List.{AllZip}
 use Rattle.mintc_text.specs.declared.limits.TheConstants.{MOST_ELEMENTS}
@@ -19,8 +19,8 @@ use Rattle.mintc_command_answers.specs.declared.corners_answers.CornerStop.TheVa
 use Rattle.mintc_command_answers.specs.declared.status.Status.{Status}
 use Rattle.mintc_command_answers.specs.declared.status.Status.TheVariants.{Done, Found}
 
--- the four files of a corner, in the order of a design's files: the command names the netlist, the cells and the clock first,
--- and then the delays of each corner
+-- the four files of a corner, in the order of a design's files: the command names the netlist, the cells and the
+-- clock first, and then the delays of each corner
 abbrev pub files_with : List (List ℕ) → List ℕ → List (List ℕ)
 files_with texts delays = file_at texts 0 ∷ delays ∷ file_at texts 1 ∷ file_at texts 2 ∷ []
 
@@ -36,8 +36,10 @@ AreGiven corners ts = AllZip (Gives Files) corners ts
 abbrev pub IsFirstRefused : List (List (List ℕ)) → ℕ → ℕ → Refusal → Type 0
 IsFirstRefused [] c corner own = ⊥
 IsFirstRefused (files ∷ corners) c corner own =
-    ((corner ≡ c) × IsSourceRefused Files files own) ⊎ ((t : Timing) × Gives Files files t × IsFirstRefused corners (suc c) corner own)
+    ((corner ≡ c) × IsSourceRefused Files files own)
+    ⊎ ((t : Timing) × Gives Files files t × IsFirstRefused corners (suc c) corner own)
 
+-- Why the corners, counted from c on, have no systems: files that are refused, or want of memory.
 abbrev pub IsCornerStop : List (List (List ℕ)) → ℕ → CornerStop → Type 0
 IsCornerStop corners c (stop.Refused corner own) = IsFirstRefused corners c corner own
 IsCornerStop corners c stop.OutOfMemory = Unit {0}
@@ -49,7 +51,8 @@ elements_together (t ∷ ts) = length (t ∷ ts) * element_count t.flat
 
 -- They are more than a design may have.
 abbrev pub AreTooMany : List Timing → Refusal → Type 0
-AreTooMany ts refused = (MOST_ELEMENTS < elements_together ts) × (refused ≡ refusal.Limit kind.Elements (elements_together ts))
+AreTooMany ts refused = (MOST_ELEMENTS < elements_together ts)
+    × (refused ≡ refusal.Limit kind.Elements (elements_together ts))
 
 -- The refusal of a command with these corners: of the first corner that is refused, or of the elements of all.
 abbrev pub IsCornersRefusal : List (List (List ℕ)) → Refusal → Type 0
@@ -64,4 +67,5 @@ corner_status (Never chain) = Found
 
 -- The answer of `corners`: the text of the optimum of all corners.
 abbrev pub IsCornersAnswer : List Timing → Status → List ℕ → Type 0
-IsCornersAnswer ts status text = (c : CornerCertificate) × IsOptimumOf ts c × (status ≡ corner_status c) × (text ≡ text_of (corner_lines c))
+IsCornersAnswer ts status text = (c : CornerCertificate) × IsOptimumOf ts c × (status ≡ corner_status c)
+    × (text ≡ text_of (corner_lines c))

@@ -1,4 +1,5 @@
--- What is answered of a design: to each job a status and a text, or a refusal of the file that stands beside the design's.
+-- What is answered of a design: to each job a status and a text, or a refusal of the file that stands beside the
+-- design's.
 use Rattle.std.specs.Prelude.{◌≡◌, ◌≢◌, ◌⊎◌, ℕ, ℤ, List, [], length}
 use Rattle.mintc_text.specs.Lines.{text_of}
 use Rattle.mintc_text.specs.declared.refusals.Refusal.{Refusal}
@@ -46,18 +47,21 @@ pub record IsScheduleOf (text : List ℕ) (phases : ℕ) (s : Schedule) : Type 0
 abbrev pub IsScheduleRefused : List ℕ → ℕ → Refusal → Type 0
 IsScheduleRefused text phases refused =
     ((n : ℕ) × (refused ≡ refusal.Syntax role.Schedule n) × IsScheduleFault text n)
-    ⊎ ((s : Schedule) × IsScheduleText text s × (phases ≢ length s.starts) × (refused ≡ refusal.PhaseMismatch phases (length s.starts)))
+    ⊎ ((s : Schedule) × IsScheduleText text s × (phases ≢ length s.starts)
+    × (refused ≡ refusal.PhaseMismatch phases (length s.starts)))
 
--- The judgement of a schedule: a pass with its late and early departures where it has no violation, and else a fail with
--- all its violations.
+-- The judgement of a schedule: a pass with its late and early departures where it has no violation, and else a fail
+-- with all its violations.
 abbrev pub IsJudgement : Timing → Schedule → Status → List ℕ → Type 0
 IsJudgement t s Done text =
-    (late : List ℤ) × (early : List ℤ) × AreViolations t s [] × AreLate t s late × AreEarly t s early × IsPassText t.flat s late early text
-IsJudgement t s Found text = (violations : List Violation) × AreViolations t s violations × (violations ≢ []) × IsFailText t s violations text
+    (late : List ℤ) × (early : List ℤ) × AreViolations t s [] × AreLate t s late × AreEarly t s early
+    × IsPassText t.flat s late early text
+IsJudgement t s Found text = (violations : List Violation) × AreViolations t s violations × (violations ≢ [])
+    × IsFailText t s violations text
 IsJudgement t s status text = ⊥
 
--- The certificate is valid; it has the least cycle time, with a right schedule of it that is the earliest, or it shows that no
--- schedule is right.
+-- The certificate is valid; it has the least cycle time, with a right schedule of it that is the earliest, or it
+-- shows that no schedule is right.
 pub record IsOptimum (t : Timing) (certificate : Certificate) : Type 0 where
   pub valid : IsValid t certificate
   pub optimal : IsOptimal t certificate
@@ -65,49 +69,60 @@ pub record IsOptimum (t : Timing) (certificate : Certificate) : Type 0 where
   pub simple : HasSimple t certificate
   pub in_range : IsCertificateInRange certificate
 
--- how a run ends that has this certificate, this verdict, this safe certificate, or these slacks
+-- how a run ends that has this certificate
 abbrev pub certificate_status : Certificate → Status
 certificate_status (Least schedule departures chain) = Done
 certificate_status (Never chain) = Found
 
+-- how a run ends that has this verdict
 abbrev pub verdict_status : Verdict → Status
 verdict_status Valid = Done
 verdict_status (Invalid n) = Found
 
+-- how a run ends that has this safe certificate
 abbrev pub safe_status : SafeCertificate → Status
 safe_status (kept.Least schedule departures chain) = Done
 safe_status (kept.Never chain) = Found
 
+-- how a run ends that has these slacks
 abbrev pub slack_status : Slacks → Status
 slack_status (slacks.Least cycle extra) = Done
 slack_status slacks.Never = Found
 
--- The answers of `optimise` and `report`: the text of an optimum, and its report.
+-- The answer of `optimise`: the text of an optimum.
 abbrev pub IsOptimumAnswer : Timing → Status → List ℕ → Type 0
-IsOptimumAnswer t status text = (c : Certificate) × IsOptimum t c × (status ≡ certificate_status c) × (text ≡ text_of (lines_of c))
+IsOptimumAnswer t status text = (c : Certificate) × IsOptimum t c × (status ≡ certificate_status c)
+    × (text ≡ text_of (lines_of c))
 
+-- The answer of `report`: the report of an optimum.
 abbrev pub IsReportAnswer : Timing → Status → List ℕ → Type 0
-IsReportAnswer t status text = (c : Certificate) × IsOptimum t c × (status ≡ certificate_status c) × IsReportText t.flat c text
+IsReportAnswer t status text = (c : Certificate) × IsOptimum t c × (status ≡ certificate_status c)
+    × IsReportText t.flat c text
 
 -- The answer of `sample`: the summary of an optimum.
 abbrev pub IsSummaryAnswer : ℕ → Timing → Status → List ℕ → Type 0
-IsSummaryAnswer number t status text = (c : Certificate) × IsOptimum t c × (status ≡ certificate_status c) × IsSummaryText number t c text
+IsSummaryAnswer number t status text = (c : Certificate) × IsOptimum t c × (status ≡ certificate_status c)
+    × IsSummaryText number t c text
 
 -- The answer of `safe`: the text of an optimum that keeps each hold.
 abbrev pub IsSafeJobAnswer : Timing → Status → List ℕ → Type 0
-IsSafeJobAnswer t status text = (c : SafeCertificate) × IsSafeOptimum t c × (status ≡ safe_status c) × (text ≡ text_of (safe_lines c))
+IsSafeJobAnswer t status text = (c : SafeCertificate) × IsSafeOptimum t c × (status ≡ safe_status c)
+    × (text ≡ text_of (safe_lines c))
 
 -- The answer of `slack`: the text of the slacks at the least cycle.
 abbrev pub IsSlackJobAnswer : Timing → Status → List ℕ → Type 0
-IsSlackJobAnswer t status text = (x : Slacks) × IsSlackAnswer t x × (status ≡ slack_status x) × (text ≡ text_of (slack_lines t x))
+IsSlackJobAnswer t status text = (x : Slacks) × IsSlackAnswer t x × (status ≡ slack_status x)
+    × (text ≡ text_of (slack_lines t x))
 
 -- The answer of `verify`: the verdict on a certificate.
 abbrev pub IsVerdictAnswer : Timing → Certificate → Status → List ℕ → Type 0
-IsVerdictAnswer t c status text = (v : Verdict) × IsVerdict t c v × (status ≡ verdict_status v) × (text ≡ verdict_text_of v)
+IsVerdictAnswer t c status text = (v : Verdict) × IsVerdict t c v × (status ≡ verdict_status v)
+    × (text ≡ verdict_text_of v)
 
 -- The answer to a job on a design, and on the text of the file that stands beside the design's.
 abbrev pub IsJobAnswer : Job → Timing → List ℕ → Status → List ℕ → Type 0
-IsJobAnswer Check t file status text = (s : Schedule) × IsScheduleOf file (phase_count t.flat) s × IsJudgement t s status text
+IsJobAnswer Check t file status text = (s : Schedule) × IsScheduleOf file (phase_count t.flat) s
+    × IsJudgement t s status text
 IsJobAnswer Optimise t file status text = IsOptimumAnswer t status text
 IsJobAnswer Verify t file status text = (c : Certificate) × IsCertificateText file c × IsVerdictAnswer t c status text
 IsJobAnswer Report t file status text = IsReportAnswer t status text

@@ -6,21 +6,29 @@ use Rattle.mintc_command_answers.specs.Jobs.{IsJobAnswer}
 use Rattle.mintc_command_answers.specs.declared.command.Job.TheVariants.{Optimise, Verify}
 use Rattle.mintc_text.specs.declared.refusals.Refusal.{Refusal}
 use Rattle.mintc_build.specs.Laws.{IsLoopRefusal}
-use Rattle.mintc_command_answers.specs.Answers.{IsDefined, IsFirstRefusal}
+use Rattle.mintc_command_answers.specs.Answers.{IsDefined, IsFirstRefusal, IsOfCommand}
 use Rattle.mintc_command_answers.specs.declared.command.Command.{Command}
 use Rattle.mintc_command_answers.specs.declared.status.Status.{Status}
 use Rattle.mintc_command_answers.specs.declared.status.Status.TheVariants.{Done, Refused}
 
 -- Where there is a first refusal, its line is the only answer.
 abbrev pub RefusalsExcludeAnswers : Type 0
-RefusalsExcludeAnswers = (command : Command) (files : List (List ℕ)) (refused : Refusal) (status : Status) (text : List ℕ) →
+RefusalsExcludeAnswers = (command : Command) (files : List (List ℕ)) (refused : Refusal) (status : Status)
+    (text : List ℕ) →
     IsFirstRefusal command files refused → IsDefined command files status text → status ≡ Refused
 
 -- There is one first refusal, but for the choice of a loop of arcs.
 abbrev pub RefusalsAreDetermined : Type 0
 RefusalsAreDetermined = (command : Command) (files : List (List ℕ)) (refused other : Refusal) →
-    IsFirstRefusal command files refused → IsFirstRefusal command files other → (refused ≡ other) ⊎ (IsLoopRefusal refused × IsLoopRefusal other)
+    IsFirstRefusal command files refused → IsFirstRefusal command files other → (refused ≡ other)
+    ⊎ (IsLoopRefusal refused × IsLoopRefusal other)
 
 -- What `optimise` answers, `verify` calls valid.
 abbrev pub OptimaAreVerified : Type 0
-OptimaAreVerified = (t : Timing) (file text : List ℕ) (status : Status) → IsJobAnswer Optimise t file status text → IsJobAnswer Verify t text Done (ended (codes "valid"))
+OptimaAreVerified = (t : Timing) (file text : List ℕ) (status : Status) → IsJobAnswer Optimise t file status text →
+    IsJobAnswer Verify t text Done (ended (codes "valid"))
+
+-- A defined answer has the status of an answer: it is done, something is found, or the input is refused.
+abbrev pub AnswersAreOfCommands : Type 0
+AnswersAreOfCommands = (command : Command) (files : List (List ℕ)) (status : Status) (text : List ℕ) →
+    IsDefined command files status text → IsOfCommand status

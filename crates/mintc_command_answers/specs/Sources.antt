@@ -33,19 +33,25 @@ abbrev pub IsLengthRefusal : List Role → List (List ℕ) → Refusal → Type 
 IsLengthRefusal [] files refused = ⊥
 IsLengthRefusal (text ∷ roles) [] refused = ⊥
 IsLengthRefusal (text ∷ roles) (bytes ∷ files) refused =
-    ((MOST_BYTES < length bytes) × (refused ≡ refusal.TooLong text)) ⊎ ((length bytes ≤ MOST_BYTES) × IsLengthRefusal roles files refused)
+    ((MOST_BYTES < length bytes) × (refused ≡ refusal.TooLong text))
+    ⊎ ((length bytes ≤ MOST_BYTES) × IsLengthRefusal roles files refused)
 
--- The files of a design, which come first, stand for it: a table, or a netlist, delays, cells or a Liberty library, and a clock.
+-- The files of a design, which come first, stand for it: a table, or a netlist, delays, cells or a Liberty library,
+-- and a clock.
 abbrev pub Describes : Source → List (List ℕ) → Design → Type 0
 Describes Table files design = IsTableText (file_at files 0) design
-Describes Files files design = IsFilesDesign (file_at files 0) (file_at files 1) (file_at files 2) (file_at files 3) design
-Describes Liberty files design = IsLibertyDesign (file_at files 0) (file_at files 1) (file_at files 2) (file_at files 3) design
+Describes Files files design = IsFilesDesign (file_at files 0) (file_at files 1) (file_at files 2)
+    (file_at files 3) design
+Describes Liberty files design = IsLibertyDesign (file_at files 0) (file_at files 1) (file_at files 2)
+    (file_at files 3) design
 
 -- They stand for no design within the limits, and this is their first refusal.
 abbrev pub HasNoDesign : Source → List (List ℕ) → Refusal → Type 0
 HasNoDesign Table files refused = IsTableRefusal (file_at files 0) refused
-HasNoDesign Files files refused = IsFilesRefusal (file_at files 0) (file_at files 1) (file_at files 2) (file_at files 3) refused
-HasNoDesign Liberty files refused = IsLibertyRefusal (file_at files 0) (file_at files 1) (file_at files 2) (file_at files 3) refused
+HasNoDesign Files files refused = IsFilesRefusal (file_at files 0) (file_at files 1) (file_at files 2)
+    (file_at files 3) refused
+HasNoDesign Liberty files refused = IsLibertyRefusal (file_at files 0) (file_at files 1) (file_at files 2)
+    (file_at files 3) refused
 
 -- The timing is that of the design, which is accepted, and these are its pairs.
 pub record IsSystemOf (design : Design) (t : Timing) : Type 0 where
@@ -69,4 +75,5 @@ pub record GivesOrdered (source : Source) (files : List (List ℕ)) (design : De
 -- The files stand for no design, or for one within the limits that has no system.
 abbrev pub IsSourceRefused : Source → List (List ℕ) → Refusal → Type 0
 IsSourceRefused source files refused =
-    HasNoDesign source files refused ⊎ ((design : Design) × Describes source files design × IsDesign design × IsDesignRefusal design refused)
+    HasNoDesign source files refused
+    ⊎ ((design : Design) × Describes source files design × IsDesign design × IsDesignRefusal design refused)

@@ -1,7 +1,8 @@
 -- The number of each status.
 use Rattle.std.specs.Prelude.{ℕ}
 use Rattle.mintc_command_answers.specs.declared.status.Status.{Status}
-use Rattle.mintc_command_answers.specs.declared.status.Status.TheVariants.{Done, Found, Refused, Usage, ReadFault, WriteFault, OutOfMemory}
+use Rattle.mintc_command_answers.specs.declared.status.Status.TheVariants.{Done, Found, Refused, Usage, ReadFault}
+use Rattle.mintc_command_answers.specs.declared.status.Status.TheVariants.{WriteFault, OutOfMemory}
 
 -- the exit status
 abbrev pub number_of : Status → ℕ

@@ -1,7 +1,8 @@
 //! The answer to a command, from the bytes of its files.
 ghost use Rattle.std.specs.Prelude.{◌≡◌, ◌≤◌, length, IfOk, IfErr};
 ghost use Rattle.mintc_text.specs.Stops.{StopsAt};
-ghost use Rattle.mintc_command_answers.specs.Answers.{IsAnswerOn, IsContentAnswer, IsContentRefusal, IsDefined, IsOfCommand};
+ghost use Rattle.mintc_command_answers.specs.Answers.{IsAnswerOn, IsContentAnswer, IsContentRefusal, IsDefined};
+ghost use Rattle.mintc_command_answers.specs.Answers.{IsOfCommand};
 ghost use Rattle.mintc_command_answers.specs.Commands.{IsNumberInRange, roles_of};
 ghost use Rattle.mintc_command_answers.specs.Contents.{content_roles, sample_texts};
 ghost use Rattle.mintc_command_answers.specs.Jobs.{IsFileRefused, IsJobAnswer};
@@ -29,7 +30,6 @@ fn job_answer(alloc: Global, job: Job, system: &System, file: &[u8]) -> Result<A
     ensures value { IfOk result (λ answer. IsJobAnswer job system.now file.now answer.status answer.text) }
     ensures stop { IfErr result (StopsAt (IsFileRefused job system.now.flat file.now)) }
 {
-    let _pairs = system.pairs();
     let answer = match job {
         Job::Check => return check_answer(alloc, system, file),
         Job::Verify => return verify_answer(alloc, system.flat(), system.order(), file),
@@ -38,28 +38,24 @@ fn job_answer(alloc: Global, job: Job, system: &System, file: &[u8]) -> Result<A
         Job::Safe => safe_answer(alloc, system),
         Job::Slack => slack_answer(alloc, system),
     };
-    match answer {
-        Ok(answer) => Ok(answer),
-        Err(OutOfMemory) => Err(Stop::OutOfMemory),
-    }
+    Ok(answer?)
 }
 
-/// The verdict on a certificate, from the texts of a design and of the certificate, none of them too long, or their first
-/// refusal.
+/// The verdict on a certificate, from the texts of a design and of the certificate, none of them too long, or their
+/// first refusal.
 fn verdict_answer(alloc: Global, source: Source, texts: &mut [Bytes]) -> Result<Answer, Stop>
     requires count { length texts.old ≡ length (content_roles (Command.OfDesign Job.Verify source)) }
     requires short { AreShort texts.old }
-    ensures value { IfOk result (λ answer. IsContentAnswer (Command.OfDesign Job.Verify source) texts.old answer.status answer.text) }
+    ensures value { IfOk result
+        (λ answer. IsContentAnswer (Command.OfDesign Job.Verify source) texts.old answer.status answer.text) }
     ensures stop { IfErr result (StopsAt (IsContentRefusal (Command.OfDesign Job.Verify source) texts.old)) }
 {
-    let Ordered { flat, order } = match ordered_of(alloc, source, texts) {
-        Ok(ordered) => ordered,
-        Err(stop) => return Err(stop),
-    };
+    let Ordered { flat, order } = ordered_of(alloc, source, texts)?;
     verify_answer(alloc, &flat, &order, own_file(source, texts))
 }
 
-/// The answer to a job on the texts of a design and of the file beside them, none of them too long, or their first refusal.
+/// The answer to a job on the texts of a design and of the file beside them, none of them too long, or their first
+/// refusal.
 fn design_answer(
     alloc: Global,
     job: Job,
@@ -68,16 +64,14 @@ fn design_answer(
 ) -> Result<Answer, Stop>
     requires count { length texts.old ≡ length (content_roles (Command.OfDesign job source)) }
     requires short { AreShort texts.old }
-    ensures value { IfOk result (λ answer. IsContentAnswer (Command.OfDesign job source) texts.old answer.status answer.text) }
+    ensures value { IfOk result
+        (λ answer. IsContentAnswer (Command.OfDesign job source) texts.old answer.status answer.text) }
     ensures stop { IfErr result (StopsAt (IsContentRefusal (Command.OfDesign job source) texts.old)) }
 {
     if let Job::Verify = job {
         return verdict_answer(alloc, source, texts);
     }
-    let system = match system_of(alloc, source, texts) {
-        Ok(system) => system,
-        Err(stop) => return Err(stop),
-    };
+    let system = system_of(alloc, source, texts)?;
     job_answer(alloc, job, &system, own_file(source, texts))
 }
 
@@ -88,18 +82,12 @@ fn sample_answer(alloc: Global, number: u64, texts: &mut [Bytes]) -> Result<Answ
     ensures value { IfOk result (λ answer. IsContentAnswer (Command.Sample number) texts.old answer.status answer.text) }
     ensures stop { IfErr result (StopsAt (IsContentRefusal (Command.Sample number) texts.old)) }
 {
-    let system = match system_of(alloc, Source::Files, texts) {
-        Ok(system) => system,
-        Err(stop) => return Err(stop),
-    };
-    match summary_answer(alloc, number, &system) {
-        Ok(answer) => Ok(answer),
-        Err(OutOfMemory) => Err(Stop::OutOfMemory),
-    }
+    let system = system_of(alloc, Source::Files, texts)?;
+    Ok(summary_answer(alloc, number, &system)?)
 }
 
-/// The answer to a command on the texts that it works on: the text of their first refusal, or what is answered where nothing
-/// is refused.
+/// The answer to a command on the texts that it works on: the text of their first refusal, or what is answered
+/// where nothing is refused.
 fn answer_on(alloc: Global, command: Command, texts: &mut [Bytes]) -> Result<Answer, OutOfMemory>
     requires count { length texts.old ≡ length (content_roles command) }
     requires in_range { IsNumberInRange command }

@@ -5,7 +5,8 @@ ghost use Rattle.mintc_timing.specs.Departures.{AreEarly, AreLate};
 ghost use Rattle.mintc_timing.specs.Design.{element_count, phase_count};
 ghost use Rattle.mintc_timing.specs.Limits.{IsInRange};
 ghost use Rattle.mintc_timing.specs.Violations.{AreViolations};
-ghost use Rattle.mintc_command_answers.specs.Jobs.{IsFileRefused, IsJobAnswer, IsJudgement, IsScheduleOf, IsScheduleRefused};
+ghost use Rattle.mintc_command_answers.specs.Jobs.{IsFileRefused, IsJobAnswer, IsJudgement, IsScheduleOf};
+ghost use Rattle.mintc_command_answers.specs.Jobs.{IsScheduleRefused};
 
 use crate::answer::Answer;
 use crate::command::Job;
@@ -14,28 +15,25 @@ use mintc_constraints::Room;
 use mintc_departure::violations;
 use mintc_report::{fail_text, pass_text, violations_name_pairs};
 use mintc_text::limits::MOST_BYTES;
-use mintc_text::{Bytes, OutOfMemory, Refusal, Stop};
+use mintc_text::{OutOfMemory, Refusal, Stop};
 use mintc_timing::{Schedule, System, Violation};
 use mintc_timing_text::read_schedule;
 use std::alloc::Global;
 
 /// The schedule of a text, which is to have so many phases, or its first refusal.
-fn schedule_of(text: &[u8], phases: usize) -> Result<Schedule, Refusal>
+fn schedule_of(text: &[u8], phases: u32) -> Result<Schedule, Refusal>
     requires text { length text.now ≤ MOST_BYTES }
     requires few { phases ≤ 8 }
     ensures value { IfOk result (λ schedule. IsScheduleOf text.now phases schedule) }
     ensures in_range { IfOk result IsInRange }
     ensures refusal { IfErr result (IsScheduleRefused text.now phases) }
 {
-    let schedule = match read_schedule(text) {
-        Ok(schedule) => schedule,
-        Err(refusal) => return Err(refusal),
-    };
-    let given = schedule.starts.items().len();
+    let schedule = read_schedule(text)?;
+    let given = schedule.starts.items().len() as u32;
     if phases != given {
         return Err(Refusal::PhaseMismatch {
-            design: phases as u32,
-            schedule: given as u32,
+            design: phases,
+            schedule: given,
         });
     }
     Ok(schedule)
@@ -45,9 +43,7 @@ fn schedule_of(text: &[u8], phases: usize) -> Result<Schedule, Refusal>
 fn room_for(alloc: Global, system: &System) -> Result<Room, OutOfMemory>
     ensures { IfOk result (λ room. 1 + 2 * phase_count system.now.flat + element_count system.now.flat ≤ room.nodes) }
 {
-    let flat = system.flat();
-    let nodes = 1 + 2 * flat.phases().items().len() + flat.elements().len();
-    Room::reserve(alloc, nodes, 0)
+    Room::reserve(alloc, system.flat().node_count() as usize, 0)
 }
 
 /// The judgement of a schedule that breaks just these: a pass where there are none, or a fail that names them.
@@ -67,17 +63,11 @@ fn judgement(
 {
     if violations.is_empty() {
         let text = pass_text(alloc, system, schedule, room)?;
-        Ok(Answer {
-            status: Status::Done,
-            text: Bytes::new(text),
-        })
+        Ok(Answer::new(Status::Done, text))
     } else {
         violations_name_pairs();
         let text = fail_text(alloc, system, schedule, violations)?;
-        Ok(Answer {
-            status: Status::Found,
-            text: Bytes::new(text),
-        })
+        Ok(Answer::new(Status::Found, text))
     }
 }
 
@@ -98,12 +88,6 @@ pub(crate) fn check_answer(alloc: Global, system: &System, file: &[u8]) -> Resul
     ensures value { IfOk result (λ answer. IsJobAnswer Job.Check system.now file.now answer.status answer.text) }
     ensures stop { IfErr result (StopsAt (IsFileRefused Job.Check system.now.flat file.now)) }
 {
-    let schedule = match schedule_of(file, system.flat().phases().items().len()) {
-        Ok(schedule) => schedule,
-        Err(refusal) => return Err(Stop::Refused(refusal)),
-    };
-    match judge(alloc, system, &schedule) {
-        Ok(answer) => Ok(answer),
-        Err(OutOfMemory) => Err(Stop::OutOfMemory),
-    }
+    let schedule = schedule_of(file, system.flat().phase_count())?;
+    Ok(judge(alloc, system, &schedule)?)
 }

@@ -2,7 +2,8 @@
 ghost use Rattle.std.specs.Prelude.{◌≡◌, ◌≢◌, ◌<◌, ◌+◌, ◌^◌, ◌∷◌, [], ℕ, MatchOption, decimal, drop, length};
 ghost use Rattle.mintc_command_answers.specs.declared.command.Command.{Command};
 ghost use Rattle.mintc_command_answers.specs.declared.command.Job.{Job};
-ghost use Rattle.mintc_command_answers.specs.Commands.{bytes_of, job_word, source_word, roles_of, words_of, AreWordsOf, IsCommand, IsNumberInRange};
+ghost use Rattle.mintc_command_answers.specs.Commands.{bytes_of, job_word, source_word, roles_of, words_of, AreWordsOf};
+ghost use Rattle.mintc_command_answers.specs.Commands.{IsCommand, IsNumberInRange};
 ghost use Rattle.mintc_command_answers.specs.Contents.{content_roles};
 
 use mintc_text::Role;
@@ -178,7 +179,8 @@ fn job_of(word: &str) -> Option<Job>
 
 /// The source that a word names.
 fn source_of(word: &str) -> Option<Source>
-    ensures { MatchOption result ((source : Source) → word.now ≢ source_word source) (λ source. word.now ≡ source_word source) }
+    ensures { MatchOption result ((source : Source) →
+        word.now ≢ source_word source) (λ source. word.now ≡ source_word source) }
 {
     match word {
         "table" => Some(Source::Table),
@@ -202,8 +204,8 @@ fn sample_number(word: &str) -> Option<u64>
     }
 }
 
-/// How many delay files `corners` has as the first of so many words: the others are the netlist, the cells, the clock and from
-/// 2 to 4 delay files.
+/// How many delay files `corners` has as the first of so many words: the others are the netlist, the cells, the
+/// clock and from 2 to 4 delay files.
 fn delay_count(words: usize) -> Option<u32>
     ensures { MatchOption result ((count : ℕ) → IsNumberInRange (Command.Corners count) → words ≢ count + 4)
         (λ count. IsNumberInRange (Command.Corners count) × (words ≡ count + 4)) }
@@ -217,7 +219,8 @@ fn delay_count(words: usize) -> Option<u32>
 
 /// The command that begins with two words.
 fn command_by(first: &str, second: &str) -> Option<Command>
-    ensures { MatchOption result ((command : Command) → IsNumberInRange command → first.now ∷ second.now ∷ [] ≢ words_of command)
+    ensures { MatchOption result ((command : Command) → IsNumberInRange command →
+        first.now ∷ second.now ∷ [] ≢ words_of command)
         (λ command. (first.now ∷ second.now ∷ [] ≡ words_of command) × IsNumberInRange command) }
 {
     if first == "sample" {

@@ -6,7 +6,8 @@ ghost use Rattle.mintc_corners.specs.Joint.{AreCorners};
 ghost use Rattle.mintc_command_answers.specs.Answers.{IsAnswerOn, IsOfCommand};
 ghost use Rattle.mintc_command_answers.specs.Commands.{IsNumberInRange};
 ghost use Rattle.mintc_command_answers.specs.Contents.{content_roles};
-ghost use Rattle.mintc_command_answers.specs.Corners.{AreGiven, AreTooMany, IsCornersAnswer, IsCornerStop, corner_status, elements_together, files_with};
+ghost use Rattle.mintc_command_answers.specs.Corners.{AreGiven, AreTooMany, IsCornersAnswer, IsCornerStop};
+ghost use Rattle.mintc_command_answers.specs.Corners.{corner_status, elements_together, files_with};
 ghost use Rattle.mintc_command_answers.specs.Sources.{AreShort, Gives, IsSourceRefused};
 
 use crate::answer::Answer;
@@ -40,16 +41,13 @@ fn corner_system(alloc: Global, texts: &[Bytes], delays: &Bytes) -> Result<Syste
     ensures value { IfOk result (Gives Source.Files (files_with texts.now delays.now)) }
     ensures stop { IfErr result (StopsAt (IsSourceRefused Source.Files (files_with texts.now delays.now))) }
 {
-    let flat = match from_files(
+    let flat = from_files(
         alloc,
         texts[0].items(),
         delays.items(),
         texts[1].items(),
         texts[2].items(),
-    ) {
-        Ok(flat) => flat,
-        Err(stop) => return Err(stop),
-    };
+    )?;
     accepted_system(alloc, flat)
 }
 
@@ -142,13 +140,11 @@ fn optimum_of(alloc: Global, systems: &[System]) -> Result<Answer, OutOfMemory>
 {
     let certificate = certificate_from::<Brand>(alloc, systems, Blank::new(1))?;
     let text = corners_text(alloc, &certificate)?;
-    Ok(Answer {
-        status: status_of(&certificate),
-        text: Bytes::new(text),
-    })
+    Ok(Answer::new(status_of(&certificate), text))
 }
 
-/// The answer of `corners` on texts that aren't too long: the text of their first refusal, or of the optimum of all corners.
+/// The answer of `corners` on texts that aren't too long: the text of their first refusal, or of the optimum of all
+/// corners.
 pub(crate) fn corners_answer(
     alloc: Global,
     count: u32,

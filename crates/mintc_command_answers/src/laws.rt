@@ -1,5 +1,6 @@
 //! What the definitions of refusals and answers say: a law is the contract of a function that only calls laws.
-ghost use Rattle.mintc_command_answers.specs.Laws.{OptimaAreVerified, RefusalsAreDetermined, RefusalsExcludeAnswers};
+ghost use Rattle.mintc_command_answers.specs.Laws.{AnswersAreOfCommands, OptimaAreVerified, RefusalsAreDetermined};
+ghost use Rattle.mintc_command_answers.specs.Laws.{RefusalsExcludeAnswers};
 
 use mintc_build::{
     accepted_designs_are_not_refused, design_refusals_are_determined, files_are_plain,
@@ -36,3 +37,9 @@ pub fn optima_are_verified()
 {
     written_certificates_are_read();
 }
+
+/// A defined answer has the status of an answer: it is done, something is found, or the input is refused.
+#[tactic(auto, using(crate::proofs::StatusLaws::of_commands_lem))]
+pub fn answers_are_of_commands()
+    ensures { AnswersAreOfCommands }
+{}

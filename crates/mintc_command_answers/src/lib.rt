@@ -1,9 +1,10 @@
 //! What is answered to a command on the bytes of its files: a status and one text.
 //!
-//! `command_of` says which command words are, and `answer_to` works out its answer whole in memory: from the files to the system
-//! of their design, from there to the answer of its job by the crate that does the work, and to the text of that; where something
-//! is refused, the text of the first refusal. Nothing is read or written here. Laws say that a first refusal excludes every other
-//! answer and is one, but for the choice of a loop, and that what `optimise` answers, `verify` calls valid.
+//! `command_of` says which command words are, and `answer_to` works out its answer whole in memory: from the files
+//! to the system of their design, from there to the answer of its job by the crate that does the work, and to the
+//! text of that; where something is refused, the text of the first refusal. Nothing is read or written here. Laws
+//! say that a first refusal excludes every other answer and is one, but for the choice of a loop, and that what
+//! `optimise` answers, `verify` calls valid.
 //!
 //! The crate above gets the defined answer of the command and the bytes.
 #![tactic(auto)]
@@ -25,5 +26,7 @@ mod verify_answers;
 pub use answer::Answer;
 pub use answering::answer_to;
 pub use command::{Command, Job, Source, command_of};
-pub use laws::{optima_are_verified, refusals_are_determined, refusals_exclude_answers};
+pub use laws::{
+    answers_are_of_commands, optima_are_verified, refusals_are_determined, refusals_exclude_answers,
+};
 pub use status::Status;

@@ -1,7 +1,8 @@
 //! The answers of `optimise`, of `report` and of `sample`: the least cycle time with its certificate.
 ghost use Rattle.std.specs.Prelude.{◌≡◌, ◌<◌, IfOk};
 ghost use Rattle.mintc_certificate.specs.Ranges.{IsCertificateInRange};
-ghost use Rattle.mintc_command_answers.specs.Jobs.{IsOptimum, IsOptimumAnswer, IsReportAnswer, IsSummaryAnswer, certificate_status};
+ghost use Rattle.mintc_command_answers.specs.Jobs.{IsOptimum, IsOptimumAnswer, IsReportAnswer, IsSummaryAnswer};
+ghost use Rattle.mintc_command_answers.specs.Jobs.{certificate_status};
 
 use crate::answer::Answer;
 use crate::status::Status;
@@ -9,7 +10,7 @@ use mintc_certificate::{Certificate, write};
 use mintc_graph_walks::Steps;
 use mintc_optimise::optimise;
 use mintc_report::{report_text, summary_text};
-use mintc_text::{Bytes, OutOfMemory};
+use mintc_text::OutOfMemory;
 use mintc_timing::System;
 use std::alloc::Global;
 use std::marker::Brand;
@@ -55,10 +56,7 @@ pub(crate) fn optimise_answer(alloc: Global, system: &System) -> Result<Answer, 
 {
     let certificate = optimum(alloc, system)?;
     let text = write(alloc, &certificate)?;
-    Ok(Answer {
-        status: status_of(&certificate),
-        text: Bytes::new(text),
-    })
+    Ok(Answer::new(status_of(&certificate), text))
 }
 
 /// The report of an optimum.
@@ -67,10 +65,7 @@ pub(crate) fn report_answer(alloc: Global, system: &System) -> Result<Answer, Ou
 {
     let certificate = optimum(alloc, system)?;
     let text = report_text(alloc, system, &certificate)?;
-    Ok(Answer {
-        status: status_of(&certificate),
-        text: Bytes::new(text),
-    })
+    Ok(Answer::new(status_of(&certificate), text))
 }
 
 /// The summary of the sample of a number, whose system this is.
@@ -83,8 +78,5 @@ pub(crate) fn summary_answer(
 {
     let certificate = optimum(alloc, system)?;
     let text = summary_text(alloc, number, system, &certificate)?;
-    Ok(Answer {
-        status: status_of(&certificate),
-        text: Bytes::new(text),
-    })
+    Ok(Answer::new(status_of(&certificate), text))
 }

@@ -5,7 +5,7 @@ ghost use Rattle.mintc_text.specs.Refusals.{refusal_line};
 use crate::answer::Answer;
 use crate::status::Status;
 use mintc_report::refusal_text;
-use mintc_text::{Bytes, Lines, OutOfMemory, Refusal};
+use mintc_text::{Lines, OutOfMemory, Refusal};
 use std::alloc::Global;
 
 /// The answer of a refusal's line.
@@ -14,10 +14,7 @@ pub(crate) fn refusal_answer(alloc: Global, refusal: &Refusal) -> Result<Answer,
     ensures text { IfOk result (λ answer. answer.text ≡ refusal_line refusal.now) }
 {
     let text = refusal_text(alloc, refusal)?;
-    Ok(Answer {
-        status: Status::Refused,
-        text: Bytes::new(text),
-    })
+    Ok(Answer::new(Status::Refused, text))
 }
 
 /// The answer of the refusal of a corner: its line, and then the line of the refusal of the corner's own files.
@@ -34,8 +31,5 @@ pub(crate) fn refused_corner(
     let mut lines = Lines::new(alloc);
     lines.put(first.as_slice())?;
     lines.put(second.as_slice())?;
-    Ok(Answer {
-        status: Status::Refused,
-        text: Bytes::new(lines.into_bytes()),
-    })
+    Ok(Answer::new(Status::Refused, lines.into_bytes()))
 }

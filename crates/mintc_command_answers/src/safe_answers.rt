@@ -7,7 +7,7 @@ use crate::answer::Answer;
 use crate::status::Status;
 use mintc_graph_walks::Steps;
 use mintc_safe::{SafeCertificate, safe, safe_text};
-use mintc_text::{Bytes, OutOfMemory};
+use mintc_text::OutOfMemory;
 use mintc_timing::System;
 use std::alloc::Global;
 use std::marker::Brand;
@@ -44,8 +44,5 @@ pub(crate) fn safe_answer(alloc: Global, system: &System) -> Result<Answer, OutO
 {
     let certificate = safe_from::<Brand>(alloc, system, Blank::new(1))?;
     let text = safe_text(alloc, &certificate)?;
-    Ok(Answer {
-        status: status_of(&certificate),
-        text: Bytes::new(text),
-    })
+    Ok(Answer::new(status_of(&certificate), text))
 }

@@ -7,7 +7,7 @@ use crate::answer::Answer;
 use crate::status::Status;
 use mintc_graph_walks::Steps;
 use mintc_slack::{Slacks, slack, slack_text};
-use mintc_text::{Bytes, OutOfMemory};
+use mintc_text::OutOfMemory;
 use mintc_timing::System;
 use std::alloc::Global;
 use std::marker::Brand;
@@ -44,8 +44,5 @@ pub(crate) fn slack_answer(alloc: Global, system: &System) -> Result<Answer, Out
 {
     let slacks = slacks_from::<Brand>(alloc, system, Blank::new(1))?;
     let text = slack_text(alloc, system, &slacks)?;
-    Ok(Answer {
-        status: status_of(&slacks),
-        text: Bytes::new(text),
-    })
+    Ok(Answer::new(status_of(&slacks), text))
 }

@@ -4,7 +4,8 @@ ghost use Rattle.mintc_text.specs.Stops.{StopsAt};
 ghost use Rattle.mintc_command_answers.specs.Commands.{source_roles};
 ghost use Rattle.mintc_timing.specs.Limits.{IsDesign};
 ghost use Rattle.mintc_build.specs.Designs.{IsDesignRefusal};
-ghost use Rattle.mintc_command_answers.specs.Sources.{AreShort, Describes, Gives, GivesOrdered, HasNoDesign, IsLengthRefusal, IsSourceRefused, IsSystemOf, own_file};
+ghost use Rattle.mintc_command_answers.specs.Sources.{AreShort, Describes, Gives, GivesOrdered, HasNoDesign};
+ghost use Rattle.mintc_command_answers.specs.Sources.{IsLengthRefusal, IsSourceRefused, IsSystemOf, own_file};
 
 use crate::command::Source;
 use mintc_build::{from_files, from_liberty, from_table, system, system_order};
@@ -60,13 +61,9 @@ pub(crate) fn accepted_system(alloc: Global, flat: Flat) -> Result<System, Stop>
 {
     systems_are_accepted();
     let _phases = flat.phases();
-    match system(alloc, flat) {
-        Ok(system) => {
-            let _pairs = system.pairs();
-            Ok(system)
-        }
-        Err(stop) => Err(stop),
-    }
+    let system = system(alloc, flat)?;
+    let _pairs = system.pairs();
+    Ok(system)
 }
 
 /// Gives back the memory of the files of a design, which comes first. The file that stands after them stays.
@@ -84,8 +81,8 @@ fn give_back(alloc: Global, source: Source, files: &mut [Bytes])
     }
 }
 
-/// The system of the design that the first files give, or the first refusal of these files. The memory of these files is given
-/// back once the design is read.
+/// The system of the design that the first files give, or the first refusal of these files. The memory of these
+/// files is given back once the design is read.
 pub(crate) fn system_of(alloc: Global, source: Source, files: &mut [Bytes]) -> Result<System, Stop>
     requires all { length (source_roles source) ≤ length files.old }
     requires short { AreShort files.old }
@@ -94,10 +91,7 @@ pub(crate) fn system_of(alloc: Global, source: Source, files: &mut [Bytes]) -> R
     ensures own { own_file source files.new ≡ own_file source files.old }
     ensures short { AreShort files.new }
 {
-    let flat = match design_of(alloc, source, files) {
-        Ok(flat) => flat,
-        Err(stop) => return Err(stop),
-    };
+    let flat = design_of(alloc, source, files)?;
     give_back(alloc, source, files);
     accepted_system(alloc, flat)
 }
@@ -109,8 +103,8 @@ pub(crate) struct Ordered {
     pub order: Order,
 }
 
-/// The design that the first files give, where it has a system, or the first refusal of these files. Its pairs aren't listed.
-/// The memory of these files is given back once the design is read.
+/// The design that the first files give, where it has a system, or the first refusal of these files. Its pairs
+/// aren't listed. The memory of these files is given back once the design is read.
 pub(crate) fn ordered_of(
     alloc: Global,
     source: Source,
@@ -123,17 +117,12 @@ pub(crate) fn ordered_of(
     ensures own { own_file source files.new ≡ own_file source files.old }
     ensures short { AreShort files.new }
 {
-    let flat = match design_of(alloc, source, files) {
-        Ok(flat) => flat,
-        Err(stop) => return Err(stop),
-    };
+    let flat = design_of(alloc, source, files)?;
     give_back(alloc, source, files);
     systems_are_accepted();
     let _phases = flat.phases();
-    match system_order(alloc, &flat) {
-        Ok(order) => Ok(Ordered { flat, order }),
-        Err(stop) => Err(stop),
-    }
+    let order = system_order(alloc, &flat)?;
+    Ok(Ordered { flat, order })
 }
 
 /// The bytes of the file that stands after those of the design, or none where there is no such file.

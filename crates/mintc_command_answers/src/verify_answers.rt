@@ -15,7 +15,7 @@ use mintc_certificate::{Certificate, read};
 use mintc_checker::{Verdict, examine_flat};
 use mintc_report::verdict_text;
 use mintc_text::limits::MOST_BYTES;
-use mintc_text::{Bytes, OutOfMemory, Stop};
+use mintc_text::{OutOfMemory, Stop};
 use mintc_timing::{Flat, Order};
 use std::alloc::Global;
 
@@ -39,17 +39,16 @@ fn examine_certificate(
     requires order { IsOrder flat.now.arcs order.now }
     requires short { ArePathsShort flat.now }
     requires in_range { IsCertificateInRange certificate.now }
-    ensures { IfOk result (λ answer. (t : Timing) → t.flat ≡ flat.now → ArePairs t.flat t.pairs → IsVerdictAnswer t certificate.now answer.status answer.text) }
+    ensures { IfOk result (λ answer. (t : Timing) → t.flat ≡ flat.now → ArePairs t.flat t.pairs →
+        IsVerdictAnswer t certificate.now answer.status answer.text) }
 {
     let verdict = examine_flat(alloc, flat, order, certificate)?;
     let text = verdict_text(alloc, &verdict)?;
-    Ok(Answer {
-        status: status_of(verdict),
-        text: Bytes::new(text),
-    })
+    Ok(Answer::new(status_of(verdict), text))
 }
 
-/// The verdict on the certificate of a text, or why the text is refused. It is the same for each list of the design's pairs.
+/// The verdict on the certificate of a text, or why the text is refused. It is the same for each list of the
+/// design's pairs.
 pub(crate) fn verify_answer(
     alloc: Global,
     flat: &Flat,
@@ -59,15 +58,10 @@ pub(crate) fn verify_answer(
     requires order { IsOrder flat.now.arcs order.now }
     requires short { ArePathsShort flat.now }
     requires file { length file.now ≤ MOST_BYTES }
-    ensures value { IfOk result (λ answer. (t : Timing) → t.flat ≡ flat.now → ArePairs t.flat t.pairs → IsJobAnswer Job.Verify t file.now answer.status answer.text) }
+    ensures value { IfOk result (λ answer. (t : Timing) → t.flat ≡ flat.now → ArePairs t.flat t.pairs →
+        IsJobAnswer Job.Verify t file.now answer.status answer.text) }
     ensures stop { IfErr result (StopsAt (IsCertificateRefusal file.now)) }
 {
-    let certificate = match read(alloc, file) {
-        Ok(certificate) => certificate,
-        Err(stop) => return Err(stop),
-    };
-    match examine_certificate(alloc, flat, order, &certificate) {
-        Ok(answer) => Ok(answer),
-        Err(OutOfMemory) => Err(Stop::OutOfMemory),
-    }
+    let certificate = read(alloc, file)?;
+    Ok(examine_certificate(alloc, flat, order, &certificate)?)
 }

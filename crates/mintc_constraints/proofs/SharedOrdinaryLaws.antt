@@ -22,7 +22,8 @@ use Rattle.mintc_timing.specs.Violations.{phases_of, elements_of}
 use Rattle.mintc_timing.proofs.SharedExtremesLaws.{greatest_is, greater-least, greater-attained}
 use Rattle.mintc_timing.proofs.SharedRanges.{pair-max_range}
 use Rattle.mintc_constraints.specs.Ordinary.{Leads, HasPlainLink, IsOrdinaryLink, IsOrdinary, constraints_of}
-use Rattle.mintc_constraints.specs.Laws.{node_count, HasModestPairs, LinksAreOrdinary}
+use Rattle.mintc_constraints.specs.Laws.{HasModestPairs, LinksAreOrdinary}
+use Rattle.mintc_timing.specs.Links.{node_count}
 use Rattle.mintc_timing.proofs.SharedMembers.{length-flat_map_at_most}
 use Rattle.mintc_timing.proofs.SharedLinkLaws.{ends_of}
 use Rattle.mintc_timing.proofs.SharedByKind.{EachKind, All-links, stands}

@@ -9,6 +9,7 @@ pub record Constraints : Type 0 where
   pub nodes : ℕ
   pub links : List Link
 
+-- a list of links over so many nodes
 abbrev pub constraints_of : ℕ → List Link → Constraints
 constraints_of count items = record { nodes = count; links = items }
 

@@ -5,8 +5,8 @@ ghost use Rattle.mintc_constraints.specs.Ordinary.{IsOrdinary, constraints_of};
 use mintc_timing::Link;
 use std::marker::Model;
 
-/// Links between nodes that are counted from 0, seen as the number of the nodes and the list of the links. Each such list
-/// is ordinary.
+/// Links between nodes that are counted from 0, seen as the number of the nodes and the list of the links. Each
+/// such list is ordinary.
 #[derive(Drop)]
 pub struct LinkList {
     nodes: u32,
@@ -46,5 +46,12 @@ impl LinkList {
         ensures kept { IsOrdinary self.now }
     {
         &self.items
+    }
+
+    /// The links themselves.
+    pub fn into_vec(self) -> Vec<Link>
+        ensures { result.items ≡ self.links }
+    {
+        self.items
     }
 }

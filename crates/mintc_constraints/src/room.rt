@@ -10,8 +10,9 @@ use std::alloc::Global;
 use std::marker::Model;
 use std::sync::ledger::Ledger;
 
-/// Memory for walks through a network of so many nodes and links: five lists, each of at most one number a node, and two more
-/// for work, of which one keeps what makes the next walk short. Calls other than `reserve` take no memory.
+/// Memory for walks through a network of so many nodes and links: five lists, each of at most one number a node,
+/// and two more for work, of which one keeps what makes the next walk short. Calls other than `reserve` take no
+/// memory.
 #[derive(Debug, Drop)]
 pub struct Room {
     nodes: usize,
@@ -31,7 +32,15 @@ impl Model for Room {
 
     ghost Value = { Space };
 
-    ghost view = { λ r. record { nodes = r.nodes; links = r.links; values = r.values.items; before = r.before.items; late = r.late.items; early = r.early.items; chain = r.chain.items } };
+    ghost view = { λ r. record {
+      nodes = r.nodes;
+      links = r.links;
+      values = r.values.items;
+      before = r.before.items;
+      late = r.late.items;
+      early = r.early.items;
+      chain = r.chain.items;
+    } };
 
     ghost invariant = { λ r.
         (r.nodes ≤ vec_capacity r.values) × (r.nodes ≤ vec_capacity r.before) × (r.nodes ≤ vec_capacity r.late)

@@ -9,10 +9,9 @@ use Rattle.mintc_timing.specs.declared.link.LinkKind.{LinkKind}
 use Rattle.mintc_timing.specs.declared.link.LinkKind.TheVariants as kind
 use Rattle.mintc_timing.specs.Design.{Timing, element_count, no_pair, phase_count}
 use Rattle.mintc_timing.specs.Limits.{IsDesign}
-use Rattle.mintc_timing.specs.Links.{links_of}
+use Rattle.mintc_timing.specs.Links.{links_of, node_count}
 use Rattle.mintc_timing.specs.Order.{IsTiming}
 use Rattle.mintc_constraints.specs.Duality.{departures_of}
-use Rattle.mintc_constraints.specs.Laws.{node_count}
 use Rattle.mintc_constraints.specs.Ordinary.{Constraints, constraints_of}
 use Rattle.mintc_timing.proofs.SharedByKind.{All-links}
 use Rattle.mintc_constraints.proofs.SharedOrdinaryLaws.{each_between}

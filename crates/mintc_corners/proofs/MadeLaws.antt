@@ -7,11 +7,10 @@ use Rattle.mintc_timing.specs.declared.link.Link.{Link}
 use Rattle.mintc_timing.specs.declared.clocking.Schedule.{Schedule}
 use Rattle.mintc_timing.specs.Design.{Timing, element_count, phase_count}
 use Rattle.mintc_timing.specs.Limits.{IsDesign, IsInRange}
-use Rattle.mintc_timing.specs.Links.{IsChain, links_of, IsStuck}
+use Rattle.mintc_timing.specs.Links.{IsChain, links_of, IsStuck, node_count}
 use Rattle.mintc_timing.specs.Right.{IsRight}
 use Rattle.mintc_constraints.specs.Duality.{departures_of, schedule_of}
 use Rattle.mintc_timing.specs.Paths.{HasEnds}
-use Rattle.mintc_constraints.specs.Laws.{node_count}
 use Rattle.mintc_constraints.specs.Ordinary.{Constraints, constraints_of}
 use Rattle.mintc_constraints.specs.Rooms.{Space}
 use Rattle.mintc_constraints.proofs.SharedChainLaws.{stuck_is_hopeless_lem}

@@ -8,8 +8,7 @@ use Rattle.mintc_timing.specs.declared.link.Link.{Link}
 use Rattle.mintc_timing.specs.declared.parts.Element.{Element}
 use Rattle.mintc_timing.specs.Design.{Timing, element_count}
 use Rattle.mintc_timing.specs.Limits.{IsDesign}
-use Rattle.mintc_timing.specs.Links.{links_of}
-use Rattle.mintc_constraints.specs.Laws.{node_count}
+use Rattle.mintc_timing.specs.Links.{links_of, node_count}
 use Rattle.mintc_constraints.specs.Ordinary.{Constraints, IsOrdinary, constraints_of}
 use Rattle.mintc_constraints.proofs.SharedOrdinaryLaws.{few_links}
 use Rattle.mintc_constraints.proofs.SharedModestLaws.{modest_links_are_ordinary_lem}

@@ -1,5 +1,6 @@
 -- What a corner certificate must be: when a chain of joint links shows what it claims, and what more it keeps.
-use Rattle.std.specs.Prelude.{◌<◌, ◌*◌, ◌+◌, ℕ, zero, suc, List, ◌∷◌, length, slice_index_or, map, All, ◌≢◌, ◌≤◌, ℤ, [], flat_map, AllPairs}
+use Rattle.std.specs.Prelude.{◌<◌, ◌*◌, ◌+◌, ℕ, zero, suc, List, ◌∷◌, length, slice_index_or, map, All, ◌≢◌, ◌≤◌, ℤ, []}
+use Rattle.std.specs.Prelude.{flat_map, AllPairs}
 use Rattle.mintc_text.specs.declared.limits.TheConstants.{MOST_MEMBERS}
 use Rattle.mintc_timing.specs.declared.clocking.Schedule.{Schedule}
 use Rattle.mintc_timing.specs.declared.link.Link.{Link}
@@ -30,32 +31,38 @@ IsOfClock m = Unit {0}
 
 -- Any other is one of its corner's design, and a reach carries a listed path with the greatest delay there.
 abbrev pub IsOfElements : Timing → Member → Type 0
-IsOfElements t (member.Reach j l path) = IsMember t (member.Reach j l path) × IsGreatestDelay t.flat.arcs j (input_of l) (greatest_delay t.flat.arcs path)
+IsOfElements t (member.Reach j l path) = IsMember t (member.Reach j l path)
+    × IsGreatestDelay t.flat.arcs j (input_of l) (greatest_delay t.flat.arcs path)
 IsOfElements t m = IsMember t m × (IsOfClock m → ⊥)
 
 -- the timing of a corner, counted from 0
 abbrev pub corner_of : Timing → List Timing → ℕ → Timing
 corner_of t ts c = slice_index_or (t ∷ ts) c t
 
+-- The member is one of the clock, under number 0, or one of a corner's elements, under the corner's number from 1.
 abbrev pub IsOfCorner : Timing → List Timing → ℕ → Member → Type 0
 IsOfCorner t ts zero m = IsOfClock m × IsMember (side_by_side t ts) m
 IsOfCorner t ts (suc c) m = (c < length (t ∷ ts)) × IsOfElements (corner_of t ts c) m
 
--- The link that a member stands for. Element l of a corner, counted from 0, of n elements each is number c * n + l of all.
+-- Element l of corner c, counted from 0, of n elements each is number c * n + l of all.
 abbrev pub among : Design → ℕ → ℕ → ℕ
 among design c l = c * element_count design + l
 
+-- the link of a member of corner c, counted from 0, among those of all
 abbrev pub link_in : Timing → List Timing → ℕ → Member → Link
 link_in t ts c (member.Opening l) = opening_link (side_by_side t ts).flat (among t.flat c l)
 link_in t ts c (member.Opened l) = opened_link (side_by_side t ts).flat (among t.flat c l)
-link_in t ts c (member.Reach j l path) = reach_link (side_by_side t ts).flat (among t.flat c j) (among t.flat c l) (greatest_delay (corner_of t ts c).flat.arcs path)
+link_in t ts c (member.Reach j l path) = reach_link (side_by_side t ts).flat (among t.flat c j) (among t.flat c l)
+    (greatest_delay (corner_of t ts c).flat.arcs path)
 link_in t ts c (member.Setup l) = setup_link (side_by_side t ts).flat (among t.flat c l)
 link_in t ts c m = link_of (side_by_side t ts).flat m
 
+-- the link of a member under the number that it bears
 abbrev pub link_of_corner : Timing → List Timing → ℕ → Member → Link
 link_of_corner t ts zero m = link_of (side_by_side t ts).flat m
 link_of_corner t ts (suc c) m = link_in t ts c m
 
+-- the links of a list of members
 abbrev pub links_of_corners : Timing → List Timing → List CornerMember → List Link
 links_of_corners t ts members = map (λ m. link_of_corner t ts m.corner m.member) members
 
@@ -66,23 +73,28 @@ pub record IsCornerRing (t : Timing) (ts : List Timing) (members : List CornerMe
 
 -- The schedule is right in each corner, and a ring shows that its cycle is the least; or a ring shows that none is.
 abbrev pub IsCornerValid : Timing → List Timing → CornerCertificate → Type 0
-IsCornerValid t ts (Least schedule departures chain) = AreJointlyRight (t ∷ ts) schedule departures × IsCornerRing t ts chain × IsTight (links_of_corners t ts chain) schedule.cycle schedule.den
+IsCornerValid t ts (Least schedule departures chain) = AreJointlyRight (t ∷ ts) schedule departures
+    × IsCornerRing t ts chain × IsTight (links_of_corners t ts chain) schedule.cycle schedule.den
 IsCornerValid t ts (Never chain) = IsCornerRing t ts chain × IsStuck (links_of_corners t ts chain)
 
+-- The cycle is the joint cycle of all corners; or no schedule is right in each.
 abbrev pub IsCornerOptimal : Timing → List Timing → CornerCertificate → Type 0
-IsCornerOptimal t ts (Least schedule departures chain) = AreJointlyRight (t ∷ ts) schedule departures × IsJointCycle (t ∷ ts) schedule.cycle schedule.den
+IsCornerOptimal t ts (Least schedule departures chain) = AreJointlyRight (t ∷ ts) schedule departures
+    × IsJointCycle (t ∷ ts) schedule.cycle schedule.den
 IsCornerOptimal t ts (Never chain) = AreJointlyHopeless (t ∷ ts)
 
--- Of all solutions of the joint links at its cycle time, the schedule with the departures of each corner is the earliest. The
--- departure of a flop is 0, as it is exact.
+-- Of all solutions of the joint links at its cycle time, the schedule with the departures of each corner is the
+-- earliest. The departure of a flop is 0, as it is exact.
 abbrev pub HasJointEarliest : Timing → List Timing → CornerCertificate → Type 0
-HasJointEarliest t ts (Least schedule departures chain) = IsEarliest (side_by_side t ts).flat (joint_links_of t ts) schedule (flat_map (λ d. d) departures)
+HasJointEarliest t ts (Least schedule departures chain) = IsEarliest (side_by_side t ts).flat
+    (joint_links_of t ts) schedule (flat_map (λ d. d) departures)
 HasJointEarliest t ts (Never chain) = Unit {0}
 
 -- The chain enters no node twice.
 abbrev pub EntersOnce : Timing → List Timing → List CornerMember → Type 0
 EntersOnce t ts chain = AllPairs (λ a b. a.to ≢ b.to) (links_of_corners t ts chain)
 
+-- Neither does that of a certificate, of either kind.
 abbrev pub HasJointSimple : Timing → List Timing → CornerCertificate → Type 0
 HasJointSimple t ts (Least schedule departures chain) = EntersOnce t ts chain
 HasJointSimple t ts (Never chain) = EntersOnce t ts chain
@@ -103,7 +115,8 @@ pub record AreDeparturesInRange (departures : List ℤ) : Type 0 where
   pub each : All IsDeparture departures
 
 -- a schedule, the departures of each of a few corners, and a chain that a text can say
-pub record IsCornerLeastInRange (schedule : Schedule) (departures : List (List ℤ)) (chain : List CornerMember) : Type 0 where
+pub record IsCornerLeastInRange (schedule : Schedule) (departures : List (List ℤ))
+    (chain : List CornerMember) : Type 0 where
   pub schedule_in : IsInRange schedule
   pub count : IsCount (length departures)
   pub each : All AreDeparturesInRange departures

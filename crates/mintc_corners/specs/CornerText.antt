@@ -14,15 +14,19 @@ use Rattle.mintc_corners.specs.declared.certificate.CornerCertificate.TheVariant
 abbrev pub words_at : ℕ → Member → List (List ℕ)
 words_at c (member.Opening l) = codes "open" ∷ number c ∷ number l ∷ []
 words_at c (member.Opened l) = codes "opened" ∷ number c ∷ number l ∷ []
-words_at c (member.Reach j l path) = codes "reach" ∷ number c ∷ number j ∷ number l ∷ number (length path) ∷ map number path
+words_at c (member.Reach j l path) = codes "reach" ∷ number c ∷ number j ∷ number l ∷ number (length path) ∷
+    map number path
 words_at c (member.Setup l) = codes "setup" ∷ number c ∷ number l ∷ []
 words_at c m = member_words m
 
+-- the words of a member under the number that it bears
 abbrev pub corner_words : CornerMember → List (List ℕ)
 corner_words m = words_at m.corner m.member
 
+-- the lines of a chain, and the last line
 abbrev pub corner_chain_lines : List CornerMember → List (List ℕ)
-corner_chain_lines ms = count_line (codes "chain") (length ms) ∷ map (λ m. words (corner_words m)) ms ++ codes "end" ∷ []
+corner_chain_lines ms = count_line (codes "chain") (length ms) ∷ map (λ m. words (corner_words m)) ms ++ codes "end" ∷
+    []
 
 -- the departures of each corner, in the order of the delay files
 abbrev pub all_departure_lines : List (List ℤ) → List (List ℕ)
@@ -30,5 +34,6 @@ all_departure_lines ds = count_line (codes "corners") (length ds) ∷ flat_map d
 
 -- the lines of a corner certificate, with a schedule and without
 abbrev pub corner_lines : CornerCertificate → List (List ℕ)
-corner_lines (Least schedule departures chain) = codes "corners 1" ∷ codes "least" ∷ schedule_lines schedule ++ all_departure_lines departures ++ corner_chain_lines chain
+corner_lines (Least schedule departures chain) = codes "corners 1" ∷ codes "least" ∷ schedule_lines schedule
+    ++ all_departure_lines departures ++ corner_chain_lines chain
 corner_lines (Never chain) = codes "corners 1" ∷ codes "never" ∷ corner_chain_lines chain

@@ -13,6 +13,7 @@ use Rattle.mintc_timing.specs.Links.{link}
 abbrev pub lifted_node : ℕ → ℕ → ℕ → ℕ
 lifted_node clock before x = if nat_lt clock x then before + x else x
 
+-- what a link stands for, its elements numbered after so many others
 abbrev pub lifted_kind : ℕ → LinkKind → LinkKind
 lifted_kind before (kind.Opening l) = kind.Opening (before + l)
 lifted_kind before (kind.Opened l) = kind.Opened (before + l)
@@ -27,7 +28,8 @@ lifted_delay wide which gap = gap
 
 -- a corner's link among those of all
 abbrev pub lifted_link : (ℕ → ℤ) → ℕ → ℕ → Link → Link
-lifted_link wide clock before k = link (lifted_kind before k.kind) (lifted_node clock before k.from) (lifted_node clock before k.to) (lifted_delay wide k.kind k.delay) k.cycles
+lifted_link wide clock before k = link (lifted_kind before k.kind) (lifted_node clock before k.from)
+    (lifted_node clock before k.to) (lifted_delay wide k.kind k.delay) k.cycles
 
 -- the greatest least width of a phase
 abbrev pub widest : List Timing → ℕ → ℤ
@@ -42,6 +44,7 @@ HasLowKind (kind.Reach j l) = (j < MOST_ELEMENTS) × (l < MOST_ELEMENTS)
 HasLowKind (kind.Setup l) = l < MOST_ELEMENTS
 HasLowKind which = Unit {0}
 
+-- The nodes and the elements of the link are of one design.
 pub record IsLow (k : Link) : Type 0 where
   pub from : k.from ≤ 2016
   pub to : k.to ≤ 2016

@@ -78,9 +78,7 @@ fn all_finders(alloc: Global, systems: &[System]) -> Result<Vec<Finder>, OutOfMe
 {
     let mut finders = Vec::new(alloc);
     for system in systems {
-        let Ok(()) = finders.push(Finder::new(alloc, system)?) else {
-            return Err(OutOfMemory);
-        };
+        finders.push(Finder::new(alloc, system)?)?;
     }
     Ok(finders)
 }
@@ -105,9 +103,7 @@ pub(crate) fn members(
     let mut members = Vec::new(alloc);
     for number in chain {
         let member = corner_member_of(alloc, systems, lists, &mut finders, *number)?;
-        let Ok(()) = members.push(member) else {
-            return Err(OutOfMemory);
-        };
+        members.push(member)?;
     }
     Ok(CornerMemberList::new(members))
 }

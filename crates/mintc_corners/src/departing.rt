@@ -5,7 +5,8 @@ ghost use Rattle.mintc_timing.specs.Limits.{IsInRange};
 ghost use Rattle.mintc_constraints.specs.Duality.{schedule_of};
 ghost use Rattle.mintc_ratio.specs.Searched.{IsCycle};
 ghost use Rattle.mintc_corners.specs.CornerOptimum.{AreDeparturesInRange};
-ghost use Rattle.mintc_corners.specs.Joined.{departures_of_all, no_timing, corner_values as corner_values_of, AreSayableOfAll};
+ghost use Rattle.mintc_corners.specs.Joined.{departures_of_all, no_timing, corner_values as corner_values_of};
+ghost use Rattle.mintc_corners.specs.Joined.{AreSayableOfAll};
 
 use crate::DeparturesList;
 use crate::joining::clock_nodes;
@@ -15,8 +16,8 @@ use mintc_text::OutOfMemory;
 use mintc_timing::{Schedule, System};
 use std::alloc::Global;
 
-/// The moments of a corner's nodes: those of time 0 and the clock, and those of its elements, which come after those of the
-/// corners before.
+/// The moments of a corner's nodes: those of time 0 and the clock, and those of its elements, which come after
+/// those of the corners before.
 fn corner_values(
     alloc: Global,
     clock: usize,
@@ -30,13 +31,9 @@ fn corner_values(
     ensures { IfOk result (λ own. own.items ≡ corner_values_of clock before count values.now) }
 {
     let mut own = Vec::new(alloc);
-    let Ok(()) = own.extend_from_slice(&values[..1 + clock]) else {
-        return Err(OutOfMemory);
-    };
+    own.extend_from_slice(&values[..1 + clock])?;
     let first = 1 + clock + before;
-    let Ok(()) = own.extend_from_slice(&values[first..first + count]) else {
-        return Err(OutOfMemory);
-    };
+    own.extend_from_slice(&values[first..first + count])?;
     Ok(own)
 }
 
@@ -50,7 +47,8 @@ pub(crate) fn joint_schedule(
     requires some { 1 ≤ length systems.now }
     requires cycle { IsCycle cycle.now }
     requires sayable { AreSayableOfAll systems.now values.now }
-    ensures value { IfOk result (λ s. s ≡ schedule_of (slice_index_or systems.now 0 no_timing).flat cycle.now.num cycle.now.den values.now) }
+    ensures value { IfOk result
+        (λ s. s ≡ schedule_of (slice_index_or systems.now 0 no_timing).flat cycle.now.num cycle.now.den values.now) }
     ensures in_range { IfOk result IsInRange }
 {
     let system = &systems[0];
@@ -77,9 +75,7 @@ pub(crate) fn all_departures(
     for system in systems {
         let count = system.flat().elements().len();
         let own = corner_values(alloc, clock, before, count, values)?;
-        let Ok(()) = all.push(departures(alloc, system, &own)?) else {
-            return Err(OutOfMemory);
-        };
+        all.push(departures(alloc, system, &own)?)?;
         before += count;
     }
     Ok(DeparturesList::new(all))

@@ -20,10 +20,7 @@ pub(crate) fn own_lists(alloc: Global, systems: &[System]) -> Result<Vec<LinkLis
 {
     let mut lists = Vec::new(alloc);
     for system in systems {
-        let _flat = system.flat();
-        let Ok(()) = lists.push(links(alloc, system)?) else {
-            return Err(OutOfMemory);
-        };
+        lists.push(links(alloc, system)?)?;
     }
     Ok(lists)
 }
@@ -38,12 +35,11 @@ fn append_corner(
 ) -> Result<(), OutOfMemory>
     requires links { All IsLow links.now }
     requires before { before ≤ MOST_ELEMENTS }
-    ensures { OnOk result (items.new.items ≡ items.old.items ++ map (lifted_link (widest systems.now) clock before) links.now) }
+    ensures { OnOk result (items.new.items ≡ items.old.items
+        ++ map (lifted_link (widest systems.now) clock before) links.now) }
 {
     for link in links {
-        let Ok(()) = items.push(joint_link(systems, clock, before, link)) else {
-            return Err(OutOfMemory);
-        };
+        items.push(joint_link(systems, clock, before, link))?;
     }
     Ok(())
 }
@@ -53,7 +49,7 @@ pub(crate) fn clock_nodes(system: &System) -> u32
     ensures value { result ≡ 2 * length system.now.flat.phases }
     ensures range { result ≤ 16 }
 {
-    2 * system.flat().phases().items().len() as u32
+    2 * system.flat().phase_count()
 }
 
 /// The links of all corners: those of each in turn, over one clock, the widths raised to the greatest.
@@ -75,7 +71,7 @@ pub(crate) fn joint_links(
     let mut items = Vec::new(alloc);
     for corner in 0..systems.len() {
         append_corner(systems, clock, before, lists[corner].items(), &mut items)?;
-        before += systems[corner].flat().elements().len() as u32;
+        before += systems[corner].flat().element_count();
     }
     Ok(LinkList::new(1 + clock + before, items))
 }

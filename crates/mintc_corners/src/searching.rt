@@ -34,7 +34,8 @@ fn certificate(
     requires elements { length (flat_map (λ t. t.flat.elements) systems.now) ≤ MOST_ELEMENTS }
     requires kept { AreSystems systems.now }
     requires lists { lists.now ≡ map own_list systems.now }
-    requires searched { HasSearched (constraints_of (joint_nodes systems.now) (joined_links systems.now)) room.now outcome }
+    requires searched { HasSearched (constraints_of (joint_nodes systems.now) (joined_links systems.now)) room.now
+        outcome }
     ensures { IfOk result (IsOptimumOf systems.now) }
 {
     let chain = members(alloc, systems, lists, room.chain())?;
@@ -52,10 +53,11 @@ fn certificate(
     }
 }
 
-/// The least cycle time of one schedule that is right in each of two to four systems that differ in numbers alone, with its
-/// certificate: such a schedule of that cycle with its departures in each and a chain of joint links that forbids every
-/// smaller cycle time, or a chain that forbids all. Its starts, its ends and the moments at which latches depart are the
-/// least that any solution of the joint links has. The chain enters no node twice. Which chain is given is free.
+/// The least cycle time of one schedule that is right in each of two to four systems that differ in numbers alone,
+/// with its certificate: such a schedule of that cycle with its departures in each and a chain of joint links that
+/// forbids every smaller cycle time, or a chain that forbids all. Its starts, its ends and the moments at which
+/// latches depart are the least that any solution of the joint links has. The chain enters no node twice. Which
+/// chain is given is free.
 pub fn corners<L: Ledger>(
     alloc: Global,
     systems: &[System],

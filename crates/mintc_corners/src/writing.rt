@@ -33,7 +33,9 @@ fn put_reach(
     arcs: &[u32],
 ) -> Result<(), OutOfMemory>
     requires { length arcs.now < 2 ^ 32 }
-    ensures { OnOk result (lines.new ≡ lines.old ++ ended (words (codes "reach" ∷ number corner ∷ number from ∷ number to ∷ number (length arcs.now) ∷ map number arcs.now))) }
+    ensures { OnOk result (lines.new ≡ lines.old
+        ++ ended (words (codes "reach" ∷ number corner ∷ number from ∷ number to ∷ number (length arcs.now) ∷
+        map number arcs.now))) }
 {
     lines.put(b"reach")?;
     lines.numbers(&[corner, from, to, arcs.len() as u32])?;

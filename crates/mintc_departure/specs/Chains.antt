@@ -20,7 +20,8 @@ pub record IsLastOf (pairs : List Pair) (side : End) (element i x : ℕ) : Type 
 -- of the first i pairs each element has the last one, and each pair the one before it
 pub record AreLinked (pairs : List Pair) (side : End) (i : ℕ) (lasts nexts : List ℕ) : Type 0 where
   pub each_element : (l : ℕ) → l < length lasts → IsLastOf pairs side l i (slice_index lasts l)
-  pub each_pair : (n : ℕ) → n < i → IsLastOf pairs side (end_of side (slice_index_or pairs n no_pair)) n (slice_index nexts n)
+  pub each_pair : (n : ℕ) → n < i →
+      IsLastOf pairs side (end_of side (slice_index_or pairs n no_pair)) n (slice_index nexts n)
 
 -- So many elements have the chains of these pairs by one end.
 pub record AreChains (pairs : List Pair) (side : End) (elements : ℕ) (chains : Chains) : Type 0 where

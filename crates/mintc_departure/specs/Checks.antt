@@ -21,9 +21,11 @@ phase_check design s Width p = check (broken.Width p) (least_width design p *ℤ
 abbrev pub apart_check : Schedule → ℕ → ℕ → Violation
 apart_check s i j = check (broken.Apart i j) (end_of s j -ℤ pos (crosses_of j i) *ℤ s.cycle -ℤ start_of s i)
 
+-- what phase i asks of the phases that it feeds
 abbrev pub fed_checks : Timing → Schedule → ℕ → List Violation
 fed_checks t s i = map (apart_check s i) (filter (feeds_of t i) (phases_of t.flat))
 
 -- a bound under its number
 abbrev pub bound_check : Schedule → ℕ × Bound → Violation
-bound_check s b = check (broken.Bound b.0) (time_of s b.1.from +ℤ b.1.gap *ℤ s.den -ℤ pos b.1.cycles *ℤ s.cycle -ℤ time_of s b.1.to)
+bound_check s b = check (broken.Bound b.0)
+    (time_of s b.1.from +ℤ b.1.gap *ℤ s.den -ℤ pos b.1.cycles *ℤ s.cycle -ℤ time_of s b.1.to)

@@ -20,7 +20,8 @@ pub record IsOfPhases (design : Design) (s : Schedule) : Type 0 where
 
 -- Each schedule in range that has the design's number of phases is one.
 abbrev pub InRangeIsOfPhases : Type 0
-InRangeIsOfPhases = (t : Timing) (s : Schedule) → IsInRange s → length s.starts ≡ phase_count t.flat → IsOfPhases t.flat s
+InRangeIsOfPhases = (t : Timing) (s : Schedule) → IsInRange s → length s.starts ≡ phase_count t.flat →
+    IsOfPhases t.flat s
 
 -- Some departures make the schedule right, and each element keeps its hold by the early departures.
 abbrev pub IsPass : Timing → Schedule → Type 0
@@ -30,8 +31,10 @@ IsPass t s =
 
 -- A schedule breaks nothing exactly where it passes.
 abbrev pub PassMeansRight : Type 0
-PassMeansRight = (t : Timing) (s : Schedule) (vs : List Violation) → ArePairs t.flat t.pairs → IsOfPhases t.flat s → AreViolations t s vs → (vs ≡ []) ↔ IsPass t s
+PassMeansRight = (t : Timing) (s : Schedule) (vs : List Violation) → ArePairs t.flat t.pairs → IsOfPhases t.flat s →
+    AreViolations t s vs → (vs ≡ []) ↔ IsPass t s
 
 -- And then it is right with its late departures.
 abbrev pub PassIsRightWithLate : Type 0
-PassIsRightWithLate = (t : Timing) (s : Schedule) (late : List ℤ) → ArePairs t.flat t.pairs → IsOfPhases t.flat s → AreViolations t s [] → AreLate t s late → IsRight t s late
+PassIsRightWithLate = (t : Timing) (s : Schedule) (late : List ℤ) → ArePairs t.flat t.pairs → IsOfPhases t.flat s →
+    AreViolations t s [] → AreLate t s late → IsRight t s late

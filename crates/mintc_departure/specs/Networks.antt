@@ -14,7 +14,8 @@ late_start_of design s l = if (element_at design l).flop then pos 0 else late_op
 -- By how much later data arrives at the end of a pair than it departs at its beginning, each counted from the start
 -- of the element's phase.
 abbrev pub late_travel : Design → Schedule → Pair → ℤ
-late_travel design s p = ((element_at design p.from).dq_max +ℤ p.max) *ℤ s.den +ℤ shift_of s (phase_of design p.from) (phase_of design p.to)
+late_travel design s p = ((element_at design p.from).dq_max +ℤ p.max) *ℤ s.den +ℤ shift_of s (phase_of design p.from)
+    (phase_of design p.to)
 
 -- The arc of a pair. Into a flop it is closed and takes 1 away, so it changes nothing there.
 abbrev pub arc_of : Design → Schedule → Pair → Arc
@@ -24,5 +25,6 @@ arc_of design s p = record {
   weight = if (element_at design p.to).flop then negsuc 0 else late_travel design s p;
 }
 
+-- the arcs of all pairs, each under its pair's number
 abbrev pub arcs_of : Timing → Schedule → List Arc
 arcs_of t s = map (arc_of t.flat s) t.pairs

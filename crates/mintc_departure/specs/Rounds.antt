@@ -22,15 +22,16 @@ pub record AreSums (design : Design) (d : List ℤ) : Type 0 where
   pub count : length d ≡ element_count design
   pub each : (l : ℕ) → l < element_count design → IsSum (departure d l)
 
--- What each round, and each write, of the early departures keeps: they rise from where no data reaches an element, are at most every
--- solution, and leave no output later than the late departures do.
+-- What each round, and each write, of the early departures keeps: they rise from where no data reaches an element,
+-- are at most every solution, and leave no output later than the late departures do.
 pub record AreRising (t : Timing) (s : Schedule) (late d : List ℤ) : Type 0 where
   pub count : length d ≡ element_count t.flat
   pub above : (l : ℕ) → l < element_count t.flat → early_start_of t.flat s l ≤ℤ departure d l
   pub rises : (l : ℕ) → l < element_count t.flat → departure d l ≤ℤ early_departure t s d l
   pub least : (e : List ℤ) → AreExactEarly t s e → AreAtMost t.flat d e
   pub before : (l : ℕ) → l < element_count t.flat →
-      (departure d l +ℤ (element_at t.flat l).dq_min *ℤ s.den) ≤ℤ (departure late l +ℤ (element_at t.flat l).dq_max *ℤ s.den)
+      (departure d l +ℤ (element_at t.flat l).dq_min *ℤ s.den) ≤ℤ
+      (departure late l +ℤ (element_at t.flat l).dq_max *ℤ s.den)
 
 -- What each sweep over the stale elements keeps: the departures rise, and an element that isn't stale departs when the
 -- others make it depart.

@@ -13,4 +13,5 @@ early_start_of design s l = if (element_at design l).flop then pos 0 else early_
 -- By how much later data arrives at the end of a pair than it departs at its beginning, at the earliest, each counted
 -- from the start of the element's phase.
 abbrev pub early_travel : Design → Schedule → Pair → ℤ
-early_travel design s p = ((element_at design p.from).dq_min +ℤ p.min) *ℤ s.den +ℤ shift_of s (phase_of design p.from) (phase_of design p.to)
+early_travel design s p = ((element_at design p.from).dq_min +ℤ p.min) *ℤ s.den +ℤ shift_of s (phase_of design p.from)
+    (phase_of design p.to)

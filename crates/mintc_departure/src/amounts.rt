@@ -34,7 +34,8 @@ impl ClockedSystem<'_> {
     /// By how much later data arrives at the end of a pair than it departs at its beginning, at the latest.
     pub fn late_delay(&self, number: usize) -> i64
         requires number { number < length self.now.system.now.pairs }
-        ensures value { result ≡ late_travel self.now.system.now.flat self.now.schedule.now (pair_at self.now.system.now number) }
+        ensures value { result ≡ late_travel self.now.system.now.flat self.now.schedule.now
+            (pair_at self.now.system.now number) }
         ensures range { IsTime result }
     {
         let pair = self.system.pair(number);
@@ -60,7 +61,8 @@ impl ClockedSystem<'_> {
     /// By how much later data arrives at the end of a pair than it departs at its beginning, at the earliest.
     pub fn early_delay(&self, number: usize) -> i64
         requires number { number < length self.now.system.now.pairs }
-        ensures value { result ≡ early_travel self.now.system.now.flat self.now.schedule.now (pair_at self.now.system.now number) }
+        ensures value { result ≡ early_travel self.now.system.now.flat self.now.schedule.now
+            (pair_at self.now.system.now number) }
         ensures range { IsTime result }
     {
         let pair = self.system.pair(number);

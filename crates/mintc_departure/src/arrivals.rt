@@ -17,7 +17,8 @@ pub(crate) const NEVER: i128 = i128::MAX;
 pub(crate) fn arrival(clocked: &ClockedSystem<'_>, departures: &[i64], number: usize) -> i64
     requires departures { AreSums clocked.now.system.now.flat departures.now }
     requires number { number < length clocked.now.system.now.pairs }
-    ensures value { result ≡ early_arrival clocked.now.system.now.flat clocked.now.schedule.now departures.now (pair_at clocked.now.system.now number) }
+    ensures value { result ≡ early_arrival clocked.now.system.now.flat clocked.now.schedule.now departures.now
+        (pair_at clocked.now.system.now number) }
     ensures range { IsArrivalSum result }
 {
     departures[clocked.system.pair(number).from as usize] + clocked.early_delay(number)
@@ -29,10 +30,12 @@ fn lower_to(clocked: &ClockedSystem<'_>, room: &mut Room, number: usize)
     requires number { number < length clocked.now.system.now.pairs }
     requires count { length room.old.values ≡ element_count clocked.now.system.now.flat }
     ensures inside { (pair_at clocked.now.system.now number).to < element_count clocked.now.system.now.flat }
-    ensures range { IsArrivalSum (early_arrival clocked.now.system.now.flat clocked.now.schedule.now room.old.early (pair_at clocked.now.system.now number)) }
+    ensures range { IsArrivalSum (early_arrival clocked.now.system.now.flat clocked.now.schedule.now room.old.early
+        (pair_at clocked.now.system.now number)) }
     ensures value { let pair = pair_at clocked.now.system.now number in room.new ≡ record room.old {
       values = slice_set room.old.values pair.to
-          (int_min (early_arrival clocked.now.system.now.flat clocked.now.schedule.now room.old.early pair) (value_at room.old.values pair.to));
+          (int_min (early_arrival clocked.now.system.now.flat clocked.now.schedule.now room.old.early pair)
+          (value_at room.old.values pair.to));
     } }
 {
     let to = clocked.system.pair(number).to as usize;
@@ -60,7 +63,9 @@ pub(crate) fn gather(clocked: &ClockedSystem<'_>, room: &mut Room)
     requires departures { AreSums clocked.now.system.now.flat room.old.early }
     ensures kept { room.new ≡ record room.old { values = room.new.values } }
     ensures count { length room.new.values ≡ element_count clocked.now.system.now.flat }
-    ensures each { (l : ℕ) → l < element_count clocked.now.system.now.flat → IsFirst (least_of (early_arrivals clocked.now.system.now clocked.now.schedule.now room.old.early l)) (value_at room.new.values l) }
+    ensures each { (l : ℕ) → l < element_count clocked.now.system.now.flat →
+        IsFirst (least_of (early_arrivals clocked.now.system.now clocked.now.schedule.now room.old.early l))
+        (value_at room.new.values l) }
 {
     fill(room, clocked.count(), NEVER);
     for number in 0..clocked.system.pairs().len() {

@@ -23,7 +23,8 @@ fn element_at(pair: &Pair, end: End) -> u32
     }
 }
 
-/// The pairs that have each element at one end, as chains from the last one down. Numbers are counted from 1, and 0 ends a chain.
+/// The pairs that have each element at one end, as chains from the last one down. Numbers are counted from 1, and 0
+/// ends a chain.
 #[derive(Drop)]
 pub(crate) struct Chains {
     /// For each element the last pair that has it.

@@ -1,7 +1,8 @@
 //! The list of what a schedule breaks of the clock and the bounds.
 #![tactic(auto, using(crate::proofs::FailedLaws::turns))]
 
-ghost use Rattle.std.specs.Prelude.{◌≡◌, ◌+◌, ◌-◌, ◌*◌, ◌<◌, ◌≤◌, ◌++◌, ◌∷◌, [], ℕ, if◌then◌else◌, map, false, OnOk, length, slice_index_or};
+ghost use Rattle.std.specs.Prelude.{◌≡◌, ◌+◌, ◌-◌, ◌*◌, ◌<◌, ◌≤◌, ◌++◌, ◌∷◌, [], ℕ, if◌then◌else◌, map, false, OnOk};
+ghost use Rattle.std.specs.Prelude.{length, slice_index_or};
 ghost use Rattle.std.specs.List.{range_with_len};
 ghost use Rattle.mintc_text.specs.declared.limits.TheConstants.{MOST_PHASES};
 ghost use Rattle.mintc_timing.specs.Clocking.{feeds_of};
@@ -28,9 +29,7 @@ pub(crate) fn judge(
     if amount <= 0 {
         return Ok(());
     }
-    let Ok(()) = violations.push(Violation { broken, amount }) else {
-        return Err(OutOfMemory);
-    };
+    violations.push(Violation { broken, amount })?;
     Ok(())
 }
 
@@ -56,7 +55,8 @@ fn judge_phase(
 ) -> Result<(), OutOfMemory>
     requires phase { IsPhase (phase_count clocked.now.system.now.flat) phase }
     requires next { rule ≡ PhaseRule.Order → phase < phase_count clocked.now.system.now.flat }
-    ensures { OnOk result (violations.new.items ≡ violations.old.items ++ failed (phase_check clocked.now.system.now.flat clocked.now.schedule.now rule phase ∷ [])) }
+    ensures { OnOk result (violations.new.items ≡ violations.old.items
+        ++ failed (phase_check clocked.now.system.now.flat clocked.now.schedule.now rule phase ∷ [])) }
 {
     let schedule = clocked.schedule;
     let flat = clocked.system.flat();
@@ -93,7 +93,9 @@ fn judge_phases(
 ) -> Result<(), OutOfMemory>
     requires count { count ≤ phase_count clocked.now.system.now.flat }
     requires next { rule ≡ PhaseRule.Order → count < phase_count clocked.now.system.now.flat }
-    ensures { OnOk result (violations.new.items ≡ violations.old.items ++ failed (map (phase_check clocked.now.system.now.flat clocked.now.schedule.now rule) (range_with_len 1 count))) }
+    ensures { OnOk result (violations.new.items ≡ violations.old.items
+        ++ failed (map (phase_check clocked.now.system.now.flat clocked.now.schedule.now rule)
+        (range_with_len 1 count))) }
 {
     for index in 0..count {
         judge_phase(clocked, rule, index as u32 + 1, violations)?;
@@ -108,7 +110,8 @@ fn judge_if(
     broken: Broken,
     amount: i64,
 ) -> Result<(), OutOfMemory>
-    ensures { OnOk result (violations.new.items ≡ violations.old.items ++ failed (if asked then check broken amount ∷ [] else [])) }
+    ensures { OnOk result (violations.new.items ≡ violations.old.items
+        ++ failed (if asked then check broken amount ∷ [] else [])) }
 {
     if !asked {
         return Ok(());
@@ -125,8 +128,10 @@ fn judge_apart(
 ) -> Result<(), OutOfMemory>
     requires phase { IsPhase (phase_count clocked.now.system.now.flat) i }
     requires count { length fed.now ≡ 64 }
-    requires table { (i j : ℕ) → IsPhase MOST_PHASES i → IsPhase MOST_PHASES j → slice_index_or fed.now (8 * (i - 1) + (j - 1)) false ≡ feeds_of clocked.now.system.now i j }
-    ensures { OnOk result (violations.new.items ≡ violations.old.items ++ failed (fed_checks clocked.now.system.now clocked.now.schedule.now i)) }
+    requires table { (i j : ℕ) → IsPhase MOST_PHASES i → IsPhase MOST_PHASES j →
+        slice_index_or fed.now (8 * (i - 1) + (j - 1)) false ≡ feeds_of clocked.now.system.now i j }
+    ensures { OnOk result (violations.new.items ≡ violations.old.items
+        ++ failed (fed_checks clocked.now.system.now clocked.now.schedule.now i)) }
 {
     for index in 0..clocked.phase_count() {
         let j = index as u32 + 1;
@@ -146,7 +151,8 @@ fn judge_aparts(
     clocked: &ClockedSystem<'_>,
     violations: &mut Vec<Violation>,
 ) -> Result<(), OutOfMemory>
-    ensures { OnOk result (violations.new.items ≡ violations.old.items ++ failed (apart_checks clocked.now.system.now clocked.now.schedule.now)) }
+    ensures { OnOk result (violations.new.items ≡ violations.old.items
+        ++ failed (apart_checks clocked.now.system.now clocked.now.schedule.now)) }
 {
     let fed = feeds(clocked.system);
     for index in 0..clocked.phase_count() {
@@ -160,7 +166,8 @@ fn judge_bounds(
     clocked: &ClockedSystem<'_>,
     violations: &mut Vec<Violation>,
 ) -> Result<(), OutOfMemory>
-    ensures { OnOk result (violations.new.items ≡ violations.old.items ++ failed (bound_checks clocked.now.system.now.flat clocked.now.schedule.now)) }
+    ensures { OnOk result (violations.new.items ≡ violations.old.items
+        ++ failed (bound_checks clocked.now.system.now.flat clocked.now.schedule.now)) }
 {
     let bounds = clocked.system.flat().bounds();
     for number in 0..bounds.len() {
@@ -179,7 +186,8 @@ pub(crate) fn judge_clock(
     clocked: &ClockedSystem<'_>,
     violations: &mut Vec<Violation>,
 ) -> Result<(), OutOfMemory>
-    ensures { OnOk result (violations.new.items ≡ violations.old.items ++ failed (clock_checks clocked.now.system.now clocked.now.schedule.now)) }
+    ensures { OnOk result (violations.new.items ≡ violations.old.items
+        ++ failed (clock_checks clocked.now.system.now clocked.now.schedule.now)) }
 {
     let count = clocked.phase_count();
     judge_phases(clocked, PhaseRule::Cycle, count, violations)?;

@@ -1,7 +1,8 @@
 //! What the setups and the holds of the elements ask of a schedule, and by how much it fails.
 #![tactic(auto, using(crate::proofs::FailedLaws::turns))]
 
-ghost use Rattle.std.specs.Prelude.{◌≡◌, ◌<◌, ◌++◌, ◌∷◌, [], ◌⊎◌, ℕ, ℤ, pos, if◌then◌else◌, List, length, filter_map, option_map, IfSome, OnOk};
+ghost use Rattle.std.specs.Prelude.{◌≡◌, ◌<◌, ◌++◌, ◌∷◌, [], ◌⊎◌, ℕ, ℤ, pos, if◌then◌else◌, List, length, filter_map};
+ghost use Rattle.std.specs.Prelude.{option_map, IfSome, OnOk};
 ghost use Rattle.mintc_graph_walks.specs.Walks.{value_at};
 ghost use Rattle.mintc_timing.specs.Clocking.{width_of};
 ghost use Rattle.mintc_timing.specs.Departures.{departure, early_arrivals, late_arrivals};
@@ -22,13 +23,14 @@ use mintc_text::OutOfMemory;
 use mintc_timing::{Broken, Violation};
 use mintc_timing_links::{times_denominator, width};
 
-/// By how much an element fails its setup, by its late departure and its latest arrival; a flop that no pair leads to has
-/// no setup to keep.
+/// By how much an element fails its setup, by its late departure and its latest arrival; a flop that no pair leads
+/// to has no setup to keep.
 fn setup_excess(clocked: &ClockedSystem<'_>, time: i64, last: i128, number: u32) -> Option<i64>
     requires number { number < element_count clocked.now.system.now.flat }
     requires time { IsSum time }
     requires last { (last ≡ LONG_AGO) ⊎ IsArrivalSum last }
-    ensures value { (d : List ℤ) → departure d number ≡ time → IsLast (greatest_of (late_arrivals clocked.now.system.now clocked.now.schedule.now d number)) last →
+    ensures value { (d : List ℤ) → departure d number ≡ time →
+        IsLast (greatest_of (late_arrivals clocked.now.system.now clocked.now.schedule.now d number)) last →
         result ≡ setup_amount clocked.now.system.now clocked.now.schedule.now d number }
     ensures range { IfSome result IsExcess }
 {
@@ -53,9 +55,12 @@ fn judge_setup(
     requires number { number < element_count clocked.now.system.now.flat }
     requires departures { AreSums clocked.now.system.now.flat room.now.late }
     requires count { length room.now.values ≡ element_count clocked.now.system.now.flat }
-    requires last { IsLast (greatest_of (late_arrivals clocked.now.system.now clocked.now.schedule.now room.now.late number)) (value_at room.now.values number) }
+    requires last { IsLast
+        (greatest_of (late_arrivals clocked.now.system.now clocked.now.schedule.now room.now.late number))
+        (value_at room.now.values number) }
     ensures { OnOk result (violations.new.items ≡ violations.old.items
-        ++ failed (filter_map (λ l. option_map (check (Broken.Setup l)) (setup_amount clocked.now.system.now clocked.now.schedule.now room.now.late l)) (number ∷ []))) }
+        ++ failed (filter_map (λ l. option_map (check (Broken.Setup l))
+        (setup_amount clocked.now.system.now clocked.now.schedule.now room.now.late l)) (number ∷ []))) }
 {
     let time = room.late()[number as usize];
     let last = room.values()[number as usize];
@@ -73,8 +78,11 @@ pub(crate) fn judge_setups(
 ) -> Result<(), OutOfMemory>
     requires departures { AreSums clocked.now.system.now.flat room.now.late }
     requires count { length room.now.values ≡ element_count clocked.now.system.now.flat }
-    requires lasts { (l : ℕ) → l < element_count clocked.now.system.now.flat → IsLast (greatest_of (late_arrivals clocked.now.system.now clocked.now.schedule.now room.now.late l)) (value_at room.now.values l) }
-    ensures { OnOk result (violations.new.items ≡ violations.old.items ++ failed (setup_checks clocked.now.system.now clocked.now.schedule.now room.now.late)) }
+    requires lasts { (l : ℕ) → l < element_count clocked.now.system.now.flat →
+        IsLast (greatest_of (late_arrivals clocked.now.system.now clocked.now.schedule.now room.now.late l))
+        (value_at room.now.values l) }
+    ensures { OnOk result (violations.new.items ≡ violations.old.items
+        ++ failed (setup_checks clocked.now.system.now clocked.now.schedule.now room.now.late)) }
 {
     for number in 0..clocked.count() {
         judge_setup(clocked, room, number as u32, violations)?;
@@ -85,7 +93,9 @@ pub(crate) fn judge_setups(
 /// How long after the start of its phase an element's data has to hold, its hold aside.
 fn hold_start(clocked: &ClockedSystem<'_>, number: u32) -> i64
     requires number { number < element_count clocked.now.system.now.flat }
-    ensures value { result ≡ (if (element_at clocked.now.system.now.flat number).flop then pos 0 else width_of clocked.now.schedule.now (phase_of clocked.now.system.now.flat number)) }
+    ensures value { result
+        ≡ (if (element_at clocked.now.system.now.flat number).flop then pos 0
+        else width_of clocked.now.schedule.now (phase_of clocked.now.system.now.flat number)) }
     ensures range { IsNumerator result }
 {
     let element = clocked.system.element(number);
@@ -96,12 +106,13 @@ fn hold_start(clocked: &ClockedSystem<'_>, number: u32) -> i64
     }
 }
 
-/// By how much an element fails its hold, by its earliest arrival; one that has no hold, or that no pair leads to, has none
-/// to keep.
+/// By how much an element fails its hold, by its earliest arrival; one that has no hold, or that no pair leads to,
+/// has none to keep.
 fn hold_excess(clocked: &ClockedSystem<'_>, first: i128, number: u32) -> Option<i64>
     requires number { number < element_count clocked.now.system.now.flat }
     requires first { (first ≡ NEVER) ⊎ IsArrivalSum first }
-    ensures value { (d : List ℤ) → IsFirst (least_of (early_arrivals clocked.now.system.now clocked.now.schedule.now d number)) first →
+    ensures value { (d : List ℤ) →
+        IsFirst (least_of (early_arrivals clocked.now.system.now clocked.now.schedule.now d number)) first →
         result ≡ hold_amount clocked.now.system.now clocked.now.schedule.now d number }
     ensures range { IfSome result IsExcess }
 {
@@ -125,9 +136,12 @@ fn judge_hold(
 ) -> Result<(), OutOfMemory>
     requires number { number < element_count clocked.now.system.now.flat }
     requires count { length room.now.values ≡ element_count clocked.now.system.now.flat }
-    requires first { IsFirst (least_of (early_arrivals clocked.now.system.now clocked.now.schedule.now room.now.early number)) (value_at room.now.values number) }
+    requires first { IsFirst
+        (least_of (early_arrivals clocked.now.system.now clocked.now.schedule.now room.now.early number))
+        (value_at room.now.values number) }
     ensures { OnOk result (violations.new.items ≡ violations.old.items
-        ++ failed (filter_map (λ l. option_map (check (Broken.Hold l)) (hold_amount clocked.now.system.now clocked.now.schedule.now room.now.early l)) (number ∷ []))) }
+        ++ failed (filter_map (λ l. option_map (check (Broken.Hold l))
+        (hold_amount clocked.now.system.now clocked.now.schedule.now room.now.early l)) (number ∷ []))) }
 {
     let first = room.values()[number as usize];
     match hold_excess(clocked, first, number) {
@@ -143,8 +157,11 @@ pub(crate) fn judge_holds(
     violations: &mut Vec<Violation>,
 ) -> Result<(), OutOfMemory>
     requires count { length room.now.values ≡ element_count clocked.now.system.now.flat }
-    requires firsts { (l : ℕ) → l < element_count clocked.now.system.now.flat → IsFirst (least_of (early_arrivals clocked.now.system.now clocked.now.schedule.now room.now.early l)) (value_at room.now.values l) }
-    ensures { OnOk result (violations.new.items ≡ violations.old.items ++ failed (hold_checks clocked.now.system.now clocked.now.schedule.now room.now.early)) }
+    requires firsts { (l : ℕ) → l < element_count clocked.now.system.now.flat →
+        IsFirst (least_of (early_arrivals clocked.now.system.now clocked.now.schedule.now room.now.early l))
+        (value_at room.now.values l) }
+    ensures { OnOk result (violations.new.items ≡ violations.old.items
+        ++ failed (hold_checks clocked.now.system.now clocked.now.schedule.now room.now.early)) }
 {
     for number in 0..clocked.count() {
         judge_hold(clocked, room, number as u32, violations)?;

@@ -3,7 +3,8 @@ ghost use Rattle.std.specs.Prelude.{◌≡◌, ◌≤◌, ◌+◌, ◌*◌, ◌+
 ghost use Rattle.mintc_timing.specs.Departures.{AreEarly, AreLate};
 ghost use Rattle.mintc_timing.specs.Design.{element_count, phase_count};
 ghost use Rattle.mintc_timing.specs.Limits.{IsInRange};
-ghost use Rattle.mintc_timing.specs.Violations.{AreViolations, IsLoop, check, failed, hold_checks, loop_amount, setup_checks};
+ghost use Rattle.mintc_timing.specs.Violations.{AreViolations, IsLoop, check, failed, hold_checks, loop_amount};
+ghost use Rattle.mintc_timing.specs.Violations.{setup_checks};
 ghost use Rattle.mintc_departure.specs.Settled.{IsSum};
 
 use crate::clock_checks::judge_clock;
@@ -34,10 +35,8 @@ fn loop_excess(clocked: &ClockedSystem<'_>, pairs: &[u32]) -> i64
 fn copy(alloc: Global, numbers: &[u32]) -> Result<Numbers, OutOfMemory>
     ensures { IfOk result (λ copy. copy ≡ numbers.now) }
 {
-    match Vec::from_slice(alloc, numbers) {
-        Ok(items) => Ok(Numbers::new(items)),
-        Err(_) => Err(OutOfMemory),
-    }
+    let items = Vec::from_slice(alloc, numbers)?;
+    Ok(Numbers::new(items))
 }
 
 /// Appends a loop with its amount.
@@ -54,20 +53,20 @@ fn push_loop(
     let amount = loop_excess(clocked, pairs);
     let pairs = copy(alloc, pairs)?;
     let broken = Broken::Loop { pairs };
-    let Ok(()) = violations.push(Violation { broken, amount }) else {
-        return Err(OutOfMemory);
-    };
+    violations.push(Violation { broken, amount })?;
     Ok(())
 }
 
-/// Appends the setups and the holds that aren't kept, by the room's late departures. The early ones are then in the room.
+/// Appends the setups and the holds that aren't kept, by the room's late departures. The early ones are then in the
+/// room.
 fn judge_elements(
     alloc: Global,
     clocked: &ClockedSystem<'_>,
     room: &mut Room,
     violations: &mut Vec<Violation>,
 ) -> Result<(), OutOfMemory>
-    requires room { 1 + 2 * phase_count clocked.now.system.now.flat + element_count clocked.now.system.now.flat ≤ room.old.nodes }
+    requires room { 1 + 2 * phase_count clocked.now.system.now.flat + element_count clocked.now.system.now.flat ≤
+        room.old.nodes }
     requires late { AreLate clocked.now.system.now clocked.now.schedule.now room.old.late }
     requires sums { All IsSum room.old.late }
     ensures early { OnOk result (AreEarly clocked.now.system.now clocked.now.schedule.now room.new.early) }
@@ -75,7 +74,8 @@ fn judge_elements(
     ensures nodes { room.new.nodes ≡ room.old.nodes }
     ensures links { room.new.links ≡ room.old.links }
     ensures violations { OnOk result (violations.new.items ≡ violations.old.items
-        ++ failed (setup_checks clocked.now.system.now clocked.now.schedule.now room.old.late ++ hold_checks clocked.now.system.now clocked.now.schedule.now room.new.early)) }
+        ++ failed (setup_checks clocked.now.system.now clocked.now.schedule.now room.old.late
+        ++ hold_checks clocked.now.system.now clocked.now.schedule.now room.new.early)) }
 {
     gather_latest(clocked, room);
     judge_setups(clocked, room, violations)?;
@@ -83,9 +83,10 @@ fn judge_elements(
     judge_holds(clocked, room, violations)
 }
 
-/// What a schedule breaks, in this order: cycle, order, span, width, apart, bound, then either one loop, or all setups and then
-/// all holds, numbers ascending inside a kind; each with the amount by which it fails, in femtoseconds times the schedule's
-/// denominator. Phases are counted from 1, all else from 0. An empty list leaves the late and the early departures in the room.
+/// What a schedule breaks, in this order: cycle, order, span, width, apart, bound, then either one loop, or all
+/// setups and then all holds, numbers ascending inside a kind; each with the amount by which it fails, in
+/// femtoseconds times the schedule's denominator. Phases are counted from 1, all else from 0. An empty list leaves
+/// the late and the early departures in the room.
 pub fn violations(
     alloc: Global,
     system: &System,
@@ -97,7 +98,8 @@ pub fn violations(
     requires room { 1 + 2 * phase_count system.now.flat + element_count system.now.flat ≤ room.old.nodes }
     ensures violations { IfOk result (λ violations. AreViolations system.now schedule.now violations.items) }
     ensures late { IfOk result (λ violations. violations.items ≡ [] → AreLate system.now schedule.now room.new.late) }
-    ensures early { IfOk result (λ violations. violations.items ≡ [] → AreEarly system.now schedule.now room.new.early) }
+    ensures early { IfOk result (λ violations. violations.items ≡ [] →
+        AreEarly system.now schedule.now room.new.early) }
     ensures nodes { room.new.nodes ≡ room.old.nodes }
     ensures links { room.new.links ≡ room.old.links }
 {

@@ -19,7 +19,8 @@ pub(crate) const LONG_AGO: i128 = i128::MIN;
 fn latest(clocked: &ClockedSystem<'_>, departures: &[i64], number: usize) -> i64
     requires departures { AreSums clocked.now.system.now.flat departures.now }
     requires number { number < length clocked.now.system.now.pairs }
-    ensures value { result ≡ late_arrival clocked.now.system.now.flat clocked.now.schedule.now departures.now (pair_at clocked.now.system.now number) }
+    ensures value { result ≡ late_arrival clocked.now.system.now.flat clocked.now.schedule.now departures.now
+        (pair_at clocked.now.system.now number) }
     ensures range { IsArrivalSum result }
 {
     departures[clocked.system.pair(number).from as usize] + clocked.late_delay(number)
@@ -31,10 +32,12 @@ fn bring_latest(clocked: &ClockedSystem<'_>, room: &mut Room, number: usize)
     requires number { number < length clocked.now.system.now.pairs }
     requires count { length room.old.values ≡ element_count clocked.now.system.now.flat }
     ensures inside { (pair_at clocked.now.system.now number).to < element_count clocked.now.system.now.flat }
-    ensures range { IsArrivalSum (late_arrival clocked.now.system.now.flat clocked.now.schedule.now room.old.late (pair_at clocked.now.system.now number)) }
+    ensures range { IsArrivalSum (late_arrival clocked.now.system.now.flat clocked.now.schedule.now room.old.late
+        (pair_at clocked.now.system.now number)) }
     ensures value { let pair = pair_at clocked.now.system.now number in room.new ≡ record room.old {
       values = slice_set room.old.values pair.to
-          (int_max (late_arrival clocked.now.system.now.flat clocked.now.schedule.now room.old.late pair) (value_at room.old.values pair.to));
+          (int_max (late_arrival clocked.now.system.now.flat clocked.now.schedule.now room.old.late pair)
+          (value_at room.old.values pair.to));
     } }
 {
     let to = clocked.system.pair(number).to as usize;
@@ -49,7 +52,9 @@ pub(crate) fn gather_latest(clocked: &ClockedSystem<'_>, room: &mut Room)
     requires departures { AreSums clocked.now.system.now.flat room.old.late }
     ensures kept { room.new ≡ record room.old { values = room.new.values } }
     ensures count { length room.new.values ≡ element_count clocked.now.system.now.flat }
-    ensures each { (l : ℕ) → l < element_count clocked.now.system.now.flat → IsLast (greatest_of (late_arrivals clocked.now.system.now clocked.now.schedule.now room.old.late l)) (value_at room.new.values l) }
+    ensures each { (l : ℕ) → l < element_count clocked.now.system.now.flat →
+        IsLast (greatest_of (late_arrivals clocked.now.system.now clocked.now.schedule.now room.old.late l))
+        (value_at room.new.values l) }
 {
     fill(room, clocked.count(), LONG_AGO);
     for number in 0..clocked.system.pairs().len() {

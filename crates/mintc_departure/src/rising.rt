@@ -7,6 +7,7 @@ ghost use Rattle.mintc_timing.specs.Departures.{departure, early_arrivals, early
 ghost use Rattle.mintc_timing.specs.Design.{element_count, pair_at, phase_count};
 ghost use Rattle.mintc_timing.specs.Extremes.{least_of};
 ghost use Rattle.mintc_departure.specs.Chains.{AreChains};
+ghost use Rattle.mintc_departure.specs.Clocked.{IsClocked};
 ghost use Rattle.mintc_departure.specs.Rounds.{AreSums, AreSwept, IsFirst};
 
 use crate::arrivals::{NEVER, arrival, gather};
@@ -21,10 +22,12 @@ use std::alloc::Global;
 
 /// The earliest arrival at an element, by these departures.
 fn earliest(clocked: &ClockedSystem<'_>, into: &Chains, departures: &[i64], element: usize) -> i128
-    requires into { AreChains clocked.now.system.now.pairs End.Second (element_count clocked.now.system.now.flat) into.now }
+    requires into { AreChains clocked.now.system.now.pairs End.Second
+        (element_count clocked.now.system.now.flat) into.now }
     requires departures { AreSums clocked.now.system.now.flat departures.now }
     requires element { element < element_count clocked.now.system.now.flat }
-    ensures { IsFirst (least_of (early_arrivals clocked.now.system.now clocked.now.schedule.now departures.now element)) result }
+    ensures { IsFirst (least_of (early_arrivals clocked.now.system.now clocked.now.schedule.now departures.now element))
+        result }
 {
     let mut first = NEVER;
     let mut next = into.lasts[element];
@@ -39,16 +42,22 @@ fn earliest(clocked: &ClockedSystem<'_>, into: &Chains, departures: &[i64], elem
 
 /// Makes an element's departure what its earliest arrival makes it. Whether it's another one.
 fn recompute(clocked: &ClockedSystem<'_>, into: &Chains, room: &mut Room, element: usize) -> bool
-    requires into { AreChains clocked.now.system.now.pairs End.Second (element_count clocked.now.system.now.flat) into.now }
+    requires clocked { IsClocked clocked.now.system.now clocked.now.schedule.now }
+    requires into { AreChains clocked.now.system.now.pairs End.Second
+        (element_count clocked.now.system.now.flat) into.now }
     requires departures { AreSums clocked.now.system.now.flat room.old.early }
     requires element { element < element_count clocked.now.system.now.flat }
     ensures kept { room.new ≡ record room.old { early = room.new.early } }
     ensures same { OnFalse result (room.new.early ≡ room.old.early) }
-    ensures still { OnFalse result (departure room.old.early element ≡ early_departure clocked.now.system.now clocked.now.schedule.now room.old.early element) }
-    ensures written { OnTrue result (room.new.early ≡ slice_set room.old.early element (early_departure clocked.now.system.now clocked.now.schedule.now room.old.early element)) }
-    ensures changed { OnTrue result (departure room.old.early element ≢ early_departure clocked.now.system.now clocked.now.schedule.now room.old.early element) }
+    ensures still { OnFalse result (departure room.old.early element
+        ≡ early_departure clocked.now.system.now clocked.now.schedule.now room.old.early element) }
+    ensures written { OnTrue result
+        (room.new.early ≡ slice_set room.old.early element
+        (early_departure clocked.now.system.now clocked.now.schedule.now room.old.early element)) }
+    ensures changed { OnTrue result
+        (departure room.old.early element ≢ early_departure clocked.now.system.now clocked.now.schedule.now
+        room.old.early element) }
 {
-    let _count = clocked.count();
     let first = earliest(clocked, into, room.early(), element);
     let before = room.early()[element];
     let time = departure_by(clocked, element as u32, first);
@@ -66,7 +75,8 @@ fn wake(system: &System, out: &Chains, stale: &mut BitSet, element: usize)
     requires places { element_count system.now.flat ≤ room stale.old.words.items }
     ensures count { length stale.new.words.items ≡ length stale.old.words.items }
     ensures kept { (l : ℕ) → IsIn stale.old.words.items l → IsIn stale.new.words.items l }
-    ensures woken { (n : ℕ) → n < length system.now.pairs → (pair_at system.now n).from ≡ element → IsIn stale.new.words.items (pair_at system.now n).to }
+    ensures woken { (n : ℕ) → n < length system.now.pairs → (pair_at system.now n).from ≡ element →
+        IsIn stale.new.words.items (pair_at system.now n).to }
 {
     let mut next = out.lasts[element];
     while next > 0 {
@@ -85,19 +95,24 @@ fn recompute_at(
     stale: &mut BitSet,
     element: usize,
 ) -> bool
-    requires into { AreChains clocked.now.system.now.pairs End.Second (element_count clocked.now.system.now.flat) into.now }
-    requires out { AreChains clocked.now.system.now.pairs End.First (element_count clocked.now.system.now.flat) out.now }
+    requires clocked { IsClocked clocked.now.system.now clocked.now.schedule.now }
+    requires into { AreChains clocked.now.system.now.pairs End.Second
+        (element_count clocked.now.system.now.flat) into.now }
+    requires out { AreChains clocked.now.system.now.pairs End.First
+        (element_count clocked.now.system.now.flat) out.now }
     requires late { AreLate clocked.now.system.now clocked.now.schedule.now room.old.late }
-    requires swept { AreSwept clocked.now.system.now clocked.now.schedule.now room.old.late room.old.early stale.old.words.items }
+    requires swept { AreSwept clocked.now.system.now clocked.now.schedule.now room.old.late room.old.early
+        stale.old.words.items }
     requires element { element < element_count clocked.now.system.now.flat }
     ensures kept { room.new ≡ record room.old { early = room.new.early } }
-    ensures swept { AreSwept clocked.now.system.now clocked.now.schedule.now room.old.late room.new.early stale.new.words.items }
-    ensures up { (l : ℕ) → l < element_count clocked.now.system.now.flat → departure room.old.early l ≤ℤ departure room.new.early l }
+    ensures swept { AreSwept clocked.now.system.now clocked.now.schedule.now room.old.late room.new.early
+        stale.new.words.items }
+    ensures up { (l : ℕ) → l < element_count clocked.now.system.now.flat →
+        departure room.old.early l ≤ℤ departure room.new.early l }
     ensures changed { OnTrue result (departure room.old.early element <ℤ departure room.new.early element) }
     ensures out { OnFalse result (IsIn stale.new.words.items element → ⊥) }
     ensures only { OnFalse result ((l : ℕ) → IsIn stale.new.words.items l → IsIn stale.old.words.items l) }
 {
-    let _count = clocked.count();
     stale.remove(element);
     if !recompute(clocked, into, room, element) {
         return false;
@@ -114,15 +129,22 @@ fn sweep(
     room: &mut Room,
     stale: &mut BitSet,
 ) -> bool
-    requires into { AreChains clocked.now.system.now.pairs End.Second (element_count clocked.now.system.now.flat) into.now }
-    requires out { AreChains clocked.now.system.now.pairs End.First (element_count clocked.now.system.now.flat) out.now }
+    requires into { AreChains clocked.now.system.now.pairs End.Second
+        (element_count clocked.now.system.now.flat) into.now }
+    requires out { AreChains clocked.now.system.now.pairs End.First
+        (element_count clocked.now.system.now.flat) out.now }
     requires late { AreLate clocked.now.system.now clocked.now.schedule.now room.old.late }
-    requires swept { AreSwept clocked.now.system.now clocked.now.schedule.now room.old.late room.old.early stale.old.words.items }
+    requires swept { AreSwept clocked.now.system.now clocked.now.schedule.now room.old.late room.old.early
+        stale.old.words.items }
     ensures kept { room.new ≡ record room.old { early = room.new.early } }
-    ensures swept { AreSwept clocked.now.system.now clocked.now.schedule.now room.old.late room.new.early stale.new.words.items }
-    ensures up { (l : ℕ) → l < element_count clocked.now.system.now.flat → departure room.old.early l ≤ℤ departure room.new.early l }
-    ensures changed { OnTrue result ((l : ℕ) × (l < element_count clocked.now.system.now.flat) × (departure room.old.early l <ℤ departure room.new.early l)) }
-    ensures none { OnFalse result ((l : ℕ) → l < element_count clocked.now.system.now.flat → IsIn stale.new.words.items l → ⊥) }
+    ensures swept { AreSwept clocked.now.system.now clocked.now.schedule.now room.old.late room.new.early
+        stale.new.words.items }
+    ensures up { (l : ℕ) → l < element_count clocked.now.system.now.flat →
+        departure room.old.early l ≤ℤ departure room.new.early l }
+    ensures changed { OnTrue result ((l : ℕ) × (l < element_count clocked.now.system.now.flat)
+        × (departure room.old.early l <ℤ departure room.new.early l)) }
+    ensures none { OnFalse result ((l : ℕ) → l < element_count clocked.now.system.now.flat →
+        IsIn stale.new.words.items l → ⊥) }
 {
     let count = clocked.count();
     let mut changed = false;
@@ -141,9 +163,7 @@ fn all_of(alloc: Global, count: usize) -> Result<BitSet, OutOfMemory>
     ensures few { IfOk result (λ places. length places.words.items ≤ 2 ^ 32) }
     ensures all { IfOk result (λ places. (l : ℕ) → l < count → IsIn places.words.items l) }
 {
-    let Ok(mut places) = BitSet::new(alloc, count) else {
-        return Err(OutOfMemory);
-    };
+    let mut places = BitSet::new(alloc, count)?;
     for place in 0..count {
         places.insert(place);
     }
@@ -158,15 +178,18 @@ fn rise(
     room: &mut Room,
     stale: &mut BitSet,
 )
-    requires into { AreChains clocked.now.system.now.pairs End.Second (element_count clocked.now.system.now.flat) into.now }
-    requires out { AreChains clocked.now.system.now.pairs End.First (element_count clocked.now.system.now.flat) out.now }
+    requires clocked { IsClocked clocked.now.system.now clocked.now.schedule.now }
+    requires into { AreChains clocked.now.system.now.pairs End.Second
+        (element_count clocked.now.system.now.flat) into.now }
+    requires out { AreChains clocked.now.system.now.pairs End.First
+        (element_count clocked.now.system.now.flat) out.now }
     requires late { AreLate clocked.now.system.now clocked.now.schedule.now room.old.late }
-    requires swept { AreSwept clocked.now.system.now clocked.now.schedule.now room.old.late room.old.early stale.old.words.items }
+    requires swept { AreSwept clocked.now.system.now clocked.now.schedule.now room.old.late room.old.early
+        stale.old.words.items }
     ensures kept { room.new ≡ record room.old { early = room.new.early } }
     ensures early { AreEarly clocked.now.system.now clocked.now.schedule.now room.new.early }
     ensures sums { AreSums clocked.now.system.now.flat room.new.early }
 {
-    let _count = clocked.count();
     while sweep(clocked, into, out, room, stale) {}
 }
 
@@ -176,21 +199,20 @@ pub(crate) fn sweep_early(
     clocked: &ClockedSystem<'_>,
     room: &mut Room,
 ) -> Result<(), OutOfMemory>
-    requires room { 1 + 2 * phase_count clocked.now.system.now.flat + element_count clocked.now.system.now.flat ≤ room.old.nodes }
+    requires room { 1 + 2 * phase_count clocked.now.system.now.flat + element_count clocked.now.system.now.flat ≤
+        room.old.nodes }
     requires late { AreLate clocked.now.system.now clocked.now.schedule.now room.old.late }
     ensures kept { room.new ≡ record room.old { early = room.new.early; values = room.new.values } }
     ensures early { OnOk result (AreEarly clocked.now.system.now clocked.now.schedule.now room.new.early) }
     ensures count { OnOk result (length room.new.values ≡ element_count clocked.now.system.now.flat) }
-    ensures firsts { OnOk result ((l : ℕ) → l < element_count clocked.now.system.now.flat → IsFirst (least_of (early_arrivals clocked.now.system.now clocked.now.schedule.now room.new.early l)) (value_at room.new.values l)) }
+    ensures firsts { OnOk result ((l : ℕ) → l < element_count clocked.now.system.now.flat →
+        IsFirst (least_of (early_arrivals clocked.now.system.now clocked.now.schedule.now room.new.early l))
+        (value_at room.new.values l)) }
 {
     let pairs = clocked.system.pairs();
     let count = clocked.count();
-    let Ok(into) = Chains::new(alloc, pairs, End::Second, count) else {
-        return Err(OutOfMemory);
-    };
-    let Ok(out) = Chains::new(alloc, pairs, End::First, count) else {
-        return Err(OutOfMemory);
-    };
+    let into = Chains::new(alloc, pairs, End::Second, count)?;
+    let out = Chains::new(alloc, pairs, End::First, count)?;
     let mut stale = all_of(alloc, count)?;
     fill_early_starts(clocked, room);
     rise(clocked, &into, &out, room, &mut stale);

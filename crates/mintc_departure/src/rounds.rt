@@ -6,6 +6,7 @@ ghost use Rattle.mintc_timing.specs.Departures.{departure, early_arrivals, early
 ghost use Rattle.mintc_timing.specs.Design.{element_count, phase_count};
 ghost use Rattle.mintc_timing.specs.Extremes.{least_of};
 ghost use Rattle.mintc_timing.specs.Limits.{IsInRange};
+ghost use Rattle.mintc_departure.specs.Clocked.{IsClocked};
 ghost use Rattle.mintc_departure.specs.Rounds.{AreSums, IsArrivalSum, IsFirst};
 ghost use Rattle.mintc_departure.specs.Travels.{early_start_of};
 
@@ -18,7 +19,8 @@ use mintc_timing::{Schedule, System};
 pub(crate) fn departure_by(clocked: &ClockedSystem<'_>, number: u32, first: i128) -> i64
     requires number { number < element_count clocked.now.system.now.flat }
     requires first { (first ≡ NEVER) ⊎ IsArrivalSum first }
-    ensures { (d : List ℤ) → IsFirst (least_of (early_arrivals clocked.now.system.now clocked.now.schedule.now d number)) first →
+    ensures { (d : List ℤ) →
+        IsFirst (least_of (early_arrivals clocked.now.system.now clocked.now.schedule.now d number)) first →
         result ≡ early_departure clocked.now.system.now clocked.now.schedule.now d number }
 {
     let start = clocked.early_start(number);
@@ -36,7 +38,9 @@ pub(crate) fn fill_early_starts(clocked: &ClockedSystem<'_>, room: &mut Room)
     requires nodes { element_count clocked.now.system.now.flat ≤ room.old.nodes }
     ensures kept { room.new ≡ record room.old { early = room.new.early } }
     ensures count { length room.new.early ≡ element_count clocked.now.system.now.flat }
-    ensures each { (l : ℕ) → l < element_count clocked.now.system.now.flat → departure room.new.early l ≡ early_start_of clocked.now.system.now.flat clocked.now.schedule.now l }
+    ensures each { (l : ℕ) → l < element_count clocked.now.system.now.flat →
+        departure room.new.early l ≡ early_start_of clocked.now.system.now.flat clocked.now.schedule.now l }
+    ensures clocked { IsClocked clocked.now.system.now clocked.now.schedule.now }
 {
     let count = clocked.count();
     room.fill_early(count);
@@ -49,12 +53,18 @@ pub(crate) fn fill_early_starts(clocked: &ClockedSystem<'_>, room: &mut Room)
 fn raise(clocked: &ClockedSystem<'_>, room: &mut Room) -> bool
     requires departures { AreSums clocked.now.system.now.flat room.old.early }
     requires values { length room.old.values ≡ element_count clocked.now.system.now.flat }
-    requires firsts { (l : ℕ) → l < element_count clocked.now.system.now.flat → IsFirst (least_of (early_arrivals clocked.now.system.now clocked.now.schedule.now room.old.early l)) (value_at room.old.values l) }
+    requires firsts { (l : ℕ) → l < element_count clocked.now.system.now.flat →
+        IsFirst (least_of (early_arrivals clocked.now.system.now clocked.now.schedule.now room.old.early l))
+        (value_at room.old.values l) }
     ensures kept { room.new ≡ record room.old { early = room.new.early } }
     ensures count { length room.new.early ≡ element_count clocked.now.system.now.flat }
-    ensures each { (l : ℕ) → l < element_count clocked.now.system.now.flat → departure room.new.early l ≡ early_departure clocked.now.system.now clocked.now.schedule.now room.old.early l }
-    ensures still { OnFalse result ((l : ℕ) → l < element_count clocked.now.system.now.flat → early_departure clocked.now.system.now clocked.now.schedule.now room.old.early l ≡ departure room.old.early l) }
-    ensures changed { OnTrue result ((l : ℕ) × (l < element_count clocked.now.system.now.flat) × (early_departure clocked.now.system.now clocked.now.schedule.now room.old.early l ≢ departure room.old.early l)) }
+    ensures each { (l : ℕ) → l < element_count clocked.now.system.now.flat →
+        departure room.new.early l ≡ early_departure clocked.now.system.now clocked.now.schedule.now room.old.early l }
+    ensures still { OnFalse result ((l : ℕ) → l < element_count clocked.now.system.now.flat →
+        early_departure clocked.now.system.now clocked.now.schedule.now room.old.early l ≡ departure room.old.early l) }
+    ensures changed { OnTrue result ((l : ℕ) × (l < element_count clocked.now.system.now.flat)
+        × (early_departure clocked.now.system.now clocked.now.schedule.now room.old.early l ≢ departure room.old.early
+        l)) }
 {
     let mut changed = false;
     for number in 0..clocked.count() {
@@ -75,7 +85,6 @@ fn rise_in_rounds(clocked: &ClockedSystem<'_>, room: &mut Room)
     ensures kept { room.new ≡ record room.old { early = room.new.early; values = room.new.values } }
     ensures early { AreEarly clocked.now.system.now clocked.now.schedule.now room.new.early }
 {
-    let _count = clocked.count();
     fill_early_starts(clocked, room);
     loop {
         gather(clocked, room);
@@ -85,8 +94,8 @@ fn rise_in_rounds(clocked: &ClockedSystem<'_>, room: &mut Room)
     }
 }
 
-/// The early departures of the elements, as numerators over the schedule's denominator, into the room's `early`: one for
-/// each element, the least that are exact. The room's `late` has to hold the late departures, and stays.
+/// The early departures of the elements, as numerators over the schedule's denominator, into the room's `early`:
+/// one for each element, the least that are exact. The room's `late` has to hold the late departures, and stays.
 pub fn early(system: &System, schedule: &Schedule, room: &mut Room)
     requires in_range { IsInRange schedule.now }
     requires phases { length schedule.now.starts ≡ phase_count system.now.flat }

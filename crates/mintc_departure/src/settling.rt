@@ -27,7 +27,8 @@ fn fill_starts(clocked: &ClockedSystem<'_>, room: &mut Room)
     requires nodes { element_count clocked.now.system.now.flat ≤ room.old.nodes }
     ensures kept { room.new ≡ record room.old { values = room.new.values } }
     ensures count { length room.new.values ≡ element_count clocked.now.system.now.flat }
-    ensures each { (l : ℕ) → l < element_count clocked.now.system.now.flat → value_at room.new.values l ≡ late_start_of clocked.now.system.now.flat clocked.now.schedule.now l }
+    ensures each { (l : ℕ) → l < element_count clocked.now.system.now.flat →
+        value_at room.new.values l ≡ late_start_of clocked.now.system.now.flat clocked.now.schedule.now l }
 {
     let count = clocked.count();
     room.fill_values(count);

@@ -3,6 +3,7 @@ use Rattle.std.proofs.Common.{◌≡◌, ℕ, ◌<◌, List, [], ◌∷◌, leng
 use Rattle.std.specs.Option.{option_map}
 use Rattle.std.proofs.lemmas.Bool.Decides.{nat_tests}
 use Rattle.std.proofs.lemmas.List.{get_or_read}
+use Rattle.mintc_text.specs.Refusals.{over_limit}
 use Rattle.mintc_text.specs.declared.limits.TheConstants.{MOST_DEPTH, MOST_INNER, MOST_LEAVES, MOST_SCOPES, MOST_TOLD}
 use Rattle.mintc_text.specs.declared.refusals.Kind.{Kind}
 use Rattle.mintc_text.specs.declared.refusals.Kind.TheVariants as kind
@@ -14,7 +15,7 @@ use Rattle.mintc_flatten_hierarchy.specs.Walks.{depth}
 use Rattle.mintc_flatten.specs.Totals.{all_in, capped, IsCount, AreCounted, no_count}
 use Rattle.mintc_flatten_binding.specs.Orders.{HoldsAll}
 use Rattle.mintc_flatten_hierarchy.specs.Hierarchies.{hierarchy_of}
-use Rattle.mintc_flatten_hierarchy.specs.Refusals.{over_limit, limit_refusal}
+use Rattle.mintc_flatten_hierarchy.specs.Refusals.{limit_refusal}
 use Rattle.mintc_flatten.proofs.TotalLaws.{hierarchy-scopes, hierarchy-leaves, hierarchy-inner}
 
 passes_alike : (n a : ℕ) → n < MOST_TOLD → nat_lt n (capped a) ≡ nat_lt n a
@@ -58,12 +59,11 @@ top_counted s order table top whole counted inside live =
     subst (λ (k : ℕ). IsCount s k (slice_index_or table k no_count)) at.2 (counted.each at.0 at.1)
 
 -- the refusal by the count of the top is that of its limits
-pub judged : (s : Source) (order items : List ℕ) (table : List Count) (top : ℕ) (x : Count) (r : Option Refusal) → HoldsAll s order → items ≡ order → AreCounted s items (length items) table → length table ≡ length s.modules →
+pub judged : (s : Source) (order : List ℕ) (table : List Count) (top : ℕ) (x : Count) (r : Option Refusal) → HoldsAll s order → AreCounted s order (length order) table → length table ≡ length s.modules →
     top < length s.modules → is_stub s (module_at s top) ≡ false → x ≡ slice_index_or table top x →
     r ≡ over_limit ((kind.Scopes, x.scopes, MOST_SCOPES) ∷ (kind.Depth, x.depth, MOST_DEPTH) ∷ (kind.Leaves, x.leaves, MOST_LEAVES) ∷ (kind.Inner, x.inner, MOST_INNER) ∷ []) → limit_refusal s top ≡ r
-judged s order items table top x r whole same counted size inside live is e =
-    let all : HoldsAll s items = subst (λ (o : List ℕ). HoldsAll s o) (sym same) whole in
+judged s order table top x r whole counted size inside live is e =
     let within : top < length table = omega arith in
     let at : x ≡ slice_index_or table top no_count = get_or_read table top x within is no_count in
-    let one : IsCount s top x = subst (λ (c : Count). IsCount s top c) (sym at) (top_counted s items table top all counted inside live) in
+    let one : IsCount s top x = subst (λ (c : Count). IsCount s top c) (sym at) (top_counted s order table top whole counted inside live) in
     sym (limits_alike s top x one) ∙ sym e

@@ -12,6 +12,7 @@ abbrev pub is_module : ℕ → Binding → Bool
 is_module k (OfModule j) = nat_eq k j
 is_module k _ = false
 
+-- whether some binding is the module of a number
 abbrev pub is_any_module : List Binding → ℕ → Bool
 is_any_module ts k = list_any (is_module k) ts
 
@@ -23,4 +24,5 @@ pub record Marks (before after : List Bool) (more : ℕ → Bool) : Type 0 where
 -- The marks are of the modules that some of the first n modules, stubs left out, instantiate.
 pub record AreMarks (s : Source) (n : ℕ) (marks : List Bool) : Type 0 where
   pub same_length : length marks ≡ length s.modules
-  pub each : (k : ℕ) → k < length s.modules → mark_at marks k ≡ list_any (instantiates s k) (filter (λ m. not (is_stub s m)) (take n s.modules))
+  pub each : (k : ℕ) → k < length s.modules →
+      mark_at marks k ≡ list_any (instantiates s k) (filter (λ m. not (is_stub s m)) (take n s.modules))

@@ -14,6 +14,7 @@ abbrev pub sum_of : Source → (Binding → Counts) → List Binding → Counts
 sum_of s inside [] = counts 0 0 0
 sum_of s inside (t ∷ ts) = plus (plus (size_of s t) (inside t)) (sum_of s inside ts)
 
+-- what stands inside a binding, by what stands inside the bindings of its items
 abbrev pub content_by : Source → (Binding → Counts) → Binding → Counts
 content_by s inside (OfModule k) = sum_of s inside (bindings_in s (module_at s k))
 content_by s inside _ = counts 0 0 0
@@ -32,6 +33,7 @@ abbrev pub part : Source → Binding → Counts
 part s (OfModule k) = all_in s k
 part s t = size_of s t
 
+-- what some bindings have with all that stands inside them
 abbrev pub sum_parts : Source → List Binding → Counts
 sum_parts s [] = counts 0 0 0
 sum_parts s (t ∷ ts) = plus (part s t) (sum_parts s ts)
@@ -51,6 +53,7 @@ pub record IsCapped (c : Counts) (d : ℕ) (count : Count) : Type 0 where
 abbrev pub IsCount : Source → ℕ → Count → Type 0
 IsCount s k count = IsCapped (all_in s k) (depth s (length s.modules) k) count
 
+-- a count that stands for those past the end of a table
 abbrev pub no_count : Count
 no_count = record { scopes = 0; leaves = 0; inner = 0; depth = 0 }
 
@@ -65,6 +68,7 @@ abbrev pub depth_of : Source → Binding → ℕ
 depth_of s (OfModule k) = depth s (length s.modules) k
 depth_of s _ = 0
 
+-- how deep the deepest of some bindings is
 abbrev pub greatest_depth : Source → List Binding → ℕ
 greatest_depth s ts = deepest (depth s (length s.modules)) ts
 

@@ -1,10 +1,12 @@
 //! How many scopes, leaves and inner bits a hierarchy has, and how deep it is, without building it.
-ghost use Rattle.std.specs.Prelude.{◌≡◌, ◌<◌, ◌≤◌, ◌+◌, ◌^◌, ◌-◌, ◌∷◌, ◌++◌, [], ℕ, suc, max, length, map, take, slice_index, slice_index_or, IfOk};
+ghost use Rattle.std.specs.Prelude.{◌≡◌, ◌<◌, ◌≤◌, ◌+◌, ◌^◌, ◌-◌, ◌∷◌, ◌++◌, [], ℕ, suc, max, length, map, take};
+ghost use Rattle.std.specs.Prelude.{slice_index, slice_index_or, IfOk};
 ghost use Rattle.std.specs.List.{All};
 ghost use Rattle.mintc_flatten_hierarchy.specs.Sources.{source_of, bindings_in};
 ghost use Rattle.mintc_flatten_hierarchy.specs.Walks.{counts, plus};
 ghost use Rattle.mintc_netlist_nets.specs.Tables.{table_of};
-ghost use Rattle.mintc_flatten.specs.Totals.{capped, part, sum_parts, IsCapped, IsCounted, depth_of, greatest_depth, AreCounted, net_count};
+ghost use Rattle.mintc_flatten.specs.Totals.{capped, part, sum_parts, IsCapped, IsCounted, depth_of, greatest_depth};
+ghost use Rattle.mintc_flatten.specs.Totals.{AreCounted, net_count};
 ghost use Rattle.mintc_flatten_binding.specs.Orders.{IsOrder};
 
 use mintc_cells::Cells;
@@ -28,7 +30,8 @@ pub(crate) struct Count {
 /// What an item's binding has with all that stands inside it.
 fn part(cells: &Cells, modules: &[Module], table: &[Count], binding: Binding) -> Count
     requires { IsCounted (source_of cells.now modules.now) table.now binding }
-    ensures { IsCapped (part (source_of cells.now modules.now) binding) (depth_of (source_of cells.now modules.now) binding) result }
+    ensures { IsCapped (part (source_of cells.now modules.now) binding)
+        (depth_of (source_of cells.now modules.now) binding) result }
 {
     match binding {
         Binding::OfCell(number) => Count {
@@ -79,7 +82,8 @@ fn items_count(
     requires counted { All (IsCounted (source_of cells.now modules.now) table.now) bindings.now }
     requires bits { bits ≤ MOST_TOLD }
     ensures { (own : ℕ) → bits ≡ capped own →
-        IsCapped (plus (counts 1 0 own) (sum_parts (source_of cells.now modules.now) bindings.now)) (greatest_depth (source_of cells.now modules.now) bindings.now) result }
+        IsCapped (plus (counts 1 0 own) (sum_parts (source_of cells.now modules.now) bindings.now))
+        (greatest_depth (source_of cells.now modules.now) bindings.now) result }
 {
     let mut count = Count {
         scopes: 1,
@@ -93,7 +97,8 @@ fn items_count(
     count
 }
 
-/// The counts of the hierarchy from a module, from its nets, its items' bindings and the counts of the modules among them.
+/// The counts of the hierarchy from a module, from its nets, its items' bindings and the counts of the modules
+/// among them.
 pub(crate) fn module_count(
     cells: &Cells,
     modules: &[Module],
@@ -105,7 +110,8 @@ pub(crate) fn module_count(
     requires bits { bits ≤ MOST_TOLD }
     requires shallow { greatest_depth (source_of cells.now modules.now) bindings.now < 2 ^ 33 }
     ensures { (own : ℕ) → bits ≡ capped own →
-        IsCapped (plus (counts 1 0 own) (sum_parts (source_of cells.now modules.now) bindings.now)) (greatest_depth (source_of cells.now modules.now) bindings.now + 1) result }
+        IsCapped (plus (counts 1 0 own) (sum_parts (source_of cells.now modules.now) bindings.now))
+        (greatest_depth (source_of cells.now modules.now) bindings.now + 1) result }
 {
     let items = items_count(cells, modules, table, bindings, bits);
     Count {
@@ -116,8 +122,8 @@ pub(crate) fn module_count(
     }
 }
 
-/// The counts of the hierarchies from the modules of an order, in which each stands behind those that it instantiates. Of the
-/// other modules nothing is said.
+/// The counts of the hierarchies from the modules of an order, in which each stands behind those that it
+/// instantiates. Of the other modules nothing is said.
 pub(crate) fn count_modules(
     alloc: Global,
     cells: &Cells,
@@ -130,7 +136,8 @@ pub(crate) fn count_modules(
     requires bindings { bindings.now ≡ map (bindings_in (source_of cells.now modules.now)) modules.now }
     requires bits { bits.now ≡ map net_count modules.now }
     requires few { length modules.now < 2 ^ 32 }
-    ensures each { IfOk result (λ table. AreCounted (source_of cells.now modules.now) order.now (length order.now) table.items) }
+    ensures each { IfOk result
+        (λ table. AreCounted (source_of cells.now modules.now) order.now (length order.now) table.items) }
     ensures length { IfOk result (λ table. length table.items ≡ length modules.now) }
 {
     let none = Count {
@@ -139,9 +146,7 @@ pub(crate) fn count_modules(
         inner: 0,
         depth: 0,
     };
-    let Ok(mut table) = vec![in alloc; none; modules.len()] else {
-        return Err(OutOfMemory);
-    };
+    let mut table = vec![in alloc; none; modules.len()]?;
     for number in order {
         let at = *number as usize;
         table[at] = module_count(cells, modules, &table, bindings[at].items(), bits[at]);
@@ -160,9 +165,7 @@ pub(crate) fn net_counts(
 {
     let mut counts = Vec::new(alloc);
     for table in nets {
-        let Ok(()) = counts.push(table.count().min(MOST_TOLD)) else {
-            return Err(OutOfMemory);
-        };
+        counts.push(table.count().min(MOST_TOLD))?;
     }
     Ok(counts)
 }

@@ -5,7 +5,9 @@ ghost use Rattle.mintc_text.specs.Stops.{StopsAt};
 ghost use Rattle.mintc_netlist.specs.Ordinary.{IsOrdinary};
 ghost use Rattle.mintc_flatten_hierarchy.specs.Sources.{source_of, module_at, is_stub, bindings_in};
 ghost use Rattle.mintc_netlist_nets.specs.Tables.{table_of};
-ghost use Rattle.mintc_flatten_hierarchy.specs.Refusals.{statements_refusal, recursive_refusal, tops_of, top_refusal, limit_refusal, IsHierarchy, IsRefusal};
+ghost use Rattle.mintc_flatten_binding.specs.Orders.{IsOrder, HoldsAll};
+ghost use Rattle.mintc_flatten_hierarchy.specs.Refusals.{statements_refusal, tops_of, top_refusal};
+ghost use Rattle.mintc_flatten_hierarchy.specs.Refusals.{limit_refusal, IsHierarchy, IsRefusal};
 
 use crate::limits::check_limits;
 use crate::tops::find_tops;
@@ -22,28 +24,31 @@ use mintc_netlist_nets::Nets;
 use mintc_text::{Name, OutOfMemory, Refusal, Stop};
 use std::alloc::Global;
 
-/// What each instance is of, and the nets of each module, where no statement is refused.
-fn check_statements(
-    alloc: Global,
-    cells: &Cells,
-    modules: &[Module],
-) -> Result<(Vec<BindingList>, Vec<Nets>), Stop>
+/// Modules of which no statement is refused: what each instance is of, the nets of each, and an order in which each
+/// stands behind those that it instantiates.
+#[derive(Drop)]
+struct Accepted {
+    bindings: Vec<BindingList>,
+    nets: Vec<Nets>,
+    order: Vec<u32>,
+}
+
+/// What is found of modules, where no statement is refused.
+fn check_statements(alloc: Global, cells: &Cells, modules: &[Module]) -> Result<Accepted, Stop>
     requires { length modules.now < 2 ^ 32 }
-    ensures bindings { IfOk result (λ found. found.0.items ≡ map (bindings_in (source_of cells.now modules.now)) modules.now) }
-    ensures nets { IfOk result (λ found. found.1.items ≡ map table_of modules.now) }
+    ensures bindings { IfOk result (λ found. found.bindings.items
+        ≡ map (bindings_in (source_of cells.now modules.now)) modules.now) }
+    ensures nets { IfOk result (λ found. found.nets.items ≡ map table_of modules.now) }
+    ensures order { IfOk result (λ found. IsOrder (source_of cells.now modules.now) found.order.items) }
+    ensures whole { IfOk result (λ found. HoldsAll (source_of cells.now modules.now) found.order.items) }
     ensures passes { OnOk result (statements_refusal (source_of cells.now modules.now) ≡ None) }
-    ensures flat { OnOk result (recursive_refusal (source_of cells.now modules.now) ≡ None) }
     ensures stop { IfErr result (StopsAt (λ r. statements_refusal (source_of cells.now modules.now) ≡ Some r)) }
 {
     refuse_name_twice(alloc, cells, modules)?;
-    let Ok(bindings) = find_bindings(alloc, cells, modules) else {
-        return Err(Stop::OutOfMemory);
-    };
+    let bindings = find_bindings(alloc, cells, modules)?;
     refuse_no_module(cells, modules, &bindings)?;
-    refuse_recursive(alloc, cells, modules, &bindings)?;
-    let Ok(nets) = find_nets(alloc, modules) else {
-        return Err(Stop::OutOfMemory);
-    };
+    let order = refuse_recursive(alloc, cells, modules, &bindings)?;
+    let nets = find_nets(alloc, modules)?;
     refuse_no_pin(alloc, cells, modules, &bindings)?;
     let source = Source {
         cells,
@@ -52,7 +57,11 @@ fn check_statements(
     };
     refuse_width(alloc, &source, &bindings)?;
     refuse_two_drivers(alloc, &source, &bindings)?;
-    Ok((bindings, nets))
+    Ok(Accepted {
+        bindings,
+        nets,
+        order,
+    })
 }
 
 /// The one module that may be the top.
@@ -66,20 +75,19 @@ fn one_top(
     requires few { length modules.now < 2 ^ 32 }
     requires bindings { bindings.now ≡ map (bindings_in (source_of cells.now modules.now)) modules.now }
     ensures there { IfOk result (λ k. k < length modules.now) }
-    ensures live { IfOk result (λ k. is_stub (source_of cells.now modules.now) (module_at (source_of cells.now modules.now) k) ≡ false) }
+    ensures live { IfOk result
+        (λ k. is_stub (source_of cells.now modules.now) (module_at (source_of cells.now modules.now) k) ≡ false) }
     ensures one { IfOk result (λ k. tops_of (source_of cells.now modules.now) (option_copied top.entry) ≡ k ∷ []) }
-    ensures stop { IfErr result (StopsAt (λ r. top_refusal (source_of cells.now modules.now) (tops_of (source_of cells.now modules.now) (option_copied top.entry)) ≡ Some r)) }
+    ensures stop { IfErr result
+        (StopsAt (λ r. top_refusal (source_of cells.now modules.now)
+        (tops_of (source_of cells.now modules.now) (option_copied top.entry)) ≡ Some r)) }
 {
-    let Ok(tops) = find_tops(alloc, cells, modules, bindings, top) else {
-        return Err(Stop::OutOfMemory);
-    };
+    let tops = find_tops(alloc, cells, modules, bindings, top)?;
     if tops.len() == 1 {
         return Ok(tops[0]);
     }
-    match u32::try_from(tops.len()) {
-        Ok(count) => Err(Stop::Refused(Refusal::TopUnclear { count })),
-        Err(_) => Err(Stop::OutOfMemory),
-    }
+    let count = u32::try_from(tops.len())?;
+    Err(Stop::Refused(Refusal::TopUnclear { count }))
 }
 
 /// The hierarchy of modules, or their first refusal.
@@ -93,23 +101,25 @@ fn flatten_modules(
     ensures value { IfOk result (IsHierarchy (source_of cells.now modules.now) (option_copied name.entry)) }
     ensures stop { IfErr result (StopsAt (IsRefusal (source_of cells.now modules.now) (option_copied name.entry))) }
 {
-    let (bindings, nets) = check_statements(alloc, cells, modules)?;
+    let Accepted {
+        bindings,
+        nets,
+        order,
+    } = check_statements(alloc, cells, modules)?;
     let top = one_top(alloc, cells, modules, &bindings, name)?;
-    check_limits(alloc, cells, modules, &bindings, &nets, top)?;
     let source = Source {
         cells,
         modules,
         nets: &nets,
     };
-    match hierarchy(alloc, &source, &bindings, top) {
-        Ok(hierarchy) => Ok(hierarchy),
-        Err(_) => Err(Stop::OutOfMemory),
-    }
+    check_limits(alloc, &source, &bindings, &order, top)?;
+    Ok(hierarchy(alloc, &source, &bindings, top)?)
 }
 
-/// The hierarchy of a netlist with these cells, from the module of the name `top`, or else from the one that no module instantiates.
-/// Refuses NameTwice, NoModule, Recursive, NoPin, Width and TwoDrivers, in this order, each with the first statement at fault; then
-/// TopUnclear with the number of modules that may be the top; then Limit of scopes, depth, leaves or inner bits.
+/// The hierarchy of a netlist with these cells, from the module of the name `top`, or else from the one that no
+/// module instantiates. Refuses NameTwice, NoModule, Recursive, NoPin, Width and TwoDrivers, in this order, each
+/// with the first statement at fault; then TopUnclear with the number of modules that may be the top; then Limit of
+/// scopes, depth, leaves or inner bits.
 pub fn flatten(
     alloc: Global,
     netlist: &Netlist,
@@ -118,7 +128,8 @@ pub fn flatten(
 ) -> Result<Hierarchy, Stop>
     requires { IsOrdinary netlist.now }
     ensures value { IfOk result (IsHierarchy (source_of cells.now netlist.now.modules) (option_copied top.entry)) }
-    ensures stop { IfErr result (StopsAt (IsRefusal (source_of cells.now netlist.now.modules) (option_copied top.entry))) }
+    ensures stop { IfErr result
+        (StopsAt (IsRefusal (source_of cells.now netlist.now.modules) (option_copied top.entry))) }
 {
     flatten_modules(alloc, cells, netlist.modules.items(), top)
 }

@@ -1,5 +1,6 @@
 //! The joins of an item of a scope.
-ghost use Rattle.std.specs.Prelude.{◌≡◌, ◌<◌, ◌+◌, ◌++◌, ◌∷◌, [], ℕ, cond, Option, Some, map, option_map, length, IfOk, OnOk};
+ghost use Rattle.std.specs.Prelude.{◌≡◌, ◌<◌, ◌+◌, ◌++◌, ◌∷◌, [], ℕ, cond, Option, Some, map, option_map, length, IfOk};
+ghost use Rattle.std.specs.Prelude.{OnOk};
 ghost use Rattle.std.specs.List.{flat_map};
 ghost use Rattle.std.specs.Option.{option_to_list};
 ghost use Rattle.mintc_netlist.specs.Connections.{wirings_of};
@@ -27,10 +28,7 @@ fn inner_number(first: u32, place: u64) -> Result<u32, OutOfMemory>
     let Some(number) = place.checked_add(u64::from(first)) else {
         return Err(OutOfMemory);
     };
-    match u32::try_from(number) {
-        Ok(number) => Ok(number),
-        Err(_) => Err(OutOfMemory),
-    }
+    Ok(u32::try_from(number)?)
 }
 
 /// Takes in the join of two bits, where both are there.
@@ -41,7 +39,8 @@ fn push_join(
     to_first: u32,
     to: Option<u64>,
 ) -> Result<(), OutOfMemory>
-    ensures { OnOk result (joins.new.items ≡ joins.old.items ++ joined (moved from_first (from ∷ [])) (moved to_first (to ∷ []))) }
+    ensures { OnOk result (joins.new.items ≡ joins.old.items
+        ++ joined (moved from_first (from ∷ [])) (moved to_first (to ∷ []))) }
 {
     let (Some(from), Some(to)) = (from, to) else {
         return Ok(());
@@ -50,10 +49,8 @@ fn push_join(
         from: inner_number(from_first, from)?,
         to: inner_number(to_first, to)?,
     };
-    match joins.push(join) {
-        Ok(()) => Ok(()),
-        Err(_) => Err(OutOfMemory),
-    }
+    joins.push(join)?;
+    Ok(())
 }
 
 /// Takes in the joins of bits to the bits at their places. The bits of each side are counted from its first inner bit.
@@ -64,7 +61,8 @@ fn push_joined(
     to_first: u32,
     tos: &[Option<u64>],
 ) -> Result<(), OutOfMemory>
-    ensures { OnOk result (joins.new.items ≡ joins.old.items ++ joined (moved from_first froms.now) (moved to_first tos.now)) }
+    ensures { OnOk result (joins.new.items ≡ joins.old.items
+        ++ joined (moved from_first froms.now) (moved to_first tos.now)) }
 {
     let count = froms.len().min(tos.len());
     for number in 0..count {
@@ -73,8 +71,8 @@ fn push_joined(
     Ok(())
 }
 
-/// Where the joins of an item are made: the netlist, the module of the item's scope, and the first inner bits of that scope and of the
-/// item's own leaf or scope.
+/// Where the joins of an item are made: the netlist, the module of the item's scope, and the first inner bits of
+/// that scope and of the item's own leaf or scope.
 #[derive(Clone, Copy)]
 pub(crate) struct JoinSite<'a> {
     pub source: Source<'a>,
@@ -91,7 +89,9 @@ fn push_assign(
     left: &[Piece],
     right: &[Piece],
 ) -> Result<(), OutOfMemory>
-    ensures { OnOk result (joins.new.items ≡ joins.old.items ++ joined (numbers_of (place_at site.now.module_nets.part.now 0 site.now.first) right.now) (numbers_of (place_at site.now.module_nets.part.now 0 site.now.first) left.now)) }
+    ensures { OnOk result (joins.new.items ≡ joins.old.items
+        ++ joined (numbers_of (place_at site.now.module_nets.part.now 0 site.now.first) right.now)
+        (numbers_of (place_at site.now.module_nets.part.now 0 site.now.first) left.now)) }
 {
     let ModuleNets { part, nets, .. } = site.module_nets;
     let mut froms = Vec::new(alloc);
@@ -150,7 +150,8 @@ impl Ends {
     ) -> Result<(), OutOfMemory>
         requires there { IsThere (source_in site.now.source) binding }
         requires pin { number < length (binding_pins (source_in site.now.source) binding) }
-        ensures pin { OnOk result (self.new.pin.items ≡ map Some (pin_at (source_in site.now.source) binding number).places) }
+        ensures pin { OnOk result
+            (self.new.pin.items ≡ map Some (pin_at (source_in site.now.source) binding number).places) }
         ensures net { OnOk result (self.new.net.items ≡ expression_places site.now.module_nets.part.now pieces.now) }
     {
         self.pin.clear();
@@ -175,7 +176,8 @@ fn push_pin_joins(
     requires pin { number < length (binding_pins (source_in site.now.source) instance.now.binding) }
     requires connected { IsOfItem instance.now.connected.now instance.now.item.now }
     ensures { OnOk result (joins.new.items ≡ joins.old.items ++
-        flat_map (wiring_joins (place_at site.now.module_nets.part.now 0 site.now.first) site.now.own) (wiring_at instance.now.item.now (source_in site.now.source) instance.now.binding number)) }
+        flat_map (wiring_joins (place_at site.now.module_nets.part.now 0 site.now.first) site.now.own)
+        (wiring_at instance.now.item.now (source_in site.now.source) instance.now.binding number)) }
 {
     let source = &site.source;
     let binding = instance.binding;
@@ -199,7 +201,8 @@ fn push_instance(
 ) -> Result<(), OutOfMemory>
     requires { IsThere (source_in site.now.source) binding }
     ensures { OnOk result (joins.new.items ≡ joins.old.items ++
-        flat_map (wiring_joins (place_at site.now.module_nets.part.now 0 site.now.first) site.now.own) (wirings_of item.now (binding_pins (source_in site.now.source) binding))) }
+        flat_map (wiring_joins (place_at site.now.module_nets.part.now 0 site.now.first) site.now.own)
+        (wirings_of item.now (binding_pins (source_in site.now.source) binding))) }
 {
     let connected = &ConnectionIndex::new(alloc, item)?;
     let instance = Instance {
@@ -226,7 +229,10 @@ pub(crate) fn push_joins(
     requires binding { binding ≡ binding_in (source_in site.now.source) item.now }
     requires there { IsThere (source_in site.now.source) binding }
     ensures { OnOk result ((scope scopes leaves : ℕ) →
-        joins.new.items ≡ joins.old.items ++ joins_in (source_in site.now.source) (step_at (place_at site.now.module_nets.part.now scope site.now.first) (counts scopes leaves site.now.own) item.now) item.now) }
+        joins.new.items ≡ joins.old.items
+        ++ joins_in (source_in site.now.source)
+        (step_at (place_at site.now.module_nets.part.now scope site.now.first)
+        (counts scopes leaves site.now.own) item.now) item.now) }
 {
     match item {
         Item::Assign { left, right, .. } => {

@@ -19,9 +19,7 @@ fn numbers(alloc: Global, places: &[Option<u64>]) -> Result<Numbers, OutOfMemory
         let Some(number) = number(*place) else {
             return Err(OutOfMemory);
         };
-        let Ok(()) = numbers.push(number) else {
-            return Err(OutOfMemory);
-        };
+        numbers.push(number)?;
     }
     Ok(Numbers::new(numbers))
 }
@@ -62,9 +60,7 @@ pub(crate) fn top_ports(
     let mut ports = Vec::new(alloc);
     for name in module.ports.items() {
         let port = port(alloc, module, nets, name)?;
-        let Ok(()) = ports.push(port) else {
-            return Err(OutOfMemory);
-        };
+        ports.push(port)?;
     }
     Ok(ports)
 }

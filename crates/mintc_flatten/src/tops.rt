@@ -60,9 +60,7 @@ fn find_marks(
     requires { bindings.now ≡ map (bindings_in (source_of cells.now modules.now)) modules.now }
     ensures { IfOk result (λ marks. AreMarks (source_of cells.now modules.now) (length modules.now) marks.items) }
 {
-    let Ok(mut marks) = vec![in alloc; false; modules.len()] else {
-        return Err(OutOfMemory);
-    };
+    let mut marks = vec![in alloc; false; modules.len()]?;
     mark_modules(cells, modules, bindings, &mut marks);
     Ok(marks)
 }
@@ -84,7 +82,9 @@ fn is_top_candidate(
 ) -> bool
     requires marks { AreMarks (source_of cells.now modules.now) (length modules.now) marks.now }
     requires number { number < length modules.now }
-    ensures { result ≡ (not (is_stub (source_of cells.now modules.now) (module_at (source_of cells.now modules.now) number)) && may_be_top (source_of cells.now modules.now) (option_copied top.entry) number) }
+    ensures { result ≡ (not
+        (is_stub (source_of cells.now modules.now) (module_at (source_of cells.now modules.now) number))
+        && may_be_top (source_of cells.now modules.now) (option_copied top.entry) number) }
 {
     let part = &modules[number];
     if is_stub(cells, part) {
@@ -101,10 +101,7 @@ fn push_if(tops: &mut Vec<u32>, number: u32, passes: bool) -> Result<(), OutOfMe
     ensures { OnOk result (tops.new.items ≡ tops.old.items ++ cond passes (number ∷ []) []) }
 {
     if passes {
-        return match tops.push(number) {
-            Ok(()) => Ok(()),
-            Err(_) => Err(OutOfMemory),
-        };
+        tops.push(number)?;
     }
     Ok(())
 }

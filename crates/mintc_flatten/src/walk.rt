@@ -5,7 +5,8 @@ ghost use Rattle.mintc_flatten_hierarchy.specs.Sources.{module_at, binding_in, b
 ghost use Rattle.mintc_flatten_hierarchy.specs.Walks.{counts, place_at, step_at, steps_from, inside};
 ghost use Rattle.mintc_netlist.specs.Nets.{bit_of, bits_of};
 ghost use Rattle.mintc_netlist_nets.specs.Tables.{table_of};
-ghost use Rattle.mintc_flatten_hierarchy.specs.Hierarchies.{net_of, name_of, statement_of, nets_in, pins_in, joins_in, top_scope, top_port, hierarchy_of};
+ghost use Rattle.mintc_flatten_hierarchy.specs.Hierarchies.{net_of, name_of, statement_of, nets_in, pins_in, joins_in};
+ghost use Rattle.mintc_flatten_hierarchy.specs.Hierarchies.{top_scope, top_port, hierarchy_of};
 ghost use Rattle.mintc_flatten_binding.specs.NetsOfModules.{source_in};
 ghost use Rattle.mintc_flatten_binding.specs.Orders.{IsThere};
 ghost use Rattle.mintc_flatten.specs.Places.{place_in};
@@ -13,6 +14,7 @@ ghost use Rattle.mintc_flatten.specs.Growing.{lists};
 ghost use Rattle.mintc_netlist.specs.Connections.{ports_of};
 
 use crate::joins::{JoinSite, push_joins};
+use crate::plan::Plan;
 use crate::ports::top_ports;
 use mintc_cells::Cells;
 use mintc_flatten_binding::{BindingList, ModuleNets, Source};
@@ -47,10 +49,7 @@ impl Model for Walk {
 fn to_u32(number: usize) -> Result<u32, OutOfMemory>
     ensures { IfOk result (λ n. n ≡ number) }
 {
-    match u32::try_from(number) {
-        Ok(number) => Ok(number),
-        Err(_) => Err(OutOfMemory),
-    }
+    Ok(u32::try_from(number)?)
 }
 
 /// The name of an instance; no byte for another item.
@@ -86,9 +85,7 @@ fn push_pins(
 {
     for number in 0..cells.pin_count(cell) {
         let pin = cells.pin(cell, number).copy(alloc)?;
-        let Ok(()) = inner.push(Inner::Pin { leaf, pin }) else {
-            return Err(OutOfMemory);
-        };
+        inner.push(Inner::Pin { leaf, pin })?;
     }
     Ok(())
 }
@@ -129,10 +126,8 @@ fn push_bit(
     ensures { OnOk result (inner.new.items ≡ inner.old.items ++ net_of scope (bit_of name.now index) ∷ []) }
 {
     let name = Name::new(alloc, name)?;
-    match inner.push(Inner::Net { scope, name, index }) {
-        Ok(()) => Ok(()),
-        Err(_) => Err(OutOfMemory),
-    }
+    inner.push(Inner::Net { scope, name, index })?;
+    Ok(())
 }
 
 /// Takes in the nets of a scope.
@@ -153,17 +148,18 @@ fn push_nets(
     Ok(())
 }
 
-/// A netlist that is walked through, with what each instance of each module is of.
+/// A scope that is gone into: the number of its module, its own number, and its first inner bit.
 #[derive(Clone, Copy)]
-pub(crate) struct Plan<'a> {
-    source: Source<'a>,
-    bindings: &'a [BindingList],
-    ghost are_of: { bindings.now ≡ map (bindings_in (source_in source)) source.modules.now },
+struct ScopeStart {
+    number: u32,
+    scope: u32,
+    first: u32,
 }
 
-/// A scope: its module, its number, and its first inner bit.
+/// A scope of what is walked through: its module, its number, and its first inner bit.
 #[derive(Clone, Copy)]
 pub(crate) struct Place<'a> {
+    plan: Plan<'a>,
     module_nets: ModuleNets<'a>,
     scope: u32,
     first: u32,
@@ -175,18 +171,19 @@ impl Place<'_> {
         &self,
         alloc: Global,
         joins: &mut Vec<Join>,
-        source: &Source<'_>,
         own: u32,
         item: &Item,
         binding: Binding,
     ) -> Result<(), OutOfMemory>
-        requires binding { binding ≡ binding_in (source_in source.now) item.now }
-        requires there { IsThere (source_in source.now) binding }
+        requires binding { binding ≡ binding_in (source_in self.now.plan.source) item.now }
+        requires there { IsThere (source_in self.now.plan.source) binding }
         ensures { OnOk result ((scopes leaves : ℕ) →
-            joins.new.items ≡ joins.old.items ++ joins_in (source_in source.now) (step_at (place_in self.now) (counts scopes leaves own) item.now) item.now) }
+            joins.new.items ≡ joins.old.items
+            ++ joins_in (source_in self.now.plan.source)
+            (step_at (place_in self.now) (counts scopes leaves own) item.now) item.now) }
     {
         let site = JoinSite {
-            source: *source,
+            source: self.plan.source,
             module_nets: self.module_nets,
             first: self.first,
             own,
@@ -203,14 +200,15 @@ impl Walk {
     fn leaf(
         &mut self,
         alloc: Global,
-        source: &Source<'_>,
         place: &Place<'_>,
         item: &Item,
         cell: u32,
     ) -> Result<(), OutOfMemory>
-        requires cell { cell < length source.now.cells.now }
-        requires binding { OfCell cell ≡ binding_in (source_in source.now) item.now }
-        ensures { OnOk result (self.new ≡ grown_by (source_in source.now) self.old (step_at (place_in place.now) (sizes self.old) item.now) (OfCell cell)) }
+        requires cell { cell < length place.now.plan.source.cells.now }
+        requires binding { OfCell cell ≡ binding_in (source_in place.now.plan.source) item.now }
+        ensures { OnOk result
+            (self.new ≡ grown_by (source_in place.now.plan.source) self.old
+            (step_at (place_in place.now) (sizes self.old) item.now) (OfCell cell)) }
     {
         let number = to_u32(self.leaves.len())?;
         let own = to_u32(self.inner.len())?;
@@ -222,26 +220,26 @@ impl Walk {
             first_pin: own,
             entry: item_entry(item),
         };
-        let Ok(()) = self.leaves.push(leaf) else {
-            return Err(OutOfMemory);
-        };
-        push_pins(alloc, &mut self.inner, source.cells, number, cell)?;
+        self.leaves.push(leaf)?;
+        let cells = place.plan.source.cells;
+        push_pins(alloc, &mut self.inner, cells, number, cell)?;
         let binding = Binding::OfCell(cell);
-        place.push_joins(alloc, &mut self.joins, source, own, item, binding)
+        place.push_joins(alloc, &mut self.joins, own, item, binding)
     }
 
     /// Takes in a scope that stands in a scope.
     fn scope(
         &mut self,
         alloc: Global,
-        source: &Source<'_>,
         place: &Place<'_>,
         item: &Item,
         number: u32,
     ) -> Result<(), OutOfMemory>
-        requires number { number < length source.now.modules.now }
-        requires binding { OfModule number ≡ binding_in (source_in source.now) item.now }
-        ensures { OnOk result (self.new ≡ grown_by (source_in source.now) self.old (step_at (place_in place.now) (sizes self.old) item.now) (OfModule number)) }
+        requires number { number < length place.now.plan.source.modules.now }
+        requires binding { OfModule number ≡ binding_in (source_in place.now.plan.source) item.now }
+        ensures { OnOk result
+            (self.new ≡ grown_by (source_in place.now.plan.source) self.old
+            (step_at (place_in place.now) (sizes self.old) item.now) (OfModule number)) }
     {
         let scope = to_u32(self.scopes.len())?;
         let own = to_u32(self.inner.len())?;
@@ -251,49 +249,45 @@ impl Walk {
             parent: place.scope,
             name,
         };
-        let Ok(()) = self.scopes.push(new) else {
-            return Err(OutOfMemory);
-        };
+        self.scopes.push(new)?;
+        let source = &place.plan.source;
         let part = &source.modules[number as usize];
         let nets = &source.nets[number as usize];
         push_nets(alloc, &mut self.inner, part, nets, scope)?;
         let binding = Binding::OfModule(number);
-        place.push_joins(alloc, &mut self.joins, source, own, item, binding)
+        place.push_joins(alloc, &mut self.joins, own, item, binding)
     }
 
     /// Takes in an item that is no instance.
-    fn pass(
-        &mut self,
-        alloc: Global,
-        source: &Source<'_>,
-        place: &Place<'_>,
-        item: &Item,
-    ) -> Result<(), OutOfMemory>
-        requires { OfNothing ≡ binding_in (source_in source.now) item.now }
-        ensures { OnOk result (self.new ≡ grown_by (source_in source.now) self.old (step_at (place_in place.now) (sizes self.old) item.now) OfNothing) }
+    fn pass(&mut self, alloc: Global, place: &Place<'_>, item: &Item) -> Result<(), OutOfMemory>
+        requires { OfNothing ≡ binding_in (source_in place.now.plan.source) item.now }
+        ensures { OnOk result
+            (self.new ≡ grown_by (source_in place.now.plan.source) self.old
+            (step_at (place_in place.now) (sizes self.old) item.now) OfNothing) }
     {
         let own = to_u32(self.inner.len())?;
         let binding = Binding::OfNothing;
-        place.push_joins(alloc, &mut self.joins, source, own, item, binding)
+        place.push_joins(alloc, &mut self.joins, own, item, binding)
     }
 
     /// Takes in an item of a scope.
     fn step(
         &mut self,
         alloc: Global,
-        source: &Source<'_>,
         place: &Place<'_>,
         item: &Item,
         binding: Binding,
     ) -> Result<(), OutOfMemory>
-        requires binding { binding ≡ binding_in (source_in source.now) item.now }
-        requires there { IsThere (source_in source.now) binding }
-        ensures { OnOk result (self.new ≡ grown (source_in source.now) self.old (step_at (place_in place.now) (sizes self.old) item.now)) }
+        requires binding { binding ≡ binding_in (source_in place.now.plan.source) item.now }
+        requires there { IsThere (source_in place.now.plan.source) binding }
+        ensures { OnOk result
+            (self.new ≡ grown (source_in place.now.plan.source) self.old
+            (step_at (place_in place.now) (sizes self.old) item.now)) }
     {
         match binding {
-            Binding::OfCell(cell) => self.leaf(alloc, source, place, item, cell),
-            Binding::OfModule(number) => self.scope(alloc, source, place, item, number),
-            Binding::OfNothing => self.pass(alloc, source, place, item),
+            Binding::OfCell(cell) => self.leaf(alloc, place, item, cell),
+            Binding::OfModule(number) => self.scope(alloc, place, item, number),
+            Binding::OfNothing => self.pass(alloc, place, item),
         }
     }
 
@@ -302,26 +296,33 @@ impl Walk {
     fn visit(
         &mut self,
         alloc: Global,
-        plan: &Plan<'_>,
         deep: usize,
         place: &Place<'_>,
         item: &Item,
         binding: Binding,
     ) -> Result<(), OutOfMemory>
-        requires binding { binding ≡ binding_in (source_in plan.now.source) item.now }
-        requires there { IsThere (source_in plan.now.source) binding }
+        requires binding { binding ≡ binding_in (source_in place.now.plan.source) item.now }
+        requires there { IsThere (source_in place.now.plan.source) binding }
         requires deep { deep < 2 ^ 32 }
-        ensures { OnOk result (self.new ≡ grown_all (source_in plan.now.source) self.old
-            (step_at (place_in place.now) (sizes self.old) item.now ∷ inside (source_in plan.now.source) deep (sizes self.old) item.now)) }
+        ensures { OnOk result (self.new ≡ grown_all (source_in place.now.plan.source) self.old
+            (step_at (place_in place.now) (sizes self.old) item.now ∷
+            inside (source_in place.now.plan.source) deep (sizes self.old) item.now)) }
     {
         let scope = to_u32(self.scopes.len())?;
-        let own = to_u32(self.inner.len())?;
-        self.step(alloc, &plan.source, place, item, binding)?;
+        let first = to_u32(self.inner.len())?;
+        self.step(alloc, place, item, binding)?;
         if deep == 0 {
             return Ok(());
         }
         match binding {
-            Binding::OfModule(number) => self.enter(alloc, plan, deep - 1, number, scope, own),
+            Binding::OfModule(number) => {
+                let start = ScopeStart {
+                    number,
+                    scope,
+                    first,
+                };
+                self.enter(alloc, &place.plan, deep - 1, start)
+            }
             _ => Ok(()),
         }
     }
@@ -333,19 +334,24 @@ impl Walk {
         alloc: Global,
         plan: &Plan<'_>,
         deep: usize,
-        number: u32,
-        scope: u32,
-        first: u32,
+        start: ScopeStart,
     ) -> Result<(), OutOfMemory>
-        requires number { number < length plan.now.source.modules.now }
+        requires number { start.number < length plan.now.source.modules.now }
         requires deep { deep < 2 ^ 32 }
         ensures { OnOk result (self.new ≡ grown_all (source_in plan.now.source) self.old
-            (steps_from (source_in plan.now.source) (inside (source_in plan.now.source) deep) (place_at (module_at (source_in plan.now.source) number) scope first) (sizes self.old)
-            (module_at (source_in plan.now.source) number).items)) }
+            (steps_from (source_in plan.now.source) (inside (source_in plan.now.source) deep)
+            (place_at (module_at (source_in plan.now.source) start.number) start.scope start.first) (sizes self.old)
+            (module_at (source_in plan.now.source) start.number).items)) }
     {
+        let ScopeStart {
+            number,
+            scope,
+            first,
+        } = start;
         let part = &plan.source.modules[number as usize];
         let nets = &plan.source.nets[number as usize];
         let place = Place {
+            plan: *plan,
             module_nets: ModuleNets { part, nets },
             scope,
             first,
@@ -353,7 +359,7 @@ impl Walk {
         let items = part.items.items();
         let list = plan.bindings[number as usize].items();
         for (at, item) in items.iter().enumerate() {
-            self.visit(alloc, plan, deep, &place, item, list[at])?;
+            self.visit(alloc, deep, &place, item, list[at])?;
         }
         Ok(())
     }
@@ -362,17 +368,16 @@ impl Walk {
 /// The lists before the walk from a module.
 fn begin(alloc: Global, source: &Source<'_>, top: u32) -> Result<Walk, OutOfMemory>
     requires { top < length source.now.modules.now }
-    ensures { IfOk result (λ walk. walk ≡ lists (top_scope top ∷ []) [] (nets_in 0 (module_at (source_in source.now) top)) []) }
+    ensures { IfOk result
+        (λ walk. walk ≡ lists (top_scope top ∷ []) [] (nets_in 0 (module_at (source_in source.now) top)) []) }
 {
     let name = Name::new(alloc, &[])?;
     let mut scopes = Vec::new(alloc);
-    let Ok(()) = scopes.push(Scope {
+    scopes.push(Scope {
         module: top,
         parent: 0,
         name,
-    }) else {
-        return Err(OutOfMemory);
-    };
+    })?;
     let mut inner = Vec::new(alloc);
     let part = &source.modules[top as usize];
     let nets = &source.nets[top as usize];
@@ -404,7 +409,12 @@ pub(crate) fn hierarchy(
         source: *source,
         bindings,
     };
-    walk.enter(alloc, &plan, source.modules.len(), top, 0, 0)?;
+    let start = ScopeStart {
+        number: top,
+        scope: 0,
+        first: 0,
+    };
+    walk.enter(alloc, &plan, source.modules.len(), start)?;
     Ok(finish(walk, ports))
 }
 

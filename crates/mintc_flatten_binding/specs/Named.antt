@@ -11,4 +11,5 @@ number_called modules name = position (is_called name) modules
 -- Each name of some modules stands once among the names, and the number beside it is that of its first module.
 pub record IsIndex (names : List (List ℕ)) (numbers : List ℕ) (modules : List Module) : Type 0 where
   pub each : length numbers ≡ length names
-  pub found : (name : List ℕ) → option_map (slice_index numbers) (position (bytes_eq name) names) ≡ number_called modules name
+  pub found : (name : List ℕ) → option_map (slice_index numbers) (position (bytes_eq name) names)
+      ≡ number_called modules name

@@ -16,14 +16,17 @@ abbrev pub Stands : List ℕ → ℕ → Binding → Type 0
 Stands order i (OfModule k) = (j : ℕ) × (j < i) × (slice_index order j ≡ k)
 Stands order i _ = Unit {0}
 
+-- Modules of a source, each behind those that it instantiates.
 pub record IsOrder (s : Source) (order : List ℕ) : Type 0 where
-  pub behind : (i : ℕ) → i < length order → AllByRecursion (Stands order i) (bindings_in s (module_at s (slice_index order i)))
+  pub behind : (i : ℕ) → i < length order →
+      AllByRecursion (Stands order i) (bindings_in s (module_at s (slice_index order i)))
   pub number : (i : ℕ) → i < length order → slice_index order i < length s.modules
   pub few : length order ≤ length s.modules
 
 -- each module that is no stub has a place in the order
 abbrev pub HoldsAll : Source → List ℕ → Type 0
-HoldsAll s order = (k : ℕ) → k < length s.modules → is_stub s (module_at s k) ≡ false → (i : ℕ) × (i < length order) × (slice_index order i ≡ k)
+HoldsAll s order = (k : ℕ) → k < length s.modules → is_stub s (module_at s k) ≡ false → (i : ℕ) × (i < length order)
+    × (slice_index order i ≡ k)
 
 -- whether a module is marked
 abbrev pub mark_at : List Bool → ℕ → Bool

@@ -1,5 +1,6 @@
 -- What an instance connects to the pins of what it is of, pin by pin.
-use Rattle.std.specs.Prelude.{◌≡◌, ◌<◌, ℕ, true, false, List, [], length, slice_index, slice_index_or, position, bytes_eq}
+use Rattle.std.specs.Prelude.{◌≡◌, ◌<◌, ℕ, true, false, List, [], length, slice_index, slice_index_or, position}
+use Rattle.std.specs.Prelude.{bytes_eq}
 use Rattle.std.specs.Option.{option_map, option_to_list}
 use Rattle.mintc_netlist.specs.declared.module.Connection.{Connection}
 use Rattle.mintc_netlist.specs.declared.module.Item.{Item}
@@ -10,22 +11,27 @@ use Rattle.mintc_flatten_hierarchy.specs.Sources.{Source, binding_pins}
 use Rattle.mintc_flatten_binding.specs.declared.connection_index.ConnectionIndex.{ConnectionIndex}
 use Rattle.mintc_flatten_binding.specs.declared.connection_index.TheConstants.{FEW}
 
--- a pin of a binding by its number
+-- a pin that stands for those past the end of a list
 abbrev pub no_pin : Pin
 no_pin = pin_of [] false []
 
+-- a pin of a binding by its number
 abbrev pub pin_at : Source → Binding → ℕ → Pin
 pin_at s t number = slice_index_or (binding_pins s t) number no_pin
 
 -- the wiring of a pin by its number, if an expression is connected to it
 abbrev pub wiring_at : Item → Source → Binding → ℕ → List Wiring
-wiring_at i s t number = option_to_list (option_map (wiring_of (pin_at s t number)) (expression_at i number (pin_at s t number).name))
+wiring_at i s t number = option_to_list
+    (option_map (wiring_of (pin_at s t number)) (expression_at i number (pin_at s t number).name))
 
--- Each pin that connections name stands once among the names, and the number beside it is that of the first connection to it.
+-- Each pin that connections name stands once among the names, and the number beside it is that of the first
+-- connection to it.
 pub record IsConnected (names : List (List ℕ)) (numbers : List ℕ) (connections : List Connection) : Type 0 where
   pub each : length numbers ≡ length names
-  pub found : (name : List ℕ) → option_map (slice_index numbers) (position (bytes_eq name) names) ≡ position (is_to name) connections
+  pub found : (name : List ℕ) → option_map (slice_index numbers) (position (bytes_eq name) names)
+      ≡ position (is_to name) connections
 
+-- the same of the index as the code has it
 abbrev pub IsConnectedBy : ConnectionIndex → List Connection → Type 0
 IsConnectedBy c connections = IsConnected c.names c.numbers.items connections
 

@@ -1,45 +1,17 @@
 //! What instances are of.
-ghost use Rattle.std.specs.Prelude.{◌≡◌, ◌<◌, ◌^◌, ◌++◌, ◌∷◌, [], cond, length, slice_index, position, bytes_eq, option_map, IfOk, OnOk};
+ghost use Rattle.std.specs.Prelude.{◌≡◌, ◌<◌, ◌^◌, ◌++◌, ◌∷◌, [], cond, length, slice_index, position, bytes_eq};
+ghost use Rattle.std.specs.Prelude.{option_map, IfOk, OnOk};
 ghost use Rattle.mintc_text_names.specs.Names.{is_among, with_name};
 ghost use Rattle.mintc_flatten_binding.specs.Named.{IsIndex};
 
 use mintc_flatten_hierarchy::Binding;
 use mintc_netlist::Module;
-use mintc_text::OutOfMemory;
+use mintc_text::{Items, OutOfMemory};
 use mintc_text_names::NameSet;
 use std::alloc::Global;
-use std::marker::Model;
 
 /// Targets, seen as their list.
-#[derive(Drop)]
-pub struct BindingList {
-    items: Vec<Binding>,
-}
-
-impl Model for BindingList {
-    ghost use Rattle.std.specs.Prelude.{List};
-    ghost use Rattle.mintc_flatten_hierarchy.specs.declared.bindings.Binding.{Binding};
-
-    ghost Value = { List Binding };
-
-    ghost view = { λ l. l.items.items };
-}
-
-impl BindingList {
-    /// These bindings.
-    pub fn new(items: Vec<Binding>) -> BindingList
-        ensures { result ≡ items.items }
-    {
-        BindingList { items }
-    }
-
-    /// Their slice.
-    pub fn items(&self) -> &[Binding]
-        ensures { result.now ≡ self.now }
-    {
-        &self.items
-    }
-}
+pub type BindingList = Items<Binding>;
 
 /// The modules of a netlist by name.
 #[derive(Drop)]
@@ -71,7 +43,8 @@ impl ModuleIndex {
     /// The number of the first module of a name.
     pub(crate) fn find(&self, name: &[u8]) -> Option<u32>
         requires { length self.now.numbers.items ≡ length self.now.names }
-        ensures { result ≡ option_map (slice_index self.now.numbers.items) (position (bytes_eq name.now) self.now.names) }
+        ensures { result ≡ option_map (slice_index self.now.numbers.items)
+            (position (bytes_eq name.now) self.now.names) }
     {
         match self.names.find(name) {
             Some(place) => Some(self.numbers[place]),
@@ -89,12 +62,11 @@ fn note(
     number: u32,
 ) -> Result<(), OutOfMemory>
     ensures names { OnOk result (names.new ≡ with_name names.old name.now) }
-    ensures numbers { OnOk result (numbers.new.items ≡ cond (is_among name.now names.old) numbers.old.items (numbers.old.items ++ number ∷ [])) }
+    ensures numbers { OnOk result
+        (numbers.new.items ≡ cond (is_among name.now names.old) numbers.old.items (numbers.old.items ++ number ∷ [])) }
 {
     if names.add(alloc, name)? {
-        let Ok(()) = numbers.push(number) else {
-            return Err(OutOfMemory);
-        };
+        numbers.push(number)?;
     }
     Ok(())
 }

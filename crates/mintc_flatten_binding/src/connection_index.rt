@@ -1,5 +1,6 @@
 //! What an instance connects to each pin.
-ghost use Rattle.std.specs.Prelude.{◌≡◌, ◌<◌, ◌++◌, ◌∷◌, [], List, None, Some, slice_get, length, find, position, IfOk, OnOk, IfSome, MatchOption};
+ghost use Rattle.std.specs.Prelude.{◌≡◌, ◌<◌, ◌++◌, ◌∷◌, [], List, None, Some, slice_get, length, find, position, IfOk};
+ghost use Rattle.std.specs.Prelude.{OnOk, IfSome, MatchOption};
 ghost use Rattle.std.specs.Option.{option_and_then};
 ghost use Rattle.mintc_netlist.specs.declared.module.Connection.{Connection};
 ghost use Rattle.mintc_netlist.specs.Connections.{is_to, expression_at};
@@ -12,7 +13,8 @@ use std::alloc::Global;
 /// So many connections are rather looked through than kept by their names.
 const FEW: usize = 16;
 
-/// The connections of an instance by the names of their pins, where they are more than a few. Of connections in order nothing is kept.
+/// The connections of an instance by the names of their pins, where they are more than a few. Of connections in
+/// order nothing is kept.
 #[derive(Drop)]
 pub struct ConnectionIndex {
     names: NameSet,
@@ -39,16 +41,16 @@ impl ConnectionIndex {
         connection: &Connection,
         number: usize,
     ) -> Result<(), OutOfMemory>
-        ensures { OnOk result ((before : List Connection) → length before ≡ number → IsConnectedBy self.old before → IsConnectedBy self.new (before ++ connection.now ∷ [])) }
+        ensures { OnOk result ((before : List Connection) → length before ≡ number → IsConnectedBy self.old before →
+            IsConnectedBy self.new (before ++ connection.now ∷ [])) }
     {
         let Some(pin) = &connection.pin else {
             return Ok(());
         };
-        if self.names.add(alloc, pin.bytes())? {
-            let Ok(()) = self.numbers.push(number) else {
-                return Err(OutOfMemory);
-            };
+        if !self.names.add(alloc, pin.bytes())? {
+            return Ok(());
         }
+        self.numbers.push(number)?;
         Ok(())
     }
 
@@ -89,7 +91,8 @@ impl ConnectionIndex {
     /// The number of the first connection to a pin.
     fn find(&self, name: &[u8]) -> Option<usize>
         requires { length self.now.numbers.items ≡ length self.now.names }
-        ensures { (connections : List Connection) → IsConnectedBy self.now connections → result ≡ position (is_to name.now) connections }
+        ensures { (connections : List Connection) → IsConnectedBy self.now connections →
+            result ≡ position (is_to name.now) connections }
     {
         match self.names.find(name) {
             Some(place) => Some(self.numbers[place]),
@@ -100,8 +103,10 @@ impl ConnectionIndex {
     /// The expression that is connected to the pin of a name.
     fn named_expression<'a>(&self, connections: &'a [Connection], name: &[u8]) -> Option<&'a Expr>
         requires { FEW < length connections.now → IsConnectedBy self.now connections.now }
-        ensures { MatchOption result (option_and_then (λ (c : Connection). c.expr) (find (is_to name.now) connections.now) ≡ None)
-            (λ expr. option_and_then (λ (c : Connection). c.expr) (find (is_to name.now) connections.now) ≡ Some expr.now) }
+        ensures { MatchOption result
+            (option_and_then (λ (c : Connection). c.expr) (find (is_to name.now) connections.now) ≡ None)
+            (λ expr. option_and_then (λ (c : Connection). c.expr) (find (is_to name.now) connections.now)
+            ≡ Some expr.now) }
     {
         if connections.len() <= FEW {
             return look_through(connections, name);
@@ -115,7 +120,8 @@ impl ConnectionIndex {
     /// The expression that an item connects to the pin of a number and a name.
     pub fn expression<'a>(&self, item: &'a Item, number: usize, name: &[u8]) -> Option<&'a Expr>
         requires { IsOfItem self.now item.now }
-        ensures { MatchOption result (expression_at item.now number name.now ≡ None) (λ expr. expression_at item.now number name.now ≡ Some expr.now) }
+        ensures { MatchOption result (expression_at item.now number name.now ≡ None)
+            (λ expr. expression_at item.now number name.now ≡ Some expr.now) }
     {
         match item {
             Item::Instance {
@@ -146,7 +152,8 @@ fn is_to(name: &[u8], connection: &Connection) -> bool
 
 /// The expression of the first connection to the pin of a name.
 fn look_through<'a>(connections: &'a [Connection], name: &[u8]) -> Option<&'a Expr>
-    ensures { MatchOption result (option_and_then (λ (c : Connection). c.expr) (find (is_to name.now) connections.now) ≡ None)
+    ensures { MatchOption result (option_and_then (λ (c : Connection). c.expr) (find (is_to name.now) connections.now)
+        ≡ None)
         (λ expr. option_and_then (λ (c : Connection). c.expr) (find (is_to name.now) connections.now) ≡ Some expr.now) }
 {
     for (number, connection) in connections.iter().enumerate() {
@@ -159,7 +166,8 @@ fn look_through<'a>(connections: &'a [Connection], name: &[u8]) -> Option<&'a Ex
 
 /// The expression of the connection with a number.
 fn expression_of(connections: &[Connection], number: usize) -> Option<&Expr>
-    ensures { MatchOption result (option_and_then (λ (c : Connection). c.expr) (slice_get connections.now number) ≡ None)
+    ensures { MatchOption result (option_and_then (λ (c : Connection). c.expr) (slice_get connections.now number)
+        ≡ None)
         (λ expr. option_and_then (λ (c : Connection). c.expr) (slice_get connections.now number) ≡ Some expr.now) }
 {
     if connections.len() <= number {

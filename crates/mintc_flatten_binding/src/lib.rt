@@ -1,9 +1,9 @@
-//! What each instance of a netlist is of, before any rule is judged: a cell, a module or nothing, found once by name and kept
-//! as numbers.
+//! What each instance of a netlist is of, before any rule is judged: a cell, a module or nothing, found once by
+//! name and kept as numbers.
 //!
-//! With it go the nets of each module, an order in which each module stands behind those that it instantiates, and what an
-//! instance connects to each pin of what it is of, by name or in order. The rules that refuse a netlist and the walk that flattens it
-//! both read these tables, and so look no name up again.
+//! With it go the nets of each module, an order in which each module stands behind those that it instantiates, and
+//! what an instance connects to each pin of what it is of, by name or in order. The rules that refuse a netlist and
+//! the walk that flattens it both read these tables, and so look no name up again.
 #![tactic(auto)]
 
 mod bindings;

@@ -35,15 +35,9 @@ impl PostOrder {
         ensures { IfOk result (λ search. IsOrderingOf (source_of cells.now modules.now) search) }
     {
         let count = modules.len();
-        let Ok(places) = vec![in alloc; 0; count] else {
-            return Err(OutOfMemory);
-        };
-        let Ok(nexts) = vec![in alloc; 0; count] else {
-            return Err(OutOfMemory);
-        };
-        let Ok(seen) = vec![in alloc; false; count] else {
-            return Err(OutOfMemory);
-        };
+        let places = vec![in alloc; 0; count]?;
+        let nexts = vec![in alloc; 0; count]?;
+        let seen = vec![in alloc; false; count]?;
         Ok(PostOrder {
             order: Vec::new(alloc),
             places,
@@ -64,16 +58,12 @@ impl PostOrder {
         requires number { number < length modules.now }
         requires few { length modules.now < 2 ^ 32 }
         requires fresh { slice_index self.old.places.items number ≡ 0 }
-        requires passed { AllByRecursion (IsPlaced self.old.places.items) (bindings_in (source_of cells.now modules.now) (module_at (source_of cells.now modules.now) number)) }
+        requires passed { AllByRecursion (IsPlaced self.old.places.items)
+            (bindings_in (source_of cells.now modules.now) (module_at (source_of cells.now modules.now) number)) }
         ensures { OnOk result (IsOrderingOf (source_of cells.now modules.now) self.new) }
     {
-        let Ok(()) = self.order.push(number) else {
-            return Err(OutOfMemory);
-        };
-        let place = match u32::try_from(self.order.len()) {
-            Ok(place) => place,
-            Err(_) => return Err(OutOfMemory),
-        };
+        self.order.push(number)?;
+        let place = u32::try_from(self.order.len())?;
         self.places[number as usize] = place;
         Ok(())
     }
@@ -82,9 +72,14 @@ impl PostOrder {
     fn pass(&mut self, cells: &Cells, modules: &[Module], number: u32, binding: Binding)
         requires ordering { IsOrderingOf (source_of cells.now modules.now) self.old }
         requires number { number < length modules.now }
-        requires next { slice_index self.old.nexts.items number < length (bindings_in (source_of cells.now modules.now) (module_at (source_of cells.now modules.now) number)) }
-        requires binding { slice_index_or (bindings_in (source_of cells.now modules.now) (module_at (source_of cells.now modules.now) number)) (slice_index self.old.nexts.items number) binding ≡ binding }
-        requires small { length (bindings_in (source_of cells.now modules.now) (module_at (source_of cells.now modules.now) number)) < 2 ^ 64 }
+        requires next { slice_index self.old.nexts.items number < length
+            (bindings_in (source_of cells.now modules.now) (module_at (source_of cells.now modules.now) number)) }
+        requires binding { slice_index_or
+            (bindings_in (source_of cells.now modules.now) (module_at (source_of cells.now modules.now) number))
+            (slice_index self.old.nexts.items number) binding ≡ binding }
+        requires small { length
+            (bindings_in (source_of cells.now modules.now) (module_at (source_of cells.now modules.now) number)) < 2 ^
+            64 }
         requires placed { IsPlaced self.old.places.items binding }
         ensures { IsOrderingOf (source_of cells.now modules.now) self.new }
     {
@@ -103,10 +98,8 @@ impl PostOrder {
             return Err(OutOfMemory);
         }
         self.seen[at] = true;
-        match self.path.push(number) {
-            Ok(()) => Ok(()),
-            Err(_) => Err(OutOfMemory),
-        }
+        self.path.push(number)?;
+        Ok(())
     }
 
     /// Takes to the path what the next item of a module instantiates, or passes the item.
@@ -119,9 +112,14 @@ impl PostOrder {
     ) -> Result<(), OutOfMemory>
         requires ordering { IsOrderingOf (source_of cells.now modules.now) self.old }
         requires number { number < length modules.now }
-        requires next { slice_index self.old.nexts.items number < length (bindings_in (source_of cells.now modules.now) (module_at (source_of cells.now modules.now) number)) }
-        requires binding { slice_index_or (bindings_in (source_of cells.now modules.now) (module_at (source_of cells.now modules.now) number)) (slice_index self.old.nexts.items number) binding ≡ binding }
-        requires small { length (bindings_in (source_of cells.now modules.now) (module_at (source_of cells.now modules.now) number)) < 2 ^ 64 }
+        requires next { slice_index self.old.nexts.items number < length
+            (bindings_in (source_of cells.now modules.now) (module_at (source_of cells.now modules.now) number)) }
+        requires binding { slice_index_or
+            (bindings_in (source_of cells.now modules.now) (module_at (source_of cells.now modules.now) number))
+            (slice_index self.old.nexts.items number) binding ≡ binding }
+        requires small { length
+            (bindings_in (source_of cells.now modules.now) (module_at (source_of cells.now modules.now) number)) < 2 ^
+            64 }
         ensures { OnOk result (IsOrderingOf (source_of cells.now modules.now) self.new) }
     {
         match binding {
@@ -163,9 +161,7 @@ impl PostOrder {
         let list = bindings[number as usize].items();
         let next = self.nexts[number as usize];
         if next < list.len() {
-            let Ok(()) = self.path.push(number) else {
-                return Err(OutOfMemory);
-            };
+            self.path.push(number)?;
             self.look(cells, modules, number, list[next])?;
             return Ok(true);
         }

@@ -20,12 +20,10 @@ pub fn pin_count(cells: &Cells, modules: &[Module], binding: Binding) -> Result<
 {
     match binding {
         Binding::OfCell(cell) => Ok(cells.pin_count(cell)),
-        Binding::OfModule(number) => match u32::try_from(
-            modules[number as usize].ports.items().len(),
-        ) {
-            Ok(count) => Ok(count),
-            Err(_) => Err(OutOfMemory),
-        },
+        Binding::OfModule(number) => {
+            let ports = modules[number as usize].ports.items();
+            Ok(u32::try_from(ports.len())?)
+        }
         Binding::OfNothing => Ok(0),
     }
 }
@@ -78,13 +76,11 @@ pub fn push_pin(
 ) -> Result<(), OutOfMemory>
     requires there { IsThere (source_in source.now) binding }
     requires pin { number < length (binding_pins (source_in source.now) binding) }
-    ensures { OnOk result (places.new.items ≡ places.old.items ++ map Some (pin_at (source_in source.now) binding number).places) }
+    ensures { OnOk result (places.new.items ≡ places.old.items
+        ++ map Some (pin_at (source_in source.now) binding number).places) }
 {
     match binding {
-        Binding::OfCell(_) => match places.push(Some(u64::from(number))) {
-            Ok(()) => Ok(()),
-            Err(_) => Err(OutOfMemory),
-        },
+        Binding::OfCell(_) => Ok(places.push(Some(u64::from(number)))?),
         Binding::OfModule(module_nets) => {
             let part = &source.modules[module_nets as usize];
             let nets = &source.nets[module_nets as usize];

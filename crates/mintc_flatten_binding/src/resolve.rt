@@ -48,9 +48,7 @@ fn module_bindings(
 {
     let mut bindings = Vec::new(alloc);
     for item in module.items.items() {
-        let Ok(()) = bindings.push(item_binding(cells, modules, index, item)) else {
-            return Err(OutOfMemory);
-        };
+        bindings.push(item_binding(cells, modules, index, item))?;
     }
     Ok(BindingList::new(bindings))
 }
@@ -68,9 +66,7 @@ fn resolve(
     let mut bindings = Vec::new(alloc);
     for module in modules {
         let list = module_bindings(alloc, cells, modules, index, module)?;
-        let Ok(()) = bindings.push(list) else {
-            return Err(OutOfMemory);
-        };
+        bindings.push(list)?;
     }
     Ok(bindings)
 }

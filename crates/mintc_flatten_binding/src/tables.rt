@@ -32,9 +32,7 @@ pub fn find_nets(alloc: Global, modules: &[Module]) -> Result<Vec<Nets>, OutOfMe
     let mut tables = Vec::new(alloc);
     for module in modules {
         let nets = Nets::new(alloc, module)?;
-        let Ok(()) = tables.push(nets) else {
-            return Err(OutOfMemory);
-        };
+        tables.push(nets)?;
     }
     Ok(tables)
 }

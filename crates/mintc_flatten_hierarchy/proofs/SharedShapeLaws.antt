@@ -5,6 +5,7 @@ use Rattle.std.specs.Option.{option_map, option_or}
 use Rattle.std.proofs.lemmas.Bool.Decides.{nat_tests}
 use Rattle.std.proofs.lemmas.List.{length-map}
 use Rattle.std.proofs.lemmas.List.Elements.{All-nil, All-cons, All-head, All-tail, All-weaker, All-append, All-map, All-from_recursion}
+use Rattle.mintc_text.specs.Refusals.{over_limit}
 use Rattle.mintc_text.specs.declared.limits.TheConstants.{MOST_DEPTH, MOST_INNER, MOST_LEAVES, MOST_SCOPES, MOST_TOLD}
 use Rattle.mintc_text.specs.declared.refusals.Kind.{Kind}
 use Rattle.mintc_text.specs.declared.refusals.Kind.TheVariants as kind
@@ -32,7 +33,7 @@ use Rattle.mintc_flatten_hierarchy.specs.Sources.{Source, source_of, module_at, 
 use Rattle.mintc_flatten_hierarchy.specs.Faults.{is_misfit}
 use Rattle.mintc_flatten_hierarchy.specs.Walks.{Counts, counts, plus, size_of, Place, Step, walk, depth}
 use Rattle.mintc_flatten_hierarchy.specs.Hierarchies.{scope_in, leaf_in, net_of, nets_in, inner_in, numbers_of, join_of, joined, wiring_joins, joins_in, top_scope, top_port, hierarchy_of}
-use Rattle.mintc_flatten_hierarchy.specs.Refusals.{may_be_top, tops_of, over_limit, limit_refusal, name_twice_refusal, no_module_refusal, recursive_refusal, no_pin_refusal, width_refusal, two_drivers_refusal, statements_refusal, top_refusal, IsHierarchy}
+use Rattle.mintc_flatten_hierarchy.specs.Refusals.{may_be_top, tops_of, limit_refusal, name_twice_refusal, no_module_refusal, recursive_refusal, no_pin_refusal, width_refusal, two_drivers_refusal, statements_refusal, top_refusal, IsHierarchy}
 use Rattle.mintc_flatten_hierarchy.specs.Shape.{CellTable, IsLeaf, IsPort, IsInner, IsJoin, IsFlattened}
 use Rattle.mintc_flatten_hierarchy.proofs.PlacedLaws.{IsPlace, IsKnown, name_placed}
 use Rattle.mintc_flatten_hierarchy.proofs.SharedOrderedLaws.{AreInOrder, walk_in_order, IsWithin, all_within, IsPlacedStep, walk_placed}

@@ -16,6 +16,7 @@ use Rattle.mintc_flatten_hierarchy.specs.declared.hierarchy.TopPort.{TopPort}
 use Rattle.mintc_flatten_hierarchy.specs.Sources.{source_of}
 use Rattle.mintc_flatten_hierarchy.specs.Refusals.{IsHierarchy}
 
+-- cells, each by its name
 abbrev pub CellTable : Type 0
 CellTable = List (List ℕ × Cell)
 
@@ -57,7 +58,8 @@ pub record IsFlattened (cells : CellTable) (h : Hierarchy) : Type 0 where
 
 -- Some ordinary netlist has this hierarchy over these cells.
 abbrev pub IsGivenHierarchy : CellTable → Hierarchy → Type 0
-IsGivenHierarchy cells h = (netlist : Netlist) × (top : Option (List ℕ)) × IsOrdinary netlist × IsHierarchy (source_of cells netlist.modules) top h
+IsGivenHierarchy cells h = (netlist : Netlist) × (top : Option (List ℕ)) × IsOrdinary netlist
+    × IsHierarchy (source_of cells netlist.modules) top h
 
 -- Such a hierarchy is in shape.
 abbrev pub HierarchiesAreInShape : Type 0

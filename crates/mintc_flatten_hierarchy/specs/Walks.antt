@@ -1,4 +1,5 @@
--- The walk from the top down.
+-- The walk from the top down. Scopes, leaves and inner bits have their numbers by its order: each item of a scope in
+-- turn, and behind it all that stands inside it; a number is how many come before.
 use Rattle.std.specs.Prelude.{ℕ, zero, suc, ◌+◌, List, [], ◌∷◌, ◌++◌, length, max}
 use Rattle.mintc_netlist.specs.declared.module.Item.{Item}
 use Rattle.mintc_netlist.specs.declared.module.Module.{Module}
@@ -13,9 +14,11 @@ pub record Counts : Type 0 where
   pub leaves : ℕ
   pub inner : ℕ
 
+-- counts by their numbers
 abbrev pub counts : ℕ → ℕ → ℕ → Counts
 counts scopes leaves inner = record { scopes = scopes; leaves = leaves; inner = inner }
 
+-- two counts together
 abbrev pub plus : Counts → Counts → Counts
 plus a b = counts (a.scopes + b.scopes) (a.leaves + b.leaves) (a.inner + b.inner)
 
@@ -31,6 +34,7 @@ pub record Place : Type 0 where
   pub scope : ℕ
   pub first : ℕ
 
+-- a place by its parts
 abbrev pub place_at : Module → ℕ → ℕ → Place
 place_at module_nets scope first = record { module_nets = module_nets; scope = scope; first = first }
 
@@ -40,6 +44,7 @@ pub record Step : Type 0 where
   pub before : Counts
   pub item : Item
 
+-- a step by its parts
 abbrev pub step_at : Place → Counts → Item → Step
 step_at place before item = record { place = place; before = before; item = item }
 
@@ -48,22 +53,26 @@ abbrev pub total : Source → List Step → Counts
 total s [] = counts 0 0 0
 total s (step ∷ steps) = plus (size_of s (binding_in s step.item)) (total s steps)
 
+-- how many there are after some steps
 abbrev pub after : Source → Counts → List Step → Counts
 after s before steps = plus before (total s steps)
 
--- The steps of some items of a scope: each item, and then all that stands inside it.
+-- The steps of some items of a scope, where so many scopes, leaves and inner bits come before them: each item, and
+-- then all that stands inside it.
 abbrev pub steps_from : Source → (Counts → Item → List Step) → Place → Counts → List Item → List Step
 steps_from s inside place before [] = []
 steps_from s inside place before (i ∷ is) =
-    (step_at place before i ∷ inside before i) ++ steps_from s inside place (after s before (step_at place before i ∷ inside before i)) is
+    (step_at place before i ∷ inside before i)
+    ++ steps_from s inside place (after s before (step_at place before i ∷ inside before i)) is
 
 -- the steps inside an instance of a module
 abbrev pub steps_inside : Source → (Counts → Item → List Step) → Counts → Binding → List Step
 steps_inside s inside before (OfModule k) =
-    steps_from s inside (place_at (module_at s k) before.scopes before.inner) (plus before (size_of s (OfModule k))) (module_at s k).items
+    steps_from s inside (place_at (module_at s k) before.scopes before.inner) (plus before (size_of s (OfModule k)))
+    (module_at s k).items
 steps_inside s inside before _ = []
 
--- All that stands inside an item, so many instances deep.
+-- all that stands inside an item, to so many instances in one another
 abbrev pub inside : Source → ℕ → Counts → Item → List Step
 inside s zero before i = []
 inside s (suc deep) before i = steps_inside s (inside s deep) before (binding_in s i)
@@ -79,6 +88,7 @@ deepest depth (OfCell n ∷ ts) = deepest depth ts
 deepest depth (OfModule k ∷ ts) = max (depth k) (deepest depth ts)
 deepest depth (OfNothing ∷ ts) = deepest depth ts
 
+-- how many scopes stand in one another from a module on, within so many instantiations
 abbrev pub depth : Source → ℕ → ℕ → ℕ
 depth s zero k = 1
 depth s (suc deep) k = suc (deepest (depth s deep) (bindings_in s (module_at s k)))

@@ -1,10 +1,10 @@
 //! A hierarchy as data.
 //!
-//! Scopes, leaves, inner bits and joins are counted from 0, each in the order of the walk from the top down. The top is scope 0.
+//! Scopes, leaves, inner bits and joins are counted from 0, each in the order of the walk from the top down. The
+//! top is scope 0.
 ghost use Rattle.std.specs.Prelude.{◌≡◌};
 
-use mintc_text::{Name, Numbers};
-use std::marker::Model;
+use mintc_text::{Items, Name, Numbers};
 
 /// An instance of a module, or the top.
 #[derive(Drop)]
@@ -64,159 +64,19 @@ pub struct TopPort {
 }
 
 /// Scopes, seen as their list.
-#[derive(Drop)]
-pub struct ScopeList {
-    items: Vec<Scope>,
-}
-
-impl Model for ScopeList {
-    ghost use Rattle.std.specs.Prelude.{List};
-    ghost use Rattle.mintc_flatten_hierarchy.specs.declared.hierarchy.Scope.{Scope};
-
-    ghost Value = { List Scope };
-
-    ghost view = { λ l. l.items.items };
-}
-
-impl ScopeList {
-    /// These items.
-    pub fn new(items: Vec<Scope>) -> ScopeList
-        ensures { result ≡ items.items }
-    {
-        ScopeList { items }
-    }
-
-    /// Their slice.
-    pub fn items(&self) -> &[Scope]
-        ensures { result.now ≡ self.now }
-    {
-        &self.items
-    }
-}
+pub type ScopeList = Items<Scope>;
 
 /// Leaves, seen as their list.
-#[derive(Drop)]
-pub struct LeafList {
-    items: Vec<Leaf>,
-}
-
-impl Model for LeafList {
-    ghost use Rattle.std.specs.Prelude.{List};
-    ghost use Rattle.mintc_flatten_hierarchy.specs.declared.hierarchy.Leaf.{Leaf};
-
-    ghost Value = { List Leaf };
-
-    ghost view = { λ l. l.items.items };
-}
-
-impl LeafList {
-    /// These items.
-    pub fn new(items: Vec<Leaf>) -> LeafList
-        ensures { result ≡ items.items }
-    {
-        LeafList { items }
-    }
-
-    /// Their slice.
-    pub fn items(&self) -> &[Leaf]
-        ensures { result.now ≡ self.now }
-    {
-        &self.items
-    }
-}
+pub type LeafList = Items<Leaf>;
 
 /// Inner bits, seen as their list.
-#[derive(Drop)]
-pub struct InnerList {
-    items: Vec<Inner>,
-}
-
-impl Model for InnerList {
-    ghost use Rattle.std.specs.Prelude.{List};
-    ghost use Rattle.mintc_flatten_hierarchy.specs.declared.hierarchy.Inner.{Inner};
-
-    ghost Value = { List Inner };
-
-    ghost view = { λ l. l.items.items };
-}
-
-impl InnerList {
-    /// These items.
-    pub fn new(items: Vec<Inner>) -> InnerList
-        ensures { result ≡ items.items }
-    {
-        InnerList { items }
-    }
-
-    /// Their slice.
-    pub fn items(&self) -> &[Inner]
-        ensures { result.now ≡ self.now }
-    {
-        &self.items
-    }
-}
+pub type InnerList = Items<Inner>;
 
 /// Joins, seen as their list.
-#[derive(Drop)]
-pub struct JoinList {
-    items: Vec<Join>,
-}
-
-impl Model for JoinList {
-    ghost use Rattle.std.specs.Prelude.{List};
-    ghost use Rattle.mintc_flatten_hierarchy.specs.declared.hierarchy.Join.{Join};
-
-    ghost Value = { List Join };
-
-    ghost view = { λ l. l.items.items };
-}
-
-impl JoinList {
-    /// These items.
-    pub fn new(items: Vec<Join>) -> JoinList
-        ensures { result ≡ items.items }
-    {
-        JoinList { items }
-    }
-
-    /// Their slice.
-    pub fn items(&self) -> &[Join]
-        ensures { result.now ≡ self.now }
-    {
-        &self.items
-    }
-}
+pub type JoinList = Items<Join>;
 
 /// Ports, seen as their list.
-#[derive(Drop)]
-pub struct TopPortList {
-    items: Vec<TopPort>,
-}
-
-impl Model for TopPortList {
-    ghost use Rattle.std.specs.Prelude.{List};
-    ghost use Rattle.mintc_flatten_hierarchy.specs.declared.hierarchy.TopPort.{TopPort};
-
-    ghost Value = { List TopPort };
-
-    ghost view = { λ l. l.items.items };
-}
-
-impl TopPortList {
-    /// These items.
-    pub fn new(items: Vec<TopPort>) -> TopPortList
-        ensures { result ≡ items.items }
-    {
-        TopPortList { items }
-    }
-
-    /// Their slice.
-    pub fn items(&self) -> &[TopPort]
-        ensures { result.now ≡ self.now }
-    {
-        &self.items
-    }
-}
+pub type TopPortList = Items<TopPort>;
 
 /// What a netlist is from its top down.
 #[derive(Drop)]

@@ -2,7 +2,8 @@
 ghost use Rattle.mintc_flatten_hierarchy.specs.Driven.{BitsHaveOneDriver, OutputsHaveNoDriver};
 ghost use Rattle.mintc_flatten_hierarchy.specs.Shape.{HierarchiesAreInShape};
 
-/// Whatever a hierarchy of an ordinary netlist names is there, each scope comes after its parent, and the limits are kept.
+/// Whatever a hierarchy of an ordinary netlist names is there, each scope comes after its parent, and the limits
+/// are kept.
 pub fn hierarchies_are_in_shape()
     ensures { HierarchiesAreInShape }
 {}

@@ -12,7 +12,8 @@ use Rattle.mintc_netlist.specs.Connections.{Pin, expression_at, places_in}
 abbrev pub HasSame : List ℕ → List ℕ → Type 0
 HasSame xs ys = (place : ℕ) → list_any (nat_eq place) xs ≡ list_any (nat_eq place) ys
 
--- Places are driven, after those of `old`: whether one is driven again is known, and where none is, those of `new` are driven then.
+-- Places are driven, after those of `old`: whether one is driven again is known, and where none is, those of `new`
+-- are driven then.
 pub record Drives (old new places : List ℕ) (found : Bool) : Type 0 where
   pub again : found ≡ comes_again nat_eq old places
   pub marked : found ≡ false → HasSame new (old ++ places)
@@ -29,6 +30,7 @@ port_drives m name = cond (is_output m name) [] (map (place_of m) (bits_of name 
 abbrev pub pin_drives : Module → Item → ℕ → Pin → List ℕ
 pin_drives m i number p = cond p.output (option_map_or (places_in m) (expression_at i number p.name) []) []
 
+-- what an item drives at these pins, the first of which has a number
 abbrev pub drives_from : Module → Item → ℕ → List Pin → List ℕ
 drives_from m i number [] = []
 drives_from m i number (p ∷ ps) = pin_drives m i number p ++ drives_from m i (number + 1) ps

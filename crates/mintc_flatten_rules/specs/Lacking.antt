@@ -19,6 +19,7 @@ name_set names = fold with_name [] names
 abbrev pub port_set : Module → List (List ℕ)
 port_set m = name_set m.ports
 
+-- the names that the items of a module declare as ports
 abbrev pub declared_set : Module → List (List ℕ)
 declared_set m = name_set (flat_map port_names m.items)
 

@@ -1,5 +1,6 @@
 -- A search from a module along instantiations for a module of a name.
-use Rattle.std.specs.Prelude.{◌≡◌, ◌<◌, ◌≤◌, ◌+◌, ℕ, Bool, true, false, cond, List, [], ◌∷◌, ◌++◌, length, fold, slice_index, slice_set, IfSome}
+use Rattle.std.specs.Prelude.{◌≡◌, ◌<◌, ◌≤◌, ◌+◌, ℕ, Bool, true, false, cond, List, [], ◌∷◌, ◌++◌, length, fold}
+use Rattle.std.specs.Prelude.{slice_index, slice_set, IfSome}
 use Rattle.std.specs.List.{AllByRecursion}
 use Rattle.std.specs.Option.{option_map_or}
 use Rattle.mintc_flatten_hierarchy.specs.declared.bindings.Binding.{Binding}
@@ -16,9 +17,11 @@ pub record Found : Type 0 where
 abbrev pub with_module : Found → ℕ → Found
 with_module f k = cond (mark_at f.seen k) f (record { visited = f.visited ++ k ∷ []; seen = slice_set f.seen k true })
 
+-- what a binding instantiates, if anything
 abbrev pub with_binding : Found → Binding → Found
 with_binding f t = option_map_or (with_module f) (scope_number t) f
 
+-- what some bindings instantiate
 abbrev pub with_bindings : Found → List Binding → Found
 with_bindings f ts = fold with_binding f ts
 
@@ -30,8 +33,8 @@ IsMarked seen t = IfSome (scope_number t) (λ k. mark_at seen k ≡ true)
 abbrev pub IsBehind : Source → List ℕ → ℕ → ℕ → ℕ → Type 0
 IsBehind s name start more k = (most : ℕ) → leads s most name k ≡ true → leads s (most + more) name start ≡ true
 
--- The modules that are found begin with the start; each is at most as many instantiations behind it as its place says; and what is marked
--- is found.
+-- The modules that are found begin with the start; each is at most as many instantiations behind it as its place
+-- says; and what is marked is found.
 pub record IsFound (s : Source) (name : List ℕ) (start : ℕ) (f : Found) : Type 0 where
   pub each : length f.seen ≡ length s.modules
   pub within : (i : ℕ) → i < length f.visited → slice_index f.visited i < length s.modules
@@ -44,4 +47,5 @@ pub record IsFound (s : Source) (name : List ℕ) (start : ℕ) (f : Found) : Ty
 pub record ArePassed (s : Source) (name : List ℕ) (f : Found) (n : ℕ) : Type 0 where
   pub most : n ≤ length f.visited
   pub other : (i : ℕ) → i < n → is_called name (module_at s (slice_index f.visited i)) ≡ false
-  pub bindings : (i : ℕ) → i < n → AllByRecursion (IsMarked f.seen) (bindings_in s (module_at s (slice_index f.visited i)))
+  pub bindings : (i : ℕ) → i < n →
+      AllByRecursion (IsMarked f.seen) (bindings_in s (module_at s (slice_index f.visited i)))

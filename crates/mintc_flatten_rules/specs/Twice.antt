@@ -24,6 +24,7 @@ abbrev pub AddsPin : List (List ℕ) → List (List ℕ) → Option (List ℕ) �
 AddsPin old new None fresh = (fresh ≡ true) × (new ≡ old)
 AddsPin old new (Some pin) fresh = (fresh ≡ not (is_among pin old)) × (new ≡ with_name old pin)
 
+-- the same of the names as the code has them
 abbrev pub IsSeenBy : Seen → List Item → Type 0
 IsSeenBy seen before = IsSeen seen.ports seen.nets seen.instances before
 
@@ -33,7 +34,8 @@ gives_item before i = gives_again (statement_of [] no_module before None) (Some 
 
 -- the first statement of a module that gives a name again, where the modules before it have these names
 abbrev pub first_again : List (List ℕ) → Module → Option ℕ
-first_again names m = cond (is_among m.name names || comes_again bytes_eq [] m.ports) (Some m.entry) (first_after is_name_twice m [] m.items)
+first_again names m = cond (is_among m.name names || comes_again bytes_eq [] m.ports) (Some m.entry)
+    (first_after is_name_twice m [] m.items)
 
 -- the same among some modules after modules of these names
 abbrev pub first_again_of : List (List ℕ) → List Module → Option ℕ

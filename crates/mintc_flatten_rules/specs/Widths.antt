@@ -16,6 +16,7 @@ use Rattle.mintc_flatten_rules.specs.declared.widths.Declared.{Declared}
 abbrev pub is_other : Option Span → Declaration → Bool
 is_other span d = not (option_eq span_eq span d.span)
 
+-- whether a name is among declarations, with another range
 abbrev pub differs : List (List ℕ × Declaration) → Option Span → List ℕ → Bool
 differs ds span name = option_map_or (is_other span) (look name ds) false
 
@@ -24,6 +25,7 @@ pub record IsDeclared (of_ports of_nets : List (List ℕ × Declaration)) (befor
   pub ports : of_ports ≡ fold with_declaration [] (flat_map port_declarations before)
   pub nets : of_nets ≡ fold with_declaration [] (flat_map net_declarations before)
 
+-- the same of the declarations as the code has them
 abbrev pub IsDeclaredBy : Declared → List Item → Type 0
 IsDeclaredBy d before = IsDeclared d.ports d.nets before
 

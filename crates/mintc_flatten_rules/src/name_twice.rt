@@ -103,8 +103,11 @@ impl Seen {
         name: &Name,
         connections: &[Connection],
     ) -> Result<bool, OutOfMemory>
-        ensures again { IfOk result (λ again. again ≡ (is_among name.now self.old.instances || comes_again bytes_eq [] (named_pins connections.now))) }
-        ensures instances { IfOk result (λ again. again ≡ false → self.new.instances ≡ self.old.instances ++ name.now ∷ []) }
+        ensures again { IfOk result
+            (λ again. again ≡ (is_among name.now self.old.instances
+            || comes_again bytes_eq [] (named_pins connections.now))) }
+        ensures instances { IfOk result (λ again. again ≡ false →
+            self.new.instances ≡ self.old.instances ++ name.now ∷ []) }
         ensures ports { self.new.ports ≡ self.old.ports }
         ensures nets { self.new.nets ≡ self.old.nets }
     {
@@ -116,8 +119,10 @@ impl Seen {
 
     /// Takes in the names that an item gives, and says whether it gives one again.
     pub(crate) fn again(&mut self, alloc: Global, item: &Item) -> Result<bool, OutOfMemory>
-        ensures again { IfOk result (λ again. (before : List Item) → IsSeenBy self.old before → again ≡ gives_item before item.now) }
-        ensures seen { IfOk result (λ again. (before : List Item) → IsSeenBy self.old before → again ≡ false → IsSeenBy self.new (before ++ item.now ∷ [])) }
+        ensures again { IfOk result (λ again. (before : List Item) → IsSeenBy self.old before →
+            again ≡ gives_item before item.now) }
+        ensures seen { IfOk result (λ again. (before : List Item) → IsSeenBy self.old before → again ≡ false →
+            IsSeenBy self.new (before ++ item.now ∷ [])) }
     {
         match item {
             Item::Port { names, .. } => self.ports_again(alloc, names.items()),
@@ -163,7 +168,8 @@ fn comes_twice(alloc: Global, names: &[Name]) -> Result<bool, OutOfMemory>
 
 /// Takes in the name of a module, and says whether it was there or a name comes twice in the port list.
 fn module_again(alloc: Global, names: &mut NameSet, part: &Module) -> Result<bool, OutOfMemory>
-    ensures again { IfOk result (λ again. again ≡ (is_among part.now.name names.old || comes_again bytes_eq [] part.now.ports)) }
+    ensures again { IfOk result
+        (λ again. again ≡ (is_among part.now.name names.old || comes_again bytes_eq [] part.now.ports)) }
     ensures names { IfOk result (λ again. again ≡ false → names.new ≡ names.old ++ part.now.name ∷ []) }
 {
     if !names.add(alloc, part.name.bytes())? {
@@ -172,7 +178,8 @@ fn module_again(alloc: Global, names: &mut NameSet, part: &Module) -> Result<boo
     comes_twice(alloc, part.ports.items())
 }
 
-/// The first statement of a module that gives a name again, where the modules before it have these names. Takes in its name.
+/// The first statement of a module that gives a name again, where the modules before it have these names. Takes in
+/// its name.
 fn first_in_module(
     alloc: Global,
     names: &mut NameSet,

@@ -43,7 +43,8 @@ pub(crate) fn first_missing(
 /// The first instance of nothing.
 pub(crate) fn no_module(cells: &Cells, modules: &[Module], bindings: &[BindingList]) -> Option<u32>
     requires { bindings.now ≡ map (bindings_in (source_of cells.now modules.now)) modules.now }
-    ensures { result ≡ first_at_fault (is_no_module (source_of cells.now modules.now)) (modules_of (source_of cells.now modules.now)) }
+    ensures { result ≡ first_at_fault (is_no_module (source_of cells.now modules.now))
+        (modules_of (source_of cells.now modules.now)) }
 {
     for (number, module) in modules.iter().enumerate() {
         if cells.find(module.name.bytes()).is_some() {

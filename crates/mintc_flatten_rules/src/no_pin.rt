@@ -11,7 +11,8 @@ ghost use Rattle.mintc_netlist.specs.Statements.{statement_of, first_at_fault};
 ghost use Rattle.mintc_flatten_hierarchy.specs.Sources.{source_of, binding_in, bindings_in, modules_of};
 ghost use Rattle.mintc_flatten_hierarchy.specs.Faults.{misses, is_no_pin};
 ghost use Rattle.mintc_flatten_rules.specs.Firsts.{first_in, first_after};
-ghost use Rattle.mintc_flatten_rules.specs.Lacking.{name_set, port_set, declared_set, lacks_any, is_pin, takes_fewer, lacks_item};
+ghost use Rattle.mintc_flatten_rules.specs.Lacking.{name_set, port_set, declared_set, lacks_any, is_pin, takes_fewer};
+ghost use Rattle.mintc_flatten_rules.specs.Lacking.{lacks_item};
 ghost use Rattle.mintc_flatten_binding.specs.Orders.{IsThere};
 
 use mintc_cells::Cells;
@@ -69,9 +70,7 @@ fn port_sets(alloc: Global, modules: &[Module]) -> Result<Vec<NameSet>, OutOfMem
     let mut sets = Vec::new(alloc);
     for part in modules {
         let set = port_set(alloc, part)?;
-        let Ok(()) = sets.push(set) else {
-            return Err(OutOfMemory);
-        };
+        sets.push(set)?;
     }
     Ok(sets)
 }
@@ -116,57 +115,49 @@ fn is_cell_pin(cells: &Cells, cell: u32, name: &[u8]) -> bool
     false
 }
 
+/// The cells and the modules of a netlist, with the names of each module's port list.
+#[derive(Clone, Copy)]
+struct PortNames<'a> {
+    cells: &'a Cells,
+    modules: &'a [Module],
+    ports: &'a [NameSet],
+    ghost are_of: { ports.now ≡ map port_set modules.now },
+}
+
 /// Whether what an item is an instance of has a pin of a name.
-fn is_pin(
-    cells: &Cells,
-    modules: &[Module],
-    ports: &[NameSet],
-    binding: Binding,
-    name: &[u8],
-) -> bool
-    requires ports { ports.now ≡ map port_set modules.now }
-    requires there { IsThere (source_of cells.now modules.now) binding }
-    ensures { result ≡ is_pin (source_of cells.now modules.now) binding name.now }
+fn is_pin(netlist: &PortNames<'_>, binding: Binding, name: &[u8]) -> bool
+    requires { IsThere (source_of netlist.now.cells.now netlist.now.modules.now) binding }
+    ensures { result ≡ is_pin (source_of netlist.now.cells.now netlist.now.modules.now) binding name.now }
 {
     match binding {
-        Binding::OfCell(number) => is_cell_pin(cells, number, name),
-        Binding::OfModule(number) => has(&ports[number as usize], name),
+        Binding::OfCell(number) => is_cell_pin(netlist.cells, number, name),
+        Binding::OfModule(number) => has(&netlist.ports[number as usize], name),
         Binding::OfNothing => false,
     }
 }
 
 /// Whether a connection names a pin that isn't there.
-fn names_none(
-    cells: &Cells,
-    modules: &[Module],
-    ports: &[NameSet],
-    binding: Binding,
-    connection: &Connection,
-) -> bool
-    requires ports { ports.now ≡ map port_set modules.now }
-    requires there { IsThere (source_of cells.now modules.now) binding }
-    ensures { result ≡ option_map_or (λ name. not (is_pin (source_of cells.now modules.now) binding name)) connection.now.pin false }
+fn names_none(netlist: &PortNames<'_>, binding: Binding, connection: &Connection) -> bool
+    requires { IsThere (source_of netlist.now.cells.now netlist.now.modules.now) binding }
+    ensures { result ≡ option_map_or
+        (λ name. not (is_pin (source_of netlist.now.cells.now netlist.now.modules.now) binding name))
+        connection.now.pin false }
 {
     match &connection.pin {
-        Some(name) => !is_pin(cells, modules, ports, binding, name.bytes()),
+        Some(name) => !is_pin(netlist, binding, name.bytes()),
         None => false,
     }
 }
 
 /// Whether some connection names a pin that isn't there.
-fn names_missing(
-    cells: &Cells,
-    modules: &[Module],
-    ports: &[NameSet],
-    binding: Binding,
-    connections: &[Connection],
-) -> bool
-    requires ports { ports.now ≡ map port_set modules.now }
-    requires there { IsThere (source_of cells.now modules.now) binding }
-    ensures { result ≡ list_any (λ name. not (is_pin (source_of cells.now modules.now) binding name)) (named_pins connections.now) }
+fn names_missing(netlist: &PortNames<'_>, binding: Binding, connections: &[Connection]) -> bool
+    requires { IsThere (source_of netlist.now.cells.now netlist.now.modules.now) binding }
+    ensures { result ≡ list_any
+        (λ name. not (is_pin (source_of netlist.now.cells.now netlist.now.modules.now) binding name))
+        (named_pins connections.now) }
 {
     for connection in connections {
-        if names_none(cells, modules, ports, binding, connection) {
+        if names_none(netlist, binding, connection) {
             return true;
         }
     }
@@ -186,19 +177,16 @@ fn takes_fewer(cells: &Cells, modules: &[Module], binding: Binding, count: usize
 
 /// Whether an item of a module lacks a port or pin.
 fn lacks(
-    cells: &Cells,
-    modules: &[Module],
-    ports: &[NameSet],
+    netlist: &PortNames<'_>,
     part: &Module,
     own: &NameSet,
     item: &Item,
     binding: Binding,
 ) -> bool
-    requires ports { ports.now ≡ map port_set modules.now }
     requires own { own.now ≡ port_set part.now }
-    requires binding { binding ≡ binding_in (source_of cells.now modules.now) item.now }
-    requires there { IsThere (source_of cells.now modules.now) binding }
-    ensures { result ≡ lacks_item (source_of cells.now modules.now) part.now item.now }
+    requires binding { binding ≡ binding_in (source_of netlist.now.cells.now netlist.now.modules.now) item.now }
+    requires there { IsThere (source_of netlist.now.cells.now netlist.now.modules.now) binding }
+    ensures { result ≡ lacks_item (source_of netlist.now.cells.now netlist.now.modules.now) part.now item.now }
 {
     match item {
         Item::Port { names, .. } => lacks_any(own, names.items()),
@@ -207,10 +195,11 @@ fn lacks(
             connections,
             ..
         } => {
+            let connections = connections.items();
             if *by_name {
-                names_missing(cells, modules, ports, binding, connections.items())
+                names_missing(netlist, binding, connections)
             } else {
-                takes_fewer(cells, modules, binding, connections.items().len())
+                takes_fewer(netlist.cells, netlist.modules, binding, connections.len())
             }
         }
         _ => false,
@@ -219,21 +208,20 @@ fn lacks(
 
 /// The first item of a module that lacks a port or pin.
 fn first_lacking(
-    cells: &Cells,
-    modules: &[Module],
-    ports: &[NameSet],
+    netlist: &PortNames<'_>,
     part: &Module,
     own: &NameSet,
     bindings: &[Binding],
 ) -> Option<u32>
-    requires ports { ports.now ≡ map port_set modules.now }
     requires own { own.now ≡ port_set part.now }
-    requires bindings { bindings.now ≡ bindings_in (source_of cells.now modules.now) part.now }
-    ensures { result ≡ first_after (is_no_pin (source_of cells.now modules.now)) part.now [] part.now.items }
+    requires bindings { bindings.now ≡
+        bindings_in (source_of netlist.now.cells.now netlist.now.modules.now) part.now }
+    ensures { result ≡ first_after (is_no_pin (source_of netlist.now.cells.now netlist.now.modules.now))
+        part.now [] part.now.items }
 {
     let items = part.items.items();
     for (number, item) in items.iter().enumerate() {
-        if lacks(cells, modules, ports, part, own, item, bindings[number]) {
+        if lacks(netlist, part, own, item, bindings[number]) {
             return Some(entry(item));
         }
     }
@@ -243,22 +231,21 @@ fn first_lacking(
 /// The first statement of a module that lacks a port or pin: its own, or that of one of its items.
 fn first_in_module(
     alloc: Global,
-    cells: &Cells,
-    modules: &[Module],
-    ports: &[NameSet],
+    netlist: &PortNames<'_>,
     part: &Module,
     own: &NameSet,
     bindings: &[Binding],
 ) -> Result<Option<u32>, OutOfMemory>
-    requires ports { ports.now ≡ map port_set modules.now }
     requires own { own.now ≡ port_set part.now }
-    requires bindings { bindings.now ≡ bindings_in (source_of cells.now modules.now) part.now }
-    ensures { IfOk result (λ first. first ≡ first_in (is_no_pin (source_of cells.now modules.now)) part.now) }
+    requires bindings { bindings.now ≡
+        bindings_in (source_of netlist.now.cells.now netlist.now.modules.now) part.now }
+    ensures { IfOk result
+        (λ first. first ≡ first_in (is_no_pin (source_of netlist.now.cells.now netlist.now.modules.now)) part.now) }
 {
     if lacks_direction(alloc, part)? {
         return Ok(Some(part.entry));
     }
-    Ok(first_lacking(cells, modules, ports, part, own, bindings))
+    Ok(first_lacking(netlist, part, own, bindings))
 }
 
 /// The first statement that names a port or pin that isn't there.
@@ -269,22 +256,23 @@ pub(crate) fn no_pin(
     bindings: &[BindingList],
 ) -> Result<Option<u32>, OutOfMemory>
     requires { bindings.now ≡ map (bindings_in (source_of cells.now modules.now)) modules.now }
-    ensures { IfOk result (λ entry. entry ≡ first_at_fault (is_no_pin (source_of cells.now modules.now)) (modules_of (source_of cells.now modules.now))) }
+    ensures { IfOk result
+        (λ entry. entry ≡ first_at_fault (is_no_pin (source_of cells.now modules.now))
+        (modules_of (source_of cells.now modules.now))) }
 {
     let ports = port_sets(alloc, modules)?;
+    let netlist = PortNames {
+        cells,
+        modules,
+        ports: &ports,
+    };
     for (number, part) in modules.iter().enumerate() {
         if cells.find(part.name.bytes()).is_some() {
             continue;
         }
-        let first = first_in_module(
-            alloc,
-            cells,
-            modules,
-            &ports,
-            part,
-            &ports[number],
-            bindings[number].items(),
-        )?;
+        let own = &ports[number];
+        let list = bindings[number].items();
+        let first = first_in_module(alloc, &netlist, part, own, list)?;
         if first.is_some() {
             return Ok(first);
         }

@@ -1,14 +1,14 @@
 //! Instances on closed chains of instantiations.
-ghost use Rattle.std.specs.Prelude.{◌≡◌, ◌<◌, ◌^◌, [], None, Some, length, map, replicate, slice_index, false, IfOk, OnOk};
+ghost use Rattle.std.specs.Prelude.{◌≡◌, ◌<◌, ◌^◌, [], None, Some, length, map, replicate, slice_index, false, IfOk};
+ghost use Rattle.std.specs.Prelude.{OnOk};
 ghost use Rattle.mintc_netlist.specs.Statements.{statement_of, first_at_fault};
 ghost use Rattle.mintc_flatten_hierarchy.specs.Sources.{source_of, bindings_in, binding_in, modules_of};
 ghost use Rattle.mintc_flatten_hierarchy.specs.Faults.{leads, leads_back, is_recursive};
-ghost use Rattle.mintc_flatten_hierarchy.specs.Refusals.{name_twice_refusal};
 ghost use Rattle.mintc_flatten_rules.specs.Firsts.{first_in};
 ghost use Rattle.mintc_flatten_rules.specs.Searching.{with_module, with_binding, with_bindings};
 
 use mintc_cells::Cells;
-use mintc_flatten_binding::{BindingList, modules_in_order};
+use mintc_flatten_binding::BindingList;
 use mintc_flatten_hierarchy::Binding;
 use mintc_netlist::{Module, entry};
 use mintc_text::OutOfMemory;
@@ -38,9 +38,7 @@ impl Search {
         ensures visited { IfOk result (λ search. search.visited ≡ []) }
         ensures seen { IfOk result (λ search. search.seen ≡ replicate count false) }
     {
-        let Ok(seen) = vec![in alloc; false; count] else {
-            return Err(OutOfMemory);
-        };
+        let seen = vec![in alloc; false; count]?;
         Ok(Search {
             visited: Vec::new(alloc),
             seen,
@@ -74,9 +72,7 @@ impl Search {
         if self.seen[at] {
             return Ok(());
         }
-        let Ok(()) = self.visited.push(number) else {
-            return Err(OutOfMemory);
-        };
+        self.visited.push(number)?;
         self.seen[at] = true;
         Ok(())
     }
@@ -86,10 +82,7 @@ impl Search {
         ensures { OnOk result (self.new ≡ with_binding self.old binding) }
     {
         match binding {
-            Binding::OfModule(number) => {
-                self.visit(number)?;
-                Ok(())
-            }
+            Binding::OfModule(number) => self.visit(number),
             _ => Ok(()),
         }
     }
@@ -149,15 +142,8 @@ fn leads_back(
 {
     match binding {
         Binding::OfModule(number) => {
-            let found = leads(
-                alloc,
-                cells,
-                modules,
-                bindings,
-                module_nets.name.bytes(),
-                number,
-            )?;
-            Ok(found)
+            let name = module_nets.name.bytes();
+            leads(alloc, cells, modules, bindings, name, number)
         }
         _ => Ok(false),
     }
@@ -185,15 +171,17 @@ fn first_leading(
     Ok(None)
 }
 
-/// The first instance on a closed chain of instantiations, by a search from each instance.
-fn search_all(
+/// The first instance on a closed chain of instantiations, by a search from each instance. So it takes long, and
+/// is for modules that have no order.
+pub(crate) fn search_all(
     alloc: Global,
     cells: &Cells,
     modules: &[Module],
     bindings: &[BindingList],
 ) -> Result<Option<u32>, OutOfMemory>
     requires { bindings.now ≡ map (bindings_in (source_of cells.now modules.now)) modules.now }
-    ensures { IfOk result (λ entry. entry ≡ first_at_fault (is_recursive (source_of cells.now modules.now)) (modules_of (source_of cells.now modules.now))) }
+    ensures { IfOk result (λ entry. entry ≡ first_at_fault (is_recursive (source_of cells.now modules.now))
+        (modules_of (source_of cells.now modules.now))) }
 {
     for (number, module_nets) in modules.iter().enumerate() {
         if cells.find(module_nets.name.bytes()).is_some() {
@@ -212,23 +200,4 @@ fn search_all(
         }
     }
     Ok(None)
-}
-
-/// The first instance on a closed chain of instantiations. Where the modules have an order in which each stands behind those that it
-/// instantiates, there is none.
-pub(crate) fn recursive(
-    alloc: Global,
-    cells: &Cells,
-    modules: &[Module],
-    bindings: &[BindingList],
-) -> Result<Option<u32>, OutOfMemory>
-    requires few { length modules.now < 2 ^ 32 }
-    requires names { name_twice_refusal (source_of cells.now modules.now) ≡ None }
-    requires bindings { bindings.now ≡ map (bindings_in (source_of cells.now modules.now)) modules.now }
-    ensures { IfOk result (λ entry. entry ≡ first_at_fault (is_recursive (source_of cells.now modules.now)) (modules_of (source_of cells.now modules.now))) }
-{
-    if let Ok(_order) = modules_in_order(alloc, cells, modules, bindings) {
-        return Ok(None);
-    }
-    search_all(alloc, cells, modules, bindings)
 }

@@ -12,6 +12,7 @@ ghost use Rattle.mintc_flatten_binding.specs.NetsOfModules.{source_in};
 ghost use Rattle.mintc_flatten_binding.specs.Orders.{IsThere};
 ghost use Rattle.mintc_flatten_binding.specs.Wired.{pin_at, IsOfItem};
 
+use crate::site::Site;
 use indexmap::IndexSet;
 use mintc_flatten_binding::{
     BindingList, ConnectionIndex, Instance, ModuleNets, Source, is_output, pin_count, pin_name,
@@ -55,10 +56,8 @@ impl Driven {
         let Some(place) = place else {
             return Ok(false);
         };
-        match self.places.insert(place) {
-            Ok(added) => Ok(!added),
-            Err(_) => Err(OutOfMemory),
-        }
+        let added = self.places.insert(place)?;
+        Ok(!added)
     }
 
     /// Takes in places up to the first that was there or comes twice, and says whether there is one.
@@ -83,8 +82,8 @@ impl Driven {
         Ok(())
     }
 
-    /// Drives the bits of a piece, whose places are written to `room` first, up to the first that is driven already, and says
-    /// whether there is one.
+    /// Drives the bits of a piece, whose places are written to `room` first, up to the first that is driven
+    /// already, and says whether there is one.
     fn drive_piece(
         &mut self,
         alloc: Global,
@@ -92,7 +91,8 @@ impl Driven {
         module_nets: &ModuleNets<'_>,
         piece: &Piece,
     ) -> Result<bool, OutOfMemory>
-        ensures { IfOk result (λ again. Drives self.old self.new (places_in module_nets.now.part.now (piece.now ∷ [])) again) }
+        ensures { IfOk result
+            (λ again. Drives self.old self.new (places_in module_nets.now.part.now (piece.now ∷ [])) again) }
     {
         room.clear();
         module_nets
@@ -125,16 +125,19 @@ impl Driven {
         &mut self,
         alloc: Global,
         room: &mut Vec<Option<u64>>,
-        source: &Source<'_>,
-        module_nets: &ModuleNets<'_>,
+        site: &Site<'_>,
         instance: &Instance<'_>,
         number: u32,
     ) -> Result<bool, OutOfMemory>
-        requires there { IsThere (source_in source.now) instance.now.binding }
-        requires pin { number < length (binding_pins (source_in source.now) instance.now.binding) }
+        requires there { IsThere (source_in site.now.source) instance.now.binding }
+        requires pin { number < length (binding_pins (source_in site.now.source) instance.now.binding) }
         requires connected { IsOfItem instance.now.connected.now instance.now.item.now }
-        ensures { IfOk result (λ again. Drives self.old self.new (pin_drives module_nets.now.part.now instance.now.item.now number (pin_at (source_in source.now) instance.now.binding number)) again) }
+        ensures { IfOk result
+            (λ again. Drives self.old self.new
+            (pin_drives site.now.module_nets.part.now instance.now.item.now number
+            (pin_at (source_in site.now.source) instance.now.binding number)) again) }
     {
+        let source = &site.source;
         let binding = instance.binding;
         if !is_output(source, binding, number) {
             return Ok(false);
@@ -142,28 +145,31 @@ impl Driven {
         let name = pin_name(source.cells, source.modules, binding, number);
         let connected = instance.connected;
         match connected.expression(instance.item, number as usize, name) {
-            Some(expr) => self.drive_pieces(alloc, room, module_nets, expr.items()),
+            Some(expr) => self.drive_pieces(alloc, room, &site.module_nets, expr.items()),
             None => Ok(false),
         }
     }
 
-    /// Drives what an instance connects to the outputs of what it is of, by what is kept of its connections, and says whether a
-    /// bit is driven already.
+    /// Drives what an instance connects to the outputs of what it is of, by what is kept of its connections, and
+    /// says whether a bit is driven already.
     fn drive_pins(
         &mut self,
         alloc: Global,
         room: &mut Vec<Option<u64>>,
-        source: &Source<'_>,
-        module_nets: &ModuleNets<'_>,
+        site: &Site<'_>,
         instance: &Instance<'_>,
     ) -> Result<bool, OutOfMemory>
-        requires there { IsThere (source_in source.now) instance.now.binding }
+        requires there { IsThere (source_in site.now.source) instance.now.binding }
         requires connected { IsOfItem instance.now.connected.now instance.now.item.now }
-        ensures { IfOk result (λ again. Drives self.old self.new (drives_from module_nets.now.part.now instance.now.item.now 0 (binding_pins (source_in source.now) instance.now.binding)) again) }
+        ensures { IfOk result
+            (λ again. Drives self.old self.new
+            (drives_from site.now.module_nets.part.now instance.now.item.now 0
+            (binding_pins (source_in site.now.source) instance.now.binding)) again) }
     {
+        let source = &site.source;
         let count = pin_count(source.cells, source.modules, instance.binding)?;
         for number in 0..count {
-            if self.drive_pin(alloc, room, source, module_nets, instance, number)? {
+            if self.drive_pin(alloc, room, site, instance, number)? {
                 return Ok(true);
             }
         }
@@ -175,13 +181,15 @@ impl Driven {
         &mut self,
         alloc: Global,
         room: &mut Vec<Option<u64>>,
-        source: &Source<'_>,
-        module_nets: &ModuleNets<'_>,
+        site: &Site<'_>,
         item: &Item,
         binding: Binding,
     ) -> Result<bool, OutOfMemory>
-        requires there { IsThere (source_in source.now) binding }
-        ensures { IfOk result (λ again. Drives self.old self.new (drives_from module_nets.now.part.now item.now 0 (binding_pins (source_in source.now) binding)) again) }
+        requires there { IsThere (source_in site.now.source) binding }
+        ensures { IfOk result
+            (λ again. Drives self.old self.new
+            (drives_from site.now.module_nets.part.now item.now 0 (binding_pins (source_in site.now.source) binding))
+            again) }
     {
         let connected = &ConnectionIndex::new(alloc, item)?;
         let instance = Instance {
@@ -189,7 +197,7 @@ impl Driven {
             binding,
             connected,
         };
-        self.drive_pins(alloc, room, source, module_nets, &instance)
+        self.drive_pins(alloc, room, site, &instance)
     }
 
     /// Drives what an item of a module drives, and says whether a bit is driven already.
@@ -197,25 +205,22 @@ impl Driven {
         &mut self,
         alloc: Global,
         room: &mut Vec<Option<u64>>,
-        source: &Source<'_>,
-        module_nets: &ModuleNets<'_>,
+        site: &Site<'_>,
         item: &Item,
         binding: Binding,
     ) -> Result<bool, OutOfMemory>
-        requires binding { binding ≡ binding_in (source_in source.now) item.now }
-        requires there { IsThere (source_in source.now) binding }
-        ensures { IfOk result (λ again. Drives self.old self.new (drives_in (source_in source.now) module_nets.now.part.now item.now) again) }
+        requires binding { binding ≡ binding_in (source_in site.now.source) item.now }
+        requires there { IsThere (source_in site.now.source) binding }
+        ensures { IfOk result
+            (λ again. Drives self.old self.new
+            (drives_in (source_in site.now.source) site.now.module_nets.part.now item.now)
+            again) }
     {
         match item {
-            Item::Assign { left, .. } => self.drive_pieces(alloc, room, module_nets, left.items()),
-            Item::Instance { .. } => self.drive_instance(
-                alloc,
-                room,
-                source,
-                module_nets,
-                item,
-                binding,
-            ),
+            Item::Assign { left, .. } => {
+                self.drive_pieces(alloc, room, &site.module_nets, left.items())
+            }
+            Item::Instance { .. } => self.drive_instance(alloc, room, site, item, binding),
             _ => Ok(false),
         }
     }
@@ -261,18 +266,18 @@ impl Driven {
         &mut self,
         alloc: Global,
         room: &mut Vec<Option<u64>>,
-        source: &Source<'_>,
-        module_nets: &ModuleNets<'_>,
+        site: &Site<'_>,
         bindings: &[Binding],
     ) -> Result<Option<u32>, OutOfMemory>
-        requires bindings { bindings.now ≡ bindings_in (source_in source.now) module_nets.now.part.now }
-        requires inputs { HasSame self.old (driven_first module_nets.now.part.now) }
-        ensures { IfOk result (λ first. first ≡ first_in (is_second_driver (source_in source.now)) module_nets.now.part.now) }
+        requires bindings { bindings.now ≡ bindings_in (source_in site.now.source) site.now.module_nets.part.now }
+        requires inputs { HasSame self.old (driven_first site.now.module_nets.part.now) }
+        ensures { IfOk result
+            (λ first. first ≡ first_in (is_second_driver (source_in site.now.source)) site.now.module_nets.part.now) }
     {
-        let items = module_nets.part.items.items();
+        let items = site.module_nets.part.items.items();
         for (number, item) in items.iter().enumerate() {
             let binding = bindings[number];
-            if self.drive_item(alloc, room, source, module_nets, item, binding)? {
+            if self.drive_item(alloc, room, site, item, binding)? {
                 return Ok(Some(entry(item)));
             }
         }
@@ -283,16 +288,16 @@ impl Driven {
 /// The first item of a module that drives what is driven already.
 fn first_driving(
     alloc: Global,
-    source: &Source<'_>,
-    module_nets: &ModuleNets<'_>,
+    site: &Site<'_>,
     bindings: &[Binding],
 ) -> Result<Option<u32>, OutOfMemory>
-    requires bindings { bindings.now ≡ bindings_in (source_in source.now) module_nets.now.part.now }
-    ensures { IfOk result (λ first. first ≡ first_in (is_second_driver (source_in source.now)) module_nets.now.part.now) }
+    requires bindings { bindings.now ≡ bindings_in (source_in site.now.source) site.now.module_nets.part.now }
+    ensures { IfOk result
+        (λ first. first ≡ first_in (is_second_driver (source_in site.now.source)) site.now.module_nets.part.now) }
 {
     let mut room = Vec::new(alloc);
-    let mut driven = Driven::of_inputs(alloc, &mut room, module_nets)?;
-    driven.first_again(alloc, &mut room, source, module_nets, bindings)
+    let mut driven = Driven::of_inputs(alloc, &mut room, &site.module_nets)?;
+    driven.first_again(alloc, &mut room, site, bindings)
 }
 
 /// The first statement that drives what is driven already.
@@ -302,15 +307,19 @@ pub(crate) fn second_driver(
     bindings: &[BindingList],
 ) -> Result<Option<u32>, OutOfMemory>
     requires { bindings.now ≡ map (bindings_in (source_in source.now)) source.now.modules.now }
-    ensures { IfOk result (λ entry. entry ≡ first_at_fault (is_second_driver (source_in source.now)) (modules_of (source_in source.now))) }
+    ensures { IfOk result
+        (λ entry. entry ≡ first_at_fault (is_second_driver (source_in source.now)) (modules_of (source_in source.now))) }
 {
     for (number, part) in source.modules.iter().enumerate() {
         if source.cells.find(part.name.bytes()).is_some() {
             continue;
         }
         let nets = &source.nets[number];
-        let module_nets = ModuleNets { part, nets };
-        let first = first_driving(alloc, source, &module_nets, bindings[number].items())?;
+        let site = Site {
+            source: *source,
+            module_nets: ModuleNets { part, nets },
+        };
+        let first = first_driving(alloc, &site, bindings[number].items())?;
         if first.is_some() {
             return Ok(first);
         }

@@ -13,6 +13,7 @@ ghost use Rattle.mintc_flatten_binding.specs.Orders.{IsThere};
 ghost use Rattle.mintc_flatten_rules.specs.Widths.{differs};
 ghost use Rattle.mintc_flatten_binding.specs.Wired.{pin_at, wiring_at, IsOfItem};
 
+use crate::site::Site;
 use mintc_flatten_binding::{
     BindingList, ConnectionIndex, Instance, ModuleNets, Source, is_output, pin_count, pin_name,
     pin_width,
@@ -74,7 +75,9 @@ fn assign_misfits(
     right: &[Piece],
 ) -> Result<bool, OutOfMemory>
     ensures { IfOk result (λ misfits. misfits ≡
-        ((not (selects_fit module_nets.now.part.now left.now && selects_fit module_nets.now.part.now right.now) || not (nat_eq (width_of module_nets.now.part.now left.now) (width_of module_nets.now.part.now right.now))) || has_constant left.now)) }
+        ((not (selects_fit module_nets.now.part.now left.now && selects_fit module_nets.now.part.now right.now)
+        || not (nat_eq (width_of module_nets.now.part.now left.now) (width_of module_nets.now.part.now right.now)))
+        || has_constant left.now)) }
 {
     let same = width(module_nets, left)? == width(module_nets, right)?;
     let fit = module_nets.nets.selects_fit(module_nets.part, left)
@@ -84,16 +87,18 @@ fn assign_misfits(
 
 /// Whether what is connected to a pin doesn't fit.
 fn is_wired_badly(
-    source: &Source<'_>,
-    module_nets: &ModuleNets<'_>,
+    site: &Site<'_>,
     binding: Binding,
     number: u32,
     pieces: &[Piece],
 ) -> Result<bool, OutOfMemory>
-    requires there { IsThere (source_in source.now) binding }
-    requires pin { number < length (binding_pins (source_in source.now) binding) }
-    ensures { IfOk result (λ bad. bad ≡ is_wired_badly module_nets.now.part.now (wiring_of (pin_at (source_in source.now) binding number) pieces.now)) }
+    requires there { IsThere (source_in site.now.source) binding }
+    requires pin { number < length (binding_pins (source_in site.now.source) binding) }
+    ensures { IfOk result
+        (λ bad. bad ≡ is_wired_badly site.now.module_nets.part.now
+        (wiring_of (pin_at (source_in site.now.source) binding number) pieces.now)) }
 {
+    let (source, module_nets) = (&site.source, &site.module_nets);
     let same = width(module_nets, pieces)? == pin_width(source, binding, number);
     let fit = module_nets.nets.selects_fit(module_nets.part, pieces);
     let output = is_output(source, binding, number);
@@ -101,39 +106,36 @@ fn is_wired_badly(
 }
 
 /// Whether what an instance connects to a pin, if anything, doesn't fit.
-fn pin_misfits(
-    source: &Source<'_>,
-    module_nets: &ModuleNets<'_>,
-    instance: &Instance<'_>,
-    number: u32,
-) -> Result<bool, OutOfMemory>
-    requires there { IsThere (source_in source.now) instance.now.binding }
-    requires pin { number < length (binding_pins (source_in source.now) instance.now.binding) }
+fn pin_misfits(site: &Site<'_>, instance: &Instance<'_>, number: u32) -> Result<bool, OutOfMemory>
+    requires there { IsThere (source_in site.now.source) instance.now.binding }
+    requires pin { number < length (binding_pins (source_in site.now.source) instance.now.binding) }
     requires connected { IsOfItem instance.now.connected.now instance.now.item.now }
-    ensures { IfOk result (λ misfits. misfits ≡ list_any (is_wired_badly module_nets.now.part.now) (wiring_at instance.now.item.now (source_in source.now) instance.now.binding number)) }
+    ensures { IfOk result
+        (λ misfits. misfits ≡ list_any (is_wired_badly site.now.module_nets.part.now)
+        (wiring_at instance.now.item.now (source_in site.now.source) instance.now.binding number)) }
 {
+    let source = &site.source;
     let binding = instance.binding;
     let name = pin_name(source.cells, source.modules, binding, number);
     let connected = instance.connected;
     match connected.expression(instance.item, number as usize, name) {
-        Some(expr) => is_wired_badly(source, module_nets, binding, number, expr.items()),
+        Some(expr) => is_wired_badly(site, binding, number, expr.items()),
         None => Ok(false),
     }
 }
 
 /// Whether something that an instance connects to a pin doesn't fit, by what is kept of its connections.
-fn any_misfits(
-    source: &Source<'_>,
-    module_nets: &ModuleNets<'_>,
-    instance: &Instance<'_>,
-) -> Result<bool, OutOfMemory>
-    requires there { IsThere (source_in source.now) instance.now.binding }
+fn any_misfits(site: &Site<'_>, instance: &Instance<'_>) -> Result<bool, OutOfMemory>
+    requires there { IsThere (source_in site.now.source) instance.now.binding }
     requires connected { IsOfItem instance.now.connected.now instance.now.item.now }
-    ensures { IfOk result (λ misfits. misfits ≡ list_any (is_wired_badly module_nets.now.part.now) (wirings_of instance.now.item.now (binding_pins (source_in source.now) instance.now.binding))) }
+    ensures { IfOk result
+        (λ misfits. misfits ≡ list_any (is_wired_badly site.now.module_nets.part.now)
+        (wirings_of instance.now.item.now (binding_pins (source_in site.now.source) instance.now.binding))) }
 {
+    let source = &site.source;
     let count = pin_count(source.cells, source.modules, instance.binding)?;
     for number in 0..count {
-        if pin_misfits(source, module_nets, instance, number)? {
+        if pin_misfits(site, instance, number)? {
             return Ok(true);
         }
     }
@@ -143,13 +145,14 @@ fn any_misfits(
 /// Whether something that an instance connects to a pin doesn't fit.
 fn instance_misfits(
     alloc: Global,
-    source: &Source<'_>,
-    module_nets: &ModuleNets<'_>,
+    site: &Site<'_>,
     item: &Item,
     binding: Binding,
 ) -> Result<bool, OutOfMemory>
-    requires there { IsThere (source_in source.now) binding }
-    ensures { IfOk result (λ misfits. misfits ≡ list_any (is_wired_badly module_nets.now.part.now) (wirings_of item.now (binding_pins (source_in source.now) binding))) }
+    requires there { IsThere (source_in site.now.source) binding }
+    ensures { IfOk result
+        (λ misfits. misfits ≡ list_any (is_wired_badly site.now.module_nets.part.now)
+        (wirings_of item.now (binding_pins (source_in site.now.source) binding))) }
 {
     let connected = &ConnectionIndex::new(alloc, item)?;
     let instance = Instance {
@@ -157,7 +160,7 @@ fn instance_misfits(
         binding,
         connected,
     };
-    any_misfits(source, module_nets, &instance)
+    any_misfits(site, &instance)
 }
 
 /// What some items of a module declare.
@@ -172,7 +175,7 @@ impl Declared {
     ghost use Rattle.mintc_netlist.specs.declared.module.Item.{Item};
     ghost use Rattle.mintc_flatten_rules.specs.Widths.{IsDeclaredBy, misfits_after};
 
-    /// Nothing.
+    /// What no items declare.
     fn new(alloc: Global) -> Declared
         ensures { IsDeclaredBy result [] }
     {
@@ -184,7 +187,8 @@ impl Declared {
 
     /// Takes in what an item declares.
     fn note(&mut self, alloc: Global, item: &Item) -> Result<(), OutOfMemory>
-        ensures { OnOk result ((before : List Item) → IsDeclaredBy self.old before → IsDeclaredBy self.new (before ++ item.now ∷ [])) }
+        ensures { OnOk result ((before : List Item) → IsDeclaredBy self.old before →
+            IsDeclaredBy self.new (before ++ item.now ∷ [])) }
     {
         self.ports.note_ports(alloc, item)?;
         self.nets.note_nets(alloc, item)
@@ -194,21 +198,21 @@ impl Declared {
     fn misfits(
         &self,
         alloc: Global,
-        source: &Source<'_>,
-        module_nets: &ModuleNets<'_>,
+        site: &Site<'_>,
         item: &Item,
         binding: Binding,
     ) -> Result<bool, OutOfMemory>
-        requires binding { binding ≡ binding_in (source_in source.now) item.now }
-        ensures { IfOk result (λ misfits. (before : List Item) → IsDeclaredBy self.now before → misfits ≡ misfits_after (source_in source.now) module_nets.now.part.now before item.now) }
+        requires binding { binding ≡ binding_in (source_in site.now.source) item.now }
+        ensures { IfOk result (λ misfits. (before : List Item) → IsDeclaredBy self.now before →
+            misfits ≡ misfits_after (source_in site.now.source) site.now.module_nets.part.now before item.now) }
     {
         match item {
             Item::Port { span, names, .. } => Ok(any_differs(&self.nets, *span, names.items())),
             Item::Wire { span, names, .. } => Ok(any_differs(&self.ports, *span, names.items())),
             Item::Assign { left, right, .. } => {
-                assign_misfits(module_nets, left.items(), right.items())
+                assign_misfits(&site.module_nets, left.items(), right.items())
             }
-            Item::Instance { .. } => instance_misfits(alloc, source, module_nets, item, binding),
+            Item::Instance { .. } => instance_misfits(alloc, site, item, binding),
         }
     }
 
@@ -216,17 +220,17 @@ impl Declared {
     fn first_misfit(
         &mut self,
         alloc: Global,
-        source: &Source<'_>,
-        module_nets: &ModuleNets<'_>,
+        site: &Site<'_>,
         bindings: &[Binding],
     ) -> Result<Option<u32>, OutOfMemory>
-        requires bindings { bindings.now ≡ bindings_in (source_in source.now) module_nets.now.part.now }
+        requires bindings { bindings.now ≡ bindings_in (source_in site.now.source) site.now.module_nets.part.now }
         requires none { IsDeclaredBy self.old [] }
-        ensures { IfOk result (λ first. first ≡ first_in (is_misfit (source_in source.now)) module_nets.now.part.now) }
+        ensures { IfOk result
+            (λ first. first ≡ first_in (is_misfit (source_in site.now.source)) site.now.module_nets.part.now) }
     {
-        let items = module_nets.part.items.items();
+        let items = site.module_nets.part.items.items();
         for (number, item) in items.iter().enumerate() {
-            if self.misfits(alloc, source, module_nets, item, bindings[number])? {
+            if self.misfits(alloc, site, item, bindings[number])? {
                 return Ok(Some(entry(item)));
             }
             self.note(alloc, item)?;
@@ -238,14 +242,14 @@ impl Declared {
 /// The first statement of a module whose widths or selects don't fit.
 fn first_misfit(
     alloc: Global,
-    source: &Source<'_>,
-    module_nets: &ModuleNets<'_>,
+    site: &Site<'_>,
     bindings: &[Binding],
 ) -> Result<Option<u32>, OutOfMemory>
-    requires bindings { bindings.now ≡ bindings_in (source_in source.now) module_nets.now.part.now }
-    ensures { IfOk result (λ first. first ≡ first_in (is_misfit (source_in source.now)) module_nets.now.part.now) }
+    requires bindings { bindings.now ≡ bindings_in (source_in site.now.source) site.now.module_nets.part.now }
+    ensures { IfOk result
+        (λ first. first ≡ first_in (is_misfit (source_in site.now.source)) site.now.module_nets.part.now) }
 {
-    Declared::new(alloc).first_misfit(alloc, source, module_nets, bindings)
+    Declared::new(alloc).first_misfit(alloc, site, bindings)
 }
 
 /// The first statement whose widths or selects don't fit.
@@ -255,15 +259,19 @@ pub(crate) fn misfit(
     bindings: &[BindingList],
 ) -> Result<Option<u32>, OutOfMemory>
     requires { bindings.now ≡ map (bindings_in (source_in source.now)) source.now.modules.now }
-    ensures { IfOk result (λ entry. entry ≡ first_at_fault (is_misfit (source_in source.now)) (modules_of (source_in source.now))) }
+    ensures { IfOk result
+        (λ entry. entry ≡ first_at_fault (is_misfit (source_in source.now)) (modules_of (source_in source.now))) }
 {
     for (number, part) in source.modules.iter().enumerate() {
         if source.cells.find(part.name.bytes()).is_some() {
             continue;
         }
         let nets = &source.nets[number];
-        let module_nets = ModuleNets { part, nets };
-        let first = first_misfit(alloc, source, &module_nets, bindings[number].items())?;
+        let site = Site {
+            source: *source,
+            module_nets: ModuleNets { part, nets },
+        };
+        let first = first_misfit(alloc, &site, bindings[number].items())?;
         if first.is_some() {
             return Ok(first);
         }

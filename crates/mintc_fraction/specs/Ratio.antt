@@ -9,6 +9,7 @@ pub record Ratio : Type 0 where
   pub num : ℤ
   pub den : ℤ
 
+-- num / den, whatever den is
 abbrev pub over : ℤ → ℤ → Ratio
 over num den = record { num = num; den = den }
 
@@ -16,31 +17,36 @@ over num den = record { num = num; den = den }
 abbrev pub IsFraction : Ratio → Type 0
 IsFraction a = pos 1 ≤ℤ a.den
 
--- the order and the equality of the values
+-- the value of a is at most that of b
 abbrev pub IsAtMost : Ratio → Ratio → Type 0
 IsAtMost a b = (a.num *ℤ b.den) ≤ℤ (b.num *ℤ a.den)
 
+-- the value of a is below that of b
 abbrev pub IsBelow : Ratio → Ratio → Type 0
 IsBelow a b = (a.num *ℤ b.den) <ℤ (b.num *ℤ a.den)
 
+-- the values are equal
 abbrev pub IsEqual : Ratio → Ratio → Type 0
 IsEqual a b = a.num *ℤ b.den ≡ b.num *ℤ a.den
 
+-- how the value of a stands to that of b
 abbrev pub IsOrderOf : Ratio → Ratio → Ordering → Type 0
 IsOrderOf a b order = MatchOrdering order (IsBelow a b) (IsEqual a b) (IsBelow b a)
 
--- the sum of two values, and the product of a value with a whole number
+-- the sum of two values, not in lowest terms
 abbrev pub sum_of : Ratio → Ratio → Ratio
 sum_of a b = over (a.num *ℤ b.den +ℤ b.num *ℤ a.den) (a.den *ℤ b.den)
 
+-- the product of a value with a whole number, not in lowest terms
 abbrev pub product_of : Ratio → ℤ → Ratio
 product_of a by = over (a.num *ℤ by) a.den
 
--- the greatest g with g / grid at most the value, and the least with g / grid at least the value
+-- the greatest g with g / grid at most the value
 pub record IsFloor (a : Ratio) (grid g : ℤ) : Type 0 where
   pub low : IsAtMost (over g grid) a
   pub greatest : (other : ℤ) → IsAtMost (over other grid) a → other ≤ℤ g
 
+-- the least g with g / grid at least the value
 pub record IsCeiling (a : Ratio) (grid g : ℤ) : Type 0 where
   pub high : IsAtMost a (over g grid)
   pub least : (other : ℤ) → IsAtMost a (over other grid) → g ≤ℤ other

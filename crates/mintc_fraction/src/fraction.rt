@@ -30,7 +30,8 @@ impl Model for Fraction {
 }
 
 impl Fraction {
-    ghost use Rattle.mintc_fraction.specs.Ratio.{over, IsFraction, IsOrderOf, IsEqual, sum_of, product_of, IsFloor, IsCeiling, IsLowest, IsWithin, IsModest};
+    ghost use Rattle.mintc_fraction.specs.Ratio.{over, IsFraction, IsOrderOf, IsEqual, sum_of, product_of, IsFloor};
+    ghost use Rattle.mintc_fraction.specs.Ratio.{IsCeiling, IsLowest, IsWithin, IsModest};
 
     /// The fraction `num / den`.
     pub fn new(num: i128, den: i128) -> Fraction

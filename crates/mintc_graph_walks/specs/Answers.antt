@@ -1,7 +1,8 @@
 -- The greatest walks to each node, or a closed chain of positive weight as the witness that there are none: with the
 -- signs turned, shortest paths or a negative cycle (L. R. Ford, "Network flow theory", 1956; R. Bellman, "On a routing
 -- problem", 1958). Nothing here speaks of how they are found.
-use Rattle.std.specs.Prelude.{◌≡◌, ◌≢◌, ◌⊎◌, ℕ, ℤ, pos, ◌+◌, ◌*◌, ◌+ℤ◌, ◌≤ℤ◌, ◌<ℤ◌, ◌<◌, ◌≤◌, List, length, take, AllPairs}
+use Rattle.std.specs.Prelude.{◌≡◌, ◌≢◌, ◌⊎◌, ℕ, ℤ, pos, ◌+◌, ◌*◌, ◌+ℤ◌, ◌≤ℤ◌, ◌<ℤ◌, ◌<◌, ◌≤◌, List, length, take}
+use Rattle.std.specs.Prelude.{AllPairs}
 use Rattle.mintc_graph_walks.specs.declared.network.Arc.{Arc}
 use Rattle.mintc_graph_walks.specs.declared.network.TheConstants.{UNREACHED}
 use Rattle.mintc_graph_walks.specs.declared.walks.Answer.{Answer}

@@ -1,5 +1,6 @@
 -- what arcs that are relaxed leave, and a pass over all of them
-use Rattle.std.specs.Prelude.{◌≡◌, ◌≢◌, ℕ, zero, suc, ℤ, ◌+◌, ◌*◌, ◌^◌, ◌+ℤ◌, ◌≤ℤ◌, ◌<ℤ◌, ◌<◌, List, length, slice_index, Option, IfSome, IfNone}
+use Rattle.std.specs.Prelude.{◌≡◌, ◌≢◌, ℕ, zero, suc, ℤ, ◌+◌, ◌*◌, ◌^◌, ◌+ℤ◌, ◌≤ℤ◌, ◌<ℤ◌, ◌<◌, List, length}
+use Rattle.std.specs.Prelude.{slice_index, Option, IfSome, IfNone}
 use Rattle.mintc_graph_walks.specs.declared.network.Arc.{Arc}
 use Rattle.mintc_graph_walks.specs.declared.network.TheConstants.{NONE}
 use Rattle.mintc_graph_walks.specs.Bounds.{AreBounded}
@@ -11,7 +12,8 @@ Walk arcs starts zero v x = IsStart starts v × (value_at starts v ≡ x)
 Walk arcs starts (suc k) v x = (e : ℕ) × (y : ℤ) × (e < length arcs) × Walk arcs starts k (arc_at arcs e).from y ×
     ((arc_at arcs e).to ≡ v) × (y +ℤ (arc_at arcs e).weight ≡ x)
 
--- Arc a raised v last: v's value is at most what a brings now, and where it is as much, v is younger than a's beginning.
+-- Arc a raised v last: v's value is at most what a brings now, and where it is as much, v is younger than a's
+-- beginning.
 pub record IsTended (values : List ℤ) (age : ℕ → ℕ) (v : ℕ) (a : Arc) : Type 0 where
   pub ends : a.to ≡ v
   pub inside : a.from < length values
@@ -19,8 +21,8 @@ pub record IsTended (values : List ℤ) (age : ℕ → ℕ) (v : ℕ) (a : Arc) 
   pub brings : value_at values v ≤ℤ brought values a
   pub younger : value_at values v ≡ brought values a → age a.from < age v
 
--- What holds after each raise, at these ages of the nodes: a node that was never raised has its start's value, any other
--- is tended by the arc that raised it last, and each reached node has the value of some walk.
+-- What holds after each raise, at these ages of the nodes: a node that was never raised has its start's value, any
+-- other is tended by the arc that raised it last, and each reached node has the value of some walk.
 pub record AreTended (arcs : List Arc) (starts values : List ℤ) (before : List ℕ) (age : ℕ → ℕ) : Type 0 where
   pub unraised : (v : ℕ) → v < length values → slice_index before v ≡ NONE → value_at values v ≡ value_at starts v
   pub numbered : (v : ℕ) → v < length values → slice_index before v ≢ NONE → slice_index before v < length arcs
@@ -33,7 +35,8 @@ abbrev pub SomeAge : List Arc → List ℤ → List ℤ → List ℕ → Type 0
 SomeAge arcs starts values before = (age : ℕ → ℕ) × AreTended arcs starts values before age
 
 -- what relaxing n arcs leaves, whichever they are
-pub record HasRelaxed (arcs : List Arc) (n : ℕ) (old : List ℤ) (old_before : List ℕ) (new : List ℤ) (before : List ℕ) : Type 0 where
+pub record HasRelaxed (arcs : List Arc) (n : ℕ) (old : List ℤ) (old_before : List ℕ) (new : List ℤ)
+    (before : List ℕ) : Type 0 where
   pub tended : (starts : List ℤ) → length starts ≡ length old →
       SomeAge arcs starts old old_before → SomeAge arcs starts new before
   pub bounded : (b : ℕ) → AreBounded b old → AreBounded (b + n * 2 ^ 80) new

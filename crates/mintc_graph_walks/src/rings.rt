@@ -1,12 +1,12 @@
-//! The ring that weighs most on the mean, of all rings among the arcs by which the nodes were raised. Only that it is a node
-//! is claimed of what is found here.
+//! The ring that weighs most on the mean, of all rings among the arcs by which the nodes were raised. Only that it
+//! is a node is claimed of what is found here.
 ghost use Rattle.std.specs.Prelude.{◌≡◌, ◌<◌, ◌≤◌, length, IfSome};
 ghost use Rattle.mintc_graph_walks.specs.Bounds.{AreOrdinary};
 
 use crate::network::Network;
 
-/// Goes back from a node and marks each node on the way, up to one that has a mark or was never raised. Gives the node where
-/// it has this very mark: a ring leads through it.
+/// Goes back from a node and marks each node on the way, up to one that has a mark or was never raised. Gives the
+/// node where it has this very mark: a ring leads through it.
 fn follow<N: Network>(
     net: &N,
     before: &[u32],
@@ -66,7 +66,8 @@ fn node_of(step: u32, last: u32, nodes: u32) -> u32
     if step == 0 { last } else { step - 1 }
 }
 
-/// A node of the ring whose arcs have the greatest mean weight. Of several such, the one behind `last` where it is among them.
+/// A node of the ring whose arcs have the greatest mean weight. Of several such, the one behind `last` where it is
+/// among them.
 pub(crate) fn heaviest<N: Network>(
     net: &N,
     before: &[u32],

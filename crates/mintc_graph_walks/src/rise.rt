@@ -19,7 +19,8 @@ fn relax(values: &mut [i128], before: &mut [u32], number: u32, arc: Arc) -> bool
     ensures more { OnTrue result (value_at values.old arc.to <ℤ brought values.old arc) }
     ensures values { OnTrue result (values.new ≡ slice_set values.old arc.to (brought values.old arc)) }
     ensures before { OnTrue result (before.new ≡ slice_set before.old arc.to number) }
-    ensures met { OnFalse result (IsReached values.old arc.from → brought values.old arc ≤ℤ value_at values.old arc.to) }
+    ensures met { OnFalse result (IsReached values.old arc.from →
+        brought values.old arc ≤ℤ value_at values.old arc.to) }
     ensures values_stay { OnFalse result (values.new ≡ values.old) }
     ensures before_stays { OnFalse result (before.new ≡ before.old) }
 {

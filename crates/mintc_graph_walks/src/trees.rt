@@ -4,8 +4,8 @@ ghost use Rattle.mintc_graph_walks.specs.Bounds.{AreOrdinary};
 
 use crate::network::{NONE, Network};
 
-/// Goes back from a node, up to one that has a mark or was never raised. Marks each node on the way, and writes the arcs from
-/// the place `start` on, the last one first. Gives the place behind them.
+/// Goes back from a node, up to one that has a mark or was never raised. Marks each node on the way, and writes the
+/// arcs from the place `start` on, the last one first. Gives the place behind them.
 fn list_back<N: Network>(
     net: &N,
     before: &[u32],
@@ -35,8 +35,8 @@ fn list_back<N: Network>(
     list.len()
 }
 
-/// Lists the arcs by which the nodes were raised, the arc into a node ahead of the arcs out of it where they close no chain;
-/// then `NONE`, as often as there is place.
+/// Lists the arcs by which the nodes were raised, the arc into a node ahead of the arcs out of it where they close
+/// no chain; then `NONE`, as often as there is place.
 pub(crate) fn list_tree<N: Network>(net: &N, before: &[u32], marks: &mut [u32], list: &mut [u32])
     requires marks { length marks.old ≡ length before.now }
     requires list { length list.old ≡ length before.now }

@@ -41,14 +41,14 @@ fn find_ring<N: Network>(net: &N, before: &[u32], raised: u32, marks: &mut [u32]
     mark(net, before, raised, marks)
 }
 
-/// The greatest value of the walks to each node, which is the value where a walk begins and the sum of its arcs' weights;
-/// or, exactly where a walk leads to one, a closed chain of positive weight.
+/// The greatest value of the walks to each node, which is the value where a walk begins and the sum of its arcs'
+/// weights; or, exactly where a walk leads to one, a closed chain of positive weight.
 ///
-/// `values` comes in with the value at which a walk may begin at each node, or `UNREACHED`. The five buffers have one
-/// item for each of 1 to 4096 nodes. After `Chain` the numbers in `values` say nothing; `before` and `marks` are for
-/// work alone. `tree` comes in with numbers of arcs that are taken first, in their order: any numbers will do, also of no arc,
-/// and it goes out with those by which a walk through a network that is little different takes fewer steps. A step is one pass
-/// over the arcs: there is at least one, and at most one for each node.
+/// `values` comes in with the value at which a walk may begin at each node, or `UNREACHED`. The five buffers have
+/// one item for each of 1 to 4096 nodes. After `Chain` the numbers in `values` say nothing; `before` and `marks`
+/// are for work alone. `tree` comes in with numbers of arcs that are taken first, in their order: any numbers will
+/// do, also of no arc, and it goes out with those by which a walk through a network that is little different takes
+/// fewer steps. A step is one pass over the arcs: there is at least one, and at most one for each node.
 pub fn greatest_walks<N: Network, L: Ledger>(
     net: &N,
     values: &mut [i128],

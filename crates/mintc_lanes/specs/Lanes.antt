@@ -1,5 +1,6 @@
 -- Rows of eight lanes. A lane is absent or a whole number.
-use Rattle.std.specs.Prelude.{◌≡◌, ◌*◌, ◌^◌, ◌<◌, ◌≤◌, ℕ, ℤ, ◌+ℤ◌, ◌≤ℤ◌, unsigned_abs, Option, Some, None, IfSome, IsSomeAnd, List, Contains, if◌then◌else◌, slice_index_or}
+use Rattle.std.specs.Prelude.{◌≡◌, ◌*◌, ◌^◌, ◌<◌, ◌≤◌, ℕ, ℤ, ◌+ℤ◌, ◌≤ℤ◌, unsigned_abs, Option, Some, None, IfSome}
+use Rattle.std.specs.Prelude.{IsSomeAnd, List, Contains, if◌then◌else◌, slice_index_or}
 use Rattle.std.specs.Ordering.{int_eq}
 use Rattle.mintc_lanes.specs.declared.TheConstants.{ABSENT}
 
@@ -11,7 +12,8 @@ lane_of x = if int_eq x ABSENT then None else Some x
 abbrev pub lane_at : List ℤ → ℕ → Option ℤ
 lane_at row k = lane_of (slice_index_or row k ABSENT)
 
--- what a lane becomes beside another one and a number to add: where both are present, the chosen one of the lane and the sum
+-- what a lane becomes beside another one and a number to add: where both are present, the chosen one of the lane
+-- and the sum
 abbrev pub joined : (ℤ → ℤ → ℤ) → Option ℤ → Option ℤ → ℤ → Option ℤ
 joined choose lane None add = lane
 joined choose None (Some y) add = Some (y +ℤ add)
@@ -19,7 +21,8 @@ joined choose (Some x) (Some y) add = Some (choose x (y +ℤ add))
 
 -- each lane of the new row is what the old one becomes beside the other row's
 abbrev pub AreJoined : (ℤ → ℤ → ℤ) → List ℤ → List ℤ → ℤ → List ℤ → Type 0
-AreJoined choose row other add new = (k : ℕ) → k < 8 → lane_at new k ≡ joined choose (lane_at row k) (lane_at other k) add
+AreJoined choose row other add new = (k : ℕ) → k < 8 →
+    lane_at new k ≡ joined choose (lane_at row k) (lane_at other k) add
 
 -- each lane is absent or at most n in absolute value
 abbrev pub AreWithin : ℕ → List ℤ → Type 0

@@ -8,6 +8,7 @@ use Rattle.mintc_lanes.specs.declared.TheConstants.{ABSENT}
 abbrev pub number_at : List ℤ → ℕ → ℤ
 number_at vector k = slice_index_or vector k ABSENT
 
+-- eight numbers, each of which fits 64 bits with a sign
 pub record IsVector (vector : List ℤ) : Type 0 where
   pub count : length vector ≡ 8
   pub fits : (k : ℕ) → k < 8 → FitsSigned w64 (number_at vector k)
@@ -18,9 +19,11 @@ HasNumbers vector number = (k : ℕ) → k < 8 → number_at vector k ≡ number
 
 -- the number of one of two vectors, by whether that of a first one is absent
 abbrev pub where_absent_at : List ℤ → List ℤ → List ℤ → ℕ → ℤ
-where_absent_at vector absent present k = if int_eq (number_at vector k) ABSENT then number_at absent k else number_at present k
+where_absent_at vector absent present k = if int_eq (number_at vector k) ABSENT then number_at absent k
+    else number_at present k
 
 -- the number of a row where another one is absent, that of the sum where the row is, and else the chosen one
 abbrev pub joined_at : List ℤ → List ℤ → List ℤ → List ℤ → ℕ → ℤ
 joined_at row other sum chosen k =
-    if int_eq (number_at other k) ABSENT then number_at row k else (if int_eq (number_at row k) ABSENT then number_at sum k else number_at chosen k)
+    if int_eq (number_at other k) ABSENT then number_at row k
+    else (if int_eq (number_at row k) ABSENT then number_at sum k else number_at chosen k)

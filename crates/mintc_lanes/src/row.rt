@@ -70,7 +70,8 @@ pub fn min_plus_row(row: &mut [i64; 8], other: &[i64; 8], add: i64)
 pub fn plus_row(other: &[i64; 8], add: i64) -> [i64; 8]
     requires other { AreLanes other.now }
     requires add { unsigned_abs add ≤ 10 ^ 18 }
-    ensures lanes { (choose : ℤ → ℤ → ℤ) (k : ℕ) → k < 8 → lane_at result k ≡ joined choose None (lane_at other.now k) add }
+    ensures lanes { (choose : ℤ → ℤ → ℤ) (k : ℕ) → k < 8 →
+        lane_at result k ≡ joined choose None (lane_at other.now k) add }
     // The lanes of the other row are at most n in absolute value, the added number at most b.
     ensures bounds { (n b : ℕ) → AreWithin n other.now → unsigned_abs add ≤ b → AreWithin (n + b) result }
 {

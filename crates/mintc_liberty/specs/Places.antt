@@ -1,5 +1,6 @@
 -- The places in a text where cells stand: those behind `cell (`, where a cell's items begin.
-use Rattle.std.specs.Prelude.{◌≡◌, ◌≤◌, ℕ, Bool, false, if◌then◌else◌, List, [], ◌∷◌, map, filter, drop, Option, Some, None, bytes_eq}
+use Rattle.std.specs.Prelude.{◌≡◌, ◌≤◌, ℕ, Bool, false, if◌then◌else◌, List, [], ◌∷◌, map, filter, drop, Option, Some}
+use Rattle.std.specs.Prelude.{None, bytes_eq}
 use Rattle.std.specs.List.{AllPairs}
 use Rattle.std.specs.Ordering.{nat_cmp, ordering_then}
 use Rattle.std.specs.declared.cmp.Ordering.{Ordering}
@@ -21,6 +22,7 @@ Entry = List ℕ × Statements
 abbrev pub is_named : Entry → Bool
 is_named e = is_name e.0
 
+-- the cells among some groups with a name within the rules
 abbrev pub named_in : List Group → List Entry
 named_in gs = filter is_named (cells_in gs)
 
@@ -33,6 +35,7 @@ abbrev pub next_in : Option (List ℕ × List Token × List Token) → List Entr
 next_in None = []
 next_in (Some g) = named_in (record { name = g.0; items = taken is_item g.1; inner = (front 62 g.2).statements } ∷ [])
 
+-- the cell that comes next at the front of tokens, if it is one of these
 abbrev pub cells_next : List Token → List Entry
 cells_next ts = next_in (group_at ts)
 
@@ -41,10 +44,12 @@ abbrev pub opened : List Token → Option (List Token)
 opened (word w ∷ opening ∷ ts) = Some ts
 opened _ = None
 
+-- the statements inside a group that is there
 abbrev pub statements_in : Option (List Token) → Statements
 statements_in None = none
 statements_in (Some ts) = (front 62 ts).statements
 
+-- a name, or no bytes
 abbrev pub name_or_none : Option (List ℕ) → List ℕ
 name_or_none None = []
 name_or_none (Some name) = name
@@ -57,6 +62,7 @@ entry_from ts = (name_or_none (name_at ts), statements_in (body_at ts))
 abbrev pub entry_at : List ℕ → ℕ → Entry
 entry_at text place = entry_from (tokens_of (drop place text))
 
+-- the cells whose items begin at these places
 abbrev pub entries_at : List ℕ → List ℕ → List Entry
 entries_at text places = map (entry_at text) places
 

@@ -1,10 +1,12 @@
 //! The places in a text where the cells of its library stand, in byte order of their names.
-ghost use Rattle.std.specs.Prelude.{◌≡◌, ◌≤◌, ◌<◌, ◌∷◌, List, [], drop, length, Some, None, IfOk, IfSome, IfNone, OnSome, MatchBool, MatchOption, option_map};
+ghost use Rattle.std.specs.Prelude.{◌≡◌, ◌≤◌, ◌<◌, ◌∷◌, List, [], drop, length, Some, None, IfOk, IfSome, IfNone};
+ghost use Rattle.std.specs.Prelude.{OnSome, MatchBool, MatchOption, option_map};
 ghost use Rattle.mintc_liberty_tokens.specs.Tokens.{Token};
 ghost use Rattle.mintc_liberty_tokens.specs.Scans.{IsAhead};
 ghost use Rattle.mintc_liberty_tokens.specs.Reading.{statement_rest};
 ghost use Rattle.mintc_liberty.specs.Meaning.{put_all};
-ghost use Rattle.mintc_liberty.specs.Places.{opened, IsBehind, cells_next, named_cells, entry_from, entry_at, entries_at, name_from, place_cmp, is_same, firsts, Ascends};
+ghost use Rattle.mintc_liberty.specs.Places.{opened, IsBehind, cells_next, named_cells, entry_from, entry_at};
+ghost use Rattle.mintc_liberty.specs.Places.{entries_at, name_from, place_cmp, is_same, firsts, Ascends};
 
 use crate::presorting::presort;
 use crate::texts::MOST_OPEN;
@@ -18,7 +20,8 @@ use std::cmp::Ordering;
 
 /// Passes `WORD (`, if that comes next.
 fn opens(scanner: &mut Scanner) -> bool
-    ensures passed { MatchBool result (opened scanner.old.tokens ≡ Some scanner.new.tokens) (opened scanner.old.tokens ≡ None) }
+    ensures passed { MatchBool result (opened scanner.old.tokens ≡ Some scanner.new.tokens) (opened scanner.old.tokens
+        ≡ None) }
     ensures ahead { IsAhead scanner.old scanner.new }
 {
     match scanner.word() {
@@ -29,7 +32,8 @@ fn opens(scanner: &mut Scanner) -> bool
 
 /// Passes one statement, and gives the place behind its `WORD (` if it begins so, else the place behind it.
 fn pass(scanner: &mut Scanner) -> Option<usize>
-    ensures passed { MatchOption result (statement_rest 63 scanner.old.tokens ≡ None) (λ place. statement_rest 63 scanner.old.tokens ≡ Some scanner.new.tokens) }
+    ensures passed { MatchOption result (statement_rest 63 scanner.old.tokens ≡ None)
+        (λ place. statement_rest 63 scanner.old.tokens ≡ Some scanner.new.tokens) }
     ensures place { IfSome result (λ place. IsBehind scanner.old place) }
     ensures within { IfSome result (λ place. (scanner.old.place ≤ place) × (place ≤ scanner.new.place)) }
     ensures ahead { IsAhead scanner.old scanner.new }
@@ -52,7 +56,8 @@ fn pass(scanner: &mut Scanner) -> Option<usize>
 
 /// Whether a cell with a name within the rules comes next.
 fn is_cell(reader: &Reader) -> bool
-    ensures { MatchBool result ((items : List Token) × (opened reader.now ≡ Some items) × (cells_next reader.now ≡ entry_from items ∷ [])) (cells_next reader.now ≡ []) }
+    ensures { MatchBool result ((items : List Token) × (opened reader.now ≡ Some items)
+        × (cells_next reader.now ≡ entry_from items ∷ [])) (cells_next reader.now ≡ []) }
 {
     let Some(group) = group_at(reader) else {
         return false;
@@ -69,7 +74,8 @@ fn is_cell(reader: &Reader) -> bool
 /// Passes the statements up to the next cell with a name, and that one. Gives the place behind its `cell (`.
 fn next_cell(scanner: &mut Scanner) -> Option<usize>
     ensures none { IfNone result (named_cells scanner.old.tokens ≡ []) }
-    ensures some { IfSome result (λ place. named_cells scanner.old.tokens ≡ entry_at scanner.old.text place ∷ named_cells scanner.new.tokens) }
+    ensures some { IfSome result (λ place. named_cells scanner.old.tokens ≡ entry_at scanner.old.text place ∷
+        named_cells scanner.new.tokens) }
     ensures within { IfSome result (λ place. (scanner.old.place ≤ place) × (place ≤ scanner.new.place)) }
     ensures shorter { OnSome result (length scanner.new.tokens < length scanner.old.tokens) }
     ensures ahead { IsAhead scanner.old scanner.new }
@@ -104,9 +110,7 @@ fn places_of(alloc: Global, library: &Scanner, most: usize) -> Result<Vec<u32>, 
     let mut places = Vec::with_capacity(alloc, most)?;
     let mut scanner = library.copy();
     while let Some(place) = next_cell(&mut scanner) {
-        let Ok(place) = u32::try_from(place) else {
-            return Err(OutOfMemory);
-        };
+        let place = u32::try_from(place)?;
         places.push(place)?;
     }
     Ok(places)
@@ -131,14 +135,15 @@ fn compare(library: &Scanner, one: u32, two: u32) -> Ordering
         .then(one.cmp(&two))
 }
 
-/// The places of the cells with a name, in byte order of the names, and as they come where names are the same. What is kept to sort
-/// them takes no more than half of the text with them.
+/// The places of the cells with a name, in byte order of the names, and as they come where names are the same. What
+/// is kept to sort them takes no more than half of the text with them.
 pub(crate) fn sorted_places(
     alloc: Global,
     text: &[u8],
     library: &Scanner,
 ) -> Result<Vec<u32>, OutOfMemory>
-    ensures { IfOk result (λ places. put_all (named_cells library.now.tokens) [] ≡ entries_at library.now.text (firsts library.now.text None places.items)) }
+    ensures { IfOk result (λ places. put_all (named_cells library.now.tokens) []
+        ≡ entries_at library.now.text (firsts library.now.text None places.items)) }
 {
     let mut places = places_of(alloc, library, most_cells(text))?;
     let room = (text.len() / 2).saturating_sub(places.len().saturating_mul(4)) / 16;

@@ -1,5 +1,6 @@
 //! The cells of a text: one group `library`.
-ghost use Rattle.std.specs.Prelude.{◌≡◌, ◌≤◌, ◌++◌, ◌∷◌, ℕ, [], filter_map, length, Some, None, Ok, Err, IsOk, IfOk, OnOk, MatchBool, MatchOption, MatchResult};
+ghost use Rattle.std.specs.Prelude.{◌≡◌, ◌≤◌, ◌++◌, ◌∷◌, ℕ, [], filter_map, length, Some, None, Ok, Err, IsOk, IfOk};
+ghost use Rattle.std.specs.Prelude.{OnOk, MatchBool, MatchOption, MatchResult};
 ghost use Rattle.mintc_text.specs.declared.limits.TheConstants.{MOST_BYTES};
 ghost use Rattle.mintc_text.specs.declared.refusals.Refusal.TheVariants.{Syntax};
 ghost use Rattle.mintc_text.specs.declared.refusals.Role.TheVariants as role;
@@ -23,7 +24,8 @@ pub(crate) const MOST_OPEN: u32 = 63;
 
 /// Behind `library`, passes `( item ) {`.
 fn behind_name(scanner: &mut Scanner) -> bool
-    ensures { MatchBool result (behind_name scanner.old.tokens ≡ Some scanner.new.tokens) (behind_name scanner.old.tokens ≡ None) }
+    ensures { MatchBool result (behind_name scanner.old.tokens ≡ Some scanner.new.tokens)
+        (behind_name scanner.old.tokens ≡ None) }
 {
     if !statements::eat_sign(scanner, Kind::Opening) {
         return false;
@@ -39,7 +41,8 @@ fn behind_name(scanner: &mut Scanner) -> bool
 
 /// Passes `library ( item ) {`.
 fn head(scanner: &mut Scanner) -> bool
-    ensures { MatchBool result (behind_head scanner.old.tokens ≡ Some scanner.new.tokens) (behind_head scanner.old.tokens ≡ None) }
+    ensures { MatchBool result (behind_head scanner.old.tokens ≡ Some scanner.new.tokens)
+        (behind_head scanner.old.tokens ≡ None) }
 {
     let Some(name) = scanner.word() else {
         return false;
@@ -107,7 +110,8 @@ fn add(
     library: &Scanner,
     place: u32,
 ) -> Result<(), OutOfMemory>
-    ensures { OnOk result (cells.new.items ≡ cells.old.items ++ filter_map usable (entries_at library.now.text (place ∷ []))) }
+    ensures { OnOk result (cells.new.items ≡ cells.old.items
+        ++ filter_map usable (entries_at library.now.text (place ∷ []))) }
 {
     if let Some(entry) = usable(alloc, library, place)? {
         cells.push(entry)?;
@@ -134,10 +138,8 @@ fn library_cells(
         }
         before = Some(name);
     }
-    match u32::try_from(cells.len()) {
-        Ok(_) => Ok(cells),
-        Err(_) => Err(OutOfMemory),
-    }
+    u32::try_from(cells.len())?;
+    Ok(cells)
 }
 
 /// The cells of a text in the grammar.
@@ -153,18 +155,17 @@ fn cells_of(alloc: Global, text: &[u8]) -> Result<Vec<(Name, Cell)>, OutOfMemory
     library_cells(alloc, text, &library)
 }
 
-/// The cells of a Liberty text, or its Syntax: 0 where it doesn't begin `library ( item ) {`, else the number of the first
-/// statement directly in the library that is out of form, or of one more than there are. A cell that can't be used is passed
-/// over.
+/// The cells of a Liberty text, or its Syntax: 0 where it doesn't begin `library ( item ) {`, else the number of
+/// the first statement directly in the library that is out of form, or of one more than there are. A cell that
+/// can't be used is passed over.
 pub fn read_liberty(alloc: Global, text: &[u8]) -> Result<Cells, Stop>
     requires { length text.now ≤ MOST_BYTES }
-    ensures { MatchResult result (λ cells. liberty_cells text.now ≡ Ok cells) (StopsAt (λ r. (n : ℕ) × (liberty_cells text.now ≡ Err n) × (r ≡ Syntax role.Cells n))) }
+    ensures { MatchResult result (λ cells. liberty_cells text.now ≡ Ok cells)
+        (StopsAt (λ r. (n : ℕ) × (liberty_cells text.now ≡ Err n) × (r ≡ Syntax role.Cells n))) }
 {
     match syntax_of(text) {
         Some(entry) => {
-            let Ok(entry) = u32::try_from(entry) else {
-                return Err(Stop::OutOfMemory);
-            };
+            let entry = u32::try_from(entry)?;
             Err(Stop::Refused(Refusal::Syntax {
                 role: Role::Cells,
                 entry,

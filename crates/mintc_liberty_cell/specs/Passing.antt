@@ -27,6 +27,7 @@ abbrev pub group_from : List ℕ → List Token → Option (List Token) → Opti
 group_from w ts None = None
 group_from w ts (Some inside) = Some (w, ts, inside)
 
+-- the group that comes next, if one does
 abbrev pub group_at : List Token → Option (List ℕ × List Token × List Token)
 group_at (word w ∷ opening ∷ ts) = group_from w ts (body_at ts)
 group_at _ = None

@@ -1,11 +1,14 @@
 //! The cell of a group.
-ghost use Rattle.std.specs.Prelude.{◌≡◌, ◌<◌, ◌-◌, ◌&&◌, codes, length, nat_le, Some, None, true, IfOk, IfSome, IfNone, option_map};
+ghost use Rattle.std.specs.Prelude.{◌≡◌, ◌<◌, ◌-◌, ◌&&◌, codes, length, nat_le, Some, None, true, IfOk, IfSome, IfNone};
+ghost use Rattle.std.specs.Prelude.{option_map};
 ghost use Rattle.mintc_cells.specs.Rules.{is_cell};
 ghost use Rattle.mintc_liberty_cell.specs.Expressions.{expression};
 ghost use Rattle.mintc_liberty_tokens.specs.Statements.{front};
 ghost use Rattle.mintc_liberty_cell.specs.Seen.{group_seen, pins_seen};
 ghost use Rattle.mintc_liberty_cell.specs.Held.{held, cell_held, is_between, has_counts};
-ghost use Rattle.mintc_liberty_cell.specs.Meaning.{last_value, inputs, outputs, others, stores, latch_by, flop_by, clock_by, gate_by, stateless, keeper_by, with_role, only, kept, cell_of};
+ghost use Rattle.mintc_liberty_cell.specs.Meaning.{last_value, inputs, outputs, others, stores, latch_by, flop_by};
+ghost use Rattle.mintc_liberty_cell.specs.Meaning.{clock_by, gate_by, stateless, keeper_by, with_role, only, kept};
+ghost use Rattle.mintc_liberty_cell.specs.Meaning.{cell_of};
 ghost use Rattle.mintc_liberty_cell.specs.declared.pins.Role.TheVariants as role;
 
 use crate::expressions::{Literal, expression};
@@ -33,8 +36,12 @@ fn last_expression<'a>(
     key: &[u8],
     room: u32,
 ) -> Result<Option<Literal<'a>>, OutOfMemory>
-    ensures none { IfOk result (λ o. IfNone o (expression (inputs (pins_seen pins.now)) (last_value key.now (front room inside.now).statements) ≡ None)) }
-    ensures some { IfOk result (λ o. IfSome o (λ l. expression (inputs (pins_seen pins.now)) (last_value key.now (front room inside.now).statements) ≡ Some (l.name.now, l.is_plain))) }
+    ensures none { IfOk result
+        (λ o. IfNone o (expression (inputs (pins_seen pins.now)) (last_value key.now (front room inside.now).statements)
+        ≡ None)) }
+    ensures some { IfOk result
+        (λ o. IfSome o (λ l. expression (inputs (pins_seen pins.now))
+        (last_value key.now (front room inside.now).statements) ≡ Some (l.name.now, l.is_plain))) }
 {
     let value = last_value(inside, key, room);
     expression(alloc, pins, &value)
@@ -49,8 +56,11 @@ fn stores<'a>(
     data_key: &[u8],
     room: u32,
 ) -> Result<Option<Stored<'a>>, OutOfMemory>
-    ensures none { IfOk result (λ o. IfNone o (stores (pins_seen pins.now) control_key.now data_key.now (front room inside.now).statements ≡ None)) }
-    ensures some { IfOk result (λ o. IfSome o (λ s. stores (pins_seen pins.now) control_key.now data_key.now (front room inside.now).statements
+    ensures none { IfOk result
+        (λ o. IfNone o (stores (pins_seen pins.now) control_key.now data_key.now (front room inside.now).statements
+        ≡ None)) }
+    ensures some { IfOk result
+        (λ o. IfSome o (λ s. stores (pins_seen pins.now) control_key.now data_key.now (front room inside.now).statements
         ≡ Some ((s.control.name.now, s.control.is_plain), s.data_pin.now))) }
 {
     let Some(control) = last_expression(alloc, pins, inside, control_key, room)? else {
@@ -88,7 +98,8 @@ fn two_names(alloc: Global, one: &[u8], two: &[u8]) -> Result<(Name, Name), OutO
 /// The pins of a latch or a flop.
 fn wires_of(alloc: Global, pins: &[Pin], stored: &Stored) -> Result<Wires, OutOfMemory>
     ensures { IfOk result (λ w. (w.data ≡ stored.now.data_pin.now) × (w.control ≡ stored.now.control.name.now)
-        × (w.outputs ≡ outputs (pins_seen pins.now)) × (w.ignored ≡ others stored.now.data_pin.now stored.now.control.name.now (inputs (pins_seen pins.now)))) }
+        × (w.outputs ≡ outputs (pins_seen pins.now))
+        × (w.ignored ≡ others stored.now.data_pin.now stored.now.control.name.now (inputs (pins_seen pins.now)))) }
 {
     let outputs = names(alloc, pins, Role::Output)?;
     let ignored = others(alloc, pins, stored.data_pin, stored.control.name)?;
@@ -103,7 +114,11 @@ fn wires_of(alloc: Global, pins: &[Pin], stored: &Stored) -> Result<Wires, OutOf
 
 /// A latch without numbers.
 fn latch(alloc: Global, pins: &[Pin], stored: &Stored) -> Result<Cell, OutOfMemory>
-    ensures { IfOk result (λ cell. cell ≡ latch_by (pins_seen pins.now) ((stored.now.control.name.now, stored.now.control.is_plain), stored.now.data_pin.now)) }
+    ensures { IfOk result
+        (λ cell. cell ≡ latch_by (pins_seen pins.now) (
+          (stored.now.control.name.now, stored.now.control.is_plain),
+          stored.now.data_pin.now,
+        )) }
 {
     let wires = wires_of(alloc, pins, stored)?;
     Ok(Cell::Latch {
@@ -126,7 +141,11 @@ fn latch(alloc: Global, pins: &[Pin], stored: &Stored) -> Result<Cell, OutOfMemo
 
 /// A flop without numbers.
 fn flop(alloc: Global, pins: &[Pin], stored: &Stored) -> Result<Cell, OutOfMemory>
-    ensures { IfOk result (λ cell. cell ≡ flop_by (pins_seen pins.now) ((stored.now.control.name.now, stored.now.control.is_plain), stored.now.data_pin.now)) }
+    ensures { IfOk result
+        (λ cell. cell ≡ flop_by (pins_seen pins.now) (
+          (stored.now.control.name.now, stored.now.control.is_plain),
+          stored.now.data_pin.now,
+        )) }
 {
     let wires = wires_of(alloc, pins, stored)?;
     Ok(Cell::Flop {
@@ -151,7 +170,9 @@ fn latch_of(
     inside: &Reader,
     room: u32,
 ) -> Result<Option<Cell>, OutOfMemory>
-    ensures { IfOk result (λ o. o ≡ option_map (latch_by (pins_seen pins.now)) (stores (pins_seen pins.now) (codes "enable") (codes "data_in") (front room inside.now).statements)) }
+    ensures { IfOk result
+        (λ o. o ≡ option_map (latch_by (pins_seen pins.now))
+        (stores (pins_seen pins.now) (codes "enable") (codes "data_in") (front room inside.now).statements)) }
 {
     match stores(alloc, pins, inside, b"enable", b"data_in", room)? {
         Some(stored) => Ok(Some(latch(alloc, pins, &stored)?)),
@@ -166,7 +187,9 @@ fn flop_of(
     inside: &Reader,
     room: u32,
 ) -> Result<Option<Cell>, OutOfMemory>
-    ensures { IfOk result (λ o. o ≡ option_map (flop_by (pins_seen pins.now)) (stores (pins_seen pins.now) (codes "clocked_on") (codes "next_state") (front room inside.now).statements)) }
+    ensures { IfOk result
+        (λ o. o ≡ option_map (flop_by (pins_seen pins.now))
+        (stores (pins_seen pins.now) (codes "clocked_on") (codes "next_state") (front room inside.now).statements)) }
 {
     match stores(alloc, pins, inside, b"clocked_on", b"next_state", room)? {
         Some(stored) => Ok(Some(flop(alloc, pins, &stored)?)),
@@ -194,7 +217,8 @@ fn keeper(
 
 /// The cell of a clock's tree, None where the pins aren't those of one.
 fn clock(alloc: Global, pins: &[Pin]) -> Result<Option<Cell>, OutOfMemory>
-    ensures { IfOk result (λ o. o ≡ clock_by (pins_seen pins.now) (only (with_role role.Clock (pins_seen pins.now))) (only (with_role role.Output (pins_seen pins.now)))) }
+    ensures { IfOk result (λ o. o ≡ clock_by (pins_seen pins.now) (only (with_role role.Clock (pins_seen pins.now)))
+        (only (with_role role.Output (pins_seen pins.now)))) }
 {
     let Some(input) = only(pins, Role::Clock) else {
         return Ok(None);
@@ -271,8 +295,8 @@ fn has_counts(cell: &Cell) -> bool
             outputs,
             ignored,
             ..
-        } => is_between(outputs, 1, 2) && is_between(ignored, 0, 64),
-        Cell::Flop {
+        }
+        | Cell::Flop {
             outputs,
             ignored,
             ..
@@ -286,10 +310,8 @@ fn if_within_rules(cell: Option<Cell>) -> Option<Cell>
     requires { IfSome cell (λ c. is_cell c ≡ has_counts c) }
     ensures { result ≡ kept cell }
 {
-    match cell {
-        Some(cell) => if has_counts(&cell) { Some(cell) } else { None },
-        None => None,
-    }
+    let cell = cell?;
+    if has_counts(&cell) { Some(cell) } else { None }
 }
 
 /// The cell of the group that a reader stands in, None where it is passed over.

@@ -1,5 +1,6 @@
 //! Expressions over one pin.
-ghost use Rattle.std.specs.Prelude.{◌≡◌, ◌+◌, ◌&&◌, nat_le, take, drop, length, IfOk, IfSome, IfNone, Some, None, true, false, option_map};
+ghost use Rattle.std.specs.Prelude.{◌≡◌, ◌+◌, ◌&&◌, nat_le, take, drop, length, IfOk, IfSome, IfNone, Some, None, true};
+ghost use Rattle.std.specs.Prelude.{false, option_map};
 ghost use Rattle.mintc_liberty_cell.specs.Expressions.{stripped, is_among, literal, inverted_input, expression};
 ghost use Rattle.std.specs.List.{list_any};
 ghost use Rattle.mintc_liberty_cell.specs.Meaning.{inputs, is_as};
@@ -26,10 +27,7 @@ pub(crate) struct Literal<'a> {
 fn one_more(count: usize) -> Result<usize, OutOfMemory>
     ensures { IfOk result (λ more. more ≡ count + 1) }
 {
-    match count.checked_add(1) {
-        Some(more) => Ok(more),
-        None => Err(OutOfMemory),
-    }
+    count.checked_add(1).ok_or(OutOfMemory)
 }
 
 /// How many bytes a value has, white space not counted.
@@ -140,7 +138,8 @@ fn input_named<'a>(pins: &[Pin<'a>], name: &[u8]) -> Option<&'a [u8]>
 /// The input of a name that a mark stands beside.
 fn input_beside_mark<'a>(pins: &[Pin<'a>], has_mark: bool, name: &[u8]) -> Option<&'a [u8]>
     ensures none { IfNone result ((has_mark && is_among (inputs (pins_seen pins.now)) name.now) ≡ false) }
-    ensures some { IfSome result (λ n. ((has_mark && is_among (inputs (pins_seen pins.now)) name.now) ≡ true) × (n.now ≡ name.now)) }
+    ensures some { IfSome result (λ n. ((has_mark && is_among (inputs (pins_seen pins.now)) name.now) ≡ true)
+        × (n.now ≡ name.now)) }
 {
     if has_mark {
         input_named(pins, name)
@@ -164,7 +163,8 @@ fn inverted_input<'a>(pins: &[Pin<'a>], bytes: &[u8]) -> Option<&'a [u8]>
 /// `P`, `!P` or `P'` of an input.
 fn literal_of<'a>(pins: &[Pin<'a>], bytes: &[u8]) -> Option<Literal<'a>>
     ensures none { IfNone result (literal (inputs (pins_seen pins.now)) bytes.now ≡ None) }
-    ensures some { IfSome result (λ l. literal (inputs (pins_seen pins.now)) bytes.now ≡ Some (l.name.now, l.is_plain)) }
+    ensures some { IfSome result (λ l. literal (inputs (pins_seen pins.now)) bytes.now
+        ≡ Some (l.name.now, l.is_plain)) }
 {
     if let Some(name) = input_named(pins, bytes) {
         return Some(Literal {
@@ -172,13 +172,11 @@ fn literal_of<'a>(pins: &[Pin<'a>], bytes: &[u8]) -> Option<Literal<'a>>
             is_plain: true,
         });
     }
-    match inverted_input(pins, bytes) {
-        Some(name) => Some(Literal {
-            name,
-            is_plain: false,
-        }),
-        None => None,
-    }
+    let name = inverted_input(pins, bytes)?;
+    Some(Literal {
+        name,
+        is_plain: false,
+    })
 }
 
 /// The expression over an input that a value is.
@@ -187,8 +185,11 @@ pub(crate) fn expression<'a>(
     pins: &[Pin<'a>],
     value: &Option<Reader>,
 ) -> Result<Option<Literal<'a>>, OutOfMemory>
-    ensures none { IfOk result (λ o. IfNone o (expression (inputs (pins_seen pins.now)) (option_map value_bytes value.now) ≡ None)) }
-    ensures some { IfOk result (λ o. IfSome o (λ l. expression (inputs (pins_seen pins.now)) (option_map value_bytes value.now) ≡ Some (l.name.now, l.is_plain))) }
+    ensures none { IfOk result
+        (λ o. IfNone o (expression (inputs (pins_seen pins.now)) (option_map value_bytes value.now) ≡ None)) }
+    ensures some { IfOk result
+        (λ o. IfSome o (λ l. expression (inputs (pins_seen pins.now)) (option_map value_bytes value.now)
+        ≡ Some (l.name.now, l.is_plain))) }
 {
     match value {
         Some(value) => {

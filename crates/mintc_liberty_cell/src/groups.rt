@@ -56,7 +56,8 @@ pub fn group_at<'a>(reader: &Reader<'a>) -> Option<Group<'a>>
 /// Passes the statements up to the next group, and that one.
 pub(crate) fn next_group<'a>(reader: &mut Reader<'a>, room: u32) -> Option<Group<'a>>
     ensures none { IfNone result (groups (front room reader.old).statements ≡ []) }
-    ensures some { IfSome result (λ g. groups (front room reader.old).statements ≡ group_seen (room - 1) g ∷ groups (front room reader.new).statements) }
+    ensures some { IfSome result (λ g. groups (front room reader.old).statements ≡ group_seen (room - 1) g ∷
+        groups (front room reader.new).statements) }
     ensures shorter { OnSome result (length reader.new < length reader.old) }
 {
     loop {
@@ -73,7 +74,8 @@ pub(crate) fn next_group<'a>(reader: &mut Reader<'a>, room: u32) -> Option<Group
 /// Passes the items up to the next name, and that one.
 pub(crate) fn next_name<'a>(items: &mut Reader<'a>) -> Option<&'a [u8]>
     ensures none { IfNone result (names_in (taken is_item items.old) ≡ []) }
-    ensures some { IfSome result (λ name. names_in (taken is_item items.old) ≡ name.now ∷ names_in (taken is_item items.new)) }
+    ensures some { IfSome result (λ name. names_in (taken is_item items.old) ≡ name.now ∷
+        names_in (taken is_item items.new)) }
     ensures shorter { OnSome result (length items.new < length items.old) }
 {
     loop {
@@ -89,7 +91,8 @@ pub(crate) fn next_name<'a>(items: &mut Reader<'a>) -> Option<&'a [u8]>
 
 /// The one item, if it is a name.
 pub fn only_name<'a>(items: &Reader<'a>) -> Option<&'a [u8]>
-    ensures { MatchOption result (only_name (taken is_item items.now) ≡ None) (λ name. only_name (taken is_item items.now) ≡ Some name.now) }
+    ensures { MatchOption result (only_name (taken is_item items.now) ≡ None)
+        (λ name. only_name (taken is_item items.now) ≡ Some name.now) }
 {
     let mut rest = items.copy();
     let name = match rest.kind() {

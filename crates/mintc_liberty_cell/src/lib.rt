@@ -1,10 +1,13 @@
-//! What one cell of a Liberty library means: a gate, a latch, a flop or a cell of the clock's tree, by what stands in its group.
+//! What one cell of a Liberty library means: a gate, a latch, a flop or a cell of the clock's tree, by what stands
+//! in its group.
 //!
-//! `cell_of` gives the cell that the statements of a group mean, or none where it can't be used. The code builds no statements: the
-//! group is passed a few times by copies of one reader, for its groups, its pins and what is said of them. An expression is judged
-//! without its outer parentheses, and no more of it is kept than an input of the cell may be called.
+//! `cell_of` gives the cell that the statements of a group mean, or none where it can't be used. The code builds no
+//! statements: the group is passed a few times by copies of one reader, for its groups, its pins and what is said
+//! of them. An expression is judged without its outer parentheses, and no more of it is kept than an input of the
+//! cell may be called.
 //!
-//! The crate above gets the cell of a group, and the groups that stand among statements, by which it finds a library's cells.
+//! The crate above gets the cell of a group, and the groups that stand among statements, by which it finds a
+//! library's cells.
 #![tactic(auto)]
 
 mod bytes;

@@ -41,7 +41,8 @@ fn is_keeping(name: &[u8]) -> bool
 fn add<'a>(parts: &mut Parts<'a>, group: Group<'a>, room: u32) -> Result<bool, OutOfMemory>
     requires { are_pins (pins_seen parts.old.pins.items) ≡ true }
     ensures same { IfOk result (λ b. MatchBool b
-        ((gs : List GroupSaid) → cell_with (held room parts.old) (group_seen room group.entry ∷ gs) ≡ cell_with (held room parts.new) gs)
+        ((gs : List GroupSaid) → cell_with (held room parts.old) (group_seen room group.entry ∷ gs)
+        ≡ cell_with (held room parts.new) gs)
         ((gs : List GroupSaid) → cell_with (held room parts.old) (group_seen room group.entry ∷ gs) ≡ None)) }
     ensures pins { IfOk result (λ b. b ≡ true → are_pins (pins_seen parts.new.pins.items) ≡ true) }
 {
@@ -69,7 +70,8 @@ pub(crate) fn parts_of<'a>(
 ) -> Result<Option<Parts<'a>>, OutOfMemory>
     requires { 0 < room }
     ensures none { IfOk result (λ o. IfNone o (cell_of (front room inside.now).statements ≡ None)) }
-    ensures some { IfOk result (λ o. IfSome o (λ p. cell_of (front room inside.now).statements ≡ kept (cell_held (held (room - 1) p)))) }
+    ensures some { IfOk result
+        (λ o. IfSome o (λ p. cell_of (front room inside.now).statements ≡ kept (cell_held (held (room - 1) p)))) }
     ensures pins { IfOk result (λ o. IfSome o (λ p. are_pins (pins_seen p.pins.items) ≡ true)) }
 {
     let mut reader = inside.copy();

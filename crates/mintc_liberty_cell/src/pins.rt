@@ -1,5 +1,6 @@
 //! The pins of a cell.
-ghost use Rattle.std.specs.Prelude.{◌≡◌, ◌++◌, ◌∷◌, [], Some, None, true, false, IfOk, IfSome, IfNone, MatchBool, ◌&&◌, ◌||◌, not, nat_lt, length, codes, bytes_eq, option_map};
+ghost use Rattle.std.specs.Prelude.{◌≡◌, ◌++◌, ◌∷◌, [], Some, None, true, false, IfOk, IfSome, IfNone, MatchBool, ◌&&◌};
+ghost use Rattle.std.specs.Prelude.{◌||◌, not, nat_lt, length, codes, bytes_eq, option_map};
 ghost use Rattle.mintc_toml.specs.Rules.{is_name};
 ghost use Rattle.mintc_liberty_cell.specs.declared.pins.Role.TheVariants as role;
 ghost use Rattle.mintc_liberty_tokens.specs.Tokens.{is_item, names_in};
@@ -7,7 +8,8 @@ ghost use Rattle.mintc_liberty_tokens.specs.Statements.{front, taken};
 ghost use Rattle.mintc_liberty_cell.specs.Expressions.{is_among};
 ghost use Rattle.mintc_liberty_cell.specs.Passing.{value_bytes};
 ghost use Rattle.mintc_liberty_cell.specs.Seen.{pin_seen, pins_seen, group_seen};
-ghost use Rattle.mintc_liberty_cell.specs.Meaning.{pin_with, says, is_as, role_of, names, inputs, others, with_role, only, are_pins, pins_of};
+ghost use Rattle.mintc_liberty_cell.specs.Meaning.{pin_with, says, is_as, role_of, names, inputs, others, with_role};
+ghost use Rattle.mintc_liberty_cell.specs.Meaning.{only, are_pins, pins_of};
 
 use crate::groups::{Group, next_name};
 use crate::values::{last_value, says};
@@ -76,7 +78,8 @@ fn is_there(pins: &[Pin], name: &[u8]) -> bool
 
 /// Whether a pin of this name may come with these.
 fn may_come(pins: &[Pin], name: &[u8]) -> bool
-    ensures { result ≡ ((nat_lt (length pins.now) 80 && is_name name.now) && not (is_among (names (pins_seen pins.now)) name.now)) }
+    ensures { result ≡ ((nat_lt (length pins.now) 80 && is_name name.now)
+        && not (is_among (names (pins_seen pins.now)) name.now)) }
 {
     (pins.len() < 80 && is_name(name)) && !is_there(pins, name)
 }
@@ -90,14 +93,16 @@ pub(crate) fn is_input(pin: &Pin, name: &[u8]) -> bool
 
 /// Whether a pin is an input of neither name.
 fn is_other(pin: &Pin, one: &[u8], two: &[u8]) -> bool
-    ensures { result ≡ (is_as role.Input pin.now.role && not (bytes_eq pin.now.name.now one.now || bytes_eq pin.now.name.now two.now)) }
+    ensures { result ≡ (is_as role.Input pin.now.role
+        && not (bytes_eq pin.now.name.now one.now || bytes_eq pin.now.name.now two.now)) }
 {
     is_as(Role::Input, pin.role) && !(pin.name == one || pin.name == two)
 }
 
 /// Whether a group is one of pins that aren't inside the cell.
 fn has_pins(group: &Group, room: u32) -> bool
-    ensures { result ≡ (bytes_eq group.now.name.now (codes "pin") && not (says (codes "direction") (codes "internal") (front room group.now.inside).statements)) }
+    ensures { result ≡ (bytes_eq group.now.name.now (codes "pin")
+        && not (says (codes "direction") (codes "internal") (front room group.now.inside).statements)) }
 {
     group.name == b"pin".as_slice() && !says(&group.inside, b"direction", b"internal", room)
 }
@@ -121,7 +126,8 @@ fn add_pin<'a>(
 ) -> Result<bool, OutOfMemory>
     requires { are_pins (pins_seen pins.old.items) ≡ true }
     ensures { let added = pins_seen pins.old.items ++ pin_with role (option_map value_bytes function.now) name.now ∷ []
-        in IfOk result (λ b. MatchBool b ((pins_seen pins.new.items ≡ added) × (are_pins added ≡ true)) (are_pins added ≡ false)) }
+        in IfOk result (λ b. MatchBool b ((pins_seen pins.new.items ≡ added)
+        × (are_pins added ≡ true)) (are_pins added ≡ false)) }
 {
     let Some(role) = role else {
         return Ok(false);
@@ -145,7 +151,8 @@ pub(crate) fn add_pins<'a>(
 ) -> Result<bool, OutOfMemory>
     requires { are_pins (pins_seen pins.old.items) ≡ true }
     ensures { let added = pins_seen pins.old.items ++ pins_of (group_seen room group.now)
-        in IfOk result (λ b. MatchBool b ((pins_seen pins.new.items ≡ added) × (are_pins added ≡ true)) (are_pins added ≡ false)) }
+        in IfOk result (λ b. MatchBool b ((pins_seen pins.new.items ≡ added)
+        × (are_pins added ≡ true)) (are_pins added ≡ false)) }
 {
     if !has_pins(group, room) {
         return Ok(true);

@@ -1,8 +1,9 @@
 //! The values of attributes, read while statements are passed.
 ghost use Rattle.std.specs.Prelude.{◌≡◌, Some, None, IfSome, IfNone, option_map, bytes_eq};
+ghost use Rattle.std.specs.Option.{option_or};
 ghost use Rattle.mintc_liberty_cell.specs.Passing.{value_bytes, attribute_at, value_if};
 ghost use Rattle.mintc_liberty_tokens.specs.Statements.{front};
-ghost use Rattle.mintc_liberty_cell.specs.Meaning.{or_else, last_value, says};
+ghost use Rattle.mintc_liberty_cell.specs.Meaning.{last_value, says};
 
 use mintc_liberty_tokens::{Kind, Reader, eat_sign, statement, value_token};
 
@@ -32,7 +33,8 @@ fn attribute_at<'a>(reader: &Reader<'a>) -> Option<Found<'a>>
 /// The later of two values: the next attribute's, if it has the name, else the one before.
 fn later<'a>(found: Option<Reader<'a>>, next: Option<Found<'a>>, name: &[u8]) -> Option<Reader<'a>>
     ensures none { IfNone next.entry (option_map value_bytes result ≡ option_map value_bytes found.entry) }
-    ensures some { IfSome next.entry (λ f. option_map value_bytes result ≡ or_else (value_if name.now (Some (f.name.now, f.value))) (option_map value_bytes found.entry)) }
+    ensures some { IfSome next.entry (λ f. option_map value_bytes result
+        ≡ option_or (value_if name.now (Some (f.name.now, f.value))) (option_map value_bytes found.entry)) }
 {
     match next {
         None => found,

@@ -1,9 +1,11 @@
 -- What stands at the front of tokens, and where a reader stands.
 pub use Rattle.mintc_liberty_tokens.specs.Tokens.{word_at, past, after_opening, after_closing, after_left, after_right}
 use Rattle.std.specs.Prelude.{ℕ, Bool, true, false, ◌==◌, if◌then◌else◌, List, [], ◌∷◌, Option, Some, None, option_map}
+use Rattle.mintc_text.specs.Signs as ascii
 use Rattle.mintc_liberty_tokens.specs.declared.reader.Kind.{Kind}
 use Rattle.mintc_liberty_tokens.specs.declared.reader.Kind.TheVariants as kind
-use Rattle.mintc_liberty_tokens.specs.Tokens.{Token, opening, closing, left, right, colon, semicolon, comma, word, string, bad, is_value, is_item, bytes_of}
+use Rattle.mintc_liberty_tokens.specs.Tokens.{Token, opening, closing, left, right, colon, semicolon, comma, word}
+use Rattle.mintc_liberty_tokens.specs.Tokens.{string, bad, is_value, is_item, bytes_of}
 use Rattle.mintc_liberty_tokens.specs.Statements.{Step, taken, left_over, called, statement_by, front}
 
 -- the kind of what comes next: at an open string it is a text too
@@ -20,17 +22,18 @@ kind_of (word w ∷ ts) = kind.Word
 kind_of (string s ∷ ts) = kind.Text
 kind_of (bad ∷ ts) = kind.Text
 
+-- the same by the first byte of a text that begins with a token
 abbrev pub kind_by : List ℕ → Kind
 kind_by [] = kind.End
 kind_by (b ∷ bs) =
-    if b == 40 then kind.Opening
-    else (if b == 41 then kind.Closing
-    else (if b == 123 then kind.Left
-    else (if b == 125 then kind.Right
-    else (if b == 58 then kind.Colon
-    else (if b == 59 then kind.Semicolon
-    else (if b == 44 then kind.Comma
-    else (if b == 34 then kind.Text
+    if b == ascii.open_parenthesis then kind.Opening
+    else (if b == ascii.close_parenthesis then kind.Closing
+    else (if b == ascii.open_brace then kind.Left
+    else (if b == ascii.close_brace then kind.Right
+    else (if b == ascii.colon then kind.Colon
+    else (if b == ascii.semicolon then kind.Semicolon
+    else (if b == ascii.comma then kind.Comma
+    else (if b == ascii.quote then kind.Text
     else kind.Word)))))))
 
 -- the token of a kind with these bytes
@@ -53,6 +56,7 @@ is_sign_kind kind.Text = false
 is_sign_kind kind.End = false
 is_sign_kind _ = true
 
+-- a string and what follows it
 abbrev pub string_at : List Token → Option (List ℕ × List Token)
 string_at (string s ∷ ts) = Some (s, ts)
 string_at _ = None
@@ -73,6 +77,7 @@ abbrev pub past_value : List Token → List Token → Option (List Token)
 past_value (t ∷ ts) (semicolon ∷ rest) = Some rest
 past_value _ _ = None
 
+-- what is left behind the value and its `;`
 abbrev pub value_rest : List Token → Option (List Token)
 value_rest ts = past_value (taken is_value ts) (left_over is_value ts)
 
@@ -88,9 +93,11 @@ group_rest room ts = after_right (front room ts).after
 abbrev pub step_rest : Option Step → Option (List Token)
 step_rest o = option_map (λ s. s.1) o
 
+-- what is left behind the statement at the front, where groups nest so deep at most
 abbrev pub statement_rest : ℕ → List Token → Option (List Token)
 statement_rest room ts = step_rest (statement_by front room ts)
 
+-- what follows a `;`
 abbrev pub after_semicolon : List Token → Option (List Token)
 after_semicolon (semicolon ∷ ts) = Some ts
 after_semicolon _ = None
@@ -99,5 +106,6 @@ after_semicolon _ = None
 abbrev pub called_rest : ℕ → List Token → Option (List Token)
 called_rest room ts = step_rest (called front room [] [] ts)
 
+-- behind `WORD (`, what is left behind the items and the rest of the statement
 abbrev pub call_rest : ℕ → List Token → Option (List Token)
 call_rest room ts = called_rest room (left_over is_item ts)

@@ -8,6 +8,7 @@ pub record Scan : Type 0 where
   pub place : ℕ
   pub tokens : List Token
 
+-- a text from a place on
 abbrev pub scan_at : List ℕ → ℕ → Scan
 scan_at text place = record { text = text; place = place; tokens = tokens_of (drop place text) }
 

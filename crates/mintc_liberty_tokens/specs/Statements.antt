@@ -1,11 +1,13 @@
 -- The statements that tokens write: attributes, statements of the second form, and groups.
-use Rattle.std.specs.Prelude.{ℕ, zero, suc, max, Bool, true, false, ◌&&◌, if◌then◌else◌, List, [], ◌∷◌, ◌++◌, length, Option, Some, None, IsTrue}
+use Rattle.std.specs.Prelude.{ℕ, zero, suc, max, Bool, true, false, ◌&&◌, if◌then◌else◌, List, [], ◌∷◌, ◌++◌, length}
+use Rattle.std.specs.Prelude.{Option, Some, None, IsTrue}
 use Rattle.std.specs.List.{list_all}
-use Rattle.mintc_liberty_tokens.specs.Tokens.{Token, opening, closing, left, right, colon, semicolon, word, is_value, is_item}
+use Rattle.mintc_liberty_tokens.specs.Tokens.{Token, opening, closing, left, right, colon, semicolon, word, is_value}
+use Rattle.mintc_liberty_tokens.specs.Tokens.{is_item}
 
 mutual
-  -- An attribute with its value's tokens, a statement of the second form with its items, or a group with its items and the
-  -- statements inside.
+  -- An attribute with its value's tokens, a statement of the second form with its items, or a group with its items
+  -- and the statements inside.
   pub data Statement : Type 0 where
     attribute : List ℕ → List Token → Statement
     plain : List ℕ → List Token → Statement
@@ -24,8 +26,8 @@ count (more s is) = suc (count is)
 abbrev pub Step : Type 0
 Step = Statement × List Token
 
--- The statements that stand whole at the front of tokens, and the tokens behind them: none, or those from the first on that
--- no whole statement begins with.
+-- The statements that stand whole at the front of tokens, and the tokens behind them: none, or those from the first
+-- on that no whole statement begins with.
 pub record Front : Type 0 where
   pub statements : Statements
   pub after : List Token
@@ -35,6 +37,7 @@ abbrev pub taken : (Token → Bool) → List Token → List Token
 taken test [] = []
 taken test (t ∷ ts) = if test t then t ∷ taken test ts else []
 
+-- the tokens behind those of this kind
 abbrev pub left_over : (Token → Bool) → List Token → List Token
 left_over test [] = []
 left_over test (t ∷ ts) = if test t then left_over test ts else t ∷ ts
@@ -85,8 +88,8 @@ fronts (suc n) room ts = and_more (fronts n room) ts (statement_by (fronts n) ro
 abbrev pub front : ℕ → List Token → Front
 front room ts = fronts (length ts) room ts
 
--- How statements are written, for reading beside the function: a `;` behind a statement of the second form or a group may be
--- left out.
+-- How statements are written, for reading beside the function: a `;` behind a statement of the second form or a
+-- group may be left out.
 
 -- at least one token of a value; and items, of which there may be none
 abbrev pub are_value : List Token → Bool
@@ -110,12 +113,14 @@ abbrev mutual
   depth none = 0
   depth (more s is) = max (depth_of s) (depth is)
 
+-- the tokens that write some statements
 pub data Writes : Statements → List Token → Type 0 where
   no_more : Writes none []
   an_attribute : (w : List ℕ) (v : List Token) (is : Statements) (ts : List Token) →
       IsTrue (are_value v) → Writes is ts → Writes (more (attribute w v) is) (word w ∷ colon ∷ v ++ semicolon ∷ ts)
   a_plain : (w : List ℕ) (items : List Token) (is : Statements) (end ts : List Token) →
-      IsTrue (list_all is_item items) → IsTrue (is_optional end) → Writes is ts → Writes (more (plain w items) is) (word w ∷ opening ∷ items ++ closing ∷ end ++ ts)
+      IsTrue (list_all is_item items) → IsTrue (is_optional end) → Writes is ts →
+      Writes (more (plain w items) is) (word w ∷ opening ∷ items ++ closing ∷ end ++ ts)
   a_group : (w : List ℕ) (items : List Token) (inner is : Statements) (us end ts : List Token) →
       IsTrue (list_all is_item items) → Writes inner us → IsTrue (is_optional end) → Writes is ts →
       Writes (more (group w items inner) is) (word w ∷ opening ∷ items ++ closing ∷ left ∷ us ++ right ∷ end ++ ts)

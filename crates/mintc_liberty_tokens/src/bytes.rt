@@ -21,7 +21,8 @@ fn ends_word(b: u8) -> bool
 /// Whether a word stops at a place.
 fn stops_word(bytes: &[u8], at: usize) -> bool
     requires { at < length bytes.now }
-    ensures { result ≡ (ends_word (slice_index bytes.now at) || ((slice_index bytes.now at == 92) && (slice_index bytes.now (at + 1) == 10))) }
+    ensures { result ≡ (ends_word (slice_index bytes.now at)
+        || ((slice_index bytes.now at == 92) && (slice_index bytes.now (at + 1) == 10))) }
 {
     ends_word(bytes[at]) || is_pair(bytes, at, b'\\', b'\n')
 }

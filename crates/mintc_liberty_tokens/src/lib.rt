@@ -1,8 +1,9 @@
-//! The tokens of a Liberty text and the statements that they make: attributes, statements of the second form, and groups.
+//! The tokens of a Liberty text and the statements that they make: attributes, statements of the second form, and
+//! groups.
 //!
-//! `tokens_of` is the list of a text's tokens, and `front` gives the statements that stand whole at the front of tokens, with
-//! what is left behind them. The code builds neither: a reader passes over the text, and each function says what is left when it
-//! has passed what it is called after. Groups nest as deep as the caller allows.
+//! `tokens_of` is the list of a text's tokens, and `front` gives the statements that stand whole at the front of
+//! tokens, with what is left behind them. The code builds neither: a reader passes over the text, and each function
+//! says what is left when it has passed what it is called after. Groups nest as deep as the caller allows.
 #![tactic(auto)]
 
 mod bytes;

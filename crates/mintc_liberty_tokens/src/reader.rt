@@ -2,7 +2,8 @@
 ghost use Rattle.std.specs.Prelude.{◌≡◌, ◌∷◌, true, Some, None, IfSome, IfNone, MatchBool, List, ℕ};
 ghost use Rattle.mintc_liberty_tokens.specs.Tokens.{Token, is_item, tokens_of};
 ghost use Rattle.mintc_liberty_tokens.specs.Statements.{past_semicolon};
-ghost use Rattle.mintc_liberty_tokens.specs.Reading.{kind_of, token_of, is_sign_kind, word_at, string_at, past, value_at, items_rest, statement_rest};
+ghost use Rattle.mintc_liberty_tokens.specs.Reading.{kind_of, token_of, is_sign_kind, word_at, string_at, past};
+ghost use Rattle.mintc_liberty_tokens.specs.Reading.{value_at, items_rest, statement_rest};
 
 use crate::scanner::Scanner;
 use crate::statements;
@@ -102,7 +103,8 @@ impl<'a> Reader<'a> {
 /// Passes a sign of this kind, if it comes next.
 pub fn eat_sign(reader: &mut Reader, kind: Kind) -> bool
     requires { is_sign_kind kind ≡ true }
-    ensures { MatchBool result ((w : List ℕ) → reader.old ≡ token_of kind w ∷ reader.new) ((kind ≡ kind_of reader.old → ⊥) × (reader.new ≡ reader.old)) }
+    ensures { MatchBool result ((w : List ℕ) → reader.old ≡ token_of kind w ∷ reader.new)
+        ((kind ≡ kind_of reader.old → ⊥) × (reader.new ≡ reader.old)) }
 {
     statements::eat_sign(&mut reader.scanner, kind)
 }
@@ -117,7 +119,8 @@ pub fn value_token<'a>(reader: &mut Reader<'a>) -> Option<&'a [u8]>
 
 /// Passes an item, if one comes next.
 pub fn item(reader: &mut Reader) -> bool
-    ensures { MatchBool result (past is_item reader.old ≡ Some reader.new) ((past is_item reader.old ≡ None) × (reader.new ≡ reader.old)) }
+    ensures { MatchBool result (past is_item reader.old ≡ Some reader.new) ((past is_item reader.old ≡ None)
+        × (reader.new ≡ reader.old)) }
 {
     statements::item(&mut reader.scanner)
 }
@@ -138,7 +141,8 @@ pub fn semicolon(reader: &mut Reader)
 
 /// Passes one statement.
 pub fn statement(reader: &mut Reader, room: u32) -> bool
-    ensures { MatchBool result (statement_rest room reader.old ≡ Some reader.new) (statement_rest room reader.old ≡ None) }
+    ensures { MatchBool result (statement_rest room reader.old ≡ Some reader.new) (statement_rest room reader.old
+        ≡ None) }
 {
     statements::statement(&mut reader.scanner, room)
 }

@@ -2,7 +2,8 @@
 ghost use Rattle.std.specs.Prelude.{◌≡◌, ◌≤◌, ◌<◌, ◌+◌, ◌∷◌, true, drop, length, Some, None, IfSome, IfNone, List, ℕ};
 ghost use Rattle.mintc_liberty_tokens.specs.Tokens.{Token, tokens_of};
 ghost use Rattle.mintc_liberty_tokens.specs.Scans.{Scan, IsAhead};
-ghost use Rattle.mintc_liberty_tokens.specs.Reading.{kind_of, kind_by, token_of, is_sign_kind, word_at, string_at, name_at};
+ghost use Rattle.mintc_liberty_tokens.specs.Reading.{kind_of, kind_by, token_of, is_sign_kind, word_at, string_at};
+ghost use Rattle.mintc_liberty_tokens.specs.Reading.{name_at};
 
 use crate::bytes::word_size;
 use crate::reader::Kind;
@@ -29,7 +30,8 @@ impl<'a> Model for Scanner<'a> {
 
     ghost view = { λ r. scan_at r.text.now r.at };
 
-    ghost invariant = { λ r. (r.at ≤ length r.text.now) × (is_settled piece_of (drop r.at r.text.now) ≡ true) × EndsBefore r.text.now r.last };
+    ghost invariant = { λ r. (r.at ≤ length r.text.now) × (is_settled piece_of (drop r.at r.text.now) ≡ true)
+        × EndsBefore r.text.now r.last };
 }
 
 /// What the first byte says that comes next.

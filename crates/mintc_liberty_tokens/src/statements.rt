@@ -3,7 +3,8 @@ ghost use Rattle.std.specs.Prelude.{◌≡◌, ◌<◌, ◌≤◌, ◌+◌, ◌�
 ghost use Rattle.mintc_liberty_tokens.specs.Tokens.{Token, is_value, is_item};
 ghost use Rattle.mintc_liberty_tokens.specs.Scans.{IsAhead};
 ghost use Rattle.mintc_liberty_tokens.specs.Statements.{past_semicolon};
-ghost use Rattle.mintc_liberty_tokens.specs.Reading.{kind_of, token_of, is_sign_kind, past, value_at, value_rest, items_rest, call_rest, group_rest, statement_rest};
+ghost use Rattle.mintc_liberty_tokens.specs.Reading.{kind_of, token_of, is_sign_kind, past, value_at, value_rest};
+ghost use Rattle.mintc_liberty_tokens.specs.Reading.{items_rest, call_rest, group_rest, statement_rest};
 
 use crate::reader::Kind;
 use crate::scanner::Scanner;
@@ -11,7 +12,8 @@ use crate::scanner::Scanner;
 /// Passes a sign of this kind, if it comes next.
 pub fn eat_sign(scanner: &mut Scanner, kind: Kind) -> bool
     requires { is_sign_kind kind ≡ true }
-    ensures passed { MatchBool result ((w : List ℕ) → scanner.old.tokens ≡ token_of kind w ∷ scanner.new.tokens) ((kind ≡ kind_of scanner.old.tokens → ⊥) × (scanner.new ≡ scanner.old)) }
+    ensures passed { MatchBool result ((w : List ℕ) → scanner.old.tokens ≡ token_of kind w ∷ scanner.new.tokens)
+        ((kind ≡ kind_of scanner.old.tokens → ⊥) × (scanner.new ≡ scanner.old)) }
     ensures ahead { IsAhead scanner.old scanner.new }
 {
     if scanner.kind() == kind {
@@ -53,7 +55,8 @@ pub fn value_token<'a>(scanner: &mut Scanner<'a>) -> Option<&'a [u8]>
 
 /// Passes a token of a value, if one comes next.
 fn pass_value(scanner: &mut Scanner) -> bool
-    ensures passed { MatchBool result (past is_value scanner.old.tokens ≡ Some scanner.new.tokens) ((past is_value scanner.old.tokens ≡ None) × (scanner.new ≡ scanner.old)) }
+    ensures passed { MatchBool result (past is_value scanner.old.tokens ≡ Some scanner.new.tokens)
+        ((past is_value scanner.old.tokens ≡ None) × (scanner.new ≡ scanner.old)) }
     ensures ahead { IsAhead scanner.old scanner.new }
 {
     value_token(scanner).is_some()
@@ -61,7 +64,8 @@ fn pass_value(scanner: &mut Scanner) -> bool
 
 /// Passes an item, if one comes next.
 pub fn item(scanner: &mut Scanner) -> bool
-    ensures passed { MatchBool result (past is_item scanner.old.tokens ≡ Some scanner.new.tokens) ((past is_item scanner.old.tokens ≡ None) × (scanner.new ≡ scanner.old)) }
+    ensures passed { MatchBool result (past is_item scanner.old.tokens ≡ Some scanner.new.tokens)
+        ((past is_item scanner.old.tokens ≡ None) × (scanner.new ≡ scanner.old)) }
     ensures ahead { IsAhead scanner.old scanner.new }
 {
     match scanner.kind() {
@@ -81,7 +85,8 @@ pub fn item(scanner: &mut Scanner) -> bool
 
 /// Behind `WORD :`, passes the value and its `;`.
 fn value(scanner: &mut Scanner) -> bool
-    ensures passed { MatchBool result (value_rest scanner.old.tokens ≡ Some scanner.new.tokens) (value_rest scanner.old.tokens ≡ None) }
+    ensures passed { MatchBool result (value_rest scanner.old.tokens ≡ Some scanner.new.tokens)
+        (value_rest scanner.old.tokens ≡ None) }
     ensures ahead { IsAhead scanner.old scanner.new }
 {
     if !pass_value(scanner) {
@@ -93,7 +98,8 @@ fn value(scanner: &mut Scanner) -> bool
 
 /// Behind `WORD (`, passes the items and their parenthesis.
 pub fn items(scanner: &mut Scanner) -> bool
-    ensures passed { MatchBool result (items_rest scanner.old.tokens ≡ Some scanner.new.tokens) (items_rest scanner.old.tokens ≡ None) }
+    ensures passed { MatchBool result (items_rest scanner.old.tokens ≡ Some scanner.new.tokens)
+        (items_rest scanner.old.tokens ≡ None) }
     ensures ahead { IsAhead scanner.old scanner.new }
 {
     while item(scanner) {}
@@ -111,7 +117,8 @@ pub fn semicolon(scanner: &mut Scanner)
 /// Behind `WORD (`, passes the rest of a group or of a statement of the second form.
 #[cycle(nest)]
 pub fn call(scanner: &mut Scanner, room: u32) -> bool
-    ensures passed { MatchBool result (call_rest room scanner.old.tokens ≡ Some scanner.new.tokens) (call_rest room scanner.old.tokens ≡ None) }
+    ensures passed { MatchBool result (call_rest room scanner.old.tokens ≡ Some scanner.new.tokens)
+        (call_rest room scanner.old.tokens ≡ None) }
     ensures ahead { IsAhead scanner.old scanner.new }
 {
     if !items(scanner) {
@@ -134,7 +141,8 @@ pub fn call(scanner: &mut Scanner, room: u32) -> bool
 /// Passes one statement.
 #[cycle(nest)]
 pub fn statement(scanner: &mut Scanner, room: u32) -> bool
-    ensures passed { MatchBool result (statement_rest room scanner.old.tokens ≡ Some scanner.new.tokens) (statement_rest room scanner.old.tokens ≡ None) }
+    ensures passed { MatchBool result (statement_rest room scanner.old.tokens ≡ Some scanner.new.tokens)
+        (statement_rest room scanner.old.tokens ≡ None) }
     ensures ahead { IsAhead scanner.old scanner.new }
 {
     let Some(_) = scanner.word() else {
@@ -152,7 +160,8 @@ pub fn statement(scanner: &mut Scanner, room: u32) -> bool
 /// Behind `{`, passes the statements and their `}`.
 #[cycle(nest)]
 fn statements(scanner: &mut Scanner, room: u32) -> bool
-    ensures passed { MatchBool result (group_rest room scanner.old.tokens ≡ Some scanner.new.tokens) (group_rest room scanner.old.tokens ≡ None) }
+    ensures passed { MatchBool result (group_rest room scanner.old.tokens ≡ Some scanner.new.tokens)
+        (group_rest room scanner.old.tokens ≡ None) }
     ensures ahead { IsAhead scanner.old scanner.new }
 {
     loop {

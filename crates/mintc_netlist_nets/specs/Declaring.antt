@@ -6,6 +6,7 @@ use Rattle.mintc_netlist.specs.declared.module.Item.{Item}
 use Rattle.mintc_netlist.specs.Nets.{port_names, net_names, span_of, is_output_port}
 use Rattle.mintc_netlist_nets.specs.declared.declared.Declaration.{Declaration}
 
+-- a declaration by its range and its direction
 abbrev pub declaration : Option Span → Bool → Declaration
 declaration span output = record { span = span; output = output }
 
@@ -25,5 +26,6 @@ with_declaration ds d = cond (is_some (look d.0 ds)) ds (ds ++ d ∷ [])
 abbrev pub port_declarations : Item → List (List ℕ × Declaration)
 port_declarations i = map (declared_as (declaration (span_of i) (is_output_port i))) (port_names i)
 
+-- what a statement declares as nets
 abbrev pub net_declarations : Item → List (List ℕ × Declaration)
 net_declarations i = map (declared_as (declaration (span_of i) false)) (net_names i)

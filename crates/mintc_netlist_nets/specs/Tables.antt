@@ -14,15 +14,16 @@ use Rattle.mintc_netlist_nets.specs.Declaring.{with_declaration, port_declaratio
 abbrev pub bit_count : Option Span → ℕ
 bit_count span = option_map_or (λ s. length (indexes s)) span 1
 
--- How far a bit stands from the rightmost bit of its net, where the net has it: a net without a range has the bit without an index, a
--- vector those of its range.
+-- How far a bit stands from the rightmost bit of its net, where the net has it: a net without a range has the bit
+-- without an index, a vector those of its range.
 abbrev pub offset_of : Option Span → Option ℕ → Option ℕ
 offset_of None None = Some 0
 offset_of (Some s) (Some at) = cond (is_inside s at) (Some (abs_diff at s.lsb)) None
 offset_of None (Some at) = None
 offset_of (Some s) None = None
 
--- A module's nets: their names, each with the place of its first bit, what is declared as ports and as nets, and how many bits there are.
+-- A module's nets: their names, each with the place of its first bit, what is declared as ports and as nets, and
+-- how many bits there are.
 pub record NetTable : Type 0 where
   pub names : List (List ℕ)
   pub firsts : List ℕ
@@ -39,9 +40,11 @@ firsts_from m first (name ∷ names) = first ∷ firsts_from m (first + bit_coun
 abbrev pub declared_ports : Module → List (List ℕ × Declaration)
 declared_ports m = fold with_declaration [] (flat_map port_declarations m.items)
 
+-- what a module's statements declare as nets
 abbrev pub declared_nets : Module → List (List ℕ × Declaration)
 declared_nets m = fold with_declaration [] (flat_map net_declarations m.items)
 
+-- the table of the nets of a module
 abbrev pub table_of : Module → NetTable
 table_of m = record {
   names = names_of m;
@@ -55,5 +58,6 @@ table_of m = record {
 abbrev pub bit_place : Module → Bit → Option ℕ
 bit_place m b = Some (place_of m b)
 
+-- the place of the bit of a vector at an index
 abbrev pub part_place : Module → List ℕ → ℕ → Option ℕ
 part_place m name i = bit_place m (bit_of name (Some i))

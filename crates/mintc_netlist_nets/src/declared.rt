@@ -1,7 +1,8 @@
 //! What names are declared as.
 ghost use Rattle.std.specs.Prelude.{◌≡◌, [], map, fold, IfOk, OnOk};
 ghost use Rattle.std.specs.List.{flat_map};
-ghost use Rattle.mintc_netlist_nets.specs.Declaring.{look, with_declaration, declared_as, port_declarations, net_declarations};
+ghost use Rattle.mintc_netlist_nets.specs.Declaring.{look, with_declaration, declared_as, port_declarations};
+ghost use Rattle.mintc_netlist_nets.specs.Declaring.{net_declarations};
 
 use indexmap::IndexMap;
 use mintc_netlist::{Item, Span};
@@ -53,12 +54,8 @@ impl Declarations {
         if self.entries.contains_key(name) {
             return Ok(());
         }
-        let Ok(bytes) = Vec::from_slice(alloc, name) else {
-            return Err(OutOfMemory);
-        };
-        let Ok(_) = self.entries.insert(bytes, declaration) else {
-            return Err(OutOfMemory);
-        };
+        let bytes = Vec::from_slice(alloc, name)?;
+        self.entries.insert(bytes, declaration)?;
         Ok(())
     }
 

@@ -3,7 +3,8 @@ ghost use Rattle.std.specs.Prelude.{◌≡◌, ◌≤◌, ◌^◌, ◌++◌, len
 ghost use Rattle.std.specs.Option.{option_map};
 ghost use Rattle.mintc_text.specs.declared.limits.TheConstants.{MOST_WIDTH};
 ghost use Rattle.mintc_netlist.specs.Nets.{place_of};
-ghost use Rattle.mintc_netlist.specs.Expressions.{piece_bits, expression_places, width_of, is_part, runs_alike, piece_fits, selects_fit, is_constant, has_constant};
+ghost use Rattle.mintc_netlist.specs.Expressions.{piece_bits, expression_places, width_of, is_part, runs_alike};
+ghost use Rattle.mintc_netlist.specs.Expressions.{piece_fits, selects_fit, is_constant, has_constant};
 ghost use Rattle.mintc_netlist_nets.specs.Tables.{table_of};
 
 use crate::nets::{Nets, push_place};
@@ -55,9 +56,7 @@ fn push_constant(places: &mut Vec<Option<u64>>, width: u32) -> Result<(), OutOfM
     ensures { OnOk result (places.new.items ≡ places.old.items ++ replicate width None) }
 {
     for _turn in 0..width {
-        let Ok(()) = places.push(None) else {
-            return Err(OutOfMemory);
-        };
+        places.push(None)?;
     }
     Ok(())
 }
@@ -136,7 +135,8 @@ impl Nets {
         places: &mut Vec<Option<u64>>,
     ) -> Result<(), OutOfMemory>
         requires { self.now ≡ table_of module_nets.now }
-        ensures { OnOk result (places.new.items ≡ places.old.items ++ map (option_map (place_of module_nets.now)) (piece_bits module_nets.now piece.now)) }
+        ensures { OnOk result (places.new.items ≡ places.old.items
+            ++ map (option_map (place_of module_nets.now)) (piece_bits module_nets.now piece.now)) }
     {
         match piece {
             Piece::Net { name } => self.push_net(alloc, module_nets, name.bytes(), places),

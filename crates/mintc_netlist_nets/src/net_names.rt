@@ -57,7 +57,9 @@ fn add_connections(
     names: &mut NameSet,
     connections: &[Connection],
 ) -> Result<(), OutOfMemory>
-    ensures { OnOk result (names.new ≡ fold with_name names.old (flat_map (flat_map piece_names) (filter_map (λ (c : Connection). c.expr) connections.now))) }
+    ensures { OnOk result
+        (names.new ≡ fold with_name names.old
+        (flat_map (flat_map piece_names) (filter_map (λ (c : Connection). c.expr) connections.now))) }
 {
     for connection in connections {
         add_connection(alloc, names, connection)?;
@@ -71,7 +73,8 @@ fn add_connection(
     names: &mut NameSet,
     connection: &Connection,
 ) -> Result<(), OutOfMemory>
-    ensures { OnOk result (names.new ≡ fold with_name names.old (flat_map (flat_map piece_names) (option_to_list connection.now.expr))) }
+    ensures { OnOk result
+        (names.new ≡ fold with_name names.old (flat_map (flat_map piece_names) (option_to_list connection.now.expr))) }
 {
     match &connection.expr {
         Some(expr) => add_pieces(alloc, names, expr.items()),

@@ -1,5 +1,6 @@
 //! The table of a module's nets.
-ghost use Rattle.std.specs.Prelude.{◌≡◌, ◌<◌, ◌++◌, ◌∷◌, [], Some, length, map, slice_index_or, position, bytes_eq, IfOk, OnOk};
+ghost use Rattle.std.specs.Prelude.{◌≡◌, ◌<◌, ◌++◌, ◌∷◌, [], Some, length, map, slice_index_or, position, bytes_eq};
+ghost use Rattle.std.specs.Prelude.{IfOk, OnOk};
 ghost use Rattle.mintc_netlist.specs.Nets.{bit_of, bits_of, indexes, range_of, names_of, is_output, place_of};
 ghost use Rattle.mintc_netlist_nets.specs.Tables.{table_of, declared_ports, declared_nets, bit_place, part_place};
 
@@ -12,8 +13,8 @@ use mintc_text_names::NameSet;
 use std::alloc::Global;
 use std::marker::Model;
 
-/// The nets of a module by name: the place of each net's first bit among the bits of all nets of the module, what names are declared
-/// as, and how many bits there are. Places are counted from 0.
+/// The nets of a module by name: the place of each net's first bit among the bits of all nets of the module, what
+/// names are declared as, and how many bits there are. Places are counted from 0.
 #[derive(Drop)]
 pub struct Nets {
     names: NameSet,
@@ -28,7 +29,13 @@ impl Model for Nets {
 
     ghost Value = { NetTable };
 
-    ghost view = { λ n. record { names = n.names; firsts = n.firsts.items; ports = n.ports; wires = n.wires; count = n.count } };
+    ghost view = { λ n. record {
+      names = n.names;
+      firsts = n.firsts.items;
+      ports = n.ports;
+      wires = n.wires;
+      count = n.count;
+    } };
 }
 
 /// The range of a name, by the declarations of a module.
@@ -67,9 +74,7 @@ impl Nets {
             let Some(next) = count.checked_add(width) else {
                 return Err(OutOfMemory);
             };
-            let Ok(()) = firsts.push(count) else {
-                return Err(OutOfMemory);
-            };
+            firsts.push(count)?;
             count = next;
         }
         Ok(Nets {
@@ -156,16 +161,15 @@ impl Nets {
         places: &mut Vec<Option<u64>>,
     ) -> Result<(), OutOfMemory>
         requires { self.now ≡ table_of module_nets.now }
-        ensures { OnOk result (places.new.items ≡ places.old.items ++ map (part_place module_nets.now name.now) (indexes part)) }
+        ensures { OnOk result (places.new.items ≡ places.old.items
+            ++ map (part_place module_nets.now name.now) (indexes part)) }
     {
         let found = self.names.find(name);
         let span = self.range(module_nets, name);
         for number in 0..bits(Some(part)) {
             let index = index_at(part, number as u32);
             let place = self.net_place(module_nets, name, found, span, Some(index));
-            let Ok(()) = places.push(Some(place)) else {
-                return Err(OutOfMemory);
-            };
+            places.push(Some(place))?;
         }
         Ok(())
     }
@@ -193,7 +197,8 @@ impl Nets {
         places: &mut Vec<Option<u64>>,
     ) -> Result<(), OutOfMemory>
         requires { self.now ≡ table_of module_nets.now }
-        ensures { OnOk result (places.new.items ≡ places.old.items ++ map (bit_place module_nets.now) (bits_of name.now (range_of module_nets.now name.now))) }
+        ensures { OnOk result (places.new.items ≡ places.old.items
+            ++ map (bit_place module_nets.now) (bits_of name.now (range_of module_nets.now name.now))) }
     {
         match self.range(module_nets, name) {
             Some(span) => self.push_part(alloc, module_nets, name, span, places),
@@ -206,8 +211,6 @@ impl Nets {
 pub(crate) fn push_place(places: &mut Vec<Option<u64>>, place: u64) -> Result<(), OutOfMemory>
     ensures { OnOk result (places.new.items ≡ places.old.items ++ Some place ∷ []) }
 {
-    match places.push(Some(place)) {
-        Ok(()) => Ok(()),
-        Err(_) => Err(OutOfMemory),
-    }
+    places.push(Some(place))?;
+    Ok(())
 }

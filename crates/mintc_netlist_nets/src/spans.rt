@@ -37,8 +37,8 @@ pub(crate) fn is_inside(span: Span, at: u32) -> bool
     span.msb.min(span.lsb) <= at && at <= span.msb.max(span.lsb)
 }
 
-/// How far a bit stands from the rightmost bit of its net, and None where the net has no such bit. A net without a range has the bit
-/// without an index, and a vector those with the indexes of its range.
+/// How far a bit stands from the rightmost bit of its net, and None where the net has no such bit. A net without a
+/// range has the bit without an index, and a vector those with the indexes of its range.
 pub(crate) fn offset(span: Option<Span>, index: Option<u32>) -> Option<u64>
     ensures value { result ≡ offset_of span index }
     ensures within { IfSome result (λ at. at < bit_count span) }

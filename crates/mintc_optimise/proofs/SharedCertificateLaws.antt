@@ -9,11 +9,10 @@ use Rattle.mintc_timing.specs.declared.clocking.Schedule.{Schedule}
 use Rattle.mintc_graph.specs.Rings.{IsClosed}
 use Rattle.mintc_timing.specs.Design.{Timing, element_count}
 use Rattle.mintc_timing.specs.Limits.{IsDesign, IsInRange}
-use Rattle.mintc_timing.specs.Links.{links_of, link_at}
+use Rattle.mintc_timing.specs.Links.{links_of, link_at, node_count}
 use Rattle.mintc_timing.specs.Order.{IsTiming}
 use Rattle.mintc_timing.specs.Right.{IsRight}
 use Rattle.mintc_constraints.specs.Duality.{departure_of, departures_of, schedule_of}
-use Rattle.mintc_constraints.specs.Laws.{node_count}
 use Rattle.mintc_constraints.specs.Ordinary.{Constraints, IsOrdinary, constraints_of}
 use Rattle.mintc_constraints.specs.Rooms.{Space}
 use Rattle.mintc_constraints.proofs.SharedOrdinaryLaws.{ordinary}

@@ -10,9 +10,8 @@ use Rattle.mintc_timing.specs.Clocking.{start_of, width_of, end_of}
 use Rattle.mintc_timing.specs.Departures.{departure}
 use Rattle.mintc_timing.specs.Design.{Timing, element_at, element_count, phase_count, phase_of, no_element}
 use Rattle.mintc_timing.specs.Limits.{IsDesign, IsPhase}
-use Rattle.mintc_timing.specs.Links.{element_node, end_node, start_node}
+use Rattle.mintc_timing.specs.Links.{element_node, end_node, start_node, node_count}
 use Rattle.mintc_constraints.specs.Duality.{departure_of, departures_of, schedule_of}
-use Rattle.mintc_constraints.specs.Laws.{node_count}
 use Rattle.mintc_constraints.specs.Ordinary.{constraints_of}
 use Rattle.mintc_ratio.specs.Greatest.{AreGreatest}
 use Rattle.mintc_ratio.proofs.SharedFinerLaws.{finer_lem}

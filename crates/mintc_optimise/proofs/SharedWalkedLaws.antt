@@ -5,11 +5,10 @@ use Rattle.mintc_fraction.specs.Ratio.{Ratio}
 use Rattle.mintc_timing.specs.declared.link.Link.{Link}
 use Rattle.mintc_timing.specs.Design.{Timing}
 use Rattle.mintc_timing.specs.Limits.{IsDesign}
-use Rattle.mintc_timing.specs.Links.{links_of, element_node, IsChain, IsTight}
+use Rattle.mintc_timing.specs.Links.{links_of, element_node, IsChain, IsTight, node_count}
 use Rattle.mintc_timing.specs.Right.{IsLeastCycle, IsRight}
 use Rattle.mintc_constraints.specs.Duality.{AreExactMoments, departures_of, schedule_of}
 use Rattle.mintc_timing.specs.Paths.{HasEnds}
-use Rattle.mintc_constraints.specs.Laws.{node_count}
 use Rattle.mintc_constraints.specs.Ordinary.{constraints_of}
 use Rattle.mintc_timing.proofs.SharedByKind.{All-links}
 use Rattle.mintc_constraints.proofs.SharedChainLaws.{tight_is_least_lem}

@@ -8,7 +8,7 @@ use Rattle.std.proofs.lemmas.List.FromFn.{length-map-range_with_len, map-range_w
 use Rattle.mintc_fraction.specs.Ratio.{Ratio}
 use Rattle.mintc_graph_walks.specs.Walks.{value_at}
 use Rattle.mintc_timing.specs.declared.parts.Element.{Element}
-use Rattle.mintc_timing.specs.Design.{Timing, element_at, element_count, phase_count, phase_of, no_element}
+use Rattle.mintc_timing.specs.Design.{Design, Timing, element_at, element_count, phase_count, phase_of, no_element}
 use Rattle.mintc_timing.specs.Limits.{IsDesign, IsInRange, IsNumerator, IsDenominator, IsPhase, IsTime}
 use Rattle.mintc_timing.specs.Links.{element_node, end_node, start_node}
 use Rattle.mintc_timing.proofs.SharedFitting.{read_time, SFits-IsTime}
@@ -55,43 +55,43 @@ said_more {In} {f} a i j x old new at fits is here before step = record {
 pub said_count : {In : ℤ → Type 0} {f : ℕ → ℤ} (a i : ℕ) (said : List ℤ) → AreSaid In f a i said → length said ≡ i
 said_count {In} {f} a i said are = ap length are.value ∙ length-map-range_with_len f a i
 
-module _ (t : Timing) (values : List ℤ) (sayable : AreSayable t.flat values) where
-  pub width_read : (p : ℕ) → IsPhase (phase_count t.flat) p →
+module _ (d : Design) (values : List ℤ) (sayable : AreSayable d values) where
+  pub width_read : (p : ℕ) → IsPhase (phase_count d) p →
       narrow (wide (wide (value_at values (end_node p)) -ℤ wide (value_at values (start_node p)))) ≡ value_at values (end_node p) -ℤ value_at values (start_node p)
   width_read p h =
       let range = sayable.widths p h.0 h.1 in
       read_difference (value_at values (end_node p)) (value_at values (start_node p)) (sayable.starts p h.0 h.1) (omega (arith, ints), omega (arith, ints))
 
   -- the departure of a latch
-  module _ (limits : IsDesign t.flat) (l : ℕ) (h : l < element_count t.flat) (k : ℕ) (e : Element) (k_is : k ≡ phase_count t.flat) (e_is : e ≡ element_at t.flat l) (latch : e.flop ≡ false) where
-    latch_at : (element_at t.flat l).flop ≡ false
+  module _ (limits : IsDesign d) (l : ℕ) (h : l < element_count d) (e : Element) (e_is : e ≡ element_at d l) (node begun : ℕ) (node_is : node ≡ element_node d l) (begun_is : begun ≡ start_node e.phase) (latch : e.flop ≡ false) where
+    latch_at : (element_at d l).flop ≡ false
     latch_at = ap (λ (x : Element). x.flop) (sym e_is) ∙ latch
 
     abbrev moment : ℤ
-    moment = value_at values (element_node t.flat l)
+    moment = value_at values (element_node d l)
 
     abbrev start : ℤ
-    start = value_at values (start_node (phase_of t.flat l))
+    start = value_at values (start_node (phase_of d l))
 
     starts_in : IsNumerator start
-    starts_in = let phase = (limits.each_element l no_element h).phase in sayable.starts (phase_of t.flat l) phase.0 phase.1
+    starts_in = let phase = (limits.each_element l no_element h).phase in sayable.starts (phase_of d l) phase.0 phase.1
 
     departs_in : IsDeparture (moment -ℤ start)
     departs_in = sayable.departures l h latch_at
 
-    read : wide (wide (value_at values (2 * k + 1 + l)) -ℤ wide (value_at values (2 * e.phase - 1))) ≡ moment -ℤ start
-    read = rw (k_is, e_is) (wide_difference moment start starts_in (IsTime-IsDeparture (moment -ℤ start) departs_in))
+    read : wide (wide (value_at values node) -ℤ wide (value_at values begun)) ≡ moment -ℤ start
+    read = rw (node_is, begun_is, e_is) (wide_difference moment start starts_in (IsTime-IsDeparture (moment -ℤ start) departs_in))
 
-    pub departure_fits : SFits w64 (wide (wide (value_at values (2 * k + 1 + l)) -ℤ wide (value_at values (2 * e.phase - 1))))
+    pub departure_fits : SFits w64 (wide (wide (value_at values node) -ℤ wide (value_at values begun)))
     departure_fits = rw read (SFits-IsTime (moment -ℤ start) (IsTime-IsDeparture (moment -ℤ start) departs_in))
 
-    narrowed : narrow (wide (wide (value_at values (2 * k + 1 + l)) -ℤ wide (value_at values (2 * e.phase - 1)))) ≡ moment -ℤ start
+    narrowed : narrow (wide (wide (value_at values node) -ℤ wide (value_at values begun))) ≡ moment -ℤ start
     narrowed = ap narrow read ∙ read_time (moment -ℤ start) (IsTime-IsDeparture (moment -ℤ start) departs_in)
 
-    pub departure_read : narrow (wide (wide (value_at values (2 * k + 1 + l)) -ℤ wide (value_at values (2 * e.phase - 1)))) ≡ departure_of t.flat values l
+    pub departure_read : narrow (wide (wide (value_at values node) -ℤ wide (value_at values begun))) ≡ departure_of d values l
     departure_read = narrowed ∙ sym (ap (λ (b : Bool). cond b (pos 0) (moment -ℤ start)) latch_at)
 
-    pub departure_in : IsDeparture (narrow (wide (wide (value_at values (2 * k + 1 + l)) -ℤ wide (value_at values (2 * e.phase - 1)))))
+    pub departure_in : IsDeparture (narrow (wide (wide (value_at values node) -ℤ wide (value_at values begun))))
     departure_in = rw narrowed departs_in
 
 -- the range of a schedule that the code gives

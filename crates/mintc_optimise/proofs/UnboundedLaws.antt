@@ -9,14 +9,13 @@ use Rattle.mintc_timing.specs.Design.{Timing, phase_count, element_count, elemen
 use Rattle.mintc_timing.specs.Clocking.{start_of, width_of, shift_of, KeepsApart, KeepsPhase, KeepsClock}
 use Rattle.mintc_timing.specs.Departures.{departure, late_arrival, late_opening, late_departure, AreExact}
 use Rattle.mintc_timing.specs.Limits.{IsPhase, IsDesign}
-use Rattle.mintc_timing.specs.Links.{links_of}
+use Rattle.mintc_timing.specs.Links.{links_of, node_count}
 use Rattle.mintc_timing.specs.Right.{IsRight, IsHopeless, KeepsSetup}
 use Rattle.mintc_timing.specs.Violations.{phases_of, elements_of}
 use Rattle.mintc_timing.proofs.SharedDepartureLaws.{late_departure-latch, late_departure-flop}
 use Rattle.mintc_timing.proofs.SharedSetupLaws.{KeepsSetup-latch}
 use Rattle.mintc_timing.proofs.SharedShifts.{crosses-below, crosses-not_below}
 use Rattle.mintc_timing.specs.Paths.{HasEnds}
-use Rattle.mintc_constraints.specs.Laws.{node_count}
 use Rattle.mintc_constraints.specs.Ordinary.{IsOrdinary, IsOrdinaryLink, constraints_of}
 use Rattle.mintc_timing.proofs.SharedArrivals.{latest, ArrivesBy, latest-opens, latest-attained, greatest-from_each}
 use Rattle.mintc_timing.proofs.SharedByKind.{EachKind-from_all}

@@ -13,6 +13,7 @@ pub record Workplace : Type 0 where
   pub list : Constraints
   pub room : Space
 
+-- a bench of these links and this room
 abbrev pub workplace_of : Constraints → Space → Workplace
 workplace_of constraints space = record { list = constraints; room = space }
 
@@ -26,5 +27,6 @@ pub record IsRoomy (bench : Workplace) : Type 0 where
 -- values are the moments of; or that no schedule is right.
 abbrev pub IsSolved : Timing → Space → Outcome → Type 0
 IsSolved t room (Least cycle) =
-    IsLeastCycle t cycle.num cycle.den × IsRight t (schedule_of t.flat cycle.num cycle.den room.values) (departures_of t.flat room.values)
+    IsLeastCycle t cycle.num cycle.den
+    × IsRight t (schedule_of t.flat cycle.num cycle.den room.values) (departures_of t.flat room.values)
 IsSolved t room Never = IsHopeless t

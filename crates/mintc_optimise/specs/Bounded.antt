@@ -12,7 +12,8 @@ use Rattle.mintc_certificate.specs.declared.certificate.Certificate.TheVariants 
 
 -- A system without bounds has a right schedule.
 abbrev pub UnboundedHasRight : Type 0
-UnboundedHasRight = (t : Timing) → IsDesign t.flat → IsTiming t.flat t.order t.pairs → t.flat.bounds ≡ [] → (s : Schedule) × (d : List ℤ) × IsRight t s d
+UnboundedHasRight = (t : Timing) → IsDesign t.flat → IsTiming t.flat t.order t.pairs → t.flat.bounds ≡ [] →
+    (s : Schedule) × (d : List ℤ) × IsRight t s d
 
 -- So where no schedule is right, there is a bound.
 abbrev pub NeverNeedsABound : Type 0

@@ -5,8 +5,7 @@ use Rattle.mintc_timing.specs.declared.link.Link.{Link}
 use Rattle.mintc_timing.specs.Clocking.{EachPhase}
 use Rattle.mintc_timing.specs.Design.{Design, Timing, element_at, element_count, phase_of}
 use Rattle.mintc_timing.specs.Limits.{IsNumerator}
-use Rattle.mintc_timing.specs.Links.{start_node, end_node, element_node, link_at}
-use Rattle.mintc_constraints.specs.Laws.{node_count}
+use Rattle.mintc_timing.specs.Links.{start_node, end_node, element_node, link_at, node_count}
 use Rattle.mintc_certificate.specs.declared.members.Member.{Member}
 use Rattle.mintc_certificate.specs.CertificateText.{IsCounted}
 use Rattle.mintc_certificate.specs.Ranges.{IsDeparture}
@@ -27,7 +26,8 @@ pub record Stands {M : Type 0} (IsMeant IsFew : M → Type 0) (shows : M → Lin
   pub counted : IsFew m
 
 -- So do members and the links of these numbers, in order.
-pub record StandInOrder {M : Type 0} (IsMeant IsFew : M → Type 0) (shows : M → Link) (link : ℕ → Link) (chain : List ℕ) (members : List M) : Type 0 where
+pub record StandInOrder {M : Type 0} (IsMeant IsFew : M → Type 0) (shows : M → Link) (link : ℕ →
+    Link) (chain : List ℕ) (members : List M) : Type 0 where
   pub each : All IsMeant members
   pub same : map shows members ≡ map link chain
   pub counted : All IsFew members

@@ -29,12 +29,11 @@ impl Model for Bench {
 
 impl Bench {
     ghost use Rattle.mintc_timing.specs.Paths.{HasEnds};
-    ghost use Rattle.mintc_constraints.specs.Laws.{node_count};
     ghost use Rattle.mintc_constraints.specs.Ordinary.{constraints_of};
     ghost use Rattle.mintc_ratio.specs.Searched.{HasSearched};
     ghost use Rattle.mintc_timing.specs.Design.{Timing};
     ghost use Rattle.mintc_timing.specs.Limits.{IsDesign};
-    ghost use Rattle.mintc_timing.specs.Links.{links_of};
+    ghost use Rattle.mintc_timing.specs.Links.{links_of, node_count};
     ghost use Rattle.mintc_optimise.specs.Benches.{IsSolved};
     ghost use Rattle.mintc_optimise.specs.Bounded.{NeverOnlyWithBounds};
 
@@ -47,13 +46,15 @@ impl Bench {
         Ok(Bench { links: list, room })
     }
 
-    /// The least cycle time that no chain of the links forbids, as `search` finds it; it is the least of all right schedules
-    /// of each design with these links, and without bounds there is one. Takes no memory. The links stay, so that a second
-    /// call has the same outcome.
+    /// The least cycle time that no chain of the links forbids, as `search` finds it; it is the least of all right
+    /// schedules of each design with these links, and without bounds there is one. Takes no memory. The links stay,
+    /// so that a second call has the same outcome.
     pub fn solve<L: Ledger>(&mut self, steps: &mut Steps<L>) -> Outcome
         ensures searched { HasSearched self.old.list self.new.room result }
-        ensures solved { (t : Timing) → IsDesign t.flat → HasEnds t → self.old.list ≡ constraints_of (node_count t.flat) (links_of t) → IsSolved t self.new.room result }
-        ensures bounded { (t : Timing) → IsDesign t.flat → HasEnds t → self.old.list ≡ constraints_of (node_count t.flat) (links_of t) → NeverOnlyWithBounds t.flat result }
+        ensures solved { (t : Timing) → IsDesign t.flat → HasEnds t →
+            self.old.list ≡ constraints_of (node_count t.flat) (links_of t) → IsSolved t self.new.room result }
+        ensures bounded { (t : Timing) → IsDesign t.flat → HasEnds t →
+            self.old.list ≡ constraints_of (node_count t.flat) (links_of t) → NeverOnlyWithBounds t.flat result }
         ensures kept { self.new.list ≡ self.old.list }
         ensures cost { steps.new ≤ steps.old + 68 * (self.old.list.nodes + 1) }
     {

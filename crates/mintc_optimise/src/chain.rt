@@ -1,7 +1,9 @@
 //! The members of a chain of links.
 ghost use Rattle.std.specs.Prelude.{◌≡◌, ◌<◌, ◌-ℤ◌, IfOk, All, Contains, length};
 ghost use Rattle.mintc_timing.specs.Design.{element_at};
+ghost use Rattle.mintc_timing.specs.Limits.{IsDesign};
 ghost use Rattle.mintc_timing.specs.Links.{links_of};
+ghost use Rattle.mintc_timing.specs.Order.{IsTiming};
 ghost use Rattle.mintc_paths.specs.declared.trace.Extreme.TheVariants.{Greatest};
 ghost use Rattle.mintc_paths.specs.Finding.{IsDelayOf};
 ghost use Rattle.mintc_optimise.specs.Making.{StandForAll, StandsFor};
@@ -13,14 +15,16 @@ use mintc_text::OutOfMemory;
 use mintc_timing::System;
 use std::alloc::Global;
 
-/// The greatest delay of the pair of a reach, in femtoseconds: what the reach asks for beside its first element's own delay.
+/// The greatest delay of the pair of a reach, in femtoseconds: what the reach asks for beside its first element's
+/// own delay.
 fn pair_delay(system: &System, link: &Link, from: u32, to: u32) -> i64
     requires link { Contains (links_of system.now) link.now }
     requires kind { link.now.kind ≡ LinkKind.Reach from to }
+    requires design { IsDesign system.now.flat }
+    requires kept { IsTiming system.now.flat system.now.order system.now.pairs }
     ensures value { result ≡ link.now.delay -ℤ (element_at system.now.flat from).dq_max }
     ensures pair { IsDelayOf Greatest system.now.pairs from to result }
 {
-    let _flat = system.flat();
     link.delay - system.element(from).dq_max
 }
 
@@ -70,9 +74,7 @@ pub(crate) fn members(
     let mut members = Vec::new(alloc);
     for number in chain {
         let member = member_of(alloc, system, &mut finder, &links[*number as usize])?;
-        let Ok(()) = members.push(member) else {
-            return Err(OutOfMemory);
-        };
+        members.push(member)?;
     }
     Ok(Members::new(members))
 }

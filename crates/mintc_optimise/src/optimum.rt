@@ -1,8 +1,7 @@
 //! The least cycle time with its certificate.
 ghost use Rattle.std.specs.Prelude.{◌≡◌, ◌≤◌, ◌+◌, ◌*◌, IfOk};
-ghost use Rattle.mintc_constraints.specs.Laws.{node_count};
 ghost use Rattle.mintc_constraints.specs.Ordinary.{constraints_of};
-ghost use Rattle.mintc_timing.specs.Links.{links_of};
+ghost use Rattle.mintc_timing.specs.Links.{links_of, node_count};
 ghost use Rattle.mintc_certificate.specs.Optimal.{IsOptimal};
 ghost use Rattle.mintc_certificate.specs.Ranges.{IsCertificateInRange};
 ghost use Rattle.mintc_certificate.specs.Valid.{IsValid};
@@ -51,10 +50,10 @@ fn certificate(
     }
 }
 
-/// The least cycle time of a system with its certificate: a right schedule of that cycle with its departures and a chain that
-/// forbids every smaller cycle time; or, which takes a bound, a chain that forbids all. Its starts, its ends and the moments
-/// at which latches depart are the least that any solution has. The chain enters no node twice, and each of its reaches has
-/// a path with the greatest delay of its pair. Which chain is given is free.
+/// The least cycle time of a system with its certificate: a right schedule of that cycle with its departures and a
+/// chain that forbids every smaller cycle time; or, which takes a bound, a chain that forbids all. Its starts, its
+/// ends and the moments at which latches depart are the least that any solution has. The chain enters no node
+/// twice, and each of its reaches has a path with the greatest delay of its pair. Which chain is given is free.
 pub fn optimise<L: Ledger>(
     alloc: Global,
     system: &System,

@@ -3,7 +3,7 @@ ghost use Rattle.std.specs.Prelude.{◌≡◌, ◌<◌, ◌-ℤ◌, IfOk, All, m
 ghost use Rattle.mintc_graph_walks.specs.Walks.{value_at};
 ghost use Rattle.mintc_timing.specs.Design.{element_count, phase_count};
 ghost use Rattle.mintc_timing.specs.Limits.{IsDesign, IsInRange, IsNumerator, IsPhase};
-ghost use Rattle.mintc_timing.specs.Links.{end_node, start_node};
+ghost use Rattle.mintc_timing.specs.Links.{end_node as end_of, start_node as start_of};
 ghost use Rattle.mintc_timing.specs.Violations.{phases_of};
 ghost use Rattle.mintc_constraints.specs.Duality.{departure_of, departures_of, schedule_of};
 ghost use Rattle.mintc_certificate.specs.Ranges.{IsDeparture};
@@ -14,64 +14,57 @@ use arrayvec::ArrayVec;
 use mintc_certificate::Departures;
 use mintc_fraction::Fraction;
 use mintc_text::OutOfMemory;
-use mintc_timing::{PhaseNumbers, Schedule, System};
+use mintc_timing::{Flat, PhaseNumbers, Schedule, System, end_node, start_node};
 use std::alloc::Global;
 
-/// How many phases there are.
-fn phases(system: &System) -> u32
-    ensures value { result ≡ phase_count system.now.flat }
-    ensures kept { IsDesign system.now.flat }
-{
-    system.flat().phases().items().len() as u32
-}
-
 /// When a phase starts.
-fn start(system: &System, values: &[i128], phase: u32) -> i64
-    requires phase { IsPhase (phase_count system.now.flat) phase }
-    requires sayable { AreSayable system.now.flat values.now }
-    ensures value { result ≡ value_at values.now (start_node phase) }
+fn start(flat: &Flat, values: &[i128], phase: u32) -> i64
+    requires design { IsDesign flat.now }
+    requires phase { IsPhase (phase_count flat.now) phase }
+    requires sayable { AreSayable flat.now values.now }
+    ensures value { result ≡ value_at values.now (start_of phase) }
     ensures in_range { IsNumerator result }
 {
-    let _phases = phases(system);
-    values[2 * phase as usize - 1] as i64
+    values[start_node(phase) as usize] as i64
 }
 
 /// How wide a phase is.
 #[tactic(auto, using(crate::proofs::TimesLaws::width_read))]
-fn width(system: &System, values: &[i128], phase: u32) -> i64
-    requires phase { IsPhase (phase_count system.now.flat) phase }
-    requires sayable { AreSayable system.now.flat values.now }
-    ensures value { result ≡ value_at values.now (end_node phase) -ℤ value_at values.now (start_node phase) }
+fn width(flat: &Flat, values: &[i128], phase: u32) -> i64
+    requires design { IsDesign flat.now }
+    requires phase { IsPhase (phase_count flat.now) phase }
+    requires sayable { AreSayable flat.now values.now }
+    ensures value { result ≡ value_at values.now (end_of phase) -ℤ value_at values.now (start_of phase) }
     ensures in_range { IsNumerator result }
 {
-    let _phases = phases(system);
-    (values[2 * phase as usize] - values[2 * phase as usize - 1]) as i64
+    (values[end_node(phase) as usize] - values[start_node(phase) as usize]) as i64
 }
 
 /// The starts of the phases.
 #[tactic(auto, using(crate::proofs::TimesLaws::said_count))]
-fn starts(system: &System, values: &[i128]) -> PhaseNumbers
-    requires { AreSayable system.now.flat values.now }
-    ensures value { result ≡ map (λ p. value_at values.now (start_node p)) (phases_of system.now.flat) }
+fn starts(flat: &Flat, values: &[i128]) -> PhaseNumbers
+    requires { AreSayable flat.now values.now }
+    ensures value { result ≡ map (λ p. value_at values.now (start_of p)) (phases_of flat.now) }
     ensures in_range { All IsNumerator result }
 {
     let mut starts = ArrayVec::new();
-    for index in 0..phases(system) {
-        starts.push(start(system, values, index + 1));
+    for index in 0..flat.phase_count() {
+        starts.push(start(flat, values, index + 1));
     }
     PhaseNumbers::new(starts)
 }
 
 /// The widths of the phases.
 #[tactic(auto, using(crate::proofs::TimesLaws::said_count))]
-fn widths(system: &System, values: &[i128]) -> PhaseNumbers
-    requires { AreSayable system.now.flat values.now }
-    ensures value { result ≡ map (λ p. value_at values.now (end_node p) -ℤ value_at values.now (start_node p)) (phases_of system.now.flat) }
+fn widths(flat: &Flat, values: &[i128]) -> PhaseNumbers
+    requires { AreSayable flat.now values.now }
+    ensures value { result ≡ map (λ p. value_at values.now (end_of p) -ℤ value_at values.now (start_of p))
+        (phases_of flat.now) }
     ensures in_range { All IsNumerator result }
 {
     let mut widths = ArrayVec::new();
-    for index in 0..phases(system) {
-        widths.push(width(system, values, index + 1));
+    for index in 0..flat.phase_count() {
+        widths.push(width(flat, values, index + 1));
     }
     PhaseNumbers::new(widths)
 }
@@ -83,12 +76,12 @@ pub fn schedule(system: &System, cycle: &Fraction, values: &[i128]) -> Schedule
     ensures value { result ≡ schedule_of system.now.flat cycle.now.num cycle.now.den values.now }
     ensures in_range { IsInRange result }
 {
-    let _phases = phases(system);
+    let flat = system.flat();
     Schedule {
         den: cycle.den() as i64,
         cycle: cycle.num() as i64,
-        starts: starts(system, values),
-        widths: widths(system, values),
+        starts: starts(flat, values),
+        widths: widths(flat, values),
     }
 }
 
@@ -100,12 +93,12 @@ fn departure(system: &System, values: &[i128], number: u32) -> i64
     ensures value { result ≡ departure_of system.now.flat values.now number }
     ensures in_range { IsDeparture result }
 {
-    let node = 2 * phases(system) + 1 + number;
+    let node = system.flat().element_node(number);
     let element = system.element(number);
     if element.flop {
         return 0;
     }
-    let start = 2 * element.phase - 1;
+    let start = start_node(element.phase);
     (values[node as usize] - values[start as usize]) as i64
 }
 
@@ -120,10 +113,8 @@ pub fn departures(
     ensures in_range { IfOk result (All IsDeparture) }
 {
     let mut departures = Vec::new(alloc);
-    for number in 0..system.flat().elements().len() {
-        let Ok(()) = departures.push(departure(system, values, number as u32)) else {
-            return Err(OutOfMemory);
-        };
+    for number in 0..system.flat().element_count() {
+        departures.push(departure(system, values, number))?;
     }
     Ok(Departures::new(departures))
 }

@@ -8,7 +8,8 @@ use Rattle.mintc_timing.specs.Order.{IsOrder}
 
 -- It names a closed list of the arcs, which leaves no bit twice.
 abbrev pub NamesLoop : List TimingArc → Refusal → Type 0
-NamesLoop arcs refused = (loop : List ℕ) × (refused ≡ refusal.CombinationalLoop loop) × IsArcLoop arcs loop × LeavesOnce arcs loop
+NamesLoop arcs refused = (loop : List ℕ) × (refused ≡ refusal.CombinationalLoop loop) × IsArcLoop arcs loop
+    × LeavesOnce arcs loop
 
 -- Where arcs have an order, none of them lead round.
 abbrev pub OrdersExcludeLoops : Type 0

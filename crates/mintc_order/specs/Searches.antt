@@ -1,5 +1,5 @@
--- What holds while a search from bit to bit gives out each bit after all bits that its arcs enter. `marks` has 0 for a bit that
--- isn't met, 1 for one that is given out, and for one of the path its place there, counted from 2.
+-- What holds while a search from bit to bit gives out each bit after all bits that its arcs enter. `marks` has 0
+-- for a bit that isn't met, 1 for one that is given out, and for one of the path its place there, counted from 2.
 use Rattle.std.specs.Prelude.{◌≡◌, ◌≢◌, ◌<◌, ◌≤◌, ◌+◌, ◌*◌, ℕ, List, length, slice_index, Contains}
 use Rattle.mintc_order.specs.declared.outgoing.OutgoingArcs.{OutgoingArcs}
 use Rattle.mintc_order.specs.declared.search.Search.{Search}
@@ -22,14 +22,16 @@ pub record IsSearchPath (bits : ℕ) (starts ends marks path nexts : List ℕ) :
   pub each_next : length nexts ≡ length path
   pub each_bit : (i : ℕ) → i < length path → IsOpen bits starts ends marks i (slice_index path i) (slice_index nexts i)
   pub joined : (i : ℕ) → i + 1 < length path →
-      (slice_index nexts i < slice_index starts (slice_index path i + 1)) × (slice_index ends (slice_index nexts i) ≡ slice_index path (i + 1))
+      (slice_index nexts i < slice_index starts (slice_index path i + 1))
+      × (slice_index ends (slice_index nexts i) ≡ slice_index path (i + 1))
   pub placed : (bit i : ℕ) → slice_index marks bit ≡ i + 2 → (i < length path) × (slice_index path i ≡ bit)
 
 -- Bits in an order of which each stands once, after all that its arcs enter.
 pub record AreAfterEnds (bits : ℕ) (starts ends given : List ℕ) : Type 0 where
   pub within : (i : ℕ) → i < length given → slice_index given i < bits
   pub once : (i j : ℕ) → i < j → j < length given → slice_index given i ≢ slice_index given j
-  pub after : (i k : ℕ) → i < length given → IsPlace starts (slice_index given i) k → (j : ℕ) × (j < i) × (slice_index given j ≡ slice_index ends k)
+  pub after : (i k : ℕ) → i < length given → IsPlace starts (slice_index given i) k → (j : ℕ) × (j < i)
+      × (slice_index given j ≡ slice_index ends k)
 
 -- The list has each bit that is given out.
 pub record AreGiven (bits : ℕ) (starts ends marks given : List ℕ) : Type 0 where
@@ -43,10 +45,12 @@ pub record IsSearch (bits : ℕ) (starts ends marks path nexts given : List ℕ)
   pub is_path : IsSearchPath bits starts ends marks path nexts
   pub are_given : AreGiven bits starts ends marks given
 
+-- A search between so many bits along these arcs, at any moment.
 abbrev pub IsSearching : ℕ → OutgoingArcs → Search → Type 0
 IsSearching bits ranges search =
     AreParts bits ranges.starts.items ranges.numbers.items ranges.ends.items
-    × IsSearch bits ranges.starts.items ranges.ends.items search.marks.items search.path.items search.nexts.items search.given.items
+    × IsSearch bits ranges.starts.items ranges.ends.items search.marks.items search.path.items search.nexts.items
+    search.given.items
 
 -- Where the path has a bit, the next arc of its last one enters the bit.
 abbrev pub EndsAt : List ℕ → List ℕ → List ℕ → List ℕ → ℕ → Type 0

@@ -29,10 +29,13 @@ pub(crate) fn order_from_postorder(
     ranges: &OutgoingArcs,
     given: &[u32],
 ) -> Result<Vec<u32>, AllocError>
-    requires parts { AreParts (length ranges.now.starts.items - 1) ranges.now.starts.items ranges.now.numbers.items ranges.now.ends.items }
-    requires leaving { AreLeaving arcs.now (length ranges.now.starts.items - 1) ranges.now.starts.items ranges.now.numbers.items ranges.now.ends.items }
+    requires parts { AreParts (length ranges.now.starts.items - 1) ranges.now.starts.items ranges.now.numbers.items
+        ranges.now.ends.items }
+    requires leaving { AreLeaving arcs.now (length ranges.now.starts.items - 1) ranges.now.starts.items
+        ranges.now.numbers.items ranges.now.ends.items }
     requires all { AreAll arcs.now ranges.now.numbers.items }
-    requires ordered { AreAfterEnds (length ranges.now.starts.items - 1) ranges.now.starts.items ranges.now.ends.items given.now }
+    requires ordered { AreAfterEnds (length ranges.now.starts.items - 1) ranges.now.starts.items ranges.now.ends.items
+        given.now }
     requires whole { (bit : ℕ) → bit < length ranges.now.starts.items - 1 → Contains given.now bit }
     ensures { IfOk result (λ gathered. IsOrder arcs.now gathered.items) }
 {

@@ -1,10 +1,11 @@
 //! An order of a design's arcs, or a closed list of them.
 //!
-//! The arcs that leave each bit stand side by side in one list. A depth-first search goes from bit to bit along them and gives
-//! out each bit after all bits that its arcs enter; where it comes back to a bit of its path, the arcs since then are the loop
-//! that is refused (R. E. Tarjan, "Depth-first search and linear graph algorithms", 1972). The bits from the last one given out
-//! to the first, with the arcs that leave each, are the order. The crates above get that order, in which one pass finds the
-//! longest paths, the refusal with a loop, and `Leaving`, the arcs that leave each bit as chains.
+//! The arcs that leave each bit stand side by side in one list. A depth-first search goes from bit to bit along
+//! them and gives out each bit after all bits that its arcs enter; where it comes back to a bit of its path, the
+//! arcs since then are the loop that is refused (R. E. Tarjan, "Depth-first search and linear graph algorithms",
+//! 1972). The bits from the last one given out to the first, with the arcs that leave each, are the order. The
+//! crates above get that order, in which one pass finds the longest paths, the refusal with a loop, and `Leaving`,
+//! the arcs that leave each bit as chains.
 #![tactic(auto)]
 
 ghost use Rattle.std.specs.Prelude.{IfOk, IfErr};
@@ -28,25 +29,20 @@ use search::Search;
 use std::alloc::Global;
 
 /// All arc numbers of the design, each once, every arc after all arcs into the bit that it leaves. The refusal is
-/// CombinationalLoop with a closed list of arcs that leaves no bit twice, exactly where arcs lead round; only a want of
-/// memory stops the call otherwise. The search takes in each bit once and looks at each arc at most twice, which no clause
-/// says. Arcs that leave a bit stand together, in falling order of their numbers, which no clause says.
+/// CombinationalLoop with a closed list of arcs that leaves no bit twice, exactly where arcs lead round; only a
+/// want of memory stops the call otherwise. The search takes in each bit once and looks at each arc at most twice,
+/// which no clause says. Arcs that leave a bit stand together, in falling order of their numbers, which no clause
+/// says.
 pub fn order(alloc: Global, flat: &Flat) -> Result<Order, Stop>
     ensures order { IfOk result (λ order. IsOrder flat.now.arcs order) }
     ensures stop { IfErr result (StopsAt (NamesLoop flat.now.arcs)) }
 {
-    let bits = 2 * flat.elements().len() + flat.inner().items().len();
-    let Ok(ranges) = OutgoingArcs::new(alloc, flat.arcs(), bits) else {
-        return Err(Stop::OutOfMemory);
-    };
-    let Ok(mut search) = Search::new(alloc, bits) else {
-        return Err(Stop::OutOfMemory);
-    };
+    let bits = flat.bit_count();
+    let ranges = OutgoingArcs::new(alloc, flat.arcs(), bits)?;
+    let mut search = Search::new(alloc, bits)?;
     for root in 0..bits {
         search.follow(alloc, &ranges, root as u32)?;
     }
-    match order_from_postorder(alloc, flat.arcs(), &ranges, &search.given) {
-        Ok(order) => Ok(Order::new(Numbers::new(order))),
-        Err(_) => Err(Stop::OutOfMemory),
-    }
+    let order = order_from_postorder(alloc, flat.arcs(), &ranges, &search.given)?;
+    Ok(Order::new(Numbers::new(order)))
 }

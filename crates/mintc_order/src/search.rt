@@ -1,14 +1,16 @@
-//! A depth-first search from bit to bit (R. E. Tarjan, "Depth-first search and linear graph algorithms", 1972), which gives
-//! out each bit after all bits that its arcs enter.
-ghost use Rattle.std.specs.Prelude.{◌≡◌, ◌≢◌, ◌<◌, ◌≤◌, ◌^◌, ◌-◌, ◌+◌, [], ℕ, List, length, IfOk, IfErr, OnOk, IsTrue, IsFalse, slice_index, slice_set, replicate};
+//! A depth-first search from bit to bit (R. E. Tarjan, "Depth-first search and linear graph algorithms", 1972),
+//! which gives out each bit after all bits that its arcs enter.
+ghost use Rattle.std.specs.Prelude.{◌≡◌, ◌≢◌, ◌<◌, ◌≤◌, ◌^◌, ◌-◌, ◌+◌, [], ℕ, List, length, IfOk, IfErr, OnOk, IsTrue};
+ghost use Rattle.std.specs.Prelude.{IsFalse, slice_index, slice_set, replicate};
 
 use crate::outgoing::OutgoingArcs;
 use mintc_text::{Numbers, Refusal, Stop};
 use std::alloc::{AllocError, Global};
 
-/// The mark of a bit that isn't met, and of one that is given out.
+/// The mark of a bit that isn't met.
 const UNMET: u32 = 0;
 
+/// The mark of a bit that is given out.
 const GIVEN: u32 = 1;
 
 /// What a search has found.
@@ -53,9 +55,11 @@ impl Search {
         requires search { IsSearching (length self.old.marks.items) ranges.now self.old }
         requires bit { bit < length self.old.marks.items }
         requires unmet { slice_index self.old.marks.items bit ≡ 0 }
-        requires ends { EndsAt ranges.now.starts.items ranges.now.ends.items self.old.path.items self.old.nexts.items bit }
+        requires ends { EndsAt ranges.now.starts.items ranges.now.ends.items self.old.path.items self.old.nexts.items
+            bit }
         ensures search { OnOk result (IsSearching (length self.old.marks.items) ranges.now self.new) }
-        ensures stays { OnOk result ((v : ℕ) → slice_index self.old.marks.items v ≢ 0 → slice_index self.new.marks.items v ≢ 0) }
+        ensures stays { OnOk result ((v : ℕ) → slice_index self.old.marks.items v ≢ 0 →
+            slice_index self.new.marks.items v ≢ 0) }
         ensures met { OnOk result (slice_index self.new.marks.items bit ≢ 0) }
         ensures step { OnOk result (steps_of self.new ≡ steps_of self.old + 1) }
     {
@@ -87,9 +91,11 @@ impl Search {
         requires search { IsSearching (length self.old.marks.items) ranges.now self.old }
         requires some { 0 < length self.old.path.items }
         requires last { slice_index self.old.path.items (length self.old.path.items - 1) ≡ bit }
-        requires through { slice_index self.old.nexts.items (length self.old.path.items - 1) ≡ slice_index ranges.now.starts.items (bit + 1) }
+        requires through { slice_index self.old.nexts.items (length self.old.path.items - 1)
+            ≡ slice_index ranges.now.starts.items (bit + 1) }
         ensures search { OnOk result (IsSearching (length self.old.marks.items) ranges.now self.new) }
-        ensures stays { OnOk result ((v : ℕ) → slice_index self.old.marks.items v ≢ 0 → slice_index self.new.marks.items v ≢ 0) }
+        ensures stays { OnOk result ((v : ℕ) → slice_index self.old.marks.items v ≢ 0 →
+            slice_index self.new.marks.items v ≢ 0) }
         ensures step { OnOk result (steps_of self.new ≡ steps_of self.old + 1) }
     {
         let _ = self.path.pop();
@@ -106,9 +112,11 @@ impl Search {
         numbers: &[u32],
         first: usize,
     ) -> Result<Vec<u32>, AllocError>
-        requires inside { (i : ℕ) → i < length self.now.nexts.items → slice_index self.now.nexts.items i < length numbers.now }
+        requires inside { (i : ℕ) → i < length self.now.nexts.items →
+            slice_index self.now.nexts.items i < length numbers.now }
         requires first { first ≤ length self.now.nexts.items }
-        ensures { IfOk result (λ arcs. IsClosing numbers.now self.now.nexts.items first (length self.now.nexts.items) arcs.items) }
+        ensures { IfOk result
+            (λ arcs. IsClosing numbers.now self.now.nexts.items first (length self.now.nexts.items) arcs.items) }
     {
         let mut arcs = Vec::new(alloc);
         for place in first..self.nexts.len() {
@@ -117,14 +125,18 @@ impl Search {
         Ok(arcs)
     }
 
-    /// The refusal with a loop: the next arcs of the path's bits from the one of this mark, to which the path leads back.
+    /// The refusal with a loop: the next arcs of the path's bits from the one of this mark, to which the path leads
+    /// back.
     fn refuse(&self, alloc: Global, ranges: &OutgoingArcs, bit: u32) -> Stop
         requires search { IsSearching (length self.now.marks.items) ranges.now self.now }
         requires bit { bit < length self.now.marks.items }
         requires met { slice_index self.now.marks.items bit ≢ 0 }
         requires waits { slice_index self.now.marks.items bit ≢ 1 }
-        requires ends { EndsAt ranges.now.starts.items ranges.now.ends.items self.now.path.items self.now.nexts.items bit }
-        ensures { (arcs : List TimingArc) → AreLeaving arcs (length self.now.marks.items) ranges.now.starts.items ranges.now.numbers.items ranges.now.ends.items → AreAll arcs ranges.now.numbers.items → StopsAt (NamesLoop arcs) result }
+        requires ends { EndsAt ranges.now.starts.items ranges.now.ends.items self.now.path.items self.now.nexts.items
+            bit }
+        ensures { (arcs : List TimingArc) →
+            AreLeaving arcs (length self.now.marks.items) ranges.now.starts.items ranges.now.numbers.items
+            ranges.now.ends.items → AreAll arcs ranges.now.numbers.items → StopsAt (NamesLoop arcs) result }
     {
         let first = self.marks[bit as usize] as usize - 2;
         match self.cycle_from(alloc, &ranges.numbers, first) {
@@ -135,7 +147,8 @@ impl Search {
         }
     }
 
-    /// Passes the arcs of the path's last bit, as far as the bits that they enter are given out, and gives the next one's place.
+    /// Passes the arcs of the path's last bit, as far as the bits that they enter are given out, and gives the next
+    /// one's place.
     fn go_on(&mut self, ranges: &OutgoingArcs, bit: u32) -> u32
         requires search { IsSearching (length self.old.marks.items) ranges.now self.old }
         requires some { 0 < length self.old.path.items }
@@ -146,7 +159,8 @@ impl Search {
         ensures given { self.new.given.items ≡ self.old.given.items }
         ensures at { slice_index self.new.nexts.items (length self.old.path.items - 1) ≡ result }
         ensures stop { result ≤ slice_index ranges.now.starts.items (bit + 1) }
-        ensures next { result < slice_index ranges.now.starts.items (bit + 1) → slice_index self.old.marks.items (slice_index ranges.now.ends.items result) ≢ 1 }
+        ensures next { result < slice_index ranges.now.starts.items (bit + 1) →
+            slice_index self.old.marks.items (slice_index ranges.now.ends.items result) ≢ 1 }
     {
         let last = self.nexts.len() - 1;
         let next = self.pass(
@@ -163,24 +177,27 @@ impl Search {
         requires few { length self.old.marks.items < 2 ^ 32 - 2 }
         requires search { IsSearching (length self.old.marks.items) ranges.now self.old }
         ensures search { OnOk result (IsSearching (length self.old.marks.items) ranges.now self.new) }
-        ensures stays { OnOk result ((v : ℕ) → slice_index self.old.marks.items v ≢ 0 → slice_index self.new.marks.items v ≢ 0) }
+        ensures stays { OnOk result ((v : ℕ) → slice_index self.old.marks.items v ≢ 0 →
+            slice_index self.new.marks.items v ≢ 0) }
         ensures step { IfOk result (λ more. IsTrue more → steps_of self.new ≡ steps_of self.old + 1) }
         ensures empty { IfOk result (λ more. IsFalse more → self.new.path.items ≡ []) }
-        ensures stop { (arcs : List TimingArc) → AreLeaving arcs (length self.old.marks.items) ranges.now.starts.items ranges.now.numbers.items ranges.now.ends.items → AreAll arcs ranges.now.numbers.items → IfErr result (StopsAt (NamesLoop arcs)) }
+        ensures stop { (arcs : List TimingArc) →
+            AreLeaving arcs (length self.old.marks.items) ranges.now.starts.items ranges.now.numbers.items
+            ranges.now.ends.items → AreAll arcs ranges.now.numbers.items → IfErr result (StopsAt (NamesLoop arcs)) }
     {
         let Some(&bit) = self.path.last() else {
             return Ok(false);
         };
         let next = self.go_on(ranges, bit);
         if next == ranges.starts[bit as usize + 1] {
-            self.give_out(ranges, bit).map_err(|_| Stop::OutOfMemory)?;
+            self.give_out(ranges, bit)?;
             return Ok(true);
         }
         let end = ranges.ends[next as usize];
         if self.marks[end as usize] > UNMET {
             return Err(self.refuse(alloc, ranges, end));
         }
-        self.enter(ranges, end).map_err(|_| Stop::OutOfMemory)?;
+        self.enter(ranges, end)?;
         Ok(true)
     }
 
@@ -196,15 +213,18 @@ impl Search {
         requires root { root < length self.old.marks.items }
         requires empty { self.old.path.items ≡ [] }
         ensures search { OnOk result (IsSearching (length self.old.marks.items) ranges.now self.new) }
-        ensures stays { OnOk result ((v : ℕ) → slice_index self.old.marks.items v ≢ 0 → slice_index self.new.marks.items v ≢ 0) }
+        ensures stays { OnOk result ((v : ℕ) → slice_index self.old.marks.items v ≢ 0 →
+            slice_index self.new.marks.items v ≢ 0) }
         ensures empty { OnOk result (self.new.path.items ≡ []) }
         ensures met { OnOk result (slice_index self.new.marks.items root ≢ 0) }
-        ensures stop { (arcs : List TimingArc) → AreLeaving arcs (length self.old.marks.items) ranges.now.starts.items ranges.now.numbers.items ranges.now.ends.items → AreAll arcs ranges.now.numbers.items → IfErr result (StopsAt (NamesLoop arcs)) }
+        ensures stop { (arcs : List TimingArc) →
+            AreLeaving arcs (length self.old.marks.items) ranges.now.starts.items ranges.now.numbers.items
+            ranges.now.ends.items → AreAll arcs ranges.now.numbers.items → IfErr result (StopsAt (NamesLoop arcs)) }
     {
         if self.marks[root as usize] > UNMET {
             return Ok(());
         }
-        self.enter(ranges, root).map_err(|_| Stop::OutOfMemory)?;
+        self.enter(ranges, root)?;
         while self.step(alloc, ranges)? {}
         Ok(())
     }

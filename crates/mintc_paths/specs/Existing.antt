@@ -5,5 +5,7 @@ use Rattle.mintc_timing.specs.Design.{Design}
 use Rattle.mintc_timing.specs.Order.{IsOrder}
 use Rattle.mintc_timing.specs.Paths.{ArePairs}
 
+-- Some list has all pairs of the design with their extremes.
 abbrev pub PairsExist : Type 0
-PairsExist = (design : Design) (order : List ℕ) → IsOrder design.arcs order → (pairs : List Pair) × ArePairs design pairs
+PairsExist = (design : Design) (order : List ℕ) → IsOrder design.arcs order → (pairs : List Pair)
+    × ArePairs design pairs

@@ -43,4 +43,5 @@ end_at ends number = slice_index_or ends number 0
 pub record AreEnds (rows : List ℕ) (sums : List Sums) (n : ℕ) (ends : List ℕ) : Type 0 where
   pub ascending : (i k : ℕ) → i < k → k < length ends → end_at ends i < end_at ends k
   pub inside : (i : ℕ) → i < length ends → end_at ends i < n
-  pub others : (to : ℕ) → to < n → ((i : ℕ) → i < length ends → end_at ends i ≢ to) → sums_at sums (row_of rows (input_of to)) ≡ NO_SUMS
+  pub others : (to : ℕ) → to < n → ((i : ℕ) → i < length ends → end_at ends i ≢ to) →
+      sums_at sums (row_of rows (input_of to)) ≡ NO_SUMS

@@ -5,10 +5,11 @@ use Rattle.mintc_lanes.specs.Lanes.{lane_at}
 use Rattle.mintc_paths_sums.specs.declared.sums.Sums.{Sums}
 use Rattle.mintc_paths_sums.specs.Sums.{sums_at}
 
--- The lane's greatest sum is above 10^9 femtoseconds, or it is not.
+-- The lane's greatest sum is above 10^9 femtoseconds.
 abbrev pub IsLongAt : List Sums → ℕ → ℕ → Type 0
 IsLongAt sums lane bit = IsSomeAnd (lane_at (sums_at sums bit).greatest lane) (λ z. MOST_DELAY <ℤ z)
 
+-- The lane has no greatest sum, or it is at most 10^9 femtoseconds.
 abbrev pub IsShortAt : List Sums → ℕ → ℕ → Type 0
 IsShortAt sums lane bit = IfSome (lane_at (sums_at sums bit).greatest lane) (λ z. z ≤ℤ MOST_DELAY)
 

@@ -6,6 +6,7 @@ use Rattle.mintc_timing.specs.Order.{IsOrder}
 use Rattle.mintc_paths.specs.declared.rows.ArcSequence.{ArcSequence}
 use Rattle.mintc_paths.specs.Sums.{IsSequence}
 
+-- a design and a list of arc numbers
 pub record Ordered : Type 0 where
   pub design : Design
   pub order : List ℕ
@@ -15,6 +16,7 @@ pub record IsOrdered (of : Ordered) : Type 0 where
   pub kept : IsDesign of.design
   pub order : IsOrder of.design.arcs of.order
 
+-- the design with the list
 abbrev pub ordered : Design → List ℕ → Ordered
 ordered design order = record { design = design; order = order }
 

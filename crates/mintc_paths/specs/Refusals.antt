@@ -22,7 +22,8 @@ pub record IsFirstLong (design : Design) (j bit : ℕ) : Type 0 where
 
 -- No such path leaves an element before this one.
 abbrev pub AreShortBefore : Design → ℕ → Type 0
-AreShortBefore design first = (j bit : ℕ) (path : List ℕ) → j < first → IsPath design.arcs j path bit → greatest_delay design.arcs path ≤ℤ MOST_DELAY
+AreShortBefore design first = (j bit : ℕ) (path : List ℕ) → j < first → IsPath design.arcs j path bit →
+    greatest_delay design.arcs path ≤ℤ MOST_DELAY
 
 -- PathRange with the first element and bit
 abbrev pub IsPathRange : Design → Refusal → Type 0
@@ -31,7 +32,9 @@ IsPathRange design _ = ⊥
 
 -- No path is long, and so many pairs are more than 200,000; the count is theirs, or 10^9 where they are more.
 abbrev pub AreTooMany : Design → ℕ → Type 0
-AreTooMany design count = ArePathsShort design × ((pairs : List Pair) × ArePairs design pairs × (MOST_PAIRS < length pairs) × (count ≡ min (length pairs) MOST_TOLD))
+AreTooMany design count = ArePathsShort design
+    × ((pairs : List Pair) × ArePairs design pairs × (MOST_PAIRS < length pairs)
+    × (count ≡ min (length pairs) MOST_TOLD))
 
 -- PathRange with the first element and bit, or Limit of the pairs.
 abbrev pub IsExtremesRefusal : Design → Refusal → Type 0

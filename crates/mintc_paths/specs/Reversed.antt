@@ -8,11 +8,13 @@ use Rattle.mintc_paths_sums.specs.Placed.{row_of}
 -- Where a bit goes: of n elements, an output becomes the input of its element, and an input the output at its element's
 -- place; an inner bit stays.
 abbrev pub reversed_bit : ℕ → List ℕ → ℕ → ℕ
-reversed_bit n places bit = cond (nat_lt bit (2 * n)) (cond (bit % 2 == 1) (bit - 1) (2 * row_of places (bit / 2) + 1)) bit
+reversed_bit n places bit = cond (nat_lt bit (2 * n)) (cond (bit % 2 == 1) (bit - 1) (2 * row_of places (bit / 2) + 1))
+    bit
 
 -- which bit goes there, by the elements at the places
 abbrev pub bit_before : ℕ → List ℕ → ℕ → ℕ
-bit_before n elements bit = cond (nat_lt bit (2 * n)) (cond (bit % 2 == 0) (bit + 1) (2 * row_of elements (bit / 2))) bit
+bit_before n elements bit = cond (nat_lt bit (2 * n)) (cond (bit % 2 == 0) (bit + 1) (2 * row_of elements (bit / 2)))
+    bit
 
 -- the arc from its end to its start
 abbrev pub flipped : TimingArc → TimingArc
@@ -20,11 +22,18 @@ flipped arc = record { from = arc.to; to = arc.from; min = arc.min; max = arc.ma
 
 -- the arc from where its end goes to where its start goes
 abbrev pub reversed_arc : ℕ → List ℕ → TimingArc → TimingArc
-reversed_arc n places arc = record { from = reversed_bit n places arc.to; to = reversed_bit n places arc.from; min = arc.min; max = arc.max }
+reversed_arc n places arc = record {
+  from = reversed_bit n places arc.to;
+  to = reversed_bit n places arc.from;
+  min = arc.min;
+  max = arc.max;
+}
 
+-- all arcs reversed, in their order
 abbrev pub reversed_arcs : ℕ → List ℕ → List TimingArc → List TimingArc
 reversed_arcs n places arcs = map (reversed_arc n places) arcs
 
+-- the design with its arcs reversed
 abbrev pub reversed_design : List ℕ → Design → Design
 reversed_design places design = record design { arcs = reversed_arcs (length design.elements) places design.arcs }
 

@@ -14,15 +14,18 @@ use Rattle.mintc_paths.specs.Leaving.{AreLeaving}
 
 -- Lane i of each bit has the sums of the paths from element first + i along the first k arcs of the order.
 pub record AreSums (arcs : List TimingArc) (order : List ℕ) (k first lanes : ℕ) (sums : List Sums) : Type 0 where
-  pub greatest : (bit lane : ℕ) → bit < length sums → lane < lanes → IsGreatestAmong arcs order k (output_of (first + lane)) bit (lane_at (sums_at sums bit).greatest lane)
-  pub least : (bit lane : ℕ) → bit < length sums → lane < lanes → IsLeastAmong arcs order k (output_of (first + lane)) bit (lane_at (sums_at sums bit).least lane)
+  pub greatest : (bit lane : ℕ) → bit < length sums → lane < lanes →
+      IsGreatestAmong arcs order k (output_of (first + lane)) bit (lane_at (sums_at sums bit).greatest lane)
+  pub least : (bit lane : ℕ) → bit < length sums → lane < lanes →
+      IsLeastAmong arcs order k (output_of (first + lane)) bit (lane_at (sums_at sums bit).least lane)
   pub bounded : (bit : ℕ) → bit < length sums → IsBounded (k * 1000000000) (sums_at sums bit)
   pub alike : (bit : ℕ) → bit < length sums → IsAlike (sums_at sums bit)
 
 -- the same before any arc, with the lanes from this one on absent
 pub record AreBegun (arcs : List TimingArc) (order : List ℕ) (first lanes : ℕ) (sums : List Sums) : Type 0 where
   pub sums_so_far : AreSums arcs order 0 first lanes sums
-  pub absent : (bit lane : ℕ) → bit < length sums → lanes ≤ lane → lane < 8 → (lane_at (sums_at sums bit).greatest lane ≡ None) × (lane_at (sums_at sums bit).least lane ≡ None)
+  pub absent : (bit lane : ℕ) → bit < length sums → lanes ≤ lane → lane < 8 →
+      (lane_at (sums_at sums bit).greatest lane ≡ None) × (lane_at (sums_at sums bit).least lane ≡ None)
 
 -- The second list leads back from each number of the first.
 pub record LeadsBack (n : ℕ) (there back : List ℕ) : Type 0 where
@@ -40,7 +43,8 @@ abbrev pub moved : List ℕ → TimingArc → TimingArc
 moved rows arc = record { from = row_of rows arc.from; to = row_of rows arc.to; min = arc.min; max = arc.max }
 
 -- The list has the arcs that the first k numbers of the order name, one for each, from row to row.
-pub record AreAlong (arcs : List TimingArc) (order : List ℕ) (rows : List ℕ) (k : ℕ) (along : List TimingArc) : Type 0 where
+pub record AreAlong (arcs : List TimingArc) (order : List ℕ) (rows : List ℕ) (k : ℕ)
+    (along : List TimingArc) : Type 0 where
   pub count : length along ≡ k
   pub each : (i : ℕ) → i < k → arc_at along i ≡ moved rows (arc_at arcs (slice_index_or order i 0))
 

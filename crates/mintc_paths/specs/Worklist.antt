@@ -13,4 +13,5 @@ pub record IsReady (arcs : ℕ) (awake : Worklist) : Type 0 where
 -- The same, and each arc from this place on that leaves a row that is reached is awake.
 pub record IsAwake (along : List TimingArc) (place : ℕ) (reached : List Bool) (awake : Worklist) : Type 0 where
   pub ready : IsReady (length along) awake
-  pub each : (i : ℕ) → place ≤ i → i < length along → slice_index_or reached (arc_at along i).from false ≡ true → IsIn awake.places.words.items i
+  pub each : (i : ℕ) → place ≤ i → i < length along → slice_index_or reached (arc_at along i).from false ≡ true →
+      IsIn awake.places.words.items i

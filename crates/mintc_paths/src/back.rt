@@ -61,12 +61,15 @@ fn find_reversed(
     ghost of: { Ordered }
     requires of { of ≡ ordered (reversed_design places.now.of_bits.items flat.now) (reverse order.now) }
     requires order { IsOrder flat.now.arcs order.now }
-    requires sequence { IsSequence (2 * length flat.now.elements + length flat.now.inner) (reversed_arcs (length flat.now.elements) places.now.of_bits.items flat.now.arcs) (reverse order.now) sequence.now }
+    requires sequence { IsSequence (2 * length flat.now.elements + length flat.now.inner)
+        (reversed_arcs (length flat.now.elements) places.now.of_bits.items flat.now.arcs)
+        (reverse order.now) sequence.now }
     requires places { AreRows (length flat.now.elements) places.now }
     requires short { AreRunsShort flat.now.arcs }
-    ensures found { IfOk result (IsFoundBefore (reversed_design places.now.of_bits.items flat.now) (length flat.now.elements) 0) }
+    ensures found { IfOk result
+        (IsFoundBefore (reversed_design places.now.of_bits.items flat.now) (length flat.now.elements) 0) }
 {
-    let elements = flat.elements().len() as u32;
+    let elements = flat.element_count();
     let plan = Plan {
         sequence,
         elements,
@@ -86,18 +89,15 @@ pub(crate) fn find_backward(
     sequence: ArcSequence,
 ) -> Result<Found, OutOfMemory>
     requires order { IsOrder flat.now.arcs order.now }
-    requires sequence { IsSequence (2 * length flat.now.elements + length flat.now.inner) flat.now.arcs order.now sequence }
+    requires sequence { IsSequence (2 * length flat.now.elements + length flat.now.inner) flat.now.arcs order.now
+        sequence }
     requires short { AreRunsShort flat.now.arcs }
     ensures found { IfOk result (IsFoundBefore flat.now (length flat.now.elements) 0) }
     ensures few { IfOk result (λ found. found.count ≤ 4000000) }
 {
-    let elements = flat.elements().len() as u32;
-    let Ok(places) = element_order(alloc, elements, &sequence.rows) else {
-        return Err(OutOfMemory);
-    };
-    let Ok(sequence) = reversed_sequence(alloc, flat, order, sequence, &places) else {
-        return Err(OutOfMemory);
-    };
+    let elements = flat.element_count();
+    let places = element_order(alloc, elements, &sequence.rows)?;
+    let sequence = reversed_sequence(alloc, flat, order, sequence, &places)?;
     let mut found = find_reversed(alloc, flat, order, &sequence, &places)?;
     if found.count > MOST_PAIRS as u64 {
         return Ok(found);

@@ -24,14 +24,15 @@ use std::alloc::{AllocError, Global};
 /// The sequence over rows in the order in which the arcs come to the bits.
 pub fn sequence_of(alloc: Global, flat: &Flat, order: &Order) -> Result<ArcSequence, AllocError>
     requires { IsOrder flat.now.arcs order.now }
-    ensures { IfOk result (λ sequence. IsSequence (2 * length flat.now.elements + length flat.now.inner) flat.now.arcs order.now sequence) }
+    ensures { IfOk result
+        (λ sequence. IsSequence (2 * length flat.now.elements + length flat.now.inner) flat.now.arcs order.now sequence) }
 {
     let rows = Rows::along(alloc, flat, order)?;
     ArcSequence::new(alloc, flat, order, rows)
 }
 
-/// What all blocks have in common: a sequence, how many elements its design has, and whether it is known that no path there is
-/// too long.
+/// What all blocks have in common: a sequence, how many elements its design has, and whether it is known that no
+/// path there is too long.
 #[derive(Clone, Copy)]
 pub(crate) struct Plan<'a> {
     pub sequence: &'a ArcSequence,
@@ -60,9 +61,7 @@ fn find_each(
     let mut first = 0;
     while first < plan.elements {
         let lanes = (plan.elements - first).min(8);
-        let Ok(()) = fill(sums, reached, awake, plan.sequence, first, lanes as usize) else {
-            return Err(Stop::OutOfMemory);
-        };
+        fill(sums, reached, awake, plan.sequence, first, lanes as usize)?;
         let block = Filled {
             sums,
             reached,
@@ -70,12 +69,8 @@ fn find_each(
             first,
             lanes: lanes as usize,
         };
-        if let Err(refusal) = refuse_long(&block, plan.known_short) {
-            return Err(Stop::Refused(refusal));
-        }
-        let Ok(()) = found.add_all(&block, plan.elements) else {
-            return Err(Stop::OutOfMemory);
-        };
+        refuse_long(&block, plan.known_short)?;
+        found.add_all(&block, plan.elements)?;
         first += lanes;
     }
     Ok(found)
@@ -91,15 +86,9 @@ pub(crate) fn find_along(alloc: Global, plan: &Plan) -> Result<Found, Stop>
     ensures stop { IfErr result (StopsAt (IsPathRange of.design)) }
 {
     let bits = plan.sequence.rows.of_bits.len();
-    let Ok(mut sums) = SparseRows::new(alloc, bits) else {
-        return Err(Stop::OutOfMemory);
-    };
-    let Ok(mut reached) = vec![in alloc; false; bits] else {
-        return Err(Stop::OutOfMemory);
-    };
-    let Ok(mut awake) = Worklist::new(alloc, plan.sequence.along.len()) else {
-        return Err(Stop::OutOfMemory);
-    };
+    let mut sums = SparseRows::new(alloc, bits)?;
+    let mut reached = vec![in alloc; false; bits]?;
+    let mut awake = Worklist::new(alloc, plan.sequence.along.len())?;
     find_each(alloc, plan, &mut sums, &mut reached, &mut awake)
 }
 
@@ -114,14 +103,15 @@ pub(crate) fn find_forward(
     ghost of: { Ordered }
     requires of { of ≡ ordered flat.now order.now }
     requires order { IsOrder flat.now.arcs order.now }
-    requires sequence { IsSequence (2 * length flat.now.elements + length flat.now.inner) flat.now.arcs order.now sequence.now }
+    requires sequence { IsSequence (2 * length flat.now.elements + length flat.now.inner) flat.now.arcs order.now
+        sequence.now }
     requires known { OnTrue known_short (ArePathsShort flat.now) }
     ensures found { IfOk result (IsFoundBefore flat.now (length flat.now.elements) 0) }
     ensures few { IfOk result (λ found. found.count ≤ 4000000) }
     ensures short { OnOk result (ArePathsShort flat.now) }
     ensures stop { IfErr result (StopsAt (IsPathRange flat.now)) }
 {
-    let elements = flat.elements().len() as u32;
+    let elements = flat.element_count();
     let plan = Plan {
         sequence,
         elements,

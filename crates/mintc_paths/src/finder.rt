@@ -1,6 +1,6 @@
-//! Paths of many pairs, one after another. The memory of the search is taken once, and each path is searched among the
-//! rows between its two elements. Nothing is promised of the search but that it ends: what it finds is checked, and where
-//! it isn't the path that is wanted, that one is found by a sweep over all arcs, as `path_of` does.
+//! Paths of many pairs, one after another. The memory of the search is taken once, and each path is searched among
+//! the rows between its two elements. Nothing is promised of the search but that it ends: what it finds is checked,
+//! and where it isn't the path that is wanted, that one is found by a sweep over all arcs, as `path_of` does.
 ghost use Rattle.std.specs.Prelude.{◌≡◌, ◌<◌, ◌^◌, IfOk};
 ghost use Rattle.mintc_timing.specs.Paths.{IsPath, input_of, greatest_delay, least_delay};
 ghost use Rattle.mintc_paths.specs.Finding.{IsDelayOf, IsListedWith};
@@ -26,12 +26,8 @@ pub struct Finder {
 impl Finder {
     /// A search over the arcs of a system, which is to be that of each call.
     pub fn new(alloc: Global, system: &System) -> Result<Finder, OutOfMemory> {
-        let Ok(steps) = Successors::new(alloc, system.flat(), system.order()) else {
-            return Err(OutOfMemory);
-        };
-        let Ok(reached) = Reached::new(alloc, steps.given as usize) else {
-            return Err(OutOfMemory);
-        };
+        let steps = Successors::new(alloc, system.flat(), system.order())?;
+        let reached = Reached::new(alloc, steps.given as usize)?;
         Ok(Finder {
             steps,
             reached,
@@ -141,9 +137,7 @@ impl Finder {
     {
         let arcs = system.flat().arcs();
         let (start, end) = (2 * wanted.from + 1, 2 * wanted.to);
-        let Ok(path) = self.search(alloc, wanted.extreme, arcs, start, end) else {
-            return Err(OutOfMemory);
-        };
+        let path = self.search(alloc, wanted.extreme, arcs, start, end)?;
         if is_listed_with(system.flat(), &path, wanted) {
             return Ok(Numbers::new(path));
         }
@@ -151,14 +145,14 @@ impl Finder {
         best_path(alloc, wanted.extreme, system, wanted.from, wanted.to)
     }
 
-    /// How many of the paths that were asked for the search hasn't found, so that a sweep over all arcs had to. Nothing is
-    /// promised of it; tests see that it stays 0.
+    /// How many of the paths that were asked for the search hasn't found, so that a sweep over all arcs had to.
+    /// Nothing is promised of it; tests see that it stays 0.
     pub fn missed(&self) -> u64 {
         self.missed
     }
 
-    /// The arcs of a listed path from one element to another with the greatest sum, which is `delay`, in femtoseconds. It
-    /// is as `path_of`, and takes time for the arcs between the two elements alone.
+    /// The arcs of a listed path from one element to another with the greatest sum, which is `delay`, in
+    /// femtoseconds. It is as `path_of`, and takes time for the arcs between the two elements alone.
     pub fn path_of(
         &mut self,
         alloc: Global,
@@ -180,8 +174,8 @@ impl Finder {
         self.path_by(alloc, system, wanted)
     }
 
-    /// The arcs of a listed path from one element to another with the least sum, which is `delay`, in femtoseconds. It is
-    /// as `shortest_path_of`, and takes time for the arcs between the two elements alone.
+    /// The arcs of a listed path from one element to another with the least sum, which is `delay`, in femtoseconds.
+    /// It is as `shortest_path_of`, and takes time for the arcs between the two elements alone.
     pub fn shortest_path_of(
         &mut self,
         alloc: Global,

@@ -27,7 +27,7 @@ impl Found {
     ghost use Rattle.mintc_paths.specs.Sums.{AreMarked, AreRows};
     ghost use Rattle.mintc_paths.specs.Reached.{IsPaired, IsPairedLane, AreExtremes};
 
-    /// No pairs.
+    /// No pairs so far.
     pub(crate) fn new(alloc: Global) -> Found
         ensures pairs { result.pairs.items ≡ [] }
         ensures count { result.count ≡ 0 }
@@ -39,15 +39,16 @@ impl Found {
         }
     }
 
-    /// One more pair.
+    /// Counts a pair, and lists it while fewer are listed than a system may have.
     pub(crate) fn add(&mut self, pair: Pair) -> Result<(), OutOfMemory>
         requires { self.old.count < 2 ^ 62 }
         ensures count { OnOk result (self.new.count ≡ self.old.count + 1) }
-        ensures pairs { OnOk result (self.old.count < MOST_PAIRS → self.new.pairs.items ≡ self.old.pairs.items ++ pair ∷ []) }
+        ensures pairs { OnOk result (self.old.count < MOST_PAIRS →
+            self.new.pairs.items ≡ self.old.pairs.items ++ pair ∷ []) }
         ensures ends { self.new.ends.items ≡ self.old.ends.items }
     {
-        if self.count < MOST_PAIRS as u64 && self.pairs.push(pair).is_err() {
-            return Err(OutOfMemory);
+        if self.count < MOST_PAIRS as u64 {
+            self.pairs.push(pair)?;
         }
         self.count += 1;
         Ok(())
@@ -58,7 +59,8 @@ impl Found {
     fn add_at(&mut self, from: u32, to: u32, sums: &Sums, lane: usize) -> Result<(), OutOfMemory>
         requires count { self.old.count < 2 ^ 62 }
         requires lane { lane < 8 }
-        ensures found { OnOk result ((design : Design) → IsPaired design from to (lane_at sums.now.greatest lane) (lane_at sums.now.least lane)
+        ensures found { OnOk result ((design : Design) →
+            IsPaired design from to (lane_at sums.now.greatest lane) (lane_at sums.now.least lane)
             → IsFoundBefore design from to self.old → IsFoundBefore design from (to + 1) self.new) }
         ensures ends { self.new.ends.items ≡ self.old.ends.items }
     {
@@ -106,13 +108,14 @@ impl Found {
         requires rows { AreRows (length reached.now) rows.now }
         ensures count { self.new.count ≡ self.old.count }
         ensures pairs { self.new.pairs.items ≡ self.old.pairs.items }
-        ensures ends { OnOk result ((sums : List Sums) → AreMarked sums reached.now → AreEnds rows.now.of_bits.items sums elements self.new.ends.items) }
+        ensures ends { OnOk result ((sums : List Sums) → AreMarked sums reached.now →
+            AreEnds rows.now.of_bits.items sums elements self.new.ends.items) }
     {
         self.ends.clear();
         for to in 0..elements {
             let row = rows.of_bits[2 * to as usize];
-            if reached[row as usize] && self.ends.push(to).is_err() {
-                return Err(OutOfMemory);
+            if reached[row as usize] {
+                self.ends.push(to)?;
             }
         }
         Ok(())
@@ -125,7 +128,8 @@ impl Found {
         requires limit { elements ≤ MOST_ELEMENTS }
         requires bits { 2 * elements ≤ length block.now.sums.now }
         requires inside { block.now.first + block.now.lanes ≤ elements }
-        requires extremes { AreExtremes design block.now.first block.now.lanes (placed block.now.rows.now.of_bits.items block.now.sums.now) }
+        requires extremes { AreExtremes design block.now.first block.now.lanes
+            (placed block.now.rows.now.of_bits.items block.now.sums.now) }
         requires found { IsFoundBefore design block.now.first 0 self.old }
         ensures { OnOk result (IsFoundBefore design (block.now.first + block.now.lanes) 0 self.new) }
     {

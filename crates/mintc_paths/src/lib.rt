@@ -1,13 +1,13 @@
 //! The pairs of a design with the extremes of their listed paths, and a path for each of these.
 //!
-//! The greatest and the least sums from eight elements stand in rows of mintc_paths_sums, one for each bit, a lane for each element.
-//! They are filled by one pass over the arcs in their order, each after all arcs into the bit that it leaves: so are the
-//! longest and the shortest paths of a graph without loops found (the order after A. B. Kahn, "Topological sorting of large
-//! networks", 1962; the pass in T. H. Cormen and others, "Introduction to Algorithms", 2009, section 24.2). Only arcs that
-//! leave rows that are reached are looked at. Where few inputs are entered, sums are carried from there back, through the
-//! design reversed. A path is traced back from its end. A `Finder` does so for many pairs, by sweeps of what lies between
-//! their elements alone. The crates above get all pairs, or the first path that is too long, and a path with the sum that they
-//! ask for.
+//! The greatest and the least sums from eight elements stand in rows of mintc_paths_sums, one for each bit, a lane
+//! for each element. They are filled by one pass over the arcs in their order, each after all arcs into the bit
+//! that it leaves: so are the longest and the shortest paths of a graph without loops found (the order after A. B.
+//! Kahn, "Topological sorting of large networks", 1962; the pass in T. H. Cormen and others, "Introduction to
+//! Algorithms", 2009, section 24.2). Only arcs that leave rows that are reached are looked at. Where few inputs are
+//! entered, sums are carried from there back, through the design reversed. A path is traced back from its end. A
+//! `Finder` does so for many pairs, by sweeps of what lies between their elements alone. The crates above get all
+//! pairs, or the first path that is too long, and a path with the sum that they ask for.
 #![tactic(auto)]
 
 ghost use Rattle.std.specs.Prelude.{◌≡◌, ◌≤◌, length, All, IfOk, IfErr, OnOk};

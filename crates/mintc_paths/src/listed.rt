@@ -6,7 +6,8 @@ ghost use Rattle.mintc_paths.specs.Finding.{IsListedWith};
 use crate::trace::{Extreme, delay_at};
 use mintc_timing::Flat;
 
-/// A path that is asked for: from one element to another, with the greatest or the least sum, which is known, in femtoseconds.
+/// A path that is asked for: from one element to another, with the greatest or the least sum, which is known, in
+/// femtoseconds.
 #[derive(Clone, Copy)]
 pub(crate) struct Wanted {
     pub extreme: Extreme,

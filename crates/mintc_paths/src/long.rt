@@ -1,5 +1,6 @@
 //! The search for a sum above the limit.
-ghost use Rattle.std.specs.Prelude.{◌<◌, ◌≤◌, ◌+◌, ◌^◌, ◌<ℤ◌, ◌≤ℤ◌, ℕ, pos, length, MatchOption, IfSome, IfErr, OnOk, IsSomeAnd};
+ghost use Rattle.std.specs.Prelude.{◌<◌, ◌≤◌, ◌+◌, ◌^◌, ◌<ℤ◌, ◌≤ℤ◌, ℕ, pos, length, MatchOption, IfSome, IfErr, OnOk};
+ghost use Rattle.std.specs.Prelude.{IsSomeAnd};
 ghost use Rattle.std.specs.Bool.{OnTrue, OnFalse};
 ghost use Rattle.mintc_text.specs.declared.limits.TheConstants.{MOST_ELEMENTS};
 ghost use Rattle.mintc_lanes.specs.Lanes.{lane_at, AreLanes};
@@ -26,10 +27,8 @@ fn are_short(sums: &SparseRows, reached: &[bool]) -> bool
     ensures { OnTrue result ((lane : ℕ) → lane < 8 → IsShortLane sums.now lane) }
 {
     for row in 0..sums.len() {
-        if reached[row] {
-            if max_row(&sums.at(row).greatest) > MOST_DELAY {
-                return false;
-            }
+        if reached[row] && max_row(&sums.at(row).greatest) > MOST_DELAY {
+            return false;
         }
     }
     true
@@ -49,7 +48,8 @@ fn is_long(sums: &Sums, lane: usize) -> bool
 fn first_bit(sums: &SparseRows, rows: &Rows, lane: usize) -> Option<usize>
     requires rows { AreRows (length sums.now) rows.now }
     requires lane { lane < 8 }
-    ensures { MatchOption result (IsShortLane (placed rows.now.of_bits.items sums.now) lane) (λ bit. IsFirstBit (placed rows.now.of_bits.items sums.now) lane bit) }
+    ensures { MatchOption result (IsShortLane (placed rows.now.of_bits.items sums.now) lane)
+        (λ bit. IsFirstBit (placed rows.now.of_bits.items sums.now) lane bit) }
 {
     for bit in 0..rows.of_bits.len() {
         let row = rows.of_bits[bit] as usize;
@@ -60,16 +60,18 @@ fn first_bit(sums: &SparseRows, rows: &Rows, lane: usize) -> Option<usize>
     None
 }
 
-/// Refuses the first path that is too long among those from a block's elements. Where it is known that no path is, there is
-/// nothing to look for.
+/// Refuses the first path that is too long among those from a block's elements. Where it is known that no path is,
+/// there is nothing to look for.
 #[tactic(auto, using(crate::proofs::Shortness::AreShortBefore_more, crate::proofs::Rowing::IsShortLane_placed, crate::proofs::Shortness::IsFirstLong_from_lane))]
 pub(crate) fn refuse_long(block: &Filled, known_short: bool) -> Result<(), Refusal>
     ghost design: { Design }
     requires few { length design.elements ≤ MOST_ELEMENTS }
     requires some { length block.now.sums.now ≤ 2 ^ 20 }
     requires elements { block.now.first + block.now.lanes ≤ length design.elements }
-    requires extremes { AreExtremes design block.now.first block.now.lanes (placed block.now.rows.now.of_bits.items block.now.sums.now) }
-    requires bounded { (row : ℕ) → row < length block.now.sums.now → AreLanes (sums_at block.now.sums.now row).greatest }
+    requires extremes { AreExtremes design block.now.first block.now.lanes
+        (placed block.now.rows.now.of_bits.items block.now.sums.now) }
+    requires bounded { (row : ℕ) → row < length block.now.sums.now →
+        AreLanes (sums_at block.now.sums.now row).greatest }
     requires short { AreShortBefore design block.now.first }
     requires known { OnTrue known_short (ArePathsShort design) }
     ensures short { OnOk result (AreShortBefore design (block.now.first + block.now.lanes)) }

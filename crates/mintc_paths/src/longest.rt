@@ -21,7 +21,8 @@ fn raise(sums: &mut [i64], arc: TimingArc)
     ensures others { (row : ℕ) → row ≢ arc.to → bit_sum sums.new row ≡ bit_sum sums.old row }
     ensures kept { bit_sum sums.old arc.to ≤ℤ bit_sum sums.new arc.to }
     ensures raised { (bit_sum sums.old arc.from +ℤ arc.max) ≤ℤ bit_sum sums.new arc.to }
-    ensures limit { (most : ℤ) → bit_sum sums.old arc.to ≤ℤ most → (bit_sum sums.old arc.from +ℤ arc.max) ≤ℤ most → bit_sum sums.new arc.to ≤ℤ most }
+    ensures limit { (most : ℤ) → bit_sum sums.old arc.to ≤ℤ most → (bit_sum sums.old arc.from +ℤ arc.max) ≤ℤ most →
+        bit_sum sums.new arc.to ≤ℤ most }
 {
     let sum = sums[arc.from as usize] + arc.max;
     if sums[arc.to as usize] < sum {
@@ -29,13 +30,15 @@ fn raise(sums: &mut [i64], arc: TimingArc)
     }
 }
 
-/// Makes the sums, which are 0 in each row, the greatest along arcs that end there, wherever they begin, in femtoseconds.
+/// Makes the sums, which are 0 in each row, the greatest along arcs that end there, wherever they begin, in
+/// femtoseconds.
 fn raise_all(sums: &mut [i64], flat: &Flat, order: &Order, sequence: &ArcSequence)
     requires order { IsOrder flat.now.arcs order.now }
     requires bits { length sums.old ≡ 2 * length flat.now.elements + length flat.now.inner }
     requires sequence { IsSequence (length sums.old) flat.now.arcs order.now sequence.now }
     requires none { AreCarried flat.now.arcs order.now 0 (bit_sums sequence.now.rows.of_bits.items sums.old) }
-    ensures { AreCarried flat.now.arcs order.now (length order.now) (bit_sums sequence.now.rows.of_bits.items sums.new) }
+    ensures { AreCarried flat.now.arcs order.now (length order.now)
+        (bit_sums sequence.now.rows.of_bits.items sums.new) }
 {
     let _elements = flat.elements();
     for place in 0..sequence.along.len() {
@@ -47,12 +50,7 @@ fn raise_all(sums: &mut [i64], flat: &Flat, order: &Order, sequence: &ArcSequenc
 fn are_within(sums: &[i64]) -> bool
     ensures { OnTrue result (All (λ z. z ≤ℤ MOST_DELAY) sums.now) }
 {
-    for sum in sums {
-        if *sum > MOST_DELAY {
-            return false;
-        }
-    }
-    true
+    sums.iter().all(|sum| *sum <= MOST_DELAY)
 }
 
 /// Whether no arcs in a row have a sum above the limit, wherever they begin.
@@ -64,7 +62,8 @@ pub(crate) fn runs_are_within_limit(
     sequence: &ArcSequence,
 ) -> Result<bool, AllocError>
     requires order { IsOrder flat.now.arcs order.now }
-    requires sequence { IsSequence (2 * length flat.now.elements + length flat.now.inner) flat.now.arcs order.now sequence.now }
+    requires sequence { IsSequence (2 * length flat.now.elements + length flat.now.inner) flat.now.arcs order.now
+        sequence.now }
     ensures { IfOk result (λ short. OnTrue short (AreRunsShort flat.now.arcs)) }
 {
     let mut sums = vec![in alloc; 0; sequence.rows.of_bits.len()]?;
@@ -80,7 +79,8 @@ pub fn bound_is_within_limit(
     sequence: &ArcSequence,
 ) -> Result<bool, AllocError>
     requires order { IsOrder flat.now.arcs order.now }
-    requires sequence { IsSequence (2 * length flat.now.elements + length flat.now.inner) flat.now.arcs order.now sequence.now }
+    requires sequence { IsSequence (2 * length flat.now.elements + length flat.now.inner) flat.now.arcs order.now
+        sequence.now }
     ensures { IfOk result (λ short. OnTrue short (ArePathsShort flat.now)) }
 {
     runs_are_within_limit(alloc, flat, order, sequence)

@@ -1,4 +1,5 @@
-//! Sequences reversed: each arc from its end to its start, from the last arc to the first, and outputs in place of inputs.
+//! Sequences reversed: each arc from its end to its start, from the last arc to the first, and outputs in place of
+//! inputs.
 ghost use Rattle.std.specs.Prelude.{◌≡◌, ◌<◌, ◌≤◌, ◌+◌, ◌-◌, ◌*◌, ◌^◌, ℕ, length, reverse, IfOk};
 ghost use Rattle.mintc_text.specs.declared.limits.TheConstants.{MOST_ELEMENTS};
 ghost use Rattle.mintc_timing.specs.Order.{IsOrder};
@@ -45,7 +46,8 @@ fn bit_before(bit: u32, elements: u32, places: &Rows) -> u32
 
 /// Turns the arcs round, from the last one to the first.
 fn reverse_arcs(along: &mut [TimingArc])
-    ensures { (i : ℕ) → i < length along.old → arc_at along.new i ≡ flipped (arc_at along.old (length along.old - 1 - i)) }
+    ensures { (i : ℕ) → i < length along.old →
+        arc_at along.new i ≡ flipped (arc_at along.old (length along.old - 1 - i)) }
 {
     along.reverse();
     for place in 0..along.len() {
@@ -71,7 +73,8 @@ fn rows_after(
     requires all { 2 * elements ≤ length before.now }
     requires places { AreRows elements places.now }
     ensures count { IfOk result (λ rows. length rows.items ≡ length before.now) }
-    ensures each { IfOk result (λ rows. (bit : ℕ) → bit < length before.now → row_of rows.items bit ≡ row_of before.now (bit_before elements places.now.bits.items bit)) }
+    ensures each { IfOk result (λ rows. (bit : ℕ) → bit < length before.now →
+        row_of rows.items bit ≡ row_of before.now (bit_before elements places.now.bits.items bit)) }
 {
     let mut rows = Vec::with_capacity(alloc, before.len())?;
     for bit in 0..before.len() {
@@ -85,7 +88,8 @@ fn rows_after(
 fn reverse_bits(bits: &mut [u32], elements: u32, places: &Rows)
     requires few { elements ≤ MOST_ELEMENTS }
     requires places { AreRows elements places.now }
-    ensures { (row : ℕ) → row < length bits.old → row_of bits.new row ≡ reversed_bit elements places.now.of_bits.items (row_of bits.old row) }
+    ensures { (row : ℕ) → row < length bits.old →
+        row_of bits.new row ≡ reversed_bit elements places.now.of_bits.items (row_of bits.old row) }
 {
     for row in 0..bits.len() {
         bits[row] = bit_after(bits[row], elements, places);
@@ -106,7 +110,8 @@ fn reversed_rows(
     requires places { AreRows elements places.now }
     ensures rows { IfOk result (λ reversed. AreRows (length rows.of_bits.items) reversed) }
     ensures each { IfOk result (λ reversed. (bit : ℕ) → bit < length rows.of_bits.items
-        → row_of reversed.of_bits.items (reversed_bit elements places.now.of_bits.items bit) ≡ row_of rows.of_bits.items bit) }
+        → row_of reversed.of_bits.items (reversed_bit elements places.now.of_bits.items bit)
+        ≡ row_of rows.of_bits.items bit) }
 {
     let Rows {
         of_bits: before,
@@ -141,11 +146,14 @@ pub fn reversed_sequence(
     places: &Rows,
 ) -> Result<ArcSequence, AllocError>
     requires order { IsOrder flat.now.arcs order.now }
-    requires sequence { IsSequence (2 * length flat.now.elements + length flat.now.inner) flat.now.arcs order.now sequence }
+    requires sequence { IsSequence (2 * length flat.now.elements + length flat.now.inner) flat.now.arcs order.now
+        sequence }
     requires places { AreRows (length flat.now.elements) places.now }
-    ensures { IfOk result (λ reversed. IsSequence (2 * length flat.now.elements + length flat.now.inner) (reversed_arcs (length flat.now.elements) places.now.of_bits.items flat.now.arcs) (reverse order.now) reversed) }
+    ensures { IfOk result
+        (λ reversed. IsSequence (2 * length flat.now.elements + length flat.now.inner)
+        (reversed_arcs (length flat.now.elements) places.now.of_bits.items flat.now.arcs) (reverse order.now) reversed) }
 {
-    let elements = flat.elements().len() as u32;
+    let elements = flat.element_count();
     let ArcSequence {
         rows,
         mut along,

@@ -18,10 +18,12 @@ use std::alloc::{AllocError, Global};
 /// The sequence over rows of the bits' own numbers.
 fn plain_sequence(alloc: Global, flat: &Flat, order: &Order) -> Result<ArcSequence, AllocError>
     requires { IsOrder flat.now.arcs order.now }
-    ensures sequence { IfOk result (λ sequence. IsSequence (2 * length flat.now.elements + length flat.now.inner) flat.now.arcs order.now sequence) }
-    ensures own { IfOk result (λ sequence. (bit : ℕ) → bit < 2 * length flat.now.elements + length flat.now.inner → row_of sequence.rows.of_bits.items bit ≡ bit) }
+    ensures sequence { IfOk result
+        (λ sequence. IsSequence (2 * length flat.now.elements + length flat.now.inner) flat.now.arcs order.now sequence) }
+    ensures own { IfOk result (λ sequence. (bit : ℕ) → bit < 2 * length flat.now.elements + length flat.now.inner →
+        row_of sequence.rows.of_bits.items bit ≡ bit) }
 {
-    let bits = 2 * flat.elements().len() + flat.inner().items().len();
+    let bits = flat.bit_count();
     let rows = Rows::plain(alloc, bits)?;
     ArcSequence::new(alloc, flat, order, rows)
 }
@@ -40,24 +42,12 @@ pub(crate) fn best_path(
     ensures { IfOk result (IsOfPair extreme system.now from to) }
 {
     let (flat, order) = (system.flat(), system.order());
-    let bits = 2 * flat.elements().len() + flat.inner().items().len();
-    let Ok(mut sums) = SparseRows::new(alloc, bits) else {
-        return Err(OutOfMemory);
-    };
-    let Ok(mut reached) = vec![in alloc; false; bits] else {
-        return Err(OutOfMemory);
-    };
-    let Ok(sequence) = plain_sequence(alloc, flat, order) else {
-        return Err(OutOfMemory);
-    };
-    let Ok(mut awake) = Worklist::new(alloc, sequence.along.len()) else {
-        return Err(OutOfMemory);
-    };
-    let Ok(()) = fill(&mut sums, &mut reached, &mut awake, &sequence, from, 1) else {
-        return Err(OutOfMemory);
-    };
-    match trace(alloc, extreme, flat, order, &sums, 2 * to) {
-        Ok(path) => Ok(Numbers::new(path)),
-        Err(_) => Err(OutOfMemory),
-    }
+    let bits = flat.bit_count();
+    let mut sums = SparseRows::new(alloc, bits)?;
+    let mut reached = vec![in alloc; false; bits]?;
+    let sequence = plain_sequence(alloc, flat, order)?;
+    let mut awake = Worklist::new(alloc, sequence.along.len())?;
+    fill(&mut sums, &mut reached, &mut awake, &sequence, from, 1)?;
+    let path = trace(alloc, extreme, flat, order, &sums, 2 * to)?;
+    Ok(Numbers::new(path))
 }

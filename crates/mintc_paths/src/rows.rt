@@ -68,7 +68,7 @@ impl Rows {
         requires { IsOrder flat.now.arcs order.now }
         ensures { IfOk result (λ rows. AreRows (2 * length flat.now.elements + length flat.now.inner) rows) }
     {
-        let bits = 2 * flat.elements().len() + flat.inner().items().len();
+        let bits = flat.bit_count();
         let arcs = flat.arcs();
         let mut rows = Rows::plain(alloc, bits)?;
         let mut given = 0;
@@ -100,7 +100,9 @@ impl ArcSequence {
     ) -> Result<ArcSequence, AllocError>
         requires order { IsOrder flat.now.arcs order.now }
         requires rows { AreRows (2 * length flat.now.elements + length flat.now.inner) rows }
-        ensures sequence { IfOk result (λ sequence. IsSequence (2 * length flat.now.elements + length flat.now.inner) flat.now.arcs order.now sequence) }
+        ensures sequence { IfOk result
+            (λ sequence. IsSequence (2 * length flat.now.elements + length flat.now.inner) flat.now.arcs order.now
+            sequence) }
         ensures rows { IfOk result (λ sequence. sequence.rows ≡ rows) }
     {
         let arcs = flat.arcs();

@@ -46,7 +46,8 @@ fn clear(
     requires marked { AreMarked sums.old reached.old }
     requires ready { IsReady (length sequence.now.along.items) awake.old }
     ensures count { length sums.new ≡ length sums.old }
-    ensures begun { OnOk result ((arcs : List TimingArc) (order : List ℕ) → AreBegun arcs order first lanes (placed sequence.now.rows.of_bits.items sums.new)) }
+    ensures begun { OnOk result ((arcs : List TimingArc) (order : List ℕ) →
+        AreBegun arcs order first lanes (placed sequence.now.rows.of_bits.items sums.new)) }
     ensures marked { OnOk result (AreMarked sums.new reached.new) }
     ensures awake { OnOk result (IsAwake sequence.now.along.items 0 reached.new awake.new) }
 {
@@ -83,9 +84,14 @@ fn carry(
     ensures awake { OnOk result ((place : ℕ) → IsAwake sequence.now.along.items place reached.old awake.old
         → IsAwake sequence.now.along.items place reached.new awake.new) }
     ensures others { (bit : ℕ) → bit ≢ arc.to → sums_at sums.new bit ≡ sums_at sums.old bit }
-    ensures greatest { OnOk result (AreJoined int_max (sums_at sums.old arc.to).greatest (sums_at sums.old arc.from).greatest arc.max (sums_at sums.new arc.to).greatest) }
-    ensures least { OnOk result (AreJoined int_min (sums_at sums.old arc.to).least (sums_at sums.old arc.from).least arc.min (sums_at sums.new arc.to).least) }
-    ensures bounded { OnOk result ((most : ℕ) → IsBounded most (sums_at sums.old arc.from) → IsBounded most (sums_at sums.old arc.to) → IsBounded (most + 1000000000) (sums_at sums.new arc.to)) }
+    ensures greatest { OnOk result
+        (AreJoined int_max (sums_at sums.old arc.to).greatest (sums_at sums.old arc.from).greatest arc.max
+        (sums_at sums.new arc.to).greatest) }
+    ensures least { OnOk result
+        (AreJoined int_min (sums_at sums.old arc.to).least (sums_at sums.old arc.from).least arc.min
+        (sums_at sums.new arc.to).least) }
+    ensures bounded { OnOk result ((most : ℕ) → IsBounded most (sums_at sums.old arc.from) →
+        IsBounded most (sums_at sums.old arc.to) → IsBounded (most + 1000000000) (sums_at sums.new arc.to)) }
 {
     if reached[arc.from as usize] {
         awake.reach(reached, sequence, arc.to);
@@ -113,7 +119,9 @@ pub(crate) fn fill(
     ensures count { length sums.new ≡ length sums.old }
     ensures marked { OnOk result (AreMarked sums.new reached.new) }
     ensures ready { OnOk result (IsReady (length sequence.now.along.items) awake.new) }
-    ensures sums { OnOk result (AreSums of.design.arcs of.order (length of.order) first lanes (placed sequence.now.rows.of_bits.items sums.new)) }
+    ensures sums { OnOk result
+        (AreSums of.design.arcs of.order (length of.order) first lanes
+        (placed sequence.now.rows.of_bits.items sums.new)) }
     ensures extremes { OnOk result (AreExtremes of.design first lanes (placed sequence.now.rows.of_bits.items sums.new)) }
 {
     clear(sums, reached, awake, sequence, first, lanes)?;

@@ -28,7 +28,7 @@ fn sum_at(extreme: Extreme, sums: &Sums) -> Option<i64>
     }
 }
 
-/// The arc's delay.
+/// The arc's greatest or least delay, in femtoseconds.
 pub(crate) fn delay_at(extreme: Extreme, arc: &TimingArc) -> i64
     ensures { result ≡ delay_of extreme arc.now }
 {
@@ -38,7 +38,8 @@ pub(crate) fn delay_at(extreme: Extreme, arc: &TimingArc) -> i64
     }
 }
 
-/// Whether a best path to the bit can end with the arc: whether it enters the bit, and the best sum there goes through it.
+/// Whether a best path to the bit can end with the arc: whether it enters the bit, and the best sum there goes
+/// through it.
 fn is_last(extreme: Extreme, sums: &SparseRows, arc: &TimingArc, bit: u32) -> bool
     requires from { arc.now.from < length sums.now }
     requires to { arc.now.to < length sums.now }

@@ -15,13 +15,7 @@ use std::alloc::{AllocError, Global};
 
 /// How many are marked.
 fn count_marked(marks: &[bool]) -> usize {
-    let mut count = 0;
-    for mark in marks {
-        if *mark {
-            count += 1;
-        }
-    }
-    count
+    marks.iter().filter(|mark| **mark).count()
 }
 
 /// Whether inner bits enter the inputs of less than half as many elements as the outputs that enter inner bits.
@@ -49,20 +43,11 @@ pub(crate) fn find(alloc: Global, flat: &Flat, order: &Order) -> Result<Found, S
     ensures short { OnOk result (ArePathsShort flat.now) }
     ensures stop { IfErr result (StopsAt (IsPathRange flat.now)) }
 {
-    let Ok(sequence) = sequence_of(alloc, flat, order) else {
-        return Err(Stop::OutOfMemory);
-    };
-    let Ok(known_short) = runs_are_within_limit(alloc, flat, order, &sequence) else {
-        return Err(Stop::OutOfMemory);
-    };
-    let Ok(few) = is_backward_cheaper(alloc, flat) else {
-        return Err(Stop::OutOfMemory);
-    };
+    let sequence = sequence_of(alloc, flat, order)?;
+    let known_short = runs_are_within_limit(alloc, flat, order, &sequence)?;
+    let few = is_backward_cheaper(alloc, flat)?;
     if !known_short || !few {
         return find_forward(alloc, flat, order, &sequence, known_short);
     }
-    match find_backward(alloc, flat, order, sequence) {
-        Ok(found) => Ok(found),
-        Err(_) => Err(Stop::OutOfMemory),
-    }
+    Ok(find_backward(alloc, flat, order, sequence)?)
 }

@@ -1,5 +1,5 @@
-//! The arcs that leave the rows that are reached, so that no others are looked at. They stand in a set of their places along a
-//! sequence.
+//! The arcs that leave the rows that are reached, so that no others are looked at. They stand in a set of their
+//! places along a sequence.
 ghost use Rattle.std.specs.Prelude.{◌≡◌, ◌<◌, ◌≤◌, ◌^◌, ℕ, true, length, slice_set, IfOk};
 ghost use Rattle.mintc_paths.specs.Worklist.{IsReady, IsAwake};
 ghost use Rattle.mintc_bitset.specs.BitSet.{IsIn, room};
@@ -22,10 +22,12 @@ pub struct Worklist {
 fn wake(places: &mut BitSet, sequence: &ArcSequence, row: usize)
     requires room { length sequence.now.along.items ≤ room places.old.words.items }
     requires row { row < length sequence.now.leaving.lasts.items }
-    requires leaving { AreLeaving sequence.now.along.items (length sequence.now.leaving.lasts.items) sequence.now.leaving }
+    requires leaving { AreLeaving sequence.now.along.items
+        (length sequence.now.leaving.lasts.items) sequence.now.leaving }
     ensures count { length places.new.words.items ≡ length places.old.words.items }
     ensures kept { (place : ℕ) → IsIn places.old.words.items place → IsIn places.new.words.items place }
-    ensures awake { (place : ℕ) → place < length sequence.now.along.items → (arc_at sequence.now.along.items place).from ≡ row → IsIn places.new.words.items place }
+    ensures awake { (place : ℕ) → place < length sequence.now.along.items →
+        (arc_at sequence.now.along.items place).from ≡ row → IsIn places.new.words.items place }
 {
     let mut next = sequence.leaving.lasts[row];
     while next > 0 {

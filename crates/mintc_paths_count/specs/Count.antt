@@ -28,9 +28,11 @@ pub record IsPairMark (design : Design) (from to mark : ℕ) : Type 0 where
 
 -- The marks at the inputs are those of the pairs from an element, in this lane.
 abbrev pub AreEndsOf : Design → ℕ → ℕ → List Marks → Type 0
-AreEndsOf design from lane ends = (to : ℕ) → to < length design.elements → IsPairMark design from to (mark_in (marks_at ends to) lane)
+AreEndsOf design from lane ends = (to : ℕ) → to < length design.elements →
+    IsPairMark design from to (mark_in (marks_at ends to) lane)
 
--- The list of elements below n ascends, and each element below n that isn't listed is none of those that are looked for.
+-- The list of elements below n ascends, and each element below n that isn't listed is none of those that are looked
+-- for.
 pub record AreListed (IsNone : ℕ → Type 0) (n : ℕ) (listed : List ℕ) : Type 0 where
   pub ascending : (i k : ℕ) → i < k → k < length listed → end_at listed i < end_at listed k
   pub inside : (i : ℕ) → i < length listed → end_at listed i < n

@@ -22,11 +22,14 @@ fn count_reversed(
     ghost of: { Ordered }
     requires of { of ≡ ordered (reversed_design places.now.of_bits.items flat.now) (reverse order.now) }
     requires order { IsOrder flat.now.arcs order.now }
-    requires sequence { IsSequence (2 * length flat.now.elements + length flat.now.inner) (reversed_arcs (length flat.now.elements) places.now.of_bits.items flat.now.arcs) (reverse order.now) sequence.now }
+    requires sequence { IsSequence (2 * length flat.now.elements + length flat.now.inner)
+        (reversed_arcs (length flat.now.elements) places.now.of_bits.items flat.now.arcs)
+        (reverse order.now) sequence.now }
     requires places { AreRows (length flat.now.elements) places.now }
-    ensures { IfOk result (IsCountBefore (reversed_design places.now.of_bits.items flat.now) (length flat.now.elements) 0) }
+    ensures { IfOk result
+        (IsCountBefore (reversed_design places.now.of_bits.items flat.now) (length flat.now.elements) 0) }
 {
-    let elements = flat.elements().len() as u32;
+    let elements = flat.element_count();
     count_along(alloc, sequence, elements)
 }
 
@@ -39,10 +42,11 @@ pub(crate) fn count_back(
     sequence: ArcSequence,
 ) -> Result<u64, AllocError>
     requires order { IsOrder flat.now.arcs order.now }
-    requires sequence { IsSequence (2 * length flat.now.elements + length flat.now.inner) flat.now.arcs order.now sequence }
+    requires sequence { IsSequence (2 * length flat.now.elements + length flat.now.inner) flat.now.arcs order.now
+        sequence }
     ensures { IfOk result (IsCountBefore flat.now (length flat.now.elements) 0) }
 {
-    let elements = flat.elements().len() as u32;
+    let elements = flat.element_count();
     let places = element_order(alloc, elements, &sequence.rows)?;
     let sequence = reversed_sequence(alloc, flat, order, sequence, &places)?;
     count_reversed(alloc, flat, order, &sequence, &places)

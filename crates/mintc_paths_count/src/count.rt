@@ -21,8 +21,8 @@ use mintc_text::{Kind, Refusal, Stop};
 use mintc_timing::{Flat, Order};
 use std::alloc::{AllocError, Global};
 
-/// The number of pairs before and from an element, whose marks at the inputs are in this lane. No path leads to an input that
-/// isn't listed.
+/// The number of pairs before and from an element, whose marks at the inputs are in this lane. No path leads to an
+/// input that isn't listed.
 #[tactic(auto, using(crate::proofs::Listing::IsCountToEnd_more))]
 fn count_from(count: u64, ends: &[Marks], listed: &[u32], element: u32, lane: usize) -> u64
     ghost design: { Design }
@@ -36,9 +36,8 @@ fn count_from(count: u64, ends: &[Marks], listed: &[u32], element: u32, lane: us
     ensures { IsCountBefore design (element + 1) 0 result }
 {
     let mut count = count;
-    for number in 0..listed.len() {
-        let to = listed[number] as usize;
-        count += mark_of(&ends[to], lane);
+    for to in listed {
+        count += mark_of(&ends[*to as usize], lane);
     }
     count
 }
@@ -112,10 +111,11 @@ fn count_forward(
     ghost of: { Ordered }
     requires of { of ≡ ordered flat.now order.now }
     requires order { IsOrder flat.now.arcs order.now }
-    requires sequence { IsSequence (2 * length flat.now.elements + length flat.now.inner) flat.now.arcs order.now sequence.now }
+    requires sequence { IsSequence (2 * length flat.now.elements + length flat.now.inner) flat.now.arcs order.now
+        sequence.now }
     ensures { IfOk result (IsCountBefore flat.now (length flat.now.elements) 0) }
 {
-    let elements = flat.elements().len() as u32;
+    let elements = flat.element_count();
     count_along(alloc, sequence, elements)
 }
 
@@ -127,7 +127,8 @@ fn count_all(
     sequence: ArcSequence,
 ) -> Result<u64, AllocError>
     requires order { IsOrder flat.now.arcs order.now }
-    requires sequence { IsSequence (2 * length flat.now.elements + length flat.now.inner) flat.now.arcs order.now sequence }
+    requires sequence { IsSequence (2 * length flat.now.elements + length flat.now.inner) flat.now.arcs order.now
+        sequence }
     ensures count { IfOk result (IsCountBefore flat.now (length flat.now.elements) 0) }
     ensures few { IfOk result (λ count. count ≤ 4000000) }
 {
@@ -145,19 +146,13 @@ pub fn count_pairs(alloc: Global, flat: &Flat, order: &Order) -> Result<u64, Sto
     ensures short { OnOk result (ArePathsShort flat.now) }
     ensures stop { IfErr result (StopsAt (IsExtremesRefusal flat.now)) }
 {
-    let Ok(sequence) = sequence_of(alloc, flat, order) else {
-        return Err(Stop::OutOfMemory);
-    };
-    let Ok(known_short) = bound_is_within_limit(alloc, flat, order, &sequence) else {
-        return Err(Stop::OutOfMemory);
-    };
+    let sequence = sequence_of(alloc, flat, order)?;
+    let known_short = bound_is_within_limit(alloc, flat, order, &sequence)?;
     if !known_short {
         let pairs = extremes(alloc, flat, order)?;
         return Ok(pairs.len() as u64);
     }
-    let Ok(count) = count_all(alloc, flat, order, sequence) else {
-        return Err(Stop::OutOfMemory);
-    };
+    let count = count_all(alloc, flat, order, sequence)?;
     if count > MOST_PAIRS as u64 {
         return Err(Stop::Refused(Refusal::Limit {
             kind: Kind::Pairs,

@@ -37,7 +37,8 @@ fn set(marks: &mut [Marks], row: usize, lane: usize)
     requires row { row < length marks.old }
     requires lane { lane < 256 }
     ensures others { (other : ℕ) → other ≢ row → marks_at marks.new other ≡ marks_at marks.old other }
-    ensures lanes { (other : ℕ) → other ≢ lane → mark_in (marks_at marks.new row) other ≡ mark_in (marks_at marks.old row) other }
+    ensures lanes { (other : ℕ) → other ≢ lane →
+        mark_in (marks_at marks.new row) other ≡ mark_in (marks_at marks.old row) other }
     ensures own { mark_in (marks_at marks.new row) lane ≡ 1 }
 {
     let at = &mut marks[row];
@@ -119,7 +120,8 @@ fn carry(
         → IsAwake sequence.now.along.items place reached.new awake.new }
     ensures others { (row : ℕ) → row ≢ arc.to → marks_at marks.new row ≡ marks_at marks.old row }
     ensures joined { (lane : ℕ) → lane < 256
-        → mark_in (marks_at marks.new arc.to) lane ≡ max (mark_in (marks_at marks.old arc.to) lane) (mark_in (marks_at marks.old arc.from) lane) }
+        → mark_in (marks_at marks.new arc.to) lane
+        ≡ max (mark_in (marks_at marks.old arc.to) lane) (mark_in (marks_at marks.old arc.from) lane) }
 {
     if reached[arc.from as usize] {
         awake.reach(reached, sequence, arc.to);
@@ -146,7 +148,8 @@ pub(crate) fn mark_all(
     requires ready { IsReady (length sequence.now.along.items) awake.old }
     ensures marked { AreMarksReached marks.new reached.new }
     ensures ready { IsReady (length sequence.now.along.items) awake.new }
-    ensures along { AreMarksAlong (length marks.old) of.design.arcs of.order (length of.order) sequence.now.rows.of_bits.items first lanes marks.new }
+    ensures along { AreMarksAlong (length marks.old) of.design.arcs of.order
+        (length of.order) sequence.now.rows.of_bits.items first lanes marks.new }
 {
     begin(marks, reached, awake, sequence, first, lanes);
     let mut place = awake.places.next(0);
@@ -162,7 +165,8 @@ pub(crate) fn mark_all(
 pub(crate) fn gather(ends: &mut [Marks], marks: &[Marks], rows: &Rows)
     requires inputs { 2 * length ends.old ≤ length marks.now }
     requires rows { AreRows (length marks.now) rows.now }
-    ensures { (to : ℕ) → to < length ends.new → marks_at ends.new to ≡ marks_at marks.now (row_of rows.now.of_bits.items (input_of to)) }
+    ensures { (to : ℕ) → to < length ends.new →
+        marks_at ends.new to ≡ marks_at marks.now (row_of rows.now.of_bits.items (input_of to)) }
 {
     for to in 0..ends.len() {
         ends[to] = marks[rows.of_bits[2 * to] as usize];
@@ -180,7 +184,8 @@ pub(crate) fn list_reached(
     requires inputs { 2 * elements ≤ length reached.now }
     requires rows { AreRows (length reached.now) rows.now }
     ensures { OnOk result ((marks : List Marks) → AreMarksReached marks reached.now
-        → AreListed (λ to. marks_at marks (row_of rows.now.of_bits.items (input_of to)) ≡ NO_MARKS) elements listed.new.items) }
+        → AreListed (λ to. marks_at marks (row_of rows.now.of_bits.items (input_of to))
+        ≡ NO_MARKS) elements listed.new.items) }
 {
     listed.clear();
     for to in 0..elements {

@@ -3,10 +3,11 @@ use Rattle.std.specs.Prelude.{◌≡◌, ◌<◌, ℕ, None, List, [], slice_ind
 use Rattle.mintc_lanes.specs.Lanes.{lane_at, AreWithin}
 use Rattle.mintc_paths_sums.specs.declared.sums.Sums.{Sums}
 
--- the sums at a bit; a bit past the end has none
+-- what stands for the sums at a bit past the end
 abbrev pub no_sums : Sums
 no_sums = record { greatest = []; least = [] }
 
+-- the sums at a bit, or in a row
 abbrev pub sums_at : List Sums → ℕ → Sums
 sums_at sums bit = slice_index_or sums bit no_sums
 

@@ -57,7 +57,8 @@ fn give(
     requires held { AreNumbered base numbers.old.items sums.old.items }
     requires none { place_at (places_of base numbers.old.items) row ≡ 0 }
     ensures held { AreNumbered base numbers.new.items sums.new.items }
-    ensures kept { (other : ℕ) → sums_at (placed (places_of base numbers.new.items) sums.new.items) other ≡ sums_at (placed (places_of base numbers.old.items) sums.old.items) other }
+    ensures kept { (other : ℕ) → sums_at (placed (places_of base numbers.new.items) sums.new.items) other
+        ≡ sums_at (placed (places_of base numbers.old.items) sums.old.items) other }
     ensures count { length numbers.new.items ≡ length numbers.old.items }
     ensures place { IfOk result (λ place. place ≡ place_at (places_of base numbers.new.items) row) }
     ensures some { IfOk result (λ place. place ≢ 0) }
@@ -82,7 +83,8 @@ fn hold(
     requires row { row < length numbers.old.items }
     requires held { AreNumbered base numbers.old.items sums.old.items }
     ensures held { AreNumbered base numbers.new.items sums.new.items }
-    ensures kept { (other : ℕ) → sums_at (placed (places_of base numbers.new.items) sums.new.items) other ≡ sums_at (placed (places_of base numbers.old.items) sums.old.items) other }
+    ensures kept { (other : ℕ) → sums_at (placed (places_of base numbers.new.items) sums.new.items) other
+        ≡ sums_at (placed (places_of base numbers.old.items) sums.old.items) other }
     ensures count { length numbers.new.items ≡ length numbers.old.items }
     ensures place { IfOk result (λ place. place ≡ place_at (places_of base numbers.new.items) row) }
     ensures some { IfOk result (λ place. place ≢ 0) }
@@ -98,7 +100,8 @@ fn hold(
 fn begin_lane(sums: &mut Sums, lane: usize)
     requires lane { lane < 8 }
     ensures lanes { (other : ℕ) → other ≢ lane
-        → (lane_at sums.new.greatest other ≡ lane_at sums.old.greatest other) × (lane_at sums.new.least other ≡ lane_at sums.old.least other) }
+        → (lane_at sums.new.greatest other ≡ lane_at sums.old.greatest other)
+        × (lane_at sums.new.least other ≡ lane_at sums.old.least other) }
     ensures own { (lane_at sums.new.greatest lane ≡ Some (pos 0)) × (lane_at sums.new.least lane ≡ Some (pos 0)) }
 {
     sums.greatest[lane] = 0;
@@ -113,7 +116,8 @@ fn join_rows(sums: &mut Sums, others: &Sums, arc: TimingArc)
     requires others_bounded { IsBounded 1000000000000000 others.now }
     ensures greatest { AreJoined int_max sums.old.greatest others.now.greatest arc.max sums.new.greatest }
     ensures least { AreJoined int_min sums.old.least others.now.least arc.min sums.new.least }
-    ensures bounded { (most : ℕ) → IsBounded most others.now → IsBounded most sums.old → IsBounded (most + 1000000000) sums.new }
+    ensures bounded { (most : ℕ) → IsBounded most others.now → IsBounded most sums.old →
+        IsBounded (most + 1000000000) sums.new }
 {
     max_plus_row(&mut sums.greatest, &others.greatest, arc.max);
     min_plus_row(&mut sums.least, &others.least, arc.min);
@@ -182,7 +186,8 @@ impl SparseRows {
         ensures lanes { OnOk result ((other : ℕ) → other ≢ lane
             → (lane_at (sums_at self.new row).greatest other ≡ lane_at (sums_at self.old row).greatest other)
             × (lane_at (sums_at self.new row).least other ≡ lane_at (sums_at self.old row).least other)) }
-        ensures own { OnOk result ((lane_at (sums_at self.new row).greatest lane ≡ Some (pos 0)) × (lane_at (sums_at self.new row).least lane ≡ Some (pos 0))) }
+        ensures own { OnOk result ((lane_at (sums_at self.new row).greatest lane ≡ Some (pos 0))
+            × (lane_at (sums_at self.new row).least lane ≡ Some (pos 0))) }
     {
         let place = hold(&mut self.numbers, self.base, &mut self.sums, row)?;
         begin_lane(&mut self.sums[place], lane);
@@ -199,9 +204,14 @@ impl SparseRows {
         requires to_bounded { IsBounded 1000000000000000 (sums_at self.old arc.to) }
         ensures count { length self.new ≡ length self.old }
         ensures others { (row : ℕ) → row ≢ arc.to → sums_at self.new row ≡ sums_at self.old row }
-        ensures greatest { OnOk result (AreJoined int_max (sums_at self.old arc.to).greatest (sums_at self.old arc.from).greatest arc.max (sums_at self.new arc.to).greatest) }
-        ensures least { OnOk result (AreJoined int_min (sums_at self.old arc.to).least (sums_at self.old arc.from).least arc.min (sums_at self.new arc.to).least) }
-        ensures bounded { OnOk result ((most : ℕ) → IsBounded most (sums_at self.old arc.from) → IsBounded most (sums_at self.old arc.to) → IsBounded (most + 1000000000) (sums_at self.new arc.to)) }
+        ensures greatest { OnOk result
+            (AreJoined int_max (sums_at self.old arc.to).greatest (sums_at self.old arc.from).greatest arc.max
+            (sums_at self.new arc.to).greatest) }
+        ensures least { OnOk result
+            (AreJoined int_min (sums_at self.old arc.to).least (sums_at self.old arc.from).least arc.min
+            (sums_at self.new arc.to).least) }
+        ensures bounded { OnOk result ((most : ℕ) → IsBounded most (sums_at self.old arc.from) →
+            IsBounded most (sums_at self.old arc.to) → IsBounded (most + 1000000000) (sums_at self.new arc.to)) }
     {
         let place = slot_of(&self.numbers, self.base, arc.to as usize);
         if place > 0 {

@@ -5,8 +5,8 @@ ghost use Rattle.mintc_lanes.specs.Lanes.{lane_at};
 
 use mintc_lanes::ABSENT;
 
-/// The greatest and least sums of the paths to a bit, in femtoseconds: a lane for each of eight elements, absent where no
-/// path leads from it.
+/// The greatest and least sums of the paths to a bit, in femtoseconds: a lane for each of eight elements, absent
+/// where no path leads from it.
 #[derive(Clone, Copy)]
 pub struct Sums {
     pub greatest: [i64; 8],

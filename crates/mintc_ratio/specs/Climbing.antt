@@ -60,7 +60,8 @@ IsJump list held room Free = ⊥
 -- chain that was held, and no chain forbids that cycle time.
 abbrev pub IsHalving : Constraints → ℤ → Space → Space → TestResult → Type 0
 IsHalving list middle old new (Found outcome) = HasSearched list new outcome
-IsHalving list middle old new (Held sums) = IsHeld list new sums × ((middle *ℤ pos sums.cycles) <ℤ (sums.delay *ℤ grid_of list.nodes))
+IsHalving list middle old new (Held sums) = IsHeld list new sums
+    × ((middle *ℤ pos sums.cycles) <ℤ (sums.delay *ℤ grid_of list.nodes))
 IsHalving list middle old new Free = NoneForbids list.links (over middle (grid_of list.nodes)) × (new.chain ≡ old.chain)
 
 -- The link of this number has no delay, and leads from a to b with so many cycles.
@@ -71,10 +72,11 @@ pub record IsPlainAt (links : List Link) (a b laps number : ℕ) : Type 0 where
   pub delay : (link_at links number).delay ≡ pos 0
   pub cycles : (link_at links number).cycles ≡ laps
 
--- What a search keeps that began at this number of steps, which the counter could say as `begun`: the room holds a chain
--- with these sums, no chain with a cycle forbids the cycle time of `high` parts of the grid, and after so many halvings
--- between them one test is left, for which there are steps enough.
-pub record IsClimbing (list : Constraints) (start begun : ℕ) (room : Space) (held : Sums) (high : ℤ) (halvings now : ℕ) : Type 0 where
+-- What a search keeps that began at this number of steps, which the counter could say as `begun`: the room holds a
+-- chain with these sums, no chain with a cycle forbids the cycle time of `high` parts of the grid, and after so
+-- many halvings between them one test is left, for which there are steps enough.
+pub record IsClimbing (list : Constraints) (start begun : ℕ) (room : Space) (held : Sums) (high : ℤ)
+    (halvings now : ℕ) : Type 0 where
   pub is_held : IsHeld list room held
   pub is_high : IsHigh list high
   pub inside : high ≤ℤ top_of list.nodes
@@ -85,5 +87,7 @@ pub record IsClimbing (list : Constraints) (start begun : ℕ) (room : Space) (h
 
 -- What a turn of such a search leaves: an outcome, or the search goes on from other sums and another high cycle time.
 abbrev pub IsAdvanced : Constraints → ℕ → ℕ → Space → ℕ → SearchState → Type 0
-IsAdvanced list start begun room now (Over outcome) = HasSearched list room outcome × (now ≤ start + 68 * (list.nodes + 1))
-IsAdvanced list start begun room now (On held high) = (halvings : ℕ) × IsClimbing list start begun room held high halvings now
+IsAdvanced list start begun room now (Over outcome) = HasSearched list room outcome
+    × (now ≤ start + 68 * (list.nodes + 1))
+IsAdvanced list start begun room now (On held high) = (halvings : ℕ)
+    × IsClimbing list start begun room held high halvings now

@@ -16,5 +16,6 @@ pub record IsTestable (at : Ratio) : Type 0 where
 abbrev pub weighed : Ratio → Link → Arc
 weighed at k = record { from = k.from; to = k.to; weight = asked_by_link at k }
 
+-- the arcs of a list of links
 abbrev pub arcs_of : Ratio → List Link → List Arc
 arcs_of at links = map (weighed at) links

@@ -15,7 +15,8 @@ use std::sync::ledger::Ledger;
 pub(crate) enum SearchState {
     /// The search is over.
     Over { outcome: Outcome },
-    /// The room holds a chain with these sums, and no chain with a cycle forbids the cycle time of `high` parts of the grid.
+    /// The room holds a chain with these sums, and no chain with a cycle forbids the cycle time of `high` parts of
+    /// the grid.
     On { held: Sums, high: i128 },
 }
 
@@ -39,8 +40,8 @@ fn middle_of(low: i128, width: u128) -> i128
     low + (width / 2) as i128
 }
 
-/// Tests the ratio of the chain that the room holds, where enough steps are left or the search is near its end; else the
-/// middle between this ratio and `high`.
+/// Tests the ratio of the chain that the room holds, where enough steps are left or the search is near its end;
+/// else the middle between this ratio and `high`.
 pub(crate) fn take_turn<L: Ledger>(
     links: &LinkList,
     held: Sums,
@@ -51,8 +52,10 @@ pub(crate) fn take_turn<L: Ledger>(
 ) -> SearchState
     requires nodes { links.now.nodes ≤ room.old.nodes }
     requires links { length links.now.links ≤ room.old.links }
-    requires climbing { (start : ℕ) × (halvings : ℕ) × IsClimbing links.now start begun room.old held high halvings steps.old }
-    ensures advanced { (start halvings : ℕ) → IsClimbing links.now start begun room.old held high halvings steps.old → IsAdvanced links.now start begun room.new steps.new result }
+    requires climbing { (start : ℕ) × (halvings : ℕ)
+        × IsClimbing links.now start begun room.old held high halvings steps.old }
+    ensures advanced { (start halvings : ℕ) → IsClimbing links.now start begun room.old held high halvings steps.old →
+        IsAdvanced links.now start begun room.new steps.new result }
     ensures nodes { room.new.nodes ≡ room.old.nodes }
     ensures links { room.new.links ≡ room.old.links }
     ensures late { room.new.late ≡ room.old.late }

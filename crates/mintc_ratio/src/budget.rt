@@ -19,7 +19,8 @@ fn halvings(width: u128) -> u32
 /// How many passes were taken since the counter said `begun`, or more.
 fn spent(begun: u64, taken: u64) -> u64
     requires { begun ≤ taken }
-    ensures { (start now : ℕ) → begun ≡ min start (2 ^ 64 - 1) → taken ≡ min now (2 ^ 64 - 1) → now ≤ start + 2 ^ 20 → now ≤ start + result }
+    ensures { (start now : ℕ) → begun ≡ min start (2 ^ 64 - 1) → taken ≡ min now (2 ^ 64 - 1) → now ≤ start + 2 ^ 20 →
+        now ≤ start + result }
 {
     if begun >= 1 << 63 {
         1 << 20
@@ -28,15 +29,16 @@ fn spent(begun: u64, taken: u64) -> u64
     }
 }
 
-/// Whether the ratio that is held may be tested next: the range is one part of the grid, or enough passes are left for this
-/// test and for all halvings of the range after it.
+/// Whether the ratio that is held may be tested next: the range is one part of the grid, or enough passes are left
+/// for this test and for all halvings of the range after it.
 pub(crate) fn may_jump(nodes: u32, begun: u64, taken: u64, width: u128) -> bool
     requires nodes { nodes ≤ 2017 }
     requires later { begun ≤ taken }
     requires width { width ≤ 2 ^ 70 }
     ensures wide { OnFalse result (2 ≤ width) }
     ensures left { OnTrue result ((width ≤ 1) ⊎ ((left : ℕ) × (width ≤ 2 ^ left)
-        × ((start now : ℕ) → begun ≡ min start (2 ^ 64 - 1) → taken ≡ min now (2 ^ 64 - 1) → now ≤ start + 2 ^ 20 → now + (left + 2) * (nodes + 1) ≤ start + 68 * (nodes + 1)))) }
+        × ((start now : ℕ) → begun ≡ min start (2 ^ 64 - 1) → taken ≡ min now (2 ^ 64 - 1) → now ≤ start + 2 ^ 20 →
+        now + (left + 2) * (nodes + 1) ≤ start + 68 * (nodes + 1)))) }
 {
     if width <= 1 {
         return true;

@@ -10,7 +10,8 @@ use mintc_timing::Link;
 
 /// Whether a link has no delay, and leads from one node to another with so many cycles.
 fn is_plain(link: &Link, from: u32, to: u32, cycles: u32) -> bool
-    ensures { IsTrue result ↔ ((link.now.from ≡ from) × (link.now.to ≡ to) × (link.now.delay ≡ pos 0) × (link.now.cycles ≡ cycles)) }
+    ensures { IsTrue result ↔ ((link.now.from ≡ from) × (link.now.to ≡ to) × (link.now.delay ≡ pos 0)
+        × (link.now.cycles ≡ cycles)) }
 {
     link.from == from && link.to == to && link.delay == 0 && link.cycles == cycles
 }

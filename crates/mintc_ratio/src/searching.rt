@@ -41,13 +41,15 @@ fn search_from<L: Ledger>(
 ) -> Outcome
     requires nodes { links.now.nodes ≤ room.old.nodes }
     requires links { length links.now.links ≤ room.old.links }
-    requires climbing { (start : ℕ) × IsClimbing links.now start begun room.old first (top_of links.now.nodes) 65 steps.old }
+    requires climbing { (start : ℕ)
+        × IsClimbing links.now start begun room.old first (top_of links.now.nodes) 65 steps.old }
     ensures searched { HasSearched links.now room.new result }
     ensures nodes { room.new.nodes ≡ room.old.nodes }
     ensures links { room.new.links ≡ room.old.links }
     ensures late { room.new.late ≡ room.old.late }
     ensures early { room.new.early ≡ room.old.early }
-    ensures cost { (start : ℕ) → IsClimbing links.now start begun room.old first (top_of links.now.nodes) 65 steps.old → steps.new ≤ start + 68 * (links.now.nodes + 1) }
+    ensures cost { (start : ℕ) → IsClimbing links.now start begun room.old first (top_of links.now.nodes) 65 steps.old →
+        steps.new ≤ start + 68 * (links.now.nodes + 1) }
 {
     let mut held = first;
     let mut high = top_of(links.nodes());
@@ -67,9 +69,10 @@ fn search_from<L: Ledger>(
 
 /// The least cycle time that no chain of the links forbids.
 ///
-/// `Least`: the room's `values` are those of the greatest walks at `cycle`, as numerators over its denominator, and its
-/// `chain` has the link numbers, counted from 0, of a chain that forbids every smaller cycle time. `Never`: exactly where some
-/// chain forbids every cycle time, and the room's `chain` has such a one. Neither chain enters a node twice.
+/// `Least`: the room's `values` are those of the greatest walks at `cycle`, as numerators over its denominator, and
+/// its `chain` has the link numbers, counted from 0, of a chain that forbids every smaller cycle time. `Never`:
+/// exactly where some chain forbids every cycle time, and the room's `chain` has such a one. Neither chain enters a
+/// node twice.
 pub fn search<L: Ledger>(links: &LinkList, room: &mut Room, steps: &mut Steps<L>) -> Outcome
     requires nodes { links.now.nodes ≤ room.old.nodes }
     requires links { length links.now.links ≤ room.old.links }
@@ -80,7 +83,6 @@ pub fn search<L: Ledger>(links: &LinkList, room: &mut Room, steps: &mut Steps<L>
     ensures early { room.new.early ≡ room.old.early }
     ensures cost { steps.new ≤ steps.old + 68 * (links.now.nodes + 1) }
 {
-    let _nodes = links.nodes();
     let begun = steps.taken();
     let rest = Fraction::new(0, 1);
     match test_at(links, &rest, room, steps) {

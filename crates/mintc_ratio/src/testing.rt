@@ -1,6 +1,7 @@
 //! The test of one cycle time.
 ghost use Rattle.std.specs.Prelude.{◌≡◌, ◌≢◌, ◌<◌, ◌≤◌, ◌+◌, ◌^◌, ℕ, pos, ◌≤ℤ◌, length};
 ghost use Rattle.mintc_graph_walks.specs.Walks.{value_at};
+ghost use Rattle.mintc_constraints.specs.Ordinary.{IsOrdinary};
 ghost use Rattle.mintc_ratio.specs.Tested.{HasTested};
 
 use crate::weighed::LinksAt;
@@ -46,10 +47,10 @@ fn cut_chain(room: &mut Room, nodes: usize)
 
 /// Whether some chain of the links forbids the cycle time `at`, in femtoseconds.
 ///
-/// `Values`: none does. The room's `values` then have for each node the greatest delay of a walk from node 0, a link
-/// counting `delay - cycles * at`, as a numerator over the denominator of `at`; its `chain` is as it was, other than one that
-/// is longer than there are nodes. `Chain`: the room's `chain` has the link numbers, counted from 0, of a chain that
-/// forbids it and enters no node twice.
+/// `Values`: none does. The room's `values` then have for each node the greatest delay of a walk from node 0, a
+/// link counting `delay - cycles * at`, as a numerator over the denominator of `at`; its `chain` is as it was,
+/// other than one that is longer than there are nodes. `Chain`: the room's `chain` has the link numbers, counted
+/// from 0, of a chain that forbids it and enters no node twice.
 pub fn test_at<L: Ledger>(
     links: &LinkList,
     at: &Fraction,
@@ -68,6 +69,7 @@ pub fn test_at<L: Ledger>(
     ensures early { room.new.early ≡ room.old.early }
     ensures some { steps.old < steps.new }
     ensures cost { steps.new ≤ steps.old + links.now.nodes + 1 }
+    ensures kept { IsOrdinary links.now }
 {
     let nodes = links.nodes();
     cut_chain(room, nodes as usize);

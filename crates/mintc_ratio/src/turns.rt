@@ -1,6 +1,7 @@
 //! One turn of the search: a test of the ratio that is held, or of the middle of what is left.
 ghost use Rattle.std.specs.Prelude.{◌≡◌, ◌<◌, ◌≤◌, ◌+◌, pos, ◌≤ℤ◌, length};
 ghost use Rattle.mintc_timing.specs.Links.{delay_of};
+ghost use Rattle.mintc_constraints.specs.Ordinary.{IsOrdinary};
 ghost use Rattle.mintc_ratio.specs.Chains.{NamesChain, links_at};
 ghost use Rattle.mintc_ratio.specs.Climbing.{IsHalving, IsHeld, IsJump, IsOfChain, top_of};
 
@@ -49,6 +50,7 @@ pub(crate) fn test_held_ratio<L: Ledger>(
     requires nodes { links.now.nodes ≤ room.old.nodes }
     requires links { length links.now.links ≤ room.old.links }
     requires held { IsHeld links.now room.old held }
+    requires kept { IsOrdinary links.now }
     ensures turn { IsJump links.now held room.new result }
     ensures nodes { room.new.nodes ≡ room.old.nodes }
     ensures links { room.new.links ≡ room.old.links }
@@ -57,7 +59,6 @@ pub(crate) fn test_held_ratio<L: Ledger>(
     ensures some { steps.old < steps.new }
     ensures cost { steps.new ≤ steps.old + links.now.nodes + 1 }
 {
-    let _nodes = links.nodes();
     let cycle = ratio_of(held);
     match test_at(links, &cycle, room, steps) {
         Test::Values => TestResult::Found {

@@ -5,7 +5,7 @@ use Rattle.std.specs.Prelude.{codes, flat_map}
 use Rattle.std.specs.List.{AllZip, range_with_len}
 use Rattle.std.proofs.lemmas.Grind.{flat_map-append}
 use Rattle.std.proofs.lemmas.List.{append-nil, take_more, get_or_default}
-use Rattle.mintc_text.specs.Lines.{ended, text_of, words}
+use Rattle.mintc_text.specs.Lines.{ended, text_of, words, fraction_word}
 use Rattle.mintc_text.proofs.SharedLinesLaws.{text_of-push}
 use Rattle.mintc_fraction.specs.Ratio.{Ratio}
 use Rattle.mintc_timing.specs.declared.parts.Element.{Element}
@@ -13,7 +13,7 @@ use Rattle.mintc_timing.specs.declared.parts.Pair.{Pair}
 use Rattle.mintc_timing.specs.declared.violation.Violation.{Violation}
 use Rattle.mintc_timing.specs.Design.{no_element}
 use Rattle.mintc_timing.specs.Departures.{departure}
-use Rattle.mintc_report.specs.Answers.{IsLowestOf, IsWordOf, fraction_word, element_line, IsLineOfTwo, AreElementLines, AreViolationLines, broken_words, ring_of, reach_lines, AppendsLines, AppendsViolations}
+use Rattle.mintc_report.specs.Answers.{IsLowestOf, IsWordOf, element_line, IsLineOfTwo, AreElementLines, AreViolationLines, broken_words, ring_of, reach_lines, AppendsLines, AppendsViolations}
 
 -- ---- one more item, of lists that go with one another, and of numbers in a row
 
@@ -33,14 +33,14 @@ range_more a (suc n) j e = ap (λ (v : List ℕ). a ∷ v) (range_more (a + 1) n
 pub lowest_as : (num den : ℤ) (f : Ratio) → SFits w64 num → SFits w64 den → IsLowestOf (to_z w64 (of_z w64 num)) (to_z w64 (of_z w64 den)) f → IsLowestOf num den f
 lowest_as num den f num_fits den_fits h = rw (to_z-of_z w64 num num_fits, to_z-of_z w64 den den_fits) at h
 
-pub IsWordOf-lowest : (num den : ℤ) (f : Ratio) → IsLowestOf num den f → IsWordOf num den (fraction_word f)
+pub IsWordOf-lowest : (num den : ℤ) (f : Ratio) → IsLowestOf num den f → IsWordOf num den (fraction_word f.num f.den)
 IsWordOf-lowest num den f h = record { lowest = f; is_lowest = h; written = refl }
 
 pub IsLineOfTwo-lowest : (line_of : List ℕ → List ℕ → List ℕ) (den x y : ℤ) (f g : Ratio) → IsLowestOf x den f → IsLowestOf y den g →
-    IsLineOfTwo line_of den x y (line_of (fraction_word f) (fraction_word g))
+    IsLineOfTwo line_of den x y (line_of (fraction_word f.num f.den) (fraction_word g.num g.den))
 IsLineOfTwo-lowest line_of den x y f g a b = record {
-  first_word = fraction_word f;
-  second_word = fraction_word g;
+  first_word = fraction_word f.num f.den;
+  second_word = fraction_word g.num g.den;
   is_first = IsWordOf-lowest x den f a;
   is_second = IsWordOf-lowest y den g b;
   written = refl;
@@ -62,13 +62,13 @@ AppendsLines-more R a n j old now new line e before is_line written =
 pub elements_more : (elements : List Element) (den : ℤ) (late early : List ℤ) (n : ℕ) (old now new name : List ℕ) (other : Element) (f g : Ratio) →
     AppendsLines (AreElementLines elements den late early n) old now → n < length elements → name ≡ (get_or elements n other).name →
     IsLowestOf (departure late n) den f → IsLowestOf (departure early n) den g →
-    new ≡ now ++ ended (element_line name (fraction_word f) (fraction_word g)) →
+    new ≡ now ++ ended (element_line name (fraction_word f.num f.den) (fraction_word g.num g.den)) →
     AppendsLines (AreElementLines elements den late early (n + 1)) old new
 elements_more elements den late early n old now new name other f g before below is a b written =
     let same : name ≡ (get_or elements n no_element).name = is ∙ ap (λ (e : Element). e.name) (get_or_default elements n other no_element below) in
     AppendsLines-more _ 0 n n old now new _ (omega arith) before
     (IsLineOfTwo-lowest (element_line (get_or elements n no_element).name) den (departure late n) (departure early n) f g a b)
-    (written ∙ ap (λ v. now ++ ended (element_line v (fraction_word f) (fraction_word g))) same)
+    (written ∙ ap (λ v. now ++ ended (element_line v (fraction_word f.num f.den) (fraction_word g.num g.den))) same)
 
 -- ---- the violations of a fail
 
@@ -80,13 +80,13 @@ violation_written old broken amount ring begun first all e f g = rw (g, f, e) (s
 -- a violation is appended as its constraint, its amount and its ring
 pub violation-written : (pairs : List Pair) (den : ℤ) (violation : Violation) (f : Ratio) (old begun first all : List ℕ) →
     IsLowestOf violation.amount den f → begun ≡ old ++ broken_words violation.broken →
-    first ≡ begun ++ 32 ∷ ended (words (codes "by" ∷ fraction_word f ∷ [])) →
+    first ≡ begun ++ 32 ∷ ended (words (codes "by" ∷ fraction_word f.num f.den ∷ [])) →
     all ≡ first ++ text_of (reach_lines pairs (ring_of violation.broken)) →
     AppendsLines (AreViolationLines pairs den violation) old all
 violation-written pairs den violation f old begun first all h e g i = record {
-  lines = words (broken_words violation.broken ∷ codes "by" ∷ fraction_word f ∷ []) ∷ reach_lines pairs (ring_of violation.broken);
-  are_lines = record { amount_word = fraction_word f; is_amount = IsWordOf-lowest violation.amount den f h; written = refl };
-  appended = violation_written old (broken_words violation.broken) (fraction_word f) (text_of (reach_lines pairs (ring_of violation.broken))) begun first all e g i;
+  lines = words (broken_words violation.broken ∷ codes "by" ∷ fraction_word f.num f.den ∷ []) ∷ reach_lines pairs (ring_of violation.broken);
+  are_lines = record { amount_word = fraction_word f.num f.den; is_amount = IsWordOf-lowest violation.amount den f h; written = refl };
+  appended = violation_written old (broken_words violation.broken) (fraction_word f.num f.den) (text_of (reach_lines pairs (ring_of violation.broken))) begun first all e g i;
 }
 
 -- a violation is appended to the text of those before it

@@ -4,9 +4,10 @@ use Rattle.std.specs.Prelude.{codes, flat_map}
 use Rattle.std.specs.List.{AllZip}
 use Rattle.std.proofs.lemmas.Fmt.{decimal_injective}
 use Rattle.std.proofs.lemmas.List.{append_cancel_right}
-use Rattle.mintc_text.specs.Lines.{ended, text_of, words}
+use Rattle.mintc_text.specs.Lines.{ended, text_of, words, fraction_word}
 use Rattle.mintc_fraction.proofs.SharedLowest.{IsLowest-unique}
 use Rattle.mintc_fraction.proofs.SharedProducts.{swap-times, times-cancel_equal}
+use Rattle.mintc_fraction.specs.Ratio.{Ratio}
 use Rattle.mintc_timing.specs.declared.parts.Pair.{Pair}
 use Rattle.mintc_timing.specs.declared.violation.Violation.{Violation}
 use Rattle.mintc_timing.specs.Design.{Timing}
@@ -16,7 +17,7 @@ use Rattle.mintc_checker.specs.declared.verdict.Verdict.{Verdict}
 use Rattle.mintc_checker.specs.declared.verdict.Verdict.TheVariants.{Valid, Invalid}
 use Rattle.mintc_checker.specs.Verdicts.{IsVerdict}
 use Rattle.mintc_checker.proofs.SharedFirsts.{number-range}
-use Rattle.mintc_report.specs.Answers.{fraction_word, IsWordOf, IsLineOfTwo, broken_words, ring_of, reach_lines, AreViolationLines}
+use Rattle.mintc_report.specs.Answers.{IsWordOf, IsLineOfTwo, broken_words, ring_of, reach_lines, AreViolationLines}
 use Rattle.mintc_report.specs.Reports.{verdict_text_of, cycle_line, late_line, IsLateLine, chain_lines, IsReportText}
 use Rattle.mintc_report.specs.Laws.{HasDenominator, AnswersAreDetermined}
 
@@ -30,7 +31,7 @@ IsWordOf-unique num den word other some a b =
     let f = a.lowest in let g = b.lowest in
     let value = equal_values num den f.num f.den g.num g.den some a.is_lowest.equal b.is_lowest.equal in
     let same : f ≡ g = IsLowest-unique f g a.is_lowest.positive b.is_lowest.positive a.is_lowest.reduced b.is_lowest.reduced value in
-    a.written ∙ ap fraction_word same ∙ sym b.written
+    a.written ∙ ap (λ (r : Ratio). fraction_word r.num r.den) same ∙ sym b.written
 
 IsLineOfTwo-unique : (line_of : List ℕ → List ℕ → List ℕ) (den x y : ℤ) (line other : List ℕ) → pos 1 ≤ℤ den →
     IsLineOfTwo line_of den x y line → IsLineOfTwo line_of den x y other → line ≡ other

@@ -2,7 +2,7 @@
 use Rattle.std.proofs.Common.{◌≡◌, ℕ, ◌+◌, ◌-◌, ◌<◌, ℤ, pos, List, [], ◌∷◌, ◌++◌, length, map, get_or, refl, ap, ◌∙◌, sym, subst, arith, append_assoc}
 use Rattle.std.proofs.lemmas.Grind.{flat_map-append}
 use Rattle.std.proofs.lemmas.List.{get_or_default}
-use Rattle.mintc_text.specs.Lines.{ended, spaced, text_of, words}
+use Rattle.mintc_text.specs.Lines.{ended, spaced, text_of, words, fraction_word}
 use Rattle.mintc_text.proofs.SharedLinesLaws.{words-append}
 use Rattle.mintc_fraction.specs.Ratio.{Ratio}
 use Rattle.mintc_timing.specs.declared.parts.Element.{Element}
@@ -12,7 +12,7 @@ use Rattle.mintc_timing.specs.Departures.{departure}
 use Rattle.mintc_certificate.specs.declared.members.Member.{Member}
 use Rattle.mintc_certificate.specs.declared.members.Member.TheVariants as member
 use Rattle.mintc_certificate.specs.Valid.{link_of}
-use Rattle.mintc_report.specs.Answers.{AppendsLines, IsLineOfTwo, IsLowestOf, fraction_word}
+use Rattle.mintc_report.specs.Answers.{AppendsLines, IsLineOfTwo, IsLowestOf}
 use Rattle.mintc_report.specs.Reports.{ArePhaseLines, phase_line, IsLateLine, AreLateLines, late_line, IsLeastReport, cycle_line, chain_lines, amount_words, member_names, member_line, member_lines, later_arcs, through_line}
 use Rattle.mintc_report.proofs.AnswerLaws.{AppendsLines-more, IsLineOfTwo-lowest, IsWordOf-lowest}
 
@@ -22,27 +22,27 @@ use Rattle.mintc_report.proofs.AnswerLaws.{AppendsLines-more, IsLineOfTwo-lowest
 pub phases_more : (names : List (List ℕ)) (s : Schedule) (n : ℕ) (old now new name other : List ℕ) (f g : Ratio) →
     AppendsLines (ArePhaseLines names s n) old now → n < length names → name ≡ get_or names n other →
     IsLowestOf (get_or s.starts n (pos 0)) s.den f → IsLowestOf (get_or s.widths n (pos 0)) s.den g →
-    new ≡ now ++ ended (phase_line name (fraction_word f) (fraction_word g)) →
+    new ≡ now ++ ended (phase_line name (fraction_word f.num f.den) (fraction_word g.num g.den)) →
     AppendsLines (ArePhaseLines names s (n + 1)) old new
 phases_more names s n old now new name other f g before below is a b written =
     let back : n ≡ 1 + n - 1 = omega arith in
     AppendsLines-more _ 1 n (1 + n) old now new _ refl before
-    (subst (λ k. IsLineOfTwo (phase_line (get_or names k [])) s.den (get_or s.starts k (pos 0)) (get_or s.widths k (pos 0)) (phase_line (get_or names n []) (fraction_word f) (fraction_word g))) back
+    (subst (λ k. IsLineOfTwo (phase_line (get_or names k [])) s.den (get_or s.starts k (pos 0)) (get_or s.widths k (pos 0)) (phase_line (get_or names n []) (fraction_word f.num f.den) (fraction_word g.num g.den))) back
     (IsLineOfTwo-lowest (phase_line (get_or names n [])) s.den (get_or s.starts n (pos 0)) (get_or s.widths n (pos 0)) f g a b))
-    (written ∙ ap (λ v. now ++ ended (phase_line v (fraction_word f) (fraction_word g))) (is ∙ get_or_default names n other [] below))
+    (written ∙ ap (λ v. now ++ ended (phase_line v (fraction_word f.num f.den) (fraction_word g.num g.den))) (is ∙ get_or_default names n other [] below))
 
 -- the line of an element is appended to the lines of those before it
 pub late_more : (elements : List Element) (den : ℤ) (late : List ℤ) (n : ℕ) (old now new name : List ℕ) (other : Element) (f : Ratio) →
     AppendsLines (AreLateLines elements den late n) old now → n < length elements → name ≡ (get_or elements n other).name →
-    IsLowestOf (departure late n) den f → new ≡ now ++ ended (late_line name (fraction_word f)) →
+    IsLowestOf (departure late n) den f → new ≡ now ++ ended (late_line name (fraction_word f.num f.den)) →
     AppendsLines (AreLateLines elements den late (n + 1)) old new
 late_more elements den late n old now new name other f before below is a written =
-    let line = late_line name (fraction_word f) in
+    let line = late_line name (fraction_word f.num f.den) in
     let same : name ≡ (get_or elements n no_element).name = is ∙ ap (λ (e : Element). e.name) (get_or_default elements n other no_element below) in
     let is_line : IsLateLine den (get_or elements n no_element).name (departure late n) line = record {
-      late_word = fraction_word f;
+      late_word = fraction_word f.num f.den;
       is_late = IsWordOf-lowest (departure late n) den f a;
-      written = ap (λ v. late_line v (fraction_word f)) same;
+      written = ap (λ v. late_line v (fraction_word f.num f.den)) same;
     } in
     AppendsLines-more _ 0 n n old now new line (omega arith) before is_line written
 
@@ -84,7 +84,7 @@ whole_written cycle phases lates chain none first second third text n e f g h =
 
 -- a report is written as its cycle time, its phases, its elements and its chain
 pub least_written : (t : Timing) (s : Schedule) (d : List ℤ) (chain : List Member) (f : Ratio) (names : List (List ℕ)) (elements : List Element) (none first second third fourth text : List ℕ) →
-    IsLowestOf s.cycle s.den f → names ≡ t.flat.phases → elements ≡ t.flat.elements → none ≡ [] → first ≡ none ++ ended (cycle_line (fraction_word f)) →
+    IsLowestOf s.cycle s.den f → names ≡ t.flat.phases → elements ≡ t.flat.elements → none ≡ [] → first ≡ none ++ ended (cycle_line (fraction_word f.num f.den)) →
     AppendsLines (ArePhaseLines names s (length names)) first second → AppendsLines (AreLateLines elements s.den d (length elements)) second third →
     fourth ≡ third ++ text_of (chain_lines t.flat chain) → text ≡ fourth → IsLeastReport t.flat s d chain text
 least_written t s d chain f names elements none first second third fourth text cycle names_are elements_are n e phases lates g h =
@@ -92,11 +92,11 @@ least_written t s d chain f names elements none first second third fourth text c
     let l : AppendsLines (AreLateLines t.flat.elements s.den d (element_count t.flat)) second third =
     subst (λ v. AppendsLines (AreLateLines v s.den d (length v)) second third) elements_are lates in
     record {
-      cycle_word = fraction_word f;
+      cycle_word = fraction_word f.num f.den;
       phase_lines = p.lines;
       late_lines = l.lines;
       is_cycle = IsWordOf-lowest s.cycle s.den f cycle;
       phases = p.are_lines;
       elements = l.are_lines;
-      whole = whole_written (cycle_line (fraction_word f)) p.lines l.lines (chain_lines t.flat chain) none first second third text n e p.appended l.appended (h ∙ g);
+      whole = whole_written (cycle_line (fraction_word f.num f.den)) p.lines l.lines (chain_lines t.flat chain) none first second third text n e p.appended l.appended (h ∙ g);
     }

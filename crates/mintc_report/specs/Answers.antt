@@ -1,7 +1,8 @@
 -- The texts that answer `check`: a pass with its departures, and a fail with its violations.
-use Rattle.std.specs.Prelude.{◌≡◌, ◌<◌, ℕ, ℤ, List, [], ◌∷◌, ◌++◌, length, map, flat_map, slice_index_or, All, codes, decimal}
+use Rattle.std.specs.Prelude.{◌≡◌, ◌<◌, ℕ, ℤ, List, [], ◌∷◌, ◌++◌, length, map, flat_map, slice_index_or, All, codes}
+use Rattle.std.specs.Prelude.{decimal}
 use Rattle.std.specs.List.{AllZip, range_with_len}
-use Rattle.mintc_text.specs.Lines.{ended, text_of, words, numeral_of}
+use Rattle.mintc_text.specs.Lines.{ended, text_of, words, numeral_of, fraction_word}
 use Rattle.mintc_fraction.specs.Ratio.{Ratio, over, IsFraction, IsEqual, IsLowest}
 use Rattle.mintc_timing.specs.declared.parts.Element.{Element}
 use Rattle.mintc_timing.specs.declared.parts.Pair.{Pair}
@@ -18,15 +19,11 @@ pub record IsLowestOf (num den : ℤ) (lowest : Ratio) : Type 0 where
   pub reduced : IsLowest lowest
   pub equal : IsEqual lowest (over num den)
 
--- a fraction as a word: its two numerals with a `/` between
-abbrev pub fraction_word : Ratio → List ℕ
-fraction_word f = numeral_of f.num ++ 47 ∷ numeral_of f.den
-
 -- the word of num / den: that of its lowest terms
 pub record IsWordOf (num den : ℤ) (word : List ℕ) : Type 0 where
   pub lowest : Ratio
   pub is_lowest : IsLowestOf num den lowest
-  pub written : word ≡ fraction_word lowest
+  pub written : word ≡ fraction_word lowest.num lowest.den
 
 -- A line with two numbers over a denominator, each as the word of its lowest terms.
 pub record IsLineOfTwo (line_of : List ℕ → List ℕ → List ℕ) (den first second : ℤ) (line : List ℕ) : Type 0 where
@@ -43,7 +40,8 @@ element_line name late early = words (codes "element" ∷ name ∷ codes "late" 
 -- the line of each of the first n elements, in order
 abbrev pub AreElementLines : List Element → ℤ → List ℤ → List ℤ → ℕ → List (List ℕ) → Type 0
 AreElementLines elements den late early n lines =
-    AllZip (λ l. IsLineOfTwo (element_line (slice_index_or elements l no_element).name) den (departure late l) (departure early l)) (range_with_len 0 n) lines
+    AllZip (λ l. IsLineOfTwo (element_line (slice_index_or elements l no_element).name) den (departure late l)
+    (departure early l)) (range_with_len 0 n) lines
 
 -- The text of a pass with these departures: `pass`, and the line of each element.
 pub record IsPassText (design : Design) (s : Schedule) (late early : List ℤ) (text : List ℕ) : Type 0 where
@@ -79,14 +77,17 @@ ring_of (broken.Hold l) = []
 abbrev pub reach_line : Pair → List ℕ
 reach_line pair = words (codes "reach" ∷ decimal pair.from ∷ decimal pair.to ∷ [])
 
+-- the lines of the pairs of a loop, by their numbers
 abbrev pub reach_lines : List Pair → List ℕ → List (List ℕ)
 reach_lines pairs ring = map (λ n. reach_line (slice_index_or pairs n no_pair)) ring
 
 -- The lines of a violation: the constraint and by how much it fails, and after a loop each of its pairs.
-pub record AreViolationLines (pairs : List Pair) (den : ℤ) (violation : Violation) (lines : List (List ℕ)) : Type 0 where
+pub record AreViolationLines (pairs : List Pair) (den : ℤ) (violation : Violation)
+    (lines : List (List ℕ)) : Type 0 where
   pub amount_word : List ℕ
   pub is_amount : IsWordOf violation.amount den amount_word
-  pub written : lines ≡ words (broken_words violation.broken ∷ codes "by" ∷ amount_word ∷ []) ∷ reach_lines pairs (ring_of violation.broken)
+  pub written : lines ≡ words (broken_words violation.broken ∷ codes "by" ∷ amount_word ∷ []) ∷
+      reach_lines pairs (ring_of violation.broken)
 
 -- The text of a fail with these violations: `fail`, and the lines of each violation.
 pub record IsFailText (t : Timing) (s : Schedule) (violations : List Violation) (text : List ℕ) : Type 0 where
@@ -107,7 +108,8 @@ pub record AppendsLines (Are : List (List ℕ) → Type 0) (old new : List ℕ) 
   pub appended : new ≡ old ++ text_of lines
 
 -- the lines of each violation
-pub record AppendsViolations (pairs : List Pair) (den : ℤ) (violations : List Violation) (old new : List ℕ) : Type 0 where
+pub record AppendsViolations (pairs : List Pair) (den : ℤ) (violations : List Violation)
+    (old new : List ℕ) : Type 0 where
   pub answers : List (List (List ℕ))
   pub each : AllZip (AreViolationLines pairs den) violations answers
   pub appended : new ≡ old ++ flat_map text_of answers

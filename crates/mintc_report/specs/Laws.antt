@@ -25,9 +25,11 @@ pub record AnswersAreDetermined : Type 0 where
       IsFailText t s violations text → IsFailText t s violations other → text ≡ other
   pub report : (t : Timing) (certificate : Certificate) (text other : List ℕ) → HasDenominator certificate →
       IsReportText t.flat certificate text → IsReportText t.flat certificate other → text ≡ other
-  pub verdict : (t u : Timing) (certificate another : Certificate) (v w : Verdict) → IsVerdict t certificate v → IsVerdict u another w →
+  pub verdict : (t u : Timing) (certificate another : Certificate) (v w : Verdict) → IsVerdict t certificate v →
+      IsVerdict u another w →
       verdict_text_of v ≡ verdict_text_of w → v ≡ w
 
 -- The violations of a schedule name pairs that the design has.
 abbrev pub ViolationsNamePairs : Type 0
-ViolationsNamePairs = (t : Timing) (s : Schedule) (vs : List Violation) → AreViolations t s vs → NamePairs (length t.pairs) vs
+ViolationsNamePairs = (t : Timing) (s : Schedule) (vs : List Violation) → AreViolations t s vs →
+    NamePairs (length t.pairs) vs

@@ -15,8 +15,10 @@ count_line word n = words (word ∷ decimal n ∷ [])
 -- the number of a sample, and how many phases, elements, inner bits, arcs and pairs its design has
 abbrev pub count_lines : ℕ → Timing → List (List ℕ)
 count_lines number t =
-    count_line (codes "sample") number ∷ count_line (codes "phases") (phase_count t.flat) ∷ count_line (codes "elements") (element_count t.flat)
-    ∷ count_line (codes "inner") (length t.flat.inner) ∷ count_line (codes "arcs") (length t.flat.arcs) ∷ count_line (codes "pairs") (length t.pairs) ∷ []
+    count_line (codes "sample") number ∷ count_line (codes "phases") (phase_count t.flat) ∷
+    count_line (codes "elements") (element_count t.flat)
+    ∷ count_line (codes "inner") (length t.flat.inner) ∷ count_line (codes "arcs") (length t.flat.arcs) ∷
+    count_line (codes "pairs") (length t.pairs) ∷ []
 
 -- The summary of a sample with this schedule: the counts, and the cycle time as a fraction in lowest terms.
 pub record IsLeastSummary (number : ℕ) (t : Timing) (s : Schedule) (text : List ℕ) : Type 0 where

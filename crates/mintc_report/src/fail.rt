@@ -1,8 +1,9 @@
 //! The text of a fail.
 ghost use Rattle.std.specs.Prelude.{◌≡◌, ◌≢◌, ◌<◌, ◌++◌, ◌∷◌, [], IfOk, OnOk, length, All, codes, decimal};
-ghost use Rattle.mintc_text.specs.Lines.{ended, text_of, words};
+ghost use Rattle.mintc_text.specs.Lines.{ended, text_of, words, fraction_word};
 ghost use Rattle.mintc_timing.specs.Limits.{IsDenominator, IsInRange};
-ghost use Rattle.mintc_report.specs.Answers.{broken_words, fraction_word, reach_line, reach_lines, ring_of, AppendsLines, AppendsViolations, AreViolationLines, IsFailText, NamePairs};
+ghost use Rattle.mintc_report.specs.Answers.{broken_words, reach_line, reach_lines, ring_of};
+ghost use Rattle.mintc_report.specs.Answers.{AppendsLines, AppendsViolations, AreViolationLines, IsFailText, NamePairs};
 
 use crate::writing::{lowest, put_fraction, put_number, put_word};
 use mintc_fraction::Fraction;
@@ -21,7 +22,8 @@ fn put_violated(lines: &mut Lines, kind: &[u8], number: u32) -> Result<(), OutOf
 
 /// Writes that two phases come too close.
 fn put_apart(lines: &mut Lines, i: u32, j: u32) -> Result<(), OutOfMemory>
-    ensures { OnOk result (lines.new ≡ lines.old ++ words (codes "violated" ∷ codes "apart" ∷ decimal i ∷ decimal j ∷ [])) }
+    ensures { OnOk result (lines.new ≡ lines.old
+        ++ words (codes "violated" ∷ codes "apart" ∷ decimal i ∷ decimal j ∷ [])) }
 {
     put_violated(lines, b"apart", i)?;
     put_number(lines, j as u64)
@@ -54,7 +56,8 @@ fn put_broken(lines: &mut Lines, broken: &Broken) -> Result<(), OutOfMemory>
 
 /// Writes by how much a constraint fails, and ends the line.
 fn put_amount(lines: &mut Lines, amount: &Fraction) -> Result<(), OutOfMemory>
-    ensures { OnOk result (lines.new ≡ lines.old ++ 32 ∷ ended (words (codes "by" ∷ fraction_word amount.now ∷ []))) }
+    ensures { OnOk result (lines.new ≡ lines.old
+        ++ 32 ∷ ended (words (codes "by" ∷ fraction_word amount.now.num amount.now.den ∷ []))) }
 {
     put_word(lines, b"by")?;
     put_fraction(lines, amount)?;

@@ -2,10 +2,11 @@
 ghost use Rattle.std.specs.Prelude.{◌≡◌, ◌<◌, ◌≤◌, ◌++◌, ◌∷◌, [], OnOk, All, codes, decimal, map};
 ghost use Rattle.mintc_text.specs.Lines.{ended, spaced, text_of, words};
 ghost use Rattle.mintc_timing.specs.Design.{element_count, phase_count};
-ghost use Rattle.mintc_timing.specs.Limits.{IsPhase, IsSpan};
+ghost use Rattle.mintc_timing.specs.Limits.{IsDesign, IsPhase, IsSpan};
 ghost use Rattle.mintc_certificate.specs.CertificateText.{IsCounted};
 ghost use Rattle.mintc_certificate.specs.Valid.{IsMember, link_of as link_of_member};
-ghost use Rattle.mintc_report.specs.Reports.{amount_words, element_name, inner_name, later_arcs, member_lines, member_names, phase_name, through_line, IsInner, IsThrough};
+ghost use Rattle.mintc_report.specs.Reports.{amount_words, element_name, inner_name, later_arcs, member_lines};
+ghost use Rattle.mintc_report.specs.Reports.{member_names, phase_name, through_line, IsInner, IsThrough};
 
 use crate::writing::{put_integer, put_number, put_word};
 use mintc_certificate::{Member, link_of};
@@ -109,6 +110,7 @@ pub(crate) fn link_at(system: &System, member: &Member) -> Link
     ensures value { result ≡ link_of_member system.now.flat member.now }
     ensures range { IsSpan result.delay }
     ensures cycles { result.cycles ≤ 1 }
+    ensures design { IsDesign system.now.flat }
 {
     link_of(system.flat(), member)
 }
@@ -154,7 +156,6 @@ pub(crate) fn put_member(
     requires counted { IsCounted member.now }
     ensures { OnOk result (lines.new ≡ lines.old ++ text_of (member_lines system.now.flat member.now)) }
 {
-    let _flat = system.flat();
     let link = link_at(system, member);
     put_names(lines, system, member)?;
     put_amounts(lines, link.delay, i64::from(link.cycles))?;

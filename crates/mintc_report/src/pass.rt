@@ -1,10 +1,10 @@
 //! The text of a pass.
 ghost use Rattle.std.specs.Prelude.{◌≡◌, ◌++◌, IfOk, OnOk, length};
-ghost use Rattle.mintc_text.specs.Lines.{ended};
+ghost use Rattle.mintc_text.specs.Lines.{ended, fraction_word};
 ghost use Rattle.mintc_timing.specs.Departures.{AreLate, AreEarly};
 ghost use Rattle.mintc_timing.specs.Design.{phase_count};
 ghost use Rattle.mintc_timing.specs.Limits.{IsDenominator, IsInRange};
-ghost use Rattle.mintc_report.specs.Answers.{element_line, fraction_word, AppendsLines, AreElementLines, IsPassText};
+ghost use Rattle.mintc_report.specs.Answers.{element_line, AppendsLines, AreElementLines, IsPassText};
 
 use crate::writing::{lowest, put_fraction, put_word};
 use mintc_constraints::Room;
@@ -20,7 +20,9 @@ fn put_element(
     late: &Fraction,
     early: &Fraction,
 ) -> Result<(), OutOfMemory>
-    ensures { OnOk result (lines.new ≡ lines.old ++ ended (element_line name.now (fraction_word late.now) (fraction_word early.now))) }
+    ensures { OnOk result (lines.new ≡ lines.old
+        ++ ended (element_line name.now (fraction_word late.now.num late.now.den)
+        (fraction_word early.now.num early.now.den))) }
 {
     lines.put(b"element")?;
     put_word(lines, name)?;
@@ -42,7 +44,8 @@ fn put_elements(
     requires den { IsDenominator den }
     requires late { length late.now ≡ length elements.now }
     requires early { length early.now ≡ length elements.now }
-    ensures { OnOk result (AppendsLines (AreElementLines elements.now den late.now early.now (length elements.now)) lines.old lines.new) }
+    ensures { OnOk result
+        (AppendsLines (AreElementLines elements.now den late.now early.now (length elements.now)) lines.old lines.new) }
 {
     for number in 0..elements.len() {
         put_element(

@@ -73,7 +73,8 @@ fn put_two(lines: &mut Lines, refusal: u64, first: u32, second: u32) -> Result<(
 
 /// Writes a refusal's number, how many arcs a loop has, and the arcs.
 fn put_loop(lines: &mut Lines, refusal: u64, arcs: &[u32]) -> Result<(), OutOfMemory>
-    ensures { OnOk result (lines.new ≡ lines.old ++ spaced (decimal refusal ∷ decimal (length arcs.now) ∷ map decimal arcs.now)) }
+    ensures { OnOk result (lines.new ≡ lines.old
+        ++ spaced (decimal refusal ∷ decimal (length arcs.now) ∷ map decimal arcs.now)) }
 {
     put_number(lines, refusal)?;
     put_number(lines, arcs.len() as u64)?;
@@ -91,7 +92,8 @@ fn put_limit(lines: &mut Lines, refusal: u64, kind: Kind, count: u64) -> Result<
 
 /// Writes a refusal's number and its fields.
 fn put_refusal(lines: &mut Lines, refusal: &Refusal) -> Result<(), OutOfMemory>
-    ensures { OnOk result (lines.new ≡ lines.old ++ spaced (decimal (refusal_number refusal.now) ∷ refusal_fields refusal.now)) }
+    ensures { OnOk result (lines.new ≡ lines.old
+        ++ spaced (decimal (refusal_number refusal.now) ∷ refusal_fields refusal.now)) }
 {
     match refusal {
         Refusal::Syntax { role, entry } => put_place(lines, 1, *role, *entry),

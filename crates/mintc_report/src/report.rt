@@ -1,12 +1,13 @@
 //! The text of a report.
 ghost use Rattle.std.specs.Prelude.{◌≡◌, ◌++◌, ◌∷◌, IfOk, OnOk, length, All, codes};
-ghost use Rattle.mintc_text.specs.Lines.{ended, text_of};
+ghost use Rattle.mintc_text.specs.Lines.{ended, text_of, fraction_word};
 ghost use Rattle.mintc_timing.specs.Design.{element_count, phase_count};
 ghost use Rattle.mintc_timing.specs.Limits.{IsDenominator, IsInRange};
 ghost use Rattle.mintc_certificate.specs.Ranges.{IsCertificateInRange, IsChainInRange};
 ghost use Rattle.mintc_certificate.specs.Valid.{IsMember, IsValid};
-ghost use Rattle.mintc_report.specs.Answers.{fraction_word, AppendsLines};
-ghost use Rattle.mintc_report.specs.Reports.{chain_lines, cycle_line, late_line, phase_line, ArePhaseLines, AreLateLines, IsLeastReport, IsReportText};
+ghost use Rattle.mintc_report.specs.Answers.{AppendsLines};
+ghost use Rattle.mintc_report.specs.Reports.{chain_lines, cycle_line, late_line, phase_line, ArePhaseLines};
+ghost use Rattle.mintc_report.specs.Reports.{AreLateLines, IsLeastReport, IsReportText};
 
 use crate::chain::put_chain;
 use crate::writing::{lowest, put_fraction, put_word};
@@ -18,7 +19,7 @@ use std::alloc::Global;
 
 /// Writes the line of the cycle time.
 pub(crate) fn put_cycle(lines: &mut Lines, cycle: &Fraction) -> Result<(), OutOfMemory>
-    ensures { OnOk result (lines.new ≡ lines.old ++ ended (cycle_line (fraction_word cycle.now))) }
+    ensures { OnOk result (lines.new ≡ lines.old ++ ended (cycle_line (fraction_word cycle.now.num cycle.now.den))) }
 {
     lines.put(b"cycle")?;
     put_fraction(lines, cycle)?;
@@ -32,7 +33,9 @@ fn put_phase(
     start: &Fraction,
     width: &Fraction,
 ) -> Result<(), OutOfMemory>
-    ensures { OnOk result (lines.new ≡ lines.old ++ ended (phase_line name.now (fraction_word start.now) (fraction_word width.now))) }
+    ensures { OnOk result (lines.new ≡ lines.old
+        ++ ended (phase_line name.now (fraction_word start.now.num start.now.den)
+        (fraction_word width.now.num width.now.den))) }
 {
     lines.put(b"phase")?;
     put_word(lines, name)?;
@@ -65,7 +68,8 @@ fn put_phases(lines: &mut Lines, names: &[Name], schedule: &Schedule) -> Result<
 
 /// Writes the line of an element.
 fn put_late(lines: &mut Lines, name: &[u8], late: &Fraction) -> Result<(), OutOfMemory>
-    ensures { OnOk result (lines.new ≡ lines.old ++ ended (late_line name.now (fraction_word late.now))) }
+    ensures { OnOk result (lines.new ≡ lines.old
+        ++ ended (late_line name.now (fraction_word late.now.num late.now.den))) }
 {
     lines.put(b"element")?;
     put_word(lines, name)?;
@@ -83,7 +87,8 @@ fn put_departures(
 ) -> Result<(), OutOfMemory>
     requires den { IsDenominator den }
     requires late { length late.now ≡ length elements.now }
-    ensures { OnOk result (AppendsLines (AreLateLines elements.now den late.now (length elements.now)) lines.old lines.new) }
+    ensures { OnOk result
+        (AppendsLines (AreLateLines elements.now den late.now (length elements.now)) lines.old lines.new) }
 {
     for number in 0..elements.len() {
         put_late(
@@ -132,10 +137,11 @@ fn never_text(alloc: Global, system: &System, chain: &[Member]) -> Result<Vec<u8
     Ok(lines.into_bytes())
 }
 
-/// The text of the report of a valid certificate: `cycle F`, for each phase `phase NAME start F width F` and for each
-/// element `element NAME late F`, or `never`; then `chain M delay D cycles C`, and for each of the chain's M members its
-/// kind, the names of its phases or elements or the number of its bound, and `delay D cycles C`, and after a reach
-/// `through NAME` for each inner bit on its path. F is in femtoseconds, as a fraction in lowest terms, D in femtoseconds.
+/// The text of the report of a valid certificate: `cycle F`, for each phase `phase NAME start F width F` and for
+/// each element `element NAME late F`, or `never`; then `chain M delay D cycles C`, and for each of the chain's M
+/// members its kind, the names of its phases or elements or the number of its bound, and `delay D cycles C`, and
+/// after a reach `through NAME` for each inner bit on its path. F is in femtoseconds, as a fraction in lowest
+/// terms, D in femtoseconds.
 pub fn report_text(
     alloc: Global,
     system: &System,

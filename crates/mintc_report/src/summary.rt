@@ -27,8 +27,8 @@ fn put_counts(lines: &mut Lines, number: u64, system: &System) -> Result<(), Out
 {
     let flat = system.flat();
     put_count(lines, b"sample", number)?;
-    put_count(lines, b"phases", flat.phases().items().len() as u64)?;
-    put_count(lines, b"elements", flat.elements().len() as u64)?;
+    put_count(lines, b"phases", u64::from(flat.phase_count()))?;
+    put_count(lines, b"elements", u64::from(flat.element_count()))?;
     put_count(lines, b"inner", flat.inner().items().len() as u64)?;
     put_count(lines, b"arcs", flat.arcs().len() as u64)?;
     put_count(lines, b"pairs", system.pairs().len() as u64)
@@ -50,8 +50,9 @@ fn least_summary(
     Ok(lines.into_bytes())
 }
 
-/// The text that summarises the design of a sample and its certificate: `sample N`, `phases K`, `elements N`, `inner M`,
-/// `arcs A`, `pairs P` and `cycle F`, where F is in femtoseconds, as a fraction in lowest terms; or `never`.
+/// The text that summarises the design of a sample and its certificate: `sample N`, `phases K`, `elements N`,
+/// `inner M`, `arcs A`, `pairs P` and `cycle F`, where F is in femtoseconds, as a fraction in lowest terms; or
+/// `never`.
 pub fn summary_text(
     alloc: Global,
     number: u64,

@@ -1,8 +1,8 @@
 //! Words and numbers that follow a space.
 ghost use Rattle.std.specs.Prelude.{◌≡◌, ◌++◌, ◌∷◌, OnOk, decimal};
-ghost use Rattle.mintc_text.specs.Lines.{numeral_of};
+ghost use Rattle.mintc_text.specs.Lines.{numeral_of, fraction_word};
 ghost use Rattle.mintc_timing.specs.Limits.{IsDenominator};
-ghost use Rattle.mintc_report.specs.Answers.{fraction_word, IsLowestOf};
+ghost use Rattle.mintc_report.specs.Answers.{IsLowestOf};
 
 use mintc_fraction::Fraction;
 use mintc_text::{Lines, OutOfMemory};
@@ -41,7 +41,7 @@ pub(crate) fn lowest(num: i64, den: i64) -> Fraction
 
 /// Writes a fraction after a space.
 pub(crate) fn put_fraction(lines: &mut Lines, fraction: &Fraction) -> Result<(), OutOfMemory>
-    ensures { OnOk result (lines.new ≡ lines.old ++ 32 ∷ fraction_word fraction.now) }
+    ensures { OnOk result (lines.new ≡ lines.old ++ 32 ∷ fraction_word fraction.now.num fraction.now.den) }
 {
     lines.put(b" ")?;
     lines.fraction(fraction.num(), fraction.den())

@@ -11,9 +11,8 @@ use Rattle.mintc_timing.specs.Limits.{IsDesign, IsInRange}
 use Rattle.mintc_timing.specs.Order.{IsTiming}
 use Rattle.mintc_constraints.specs.Duality.{departure_of, departures_of, schedule_of}
 use Rattle.mintc_timing.specs.Paths.{HasEnds}
-use Rattle.mintc_constraints.specs.Laws.{node_count}
 use Rattle.mintc_constraints.specs.Ordinary.{Constraints, constraints_of}
-use Rattle.mintc_timing.specs.Links.{link_at}
+use Rattle.mintc_timing.specs.Links.{link_at, node_count}
 use Rattle.mintc_constraints.specs.Rooms.{Space}
 use Rattle.mintc_timing.proofs.SharedLinkLaws.{ends_of}
 use Rattle.mintc_ratio.specs.declared.searching.Outcome.TheVariants as outcome

@@ -1,5 +1,5 @@
--- What a safe certificate must be: when a chain of safe links, with a schedule and departures or alone, shows what it claims,
--- what more it keeps, and what its parts are made of.
+-- What a safe certificate must be: when a chain of safe links, with a schedule and departures or alone, shows what
+-- it claims, what more it keeps, and what its parts are made of.
 use Rattle.std.specs.Prelude.{◌<◌, List, map, All, IsTrue, ◌≢◌, ◌≤◌, ℤ, [], length, AllPairs, ℕ}
 use Rattle.mintc_text.specs.declared.limits.TheConstants.{MOST_MEMBERS}
 use Rattle.mintc_timing.specs.declared.clocking.Schedule.{Schedule}
@@ -29,12 +29,13 @@ abbrev pub IsSlowest : Design → Member → Type 0
 IsSlowest design (member.Reach j l path) = IsGreatestDelay design.arcs j (input_of l) (greatest_delay design.arcs path)
 IsSlowest design m = Unit {0}
 
--- The member names what the design has. A reach carries a listed path with the greatest delay; a hold leads to an element
--- with a hold, and carries one with the least.
+-- The member names what the design has. A reach carries a listed path with the greatest delay; a hold leads to an
+-- element with a hold, and carries one with the least.
 abbrev pub IsSafeMember : Timing → SafeMember → Type 0
 IsSafeMember t (Plain m) = IsMember t m × IsSlowest t.flat m
 IsSafeMember t (Hold j l path) =
-    (j < element_count t.flat) × (l < element_count t.flat) × IsTrue (element_at t.flat l).has_hold × IsPath t.flat.arcs j path (input_of l)
+    (j < element_count t.flat) × (l < element_count t.flat) × IsTrue (element_at t.flat l).has_hold
+    × IsPath t.flat.arcs j path (input_of l)
     × IsLeastDelay t.flat.arcs j (input_of l) (least_delay t.flat.arcs path)
 
 -- The link that a member stands for; that of a hold bears number 0, for its number says nothing.
@@ -42,6 +43,7 @@ abbrev pub link_of_safe : Design → SafeMember → Link
 link_of_safe design (Plain m) = link_of design m
 link_of_safe design (Hold j l path) = hold_link design 0 j l (least_delay design.arcs path)
 
+-- the links of a list of members
 abbrev pub links_of_safe : Design → List SafeMember → List Link
 links_of_safe design members = map (link_of_safe design) members
 
@@ -50,18 +52,21 @@ pub record IsSafeRing (t : Timing) (members : List SafeMember) : Type 0 where
   pub each : All (IsSafeMember t) members
   pub closed : IsClosed (λ k. k.from) (λ k. k.to) (links_of_safe t.flat members)
 
--- The schedule is right and keeps each hold, and a ring shows that its cycle is the least; or a ring shows that there is
--- none.
+-- The schedule is right and keeps each hold, and a ring shows that its cycle is the least; or a ring shows that
+-- there is none.
 abbrev pub IsSafeValid : Timing → SafeCertificate → Type 0
-IsSafeValid t (Least schedule departures chain) = IsSafe t schedule departures × IsSafeRing t chain × IsTight (links_of_safe t.flat chain) schedule.cycle schedule.den
+IsSafeValid t (Least schedule departures chain) = IsSafe t schedule departures × IsSafeRing t chain
+    × IsTight (links_of_safe t.flat chain) schedule.cycle schedule.den
 IsSafeValid t (Never chain) = IsSafeRing t chain × IsStuck (links_of_safe t.flat chain)
 
+-- The cycle is the least that keeps each hold; or no right schedule keeps them.
 abbrev pub IsSafeOptimal : Timing → SafeCertificate → Type 0
-IsSafeOptimal t (Least schedule departures chain) = IsSafe t schedule departures × IsSafeCycle t schedule.cycle schedule.den
+IsSafeOptimal t (Least schedule departures chain) = IsSafe t schedule departures
+    × IsSafeCycle t schedule.cycle schedule.den
 IsSafeOptimal t (Never chain) = IsHopelessForHold t
 
--- Of all solutions of the safe links at its cycle time, the schedule with its departures is the earliest. The departure of a
--- flop is 0, as it is exact.
+-- Of all solutions of the safe links at its cycle time, the schedule with its departures is the earliest. The
+-- departure of a flop is 0, as it is exact.
 abbrev pub HasSafeEarliest : Timing → SafeCertificate → Type 0
 HasSafeEarliest t (Least schedule departures chain) = IsEarliest t.flat (safe_links_of t) schedule departures
 HasSafeEarliest t (Never chain) = Unit {0}
@@ -70,6 +75,7 @@ HasSafeEarliest t (Never chain) = Unit {0}
 abbrev pub EntersOnce : Design → List SafeMember → Type 0
 EntersOnce design chain = AllPairs (λ a b. a.to ≢ b.to) (links_of_safe design chain)
 
+-- Neither does that of a certificate, of either kind.
 abbrev pub HasSafeSimple : Design → SafeCertificate → Type 0
 HasSafeSimple design (Least schedule departures chain) = EntersOnce design chain
 HasSafeSimple design (Never chain) = EntersOnce design chain
@@ -115,4 +121,5 @@ StandsFor t k m = Stands (IsSafeMember t) IsSafeCounted (λ x. bare (link_of_saf
 
 -- The members stand for the links of these numbers, in order.
 abbrev pub StandForAll : Timing → List Link → List ℕ → List SafeMember → Type 0
-StandForAll t links chain members = StandInOrder (IsSafeMember t) IsSafeCounted (λ x. bare (link_of_safe t.flat x)) (λ e. bare (link_at links e)) chain members
+StandForAll t links chain members = StandInOrder (IsSafeMember t) IsSafeCounted (λ x. bare (link_of_safe t.flat x))
+    (λ e. bare (link_at links e)) chain members

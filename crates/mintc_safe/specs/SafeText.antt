@@ -14,10 +14,12 @@ abbrev pub safe_words : SafeMember → List (List ℕ)
 safe_words (Plain m) = member_words m
 safe_words (Hold j l path) = codes "hold" ∷ number j ∷ number l ∷ number (length path) ∷ map number path
 
+-- the lines of a chain, and the last line
 abbrev pub safe_chain_lines : List SafeMember → List (List ℕ)
 safe_chain_lines ms = count_line (codes "chain") (length ms) ∷ map (λ m. words (safe_words m)) ms ++ codes "end" ∷ []
 
 -- the lines of a safe certificate, with a schedule and without
 abbrev pub safe_lines : SafeCertificate → List (List ℕ)
-safe_lines (Least schedule departures chain) = codes "safe 1" ∷ codes "least" ∷ schedule_lines schedule ++ departure_lines departures ++ safe_chain_lines chain
+safe_lines (Least schedule departures chain) = codes "safe 1" ∷ codes "least" ∷ schedule_lines schedule
+    ++ departure_lines departures ++ safe_chain_lines chain
 safe_lines (Never chain) = codes "safe 1" ∷ codes "never" ∷ safe_chain_lines chain

@@ -1,7 +1,9 @@
 //! The members for a chain of safe links.
 ghost use Rattle.std.specs.Prelude.{◌≡◌, ◌<◌, ℕ, IfOk, IsTrue, MatchOption, All, Contains, length};
 ghost use Rattle.mintc_timing.specs.Design.{pair_at};
+ghost use Rattle.mintc_timing.specs.Limits.{IsDesign};
 ghost use Rattle.mintc_timing.specs.Links.{links_of};
+ghost use Rattle.mintc_timing.specs.Order.{IsTiming};
 ghost use Rattle.mintc_safe.specs.SafeOptimum.{StandForAll, StandsFor};
 ghost use Rattle.mintc_safe.specs.Hold.{hold_link_of, is_held as is_held_of, safe_links_of};
 
@@ -15,7 +17,8 @@ use std::alloc::Global;
 
 /// The number of the pair whose hold a safe link is of. None of a link of the design.
 fn held_pair(link: &Link) -> Option<u32>
-    ensures { MatchOption result ((n : ℕ) → link.now.kind ≡ LinkKind.Other n → ⊥) (λ n. link.now.kind ≡ LinkKind.Other n) }
+    ensures { MatchOption result ((n : ℕ) → link.now.kind ≡ LinkKind.Other n →
+        ⊥) (λ n. link.now.kind ≡ LinkKind.Other n) }
 {
     match link.kind {
         LinkKind::Other { index } => Some(index),
@@ -50,10 +53,11 @@ fn plain_of(
     finder: &mut Finder,
     link: &Link,
 ) -> Result<SafeMember, OutOfMemory>
-    requires { Contains (links_of system.now) link.now }
+    requires link { Contains (links_of system.now) link.now }
+    requires design { IsDesign system.now.flat }
+    requires kept { IsTiming system.now.flat system.now.order system.now.pairs }
     ensures { IfOk result (StandsFor system.now link.now) }
 {
-    let _flat = system.flat();
     let member = member_of(alloc, system, finder, link)?;
     Ok(SafeMember::Plain { member })
 }
@@ -90,9 +94,7 @@ pub(crate) fn members(
     let mut members = Vec::new(alloc);
     for number in chain {
         let member = safe_member_of(alloc, system, &mut finder, &links[*number as usize])?;
-        let Ok(()) = members.push(member) else {
-            return Err(OutOfMemory);
-        };
+        members.push(member)?;
     }
     Ok(SafeMemberList::new(members))
 }

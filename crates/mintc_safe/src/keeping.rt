@@ -1,6 +1,8 @@
 //! The least cycle time that keeps hold, with its certificate.
 ghost use Rattle.std.specs.Prelude.{◌≡◌, ◌≤◌, ◌+◌, ◌*◌, IfOk};
-ghost use Rattle.mintc_constraints.specs.Laws.{node_count};
+ghost use Rattle.mintc_timing.specs.Limits.{IsDesign};
+ghost use Rattle.mintc_timing.specs.Links.{node_count};
+ghost use Rattle.mintc_timing.specs.Order.{IsTiming};
 ghost use Rattle.mintc_constraints.specs.Ordinary.{constraints_of};
 ghost use Rattle.mintc_ratio.specs.Searched.{HasSearched};
 ghost use Rattle.mintc_safe.specs.Hold.{safe_links_of};
@@ -28,9 +30,10 @@ fn certificate(
 ) -> Result<SafeCertificate, OutOfMemory>
     requires list { list.now ≡ constraints_of (node_count system.now.flat) (safe_links_of system.now) }
     requires searched { HasSearched list.now room.now outcome }
+    requires design { IsDesign system.now.flat }
+    requires kept { IsTiming system.now.flat system.now.order system.now.pairs }
     ensures { IfOk result (IsSafeOptimum system.now) }
 {
-    let _flat = system.flat();
     let chain = members(alloc, system, list.items(), room.chain())?;
     match outcome {
         Outcome::Least { cycle } => Ok(SafeCertificate::Least {
@@ -42,10 +45,11 @@ fn certificate(
     }
 }
 
-/// The least cycle time of a system that keeps every hold with each output as early as it can be, with its certificate: a
-/// right schedule of that cycle with its departures and a chain of safe links that forbids every smaller cycle time, or a
-/// chain that forbids all. Each such schedule passes. Its starts, its ends and the moments at which latches depart are the
-/// least that any solution of the safe links has. The chain enters no node twice. Which chain is given is free.
+/// The least cycle time of a system that keeps every hold with each output as early as it can be, with its
+/// certificate: a right schedule of that cycle with its departures and a chain of safe links that forbids every
+/// smaller cycle time, or a chain that forbids all. Each such schedule passes. Its starts, its ends and the moments
+/// at which latches depart are the least that any solution of the safe links has. The chain enters no node twice.
+/// Which chain is given is free.
 pub fn safe<L: Ledger>(
     alloc: Global,
     system: &System,

@@ -18,7 +18,8 @@ pub struct SampleFiles {
 
 /// The cell description: a gate of two inputs, and a latch.
 const CELLS: &[u8] =
-    b"[cell.MIX]\nkind = \"gate\"\ninputs = [\"A\", \"B\"]\noutputs = [\"Y\"]\n[cell.LAT]\nkind = \"latch\"\nd = \"D\"\ng = \"G\"\noutputs = [\"Q\"]\nsetup = 30000\ndq_min = 20000\n";
+    b"[cell.MIX]\nkind = \"gate\"\ninputs = [\"A\", \"B\"]\noutputs = [\"Y\"]\n[cell.LAT]\nkind = \"latch\"\n\
+     d = \"D\"\ng = \"G\"\noutputs = [\"Q\"]\nsetup = 30000\ndq_min = 20000\n";
 
 /// The clock description: two phases.
 const CLOCK: &[u8] =

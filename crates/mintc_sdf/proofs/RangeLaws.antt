@@ -5,11 +5,12 @@ use Rattle.std.proofs.lemmas.Int.{ints, clamps}
 use Rattle.std.proofs.lemmas.List.Elements.{All-cons}
 use Rattle.std.proofs.lemmas.Bool.Decides.{nat_tests}
 use Rattle.std.proofs.lemmas.Nat.{div-add-mod'}
+use Rattle.std.specs.Option.{option_or}
 use Rattle.mintc_text.specs.declared.refusals.Refusal.{Refusal}
 use Rattle.mintc_decimal.specs.Decimals.{Number, over, under, away, floor_of, ceiling_of, tens_up}
 use Rattle.mintc_sdf.specs.declared.delays.Delay.{Delay}
 use Rattle.mintc_sdf.specs.declared.numbers.Fault.{Fault}
-use Rattle.mintc_sdf.specs.Numbers.{is_far, is_below_zero, rounded_down, rounded_up, least, greatest, number_fault, or_else}
+use Rattle.mintc_sdf.specs.Numbers.{is_far, is_below_zero, rounded_down, rounded_up, least, greatest, number_fault}
 use Rattle.mintc_sdf.specs.Texts.{Said, may_be_negative, refusal_of, fault_of, first_fault, delays_by, delays_from, said_in, judged, reading, delays_of}
 use Rattle.mintc_sdf_tokens.specs.Tokens.{tokens_of}
 use Rattle.mintc_sdf.specs.Laws.{IsWithin}
@@ -95,7 +96,7 @@ all-within (s ∷ ss) e =
     faultless : (o : Option Fault) → option_map (refusal_of s.entry) o ≡ None → o ≡ None
     faultless o f = grind (arith, f)
 
-    both : (o : Option Refusal) → fault_of s ≡ o → or_else o (first_fault ss) ≡ None → (number_fault s.scale (may_be_negative s.claim.subject) s.claim.numbers ≡ None) × (first_fault ss ≡ None)
+    both : (o : Option Refusal) → fault_of s ≡ o → option_or o (first_fault ss) ≡ None → (number_fault s.scale (may_be_negative s.claim.subject) s.claim.numbers ≡ None) × (first_fault ss ≡ None)
     both None f g = (faultless (number_fault s.scale (may_be_negative s.claim.subject) s.claim.numbers) f, g)
     both (Some r) f g = absurd (cc)
 

@@ -15,7 +15,8 @@ use Rattle.mintc_sdf.specs.Finding.{Finding, nothing_found, keep_one, keep, said
 
 -- A form gives a claim of this subject, whose numbers were taken in, and this is left.
 abbrev pub IsClaim : ℕ → Option (Claim × List Token) → Subject → Sum → List Token → Type 0
-IsClaim scale o subject sum rest = (ns : List Number) × (o ≡ Some (claim subject ns, rest)) × (sum ≡ added scale (may_be_negative subject) no_numbers ns)
+IsClaim scale o subject sum rest = (ns : List Number) × (o ≡ Some (claim subject ns, rest))
+    × (sum ≡ added scale (may_be_negative subject) no_numbers ns)
 
 -- two ports and a value, which say this of the first port
 abbrev pub pin_claim : (List ℕ → Subject) → Items → Option Claim
@@ -36,7 +37,8 @@ taken cx f (Some r) = Some (keep f (map (said cx) r.0), r.1)
 abbrev pub IsKept : Context → Finding → Finding → Option (Subject × Sum) → Type 0
 IsKept cx old new given =
     (s : Subject) × (sum : Sum) × (given ≡ Some (s, sum))
-    × ((ns : List Number) → sum ≡ added cx.scale (may_be_negative s) no_numbers ns → new ≡ keep_one old (said cx (claim s ns)))
+    × ((ns : List Number) → sum ≡ added cx.scale (may_be_negative s) no_numbers ns →
+    new ≡ keep_one old (said cx (claim s ns)))
 
 -- The setup and the hold that are given, with the numbers that were taken in, are kept.
 abbrev pub AreKept : Context → Finding → Finding → Option (List ℕ × Sum × Sum) → Type 0
@@ -52,7 +54,8 @@ celled entry scale f (Some r) = Some (keep f (said_by entry scale r.0), r.1)
 
 -- The code knows what is known after some entries.
 abbrev pub IsState : Progress → State → Type 0
-IsState p s = (p.settings ≡ settings s.divider s.scale) × (p.in_cells ≡ s.in_cells) × (s.found ≡ keep nothing_found p.said)
+IsState p s = (p.settings ≡ settings s.divider s.scale) × (p.in_cells ≡ s.in_cells)
+    × (s.found ≡ keep nothing_found p.said)
 
 -- An entry in form, after which the code knows what is known then.
 abbrev pub IsEntry : Option (Progress × List Token) → State → List Token → Type 0

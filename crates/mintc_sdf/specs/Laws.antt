@@ -1,5 +1,6 @@
 -- What the definitions say of one another.
-use Rattle.std.specs.Prelude.{◌≡◌, ℕ, ℤ, pos, neg_ℤ, ◌≤ℤ◌, ◌<ℤ◌, ◌+ℤ◌, ◌*ℤ◌, false, if◌then◌else◌, List, ◌∷◌, Ok, All, Any}
+use Rattle.std.specs.Prelude.{◌≡◌, ℕ, ℤ, pos, neg_ℤ, ◌≤ℤ◌, ◌<ℤ◌, ◌+ℤ◌, ◌*ℤ◌, false, if◌then◌else◌, List, ◌∷◌, Ok, All}
+use Rattle.std.specs.Prelude.{Any}
 use Rattle.mintc_text.specs.declared.limits.TheConstants.{MOST_DELAY}
 use Rattle.mintc_decimal.specs.Decimals.{Number, with_sign, over, under}
 use Rattle.mintc_sdf.specs.declared.delays.Subject.{Subject}
@@ -11,6 +12,7 @@ use Rattle.mintc_sdf.specs.Texts.{may_be_negative, delays_of}
 abbrev pub lowest : Subject → ℤ
 lowest s = if may_be_negative s then neg_ℤ MOST_DELAY else pos 0
 
+-- a delay has its numbers in order and in range
 abbrev pub IsWithin : Delay → Type 0
 IsWithin d = (lowest d.subject ≤ℤ d.least) × (d.least ≤ℤ d.greatest) × (d.greatest ≤ℤ MOST_DELAY)
 

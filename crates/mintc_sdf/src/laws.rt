@@ -7,8 +7,8 @@ pub fn delays_are_within()
     ensures { AreWithin }
 {}
 
-/// The least of a delay is the greatest whole number that is above none of the numbers that it is made of, and its greatest
-/// the least that is below none: so rounding each number first and then taking the least loses nothing.
+/// The least of a delay is the greatest whole number that is above none of the numbers that it is made of, and its
+/// greatest the least that is below none: so rounding each number first and then taking the least loses nothing.
 #[tactic(auto, using(crate::proofs::LeastLaws::rounded))]
 pub fn numbers_are_rounded()
     ensures { AreRounded }

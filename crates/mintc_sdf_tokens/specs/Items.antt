@@ -1,5 +1,5 @@
--- The items that tokens write: words, strings, and lists of items in parentheses. Every construct of a delay text is such a
--- list.
+-- The items that tokens write: words, strings, and lists of items in parentheses. Every construct of a delay text
+-- is such a list.
 use Rattle.std.specs.Prelude.{ℕ, zero, suc, Bool, true, false, List, [], ◌∷◌, ◌++◌, length}
 use Rattle.mintc_sdf_tokens.specs.Tokens.{Token, opening, closing, word, string, bad}
 
@@ -17,6 +17,7 @@ spell (leaf w is) = word w ∷ spell is
 spell (quoted s is) = string s ∷ spell is
 spell (list inner is) = opening ∷ spell inner ++ closing ∷ spell is
 
+-- whether there are no items
 abbrev pub is_none : Items → Bool
 is_none none = true
 is_none _ = false
@@ -28,21 +29,25 @@ count (leaf w is) = suc (count is)
 count (quoted s is) = suc (count is)
 count (list inner is) = suc (count is)
 
--- The items that stand whole at the front of tokens, and the tokens behind them: none, or those from the first on that no
--- whole item begins with.
+-- The items that stand whole at the front of tokens, and the tokens behind them: none, or those from the first on
+-- that no whole item begins with.
 pub record Front : Type 0 where
   pub items : Items
   pub after : List Token
 
+-- no whole item stands at the front
 abbrev pub nothing : List Token → Front
 nothing ts = record { items = none; after = ts }
 
+-- a word before what stands at the front
 abbrev pub with_leaf : List ℕ → Front → Front
 with_leaf w f = record { items = leaf w f.items; after = f.after }
 
+-- a string before what stands at the front
 abbrev pub with_quoted : List ℕ → Front → Front
 with_quoted s f = record { items = quoted s f.items; after = f.after }
 
+-- a list of items before what stands at the front
 abbrev pub with_list : Items → Front → Front
 with_list inner f = record { items = list inner f.items; after = f.after }
 
@@ -61,11 +66,14 @@ fronts (suc n) (opening ∷ ts) = nest (fronts n) ts (fronts n ts).items (fronts
 fronts (suc n) (closing ∷ ts) = nothing (closing ∷ ts)
 fronts (suc n) (bad ∷ ts) = nothing (bad ∷ ts)
 
+-- the whole items at the front of tokens, and the tokens behind them
 abbrev pub front : List Token → Front
 front ts = fronts (length ts) ts
 
+-- the whole items at the front
 abbrev pub items : List Token → Items
 items ts = (front ts).items
 
+-- the tokens behind them
 abbrev pub after : List Token → List Token
 after ts = (front ts).after

@@ -9,4 +9,5 @@ AreWritten = (ts : List Token) → ts ≡ spell (items ts) ++ after ts
 
 -- Items that are written before a closing parenthesis are read back.
 abbrev pub AreReadBack : Type 0
-AreReadBack = (is : Items) (rest : List Token) → front (spell is ++ closing ∷ rest) ≡ record { items = is; after = closing ∷ rest }
+AreReadBack = (is : Items) (rest : List Token) →
+    front (spell is ++ closing ∷ rest) ≡ record { items = is; after = closing ∷ rest }

@@ -1,5 +1,6 @@
 -- What a reader finds at the front of tokens.
 use Rattle.std.specs.Prelude.{ℕ, zero, suc, ◌==◌, if◌then◌else◌, List, [], ◌∷◌, Option, Some, None, option_map}
+use Rattle.mintc_text.specs.Signs.{close_parenthesis, open_parenthesis, quote}
 use Rattle.mintc_sdf_tokens.specs.declared.reader.TokenKind.{TokenKind}
 use Rattle.mintc_sdf_tokens.specs.declared.reader.TokenKind.TheVariants as mark
 use Rattle.mintc_sdf_tokens.specs.Tokens.{Token, opening, closing, word, string, bad}
@@ -10,14 +11,17 @@ abbrev pub after_opening : List Token → Option (List Token)
 after_opening (opening ∷ ts) = Some ts
 after_opening _ = None
 
+-- what follows a closing parenthesis
 abbrev pub after_closing : List Token → Option (List Token)
 after_closing (closing ∷ ts) = Some ts
 after_closing _ = None
 
+-- a word and what follows it
 abbrev pub word_at : List Token → Option (List ℕ × List Token)
 word_at (word w ∷ ts) = Some (w, ts)
 word_at _ = None
 
+-- a string and what follows it
 abbrev pub string_at : List Token → Option (List ℕ × List Token)
 string_at (string s ∷ ts) = Some (s, ts)
 string_at _ = None
@@ -31,9 +35,11 @@ mark_of (word w ∷ ts) = mark.Word
 mark_of (string s ∷ ts) = mark.Quote
 mark_of (bad ∷ ts) = mark.Quote
 
+-- the same by the first byte of a text that begins with a token
 abbrev pub mark_by : List ℕ → TokenKind
 mark_by [] = mark.End
-mark_by (b ∷ bs) = if b == 40 then mark.Open else (if b == 41 then mark.Close else (if b == 34 then mark.Quote else mark.Word))
+mark_by (b ∷ bs) = if b == open_parenthesis then mark.Open
+    else (if b == close_parenthesis then mark.Close else (if b == quote then mark.Quote else mark.Word))
 
 -- what a reader passes, and what is left then: nothing at the end, and at a string that isn't closed
 abbrev pub stepped : List Token → TokenKind × List Token
@@ -58,9 +64,11 @@ passing d (bad ∷ ts) = None
 abbrev pub with_rest : {A : Type 0} → List Token → A → A × List Token
 with_rest rest a = (a, rest)
 
+-- the same, given the items of the list and the tokens behind them
 abbrev pub inside_by : {A : Type 0} → (Items → Option A) → Items → List Token → Option (A × List Token)
 inside_by f is (closing ∷ rest) = option_map (with_rest rest) (f is)
 inside_by f is _ = None
 
+-- what a form gives of the list that is open
 abbrev pub inside : {A : Type 0} → (Items → Option A) → List Token → Option (A × List Token)
 inside f ts = inside_by f (items ts) (after ts)

@@ -1,6 +1,7 @@
-//! Conditions: the item that a COND or a CONDELSE speaks of, through conditions in one another. One walk over the tokens
-//! finds it, whatever stands in the conditions before it.
-ghost use Rattle.std.specs.Prelude.{◌≡◌, ◌<◌, ◌≤◌, ◌+◌, ◌++◌, ◌∷◌, [], List, Option, Some, None, IfSome, IfNone, IfOk, OnOk, length, vec_len};
+//! Conditions: the item that a COND or a CONDELSE speaks of, through conditions in one another. One walk over the
+//! tokens finds it, whatever stands in the conditions before it.
+ghost use Rattle.std.specs.Prelude.{◌≡◌, ◌<◌, ◌≤◌, ◌+◌, ◌++◌, ◌∷◌, [], List, Option, Some, None, IfSome, IfNone, IfOk};
+ghost use Rattle.std.specs.Prelude.{OnOk, length, vec_len};
 ghost use Rattle.mintc_sdf_tokens.specs.Tokens.{Token, opening};
 ghost use Rattle.mintc_sdf_tokens.specs.Conditions.{kind_of, layer_at, more, has_over, noted, sought, walked};
 
@@ -79,8 +80,8 @@ fn note(layers: &mut Vec<Layer>, depth: usize) -> Result<(), OutOfMemory>
     push(layers, next)
 }
 
-/// Notes that a list begins in the condition of this number, of which the first parenthesis was read, and gives where the
-/// innermost item begins then. The keyword of a condition is passed, and no item of it has begun.
+/// Notes that a list begins in the condition of this number, of which the first parenthesis was read, and gives
+/// where the innermost item begins then. The keyword of a condition is passed, and no item of it has begun.
 fn begin<'a>(
     reader: &mut Reader<'a>,
     layers: &mut Vec<Layer>,
@@ -90,7 +91,9 @@ fn begin<'a>(
 ) -> Result<Option<Reader<'a>>, OutOfMemory>
     requires within { depth < length layers.old.items }
     requires here { here ≡ opening ∷ reader.old }
-    ensures walked { IfOk result (λ last. (t : Option (List Token)) → walked both layers.old.items t depth (opening ∷ reader.old) ≡ walked both layers.new.items last (depth + 1) reader.new) }
+    ensures walked { IfOk result (λ last. (t : Option (List Token)) →
+        walked both layers.old.items t depth (opening ∷ reader.old)
+        ≡ walked both layers.new.items last (depth + 1) reader.new) }
     ensures shorter { length reader.new ≤ length reader.old }
 {
     note(layers, depth)?;
@@ -107,16 +110,17 @@ fn begin<'a>(
 fn has_over(layers: &[Layer]) -> bool
     ensures { result ≡ has_over layers.now }
 {
-    for at in 0..layers.len() {
-        if layers[at] == Layer::Over {
+    for layer in layers {
+        if *layer == Layer::Over {
             return true;
         }
     }
     false
 }
 
-/// Passes what is left of a condition that is open, and the parenthesis that closes it, and gives a reader of the item that
-/// it speaks of, which is no condition. None where there is no such item, and of a condition that isn't closed.
+/// Passes what is left of a condition that is open, and the parenthesis that closes it, and gives a reader of the
+/// item that it speaks of, which is no condition. None where there is no such item, and of a condition that isn't
+/// closed.
 pub fn innermost<'a>(
     reader: &mut Reader<'a>,
     alloc: Global,

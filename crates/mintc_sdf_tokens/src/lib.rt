@@ -1,11 +1,13 @@
-//! The tokens of an SDF text (IEEE Std 1497) and the items that they write: words, strings, and lists of items in parentheses.
+//! The tokens of an SDF text (IEEE Std 1497) and the items that they write: words, strings, and lists of items in
+//! parentheses.
 //!
-//! `tokens_of` is the list of a text's tokens, and `front` gives the items that stand whole at the front of tokens, with what is
-//! left behind them. The code builds neither: a reader passes over the text once, and each call says what it passed and what is
-//! left. Conditions are walked through in one pass too, however deep they stand in one another.
+//! `tokens_of` is the list of a text's tokens, and `front` gives the items that stand whole at the front of tokens,
+//! with what is left behind them. The code builds neither: a reader passes over the text once, and each call says
+//! what it passed and what is left. Conditions are walked through in one pass too, however deep they stand in one
+//! another.
 //!
-//! The crate above gets that reader, the item that a condition speaks of, and what words are: keywords, edges, names, paths
-//! and units of time. One law: items are the tokens.
+//! The crate above gets that reader, the item that a condition speaks of, and what words are: keywords, edges,
+//! names, paths and units of time. One law: items are the tokens.
 #![tactic(auto)]
 
 mod bytes;

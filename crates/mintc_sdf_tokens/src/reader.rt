@@ -1,8 +1,10 @@
 //! The tokens that are left of a text, read one by one.
-ghost use Rattle.std.specs.Prelude.{◌≡◌, ◌≤◌, ◌<◌, ◌+◌, ◌∷◌, [], true, drop, length, Some, None, IfSome, IfNone, IsTrue, ◌↔◌, MatchBool};
+ghost use Rattle.std.specs.Prelude.{◌≡◌, ◌≤◌, ◌<◌, ◌+◌, ◌∷◌, [], true, drop, length, Some, None, IfSome, IfNone};
+ghost use Rattle.std.specs.Prelude.{IsTrue, ◌↔◌, MatchBool};
 ghost use Rattle.mintc_sdf_tokens.specs.Tokens.{Token, tokens_of};
 ghost use Rattle.mintc_sdf_tokens.specs.Items.{after};
-ghost use Rattle.mintc_sdf_tokens.specs.Reading.{after_opening, after_closing, word_at, string_at, mark_of, mark_by, stepped, passing};
+ghost use Rattle.mintc_sdf_tokens.specs.Reading.{after_opening, after_closing, word_at, string_at, mark_of, mark_by};
+ghost use Rattle.mintc_sdf_tokens.specs.Reading.{stepped, passing};
 
 use crate::bytes::word_size;
 use crate::trivia::skip_trivia;
@@ -37,7 +39,8 @@ impl<'a> Model for Reader<'a> {
 
     ghost view = { λ r. tokens_of (drop r.at r.text.now) };
 
-    ghost invariant = { λ r. (r.at ≤ length r.text.now) × (is_settled piece_of (drop r.at r.text.now) ≡ true) × EndsBefore r.text.now r.last };
+    ghost invariant = { λ r. (r.at ≤ length r.text.now) × (is_settled piece_of (drop r.at r.text.now) ≡ true)
+        × EndsBefore r.text.now r.last };
 }
 
 /// What the first byte says that comes next.
@@ -75,7 +78,8 @@ impl<'a> Reader<'a> {
 
     /// Passes an opening parenthesis, if it comes next.
     pub fn open(&mut self) -> bool
-        ensures { MatchBool result (after_opening self.old ≡ Some self.new) ((after_opening self.old ≡ None) × (self.new ≡ self.old)) }
+        ensures { MatchBool result (after_opening self.old ≡ Some self.new) ((after_opening self.old ≡ None)
+            × (self.new ≡ self.old)) }
     {
         match self.mark() {
             TokenKind::Open => {
@@ -88,7 +92,8 @@ impl<'a> Reader<'a> {
 
     /// Passes a closing parenthesis, if it comes next.
     pub fn close(&mut self) -> bool
-        ensures { MatchBool result (after_closing self.old ≡ Some self.new) ((after_closing self.old ≡ None) × (self.new ≡ self.old)) }
+        ensures { MatchBool result (after_closing self.old ≡ Some self.new) ((after_closing self.old ≡ None)
+            × (self.new ≡ self.old)) }
     {
         match self.mark() {
             TokenKind::Close => {
@@ -162,9 +167,11 @@ impl<'a> Reader<'a> {
         }
     }
 
-    /// Passes what is left of the list that is open, and the parenthesis that closes it. False of a list that isn't closed.
+    /// Passes what is left of the list that is open, and the parenthesis that closes it. False of a list that isn't
+    /// closed.
     pub fn pass(&mut self) -> bool
-        ensures { MatchBool result (after_closing (after self.old) ≡ Some self.new) (after_closing (after self.old) ≡ None) }
+        ensures { MatchBool result (after_closing (after self.old) ≡ Some self.new) (after_closing (after self.old)
+            ≡ None) }
     {
         let _ = &self.text;
         let mut depth: usize = 0;

@@ -1,6 +1,8 @@
 //! The words of a delay text: keywords, names and paths, and the unit of time.
-ghost use Rattle.std.specs.Prelude.{◌≡◌, ◌≤◌, ◌<◌, ◌==◌, ◌&&◌, not, true, false, IfOk, OnOk, IfNone, IfSome, ◌^◌, ◌++◌, ◌∷◌, [], drop, take, length, slice_index};
-ghost use Rattle.mintc_sdf_tokens.specs.Words.{is_signal_edge, product, is_key, unescaped, unescaped_from, pieces_from, names_of, is_edge, unit_of, times_of, time_of};
+ghost use Rattle.std.specs.Prelude.{◌≡◌, ◌≤◌, ◌<◌, ◌==◌, ◌&&◌, not, true, false, IfOk, OnOk, IfNone, IfSome, ◌^◌, ◌++◌};
+ghost use Rattle.std.specs.Prelude.{◌∷◌, [], drop, take, length, slice_index};
+ghost use Rattle.mintc_sdf_tokens.specs.Words.{is_signal_edge, product, is_key, unescaped, unescaped_from, pieces_from};
+ghost use Rattle.mintc_sdf_tokens.specs.Words.{names_of, is_edge, unit_of, times_of, time_of};
 ghost use Rattle.mintc_sdf_tokens.specs.Pieces.{piece_size, kept_byte};
 
 use mintc_text::{Name, Names, OutOfMemory};
@@ -105,9 +107,9 @@ pub fn without_escapes(alloc: Global, word: &[u8]) -> Result<Name, OutOfMemory>
 {
     let mut out = Vec::new(alloc);
     let mut kept = false;
-    for at in 0..word.len() {
-        push_kept(&mut out, word[at], kept)?;
-        kept = keeps(word[at], kept);
+    for byte in word {
+        push_kept(&mut out, *byte, kept)?;
+        kept = keeps(*byte, kept);
     }
     Name::new(alloc, &out)
 }

@@ -12,8 +12,7 @@ use Rattle.std.specs.List.Sorted.{IsPermutation}
 use Rattle.mintc_fraction.specs.Ratio.{Ratio}
 use Rattle.mintc_timing.specs.declared.link.Link.{Link}
 use Rattle.mintc_timing.specs.Design.{Timing}
-use Rattle.mintc_timing.specs.Links.{element_node, links_of, no_link, link_at, IsMet}
-use Rattle.mintc_constraints.specs.Laws.{node_count}
+use Rattle.mintc_timing.specs.Links.{element_node, links_of, no_link, link_at, IsMet, node_count}
 use Rattle.mintc_constraints.specs.Ordinary.{Constraints, constraints_of, IsOrdinaryLink}
 use Rattle.mintc_constraints.specs.Rooms.{Space}
 use Rattle.mintc_ratio.specs.From.{AreGreatestFrom, IsAsked}

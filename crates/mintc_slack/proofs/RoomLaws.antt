@@ -17,7 +17,7 @@ use Rattle.mintc_timing.proofs.SharedDeterminedLaws.{least_cycle_is_determined_l
 use Rattle.mintc_timing.proofs.SharedProducts.{add-times, swap-times, times-mono_positive}
 use Rattle.mintc_constraints.specs.Duality.{moments_of}
 use Rattle.mintc_timing.specs.Paths.{HasEnds}
-use Rattle.mintc_constraints.specs.Laws.{node_count}
+use Rattle.mintc_timing.specs.Links.{node_count}
 use Rattle.mintc_constraints.specs.Ordinary.{Leads}
 use Rattle.mintc_timing.proofs.SharedByKind.{EachKind, All-links, EachKind-from_all}
 use Rattle.mintc_constraints.proofs.SharedExistenceLaws.{feasible_has_right_lem, has_least_or_is_hopeless_lem}

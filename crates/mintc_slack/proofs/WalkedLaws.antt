@@ -8,7 +8,7 @@ use Rattle.mintc_timing.specs.declared.link.Link.{Link}
 use Rattle.mintc_timing.specs.Design.{Timing, element_at, element_count, phase_count, phase_of, no_element}
 use Rattle.mintc_timing.specs.Limits.{IsDesign, IsPhase}
 use Rattle.mintc_timing.specs.Links.{links_of, element_node, start_node, end_node, cycle_link, setup_link, span_link, link_at}
-use Rattle.mintc_constraints.specs.Laws.{node_count}
+use Rattle.mintc_timing.specs.Links.{node_count}
 use Rattle.mintc_constraints.specs.Ordinary.{Constraints, IsOrdinary, Leads, constraints_of}
 use Rattle.mintc_timing.proofs.SharedByKind.{stands}
 use Rattle.mintc_constraints.proofs.SharedOrdinaryLaws.{number_of}

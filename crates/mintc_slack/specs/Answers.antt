@@ -14,6 +14,7 @@ pub record HasSlacks (t : Timing) (cycle : Ratio) (extra : List ℤ) : Type 0 wh
   pub modest : IsModest cycle
   pub slacks : AreSlacks t cycle.num cycle.den extra
 
+-- What `slack` finds: so it is, or no schedule is right.
 abbrev pub IsSlackAnswer : Timing → Slacks → Type 0
 IsSlackAnswer t (Least cycle extra) = HasSlacks t cycle extra
 IsSlackAnswer t Never = IsHopeless t

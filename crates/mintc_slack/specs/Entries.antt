@@ -9,6 +9,7 @@ pub record AreEntries (t : Timing) (entries : List Entry) : Type 0 where
   pub of_pairs : All (λ e. (e.number < length t.pairs) × (e.to ≡ (pair_at t e.number).to)) entries
   pub all : (n : ℕ) → n < length t.pairs → Contains entries (record { to = (pair_at t n).to; number = n })
 
+-- the entry at a place, counted from 0
 abbrev pub entry_at : List Entry → ℕ → Entry
 entry_at entries k = slice_index_or entries k (record { to = 0; number = 0 })
 

@@ -14,7 +14,11 @@ use Rattle.mintc_graph_walks.specs.Walks.{value_at}
 
 -- by how much the value of a link's end exceeds what the link brings there
 abbrev pub gap_of : Ratio → List ℤ → Link → ReducedCost
-gap_of at potentials k = record { from = k.from; to = k.to; rest = value_at potentials k.to -ℤ value_at potentials k.from -ℤ asked_by_link at k }
+gap_of at potentials k = record {
+  from = k.from;
+  to = k.to;
+  rest = value_at potentials k.to -ℤ value_at potentials k.from -ℤ asked_by_link at k;
+}
 
 -- The values of the greatest walks from node 0 over ordinary links, as numerators over the cycle's denominator.
 pub record ArePotentials (list : Constraints) (at : Ratio) (potentials : List ℤ) : Type 0 where
@@ -37,21 +41,24 @@ pub record IsInside (count : ℕ) (g : ReducedCost) : Type 0 where
 
 -- from 0 to FAR
 abbrev pub AreInRange : List ℤ → Type 0
-AreInRange distances = (node : ℕ) → node < length distances → (pos 0 ≤ℤ value_at distances node) × (value_at distances node ≤ℤ FAR)
+AreInRange distances = (node : ℕ) → node < length distances → (pos 0 ≤ℤ value_at distances node)
+    × (value_at distances node ≤ℤ FAR)
 
--- The node itself is at no distance, and a node that isn't far has the distance of some walk to it: what the walk asks for
--- is less by that than its ends differ.
-pub record AreDistances (list : Constraints) (at : Ratio) (potentials : List ℤ) (from : ℕ) (distances : List ℤ) : Type 0 where
+-- The node itself is at no distance, and a node that isn't far has the distance of some walk to it: what the walk
+-- asks for is less by that than its ends differ.
+pub record AreDistances (list : Constraints) (at : Ratio) (potentials : List ℤ) (from : ℕ)
+    (distances : List ℤ) : Type 0 where
   pub here : value_at distances from ≡ pos 0
   pub walked : (node : ℕ) → node < list.nodes → value_at distances node <ℤ FAR →
       IsAsked list.links at from node (value_at potentials node -ℤ value_at potentials from -ℤ value_at distances node)
 
--- Distances in place of others: they are from 0 to FAR, as many, and whatever the gaps are those of, distances of walks where
--- the others were.
+-- Distances in place of others: they are from 0 to FAR, as many, and whatever the gaps are those of, distances of
+-- walks where the others were.
 pub record AreShorter (gaps : List ReducedCost) (old new : List ℤ) : Type 0 where
   pub range : AreInRange new
   pub count : length new ≡ length old
-  pub kept : (list : Constraints) (at : Ratio) (potentials : List ℤ) (from : ℕ) → AreGaps list at potentials gaps → length old ≡ list.nodes →
+  pub kept : (list : Constraints) (at : Ratio) (potentials : List ℤ) (from : ℕ) → AreGaps list at potentials gaps →
+      length old ≡ list.nodes →
       AreDistances list at potentials from old → AreDistances list at potentials from new
 
 -- No gap makes the distance of its end less.
@@ -60,6 +67,8 @@ AreLeast gaps distances = All (λ g. value_at distances g.to ≤ℤ (value_at di
 
 -- Distances from a node that are the least, and none of them is far.
 pub record AreShortest (gaps : List ReducedCost) (from : ℕ) (distances : List ℤ) : Type 0 where
-  pub near : (node : ℕ) → node < length distances → (pos 0 ≤ℤ value_at distances node) × (value_at distances node <ℤ FAR)
+  pub near : (node : ℕ) → node < length distances → (pos 0 ≤ℤ value_at distances node)
+      × (value_at distances node <ℤ FAR)
   pub least : AreLeast gaps distances
-  pub walked : (list : Constraints) (at : Ratio) (potentials : List ℤ) → AreGaps list at potentials gaps → length distances ≡ list.nodes → AreDistances list at potentials from distances
+  pub walked : (list : Constraints) (at : Ratio) (potentials : List ℤ) → AreGaps list at potentials gaps →
+      length distances ≡ list.nodes → AreDistances list at potentials from distances

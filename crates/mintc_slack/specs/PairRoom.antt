@@ -5,8 +5,7 @@ use Rattle.mintc_graph_walks.specs.Walks.{value_at}
 use Rattle.mintc_timing.specs.declared.parts.Pair.{Pair}
 use Rattle.mintc_timing.specs.declared.link.Link.{Link}
 use Rattle.mintc_timing.specs.Design.{Design, Timing}
-use Rattle.mintc_timing.specs.Links.{links_of, element_node, output_node, reach_link, IsMet}
-use Rattle.mintc_constraints.specs.Laws.{node_count}
+use Rattle.mintc_timing.specs.Links.{links_of, element_node, output_node, reach_link, IsMet, node_count}
 use Rattle.mintc_constraints.specs.Ordinary.{Leads}
 use Rattle.mintc_ratio.specs.Chains.{links_at}
 use Rattle.mintc_ratio.specs.Greatest.{asked_by, asked_by_link}
@@ -16,8 +15,11 @@ use Rattle.mintc_ratio.specs.Greatest.{asked_by, asked_by_link}
 pub record AreFrom (t : Timing) (at : Ratio) (l : ℕ) (values : List ℤ) : Type 0 where
   pub zero : value_at values (element_node t.flat l) ≡ pos 0
   pub met : All (IsMet at.num at.den (value_at values)) (links_of t)
-  pub walked : (node : ℕ) → node < node_count t.flat → (walk : List ℕ) × Leads (links_of t) (element_node t.flat l) walk node × (asked_by at (links_at (links_of t) walk) ≡ value_at values node)
+  pub walked : (node : ℕ) → node < node_count t.flat → (walk : List ℕ)
+      × Leads (links_of t) (element_node t.flat l) walk node
+      × (asked_by at (links_at (links_of t) walk) ≡ value_at values node)
 
+-- the link of a pair
 abbrev pub reach_of : Design → Pair → Link
 reach_of design p = reach_link design p.from p.to p.max
 

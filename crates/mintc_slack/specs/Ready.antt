@@ -2,8 +2,7 @@
 use Rattle.std.specs.Prelude.{◌≡◌, length}
 use Rattle.mintc_fraction.specs.Ratio.{Ratio}
 use Rattle.mintc_timing.specs.Design.{Timing}
-use Rattle.mintc_timing.specs.Links.{links_of}
-use Rattle.mintc_constraints.specs.Laws.{node_count}
+use Rattle.mintc_timing.specs.Links.{links_of, node_count}
 use Rattle.mintc_constraints.specs.Ordinary.{Constraints, constraints_of}
 use Rattle.mintc_ratio.specs.Searched.{IsCycle}
 use Rattle.mintc_slack.specs.declared.walked.SlackWalks.{SlackWalks}

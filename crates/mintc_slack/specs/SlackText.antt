@@ -1,22 +1,20 @@
 -- Slack texts.
 use Rattle.std.specs.Prelude.{ℕ, ℤ, List, [], ◌∷◌, ◌++◌, map, codes}
 use Rattle.std.specs.List.{zip}
-use Rattle.mintc_text.specs.Lines.{words, numeral_of}
+use Rattle.mintc_text.specs.Lines.{words, numeral_of, fraction_word}
 use Rattle.mintc_fraction.specs.Ratio.{Ratio}
 use Rattle.mintc_timing.specs.declared.parts.Pair.{Pair}
 use Rattle.mintc_timing.specs.Design.{Design, Timing, element_at}
 use Rattle.mintc_slack.specs.declared.finding.Slacks.{Slacks}
 use Rattle.mintc_slack.specs.declared.finding.Slacks.TheVariants.{Least, Never}
 
--- a fraction as a word: its two numerals with a `/` between
-abbrev pub fraction_word : Ratio → List ℕ
-fraction_word f = numeral_of f.num ++ 47 ∷ numeral_of f.den
-
 -- a pair, by the names of its elements, with its slack
 abbrev pub slack_line : Design → Pair × ℤ → List ℕ
-slack_line design p = words (codes "slack" ∷ (element_at design p.0.from).name ∷ (element_at design p.0.to).name ∷ numeral_of p.1 ∷ [])
+slack_line design p = words (codes "slack" ∷ (element_at design p.0.from).name ∷ (element_at design p.0.to).name ∷
+    numeral_of p.1 ∷ [])
 
 -- the least cycle and the slack of each pair, in order; or one word
 abbrev pub slack_lines : Timing → Slacks → List (List ℕ)
-slack_lines t (Least cycle extra) = words (codes "cycle" ∷ fraction_word cycle ∷ []) ∷ map (slack_line t.flat) (zip t.pairs extra)
+slack_lines t (Least cycle extra) = words (codes "cycle" ∷ fraction_word cycle.num cycle.den ∷ []) ∷
+    map (slack_line t.flat) (zip t.pairs extra)
 slack_lines t Never = codes "never" ∷ []

@@ -4,7 +4,7 @@ use Rattle.mintc_fraction.specs.Ratio.{Ratio}
 use Rattle.mintc_graph_walks.specs.Bounds.{IsWithin}
 use Rattle.mintc_graph_walks.specs.Walks.{value_at}
 use Rattle.mintc_timing.specs.Design.{Design, Timing}
-use Rattle.mintc_constraints.specs.Laws.{node_count}
+use Rattle.mintc_timing.specs.Links.{node_count}
 use Rattle.mintc_slack.specs.PairRoom.{AreFrom}
 
 -- Numerators that are small enough to be reckoned with.

@@ -2,9 +2,8 @@
 ghost use Rattle.std.specs.Prelude.{◌≡◌, ◌<◌, ◌≤◌, ℕ, IfOk, OnOk, length};
 ghost use Rattle.std.specs.Bool.{OnFalse};
 ghost use Rattle.mintc_timing.specs.Design.{element_count};
-ghost use Rattle.mintc_timing.specs.Links.{links_of};
+ghost use Rattle.mintc_timing.specs.Links.{links_of, node_count};
 ghost use Rattle.mintc_timing.specs.Right.{IsLeastCycle};
-ghost use Rattle.mintc_constraints.specs.Laws.{node_count};
 ghost use Rattle.mintc_constraints.specs.Ordinary.{constraints_of};
 ghost use Rattle.mintc_ratio.specs.Searched.{IsCycle};
 ghost use Rattle.mintc_ratio.specs.Tested.{NoneForbids};
@@ -26,8 +25,8 @@ use mintc_timing::System;
 use std::alloc::Global;
 use std::sync::ledger::Ledger;
 
-/// The least cycle of a design, in lowest terms, with the slack of each of its pairs in their order, in femtoseconds; or
-/// that no schedule is right.
+/// The least cycle of a design, in lowest terms, with the slack of each of its pairs in their order, in
+/// femtoseconds; or that no schedule is right.
 #[derive(Drop)]
 pub enum Slacks {
     Least { cycle: Fraction, extra: Departures },
@@ -48,25 +47,10 @@ fn entries(alloc: Global, system: &System) -> Result<Vec<Entry>, OutOfMemory>
     let mut entries = Vec::new(alloc);
     for number in 0..system.pairs().len() {
         let to = system.pair(number).to;
-        let Ok(()) = entries.push(Entry { to, number }) else {
-            return Err(OutOfMemory);
-        };
+        entries.push(Entry { to, number })?;
     }
     entries.sort_unstable();
     Ok(entries)
-}
-
-/// A zero for each pair.
-fn zeros(alloc: Global, system: &System) -> Result<Vec<i64>, OutOfMemory>
-    ensures { IfOk result (λ v. length v.items ≡ length system.now.pairs) }
-{
-    let mut zeros = Vec::new(alloc);
-    for _more in 0..system.pairs().len() {
-        let Ok(()) = zeros.push(0) else {
-            return Err(OutOfMemory);
-        };
-    }
-    Ok(zeros)
 }
 
 /// Whether an entry is the first one of its element.
@@ -91,8 +75,10 @@ fn turn_to<L: Ledger>(
     requires free { NoneForbids walker.old.list.now.links walker.old.at.now }
     requires nodes { walker.old.list.now.nodes ≤ room.old.nodes }
     requires chain { length room.old.chain ≤ walker.old.list.now.nodes }
-    requires settled { (l : ℕ) → HasSettled entries.now place l → AreSettled walker.old.system.now walker.old.at.now l room.old.values }
-    ensures settled { OnOk result (AreSettled walker.old.system.now walker.old.at.now (entry_at entries.now place).to room.new.values) }
+    requires settled { (l : ℕ) → HasSettled entries.now place l →
+        AreSettled walker.old.system.now walker.old.at.now l room.old.values }
+    ensures settled { OnOk result
+        (AreSettled walker.old.system.now walker.old.at.now (entry_at entries.now place).to room.new.values) }
     ensures nodes { room.new.nodes ≡ room.old.nodes }
     ensures chain { length room.new.chain ≤ walker.old.list.now.nodes }
     ensures kept { walker.new ≡ record walker.old { distances = walker.new.distances; ahead = walker.new.ahead } }
@@ -124,7 +110,7 @@ fn extras<L: Ledger>(
     ensures { IfOk result (AreSlacks system.now cycle.now.num cycle.now.den) }
 {
     let mut walker = prepare(alloc, system, list, cycle, room, steps)?;
-    let mut extra = zeros(alloc, system)?;
+    let mut extra = vec![in alloc; 0; system.pairs().len()]?;
     let entries = entries(alloc, system)?;
     for place in 0..entries.len() {
         turn_to(&entries, place, &mut walker, room, steps)?;
@@ -134,9 +120,9 @@ fn extras<L: Ledger>(
     Ok(Departures::new(extra))
 }
 
-/// The least cycle of a system, with the slack of each pair: by how many whole femtoseconds its delay may grow with the least
-/// cycle staying as it is, while one more makes it greater or leaves no right schedule. `Never` comes exactly where no
-/// schedule is right.
+/// The least cycle of a system, with the slack of each pair: by how many whole femtoseconds its delay may grow with
+/// the least cycle staying as it is, while one more makes it greater or leaves no right schedule. `Never` comes
+/// exactly where no schedule is right.
 #[tactic(auto, using(crate::proofs::SearchLaws::few_in_chain))]
 pub fn slack<L: Ledger>(
     alloc: Global,
@@ -145,7 +131,6 @@ pub fn slack<L: Ledger>(
 ) -> Result<Slacks, OutOfMemory>
     ensures { IfOk result (IsSlackAnswer system.now) }
 {
-    let _flat = system.flat();
     let list = links(alloc, system)?;
     let mut room = Room::reserve(alloc, list.nodes() as usize, list.items().len())?;
     match search(&list, &mut room, steps) {

@@ -1,6 +1,6 @@
-//! Distances from a node over gaps, the nearest node first (E. W. Dijkstra, "A note on two problems in connexion with
-//! graphs", 1959). Nothing is proved of that order: each distance is that of some walk, and whether they are the least is
-//! tested at the end.
+//! Distances from a node over gaps, the nearest node first (E. W. Dijkstra, "A note on two problems in connexion
+//! with graphs", 1959). Nothing is proved of that order: each distance is that of some walk, and whether they are
+//! the least is tested at the end.
 ghost use Rattle.std.specs.Prelude.{◌≡◌, ◌<◌, ℕ, List, ◌≤ℤ◌, All, length};
 ghost use Rattle.std.specs.Bool.{OnTrue};
 ghost use Rattle.std.specs.List.{Contains};
@@ -20,13 +20,14 @@ pub(crate) const FAR: i64 = 100_000_000_000_000_000;
 /// The nodes that are ahead, each with its distance, the nearest first.
 pub(crate) type Ahead = BinaryHeap<(Reverse<i64>, u32), Global>;
 
-/// Makes the distance of a gap's end that of its beginning and the gap, where that is less, and less than the one of node 0;
-/// says whether it did.
+/// Makes the distance of a gap's end that of its beginning and the gap, where that is less, and less than the one
+/// of node 0; says whether it did.
 fn shorten(gap: ReducedCost, distances: &mut Vec<i64>) -> bool
     requires inside { IsInside (length distances.old.items) gap }
     requires range { AreInRange distances.old.items }
     ensures count { length distances.new.items ≡ length distances.old.items }
-    ensures shorter { (gaps : List ReducedCost) → Contains gaps gap → AreShorter gaps distances.old.items distances.new.items }
+    ensures shorter { (gaps : List ReducedCost) → Contains gaps gap →
+        AreShorter gaps distances.old.items distances.new.items }
 {
     let distance = sum(distances[gap.from as usize], gap.rest);
     if distance < distances[gap.to as usize] && distance < distances[0] {
@@ -43,9 +44,7 @@ fn pass(gap: ReducedCost, distances: &mut Vec<i64>, ahead: &mut Ahead) -> Result
     ensures { (gaps : List ReducedCost) → Contains gaps gap → AreShorter gaps distances.old.items distances.new.items }
 {
     if shorten(gap, distances) {
-        let Ok(()) = ahead.push((Reverse(distances[gap.to as usize]), gap.to)) else {
-            return Err(OutOfMemory);
-        };
+        ahead.push((Reverse(distances[gap.to as usize]), gap.to))?;
     }
     Ok(())
 }
@@ -106,7 +105,8 @@ pub(crate) fn cap_at_origin(distances: &mut Vec<i64>)
     requires some { 0 < length distances.old.items }
     requires range { AreInRange distances.old.items }
     ensures count { length distances.new.items ≡ length distances.old.items }
-    ensures home { (node : ℕ) → node < length distances.new.items → value_at distances.new.items node ≤ℤ value_at distances.new.items 0 }
+    ensures home { (node : ℕ) → node < length distances.new.items →
+        value_at distances.new.items node ≤ℤ value_at distances.new.items 0 }
     ensures shorter { (gaps : List ReducedCost) → AreShorter gaps distances.old.items distances.new.items }
 {
     let home = distances[0];

@@ -4,7 +4,7 @@ ghost use Rattle.mintc_timing.specs.Design.{element_count, pair_at};
 ghost use Rattle.mintc_timing.specs.Limits.{IsDesign, IsSpan};
 ghost use Rattle.mintc_timing.specs.Right.{IsLeastCycle};
 ghost use Rattle.mintc_timing.specs.Paths.{HasEnds};
-ghost use Rattle.mintc_constraints.specs.Laws.{node_count};
+ghost use Rattle.mintc_timing.specs.Links.{node_count};
 ghost use Rattle.mintc_ratio.specs.Searched.{IsCycle};
 ghost use Rattle.mintc_graph_walks.specs.Bounds.{IsWithin};
 ghost use Rattle.mintc_slack.specs.WalkedFrom.{AreSettled, AreSmall};

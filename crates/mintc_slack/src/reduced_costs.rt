@@ -29,7 +29,8 @@ fn weigh(link: &Link, at: &Fraction, potentials: &[i128]) -> ReducedCost
     requires delay { IsWithin 4000000000 link.now.delay }
     requires cycles { link.now.cycles ≤ 1 }
     requires cycle { IsCycle at.now }
-    requires small { (node : ℕ) → node < length potentials.now → IsWithin 30000000000000000 (value_at potentials.now node) }
+    requires small { (node : ℕ) → node < length potentials.now →
+        IsWithin 30000000000000000 (value_at potentials.now node) }
     ensures { result ≡ gap_of at.now potentials.now link.now }
 {
     let (from, to) = (potentials[link.from as usize], potentials[link.to as usize]);
@@ -52,10 +53,8 @@ pub(crate) fn gaps(
     ensures { IfOk result (λ gaps. AreGaps list.now at.now potentials.now gaps.items) }
 {
     let mut gaps = Vec::new(alloc);
-    for number in 0..list.items().len() {
-        let Ok(()) = gaps.push(weigh(&list.items()[number], at, potentials)) else {
-            return Err(OutOfMemory);
-        };
+    for link in list.items() {
+        gaps.push(weigh(link, at, potentials))?;
     }
     gaps.sort_unstable();
     Ok(gaps)
@@ -67,12 +66,7 @@ pub(crate) fn firsts(
     gaps: &[ReducedCost],
     nodes: u32,
 ) -> Result<Vec<usize>, OutOfMemory> {
-    let mut firsts = Vec::new(alloc);
-    for _node in 0..nodes {
-        let Ok(()) = firsts.push(0) else {
-            return Err(OutOfMemory);
-        };
-    }
+    let mut firsts = vec![in alloc; 0; nodes as usize]?;
     for place in (0..gaps.len()).rev() {
         if let Some(first) = firsts.get_mut(gaps[place].from as usize) {
             *first = place;

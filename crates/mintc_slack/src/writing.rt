@@ -21,7 +21,8 @@ fn put_word(lines: &mut Lines, word: &[u8]) -> Result<(), OutOfMemory>
 
 /// Writes the slack between two elements of these names.
 fn put_slack(lines: &mut Lines, from: &[u8], to: &[u8], extra: i64) -> Result<(), OutOfMemory>
-    ensures { OnOk result (lines.new ≡ lines.old ++ ended (words (codes "slack" ∷ from.now ∷ to.now ∷ numeral_of extra ∷ []))) }
+    ensures { OnOk result (lines.new ≡ lines.old
+        ++ ended (words (codes "slack" ∷ from.now ∷ to.now ∷ numeral_of extra ∷ []))) }
 {
     lines.put(b"slack")?;
     put_word(lines, from)?;
@@ -39,7 +40,8 @@ fn put_pair(
     extra: i64,
 ) -> Result<(), OutOfMemory>
     requires { number < length system.now.pairs }
-    ensures { OnOk result (lines.new ≡ lines.old ++ ended (slack_line system.now.flat (pair_at system.now number, extra))) }
+    ensures { OnOk result (lines.new ≡ lines.old
+        ++ ended (slack_line system.now.flat (pair_at system.now number, extra))) }
 {
     let pair = system.pair(number);
     let from = system.element(pair.from);
@@ -51,7 +53,8 @@ fn put_pair(
 #[tactic(auto, using(crate::proofs::TextLaws::slacks_more, crate::proofs::TextLaws::slacks_all))]
 fn put_pairs(lines: &mut Lines, system: &System, extra: &[i64]) -> Result<(), OutOfMemory>
     requires { length extra.now ≡ length system.now.pairs }
-    ensures { OnOk result (lines.new ≡ lines.old ++ text_of (map (slack_line system.now.flat) (zip system.now.pairs extra.now))) }
+    ensures { OnOk result (lines.new ≡ lines.old
+        ++ text_of (map (slack_line system.now.flat) (zip system.now.pairs extra.now))) }
 {
     for number in 0..extra.len() {
         put_pair(lines, system, number, extra[number])?;

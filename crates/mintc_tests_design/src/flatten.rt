@@ -1,4 +1,5 @@
-//! `flatten` of mintc_flatten: the hierarchy of the worked netlist, the bits that are joined, and netlists that are refused.
+//! `flatten` of mintc_flatten: the hierarchy of the worked netlist, the bits that are joined, and netlists that are
+//! refused.
 ghost use Rattle.mintc_netlist.specs.Ordinary.{IsOrdinary};
 
 use mintc_cells::read_cells;
@@ -94,12 +95,13 @@ fn is_joined(rt: &impl Abort, alloc: Global, netlist: &str, wanted: &[(u32, u32)
 /// The two bits of an instance with two latches are connected to this.
 fn connected(alloc: Global, expr: &str) -> Result<String, AllocError> {
     format!(in alloc;
-        "module t(c, x); input c; input [0:1] x; pair p (.c(c), .i({expr})); endmodule module pair(c, i); input c; input [1:0] i; LAT a (.D(i[1]), .G(c)); LAT b (.D(i[0]), .G(c)); endmodule"
+        "module t(c, x); input c; input [0:1] x; pair p (.c(c), .i({expr})); endmodule module pair(c, i); input c; \
+         input [1:0] i; LAT a (.D(i[1]), .G(c)); LAT b (.D(i[0]), .G(c)); endmodule"
     )
 }
 
-/// What the bits are connected to, and the joins. The inner bits are c, x[1] and x[0] of t, c, i[0] and i[1] of the instance, and the
-/// pins D, G and Q of each latch.
+/// What the bits are connected to, and the joins. The inner bits are c, x[1] and x[0] of t, c, i[0] and i[1] of the
+/// instance, and the pins D, G and Q of each latch.
 const CONNECTED: &[(&str, &[(u32, u32)])] = &[
     (
         "x",
@@ -168,12 +170,13 @@ fn refusals_3_to_9_name_their_statements(rt: HostRuntime) {
     }
 }
 
-// Two vectors with an inverter in a module, and an instance of it. The inner bits are p[0], p[1], q[1] and q[0] of t, a[0], a[1], y[0]
-// and y[1] of m, and the inverter's pins.
+// Two vectors with an inverter in a module, and an instance of it. The inner bits are p[0], p[1], q[1] and q[0] of
+// t, a[0], a[1], y[0] and y[1] of m, and the inverter's pins.
 #[test]
 fn vectors_are_joined_from_the_top_down(rt: HostRuntime) {
     let netlist =
-        "module m(a, y); input [1:0] a; output [1:0] y; BUF u (.A(a[0]), .Y(y[1])); endmodule module t(p); input [1:0] p; wire [0:1] q; m i (.y(q), .a({1'b0, p[1]})); endmodule";
+        "module m(a, y); input [1:0] a; output [1:0] y; BUF u (.A(a[0]), .Y(y[1])); endmodule module t(p); \
+         input [1:0] p; wire [0:1] q; m i (.y(q), .a({1'b0, p[1]})); endmodule";
     let joins = [(1, 4), (6, 2), (7, 3), (4, 8), (9, 7)];
     assert!(rt; is_joined(&rt, rt.alloc(), netlist, &joins));
 }

@@ -1,6 +1,6 @@
-//! The worked designs that tests of several crates share, as texts: tables with a schedule and a certificate, and the files of a
-//! netlist; and shelves in memory that hold such texts. Times are in femtoseconds, but for the delays of the netlist, which its text
-//! gives in picoseconds.
+//! The worked designs that tests of several crates share, as texts: tables with a schedule and a certificate, and
+//! the files of a netlist; and shelves in memory that hold such texts. Times are in femtoseconds, but for the
+//! delays of the netlist, which its text gives in picoseconds.
 #![tactic(auto)]
 
 mod files;

@@ -1,5 +1,5 @@
-//! Cell descriptions of mintc_cells: the values of cells with all keys and with none but those that they need, and each rule of
-//! refusal 13 at its limit and one past it.
+//! Cell descriptions of mintc_cells: the values of cells with all keys and with none but those that they need, and
+//! each rule of refusal 13 at its limit and one past it.
 
 mod cases;
 

@@ -1,4 +1,5 @@
-//! Clock descriptions of mintc_clock: the value of one that has every key, and each rule of refusal 14 at its limit and one past it.
+//! Clock descriptions of mintc_clock: the value of one that has every key, and each rule of refusal 14 at its limit
+//! and one past it.
 
 use super::cell_texts::shown;
 use mintc_clock::{Clock, Listed, PhaseDef, read_clock};
@@ -11,8 +12,10 @@ use std::test::Fail;
 
 /// A clock with every key.
 const FULL: &str =
-    "top = \"chip\"\nphase = [{ name = \"p\", port = \"c[0]\", level = \"high\" }, { name = \"q\", port = \"c[0]\", level = \"low\" }]\n\
-[[bound]]\nfrom = \"start p\"\nto = \"end q\"\ngap = -5\ncycles = 1\n[[bound]]\nfrom = \"origin\"\nto = \"start q\"\ngap = 0x10\ncycles = 0\n\
+    "top = \"chip\"\nphase = [{ name = \"p\", port = \"c[0]\", level = \"high\" }, { name = \"q\", port = \"c[0]\", \
+     level = \"low\" }]\n\
+[[bound]]\nfrom = \"start p\"\nto = \"end q\"\ngap = -5\ncycles = 1\n[[bound]]\nfrom = \"origin\"\n\
+to = \"start q\"\ngap = 0x10\ncycles = 0\n\
 [[input]]\nport = \"x\"\nphase = \"q\"\nmin = 3\nmax = 4\n[[input]]\nport = \"x\"\nphase = \"p\"\nmin = 7\n\
 [[output]]\nport = \"y\"\nphase = \"p\"\nsetup = -1\nhold = 0\n[[output]]\nport = \"z\"\nphase = \"q\"\n";
 
@@ -79,7 +82,8 @@ const PHASES: &[(&str, Option<(u32, u32)>)] = &[
         None,
     ),
     (
-        "phase = [{ name = \"p\", port = \"c\" }, { name = \"q\", port = \"d\", level = \"low\" }, { name = \"r\", port = \"d\", level = \"low\" }]\n",
+        "phase = [{ name = \"p\", port = \"c\" }, { name = \"q\", port = \"d\", level = \"low\" }, { name = \"r\", \
+         port = \"d\", level = \"low\" }]\n",
         Some((3, 4)),
     ),
 ];

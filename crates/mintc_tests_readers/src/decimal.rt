@@ -2,8 +2,8 @@
 use mintc_decimal::Decimal;
 use std::process::Abort;
 
-/// A NUMBER, a scale, and their product rounded up and down, as worked out with exact fractions outside: None where it is more
-/// than 10^9 in absolute value.
+/// A NUMBER, a scale, and their product rounded up and down, as worked out with exact fractions outside: None where
+/// it is more than 10^9 in absolute value.
 type Row = (&'static str, u64, Option<i64>, Option<i64>);
 
 const ROUNDED: &[Row] = &[

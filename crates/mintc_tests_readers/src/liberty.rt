@@ -1,5 +1,5 @@
-//! Liberty texts of mintc_liberty: the cells that they say, those that are passed over, the statement at fault (refusal 1), and that
-//! long and deep texts take little of the stack.
+//! Liberty texts of mintc_liberty: the cells that they say, those that are passed over, the statement at fault
+//! (refusal 1), and that long and deep texts take little of the stack.
 mod cases;
 mod presorting;
 
@@ -170,7 +170,8 @@ fn enclosed(
 ) -> Result<String, AllocError> {
     let head = repeated(
         alloc,
-        b"library (t) { cell (C) { pin (AB) { direction : input ; clock : true ; } pin (Y) { direction : output ; function : \"",
+        b"library (t) { cell (C) { pin (AB) { direction : input ; clock : true ; } pin (Y) { direction : output ; \
+         function : \"",
         b"(",
         opening,
         inside.as_bytes(),

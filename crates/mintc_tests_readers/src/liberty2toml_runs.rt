@@ -1,5 +1,5 @@
-//! `liberty2toml_command`: worked runs over a shelf and a sink in memory, and cells that come back from their TOML form. No clause says
-//! that memory is there: each run here has enough of it.
+//! `liberty2toml_command`: worked runs over a shelf and a sink in memory, and cells that come back from their TOML
+//! form. No clause says that memory is there: each run here has enough of it.
 use super::cell_texts::{cells_text, numbers_text};
 use liberty2toml_command::{Status, convert, toml_form};
 use mintc_cells::{Cell, Cells, read_cells};
@@ -12,7 +12,8 @@ use std::test::Fail;
 /// What the worked library is converted to.
 const TWO_FORM: &str =
     "[cell.BUF]\ninputs = [\"A\"]\nkind = \"gate\"\nmax = 0\nmin = 0\noutputs = [\"Y\"]\n\n\
-[cell.LAT]\nactive = \"high\"\nd = \"D\"\ndq_max = 0\ndq_min = 0\ng = \"G\"\nignored = []\nkind = \"latch\"\noutputs = [\"Q\"]\nsetup = 0\nwidth = 0\n";
+[cell.LAT]\nactive = \"high\"\nd = \"D\"\ndq_max = 0\ndq_min = 0\ng = \"G\"\nignored = []\nkind = \"latch\"\n\
+    outputs = [\"Q\"]\nsetup = 0\nwidth = 0\n";
 
 const FILES: &[(&str, &str)] = &[
     ("two.lib", TWO_LIBRARY),
@@ -20,7 +21,8 @@ const FILES: &[(&str, &str)] = &[
     ("none.lib", ""),
 ];
 
-/// A run's words, the calls of the shelf that fail, the write after so many bytes that fails, its status, and what the sink took.
+/// A run's words, the calls of the shelf that fail, the write after so many bytes that fails, its status, and what
+/// the sink took.
 type Run = (
     &'static str,
     &'static [u32],
@@ -152,7 +154,8 @@ fn comes_back(rt: &impl Abort, alloc: Global, text: &[u8]) -> Result<(), Fail> {
 
 /// Cells with all keys, cells with few, and names that a key has to quote.
 const DESCRIPTION: &str =
-    "[cell.DLL]\nkind = \"latch\"\nd = \"D\"\ng = \"GN\"\noutputs = [\"Q\", \"QN\"]\nactive = \"low\"\nignored = [\"SE\"]\nsetup = 30_000\nhold = -5_000\n\
+    "[cell.DLL]\nkind = \"latch\"\nd = \"D\"\ng = \"GN\"\noutputs = [\"Q\", \"QN\"]\nactive = \"low\"\n\
+     ignored = [\"SE\"]\nsetup = 30_000\nhold = -5_000\n\
 dq_min = 40_000\ndq_max = 60_000\ncq_min = 50_000\ncq_max = 70_000\nwidth = 100_000\n\
 [cell.LAT]\nkind = \"latch\"\nd = \"D\"\ng = \"G\"\noutputs = [\"Q\"]\ndq_min = 10\n\
 [cell.\"a.b\"]\nkind = \"gate\"\ninputs = [\"A\", \"\\\"\"]\noutputs = [\"Y\"]\nmin = 3\nmax = 4\n\

@@ -1,4 +1,5 @@
-//! Delays of mintc_sdf: worked texts with what they say, and texts that are refused by number 1 (syntax), 12 (negative) or 18 (range).
+//! Delays of mintc_sdf: worked texts with what they say, and texts that are refused by number 1 (syntax), 12
+//! (negative) or 18 (range).
 
 use mintc_sdf::{Delay, Place, Subject, read_delays};
 use mintc_tests_designs::TWO_DELAYS;
@@ -157,23 +158,28 @@ fn whole_files_are_read_or_refused(rt: HostRuntime) -> Result<(), Fail> {
             "4 BUF at u1 s b from A to Y 20 20 | 5 BUF at u2 s b from A to Y 50 60",
         ),
         (
-            "(DELAYFILE (TIMESCALE 1 ns)\n(CELL (CELLTYPE \"BUF\") (INSTANCE b) (DELAY (ABSOLUTE (IOPATH A Y (0.0123456::0.0123457))))))\n",
+            "(DELAYFILE (TIMESCALE 1 ns)\n(CELL (CELLTYPE \"BUF\") (INSTANCE b) (DELAY (ABSOLUTE (IOPATH A Y \
+             (0.0123456::0.0123457))))))\n",
             "2 BUF at b from A to Y 12345 12346",
         ),
         (
-            "(DELAYFILE (TIMESCALE 1 ns)\n(CELL (CELLTYPE \"LAT\") (INSTANCE l) (TIMINGCHECK (HOLD D G (-0.000003)))))\n",
+            "(DELAYFILE (TIMESCALE 1 ns)\n(CELL (CELLTYPE \"LAT\") (INSTANCE l) (TIMINGCHECK (HOLD D G \
+             (-0.000003)))))\n",
             "2 LAT at l hold D -3 -3",
         ),
         (
-            "(DELAYFILE (SDFVERSION \"3.0\") (DIVIDER /) (TIMESCALE 1 ns)\n(CELL (CELLTYPE \"BUF\") (INSTANCE b) (DELAY (ABSOLUTE (IOPATH A Y (-0.1))))))\n",
+            "(DELAYFILE (SDFVERSION \"3.0\") (DIVIDER /) (TIMESCALE 1 ns)\n\
+             (CELL (CELLTYPE \"BUF\") (INSTANCE b) (DELAY (ABSOLUTE (IOPATH A Y (-0.1))))))\n",
             "negative 4",
         ),
         (
-            "(DELAYFILE (DIVIDER /) (TIMESCALE 1 fs)\n(CELL (CELLTYPE \"BUF\") (INSTANCE u1/s/b) (DELAY (ABSOLUTE (IOPATH A Y (5)))))\n(CELL (CELLTYPE \"BUF\") (INSTANCE u1/s/b) (DELAY (ABSOLUTE (IOPATH A Y (3))))))\n",
+            "(DELAYFILE (DIVIDER /) (TIMESCALE 1 fs)\n(CELL (CELLTYPE \"BUF\") (INSTANCE u1/s/b) (DELAY (ABSOLUTE \
+             (IOPATH A Y (5)))))\n(CELL (CELLTYPE \"BUF\") (INSTANCE u1/s/b) (DELAY (ABSOLUTE (IOPATH A Y (3))))))\n",
             "3 BUF at u1 s b from A to Y 5 5 | 4 BUF at u1 s b from A to Y 3 3",
         ),
         (
-            "(DELAYFILE (TIMESCALE 1 us)(CELL (CELLTYPE \"BUF\") (INSTANCE b) (DELAY (ABSOLUTE (IOPATH A Y (1.0000000000000001))))))",
+            "(DELAYFILE (TIMESCALE 1 us)(CELL (CELLTYPE \"BUF\") (INSTANCE b) (DELAY (ABSOLUTE (IOPATH A Y \
+             (1.0000000000000001))))))",
             "range 2",
         ),
         (
@@ -186,11 +192,13 @@ fn whole_files_are_read_or_refused(rt: HostRuntime) -> Result<(), Fail> {
             "1 C top port p 1000000 1000000",
         ),
         (
-            "(DELAYFILE (DIVIDER .) (TIMESCALE 100us) (TIMESCALE 10.0 ps) (DIVIDER /) (CELL (CELLTYPE \"C\") (INSTANCE *) (DELAY (ABSOLUTE (PORT p (1))))))",
+            "(DELAYFILE (DIVIDER .) (TIMESCALE 100us) (TIMESCALE 10.0 ps) (DIVIDER /) (CELL (CELLTYPE \"C\") \
+             (INSTANCE *) (DELAY (ABSOLUTE (PORT p (1))))))",
             "5 C every port p 10000 10000",
         ),
         (
-            "(DELAYFILE // (DATE\n/* ( \" */ (DATE \")\\\"\" (a (b)) c) (CELL (CELLTYPE \"a\\\"b\") (INSTANCE a/*) /**/ ) )",
+            "(DELAYFILE // (DATE\n/* ( \" */ (DATE \")\\\"\" (a (b)) c) (CELL (CELLTYPE \"a\\\"b\") (INSTANCE a/*) \
+             /**/ ) )",
             "",
         ),
         ("", "syntax 0"),
@@ -403,7 +411,8 @@ fn timing_checks_are_read_or_refused(rt: HostRuntime) -> Result<(), Fail> {
             "2 C at i setup d -2 -1 | 2 C at i hold d 2 3",
         ),
         (
-            "(TIMINGCHECK (SETUPHOLD d g () ()) (RECREM x) (SKEW) (NOCHANGE (\")\")) (PERIOD) (RECOVERY) (REMOVAL) (BIDIRECTSKEW))",
+            "(TIMINGCHECK (SETUPHOLD d g () ()) (RECREM x) (SKEW) (NOCHANGE (\")\")) (PERIOD) (RECOVERY) (REMOVAL) \
+             (BIDIRECTSKEW))",
             "",
         ),
         ("(TIMINGCHECK (SETUPHOLD d g (-1000000001) (0)))", "range 2"),

@@ -1,5 +1,5 @@
-//! Tables and schedules of mintc_timing_text: their values, the line at fault (refusal 1), and the limits that are counted while a
-//! table is read (refusal 17).
+//! Tables and schedules of mintc_timing_text: their values, the line at fault (refusal 1), and the limits that are
+//! counted while a table is read (refusal 17).
 
 use mintc_tests_designs::{TWO_ENABLED, TWO_FLOPS, TWO_LATCHES, TWO_SCHEDULE};
 use mintc_text::{Kind, Refusal, Role, Stop};

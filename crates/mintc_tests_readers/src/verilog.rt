@@ -173,7 +173,8 @@ fn is_pin(connection: &Connection, name: &[u8], connected: bool) -> bool {
     }
 }
 
-/// Whether an item is the latch `a;` of the third statement, whose second pin has an expression and whose third has none.
+/// Whether an item is the latch `a;` of the third statement, whose second pin has an expression and whose third has
+/// none.
 fn is_latch(item: &Item) -> bool {
     match item {
         Item::Instance {

@@ -1,5 +1,5 @@
-//! Reads and writes that fail, and files that are missing: the status and what is written, the order of the reads, and the same call
-//! made again.
+//! Reads and writes that fail, and files that are missing: the status and what is written, the order of the reads,
+//! and the same call made again.
 use super::files::files;
 use super::harness::{is_answered, run_on, run_over, succeeds};
 use super::rows::CHECK;
@@ -224,7 +224,8 @@ fn the_same_call_after_a_failed_read_has_its_answer(rt: HostRuntime) -> Result<(
     Ok(())
 }
 
-/// A run whose write fails after three bytes, and the same run over the same shelf and sink: both statuses, and what the sink took.
+/// A run whose write fails after three bytes, and the same run over the same shelf and sink: both statuses, and
+/// what the sink took.
 fn run_twice(
     alloc: Global,
     shelf: &mut MemoryShelf,

@@ -7,19 +7,23 @@ use mintc_tests_designs::{
 
 /// A netlist of two flops in a ring, each of another phase.
 const PAIR_V: &str =
-    "module m(c1, c2); input c1, c2; wire p, q, r, s; FF a (.D(s), .C(c1), .Q(p)); BUF x (.A(p), .Y(q)); FF b (.D(q), .C(c2), .Q(r)); BUF y (.A(r), .Y(s)); endmodule\n";
+    "module m(c1, c2); input c1, c2; wire p, q, r, s; FF a (.D(s), .C(c1), .Q(p)); BUF x (.A(p), .Y(q)); \
+     FF b (.D(q), .C(c2), .Q(r)); BUF y (.A(r), .Y(s)); endmodule\n";
 
 pub(crate) const PAIR_CELLS: &str =
-    "[cell.FF]\nkind = \"flop\"\nd = \"D\"\nclock = \"C\"\noutputs = [\"Q\"]\n[cell.BUF]\nkind = \"gate\"\ninputs = [\"A\"]\noutputs = [\"Y\"]\n";
+    "[cell.FF]\nkind = \"flop\"\nd = \"D\"\nclock = \"C\"\noutputs = [\"Q\"]\n[cell.BUF]\nkind = \"gate\"\n\
+     inputs = [\"A\"]\noutputs = [\"Y\"]\n";
 
 pub(crate) const PAIR_CLOCK: &str =
     "[[phase]]\nname = \"p1\"\nport = \"c1\"\n[[phase]]\nname = \"p2\"\nport = \"c2\"\n";
 
 const FIRST_SDF: &str =
-    "(DELAYFILE (TIMESCALE 1 fs)\n(CELL (CELLTYPE \"BUF\") (INSTANCE x) (DELAY (ABSOLUTE (IOPATH A Y (60)))))\n(CELL (CELLTYPE \"BUF\") (INSTANCE y) (DELAY (ABSOLUTE (IOPATH A Y (40))))))\n";
+    "(DELAYFILE (TIMESCALE 1 fs)\n(CELL (CELLTYPE \"BUF\") (INSTANCE x) (DELAY (ABSOLUTE (IOPATH A Y (60)))))\n\
+     (CELL (CELLTYPE \"BUF\") (INSTANCE y) (DELAY (ABSOLUTE (IOPATH A Y (40))))))\n";
 
 const SECOND_SDF: &str =
-    "(DELAYFILE (TIMESCALE 1 fs)\n(CELL (CELLTYPE \"BUF\") (INSTANCE x) (DELAY (ABSOLUTE (IOPATH A Y (30)))))\n(CELL (CELLTYPE \"BUF\") (INSTANCE y) (DELAY (ABSOLUTE (IOPATH A Y (70))))))\n";
+    "(DELAYFILE (TIMESCALE 1 fs)\n(CELL (CELLTYPE \"BUF\") (INSTANCE x) (DELAY (ABSOLUTE (IOPATH A Y (30)))))\n\
+     (CELL (CELLTYPE \"BUF\") (INSTANCE y) (DELAY (ABSOLUTE (IOPATH A Y (70))))))\n";
 
 /// The files of the rows, each a name and its bytes.
 const FILES: &[(&str, &str)] = &[
@@ -35,7 +39,8 @@ const FILES: &[(&str, &str)] = &[
     ),
     (
         "hold.table",
-        "table 1\nphases 1\nphase p\nelements 1\nelement a 1 0 5 0 0 0\ninner 0\narcs 1\narc q0 d0 20 20\nbounds 0\nend\n",
+        "table 1\nphases 1\nphase p\nelements 1\nelement a 1 0 5 0 0 0\ninner 0\narcs 1\narc q0 d0 20 20\n\
+         bounds 0\nend\n",
     ),
     (
         "one.schedule",
@@ -43,11 +48,14 @@ const FILES: &[(&str, &str)] = &[
     ),
     (
         "early.table",
-        "table 1\nphases 1\nphase p\nelements 3\nelement a 1 0 - 0 0 0\nelement b 1 0 - 0 0 0\nelement c 1 0 8 0 0 0\ninner 0\narcs 2\narc q0 d1 120 120\narc q1 d2 40 40\nbounds 0\nend\n",
+        "table 1\nphases 1\nphase p\nelements 3\nelement a 1 0 - 0 0 0\nelement b 1 0 - 0 0 0\n\
+         element c 1 0 8 0 0 0\ninner 0\narcs 2\narc q0 d1 120 120\narc q1 d2 40 40\nbounds 0\nend\n",
     ),
     (
         "bound.table",
-        "table 1\nphases 2\nphase phi1\nphase phi2\nelements 2\nelement a 1 10 - 10 10 0\nelement b 2 10 - 10 10 0\ninner 0\narcs 2\narc q0 d1 20 20\narc q1 d0 60 60\nbounds 1\nbound o o 101 1\nend\n",
+        "table 1\nphases 2\nphase phi1\nphase phi2\nelements 2\nelement a 1 10 - 10 10 0\n\
+         element b 2 10 - 10 10 0\ninner 0\narcs 2\narc q0 d1 20 20\narc q1 d0 60 60\nbounds 1\nbound o o 101 1\n\
+         end\n",
     ),
     ("inner.table", TWO_THROUGH_INNER),
     ("flops.table", TWO_FLOPS),
@@ -57,7 +65,8 @@ const FILES: &[(&str, &str)] = &[
     ),
     (
         "race.table",
-        "table 2\nphases 1\nphase p\nelements 2\nelement a 1 flop 0 - 2 2 0\nelement b 1 flop 0 10 2 2 0\ninner 0\narcs 1\narc q0 d1 3 3\nbounds 0\nend\n",
+        "table 2\nphases 1\nphase p\nelements 2\nelement a 1 flop 0 - 2 2 0\nelement b 1 flop 0 10 2 2 0\ninner 0\n\
+         arcs 1\narc q0 d1 3 3\nbounds 0\nend\n",
     ),
     (
         "race.schedule",
@@ -78,7 +87,8 @@ const FILES: &[(&str, &str)] = &[
     ("empty.schedule", ""),
     (
         "half.table",
-        "table 1\nphases 1\nphase p\nelements 2\nelement a 1 0 - 0 0 0\nelement b 1 0 - 0 0 0\ninner 0\narcs 2\narc q0 d1 31 31\narc q1 d0 20 20\nbounds 0\nend\n",
+        "table 1\nphases 1\nphase p\nelements 2\nelement a 1 0 - 0 0 0\nelement b 1 0 - 0 0 0\ninner 0\narcs 2\n\
+         arc q0 d1 31 31\narc q1 d0 20 20\nbounds 0\nend\n",
     ),
     (
         "empty.table",
@@ -86,16 +96,19 @@ const FILES: &[(&str, &str)] = &[
     ),
     (
         "never.table",
-        "table 1\nphases 1\nphase p\nelements 1\nelement a 1 10 - 0 0 0\ninner 0\narcs 0\nbounds 1\nbound e1 s1 -5 0\nend\n",
+        "table 1\nphases 1\nphase p\nelements 1\nelement a 1 10 - 0 0 0\ninner 0\narcs 0\nbounds 1\n\
+         bound e1 s1 -5 0\nend\n",
     ),
     (
         "tight.table",
-        "table 1\nphases 2\nphase phi1\nphase phi2\nelements 2\nelement a 1 10 - 10 10 0\nelement b 2 70 - 10 10 0\ninner 0\narcs 2\narc q0 d1 20 20\narc q1 d0 60 60\nbounds 0\nend\n",
+        "table 1\nphases 2\nphase phi1\nphase phi2\nelements 2\nelement a 1 10 - 10 10 0\n\
+         element b 2 70 - 10 10 0\ninner 0\narcs 2\narc q0 d1 20 20\narc q1 d0 60 60\nbounds 0\nend\n",
     ),
     ("CERT1", TWO_CERTIFICATE),
     (
         "paths.table",
-        "table 1\nphases 1\nphase p\nelements 2\nelement a 1 0 - 0 0 0\nelement b 1 0 - 0 0 0\ninner 1\narcs 3\narc q0 d1 20 20\narc q0 n0 1 1\narc n0 d1 2 2\nbounds 0\nend\n",
+        "table 1\nphases 1\nphase p\nelements 2\nelement a 1 0 - 0 0 0\nelement b 1 0 - 0 0 0\ninner 1\narcs 3\n\
+         arc q0 d1 20 20\narc q0 n0 1 1\narc n0 d1 2 2\nbounds 0\nend\n",
     ),
     ("two.v", TWO_NETLIST),
     ("two.sdf", TWO_DELAYS),
@@ -103,12 +116,16 @@ const FILES: &[(&str, &str)] = &[
     ("two.clock", TWO_CLOCK),
     (
         "two.certificate",
-        "certificate 2\nleast\nden 1\ncycle 100\nphases 2\nphase 0 10\nphase 10 30\ndepartures 2\ndeparture 0\ndeparture 20\nchain 2\nreach 0 1 11 22 6 7 9 23 10 8 3 12 14 24\nreach 1 0 11 25 16 17 19 26 20 18 13 2 4 21\nend\n",
+        "certificate 2\nleast\nden 1\ncycle 100\nphases 2\nphase 0 10\nphase 10 30\ndepartures 2\ndeparture 0\n\
+         departure 20\nchain 2\nreach 0 1 11 22 6 7 9 23 10 8 3 12 14 24\n\
+         reach 1 0 11 25 16 17 19 26 20 18 13 2 4 21\nend\n",
     ),
     ("two.lib", TWO_LIBRARY),
     (
         "library.certificate",
-        "certificate 2\nleast\nden 1\ncycle 80\nphases 2\nphase 0 0\nphase 0 20\ndepartures 2\ndeparture 0\ndeparture 20\nchain 2\nreach 0 1 11 22 6 7 9 23 10 8 3 12 14 24\nreach 1 0 11 25 16 17 19 26 20 18 13 2 4 21\nend\n",
+        "certificate 2\nleast\nden 1\ncycle 80\nphases 2\nphase 0 0\nphase 0 20\ndepartures 2\ndeparture 0\n\
+         departure 20\nchain 2\nreach 0 1 11 22 6 7 9 23 10 8 3 12 14 24\n\
+         reach 1 0 11 25 16 17 19 26 20 18 13 2 4 21\nend\n",
     ),
     ("pair.v", PAIR_V),
     ("pair.cells", PAIR_CELLS),
@@ -180,14 +197,15 @@ pub(crate) const SAFE_AND_SLACK_FILES: &[(&str, &str)] = &[
     ("own.table", OWN_LOOP),
     (
         "half-own.table",
-        "table 1\nphases 1\nphase p\nelements 2\nelement a 1 0 - 0 0 0\nelement b 1 0 - 0 0 0\ninner 0\narcs 3\narc q0 d1 31 31\narc q1 d0 20 20\narc q1 d1 20 20\nbounds 0\nend\n",
+        "table 1\nphases 1\nphase p\nelements 2\nelement a 1 0 - 0 0 0\nelement b 1 0 - 0 0 0\ninner 0\narcs 3\n\
+         arc q0 d1 31 31\narc q1 d0 20 20\narc q1 d1 20 20\nbounds 0\nend\n",
     ),
     ("half-hold.table", HELD),
     ("half-never.table", HELD_TOO_LONG),
 ];
 
-/// The files of the rows on libraries: the worked one with a definition, with a cell that can't be used, and one that isn't
-/// closed.
+/// The files of the rows on libraries: the worked one with a definition, with a cell that can't be used, and one
+/// that isn't closed.
 pub(crate) const LIBRARIES: &[(&str, &str)] = &[
     ("two.v", TWO_NETLIST),
     ("two.sdf", TWO_DELAYS),
@@ -197,8 +215,9 @@ pub(crate) const LIBRARIES: &[(&str, &str)] = &[
     ("open.lib", "library (t) { cell (A) {"),
 ];
 
-/// The files of the rows on corners, beside those that all rows have: delays under which x and y are faster, or x slower; a text
-/// that is cut off; delays of an instance that isn't there; and a clock whose second phase begins too late for any cycle.
+/// The files of the rows on corners, beside those that all rows have: delays under which x and y are faster, or x
+/// slower; a text that is cut off; delays of an instance that isn't there; and a clock whose second phase begins
+/// too late for any cycle.
 pub(crate) const CORNER_FILES: &[(&str, &str)] = &[
     ("pair.v", PAIR_V),
     ("pair.cells", PAIR_CELLS),
@@ -207,11 +226,13 @@ pub(crate) const CORNER_FILES: &[(&str, &str)] = &[
     ("second.sdf", SECOND_SDF),
     (
         "fast.sdf",
-        "(DELAYFILE (TIMESCALE 1 fs)\n(CELL (CELLTYPE \"BUF\") (INSTANCE x) (DELAY (ABSOLUTE (IOPATH A Y (10)))))\n(CELL (CELLTYPE \"BUF\") (INSTANCE y) (DELAY (ABSOLUTE (IOPATH A Y (10))))))\n",
+        "(DELAYFILE (TIMESCALE 1 fs)\n(CELL (CELLTYPE \"BUF\") (INSTANCE x) (DELAY (ABSOLUTE (IOPATH A Y (10)))))\n\
+         (CELL (CELLTYPE \"BUF\") (INSTANCE y) (DELAY (ABSOLUTE (IOPATH A Y (10))))))\n",
     ),
     (
         "slow.sdf",
-        "(DELAYFILE (TIMESCALE 1 fs)\n(CELL (CELLTYPE \"BUF\") (INSTANCE x) (DELAY (ABSOLUTE (IOPATH A Y (80)))))\n(CELL (CELLTYPE \"BUF\") (INSTANCE y) (DELAY (ABSOLUTE (IOPATH A Y (10))))))\n",
+        "(DELAYFILE (TIMESCALE 1 fs)\n(CELL (CELLTYPE \"BUF\") (INSTANCE x) (DELAY (ABSOLUTE (IOPATH A Y (80)))))\n\
+         (CELL (CELLTYPE \"BUF\") (INSTANCE y) (DELAY (ABSOLUTE (IOPATH A Y (10))))))\n",
     ),
     ("cut.sdf", "(DELAYFILE"),
     (
@@ -220,6 +241,7 @@ pub(crate) const CORNER_FILES: &[(&str, &str)] = &[
     ),
     (
         "never.clock",
-        "[[phase]]\nname = \"p1\"\nport = \"c1\"\n[[phase]]\nname = \"p2\"\nport = \"c2\"\n[[bound]]\nfrom = \"start p2\"\nto = \"start p1\"\ngap = 1\ncycles = 0\n",
+        "[[phase]]\nname = \"p1\"\nport = \"c1\"\n[[phase]]\nname = \"p2\"\nport = \"c2\"\n[[bound]]\n\
+         from = \"start p2\"\nto = \"start p1\"\ngap = 1\ncycles = 0\n",
     ),
 ];

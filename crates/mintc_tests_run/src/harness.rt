@@ -30,7 +30,8 @@ pub(crate) fn bytes_shelf(
     Ok(sound_shelf(alloc, held))
 }
 
-/// A run with these words over this shelf, and a sink whose first write may be made to fail: its status and what the sink took.
+/// A run with these words over this shelf, and a sink whose first write may be made to fail: its status and what
+/// the sink took.
 fn run_words(
     alloc: Global,
     shelf: &mut MemoryShelf,
@@ -63,7 +64,8 @@ pub(crate) fn run_on(
     run_over(alloc, &mut shelf, line, None)
 }
 
-/// Whether a run over this shelf, and a sink whose first write may be made to fail, has this status, and the sink took this text.
+/// Whether a run over this shelf, and a sink whose first write may be made to fail, has this status, and the sink
+/// took this text.
 fn has_answer(
     alloc: Global,
     shelf: &mut MemoryShelf,
@@ -77,7 +79,8 @@ fn has_answer(
     }
 }
 
-/// A run over this shelf, and a sink whose first write may be made to fail, has this status, and the sink took this text.
+/// A run over this shelf, and a sink whose first write may be made to fail, has this status, and the sink took this
+/// text.
 pub(crate) fn is_answered(
     rt: &impl Abort,
     alloc: Global,

@@ -47,7 +47,8 @@ fn table_is_optimised(
 /// The certificate of that table, up to its chain.
 fn many_departures(alloc: Global, count: usize) -> Result<String, AllocError> {
     let mut front = format!(in alloc;
-        "certificate 2\nleast\nden 1\ncycle 100\nphases 2\nphase 0 10\nphase 10 30\ndepartures {count}\ndeparture 0\ndeparture 20\n"
+        "certificate 2\nleast\nden 1\ncycle 100\nphases 2\nphase 0 10\nphase 10 30\ndepartures {count}\n\
+         departure 0\ndeparture 20\n"
     )?;
     for _ in 2..count {
         front.push_str("departure 0\n")?;
@@ -99,8 +100,8 @@ fn refusal_17_of_elements_of_a_table(rt: HostRuntime) -> Result<(), Fail> {
     Ok(())
 }
 
-/// Of tables with nothing in them but so many phases and bounds, what `optimise` gives: a phase and a bound too many, and as many as
-/// there may be.
+/// Of tables with nothing in them but so many phases and bounds, what `optimise` gives: a phase and a bound too
+/// many, and as many as there may be.
 const OF_EMPTY: &[(usize, usize, Wanted<'static>)] = &[
     (9, 64, (Status::Refused, "refused 17 phases 9\n", &[""])),
     (8, 65, (Status::Refused, "refused 17 bounds 65\n", &[""])),
@@ -109,7 +110,8 @@ const OF_EMPTY: &[(usize, usize, Wanted<'static>)] = &[
         64,
         (
             Status::Done,
-            "certificate 2\nleast\nden 1\ncycle 0\nphases 8\nphase 0 0\nphase 0 0\nphase 0 0\nphase 0 0\nphase 0 0\nphase 0 0\nphase 0 0\nphase 0 0\ndepartures 0\n",
+            "certificate 2\nleast\nden 1\ncycle 0\nphases 8\nphase 0 0\nphase 0 0\nphase 0 0\nphase 0 0\n\
+             phase 0 0\nphase 0 0\nphase 0 0\nphase 0 0\ndepartures 0\n",
             NO_TIME,
         ),
     ),
@@ -257,7 +259,8 @@ fn are_answered(
     Ok(())
 }
 
-// Two corners have as many elements together as a design may have, or two more; but a corner that is refused comes before.
+// Two corners have as many elements together as a design may have, or two more; but a corner that is refused comes
+// before.
 #[test]
 fn refusal_17_of_elements_of_corners(rt: HostRuntime) -> Result<(), Fail> {
     let alloc = rt.alloc();

@@ -1,4 +1,5 @@
-//! Runs on netlists that are accepted: outputs without a connection, deep braces, and the order in which bits are joined.
+//! Runs on netlists that are accepted: outputs without a connection, deep braces, and the order in which bits are
+//! joined.
 use super::harness::{CLOCK, NO_ELEMENT, Wanted, is_optimised, run_files};
 use mintc_command::Status;
 use mintc_text::OutOfMemory;
@@ -58,7 +59,8 @@ fn an_output_may_be_connected_to_nothing(rt: HostRuntime) -> Result<(), Fail> {
 
 /// Braces as deep as they may be.
 const BRACES: &str =
-    "module m(c); input c; wire w; assign w = {{{{{{{{{{{{{{{{{{{{{{{{{{{{{{{{c}}}}}}}}}}}}}}}}}}}}}}}}}}}}}}}}; endmodule";
+    "module m(c); input c; wire w; assign w = {{{{{{{{{{{{{{{{{{{{{{{{{{{{{{{{c}}}}}}}}}}}}}}}}}}}}}}}}}}}}}}}}; \
+     endmodule";
 
 #[test]
 fn braces_may_be_32_deep(rt: HostRuntime) -> Result<(), Fail> {
@@ -74,7 +76,8 @@ fn have_slacks(
     answer: &str,
 ) -> Result<(), OutOfMemory> {
     let netlist = format!(in alloc;
-        "module t(c, x); input c; input [0:1] x; pair p (.c(c), .i({expr})); endmodule module pair(c, i); input c; input [1:0] i; LAT a (.D(i[1]), .G(c)); LAT b (.D(i[0]), .G(c)); endmodule"
+        "module t(c, x); input c; input [0:1] x; pair p (.c(c), .i({expr})); endmodule module pair(c, i); input c; \
+         input [1:0] i; LAT a (.D(i[1]), .G(c)); LAT b (.D(i[0]), .G(c)); endmodule"
     )?;
     let clock = format!(in alloc; "{CLOCK}[[input]]\nport = \"x\"\nphase = \"p\"\n")?;
     has_slacks(rt, alloc, &netlist, &clock, answer)

@@ -1,5 +1,5 @@
-//! Each refusal by its number: texts that are refused, of which most are the smallest ones of docs/refusals.md. Number 17 is tried in
-//! `limits`.
+//! Each refusal by its number: texts that are refused, of which most are the smallest ones of docs/refusals.md.
+//! Number 17 is tried in `limits`.
 use super::harness::{CLOCK, NO_ELEMENT, is_answered, is_optimised, is_refused};
 use mintc_command::Status;
 use mintc_tests_designs::{SUM_PAST_LIMIT, TWO_CELLS, TWO_LATCHES, shelf_of};
@@ -293,7 +293,8 @@ const OF_12: &[Run] = &[
             ("v", LEAF),
             (
                 "d",
-                "(DELAYFILE (SDFVERSION \"3.0\") (DIVIDER /) (TIMESCALE 1 ns)\n(CELL (CELLTYPE \"BUF\") (INSTANCE b) (DELAY (ABSOLUTE (IOPATH A Y (-0.1))))))\n",
+                "(DELAYFILE (SDFVERSION \"3.0\") (DIVIDER /) (TIMESCALE 1 ns)\n\
+                 (CELL (CELLTYPE \"BUF\") (INSTANCE b) (DELAY (ABSOLUTE (IOPATH A Y (-0.1))))))\n",
             ),
             ("c", TWO_CELLS),
             ("k", CLOCK),
@@ -406,7 +407,8 @@ fn refusal_16_of_an_inner_bit_that_leads_to_itself(rt: HostRuntime) -> Result<()
 fn refusal_18_of_delays_above_the_limit(rt: HostRuntime) -> Result<(), Fail> {
     let alloc = rt.alloc();
     let far =
-        "(DELAYFILE (TIMESCALE 1 us) (CELL (CELLTYPE \"BUF\") (INSTANCE b) (DELAY (ABSOLUTE (IOPATH A Y (1.0000000000000001))))))";
+        "(DELAYFILE (TIMESCALE 1 us) (CELL (CELLTYPE \"BUF\") (INSTANCE b) (DELAY (ABSOLUTE (IOPATH A Y \
+         (1.0000000000000001))))))";
     let near =
         "(DELAYFILE (TIMESCALE 1 us) (CELL (CELLTYPE \"BUF\") (INSTANCE b) (DELAY (ABSOLUTE (IOPATH A Y (1.0))))))";
     let refused = (Status::Refused, "refused 18 2\n", [""].as_slice());

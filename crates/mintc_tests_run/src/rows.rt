@@ -1,4 +1,5 @@
-//! The worked rows: each command has its answer over the files of the rows, and what `optimise` writes is what `verify` calls valid.
+//! The worked rows: each command has its answer over the files of the rows, and what `optimise` writes is what
+//! `verify` calls valid.
 mod cases;
 
 use super::files::{CERTIFICATES, CORNER_FILES, Edit, LIBRARIES, SAFE_AND_SLACK_FILES, files};

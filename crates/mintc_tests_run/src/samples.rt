@@ -91,8 +91,8 @@ fn the_optimum_of_a_sample_is_valid(rt: HostRuntime) {
     }
 }
 
-/// The worked files, and how the answer begins where one of them is cut: delays are out of form until they are whole, and of the
-/// others a front may be in form, so that something later is refused.
+/// The worked files, and how the answer begins where one of them is cut: delays are out of form until they are
+/// whole, and of the others a front may be in form, so that something later is refused.
 const WORKED: &[(&str, &str, &str)] = &[
     ("two.v", TWO_NETLIST, "refused "),
     ("two.sdf", TWO_DELAYS, "refused 1 delays "),

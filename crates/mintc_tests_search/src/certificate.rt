@@ -1,4 +1,5 @@
-//! The text of certificates, which mintc_certificate reads and writes: texts that come back, and the line at fault (refusal 1).
+//! The text of certificates, which mintc_certificate reads and writes: texts that come back, and the line at fault
+//! (refusal 1).
 
 use mintc_certificate::{Certificate, Member, read, write};
 use mintc_tests_designs::TWO_CERTIFICATE;
@@ -9,7 +10,8 @@ use std::test::Fail;
 
 /// One member of each kind.
 const NEVER: &str =
-    "certificate 2\nnever\nchain 11\nstart 1\ncycle 2\norder 3\nspan 4\nwidth 5\napart 6 7\nopen 8\nopened 9\nreach 10 11 2 12 13\nsetup 14\nbound 999999999\nend\n";
+    "certificate 2\nnever\nchain 11\nstart 1\ncycle 2\norder 3\nspan 4\nwidth 5\napart 6 7\nopen 8\nopened 9\n\
+     reach 10 11 2 12 13\nsetup 14\nbound 999999999\nend\n";
 
 /// The text of the certificate that a text is read as.
 fn rewritten(alloc: Global, text: &[u8]) -> Option<Vec<u8>> {

@@ -141,7 +141,8 @@ fn certificates_of_latches_are_judged(rt: HostRuntime) -> Result<(), Fail> {
 
 /// The certificate of the two flops.
 const FLOPS_LEAST: &str =
-    "certificate 2\nleast\nden 1\ncycle 100\nphases 1\nphase 0 0\ndepartures 2\ndeparture 0\ndeparture 0\nchain 2\nreach 0 1 1 0\nsetup 1\nend\n";
+    "certificate 2\nleast\nden 1\ncycle 100\nphases 1\nphase 0 0\ndepartures 2\ndeparture 0\ndeparture 0\nchain 2\n\
+     reach 0 1 1 0\nsetup 1\nend\n";
 
 /// Edits of that, which both versions may say.
 const OF_FLOPS: &[Edit] = &[
@@ -209,7 +210,8 @@ fn certificates_of_flops_are_judged(rt: HostRuntime) -> Result<(), Fail> {
 
 /// The certificate of the two latches of which the first opens its output late.
 const ENABLED_LEAST: &str =
-    "certificate 2\nleast\nden 1\ncycle 100\nphases 2\nphase 0 10\nphase 10 24\ndepartures 2\ndeparture -6\ndeparture 14\nchain 2\nreach 0 1 1 0\nreach 1 0 1 1\nend\n";
+    "certificate 2\nleast\nden 1\ncycle 100\nphases 2\nphase 0 10\nphase 10 24\ndepartures 2\ndeparture -6\n\
+     departure 14\nchain 2\nreach 0 1 1 0\nreach 1 0 1 1\nend\n";
 
 /// Edits of that.
 const OF_ENABLED: &[Edit] = &[
@@ -321,7 +323,8 @@ fn certificates_with_bounds_are_judged(rt: HostRuntime) -> Result<(), Fail> {
 
 /// One latch that a bound leaves no room.
 const STUCK: &str =
-    "table 3\nphases 1\nphase p\nelements 1\nelement a 1 latch 10 - 5 5 5 5 0\ninner 0\narcs 0\nbounds 1\nbound e1 s1 -9 0\nend\n";
+    "table 3\nphases 1\nphase p\nelements 1\nelement a 1 latch 10 - 5 5 5 5 0\ninner 0\narcs 0\nbounds 1\n\
+     bound e1 s1 -9 0\nend\n";
 
 /// The certificate of that latch.
 const STUCK_NEVER: &str = "certificate 2\nnever\nchain 3\nopen 0\nsetup 0\nbound 0\nend\n";

@@ -9,7 +9,8 @@ use std::test::Fail;
 
 /// A design with two phases, bounds of each kind, and nothing else.
 const BOUNDED: &str =
-    "table 1\nphases 2\nphase p\nphase q\nelements 0\ninner 0\narcs 0\nbounds 2\nbound o o 50 1\nbound e1 s2 -5 0\nend\n";
+    "table 1\nphases 2\nphase p\nphase q\nelements 0\ninner 0\narcs 0\nbounds 2\nbound o o 50 1\nbound e1 s2 -5 0\n\
+     end\n";
 
 /// From, to, delay and cycles of a link.
 fn parts(link: &Link) -> Row {

@@ -15,7 +15,8 @@ use std::process::Abort;
 use std::sync::ledger::{Blank, Ledger};
 use std::test::Fail;
 
-/// The tables of the corners, the text of their certificate before the chain, and the texts of the chains that are right.
+/// The tables of the corners, the text of their certificate before the chain, and the texts of the chains that are
+/// right.
 #[derive(Clone, Copy)]
 struct Row {
     name: &'static str,
@@ -38,14 +39,18 @@ fn found<L: Ledger>(alloc: Global, systems: &[System], blank: Blank) -> Option<C
     corners(alloc, systems, &mut steps).ok()
 }
 
-/// Two flops that feed each other: neither corner's own best schedule, with its second phase at 60 or at 30, serves the other.
+/// Two flops that feed each other: neither corner's own best schedule, with its second phase at 60 or at 30, serves
+/// the other.
 const TWO: Row = Row {
     name: "corners-two-files",
     tables: &[
-        "table 2\nphases 2\nphase p1\nphase p2\nelements 2\nelement a 1 flop 0 - 0 0 0\nelement b 2 flop 0 - 0 0 0\ninner 0\narcs 2\narc q0 d1 60 60\narc q1 d0 40 40\nbounds 0\nend\n",
-        "table 2\nphases 2\nphase p1\nphase p2\nelements 2\nelement a 1 flop 0 - 0 0 0\nelement b 2 flop 0 - 0 0 0\ninner 0\narcs 2\narc q0 d1 30 30\narc q1 d0 70 70\nbounds 0\nend\n",
+        "table 2\nphases 2\nphase p1\nphase p2\nelements 2\nelement a 1 flop 0 - 0 0 0\n\
+         element b 2 flop 0 - 0 0 0\ninner 0\narcs 2\narc q0 d1 60 60\narc q1 d0 40 40\nbounds 0\nend\n",
+        "table 2\nphases 2\nphase p1\nphase p2\nelements 2\nelement a 1 flop 0 - 0 0 0\n\
+         element b 2 flop 0 - 0 0 0\ninner 0\narcs 2\narc q0 d1 30 30\narc q1 d0 70 70\nbounds 0\nend\n",
     ],
-    answer: "corners 1\nleast\nden 1\ncycle 130\nphases 2\nphase 0 0\nphase 60 0\ncorners 2\ndepartures 2\ndeparture 0\ndeparture 0\ndepartures 2\ndeparture 0\ndeparture 0\n",
+    answer: "corners 1\nleast\nden 1\ncycle 130\nphases 2\nphase 0 0\nphase 60 0\ncorners 2\ndepartures 2\n\
+        departure 0\ndeparture 0\ndepartures 2\ndeparture 0\ndeparture 0\n",
     chains: &[
         "chain 4\nreach 1 0 1 1 0\nsetup 1 1\nreach 2 1 0 1 1\nsetup 2 0\nend\n",
         "chain 4\nsetup 1 1\nreach 2 1 0 1 1\nsetup 2 0\nreach 1 0 1 1 0\nend\n",
@@ -54,15 +59,21 @@ const TWO: Row = Row {
     ],
 };
 
-/// Two latches that feed each other, in three corners: the third one's loop is the longest, and each has departures of its own.
+/// Two latches that feed each other, in three corners: the third one's loop is the longest, and each has departures
+/// of its own.
 const THREE: Row = Row {
     name: "three",
     tables: &[
-        "table 1\nphases 2\nphase p1\nphase p2\nelements 2\nelement a 1 5 - 0 0 0\nelement b 2 5 - 0 0 0\ninner 0\narcs 2\narc q0 d1 60 60\narc q1 d0 40 40\nbounds 0\nend\n",
-        "table 1\nphases 2\nphase p1\nphase p2\nelements 2\nelement a 1 5 - 0 0 0\nelement b 2 5 - 0 0 0\ninner 0\narcs 2\narc q0 d1 30 30\narc q1 d0 70 70\nbounds 0\nend\n",
-        "table 1\nphases 2\nphase p1\nphase p2\nelements 2\nelement a 1 5 - 0 0 0\nelement b 2 5 - 0 0 0\ninner 0\narcs 2\narc q0 d1 45 45\narc q1 d0 56 56\nbounds 0\nend\n",
+        "table 1\nphases 2\nphase p1\nphase p2\nelements 2\nelement a 1 5 - 0 0 0\nelement b 2 5 - 0 0 0\ninner 0\n\
+         arcs 2\narc q0 d1 60 60\narc q1 d0 40 40\nbounds 0\nend\n",
+        "table 1\nphases 2\nphase p1\nphase p2\nelements 2\nelement a 1 5 - 0 0 0\nelement b 2 5 - 0 0 0\ninner 0\n\
+         arcs 2\narc q0 d1 30 30\narc q1 d0 70 70\nbounds 0\nend\n",
+        "table 1\nphases 2\nphase p1\nphase p2\nelements 2\nelement a 1 5 - 0 0 0\nelement b 2 5 - 0 0 0\ninner 0\n\
+         arcs 2\narc q0 d1 45 45\narc q1 d0 56 56\nbounds 0\nend\n",
     ],
-    answer: "corners 1\nleast\nden 1\ncycle 101\nphases 2\nphase 0 5\nphase 5 60\ncorners 3\ndepartures 2\ndeparture 0\ndeparture 55\ndepartures 2\ndeparture 0\ndeparture 25\ndepartures 2\ndeparture 0\ndeparture 40\n",
+    answer: "corners 1\nleast\nden 1\ncycle 101\nphases 2\nphase 0 5\nphase 5 60\ncorners 3\ndepartures 2\n\
+        departure 0\ndeparture 55\ndepartures 2\ndeparture 0\ndeparture 25\ndepartures 2\ndeparture 0\n\
+        departure 40\n",
     chains: &[
         "chain 2\nreach 3 1 0 1 1\nreach 3 0 1 1 0\nend\n",
         "chain 2\nreach 3 0 1 1 0\nreach 3 1 0 1 1\nend\n",
@@ -73,12 +84,23 @@ const THREE: Row = Row {
 const FOUR: Row = Row {
     name: "four",
     tables: &[
-        "table 2\nphases 3\nphase p1\nphase p2\nphase p3\nelements 3\nelement a 1 flop 0 - 0 0 0\nelement b 2 flop 0 - 0 0 0\nelement c 3 flop 0 - 0 0 0\ninner 0\narcs 3\narc q0 d1 60 60\narc q1 d2 10 10\narc q2 d0 10 10\nbounds 0\nend\n",
-        "table 2\nphases 3\nphase p1\nphase p2\nphase p3\nelements 3\nelement a 1 flop 0 - 0 0 0\nelement b 2 flop 0 - 0 0 0\nelement c 3 flop 0 - 0 0 0\ninner 0\narcs 3\narc q0 d1 10 10\narc q1 d2 50 50\narc q2 d0 10 10\nbounds 0\nend\n",
-        "table 2\nphases 3\nphase p1\nphase p2\nphase p3\nelements 3\nelement a 1 flop 0 - 0 0 0\nelement b 2 flop 0 - 0 0 0\nelement c 3 flop 0 - 0 0 0\ninner 0\narcs 3\narc q0 d1 10 10\narc q1 d2 10 10\narc q2 d0 40 40\nbounds 0\nend\n",
-        "table 2\nphases 3\nphase p1\nphase p2\nphase p3\nelements 3\nelement a 1 flop 0 - 0 0 7\nelement b 2 flop 0 - 0 0 0\nelement c 3 flop 0 - 0 0 0\ninner 0\narcs 3\narc q0 d1 20 20\narc q1 d2 20 20\narc q2 d0 20 20\nbounds 0\nend\n",
+        "table 2\nphases 3\nphase p1\nphase p2\nphase p3\nelements 3\nelement a 1 flop 0 - 0 0 0\n\
+         element b 2 flop 0 - 0 0 0\nelement c 3 flop 0 - 0 0 0\ninner 0\narcs 3\narc q0 d1 60 60\n\
+         arc q1 d2 10 10\narc q2 d0 10 10\nbounds 0\nend\n",
+        "table 2\nphases 3\nphase p1\nphase p2\nphase p3\nelements 3\nelement a 1 flop 0 - 0 0 0\n\
+         element b 2 flop 0 - 0 0 0\nelement c 3 flop 0 - 0 0 0\ninner 0\narcs 3\narc q0 d1 10 10\n\
+         arc q1 d2 50 50\narc q2 d0 10 10\nbounds 0\nend\n",
+        "table 2\nphases 3\nphase p1\nphase p2\nphase p3\nelements 3\nelement a 1 flop 0 - 0 0 0\n\
+         element b 2 flop 0 - 0 0 0\nelement c 3 flop 0 - 0 0 0\ninner 0\narcs 3\narc q0 d1 10 10\n\
+         arc q1 d2 10 10\narc q2 d0 40 40\nbounds 0\nend\n",
+        "table 2\nphases 3\nphase p1\nphase p2\nphase p3\nelements 3\nelement a 1 flop 0 - 0 0 7\n\
+         element b 2 flop 0 - 0 0 0\nelement c 3 flop 0 - 0 0 0\ninner 0\narcs 3\narc q0 d1 20 20\n\
+         arc q1 d2 20 20\narc q2 d0 20 20\nbounds 0\nend\n",
     ],
-    answer: "corners 1\nleast\nden 1\ncycle 150\nphases 3\nphase 0 7\nphase 60 0\nphase 110 0\ncorners 4\ndepartures 3\ndeparture 0\ndeparture 0\ndeparture 0\ndepartures 3\ndeparture 0\ndeparture 0\ndeparture 0\ndepartures 3\ndeparture 0\ndeparture 0\ndeparture 0\ndepartures 3\ndeparture 0\ndeparture 0\ndeparture 0\n",
+    answer: "corners 1\nleast\nden 1\ncycle 150\nphases 3\nphase 0 7\nphase 60 0\nphase 110 0\ncorners 4\n\
+        departures 3\ndeparture 0\ndeparture 0\ndeparture 0\ndepartures 3\ndeparture 0\ndeparture 0\n\
+        departure 0\ndepartures 3\ndeparture 0\ndeparture 0\ndeparture 0\ndepartures 3\ndeparture 0\n\
+        departure 0\ndeparture 0\n",
     chains: &[
         "chain 6\nreach 1 0 1 1 0\nsetup 1 1\nreach 2 1 2 1 1\nsetup 2 2\nreach 3 2 0 1 2\nsetup 3 0\nend\n",
         "chain 6\nsetup 1 1\nreach 2 1 2 1 1\nsetup 2 2\nreach 3 2 0 1 2\nsetup 3 0\nreach 1 0 1 1 0\nend\n",
@@ -93,8 +115,12 @@ const FOUR: Row = Row {
 const HOPELESS: Row = Row {
     name: "hopeless",
     tables: &[
-        "table 2\nphases 3\nphase p1\nphase p2\nphase p3\nelements 3\nelement a 1 flop 0 - 0 0 0\nelement b 2 flop 0 - 0 0 0\nelement c 3 flop 0 - 0 0 0\ninner 0\narcs 3\narc q0 d1 60 60\narc q1 d2 30 30\narc q2 d0 10 10\nbounds 1\nbound s3 s1 -100 0\nend\n",
-        "table 2\nphases 3\nphase p1\nphase p2\nphase p3\nelements 3\nelement a 1 flop 0 - 0 0 0\nelement b 2 flop 0 - 0 0 0\nelement c 3 flop 0 - 0 0 0\ninner 0\narcs 3\narc q0 d1 30 30\narc q1 d2 70 70\narc q2 d0 10 10\nbounds 1\nbound s3 s1 -100 0\nend\n",
+        "table 2\nphases 3\nphase p1\nphase p2\nphase p3\nelements 3\nelement a 1 flop 0 - 0 0 0\n\
+         element b 2 flop 0 - 0 0 0\nelement c 3 flop 0 - 0 0 0\ninner 0\narcs 3\narc q0 d1 60 60\n\
+         arc q1 d2 30 30\narc q2 d0 10 10\nbounds 1\nbound s3 s1 -100 0\nend\n",
+        "table 2\nphases 3\nphase p1\nphase p2\nphase p3\nelements 3\nelement a 1 flop 0 - 0 0 0\n\
+         element b 2 flop 0 - 0 0 0\nelement c 3 flop 0 - 0 0 0\ninner 0\narcs 3\narc q0 d1 30 30\n\
+         arc q1 d2 70 70\narc q2 d0 10 10\nbounds 1\nbound s3 s1 -100 0\nend\n",
     ],
     answer: "corners 1\nnever\n",
     chains: &[

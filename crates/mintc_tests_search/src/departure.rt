@@ -18,7 +18,8 @@ const BARE: &str = "table 1\nphases 1\nphase p\nelements 0\ninner 0\narcs 0\nbou
 /// A room for a design with one phase and no elements, where these are such a design and a schedule of its phase.
 fn room_for(alloc: Global, system: &System, schedule: &Schedule) -> Option<Room>
     ensures phases { IfSome result (λ room. length schedule.now.starts ≡ phase_count system.now.flat) }
-    ensures room { IfSome result (λ room. 1 + 2 * phase_count system.now.flat + element_count system.now.flat ≤ room.nodes) }
+    ensures room { IfSome result
+        (λ room. 1 + 2 * phase_count system.now.flat + element_count system.now.flat ≤ room.nodes) }
 {
     let flat = system.flat();
     let (phases, elements) = (flat.phases().items().len(), flat.elements().len());

@@ -1,5 +1,5 @@
-//! `greatest_walks` of mintc_graph_walks: the greatest walks of small networks and of a long ring, or a closed chain whose weight is
-//! above 0.
+//! `greatest_walks` of mintc_graph_walks: the greatest walks of small networks and of a long ring, or a closed
+//! chain whose weight is above 0.
 ghost use Rattle.std.specs.Prelude.{◌<◌, ◌≤◌, ◌^◌, ◌≤ℤ◌, ◌<ℤ◌};
 ghost use Rattle.std.specs.Bool.{OnTrue};
 ghost use Rattle.mintc_graph_walks.specs.Bounds.{AreBounded, AreOrdinary, IsWithin};
@@ -361,7 +361,8 @@ fn walks_may_begin_with_arcs_of_another_network(rt: HostRuntime) -> Result<(), F
     Ok(())
 }
 
-/// A ring of so many nodes whose arcs have weight 0 but the one that closes it. Each arc stands before the one that it follows.
+/// A ring of so many nodes whose arcs have weight 0 but the one that closes it. Each arc stands before the one that
+/// it follows.
 fn ring_of(alloc: Global, nodes: u32, closing: i128) -> Result<Vec<Arc>, AllocError>
     requires { 1 ≤ nodes }
 {

@@ -1,7 +1,7 @@
-//! Tests of kernels, search and judgement (layers 1, 3 and 6), of what no clause says. Each module has the name of the crate whose
-//! public calls it tries, without `mintc_`: fractions, lanes, sets and walks; orders, paths and their number; links, ratios and
-//! cycles, the optimum, the safe cycle, slack and corners; departures, certificates and what judges them. Beside them, `systems` and
-//! `cases` make small systems, and `link_rows` lists of links.
+//! Tests of kernels, search and judgement (layers 1, 3 and 6), of what no clause says. Each module has the name of
+//! the crate whose public calls it tries, without `mintc_`: fractions, lanes, sets and walks; orders, paths and
+//! their number; links, ratios and cycles, the optimum, the safe cycle, slack and corners; departures, certificates
+//! and what judges them. Beside them, `systems` and `cases` make small systems, and `link_rows` lists of links.
 #![tactic(auto)]
 
 #[cfg(test)]

@@ -80,7 +80,8 @@ fn has_plain(links: &[Link], from: u32, to: u32, cycles: u32) -> bool
 
 /// Whether a link leads to the node from one with a smaller number.
 fn is_entered(links: &[Link], node: u32) -> bool
-    ensures { OnTrue result ((e : ℕ) × (e < length links.now) × ((link_at links.now e).from < node) × ((link_at links.now e).to ≡ node)) }
+    ensures { OnTrue result ((e : ℕ) × (e < length links.now) × ((link_at links.now e).from < node)
+        × ((link_at links.now e).to ≡ node)) }
 {
     for number in 0..links.len() {
         let link = numbered(links, number);

@@ -1,5 +1,5 @@
-//! `search` of mintc_ratio: what it finds for lists of links that are written out, and for small ones all of whose chains are
-//! listed.
+//! `search` of mintc_ratio: what it finds for lists of links that are written out, and for small ones all of whose
+//! chains are listed.
 ghost use Rattle.std.specs.Prelude.{◌≡◌, ◌<◌};
 
 mod simple_chains;

@@ -1,4 +1,5 @@
-//! `safe` of mintc_safe: what a hold costs, each field of a safe certificate, a design without holds, and one whose hold can't be kept.
+//! `safe` of mintc_safe: what a hold costs, each field of a safe certificate, a design without holds, and one whose
+//! hold can't be kept.
 ghost use Rattle.std.specs.Prelude.{◌≡◌, ◌<◌};
 
 use crate::systems::system_of;

@@ -1,5 +1,5 @@
-//! `slack` of mintc_slack: the slack of each pair at the least cycle, a design without one, and that each greatest walk is found by the
-//! nearest node first. That is seen by the steps, which the second way round would take too.
+//! `slack` of mintc_slack: the slack of each pair at the least cycle, a design without one, and that each greatest
+//! walk is found by the nearest node first. That is seen by the steps, which the second way round would take too.
 ghost use Rattle.std.specs.Prelude.{◌≡◌, ◌≢◌, ◌<◌, ◌≤◌, ℕ, pos, length};
 ghost use Rattle.mintc_graph_walks.specs.declared.network.TheConstants.{UNREACHED as no_value};
 ghost use Rattle.mintc_graph_walks.specs.Walks.{value_at};

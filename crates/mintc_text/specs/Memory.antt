@@ -1,5 +1,6 @@
 -- Shelves and sinks in memory.
-use Rattle.std.specs.Prelude.{ℕ, ◌+◌, ◌-◌, ◌≤◌, ◌==◌, ◌&&◌, not, nat_le, List, length, Option, Some, None, Bool, false, if◌then◌else◌, min, Contains}
+use Rattle.std.specs.Prelude.{ℕ, ◌+◌, ◌-◌, ◌≤◌, ◌==◌, ◌&&◌, not, nat_le, List, length, Option, Some, None, Bool, false}
+use Rattle.std.specs.Prelude.{if◌then◌else◌, min, Contains}
 use Rattle.mintc_text.specs.Outside.{Files}
 
 -- what a shelf in memory is: its files, the numbers of the calls that fail, and its two counts

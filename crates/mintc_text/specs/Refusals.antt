@@ -1,5 +1,7 @@
 -- The words and the line of a refusal.
-use Rattle.std.specs.Prelude.{ℕ, List, [], ◌∷◌, map, length, codes, decimal}
+use Rattle.std.specs.Prelude.{ℕ, List, [], ◌∷◌, map, length, codes, decimal, Option, min, nat_lt, find}
+use Rattle.std.specs.Option.{option_map}
+use Rattle.mintc_text.specs.declared.limits.TheConstants.{MOST_TOLD}
 use Rattle.mintc_text.specs.declared.refusals.Role.{Role}
 use Rattle.mintc_text.specs.declared.refusals.Role.TheVariants as role
 use Rattle.mintc_text.specs.declared.refusals.Kind.{Kind}
@@ -80,3 +82,9 @@ refusal_fields (refusal.Corner file) = decimal file ∷ []
 -- the line of a refusal
 abbrev pub refusal_line : Refusal → List ℕ
 refusal_line r = ended (words (codes "refused" ∷ decimal (refusal_number r) ∷ refusal_fields r))
+
+-- the refusal of the first quantity that passes its limit: its kind and count, or the greatest that is told where
+-- that is larger. Each stands with its count and its limit.
+abbrev pub over_limit : List (Kind × ℕ × ℕ) → Option Refusal
+over_limit counts = option_map (λ (q : Kind × ℕ × ℕ). refusal.Limit q.0 (min q.1 MOST_TOLD))
+    (find (λ (q : Kind × ℕ × ℕ). nat_lt q.2 q.1) counts)

@@ -1,5 +1,6 @@
 //! The outside in memory: a shelf and a sink whose calls can be made to fail.
-ghost use Rattle.std.specs.Prelude.{◌≡◌, ◌≢◌, ◌++◌, ◌≤◌, ◌+◌, [], Option, Some, None, MatchOption, IfOk, IfErr, OnOk, OnErr, length, map, take, Contains, is_ok, vec_len, vec_capacity};
+ghost use Rattle.std.specs.Prelude.{◌≡◌, ◌≢◌, ◌++◌, ◌≤◌, ◌+◌, [], Option, Some, None, MatchOption, IfOk, IfErr, OnOk};
+ghost use Rattle.std.specs.Prelude.{OnErr, length, map, take, Contains, is_ok, vec_len, vec_capacity};
 ghost use Rattle.mintc_text.specs.Outside.{held, Rose, CountsCall, IsFront, Holds, Takes, TakesFront};
 ghost use Rattle.mintc_text.specs.Memory.{ShelfState, SinkState, IsSoundFrom, allowed, is_failing, share, takes_all};
 
@@ -20,12 +21,18 @@ pub struct MemoryShelf {
 impl Model for MemoryShelf {
     ghost Value = { ShelfState };
 
-    ghost view = { λ s. record { files = map (λ f. (f.0, f.1.items)) s.files.items; failing = s.failing; calls = s.calls; faults = s.faults } };
+    ghost view = { λ s. record {
+      files = map (λ f. (f.0, f.1.items)) s.files.items;
+      failing = s.failing;
+      calls = s.calls;
+      faults = s.faults;
+    } };
 }
 
 /// The bytes of the first file of a name.
 fn find<'a>(files: &'a [(Name, Vec<u8>)], name: &[u8]) -> Option<&'a [u8]>
-    ensures { MatchOption result (held (map (λ f. (f.0, f.1.items)) files.now) name.now ≡ None) (λ bytes. held (map (λ f. (f.0, f.1.items)) files.now) name.now ≡ Some bytes.now) }
+    ensures { MatchOption result (held (map (λ f. (f.0, f.1.items)) files.now) name.now ≡ None)
+        (λ bytes. held (map (λ f. (f.0, f.1.items)) files.now) name.now ≡ Some bytes.now) }
 {
     for file in files {
         if file.0.bytes() == name {
@@ -81,12 +88,16 @@ impl Shelf for MemoryShelf {
         ensures later { self.old.faults ≤ self.new.faults }
         ensures cause { result ≡ Err ShelfError.Failed → Rose self.old.faults self.new.faults }
         ensures counted { CountsCall (Some self.old.calls) (Some self.new.calls) }
-        ensures sound { IsSoundFrom self.old.failing self.old.calls → Holds (Some self.old.files) name.now → IsSoundFrom self.new.failing self.new.calls }
-        ensures quiet { IsSoundFrom self.old.failing self.old.calls → Holds (Some self.old.files) name.now → self.new.faults ≡ self.old.faults }
-        ensures answers { IsSoundFrom self.old.failing self.old.calls → Holds (Some self.old.files) name.now → result ≢ Err ShelfError.Failed }
+        ensures sound { IsSoundFrom self.old.failing self.old.calls → Holds (Some self.old.files) name.now →
+            IsSoundFrom self.new.failing self.new.calls }
+        ensures quiet { IsSoundFrom self.old.failing self.old.calls → Holds (Some self.old.files) name.now →
+            self.new.faults ≡ self.old.faults }
+        ensures answers { IsSoundFrom self.old.failing self.old.calls → Holds (Some self.old.files) name.now →
+            result ≢ Err ShelfError.Failed }
         ensures listed { Contains self.old.failing self.old.calls → result ≡ Err ShelfError.Failed }
         ensures failing { self.new.failing ≡ self.old.failing }
-        ensures only { result ≡ Err ShelfError.Failed → Holds (Some self.old.files) name.now → Contains self.old.failing self.old.calls }
+        ensures only { result ≡ Err ShelfError.Failed → Holds (Some self.old.files) name.now →
+            Contains self.old.failing self.old.calls }
     {
         let fails = self.failing.items().contains(&self.calls);
         self.calls = self.calls.saturating_add(1);
@@ -115,7 +126,13 @@ pub struct MemorySink {
 impl Model for MemorySink {
     ghost Value = { SinkState };
 
-    ghost view = { λ s. record { taken = s.taken.items; room = s.room; failing = s.failing; calls = s.calls; faults = s.faults } };
+    ghost view = { λ s. record {
+      taken = s.taken.items;
+      room = s.room;
+      failing = s.failing;
+      calls = s.calls;
+      faults = s.faults;
+    } };
 
     ghost invariant = { λ s. (vec_len s.taken ≤ s.room) × (s.room ≤ vec_capacity s.taken) };
 }

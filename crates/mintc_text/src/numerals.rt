@@ -1,5 +1,6 @@
 //! Canonical numerals.
-ghost use Rattle.std.specs.Prelude.{◌≡◌, ◌∷◌, ℕ, ℤ, pos, ◌<◌, ◌^◌, Option, MatchOption, IfSome, IsTrue, ◌↔◌, slice_index, length, take, decimal, ◌≤◌};
+ghost use Rattle.std.specs.Prelude.{◌≡◌, ◌∷◌, ℕ, ℤ, pos, ◌<◌, ◌^◌, Option, MatchOption, IfSome, IsTrue, ◌↔◌};
+ghost use Rattle.std.specs.Prelude.{slice_index, length, take, decimal, ◌≤◌};
 ghost use Rattle.std.specs.Str.Parse.{AllDigits, digits_value};
 ghost use Rattle.mintc_text.specs.Lines.{numeral_of, IsWithin};
 
@@ -12,7 +13,8 @@ fn has_leading_zero(digits: &[u8]) -> bool
 
 /// The number that digits without a leading zero write, at most 19 of them. None of other bytes.
 fn magnitude(digits: &[u8]) -> Option<u64>
-    ensures value { MatchOption result ((n : ℕ) → n < 10 ^ 19 → digits.now ≡ decimal n → ⊥) (λ n. digits.now ≡ decimal n) }
+    ensures value { MatchOption result ((n : ℕ) → n < 10 ^ 19 → digits.now ≡ decimal n →
+        ⊥) (λ n. digits.now ≡ decimal n) }
     ensures small { IfSome result (λ n. n < 10 ^ 19) }
 {
     if digits.is_empty() || digits.len() > 19 || has_leading_zero(digits) {

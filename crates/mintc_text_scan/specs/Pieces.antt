@@ -1,4 +1,5 @@
--- A text as pieces from left to right: tokens of some type, and what is passed over. A function says which piece is at a front.
+-- A text as pieces from left to right: tokens of some type, and what is passed over. A function says which piece is
+-- at a front.
 use Rattle.std.specs.Prelude.{ℕ, zero, suc, ◌-◌, Bool, true, false, List, [], ◌∷◌, ◌++◌, Option, Some, None}
 
 -- The front of a text: a token, or what is passed over, and how many bytes it has.
@@ -6,12 +7,15 @@ pub record Piece (T : Type 0) : Type 0 where
   pub token : Option T
   pub size : ℕ
 
+-- so many bytes that are passed over
 abbrev pub passed : {T : Type 0} → ℕ → Piece T
 passed n = record { token = None; size = n }
 
+-- a token of so many bytes
 abbrev pub token : {T : Type 0} → T → ℕ → Piece T
 token t n = record { token = Some t; size = n }
 
+-- the token of a piece, if it is one
 abbrev pub front_token : {T : Type 0} → Option T → List T
 front_token None = []
 front_token (Some t) = t ∷ []
@@ -27,6 +31,7 @@ abbrev pub passed_by : {T : Type 0} → Option T → ℕ → ℕ
 passed_by None size = size
 passed_by (Some t) size = 0
 
+-- a piece is a token
 abbrev pub is_token : {T : Type 0} → Option T → Bool
 is_token None = false
 is_token (Some t) = true

@@ -28,7 +28,8 @@ pub fn comment_end(bytes: &[u8]) -> Option<usize>
 /// A place behind the last `*/` so far, where one may stand here.
 fn later_end(text: &[u8], at: usize, last: usize) -> usize
     requires { at < length text.now }
-    ensures here { result < at + 2 → ((slice_index text.now at == 42) && (slice_index text.now (at + 1) == 47)) ≡ false }
+    ensures here { result < at + 2 → ((slice_index text.now at == 42) && (slice_index text.now (at + 1) == 47))
+        ≡ false }
     ensures before { last ≤ at + 2 → last ≤ result }
     ensures within { last ≤ at + 2 → result ≤ at + 2 }
 {

@@ -27,4 +27,5 @@ pub record IsAccepted (design : Design) : Type 0 where
 
 -- What a system keeps is kept by accepted designs alone.
 abbrev pub SystemsAreAccepted : Type 0
-SystemsAreAccepted = (flat : Design) (order : List ℕ) (pairs : List Pair) → IsDesign flat → IsTiming flat order pairs → IsAccepted flat
+SystemsAreAccepted = (flat : Design) (order : List ℕ) (pairs : List Pair) → IsDesign flat → IsTiming flat order pairs →
+    IsAccepted flat

@@ -4,10 +4,20 @@ use Rattle.mintc_timing.specs.declared.parts.Element.{Element}
 use Rattle.mintc_timing.specs.declared.parts.TimingArc.{TimingArc}
 use Rattle.mintc_timing.specs.Design.{Design}
 
--- what delay files don't say of an element and of an arc
+-- what delay files don't say of an element
 abbrev pub unnumbered : Element → Element
-unnumbered e = record e { setup = pos 0; hold = pos 0; has_hold = false; dq_min = pos 0; dq_max = pos 0; cq_min = pos 0; cq_max = pos 0; width = pos 0 }
+unnumbered e = record e {
+  setup = pos 0;
+  hold = pos 0;
+  has_hold = false;
+  dq_min = pos 0;
+  dq_max = pos 0;
+  cq_min = pos 0;
+  cq_max = pos 0;
+  width = pos 0;
+}
 
+-- what delay files don't say of an arc
 abbrev pub undelayed : TimingArc → TimingArc
 undelayed arc = record arc { min = pos 0; max = pos 0 }
 

@@ -1,6 +1,9 @@
 //! What the definitions say of one another: each law is the contract of a function that does nothing.
 ghost use Rattle.mintc_timing.specs.Accepted.{SystemsAreAccepted};
-ghost use Rattle.mintc_timing.specs.Laws.{EarlyAreDetermined, ForbidsAll, HoldsHaveAmounts, LateAreDetermined, LeastCycleIsDetermined, LeastCycleIsNoHopelessness, NoChainForbidsRight, PairsAreDetermined, PathsJoin, RightAtEachDenominator, RightMeetsLinks, SetupsHaveAmounts, ViolationsAreDetermined};
+ghost use Rattle.mintc_timing.specs.Laws.{EarlyAreDetermined, ForbidsAll, HoldsHaveAmounts, LateAreDetermined};
+ghost use Rattle.mintc_timing.specs.Laws.{LeastCycleIsDetermined, LeastCycleIsNoHopelessness, NoChainForbidsRight};
+ghost use Rattle.mintc_timing.specs.Laws.{PairsAreDetermined, PathsJoin, RightAtEachDenominator, RightMeetsLinks};
+ghost use Rattle.mintc_timing.specs.Laws.{SetupsHaveAmounts, ViolationsAreDetermined};
 
 /// A schedule has one list of late departures at most.
 pub fn late_are_determined()

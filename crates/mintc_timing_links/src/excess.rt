@@ -1,7 +1,8 @@
 //! What the clock and the bounds ask of a schedule, and by how much it fails.
 ghost use Rattle.std.specs.Prelude.{◌≡◌, ◌+◌, ◌≤◌, ◌<◌, pos, ◌+ℤ◌, ◌-ℤ◌, ◌*ℤ◌, length};
 ghost use Rattle.mintc_timing.specs.Clocking.{start_of, width_of, end_of, time_of, crosses_of, least_width};
-ghost use Rattle.mintc_timing.specs.Limits.{IsBound, IsDenominator, IsInRange, IsModest, IsNumerator, IsPhase, IsPoint, IsSpan, IsTime};
+ghost use Rattle.mintc_timing.specs.Limits.{IsBound, IsDenominator, IsInRange, IsModest, IsNumerator, IsPhase, IsPoint};
+ghost use Rattle.mintc_timing.specs.Limits.{IsSpan, IsTime};
 
 use crate::links::width_needed;
 use mintc_timing::{Bound, Flat, Point, Schedule, crosses};
@@ -106,7 +107,8 @@ pub fn apart_excess(schedule: &Schedule, i: u32, j: u32) -> i64
     requires in_range { IsInRange schedule.now }
     requires first { IsPhase (length schedule.now.starts) i }
     requires second { IsPhase (length schedule.now.starts) j }
-    ensures value { result ≡ end_of schedule.now j -ℤ pos (crosses_of j i) *ℤ schedule.now.cycle -ℤ start_of schedule.now i }
+    ensures value { result
+        ≡ end_of schedule.now j -ℤ pos (crosses_of j i) *ℤ schedule.now.cycle -ℤ start_of schedule.now i }
     ensures range { IsTime result }
 {
     start(schedule, j) + width(schedule, j)
@@ -118,7 +120,9 @@ pub fn apart_excess(schedule: &Schedule, i: u32, j: u32) -> i64
 pub fn bound_excess(schedule: &Schedule, bound: &Bound) -> i64
     requires in_range { IsInRange schedule.now }
     requires bound { IsBound (length schedule.now.starts) bound.now }
-    ensures value { result ≡ time_of schedule.now bound.now.from +ℤ bound.now.gap *ℤ schedule.now.den -ℤ pos bound.now.cycles *ℤ schedule.now.cycle -ℤ time_of schedule.now bound.now.to }
+    ensures value { result
+        ≡ time_of schedule.now bound.now.from +ℤ bound.now.gap *ℤ schedule.now.den -ℤ pos bound.now.cycles *ℤ
+        schedule.now.cycle -ℤ time_of schedule.now bound.now.to }
     ensures range { IsTime result }
 {
     let gap = times_denominator(bound.gap, schedule.den);

@@ -1,9 +1,10 @@
-//! What a design demands: each constraint as a link between moments, and by how much a schedule fails those of the clock and
-//! the bounds.
+//! What a design demands: each constraint as a link between moments, and by how much a schedule fails those of the
+//! clock and the bounds.
 //!
-//! A link says that one moment comes at least a delay after another, less a number of cycles. A schedule with its departures is right
-//! where each link of the design holds of its moments, which makes the least cycle time a question about chains of links. The search
-//! and the checker of certificates both stand on this crate, so that the table of links and the amounts are written once.
+//! A link says that one moment comes at least a delay after another, less a number of cycles. A schedule with its
+//! departures is right where each link of the design holds of its moments, which makes the least cycle time a
+//! question about chains of links. The search and the checker of certificates both stand on this crate, so that the
+//! table of links and the amounts are written once.
 #![tactic(auto)]
 
 mod excess;

@@ -2,68 +2,27 @@
 ghost use Rattle.std.specs.Prelude.{◌≡◌, ◌<◌, ◌≤◌, ◌+◌, length};
 ghost use Rattle.mintc_text.specs.declared.limits.TheConstants.{MOST_PHASES};
 ghost use Rattle.mintc_timing.specs.Clocking.{least_width};
-ghost use Rattle.mintc_timing.specs.Design.{element_at};
-ghost use Rattle.mintc_timing.specs.Limits.{IsBound, IsDelay, IsDesign, IsElement, IsPhase, IsPoint, IsSpan};
-ghost use Rattle.mintc_timing.specs.Links.{element_node, end_node, output_node, point_node, start_node, apart_link as apart_link_of, bound_link as bound_link_of, cycle_link as cycle_link_of, opening_link as opening_link_of, opened_link as opened_link_of, order_link as order_link_of, reach_link as reach_link_of, setup_link as setup_link_of, span_link as span_link_of, start_link as start_link_of, width_link as width_link_of};
+ghost use Rattle.mintc_timing.specs.Limits.{IsBound, IsDelay, IsPhase, IsSpan};
+ghost use Rattle.mintc_timing.specs.Links.{output_node};
+ghost use Rattle.mintc_timing.specs.Links.{apart_link as apart_link_of, bound_link as bound_link_of};
+ghost use Rattle.mintc_timing.specs.Links.{cycle_link as cycle_link_of, opening_link as opening_link_of};
+ghost use Rattle.mintc_timing.specs.Links.{opened_link as opened_link_of, order_link as order_link_of};
+ghost use Rattle.mintc_timing.specs.Links.{reach_link as reach_link_of, setup_link as setup_link_of};
+ghost use Rattle.mintc_timing.specs.Links.{span_link as span_link_of, start_link as start_link_of};
+ghost use Rattle.mintc_timing.specs.Links.{width_link as width_link_of};
 
-use mintc_timing::{Bound, Element, Flat, Link, LinkKind, Point, crosses};
-
-/// The element of a number.
-fn element(flat: &Flat, number: u32) -> &Element
-    requires { number < length flat.now.elements }
-    ensures value { result.now ≡ element_at flat.now number }
-    ensures kept { IsElement (length flat.now.phases) result.now }
-    ensures design { IsDesign flat.now }
-{
-    &flat.elements()[number as usize]
-}
-
-/// The node of a phase's start.
-fn start(phase: u32) -> u32
-    requires { IsPhase MOST_PHASES phase }
-    ensures { result ≡ start_node phase }
-{
-    2 * phase - 1
-}
-
-/// The node of a phase's end.
-fn end(phase: u32) -> u32
-    requires { IsPhase MOST_PHASES phase }
-    ensures { result ≡ end_node phase }
-{
-    2 * phase
-}
-
-/// The node of a point of the clock.
-fn point(point: Point) -> u32
-    requires { IsPoint 8 point }
-    ensures { result ≡ point_node point }
-{
-    match point {
-        Point::Origin => 0,
-        Point::Start(phase) => start(phase),
-        Point::End(phase) => end(phase),
-    }
-}
-
-/// The node of an element's moment.
-fn moment(flat: &Flat, number: u32) -> u32
-    requires { number < length flat.now.elements }
-    ensures { result ≡ element_node flat.now number }
-{
-    2 * flat.phases().items().len() as u32 + 1 + number
-}
+use mintc_timing::{Bound, Flat, Link, LinkKind, crosses, end_node, point_node, start_node};
 
 /// The node that the output of an element starts from.
 fn output(flat: &Flat, number: u32) -> u32
     requires { number < length flat.now.elements }
     ensures { result ≡ output_node flat.now number }
 {
-    let element = element(flat, number);
+    let element = flat.element(number);
     if element.flop {
-        start(element.phase)
+        start_node(element.phase)
     } else {
-        moment(flat, number)
+        flat.element_node(number)
     }
 }
 
@@ -75,7 +34,7 @@ pub fn start_link(phase: u32) -> Link
     Link {
         kind: LinkKind::Start { phase },
         from: 0,
-        to: start(phase),
+        to: start_node(phase),
         delay: 0,
         cycles: 0,
     }
@@ -88,7 +47,7 @@ pub fn cycle_link(phase: u32) -> Link
 {
     Link {
         kind: LinkKind::Cycle { phase },
-        from: start(phase),
+        from: start_node(phase),
         to: 0,
         delay: 0,
         cycles: 1,
@@ -103,8 +62,8 @@ pub fn order_link(phase: u32) -> Link
 {
     Link {
         kind: LinkKind::Order { phase },
-        from: start(phase),
-        to: start(phase + 1),
+        from: start_node(phase),
+        to: start_node(phase + 1),
         delay: 0,
         cycles: 0,
     }
@@ -117,8 +76,8 @@ pub fn span_link(phase: u32) -> Link
 {
     Link {
         kind: LinkKind::Span { phase },
-        from: end(phase),
-        to: start(phase),
+        from: end_node(phase),
+        to: start_node(phase),
         delay: 0,
         cycles: 1,
     }
@@ -146,8 +105,8 @@ pub fn width_link(flat: &Flat, phase: u32) -> Link
 {
     Link {
         kind: LinkKind::Width { phase },
-        from: start(phase),
-        to: end(phase),
+        from: start_node(phase),
+        to: end_node(phase),
         delay: width_needed(flat, phase),
         cycles: 0,
     }
@@ -162,8 +121,8 @@ pub fn apart_link(i: u32, j: u32) -> Link
 {
     Link {
         kind: LinkKind::Apart { i, j },
-        from: end(j),
-        to: start(i),
+        from: end_node(j),
+        to: start_node(i),
         delay: 0,
         cycles: crosses(j, i),
     }
@@ -175,7 +134,7 @@ fn opening_delay(flat: &Flat, number: u32) -> i64
     ensures value { result ≡ (opening_link_of flat.now number).delay }
     ensures range { IsSpan result }
 {
-    let element = element(flat, number);
+    let element = flat.element(number);
     if element.flop {
         -element.setup
     } else {
@@ -190,11 +149,11 @@ pub fn opening_link(flat: &Flat, number: u32) -> Link
     ensures value { result ≡ opening_link_of flat.now number }
     ensures range { IsSpan result.delay }
 {
-    let element = element(flat, number);
+    let element = flat.element(number);
     Link {
         kind: LinkKind::Opening { element: number },
-        from: start(element.phase),
-        to: moment(flat, number),
+        from: start_node(element.phase),
+        to: flat.element_node(number),
         delay: opening_delay(flat, number),
         cycles: 0,
     }
@@ -206,11 +165,11 @@ pub fn opened_link(flat: &Flat, number: u32) -> Link
     ensures value { result ≡ opened_link_of flat.now number }
     ensures range { IsSpan result.delay }
 {
-    let element = element(flat, number);
+    let element = flat.element(number);
     Link {
         kind: LinkKind::Opened { element: number },
-        from: start(element.phase),
-        to: end(element.phase),
+        from: start_node(element.phase),
+        to: end_node(element.phase),
         delay: element.setup,
         cycles: 0,
     }
@@ -225,12 +184,12 @@ pub fn reach_link(flat: &Flat, from: u32, to: u32, delay: i64) -> Link
     ensures range { IsSpan result.delay }
     ensures cycles { result.cycles ≤ 1 }
 {
-    let first = element(flat, from);
-    let second = element(flat, to);
+    let first = flat.element(from);
+    let second = flat.element(to);
     Link {
         kind: LinkKind::Reach { from, to },
         from: output(flat, from),
-        to: moment(flat, to),
+        to: flat.element_node(to),
         delay: first.dq_max + delay,
         cycles: crosses(first.phase, second.phase),
     }
@@ -242,15 +201,15 @@ pub fn setup_link(flat: &Flat, number: u32) -> Link
     ensures value { result ≡ setup_link_of flat.now number }
     ensures range { IsSpan result.delay }
 {
-    let element = element(flat, number);
+    let element = flat.element(number);
     let to = if element.flop {
-        start(element.phase)
+        start_node(element.phase)
     } else {
-        end(element.phase)
+        end_node(element.phase)
     };
     Link {
         kind: LinkKind::Setup { element: number },
-        from: moment(flat, number),
+        from: flat.element_node(number),
         to,
         delay: element.setup,
         cycles: 0,
@@ -266,8 +225,8 @@ pub fn bound_link(index: u32, bound: &Bound) -> Link
 {
     Link {
         kind: LinkKind::Bound { index },
-        from: point(bound.from),
-        to: point(bound.to),
+        from: point_node(bound.from),
+        to: point_node(bound.to),
         delay: bound.gap,
         cycles: bound.cycles,
     }

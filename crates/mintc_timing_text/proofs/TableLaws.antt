@@ -2,6 +2,7 @@
 use Rattle.std.proofs.Common.{◌≡◌, ◌∙◌, ℕ, zero, suc, ◌≤◌, ◌+◌, List, [], ◌∷◌, length, length-append, All, refl, sym, subst, arith}
 use Rattle.std.proofs.lemmas.List.{take_all}
 use Rattle.std.proofs.lemmas.List.Elements.{All-push, All-nil}
+use Rattle.mintc_text.specs.Refusals.{over_limit}
 use Rattle.mintc_text.specs.declared.limits.TheConstants.{MOST_PHASES, MOST_ELEMENTS, MOST_ARCS, MOST_BOUNDS}
 use Rattle.mintc_text.specs.declared.refusals.Refusal.{Refusal}
 use Rattle.mintc_text.specs.declared.refusals.Stop.{Stop}
@@ -10,7 +11,7 @@ use Rattle.mintc_text.specs.Stops.{StopsAt}
 use Rattle.mintc_timing.specs.declared.parts.TimingArc.{TimingArc}
 use Rattle.mintc_timing_text.specs.declared.table_text.Parts.{Parts}
 use Rattle.mintc_timing.specs.Design.{Design, design_of}
-use Rattle.mintc_timing.specs.Limits.{IsElement, IsArc, IsBound, HasParts, limit_of, over_limit, quantities}
+use Rattle.mintc_timing.specs.Limits.{IsElement, IsArc, IsBound, HasParts, limit_of, quantities}
 use Rattle.mintc_timing_text.specs.TableReading.{AreKept, ArePartsOf}
 use Rattle.mintc_timing_text.specs.TableText.{NextOfTable, IsTableText, TableLines, first, phases, phase, element, arcs, arc, bound, whole, inner_names, IsArcLine}
 use Rattle.mintc_timing_text.proofs.TableReading.{length-inner_names}

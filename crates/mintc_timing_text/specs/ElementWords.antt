@@ -9,7 +9,19 @@ use Rattle.mintc_timing_text.specs.Fields.{AreDelays}
 
 -- an element of this name and these numbers
 abbrev pub named : List ℕ → ElementNumbers → Element
-named name n = record { name = name; phase = n.phase; flop = n.flop; setup = n.setup; hold = n.hold; has_hold = n.has_hold; dq_min = n.dq_min; dq_max = n.dq_max; cq_min = n.cq_min; cq_max = n.cq_max; width = n.width }
+named name n = record {
+  name = name;
+  phase = n.phase;
+  flop = n.flop;
+  setup = n.setup;
+  hold = n.hold;
+  has_hold = n.has_hold;
+  dq_min = n.dq_min;
+  dq_max = n.dq_max;
+  cq_min = n.cq_min;
+  cq_max = n.cq_max;
+  width = n.width;
+}
 
 -- A version without a word for the kind has latches alone.
 abbrev pub IsKind : Version → Bool → Type 0
@@ -27,5 +39,7 @@ are_equal Latches flop = true
 are_equal Flops flop = true
 are_equal Openings flop = flop
 
+-- the least and the greatest delay from the opening edge, which are those from the data where the version asks it
 abbrev pub IsOpening : Version → Bool → ℤ → ℤ → ℤ → ℤ → Type 0
-IsOpening v flop dq_min dq_max cq_min cq_max = AreDelays cq_min cq_max × (IsTrue (are_equal v flop) → (cq_min ≡ dq_min) × (cq_max ≡ dq_max))
+IsOpening v flop dq_min dq_max cq_min cq_max = AreDelays cq_min cq_max
+    × (IsTrue (are_equal v flop) → (cq_min ≡ dq_min) × (cq_max ≡ dq_max))

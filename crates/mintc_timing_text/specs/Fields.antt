@@ -1,6 +1,8 @@
 -- Words, names, numbers and counts of a line.
-use Rattle.std.specs.Prelude.{◌≡◌, ◌≤◌, ◌==◌, ◌&&◌, ℕ, ℤ, ◌≤ℤ◌, Bool, true, false, if◌then◌else◌, nat_le, List, [], ◌∷◌, length, All, decimal}
+use Rattle.std.specs.Prelude.{◌≡◌, ◌≤◌, ◌==◌, ◌&&◌, ℕ, ℤ, ◌≤ℤ◌, Bool, true, false, if◌then◌else◌, nat_le, List, [], ◌∷◌}
+use Rattle.std.specs.Prelude.{length, All, decimal}
 use Rattle.std.specs.List.{slice_split}
+use Rattle.mintc_text.specs.Signs.{space}
 use Rattle.mintc_text.specs.declared.limits.TheConstants.{MOST_COUNT}
 use Rattle.mintc_text.specs.Lines.{words, numeral_of, IsGraphic, IsWithin}
 use Rattle.mintc_timing.specs.Limits.{IsDelay}
@@ -9,6 +11,7 @@ use Rattle.mintc_timing.specs.Limits.{IsDelay}
 abbrev pub IsCount : ℕ → Type 0
 IsCount n = n ≤ MOST_COUNT
 
+-- a number from 0 on, in decimal digits
 abbrev pub number : ℕ → List ℕ
 number n = decimal n
 
@@ -26,32 +29,36 @@ pub record AreDelays (low high : ℤ) : Type 0 where
 
 -- the words of a line, between its spaces
 abbrev pub fields_of : List ℕ → List (List ℕ)
-fields_of line = slice_split (λ b. b == 32) line
+fields_of line = slice_split (λ b. b == space) line
 
 -- the words that are left of a line: none once the last was read
 abbrev pub fields_left : Bool → List ℕ → List (List ℕ)
 fields_left done rest = if done then [] else fields_of rest
 
--- whether each byte of a word can be seen, and whether a line is made of such words
+-- whether each byte of a word can be seen
 abbrev pub plain : List ℕ → Bool
 plain [] = true
 plain (b ∷ bs) = (nat_le 33 b && nat_le b 126) && plain bs
 
+-- whether a line is made of one such word or more
 abbrev pub plain_line : List (List ℕ) → Bool
 plain_line [] = false
 plain_line (w ∷ []) = plain w
 plain_line (w ∷ x ∷ ws) = plain w && plain_line (x ∷ ws)
 
--- a line of a word alone, of a word and a number, of a word and a count, and of a word and a name
+-- a line of a word alone
 abbrev pub IsWordLine : List ℕ → Unit {0} → List (List ℕ) → Type 0
 IsWordLine word u ws = ws ≡ word ∷ []
 
+-- a line of a word and a number from least to most
 abbrev pub IsNumberLine : List ℕ → ℤ → ℤ → ℤ → List (List ℕ) → Type 0
 IsNumberLine word least most z ws = IsWithin least most z × (ws ≡ word ∷ numeral_of z ∷ [])
 
+-- a line of a word and a number from least to most, none of which is below 0
 abbrev pub IsCountLine : List ℕ → ℕ → ℕ → ℕ → List (List ℕ) → Type 0
 IsCountLine word least most n ws = (least ≤ n) × (n ≤ most) × (ws ≡ word ∷ number n ∷ [])
 
+-- a line of a word and a name
 abbrev pub IsNameLine : List ℕ → List ℕ → List (List ℕ) → Type 0
 IsNameLine word name ws = IsName name × (ws ≡ word ∷ name ∷ [])
 

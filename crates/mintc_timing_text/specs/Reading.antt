@@ -2,8 +2,8 @@
 use Rattle.std.specs.Prelude.{◌≡◌, ◌≤◌, ◌+◌, ℕ, List, ◌++◌, length, min}
 use Rattle.mintc_text.specs.declared.limits.TheConstants.{MOST_BYTES}
 use Rattle.mintc_text.specs.Lines.{ended, text_of, Follows, IsStuck}
-use Rattle.mintc_timing_text.specs.declared.halt.Halt.{Halt}
-use Rattle.mintc_timing_text.specs.declared.halt.Halt.TheVariants.{Form, Memory}
+use Rattle.mintc_text.specs.declared.read_error.ReadError.{ReadError}
+use Rattle.mintc_text.specs.declared.read_error.ReadError.TheVariants.{Malformed, OutOfMemory}
 use Rattle.mintc_timing_text.specs.Fields.{Spells}
 
 -- What a reader has yet to read of a text, and the number of the line that it asked for last, 0 at first.
@@ -26,9 +26,9 @@ abbrev pub HasNone : {V : Type 0} → (V → List (List ℕ) → Type 0) → Lis
 HasNone {V} F left = (v : V) (line more : List ℕ) → left ≡ ended line ++ more → Spells F v line → ⊥
 
 -- Where reading stops at a line's form, this is said. A want of memory says nothing.
-abbrev pub Halts : Type 0 → Halt → Type 0
-Halts fault Form = fault
-Halts fault Memory = Unit {0}
+abbrev pub Halts : Type 0 → ReadError → Type 0
+Halts fault Malformed = fault
+Halts fault OutOfMemory = Unit {0}
 
 -- The lines that were read lead from one state to another. They are counted as far as 32 bits go.
 pub record HasPassed {S : Type 0} (next : S → List ℕ → S → Type 0) (a : S) (old new : Reading) (b : S) : Type 0 where
@@ -38,7 +38,8 @@ pub record HasPassed {S : Type 0} (next : S → List ℕ → S → Type 0) (a : 
   pub count : old.number + length lines ≤ 4294967295 → new.number ≡ old.number + length lines
 
 -- Lines lead on from a state, to none of the last, and the line of this number is no line that may come then.
-pub record HasStopped {S : Type 0} (next : S → List ℕ → S → Type 0) (is_last : S → Type 0) (a : S) (old : Reading) (n : ℕ) : Type 0 where
+pub record HasStopped {S : Type 0} (next : S → List ℕ → S → Type 0) (is_last : S →
+    Type 0) (a : S) (old : Reading) (n : ℕ) : Type 0 where
   pub state : S
   pub here : Reading
   pub passed : HasPassed next a old here state
@@ -47,6 +48,7 @@ pub record HasStopped {S : Type 0} (next : S → List ℕ → S → Type 0) (is_
   pub counted : n ≡ number_after here.number
 
 -- The lines that were read of a short text lead to this state.
-pub record IsAt {S : Type 0} (next : S → List ℕ → S → Type 0) (start : S) (text : List ℕ) (reading : Reading) (state : S) : Type 0 where
+pub record IsAt {S : Type 0} (next : S → List ℕ → S → Type 0) (start : S) (text : List ℕ) (reading : Reading)
+    (state : S) : Type 0 where
   pub short : length text ≤ MOST_BYTES
   pub passed : HasPassed next start (record { left = text; number = 0 }) reading state

@@ -1,5 +1,6 @@
 //! Reading a line by its words.
-ghost use Rattle.std.specs.Prelude.{◌≡◌, ◌∷◌, [], ◌≤◌, ◌<◌, ◌≢◌, ℕ, ℤ, List, true, MatchOption, MatchBool, IfSome, IfNone, IsTrue, ◌↔◌, ◌^◌, slice_index, length};
+ghost use Rattle.std.specs.Prelude.{◌≡◌, ◌∷◌, [], ◌≤◌, ◌<◌, ◌≢◌, ℕ, ℤ, List, true, MatchOption, MatchBool, IfSome};
+ghost use Rattle.std.specs.Prelude.{IfNone, IsTrue, ◌↔◌, ◌^◌, slice_index, length};
 ghost use Rattle.mintc_text.specs.Lines.{numeral_of, IsWithin};
 ghost use Rattle.mintc_timing_text.specs.Fields.{IsName, AreDelays, number, fields_of};
 
@@ -26,7 +27,8 @@ impl<'a> Model for Fields<'a> {
 /// Whether the digits up to a place are 1 to 17, with no zero before others, and end a word.
 fn is_short_number(rest: &[u8], end: usize) -> bool
     requires { end ≤ length rest.now }
-    ensures { IsTrue result ↔ ((1 ≤ end) × (end ≤ 17) × (slice_index rest.now 0 ≡ 48 → end ≡ 1) × (end < length rest.now → slice_index rest.now end ≡ 32)) }
+    ensures { IsTrue result ↔ ((1 ≤ end) × (end ≤ 17) × (slice_index rest.now 0 ≡ 48 → end ≡ 1)
+        × (end < length rest.now → slice_index rest.now end ≡ 32)) }
 {
     1 <= end
         && end <= 17
@@ -37,7 +39,8 @@ fn is_short_number(rest: &[u8], end: usize) -> bool
 /// Whether a word without a space stands at the front of a line.
 fn begins_with(rest: &[u8], word: &[u8]) -> bool
     ensures { IsTrue result → (length word.now ≤ length rest.now)
-        × ((k : ℕ) → k < length word.now → (slice_index rest.now k ≡ slice_index word.now k) × (slice_index rest.now k ≢ 32))
+        × ((k : ℕ) → k < length word.now → (slice_index rest.now k ≡ slice_index word.now k)
+        × (slice_index rest.now k ≢ 32))
         × (length word.now < length rest.now → slice_index rest.now (length word.now) ≡ 32) }
 {
     if rest.len() < word.len() {
@@ -192,7 +195,8 @@ impl<'a> Fields<'a> {
     /// The next two words as delays from 0 to 10^9 femtoseconds, the first at most the second. None where none come.
     pub fn delays(&mut self) -> Option<(i64, i64)>
         ensures { MatchOption result
-            ((low high : ℤ) (more : List (List ℕ)) → AreDelays low high → self.old ≡ numeral_of low ∷ numeral_of high ∷ more → ⊥)
+            ((low high : ℤ) (more : List (List ℕ)) → AreDelays low high →
+            self.old ≡ numeral_of low ∷ numeral_of high ∷ more → ⊥)
             (λ found. AreDelays found.0 found.1 × (self.old ≡ numeral_of found.0 ∷ numeral_of found.1 ∷ self.new)) }
     {
         let low = self.number(0, MOST_DELAY)?;

@@ -1,11 +1,10 @@
 //! The texts of lines: what tables and schedules say, and a reader of lines for other texts.
 //!
-//! A line is its words, and each text is one line after another in an order that its form fixes. A reader gives the value of a
-//! text that is in form, else the number of the first line that is not.
+//! A line is its words, and each text is one line after another in an order that its form fixes. A reader gives the
+//! value of a text that is in form, else the number of the first line that is not.
 #![tactic(auto)]
 
 mod fields;
-mod halt;
 mod reader;
 mod schedule_text;
 mod table_lines;
@@ -13,7 +12,6 @@ mod table_text;
 mod text_laws;
 
 pub use fields::Fields;
-pub use halt::Halt;
 pub use reader::Reader;
 pub use schedule_text::{read_schedule, schedule_lines};
 pub use table_text::read_table;

@@ -4,7 +4,8 @@ ghost use Rattle.mintc_text.specs.declared.limits.TheConstants.{MOST_BYTES};
 ghost use Rattle.mintc_text.specs.declared.refusals.Role.{Role};
 ghost use Rattle.mintc_timing.specs.Limits.{IsInRange, IsDenominator, IsNumerator};
 ghost use Rattle.mintc_timing_text.specs.Reading.{Reading, HasPassed, HasStopped, IsAt};
-ghost use Rattle.mintc_timing_text.specs.Texts.{NextAlone, AreAll, NextOfText, IsScheduleText, IsScheduleFault, no_phases, schedule_of, den, phase, first};
+ghost use Rattle.mintc_timing_text.specs.Texts.{NextAlone, AreAll, NextOfText, IsScheduleText, IsScheduleFault};
+ghost use Rattle.mintc_timing_text.specs.Texts.{no_phases, schedule_of, den, phase, first};
 
 use crate::Reader;
 use arrayvec::ArrayVec;
@@ -16,7 +17,8 @@ use mintc_timing::{PhaseNumbers, Schedule};
 fn phases(reader: &mut Reader, count: u32) -> Option<(PhaseNumbers, PhaseNumbers)>
     requires { count ≤ MOST_PHASES }
     ensures { (begun : Reading) (d t : ℤ) → HasPassed NextAlone den begun reader.old (phase count (no_phases d t)) →
-        MatchOption result (HasStopped NextAlone AreAll den begun reader.new.number) (λ r. HasPassed NextAlone den begun reader.new (phase 0 (schedule_of d t r.0 r.1))) }
+        MatchOption result (HasStopped NextAlone AreAll den begun reader.new.number)
+        (λ r. HasPassed NextAlone den begun reader.new (phase 0 (schedule_of d t r.0 r.1))) }
 {
     let mut starts = ArrayVec::new();
     let mut widths = ArrayVec::new();

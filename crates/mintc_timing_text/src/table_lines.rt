@@ -7,7 +7,9 @@ ghost use Rattle.mintc_timing.specs.declared.parts.Point.{Point};
 ghost use Rattle.mintc_timing.specs.declared.parts.TimingArc.{TimingArc};
 ghost use Rattle.mintc_timing.specs.Limits.{IsPoint};
 ghost use Rattle.mintc_timing_text.specs.ElementWords.{named, IsKind, IsHold, IsOpening};
-ghost use Rattle.mintc_timing_text.specs.TableText.{version_of, kind_word, hold_word, with_kind, with_openings, point_word, IsElementLine, IsFromWord, IsToWord, IsArcLine, IsBoundLine};
+ghost use Rattle.mintc_timing_text.specs.TableText.{version_of, kind_word, hold_word, with_kind, with_openings};
+ghost use Rattle.mintc_timing_text.specs.TableText.{point_word, IsElementLine, IsFromWord, IsToWord, IsArcLine};
+ghost use Rattle.mintc_timing_text.specs.TableText.{IsBoundLine};
 
 use crate::Fields;
 use mintc_text::limits::{MOST_COUNT, MOST_DELAY};
@@ -101,7 +103,8 @@ fn hold(fields: &mut Fields) -> Option<(bool, i64)>
 fn openings(fields: &mut Fields, version: Version, flop: bool, dq: (i64, i64)) -> Option<(i64, i64)>
     requires { AreDelays dq.0 dq.1 }
     ensures { MatchOption result
-        ((low high : ℤ) (more : List (List ℕ)) → IsOpening version flop dq.0 dq.1 low high → fields.old ≡ with_openings version low high more → ⊥)
+        ((low high : ℤ) (more : List (List ℕ)) → IsOpening version flop dq.0 dq.1 low high →
+        fields.old ≡ with_openings version low high more → ⊥)
         (λ cq. IsOpening version flop dq.0 dq.1 cq.0 cq.1 × (fields.old ≡ with_openings version cq.0 cq.1 fields.new)) }
 {
     match version {

@@ -1,5 +1,6 @@
 //! Reading the text of a table.
-ghost use Rattle.std.specs.Prelude.{◌≡◌, ◌≤◌, ◌<◌, ◌∷◌, ◌++◌, [], ℕ, List, OnOk, MatchOption, MatchResult, IfOk, IfErr, Some, length, take, codes, decimal};
+ghost use Rattle.std.specs.Prelude.{◌≡◌, ◌≤◌, ◌<◌, ◌∷◌, ◌++◌, [], ℕ, List, OnOk, MatchOption, MatchResult, IfOk, IfErr};
+ghost use Rattle.std.specs.Prelude.{Some, length, take, codes, decimal};
 ghost use Rattle.mintc_text.specs.declared.limits.TheConstants.{MOST_BYTES};
 ghost use Rattle.mintc_text.specs.Stops.{StopsAt};
 ghost use Rattle.mintc_timing.specs.declared.parts.Bound.{Bound};
@@ -12,12 +13,14 @@ ghost use Rattle.mintc_timing_text.specs.Fields.{IsCount};
 ghost use Rattle.mintc_timing.specs.Limits.{HasParts, limit_of};
 ghost use Rattle.mintc_timing_text.specs.Reading.{HasNone, HasRead, Halts, IsAt, number_after};
 ghost use Rattle.mintc_timing_text.specs.TableReading.{AreKept, ArePartsOf};
-ghost use Rattle.mintc_timing_text.specs.TableText.{NextOfTable, IsElementLine, IsArcLine, IsBoundLine, IsTableText, IsTableFault, IsTableRefusal, inner_names, first, phase, element, arc, bound, phases as before_phases, arcs as before_arcs};
+ghost use Rattle.mintc_timing_text.specs.TableText.{NextOfTable, IsElementLine, IsArcLine, IsBoundLine, IsTableText};
+ghost use Rattle.mintc_timing_text.specs.TableText.{IsTableFault, IsTableRefusal, inner_names, first, phase, element};
+ghost use Rattle.mintc_timing_text.specs.TableText.{arc, bound, phases as before_phases, arcs as before_arcs};
 
+use crate::Reader;
 use crate::table_lines::{ElementNumbers, Version, arc_of, bound_of, element_of, version_of};
-use crate::{Halt, Reader};
 use mintc_text::limits::{MOST_ARCS, MOST_BOUNDS, MOST_COUNT, MOST_ELEMENTS, MOST_PHASES};
-use mintc_text::{Lines, Name, Names, OutOfMemory, Refusal, Role, Stop};
+use mintc_text::{Lines, Name, Names, OutOfMemory, ReadError, Refusal, Role, Stop};
 use mintc_timing::{Bound, Element, Flat, TimingArc, first_over};
 use std::alloc::Global;
 
@@ -40,15 +43,14 @@ struct Parts {
 
 /// Appends an item where there are fewer than `most`.
 fn keep<T: Drop>(items: &mut Vec<T>, most: usize, item: T) -> Result<(), OutOfMemory>
-    ensures { OnOk result ((all : List T) → items.old.items ≡ take most all → items.new.items ≡ take most (all ++ item ∷ [])) }
+    ensures { OnOk result ((all : List T) → items.old.items ≡ take most all →
+        items.new.items ≡ take most (all ++ item ∷ [])) }
 {
     if items.len() >= most {
         return Ok(());
     }
-    match items.push(item) {
-        Ok(()) => Ok(()),
-        Err(_) => Err(OutOfMemory),
-    }
+    items.push(item)?;
+    Ok(())
 }
 
 /// Reads the line of an element.
@@ -95,26 +97,24 @@ fn bound_line(reader: &mut Reader, phases: u32) -> Option<Bound>
 fn element_with(alloc: Global, name: &[u8], numbers: ElementNumbers) -> Result<Element, OutOfMemory>
     ensures { IfOk result (λ e. e ≡ named name.now numbers) }
 {
-    match Name::new(alloc, name) {
-        Ok(name) => Ok(Element {
-            name,
-            phase: numbers.phase,
-            flop: numbers.flop,
-            setup: numbers.setup,
-            hold: numbers.hold,
-            has_hold: numbers.has_hold,
-            dq_min: numbers.dq_min,
-            dq_max: numbers.dq_max,
-            cq_min: numbers.cq_min,
-            cq_max: numbers.cq_max,
-            width: numbers.width,
-        }),
-        Err(error) => Err(error),
-    }
+    let name = Name::new(alloc, name)?;
+    Ok(Element {
+        name,
+        phase: numbers.phase,
+        flop: numbers.flop,
+        setup: numbers.setup,
+        hold: numbers.hold,
+        has_hold: numbers.has_hold,
+        dq_min: numbers.dq_min,
+        dq_max: numbers.dq_max,
+        cq_min: numbers.cq_min,
+        cq_max: numbers.cq_max,
+        width: numbers.width,
+    })
 }
 
 /// Reads the number of phases and their lines.
-fn phases(alloc: Global, reader: &mut Reader) -> Result<Listed<Name>, Halt>
+fn phases(alloc: Global, reader: &mut Reader) -> Result<Listed<Name>, ReadError>
     ensures read { (text : List ℕ) (v : Version) → IsAt NextOfTable first text reader.old (before_phases v) →
         MatchResult result
         (λ listed. (all : List (List ℕ)) × (1 ≤ length all) × AreKept MOST_PHASES all listed.kept.items listed.count
@@ -123,19 +123,15 @@ fn phases(alloc: Global, reader: &mut Reader) -> Result<Listed<Name>, Halt>
     ensures few { IfOk result (λ listed. IsCount listed.count) }
 {
     let Some(count) = reader.count_line(b"phases", 1, MOST_COUNT) else {
-        return Err(Halt::Form);
+        return Err(ReadError::Malformed);
     };
     let mut kept = Vec::new(alloc);
     for _phase in 0..count {
         let Some(name) = reader.name_line(b"phase") else {
-            return Err(Halt::Form);
+            return Err(ReadError::Malformed);
         };
-        let Ok(name) = Name::new(alloc, name) else {
-            return Err(Halt::Memory);
-        };
-        let Ok(()) = keep(&mut kept, MOST_PHASES, name) else {
-            return Err(Halt::Memory);
-        };
+        let name = Name::new(alloc, name)?;
+        keep(&mut kept, MOST_PHASES, name)?;
     }
     Ok(Listed { kept, count })
 }
@@ -146,8 +142,9 @@ fn elements(
     reader: &mut Reader,
     version: Version,
     phases: u32,
-) -> Result<Listed<Element>, Halt>
-    ensures read { (text : List ℕ) (ps : List (List ℕ)) → length ps ≡ phases → IsAt NextOfTable first text reader.old (phase version 0 (design_of ps [] [] [] [])) →
+) -> Result<Listed<Element>, ReadError>
+    ensures read { (text : List ℕ) (ps : List (List ℕ)) → length ps ≡ phases →
+        IsAt NextOfTable first text reader.old (phase version 0 (design_of ps [] [] [] [])) →
         MatchResult result
         (λ listed. (all : List Element) × AreKept MOST_ELEMENTS all listed.kept.items listed.count
         × IsAt NextOfTable first text reader.new (element version 0 (design_of ps all [] [] [])))
@@ -155,19 +152,15 @@ fn elements(
     ensures few { IfOk result (λ listed. IsCount listed.count) }
 {
     let Some(count) = reader.count_line(b"elements", 0, MOST_COUNT) else {
-        return Err(Halt::Form);
+        return Err(ReadError::Malformed);
     };
     let mut kept = Vec::new(alloc);
     for _element in 0..count {
         let Some((name, numbers)) = element_line(reader, version, phases) else {
-            return Err(Halt::Form);
+            return Err(ReadError::Malformed);
         };
-        let Ok(element) = element_with(alloc, name, numbers) else {
-            return Err(Halt::Memory);
-        };
-        let Ok(()) = keep(&mut kept, MOST_ELEMENTS, element) else {
-            return Err(Halt::Memory);
-        };
+        let element = element_with(alloc, name, numbers)?;
+        keep(&mut kept, MOST_ELEMENTS, element)?;
     }
     Ok(Listed { kept, count })
 }
@@ -178,10 +171,11 @@ fn arcs(
     reader: &mut Reader,
     elements: u32,
     inner: u32,
-) -> Result<Listed<TimingArc>, Halt>
+) -> Result<Listed<TimingArc>, ReadError>
     requires elements { IsCount elements }
     requires inner { IsCount inner }
-    ensures { (text : List ℕ) (ps : List (List ℕ)) (es : List Element) (ns : List (List ℕ)) → length es ≡ elements → length ns ≡ inner →
+    ensures { (text : List ℕ) (ps : List (List ℕ)) (es : List Element) (ns : List (List ℕ)) → length es ≡ elements →
+        length ns ≡ inner →
         IsAt NextOfTable first text reader.old (before_arcs (design_of ps es ns [] [])) →
         MatchResult result
         (λ listed. (all : List TimingArc) × AreKept MOST_ARCS all listed.kept.items listed.count
@@ -189,24 +183,23 @@ fn arcs(
         (Halts (IsTableFault text reader.new.number)) }
 {
     let Some(count) = reader.count_line(b"arcs", 0, MOST_COUNT) else {
-        return Err(Halt::Form);
+        return Err(ReadError::Malformed);
     };
     let mut kept = Vec::new(alloc);
     for _arc in 0..count {
         let Some(arc) = arc_line(reader, elements, inner) else {
-            return Err(Halt::Form);
+            return Err(ReadError::Malformed);
         };
-        let Ok(()) = keep(&mut kept, MOST_ARCS, arc) else {
-            return Err(Halt::Memory);
-        };
+        keep(&mut kept, MOST_ARCS, arc)?;
     }
     Ok(Listed { kept, count })
 }
 
 /// Reads the number of bounds and their lines, in a table of so many phases.
-fn bounds(alloc: Global, reader: &mut Reader, phases: u32) -> Result<Listed<Bound>, Halt>
+fn bounds(alloc: Global, reader: &mut Reader, phases: u32) -> Result<Listed<Bound>, ReadError>
     requires { IsCount phases }
-    ensures { (text : List ℕ) (ps : List (List ℕ)) (es : List Element) (ns : List (List ℕ)) (xs : List TimingArc) → length ps ≡ phases →
+    ensures { (text : List ℕ) (ps : List (List ℕ)) (es : List Element) (ns : List (List ℕ)) (xs : List TimingArc) →
+        length ps ≡ phases →
         IsAt NextOfTable first text reader.old (arc 0 (design_of ps es ns xs [])) →
         MatchResult result
         (λ listed. (all : List Bound) × AreKept MOST_BOUNDS all listed.kept.items listed.count
@@ -214,42 +207,44 @@ fn bounds(alloc: Global, reader: &mut Reader, phases: u32) -> Result<Listed<Boun
         (Halts (IsTableFault text reader.new.number)) }
 {
     let Some(count) = reader.count_line(b"bounds", 0, MOST_COUNT) else {
-        return Err(Halt::Form);
+        return Err(ReadError::Malformed);
     };
     let mut kept = Vec::new(alloc);
     for _bound in 0..count {
         let Some(bound) = bound_line(reader, phases) else {
-            return Err(Halt::Form);
+            return Err(ReadError::Malformed);
         };
-        let Ok(()) = keep(&mut kept, MOST_BOUNDS, bound) else {
-            return Err(Halt::Memory);
-        };
+        keep(&mut kept, MOST_BOUNDS, bound)?;
     }
     Ok(Listed { kept, count })
 }
 
 /// Reads the lines before those of the arcs: the phases, the elements and the number of inner bits.
-fn front(alloc: Global, reader: &mut Reader) -> Result<(Listed<Name>, Listed<Element>, u32), Halt>
+fn front(
+    alloc: Global,
+    reader: &mut Reader,
+) -> Result<(Listed<Name>, Listed<Element>, u32), ReadError>
     ensures read { (text : List ℕ) → IsAt NextOfTable first text reader.old first →
         MatchResult result
-        (λ r. (ps : List (List ℕ)) × (es : List Element) × AreKept MOST_PHASES ps r.0.kept.items r.0.count × AreKept MOST_ELEMENTS es r.1.kept.items r.1.count
+        (λ r. (ps : List (List ℕ)) × (es : List Element) × AreKept MOST_PHASES ps r.0.kept.items r.0.count
+        × AreKept MOST_ELEMENTS es r.1.kept.items r.1.count
         × IsAt NextOfTable first text reader.new (before_arcs (design_of ps es (inner_names r.2) [] [])))
         (Halts (IsTableFault text reader.new.number)) }
     ensures few { IfOk result (λ r. IsCount r.0.count × IsCount r.1.count × IsCount r.2) }
 {
     let Some(number) = reader.count_line(b"table", 1, 3) else {
-        return Err(Halt::Form);
+        return Err(ReadError::Malformed);
     };
     let names = phases(alloc, reader)?;
     let listed = elements(alloc, reader, version_of(number), names.count)?;
     let Some(inner) = reader.count_line(b"inner", 0, MOST_COUNT) else {
-        return Err(Halt::Form);
+        return Err(ReadError::Malformed);
     };
     Ok((names, listed, inner))
 }
 
 /// Reads all lines of a table, and that none follows.
-fn table(alloc: Global, reader: &mut Reader) -> Result<Parts, Halt>
+fn table(alloc: Global, reader: &mut Reader) -> Result<Parts, ReadError>
     ensures { (text : List ℕ) → IsAt NextOfTable first text reader.old first →
         MatchResult result
         (λ parts. (d : Design) × IsTableText text d × ArePartsOf d parts)
@@ -259,10 +254,10 @@ fn table(alloc: Global, reader: &mut Reader) -> Result<Parts, Halt>
     let joined = arcs(alloc, reader, listed.count, inner)?;
     let demands = bounds(alloc, reader, names.count)?;
     let Some(()) = reader.word_line(b"end") else {
-        return Err(Halt::Form);
+        return Err(ReadError::Malformed);
     };
     let Some(()) = reader.end() else {
-        return Err(Halt::Form);
+        return Err(ReadError::Malformed);
     };
     Ok(Parts {
         phases: names,
@@ -290,9 +285,7 @@ fn inner_names(alloc: Global, count: u32) -> Result<Names, OutOfMemory>
     let mut names = Vec::new(alloc);
     for number in 0..count {
         let name = inner_name(alloc, number)?;
-        let Ok(()) = names.push(name) else {
-            return Err(OutOfMemory);
-        };
+        names.push(name)?;
     }
     Ok(Names::new(names))
 }
@@ -312,9 +305,7 @@ fn flat_of(alloc: Global, parts: Parts) -> Result<Flat, Stop>
     ) {
         return Err(Stop::Refused(refusal));
     }
-    let Ok(inner) = inner_names(alloc, parts.inner) else {
-        return Err(Stop::OutOfMemory);
-    };
+    let inner = inner_names(alloc, parts.inner)?;
     let Parts {
         phases,
         elements,
@@ -322,16 +313,13 @@ fn flat_of(alloc: Global, parts: Parts) -> Result<Flat, Stop>
         arcs,
         bounds,
     } = parts;
-    match Flat::new(
+    Ok(Flat::new(
         Names::new(phases.kept),
         elements.kept,
         inner,
         arcs.kept,
         bounds.kept,
-    ) {
-        Ok(flat) => Ok(flat),
-        Err(refusal) => Err(Stop::Refused(refusal)),
-    }
+    )?)
 }
 
 /// The design of a table's text. The refusal is Syntax with the first line that is out of form, counted from 1, and
@@ -345,10 +333,10 @@ pub fn read_table(alloc: Global, text: &[u8]) -> Result<Flat, Stop>
     let mut reader = Reader::new(text);
     match table(alloc, &mut reader) {
         Ok(parts) => flat_of(alloc, parts),
-        Err(Halt::Form) => Err(Stop::Refused(Refusal::Syntax {
+        Err(ReadError::Malformed) => Err(Stop::Refused(Refusal::Syntax {
             role: Role::Table,
             entry: reader.number(),
         })),
-        Err(Halt::Memory) => Err(Stop::OutOfMemory),
+        Err(ReadError::OutOfMemory) => Err(Stop::OutOfMemory),
     }
 }

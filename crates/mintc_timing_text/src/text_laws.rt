@@ -1,5 +1,7 @@
 //! Laws of the texts of schedules and tables.
-ghost use Rattle.mintc_timing_text.specs.TextLaws.{HaveOneSchedule, HaveNoScheduleFault, HaveOneScheduleFault, HaveOneDesign, HaveNoTableFault, HaveOneTableFault, HaveOneScheduleText, HaveOneTableText};
+ghost use Rattle.mintc_timing_text.specs.TextLaws.{HaveOneSchedule, HaveNoScheduleFault, HaveOneScheduleFault};
+ghost use Rattle.mintc_timing_text.specs.TextLaws.{HaveOneDesign, HaveNoTableFault, HaveOneTableFault};
+ghost use Rattle.mintc_timing_text.specs.TextLaws.{HaveOneScheduleText, HaveOneTableText};
 
 /// A text is that of at most one schedule; where it is that of one, no line is at fault; and at most one line is.
 #[tactic(auto, using(crate::proofs::SharedScheduleLaws::schedule_texts))]

@@ -2,7 +2,9 @@
 ghost use Rattle.std.specs.Prelude.{[], ◌≡◌, ◌<◌, ◌^◌, length, map, is_some, Some, None, MatchOption, IfOk};
 ghost use Rattle.toml.specs.Data.{get_member};
 ghost use Rattle.toml.specs.View.{view, table_view, array_view};
-ghost use Rattle.mintc_toml.specs.Lookups.{texts, are_texts, texts_of, are_texts_of, text_in, is_text_in, texts_in, are_texts_in, integer_in, is_integer_in, flag_in, is_flag_in, tables, are_tables, tables_of, are_tables_of, tables_in, are_tables_in};
+ghost use Rattle.mintc_toml.specs.Lookups.{texts, are_texts, texts_of, are_texts_of, text_in, is_text_in, texts_in};
+ghost use Rattle.mintc_toml.specs.Lookups.{are_texts_in, integer_in, is_integer_in, flag_in, is_flag_in, tables};
+ghost use Rattle.mintc_toml.specs.Lookups.{are_tables, tables_of, are_tables_of, tables_in, are_tables_in};
 
 use mintc_text::{Name, Names, OutOfMemory};
 use std::alloc::Global;
@@ -29,10 +31,7 @@ pub fn integer(table: &Table, key: &str, default: i64) -> i64
     ensures { result ≡ integer_in default (get_member key.now (table_view table.now)) }
 {
     match member(table, key) {
-        Some(value) => match value.as_integer() {
-            Some(number) => number,
-            None => default,
-        },
+        Some(value) => value.as_integer().unwrap_or(default),
         None => default,
     }
 }
@@ -52,10 +51,7 @@ pub fn flag(table: &Table, key: &str, default: bool) -> bool
     ensures { result ≡ flag_in default (get_member key.now (table_view table.now)) }
 {
     match member(table, key) {
-        Some(value) => match value.as_bool() {
-            Some(flag) => flag,
-            None => default,
-        },
+        Some(value) => value.as_bool().unwrap_or(default),
         None => default,
     }
 }
@@ -75,10 +71,7 @@ pub fn text<'a>(table: &'a Table, key: &str, default: &'a str) -> &'a str
     ensures { result.now ≡ text_in default.now (get_member key.now (table_view table.now)) }
 {
     match member(table, key) {
-        Some(value) => match value.as_str() {
-            Some(text) => text,
-            None => default,
-        },
+        Some(value) => value.as_str().unwrap_or(default),
         None => default,
     }
 }
@@ -191,7 +184,8 @@ fn tables_among(alloc: Global, items: &Array) -> Result<Vec<&Table>, OutOfMemory
 
 /// The tables of the array at a key, none where there is none.
 pub fn tables<'a>(alloc: Global, table: &'a Table, key: &str) -> Result<Vec<&'a Table>, OutOfMemory>
-    ensures { IfOk result (λ v. map (λ t. table_view t.now) v.items ≡ tables_in (get_member key.now (table_view table.now))) }
+    ensures { IfOk result (λ v. map (λ t. table_view t.now) v.items
+        ≡ tables_in (get_member key.now (table_view table.now))) }
 {
     match member(table, key) {
         Some(value) => match value.as_array() {

@@ -1,5 +1,6 @@
 -- Expressions as trees: how they are written, and what they stand for.
 use Rattle.std.specs.Prelude.{◌≡◌, ℕ, zero, suc, ◌+◌, ◌≤◌, max, List, [], ◌∷◌, ◌++◌, length}
+use Rattle.mintc_text.specs.Signs.{close_brace, close_bracket, colon, comma, open_brace, open_bracket}
 use Rattle.mintc_text.specs.declared.limits.TheConstants.{MOST_WIDTH}
 use Rattle.mintc_netlist.specs.declared.expression.Piece.{Piece}
 use Rattle.mintc_netlist.specs.declared.expression.Piece.TheVariants as piece
@@ -18,21 +19,24 @@ mutual
 -- NAME, NAME[NUM], NAME[NUM:NUM], a constant
 abbrev pub spell_piece : Piece → List Lexeme
 spell_piece (piece.Net n) = name n ∷ []
-spell_piece (piece.Bit n at) = name n ∷ sign 91 ∷ number at ∷ sign 93 ∷ []
-spell_piece (piece.Part n msb lsb) = name n ∷ sign 91 ∷ number msb ∷ sign 58 ∷ number lsb ∷ sign 93 ∷ []
+spell_piece (piece.Bit n at) = name n ∷ sign open_bracket ∷ number at ∷ sign close_bracket ∷ []
+spell_piece (piece.Part n msb lsb) = name n ∷ sign open_bracket ∷ number msb ∷ sign colon ∷ number lsb ∷
+    sign close_bracket ∷ []
 spell_piece (piece.Constant width) = sized width ∷ []
 
 -- {EXPR, EXPR} and {NUM{EXPR, EXPR}}
 unfoldable mutual
   pub spell : Tree → List Lexeme
   spell (plain p) = spell_piece p
-  spell (concat ts) = sign 123 ∷ spell_all ts ++ sign 125 ∷ []
-  spell (repeat n ts) = sign 123 ∷ number n ∷ sign 123 ∷ spell_all ts ++ sign 125 ∷ sign 125 ∷ []
+  spell (concat ts) = sign open_brace ∷ spell_all ts ++ sign close_brace ∷ []
+  spell (repeat n ts) = sign open_brace ∷ number n ∷ sign open_brace ∷ spell_all ts ++ sign close_brace ∷
+      sign close_brace ∷ []
 
   pub spell_all : Trees → List Lexeme
   spell_all (one t) = spell t
-  spell_all (more t ts) = spell t ++ sign 44 ∷ spell_all ts
+  spell_all (more t ts) = spell t ++ sign comma ∷ spell_all ts
 
+-- pieces so many times
 abbrev pub repeated : ℕ → List Piece → List Piece
 repeated zero ps = []
 repeated (suc n) ps = ps ++ repeated n ps

@@ -3,10 +3,12 @@ use Rattle.std.specs.Prelude.{ℕ, Bool, true, false, if◌then◌else◌, List,
 use Rattle.mintc_verilog_expressions.specs.Lexemes.{Lexeme, key}
 use Rattle.mintc_verilog_expressions.specs.Reading.{Read}
 
+-- the lexeme is this reserved word
 abbrev pub is_key : List ℕ → Lexeme → Bool
 is_key w (key k) = bytes_eq k w
 is_key w _ = false
 
+-- what is left behind a reserved word
 abbrev pub eat_key : List ℕ → List Lexeme → Option (List Lexeme)
 eat_key w [] = None
 eat_key w (l ∷ ls) = if is_key w l then Some ls else None
@@ -17,5 +19,6 @@ direction_from (Some rest) input = Some (true, rest)
 direction_from None (Some rest) = Some (false, rest)
 direction_from None None = None
 
+-- `output`, which is true, or `input`
 abbrev pub direction_at : Read Bool
 direction_at ls = direction_from (eat_key (codes "output") ls) (eat_key (codes "input") ls)

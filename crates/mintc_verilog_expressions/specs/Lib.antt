@@ -3,4 +3,3 @@ pub mod Expressions
 pub mod Left
 pub mod Reading
 pub mod Keys
-pub mod Halting

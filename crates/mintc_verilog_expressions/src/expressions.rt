@@ -1,30 +1,26 @@
 //! Expressions, with braces within braces.
 ghost use Rattle.std.specs.Prelude.{◌≡◌, ◌++◌, Some, None, MatchResult, IfOk, OnOk, length};
 ghost use Rattle.mintc_verilog_expressions.specs.Expressions.{repeated};
-ghost use Rattle.mintc_verilog_expressions.specs.Halting.{Halts};
+ghost use Rattle.mintc_text.specs.ReadErrors.{Halts};
 ghost use Rattle.mintc_verilog_expressions.specs.Reading.{one_piece, plain_at, expression, items, inside, turns};
 
-use crate::halt::{Halt, append, push, single};
+use crate::lists::single;
 use crate::reader::Reader;
 use mintc_netlist::Piece;
 use mintc_text::limits::MOST_WIDTH;
-use mintc_text::{Name, OutOfMemory};
+use mintc_text::{Name, OutOfMemory, ReadError};
 use std::alloc::Global;
 
 /// An expression without braces, as a list of one piece.
-fn one(alloc: Global, reader: &mut Reader) -> Result<Vec<Piece>, Halt>
-    ensures { MatchResult result (λ v. one_piece (plain_at reader.old) ≡ Some (v.items, reader.new)) (Halts (one_piece (plain_at reader.old) ≡ None)) }
+fn one(alloc: Global, reader: &mut Reader) -> Result<Vec<Piece>, ReadError>
+    ensures { MatchResult result (λ v. one_piece (plain_at reader.old) ≡ Some (v.items, reader.new))
+        (Halts (one_piece (plain_at reader.old) ≡ None)) }
 {
-    let Ok(piece) = reader.plain(alloc) else {
-        return Err(Halt::Memory);
-    };
+    let piece = reader.plain(alloc)?;
     let Some(piece) = piece else {
-        return Err(Halt::Form);
+        return Err(ReadError::Malformed);
     };
-    match single(alloc, piece) {
-        Ok(pieces) => Ok(pieces),
-        Err(_) => Err(Halt::Memory),
-    }
+    Ok(single(alloc, piece)?)
 }
 
 /// A piece once more.
@@ -58,7 +54,7 @@ fn append_copy(alloc: Global, out: &mut Vec<Piece>, pieces: &[Piece]) -> Result<
 {
     for piece in pieces {
         let piece = copy(alloc, piece)?;
-        push(out, piece)?;
+        out.push(piece)?;
     }
     Ok(())
 }
@@ -76,18 +72,17 @@ fn repeat(alloc: Global, pieces: Vec<Piece>, times: u32) -> Result<Vec<Piece>, O
 
 /// Expressions with commas.
 #[cycle(nest)]
-fn read_items(alloc: Global, reader: &mut Reader, depth: u32) -> Result<Vec<Piece>, Halt>
-    ensures { MatchResult result (λ v. items (expression depth) (length reader.old) reader.old ≡ Some (v.items, reader.new)) (Halts (items (expression depth) (length reader.old) reader.old ≡ None)) }
+fn read_items(alloc: Global, reader: &mut Reader, depth: u32) -> Result<Vec<Piece>, ReadError>
+    ensures { MatchResult result (λ v. items (expression depth) (length reader.old) reader.old
+        ≡ Some (v.items, reader.new)) (Halts (items (expression depth) (length reader.old) reader.old ≡ None)) }
 {
     let mut out = Vec::new(alloc);
     loop {
-        let more = read_expression(alloc, reader, depth)?;
+        let mut more = read_expression(alloc, reader, depth)?;
         if MOST_WIDTH - out.len() < more.len() {
-            return Err(Halt::Form);
+            return Err(ReadError::Malformed);
         }
-        let Ok(()) = append(&mut out, more) else {
-            return Err(Halt::Memory);
-        };
+        out.append(&mut more)?;
         if !reader.eat(b',') {
             return Ok(out);
         }
@@ -96,8 +91,13 @@ fn read_items(alloc: Global, reader: &mut Reader, depth: u32) -> Result<Vec<Piec
 
 /// An expression with at most so many braces open.
 #[cycle(nest)]
-pub fn read_expression(alloc: Global, reader: &mut Reader, depth: u32) -> Result<Vec<Piece>, Halt>
-    ensures { MatchResult result (λ v. expression depth reader.old ≡ Some (v.items, reader.new)) (Halts (expression depth reader.old ≡ None)) }
+pub fn read_expression(
+    alloc: Global,
+    reader: &mut Reader,
+    depth: u32,
+) -> Result<Vec<Piece>, ReadError>
+    ensures { MatchResult result (λ v. expression depth reader.old ≡ Some (v.items, reader.new))
+        (Halts (expression depth reader.old ≡ None)) }
 {
     if depth == 0 {
         return one(alloc, reader);
@@ -110,15 +110,16 @@ pub fn read_expression(alloc: Global, reader: &mut Reader, depth: u32) -> Result
 
 /// What stands behind a brace, with at most so many more open.
 #[cycle(nest)]
-fn read_inside(alloc: Global, reader: &mut Reader, depth: u32) -> Result<Vec<Piece>, Halt>
-    ensures { MatchResult result (λ v. inside depth reader.old ≡ Some (v.items, reader.new)) (Halts (inside depth reader.old ≡ None)) }
+fn read_inside(alloc: Global, reader: &mut Reader, depth: u32) -> Result<Vec<Piece>, ReadError>
+    ensures { MatchResult result (λ v. inside depth reader.old ≡ Some (v.items, reader.new))
+        (Halts (inside depth reader.old ≡ None)) }
 {
     if let Some(times) = reader.number() {
         return read_turns(alloc, reader, depth, times);
     }
     let pieces = read_items(alloc, reader, depth)?;
     if !reader.eat(b'}') {
-        return Err(Halt::Form);
+        return Err(ReadError::Malformed);
     }
     Ok(pieces)
 }
@@ -130,30 +131,28 @@ fn read_turns(
     reader: &mut Reader,
     depth: u32,
     times: u32,
-) -> Result<Vec<Piece>, Halt>
-    ensures { MatchResult result (λ v. turns depth times reader.old ≡ Some (v.items, reader.new)) (Halts (turns depth times reader.old ≡ None)) }
+) -> Result<Vec<Piece>, ReadError>
+    ensures { MatchResult result (λ v. turns depth times reader.old ≡ Some (v.items, reader.new))
+        (Halts (turns depth times reader.old ≡ None)) }
 {
     if !reader.eat(b'{') {
-        return Err(Halt::Form);
+        return Err(ReadError::Malformed);
     }
     if depth == 0 {
-        return Err(Halt::Form);
+        return Err(ReadError::Malformed);
     }
     let pieces = read_items(alloc, reader, depth - 1)?;
     if times == 0 {
-        return Err(Halt::Form);
+        return Err(ReadError::Malformed);
     }
     if pieces.len() > MOST_WIDTH / times as usize {
-        return Err(Halt::Form);
+        return Err(ReadError::Malformed);
     }
     if !reader.eat(b'}') {
-        return Err(Halt::Form);
+        return Err(ReadError::Malformed);
     }
     if !reader.eat(b'}') {
-        return Err(Halt::Form);
+        return Err(ReadError::Malformed);
     }
-    match repeat(alloc, pieces, times) {
-        Ok(out) => Ok(out),
-        Err(_) => Err(Halt::Memory),
-    }
+    Ok(repeat(alloc, pieces, times)?)
 }

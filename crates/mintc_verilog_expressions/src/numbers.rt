@@ -20,6 +20,7 @@ pub(crate) fn value_within(digits: &[u8], most: u32) -> Option<u32>
     Some(value)
 }
 
+/// Whether a byte is a decimal digit.
 fn is_digit(b: u8) -> bool
     ensures { result ≡ is_in class.Digit b }
 {

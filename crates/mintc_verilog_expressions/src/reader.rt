@@ -1,8 +1,11 @@
 //! The tokens of a statement that are left, read from the text one by one.
-ghost use Rattle.std.specs.Prelude.{◌≡◌, ◌≤◌, ◌<◌, List, Some, None, [], IsSome, IfSome, IfNone, IfOk, MatchBool, drop, length, map, codes, ◌||◌};
+ghost use Rattle.std.specs.Prelude.{◌≡◌, ◌≤◌, ◌<◌, List, Some, None, [], IsSome, IfSome, IfNone, IfOk, MatchBool, drop};
+ghost use Rattle.std.specs.Prelude.{length, map, codes, ◌||◌};
 ghost use Rattle.mintc_verilog_expressions.specs.Left.{left_of, behind};
 ghost use Rattle.mintc_verilog_expressions.specs.Lexemes.{lexeme_of, lexeme_by, lexemes_at};
-ghost use Rattle.mintc_verilog_expressions.specs.Reading.{eat, IsOtherThan, IsNoNumber, sign_lexeme, number_lexeme, number_at, select_or_net, name_at, name_lexeme, IsNoName, width_at, width_lexeme, IsNoWidth, plain_at};
+ghost use Rattle.mintc_verilog_expressions.specs.Reading.{eat, IsOtherThan, IsNoNumber, sign_lexeme, number_lexeme};
+ghost use Rattle.mintc_verilog_expressions.specs.Reading.{number_at, select_or_net, name_at, name_lexeme, IsNoName};
+ghost use Rattle.mintc_verilog_expressions.specs.Reading.{width_at, width_lexeme, IsNoWidth, plain_at};
 ghost use Rattle.mintc_verilog_expressions.specs.Keys.{direction_at, eat_key, is_key};
 ghost use Rattle.mintc_vlex.specs.declared.token_list.TokenKind.TheVariants as kind;
 ghost use Rattle.mintc_verilog_expressions.specs.declared.reader.Ahead.{Ahead};
@@ -95,7 +98,8 @@ impl<'a> Reader<'a> {
 
     /// Passes a reserved word, if it comes next.
     pub fn key(&mut self, word: &[u8]) -> bool
-        ensures { MatchBool result (eat_key word.now self.old ≡ Some self.new) ((eat_key word.now self.old ≡ None) × (self.new ≡ self.old)) }
+        ensures { MatchBool result (eat_key word.now self.old ≡ Some self.new) ((eat_key word.now self.old ≡ None)
+            × (self.new ≡ self.old)) }
     {
         let Some(ahead) = self.next else {
             return false;
@@ -116,7 +120,8 @@ impl<'a> Reader<'a> {
 
     /// Passes a sign, if it comes next.
     pub fn eat(&mut self, sign: u8) -> bool
-        ensures { MatchBool result (eat sign self.old ≡ Some self.new) ((eat sign self.old ≡ None) × (self.new ≡ self.old)) }
+        ensures { MatchBool result (eat sign self.old ≡ Some self.new) ((eat sign self.old ≡ None)
+            × (self.new ≡ self.old)) }
     {
         let Some(ahead) = self.next else {
             return false;
@@ -205,7 +210,8 @@ impl<'a> Reader<'a> {
 fn is_direction(text: &[u8], token: &Token) -> bool
     requires order { token.now.from < token.now.to }
     requires within { token.now.to ≤ length text.now }
-    ensures { result ≡ (is_key (codes "output") (lexeme_of text.now token.now) || is_key (codes "input") (lexeme_of text.now token.now)) }
+    ensures { result ≡ (is_key (codes "output") (lexeme_of text.now token.now)
+        || is_key (codes "input") (lexeme_of text.now token.now)) }
 {
     is_key(text, token, b"output") || is_key(text, token, b"input")
 }
@@ -229,7 +235,8 @@ fn is_key(text: &[u8], token: &Token, word: &[u8]) -> bool
 fn is_sign(text: &[u8], token: &Token, sign: u8) -> bool
     requires order { token.now.from < token.now.to }
     requires within { token.now.to ≤ length text.now }
-    ensures { MatchBool result (lexeme_of text.now token.now ≡ sign_lexeme sign) (IsOtherThan sign (lexeme_of text.now token.now)) }
+    ensures { MatchBool result (lexeme_of text.now token.now ≡ sign_lexeme sign)
+        (IsOtherThan sign (lexeme_of text.now token.now)) }
 {
     matches!(token.kind, TokenKind::Sign) && text[token.from] == sign
 }

@@ -1,6 +1,7 @@
 //! The reserved words.
 ghost use Rattle.std.specs.Prelude.{◌≡◌};
-ghost use Rattle.mintc_verilog_expressions.specs.Lexemes.{is_reserved, is_module_word, is_net_word, is_assign_word, is_process_word, is_gate_word, is_buffer_word};
+ghost use Rattle.mintc_verilog_expressions.specs.Lexemes.{is_reserved, is_module_word, is_net_word, is_assign_word};
+ghost use Rattle.mintc_verilog_expressions.specs.Lexemes.{is_process_word, is_gate_word, is_buffer_word};
 
 /// Whether a word is no name.
 #[tactic(auto, unfolding(crate::specs::Lexemes::is_reserved))]

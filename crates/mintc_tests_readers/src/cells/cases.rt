@@ -4,15 +4,19 @@ use mintc_tests_designs::TWO_CELLS;
 
 /// A cell of each kind with every key, the example of docs/formats.md.
 pub(super) const EXAMPLE: &str =
-    "[cell.AOI21]\nkind = \"gate\"\ninputs = [\"A1\", \"A2\", \"B\"]\noutputs = [\"ZN\"]\nmin = 20_000\nmax = 45_000\n\n\
-[cell.DLL]\nkind = \"latch\"\nd = \"D\"\ng = \"GN\"\noutputs = [\"Q\", \"QN\"]\nactive = \"low\"\nignored = [\"SE\"]\nsetup = 30_000\nhold = -5_000\n\
+    "[cell.AOI21]\nkind = \"gate\"\ninputs = [\"A1\", \"A2\", \"B\"]\noutputs = [\"ZN\"]\nmin = 20_000\n\
+     max = 45_000\n\n\
+[cell.DLL]\nkind = \"latch\"\nd = \"D\"\ng = \"GN\"\noutputs = [\"Q\", \"QN\"]\nactive = \"low\"\n\
+ignored = [\"SE\"]\nsetup = 30_000\nhold = -5_000\n\
 dq_min = 40_000\ndq_max = 60_000\ncq_min = 50_000\ncq_max = 70_000\nwidth = 100_000\n\n\
-[cell.DFN]\nkind = \"flop\"\nd = \"D\"\nclock = \"CPN\"\noutputs = [\"Q\"]\nedge = \"falling\"\nignored = [\"RN\"]\nsetup = 25_000\nhold = 10_000\n\
+[cell.DFN]\nkind = \"flop\"\nd = \"D\"\nclock = \"CPN\"\noutputs = [\"Q\"]\nedge = \"falling\"\nignored = [\"RN\"]\n\
+setup = 25_000\nhold = 10_000\n\
 cq_min = 55_000\ncq_max = 80_000\nwidth = 90_000\n\n\
 [cell.CKINV]\nkind = \"clock\"\ninput = \"I\"\noutput = \"ZN\"\ninvert = true\nignored = [\"TE\"]\n";
 
 const EXAMPLE_SAID: &str =
-    "AOI21 gate [A1 A2 B] [ZN] 20000 45000;CKINV clock I ZN true [TE];DFN flop D CPN false [Q] [RN] 25000 10000 true 55000 80000 90000;\
+    "AOI21 gate [A1 A2 B] [ZN] 20000 45000;CKINV clock I ZN true [TE];DFN flop D CPN false [Q] [RN] 25000 10000 true \
+     55000 80000 90000;\
 DLL latch D GN false [Q QN] [SE] 30000 -5000 true 40000 60000 50000 70000 true 100000;";
 
 /// Cells with few keys more than those that they need.
@@ -23,7 +27,8 @@ cell.e = { kind = \"flop\", d = \"d\", clock = \"c\", outputs = [\"q\"], edge = 
 cell.b = { kind = \"clock\", input = \"a\", output = \"y\" }\n";
 
 const PLAIN_SAID: &str =
-    "b clock a y false [];e flop d c true [q] [] 0 0 false 2 2 0;h gate [] [x y] 0 0;k latch d g true [q] [] 0 0 false 3 4 3 4 false 0;\
+    "b clock a y false [];e flop d c true [q] [] 0 0 false 2 2 0;h gate [] [x y] 0 0;k latch d g true [q] [] 0 0 \
+     false 3 4 3 4 false 0;\
 m latch d g true [q] [] 0 0 false 3 3 3 8 true 0;";
 
 /// Descriptions, with the entry and the rule of the refusal.
@@ -72,7 +77,8 @@ pub(super) const TEXTS: &[(&str, Option<(u32, u32)>)] = &[
         Some((1, 2)),
     ),
     (
-        "[cell.b]\nkind = \"gate\"\n[cell.C]\nkind = \"clock\"\ninput = \"a\"\noutput = \"y\"\n[cell.a]\nkind = \"clock\"\n",
+        "[cell.b]\nkind = \"gate\"\n[cell.C]\nkind = \"clock\"\ninput = \"a\"\noutput = \"y\"\n[cell.a]\n\
+         kind = \"clock\"\n",
         Some((2, 4)),
     ),
 ];
@@ -173,7 +179,8 @@ pub(super) const CELLS: &[(&str, Option<u32>)] = &[
         Some(6),
     ),
     (
-        "kind = \"latch\"\nd = \"d\"\ng = \"g\"\noutputs = [\"q\"]\nsetup = -1_000_000_000\nhold = 1_000_000_000\nwidth = 1_000_000_000\n",
+        "kind = \"latch\"\nd = \"d\"\ng = \"g\"\noutputs = [\"q\"]\nsetup = -1_000_000_000\nhold = 1_000_000_000\n\
+         width = 1_000_000_000\n",
         None,
     ),
     (

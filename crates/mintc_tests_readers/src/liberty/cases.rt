@@ -51,23 +51,28 @@ pub(super) const FORMS: [(&str, &str); 28] = [
 pub(super) const KINDS: [(&str, &str); 12] = [
     ("pin (Y) { direction : output ; }", "gate [] [Y]"),
     (
-        "pin (A, \"B\") { direction : input ; } pin (Y) { direction : output ; function : \"A*B\" ; timing () { cell_rise (t) { values (\"1, 2\") ; } } }",
+        "pin (A, \"B\") { direction : input ; } pin (Y) { direction : output ; function : \"A*B\" ; \
+         timing () { cell_rise (t) { values (\"1, 2\") ; } } }",
         "gate [A B] [Y]",
     ),
     (
-        "latch (Q1, Q2) { enable : \"E\" ; data_in : \"D\" ; } pin (E, D, R) { direction : input ; } pin (Q) { direction : output ; }",
+        "latch (Q1, Q2) { enable : \"E\" ; data_in : \"D\" ; } pin (E, D, R) { direction : input ; } \
+         pin (Q) { direction : output ; }",
         "latch D E true [Q] [R]",
     ),
     (
-        "pin (D, E) { direction : input ; } pin (Q, QN) { direction : output ; } latch () { data_in : D ; enable : E ' ; }",
+        "pin (D, E) { direction : input ; } pin (Q, QN) { direction : output ; } latch () { data_in : D ; \
+         enable : E ' ; }",
         "latch D E false [Q QN] []",
     ),
     (
-        "ff () { clocked_on : \"CK\" ; next_state : \"D\" ; } pin (CK, D) { direction : input ; } pin (Q) { direction : output ; }",
+        "ff () { clocked_on : \"CK\" ; next_state : \"D\" ; } pin (CK, D) { direction : input ; } \
+         pin (Q) { direction : output ; }",
         "flop D CK true [Q] []",
     ),
     (
-        "ff () { clocked_on : \"!CK\" ; next_state : \"D\" ; clear : \"!R\" ; } pin (D, R, CK) { direction : input ; } pin (Q) { direction : output ; }",
+        "ff () { clocked_on : \"!CK\" ; next_state : \"D\" ; clear : \"!R\" ; } \
+         pin (D, R, CK) { direction : input ; } pin (Q) { direction : output ; }",
         "flop D CK false [Q] [R]",
     ),
     (
@@ -75,7 +80,8 @@ pub(super) const KINDS: [(&str, &str); 12] = [
         "clock A Y false []",
     ),
     (
-        "pin (A) { direction : input ; clock : true ; } pin (E) { direction : input ; } pin (Y) { direction : output ; function : \"( A' )\" ; }",
+        "pin (A) { direction : input ; clock : true ; } pin (E) { direction : input ; } \
+         pin (Y) { direction : output ; function : \"( A' )\" ; }",
         "clock A Y true [E]",
     ),
     (
@@ -83,7 +89,8 @@ pub(super) const KINDS: [(&str, &str); 12] = [
         "gate [A] [Y]",
     ),
     (
-        "pin (A) { direction : input ; clock : true ; } pin (B) { direction : input ; } pin (Y) { direction : output ; function : \"B\" ; }",
+        "pin (A) { direction : input ; clock : true ; } pin (B) { direction : input ; } \
+         pin (Y) { direction : output ; function : \"B\" ; }",
         "gate [A B] [Y]",
     ),
     (
@@ -115,15 +122,18 @@ pub(super) const OTHER_FORMS: [(&str, &str); 7] = [
         "gate [] [Y]",
     ),
     (
-        "ff () { clocked_on : \"((! C))\" ; next_state : \"( (D ) )\" ; } pin (D, C) { direction : input ; } pin (Q) { direction : output ; }",
+        "ff () { clocked_on : \"((! C))\" ; next_state : \"( (D ) )\" ; } pin (D, C) { direction : input ; } \
+         pin (Q) { direction : output ; }",
         "flop D C false [Q] []",
     ),
     (
-        "ff () { clocked_on : C ; next_state : D & E ; next_state : D ; } pin (D, C) { direction : input ; } pin (Q) { direction : output ; }",
+        "ff () { clocked_on : C ; next_state : D & E ; next_state : D ; } pin (D, C) { direction : input ; } \
+         pin (Q) { direction : output ; }",
         "flop D C true [Q] []",
     ),
     (
-        "latch () { enable : \"A'\" ; data_in : \"D\" ; } pin (\"A'\", A, D) { direction : input ; } pin (Q) { direction : output ; }",
+        "latch () { enable : \"A'\" ; data_in : \"D\" ; } pin (\"A'\", A, D) { direction : input ; } \
+         pin (Q) { direction : output ; }",
         "latch D A' true [Q] [A]",
     ),
 ];
@@ -142,14 +152,18 @@ pub(super) const UNUSABLE_CELLS: [&str; 20] = [
     "pin (Y) { direction : output ; } statetable () { }",
     "pin (Y) { direction : output ; } latch_bank () { }",
     "pin (Y) { direction : output ; } ff_bank () { }",
-    "latch () { enable : E ; data_in : D ; } ff () { } pin (E, D) { direction : input ; } pin (Q) { direction : output ; }",
-    "latch () { enable : E ; data_in : D ; } latch () { } pin (E, D) { direction : input ; } pin (Q) { direction : output ; }",
+    "latch () { enable : E ; data_in : D ; } ff () { } pin (E, D) { direction : input ; } \
+     pin (Q) { direction : output ; }",
+    "latch () { enable : E ; data_in : D ; } latch () { } pin (E, D) { direction : input ; } \
+     pin (Q) { direction : output ; }",
     "latch () { enable : E ; data_in : E ; } pin (E, D) { direction : input ; } pin (Q) { direction : output ; }",
     "latch () { data_in : D ; } pin (E, D) { direction : input ; } pin (Q) { direction : output ; }",
     "latch () { enable : Q ; data_in : D ; } pin (E, D) { direction : input ; } pin (Q) { direction : output ; }",
     "latch () { enable : E ; data_in : D ; } pin (E, D) { direction : input ; } pin (Q, R, S) { direction : output ; }",
-    "ff () { clocked_on : \"(C)(C)\" ; next_state : D ; } pin (C, D) { direction : input ; } pin (Q) { direction : output ; }",
-    "ff () { clocked_on : C ; next_state : \"D * E\" ; } pin (C, D, E) { direction : input ; } pin (Q) { direction : output ; }",
+    "ff () { clocked_on : \"(C)(C)\" ; next_state : D ; } pin (C, D) { direction : input ; } \
+     pin (Q) { direction : output ; }",
+    "ff () { clocked_on : C ; next_state : \"D * E\" ; } pin (C, D, E) { direction : input ; } \
+     pin (Q) { direction : output ; }",
 ];
 
 /// Several cells of a library.
@@ -163,7 +177,8 @@ pub(super) const SEVERAL: [(&str, &str); 5] = [
         "",
     ),
     (
-        "library (t) { cell (B) { pin (Y) { direction : output ; } } cell (\"B\") { pin (Z) { direction : output ; } } }",
+        "library (t) { cell (B) { pin (Y) { direction : output ; } } cell (\"B\") { pin (Z) { direction : output ; \
+         } } }",
         "B gate [] [Y];",
     ),
     (
@@ -171,7 +186,8 @@ pub(super) const SEVERAL: [(&str, &str); 5] = [
         "",
     ),
     (
-        "library (t) { cell (\"a b\") { pin (Y) { direction : output ; } } g () { cell (B) { pin (Y) { direction : output ; } } } cell (C) ; }",
+        "library (t) { cell (\"a b\") { pin (Y) { direction : output ; } } \
+         g () { cell (B) { pin (Y) { direction : output ; } } } cell (C) ; }",
         "",
     ),
 ];

@@ -63,7 +63,8 @@ fn comes_in_order<N: Names>(
 
 const MIXED: Cuttings = Cuttings {
     name: "mixed",
-    text: b"the quick brown fox jumps over 13 lazy dogs & 2 cats; 2 cats_and_2_cats were the quick ones, brown_fox_7 not",
+    text: b"the quick brown fox jumps over 13 lazy dogs & 2 cats; \
+        2 cats_and_2_cats were the quick ones, brown_fox_7 not",
     longest: 12,
 };
 

@@ -1,4 +1,5 @@
-//! The outside as it is: files of a folder, and standard output, over several pieces, with reads and writes that are short or fail.
+//! The outside as it is: files of a folder, and standard output, over several pieces, with reads and writes that
+//! are short or fail.
 use mintc_text::{FolderShelf, Shelf, ShelfError, Sink, StreamSink, read_front};
 use std::alloc::{AllocError, Global};
 use std::cell::Cell;
@@ -181,8 +182,8 @@ impl<'a> Print for Narrow<'a> {
     }
 }
 
-/// Whether a sink writes a text to an output that takes these bytes, at most so many at a time; and how many bytes of them it doesn't
-/// write.
+/// Whether a sink writes a text to an output that takes these bytes, at most so many at a time; and how many bytes
+/// of them it doesn't write.
 fn written(text: &[u8], taken: &[u8], most: usize) -> (bool, usize) {
     let output = Narrow {
         left: Cell::new(taken),

@@ -8,9 +8,11 @@ pub(crate) const CHECK: &str = "check table TAB1 SCH1";
 const PASS: &str = "pass\nelement a late 0/1 early 0/1\nelement b late 20/1 early 20/1\n";
 
 const USAGE: &str =
-    "usage: mintc check|optimise|verify|report|safe|slack table|files|liberty FILE.. | mintc sample N | mintc corners V C K D D..\n";
+    "usage: mintc check|optimise|verify|report|safe|slack table|files|liberty FILE.. | mintc sample N | mintc \
+     corners V C K D D..\n";
 
-/// A run over the files of the rows, and what may come of it: a status, and a text with this front and one of these ends.
+/// A run over the files of the rows, and what may come of it: a status, and a text with this front and one of these
+/// ends.
 #[derive(Clone, Copy)]
 pub(crate) struct Row {
     pub name: &'static str,
@@ -178,7 +180,8 @@ pub(crate) const OVER_TABLES: &[Row] = &[
         name: "optimise-two-latch-loop",
         words: "optimise table TAB1",
         status: Status::Done,
-        front: "certificate 2\nleast\nden 1\ncycle 100\nphases 2\nphase 0 10\nphase 10 30\ndepartures 2\ndeparture 0\ndeparture 20\n",
+        front: "certificate 2\nleast\nden 1\ncycle 100\nphases 2\nphase 0 10\nphase 10 30\ndepartures 2\n\
+            departure 0\ndeparture 20\n",
         ends: &[
             "chain 2\nreach 0 1 1 0\nreach 1 0 1 1\nend\n",
             "chain 2\nreach 1 0 1 1\nreach 0 1 1 0\nend\n",
@@ -218,7 +221,8 @@ pub(crate) const OVER_TABLES: &[Row] = &[
         name: "optimise-two-tight-chains",
         words: "optimise table tight.table",
         status: Status::Done,
-        front: "certificate 2\nleast\nden 1\ncycle 100\nphases 2\nphase 0 10\nphase 10 90\ndepartures 2\ndeparture 0\ndeparture 20\n",
+        front: "certificate 2\nleast\nden 1\ncycle 100\nphases 2\nphase 0 10\nphase 10 90\ndepartures 2\n\
+            departure 0\ndeparture 20\n",
         ends: &[
             "chain 2\nreach 0 1 1 0\nreach 1 0 1 1\nend\n",
             "chain 2\nreach 1 0 1 1\nreach 0 1 1 0\nend\n",
@@ -232,7 +236,8 @@ pub(crate) const OVER_TABLES: &[Row] = &[
         name: "report-two-latch-loop",
         words: "report table TAB1",
         status: Status::Done,
-        front: "cycle 100/1\nphase phi1 start 0/1 width 10/1\nphase phi2 start 10/1 width 30/1\nelement a late 0/1\nelement b late 20/1\nchain 2 delay 100 cycles 1\n",
+        front: "cycle 100/1\nphase phi1 start 0/1 width 10/1\nphase phi2 start 10/1 width 30/1\n\
+            element a late 0/1\nelement b late 20/1\nchain 2 delay 100 cycles 1\n",
         ends: &[
             "reach a b delay 30 cycles 0\nreach b a delay 70 cycles 1\n",
             "reach b a delay 70 cycles 1\nreach a b delay 30 cycles 0\n",
@@ -242,7 +247,8 @@ pub(crate) const OVER_TABLES: &[Row] = &[
         name: "a report names inner bits",
         words: "report table inner.table",
         status: Status::Done,
-        front: "cycle 100/1\nphase phi1 start 0/1 width 10/1\nphase phi2 start 10/1 width 30/1\nelement a late 0/1\nelement b late 20/1\nchain 2 delay 100 cycles 1\n",
+        front: "cycle 100/1\nphase phi1 start 0/1 width 10/1\nphase phi2 start 10/1 width 30/1\n\
+            element a late 0/1\nelement b late 20/1\nchain 2 delay 100 cycles 1\n",
         ends: &[
             "reach a b delay 30 cycles 0\nthrough n0\nreach b a delay 70 cycles 1\n",
             "reach b a delay 70 cycles 1\nreach a b delay 30 cycles 0\nthrough n0\n",
@@ -275,7 +281,8 @@ pub(crate) const OVER_TABLES: &[Row] = &[
         name: "optimise-enable-delay",
         words: "optimise table enable.table",
         status: Status::Done,
-        front: "certificate 2\nleast\nden 1\ncycle 100\nphases 2\nphase 0 10\nphase 10 24\ndepartures 2\ndeparture -6\ndeparture 14\n",
+        front: "certificate 2\nleast\nden 1\ncycle 100\nphases 2\nphase 0 10\nphase 10 24\ndepartures 2\n\
+            departure -6\ndeparture 14\n",
         ends: &[
             "chain 2\nreach 0 1 1 0\nreach 1 0 1 1\nend\n",
             "chain 2\nreach 1 0 1 1\nreach 0 1 1 0\nend\n",
@@ -320,7 +327,8 @@ pub(crate) const OVER_TABLES: &[Row] = &[
         name: "optimise-worked-files",
         words: "optimise files two.v two.sdf two.cells two.clock",
         status: Status::Done,
-        front: "certificate 2\nleast\nden 1\ncycle 100\nphases 2\nphase 0 10\nphase 10 30\ndepartures 2\ndeparture 0\ndeparture 20\nchain 2\n",
+        front: "certificate 2\nleast\nden 1\ncycle 100\nphases 2\nphase 0 10\nphase 10 30\ndepartures 2\n\
+            departure 0\ndeparture 20\nchain 2\n",
         ends: &[
             "reach 0 1 11 22 6 7 9 23 10 8 3 12 14 24\nreach 1 0 11 25 16 17 19 26 20 18 13 2 4 21\nend\n",
             "reach 1 0 11 25 16 17 19 26 20 18 13 2 4 21\nreach 0 1 11 22 6 7 9 23 10 8 3 12 14 24\nend\n",
@@ -416,7 +424,8 @@ pub(crate) const OVER_FILES: &[Row] = &[
         name: "optimise-liberty",
         words: "optimise liberty two.v two.sdf two.lib two.clock",
         status: Status::Done,
-        front: "certificate 2\nleast\nden 1\ncycle 80\nphases 2\nphase 0 0\nphase 0 20\ndepartures 2\ndeparture 0\ndeparture 20\nchain 2\n",
+        front: "certificate 2\nleast\nden 1\ncycle 80\nphases 2\nphase 0 0\nphase 0 20\ndepartures 2\n\
+            departure 0\ndeparture 20\nchain 2\n",
         ends: &[
             "reach 0 1 11 22 6 7 9 23 10 8 3 12 14 24\nreach 1 0 11 25 16 17 19 26 20 18 13 2 4 21\nend\n",
             "reach 1 0 11 25 16 17 19 26 20 18 13 2 4 21\nreach 0 1 11 22 6 7 9 23 10 8 3 12 14 24\nend\n",
@@ -426,7 +435,8 @@ pub(crate) const OVER_FILES: &[Row] = &[
         name: "safe-of-liberty",
         words: "safe liberty two.v two.sdf two.lib two.clock",
         status: Status::Done,
-        front: "safe 1\nleast\nden 1\ncycle 80\nphases 2\nphase 0 0\nphase 0 20\ndepartures 2\ndeparture 0\ndeparture 20\nchain 2\n",
+        front: "safe 1\nleast\nden 1\ncycle 80\nphases 2\nphase 0 0\nphase 0 20\ndepartures 2\ndeparture 0\n\
+            departure 20\nchain 2\n",
         ends: &[
             "reach 0 1 11 22 6 7 9 23 10 8 3 12 14 24\nreach 1 0 11 25 16 17 19 26 20 18 13 2 4 21\nend\n",
             "reach 1 0 11 25 16 17 19 26 20 18 13 2 4 21\nreach 0 1 11 22 6 7 9 23 10 8 3 12 14 24\nend\n",
@@ -443,7 +453,8 @@ pub(crate) const OVER_FILES: &[Row] = &[
         name: "safe-of-files",
         words: "safe files two.v two.sdf two.cells two.clock",
         status: Status::Done,
-        front: "safe 1\nleast\nden 1\ncycle 100\nphases 2\nphase 0 10\nphase 10 30\ndepartures 2\ndeparture 0\ndeparture 20\nchain 2\n",
+        front: "safe 1\nleast\nden 1\ncycle 100\nphases 2\nphase 0 10\nphase 10 30\ndepartures 2\ndeparture 0\n\
+            departure 20\nchain 2\n",
         ends: &[
             "reach 0 1 11 22 6 7 9 23 10 8 3 12 14 24\nreach 1 0 11 25 16 17 19 26 20 18 13 2 4 21\nend\n",
             "reach 1 0 11 25 16 17 19 26 20 18 13 2 4 21\nreach 0 1 11 22 6 7 9 23 10 8 3 12 14 24\nend\n",
@@ -471,7 +482,8 @@ pub(crate) const OVER_LIBRARIES: &[Row] = &[
         name: "liberty-define",
         words: "optimise liberty two.v two.sdf define.lib two.clock",
         status: Status::Done,
-        front: "certificate 2\nleast\nden 1\ncycle 80\nphases 2\nphase 0 0\nphase 0 20\ndepartures 2\ndeparture 0\ndeparture 20\nchain 2\n",
+        front: "certificate 2\nleast\nden 1\ncycle 80\nphases 2\nphase 0 0\nphase 0 20\ndepartures 2\n\
+            departure 0\ndeparture 20\nchain 2\n",
         ends: &[
             "reach 0 1 11 22 6 7 9 23 10 8 3 12 14 24\nreach 1 0 11 25 16 17 19 26 20 18 13 2 4 21\nend\n",
             "reach 1 0 11 25 16 17 19 26 20 18 13 2 4 21\nreach 0 1 11 22 6 7 9 23 10 8 3 12 14 24\nend\n",
@@ -499,7 +511,8 @@ pub(crate) const OVER_CORNERS: &[Row] = &[
         name: "corners-two-files",
         words: "corners pair.v pair.cells pair.clock first.sdf second.sdf",
         status: Status::Done,
-        front: "corners 1\nleast\nden 1\ncycle 130\nphases 2\nphase 0 0\nphase 60 0\ncorners 2\ndepartures 2\ndeparture 0\ndeparture 0\ndepartures 2\ndeparture 0\ndeparture 0\nchain 4\n",
+        front: "corners 1\nleast\nden 1\ncycle 130\nphases 2\nphase 0 0\nphase 60 0\ncorners 2\ndepartures 2\n\
+            departure 0\ndeparture 0\ndepartures 2\ndeparture 0\ndeparture 0\nchain 4\n",
         ends: &[
             "reach 1 0 1 7 11 2 3 12 4 5 13\nsetup 1 1\nreach 2 1 0 7 14 7 8 15 9 0 10\nsetup 2 0\nend\n",
             "setup 1 1\nreach 2 1 0 7 14 7 8 15 9 0 10\nsetup 2 0\nreach 1 0 1 7 11 2 3 12 4 5 13\nend\n",
@@ -511,7 +524,9 @@ pub(crate) const OVER_CORNERS: &[Row] = &[
         name: "corners-three-files",
         words: "corners pair.v pair.cells pair.clock first.sdf second.sdf fast.sdf",
         status: Status::Done,
-        front: "corners 1\nleast\nden 1\ncycle 130\nphases 2\nphase 0 0\nphase 60 0\ncorners 3\ndepartures 2\ndeparture 0\ndeparture 0\ndepartures 2\ndeparture 0\ndeparture 0\ndepartures 2\ndeparture 0\ndeparture 0\nchain 4\n",
+        front: "corners 1\nleast\nden 1\ncycle 130\nphases 2\nphase 0 0\nphase 60 0\ncorners 3\ndepartures 2\n\
+            departure 0\ndeparture 0\ndepartures 2\ndeparture 0\ndeparture 0\ndepartures 2\ndeparture 0\n\
+            departure 0\nchain 4\n",
         ends: &[
             "reach 1 0 1 7 11 2 3 12 4 5 13\nsetup 1 1\nreach 2 1 0 7 14 7 8 15 9 0 10\nsetup 2 0\nend\n",
             "setup 1 1\nreach 2 1 0 7 14 7 8 15 9 0 10\nsetup 2 0\nreach 1 0 1 7 11 2 3 12 4 5 13\nend\n",
@@ -523,7 +538,9 @@ pub(crate) const OVER_CORNERS: &[Row] = &[
         name: "corners-four-files",
         words: "corners pair.v pair.cells pair.clock first.sdf second.sdf fast.sdf slow.sdf",
         status: Status::Done,
-        front: "corners 1\nleast\nden 1\ncycle 150\nphases 2\nphase 0 0\nphase 80 0\ncorners 4\ndepartures 2\ndeparture 0\ndeparture 0\ndepartures 2\ndeparture 0\ndeparture 0\ndepartures 2\ndeparture 0\ndeparture 0\ndepartures 2\ndeparture 0\ndeparture 0\nchain 4\n",
+        front: "corners 1\nleast\nden 1\ncycle 150\nphases 2\nphase 0 0\nphase 80 0\ncorners 4\ndepartures 2\n\
+            departure 0\ndeparture 0\ndepartures 2\ndeparture 0\ndeparture 0\ndepartures 2\ndeparture 0\n\
+            departure 0\ndepartures 2\ndeparture 0\ndeparture 0\nchain 4\n",
         ends: &[
             "reach 4 0 1 7 11 2 3 12 4 5 13\nsetup 4 1\nreach 2 1 0 7 14 7 8 15 9 0 10\nsetup 2 0\nend\n",
             "setup 4 1\nreach 2 1 0 7 14 7 8 15 9 0 10\nsetup 2 0\nreach 4 0 1 7 11 2 3 12 4 5 13\nend\n",

@@ -1,4 +1,5 @@
-//! Small lists of links at random, and the greatest ratio of their chains, found by a list of all that enter no node twice.
+//! Small lists of links at random, and the greatest ratio of their chains, found by a list of all that enter no
+//! node twice.
 ghost use Rattle.std.specs.Prelude.{◌<◌};
 
 use crate::link_rows::Row;

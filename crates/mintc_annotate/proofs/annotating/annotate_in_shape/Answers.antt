@@ -6,17 +6,17 @@ use Rattle.mintc_annotate.proofs.annotating.annotate_in_shape.Goals as goal
 
 pub build-requires-clause-parts : goal.build-requires-clause-parts
 build-requires-clause-parts c =
-    let made = made_of c.args.hierarchy.now c.args.cells.now c.args.clock.now c.in-Ok.gathered c.in-Ok.ensures.0 c.args.delays.now.items c.in-Ok.ensures.1 in
+    let made = made_of c.args.hierarchy.now c.args.cells.now c.args.clock.now c.in_ok-gathered.gathered c.in_ok-gathered.ensures.0 c.args.delays.now.items c.in_ok-gathered.ensures.1 in
     let sound = c.delays_are_within.ensures c.requires.delays.0 c.args.delays.now.items c.requires.delays.2 in
     let keeps = c.clocks_keep_limits.ensures c.requires.clock.0 c.args.clock.now c.requires.clock.2 in
     parts_of c.args.hierarchy.now c.args.cells.now c.args.clock.now c.args.delays.now.items _ c.requires.shape c.count-count.ensures.kept.each keeps sound made
 
 pub returns-in-Some : goal.returns-in-Some
 returns-in-Some c =
-    let made = made_of c.args.hierarchy.now c.args.cells.now c.args.clock.now c.in-Ok.gathered c.in-Ok.ensures.0 c.args.delays.now.items c.in-Ok.ensures.1 in
-    too_many (design_of_gathered c.args.hierarchy.now c.args.cells.now c.args.clock.now c.in-Ok.gathered) made (sym c.limit.ensures ∙ c.in-Some.is)
+    let made = made_of c.args.hierarchy.now c.args.cells.now c.args.clock.now c.in_ok-gathered.gathered c.in_ok-gathered.ensures.0 c.args.delays.now.items c.in_ok-gathered.ensures.1 in
+    too_many (design_of_gathered c.args.hierarchy.now c.args.cells.now c.args.clock.now c.in_ok-gathered.gathered) made (sym c.limit.ensures ∙ c.in-Some.is)
 
 pub returns-in-None : goal.returns-in-None
 returns-in-None c =
-    let made = made_of c.args.hierarchy.now c.args.cells.now c.args.clock.now c.in-Ok.gathered c.in-Ok.ensures.0 c.args.delays.now.items c.in-Ok.ensures.1 in
+    let made = made_of c.args.hierarchy.now c.args.cells.now c.args.clock.now c.in_ok-gathered.gathered c.in_ok-gathered.ensures.0 c.args.delays.now.items c.in_ok-gathered.ensures.1 in
     built c.args.hierarchy.now c.args.cells.now c.args.clock.now c.args.delays.now.items _ c.build.result made (sym c.limit.ensures ∙ c.in-None.is) c.build.ensures

@@ -8,14 +8,14 @@ use Rattle.mintc_annotate.proofs.arcs.push_leaves.Goals as goal
 
 pub push_leaf-requires-clause-few : goal.push_leaf-requires-clause-few
 push_leaf-requires-clause-few c = λ is.
-    let within : c.loop-leaf.leaf < length c.args.hierarchy.now.leaves = omega (arith, c.loop-leaf-test.true, ap length c.items.ensures) in
-    let number = numbered c.args.hierarchy.now c.args.cells.now c.loop-leaf.leaf within is in
+    let within : c.loop-leaf.leaf < length c.args.timed.now.hierarchy.now.leaves = omega (arith, c.loop-leaf-test.true, ap length c.items.ensures) in
+    let number = numbered c.args.timed.now.hierarchy.now c.args.timed.now.cells.now c.loop-leaf.leaf within is in
     omega (arith, c.loop-leaf.invariant.0, number, c.requires.few)
 
 pub loop-leaf-preserved : goal.loop-leaf-preserved
 loop-leaf-preserved c = (
   c.next_element-element.ensures.value,
   c.next_element-element.ensures.small,
-  flat_pushed (λ k. leaf_arcs c.args.hierarchy.now c.args.cells.now (look c.args.ranges.now) c.args.elements k (leaf_cell c.args.hierarchy.now c.args.cells.now k))
+  flat_pushed (λ k. leaf_arcs c.args.timed.now.hierarchy.now c.args.timed.now.cells.now (look c.args.timed.now.ranges.now) c.args.elements k (leaf_cell c.args.timed.now.hierarchy.now c.args.timed.now.cells.now k))
       c.args.found.now.items c.loop-leaf.found.items c.push_leaf.new.found.items c.loop-leaf.leaf c.loop-leaf.invariant.2 c.in_ok-push_leaf.ensures,
 )

@@ -1,4 +1,5 @@
 use Rattle.std.proofs.Common.{◌≡◌, ◌∙◌}
+use Rattle.std.proofs.lemmas.Result.{err_from_is_err_and}
 use Rattle.mintc_flatten_hierarchy.specs.declared.hierarchy.Hierarchy.{Hierarchy}
 use Rattle.mintc_annotate_resolve.specs.Pins.{all_names}
 use Rattle.mintc_annotate.specs.Clocked.{AreClocked}
@@ -6,15 +7,17 @@ use Rattle.mintc_annotate.specs.Phases.{phase_spots}
 use Rattle.mintc_annotate.proofs.AnnotateLaws.{stops_port, stops_phase}
 use Rattle.mintc_annotate.proofs.gathering.gather.Goals as goal
 
-pub returns-in-Err : goal.returns-in-Err
-returns-in-Err c =
-    let names : c.deref.result.now ≡ all_names c.args.hierarchy.now = c.deref.ensures.value ∙ c.in-Ok.ensures in
-    stops_port c.args.hierarchy.now c.args.cells.now c.args.clock.now c.args.delays.now.items c.in-Err.stop (rw (names, c.items.ensures) at c.in-Err.ensures)
+pub returns-in_err-clocked : goal.returns-in_err-clocked
+returns-in_err-clocked c =
+    let names : c.deref.result.now ≡ all_names c.args.hierarchy.now = c.deref.ensures.value ∙ c.in_ok-names.ensures in
+    let p = err_from_is_err_and c.from_residual-in_err-clocked.result c.from_residual-in_err-clocked.ensures.1 in
+    rw (p.1, p.2) (stops_port c.args.hierarchy.now c.args.cells.now c.args.clock.now c.args.delays.now.items c.in_err-clocked.field-0.0 (rw (names, c.items.ensures) at c.in_err-clocked.ensures))
 
-pub returns-in-Err-trace_all : goal.returns-in-Err-trace_all
-returns-in-Err-trace_all c =
+pub returns-in_err-phases : goal.returns-in_err-phases
+returns-in_err-phases c =
     let h : Hierarchy = c.args.hierarchy.now in
-    let names : c.deref.result.now ≡ all_names h = c.deref.ensures.value ∙ c.in-Ok.ensures in
-    let clocked : AreClocked (all_names h) h.ports c.args.clock.now c.in-Ok-clock_ports.clocked = rw (names, c.items.ensures) at c.in-Ok-clock_ports.ensures in
+    let names : c.deref.result.now ≡ all_names h = c.deref.ensures.value ∙ c.in_ok-names.ensures in
+    let clocked : AreClocked (all_names h) h.ports c.args.clock.now c.in_ok-clocked.clocked = rw (names, c.items.ensures) at c.in_ok-clocked.ensures in
     let spots : c.deref-3.result.now ≡ phase_spots h c.args.clock.now = c.deref-3.ensures.value ∙ clocked.spots in
-    stops_phase h c.args.cells.now c.args.clock.now c.args.delays.now.items c.in-Err-trace_all.stop clocked.there (rw c.items-2.ensures at c.in-Ok-gather_ranges.ensures.1) (rw spots at c.in-Err-trace_all.ensures)
+    let p = err_from_is_err_and c.from_residual-in_err-phases.result c.from_residual-in_err-phases.ensures.1 in
+    rw (p.1, p.2) (stops_phase h c.args.cells.now c.args.clock.now c.args.delays.now.items c.in_err-phases.field-0.0 clocked.there (rw c.items-2.ensures at c.in_ok-ranges.ensures.1) (rw spots at c.in_err-phases.ensures))

@@ -18,7 +18,7 @@ loop-round-preserved c = λ ds drivers.
     let more = pow_more 2 c.loop-round.round in
     let twice : 2 ^ c.loop-round.round + 2 ^ c.loop-round.round ≡ 2 ^ (c.loop-round.round + 1) = omega (arith, more) in
     let are = doubled_are ds (2 ^ c.loop-round.round) (length c.args.table.now) c.loop-round.found.items (c.loop-round.invariant ds drivers) in
-    subst (λ (v : List Jump). AreJumps ds (2 ^ (c.loop-round.round + 1)) (length c.args.table.now) v) (sym (c.in-Ok.ensures ∙ ap (λ (v : List Jump). map (doubled_jump v) v) c.deref.ensures.value))
+    subst (λ (v : List Jump). AreJumps ds (2 ^ (c.loop-round.round + 1)) (length c.args.table.now) v) (sym (c.in_ok-more.ensures ∙ ap (λ (v : List Jump). map (doubled_jump v) v) c.deref.ensures.value))
     (subst (λ (n : ℕ). AreJumps ds n (length c.args.table.now) (map (doubled_jump c.loop-round.found.items) c.loop-round.found.items)) twice are)
 
 pub returns : goal.returns

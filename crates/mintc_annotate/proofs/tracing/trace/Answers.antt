@@ -21,7 +21,7 @@ returns-in_default-phase_from c =
     subst (λ (n : ℕ). AreDrivers (drives c.args.hierarchy.now c.args.cells.now) n c.args.table.now) (sym c.requires.table.size) c.requires.table in
     let ways : AreJumps (drives c.args.hierarchy.now c.args.cells.now) 262144 (length c.args.table.now) c.args.jumps.now =
     subst (λ (n : ℕ). AreJumps (drives c.args.hierarchy.now c.args.cells.now) 262144 n c.args.jumps.now) (sym c.requires.table.size) c.requires.jumps in
-    let count : c.in-Ok.element ≡ length c.loop-number.phases.items = search rules in
+    let count : c.in_ok-element.element ≡ length c.loop-number.phases.items = search rules in
     record {
       before = filter (stored c.args.hierarchy.now c.args.cells.now) (take c.loop-number.number (all_leaves c.args.hierarchy.now));
       phases = c.loop-number.phases.items;
@@ -45,7 +45,7 @@ loop-number-preserved c =
     let listed = subst (λ (l : List ℕ). AllZip (IsPhaseOf c.args.hierarchy.now c.args.cells.now c.args.spots.now) l (c.loop-number.phases.items ++ c.in-Some-phase_from.phase ∷ []))
     (sym (stored_more c.args.hierarchy.now c.args.cells.now c.loop-number.number true within c.in-Some.ensures.0)) more in
     subst (λ (l : List ℕ). AllZip (IsPhaseOf c.args.hierarchy.now c.args.cells.now c.args.spots.now) (filter (stored c.args.hierarchy.now c.args.cells.now) (take (c.loop-number.number + 1) (all_leaves c.args.hierarchy.now))) l)
-    (sym c.in-Ok-push.ensures.items) listed
+    (sym c.in_ok-push.ensures.items) listed
 
 pub returns : goal.returns
 returns c =

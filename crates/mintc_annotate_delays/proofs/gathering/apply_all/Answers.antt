@@ -1,4 +1,5 @@
 use Rattle.std.proofs.Common.{◌≡◌, Some, length, refl}
+use Rattle.std.proofs.lemmas.Result.{err_from_is_err_and}
 use Rattle.mintc_annotate_resolve.specs.Resolution.{resolved, refusal_of, first_refusal}
 use Rattle.mintc_annotate_resolve.proofs.SharedInstanceLaws.{at_top}
 use Rattle.mintc_annotate_delays.proofs.GatherLaws.{stops_more}
@@ -24,16 +25,17 @@ loop-number-preserved c =
     let cells = c.args.lookup.now.cells.now in
     let d = c.index-delays-number.result in
     record {
-      unrefused = unrefused_more h cells c.args.delays.now c.loop-number.number d c.loop-number-test.true c.index-delays-number.is c.loop-number.invariant.unrefused c.in-Ok.ensures.ok.unrefused;
-      ranges = ranges_more h cells c.args.delays.now c.loop-number.number d c.loop-number.ranges c.apply_delay.new.ranges c.loop-number-test.true c.index-delays-number.is c.loop-number.invariant.ranges c.in-Ok.ensures.ok;
-      room = λ bits leaves room. c.in-Ok.ensures.ok.room bits leaves (c.loop-number.invariant.room bits leaves room);
-      last = c.in-Ok.ensures.stands;
+      unrefused = unrefused_more h cells c.args.delays.now c.loop-number.number d c.loop-number-test.true c.index-delays-number.is c.loop-number.invariant.unrefused c.in_ok-last.ensures.ok.unrefused;
+      ranges = ranges_more h cells c.args.delays.now c.loop-number.number d c.loop-number.ranges c.apply_delay.new.ranges c.loop-number-test.true c.index-delays-number.is c.loop-number.invariant.ranges c.in_ok-last.ensures.ok;
+      room = λ bits leaves room. c.in_ok-last.ensures.ok.room bits leaves (c.loop-number.invariant.room bits leaves room);
+      last = c.in_ok-last.ensures.stands;
     }
 
-pub returns-in-Err-clause-err : goal.returns-in-Err-clause-err
-returns-in-Err-clause-err c =
+pub returns-in_err-last-clause-err : goal.returns-in_err-last-clause-err
+returns-in_err-last-clause-err c =
     let h = c.args.lookup.now.hierarchy.now in
     let cells = c.args.lookup.now.cells.now in
     let d = c.index-delays-number.result in
-    stops_more (λ r. refusal_of d.entry (resolved h cells d) ≡ Some r) (λ r. first_refusal h cells c.args.delays.now ≡ Some r)
-    (λ r known. refused_here h cells c.args.delays.now c.loop-number.number d r c.loop-number-test.true c.index-delays-number.is c.loop-number.invariant.unrefused known) c.in-Err.stop c.in-Err.ensures.err
+    let p = err_from_is_err_and c.from_residual.result c.from_residual.ensures.1 in
+    rw (p.1, p.2) (stops_more (λ r. refusal_of d.entry (resolved h cells d) ≡ Some r) (λ r. first_refusal h cells c.args.delays.now ≡ Some r)
+    (λ r known. refused_here h cells c.args.delays.now c.loop-number.number d r c.loop-number-test.true c.index-delays-number.is c.loop-number.invariant.unrefused known) c.in_err-last.field-0.0 c.in_err-last.ensures.err)

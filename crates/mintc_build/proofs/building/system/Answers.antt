@@ -1,6 +1,8 @@
+use Rattle.std.proofs.lemmas.Result.{err_from_is_err_and}
 use Rattle.mintc_build.proofs.Stopping.{StopsAt-extremes}
 use Rattle.mintc_build.proofs.building.system.Goals as goal
 
-pub returns-in-Err-extremes-clause-stop : goal.returns-in-Err-extremes-clause-stop
-returns-in-Err-extremes-clause-stop c =
-    StopsAt-extremes c.args.flat c.in-Err-extremes.stop (λ loop. c.orders_exclude_loops.ensures c.args.flat.arcs c.in-Ok.order loop c.in-Ok.ensures.order) c.in-Err-extremes.ensures.stop
+pub returns-in_err-pairs-clause-stop : goal.returns-in_err-pairs-clause-stop
+returns-in_err-pairs-clause-stop c =
+    let p = err_from_is_err_and c.from_residual-in_err-pairs.result c.from_residual-in_err-pairs.ensures.1 in
+    rw (p.1, p.2) (StopsAt-extremes c.args.flat c.in_err-pairs.field-0.0 (λ loop. c.orders_exclude_loops.ensures c.args.flat.arcs c.in_ok-order.order loop c.in_ok-order.ensures.order) c.in_err-pairs.ensures.stop)

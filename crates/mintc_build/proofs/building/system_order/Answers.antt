@@ -1,6 +1,8 @@
+use Rattle.std.proofs.lemmas.Result.{err_from_is_err_and}
 use Rattle.mintc_build.proofs.Stopping.{StopsAt-extremes}
 use Rattle.mintc_build.proofs.building.system_order.Goals as goal
 
-pub returns-in-Err-clause-stop : goal.returns-in-Err-clause-stop
-returns-in-Err-clause-stop c =
-    StopsAt-extremes c.args.flat.now c.in-Err.stop (λ loop. c.orders_exclude_loops.ensures c.args.flat.now.arcs c.in_ok-order.order loop c.in_ok-order.ensures.order) c.in-Err.ensures.stop
+pub returns-in_err-count_pairs-clause-stop : goal.returns-in_err-count_pairs-clause-stop
+returns-in_err-count_pairs-clause-stop c =
+    let p = err_from_is_err_and c.from_residual-in_err-count_pairs.result c.from_residual-in_err-count_pairs.ensures.1 in
+    rw (p.1, p.2) (StopsAt-extremes c.args.flat.now c.in_err-count_pairs.field-0.0 (λ loop. c.orders_exclude_loops.ensures c.args.flat.now.arcs c.in_ok-order.order loop c.in_ok-order.ensures.order) c.in_err-count_pairs.ensures.stop)

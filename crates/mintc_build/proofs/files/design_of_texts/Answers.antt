@@ -1,4 +1,5 @@
 use Rattle.std.proofs.Common.{subst, Option, List, ℕ}
+use Rattle.std.proofs.lemmas.Result.{err_from_is_err_and}
 use Rattle.mintc_flatten_hierarchy.specs.Sources.{source_of}
 use Rattle.mintc_flatten_hierarchy.specs.Refusals.{IsHierarchy, IsRefusal}
 use Rattle.mintc_annotate.specs.Made.{IsAnnotated, IsAnnotateRefusal}
@@ -6,57 +7,62 @@ use Rattle.mintc_build.specs.FilesDesign.{cell_text, IsDesignOver, IsRefusalOver
 use Rattle.mintc_build.proofs.Stopping.{StopsAt-mono, if_ok, if_err}
 use Rattle.mintc_build.proofs.files.design_of_texts.Goals as goal
 
-pub returns-in-Err-read_delays-clause-stop : goal.returns-in-Err-read_delays-clause-stop
-returns-in-Err-read_delays-clause-stop c = StopsAt-mono c.in-Err-read_delays.stop (λ r h. of_delays c.in-Ok.modules c.in-Ok.ensures.value h) c.in-Err-read_delays.ensures
+pub returns-in_err-said-clause-stop : goal.returns-in_err-said-clause-stop
+returns-in_err-said-clause-stop c =
+    let p = err_from_is_err_and c.from_residual-in_err-said.result c.from_residual-in_err-said.ensures.1 in
+    rw (p.1, p.2) (StopsAt-mono c.in_err-said.field-0.0 (λ r h. of_delays c.in_ok-modules.modules c.in_ok-modules.ensures.value h) c.in_err-said.ensures)
 
-pub returns-in-Err-cells_of-clause-stop : goal.returns-in-Err-cells_of-clause-stop
-returns-in-Err-cells_of-clause-stop c =
-    StopsAt-mono c.in-Err-cells_of.stop (λ r h. of_cells c.in-Ok.modules c.in-Ok-read_delays.said.items c.in-Ok.ensures.value c.in-Ok-read_delays.ensures h) c.in-Err-cells_of.ensures.stop
+pub returns-in_err-described-clause-stop : goal.returns-in_err-described-clause-stop
+returns-in_err-described-clause-stop c =
+    let p = err_from_is_err_and c.from_residual-in_err-described.result c.from_residual-in_err-described.ensures.1 in
+    rw (p.1, p.2) (StopsAt-mono c.in_err-described.field-0.0 (λ r h. of_cells c.in_ok-modules.modules c.in_ok-said.said.items c.in_ok-modules.ensures.value c.in_ok-said.ensures h) c.in_err-described.ensures.stop)
 
-pub returns-in-Err-read_clock-clause-stop : goal.returns-in-Err-read_clock-clause-stop
-returns-in-Err-read_clock-clause-stop c =
-    StopsAt-mono c.in-Err-read_clock.stop
-    (λ r h. of_clock c.in-Ok.modules c.in-Ok-read_delays.said.items c.in-Ok-cells_of.described c.in-Ok.ensures.value c.in-Ok-read_delays.ensures c.in-Ok-cells_of.ensures.value h) c.in-Err-read_clock.ensures
+pub returns-in_err-clocked-clause-stop : goal.returns-in_err-clocked-clause-stop
+returns-in_err-clocked-clause-stop c =
+    let p = err_from_is_err_and c.from_residual-in_err-clocked.result c.from_residual-in_err-clocked.ensures.1 in
+    rw (p.1, p.2) (StopsAt-mono c.in_err-clocked.field-0.0
+    (λ r h. of_clock c.in_ok-modules.modules c.in_ok-said.said.items c.in_ok-described.described c.in_ok-modules.ensures.value c.in_ok-said.ensures c.in_ok-described.ensures.value h) c.in_err-clocked.ensures)
 
-pub returns-in-Err-flatten-clause-stop : goal.returns-in-Err-flatten-clause-stop
-returns-in-Err-flatten-clause-stop c =
-    let read : AreRead c.args.netlist.now c.args.delays.now (cell_text c.args.cells) c.args.clock.now c.in-Ok.modules c.in-Ok-read_delays.said.items c.in-Ok-cells_of.described c.in-Ok-read_clock.clocked
-    = record { netlist_read = c.in-Ok.ensures.value; delays_read = c.in-Ok-read_delays.ensures; cells_read = c.in-Ok-cells_of.ensures.value; clock_read = c.in-Ok-read_clock.ensures } in
-    StopsAt-mono c.in-Err-flatten.stop
-    (λ r h. of_hierarchy c.in-Ok.modules c.in-Ok-read_delays.said.items c.in-Ok-cells_of.described c.in-Ok-read_clock.clocked read
-    (subst (λ (t : Option (List ℕ)). IsRefusal (source_of c.in-Ok-cells_of.described c.in-Ok.modules.modules) t r) c.as_ref.ensures.value h))
-    c.in-Err-flatten.ensures.stop
+pub returns-in_err-hierarchy-clause-stop : goal.returns-in_err-hierarchy-clause-stop
+returns-in_err-hierarchy-clause-stop c =
+    let read : AreRead c.args.netlist.now c.args.delays.now (cell_text c.args.cells) c.args.clock.now c.in_ok-modules.modules c.in_ok-said.said.items c.in_ok-described.described c.in_ok-clocked.clocked
+    = record { netlist_read = c.in_ok-modules.ensures.value; delays_read = c.in_ok-said.ensures; cells_read = c.in_ok-described.ensures.value; clock_read = c.in_ok-clocked.ensures } in
+    let p = err_from_is_err_and c.from_residual-in_err-hierarchy.result c.from_residual-in_err-hierarchy.ensures.1 in
+    rw (p.1, p.2) (StopsAt-mono c.in_err-hierarchy.field-0.0
+    (λ r h. of_hierarchy c.in_ok-modules.modules c.in_ok-said.said.items c.in_ok-described.described c.in_ok-clocked.clocked read
+    (subst (λ (t : Option (List ℕ)). IsRefusal (source_of c.in_ok-described.described c.in_ok-modules.modules.modules) t r) c.as_ref.ensures.value h))
+    c.in_err-hierarchy.ensures.stop)
 
 pub annotate-requires-clause-hierarchy : goal.annotate-requires-clause-hierarchy
 annotate-requires-clause-hierarchy c = (
-  c.in-Ok.modules,
-  c.in-Ok-read_clock.clocked.top,
-  c.in-Ok.ensures.ordinary,
-  subst (λ (t : Option (List ℕ)). IsHierarchy (source_of c.in-Ok-cells_of.described c.in-Ok.modules.modules) t c.in-Ok-flatten.hierarchy) c.as_ref.ensures.value c.in-Ok-flatten.ensures.value,
+  c.in_ok-modules.modules,
+  c.in_ok-clocked.clocked.top,
+  c.in_ok-modules.ensures.ordinary,
+  subst (λ (t : Option (List ℕ)). IsHierarchy (source_of c.in_ok-described.described c.in_ok-modules.modules.modules) t c.in_ok-hierarchy.hierarchy) c.as_ref.ensures.value c.in_ok-hierarchy.ensures.value,
 )
 
 pub returns-clause-value : goal.returns-clause-value
 returns-clause-value c =
-    let read : AreRead c.args.netlist.now c.args.delays.now (cell_text c.args.cells) c.args.clock.now c.in-Ok.modules c.in-Ok-read_delays.said.items c.in-Ok-cells_of.described c.in-Ok-read_clock.clocked
-    = record { netlist_read = c.in-Ok.ensures.value; delays_read = c.in-Ok-read_delays.ensures; cells_read = c.in-Ok-cells_of.ensures.value; clock_read = c.in-Ok-read_clock.ensures } in
-    let flat : IsHierarchyOf c.in-Ok.modules c.in-Ok-cells_of.described c.in-Ok-read_clock.clocked c.in-Ok-flatten.hierarchy =
-    subst (λ (t : Option (List ℕ)). IsHierarchy (source_of c.in-Ok-cells_of.described c.in-Ok.modules.modules) t c.in-Ok-flatten.hierarchy) c.as_ref.ensures.value c.in-Ok-flatten.ensures.value in
-    if_ok (IsAnnotated c.in-Ok-flatten.hierarchy c.in-Ok-cells_of.described c.in-Ok-read_clock.clocked c.in-Ok-read_delays.said.items)
+    let read : AreRead c.args.netlist.now c.args.delays.now (cell_text c.args.cells) c.args.clock.now c.in_ok-modules.modules c.in_ok-said.said.items c.in_ok-described.described c.in_ok-clocked.clocked
+    = record { netlist_read = c.in_ok-modules.ensures.value; delays_read = c.in_ok-said.ensures; cells_read = c.in_ok-described.ensures.value; clock_read = c.in_ok-clocked.ensures } in
+    let flat : IsHierarchyOf c.in_ok-modules.modules c.in_ok-described.described c.in_ok-clocked.clocked c.in_ok-hierarchy.hierarchy =
+    subst (λ (t : Option (List ℕ)). IsHierarchy (source_of c.in_ok-described.described c.in_ok-modules.modules.modules) t c.in_ok-hierarchy.hierarchy) c.as_ref.ensures.value c.in_ok-hierarchy.ensures.value in
+    if_ok (IsAnnotated c.in_ok-hierarchy.hierarchy c.in_ok-described.described c.in_ok-clocked.clocked c.in_ok-said.said.items)
     (IsDesignOver c.args.netlist.now c.args.delays.now (cell_text c.args.cells) c.args.clock.now)
-    (IsAnnotateRefusal c.in-Ok-flatten.hierarchy c.in-Ok-cells_of.described c.in-Ok-read_clock.clocked c.in-Ok-read_delays.said.items)
+    (IsAnnotateRefusal c.in_ok-hierarchy.hierarchy c.in_ok-described.described c.in_ok-clocked.clocked c.in_ok-said.said.items)
     c.annotate.result
-    (λ design h. record { netlist = c.in-Ok.modules; delays = c.in-Ok-read_delays.said.items; cells = c.in-Ok-cells_of.described; clock = c.in-Ok-read_clock.clocked; hierarchy = c.in-Ok-flatten.hierarchy; read = read; flat = flat; annotated = h })
+    (λ design h. record { netlist = c.in_ok-modules.modules; delays = c.in_ok-said.said.items; cells = c.in_ok-described.described; clock = c.in_ok-clocked.clocked; hierarchy = c.in_ok-hierarchy.hierarchy; read = read; flat = flat; annotated = h })
     c.annotate.ensures
 
 pub returns-clause-stop : goal.returns-clause-stop
 returns-clause-stop c =
-    let read : AreRead c.args.netlist.now c.args.delays.now (cell_text c.args.cells) c.args.clock.now c.in-Ok.modules c.in-Ok-read_delays.said.items c.in-Ok-cells_of.described c.in-Ok-read_clock.clocked
-    = record { netlist_read = c.in-Ok.ensures.value; delays_read = c.in-Ok-read_delays.ensures; cells_read = c.in-Ok-cells_of.ensures.value; clock_read = c.in-Ok-read_clock.ensures } in
-    let flat : IsHierarchyOf c.in-Ok.modules c.in-Ok-cells_of.described c.in-Ok-read_clock.clocked c.in-Ok-flatten.hierarchy =
-    subst (λ (t : Option (List ℕ)). IsHierarchy (source_of c.in-Ok-cells_of.described c.in-Ok.modules.modules) t c.in-Ok-flatten.hierarchy) c.as_ref.ensures.value c.in-Ok-flatten.ensures.value in
-    if_err (IsAnnotated c.in-Ok-flatten.hierarchy c.in-Ok-cells_of.described c.in-Ok-read_clock.clocked c.in-Ok-read_delays.said.items)
-    (IsAnnotateRefusal c.in-Ok-flatten.hierarchy c.in-Ok-cells_of.described c.in-Ok-read_clock.clocked c.in-Ok-read_delays.said.items)
+    let read : AreRead c.args.netlist.now c.args.delays.now (cell_text c.args.cells) c.args.clock.now c.in_ok-modules.modules c.in_ok-said.said.items c.in_ok-described.described c.in_ok-clocked.clocked
+    = record { netlist_read = c.in_ok-modules.ensures.value; delays_read = c.in_ok-said.ensures; cells_read = c.in_ok-described.ensures.value; clock_read = c.in_ok-clocked.ensures } in
+    let flat : IsHierarchyOf c.in_ok-modules.modules c.in_ok-described.described c.in_ok-clocked.clocked c.in_ok-hierarchy.hierarchy =
+    subst (λ (t : Option (List ℕ)). IsHierarchy (source_of c.in_ok-described.described c.in_ok-modules.modules.modules) t c.in_ok-hierarchy.hierarchy) c.as_ref.ensures.value c.in_ok-hierarchy.ensures.value in
+    if_err (IsAnnotated c.in_ok-hierarchy.hierarchy c.in_ok-described.described c.in_ok-clocked.clocked c.in_ok-said.said.items)
+    (IsAnnotateRefusal c.in_ok-hierarchy.hierarchy c.in_ok-described.described c.in_ok-clocked.clocked c.in_ok-said.said.items)
     (IsRefusalOver c.args.netlist.now c.args.delays.now (cell_text c.args.cells) c.args.clock.now)
     c.annotate.result
-    (λ r h. of_design c.in-Ok.modules c.in-Ok-read_delays.said.items c.in-Ok-cells_of.described c.in-Ok-read_clock.clocked c.in-Ok-flatten.hierarchy read flat h)
+    (λ r h. of_design c.in_ok-modules.modules c.in_ok-said.said.items c.in_ok-described.described c.in_ok-clocked.clocked c.in_ok-hierarchy.hierarchy read flat h)
     c.annotate.ensures

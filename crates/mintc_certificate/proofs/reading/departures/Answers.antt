@@ -26,7 +26,7 @@ pub loop-departure-preserved : goal.loop-departure-preserved
 loop-departure-preserved c = λ text s at.
     let low = c.least_departure-least.ensures in
     let read = rw (to_z-of_z w64 c.least_departure-least.result (fits_as c.least_departure-least.result c.args.version low), low) at c.in-Some-number_line.ensures.read in
-    let pushed = rw (read_time c.in-Some-number_line.departure (let h = read.spells.1.0 in let v = least_is c.args.version in (omega (arith, ints), omega (arith, ints)))) at c.in-Ok.ensures.items in
+    let pushed = rw (read_time c.in-Some-number_line.departure (let h = read.spells.1.0 in let v = least_is c.args.version in (omega (arith, ints), omega (arith, ints)))) at c.in_ok-push.ensures.items in
     list_more (departure_states c.args.version s) (IsDepartureLine c.args.version) text c.loop-departure.reader c.number_line.new.self c.loop-departure.found.items c.push.new.self.items c.loop-departure._departure c.in-Some.count c.in-Some-number_line.departure
     (c.loop-departure.invariant text s at) (omega arith) read c.in-Some-number_line.ensures.counted pushed (λ left all line spells. (c.in-Some-number_line.departure, spells, refl))
 

@@ -21,7 +21,7 @@ returns-in_err-member c = λ text d at.
 pub loop-member-preserved : goal.loop-member-preserved
 loop-member-preserved c = λ text d at.
     list_more (member_states c.args.version d) (IsMemberLine c.args.version) text c.loop-member.reader c.member_line.new.reader c.loop-member.found.items c.push.new.self.items c.loop-member._member c.in-Some.count c.in_ok-member.member
-    (c.loop-member.invariant text d at) (omega arith) c.in_ok-member.ensures.read c.in_ok-member.ensures.counted c.in-Ok.ensures.items (member_next c.args.version d c.in_ok-member.member)
+    (c.loop-member.invariant text d at) (omega arith) c.in_ok-member.ensures.read c.in_ok-member.ensures.counted c.in_ok-push.ensures.items (member_next c.args.version d c.in_ok-member.member)
 
 pub returns : goal.returns
 returns c = λ text d at.

@@ -14,11 +14,9 @@ loop-lane-preserved c = record {
   last_so_far = λ d labels.
       let lane : ℕ = c.loop-lane.lane in
       let inside : input_of c.args.number < length c.args.labels.now = omega arith in
-      let count = ap length c.items-lane-end.ensures in
-      let named = ap length c.phases.ensures.value in
       let below : lane < 8 = omega arith in
       subst (λ o. IsLastUpTo c.args.clocked.now.flat.now c.args.clocked.now.schedule.now d (lane + 1) c.args.number c.element.result.now.phase o) (sym (c.later-last.ensures.value ∙ ap (λ o. joined int_max c.loop-lane.last o (to_z w64 (of_z w64 c.shift-add.result))) c.label_in.ensures))
-      (last-more c.args.clocked.now.flat.now c.element.ensures.design c.args.clocked.now.schedule.now d c.args.number c.element.result.now.phase lane c.loop-lane.last (label_at c.args.labels.now (input_of c.args.number) lane) _
+      (last-more c.args.clocked.now.flat.now c.element.ensures.kept c.args.clocked.now.schedule.now d c.args.number c.element.result.now.phase lane c.loop-lane.last (label_at c.args.labels.now (input_of c.args.number) lane) _
       (read_time c.shift-add.result (IsTime-IsModest _ c.shift-add.ensures.range) ∙ c.shift-add.ensures.value)
       (c.loop-lane.invariant.last_so_far d labels) (labels.each (input_of c.args.number) lane inside below));
   range = c.later-last.ensures.range;
@@ -26,7 +24,6 @@ loop-lane-preserved c = record {
 
 pub returns-clause-last : goal.returns-clause-last
 returns-clause-last c = λ d labels.
-    let count = ap length (c.items-lane-end.ensures ∙ c.phases.ensures.value) in
     let all : c.loop-lane.lane ≡ length c.args.clocked.now.flat.now.phases = omega arith in
-    last-all c.args.clocked.now.flat.now c.element.ensures.design c.args.clocked.now.schedule.now d c.args.number c.element.result.now.phase c.loop-lane.lane c.loop-lane.last all
+    last-all c.args.clocked.now.flat.now c.element.ensures.kept c.args.clocked.now.schedule.now d c.args.number c.element.result.now.phase c.loop-lane.lane c.loop-lane.last all
     (ap (λ (e : Element). e.phase) c.element.ensures.value) (c.loop-lane.invariant.last_so_far d labels)

@@ -4,5 +4,5 @@ use Rattle.mintc_timing.specs.Clocking.{KeepsBound}
 use Rattle.mintc_checker.proofs.schedule_tests.keeps_bounds.Given as goal
 
 -- the bounds so far are kept
-abbrev pub invariant-loop-number : goal.invariant-loop-number
-invariant-loop-number l = All (KeepsBound l.clocked.schedule.now) (take l.number l.clocked.flat.now.bounds)
+abbrev pub invariant-loop-bound : goal.invariant-loop-bound
+invariant-loop-bound l = All (KeepsBound l.clocked.schedule.now) (take l.bound-index l.clocked.flat.now.bounds)

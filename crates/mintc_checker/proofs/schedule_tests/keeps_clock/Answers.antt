@@ -11,7 +11,6 @@ loop-index-preserved c = λ t e are_pairs.
 
 pub returns : goal.returns
 returns c = λ t e are_pairs.
-    let count = ap length (c.items-index-end.ensures ∙ c.phases.ensures.value) in
     holds (record {
       den = c.args.clocked.now.in_range.den.0;
       starts = rw e c.args.clocked.now.phases;

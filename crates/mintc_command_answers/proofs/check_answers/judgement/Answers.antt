@@ -25,8 +25,8 @@ pass_text-requires-clause-early c = c.requires.early (is_none c.args.violations.
 pub returns-in_ok-text : goal.returns-in_ok-text
 returns-in_ok-text c =
     let none = is_none c.args.violations.now c.is_empty.result c.is_empty.ensures c.if-is_empty.true in
-    IsJudgement-pass c.args.system.now c.args.schedule.now c.args.violations.now c.args.room.now.late c.args.room.now.early _ _ none c.requires.violations (c.requires.late none) (c.requires.early none)
-    c.in_ok-text.ensures c.new.ensures
+    IsJudgement-pass c.args.system.now c.args.schedule.now c.args.violations.now c.args.room.now.late c.args.room.now.early _ _ _ none c.requires.violations (c.requires.late none) (c.requires.early none)
+    c.in_ok-text.ensures c.new.ensures.status c.new.ensures.text
 
 pub fail_text-requires-clause-named : goal.fail_text-requires-clause-named
 fail_text-requires-clause-named c = NamePairs-seen c.violations_name_pairs.ensures c.args.system.now c.args.schedule.now c.args.violations.now c.args.violations.now refl c.requires.violations
@@ -36,5 +36,5 @@ fail_text-requires-clause-some c = is_some c.args.violations.now c.is_empty.resu
 
 pub returns-in_ok-text-2 : goal.returns-in_ok-text-2
 returns-in_ok-text-2 c =
-    IsJudgement-fail c.args.system.now c.args.schedule.now c.args.violations.now c.args.violations.now _ _
-    (is_some c.args.violations.now c.is_empty.result c.is_empty.ensures c.if-is_empty.false) refl c.requires.violations c.in_ok-text-2.ensures c.new-else-is_empty.ensures
+    IsJudgement-fail c.args.system.now c.args.schedule.now c.args.violations.now c.args.violations.now _ _ _
+    (is_some c.args.violations.now c.is_empty.result c.is_empty.ensures c.if-is_empty.false) refl c.requires.violations c.in_ok-text-2.ensures c.new-else-is_empty.ensures.status c.new-else-is_empty.ensures.text

@@ -1,10 +1,12 @@
+use Rattle.std.proofs.lemmas.Result.{err_from_is_err_and}
 use Rattle.mintc_command_answers.proofs.SourceLaws.{GivesOrdered-system, StopsAt-system}
 use Rattle.mintc_command_answers.proofs.source.ordered_of.Goals as goal
 
-pub returns-in-Ok-system_order-clause-value : goal.returns-in-Ok-system_order-clause-value
-returns-in-Ok-system_order-clause-value c =
-    GivesOrdered-system c.systems_are_accepted.ensures c.args.source c.args.files.now c.in-Ok.flat c.in-Ok-system_order.order c.in-Ok.ensures.value c.phases-phases.ensures.kept c.in-Ok-system_order.ensures.system
+pub returns-clause-value : goal.returns-clause-value
+returns-clause-value c =
+    GivesOrdered-system c.systems_are_accepted.ensures c.args.source c.args.files.now c.in_ok-flat.flat c.in_ok-order.order c.in_ok-flat.ensures.value c.phases-phases.ensures.kept c.in_ok-order.ensures.system
 
-pub returns-in-Err-system_order-clause-stop : goal.returns-in-Err-system_order-clause-stop
-returns-in-Err-system_order-clause-stop c =
-    StopsAt-system c.args.source c.args.files.now c.in-Ok.flat c.in-Err-system_order.stop c.in-Ok.ensures.value c.phases-phases.ensures.kept c.in-Err-system_order.ensures.stop
+pub returns-in_err-order-clause-stop : goal.returns-in_err-order-clause-stop
+returns-in_err-order-clause-stop c =
+    let p = err_from_is_err_and c.from_residual-in_err-order.result c.from_residual-in_err-order.ensures.1 in
+    rw (p.1, p.2) (StopsAt-system c.args.source c.args.files.now c.in_ok-flat.flat c.in_err-order.field-0.0 c.in_ok-flat.ensures.value c.phases-phases.ensures.kept c.in_err-order.ensures.stop)

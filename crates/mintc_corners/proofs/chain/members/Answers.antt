@@ -5,7 +5,7 @@ use Rattle.mintc_corners.proofs.chain.members.Goals as goal
 
 pub loop-number-preserved : goal.loop-number-preserved
 loop-number-preserved c = (
-  rw c.in-Ok.ensures.items
+  rw c.in_ok-push.ensures.items
       (stand_read c.args.systems.now c.args.chain.now c.loop-number.number-index c.loop-number.members.items c.in_ok-member.member c.loop-number-test.true c.loop-number.invariant.0 c.in_ok-member.ensures.member),
   c.in_ok-member.ensures.finders,
 )

@@ -18,9 +18,9 @@ loop-system-preserved c =
     let ds = c.in_ok-departures.ensures.value ∙ ap (departures_of t.flat) own in
     rw elements (
       departures_more systems i t c.loop-system-test.true c.system-item.is clock before values c.in_ok-departures.field-0 c.loop-system.all.items c.push.new.self.items (departures_of_all systems values)
-          c.loop-system.invariant.0 ds c.in-Ok.ensures.items,
+          c.loop-system.invariant.0 ds c.in_ok-push.ensures.items,
       (sayable_here systems i t c.loop-system-test.true c.system-item.is clock before values c.loop-system.invariant.1).1,
-      in_range_more t c.in_ok-departures.field-0 _ c.loop-system.all.items c.push.new.self.items c.flat.ensures.design c.loop-system.invariant.2 c.in_ok-departures.ensures.in_range ds c.in-Ok.ensures.items,
+      in_range_more t c.in_ok-departures.field-0 _ c.loop-system.all.items c.push.new.self.items c.flat.ensures.design c.loop-system.invariant.2 c.in_ok-departures.ensures.in_range ds c.in_ok-push.ensures.items,
     )
 
 pub corner_values-requires-clause-before : goal.corner_values-requires-clause-before

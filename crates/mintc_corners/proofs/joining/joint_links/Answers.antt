@@ -22,9 +22,8 @@ loop-corner-preserved c =
     let t = c.index-systems-corner.result in
     let list = list_at systems c.args.lists.now c.requires.lists i c.index-lists-corner.result c.loop-corner-test.true c.index-lists-corner.is t in
     let links = c.items.ensures.value ∙ ap (λ (x : Constraints). x.links) list ∙ ap links_of (sym c.index-systems-corner.is) in
-    let elements = c.elements.ensures.value ∙ ap (λ d. d.elements) c.flat.ensures.value in
     let step = c.in_ok-append_corner.ensures ∙ ap (λ (ks : List Link). c.loop-corner.items.items ++ map (lifted_link (widest systems) c.clock_nodes-clock.result c.loop-corner.before) ks) links in
-    rw elements (
+    rw (c.element_count-before.ensures.value, c.flat.ensures.value) (
       joined_more systems i t c.loop-corner-test.true c.index-systems-corner.is (widest systems) c.clock_nodes-clock.result c.loop-corner.before c.loop-corner.items.items
           c.append_corner.new.items.items (joined_links systems) c.loop-corner.invariant.0 step,
       elements_more systems i t c.loop-corner-test.true c.index-systems-corner.is c.loop-corner.before _ c.loop-corner.invariant.1,

@@ -6,7 +6,7 @@ use Rattle.mintc_departure.proofs.rising.recompute_at.Goals as goal
 
 pub recompute-requires-clause-departures : goal.recompute-requires-clause-departures
 recompute-requires-clause-departures c =
-    rising-sums c.args.clocked.now.system.now c.args.clocked.now.schedule.now c.count-count.ensures.kept
+    rising-sums c.args.clocked.now.system.now c.args.clocked.now.schedule.now c.requires.clocked
     c.args.room.now.late c.requires.late c.args.room.now.early c.requires.swept.rising
 
 pub returns-then-not-recompute-clause-swept : goal.returns-then-not-recompute-clause-swept
@@ -19,7 +19,7 @@ returns-then-not-recompute-clause-swept c =
 
 pub returns-clause-swept : goal.returns-clause-swept
 returns-clause-swept c =
-    swept-more c.args.clocked.now.system.now c.args.clocked.now.schedule.now c.count-count.ensures.kept
+    swept-more c.args.clocked.now.system.now c.args.clocked.now.schedule.now c.requires.clocked
     c.args.room.now.late c.requires.late c.args.room.now.early c.recompute.new.room.early c.args.element c.args.stale.now.words.items c.remove.new.self.words.items c.wake.new.stale.words.items
     c.requires.swept c.requires.element c.if-not-recompute.ensures.written c.remove.ensures.count c.remove.ensures.others c.wake.ensures.count c.wake.ensures.kept c.wake.ensures.woken
 

@@ -20,6 +20,6 @@ returns-clause-early c =
 
 pub returns-clause-sums : goal.returns-clause-sums
 returns-clause-sums c =
-    rising-sums c.args.clocked.now.system.now c.args.clocked.now.schedule.now c.count-count.ensures.kept
+    rising-sums c.args.clocked.now.system.now c.args.clocked.now.schedule.now c.requires.clocked
     c.args.room.now.late c.requires.late c.sweep.new.room.early
     (rw (ap (λ (r : Space). r.late) c.loop.invariant.kept) at c.sweep.ensures.swept).rising

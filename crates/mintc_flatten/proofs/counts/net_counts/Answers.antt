@@ -15,7 +15,7 @@ loop-table-preserved c =
     let is : table ≡ table_of (get_or ms k no_module) = c.table-item.is ∙ ap (λ (ts : List NetTable). get_or ts k table) c.requires ∙ get_or-map table_of ms k no_module table inside in
     let count : c.min.result ≡ net_count (get_or ms k no_module) = c.min.ensures ∙ ap (λ (n : ℕ). min n MOST_TOLD) (c.count.ensures ∙ ap (λ (t : NetTable). t.count) is) in
     let longer : take (k + 1) ms ≡ take k ms ++ get_or ms k no_module ∷ [] = take_more ms k no_module inside in
-    c.in-Ok.ensures.items
+    c.in_ok-push.ensures.items
     ∙ ap (λ (ns : List ℕ). ns ++ c.min.result ∷ []) c.loop-table.invariant
     ∙ ap (λ (n : ℕ). map net_count (take k ms) ++ n ∷ []) count
     ∙ sym (map-append net_count (take k ms) (get_or ms k no_module ∷ []))

@@ -9,10 +9,10 @@ use Rattle.mintc_flatten_binding.specs.Orders.{IsThere}
 use Rattle.mintc_flatten_binding.proofs.PinLaws.{inside-module, pin-cell, port-places}
 use Rattle.mintc_flatten_binding.proofs.pins.push_pin.Goals as goal
 
-pub returns-in-Ok : goal.returns-in-Ok
-returns-in-Ok c =
+pub returns-in_ok-push-in-OfCell : goal.returns-in_ok-push-in-OfCell
+returns-in_ok-push-in-OfCell c =
     let s = source_in c.args.source.now in
-    c.in-Ok.ensures.items
+    c.in_ok-push-in-OfCell.ensures.items
     ∙ ap (λ (place : ℕ). c.args.places.now.items ++ Some place ∷ []) c.from.ensures
     ∙ sym (ap (λ (p : Pin). c.args.places.now.items ++ map Some p.places) (pin-cell s c.args.binding c.in-OfCell.field-0 c.args.number c.in-OfCell.is c.requires.pin))
 

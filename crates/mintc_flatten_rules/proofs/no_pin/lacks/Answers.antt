@@ -10,4 +10,4 @@ returns-in-Port c =
     ∙ ap (λ (wanted : List (List ℕ)). lacks_any c.args.own.now wanted) c.items.ensures
     ∙ ap (λ (names : List (List ℕ)). lacks_any names c.in-Port.names) c.requires.own
     ∙ lacks_set c.args.part.now.ports c.in-Port.names
-    ∙ ap (lacks_item (source_of c.args.cells.now c.args.modules.now) c.args.part.now) (sym c.in-Port.is)
+    ∙ ap (lacks_item (source_of c.args.netlist.now.cells.now c.args.netlist.now.modules.now) c.args.part.now) (sym c.in-Port.is)

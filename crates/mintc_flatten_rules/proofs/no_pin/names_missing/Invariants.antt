@@ -7,5 +7,5 @@ use Rattle.mintc_flatten_rules.proofs.no_pin.names_missing.Given as goal
 
 -- the connections that are left name a missing pin where all do
 abbrev pub invariant-loop-connection : goal.invariant-loop-connection
-invariant-loop-connection l = let s = source_of l.cells l.modules in
+invariant-loop-connection l = let s = source_of l.netlist.cells.now l.netlist.modules.now in
     list_any (λ name. not (is_pin s l.binding name)) (named_pins (drop l.connection-index l.connections)) ≡ list_any (λ name. not (is_pin s l.binding name)) (named_pins l.connections)

@@ -30,8 +30,8 @@ loop-place-preserved c =
           (ap (λ v. v.items) w.cells-is)
     ]
 
-pub returns-in-Ok-clause-cells : goal.returns-in-Ok-clause-cells
-returns-in-Ok-clause-cells c =
+pub returns-clause-cells : goal.returns-clause-cells
+returns-clause-cells c =
     let text = c.args.library.now.text in
     let o = option_map (λ (b : Bor (List ℕ)). b.now) c.loop-place.before in
     let none : length c.loop-place.place-iterator.rest.items ≡ 0 = grind (arith, nat_tests, c.loop-place.place-iterator.rest.ok, c.in-None.ensures.steps.0) in
@@ -40,8 +40,8 @@ returns-in-Ok-clause-cells c =
     ∙ ap (λ ps. c.loop-place.cells.items ++ cells_from text o ps) (nil_from_length c.loop-place.place-iterator.rest.items none) ∙ append-nil c.loop-place.cells.items in
     sym all ∙ sym (ap (filter_map usable) c.in_ok-places.ensures) ∙ sym (named-cells (cells_in (groups (front 63 c.args.library.now.tokens).statements)))
 
-pub returns-in-Ok-clause-ordered : goal.returns-in-Ok-clause-ordered
-returns-in-Ok-clause-ordered c =
+pub returns-clause-ordered : goal.returns-clause-ordered
+returns-clause-ordered c =
     let text = c.args.library.now.text in
     let o = option_map (λ (b : Bor (List ℕ)). b.now) c.loop-place.before in
     let es = put_all (named_cells c.args.library.now.tokens) [] in
@@ -50,7 +50,7 @@ returns-in-Ok-clause-ordered c =
     ap (filter_map usable) c.in_ok-places.ensures ∙ ap (cells_from text None) (sym c.into_iter-place-iterator.ensures.into_iter_gives.0) ∙ c.loop-place.invariant
     ∙ ap (λ ps. c.loop-place.cells.items ++ cells_from text o ps) (nil_from_length c.loop-place.place-iterator.rest.items none) ∙ append-nil c.loop-place.cells.items in
     record {
-      few = omega (arith, c.in-Ok.ensures.0, c.len.ensures);
+      few = omega (arith, c.in_ok-try_from.ensures.0, c.len.ensures);
       ascending = subst (λ cells. AreAscending (names_of cells)) all (ascending-kept usable usable-name es (all-in-order (named_cells c.args.library.now.tokens) [] tt));
       each = subst AreKept all (all-kept usable is_kept usable-kept es);
     }

@@ -12,7 +12,7 @@ member_of-requires c =
 
 pub loop-number-preserved : goal.loop-number-preserved
 loop-number-preserved c =
-    rw c.in-Ok.ensures.items
+    rw c.in_ok-push.ensures.items
     (stand_read (λ k. k) c.args.links.now c.args.chain.now c.loop-number.number-index c.loop-number.members.items c.in_ok-member.member _ c.loop-number-test.true
     c.requires.chain c.loop-number.invariant c.in_ok-member.ensures)
 

@@ -23,23 +23,23 @@ range t limits kept k j l is listed =
 
 pub element-requires : goal.element-requires
 element-requires c =
-    leaves c.args.system.now c.flat-flat.ensures.design c.flat-flat.ensures.kept c.args.link.now c.args.from c.args.to
-    (of_kind c.args.system.now c.flat-flat.ensures.design c.args.link.now (kind.Reach c.args.from c.args.to) c.requires.kind c.requires.link)
+    leaves c.args.system.now c.requires.design c.requires.kept c.args.link.now c.args.from c.args.to
+    (of_kind c.args.system.now c.requires.design c.args.link.now (kind.Reach c.args.from c.args.to) c.requires.kind c.requires.link)
 
 pub overflow_sub-result : goal.overflow_sub-result
 overflow_sub-result c =
     let k = c.args.link.now in
     let dq : ℤ = (element_at c.args.system.now.flat c.args.from).dq_max in
-    let here = range c.args.system.now c.flat-flat.ensures.design c.flat-flat.ensures.kept k c.args.from c.args.to c.requires.kind c.requires.link in
+    let here = range c.args.system.now c.requires.design c.requires.kept k c.args.from c.args.to c.requires.kind c.requires.link in
     rw (c.element.ensures.value, to_z-of_z w64 k.delay (omega (arith, ints)), to_z-of_z w64 dq (omega (arith, ints))) (omega (arith, ints))
 
 pub returns : goal.returns
 returns c =
     let t = c.args.system.now in
     let k = c.args.link.now in
-    let limits = c.flat-flat.ensures.design in
+    let limits = c.requires.design in
     let dq : ℤ = (element_at t.flat c.args.from).dq_max in
-    let here = range t limits c.flat-flat.ensures.kept k c.args.from c.args.to c.requires.kind c.requires.link in
+    let here = range t limits c.requires.kept k c.args.from c.args.to c.requires.kind c.requires.link in
     let value : to_z w64 (of_z w64 (to_z w64 (of_z w64 k.delay) -ℤ to_z w64 (of_z w64 c.element.result.now.dq_max))) ≡ k.delay -ℤ dq =
     rw (c.element.ensures.value, to_z-of_z w64 k.delay (omega (arith, ints)), to_z-of_z w64 dq (omega (arith, ints)), to_z-of_z w64 (k.delay -ℤ dq) (omega (arith, ints))) refl in
     record { value = value; pair = pair_of_reach t limits k c.args.from c.args.to (of_kind t limits k (kind.Reach c.args.from c.args.to) c.requires.kind c.requires.link) _ value }

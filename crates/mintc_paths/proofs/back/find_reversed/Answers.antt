@@ -5,7 +5,7 @@ use Rattle.mintc_paths.proofs.back.find_reversed.Goals as goal
 pub find_along-requires : goal.find_along-requires
 find_along-requires g c =
     let design = c.args.flat.now in
-    let kept = c.elements.ensures.kept in
+    let kept = c.element_count-elements.ensures.kept in
     let there = c.requires.1.1.1.0.of_bits in
     let back = c.requires.1.1.1.0.bits in
     let places = c.args.places.now.of_bits.items in

@@ -1,7 +1,6 @@
 use Rattle.std.proofs.Common.{◌≡◌, ◌<◌, ◌+◌, ◌-◌, ◌*◌, ◌∙◌, ℕ, List, length, get_or, arith, ap, refl}
 use Rattle.std.specs.Vec.{with_items}
 use Rattle.std.proofs.lemmas.List.{with_items_is, get_or_default}
-use Rattle.mintc_timing.specs.declared.parts.Element.{Element}
 use Rattle.mintc_timing.specs.declared.parts.TimingArc.{TimingArc}
 use Rattle.mintc_timing.specs.Design.{no_arc}
 use Rattle.mintc_timing.specs.Paths.{arc_at}
@@ -35,8 +34,8 @@ returns c =
     let new : ArcSequence = record { rows = c.in_ok-rows.rows; along = with_items old.along c.reverse_arcs.new.along; leaving = c.in_ok-leaving.leaving } in
     let rows = rw c.requires.sequence.rows.of_bits.count at c.in_ok-rows.ensures.rows in
     let leaving : AreLeaving c.deref.result.now c.len.result new.leaving = record { rows_have = c.in_ok-leaving.ensures.bits; arcs_have = c.in_ok-leaving.ensures.arcs; index = c.in_ok-leaving.ensures.index } in
-    IsSequence-reversed c.args.flat.now c.args.order.now c.requires.order c.elements.ensures.kept old new c.args.places.now c.requires.places c.requires.sequence rows
-    (λ bit low. rw (ap (λ (xs : List Element). length xs) c.elements.ensures.value) at (c.in_ok-rows.ensures.each bit (omega (arith, c.requires.sequence.rows.of_bits.count))))
+    IsSequence-reversed c.args.flat.now c.args.order.now c.requires.order c.element_count-elements.ensures.kept old new c.args.places.now c.requires.places c.requires.sequence rows
+    (λ bit low. rw c.element_count-elements.ensures.value at (c.in_ok-rows.ensures.each bit (omega (arith, c.requires.sequence.rows.of_bits.count))))
     (ap (λ (xs : List TimingArc). length xs) (along_is at) ∙ along_count at)
     (λ i low. ap (λ xs. arc_at xs i) (along_is at) ∙ arc_is at i low)
     (rw (c.deref.ensures.value, bits_are at) at leaving)
@@ -49,5 +48,5 @@ new-requires-clause-inside c k d below =
     let items = c.deref.ensures.value ∙ along_is at in
     let low : k < length old = omega (arith, along_count at, ap (λ (xs : List TimingArc). length xs) items) in
     let is = ap (λ (xs : List TimingArc). get_or xs k d) items ∙ get_or_default c.reverse_arcs.new.along k d no_arc (omega (arith, along_count at)) ∙ arc_is at k low in
-    let inside = row_to_in c.args.flat.now c.args.order.now c.requires.order c.elements.ensures.kept c.args.sequence n c.requires.sequence refl (length old - 1 - k) (omega (arith, c.requires.sequence.along.count)) in
+    let inside = row_to_in c.args.flat.now c.args.order.now c.requires.order c.element_count-elements.ensures.kept c.args.sequence n c.requires.sequence refl (length old - 1 - k) (omega (arith, c.requires.sequence.along.count)) in
     rw is (omega (arith, inside, bits_are at))

@@ -7,7 +7,7 @@ pub search_from-requires-clause-climbing : goal.search_from-requires-clause-clim
 search_from-requires-clause-climbing g c =
     let some = c.in-Chain.ensures.some in (
       c.args.steps.now,
-      climbing-begun c.args.links.now c.nodes-nodes.ensures.kept c.args.steps.now c.taken-begun.result c.test_at.new.room c.in-Held.sums c.test_at.new.steps
+      climbing-begun c.args.links.now c.in-Chain.ensures.kept c.args.steps.now c.taken-begun.result c.test_at.new.room c.in-Held.sums c.test_at.new.steps
           c.in-Held.ensures c.taken-begun.ensures (omega arith) c.in-Chain.ensures.cost,
     )
 
@@ -20,5 +20,5 @@ returns-in-Values-clause-searched g c =
 pub returns-in-Held-clause-cost : goal.returns-in-Held-clause-cost
 returns-in-Held-clause-cost g c =
     let some = c.in-Chain.ensures.some in
-    c.search_from.ensures.cost c.args.steps.now (climbing-begun c.args.links.now c.nodes-nodes.ensures.kept c.args.steps.now c.taken-begun.result c.test_at.new.room c.in-Held.sums c.test_at.new.steps
+    c.search_from.ensures.cost c.args.steps.now (climbing-begun c.args.links.now c.in-Chain.ensures.kept c.args.steps.now c.taken-begun.result c.test_at.new.room c.in-Held.sums c.test_at.new.steps
     c.in-Held.ensures c.taken-begun.ensures (omega arith) c.in-Chain.ensures.cost)

@@ -10,7 +10,7 @@ turn_of-requires-clause-low g c =
 pub returns-in-Values-clause-turn : goal.returns-in-Values-clause-turn
 returns-in-Values-clause-turn g c =
     let tested = c.in-Values.ensures.tested in
-    least_held c.args.links.now c.args.held c.ratio_of-cycle.result c.args.room.now c.test_at.new.room c.nodes-nodes.ensures.kept c.requires.held
+    least_held c.args.links.now c.args.held c.ratio_of-cycle.result c.args.room.now c.test_at.new.room c.requires.kept c.requires.held
     c.ratio_of-cycle.ensures.cycle c.ratio_of-cycle.ensures.value tested.0 tested.1 tested.2
 
 pub returns-in-Chain-clause-turn : goal.returns-in-Chain-clause-turn

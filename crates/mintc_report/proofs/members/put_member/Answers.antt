@@ -11,7 +11,7 @@ use Rattle.mintc_report.proofs.members.put_member.Goals as goal
 
 pub put_throughs-requires : goal.put_throughs-requires
 put_throughs-requires c =
-    subst (All (IsThrough c.args.system.now.flat)) (sym c.later_arcs.ensures) (are_through c.args.system.now c.args.member.now c.flat-flat.ensures.design c.requires.member)
+    subst (All (IsThrough c.args.system.now.flat)) (sym c.later_arcs.ensures) (are_through c.args.system.now c.args.member.now c.link_at-link.ensures.design c.requires.member)
 
 pub returns : goal.returns
 returns c =

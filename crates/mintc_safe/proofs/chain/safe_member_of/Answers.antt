@@ -10,8 +10,8 @@ hold_of-requires c =
     let known = of_safe_kind c.args.system.now c.flat-flat.ensures.design c.args.link.now (kind.Other c.in-Some.number) c.in-Some.ensures c.requires in
     record { number = known.0; held = known.1 }
 
-pub plain_of-requires : goal.plain_of-requires
-plain_of-requires c = is_of_design c.args.system.now c.flat-flat.ensures.design c.args.link.now c.in-None.ensures c.requires
+pub plain_of-requires-clause-link : goal.plain_of-requires-clause-link
+plain_of-requires-clause-link c = is_of_design c.args.system.now c.flat-flat.ensures.design c.args.link.now c.in-None.ensures c.requires
 
 pub returns-in-Some : goal.returns-in-Some
 returns-in-Some c =

@@ -3,5 +3,5 @@ use Rattle.mintc_sdf_tokens.specs.Conditions.{has_over}
 use Rattle.mintc_sdf_tokens.proofs.conditions.has_over.Given as goal
 
 -- none so far
-abbrev pub invariant-loop-at : goal.invariant-loop-at
-invariant-loop-at l = has_over l.layers ≡ has_over (drop l.at l.layers)
+abbrev pub invariant-loop-layer : goal.invariant-loop-layer
+invariant-loop-layer l = has_over l.layers ≡ has_over (drop l.layer-index l.layers)

@@ -16,7 +16,7 @@ loop-number-preserved c =
     let old = c.loop-number.entries.items in
     let e = entry (pair_at t i).to i in
     let below : i < length t.pairs = omega (arith, ap length c.pairs-number-end.ensures.value) in
-    rw (c.in-Ok.ensures.items, c.pair.ensures.value) (record {
+    rw (c.in_ok-push.ensures.items, c.pair.ensures.value) (record {
       of_pairs = All-push (λ (x : Entry). (x.number < length t.pairs) × (x.to ≡ (pair_at t x.number).to)) old e c.loop-number.invariant.of_pairs (below, refl);
       all = below_more (λ n. Contains (old ++ e ∷ []) (entry (pair_at t n).to n)) i
           (λ n less. Contains-append_left old (e ∷ []) (entry (pair_at t n).to n) (c.loop-number.invariant.all n less)) (Contains-push old e);

@@ -4,17 +4,17 @@ use Rattle.mintc_slack.proofs.finding.slack.Goals as goal
 
 pub returns-in-Never : goal.returns-in-Never
 returns-in-Never g c =
-    hopeless_of c.args.system.now c.flat-flat.ensures.design (ends_of c.args.system.now c.flat-flat.ensures.kept.extremes) c.in_ok-list.list c.in_ok-list.ensures.links c.search.new.room
+    hopeless_of c.args.system.now c.links.ensures.design (ends_of c.args.system.now c.links.ensures.kept.extremes) c.in_ok-list.list c.in_ok-list.ensures.links c.search.new.room
     c.in-Never.ensures.searched.0 c.in-Never.ensures.searched.1
 
 pub extras-requires-clause-least : goal.extras-requires-clause-least
 extras-requires-clause-least g c =
-    least_of c.args.system.now c.flat-flat.ensures.design (ends_of c.args.system.now c.flat-flat.ensures.kept.extremes) c.in_ok-list.list c.in_ok-list.ensures.links c.search.new.room
+    least_of c.args.system.now c.links.ensures.design (ends_of c.args.system.now c.links.ensures.kept.extremes) c.in_ok-list.list c.in_ok-list.ensures.links c.search.new.room
     c.in-Least.cycle c.in-Least.ensures.searched
 
 pub returns : goal.returns
 returns g c = record {
-  least = least_of c.args.system.now c.flat-flat.ensures.design (ends_of c.args.system.now c.flat-flat.ensures.kept.extremes) c.in_ok-list.list c.in_ok-list.ensures.links c.search.new.room
+  least = least_of c.args.system.now c.links.ensures.design (ends_of c.args.system.now c.links.ensures.kept.extremes) c.in_ok-list.list c.in_ok-list.ensures.links c.search.new.room
       c.in-Least.cycle c.in-Least.ensures.searched;
   lowest = c.in-Least.ensures.searched.cycle_is.lowest;
   modest = is_modest c.in-Least.cycle c.in-Least.ensures.searched.cycle_is;

@@ -21,10 +21,10 @@ returns-then-branch-clause-settled g c =
     let ready = c.requires.ready in
     let kept = c.shortest_distances.ensures.kept in
     let nodes = ap (λ (l : Constraints). l.nodes) ready.links in
-    let at_node = c.moment-node.ensures.value in
+    let at_node = rw c.flat.ensures.value at c.element_node-node.ensures.value in
     let short = OnTrue_at c.if-branch.true c.in_ok-shortest_distances.ensures.shortest in
     settled-by w.system.now w.list.now w.at.now w.potentials.items w.gaps.items c.args.number v.distances.items c.write.new.room.values ready.links ready.gaps
     (c.shortest_distances.ensures.count ∙ ready.count) (omega arith)
-    (rw at_node at (subst (λ gaps. AreShortest gaps c.moment-node.result v.distances.items) (ap (λ (x : SlackWalks). x.gaps.items) kept) short))
+    (rw at_node at (subst (λ gaps. AreShortest gaps c.element_node-node.result v.distances.items) (ap (λ (x : SlackWalks). x.gaps.items) kept) short))
     (rw c.deref-then-branch.ensures.value at c.write.ensures.count)
     (rw (c.deref.ensures.value, c.deref-then-branch.ensures.value, at_node, ap (λ (x : SlackWalks). x.potentials.items) kept) at c.write.ensures.values)

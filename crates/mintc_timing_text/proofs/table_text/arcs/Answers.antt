@@ -20,7 +20,7 @@ returns-in_default-arc_line c = λ text ps es ns counted inner at.
 pub loop-arc-preserved : goal.loop-arc-preserved
 loop-arc-preserved c = λ text ps es ns counted inner at.
     so_far_more (arc_states ps es ns) (IsArcLine c.args.elements c.args.inner) MOST_ARCS text c.loop-arc.reader c.arc_line.new.reader c.loop-arc.kept.items c.keep.new.items.items c.loop-arc._arc c.in-Some.count c.in-Some-arc_line.arc
-    (c.loop-arc.invariant text ps es ns counted inner at) (omega arith) c.in-Some-arc_line.ensures.read c.in-Some-arc_line.ensures.counted c.in-Ok.ensures (λ left all line spells. (c.in-Some-arc_line.arc, subst (λ (k : ℕ). Spells (IsArcLine k (length ns)) c.in-Some-arc_line.arc line) (sym counted) (subst (λ (k : ℕ). Spells (IsArcLine c.args.elements k) c.in-Some-arc_line.arc line) (sym inner) spells), refl))
+    (c.loop-arc.invariant text ps es ns counted inner at) (omega arith) c.in-Some-arc_line.ensures.read c.in-Some-arc_line.ensures.counted c.in_ok-keep.ensures (λ left all line spells. (c.in-Some-arc_line.arc, subst (λ (k : ℕ). Spells (IsArcLine k (length ns)) c.in-Some-arc_line.arc line) (sym counted) (subst (λ (k : ℕ). Spells (IsArcLine c.args.elements k) c.in-Some-arc_line.arc line) (sym inner) spells), refl))
 
 pub returns : goal.returns
 returns c = λ text ps es ns counted inner at.

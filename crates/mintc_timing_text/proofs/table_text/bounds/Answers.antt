@@ -20,7 +20,7 @@ returns-in_default-bound_line c = λ text ps es ns xs counted at.
 pub loop-bound-preserved : goal.loop-bound-preserved
 loop-bound-preserved c = λ text ps es ns xs counted at.
     so_far_more (bound_states ps es ns xs) (IsBoundLine c.args.phases) MOST_BOUNDS text c.loop-bound.reader c.bound_line.new.reader c.loop-bound.kept.items c.keep.new.items.items c.loop-bound._bound c.in-Some.count c.in-Some-bound_line.bound
-    (c.loop-bound.invariant text ps es ns xs counted at) (omega arith) c.in-Some-bound_line.ensures.read c.in-Some-bound_line.ensures.counted c.in-Ok.ensures (λ left all line spells. (c.in-Some-bound_line.bound, subst (λ (k : ℕ). Spells (IsBoundLine k) c.in-Some-bound_line.bound line) (sym counted) spells, refl))
+    (c.loop-bound.invariant text ps es ns xs counted at) (omega arith) c.in-Some-bound_line.ensures.read c.in-Some-bound_line.ensures.counted c.in_ok-keep.ensures (λ left all line spells. (c.in-Some-bound_line.bound, subst (λ (k : ℕ). Spells (IsBoundLine k) c.in-Some-bound_line.bound line) (sym counted) spells, refl))
 
 pub returns : goal.returns
 returns c = λ text ps es ns xs counted at.

@@ -22,7 +22,7 @@ returns-in_default-element_line-clause-read c = λ text ps counted at.
 pub loop-element-preserved : goal.loop-element-preserved
 loop-element-preserved c = λ text ps counted at.
     so_far_more (element_states c.args.version ps) (IsElementLine c.args.version c.args.phases) MOST_ELEMENTS text c.loop-element.reader c.element_line.new.reader c.loop-element.kept.items c.keep.new.items.items c.loop-element._element c.in-Some.count (named c.in-Some-element_line.name.now c.in-Some-element_line.numbers)
-    (c.loop-element.invariant text ps counted at) (omega arith) c.in-Some-element_line.ensures.read c.in-Some-element_line.ensures.counted (subst (λ (x : Element). (all : List Element) → c.loop-element.kept.items ≡ take MOST_ELEMENTS all → c.keep.new.items.items ≡ take MOST_ELEMENTS (all ++ x ∷ [])) c.in-Ok.ensures c.in-Ok-keep.ensures) (λ left all line spells. ((named c.in-Some-element_line.name.now c.in-Some-element_line.numbers), subst (λ (k : ℕ). Spells (IsElementLine c.args.version k) (named c.in-Some-element_line.name.now c.in-Some-element_line.numbers) line) (sym counted) spells, refl))
+    (c.loop-element.invariant text ps counted at) (omega arith) c.in-Some-element_line.ensures.read c.in-Some-element_line.ensures.counted (subst (λ (x : Element). (all : List Element) → c.loop-element.kept.items ≡ take MOST_ELEMENTS all → c.keep.new.items.items ≡ take MOST_ELEMENTS (all ++ x ∷ [])) c.in_ok-element.ensures c.in_ok-keep.ensures) (λ left all line spells. ((named c.in-Some-element_line.name.now c.in-Some-element_line.numbers), subst (λ (k : ℕ). Spells (IsElementLine c.args.version k) (named c.in-Some-element_line.name.now c.in-Some-element_line.numbers) line) (sym counted) spells, refl))
 
 pub returns-clause-read : goal.returns-clause-read
 returns-clause-read c = λ text ps counted at.

@@ -1,5 +1,8 @@
-use Rattle.std.proofs.Common.{◌∙◌, sym, ap, subst}
+use Rattle.std.proofs.Common.{◌≡◌, ◌∙◌, sym, ap, subst, Some, arith}
+use Rattle.std.proofs.lemmas.Grind.{common_steps}
+use Rattle.mintc_timing.specs.Design.{Design}
 use Rattle.mintc_timing.specs.Limits.{HasParts, limit_of}
+use Rattle.mintc_timing_text.specs.TableReading.{ArePartsOf}
 use Rattle.mintc_timing_text.proofs.TableLaws.{limit_of_parts, design_of_parts}
 use Rattle.mintc_timing_text.proofs.table_text.flat_of.Goals as goal
 
@@ -10,14 +13,16 @@ pub new-requires-2 : goal.new-requires-2
 new-requires-2 c =
     let told = c.requires in
     let few = c.in_default.ensures.within in
-    subst HasParts (sym (design_of_parts told.0 c.args.parts c.new.result c.in-Ok.inner told.2 c.new.ensures c.in-Ok.ensures few.1 few.2 few.3 few.4)) told.1
+    subst HasParts (sym (design_of_parts told.0 c.args.parts c.new.result c.in_ok-inner.inner told.2 c.new.ensures c.in_ok-inner.ensures few.1 few.2 few.3 few.4)) told.1
 
-pub returns-in-Ok-new-clause-value : goal.returns-in-Ok-new-clause-value
-returns-in-Ok-new-clause-value c = λ d h.
+pub returns-clause-value : goal.returns-clause-value
+returns-clause-value c = λ d h.
     let few = c.in_default.ensures.within in
-    c.in-Ok-new.ensures.ok ∙ design_of_parts d c.args.parts c.new.result c.in-Ok.inner h c.new.ensures c.in-Ok.ensures few.1 few.2 few.3 few.4
+    c.in_ok-new.ensures.ok ∙ design_of_parts d c.args.parts c.new.result c.in_ok-inner.inner h c.new.ensures c.in_ok-inner.ensures few.1 few.2 few.3 few.4
 
-pub returns-in-Err-clause-stop : goal.returns-in-Err-clause-stop
-returns-in-Err-clause-stop c = λ d h.
+pub returns-in_err-new-clause-stop : goal.returns-in_err-new-clause-stop
+returns-in_err-new-clause-stop c =
     let few = c.in_default.ensures.within in
-    ap limit_of (sym (design_of_parts d c.args.parts c.new.result c.in-Ok.inner h c.new.ensures c.in-Ok.ensures few.1 few.2 few.3 few.4)) ∙ c.in-Err.ensures.limit
+    let limits : (d : Design) → ArePartsOf d c.args.parts → limit_of d ≡ Some c.in_err-new.field-0.0 = λ d h.
+    ap limit_of (sym (design_of_parts d c.args.parts c.new.result c.in_ok-inner.inner h c.new.ensures c.in_ok-inner.ensures few.1 few.2 few.3 few.4)) ∙ c.in_err-new.ensures.limit in
+    grind (arith, common_steps, limits)

@@ -19,7 +19,7 @@ returns-in_default-name_line-clause-read c = λ text v at.
 pub loop-phase-preserved : goal.loop-phase-preserved
 loop-phase-preserved c = λ text v at.
     so_far_more (phase_states v) (IsNameLine (codes "phase")) MOST_PHASES text c.loop-phase.reader c.name_line.new.self c.loop-phase.kept.items c.keep.new.items.items c.loop-phase._phase c.in-Some.count c.in-Some-name_line.name.now
-    (c.loop-phase.invariant text v at) (omega arith) c.in-Some-name_line.ensures.read c.in-Some-name_line.ensures.counted (subst (λ (x : List ℕ). (all : List (List ℕ)) → c.loop-phase.kept.items ≡ take MOST_PHASES all → c.keep.new.items.items ≡ take MOST_PHASES (all ++ x ∷ [])) c.in-Ok.ensures c.in-Ok-keep.ensures) (λ left all line spells. (c.in-Some-name_line.name.now, spells, refl))
+    (c.loop-phase.invariant text v at) (omega arith) c.in-Some-name_line.ensures.read c.in-Some-name_line.ensures.counted (subst (λ (x : List ℕ). (all : List (List ℕ)) → c.loop-phase.kept.items ≡ take MOST_PHASES all → c.keep.new.items.items ≡ take MOST_PHASES (all ++ x ∷ [])) c.in_ok-name.ensures c.in_ok-keep.ensures) (λ left all line spells. (c.in-Some-name_line.name.now, spells, refl))
 
 pub returns-clause-read : goal.returns-clause-read
 returns-clause-read c = λ text v at.

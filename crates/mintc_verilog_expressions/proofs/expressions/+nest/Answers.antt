@@ -34,7 +34,7 @@ read_items-returns-then-len t c =
 pub read_items-returns-then-not-eat : goal.read_items-returns-then-not-eat
 read_items-returns-then-not-eat t c =
     listing-last c.args.depth c.args.reader.now c.loop-out.out.items c.loop-out.reader c.in_ok-more.more.items c.read_expression.new.reader c.loop-out.invariant c.in_ok-more.ensures (omega arith) c.if-not-eat.ensures.0
-    ∙ cc (c.in-Ok.ensures, c.if-not-eat.ensures.1)
+    ∙ cc (c.in_ok-append.ensures.items, c.if-not-eat.ensures.1)
 
 pub read_items-loop-out-smaller : goal.read_items-loop-out-smaller
 read_items-loop-out-smaller t c =
@@ -42,7 +42,7 @@ read_items-loop-out-smaller t c =
 
 pub read_items-loop-out-preserved : goal.read_items-loop-out-preserved
 read_items-loop-out-preserved t c =
-    subst (λ o. Listing c.args.depth c.args.reader.now o c.eat.new.self) (sym c.in-Ok.ensures)
+    subst (λ o. Listing c.args.depth c.args.reader.now o c.eat.new.self) (sym c.in_ok-append.ensures.items)
     (listing-more c.args.depth c.args.reader.now c.loop-out.out.items c.loop-out.reader c.in_ok-more.more.items c.read_expression.new.reader c.eat.new.self c.loop-out.invariant c.in_ok-more.ensures (omega arith) c.if-not-eat.ensures)
 
 pub read_turns-returns-then-depth-eq0 : goal.read_turns-returns-then-depth-eq0
@@ -70,9 +70,9 @@ read_turns-returns-then-not-eat-3 t c =
     ∙ repeat-few c.args.times (c.in_ok-pieces.pieces.items, c.read_items.new.reader) (omega arith) (omega arith)
     ∙ stays-open c.args.times c.in_ok-pieces.pieces.items c.read_items.new.reader c.eat-2.new.self c.if-not-eat-2.ensures c.if-not-eat-3.ensures.0
 
-pub read_turns-returns-in-Ok : goal.read_turns-returns-in-Ok
-read_turns-returns-in-Ok t c =
+pub read_turns-returns : goal.read_turns-returns
+read_turns-returns t c =
     turns-more c.args.depth c.args.times c.args.reader.now c.eat.new.self _ (omega arith) c.if-not-eat.ensures c.in_ok-pieces.ensures
     ∙ repeat-few c.args.times (c.in_ok-pieces.pieces.items, c.read_items.new.reader) (omega arith) (omega arith)
     ∙ closes c.args.times c.in_ok-pieces.pieces.items c.read_items.new.reader c.eat-2.new.self c.eat-3.new.self c.if-not-eat-2.ensures c.if-not-eat-3.ensures
-    ∙ cc (c.in-Ok.ensures)
+    ∙ cc (c.in_ok-repeat.ensures)

@@ -10,7 +10,7 @@ use Rattle.mintc_flatten.proofs.walk.Walk.+walk.Goals as goal
 pub enter-loop-at-preserved : goal.enter-loop-at-preserved
 enter-loop-at-preserved t c =
     let s = source_in c.args.plan.now.source in
-    let place = place_at (get_or s.modules c.args.number c.index-plan-number.result) c.args.scope c.args.first in
+    let place = place_at (get_or s.modules c.args.start.number c.index-plan-number.result) c.args.start.scope c.args.start.first in
     let items = c.items-items.result.now in
     let at = c.loop-at.at in
     let i = c.index-items-at.result in

@@ -10,9 +10,9 @@ use Rattle.mintc_flatten_rules.proofs.two_drivers.Driven.drive_pins.Goals as goa
 
 pub returns-then-branch : goal.returns-then-branch
 returns-then-branch c =
-    let m = c.args.module_nets.now.part.now in
+    let m = c.args.site.now.module_nets.part.now in
     let i = c.args.instance.now.item.now in
-    let pins = binding_pins (source_in c.args.source.now) c.args.instance.now.binding in
+    let pins = binding_pins (source_in c.args.site.now.source) c.args.instance.now.binding in
     let n = c.loop-number.number in
     let inside : n < length pins = subst (λ (k : ℕ). n < k) c.in_ok-count.ensures c.loop-number-test.true in
     step_again c.args.self.now c.loop-number.self c.drive_pin.new.self (drives_from m i 0 (take n pins)) (pin_drives m i n (get_or pins n no_pin))
@@ -22,9 +22,9 @@ returns-then-branch c =
 
 pub loop-number-preserved : goal.loop-number-preserved
 loop-number-preserved c =
-    let m = c.args.module_nets.now.part.now in
+    let m = c.args.site.now.module_nets.part.now in
     let i = c.args.instance.now.item.now in
-    let pins = binding_pins (source_in c.args.source.now) c.args.instance.now.binding in
+    let pins = binding_pins (source_in c.args.site.now.source) c.args.instance.now.binding in
     let n = c.loop-number.number in
     let inside : n < length pins = subst (λ (k : ℕ). n < k) c.in_ok-count.ensures c.loop-number-test.true in
     step_passed c.args.self.now c.loop-number.self c.drive_pin.new.self (drives_from m i 0 (take n pins)) (pin_drives m i n (get_or pins n no_pin))
@@ -32,8 +32,8 @@ loop-number-preserved c =
 
 pub returns : goal.returns
 returns c =
-    let m = c.args.module_nets.now.part.now in
+    let m = c.args.site.now.module_nets.part.now in
     let i = c.args.instance.now.item.now in
-    let pins = binding_pins (source_in c.args.source.now) c.args.instance.now.binding in
+    let pins = binding_pins (source_in c.args.site.now.source) c.args.instance.now.binding in
     subst (λ (ps : List Pin). Drives c.args.self.now c.loop-number.self (drives_from m i 0 ps) false)
     (take_all c.loop-number.number pins (subst (λ (k : ℕ). k ≤ c.loop-number.number) c.in_ok-count.ensures c.loop-number-test.false)) c.loop-number.invariant

@@ -6,4 +6,4 @@ use Rattle.mintc_flatten_rules.proofs.two_drivers.Driven.drive_pins.Given as goa
 
 -- what is connected to the pins so far is driven
 abbrev pub invariant-loop-number : goal.invariant-loop-number
-invariant-loop-number l = Drives l.initial.self l.self (drives_from l.module_nets.part.now l.instance.item.now 0 (take l.number (binding_pins (source_in l.source) l.instance.binding))) false
+invariant-loop-number l = Drives l.initial.self l.self (drives_from l.site.module_nets.part.now l.instance.item.now 0 (take l.number (binding_pins (source_in l.site.source) l.instance.binding))) false

@@ -7,8 +7,8 @@ use Rattle.mintc_flatten_rules.proofs.two_drivers.Driven.first_again.Goals as go
 
 pub returns-then-branch : goal.returns-then-branch
 returns-then-branch c =
-    let s = source_in c.args.source.now in
-    let m = c.args.module_nets.now.part.now in
+    let s = source_in c.args.site.now.source in
+    let m = c.args.site.now.module_nets.part.now in
     let is = c.items-items.result.now in
     let n = c.loop-number.number in
     let i = c.index-items-number.result in
@@ -18,8 +18,8 @@ returns-then-branch c =
 
 pub loop-number-preserved : goal.loop-number-preserved
 loop-number-preserved c =
-    let s = source_in c.args.source.now in
-    let m = c.args.module_nets.now.part.now in
+    let s = source_in c.args.site.now.source in
+    let m = c.args.site.now.module_nets.part.now in
     let is = c.items-items.result.now in
     let n = c.loop-number.number in
     let i = c.index-items-number.result in
@@ -31,15 +31,15 @@ loop-number-preserved c =
 
 pub returns : goal.returns
 returns c =
-    let s = source_in c.args.source.now in
-    own-passed (is_second_driver s) c.args.module_nets.now.part.now None refl (items-none (is_second_driver s) c.args.module_nets.now.part.now c.items-items.result.now c.loop-number.number c.loop-number-test.false c.items-items.ensures c.loop-number.invariant.left)
+    let s = source_in c.args.site.now.source in
+    own-passed (is_second_driver s) c.args.site.now.module_nets.part.now None refl (items-none (is_second_driver s) c.args.site.now.module_nets.part.now c.items-items.result.now c.loop-number.number c.loop-number-test.false c.items-items.ensures c.loop-number.invariant.left)
 
 pub drive_item-requires-clause-binding : goal.drive_item-requires-clause-binding
 drive_item-requires-clause-binding c =
-    binding_read (source_in c.args.source.now) c.args.module_nets.now.part.now c.args.bindings.now c.items-items.result.now c.loop-number.number c.index-items-number.result _
+    binding_read (source_in c.args.site.now.source) c.args.site.now.module_nets.part.now c.args.bindings.now c.items-items.result.now c.loop-number.number c.index-items-number.result _
     c.requires.bindings c.items-items.ensures c.loop-number-test.true c.index-items-number.is
 
 pub drive_item-requires-clause-there : goal.drive_item-requires-clause-there
 drive_item-requires-clause-there c =
-    binding_there (source_in c.args.source.now) c.args.module_nets.now.part.now c.args.bindings.now c.items-items.result.now c.loop-number.number c.index-items-number.result _
+    binding_there (source_in c.args.site.now.source) c.args.site.now.module_nets.part.now c.args.bindings.now c.items-items.result.now c.loop-number.number c.index-items-number.result _
     c.requires.bindings c.items-items.ensures c.loop-number-test.true c.index-items-number.is

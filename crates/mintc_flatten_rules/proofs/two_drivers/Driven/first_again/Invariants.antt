@@ -9,8 +9,8 @@ use Rattle.mintc_flatten_rules.proofs.two_drivers.Driven.first_again.Given as go
 
 -- the items so far drive what is driven, and what is left has the first at fault
 abbrev pub invariant-loop-number : goal.invariant-loop-number
-invariant-loop-number l = let s = source_in l.source in
+invariant-loop-number l = let s = source_in l.site.source in
     record {
-      driven : HasSame l.self (driven_first l.module_nets.part.now ++ flat_map (drives_in s l.module_nets.part.now) (take l.number l.items));
-      left : first_after (is_second_driver s) l.module_nets.part.now (take l.number l.items) (drop l.number l.items) ≡ first_after (is_second_driver s) l.module_nets.part.now [] l.items;
+      driven : HasSame l.self (driven_first l.site.module_nets.part.now ++ flat_map (drives_in s l.site.module_nets.part.now) (take l.number l.items));
+      left : first_after (is_second_driver s) l.site.module_nets.part.now (take l.number l.items) (drop l.number l.items) ≡ first_after (is_second_driver s) l.site.module_nets.part.now [] l.items;
     }

@@ -16,7 +16,7 @@ returns-in-Port c before h =
     c.any_differs.ensures
     ∙ ap (list_any (differs nets span)) c.items.ensures
     ∙ any_same (differs nets span) (λ (name : List ℕ). option_map_or (is_of_other_range span) (find (declares_net name) before) false) c.in-Port.names (λ name. other_nets ports nets before span name h)
-    ∙ ap (misfits_after (source_in c.args.source.now) c.args.module_nets.now.part.now before) (sym c.in-Port.is)
+    ∙ ap (misfits_after (source_in c.args.site.now.source) c.args.site.now.module_nets.part.now before) (sym c.in-Port.is)
 
 pub returns-in-Wire : goal.returns-in-Wire
 returns-in-Wire c before h =
@@ -26,4 +26,4 @@ returns-in-Wire c before h =
     c.any_differs-in-Wire.ensures
     ∙ ap (list_any (differs ports span)) c.items-in-Wire.ensures
     ∙ any_same (differs ports span) (λ (name : List ℕ). option_map_or (is_of_other_range span) (find (declares_port name) before) false) c.in-Wire.names (λ name. other_ports ports nets before span name h)
-    ∙ ap (misfits_after (source_in c.args.source.now) c.args.module_nets.now.part.now before) (sym c.in-Wire.is)
+    ∙ ap (misfits_after (source_in c.args.site.now.source) c.args.site.now.module_nets.part.now before) (sym c.in-Wire.is)

@@ -14,5 +14,5 @@ returns-then-contains_key c =
 
 pub returns : goal.returns
 returns c =
-    taken_in c.args.name.now c.in-Ok.bytes c.args.declaration c.self.inside.entries.entries c.insert.new.self.entries c.args.self.now c.in-Ok.ensures.items
-    (sym c.contains_key.ensures ∙ c.if-contains_key.false) c.in-Ok-insert.ensures.entries c.self.view_is
+    taken_in c.args.name.now c.in_ok-bytes.bytes c.args.declaration c.self.inside.entries.entries c.insert.new.self.entries c.args.self.now c.in_ok-bytes.ensures.items
+    (sym c.contains_key.ensures ∙ c.if-contains_key.false) c.in_ok-insert.ensures.entries c.self.view_is

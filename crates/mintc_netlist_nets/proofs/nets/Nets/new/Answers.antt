@@ -15,7 +15,7 @@ loop-place-preserved c =
     let width : c.bits-width.result ≡ bit_count (range_of m c.name.result.now) = c.bits-width.ensures.value ∙ ap bit_count c.range.ensures in
     let added : c.in-Some.next ≡ c.loop-place.count + c.bits-width.result = search rules in
     let more : c.in-Some.next ≡ c.loop-place.count + bit_count (range_of m c.name.result.now) = added ∙ ap (λ (n : ℕ). c.loop-place.count + n) width in (
-      ap (λ (firsts : List ℕ). firsts ++ firsts_from m c.in-Some.next (drop (k + 1) names)) c.in-Ok.ensures.items
+      ap (λ (firsts : List ℕ). firsts ++ firsts_from m c.in-Some.next (drop (k + 1) names)) c.in_ok-push.ensures.items
           ∙ firsts_step m names k c.loop-place.count c.in-Some.next c.name.result.now c.loop-place.firsts.items (firsts_from m 0 names) inside at c.loop-place.invariant.0 more,
       count_step m names k c.loop-place.count c.in-Some.next c.name.result.now inside at c.loop-place.invariant.1 more,
     )
