@@ -6,7 +6,9 @@ error.
   begins is free, so its lines are compared as a ring.
 - Statuses 2 to 7 of each program: 0 and 1 are those of examples.
 - Pieces: a table and its answer, each longer than 131,072 bytes, by files and by pipes.
+- Growths: three examples in which memory is refused at one page after the other: nothing is written then, and the status is 6.
 """
+import bisect
 import os
 import pathlib
 import resource
@@ -59,20 +61,50 @@ def is_same(text, wanted):
     return front == other_front and chain in turns
 
 
-def wrong_examples():
-    """Examples with another answer or status."""
-    for command in sorted((TOP / "examples").rglob("command")):
+def examples(folder):
+    """The lines of the examples below a folder: what each is, its folder, its words, its status and its answer."""
+    for command in sorted(folder.rglob("command")):
         folder, lines = command.parent, command.read_text().splitlines()
         stated = folder / "status"
         statuses = stated.read_text().split() if stated.is_file() else ["0"] * len(lines)
-        if len(statuses) != len(lines):
-            yield f"{stated}: {len(lines)} lines are wanted"
+        assert len(statuses) == len(lines), f"{stated}: {len(lines)} lines are wanted"
         for line, status in zip(lines, statuses):
             words, answer = line.split(" > ")
-            wanted = (folder / answer).read_text()
-            ran = run(MINTC, words.split()[1:], folder)
-            output = ran[1] if is_same(ran[1].decode(), wanted) else wanted.encode()
-            yield from differences(f"{folder.relative_to(TOP)}: {line}", ran, int(status), output)
+            yield f"{folder.relative_to(TOP)}: {line}", folder, words.split()[1:], int(status), (folder / answer).read_text()
+
+
+def other_answers(what, ran, status, wanted):
+    """Says where a run has another status, or another answer, wherever its chain begins."""
+    output = ran[1] if is_same(ran[1].decode(), wanted) else wanted.encode()
+    yield from differences(what, ran, status, output)
+
+
+def wrong_examples():
+    """Examples with another answer or status."""
+    for what, folder, words, status, wanted in examples(TOP / "examples"):
+        yield from other_answers(what, run(MINTC, words, folder), status, wanted)
+
+
+def with_pages(pages, words, folder):
+    """A run that may have so many pages of memory, which the C library takes one by one."""
+    most = pages * resource.getpagesize()
+    return run(MINTC, words, folder, preexec_fn=limited(resource.RLIMIT_AS, most), env={"MALLOC_TOP_PAD_": "0"})
+
+
+def wrong_growths():
+    """Runs that write something where memory is refused, or end with another status than 6."""
+    def starts(pages):
+        return with_pages(pages, [], TOP)[0] == 3
+
+    least = bisect.bisect_left(range(16_384), True, key=starts)
+    for name in ("latch-ring", "flattened", "flops-and-latches"):
+        what, folder, words, status, wanted = next(examples(TOP / "examples/from-tools" / name))
+        pages = least
+        while (ran := with_pages(pages, words, folder)) == (6, b"", b""):
+            pages += 1
+        yield from other_answers(f"{what}, with {pages} pages of memory", ran, status, wanted)
+        if pages < least + 10:
+            yield f"{what}: {pages - least} pages more than none are enough"
 
 
 def wrong_statuses(program, folder, words, bad, refusal, usage):
@@ -140,6 +172,7 @@ def wrong():
         LIBERTY2TOML, ring, ["cells.lib"], "netlist.v", b"refused 1 cells 0\n", b"usage: liberty2toml FILE\n"
     )
     yield from wrong_pieces()
+    yield from wrong_growths()
 
 
 for program in (MINTC, LIBERTY2TOML):

@@ -1,4 +1,6 @@
+-- What contracts of public calls and laws say:
 pub mod Statuses
+pub mod Conversions
+-- What only the proofs need:
 pub mod Tables
 pub mod Puts
-pub mod Conversions

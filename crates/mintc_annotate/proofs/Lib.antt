@@ -10,3 +10,4 @@ mod JumpLaws
 mod SearchLaws
 mod TraceLaws
 mod WorkedFiles
+mod EachLaws

@@ -1,5 +1,5 @@
 -- What holds of the design that files make.
-use Rattle.std.specs.Prelude.{◌≡◌, List}
+use Rattle.std.specs.Prelude.{◌≡◌, ◌⊎◌, List}
 use Rattle.mintc_text.specs.declared.refusals.Refusal.{Refusal}
 use Rattle.mintc_flatten_hierarchy.specs.declared.hierarchy.Hierarchy.{Hierarchy}
 use Rattle.mintc_clock.specs.declared.clock.Clock.{Clock}
@@ -24,3 +24,9 @@ abbrev pub AnnotateRefusalsAreDetermined : Type 0
 AnnotateRefusalsAreDetermined = (h : Hierarchy) (cells : CellTable) (clock : Clock) (delays : List Delay)
     (refused other : Refusal) → IsAnnotateRefusal h cells clock delays refused →
     IsAnnotateRefusal h cells clock delays other → refused ≡ other
+
+-- There is a design or a refusal.
+abbrev pub HaveDesignOrRefusal : Type 0
+HaveDesignOrRefusal = (h : Hierarchy) (cells : CellTable) (clock : Clock) (delays : List Delay) →
+    ((design : Design) × IsAnnotated h cells clock delays design)
+    ⊎ ((refused : Refusal) × IsAnnotateRefusal h cells clock delays refused)

@@ -151,8 +151,8 @@ fn phase_names(alloc: Global, phases: &[PhaseDef]) -> Result<Vec<Name>, OutOfMem
     ensures { IfOk result (λ v. v.items ≡ map (λ p. p.name) phases.now) }
 {
     let mut names = Vec::new(alloc);
-    for number in 0..phases.len() {
-        let name = phases[number].name.copy(alloc)?;
+    for phase in phases {
+        let name = phase.name.copy(alloc)?;
         names.push(name)?;
     }
     Ok(names)

@@ -70,8 +70,7 @@ pub(crate) fn push_joins(
     requires joins { All (λ j. (j.from < MOST_INNER) × (j.to < MOST_INNER)) joins.now }
     ensures { OnOk result (found.new.items ≡ found.old.items ++ map (join_arc (look ranges.now) elements) joins.now) }
 {
-    for number in 0..joins.len() {
-        let join = joins[number];
+    for join in joins {
         let delay = ranges.join(join.to).unwrap_or((0, 0));
         push_arc(
             found,
@@ -223,7 +222,6 @@ fn push_leaf(
         (look timed.now.ranges.now) elements leaf (leaf_cell timed.now.hierarchy.now timed.now.cells.now leaf)) }
 {
     let at = &timed.hierarchy.leaves.items()[leaf as usize];
-    let first = at.first_pin;
     match timed.cells.cell(at.cell) {
         Cell::Gate {
             inputs,
@@ -231,7 +229,7 @@ fn push_leaf(
             min,
             max,
         } => {
-            let gate = gate_at(elements, leaf, first, (*min, *max), inputs, outputs);
+            let gate = gate_at(elements, leaf, at.first_pin, (*min, *max), inputs, outputs);
             push_gate(found, timed.ranges, gate)
         }
         Cell::Latch {
@@ -243,7 +241,7 @@ fn push_leaf(
             ignored,
             outputs,
             ..
-        } => push_stored(found, elements, first, element, ignored, outputs),
+        } => push_stored(found, elements, at.first_pin, element, ignored, outputs),
         Cell::Clock { .. } => Ok(()),
     }
 }

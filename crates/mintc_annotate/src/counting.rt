@@ -34,8 +34,8 @@ pub(crate) fn leaf_arc_count(hierarchy: &Hierarchy, cells: &Cells) -> u64
 {
     let leaves = hierarchy.leaves.items();
     let mut total = 0;
-    for number in 0..leaves.len() {
-        total += arc_count(cells.cell(leaves[number].cell));
+    for leaf in leaves {
+        total += arc_count(cells.cell(leaf.cell));
     }
     total
 }

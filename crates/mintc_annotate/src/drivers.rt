@@ -19,8 +19,7 @@ fn add_joins(table: &mut [Option<Drive>], joins: &[Join])
     ensures added { (ds : List Drive) → AreDrivers ds (length table.old) table.old →
         AreDrivers (ds ++ map join_drive joins.now) (length table.old) table.new }
 {
-    for number in 0..joins.len() {
-        let join = joins[number];
+    for join in joins {
         add(
             table,
             Drive {

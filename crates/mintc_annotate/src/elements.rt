@@ -269,8 +269,7 @@ pub(crate) fn push_ports(
     ensures { OnOk result (found.new.items ≡ found.old.items
         ++ map (port_element names.now) (map (with_port listed.now) bits.now)) }
 {
-    for number in 0..bits.len() {
-        let at = bits[number];
+    for at in bits {
         let element = port_element(alloc, names, &listed[at.place], at.bit)?;
         found.push(element)?;
     }

@@ -1,5 +1,6 @@
 //! What holds of the design that files make: a law is the contract of a function that does nothing of its own.
 ghost use Rattle.mintc_annotate.specs.Laws.{AnnotateRefusalsAreDetermined, DesignsAreDetermined, DesignsAreNotRefused};
+ghost use Rattle.mintc_annotate.specs.Laws.{HaveDesignOrRefusal};
 
 /// There is one design at most.
 pub fn designs_are_determined()
@@ -14,4 +15,9 @@ pub fn designs_are_not_refused()
 /// There is one refusal at most.
 pub fn annotate_refusals_are_determined()
     ensures { AnnotateRefusalsAreDetermined }
+{}
+
+/// There is a design or a refusal.
+pub fn there_is_a_design_or_a_refusal()
+    ensures { HaveDesignOrRefusal }
 {}

@@ -25,5 +25,8 @@ mod timed;
 mod tracing;
 
 pub use annotating::annotate;
-pub use laws::{annotate_refusals_are_determined, designs_are_determined, designs_are_not_refused};
+pub use laws::{
+    annotate_refusals_are_determined, designs_are_determined, designs_are_not_refused,
+    there_is_a_design_or_a_refusal,
+};
 pub use tracing::trace_phases;

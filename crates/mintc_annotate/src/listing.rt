@@ -42,9 +42,9 @@ fn is_called(port: &TopPort, output: bool, text: &[u8]) -> bool
 fn port_bits<'a>(ports: &'a [TopPort], output: bool, listed: &Listed) -> &'a [u32]
     ensures { result.now ≡ unwrap_or (listed_in ports.now output listed.now) [] }
 {
-    for number in 0..ports.len() {
-        if is_called(&ports[number], output, listed.port.bytes()) {
-            return ports[number].bits.items();
+    for port in ports {
+        if is_called(port, output, listed.port.bytes()) {
+            return port.bits.items();
         }
     }
     &[]
@@ -94,11 +94,8 @@ pub(crate) fn count_bits(
 fn push_bits(found: &mut Vec<ListedBit>, place: usize, bits: &[u32]) -> Result<(), OutOfMemory>
     ensures { OnOk result (found.new.items ≡ found.old.items ++ map (place_bit place) bits.now) }
 {
-    for number in 0..bits.len() {
-        found.push(ListedBit {
-            place,
-            bit: bits[number],
-        })?;
+    for &bit in bits {
+        found.push(ListedBit { place, bit })?;
     }
     Ok(())
 }

@@ -81,7 +81,8 @@ fn first_jump(table: &[Option<Drive>], bit: usize) -> Jump
 fn first_jumps(alloc: Global, table: &[Option<Drive>]) -> Result<Vec<Jump>, OutOfMemory>
     requires { length table.now ≤ MOST_INNER }
     ensures { IfOk result
-        (λ v. v.items ≡ map (λ b. first_jump b (slice_index_or table.now b None)) (range_with_len 0 (length table.now))) }
+        (λ v. v.items ≡ map (λ b. first_jump b (slice_index_or table.now b None))
+        (range_with_len 0 (length table.now))) }
 {
     let mut found = Vec::new(alloc);
     for bit in 0..table.len() {
@@ -106,8 +107,7 @@ fn twice_as_far(alloc: Global, jumps: &[Jump]) -> Result<Vec<Jump>, OutOfMemory>
     ensures { IfOk result (λ v. v.items ≡ map (doubled_jump jumps.now) jumps.now) }
 {
     let mut found = Vec::new(alloc);
-    for number in 0..jumps.len() {
-        let jump = jumps[number];
+    for &jump in jumps {
         found.push(then_jump(jump, jumps[jump.bit as usize]))?;
     }
     Ok(found)

@@ -1,2 +1,4 @@
+-- What contracts of public calls and laws say:
 pub mod Ranges
+-- What only the proofs need:
 pub mod Gathered

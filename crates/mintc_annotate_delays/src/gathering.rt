@@ -88,13 +88,8 @@ fn apply_at_leaves(
         (StopsAt (λ refused. refusal_of delay.now.entry
         (of_each lookup.now.hierarchy.now lookup.now.cells.now delay.now.subject leaves.now) ≡ Some refused)) }
 {
-    for number in 0..leaves.len() {
-        let resolved = at_leaf(
-            lookup.hierarchy,
-            lookup.cells,
-            leaves[number],
-            &delay.subject,
-        );
+    for &leaf in leaves {
+        let resolved = at_leaf(lookup.hierarchy, lookup.cells, leaf, &delay.subject);
         apply_resolved(ranges, resolved, delay)?;
     }
     Ok(())
@@ -249,8 +244,8 @@ fn apply_all(
             leaf: None,
         },
     };
-    for number in 0..delays.len() {
-        last = apply_delay(lookup, groups, ranges, &mut key, last, &delays[number])?;
+    for delay in delays {
+        last = apply_delay(lookup, groups, ranges, &mut key, last, delay)?;
     }
     Ok(())
 }

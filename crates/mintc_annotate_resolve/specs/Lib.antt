@@ -1,3 +1,4 @@
+-- What contracts of public calls and laws say:
 pub mod Pins
 pub mod Names
 pub mod Ports

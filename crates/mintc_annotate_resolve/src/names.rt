@@ -116,8 +116,8 @@ pub fn inner_names(alloc: Global, hierarchy: &Hierarchy) -> Result<Vec<Name>, Ou
     let fronts = scope_fronts(alloc, hierarchy)?;
     let inner = hierarchy.inner.items();
     let mut names = Vec::new(alloc);
-    for number in 0..inner.len() {
-        let name = name_of_bit(alloc, hierarchy, &fronts, &inner[number])?;
+    for bit in inner {
+        let name = name_of_bit(alloc, hierarchy, &fronts, bit)?;
         names.push(name)?;
     }
     Ok(names)

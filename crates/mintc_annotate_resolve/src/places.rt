@@ -61,8 +61,8 @@ fn note_wholes(
     requires { (k : List ℕ) → place_at places.old k ≡ None }
     ensures { OnOk result (HasPlaces places.new (whole_port ports.now)) }
 {
-    for number in 0..ports.len() {
-        note_whole(places, alloc, &ports[number])?;
+    for port in ports {
+        note_whole(places, alloc, port)?;
     }
     Ok(())
 }
@@ -76,11 +76,11 @@ fn note_bits(
 ) -> Result<(), OutOfMemory>
     requires { All (λ b. b < length names.now) port.now.bits }
     ensures { OnOk result
-        (HasPlaces places.new (λ k. option_or (place_at places.old k) (among_bits names.now port.now port.now.bits k))) }
+        (HasPlaces places.new
+        (λ k. option_or (place_at places.old k) (among_bits names.now port.now port.now.bits k))) }
 {
     let bits = port.bits.items();
-    for number in 0..bits.len() {
-        let bit = bits[number];
+    for &bit in bits {
         note(
             places,
             alloc,
@@ -105,8 +105,8 @@ fn note_all_bits(
     ensures { OnOk result
         (HasPlaces places.new (λ k. option_or (place_at places.old k) (bit_called names.now ports.now k))) }
 {
-    for number in 0..ports.len() {
-        note_bits(places, alloc, names, &ports[number])?;
+    for port in ports {
+        note_bits(places, alloc, names, port)?;
     }
     Ok(())
 }

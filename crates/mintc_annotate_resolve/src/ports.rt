@@ -41,8 +41,7 @@ fn bit_of(names: &[Name], port: &TopPort, text: &[u8]) -> Option<PortBit>
         (map (port_bit port.now.output) port.now.bits) }
 {
     let bits = port.bits.items();
-    for number in 0..bits.len() {
-        let bit = bits[number];
+    for &bit in bits {
         if names[bit as usize].bytes() == text {
             return Some(PortBit {
                 output: port.output,
@@ -58,8 +57,8 @@ fn bit_called(names: &[Name], ports: &[TopPort], text: &[u8]) -> Option<PortBit>
     requires { AreInside (length names.now) ports.now }
     ensures { result ≡ bit_called names.now ports.now text.now }
 {
-    for number in 0..ports.len() {
-        match bit_of(names, &ports[number], text) {
+    for port in ports {
+        match bit_of(names, port, text) {
             Some(bit) => return Some(bit),
             None => {}
         }

@@ -15,5 +15,5 @@ pub use building::{from_table, system, system_order};
 pub use files::{from_files, from_liberty};
 pub use laws::{
     accepted_designs_are_not_refused, corners_differ_in_numbers, design_refusals_are_determined,
-    files_are_plain,
+    designs_have_systems_or_refusals, files_are_plain, files_have_designs_or_refusals,
 };

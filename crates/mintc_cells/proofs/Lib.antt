@@ -3,3 +3,5 @@ pub mod SharedPinsLaws
 mod CellsLaws
 mod DeterminedLaws
 mod EntriesLaws
+mod TomlLaws
+mod EachTextLaws

@@ -1,5 +1,5 @@
 -- What holds of the cells, and of the refusal, that a text gives.
-use Rattle.std.specs.Prelude.{◌≡◌, ℕ, List}
+use Rattle.std.specs.Prelude.{◌≡◌, ◌⊎◌, ℕ, List}
 use Rattle.mintc_cells.specs.declared.cell.Cell.{Cell}
 use Rattle.mintc_cells.specs.Entries.{AreAscending, AreKept, names_of}
 use Rattle.mintc_cells.specs.CellsOf.{AreCells, IsBadCell}
@@ -22,3 +22,8 @@ BadCellsAreDetermined = (text : List ℕ) (n rule m other : ℕ) → IsBadCell t
 abbrev pub CellsKeepRules : Type 0
 CellsKeepRules = (text : List ℕ) (cells : List (List ℕ × Cell)) → AreCells text cells → AreAscending (names_of cells)
     × AreKept cells
+
+-- each text has cells or a refusal, be it TOML or not
+abbrev pub TextsHaveCellsOrRefusals : Type 0
+TextsHaveCellsOrRefusals = (text : List ℕ) → ((cells : List (List ℕ × Cell)) × AreCells text cells)
+    ⊎ ((n : ℕ) × (rule : ℕ) × IsBadCell text n rule)

@@ -1,3 +1,4 @@
+-- What contracts of public calls and laws say:
 pub mod CellsOf
 pub mod Description
 pub mod Entries

@@ -22,5 +22,6 @@ pub use cell::Cell;
 pub use cells::Cells;
 pub use laws::{
     bad_cells_are_determined, cells_are_determined, cells_are_not_refused, cells_keep_rules,
+    texts_have_cells_or_refusals,
 };
 pub use read::read_cells;

@@ -11,15 +11,17 @@ use Rattle.mintc_timing_text.specs.Fields.{number, Spells}
 use Rattle.mintc_timing.specs.Limits.{IsNumerator, IsInRange}
 use Rattle.mintc_timing_text.specs.Texts.{den, cycle, phases, phase, schedule_of, no_phases}
 use Rattle.mintc_timing_text.proofs.SharedReadingLaws.{Follows-append}
+use Rattle.mintc_timing_text.proofs.SharedScheduleWritten.{schedule_written}
 use Rattle.mintc_certificate.specs.declared.certificate.Certificate.{Certificate}
 use Rattle.mintc_certificate.specs.declared.certificate.Certificate.TheVariants.{Least, Never}
 use Rattle.mintc_certificate.specs.declared.members.Member.{Member}
 use Rattle.mintc_certificate.specs.declared.version.Version.TheVariants.{Second}
 use Rattle.mintc_certificate.specs.CertificateReading.{with_chain, before_chain}
-use Rattle.mintc_certificate.specs.CertificateText.{NextOfCertificate, IsCertificateText, CertificateLines, first, outcome, scheduled, departure, never, link, whole, member_words, IsCounted, IsChainLine}
+use Rattle.mintc_certificate.specs.CertificateText.{NextOfCertificate, IsCertificateText, CertificateLines, first, outcome, scheduled, departure, never, link, whole, member_words, IsCounted, IsChainLine, IsDeparturesLine}
 use Rattle.mintc_certificate.specs.Ranges.{IsDeparture, IsChainInRange, IsCertificateInRange}
 use Rattle.mintc_certificate.specs.TextLaws.{WrittenAreTexts, WrittenAreAll, WrittenAreApart}
-use Rattle.mintc_certificate.specs.Written.{number_line, count_line, phase_line, departure_lines, chain_lines, schedule_lines, lines_of}
+use Rattle.mintc_certificate.specs.Written.{departure_lines, chain_lines, lines_of}
+use Rattle.mintc_timing_text.specs.LineForms.{number_line, count_line, phase_line, schedule_lines}
 use Rattle.mintc_certificate.proofs.CertificateLaws.{IsCertificateInRange-from_text}
 use Rattle.mintc_certificate.proofs.CertificatePlain.{certificate_plain, certificate_texts}
 use Rattle.mintc_certificate.proofs.CertificateReading.{departure_states, member_states, member_next}
@@ -32,20 +34,6 @@ chain_begins (Never ms) m spells = (m, spells, refl)
 -- these lines lead from one state to another
 abbrev Leads : CertificateLines → List (List ℕ) → CertificateLines → Type 0
 Leads a lines b = Follows NextOfCertificate a lines b
-
-phases_written : (d t : ℤ) (so wo xs ys : List ℤ) → length ys ≡ length xs → All IsNumerator xs → All IsNumerator ys →
-    Leads (scheduled Second (phase (length xs) (schedule_of d t so wo))) (map phase_line (zip xs ys)) (scheduled Second (phase 0 (schedule_of d t (so ++ xs) (wo ++ ys))))
-phases_written d t so wo [] [] same h g = ap (λ (x : List ℤ). scheduled Second (phase 0 (schedule_of d t x wo))) (sym (append-nil so)) ∙ ap (λ (x : List ℤ). scheduled Second (phase 0 (schedule_of d t (so ++ []) x))) (sym (append-nil wo))
-phases_written d t so wo [] (y ∷ ys) same h g = absurd (omega (arith, same))
-phases_written d t so wo (x ∷ xs) [] same h g = absurd (omega (arith, same))
-phases_written d t so wo (x ∷ xs) (y ∷ ys) same h g =
-    let rest = phases_written d t (so ++ x ∷ []) (wo ++ y ∷ []) xs ys (omega (arith, same)) (All-tail IsNumerator x xs h) (All-tail IsNumerator y ys g) in
-    let starts = append_assoc so (x ∷ []) xs in
-    let widths = append_assoc wo (y ∷ []) ys in
-    let R : List ℤ → List ℤ → Type 0 = λ a b. Leads (scheduled Second (phase (length xs) (schedule_of d t (so ++ x ∷ []) (wo ++ y ∷ [])))) (map phase_line (zip xs ys)) (scheduled Second (phase 0 (schedule_of d t a b))) in
-    let one = subst (λ (a : List ℤ). R a ((wo ++ y ∷ []) ++ ys)) starts rest in
-    let all = subst (λ (b : List ℤ). R (so ++ x ∷ xs) b) widths one in
-    (scheduled Second (phase (length xs) (schedule_of d t (so ++ x ∷ []) (wo ++ y ∷ []))), ((x, y), (_, (All-head IsNumerator x xs h, All-head IsNumerator y ys g, refl), refl), refl), all)
 
 -- a line for each item of a list leads from as many that are left to none
 list_written : {X : Type 0} (st : ℕ → List X → CertificateLines) (line : X → List ℕ) (P : X → Type 0) → ((left : ℕ) (so : List X) (x : X) → P x → NextOfCertificate (st (suc left) so) (line x) (st left (so ++ x ∷ []))) →
@@ -67,20 +55,8 @@ members_written c ms h =
 end_written : (c : Certificate) → Leads (link Second 0 c) (codes "end" ∷ []) (whole c)
 end_written c = (whole c, (tt, (codes "end" ∷ [], refl, refl), refl), refl)
 
-schedule_written : (s : Schedule) → IsInRange s → Leads (scheduled Second den) (schedule_lines s) (scheduled Second (phase 0 s))
-schedule_written s h = (
-  scheduled Second (cycle s.den),
-  (s.den, (_, (h.den, refl), refl), refl),
-  (
-    scheduled Second (phases s.den s.cycle),
-    (s.cycle, (_, (h.cycle, refl), refl), refl),
-    (
-      scheduled Second (phase (length s.starts) (no_phases s.den s.cycle)),
-      (length s.starts, (_, (h.phases.0, h.phases.1, refl), refl), refl),
-      phases_written s.den s.cycle [] [] s.starts s.widths h.alike h.starts h.widths,
-    ),
-  ),
-)
+written_schedule : (s : Schedule) → IsInRange s → Leads (scheduled Second den) (schedule_lines s) (scheduled Second (phase 0 s))
+written_schedule s h = schedule_written NextOfCertificate (scheduled Second) (IsDeparturesLine Second) (λ lines line after h. h) s h
 
 all_departures : (s : Schedule) (ds : List ℤ) → length ds ≤ MOST_COUNT → All IsDeparture ds → Leads (scheduled Second (phase 0 s)) (departure_lines ds) (departure Second 0 s ds)
 all_departures s ds few h = (departure Second (length ds) s [], (length ds, (_, (omega arith, few, refl), refl), refl), departures_written s ds h)
@@ -110,7 +86,7 @@ after_leads (Least s ds ms) h = (
   scheduled Second den,
   (true, (codes "least" ∷ [], refl, refl), refl),
   Follows-append NextOfCertificate (scheduled Second den) (departure Second 0 s ds) (whole (Least s ds ms)) (schedule_lines s ++ departure_lines ds) (chain_lines ms)
-      (Follows-append NextOfCertificate (scheduled Second den) (scheduled Second (phase 0 s)) (departure Second 0 s ds) (schedule_lines s) (departure_lines ds) (schedule_written s h.schedule_in) (all_departures s ds h.count h.each))
+      (Follows-append NextOfCertificate (scheduled Second den) (scheduled Second (phase 0 s)) (departure Second 0 s ds) (schedule_lines s) (departure_lines ds) (written_schedule s h.schedule_in) (all_departures s ds h.count h.each))
       (chain_written (Least s ds []) ms h.chain_in),
 )
 after_leads (Never ms) h = (never Second, (false, (codes "never" ∷ [], refl, refl), refl), chain_written (Never []) ms h)

@@ -9,3 +9,5 @@ mod CertificateSpelling
 mod CertificateWritten
 mod CertificateVersions
 mod WorkedCertificate
+mod MemberDeciding
+mod CertificateEach

@@ -1,9 +1,10 @@
 -- What the definitions of certificates and their texts say of one another.
-use Rattle.std.specs.Prelude.{◌≡◌, ◌++◌, ℕ, List, Contains, codes}
+use Rattle.std.specs.Prelude.{◌≡◌, ◌⊎◌, ◌++◌, ℕ, List, Contains, codes}
+use Rattle.mintc_text.specs.declared.refusals.Refusal.{Refusal}
 use Rattle.mintc_text.specs.Signs.{line_feed}
 use Rattle.mintc_text.specs.Lines.{ended, text_of}
 use Rattle.mintc_certificate.specs.declared.certificate.Certificate.{Certificate}
-use Rattle.mintc_certificate.specs.CertificateText.{IsCertificateText, IsCertificateFault}
+use Rattle.mintc_certificate.specs.CertificateText.{IsCertificateText, IsCertificateFault, IsCertificateRefusal}
 use Rattle.mintc_certificate.specs.Ranges.{IsCertificateInRange}
 use Rattle.mintc_certificate.specs.Written.{lines_of}
 
@@ -43,3 +44,8 @@ WrittenAreAll = (x : List ℕ) (c : Certificate) → IsCertificateText (ended (c
 abbrev pub WrittenAreApart : Type 0
 WrittenAreApart = (c d : Certificate) → IsCertificateInRange c → IsCertificateInRange d →
     text_of (lines_of c) ≡ text_of (lines_of d) → c ≡ d
+
+-- Each text is a certificate's, or is refused for its first line out of form.
+abbrev pub HaveCertificateOrRefusal : Type 0
+HaveCertificateOrRefusal = (text : List ℕ) → ((c : Certificate) × IsCertificateText text c)
+    ⊎ ((r : Refusal) × IsCertificateRefusal text r)

@@ -23,6 +23,7 @@ pub use members::{Member, Members};
 pub use reading::read;
 pub use sums::{ChainSums, sums_of};
 pub use text_laws::{
-    certificate_texts_are_canonical, certificate_texts_are_plain, written_certificates_are_read,
+    certificate_texts_are_canonical, certificate_texts_are_plain,
+    texts_have_certificates_or_refusals, written_certificates_are_read,
 };
 pub use writing::{put_count_line, put_departures, put_member, put_path, put_schedule, write};

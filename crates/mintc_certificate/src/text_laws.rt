@@ -1,7 +1,7 @@
 //! Laws of the text of certificates.
 ghost use Rattle.mintc_certificate.specs.TextLaws.{HaveOneCertificate, HaveNoCertificateFault, HaveOneCertificateFault};
 ghost use Rattle.mintc_certificate.specs.TextLaws.{HaveOneCertificateText, SecondSaysFirst, WrittenAreTexts};
-ghost use Rattle.mintc_certificate.specs.TextLaws.{WrittenAreAll, WrittenAreApart};
+ghost use Rattle.mintc_certificate.specs.TextLaws.{HaveCertificateOrRefusal, WrittenAreAll, WrittenAreApart};
 
 /// A text is that of at most one certificate; where it is that of one, no line is at fault; and at most one line is.
 #[tactic(auto, using(crate::proofs::CertificatePlain::certificate_texts))]
@@ -25,4 +25,9 @@ pub fn written_certificates_are_read()
     ensures read { WrittenAreTexts }
     ensures only { WrittenAreAll }
     ensures apart { WrittenAreApart }
+{}
+
+/// Each text is a certificate's, or is refused for its first line out of form.
+pub fn texts_have_certificates_or_refusals()
+    ensures { HaveCertificateOrRefusal }
 {}

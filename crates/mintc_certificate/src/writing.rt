@@ -5,8 +5,10 @@ ghost use Rattle.mintc_timing_text.specs.Fields.{number};
 ghost use Rattle.mintc_timing.specs.Limits.{IsInRange};
 ghost use Rattle.mintc_certificate.specs.CertificateText.{IsCounted, member_words};
 ghost use Rattle.mintc_certificate.specs.Ranges.{IsCertificateInRange};
-ghost use Rattle.mintc_certificate.specs.Written.{chain_lines, count_line, departure_lines, least_lines, lines_of};
-ghost use Rattle.mintc_certificate.specs.Written.{never_lines, number_line, phase_line, schedule_lines};
+ghost use Rattle.mintc_certificate.specs.Written.{chain_lines, departure_lines, least_lines, lines_of};
+ghost use Rattle.mintc_timing_text.specs.LineForms.{count_line};
+ghost use Rattle.mintc_certificate.specs.Written.{never_lines};
+ghost use Rattle.mintc_timing_text.specs.LineForms.{number_line, phase_line, schedule_lines};
 
 use crate::{Certificate, Member};
 use mintc_text::{Lines, OutOfMemory};

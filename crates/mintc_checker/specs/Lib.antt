@@ -1,5 +1,7 @@
-pub mod Decided
+-- What contracts of public calls and laws say:
 pub mod Verdicts
+-- What only the proofs need:
+pub mod Decided
 pub mod Trails
 pub mod Labels
 pub mod Judged

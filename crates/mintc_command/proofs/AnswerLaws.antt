@@ -30,9 +30,9 @@ IsOfCommand-no_usage OutOfMemory h e = h
 -- A defined answer of the words' command on its files is an answer to the words.
 IsAnswer-defined : (words names files : List (List ℕ)) (shelf : Option Files) (command : Command) (status : Status) (text : List ℕ) →
     AreWordsOf command names words → AreFronts shelf (MOST_BYTES + 1) names files → IsOfCommand status → IsDefined command files status text → IsAnswer words shelf status text
-IsAnswer-defined words names files shelf command Done text are fronts of h = (command, names, are, files, fronts, h)
-IsAnswer-defined words names files shelf command Found text are fronts of h = (command, names, are, files, fronts, h)
-IsAnswer-defined words names files shelf command Refused text are fronts of h = (command, names, are, files, fronts, h)
+IsAnswer-defined words names files shelf command Done text are fronts of h = record { command = command; names = names; are_words = are; fronts = files; are_fronts = fronts; defined = h }
+IsAnswer-defined words names files shelf command Found text are fronts of h = record { command = command; names = names; are_words = are; fronts = files; are_fronts = fronts; defined = h }
+IsAnswer-defined words names files shelf command Refused text are fronts of h = record { command = command; names = names; are_words = are; fronts = files; are_fronts = fronts; defined = h }
 IsAnswer-defined words names files shelf command Usage text are fronts of h = absurd of
 IsAnswer-defined words names files shelf command ReadFault text are fronts of h = absurd of
 IsAnswer-defined words names files shelf command WriteFault text are fronts of h = absurd of

@@ -42,14 +42,21 @@ IsComplete Found = Unit {0}
 IsComplete OutOfMemory = Unit {0}
 IsComplete status = ⊥
 
--- The defined answer of words over a shelf's files: that of a command on the first bytes of the files that it
--- names, one byte more than a file may have, or the usage line.
+-- The words are those of a command with the names of its files. The fronts are their first bytes, one more than a file
+-- may have, and this is the defined answer of the command on them.
+pub record IsCommandAnswer (words : List (List ℕ)) (files : Option Files) (status : Status) (text : List ℕ) :
+    Type 0 where
+  pub command : Command
+  pub names : List (List ℕ)
+  pub are_words : AreWordsOf command names words
+  pub fronts : List (List ℕ)
+  pub are_fronts : AreFronts files (MOST_BYTES + 1) names fronts
+  pub defined : IsDefined command fronts status text
+
+-- The defined answer of words over a shelf's files: that of their command, or the usage line where they are none.
 abbrev pub IsAnswer : List (List ℕ) → Option Files → Status → List ℕ → Type 0
 IsAnswer words files Usage text = (IsCommand words → ⊥) × (text ≡ usage_line)
-IsAnswer words files status text =
-    (command : Command) × (names : List (List ℕ)) × AreWordsOf command names words × (fronts : List (List ℕ))
-    × AreFronts files (MOST_BYTES + 1) names fronts
-    × IsDefined command fronts status text
+IsAnswer words files status text = IsCommandAnswer words files status text
 
 -- What a run leaves of the bytes that the sink took: with an answer its text at the end, with a failed write a front of
 -- an answer's text, and else what there was.

@@ -7,7 +7,7 @@ use Rattle.mintc_text.specs.declared.refusals.Role.{Role}
 use Rattle.mintc_text.specs.declared.refusals.Stop.{Stop}
 use Rattle.mintc_text.specs.declared.refusals.Stop.TheVariants as stop
 use Rattle.mintc_text.specs.Stops.{StopsAt}
-use Rattle.mintc_command_answers.specs.Answers.{IsAnswerOn, IsContentRefusal, IsDefined, IsRefusalText}
+use Rattle.mintc_command_answers.specs.Answers.{IsAnswerOn, IsContentRefusal, IsDefined, IsRefusalText, too_long, of_contents}
 use Rattle.mintc_command_answers.specs.Contents.{content_roles, sample_texts}
 use Rattle.mintc_command_answers.specs.Sources.{AreShort, IsLengthRefusal}
 use Rattle.mintc_command_answers.specs.declared.answer.Answer.{Answer}
@@ -44,7 +44,7 @@ pub refused_length : {E : Type 0} (r : Result Answer E) (command : Command) (tex
 refused_length (Err e) command texts roles refused same h s t = tt
 refused_length (Ok a) command texts roles refused same h s t =
     let own : IsLengthRefusal (content_roles command) texts refused = subst (λ (x : List Role). IsLengthRefusal x texts refused) same h in
-    let answer : IsAnswerOn command texts Refused a.text = (refused, inl own, length_text command texts roles texts refused a.text h t) in
+    let answer : IsAnswerOn command texts Refused a.text = (refused, too_long own, length_text command texts roles texts refused a.text h t) in
     subst (λ (x : Status). IsAnswerOn command texts x a.text) (sym s) answer
 
 -- The text of another refusal is its line, where the command isn't `corners`.
@@ -53,7 +53,7 @@ pub refused_content : {E : Type 0} (r : Result Answer E) (command own : Command)
     IfOk r (λ (a : Answer). a.text ≡ refusal_line refused) → IfOk r (λ (a : Answer). IsAnswerOn command texts a.status a.text)
 refused_content (Err e) command own texts refused said is short h s t = tt
 refused_content (Ok a) command own texts refused said is short h s t =
-    let answer : IsAnswerOn own texts Refused a.text = (refused, inr (short, h), said a.text t) in
+    let answer : IsAnswerOn own texts Refused a.text = (refused, of_contents short h, said a.text t) in
     subst (λ (x : Command). IsAnswerOn x texts a.status a.text) (sym is) (subst (λ (x : Status). IsAnswerOn own texts x a.text) (sym s) answer)
 
 -- what a call says that stops at a refusal

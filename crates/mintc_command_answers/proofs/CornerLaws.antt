@@ -18,9 +18,9 @@ use Rattle.mintc_corners.specs.CornerOptimum.{IsOptimumOf}
 use Rattle.mintc_corners.specs.CornerText.{corner_lines}
 use Rattle.mintc_corners.specs.declared.certificate.CornerCertificate.{CornerCertificate}
 use Rattle.mintc_corners.specs.declared.certificate.CornerCertificate.TheVariants.{Least, Never}
-use Rattle.mintc_command_answers.specs.Answers.{IsAnswerOn}
+use Rattle.mintc_command_answers.specs.Answers.{IsAnswerOn, of_contents}
 use Rattle.mintc_command_answers.specs.Contents.{content_roles}
-use Rattle.mintc_command_answers.specs.Corners.{AreGiven, AreTooMany, IsCornersAnswer, IsFirstRefused, corner_status, corners_of, elements_together, files_with}
+use Rattle.mintc_command_answers.specs.Corners.{AreGiven, AreTooMany, IsCornersAnswer, IsFirstRefused, of_corner, of_elements, corner_status, corners_of, elements_together, files_with}
 use Rattle.mintc_command_answers.specs.Sources.{AreShort, Gives, IsSourceRefused}
 use Rattle.mintc_command_answers.specs.declared.answer.Answer.{Answer}
 use Rattle.mintc_command_answers.specs.declared.command.Command.TheVariants.{Corners}
@@ -117,7 +117,7 @@ pub refused_corner : {E : Type 0} (r : Result Answer E) (count : ℕ) (texts : L
     IfOk r (λ (a : Answer). IsAnswerOn (Corners count) texts a.status a.text)
 refused_corner (Err e) count texts corner own short first s t = tt
 refused_corner (Ok a) count texts corner own short first s t =
-    let answer : IsAnswerOn (Corners count) texts Refused a.text = (refusal.Corner corner, inr (short, inl (corner, own, first, refl)), (own, first, t)) in
+    let answer : IsAnswerOn (Corners count) texts Refused a.text = (refusal.Corner corner, of_contents short (of_corner corner own first refl), (own, first, t)) in
     subst (λ (x : Status). IsAnswerOn (Corners count) texts x a.text) (sym s) answer
 
 pub refused_number : {E : Type 0} (r : Result Answer E) (count : ℕ) (texts : List (List ℕ)) (ts : List Timing) (refused : Refusal) → AreShort texts → AreGiven (corners_of texts) ts →
@@ -127,7 +127,7 @@ refused_number (Err e) count texts ts refused short given many s t = tt
 refused_number (Ok a) count texts ts refused short given many s t =
     let limit : Refusal = refusal.Limit kind.Elements (elements_together ts) in
     let line : a.text ≡ refusal_line limit = t ∙ ap refusal_line many.1 in
-    let answer : IsAnswerOn (Corners count) texts Refused a.text = (limit, inr (short, inr (ts, given, (many.0, refl))), line) in
+    let answer : IsAnswerOn (Corners count) texts Refused a.text = (limit, of_contents short (of_elements ts given (many.0, refl)), line) in
     subst (λ (x : Status). IsAnswerOn (Corners count) texts x a.text) (sym s) answer
 
 on_certificate : (count : ℕ) (texts : List (List ℕ)) (ts : List Timing) (c : CornerCertificate) (text : List ℕ) → AreShort texts → AreGiven (corners_of texts) ts → elements_together ts ≤ 2000 →

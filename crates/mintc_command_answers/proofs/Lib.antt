@@ -8,3 +8,7 @@ mod OptimumLaws
 mod NumberLaws
 mod VerdictLaws
 mod StatusLaws
+mod EarliestLaws
+mod OptimaLaws
+mod OrderLaws
+mod DeterminedLaws

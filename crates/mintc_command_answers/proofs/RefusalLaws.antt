@@ -17,12 +17,12 @@ use Rattle.mintc_build.specs.Designs.{IsDesignRefusal}
 use Rattle.mintc_build.specs.FilesDesign.{described_by, library_by}
 use Rattle.mintc_build.specs.Laws.{AcceptedAreNotRefused, ArePlain, DesignRefusalsAreDetermined, IsLoopRefusal}
 use Rattle.mintc_certificate.specs.TextLaws.{HaveNoCertificateFault, HaveOneCertificateFault}
-use Rattle.mintc_command_answers.specs.Answers.{IsContentAnswer, IsContentRefusal, IsRefusalOn}
+use Rattle.mintc_command_answers.specs.Answers.{IsContentAnswer, IsContentRefusal, IsRefusalOn, of_design, of_file, too_long, of_contents}
 use Rattle.mintc_command_answers.specs.Contents.{content_roles, contents_of}
-use Rattle.mintc_command_answers.specs.Corners.{AreGiven, IsFirstRefused, corners_of, elements_together}
-use Rattle.mintc_command_answers.specs.Jobs.{IsFileRefused, IsJobAnswer, IsScheduleOf, IsScheduleRefused}
+use Rattle.mintc_command_answers.specs.Corners.{AreGiven, IsFirstRefused, of_corner, of_elements, corners_of, elements_together}
+use Rattle.mintc_command_answers.specs.Jobs.{IsFileRefused, IsJobAnswer, IsScheduleOf, IsScheduleRefused, out_of_form, other_phases}
 use Rattle.mintc_command_answers.specs.Laws.{RefusalsExcludeAnswers, RefusalsAreDetermined}
-use Rattle.mintc_command_answers.specs.Sources.{AreShort, Describes, Gives, HasNoDesign, IsLengthRefusal, IsSourceRefused, file_at, own_file}
+use Rattle.mintc_command_answers.specs.Sources.{AreShort, Describes, Gives, HasNoDesign, IsLengthRefusal, IsSourceRefused, no_design, no_system, file_at, own_file}
 use Rattle.mintc_command_answers.specs.declared.command.Command.{Command}
 use Rattle.mintc_command_answers.specs.declared.command.Command.TheVariants.{OfDesign, Sample, Corners}
 use Rattle.mintc_command_answers.specs.declared.command.Job.{Job}
@@ -78,7 +78,7 @@ one_length (text ∷ roles) (bytes ∷ files) refused other (inr a) (inl b) = le
 one_length (text ∷ roles) (bytes ∷ files) refused other (inr a) (inr b) = one_length roles files refused other a.1 b.1
 
 -- The files of a source stand for one design. Where it is within the limits they have no refusal, and they have one at most.
-one_design : AreTextLaws → (source : Source) (files : List (List ℕ)) (design other : Design) → Describes source files design → Describes source files other → design ≡ other
+pub one_design : AreTextLaws → (source : Source) (files : List (List ℕ)) (design other : Design) → Describes source files design → Describes source files other → design ≡ other
 one_design law Table files design other a b = law.one_design (file_at files 0) design other a b
 one_design law Files files design other a b = law.files.one_design (file_at files 0) (file_at files 1) (file_at files 2) (file_at files 3) design other a b
 one_design law Liberty files design other a b = law.liberty.one_design (file_at files 0) (file_at files 1) (file_at files 2) (file_at files 3) design other a b
@@ -117,15 +117,15 @@ one_refusal law Liberty files refused other a b =
 
 -- A schedule with the design's phases isn't refused.
 no_schedule : AreTextLaws → (schedule : List ℕ) (phases : ℕ) (s : Schedule) (refused : Refusal) → IsScheduleOf schedule phases s → IsScheduleRefused schedule phases refused → ⊥
-no_schedule law schedule phases s refused is (inl (n, named, fault)) = law.no_schedule_fault schedule s n is.is_text fault
-no_schedule law schedule phases s refused is (inr (other, text, apart, named)) =
+no_schedule law schedule phases s refused is (out_of_form n named fault) = law.no_schedule_fault schedule s n is.is_text fault
+no_schedule law schedule phases s refused is (other_phases other text apart named) =
     let same : s ≡ other = law.one_schedule schedule s other is.is_text text in
     apart (sym is.count ∙ ap (λ (x : Schedule). length x.starts) same)
 
 -- Files that give a timing aren't refused, and all that they give is of one design.
 no_source : AreTextLaws → (source : Source) (files : List (List ℕ)) (t : Timing) (refused : Refusal) → Gives source files t → IsSourceRefused source files refused → ⊥
-no_source law source files t refused is (inl h) = no_refusal law source files t.flat refused is.design is.accepted.limits h
-no_source law source files t refused is (inr (d, described, limits, h)) =
+no_source law source files t refused is (no_design h) = no_refusal law source files t.flat refused is.design is.accepted.limits h
+no_source law source files t refused is (no_system d described limits h) =
     let same : d ≡ t.flat = one_design law source files d t.flat described is.design in
     law.accepted t.flat refused is.accepted (subst (λ (x : Design). IsDesignRefusal x refused) same h)
 
@@ -172,20 +172,20 @@ one_number law (files ∷ corners) (t ∷ ts) (u ∷ us) a b =
 
 no_content : AreTextLaws → (command : Command) (files : List (List ℕ)) (refused : Refusal) (status : Status) (text : List ℕ) →
     IsContentAnswer command files status text → IsContentRefusal command files refused → ⊥
-no_content law (OfDesign job source) files refused status text (t, gives, h) (inl g) = no_source law source files t refused gives g
-no_content law (OfDesign job source) files refused status text (t, gives, h) (inr (u, gives_too, g)) =
+no_content law (OfDesign job source) files refused status text (t, gives, h) (of_design g) = no_source law source files t refused gives g
+no_content law (OfDesign job source) files refused status text (t, gives, h) (of_file u gives_too g) =
     no_file law job t u (own_file source files) refused status text (one_count law source files u t gives_too gives) h g
 no_content law (Sample number) files refused status text (t, gives, h) g = no_source law Files files t refused gives g
-no_content law (Corners count) files refused status text (ts, given, few, h) (inl (corner, own, first, named)) = no_corner law (corners_of files) 1 corner own ts given first
-no_content law (Corners count) files refused status text (ts, given, few, h) (inr (us, given_too, many)) =
+no_content law (Corners count) files refused status text (ts, given, few, h) (of_corner corner own first named) = no_corner law (corners_of files) 1 corner own ts given first
+no_content law (Corners count) files refused status text (ts, given, few, h) (of_elements us given_too many) =
     let same = one_number law (corners_of files) us ts given_too given in
     let over = many.0 in
     omega (arith, few, over, same)
 
 exclude : AreTextLaws → (command : Command) (files : List (List ℕ)) (refused : Refusal) (status : Status) (text : List ℕ) → IsRefusalOn command files refused →
     AreShort files → IsContentAnswer command files status text → ⊥
-exclude law command files refused status text (inl h) short answer = no_length (content_roles command) files refused short h
-exclude law command files refused status text (inr (short_too, h)) short answer = no_content law command files refused status text answer h
+exclude law command files refused status text (too_long h) short answer = no_length (content_roles command) files refused short h
+exclude law command files refused status text (of_contents short_too h) short answer = no_content law command files refused status text answer h
 
 pub exclude_lem : AreTextLaws → RefusalsExcludeAnswers
 exclude_lem law command files refused Refused text first h = refl
@@ -198,19 +198,19 @@ exclude_lem law command files refused OutOfMemory text first h = absurd (exclude
 
 one_schedule_refusal : AreTextLaws → (schedule : List ℕ) (phases : ℕ) (refused other : Refusal) → IsScheduleRefused schedule phases refused →
     IsScheduleRefused schedule phases other → refused ≡ other
-one_schedule_refusal law schedule phases refused other (inl (n, a, fault)) (inl (m, b, other_fault)) =
+one_schedule_refusal law schedule phases refused other (out_of_form n a fault) (out_of_form m b other_fault) =
     a ∙ ap (λ (k : ℕ). refusal.Syntax role.Schedule k) (law.one_schedule_fault schedule n m fault other_fault) ∙ sym b
-one_schedule_refusal law schedule phases refused other (inl (n, a, fault)) (inr (s, text, apart, b)) = absurd (law.no_schedule_fault schedule s n text fault)
-one_schedule_refusal law schedule phases refused other (inr (s, text, apart, a)) (inl (m, b, fault)) = absurd (law.no_schedule_fault schedule s m text fault)
-one_schedule_refusal law schedule phases refused other (inr (s, text, apart, a)) (inr (u, other_text, other_apart, b)) =
+one_schedule_refusal law schedule phases refused other (out_of_form n a fault) (other_phases s text apart b) = absurd (law.no_schedule_fault schedule s n text fault)
+one_schedule_refusal law schedule phases refused other (other_phases s text apart a) (out_of_form m b fault) = absurd (law.no_schedule_fault schedule s m text fault)
+one_schedule_refusal law schedule phases refused other (other_phases s text apart a) (other_phases u other_text other_apart b) =
     a ∙ ap (λ (x : Schedule). refusal.PhaseMismatch phases (length x.starts)) (law.one_schedule schedule s u text other_text) ∙ sym b
 
 one_source_refusal : AreTextLaws → DesignRefusalsAreDetermined → (source : Source) (files : List (List ℕ)) (refused other : Refusal) → IsSourceRefused source files refused →
     IsSourceRefused source files other → (refused ≡ other) ⊎ (IsLoopRefusal refused × IsLoopRefusal other)
-one_source_refusal law one source files refused other (inl a) (inl b) = inl (one_refusal law source files refused other a b)
-one_source_refusal law one source files refused other (inl a) (inr (d, described, limits, h)) = absurd (no_refusal law source files d refused described limits a)
-one_source_refusal law one source files refused other (inr (d, described, limits, h)) (inl b) = absurd (no_refusal law source files d other described limits b)
-one_source_refusal law one source files refused other (inr (d, described, limits, h)) (inr (e, other_described, other_limits, g)) =
+one_source_refusal law one source files refused other (no_design a) (no_design b) = inl (one_refusal law source files refused other a b)
+one_source_refusal law one source files refused other (no_design a) (no_system d described limits h) = absurd (no_refusal law source files d refused described limits a)
+one_source_refusal law one source files refused other (no_system d described limits h) (no_design b) = absurd (no_refusal law source files d other described limits b)
+one_source_refusal law one source files refused other (no_system d described limits h) (no_system e other_described other_limits g) =
     let same : e ≡ d = one_design law source files e d other_described described in
     one d refused other h (subst (λ (x : Design). IsDesignRefusal x other) same g)
 
@@ -227,27 +227,27 @@ one_file law Slack t u file refused other same a b = absurd a
 
 one_content : AreTextLaws → DesignRefusalsAreDetermined → (command : Command) (files : List (List ℕ)) (refused other : Refusal) → IsContentRefusal command files refused →
     IsContentRefusal command files other → (refused ≡ other) ⊎ (IsLoopRefusal refused × IsLoopRefusal other)
-one_content law one (OfDesign job source) files refused other (inl a) (inl b) = one_source_refusal law one source files refused other a b
-one_content law one (OfDesign job source) files refused other (inl a) (inr (t, gives, b)) = absurd (no_source law source files t refused gives a)
-one_content law one (OfDesign job source) files refused other (inr (t, gives, a)) (inl b) = absurd (no_source law source files t other gives b)
-one_content law one (OfDesign job source) files refused other (inr (t, gives, a)) (inr (u, gives_too, b)) =
+one_content law one (OfDesign job source) files refused other (of_design a) (of_design b) = one_source_refusal law one source files refused other a b
+one_content law one (OfDesign job source) files refused other (of_design a) (of_file t gives b) = absurd (no_source law source files t refused gives a)
+one_content law one (OfDesign job source) files refused other (of_file t gives a) (of_design b) = absurd (no_source law source files t other gives b)
+one_content law one (OfDesign job source) files refused other (of_file t gives a) (of_file u gives_too b) =
     inl (one_file law job t u (own_file source files) refused other (one_count law source files u t gives_too gives) a b)
 one_content law one (Sample number) files refused other a b = one_source_refusal law one Files files refused other a b
-one_content law one (Corners count) files refused other (inl (corner, own, first, a)) (inl (another, others, first_too, b)) =
+one_content law one (Corners count) files refused other (of_corner corner own first a) (of_corner another others first_too b) =
     inl (a ∙ ap refusal.Corner (one_corner law (corners_of files) 1 corner another own others first first_too) ∙ sym b)
-one_content law one (Corners count) files refused other (inl (corner, own, first, a)) (inr (ts, given, b)) =
+one_content law one (Corners count) files refused other (of_corner corner own first a) (of_elements ts given b) =
     absurd (no_corner law (corners_of files) 1 corner own ts given first)
-one_content law one (Corners count) files refused other (inr (ts, given, a)) (inl (corner, own, first, b)) =
+one_content law one (Corners count) files refused other (of_elements ts given a) (of_corner corner own first b) =
     absurd (no_corner law (corners_of files) 1 corner own ts given first)
-one_content law one (Corners count) files refused other (inr (ts, given, a)) (inr (us, given_too, b)) =
+one_content law one (Corners count) files refused other (of_elements ts given a) (of_elements us given_too b) =
     inl (a.1 ∙ ap (λ (n : ℕ). refusal.Limit kind.Elements n) (one_number law (corners_of files) ts us given given_too) ∙ sym b.1)
 
 determined_on : AreTextLaws → DesignRefusalsAreDetermined → (command : Command) (files : List (List ℕ)) (refused other : Refusal) → IsRefusalOn command files refused →
     IsRefusalOn command files other → (refused ≡ other) ⊎ (IsLoopRefusal refused × IsLoopRefusal other)
-determined_on law one command files refused other (inl a) (inl b) = inl (one_length (content_roles command) files refused other a b)
-determined_on law one command files refused other (inl a) (inr (short, b)) = absurd (no_length (content_roles command) files refused short a)
-determined_on law one command files refused other (inr (short, a)) (inl b) = absurd (no_length (content_roles command) files other short b)
-determined_on law one command files refused other (inr (short, a)) (inr (short_too, b)) = one_content law one command files refused other a b
+determined_on law one command files refused other (too_long a) (too_long b) = inl (one_length (content_roles command) files refused other a b)
+determined_on law one command files refused other (too_long a) (of_contents short b) = absurd (no_length (content_roles command) files refused short a)
+determined_on law one command files refused other (of_contents short a) (too_long b) = absurd (no_length (content_roles command) files other short b)
+determined_on law one command files refused other (of_contents short a) (of_contents short_too b) = one_content law one command files refused other a b
 
 pub determined_lem : AreTextLaws → DesignRefusalsAreDetermined → RefusalsAreDetermined
 determined_lem law one command files refused other a b = determined_on law one command (contents_of command files) refused other a b

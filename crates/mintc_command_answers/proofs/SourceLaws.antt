@@ -10,18 +10,18 @@ use Rattle.mintc_timing.specs.Design.{Design, Timing}
 use Rattle.mintc_timing.specs.Accepted.{SystemsAreAccepted}
 use Rattle.mintc_timing.specs.Limits.{IsDesign}
 use Rattle.mintc_build.specs.Designs.{HasSystem, IsDesignRefusal}
-use Rattle.mintc_command_answers.specs.Sources.{AreShort, Describes, Gives, GivesOrdered, HasNoDesign, IsLengthRefusal, IsSourceRefused, IsSystemOf, file_at}
+use Rattle.mintc_command_answers.specs.Sources.{AreShort, Describes, Gives, GivesOrdered, HasNoDesign, IsLengthRefusal, IsSourceRefused, no_design, no_system, IsSystemOf, file_at}
 use Rattle.mintc_command_answers.specs.declared.command.Source.{Source}
 use Rattle.mintc_text.specs.declared.limits.TheConstants.{MOST_BYTES}
 
 -- What stops a system of the design of files stops the files.
 pub StopsAt-system : (source : Source) (files : List (List ℕ)) (design : Design) (s : Stop) → Describes source files design → IsDesign design → StopsAt (IsDesignRefusal design) s → StopsAt (IsSourceRefused source files) s
-StopsAt-system source files design (stop.Refused refused) described limits h = inr (design, described, limits, h)
+StopsAt-system source files design (stop.Refused refused) described limits h = no_system design described limits h
 StopsAt-system source files design stop.OutOfMemory described limits h = tt
 
 -- So does what stops their design.
 pub StopsAt-design : (source : Source) (files : List (List ℕ)) (s : Stop) → StopsAt (HasNoDesign source files) s → StopsAt (IsSourceRefused source files) s
-StopsAt-design source files (stop.Refused refused) h = inl h
+StopsAt-design source files (stop.Refused refused) h = no_design h
 StopsAt-design source files stop.OutOfMemory h = tt
 
 -- A system of the design of files is theirs.

@@ -1,5 +1,5 @@
 -- The verdict on a certificate is the answer to `verify`, whichever list of the design's pairs is taken.
-use Rattle.std.proofs.Common.{◌≡◌, ℕ, List, inl, inr, sym, subst, Result, Ok, Err, IfOk, IfErr}
+use Rattle.std.proofs.Common.{◌≡◌, ℕ, List, sym, subst, Result, Ok, Err, IfOk, IfErr}
 use Rattle.mintc_text.specs.declared.refusals.Stop.{Stop}
 use Rattle.mintc_text.specs.declared.refusals.Stop.TheVariants as stop
 use Rattle.mintc_text.specs.Stops.{StopsAt}
@@ -7,9 +7,9 @@ use Rattle.mintc_timing.specs.Design.{Design, Timing}
 use Rattle.mintc_timing.specs.Order.{ArePathsShort}
 use Rattle.mintc_timing.specs.Paths.{ArePairs}
 use Rattle.mintc_certificate.specs.CertificateText.{IsCertificateRefusal}
-use Rattle.mintc_command_answers.specs.Answers.{IsContentAnswer, IsContentRefusal}
-use Rattle.mintc_command_answers.specs.Jobs.{IsJobAnswer}
-use Rattle.mintc_command_answers.specs.Sources.{GivesOrdered, IsSourceRefused, own_file}
+use Rattle.mintc_command_answers.specs.Answers.{IsContentAnswer, IsContentRefusal, of_design, of_file}
+use Rattle.mintc_command_answers.specs.Jobs.{IsFileRefused, IsJobAnswer}
+use Rattle.mintc_command_answers.specs.Sources.{Gives, GivesOrdered, IsSourceRefused, own_file}
 use Rattle.mintc_command_answers.specs.declared.answer.Answer.{Answer}
 use Rattle.mintc_command_answers.specs.declared.command.Command.TheVariants.{OfDesign}
 use Rattle.mintc_command_answers.specs.declared.command.Job.{Job}
@@ -27,14 +27,25 @@ answer_on_ordered (Err e) source texts design order file h same v = tt
 answer_on_ordered (Ok a) source texts design order file h same v =
     (h.timing, h.given, subst (λ f. IsJobAnswer Verify h.timing f a.status a.text) same (v h.timing h.same h.given.pairs))
 
--- What stops the source's texts, or the certificate's, stops the command.
-pub stop_on_source : (source : Source) (texts : List (List ℕ)) (s : Stop) → StopsAt (IsSourceRefused source texts) s → StopsAt (IsContentRefusal (OfDesign Verify source) texts) s
-stop_on_source source texts (stop.Refused refused) h = inl h
-stop_on_source source texts stop.OutOfMemory h = tt
+-- What stops the source's texts, or the text beside them, stops the command; and what is answered on both is its answer.
+pub stop_on_source : (job : Job) (source : Source) (texts : List (List ℕ)) (s : Stop) → StopsAt (IsSourceRefused source texts) s → StopsAt (IsContentRefusal (OfDesign job source) texts) s
+stop_on_source job source texts (stop.Refused refused) h = of_design h
+stop_on_source job source texts stop.OutOfMemory h = tt
+
+pub stop_on_file : (r : Result Answer Stop) (job : Job) (source : Source) (texts : List (List ℕ)) (t : Timing) (file : List ℕ) → Gives source texts t → file ≡ own_file source texts →
+    IfErr r (StopsAt (IsFileRefused job t.flat file)) → IfErr r (StopsAt (IsContentRefusal (OfDesign job source) texts))
+stop_on_file (Ok a) job source texts t file gives same h = tt
+stop_on_file (Err (stop.Refused refused)) job source texts t file gives same h = of_file t gives (subst (λ f. IsFileRefused job t.flat f refused) same h)
+stop_on_file (Err stop.OutOfMemory) job source texts t file gives same h = tt
+
+pub answer_on_file : {E : Type 0} (r : Result Answer E) (job : Job) (source : Source) (texts : List (List ℕ)) (t : Timing) (file : List ℕ) → Gives source texts t → file ≡ own_file source texts →
+    IfOk r (λ (a : Answer). IsJobAnswer job t file a.status a.text) → IfOk r (λ (a : Answer). IsContentAnswer (OfDesign job source) texts a.status a.text)
+answer_on_file (Err e) job source texts t file gives same h = tt
+answer_on_file (Ok a) job source texts t file gives same h = (t, gives, subst (λ f. IsJobAnswer job t f a.status a.text) same h)
 
 stop_on_certificate : (source : Source) (texts : List (List ℕ)) (design : Design) (order file : List ℕ) (s : Stop) → GivesOrdered source texts design order →
     file ≡ own_file source texts → StopsAt (IsCertificateRefusal file) s → StopsAt (IsContentRefusal (OfDesign Verify source) texts) s
-stop_on_certificate source texts design order file (stop.Refused refused) h same g = inr (h.timing, h.given, subst (λ f. IsCertificateRefusal f refused) same g)
+stop_on_certificate source texts design order file (stop.Refused refused) h same g = of_file h.timing h.given (subst (λ f. IsCertificateRefusal f refused) same g)
 stop_on_certificate source texts design order file stop.OutOfMemory h same g = tt
 
 pub refusal_on_ordered : (r : Result Answer Stop) (source : Source) (texts : List (List ℕ)) (design : Design) (order file : List ℕ) → GivesOrdered source texts design order →

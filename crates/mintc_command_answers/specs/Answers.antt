@@ -1,5 +1,5 @@
 -- What is answered to a command on the bytes of its files: the first refusal, and the defined answer.
-use Rattle.std.specs.Prelude.{◌≡◌, ◌≤◌, ◌⊎◌, ◌++◌, ℕ, List}
+use Rattle.std.specs.Prelude.{◌≡◌, ◌≤◌, ◌++◌, ℕ, List}
 use Rattle.mintc_text.specs.declared.limits.TheConstants.{MOST_ELEMENTS}
 use Rattle.mintc_text.specs.declared.refusals.Refusal.{Refusal}
 use Rattle.mintc_text.specs.declared.refusals.Refusal.TheVariants as refusal
@@ -12,23 +12,28 @@ use Rattle.mintc_command_answers.specs.Jobs.{IsJobAnswer, IsFileRefused, IsSumma
 use Rattle.mintc_command_answers.specs.Sources.{AreShort, IsLengthRefusal, Gives, IsSourceRefused, own_file}
 use Rattle.mintc_command_answers.specs.declared.command.Command.{Command}
 use Rattle.mintc_command_answers.specs.declared.command.Command.TheVariants.{OfDesign, Sample, Corners}
+use Rattle.mintc_command_answers.specs.declared.command.Job.{Job}
+use Rattle.mintc_command_answers.specs.declared.command.Source.{Source}
 use Rattle.mintc_command_answers.specs.declared.command.Source.TheVariants as source
 use Rattle.mintc_command_answers.specs.declared.status.Status.{Status}
 use Rattle.mintc_command_answers.specs.declared.status.Status.TheVariants.{Done, Found, Refused}
 
--- The refusal of a command on texts that aren't too long: of the design's, and then of the file beside them; or of
--- corners.
+-- The refusal of a job on texts that aren't too long: of the design's, and then of the file beside them.
+pub data IsJobRefusal (job : Job) (from : Source) (texts : List (List ℕ)) (refused : Refusal) : Type 0 where
+  of_design : IsSourceRefused from texts refused → IsJobRefusal job from texts refused
+  of_file : (t : Timing) → Gives from texts t → IsFileRefused job t.flat (own_file from texts) refused →
+      IsJobRefusal job from texts refused
+
+-- The refusal of a command on texts that aren't too long.
 abbrev pub IsContentRefusal : Command → List (List ℕ) → Refusal → Type 0
-IsContentRefusal (OfDesign job from) texts refused =
-    IsSourceRefused from texts refused
-    ⊎ ((t : Timing) × Gives from texts t × IsFileRefused job t.flat (own_file from texts) refused)
+IsContentRefusal (OfDesign job from) texts refused = IsJobRefusal job from texts refused
 IsContentRefusal (Sample number) texts refused = IsSourceRefused source.Files texts refused
 IsContentRefusal (Corners count) texts refused = IsCornersRefusal (corners_of texts) refused
 
 -- The first refusal of a command on the texts that it works on, in the order of a run.
-abbrev pub IsRefusalOn : Command → List (List ℕ) → Refusal → Type 0
-IsRefusalOn command texts refused = IsLengthRefusal (content_roles command) texts refused
-    ⊎ (AreShort texts × IsContentRefusal command texts refused)
+pub data IsRefusalOn (command : Command) (texts : List (List ℕ)) (refused : Refusal) : Type 0 where
+  too_long : IsLengthRefusal (content_roles command) texts refused → IsRefusalOn command texts refused
+  of_contents : AreShort texts → IsContentRefusal command texts refused → IsRefusalOn command texts refused
 
 -- The first refusal of a command on the first bytes of its files.
 abbrev pub IsFirstRefusal : Command → List (List ℕ) → Refusal → Type 0

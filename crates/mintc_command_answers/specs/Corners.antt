@@ -55,10 +55,10 @@ AreTooMany ts refused = (MOST_ELEMENTS < elements_together ts)
     × (refused ≡ refusal.Limit kind.Elements (elements_together ts))
 
 -- The refusal of a command with these corners: of the first corner that is refused, or of the elements of all.
-abbrev pub IsCornersRefusal : List (List (List ℕ)) → Refusal → Type 0
-IsCornersRefusal corners refused =
-    ((corner : ℕ) × (own : Refusal) × IsFirstRefused corners 1 corner own × (refused ≡ refusal.Corner corner))
-    ⊎ ((ts : List Timing) × AreGiven corners ts × AreTooMany ts refused)
+pub data IsCornersRefusal (corners : List (List (List ℕ))) (refused : Refusal) : Type 0 where
+  of_corner : (corner : ℕ) (own : Refusal) → IsFirstRefused corners 1 corner own → refused ≡ refusal.Corner corner →
+      IsCornersRefusal corners refused
+  of_elements : (ts : List Timing) → AreGiven corners ts → AreTooMany ts refused → IsCornersRefusal corners refused
 
 -- how a run ends that has this certificate
 abbrev pub corner_status : CornerCertificate → Status

@@ -1,6 +1,6 @@
 -- What is answered of a design: to each job a status and a text, or a refusal of the file that stands beside the
 -- design's.
-use Rattle.std.specs.Prelude.{◌≡◌, ◌≢◌, ◌⊎◌, ℕ, ℤ, List, [], length}
+use Rattle.std.specs.Prelude.{◌≡◌, ◌≢◌, ℕ, ℤ, List, [], length}
 use Rattle.mintc_text.specs.Lines.{text_of}
 use Rattle.mintc_text.specs.declared.refusals.Refusal.{Refusal}
 use Rattle.mintc_text.specs.declared.refusals.Refusal.TheVariants as refusal
@@ -44,11 +44,11 @@ pub record IsScheduleOf (text : List ℕ) (phases : ℕ) (s : Schedule) : Type 0
   pub count : length s.starts ≡ phases
 
 -- The text is out of form, or its schedule has another number of phases.
-abbrev pub IsScheduleRefused : List ℕ → ℕ → Refusal → Type 0
-IsScheduleRefused text phases refused =
-    ((n : ℕ) × (refused ≡ refusal.Syntax role.Schedule n) × IsScheduleFault text n)
-    ⊎ ((s : Schedule) × IsScheduleText text s × (phases ≢ length s.starts)
-    × (refused ≡ refusal.PhaseMismatch phases (length s.starts)))
+pub data IsScheduleRefused (text : List ℕ) (phases : ℕ) (refused : Refusal) : Type 0 where
+  out_of_form : (n : ℕ) → refused ≡ refusal.Syntax role.Schedule n → IsScheduleFault text n →
+      IsScheduleRefused text phases refused
+  other_phases : (s : Schedule) → IsScheduleText text s → phases ≢ length s.starts →
+      refused ≡ refusal.PhaseMismatch phases (length s.starts) → IsScheduleRefused text phases refused
 
 -- The judgement of a schedule: a pass with its late and early departures where it has no violation, and else a fail
 -- with all its violations.

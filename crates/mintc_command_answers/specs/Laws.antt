@@ -32,3 +32,8 @@ OptimaAreVerified = (t : Timing) (file text : List ℕ) (status : Status) → Is
 abbrev pub AnswersAreOfCommands : Type 0
 AnswersAreOfCommands = (command : Command) (files : List (List ℕ)) (status : Status) (text : List ℕ) →
     IsDefined command files status text → IsOfCommand status
+
+-- The defined answers of a command on the same files have one status, whichever chain or loop they name.
+abbrev pub StatusesAreDetermined : Type 0
+StatusesAreDetermined = (command : Command) (files : List (List ℕ)) (status other : Status) (text another : List ℕ) →
+    IsDefined command files status text → IsDefined command files other another → status ≡ other

@@ -1,3 +1,4 @@
+-- What contracts of public calls and laws say:
 pub mod Statuses
 pub mod Commands
 pub mod Contents
@@ -6,3 +7,4 @@ pub mod Jobs
 pub mod Corners
 pub mod Answers
 pub mod Laws
+pub mod Optima

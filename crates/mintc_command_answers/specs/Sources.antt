@@ -73,7 +73,7 @@ pub record GivesOrdered (source : Source) (files : List (List ℕ)) (design : De
   pub ordered : IsOrder design.arcs order
 
 -- The files stand for no design, or for one within the limits that has no system.
-abbrev pub IsSourceRefused : Source → List (List ℕ) → Refusal → Type 0
-IsSourceRefused source files refused =
-    HasNoDesign source files refused
-    ⊎ ((design : Design) × Describes source files design × IsDesign design × IsDesignRefusal design refused)
+pub data IsSourceRefused (source : Source) (files : List (List ℕ)) (refused : Refusal) : Type 0 where
+  no_design : HasNoDesign source files refused → IsSourceRefused source files refused
+  no_system : (design : Design) → Describes source files design → IsDesign design → IsDesignRefusal design refused →
+      IsSourceRefused source files refused

@@ -79,7 +79,8 @@ fn design_answer(
 fn sample_answer(alloc: Global, number: u64, texts: &mut [Bytes]) -> Result<Answer, Stop>
     requires count { length texts.old ≡ length (content_roles (Command.Sample number)) }
     requires short { AreShort texts.old }
-    ensures value { IfOk result (λ answer. IsContentAnswer (Command.Sample number) texts.old answer.status answer.text) }
+    ensures value { IfOk result
+        (λ answer. IsContentAnswer (Command.Sample number) texts.old answer.status answer.text) }
     ensures stop { IfErr result (StopsAt (IsContentRefusal (Command.Sample number) texts.old)) }
 {
     let system = system_of(alloc, Source::Files, texts)?;

@@ -1,11 +1,16 @@
 //! What the definitions of refusals and answers say: a law is the contract of a function that only calls laws.
 ghost use Rattle.mintc_command_answers.specs.Laws.{AnswersAreOfCommands, OptimaAreVerified, RefusalsAreDetermined};
-ghost use Rattle.mintc_command_answers.specs.Laws.{RefusalsExcludeAnswers};
+ghost use Rattle.mintc_command_answers.specs.Laws.{RefusalsExcludeAnswers, StatusesAreDetermined};
+ghost use Rattle.mintc_command_answers.specs.Optima.{JointOptimaAreDetermined, OptimaAreDetermined};
+ghost use Rattle.mintc_command_answers.specs.Optima.{SafeOptimaAreDetermined};
 
 use mintc_build::{
     accepted_designs_are_not_refused, design_refusals_are_determined, files_are_plain,
 };
 use mintc_certificate::{certificate_texts_are_plain, written_certificates_are_read};
+use mintc_corners::{beside_is_both, corners_are_modest};
+use mintc_safe::safe_meets_links;
+use mintc_timing::{pairs_are_determined, violations_are_determined};
 use mintc_timing_text::{schedule_texts_are_plain, table_texts_are_plain};
 
 /// Where there is a first refusal, its line is the only answer.
@@ -43,3 +48,36 @@ pub fn optima_are_verified()
 pub fn answers_are_of_commands()
     ensures { AnswersAreOfCommands }
 {}
+
+/// The defined answers of a command on the same files have one status.
+pub fn statuses_are_determined()
+    ensures { StatusesAreDetermined }
+{
+    schedule_texts_are_plain();
+    table_texts_are_plain();
+    certificate_texts_are_plain();
+    accepted_designs_are_not_refused();
+    files_are_plain();
+    pairs_are_determined();
+    violations_are_determined();
+}
+
+/// Two optima of one timing differ in their chains alone.
+pub fn optima_are_determined()
+    ensures { OptimaAreDetermined }
+{}
+
+/// Two optima of one timing that keep each hold differ in their chains alone.
+pub fn safe_optima_are_determined()
+    ensures { SafeOptimaAreDetermined }
+{
+    safe_meets_links();
+}
+
+/// Two optima of the same corners differ in their chains alone.
+pub fn joint_optima_are_determined()
+    ensures { JointOptimaAreDetermined }
+{
+    beside_is_both();
+    corners_are_modest();
+}

@@ -27,6 +27,8 @@ pub use answer::Answer;
 pub use answering::answer_to;
 pub use command::{Command, Job, Source, command_of};
 pub use laws::{
-    answers_are_of_commands, optima_are_verified, refusals_are_determined, refusals_exclude_answers,
+    answers_are_of_commands, joint_optima_are_determined, optima_are_determined,
+    optima_are_verified, refusals_are_determined, refusals_exclude_answers,
+    safe_optima_are_determined, statuses_are_determined,
 };
 pub use status::Status;

@@ -4,7 +4,8 @@ use Rattle.std.specs.List.{flat_map}
 use Rattle.std.proofs.lemmas.Grind.{flat_map-append}
 use Rattle.std.proofs.lemmas.List.{append-nil, take_more}
 use Rattle.mintc_text.specs.Lines.{text_of}
-use Rattle.mintc_certificate.specs.Written.{count_line, departure_lines}
+use Rattle.mintc_certificate.specs.Written.{departure_lines}
+use Rattle.mintc_timing_text.specs.LineForms.{count_line}
 use Rattle.mintc_certificate.proofs.SharedWritingLaws.{texts_joined}
 
 pub corner_more : (corners : List (List ℤ)) (i : ℕ) (d : List ℤ) (old now new : List ℕ) → i < length corners → d ≡ get_or corners i d →

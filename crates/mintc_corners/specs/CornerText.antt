@@ -5,7 +5,8 @@ use Rattle.mintc_timing_text.specs.Fields.{number}
 use Rattle.mintc_certificate.specs.declared.members.Member.{Member}
 use Rattle.mintc_certificate.specs.declared.members.Member.TheVariants as member
 use Rattle.mintc_certificate.specs.CertificateText.{member_words}
-use Rattle.mintc_certificate.specs.Written.{count_line, schedule_lines, departure_lines}
+use Rattle.mintc_certificate.specs.Written.{departure_lines}
+use Rattle.mintc_timing_text.specs.LineForms.{count_line, schedule_lines}
 use Rattle.mintc_corners.specs.declared.members.CornerMember.{CornerMember}
 use Rattle.mintc_corners.specs.declared.certificate.CornerCertificate.{CornerCertificate}
 use Rattle.mintc_corners.specs.declared.certificate.CornerCertificate.TheVariants.{Least, Never}

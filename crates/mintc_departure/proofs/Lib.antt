@@ -8,7 +8,7 @@ mod SettledLaws
 mod Ladders
 pub mod SharedLesser
 pub mod SharedPassLaws
-mod ChainLaws
+mod IntoLaws
 mod EarlyLaws
 mod SweepLaws
 mod Missing

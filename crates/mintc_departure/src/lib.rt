@@ -13,13 +13,13 @@
 
 mod amounts;
 mod arrivals;
-mod chains;
 mod clock_checks;
 mod clocked_system;
 mod element_checks;
 mod judging;
 mod latest;
 mod laws;
+mod pair_ends;
 mod pair_network;
 mod rising;
 mod rounds;

@@ -6,14 +6,15 @@ ghost use Rattle.mintc_bitset.specs.BitSet.{IsIn, room};
 ghost use Rattle.mintc_timing.specs.Departures.{departure, early_arrivals, early_departure, AreEarly, AreLate};
 ghost use Rattle.mintc_timing.specs.Design.{element_count, pair_at, phase_count};
 ghost use Rattle.mintc_timing.specs.Extremes.{least_of};
-ghost use Rattle.mintc_departure.specs.Chains.{AreChains};
+ghost use Rattle.mintc_departure.specs.PairEnds.{ArePairsByEnd};
 ghost use Rattle.mintc_departure.specs.Clocked.{IsClocked};
 ghost use Rattle.mintc_departure.specs.Rounds.{AreSums, AreSwept, IsFirst};
 
 use crate::arrivals::{NEVER, arrival, gather};
-use crate::chains::{Chains, End};
 use crate::clocked_system::ClockedSystem;
+use crate::pair_ends::{End, pairs_by_end};
 use crate::rounds::{departure_by, fill_early_starts};
+use mintc_adjacency::Adjacency;
 use mintc_bitset::BitSet;
 use mintc_constraints::Room;
 use mintc_text::OutOfMemory;
@@ -21,8 +22,13 @@ use mintc_timing::System;
 use std::alloc::Global;
 
 /// The earliest arrival at an element, by these departures.
-fn earliest(clocked: &ClockedSystem<'_>, into: &Chains, departures: &[i64], element: usize) -> i128
-    requires into { AreChains clocked.now.system.now.pairs End.Second
+fn earliest(
+    clocked: &ClockedSystem<'_>,
+    into: &Adjacency,
+    departures: &[i64],
+    element: usize,
+) -> i128
+    requires into { ArePairsByEnd clocked.now.system.now.pairs End.Second
         (element_count clocked.now.system.now.flat) into.now }
     requires departures { AreSums clocked.now.system.now.flat departures.now }
     requires element { element < element_count clocked.now.system.now.flat }
@@ -30,20 +36,17 @@ fn earliest(clocked: &ClockedSystem<'_>, into: &Chains, departures: &[i64], elem
         result }
 {
     let mut first = NEVER;
-    let mut next = into.lasts[element];
-    while next > 0 {
-        let number = next as usize - 1;
+    for number in into.at(element) {
         let time = i128::from(arrival(clocked, departures, number));
         first = i128::min(time, first);
-        next = into.nexts[number];
     }
     first
 }
 
 /// Makes an element's departure what its earliest arrival makes it. Whether it's another one.
-fn recompute(clocked: &ClockedSystem<'_>, into: &Chains, room: &mut Room, element: usize) -> bool
+fn recompute(clocked: &ClockedSystem<'_>, into: &Adjacency, room: &mut Room, element: usize) -> bool
     requires clocked { IsClocked clocked.now.system.now clocked.now.schedule.now }
-    requires into { AreChains clocked.now.system.now.pairs End.Second
+    requires into { ArePairsByEnd clocked.now.system.now.pairs End.Second
         (element_count clocked.now.system.now.flat) into.now }
     requires departures { AreSums clocked.now.system.now.flat room.old.early }
     requires element { element < element_count clocked.now.system.now.flat }
@@ -69,8 +72,8 @@ fn recompute(clocked: &ClockedSystem<'_>, into: &Chains, room: &mut Room, elemen
 }
 
 /// Takes in each element that a pair from this one leads to.
-fn wake(system: &System, out: &Chains, stale: &mut BitSet, element: usize)
-    requires out { AreChains system.now.pairs End.First (element_count system.now.flat) out.now }
+fn wake(system: &System, out: &Adjacency, stale: &mut BitSet, element: usize)
+    requires out { ArePairsByEnd system.now.pairs End.First (element_count system.now.flat) out.now }
     requires element { element < element_count system.now.flat }
     requires places { element_count system.now.flat ≤ room stale.old.words.items }
     ensures count { length stale.new.words.items ≡ length stale.old.words.items }
@@ -78,27 +81,24 @@ fn wake(system: &System, out: &Chains, stale: &mut BitSet, element: usize)
     ensures woken { (n : ℕ) → n < length system.now.pairs → (pair_at system.now n).from ≡ element →
         IsIn stale.new.words.items (pair_at system.now n).to }
 {
-    let mut next = out.lasts[element];
-    while next > 0 {
-        let number = next as usize - 1;
+    for number in out.at(element) {
         stale.insert(system.pair(number).to as usize);
-        next = out.nexts[number];
     }
 }
 
 /// Renews an element, which is then stale only where a pair leads from it to itself. Whether it has another departure.
 fn recompute_at(
     clocked: &ClockedSystem<'_>,
-    into: &Chains,
-    out: &Chains,
+    into: &Adjacency,
+    out: &Adjacency,
     room: &mut Room,
     stale: &mut BitSet,
     element: usize,
 ) -> bool
     requires clocked { IsClocked clocked.now.system.now clocked.now.schedule.now }
-    requires into { AreChains clocked.now.system.now.pairs End.Second
+    requires into { ArePairsByEnd clocked.now.system.now.pairs End.Second
         (element_count clocked.now.system.now.flat) into.now }
-    requires out { AreChains clocked.now.system.now.pairs End.First
+    requires out { ArePairsByEnd clocked.now.system.now.pairs End.First
         (element_count clocked.now.system.now.flat) out.now }
     requires late { AreLate clocked.now.system.now clocked.now.schedule.now room.old.late }
     requires swept { AreSwept clocked.now.system.now clocked.now.schedule.now room.old.late room.old.early
@@ -124,14 +124,14 @@ fn recompute_at(
 /// Renews the stale elements, once each from the first one on. Whether any has another departure.
 fn sweep(
     clocked: &ClockedSystem<'_>,
-    into: &Chains,
-    out: &Chains,
+    into: &Adjacency,
+    out: &Adjacency,
     room: &mut Room,
     stale: &mut BitSet,
 ) -> bool
-    requires into { AreChains clocked.now.system.now.pairs End.Second
+    requires into { ArePairsByEnd clocked.now.system.now.pairs End.Second
         (element_count clocked.now.system.now.flat) into.now }
-    requires out { AreChains clocked.now.system.now.pairs End.First
+    requires out { ArePairsByEnd clocked.now.system.now.pairs End.First
         (element_count clocked.now.system.now.flat) out.now }
     requires late { AreLate clocked.now.system.now clocked.now.schedule.now room.old.late }
     requires swept { AreSwept clocked.now.system.now clocked.now.schedule.now room.old.late room.old.early
@@ -173,15 +173,15 @@ fn all_of(alloc: Global, count: usize) -> Result<BitSet, OutOfMemory>
 /// Sweeps until none is stale.
 fn rise(
     clocked: &ClockedSystem<'_>,
-    into: &Chains,
-    out: &Chains,
+    into: &Adjacency,
+    out: &Adjacency,
     room: &mut Room,
     stale: &mut BitSet,
 )
     requires clocked { IsClocked clocked.now.system.now clocked.now.schedule.now }
-    requires into { AreChains clocked.now.system.now.pairs End.Second
+    requires into { ArePairsByEnd clocked.now.system.now.pairs End.Second
         (element_count clocked.now.system.now.flat) into.now }
-    requires out { AreChains clocked.now.system.now.pairs End.First
+    requires out { ArePairsByEnd clocked.now.system.now.pairs End.First
         (element_count clocked.now.system.now.flat) out.now }
     requires late { AreLate clocked.now.system.now clocked.now.schedule.now room.old.late }
     requires swept { AreSwept clocked.now.system.now clocked.now.schedule.now room.old.late room.old.early
@@ -211,8 +211,8 @@ pub(crate) fn sweep_early(
 {
     let pairs = clocked.system.pairs();
     let count = clocked.count();
-    let into = Chains::new(alloc, pairs, End::Second, count)?;
-    let out = Chains::new(alloc, pairs, End::First, count)?;
+    let into = pairs_by_end(alloc, pairs, End::Second, count)?;
+    let out = pairs_by_end(alloc, pairs, End::First, count)?;
     let mut stale = all_of(alloc, count)?;
     fill_early_starts(clocked, room);
     rise(clocked, &into, &out, room, &mut stale);

@@ -1,3 +1,4 @@
+-- What only the proofs need:
 pub mod Joining
 pub mod Growing
 pub mod Places

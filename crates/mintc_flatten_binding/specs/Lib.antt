@@ -1,5 +1,7 @@
+-- What contracts of public calls and laws say:
 pub mod NetsOfModules
-pub mod Named
-pub mod PostOrder
 pub mod Orders
 pub mod Wired
+-- What only the proofs need:
+pub mod Named
+pub mod PostOrder

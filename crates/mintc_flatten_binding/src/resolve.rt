@@ -61,7 +61,8 @@ fn resolve(
     index: &ModuleIndex,
 ) -> Result<Vec<BindingList>, OutOfMemory>
     requires { IsIndex index.now.names index.now.numbers.items modules.now }
-    ensures { IfOk result (λ bindings. bindings.items ≡ map (bindings_in (source_of cells.now modules.now)) modules.now) }
+    ensures { IfOk result (λ bindings. bindings.items
+        ≡ map (bindings_in (source_of cells.now modules.now)) modules.now) }
 {
     let mut bindings = Vec::new(alloc);
     for module in modules {
@@ -78,7 +79,8 @@ pub fn find_bindings(
     modules: &[Module],
 ) -> Result<Vec<BindingList>, OutOfMemory>
     requires { length modules.now < 2 ^ 32 }
-    ensures { IfOk result (λ bindings. bindings.items ≡ map (bindings_in (source_of cells.now modules.now)) modules.now) }
+    ensures { IfOk result (λ bindings. bindings.items
+        ≡ map (bindings_in (source_of cells.now modules.now)) modules.now) }
 {
     let index = ModuleIndex::new(alloc, modules)?;
     resolve(alloc, cells, modules, &index)

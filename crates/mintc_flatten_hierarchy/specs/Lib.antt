@@ -1,3 +1,4 @@
+-- What contracts of public calls and laws say:
 pub mod Sources
 pub mod Faults
 pub mod Walks

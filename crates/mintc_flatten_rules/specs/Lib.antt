@@ -1,3 +1,4 @@
+-- What only the proofs need:
 pub mod Firsts
 pub mod Twice
 pub mod Lacking

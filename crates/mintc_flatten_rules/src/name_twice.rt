@@ -202,7 +202,8 @@ fn first_in_modules(
     modules: &[Module],
 ) -> Result<Option<u32>, OutOfMemory>
     requires none { names.old ≡ [] }
-    ensures { IfOk result (λ entry. entry ≡ first_at_fault is_name_twice (modules_of (source_of cells.now modules.now))) }
+    ensures { IfOk result
+        (λ entry. entry ≡ first_at_fault is_name_twice (modules_of (source_of cells.now modules.now))) }
 {
     for module in modules {
         if cells.find(module.name.bytes()).is_some() {
@@ -222,7 +223,8 @@ pub(crate) fn name_twice(
     cells: &Cells,
     modules: &[Module],
 ) -> Result<Option<u32>, OutOfMemory>
-    ensures { IfOk result (λ entry. entry ≡ first_at_fault is_name_twice (modules_of (source_of cells.now modules.now))) }
+    ensures { IfOk result
+        (λ entry. entry ≡ first_at_fault is_name_twice (modules_of (source_of cells.now modules.now))) }
 {
     first_in_modules(alloc, &mut NameSet::new(alloc), cells, modules)
 }

@@ -108,7 +108,8 @@ fn leads(
     start: u32,
 ) -> Result<bool, OutOfMemory>
     requires { bindings.now ≡ map (bindings_in (source_of cells.now modules.now)) modules.now }
-    ensures { IfOk result (λ found. found ≡ leads (source_of cells.now modules.now) (length modules.now) name.now start) }
+    ensures { IfOk result
+        (λ found. found ≡ leads (source_of cells.now modules.now) (length modules.now) name.now start) }
 {
     let mut search = Search::new(alloc, modules.len())?;
     search.visit(start)?;

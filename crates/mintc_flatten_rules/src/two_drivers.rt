@@ -109,7 +109,8 @@ impl Driven {
         module_nets: &ModuleNets<'_>,
         pieces: &[Piece],
     ) -> Result<bool, OutOfMemory>
-        ensures { IfOk result (λ again. Drives self.old self.new (places_in module_nets.now.part.now pieces.now) again) }
+        ensures { IfOk result
+            (λ again. Drives self.old self.new (places_in module_nets.now.part.now pieces.now) again) }
     {
         for number in 0..pieces.len() {
             let piece = &pieces[pieces.len() - 1 - number];
@@ -308,7 +309,8 @@ pub(crate) fn second_driver(
 ) -> Result<Option<u32>, OutOfMemory>
     requires { bindings.now ≡ map (bindings_in (source_in source.now)) source.now.modules.now }
     ensures { IfOk result
-        (λ entry. entry ≡ first_at_fault (is_second_driver (source_in source.now)) (modules_of (source_in source.now))) }
+        (λ entry. entry ≡ first_at_fault (is_second_driver (source_in source.now))
+        (modules_of (source_in source.now))) }
 {
     for (number, part) in source.modules.iter().enumerate() {
         if source.cells.find(part.name.bytes()).is_some() {

@@ -1,1 +1,2 @@
+-- What contracts of public calls and laws say:
 pub mod Rings

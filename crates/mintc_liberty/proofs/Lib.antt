@@ -4,3 +4,4 @@ mod NextLaws
 mod PlaceLaws
 mod SortLaws
 mod UsableLaws
+mod EitherLaws

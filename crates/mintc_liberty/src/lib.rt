@@ -11,6 +11,7 @@
 //! lost or added.
 #![tactic(auto)]
 
+mod laws;
 mod places;
 mod presort_keys;
 mod presort_names;
@@ -19,6 +20,7 @@ mod presorting;
 mod scanner_names;
 mod texts;
 
+pub use laws::texts_have_cells_or_faults;
 pub use presort_names::Names;
 pub use presorting::presort;
 pub use texts::read_liberty;

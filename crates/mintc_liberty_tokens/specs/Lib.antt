@@ -1,3 +1,4 @@
+-- What contracts of public calls and laws say:
 pub mod Tokens
 pub mod Statements
 pub mod Scans

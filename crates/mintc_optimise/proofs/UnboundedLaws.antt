@@ -1,7 +1,7 @@
 -- A design without bounds has a right schedule: its phases lie far apart, in a long cycle, so that all data waits for its latch
 -- to open.
-use Rattle.std.proofs.Common.{◌≡◌, ◌≢◌, ℕ, ◌<◌, ◌≤◌, ◌+◌, ◌-◌, ℤ, pos, negsuc, ◌≤ℤ◌, ◌+ℤ◌, ◌-ℤ◌, ◌*ℤ◌, Bool, true, false, cond, List, [], length, map, arith, refl, ap, ◌∙◌, sym, ⊎_elim}
-use Rattle.std.proofs.lemmas.Int.{ints, clamps}
+use Rattle.std.proofs.Common.{◌≡◌, ◌≢◌, ℕ, ◌<◌, ◌≤◌, ◌+◌, ◌-◌, ℤ, pos, negsuc, ◌≤ℤ◌, ◌<ℤ◌, ◌+ℤ◌, ◌-ℤ◌, ◌*ℤ◌, Bool, true, false, cond, List, [], length, map, arith, refl, ap, ◌∙◌, sym, ⊎_elim}
+use Rattle.std.proofs.lemmas.Int.{ints, clamps, by_lt_z}
 use Rattle.std.proofs.lemmas.Bool.{cases_lt}
 use Rattle.std.proofs.lemmas.List.FromFn.{length-map-range_with_len, get_or-map-range_with_len}
 use Rattle.mintc_timing.specs.declared.clocking.Schedule.{Schedule}
@@ -9,7 +9,7 @@ use Rattle.mintc_timing.specs.Design.{Timing, phase_count, element_count, elemen
 use Rattle.mintc_timing.specs.Clocking.{start_of, width_of, shift_of, KeepsApart, KeepsPhase, KeepsClock}
 use Rattle.mintc_timing.specs.Departures.{departure, late_arrival, late_opening, late_departure, AreExact}
 use Rattle.mintc_timing.specs.Limits.{IsPhase, IsDesign}
-use Rattle.mintc_timing.specs.Links.{links_of, node_count}
+use Rattle.mintc_timing.specs.Links.{links_of, node_count, delay_of}
 use Rattle.mintc_timing.specs.Right.{IsRight, IsHopeless, KeepsSetup}
 use Rattle.mintc_timing.specs.Violations.{phases_of, elements_of}
 use Rattle.mintc_timing.proofs.SharedDepartureLaws.{late_departure-latch, late_departure-flop}
@@ -21,7 +21,9 @@ use Rattle.mintc_timing.proofs.SharedArrivals.{latest, ArrivesBy, latest-opens, 
 use Rattle.mintc_timing.proofs.SharedByKind.{EachKind-from_all}
 use Rattle.mintc_constraints.proofs.SharedOrdinaryLaws.{least_width-range, ordinary}
 use Rattle.mintc_timing.proofs.SharedLinkLaws.{ends_of}
-use Rattle.mintc_optimise.specs.Bounded.{UnboundedHasRight, NeverNeedsABound}
+use Rattle.mintc_timing.proofs.SharedDeterminedLaws.{forbids_all_lem}
+use Rattle.mintc_timing.proofs.SharedMeetingLaws.{no_chain_forbids_right_lem}
+use Rattle.mintc_optimise.specs.Bounded.{UnboundedHasRight, NeverNeedsABound, UnboundedChainsTakeNothing}
 
 -- Phase p starts at p * 10^10 femtoseconds.
 abbrev far_start : ℕ → ℤ
@@ -192,3 +194,12 @@ unbounded_has_right_lem t limits kept none =
 
 pub never_needs_a_bound_lem : NeverNeedsABound
 never_needs_a_bound_lem t limits kept = hopeless_is_bounded t limits (ends_of t kept.extremes) (ordinary t limits kept)
+
+pub unbounded_chains_take_nothing_lem : UnboundedChainsTakeNothing
+unbounded_chains_take_nothing_lem t chain limits kept unbounded listed none =
+    let right = unbounded_has_right_lem t limits kept unbounded in
+    by_lt_z (pos 0) (delay_of chain)
+    (λ (more : pos 0 <ℤ delay_of chain).
+    absurd (no_chain_forbids_right_lem t right.0 right.1 chain limits (ends_of t kept.extremes) right.2 listed
+    (forbids_all_lem chain right.0.cycle right.0.den (record { turns = none; stuck = more }) right.2.clock.den)))
+    (λ (less : delay_of chain ≤ℤ pos 0). less)

@@ -1,3 +1,4 @@
+-- What contracts of public calls and laws say:
 pub mod Optimum
 pub mod Benches
 pub mod Making

@@ -39,7 +39,8 @@ impl Bench {
 
     /// A bench for a system's links.
     pub fn reserve(alloc: Global, system: &System) -> Result<Bench, OutOfMemory>
-        ensures { IfOk result (λ bench. bench.list ≡ constraints_of (node_count system.now.flat) (links_of system.now)) }
+        ensures { IfOk result (λ bench. bench.list
+            ≡ constraints_of (node_count system.now.flat) (links_of system.now)) }
     {
         let list = links(alloc, system)?;
         let room = Room::reserve(alloc, list.nodes() as usize, list.items().len())?;

@@ -19,6 +19,6 @@ mod times;
 
 pub use bench::Bench;
 pub use chain::member_of;
-pub use laws::{never_needs_a_bound, unbounded_has_right};
+pub use laws::{never_needs_a_bound, unbounded_chains_take_nothing, unbounded_has_right};
 pub use optimum::optimise;
 pub use times::{departures, schedule};

@@ -8,3 +8,6 @@ mod Closing
 mod GatheringLaws
 mod Ending
 mod LoopLaws
+mod LevelLaws
+mod OnceLaws
+pub mod SharedOrderLaws

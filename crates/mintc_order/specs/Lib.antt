@@ -1,7 +1,8 @@
+-- What contracts of public calls and laws say:
+pub mod Refusals
+-- What only the proofs need:
 pub mod Counts
 pub mod Gatherings
-pub mod Indexes
 pub mod Listings
 pub mod OutgoingArcs
-pub mod Refusals
 pub mod Searches

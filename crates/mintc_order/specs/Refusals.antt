@@ -1,5 +1,5 @@
 -- what a refusal for want of an order says
-use Rattle.std.specs.Prelude.{◌≡◌, ℕ, List}
+use Rattle.std.specs.Prelude.{◌≡◌, ◌⊎◌, ℕ, List}
 use Rattle.mintc_text.specs.declared.refusals.Refusal.{Refusal}
 use Rattle.mintc_text.specs.declared.refusals.Refusal.TheVariants as refusal
 use Rattle.mintc_timing.specs.declared.parts.TimingArc.{TimingArc}
@@ -14,3 +14,8 @@ NamesLoop arcs refused = (loop : List ℕ) × (refused ≡ refusal.Combinational
 -- Where arcs have an order, none of them lead round.
 abbrev pub OrdersExcludeLoops : Type 0
 OrdersExcludeLoops = (arcs : List TimingArc) (order loop : List ℕ) → IsOrder arcs order → IsArcLoop arcs loop → ⊥
+
+-- Arcs have an order, or some of them lead round and leave no bit twice.
+abbrev pub ArcsHaveOrderOrLoop : Type 0
+ArcsHaveOrderOrLoop = (arcs : List TimingArc) → ((order : List ℕ) × IsOrder arcs order)
+    ⊎ ((loop : List ℕ) × IsArcLoop arcs loop × LeavesOnce arcs loop)

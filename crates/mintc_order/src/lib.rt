@@ -4,8 +4,7 @@
 //! them and gives out each bit after all bits that its arcs enter; where it comes back to a bit of its path, the
 //! arcs since then are the loop that is refused (R. E. Tarjan, "Depth-first search and linear graph algorithms",
 //! 1972). The bits from the last one given out to the first, with the arcs that leave each, are the order. The
-//! crates above get that order, in which one pass finds the longest paths, the refusal with a loop, and `Leaving`,
-//! the arcs that leave each bit as chains.
+//! crates above get that order, in which one pass finds the longest paths, or the refusal with a loop.
 #![tactic(auto)]
 
 ghost use Rattle.std.specs.Prelude.{IfOk, IfErr};
@@ -15,13 +14,11 @@ ghost use Rattle.mintc_order.specs.Refusals.{NamesLoop};
 
 mod gathering;
 mod laws;
-mod leaving;
 mod outgoing;
 mod search;
 
 use gathering::order_from_postorder;
-pub use laws::orders_exclude_loops;
-pub use leaving::Leaving;
+pub use laws::{arcs_have_order_or_loop, orders_exclude_loops};
 use mintc_text::{Numbers, Stop};
 use mintc_timing::{Flat, Order};
 use outgoing::OutgoingArcs;

@@ -20,3 +20,5 @@ mod Plain
 mod Raising
 mod Reversing
 mod ReversedSequence
+mod SystemLaws
+mod LongLaws

@@ -29,7 +29,7 @@ module _ (AtMost : ℤ → ℤ → Type 0) (choose : ℤ → ℤ → ℤ) (choic
       (cases_eq to (arc_at arcs (get_or order k 0)).to)
 
   -- there is a best sum, or no path
-  best : (k : ℕ) → k ≤ length order → (from to : ℕ) → (x : Option ℤ) × IsBest AtMost weight arcs order k from to x
+  pub best : (k : ℕ) → k ≤ length order → (from to : ℕ) → (x : Option ℤ) × IsBest AtMost weight arcs order k from to x
   best zero few from to = ⊎_elim
       (λ (e : from ≡ to). (Some (pos 0), rw (← e) (IsBest-here AtMost choose choice weight arcs order from)))
       (λ (ne : from ≢ to). (None, IsBest-none AtMost choose choice weight arcs order from to ne))

@@ -25,7 +25,8 @@ use std::alloc::{AllocError, Global};
 pub fn sequence_of(alloc: Global, flat: &Flat, order: &Order) -> Result<ArcSequence, AllocError>
     requires { IsOrder flat.now.arcs order.now }
     ensures { IfOk result
-        (λ sequence. IsSequence (2 * length flat.now.elements + length flat.now.inner) flat.now.arcs order.now sequence) }
+        (λ sequence. IsSequence (2 * length flat.now.elements + length flat.now.inner) flat.now.arcs order.now
+        sequence) }
 {
     let rows = Rows::along(alloc, flat, order)?;
     ArcSequence::new(alloc, flat, order, rows)

@@ -40,7 +40,9 @@ mod worklist;
 pub use blocks::sequence_of;
 pub use finder::Finder;
 use found::Found;
-pub use laws::pairs_exist;
+pub use laws::{
+    accepted_designs_have_systems, ordered_designs_have_systems_or_refusals, pairs_exist,
+};
 pub use longest::bound_is_within_limit;
 use mintc_text::limits::MOST_PAIRS;
 use mintc_text::{Kind, Numbers, OutOfMemory, Refusal, Stop};

@@ -8,8 +8,7 @@ ghost use Rattle.mintc_paths_sums.specs.Placed.{row_of};
 ghost use Rattle.mintc_paths.specs.Sums.{AreRows, IsSequence};
 ghost use Rattle.mintc_paths.specs.Reversed.{reversed_bit, bit_before, flipped, reversed_arcs};
 
-use crate::rows::{ArcSequence, Rows};
-use mintc_order::Leaving;
+use crate::rows::{ArcSequence, Rows, arcs_by_row};
 use mintc_timing::{Flat, Order, TimingArc};
 use std::alloc::{AllocError, Global};
 
@@ -151,7 +150,8 @@ pub fn reversed_sequence(
     requires places { AreRows (length flat.now.elements) places.now }
     ensures { IfOk result
         (λ reversed. IsSequence (2 * length flat.now.elements + length flat.now.inner)
-        (reversed_arcs (length flat.now.elements) places.now.of_bits.items flat.now.arcs) (reverse order.now) reversed) }
+        (reversed_arcs (length flat.now.elements) places.now.of_bits.items flat.now.arcs)
+        (reverse order.now) reversed) }
 {
     let elements = flat.element_count();
     let ArcSequence {
@@ -162,7 +162,7 @@ pub fn reversed_sequence(
     drop(leaving);
     let rows = reversed_rows(alloc, rows, elements, places)?;
     reverse_arcs(&mut along);
-    let leaving = Leaving::new(alloc, &along, rows.of_bits.len())?;
+    let leaving = arcs_by_row(alloc, &along, rows.of_bits.len())?;
     Ok(ArcSequence {
         rows,
         along,

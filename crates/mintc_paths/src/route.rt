@@ -19,7 +19,8 @@ use std::alloc::{AllocError, Global};
 fn plain_sequence(alloc: Global, flat: &Flat, order: &Order) -> Result<ArcSequence, AllocError>
     requires { IsOrder flat.now.arcs order.now }
     ensures sequence { IfOk result
-        (λ sequence. IsSequence (2 * length flat.now.elements + length flat.now.inner) flat.now.arcs order.now sequence) }
+        (λ sequence. IsSequence (2 * length flat.now.elements + length flat.now.inner) flat.now.arcs order.now
+        sequence) }
     ensures own { IfOk result (λ sequence. (bit : ℕ) → bit < 2 * length flat.now.elements + length flat.now.inner →
         row_of sequence.rows.of_bits.items bit ≡ bit) }
 {

@@ -1,11 +1,12 @@
 //! The rows of the bits' sums. They stand in the order in which the arcs come to their bits, so that arcs that are
 //! carried along one after another find their sums near each other.
-ghost use Rattle.std.specs.Prelude.{◌≡◌, ◌+◌, ◌*◌, ◌<◌, ◌^◌, ℕ, length, IfOk};
+ghost use Rattle.std.specs.Prelude.{◌≡◌, ◌+◌, ◌-◌, ◌*◌, ◌<◌, ◌^◌, ℕ, length, All, IfOk};
 ghost use Rattle.mintc_timing.specs.Order.{IsOrder};
 ghost use Rattle.mintc_paths_sums.specs.Placed.{row_of};
+ghost use Rattle.mintc_paths.specs.Leaving.{AreLeaving};
 ghost use Rattle.mintc_paths.specs.Sums.{AreRows, IsSequence};
 
-use mintc_order::Leaving;
+use mintc_adjacency::Adjacency;
 use mintc_timing::{Flat, Order, TimingArc};
 use std::alloc::{AllocError, Global};
 
@@ -81,12 +82,29 @@ impl Rows {
     }
 }
 
+/// The arcs that leave each of so many rows.
+pub(crate) fn arcs_by_row(
+    alloc: Global,
+    along: &[TimingArc],
+    rows: usize,
+) -> Result<Adjacency, AllocError>
+    requires few { length along.now < 2 ^ 32 - 1 }
+    requires inside { All (λ arc. arc.from < rows) along.now }
+    ensures { IfOk result (AreLeaving along.now rows) }
+{
+    let mut leaving = Adjacency::new(alloc, rows, along.len())?;
+    for (place, arc) in along.iter().enumerate() {
+        leaving.add(place, arc.from);
+    }
+    Ok(leaving)
+}
+
 /// The arcs in their order, one after another as they are carried along, each from row to row.
 #[derive(Drop)]
 pub struct ArcSequence {
     pub rows: Rows,
     pub along: Vec<TimingArc>,
-    pub leaving: Leaving,
+    pub leaving: Adjacency,
 }
 
 impl ArcSequence {
@@ -114,7 +132,7 @@ impl ArcSequence {
             arc.to = rows.of_bits[arc.to as usize];
             along.push(arc)?;
         }
-        let leaving = Leaving::new(alloc, &along, rows.of_bits.len())?;
+        let leaving = arcs_by_row(alloc, &along, rows.of_bits.len())?;
         Ok(ArcSequence {
             rows,
             along,

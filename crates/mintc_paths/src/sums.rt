@@ -122,7 +122,8 @@ pub(crate) fn fill(
     ensures sums { OnOk result
         (AreSums of.design.arcs of.order (length of.order) first lanes
         (placed sequence.now.rows.of_bits.items sums.new)) }
-    ensures extremes { OnOk result (AreExtremes of.design first lanes (placed sequence.now.rows.of_bits.items sums.new)) }
+    ensures extremes { OnOk result
+        (AreExtremes of.design first lanes (placed sequence.now.rows.of_bits.items sums.new)) }
 {
     clear(sums, reached, awake, sequence, first, lanes)?;
     let mut place = awake.places.next(0);

@@ -22,18 +22,15 @@ pub struct Worklist {
 fn wake(places: &mut BitSet, sequence: &ArcSequence, row: usize)
     requires room { length sequence.now.along.items ≤ room places.old.words.items }
     requires row { row < length sequence.now.leaving.lasts.items }
-    requires leaving { AreLeaving sequence.now.along.items
-        (length sequence.now.leaving.lasts.items) sequence.now.leaving }
+    requires leaving { AreLeaving sequence.now.along.items (length sequence.now.leaving.lasts.items)
+        sequence.now.leaving }
     ensures count { length places.new.words.items ≡ length places.old.words.items }
     ensures kept { (place : ℕ) → IsIn places.old.words.items place → IsIn places.new.words.items place }
     ensures awake { (place : ℕ) → place < length sequence.now.along.items →
         (arc_at sequence.now.along.items place).from ≡ row → IsIn places.new.words.items place }
 {
-    let mut next = sequence.leaving.lasts[row];
-    while next > 0 {
-        let place = next as usize - 1;
+    for place in sequence.leaving.at(row) {
         places.insert(place);
-        next = sequence.leaving.nexts[place];
     }
 }
 

@@ -1,2 +1,4 @@
-pub mod Marks
+-- What contracts of public calls and laws say:
 pub mod Count
+-- What only the proofs need:
+pub mod Marks

@@ -1,3 +1,4 @@
+-- What contracts of public calls and laws say:
 pub mod Sums
 pub mod Placed
 pub mod SparseRows

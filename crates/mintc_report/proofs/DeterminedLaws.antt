@@ -19,6 +19,7 @@ use Rattle.mintc_checker.specs.Verdicts.{IsVerdict}
 use Rattle.mintc_checker.proofs.SharedFirsts.{number-range}
 use Rattle.mintc_report.specs.Answers.{IsWordOf, IsLineOfTwo, broken_words, ring_of, reach_lines, AreViolationLines}
 use Rattle.mintc_report.specs.Reports.{verdict_text_of, cycle_line, late_line, IsLateLine, chain_lines, IsReportText}
+use Rattle.mintc_report.specs.Summaries.{count_lines, IsSummaryText}
 use Rattle.mintc_report.specs.Laws.{HasDenominator, AnswersAreDetermined}
 
 -- two fractions of one value are equal
@@ -86,6 +87,14 @@ report_one t (Least s d chain) text other some a b =
     ∙ sym b.whole
 report_one t (Never chain) text other some a b = a ∙ sym b
 
+summary_one : (number : ℕ) (t : Timing) (certificate : Certificate) (text other : List ℕ) → HasDenominator certificate →
+    IsSummaryText number t certificate text → IsSummaryText number t certificate other → text ≡ other
+summary_one number t (Least s d chain) text other some a b =
+    a.whole
+    ∙ ap (λ (v : List ℕ). text_of (count_lines number t ++ cycle_line v ∷ [])) (IsWordOf-unique s.cycle s.den a.cycle_word b.cycle_word some a.is_cycle b.is_cycle)
+    ∙ sym b.whole
+summary_one number t (Never chain) text other some a b = a ∙ sym b
+
 -- the first byte of a verdict's text, and what comes after the word `invalid`
 valid_first : (n : ℕ) → verdict_text_of Valid ≡ verdict_text_of (Invalid n) → ⊥
 valid_first n e = let first : 118 ≡ 105 = ap (λ (v : List ℕ). get_or v 0 0) e in omega (arith, first)
@@ -116,5 +125,6 @@ answers_are_determined_lem = record {
       (AllZip-unique _ (λ violation lines more h g. AreViolationLines-unique t.pairs s.den violation lines more some h g) violations a.answers b.answers a.each b.each)
       ∙ sym b.whole;
   report = report_one;
+  summary = summary_one;
   verdict = verdict_one;
 }

@@ -1,3 +1,4 @@
+pub mod SharedLowestLaws
 mod AnswerLaws
 mod DeterminedLaws
 mod NamedLaws

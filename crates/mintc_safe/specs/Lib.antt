@@ -1,3 +1,4 @@
+-- What contracts of public calls and laws say:
 pub mod Hold
 pub mod Laws
 pub mod SafeText

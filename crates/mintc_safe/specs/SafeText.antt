@@ -3,7 +3,8 @@ use Rattle.std.specs.Prelude.{ℕ, List, [], ◌∷◌, ◌++◌, length, map, c
 use Rattle.mintc_text.specs.Lines.{words}
 use Rattle.mintc_timing_text.specs.Fields.{number}
 use Rattle.mintc_certificate.specs.CertificateText.{member_words}
-use Rattle.mintc_certificate.specs.Written.{count_line, schedule_lines, departure_lines}
+use Rattle.mintc_certificate.specs.Written.{departure_lines}
+use Rattle.mintc_timing_text.specs.LineForms.{count_line, schedule_lines}
 use Rattle.mintc_safe.specs.declared.members.SafeMember.{SafeMember}
 use Rattle.mintc_safe.specs.declared.members.SafeMember.TheVariants.{Plain, Hold}
 use Rattle.mintc_safe.specs.declared.certificate.SafeCertificate.{SafeCertificate}

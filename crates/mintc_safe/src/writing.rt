@@ -44,7 +44,8 @@ fn put_least(
 ) -> Result<(), OutOfMemory>
     requires schedule { IsInRange schedule.now }
     requires chain { All IsSafeCounted chain.now }
-    ensures { OnOk result (lines.new ≡ lines.old ++ text_of (safe_lines (Least schedule.now departures.now chain.now))) }
+    ensures { OnOk result (lines.new ≡ lines.old
+        ++ text_of (safe_lines (Least schedule.now departures.now chain.now))) }
 {
     lines.put(b"safe 1\nleast\n")?;
     put_schedule(lines, schedule)?;

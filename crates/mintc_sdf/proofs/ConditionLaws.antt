@@ -9,7 +9,7 @@ use Rattle.mintc_sdf_tokens.specs.Items.{Items, leaf, is_none, count, items, fro
 use Rattle.mintc_sdf_tokens.specs.Words.{is_key, is_edge}
 use Rattle.mintc_sdf.specs.Forms.{Claim, with_items, list_at, inner_def, last_def, lone_def, inner_port, last_port, port_at}
 use Rattle.mintc_sdf_tokens.specs.Reading.{word_at, inside, with_rest}
-use Rattle.mintc_sdf_tokens.specs.Conditions.{kind_of, layer_at, walked}
+use Rattle.mintc_sdf_tokens.specs.Conditions.{kind_of, condition_at, walked}
 use Rattle.mintc_sdf_tokens.proofs.SharedInsideLaws.{inside-same, word-next}
 use Rattle.mintc_sdf_tokens.proofs.SharedConditionLaws.{more_by, more-any, more-over, limited, Form, layer-word, Plain, found-none, found-inside}
 use Rattle.mintc_sdf.proofs.ShownLaws.{shown}
@@ -67,19 +67,19 @@ def-form d = record {
     leaf-is is = grind arith
 
 -- a definition that is a condition, from its keyword on
-def-word : (d : ℕ) (ts next : List Token) (l : Layer) → layer_at true ts ≡ Some (l, next) → inside (inner_def d) ts ≡ inside (λ is. limited (more_by (count is) l) (last_def d is)) next
+def-word : (d : ℕ) (ts next : List Token) (l : Layer) → condition_at true ts ≡ Some (l, next) → inside (inner_def d) ts ≡ inside (λ is. limited (more_by (count is) l) (last_def d is)) next
 unfolding fronts
 def-word d ts next l e =
     let w = layer-word true ts next l e in
     ap (inside (inner_def d)) w.1 ∙ inside-same (λ is. inner_def d (leaf w.0 is)) (λ is. limited (more_by (count is) l) (last_def d is)) next (def-kind d w.0 l w.2)
 
-pub def-found : (d : ℕ) (ts next start rest : List Token) (l : Layer) → layer_at true ts ≡ Some (l, next) → walked true (l ∷ []) None 0 next ≡ Some (start, rest) →
+pub def-found : (d : ℕ) (ts next start rest : List Token) (l : Layer) → condition_at true ts ≡ Some (l, next) → walked true (l ∷ []) None 0 next ≡ Some (start, rest) →
     (inside (inner_def d) ts ≡ shown rest (list_at (inner_def d) (items start))) × Plain true start
 def-found d ts next start rest l e f =
     let g = found-inside true (last_def d) (def_at d) (λ is. limited (more_by (count is) l) (last_def d is)) (def-form d) l next start rest (λ is. refl) f in
     (def-word d ts next l e ∙ g.0 ∙ shown-first rest (list_at (inner_def d) (items start)), g.1)
 
-pub def-found_none : (d : ℕ) (ts next : List Token) (l : Layer) → layer_at true ts ≡ Some (l, next) → walked true (l ∷ []) None 0 next ≡ None → inside (inner_def d) ts ≡ None
+pub def-found_none : (d : ℕ) (ts next : List Token) (l : Layer) → condition_at true ts ≡ Some (l, next) → walked true (l ∷ []) None 0 next ≡ None → inside (inner_def d) ts ≡ None
 def-found_none d ts next l e f =
     def-word d ts next l e ∙ found-none true (last_def d) (def_at d) (λ is. limited (more_by (count is) l) (last_def d is)) (def-form d) l next (λ is. refl) f
 
@@ -126,25 +126,25 @@ port-form = record {
   kind-is = λ k js is l e. first-with is (inner_port (leaf k js)) ∙ port-kind k l e js;
 }
 
-port-word : (ts next : List Token) (l : Layer) → layer_at false ts ≡ Some (l, next) → inside inner_port ts ≡ inside (λ is. limited (more_by (count is) l) (last_port is)) next
+port-word : (ts next : List Token) (l : Layer) → condition_at false ts ≡ Some (l, next) → inside inner_port ts ≡ inside (λ is. limited (more_by (count is) l) (last_port is)) next
 unfolding fronts
 port-word ts next l e =
     let w = layer-word false ts next l e in
     ap (inside inner_port) w.1 ∙ inside-same (λ is. inner_port (leaf w.0 is)) (λ is. limited (more_by (count is) l) (last_port is)) next (port-kind w.0 l w.2)
 
-pub port-found : (ts next start rest : List Token) (l : Layer) → layer_at false ts ≡ Some (l, next) → walked false (l ∷ []) None 0 next ≡ Some (start, rest) →
+pub port-found : (ts next start rest : List Token) (l : Layer) → condition_at false ts ≡ Some (l, next) → walked false (l ∷ []) None 0 next ≡ Some (start, rest) →
     (inside inner_port ts ≡ shown rest (port_at (items start))) × Plain false start
 port-found ts next start rest l e f =
     let g = found-inside false last_port item_at (λ is. limited (more_by (count is) l) (last_port is)) port-form l next start rest (λ is. refl) f in
     (port-word ts next l e ∙ g.0 ∙ shown-first rest (port_at (items start)), g.1)
 
-pub port-found_none : (ts next : List Token) (l : Layer) → layer_at false ts ≡ Some (l, next) → walked false (l ∷ []) None 0 next ≡ None → inside inner_port ts ≡ None
+pub port-found_none : (ts next : List Token) (l : Layer) → condition_at false ts ≡ Some (l, next) → walked false (l ∷ []) None 0 next ≡ None → inside inner_port ts ≡ None
 port-found_none ts next l e f =
     port-word ts next l e ∙ found-none false last_port item_at (λ is. limited (more_by (count is) l) (last_port is)) port-form l next (λ is. refl) f
 
 -- a word that opens no condition
-pub plain-word : (both : Bool) (ts next : List Token) (k : List ℕ) → word_at ts ≡ Some (k, next) → layer_at both ts ≡ None → kind_of both k ≡ None
-plain-word both ts next k e f = by (kind_of both k) (sym (ap (layer_at both) (word-next ts k next e)) ∙ f)
+pub plain-word : (both : Bool) (ts next : List Token) (k : List ℕ) → word_at ts ≡ Some (k, next) → condition_at both ts ≡ None → kind_of both k ≡ None
+plain-word both ts next k e f = by (kind_of both k) (sym (ap (condition_at both) (word-next ts k next e)) ∙ f)
   where
     by : (o : Option Layer) → option_map (with_rest next) o ≡ None → o ≡ None
     by None g = refl

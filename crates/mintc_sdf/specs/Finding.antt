@@ -1,4 +1,5 @@
--- What is found of claims that come one by one.
+-- What the code has found of claims, which come one by one. What they stand for is said of their list, in Texts.antt
+-- (`judged`, `reading`).
 use Rattle.std.specs.Prelude.{List, [], ◌∷◌, ◌++◌, Option, Some, None, Result, Ok, Err}
 use Rattle.mintc_text.specs.declared.refusals.Refusal.{Refusal}
 use Rattle.mintc_sdf.specs.declared.delays.Subject.{Subject}
@@ -17,7 +18,7 @@ pub record Finding : Type 0 where
 abbrev pub nothing_found : Finding
 nothing_found = record { delays = []; fault = None }
 
--- after one claim, given the fault so far and its own: nothing more is found behind a fault
+-- after one more claim, given the fault so far and its own: nothing more is found behind a fault
 abbrev pub kept : Finding → Said → Option Refusal → Option Refusal → Finding
 kept f s (Some r) o = f
 kept f s None (Some r) = record { delays = f.delays; fault = Some r }
@@ -47,11 +48,11 @@ delay_with cx subject sum = record {
   greatest = sum.greatest;
 }
 
--- what is found of all claims
+-- the delays, or the fault in their place
 abbrev pub outcome_by : List Delay → Option Refusal → Result (List Delay) Refusal
 outcome_by ds None = Ok ds
 outcome_by ds (Some r) = Err r
 
--- the delays, or the refusal of the number at fault
+-- what comes out in the end: the delays, or the refusal of the number at fault
 abbrev pub outcome : Finding → Result (List Delay) Refusal
 outcome f = outcome_by f.delays f.fault

@@ -8,7 +8,7 @@ use Rattle.mintc_sdf.specs.declared.found.Context.{Context}
 use Rattle.mintc_sdf.specs.declared.texts.State.{State}
 use Rattle.mintc_sdf_tokens.specs.Tokens.{Token}
 use Rattle.mintc_sdf_tokens.specs.Items.{Items, items, after}
-use Rattle.mintc_sdf.specs.Forms.{Claim, claim, two_ports, lone_value, Cell, settings}
+use Rattle.mintc_sdf.specs.Forms.{Claim, claim, first_port, lone_value, Cell, settings}
 use Rattle.mintc_sdf.specs.Texts.{Said, said_by, Progress, may_be_negative, entries, whole, is_end}
 use Rattle.mintc_sdf.specs.Sums.{no_numbers, added}
 use Rattle.mintc_sdf.specs.Finding.{Finding, nothing_found, keep_one, keep, said}
@@ -18,9 +18,9 @@ abbrev pub IsClaim : ℕ → Option (Claim × List Token) → Subject → Sum �
 IsClaim scale o subject sum rest = (ns : List Number) × (o ≡ Some (claim subject ns, rest))
     × (sum ≡ added scale (may_be_negative subject) no_numbers ns)
 
--- two ports and a value, which say this of the first port
+-- port port value : such a claim on the first of the two ports
 abbrev pub pin_claim : (List ℕ → Subject) → Items → Option Claim
-pin_claim s is = two_ports (λ pin rest. option_map (claim (s pin)) (lone_value rest)) is
+pin_claim s is = first_port (λ pin rest. option_map (claim (s pin)) (lone_value rest)) is
 
 -- The form gives a setup and a hold of this pin, whose numbers were taken in.
 abbrev pub IsBoth : ℕ → Option (List Claim × List Token) → List ℕ → Sum → Sum → List Token → Type 0
@@ -33,19 +33,17 @@ abbrev pub taken : Context → Finding → Option (List Claim × List Token) →
 taken cx f None = None
 taken cx f (Some r) = Some (keep f (map (said cx) r.0), r.1)
 
--- The claim that is given, with the numbers that were taken in, is kept.
-abbrev pub IsKept : Context → Finding → Finding → Option (Subject × Sum) → Type 0
-IsKept cx old new given =
-    (s : Subject) × (sum : Sum) × (given ≡ Some (s, sum))
-    × ((ns : List Number) → sum ≡ added cx.scale (may_be_negative s) no_numbers ns →
-    new ≡ keep_one old (said cx (claim s ns)))
+-- A claim is kept of this subject, with the numbers that were taken in.
+abbrev pub IsKept : Context → Finding → Finding → Subject → Sum → Type 0
+IsKept cx old new s sum =
+    (ns : List Number) → sum ≡ added cx.scale (may_be_negative s) no_numbers ns →
+    new ≡ keep_one old (said cx (claim s ns))
 
--- The setup and the hold that are given, with the numbers that were taken in, are kept.
-abbrev pub AreKept : Context → Finding → Finding → Option (List ℕ × Sum × Sum) → Type 0
-AreKept cx old new given =
-    (pin : List ℕ) × (first second : Sum) × (given ≡ Some (pin, first, second))
-    × ((ns ms : List Number) → first ≡ added cx.scale true no_numbers ns → second ≡ added cx.scale true no_numbers ms →
-    new ≡ keep_one (keep_one old (said cx (claim (subject.Setup pin) ns))) (said cx (claim (subject.Hold pin) ms)))
+-- A setup and a hold of this pin are kept, with the numbers that were taken in.
+abbrev pub AreKept : Context → Finding → Finding → List ℕ → Sum → Sum → Type 0
+AreKept cx old new pin first second =
+    (ns ms : List Number) → first ≡ added cx.scale true no_numbers ns → second ≡ added cx.scale true no_numbers ms →
+    new ≡ keep_one (keep_one old (said cx (claim (subject.Setup pin) ns))) (said cx (claim (subject.Hold pin) ms))
 
 -- a cell kept, with what is left behind it
 abbrev pub celled : ℕ → ℕ → Finding → Option (Cell × List Token) → Option (Finding × List Token)

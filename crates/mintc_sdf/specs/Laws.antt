@@ -1,7 +1,8 @@
 -- What the definitions say of one another.
 use Rattle.std.specs.Prelude.{◌≡◌, ℕ, ℤ, pos, neg_ℤ, ◌≤ℤ◌, ◌<ℤ◌, ◌+ℤ◌, ◌*ℤ◌, false, if◌then◌else◌, List, ◌∷◌, Ok, All}
-use Rattle.std.specs.Prelude.{Any}
+use Rattle.std.specs.Prelude.{Any, ◌⊎◌, Err}
 use Rattle.mintc_text.specs.declared.limits.TheConstants.{MOST_DELAY}
+use Rattle.mintc_text.specs.declared.refusals.Refusal.{Refusal}
 use Rattle.mintc_decimal.specs.Decimals.{Number, with_sign, over, under}
 use Rattle.mintc_sdf.specs.declared.delays.Subject.{Subject}
 use Rattle.mintc_sdf.specs.declared.delays.Delay.{Delay}
@@ -41,3 +42,8 @@ abbrev pub AreRounded : Type 0
 AreRounded =
     (scale : ℕ) (v : Number) (vs : List Number) → All (λ u. is_far scale u ≡ false) (v ∷ vs) →
     IsLeast scale (v ∷ vs) (least scale v vs) × IsGreatest scale (v ∷ vs) (greatest scale v vs)
+
+-- each text has delays or a refusal
+abbrev pub HaveDelaysOrRefusal : Type 0
+HaveDelaysOrRefusal = (text : List ℕ) → ((ds : List Delay) × (delays_of text ≡ Ok ds))
+    ⊎ ((r : Refusal) × (delays_of text ≡ Err r))

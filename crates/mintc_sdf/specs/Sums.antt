@@ -1,4 +1,5 @@
--- What is known of numbers that come one by one.
+-- What the code knows of the numbers of a claim, which it takes in one by one and doesn't keep. What they stand for is
+-- said of their list, in Numbers.antt (`least`, `greatest`, `number_fault`).
 use Rattle.std.specs.Prelude.{ℕ, ℤ, pos, Bool, true, false, not, ◌&&◌, if◌then◌else◌, List, [], ◌∷◌, Option, Some, None}
 use Rattle.std.specs.Int.{int_min, int_max}
 use Rattle.std.specs.Option.{option_or}
@@ -9,7 +10,7 @@ use Rattle.mintc_sdf.specs.declared.numbers.Sum.{Sum}
 use Rattle.mintc_sdf_tokens.specs.Tokens.{Token}
 use Rattle.mintc_sdf.specs.Numbers.{is_far, is_below_zero, rounded_down, rounded_up}
 
--- Whether there is any, their least and greatest, and the first fault.
+-- before the first number
 abbrev pub no_numbers : Sum
 no_numbers = record { any = false; least = pos 0; greatest = pos 0; fault = None }
 
@@ -17,7 +18,7 @@ no_numbers = record { any = false; least = pos 0; greatest = pos 0; fault = None
 abbrev pub sign_fault : Bool → Number → Option Fault
 sign_fault negative v = if is_below_zero v && not negative then Some fault.Negative else None
 
--- after one more number, given how it is rounded down and up
+-- after one more number that is near enough, given what it is rounded down and up
 abbrev pub add_near : Bool → Sum → Number → ℤ → ℤ → Sum
 add_near negative s v down up = record {
   any = true;
@@ -26,7 +27,7 @@ add_near negative s v down up = record {
   fault = option_or s.fault (sign_fault negative v);
 }
 
--- after one more number that is above 10^9 femtoseconds in absolute value
+-- after one more number that is far from 0, above 10^9 femtoseconds in absolute value
 abbrev pub add_far : Sum → Sum
 add_far s = record { any = s.any; least = s.least; greatest = s.greatest; fault = option_or s.fault (Some fault.Range) }
 

@@ -1,5 +1,6 @@
--- What a reader finds of values.
-use Rattle.std.specs.Prelude.{ℕ, suc, ◌+◌, nat_le, ◌&&◌, ◌==◌, if◌then◌else◌, List, [], ◌∷◌, Option, Some, None}
+-- What a reader finds of values, part by part; what they stand for is said in Forms.antt (`value_of`, `values_of`).
+use Rattle.std.specs.Prelude.{ℕ, ◌+◌, nat_le, ◌&&◌, ◌==◌, if◌then◌else◌, List, Option, Some, None}
+use Rattle.std.specs.List.{position_or_len}
 use Rattle.mintc_text.specs.Signs.{colon}
 use Rattle.mintc_decimal.specs.Decimals.{Number}
 use Rattle.mintc_sdf_tokens.specs.Items.{Items, none, leaf, count}
@@ -7,8 +8,7 @@ use Rattle.mintc_sdf.specs.Forms.{all_values, value_word}
 
 -- how many bytes stand before the first colon
 abbrev pub colon_size : List ℕ → ℕ
-colon_size [] = 0
-colon_size (b ∷ bs) = if b == colon then 0 else suc (colon_size bs)
+colon_size bs = position_or_len (λ b. b == colon) bs
 
 -- values, where so many stand before
 abbrev pub values_from : ℕ → Items → Option (List Number)

@@ -1,5 +1,5 @@
 //! What the definitions say of one another: each law is the contract of a function that does nothing.
-ghost use Rattle.mintc_sdf.specs.Laws.{AreRounded, AreWithin};
+ghost use Rattle.mintc_sdf.specs.Laws.{AreRounded, AreWithin, HaveDelaysOrRefusal};
 
 /// In each delay of a text the least number is at most the greatest, and both are from 0, or for a setup or a hold from
 /// -10^9, to 10^9 femtoseconds.
@@ -12,4 +12,9 @@ pub fn delays_are_within()
 #[tactic(auto, using(crate::proofs::LeastLaws::rounded))]
 pub fn numbers_are_rounded()
     ensures { AreRounded }
+{}
+
+/// Each text has delays or a refusal.
+pub fn texts_have_delays_or_refusals()
+    ensures { HaveDelaysOrRefusal }
 {}

@@ -6,7 +6,7 @@ use Rattle.mintc_sdf_tokens.specs.declared.conditions.Layer.TheVariants as layer
 use Rattle.mintc_sdf_tokens.specs.Tokens.{Token, opening, closing, word, string, bad}
 use Rattle.mintc_sdf_tokens.specs.Items.{Items, none, leaf, quoted, list, is_none, count, items, after, fronts}
 use Rattle.mintc_sdf_tokens.specs.Reading.{after_opening, after_closing, inside, inside_by, with_rest, passing}
-use Rattle.mintc_sdf_tokens.specs.Conditions.{kind_of, layer_at, more, is_over, has_over, noted, noted_if, last_if, sought, chose, walked}
+use Rattle.mintc_sdf_tokens.specs.Conditions.{kind_of, condition_at, more, is_over, has_over, noted, at_end, if_condition, walked}
 use Rattle.mintc_sdf_tokens.proofs.ItemLaws.{after-shorter, passed-list}
 use Rattle.mintc_sdf_tokens.proofs.SharedInsideLaws.{opened, unopened, inside-open, inside-none, closing-next}
 
@@ -20,7 +20,7 @@ noted-seam pre any l =
     ∙ ap (λ k. pre ++ more k ∷ []) (get_or-append_seam pre l any layer.Any)
 
 -- a keyword that opens a condition
-pub layer-word : (both : Bool) (ts rest : List Token) (l : Layer) → layer_at both ts ≡ Some (l, rest) → (k : List ℕ) × (ts ≡ word k ∷ rest) × (kind_of both k ≡ Some l)
+pub layer-word : (both : Bool) (ts rest : List Token) (l : Layer) → condition_at both ts ≡ Some (l, rest) → (k : List ℕ) × (ts ≡ word k ∷ rest) × (kind_of both k ≡ Some l)
 layer-word both (word k ∷ ts) rest l e = by (kind_of both k) refl e
   where
     by : (o : Option Layer) → kind_of both k ≡ o → option_map (with_rest ts) o ≡ Some (l, rest) → (j : List ℕ) × (word k ∷ ts ≡ word j ∷ rest) × (kind_of both j ≡ Some l)
@@ -30,12 +30,19 @@ layer-word both (word k ∷ ts) rest l e = by (kind_of both k) refl e
         (k, ap (λ (p : Layer × List Token). word k ∷ p.1) same, f ∙ ap (λ (p : Layer × List Token). Some p.0) same)
 layer-word both _ rest l e = absurd (cc)
 
+-- what the start of something changes, where it is an item and where it is none
+abbrev noted_if : Bool → ℕ → List Layer → List Layer
+noted_if b d ls = if b then noted d ls else ls
+
+abbrev last_if : Bool → List Token → Option (List Token) → Option (List Token)
+last_if b here last = if b then Some here else last
+
 -- what an opening parenthesis does
-pub step-in : (both : Bool) (ls : List Layer) (t : Option (List Token)) (d : ℕ) (l : Layer) (ts rest : List Token) → nat_lt d (length ls) ≡ true → layer_at both ts ≡ Some (l, rest) →
+pub step-in : (both : Bool) (ls : List Layer) (t : Option (List Token)) (d : ℕ) (l : Layer) (ts rest : List Token) → nat_lt d (length ls) ≡ true → condition_at both ts ≡ Some (l, rest) →
     walked both ls t d (opening ∷ ts) ≡ walked both (noted d ls ++ l ∷ []) None (suc d) rest
 step-in both ls t d l ts rest b e = let w = layer-word both ts rest l e in rw (w.1, w.2, b) refl
 
-pub step-last : (both : Bool) (ls : List Layer) (t : Option (List Token)) (d : ℕ) (ts : List Token) → nat_lt d (length ls) ≡ true → layer_at both ts ≡ None →
+pub step-last : (both : Bool) (ls : List Layer) (t : Option (List Token)) (d : ℕ) (ts : List Token) → nat_lt d (length ls) ≡ true → condition_at both ts ≡ None →
     walked both ls t d (opening ∷ ts) ≡ walked both (noted d ls) (Some (opening ∷ ts)) (suc d) ts
 step-last both ls t d (word k ∷ ts) b e = grind (arith, b, e)
 step-last both ls t d ts b e = ap (λ b. walked both (noted_if b d ls) (last_if b (opening ∷ ts) t) (suc d) ts) b
@@ -153,7 +160,7 @@ walks {A} both lst at form (suc n) pre l any t (opening ∷ ts) rest h e =
     differ : opening ∷ ts ≡ closing ∷ rest → ⊥
     differ f = cc
 
-    plain : (r : List Token) → after ts ≡ closing ∷ r → layer_at both ts ≡ None → Walks both lst at pre (more l) [] (Some (opening ∷ ts)) r rest → Walks both lst at pre l any t (opening ∷ ts) rest
+    plain : (r : List Token) → after ts ≡ closing ∷ r → condition_at both ts ≡ None → Walks both lst at pre (more l) [] (Some (opening ∷ ts)) r rest → Walks both lst at pre l any t (opening ∷ ts) rest
     plain r k f w =
         let o = opened ts r k in
         let size : length (pre ++ more l ∷ []) ≤ suc (length pre) = omega (arith, length-append pre (more l ∷ [])) in
@@ -167,7 +174,7 @@ walks {A} both lst at form (suc n) pre l any t (opening ∷ ts) rest h e =
         )
         w
 
-    inner : (r us : List Token) (m : Layer) → after ts ≡ closing ∷ r → layer_at both ts ≡ Some (m, us) → (w : Walks both lst at (pre ++ more l ∷ []) m [] None us r) →
+    inner : (r us : List Token) (m : Layer) → after ts ≡ closing ∷ r → condition_at both ts ≡ Some (m, us) → (w : Walks both lst at (pre ++ more l ∷ []) m [] None us r) →
         ((one : List Layer) (s : Option (List Token)) → Walks both lst at pre (more l) one s r rest) → Walks both lst at pre l any t (opening ∷ ts) rest
     inner r us m k f w go =
         let o = opened ts r k in
@@ -195,7 +202,7 @@ walks {A} both lst at form (suc n) pre l any t (opening ∷ ts) rest h e =
         ((p : List Layer) (m : Layer) (one : List Layer) (s : Option (List Token)) (r : List Token) → length r ≤ n → after r ≡ closing ∷ rest → Walks both lst at p m one s r rest) →
         ((p : List Layer) (m : Layer) (us r : List Token) → length us ≤ n → after us ≡ closing ∷ r → Walks both lst at p m [] None us r) →
         Walks both lst at pre l any t (opening ∷ ts) rest
-    by (closing ∷ r) k go down = kind (layer_at both ts) refl
+    by (closing ∷ r) k go down = kind (condition_at both ts) refl
       where
         size : length (after ts) ≡ suc (length r)
         size = ap length k
@@ -206,7 +213,7 @@ walks {A} both lst at form (suc n) pre l any t (opening ∷ ts) rest h e =
         end : after r ≡ closing ∷ rest
         end = sym (opened ts r k).1 ∙ e
 
-        kind : (o : Option (Layer × List Token)) → layer_at both ts ≡ o → Walks both lst at pre l any t (opening ∷ ts) rest
+        kind : (o : Option (Layer × List Token)) → condition_at both ts ≡ o → Walks both lst at pre l any t (opening ∷ ts) rest
         kind None f = plain r k f (go pre (more l) [] (Some (opening ∷ ts)) r less end)
         kind (Some p) f =
             let word = layer-word both ts p.1 p.0 f in
@@ -217,7 +224,7 @@ walks both lst at form zero pre l any t _ rest h e = absurd (omega arith)
 
 -- The walk ends at the parenthesis that closes the outermost condition, and what it finds is no condition.
 abbrev pub Plain : Bool → List Token → Type 0
-Plain both ts = (next : List Token) → after_opening ts ≡ Some next → layer_at both next ≡ None
+Plain both ts = (next : List Token) → after_opening ts ≡ Some next → condition_at both next ≡ None
 
 abbrev PlainIf : Bool → Option (List Token) → Type 0
 PlainIf both None = Unit {0}
@@ -226,7 +233,7 @@ PlainIf both (Some ts) = Plain both ts
 abbrev Passes : Bool → Option (List Token) → ℕ → List Token → Option (List Token × List Token) → List Token → List Token → Type 0
 Passes both t d ts o start rest = o ≡ Some (start, rest) → PlainIf both t → (passing d ts ≡ Some rest) × Plain both start
 
-passes-end : (both : Bool) (ls : List Layer) (t : Option (List Token)) (ts start rest : List Token) → Passes both t 0 (closing ∷ ts) (sought ls t ts) start rest
+passes-end : (both : Bool) (ls : List Layer) (t : Option (List Token)) (ts start rest : List Token) → Passes both t 0 (closing ∷ ts) (at_end ls t ts) start rest
 passes-end both ls t ts start rest = by (has_over ls) t
   where
     by : (b : Bool) (t : Option (List Token)) → (if b then None else option_map (with_rest ts) t) ≡ Some (start, rest) → PlainIf both t → (Some ts ≡ Some rest) × Plain both start
@@ -256,10 +263,10 @@ passes both ls t d (opening ∷ word k ∷ ts) start rest e p =
     here = opening ∷ word k ∷ ts
 
     plain : kind_of both k ≡ None → Plain both (opening ∷ word k ∷ ts)
-    plain f next g = let same : word k ∷ ts ≡ next = cc in ap (layer_at both) (sym same) ∙ ap (option_map (with_rest ts)) f
+    plain f next g = let same : word k ∷ ts ≡ next = cc in ap (condition_at both) (sym same) ∙ ap (option_map (with_rest ts)) f
 
     by : (b : Bool) (o : Option Layer) → kind_of both k ≡ o →
-        chose b o (λ l. walked both (noted d ls ++ l ∷ []) None (suc d) ts) (walked both (noted_if b d ls) (last_if b (opening ∷ word k ∷ ts) t) (suc d) (word k ∷ ts)) ≡ Some (start, rest) →
+        if_condition b o (λ l. walked both (noted d ls ++ l ∷ []) None (suc d) ts) (walked both (noted_if b d ls) (last_if b (opening ∷ word k ∷ ts) t) (suc d) (word k ∷ ts)) ≡ Some (start, rest) →
         ((l : Layer) → walked both (noted d ls ++ l ∷ []) None (suc d) ts ≡ Some (start, rest) → (passing (suc d) ts ≡ Some rest) × Plain both start) →
         ((b : Bool) → walked both (noted_if b d ls) (last_if b (opening ∷ word k ∷ ts) t) (suc d) (word k ∷ ts) ≡ Some (start, rest) → PlainIf both (last_if b (opening ∷ word k ∷ ts) t) → (passing (suc d) (word k ∷ ts) ≡ Some rest) × Plain both start) →
         (passing (suc d) ts ≡ Some rest) × Plain both start
@@ -267,11 +274,11 @@ passes both ls t d (opening ∷ word k ∷ ts) start rest e p =
     by true None f g inward other = other true g (plain f)
     by false o f g inward other = other false g p
 passes both ls t d (opening ∷ opening ∷ ts) start rest e p =
-    passes both _ _ (suc d) (opening ∷ ts) start rest e (passes-if both (nat_lt d (length ls)) t (opening ∷ opening ∷ ts) (λ next f. let same : opening ∷ ts ≡ next = cc in ap (layer_at both) (sym same)) p)
+    passes both _ _ (suc d) (opening ∷ ts) start rest e (passes-if both (nat_lt d (length ls)) t (opening ∷ opening ∷ ts) (λ next f. let same : opening ∷ ts ≡ next = cc in ap (condition_at both) (sym same)) p)
 passes both ls t d (opening ∷ closing ∷ ts) start rest e p =
-    passes both _ _ (suc d) (closing ∷ ts) start rest e (passes-if both (nat_lt d (length ls)) t (opening ∷ closing ∷ ts) (λ next f. let same : closing ∷ ts ≡ next = cc in ap (layer_at both) (sym same)) p)
+    passes both _ _ (suc d) (closing ∷ ts) start rest e (passes-if both (nat_lt d (length ls)) t (opening ∷ closing ∷ ts) (λ next f. let same : closing ∷ ts ≡ next = cc in ap (condition_at both) (sym same)) p)
 passes both ls t d (opening ∷ string s ∷ ts) start rest e p =
-    passes both (noted_if (nat_lt d (length ls)) d ls) _ (suc d) (string s ∷ ts) start rest e (passes-if both (nat_lt d (length ls)) t (opening ∷ string s ∷ ts) (λ next f. let same : string s ∷ ts ≡ next = cc in ap (layer_at both) (sym same)) p)
+    passes both (noted_if (nat_lt d (length ls)) d ls) _ (suc d) (string s ∷ ts) start rest e (passes-if both (nat_lt d (length ls)) t (opening ∷ string s ∷ ts) (λ next f. let same : string s ∷ ts ≡ next = cc in ap (condition_at both) (sym same)) p)
 passes both ls t d _ start rest e p = absurd (cc)
 
 -- what is found, and what nothing is found of

@@ -1,9 +1,11 @@
--- The items that tokens write: words, strings, and lists of items in parentheses. Every construct of a delay text
--- is such a list.
+-- The items that tokens write: words, strings, and lists of items in parentheses. Every construct of a delay text is
+-- such a list: (IOPATH A Y (1.5)) is a list of three words and a list, which has one word.
 use Rattle.std.specs.Prelude.{ℕ, zero, suc, Bool, true, false, List, [], ◌∷◌, ◌++◌, length}
 use Rattle.mintc_sdf_tokens.specs.Tokens.{Token, opening, closing, word, string, bad}
 
--- Nothing; or a word, a string, or a list of items, and more items.
+-- A row of items, from the first on. `none` is the row of no items; `leaf w is` begins with the word w, `quoted s is`
+-- with the string s, and `list inner is` with a list in parentheses, inside of which the row `inner` stands. In each of
+-- the three `is` is the row of the items behind the first.
 pub data Items : Type 0 where
   none : Items
   leaf : List ℕ → Items → Items
@@ -51,12 +53,13 @@ with_quoted s f = record { items = quoted s f.items; after = f.after }
 abbrev pub with_list : Items → Front → Front
 with_list inner f = record { items = list inner f.items; after = f.after }
 
--- Behind an opening parenthesis: a list, if what follows its items closes it.
+-- Behind an opening parenthesis: a list, if what follows the items inside of it closes it, and then what `go` finds
+-- behind that; else no whole item.
 abbrev pub nest : (List Token → Front) → List Token → Items → List Token → Front
 nest go ts inner (closing ∷ rest) = with_list inner (go rest)
 nest go ts inner _ = nothing (opening ∷ ts)
 
--- The number bounds the turns; as many as there are tokens are enough.
+-- The whole items at the front, found in so many turns at most; as many turns as there are tokens are enough.
 unfoldable pub fronts : ℕ → List Token → Front
 fronts zero ts = nothing ts
 fronts (suc n) [] = nothing []

@@ -1,4 +1,4 @@
--- The pieces that words are cut into.
+-- What a reader finds of the pieces that words are cut into (`pieces_from`, `unescaped_from`).
 use Rattle.std.specs.Prelude.{ℕ, suc, Bool, not, ◌&&◌, ◌==◌, if◌then◌else◌, List, [], ◌∷◌}
 use Rattle.mintc_text.specs.Signs.{backslash}
 

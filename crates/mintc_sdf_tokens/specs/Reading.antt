@@ -6,7 +6,7 @@ use Rattle.mintc_sdf_tokens.specs.declared.reader.TokenKind.TheVariants as mark
 use Rattle.mintc_sdf_tokens.specs.Tokens.{Token, opening, closing, word, string, bad}
 use Rattle.mintc_sdf_tokens.specs.Items.{Items, items, after}
 
--- what follows a parenthesis, a word or a string
+-- what follows an opening parenthesis
 abbrev pub after_opening : List Token → Option (List Token)
 after_opening (opening ∷ ts) = Some ts
 after_opening _ = None
@@ -50,7 +50,7 @@ stepped (word w ∷ ts) = (mark.Word, ts)
 stepped (string s ∷ ts) = (mark.Quote, ts)
 stepped (bad ∷ ts) = (mark.End, bad ∷ ts)
 
--- what is left behind the parenthesis that closes a list, where so many more are open inside of it
+-- what is left behind the parenthesis that closes a list, where so many more lists are open inside of it
 abbrev pub passing : ℕ → List Token → Option (List Token)
 passing d [] = None
 passing d (opening ∷ ts) = passing (suc d) ts
@@ -60,15 +60,16 @@ passing d (word w ∷ ts) = passing d ts
 passing d (string s ∷ ts) = passing d ts
 passing d (bad ∷ ts) = None
 
--- what a form gives of the items of the list that is open, and what is left behind it; None of a list that isn't closed
+-- something, with the tokens that are left behind it
 abbrev pub with_rest : {A : Type 0} → List Token → A → A × List Token
 with_rest rest a = (a, rest)
 
--- the same, given the items of the list and the tokens behind them
+-- What a form gives of the items of a list, and what is left behind the list, given the tokens behind the items; None
+-- of a list that isn't closed.
 abbrev pub inside_by : {A : Type 0} → (Items → Option A) → Items → List Token → Option (A × List Token)
 inside_by f is (closing ∷ rest) = option_map (with_rest rest) (f is)
 inside_by f is _ = None
 
--- what a form gives of the list that is open
+-- what a form gives of the items of the list that is open, and what is left behind it; None of a list that isn't closed
 abbrev pub inside : {A : Type 0} → (Items → Option A) → List Token → Option (A × List Token)
 inside f ts = inside_by f (items ts) (after ts)

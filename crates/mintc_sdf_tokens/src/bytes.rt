@@ -24,11 +24,11 @@ pub(crate) fn word_size(bytes: &[u8]) -> usize
     ensures within { result ≤ length bytes.now }
 {
     let mut kept = false;
-    for at in 0..bytes.len() {
-        if !goes_on(bytes[at], kept) {
+    for (at, byte) in bytes.iter().enumerate() {
+        if !goes_on(*byte, kept) {
             return at;
         }
-        kept = keeps(bytes[at], kept);
+        kept = keeps(*byte, kept);
     }
     bytes.len()
 }

@@ -1,9 +1,9 @@
-//! Conditions: the item that a COND or a CONDELSE speaks of, through conditions in one another. One walk over the
+//! Conditions: the item of a COND or a CONDELSE that counts, through conditions in one another. One walk over the
 //! tokens finds it, whatever stands in the conditions before it.
 ghost use Rattle.std.specs.Prelude.{◌≡◌, ◌<◌, ◌≤◌, ◌+◌, ◌++◌, ◌∷◌, [], List, Option, Some, None, IfSome, IfNone, IfOk};
 ghost use Rattle.std.specs.Prelude.{OnOk, length, vec_len};
 ghost use Rattle.mintc_sdf_tokens.specs.Tokens.{Token, opening};
-ghost use Rattle.mintc_sdf_tokens.specs.Conditions.{kind_of, layer_at, more, has_over, noted, sought, walked};
+ghost use Rattle.mintc_sdf_tokens.specs.Conditions.{kind_of, condition_at, more, has_over, noted, walked};
 
 use crate::reader::{Reader, TokenKind};
 use crate::words::is_key;
@@ -49,18 +49,13 @@ fn kind_of(key: &[u8], both: bool) -> Option<Layer>
 
 /// Passes the keyword of a condition, if it comes next.
 pub fn condition(reader: &mut Reader, both: bool) -> Option<Layer>
-    ensures none { IfNone result ((layer_at both reader.old ≡ None) × (reader.new ≡ reader.old)) }
-    ensures some { IfSome result (λ l. layer_at both reader.old ≡ Some (l, reader.new)) }
+    ensures none { IfNone result ((condition_at both reader.old ≡ None) × (reader.new ≡ reader.old)) }
+    ensures some { IfSome result (λ l. condition_at both reader.old ≡ Some (l, reader.new)) }
 {
     let mut next = reader.copy();
-    let Some(key) = next.word() else {
-        return None;
-    };
-    let kind = kind_of(key, both);
-    if kind.is_some() {
-        *reader = next;
-    }
-    kind
+    let kind = kind_of(next.word()?, both)?;
+    *reader = next;
+    Some(kind)
 }
 
 /// Adds a condition.
@@ -110,17 +105,11 @@ fn begin<'a>(
 fn has_over(layers: &[Layer]) -> bool
     ensures { result ≡ has_over layers.now }
 {
-    for layer in layers {
-        if *layer == Layer::Over {
-            return true;
-        }
-    }
-    false
+    layers.iter().any(|layer| *layer == Layer::Over)
 }
 
 /// Passes what is left of a condition that is open, and the parenthesis that closes it, and gives a reader of the
-/// item that it speaks of, which is no condition. None where there is no such item, and of a condition that isn't
-/// closed.
+/// item that counts, which is no condition. None where no item counts, and of a condition that isn't closed.
 pub fn innermost<'a>(
     reader: &mut Reader<'a>,
     alloc: Global,
@@ -128,7 +117,8 @@ pub fn innermost<'a>(
     both: bool,
 ) -> Result<Option<Reader<'a>>, OutOfMemory>
     ensures none { IfOk result (λ o. IfNone o (walked both (outer ∷ []) None 0 reader.old ≡ None)) }
-    ensures some { IfOk result (λ o. IfSome o (λ r. walked both (outer ∷ []) None 0 reader.old ≡ Some (r, reader.new))) }
+    ensures some { IfOk result
+        (λ o. IfSome o (λ r. walked both (outer ∷ []) None 0 reader.old ≡ Some (r, reader.new))) }
 {
     let most = reader.bytes_left();
     let mut layers = Vec::new(alloc);
@@ -144,12 +134,10 @@ pub fn innermost<'a>(
                 }
                 depth += 1;
             }
-            TokenKind::Close => {
-                if depth == 0 {
-                    return Ok(if has_over(&layers) { None } else { last });
-                }
-                depth -= 1;
+            TokenKind::Close if depth == 0 => {
+                return Ok(if has_over(&layers) { None } else { last });
             }
+            TokenKind::Close => depth -= 1,
             TokenKind::Word | TokenKind::Quote => {
                 if depth < layers.len() {
                     note(&mut layers, depth)?;

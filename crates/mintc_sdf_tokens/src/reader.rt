@@ -81,13 +81,11 @@ impl<'a> Reader<'a> {
         ensures { MatchBool result (after_opening self.old ≡ Some self.new) ((after_opening self.old ≡ None)
             × (self.new ≡ self.old)) }
     {
-        match self.mark() {
-            TokenKind::Open => {
-                self.at = skip_trivia(self.text, self.at + 1, self.last);
-                true
-            }
-            _ => false,
-        }
+        let TokenKind::Open = self.mark() else {
+            return false;
+        };
+        self.at = skip_trivia(self.text, self.at + 1, self.last);
+        true
     }
 
     /// Passes a closing parenthesis, if it comes next.
@@ -95,13 +93,11 @@ impl<'a> Reader<'a> {
         ensures { MatchBool result (after_closing self.old ≡ Some self.new) ((after_closing self.old ≡ None)
             × (self.new ≡ self.old)) }
     {
-        match self.mark() {
-            TokenKind::Close => {
-                self.at = skip_trivia(self.text, self.at + 1, self.last);
-                true
-            }
-            _ => false,
-        }
+        let TokenKind::Close = self.mark() else {
+            return false;
+        };
+        self.at = skip_trivia(self.text, self.at + 1, self.last);
+        true
     }
 
     /// Passes a word, if it comes next.
@@ -110,15 +106,13 @@ impl<'a> Reader<'a> {
         ensures some { IfSome result (λ w. word_at self.old ≡ Some (w.now, self.new)) }
         ensures full { IfSome result (λ w. 0 < length w.now) }
     {
-        match self.mark() {
-            TokenKind::Word => {
-                let rest = rest_from(self.text, self.at);
-                let size = word_size(rest);
-                self.at = skip_trivia(self.text, self.at + size, self.last);
-                Some(&rest[..size])
-            }
-            _ => None,
-        }
+        let TokenKind::Word = self.mark() else {
+            return None;
+        };
+        let rest = rest_from(self.text, self.at);
+        let size = word_size(rest);
+        self.at = skip_trivia(self.text, self.at + size, self.last);
+        Some(&rest[..size])
     }
 
     /// Passes a string, if it comes next.
@@ -126,19 +120,13 @@ impl<'a> Reader<'a> {
         ensures none { IfNone result ((string_at self.old ≡ None) × (self.new ≡ self.old)) }
         ensures some { IfSome result (λ s. string_at self.old ≡ Some (s.now, self.new)) }
     {
-        match self.mark() {
-            TokenKind::Quote => {
-                let rest = rest_from(self.text, self.at + 1);
-                match string_size(rest) {
-                    Some(size) => {
-                        self.at = skip_trivia(self.text, self.at + (size + 2), self.last);
-                        Some(&rest[..size])
-                    }
-                    None => None,
-                }
-            }
-            _ => None,
-        }
+        let TokenKind::Quote = self.mark() else {
+            return None;
+        };
+        let rest = rest_from(self.text, self.at + 1);
+        let size = string_size(rest)?;
+        self.at = skip_trivia(self.text, self.at + (size + 2), self.last);
+        Some(&rest[..size])
     }
 
     /// Passes one token and gives its mark. At the end, and at a string that isn't closed, nothing is passed.
@@ -146,24 +134,16 @@ impl<'a> Reader<'a> {
         ensures kind { result ≡ (stepped self.old).0 }
         ensures rest { self.new ≡ (stepped self.old).1 }
     {
-        match self.mark() {
-            TokenKind::Open => {
-                self.open();
-                TokenKind::Open
-            }
-            TokenKind::Close => {
-                self.close();
-                TokenKind::Close
-            }
-            TokenKind::Word => {
-                self.word();
-                TokenKind::Word
-            }
-            TokenKind::Quote => match self.string() {
-                Some(_) => TokenKind::Quote,
-                None => TokenKind::End,
-            },
-            TokenKind::End => TokenKind::End,
+        if self.open() {
+            TokenKind::Open
+        } else if self.close() {
+            TokenKind::Close
+        } else if self.word().is_some() {
+            TokenKind::Word
+        } else if self.string().is_some() {
+            TokenKind::Quote
+        } else {
+            TokenKind::End
         }
     }
 
@@ -178,12 +158,8 @@ impl<'a> Reader<'a> {
         loop {
             match self.step() {
                 TokenKind::Open => depth += 1,
-                TokenKind::Close => {
-                    if depth == 0 {
-                        return true;
-                    }
-                    depth -= 1;
-                }
+                TokenKind::Close if depth == 0 => return true,
+                TokenKind::Close => depth -= 1,
                 TokenKind::Word | TokenKind::Quote => {}
                 TokenKind::End => return false,
             }

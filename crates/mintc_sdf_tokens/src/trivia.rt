@@ -12,10 +12,7 @@ fn passed_at_slash(text: &[u8], at: usize, last: usize) -> usize
     requires last { EndsBefore text.now last }
     ensures { result ≡ passed_by (slash_piece (drop at text.now)).token (slash_piece (drop at text.now)).size }
 {
-    match comment_size(text, at, last) {
-        Some(size) => size,
-        None => 0,
-    }
+    comment_size(text, at, last).unwrap_or(0)
 }
 
 /// How many bytes are passed over at a place: 0 where a token begins.

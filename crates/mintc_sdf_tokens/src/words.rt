@@ -76,10 +76,7 @@ pub fn product(times: Option<u64>, unit: Option<u64>) -> Option<u64>
     ensures value { result ≡ product times unit }
     ensures most { IfSome result (λ n. (1 ≤ n) × (n ≤ 10 ^ 11)) }
 {
-    match (times, unit) {
-        (Some(times), Some(unit)) => Some(times * unit),
-        _ => None,
-    }
+    Some(times? * unit?)
 }
 
 /// A time in femtoseconds, of a number and a unit in one word.
@@ -127,17 +124,17 @@ fn piece_size(word: &[u8], divider: u8) -> usize
     ensures within { result ≤ length word.now }
 {
     let mut kept = false;
-    for at in 0..word.len() {
-        if cuts(word[at], kept, divider) {
+    for (at, byte) in word.iter().enumerate() {
+        if cuts(*byte, kept, divider) {
             return at;
         }
-        kept = keeps(word[at], kept);
+        kept = keeps(*byte, kept);
     }
     word.len()
 }
 
 /// Adds a name.
-pub fn push_name(out: &mut Vec<Name>, name: Name) -> Result<(), OutOfMemory>
+fn push_name(out: &mut Vec<Name>, name: Name) -> Result<(), OutOfMemory>
     ensures { OnOk result (out.new.items ≡ out.old.items ++ name ∷ []) }
 {
     Ok(out.push(name)?)

@@ -2,7 +2,7 @@
 use Rattle.std.specs.Prelude.{ℕ, ℤ, List, [], ◌∷◌, ◌++◌, map, codes}
 use Rattle.std.specs.List.{zip}
 use Rattle.mintc_text.specs.Lines.{words, numeral_of, fraction_word}
-use Rattle.mintc_fraction.specs.Ratio.{Ratio}
+use Rattle.mintc_fraction.specs.Ratio.{Ratio, IsLowest}
 use Rattle.mintc_timing.specs.declared.parts.Pair.{Pair}
 use Rattle.mintc_timing.specs.Design.{Design, Timing, element_at}
 use Rattle.mintc_slack.specs.declared.finding.Slacks.{Slacks}
@@ -18,3 +18,8 @@ abbrev pub slack_lines : Timing → Slacks → List (List ℕ)
 slack_lines t (Least cycle extra) = words (codes "cycle" ∷ fraction_word cycle.num cycle.den ∷ []) ∷
     map (slack_line t.flat) (zip t.pairs extra)
 slack_lines t Never = codes "never" ∷ []
+
+-- The cycle, where there is one, is in lowest terms.
+abbrev pub HasLowestCycle : Slacks → Type 0
+HasLowestCycle (Least cycle extra) = IsLowest cycle
+HasLowestCycle Never = Unit {0}

@@ -38,6 +38,7 @@ fn shorten(gap: ReducedCost, distances: &mut Vec<i64>) -> bool
 }
 
 /// Shortens the distance of a gap's end, and puts the end among the nodes that are ahead, where it did.
+#[inline(always)]
 fn pass(gap: ReducedCost, distances: &mut Vec<i64>, ahead: &mut Ahead) -> Result<(), OutOfMemory>
     requires inside { IsInside (length distances.old.items) gap }
     requires range { AreInRange distances.old.items }

@@ -4,7 +4,7 @@ ghost use Rattle.std.specs.List.{zip};
 ghost use Rattle.mintc_text.specs.Lines.{ended, numeral_of, text_of, words};
 ghost use Rattle.mintc_timing.specs.Design.{pair_at};
 ghost use Rattle.mintc_slack.specs.Answers.{AreOfPairs};
-ghost use Rattle.mintc_slack.specs.SlackText.{slack_line, slack_lines};
+ghost use Rattle.mintc_slack.specs.SlackText.{HasLowestCycle, slack_line, slack_lines};
 
 use crate::Slacks;
 use mintc_text::{Lines, OutOfMemory};
@@ -62,9 +62,10 @@ fn put_pairs(lines: &mut Lines, system: &System, extra: &[i64]) -> Result<(), Ou
     Ok(())
 }
 
-/// The text of slacks: the least cycle, and a line for each pair; or `never`.
+/// The text of slacks: the least cycle, a fraction in lowest terms, and a line for each pair; or `never`.
 pub fn slack_text(alloc: Global, system: &System, slacks: &Slacks) -> Result<Vec<u8>, OutOfMemory>
-    requires { AreOfPairs system.now slacks.now }
+    requires pairs { AreOfPairs system.now slacks.now }
+    requires lowest { HasLowestCycle slacks.now }
     ensures { IfOk result (λ text. text.items ≡ text_of (slack_lines system.now slacks.now)) }
 {
     let mut lines = Lines::new(alloc);

@@ -6,7 +6,7 @@ pub const MOST_BYTES: usize = 67_108_864;
 /// Phases of a design, which has one at least.
 pub const MOST_PHASES: usize = 8;
 
-/// Latches and flops of a design.
+/// Latches, flops and listed ports of a design.
 pub const MOST_ELEMENTS: usize = 2_000;
 
 /// Bits of a design that are no input and no output of an element.

@@ -84,10 +84,10 @@ module _ (t : Timing) (s : Schedule) (d : List ℤ) (limits : IsDesign t.flat) (
       go false latch =
           let p = phase_at l h in
           let k = opens l h latch in
-          rw (node_time-start t s d (phase_of t.flat l) p, node_time-element t s d l, element_time-latch l latch, latch) (omega (arith, ints))
+          rw (node_time-start t s d (phase_of t.flat l) p, node_time-element t s d l h, element_time-latch l latch, latch) (omega (arith, ints))
       go true flop =
           let p = phase_at l h in
-          rw (node_time-start t s d (phase_of t.flat l) p, node_time-element t s d l, element_time-flop l flop, flop, neg-times (element_at t.flat l).setup s.den) (omega (arith, ints))
+          rw (node_time-start t s d (phase_of t.flat l) p, node_time-element t s d l h, element_time-flop l flop, flop, neg-times (element_at t.flat l).setup s.den) (omega (arith, ints))
 
   pub meets-setup : (l : ℕ) → l < element_count t.flat → Meets t.flat s d (setup_link t.flat l)
   meets-setup l h = go (element_at t.flat l).flop refl
@@ -96,10 +96,10 @@ module _ (t : Timing) (s : Schedule) (d : List ℤ) (limits : IsDesign t.flat) (
       go false latch =
           let p = phase_at l h in
           let k = (KeepsSetup-latch t s d l latch).0 (right.setup l h) in
-          rw (node_time-element t s d l, element_time-latch l latch, latch, node_time-end t s d (phase_of t.flat l) p) (omega (arith, ints, clamps))
+          rw (node_time-element t s d l h, element_time-latch l latch, latch, node_time-end t s d (phase_of t.flat l) p) (omega (arith, ints, clamps))
       go true flop =
           let p = phase_at l h in
-          rw (node_time-element t s d l, element_time-flop l flop, flop, node_time-start t s d (phase_of t.flat l) p) (omega (arith, ints))
+          rw (node_time-element t s d l h, element_time-flop l flop, flop, node_time-start t s d (phase_of t.flat l) p) (omega (arith, ints))
 
   node_time-point : (x : Point) → IsPoint (phase_count t.flat) x → node_time t.flat s d (point_node x) ≡ time_of s x
   node_time-point point.Origin h = refl
@@ -115,14 +115,14 @@ module _ (t : Timing) (s : Schedule) (d : List ℤ) (limits : IsDesign t.flat) (
 
 module _ (t : Timing) (s : Schedule) (d : List ℤ) (limits : IsDesign t.flat) (ends : HasEnds t) (right : IsRight t s d) where
   -- the moments of a latch, of a flop, and of outputs
-  pub moment-latch : (l : ℕ) → (element_at t.flat l).flop ≡ false → node_time t.flat s d (element_node t.flat l) ≡ start_of s (phase_of t.flat l) +ℤ departure d l
-  moment-latch l latch = node_time-element t s d l ∙ element_time-latch t s d limits right l latch
+  pub moment-latch : (l : ℕ) → l < element_count t.flat → (element_at t.flat l).flop ≡ false → node_time t.flat s d (element_node t.flat l) ≡ start_of s (phase_of t.flat l) +ℤ departure d l
+  moment-latch l h latch = node_time-element t s d l h ∙ element_time-latch t s d limits right l latch
 
-  moment-flop : (l : ℕ) → (element_at t.flat l).flop ≡ true → node_time t.flat s d (element_node t.flat l) ≡ start_of s (phase_of t.flat l) -ℤ (element_at t.flat l).setup *ℤ s.den
-  moment-flop l flop = node_time-element t s d l ∙ element_time-flop t s d limits right l flop
+  moment-flop : (l : ℕ) → l < element_count t.flat → (element_at t.flat l).flop ≡ true → node_time t.flat s d (element_node t.flat l) ≡ start_of s (phase_of t.flat l) -ℤ (element_at t.flat l).setup *ℤ s.den
+  moment-flop l h flop = node_time-element t s d l h ∙ element_time-flop t s d limits right l flop
 
   output_is : (j : ℕ) → j < element_count t.flat → (b : Bool) → (element_at t.flat j).flop ≡ b → node_time t.flat s d (output_node t.flat j) ≡ start_of s (phase_of t.flat j) +ℤ departure d j
-  output_is j h false latch = ap (λ (b : Bool). node_time t.flat s d (cond b (start_node (phase_of t.flat j)) (element_node t.flat j))) latch ∙ moment-latch j latch
+  output_is j h false latch = ap (λ (b : Bool). node_time t.flat s d (cond b (start_node (phase_of t.flat j)) (element_node t.flat j))) latch ∙ moment-latch j h latch
   output_is j h true flop =
       let zero : departure d j ≡ pos 0 = right.exact.each j h ∙ late_departure-flop t s d j flop in
       let start = node_time-start t s d (phase_of t.flat j) (phase_at t s d limits right j h) in
@@ -136,11 +136,11 @@ module _ (t : Timing) (s : Schedule) (d : List ℤ) (limits : IsDesign t.flat) (
       (late_arrival t.flat s d (pair_at t n) +ℤ start_of s (phase_of t.flat l)) ≤ℤ node_time t.flat s d (element_node t.flat l)
   arrives l h n below to false latch =
       let is = departs l h latch in
-      let node = moment-latch l latch in
+      let node = moment-latch l h latch in
       let bound = latest-arrives t s d l n below to in
       omega (arith, ints)
   arrives l h n below to true flop =
-      let node = moment-flop l flop in
+      let node = moment-flop l h flop in
       let kept = rw flop at (right.setup l h) in
       let before = each-from_greatest t s d l (λ a. (a +ℤ (element_at t.flat l).setup *ℤ s.den) ≤ℤ pos 0) (λ a b less g. omega (arith, ints)) kept n below to in
       omega (arith, ints)

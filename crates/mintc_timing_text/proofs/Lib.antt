@@ -13,3 +13,12 @@ mod TableOne
 mod TablePlain
 mod ScheduleSpelling
 mod TableSpelling
+pub mod SharedDeciding
+pub mod SharedEachText
+pub mod SharedFormDeciding
+mod ScheduleEach
+mod TableDeciding
+mod TableEach
+pub mod SharedScheduleWritten
+mod ScheduleLines
+mod TableForms

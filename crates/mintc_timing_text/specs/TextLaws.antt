@@ -1,11 +1,16 @@
 -- What the definitions of these texts say of one another.
-use Rattle.std.specs.Prelude.{◌≡◌, ◌++◌, ℕ, List, Contains}
+use Rattle.std.specs.Prelude.{◌≡◌, ◌⊎◌, ◌↔◌, ◌++◌, ℕ, List, Contains, None}
 use Rattle.mintc_text.specs.Signs.{line_feed}
-use Rattle.mintc_text.specs.Lines.{ended}
+use Rattle.mintc_text.specs.Lines.{ended, text_of}
 use Rattle.mintc_timing.specs.declared.clocking.Schedule.{Schedule}
+use Rattle.mintc_text.specs.declared.refusals.Refusal.{Refusal}
 use Rattle.mintc_timing.specs.Design.{Design}
+use Rattle.mintc_timing.specs.Limits.{IsInRange, limit_of}
+use Rattle.mintc_timing_text.specs.declared.table_lines.Version.{Version}
+use Rattle.mintc_timing_text.specs.LineForms.{schedule_text_lines}
+use Rattle.mintc_timing_text.specs.TableForms.{AreTableLines}
 use Rattle.mintc_timing_text.specs.Texts.{IsScheduleText, IsScheduleFault}
-use Rattle.mintc_timing_text.specs.TableText.{IsTableText, IsTableFault}
+use Rattle.mintc_timing_text.specs.TableText.{IsTableText, IsTableFault, IsTableRefusal}
 
 -- A text is that of at most one schedule.
 abbrev pub HaveOneSchedule : Type 0
@@ -39,3 +44,22 @@ HaveOneScheduleText = (a b : List ℕ) (s : Schedule) → IsScheduleText a s →
 abbrev pub HaveOneTableText : Type 0
 HaveOneTableText = (line x y : List ℕ) (d : Design) → (Contains line line_feed → ⊥) → IsTableText (ended line ++ x) d →
     IsTableText (ended line ++ y) d → x ≡ y
+
+-- Each text is a schedule's, or has a first line out of form.
+abbrev pub HaveScheduleOrFault : Type 0
+HaveScheduleOrFault = (text : List ℕ) → ((s : Schedule) × IsScheduleText text s) ⊎ ((n : ℕ) × IsScheduleFault text n)
+
+-- Each text is that of a design within the limits, or is refused.
+abbrev pub HaveDesignOrRefusal : Type 0
+HaveDesignOrRefusal = (text : List ℕ) → ((d : Design) × IsTableText text d × (limit_of d ≡ None))
+    ⊎ ((r : Refusal) × IsTableRefusal text r)
+
+-- A text is that of a schedule exactly where it has the schedule's lines, and the schedule's numbers are in range.
+abbrev pub ScheduleTextsAreTheirLines : Type 0
+ScheduleTextsAreTheirLines = (text : List ℕ) (s : Schedule) → IsScheduleText text s ↔ (IsInRange s
+    × (text ≡ text_of (schedule_text_lines s)))
+
+-- A text is that of a design exactly where it has the lines of the design's table in some version.
+abbrev pub TableTextsAreTheirLines : Type 0
+TableTextsAreTheirLines = (text : List ℕ) (d : Design) → IsTableText text d ↔ ((v : Version)
+    × (lines : List (List ℕ)) × AreTableLines v d lines × (text ≡ text_of lines))

@@ -15,4 +15,8 @@ pub use fields::Fields;
 pub use reader::Reader;
 pub use schedule_text::{read_schedule, schedule_lines};
 pub use table_text::read_table;
-pub use text_laws::{schedule_texts_are_plain, table_texts_are_plain, texts_are_canonical};
+pub use text_laws::{
+    schedule_texts_are_plain, schedule_texts_are_their_lines, table_texts_are_plain,
+    table_texts_are_their_lines, texts_are_canonical, texts_have_designs_or_refusals,
+    texts_have_schedules_or_faults,
+};

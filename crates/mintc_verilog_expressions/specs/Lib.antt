@@ -1,3 +1,4 @@
+-- What contracts of public calls and laws say:
 pub mod Lexemes
 pub mod Expressions
 pub mod Left

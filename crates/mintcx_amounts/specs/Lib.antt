@@ -1,3 +1,4 @@
+-- What contracts of public calls and laws say:
 pub mod Units
 pub mod Decimals
 pub mod Amounts

@@ -2,5 +2,5 @@ use Rattle.std.proofs.Common.{arith}
 use Rattle.std.proofs.lemmas.Grind.{common_steps}
 use Rattle.mintc_annotate.proofs.annotating.phase_names.Goals as goal
 
-pub loop-number-preserved : goal.loop-number-preserved
-loop-number-preserved c = grind (arith, common_steps)
+pub loop-phase-preserved : goal.loop-phase-preserved
+loop-phase-preserved c = grind (arith, common_steps)

@@ -3,5 +3,5 @@ use Rattle.mintc_annotate_delays.specs.Ranges.{look}
 use Rattle.mintc_annotate.specs.Made.{join_arc}
 use Rattle.mintc_annotate.proofs.arcs.push_joins.Given as goal
 
-abbrev pub invariant-loop-number : goal.invariant-loop-number
-invariant-loop-number l = l.found.items ≡ l.initial.found.items ++ map (join_arc (look l.ranges) l.elements) (take l.number l.joins)
+abbrev pub invariant-loop-join : goal.invariant-loop-join
+invariant-loop-join l = l.found.items ≡ l.initial.found.items ++ map (join_arc (look l.ranges) l.elements) (take l.join-index l.joins)

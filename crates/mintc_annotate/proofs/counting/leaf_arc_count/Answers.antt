@@ -8,16 +8,16 @@ use Rattle.mintc_annotate.specs.Counts.{arc_count}
 use Rattle.mintc_annotate.proofs.BuildLaws.{sum_more}
 use Rattle.mintc_annotate.proofs.counting.leaf_arc_count.Goals as goal
 
-pub loop-number-preserved : goal.loop-number-preserved
-loop-number-preserved c =
-    let within : c.loop-number.number < length c.args.hierarchy.now.leaves = omega (arith, c.loop-number-test.true, ap length c.items-leaves.ensures) in
-    let at = get_or_default c.args.hierarchy.now.leaves c.loop-number.number no_leaf c.index-leaves-number.result within ∙ ap (λ ls. slice_index_or ls c.loop-number.number c.index-leaves-number.result) (sym c.items-leaves.ensures) in
-    let same : arc_count (leaf_cell c.args.hierarchy.now c.args.cells.now c.loop-number.number) ≡ c.arc_count-total.result =
+pub loop-leaf-preserved : goal.loop-leaf-preserved
+loop-leaf-preserved c =
+    let within : c.loop-leaf.leaf-index < length c.args.hierarchy.now.leaves = omega (arith, c.loop-leaf-test.true, ap length c.items-leaves.ensures) in
+    let at = get_or_default c.args.hierarchy.now.leaves c.loop-leaf.leaf-index no_leaf c.leaf-item.result within ∙ ap (λ ls. slice_index_or ls c.loop-leaf.leaf-index c.leaf-item.result) (sym c.items-leaves.ensures) ∙ sym c.leaf-item.is in
+    let same : arc_count (leaf_cell c.args.hierarchy.now c.args.cells.now c.loop-leaf.leaf-index) ≡ c.arc_count-total.result =
     ap (λ (x : Leaf). arc_count (cell_at c.args.cells.now x.cell)) at ∙ ap arc_count (sym c.cell.ensures) ∙ sym c.arc_count-total.ensures.value in
     let small = c.arc_count-total.ensures.small in
-    let few = c.loop-number.invariant.1 in (
-      ap (λ (n : ℕ). n + c.arc_count-total.result) c.loop-number.invariant.0
-          ∙ ap (λ (n : ℕ). sum_by (λ k. arc_count (leaf_cell c.args.hierarchy.now c.args.cells.now k)) (range_with_len 0 c.loop-number.number) + n) (sym same)
-          ∙ sym (sum_more (λ k. arc_count (leaf_cell c.args.hierarchy.now c.args.cells.now k)) c.loop-number.number),
+    let few = c.loop-leaf.invariant.1 in (
+      ap (λ (n : ℕ). n + c.arc_count-total.result) c.loop-leaf.invariant.0
+          ∙ ap (λ (n : ℕ). sum_by (λ k. arc_count (leaf_cell c.args.hierarchy.now c.args.cells.now k)) (range_with_len 0 c.loop-leaf.leaf-index) + n) (sym same)
+          ∙ sym (sum_more (λ k. arc_count (leaf_cell c.args.hierarchy.now c.args.cells.now k)) c.loop-leaf.leaf-index),
       omega (arith, small, few),
     )

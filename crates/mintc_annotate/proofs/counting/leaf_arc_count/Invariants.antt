@@ -4,6 +4,6 @@ use Rattle.mintc_annotate_resolve.specs.Pins.{leaf_cell}
 use Rattle.mintc_annotate.specs.Counts.{arc_count}
 use Rattle.mintc_annotate.proofs.counting.leaf_arc_count.Given as goal
 
-abbrev pub invariant-loop-number : goal.invariant-loop-number
-invariant-loop-number l =
-    (l.total ≡ sum_by (λ k. arc_count (leaf_cell l.hierarchy l.cells k)) (range_with_len 0 l.number)) × (l.total ≤ l.number * 68719476736)
+abbrev pub invariant-loop-leaf : goal.invariant-loop-leaf
+invariant-loop-leaf l =
+    (l.total ≡ sum_by (λ k. arc_count (leaf_cell l.hierarchy l.cells k)) (range_with_len 0 l.leaf-index)) × (l.total ≤ l.leaf-index * 68719476736)

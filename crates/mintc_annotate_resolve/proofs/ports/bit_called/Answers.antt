@@ -7,14 +7,14 @@ use Rattle.mintc_annotate_resolve.proofs.ports.bit_called.Goals as goal
 
 pub returns-in-Some : goal.returns-in-Some
 returns-in-Some c =
-    let found : bit_within c.args.names.now (slice_index_or c.args.ports.now c.loop-number.number c.index-ports-number.result) c.args.text.now ≡ Some c.in-Some.bit =
-    ap (λ port. bit_within c.args.names.now port c.args.text.now) (sym c.index-ports-number.is) ∙ sym c.in-Some.ensures in
-    sym (c.loop-number.invariant ∙ called_at c.args.names.now c.args.ports.now c.args.text.now c.loop-number.number c.index-ports-number.result c.loop-number-test.true
-    ∙ ap (λ (o : Option PortBit). option_or o (bit_called c.args.names.now (drop (c.loop-number.number + 1) c.args.ports.now) c.args.text.now)) found)
+    let found : bit_within c.args.names.now (slice_index_or c.args.ports.now c.loop-port.port-index c.port-item.result) c.args.text.now ≡ Some c.in-Some.bit =
+    ap (λ port. bit_within c.args.names.now port c.args.text.now) (sym c.port-item.is) ∙ sym c.in-Some.ensures in
+    sym (c.loop-port.invariant ∙ called_at c.args.names.now c.args.ports.now c.args.text.now c.loop-port.port-index c.port-item.result c.loop-port-test.true
+    ∙ ap (λ (o : Option PortBit). option_or o (bit_called c.args.names.now (drop (c.loop-port.port-index + 1) c.args.ports.now) c.args.text.now)) found)
 
-pub loop-number-preserved : goal.loop-number-preserved
-loop-number-preserved c =
-    let none : bit_within c.args.names.now (slice_index_or c.args.ports.now c.loop-number.number c.index-ports-number.result) c.args.text.now ≡ None =
-    ap (λ port. bit_within c.args.names.now port c.args.text.now) (sym c.index-ports-number.is) ∙ sym c.in-None.ensures in
-    c.loop-number.invariant ∙ called_at c.args.names.now c.args.ports.now c.args.text.now c.loop-number.number c.index-ports-number.result c.loop-number-test.true
-    ∙ ap (λ (o : Option PortBit). option_or o (bit_called c.args.names.now (drop (c.loop-number.number + 1) c.args.ports.now) c.args.text.now)) none
+pub loop-port-preserved : goal.loop-port-preserved
+loop-port-preserved c =
+    let none : bit_within c.args.names.now (slice_index_or c.args.ports.now c.loop-port.port-index c.port-item.result) c.args.text.now ≡ None =
+    ap (λ port. bit_within c.args.names.now port c.args.text.now) (sym c.port-item.is) ∙ sym c.in-None.ensures in
+    c.loop-port.invariant ∙ called_at c.args.names.now c.args.ports.now c.args.text.now c.loop-port.port-index c.port-item.result c.loop-port-test.true
+    ∙ ap (λ (o : Option PortBit). option_or o (bit_called c.args.names.now (drop (c.loop-port.port-index + 1) c.args.ports.now) c.args.text.now)) none

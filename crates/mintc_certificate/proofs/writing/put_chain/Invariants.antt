@@ -2,7 +2,7 @@ use Rattle.std.proofs.Common.{◌≡◌, ◌++◌, ◌∷◌, map, take, length,
 use Rattle.mintc_text.specs.Lines.{text_of, words}
 use Rattle.mintc_certificate.specs.declared.members.Member.{Member}
 use Rattle.mintc_certificate.specs.CertificateText.{member_words}
-use Rattle.mintc_certificate.specs.Written.{count_line}
+use Rattle.mintc_timing_text.specs.LineForms.{count_line}
 use Rattle.mintc_certificate.proofs.writing.put_chain.Given as goal
 
 -- the number of lines, and the lines so far are written

@@ -1,6 +1,6 @@
 use Rattle.std.proofs.Common.{◌≡◌, ◌++◌, ◌∷◌, map, take, length, codes}
 use Rattle.mintc_text.specs.Lines.{text_of}
-use Rattle.mintc_certificate.specs.Written.{count_line, number_line}
+use Rattle.mintc_timing_text.specs.LineForms.{count_line, number_line}
 use Rattle.mintc_certificate.proofs.writing.put_departures.Given as goal
 
 -- the number of lines, and the lines so far are written

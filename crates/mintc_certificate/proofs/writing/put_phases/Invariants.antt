@@ -1,7 +1,7 @@
 use Rattle.std.proofs.Common.{◌≡◌, ◌++◌, map, take}
 use Rattle.std.specs.List.{zip}
 use Rattle.mintc_text.specs.Lines.{text_of}
-use Rattle.mintc_certificate.specs.Written.{phase_line}
+use Rattle.mintc_timing_text.specs.LineForms.{phase_line}
 use Rattle.mintc_certificate.proofs.writing.put_phases.Given as goal
 
 -- the lines so far are written

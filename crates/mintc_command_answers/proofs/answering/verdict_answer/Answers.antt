@@ -1,5 +1,6 @@
 use Rattle.std.proofs.Common.{◌∙◌}
 use Rattle.std.proofs.lemmas.Result.{err_from_is_err_and}
+use Rattle.mintc_command_answers.specs.declared.command.Job.TheVariants.{Verify}
 use Rattle.mintc_command_answers.proofs.VerdictLaws.{answer_on_ordered, refusal_on_ordered, short_paths, stop_on_source}
 use Rattle.mintc_command_answers.proofs.answering.verdict_answer.Goals as goal
 
@@ -12,7 +13,7 @@ verify_answer-requires-clause-short c = short_paths c.args.source c.args.texts.n
 pub returns-in_err-flat-clause-stop : goal.returns-in_err-flat-clause-stop
 returns-in_err-flat-clause-stop c =
     let p = err_from_is_err_and c.from_residual.result c.from_residual.ensures.1 in
-    rw (p.1, p.2) (stop_on_source c.args.source c.args.texts.now c.in_err-flat.field-0.0 c.in_err-flat.ensures.stop)
+    rw (p.1, p.2) (stop_on_source Verify c.args.source c.args.texts.now c.in_err-flat.field-0.0 c.in_err-flat.ensures.stop)
 
 pub returns-clause-value : goal.returns-clause-value
 returns-clause-value c =

@@ -1,4 +1,4 @@
-use Rattle.std.proofs.Common.{◌≡◌, sym, ◌∙◌}
+use Rattle.std.proofs.Common.{sym, ◌∙◌}
 use Rattle.mintc_command_answers.proofs.check_answers.judge.Goals as goal
 
 pub judgement-requires-clause-violations : goal.judgement-requires-clause-violations

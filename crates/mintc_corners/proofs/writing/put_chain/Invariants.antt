@@ -1,6 +1,6 @@
 use Rattle.std.proofs.Common.{◌≡◌, ◌++◌, ◌∷◌, map, take, length, codes}
 use Rattle.mintc_text.specs.Lines.{text_of, words}
-use Rattle.mintc_certificate.specs.Written.{count_line}
+use Rattle.mintc_timing_text.specs.LineForms.{count_line}
 use Rattle.mintc_corners.specs.declared.members.CornerMember.{CornerMember}
 use Rattle.mintc_corners.specs.CornerText.{corner_words}
 use Rattle.mintc_corners.proofs.writing.put_chain.Given as goal

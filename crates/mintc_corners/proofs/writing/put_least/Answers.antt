@@ -1,6 +1,6 @@
 use Rattle.std.proofs.Common.{◌∷◌, ◌++◌, [], codes}
 use Rattle.std.proofs.lemmas.Result.{on_ok_weaker}
-use Rattle.mintc_certificate.specs.Written.{schedule_lines}
+use Rattle.mintc_timing_text.specs.LineForms.{schedule_lines}
 use Rattle.mintc_certificate.proofs.SharedWritingLaws.{texts_joined}
 use Rattle.mintc_corners.specs.CornerText.{all_departure_lines, corner_chain_lines}
 use Rattle.mintc_corners.proofs.writing.put_least.Goals as goal

@@ -1,37 +1,40 @@
-use Rattle.std.proofs.Common.{◌≡◌, ◌+◌, ◌-◌, ◌<◌, ◌≤◌, ℕ, List, length, get_or, arith, ◌∙◌, ⊎_elim, subst}
-use Rattle.std.proofs.lemmas.Bool.{cases_lt}
+use Rattle.std.proofs.Common.{◌≡◌, ℕ, length, arith, refl, ◌∙◌, subst, sym}
 use Rattle.mintc_bitset.specs.BitSet.{IsIn}
-use Rattle.mintc_timing.specs.declared.parts.Pair.{Pair}
-use Rattle.mintc_timing.specs.Design.{element_count, no_pair, pair_at}
-use Rattle.mintc_departure.specs.Chains.{IsLastOf}
-use Rattle.mintc_departure.specs.declared.chains.End.TheVariants.{First}
-use Rattle.mintc_departure.proofs.ChainLaws.{chain-next}
+use Rattle.mintc_adjacency.specs.Adjacency.{AreLeft, CanGoOn}
+use Rattle.mintc_adjacency.proofs.SharedAdjacencyLaws.{given, from_next, goes_on, met_more}
+use Rattle.mintc_timing.specs.Design.{pair_at}
 use Rattle.mintc_departure.proofs.rising.wake.Goals as goal
 
--- Between a pair of the chain and the next one none has its first element.
-woken_more : (pairs : List Pair) (l n x : ℕ) (Old New : ℕ → Type 0) → IsLastOf pairs First l n x → New (get_or pairs n no_pair).to → ((k : ℕ) → Old k → New k) →
-    ((m : ℕ) → n + 1 ≤ m → m < length pairs → (get_or pairs m no_pair).from ≡ l → Old (get_or pairs m no_pair).to) →
-    (m : ℕ) → x ≤ m → m < length pairs → (get_or pairs m no_pair).from ≡ l → New (get_or pairs m no_pair).to
-woken_more pairs l n x Old New last here kept above m low h e =
-    ⊎_elim (λ (lt : m < n). absurd (last.last m low lt e))
-    (λ (ge : n ≤ m). ⊎_elim (λ (lt : n < m). kept _ (above m (omega arith) h e))
-    (λ (le : m ≤ n). let same : n ≡ m = omega arith in subst (λ k. New (get_or pairs k no_pair).to) same here) (cases_lt n m))
-    (cases_lt m n)
-
-pub loop-next-preserved : goal.loop-next-preserved
-loop-next-preserved c =
+pub loop-number-init : goal.loop-number-init
+loop-number-init c =
     let t = c.args.system.now in
-    let n = c.loop-next.next - 1 in
-    let so_far = c.loop-next.invariant in
-    let first : (pair_at t n).from ≡ c.args.element = so_far.from n (omega arith) in
-    let last : IsLastOf t.pairs First c.args.element n c.index-next-in-loop-next.result.now =
-    subst (λ l. IsLastOf t.pairs First l n c.index-next-in-loop-next.result.now) first
-    (chain-next t.pairs First (element_count t.flat) c.args.out.now c.requires.out n _ (omega arith) c.index-next-in-loop-next.ensures) in
+    let same = sym c.into_iter-number-iterator.ensures.into_iter_gives in
+    let left : AreLeft (λ n. (pair_at t n).from) c.args.element (length t.pairs) c.into_iter-number-iterator.result =
+    subst (λ edges. AreLeft (λ n. (pair_at t n).from) c.args.element (length t.pairs) edges) same
+    (c.at-number-items.ensures.left (λ n. (pair_at t n).from) _ _ c.requires.out) in
     record {
-      within = omega (arith, last.fits);
-      from = last.has;
+      can = subst CanGoOn same c.at-number-items.ensures.falling;
+      ends = tt;
+      left = from_next (λ n. (pair_at t n).from) c.args.element (length t.pairs) c.into_iter-number-iterator.result left;
+      within = left.next.fits;
+      count = refl;
+      kept = λ k h. h;
+      woken = λ n low high here. absurd (left.next.last n low high here);
+    }
+
+pub loop-number-preserved : goal.loop-number-preserved
+loop-number-preserved c =
+    let t = c.args.system.now in
+    let so_far = c.loop-number.invariant in
+    let step = c.in-Some.ensures.steps in
+    let got = given (λ n. (pair_at t n).from) c.args.element c.loop-number.number-iterator.next _ c.loop-number.number-iterator _ so_far.left step in
+    record {
+      can = goes_on c.loop-number.number-iterator _ _ so_far.can step;
+      ends = tt;
+      left = from_next (λ n. (pair_at t n).from) c.args.element _ _ got.left;
+      within = omega (arith, got.left.next.fits, got.below, so_far.within);
       count = c.insert.ensures.count ∙ so_far.count;
       kept = λ k h. c.insert.ensures.kept k (so_far.kept k h);
-      woken = woken_more t.pairs c.args.element n _ (IsIn c.loop-next.stale.words.items) (IsIn c.insert.new.self.words.items) last
-          (rw c.pair.ensures.value at c.insert.ensures.inserted) c.insert.ensures.kept (λ m a h e. so_far.woken m (omega arith) h e);
+      woken = met_more (λ n. (pair_at t n).from) c.args.element (length t.pairs) _ _ (λ n. IsIn c.loop-number.stale.words.items (pair_at t n).to) (λ n. IsIn c.insert.new.self.words.items (pair_at t n).to)
+          got.left.next (rw c.pair.ensures.value at c.insert.ensures.inserted) (λ n. c.insert.ensures.kept (pair_at t n).to) (λ n low high here. so_far.woken n (omega (arith, step.next)) high here);
     }

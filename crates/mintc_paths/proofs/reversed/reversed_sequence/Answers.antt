@@ -5,7 +5,6 @@ use Rattle.mintc_timing.specs.declared.parts.TimingArc.{TimingArc}
 use Rattle.mintc_timing.specs.Design.{no_arc}
 use Rattle.mintc_timing.specs.Paths.{arc_at}
 use Rattle.mintc_paths.specs.declared.rows.ArcSequence.{ArcSequence}
-use Rattle.mintc_paths.specs.Leaving.{AreLeaving}
 use Rattle.mintc_paths.specs.Reversed.{flipped}
 use Rattle.mintc_paths.proofs.SharedPassing.{row_to_in}
 use Rattle.mintc_paths.proofs.ReversedSequence.{IsSequence-reversed}
@@ -33,16 +32,15 @@ returns c =
     let old = c.args.sequence in
     let new : ArcSequence = record { rows = c.in_ok-rows.rows; along = with_items old.along c.reverse_arcs.new.along; leaving = c.in_ok-leaving.leaving } in
     let rows = rw c.requires.sequence.rows.of_bits.count at c.in_ok-rows.ensures.rows in
-    let leaving : AreLeaving c.deref.result.now c.len.result new.leaving = record { rows_have = c.in_ok-leaving.ensures.bits; arcs_have = c.in_ok-leaving.ensures.arcs; index = c.in_ok-leaving.ensures.index } in
     IsSequence-reversed c.args.flat.now c.args.order.now c.requires.order c.element_count-elements.ensures.kept old new c.args.places.now c.requires.places c.requires.sequence rows
     (λ bit low. rw c.element_count-elements.ensures.value at (c.in_ok-rows.ensures.each bit (omega (arith, c.requires.sequence.rows.of_bits.count))))
     (ap (λ (xs : List TimingArc). length xs) (along_is at) ∙ along_count at)
     (λ i low. ap (λ xs. arc_at xs i) (along_is at) ∙ arc_is at i low)
-    (rw (c.deref.ensures.value, bits_are at) at leaving)
+    (rw (c.deref.ensures.value, bits_are at) at c.in_ok-leaving.ensures)
 
-pub new-requires-clause-inside : goal.new-requires-clause-inside
-new-requires-clause-inside c k d below =
-    let at = (goal.at.new-requires-clause-inside c).After-len in
+pub arcs_by_row-requires-clause-inside : goal.arcs_by_row-requires-clause-inside
+arcs_by_row-requires-clause-inside c k d below =
+    let at = (goal.at.arcs_by_row-requires-clause-inside c).After-len in
     let n : ℕ = 2 * length c.args.flat.now.elements + length c.args.flat.now.inner in
     let old = c.args.sequence.along.items in
     let items = c.deref.ensures.value ∙ along_is at in

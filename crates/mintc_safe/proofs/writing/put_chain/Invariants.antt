@@ -1,6 +1,6 @@
 use Rattle.std.proofs.Common.{◌≡◌, ◌++◌, ◌∷◌, map, take, length, codes}
 use Rattle.mintc_text.specs.Lines.{text_of, words}
-use Rattle.mintc_certificate.specs.Written.{count_line}
+use Rattle.mintc_timing_text.specs.LineForms.{count_line}
 use Rattle.mintc_safe.specs.declared.members.SafeMember.{SafeMember}
 use Rattle.mintc_safe.specs.SafeText.{safe_words}
 use Rattle.mintc_safe.proofs.writing.put_chain.Given as goal

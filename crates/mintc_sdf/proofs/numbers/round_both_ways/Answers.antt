@@ -8,7 +8,7 @@ use Rattle.mintc_sdf.proofs.numbers.round_both_ways.Goals as goal
 
 pub returns : goal.returns
 returns c =
-    let down : SFits w64 c.in_ok-least.least = search rules in
-    let up : SFits w64 c.in_ok-greatest.greatest = search rules in
-    rw (to_z-of_z w64 c.in_ok-least.least down, to_z-of_z w64 c.in_ok-greatest.greatest up)
-    (is-near c.args.scale (value_of c.args.number.now) c.in_ok-least.least c.in_ok-greatest.greatest c.in_ok-least.ensures.rounded c.in_ok-greatest.ensures.rounded c.in_ok-least.ensures.near)
+    let down : SFits w64 c.in_ok-to_femto_down.field-0 = search rules in
+    let up : SFits w64 c.in_ok-to_femto_up.field-0 = search rules in
+    rw (to_z-of_z w64 c.in_ok-to_femto_down.field-0 down, to_z-of_z w64 c.in_ok-to_femto_up.field-0 up)
+    (is-near c.args.scale (value_of c.args.number.now) c.in_ok-to_femto_down.field-0 c.in_ok-to_femto_up.field-0 c.in_ok-to_femto_down.ensures.rounded c.in_ok-to_femto_up.ensures.rounded c.in_ok-to_femto_down.ensures.near)

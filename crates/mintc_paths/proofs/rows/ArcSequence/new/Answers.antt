@@ -7,8 +7,8 @@ use Rattle.mintc_timing.proofs.SharedOrdered.{inside}
 use Rattle.mintc_paths.proofs.Filling.{arc_inside}
 use Rattle.mintc_paths.proofs.rows.ArcSequence.new.Goals as goal
 
-pub new-requires-clause-inside : goal.new-requires-clause-inside
-new-requires-clause-inside c = λ k d below.
+pub arcs_by_row-requires-clause-inside : goal.arcs_by_row-requires-clause-inside
+arcs_by_row-requires-clause-inside c = λ k d below.
     let arcs = c.args.flat.now.arcs in
     let order = c.args.order.now in
     let rows = c.args.rows.of_bits.items in

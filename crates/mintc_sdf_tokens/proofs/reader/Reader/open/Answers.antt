@@ -9,8 +9,8 @@ skip_trivia-self-inside-requires-clause-within c =
     let o = is-opening (drop c.self.inside.at c.self.inside.text.now) c.self.invariant.1 (ap mark_of c.self.view_is ∙ sym c.mark.ensures ∙ c.in-Open.is) in
     omega (arith, o.0, length-drop c.self.inside.at c.self.inside.text.now)
 
-pub returns-in-Open : goal.returns-in-Open
-returns-in-Open c =
+pub returns : goal.returns
+returns c =
     let bs = drop c.self.inside.at c.self.inside.text.now in
     let o = is-opening bs c.self.invariant.1 (ap mark_of c.self.view_is ∙ sym c.mark.ensures ∙ c.in-Open.is) in
     ap after_opening (sym c.self.view_is ∙ o.1)

@@ -13,8 +13,8 @@ overflow_add-depth c =
     let same = ap length c.self.view_is in
     omega (arith, some, most, same, length-drop c.self.inside.at c.self.inside.text.now, c.loop-depth.invariant.few)
 
-pub returns-then-depth-eq0 : goal.returns-then-depth-eq0
-returns-then-depth-eq0 c =
+pub returns-in-Close : goal.returns-in-Close
+returns-in-Close c =
     let closed = step-close c.loop-depth.self (sym c.step.ensures.kind ∙ c.in-Close.is) in
     sym (passed-list c.args.self.now) ∙ c.loop-depth.invariant.same ∙ ap (λ d. passing d c.loop-depth.self) c.if-depth-eq0.true ∙ closed ∙ ap Some (sym c.step.ensures.rest)
 

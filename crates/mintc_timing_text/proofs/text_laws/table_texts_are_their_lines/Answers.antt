@@ -1,0 +1,5 @@
+use Rattle.mintc_timing_text.proofs.TableForms.{are_their_lines}
+use Rattle.mintc_timing_text.proofs.text_laws.table_texts_are_their_lines.Goals as goal
+
+pub returns : goal.returns
+returns c = are_their_lines

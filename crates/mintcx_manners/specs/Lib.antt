@@ -1,0 +1,4 @@
+-- What contracts of public calls and laws say:
+pub mod Commands
+pub mod Manners
+pub mod Times

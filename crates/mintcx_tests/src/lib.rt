@@ -1,0 +1,14 @@
+//! Tests of the public calls of mintcx, of what no clause says: clap's texts, the messages, and rows of words with the
+//! requests that they are.
+#![tactic(auto)]
+
+#[cfg(test)]
+mod help_texts;
+#[cfg(test)]
+mod projects;
+#[cfg(test)]
+mod shown;
+#[cfg(test)]
+mod words;
+#[cfg(test)]
+mod wrong_words;
