@@ -62,10 +62,7 @@ impl fmt::Display for Fault {
                 )
             }
             Fault::CornerCount { count } => {
-                write!(
-                    f,
-                    "corners take two to four delay files, and {count} is named"
-                )
+                write!(f, "corners take two to four delay files, not {count}")
             }
             fault => f.write_str(plain_text(fault)),
         }

@@ -81,7 +81,7 @@ const ROWS: &[(&str, &str)] = &[
     ),
     (
         "mintcx corners --netlist n --cells c --sdf d --clock k",
-        "corners take two to four delay files, and 1 is named",
+        "corners take two to four delay files, not 1",
     ),
     (
         "mintcx optimise --table t --certificate c --cycle 1ps",

@@ -1,0 +1,5 @@
+-- What contracts of public calls say:
+pub mod Ends
+pub mod Names
+pub mod Phases
+pub mod Rows
