@@ -1,5 +1,6 @@
 //! The design of files.
 ghost use Rattle.std.specs.Prelude.{◌≡◌, ◌<◌, ◌≤◌, ◌+◌, ℕ, length, map, min, None, All, IfOk, MatchResult};
+ghost use Rattle.mintc_text.specs.Limits.{AreLimits};
 ghost use Rattle.mintc_text.specs.Refusals.{over_limit};
 ghost use Rattle.mintc_text.specs.declared.limits.TheConstants.{MOST_ELEMENTS, MOST_INNER, MOST_LEAVES, MOST_TOLD};
 ghost use Rattle.mintc_text.specs.Stops.{StopsAt};
@@ -8,7 +9,7 @@ ghost use Rattle.mintc_timing.specs.Limits.{HasParts, quantities, limit_of};
 ghost use Rattle.mintc_clock.specs.declared.clock.Clock.{Clock};
 ghost use Rattle.mintc_annotate_delays.specs.Ranges.{look};
 ghost use Rattle.mintc_annotate.specs.Given.{IsGivenClock, AreGivenDelays};
-ghost use Rattle.mintc_annotate.specs.Gathered.{AreGathered, AreListed, design_of_gathered};
+ghost use Rattle.mintc_annotate.specs.Gathered.{AreFew, AreGathered, AreListed, design_of_gathered};
 ghost use Rattle.mintc_annotate.specs.Counts.{leaf_arc_count};
 ghost use Rattle.mintc_annotate.specs.Phases.{storage};
 ghost use Rattle.mintc_annotate.specs.Made.{elements_of, arcs_of, IsAnnotated, IsAnnotateRefusal};
@@ -23,34 +24,44 @@ use mintc_cells::Cells;
 use mintc_clock::{Clock, PhaseDef, clocks_keep_limits};
 use mintc_flatten_hierarchy::{Hierarchy, hierarchies_are_in_shape};
 use mintc_sdf::{Delays, delays_are_within};
-use mintc_text::{Name, Names, OutOfMemory, Refusal, Stop};
+use mintc_text::{Limits, Name, Names, OutOfMemory, Refusal, Stop};
 use mintc_timing::{Bound, Element, Flat, TimingArc, first_over};
 use std::alloc::Global;
 
-/// The refusal of the first quantity of the design that passes its limit, by its latches and flops and by the bits
-/// of its listed ports.
-fn limit_by_counts(
-    hierarchy: &Hierarchy,
-    cells: &Cells,
-    clock: &Clock,
+/// How many elements a design has: its latches and flops, and the bits of its listed inputs and outputs, each of the
+/// two up to `MOST_TOLD`.
+#[derive(Clone, Copy)]
+pub(crate) struct ElementCounts {
     stored: usize,
     inputs: u64,
     outputs: u64,
+}
+
+/// The refusal of the first quantity of the design that passes its limit, by how many elements it has.
+fn limit_by_counts(
+    limits: &Limits,
+    hierarchy: &Hierarchy,
+    cells: &Cells,
+    clock: &Clock,
+    counts: ElementCounts,
 ) -> Option<Refusal>
     requires shape { IsFlattened cells.now hierarchy.now }
-    requires stored { stored ≤ MOST_LEAVES }
-    requires inputs { inputs ≤ MOST_TOLD }
-    requires outputs { outputs ≤ MOST_TOLD }
-    ensures { (i o : ℕ) → inputs ≡ min i MOST_TOLD → outputs ≡ min o MOST_TOLD →
-        result ≡ over_limit (quantities (length hierarchy.now.inner) (length clock.now.phases) (stored + i + o)
+    requires stored { counts.stored ≤ MOST_LEAVES }
+    requires inputs { counts.inputs ≤ MOST_TOLD }
+    requires outputs { counts.outputs ≤ MOST_TOLD }
+    ensures refusal { (i o : ℕ) → counts.inputs ≡ min i MOST_TOLD → counts.outputs ≡ min o MOST_TOLD →
+        result ≡ over_limit (quantities limits.now (length hierarchy.now.inner) (length clock.now.phases)
+        (counts.stored + i + o)
         (length hierarchy.now.joins + leaf_arc_count hierarchy.now cells.now + i + o) (length clock.now.bounds)) }
+    ensures kept { AreLimits limits.now }
 {
-    let elements = stored as u64 + inputs + outputs;
+    let elements = counts.stored as u64 + counts.inputs + counts.outputs;
     let arcs = hierarchy.joins.items().len() as u64
         + leaf_arc_count(hierarchy, cells)
-        + inputs
-        + outputs;
+        + counts.inputs
+        + counts.outputs;
     first_over(
+        limits,
         hierarchy.inner.items().len(),
         clock.phases.items().len(),
         elements as usize,
@@ -61,6 +72,7 @@ fn limit_by_counts(
 
 /// The refusal of the first quantity of the design that passes its limit.
 fn limit(
+    limits: &Limits,
     hierarchy: &Hierarchy,
     cells: &Cells,
     clock: &Clock,
@@ -68,17 +80,17 @@ fn limit(
 ) -> Option<Refusal>
     requires shape { IsFlattened cells.now hierarchy.now }
     requires gathered { AreGathered hierarchy.now cells.now clock.now gathered.now }
-    ensures { result ≡ limit_of (design_of_gathered hierarchy.now cells.now clock.now gathered.now) }
+    ensures refusal { result ≡ limit_of limits.now
+        (design_of_gathered hierarchy.now cells.now clock.now gathered.now) }
+    ensures kept { AreLimits limits.now }
 {
     let stored = gathered.phases.items().len();
-    limit_by_counts(
-        hierarchy,
-        cells,
-        clock,
+    let counts = ElementCounts {
         stored,
-        gathered.inputs,
-        gathered.outputs,
-    )
+        inputs: gathered.inputs,
+        outputs: gathered.outputs,
+    };
+    limit_by_counts(limits, hierarchy, cells, clock, counts)
 }
 
 /// The elements: the latches and flops, the bits of listed inputs, the bits of listed outputs.
@@ -176,7 +188,7 @@ pub(crate) struct Parts {
     bounds: Vec<Bound>,
 }
 
-/// The elements and the arcs of a design within its limits.
+/// The elements and the arcs of a design.
 fn elements_and_arcs(
     alloc: Global,
     hierarchy: &Hierarchy,
@@ -186,7 +198,7 @@ fn elements_and_arcs(
 ) -> Result<(Vec<Element>, Vec<TimingArc>), OutOfMemory>
     requires shape { IsFlattened cells.now hierarchy.now }
     requires gathered { AreGathered hierarchy.now cells.now clock.now gathered.now }
-    requires within { limit_of (design_of_gathered hierarchy.now cells.now clock.now gathered.now) ≡ None }
+    requires few { AreFew hierarchy.now clock.now gathered.now }
     ensures elements { IfOk result (λ both. both.0.items
         ≡ elements_of hierarchy.now cells.now clock.now (look gathered.now.ranges) gathered.now.phases) }
     ensures arcs { IfOk result (λ both. both.1.items
@@ -198,7 +210,7 @@ fn elements_and_arcs(
     Ok((elements, arcs))
 }
 
-/// The parts of the design of what is gathered, within its limits.
+/// The parts of the design of what is gathered.
 fn parts_of(
     alloc: Global,
     hierarchy: &Hierarchy,
@@ -208,7 +220,7 @@ fn parts_of(
 ) -> Result<Parts, OutOfMemory>
     requires shape { IsFlattened cells.now hierarchy.now }
     requires gathered { AreGathered hierarchy.now cells.now clock.now gathered.now }
-    requires within { limit_of (design_of_gathered hierarchy.now cells.now clock.now gathered.now) ≡ None }
+    requires few { AreFew hierarchy.now clock.now gathered.now }
     ensures phases { IfOk result (λ parts. parts.phases ≡ map (λ p. p.name) clock.now.phases) }
     ensures elements { IfOk result (λ parts. parts.elements.items
         ≡ elements_of hierarchy.now cells.now clock.now (look gathered.now.ranges) gathered.now.phases) }
@@ -227,9 +239,10 @@ fn parts_of(
     })
 }
 
-/// The design of what is gathered, within its limits.
+/// The design of what is gathered, which is within the limits of this run.
 fn build(
     alloc: Global,
+    limits: &Limits,
     hierarchy: &Hierarchy,
     cells: &Cells,
     clock: &Clock,
@@ -238,13 +251,15 @@ fn build(
     requires shape { IsFlattened cells.now hierarchy.now }
     requires gathered { AreGathered hierarchy.now cells.now clock.now gathered }
     requires parts { HasParts (design_of_gathered hierarchy.now cells.now clock.now gathered) }
-    requires within { limit_of (design_of_gathered hierarchy.now cells.now clock.now gathered) ≡ None }
+    requires few { AreFew hierarchy.now clock.now gathered }
+    requires within { limit_of limits.now (design_of_gathered hierarchy.now cells.now clock.now gathered) ≡ None }
     ensures { MatchResult result (λ flat. flat ≡ design_of_gathered hierarchy.now cells.now clock.now gathered)
         (StopsAt (λ refused. ⊥)) }
 {
     let parts = parts_of(alloc, hierarchy, cells, clock, &gathered)?;
     let inner = Names::new(gathered.names);
     Ok(Flat::new(
+        limits,
         parts.phases,
         parts.elements,
         inner,
@@ -256,6 +271,7 @@ fn build(
 /// The same over a hierarchy in shape.
 fn annotate_in_shape(
     alloc: Global,
+    limits: &Limits,
     hierarchy: &Hierarchy,
     cells: &Cells,
     clock: &Clock,
@@ -264,24 +280,26 @@ fn annotate_in_shape(
     requires shape { IsFlattened cells.now hierarchy.now }
     requires clock { IsGivenClock clock.now }
     requires delays { AreGivenDelays delays.now.items }
-    ensures { MatchResult result (IsAnnotated hierarchy.now cells.now clock.now delays.now.items)
-        (StopsAt (IsAnnotateRefusal hierarchy.now cells.now clock.now delays.now.items)) }
+    ensures { MatchResult result (IsAnnotated limits.now hierarchy.now cells.now clock.now delays.now.items)
+        (StopsAt (IsAnnotateRefusal limits.now hierarchy.now cells.now clock.now delays.now.items)) }
 {
     clocks_keep_limits();
     delays_are_within();
     // The rules that cells keep are known from the count on.
     let _count = cells.count();
     let gathered = gather(alloc, hierarchy, cells, clock, delays)?;
-    match limit(hierarchy, cells, clock, &gathered) {
+    match limit(limits, hierarchy, cells, clock, &gathered) {
         Some(refusal) => Err(Stop::Refused(refusal)),
-        None => build(alloc, hierarchy, cells, clock, gathered),
+        None => build(alloc, limits, hierarchy, cells, clock, gathered),
     }
 }
 
-/// The design of a hierarchy with its cells, clock and delays. The refusal is NoInstance of the clock, NoInstance
-/// or NoArc of the first delay that has one, NoPhase, or Limit of phases, elements, arcs or bounds; in that order.
+/// The design of a hierarchy with its cells, clock and delays. The refusal is NoInstance of the clock, NoInstance or
+/// NoArc of the first delay that has one, NoPhase, or Limit of inner bits, phases, elements, arcs or bounds in this
+/// run; in that order.
 pub fn annotate(
     alloc: Global,
+    limits: &Limits,
     hierarchy: &Hierarchy,
     cells: &Cells,
     clock: &Clock,
@@ -290,9 +308,9 @@ pub fn annotate(
     requires hierarchy { IsGivenHierarchy cells.now hierarchy.now }
     requires clock { IsGivenClock clock.now }
     requires delays { AreGivenDelays delays.now.items }
-    ensures { MatchResult result (IsAnnotated hierarchy.now cells.now clock.now delays.now.items)
-        (StopsAt (IsAnnotateRefusal hierarchy.now cells.now clock.now delays.now.items)) }
+    ensures { MatchResult result (IsAnnotated limits.now hierarchy.now cells.now clock.now delays.now.items)
+        (StopsAt (IsAnnotateRefusal limits.now hierarchy.now cells.now clock.now delays.now.items)) }
 {
     hierarchies_are_in_shape();
-    annotate_in_shape(alloc, hierarchy, cells, clock, delays)
+    annotate_in_shape(alloc, limits, hierarchy, cells, clock, delays)
 }

@@ -1,5 +1,5 @@
 -- What is made of the test of one cycle time.
-use Rattle.std.proofs.Common.{◌≡◌, ◌≢◌, ◌≤◌, ◌<◌, ℕ, zero, suc, ℤ, pos, negsuc, ◌≤ℤ◌, ◌<ℤ◌, ◌+ℤ◌, ◌*ℤ◌, ◌*◌, List, length, arith, refl}
+use Rattle.std.proofs.Common.{◌≡◌, ◌≤◌, ◌<◌, ℕ, ℤ, pos, ◌+ℤ◌, ◌*ℤ◌, List, arith, refl}
 use Rattle.std.specs.List.{All}
 use Rattle.std.proofs.lemmas.Int.{ints}
 use Rattle.std.proofs.lemmas.List.{length-map}
@@ -8,7 +8,7 @@ use Rattle.mintc_timing.specs.declared.link.Link.{Link}
 use Rattle.mintc_timing.specs.declared.clocking.Schedule.{Schedule}
 use Rattle.mintc_timing.specs.Design.{Timing}
 use Rattle.mintc_timing.specs.Limits.{IsDesign}
-use Rattle.mintc_timing.specs.Links.{links_of, element_node, node_count, cycles_of, delay_of, Forbids, IsChain}
+use Rattle.mintc_timing.specs.Links.{links_of, element_node, node_count, cycles_of, delay_of, Forbids}
 use Rattle.mintc_timing.specs.Order.{IsTiming}
 use Rattle.mintc_timing.specs.Right.{IsRight}
 use Rattle.mintc_timing.proofs.SharedByKind.{All-links}
@@ -23,37 +23,18 @@ use Rattle.mintc_constraints.proofs.SharedMomentLaws.{moments_are_right_lem}
 use Rattle.mintc_constraints.proofs.SharedOrdinaryLaws.{each_between, ordinary}
 use Rattle.mintc_ratio.specs.Chains.{NamesChain, links_at}
 use Rattle.mintc_ratio.specs.Greatest.{AreGreatest}
-use Rattle.mintc_ratio.specs.Searched.{IsCycle}
 use Rattle.mintc_ratio.specs.Tested.{HasTested}
 use Rattle.mintc_ratio.specs.declared.testing.Test.{Test}
 use Rattle.mintc_ratio.proofs.SharedBroughtLaws.{greatest_are_brought_lem}
+use Rattle.mintc_ratio.proofs.SharedWholeCycles.{whole_cycle}
 use Rattle.mintc_certificate.specs.declared.members.Member.{Member}
 use Rattle.mintc_certificate.specs.Ranges.{IsChainInRange}
-use Rattle.mintc_certificate.specs.Valid.{IsRing, link_of, links_of_members}
+use Rattle.mintc_certificate.specs.Valid.{link_of, links_of_members}
 use Rattle.mintc_optimise.specs.Making.{AreSayable, StandForAll}
-use Rattle.mintc_optimise.specs.Optimum.{IsSimple}
 use Rattle.mintc_optimise.proofs.SharedCertificateLaws.{IsRound, round}
 use Rattle.mintc_optimise.proofs.SharedEarliestLaws.{earliest}
 use Rattle.mintc_optimise.proofs.SharedSayingLaws.{are_sayable}
 use Rattle.mintcx_cycles.specs.AtCycles.{IsRightAt, IsShortAt}
-
--- no number above 1 divides 1
-one_undivided : (m k : ℤ) → pos 1 <ℤ k → m *ℤ k ≡ pos 1 → ⊥
-one_undivided (pos zero) (pos b) h e = omega (arith, ints)
-one_undivided (pos (suc a)) (pos b) h e = let more : 1 * b ≤ suc a * b = grind arith in absurd (omega (arith, ints))
-one_undivided (negsuc a) (pos zero) h e = absurd (omega (arith, ints))
-one_undivided (negsuc a) (pos (suc b)) h e = absurd (omega (arith, ints))
-one_undivided m (negsuc b) h e = absurd (omega (arith, ints))
-
--- a whole cycle time
-pub whole_cycle : (cycle : ℕ) → cycle ≤ 4294967295 → IsCycle (over (pos cycle) (pos 1))
-whole_cycle cycle few = record {
-  fraction = omega (arith, ints);
-  lowest = λ k above num den. one_undivided den.0 k above den.1;
-  low = omega (arith, ints);
-  num = omega (arith, ints);
-  den = omega (arith, ints);
-}
 
 -- A test of the links of a design at a whole cycle time, as the design and the number say it.
 pub tested_of : (t : Timing) (cycle : ℕ) (list : Constraints) (at : Ratio) (old new : Space) (test : Test) → list.nodes ≡ node_count t.flat → list.links ≡ links_of t → at ≡ over (pos cycle) (pos 1) →

@@ -51,8 +51,8 @@ pub trace-requires-clause-bounded : goal.trace-requires-clause-bounded
 trace-requires-clause-bounded g c = λ bit inside.
     let order = ap (λ (xs : List ℕ). length xs) c.order-order.ensures in
     let arcs = ap (λ (f : Design). length f.arcs) c.flat-flat.ensures.value in
-    let few : length c.order-order.result.now * 1000000000 ≤ 1000000000000000 = omega (arith, c.flat-flat.ensures.kept.ordered.count, c.bit_count-bits.ensures.kept.arcs) in
-    IsBounded-weaker (length c.order-order.result.now * 1000000000) 1000000000000000 (sums_at c.fill.new.sums bit) few ((sums_are g (goal.at.trace-requires-clause-bounded g c).In_ok-fill).bounded bit inside)
+    let few : length c.order-order.result.now * 1000000000 ≤ 20000000000000000 = omega (arith, c.flat-flat.ensures.kept.ordered.count, c.bit_count-bits.ensures.kept.arcs) in
+    IsBounded-weaker (length c.order-order.result.now * 1000000000) 20000000000000000 (sums_at c.fill.new.sums bit) few ((sums_are g (goal.at.trace-requires-clause-bounded g c).In_ok-fill).bounded bit inside)
 
 pub returns : goal.returns
 returns g c =
@@ -65,4 +65,4 @@ returns g c =
     let bits : length c.fill.new.sums ≡ 2 * length c.flat-flat.result.now.elements + length c.flat-flat.result.now.inner = search rules in
     let found = IsBestPath-from_trace c.args.extreme t.flat.arcs t.order kept.ordered c.fill.new.sums (output_of c.args.from) (input_of c.args.to) best_sums (omega arith) (omega arith) c.in_ok-path.path.items some.2.0 some.2.1
     (rw (c.flat-flat.ensures.value, c.order-order.ensures) at c.in_ok-path.ensures) in
-    subst (λ xs. IsOfPair c.args.extreme t c.args.from c.args.to xs) (sym c.new-3.ensures) (IsOfPair-from_best c.args.extreme t c.args.from c.args.to c.in_ok-path.path.items kept.extremes found)
+    subst (λ xs. IsOfPair c.args.extreme t c.args.from c.args.to xs) (sym c.new-4.ensures) (IsOfPair-from_best c.args.extreme t c.args.from c.args.to c.in_ok-path.path.items kept.extremes found)
