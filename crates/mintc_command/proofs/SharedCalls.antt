@@ -20,3 +20,10 @@ MakesAtMost-one a b h = MakesAtMost-more 0 a a b (MakesAtMost-none a) h
 pub MakesAtMost-fewer : (few many : ℕ) (a b : Option ℕ) → few ≤ many → MakesAtMost few a b → MakesAtMost many a b
 MakesAtMost-fewer few many None b h g = g
 MakesAtMost-fewer few many (Some n) b h g = (g.0, g.1, omega (arith, g.2))
+
+-- calls add up
+pub MakesAtMost-sum : (few more : ℕ) (a b c : Option ℕ) → MakesAtMost few a b → MakesAtMost more b c → MakesAtMost (few + more) a c
+MakesAtMost-sum few more None b c h g = let e : MakesAtMost more None c = rw h at g in e
+MakesAtMost-sum few more (Some n) b c h g =
+    let e : MakesAtMost more (Some h.0) c = rw h.1 at g in
+    (e.0, e.1, omega (arith, h.2, e.2))

@@ -1,0 +1,11 @@
+mod BetweenLaws
+mod CauseLaws
+mod DataLaws
+mod NamedLaws
+mod PlaceLaws
+mod RoomLaws
+mod RuleLaws
+mod Sizes
+mod WideLaws
+mod WidestLaws
+mod WrittenLaws
