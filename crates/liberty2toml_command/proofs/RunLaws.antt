@@ -3,7 +3,7 @@ use Rattle.std.proofs.Common.{◌≡◌, ℕ, ◌+◌, List, [], ◌∷◌, leng
 use Rattle.std.specs.String.{string_bytes}
 use Rattle.mintc_text.specs.Outside.{Files, Holds, IsFront}
 use Rattle.liberty2toml_command.specs.Conversions.{AreName, IsAnswer, IsComplete, IsConverted, IsNotRefused, IsOfText, IsRefused, bytes_of}
-use Rattle.mintc_text.specs.declared.limits.TheConstants.{MOST_BYTES}
+use Rattle.liberty2toml_command.specs.declared.answer.TheConstants.{MOST_BYTES}
 use Rattle.liberty2toml_command.specs.declared.status.Status.{Status}
 use Rattle.liberty2toml_command.specs.declared.status.Status.TheVariants.{Done, Refused, Usage, ReadFault, WriteFault, OutOfMemory}
 

@@ -11,7 +11,7 @@ use Rattle.mintc_text.specs.Refusals.{refusal_line}
 use Rattle.mintc_cells.specs.declared.cell.Cell.{Cell}
 use Rattle.mintc_cells.specs.CellsOf.{AreCells}
 use Rattle.mintc_liberty.specs.Meaning.{liberty_cells}
-use Rattle.mintc_text.specs.declared.limits.TheConstants.{MOST_BYTES}
+use Rattle.liberty2toml_command.specs.declared.answer.TheConstants.{MOST_BYTES}
 use Rattle.liberty2toml_command.specs.declared.status.Status.{Status}
 use Rattle.liberty2toml_command.specs.declared.status.Status.TheVariants.{Done, Refused, Usage, ReadFault, WriteFault}
 use Rattle.liberty2toml_command.specs.declared.status.Status.TheVariants.{OutOfMemory}

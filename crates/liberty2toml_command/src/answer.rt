@@ -8,9 +8,11 @@ ghost use Rattle.liberty2toml_command.specs.Conversions.{IsConverted, IsOfText};
 use crate::status::Status;
 use crate::tables::toml_form;
 use mintc_liberty::read_liberty;
-use mintc_text::limits::MOST_BYTES;
 use mintc_text::{Bytes, Lines, OutOfMemory, Refusal, Stop};
 use std::alloc::Global;
+
+/// Bytes of a file.
+pub const MOST_BYTES: usize = 67_108_864;
 
 /// A status and the text that goes with it.
 #[derive(Drop)]

@@ -5,9 +5,8 @@ ghost use Rattle.liberty2toml_command.specs.Conversions.{IsAnswer, IsConverted, 
 ghost use Rattle.liberty2toml_command.specs.Conversions.{IsAfterReading, IsNotRefused, MakesAtMost, AreName, Writes};
 ghost use Rattle.liberty2toml_command.specs.Conversions.{bytes_of};
 
-use crate::answer::answer_to;
+use crate::answer::{MOST_BYTES, answer_to};
 use crate::status::Status;
-use mintc_text::limits::MOST_BYTES;
 use mintc_text::{OutOfMemory, Shelf, ShelfError, Sink};
 use std::alloc::Global;
 

@@ -10,6 +10,7 @@ use Rattle.std.proofs.lemmas.List.FromFn.{length-range_with_len}
 use Rattle.std.proofs.lemmas.List.Sums.{sum_by-append, length-filter, count_by-le-length, AllPass-from_list_all}
 use Rattle.std.proofs.lemmas.Slice.Zip.{AllZip-long}
 use Rattle.mintc_text.specs.Refusals.{over_limit}
+use Rattle.mintc_text.specs.declared.limits.Most.{Most}
 use Rattle.mintc_text.specs.declared.limits.TheConstants.{MOST_ELEMENTS, MOST_LEAVES}
 use Rattle.mintc_text.specs.Stops.{StopsAt}
 use Rattle.mintc_text.specs.declared.refusals.Kind.{Kind}
@@ -47,23 +48,28 @@ use Rattle.mintc_annotate.proofs.ElementLimits.{KeepsHold}
 use Rattle.mintc_annotate.proofs.PartLimits.{elements_count, made_has_parts}
 
 -- ---- refusals
-pub stops_port : (h : Hierarchy) (cells : CellTable) (clock : clock_type.Clock) (delays : List Delay) (s : Stop) → StopsAt (IsPortRefusal (has_ports h clock)) s → StopsAt (IsAnnotateRefusal h cells clock delays) s
-stops_port h cells clock delays (stop.Refused r) port = no_port port
+pub stops_port : (h : Hierarchy) (cells : CellTable) (clock : clock_type.Clock) (delays : List Delay) (s : Stop) → StopsAt (IsPortRefusal (has_ports h clock)) s → StopsAt (λ r. (most : Most) → IsAnnotateRefusal most h cells clock delays r) s
+stops_port h cells clock delays (stop.Refused r) port = λ most. no_port port
 stops_port h cells clock delays stop.OutOfMemory port = tt
 
-pub stops_resolving : (h : Hierarchy) (cells : CellTable) (clock : clock_type.Clock) (delays : List Delay) (s : Stop) → first_false (has_ports h clock) ≡ None → StopsAt (λ r. first_refusal h cells delays ≡ Some r) s → StopsAt (IsAnnotateRefusal h cells clock delays) s
-stops_resolving h cells clock delays (stop.Refused r) ports annotates = annotates_nothing ports annotates
+pub stops_resolving : (h : Hierarchy) (cells : CellTable) (clock : clock_type.Clock) (delays : List Delay) (s : Stop) → first_false (has_ports h clock) ≡ None → StopsAt (λ r. first_refusal h cells delays ≡ Some r) s → StopsAt (λ r. (most : Most) → IsAnnotateRefusal most h cells clock delays r) s
+stops_resolving h cells clock delays (stop.Refused r) ports annotates = λ most. annotates_nothing ports annotates
 stops_resolving h cells clock delays stop.OutOfMemory ports annotates = tt
 
-phase_refusal : (h : Hierarchy) (cells : CellTable) (clock : clock_type.Clock) (delays : List Delay) (r : Refusal) → first_false (has_ports h clock) ≡ None → first_refusal h cells delays ≡ None → IsUntraced h cells (phase_spots h clock) r →
-    IsAnnotateRefusal h cells clock delays r
-phase_refusal h cells clock delays (refusal.NoPhase e) ports annotates untraced = no_phase ports annotates e refl untraced
-phase_refusal h cells clock delays _ ports annotates untraced = absurd untraced
+phase_refusal : (most : Most) (h : Hierarchy) (cells : CellTable) (clock : clock_type.Clock) (delays : List Delay) (r : Refusal) → first_false (has_ports h clock) ≡ None → first_refusal h cells delays ≡ None → IsUntraced h cells (phase_spots h clock) r →
+    IsAnnotateRefusal most h cells clock delays r
+phase_refusal most h cells clock delays (refusal.NoPhase e) ports annotates untraced = no_phase ports annotates e refl untraced
+phase_refusal most h cells clock delays _ ports annotates untraced = absurd untraced
 
 pub stops_phase : (h : Hierarchy) (cells : CellTable) (clock : clock_type.Clock) (delays : List Delay) (s : Stop) → first_false (has_ports h clock) ≡ None → first_refusal h cells delays ≡ None → StopsAt (IsUntraced h cells (phase_spots h clock)) s →
-    StopsAt (IsAnnotateRefusal h cells clock delays) s
-stops_phase h cells clock delays (stop.Refused r) ports annotates untraced = phase_refusal h cells clock delays r ports annotates untraced
+    StopsAt (λ r. (most : Most) → IsAnnotateRefusal most h cells clock delays r) s
+stops_phase h cells clock delays (stop.Refused r) ports annotates untraced = λ most. phase_refusal most h cells clock delays r ports annotates untraced
 stops_phase h cells clock delays stop.OutOfMemory ports annotates untraced = tt
+
+-- whatever the limits of the run
+pub stops_gathering : (most : Most) (h : Hierarchy) (cells : CellTable) (clock : clock_type.Clock) (delays : List Delay) (s : Stop) → StopsAt (λ r. (m : Most) → IsAnnotateRefusal m h cells clock delays r) s → StopsAt (IsAnnotateRefusal most h cells clock delays) s
+stops_gathering most h cells clock delays (stop.Refused r) known = known most
+stops_gathering most h cells clock delays stop.OutOfMemory known = tt
 
 -- ---- how many
 product : {X : Type 0} (f : ℕ → ℕ → X) (ins outs : List ℕ) → length (flat_map (λ i. map (f i) outs) ins) ≡ length ins * length outs
@@ -117,19 +123,19 @@ arcs_count h cells ranges ins outs =
     )
 
 -- the limit of the design is that of its counts
-pub limit_counts : (h : Hierarchy) (cells : CellTable) (clock : clock_type.Clock) (ranges : RangeOf) (phases : List ℕ) → length phases ≡ length (storage h cells) →
-    limit_of (design_with h cells clock ranges phases) ≡ over_limit (quantities (length h.inner) (length clock.phases) (length phases + length (bits_of h false clock.inputs) + length (bits_of h true clock.outputs))
+pub limit_counts : (most : Most) (h : Hierarchy) (cells : CellTable) (clock : clock_type.Clock) (ranges : RangeOf) (phases : List ℕ) → length phases ≡ length (storage h cells) →
+    limit_of most (design_with h cells clock ranges phases) ≡ over_limit (quantities most (length h.inner) (length clock.phases) (length phases + length (bits_of h false clock.inputs) + length (bits_of h true clock.outputs))
     (length h.joins + leaf_arc_count h cells + length (bits_of h false clock.inputs) + length (bits_of h true clock.outputs)) (length clock.bounds))
-limit_counts h cells clock ranges phases same =
+limit_counts most h cells clock ranges phases same =
     rw (length-map h.inner (inner_name h), length-map clock.phases (λ p. p.name), elements_count h cells clock ranges phases same, arcs_count h cells ranges (bits_of h false clock.inputs) (bits_of h true clock.outputs), same) refl
 
 third_test : (a b c : Bool) (x y z : Kind × ℕ × ℕ) (rest : Option (Kind × ℕ × ℕ)) (f : Kind × ℕ × ℕ → Refusal) → option_map f (cond a (Some x) (cond b (Some y) (cond c (Some z) rest))) ≡ None → c ≡ false
 third_test false false false x y z rest f e = refl
 third_test _ _ _ x y z rest f e = absurd (cc)
 
-pub few_elements : (inner phases elements arcs bounds : ℕ) → over_limit (quantities inner phases elements arcs bounds) ≡ None → elements ≤ MOST_ELEMENTS
-few_elements inner phases elements arcs bounds none =
-    let test = third_test (nat_lt 262144 inner) (nat_lt 8 phases) (nat_lt 2000 elements) _ _ _ _ _ none in
+pub few_elements : (most : Most) (inner phases elements arcs bounds : ℕ) → over_limit (quantities most inner phases elements arcs bounds) ≡ None → elements ≤ most.elements
+few_elements most inner phases elements arcs bounds none =
+    let test = third_test (nat_lt most.inner inner) (nat_lt 8 phases) (nat_lt most.elements elements) _ _ _ _ _ none in
     grind (arith, nat_tests, test)
 
 -- ---- other ranges that are the same
@@ -214,8 +220,8 @@ module _ (h : Hierarchy) (cells : CellTable) (clock : clock_type.Clock) (g : Gat
   few_stored few =
       omega (arith, as_stored, length-filter (stored h cells) (all_leaves h), count_by-le-length (stored h cells) (all_leaves h), length-range_with_len 0 (length h.leaves), few)
 
-  pub few_gathered : limit_of (design_of_gathered h cells clock g) ≡ None → length g.phases + length (bits_of h false clock.inputs) + length (bits_of h true clock.outputs) ≤ MOST_ELEMENTS
-  few_gathered none = few_elements (length h.inner) (length clock.phases) _ (length h.joins + leaf_arc_count h cells + length (bits_of h false clock.inputs) + length (bits_of h true clock.outputs)) (length clock.bounds) (sym (limit_counts h cells clock (look g.ranges) g.phases as_stored) ∙ none)
+  pub few_gathered : (most : Most) → limit_of most (design_of_gathered h cells clock g) ≡ None → length g.phases + length (bits_of h false clock.inputs) + length (bits_of h true clock.outputs) ≤ most.elements
+  few_gathered most none = few_elements most (length h.inner) (length clock.phases) _ (length h.joins + leaf_arc_count h cells + length (bits_of h false clock.inputs) + length (bits_of h true clock.outputs)) (length clock.bounds) (sym (limit_counts most h cells clock (look g.ranges) g.phases as_stored) ∙ none)
 
   pub made_of : (delays : List Delay) → IsResolved h cells delays g → IsMade h cells clock delays (design_of_gathered h cells clock g)
   made_of delays resolved =
@@ -229,7 +235,7 @@ no_stop : (P : Refusal → Type 0) (s : Stop) → StopsAt (λ r. ⊥) s → Stop
 no_stop P (stop.Refused r) none = absurd none
 no_stop P stop.OutOfMemory none = tt
 
-pub built : (h : Hierarchy) (cells : CellTable) (clock : clock_type.Clock) (delays : List Delay) (design : Design) (r : Result Design Stop) → IsMade h cells clock delays design → limit_of design ≡ None → MatchResult r (λ flat. flat ≡ design) (StopsAt (λ refused. ⊥)) →
-    MatchResult r (IsAnnotated h cells clock delays) (StopsAt (IsAnnotateRefusal h cells clock delays))
-built h cells clock delays design (Ok flat) made none same = record { whole = subst (IsMade h cells clock delays) (sym same) made; within = ap limit_of same ∙ none }
-built h cells clock delays design (Err s) made none same = no_stop (IsAnnotateRefusal h cells clock delays) s same
+pub built : (most : Most) (h : Hierarchy) (cells : CellTable) (clock : clock_type.Clock) (delays : List Delay) (design : Design) (r : Result Design Stop) → IsMade h cells clock delays design → limit_of most design ≡ None → MatchResult r (λ flat. flat ≡ design) (StopsAt (λ refused. ⊥)) →
+    MatchResult r (IsAnnotated most h cells clock delays) (StopsAt (IsAnnotateRefusal most h cells clock delays))
+built most h cells clock delays design (Ok flat) made none same = record { whole = subst (IsMade h cells clock delays) (sym same) made; within = ap (limit_of most) same ∙ none }
+built most h cells clock delays design (Err s) made none same = no_stop (IsAnnotateRefusal most h cells clock delays) s same

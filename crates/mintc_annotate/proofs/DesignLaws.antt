@@ -1,6 +1,7 @@
 -- One design, and none beside a refusal.
 use Rattle.std.proofs.Common.{◌≡◌, ℕ, suc, length, Bool, List, [], ◌∷◌, ◌++◌, Option, Some, None, refl, sym, ap, ◌∙◌, subst, arith}
 use Rattle.std.specs.List.{AllZip}
+use Rattle.mintc_text.specs.declared.limits.Most.{Most}
 use Rattle.mintc_text.specs.declared.refusals.Refusal.{Refusal}
 use Rattle.mintc_text.specs.declared.refusals.Refusal.TheVariants as refusal
 use Rattle.mintc_text.specs.declared.refusals.Role.TheVariants as role
@@ -60,12 +61,12 @@ no_port_refusal : (tests : List Bool) (refused : Refusal) → first_false tests 
 no_port_refusal tests (refusal.NoInstance role.Clock entry) none h = none_or (first_false tests) entry none h
 no_port_refusal tests _ none h = h
 
-refused_or_made : (h : Hierarchy) (cells : CellTable) (clock : Clock) (delays : List Delay) (design : Design) (refused : Refusal) → IsAnnotated h cells clock delays design → IsAnnotateRefusal h cells clock delays refused → ⊥
-refused_or_made h cells clock delays design refused a (no_port port) = no_port_refusal (has_ports h clock) refused a.whole.ports port
-refused_or_made h cells clock delays design refused a (annotates_nothing ports annotates) = none_or (first_refusal h cells delays) refused a.whole.annotates annotates
-refused_or_made h cells clock delays design refused a (no_phase ports annotates e same untraced) = untraced_or_made h cells clock delays design e a.whole untraced
-refused_or_made h cells clock delays design refused a (too_many other made over) =
-    none_or (limit_of other) refused (subst (λ (d : Design). limit_of d ≡ None) (one_made h cells clock delays design other a.whole made) a.within) over
+refused_or_made : (most : Most) (h : Hierarchy) (cells : CellTable) (clock : Clock) (delays : List Delay) (design : Design) (refused : Refusal) → IsAnnotated most h cells clock delays design → IsAnnotateRefusal most h cells clock delays refused → ⊥
+refused_or_made most h cells clock delays design refused a (no_port port) = no_port_refusal (has_ports h clock) refused a.whole.ports port
+refused_or_made most h cells clock delays design refused a (annotates_nothing ports annotates) = none_or (first_refusal h cells delays) refused a.whole.annotates annotates
+refused_or_made most h cells clock delays design refused a (no_phase ports annotates e same untraced) = untraced_or_made h cells clock delays design e a.whole untraced
+refused_or_made most h cells clock delays design refused a (too_many other made over) =
+    none_or (limit_of most other) refused (subst (λ (d : Design). limit_of most d ≡ None) (one_made h cells clock delays design other a.whole made) a.within) over
 
 pub not_refused_lem : DesignsAreNotRefused
 not_refused_lem = refused_or_made
@@ -91,25 +92,25 @@ one_port tests (refusal.NoInstance role.Clock entry) (refusal.NoInstance role.Cl
 one_port tests (refusal.NoInstance role.Clock entry) _ a b = absurd b
 one_port tests _ other a b = absurd a
 
-one_refusal : (h : Hierarchy) (cells : CellTable) (clock : Clock) (delays : List Delay) (refused other : Refusal) → IsAnnotateRefusal h cells clock delays refused → IsAnnotateRefusal h cells clock delays other → refused ≡ other
-one_refusal h cells clock delays refused other (no_port a) (no_port b) = one_port (has_ports h clock) refused other a b
-one_refusal h cells clock delays refused other (no_port a) (annotates_nothing ports b) = absurd (no_port_refusal (has_ports h clock) refused ports a)
-one_refusal h cells clock delays refused other (no_port a) (no_phase ports annotates e same b) = absurd (no_port_refusal (has_ports h clock) refused ports a)
-one_refusal h cells clock delays refused other (no_port a) (too_many design made over) = absurd (no_port_refusal (has_ports h clock) refused made.ports a)
-one_refusal h cells clock delays refused other (annotates_nothing ports a) (no_port b) = absurd (no_port_refusal (has_ports h clock) other ports b)
-one_refusal h cells clock delays refused other (annotates_nothing ports a) (annotates_nothing others b) = one_of (first_refusal h cells delays) refused other a b
-one_refusal h cells clock delays refused other (annotates_nothing ports a) (no_phase others annotates e same b) = absurd (none_or (first_refusal h cells delays) refused annotates a)
-one_refusal h cells clock delays refused other (annotates_nothing ports a) (too_many design made over) = absurd (none_or (first_refusal h cells delays) refused made.annotates a)
-one_refusal h cells clock delays refused other (no_phase ports annotates e same a) (no_port b) = absurd (no_port_refusal (has_ports h clock) other ports b)
-one_refusal h cells clock delays refused other (no_phase ports annotates e same a) (annotates_nothing others b) = absurd (none_or (first_refusal h cells delays) other annotates b)
-one_refusal h cells clock delays refused other (no_phase ports annotates e same a) (no_phase others annotates_too f same_too b) =
+one_refusal : (most : Most) (h : Hierarchy) (cells : CellTable) (clock : Clock) (delays : List Delay) (refused other : Refusal) → IsAnnotateRefusal most h cells clock delays refused → IsAnnotateRefusal most h cells clock delays other → refused ≡ other
+one_refusal most h cells clock delays refused other (no_port a) (no_port b) = one_port (has_ports h clock) refused other a b
+one_refusal most h cells clock delays refused other (no_port a) (annotates_nothing ports b) = absurd (no_port_refusal (has_ports h clock) refused ports a)
+one_refusal most h cells clock delays refused other (no_port a) (no_phase ports annotates e same b) = absurd (no_port_refusal (has_ports h clock) refused ports a)
+one_refusal most h cells clock delays refused other (no_port a) (too_many design made over) = absurd (no_port_refusal (has_ports h clock) refused made.ports a)
+one_refusal most h cells clock delays refused other (annotates_nothing ports a) (no_port b) = absurd (no_port_refusal (has_ports h clock) other ports b)
+one_refusal most h cells clock delays refused other (annotates_nothing ports a) (annotates_nothing others b) = one_of (first_refusal h cells delays) refused other a b
+one_refusal most h cells clock delays refused other (annotates_nothing ports a) (no_phase others annotates e same b) = absurd (none_or (first_refusal h cells delays) refused annotates a)
+one_refusal most h cells clock delays refused other (annotates_nothing ports a) (too_many design made over) = absurd (none_or (first_refusal h cells delays) refused made.annotates a)
+one_refusal most h cells clock delays refused other (no_phase ports annotates e same a) (no_port b) = absurd (no_port_refusal (has_ports h clock) other ports b)
+one_refusal most h cells clock delays refused other (no_phase ports annotates e same a) (annotates_nothing others b) = absurd (none_or (first_refusal h cells delays) other annotates b)
+one_refusal most h cells clock delays refused other (no_phase ports annotates e same a) (no_phase others annotates_too f same_too b) =
     same ∙ ap refusal.NoPhase (one_untraced h cells (phase_spots h clock) e f a b) ∙ sym same_too
-one_refusal h cells clock delays refused other (no_phase ports annotates e same a) (too_many design made over) = absurd (untraced_or_made h cells clock delays design e made a)
-one_refusal h cells clock delays refused other (too_many design made over) (no_port b) = absurd (no_port_refusal (has_ports h clock) other made.ports b)
-one_refusal h cells clock delays refused other (too_many design made over) (annotates_nothing others b) = absurd (none_or (first_refusal h cells delays) other made.annotates b)
-one_refusal h cells clock delays refused other (too_many design made over) (no_phase others annotates e same b) = absurd (untraced_or_made h cells clock delays design e made b)
-one_refusal h cells clock delays refused other (too_many design made over) (too_many design_too made_too over_too) =
-    one_of (limit_of design) refused other over (ap limit_of (one_made h cells clock delays design design_too made made_too) ∙ over_too)
+one_refusal most h cells clock delays refused other (no_phase ports annotates e same a) (too_many design made over) = absurd (untraced_or_made h cells clock delays design e made a)
+one_refusal most h cells clock delays refused other (too_many design made over) (no_port b) = absurd (no_port_refusal (has_ports h clock) other made.ports b)
+one_refusal most h cells clock delays refused other (too_many design made over) (annotates_nothing others b) = absurd (none_or (first_refusal h cells delays) other made.annotates b)
+one_refusal most h cells clock delays refused other (too_many design made over) (no_phase others annotates e same b) = absurd (untraced_or_made h cells clock delays design e made b)
+one_refusal most h cells clock delays refused other (too_many design made over) (too_many design_too made_too over_too) =
+    one_of (limit_of most design) refused other over (ap (limit_of most) (one_made h cells clock delays design design_too made made_too) ∙ over_too)
 
 pub one_refusal_lem : AnnotateRefusalsAreDetermined
 one_refusal_lem = one_refusal

@@ -3,6 +3,7 @@
 use Rattle.std.proofs.Common.{◌≡◌, ◌<◌, ◌+◌, ℕ, List, [], ◌∷◌, ◌++◌, length, Option, Some, None, refl, ap, arith, ◌⊎◌, inl, inr, ⊎_elim}
 use Rattle.std.specs.List.{AllZip}
 use Rattle.std.proofs.lemmas.List.Elements.{All-nil, All-cons, All-weaker}
+use Rattle.mintc_text.specs.declared.limits.Most.{Most}
 use Rattle.mintc_text.specs.declared.refusals.Refusal.{Refusal}
 use Rattle.mintc_text.specs.declared.refusals.Refusal.TheVariants as refusal
 use Rattle.mintc_text.specs.declared.refusals.Role.TheVariants as role
@@ -87,7 +88,7 @@ traced : (P : ℕ → ℕ → Type 0) → ((l : ℕ) → Phased (P l)) → (ls :
 traced P each [] = inl ([], tt)
 traced P each (l ∷ ls) = one_more P l ls (each l) (traced P each ls)
 
-module _ (h : Hierarchy) (cells : CellTable) (clock : clock_type.Clock) (delays : List Delay) where
+module _ (most : Most) (h : Hierarchy) (cells : CellTable) (clock : clock_type.Clock) (delays : List Delay) where
   abbrev spots : List Spot
   spots = phase_spots h clock
 
@@ -102,16 +103,16 @@ module _ (h : Hierarchy) (cells : CellTable) (clock : clock_type.Clock) (delays 
       (start_of h l (leaf_cell h cells l))
 
   abbrev Answer : Type 0
-  Answer = ((design : Design) × IsAnnotated h cells clock delays design) ⊎ ((refused : Refusal) × IsAnnotateRefusal h cells clock delays refused)
+  Answer = ((design : Design) × IsAnnotated most h cells clock delays design) ⊎ ((refused : Refusal) × IsAnnotateRefusal most h cells clock delays refused)
 
-  of_made : (design : Design) (over : Option Refusal) → IsMade h cells clock delays design → limit_of design ≡ over → Answer
+  of_made : (design : Design) (over : Option Refusal) → IsMade h cells clock delays design → limit_of most design ≡ over → Answer
   of_made design None made is = inl (design, record { whole = made; within = is })
   of_made design (Some refused) made is = inr (refused, too_many design made is)
 
   of_traced : first_false (has_ports h clock) ≡ None → first_refusal h cells delays ≡ None → Traced (IsPhaseOf h cells spots) (storage h cells) → Answer
   of_traced ports annotates (inl (phases, all)) =
       let design = design_made h cells clock delays phases in
-      of_made design (limit_of design) (record { ports = ports; annotates = annotates; phases = phases; traced = all; made = refl }) refl
+      of_made design (limit_of most design) (record { ports = ports; annotates = annotates; phases = phases; traced = all; made = refl }) refl
   of_traced ports annotates (inr (before, phases, leaf, after, whole, all, none)) =
       inr (
         refusal.NoPhase (length before),
@@ -127,4 +128,4 @@ module _ (h : Hierarchy) (cells : CellTable) (clock : clock_type.Clock) (delays 
   of_ports (Some n) is = inr (refusal.NoInstance role.Clock n, no_port is)
 
 pub have_design_or_refusal : HaveDesignOrRefusal
-have_design_or_refusal h cells clock delays = of_ports h cells clock delays (first_false (has_ports h clock)) refl
+have_design_or_refusal most h cells clock delays = of_ports most h cells clock delays (first_false (has_ports h clock)) refl

@@ -1,6 +1,7 @@
 mod AnnotateLaws
 mod ArcLimits
 mod BuildLaws
+mod CountLaws
 mod DesignLaws
 mod DesignLimits
 mod ElementLimits

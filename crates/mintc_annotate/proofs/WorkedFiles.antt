@@ -1,5 +1,6 @@
 -- The worked files: two latches in a ring of two halves, each with a buffer.
 use Rattle.std.proofs.Common.{◌≡◌, ℕ, zero, suc, pos, true, false, List, [], ◌∷◌, length, slice_index_or, Some, None, codes, refl, sym, ap, subst}
+use Rattle.mintc_text.specs.Limits.{usual}
 use Rattle.mintc_cells.specs.declared.cell.Cell.TheVariants.{Gate, Latch}
 use Rattle.mintc_flatten_hierarchy.specs.declared.hierarchy.Hierarchy.{Hierarchy}
 use Rattle.mintc_flatten_hierarchy.specs.declared.hierarchy.Inner.TheVariants.{Net, Pin}
@@ -68,7 +69,7 @@ two_ports = refl
 pub two_made : design_made two two_cells two_clock two_delays (1 ∷ 2 ∷ []) ≡ two_design
 two_made = refl
 
-pub two_within : limit_of two_design ≡ None
+pub two_within : limit_of usual two_design ≡ None
 two_within = refl
 
 pub two_elements : length two_design.elements ≡ 2
@@ -89,7 +90,7 @@ second_latch = record { start = spot 22 true; steps = 2; end = spot 1 true; star
 pub two_traced : AreTraced two two_cells (phase_spots two two_clock) (1 ∷ 2 ∷ [])
 two_traced = (first_latch, (second_latch, tt))
 
-pub two_annotated : IsAnnotated two two_cells two_clock two_delays two_design
+pub two_annotated : IsAnnotated usual two two_cells two_clock two_delays two_design
 two_annotated = record {
   whole = record { ports = two_ports; annotates = two_annotates; phases = 1 ∷ 2 ∷ []; traced = two_traced; made = sym two_made };
   within = two_within;

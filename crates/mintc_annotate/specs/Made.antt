@@ -3,6 +3,7 @@ use Rattle.std.specs.Prelude.{◌≡◌, ℕ, ◌+◌, ◌*◌, ℤ, pos, Bool, 
 use Rattle.std.specs.Prelude.{map, length, slice_index_or, take, count_by, flat_map, zip, Option, Some, None, unwrap_or}
 use Rattle.std.specs.Prelude.{is_some}
 use Rattle.std.specs.Option.{option_or}
+use Rattle.mintc_text.specs.declared.limits.Most.{Most}
 use Rattle.mintc_text.specs.declared.refusals.Refusal.{Refusal}
 use Rattle.mintc_text.specs.declared.refusals.Refusal.TheVariants as refusal
 use Rattle.mintc_cells.specs.declared.cell.Cell.{Cell}
@@ -238,20 +239,22 @@ pub record IsMade (h : Hierarchy) (cells : CellTable) (clock : clock_type.Clock)
   pub traced : AreTraced h cells (phase_spots h clock) phases
   pub made : design ≡ design_made h cells clock delays phases
 
--- What `annotate` gives: that design, within its limits.
-pub record IsAnnotated (h : Hierarchy) (cells : CellTable) (clock : clock_type.Clock) (delays : List Delay)
+-- What `annotate` gives: that design, within the limits of the run.
+pub record IsAnnotated (most : Most) (h : Hierarchy) (cells : CellTable) (clock : clock_type.Clock)
+    (delays : List Delay)
     (design : Design) : Type 0 where
   pub whole : IsMade h cells clock delays design
-  pub within : limit_of design ≡ None
+  pub within : limit_of most design ≡ None
 
 -- What it refuses, in the order of a run.
-pub data IsAnnotateRefusal (h : Hierarchy) (cells : CellTable) (clock : clock_type.Clock) (delays : List Delay)
+pub data IsAnnotateRefusal (most : Most) (h : Hierarchy) (cells : CellTable) (clock : clock_type.Clock)
+    (delays : List Delay)
     (refused : Refusal) : Type 0 where
-  no_port : IsPortRefusal (has_ports h clock) refused → IsAnnotateRefusal h cells clock delays refused
+  no_port : IsPortRefusal (has_ports h clock) refused → IsAnnotateRefusal most h cells clock delays refused
   annotates_nothing : first_false (has_ports h clock) ≡ None → first_refusal h cells delays ≡ Some refused →
-      IsAnnotateRefusal h cells clock delays refused
+      IsAnnotateRefusal most h cells clock delays refused
   no_phase : first_false (has_ports h clock) ≡ None → first_refusal h cells delays ≡ None → (e : ℕ) →
       refused ≡ refusal.NoPhase e → IsFirstUntraced h cells (phase_spots h clock) e →
-      IsAnnotateRefusal h cells clock delays refused
-  too_many : (design : Design) → IsMade h cells clock delays design → limit_of design ≡ Some refused →
-      IsAnnotateRefusal h cells clock delays refused
+      IsAnnotateRefusal most h cells clock delays refused
+  too_many : (design : Design) → IsMade h cells clock delays design → limit_of most design ≡ Some refused →
+      IsAnnotateRefusal most h cells clock delays refused

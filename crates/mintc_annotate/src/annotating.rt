@@ -23,34 +23,44 @@ use mintc_cells::Cells;
 use mintc_clock::{Clock, PhaseDef, clocks_keep_limits};
 use mintc_flatten_hierarchy::{Hierarchy, hierarchies_are_in_shape};
 use mintc_sdf::{Delays, delays_are_within};
-use mintc_text::{Name, Names, OutOfMemory, Refusal, Stop};
+use mintc_text::{Limits, Name, Names, OutOfMemory, Refusal, Stop};
 use mintc_timing::{Bound, Element, Flat, TimingArc, first_over};
 use std::alloc::Global;
 
-/// The refusal of the first quantity of the design that passes its limit, by its latches and flops and by the bits
-/// of its listed ports.
-fn limit_by_counts(
-    hierarchy: &Hierarchy,
-    cells: &Cells,
-    clock: &Clock,
+/// How many elements a design has: its latches and flops, and the bits of its listed inputs and outputs, each of the
+/// two up to `MOST_TOLD`.
+#[derive(Clone, Copy)]
+pub(crate) struct ElementCounts {
     stored: usize,
     inputs: u64,
     outputs: u64,
+}
+
+/// The refusal of the first quantity of the design that passes its limit, by how many elements it has.
+fn limit_by_counts(
+    limits: &Limits,
+    hierarchy: &Hierarchy,
+    cells: &Cells,
+    clock: &Clock,
+    counts: ElementCounts,
 ) -> Option<Refusal>
     requires shape { IsFlattened cells.now hierarchy.now }
-    requires stored { stored ≤ MOST_LEAVES }
-    requires inputs { inputs ≤ MOST_TOLD }
-    requires outputs { outputs ≤ MOST_TOLD }
-    ensures { (i o : ℕ) → inputs ≡ min i MOST_TOLD → outputs ≡ min o MOST_TOLD →
-        result ≡ over_limit (quantities (length hierarchy.now.inner) (length clock.now.phases) (stored + i + o)
+    requires stored { counts.stored ≤ MOST_LEAVES }
+    requires inputs { counts.inputs ≤ MOST_TOLD }
+    requires outputs { counts.outputs ≤ MOST_TOLD }
+    ensures { (i o : ℕ) → counts.inputs ≡ min i MOST_TOLD → counts.outputs ≡ min o MOST_TOLD →
+        result ≡ over_limit (quantities limits.now (length hierarchy.now.inner) (length clock.now.phases)
+        (counts.stored + i + o)
         (length hierarchy.now.joins + leaf_arc_count hierarchy.now cells.now + i + o) (length clock.now.bounds)) }
 {
-    let elements = stored as u64 + inputs + outputs;
+    let _most = limits.most();
+    let elements = counts.stored as u64 + counts.inputs + counts.outputs;
     let arcs = hierarchy.joins.items().len() as u64
         + leaf_arc_count(hierarchy, cells)
-        + inputs
-        + outputs;
+        + counts.inputs
+        + counts.outputs;
     first_over(
+        limits,
         hierarchy.inner.items().len(),
         clock.phases.items().len(),
         elements as usize,
@@ -61,6 +71,7 @@ fn limit_by_counts(
 
 /// The refusal of the first quantity of the design that passes its limit.
 fn limit(
+    limits: &Limits,
     hierarchy: &Hierarchy,
     cells: &Cells,
     clock: &Clock,
@@ -68,17 +79,15 @@ fn limit(
 ) -> Option<Refusal>
     requires shape { IsFlattened cells.now hierarchy.now }
     requires gathered { AreGathered hierarchy.now cells.now clock.now gathered.now }
-    ensures { result ≡ limit_of (design_of_gathered hierarchy.now cells.now clock.now gathered.now) }
+    ensures { result ≡ limit_of limits.now (design_of_gathered hierarchy.now cells.now clock.now gathered.now) }
 {
     let stored = gathered.phases.items().len();
-    limit_by_counts(
-        hierarchy,
-        cells,
-        clock,
+    let counts = ElementCounts {
         stored,
-        gathered.inputs,
-        gathered.outputs,
-    )
+        inputs: gathered.inputs,
+        outputs: gathered.outputs,
+    };
+    limit_by_counts(limits, hierarchy, cells, clock, counts)
 }
 
 /// The elements: the latches and flops, the bits of listed inputs, the bits of listed outputs.
@@ -179,6 +188,7 @@ pub(crate) struct Parts {
 /// The elements and the arcs of a design within its limits.
 fn elements_and_arcs(
     alloc: Global,
+    limits: &Limits,
     hierarchy: &Hierarchy,
     cells: &Cells,
     clock: &Clock,
@@ -186,12 +196,13 @@ fn elements_and_arcs(
 ) -> Result<(Vec<Element>, Vec<TimingArc>), OutOfMemory>
     requires shape { IsFlattened cells.now hierarchy.now }
     requires gathered { AreGathered hierarchy.now cells.now clock.now gathered.now }
-    requires within { limit_of (design_of_gathered hierarchy.now cells.now clock.now gathered.now) ≡ None }
+    requires within { limit_of limits.now (design_of_gathered hierarchy.now cells.now clock.now gathered.now) ≡ None }
     ensures elements { IfOk result (λ both. both.0.items
         ≡ elements_of hierarchy.now cells.now clock.now (look gathered.now.ranges) gathered.now.phases) }
     ensures arcs { IfOk result (λ both. both.1.items
         ≡ arcs_of hierarchy.now cells.now clock.now (look gathered.now.ranges)) }
 {
+    let _most = limits.most();
     let bits = listed_bits(alloc, hierarchy, clock)?;
     let elements = elements(alloc, hierarchy, cells, clock, gathered, &bits)?;
     let arcs = arcs(alloc, hierarchy, cells, gathered, &bits)?;
@@ -201,6 +212,7 @@ fn elements_and_arcs(
 /// The parts of the design of what is gathered, within its limits.
 fn parts_of(
     alloc: Global,
+    limits: &Limits,
     hierarchy: &Hierarchy,
     cells: &Cells,
     clock: &Clock,
@@ -208,7 +220,7 @@ fn parts_of(
 ) -> Result<Parts, OutOfMemory>
     requires shape { IsFlattened cells.now hierarchy.now }
     requires gathered { AreGathered hierarchy.now cells.now clock.now gathered.now }
-    requires within { limit_of (design_of_gathered hierarchy.now cells.now clock.now gathered.now) ≡ None }
+    requires within { limit_of limits.now (design_of_gathered hierarchy.now cells.now clock.now gathered.now) ≡ None }
     ensures phases { IfOk result (λ parts. parts.phases ≡ map (λ p. p.name) clock.now.phases) }
     ensures elements { IfOk result (λ parts. parts.elements.items
         ≡ elements_of hierarchy.now cells.now clock.now (look gathered.now.ranges) gathered.now.phases) }
@@ -218,7 +230,7 @@ fn parts_of(
 {
     let phases = Names::new(phase_names(alloc, clock.phases.items())?);
     let bounds = copy_bounds(alloc, clock.bounds.items())?;
-    let (elements, arcs) = elements_and_arcs(alloc, hierarchy, cells, clock, gathered)?;
+    let (elements, arcs) = elements_and_arcs(alloc, limits, hierarchy, cells, clock, gathered)?;
     Ok(Parts {
         phases,
         elements,
@@ -230,6 +242,7 @@ fn parts_of(
 /// The design of what is gathered, within its limits.
 fn build(
     alloc: Global,
+    limits: &Limits,
     hierarchy: &Hierarchy,
     cells: &Cells,
     clock: &Clock,
@@ -238,13 +251,14 @@ fn build(
     requires shape { IsFlattened cells.now hierarchy.now }
     requires gathered { AreGathered hierarchy.now cells.now clock.now gathered }
     requires parts { HasParts (design_of_gathered hierarchy.now cells.now clock.now gathered) }
-    requires within { limit_of (design_of_gathered hierarchy.now cells.now clock.now gathered) ≡ None }
+    requires within { limit_of limits.now (design_of_gathered hierarchy.now cells.now clock.now gathered) ≡ None }
     ensures { MatchResult result (λ flat. flat ≡ design_of_gathered hierarchy.now cells.now clock.now gathered)
         (StopsAt (λ refused. ⊥)) }
 {
-    let parts = parts_of(alloc, hierarchy, cells, clock, &gathered)?;
+    let parts = parts_of(alloc, limits, hierarchy, cells, clock, &gathered)?;
     let inner = Names::new(gathered.names);
     Ok(Flat::new(
+        limits,
         parts.phases,
         parts.elements,
         inner,
@@ -256,6 +270,7 @@ fn build(
 /// The same over a hierarchy in shape.
 fn annotate_in_shape(
     alloc: Global,
+    limits: &Limits,
     hierarchy: &Hierarchy,
     cells: &Cells,
     clock: &Clock,
@@ -264,24 +279,26 @@ fn annotate_in_shape(
     requires shape { IsFlattened cells.now hierarchy.now }
     requires clock { IsGivenClock clock.now }
     requires delays { AreGivenDelays delays.now.items }
-    ensures { MatchResult result (IsAnnotated hierarchy.now cells.now clock.now delays.now.items)
-        (StopsAt (IsAnnotateRefusal hierarchy.now cells.now clock.now delays.now.items)) }
+    ensures { MatchResult result (IsAnnotated limits.now hierarchy.now cells.now clock.now delays.now.items)
+        (StopsAt (IsAnnotateRefusal limits.now hierarchy.now cells.now clock.now delays.now.items)) }
 {
     clocks_keep_limits();
     delays_are_within();
     // The rules that cells keep are known from the count on.
     let _count = cells.count();
     let gathered = gather(alloc, hierarchy, cells, clock, delays)?;
-    match limit(hierarchy, cells, clock, &gathered) {
+    match limit(limits, hierarchy, cells, clock, &gathered) {
         Some(refusal) => Err(Stop::Refused(refusal)),
-        None => build(alloc, hierarchy, cells, clock, gathered),
+        None => build(alloc, limits, hierarchy, cells, clock, gathered),
     }
 }
 
-/// The design of a hierarchy with its cells, clock and delays. The refusal is NoInstance of the clock, NoInstance
-/// or NoArc of the first delay that has one, NoPhase, or Limit of phases, elements, arcs or bounds; in that order.
+/// The design of a hierarchy with its cells, clock and delays. The refusal is NoInstance of the clock, NoInstance or
+/// NoArc of the first delay that has one, NoPhase, or Limit of inner bits, phases, elements, arcs or bounds in this
+/// run; in that order.
 pub fn annotate(
     alloc: Global,
+    limits: &Limits,
     hierarchy: &Hierarchy,
     cells: &Cells,
     clock: &Clock,
@@ -290,9 +307,9 @@ pub fn annotate(
     requires hierarchy { IsGivenHierarchy cells.now hierarchy.now }
     requires clock { IsGivenClock clock.now }
     requires delays { AreGivenDelays delays.now.items }
-    ensures { MatchResult result (IsAnnotated hierarchy.now cells.now clock.now delays.now.items)
-        (StopsAt (IsAnnotateRefusal hierarchy.now cells.now clock.now delays.now.items)) }
+    ensures { MatchResult result (IsAnnotated limits.now hierarchy.now cells.now clock.now delays.now.items)
+        (StopsAt (IsAnnotateRefusal limits.now hierarchy.now cells.now clock.now delays.now.items)) }
 {
     hierarchies_are_in_shape();
-    annotate_in_shape(alloc, hierarchy, cells, clock, delays)
+    annotate_in_shape(alloc, limits, hierarchy, cells, clock, delays)
 }

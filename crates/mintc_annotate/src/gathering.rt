@@ -1,6 +1,7 @@
 //! What is gathered for a design before it is made.
 ghost use Rattle.std.specs.Prelude.{MatchResult};
 ghost use Rattle.mintc_text.specs.Stops.{StopsAt};
+ghost use Rattle.mintc_text.specs.declared.limits.Most.{Most};
 ghost use Rattle.mintc_flatten_hierarchy.specs.Shape.{IsFlattened};
 ghost use Rattle.mintc_annotate.specs.Gathered.{AreGathered, IsResolved};
 ghost use Rattle.mintc_annotate.specs.Made.{IsAnnotateRefusal};
@@ -39,7 +40,7 @@ pub(crate) fn gather(
     requires { IsFlattened cells.now hierarchy.now }
     ensures { MatchResult result (λ g. AreGathered hierarchy.now cells.now clock.now g
         × IsResolved hierarchy.now cells.now delays.now.items g)
-        (StopsAt (IsAnnotateRefusal hierarchy.now cells.now clock.now delays.now.items)) }
+        (StopsAt (λ r. (most : Most) → IsAnnotateRefusal most hierarchy.now cells.now clock.now delays.now.items r)) }
 {
     let names = inner_names(alloc, hierarchy)?;
     let clocked = clock_ports(alloc, &names, hierarchy.ports.items(), clock)?;

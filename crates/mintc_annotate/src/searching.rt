@@ -122,7 +122,7 @@ pub(crate) fn jumps(alloc: Global, table: &[Option<Drive>]) -> Result<Vec<Jump>,
         AreJumps ds MOST_INNER (length table.now) v.items) }
 {
     let mut found = first_jumps(alloc, table)?;
-    for round in 0..18u32 {
+    for round in 0..23u32 {
         let more = twice_as_far(alloc, &found)?;
         found = more;
     }

@@ -1,6 +1,7 @@
 -- Four files have a design or a refusal.
 use Rattle.std.proofs.Common.{◌≡◌, ℕ, List, [], ◌∷◌, length, Option, Some, None, Result, Ok, Err, refl, ◌⊎◌, inl, inr, ⊎_elim}
 use Rattle.std.specs.Option.{option_or}
+use Rattle.mintc_text.specs.declared.limits.Most.{Most}
 use Rattle.mintc_text.specs.declared.refusals.Refusal.{Refusal}
 use Rattle.mintc_text.specs.declared.refusals.Refusal.TheVariants as refusal
 use Rattle.mintc_text.specs.declared.refusals.Role.TheVariants as role
@@ -53,38 +54,38 @@ library_each c = library_by_result c (liberty_cells c) refl
 abbrev HasOne : List ℕ → Type 0
 HasOne tops = (number : ℕ) × (tops ≡ number ∷ [])
 
-one_of : (s : Source) (tops : List ℕ) → top_refusal s tops ≡ None → HasOne tops
-one_of s [] none = absurd (let wrong : Some (refusal.TopUnclear (length {A = ℕ} [])) ≡ None = none in cc wrong)
-one_of s (number ∷ []) none = (number, refl)
-one_of s (number ∷ other ∷ more) none = absurd (let wrong : Some (refusal.TopUnclear (length (number ∷ other ∷ more))) ≡ None = none in cc wrong)
+one_of : (most : Most) (s : Source) (tops : List ℕ) → top_refusal most s tops ≡ None → HasOne tops
+one_of most s [] none = absurd (let wrong : Some (refusal.TopUnclear (length {A = ℕ} [])) ≡ None = none in cc wrong)
+one_of most s (number ∷ []) none = (number, refl)
+one_of most s (number ∷ other ∷ more) none = absurd (let wrong : Some (refusal.TopUnclear (length (number ∷ other ∷ more))) ≡ None = none in cc wrong)
 
 second_none : {A : Type 0} (a b : Option A) → option_or a b ≡ None → b ≡ None
 second_none None b none = none
 second_none (Some x) b none = absurd (cc none)
 
-hierarchy_or : (s : Source) (top : Option (List ℕ)) (o : Option Refusal) → refusal_of s top ≡ o → ((h : Hierarchy) × IsHierarchy s top h) ⊎ ((refused : Refusal) × IsRefusal s top refused)
-hierarchy_or s top None none =
-    let one = one_of s (tops_of s top) (second_none (statements_refusal s) (top_refusal s (tops_of s top)) none) in
+hierarchy_or : (most : Most) (s : Source) (top : Option (List ℕ)) (o : Option Refusal) → refusal_of most s top ≡ o → ((h : Hierarchy) × IsHierarchy most s top h) ⊎ ((refused : Refusal) × IsRefusal most s top refused)
+hierarchy_or most s top None none =
+    let one = one_of most s (tops_of s top) (second_none (statements_refusal s) (top_refusal most s (tops_of s top)) none) in
     inl (hierarchy_of s one.0, record { unrefused = none; number = one.0; one_top = one.1; is_of_top = refl })
-hierarchy_or s top (Some refused) some = inr (refused, some)
+hierarchy_or most s top (Some refused) some = inr (refused, some)
 
-module _ (by : List ℕ → CellText) (law : AreEachLaws) (form : EachForm by) (v d c k : List ℕ) where
+module _ (by : List ℕ → CellText) (law : AreEachLaws) (form : EachForm by) (most : Most) (v d c k : List ℕ) where
   abbrev Answer : Type 0
-  Answer = ((design : Design) × IsDesignOver v d (by c) k design) ⊎ ((refused : Refusal) × IsRefusalOver v d (by c) k refused)
+  Answer = ((design : Design) × IsDesignOver most v d (by c) k design) ⊎ ((refused : Refusal) × IsRefusalOver most v d (by c) k refused)
 
   from_hierarchy : (netlist : Netlist) (delays : List Delay) (cells : CellTable) (clock : Clock) (h : Hierarchy) → AreRead v d (by c) k netlist delays cells clock →
-      IsHierarchy (source_of cells netlist.modules) clock.top h → Answer
+      IsHierarchy most (source_of cells netlist.modules) clock.top h → Answer
   from_hierarchy netlist delays cells clock h read flat = ⊎_elim
-      (λ (made : (design : Design) × IsAnnotated h cells clock delays design).
+      (λ (made : (design : Design) × IsAnnotated most h cells clock delays design).
       inl (made.0, record { netlist = netlist; delays = delays; cells = cells; clock = clock; hierarchy = h; read = read; flat = flat; annotated = made.1 }))
-      (λ (refused : (r : Refusal) × IsAnnotateRefusal h cells clock delays r). inr (refused.0, of_design netlist delays cells clock h read flat refused.1))
-      (law.design h cells clock delays)
+      (λ (refused : (r : Refusal) × IsAnnotateRefusal most h cells clock delays r). inr (refused.0, of_design netlist delays cells clock h read flat refused.1))
+      (law.design most h cells clock delays)
 
   from_read : (netlist : Netlist) (delays : List Delay) (cells : CellTable) (clock : Clock) → AreRead v d (by c) k netlist delays cells clock → Answer
   from_read netlist delays cells clock read = ⊎_elim
-      (λ (flat : (h : Hierarchy) × IsHierarchy (source_of cells netlist.modules) clock.top h). from_hierarchy netlist delays cells clock flat.0 read flat.1)
-      (λ (refused : (r : Refusal) × IsRefusal (source_of cells netlist.modules) clock.top r). inr (refused.0, of_hierarchy netlist delays cells clock read refused.1))
-      (hierarchy_or (source_of cells netlist.modules) clock.top (refusal_of (source_of cells netlist.modules) clock.top) refl)
+      (λ (flat : (h : Hierarchy) × IsHierarchy most (source_of cells netlist.modules) clock.top h). from_hierarchy netlist delays cells clock flat.0 read flat.1)
+      (λ (refused : (r : Refusal) × IsRefusal most (source_of cells netlist.modules) clock.top r). inr (refused.0, of_hierarchy netlist delays cells clock read refused.1))
+      (hierarchy_or most (source_of cells netlist.modules) clock.top (refusal_of most (source_of cells netlist.modules) clock.top) refl)
 
   from_cells : (netlist : Netlist) (delays : List Delay) (cells : CellTable) → IsNetlist v netlist → delays_of d ≡ Ok delays → (by c).Describes cells → Answer
   from_cells netlist delays cells is said described = ⊎_elim
@@ -106,4 +107,4 @@ module _ (by : List ℕ → CellText) (law : AreEachLaws) (form : EachForm by) (
       (law.netlist v)
 
 pub each_lem : (by : List ℕ → CellText) → AreEachLaws → EachForm by → FilesHaveDesignOrRefusal by
-each_lem by law form v d c k = each by law form v d c k
+each_lem by law form most v d c k = each by law form most v d c k

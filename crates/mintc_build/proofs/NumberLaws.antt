@@ -3,6 +3,7 @@ use Rattle.std.proofs.Common.{◌≡◌, ℕ, ◌+◌, false, true, List, [], �
 use Rattle.std.specs.Prelude.{zip}
 use Rattle.std.proofs.lemmas.List.{map-append, length-map}
 use Rattle.mintc_text.specs.Refusals.{over_limit}
+use Rattle.mintc_text.specs.declared.limits.Most.{Most}
 use Rattle.mintc_timing.specs.declared.parts.Element.{Element}
 use Rattle.mintc_timing.specs.declared.parts.TimingArc.{TimingArc}
 use Rattle.mintc_timing.specs.Design.{Design}
@@ -108,37 +109,37 @@ ranges_alike h cells clock r q phases = record {
 }
 
 -- both pass a limit or neither does
-limits_alike : (d e : Design) → DifferInNumbers d e → limit_of e ≡ limit_of d
-limits_alike d e alike =
+limits_alike : (most : Most) (d e : Design) → DifferInNumbers d e → limit_of most e ≡ limit_of most d
+limits_alike most d e alike =
     let inner = ap length alike.inner in
     let phases = ap length alike.phases in
     let elements = length_alike unnumbered e.elements d.elements alike.elements in
     let arcs = length_alike undelayed e.arcs d.arcs alike.arcs in
     let bounds = ap length alike.bounds in
-    ap (λ n. over_limit (quantities n (length e.phases) (length e.elements) (length e.arcs) (length e.bounds))) inner
-    ∙ ap (λ n. over_limit (quantities (length d.inner) n (length e.elements) (length e.arcs) (length e.bounds))) phases
-    ∙ ap (λ n. over_limit (quantities (length d.inner) (length d.phases) n (length e.arcs) (length e.bounds))) elements
-    ∙ ap (λ n. over_limit (quantities (length d.inner) (length d.phases) (length d.elements) n (length e.bounds))) arcs
-    ∙ ap (λ n. over_limit (quantities (length d.inner) (length d.phases) (length d.elements) (length d.arcs) n)) bounds
+    ap (λ n. over_limit (quantities most n (length e.phases) (length e.elements) (length e.arcs) (length e.bounds))) inner
+    ∙ ap (λ n. over_limit (quantities most (length d.inner) n (length e.elements) (length e.arcs) (length e.bounds))) phases
+    ∙ ap (λ n. over_limit (quantities most (length d.inner) (length d.phases) n (length e.arcs) (length e.bounds))) elements
+    ∙ ap (λ n. over_limit (quantities most (length d.inner) (length d.phases) (length d.elements) n (length e.bounds))) arcs
+    ∙ ap (λ n. over_limit (quantities most (length d.inner) (length d.phases) (length d.elements) (length d.arcs) n)) bounds
 
 -- With the phases of the other design the first one's delays make a design too, and so the first.
-annotated_alike : DesignsAreDetermined → (h : Hierarchy) (cells : CellTable) (clock : clock_type.Clock) (ds es : List Delay) (design other : Design) → IsAnnotated h cells clock ds design → IsAnnotated h cells clock es other → DifferInNumbers design other
-annotated_alike one h cells clock ds es design other a b =
+annotated_alike : DesignsAreDetermined → (most : Most) (h : Hierarchy) (cells : CellTable) (clock : clock_type.Clock) (ds es : List Delay) (design other : Design) → IsAnnotated most h cells clock ds design → IsAnnotated most h cells clock es other → DifferInNumbers design other
+annotated_alike one most h cells clock ds es design other a b =
     let phases : List ℕ = b.whole.phases in
     let here : Design = design_made h cells clock ds phases in
     let there : Design = design_made h cells clock es phases in
     let alike : DifferInNumbers here there = ranges_alike h cells clock (range_of (said h cells ds)) (range_of (said h cells es)) phases in
     let same : other ≡ there = b.whole.made in
-    let within : limit_of here ≡ None = sym (limits_alike here there alike) ∙ sym (ap limit_of same) ∙ b.within in
-    let made : IsAnnotated h cells clock ds here = record { whole = record { ports = a.whole.ports; annotates = a.whole.annotates; phases = phases; traced = b.whole.traced; made = refl }; within = within } in
-    subst (λ (d : Design). DifferInNumbers d other) (one h cells clock ds here design made a) (subst (DifferInNumbers here) (sym same) alike)
+    let within : limit_of most here ≡ None = sym (limits_alike most here there alike) ∙ sym (ap (limit_of most) same) ∙ b.within in
+    let made : IsAnnotated most h cells clock ds here = record { whole = record { ports = a.whole.ports; annotates = a.whole.annotates; phases = phases; traced = b.whole.traced; made = refl }; within = within } in
+    subst (λ (d : Design). DifferInNumbers d other) (one most h cells clock ds here design made a) (subst (DifferInNumbers here) (sym same) alike)
 
 -- ---- files
 pub corners_lem : AreCornerLaws → CornersDifferInNumbers
-corners_lem law v d e c k design other a b =
+corners_lem law most v d e c k design other a b =
     let netlist = one_netlist law.one_netlist v a.netlist b.netlist a.read.netlist_read b.read.netlist_read in
     let cells = law.one_cells c a.cells b.cells a.read.cells_read b.read.cells_read in
     let clock = law.one_clock k a.clock b.clock a.read.clock_read b.read.clock_read in
-    let shape = one_hierarchy (source_of a.cells a.netlist.modules) a.clock.top a.hierarchy b.hierarchy a.flat (moved a.netlist b.netlist a.cells b.cells a.clock b.clock b.hierarchy netlist cells clock b.flat) in
-    annotated_alike law.one_design a.hierarchy a.cells a.clock a.delays b.delays design other a.annotated
-    (moved_design a.hierarchy b.hierarchy a.cells b.cells a.clock b.clock b.delays b.delays other shape cells clock refl b.annotated)
+    let shape = one_hierarchy most (source_of a.cells a.netlist.modules) a.clock.top a.hierarchy b.hierarchy a.flat (moved most a.netlist b.netlist a.cells b.cells a.clock b.clock b.hierarchy netlist cells clock b.flat) in
+    annotated_alike law.one_design most a.hierarchy a.cells a.clock a.delays b.delays design other a.annotated
+    (moved_design most a.hierarchy b.hierarchy a.cells b.cells a.clock b.clock b.delays b.delays other shape cells clock refl b.annotated)

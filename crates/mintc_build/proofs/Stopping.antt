@@ -1,5 +1,6 @@
 -- What stops a design on its way to a system.
 use Rattle.std.proofs.Common.{ℕ, List, inr, Result, Ok, Err, IfOk, IfErr, MatchResult}
+use Rattle.mintc_text.specs.declared.limits.Most.{Most}
 use Rattle.mintc_text.specs.declared.refusals.Stop.{Stop}
 use Rattle.mintc_text.specs.declared.refusals.Stop.TheVariants as stop
 use Rattle.mintc_text.specs.declared.refusals.Refusal.{Refusal}
@@ -10,9 +11,9 @@ use Rattle.mintc_paths.specs.Refusals.{IsExtremesRefusal}
 use Rattle.mintc_build.specs.Designs.{IsDesignRefusal}
 
 -- Where no arcs lead round, what stops the extremes stops the design.
-pub StopsAt-extremes : (design : Design) (s : Stop) → ((loop : List ℕ) → IsArcLoop design.arcs loop → ⊥) → StopsAt (IsExtremesRefusal design) s → StopsAt (IsDesignRefusal design) s
-StopsAt-extremes design (stop.Refused refused) no_loop h = inr (no_loop, h)
-StopsAt-extremes design stop.OutOfMemory no_loop h = tt
+pub StopsAt-extremes : (most : Most) (design : Design) (s : Stop) → ((loop : List ℕ) → IsArcLoop design.arcs loop → ⊥) → StopsAt (IsExtremesRefusal most design) s → StopsAt (IsDesignRefusal most design) s
+StopsAt-extremes most design (stop.Refused refused) no_loop h = inr (no_loop, h)
+StopsAt-extremes most design stop.OutOfMemory no_loop h = tt
 
 -- What is said of each refusal is said where a call stops.
 pub StopsAt-mono : {P Q : Refusal → Type 0} (s : Stop) → ((r : Refusal) → P r → Q r) → StopsAt P s → StopsAt Q s

@@ -1,5 +1,6 @@
 -- The design of a netlist, delays, cells and a clock, or their first refusal.
 use Rattle.std.specs.Prelude.{◌≡◌, ℕ, List, Ok, Err}
+use Rattle.mintc_text.specs.declared.limits.Most.{Most}
 use Rattle.mintc_text.specs.declared.refusals.Refusal.{Refusal}
 use Rattle.mintc_text.specs.declared.refusals.Refusal.TheVariants as refusal
 use Rattle.mintc_text.specs.declared.refusals.Role.TheVariants as role
@@ -61,53 +62,53 @@ pub record AreRead (v d : List ℕ) (c : CellText) (k : List ℕ) (netlist : Net
   pub clock_read : IsClock k clock
 
 -- the hierarchy of a netlist with these cells, from the top that the clock's description names, and its refusal
-abbrev pub IsHierarchyOf : Netlist → CellTable → Clock → Hierarchy → Type 0
-IsHierarchyOf netlist cells clock h = IsHierarchy (source_of cells netlist.modules) clock.top h
+abbrev pub IsHierarchyOf : Most → Netlist → CellTable → Clock → Hierarchy → Type 0
+IsHierarchyOf most netlist cells clock h = IsHierarchy most (source_of cells netlist.modules) clock.top h
 
 -- the refusal of such a hierarchy
-abbrev pub IsHierarchyRefusal : Netlist → CellTable → Clock → Refusal → Type 0
-IsHierarchyRefusal netlist cells clock refused = IsRefusal (source_of cells netlist.modules) clock.top refused
+abbrev pub IsHierarchyRefusal : Most → Netlist → CellTable → Clock → Refusal → Type 0
+IsHierarchyRefusal most netlist cells clock refused = IsRefusal most (source_of cells netlist.modules) clock.top refused
 
 -- The design of texts whose cells are those of a text of either form.
-pub record IsDesignOver (v d : List ℕ) (c : CellText) (k : List ℕ) (design : Design) : Type 0 where
+pub record IsDesignOver (most : Most) (v d : List ℕ) (c : CellText) (k : List ℕ) (design : Design) : Type 0 where
   pub netlist : Netlist
   pub delays : List Delay
   pub cells : CellTable
   pub clock : Clock
   pub hierarchy : Hierarchy
   pub read : AreRead v d c k netlist delays cells clock
-  pub flat : IsHierarchyOf netlist cells clock hierarchy
-  pub annotated : IsAnnotated hierarchy cells clock delays design
+  pub flat : IsHierarchyOf most netlist cells clock hierarchy
+  pub annotated : IsAnnotated most hierarchy cells clock delays design
 
 -- Their first refusal, in the order of a run: of each text after those before it, then of the hierarchy, then of
 -- the rest.
-pub data IsRefusalOver (v d : List ℕ) (c : CellText) (k : List ℕ) (refused : Refusal) : Type 0 where
-  of_netlist : IsNetlistRefusal v refused → IsRefusalOver v d c k refused
-  of_delays : (netlist : Netlist) → IsNetlist v netlist → delays_of d ≡ Err refused → IsRefusalOver v d c k refused
+pub data IsRefusalOver (most : Most) (v d : List ℕ) (c : CellText) (k : List ℕ) (refused : Refusal) : Type 0 where
+  of_netlist : IsNetlistRefusal v refused → IsRefusalOver most v d c k refused
+  of_delays : (netlist : Netlist) → IsNetlist v netlist → delays_of d ≡ Err refused → IsRefusalOver most v d c k refused
   of_cells : (netlist : Netlist) (delays : List Delay) → IsNetlist v netlist → delays_of d ≡ Ok delays →
-      c.Refuses refused → IsRefusalOver v d c k refused
+      c.Refuses refused → IsRefusalOver most v d c k refused
   of_clock : (netlist : Netlist) (delays : List Delay) (cells : CellTable) → IsNetlist v netlist →
-      delays_of d ≡ Ok delays → c.Describes cells → IsClockRefusal k refused → IsRefusalOver v d c k refused
+      delays_of d ≡ Ok delays → c.Describes cells → IsClockRefusal k refused → IsRefusalOver most v d c k refused
   of_hierarchy : (netlist : Netlist) (delays : List Delay) (cells : CellTable) (clock : Clock) →
-      AreRead v d c k netlist delays cells clock → IsHierarchyRefusal netlist cells clock refused →
-      IsRefusalOver v d c k refused
+      AreRead v d c k netlist delays cells clock → IsHierarchyRefusal most netlist cells clock refused →
+      IsRefusalOver most v d c k refused
   of_design : (netlist : Netlist) (delays : List Delay) (cells : CellTable) (clock : Clock) (hierarchy : Hierarchy) →
       AreRead v d c k netlist delays cells clock →
-      IsHierarchyOf netlist cells clock hierarchy → IsAnnotateRefusal hierarchy cells clock delays refused →
-      IsRefusalOver v d c k refused
+      IsHierarchyOf most netlist cells clock hierarchy → IsAnnotateRefusal most hierarchy cells clock delays refused →
+      IsRefusalOver most v d c k refused
 
 -- The design of a netlist, delays, a cell description and a clock; and their first refusal.
-abbrev pub IsFilesDesign : List ℕ → List ℕ → List ℕ → List ℕ → Design → Type 0
-IsFilesDesign v d c k design = IsDesignOver v d (described_by c) k design
+abbrev pub IsFilesDesign : Most → List ℕ → List ℕ → List ℕ → List ℕ → Design → Type 0
+IsFilesDesign most v d c k design = IsDesignOver most v d (described_by c) k design
 
 -- the first refusal of a netlist, delays, a cell description and a clock
-abbrev pub IsFilesRefusal : List ℕ → List ℕ → List ℕ → List ℕ → Refusal → Type 0
-IsFilesRefusal v d c k refused = IsRefusalOver v d (described_by c) k refused
+abbrev pub IsFilesRefusal : Most → List ℕ → List ℕ → List ℕ → List ℕ → Refusal → Type 0
+IsFilesRefusal most v d c k refused = IsRefusalOver most v d (described_by c) k refused
 
 -- The same with the cells of a Liberty library.
-abbrev pub IsLibertyDesign : List ℕ → List ℕ → List ℕ → List ℕ → Design → Type 0
-IsLibertyDesign v d l k design = IsDesignOver v d (library_by l) k design
+abbrev pub IsLibertyDesign : Most → List ℕ → List ℕ → List ℕ → List ℕ → Design → Type 0
+IsLibertyDesign most v d l k design = IsDesignOver most v d (library_by l) k design
 
 -- the same with the cells of a Liberty library
-abbrev pub IsLibertyRefusal : List ℕ → List ℕ → List ℕ → List ℕ → Refusal → Type 0
-IsLibertyRefusal v d l k refused = IsRefusalOver v d (library_by l) k refused
+abbrev pub IsLibertyRefusal : Most → List ℕ → List ℕ → List ℕ → List ℕ → Refusal → Type 0
+IsLibertyRefusal most v d l k refused = IsRefusalOver most v d (library_by l) k refused

@@ -2,6 +2,7 @@
 ghost use Rattle.std.specs.Prelude.{◌≡◌, ◌≤◌, length, IfOk, IfErr};
 ghost use Rattle.mintc_text.specs.declared.limits.TheConstants.{MOST_BYTES};
 ghost use Rattle.mintc_text.specs.Stops.{StopsAt};
+ghost use Rattle.mintc_timing.specs.Limits.{IsWithinLimits};
 ghost use Rattle.mintc_build.specs.FilesDesign.{IsDesignOver, IsFilesDesign, IsFilesRefusal, IsLibertyDesign};
 ghost use Rattle.mintc_build.specs.FilesDesign.{IsLibertyRefusal, IsRefusalOver, cell_text, file_bytes};
 
@@ -11,8 +12,8 @@ use mintc_clock::read_clock;
 use mintc_flatten::flatten;
 use mintc_liberty::read_liberty;
 use mintc_sdf::read_delays;
-use mintc_text::Stop;
-use mintc_timing::Flat;
+use mintc_text::{Limits, Stop};
+use mintc_timing::{Flat, unrefused_are_within};
 use mintc_verilog::read_netlist;
 use std::alloc::Global;
 
@@ -40,6 +41,7 @@ fn cells_of(alloc: Global, file: CellFile) -> Result<Cells, Stop>
 /// The design of a netlist, delays, cells of either form and a clock, or their first refusal.
 fn design_of_texts(
     alloc: Global,
+    limits: &Limits,
     netlist: &[u8],
     delays: &[u8],
     cells: CellFile,
@@ -49,15 +51,20 @@ fn design_of_texts(
     requires delays { length delays.now ≤ MOST_BYTES }
     requires cells { length (file_bytes cells) ≤ MOST_BYTES }
     requires clock { length clock.now ≤ MOST_BYTES }
-    ensures value { IfOk result (λ flat. IsDesignOver netlist.now delays.now (cell_text cells.entry) clock.now flat) }
-    ensures stop { IfErr result (StopsAt (IsRefusalOver netlist.now delays.now (cell_text cells.entry) clock.now)) }
+    ensures value { IfOk result (λ flat. IsDesignOver limits.now netlist.now delays.now (cell_text cells.entry)
+        clock.now flat) }
+    ensures within { IfOk result (λ flat. IsWithinLimits limits.now flat) }
+    ensures stop { IfErr result (StopsAt (IsRefusalOver limits.now netlist.now delays.now (cell_text cells.entry)
+        clock.now)) }
 {
+    unrefused_are_within();
+    let _most = limits.most();
     let modules = read_netlist(alloc, netlist)?;
     let said = read_delays(alloc, delays)?;
     let described = cells_of(alloc, cells)?;
     let clocked = read_clock(alloc, clock)?;
-    let hierarchy = flatten(alloc, &modules, &described, clocked.top.as_ref())?;
-    annotate(alloc, &hierarchy, &described, &clocked, &said)
+    let hierarchy = flatten(alloc, limits, &modules, &described, clocked.top.as_ref())?;
+    annotate(alloc, limits, &hierarchy, &described, &clocked, &said)
 }
 
 /// The design of a netlist, delays, cells and a clock. The refusal is the first in the order of a run: Syntax of
@@ -65,6 +72,7 @@ fn design_of_texts(
 /// clock's ports, of what delays speak of, of phases, and of limits.
 pub fn from_files(
     alloc: Global,
+    limits: &Limits,
     netlist: &[u8],
     delays: &[u8],
     cells: &[u8],
@@ -74,11 +82,13 @@ pub fn from_files(
     requires delays { length delays.now ≤ MOST_BYTES }
     requires cells { length cells.now ≤ MOST_BYTES }
     requires clock { length clock.now ≤ MOST_BYTES }
-    ensures value { IfOk result (λ flat. IsFilesDesign netlist.now delays.now cells.now clock.now flat) }
-    ensures stop { IfErr result (StopsAt (IsFilesRefusal netlist.now delays.now cells.now clock.now)) }
+    ensures value { IfOk result (λ flat. IsFilesDesign limits.now netlist.now delays.now cells.now clock.now flat) }
+    ensures within { IfOk result (λ flat. IsWithinLimits limits.now flat) }
+    ensures stop { IfErr result (StopsAt (IsFilesRefusal limits.now netlist.now delays.now cells.now clock.now)) }
 {
     design_of_texts(
         alloc,
+        limits,
         netlist,
         delays,
         CellFile::Description { text: cells },
@@ -90,6 +100,7 @@ pub fn from_files(
 /// of the library in the place of BadCell.
 pub fn from_liberty(
     alloc: Global,
+    limits: &Limits,
     netlist: &[u8],
     delays: &[u8],
     liberty: &[u8],
@@ -99,11 +110,13 @@ pub fn from_liberty(
     requires delays { length delays.now ≤ MOST_BYTES }
     requires liberty { length liberty.now ≤ MOST_BYTES }
     requires clock { length clock.now ≤ MOST_BYTES }
-    ensures value { IfOk result (λ flat. IsLibertyDesign netlist.now delays.now liberty.now clock.now flat) }
-    ensures stop { IfErr result (StopsAt (IsLibertyRefusal netlist.now delays.now liberty.now clock.now)) }
+    ensures value { IfOk result (λ flat. IsLibertyDesign limits.now netlist.now delays.now liberty.now clock.now flat) }
+    ensures within { IfOk result (λ flat. IsWithinLimits limits.now flat) }
+    ensures stop { IfErr result (StopsAt (IsLibertyRefusal limits.now netlist.now delays.now liberty.now clock.now)) }
 {
     design_of_texts(
         alloc,
+        limits,
         netlist,
         delays,
         CellFile::Library { text: liberty },

@@ -1,5 +1,5 @@
 -- Each text is a certificate's, or is refused for its first line out of form.
-use Rattle.std.proofs.Common.{ℕ, zero, suc, Bool, cond, List, [], ◌∷◌, ◌++◌, codes, refl, inl, inr, ⊎_elim}
+use Rattle.std.proofs.Common.{ℕ, zero, suc, Bool, cond, List, [], ◌∷◌, ◌++◌, codes, min, refl, inl, inr, ⊎_elim}
 use Rattle.mintc_text.specs.declared.limits.TheConstants.{MOST_NUMERATOR, MOST_MEMBERS, MOST_COUNT}
 use Rattle.mintc_text.specs.Lines.{IsText}
 use Rattle.mintc_text.specs.declared.refusals.Refusal.TheVariants as refusal
@@ -31,36 +31,38 @@ ends (whole c) = inl tt
 outcome_decided : (line : List ℕ) → Decided ((least : Bool) × Spells IsOutcomeLine least line)
 outcome_decided = spelled_by IsOutcomeLine Anything Anything (λ least. cond least (codes "least") (codes "never") ∷ []) searched_bool anything (λ least ws h. (tt, tt, h)) (λ least b r. refl)
 
-chain_decided : (line : List ℕ) → Decided ((m : ℕ) × Spells IsChainLine m line)
-chain_decided line = count_decided (codes "chain") 1 MOST_MEMBERS line
-
 departures_decided : (v : Version) (s : Schedule) (line : List ℕ) → Decided ((after : CertificateLines) × IsDeparturesLine v s line after)
 departures_decided v s line = after_spelled (IsCountLine (codes "departures") 0 MOST_COUNT) (λ n. departure v n s []) line (count_decided (codes "departures") 0 MOST_COUNT line)
 
-decides : (a : CertificateLines) (line : List ℕ) → Decided ((after : CertificateLines) × NextOfCertificate a line after)
-decides first line = after_spelled (IsCountLine (codes "certificate") 1 2) (λ n. outcome (version_of n)) line (count_decided (codes "certificate") 1 2 line)
-decides (outcome v) line = after_spelled IsOutcomeLine (λ least. cond least (scheduled v den) (never v)) line (outcome_decided line)
-decides (scheduled v lines) line = schedule_decided (scheduled v) (IsDeparturesLine v) (departures_decided v) lines line
-decides (departure v (suc left) s ds) line =
-    after_spelled (IsNumberLine (codes "departure") (least_departure v) MOST_NUMERATOR) (λ d. departure v left s (ds ++ d ∷ [])) line
-    (number_decided (codes "departure") (least_departure v) MOST_NUMERATOR line)
-decides (departure v zero s ds) line = after_spelled IsChainLine (λ m. link v m (Least s ds [])) line (chain_decided line)
-decides (never v) line = after_spelled IsChainLine (λ m. link v m (Never [])) line (chain_decided line)
-decides (link v (suc left) c) line = after_spelled (IsMemberLine v) (λ m. link v left (with_member c m)) line (member_decided v line)
-decides (link v zero c) line = after_spelled (IsWordLine (codes "end")) (λ u. whole c) line (word_decided (codes "end") line)
-decides (whole c) line = inr (λ h. h.1)
+-- In a run that takes so many members of a chain at most.
+module _ (most : ℕ) where
+  chain_decided : (line : List ℕ) → Decided ((m : ℕ) × Spells (IsChainLine most) m line)
+  chain_decided line = count_decided (codes "chain") 1 (min most MOST_MEMBERS) line
 
-of_end : (text : List ℕ) (b : CertificateLines) → IsWholeCertificate b → IsText NextOfCertificate first b text → (c : Certificate) × IsCertificateText text c
-of_end text first last is = absurd last
-of_end text (outcome v) last is = absurd last
-of_end text (scheduled v lines) last is = absurd last
-of_end text (departure v left s ds) last is = absurd last
-of_end text (never v) last is = absurd last
-of_end text (link v left c) last is = absurd last
-of_end text (whole c) last is = (c, is)
+  decides : (a : CertificateLines) (line : List ℕ) → Decided ((after : CertificateLines) × NextOfCertificate most a line after)
+  decides first line = after_spelled (IsCountLine (codes "certificate") 1 2) (λ n. outcome (version_of n)) line (count_decided (codes "certificate") 1 2 line)
+  decides (outcome v) line = after_spelled IsOutcomeLine (λ least. cond least (scheduled v den) (never v)) line (outcome_decided line)
+  decides (scheduled v lines) line = schedule_decided (scheduled v) (IsDeparturesLine v) (departures_decided v) lines line
+  decides (departure v (suc left) s ds) line =
+      after_spelled (IsNumberLine (codes "departure") (least_departure v) MOST_NUMERATOR) (λ d. departure v left s (ds ++ d ∷ [])) line
+      (number_decided (codes "departure") (least_departure v) MOST_NUMERATOR line)
+  decides (departure v zero s ds) line = after_spelled (IsChainLine most) (λ m. link v m (Least s ds [])) line (chain_decided line)
+  decides (never v) line = after_spelled (IsChainLine most) (λ m. link v m (Never [])) line (chain_decided line)
+  decides (link v (suc left) c) line = after_spelled (IsMemberLine v) (λ m. link v left (with_member c m)) line (member_decided v line)
+  decides (link v zero c) line = after_spelled (IsWordLine (codes "end")) (λ u. whole c) line (word_decided (codes "end") line)
+  decides (whole c) line = inr (λ h. h.1)
 
-pub have_certificate_or_refusal : HaveCertificateOrRefusal
-have_certificate_or_refusal text = ⊎_elim
-    (λ (h : (b : CertificateLines) × IsWholeCertificate b × IsText NextOfCertificate first b text). inl (of_end text h.0 h.1 h.2))
-    (λ (h : (n : ℕ) × IsCertificateFault text n). inr (refusal.Syntax role.Certificate h.0, (h.0, refl, h.1)))
-    (judged NextOfCertificate IsWholeCertificate ends decides first text)
+  of_end : (text : List ℕ) (b : CertificateLines) → IsWholeCertificate b → IsText (NextOfCertificate most) first b text → (c : Certificate) × IsCertificateText most text c
+  of_end text first last is = absurd last
+  of_end text (outcome v) last is = absurd last
+  of_end text (scheduled v lines) last is = absurd last
+  of_end text (departure v left s ds) last is = absurd last
+  of_end text (never v) last is = absurd last
+  of_end text (link v left c) last is = absurd last
+  of_end text (whole c) last is = (c, is)
+
+  pub have_certificate_or_refusal : HaveCertificateOrRefusal most
+  have_certificate_or_refusal text = ⊎_elim
+      (λ (h : (b : CertificateLines) × IsWholeCertificate b × IsText (NextOfCertificate most) first b text). inl (of_end text h.0 h.1 h.2))
+      (λ (h : (n : ℕ) × IsCertificateFault most text n). inr (refusal.Syntax role.Certificate h.0, (h.0, refl, h.1)))
+      (judged (NextOfCertificate most) IsWholeCertificate ends decides first text)

@@ -58,40 +58,42 @@ chain_whole : (q : Certificate) → OfChain q 0 q
 chain_whole (Least p es ns) = (refl, rest_none ns ns refl)
 chain_whole (Never ns) = (refl, rest_none ns ns refl)
 
--- No schedule leads to a certificate without one.
-no_schedule : (ms : List Member) (v : Version) (lines : ScheduleLines) (line : List ℕ) (b : CertificateLines) → NextOfCertificate (scheduled v lines) line b → Begins b (Never ms) → ⊥
-no_schedule ms v lines line b h g =
-    (schedule_step (scheduled v) (IsDeparturesLine v) (λ (x : CertificateLines). Begins x (Never ms) → ⊥) (λ l k. k) (λ s. plain_step departures_form (λ n ws h k. k)) lines).keeps b line h g
+-- In a run that takes so many members of a chain at most.
+module _ (most : ℕ) where
+  -- No schedule leads to a certificate without one.
+  no_schedule : (ms : List Member) (v : Version) (lines : ScheduleLines) (line : List ℕ) (b : CertificateLines) → (NextOfCertificate most) (scheduled v lines) line b → Begins b (Never ms) → ⊥
+  no_schedule ms v lines line b h g =
+      (schedule_step (scheduled v) (IsDeparturesLine v) (λ (x : CertificateLines). Begins x (Never ms) → ⊥) (λ l k. k) (λ s. plain_step departures_form (λ n ws h k. k)) lines).keeps b line h g
 
-back : (a b : CertificateLines) (line : List ℕ) (c : Certificate) → NextOfCertificate a line b → Begins b c → Begins a c
-back first b line c h g = tt
-back (outcome v) b line c h g = tt
-back (scheduled v lines) b line (Least s ds ms) h g =
-    schedule_back (scheduled v) (IsDeparturesLine v) (λ x. Begins x (Least s ds ms)) s (λ l k. k) (λ p line b h g. (subst (λ x. Begins x (Least s ds ms)) h.2 g).0) lines line b h g
-back (scheduled v lines) b line (Never ms) h g = no_schedule ms v lines line b h g
-back (departure v (suc left) p es) b line c h g = least_more c (subst (λ x. Begins x c) h.2 g) (λ s ds k. (k.0, rest_back es ds h.0 left k.1))
-back (departure v zero p es) b line c h g = least_begun c p es (subst (λ x. Begins x c) h.2 g).0
-back (never v) b line c h g = (subst (λ x. Begins x c) h.2 g).0
-back (link v (suc left) q) b line c h g = chain_back q c h.0 left (subst (λ x. Begins x c) h.2 g)
-back (link v zero q) b line c h g = subst (OfChain q 0) (subst (λ x. Begins x c) h.2 g) (chain_whole q)
-back (whole q) b line c h g = absurd h
+  back : (a b : CertificateLines) (line : List ℕ) (c : Certificate) → (NextOfCertificate most) a line b → Begins b c → Begins a c
+  back first b line c h g = tt
+  back (outcome v) b line c h g = tt
+  back (scheduled v lines) b line (Least s ds ms) h g =
+      schedule_back (scheduled v) (IsDeparturesLine v) (λ x. Begins x (Least s ds ms)) s (λ l k. k) (λ p line b h g. (subst (λ x. Begins x (Least s ds ms)) h.2 g).0) lines line b h g
+  back (scheduled v lines) b line (Never ms) h g = no_schedule ms v lines line b h g
+  back (departure v (suc left) p es) b line c h g = least_more c (subst (λ x. Begins x c) h.2 g) (λ s ds k. (k.0, rest_back es ds h.0 left k.1))
+  back (departure v zero p es) b line c h g = least_begun c p es (subst (λ x. Begins x c) h.2 g).0
+  back (never v) b line c h g = (subst (λ x. Begins x c) h.2 g).0
+  back (link v (suc left) q) b line c h g = chain_back q c h.0 left (subst (λ x. Begins x c) h.2 g)
+  back (link v zero q) b line c h g = subst (OfChain q 0) (subst (λ x. Begins x c) h.2 g) (chain_whole q)
+  back (whole q) b line c h g = absurd h
 
--- After the first line, whose number is the version, one line leads on.
-step : (a : CertificateLines) (c : Certificate) → Begun a → IsSpelledStep (NextOfCertificate a) (λ b. Begins b c)
-step first c p = no_way (λ line b h i. p)
-step (outcome v) c p = step_by outcome_form (λ x y k l. grind arith)
-step (scheduled v lines) (Least s ds ms) p =
-    schedule_spelled (scheduled v) (IsDeparturesLine v) (λ x. Begins x (Least s ds ms)) s (λ l k. k) (λ q. step_by departures_form (λ m n k l. rest_count [] ds m n k.1 l.1)) lines
-step (scheduled v lines) (Never ms) p = no_way (λ line b h i. no_schedule ms v lines line b h i)
-step (departure v (suc left) q es) c p = step_by (departure_form v) (λ x y k l. least_same c k l (λ s ds k l. rest_same es ds x y left left k.1 l.1))
-step (departure v zero q es) c p = step_by chain_form (λ m n k l. rest_count [] (chain_of c) m n k.1 l.1)
-step (never v) c p = step_by chain_form (λ m n k l. rest_count [] (chain_of c) m n k.1 l.1)
-step (link v (suc left) q) c p = step_by (member_form v) (λ x y k l. chain_same q c x y left k l)
-step (link v zero q) c p = step_by end_form (λ u w k l. refl)
-step (whole q) c p = no_way (λ line b h i. h)
+  -- After the first line, whose number is the version, one line leads on.
+  step : (a : CertificateLines) (c : Certificate) → Begun a → IsSpelledStep ((NextOfCertificate most) a) (λ b. Begins b c)
+  step first c p = no_way (λ line b h i. p)
+  step (outcome v) c p = step_by outcome_form (λ x y k l. grind arith)
+  step (scheduled v lines) (Least s ds ms) p =
+      schedule_spelled (scheduled v) (IsDeparturesLine v) (λ x. Begins x (Least s ds ms)) s (λ l k. k) (λ q. step_by departures_form (λ m n k l. rest_count [] ds m n k.1 l.1)) lines
+  step (scheduled v lines) (Never ms) p = no_way (λ line b h i. no_schedule ms v lines line b h i)
+  step (departure v (suc left) q es) c p = step_by (departure_form v) (λ x y k l. least_same c k l (λ s ds k l. rest_same es ds x y left left k.1 l.1))
+  step (departure v zero q es) c p = step_by (chain_form most) (λ m n k l. rest_count [] (chain_of c) m n k.1 l.1)
+  step (never v) c p = step_by (chain_form most) (λ m n k l. rest_count [] (chain_of c) m n k.1 l.1)
+  step (link v (suc left) q) c p = step_by (member_form v) (λ x y k l. chain_same q c x y left k l)
+  step (link v zero q) c p = step_by end_form (λ u w k l. refl)
+  step (whole q) c p = no_way (λ line b h i. h)
 
-spelled : IsSpelled NextOfCertificate Begun whole Begins
-spelled = record { keeps = λ a b line p h. (certificate_step a).keeps b line h; last = λ c line b h. h; ends = λ c. refl; back = back; step = step }
+  spelled : IsSpelled (NextOfCertificate most) Begun whole Begins
+  spelled = record { keeps = λ a b line p h. ((certificate_step most) a).keeps b line h; last = λ c line b h. h; ends = λ c. refl; back = back; step = step }
 
-pub certificates_have_one_text : HaveOneCertificateText
-certificates_have_one_text = one_text_after certificate_plain spelled tt (certificate_step first).keeps (λ c e. cc e)
+  pub certificates_have_one_text : (HaveOneCertificateText most)
+  certificates_have_one_text = one_text_after (certificate_plain most) spelled tt ((certificate_step most) first).keeps (λ c e. cc e)

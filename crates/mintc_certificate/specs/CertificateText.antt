@@ -1,6 +1,6 @@
 -- The text of a certificate, line by line, and its first line out of form.
 use Rattle.std.specs.Prelude.{◌≡◌, ◌≢◌, ◌==◌, ℕ, zero, suc, ℤ, pos, neg_ℤ, Bool, if◌then◌else◌, List, [], ◌∷◌, ◌++◌}
-use Rattle.std.specs.Prelude.{length, map, codes}
+use Rattle.std.specs.Prelude.{length, map, codes, min}
 use Rattle.mintc_text.specs.declared.limits.TheConstants.{MOST_NUMERATOR, MOST_MEMBERS, MOST_COUNT}
 use Rattle.mintc_text.specs.Lines.{IsText, IsFault}
 use Rattle.mintc_text.specs.declared.refusals.Refusal.{Refusal}
@@ -84,9 +84,9 @@ with_member (Never chain) m = Never (chain ++ m ∷ [])
 abbrev pub IsOutcomeLine : Bool → List (List ℕ) → Type 0
 IsOutcomeLine least ws = ws ≡ (if least then codes "least" else codes "never") ∷ []
 
--- the line that says how many members follow
-abbrev pub IsChainLine : ℕ → List (List ℕ) → Type 0
-IsChainLine = IsCountLine (codes "chain") 1 MOST_MEMBERS
+-- the line that says how many members follow, in a run that takes so many at most; never more than can be worked on
+abbrev pub IsChainLine : ℕ → ℕ → List (List ℕ) → Type 0
+IsChainLine most = IsCountLine (codes "chain") 1 (min most MOST_MEMBERS)
 
 -- the line after those of a schedule, which says how many departures follow
 abbrev pub IsDeparturesLine : Version → Schedule → List ℕ → CertificateLines → Type 0
@@ -94,23 +94,24 @@ IsDeparturesLine v s line after = (n : ℕ) × Spells (IsCountLine (codes "depar
     × (after ≡ departure v n s [])
 
 -- the form of the line that may come next
-abbrev pub NextOfCertificate : CertificateLines → List ℕ → CertificateLines → Type 0
-NextOfCertificate first line after = (n : ℕ) × Spells (IsCountLine (codes "certificate") 1 2) n line
+abbrev pub NextOfCertificate : ℕ → CertificateLines → List ℕ → CertificateLines → Type 0
+NextOfCertificate most first line after = (n : ℕ) × Spells (IsCountLine (codes "certificate") 1 2) n line
     × (after ≡ outcome (version_of n))
-NextOfCertificate (outcome v) line after = (least : Bool) × Spells IsOutcomeLine least line
+NextOfCertificate most (outcome v) line after = (least : Bool) × Spells IsOutcomeLine least line
     × (after ≡ (if least then scheduled v den else never v))
-NextOfCertificate (scheduled v lines) line after = NextOfSchedule (scheduled v) (IsDeparturesLine v) lines line after
-NextOfCertificate (departure v (suc left) s ds) line after =
+NextOfCertificate most (scheduled v lines) line after = NextOfSchedule (scheduled v) (IsDeparturesLine v) lines line
+    after
+NextOfCertificate most (departure v (suc left) s ds) line after =
     (d : ℤ) × Spells (IsNumberLine (codes "departure") (least_departure v) MOST_NUMERATOR) d line
     × (after ≡ departure v left s (ds ++ d ∷ []))
-NextOfCertificate (departure v zero s ds) line after = (m : ℕ) × Spells IsChainLine m line
+NextOfCertificate most (departure v zero s ds) line after = (m : ℕ) × Spells (IsChainLine most) m line
     × (after ≡ link v m (Least s ds []))
-NextOfCertificate (never v) line after = (m : ℕ) × Spells IsChainLine m line × (after ≡ link v m (Never []))
-NextOfCertificate (link v (suc left) c) line after = (m : Member) × Spells (IsMemberLine v) m line
+NextOfCertificate most (never v) line after = (m : ℕ) × Spells (IsChainLine most) m line × (after ≡ link v m (Never []))
+NextOfCertificate most (link v (suc left) c) line after = (m : Member) × Spells (IsMemberLine v) m line
     × (after ≡ link v left (with_member c m))
-NextOfCertificate (link v zero c) line after = (u : Unit {0}) × Spells (IsWordLine (codes "end")) u line
+NextOfCertificate most (link v zero c) line after = (u : Unit {0}) × Spells (IsWordLine (codes "end")) u line
     × (after ≡ whole c)
-NextOfCertificate (whole c) line after = ⊥
+NextOfCertificate most (whole c) line after = ⊥
 
 -- the last line was read
 abbrev pub IsWholeCertificate : CertificateLines → Type 0
@@ -118,13 +119,13 @@ IsWholeCertificate (whole c) = Unit {0}
 IsWholeCertificate lines = ⊥
 
 -- The text is one of the certificate's.
-abbrev pub IsCertificateText : List ℕ → Certificate → Type 0
-IsCertificateText text certificate = IsText NextOfCertificate first (whole certificate) text
+abbrev pub IsCertificateText : ℕ → List ℕ → Certificate → Type 0
+IsCertificateText most text certificate = IsText (NextOfCertificate most) first (whole certificate) text
 
 -- Line n, counted from 1, is the first that is out of form.
-abbrev pub IsCertificateFault : List ℕ → ℕ → Type 0
-IsCertificateFault text n = IsFault NextOfCertificate IsWholeCertificate first text n
+abbrev pub IsCertificateFault : ℕ → List ℕ → ℕ → Type 0
+IsCertificateFault most text n = IsFault (NextOfCertificate most) IsWholeCertificate first text n
 
 -- why a text that is no certificate's is refused: the first line that is out of form
-abbrev pub IsCertificateRefusal : List ℕ → Refusal → Type 0
-IsCertificateRefusal text r = (n : ℕ) × (r ≡ refusal.Syntax role.Certificate n) × IsCertificateFault text n
+abbrev pub IsCertificateRefusal : ℕ → List ℕ → Refusal → Type 0
+IsCertificateRefusal most text r = (n : ℕ) × (r ≡ refusal.Syntax role.Certificate n) × IsCertificateFault most text n

@@ -14,7 +14,7 @@ use Rattle.mintc_certificate.specs.CertificateText.{IsCounted}
 abbrev pub IsDeparture : ℤ → Type 0
 IsDeparture d = IsWithin (neg_ℤ MOST_NUMERATOR) MOST_NUMERATOR d
 
--- from 1 to 4,096 members, each number of which is a count
+-- from 1 to 32,768 members, each number of which is a count
 pub record IsChainInRange (chain : List Member) : Type 0 where
   pub some : 1 ≤ length chain
   pub most : length chain ≤ MOST_MEMBERS

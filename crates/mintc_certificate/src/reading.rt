@@ -9,7 +9,8 @@ ghost use Rattle.mintc_certificate.specs.declared.certificate.Certificate.{Certi
 ghost use Rattle.mintc_certificate.specs.declared.members.Member.{Member};
 ghost use Rattle.mintc_certificate.specs.declared.version.Version.{Version};
 ghost use Rattle.mintc_certificate.specs.CertificateReading.{with_chain, before_chain};
-ghost use Rattle.mintc_certificate.specs.CertificateText.{version_of, least_departure, IsMemberLine, IsOutcomeLine};
+ghost use Rattle.mintc_certificate.specs.CertificateText.{version_of, least_departure, IsChainLine, IsMemberLine};
+ghost use Rattle.mintc_certificate.specs.CertificateText.{IsOutcomeLine};
 ghost use Rattle.mintc_certificate.specs.CertificateText.{NextOfCertificate, IsCertificateText, IsCertificateFault};
 ghost use Rattle.mintc_certificate.specs.CertificateText.{IsCertificateRefusal, first, scheduled, departure, link};
 ghost use Rattle.mintc_certificate.specs.CertificateText.{never as no_schedule};
@@ -18,8 +19,8 @@ ghost use Rattle.mintc_certificate.specs.Ranges.{IsCertificateInRange};
 use crate::member_lines::member_of;
 use crate::version::Version;
 use crate::{Certificate, Departures, Member, Members};
-use mintc_text::limits::{MOST_COUNT, MOST_MEMBERS, MOST_NUMERATOR};
-use mintc_text::{ReadError, Refusal, Role, Stop};
+use mintc_text::limits::{MOST_COUNT, MOST_NUMERATOR};
+use mintc_text::{Limits, ReadError, Refusal, Role, Stop};
 use mintc_timing_text::{Fields, Reader, schedule_lines};
 use std::alloc::Global;
 
@@ -72,11 +73,11 @@ fn outcome_line(reader: &mut Reader) -> Option<bool>
 
 /// Reads the number of departures and their lines.
 fn departures(alloc: Global, reader: &mut Reader, version: Version) -> Result<Departures, ReadError>
-    ensures { (text : List ℕ) (s : Schedule) →
-        IsAt NextOfCertificate first text reader.old (scheduled version (phase 0 s)) →
+    ensures { (text : List ℕ) (most : ℕ) (s : Schedule) →
+        IsAt (NextOfCertificate most) first text reader.old (scheduled version (phase 0 s)) →
         MatchResult result
-        (λ ds. IsAt NextOfCertificate first text reader.new (departure version 0 s ds))
-        (Halts (IsCertificateFault text reader.new.number)) }
+        (λ ds. IsAt (NextOfCertificate most) first text reader.new (departure version 0 s ds))
+        (Halts (IsCertificateFault most text reader.new.number)) }
 {
     let least = least_departure(version);
     let Some(count) = reader.count_line(b"departures", 0, MOST_COUNT) else {
@@ -106,15 +107,32 @@ fn member_line(alloc: Global, reader: &mut Reader, version: Version) -> Result<M
     member_of(alloc, fields, version)
 }
 
-/// Reads the number of members and their lines.
-fn members(alloc: Global, reader: &mut Reader, version: Version) -> Result<Members, ReadError>
-    ensures { (text : List ℕ) (c : Certificate) →
-        IsAt NextOfCertificate first text reader.old (before_chain version c) →
-        MatchResult result
-        (λ chain. IsAt NextOfCertificate first text reader.new (link version 0 (with_chain c chain)))
-        (Halts (IsCertificateFault text reader.new.number)) }
+/// Reads the line that says how many members follow.
+fn chain_line(limits: &Limits, reader: &mut Reader) -> Option<u32>
+    ensures read { MatchOption result
+        (HasNone (IsChainLine limits.now.members) reader.old.left)
+        (λ count. HasRead (IsChainLine limits.now.members) reader.old.left count reader.new.left) }
+    ensures counted { reader.new.number ≡ number_after reader.old.number }
 {
-    let Some(count) = reader.count_line(b"chain", 1, MOST_MEMBERS as u32) else {
+    let most = limits.most();
+    reader.count_line(b"chain", 1, most.members as u32)
+}
+
+/// Reads the number of members and their lines.
+fn members(
+    alloc: Global,
+    limits: &Limits,
+    reader: &mut Reader,
+    version: Version,
+) -> Result<Members, ReadError>
+    ensures { (text : List ℕ) (c : Certificate) → IsAt (NextOfCertificate limits.now.members) first text reader.old
+        (before_chain version c) →
+        MatchResult result
+        (λ chain. IsAt (NextOfCertificate limits.now.members) first text reader.new (link version 0
+        (with_chain c chain)))
+        (Halts (IsCertificateFault limits.now.members text reader.new.number)) }
+{
+    let Some(count) = chain_line(limits, reader) else {
         return Err(ReadError::Malformed);
     };
     let mut found = Vec::new(alloc);
@@ -126,14 +144,19 @@ fn members(alloc: Global, reader: &mut Reader, version: Version) -> Result<Membe
 }
 
 /// Reads the lines of a chain and the last line, and that none follows.
-fn chain(alloc: Global, reader: &mut Reader, version: Version) -> Result<Members, ReadError>
+fn chain(
+    alloc: Global,
+    limits: &Limits,
+    reader: &mut Reader,
+    version: Version,
+) -> Result<Members, ReadError>
     ensures { (text : List ℕ) (c : Certificate) →
-        IsAt NextOfCertificate first text reader.old (before_chain version c) →
+        IsAt (NextOfCertificate limits.now.members) first text reader.old (before_chain version c) →
         MatchResult result
-        (λ chain. IsCertificateText text (with_chain c chain))
-        (Halts (IsCertificateFault text reader.new.number)) }
+        (λ chain. IsCertificateText limits.now.members text (with_chain c chain))
+        (Halts (IsCertificateFault limits.now.members text reader.new.number)) }
 {
-    let chain = members(alloc, reader, version)?;
+    let chain = members(alloc, limits, reader, version)?;
     let Some(()) = reader.word_line(b"end") else {
         return Err(ReadError::Malformed);
     };
@@ -144,15 +167,22 @@ fn chain(alloc: Global, reader: &mut Reader, version: Version) -> Result<Members
 }
 
 /// Reads the lines after `least`.
-fn least(alloc: Global, reader: &mut Reader, version: Version) -> Result<Certificate, ReadError>
-    ensures { (text : List ℕ) → IsAt NextOfCertificate first text reader.old (scheduled version den) →
-        MatchResult result (IsCertificateText text) (Halts (IsCertificateFault text reader.new.number)) }
+fn least(
+    alloc: Global,
+    limits: &Limits,
+    reader: &mut Reader,
+    version: Version,
+) -> Result<Certificate, ReadError>
+    ensures { (text : List ℕ) → IsAt (NextOfCertificate limits.now.members) first text reader.old
+        (scheduled version den) →
+        MatchResult result (IsCertificateText limits.now.members text) (Halts (IsCertificateFault limits.now.members
+        text reader.new.number)) }
 {
     let Some(schedule) = schedule_lines(reader) else {
         return Err(ReadError::Malformed);
     };
     let departures = departures(alloc, reader, version)?;
-    let chain = chain(alloc, reader, version)?;
+    let chain = chain(alloc, limits, reader, version)?;
     Ok(Certificate::Least {
         schedule,
         departures,
@@ -161,18 +191,30 @@ fn least(alloc: Global, reader: &mut Reader, version: Version) -> Result<Certifi
 }
 
 /// Reads the lines after `never`.
-fn never(alloc: Global, reader: &mut Reader, version: Version) -> Result<Certificate, ReadError>
-    ensures { (text : List ℕ) → IsAt NextOfCertificate first text reader.old (no_schedule version) →
-        MatchResult result (IsCertificateText text) (Halts (IsCertificateFault text reader.new.number)) }
+fn never(
+    alloc: Global,
+    limits: &Limits,
+    reader: &mut Reader,
+    version: Version,
+) -> Result<Certificate, ReadError>
+    ensures { (text : List ℕ) → IsAt (NextOfCertificate limits.now.members) first text reader.old (no_schedule version)
+        →
+        MatchResult result (IsCertificateText limits.now.members text) (Halts (IsCertificateFault limits.now.members
+        text reader.new.number)) }
 {
-    let chain = chain(alloc, reader, version)?;
+    let chain = chain(alloc, limits, reader, version)?;
     Ok(Certificate::Never { chain })
 }
 
 /// Reads all lines of a certificate, and that none follows.
-fn certificate(alloc: Global, reader: &mut Reader) -> Result<Certificate, ReadError>
-    ensures { (text : List ℕ) → IsAt NextOfCertificate first text reader.old first →
-        MatchResult result (IsCertificateText text) (Halts (IsCertificateFault text reader.new.number)) }
+fn certificate(
+    alloc: Global,
+    limits: &Limits,
+    reader: &mut Reader,
+) -> Result<Certificate, ReadError>
+    ensures { (text : List ℕ) → IsAt (NextOfCertificate limits.now.members) first text reader.old first →
+        MatchResult result (IsCertificateText limits.now.members text) (Halts (IsCertificateFault limits.now.members
+        text reader.new.number)) }
 {
     let Some(number) = reader.count_line(b"certificate", 1, 2) else {
         return Err(ReadError::Malformed);
@@ -182,22 +224,22 @@ fn certificate(alloc: Global, reader: &mut Reader) -> Result<Certificate, ReadEr
         return Err(ReadError::Malformed);
     };
     if has_schedule {
-        least(alloc, reader, version)
+        least(alloc, limits, reader, version)
     } else {
-        never(alloc, reader, version)
+        never(alloc, limits, reader, version)
     }
 }
 
 /// The certificate of a text, of either version. The refusal is Syntax with the first line that is out of form, counted
 /// from 1.
-pub fn read(alloc: Global, text: &[u8]) -> Result<Certificate, Stop>
+pub fn read(alloc: Global, limits: &Limits, text: &[u8]) -> Result<Certificate, Stop>
     requires { length text.now ≤ MOST_BYTES }
-    ensures value { IfOk result (λ certificate. IsCertificateText text.now certificate) }
+    ensures value { IfOk result (λ certificate. IsCertificateText limits.now.members text.now certificate) }
     ensures in_range { IfOk result IsCertificateInRange }
-    ensures stop { IfErr result (StopsAt (IsCertificateRefusal text.now)) }
+    ensures stop { IfErr result (StopsAt (IsCertificateRefusal limits.now.members text.now)) }
 {
     let mut reader = Reader::new(text);
-    match certificate(alloc, &mut reader) {
+    match certificate(alloc, limits, &mut reader) {
         Ok(certificate) => Ok(certificate),
         Err(ReadError::Malformed) => Err(Stop::Refused(Refusal::Syntax {
             role: Role::Certificate,

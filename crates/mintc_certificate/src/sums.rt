@@ -24,7 +24,7 @@ pub fn sums_of(flat: &Flat, members: &[Member]) -> ChainSums
     requires chain { IsChainInRange members.now }
     ensures delay { result.delay ≡ delay_of (links_of_members flat.now members.now) }
     ensures cycles { result.cycles ≡ cycles_of (links_of_members flat.now members.now) }
-    ensures delay_range { (negsuc 8191999999999 ≤ℤ result.delay) × (result.delay ≤ℤ pos 8192000000000) }
+    ensures delay_range { (negsuc 65535999999999 ≤ℤ result.delay) × (result.delay ≤ℤ pos 65536000000000) }
     ensures cycles_range { (pos 0 ≤ℤ result.cycles) × (result.cycles ≤ℤ pos MOST_MEMBERS) }
 {
     let mut delay = 0;

@@ -19,10 +19,10 @@ equal_bits a b x y e f p q =
     ((λ h. same_bits x y p q (ap (of_z w64) (sym e) ∙ law.0 h ∙ ap (of_z w64) f)), (λ g. law.1 (ap (of_z w64) (e ∙ g ∙ sym f))))
 
 -- the products that the test of a ring compares
-pub delay_fits : (delay den : ℤ) → (negsuc 8191999999999 ≤ℤ delay) × (delay ≤ℤ pos 8192000000000) → IsDenominator den → SFits w64 (delay *ℤ den)
+pub delay_fits : (delay den : ℤ) → (negsuc 65535999999999 ≤ℤ delay) × (delay ≤ℤ pos 65536000000000) → IsDenominator den → SFits w64 (delay *ℤ den)
 delay_fits delay den h g =
-    let low : (negsuc 8191999999999 *ℤ den) ≤ℤ (delay *ℤ den) = times-mono_positive (negsuc 8191999999999) delay den h.0 g.0 in
-    let high : (delay *ℤ den) ≤ℤ (pos 8192000000000 *ℤ den) = times-mono_positive delay (pos 8192000000000) den h.1 g.0 in
+    let low : (negsuc 65535999999999 *ℤ den) ≤ℤ (delay *ℤ den) = times-mono_positive (negsuc 65535999999999) delay den h.0 g.0 in
+    let high : (delay *ℤ den) ≤ℤ (pos 65536000000000 *ℤ den) = times-mono_positive delay (pos 65536000000000) den h.1 g.0 in
     omega (arith, ints)
 
 pub turns_fit : (cycles cycle : ℤ) → (pos 1 ≤ℤ cycles) × (cycles ≤ℤ pos MOST_MEMBERS) → IsNumerator cycle → SFits w64 (cycles *ℤ cycle)

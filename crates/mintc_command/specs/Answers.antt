@@ -1,7 +1,7 @@
 -- What a run answers over the files of a shelf, and what it leaves.
 use Rattle.std.specs.Prelude.{◌≡◌, ◌≢◌, ◌≤◌, ◌+◌, ℕ, List, [], Option, Some, None, codes, All}
 use Rattle.std.specs.List.{AllZip}
-use Rattle.mintc_text.specs.declared.limits.TheConstants.{MOST_BYTES}
+use Rattle.mintc_text.specs.declared.limits.Most.{Most}
 use Rattle.mintc_text.specs.Lines.{ended}
 use Rattle.mintc_text.specs.Outside.{Files, Holds, IsFront, Takes, TakesFront}
 use Rattle.mintc_text.specs.declared.refusals.Refusal.{Refusal}
@@ -29,11 +29,11 @@ HoldsAll files names = All (Holds files) names
 abbrev pub AreFronts : Option Files → ℕ → List (List ℕ) → List (List ℕ) → Type 0
 AreFronts files most names fronts = AllZip (λ name front. IsFront files name most front) names fronts
 
--- Whatever the files of these names are read as, the command refuses none of them.
-abbrev pub IsNotRefused : Option Files → Command → List (List ℕ) → Type 0
-IsNotRefused files command names =
-    (fronts : List (List ℕ)) (refused : Refusal) → AreFronts files (MOST_BYTES + 1) names fronts →
-    IsFirstRefusal command fronts refused → ⊥
+-- Whatever the files of these names are read as, the command refuses none of them in the run.
+abbrev pub IsNotRefused : Most → Option Files → Command → List (List ℕ) → Type 0
+IsNotRefused most files command names =
+    (fronts : List (List ℕ)) (refused : Refusal) → AreFronts files (most.bytes + 1) names fronts →
+    IsFirstRefusal most command fronts refused → ⊥
 
 -- The status is that of an answer which isn't a refusal, or memory was wanting.
 abbrev pub IsComplete : Status → Type 0
@@ -43,29 +43,31 @@ IsComplete OutOfMemory = Unit {0}
 IsComplete status = ⊥
 
 -- The words are those of a command with the names of its files. The fronts are their first bytes, one more than a file
--- may have, and this is the defined answer of the command on them.
-pub record IsCommandAnswer (words : List (List ℕ)) (files : Option Files) (status : Status) (text : List ℕ) :
-    Type 0 where
+-- may have in the run, and this is the defined answer of the command on them.
+pub record IsCommandAnswer (most : Most) (words : List (List ℕ)) (files : Option Files) (status : Status)
+    (text : List ℕ) : Type 0 where
   pub command : Command
   pub names : List (List ℕ)
   pub are_words : AreWordsOf command names words
   pub fronts : List (List ℕ)
-  pub are_fronts : AreFronts files (MOST_BYTES + 1) names fronts
-  pub defined : IsDefined command fronts status text
+  pub are_fronts : AreFronts files (most.bytes + 1) names fronts
+  pub defined : IsDefined most command fronts status text
 
 -- The defined answer of words over a shelf's files: that of their command, or the usage line where they are none.
-abbrev pub IsAnswer : List (List ℕ) → Option Files → Status → List ℕ → Type 0
-IsAnswer words files Usage text = (IsCommand words → ⊥) × (text ≡ usage_line)
-IsAnswer words files status text = IsCommandAnswer words files status text
+abbrev pub IsAnswer : Most → List (List ℕ) → Option Files → Status → List ℕ → Type 0
+IsAnswer most words files Usage text = (IsCommand words → ⊥) × (text ≡ usage_line)
+IsAnswer most words files status text = IsCommandAnswer most words files status text
 
 -- What a run leaves of the bytes that the sink took: with an answer its text at the end, with a failed write a front of
 -- an answer's text, and else what there was.
-abbrev pub Writes : List (List ℕ) → Option Files → Status → Option (List ℕ) → Option (List ℕ) → Type 0
-Writes words files ReadFault before now = now ≡ before
-Writes words files OutOfMemory before now = now ≡ before
-Writes words files WriteFault before now = (status : Status) × (text : List ℕ) × IsAnswer words files status text
+abbrev pub Writes : Most → List (List ℕ) → Option Files → Status → Option (List ℕ) → Option (List ℕ) → Type 0
+Writes most words files ReadFault before now = now ≡ before
+Writes most words files OutOfMemory before now = now ≡ before
+Writes most words files WriteFault before now = (status : Status) × (text : List ℕ)
+    × IsAnswer most words files status text
     × TakesFront before now text
-Writes words files status before now = (text : List ℕ) × IsAnswer words files status text × Takes before now text
+Writes most words files status before now = (text : List ℕ) × IsAnswer most words files status text
+    × Takes before now text
 
 -- The status is one that comes only after all files were read.
 abbrev pub IsAfterReading : Status → Type 0

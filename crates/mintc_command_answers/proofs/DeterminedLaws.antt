@@ -1,5 +1,6 @@
 -- A defined answer has one status.
 use Rattle.std.proofs.Common.{◌≡◌, ◌≢◌, ℕ, ℤ, List, [], ◌∷◌, ◌++◌, get_or, refl, ◌∙◌, sym, subst, inl, inr, ◌⊎◌}
+use Rattle.mintc_text.specs.declared.limits.Most.{Most}
 use Rattle.mintc_text.specs.declared.refusals.Refusal.{Refusal}
 use Rattle.mintc_timing.specs.declared.clocking.Schedule.{Schedule}
 use Rattle.mintc_timing.specs.declared.parts.Pair.{Pair}
@@ -49,8 +50,8 @@ use Rattle.mintc_command_answers.proofs.RefusalLaws.{AreTextLaws, exclude_lem, o
 
 -- the laws of texts, of pairs and of violations
 pub record AreLaws : Type 0 where
-  pub texts : AreTextLaws
-  pub one_certificate : HaveOneCertificate
+  pub texts : (most : Most) → AreTextLaws most
+  pub one_certificate : (most : ℕ) → HaveOneCertificate most
   pub one_pairs : PairsAreDetermined
   pub one_violations : ViolationsAreDetermined
 
@@ -63,9 +64,9 @@ alike_back : (t u : Timing) → AreAlike t u → AreAlike u t
 alike_back t u h = record { flat = sym h.flat; pairs = sym h.pairs }
 
 -- Files give timings that are alike.
-alike : AreLaws → (source : Source) (files : List (List ℕ)) (t u : Timing) → Gives source files t → Gives source files u → AreAlike t u
-alike law source files t u a b =
-    let flat : t.flat ≡ u.flat = one_design law.texts source files t.flat u.flat a.design b.design in
+alike : AreLaws → (most : Most) (source : Source) (files : List (List ℕ)) (t u : Timing) → Gives most source files t → Gives most source files u → AreAlike t u
+alike law most source files t u a b =
+    let flat : t.flat ≡ u.flat = one_design most (law.texts most) source files t.flat u.flat a.design b.design in
     record { flat = flat; pairs = law.one_pairs t.flat t.pairs u.pairs a.pairs (subst (λ (d : Design). ArePairs d u.pairs) (sym flat) b.pairs) }
 
 right_alike : (t u : Timing) (s : Schedule) (d : List ℤ) → AreAlike t u → IsRight t s d → IsRight u s d
@@ -175,16 +176,16 @@ one_verdict t u c (verdict.Invalid n) (verdict.Invalid m) same a b = refl
 
 -- ---- corners
 
-jointly_alike : AreLaws → (corners : List (List (List ℕ))) (ts us : List Timing) → AreGiven corners ts → AreGiven corners us →
+jointly_alike : AreLaws → (most : Most) (corners : List (List (List ℕ))) (ts us : List Timing) → AreGiven most corners ts → AreGiven most corners us →
     (s : Schedule) (ds : List (List ℤ)) → AreJointlyRight ts s ds → AreJointlyRight us s ds
-jointly_alike law [] [] [] a b s ds h = h
-jointly_alike law [] [] (u ∷ us) a b s ds h = absurd b
-jointly_alike law [] (t ∷ ts) us a b s ds h = absurd a
-jointly_alike law (files ∷ corners) [] us a b s ds h = absurd a
-jointly_alike law (files ∷ corners) (t ∷ ts) [] a b s ds h = absurd b
-jointly_alike law (files ∷ corners) (t ∷ ts) (u ∷ us) a b s [] h = absurd h
-jointly_alike law (files ∷ corners) (t ∷ ts) (u ∷ us) a b s (d ∷ ds) h =
-    (right_alike t u s d (alike law Files files t u a.0 b.0) h.0, jointly_alike law corners ts us a.1 b.1 s ds h.1)
+jointly_alike law most [] [] [] a b s ds h = h
+jointly_alike law most [] [] (u ∷ us) a b s ds h = absurd b
+jointly_alike law most [] (t ∷ ts) us a b s ds h = absurd a
+jointly_alike law most (files ∷ corners) [] us a b s ds h = absurd a
+jointly_alike law most (files ∷ corners) (t ∷ ts) [] a b s ds h = absurd b
+jointly_alike law most (files ∷ corners) (t ∷ ts) (u ∷ us) a b s [] h = absurd h
+jointly_alike law most (files ∷ corners) (t ∷ ts) (u ∷ us) a b s (d ∷ ds) h =
+    (right_alike t u s d (alike law most Files files t u a.0 b.0) h.0, jointly_alike law most corners ts us a.1 b.1 s ds h.1)
 
 one_joint : (ts us : List Timing) (c d : CornerCertificate) → ((s : Schedule) (ds : List (List ℤ)) → AreJointlyRight ts s ds → AreJointlyRight us s ds) →
     ((s : Schedule) (ds : List (List ℤ)) → AreJointlyRight us s ds → AreJointlyRight ts s ds) → IsOptimumOf ts c → IsOptimumOf us d → corner_status c ≡ corner_status d
@@ -197,47 +198,47 @@ one_joint (t ∷ ts) (u ∷ us) (joint.Never chain) (joint.Never another) there 
 
 -- ---- commands
 
-one_job : AreLaws → (job : Job) (t u : Timing) (file : List ℕ) (status other : Status) (text another : List ℕ) → AreAlike t u →
-    IsJobAnswer job t file status text → IsJobAnswer job u file other another → status ≡ other
-one_job law Check t u file status other text another same (s, is, h) (r, is_too, g) =
-    let schedule : r ≡ s = law.texts.one_schedule file r s is_too.is_text is.is_text in
+one_job : AreLaws → (most : Most) (job : Job) (t u : Timing) (file : List ℕ) (status other : Status) (text another : List ℕ) → AreAlike t u →
+    IsJobAnswer most job t file status text → IsJobAnswer most job u file other another → status ≡ other
+one_job law most Check t u file status other text another same (s, is, h) (r, is_too, g) =
+    let schedule : r ≡ s = (law.texts most).one_schedule file r s is_too.is_text is.is_text in
     one_judgement law t u s status other same (judged t s status text h) (subst (λ (x : Schedule). IsJudged u x other) schedule (judged u r other another g))
-one_job law Optimise t u file status other text another same (c, is, e, w) (d, is_too, f, v) = e ∙ one_optimum t u c d same is.optimal is_too.optimal ∙ sym f
-one_job law Verify t u file status other text another same (c, is, (v, of, e, w)) (d, is_too, (x, of_too, f, y)) =
-    let one : d ≡ c = law.one_certificate file d c is_too is in
+one_job law most Optimise t u file status other text another same (c, is, e, w) (d, is_too, f, v) = e ∙ one_optimum t u c d same is.optimal is_too.optimal ∙ sym f
+one_job law most Verify t u file status other text another same (c, is, (v, of, e, w)) (d, is_too, (x, of_too, f, y)) =
+    let one : d ≡ c = law.one_certificate most.members file d c is_too is in
     e ∙ one_verdict t u c v x same of (subst (λ (k : Certificate). IsVerdict u k x) one of_too) ∙ sym f
-one_job law Report t u file status other text another same (c, is, e, w) (d, is_too, f, v) = e ∙ one_optimum t u c d same is.optimal is_too.optimal ∙ sym f
-one_job law Safe t u file status other text another same (c, is, e, w) (d, is_too, f, v) = e ∙ one_safe t u c d same is.optimal is_too.optimal ∙ sym f
-one_job law Slack t u file status other text another same (x, is, e, w) (y, is_too, f, v) = e ∙ one_slack t u x y same is is_too ∙ sym f
+one_job law most Report t u file status other text another same (c, is, e, w) (d, is_too, f, v) = e ∙ one_optimum t u c d same is.optimal is_too.optimal ∙ sym f
+one_job law most Safe t u file status other text another same (c, is, e, w) (d, is_too, f, v) = e ∙ one_safe t u c d same is.optimal is_too.optimal ∙ sym f
+one_job law most Slack t u file status other text another same (few, (x, is, e, w)) (few_too, (y, is_too, f, v)) = e ∙ one_slack t u x y same is is_too ∙ sym f
 
-one_content : AreLaws → (command : Command) (texts : List (List ℕ)) (status other : Status) (text another : List ℕ) →
-    IsContentAnswer command texts status text → IsContentAnswer command texts other another → status ≡ other
-one_content law (OfDesign job source) texts status other text another (t, gives, h) (u, gives_too, g) =
-    one_job law job t u (own_file source texts) status other text another (alike law source texts t u gives gives_too) h g
-one_content law (Sample number) texts status other text another (t, gives, (c, is, e, w)) (u, gives_too, (d, is_too, f, v)) =
-    e ∙ one_optimum t u c d (alike law Files texts t u gives gives_too) is.optimal is_too.optimal ∙ sym f
-one_content law (Corners count) texts status other text another (ts, given, few, (c, is, e, w)) (us, given_too, few_too, (d, is_too, f, v)) =
-    e ∙ one_joint ts us c d (jointly_alike law (corners_of texts) ts us given given_too) (jointly_alike law (corners_of texts) us ts given_too given) is is_too ∙ sym f
+one_content : AreLaws → (most : Most) (command : Command) (texts : List (List ℕ)) (status other : Status) (text another : List ℕ) →
+    IsContentAnswer most command texts status text → IsContentAnswer most command texts other another → status ≡ other
+one_content law most (OfDesign job source) texts status other text another (t, gives, h) (u, gives_too, g) =
+    one_job law most job t u (own_file source texts) status other text another (alike law most source texts t u gives gives_too) h g
+one_content law most (Sample number) texts status other text another (t, gives, (c, is, e, w)) (u, gives_too, (d, is_too, f, v)) =
+    e ∙ one_optimum t u c d (alike law most Files texts t u gives gives_too) is.optimal is_too.optimal ∙ sym f
+one_content law most (Corners count) texts status other text another (ts, given, few, (c, is, e, w)) (us, given_too, few_too, (d, is_too, f, v)) =
+    e ∙ one_joint ts us c d (jointly_alike law most (corners_of texts) ts us given given_too) (jointly_alike law most (corners_of texts) us ts given_too given) is is_too ∙ sym f
 
 -- An answer is the line of the first refusal, or the answer of a command of which nothing is refused.
-abbrev IsRefusedOrAnswer : Command → List (List ℕ) → Status → List ℕ → Type 0
-IsRefusedOrAnswer command texts status text = ((refused : Refusal) × IsRefusalOn command texts refused × (status ≡ Refused))
-    ⊎ IsContentAnswer command texts status text
+abbrev IsRefusedOrAnswer : Most → Command → List (List ℕ) → Status → List ℕ → Type 0
+IsRefusedOrAnswer most command texts status text = ((refused : Refusal) × IsRefusalOn most command texts refused × (status ≡ Refused))
+    ⊎ IsContentAnswer most command texts status text
 
-refused_or_answer : (command : Command) (texts : List (List ℕ)) (status : Status) (text : List ℕ) → IsAnswerOn command texts status text → IsRefusedOrAnswer command texts status text
-refused_or_answer command texts Refused text h = inl (h.0, h.1, refl)
-refused_or_answer command texts Done text h = inr h.1
-refused_or_answer command texts Found text h = inr h.1
-refused_or_answer command texts Usage text h = inr h.1
-refused_or_answer command texts ReadFault text h = inr h.1
-refused_or_answer command texts WriteFault text h = inr h.1
-refused_or_answer command texts OutOfMemory text h = inr h.1
+refused_or_answer : (most : Most) (command : Command) (texts : List (List ℕ)) (status : Status) (text : List ℕ) → IsAnswerOn most command texts status text → IsRefusedOrAnswer most command texts status text
+refused_or_answer most command texts Refused text h = inl (h.0, h.1, refl)
+refused_or_answer most command texts Done text h = inr h.1
+refused_or_answer most command texts Found text h = inr h.1
+refused_or_answer most command texts Usage text h = inr h.1
+refused_or_answer most command texts ReadFault text h = inr h.1
+refused_or_answer most command texts WriteFault text h = inr h.1
+refused_or_answer most command texts OutOfMemory text h = inr h.1
 
 pub statuses_lem : AreLaws → StatusesAreDetermined
-statuses_lem law command files status other text another a b =
-    go (refused_or_answer command (contents_of command files) status text a) (refused_or_answer command (contents_of command files) other another b)
+statuses_lem law most command files status other text another a b =
+    go (refused_or_answer most command (contents_of command files) status text a) (refused_or_answer most command (contents_of command files) other another b)
   where
-    go : IsRefusedOrAnswer command (contents_of command files) status text → IsRefusedOrAnswer command (contents_of command files) other another → status ≡ other
-    go (inl (refused, first, is)) h = is ∙ sym (exclude_lem law.texts command files refused other another first b)
-    go (inr h) (inl (refused, first, is)) = exclude_lem law.texts command files refused status text first a ∙ sym is
-    go (inr h) (inr g) = one_content law command (contents_of command files) status other text another h g
+    go : IsRefusedOrAnswer most command (contents_of command files) status text → IsRefusedOrAnswer most command (contents_of command files) other another → status ≡ other
+    go (inl (refused, first, is)) h = is ∙ sym (exclude_lem law.texts most command files refused other another first b)
+    go (inr h) (inl (refused, first, is)) = exclude_lem law.texts most command files refused status text first a ∙ sym is
+    go (inr h) (inr g) = one_content law most command (contents_of command files) status other text another h g

@@ -1,6 +1,7 @@
 mod WordLaws
 mod AnswerLaws
 mod SourceLaws
+mod UsualLaws
 mod JudgementLaws
 mod RefusalLaws
 mod CornerLaws

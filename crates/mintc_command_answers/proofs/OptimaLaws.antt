@@ -2,6 +2,7 @@
 use Rattle.std.proofs.Common.{◌≡◌, ◌≤◌, ℕ, ℤ, List, [], ◌∷◌, ◌++◌, length, take, drop, flat_map, refl, ap, ◌∙◌, sym, subst, arith}
 use Rattle.std.proofs.Math.Seq.{drop-append_seam, take-append_seam}
 use Rattle.std.proofs.lemmas.List.{append-nil}
+use Rattle.mintc_text.specs.declared.limits.TheConstants.{MOST_ELEMENTS}
 use Rattle.mintc_timing.specs.declared.clocking.Schedule.{Schedule}
 use Rattle.mintc_timing.specs.declared.parts.Element.{Element}
 use Rattle.mintc_timing.specs.Design.{Timing, element_count}
@@ -75,7 +76,7 @@ elements_beside t (u ∷ ts) = ap (λ (es : List Element). t.flat.elements ++ es
 pub joint_optima_lem : BesideIsBoth → CornersAreModest → JointOptimaAreDetermined
 joint_optima_lem law modest [] c d are systems few elements a b = absurd a
 joint_optima_lem law modest (t ∷ ts) (joint.Least s ds chain) (joint.Least r es another) are systems few elements a b =
-    let count : element_count (side_by_side t ts).flat ≤ 2000 = subst (λ (xs : List Element). length xs ≤ 2000) (elements_beside t ts) elements in
+    let count : element_count (side_by_side t ts).flat ≤ MOST_ELEMENTS = subst (λ (xs : List Element). length xs ≤ MOST_ELEMENTS) (elements_beside t ts) elements in
     let kept = modest t ts are systems (omega arith) count in
     let limits = kept.1 in
     let pairs = kept.2 in

@@ -1,5 +1,6 @@
 -- A defined answer has the status of an answer: by what is asked.
 use Rattle.std.proofs.Common.{ℕ, List, sym, subst}
+use Rattle.mintc_text.specs.declared.limits.Most.{Most}
 use Rattle.mintc_timing.specs.declared.clocking.Schedule.{Schedule}
 use Rattle.mintc_timing.specs.Design.{Timing}
 use Rattle.mintc_certificate.specs.declared.certificate.Certificate.{Certificate}
@@ -53,24 +54,24 @@ judgement_of t s ReadFault text h = absurd h
 judgement_of t s WriteFault text h = absurd h
 judgement_of t s OutOfMemory text h = absurd h
 
-job_of : (job : Job) (t : Timing) (file : List ℕ) (status : Status) (text : List ℕ) → IsJobAnswer job t file status text → IsOfCommand status
-job_of Check t file status text (s, is, h) = judgement_of t s status text h
-job_of Optimise t file status text (c, is, e, w) = subst IsOfCommand (sym e) (certificate_of c)
-job_of Verify t file status text (c, is, h) = subst IsOfCommand (sym h.2) (verdict_of h.0)
-job_of Report t file status text (c, is, e, w) = subst IsOfCommand (sym e) (certificate_of c)
-job_of Safe t file status text (c, is, e, w) = subst IsOfCommand (sym e) (safe_of c)
-job_of Slack t file status text (x, is, e, w) = subst IsOfCommand (sym e) (slack_of x)
+job_of : (most : Most) (job : Job) (t : Timing) (file : List ℕ) (status : Status) (text : List ℕ) → IsJobAnswer most job t file status text → IsOfCommand status
+job_of most Check t file status text (s, is, h) = judgement_of t s status text h
+job_of most Optimise t file status text (c, is, e, w) = subst IsOfCommand (sym e) (certificate_of c)
+job_of most Verify t file status text (c, is, h) = subst IsOfCommand (sym h.2) (verdict_of h.0)
+job_of most Report t file status text (c, is, e, w) = subst IsOfCommand (sym e) (certificate_of c)
+job_of most Safe t file status text (c, is, e, w) = subst IsOfCommand (sym e) (safe_of c)
+job_of most Slack t file status text (few, (x, is, e, w)) = subst IsOfCommand (sym e) (slack_of x)
 
-content_of : (command : Command) (texts : List (List ℕ)) (status : Status) (text : List ℕ) → IsContentAnswer command texts status text → IsOfCommand status
-content_of (OfDesign job source) texts status text (t, given, h) = job_of job t _ status text h
-content_of (Sample number) texts status text (t, given, h) = subst IsOfCommand (sym h.2) (certificate_of h.0)
-content_of (Corners count) texts status text (ts, given, few, h) = subst IsOfCommand (sym h.2) (joint_of h.0)
+content_of : (most : Most) (command : Command) (texts : List (List ℕ)) (status : Status) (text : List ℕ) → IsContentAnswer most command texts status text → IsOfCommand status
+content_of most (OfDesign job source) texts status text (t, given, h) = job_of most job t _ status text h
+content_of most (Sample number) texts status text (t, given, h) = subst IsOfCommand (sym h.2) (certificate_of h.0)
+content_of most (Corners count) texts status text (ts, given, few, h) = subst IsOfCommand (sym h.2) (joint_of h.0)
 
 pub of_commands_lem : AnswersAreOfCommands
-of_commands_lem command files Done text h = tt
-of_commands_lem command files Found text h = tt
-of_commands_lem command files Refused text h = tt
-of_commands_lem command files Usage text h = content_of command (contents_of command files) Usage text h.1
-of_commands_lem command files ReadFault text h = content_of command (contents_of command files) ReadFault text h.1
-of_commands_lem command files WriteFault text h = content_of command (contents_of command files) WriteFault text h.1
-of_commands_lem command files OutOfMemory text h = content_of command (contents_of command files) OutOfMemory text h.1
+of_commands_lem most command files Done text h = tt
+of_commands_lem most command files Found text h = tt
+of_commands_lem most command files Refused text h = tt
+of_commands_lem most command files Usage text h = content_of most command (contents_of command files) Usage text h.1
+of_commands_lem most command files ReadFault text h = content_of most command (contents_of command files) ReadFault text h.1
+of_commands_lem most command files WriteFault text h = content_of most command (contents_of command files) WriteFault text h.1
+of_commands_lem most command files OutOfMemory text h = content_of most command (contents_of command files) OutOfMemory text h.1

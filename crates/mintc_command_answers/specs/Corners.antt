@@ -2,7 +2,7 @@
 -- makes a corner with the others.
 use Rattle.std.specs.Prelude.{◌≡◌, ◌<◌, ◌*◌, ◌⊎◌, ℕ, suc, List, [], ◌∷◌, length, map, drop}
 use Rattle.std.specs.List.{AllZip}
-use Rattle.mintc_text.specs.declared.limits.TheConstants.{MOST_ELEMENTS}
+use Rattle.mintc_text.specs.declared.limits.Most.{Most}
 use Rattle.mintc_text.specs.Lines.{text_of}
 use Rattle.mintc_text.specs.declared.refusals.Refusal.{Refusal}
 use Rattle.mintc_text.specs.declared.refusals.Refusal.TheVariants as refusal
@@ -29,36 +29,37 @@ abbrev pub corners_of : List (List ℕ) → List (List (List ℕ))
 corners_of texts = map (files_with texts) (drop 3 texts)
 
 -- These are the timings of all corners.
-abbrev pub AreGiven : List (List (List ℕ)) → List Timing → Type 0
-AreGiven corners ts = AllZip (Gives Files) corners ts
+abbrev pub AreGiven : Most → List (List (List ℕ)) → List Timing → Type 0
+AreGiven most corners ts = AllZip (Gives most Files) corners ts
 
 -- The corners being counted from c on, this one is the first whose files are refused, and this is their refusal.
-abbrev pub IsFirstRefused : List (List (List ℕ)) → ℕ → ℕ → Refusal → Type 0
-IsFirstRefused [] c corner own = ⊥
-IsFirstRefused (files ∷ corners) c corner own =
-    ((corner ≡ c) × IsSourceRefused Files files own)
-    ⊎ ((t : Timing) × Gives Files files t × IsFirstRefused corners (suc c) corner own)
+abbrev pub IsFirstRefused : Most → List (List (List ℕ)) → ℕ → ℕ → Refusal → Type 0
+IsFirstRefused most [] c corner own = ⊥
+IsFirstRefused most (files ∷ corners) c corner own =
+    ((corner ≡ c) × IsSourceRefused most Files files own)
+    ⊎ ((t : Timing) × Gives most Files files t × IsFirstRefused most corners (suc c) corner own)
 
 -- Why the corners, counted from c on, have no systems: files that are refused, or want of memory.
-abbrev pub IsCornerStop : List (List (List ℕ)) → ℕ → CornerStop → Type 0
-IsCornerStop corners c (stop.Refused corner own) = IsFirstRefused corners c corner own
-IsCornerStop corners c stop.OutOfMemory = Unit {0}
+abbrev pub IsCornerStop : Most → List (List (List ℕ)) → ℕ → CornerStop → Type 0
+IsCornerStop most corners c (stop.Refused corner own) = IsFirstRefused most corners c corner own
+IsCornerStop most corners c stop.OutOfMemory = Unit {0}
 
 -- how many elements the corners have together, each as many as the first
 abbrev pub elements_together : List Timing → ℕ
 elements_together [] = 0
 elements_together (t ∷ ts) = length (t ∷ ts) * element_count t.flat
 
--- They are more than a design may have.
-abbrev pub AreTooMany : List Timing → Refusal → Type 0
-AreTooMany ts refused = (MOST_ELEMENTS < elements_together ts)
+-- They are more than a design may have in the run.
+abbrev pub AreTooMany : Most → List Timing → Refusal → Type 0
+AreTooMany most ts refused = (most.elements < elements_together ts)
     × (refused ≡ refusal.Limit kind.Elements (elements_together ts))
 
 -- The refusal of a command with these corners: of the first corner that is refused, or of the elements of all.
-pub data IsCornersRefusal (corners : List (List (List ℕ))) (refused : Refusal) : Type 0 where
-  of_corner : (corner : ℕ) (own : Refusal) → IsFirstRefused corners 1 corner own → refused ≡ refusal.Corner corner →
-      IsCornersRefusal corners refused
-  of_elements : (ts : List Timing) → AreGiven corners ts → AreTooMany ts refused → IsCornersRefusal corners refused
+pub data IsCornersRefusal (most : Most) (corners : List (List (List ℕ))) (refused : Refusal) : Type 0 where
+  of_corner : (corner : ℕ) (own : Refusal) → IsFirstRefused most corners 1 corner own →
+      refused ≡ refusal.Corner corner → IsCornersRefusal most corners refused
+  of_elements : (ts : List Timing) → AreGiven most corners ts → AreTooMany most ts refused →
+      IsCornersRefusal most corners refused
 
 -- how a run ends that has this certificate
 abbrev pub corner_status : CornerCertificate → Status

@@ -1,13 +1,15 @@
 -- What is answered of a design: to each job a status and a text, or a refusal of the file that stands beside the
 -- design's.
-use Rattle.std.specs.Prelude.{◌≡◌, ◌≢◌, ℕ, ℤ, List, [], length}
+use Rattle.std.specs.Prelude.{◌≡◌, ◌≢◌, ◌<◌, ◌≤◌, ◌+◌, ℕ, ℤ, List, [], length}
+use Rattle.mintc_text.specs.declared.limits.Most.{Most}
 use Rattle.mintc_text.specs.Lines.{text_of}
 use Rattle.mintc_text.specs.declared.refusals.Refusal.{Refusal}
 use Rattle.mintc_text.specs.declared.refusals.Refusal.TheVariants as refusal
+use Rattle.mintc_text.specs.declared.refusals.Kind.TheVariants as kind
 use Rattle.mintc_text.specs.declared.refusals.Role.TheVariants as role
 use Rattle.mintc_timing.specs.declared.clocking.Schedule.{Schedule}
 use Rattle.mintc_timing.specs.declared.violation.Violation.{Violation}
-use Rattle.mintc_timing.specs.Design.{Design, Timing, phase_count}
+use Rattle.mintc_timing.specs.Design.{Design, Timing, element_count, phase_count}
 use Rattle.mintc_timing.specs.Departures.{AreLate, AreEarly}
 use Rattle.mintc_timing.specs.Violations.{AreViolations}
 use Rattle.mintc_timing_text.specs.Texts.{IsScheduleText, IsScheduleFault}
@@ -16,7 +18,7 @@ use Rattle.mintc_certificate.specs.declared.certificate.Certificate.TheVariants.
 use Rattle.mintc_certificate.specs.CertificateText.{IsCertificateText, IsCertificateRefusal}
 use Rattle.mintc_certificate.specs.Optimal.{IsOptimal}
 use Rattle.mintc_certificate.specs.Ranges.{IsCertificateInRange}
-use Rattle.mintc_certificate.specs.Valid.{IsValid}
+use Rattle.mintc_certificate.specs.Valid.{IsValid, chain_of}
 use Rattle.mintc_certificate.specs.Written.{lines_of}
 use Rattle.mintc_checker.specs.declared.verdict.Verdict.{Verdict}
 use Rattle.mintc_checker.specs.declared.verdict.Verdict.TheVariants.{Valid, Invalid}
@@ -68,6 +70,7 @@ pub record IsOptimum (t : Timing) (certificate : Certificate) : Type 0 where
   pub earliest : HasEarliest t certificate
   pub simple : HasSimple t certificate
   pub in_range : IsCertificateInRange certificate
+  pub short : length (chain_of certificate) ≤ element_count t.flat + 17
 
 -- how a run ends that has this certificate
 abbrev pub certificate_status : Certificate → Status
@@ -120,20 +123,23 @@ IsVerdictAnswer t c status text = (v : Verdict) × IsVerdict t c v × (status �
     × (text ≡ verdict_text_of v)
 
 -- The answer to a job on a design, and on the text of the file that stands beside the design's.
-abbrev pub IsJobAnswer : Job → Timing → List ℕ → Status → List ℕ → Type 0
-IsJobAnswer Check t file status text = (s : Schedule) × IsScheduleOf file (phase_count t.flat) s
+abbrev pub IsJobAnswer : Most → Job → Timing → List ℕ → Status → List ℕ → Type 0
+IsJobAnswer most Check t file status text = (s : Schedule) × IsScheduleOf file (phase_count t.flat) s
     × IsJudgement t s status text
-IsJobAnswer Optimise t file status text = IsOptimumAnswer t status text
-IsJobAnswer Verify t file status text = (c : Certificate) × IsCertificateText file c × IsVerdictAnswer t c status text
-IsJobAnswer Report t file status text = IsReportAnswer t status text
-IsJobAnswer Safe t file status text = IsSafeJobAnswer t status text
-IsJobAnswer Slack t file status text = IsSlackJobAnswer t status text
+IsJobAnswer most Optimise t file status text = IsOptimumAnswer t status text
+IsJobAnswer most Verify t file status text = (c : Certificate) × IsCertificateText most.members file c
+    × IsVerdictAnswer t c status text
+IsJobAnswer most Report t file status text = IsReportAnswer t status text
+IsJobAnswer most Safe t file status text = IsSafeJobAnswer t status text
+IsJobAnswer most Slack t file status text = (element_count t.flat ≤ most.slack) × IsSlackJobAnswer t status text
 
--- Why the file that stands beside the design's is refused.
-abbrev pub IsFileRefused : Job → Design → List ℕ → Refusal → Type 0
-IsFileRefused Check design file refused = IsScheduleRefused file (phase_count design) refused
-IsFileRefused Optimise design file refused = ⊥
-IsFileRefused Verify design file refused = IsCertificateRefusal file refused
-IsFileRefused Report design file refused = ⊥
-IsFileRefused Safe design file refused = ⊥
-IsFileRefused Slack design file refused = ⊥
+-- Why the file that stands beside the design's is refused; and a design that has more elements than slacks are found
+-- for.
+abbrev pub IsFileRefused : Most → Job → Design → List ℕ → Refusal → Type 0
+IsFileRefused most Check design file refused = IsScheduleRefused file (phase_count design) refused
+IsFileRefused most Optimise design file refused = ⊥
+IsFileRefused most Verify design file refused = IsCertificateRefusal most.members file refused
+IsFileRefused most Report design file refused = ⊥
+IsFileRefused most Safe design file refused = ⊥
+IsFileRefused most Slack design file refused = (most.slack < length design.elements)
+    × (refused ≡ refusal.Limit kind.Elements (length design.elements))

@@ -1,7 +1,9 @@
 -- What holds of refusals and answers.
-use Rattle.std.specs.Prelude.{◌≡◌, ◌⊎◌, ℕ, List, codes}
+use Rattle.std.specs.Prelude.{◌≡◌, ◌≤◌, ◌⊎◌, ℕ, List, codes}
+use Rattle.mintc_text.specs.declared.limits.Most.{Most}
+use Rattle.mintc_text.specs.Limits.{AreLimits}
 use Rattle.mintc_text.specs.Lines.{ended}
-use Rattle.mintc_timing.specs.Design.{Timing}
+use Rattle.mintc_timing.specs.Design.{Timing, element_count}
 use Rattle.mintc_command_answers.specs.Jobs.{IsJobAnswer}
 use Rattle.mintc_command_answers.specs.declared.command.Job.TheVariants.{Optimise, Verify}
 use Rattle.mintc_text.specs.declared.refusals.Refusal.{Refusal}
@@ -13,27 +15,29 @@ use Rattle.mintc_command_answers.specs.declared.status.Status.TheVariants.{Done,
 
 -- Where there is a first refusal, its line is the only answer.
 abbrev pub RefusalsExcludeAnswers : Type 0
-RefusalsExcludeAnswers = (command : Command) (files : List (List ℕ)) (refused : Refusal) (status : Status)
+RefusalsExcludeAnswers = (most : Most) (command : Command) (files : List (List ℕ)) (refused : Refusal) (status : Status)
     (text : List ℕ) →
-    IsFirstRefusal command files refused → IsDefined command files status text → status ≡ Refused
+    IsFirstRefusal most command files refused → IsDefined most command files status text → status ≡ Refused
 
 -- There is one first refusal, but for the choice of a loop of arcs.
 abbrev pub RefusalsAreDetermined : Type 0
-RefusalsAreDetermined = (command : Command) (files : List (List ℕ)) (refused other : Refusal) →
-    IsFirstRefusal command files refused → IsFirstRefusal command files other → (refused ≡ other)
+RefusalsAreDetermined = (most : Most) (command : Command) (files : List (List ℕ)) (refused other : Refusal) →
+    IsFirstRefusal most command files refused → IsFirstRefusal most command files other → (refused ≡ other)
     ⊎ (IsLoopRefusal refused × IsLoopRefusal other)
 
 -- What `optimise` answers, `verify` calls valid.
 abbrev pub OptimaAreVerified : Type 0
-OptimaAreVerified = (t : Timing) (file text : List ℕ) (status : Status) → IsJobAnswer Optimise t file status text →
-    IsJobAnswer Verify t text Done (ended (codes "valid"))
+OptimaAreVerified = (most : Most) → AreLimits most → (t : Timing) → element_count t.flat ≤ most.elements →
+    (file text : List ℕ) (status : Status) → IsJobAnswer most Optimise t file status text →
+    IsJobAnswer most Verify t text Done (ended (codes "valid"))
 
 -- A defined answer has the status of an answer: it is done, something is found, or the input is refused.
 abbrev pub AnswersAreOfCommands : Type 0
-AnswersAreOfCommands = (command : Command) (files : List (List ℕ)) (status : Status) (text : List ℕ) →
-    IsDefined command files status text → IsOfCommand status
+AnswersAreOfCommands = (most : Most) (command : Command) (files : List (List ℕ)) (status : Status)
+    (text : List ℕ) → IsDefined most command files status text → IsOfCommand status
 
 -- The defined answers of a command on the same files have one status, whichever chain or loop they name.
 abbrev pub StatusesAreDetermined : Type 0
-StatusesAreDetermined = (command : Command) (files : List (List ℕ)) (status other : Status) (text another : List ℕ) →
-    IsDefined command files status text → IsDefined command files other another → status ≡ other
+StatusesAreDetermined = (most : Most) (command : Command) (files : List (List ℕ)) (status other : Status)
+    (text another : List ℕ) → IsDefined most command files status text → IsDefined most command files other another →
+    status ≡ other

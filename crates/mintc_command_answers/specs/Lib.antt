@@ -8,3 +8,4 @@ pub mod Corners
 pub mod Answers
 pub mod Laws
 pub mod Optima
+pub mod Usual

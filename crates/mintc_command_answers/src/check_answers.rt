@@ -15,7 +15,7 @@ use mintc_constraints::Room;
 use mintc_departure::violations;
 use mintc_report::{fail_text, pass_text, violations_name_pairs};
 use mintc_text::limits::MOST_BYTES;
-use mintc_text::{OutOfMemory, Refusal, Stop};
+use mintc_text::{Limits, OutOfMemory, Refusal, Stop};
 use mintc_timing::{Schedule, System, Violation};
 use mintc_timing_text::read_schedule;
 use std::alloc::Global;
@@ -83,10 +83,16 @@ fn judge(alloc: Global, system: &System, schedule: &Schedule) -> Result<Answer, 
 }
 
 /// The judgement of the schedule of a text, or why the text is refused.
-pub(crate) fn check_answer(alloc: Global, system: &System, file: &[u8]) -> Result<Answer, Stop>
+pub(crate) fn check_answer(
+    alloc: Global,
+    limits: &Limits,
+    system: &System,
+    file: &[u8],
+) -> Result<Answer, Stop>
     requires { length file.now ≤ MOST_BYTES }
-    ensures value { IfOk result (λ answer. IsJobAnswer Job.Check system.now file.now answer.status answer.text) }
-    ensures stop { IfErr result (StopsAt (IsFileRefused Job.Check system.now.flat file.now)) }
+    ensures value { IfOk result (λ answer. IsJobAnswer limits.now Job.Check system.now file.now answer.status
+        answer.text) }
+    ensures stop { IfErr result (StopsAt (IsFileRefused limits.now Job.Check system.now.flat file.now)) }
 {
     let schedule = schedule_of(file, system.flat().phase_count())?;
     Ok(judge(alloc, system, &schedule)?)

@@ -1,6 +1,7 @@
 //! The answer of `corners`: the least cycle time of one schedule for several delay files.
 ghost use Rattle.std.specs.Prelude.{◌≡◌, ◌≤◌, ◌<◌, length, map, flat_map, MatchOption, IfOk, IfErr};
 ghost use Rattle.mintc_text.specs.Stops.{StopsAt};
+ghost use Rattle.mintc_text.specs.declared.limits.TheConstants.{MOST_ELEMENTS};
 ghost use Rattle.mintc_corners.specs.CornerOptimum.{IsOptimumOf};
 ghost use Rattle.mintc_corners.specs.Joint.{AreCorners};
 ghost use Rattle.mintc_command_answers.specs.Answers.{IsAnswerOn, IsOfCommand};
@@ -18,8 +19,7 @@ use crate::status::Status;
 use mintc_build::{corners_differ_in_numbers, from_files};
 use mintc_corners::{CornerCertificate, corners, corners_text};
 use mintc_graph_walks::Steps;
-use mintc_text::limits::{MOST_BYTES, MOST_ELEMENTS};
-use mintc_text::{Bytes, Kind, OutOfMemory, Refusal, Stop};
+use mintc_text::{Bytes, Kind, Limits, OutOfMemory, Refusal, Stop};
 use mintc_timing::System;
 use std::alloc::Global;
 use std::marker::Brand;
@@ -34,39 +34,47 @@ pub(crate) enum CornerStop {
 }
 
 /// The system of the corner of these delays. The texts are those of the netlist, the cells and the clock, and then any.
-fn corner_system(alloc: Global, texts: &[Bytes], delays: &Bytes) -> Result<System, Stop>
+fn corner_system(
+    alloc: Global,
+    limits: &Limits,
+    texts: &[Bytes],
+    delays: &Bytes,
+) -> Result<System, Stop>
     requires all { 3 ≤ length texts.now }
-    requires short { AreShort texts.now }
-    requires delays { length delays.now ≤ MOST_BYTES }
-    ensures value { IfOk result (Gives Source.Files (files_with texts.now delays.now)) }
-    ensures stop { IfErr result (StopsAt (IsSourceRefused Source.Files (files_with texts.now delays.now))) }
+    requires short { AreShort limits.now texts.now }
+    requires delays { length delays.now ≤ limits.now.bytes }
+    ensures value { IfOk result (Gives limits.now Source.Files (files_with texts.now delays.now)) }
+    ensures stop { IfErr result (StopsAt (IsSourceRefused limits.now Source.Files (files_with texts.now delays.now))) }
 {
+    let _most = limits.most();
     let flat = from_files(
         alloc,
+        limits,
         texts[0].items(),
         delays.items(),
         texts[1].items(),
         texts[2].items(),
     )?;
-    accepted_system(alloc, flat)
+    accepted_system(alloc, limits, flat)
 }
 
 /// The systems of the corners of these delays, in order.
 fn corner_systems(
     alloc: Global,
+    limits: &Limits,
     texts: &[Bytes],
     delays: &[Bytes],
 ) -> Result<Vec<System>, CornerStop>
     requires all { 3 ≤ length texts.now }
-    requires short { AreShort texts.now }
+    requires short { AreShort limits.now texts.now }
     requires few { length delays.now ≤ 4 }
-    requires delays { AreShort delays.now }
-    ensures value { IfOk result (λ systems. AreGiven (map (files_with texts.now) delays.now) systems.items) }
-    ensures stop { IfErr result (IsCornerStop (map (files_with texts.now) delays.now) 1) }
+    requires delays { AreShort limits.now delays.now }
+    ensures value { IfOk result (λ systems. AreGiven limits.now (map (files_with texts.now) delays.now) systems.items) }
+    ensures stop { IfErr result (IsCornerStop limits.now (map (files_with texts.now) delays.now) 1) }
 {
     let mut systems = Vec::new(alloc);
     for corner in delays {
-        match corner_system(alloc, texts, corner) {
+        match corner_system(alloc, limits, texts, corner) {
             Ok(system) => {
                 let Ok(()) = systems.push(system) else {
                     return Err(CornerStop::OutOfMemory);
@@ -85,13 +93,14 @@ fn corner_systems(
 }
 
 /// The limit of elements, where those of all corners pass it.
-fn too_many(systems: &[System]) -> Option<Refusal>
+fn too_many(limits: &Limits, systems: &[System]) -> Option<Refusal>
     requires some { 1 ≤ length systems.now }
     requires few { length systems.now ≤ 4 }
-    ensures { MatchOption result (elements_together systems.now ≤ MOST_ELEMENTS) (AreTooMany systems.now) }
+    ensures { MatchOption result (elements_together systems.now ≤ limits.now.elements)
+        (AreTooMany limits.now systems.now) }
 {
     let elements = systems.len() * systems[0].flat().elements().len();
-    if elements > MOST_ELEMENTS {
+    if elements > limits.most().elements {
         Some(Refusal::Limit {
             kind: Kind::Elements,
             count: elements as u64,
@@ -147,21 +156,24 @@ fn optimum_of(alloc: Global, systems: &[System]) -> Result<Answer, OutOfMemory>
 /// corners.
 pub(crate) fn corners_answer(
     alloc: Global,
+    limits: &Limits,
     count: u32,
     texts: &[Bytes],
 ) -> Result<Answer, OutOfMemory>
     requires count { length texts.now ≡ length (content_roles (Command.Corners count)) }
     requires in_range { IsNumberInRange (Command.Corners count) }
-    requires short { AreShort texts.now }
-    ensures value { IfOk result (λ answer. IsAnswerOn (Command.Corners count) texts.now answer.status answer.text) }
+    requires short { AreShort limits.now texts.now }
+    ensures value { IfOk result (λ answer. IsAnswerOn limits.now (Command.Corners count) texts.now answer.status
+        answer.text) }
     ensures status { IfOk result (λ answer. IsOfCommand answer.status) }
 {
-    let systems = match corner_systems(alloc, texts, &texts[3..]) {
+    let _most = limits.most();
+    let systems = match corner_systems(alloc, limits, texts, &texts[3..]) {
         Ok(systems) => systems,
         Err(CornerStop::Refused { corner, own }) => return refused_corner(alloc, corner, &own),
         Err(CornerStop::OutOfMemory) => return Err(OutOfMemory),
     };
-    if let Some(refusal) = too_many(systems.as_slice()) {
+    if let Some(refusal) = too_many(limits, systems.as_slice()) {
         return refusal_answer(alloc, &refusal);
     }
     corners_differ_in_numbers();

@@ -3,6 +3,7 @@ ghost use Rattle.mintc_command_answers.specs.Laws.{AnswersAreOfCommands, OptimaA
 ghost use Rattle.mintc_command_answers.specs.Laws.{RefusalsExcludeAnswers, StatusesAreDetermined};
 ghost use Rattle.mintc_command_answers.specs.Optima.{JointOptimaAreDetermined, OptimaAreDetermined};
 ghost use Rattle.mintc_command_answers.specs.Optima.{SafeOptimaAreDetermined};
+ghost use Rattle.mintc_command_answers.specs.Usual.{UsualLimits};
 
 use mintc_build::{
     accepted_designs_are_not_refused, design_refusals_are_determined, files_are_plain,
@@ -81,3 +82,8 @@ pub fn joint_optima_are_determined()
     beside_is_both();
     corners_are_modest();
 }
+
+/// At the usual limits each definition that asks a limit is what it says in numbers.
+pub fn usual_limits()
+    ensures { UsualLimits }
+{}

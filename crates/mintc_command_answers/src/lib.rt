@@ -29,6 +29,6 @@ pub use command::{Command, Job, Source, command_of};
 pub use laws::{
     answers_are_of_commands, joint_optima_are_determined, optima_are_determined,
     optima_are_verified, refusals_are_determined, refusals_exclude_answers,
-    safe_optima_are_determined, statuses_are_determined,
+    safe_optima_are_determined, statuses_are_determined, usual_limits,
 };
 pub use status::Status;

@@ -1,13 +1,17 @@
 //! The answer of `slack`.
-ghost use Rattle.std.specs.Prelude.{◌≡◌, ◌<◌, IfOk};
+ghost use Rattle.std.specs.Prelude.{◌≡◌, ◌<◌, ◌≤◌, ℕ, List, IfOk, IfErr};
+ghost use Rattle.mintc_text.specs.Stops.{StopsAt};
+ghost use Rattle.mintc_text.specs.declared.limits.TheConstants.{MOST_SLACK};
+ghost use Rattle.mintc_timing.specs.Design.{element_count};
 ghost use Rattle.mintc_slack.specs.Answers.{IsSlackAnswer};
-ghost use Rattle.mintc_command_answers.specs.Jobs.{IsSlackJobAnswer, slack_status};
+ghost use Rattle.mintc_command_answers.specs.Jobs.{IsFileRefused, IsJobAnswer, IsSlackJobAnswer, slack_status};
 
 use crate::answer::Answer;
+use crate::command::Job;
 use crate::status::Status;
 use mintc_graph_walks::Steps;
 use mintc_slack::{Slacks, slack, slack_text};
-use mintc_text::OutOfMemory;
+use mintc_text::{Kind, Limits, OutOfMemory, Refusal, Stop};
 use mintc_timing::System;
 use std::alloc::Global;
 use std::marker::Brand;
@@ -22,6 +26,7 @@ fn slacks_from<L: Ledger>(
     requires name { blank.name ≡ L.name }
     requires parts { blank.parts ≡ L.parts }
     requires part { 0 < L.parts }
+    requires few { element_count system.now.flat ≤ MOST_SLACK }
     ensures { IfOk result (IsSlackAnswer system.now) }
 {
     let mut steps = Steps::<L>::open(blank);
@@ -39,10 +44,27 @@ fn status_of(slacks: &Slacks) -> Status
 }
 
 /// The text of the slacks.
-pub(crate) fn slack_answer(alloc: Global, system: &System) -> Result<Answer, OutOfMemory>
+fn slack_answer_within(alloc: Global, system: &System) -> Result<Answer, OutOfMemory>
+    requires { element_count system.now.flat ≤ MOST_SLACK }
     ensures { IfOk result (λ answer. IsSlackJobAnswer system.now answer.status answer.text) }
 {
     let slacks = slacks_from::<Brand>(alloc, system, Blank::new(1))?;
     let text = slack_text(alloc, system, &slacks)?;
     Ok(Answer::new(status_of(&slacks), text))
+}
+
+/// The text of the slacks, or the limit of the elements for which slacks are found.
+pub(crate) fn slack_answer(alloc: Global, limits: &Limits, system: &System) -> Result<Answer, Stop>
+    ensures value { (file : List ℕ) → IfOk result (λ answer. IsJobAnswer limits.now Job.Slack system.now file
+        answer.status answer.text) }
+    ensures stop { (file : List ℕ) → IfErr result (StopsAt (IsFileRefused limits.now Job.Slack system.now.flat file)) }
+{
+    let elements = system.flat().elements().len();
+    if elements > limits.most().slack {
+        return Err(Stop::Refused(Refusal::Limit {
+            kind: Kind::Elements,
+            count: elements as u64,
+        }));
+    }
+    Ok(slack_answer_within(alloc, system)?)
 }

@@ -1,26 +1,28 @@
 //! From the files that a command names to the system of their design.
 ghost use Rattle.std.specs.Prelude.{◌≡◌, ◌≤◌, ◌<◌, length, MatchOption, IfOk, IfErr};
 ghost use Rattle.mintc_text.specs.Stops.{StopsAt};
+ghost use Rattle.mintc_text.specs.declared.limits.Most.{Most};
+ghost use Rattle.mintc_text.specs.declared.limits.TheConstants.{MOST_BYTES};
 ghost use Rattle.mintc_command_answers.specs.Commands.{source_roles};
-ghost use Rattle.mintc_timing.specs.Limits.{IsDesign};
+ghost use Rattle.mintc_timing.specs.Limits.{IsDesign, IsWithinLimits};
 ghost use Rattle.mintc_build.specs.Designs.{IsDesignRefusal};
 ghost use Rattle.mintc_command_answers.specs.Sources.{AreShort, Describes, Gives, GivesOrdered, HasNoDesign};
 ghost use Rattle.mintc_command_answers.specs.Sources.{IsLengthRefusal, IsSourceRefused, IsSystemOf, own_file};
 
 use crate::command::Source;
 use mintc_build::{from_files, from_liberty, from_table, system, system_order};
-use mintc_text::limits::MOST_BYTES;
-use mintc_text::{Bytes, Refusal, Role, Stop};
+use mintc_text::{Bytes, Limits, Refusal, Role, Stop};
 use mintc_timing::{Flat, Order, System, systems_are_accepted};
 use std::alloc::Global;
 
 /// The refusal of the first file that is too long.
-pub(crate) fn too_long(roles: &[Role], files: &[Bytes]) -> Option<Refusal>
+pub(crate) fn too_long(limits: &Limits, roles: &[Role], files: &[Bytes]) -> Option<Refusal>
     requires { length files.now ≡ length roles.now }
-    ensures { MatchOption result (AreShort files.now) (IsLengthRefusal roles.now files.now) }
+    ensures { MatchOption result (AreShort limits.now files.now) (IsLengthRefusal limits.now roles.now files.now) }
 {
+    let most = limits.most().bytes;
     for place in 0..files.len() {
-        if files[place].items().len() > MOST_BYTES {
+        if files[place].items().len() > most {
             return Some(Refusal::TooLong { role: roles[place] });
         }
     }
@@ -28,16 +30,19 @@ pub(crate) fn too_long(roles: &[Role], files: &[Bytes]) -> Option<Refusal>
 }
 
 /// The design that the first files stand for, or their first refusal.
-fn design_of(alloc: Global, source: Source, files: &[Bytes]) -> Result<Flat, Stop>
+fn design_of(alloc: Global, limits: &Limits, source: Source, files: &[Bytes]) -> Result<Flat, Stop>
     requires all { length (source_roles source) ≤ length files.now }
-    requires short { AreShort files.now }
-    ensures value { IfOk result (λ flat. Describes source files.now flat) }
-    ensures stop { IfErr result (StopsAt (HasNoDesign source files.now)) }
+    requires short { AreShort limits.now files.now }
+    ensures within { IfOk result (λ flat. IsWithinLimits limits.now flat) }
+    ensures value { IfOk result (λ flat. Describes limits.now source files.now flat) }
+    ensures stop { IfErr result (StopsAt (HasNoDesign limits.now source files.now)) }
 {
+    let _most = limits.most();
     match source {
-        Source::Table => from_table(alloc, files[0].items()),
+        Source::Table => from_table(alloc, limits, files[0].items()),
         Source::Files => from_files(
             alloc,
+            limits,
             files[0].items(),
             files[1].items(),
             files[2].items(),
@@ -45,6 +50,7 @@ fn design_of(alloc: Global, source: Source, files: &[Bytes]) -> Result<Flat, Sto
         ),
         Source::Liberty => from_liberty(
             alloc,
+            limits,
             files[0].items(),
             files[1].items(),
             files[2].items(),
@@ -54,23 +60,23 @@ fn design_of(alloc: Global, source: Source, files: &[Bytes]) -> Result<Flat, Sto
 }
 
 /// The system of a design, or its first refusal.
-pub(crate) fn accepted_system(alloc: Global, flat: Flat) -> Result<System, Stop>
+pub(crate) fn accepted_system(alloc: Global, limits: &Limits, flat: Flat) -> Result<System, Stop>
+    requires { IsWithinLimits limits.now flat }
     ensures limits { IsDesign flat }
-    ensures value { IfOk result (IsSystemOf flat) }
-    ensures stop { IfErr result (StopsAt (IsDesignRefusal flat)) }
+    ensures value { IfOk result (IsSystemOf limits.now flat) }
+    ensures stop { IfErr result (StopsAt (IsDesignRefusal limits.now flat)) }
 {
     systems_are_accepted();
     let _phases = flat.phases();
-    let system = system(alloc, flat)?;
+    let system = system(alloc, limits, flat)?;
     let _pairs = system.pairs();
     Ok(system)
 }
 
 /// Gives back the memory of the files of a design, which comes first. The file that stands after them stays.
 fn give_back(alloc: Global, source: Source, files: &mut [Bytes])
-    requires { AreShort files.old }
     ensures own { own_file source files.new ≡ own_file source files.old }
-    ensures short { AreShort files.new }
+    ensures short { (most : Most) → AreShort most files.old → AreShort most files.new }
 {
     let count = match source {
         Source::Table => 1,
@@ -83,17 +89,22 @@ fn give_back(alloc: Global, source: Source, files: &mut [Bytes])
 
 /// The system of the design that the first files give, or the first refusal of these files. The memory of these
 /// files is given back once the design is read.
-pub(crate) fn system_of(alloc: Global, source: Source, files: &mut [Bytes]) -> Result<System, Stop>
+pub(crate) fn system_of(
+    alloc: Global,
+    limits: &Limits,
+    source: Source,
+    files: &mut [Bytes],
+) -> Result<System, Stop>
     requires all { length (source_roles source) ≤ length files.old }
-    requires short { AreShort files.old }
-    ensures value { IfOk result (Gives source files.old) }
-    ensures stop { IfErr result (StopsAt (IsSourceRefused source files.old)) }
+    requires short { AreShort limits.now files.old }
+    ensures value { IfOk result (Gives limits.now source files.old) }
+    ensures stop { IfErr result (StopsAt (IsSourceRefused limits.now source files.old)) }
     ensures own { own_file source files.new ≡ own_file source files.old }
-    ensures short { AreShort files.new }
+    ensures short { AreShort limits.now files.new }
 {
-    let flat = design_of(alloc, source, files)?;
+    let flat = design_of(alloc, limits, source, files)?;
     give_back(alloc, source, files);
-    accepted_system(alloc, flat)
+    accepted_system(alloc, limits, flat)
 }
 
 /// A design and an order of its arcs.
@@ -107,30 +118,32 @@ pub(crate) struct Ordered {
 /// aren't listed. The memory of these files is given back once the design is read.
 pub(crate) fn ordered_of(
     alloc: Global,
+    limits: &Limits,
     source: Source,
     files: &mut [Bytes],
 ) -> Result<Ordered, Stop>
     requires all { length (source_roles source) ≤ length files.old }
-    requires short { AreShort files.old }
-    ensures value { IfOk result (λ ordered. GivesOrdered source files.old ordered.flat ordered.order) }
-    ensures stop { IfErr result (StopsAt (IsSourceRefused source files.old)) }
+    requires short { AreShort limits.now files.old }
+    ensures value { IfOk result (λ ordered. GivesOrdered limits.now source files.old ordered.flat ordered.order) }
+    ensures stop { IfErr result (StopsAt (IsSourceRefused limits.now source files.old)) }
     ensures own { own_file source files.new ≡ own_file source files.old }
-    ensures short { AreShort files.new }
+    ensures short { AreShort limits.now files.new }
 {
-    let flat = design_of(alloc, source, files)?;
+    let flat = design_of(alloc, limits, source, files)?;
     give_back(alloc, source, files);
     systems_are_accepted();
     let _phases = flat.phases();
-    let order = system_order(alloc, &flat)?;
+    let order = system_order(alloc, limits, &flat)?;
     Ok(Ordered { flat, order })
 }
 
 /// The bytes of the file that stands after those of the design, or none where there is no such file.
-pub(crate) fn own_file(source: Source, files: &[Bytes]) -> &[u8]
-    requires { AreShort files.now }
+pub(crate) fn own_file<'a>(limits: &Limits, source: Source, files: &'a [Bytes]) -> &'a [u8]
+    requires { AreShort limits.now files.now }
     ensures value { result.now ≡ own_file source files.now }
     ensures short { length result.now ≤ MOST_BYTES }
 {
+    let _most = limits.most();
     let place = match source {
         Source::Table => 1,
         Source::Files | Source::Liberty => 4,

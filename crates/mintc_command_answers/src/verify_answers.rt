@@ -15,7 +15,7 @@ use mintc_certificate::{Certificate, read};
 use mintc_checker::{Verdict, examine_flat};
 use mintc_report::verdict_text;
 use mintc_text::limits::MOST_BYTES;
-use mintc_text::{OutOfMemory, Stop};
+use mintc_text::{Limits, OutOfMemory, Stop};
 use mintc_timing::{Flat, Order};
 use std::alloc::Global;
 
@@ -51,6 +51,7 @@ fn examine_certificate(
 /// design's pairs.
 pub(crate) fn verify_answer(
     alloc: Global,
+    limits: &Limits,
     flat: &Flat,
     order: &Order,
     file: &[u8],
@@ -59,9 +60,9 @@ pub(crate) fn verify_answer(
     requires short { ArePathsShort flat.now }
     requires file { length file.now ≤ MOST_BYTES }
     ensures value { IfOk result (λ answer. (t : Timing) → t.flat ≡ flat.now → ArePairs t.flat t.pairs →
-        IsJobAnswer Job.Verify t file.now answer.status answer.text) }
-    ensures stop { IfErr result (StopsAt (IsCertificateRefusal file.now)) }
+        IsJobAnswer limits.now Job.Verify t file.now answer.status answer.text) }
+    ensures stop { IfErr result (StopsAt (IsCertificateRefusal limits.now.members file.now)) }
 {
-    let certificate = read(alloc, file)?;
+    let certificate = read(alloc, limits, file)?;
     Ok(examine_certificate(alloc, flat, order, &certificate)?)
 }

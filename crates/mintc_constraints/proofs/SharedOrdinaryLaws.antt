@@ -22,7 +22,7 @@ use Rattle.mintc_timing.specs.Violations.{phases_of, elements_of}
 use Rattle.mintc_timing.proofs.SharedExtremesLaws.{greatest_is, greater-least, greater-attained}
 use Rattle.mintc_timing.proofs.SharedRanges.{pair-max_range}
 use Rattle.mintc_constraints.specs.Ordinary.{Leads, HasPlainLink, IsOrdinaryLink, IsOrdinary, constraints_of}
-use Rattle.mintc_constraints.specs.Laws.{HasModestPairs, LinksAreOrdinary}
+use Rattle.mintc_constraints.specs.Laws.{most_pairs, HasModestPairs, LinksAreOrdinary}
 use Rattle.mintc_timing.specs.Links.{node_count}
 use Rattle.mintc_timing.proofs.SharedMembers.{length-flat_map_at_most}
 use Rattle.mintc_timing.proofs.SharedLinkLaws.{ends_of}
@@ -109,7 +109,7 @@ module _ (t : Timing) (limits : IsDesign t.flat) where
   point_below (point.Start p) h = let low = h.0 in let high = h.1 in omega arith
   point_below (point.End p) h = let high = h.1 in omega arith
 
-  pub few_links : length t.pairs ≤ 1000000 → length (links_of t) ≤ 2000000
+  pub few_links : length t.pairs ≤ most_pairs → length (links_of t) ≤ 50000000
   few_links pairs =
       let phases = limits.phases.1 in
       let elements = limits.elements in

@@ -34,11 +34,19 @@ pub record IsOrdinaryLink (count : ℕ) (k : Link) : Type 0 where
   pub cycles : k.cycles ≤ 1
   pub delay : (negsuc 3999999999 ≤ℤ k.delay) × (k.delay ≤ℤ pos 2000000000)
 
+-- the most nodes and the most links that a list may have: time 0, the starts and ends of 8 phases and 20,000
+-- elements; and the links of 40,000,000 pairs with all others
+abbrev pub most_nodes : ℕ
+most_nodes = 20017
+
+abbrev pub AreFew : List Link → Type 0
+AreFew links = length links < 2 ^ 28
+
 -- The list is within its limits, links without delay lead from node 0 to node 1 and, a cycle off, back, and a walk from
 -- node 0 ends at each node.
 pub record IsOrdinary (list : Constraints) : Type 0 where
-  pub nodes : (3 ≤ list.nodes) × (list.nodes ≤ 2017)
-  pub few : length list.links < 2 ^ 32
+  pub nodes : (3 ≤ list.nodes) × (list.nodes ≤ most_nodes)
+  pub few : AreFew list.links
   pub each : All (IsOrdinaryLink list.nodes) list.links
   pub forth : HasPlainLink list.links 0 1 0
   pub back : HasPlainLink list.links 1 0 1

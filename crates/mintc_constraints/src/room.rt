@@ -1,6 +1,6 @@
 //! A room: lists for the nodes of a network, and for what is found there.
 ghost use Rattle.std.specs.Prelude.{◌≡◌, ◌≤◌, ◌<◌, ◌+◌, ◌^◌, [], pos, IfOk, length, replicate, slice_set};
-ghost use Rattle.mintc_graph_walks.specs.Bounds.{AreBounded, AreOrdinary};
+ghost use Rattle.mintc_graph_walks.specs.Bounds.{AreBounded, AreFew, AreOrdinary, most_nodes};
 ghost use Rattle.mintc_constraints.specs.Walked.{HasWalked};
 
 use crate::lists::{fill, grow};
@@ -213,9 +213,9 @@ impl Room {
     pub fn walk<N: Network, L: Ledger>(&mut self, net: &N, steps: &mut Steps<L>) -> Answer
         requires some { 0 < length self.old.values }
         requires nodes { length self.old.values ≤ self.old.nodes }
-        requires bound { length self.old.values ≤ 4096 }
+        requires bound { length self.old.values ≤ most_nodes }
         requires chain { length self.old.chain ≤ length self.old.values }
-        requires few { length (N.arcs net.now) < 2 ^ 32 }
+        requires few { AreFew (N.arcs net.now) }
         requires arcs { AreOrdinary (length self.old.values) (N.arcs net.now) }
         requires starts { AreBounded (2 ^ 80) self.old.values }
         ensures walked { HasWalked (N.arcs net.now) self.old self.new result }

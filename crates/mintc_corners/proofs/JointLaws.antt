@@ -3,6 +3,7 @@ use Rattle.std.proofs.Common.{◌≡◌, ℕ, ◌<◌, ◌≤◌, ◌+◌, ◌*�
 use Rattle.std.proofs.lemmas.List.{length-map}
 use Rattle.std.proofs.lemmas.List.Elements.{All-nil, All-append, All-map}
 use Rattle.std.specs.List.{All}
+use Rattle.mintc_text.specs.declared.limits.TheConstants.{MOST_ELEMENTS, MOST_PAIRS}
 use Rattle.mintc_timing.specs.declared.clocking.Schedule.{Schedule}
 use Rattle.mintc_timing.specs.declared.parts.Pair.{Pair}
 use Rattle.mintc_timing.specs.Design.{Timing, element_count, phase_count}
@@ -77,7 +78,7 @@ pub record IsModest (t : Timing) (most : ℕ) : Type 0 where
   pub few : length t.pairs ≤ most
 
 module _ (t u : Timing) (clock : HaveOneClock t.flat u.flat) where
-  beside-design : IsDesign t.flat → IsDesign u.flat → element_count (beside t u).flat ≤ 2000 → IsDesign (beside t u).flat
+  beside-design : IsDesign t.flat → IsDesign u.flat → element_count (beside t u).flat ≤ MOST_ELEMENTS → IsDesign (beside t u).flat
   beside-design one two few = record {
     inner = omega arith;
     phases = one.phases;
@@ -105,7 +106,7 @@ module _ (t u : Timing) (clock : HaveOneClock t.flat u.flat) where
             omega arith);
       }
 
-system-modest : (t : Timing) → IsDesign t.flat → IsTiming t.flat t.order t.pairs → IsModest t 200000
+system-modest : (t : Timing) → IsDesign t.flat → IsTiming t.flat t.order t.pairs → IsModest t MOST_PAIRS
 system-modest t limits kept = record {
   ends = ends_of t kept.extremes;
   delays = λ n d h. pair-max_range t.flat t.order t.pairs limits kept n d h;
@@ -130,9 +131,9 @@ pub one-clock : (t u : Timing) (ts : List Timing) → DifferInNumbers t.flat u.f
 one-clock t u ts h = record { phases = ap length (phases-same u ts ∙ h.phases); bounds = bounds-same u ts ∙ h.bounds }
 
 abbrev pub Modest : Timing → List Timing → Type 0
-Modest t ts = AreBeside t ts × IsDesign (side_by_side t ts).flat × IsModest (side_by_side t ts) (200000 * (1 + length ts))
+Modest t ts = AreBeside t ts × IsDesign (side_by_side t ts).flat × IsModest (side_by_side t ts) (MOST_PAIRS * (1 + length ts))
 
-pub modest-all : (t : Timing) (ts : List Timing) → AreCorners (t ∷ ts) → AreSystems (t ∷ ts) → element_count (side_by_side t ts).flat ≤ 2000 → Modest t ts
+pub modest-all : (t : Timing) (ts : List Timing) → AreCorners (t ∷ ts) → AreSystems (t ∷ ts) → element_count (side_by_side t ts).flat ≤ MOST_ELEMENTS → Modest t ts
 modest-all t [] are systems few = (ends_of t systems.1.extremes, systems.0, system-modest t systems.0 systems.1)
 modest-all t (u ∷ ts) are systems few =
     let clock = one-clock t u ts are.0 in
@@ -140,7 +141,7 @@ modest-all t (u ∷ ts) are systems few =
     let rest = modest-all u ts (differ-from t u ts are.0 are.1) systems.2 (omega arith) in (
       (ends_of t systems.1.extremes, clock, rest.0),
       beside-design t (side_by_side u ts) clock systems.0 rest.1 few,
-      beside-modest t (side_by_side u ts) clock 200000 (200000 * (1 + length ts)) (200000 * (1 + length (u ∷ ts))) (omega arith) (system-modest t systems.0 systems.1) rest.2,
+      beside-modest t (side_by_side u ts) clock MOST_PAIRS (MOST_PAIRS * (1 + length ts)) (MOST_PAIRS * (1 + length (u ∷ ts))) (omega arith) (system-modest t systems.0 systems.1) rest.2,
     )
 
 pub corners_are_modest_lem : CornersAreModest

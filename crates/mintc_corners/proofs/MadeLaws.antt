@@ -2,6 +2,7 @@
 use Rattle.std.proofs.Common.{◌≡◌, ℕ, ◌≤◌, ◌+◌, ◌*◌, ℤ, List, [], ◌∷◌, length, get_or, arith, refl, sym, ◌∙◌, subst}
 use Rattle.std.specs.List.{All, Contains, flat_map}
 use Rattle.std.proofs.lemmas.List.{append-nil, length-map}
+use Rattle.mintc_text.specs.declared.limits.TheConstants.{MOST_ELEMENTS}
 use Rattle.mintc_fraction.specs.Ratio.{Ratio}
 use Rattle.mintc_timing.specs.declared.link.Link.{Link}
 use Rattle.mintc_timing.specs.declared.clocking.Schedule.{Schedule}
@@ -54,7 +55,7 @@ split_as t (u ∷ ts) s clock before values are right =
     let both = (beside_in_parts t (side_by_side u ts) s d rest are.1 are.0 (counts_are t (corner_values clock before (element_count t.flat) values))).0 right in
     (both.0, split_as u ts s clock (before + element_count t.flat) values are.2 both.1)
 
-module _ (t : Timing) (ts : List Timing) (are : AreCorners (t ∷ ts)) (systems : AreSystems (t ∷ ts)) (some : length ts ≤ 3) (few : element_count (side_by_side t ts).flat ≤ 2000) where
+module _ (t : Timing) (ts : List Timing) (are : AreCorners (t ∷ ts)) (systems : AreSystems (t ∷ ts)) (some : length ts ≤ 3) (few : element_count (side_by_side t ts).flat ≤ MOST_ELEMENTS) where
   abbrev big : Timing
   big = side_by_side t ts
 
@@ -153,7 +154,7 @@ pub record IsAnswered (room : Space) (systems : List Timing) : Type 0 where
       ds ≡ departures_of_all systems room.values → StandForAll systems room.chain members → IsInRange s → All AreDeparturesInRange ds → IsOptimumOf systems (Least s ds members)
   pub never : (members : List CornerMember) → HasSearched (list_of systems) room outcome.Never → StandForAll systems room.chain members → IsOptimumOf systems (Never members)
 
-pub answered : (room : Space) (systems : List Timing) → length systems ≤ 4 → AreCorners systems → length (flat_map (λ (u : Timing). u.flat.elements) systems) ≤ 2000 → AreSystems systems → IsAnswered room systems
+pub answered : (room : Space) (systems : List Timing) → length systems ≤ 4 → AreCorners systems → length (flat_map (λ (u : Timing). u.flat.elements) systems) ≤ MOST_ELEMENTS → AreSystems systems → IsAnswered room systems
 answered room = by_first (IsAnswered room)
     (λ t ts are kept some few. record {
       sayable = sayable t ts are kept some few room;

@@ -2,6 +2,7 @@
 use Rattle.std.proofs.Common.{◌≡◌, ℕ, ◌<◌, ◌≤◌, ◌+◌, List, [], ◌∷◌, ◌++◌, length, get_or, map, take, arith, ap, ◌∙◌, sym, subst, zero-add}
 use Rattle.std.specs.List.{Contains, flat_map}
 use Rattle.std.proofs.lemmas.List.{get_or_default, length-map}
+use Rattle.mintc_text.specs.declared.limits.TheConstants.{MOST_ELEMENTS}
 use Rattle.mintc_timing.specs.declared.link.Link.{Link}
 use Rattle.mintc_timing.specs.Design.{Timing}
 use Rattle.mintc_timing.specs.Links.{links_of, no_link, link_at}
@@ -53,7 +54,7 @@ module _ (systems : List Timing) (lists : List Constraints) (are : lists ≡ map
       rw (← place.same, are) (rw (zero-add (elements_before systems c), ← t_is, ← items_own, get_or_default items i no_link d inside) at found)
 
   -- so the member that stands for that one stands for it
-  pub standing : length systems ≤ 4 → AreCorners systems → length (flat_map (λ (u : Timing). u.flat.elements) systems) ≤ 2000 → AreSystems systems → (m : Member) (n : ℕ) → n ≡ corner_number c m →
+  pub standing : length systems ≤ 4 → AreCorners systems → length (flat_map (λ (u : Timing). u.flat.elements) systems) ≤ MOST_ELEMENTS → AreSystems systems → (m : Member) (n : ℕ) → n ≡ corner_number c m →
       StandsForOwn t (get_or items i d) m → StandsFor systems (link_at (joined_links systems) number) (record { corner = n; member = m })
   standing few corners elements kept m n n_is h =
       rw (link_is, n_is)

@@ -4,6 +4,7 @@ use Rattle.std.specs.List.{flat_map}
 use Rattle.std.proofs.Math.ListN.{get_or-append}
 use Rattle.std.proofs.Math.Nat.{suc-mul}
 use Rattle.std.proofs.lemmas.List.{append-nil, get_or-append-add, get_or-map, length-map}
+use Rattle.mintc_text.specs.declared.limits.TheConstants.{MOST_ELEMENTS}
 use Rattle.mintc_timing.specs.declared.link.Link.{Link}
 use Rattle.mintc_timing.specs.declared.parts.Element.{Element}
 use Rattle.mintc_timing.specs.Design.{Timing, element_count}
@@ -81,7 +82,7 @@ nodes_are t ts =
     omega arith
 
 -- few links
-few_in_turn : (wide : ℕ → ℤ) (clock before : ℕ) (ts : List Timing) → AreSystems ts → length (joined wide clock before ts) ≤ length ts * 2000000
+few_in_turn : (wide : ℕ → ℤ) (clock before : ℕ) (ts : List Timing) → AreSystems ts → length (joined wide clock before ts) ≤ length ts * 50000000
 few_in_turn wide clock before [] h = omega arith
 few_in_turn wide clock before (t ∷ ts) h =
     let here = few_links t h.0 (omega arith) in
@@ -90,7 +91,7 @@ few_in_turn wide clock before (t ∷ ts) h =
     let count = length-map (links_of t) (lifted_link wide clock before) in
     omega arith
 
-module _ (t : Timing) (ts : List Timing) (are : AreCorners (t ∷ ts)) (systems : AreSystems (t ∷ ts)) (some : length ts ≤ 3) (few : element_count (side_by_side t ts).flat ≤ 2000) where
+module _ (t : Timing) (ts : List Timing) (are : AreCorners (t ∷ ts)) (systems : AreSystems (t ∷ ts)) (some : length ts ≤ 3) (few : element_count (side_by_side t ts).flat ≤ MOST_ELEMENTS) where
   pub design : IsDesign (side_by_side t ts).flat
   design = (corners_are_modest_lem t ts are systems some few).1
 
@@ -104,7 +105,7 @@ module _ (t : Timing) (ts : List Timing) (are : AreCorners (t ∷ ts)) (systems 
       (modest_links_are_ordinary_lem (side_by_side t ts) design (corners_are_modest_lem t ts are systems some few).2))
 
 -- What holds of a first corner and the others, a few with few elements, holds of such corners.
-pub by_first : (P : List Timing → Type 0) → ((t : Timing) (ts : List Timing) → AreCorners (t ∷ ts) → AreSystems (t ∷ ts) → length ts ≤ 3 → element_count (side_by_side t ts).flat ≤ 2000 → P (t ∷ ts)) →
-    (systems : List Timing) → length systems ≤ 4 → AreCorners systems → length (flat_map (λ (u : Timing). u.flat.elements) systems) ≤ 2000 → AreSystems systems → P systems
+pub by_first : (P : List Timing → Type 0) → ((t : Timing) (ts : List Timing) → AreCorners (t ∷ ts) → AreSystems (t ∷ ts) → length ts ≤ 3 → element_count (side_by_side t ts).flat ≤ MOST_ELEMENTS → P (t ∷ ts)) →
+    (systems : List Timing) → length systems ≤ 4 → AreCorners systems → length (flat_map (λ (u : Timing). u.flat.elements) systems) ≤ MOST_ELEMENTS → AreSystems systems → P systems
 by_first P holds [] few are elements kept = absurd are
 by_first P holds (t ∷ ts) few are elements kept = let count = count_is t ts in holds t ts are kept (omega arith) (omega arith)

@@ -1,6 +1,7 @@
 -- The schedule that the moments of all nodes stand for is that of each corner's own.
 use Rattle.std.proofs.Common.{◌≡◌, ℕ, zero, suc, ◌<◌, ◌≤◌, ◌+◌, ◌*◌, ℤ, ◌-ℤ◌, false, List, [], ◌∷◌, length, get_or, map, arith, refl, ap, ◌∙◌, subst, length-append}
 use Rattle.std.specs.List.{range_with_len}
+use Rattle.mintc_text.specs.declared.limits.TheConstants.{MOST_ELEMENTS}
 use Rattle.mintc_graph_walks.specs.Walks.{value_at}
 use Rattle.mintc_timing.specs.Design.{Timing, element_at, element_count, no_element, phase_count, phase_of}
 use Rattle.mintc_timing.specs.declared.parts.Element.{Element}
@@ -44,7 +45,7 @@ module _ (values : List ℤ) (k : ℕ) (starts : (p : ℕ) → 1 ≤ p → p ≤
     DepartInRange before t = (l : ℕ) → l < element_count t.flat → (element_at t.flat l).flop ≡ false →
         IsDeparture (value_at values (1 + 2 * k + before + l) -ℤ value_at values (start_node (phase_of t.flat l)))
 
-    own_sayable : (t : Timing) (before : ℕ) → phase_count t.flat ≡ k → IsDesign t.flat → before ≤ 2000 → 1 + 2 * k + before + element_count t.flat ≤ length values → DepartInRange before t → IsSayable (2 * k) before t.flat values
+    own_sayable : (t : Timing) (before : ℕ) → phase_count t.flat ≡ k → IsDesign t.flat → before ≤ MOST_ELEMENTS → 1 + 2 * k + before + element_count t.flat ≤ length values → DepartInRange before t → IsSayable (2 * k) before t.flat values
     own_sayable t before same limits few inside h =
         let own = corner_values (2 * k) before (element_count t.flat) values in
         let at : (node : ℕ) → node ≤ 2 * k → value_at own node ≡ value_at values node = own_clock (2 * k) before (element_count t.flat) values inside in
@@ -78,7 +79,7 @@ module _ (values : List ℤ) (k : ℕ) (starts : (p : ℕ) → 1 ≤ p → p ≤
         (subst (λ (x : Element). IsDeparture (value_at values (1 + 2 * k + before + (element_count t.flat + l)) -ℤ value_at values (start_node x.phase))) e
         (h (element_count t.flat + l) (omega arith) (ap (λ (x : Element). x.flop) e ∙ latch)))
 
-    sayable_in_turn : (t : Timing) (ts : List Timing) (before : ℕ) → phase_count t.flat ≡ k → AreBeside t ts → AreSystems (t ∷ ts) → before + element_count (side_by_side t ts).flat ≤ 2000 →
+    sayable_in_turn : (t : Timing) (ts : List Timing) (before : ℕ) → phase_count t.flat ≡ k → AreBeside t ts → AreSystems (t ∷ ts) → before + element_count (side_by_side t ts).flat ≤ MOST_ELEMENTS →
         1 + 2 * k + before + element_count (side_by_side t ts).flat ≤ length values → DepartInRange before (side_by_side t ts) → AreSayableAfter (2 * k) before (t ∷ ts) values
     sayable_in_turn t [] before same besides systems few inside h = (own_sayable t before same systems.0 (omega arith) inside h, tt)
     sayable_in_turn t (u ∷ ts) before same besides systems few inside h =
@@ -90,7 +91,7 @@ module _ (values : List ℤ) (k : ℕ) (starts : (p : ℕ) → 1 ≤ p → p ≤
           sayable_in_turn u ts (before + element_count t.flat) (omega arith) besides.2 systems.2 (omega arith) (omega arith) (second_departs t v before h),
         )
 
-pub sayable_of_all : (t : Timing) (ts : List Timing) (values : List ℤ) → AreBeside t ts → AreSystems (t ∷ ts) → element_count (side_by_side t ts).flat ≤ 2000 → AreSayable (side_by_side t ts).flat values → AreSayableOfAll (t ∷ ts) values
+pub sayable_of_all : (t : Timing) (ts : List Timing) (values : List ℤ) → AreBeside t ts → AreSystems (t ∷ ts) → element_count (side_by_side t ts).flat ≤ MOST_ELEMENTS → AreSayable (side_by_side t ts).flat values → AreSayableOfAll (t ∷ ts) values
 sayable_of_all t ts values besides systems few h =
     let big = side_by_side t ts in
     let phases = phases_are t ts in

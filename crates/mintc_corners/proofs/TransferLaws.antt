@@ -38,7 +38,7 @@ module _ (xs ys : List Link) (sub : All (Contains ys) xs) where
     pub carried_all : (P : Link → Type 0) → All P xs → All P ys
     carried_all P h e d below = All-contains P xs (get_or ys e d) h (back e d below)
 
-    pub carried_ordinary : (count : ℕ) → length ys < 2 ^ 32 → IsOrdinary (constraints_of count xs) → IsOrdinary (constraints_of count ys)
+    pub carried_ordinary : (count : ℕ) → length ys < 2 ^ 28 → IsOrdinary (constraints_of count xs) → IsOrdinary (constraints_of count ys)
     carried_ordinary count few h = record {
       nodes = h.nodes;
       few = few;

@@ -103,7 +103,7 @@ HasJointSimple t ts (Never chain) = EntersOnce t ts chain
 abbrev pub IsCornerCounted : CornerMember → Type 0
 IsCornerCounted m = IsCount m.corner × IsCounted m.member
 
--- from 1 to 4,096 members, each number of which is a count
+-- from 1 to 32,768 members, each number of which is a count
 pub record IsCornerChainInRange (chain : List CornerMember) : Type 0 where
   pub some : 1 ≤ length chain
   pub most : length chain ≤ MOST_MEMBERS

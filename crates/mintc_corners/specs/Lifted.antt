@@ -46,6 +46,6 @@ HasLowKind which = Unit {0}
 
 -- The nodes and the elements of the link are of one design.
 pub record IsLow (k : Link) : Type 0 where
-  pub from : k.from ≤ 2016
-  pub to : k.to ≤ 2016
+  pub from : k.from ≤ 20016
+  pub to : k.to ≤ 20016
   pub kind : HasLowKind k.kind

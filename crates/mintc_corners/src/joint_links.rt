@@ -11,7 +11,7 @@ use mintc_timing_links::width_needed;
 /// The number of a corner's node among those of all: time 0 and the nodes of the clock keep theirs, and the
 /// elements come after those of the corners before.
 fn lifted_node(clock: u32, before: u32, node: u32) -> u32
-    requires node { node ≤ 2016 }
+    requires node { node ≤ 20016 }
     requires before { before ≤ MOST_ELEMENTS }
     ensures { result ≡ lifted_node_of clock before node }
 {

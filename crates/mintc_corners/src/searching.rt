@@ -1,5 +1,6 @@
 //! The least cycle time of several corners, with its certificate.
 ghost use Rattle.std.specs.Prelude.{◌≡◌, ◌≤◌, ◌+◌, ◌*◌, IfOk, length, map, flat_map};
+ghost use Rattle.mintc_ratio.specs.Climbing.{most_tests};
 ghost use Rattle.mintc_text.specs.declared.limits.TheConstants.{MOST_ELEMENTS};
 ghost use Rattle.mintc_constraints.specs.Ordinary.{constraints_of};
 ghost use Rattle.mintc_ratio.specs.Searched.{HasSearched};
@@ -68,7 +69,7 @@ pub fn corners<L: Ledger>(
     requires alike { AreCorners systems.now }
     requires elements { length (flat_map (λ t. t.flat.elements) systems.now) ≤ MOST_ELEMENTS }
     ensures optimum { IfOk result (IsOptimumOf systems.now) }
-    ensures cost { steps.new ≤ steps.old + 68 * (joint_nodes systems.now + 1) }
+    ensures cost { steps.new ≤ steps.old + most_tests (joint_nodes systems.now) * (joint_nodes systems.now + 1) }
 {
     let lists = own_lists(alloc, systems)?;
     let list = joint_links(alloc, systems, &lists)?;

@@ -178,7 +178,7 @@ module _ (t : Timing) (s : Schedule) (fits : IsClocked t s)
           (λ latch. rw latch (times_den _ delay))
           (cases_Bool (element_at t.flat l).flop)
 
-      within : (x first z q r : ℤ) → first ≤ℤ x → (x +ℤ q) ≤ℤ (z +ℤ r) → IsWithin 100000000000000 first → IsWithin 100000000000000 q → IsWithin 100000000000000 r → IsWithin 900100000000000000 z → IsSum x
+      within : (x first z q r : ℤ) → first ≤ℤ x → (x +ℤ q) ≤ℤ (z +ℤ r) → IsWithin 100000000000000 first → IsWithin 100000000000000 q → IsWithin 100000000000000 r → IsWithin 8000100000000000000 z → IsSum x
       within x first z q r h k a b c e =
           (omega (arith, ints), omega (arith, ints))
 

@@ -133,7 +133,7 @@ module _ (t : Timing) (s : Schedule) (fits : IsClocked t s) where
       stays least l h = high-fell low 400000000000000 (departure d l) (departure down l) (down-is l h) (least down down-exact l h)
 
   -- Late departures are sums over at most one pair for each element.
-  pub late-within : (d : List ℤ) → AreLate t s d → (l : ℕ) → l < element_count t.flat → IsWithin 900100000000000000 (departure d l)
+  pub late-within : (d : List ℤ) → AreLate t s d → (l : ℕ) → l < element_count t.flat → IsWithin 8000100000000000000 (departure d l)
   late-within d late l h =
       let top = all_below (departure d) 100000000000000 400000000000000 (element_count t.flat) (λ low e gap. stays d late.exact low e gap late.least) l h in
       let low = exact-starts t s d late.exact fits.timing.extremes.each l h in

@@ -7,6 +7,7 @@ use Rattle.std.proofs.lemmas.List.{get_or-map, length-map, take_more}
 use Rattle.std.proofs.lemmas.Map.Made.{IsDistinct-from_AllPairs}
 use Rattle.std.proofs.lemmas.Map.Steps.{length-le_from_distinct_below}
 use Rattle.std.proofs.lemmas.Map.Views.{Contains-from_any}
+use Rattle.mintc_text.specs.declared.limits.TheConstants.{MOST_ELEMENTS}
 use Rattle.mintc_graph_walks.specs.Bounds.{IsWithin}
 use Rattle.mintc_graph.specs.Rings.{total}
 use Rattle.mintc_timing.specs.Design.{Timing, element_count, pair_at, no_pair}
@@ -47,12 +48,18 @@ few_pairs t loop extremes ring = let few = few_distinct (element_count t.flat) (
 pub total-more : (f : ℕ → ℤ) (xs : List ℕ) (i d : ℕ) → i < length xs → total f (take (i + 1) xs) ≡ total f (take i xs) +ℤ f (get_or xs i d)
 total-more f xs i d h = ap (total f) (take_more xs i d h) ∙ total-push f (take i xs) (get_or xs i d)
 
--- a sum of fewer than 2,000 times, and one more
-pub sum-within : (i : ℕ) (x y : ℤ) → IsWithin (i * 1000000000000000) x → IsTime y → IsWithin ((i + 1) * 1000000000000000) (x +ℤ y)
+-- the delay of a pair, with the shift between its phases
+abbrev pub IsTravel : ℤ → Type 0
+IsTravel x = IsWithin 400000000000000 x
+
+-- a sum of fewer travels than there may be elements, and one more
+pub sum-within : (i : ℕ) (x y : ℤ) → IsWithin (i * 400000000000000) x → IsTravel y → IsWithin ((i + 1) * 400000000000000) (x +ℤ y)
 sum-within i x y h k = (omega (arith, ints), omega (arith, ints))
 
-pub sum-fits : (i : ℕ) (x y : ℤ) → i < 2000 → IsWithin (i * 1000000000000000) x → IsTime y → SFits w64 (x +ℤ y)
+pub sum-fits : (i : ℕ) (x y : ℤ) → i < MOST_ELEMENTS → IsWithin (i * 400000000000000) x → IsTravel y → SFits w64 (x +ℤ y)
 sum-fits i x y lt h k = omega (arith, ints)
 
-pub read_sum : (i : ℕ) (x y : ℤ) → i < 2000 → IsWithin (i * 1000000000000000) x → IsTime y → to_z w64 (of_z w64 (x +ℤ to_z w64 (of_z w64 y))) ≡ x +ℤ y
-read_sum i x y lt h k = ap (λ z. to_z w64 (of_z w64 (x +ℤ z))) (read_time y k) ∙ to_z-of_z w64 (x +ℤ y) (sum-fits i x y lt h k)
+pub read_sum : (i : ℕ) (x y : ℤ) → i < MOST_ELEMENTS → IsWithin (i * 400000000000000) x → IsTravel y → to_z w64 (of_z w64 (x +ℤ to_z w64 (of_z w64 y))) ≡ x +ℤ y
+read_sum i x y lt h k =
+    let time : IsTime y = (omega (arith, ints), omega (arith, ints)) in
+    ap (λ z. to_z w64 (of_z w64 (x +ℤ z))) (read_time y time) ∙ to_z-of_z w64 (x +ℤ y) (sum-fits i x y lt h k)

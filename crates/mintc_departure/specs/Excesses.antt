@@ -10,4 +10,4 @@ IsLast (Some a) v = (v ≡ a) × IsArrivalSum a
 
 -- an arrival or a departure with a few times of the clock added
 abbrev pub IsExcess : ℤ → Type 0
-IsExcess x = (negsuc 1039999999999999999 ≤ℤ x) × (x ≤ℤ pos 1040000000000000000)
+IsExcess x = (negsuc 8119999999999999999 ≤ℤ x) × (x ≤ℤ pos 8120000000000000000)

@@ -10,7 +10,7 @@ use Rattle.mintc_departure.specs.Travels.{early_start_of}
 
 -- a departure with the delay of one pair added
 abbrev pub IsArrivalSum : ℤ → Type 0
-IsArrivalSum x = (negsuc 1029999999999999999 ≤ℤ x) × (x ≤ℤ pos 1030000000000000000)
+IsArrivalSum x = (negsuc 8109999999999999999 ≤ℤ x) × (x ≤ℤ pos 8110000000000000000)
 
 -- v stands for the earliest arrival, if any comes
 abbrev pub IsFirst : Option ℤ → ℤ → Type 0

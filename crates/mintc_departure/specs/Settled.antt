@@ -8,9 +8,10 @@ use Rattle.mintc_timing.specs.Violations.{HasLoop}
 use Rattle.mintc_departure.specs.declared.settling.Settling.{Settling}
 use Rattle.mintc_departure.specs.declared.settling.Settling.TheVariants.{Settled, Loop}
 
--- A departure, which is a sum over at most one pair for each element, is from -1.02 * 10^18 to 1.02 * 10^18.
+-- A departure, which is a sum over at most one pair for each element, is from -8.1 * 10^18 to 8.1 * 10^18, which 64
+-- bits hold.
 abbrev pub IsSum : ℤ → Type 0
-IsSum x = (negsuc 1019999999999999999 ≤ℤ x) × (x ≤ℤ pos 1020000000000000000)
+IsSum x = (negsuc 8099999999999999999 ≤ℤ x) × (x ≤ℤ pos 8100000000000000000)
 
 -- What the search for late departures leaves in a room: these departures, or the pairs of a loop and no more, and
 -- then no departures are exact.

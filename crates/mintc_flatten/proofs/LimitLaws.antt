@@ -3,8 +3,10 @@ use Rattle.std.proofs.Common.{◌≡◌, ℕ, ◌<◌, List, [], ◌∷◌, leng
 use Rattle.std.specs.Option.{option_map}
 use Rattle.std.proofs.lemmas.Bool.Decides.{nat_tests}
 use Rattle.std.proofs.lemmas.List.{get_or_read}
+use Rattle.mintc_text.specs.Limits.{AreLimits}
 use Rattle.mintc_text.specs.Refusals.{over_limit}
-use Rattle.mintc_text.specs.declared.limits.TheConstants.{MOST_DEPTH, MOST_INNER, MOST_LEAVES, MOST_SCOPES, MOST_TOLD}
+use Rattle.mintc_text.specs.declared.limits.Most.{Most}
+use Rattle.mintc_text.specs.declared.limits.TheConstants.{MOST_DEPTH, MOST_TOLD}
 use Rattle.mintc_text.specs.declared.refusals.Kind.{Kind}
 use Rattle.mintc_text.specs.declared.refusals.Kind.TheVariants as kind
 use Rattle.mintc_text.specs.declared.refusals.Refusal.{Refusal}
@@ -40,16 +42,16 @@ capped_step : (k : Kind) (c a n m : ℕ) (rest rest' : List (Kind × ℕ × ℕ)
 capped_step k c a n m rest rest' small is same h =
     over_step k c n m rest rest' (ap (nat_lt m) is ∙ passes_alike m a small ∙ ap (nat_lt m) (sym same)) (ap (λ (x : ℕ). min x MOST_TOLD) is ∙ capped_alike a ∙ ap (λ (x : ℕ). min x MOST_TOLD) (sym same)) h
 
-pub limits_alike : (s : Source) (top : ℕ) (c : Count) → IsCount s top c →
-    over_limit ((kind.Scopes, c.scopes, MOST_SCOPES) ∷ (kind.Depth, c.depth, MOST_DEPTH) ∷ (kind.Leaves, c.leaves, MOST_LEAVES) ∷ (kind.Inner, c.inner, MOST_INNER) ∷ []) ≡ limit_refusal s top
-limits_alike s top c h =
-    let inner = capped_step kind.Inner c.inner (all_in s top).inner (length (hierarchy_of s top).inner) MOST_INNER [] [] (omega arith) h.inner (hierarchy-inner s top) refl in
-    let leaves = capped_step kind.Leaves c.leaves (all_in s top).leaves (length (hierarchy_of s top).leaves) MOST_LEAVES ((kind.Inner, c.inner, MOST_INNER) ∷ []) ((kind.Inner, length (hierarchy_of s top).inner, MOST_INNER) ∷ [])
-    (omega arith) h.leaves (hierarchy-leaves s top) inner in
-    let deep = over_step kind.Depth c.depth (depth s (length s.modules) top) MOST_DEPTH ((kind.Leaves, c.leaves, MOST_LEAVES) ∷ (kind.Inner, c.inner, MOST_INNER) ∷ [])
-    ((kind.Leaves, length (hierarchy_of s top).leaves, MOST_LEAVES) ∷ (kind.Inner, length (hierarchy_of s top).inner, MOST_INNER) ∷ []) (ap (nat_lt MOST_DEPTH) h.depth) (ap (λ (x : ℕ). min x MOST_TOLD) h.depth) leaves in
-    capped_step kind.Scopes c.scopes (all_in s top).scopes (length (hierarchy_of s top).scopes) MOST_SCOPES ((kind.Depth, c.depth, MOST_DEPTH) ∷ (kind.Leaves, c.leaves, MOST_LEAVES) ∷ (kind.Inner, c.inner, MOST_INNER) ∷ [])
-    ((kind.Depth, depth s (length s.modules) top, MOST_DEPTH) ∷ (kind.Leaves, length (hierarchy_of s top).leaves, MOST_LEAVES) ∷ (kind.Inner, length (hierarchy_of s top).inner, MOST_INNER) ∷ []) (omega arith) h.scopes (hierarchy-scopes s top) deep
+pub limits_alike : (most : Most) → AreLimits most → (s : Source) (top : ℕ) (c : Count) → IsCount s top c →
+    over_limit ((kind.Scopes, c.scopes, most.scopes) ∷ (kind.Depth, c.depth, MOST_DEPTH) ∷ (kind.Leaves, c.leaves, most.leaves) ∷ (kind.Inner, c.inner, most.inner) ∷ []) ≡ limit_refusal most s top
+limits_alike most kept s top c h =
+    let inner = capped_step kind.Inner c.inner (all_in s top).inner (length (hierarchy_of s top).inner) most.inner [] [] (omega (arith, kept.inner)) h.inner (hierarchy-inner s top) refl in
+    let leaves = capped_step kind.Leaves c.leaves (all_in s top).leaves (length (hierarchy_of s top).leaves) most.leaves ((kind.Inner, c.inner, most.inner) ∷ []) ((kind.Inner, length (hierarchy_of s top).inner, most.inner) ∷ [])
+    (omega (arith, kept.leaves)) h.leaves (hierarchy-leaves s top) inner in
+    let deep = over_step kind.Depth c.depth (depth s (length s.modules) top) MOST_DEPTH ((kind.Leaves, c.leaves, most.leaves) ∷ (kind.Inner, c.inner, most.inner) ∷ [])
+    ((kind.Leaves, length (hierarchy_of s top).leaves, most.leaves) ∷ (kind.Inner, length (hierarchy_of s top).inner, most.inner) ∷ []) (ap (nat_lt MOST_DEPTH) h.depth) (ap (λ (x : ℕ). min x MOST_TOLD) h.depth) leaves in
+    capped_step kind.Scopes c.scopes (all_in s top).scopes (length (hierarchy_of s top).scopes) most.scopes ((kind.Depth, c.depth, MOST_DEPTH) ∷ (kind.Leaves, c.leaves, most.leaves) ∷ (kind.Inner, c.inner, most.inner) ∷ [])
+    ((kind.Depth, depth s (length s.modules) top, MOST_DEPTH) ∷ (kind.Leaves, length (hierarchy_of s top).leaves, most.leaves) ∷ (kind.Inner, length (hierarchy_of s top).inner, most.inner) ∷ []) (omega (arith, kept.scopes)) h.scopes (hierarchy-scopes s top) deep
 
 -- the top is counted
 pub top_counted : (s : Source) (order : List ℕ) (table : List Count) (top : ℕ) → HoldsAll s order → AreCounted s order (length order) table → top < length s.modules → is_stub s (module_at s top) ≡ false →
@@ -59,11 +61,11 @@ top_counted s order table top whole counted inside live =
     subst (λ (k : ℕ). IsCount s k (slice_index_or table k no_count)) at.2 (counted.each at.0 at.1)
 
 -- the refusal by the count of the top is that of its limits
-pub judged : (s : Source) (order : List ℕ) (table : List Count) (top : ℕ) (x : Count) (r : Option Refusal) → HoldsAll s order → AreCounted s order (length order) table → length table ≡ length s.modules →
+pub judged : (most : Most) → AreLimits most → (s : Source) (order : List ℕ) (table : List Count) (top : ℕ) (x : Count) (r : Option Refusal) → HoldsAll s order → AreCounted s order (length order) table → length table ≡ length s.modules →
     top < length s.modules → is_stub s (module_at s top) ≡ false → x ≡ slice_index_or table top x →
-    r ≡ over_limit ((kind.Scopes, x.scopes, MOST_SCOPES) ∷ (kind.Depth, x.depth, MOST_DEPTH) ∷ (kind.Leaves, x.leaves, MOST_LEAVES) ∷ (kind.Inner, x.inner, MOST_INNER) ∷ []) → limit_refusal s top ≡ r
-judged s order table top x r whole counted size inside live is e =
+    r ≡ over_limit ((kind.Scopes, x.scopes, most.scopes) ∷ (kind.Depth, x.depth, MOST_DEPTH) ∷ (kind.Leaves, x.leaves, most.leaves) ∷ (kind.Inner, x.inner, most.inner) ∷ []) → limit_refusal most s top ≡ r
+judged most kept s order table top x r whole counted size inside live is e =
     let within : top < length table = omega arith in
     let at : x ≡ slice_index_or table top no_count = get_or_read table top x within is no_count in
     let one : IsCount s top x = subst (λ (c : Count). IsCount s top c) (sym at) (top_counted s order table top whole counted inside live) in
-    sym (limits_alike s top x one) ∙ sym e
+    sym (limits_alike most kept s top x one) ∙ sym e

@@ -1,6 +1,7 @@
 -- The first of several refusals.
 use Rattle.std.proofs.Common.{◌≡◌, ◌≢◌, ℕ, List, [], ◌∷◌, length, get_or, Option, Some, None, refl, sym, ap, ◌∙◌, arith}
 use Rattle.std.specs.Option.{option_or}
+use Rattle.mintc_text.specs.declared.limits.Most.{Most}
 use Rattle.mintc_text.specs.declared.refusals.Refusal.{Refusal}
 use Rattle.mintc_text.specs.declared.refusals.Refusal.TheVariants as refusal
 use Rattle.mintc_text.specs.declared.refusals.Stop.{Stop}
@@ -21,10 +22,10 @@ pub first : (a b : Option Refusal) (r : Refusal) → a ≡ Some r → option_or 
 first a b r e = ap (λ (o : Option Refusal). option_or o b) e
 
 -- more or fewer tops than one
-pub unclear : (s : Source) (tops : List ℕ) (count : ℕ) → length tops ≢ 1 → count ≡ length tops → top_refusal s tops ≡ Some (refusal.TopUnclear count)
-unclear s [] count other e = ap (λ n. Some (refusal.TopUnclear n)) (sym e)
-unclear s (a ∷ []) count other e = absurd (other refl)
-unclear s (a ∷ b ∷ tops) count other e = ap (λ n. Some (refusal.TopUnclear n)) (sym e)
+pub unclear : (most : Most) (s : Source) (tops : List ℕ) (count : ℕ) → length tops ≢ 1 → count ≡ length tops → top_refusal most s tops ≡ Some (refusal.TopUnclear count)
+unclear most s [] count other e = ap (λ n. Some (refusal.TopUnclear n)) (sym e)
+unclear most s (a ∷ []) count other e = absurd (other refl)
+unclear most s (a ∷ b ∷ tops) count other e = ap (λ n. Some (refusal.TopUnclear n)) (sym e)
 
 pub one_of : (tops : List ℕ) (k : ℕ) → length tops ≡ 1 → k ≡ get_or tops 0 k → tops ≡ k ∷ []
 one_of [] k one is = absurd (omega arith)

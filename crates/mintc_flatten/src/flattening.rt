@@ -21,7 +21,7 @@ use mintc_flatten_rules::{
 };
 use mintc_netlist::{Module, Netlist};
 use mintc_netlist_nets::Nets;
-use mintc_text::{Name, OutOfMemory, Refusal, Stop};
+use mintc_text::{Limits, Name, OutOfMemory, Refusal, Stop};
 use std::alloc::Global;
 
 /// Modules of which no statement is refused: what each instance is of, the nets of each, and an order in which each
@@ -67,6 +67,7 @@ fn check_statements(alloc: Global, cells: &Cells, modules: &[Module]) -> Result<
 /// The one module that may be the top.
 fn one_top(
     alloc: Global,
+    limits: &Limits,
     cells: &Cells,
     modules: &[Module],
     bindings: &[BindingList],
@@ -79,7 +80,7 @@ fn one_top(
         (λ k. is_stub (source_of cells.now modules.now) (module_at (source_of cells.now modules.now) k) ≡ false) }
     ensures one { IfOk result (λ k. tops_of (source_of cells.now modules.now) (option_copied top.entry) ≡ k ∷ []) }
     ensures stop { IfErr result
-        (StopsAt (λ r. top_refusal (source_of cells.now modules.now)
+        (StopsAt (λ r. top_refusal limits.now (source_of cells.now modules.now)
         (tops_of (source_of cells.now modules.now) (option_copied top.entry)) ≡ Some r)) }
 {
     let tops = find_tops(alloc, cells, modules, bindings, top)?;
@@ -93,43 +94,47 @@ fn one_top(
 /// The hierarchy of modules, or their first refusal.
 fn flatten_modules(
     alloc: Global,
+    limits: &Limits,
     cells: &Cells,
     modules: &[Module],
     name: Option<&Name>,
 ) -> Result<Hierarchy, Stop>
     requires { length modules.now < 2 ^ 32 }
-    ensures value { IfOk result (IsHierarchy (source_of cells.now modules.now) (option_copied name.entry)) }
-    ensures stop { IfErr result (StopsAt (IsRefusal (source_of cells.now modules.now) (option_copied name.entry))) }
+    ensures value { IfOk result (IsHierarchy limits.now (source_of cells.now modules.now) (option_copied name.entry)) }
+    ensures stop { IfErr result (StopsAt (IsRefusal limits.now (source_of cells.now modules.now)
+        (option_copied name.entry))) }
 {
     let Accepted {
         bindings,
         nets,
         order,
     } = check_statements(alloc, cells, modules)?;
-    let top = one_top(alloc, cells, modules, &bindings, name)?;
+    let top = one_top(alloc, limits, cells, modules, &bindings, name)?;
     let source = Source {
         cells,
         modules,
         nets: &nets,
     };
-    check_limits(alloc, &source, &bindings, &order, top)?;
+    check_limits(alloc, limits, &source, &bindings, &order, top)?;
     Ok(hierarchy(alloc, &source, &bindings, top)?)
 }
 
 /// The hierarchy of a netlist with these cells, from the module of the name `top`, or else from the one that no
-/// module instantiates. Refuses NameTwice, NoModule, Recursive, NoPin, Width and TwoDrivers, in this order, each
-/// with the first statement at fault; then TopUnclear with the number of modules that may be the top; then Limit of
-/// scopes, depth, leaves or inner bits.
+/// module instantiates. Refuses NameTwice, NoModule, Recursive, NoPin, Width and TwoDrivers, in this order, each with
+/// the first statement at fault; then TopUnclear with the number of modules that may be the top; then Limit of
+/// scopes, depth, leaves or inner bits in this run.
 pub fn flatten(
     alloc: Global,
+    limits: &Limits,
     netlist: &Netlist,
     cells: &Cells,
     top: Option<&Name>,
 ) -> Result<Hierarchy, Stop>
     requires { IsOrdinary netlist.now }
-    ensures value { IfOk result (IsHierarchy (source_of cells.now netlist.now.modules) (option_copied top.entry)) }
+    ensures value { IfOk result (IsHierarchy limits.now (source_of cells.now netlist.now.modules)
+        (option_copied top.entry)) }
     ensures stop { IfErr result
-        (StopsAt (IsRefusal (source_of cells.now netlist.now.modules) (option_copied top.entry))) }
+        (StopsAt (IsRefusal limits.now (source_of cells.now netlist.now.modules) (option_copied top.entry))) }
 {
-    flatten_modules(alloc, cells, netlist.modules.items(), top)
+    flatten_modules(alloc, limits, cells, netlist.modules.items(), top)
 }

@@ -10,8 +10,8 @@ ghost use Rattle.mintc_flatten_hierarchy.specs.Refusals.{limit_refusal};
 
 use crate::counts::{Count, count_modules, net_counts};
 use mintc_flatten_binding::{BindingList, Source};
-use mintc_text::limits::{MOST_DEPTH, MOST_INNER, MOST_LEAVES, MOST_SCOPES, MOST_TOLD};
-use mintc_text::{Kind, Refusal, Stop};
+use mintc_text::limits::{MOST_DEPTH, MOST_TOLD, Most};
+use mintc_text::{Kind, Limits, Refusal, Stop};
 use std::alloc::Global;
 
 /// The refusal of a quantity that passes its limit.
@@ -25,26 +25,27 @@ fn limit(kind: Kind, count: u64) -> Refusal
 }
 
 /// The refusal of the first quantity that passes its limit.
-fn first_limit(count: Count) -> Option<Refusal>
-    ensures { result ≡ over_limit ((kind.Scopes, count.scopes, MOST_SCOPES) ∷ (kind.Depth, count.depth, MOST_DEPTH) ∷
-        (kind.Leaves, count.leaves, MOST_LEAVES) ∷ (kind.Inner, count.inner, MOST_INNER) ∷ []) }
+fn first_limit(most: Most, count: Count) -> Option<Refusal>
+    ensures { result ≡ over_limit ((kind.Scopes, count.scopes, most.scopes) ∷ (kind.Depth, count.depth, MOST_DEPTH) ∷
+        (kind.Leaves, count.leaves, most.leaves) ∷ (kind.Inner, count.inner, most.inner) ∷ []) }
 {
-    if count.scopes > MOST_SCOPES as u64 {
+    if count.scopes > most.scopes as u64 {
         Some(limit(Kind::Scopes, count.scopes))
     } else if count.depth > MOST_DEPTH as u64 {
         Some(limit(Kind::Depth, count.depth))
-    } else if count.leaves > MOST_LEAVES as u64 {
+    } else if count.leaves > most.leaves as u64 {
         Some(limit(Kind::Leaves, count.leaves))
-    } else if count.inner > MOST_INNER as u64 {
+    } else if count.inner > most.inner as u64 {
         Some(limit(Kind::Inner, count.inner))
     } else {
         None
     }
 }
 
-/// Refuses a hierarchy that passes a limit.
+/// Refuses a hierarchy that passes a limit of the run.
 pub(crate) fn check_limits(
     alloc: Global,
+    limits: &Limits,
     source: &Source<'_>,
     bindings: &[BindingList],
     order: &[u32],
@@ -56,12 +57,13 @@ pub(crate) fn check_limits(
     requires few { length source.now.modules.now < 2 ^ 32 }
     requires top { top < length source.now.modules.now }
     requires live { is_stub (source_in source.now) (module_at (source_in source.now) top) ≡ false }
-    ensures passes { OnOk result (limit_refusal (source_in source.now) top ≡ None) }
-    ensures stop { IfErr result (StopsAt (λ r. limit_refusal (source_in source.now) top ≡ Some r)) }
+    ensures passes { OnOk result (limit_refusal limits.now (source_in source.now) top ≡ None) }
+    ensures stop { IfErr result (StopsAt (λ r. limit_refusal limits.now (source_in source.now) top ≡ Some r)) }
 {
     let bits = net_counts(alloc, source.modules, source.nets)?;
     let table = count_modules(alloc, source.cells, source.modules, bindings, &bits, order)?;
-    match first_limit(table[top as usize]) {
+    let most = limits.most();
+    match first_limit(most, table[top as usize]) {
         None => Ok(()),
         Some(refusal) => Err(Stop::Refused(refusal)),
     }

@@ -6,6 +6,7 @@ use Rattle.std.proofs.lemmas.List.Elements.{All-from_recursion}
 use Rattle.mintc_text.specs.declared.refusals.Refusal.{Refusal}
 use Rattle.mintc_text.specs.declared.refusals.Refusal.TheVariants as refusal
 use Rattle.mintc_cells.specs.Rules.{pins, inputs_of, outputs_of}
+use Rattle.mintc_text.specs.declared.limits.Most.{Most}
 use Rattle.mintc_netlist.specs.declared.expression.Piece.{Piece}
 use Rattle.mintc_netlist.specs.declared.module.Item.{Item}
 use Rattle.mintc_netlist.specs.declared.module.Item.TheVariants as item
@@ -347,26 +348,26 @@ leaves_apart s steps once [] h = tt
 leaves_apart s steps once (leaf ∷ leaves) h = (leaf_apart s steps once leaf h.0, leaves_apart s steps once leaves h.1)
 
 -- in a hierarchy that isn't refused
-hierarchy_once : (s : Source) (top : Option (List ℕ)) (h : Hierarchy) (is : IsHierarchy s top h) (n : ℕ) → all_ends s n (walk s is.number) + all_outs s n (walk s is.number) ≤ 1
-hierarchy_once s top h is n =
-    let both = none_left (statements_refusal s) (top_refusal s (tops_of s top)) is.unrefused in
+hierarchy_once : (most : Most) (s : Source) (top : Option (List ℕ)) (h : Hierarchy) (is : IsHierarchy most s top h) (n : ℕ) → all_ends s n (walk s is.number) + all_outs s n (walk s is.number) ≤ 1
+hierarchy_once most s top h is n =
+    let both = none_left (statements_refusal s) (top_refusal most s (tops_of s top)) is.unrefused in
     let passed = all_passed s both.0 in
     let of_top = live_fills s passed is.number (top_there s top is.number is.one_top) (top_live s top is.number is.one_top) in
     walk_once s is.number n (λ i. fills_by s passed (binding_in s i) (binding_there s i)) of_top
 
-driven_by_one : (s : Source) (top : Option (List ℕ)) (h : Hierarchy) → IsHierarchy s top h → AllPairs (λ (a b : Join). a.to ≢ b.to) h.joins
-driven_by_one s top h is =
+driven_by_one : (most : Most) (s : Source) (top : Option (List ℕ)) (h : Hierarchy) → IsHierarchy most s top h → AllPairs (λ (a b : Join). a.to ≢ b.to) h.joins
+driven_by_one most s top h is =
     subst (λ (g : Hierarchy). AllPairs (λ (a b : Join). a.to ≢ b.to) g.joins) (sym is.is_of_top)
-    (once_apart (λ (j : Join). j.to) (hierarchy_of s is.number).joins (λ n. let once = hierarchy_once s top h is n in omega (arith, once)))
+    (once_apart (λ (j : Join). j.to) (hierarchy_of s is.number).joins (λ n. let once = hierarchy_once most s top h is n in omega (arith, once)))
 
-pub one_driver : (cells : CellTable) (netlist : Netlist) (top : Option (List ℕ)) (h : Hierarchy) → IsHierarchy (source_of cells netlist.modules) top h → AllPairs (λ (a b : Join). a.to ≢ b.to) h.joins
-one_driver cells netlist top h is = driven_by_one (source_of cells netlist.modules) top h is
+pub one_driver : (most : Most) (cells : CellTable) (netlist : Netlist) (top : Option (List ℕ)) (h : Hierarchy) → IsHierarchy most (source_of cells netlist.modules) top h → AllPairs (λ (a b : Join). a.to ≢ b.to) h.joins
+one_driver most cells netlist top h is = driven_by_one most (source_of cells netlist.modules) top h is
 
-driven_by_none : (s : Source) (top : Option (List ℕ)) (h : Hierarchy) → IsHierarchy s top h → All (EndsApart s.cells h.joins) h.leaves
-driven_by_none s top h is =
+driven_by_none : (most : Most) (s : Source) (top : Option (List ℕ)) (h : Hierarchy) → IsHierarchy most s top h → All (EndsApart s.cells h.joins) h.leaves
+driven_by_none most s top h is =
     subst (λ (g : Hierarchy). All (EndsApart s.cells g.joins) g.leaves) (sym is.is_of_top)
     (All-from_recursion (EndsApart s.cells (hierarchy_of s is.number).joins) (hierarchy_of s is.number).leaves
-    (leaves_apart s (walk s is.number) (hierarchy_once s top h is) (hierarchy_of s is.number).leaves (leaves_have s (walk s is.number))))
+    (leaves_apart s (walk s is.number) (hierarchy_once most s top h is) (hierarchy_of s is.number).leaves (leaves_have s (walk s is.number))))
 
-pub no_driver : (cells : CellTable) (netlist : Netlist) (top : Option (List ℕ)) (h : Hierarchy) → IsHierarchy (source_of cells netlist.modules) top h → All (λ leaf. All (λ (j : Join). IsOutputPin cells leaf j.to → ⊥) h.joins) h.leaves
-no_driver cells netlist top h is = driven_by_none (source_of cells netlist.modules) top h is
+pub no_driver : (most : Most) (cells : CellTable) (netlist : Netlist) (top : Option (List ℕ)) (h : Hierarchy) → IsHierarchy most (source_of cells netlist.modules) top h → All (λ leaf. All (λ (j : Join). IsOutputPin cells leaf j.to → ⊥) h.joins) h.leaves
+no_driver most cells netlist top h is = driven_by_none most (source_of cells netlist.modules) top h is

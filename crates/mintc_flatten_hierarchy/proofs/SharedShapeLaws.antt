@@ -5,7 +5,9 @@ use Rattle.std.specs.Option.{option_map, option_or}
 use Rattle.std.proofs.lemmas.Bool.Decides.{nat_tests}
 use Rattle.std.proofs.lemmas.List.{length-map}
 use Rattle.std.proofs.lemmas.List.Elements.{All-nil, All-cons, All-head, All-tail, All-weaker, All-append, All-map, All-from_recursion}
+use Rattle.mintc_text.specs.Limits.{AreLimits}
 use Rattle.mintc_text.specs.Refusals.{over_limit}
+use Rattle.mintc_text.specs.declared.limits.Most.{Most}
 use Rattle.mintc_text.specs.declared.limits.TheConstants.{MOST_DEPTH, MOST_INNER, MOST_LEAVES, MOST_SCOPES, MOST_TOLD}
 use Rattle.mintc_text.specs.declared.refusals.Kind.{Kind}
 use Rattle.mintc_text.specs.declared.refusals.Kind.TheVariants as kind
@@ -256,13 +258,13 @@ pub record AreKept (h : Hierarchy) : Type 0 where
   pub leaves : length h.leaves ≤ MOST_LEAVES
   pub inner : length h.inner ≤ MOST_INNER
 
-limits_kept : (s : Source) (top : ℕ) → limit_refusal s top ≡ None → AreKept (hierarchy_of s top)
-limits_kept s top none =
-    let a = limit_kept kind.Scopes (length (hierarchy_of s top).scopes) MOST_SCOPES ((kind.Depth, depth s (length s.modules) top, MOST_DEPTH) ∷ (kind.Leaves, length (hierarchy_of s top).leaves, MOST_LEAVES) ∷ (kind.Inner, length (hierarchy_of s top).inner, MOST_INNER) ∷ []) none in
-    let b = limit_kept kind.Depth (depth s (length s.modules) top) MOST_DEPTH ((kind.Leaves, length (hierarchy_of s top).leaves, MOST_LEAVES) ∷ (kind.Inner, length (hierarchy_of s top).inner, MOST_INNER) ∷ []) a.1 in
-    let c = limit_kept kind.Leaves (length (hierarchy_of s top).leaves) MOST_LEAVES ((kind.Inner, length (hierarchy_of s top).inner, MOST_INNER) ∷ []) b.1 in
-    let d = limit_kept kind.Inner (length (hierarchy_of s top).inner) MOST_INNER [] c.1 in
-    record { scopes = a.0; leaves = c.0; inner = d.0 }
+limits_kept : (most : Most) → AreLimits most → (s : Source) (top : ℕ) → limit_refusal most s top ≡ None → AreKept (hierarchy_of s top)
+limits_kept most limits s top none =
+    let a = limit_kept kind.Scopes (length (hierarchy_of s top).scopes) most.scopes ((kind.Depth, depth s (length s.modules) top, MOST_DEPTH) ∷ (kind.Leaves, length (hierarchy_of s top).leaves, most.leaves) ∷ (kind.Inner, length (hierarchy_of s top).inner, most.inner) ∷ []) none in
+    let b = limit_kept kind.Depth (depth s (length s.modules) top) MOST_DEPTH ((kind.Leaves, length (hierarchy_of s top).leaves, most.leaves) ∷ (kind.Inner, length (hierarchy_of s top).inner, most.inner) ∷ []) a.1 in
+    let c = limit_kept kind.Leaves (length (hierarchy_of s top).leaves) most.leaves ((kind.Inner, length (hierarchy_of s top).inner, most.inner) ∷ []) b.1 in
+    let d = limit_kept kind.Inner (length (hierarchy_of s top).inner) most.inner [] c.1 in
+    record { scopes = omega (arith, a.0, limits.scopes); leaves = omega (arith, c.0, limits.leaves); inner = omega (arith, d.0, limits.inner) }
 
 -- nothing refuses: no width, and no limit of the top
 pub none_left : (a b : Option Refusal) → option_or a b ≡ None → (a ≡ None) × (b ≡ None)
@@ -308,13 +310,13 @@ shape_of s top passed inside live kept =
       each_port = ports_all (hierarchy_of s top) (module_at s top) (module_at s top).ports (omega (arith, d, e)) (ports_known (module_at s top));
     }
 
-shape_by : (s : Source) (top : Option (List ℕ)) (h : Hierarchy) → IsHierarchy s top h → IsFlattened s.cells h
-shape_by s top h is =
-    let both = none_left (statements_refusal s) (top_refusal s (tops_of s top)) is.unrefused in
+shape_by : (most : Most) → AreLimits most → (s : Source) (top : Option (List ℕ)) (h : Hierarchy) → IsHierarchy most s top h → IsFlattened s.cells h
+shape_by most limits s top h is =
+    let both = none_left (statements_refusal s) (top_refusal most s (tops_of s top)) is.unrefused in
     let passed = all_placed s (mapped_none refusal.Width (first_at_fault (is_misfit s) (modules_of s)) (no_width s both.0)) in
-    let unlimited : limit_refusal s is.number ≡ None = sym (ap (top_refusal s) is.one_top) ∙ both.1 in
+    let unlimited : limit_refusal most s is.number ≡ None = sym (ap (top_refusal most s) is.one_top) ∙ both.1 in
     subst (λ (g : Hierarchy). IsFlattened s.cells g) (sym is.is_of_top)
-    (shape_of s is.number passed (top_there s top is.number is.one_top) (top_live s top is.number is.one_top) (limits_kept s is.number unlimited))
+    (shape_of s is.number passed (top_there s top is.number is.one_top) (top_live s top is.number is.one_top) (limits_kept most limits s is.number unlimited))
 
-pub in_shape : (cells : CellTable) (netlist : Netlist) (top : Option (List ℕ)) (h : Hierarchy) → IsHierarchy (source_of cells netlist.modules) top h → IsFlattened cells h
-in_shape cells netlist top h is = shape_by (source_of cells netlist.modules) top h is
+pub in_shape : (most : Most) → AreLimits most → (cells : CellTable) (netlist : Netlist) (top : Option (List ℕ)) (h : Hierarchy) → IsHierarchy most (source_of cells netlist.modules) top h → IsFlattened cells h
+in_shape most limits cells netlist top h is = shape_by most limits (source_of cells netlist.modules) top h is

@@ -1,6 +1,7 @@
 -- Worked netlists.
 use Rattle.std.specs.Prelude.{◌≡◌, ℕ, pos, true, false, Option, None, Some, List, [], ◌∷◌, codes, length}
 use Rattle.std.proofs.Common.{refl}
+use Rattle.mintc_text.specs.Limits.{usual}
 use Rattle.mintc_text.specs.declared.refusals.Refusal.TheVariants as refusal
 use Rattle.mintc_cells.specs.declared.cell.Cell.{Cell}
 use Rattle.mintc_cells.specs.declared.cell.Cell.TheVariants.{Gate, Latch}
@@ -34,7 +35,7 @@ abbrev no_module : Source
 no_module = of_modules ((module_of 1 (codes "m") ((codes "c") ∷ []) (item.Port 2 false None ((codes "c") ∷ []) ∷ item.Instance 3 (codes "FOO") (codes "a") false [] ∷ []))
     ∷ [])
 
-no_module-refusal : refusal_of no_module None ≡ Some (refusal.NoModule 3)
+no_module-refusal : refusal_of usual no_module None ≡ Some (refusal.NoModule 3)
 no_module-refusal = refl
 
 -- `m u (.c(c));`
@@ -42,7 +43,7 @@ abbrev recursive : Source
 recursive = of_modules ((module_of 1 (codes "m") ((codes "c") ∷ []) (item.Port 2 false None ((codes "c") ∷ []) ∷ item.Instance 3 (codes "m") (codes "u") true (to (Some (codes "c")) (Some ((piece.Net (codes "c")) ∷ [])) ∷ []) ∷ []))
     ∷ [])
 
-recursive-refusal : refusal_of recursive None ≡ Some (refusal.Recursive 3)
+recursive-refusal : refusal_of usual recursive None ≡ Some (refusal.Recursive 3)
 recursive-refusal = refl
 
 -- `LAT a (.D(1'b0), .G(c), .E(c));`
@@ -50,7 +51,7 @@ abbrev no_pin : Source
 no_pin = of_modules ((module_of 1 (codes "m") ((codes "c") ∷ []) (item.Port 2 false None ((codes "c") ∷ []) ∷ item.Instance 3 (codes "LAT") (codes "a") true (to (Some (codes "D")) (Some ((piece.Constant 1) ∷ [])) ∷ to (Some (codes "G")) (Some ((piece.Net (codes "c")) ∷ [])) ∷ to (Some (codes "E")) (Some ((piece.Net (codes "c")) ∷ [])) ∷ []) ∷ []))
     ∷ [])
 
-no_pin-refusal : refusal_of no_pin None ≡ Some (refusal.NoPin 3)
+no_pin-refusal : refusal_of usual no_pin None ≡ Some (refusal.NoPin 3)
 no_pin-refusal = refl
 
 -- `wire [1:0] w; assign w = c;`
@@ -58,7 +59,7 @@ abbrev width : Source
 width = of_modules ((module_of 1 (codes "m") ((codes "c") ∷ []) (item.Port 2 false None ((codes "c") ∷ []) ∷ item.Wire 3 (Some (span_from 1 0)) ((codes "w") ∷ []) ∷ item.Assign 4 ((piece.Net (codes "w")) ∷ []) ((piece.Net (codes "c")) ∷ []) ∷ []))
     ∷ [])
 
-width-refusal : refusal_of width None ≡ Some (refusal.Width 4)
+width-refusal : refusal_of usual width None ≡ Some (refusal.Width 4)
 width-refusal = refl
 
 -- `assign c = 1'b0;`
@@ -66,7 +67,7 @@ abbrev two_drivers : Source
 two_drivers = of_modules ((module_of 1 (codes "m") ((codes "c") ∷ []) (item.Port 2 false None ((codes "c") ∷ []) ∷ item.Assign 3 ((piece.Net (codes "c")) ∷ []) ((piece.Constant 1) ∷ []) ∷ []))
     ∷ [])
 
-two_drivers-refusal : refusal_of two_drivers None ≡ Some (refusal.TwoDrivers 3)
+two_drivers-refusal : refusal_of usual two_drivers None ≡ Some (refusal.TwoDrivers 3)
 two_drivers-refusal = refl
 
 -- `wire w; wire w;`
@@ -74,7 +75,7 @@ abbrev name_twice : Source
 name_twice = of_modules ((module_of 1 (codes "m") ((codes "c") ∷ []) (item.Port 2 false None ((codes "c") ∷ []) ∷ item.Wire 3 None ((codes "w") ∷ []) ∷ item.Wire 4 None ((codes "w") ∷ []) ∷ []))
     ∷ [])
 
-name_twice-refusal : refusal_of name_twice None ≡ Some (refusal.NameTwice 4)
+name_twice-refusal : refusal_of usual name_twice None ≡ Some (refusal.NameTwice 4)
 name_twice-refusal = refl
 
 -- `LAT a (.D(c), .G(1'b1));`
@@ -82,7 +83,7 @@ abbrev constant_enable : Source
 constant_enable = of_modules ((module_of 1 (codes "m") ((codes "c") ∷ []) (item.Port 2 false None ((codes "c") ∷ []) ∷ item.Instance 3 (codes "LAT") (codes "a") true (to (Some (codes "D")) (Some ((piece.Net (codes "c")) ∷ [])) ∷ to (Some (codes "G")) (Some ((piece.Constant 1) ∷ [])) ∷ []) ∷ []))
     ∷ [])
 
-constant_enable-refusal : refusal_of constant_enable None ≡ None
+constant_enable-refusal : refusal_of usual constant_enable None ≡ None
 constant_enable-refusal = refl
 
 -- `wire a, b; assign a = b; assign b = a;`
@@ -90,14 +91,14 @@ abbrev loop : Source
 loop = of_modules ((module_of 1 (codes "m") ((codes "c") ∷ []) (item.Port 2 false None ((codes "c") ∷ []) ∷ item.Wire 3 None ((codes "a") ∷ (codes "b") ∷ []) ∷ item.Assign 4 ((piece.Net (codes "a")) ∷ []) ((piece.Net (codes "b")) ∷ []) ∷ item.Assign 5 ((piece.Net (codes "b")) ∷ []) ((piece.Net (codes "a")) ∷ []) ∷ []))
     ∷ [])
 
-loop-refusal : refusal_of loop None ≡ None
+loop-refusal : refusal_of usual loop None ≡ None
 loop-refusal = refl
 
 -- no module at all
 abbrev nothing : Source
 nothing = of_modules ([])
 
-nothing-refusal : refusal_of nothing None ≡ Some (refusal.TopUnclear 0)
+nothing-refusal : refusal_of usual nothing None ≡ Some (refusal.TopUnclear 0)
 nothing-refusal = refl
 
 -- accepted
@@ -105,7 +106,7 @@ abbrev accepted : Source
 accepted = of_modules ((module_of 1 (codes "m") ((codes "c") ∷ []) (item.Port 2 false None ((codes "c") ∷ []) ∷ item.Instance 3 (codes "LAT") (codes "a") true (to (Some (codes "D")) (Some ((piece.Net (codes "w")) ∷ [])) ∷ to (Some (codes "G")) (Some ((piece.Net (codes "c")) ∷ [])) ∷ to (Some (codes "Q")) None ∷ []) ∷ item.Instance 4 (codes "BUF") (codes "b") true (to (Some (codes "A")) (Some ((piece.Net (codes "c")) ∷ [])) ∷ to (Some (codes "Y")) (Some ((piece.Net (codes "w")) ∷ [])) ∷ []) ∷ []))
     ∷ [])
 
-accepted-refusal : refusal_of accepted None ≡ None
+accepted-refusal : refusal_of usual accepted None ≡ None
 accepted-refusal = refl
 
 accepted-tops : tops_of accepted None ≡ 0 ∷ []
@@ -123,7 +124,7 @@ bit_order = of_modules ((module_of 1 (codes "t") ((codes "c") ∷ (codes "x") �
     ∷ (module_of 6 (codes "pair") ((codes "c") ∷ (codes "i") ∷ []) (item.Port 7 false None ((codes "c") ∷ []) ∷ item.Port 8 false (Some (span_from 1 0)) ((codes "i") ∷ []) ∷ item.Instance 9 (codes "LAT") (codes "a") true (to (Some (codes "D")) (Some ((piece.Bit (codes "i") 1) ∷ [])) ∷ to (Some (codes "G")) (Some ((piece.Net (codes "c")) ∷ [])) ∷ []) ∷ item.Instance 10 (codes "LAT") (codes "b") true (to (Some (codes "D")) (Some ((piece.Bit (codes "i") 0) ∷ [])) ∷ to (Some (codes "G")) (Some ((piece.Net (codes "c")) ∷ [])) ∷ []) ∷ []))
     ∷ [])
 
-bit_order-refusal : refusal_of bit_order None ≡ None
+bit_order-refusal : refusal_of usual bit_order None ≡ None
 bit_order-refusal = refl
 
 bit_order-tops : tops_of bit_order None ≡ 0 ∷ []
@@ -141,7 +142,7 @@ bit_order_turned = of_modules ((module_of 1 (codes "t") ((codes "c") ∷ (codes 
     ∷ (module_of 6 (codes "pair") ((codes "c") ∷ (codes "i") ∷ []) (item.Port 7 false None ((codes "c") ∷ []) ∷ item.Port 8 false (Some (span_from 1 0)) ((codes "i") ∷ []) ∷ item.Instance 9 (codes "LAT") (codes "a") true (to (Some (codes "D")) (Some ((piece.Bit (codes "i") 1) ∷ [])) ∷ to (Some (codes "G")) (Some ((piece.Net (codes "c")) ∷ [])) ∷ []) ∷ item.Instance 10 (codes "LAT") (codes "b") true (to (Some (codes "D")) (Some ((piece.Bit (codes "i") 0) ∷ [])) ∷ to (Some (codes "G")) (Some ((piece.Net (codes "c")) ∷ [])) ∷ []) ∷ []))
     ∷ [])
 
-bit_order_turned-refusal : refusal_of bit_order_turned None ≡ None
+bit_order_turned-refusal : refusal_of usual bit_order_turned None ≡ None
 bit_order_turned-refusal = refl
 
 bit_order_turned-tops : tops_of bit_order_turned None ≡ 0 ∷ []
@@ -160,7 +161,7 @@ deep = of_modules ((module_of 1 (codes "t1") ((codes "c") ∷ []) (item.Port 2 f
     ∷ (module_of 11 (codes "t3") ((codes "c") ∷ []) (item.Port 12 false None ((codes "c") ∷ []) ∷ []))
     ∷ [])
 
-deep-refusal : refusal_of deep None ≡ None
+deep-refusal : refusal_of usual deep None ≡ None
 deep-refusal = refl
 
 deep-tops : tops_of deep None ≡ 0 ∷ []

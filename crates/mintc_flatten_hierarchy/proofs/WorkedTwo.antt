@@ -1,6 +1,7 @@
 -- Worked netlists.
 use Rattle.std.specs.Prelude.{◌≡◌, ℕ, pos, true, false, Option, None, Some, List, [], ◌∷◌, codes, length}
 use Rattle.std.proofs.Common.{refl}
+use Rattle.mintc_text.specs.Limits.{usual}
 use Rattle.mintc_cells.specs.declared.cell.Cell.{Cell}
 use Rattle.mintc_cells.specs.declared.cell.Cell.TheVariants.{Gate, Latch}
 use Rattle.mintc_netlist.specs.declared.expression.Piece.{Piece}
@@ -34,7 +35,7 @@ two = of_modules ((module_of 1 (codes "two") ((codes "phi1") ∷ (codes "phi2") 
     ∷ (module_of 22 (codes "slice") ((codes "a") ∷ (codes "t") ∷ (codes "z") ∷ []) (item.Port 23 false None ((codes "a") ∷ []) ∷ item.Port 24 false None ((codes "t") ∷ []) ∷ item.Port 25 true None ((codes "z") ∷ []) ∷ item.Instance 26 (codes "BUF") (codes "b") true (to (Some (codes "A")) (Some ((piece.Net (codes "a")) ∷ [])) ∷ to (Some (codes "Y")) (Some ((piece.Net (codes "z")) ∷ [])) ∷ []) ∷ []))
     ∷ [])
 
-two-refusal : refusal_of two None ≡ None
+two-refusal : refusal_of usual two None ≡ None
 two-refusal = refl
 
 two-tops : tops_of two None ≡ 0 ∷ []

@@ -3,7 +3,8 @@ use Rattle.std.specs.Prelude.{◌≡◌, ℕ, nat_eq, Bool, not, ◌&&◌, Optio
 use Rattle.std.specs.Prelude.{filter}
 use Rattle.std.specs.List.{list_any, range_with_len}
 use Rattle.std.specs.Option.{option_or, option_map}
-use Rattle.mintc_text.specs.declared.limits.TheConstants.{MOST_DEPTH, MOST_INNER, MOST_LEAVES, MOST_SCOPES}
+use Rattle.mintc_text.specs.declared.limits.Most.{Most}
+use Rattle.mintc_text.specs.declared.limits.TheConstants.{MOST_DEPTH}
 use Rattle.mintc_text.specs.declared.refusals.Kind.{Kind}
 use Rattle.mintc_text.specs.declared.refusals.Kind.TheVariants as kind
 use Rattle.mintc_text.specs.declared.refusals.Refusal.{Refusal}
@@ -32,20 +33,20 @@ abbrev pub tops_of : Source → Option (List ℕ) → List ℕ
 tops_of s top = filter (λ k. not (is_stub s (module_at s k)) && may_be_top s top k)
     (range_with_len 0 (length s.modules))
 
--- the quantities of a hierarchy, each with its limit, in the order in which they are judged
-abbrev pub quantities : Source → ℕ → Hierarchy → List (Kind × ℕ × ℕ)
-quantities s top h =
-    (kind.Scopes, length h.scopes, MOST_SCOPES) ∷ (kind.Depth, depth s (length s.modules) top, MOST_DEPTH) ∷
-    (kind.Leaves, length h.leaves, MOST_LEAVES) ∷ (kind.Inner, length h.inner, MOST_INNER) ∷ []
+-- the quantities of a hierarchy, each with the limit of a run, in the order in which they are judged
+abbrev pub quantities : Most → Source → ℕ → Hierarchy → List (Kind × ℕ × ℕ)
+quantities most s top h =
+    (kind.Scopes, length h.scopes, most.scopes) ∷ (kind.Depth, depth s (length s.modules) top, MOST_DEPTH) ∷
+    (kind.Leaves, length h.leaves, most.leaves) ∷ (kind.Inner, length h.inner, most.inner) ∷ []
 
 -- the refusal for want of one top, or of the top's limits
-abbrev pub limit_refusal : Source → ℕ → Option Refusal
-limit_refusal s top = over_limit (quantities s top (hierarchy_of s top))
+abbrev pub limit_refusal : Most → Source → ℕ → Option Refusal
+limit_refusal most s top = over_limit (quantities most s top (hierarchy_of s top))
 
 -- the refusal of the modules that may be the top: for want of one, or of its limits
-abbrev pub top_refusal : Source → List ℕ → Option Refusal
-top_refusal s (top ∷ []) = limit_refusal s top
-top_refusal s tops = Some (refusal.TopUnclear (length tops))
+abbrev pub top_refusal : Most → Source → List ℕ → Option Refusal
+top_refusal most s (top ∷ []) = limit_refusal most s top
+top_refusal most s tops = Some (refusal.TopUnclear (length tops))
 
 -- the refusal of the first statement at fault by a test
 abbrev pub refused_by : (Statement → Bool) → (ℕ → Refusal) → Source → Option Refusal
@@ -84,16 +85,16 @@ statements_refusal s =
     (option_or (no_pin_refusal s) (option_or (width_refusal s) (two_drivers_refusal s)))))
 
 -- the first refusal of a netlist
-abbrev pub refusal_of : Source → Option (List ℕ) → Option Refusal
-refusal_of s top = option_or (statements_refusal s) (top_refusal s (tops_of s top))
+abbrev pub refusal_of : Most → Source → Option (List ℕ) → Option Refusal
+refusal_of most s top = option_or (statements_refusal s) (top_refusal most s (tops_of s top))
 
--- A hierarchy is that of the netlist: nothing refuses it, and it is the one from its top.
-pub record IsHierarchy (s : Source) (top : Option (List ℕ)) (h : Hierarchy) : Type 0 where
-  pub unrefused : refusal_of s top ≡ None
+-- A hierarchy is that of the netlist: nothing refuses it in a run with these limits, and it is the one from its top.
+pub record IsHierarchy (most : Most) (s : Source) (top : Option (List ℕ)) (h : Hierarchy) : Type 0 where
+  pub unrefused : refusal_of most s top ≡ None
   pub number : ℕ
   pub one_top : tops_of s top ≡ number ∷ []
   pub is_of_top : h ≡ hierarchy_of s number
 
 -- It is the first refusal of a netlist.
-abbrev pub IsRefusal : Source → Option (List ℕ) → Refusal → Type 0
-IsRefusal s top refused = refusal_of s top ≡ Some refused
+abbrev pub IsRefusal : Most → Source → Option (List ℕ) → Refusal → Type 0
+IsRefusal most s top refused = refusal_of most s top ≡ Some refused

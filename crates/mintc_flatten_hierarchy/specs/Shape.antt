@@ -1,5 +1,7 @@
 -- What is known of every hierarchy, whatever netlist it is of.
 use Rattle.std.specs.Prelude.{◌<◌, ◌≤◌, ◌+◌, ℕ, List, length, slice_index_or, All, Option}
+use Rattle.mintc_text.specs.Limits.{AreLimits}
+use Rattle.mintc_text.specs.declared.limits.Most.{Most}
 use Rattle.mintc_text.specs.declared.limits.TheConstants.{MOST_INNER, MOST_LEAVES, MOST_SCOPES}
 use Rattle.mintc_cells.specs.declared.cell.Cell.{Cell}
 use Rattle.mintc_cells.specs.Rules.{pins}
@@ -44,7 +46,8 @@ IsInner h (Pin leaf pin) = leaf < length h.leaves
 abbrev pub IsJoin : Hierarchy → Join → Type 0
 IsJoin h j = (j.from < length h.inner) × (j.to < length h.inner)
 
--- Whatever a hierarchy names is there, each scope comes after its parent, and the limits are kept.
+-- Whatever a hierarchy names is there, each scope comes after its parent, and the limits of what can be worked on are
+-- kept.
 pub record IsFlattened (cells : CellTable) (h : Hierarchy) : Type 0 where
   pub some_scope : 1 ≤ length h.scopes
   pub few_scopes : length h.scopes ≤ MOST_SCOPES
@@ -56,10 +59,11 @@ pub record IsFlattened (cells : CellTable) (h : Hierarchy) : Type 0 where
   pub each_join : All (IsJoin h) h.joins
   pub each_port : All (IsPort h) h.ports
 
--- Some ordinary netlist has this hierarchy over these cells.
+-- Some ordinary netlist has this hierarchy over these cells, in a run with some limits.
 abbrev pub IsGivenHierarchy : CellTable → Hierarchy → Type 0
-IsGivenHierarchy cells h = (netlist : Netlist) × (top : Option (List ℕ)) × IsOrdinary netlist
-    × IsHierarchy (source_of cells netlist.modules) top h
+IsGivenHierarchy cells h =
+    (most : Most) × (netlist : Netlist) × (top : Option (List ℕ)) × AreLimits most × IsOrdinary netlist
+    × IsHierarchy most (source_of cells netlist.modules) top h
 
 -- Such a hierarchy is in shape.
 abbrev pub HierarchiesAreInShape : Type 0

@@ -66,7 +66,7 @@ pub record IsWithin (n d : ℕ) (a : Ratio) : Type 0 where
 
 -- small enough for each operation
 abbrev pub IsModest : Ratio → Type 0
-IsModest a = IsWithin (10 ^ 22) (10 ^ 12) a
+IsModest a = IsWithin (10 ^ 24) (10 ^ 12) a
 
 -- num/den in decimal
 abbrev pub text_of : Ratio → List ℕ

@@ -4,21 +4,21 @@ ghost use Rattle.std.specs.Int.{IsGcd, ◌∣◌};
 
 /// A product of a number that may be a numerator and one that may be a denominator.
 pub(crate) fn product(x: i128, y: i128) -> i128
-    requires x { unsigned_abs x ≤ 10 ^ 22 }
+    requires x { unsigned_abs x ≤ 10 ^ 24 }
     requires y { unsigned_abs y ≤ 10 ^ 12 }
     ensures value { result ≡ x *ℤ y }
-    ensures bound { unsigned_abs result ≤ 10 ^ 34 }
+    ensures bound { unsigned_abs result ≤ 10 ^ 36 }
 {
     x * y
 }
 
 /// The greatest whole number at most `x / y`.
 pub(crate) fn rounded_down(x: i128, y: i128) -> i128
-    requires x { unsigned_abs x ≤ 10 ^ 34 }
+    requires x { unsigned_abs x ≤ 10 ^ 36 }
     requires y { pos 1 ≤ℤ y }
     ensures low { (result *ℤ y) ≤ℤ x }
     ensures high { x <ℤ (result *ℤ y +ℤ y) }
-    ensures bound { unsigned_abs result ≤ 10 ^ 34 }
+    ensures bound { unsigned_abs result ≤ 10 ^ 36 }
 {
     x.div_euclid(y)
 }

@@ -8,7 +8,7 @@ use std::marker::Model;
 
 /// A fraction of two whole numbers, the second at least 1. It need not be in lowest terms.
 ///
-/// A fraction is modest where its numerator is at most 10^22 in absolute value and its denominator at
+/// A fraction is modest where its numerator is at most 10^24 in absolute value and its denominator at
 /// most 10^12. The operations take modest fractions.
 #[derive(Clone, Copy, Debug)]
 pub struct Fraction {

@@ -5,7 +5,7 @@ use Rattle.std.proofs.lemmas.Bool.{cases_lt}
 use Rattle.mintc_graph_walks.specs.declared.network.Arc.{Arc}
 use Rattle.mintc_graph_walks.specs.declared.network.TheConstants.{UNREACHED, NONE}
 use Rattle.mintc_graph_walks.specs.Walks.{arc_at, value_at, IsStart, IsReached}
-use Rattle.mintc_graph_walks.specs.Bounds.{AreBounded}
+use Rattle.mintc_graph_walks.specs.Bounds.{AreBounded, AreFew, most_nodes}
 use Rattle.mintc_graph_walks.specs.Rises.{Walk, AreTended, SomeAge, HasRelaxed, HasPassed}
 use Rattle.mintc_graph_walks.specs.Chains.{Back, IsRooted}
 use Rattle.mintc_graph_walks.proofs.Relaxing.{AreBounded-weaker}
@@ -18,7 +18,7 @@ IsCovered arcs starts k values = (j v : ℕ) (x : ℤ) → j ≤ k → Walk arcs
 -- and leaves no chain is never the last of as many as there are nodes.
 pub record IsRound (arcs : List Arc) (starts : List ℤ) (round : ℕ) (values : List ℤ) (before : List ℕ) : Type 0 where
   pub tended : SomeAge arcs starts values before
-  pub bounded : AreBounded (2 ^ 93 + round * 2 ^ 113) values
+  pub bounded : AreBounded (2 ^ 96 + round * 2 ^ 109) values
   pub covered : IsCovered arcs starts round values
   pub begun : 0 < round → round < length starts
 
@@ -36,10 +36,10 @@ AreTended-unraised arcs starts before none = (
 
 -- before the first pass, when n arcs were relaxed
 pub IsRound-none : (arcs : List Arc) (starts : List ℤ) (old_before : List ℕ) (n : ℕ) (values : List ℤ) (before : List ℕ) → ((v : ℕ) → v < length starts → get_or old_before v 0 ≡ NONE) →
-    AreBounded (2 ^ 80) starts → n ≤ 4096 → HasRelaxed arcs n starts old_before values before → IsRound arcs starts 0 values before
+    AreBounded (2 ^ 80) starts → n ≤ most_nodes → HasRelaxed arcs n starts old_before values before → IsRound arcs starts 0 values before
 IsRound-none arcs starts old_before n values before none bounded short q = record {
   tended = q.tended starts refl (AreTended-unraised arcs starts old_before none);
-  bounded = AreBounded-weaker (2 ^ 80 + n * 2 ^ 80) (2 ^ 93 + 0 * 2 ^ 113) values (omega arith) (q.bounded (2 ^ 80) bounded);
+  bounded = AreBounded-weaker (2 ^ 80 + n * 2 ^ 80) (2 ^ 96 + 0 * 2 ^ 109) values (omega arith) (q.bounded (2 ^ 80) bounded);
   covered = λ j v x h w.
       let z : j ≡ 0 = omega arith in
       let w' = rw z at w in
@@ -107,12 +107,12 @@ module _ (arcs : List Arc) (starts old : List ℤ) (old_before : List ℕ) (new 
       (cases_lt round w.0)
 
   -- after the pass n arcs were relaxed
-  module _ (n : ℕ) (values' : List ℤ) (before' : List ℕ) (q : HasRelaxed arcs n new before values' before') (short : n ≤ 4096) where
-    pub IsRound-more : IsRooted arcs before raised → length new ≡ length old → length before ≡ length old → length arcs < 2 ^ 32 → AreBounded (2 ^ 125) old → IsRound arcs starts (round + 1) values' before'
+  module _ (n : ℕ) (values' : List ℤ) (before' : List ℕ) (q : HasRelaxed arcs n new before values' before') (short : n ≤ most_nodes) where
+    pub IsRound-more : IsRooted arcs before raised → length new ≡ length old → length before ≡ length old → AreFew arcs → AreBounded (2 ^ 125) old → IsRound arcs starts (round + 1) values' before'
     IsRound-more rooted l lb few low = record {
       tended = q.tended starts (sym (l ∙ lengths)) (p.relaxed.tended starts (sym lengths) r.tended);
-      bounded = AreBounded-weaker (2 ^ 93 + round * 2 ^ 113 + length arcs * 2 ^ 80 + n * 2 ^ 80) (2 ^ 93 + (round + 1) * 2 ^ 113) values' (omega arith)
-          (q.bounded (2 ^ 93 + round * 2 ^ 113 + length arcs * 2 ^ 80) (p.relaxed.bounded (2 ^ 93 + round * 2 ^ 113) r.bounded));
+      bounded = AreBounded-weaker (2 ^ 96 + round * 2 ^ 109 + length arcs * 2 ^ 80 + n * 2 ^ 80) (2 ^ 96 + (round + 1) * 2 ^ 109) values' (omega arith)
+          (q.bounded (2 ^ 96 + round * 2 ^ 109 + length arcs * 2 ^ 80) (p.relaxed.bounded (2 ^ 96 + round * 2 ^ 109) r.bounded));
       covered = λ j v x h w.
           let c = IsCovered-more j v x h w in
           let g = q.grows v in
@@ -121,11 +121,11 @@ module _ (arcs : List Arc) (starts old : List ℤ) (old_before : List ℕ) (new 
     }
 
 -- the values stay in range
-pub AreBounded-in_round : (arcs : List Arc) (starts : List ℤ) (round : ℕ) (values : List ℤ) (before : List ℕ) → IsRound arcs starts round values before → round < 4096 → AreBounded (2 ^ 125) values
+pub AreBounded-in_round : (arcs : List Arc) (starts : List ℤ) (round : ℕ) (values : List ℤ) (before : List ℕ) → IsRound arcs starts round values before → round < most_nodes → AreBounded (2 ^ 125) values
 AreBounded-in_round arcs starts round values before r few v h = let f = r.bounded v h in (f.0, λ q. let g = f.1 q in (omega (arith, ints), omega (arith, ints)))
 
 -- a pass keeps them there
-pub AreBounded-after_pass : (arcs : List Arc) (starts : List ℤ) (round : ℕ) (values : List ℤ) (before : List ℕ) (new : List ℤ) (new_before : List ℕ) (raised : Option ℕ) → IsRound arcs starts round values before → round < 4096 →
-    length arcs < 2 ^ 32 → HasPassed arcs (length arcs) values before new new_before raised → AreBounded (2 ^ 125) new
+pub AreBounded-after_pass : (arcs : List Arc) (starts : List ℤ) (round : ℕ) (values : List ℤ) (before : List ℕ) (new : List ℤ) (new_before : List ℕ) (raised : Option ℕ) → IsRound arcs starts round values before → round < most_nodes →
+    AreFew arcs → HasPassed arcs (length arcs) values before new new_before raised → AreBounded (2 ^ 125) new
 AreBounded-after_pass arcs starts round values before new new_before raised r short few p =
-    AreBounded-weaker (2 ^ 93 + round * 2 ^ 113 + length arcs * 2 ^ 80) (2 ^ 125) new (omega arith) (p.relaxed.bounded (2 ^ 93 + round * 2 ^ 113) r.bounded)
+    AreBounded-weaker (2 ^ 96 + round * 2 ^ 109 + length arcs * 2 ^ 80) (2 ^ 125) new (omega arith) (p.relaxed.bounded (2 ^ 96 + round * 2 ^ 109) r.bounded)

@@ -4,6 +4,14 @@ use Rattle.mintc_graph_walks.specs.declared.network.Arc.{Arc}
 use Rattle.mintc_graph_walks.specs.declared.network.TheConstants.{UNREACHED}
 use Rattle.mintc_graph_walks.specs.Walks.{arc_at, value_at}
 
+-- the most nodes that a network may have, and that its arcs are few: at weights from -2^80 to 2^80 a round for each
+-- node keeps values from -2^125 to 2^125
+abbrev pub most_nodes : ℕ
+most_nodes = 32768
+
+abbrev pub AreFew : List Arc → Type 0
+AreFew arcs = length arcs < 2 ^ 28
+
 -- x is from -b to b
 abbrev pub IsWithin : ℕ → ℤ → Type 0
 IsWithin b x = (neg_ℤ (pos b) ≤ℤ x) × (x ≤ℤ pos b)

@@ -1,7 +1,7 @@
 //! The ring that weighs most on the mean, of all rings among the arcs by which the nodes were raised. Only that it
 //! is a node is claimed of what is found here.
 ghost use Rattle.std.specs.Prelude.{◌≡◌, ◌<◌, ◌≤◌, length, IfSome};
-ghost use Rattle.mintc_graph_walks.specs.Bounds.{AreOrdinary};
+ghost use Rattle.mintc_graph_walks.specs.Bounds.{AreOrdinary, most_nodes};
 
 use crate::network::Network;
 
@@ -37,7 +37,7 @@ fn follow<N: Network>(
 /// The mean weight of the arcs on the way back from a node to itself, rounded towards 0.
 fn mean_weight<N: Network>(net: &N, before: &[u32], first: u32) -> Option<i128>
     requires first { first < length before.now }
-    requires nodes { length before.now ≤ 4096 }
+    requires nodes { length before.now ≤ most_nodes }
     requires arcs { AreOrdinary (length before.now) (N.arcs net.now) }
 {
     let mut node = first;
@@ -75,7 +75,7 @@ pub(crate) fn heaviest<N: Network>(
     marks: &mut [u32],
 ) -> Option<u32>
     requires marks { length marks.old ≡ length before.now }
-    requires nodes { length before.now ≤ 4096 }
+    requires nodes { length before.now ≤ most_nodes }
     requires last { last < length before.now }
     requires arcs { AreOrdinary (length before.now) (N.arcs net.now) }
     ensures { IfSome result (λ v. v < length before.now) }

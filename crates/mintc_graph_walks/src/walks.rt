@@ -1,7 +1,7 @@
 //! The greatest walks, or a closed chain of positive weight.
 ghost use Rattle.std.specs.Prelude.{◌≡◌, ◌<◌, ◌≤◌, ◌+◌, ◌^◌, length, IfNone, IfSome};
 ghost use Rattle.mintc_graph_walks.specs.Answers.{IsAnswered, IsKept};
-ghost use Rattle.mintc_graph_walks.specs.Bounds.{AreBounded, AreOrdinary};
+ghost use Rattle.mintc_graph_walks.specs.Bounds.{AreBounded, AreFew, AreOrdinary, most_nodes};
 ghost use Rattle.mintc_graph_walks.specs.Chains.{AreParents, IsRing, IsRooted};
 
 use crate::chains::{Ring, collect, mark};
@@ -26,7 +26,7 @@ pub enum Answer {
 /// raised last.
 fn find_ring<N: Network>(net: &N, before: &[u32], raised: u32, marks: &mut [u32]) -> Option<Ring>
     requires same { length marks.old ≡ length before.now }
-    requires nodes { length before.now ≤ 4096 }
+    requires nodes { length before.now ≤ most_nodes }
     requires raised { raised < length before.now }
     requires arcs { AreOrdinary (length before.now) (N.arcs net.now) }
     requires parents { AreParents (N.arcs net.now) before.now }
@@ -44,11 +44,11 @@ fn find_ring<N: Network>(net: &N, before: &[u32], raised: u32, marks: &mut [u32]
 /// The greatest value of the walks to each node, which is the value where a walk begins and the sum of its arcs'
 /// weights; or, exactly where a walk leads to one, a closed chain of positive weight.
 ///
-/// `values` comes in with the value at which a walk may begin at each node, or `UNREACHED`. The five buffers have
-/// one item for each of 1 to 4096 nodes. After `Chain` the numbers in `values` say nothing; `before` and `marks`
-/// are for work alone. `tree` comes in with numbers of arcs that are taken first, in their order: any numbers will
-/// do, also of no arc, and it goes out with those by which a walk through a network that is little different takes
-/// fewer steps. A step is one pass over the arcs: there is at least one, and at most one for each node.
+/// `values` comes in with the value at which a walk may begin at each node, or `UNREACHED`. The five buffers have one
+/// item for each of 1 to 32,768 nodes. After `Chain` the numbers in `values` say nothing; `before` and `marks` are
+/// for work alone. `tree` comes in with numbers of arcs that are taken first, in their order: any numbers will do,
+/// also of no arc, and it goes out with those by which a walk through a network that is little different takes fewer
+/// steps. A step is one pass over the arcs: there is at least one, and at most one for each node.
 pub fn greatest_walks<N: Network, L: Ledger>(
     net: &N,
     values: &mut [i128],
@@ -59,12 +59,12 @@ pub fn greatest_walks<N: Network, L: Ledger>(
     steps: &mut Steps<L>,
 ) -> Answer
     requires some { 0 < length values.old }
-    requires nodes { length values.old ≤ 4096 }
+    requires nodes { length values.old ≤ most_nodes }
     requires before { length before.old ≡ length values.old }
     requires marks { length marks.old ≡ length values.old }
     requires tree { length tree.old ≡ length values.old }
     requires chain { length chain.old ≡ length values.old }
-    requires few { length (N.arcs net.now) < 2 ^ 32 }
+    requires few { AreFew (N.arcs net.now) }
     requires arcs { AreOrdinary (length values.old) (N.arcs net.now) }
     requires starts { AreBounded (2 ^ 80) values.old }
 
@@ -104,12 +104,12 @@ fn walks_from_blank<N: Network, L: Ledger>(
     requires parts { blank.parts ≡ L.parts }
     requires part { 0 < L.parts }
     requires some { 0 < length values.old }
-    requires nodes { length values.old ≤ 4096 }
+    requires nodes { length values.old ≤ most_nodes }
     requires before { length before.old ≡ length values.old }
     requires marks { length marks.old ≡ length values.old }
     requires tree { length tree.old ≡ length values.old }
     requires chain { length chain.old ≡ length values.old }
-    requires few { length (N.arcs net.now) < 2 ^ 32 }
+    requires few { AreFew (N.arcs net.now) }
     requires arcs { AreOrdinary (length values.old) (N.arcs net.now) }
     requires starts { AreBounded (2 ^ 80) values.old }
 
@@ -130,12 +130,12 @@ pub fn greatest_walks_uncounted<N: Network>(
     chain: &mut [u32],
 ) -> Answer
     requires some { 0 < length values.old }
-    requires nodes { length values.old ≤ 4096 }
+    requires nodes { length values.old ≤ most_nodes }
     requires before { length before.old ≡ length values.old }
     requires marks { length marks.old ≡ length values.old }
     requires tree { length tree.old ≡ length values.old }
     requires chain { length chain.old ≡ length values.old }
-    requires few { length (N.arcs net.now) < 2 ^ 32 }
+    requires few { AreFew (N.arcs net.now) }
     requires arcs { AreOrdinary (length values.old) (N.arcs net.now) }
     requires starts { AreBounded (2 ^ 80) values.old }
 

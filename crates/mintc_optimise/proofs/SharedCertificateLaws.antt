@@ -1,8 +1,9 @@
 -- What is made of the answer of a search over a design's links is a certificate.
-use Rattle.std.proofs.Common.{◌≡◌, ◌≢◌, ℕ, ◌≤◌, ℤ, List, [], ◌∷◌, length, arith, ap, sym, ◌∙◌}
+use Rattle.std.proofs.Common.{◌+◌, ◌≡◌, ◌≢◌, ℕ, ◌≤◌, ℤ, List, [], ◌∷◌, length, arith, ap, sym, ◌∙◌}
 use Rattle.std.specs.List.{All, AllPairs}
 use Rattle.std.proofs.lemmas.List.{length-map, get_or-map}
 use Rattle.std.proofs.lemmas.List.FromFn.{length-map-range_with_len}
+use Rattle.mintc_text.specs.declared.limits.TheConstants.{MOST_MEMBERS}
 use Rattle.mintc_fraction.specs.Ratio.{Ratio}
 use Rattle.mintc_timing.specs.declared.link.Link.{Link}
 use Rattle.mintc_timing.specs.declared.clocking.Schedule.{Schedule}
@@ -26,7 +27,7 @@ use Rattle.mintc_certificate.specs.declared.certificate.Certificate.{Certificate
 use Rattle.mintc_certificate.specs.declared.certificate.Certificate.TheVariants.{Least, Never}
 use Rattle.mintc_certificate.specs.Optimal.{IsOptimal}
 use Rattle.mintc_certificate.specs.Ranges.{IsCertificateInRange, IsChainInRange, IsDeparture}
-use Rattle.mintc_certificate.specs.Valid.{IsRing, IsValid, counts, clock, bounds, departures, setups, ring, sums, SchedulePasses, Test, link_of, links_of_members}
+use Rattle.mintc_certificate.specs.Valid.{IsRing, IsValid, chain_of, counts, clock, bounds, departures, setups, ring, sums, SchedulePasses, Test, link_of, links_of_members}
 use Rattle.mintc_optimise.specs.Bounded.{CertifiesNeverOnlyWithBounds}
 use Rattle.mintc_optimise.specs.Making.{AreSayable, StandForAll}
 use Rattle.mintc_optimise.specs.Optimum.{HasEarliest, HasSimple, IsSimple}
@@ -42,13 +43,14 @@ pub record IsAnswer (t : Timing) (certificate : Certificate) : Type 0 where
   pub simple : HasSimple t certificate
   pub bounded : CertifiesNeverOnlyWithBounds t.flat certificate
   pub in_range : IsCertificateInRange certificate
+  pub short : length (chain_of certificate) ≤ element_count t.flat + 17
 
--- Links that lead round, enter no node twice, and are from 1 to 4,096.
+-- Links that lead round, enter no node twice, and are from 1 to as many as a certificate can say.
 pub record IsRound (ks : List Link) : Type 0 where
   pub closed : IsClosed (λ (k : Link). k.from) (λ (k : Link). k.to) ks
   pub once : AllPairs (λ (a b : Link). a.to ≢ b.to) ks
   pub some : 1 ≤ length ks
-  pub most : length ks ≤ 4096
+  pub most : length ks ≤ MOST_MEMBERS
 
 some_closed : (ks : List Link) → IsClosed (λ (k : Link). k.from) (λ (k : Link). k.to) ks → 1 ≤ length ks
 some_closed [] h = absurd h
@@ -81,6 +83,16 @@ module _ (t : Timing) (limits : IsDesign t.flat) (kept : IsTiming t.flat t.order
 
     simple : IsSimple t members
     simple = record { listed = rw stand.same named.chain.listed; once = is_round.once }
+
+    -- It has no more members than the design has nodes.
+    short : length members ≤ element_count t.flat + 17
+    short =
+        let count = length-map members (link_of t.flat) in
+        let same : length (links_of_members t.flat members) ≡ length (links_at (links_of t) chain) = ap (λ (ks : List Link). length ks) stand.same in
+        let numbers = length-map chain (link_at (links_of t)) in
+        let few = few_links (node_count t.flat) (links_of t) (ordinary t limits kept) chain named in
+        let phases = limits.phases.1 in
+        omega (arith, count, same, numbers, few, phases)
 
     chain_in : IsChainInRange members
     chain_in =
@@ -125,6 +137,7 @@ module _ (t : Timing) (limits : IsDesign t.flat) (kept : IsTiming t.flat t.order
           simple = simple room.chain found.chain members stand;
           bounded = tt;
           in_range = record { schedule_in = rw s_is at schedule_in; count = omega arith; each = rw d_is at departures_in; chain_in = chain_in room.chain found.chain members stand };
+          short = short room.chain found.chain members stand;
         })
 
   module _ (room : Space) (members : List Member) (found : HasSearched list room outcome.Never) (stand : StandForAll t (links_of t) room.chain members) where
@@ -143,4 +156,5 @@ module _ (t : Timing) (limits : IsDesign t.flat) (kept : IsTiming t.flat t.order
           simple = simple room.chain found.0 members stand;
           bounded = never_needs_a_bound_lem t limits kept hopeless;
           in_range = chain_in room.chain found.0 members stand;
+          short = short room.chain found.0 members stand;
         }

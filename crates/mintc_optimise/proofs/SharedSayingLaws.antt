@@ -12,13 +12,14 @@ use Rattle.mintc_timing.proofs.SharedByKind.{EachKind, EachKind-from_all}
 use Rattle.mintc_constraints.proofs.SharedOrdinaryLaws.{least_width-range}
 use Rattle.mintc_certificate.specs.Ranges.{IsDeparture}
 use Rattle.mintc_ratio.specs.Searched.{IsCycle}
+use Rattle.mintc_ratio.specs.Sums.{most_delay}
 use Rattle.mintc_optimise.specs.Making.{AreSayable}
 
--- a delay times a denominator of at most 2,017
+-- a delay times a denominator of at most 20,017
 abbrev IsShortTime : ℤ → Type 0
-IsShortTime x = (negsuc 2016999999999 ≤ℤ x) × (x ≤ℤ pos 2017000000000)
+IsShortTime x = (negsuc 20016999999999 ≤ℤ x) × (x ≤ℤ pos 20017000000000)
 
-gap_times : (x den : ℤ) → IsGap x → pos 1 ≤ℤ den → den ≤ℤ pos 2017 → IsShortTime (x *ℤ den)
+gap_times : (x den : ℤ) → IsGap x → pos 1 ≤ℤ den → den ≤ℤ pos 20017 → IsShortTime (x *ℤ den)
 gap_times x den h some most =
     let low = times-mono_positive (negsuc 999999999) x den h.0 some in
     let high = times-mono_positive x (pos 1000000000) den h.1 some in
@@ -46,7 +47,7 @@ module _ (t : Timing) (limits : IsDesign t.flat) (cycle : Ratio) (is_cycle : IsC
       let some = delay_times _ cycle.den (least_width-range t limits p) is_cycle.fraction in
       omega (arith, ints)
 
-  width_high : (p : ℕ) → IsPhase (phase_count t.flat) p → (value_at values (end_node p) -ℤ value_at values (start_node p)) ≤ℤ pos 4040000000000
+  width_high : (p : ℕ) → IsPhase (phase_count t.flat) p → (value_at values (end_node p) -ℤ value_at values (start_node p)) ≤ℤ most_delay
   width_high p h =
       let span = met.span p h in
       omega (arith, ints)

@@ -1,5 +1,6 @@
 //! The search of a design, in two steps: first all its memory, then the search, which takes none.
 ghost use Rattle.std.specs.Prelude.{◌≡◌, ◌≤◌, ◌+◌, ◌*◌, IfOk};
+ghost use Rattle.mintc_ratio.specs.Climbing.{most_tests};
 
 use mintc_constraints::{LinkList, Room, links};
 use mintc_graph_walks::Steps;
@@ -57,7 +58,7 @@ impl Bench {
         ensures bounded { (t : Timing) → IsDesign t.flat → HasEnds t →
             self.old.list ≡ constraints_of (node_count t.flat) (links_of t) → NeverOnlyWithBounds t.flat result }
         ensures kept { self.new.list ≡ self.old.list }
-        ensures cost { steps.new ≤ steps.old + 68 * (self.old.list.nodes + 1) }
+        ensures cost { steps.new ≤ steps.old + most_tests self.old.list.nodes * (self.old.list.nodes + 1) }
     {
         search(&self.links, &mut self.room, steps)
     }

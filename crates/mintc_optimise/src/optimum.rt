@@ -1,10 +1,12 @@
 //! The least cycle time with its certificate.
-ghost use Rattle.std.specs.Prelude.{◌≡◌, ◌≤◌, ◌+◌, ◌*◌, IfOk};
+ghost use Rattle.std.specs.Prelude.{◌≡◌, ◌≤◌, ◌+◌, ◌*◌, length, IfOk};
+ghost use Rattle.mintc_ratio.specs.Climbing.{most_tests};
 ghost use Rattle.mintc_constraints.specs.Ordinary.{constraints_of};
+ghost use Rattle.mintc_timing.specs.Design.{element_count};
 ghost use Rattle.mintc_timing.specs.Links.{links_of, node_count};
 ghost use Rattle.mintc_certificate.specs.Optimal.{IsOptimal};
 ghost use Rattle.mintc_certificate.specs.Ranges.{IsCertificateInRange};
-ghost use Rattle.mintc_certificate.specs.Valid.{IsValid};
+ghost use Rattle.mintc_certificate.specs.Valid.{IsValid, chain_of};
 ghost use Rattle.mintc_ratio.specs.Searched.{HasSearched};
 ghost use Rattle.mintc_optimise.specs.Bounded.{CertifiesNeverOnlyWithBounds};
 ghost use Rattle.mintc_optimise.specs.Optimum.{HasEarliest, HasSimple};
@@ -37,6 +39,7 @@ fn certificate(
     ensures simple { IfOk result (HasSimple system.now) }
     ensures bounded { IfOk result (CertifiesNeverOnlyWithBounds system.now.flat) }
     ensures in_range { IfOk result IsCertificateInRange }
+    ensures short { IfOk result (λ certificate. length (chain_of certificate) ≤ element_count system.now.flat + 17) }
 {
     let _flat = system.flat();
     let chain = members(alloc, system, list.items(), room.chain())?;
@@ -65,7 +68,8 @@ pub fn optimise<L: Ledger>(
     ensures simple { IfOk result (HasSimple system.now) }
     ensures bounded { IfOk result (CertifiesNeverOnlyWithBounds system.now.flat) }
     ensures in_range { IfOk result IsCertificateInRange }
-    ensures cost { steps.new ≤ steps.old + 68 * (node_count system.now.flat + 1) }
+    ensures short { IfOk result (λ certificate. length (chain_of certificate) ≤ element_count system.now.flat + 17) }
+    ensures cost { steps.new ≤ steps.old + most_tests (node_count system.now.flat) * (node_count system.now.flat + 1) }
 {
     let mut bench = Bench::reserve(alloc, system)?;
     let outcome = bench.solve(steps);

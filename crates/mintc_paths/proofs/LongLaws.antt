@@ -5,7 +5,9 @@ use Rattle.std.specs.Prelude.{min}
 use Rattle.std.specs.Int.{int_max}
 use Rattle.std.proofs.lemmas.Bool.{cases_eq, cases_lt}
 use Rattle.std.proofs.lemmas.Int.{ints, by_lt_z}
-use Rattle.mintc_text.specs.declared.limits.TheConstants.{MOST_DELAY, MOST_PAIRS, MOST_TOLD}
+use Rattle.mintc_text.specs.Limits.{AreLimits}
+use Rattle.mintc_text.specs.declared.limits.Most.{Most}
+use Rattle.mintc_text.specs.declared.limits.TheConstants.{MOST_DELAY, MOST_TOLD}
 use Rattle.mintc_text.specs.declared.refusals.Kind.TheVariants as kind
 use Rattle.mintc_text.specs.declared.refusals.Refusal.{Refusal}
 use Rattle.mintc_text.specs.declared.refusals.Refusal.TheVariants as refusal
@@ -52,7 +54,7 @@ enters : (arcs : List TimingArc) (from : ℕ) (path : List ℕ) (to : ℕ) → p
 enters arcs from [] to some h = absurd (some refl)
 enters arcs from (n ∷ path) to some h = last_arc arcs from n path to h
 
-module _ (design : Design) (order : List ℕ) (is_order : IsOrder design.arcs order) where
+module _ (most : Most) (limits : AreLimits most) (design : Design) (order : List ℕ) (is_order : IsOrder design.arcs order) where
   abbrev Long : ℕ → ℕ → Type 0
   Long j bit = (path : List ℕ) × IsLong design j bit path
 
@@ -77,8 +79,8 @@ module _ (design : Design) (order : List ℕ) (is_order : IsOrder design.arcs or
 
   long_decided : (j bit : ℕ) → Decided (Long j bit)
   long_decided j bit =
-      let most = best ◌≤ℤ◌ int_max greatest_choice (max_of design.arcs) design.arcs order is_order (length order) (omega arith) (output_of j) bit in
-      long_by j bit most.0 most.1
+      let greatest = best ◌≤ℤ◌ int_max greatest_choice (max_of design.arcs) design.arcs order is_order (length order) (omega arith) (output_of j) bit in
+      long_by j bit greatest.0 greatest.1
 
   -- an element that a long path leaves, and the first bit that one leads to
   abbrev FirstBit : ℕ → Type 0
@@ -101,7 +103,7 @@ module _ (design : Design) (order : List ℕ) (is_order : IsOrder design.arcs or
       (least_below (λ n. Long j (arc_at design.arcs n).to) (λ n. long_decided j (arc_at design.arcs n).to) (length design.arcs))
 
   abbrev Answer : Type 0
-  Answer = ((pairs : List Pair) × IsTiming design order pairs) ⊎ ((refused : Refusal) × IsExtremesRefusal design refused)
+  Answer = ((pairs : List Pair) × IsTiming design order pairs × (length pairs ≤ most.pairs)) ⊎ ((refused : Refusal) × IsExtremesRefusal most design refused)
 
   of_first : (j : ℕ) → j < length design.elements → IsLeast FirstBit j → Answer
   of_first j low least = inr (
@@ -121,9 +123,9 @@ module _ (design : Design) (order : List ℕ) (is_order : IsOrder design.arcs or
 
   of_short : ArePathsShort design → (pairs : List Pair) → ArePairs design pairs → Answer
   of_short short pairs are = ⊎_elim
-      (λ (many : MOST_PAIRS < length pairs). inr (refusal.Limit kind.Pairs (min (length pairs) MOST_TOLD), (short, (pairs, are, many, refl))))
-      (λ (few : length pairs ≤ MOST_PAIRS). inl (pairs, record { ordered = is_order; extremes = are; few = few; short = short }))
-      (cases_lt MOST_PAIRS (length pairs))
+      (λ (many : most.pairs < length pairs). inr (refusal.Limit kind.Pairs (min (length pairs) MOST_TOLD), (short, (pairs, are, many, refl))))
+      (λ (few : length pairs ≤ most.pairs). inl (pairs, (record { ordered = is_order; extremes = are; few = omega (arith, few, limits.pairs); short = short }, few)))
+      (cases_lt most.pairs (length pairs))
 
   answer : Answer
   answer = ⊎_elim
@@ -134,4 +136,4 @@ module _ (design : Design) (order : List ℕ) (is_order : IsOrder design.arcs or
       (least_below FirstBit leaves_long (length design.elements))
 
 pub ordered_designs_have_systems_or_refusals_lem : OrderedDesignsHaveSystemsOrRefusals
-ordered_designs_have_systems_or_refusals_lem design order is_order = answer design order is_order
+ordered_designs_have_systems_or_refusals_lem most limits design order is_order = answer most limits design order is_order

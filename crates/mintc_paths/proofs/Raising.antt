@@ -56,7 +56,7 @@ module _ (design : Design) (order : List ℕ) (is_order : IsOrder design.arcs or
   pub row_low : (sums : List ℤ) (k : ℕ) → k < length order → AreCarried design.arcs order k (bit_sums rows sums) → pos 0 ≤ℤ bit_sum sums (arc_at sequence.along.items k).from
   row_low sums k low h = rw (is_sequence.along.each k low) (omega (arith, ints, at_from sums k low, h.low (here k).from))
 
-  pub row_high : (sums : List ℤ) (k : ℕ) → k < length order → AreCarried design.arcs order k (bit_sums rows sums) → bit_sum sums (arc_at sequence.along.items k).from ≤ℤ pos 1000000000000000
+  pub row_high : (sums : List ℤ) (k : ℕ) → k < length order → AreCarried design.arcs order k (bit_sums rows sums) → bit_sum sums (arc_at sequence.along.items k).from ≤ℤ pos 20000000000000000
   row_high sums k low h = rw (is_sequence.along.each k low) (omega (arith, ints, few_arcs design order is_order kept sequence n is_sequence bits k low, h.high (here k).from, at_from sums k low))
 
   pub raised_along : (old new : List ℤ) (k : ℕ) → k < length order → IsRaised (arc_at sequence.along.items k) old new →

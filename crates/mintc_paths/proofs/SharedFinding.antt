@@ -17,7 +17,8 @@ use Rattle.mintc_timing.specs.Paths.{IsPath, input_of, HasExtremes, ComesBefore,
 use Rattle.mintc_paths.specs.declared.found.Found.{Found}
 use Rattle.mintc_paths.specs.declared.rows.Rows.{Rows}
 use Rattle.mintc_paths.specs.Sums.{AreRows}
-use Rattle.mintc_paths.specs.Found.{Precede, ArePairsBefore, HasPairs, IsFoundBefore, AreEnds, end_at}
+use Rattle.mintc_text.specs.declared.limits.TheConstants.{MOST_ELEMENTS}
+use Rattle.mintc_paths.specs.Found.{Precede, ArePairsBefore, HasPairs, IsFoundBefore, AreEnds, end_at, most_count}
 use Rattle.mintc_paths.proofs.SharedClimbing.{IsToEnd, IsToEnd-at, IsToEnd-more, IsToEnd-all}
 
 Precede-more : (from to a b : ℕ) → Precede from to a b → Precede from (to + 1) a b
@@ -87,9 +88,9 @@ ArePairs-from_before design pairs h = record {
   whole = λ j l path from to is. h.whole j l path (inl from) to is;
 }
 
-pub HasPairs-push : (old new : Found) (pairs : List Pair) (pair : Pair) → HasPairs old pairs → new.count ≡ old.count + 1 →
-    (old.count < 200000 → new.pairs.items ≡ old.pairs.items ++ pair ∷ []) → HasPairs new (pairs ++ pair ∷ [])
-HasPairs-push old new pairs pair h count kept = record {
+pub HasPairs-push : (old new : Found) (pairs : List Pair) (pair : Pair) → HasPairs old pairs → new.count ≡ old.count + 1 → new.most ≡ old.most →
+    (old.count < old.most → new.pairs.items ≡ old.pairs.items ++ pair ∷ []) → HasPairs new (pairs ++ pair ∷ [])
+HasPairs-push old new pairs pair h count most kept = record {
   count = omega (arith, length-append pairs (pair ∷ []));
   kept = λ few. let n = length-append pairs (pair ∷ []) in kept (omega arith) ∙ ap (λ xs. xs ++ pair ∷ []) (h.kept (omega arith));
 }
@@ -103,16 +104,16 @@ IsFoundBefore-skip design from to found none h = record {
   few = omega arith;
 }
 
-pub IsFoundBefore-push : (design : Design) (from to : ℕ) (old new : Found) (pair : Pair) → HasExtremes design pair → pair.from ≡ from → pair.to ≡ to → new.count ≡ old.count + 1 →
-    (old.count < 200000 → new.pairs.items ≡ old.pairs.items ++ pair ∷ []) → IsFoundBefore design from to old → IsFoundBefore design from (to + 1) new
-IsFoundBefore-push design from to old new pair extremes is_from is_to count kept h = record {
+pub IsFoundBefore-push : (design : Design) (from to : ℕ) (old new : Found) (pair : Pair) → HasExtremes design pair → pair.from ≡ from → pair.to ≡ to → new.count ≡ old.count + 1 → new.most ≡ old.most →
+    (old.count < old.most → new.pairs.items ≡ old.pairs.items ++ pair ∷ []) → IsFoundBefore design from to old → IsFoundBefore design from (to + 1) new
+IsFoundBefore-push design from to old new pair extremes is_from is_to count most kept h = record {
   pairs = h.pairs ++ pair ∷ [];
   are_pairs = ArePairsBefore-push design from to h.pairs h.are_pairs pair extremes is_from is_to;
-  has_pairs = HasPairs-push old new h.pairs pair h.has_pairs count kept;
+  has_pairs = HasPairs-push old new h.pairs pair h.has_pairs count most kept;
   few = omega (arith, length-append h.pairs (pair ∷ []));
 }
 
-pub IsFoundBefore-next : (design : Design) (from : ℕ) (found : Found) → length design.elements ≤ 2000 → IsFoundBefore design from (length design.elements) found → IsFoundBefore design (from + 1) 0 found
+pub IsFoundBefore-next : (design : Design) (from : ℕ) (found : Found) → length design.elements ≤ MOST_ELEMENTS → IsFoundBefore design from (length design.elements) found → IsFoundBefore design (from + 1) 0 found
 IsFoundBefore-next design from found limit h = record { pairs = h.pairs; are_pairs = ArePairsBefore-next design from h.pairs h.are_pairs; has_pairs = h.has_pairs; few = omega arith }
 
 -- what a call of add_at leaves
@@ -122,25 +123,25 @@ IsAdded from to max min old new = (design : Design) → IsPaired design from to 
 pub IsAdded_none : (from to : ℕ) (x y : Option ℤ) (found : Found) → x ≡ None → IsAdded from to x y found found
 IsAdded_none from to x y found e = λ design paired h. IsFoundBefore-skip design from to found (rw e at paired) h
 
-pub IsAdded_some : {T E : Type 0} (r : Result T E) (from to : ℕ) (x y : Option ℤ) (max min : ℤ) (old new : Found) → x ≡ Some max → y ≡ Some min → OnOk r (new.count ≡ old.count + 1) →
-    OnOk r (old.count < 200000 → new.pairs.items ≡ old.pairs.items ++ pair_of from to min max ∷ []) → OnOk r (IsAdded from to x y old new)
-IsAdded_some (Ok v) from to x y max min old new e f count kept = λ design paired h. IsFoundBefore-push design from to old new (pair_of from to min max) (rw (e, f) at paired) refl refl count kept h
-IsAdded_some (Err v) from to x y max min old new e f count kept = kept
+pub IsAdded_some : {T E : Type 0} (r : Result T E) (from to : ℕ) (x y : Option ℤ) (max min : ℤ) (old new : Found) → x ≡ Some max → y ≡ Some min → OnOk r (new.count ≡ old.count + 1) → new.most ≡ old.most →
+    OnOk r (old.count < old.most → new.pairs.items ≡ old.pairs.items ++ pair_of from to min max ∷ []) → OnOk r (IsAdded from to x y old new)
+IsAdded_some (Ok v) from to x y max min old new e f count most kept = λ design paired h. IsFoundBefore-push design from to old new (pair_of from to min max) (rw (e, f) at paired) refl refl count most kept h
+IsAdded_some (Err v) from to x y max min old new e f count most kept = kept
 
-pub pairs_found : (design : Design) (found : Found) → IsFoundBefore design (length design.elements) 0 found → found.count ≤ 200000 → ArePairs design found.pairs.items
+pub pairs_found : (design : Design) (found : Found) → IsFoundBefore design (length design.elements) 0 found → found.count ≤ found.most → ArePairs design found.pairs.items
 pairs_found design found h few =
     let count = h.has_pairs.count in
     subst (λ ps. ArePairs design ps) (sym (h.has_pairs.kept (omega arith))) (ArePairs-from_before design h.pairs h.are_pairs)
 
-pub few_found : (design : Design) (found : Found) → IsFoundBefore design (length design.elements) 0 found → found.count ≤ 200000 → length found.pairs.items ≤ 200000
-few_found design found h few =
+pub few_found : (most : ℕ) (design : Design) (found : Found) → IsFoundBefore design (length design.elements) 0 found → most ≤ found.most → found.count ≤ most → length found.pairs.items ≤ most
+few_found most design found h within few =
     let count = h.has_pairs.count in
     let same : length found.pairs.items ≡ length h.pairs = ap (λ (ps : List Pair). length ps) (h.has_pairs.kept (omega arith)) in
     omega arith
 
-pub many_found : (design : Design) (found : Found) → IsFoundBefore design (length design.elements) 0 found → 200000 < found.count → found.count ≤ 4000000 →
-    (pairs : List Pair) × ArePairs design pairs × (200000 < length pairs) × (found.count ≡ min (length pairs) 1000000000)
-many_found design found h many few =
+pub many_found : (most : ℕ) (design : Design) (found : Found) → IsFoundBefore design (length design.elements) 0 found → most < found.count → found.count ≤ most_count →
+    (pairs : List Pair) × ArePairs design pairs × (most < length pairs) × (found.count ≡ min (length pairs) 1000000000)
+many_found most design found h many few =
     let count = h.has_pairs.count in
     (h.pairs, ArePairs-from_before design h.pairs h.are_pairs, omega arith, omega arith)
 
@@ -171,7 +172,7 @@ module _ (design : Design) (rows : Rows) (sums : List Sums) (ends : List ℕ) (a
       let before = IsToEnd-at (length design.elements) ends are_ends.ascending are_ends.inside (λ to. IsFoundBefore design from to old) (skip old) number low h in
       IsToEnd-more (length design.elements) ends are_ends.ascending are_ends.inside (λ to. IsFoundBefore design from to new) number low (added design (paired_at (end_at ends number) (are_ends.inside number low)) before)
 
-  pub IsFoundToEnd-next : (found : Found) → length design.elements ≤ 2000 → IsFoundToEnd design from ends (length ends) found → IsFoundBefore design (from + 1) 0 found
+  pub IsFoundToEnd-next : (found : Found) → length design.elements ≤ MOST_ELEMENTS → IsFoundToEnd design from ends (length ends) found → IsFoundBefore design (from + 1) 0 found
   IsFoundToEnd-next found limit h =
       IsFoundBefore-next design from found limit
       (IsToEnd-all (length design.elements) ends are_ends.ascending are_ends.inside (λ to. IsFoundBefore design from to found) (skip found) h)

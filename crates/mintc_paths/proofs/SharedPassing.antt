@@ -59,8 +59,8 @@ carried_none arc sums none = record {
 
 -- The sums in the rows that an arc leaves and enters are small, and a lane with no greatest one leaves no least one.
 pub record IsSmallAt (sums : List Sums) (arc : TimingArc) : Type 0 where
-  pub from : IsBounded 1000000000000000 (sums_at sums arc.from)
-  pub to : IsBounded 1000000000000000 (sums_at sums arc.to)
+  pub from : IsBounded 20000000000000000 (sums_at sums arc.from)
+  pub to : IsBounded 20000000000000000 (sums_at sums arc.to)
   pub alike : IsAlike (sums_at sums arc.from)
 
 module _ (design : Design) (order : List ℕ) (is_order : IsOrder design.arcs order) (kept : IsDesign design) (sequence : ArcSequence) (n : ℕ) (is_sequence : IsSequence n design.arcs order sequence)
@@ -88,7 +88,7 @@ module _ (design : Design) (order : List ℕ) (is_order : IsOrder design.arcs or
   pub max_in : (i : ℕ) → i < length order → IsDelay (arc_at sequence.along.items i).max
   max_in i low = subst (λ (x : TimingArc). IsDelay x.max) (sym (is_sequence.along.each i low)) (in_design i low).max
 
-  pub few_arcs : (i : ℕ) → i < length order → i * 1000000000 ≤ 1000000000000000
+  pub few_arcs : (i : ℕ) → i < length order → i * 1000000000 ≤ 20000000000000000
   few_arcs i low = omega (arith, is_order.count)
 
   module _ (first lanes : ℕ) (few : lanes ≤ 8) (sums : List Sums) (count : length sums ≡ n) where
@@ -99,7 +99,7 @@ module _ (design : Design) (order : List ℕ) (is_order : IsOrder design.arcs or
     pub ends_small : (i : ℕ) → i < length order → AreSums design.arcs order i first lanes (placed rows sums) → IsSmallAt sums (arc_at sequence.along.items i)
     ends_small i low h =
         let small = λ (row : ℕ) (below : row < n).
-        IsBounded-weaker (i * 1000000000) 1000000000000000 (sums_at sums row) (few_arcs i low) (bounded_each design.arcs order i first lanes n sequence.rows is_sequence.rows sums h row below) in
+        IsBounded-weaker (i * 1000000000) 20000000000000000 (sums_at sums row) (few_arcs i low) (bounded_each design.arcs order i first lanes n sequence.rows is_sequence.rows sums h row below) in
         record {
           from = small (arc_at sequence.along.items i).from (row_in i low);
           to = small (arc_at sequence.along.items i).to (row_to_in i low);

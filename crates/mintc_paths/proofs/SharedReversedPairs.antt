@@ -19,6 +19,7 @@ use Rattle.mintc_timing.specs.Paths.{IsPath, input_of, HasExtremes, ComesBefore}
 use Rattle.mintc_timing.proofs.SharedMembers.{Contains-map}
 use Rattle.mintc_paths_sums.specs.Placed.{row_of}
 use Rattle.mintc_paths.specs.declared.found.Found.{Found}
+use Rattle.mintc_text.specs.declared.limits.TheConstants.{MOST_ELEMENTS}
 use Rattle.mintc_paths.specs.Found.{Precede, ArePairsBefore, IsFoundBefore}
 use Rattle.mintc_paths.specs.Sums.{LeadsBack}
 use Rattle.mintc_paths.specs.Reversed.{reversed_design, pair_back, key_of}
@@ -36,9 +37,9 @@ AreApart-permutation xs ys moved h =
     eqb_flips : (x y : ℕ) → eqb x y ≡ eqb y x
     eqb_flips x y = grind arith
 
-module _ (n : ℕ) (few : n ≤ 2000) (elements places : List ℕ) (back : LeadsBack n elements places) (pairs : List Pair)
+module _ (n : ℕ) (few : n ≤ MOST_ELEMENTS) (elements places : List ℕ) (back : LeadsBack n elements places) (pairs : List Pair)
     (inside : All (λ (p : Pair). (p.from < n) × (p.to < n)) pairs) (ascending : AllAdjacentBelow ComesBefore pairs (length pairs)) where
-  key_rises : (p q : Pair) → p.to < 2048 → ComesBefore p q → key_of p < key_of q
+  key_rises : (p q : Pair) → p.to < 32768 → ComesBefore p q → key_of p < key_of q
   key_rises p q low h = grind arith
 
   -- keys rise along the list
@@ -63,14 +64,14 @@ module _ (n : ℕ) (few : n ≤ 2000) (elements places : List ℕ) (back : Leads
       omega (arith, rises i j no_pair less in_j, same_key (get_or pairs i no_pair) (get_or pairs j no_pair) (inside i no_pair (omega arith)).0 (inside j no_pair in_j).0 (sym (key_at i (omega arith)) ∙ e ∙ key_at j in_j))
 
 -- keys that don't fall, of pairs apart, rise
-ascends : (n : ℕ) → n ≤ 2000 → (pairs : List Pair) → All (λ (p : Pair). p.to < n) pairs → AreApart pairs → IsNonDecreasingBy key_of pairs → AllAdjacentBelow ComesBefore pairs (length pairs)
+ascends : (n : ℕ) → n ≤ MOST_ELEMENTS → (pairs : List Pair) → All (λ (p : Pair). p.to < n) pairs → AreApart pairs → IsNonDecreasingBy key_of pairs → AllAdjacentBelow ComesBefore pairs (length pairs)
 ascends n few pairs inside apart sorted k d below =
     let low : k < length pairs = omega arith in
     let ne : key_of (get_or pairs k d) ≢ key_of (get_or pairs (k + 1) d) =
     λ e. apart k (k + 1) 0 (omega arith) (omega (arith, length-map pairs key_of)) (get_or-map key_of pairs k d 0 low ∙ e ∙ sym (get_or-map key_of pairs (k + 1) d 0 below)) in
     comes (get_or pairs k d) (get_or pairs (k + 1) d) (omega (arith, inside k d low)) (omega (arith, inside (k + 1) d below)) (omega (arith, sorted k (k + 1) d (omega arith) below))
   where
-    comes : (p q : Pair) → p.to < 2048 → q.to < 2048 → key_of p < key_of q → ComesBefore p q
+    comes : (p q : Pair) → p.to < 32768 → q.to < 32768 → key_of p < key_of q → ComesBefore p q
     comes p q in_p in_q order = grind arith
 
 -- Each list has an order by keys.
@@ -131,7 +132,7 @@ module _ (design : Design) (kept : IsDesign design) (places elements : List ℕ)
 module _ (design : Design) (kept : IsDesign design) (places elements : List ℕ) (there : LeadsBack (length design.elements) places elements) (back : LeadsBack (length design.elements) elements places)
     (found : Found) (h : IsFoundBefore (reversed_design places design) (length design.elements) 0 found) where
   IsFoundBefore-moved : (pairs : List Pair) → ArePairsBefore design (length design.elements) 0 pairs → length pairs ≡ length h.pairs →
-      (new : Found) → new.count ≡ found.count → (length pairs ≤ 200000 → new.pairs.items ≡ pairs) → IsFoundBefore design (length design.elements) 0 new
+      (new : Found) → new.count ≡ found.count → (length pairs ≤ new.most → new.pairs.items ≡ pairs) → IsFoundBefore design (length design.elements) 0 new
   IsFoundBefore-moved pairs are_pairs same new same_count items = record {
     pairs = pairs;
     are_pairs = are_pairs;
@@ -142,7 +143,7 @@ module _ (design : Design) (kept : IsDesign design) (places elements : List ℕ)
     few = omega arith;
   }
 
-  pub IsFoundBefore-back : found.count ≤ 200000 → (pairs : List Pair) → IsPermutation (map (pair_back elements) found.pairs.items) pairs → IsNonDecreasingBy key_of pairs →
+  pub IsFoundBefore-back : found.count ≤ found.most → (pairs : List Pair) → IsPermutation (map (pair_back elements) found.pairs.items) pairs → IsNonDecreasingBy key_of pairs →
       (new : Found) → new.count ≡ found.count → new.pairs.items ≡ pairs → IsFoundBefore design (length design.elements) 0 new
   IsFoundBefore-back few pairs moved sorted new same_count items =
       let is = h.has_pairs.kept (omega arith) in
@@ -151,7 +152,7 @@ module _ (design : Design) (kept : IsDesign design) (places elements : List ℕ)
       (count_moved design kept places elements there back h.pairs h.are_pairs pairs back_moved sorted) new same_count (λ g. items)
 
   -- where the pairs are more than are kept
-  pub IsFoundBefore-many : 200000 < found.count → IsFoundBefore design (length design.elements) 0 found
+  pub IsFoundBefore-many : found.most < found.count → IsFoundBefore design (length design.elements) 0 found
   IsFoundBefore-many many =
       let back_pairs = ArePairsBefore-back design kept places elements there back h.pairs h.are_pairs in
       IsFoundBefore-moved back_pairs.0 back_pairs.1 back_pairs.2 found refl (λ g. absurd (omega arith))

@@ -1,7 +1,7 @@
 -- Pairs as they are found.
 use Rattle.std.specs.Prelude.{◌≡◌, ◌≢◌, ◌<◌, ◌≤◌, ◌+◌, ◌*◌, ◌⊎◌, ℕ, List, length, slice_index_or, All, Contains}
 use Rattle.std.specs.List.{AllAdjacentBelow}
-use Rattle.mintc_text.specs.declared.limits.TheConstants.{MOST_ELEMENTS, MOST_PAIRS}
+use Rattle.mintc_text.specs.declared.limits.TheConstants.{MOST_ELEMENTS}
 use Rattle.mintc_timing.specs.declared.parts.Pair.{Pair}
 use Rattle.mintc_timing.specs.Design.{Design}
 use Rattle.mintc_timing.specs.Paths.{IsPath, input_of, HasExtremes, ComesBefore}
@@ -23,10 +23,14 @@ pub record ArePairsBefore (design : Design) (from to : ℕ) (pairs : List Pair) 
   pub whole : (j l : ℕ) (path : List ℕ) → Precede from to j l → l < length design.elements →
       IsPath design.arcs j path (input_of l) → (pair : Pair) × Contains pairs pair × (pair.from ≡ j) × (pair.to ≡ l)
 
--- What is found has these pairs, or the number of them alone where they are more than 200,000.
+-- the most pairs that a design may have: each element with each
+abbrev pub most_count : ℕ
+most_count = MOST_ELEMENTS * MOST_ELEMENTS
+
+-- What is found has these pairs, or the number of them alone where they are more than are kept.
 pub record HasPairs (found : Found) (pairs : List Pair) : Type 0 where
   pub count : found.count ≡ length pairs
-  pub kept : length pairs ≤ MOST_PAIRS → found.pairs.items ≡ pairs
+  pub kept : length pairs ≤ found.most → found.pairs.items ≡ pairs
 
 -- What is found are the pairs before elements `from` and `to`.
 pub record IsFoundBefore (design : Design) (from to : ℕ) (found : Found) : Type 0 where

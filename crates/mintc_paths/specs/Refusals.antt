@@ -1,6 +1,7 @@
 -- Where no pairs are given.
 use Rattle.std.specs.Prelude.{◌≡◌, ◌<◌, ℕ, ◌≤ℤ◌, ◌<ℤ◌, List, length, min}
-use Rattle.mintc_text.specs.declared.limits.TheConstants.{MOST_PAIRS, MOST_DELAY, MOST_TOLD}
+use Rattle.mintc_text.specs.declared.limits.TheConstants.{MOST_DELAY, MOST_TOLD}
+use Rattle.mintc_text.specs.declared.limits.Most.{Most}
 use Rattle.mintc_text.specs.declared.refusals.Kind.TheVariants as kind
 use Rattle.mintc_text.specs.declared.refusals.Refusal.{Refusal}
 use Rattle.mintc_text.specs.declared.refusals.Refusal.TheVariants as refusal
@@ -30,14 +31,14 @@ abbrev pub IsPathRange : Design → Refusal → Type 0
 IsPathRange design (refusal.PathRange j bit) = IsFirstLong design j bit
 IsPathRange design _ = ⊥
 
--- No path is long, and so many pairs are more than 200,000; the count is theirs, or 10^9 where they are more.
-abbrev pub AreTooMany : Design → ℕ → Type 0
-AreTooMany design count = ArePathsShort design
-    × ((pairs : List Pair) × ArePairs design pairs × (MOST_PAIRS < length pairs)
+-- No path is long, and so many pairs are more than a run takes; the count is theirs, or 10^9 where they are more.
+abbrev pub AreTooMany : Most → Design → ℕ → Type 0
+AreTooMany most design count = ArePathsShort design
+    × ((pairs : List Pair) × ArePairs design pairs × (most.pairs < length pairs)
     × (count ≡ min (length pairs) MOST_TOLD))
 
 -- PathRange with the first element and bit, or Limit of the pairs.
-abbrev pub IsExtremesRefusal : Design → Refusal → Type 0
-IsExtremesRefusal design (refusal.PathRange j bit) = IsFirstLong design j bit
-IsExtremesRefusal design (refusal.Limit kind.Pairs count) = AreTooMany design count
-IsExtremesRefusal design _ = ⊥
+abbrev pub IsExtremesRefusal : Most → Design → Refusal → Type 0
+IsExtremesRefusal most design (refusal.PathRange j bit) = IsFirstLong design j bit
+IsExtremesRefusal most design (refusal.Limit kind.Pairs count) = AreTooMany most design count
+IsExtremesRefusal most design _ = ⊥

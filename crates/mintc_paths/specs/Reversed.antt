@@ -43,4 +43,4 @@ pair_back elements pair = record { from = pair.to; to = row_of elements pair.fro
 
 -- by what pairs are ordered: the first element, then the second
 abbrev pub key_of : Pair → ℕ
-key_of pair = 2048 * pair.from + pair.to
+key_of pair = 32768 * pair.from + pair.to

@@ -2,7 +2,7 @@
 ghost use Rattle.std.specs.Prelude.{◌≡◌, ◌<◌, ◌≤◌, ◌+◌, ◌*◌, length, map, reverse, IfOk, All};
 ghost use Rattle.std.specs.List.Sorted.{IsPermutation, IsNonDecreasingBy};
 ghost use Rattle.mintc_timing.specs.Order.{IsOrder};
-ghost use Rattle.mintc_paths.specs.Found.{IsFoundBefore};
+ghost use Rattle.mintc_paths.specs.Found.{IsFoundBefore, most_count};
 ghost use Rattle.mintc_paths.specs.Longest.{AreRunsShort};
 ghost use Rattle.mintc_paths.specs.Ordered.{Ordered, ordered};
 ghost use Rattle.mintc_paths.specs.Sums.{AreRows, IsSequence};
@@ -13,7 +13,6 @@ use crate::found::Found;
 use crate::reversed::{element_order, reversed_sequence};
 use crate::rows::{ArcSequence, Rows};
 use mintc_text::OutOfMemory;
-use mintc_text::limits::MOST_PAIRS;
 use mintc_timing::{Flat, Order, Pair};
 use std::alloc::Global;
 
@@ -21,7 +20,7 @@ use std::alloc::Global;
 fn key_of(pair: &Pair) -> u64
     ensures { result ≡ key_of pair.now }
 {
-    2048 * pair.from as u64 + pair.to as u64
+    32768 * pair.from as u64 + pair.to as u64
 }
 
 /// Turns each pair back.
@@ -50,9 +49,10 @@ fn reverse_pairs(pairs: &mut [Pair], places: &Rows)
     pairs.sort_unstable_by_key(|pair: &Pair| key_of(pair));
 }
 
-/// Finds the pairs of the design reversed. As no path is too long there, none is refused.
+/// Finds the pairs of the design reversed, and keeps so many. As no path is too long there, none is refused.
 fn find_reversed(
     alloc: Global,
+    most: usize,
     flat: &Flat,
     order: &Order,
     sequence: &ArcSequence,
@@ -68,11 +68,13 @@ fn find_reversed(
     requires short { AreRunsShort flat.now.arcs }
     ensures found { IfOk result
         (IsFoundBefore (reversed_design places.now.of_bits.items flat.now) (length flat.now.elements) 0) }
+    ensures most { IfOk result (λ found. found.most ≡ most) }
 {
     let elements = flat.element_count();
     let plan = Plan {
         sequence,
         elements,
+        most,
         known_short: true,
     };
     match find_along(alloc, &plan) {
@@ -84,6 +86,7 @@ fn find_reversed(
 /// Finds the pairs from the inputs back. Where they are more than are kept, their number alone counts.
 pub(crate) fn find_backward(
     alloc: Global,
+    most: usize,
     flat: &Flat,
     order: &Order,
     sequence: ArcSequence,
@@ -93,13 +96,14 @@ pub(crate) fn find_backward(
         sequence }
     requires short { AreRunsShort flat.now.arcs }
     ensures found { IfOk result (IsFoundBefore flat.now (length flat.now.elements) 0) }
-    ensures few { IfOk result (λ found. found.count ≤ 4000000) }
+    ensures few { IfOk result (λ found. found.count ≤ most_count) }
+    ensures most { IfOk result (λ found. found.most ≡ most) }
 {
     let elements = flat.element_count();
     let places = element_order(alloc, elements, &sequence.rows)?;
     let sequence = reversed_sequence(alloc, flat, order, sequence, &places)?;
-    let mut found = find_reversed(alloc, flat, order, &sequence, &places)?;
-    if found.count > MOST_PAIRS as u64 {
+    let mut found = find_reversed(alloc, most, flat, order, &sequence, &places)?;
+    if found.count > most as u64 {
         return Ok(found);
     }
     reverse_pairs(&mut found.pairs, &places);

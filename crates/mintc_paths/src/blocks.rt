@@ -4,7 +4,7 @@ ghost use Rattle.std.specs.Bool.{OnTrue};
 ghost use Rattle.mintc_text.specs.Stops.{StopsAt};
 ghost use Rattle.mintc_timing.specs.Order.{IsOrder, ArePathsShort};
 ghost use Rattle.mintc_paths.specs.Worklist.{IsReady};
-ghost use Rattle.mintc_paths.specs.Found.{IsFoundBefore};
+ghost use Rattle.mintc_paths.specs.Found.{IsFoundBefore, most_count};
 ghost use Rattle.mintc_paths.specs.Ordered.{Ordered, ordered};
 ghost use Rattle.mintc_paths.specs.Plans.{IsPlanOf};
 ghost use Rattle.mintc_paths.specs.Sums.{IsSequence, AreMarked};
@@ -32,12 +32,13 @@ pub fn sequence_of(alloc: Global, flat: &Flat, order: &Order) -> Result<ArcSeque
     ArcSequence::new(alloc, flat, order, rows)
 }
 
-/// What all blocks have in common: a sequence, how many elements its design has, and whether it is known that no
-/// path there is too long.
+/// What all blocks have in common: a sequence, how many elements its design has, how many pairs are kept, and whether
+/// it is known that no path there is too long.
 #[derive(Clone, Copy)]
 pub(crate) struct Plan<'a> {
     pub sequence: &'a ArcSequence,
     pub elements: u32,
+    pub most: usize,
     pub known_short: bool,
 }
 
@@ -54,11 +55,12 @@ fn find_each(
     requires marked { AreMarked sums.old reached.old }
     requires ready { IsReady (length plan.now.sequence.now.along.items) awake.old }
     ensures found { IfOk result (IsFoundBefore of.design (length of.design.elements) 0) }
-    ensures few { IfOk result (λ found. found.count ≤ 4000000) }
+    ensures few { IfOk result (λ found. found.count ≤ most_count) }
+    ensures most { IfOk result (λ found. found.most ≡ plan.now.most) }
     ensures short { OnOk result (ArePathsShort of.design) }
     ensures stop { IfErr result (StopsAt (IsPathRange of.design)) }
 {
-    let mut found = Found::new(alloc);
+    let mut found = Found::new(alloc, plan.most);
     let mut first = 0;
     while first < plan.elements {
         let lanes = (plan.elements - first).min(8);
@@ -82,7 +84,8 @@ pub(crate) fn find_along(alloc: Global, plan: &Plan) -> Result<Found, Stop>
     ghost of: { Ordered }
     requires { IsPlanOf (length plan.now.sequence.now.rows.of_bits.items) of plan.now }
     ensures found { IfOk result (IsFoundBefore of.design (length of.design.elements) 0) }
-    ensures few { IfOk result (λ found. found.count ≤ 4000000) }
+    ensures few { IfOk result (λ found. found.count ≤ most_count) }
+    ensures most { IfOk result (λ found. found.most ≡ plan.now.most) }
     ensures short { OnOk result (ArePathsShort of.design) }
     ensures stop { IfErr result (StopsAt (IsPathRange of.design)) }
 {
@@ -93,9 +96,10 @@ pub(crate) fn find_along(alloc: Global, plan: &Plan) -> Result<Found, Stop>
     find_each(alloc, plan, &mut sums, &mut reached, &mut awake)
 }
 
-/// Finds the pairs from the outputs on.
+/// Finds the pairs from the outputs on, and keeps so many of them.
 pub(crate) fn find_forward(
     alloc: Global,
+    most: usize,
     flat: &Flat,
     order: &Order,
     sequence: &ArcSequence,
@@ -108,7 +112,8 @@ pub(crate) fn find_forward(
         sequence.now }
     requires known { OnTrue known_short (ArePathsShort flat.now) }
     ensures found { IfOk result (IsFoundBefore flat.now (length flat.now.elements) 0) }
-    ensures few { IfOk result (λ found. found.count ≤ 4000000) }
+    ensures few { IfOk result (λ found. found.count ≤ most_count) }
+    ensures most { IfOk result (λ found. found.most ≡ most) }
     ensures short { OnOk result (ArePathsShort flat.now) }
     ensures stop { IfErr result (StopsAt (IsPathRange flat.now)) }
 {
@@ -116,6 +121,7 @@ pub(crate) fn find_forward(
     let plan = Plan {
         sequence,
         elements,
+        most,
         known_short,
     };
     find_along(alloc, &plan)

@@ -6,15 +6,16 @@ use crate::filled::Filled;
 use crate::rows::Rows;
 use mintc_paths_sums::{SparseRows, Sums, sum_in};
 use mintc_text::OutOfMemory;
-use mintc_text::limits::MOST_PAIRS;
 use mintc_timing::Pair;
 use std::alloc::Global;
 
-/// The first 200,000 pairs found, and the number of all.
+/// The first pairs found, and the number of all.
 #[derive(Drop)]
 pub(crate) struct Found {
     pub pairs: Vec<Pair>,
     pub count: u64,
+    /// How many pairs are kept: more are only counted.
+    pub most: usize,
     /// The elements whose inputs are reached in the block at hand, in ascending order.
     pub ends: Vec<u32>,
 }
@@ -27,27 +28,30 @@ impl Found {
     ghost use Rattle.mintc_paths.specs.Sums.{AreMarked, AreRows};
     ghost use Rattle.mintc_paths.specs.Reached.{IsPaired, IsPairedLane, AreExtremes};
 
-    /// No pairs so far.
-    pub(crate) fn new(alloc: Global) -> Found
+    /// No pairs so far, of which so many are kept.
+    pub(crate) fn new(alloc: Global, most: usize) -> Found
         ensures pairs { result.pairs.items ≡ [] }
         ensures count { result.count ≡ 0 }
+        ensures most { result.most ≡ most }
     {
         Found {
             pairs: Vec::new(alloc),
             count: 0,
+            most,
             ends: Vec::new(alloc),
         }
     }
 
-    /// Counts a pair, and lists it while fewer are listed than a system may have.
+    /// Counts a pair, and lists it while fewer are listed than are kept.
     pub(crate) fn add(&mut self, pair: Pair) -> Result<(), OutOfMemory>
         requires { self.old.count < 2 ^ 62 }
         ensures count { OnOk result (self.new.count ≡ self.old.count + 1) }
-        ensures pairs { OnOk result (self.old.count < MOST_PAIRS →
+        ensures pairs { OnOk result (self.old.count < self.old.most →
             self.new.pairs.items ≡ self.old.pairs.items ++ pair ∷ []) }
+        ensures most { self.new.most ≡ self.old.most }
         ensures ends { self.new.ends.items ≡ self.old.ends.items }
     {
-        if self.count < MOST_PAIRS as u64 {
+        if self.count < self.most as u64 {
             self.pairs.push(pair)?;
         }
         self.count += 1;
@@ -62,6 +66,7 @@ impl Found {
         ensures found { OnOk result ((design : Design) →
             IsPaired design from to (lane_at sums.now.greatest lane) (lane_at sums.now.least lane)
             → IsFoundBefore design from to self.old → IsFoundBefore design from (to + 1) self.new) }
+        ensures most { self.new.most ≡ self.old.most }
         ensures ends { self.new.ends.items ≡ self.old.ends.items }
     {
         let Some(max) = sum_in(&sums.greatest, lane) else {
@@ -91,6 +96,7 @@ impl Found {
         requires paired { IsPairedLane design (placed rows.now.of_bits.items sums.now) element lane }
         requires found { IsFoundBefore design element 0 self.old }
         ensures found { OnOk result (IsFoundBefore design (element + 1) 0 self.new) }
+        ensures most { self.new.most ≡ self.old.most }
         ensures ends { self.new.ends.items ≡ self.old.ends.items }
     {
         for number in 0..self.ends.len() {
@@ -108,6 +114,7 @@ impl Found {
         requires rows { AreRows (length reached.now) rows.now }
         ensures count { self.new.count ≡ self.old.count }
         ensures pairs { self.new.pairs.items ≡ self.old.pairs.items }
+        ensures most { self.new.most ≡ self.old.most }
         ensures ends { OnOk result ((sums : List Sums) → AreMarked sums reached.now →
             AreEnds rows.now.of_bits.items sums elements self.new.ends.items) }
     {
@@ -131,7 +138,8 @@ impl Found {
         requires extremes { AreExtremes design block.now.first block.now.lanes
             (placed block.now.rows.now.of_bits.items block.now.sums.now) }
         requires found { IsFoundBefore design block.now.first 0 self.old }
-        ensures { OnOk result (IsFoundBefore design (block.now.first + block.now.lanes) 0 self.new) }
+        ensures found { OnOk result (IsFoundBefore design (block.now.first + block.now.lanes) 0 self.new) }
+        ensures most { self.new.most ≡ self.old.most }
     {
         self.list_ends(block.reached, block.rows, elements)?;
         for lane in 0..block.lanes {

@@ -44,8 +44,7 @@ pub use laws::{
     accepted_designs_have_systems, ordered_designs_have_systems_or_refusals, pairs_exist,
 };
 pub use longest::bound_is_within_limit;
-use mintc_text::limits::MOST_PAIRS;
-use mintc_text::{Kind, Numbers, OutOfMemory, Refusal, Stop};
+use mintc_text::{Kind, Limits, Numbers, OutOfMemory, Refusal, Stop};
 use mintc_timing::{Flat, Order, Pair, System};
 pub use reversed::{element_order, reversed_sequence};
 use route::best_path;
@@ -59,16 +58,23 @@ pub use worklist::Worklist;
 /// All pairs of the design, in ascending order of their elements, with the least and the greatest sum of the listed
 /// paths between them, in femtoseconds. The refusal is PathRange with the first element that a listed path with a
 /// sum above 10^9 femtoseconds leaves, and the first bit that such a path from it leads to. It is Limit of the pairs
-/// where no path is so long and they are more than 200,000.
-pub fn extremes(alloc: Global, flat: &Flat, order: &Order) -> Result<Vec<Pair>, Stop>
+/// where no path is so long and they are more than the run takes.
+pub fn extremes(
+    alloc: Global,
+    limits: &Limits,
+    flat: &Flat,
+    order: &Order,
+) -> Result<Vec<Pair>, Stop>
     requires { IsOrder flat.now.arcs order.now }
     ensures pairs { IfOk result (λ pairs. ArePairs flat.now pairs.items) }
-    ensures few { IfOk result (λ pairs. length pairs.items ≤ MOST_PAIRS) }
+    ensures few { IfOk result (λ pairs. length pairs.items ≤ limits.now.pairs) }
     ensures short { OnOk result (ArePathsShort flat.now) }
-    ensures stop { IfErr result (StopsAt (IsExtremesRefusal flat.now)) }
+    ensures stop { IfErr result (StopsAt (IsExtremesRefusal limits.now flat.now)) }
 {
-    let Found { pairs, count, .. } = find(alloc, flat, order)?;
-    if count > MOST_PAIRS as u64 {
+    let most = limits.most();
+    let Found { pairs, count, .. } = find(alloc, most.pairs, flat, order)?;
+    let limit = most.pairs as u64;
+    if count > limit {
         return Err(Stop::Refused(Refusal::Limit {
             kind: Kind::Pairs,
             count,

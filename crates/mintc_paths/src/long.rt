@@ -66,7 +66,7 @@ fn first_bit(sums: &SparseRows, rows: &Rows, lane: usize) -> Option<usize>
 pub(crate) fn refuse_long(block: &Filled, known_short: bool) -> Result<(), Refusal>
     ghost design: { Design }
     requires few { length design.elements ≤ MOST_ELEMENTS }
-    requires some { length block.now.sums.now ≤ 2 ^ 20 }
+    requires some { length block.now.sums.now ≤ 2 ^ 24 }
     requires elements { block.now.first + block.now.lanes ≤ length design.elements }
     requires extremes { AreExtremes design block.now.first block.now.lanes
         (placed block.now.rows.now.of_bits.items block.now.sums.now) }

@@ -5,6 +5,7 @@ ghost use Rattle.mintc_timing.specs.Limits.{IsDelay};
 ghost use Rattle.mintc_timing.specs.Order.{IsOrder, ArePathsShort};
 ghost use Rattle.mintc_paths.specs.Longest.{bit_sum, bit_sums, AreCarried, AreRunsShort};
 ghost use Rattle.mintc_paths.specs.Sums.{IsSequence};
+ghost use Rattle.mintc_paths_sums.specs.Sums.{most_sum};
 
 use crate::rows::ArcSequence;
 use mintc_text::limits::MOST_DELAY;
@@ -16,7 +17,7 @@ fn raise(sums: &mut [i64], arc: TimingArc)
     requires from { arc.from < length sums.old }
     requires to { arc.to < length sums.old }
     requires low { pos 0 ≤ℤ bit_sum sums.old arc.from }
-    requires high { bit_sum sums.old arc.from ≤ℤ pos 1000000000000000 }
+    requires high { bit_sum sums.old arc.from ≤ℤ pos most_sum }
     requires delay { IsDelay arc.max }
     ensures others { (row : ℕ) → row ≢ arc.to → bit_sum sums.new row ≡ bit_sum sums.old row }
     ensures kept { bit_sum sums.old arc.to ≤ℤ bit_sum sums.new arc.to }

@@ -68,7 +68,7 @@ fn rows_after(
     places: &Rows,
 ) -> Result<Vec<u32>, AllocError>
     requires few { elements ≤ MOST_ELEMENTS }
-    requires some { length before.now ≤ 2 ^ 20 }
+    requires some { length before.now ≤ 2 ^ 24 }
     requires all { 2 * elements ≤ length before.now }
     requires places { AreRows elements places.now }
     ensures count { IfOk result (λ rows. length rows.items ≡ length before.now) }
@@ -103,7 +103,7 @@ fn reversed_rows(
     places: &Rows,
 ) -> Result<Rows, AllocError>
     requires few { elements ≤ MOST_ELEMENTS }
-    requires some { length rows.of_bits.items ≤ 2 ^ 20 }
+    requires some { length rows.of_bits.items ≤ 2 ^ 24 }
     requires all { 2 * elements ≤ length rows.of_bits.items }
     requires rows { AreRows (length rows.of_bits.items) rows }
     requires places { AreRows elements places.now }

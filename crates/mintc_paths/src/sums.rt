@@ -4,7 +4,7 @@ ghost use Rattle.std.specs.Int.{int_max, int_min};
 ghost use Rattle.mintc_lanes.specs.Lanes.{AreJoined};
 ghost use Rattle.mintc_timing.specs.Limits.{IsDelay};
 ghost use Rattle.mintc_timing.specs.declared.parts.TimingArc.{TimingArc};
-ghost use Rattle.mintc_paths_sums.specs.Sums.{sums_at, IsBounded, IsAlike};
+ghost use Rattle.mintc_paths_sums.specs.Sums.{sums_at, IsBounded, IsAlike, most_sum};
 ghost use Rattle.mintc_paths_sums.specs.Placed.{placed};
 ghost use Rattle.mintc_paths.specs.Worklist.{IsReady, IsAwake};
 ghost use Rattle.mintc_paths.specs.Ordered.{Ordered, IsSequenceOf};
@@ -73,8 +73,8 @@ fn carry(
     requires apart { arc.from ≢ arc.to }
     requires min { IsDelay arc.min }
     requires max { IsDelay arc.max }
-    requires from_bounded { IsBounded 1000000000000000 (sums_at sums.old arc.from) }
-    requires to_bounded { IsBounded 1000000000000000 (sums_at sums.old arc.to) }
+    requires from_bounded { IsBounded most_sum (sums_at sums.old arc.from) }
+    requires to_bounded { IsBounded most_sum (sums_at sums.old arc.to) }
     requires alike { IsAlike (sums_at sums.old arc.from) }
     requires marked { AreMarked sums.old reached.old }
     requires leaving { AreLeaving sequence.now.along.items (length sums.old) sequence.now.leaving }

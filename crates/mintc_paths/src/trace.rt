@@ -4,7 +4,7 @@ ghost use Rattle.mintc_graph.specs.Rings.{total};
 ghost use Rattle.mintc_timing.specs.Limits.{IsDelay};
 ghost use Rattle.mintc_timing.specs.Order.{IsOrder};
 ghost use Rattle.mintc_timing.specs.Paths.{Leads};
-ghost use Rattle.mintc_paths_sums.specs.Sums.{sums_at, IsBounded};
+ghost use Rattle.mintc_paths_sums.specs.Sums.{sums_at, IsBounded, most_sum};
 ghost use Rattle.mintc_paths.specs.Trace.{sum_of, delay_of, weight_of, AreBestSums, IsThrough};
 
 use mintc_paths_sums::{SparseRows, Sums, sum_in};
@@ -45,7 +45,7 @@ fn is_last(extreme: Extreme, sums: &SparseRows, arc: &TimingArc, bit: u32) -> bo
     requires to { arc.now.to < length sums.now }
     requires min { IsDelay arc.now.min }
     requires max { IsDelay arc.now.max }
-    requires bounded { IsBounded 1000000000000000 (sums_at sums.now arc.now.from) }
+    requires bounded { IsBounded most_sum (sums_at sums.now arc.now.from) }
     ensures { IsTrue result ↔ ((arc.now.to ≡ bit) × IsThrough extreme sums.now arc.now) }
 {
     if arc.to != bit {
@@ -73,7 +73,7 @@ pub(crate) fn trace(
     requires bits { length sums.now ≡ 2 * length flat.now.elements + length flat.now.inner }
     requires end { end < length sums.now }
     requires order { IsOrder flat.now.arcs order.now }
-    requires bounded { (bit : ℕ) → bit < length sums.now → IsBounded 1000000000000000 (sums_at sums.now bit) }
+    requires bounded { (bit : ℕ) → bit < length sums.now → IsBounded most_sum (sums_at sums.now bit) }
     ensures { IfOk result (λ path. (from : ℕ) (best : ℤ) → AreBestSums extreme flat.now.arcs order.now from sums.now
         → sum_of extreme (sums_at sums.now from) ≡ Some (pos 0) → sum_of extreme (sums_at sums.now end) ≡ Some best
         → Leads flat.now.arcs from path.items end × (total (weight_of extreme flat.now.arcs) path.items ≡ best)) }

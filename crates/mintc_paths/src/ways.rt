@@ -2,7 +2,7 @@
 ghost use Rattle.std.specs.Prelude.{◌≡◌, ◌≤◌, length, IfOk, IfErr, OnOk};
 ghost use Rattle.mintc_text.specs.Stops.{StopsAt};
 ghost use Rattle.mintc_timing.specs.Order.{IsOrder, ArePathsShort};
-ghost use Rattle.mintc_paths.specs.Found.{IsFoundBefore};
+ghost use Rattle.mintc_paths.specs.Found.{IsFoundBefore, most_count};
 ghost use Rattle.mintc_paths.specs.Refusals.{IsPathRange};
 
 use crate::back::find_backward;
@@ -35,11 +35,13 @@ pub fn is_backward_cheaper(alloc: Global, flat: &Flat) -> Result<bool, AllocErro
     Ok(count_marked(&entered) < count_marked(&left) / 2)
 }
 
-/// Finds the design's pairs. Where no path can be too long and few inputs are entered, sums are carried from there.
-pub(crate) fn find(alloc: Global, flat: &Flat, order: &Order) -> Result<Found, Stop>
+/// Finds the design's pairs, and keeps so many of them. Where no path can be too long and few inputs are entered, sums
+/// are carried from there.
+pub(crate) fn find(alloc: Global, most: usize, flat: &Flat, order: &Order) -> Result<Found, Stop>
     requires { IsOrder flat.now.arcs order.now }
     ensures found { IfOk result (IsFoundBefore flat.now (length flat.now.elements) 0) }
-    ensures few { IfOk result (λ found. found.count ≤ 4000000) }
+    ensures few { IfOk result (λ found. found.count ≤ most_count) }
+    ensures most { IfOk result (λ found. found.most ≡ most) }
     ensures short { OnOk result (ArePathsShort flat.now) }
     ensures stop { IfErr result (StopsAt (IsPathRange flat.now)) }
 {
@@ -47,7 +49,7 @@ pub(crate) fn find(alloc: Global, flat: &Flat, order: &Order) -> Result<Found, S
     let known_short = runs_are_within_limit(alloc, flat, order, &sequence)?;
     let few = is_backward_cheaper(alloc, flat)?;
     if !known_short || !few {
-        return find_forward(alloc, flat, order, &sequence, known_short);
+        return find_forward(alloc, most, flat, order, &sequence, known_short);
     }
-    Ok(find_backward(alloc, flat, order, sequence)?)
+    Ok(find_backward(alloc, most, flat, order, sequence)?)
 }

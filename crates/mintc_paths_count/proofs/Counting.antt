@@ -1,5 +1,6 @@
 -- Pairs that are counted one after another.
 use Rattle.std.proofs.Common.{◌≡◌, ◌≢◌, ◌<◌, ◌≤◌, ◌+◌, ◌*◌, ℕ, List, [], ◌∷◌, ◌++◌, length, length-append, arith, ap, ◌∙◌, sym, subst, ⊎_elim}
+use Rattle.mintc_text.specs.declared.limits.TheConstants.{MOST_ELEMENTS}
 use Rattle.mintc_timing.specs.declared.parts.Pair.{Pair}
 use Rattle.mintc_timing.specs.Design.{Design}
 use Rattle.mintc_timing.specs.Limits.{IsDesign}
@@ -67,7 +68,7 @@ module _ (design : Design) (order : List ℕ) (is_order : IsOrder design.arcs or
         whole = λ path is. same ∙ mark.whole (path, all_among design.arcs order is_order (output_of from) path (input_of to) is.1, is.1);
       }
 
-pub IsCountBefore-next : (design : Design) (from count : ℕ) → length design.elements ≤ 2000 → IsCountBefore design from (length design.elements) count → IsCountBefore design (from + 1) 0 count
+pub IsCountBefore-next : (design : Design) (from count : ℕ) → length design.elements ≤ MOST_ELEMENTS → IsCountBefore design from (length design.elements) count → IsCountBefore design (from + 1) 0 count
 IsCountBefore-next design from count limit h = record { pairs = h.pairs; are_pairs = ArePairsBefore-next design from h.pairs h.are_pairs; is_count = h.is_count; few = omega arith }
 
 -- the pairs of the design reversed are as many as the design's

@@ -1,5 +1,6 @@
 -- Pairs that are counted from one listed element to the next.
 use Rattle.std.proofs.Common.{◌≡◌, ◌≢◌, ◌<◌, ◌≤◌, ◌+◌, ℕ, List, length, arith, subst}
+use Rattle.mintc_text.specs.declared.limits.TheConstants.{MOST_ELEMENTS}
 use Rattle.mintc_timing.specs.Design.{Design}
 use Rattle.mintc_paths_count.specs.declared.marks.Marks.{Marks}
 use Rattle.mintc_paths_count.specs.declared.marks.TheConstants.{NO_MARKS}
@@ -30,7 +31,7 @@ module _ (design : Design) (from lane : ℕ) (low : lane < 256) (ends : List Mar
       IsToEnd-more (length design.elements) listed are_listed.ascending are_listed.inside (λ k. IsCountBefore design from k (count + mark_in (marks_at ends to) lane)) number inside
       (IsCountBefore-more design from to count here (marks_at ends to) lane (are_ends to (are_listed.inside number inside)))
 
-  pub IsCountToEnd-next : (count : ℕ) → length design.elements ≤ 2000 → IsCountToEnd design from listed (length listed) count → IsCountBefore design (from + 1) 0 count
+  pub IsCountToEnd-next : (count : ℕ) → length design.elements ≤ MOST_ELEMENTS → IsCountToEnd design from listed (length listed) count → IsCountBefore design (from + 1) 0 count
   IsCountToEnd-next count limit h =
       IsCountBefore-next design from count limit
       (IsToEnd-all (length design.elements) listed are_listed.ascending are_listed.inside (λ k. IsCountBefore design from k count) (skip count) h)

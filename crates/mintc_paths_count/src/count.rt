@@ -7,6 +7,7 @@ ghost use Rattle.mintc_timing.specs.Order.{IsOrder, ArePathsShort};
 ghost use Rattle.mintc_paths.specs.Worklist.{IsReady};
 ghost use Rattle.mintc_paths_count.specs.Count.{AreEndsOf, AreListed, IsCountBefore, IsPairCount};
 ghost use Rattle.mintc_paths_count.specs.Marks.{marks_at, AreMarksReached};
+ghost use Rattle.mintc_paths.specs.Found.{most_count};
 ghost use Rattle.mintc_paths.specs.Ordered.{Ordered, IsSequenceOf, ordered};
 ghost use Rattle.mintc_paths.specs.Refusals.{IsExtremesRefusal};
 ghost use Rattle.mintc_paths.specs.Sums.{IsSequence};
@@ -16,8 +17,7 @@ use crate::marks::{Marks, NO_MARKS, gather, list_reached, mark_all, mark_of};
 use mintc_paths::{
     ArcSequence, Worklist, bound_is_within_limit, extremes, is_backward_cheaper, sequence_of,
 };
-use mintc_text::limits::MOST_PAIRS;
-use mintc_text::{Kind, Refusal, Stop};
+use mintc_text::{Kind, Limits, Refusal, Stop};
 use mintc_timing::{Flat, Order};
 use std::alloc::{AllocError, Global};
 
@@ -130,7 +130,7 @@ fn count_all(
     requires sequence { IsSequence (2 * length flat.now.elements + length flat.now.inner) flat.now.arcs order.now
         sequence }
     ensures count { IfOk result (IsCountBefore flat.now (length flat.now.elements) 0) }
-    ensures few { IfOk result (λ count. count ≤ 4000000) }
+    ensures few { IfOk result (λ count. count ≤ most_count) }
 {
     if !flat.inner().items().is_empty() && is_backward_cheaper(alloc, flat)? {
         return count_back(alloc, flat, order, sequence);
@@ -139,21 +139,23 @@ fn count_all(
 }
 
 /// The number of the design's pairs, without a list of them. The refusals are those of `extremes`.
-pub fn count_pairs(alloc: Global, flat: &Flat, order: &Order) -> Result<u64, Stop>
+pub fn count_pairs(alloc: Global, limits: &Limits, flat: &Flat, order: &Order) -> Result<u64, Stop>
     requires { IsOrder flat.now.arcs order.now }
     ensures count { IfOk result (IsPairCount flat.now) }
-    ensures few { IfOk result (λ count. count ≤ MOST_PAIRS) }
+    ensures few { IfOk result (λ count. count ≤ limits.now.pairs) }
     ensures short { OnOk result (ArePathsShort flat.now) }
-    ensures stop { IfErr result (StopsAt (IsExtremesRefusal flat.now)) }
+    ensures stop { IfErr result (StopsAt (IsExtremesRefusal limits.now flat.now)) }
 {
     let sequence = sequence_of(alloc, flat, order)?;
     let known_short = bound_is_within_limit(alloc, flat, order, &sequence)?;
     if !known_short {
-        let pairs = extremes(alloc, flat, order)?;
+        let pairs = extremes(alloc, limits, flat, order)?;
         return Ok(pairs.len() as u64);
     }
     let count = count_all(alloc, flat, order, sequence)?;
-    if count > MOST_PAIRS as u64 {
+    let most = limits.most();
+    let limit = most.pairs as u64;
+    if count > limit {
         return Err(Stop::Refused(Refusal::Limit {
             kind: Kind::Pairs,
             count,

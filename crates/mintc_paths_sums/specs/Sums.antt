@@ -16,6 +16,10 @@ pub record IsBounded (most : ℕ) (sums : Sums) : Type 0 where
   pub greatest : AreWithin most sums.greatest
   pub least : AreWithin most sums.least
 
+-- the greatest sum on the way: 2^24 arcs and one more, each of at most 10^9 femtoseconds
+abbrev pub most_sum : ℕ
+most_sum = 20000000000000000
+
 -- A lane with no greatest sum has no least one.
 abbrev pub IsAlike : Sums → Type 0
 IsAlike sums = (lane : ℕ) → lane < 8 → lane_at sums.greatest lane ≡ None → lane_at sums.least lane ≡ None

@@ -4,7 +4,7 @@ ghost use Rattle.std.specs.Int.{int_max, int_min};
 ghost use Rattle.mintc_lanes.specs.Lanes.{lane_at, AreJoined};
 ghost use Rattle.mintc_timing.specs.Limits.{IsDelay};
 ghost use Rattle.mintc_paths_sums.specs.SparseRows.{places_of, place_at, AreNumbered};
-ghost use Rattle.mintc_paths_sums.specs.Sums.{sums_at, IsBounded};
+ghost use Rattle.mintc_paths_sums.specs.Sums.{sums_at, IsBounded, most_sum};
 ghost use Rattle.mintc_paths_sums.specs.Placed.{placed};
 
 use crate::sums::{NO_SUMS, Sums};
@@ -18,7 +18,7 @@ use std::marker::Model;
 pub struct SparseRows {
     /// For each row a number. By how much it is above the base is the place of the row's sums, 0 where there are none.
     numbers: Vec<u32>,
-    /// It is raised where all sums are taken away. Sums that are held for 250 blocks of 2^20 rows raise it to 2^28.
+    /// It is raised where all sums are taken away, and begins anew past 2^31. A block has less than 2^24 rows.
     base: u32,
     /// The sums that are held. Those at place 0 are none.
     sums: Vec<Sums>,
@@ -96,6 +96,13 @@ fn hold(
     give(numbers, base, sums, row)
 }
 
+/// Takes the numbers of all rows back.
+fn take_back(numbers: &mut [u32])
+    ensures { numbers.new ≡ replicate (length numbers.old) 0 }
+{
+    numbers.fill(0);
+}
+
 /// Begins a lane: the empty path leads from a bit to itself.
 fn begin_lane(sums: &mut Sums, lane: usize)
     requires lane { lane < 8 }
@@ -112,8 +119,8 @@ fn begin_lane(sums: &mut Sums, lane: usize)
 fn join_rows(sums: &mut Sums, others: &Sums, arc: TimingArc)
     requires min { IsDelay arc.min }
     requires max { IsDelay arc.max }
-    requires bounded { IsBounded 1000000000000000 sums.old }
-    requires others_bounded { IsBounded 1000000000000000 others.now }
+    requires bounded { IsBounded most_sum sums.old }
+    requires others_bounded { IsBounded most_sum others.now }
     ensures greatest { AreJoined int_max sums.old.greatest others.now.greatest arc.max sums.new.greatest }
     ensures least { AreJoined int_min sums.old.least others.now.least arc.min sums.new.least }
     ensures bounded { (most : ℕ) → IsBounded most others.now → IsBounded most sums.old →
@@ -127,7 +134,7 @@ fn join_rows(sums: &mut Sums, others: &Sums, arc: TimingArc)
 fn led_on(others: &Sums, arc: TimingArc) -> Sums
     requires min { IsDelay arc.min }
     requires max { IsDelay arc.max }
-    requires others_bounded { IsBounded 1000000000000000 others.now }
+    requires others_bounded { IsBounded most_sum others.now }
     ensures greatest { AreJoined int_max NO_SUMS.greatest others.now.greatest arc.max result.greatest }
     ensures least { AreJoined int_min NO_SUMS.least others.now.least arc.min result.least }
     ensures bounded { (most : ℕ) → IsBounded most others.now → IsBounded (most + 1000000000) result }
@@ -173,7 +180,29 @@ impl SparseRows {
         ensures count { length self.new ≡ length self.old }
         ensures none { (row : ℕ) → row < length self.new → sums_at self.new row ≡ NO_SUMS }
     {
+        if self.base < 1 << 31 {
+            self.raise();
+        } else {
+            self.begin_anew();
+        }
+    }
+
+    /// Takes all sums away, so that no row has a place: the base is raised.
+    fn raise(&mut self)
+        ensures count { length self.new ≡ length self.old }
+        ensures none { (row : ℕ) → row < length self.new → sums_at self.new row ≡ NO_SUMS }
+    {
         self.base += (self.sums.len() - 1) as u32;
+        self.sums.truncate(1);
+    }
+
+    /// Takes all sums away, and the numbers of all rows.
+    fn begin_anew(&mut self)
+        ensures count { length self.new ≡ length self.old }
+        ensures none { (row : ℕ) → row < length self.new → sums_at self.new row ≡ NO_SUMS }
+    {
+        take_back(&mut self.numbers);
+        self.base = 0;
         self.sums.truncate(1);
     }
 
@@ -200,8 +229,8 @@ impl SparseRows {
         requires to { arc.to < length self.old }
         requires min { IsDelay arc.min }
         requires max { IsDelay arc.max }
-        requires from_bounded { IsBounded 1000000000000000 (sums_at self.old arc.from) }
-        requires to_bounded { IsBounded 1000000000000000 (sums_at self.old arc.to) }
+        requires from_bounded { IsBounded most_sum (sums_at self.old arc.from) }
+        requires to_bounded { IsBounded most_sum (sums_at self.old arc.to) }
         ensures count { length self.new ≡ length self.old }
         ensures others { (row : ℕ) → row ≢ arc.to → sums_at self.new row ≡ sums_at self.old row }
         ensures greatest { OnOk result

@@ -7,19 +7,19 @@ use Rattle.mintc_constraints.specs.Ordinary.{Constraints, IsOrdinary}
 use Rattle.mintc_constraints.specs.Rooms.{Space}
 use Rattle.mintc_ratio.specs.declared.sums.Sums.{Sums}
 use Rattle.mintc_ratio.specs.Chains.{NamesChain, links_at}
-use Rattle.mintc_ratio.specs.Climbing.{IsHeld, IsClimbing, top_of}
+use Rattle.mintc_ratio.specs.Climbing.{IsHeld, IsClimbing, most_halvings, top_of}
 use Rattle.mintc_ratio.specs.Greatest.{AreGreatest}
 use Rattle.mintc_ratio.specs.Searched.{IsCycle, IsLeast}
 use Rattle.mintc_ratio.specs.Tested.{NoneForbids}
 use Rattle.mintc_ratio.proofs.ClimbLaws.{low_inside, high_top}
-use Rattle.mintc_ratio.proofs.GridLaws.{top_small}
+use Rattle.mintc_ratio.proofs.GridLaws.{all_tests, top_halved}
 
--- The search begins with 65 halvings and one test left.
+-- The search begins with all halvings and one test left.
 pub climbing-begun : (list : Constraints) → IsOrdinary list → (start begun : ℕ) (room : Space) (sums : Sums) (now : ℕ) → IsHeld list room sums → begun ≡ min start (2 ^ 64 - 1) → start ≤ now → now ≤ start + list.nodes + 1 →
-    IsClimbing list start begun room sums (top_of list.nodes) 65 now
+    IsClimbing list start begun room sums (top_of list.nodes) (most_halvings list.nodes) now
 climbing-begun list ordinary start begun room sums now is said later few =
     let high = high_top list ordinary in
-    let small = top_small list.nodes ordinary.nodes.1 in
+    let small = top_halved list.nodes ordinary.nodes.1 in
     record {
       is_held = is;
       is_high = high;
@@ -27,7 +27,7 @@ climbing-begun list ordinary start begun room sums now is said later few =
       said = said;
       later = later;
       near = λ low floor. let inside = low_inside list room sums (top_of list.nodes) low is high floor in let from = inside.0 in omega (arith, ints);
-      few = omega arith;
+      few = all_tests list.nodes start now few;
     }
 
 -- no number above 1 divides 1
@@ -49,10 +49,11 @@ rest_cycle = record {
 }
 
 -- The least cycle time is 0 where no chain forbids it.
-pub least_rest : (list : Constraints) (at : Ratio) (old new : Space) → at ≡ over (pos 0) (pos 1) → AreGreatest list at old.values → NoneForbids list.links at → new.values ≡ old.values →
+pub least_rest : (list : Constraints) (at : Ratio) (old new : Space) → 1 ≤ list.nodes → at ≡ over (pos 0) (pos 1) → AreGreatest list at old.values → NoneForbids list.links at → new.values ≡ old.values →
     NamesChain list.links new.chain → delay_of (links_at list.links new.chain) ≡ pos 0 → cycles_of (links_at list.links new.chain) ≡ pos 1 → IsLeast list at new
-least_rest list at old new is greatest none values chain delay cycles = record {
+least_rest list at old new some is greatest none values chain delay cycles = record {
   cycle_is = rw is rest_cycle;
+  small = rw is (omega (arith, ints), omega (arith, ints));
   none_forbids = none;
   values = rw values greatest;
   chain = chain;

@@ -1,10 +1,10 @@
 -- A chain's delay over its cycles in lowest terms.
-use Rattle.std.proofs.Common.{◌≡◌, ◌≤◌, ℕ, ℤ, pos, negsuc, ◌*ℤ◌, ◌≤ℤ◌, arith}
+use Rattle.std.proofs.Common.{◌≡◌, ◌≤◌, ◌*◌, ℕ, ℤ, pos, negsuc, ◌*ℤ◌, ◌≤ℤ◌, arith}
 use Rattle.std.proofs.lemmas.Int.{ints}
 use Rattle.std.specs.Int.RustNames.{unsigned_abs}
 use Rattle.mintc_fraction.specs.Ratio.{Ratio, over, IsEqual, IsFraction, IsLowest, IsWithin}
 use Rattle.mintc_timing.proofs.SharedProducts.{times-mono_positive, times-cancel_positive}
-use Rattle.mintc_ratio.specs.Searched.{IsCycle}
+use Rattle.mintc_ratio.specs.Searched.{IsCycle, IsOfNodes}
 
 -- the absolute value of a number that isn't negative
 pub abs_small : (x : ℤ) (n : ℕ) → pos 0 ≤ℤ x → x ≤ℤ pos n → unsigned_abs x ≤ n
@@ -22,12 +22,18 @@ not_negative a delay cycles p q low same =
     let product : (pos 0 *ℤ cycles) ≤ℤ (a.num *ℤ cycles) = rw same (omega (arith, ints)) in
     times-cancel_positive (pos 0) a.num cycles q product
 
+-- the ratio of a chain that enters none of so many nodes twice
+pub IsOfNodes-reduced : (a : Ratio) (delay : ℤ) (cycles nodes : ℕ) → cycles ≤ nodes → pos 0 ≤ℤ delay → delay ≤ℤ pos (nodes * 2000000000) → ((n d : ℕ) → IsWithin n d (over delay (pos cycles)) → IsWithin n d a) → IsOfNodes nodes a
+IsOfNodes-reduced a delay cycles nodes few low high bounds =
+    let within = bounds (nodes * 2000000000) nodes (record { num = abs_small delay (nodes * 2000000000) low high; den = omega (arith, ints) }) in
+    (small_abs a.num (nodes * 2000000000) within.num, within.den)
+
 -- the ratio of a chain, in lowest terms
-pub IsCycle-reduced : (a : Ratio) (delay : ℤ) (cycles : ℕ) → 1 ≤ cycles → cycles ≤ 2017 → pos 0 ≤ℤ delay → delay ≤ℤ pos 4034000000000 →
+pub IsCycle-reduced : (a : Ratio) (delay : ℤ) (cycles : ℕ) → 1 ≤ cycles → cycles ≤ 20017 → pos 0 ≤ℤ delay → delay ≤ℤ pos 40034000000000 →
     IsEqual a (over delay (pos cycles)) → IsLowest a → IsFraction a → ((n d : ℕ) → IsWithin n d (over delay (pos cycles)) → IsWithin n d a) → IsCycle a
 IsCycle-reduced a delay cycles some few low high same lowest positive bounds =
-    let within = bounds 4034000000000 2017 (record { num = abs_small delay 4034000000000 low high; den = omega (arith, ints) }) in
-    let num = small_abs a.num 4034000000000 within.num in
+    let within = bounds 40034000000000 20017 (record { num = abs_small delay 40034000000000 low high; den = omega (arith, ints) }) in
+    let num = small_abs a.num 40034000000000 within.num in
     record {
       fraction = positive;
       lowest = lowest;

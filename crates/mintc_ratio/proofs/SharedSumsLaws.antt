@@ -86,7 +86,7 @@ summed-more nodes links chain i delay cycles h ordinary s =
       within = (omega (arith, ints, s.within, ordinary.delay), omega (arith, ints, s.within, ordinary.delay));
     }
 
-pub sum-fits : (i : ℕ) (x y : ℤ) → i < 2017 → IsWithin (i * 4000000000) x → IsWithin 4000000000 y → SFits w64 (x +ℤ y)
+pub sum-fits : (i : ℕ) (x y : ℤ) → i < 20017 → IsWithin (i * 4000000000) x → IsWithin 4000000000 y → SFits w64 (x +ℤ y)
 sum-fits i x y lt h k = omega (arith, ints)
 
 pub small-summed : (nodes : ℕ) (links : List Link) → IsOrdinary (constraints_of nodes links) → (chain : List ℕ) → NamesChain links chain → (i : ℕ) (delay : ℤ) (cycles : ℕ) → i ≤ length chain → IsSummed links chain i delay cycles →

@@ -28,8 +28,8 @@ time_same at n d e f t =
     rw (
       e,
       f,
-      to_z-of_z w128 at.num (fits_128 (10 ^ 20) at.num (lit< tt) (num_within (pos 0) (pos 0) at.num at.den refl zero_within t)),
-      to_z-of_z w128 at.den (fits_128 (10 ^ 7) at.den (lit< tt) (den_within (pos 0) (pos 0) at.num at.den refl zero_within t)),
+      to_z-of_z w128 at.num (fits_128 (10 ^ 23) at.num (lit< tt) (num_within (pos 0) (pos 0) at.num at.den refl zero_within t)),
+      to_z-of_z w128 at.den (fits_128 (10 ^ 9) at.den (lit< tt) (den_within (pos 0) (pos 0) at.num at.den refl zero_within t)),
     ) refl
   where
     zero_within : IsWithin 4000000000 (pos 0)

@@ -16,7 +16,7 @@ use Rattle.mintc_ratio.specs.declared.turns.TestResult.TheVariants.{Found, Held,
 use Rattle.mintc_ratio.specs.Chains.{links_at}
 use Rattle.mintc_ratio.specs.Climbing.{IsHeld, IsOfChain, IsJump}
 use Rattle.mintc_ratio.specs.Greatest.{AreGreatest}
-use Rattle.mintc_ratio.specs.Searched.{IsCycle, IsLeast}
+use Rattle.mintc_ratio.specs.Searched.{IsCycle, IsLeast, IsOfNodes}
 use Rattle.mintc_ratio.specs.Tested.{NoneForbids}
 use Rattle.mintc_ratio.proofs.SharedSumsLaws.{few_links}
 
@@ -82,13 +82,14 @@ jump_turn list held a room (Held sums) p q same forbids h =
 jump_turn list held a room Free p q same forbids h = h
 
 -- the least cycle time, where no chain forbids the ratio that is held
-pub least_held : (list : Constraints) (held : Sums) (a : Ratio) (old new : Space) → IsOrdinary list → IsHeld list old held → IsCycle a → a.num *ℤ pos held.cycles ≡ held.delay *ℤ a.den →
+pub least_held : (list : Constraints) (held : Sums) (a : Ratio) (old new : Space) → IsOrdinary list → IsHeld list old held → IsCycle a → IsOfNodes list.nodes a → a.num *ℤ pos held.cycles ≡ held.delay *ℤ a.den →
     AreGreatest list a new.values → NoneForbids list.links a → (length old.chain ≤ list.nodes → new.chain ≡ old.chain) → IsLeast list a new
-least_held list held a old new ordinary is cycle same greatest none kept =
+least_held list held a old new ordinary is cycle of_nodes same greatest none kept =
     let chain = kept (few_links list.nodes list.links ordinary old.chain is.chain) in
     let turns = is.turns in
     record {
       cycle_is = cycle;
+      small = of_nodes;
       none_forbids = none;
       values = greatest;
       chain = rw chain is.chain;

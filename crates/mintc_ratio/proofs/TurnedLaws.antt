@@ -9,16 +9,16 @@ use Rattle.mintc_fraction.specs.Ratio.{over}
 use Rattle.mintc_constraints.specs.Ordinary.{Constraints, IsOrdinary}
 use Rattle.mintc_constraints.specs.Rooms.{Space}
 use Rattle.mintc_ratio.specs.declared.sums.Sums.{Sums}
-use Rattle.mintc_ratio.specs.Climbing.{IsHeld, IsLow, IsSteeper, IsClimbing, grid_of}
+use Rattle.mintc_ratio.specs.Climbing.{IsHeld, IsLow, IsSteeper, IsClimbing, grid_of, most_tests}
 use Rattle.mintc_ratio.specs.Tested.{NoneForbids}
-use Rattle.mintc_ratio.proofs.GridLaws.{top_small}
+use Rattle.mintc_ratio.proofs.GridLaws.{few_steps, top_small}
 use Rattle.mintc_ratio.proofs.ClimbLaws.{low_inside, low_rises, low_halved, high_free, gap}
 
 -- the range of a turn
 pub record IsRange (high low : ℤ) : Type 0 where
   pub from : pos 0 ≤ℤ low
   pub order : low ≤ℤ high
-  pub most : high ≤ℤ pos (2 ^ 65)
+  pub most : high ≤ℤ pos (2 ^ 75)
 
 pub range_of : (list : Constraints) → IsOrdinary list → (start begun : ℕ) (room : Space) (held : Sums) (high low : ℤ) (k now : ℕ) →
     IsClimbing list start begun room held high k now → IsLow list.nodes held low → IsRange high low
@@ -36,10 +36,6 @@ tests_left k n = grind arith
 two_left : (k n : ℕ) → (k + 2) * (n + 1) ≡ (k + 1) * (n + 1) + (n + 1)
 two_left k n = grind arith
 
--- so few steps were taken that the counter could say them
-few_steps : (start now tests n : ℕ) → n ≤ 2017 → now + tests ≤ start + 68 * (n + 1) → now ≤ start + 2 ^ 20
-few_steps start now tests n h g = omega arith
-
 module _ (list : Constraints) (ordinary : IsOrdinary list) (start begun : ℕ) (old : Space) (held : Sums) (high low : ℤ) (k now width : ℕ) (s : IsClimbing list start begun old held high k now)
     (floor : IsLow list.nodes held low) (wide : pos width ≡ high -ℤ low) (new : Space) (later : ℕ) (cost : later ≤ now + list.nodes + 1) (some : now < later) where
   some_nodes : 1 ≤ list.nodes
@@ -48,7 +44,7 @@ module _ (list : Constraints) (ordinary : IsOrdinary list) (start begun : ℕ) (
   -- A jump leaves a steeper chain, and it wasn't the last test.
   pub jumped_on : (sums : Sums) (taken : ℕ) → taken ≡ min now (2 ^ 64 - 1) →
       (width ≤ 1) ⊎ ((left : ℕ) × (width ≤ 2 ^ left)
-      × ((first last : ℕ) → begun ≡ min first (2 ^ 64 - 1) → taken ≡ min last (2 ^ 64 - 1) → last ≤ first + 2 ^ 20 → last + (left + 2) * (list.nodes + 1) ≤ first + 68 * (list.nodes + 1))) →
+      × ((first last : ℕ) → begun ≡ min first (2 ^ 64 - 1) → taken ≡ min last (2 ^ 64 - 1) → last ≤ first + 2 ^ 21 → last + (left + 2) * (list.nodes + 1) ≤ first + most_tests list.nodes * (list.nodes + 1))) →
       IsHeld list new sums → IsSteeper held sums → (halvings : ℕ) × IsClimbing list start begun new sums high halvings later
   jumped_on sums taken said may is steeper =
       ⊎_elim
@@ -125,21 +121,21 @@ module _ (list : Constraints) (ordinary : IsOrdinary list) (start begun : ℕ) (
 pub read_low : (high low : ℤ) → IsRange high low → to_z w128 (of_z w128 low) ≡ low
 read_low high low r =
     let a = r.from in let b = r.order in let c = r.most in
-    let within : IsWithin (2 ^ 65) low = (omega (arith, ints), omega (arith, ints)) in
-    to_z-of_z w128 low (fits_128 (2 ^ 65) low (lit< tt) within)
+    let within : IsWithin (2 ^ 75) low = (omega (arith, ints), omega (arith, ints)) in
+    to_z-of_z w128 low (fits_128 (2 ^ 75) low (lit< tt) within)
 
 pub read_high : (high low : ℤ) → IsRange high low → to_z w128 (of_z w128 high) ≡ high
 read_high high low r =
     let a = r.from in let b = r.order in let c = r.most in
-    let within : IsWithin (2 ^ 65) high = (omega (arith, ints), omega (arith, ints)) in
-    to_z-of_z w128 high (fits_128 (2 ^ 65) high (lit< tt) within)
+    let within : IsWithin (2 ^ 75) high = (omega (arith, ints), omega (arith, ints)) in
+    to_z-of_z w128 high (fits_128 (2 ^ 75) high (lit< tt) within)
 
 -- the middle of a range is in it
 pub read_middle : (high low middle : ℤ) (width : ℕ) → IsRange high low → pos width ≡ high -ℤ low → middle ≡ low +ℤ pos (width / 2) → to_z w128 (of_z w128 middle) ≡ low +ℤ pos (width / 2)
 read_middle high low middle width r wide is =
     let a = r.from in let b = r.order in let c = r.most in
-    let within : IsWithin (2 ^ 65) (low +ℤ pos (width / 2)) = (omega (arith, ints), omega (arith, ints)) in
-    rw is (to_z-of_z w128 (low +ℤ pos (width / 2)) (fits_128 (2 ^ 65) (low +ℤ pos (width / 2)) (lit< tt) within))
+    let within : IsWithin (2 ^ 75) (low +ℤ pos (width / 2)) = (omega (arith, ints), omega (arith, ints)) in
+    rw is (to_z-of_z w128 (low +ℤ pos (width / 2)) (fits_128 (2 ^ 75) (low +ℤ pos (width / 2)) (lit< tt) within))
 
 pub middle_low : (high low : ℤ) (width : ℕ) → IsRange high low → pos 0 ≤ℤ (low +ℤ pos (width / 2))
 middle_low high low width r = let a = r.from in omega (arith, ints)
@@ -147,5 +143,5 @@ middle_low high low width r = let a = r.from in omega (arith, ints)
 pub middle_high : (high low : ℤ) (width : ℕ) → IsRange high low → pos width ≡ high -ℤ low → (low +ℤ pos (width / 2)) ≤ℤ high
 middle_high high low width r wide = let a = r.order in omega (arith, ints)
 
-pub width_small : (high low : ℤ) (width : ℕ) → IsRange high low → pos width ≡ high -ℤ low → width ≤ 2 ^ 65
+pub width_small : (high low : ℤ) (width : ℕ) → IsRange high low → pos width ≡ high -ℤ low → width ≤ 2 ^ 75
 width_small high low width r wide = let a = r.from in let b = r.most in omega (arith, ints)

@@ -25,33 +25,33 @@ one_off x (negsuc n) c e = rw e (omega (arith, ints))
 
 -- what the code's product is
 module _ (d f num den : ℤ) (from : f ≡ d) (delay : IsWithin 4000000000 d) (time : IsTestable (over num den)) where
-  pub den_within : IsWithin (10 ^ 7) den
+  pub den_within : IsWithin (10 ^ 9) den
   den_within = let a = time.some in let b = time.den in (omega (arith, ints), omega (arith, ints))
 
-  pub num_within : IsWithin (10 ^ 20) num
+  pub num_within : IsWithin (10 ^ 23) num
   num_within = let a = time.low in let b = time.num in (omega (arith, ints), omega (arith, ints))
 
-  pub product_within : IsWithin (4 * 10 ^ 16) (d *ℤ den)
-  product_within = IsWithin-product 4000000000 (10 ^ 7) d den delay den_within
+  pub product_within : IsWithin (4 * 10 ^ 18) (d *ℤ den)
+  product_within = IsWithin-product 4000000000 (10 ^ 9) d den delay den_within
 
   pub product_is : to_z w128 (of_z w128 (to_z w128 (of_z w128 f) *ℤ to_z w128 (of_z w128 den))) ≡ d *ℤ den
   product_is =
-      rw (from, to_z-of_z w128 d (fits_128 4000000000 d (lit< tt) delay), to_z-of_z w128 den (fits_128 (10 ^ 7) den (lit< tt) den_within))
-      (to_z-of_z w128 (d *ℤ den) (fits_128 (4 * 10 ^ 16) (d *ℤ den) (lit< tt) product_within))
+      rw (from, to_z-of_z w128 d (fits_128 4000000000 d (lit< tt) delay), to_z-of_z w128 den (fits_128 (10 ^ 9) den (lit< tt) den_within))
+      (to_z-of_z w128 (d *ℤ den) (fits_128 (4 * 10 ^ 18) (d *ℤ den) (lit< tt) product_within))
 
   pub product_fits : SFits w128 (to_z w128 (of_z w128 f) *ℤ to_z w128 (of_z w128 den))
   product_fits =
-      rw (from, to_z-of_z w128 d (fits_128 4000000000 d (lit< tt) delay), to_z-of_z w128 den (fits_128 (10 ^ 7) den (lit< tt) den_within))
-      (fits_128 (4 * 10 ^ 16) (d *ℤ den) (lit< tt) product_within)
+      rw (from, to_z-of_z w128 d (fits_128 4000000000 d (lit< tt) delay), to_z-of_z w128 den (fits_128 (10 ^ 9) den (lit< tt) den_within))
+      (fits_128 (4 * 10 ^ 18) (d *ℤ den) (lit< tt) product_within)
 
   rest_within : IsWithin (2 ^ 79) ((d *ℤ den) -ℤ num)
   rest_within = let p = product_within in let n = num_within in let p0 = p.0 in let p1 = p.1 in let n0 = n.0 in let n1 = n.1 in (omega (arith, ints), omega (arith, ints))
 
   pub rest_fits : SFits w128 (to_z w128 (of_z w128 (to_z w128 (of_z w128 f) *ℤ to_z w128 (of_z w128 den))) -ℤ to_z w128 (of_z w128 num))
-  rest_fits = rw (product_is, to_z-of_z w128 num (fits_128 (10 ^ 20) num (lit< tt) num_within)) (fits_128 (2 ^ 79) ((d *ℤ den) -ℤ num) (lit< tt) rest_within)
+  rest_fits = rw (product_is, to_z-of_z w128 num (fits_128 (10 ^ 23) num (lit< tt) num_within)) (fits_128 (2 ^ 79) ((d *ℤ den) -ℤ num) (lit< tt) rest_within)
 
   pub rest_is : to_z w128 (of_z w128 (to_z w128 (of_z w128 (to_z w128 (of_z w128 f) *ℤ to_z w128 (of_z w128 den))) -ℤ to_z w128 (of_z w128 num))) ≡ (d *ℤ den) -ℤ num
-  rest_is = rw (product_is, to_z-of_z w128 num (fits_128 (10 ^ 20) num (lit< tt) num_within)) (to_z-of_z w128 ((d *ℤ den) -ℤ num) (fits_128 (2 ^ 79) ((d *ℤ den) -ℤ num) (lit< tt) rest_within))
+  rest_is = rw (product_is, to_z-of_z w128 num (fits_128 (10 ^ 23) num (lit< tt) num_within)) (to_z-of_z w128 ((d *ℤ den) -ℤ num) (fits_128 (2 ^ 79) ((d *ℤ den) -ℤ num) (lit< tt) rest_within))
 
   pub product_small : IsWithin (2 ^ 80) (d *ℤ den)
   product_small = let p = product_within in let p0 = p.0 in let p1 = p.1 in (omega (arith, ints), omega (arith, ints))

@@ -1,5 +1,6 @@
 -- Where the search stands between two turns.
 use Rattle.std.specs.Prelude.{◌≡◌, ◌<◌, ◌≤◌, ◌*◌, ◌+◌, ◌-◌, ◌^◌, ℕ, ℤ, pos, ◌-ℤ◌, ◌*ℤ◌, ◌≤ℤ◌, ◌<ℤ◌, List, length, min}
+use Rattle.std.specs.Prelude.{nat_lt, if◌then◌else◌}
 use Rattle.mintc_fraction.specs.Ratio.{over, IsFloor}
 use Rattle.mintc_timing.specs.declared.link.Link.{Link}
 use Rattle.mintc_timing.specs.Links.{delay_of, cycles_of, link_at}
@@ -30,6 +31,14 @@ grid_of nodes = pos (2 * nodes * nodes)
 -- a cycle time on the grid that no chain with a cycle exceeds
 abbrev pub top_of : ℕ → ℤ
 top_of nodes = pos (4000000000 * nodes * nodes * nodes)
+
+-- how often a search may halve what lies below the top, and how many tests it takes at most: few more for a list of
+-- more nodes than 2,000 elements and 8 phases have
+abbrev pub most_halvings : ℕ → ℕ
+most_halvings nodes = if nat_lt 2017 nodes then 75 else 65
+
+abbrev pub most_tests : ℕ → ℕ
+most_tests nodes = if nat_lt 2017 nodes then 78 else 68
 
 -- No chain with a cycle forbids the cycle time of so many parts of the grid.
 abbrev pub IsHigh : Constraints → ℤ → Type 0
@@ -83,11 +92,11 @@ pub record IsClimbing (list : Constraints) (start begun : ℕ) (room : Space) (h
   pub said : begun ≡ min start (2 ^ 64 - 1)
   pub later : start ≤ now
   pub near : (low : ℤ) → IsLow list.nodes held low → (high -ℤ low) ≤ℤ pos (2 ^ halvings)
-  pub few : now + (halvings + 1) * (list.nodes + 1) ≤ start + 68 * (list.nodes + 1)
+  pub few : now + (halvings + 1) * (list.nodes + 1) ≤ start + most_tests list.nodes * (list.nodes + 1)
 
 -- What a turn of such a search leaves: an outcome, or the search goes on from other sums and another high cycle time.
 abbrev pub IsAdvanced : Constraints → ℕ → ℕ → Space → ℕ → SearchState → Type 0
 IsAdvanced list start begun room now (Over outcome) = HasSearched list room outcome
-    × (now ≤ start + 68 * (list.nodes + 1))
+    × (now ≤ start + most_tests list.nodes * (list.nodes + 1))
 IsAdvanced list start begun room now (On held high) = (halvings : ℕ)
     × IsClimbing list start begun room held high halvings now

@@ -8,9 +8,9 @@ use Rattle.mintc_ratio.specs.Greatest.{asked_by_link}
 -- a cycle time at which links can be tested
 pub record IsTestable (at : Ratio) : Type 0 where
   pub low : pos 0 ≤ℤ at.num
-  pub num : at.num ≤ℤ pos (10 ^ 20)
+  pub num : at.num ≤ℤ pos (10 ^ 23)
   pub some : pos 1 ≤ℤ at.den
-  pub den : at.den ≤ℤ pos (10 ^ 7)
+  pub den : at.den ≤ℤ pos (10 ^ 9)
 
 -- a link at a cycle time, as an arc: what it asks for is its weight
 abbrev pub weighed : Ratio → Link → Arc

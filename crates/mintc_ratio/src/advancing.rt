@@ -24,7 +24,7 @@ pub(crate) enum SearchState {
 fn width_of(low: i128, high: i128) -> u128
     requires from { pos 0 ≤ℤ low }
     requires order { low ≤ℤ high }
-    requires most { high ≤ℤ pos (2 ^ 65) }
+    requires most { high ≤ℤ pos (2 ^ 75) }
     ensures { pos result ≡ high -ℤ low }
 {
     (high - low) as u128
@@ -33,8 +33,8 @@ fn width_of(low: i128, high: i128) -> u128
 /// The part of the grid in the middle of a range.
 fn middle_of(low: i128, width: u128) -> i128
     requires from { pos 0 ≤ℤ low }
-    requires most { low ≤ℤ pos (2 ^ 65) }
-    requires width { width ≤ 2 ^ 65 }
+    requires most { low ≤ℤ pos (2 ^ 75) }
+    requires width { width ≤ 2 ^ 75 }
     ensures { result ≡ low +ℤ pos (width / 2) }
 {
     low + (width / 2) as i128

@@ -7,8 +7,9 @@
 //! tests the held ratio while its allowance of passes lasts, and else the middle of the range, on a grid so fine
 //! that two ratios of chains never lie between two neighbours.
 //!
-//! The crates above get the least cycle time in lowest terms, the greatest walks at it and a chain that forbids
-//! each smaller one, or a chain that forbids all, in at most `68 (n + 1)` passes for `n` nodes.
+//! The crates above get the least cycle time in lowest terms, the greatest walks at it and a chain that forbids each
+//! smaller one, or a chain that forbids all, in at most `68 (n + 1)` passes for `n` nodes, or `78 (n + 1)` where they
+//! are more than 2,017.
 #![tactic(auto)]
 
 mod advancing;

@@ -1,6 +1,7 @@
 //! The search for the least cycle time.
 ghost use Rattle.std.specs.Prelude.{◌≡◌, ◌≤◌, ◌+◌, ◌*◌, ℕ, length};
-ghost use Rattle.mintc_ratio.specs.Climbing.{IsClimbing, top_of};
+ghost use Rattle.mintc_constraints.specs.Ordinary.{most_nodes};
+ghost use Rattle.mintc_ratio.specs.Climbing.{IsClimbing, most_halvings, most_tests, top_of};
 ghost use Rattle.mintc_ratio.specs.Searched.{HasSearched};
 
 use crate::advancing::{SearchState, take_turn};
@@ -24,7 +25,7 @@ pub enum Outcome {
 
 /// A part of the grid that no chain's ratio exceeds.
 fn top_of(nodes: u32) -> i128
-    requires { nodes ≤ 2017 }
+    requires { nodes ≤ most_nodes }
     ensures { result ≡ top_of nodes }
 {
     let nodes = i128::from(nodes);
@@ -42,14 +43,16 @@ fn search_from<L: Ledger>(
     requires nodes { links.now.nodes ≤ room.old.nodes }
     requires links { length links.now.links ≤ room.old.links }
     requires climbing { (start : ℕ)
-        × IsClimbing links.now start begun room.old first (top_of links.now.nodes) 65 steps.old }
+        × IsClimbing links.now start begun room.old first (top_of links.now.nodes) (most_halvings links.now.nodes)
+        steps.old }
     ensures searched { HasSearched links.now room.new result }
     ensures nodes { room.new.nodes ≡ room.old.nodes }
     ensures links { room.new.links ≡ room.old.links }
     ensures late { room.new.late ≡ room.old.late }
     ensures early { room.new.early ≡ room.old.early }
-    ensures cost { (start : ℕ) → IsClimbing links.now start begun room.old first (top_of links.now.nodes) 65 steps.old →
-        steps.new ≤ start + 68 * (links.now.nodes + 1) }
+    ensures cost { (start : ℕ) → IsClimbing links.now start begun room.old first (top_of links.now.nodes)
+        (most_halvings links.now.nodes) steps.old →
+        steps.new ≤ start + most_tests links.now.nodes * (links.now.nodes + 1) }
 {
     let mut held = first;
     let mut high = top_of(links.nodes());
@@ -81,7 +84,7 @@ pub fn search<L: Ledger>(links: &LinkList, room: &mut Room, steps: &mut Steps<L>
     ensures links { room.new.links ≡ room.old.links }
     ensures late { room.new.late ≡ room.old.late }
     ensures early { room.new.early ≡ room.old.early }
-    ensures cost { steps.new ≤ steps.old + 68 * (links.now.nodes + 1) }
+    ensures cost { steps.new ≤ steps.old + most_tests links.now.nodes * (links.now.nodes + 1) }
 {
     let begun = steps.taken();
     let rest = Fraction::new(0, 1);

@@ -60,8 +60,8 @@ pub fn test_at<L: Ledger>(
     requires nodes { links.now.nodes ≤ room.old.nodes }
     requires links { length links.now.links ≤ room.old.links }
     requires low { pos 0 ≤ℤ at.now.num }
-    requires num { at.now.num ≤ℤ pos (10 ^ 20) }
-    requires den { at.now.den ≤ℤ pos (10 ^ 7) }
+    requires num { at.now.num ≤ℤ pos (10 ^ 23) }
+    requires den { at.now.den ≤ℤ pos (10 ^ 9) }
     ensures tested { HasTested links.now at.now room.old room.new result }
     ensures nodes { room.new.nodes ≡ room.old.nodes }
     ensures links { room.new.links ≡ room.old.links }

@@ -85,7 +85,7 @@ abbrev pub IsSafeCounted : SafeMember → Type 0
 IsSafeCounted (Plain m) = IsCounted m
 IsSafeCounted (Hold j l path) = IsCount j × IsCount l × IsCount (length path) × (path ≢ []) × All IsCount path
 
--- from 1 to 4,096 members, each number of which is a count
+-- from 1 to 32,768 members, each number of which is a count
 pub record IsSafeChainInRange (chain : List SafeMember) : Type 0 where
   pub some : 1 ≤ length chain
   pub most : length chain ≤ MOST_MEMBERS

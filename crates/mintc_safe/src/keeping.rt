@@ -1,5 +1,6 @@
 //! The least cycle time that keeps hold, with its certificate.
 ghost use Rattle.std.specs.Prelude.{◌≡◌, ◌≤◌, ◌+◌, ◌*◌, IfOk};
+ghost use Rattle.mintc_ratio.specs.Climbing.{most_tests};
 ghost use Rattle.mintc_timing.specs.Limits.{IsDesign};
 ghost use Rattle.mintc_timing.specs.Links.{node_count};
 ghost use Rattle.mintc_timing.specs.Order.{IsTiming};
@@ -56,7 +57,7 @@ pub fn safe<L: Ledger>(
     steps: &mut Steps<L>,
 ) -> Result<SafeCertificate, OutOfMemory>
     ensures optimum { IfOk result (IsSafeOptimum system.now) }
-    ensures cost { steps.new ≤ steps.old + 68 * (node_count system.now.flat + 1) }
+    ensures cost { steps.new ≤ steps.old + most_tests (node_count system.now.flat) * (node_count system.now.flat + 1) }
 {
     let list = safe_links(alloc, system)?;
     let mut room = Room::reserve(alloc, list.nodes() as usize, list.items().len())?;

@@ -20,6 +20,7 @@ ready-kept t list at w v h kept count = record {
   at_is = ap (λ (x : SlackWalks). x.at.now) kept ∙ h.at_is;
   links = h.links;
   cycle = h.cycle;
+  short = h.short;
   gaps = subst (λ (x : SlackWalks). AreGaps list at x.potentials.items x.gaps.items) (sym kept) h.gaps;
   count = count ∙ h.count;
 }

@@ -17,7 +17,7 @@ use Rattle.mintc_constraints.specs.Ordinary.{Constraints, constraints_of, IsOrdi
 use Rattle.mintc_constraints.specs.Rooms.{Space}
 use Rattle.mintc_ratio.specs.From.{AreGreatestFrom, IsAsked}
 use Rattle.mintc_ratio.specs.Greatest.{asked_by, asked_by_link}
-use Rattle.mintc_ratio.specs.Searched.{IsCycle}
+use Rattle.mintc_slack.specs.Short.{IsShortCycle}
 use Rattle.mintc_ratio.proofs.SharedBroughtLaws.{asked_more}
 use Rattle.mintc_ratio.proofs.SharedFromLaws.{asked-on}
 use Rattle.mintc_graph.proofs.SharedRingLaws.{LeadsBy-append}
@@ -51,7 +51,7 @@ pub far_is : FAR ≡ pos 100000000000000000
 far_is = refl
 
 -- what links ask for
-pub ordinary-small : (at : Ratio) (count : ℕ) (k : Link) → IsCycle at → IsOrdinaryLink count k → IsWithin 13000000000000 (asked_by_link at k)
+pub ordinary-small : (at : Ratio) (count : ℕ) (k : Link) → IsShortCycle at → IsOrdinaryLink count k → IsWithin 13000000000000 (asked_by_link at k)
 ordinary-small at count k cycle o = let low = o.delay.0 in let high = o.delay.1 in asked_small at k cycle (omega (arith, ints), omega (arith, ints)) o.cycles
 
 module _ (list : Constraints) (at : Ratio) (potentials : List ℤ) (are : ArePotentials list at potentials) where

@@ -18,14 +18,29 @@ use Rattle.mintc_constraints.proofs.SharedChainLaws.{met_chains_fit_lem, stuck_i
 use Rattle.mintc_constraints.proofs.SharedExistenceLaws.{feasible_has_right_lem}
 use Rattle.mintc_ratio.specs.Chains.{NamesChain, links_at}
 use Rattle.mintc_ratio.specs.Searched.{IsCycle, IsLeast}
+use Rattle.mintc_ratio.specs.Sums.{most_delay}
+use Rattle.mintc_slack.specs.Short.{IsShortCycle, most_short}
 use Rattle.mintc_ratio.proofs.SharedSumsLaws.{few_links}
 
 pub is_modest : (cycle : Ratio) → IsCycle cycle → IsModest cycle
 is_modest cycle is = record { num = abs_low cycle.num is.low is.num; den = (let most = is.den in omega (arith, ints)) }
   where
-    abs_low : (x : ℤ) → pos 0 ≤ℤ x → x ≤ℤ pos 4040000000000 → unsigned_abs x ≤ 10000000000000000000000
+    abs_low : (x : ℤ) → pos 0 ≤ℤ x → x ≤ℤ most_delay → unsigned_abs x ≤ 1000000000000000000000000
     abs_low (pos n) low high = omega (arith, ints)
     abs_low (negsuc n) low high = absurd (omega (arith, ints))
+
+-- At the least cycle of a list of few nodes sums are small.
+pub is_short : (list : Constraints) (cycle : Ratio) (room : Space) → IsLeast list cycle room → list.nodes ≤ most_short → IsShortCycle cycle
+is_short list cycle room found few =
+    let num = found.small.0 in
+    let den = found.small.1 in
+    record {
+      fraction = found.cycle_is.fraction;
+      lowest = found.cycle_is.lowest;
+      low = found.cycle_is.low;
+      num = omega (arith, ints, num, few);
+      den = omega (arith, ints, den, few);
+    }
 
 module _ (t : Timing) (limits : IsDesign t.flat) (ends : HasEnds t) (list : Constraints) (links_are : list.links ≡ links_of t) (room : Space) where
   pub least_of : (cycle : Ratio) → IsLeast list cycle room → IsLeastCycle t cycle.num cycle.den

@@ -5,7 +5,7 @@ use Rattle.std.proofs.lemmas.Int.{ints, to_z-of_z, by_lt_z}
 use Rattle.mintc_fraction.specs.Ratio.{Ratio, over, IsFloor}
 use Rattle.mintc_timing.specs.declared.link.Link.{Link}
 use Rattle.mintc_ratio.specs.Greatest.{asked_by_link}
-use Rattle.mintc_ratio.specs.Searched.{IsCycle}
+use Rattle.mintc_slack.specs.Short.{IsShortCycle}
 use Rattle.mintc_graph_walks.specs.Bounds.{IsWithin}
 use Rattle.mintc_graph_walks.proofs.SharedWithin.{IsWithin-product, abs_within}
 use Rattle.mintc_slack.specs.PairRoom.{IsWhole}
@@ -17,7 +17,7 @@ laps-small (suc zero) (pos n) h k = (omega (arith, ints), omega (arith, ints))
 laps-small (suc zero) (negsuc n) h k = (omega (arith, ints), omega (arith, ints))
 laps-small (suc (suc c)) num h k = absurd (omega arith)
 
-pub asked_small : (cycle : Ratio) (k : Link) → IsCycle cycle → IsWithin 4000000000 k.delay → k.cycles ≤ 1 → IsWithin 13000000000000 (asked_by_link cycle k)
+pub asked_small : (cycle : Ratio) (k : Link) → IsShortCycle cycle → IsWithin 4000000000 k.delay → k.cycles ≤ 1 → IsWithin 13000000000000 (asked_by_link cycle k)
 asked_small cycle k is delay laps =
     let product = IsWithin-product 4000000000 2017 k.delay cycle.den delay (omega (arith, ints), omega (arith, ints)) in
     let turns = laps-small k.cycles cycle.num laps (omega (arith, ints), omega (arith, ints)) in

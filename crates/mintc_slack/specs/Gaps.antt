@@ -6,7 +6,7 @@ use Rattle.mintc_timing.specs.declared.link.Link.{Link}
 use Rattle.mintc_constraints.specs.Ordinary.{Constraints, IsOrdinary}
 use Rattle.mintc_ratio.specs.From.{AreGreatestFrom, IsAsked}
 use Rattle.mintc_ratio.specs.Greatest.{asked_by_link}
-use Rattle.mintc_ratio.specs.Searched.{IsCycle}
+use Rattle.mintc_slack.specs.Short.{IsShortCycle}
 use Rattle.mintc_slack.specs.declared.reduced_costs.ReducedCost.{ReducedCost}
 use Rattle.mintc_slack.specs.declared.nearest.TheConstants.{FAR}
 use Rattle.mintc_graph_walks.specs.Bounds.{IsWithin}
@@ -23,7 +23,7 @@ gap_of at potentials k = record {
 -- The values of the greatest walks from node 0 over ordinary links, as numerators over the cycle's denominator.
 pub record ArePotentials (list : Constraints) (at : Ratio) (potentials : List ℤ) : Type 0 where
   pub ordinary : IsOrdinary list
-  pub cycle : IsCycle at
+  pub cycle : IsShortCycle at
   pub greatest : AreGreatestFrom list at 0 potentials
   pub small : (node : ℕ) → node < list.nodes → IsWithin 30000000000000000 (value_at potentials node)
 

@@ -1,10 +1,10 @@
 -- What walks from elements begin with.
-use Rattle.std.specs.Prelude.{◌≡◌, length}
+use Rattle.std.specs.Prelude.{◌≡◌, ◌≤◌, length}
 use Rattle.mintc_fraction.specs.Ratio.{Ratio}
 use Rattle.mintc_timing.specs.Design.{Timing}
 use Rattle.mintc_timing.specs.Links.{links_of, node_count}
 use Rattle.mintc_constraints.specs.Ordinary.{Constraints, constraints_of}
-use Rattle.mintc_ratio.specs.Searched.{IsCycle}
+use Rattle.mintc_slack.specs.Short.{IsShortCycle, most_short}
 use Rattle.mintc_slack.specs.declared.walked.SlackWalks.{SlackWalks}
 use Rattle.mintc_slack.specs.Gaps.{AreGaps}
 
@@ -14,6 +14,7 @@ pub record IsReady (t : Timing) (list : Constraints) (at : Ratio) (w : SlackWalk
   pub list_is : w.list.now ≡ list
   pub at_is : w.at.now ≡ at
   pub links : list ≡ constraints_of (node_count t.flat) (links_of t)
-  pub cycle : IsCycle at
+  pub cycle : IsShortCycle at
+  pub short : list.nodes ≤ most_short
   pub gaps : AreGaps list at w.potentials.items w.gaps.items
   pub count : length w.distances.items ≡ list.nodes

@@ -2,7 +2,7 @@
 ghost use Rattle.std.specs.Prelude.{◌≡◌, ◌≤◌, ◌+ℤ◌, ◌-ℤ◌, neg_ℤ};
 ghost use Rattle.mintc_fraction.specs.Ratio.{IsModest, over};
 ghost use Rattle.mintc_ratio.specs.Greatest.{asked_by_link};
-ghost use Rattle.mintc_ratio.specs.Searched.{IsCycle};
+ghost use Rattle.mintc_slack.specs.Short.{IsShortCycle};
 ghost use Rattle.mintc_graph_walks.specs.Bounds.{IsWithin};
 ghost use Rattle.mintc_slack.specs.PairRoom.{IsWhole};
 
@@ -14,7 +14,7 @@ use mintc_timing::Link;
 pub(crate) fn asked_of(link: &Link, at: &Fraction) -> i128
     requires delay { IsWithin 4000000000 link.now.delay }
     requires cycles { link.now.cycles ≤ 1 }
-    requires cycle { IsCycle at.now }
+    requires cycle { IsShortCycle at.now }
     ensures value { result ≡ asked_by_link at.now link.now }
     ensures small { IsWithin 13000000000000 result }
 {
@@ -53,7 +53,7 @@ pub(crate) fn sum(x: i64, y: i64) -> i64
 
 /// A number over a cycle time's denominator.
 fn over_den(left: i128, cycle: &Fraction) -> Fraction
-    requires cycle { IsCycle cycle.now }
+    requires cycle { IsShortCycle cycle.now }
     requires left { IsWithin 400000000000000000 left }
     ensures value { result ≡ over left cycle.now.den }
     ensures modest { IsModest result }
@@ -63,7 +63,7 @@ fn over_den(left: i128, cycle: &Fraction) -> Fraction
 
 /// The greatest whole number that fits in a number over a cycle time's denominator.
 fn floor_of(left: i128, cycle: &Fraction) -> i128
-    requires cycle { IsCycle cycle.now }
+    requires cycle { IsShortCycle cycle.now }
     requires left { IsWithin 400000000000000000 left }
     ensures whole { IsWhole cycle.now left result }
     ensures range { IsWithin 1000000000000000000 result }
@@ -73,7 +73,7 @@ fn floor_of(left: i128, cycle: &Fraction) -> i128
 
 /// The same with 64 bits.
 pub(crate) fn floor_to_i64(left: i128, cycle: &Fraction) -> i64
-    requires cycle { IsCycle cycle.now }
+    requires cycle { IsShortCycle cycle.now }
     requires left { IsWithin 400000000000000000 left }
     ensures whole { IsWhole cycle.now left result }
     ensures range { IsWithin 1000000000000000000 result }

@@ -1,11 +1,12 @@
 //! The slack of each pair.
 ghost use Rattle.std.specs.Prelude.{◌≡◌, ◌<◌, ◌≤◌, ℕ, IfOk, OnOk, length};
 ghost use Rattle.std.specs.Bool.{OnFalse};
+ghost use Rattle.mintc_text.specs.declared.limits.TheConstants.{MOST_SLACK};
 ghost use Rattle.mintc_timing.specs.Design.{element_count};
 ghost use Rattle.mintc_timing.specs.Links.{links_of, node_count};
 ghost use Rattle.mintc_timing.specs.Right.{IsLeastCycle};
 ghost use Rattle.mintc_constraints.specs.Ordinary.{constraints_of};
-ghost use Rattle.mintc_ratio.specs.Searched.{IsCycle};
+ghost use Rattle.mintc_slack.specs.Short.{IsShortCycle, most_short};
 ghost use Rattle.mintc_ratio.specs.Tested.{NoneForbids};
 ghost use Rattle.mintc_slack.specs.WalkedFrom.{AreSettled};
 ghost use Rattle.mintc_slack.specs.Answers.{IsSlackAnswer};
@@ -102,7 +103,8 @@ fn extras<L: Ledger>(
     steps: &mut Steps<L>,
 ) -> Result<Departures, OutOfMemory>
     requires list { list.now ≡ constraints_of (node_count system.now.flat) (links_of system.now) }
-    requires cycle { IsCycle cycle.now }
+    requires cycle { IsShortCycle cycle.now }
+    requires short { list.now.nodes ≤ most_short }
     requires free { NoneForbids list.now.links cycle.now }
     requires nodes { list.now.nodes ≤ room.old.nodes }
     requires chain { length room.old.chain ≤ list.now.nodes }
@@ -129,6 +131,7 @@ pub fn slack<L: Ledger>(
     system: &System,
     steps: &mut Steps<L>,
 ) -> Result<Slacks, OutOfMemory>
+    requires { element_count system.now.flat ≤ MOST_SLACK }
     ensures { IfOk result (IsSlackAnswer system.now) }
 {
     let list = links(alloc, system)?;

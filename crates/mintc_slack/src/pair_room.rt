@@ -5,7 +5,7 @@ ghost use Rattle.mintc_timing.specs.Limits.{IsDesign, IsSpan};
 ghost use Rattle.mintc_timing.specs.Right.{IsLeastCycle};
 ghost use Rattle.mintc_timing.specs.Paths.{HasEnds};
 ghost use Rattle.mintc_timing.specs.Links.{node_count};
-ghost use Rattle.mintc_ratio.specs.Searched.{IsCycle};
+ghost use Rattle.mintc_slack.specs.Short.{IsShortCycle};
 ghost use Rattle.mintc_graph_walks.specs.Bounds.{IsWithin};
 ghost use Rattle.mintc_slack.specs.WalkedFrom.{AreSettled, AreSmall};
 ghost use Rattle.mintc_slack.specs.PairRoom.{reach_of as reach_of_pair, room_of};
@@ -33,7 +33,7 @@ fn reach(system: &System, number: usize) -> Link
 /// What the greatest walk from a pair's end back to its beginning, and the pair itself, leave of their cycles.
 fn room_left(system: &System, cycle: &Fraction, values: &[i128], number: usize) -> i128
     requires number { number < length system.now.pairs }
-    requires cycle { IsCycle cycle.now }
+    requires cycle { IsShortCycle cycle.now }
     requires count { length values.now ≡ node_count system.now.flat }
     requires small { AreSmall system.now.flat values.now }
     ensures value { result ≡ room_of system.now.flat cycle.now values.now (pair_at system.now number) }
@@ -48,7 +48,7 @@ fn room_left(system: &System, cycle: &Fraction, values: &[i128], number: usize) 
 /// The slack of a pair.
 pub(crate) fn slack_of(system: &System, cycle: &Fraction, values: &[i128], number: usize) -> i64
     requires number { number < length system.now.pairs }
-    requires cycle { IsCycle cycle.now }
+    requires cycle { IsShortCycle cycle.now }
     requires least { IsLeastCycle system.now cycle.now.num cycle.now.den }
     requires settled { AreSettled system.now cycle.now (pair_at system.now number).to values.now }
     ensures slack { IsSlack system.now cycle.now.num cycle.now.den number result }

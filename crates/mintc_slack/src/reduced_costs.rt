@@ -1,7 +1,7 @@
 //! Links weighed against values that meet them all, so that none asks for more than it has (D. B. Johnson, "Efficient
 //! algorithms for shortest paths in sparse networks", 1977).
 ghost use Rattle.std.specs.Prelude.{◌≡◌, ◌<◌, ◌≤◌, ℕ, IfOk, length};
-ghost use Rattle.mintc_ratio.specs.Searched.{IsCycle};
+ghost use Rattle.mintc_slack.specs.Short.{IsShortCycle};
 ghost use Rattle.mintc_graph_walks.specs.Bounds.{IsWithin};
 ghost use Rattle.mintc_graph_walks.specs.Walks.{value_at};
 ghost use Rattle.mintc_slack.specs.Gaps.{AreGaps, ArePotentials, gap_of};
@@ -28,7 +28,7 @@ fn weigh(link: &Link, at: &Fraction, potentials: &[i128]) -> ReducedCost
     requires to { link.now.to < length potentials.now }
     requires delay { IsWithin 4000000000 link.now.delay }
     requires cycles { link.now.cycles ≤ 1 }
-    requires cycle { IsCycle at.now }
+    requires cycle { IsShortCycle at.now }
     requires small { (node : ℕ) → node < length potentials.now →
         IsWithin 30000000000000000 (value_at potentials.now node) }
     ensures { result ≡ gap_of at.now potentials.now link.now }

@@ -4,7 +4,7 @@ use mintc_tests_designs::{
     CLOSED_INNER, GREATEST_SUM, SUM_PAST_LIMIT, TWO_CELLS, TWO_CLOCK, TWO_DELAYS, TWO_NETLIST,
     TWO_THROUGH_INNER,
 };
-use mintc_text::{Refusal, Stop};
+use mintc_text::{Limits, Refusal, Stop};
 use mintc_timing::{Flat, System};
 use std::alloc::Global;
 use std::process::Abort;
@@ -13,7 +13,8 @@ use std::test::Fail;
 /// The system of a table, or what stops it.
 fn built(rt: &impl Abort, alloc: Global, text: &str) -> Result<System, Stop> {
     assert!(rt; text.len() < 1_000);
-    system(alloc, from_table(alloc, text.as_bytes())?)
+    let limits = Limits::usual();
+    system(alloc, &limits, from_table(alloc, &limits, text.as_bytes())?)
 }
 
 /// Whether these are the pairs of a system: the two elements, the least and the greatest delay.
@@ -84,6 +85,7 @@ pub(crate) fn designed(
     );
     from_files(
         alloc,
+        &Limits::usual(),
         netlist.as_bytes(),
         delays.as_bytes(),
         TWO_CELLS.as_bytes(),

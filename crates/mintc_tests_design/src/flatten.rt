@@ -7,7 +7,7 @@ use mintc_flatten::flatten;
 use mintc_flatten_hierarchy::Hierarchy;
 use mintc_netlist::Netlist;
 use mintc_tests_designs::{TWO_CELLS, TWO_NETLIST};
-use mintc_text::{Refusal, Stop};
+use mintc_text::{Limits, Refusal, Stop};
 use mintc_verilog::read_netlist;
 use std::alloc::{AllocError, Global};
 use std::process::Abort;
@@ -19,7 +19,7 @@ fn flattened_modules(rt: &impl Abort, alloc: Global, modules: &Netlist) -> Resul
 {
     assert!(rt; TWO_CELLS.len() < 10_000);
     let cells = read_cells(alloc, TWO_CELLS.as_bytes())?;
-    flatten(alloc, modules, &cells, None)
+    flatten(alloc, &Limits::usual(), modules, &cells, None)
 }
 
 /// The hierarchy of a netlist with these cells.

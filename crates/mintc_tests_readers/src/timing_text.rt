@@ -2,7 +2,7 @@
 //! counted while a table is read (refusal 17).
 
 use mintc_tests_designs::{TWO_ENABLED, TWO_FLOPS, TWO_LATCHES, TWO_SCHEDULE};
-use mintc_text::{Kind, Refusal, Role, Stop};
+use mintc_text::{Kind, Limits, Refusal, Role, Stop};
 use mintc_timing::{Element, Flat, TimingArc};
 use mintc_timing_text::{read_schedule, read_table};
 use std::alloc::{AllocError, Global};
@@ -14,7 +14,7 @@ fn table_fault(alloc: Global, text: &[u8]) -> u32 {
     if text.len() > 67_108_864 {
         return 0;
     }
-    match read_table(alloc, text) {
+    match read_table(alloc, &Limits::usual(), text) {
         Err(
             Stop::Refused(
                 Refusal::Syntax {
@@ -48,7 +48,7 @@ fn table_limit(alloc: Global, text: &[u8]) -> Option<(Kind, u64)> {
     if text.len() > 67_108_864 {
         return None;
     }
-    match read_table(alloc, text) {
+    match read_table(alloc, &Limits::usual(), text) {
         Err(Stop::Refused(Refusal::Limit { kind, count })) => Some((kind, count)),
         _ => None,
     }
@@ -57,7 +57,7 @@ fn table_limit(alloc: Global, text: &[u8]) -> Option<(Kind, u64)> {
 /// The design of a table.
 fn design(rt: &impl Abort, alloc: Global, text: &str) -> Option<Flat> {
     assert!(rt; text.len() < 1_000);
-    read_table(alloc, text.as_bytes()).ok()
+    read_table(alloc, &Limits::usual(), text.as_bytes()).ok()
 }
 
 /// Adds a head with a count, and this row so many times.

@@ -3,7 +3,7 @@
 
 use mintc_certificate::{Certificate, Member, read, write};
 use mintc_tests_designs::TWO_CERTIFICATE;
-use mintc_text::{Refusal, Role, Stop};
+use mintc_text::{Limits, Refusal, Role, Stop};
 use std::alloc::{AllocError, Global};
 use std::process::Abort;
 use std::test::Fail;
@@ -18,7 +18,7 @@ fn rewritten(alloc: Global, text: &[u8]) -> Option<Vec<u8>> {
     if text.len() > 67_108_864 {
         return None;
     }
-    match read(alloc, text) {
+    match read(alloc, &Limits::usual(), text) {
         Ok(certificate) => write(alloc, &certificate).ok(),
         Err(_) => None,
     }
@@ -29,7 +29,7 @@ fn fault(alloc: Global, text: &[u8]) -> u32 {
     if text.len() > 67_108_864 {
         return 0;
     }
-    match read(alloc, text) {
+    match read(alloc, &Limits::usual(), text) {
         Err(
             Stop::Refused(
                 Refusal::Syntax {
@@ -110,7 +110,7 @@ fn is_reach(member: &Member) -> bool {
 fn members_have_their_numbers(rt: HostRuntime) -> Result<(), Fail> {
     let text = NEVER.as_bytes();
     assert!(rt; text.len() < 1_000);
-    match read(rt.alloc(), text) {
+    match read(rt.alloc(), &Limits::usual(), text) {
         Ok(Certificate::Never { chain }) => assert!(rt; are_of_never(chain.items())),
         _ => panic!(rt; "no chain alone"),
     }

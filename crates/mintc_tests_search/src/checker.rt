@@ -5,6 +5,7 @@ use crate::systems::system_of;
 use mintc_certificate::{Certificate, read};
 use mintc_checker::{Verdict, examine, examine_flat};
 use mintc_tests_designs::{TWO_CERTIFICATE, TWO_ENABLED, TWO_FLOPS, TWO_LATCHES};
+use mintc_text::Limits;
 use mintc_timing::System;
 use std::alloc::Global;
 use std::process::Abort;
@@ -29,7 +30,7 @@ fn judged(alloc: Global, system: &System, text: &str) -> Option<Verdict> {
     if text.len() > 1_000 {
         return None;
     }
-    let certificate = read(alloc, text.as_bytes()).ok()?;
+    let certificate = read(alloc, &Limits::usual(), text.as_bytes()).ok()?;
     agreed(alloc, system, &certificate)
 }
 

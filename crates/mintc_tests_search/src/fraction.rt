@@ -7,7 +7,7 @@ use std::cmp::Ordering;
 use std::process::Abort;
 use std::test::Fail;
 
-const MOST_NUM: i128 = 10_000_000_000_000_000_000_000;
+const MOST_NUM: i128 = 1_000_000_000_000_000_000_000_000;
 
 const MOST_DEN: i128 = 1_000_000_000_000;
 

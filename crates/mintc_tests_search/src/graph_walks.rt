@@ -84,7 +84,7 @@ fn find(
     first: &[u32],
 ) -> Result<Found, AllocError> {
     let nodes = starts.len();
-    assert!(rt; 0 < nodes && nodes <= 4096 && arcs.len() < 1 << 32);
+    assert!(rt; 0 < nodes && nodes <= 32768 && arcs.len() < 1 << 28);
     assert!(rt; first.len() == nodes && are_ordinary(nodes, arcs) && are_bounded(starts));
     let mut values = starts.to_vec(alloc)?;
     let mut before = vec![in alloc; 0; nodes]?;

@@ -108,8 +108,8 @@ fn is_ordinary(nodes: u32, links: &[Link]) -> bool
     ensures { OnTrue result (IsOrdinary (constraints_of nodes links.now)) }
 {
     3 <= nodes
-        && nodes <= 2017
-        && links.len() < 1 << 32
+        && nodes <= 20017
+        && links.len() < 1 << 28
         && are_ordinary_links(nodes, links)
         && has_plain(links, 0, 1, 0)
         && has_plain(links, 1, 0, 1)

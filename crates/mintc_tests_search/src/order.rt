@@ -2,7 +2,7 @@
 
 use mintc_order::order;
 use mintc_tests_designs::TWO_THROUGH_INNER;
-use mintc_text::{Refusal, Stop};
+use mintc_text::{Limits, Refusal, Stop};
 use mintc_timing::Order;
 use mintc_timing_text::read_table;
 use std::alloc::{AllocError, Global};
@@ -25,7 +25,10 @@ fn table(alloc: Global, bits: u32, arcs: &[(u32, u32)]) -> Result<String, AllocE
 /// What is answered for a table's design.
 fn answer(rt: &impl Abort, alloc: Global, text: &str) -> Result<Order, Stop> {
     assert!(rt; text.len() < 1_000_000);
-    order(alloc, &read_table(alloc, text.as_bytes())?)
+    order(
+        alloc,
+        &read_table(alloc, &Limits::usual(), text.as_bytes())?,
+    )
 }
 
 /// The place of a number in the list, or the list's length where it isn't there.

@@ -6,7 +6,7 @@ use crate::cases::{
 use crate::systems::{design_of_text, system_of_text};
 use mintc_order::order;
 use mintc_paths_count::count_pairs;
-use mintc_text::{Refusal, Stop};
+use mintc_text::{Limits, Refusal, Stop};
 use mintc_timing::Flat;
 use std::alloc::{AllocError, Global};
 use std::process::Abort;
@@ -64,7 +64,7 @@ fn crowd_text(alloc: Global, elements: usize) -> Result<String, AllocError> {
 /// What `count_pairs` gives for a design.
 fn counted_of(alloc: Global, flat: &Flat) -> Result<u64, Stop> {
     let order = order(alloc, flat)?;
-    count_pairs(alloc, flat, &order)
+    count_pairs(alloc, &Limits::usual(), flat, &order)
 }
 
 /// What `count_pairs` gives for a table.

@@ -1,31 +1,32 @@
-//! The limits of what is read and written. Lengths of time are in femtoseconds.
+//! The limits of what can be read, worked on and written, on which the proofs of arithmetic stand. A run may take
+//! less, as its `Limits` say. Lengths of time are in femtoseconds.
 
 /// Bytes of a file.
-pub const MOST_BYTES: usize = 67_108_864;
+pub const MOST_BYTES: usize = 1_073_741_824;
 
 /// Phases of a design, which has one at least.
 pub const MOST_PHASES: usize = 8;
 
 /// Latches, flops and listed ports of a design.
-pub const MOST_ELEMENTS: usize = 2_000;
+pub const MOST_ELEMENTS: usize = 20_000;
 
 /// Bits of a design that are no input and no output of an element.
-pub const MOST_INNER: usize = 262_144;
+pub const MOST_INNER: usize = 8_388_608;
 
 /// Arcs of a design.
-pub const MOST_ARCS: usize = 524_288;
+pub const MOST_ARCS: usize = 16_777_216;
 
 /// Bounds of a design.
 pub const MOST_BOUNDS: usize = 64;
 
 /// Pairs of elements that paths join.
-pub const MOST_PAIRS: usize = 200_000;
+pub const MOST_PAIRS: usize = 10_000_000;
 
 /// Instances of modules, the top counted.
-pub const MOST_SCOPES: usize = 50_000;
+pub const MOST_SCOPES: usize = 1_000_000;
 
 /// Instances of cells.
-pub const MOST_LEAVES: usize = 50_000;
+pub const MOST_LEAVES: usize = 1_000_000;
 
 /// How deep scopes stand in one another; the top stands at 1.
 pub const MOST_DEPTH: usize = 32;
@@ -40,7 +41,10 @@ pub const MOST_DENOMINATOR: i64 = 100_000;
 pub const MOST_NUMERATOR: i64 = 100_000_000_000_000;
 
 /// Members of a certificate's chain.
-pub const MOST_MEMBERS: usize = 4_096;
+pub const MOST_MEMBERS: usize = 32_768;
+
+/// Latches and flops of a design for which slacks are found.
+pub const MOST_SLACK: usize = 2_000;
 
 /// A count that a line of a text can say.
 pub const MOST_COUNT: u32 = 999_999_999;
@@ -50,3 +54,26 @@ pub const MOST_TOLD: u64 = 1_000_000_000;
 
 /// Bits of a net.
 pub const MOST_WIDTH: usize = 65_536;
+
+/// How much a run takes at most. Phases, bounds and the depth of scopes have one limit for all runs, as have numbers.
+#[derive(Clone, Copy, Debug, PartialEq, Eq)]
+pub struct Most {
+    /// Bytes of a file.
+    pub bytes: usize,
+    /// Latches and flops of a design.
+    pub elements: usize,
+    /// Bits of a design that are no input and no output of an element.
+    pub inner: usize,
+    /// Arcs of a design.
+    pub arcs: usize,
+    /// Pairs of elements that paths join.
+    pub pairs: usize,
+    /// Instances of modules, the top counted.
+    pub scopes: usize,
+    /// Instances of cells.
+    pub leaves: usize,
+    /// Members of a certificate's chain.
+    pub members: usize,
+    /// Latches and flops of a design for which slacks are found.
+    pub slack: usize,
+}

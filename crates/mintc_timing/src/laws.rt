@@ -1,5 +1,6 @@
 //! What the definitions say of one another: each law is the contract of a function that does nothing.
-ghost use Rattle.mintc_timing.specs.Accepted.{SystemsAreAccepted};
+ghost use Rattle.mintc_timing.specs.Accepted.{SystemsAreAccepted, UnrefusedAreWithin, UsualLimitsOfDesigns};
+ghost use Rattle.mintc_timing.specs.Accepted.{UsuallyAccepted};
 ghost use Rattle.mintc_timing.specs.Laws.{EarlyAreDetermined, ForbidsAll, HoldsHaveAmounts, LateAreDetermined};
 ghost use Rattle.mintc_timing.specs.Laws.{LeastCycleIsDetermined, LeastCycleIsNoHopelessness, NoChainForbidsRight};
 ghost use Rattle.mintc_timing.specs.Laws.{PairsAreDetermined, PathsJoin, RightAtEachDenominator, RightMeetsLinks};
@@ -76,8 +77,25 @@ pub fn pairs_are_determined()
     ensures { PairsAreDetermined }
 {}
 
-/// The design of a system is accepted.
-#[tactic(auto, using(crate::proofs::AcceptedLaws::systems_are_accepted_lem))]
+/// A run accepts the design of a system that is within its limits.
 pub fn systems_are_accepted()
     ensures { SystemsAreAccepted }
+{}
+
+/// What isn't refused is within the limits of the run.
+#[tactic(auto, using(crate::proofs::AcceptedLaws::unrefused_lem))]
+pub fn unrefused_are_within()
+    ensures { UnrefusedAreWithin }
+{}
+
+/// What a run with the usual limits refuses a design for.
+#[tactic(auto, using(crate::proofs::AcceptedLaws::usual_limits_lem))]
+pub fn usual_limits_of_designs()
+    ensures { UsualLimitsOfDesigns }
+{}
+
+/// What a run with the usual limits accepts.
+#[tactic(auto, using(crate::proofs::AcceptedLaws::usually_accepted_lem))]
+pub fn usually_accepted()
+    ensures { UsuallyAccepted }
 {}

@@ -2,6 +2,7 @@
 use Rattle.std.proofs.Common.{◌≡◌, ℕ, zero, suc, ◌++◌, ◌∷◌, [], List, length, codes, Option, Some, None, refl, ◌⊎◌, inl, inr, ⊎_elim}
 use Rattle.mintc_text.specs.declared.limits.TheConstants.{MOST_COUNT}
 use Rattle.mintc_text.specs.Lines.{IsText}
+use Rattle.mintc_text.specs.declared.limits.Most.{Most}
 use Rattle.mintc_text.specs.declared.refusals.Refusal.{Refusal}
 use Rattle.mintc_text.specs.declared.refusals.Refusal.TheVariants as refusal
 use Rattle.mintc_text.specs.declared.refusals.Role.TheVariants as role
@@ -45,25 +46,25 @@ decides (bound (suc left) d) line =
 decides (bound zero d) line = after_spelled (IsWordLine (codes "end")) (λ u. whole d) line (word_decided (codes "end") line)
 decides (whole d) line = inr (λ h. h.1)
 
-abbrev Answer : List ℕ → Type 0
-Answer text = ((d : Design) × IsTableText text d × (limit_of d ≡ None)) ⊎ ((r : Refusal) × IsTableRefusal text r)
+abbrev Answer : Most → List ℕ → Type 0
+Answer most text = ((d : Design) × IsTableText text d × (limit_of most d ≡ None)) ⊎ ((r : Refusal) × IsTableRefusal most text r)
 
-of_design : (text : List ℕ) (d : Design) (over : Option Refusal) → IsTableText text d → limit_of d ≡ over → Answer text
-of_design text d None is e = inl (d, is, e)
-of_design text d (Some r) is e = inr (r, inr (d, is, e))
+of_design : (most : Most) (text : List ℕ) (d : Design) (over : Option Refusal) → IsTableText text d → limit_of most d ≡ over → Answer most text
+of_design most text d None is e = inl (d, is, e)
+of_design most text d (Some r) is e = inr (r, inr (d, is, e))
 
-of_end : (text : List ℕ) (b : TableLines) → IsWholeTable b → IsText NextOfTable first b text → Answer text
-of_end text first last is = absurd last
-of_end text (phases v) last is = absurd last
-of_end text (phase v left d) last is = absurd last
-of_end text (element v left d) last is = absurd last
-of_end text (arcs d) last is = absurd last
-of_end text (arc left d) last is = absurd last
-of_end text (bound left d) last is = absurd last
-of_end text (whole d) last is = of_design text d (limit_of d) is refl
+of_end : (most : Most) (text : List ℕ) (b : TableLines) → IsWholeTable b → IsText NextOfTable first b text → Answer most text
+of_end most text first last is = absurd last
+of_end most text (phases v) last is = absurd last
+of_end most text (phase v left d) last is = absurd last
+of_end most text (element v left d) last is = absurd last
+of_end most text (arcs d) last is = absurd last
+of_end most text (arc left d) last is = absurd last
+of_end most text (bound left d) last is = absurd last
+of_end most text (whole d) last is = of_design most text d (limit_of most d) is refl
 
 pub have_design_or_refusal : HaveDesignOrRefusal
-have_design_or_refusal text = ⊎_elim
-    (λ (h : (b : TableLines) × IsWholeTable b × IsText NextOfTable first b text). of_end text h.0 h.1 h.2)
+have_design_or_refusal most text = ⊎_elim
+    (λ (h : (b : TableLines) × IsWholeTable b × IsText NextOfTable first b text). of_end most text h.0 h.1 h.2)
     (λ (h : (n : ℕ) × IsTableFault text n). inr (refusal.Syntax role.Table h.0, inl (h.0, refl, h.1)))
     (judged NextOfTable IsWholeTable ends decides first text)

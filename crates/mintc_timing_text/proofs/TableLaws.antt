@@ -4,6 +4,7 @@ use Rattle.std.proofs.lemmas.List.{take_all}
 use Rattle.std.proofs.lemmas.List.Elements.{All-push, All-nil}
 use Rattle.mintc_text.specs.Refusals.{over_limit}
 use Rattle.mintc_text.specs.declared.limits.TheConstants.{MOST_PHASES, MOST_ELEMENTS, MOST_ARCS, MOST_BOUNDS}
+use Rattle.mintc_text.specs.declared.limits.Most.{Most}
 use Rattle.mintc_text.specs.declared.refusals.Refusal.{Refusal}
 use Rattle.mintc_text.specs.declared.refusals.Stop.{Stop}
 use Rattle.mintc_text.specs.declared.refusals.Stop.TheVariants as stop
@@ -68,8 +69,8 @@ HasParts-from_text text d h = along NextOfTable Keeps keeps_next first h.lines (
 
 -- ---- a design and what was kept of it
 
-pub limit_of_parts : (d : Design) (parts : Parts) → ArePartsOf d parts → limit_of d ≡ over_limit (quantities parts.inner parts.phases.count parts.elements.count parts.arcs.count parts.bounds.count)
-limit_of_parts d parts h = grind (arith, length-inner_names)
+pub limit_of_parts : (most : Most) (d : Design) (parts : Parts) → ArePartsOf d parts → limit_of most d ≡ over_limit (quantities most parts.inner parts.phases.count parts.elements.count parts.arcs.count parts.bounds.count)
+limit_of_parts most d parts h = grind (arith, length-inner_names)
 
 kept_whole : {X : Type 0} (most : ℕ) (all kept : List X) (count : ℕ) → AreKept most all kept count → count ≤ most → kept ≡ all
 kept_whole most all kept count h few = h.front ∙ take_all most all (omega (arith, h.counted))

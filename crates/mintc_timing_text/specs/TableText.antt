@@ -3,6 +3,7 @@ use Rattle.std.specs.Prelude.{◌≡◌, ◌<◌, ◌+◌, ◌*◌, ◌==◌, �
 use Rattle.std.specs.Prelude.{◌∷◌, ◌++◌, length, map, codes, Some}
 use Rattle.std.specs.List.{range_with_len}
 use Rattle.mintc_text.specs.declared.limits.TheConstants.{MOST_COUNT}
+use Rattle.mintc_text.specs.declared.limits.Most.{Most}
 use Rattle.mintc_text.specs.Lines.{numeral_of, IsText, IsFault}
 use Rattle.mintc_text.specs.declared.refusals.Refusal.{Refusal}
 use Rattle.mintc_text.specs.declared.refusals.Refusal.TheVariants as refusal
@@ -155,7 +156,7 @@ abbrev pub IsTableFault : List ℕ → ℕ → Type 0
 IsTableFault text n = IsFault NextOfTable IsWholeTable first text n
 
 -- The text is refused for the first line that is out of form, or the first quantity of its design that passes its
--- limit.
-abbrev pub IsTableRefusal : List ℕ → Refusal → Type 0
-IsTableRefusal text r = ((n : ℕ) × (r ≡ refusal.Syntax role.Table n) × IsTableFault text n)
-    ⊎ ((d : Design) × IsTableText text d × (limit_of d ≡ Some r))
+-- limit in a run.
+abbrev pub IsTableRefusal : Most → List ℕ → Refusal → Type 0
+IsTableRefusal most text r = ((n : ℕ) × (r ≡ refusal.Syntax role.Table n) × IsTableFault text n)
+    ⊎ ((d : Design) × IsTableText text d × (limit_of most d ≡ Some r))

@@ -3,6 +3,7 @@ use Rattle.std.specs.Prelude.{◌≡◌, ◌⊎◌, ◌↔◌, ◌++◌, ℕ, Li
 use Rattle.mintc_text.specs.Signs.{line_feed}
 use Rattle.mintc_text.specs.Lines.{ended, text_of}
 use Rattle.mintc_timing.specs.declared.clocking.Schedule.{Schedule}
+use Rattle.mintc_text.specs.declared.limits.Most.{Most}
 use Rattle.mintc_text.specs.declared.refusals.Refusal.{Refusal}
 use Rattle.mintc_timing.specs.Design.{Design}
 use Rattle.mintc_timing.specs.Limits.{IsInRange, limit_of}
@@ -49,10 +50,10 @@ HaveOneTableText = (line x y : List ℕ) (d : Design) → (Contains line line_fe
 abbrev pub HaveScheduleOrFault : Type 0
 HaveScheduleOrFault = (text : List ℕ) → ((s : Schedule) × IsScheduleText text s) ⊎ ((n : ℕ) × IsScheduleFault text n)
 
--- Each text is that of a design within the limits, or is refused.
+-- In each run, whatever its limits: each text is that of a design within them, or is refused.
 abbrev pub HaveDesignOrRefusal : Type 0
-HaveDesignOrRefusal = (text : List ℕ) → ((d : Design) × IsTableText text d × (limit_of d ≡ None))
-    ⊎ ((r : Refusal) × IsTableRefusal text r)
+HaveDesignOrRefusal = (most : Most) (text : List ℕ) →
+    ((d : Design) × IsTableText text d × (limit_of most d ≡ None)) ⊎ ((r : Refusal) × IsTableRefusal most text r)
 
 -- A text is that of a schedule exactly where it has the schedule's lines, and the schedule's numbers are in range.
 abbrev pub ScheduleTextsAreTheirLines : Type 0

@@ -10,7 +10,7 @@ ghost use Rattle.mintc_timing_text.specs.declared.table_lines.Version.{Version};
 ghost use Rattle.mintc_timing.specs.Design.{Design, design_of};
 ghost use Rattle.mintc_timing_text.specs.ElementWords.{named};
 ghost use Rattle.mintc_timing_text.specs.Fields.{IsCount};
-ghost use Rattle.mintc_timing.specs.Limits.{HasParts, limit_of};
+ghost use Rattle.mintc_timing.specs.Limits.{HasParts, IsWithinLimits, limit_of};
 ghost use Rattle.mintc_timing_text.specs.Reading.{HasNone, HasRead, Halts, IsAt, number_after};
 ghost use Rattle.mintc_timing_text.specs.TableReading.{AreKept, ArePartsOf};
 ghost use Rattle.mintc_timing_text.specs.TableText.{NextOfTable, IsElementLine, IsArcLine, IsBoundLine, IsTableText};
@@ -20,7 +20,7 @@ ghost use Rattle.mintc_timing_text.specs.TableText.{arc, bound, phases as before
 use crate::Reader;
 use crate::table_lines::{ElementNumbers, Version, arc_of, bound_of, element_of, version_of};
 use mintc_text::limits::{MOST_ARCS, MOST_BOUNDS, MOST_COUNT, MOST_ELEMENTS, MOST_PHASES};
-use mintc_text::{Lines, Name, Names, OutOfMemory, ReadError, Refusal, Role, Stop};
+use mintc_text::{Limits, Lines, Name, Names, OutOfMemory, ReadError, Refusal, Role, Stop};
 use mintc_timing::{Bound, Element, Flat, TimingArc, first_over};
 use std::alloc::Global;
 
@@ -291,12 +291,15 @@ fn inner_names(alloc: Global, count: u32) -> Result<Names, OutOfMemory>
 }
 
 /// The design of a table's parts.
-fn flat_of(alloc: Global, parts: Parts) -> Result<Flat, Stop>
+fn flat_of(alloc: Global, limits: &Limits, parts: Parts) -> Result<Flat, Stop>
     requires { (d : Design) × HasParts d × ArePartsOf d parts }
     ensures value { IfOk result (λ flat. (d : Design) → ArePartsOf d parts → flat ≡ d) }
-    ensures stop { IfErr result (StopsAt (λ r. (d : Design) → ArePartsOf d parts → limit_of d ≡ Some r)) }
+    ensures within { IfOk result (λ flat. IsWithinLimits limits.now flat) }
+    ensures stop { IfErr result (StopsAt (λ r. (d : Design) → ArePartsOf d parts → limit_of limits.now d ≡ Some r)) }
 {
+    let _most = limits.most();
     if let Some(refusal) = first_over(
+        limits,
         parts.inner as usize,
         parts.phases.count as usize,
         parts.elements.count as usize,
@@ -314,6 +317,7 @@ fn flat_of(alloc: Global, parts: Parts) -> Result<Flat, Stop>
         bounds,
     } = parts;
     Ok(Flat::new(
+        limits,
         Names::new(phases.kept),
         elements.kept,
         inner,
@@ -324,15 +328,16 @@ fn flat_of(alloc: Global, parts: Parts) -> Result<Flat, Stop>
 
 /// The design of a table's text. The refusal is Syntax with the first line that is out of form, counted from 1, and
 /// where all lines are in form Limit of the first quantity, in the order inner bits, phases, elements, arcs, bounds,
-/// that passes its limit.
-pub fn read_table(alloc: Global, text: &[u8]) -> Result<Flat, Stop>
+/// that passes its limit in this run.
+pub fn read_table(alloc: Global, limits: &Limits, text: &[u8]) -> Result<Flat, Stop>
     requires { length text.now ≤ MOST_BYTES }
     ensures value { IfOk result (λ flat. IsTableText text.now flat) }
-    ensures stop { IfErr result (StopsAt (IsTableRefusal text.now)) }
+    ensures within { IfOk result (λ flat. IsWithinLimits limits.now flat) }
+    ensures stop { IfErr result (StopsAt (IsTableRefusal limits.now text.now)) }
 {
     let mut reader = Reader::new(text);
     match table(alloc, &mut reader) {
-        Ok(parts) => flat_of(alloc, parts),
+        Ok(parts) => flat_of(alloc, limits, parts),
         Err(ReadError::Malformed) => Err(Stop::Refused(Refusal::Syntax {
             role: Role::Table,
             entry: reader.number(),

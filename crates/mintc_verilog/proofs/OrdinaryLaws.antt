@@ -5,6 +5,7 @@ use Rattle.std.specs.List.{flat_map}
 use Rattle.std.proofs.lemmas.Grind.{flat_map-append}
 use Rattle.std.proofs.lemmas.List.{length-map, map-append}
 use Rattle.std.proofs.lemmas.List.Elements.{All-nil, All-cons, All-tail, All-head, All-append, All-map, All-push, All-weaker}
+use Rattle.mintc_text.specs.declared.limits.TheConstants.{MOST_BYTES}
 use Rattle.mintc_vlex.specs.declared.token_list.Token.{Token}
 use Rattle.mintc_vlex.specs.declared.statement_list.Statement.{Statement}
 use Rattle.mintc_vlex.specs.Tokens.{tokens_of}
@@ -76,7 +77,7 @@ stands-on used more entry done done2 current current2 ns h e all count each held
   order = subst (DontFall 1) (sym e) (rise 1 entry (entries_in done current) ns h.first h.below all h.order);
 }
 
-opened : (used n entry : ℕ) (done : List Module) (o : OpenModule) → Stands used entry done None → IsSaid n (said.Opens o) → IsNumbered entry (said.Opens o) → used + n ≤ 67108864 →
+opened : (used n entry : ℕ) (done : List Module) (o : OpenModule) → Stands used entry done None → IsSaid n (said.Opens o) → IsNumbered entry (said.Opens o) → used + n ≤ MOST_BYTES →
     Stands (used + n) (entry + 1) done (Some o)
 opened used n entry done o h s numbered few =
     stands-on used (used + n) entry done done None (Some o) (held_entries (Some o)) h
@@ -93,7 +94,7 @@ added used n entry done o declares items h s numbered =
     (All-map (λ k. k ≡ entry) entry_of items numbered)
     (omega (arith, h.count)) h.each (h.held.0, omega (arith, h.held.1, s.0, length-append o.items items), All-append IsItem o.items items h.held.2 s.1)
 
-closed : (used n entry : ℕ) (done : List Module) (o : OpenModule) → Stands used entry done (Some o) → 1 ≤ n → used + n ≤ 67108864 → Stands (used + n) (entry + 1) (done ++ module_of o ∷ []) None
+closed : (used n entry : ℕ) (done : List Module) (o : OpenModule) → Stands used entry done (Some o) → 1 ≤ n → used + n ≤ MOST_BYTES → Stands (used + n) (entry + 1) (done ++ module_of o ∷ []) None
 closed used n entry done o h s few =
     let flat = flat_map entries_of done in
     stands-on used (used + n) entry done (done ++ module_of o ∷ []) (Some o) None [] h
@@ -103,7 +104,7 @@ closed used n entry done o h s few =
     (All-push IsModule done (module_of o) h.each (record { ports = h.held.0; items = omega (arith, h.held.1); each = h.held.2 }))
     tt
 
-next-stands : (used n entry : ℕ) (done : List Module) (current : Option OpenModule) (s : Said) (c : State) → Stands used entry done current → IsSaid n s → IsNumbered entry s → used + n ≤ 67108864 →
+next-stands : (used n entry : ℕ) (done : List Module) (current : Option OpenModule) (s : Said) (c : State) → Stands used entry done current → IsSaid n s → IsNumbered entry s → used + n ≤ MOST_BYTES →
     next done current s ≡ Some c → StandsIn (used + n) (entry + 1) c
 next-stands used n entry done None (said.Opens o) c h s numbered few e =
     let same : state_of done (Some o) ≡ c = cc in
@@ -127,8 +128,8 @@ abbrev AllSound : List (List Lexeme) → Type 0
 AllSound [] = Unit {0}
 AllSound (ls ∷ more) = AreSound ls × AllSound more
 
-leads-stand : (used entry : ℕ) (a b : State) (all : List (List Lexeme)) → StandsIn used entry a → AllSound all → used + total all ≤ 67108864 → Leads entry a all b →
-    (u : ℕ) × (e : ℕ) × (u ≤ 67108864) × StandsIn u e b
+leads-stand : (used entry : ℕ) (a b : State) (all : List (List Lexeme)) → StandsIn used entry a → AllSound all → used + total all ≤ MOST_BYTES → Leads entry a all b →
+    (u : ℕ) × (e : ℕ) × (u ≤ MOST_BYTES) × StandsIn u e b
 leads-stand used entry a b [] h s few leads = (used, entry, omega arith, subst (StandsIn used entry) leads h)
 leads-stand used entry a b (ls ∷ more) h s few (form, c, is, e, leads) =
     let said = form-sound entry ls form (record { sound = s.0; few = omega arith }) is in

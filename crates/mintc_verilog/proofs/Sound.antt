@@ -4,6 +4,7 @@ use Rattle.std.specs.Prelude.{All}
 use Rattle.std.proofs.lemmas.Bool.Decides.{nat_tests}
 use Rattle.std.proofs.lemmas.List.{length-map}
 use Rattle.std.proofs.lemmas.List.Elements.{All-nil, All-cons, All-tail, All-head, All-append, All-same, All-map}
+use Rattle.mintc_text.specs.declared.limits.TheConstants.{MOST_BYTES}
 use Rattle.mintc_vlex.specs.declared.token_list.Token.{Token}
 use Rattle.mintc_vlex.specs.declared.token_list.TokenKind.{TokenKind}
 use Rattle.mintc_netlist.specs.declared.expression.Piece.{Piece}
@@ -93,7 +94,7 @@ expression-sound ls ps s h = record {
 -- sound lexemes, no more of them than a text has bytes
 pub record AreFew (ls : List Lexeme) : Type 0 where
   pub sound : AreSound ls
-  pub few : length ls ≤ 67108864
+  pub few : length ls ≤ MOST_BYTES
 
 few-front : (a b : List Lexeme) → AreFew (a ++ b) → AreFew a
 few-front a b h = record { sound = sound-front a b h.sound; few = omega (arith, h.few, length-append a b) }

@@ -1,7 +1,7 @@
 use Rattle.std.proofs.lemmas.Grind.{common_steps}
 use Rattle.std.proofs.Common.{◌+◌, ℕ, List, arith, subst, inl, inr}
 use Rattle.mintc_text.specs.Outside.{Holds, IsFront}
-use Rattle.mintc_text.specs.declared.limits.TheConstants.{MOST_BYTES}
+use Rattle.liberty2toml_command.specs.declared.answer.TheConstants.{MOST_BYTES}
 use Rattle.liberty2toml_command.proofs.RunLaws.{Holds-front, answered, completed, one-name, same-name}
 use Rattle.liberty2toml_command.proofs.program.convert.Goals as goal
 

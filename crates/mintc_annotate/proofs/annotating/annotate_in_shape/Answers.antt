@@ -1,7 +1,8 @@
-use Rattle.std.proofs.Common.{◌∙◌, sym}
+use Rattle.std.proofs.Common.{◌∙◌, sym, arith}
+use Rattle.std.proofs.lemmas.Grind.{common_steps}
 use Rattle.mintc_annotate.specs.Gathered.{design_of_gathered}
 use Rattle.mintc_annotate.specs.Made.{too_many}
-use Rattle.mintc_annotate.proofs.AnnotateLaws.{made_of, parts_of, built}
+use Rattle.mintc_annotate.proofs.AnnotateLaws.{made_of, parts_of, built, stops_gathering}
 use Rattle.mintc_annotate.proofs.annotating.annotate_in_shape.Goals as goal
 
 pub build-requires-clause-parts : goal.build-requires-clause-parts
@@ -19,4 +20,9 @@ returns-in-Some c =
 pub returns-in-None : goal.returns-in-None
 returns-in-None c =
     let made = made_of c.args.hierarchy.now c.args.cells.now c.args.clock.now c.in_ok-gathered.gathered c.in_ok-gathered.ensures.0 c.args.delays.now.items c.in_ok-gathered.ensures.1 in
-    built c.args.hierarchy.now c.args.cells.now c.args.clock.now c.args.delays.now.items _ c.build.result made (sym c.limit.ensures ∙ c.in-None.is) c.build.ensures
+    built c.args.limits.now c.args.hierarchy.now c.args.cells.now c.args.clock.now c.args.delays.now.items _ c.build.result made (sym c.limit.ensures ∙ c.in-None.is) c.build.ensures
+
+pub returns-in_err-gathered : goal.returns-in_err-gathered
+returns-in_err-gathered c =
+    let told = stops_gathering c.args.limits.now c.args.hierarchy.now c.args.cells.now c.args.clock.now c.args.delays.now.items c.in_err-gathered.field-0.0 c.in_err-gathered.ensures in
+    grind (arith, common_steps, told)

@@ -6,10 +6,11 @@ use Rattle.mintc_annotate.proofs.annotating.elements_and_arcs.Goals as goal
 
 pub arcs-requires-clause-few : goal.arcs-requires-clause-few
 arcs-requires-clause-few c =
-    let few = few_gathered c.args.hierarchy.now c.args.cells.now c.args.clock.now c.args.gathered.now c.requires.gathered c.requires.within in
+    let few = few_gathered c.args.hierarchy.now c.args.cells.now c.args.clock.now c.args.gathered.now c.requires.gathered c.args.limits.now c.requires.within in
+    let kept = c.most-most.ensures.kept in
     let inputs = as_many_bits c.args.hierarchy.now false c.args.clock.now.inputs c.in_ok-bits.bits.inputs.items c.in_ok-bits.ensures.inputs in
     let outputs = as_many_bits c.args.hierarchy.now true c.args.clock.now.outputs c.in_ok-bits.bits.outputs.items c.in_ok-bits.ensures.outputs in
-    omega (arith, few, inputs, outputs)
+    omega (arith, few, inputs, outputs, kept.elements)
 
 pub arcs-requires-clause-stored : goal.arcs-requires-clause-stored
 arcs-requires-clause-stored c = as_stored c.args.hierarchy.now c.args.cells.now c.args.clock.now c.args.gathered.now c.requires.gathered

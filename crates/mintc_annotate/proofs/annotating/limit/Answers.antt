@@ -12,4 +12,4 @@ pub returns : goal.returns
 returns c =
     let stored = as_stored c.args.hierarchy.now c.args.cells.now c.args.clock.now c.args.gathered.now c.requires.gathered in
     (rw c.items-stored.ensures at (c.limit_by_counts.ensures _ _ c.requires.gathered.inputs c.requires.gathered.outputs))
-    ∙ sym (limit_counts c.args.hierarchy.now c.args.cells.now c.args.clock.now (look c.args.gathered.now.ranges) c.args.gathered.now.phases stored)
+    ∙ sym (limit_counts c.args.limits.now c.args.hierarchy.now c.args.cells.now c.args.clock.now (look c.args.gathered.now.ranges) c.args.gathered.now.phases stored)

@@ -14,10 +14,5 @@ loop-leaf-preserved c =
     let at = get_or_default c.args.hierarchy.now.leaves c.loop-leaf.leaf-index no_leaf c.leaf-item.result within ∙ ap (λ ls. slice_index_or ls c.loop-leaf.leaf-index c.leaf-item.result) (sym c.items-leaves.ensures) ∙ sym c.leaf-item.is in
     let same : arc_count (leaf_cell c.args.hierarchy.now c.args.cells.now c.loop-leaf.leaf-index) ≡ c.arc_count-total.result =
     ap (λ (x : Leaf). arc_count (cell_at c.args.cells.now x.cell)) at ∙ ap arc_count (sym c.cell.ensures) ∙ sym c.arc_count-total.ensures.value in
-    let small = c.arc_count-total.ensures.small in
-    let few = c.loop-leaf.invariant.1 in (
-      ap (λ (n : ℕ). n + c.arc_count-total.result) c.loop-leaf.invariant.0
-          ∙ ap (λ (n : ℕ). sum_by (λ k. arc_count (leaf_cell c.args.hierarchy.now c.args.cells.now k)) (range_with_len 0 c.loop-leaf.leaf-index) + n) (sym same)
-          ∙ sym (sum_more (λ k. arc_count (leaf_cell c.args.hierarchy.now c.args.cells.now k)) c.loop-leaf.leaf-index),
-      omega (arith, small, few),
-    )
+    let more = sum_more (λ k. arc_count (leaf_cell c.args.hierarchy.now c.args.cells.now k)) c.loop-leaf.leaf-index in
+    omega (arith, same, more, c.loop-leaf.invariant)

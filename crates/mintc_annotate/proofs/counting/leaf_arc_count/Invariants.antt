@@ -1,9 +1,10 @@
-use Rattle.std.proofs.Common.{◌≡◌, ◌≤◌, ◌*◌, sum_by}
+use Rattle.std.proofs.Common.{◌≡◌, min, sum_by}
 use Rattle.std.specs.List.{range_with_len}
+use Rattle.mintc_text.specs.declared.limits.TheConstants.{MOST_TOLD}
 use Rattle.mintc_annotate_resolve.specs.Pins.{leaf_cell}
 use Rattle.mintc_annotate.specs.Counts.{arc_count}
 use Rattle.mintc_annotate.proofs.counting.leaf_arc_count.Given as goal
 
 abbrev pub invariant-loop-leaf : goal.invariant-loop-leaf
 invariant-loop-leaf l =
-    (l.total ≡ sum_by (λ k. arc_count (leaf_cell l.hierarchy l.cells k)) (range_with_len 0 l.leaf-index)) × (l.total ≤ l.leaf-index * 68719476736)
+    l.total ≡ min (sum_by (λ k. arc_count (leaf_cell l.hierarchy l.cells k)) (range_with_len 0 l.leaf-index)) MOST_TOLD

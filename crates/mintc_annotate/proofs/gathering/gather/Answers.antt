@@ -4,7 +4,7 @@ use Rattle.mintc_flatten_hierarchy.specs.declared.hierarchy.Hierarchy.{Hierarchy
 use Rattle.mintc_annotate_resolve.specs.Pins.{all_names}
 use Rattle.mintc_annotate.specs.Clocked.{AreClocked}
 use Rattle.mintc_annotate.specs.Phases.{phase_spots}
-use Rattle.mintc_annotate.proofs.AnnotateLaws.{stops_port, stops_phase}
+use Rattle.mintc_annotate.proofs.AnnotateLaws.{stops_port, stops_resolving, stops_phase}
 use Rattle.mintc_annotate.proofs.gathering.gather.Goals as goal
 
 pub returns-in_err-clocked : goal.returns-in_err-clocked
@@ -12,6 +12,14 @@ returns-in_err-clocked c =
     let names : c.deref.result.now ≡ all_names c.args.hierarchy.now = c.deref.ensures.value ∙ c.in_ok-names.ensures in
     let p = err_from_is_err_and c.from_residual-in_err-clocked.result c.from_residual-in_err-clocked.ensures.1 in
     rw (p.1, p.2) (stops_port c.args.hierarchy.now c.args.cells.now c.args.clock.now c.args.delays.now.items c.in_err-clocked.field-0.0 (rw (names, c.items.ensures) at c.in_err-clocked.ensures))
+
+pub returns-in_err-ranges : goal.returns-in_err-ranges
+returns-in_err-ranges c =
+    let h : Hierarchy = c.args.hierarchy.now in
+    let names : c.deref.result.now ≡ all_names h = c.deref.ensures.value ∙ c.in_ok-names.ensures in
+    let clocked : AreClocked (all_names h) h.ports c.args.clock.now c.in_ok-clocked.clocked = rw (names, c.items.ensures) at c.in_ok-clocked.ensures in
+    let p = err_from_is_err_and c.from_residual-in_err-ranges.result c.from_residual-in_err-ranges.ensures.1 in
+    rw (p.1, p.2) (stops_resolving h c.args.cells.now c.args.clock.now c.args.delays.now.items c.in_err-ranges.field-0.0 clocked.there (rw c.items-2.ensures at c.in_err-ranges.ensures))
 
 pub returns-in_err-phases : goal.returns-in_err-phases
 returns-in_err-phases c =

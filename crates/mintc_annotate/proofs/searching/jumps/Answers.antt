@@ -23,5 +23,5 @@ loop-round-preserved c = λ ds drivers.
 
 pub returns : goal.returns
 returns c = λ ds drivers.
-    let count : c.loop-round.round ≡ 18 = omega (arith, c.loop-round-test.false, c.loop-round.auto.round-end) in
+    let count : c.loop-round.round ≡ 23 = omega (arith, c.loop-round-test.false, c.loop-round.auto.round-end) in
     subst (λ (k : ℕ). AreJumps ds (2 ^ k) (length c.args.table.now) c.loop-round.found.items) count (c.loop-round.invariant ds drivers)

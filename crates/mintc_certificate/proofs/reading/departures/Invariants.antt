@@ -6,4 +6,4 @@ use Rattle.mintc_certificate.proofs.reading.departures.Given as goal
 
 -- the lines so far gave these departures
 abbrev pub invariant-loop-departure : goal.invariant-loop-departure
-invariant-loop-departure l = (text : List ℕ) (s : Schedule) → At text l.initial.reader (departure l.fn.version l.count s []) → At text l.reader (departure l.fn.version (l.count - l._departure) s l.found.items)
+invariant-loop-departure l = (text : List ℕ) (most : ℕ) (s : Schedule) → At most text l.initial.reader (departure l.fn.version l.count s []) → At most text l.reader (departure l.fn.version (l.count - l._departure) s l.found.items)

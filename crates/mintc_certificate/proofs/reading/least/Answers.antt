@@ -10,16 +10,16 @@ returns-in_default c = λ text at. schedule_fault (scheduled c.args.version) (Is
 
 pub returns-in_err-departures : goal.returns-in_err-departures
 returns-in_err-departures c = λ text at.
-    let told = c.in_err-departures.ensures text c.in-Some.schedule (schedule_read (scheduled c.args.version) (IsDeparturesLine c.args.version) (λ l line b h. h) at c.in-Some.ensures) in
+    let told = c.in_err-departures.ensures text c.args.limits.now.members c.in-Some.schedule (schedule_read (scheduled c.args.version) (IsDeparturesLine c.args.version) (λ l line b h. h) at c.in-Some.ensures) in
     grind (arith, common_steps)
 
 pub returns-in_err-chain : goal.returns-in_err-chain
 returns-in_err-chain c = λ text at.
-    let departures = c.in_ok-departures.ensures text c.in-Some.schedule (schedule_read (scheduled c.args.version) (IsDeparturesLine c.args.version) (λ l line b h. h) at c.in-Some.ensures) in
+    let departures = c.in_ok-departures.ensures text c.args.limits.now.members c.in-Some.schedule (schedule_read (scheduled c.args.version) (IsDeparturesLine c.args.version) (λ l line b h. h) at c.in-Some.ensures) in
     let told = c.in_err-chain.ensures text (Least c.in-Some.schedule c.in_ok-departures.departures []) departures in
     grind (arith, common_steps)
 
 pub returns : goal.returns
 returns c = λ text at.
-    let departures = c.in_ok-departures.ensures text c.in-Some.schedule (schedule_read (scheduled c.args.version) (IsDeparturesLine c.args.version) (λ l line b h. h) at c.in-Some.ensures) in
+    let departures = c.in_ok-departures.ensures text c.args.limits.now.members c.in-Some.schedule (schedule_read (scheduled c.args.version) (IsDeparturesLine c.args.version) (λ l line b h. h) at c.in-Some.ensures) in
     c.in_ok-chain.ensures text (Least c.in-Some.schedule c.in_ok-departures.departures []) departures

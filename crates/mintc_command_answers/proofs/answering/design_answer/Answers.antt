@@ -4,23 +4,23 @@ use Rattle.mintc_command_answers.proofs.VerdictLaws.{answer_on_file, as_verify, 
 use Rattle.mintc_command_answers.proofs.answering.design_answer.Goals as goal
 
 pub returns-in-Verify-clause-value : goal.returns-in-Verify-clause-value
-returns-in-Verify-clause-value c = as_verify c.verdict_answer.result c.args.job c.args.source c.args.texts.now c.in-Verify.is c.verdict_answer.ensures.value
+returns-in-Verify-clause-value c = as_verify c.args.limits.now c.verdict_answer.result c.args.job c.args.source c.args.texts.now c.in-Verify.is c.verdict_answer.ensures.value
 
 pub returns-in-Verify-clause-stop : goal.returns-in-Verify-clause-stop
-returns-in-Verify-clause-stop c = refused_as_verify c.verdict_answer.result c.args.job c.args.source c.args.texts.now c.in-Verify.is c.verdict_answer.ensures.stop
+returns-in-Verify-clause-stop c = refused_as_verify c.args.limits.now c.verdict_answer.result c.args.job c.args.source c.args.texts.now c.in-Verify.is c.verdict_answer.ensures.stop
 
 pub returns-in_err-system : goal.returns-in_err-system
 returns-in_err-system c =
     let p = err_from_is_err_and c.from_residual.result c.from_residual.ensures.1 in
     record {
       value = rw p.1 tt;
-      stop = rw (p.1, p.2) (stop_on_source c.args.job c.args.source c.args.texts.now c.in_err-system.field-0.0 c.in_err-system.ensures.stop);
+      stop = rw (p.1, p.2) (stop_on_source c.args.limits.now c.args.job c.args.source c.args.texts.now c.in_err-system.field-0.0 c.in_err-system.ensures.stop);
     }
 
 pub returns : goal.returns
 returns c =
     let same = c.own_file.ensures.value ∙ c.in_ok-system.ensures.own in
     record {
-      value = answer_on_file c.job_answer.result c.args.job c.args.source c.args.texts.now c.in_ok-system.system c.own_file.result.now c.in_ok-system.ensures.value same c.job_answer.ensures.value;
-      stop = stop_on_file c.job_answer.result c.args.job c.args.source c.args.texts.now c.in_ok-system.system c.own_file.result.now c.in_ok-system.ensures.value same c.job_answer.ensures.stop;
+      value = answer_on_file c.args.limits.now c.job_answer.result c.args.job c.args.source c.args.texts.now c.in_ok-system.system c.own_file.result.now c.in_ok-system.ensures.value same c.job_answer.ensures.value;
+      stop = stop_on_file c.args.limits.now c.job_answer.result c.args.job c.args.source c.args.texts.now c.in_ok-system.system c.own_file.result.now c.in_ok-system.ensures.value same c.job_answer.ensures.stop;
     }

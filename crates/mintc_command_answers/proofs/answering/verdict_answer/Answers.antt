@@ -8,17 +8,17 @@ pub verify_answer-requires-clause-order : goal.verify_answer-requires-clause-ord
 verify_answer-requires-clause-order c = c.in_ok-flat.ensures.value.ordered
 
 pub verify_answer-requires-clause-short : goal.verify_answer-requires-clause-short
-verify_answer-requires-clause-short c = short_paths c.args.source c.args.texts.now c.in_ok-flat.field-0.flat c.in_ok-flat.field-0.order c.in_ok-flat.ensures.value
+verify_answer-requires-clause-short c = short_paths c.args.limits.now c.args.source c.args.texts.now c.in_ok-flat.field-0.flat c.in_ok-flat.field-0.order c.in_ok-flat.ensures.value
 
 pub returns-in_err-flat-clause-stop : goal.returns-in_err-flat-clause-stop
 returns-in_err-flat-clause-stop c =
     let p = err_from_is_err_and c.from_residual.result c.from_residual.ensures.1 in
-    rw (p.1, p.2) (stop_on_source Verify c.args.source c.args.texts.now c.in_err-flat.field-0.0 c.in_err-flat.ensures.stop)
+    rw (p.1, p.2) (stop_on_source c.args.limits.now Verify c.args.source c.args.texts.now c.in_err-flat.field-0.0 c.in_err-flat.ensures.stop)
 
 pub returns-clause-value : goal.returns-clause-value
 returns-clause-value c =
-    answer_on_ordered c.verify_answer.result c.args.source c.args.texts.now c.in_ok-flat.field-0.flat c.in_ok-flat.field-0.order c.own_file.result.now c.in_ok-flat.ensures.value (c.own_file.ensures.value ∙ c.in_ok-flat.ensures.own) c.verify_answer.ensures.value
+    answer_on_ordered c.args.limits.now c.verify_answer.result c.args.source c.args.texts.now c.in_ok-flat.field-0.flat c.in_ok-flat.field-0.order c.own_file.result.now c.in_ok-flat.ensures.value (c.own_file.ensures.value ∙ c.in_ok-flat.ensures.own) c.verify_answer.ensures.value
 
 pub returns-clause-stop : goal.returns-clause-stop
 returns-clause-stop c =
-    refusal_on_ordered c.verify_answer.result c.args.source c.args.texts.now c.in_ok-flat.field-0.flat c.in_ok-flat.field-0.order c.own_file.result.now c.in_ok-flat.ensures.value (c.own_file.ensures.value ∙ c.in_ok-flat.ensures.own) c.verify_answer.ensures.stop
+    refusal_on_ordered c.args.limits.now c.verify_answer.result c.args.source c.args.texts.now c.in_ok-flat.field-0.flat c.in_ok-flat.field-0.order c.own_file.result.now c.in_ok-flat.ensures.value (c.own_file.ensures.value ∙ c.in_ok-flat.ensures.own) c.verify_answer.ensures.stop

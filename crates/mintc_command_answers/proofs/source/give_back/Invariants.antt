@@ -1,4 +1,5 @@
 use Rattle.std.proofs.Common.{◌≡◌, ◌≤◌, length}
+use Rattle.mintc_text.specs.declared.limits.Most.{Most}
 use Rattle.mintc_command_answers.specs.Commands.{source_roles}
 use Rattle.mintc_command_answers.specs.Sources.{AreShort, own_file}
 use Rattle.mintc_command_answers.proofs.source.give_back.Given as goal
@@ -7,6 +8,6 @@ use Rattle.mintc_command_answers.proofs.source.give_back.Given as goal
 abbrev pub invariant-loop-place : goal.invariant-loop-place
 invariant-loop-place l = record {
   own : own_file l.fn.source l.files ≡ own_file l.fn.source l.fn.files;
-  short : AreShort l.files;
+  short : (most : Most) → AreShort most l.fn.files → AreShort most l.files;
   before : l.place-end ≤ length (source_roles l.fn.source);
 }

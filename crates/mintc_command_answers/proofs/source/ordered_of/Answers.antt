@@ -4,9 +4,9 @@ use Rattle.mintc_command_answers.proofs.source.ordered_of.Goals as goal
 
 pub returns-clause-value : goal.returns-clause-value
 returns-clause-value c =
-    GivesOrdered-system c.systems_are_accepted.ensures c.args.source c.args.files.now c.in_ok-flat.flat c.in_ok-order.order c.in_ok-flat.ensures.value c.phases-phases.ensures.kept c.in_ok-order.ensures.system
+    GivesOrdered-system c.args.limits.now c.systems_are_accepted.ensures c.args.source c.args.files.now c.in_ok-flat.flat c.in_ok-order.order c.in_ok-flat.ensures.value c.phases-phases.ensures.kept c.in_ok-flat.ensures.within c.in_ok-order.ensures.system
 
 pub returns-in_err-order-clause-stop : goal.returns-in_err-order-clause-stop
 returns-in_err-order-clause-stop c =
     let p = err_from_is_err_and c.from_residual-in_err-order.result c.from_residual-in_err-order.ensures.1 in
-    rw (p.1, p.2) (StopsAt-system c.args.source c.args.files.now c.in_ok-flat.flat c.in_err-order.field-0.0 c.in_ok-flat.ensures.value c.phases-phases.ensures.kept c.in_err-order.ensures.stop)
+    rw (p.1, p.2) (StopsAt-system c.args.limits.now c.args.source c.args.files.now c.in_ok-flat.flat c.in_err-order.field-0.0 c.in_ok-flat.ensures.value c.phases-phases.ensures.kept c.in_ok-flat.ensures.within c.in_err-order.ensures.stop)

@@ -3,8 +3,8 @@ use Rattle.mintc_command_answers.proofs.source.system_of.Goals as goal
 
 pub returns-clause-value : goal.returns-clause-value
 returns-clause-value c =
-    Gives-system c.args.source c.args.files.now c.in_ok-flat.flat c.accepted_system.result c.in_ok-flat.ensures.value c.accepted_system.ensures.value
+    Gives-system c.args.limits.now c.args.source c.args.files.now c.in_ok-flat.flat c.accepted_system.result c.in_ok-flat.ensures.value c.accepted_system.ensures.value
 
 pub returns-clause-stop : goal.returns-clause-stop
 returns-clause-stop c =
-    Refuses-system c.args.source c.args.files.now c.in_ok-flat.flat c.accepted_system.result c.in_ok-flat.ensures.value c.accepted_system.ensures.limits c.accepted_system.ensures.stop
+    Refuses-system c.args.limits.now c.args.source c.args.files.now c.in_ok-flat.flat c.accepted_system.result c.in_ok-flat.ensures.value c.accepted_system.ensures.limits c.in_ok-flat.ensures.within c.accepted_system.ensures.stop

@@ -1,20 +1,28 @@
-use Rattle.std.proofs.Common.{◌<◌, ◌+ℤ◌, take, arith, ap, ◌∙◌, sym}
+use Rattle.std.proofs.Common.{◌<◌, ◌+ℤ◌, get_or, take, arith, ap, ◌∙◌, sym}
+use Rattle.mintc_text.specs.declared.limits.TheConstants.{MOST_ELEMENTS}
 use Rattle.mintc_timing.specs.Design.{pair_at}
 use Rattle.mintc_timing.specs.Violations.{loop_amount}
 use Rattle.mintc_timing.proofs.SharedFitting.{read_time}
+use Rattle.mintc_departure.proofs.SharedSizes.{travel-within}
 use Rattle.mintc_departure.specs.Networks.{late_travel}
-use Rattle.mintc_departure.proofs.LoopSums.{few_pairs, read_sum, sum-fits, sum-within, total-more}
+use Rattle.mintc_departure.proofs.LoopSums.{IsTravel, few_pairs, read_sum, sum-fits, sum-within, total-more}
 use Rattle.mintc_departure.proofs.judging.loop_excess.Goals as goal
 
-few : (c : goal.After-late_delay-amount) → c.loop-pair.pair-index < 2000
+few : (c : goal.After-late_delay-amount) → c.loop-pair.pair-index < MOST_ELEMENTS
 few c =
     let pairs = few_pairs c.args.clocked.now.system.now c.args.pairs.now c.count-count.ensures.kept.timing.extremes.each c.requires.closed in
     omega arith
 
+travel : (c : goal.After-late_delay-amount) → IsTravel c.late_delay-amount.result
+travel c =
+    let kept = c.count-count.ensures.kept in
+    let exists = c.requires.closed.exist c.loop-pair.pair-index 0 c.loop-pair-test.true in
+    rw c.late_delay-amount.ensures.value (travel-within c.args.clocked.now.system.now c.args.clocked.now.schedule.now kept (get_or c.args.pairs.now c.loop-pair.pair-index 0) exists)
+
 pub overflow_add-amount : goal.overflow_add-amount
 overflow_add-amount c =
     let y = c.late_delay-amount.result in
-    rw (read_time y c.late_delay-amount.ensures.range) (sum-fits c.loop-pair.pair-index _ y (few c) c.loop-pair.invariant.within c.late_delay-amount.ensures.range)
+    rw (read_time y c.late_delay-amount.ensures.range) (sum-fits c.loop-pair.pair-index _ y (few c) c.loop-pair.invariant.within (travel c))
 
 pub loop-pair-preserved : goal.loop-pair-preserved
 loop-pair-preserved c =
@@ -23,7 +31,7 @@ loop-pair-preserved c =
     let i = c.loop-pair.pair-index in
     let loop = c.args.pairs.now in
     let y = c.late_delay-amount.result in
-    let r = c.late_delay-amount.ensures.range in
+    let r = travel c in
     let read = read_sum i _ y (few c) c.loop-pair.invariant.within r in
     record {
       is =

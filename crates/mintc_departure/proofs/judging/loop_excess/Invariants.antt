@@ -7,5 +7,5 @@ use Rattle.mintc_departure.proofs.judging.loop_excess.Given as goal
 abbrev pub invariant-loop-pair : goal.invariant-loop-pair
 invariant-loop-pair l = record {
   is : l.amount ≡ loop_amount l.clocked.system.now l.clocked.schedule.now (take l.pair-index l.pairs);
-  within : IsWithin (l.pair-index * 1000000000000000) l.amount;
+  within : IsWithin (l.pair-index * 400000000000000) l.amount;
 }

@@ -21,7 +21,7 @@ returns-in_default-clause-answer g c =
 pub returns-in-Some-find_ring-clause-answer : goal.returns-in-Some-find_ring-clause-answer
 returns-in-Some-find_ring-clause-answer g c =
     let now = c.pass.ensures.relaxed.tended c.args.values.now (sym (c.loop-round.auto.values ∙ c.relax_all.auto.values)) c.loop-round.invariant.0.tended in
-    HasChain-from_loop (g.N.Network.arcs c.args.net.now) c.args.values.now c.pass.new.values c.pass.new.before (omega arith) c.requires.few now.0 now.1 c.in-Some-find_ring.ring.node c.collect.new.chain c.in-Some-find_ring.ring.len (omega (arith, c.in-Some-find_ring.ensures.ring.fits)) c.collect.ensures
+    HasChain-from_loop (g.N.Network.arcs c.args.net.now) c.args.values.now c.pass.new.values c.pass.new.before (omega arith) (omega (arith, c.requires.few)) now.0 now.1 c.in-Some-find_ring.ring.node c.collect.new.chain c.in-Some-find_ring.ring.len (omega (arith, c.in-Some-find_ring.ensures.ring.fits)) c.collect.ensures
 
 pub loop-round-preserved : goal.loop-round-preserved
 loop-round-preserved g c =

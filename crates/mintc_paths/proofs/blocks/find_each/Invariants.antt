@@ -10,6 +10,7 @@ invariant-loop-first g l = record {
   marked : AreMarked l.sums l.reached;
   ready : IsReady (length l.plan.sequence.now.along.items) l.awake;
   found : IsFoundBefore g.of.design l.first 0 l.found;
+  most : l.found.most ≡ l.plan.most;
   short : AreShortBefore g.of.design l.first;
   inside : l.first ≤ l.plan.elements;
   bits : length l.sums ≡ length l.fn.sums;

@@ -51,8 +51,8 @@ pub trace-requires-clause-bounded : goal.trace-requires-clause-bounded
 trace-requires-clause-bounded g c = λ bit inside.
     let order = ap (λ (xs : List ℕ). length xs) c.order-order.ensures in
     let arcs = ap (λ (f : Design). length f.arcs) c.flat-flat.ensures.value in
-    let few : length c.order-order.result.now * 1000000000 ≤ 1000000000000000 = omega (arith, c.flat-flat.ensures.kept.ordered.count, c.bit_count-bits.ensures.kept.arcs) in
-    IsBounded-weaker (length c.order-order.result.now * 1000000000) 1000000000000000 (sums_at c.fill.new.sums bit) few ((sums_are g (goal.at.trace-requires-clause-bounded g c).In_ok-fill).bounded bit inside)
+    let few : length c.order-order.result.now * 1000000000 ≤ 20000000000000000 = omega (arith, c.flat-flat.ensures.kept.ordered.count, c.bit_count-bits.ensures.kept.arcs) in
+    IsBounded-weaker (length c.order-order.result.now * 1000000000) 20000000000000000 (sums_at c.fill.new.sums bit) few ((sums_are g (goal.at.trace-requires-clause-bounded g c).In_ok-fill).bounded bit inside)
 
 pub returns : goal.returns
 returns g c =

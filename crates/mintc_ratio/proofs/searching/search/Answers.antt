@@ -14,7 +14,7 @@ search_from-requires-clause-climbing g c =
 pub returns-in-Values-clause-searched : goal.returns-in-Values-clause-searched
 returns-in-Values-clause-searched g c =
     let tested = c.in-Values.ensures.tested in
-    least_rest c.args.links.now c.new-rest.result c.test_at.new.room c.hold_rest.new.room c.new-rest.ensures tested.0 tested.1 (ap (λ (r : Space). r.values) c.hold_rest.ensures.kept)
+    least_rest c.args.links.now c.new-rest.result c.test_at.new.room c.hold_rest.new.room (omega (arith, c.in-Values.ensures.kept.nodes.0)) c.new-rest.ensures tested.0 tested.1 (ap (λ (r : Space). r.values) c.hold_rest.ensures.kept)
     c.hold_rest.ensures.chain c.hold_rest.ensures.delay c.hold_rest.ensures.cycles
 
 pub returns-in-Held-clause-cost : goal.returns-in-Held-clause-cost

@@ -1,6 +1,7 @@
 use Rattle.std.proofs.Common.{refl, arith, rules, SFits, ◌∙◌}
 use Rattle.std.specs.Int.{w128}
 use Rattle.std.proofs.lemmas.Int.{to_z-of_z}
+use Rattle.mintc_ratio.specs.Climbing.{most_halvings}
 use Rattle.mintc_ratio.proofs.GridLaws.{read_top}
 use Rattle.mintc_ratio.proofs.searching.search_from.Goals as goal
 
@@ -8,7 +9,7 @@ pub loop-outcome-init : goal.loop-outcome-init
 loop-outcome-init g c =
     let kept = c.nodes.ensures.kept in
     let top = read_top c.nodes.result c.args.links.now.nodes c.top_of-high.result c.nodes.ensures.value kept.nodes.1 c.top_of-high.ensures in
-    record { climbing = λ start s. (65, rw top s); nodes = refl; links = refl; late = refl; early = refl; later = omega arith }
+    record { climbing = λ start s. (most_halvings c.args.links.now.nodes, rw top s); nodes = refl; links = refl; late = refl; early = refl; later = omega arith }
 
 pub take_turn-requires-clause-climbing : goal.take_turn-requires-clause-climbing
 take_turn-requires-clause-climbing g c =

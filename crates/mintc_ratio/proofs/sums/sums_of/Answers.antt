@@ -8,7 +8,7 @@ use Rattle.mintc_ratio.proofs.SharedSumsLaws.{ordinary-at, few_links, summed-mor
 use Rattle.mintc_ratio.proofs.sums.sums_of.Goals as goal
 
 -- the link of a turn is ordinary, and there are few turns
-turn : (c : goal.After-delay-1) → IsOrdinaryLink c.args.nodes (link_at c.args.links.now (get_or c.args.chain.now c.loop-number.number-index 0)) × (c.loop-number.number-index < 2017)
+turn : (c : goal.After-delay-1) → IsOrdinaryLink c.args.nodes (link_at c.args.links.now (get_or c.args.chain.now c.loop-number.number-index 0)) × (c.loop-number.number-index < 20017)
 turn c =
     let few = few_links c.args.nodes c.args.links.now c.requires.ordinary c.args.chain.now c.requires.chain in
     let most = c.requires.ordinary.nodes.1 in (

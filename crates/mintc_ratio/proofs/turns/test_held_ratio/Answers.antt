@@ -11,7 +11,7 @@ pub returns-in-Values-clause-turn : goal.returns-in-Values-clause-turn
 returns-in-Values-clause-turn g c =
     let tested = c.in-Values.ensures.tested in
     least_held c.args.links.now c.args.held c.ratio_of-cycle.result c.args.room.now c.test_at.new.room c.requires.kept c.requires.held
-    c.ratio_of-cycle.ensures.cycle c.ratio_of-cycle.ensures.value tested.0 tested.1 tested.2
+    c.ratio_of-cycle.ensures.cycle (c.ratio_of-cycle.ensures.small c.args.links.now.nodes c.requires.held.small.cycles c.requires.held.small.delay) c.ratio_of-cycle.ensures.value tested.0 tested.1 tested.2
 
 pub returns-in-Chain-clause-turn : goal.returns-in-Chain-clause-turn
 returns-in-Chain-clause-turn g c =

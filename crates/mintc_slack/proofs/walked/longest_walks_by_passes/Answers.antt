@@ -10,7 +10,7 @@ walk_from-requires-clause-back g c =
 pub returns-clause-settled : goal.returns-clause-settled
 returns-clause-settled g c =
     are_settled c.args.system.now c.args.list.now c.requires.list c.args.at.now c.args.number c.begin.new.room.values c.walk_from.new.room.values
-    c.requires.cycle c.nodes.ensures.kept
+    c.requires.cycle c.nodes.ensures.kept c.requires.short
     (bounded c.args.list.now c.args.at.now c.element_node-node.result c.begin.new.room.values (c.begin.ensures.count ∙ c.nodes.ensures.value) c.begin.ensures.here
     (rw c.nodes.ensures.value at c.begin.ensures.others) 0)
     c.walk_from.ensures.within

@@ -19,4 +19,4 @@ returns-in-Ok-clause-stop c =
     let text = c.args.text.now in
     let told = c.in-Ok.ensures text (at_start NextOfTable first text c.new-reader.result c.requires c.new-reader.ensures.left c.new-reader.ensures.number) in
     MatchResult-weaker c.flat_of.result c.flat_of.ensures.stop (λ flat h. h)
-    (λ s. stops_weaker (λ r. (d : Design) → ArePartsOf d c.in-Ok.parts → limit_of d ≡ Some r) (IsTableRefusal text) s (λ r is. inr (told.0, told.1, is told.0 told.2)))
+    (λ s. stops_weaker (λ r. (d : Design) → ArePartsOf d c.in-Ok.parts → limit_of c.args.limits.now d ≡ Some r) (IsTableRefusal c.args.limits.now text) s (λ r is. inr (told.0, told.1, is told.0 told.2)))

@@ -1,4 +1,4 @@
-use Rattle.std.proofs.Common.{◌+◌, length}
+use Rattle.std.proofs.Common.{◌≡◌, ◌+◌, length}
 use Rattle.mintc_paths.specs.Found.{AreEnds, IsFoundBefore}
 use Rattle.mintc_paths.proofs.found.Found.add_all.Given as goal
 
@@ -6,6 +6,7 @@ use Rattle.mintc_paths.proofs.found.Found.add_all.Given as goal
 abbrev pub invariant-loop-lane : goal.invariant-loop-lane
 invariant-loop-lane g l = record {
   found : IsFoundBefore g.design (l.block.first + l.lane) 0 l.self;
+  most : l.self.most ≡ l.fn.self.most;
   ends : AreEnds l.block.rows.now.of_bits.items l.block.sums.now (length g.design.elements) l.self.ends.items;
 }
 

@@ -20,6 +20,7 @@ loop-number-preserved g c =
       found = IsFoundToEnd-more g.design c.args.rows.now c.args.sums.now ends c.requires.1.1.0 c.requires.1.0 c.requires.1.1.1.0 c.args.element c.args.lane c.requires.1.1.1.1.1.0 c.requires.1.1.1.1.1.1.0 number c.loop-number.self c.add_at.new.self inside
           (rw (c.at.ensures, is_row, is_to) at c.in_ok-add_at.ensures.found) c.loop-number.invariant.found;
       ends = c.in_ok-add_at.ensures.ends ∙ kept;
+      most = c.in_ok-add_at.ensures.most ∙ c.loop-number.invariant.most;
     }
 
 pub returns-clause-found : goal.returns-clause-found

@@ -7,4 +7,5 @@ abbrev pub invariant-loop-number : goal.invariant-loop-number
 invariant-loop-number g l = record {
   found : IsFoundToEnd g.design l.element l.fn.self.ends.items l.number l.self;
   ends : l.self.ends.items ≡ l.fn.self.ends.items;
+  most : l.self.most ≡ l.fn.self.most;
 }

@@ -10,4 +10,5 @@ invariant-loop-to l = record {
   ends : (sums : List Sums) → AreMarked sums l.reached → AreEnds l.rows.of_bits.items sums l.to l.self.ends.items;
   count : l.self.count ≡ l.fn.self.count;
   pairs : l.self.pairs.items ≡ l.fn.self.pairs.items;
+  most : l.self.most ≡ l.fn.self.most;
 }

@@ -23,8 +23,8 @@ returns c =
     let value = rw (
       c.nth_link-link.ensures,
       to_z-of_z w64 d (fits_64 4000000000 d (lit< tt) delay),
-      to_z-of_z w128 w.num (fits_128 (10 ^ 20) w.num (lit< tt) (num_within d d w.num w.den refl delay w.time)),
-      to_z-of_z w128 w.den (fits_128 (10 ^ 7) w.den (lit< tt) (den_within d d w.num w.den refl delay w.time)),
+      to_z-of_z w128 w.num (fits_128 (10 ^ 23) w.num (lit< tt) (num_within d d w.num w.den refl delay w.time)),
+      to_z-of_z w128 w.den (fits_128 (10 ^ 9) w.den (lit< tt) (den_within d d w.num w.den refl delay w.time)),
     ) at c.weight.ensures.value in
     rw c.nth_link-link.ensures (arc_is (over w.num w.den) links c.args.number c.weight.result below value c.weight.ensures.small)
 

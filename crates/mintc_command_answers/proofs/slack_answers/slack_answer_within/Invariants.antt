@@ -1,4 +1,4 @@
-use Rattle.mintc_command_answers.proofs.slack_answers.slack_answer.Given as goal
+use Rattle.mintc_command_answers.proofs.slack_answers.slack_answer_within.Given as goal
 
 abbrev pub ghosts-slacks_from : goal.ghosts-slacks_from
 ghosts-slacks_from a = record { name = a.blank.name; parts = a.blank.parts }

@@ -4,8 +4,8 @@ use Rattle.mintc_paths_sums.specs.SparseRows.{place_at, places_of}
 use Rattle.mintc_paths_sums.specs.Sums.{sums_at}
 use Rattle.mintc_paths_sums.proofs.SharedPlaced.{length-placed}
 use Rattle.mintc_paths_sums.proofs.Holding.{placed_none, AreHeld_none, none_above, first_alone}
-use Rattle.mintc_paths_sums.proofs.sparse_rows.SparseRows.clear.Goals as goal
-use Rattle.mintc_paths_sums.proofs.sparse_rows.SparseRows.clear.Goals.{After-len}
+use Rattle.mintc_paths_sums.proofs.sparse_rows.SparseRows.raise.Goals as goal
+use Rattle.mintc_paths_sums.proofs.sparse_rows.SparseRows.raise.Goals.{After-len}
 
 -- once the base is raised by how many sums are held, no row has a place
 off : (c : After-len) (row : ℕ) → place_at (places_of (c.self.inside.base + (c.len.result - 1)) c.self.inside.numbers.items) row ≡ 0
