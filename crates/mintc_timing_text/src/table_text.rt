@@ -297,7 +297,6 @@ fn flat_of(alloc: Global, limits: &Limits, parts: Parts) -> Result<Flat, Stop>
     ensures within { IfOk result (λ flat. IsWithinLimits limits.now flat) }
     ensures stop { IfErr result (StopsAt (λ r. (d : Design) → ArePartsOf d parts → limit_of limits.now d ≡ Some r)) }
 {
-    let _most = limits.most();
     if let Some(refusal) = first_over(
         limits,
         parts.inner as usize,
