@@ -1,6 +1,7 @@
 //! A netlist's hierarchy, or its first refusal.
 ghost use Rattle.std.specs.Prelude.{◌≡◌, ◌<◌, ◌^◌, ◌∷◌, [], None, Some, map, length, false, IfOk, OnOk, IfErr};
 ghost use Rattle.std.specs.Option.{option_copied};
+ghost use Rattle.mintc_text.specs.Limits.{AreLimits};
 ghost use Rattle.mintc_text.specs.Stops.{StopsAt};
 ghost use Rattle.mintc_netlist.specs.Ordinary.{IsOrdinary};
 ghost use Rattle.mintc_flatten_hierarchy.specs.Sources.{source_of, module_at, is_stub, bindings_in};
@@ -101,6 +102,7 @@ fn flatten_modules(
 ) -> Result<Hierarchy, Stop>
     requires { length modules.now < 2 ^ 32 }
     ensures value { IfOk result (IsHierarchy limits.now (source_of cells.now modules.now) (option_copied name.entry)) }
+    ensures kept { OnOk result (AreLimits limits.now) }
     ensures stop { IfErr result (StopsAt (IsRefusal limits.now (source_of cells.now modules.now)
         (option_copied name.entry))) }
 {
@@ -133,6 +135,7 @@ pub fn flatten(
     requires { IsOrdinary netlist.now }
     ensures value { IfOk result (IsHierarchy limits.now (source_of cells.now netlist.now.modules)
         (option_copied top.entry)) }
+    ensures kept { OnOk result (AreLimits limits.now) }
     ensures stop { IfErr result
         (StopsAt (IsRefusal limits.now (source_of cells.now netlist.now.modules) (option_copied top.entry))) }
 {

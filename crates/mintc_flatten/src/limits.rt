@@ -1,5 +1,6 @@
 //! The limits of a hierarchy.
 ghost use Rattle.std.specs.Prelude.{◌≡◌, ◌<◌, ◌^◌, ◌∷◌, [], None, Some, map, length, min, false, OnOk, IfErr};
+ghost use Rattle.mintc_text.specs.Limits.{AreLimits};
 ghost use Rattle.mintc_text.specs.Refusals.{over_limit};
 ghost use Rattle.mintc_text.specs.Stops.{StopsAt};
 ghost use Rattle.mintc_text.specs.declared.refusals.Kind.TheVariants as kind;
@@ -58,6 +59,7 @@ pub(crate) fn check_limits(
     requires top { top < length source.now.modules.now }
     requires live { is_stub (source_in source.now) (module_at (source_in source.now) top) ≡ false }
     ensures passes { OnOk result (limit_refusal limits.now (source_in source.now) top ≡ None) }
+    ensures kept { OnOk result (AreLimits limits.now) }
     ensures stop { IfErr result (StopsAt (λ r. limit_refusal limits.now (source_in source.now) top ≡ Some r)) }
 {
     let bits = net_counts(alloc, source.modules, source.nets)?;

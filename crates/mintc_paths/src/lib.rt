@@ -11,6 +11,7 @@
 #![tactic(auto)]
 
 ghost use Rattle.std.specs.Prelude.{◌≡◌, ◌≤◌, length, All, IfOk, IfErr, OnOk};
+ghost use Rattle.mintc_text.specs.Limits.{AreLimits};
 ghost use Rattle.mintc_text.specs.Stops.{StopsAt};
 ghost use Rattle.mintc_timing.specs.declared.parts.Pair.{Pair};
 ghost use Rattle.mintc_timing.specs.Order.{IsOrder, ArePathsShort};
@@ -70,6 +71,7 @@ pub fn extremes(
     ensures few { IfOk result (λ pairs. length pairs.items ≤ limits.now.pairs) }
     ensures short { OnOk result (ArePathsShort flat.now) }
     ensures stop { IfErr result (StopsAt (IsExtremesRefusal limits.now flat.now)) }
+    ensures kept { AreLimits limits.now }
 {
     let most = limits.most();
     let Found { pairs, count, .. } = find(alloc, most.pairs, flat, order)?;

@@ -1,6 +1,7 @@
 //! The number of a design's pairs.
 ghost use Rattle.std.specs.Prelude.{◌≡◌, ◌<◌, ◌≤◌, ◌+◌, ◌*◌, length, IfOk, IfErr, OnOk};
 ghost use Rattle.mintc_text.specs.declared.limits.TheConstants.{MOST_ELEMENTS};
+ghost use Rattle.mintc_text.specs.Limits.{AreLimits};
 ghost use Rattle.mintc_text.specs.Stops.{StopsAt};
 ghost use Rattle.mintc_timing.specs.Design.{Design};
 ghost use Rattle.mintc_timing.specs.Order.{IsOrder, ArePathsShort};
@@ -145,7 +146,9 @@ pub fn count_pairs(alloc: Global, limits: &Limits, flat: &Flat, order: &Order) -
     ensures few { IfOk result (λ count. count ≤ limits.now.pairs) }
     ensures short { OnOk result (ArePathsShort flat.now) }
     ensures stop { IfErr result (StopsAt (IsExtremesRefusal limits.now flat.now)) }
+    ensures kept { AreLimits limits.now }
 {
+    let most = limits.most();
     let sequence = sequence_of(alloc, flat, order)?;
     let known_short = bound_is_within_limit(alloc, flat, order, &sequence)?;
     if !known_short {
@@ -153,7 +156,6 @@ pub fn count_pairs(alloc: Global, limits: &Limits, flat: &Flat, order: &Order) -
         return Ok(pairs.len() as u64);
     }
     let count = count_all(alloc, flat, order, sequence)?;
-    let most = limits.most();
     let limit = most.pairs as u64;
     if count > limit {
         return Err(Stop::Refused(Refusal::Limit {
