@@ -1,0 +1,6 @@
+mod BetweenLaws
+mod CauseLaws
+mod NamedLaws
+mod PlaceLaws
+mod RuleLaws
+mod Sizes
