@@ -89,7 +89,7 @@ module _ (most : Most) where
   no_table law table design refused text limits within (inl (n, named, fault)) = law.no_table_fault table design n text fault
   no_table law table design refused text limits within (inr (d, other, over)) =
       let same : d ≡ design = law.one_design table d design other text in
-      no_limit design refused limits within (subst (λ (x : Design). (limit_of most) x ≡ Some refused) same over)
+      no_limit design refused limits within (subst (λ (x : Design). limit_of most x ≡ Some refused) same over)
 
   no_refusal : AreTextLaws → (source : Source) (files : List (List ℕ)) (design : Design) (refused : Refusal) → Describes most source files design → IsDesign design → IsWithinLimits most design → HasNoDesign most source files refused → ⊥
   no_refusal law Table files design refused described limits within h = no_table law (file_at files 0) design refused described limits within h
@@ -98,7 +98,7 @@ module _ (most : Most) where
   no_refusal law Liberty files design refused described limits within h =
       law.liberty.no_refusal most (file_at files 0) (file_at files 1) (file_at files 2) (file_at files 3) design refused described h
 
-  one_limit : (design : Design) (refused other : Refusal) → (limit_of most) design ≡ Some refused → (limit_of most) design ≡ Some other → refused ≡ other
+  one_limit : (design : Design) (refused other : Refusal) → limit_of most design ≡ Some refused → limit_of most design ≡ Some other → refused ≡ other
   one_limit design refused other a b = let e : Some refused ≡ Some other = sym a ∙ b in cc
 
   one_table : AreTextLaws → (table : List ℕ) (refused other : Refusal) → IsTableRefusal most table refused → IsTableRefusal most table other → refused ≡ other
@@ -108,7 +108,7 @@ module _ (most : Most) where
   one_table law table refused other (inr (d, text, over)) (inl (m, b, fault)) = absurd (law.no_table_fault table d m text fault)
   one_table law table refused other (inr (d, text, over)) (inr (e, other_text, other_over)) =
       let same : e ≡ d = law.one_design table e d other_text text in
-      one_limit d refused other over (subst (λ (x : Design). (limit_of most) x ≡ Some other) same other_over)
+      one_limit d refused other over (subst (λ (x : Design). limit_of most x ≡ Some other) same other_over)
 
   one_refusal : AreTextLaws → (source : Source) (files : List (List ℕ)) (refused other : Refusal) → HasNoDesign most source files refused → HasNoDesign most source files other → refused ≡ other
   one_refusal law Table files refused other a b = one_table law (file_at files 0) refused other a b
