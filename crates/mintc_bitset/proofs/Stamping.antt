@@ -1,5 +1,5 @@
 -- Flags by stamps.
-use Rattle.std.proofs.Common.{◌≡◌, ◌<◌, ◌≤◌, ◌+◌, ◌==◌, ℕ, suc, Bool, true, false, List, [], ◌∷◌, length, replicate, map, All, set, ap, refl, ◌∙◌, sym, arith}
+use Rattle.std.proofs.Common.{◌≡◌, ◌<◌, ◌≤◌, ◌+◌, ◌==◌, ℕ, suc, true, false, List, [], ◌∷◌, length, replicate, All, set, ap, refl, ◌∙◌, sym, arith}
 use Rattle.std.proofs.lemmas.List.{length-map, length-replicate, map-set}
 use Rattle.std.proofs.lemmas.List.Elements.{All-replicate}
 use Rattle.mintc_bitset.specs.Stamps.{flags_of}

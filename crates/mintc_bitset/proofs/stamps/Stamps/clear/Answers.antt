@@ -1,4 +1,4 @@
-use Rattle.std.proofs.Common.{◌≡◌, ◌==◌, ◌∙◌, arith, ap, false, List, Bool, length, replicate, vec_len, refl, sym}
+use Rattle.std.proofs.Common.{◌≡◌, ◌==◌, ◌∙◌, arith, ap, false, List, Bool, length, replicate, vec_len, sym}
 use Rattle.std.proofs.lemmas.List.{length-map}
 use Rattle.mintc_bitset.proofs.Stamping.{next_up, begun_up}
 use Rattle.mintc_bitset.proofs.stamps.Stamps.clear.Goals as goal
