@@ -1,10 +1,10 @@
 //! The search back from a bit.
-ghost use Rattle.std.specs.Prelude.{◌≡◌, ◌<◌, ◌≤◌, ◌^◌, ◌++◌, ◌∷◌, [], ℕ, List, length, slice_index_or, None, IfOk};
+ghost use Rattle.std.specs.Prelude.{◌≡◌, ◌<◌, ◌≤◌, ◌++◌, ◌∷◌, [], ℕ, List, length, slice_index_or, None, IfOk};
 ghost use Rattle.std.specs.Prelude.{MatchOption, All, map};
 ghost use Rattle.std.specs.List.{range_with_len};
 ghost use Rattle.mintc_text.specs.declared.limits.TheConstants.{MOST_INNER};
 ghost use Rattle.mintc_annotate.specs.Phases.{EndsAt};
-ghost use Rattle.mintc_annotate.specs.Searches.{AreDrivers, IsTable, AreJumps, first_jump, then_jump, doubled_jump};
+ghost use Rattle.mintc_annotate.specs.Searches.{AreDrivers, IsTable, AreLongJumps, first_jump, then_jump, doubled_jump};
 ghost use Rattle.mintc_annotate.specs.Searches.{spot_after};
 ghost use Rattle.mintc_annotate.specs.declared.searching.Drive.{Drive};
 ghost use Rattle.mintc_annotate.specs.declared.searching.Spot.{Spot};
@@ -113,18 +113,20 @@ fn twice_as_far(alloc: Global, jumps: &[Jump]) -> Result<Vec<Jump>, OutOfMemory>
     Ok(found)
 }
 
-/// As many steps back from each bit as there can be bits: so each search that ends is at its end. In each round the
-/// steps of the round before are taken twice.
+/// At least as many steps back from each bit as there are bits: so each search that ends is at its end. In each round
+/// the steps of the round before are taken twice.
 pub(crate) fn jumps(alloc: Global, table: &[Option<Drive>]) -> Result<Vec<Jump>, OutOfMemory>
     requires size { length table.now ≤ MOST_INNER }
     requires table { IsTable table.now }
     ensures { IfOk result (λ v. (ds : List Drive) → AreDrivers ds (length table.now) table.now →
-        AreJumps ds MOST_INNER (length table.now) v.items) }
+        AreLongJumps ds (length table.now) v.items) }
 {
     let mut found = first_jumps(alloc, table)?;
-    for round in 0..23u32 {
+    let mut steps = 1;
+    while steps < table.len() {
         let more = twice_as_far(alloc, &found)?;
         found = more;
+        steps += steps;
     }
     Ok(found)
 }
@@ -141,11 +143,10 @@ fn spot_after(jump: Jump, spot: Spot) -> Spot
 
 /// Where the search from a spot ends; None where it goes round.
 pub(crate) fn end_of(table: &[Option<Drive>], jumps: &[Jump], start: Spot) -> Option<Spot>
-    requires size { length table.now ≤ MOST_INNER }
     requires jumps { (length jumps.now ≡ length table.now) × All (λ j. j.bit < length table.now) jumps.now }
     requires start { start.bit < length table.now }
     ensures { (ds : List Drive) → AreDrivers ds (length table.now) table.now →
-        AreJumps ds MOST_INNER (length table.now) jumps.now →
+        AreLongJumps ds (length table.now) jumps.now →
         MatchOption result ((n : ℕ) (end : Spot) → EndsAt ds n start end → ⊥) (λ end. (n : ℕ) × EndsAt ds n start end) }
 {
     let end = spot_after(jumps[start.bit as usize], start);
