@@ -38,7 +38,7 @@ pub(crate) struct Jump {
 pub(crate) fn no_drivers(alloc: Global, count: usize) -> Result<Vec<Option<Drive>>, OutOfMemory>
     ensures { IfOk result (λ table. AreDrivers [] count table.items) }
 {
-    let mut table = Vec::new(alloc);
+    let mut table = Vec::with_capacity(alloc, count)?;
     for number in 0..count {
         table.push(None)?;
     }
@@ -84,7 +84,7 @@ fn first_jumps(alloc: Global, table: &[Option<Drive>]) -> Result<Vec<Jump>, OutO
         (λ v. v.items ≡ map (λ b. first_jump b (slice_index_or table.now b None))
         (range_with_len 0 (length table.now))) }
 {
-    let mut found = Vec::new(alloc);
+    let mut found = Vec::with_capacity(alloc, table.len())?;
     for bit in 0..table.len() {
         found.push(first_jump(table, bit))?;
     }
@@ -106,7 +106,7 @@ fn twice_as_far(alloc: Global, jumps: &[Jump]) -> Result<Vec<Jump>, OutOfMemory>
     requires { All (λ j. j.bit < length jumps.now) jumps.now }
     ensures { IfOk result (λ v. v.items ≡ map (doubled_jump jumps.now) jumps.now) }
 {
-    let mut found = Vec::new(alloc);
+    let mut found = Vec::with_capacity(alloc, jumps.len())?;
     for &jump in jumps {
         found.push(then_jump(jump, jumps[jump.bit as usize]))?;
     }
