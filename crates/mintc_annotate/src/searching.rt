@@ -1,5 +1,5 @@
 //! The search back from a bit.
-ghost use Rattle.std.specs.Prelude.{◌≡◌, ◌<◌, ◌≤◌, ◌++◌, ◌∷◌, [], ℕ, List, length, slice_index_or, None, IfOk};
+ghost use Rattle.std.specs.Prelude.{◌≡◌, ◌<◌, ◌≤◌, ◌++◌, ◌∷◌, [], ℕ, List, length, slice_index_or, None, IfOk, OnOk};
 ghost use Rattle.std.specs.Prelude.{MatchOption, All, map};
 ghost use Rattle.std.specs.List.{range_with_len};
 ghost use Rattle.mintc_text.specs.declared.limits.TheConstants.{MOST_INNER};
@@ -101,16 +101,16 @@ fn then_jump(one: Jump, other: Jump) -> Jump
     }
 }
 
-/// Twice as many steps.
-fn twice_as_far(alloc: Global, jumps: &[Jump]) -> Result<Vec<Jump>, OutOfMemory>
+/// Twice as many steps, in the place of what the list had.
+fn twice_as_far(jumps: &[Jump], found: &mut Vec<Jump>) -> Result<(), OutOfMemory>
     requires { All (λ j. j.bit < length jumps.now) jumps.now }
-    ensures { IfOk result (λ v. v.items ≡ map (doubled_jump jumps.now) jumps.now) }
+    ensures { OnOk result (found.new.items ≡ map (doubled_jump jumps.now) jumps.now) }
 {
-    let mut found = Vec::with_capacity(alloc, jumps.len())?;
+    found.clear();
     for &jump in jumps {
         found.push(then_jump(jump, jumps[jump.bit as usize]))?;
     }
-    Ok(found)
+    Ok(())
 }
 
 /// At least as many steps back from each bit as there are bits: so each search that ends is at its end. In each round
@@ -122,10 +122,13 @@ pub(crate) fn jumps(alloc: Global, table: &[Option<Drive>]) -> Result<Vec<Jump>,
         AreLongJumps ds (length table.now) v.items) }
 {
     let mut found = first_jumps(alloc, table)?;
+    let mut other = Vec::with_capacity(alloc, table.len())?;
     let mut steps = 1;
     while steps < table.len() {
-        let more = twice_as_far(alloc, &found)?;
-        found = more;
+        twice_as_far(&found, &mut other)?;
+        let twice = other;
+        other = found;
+        found = twice;
         steps += steps;
     }
     Ok(found)

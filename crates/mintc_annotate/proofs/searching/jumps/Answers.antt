@@ -17,7 +17,7 @@ loop-steps-preserved c = (
   omega (arith, c.loop-steps.invariant.0),
   λ ds drivers.
       let are = doubled_are ds c.loop-steps.steps (length c.args.table.now) c.loop-steps.found.items (c.loop-steps.invariant.1 ds drivers) in
-      subst (λ (v : List Jump). AreJumps ds (c.loop-steps.steps + c.loop-steps.steps) (length c.args.table.now) v) (sym (c.in_ok-more.ensures ∙ ap (λ (v : List Jump). map (doubled_jump v) v) c.deref.ensures.value)) are,
+      subst (λ (v : List Jump). AreJumps ds (c.loop-steps.steps + c.loop-steps.steps) (length c.args.table.now) v) (sym (c.in_ok-twice_as_far.ensures ∙ ap (λ (v : List Jump). map (doubled_jump v) v) c.deref.ensures.value)) are,
 )
 
 pub returns : goal.returns
