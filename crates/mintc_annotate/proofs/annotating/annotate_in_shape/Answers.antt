@@ -1,5 +1,5 @@
 use Rattle.std.proofs.Common.{◌∙◌, sym, arith}
-use Rattle.std.proofs.lemmas.Grind.{common_steps}
+use Rattle.std.proofs.lemmas.Result.{err_from_is_err_and}
 use Rattle.mintc_annotate.specs.Gathered.{design_of_gathered}
 use Rattle.mintc_annotate.specs.Made.{too_many}
 use Rattle.mintc_annotate.proofs.AnnotateLaws.{few_gathered, made_of, parts_of, built, stops_gathering}
@@ -29,5 +29,5 @@ returns-in-None c =
 
 pub returns-in_err-gathered : goal.returns-in_err-gathered
 returns-in_err-gathered c =
-    let told = stops_gathering c.args.limits.now c.args.hierarchy.now c.args.cells.now c.args.clock.now c.args.delays.now.items c.in_err-gathered.field-0.0 c.in_err-gathered.ensures in
-    grind (arith, common_steps, told)
+    let p = err_from_is_err_and c.from_residual-in_err-gathered.result c.from_residual-in_err-gathered.ensures.1 in
+    rw (p.1, p.2) (stops_gathering c.args.limits.now c.args.hierarchy.now c.args.cells.now c.args.clock.now c.args.delays.now.items c.in_err-gathered.field-0.0 c.in_err-gathered.ensures)
