@@ -6,6 +6,7 @@ error.
   begins is free, so its lines are compared as a ring.
 - Statuses 2 to 7 of each program: 0 and 1 are those of examples.
 - Pieces: a table and its answer, each longer than 131,072 bytes, by files and by pipes.
+- Limits: tables with as many elements as there may be and one more, of each program.
 - Growths: three examples in which memory is refused at one page after the other: nothing is written then, and the status is 6.
 """
 import bisect
@@ -19,6 +20,7 @@ import tempfile
 
 TOP = pathlib.Path(__file__).resolve().parent.parent
 MINTC = TOP / "crates/mintc/out/mintc"
+MINTC_LARGE = TOP / "crates/mintc_large/out/mintc_large"
 LIBERTY2TOML = TOP / "crates/liberty2toml/out/liberty2toml"
 USAGE = (
     b"usage: mintc check|optimise|verify|report|safe|slack table|files|liberty FILE.. | mintc sample N | mintc corners V C K D D..\n"
@@ -163,19 +165,44 @@ def wrong_pieces():
         yield from differences("a file that takes 100,000 bytes", written, 5, answer[:100_000])
 
 
+def ring(count):
+    """A table of so many latches in a ring, each 50 femtoseconds after the one before."""
+    elements = "element a 1 0 - 0 0 0\n" * count
+    arcs = "".join(f"arc q{n} d{(n + 1) % count} 50 50\n" for n in range(count))
+    return f"table 1\nphases 1\nphase p\nelements {count}\n{elements}inner 0\narcs {count}\n{arcs}bounds 0\nend\n"
+
+
+def wrong_limits():
+    """Runs at the limit on elements and one past it that are other than they should be."""
+    for program, most in ((MINTC, 2_000), (MINTC_LARGE, 20_000)):
+        with tempfile.TemporaryDirectory() as name:
+            folder = pathlib.Path(name)
+            (folder / "table").write_text(ring(most))
+            (folder / "more").write_text(ring(most + 1))
+            ran = run(program, ["optimise", "table", "table"], folder)
+            (folder / "certificate").write_bytes(ran[1])
+            judged = run(program, ["verify", "table", "table", "certificate"], folder)
+            yield from differences(f"{program.name}, a certificate of {most} elements", judged, 0, b"valid\n")
+            refused = run(program, ["optimise", "table", "more"], folder)
+            line = f"refused 17 elements {most + 1}\n".encode()
+            yield from differences(f"{program.name}, {most + 1} elements", refused, 2, line)
+
+
 def wrong():
     yield from wrong_examples()
     latches, ring = TOP / "examples/two-latches", TOP / "examples/from-tools/latch-ring"
     check = ["check", "table", "two.table", "two.schedule"]
-    yield from wrong_statuses(MINTC, latches, check, "two.table", b"refused 1 schedule 1\n", USAGE)
+    for program in (MINTC, MINTC_LARGE):
+        yield from wrong_statuses(program, latches, check, "two.table", b"refused 1 schedule 1\n", USAGE)
     yield from wrong_statuses(
         LIBERTY2TOML, ring, ["cells.lib"], "netlist.v", b"refused 1 cells 0\n", b"usage: liberty2toml FILE\n"
     )
     yield from wrong_pieces()
+    yield from wrong_limits()
     yield from wrong_growths()
 
 
-for program in (MINTC, LIBERTY2TOML):
+for program in (MINTC, MINTC_LARGE, LIBERTY2TOML):
     if not program.is_file():
         sys.exit(f"{program} isn't there: rt ci builds it")
 found = list(wrong())
