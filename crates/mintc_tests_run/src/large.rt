@@ -1,8 +1,7 @@
 //! Runs within the large limits: designs that `run` refuses are answered, and what is one past a limit is refused
 //! (refusal 17).
-use super::files::{PAIR_CELLS, PAIR_CLOCK};
 use super::harness::{CLOCK, Wanted, is_answered, is_wanted, run_large};
-use super::limits::{CHAINS, LEAVES, many_departures, many_elements, many_flops, modules};
+use super::limits::{CHAINS, LEAVES, many_departures, many_elements, modules};
 use mintc_command::Status;
 use mintc_tests_designs::{TWO_CELLS, TWO_LATCHES, shelf_of};
 use mintc_text::OutOfMemory;
@@ -68,7 +67,7 @@ fn slacks_are_of_2000_elements_at_most(rt: HostRuntime) -> Result<(), Fail> {
     let slacks = (
         Status::Done,
         "cycle 100/1\n",
-        ["slack a a 0\nslack a a 0\n"].as_slice(),
+        ["slack a b 0\nslack b a 0\n"].as_slice(),
     );
     is_large(&rt, alloc, &[("t", &most)], "slack table t", slacks)?;
     let more = many_elements(alloc, 2_001)?;
@@ -126,30 +125,6 @@ fn refusal_17_of_scopes_depth_and_leaves_of_large_netlists(rt: HostRuntime) -> R
     Ok(())
 }
 
-/// A cell with 1,024 arcs.
-fn wide_cell(alloc: Global) -> Result<String, AllocError> {
-    let mut text = String::from_str(alloc, "[cell.W]\nkind = \"gate\"\ninputs = [")?;
-    for number in 0..64u32 {
-        text.push_str(&format!(in alloc; "\"i{number}\", ")?)?;
-    }
-    text.push_str("]\noutputs = [")?;
-    for number in 0..16u32 {
-        text.push_str(&format!(in alloc; "\"o{number}\", ")?)?;
-    }
-    text.push_str("]\n")?;
-    Ok(text)
-}
-
-// Of 16,384 leaves with 1,024 arcs each, and the 32,766 joins of their scopes' ports.
-#[test]
-fn refusal_17_of_arcs_of_large_netlists(rt: HostRuntime) -> Result<(), Fail> {
-    let alloc = rt.alloc();
-    let netlist = modules(alloc, 15, 2, "W w ();")?;
-    let answer = "refused 17 arcs 16809982\n";
-    is_too_large_netlist(&rt, alloc, &netlist, &wide_cell(alloc)?, answer)?;
-    Ok(())
-}
-
 /// A table of so many latches, each of which leads to each.
 fn each_to_each(alloc: Global, count: usize) -> Result<String, AllocError> {
     let mut text = format!(in alloc; "table 1\nphases 1\nphase p\nelements {count}\n")?;
@@ -167,16 +142,13 @@ fn each_to_each(alloc: Global, count: usize) -> Result<String, AllocError> {
 
 // 448 latches have more pairs than the usual limits.
 #[test]
-fn refusal_17_of_pairs_of_large_tables(rt: HostRuntime) -> Result<(), Fail> {
+fn a_table_of_200704_pairs_is_answered(rt: HostRuntime) -> Result<(), Fail> {
     let alloc = rt.alloc();
     let few = each_to_each(alloc, 448)?;
     let answer = "refused 17 pairs 200704\n";
     is_refused_as_usual(&rt, alloc, &[("t", &few)], "report table t", answer)?;
     let (status, _) = run_large(alloc, &[("t", &few)], "report table t")?;
     assert!(&rt; status == Status::Done);
-    let many = each_to_each(alloc, 3_163)?;
-    let answer = "refused 17 pairs 10004569\n";
-    is_too_large(&rt, alloc, &[("t", &many)], "report table t", answer)?;
     Ok(())
 }
 
@@ -210,21 +182,5 @@ fn refusal_1_of_more_than_32768_members(rt: HostRuntime) -> Result<(), Fail> {
     let files = [("t", TWO_LATCHES), ("x", chain.as_str())];
     let answer = "refused 1 certificate 3\n";
     is_too_large(&rt, alloc, &files, "verify table t x", answer)?;
-    Ok(())
-}
-
-// The elements of all corners together are limited.
-#[test]
-fn refusal_17_of_elements_of_large_corners(rt: HostRuntime) -> Result<(), Fail> {
-    let alloc = rt.alloc();
-    let netlist = many_flops(alloc, 10_001)?;
-    let files = [
-        ("v", netlist.as_str()),
-        ("c", PAIR_CELLS),
-        ("k", PAIR_CLOCK),
-        ("d", "(DELAYFILE)"),
-    ];
-    let answer = "refused 17 elements 20002\n";
-    is_too_large(&rt, alloc, &files, "corners v c k d d", answer)?;
     Ok(())
 }

@@ -217,7 +217,7 @@ fn refusal_17_of_elements_of_files(rt: HostRuntime) -> Result<(), Fail> {
 }
 
 /// A netlist of so many flops, none of which is fed by another.
-pub(crate) fn many_flops(alloc: Global, count: usize) -> Result<String, AllocError> {
+fn many_flops(alloc: Global, count: usize) -> Result<String, AllocError> {
     let mut text = String::from_str(alloc, "module m(c1, c2); input c1, c2; wire p;")?;
     for number in 0..count {
         push_text(
