@@ -43,3 +43,10 @@ loop-stage-preserved c =
           (c.row_of.ensures ∙ row_is stages i k below c.stage-item.is design s d pace.at pace.cycle pace.comes inv.at_is inv.cycle_is inv.comes_is));
       times = subst AreInTime (sym c.in_ok-push.ensures.items) (All-push (λ (r : Row). IsChainTime r.at) c.loop-stage.rows.items c.row_of.result inv.times here);
     }
+
+pub returns-clause-times : goal.returns-clause-times
+returns-clause-times c =
+    let inv = c.loop-stage.invariant in
+    subst AreInTime (sym (c.new.ensures ∙ c.in_ok-push-2.ensures.items))
+    (All-push (λ (r : Row). IsChainTime r.at) c.loop-stage.rows.items _ inv.times
+    (omega (arith, ints, clamps, inv.at_low, inv.at_high, c.requires.most), omega (arith, ints, clamps, inv.at_low, inv.at_high, c.requires.most)))
