@@ -29,5 +29,5 @@ returns-in-None c =
 
 pub returns-in_err-gathered : goal.returns-in_err-gathered
 returns-in_err-gathered c =
-    let p = err_from_is_err_and c.from_residual-in_err-gathered.result c.from_residual-in_err-gathered.ensures.1 in
+    let p = err_from_is_err_and c.from_residual.result c.from_residual.ensures.1 in
     rw (p.1, p.2) (stops_gathering c.args.limits.now c.args.hierarchy.now c.args.cells.now c.args.clock.now c.args.delays.now.items c.in_err-gathered.field-0.0 c.in_err-gathered.ensures)
