@@ -30,6 +30,13 @@ module _ (most : Most) where
   answer_on_ordered (Ok a) source texts design order file h same v =
       (h.timing, h.given, subst (λ f. IsJobAnswer most Verify h.timing f a.status a.text) same (v h.timing h.same h.given.pairs))
 
+  -- So it is for a system, whose pairs are its own.
+  pub answer_on_system : {E : Type 0} (r : Result Answer E) (job : Job) (t : Timing) (design : Design) (file : List ℕ) → job ≡ Verify → design ≡ t.flat → ArePairs t.flat t.pairs →
+      IfOk r (λ (a : Answer). (u : Timing) → u.flat ≡ design → ArePairs u.flat u.pairs → IsJobAnswer most Verify u file a.status a.text) →
+      IfOk r (λ (a : Answer). IsJobAnswer most job t file a.status a.text)
+  answer_on_system (Err e) job t design file is same pairs v = tt
+  answer_on_system (Ok a) job t design file is same pairs v = subst (λ (j : Job). IsJobAnswer most j t file a.status a.text) (sym is) (v t (sym same) pairs)
+
   -- What stops the source's texts, or the text beside them, stops the command; and what is answered on both is its answer.
   pub stop_on_source : (job : Job) (source : Source) (texts : List (List ℕ)) (s : Stop) → StopsAt (IsSourceRefused most source texts) s → StopsAt (IsContentRefusal most (OfDesign job source) texts) s
   stop_on_source job source texts (stop.Refused refused) h = of_design h
