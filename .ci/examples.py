@@ -6,6 +6,8 @@ error.
   begins is free, so its lines are compared as a ring.
 - Statuses 2 to 7 of each program: 0 and 1 are those of examples.
 - Pieces: a table and its answer, each longer than 131,072 bytes, by files and by pipes.
+- Limits: a table with as many elements as there may be, and designs with more elements, pairs and arcs than there may be, of mintc and of
+  mintc_large.
 - Growths: three examples in which memory is refused at one page after the other: nothing is written then, and the status is 6.
 """
 import bisect
@@ -19,6 +21,7 @@ import tempfile
 
 TOP = pathlib.Path(__file__).resolve().parent.parent
 MINTC = TOP / "crates/mintc/out/mintc"
+MINTC_LARGE = TOP / "crates/mintc_large/out/mintc_large"
 LIBERTY2TOML = TOP / "crates/liberty2toml/out/liberty2toml"
 USAGE = (
     b"usage: mintc check|optimise|verify|report|safe|slack table|files|liberty FILE.. | mintc sample N | mintc corners V C K D D..\n"
@@ -163,19 +166,79 @@ def wrong_pieces():
         yield from differences("a file that takes 100,000 bytes", written, 5, answer[:100_000])
 
 
+def table_of(count, inner, arcs):
+    """A table of so many latches and inner bits, with these arcs."""
+    latches, lines = "element a 1 0 - 0 0 0\n" * count, "".join(f"arc {arc}\n" for arc in arcs)
+    return f"table 1\nphases 1\nphase p\nelements {count}\n{latches}inner {inner}\narcs {len(arcs)}\n{lines}bounds 0\nend\n"
+
+
+def ring(count):
+    """A table of so many latches in a ring."""
+    return table_of(count, 0, [f"q{n} d{(n + 1) % count} 50 50" for n in range(count)])
+
+
+def each_to_each(count):
+    """A table of so many latches, each of which leads to each by way of one inner bit."""
+    return table_of(count, 1, [arc for n in range(count) for arc in (f"q{n} n0 0 0", f"n0 d{n} 0 0")])
+
+
+def scopes_in_pairs(depth):
+    """Modules of which each but the last stands twice in the one before; the last has a leaf `W`."""
+    inner = [f"module t{n}(c); input c; t{n + 1} u (.c(c)); t{n + 1} v (.c(c)); endmodule\n" for n in range(1, depth)]
+    return "".join(inner) + f"module t{depth}(c); input c; W w (); endmodule\n"
+
+
+def gate(inputs, outputs):
+    """The description of a gate `W` with so many pins."""
+    ins, outs = [f"i{n}" for n in range(inputs)], [f"o{n}" for n in range(outputs)]
+    return f'[cell.W]\nkind = "gate"\ninputs = {ins}\noutputs = {outs}\n'
+
+
+def too_large(most, pairs, depth, arcs):
+    """Files that are more than a program takes: with one element more than the most, with so many pairs, and with scopes of gates
+    with 1,024 arcs each. The words, the files and the answer."""
+    clock = '[[phase]]\nname = "p"\nport = "c"\n'
+    netlist = {"v": scopes_in_pairs(depth), "d": "(DELAYFILE)\n", "c": gate(64, 16), "k": clock}
+    yield ["report", "table", "t"], {"t": ring(most + 1)}, f"elements {most + 1}"
+    yield ["report", "table", "t"], {"t": each_to_each(pairs)}, f"pairs {pairs * pairs}"
+    yield ["report", "files", *netlist], netlist, f"arcs {arcs}"
+
+
+def in_folder(program, words, files):
+    """A run in a folder of its own with these texts as files."""
+    with tempfile.TemporaryDirectory() as name:
+        for file, text in files.items():
+            (pathlib.Path(name) / file).write_text(text)
+        return run(program, words, name)
+
+
+def wrong_limits(program, most, *larger):
+    """Runs at the limit on elements and past limits that are other than they should be."""
+    table = ring(most)
+    certificate = in_folder(program, ["optimise", "table", "t"], {"t": table})[1].decode()
+    judged = in_folder(program, ["verify", "table", "t", "x"], {"t": table, "x": certificate})
+    yield from differences(f"{program.name}, a certificate of {most} elements", judged, 0, b"valid\n")
+    for words, files, count in too_large(most, *larger):
+        ran = in_folder(program, words, files)
+        yield from differences(f"{program.name}, {count}", ran, 2, f"refused 17 {count}\n".encode())
+
+
 def wrong():
     yield from wrong_examples()
     latches, ring = TOP / "examples/two-latches", TOP / "examples/from-tools/latch-ring"
     check = ["check", "table", "two.table", "two.schedule"]
-    yield from wrong_statuses(MINTC, latches, check, "two.table", b"refused 1 schedule 1\n", USAGE)
+    for program in (MINTC, MINTC_LARGE):
+        yield from wrong_statuses(program, latches, check, "two.table", b"refused 1 schedule 1\n", USAGE)
     yield from wrong_statuses(
         LIBERTY2TOML, ring, ["cells.lib"], "netlist.v", b"refused 1 cells 0\n", b"usage: liberty2toml FILE\n"
     )
     yield from wrong_pieces()
+    yield from wrong_limits(MINTC, 2_000, 448, 10, 525_310)
+    yield from wrong_limits(MINTC_LARGE, 20_000, 3_163, 15, 16_809_982)
     yield from wrong_growths()
 
 
-for program in (MINTC, LIBERTY2TOML):
+for program in (MINTC, MINTC_LARGE, LIBERTY2TOML):
     if not program.is_file():
         sys.exit(f"{program} isn't there: rt ci builds it")
 found = list(wrong())

@@ -44,7 +44,7 @@ one_made h cells clock delays design other a b =
     a.made ∙ ap (design_made h cells clock delays) (one_list h cells (phase_spots h clock) (storage h cells) a.phases b.phases a.traced b.traced) ∙ sym b.made
 
 pub determined_lem : DesignsAreDetermined
-determined_lem h cells clock delays design other a b = one_made h cells clock delays design other a.whole b.whole
+determined_lem most h cells clock delays design other a b = one_made h cells clock delays design other a.whole b.whole
 
 -- where all are traced, each is
 each_traced : (h : Hierarchy) (cells : CellTable) (spots : List Spot) (before : List ℕ) (l : ℕ) (after ps : List ℕ) → AllZip (IsPhaseOf h cells spots) (before ++ l ∷ after) ps → (p : ℕ) × IsPhaseOf h cells spots l p

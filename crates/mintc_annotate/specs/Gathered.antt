@@ -1,6 +1,6 @@
 -- What is gathered for a design before it is made.
-use Rattle.std.specs.Prelude.{◌≡◌, min, Bool, true, false, List, length, map, All, None}
-use Rattle.mintc_text.specs.declared.limits.TheConstants.{MOST_TOLD}
+use Rattle.std.specs.Prelude.{◌≡◌, ◌≤◌, ◌+◌, min, Bool, true, false, List, length, map, All, None}
+use Rattle.mintc_text.specs.declared.limits.TheConstants.{MOST_ELEMENTS, MOST_TOLD}
 use Rattle.mintc_flatten_hierarchy.specs.declared.hierarchy.Hierarchy.{Hierarchy}
 use Rattle.mintc_flatten_hierarchy.specs.Shape.{CellTable}
 use Rattle.mintc_sdf.specs.declared.delays.Delay.{Delay}
@@ -31,6 +31,11 @@ pub record AreGathered (h : Hierarchy) (cells : CellTable) (clock : Clock) (g : 
 pub record IsResolved (h : Hierarchy) (cells : CellTable) (delays : List Delay) (g : Gathered) : Type 0 where
   pub annotates : first_refusal h cells delays ≡ None
   pub ranges : AreRanges h cells delays g.ranges
+
+-- Its latches and flops and the bits of listed ports are as few as the elements of a design.
+abbrev pub AreFew : Hierarchy → Clock → Gathered → Type 0
+AreFew h clock g = length g.phases + length (bits_of h false clock.inputs) + length (bits_of h true clock.outputs) ≤
+    MOST_ELEMENTS
 
 -- the design that is made of it
 abbrev pub design_of_gathered : Hierarchy → CellTable → Clock → Gathered → Design

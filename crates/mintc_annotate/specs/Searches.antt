@@ -1,5 +1,5 @@
 -- What the table of a search holds.
-use Rattle.std.specs.Prelude.{◌≡◌, ◌<◌, ℕ, zero, suc, Bool, false, not, if◌then◌else◌, List, length, slice_index_or}
+use Rattle.std.specs.Prelude.{◌≡◌, ◌<◌, ◌≤◌, ℕ, zero, suc, Bool, false, not, if◌then◌else◌, List, length, slice_index_or}
 use Rattle.std.specs.Prelude.{Option, None, Some, All}
 use Rattle.mintc_annotate.specs.declared.searching.Drive.{Drive}
 use Rattle.mintc_annotate.specs.declared.searching.Spot.{Spot}
@@ -69,3 +69,7 @@ pub record AreJumps (ds : List Drive) (n count : ℕ) (jumps : List Jump) : Type
   pub within : All (λ j. j.bit < count) jumps
   pub each : (b : ℕ) (high : Bool) → b < count →
       onward ds n (spot b high) ≡ spot_after (slice_index_or jumps b no_jump) high
+
+-- the ways of as many steps as there are bits, or more
+abbrev pub AreLongJumps : List Drive → ℕ → List Jump → Type 0
+AreLongJumps ds count jumps = (n : ℕ) × (count ≤ n) × AreJumps ds n count jumps

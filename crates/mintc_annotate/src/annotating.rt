@@ -1,5 +1,6 @@
 //! The design of files.
 ghost use Rattle.std.specs.Prelude.{◌≡◌, ◌<◌, ◌≤◌, ◌+◌, ℕ, length, map, min, None, All, IfOk, MatchResult};
+ghost use Rattle.mintc_text.specs.Limits.{AreLimits};
 ghost use Rattle.mintc_text.specs.Refusals.{over_limit};
 ghost use Rattle.mintc_text.specs.declared.limits.TheConstants.{MOST_ELEMENTS, MOST_INNER, MOST_LEAVES, MOST_TOLD};
 ghost use Rattle.mintc_text.specs.Stops.{StopsAt};
@@ -8,7 +9,7 @@ ghost use Rattle.mintc_timing.specs.Limits.{HasParts, quantities, limit_of};
 ghost use Rattle.mintc_clock.specs.declared.clock.Clock.{Clock};
 ghost use Rattle.mintc_annotate_delays.specs.Ranges.{look};
 ghost use Rattle.mintc_annotate.specs.Given.{IsGivenClock, AreGivenDelays};
-ghost use Rattle.mintc_annotate.specs.Gathered.{AreGathered, AreListed, design_of_gathered};
+ghost use Rattle.mintc_annotate.specs.Gathered.{AreFew, AreGathered, AreListed, design_of_gathered};
 ghost use Rattle.mintc_annotate.specs.Counts.{leaf_arc_count};
 ghost use Rattle.mintc_annotate.specs.Phases.{storage};
 ghost use Rattle.mintc_annotate.specs.Made.{elements_of, arcs_of, IsAnnotated, IsAnnotateRefusal};
@@ -48,12 +49,12 @@ fn limit_by_counts(
     requires stored { counts.stored ≤ MOST_LEAVES }
     requires inputs { counts.inputs ≤ MOST_TOLD }
     requires outputs { counts.outputs ≤ MOST_TOLD }
-    ensures { (i o : ℕ) → counts.inputs ≡ min i MOST_TOLD → counts.outputs ≡ min o MOST_TOLD →
+    ensures refusal { (i o : ℕ) → counts.inputs ≡ min i MOST_TOLD → counts.outputs ≡ min o MOST_TOLD →
         result ≡ over_limit (quantities limits.now (length hierarchy.now.inner) (length clock.now.phases)
         (counts.stored + i + o)
         (length hierarchy.now.joins + leaf_arc_count hierarchy.now cells.now + i + o) (length clock.now.bounds)) }
+    ensures kept { AreLimits limits.now }
 {
-    let _most = limits.most();
     let elements = counts.stored as u64 + counts.inputs + counts.outputs;
     let arcs = hierarchy.joins.items().len() as u64
         + leaf_arc_count(hierarchy, cells)
@@ -79,7 +80,9 @@ fn limit(
 ) -> Option<Refusal>
     requires shape { IsFlattened cells.now hierarchy.now }
     requires gathered { AreGathered hierarchy.now cells.now clock.now gathered.now }
-    ensures { result ≡ limit_of limits.now (design_of_gathered hierarchy.now cells.now clock.now gathered.now) }
+    ensures refusal { result ≡ limit_of limits.now
+        (design_of_gathered hierarchy.now cells.now clock.now gathered.now) }
+    ensures kept { AreLimits limits.now }
 {
     let stored = gathered.phases.items().len();
     let counts = ElementCounts {
@@ -185,10 +188,9 @@ pub(crate) struct Parts {
     bounds: Vec<Bound>,
 }
 
-/// The elements and the arcs of a design within its limits.
+/// The elements and the arcs of a design.
 fn elements_and_arcs(
     alloc: Global,
-    limits: &Limits,
     hierarchy: &Hierarchy,
     cells: &Cells,
     clock: &Clock,
@@ -196,23 +198,21 @@ fn elements_and_arcs(
 ) -> Result<(Vec<Element>, Vec<TimingArc>), OutOfMemory>
     requires shape { IsFlattened cells.now hierarchy.now }
     requires gathered { AreGathered hierarchy.now cells.now clock.now gathered.now }
-    requires within { limit_of limits.now (design_of_gathered hierarchy.now cells.now clock.now gathered.now) ≡ None }
+    requires few { AreFew hierarchy.now clock.now gathered.now }
     ensures elements { IfOk result (λ both. both.0.items
         ≡ elements_of hierarchy.now cells.now clock.now (look gathered.now.ranges) gathered.now.phases) }
     ensures arcs { IfOk result (λ both. both.1.items
         ≡ arcs_of hierarchy.now cells.now clock.now (look gathered.now.ranges)) }
 {
-    let _most = limits.most();
     let bits = listed_bits(alloc, hierarchy, clock)?;
     let elements = elements(alloc, hierarchy, cells, clock, gathered, &bits)?;
     let arcs = arcs(alloc, hierarchy, cells, gathered, &bits)?;
     Ok((elements, arcs))
 }
 
-/// The parts of the design of what is gathered, within its limits.
+/// The parts of the design of what is gathered.
 fn parts_of(
     alloc: Global,
-    limits: &Limits,
     hierarchy: &Hierarchy,
     cells: &Cells,
     clock: &Clock,
@@ -220,7 +220,7 @@ fn parts_of(
 ) -> Result<Parts, OutOfMemory>
     requires shape { IsFlattened cells.now hierarchy.now }
     requires gathered { AreGathered hierarchy.now cells.now clock.now gathered.now }
-    requires within { limit_of limits.now (design_of_gathered hierarchy.now cells.now clock.now gathered.now) ≡ None }
+    requires few { AreFew hierarchy.now clock.now gathered.now }
     ensures phases { IfOk result (λ parts. parts.phases ≡ map (λ p. p.name) clock.now.phases) }
     ensures elements { IfOk result (λ parts. parts.elements.items
         ≡ elements_of hierarchy.now cells.now clock.now (look gathered.now.ranges) gathered.now.phases) }
@@ -230,7 +230,7 @@ fn parts_of(
 {
     let phases = Names::new(phase_names(alloc, clock.phases.items())?);
     let bounds = copy_bounds(alloc, clock.bounds.items())?;
-    let (elements, arcs) = elements_and_arcs(alloc, limits, hierarchy, cells, clock, gathered)?;
+    let (elements, arcs) = elements_and_arcs(alloc, hierarchy, cells, clock, gathered)?;
     Ok(Parts {
         phases,
         elements,
@@ -239,7 +239,7 @@ fn parts_of(
     })
 }
 
-/// The design of what is gathered, within its limits.
+/// The design of what is gathered, which is within the limits of this run.
 fn build(
     alloc: Global,
     limits: &Limits,
@@ -251,11 +251,12 @@ fn build(
     requires shape { IsFlattened cells.now hierarchy.now }
     requires gathered { AreGathered hierarchy.now cells.now clock.now gathered }
     requires parts { HasParts (design_of_gathered hierarchy.now cells.now clock.now gathered) }
+    requires few { AreFew hierarchy.now clock.now gathered }
     requires within { limit_of limits.now (design_of_gathered hierarchy.now cells.now clock.now gathered) ≡ None }
     ensures { MatchResult result (λ flat. flat ≡ design_of_gathered hierarchy.now cells.now clock.now gathered)
         (StopsAt (λ refused. ⊥)) }
 {
-    let parts = parts_of(alloc, limits, hierarchy, cells, clock, &gathered)?;
+    let parts = parts_of(alloc, hierarchy, cells, clock, &gathered)?;
     let inner = Names::new(gathered.names);
     Ok(Flat::new(
         limits,

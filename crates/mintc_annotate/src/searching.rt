@@ -1,10 +1,10 @@
 //! The search back from a bit.
-ghost use Rattle.std.specs.Prelude.{◌≡◌, ◌<◌, ◌≤◌, ◌^◌, ◌++◌, ◌∷◌, [], ℕ, List, length, slice_index_or, None, IfOk};
+ghost use Rattle.std.specs.Prelude.{◌≡◌, ◌<◌, ◌≤◌, ◌++◌, ◌∷◌, [], ℕ, List, length, slice_index_or, None, IfOk, OnOk};
 ghost use Rattle.std.specs.Prelude.{MatchOption, All, map};
 ghost use Rattle.std.specs.List.{range_with_len};
 ghost use Rattle.mintc_text.specs.declared.limits.TheConstants.{MOST_INNER};
 ghost use Rattle.mintc_annotate.specs.Phases.{EndsAt};
-ghost use Rattle.mintc_annotate.specs.Searches.{AreDrivers, IsTable, AreJumps, first_jump, then_jump, doubled_jump};
+ghost use Rattle.mintc_annotate.specs.Searches.{AreDrivers, IsTable, AreLongJumps, first_jump, then_jump, doubled_jump};
 ghost use Rattle.mintc_annotate.specs.Searches.{spot_after};
 ghost use Rattle.mintc_annotate.specs.declared.searching.Drive.{Drive};
 ghost use Rattle.mintc_annotate.specs.declared.searching.Spot.{Spot};
@@ -38,7 +38,7 @@ pub(crate) struct Jump {
 pub(crate) fn no_drivers(alloc: Global, count: usize) -> Result<Vec<Option<Drive>>, OutOfMemory>
     ensures { IfOk result (λ table. AreDrivers [] count table.items) }
 {
-    let mut table = Vec::new(alloc);
+    let mut table = Vec::with_capacity(alloc, count)?;
     for number in 0..count {
         table.push(None)?;
     }
@@ -84,7 +84,7 @@ fn first_jumps(alloc: Global, table: &[Option<Drive>]) -> Result<Vec<Jump>, OutO
         (λ v. v.items ≡ map (λ b. first_jump b (slice_index_or table.now b None))
         (range_with_len 0 (length table.now))) }
 {
-    let mut found = Vec::new(alloc);
+    let mut found = Vec::with_capacity(alloc, table.len())?;
     for bit in 0..table.len() {
         found.push(first_jump(table, bit))?;
     }
@@ -101,30 +101,35 @@ fn then_jump(one: Jump, other: Jump) -> Jump
     }
 }
 
-/// Twice as many steps.
-fn twice_as_far(alloc: Global, jumps: &[Jump]) -> Result<Vec<Jump>, OutOfMemory>
+/// Twice as many steps, in the place of what the list had.
+fn twice_as_far(jumps: &[Jump], found: &mut Vec<Jump>) -> Result<(), OutOfMemory>
     requires { All (λ j. j.bit < length jumps.now) jumps.now }
-    ensures { IfOk result (λ v. v.items ≡ map (doubled_jump jumps.now) jumps.now) }
+    ensures { OnOk result (found.new.items ≡ map (doubled_jump jumps.now) jumps.now) }
 {
-    let mut found = Vec::new(alloc);
+    found.clear();
     for &jump in jumps {
         found.push(then_jump(jump, jumps[jump.bit as usize]))?;
     }
-    Ok(found)
+    Ok(())
 }
 
-/// As many steps back from each bit as there can be bits: so each search that ends is at its end. In each round the
-/// steps of the round before are taken twice.
+/// At least as many steps back from each bit as there are bits: so each search that ends is at its end. In each round
+/// the steps of the round before are taken twice.
 pub(crate) fn jumps(alloc: Global, table: &[Option<Drive>]) -> Result<Vec<Jump>, OutOfMemory>
     requires size { length table.now ≤ MOST_INNER }
     requires table { IsTable table.now }
     ensures { IfOk result (λ v. (ds : List Drive) → AreDrivers ds (length table.now) table.now →
-        AreJumps ds MOST_INNER (length table.now) v.items) }
+        AreLongJumps ds (length table.now) v.items) }
 {
     let mut found = first_jumps(alloc, table)?;
-    for round in 0..23u32 {
-        let more = twice_as_far(alloc, &found)?;
-        found = more;
+    let mut other = Vec::with_capacity(alloc, table.len())?;
+    let mut steps = 1;
+    while steps < table.len() {
+        twice_as_far(&found, &mut other)?;
+        let twice = other;
+        other = found;
+        found = twice;
+        steps += steps;
     }
     Ok(found)
 }
@@ -141,11 +146,10 @@ fn spot_after(jump: Jump, spot: Spot) -> Spot
 
 /// Where the search from a spot ends; None where it goes round.
 pub(crate) fn end_of(table: &[Option<Drive>], jumps: &[Jump], start: Spot) -> Option<Spot>
-    requires size { length table.now ≤ MOST_INNER }
     requires jumps { (length jumps.now ≡ length table.now) × All (λ j. j.bit < length table.now) jumps.now }
     requires start { start.bit < length table.now }
     ensures { (ds : List Drive) → AreDrivers ds (length table.now) table.now →
-        AreJumps ds MOST_INNER (length table.now) jumps.now →
+        AreLongJumps ds (length table.now) jumps.now →
         MatchOption result ((n : ℕ) (end : Spot) → EndsAt ds n start end → ⊥) (λ end. (n : ℕ) × EndsAt ds n start end) }
 {
     let end = spot_after(jumps[start.bit as usize], start);

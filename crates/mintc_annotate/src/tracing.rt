@@ -1,14 +1,13 @@
 //! The phases of latches and flops.
-ghost use Rattle.std.specs.Prelude.{◌≡◌, ◌<◌, ◌≤◌, ◌^◌, ◌-◌, All, ℕ, List, length, true, false, MatchResult};
+ghost use Rattle.std.specs.Prelude.{◌≡◌, ◌<◌, ◌^◌, ◌-◌, All, ℕ, List, length, true, false, MatchResult};
 ghost use Rattle.std.specs.Prelude.{MatchOption};
-ghost use Rattle.mintc_text.specs.declared.limits.TheConstants.{MOST_INNER};
 ghost use Rattle.mintc_text.specs.Stops.{StopsAt};
 ghost use Rattle.mintc_flatten_hierarchy.specs.Shape.{IsFlattened, IsGivenHierarchy};
 ghost use Rattle.mintc_annotate.specs.Given.{IsGivenClock};
 ghost use Rattle.mintc_annotate.specs.Phases.{drives, IsStart, same_spot, first_at, AreTraced, IsUntraced, AreTraces};
 ghost use Rattle.mintc_annotate.specs.Phases.{IsTraceRefusal};
 ghost use Rattle.mintc_annotate_resolve.specs.Pins.{is_storage, leaf_cell};
-ghost use Rattle.mintc_annotate.specs.Searches.{AreDrivers, AreJumps, IsPhaseFrom};
+ghost use Rattle.mintc_annotate.specs.Searches.{AreDrivers, AreLongJumps, IsPhaseFrom};
 ghost use Rattle.mintc_annotate.specs.declared.searching.Drive.{Drive};
 
 use crate::drivers::drivers;
@@ -66,12 +65,11 @@ fn first_at(spots: &[Spot], spot: Spot) -> Option<u32>
 
 /// The phase to which the search from a spot leads.
 fn phase_from(table: &[Option<Drive>], jumps: &[Jump], spots: &[Spot], start: Spot) -> Option<u32>
-    requires size { length table.now ≤ MOST_INNER }
     requires jumps { (length jumps.now ≡ length table.now) × All (λ j. j.bit < length table.now) jumps.now }
     requires spots { length spots.now < 2 ^ 32 - 1 }
     requires start { start.bit < length table.now }
     ensures { (ds : List Drive) → AreDrivers ds (length table.now) table.now →
-        AreJumps ds MOST_INNER (length table.now) jumps.now →
+        AreLongJumps ds (length table.now) jumps.now →
         MatchOption result ((p : ℕ) → IsPhaseFrom ds spots.now start p → ⊥) (IsPhaseFrom ds spots.now start) }
 {
     match end_of(table, jumps, start) {
@@ -91,7 +89,7 @@ fn trace(
 ) -> Result<Numbers, Stop>
     requires shape { IsFlattened cells.now hierarchy.now }
     requires table { AreDrivers (drives hierarchy.now cells.now) (length hierarchy.now.inner) table.now }
-    requires jumps { AreJumps (drives hierarchy.now cells.now) MOST_INNER (length hierarchy.now.inner) jumps.now }
+    requires jumps { AreLongJumps (drives hierarchy.now cells.now) (length hierarchy.now.inner) jumps.now }
     requires spots { length spots.now < 2 ^ 32 - 1 }
     ensures { MatchResult result (AreTraced hierarchy.now cells.now spots.now)
         (StopsAt (IsUntraced hierarchy.now cells.now spots.now)) }

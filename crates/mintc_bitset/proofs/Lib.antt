@@ -1,2 +1,3 @@
 mod Setting
 mod Shifting
+mod Stamping

@@ -32,7 +32,6 @@ pub fn system(alloc: Global, limits: &Limits, flat: Flat) -> Result<System, Stop
     ensures few { IfOk result (λ system. length system.pairs ≤ limits.now.pairs) }
     ensures stop { IfErr result (StopsAt (IsDesignRefusal limits.now flat)) }
 {
-    let _most = limits.most();
     let order = order(alloc, &flat)?;
     orders_exclude_loops();
     let pairs = extremes(alloc, limits, &flat, &order)?;
@@ -45,7 +44,6 @@ pub fn system_order(alloc: Global, limits: &Limits, flat: &Flat) -> Result<Order
     ensures system { IfOk result (HasSystem limits.now flat.now) }
     ensures stop { IfErr result (StopsAt (IsDesignRefusal limits.now flat.now)) }
 {
-    let _most = limits.most();
     let order = order(alloc, flat)?;
     orders_exclude_loops();
     count_pairs(alloc, limits, flat, &order)?;

@@ -58,7 +58,6 @@ fn design_of_texts(
         clock.now)) }
 {
     unrefused_are_within();
-    let _most = limits.most();
     let modules = read_netlist(alloc, netlist)?;
     let said = read_delays(alloc, delays)?;
     let described = cells_of(alloc, cells)?;

@@ -30,7 +30,6 @@ use Rattle.mintc_command_answers.specs.declared.command.Job.{Job}
 use Rattle.mintc_command_answers.specs.declared.command.Job.TheVariants.{Check, Optimise, Verify, Report, Safe, Slack}
 use Rattle.mintc_command_answers.specs.declared.command.Source.{Source}
 use Rattle.mintc_command_answers.specs.declared.command.Source.TheVariants.{Table, Files, Liberty}
-use Rattle.mintc_text.specs.declared.limits.TheConstants.{MOST_BYTES}
 use Rattle.mintc_command_answers.specs.declared.status.Status.{Status}
 use Rattle.mintc_command_answers.specs.declared.status.Status.TheVariants.{Done, Found, Refused, Usage, ReadFault, WriteFault, OutOfMemory}
 
@@ -63,7 +62,7 @@ module _ (most : Most) where
       cc
 
   -- Files within their length aren't refused for it, and the first that isn't is one.
-  no_length : (roles : List Role) (files : List (List ℕ)) (refused : Refusal) → (AreShort most) files → (IsLengthRefusal most) roles files refused → ⊥
+  no_length : (roles : List Role) (files : List (List ℕ)) (refused : Refusal) → AreShort most files → IsLengthRefusal most roles files refused → ⊥
   no_length [] files refused short h = absurd h
   no_length (text ∷ roles) [] refused short h = absurd h
   no_length (text ∷ roles) (bytes ∷ files) refused short (inl h) =
@@ -72,7 +71,7 @@ module _ (most : Most) where
       omega (arith, long, here)
   no_length (text ∷ roles) (bytes ∷ files) refused short (inr h) = no_length roles files refused (All-tail (λ (b : List ℕ). length b ≤ most.bytes) bytes files short) h.1
 
-  one_length : (roles : List Role) (files : List (List ℕ)) (refused other : Refusal) → (IsLengthRefusal most) roles files refused → (IsLengthRefusal most) roles files other → refused ≡ other
+  one_length : (roles : List Role) (files : List (List ℕ)) (refused other : Refusal) → IsLengthRefusal most roles files refused → IsLengthRefusal most roles files other → refused ≡ other
   one_length [] files refused other a b = absurd a
   one_length (text ∷ roles) [] refused other a b = absurd a
   one_length (text ∷ roles) (bytes ∷ files) refused other (inl a) (inl b) = a.1 ∙ sym b.1
@@ -81,37 +80,37 @@ module _ (most : Most) where
   one_length (text ∷ roles) (bytes ∷ files) refused other (inr a) (inr b) = one_length roles files refused other a.1 b.1
 
   -- The files of a source stand for one design. Where it is within the limits they have no refusal, and they have one at most.
-  pub one_design : AreTextLaws → (source : Source) (files : List (List ℕ)) (design other : Design) → (Describes most) source files design → (Describes most) source files other → design ≡ other
+  pub one_design : AreTextLaws → (source : Source) (files : List (List ℕ)) (design other : Design) → Describes most source files design → Describes most source files other → design ≡ other
   one_design law Table files design other a b = law.one_design (file_at files 0) design other a b
   one_design law Files files design other a b = law.files.one_design most (file_at files 0) (file_at files 1) (file_at files 2) (file_at files 3) design other a b
   one_design law Liberty files design other a b = law.liberty.one_design most (file_at files 0) (file_at files 1) (file_at files 2) (file_at files 3) design other a b
 
-  no_table : AreTextLaws → (table : List ℕ) (design : Design) (refused : Refusal) → IsTableText table design → IsDesign design → IsWithinLimits most design → (IsTableRefusal most) table refused → ⊥
+  no_table : AreTextLaws → (table : List ℕ) (design : Design) (refused : Refusal) → IsTableText table design → IsDesign design → IsWithinLimits most design → IsTableRefusal most table refused → ⊥
   no_table law table design refused text limits within (inl (n, named, fault)) = law.no_table_fault table design n text fault
   no_table law table design refused text limits within (inr (d, other, over)) =
       let same : d ≡ design = law.one_design table d design other text in
-      no_limit design refused limits within (subst (λ (x : Design). (limit_of most) x ≡ Some refused) same over)
+      no_limit design refused limits within (subst (λ (x : Design). limit_of most x ≡ Some refused) same over)
 
-  no_refusal : AreTextLaws → (source : Source) (files : List (List ℕ)) (design : Design) (refused : Refusal) → (Describes most) source files design → IsDesign design → IsWithinLimits most design → (HasNoDesign most) source files refused → ⊥
+  no_refusal : AreTextLaws → (source : Source) (files : List (List ℕ)) (design : Design) (refused : Refusal) → Describes most source files design → IsDesign design → IsWithinLimits most design → HasNoDesign most source files refused → ⊥
   no_refusal law Table files design refused described limits within h = no_table law (file_at files 0) design refused described limits within h
   no_refusal law Files files design refused described limits within h =
       law.files.no_refusal most (file_at files 0) (file_at files 1) (file_at files 2) (file_at files 3) design refused described h
   no_refusal law Liberty files design refused described limits within h =
       law.liberty.no_refusal most (file_at files 0) (file_at files 1) (file_at files 2) (file_at files 3) design refused described h
 
-  one_limit : (design : Design) (refused other : Refusal) → (limit_of most) design ≡ Some refused → (limit_of most) design ≡ Some other → refused ≡ other
+  one_limit : (design : Design) (refused other : Refusal) → limit_of most design ≡ Some refused → limit_of most design ≡ Some other → refused ≡ other
   one_limit design refused other a b = let e : Some refused ≡ Some other = sym a ∙ b in cc
 
-  one_table : AreTextLaws → (table : List ℕ) (refused other : Refusal) → (IsTableRefusal most) table refused → (IsTableRefusal most) table other → refused ≡ other
+  one_table : AreTextLaws → (table : List ℕ) (refused other : Refusal) → IsTableRefusal most table refused → IsTableRefusal most table other → refused ≡ other
   one_table law table refused other (inl (n, a, fault)) (inl (m, b, other_fault)) =
       a ∙ ap (λ (k : ℕ). refusal.Syntax role.Table k) (law.one_table_fault table n m fault other_fault) ∙ sym b
   one_table law table refused other (inl (n, a, fault)) (inr (d, text, over)) = absurd (law.no_table_fault table d n text fault)
   one_table law table refused other (inr (d, text, over)) (inl (m, b, fault)) = absurd (law.no_table_fault table d m text fault)
   one_table law table refused other (inr (d, text, over)) (inr (e, other_text, other_over)) =
       let same : e ≡ d = law.one_design table e d other_text text in
-      one_limit d refused other over (subst (λ (x : Design). (limit_of most) x ≡ Some other) same other_over)
+      one_limit d refused other over (subst (λ (x : Design). limit_of most x ≡ Some other) same other_over)
 
-  one_refusal : AreTextLaws → (source : Source) (files : List (List ℕ)) (refused other : Refusal) → (HasNoDesign most) source files refused → (HasNoDesign most) source files other → refused ≡ other
+  one_refusal : AreTextLaws → (source : Source) (files : List (List ℕ)) (refused other : Refusal) → HasNoDesign most source files refused → HasNoDesign most source files other → refused ≡ other
   one_refusal law Table files refused other a b = one_table law (file_at files 0) refused other a b
   one_refusal law Files files refused other a b =
       law.files.one_refusal most (file_at files 0) (file_at files 1) (file_at files 2) (file_at files 3) refused other a b
@@ -126,18 +125,18 @@ module _ (most : Most) where
       apart (sym is.count ∙ ap (λ (x : Schedule). length x.starts) same)
 
   -- Files that give a timing aren't refused, and all that they give is of one design.
-  no_source : AreTextLaws → (source : Source) (files : List (List ℕ)) (t : Timing) (refused : Refusal) → (Gives most) source files t → (IsSourceRefused most) source files refused → ⊥
+  no_source : AreTextLaws → (source : Source) (files : List (List ℕ)) (t : Timing) (refused : Refusal) → Gives most source files t → IsSourceRefused most source files refused → ⊥
   no_source law source files t refused is (no_design h) = no_refusal law source files t.flat refused is.design is.accepted.limits is.accepted.within h
   no_source law source files t refused is (no_system d described limits within h) =
       let same : d ≡ t.flat = one_design law source files d t.flat described is.design in
-      law.accepted most t.flat refused is.accepted (subst (λ (x : Design). (IsDesignRefusal most) x refused) same h)
+      law.accepted most t.flat refused is.accepted (subst (λ (x : Design). IsDesignRefusal most x refused) same h)
 
-  one_flat : AreTextLaws → (source : Source) (files : List (List ℕ)) (t u : Timing) → (Gives most) source files t → (Gives most) source files u → t.flat ≡ u.flat
+  one_flat : AreTextLaws → (source : Source) (files : List (List ℕ)) (t u : Timing) → Gives most source files t → Gives most source files u → t.flat ≡ u.flat
   one_flat law source files t u a b = one_design law source files t.flat u.flat a.design b.design
 
   -- A file that is answered isn't refused.
   no_file : AreTextLaws → (job : Job) (t u : Timing) (file : List ℕ) (refused : Refusal) (status : Status) (text : List ℕ) → u.flat ≡ t.flat →
-      (IsJobAnswer most) job t file status text → (IsFileRefused most) job u.flat file refused → ⊥
+      IsJobAnswer most job t file status text → IsFileRefused most job u.flat file refused → ⊥
   no_file law Check t u file refused status text same (s, is, h) g =
       no_schedule law file (phase_count t.flat) s refused is (subst (λ (d : Design). IsScheduleRefused file (phase_count d) refused) same g)
   no_file law Optimise t u file refused status text same h g = absurd g
@@ -152,13 +151,13 @@ module _ (most : Most) where
 
   -- Corners that give timings have none that is refused; of others one is the first; and they have as many elements together
   -- whatever timings they give.
-  no_corner : AreTextLaws → (corners : List (List (List ℕ))) (c corner : ℕ) (own : Refusal) (ts : List Timing) → (AreGiven most) corners ts → (IsFirstRefused most) corners c corner own → ⊥
+  no_corner : AreTextLaws → (corners : List (List (List ℕ))) (c corner : ℕ) (own : Refusal) (ts : List Timing) → AreGiven most corners ts → IsFirstRefused most corners c corner own → ⊥
   no_corner law [] c corner own ts given h = absurd h
   no_corner law (files ∷ corners) c corner own [] given h = absurd given
   no_corner law (files ∷ corners) c corner own (t ∷ ts) given (inl h) = no_source law Files files t own given.0 h.1
   no_corner law (files ∷ corners) c corner own (t ∷ ts) given (inr (u, gives, h)) = no_corner law corners (suc c) corner own ts given.1 h
 
-  one_corner : AreTextLaws → (corners : List (List (List ℕ))) (c corner other : ℕ) (own others : Refusal) → (IsFirstRefused most) corners c corner own → (IsFirstRefused most) corners c other others →
+  one_corner : AreTextLaws → (corners : List (List (List ℕ))) (c corner other : ℕ) (own others : Refusal) → IsFirstRefused most corners c corner own → IsFirstRefused most corners c other others →
       corner ≡ other
   one_corner law [] c corner other own others h g = absurd h
   one_corner law (files ∷ corners) c corner other own others (inl h) (inl g) = h.0 ∙ sym g.0
@@ -166,19 +165,19 @@ module _ (most : Most) where
   one_corner law (files ∷ corners) c corner other own others (inr (t, gives, h)) (inl g) = absurd (no_source law Files files t others gives g.1)
   one_corner law (files ∷ corners) c corner other own others (inr (t, gives, h)) (inr (u, gives_too, g)) = one_corner law corners (suc c) corner other own others h g
 
-  one_number : AreTextLaws → (corners : List (List (List ℕ))) (ts us : List Timing) → (AreGiven most) corners ts → (AreGiven most) corners us → elements_together ts ≡ elements_together us
+  one_number : AreTextLaws → (corners : List (List (List ℕ))) (ts us : List Timing) → AreGiven most corners ts → AreGiven most corners us → elements_together ts ≡ elements_together us
   one_number law [] [] [] a b = refl
   one_number law [] [] (u ∷ us) a b = absurd b
   one_number law [] (t ∷ ts) us a b = absurd a
   one_number law (files ∷ corners) [] us a b = absurd a
   one_number law (files ∷ corners) (t ∷ ts) [] a b = absurd b
   one_number law (files ∷ corners) (t ∷ ts) (u ∷ us) a b =
-      let counts : length ts ≡ length us = AllZip-long ((Gives most) Files) corners ts a.1 ∙ sym (AllZip-long ((Gives most) Files) corners us b.1) in
+      let counts : length ts ≡ length us = AllZip-long (Gives most Files) corners ts a.1 ∙ sym (AllZip-long (Gives most Files) corners us b.1) in
       let elements : element_count t.flat ≡ element_count u.flat = ap (λ (d : Design). length d.elements) (one_design law Files files t.flat u.flat a.0.design b.0.design) in
       ap (λ (n : ℕ). suc n * element_count t.flat) counts ∙ ap (λ (n : ℕ). suc (length us) * n) elements
 
   no_content : AreTextLaws → (command : Command) (files : List (List ℕ)) (refused : Refusal) (status : Status) (text : List ℕ) →
-      (IsContentAnswer most) command files status text → (IsContentRefusal most) command files refused → ⊥
+      IsContentAnswer most command files status text → IsContentRefusal most command files refused → ⊥
   no_content law (OfDesign job source) files refused status text (t, gives, h) (of_design g) = no_source law source files t refused gives g
   no_content law (OfDesign job source) files refused status text (t, gives, h) (of_file u gives_too g) =
       no_file law job t u (own_file source files) refused status text (one_flat law source files u t gives_too gives) h g
@@ -189,12 +188,12 @@ module _ (most : Most) where
       let over = many.0 in
       omega (arith, few, over, same)
 
-  exclude : AreTextLaws → (command : Command) (files : List (List ℕ)) (refused : Refusal) (status : Status) (text : List ℕ) → (IsRefusalOn most) command files refused →
-      (AreShort most) files → (IsContentAnswer most) command files status text → ⊥
+  exclude : AreTextLaws → (command : Command) (files : List (List ℕ)) (refused : Refusal) (status : Status) (text : List ℕ) → IsRefusalOn most command files refused →
+      AreShort most files → IsContentAnswer most command files status text → ⊥
   exclude law command files refused status text (too_long h) short answer = no_length (content_roles command) files refused short h
   exclude law command files refused status text (of_contents short_too h) short answer = no_content law command files refused status text answer h
 
-  excluded : AreTextLaws → (command : Command) (files : List (List ℕ)) (refused : Refusal) (status : Status) (text : List ℕ) → (IsFirstRefusal most) command files refused → (IsDefined most) command files status text → status ≡ Refused
+  excluded : AreTextLaws → (command : Command) (files : List (List ℕ)) (refused : Refusal) (status : Status) (text : List ℕ) → IsFirstRefusal most command files refused → IsDefined most command files status text → status ≡ Refused
   excluded law command files refused Refused text first h = refl
   excluded law command files refused Done text first h = absurd (exclude law command (contents_of command files) refused Done text first h.0 h.1)
   excluded law command files refused Found text first h = absurd (exclude law command (contents_of command files) refused Found text first h.0 h.1)
@@ -212,17 +211,17 @@ module _ (most : Most) where
   one_schedule_refusal law schedule phases refused other (other_phases s text apart a) (other_phases u other_text other_apart b) =
       a ∙ ap (λ (x : Schedule). refusal.PhaseMismatch phases (length x.starts)) (law.one_schedule schedule s u text other_text) ∙ sym b
 
-  one_source_refusal : AreTextLaws → DesignRefusalsAreDetermined → (source : Source) (files : List (List ℕ)) (refused other : Refusal) → (IsSourceRefused most) source files refused →
-      (IsSourceRefused most) source files other → (refused ≡ other) ⊎ (IsLoopRefusal refused × IsLoopRefusal other)
+  one_source_refusal : AreTextLaws → DesignRefusalsAreDetermined → (source : Source) (files : List (List ℕ)) (refused other : Refusal) → IsSourceRefused most source files refused →
+      IsSourceRefused most source files other → (refused ≡ other) ⊎ (IsLoopRefusal refused × IsLoopRefusal other)
   one_source_refusal law one source files refused other (no_design a) (no_design b) = inl (one_refusal law source files refused other a b)
   one_source_refusal law one source files refused other (no_design a) (no_system d described limits within h) = absurd (no_refusal law source files d refused described limits within a)
   one_source_refusal law one source files refused other (no_system d described limits within h) (no_design b) = absurd (no_refusal law source files d other described limits within b)
   one_source_refusal law one source files refused other (no_system d described limits within h) (no_system e other_described other_limits other_within g) =
       let same : e ≡ d = one_design law source files e d other_described described in
-      one most d refused other h (subst (λ (x : Design). (IsDesignRefusal most) x other) same g)
+      one most d refused other h (subst (λ (x : Design). IsDesignRefusal most x other) same g)
 
-  one_file : AreTextLaws → (job : Job) (t u : Timing) (file : List ℕ) (refused other : Refusal) → u.flat ≡ t.flat → (IsFileRefused most) job t.flat file refused →
-      (IsFileRefused most) job u.flat file other → refused ≡ other
+  one_file : AreTextLaws → (job : Job) (t u : Timing) (file : List ℕ) (refused other : Refusal) → u.flat ≡ t.flat → IsFileRefused most job t.flat file refused →
+      IsFileRefused most job u.flat file other → refused ≡ other
   one_file law Check t u file refused other same a b =
       one_schedule_refusal law file (phase_count t.flat) refused other a (subst (λ (d : Design). IsScheduleRefused file (phase_count d) other) same b)
   one_file law Optimise t u file refused other same a b = absurd a
@@ -232,8 +231,8 @@ module _ (most : Most) where
   one_file law Safe t u file refused other same a b = absurd a
   one_file law Slack t u file refused other same a b = a.1 ∙ ap (λ (d : Design). refusal.Limit kind.Elements (length d.elements)) (sym same) ∙ sym b.1
 
-  one_content : AreTextLaws → DesignRefusalsAreDetermined → (command : Command) (files : List (List ℕ)) (refused other : Refusal) → (IsContentRefusal most) command files refused →
-      (IsContentRefusal most) command files other → (refused ≡ other) ⊎ (IsLoopRefusal refused × IsLoopRefusal other)
+  one_content : AreTextLaws → DesignRefusalsAreDetermined → (command : Command) (files : List (List ℕ)) (refused other : Refusal) → IsContentRefusal most command files refused →
+      IsContentRefusal most command files other → (refused ≡ other) ⊎ (IsLoopRefusal refused × IsLoopRefusal other)
   one_content law one (OfDesign job source) files refused other (of_design a) (of_design b) = one_source_refusal law one source files refused other a b
   one_content law one (OfDesign job source) files refused other (of_design a) (of_file t gives b) = absurd (no_source law source files t refused gives a)
   one_content law one (OfDesign job source) files refused other (of_file t gives a) (of_design b) = absurd (no_source law source files t other gives b)
@@ -249,14 +248,14 @@ module _ (most : Most) where
   one_content law one (Corners count) files refused other (of_elements ts given a) (of_elements us given_too b) =
       inl (a.1 ∙ ap (λ (n : ℕ). refusal.Limit kind.Elements n) (one_number law (corners_of files) ts us given given_too) ∙ sym b.1)
 
-  determined_on : AreTextLaws → DesignRefusalsAreDetermined → (command : Command) (files : List (List ℕ)) (refused other : Refusal) → (IsRefusalOn most) command files refused →
-      (IsRefusalOn most) command files other → (refused ≡ other) ⊎ (IsLoopRefusal refused × IsLoopRefusal other)
+  determined_on : AreTextLaws → DesignRefusalsAreDetermined → (command : Command) (files : List (List ℕ)) (refused other : Refusal) → IsRefusalOn most command files refused →
+      IsRefusalOn most command files other → (refused ≡ other) ⊎ (IsLoopRefusal refused × IsLoopRefusal other)
   determined_on law one command files refused other (too_long a) (too_long b) = inl (one_length (content_roles command) files refused other a b)
   determined_on law one command files refused other (too_long a) (of_contents short b) = absurd (no_length (content_roles command) files refused short a)
   determined_on law one command files refused other (of_contents short a) (too_long b) = absurd (no_length (content_roles command) files other short b)
   determined_on law one command files refused other (of_contents short a) (of_contents short_too b) = one_content law one command files refused other a b
 
-  determined : AreTextLaws → DesignRefusalsAreDetermined → (command : Command) (files : List (List ℕ)) (refused other : Refusal) → (IsFirstRefusal most) command files refused → (IsFirstRefusal most) command files other →
+  determined : AreTextLaws → DesignRefusalsAreDetermined → (command : Command) (files : List (List ℕ)) (refused other : Refusal) → IsFirstRefusal most command files refused → IsFirstRefusal most command files other →
       (refused ≡ other) ⊎ (IsLoopRefusal refused × IsLoopRefusal other)
   determined law one command files refused other a b = determined_on law one command (contents_of command files) refused other a b
 

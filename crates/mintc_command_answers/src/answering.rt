@@ -20,7 +20,7 @@ use crate::source::{Ordered, ordered_of, own_file, system_of, too_long};
 use crate::verify_answers::verify_answer;
 use mintc_sample::files;
 use mintc_text::limits::MOST_BYTES;
-use mintc_text::{Bytes, Limits, OutOfMemory, Refusal, Stop};
+use mintc_text::{Bytes, Limits, OutOfMemory, Stop};
 use mintc_timing::System;
 use std::alloc::Global;
 

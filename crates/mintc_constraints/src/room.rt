@@ -4,15 +4,14 @@ ghost use Rattle.mintc_graph_walks.specs.Bounds.{AreBounded, AreFew, AreOrdinary
 ghost use Rattle.mintc_constraints.specs.Walked.{HasWalked};
 
 use crate::lists::{fill, grow};
-use mintc_graph_walks::{Answer, NONE, Network, Steps, greatest_walks};
+use mintc_graph_walks::{Answer, NONE, Network, Steps, Tree, greatest_walks};
 use mintc_text::OutOfMemory;
 use std::alloc::Global;
 use std::marker::Model;
 use std::sync::ledger::Ledger;
 
 /// Memory for walks through a network of so many nodes and links: five lists, each of at most one number a node,
-/// and two more for work, of which one keeps what makes the next walk short. Calls other than `reserve` take no
-/// memory.
+/// and what a walk leaves to make the next one short. Calls other than `reserve` take no memory.
 #[derive(Debug, Drop)]
 pub struct Room {
     nodes: usize,
@@ -22,8 +21,7 @@ pub struct Room {
     late: Vec<i64>,
     early: Vec<i64>,
     chain: Vec<u32>,
-    marks: Vec<u32>,
-    tree: Vec<u32>,
+    tree: Tree,
 }
 
 impl Model for Room {
@@ -44,8 +42,8 @@ impl Model for Room {
 
     ghost invariant = { λ r.
         (r.nodes ≤ vec_capacity r.values) × (r.nodes ≤ vec_capacity r.before) × (r.nodes ≤ vec_capacity r.late)
-        × (r.nodes ≤ vec_capacity r.early) × (r.nodes ≤ vec_capacity r.chain) × (r.nodes ≤ vec_capacity r.marks)
-        × (r.nodes ≤ vec_capacity r.tree) };
+        × (r.nodes ≤ vec_capacity r.early) × (r.nodes ≤ vec_capacity r.chain) × (r.nodes ≤ vec_capacity r.tree.marks)
+        × (r.nodes ≤ vec_capacity r.tree.arcs) };
 }
 
 impl Room {
@@ -64,8 +62,10 @@ impl Room {
         let late = Vec::with_capacity(alloc, nodes)?;
         let early = Vec::with_capacity(alloc, nodes)?;
         let chain = Vec::with_capacity(alloc, nodes)?;
-        let marks = Vec::with_capacity(alloc, nodes)?;
-        let tree = Vec::with_capacity(alloc, nodes)?;
+        let tree = Tree {
+            marks: Vec::with_capacity(alloc, nodes)?,
+            arcs: Vec::with_capacity(alloc, nodes)?,
+        };
         Ok(Room {
             nodes,
             links,
@@ -74,7 +74,6 @@ impl Room {
             late,
             early,
             chain,
-            marks,
             tree,
         })
     }
@@ -231,15 +230,14 @@ impl Room {
         let len = self.chain.len();
         grow(&mut self.chain, count, 0);
         fill(&mut self.before, count, 0);
-        fill(&mut self.marks, count, 0);
-        self.tree.truncate(count);
-        grow(&mut self.tree, count, NONE);
+        fill(&mut self.tree.marks, count, 0);
+        self.tree.arcs.truncate(count);
+        grow(&mut self.tree.arcs, count, NONE);
         let answer = greatest_walks(
             net,
             self.values.as_mut_slice(),
             self.before.as_mut_slice(),
-            self.marks.as_mut_slice(),
-            self.tree.as_mut_slice(),
+            &mut self.tree,
             self.chain.as_mut_slice(),
             steps,
         );

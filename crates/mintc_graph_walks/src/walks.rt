@@ -1,5 +1,5 @@
 //! The greatest walks, or a closed chain of positive weight.
-ghost use Rattle.std.specs.Prelude.{◌≡◌, ◌<◌, ◌≤◌, ◌+◌, ◌^◌, length, IfNone, IfSome};
+ghost use Rattle.std.specs.Prelude.{◌≡◌, ◌<◌, ◌≤◌, ◌+◌, ◌^◌, length, vec_len, vec_capacity, IfNone, IfSome};
 ghost use Rattle.mintc_graph_walks.specs.Answers.{IsAnswered, IsKept};
 ghost use Rattle.mintc_graph_walks.specs.Bounds.{AreBounded, AreFew, AreOrdinary, most_nodes};
 ghost use Rattle.mintc_graph_walks.specs.Chains.{AreParents, IsRing, IsRooted};
@@ -20,6 +20,17 @@ pub enum Answer {
     Values,
     /// The first `len` numbers of `chain` are the arcs of a closed chain of positive weight, in order.
     Chain { len: usize },
+}
+
+/// Lists with one item for each node, by which a walk goes on from the one before and finds rings. They are in this
+/// struct so that who walks often keeps them: a walk takes no memory.
+#[derive(Debug, Drop)]
+pub struct Tree {
+    /// Numbers of arcs that the next walk takes first, in their order. Any numbers will do, also of no arc. A walk
+    /// leaves those by which a walk through a network that is little different takes fewer steps.
+    pub arcs: Vec<u32>,
+    /// For work alone: any numbers will do, and what a walk leaves says nothing.
+    pub marks: Vec<u32>,
 }
 
 /// A ring among the arcs by which the nodes were raised: the one that weighs most on the mean, else one behind the node
@@ -44,25 +55,22 @@ fn find_ring<N: Network>(net: &N, before: &[u32], raised: u32, marks: &mut [u32]
 /// The greatest value of the walks to each node, which is the value where a walk begins and the sum of its arcs'
 /// weights; or, exactly where a walk leads to one, a closed chain of positive weight.
 ///
-/// `values` comes in with the value at which a walk may begin at each node, or `UNREACHED`. The five buffers have one
-/// item for each of 1 to 32,768 nodes. After `Chain` the numbers in `values` say nothing; `before` and `marks` are
-/// for work alone. `tree` comes in with numbers of arcs that are taken first, in their order: any numbers will do,
-/// also of no arc, and it goes out with those by which a walk through a network that is little different takes fewer
-/// steps. A step is one pass over the arcs: there is at least one, and at most one for each node.
+/// `values` comes in with the value at which a walk may begin at each node, or `UNREACHED`. All lists have one item for
+/// each of 1 to 32,768 nodes. After `Chain` the numbers in `values` say nothing; `before` is for work alone. A step is
+/// one pass over the arcs: there is at least one, and at most one for each node.
 pub fn greatest_walks<N: Network, L: Ledger>(
     net: &N,
     values: &mut [i128],
     before: &mut [u32],
-    marks: &mut [u32],
-    tree: &mut [u32],
+    tree: &mut Tree,
     chain: &mut [u32],
     steps: &mut Steps<L>,
 ) -> Answer
     requires some { 0 < length values.old }
     requires nodes { length values.old ≤ most_nodes }
     requires before { length before.old ≡ length values.old }
-    requires marks { length marks.old ≡ length values.old }
-    requires tree { length tree.old ≡ length values.old }
+    requires marks { vec_len tree.old.marks ≡ length values.old }
+    requires tree { vec_len tree.old.arcs ≡ length values.old }
     requires chain { length chain.old ≡ length values.old }
     requires few { AreFew (N.arcs net.now) }
     requires arcs { AreOrdinary (length values.old) (N.arcs net.now) }
@@ -70,11 +78,15 @@ pub fn greatest_walks<N: Network, L: Ledger>(
 
     ensures answer { IsAnswered (N.arcs net.now) values.old values.new chain.new result }
     ensures kept { IsKept chain.old chain.new result }
+    ensures marks { vec_capacity tree.new.marks ≡ vec_capacity tree.old.marks }
+    ensures tree { vec_capacity tree.new.arcs ≡ vec_capacity tree.old.arcs }
     ensures some { steps.old < steps.new }
     ensures cost { steps.new ≤ steps.old + length values.old }
 {
+    let first = tree.arcs.as_mut_slice();
+    let marks = tree.marks.as_mut_slice();
     before.fill(NONE);
-    relax_all(net, tree, values, before);
+    relax_all(net, first, values, before);
     for round in 0..values.len() {
         steps.tick();
         let Some(raised) = pass(net, values, before) else {
@@ -84,8 +96,8 @@ pub fn greatest_walks<N: Network, L: Ledger>(
             collect(net, before, marks, ring, chain);
             return Answer::Chain { len: ring.len };
         }
-        list_tree(net, before, marks, tree);
-        relax_all(net, tree, values, before);
+        list_tree(net, before, marks, first);
+        relax_all(net, first, values, before);
     }
     unreachable!()
 }
@@ -95,8 +107,7 @@ fn walks_from_blank<N: Network, L: Ledger>(
     net: &N,
     values: &mut [i128],
     before: &mut [u32],
-    marks: &mut [u32],
-    tree: &mut [u32],
+    tree: &mut Tree,
     chain: &mut [u32],
     blank: Blank,
 ) -> Answer
@@ -106,8 +117,8 @@ fn walks_from_blank<N: Network, L: Ledger>(
     requires some { 0 < length values.old }
     requires nodes { length values.old ≤ most_nodes }
     requires before { length before.old ≡ length values.old }
-    requires marks { length marks.old ≡ length values.old }
-    requires tree { length tree.old ≡ length values.old }
+    requires marks { vec_len tree.old.marks ≡ length values.old }
+    requires tree { vec_len tree.old.arcs ≡ length values.old }
     requires chain { length chain.old ≡ length values.old }
     requires few { AreFew (N.arcs net.now) }
     requires arcs { AreOrdinary (length values.old) (N.arcs net.now) }
@@ -115,9 +126,11 @@ fn walks_from_blank<N: Network, L: Ledger>(
 
     ensures answer { IsAnswered (N.arcs net.now) values.old values.new chain.new result }
     ensures kept { IsKept chain.old chain.new result }
+    ensures marks { vec_capacity tree.new.marks ≡ vec_capacity tree.old.marks }
+    ensures tree { vec_capacity tree.new.arcs ≡ vec_capacity tree.old.arcs }
 {
     let mut steps = Steps::<L>::open(blank);
-    greatest_walks(net, values, before, marks, tree, chain, &mut steps)
+    greatest_walks(net, values, before, tree, chain, &mut steps)
 }
 
 /// The same as `greatest_walks`, for callers that count no steps.
@@ -125,15 +138,14 @@ pub fn greatest_walks_uncounted<N: Network>(
     net: &N,
     values: &mut [i128],
     before: &mut [u32],
-    marks: &mut [u32],
-    tree: &mut [u32],
+    tree: &mut Tree,
     chain: &mut [u32],
 ) -> Answer
     requires some { 0 < length values.old }
     requires nodes { length values.old ≤ most_nodes }
     requires before { length before.old ≡ length values.old }
-    requires marks { length marks.old ≡ length values.old }
-    requires tree { length tree.old ≡ length values.old }
+    requires marks { vec_len tree.old.marks ≡ length values.old }
+    requires tree { vec_len tree.old.arcs ≡ length values.old }
     requires chain { length chain.old ≡ length values.old }
     requires few { AreFew (N.arcs net.now) }
     requires arcs { AreOrdinary (length values.old) (N.arcs net.now) }
@@ -141,6 +153,8 @@ pub fn greatest_walks_uncounted<N: Network>(
 
     ensures answer { IsAnswered (N.arcs net.now) values.old values.new chain.new result }
     ensures kept { IsKept chain.old chain.new result }
+    ensures marks { vec_capacity tree.new.marks ≡ vec_capacity tree.old.marks }
+    ensures tree { vec_capacity tree.new.arcs ≡ vec_capacity tree.old.arcs }
 {
-    walks_from_blank::<N, Brand>(net, values, before, marks, tree, chain, Blank::new(1))
+    walks_from_blank::<N, Brand>(net, values, before, tree, chain, Blank::new(1))
 }

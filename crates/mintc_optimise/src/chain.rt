@@ -59,8 +59,8 @@ pub fn member_of(
     }
 }
 
-/// The members for the links of these numbers.
-pub(crate) fn members(
+/// The members for the links of these numbers, in their order.
+pub fn members(
     alloc: Global,
     system: &System,
     links: &[Link],

@@ -8,7 +8,8 @@
 //! departures, the earliest there is. Where no schedule is right, the chain forbids all cycle times.
 //!
 //! The crate above gets `optimise`, whose certificate is valid and the earliest, the steps of it (`Bench`,
-//! `member_of`, `schedule`, `departures`) for other lists of links, and the laws of designs without bounds.
+//! `member_of`, `members`, `schedule`, `departures`) for other lists of links and for tests of one cycle time, and the
+//! laws of designs without bounds.
 #![tactic(auto)]
 
 mod bench;
@@ -18,7 +19,7 @@ mod optimum;
 mod times;
 
 pub use bench::Bench;
-pub use chain::member_of;
+pub use chain::{member_of, members};
 pub use laws::{never_needs_a_bound, unbounded_chains_take_nothing, unbounded_has_right};
 pub use optimum::optimise;
 pub use times::{departures, schedule};

@@ -124,7 +124,7 @@ module _ (most : Most) (limits : AreLimits most) (design : Design) (order : List
   of_short : ArePathsShort design → (pairs : List Pair) → ArePairs design pairs → Answer
   of_short short pairs are = ⊎_elim
       (λ (many : most.pairs < length pairs). inr (refusal.Limit kind.Pairs (min (length pairs) MOST_TOLD), (short, (pairs, are, many, refl))))
-      (λ (few : length pairs ≤ most.pairs). inl (pairs, (record { ordered = is_order; extremes = are; few = omega (arith, few, limits.pairs); short = short }, few)))
+      (λ (few : length pairs ≤ most.pairs). inl (pairs, record { ordered = is_order; extremes = are; few = omega (arith, few, limits.pairs); short = short }, few))
       (cases_lt most.pairs (length pairs))
 
   answer : Answer

@@ -16,6 +16,7 @@ use crate::long::refuse_long;
 use crate::rows::{ArcSequence, Rows};
 use crate::sums::fill;
 use crate::worklist::Worklist;
+use mintc_bitset::Stamps;
 use mintc_paths_sums::SparseRows;
 use mintc_text::Stop;
 use mintc_timing::{Flat, Order};
@@ -47,7 +48,7 @@ fn find_each(
     alloc: Global,
     plan: &Plan,
     sums: &mut SparseRows,
-    reached: &mut [bool],
+    reached: &mut Stamps,
     awake: &mut Worklist,
 ) -> Result<Found, Stop>
     ghost of: { Ordered }
@@ -91,7 +92,7 @@ pub(crate) fn find_along(alloc: Global, plan: &Plan) -> Result<Found, Stop>
 {
     let bits = plan.sequence.rows.of_bits.len();
     let mut sums = SparseRows::new(alloc, bits)?;
-    let mut reached = vec![in alloc; false; bits]?;
+    let mut reached = Stamps::new(alloc, bits)?;
     let mut awake = Worklist::new(alloc, plan.sequence.along.len())?;
     find_each(alloc, plan, &mut sums, &mut reached, &mut awake)
 }

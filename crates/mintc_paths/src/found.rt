@@ -4,6 +4,7 @@ ghost use Rattle.mintc_text.specs.declared.limits.TheConstants.{MOST_ELEMENTS};
 
 use crate::filled::Filled;
 use crate::rows::Rows;
+use mintc_bitset::Stamps;
 use mintc_paths_sums::{SparseRows, Sums, sum_in};
 use mintc_text::OutOfMemory;
 use mintc_timing::Pair;
@@ -108,7 +109,7 @@ impl Found {
     }
 
     /// Lists the elements whose inputs are reached.
-    fn list_ends(&mut self, reached: &[bool], rows: &Rows, elements: u32) -> Result<(), OutOfMemory>
+    fn list_ends(&mut self, reached: &Stamps, rows: &Rows, elements: u32) -> Result<(), OutOfMemory>
         requires limit { elements ≤ MOST_ELEMENTS }
         requires bits { 2 * elements ≤ length reached.now }
         requires rows { AreRows (length reached.now) rows.now }
@@ -121,7 +122,7 @@ impl Found {
         self.ends.clear();
         for to in 0..elements {
             let row = rows.of_bits[2 * to as usize];
-            if reached[row as usize] {
+            if reached.at(row as usize) {
                 self.ends.push(to)?;
             }
         }

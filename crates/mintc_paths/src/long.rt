@@ -15,19 +15,20 @@ ghost use Rattle.mintc_timing.specs.Order.{ArePathsShort};
 
 use crate::filled::Filled;
 use crate::rows::Rows;
+use mintc_bitset::Stamps;
 use mintc_lanes::max_row;
 use mintc_paths_sums::{SparseRows, Sums};
 use mintc_text::Refusal;
 use mintc_text::limits::MOST_DELAY;
 
 /// Whether no sum is above the limit.
-fn are_short(sums: &SparseRows, reached: &[bool]) -> bool
+fn are_short(sums: &SparseRows, reached: &Stamps) -> bool
     requires marked { AreMarked sums.now reached.now }
     requires bounded { (row : ℕ) → row < length sums.now → AreLanes (sums_at sums.now row).greatest }
     ensures { OnTrue result ((lane : ℕ) → lane < 8 → IsShortLane sums.now lane) }
 {
     for row in 0..sums.len() {
-        if reached[row] && max_row(&sums.at(row).greatest) > MOST_DELAY {
+        if reached.at(row) && max_row(&sums.at(row).greatest) > MOST_DELAY {
             return false;
         }
     }

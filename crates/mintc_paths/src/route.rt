@@ -10,6 +10,7 @@ use crate::rows::{ArcSequence, Rows};
 use crate::sums::fill;
 use crate::trace::{Extreme, trace};
 use crate::worklist::Worklist;
+use mintc_bitset::Stamps;
 use mintc_paths_sums::SparseRows;
 use mintc_text::{Numbers, OutOfMemory};
 use mintc_timing::{Flat, Order, System};
@@ -45,7 +46,7 @@ pub(crate) fn best_path(
     let (flat, order) = (system.flat(), system.order());
     let bits = flat.bit_count();
     let mut sums = SparseRows::new(alloc, bits)?;
-    let mut reached = vec![in alloc; false; bits]?;
+    let mut reached = Stamps::new(alloc, bits)?;
     let sequence = plain_sequence(alloc, flat, order)?;
     let mut awake = Worklist::new(alloc, sequence.along.len())?;
     fill(&mut sums, &mut reached, &mut awake, &sequence, from, 1)?;

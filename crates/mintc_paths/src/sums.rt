@@ -14,12 +14,13 @@ ghost use Rattle.mintc_paths.specs.Sums.{AreRows, AreBegun, AreMarked, AreSums};
 
 use crate::rows::ArcSequence;
 use crate::worklist::Worklist;
+use mintc_bitset::Stamps;
 use mintc_paths_sums::{NO_SUMS, SparseRows};
 use mintc_timing::TimingArc;
 use std::alloc::AllocError;
 
 /// Takes away the sums in the rows that were reached.
-fn wipe(sums: &mut SparseRows, reached: &mut [bool])
+fn wipe(sums: &mut SparseRows, reached: &mut Stamps)
     requires marked { AreMarked sums.old reached.old }
     ensures count { length sums.new ≡ length sums.old }
     ensures none { (row : ℕ) → row < length sums.new → sums_at sums.new row ≡ NO_SUMS }
@@ -27,13 +28,13 @@ fn wipe(sums: &mut SparseRows, reached: &mut [bool])
     ensures off { (row : ℕ) → slice_index_or reached.new row false ≡ false }
 {
     sums.clear();
-    reached.fill(false);
+    reached.clear();
 }
 
 /// Makes the sums those of the empty paths from so many elements.
 fn clear(
     sums: &mut SparseRows,
-    reached: &mut [bool],
+    reached: &mut Stamps,
     awake: &mut Worklist,
     sequence: &ArcSequence,
     first: u32,
@@ -63,7 +64,7 @@ fn clear(
 /// Carries the sums in the row that the arc leaves, if it is reached, to the row that it enters.
 fn carry(
     sums: &mut SparseRows,
-    reached: &mut [bool],
+    reached: &mut Stamps,
     awake: &mut Worklist,
     sequence: &ArcSequence,
     arc: TimingArc,
@@ -93,7 +94,7 @@ fn carry(
     ensures bounded { OnOk result ((most : ℕ) → IsBounded most (sums_at sums.old arc.from) →
         IsBounded most (sums_at sums.old arc.to) → IsBounded (most + 1000000000) (sums_at sums.new arc.to)) }
 {
-    if reached[arc.from as usize] {
+    if reached.at(arc.from as usize) {
         awake.reach(reached, sequence, arc.to);
         sums.join(arc)?;
     }
@@ -104,7 +105,7 @@ fn carry(
 /// without sums isn't marked as reached. Only the arcs that leave rows that are reached are looked at.
 pub(crate) fn fill(
     sums: &mut SparseRows,
-    reached: &mut [bool],
+    reached: &mut Stamps,
     awake: &mut Worklist,
     sequence: &ArcSequence,
     first: u32,

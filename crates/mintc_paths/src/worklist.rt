@@ -7,7 +7,7 @@ ghost use Rattle.mintc_timing.specs.Paths.{arc_at};
 ghost use Rattle.mintc_paths.specs.Leaving.{AreLeaving};
 
 use crate::rows::ArcSequence;
-use mintc_bitset::BitSet;
+use mintc_bitset::{BitSet, Stamps};
 use std::alloc::{AllocError, Global};
 
 /// The arcs along a sequence that are awake.
@@ -46,7 +46,7 @@ impl Worklist {
 
     /// Marks a row as reached, and wakes the arcs that leave it.
     #[inline(always)]
-    pub fn reach(&mut self, reached: &mut [bool], sequence: &ArcSequence, row: u32)
+    pub fn reach(&mut self, reached: &mut Stamps, sequence: &ArcSequence, row: u32)
         requires row { row < length reached.old }
         requires leaving { AreLeaving sequence.now.along.items (length reached.old) sequence.now.leaving }
         requires ready { IsReady (length sequence.now.along.items) self.old }
@@ -55,8 +55,8 @@ impl Worklist {
             → IsAwake sequence.now.along.items place reached.new self.new }
     {
         let at = row as usize;
-        if !reached[at] {
-            reached[at] = true;
+        if !reached.at(at) {
+            reached.set(at);
             wake(&mut self.places, sequence, at);
         }
     }

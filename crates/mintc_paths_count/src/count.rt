@@ -15,6 +15,7 @@ ghost use Rattle.mintc_paths.specs.Sums.{IsSequence};
 
 use crate::back::count_back;
 use crate::marks::{Marks, NO_MARKS, gather, list_reached, mark_all, mark_of};
+use mintc_bitset::Stamps;
 use mintc_paths::{
     ArcSequence, Worklist, bound_is_within_limit, extremes, is_backward_cheaper, sequence_of,
 };
@@ -48,7 +49,7 @@ fn count_each(
     alloc: Global,
     sequence: &ArcSequence,
     marks: &mut [Marks],
-    reached: &mut [bool],
+    reached: &mut Stamps,
     awake: &mut Worklist,
     ends: &mut [Marks],
 ) -> Result<u64, AllocError>
@@ -89,7 +90,7 @@ pub(crate) fn count_along(
 {
     let bits = sequence.rows.of_bits.len();
     let mut marks = vec![in alloc; NO_MARKS; bits]?;
-    let mut reached = vec![in alloc; false; bits]?;
+    let mut reached = Stamps::new(alloc, bits)?;
     let mut awake = Worklist::new(alloc, sequence.along.len())?;
     let mut ends = vec![in alloc; NO_MARKS; elements as usize]?;
     count_each(

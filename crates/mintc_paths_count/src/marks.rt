@@ -11,6 +11,7 @@ ghost use Rattle.mintc_paths.specs.Sums.{AreRows};
 ghost use Rattle.mintc_paths_count.specs.Count.{AreListed};
 ghost use Rattle.mintc_paths_count.specs.Marks.{mark_in, marks_at, AreMarksBegun, AreMarksAlong, AreMarksReached};
 
+use mintc_bitset::Stamps;
 use mintc_paths::{ArcSequence, Rows, Worklist};
 use mintc_timing::TimingArc;
 use std::alloc::AllocError;
@@ -46,24 +47,24 @@ fn set(marks: &mut [Marks], row: usize, lane: usize)
 }
 
 /// Takes away the marks in the rows that were reached.
-fn wipe(marks: &mut [Marks], reached: &mut [bool])
+fn wipe(marks: &mut [Marks], reached: &mut Stamps)
     requires marked { AreMarksReached marks.old reached.old }
     ensures none { (row : ℕ) → row < length marks.new → marks_at marks.new row ≡ NO_MARKS }
     ensures marked { AreMarksReached marks.new reached.new }
     ensures off { (row : ℕ) → slice_index_or reached.new row false ≡ false }
 {
     for row in 0..marks.len() {
-        if reached[row] {
+        if reached.at(row) {
             marks[row] = NO_MARKS;
-            reached[row] = false;
         }
     }
+    reached.clear();
 }
 
 /// Sets the marks of so many elements, each at its own output, and no others.
 fn begin(
     marks: &mut [Marks],
-    reached: &mut [bool],
+    reached: &mut Stamps,
     awake: &mut Worklist,
     sequence: &ArcSequence,
     first: u32,
@@ -105,7 +106,7 @@ fn union_of(a: &Marks, b: &Marks) -> Marks
 /// Sets in the row that the arc enters what is set in the row that it leaves, if that is reached.
 fn carry(
     marks: &mut [Marks],
-    reached: &mut [bool],
+    reached: &mut Stamps,
     awake: &mut Worklist,
     sequence: &ArcSequence,
     arc: TimingArc,
@@ -123,7 +124,7 @@ fn carry(
         → mark_in (marks_at marks.new arc.to) lane
         ≡ max (mark_in (marks_at marks.old arc.to) lane) (mark_in (marks_at marks.old arc.from) lane) }
 {
-    if reached[arc.from as usize] {
+    if reached.at(arc.from as usize) {
         awake.reach(reached, sequence, arc.to);
         let to = arc.to as usize;
         marks[to] = union_of(&marks[to], &marks[arc.from as usize]);
@@ -134,7 +135,7 @@ fn carry(
 /// marked as reached. Only the arcs that leave rows that are reached are looked at.
 pub(crate) fn mark_all(
     marks: &mut [Marks],
-    reached: &mut [bool],
+    reached: &mut Stamps,
     awake: &mut Worklist,
     sequence: &ArcSequence,
     first: u32,
@@ -176,7 +177,7 @@ pub(crate) fn gather(ends: &mut [Marks], marks: &[Marks], rows: &Rows)
 /// Lists the elements whose inputs are reached, in ascending order.
 pub(crate) fn list_reached(
     listed: &mut Vec<u32>,
-    reached: &[bool],
+    reached: &Stamps,
     rows: &Rows,
     elements: u32,
 ) -> Result<(), AllocError>
@@ -190,7 +191,7 @@ pub(crate) fn list_reached(
     listed.clear();
     for to in 0..elements {
         let row = rows.of_bits[2 * to as usize];
-        if reached[row as usize] {
+        if reached.at(row as usize) {
             listed.push(to)?;
         }
     }

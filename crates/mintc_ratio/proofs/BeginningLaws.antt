@@ -9,10 +9,11 @@ use Rattle.mintc_ratio.specs.declared.sums.Sums.{Sums}
 use Rattle.mintc_ratio.specs.Chains.{NamesChain, links_at}
 use Rattle.mintc_ratio.specs.Climbing.{IsHeld, IsClimbing, most_halvings, top_of}
 use Rattle.mintc_ratio.specs.Greatest.{AreGreatest}
-use Rattle.mintc_ratio.specs.Searched.{IsCycle, IsLeast}
+use Rattle.mintc_ratio.specs.Searched.{IsLeast}
 use Rattle.mintc_ratio.specs.Tested.{NoneForbids}
 use Rattle.mintc_ratio.proofs.ClimbLaws.{low_inside, high_top}
 use Rattle.mintc_ratio.proofs.GridLaws.{all_tests, top_halved}
+use Rattle.mintc_ratio.proofs.SharedWholeCycles.{whole_cycle}
 
 -- The search begins with all halvings and one test left.
 pub climbing-begun : (list : Constraints) → IsOrdinary list → (start begun : ℕ) (room : Space) (sums : Sums) (now : ℕ) → IsHeld list room sums → begun ≡ min start (2 ^ 64 - 1) → start ≤ now → now ≤ start + list.nodes + 1 →
@@ -30,29 +31,11 @@ climbing-begun list ordinary start begun room sums now is said later few =
       few = all_tests list.nodes start now few;
     }
 
--- no number above 1 divides 1
-one_undivided : (m k : ℤ) → pos 1 <ℤ k → m *ℤ k ≡ pos 1 → ⊥
-one_undivided (pos zero) (pos b) h e = omega (arith, ints)
-one_undivided (pos (suc a)) (pos b) h e = let more : 1 * b ≤ suc a * b = grind arith in absurd (omega (arith, ints))
-one_undivided (negsuc a) (pos zero) h e = absurd (omega (arith, ints))
-one_undivided (negsuc a) (pos (suc b)) h e = absurd (omega (arith, ints))
-one_undivided m (negsuc b) h e = absurd (omega (arith, ints))
-
--- the cycle time 0
-pub rest_cycle : IsCycle (over (pos 0) (pos 1))
-rest_cycle = record {
-  fraction = omega (arith, ints);
-  lowest = λ k above num den. one_undivided den.0 k above den.1;
-  low = omega (arith, ints);
-  num = omega (arith, ints);
-  den = omega (arith, ints);
-}
-
 -- The least cycle time is 0 where no chain forbids it.
 pub least_rest : (list : Constraints) (at : Ratio) (old new : Space) → 1 ≤ list.nodes → at ≡ over (pos 0) (pos 1) → AreGreatest list at old.values → NoneForbids list.links at → new.values ≡ old.values →
     NamesChain list.links new.chain → delay_of (links_at list.links new.chain) ≡ pos 0 → cycles_of (links_at list.links new.chain) ≡ pos 1 → IsLeast list at new
 least_rest list at old new some is greatest none values chain delay cycles = record {
-  cycle_is = rw is rest_cycle;
+  cycle_is = rw is (whole_cycle 0 (omega arith));
   small = rw is (omega (arith, ints), omega (arith, ints));
   none_forbids = none;
   values = rw values greatest;

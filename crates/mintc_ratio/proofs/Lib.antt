@@ -2,6 +2,7 @@ pub mod SharedSumsLaws
 pub mod SharedFinerLaws
 pub mod SharedBroughtLaws
 pub mod SharedFromLaws
+pub mod SharedWholeCycles
 mod Weights
 mod Weighing
 mod TestedLaws

@@ -1,7 +1,7 @@
 //! Runs over a shelf and a sink in memory.
-use mintc_command::{Status, run};
+use mintc_command::{Status, run, run_within};
 use mintc_tests_designs::{Held, TWO_CELLS, hold, shelf_of, words_of};
-use mintc_text::{MemoryShelf, MemorySink, Numbers, OutOfMemory};
+use mintc_text::{Limits, MemoryShelf, MemorySink, Numbers, OutOfMemory};
 use std::alloc::{AllocError, Global};
 use std::process::Abort;
 
@@ -62,6 +62,26 @@ pub(crate) fn run_on(
 ) -> Result<(Status, Vec<u8>), OutOfMemory> {
     let mut shelf = shelf_of(alloc, files, &[])?;
     run_over(alloc, &mut shelf, line, None)
+}
+
+/// A run within the large limits, with the words of this line over a shelf of these files: its status and what it
+/// writes.
+pub(crate) fn run_large(
+    alloc: Global,
+    files: &[(&str, &str)],
+    line: &str,
+) -> Result<(Status, Vec<u8>), OutOfMemory> {
+    let mut shelf = shelf_of(alloc, files, &[])?;
+    let mut sink = MemorySink::new(alloc, 1_000_000, None)?;
+    let words = words_of(alloc, line)?;
+    let status = run_within(
+        alloc,
+        &Limits::large(),
+        words.as_slice(),
+        &mut shelf,
+        &mut sink,
+    );
+    Ok((status, Vec::from_slice(alloc, sink.taken())?))
 }
 
 /// Whether a run over this shelf, and a sink whose first write may be made to fail, has this status, and the sink

@@ -27,7 +27,7 @@ fn counted(alloc: Global, count: usize) -> Result<String, AllocError> {
 }
 
 /// The two latches, and so many more elements that are as the first one.
-fn many_elements(alloc: Global, count: usize) -> Result<String, AllocError> {
+pub(crate) fn many_elements(alloc: Global, count: usize) -> Result<String, AllocError> {
     let more = more_elements(alloc, count)?;
     counted(alloc, count)?.replacen(alloc, "inner 0\n", &more, 1)
 }
@@ -45,7 +45,7 @@ fn table_is_optimised(
 }
 
 /// The certificate of that table, up to its chain.
-fn many_departures(alloc: Global, count: usize) -> Result<String, AllocError> {
+pub(crate) fn many_departures(alloc: Global, count: usize) -> Result<String, AllocError> {
     let mut front = format!(in alloc;
         "certificate 2\nleast\nden 1\ncycle 100\nphases 2\nphase 0 10\nphase 10 30\ndepartures {count}\n\
          departure 0\ndeparture 20\n"
@@ -57,7 +57,7 @@ fn many_departures(alloc: Global, count: usize) -> Result<String, AllocError> {
 }
 
 /// The chain of that table, which may begin with either member.
-const CHAINS: &[&str] = &[
+pub(crate) const CHAINS: &[&str] = &[
     "chain 2\nreach 0 1 1 0\nreach 1 0 1 1\nend\n",
     "chain 2\nreach 1 0 1 1\nreach 0 1 1 0\nend\n",
 ];
@@ -143,7 +143,7 @@ fn push_module(
 }
 
 /// So many modules, each but the last with some instances of the next; the last has a body of its own.
-fn modules(
+pub(crate) fn modules(
     alloc: Global,
     count: usize,
     instances: usize,
@@ -161,7 +161,7 @@ fn modules(
 }
 
 /// Four leaves.
-const LEAVES: &str = "BUF a (.A(c)); BUF b (.A(c)); BUF d (.A(c)); BUF e (.A(c));";
+pub(crate) const LEAVES: &str = "BUF a (.A(c)); BUF b (.A(c)); BUF d (.A(c)); BUF e (.A(c));";
 
 // Row limits-and-one-past: scopes, depth, leaves.
 #[test]

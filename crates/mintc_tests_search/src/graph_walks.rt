@@ -4,7 +4,7 @@ ghost use Rattle.std.specs.Prelude.{◌<◌, ◌≤◌, ◌^◌, ◌≤ℤ◌, �
 ghost use Rattle.std.specs.Bool.{OnTrue};
 ghost use Rattle.mintc_graph_walks.specs.Bounds.{AreBounded, AreOrdinary, IsWithin};
 
-use mintc_graph_walks::{Answer, Arc, NONE, Network, UNREACHED, greatest_walks_uncounted};
+use mintc_graph_walks::{Answer, Arc, NONE, Network, Tree, UNREACHED, greatest_walks_uncounted};
 use std::alloc::{AllocError, Global};
 use std::process::Abort;
 use std::test::Fail;
@@ -88,14 +88,15 @@ fn find(
     assert!(rt; first.len() == nodes && are_ordinary(nodes, arcs) && are_bounded(starts));
     let mut values = starts.to_vec(alloc)?;
     let mut before = vec![in alloc; 0; nodes]?;
-    let mut marks = vec![in alloc; 0; nodes]?;
-    let mut tree = first.to_vec(alloc)?;
+    let mut tree = Tree {
+        arcs: first.to_vec(alloc)?,
+        marks: vec![in alloc; 0; nodes]?,
+    };
     let mut chain = vec![in alloc; 0; nodes]?;
     let answer = greatest_walks_uncounted(
         &Table(arcs),
         &mut values,
         &mut before,
-        &mut marks,
         &mut tree,
         &mut chain,
     );

@@ -1,5 +1,5 @@
 -- The rows of a chain: when each stage begins, in which cycle, and what its latch borrows.
-use Rattle.std.specs.Prelude.{◌≡◌, ◌+◌, ◌-◌, ℕ, ℤ, pos, ◌+ℤ◌, ◌*ℤ◌, Bool, true, false, if◌then◌else◌, List, [], ◌∷◌, ◌++◌}
+use Rattle.std.specs.Prelude.{◌≡◌, ◌+◌, ◌-◌, ℕ, ℤ, pos, negsuc, ◌+ℤ◌, ◌*ℤ◌, ◌≤ℤ◌, Bool, true, false, if◌then◌else◌, List, [], ◌∷◌, ◌++◌}
 use Rattle.std.specs.Prelude.{length, take, map, All, Option, Some, None}
 use Rattle.std.specs.Int.{int_max}
 use Rattle.std.specs.List.{range_with_len, sum_by}
@@ -73,3 +73,11 @@ last_row design s d stages =
 abbrev pub rows_of : Design → Schedule → List ℤ → List Stage → List Row
 rows_of design s d stages = map (row_at design s d stages) (range_with_len 0 (length stages))
     ++ last_row design s d stages ∷ []
+
+-- a time on a chain, a numerator over the schedule's denominator
+abbrev pub IsChainTime : ℤ → Type 0
+IsChainTime x = (negsuc 19999999999999999999 ≤ℤ x) × (x ≤ℤ pos 20000000000000000000)
+
+-- each row begins at such a time
+abbrev pub AreInTime : List Row → Type 0
+AreInTime rows = All (λ (row : Row). IsChainTime row.at) rows

@@ -4,7 +4,8 @@ ghost use Rattle.mintc_text.specs.declared.limits.TheConstants.{MOST_MEMBERS};
 ghost use Rattle.mintc_timing.specs.Design.{element_count};
 ghost use Rattle.mintcx_chain.specs.Names.{element_of, IsShort, IsStage};
 ghost use Rattle.mintc_timing.specs.Limits.{IsDenominator, IsTime};
-ghost use Rattle.mintcx_chain.specs.Rows.{begins_at, borrowed, is_reach, rows_of, stage_before, IsClocked};
+ghost use Rattle.mintcx_chain.specs.Rows.{begins_at, borrowed, is_reach, rows_of, stage_before, AreInTime, IsChainTime};
+ghost use Rattle.mintcx_chain.specs.Rows.{IsClocked};
 
 use crate::moments::{moment_of, span_of};
 use crate::names::element_of_stage;
@@ -17,7 +18,7 @@ use std::alloc::Global;
 /// how much the latch that it begins at borrows, 0 where it borrows nothing.
 #[derive(Clone, Copy, Drop)]
 pub struct Row {
-    pub at: i64,
+    pub at: i128,
     pub cycle: u64,
     pub borrows: i64,
 }
@@ -53,15 +54,14 @@ fn borrowed(flat: &Flat, departures: &[i64], comes: bool, stage: &Stage) -> i64
 /// What is known where a stage begins: when it does, in which cycle, and whether data comes by the stage before.
 #[derive(Clone, Copy)]
 pub(crate) struct Pace {
-    at: i64,
+    at: i128,
     cycle: u64,
     comes: bool,
 }
 
 /// What is known where the next stage begins.
 fn paced(pace: Pace, den: i64, stage: &Stage) -> Pace
-    requires low { negsuc 2999999999999999999 ≤ℤ pace.at }
-    requires high { pace.at ≤ℤ pos 3000000000000000000 }
+    requires time { IsChainTime pace.at }
     requires few { pace.cycle ≤ 1000000 }
     requires den { IsDenominator den }
     requires short { IsShort stage.now }
@@ -72,7 +72,7 @@ fn paced(pace: Pace, den: i64, stage: &Stage) -> Pace
     ensures comes { result.comes ≡ is_reach stage.now.why }
 {
     Pace {
-        at: pace.at + span_of(stage.delay, den),
+        at: pace.at + i128::from(span_of(stage.delay, den)),
         cycle: pace.cycle + u64::from(stage.cycles),
         comes: is_reach(stage),
     }
@@ -89,7 +89,7 @@ fn first_pace(flat: &Flat, schedule: &Schedule, departures: &[i64], stages: &[St
     ensures comes { result.comes ≡ is_reach (stage_before stages.now 0).why }
 {
     Pace {
-        at: moment_of(flat, schedule, departures, stages[0].from),
+        at: i128::from(moment_of(flat, schedule, departures, stages[0].from)),
         cycle: 1,
         comes: is_reach(&stages[stages.len() - 1]),
     }
@@ -125,7 +125,8 @@ pub fn rows_of(
     requires short { All IsShort stages.now }
     requires some { 1 ≤ length stages.now }
     requires most { length stages.now ≤ MOST_MEMBERS }
-    ensures { IfOk result (λ rows. rows ≡ rows_of flat.now schedule.now departures.now stages.now) }
+    ensures value { IfOk result (λ rows. rows ≡ rows_of flat.now schedule.now departures.now stages.now) }
+    ensures times { IfOk result AreInTime }
 {
     let mut pace = first_pace(flat, schedule, departures, stages);
     let mut rows = Vec::new(alloc);

@@ -19,8 +19,8 @@ pub fn sums_of(stages: &[Stage]) -> Sums
     requires most { length stages.now ≤ MOST_MEMBERS }
     ensures delay { result.delay ≡ delay_of stages.now }
     ensures cycles { result.cycles ≡ cycles_of stages.now }
-    ensures least { negsuc 16383999999999 ≤ℤ result.delay }
-    ensures greatest { result.delay ≤ℤ pos 16384000000000 }
+    ensures least { negsuc 131071999999999 ≤ℤ result.delay }
+    ensures greatest { result.delay ≤ℤ pos 131072000000000 }
     ensures few { result.cycles ≤ MOST_MEMBERS }
 {
     let mut delay = 0;

@@ -37,24 +37,6 @@ use Rattle.mintc_optimise.proofs.SharedEarliestLaws.{earliest}
 use Rattle.mintc_optimise.proofs.SharedSayingLaws.{are_sayable}
 use Rattle.mintcx_cycles.specs.AtCycles.{IsRightAt, IsShortAt}
 
--- no number above 1 divides 1
-one_undivided : (m k : ℤ) → pos 1 <ℤ k → m *ℤ k ≡ pos 1 → ⊥
-one_undivided (pos zero) (pos b) h e = omega (arith, ints)
-one_undivided (pos (suc a)) (pos b) h e = let more : 1 * b ≤ suc a * b = grind arith in absurd (omega (arith, ints))
-one_undivided (negsuc a) (pos zero) h e = absurd (omega (arith, ints))
-one_undivided (negsuc a) (pos (suc b)) h e = absurd (omega (arith, ints))
-one_undivided m (negsuc b) h e = absurd (omega (arith, ints))
-
--- a whole cycle time
-pub whole_cycle : (cycle : ℕ) → cycle ≤ 4294967295 → IsCycle (over (pos cycle) (pos 1))
-whole_cycle cycle few = record {
-  fraction = omega (arith, ints);
-  lowest = λ k above num den. one_undivided den.0 k above den.1;
-  low = omega (arith, ints);
-  num = omega (arith, ints);
-  den = omega (arith, ints);
-}
-
 -- A test of the links of a design at a whole cycle time, as the design and the number say it.
 pub tested_of : (t : Timing) (cycle : ℕ) (list : Constraints) (at : Ratio) (old new : Space) (test : Test) → list.nodes ≡ node_count t.flat → list.links ≡ links_of t → at ≡ over (pos cycle) (pos 1) →
     HasTested list at old new test → HasTested (constraints_of (node_count t.flat) (links_of t)) (over (pos cycle) (pos 1)) old new test

@@ -3,12 +3,11 @@ ghost use Rattle.std.specs.Prelude.{◌≡◌, ◌<◌, pos, IfOk};
 ghost use Rattle.mintc_fraction.specs.Ratio.{over};
 ghost use Rattle.mintcx_cycles.specs.AtCycles.{IsAtCycle, IsSayable};
 
-use crate::members::members;
 use mintc_certificate::{Departures, Members};
 use mintc_constraints::{Room, links};
 use mintc_fraction::Fraction;
 use mintc_graph_walks::Steps;
-use mintc_optimise::{departures, schedule};
+use mintc_optimise::{departures, members, schedule};
 use mintc_ratio::{Test, test_at};
 use mintc_text::OutOfMemory;
 use mintc_timing::{Schedule, System};

@@ -8,6 +8,5 @@
 #![tactic(auto)]
 
 mod cycles;
-mod members;
 
 pub use cycles::{AtCycle, at_cycle, at_cycle_uncounted};

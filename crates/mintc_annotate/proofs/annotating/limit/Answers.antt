@@ -8,8 +8,8 @@ limit_by_counts-requires-clause-stored c =
     let few = few_stored c.args.hierarchy.now c.args.cells.now c.args.clock.now c.args.gathered.now c.requires.gathered c.requires.shape.few_leaves in
     omega (arith, few, ap length c.items-stored.ensures)
 
-pub returns : goal.returns
-returns c =
+pub returns-clause-refusal : goal.returns-clause-refusal
+returns-clause-refusal c =
     let stored = as_stored c.args.hierarchy.now c.args.cells.now c.args.clock.now c.args.gathered.now c.requires.gathered in
-    (rw c.items-stored.ensures at (c.limit_by_counts.ensures _ _ c.requires.gathered.inputs c.requires.gathered.outputs))
+    (rw c.items-stored.ensures at (c.limit_by_counts.ensures.refusal _ _ c.requires.gathered.inputs c.requires.gathered.outputs))
     ∙ sym (limit_counts c.args.limits.now c.args.hierarchy.now c.args.cells.now c.args.clock.now (look c.args.gathered.now.ranges) c.args.gathered.now.phases stored)

@@ -12,7 +12,7 @@ pub loop-leaf-preserved : goal.loop-leaf-preserved
 loop-leaf-preserved c =
     let within : c.loop-leaf.leaf-index < length c.args.hierarchy.now.leaves = omega (arith, c.loop-leaf-test.true, ap length c.items-leaves.ensures) in
     let at = get_or_default c.args.hierarchy.now.leaves c.loop-leaf.leaf-index no_leaf c.leaf-item.result within ∙ ap (λ ls. slice_index_or ls c.loop-leaf.leaf-index c.leaf-item.result) (sym c.items-leaves.ensures) ∙ sym c.leaf-item.is in
-    let same : arc_count (leaf_cell c.args.hierarchy.now c.args.cells.now c.loop-leaf.leaf-index) ≡ c.arc_count-total.result =
-    ap (λ (x : Leaf). arc_count (cell_at c.args.cells.now x.cell)) at ∙ ap arc_count (sym c.cell.ensures) ∙ sym c.arc_count-total.ensures.value in
+    let same : arc_count (leaf_cell c.args.hierarchy.now c.args.cells.now c.loop-leaf.leaf-index) ≡ c.arc_count.result =
+    ap (λ (x : Leaf). arc_count (cell_at c.args.cells.now x.cell)) at ∙ ap arc_count (sym c.cell.ensures) ∙ sym c.arc_count.ensures.value in
     let more = sum_more (λ k. arc_count (leaf_cell c.args.hierarchy.now c.args.cells.now k)) c.loop-leaf.leaf-index in
-    omega (arith, same, more, c.loop-leaf.invariant)
+    omega (arith, same, more, c.min-total.ensures, c.loop-leaf.invariant)

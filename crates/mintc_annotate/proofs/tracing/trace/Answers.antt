@@ -4,7 +4,7 @@ use Rattle.std.proofs.lemmas.List.Elements.{AllZip-push}
 use Rattle.std.proofs.lemmas.Slice.Zip.{AllZip-long}
 use Rattle.mintc_annotate.specs.Phases.{drives, IsPhaseOf}
 use Rattle.mintc_annotate_resolve.specs.Pins.{all_leaves}
-use Rattle.mintc_annotate.specs.Searches.{AreDrivers, AreJumps}
+use Rattle.mintc_annotate.specs.Searches.{AreDrivers, AreLongJumps}
 use Rattle.mintc_annotate.proofs.TraceLaws.{stored, stored_more, stored_split, stored_all, phase_of_leaf, none_of_leaf}
 use Rattle.mintc_annotate.proofs.tracing.trace.Goals as goal
 
@@ -19,8 +19,8 @@ returns-in_default-phase_from c =
     let within : c.loop-number.number < length c.args.hierarchy.now.leaves = omega (arith, c.loop-number-test.true, ap length c.items-number-end.ensures) in
     let drivers : AreDrivers (drives c.args.hierarchy.now c.args.cells.now) (length c.args.table.now) c.args.table.now =
     subst (λ (n : ℕ). AreDrivers (drives c.args.hierarchy.now c.args.cells.now) n c.args.table.now) (sym c.requires.table.size) c.requires.table in
-    let ways : AreJumps (drives c.args.hierarchy.now c.args.cells.now) 8388608 (length c.args.table.now) c.args.jumps.now =
-    subst (λ (n : ℕ). AreJumps (drives c.args.hierarchy.now c.args.cells.now) 8388608 n c.args.jumps.now) (sym c.requires.table.size) c.requires.jumps in
+    let ways : AreLongJumps (drives c.args.hierarchy.now c.args.cells.now) (length c.args.table.now) c.args.jumps.now =
+    subst (λ (n : ℕ). AreLongJumps (drives c.args.hierarchy.now c.args.cells.now) n c.args.jumps.now) (sym c.requires.table.size) c.requires.jumps in
     let count : c.in_ok-element.element ≡ length c.loop-number.phases.items = search rules in
     record {
       before = filter (stored c.args.hierarchy.now c.args.cells.now) (take c.loop-number.number (all_leaves c.args.hierarchy.now));
@@ -38,8 +38,8 @@ loop-number-preserved c =
     let within : c.loop-number.number < length c.args.hierarchy.now.leaves = omega (arith, c.loop-number-test.true, ap length c.items-number-end.ensures) in
     let drivers : AreDrivers (drives c.args.hierarchy.now c.args.cells.now) (length c.args.table.now) c.args.table.now =
     subst (λ (n : ℕ). AreDrivers (drives c.args.hierarchy.now c.args.cells.now) n c.args.table.now) (sym c.requires.table.size) c.requires.table in
-    let ways : AreJumps (drives c.args.hierarchy.now c.args.cells.now) 8388608 (length c.args.table.now) c.args.jumps.now =
-    subst (λ (n : ℕ). AreJumps (drives c.args.hierarchy.now c.args.cells.now) 8388608 n c.args.jumps.now) (sym c.requires.table.size) c.requires.jumps in
+    let ways : AreLongJumps (drives c.args.hierarchy.now c.args.cells.now) (length c.args.table.now) c.args.jumps.now =
+    subst (λ (n : ℕ). AreLongJumps (drives c.args.hierarchy.now c.args.cells.now) n c.args.jumps.now) (sym c.requires.table.size) c.requires.jumps in
     let phase = phase_of_leaf c.args.hierarchy.now c.args.cells.now c.args.spots.now c.loop-number.number c.in-Some-phase_from.phase c.in-Some.start c.in-Some.ensures.1 (c.in-Some-phase_from.ensures (drives c.args.hierarchy.now c.args.cells.now) drivers ways) in
     let more = AllZip-push (IsPhaseOf c.args.hierarchy.now c.args.cells.now c.args.spots.now) _ c.loop-number.phases.items c.loop-number.number c.in-Some-phase_from.phase c.loop-number.invariant phase in
     let listed = subst (λ (l : List ℕ). AllZip (IsPhaseOf c.args.hierarchy.now c.args.cells.now c.args.spots.now) l (c.loop-number.phases.items ++ c.in-Some-phase_from.phase ∷ []))

@@ -6,7 +6,7 @@ use Rattle.mintc_build.proofs.building.system.Goals as goal
 pub new-requires : goal.new-requires
 new-requires c =
     let few = c.in_ok-pairs.ensures.few in
-    let kept = c.most-most.ensures.kept in
+    let kept = c.in_ok-pairs.ensures.kept in
     record { ordered = c.in_ok-order.ensures.order; extremes = c.in_ok-pairs.ensures.pairs; few = omega (arith, few, kept.pairs); short = c.in_ok-pairs.ensures.short }
 
 pub returns-in_err-pairs-clause-stop : goal.returns-in_err-pairs-clause-stop

@@ -8,7 +8,7 @@ returns-clause-system c =
     let is = c.in_ok-count_pairs.ensures.count in
     let same = is.is_count in
     let few = c.in_ok-count_pairs.ensures.few in
-    let kept = c.most-most.ensures.kept in
+    let kept = c.in_ok-count_pairs.ensures.kept in
     (is.pairs, record { ordered = c.in_ok-order.ensures.order; extremes = is.are_pairs; few = omega (arith, same, few, kept.pairs); short = c.in_ok-count_pairs.ensures.short }, omega (arith, same, few))
 
 pub returns-in_err-count_pairs-clause-stop : goal.returns-in_err-count_pairs-clause-stop

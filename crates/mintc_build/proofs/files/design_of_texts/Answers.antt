@@ -39,7 +39,7 @@ annotate-requires-clause-hierarchy c = (
   c.args.limits.now,
   c.in_ok-modules.modules,
   c.in_ok-clocked.clocked.top,
-  c.most-most.ensures.kept,
+  c.in_ok-hierarchy.ensures.kept,
   c.in_ok-modules.ensures.ordinary,
   subst (λ (t : Option (List ℕ)). IsHierarchy c.args.limits.now (source_of c.in_ok-described.described c.in_ok-modules.modules.modules) t c.in_ok-hierarchy.hierarchy) c.as_ref.ensures.value c.in_ok-hierarchy.ensures.value,
 )

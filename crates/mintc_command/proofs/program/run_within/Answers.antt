@@ -11,13 +11,13 @@ answer_to-requires-clause-count g c =
     let are = c.in-Some.ensures in
     let same = read-names c.args.words.now c.word_count.result c.in-Some.command c.in-Some.command _ _ c.word_count.ensures are are in
     ap (λ (x : List (List ℕ)). length x) c.as_mut_slice.ensures.value
-    ∙ as_many c.args.limits.now (g.S.Shelf.files c.args.shelf.now) _ _ _ c.in-Ok.ensures.fronts
+    ∙ as_many (g.S.Shelf.files c.args.shelf.now) _ _ _ c.in-Ok.ensures.fronts
     ∙ ap (λ (x : List (List ℕ)). length x) same ∙ are.count
 
 pub returns-in-Ok-answer_to-clause-usage_only : goal.returns-in-Ok-answer_to-clause-usage_only
 returns-in-Ok-answer_to-clause-usage_only g c = λ e h.
     elim c.write-in-Ok-answer_to.ensures.status [
-      | inl same ↦ IsOfCommand-no_usage c.args.limits.now c.in-Ok-answer_to.answer.status c.in-Ok-answer_to.ensures.status (sym same ∙ e)
+      | inl same ↦ IsOfCommand-no_usage c.in-Ok-answer_to.answer.status c.in-Ok-answer_to.ensures.status (sym same ∙ e)
       | inr fault ↦ let both : WriteFault ≡ Usage = sym fault ∙ e in cc
     ]
 
@@ -43,7 +43,7 @@ returns-in-Ok-answer_to-clause-written g c =
 pub returns-in-Ok-answer_to-clause-complete : goal.returns-in-Ok-answer_to-clause-complete
 returns-in-Ok-answer_to-clause-complete g c = λ command names are sound all none quiet.
     let same : command ≡ c.in-Some.command = one_command command c.in-Some.command names _ _ are c.in-Some.ensures in
-    let P : Command → Type 0 = λ x. (IsNotRefused c.args.limits.now) (g.S.Shelf.files c.args.shelf.now) x names in
+    let P : Command → Type 0 = λ x. IsNotRefused c.args.limits.now (g.S.Shelf.files c.args.shelf.now) x names in
     elim c.write-in-Ok-answer_to.ensures.status [
       | inl unchanged ↦ completed c.args.limits.now names _ _ _ (g.S.Shelf.files c.args.shelf.now) c.in-Some.command _ _ _ (read-names c.args.words.now c.word_count.result c.in-Some.command command _ names c.word_count.ensures c.in-Some.ensures are)
           c.in-Ok.ensures.fronts c.as_mut_slice.ensures.value c.in-Ok-answer_to.ensures.status c.in-Ok-answer_to.ensures.defined (subst P same none) unchanged

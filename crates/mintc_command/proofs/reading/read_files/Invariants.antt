@@ -1,7 +1,6 @@
 use Rattle.std.proofs.Common.{◌+◌, take}
 use Rattle.mintc_command.specs.Answers.{HoldsAll}
 use Rattle.mintc_command_answers.specs.Commands.{bytes_of}
-use Rattle.mintc_text.specs.declared.limits.TheConstants.{MOST_BYTES}
 use Rattle.mintc_command.proofs.ReadingLaws.{IsReading}
 use Rattle.mintc_command.proofs.reading.read_files.Given as goal
 

@@ -13,13 +13,13 @@ returns-in-Err-Refused-clause-value c =
     elim c.match-command.branch [
       | in-OfDesign w ↦
           let own = OfDesign w.in-OfDesign.job w.in-OfDesign.source in
-          let refused = stopped c.args.limits.now (λ r. (IsContentRefusal c.args.limits.now) own c.args.texts.now r) c.match-command.answer w.design_answer-answer.result c.in-Err-Refused.field-0 c.in-Err-Refused.refusal
+          let refused = stopped (λ r. IsContentRefusal c.args.limits.now own c.args.texts.now r) c.match-command.answer w.design_answer-answer.result c.in-Err-Refused.field-0 c.in-Err-Refused.refusal
           w.answer-is c.in-Err-Refused.is c.in-Err-Refused.field-0-is w.design_answer-answer.ensures.stop in
           refused_content c.args.limits.now c.refusal_answer-in-Err-Refused.result c.args.command own c.args.texts.now c.in-Err-Refused.refusal (λ text line. line) w.in-OfDesign.is c.in_default.ensures refused
           c.refusal_answer-in-Err-Refused.ensures.status c.refusal_answer-in-Err-Refused.ensures.text
       | in-Sample w ↦
           let own = Sample w.in-Sample.number in
-          let refused = stopped c.args.limits.now (λ r. (IsContentRefusal c.args.limits.now) own c.args.texts.now r) c.match-command.answer w.sample_answer-answer.result c.in-Err-Refused.field-0 c.in-Err-Refused.refusal
+          let refused = stopped (λ r. IsContentRefusal c.args.limits.now own c.args.texts.now r) c.match-command.answer w.sample_answer-answer.result c.in-Err-Refused.field-0 c.in-Err-Refused.refusal
           w.answer-is c.in-Err-Refused.is c.in-Err-Refused.field-0-is w.sample_answer-answer.ensures.stop in
           refused_content c.args.limits.now c.refusal_answer-in-Err-Refused.result c.args.command own c.args.texts.now c.in-Err-Refused.refusal (λ text line. line) w.in-Sample.is c.in_default.ensures refused
           c.refusal_answer-in-Err-Refused.ensures.status c.refusal_answer-in-Err-Refused.ensures.text

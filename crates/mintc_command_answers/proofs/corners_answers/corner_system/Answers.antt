@@ -15,7 +15,7 @@ returns-in_err-flat-clause-stop c =
     let v : c.items.result.now ≡ file_at c.args.texts.now 0 = c.items.ensures ∙ get_or_read c.args.texts.now 0 c.index-texts-0.result (omega (arith, all)) c.index-texts-0.is [] in
     let e : c.items-3.result.now ≡ file_at c.args.texts.now 1 = c.items-3.ensures ∙ get_or_read c.args.texts.now 1 c.index-texts-1.result (omega (arith, all)) c.index-texts-1.is [] in
     let k : c.items-4.result.now ≡ file_at c.args.texts.now 2 = c.items-4.ensures ∙ get_or_read c.args.texts.now 2 c.index-texts-2.result (omega (arith, all)) c.index-texts-2.is [] in
-    let own : StopsAt ((IsFilesRefusal c.args.limits.now) (file_at c.args.texts.now 0) c.args.delays.now (file_at c.args.texts.now 1) (file_at c.args.texts.now 2)) c.in_err-flat.field-0.0 =
+    let own : StopsAt (IsFilesRefusal c.args.limits.now (file_at c.args.texts.now 0) c.args.delays.now (file_at c.args.texts.now 1) (file_at c.args.texts.now 2)) c.in_err-flat.field-0.0 =
     rw (sym v, sym c.items-2.ensures, sym e, sym k) c.in_err-flat.ensures.stop in
     let p = err_from_is_err_and c.from_residual.result c.from_residual.ensures.1 in
     rw (p.1, p.2) (StopsAt-design c.args.limits.now Files (files_with c.args.texts.now c.args.delays.now) c.in_err-flat.field-0.0 own)
@@ -26,7 +26,7 @@ returns-clause-value c =
     let v : c.items.result.now ≡ file_at c.args.texts.now 0 = c.items.ensures ∙ get_or_read c.args.texts.now 0 c.index-texts-0.result (omega (arith, all)) c.index-texts-0.is [] in
     let e : c.items-3.result.now ≡ file_at c.args.texts.now 1 = c.items-3.ensures ∙ get_or_read c.args.texts.now 1 c.index-texts-1.result (omega (arith, all)) c.index-texts-1.is [] in
     let k : c.items-4.result.now ≡ file_at c.args.texts.now 2 = c.items-4.ensures ∙ get_or_read c.args.texts.now 2 c.index-texts-2.result (omega (arith, all)) c.index-texts-2.is [] in
-    let own : (IsFilesDesign c.args.limits.now) (file_at c.args.texts.now 0) c.args.delays.now (file_at c.args.texts.now 1) (file_at c.args.texts.now 2) c.in_ok-flat.flat =
+    let own : IsFilesDesign c.args.limits.now (file_at c.args.texts.now 0) c.args.delays.now (file_at c.args.texts.now 1) (file_at c.args.texts.now 2) c.in_ok-flat.flat =
     rw (sym v, sym c.items-2.ensures, sym e, sym k) c.in_ok-flat.ensures.value in
     Gives-system c.args.limits.now Files (files_with c.args.texts.now c.args.delays.now) c.in_ok-flat.flat c.accepted_system.result own c.accepted_system.ensures.value
 
@@ -36,6 +36,6 @@ returns-clause-stop c =
     let v : c.items.result.now ≡ file_at c.args.texts.now 0 = c.items.ensures ∙ get_or_read c.args.texts.now 0 c.index-texts-0.result (omega (arith, all)) c.index-texts-0.is [] in
     let e : c.items-3.result.now ≡ file_at c.args.texts.now 1 = c.items-3.ensures ∙ get_or_read c.args.texts.now 1 c.index-texts-1.result (omega (arith, all)) c.index-texts-1.is [] in
     let k : c.items-4.result.now ≡ file_at c.args.texts.now 2 = c.items-4.ensures ∙ get_or_read c.args.texts.now 2 c.index-texts-2.result (omega (arith, all)) c.index-texts-2.is [] in
-    let own : (IsFilesDesign c.args.limits.now) (file_at c.args.texts.now 0) c.args.delays.now (file_at c.args.texts.now 1) (file_at c.args.texts.now 2) c.in_ok-flat.flat =
+    let own : IsFilesDesign c.args.limits.now (file_at c.args.texts.now 0) c.args.delays.now (file_at c.args.texts.now 1) (file_at c.args.texts.now 2) c.in_ok-flat.flat =
     rw (sym v, sym c.items-2.ensures, sym e, sym k) c.in_ok-flat.ensures.value in
     Refuses-system c.args.limits.now Files (files_with c.args.texts.now c.args.delays.now) c.in_ok-flat.flat c.accepted_system.result own c.accepted_system.ensures.limits c.in_ok-flat.ensures.within c.accepted_system.ensures.stop

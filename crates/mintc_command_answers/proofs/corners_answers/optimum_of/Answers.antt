@@ -4,6 +4,6 @@ use Rattle.mintc_command_answers.proofs.corners_answers.optimum_of.Goals as goal
 
 pub certificate_from-requires-clause-elements : goal.certificate_from-requires-clause-elements
 certificate_from-requires-clause-elements c =
-    let same = elements-together c.args.limits.now c.args.systems.now c.requires.alike in
+    let same = elements-together c.args.systems.now c.requires.alike in
     let few = c.requires.elements in
     omega (arith, same, few)

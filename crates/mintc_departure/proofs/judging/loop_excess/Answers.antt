@@ -3,7 +3,7 @@ use Rattle.mintc_text.specs.declared.limits.TheConstants.{MOST_ELEMENTS}
 use Rattle.mintc_timing.specs.Design.{pair_at}
 use Rattle.mintc_timing.specs.Violations.{loop_amount}
 use Rattle.mintc_timing.proofs.SharedFitting.{read_time}
-use Rattle.mintc_departure.proofs.SharedSizes.{travel-within}
+use Rattle.mintc_departure.proofs.SharedSizes.{shifted_delay-within}
 use Rattle.mintc_departure.specs.Networks.{late_travel}
 use Rattle.mintc_departure.proofs.LoopSums.{IsTravel, few_pairs, read_sum, sum-fits, sum-within, total-more}
 use Rattle.mintc_departure.proofs.judging.loop_excess.Goals as goal
@@ -17,7 +17,7 @@ travel : (c : goal.After-late_delay-amount) → IsTravel c.late_delay-amount.res
 travel c =
     let kept = c.count-count.ensures.kept in
     let exists = c.requires.closed.exist c.loop-pair.pair-index 0 c.loop-pair-test.true in
-    rw c.late_delay-amount.ensures.value (travel-within c.args.clocked.now.system.now c.args.clocked.now.schedule.now kept (get_or c.args.pairs.now c.loop-pair.pair-index 0) exists)
+    rw c.late_delay-amount.ensures.value (shifted_delay-within c.args.clocked.now.system.now c.args.clocked.now.schedule.now kept (get_or c.args.pairs.now c.loop-pair.pair-index 0) exists)
 
 pub overflow_add-amount : goal.overflow_add-amount
 overflow_add-amount c =

@@ -9,7 +9,7 @@ use Rattle.mintc_graph_walks.proofs.walks.greatest_walks.Goals as goal
 pub loop-round-init : goal.loop-round-init
 loop-round-init g c =
     let none = get_or-filled c.args.before.now c.fill.new.self NONE (c.fill.ensures.after (λ y e. e)) in (
-      IsRound-none (g.N.Network.arcs c.args.net.now) c.args.values.now c.fill.new.self (length c.args.tree.now) c.relax_all.new.values c.relax_all.new.before (λ v h. none v (omega arith)) c.requires.starts (omega arith) c.relax_all.ensures,
+      IsRound-none (g.N.Network.arcs c.args.net.now) c.args.values.now c.fill.new.self _ c.relax_all.new.values c.relax_all.new.before (λ v h. none v (omega arith)) c.requires.starts (omega arith) c.relax_all.ensures,
       omega arith,
       refl,
     )

@@ -65,4 +65,4 @@ returns g c =
     let bits : length c.fill.new.sums ≡ 2 * length c.flat-flat.result.now.elements + length c.flat-flat.result.now.inner = search rules in
     let found = IsBestPath-from_trace c.args.extreme t.flat.arcs t.order kept.ordered c.fill.new.sums (output_of c.args.from) (input_of c.args.to) best_sums (omega arith) (omega arith) c.in_ok-path.path.items some.2.0 some.2.1
     (rw (c.flat-flat.ensures.value, c.order-order.ensures) at c.in_ok-path.ensures) in
-    subst (λ xs. IsOfPair c.args.extreme t c.args.from c.args.to xs) (sym c.new-3.ensures) (IsOfPair-from_best c.args.extreme t c.args.from c.args.to c.in_ok-path.path.items kept.extremes found)
+    subst (λ xs. IsOfPair c.args.extreme t c.args.from c.args.to xs) (sym c.new-4.ensures) (IsOfPair-from_best c.args.extreme t c.args.from c.args.to c.in_ok-path.path.items kept.extremes found)

@@ -4,7 +4,6 @@ use Rattle.std.specs.Prelude.{reverse}
 use Rattle.mintc_timing.specs.Paths.{Leads, arc_at}
 use Rattle.mintc_graph.specs.Rings.{total}
 use Rattle.mintc_timing.specs.Limits.{IsArc}
-use Rattle.mintc_timing.proofs.SharedOrdered.{inside}
 use Rattle.mintc_paths.specs.Trace.{weight_of}
 use Rattle.mintc_paths.proofs.Filling.{arc_inside}
 use Rattle.mintc_paths.proofs.Tracing.{KeepsTraced, KeepsTraced-passed, KeepsTraced-taken, traced_all}

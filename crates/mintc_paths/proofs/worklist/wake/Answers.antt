@@ -1,4 +1,4 @@
-use Rattle.std.proofs.Common.{ℕ, length, refl, subst, sym}
+use Rattle.std.proofs.Common.{length, refl, subst, sym}
 use Rattle.mintc_adjacency.specs.Adjacency.{AreLeft, CanGoOn}
 use Rattle.mintc_adjacency.proofs.SharedAdjacencyLaws.{from_next}
 use Rattle.mintc_timing.specs.Paths.{arc_at}

@@ -1,11 +1,12 @@
-use Rattle.std.proofs.Common.{◌≡◌, ◌<◌, ℕ, false, length, get_or}
-use Rattle.mintc_paths_count.specs.Marks.{AreMarksReached}
+use Rattle.std.proofs.Common.{◌≡◌, ◌<◌, ℕ, length}
+use Rattle.mintc_paths_count.specs.declared.marks.TheConstants.{NO_MARKS}
+use Rattle.mintc_paths_count.specs.Marks.{marks_at, AreMarksReached}
 use Rattle.mintc_paths_count.proofs.marks.wipe.Given as goal
 
--- the rows so far are no longer reached
+-- the rows so far have no marks
 abbrev pub invariant-loop-row : goal.invariant-loop-row
 invariant-loop-row l = record {
   marked : AreMarksReached l.marks l.reached;
-  off : (row : ℕ) → row < l.row → get_or l.reached row false ≡ false;
+  none : (row : ℕ) → row < l.row → marks_at l.marks row ≡ NO_MARKS;
   count : length l.marks ≡ length l.fn.marks;
 }

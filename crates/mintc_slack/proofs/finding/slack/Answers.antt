@@ -11,13 +11,13 @@ returns-in-Never g c =
 -- few elements make few nodes
 pub extras-requires-clause-short : goal.extras-requires-clause-short
 extras-requires-clause-short g c =
-    let phases = c.flat-flat.ensures.design.phases.1 in
+    let phases = c.links.ensures.design.phases.1 in
     let elements = c.requires in
     omega (arith, c.in_ok-list.ensures.nodes, phases, elements)
 
 pub extras-requires-clause-cycle : goal.extras-requires-clause-cycle
 extras-requires-clause-cycle g c =
-    let phases = c.flat-flat.ensures.design.phases.1 in
+    let phases = c.links.ensures.design.phases.1 in
     let elements = c.requires in
     is_short c.in_ok-list.list c.in-Least.cycle c.search.new.room c.in-Least.ensures.searched (omega (arith, c.in_ok-list.ensures.nodes, phases, elements))
 

@@ -1,6 +1,6 @@
 use Rattle.std.proofs.Common.{◌≡◌, ◌≤◌, ◌+◌, ◌*◌, pos, neg_ℤ, ◌≤ℤ◌, map}
 use Rattle.std.specs.List.{range_with_len}
-use Rattle.mintcx_chain.specs.Rows.{begins_at, cycle_at, is_reach, row_at, stage_before}
+use Rattle.mintcx_chain.specs.Rows.{AreInTime, begins_at, cycle_at, is_reach, row_at, stage_before}
 use Rattle.mintcx_chain.proofs.rows.rows_of.Given as goal
 
 -- the rows of the stages so far, and what is known where the next one begins
@@ -13,4 +13,5 @@ invariant-loop-stage l = record {
   cycle_high : l.pace.cycle ≤ 1 + l.stage-index;
   comes_is : l.pace.comes ≡ is_reach (stage_before l.stages l.stage-index).why;
   rows_are : l.rows.items ≡ map (row_at l.flat l.schedule l.departures l.stages) (range_with_len 0 l.stage-index);
+  times : AreInTime l.rows.items;
 }

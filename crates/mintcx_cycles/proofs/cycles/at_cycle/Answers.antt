@@ -1,6 +1,7 @@
 use Rattle.std.proofs.Common.{arith}
 use Rattle.mintc_ratio.specs.declared.testing.Test.TheVariants.{Values, Chain}
-use Rattle.mintcx_cycles.proofs.CycleLaws.{right_at, sayable, short_at, short_in_range, tested_of, whole_cycle}
+use Rattle.mintc_ratio.proofs.SharedWholeCycles.{whole_cycle}
+use Rattle.mintcx_cycles.proofs.CycleLaws.{right_at, sayable, short_at, short_in_range, tested_of}
 use Rattle.mintcx_cycles.proofs.cycles.at_cycle.Goals as goal
 
 pub schedule-requires-clause-cycle : goal.schedule-requires-clause-cycle
