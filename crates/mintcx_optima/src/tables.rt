@@ -2,10 +2,11 @@
 ghost use Rattle.std.specs.Prelude.{◌≡◌, ◌<◌, ◌≤◌, ◌+◌, ◌++◌, length, All, IfOk, OnOk};
 ghost use Rattle.mintc_timing.specs.Limits.{IsDenominator};
 ghost use Rattle.mintcx_chain.specs.Names.{IsStage};
+ghost use Rattle.mintcx_chain.specs.Rows.{AreInTime, IsChainTime};
 ghost use Rattle.mintcx_optima.specs.Tables.{chain_cells, chain_columns, chain_grid, chain_head, chain_text};
 ghost use Rattle.mintcx_optima.specs.Tables.{last_cells, stage_cells};
 
-use crate::cells::{lent_cell, through_cell};
+use crate::cells::{lent_cell, moment_cell, through_cell};
 use mintc_text::{Lines, Names, OutOfMemory};
 use mintc_timing::Flat;
 use mintcx_amounts::Unit;
@@ -53,13 +54,14 @@ fn stage_cells(
     row: &Row,
     stage: &Stage,
 ) -> Result<Names, OutOfMemory>
+    requires time { IsChainTime row.now.at }
     requires den { IsDenominator scale.den }
     requires stage { IsStage flat.now stage.now }
     ensures { IfOk result (λ cells. cells ≡ stage_cells flat.now scale.unit scale.den row.now stage.now) }
 {
     let cycle = number_cell(alloc, row.cycle)?;
     let from = stage_from(alloc, flat, stage)?;
-    let at = time_cell(alloc, row.at, scale.den, scale.unit)?;
+    let at = moment_cell(alloc, row.at, scale.den, scale.unit)?;
     let lent = lent_cell(alloc, row.borrows, scale.den, scale.unit)?;
     let delay = time_cell(alloc, stage.delay, 1, scale.unit)?;
     let to = stage_to(alloc, flat, stage)?;
@@ -75,13 +77,14 @@ fn last_cells(
     row: &Row,
     first: &Stage,
 ) -> Result<Names, OutOfMemory>
+    requires time { IsChainTime row.now.at }
     requires den { IsDenominator scale.den }
     requires stage { IsStage flat.now first.now }
     ensures { IfOk result (λ cells. cells ≡ last_cells flat.now scale.unit scale.den row.now first.now) }
 {
     let cycle = number_cell(alloc, row.cycle)?;
     let from = stage_from(alloc, flat, first)?;
-    let at = time_cell(alloc, row.at, scale.den, scale.unit)?;
+    let at = moment_cell(alloc, row.at, scale.den, scale.unit)?;
     Ok(Names::new(vec![in alloc; cycle, from, at]?))
 }
 
@@ -94,6 +97,7 @@ fn chain_cells(
     rows: &[Row],
     number: usize,
 ) -> Result<Names, OutOfMemory>
+    requires times { AreInTime rows.now }
     requires den { IsDenominator scale.den }
     requires stages { All (IsStage flat.now) stages.now }
     requires some { 1 ≤ length stages.now }
@@ -117,6 +121,7 @@ fn chain_table(
     rows: &[Row],
     shown: usize,
 ) -> Result<Table, OutOfMemory>
+    requires times { AreInTime rows.now }
     requires den { IsDenominator scale.den }
     requires stages { All (IsStage flat.now) stages.now }
     requires some { 1 ≤ length stages.now }
@@ -141,6 +146,7 @@ pub(crate) fn put_chain(
     stages: &[Stage],
     rows: &[Row],
 ) -> Result<(), OutOfMemory>
+    requires times { AreInTime rows.now }
     requires den { IsDenominator scale.den }
     requires stages { All (IsStage flat.now) stages.now }
     requires some { 1 ≤ length stages.now }
