@@ -31,7 +31,13 @@ fn main(rt: HostRuntime) -> ExitCode {
         Ok(words) => {
             let mut shelf = FolderShelf::new(&rt);
             let mut out = StreamSink::new(&rt);
-            let status = run_within(rt.alloc(), &Limits::large(), words.as_slice(), &mut shelf, &mut out);
+            let status = run_within(
+                rt.alloc(),
+                &Limits::large(),
+                words.as_slice(),
+                &mut shelf,
+                &mut out,
+            );
             ExitCode::from(status.number())
         }
         Err(error) => ExitCode::from(status_of(&error)),

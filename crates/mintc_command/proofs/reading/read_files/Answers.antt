@@ -20,8 +20,7 @@ returns-in-Err-clause-reads g c = calls_so_far c.args.names.now c.loop-name.name
 pub loop-name-preserved : goal.loop-name-preserved
 loop-name-preserved g c =
     let most = ap (λ (m : Most). m.bytes) c.most-most.ensures.value in
-    let front = rw most at c.in-Ok.ensures.bytes in
-    (
+    let front = rw most at c.in-Ok.ensures.bytes in (
       rw (bytes_of-more c.args.names.now c.loop-name.name-index c.name-item.result c.loop-name-test.true c.name-item.is, c.in-Ok-push.ensures.items, c.new.ensures, ← c.as_str.ensures.value)
           (IsReading-more _ _ _ _ _ _ _ _ _ _ _ _ _ _ c.loop-name.invariant.0 front c.read.ensures.same c.read.ensures.later c.read.ensures.counted),
       λ sound all. c.read.ensures.sound (c.loop-name.invariant.1 sound all)
