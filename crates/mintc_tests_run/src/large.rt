@@ -94,18 +94,17 @@ fn refusal_17_of_large_tables(rt: HostRuntime) -> Result<(), Fail> {
     Ok(())
 }
 
-/// A run of `optimise` within the large limits on a netlist with these cells is refused with this answer.
+/// A run of `optimise` within the large limits on a netlist is refused with this answer.
 fn is_too_large_netlist(
     rt: &impl Abort,
     alloc: Global,
     netlist: &str,
-    cells: &str,
     answer: &str,
 ) -> Result<(), OutOfMemory> {
     let files = [
         ("v", netlist),
         ("d", "(DELAYFILE)"),
-        ("c", cells),
+        ("c", TWO_CELLS),
         ("k", CLOCK),
     ];
     is_too_large(rt, alloc, &files, "optimise files v d c k", answer)
@@ -120,7 +119,7 @@ fn refusal_17_of_scopes_depth_and_leaves_of_large_netlists(rt: HostRuntime) -> R
         (19, 2, LEAVES, "refused 17 leaves 1048576\n"),
     ] {
         let netlist = modules(alloc, *count, *instances, body)?;
-        is_too_large_netlist(&rt, alloc, &netlist, TWO_CELLS, answer)?;
+        is_too_large_netlist(&rt, alloc, &netlist, answer)?;
     }
     Ok(())
 }

@@ -13,6 +13,7 @@ use mintc_graph_walks::{Steps, UNREACHED};
 use mintc_ratio::{Outcome, search, walk_from};
 use mintc_slack::{Slacks, slack};
 use mintc_tests_designs::{HELD, HOPELESS, OWN_LOOP, TWO_ENABLED, TWO_FLOPS, TWO_LATCHES};
+use mintc_text::limits::MOST_SLACK;
 use mintc_timing::{Pair, System};
 use std::alloc::Global;
 use std::marker::Brand;
@@ -20,12 +21,15 @@ use std::process::Abort;
 use std::sync::ledger::{Blank, Ledger};
 use std::test::Fail;
 
-/// The slacks of a system, and how many steps were taken.
+/// The slacks of a system, and how many steps were taken; none where it has more elements than slacks are found for.
 fn found<L: Ledger>(alloc: Global, system: &System, blank: Blank) -> Option<(Slacks, u64)>
     requires name { blank.name ≡ L.name }
     requires parts { blank.parts ≡ L.parts }
     requires part { 0 < L.parts }
 {
+    if system.flat().element_count() as usize > MOST_SLACK {
+        return None;
+    }
     let mut steps = Steps::<L>::open(blank);
     let slacks = slack(alloc, system, &mut steps).ok()?;
     Some((slacks, steps.taken()))

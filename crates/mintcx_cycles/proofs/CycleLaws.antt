@@ -1,5 +1,5 @@
 -- What is made of the test of one cycle time.
-use Rattle.std.proofs.Common.{◌≡◌, ◌≢◌, ◌≤◌, ◌<◌, ℕ, zero, suc, ℤ, pos, negsuc, ◌≤ℤ◌, ◌<ℤ◌, ◌+ℤ◌, ◌*ℤ◌, ◌*◌, List, length, arith, refl}
+use Rattle.std.proofs.Common.{◌≡◌, ◌≤◌, ◌<◌, ℕ, ℤ, pos, ◌+ℤ◌, ◌*ℤ◌, List, arith, refl}
 use Rattle.std.specs.List.{All}
 use Rattle.std.proofs.lemmas.Int.{ints}
 use Rattle.std.proofs.lemmas.List.{length-map}
@@ -8,7 +8,7 @@ use Rattle.mintc_timing.specs.declared.link.Link.{Link}
 use Rattle.mintc_timing.specs.declared.clocking.Schedule.{Schedule}
 use Rattle.mintc_timing.specs.Design.{Timing}
 use Rattle.mintc_timing.specs.Limits.{IsDesign}
-use Rattle.mintc_timing.specs.Links.{links_of, element_node, node_count, cycles_of, delay_of, Forbids, IsChain}
+use Rattle.mintc_timing.specs.Links.{links_of, element_node, node_count, cycles_of, delay_of, Forbids}
 use Rattle.mintc_timing.specs.Order.{IsTiming}
 use Rattle.mintc_timing.specs.Right.{IsRight}
 use Rattle.mintc_timing.proofs.SharedByKind.{All-links}
@@ -23,15 +23,14 @@ use Rattle.mintc_constraints.proofs.SharedMomentLaws.{moments_are_right_lem}
 use Rattle.mintc_constraints.proofs.SharedOrdinaryLaws.{each_between, ordinary}
 use Rattle.mintc_ratio.specs.Chains.{NamesChain, links_at}
 use Rattle.mintc_ratio.specs.Greatest.{AreGreatest}
-use Rattle.mintc_ratio.specs.Searched.{IsCycle}
 use Rattle.mintc_ratio.specs.Tested.{HasTested}
 use Rattle.mintc_ratio.specs.declared.testing.Test.{Test}
 use Rattle.mintc_ratio.proofs.SharedBroughtLaws.{greatest_are_brought_lem}
+use Rattle.mintc_ratio.proofs.SharedWholeCycles.{whole_cycle}
 use Rattle.mintc_certificate.specs.declared.members.Member.{Member}
 use Rattle.mintc_certificate.specs.Ranges.{IsChainInRange}
-use Rattle.mintc_certificate.specs.Valid.{IsRing, link_of, links_of_members}
+use Rattle.mintc_certificate.specs.Valid.{link_of, links_of_members}
 use Rattle.mintc_optimise.specs.Making.{AreSayable, StandForAll}
-use Rattle.mintc_optimise.specs.Optimum.{IsSimple}
 use Rattle.mintc_optimise.proofs.SharedCertificateLaws.{IsRound, round}
 use Rattle.mintc_optimise.proofs.SharedEarliestLaws.{earliest}
 use Rattle.mintc_optimise.proofs.SharedSayingLaws.{are_sayable}
