@@ -32,8 +32,8 @@ pub(crate) fn put_decided(
     sums: &Sums,
     unit: Unit,
 ) -> Result<(), OutOfMemory>
-    requires least { negsuc 16383999999999 ≤ℤ sums.now.delay }
-    requires greatest { sums.now.delay ≤ℤ pos 16384000000000 }
+    requires least { negsuc 131071999999999 ≤ℤ sums.now.delay }
+    requires greatest { sums.now.delay ≤ℤ pos 131072000000000 }
     ensures { OnOk result (lines.new ≡ lines.old ++ decided_text count sums.now.delay sums.now.cycles unit) }
 {
     lines.put(b"decided by a chain of ")?;

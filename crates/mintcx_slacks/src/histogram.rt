@@ -2,6 +2,7 @@
 ghost use Rattle.std.specs.Prelude.{◌≡◌, ◌≤◌, ◌*◌, ◌^◌, ◌++◌, ℕ, length, IfOk, OnOk};
 ghost use Rattle.std.specs.Int.{div_ceil};
 ghost use Rattle.mintc_fraction.specs.Ratio.{IsModest};
+ghost use Rattle.mintc_text.specs.declared.limits.TheConstants.{MOST_PAIRS};
 ghost use Rattle.mintc_slack.specs.Answers.{AreOfPairs};
 ghost use Rattle.mintcx_slacks.specs.Histograms.{IsHistogramText, IsStep, bar_columns, bar_grid, bar_head, bar_name};
 ghost use Rattle.mintcx_slacks.specs.Histograms.{bar_row, end_text, fullest_of, histogram_text as histogram_text_of};
@@ -53,7 +54,7 @@ fn bar_name(alloc: Global, unit: Unit, step: Step, number: u64) -> Result<Name, 
 /// The signs of a bar, of which the fullest has 40.
 fn signs(alloc: Global, count: usize, fullest: usize) -> Result<Name, OutOfMemory>
     requires some { 1 ≤ fullest }
-    requires few { count ≤ 200000 }
+    requires few { count ≤ MOST_PAIRS }
     ensures { IfOk result (λ name. name ≡ signs_of fullest count) }
 {
     let signs = (count * 40).div_ceil(fullest);
@@ -104,7 +105,7 @@ fn bar_row(
 ) -> Result<Names, OutOfMemory>
     requires some { 1 ≤ step.femtoseconds }
     requires step { step.femtoseconds ≤ 10 ^ 18 }
-    requires count { length extra.now ≤ 200000 }
+    requires count { length extra.now ≤ MOST_PAIRS }
     requires full { 1 ≤ fullest }
     requires number { number ≤ 12 }
     ensures { IfOk result (λ row. row ≡ bar_row unit step.femtoseconds extra.now fullest number) }
@@ -126,7 +127,7 @@ fn rows_table(
 ) -> Result<Table, OutOfMemory>
     requires some { 1 ≤ step.femtoseconds }
     requires step { step.femtoseconds ≤ 10 ^ 18 }
-    requires count { length extra.now ≤ 200000 }
+    requires count { length extra.now ≤ MOST_PAIRS }
     requires few { last ≤ 12 }
     requires last { last ≡ div_ceil (most_of extra.now) step.femtoseconds }
     ensures { IfOk result (λ table. table ≡ bar_grid unit step.femtoseconds extra.now) }
@@ -152,7 +153,7 @@ fn steps_text(
     requires cycle { IsModest cycle.now }
     requires some { 1 ≤ step.femtoseconds }
     requires step { step.femtoseconds ≤ 10 ^ 18 }
-    requires count { length extra.now ≤ 200000 }
+    requires count { length extra.now ≤ MOST_PAIRS }
     requires enough { most_of extra.now ≤ 12 * step.femtoseconds }
     ensures { IfOk result (λ text. text ≡ histogram_text_of cycle.now extra.now view.now step.femtoseconds) }
 {
@@ -178,7 +179,7 @@ fn bars_text(
     view: &View,
 ) -> Result<Bytes, OutOfMemory>
     requires cycle { IsModest cycle.now }
-    requires count { length extra.now ≤ 200000 }
+    requires count { length extra.now ≤ MOST_PAIRS }
     ensures { IfOk result (λ text. (n : ℕ) × IsStep (most_of extra.now) n
         × (text ≡ histogram_text_of cycle.now extra.now view.now (step_at n))) }
 {

@@ -9,5 +9,5 @@ returns c =
     on_ok_weaker c.put-3.result
     (λ e. rest_written c.args.unit c.args.greatest c.args.lines.now c.put.new.self c.put_number.new.lines c.put-2.new.self c.put_amount.new.lines c.put-3.new.self c.args.count
     c.if-count-eq0.false c.in_ok-put.ensures.ok c.in_ok-put_number.ensures c.in_ok-put-2.ensures.ok
-    (c.in_ok-put_amount.ensures ∙ ap (λ time. c.put-2.new.self ++ amount_text c.args.unit time) c.whole.ensures.value) e)
+    (c.in_ok-put_amount.ensures.ok ∙ ap (λ time. c.put-2.new.self ++ amount_text c.args.unit time) c.whole.ensures.value) e)
     c.put-3.ensures.ok
