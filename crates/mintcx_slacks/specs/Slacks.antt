@@ -19,6 +19,7 @@ use Rattle.mintcx_frame.specs.Ends.{head_text, foot_text, subject_text, unit_for
 use Rattle.mintcx_frame.specs.Names.{element_name}
 use Rattle.mintcx_frame.specs.Phases.{left, right}
 use Rattle.mintcx_frame.specs.Rows.{shown_rows}
+use Rattle.mintcx_manners.specs.declared.manners.Limit.{Limit}
 
 -- a number of whole femtoseconds
 abbrev pub whole_text : Unit → ℤ → List ℕ
@@ -85,14 +86,17 @@ pairs_line extra = decimal (length extra) ++ pairs_word (length extra) ++ tight_
 abbrev pub slack_note : List ℕ
 slack_note = codes "slack is how much a pair's delay may grow, alone, at this cycle"
 
+-- the pairs with their slacks, as many as a limit allows, and the line for those that it leaves out
+abbrev pub listed_text : Timing → Unit → Limit → List (ℤ × ℕ) → List ℕ
+listed_text t unit limit places = table_text (slack_grid t unit (take (shown_rows limit (length places)) places))
+    ++ rest_text unit (greatest_slack places) (length places - shown_rows limit (length places))
+
 -- the text of slacks at a least cycle
 abbrev pub least_text : Timing → Ratio → List ℤ → View → List (ℤ × ℕ) → List ℕ
 least_text t cycle extra view places =
     let unit = unit_for view.unit cycle in
-    let shown = shown_rows view.limit (length places) in
     head_text (codes "slack") cycle view ++ 10 ∷ [] ++ ended (pairs_line extra) ++ 10 ∷ []
-    ++ table_text (slack_grid t unit (take shown places))
-    ++ rest_text unit (greatest_slack places) (length places - shown) ++ 10 ∷ [] ++ foot_text unit slack_note
+    ++ listed_text t unit view.limit places ++ 10 ∷ [] ++ foot_text unit slack_note
 
 -- the text where no schedule is right
 abbrev pub never_text : View → List ℕ

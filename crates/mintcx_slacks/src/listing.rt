@@ -4,7 +4,7 @@ ghost use Rattle.mintc_fraction.specs.Ratio.{IsModest};
 ghost use Rattle.mintc_slack.specs.Answers.{AreOfPairs};
 ghost use Rattle.mintc_text.specs.Lines.{ended};
 ghost use Rattle.mintcx_slacks.specs.Slacks.{AreBySlack, IsSlackText, least_text as least_text_of, never_text};
-ghost use Rattle.mintcx_slacks.specs.Slacks.{pairs_line, pairs_word, rest_text, tight_text};
+ghost use Rattle.mintcx_slacks.specs.Slacks.{listed_text, pairs_line, pairs_word, rest_text, tight_text};
 
 use crate::order::{Place, by_slack, greatest_slack, tight_count};
 use crate::table::{slack_table, whole};
@@ -14,6 +14,7 @@ use mintc_text::{Bytes, Lines, OutOfMemory};
 use mintc_timing::System;
 use mintcx_amounts::{Unit, put_amount};
 use mintcx_frame::{View, put_foot, put_head, put_number, put_subject, shown_rows};
+use mintcx_manners::Limit;
 use std::alloc::Global;
 
 /// Writes how many pairs have no slack.
@@ -65,6 +66,24 @@ fn put_rest(lines: &mut Lines, unit: Unit, greatest: i64, count: usize) -> Resul
     lines.put(b" (--limit all)\n")
 }
 
+/// Writes the pairs of places with their slacks, as many as a limit allows, and the line for those that it leaves out.
+fn put_listed(
+    lines: &mut Lines,
+    alloc: Global,
+    system: &System,
+    unit: Unit,
+    places: &[Place],
+    limit: Limit,
+) -> Result<(), OutOfMemory>
+    requires { All (λ (place : ℤ × ℕ). place.1 < length system.now.pairs) places.now }
+    ensures { OnOk result (lines.new ≡ lines.old ++ listed_text system.now unit limit places.now) }
+{
+    let shown = shown_rows(limit, places.len());
+    let table = slack_table(alloc, system, unit, &places[..shown])?.text(alloc)?;
+    lines.put(&table)?;
+    put_rest(lines, unit, greatest_slack(places), places.len() - shown)
+}
+
 /// The text of slacks at a least cycle, by places in order.
 fn places_text(
     alloc: Global,
@@ -79,17 +98,13 @@ fn places_text(
     ensures { IfOk result (λ text. text ≡ least_text_of system.now cycle.now extra.now view.now places.now) }
 {
     let unit = view.unit_for(cycle);
-    let shown = shown_rows(view.limit, places.len());
-    let table = slack_table(alloc, system, unit, &places[..shown])?.text(alloc)?;
-    let rest = places.len() - shown;
     let note = b"slack is how much a pair's delay may grow, alone, at this cycle";
     let mut lines = Lines::new(alloc);
     put_head(&mut lines, b"slack", cycle, view)?;
     lines.put(b"\n")?;
     put_pairs(&mut lines, extra)?;
     lines.put(b"\n")?;
-    lines.put(&table)?;
-    put_rest(&mut lines, unit, greatest_slack(places), rest)?;
+    put_listed(&mut lines, alloc, system, unit, places, view.limit)?;
     lines.put(b"\n")?;
     put_foot(&mut lines, unit, note)?;
     Ok(Bytes::new(lines.into_bytes()))
