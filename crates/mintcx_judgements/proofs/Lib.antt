@@ -4,3 +4,4 @@ mod NamedLaws
 mod PlaceLaws
 mod RuleLaws
 mod Sizes
+mod WideLaws
