@@ -5,3 +5,5 @@ mod PlaceLaws
 mod RuleLaws
 mod Sizes
 mod WideLaws
+mod WidestLaws
+mod WrittenLaws
