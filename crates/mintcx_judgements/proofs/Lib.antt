@@ -2,6 +2,7 @@ mod BetweenLaws
 mod CauseLaws
 mod NamedLaws
 mod PlaceLaws
+mod RoomLaws
 mod RuleLaws
 mod Sizes
 mod WideLaws
