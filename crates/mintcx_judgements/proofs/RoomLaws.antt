@@ -28,7 +28,7 @@ module _ (a b c : ℤ) (edge : IsEdge a) (setup : IsModest b) (comes : IsComing 
   setup_in_range = rw setup_is (omega (arith, ints), omega (arith, ints))
 
 -- and the one that a hold leaves
-module _ (a b c d : ℤ) (comes : IsComing a) (cycle : IsNumerator b) (edge : IsEdge c) (hold : IsModest d) where
+module _ (a b c : ℤ) (comes : IsComing a) (cycle : IsNumerator b) (edge : IsEdge c) where
   next_is : wide (wide a +ℤ wide b) -ℤ wide c ≡ a +ℤ b -ℤ c
   next_is =
       rw (read_wide a (omega (arith, ints), omega (arith, ints)), read_wide b (omega (arith, ints), omega (arith, ints)),
@@ -37,9 +37,10 @@ module _ (a b c d : ℤ) (comes : IsComing a) (cycle : IsNumerator b) (edge : Is
   pub next_fits : FitsSigned w128 (wide (wide a +ℤ wide b) -ℤ wide c)
   next_fits = rw next_is (omega (arith, ints))
 
+module _ (a b c d : ℤ) (comes : IsComing a) (cycle : IsNumerator b) (edge : IsEdge c) (hold : IsModest d) where
   held_is : wide (wide (wide a +ℤ wide b) -ℤ wide c) -ℤ wide d ≡ a +ℤ b -ℤ c -ℤ d
   held_is =
-      rw (next_is, read_wide (a +ℤ b -ℤ c) (omega (arith, ints), omega (arith, ints)), read_wide d (omega (arith, ints), omega (arith, ints))) refl
+      rw (next_is a b c comes cycle edge, read_wide (a +ℤ b -ℤ c) (omega (arith, ints), omega (arith, ints)), read_wide d (omega (arith, ints), omega (arith, ints))) refl
 
   pub hold_fits : FitsSigned w128 (wide (wide (wide a +ℤ wide b) -ℤ wide c) -ℤ wide d)
   hold_fits = rw held_is (omega (arith, ints))
