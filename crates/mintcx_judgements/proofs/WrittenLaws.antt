@@ -1,5 +1,15 @@
 -- What is written in parts.
-use Rattle.std.proofs.Common.{◌≡◌, List, ℕ, ◌++◌, append_assoc, ap, ◌∙◌}
+use Rattle.std.proofs.Common.{◌≡◌, List, [], ◌∷◌, ℕ, ◌++◌, append_assoc, ap, ◌∙◌}
+use Rattle.mintc_text.specs.Lines.{text_of}
 
 pub appended : (old begun new first second : List ℕ) → begun ≡ old ++ first → new ≡ begun ++ second → new ≡ old ++ (first ++ second)
 appended old begun new first second e f = f ∙ ap (λ v. v ++ second) e ∙ append_assoc old first second
+
+-- a claim: its kind, a name, what it says, and by how much
+pub claimed : (old a b new kind name says rest : List ℕ) → a ≡ old ++ kind → b ≡ a ++ name → new ≡ b ++ (says ++ rest) → new ≡ old ++ ((kind ++ name ++ says) ++ rest)
+claimed old a b new kind name says rest e f g = rw (g, f, e) (simp append_assoc)
+
+-- two lines of two parts each
+pub two_lines : (old a b c d new first said second third : List ℕ) → a ≡ old ++ first → b ≡ a ++ (said ++ 10 ∷ []) → c ≡ b ++ second → d ≡ c ++ third →
+    new ≡ d ++ 10 ∷ [] → new ≡ old ++ text_of ((first ++ said) ∷ (second ++ third) ∷ [])
+two_lines old a b c d new first said second third e f g h i = rw (i, h, g, f, e) (simp append_assoc)
