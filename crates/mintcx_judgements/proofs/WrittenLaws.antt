@@ -13,3 +13,8 @@ claimed old a b new kind name says rest e f g = rw (g, f, e) (simp append_assoc)
 pub two_lines : (old a b c d new first said second third : List ℕ) → a ≡ old ++ first → b ≡ a ++ (said ++ 10 ∷ []) → c ≡ b ++ second → d ≡ c ++ third →
     new ≡ d ++ 10 ∷ [] → new ≡ old ++ text_of ((first ++ said) ∷ (second ++ third) ∷ [])
 two_lines old a b c d new first said second third e f g h i = rw (i, h, g, f, e) (simp append_assoc)
+
+-- two lines, the second one of two parts
+pub line_and_two : (old a b c d new first second third : List ℕ) → a ≡ old ++ first → b ≡ a ++ 10 ∷ [] → c ≡ b ++ second → d ≡ c ++ third →
+    new ≡ d ++ 10 ∷ [] → new ≡ old ++ text_of (first ∷ (second ++ third) ∷ [])
+line_and_two old a b c d new first second third e f g h i = rw (i, h, g, f, e) (simp append_assoc)
