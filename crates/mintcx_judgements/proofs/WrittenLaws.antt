@@ -18,3 +18,7 @@ two_lines old a b c d new first said second third e f g h i = rw (i, h, g, f, e)
 pub line_and_two : (old a b c d new first second third : List ℕ) → a ≡ old ++ first → b ≡ a ++ 10 ∷ [] → c ≡ b ++ second → d ≡ c ++ third →
     new ≡ d ++ 10 ∷ [] → new ≡ old ++ text_of (first ∷ (second ++ third) ∷ [])
 line_and_two old a b c d new first second third e f g h i = rw (i, h, g, f, e) (simp append_assoc)
+
+-- a name and a word, and what stands behind them
+pub named_and : (old begun new name word rest : List ℕ) → begun ≡ old ++ name → new ≡ begun ++ (word ++ rest) → new ≡ old ++ ((name ++ word) ++ rest)
+named_and old begun new name word rest e f = rw (f, e) (simp append_assoc)
