@@ -22,3 +22,8 @@ line_and_two old a b c d new first second third e f g h i = rw (i, h, g, f, e) (
 -- a name and a word, and what stands behind them
 pub named_and : (old begun new name word rest : List ℕ) → begun ≡ old ++ name → new ≡ begun ++ (word ++ rest) → new ≡ old ++ ((name ++ word) ++ rest)
 named_and old begun new name word rest e f = rw (f, e) (simp append_assoc)
+
+-- one line of two parts, each with a name in it
+pub raced : (old a b d f g h new word name behind second other end : List ℕ) → a ≡ old ++ word → b ≡ a ++ name → d ≡ b ++ behind → f ≡ d ++ second → g ≡ f ++ other →
+    h ≡ g ++ end → new ≡ h ++ 10 ∷ [] → new ≡ old ++ text_of (((word ++ name ++ behind) ++ (second ++ other ++ end)) ∷ [])
+raced old a b d f g h new word name behind second other end i j k l m n o = rw (o, n, m, l, k, j, i) (simp append_assoc)

@@ -1,4 +1,4 @@
-use Rattle.std.proofs.Common.{◌≡◌, ◌++◌, ◌*ℤ◌, ap, ◌∙◌, arith}
+use Rattle.std.proofs.Common.{◌≡◌, ◌++◌, ◌*ℤ◌, ap, ◌∙◌, arith, w64, to_z, of_z}
 use Rattle.std.specs.Prelude.{codes}
 use Rattle.std.proofs.lemmas.Int.{ints}
 use Rattle.std.proofs.lemmas.Result.{on_ok_weaker}
@@ -18,9 +18,11 @@ returns c =
     let design = c.args.told.now.system.now.flat in
     let l = c.in-Some.element in
     let range = c.scaled-wants.ensures.range in
+    let kept = c.element.ensures.kept.width in
+    let width : to_z w64 (of_z w64 c.element.result.now.width) ≡ c.element.result.now.width = omega (arith, ints, kept) in
     let wants : wide c.scaled-wants.result ≡ (element_at design l).width *ℤ s.den =
         read_wide c.scaled-wants.result (omega (arith, ints), omega (arith, ints)) ∙ c.scaled-wants.ensures.value
-        ∙ ap (λ e. e.width *ℤ s.den) c.element.ensures.value in
+        ∙ ap (λ x. x *ℤ s.den) width ∙ ap (λ e. e.width *ℤ s.den) c.element.ensures.value in
     on_ok_weaker c.put_timed.result
     (λ e. rw c.in-Some.is
     (claimed c.args.lines.now c.put-2.new.self c.put-3.new.self c.put_timed.new.lines (codes " wide, ") (element_name design l) (codes " wants pulses of ")
