@@ -27,3 +27,8 @@ named_and old begun new name word rest e f = rw (f, e) (simp append_assoc)
 pub raced : (old a b d f g h new word name behind second other end : List ℕ) → a ≡ old ++ word → b ≡ a ++ name → d ≡ b ++ behind → f ≡ d ++ second → g ≡ f ++ other →
     h ≡ g ++ end → new ≡ h ++ 10 ∷ [] → new ≡ old ++ text_of (((word ++ name ++ behind) ++ (second ++ other ++ end)) ∷ [])
 raced old a b d f g h new word name behind second other end i j k l m n o = rw (o, n, m, l, k, j, i) (simp append_assoc)
+
+-- a line of two parts, and further lines
+pub line_and_rest : (old a b new first said : List ℕ) (rest : List (List ℕ)) → a ≡ old ++ first → b ≡ a ++ (said ++ 10 ∷ []) → new ≡ b ++ text_of rest →
+    new ≡ old ++ text_of ((first ++ said) ∷ rest)
+line_and_rest old a b new first said rest e f g = rw (g, f, e) (simp append_assoc)
