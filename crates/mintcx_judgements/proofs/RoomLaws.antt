@@ -15,8 +15,12 @@ use Rattle.mintcx_judgements.proofs.WideLaws.{read_wide, wide}
 module _ (a b c : ℤ) (edge : IsEdge a) (setup : IsModest b) (comes : IsComing c) where
   last_is : wide (wide a -ℤ wide b) -ℤ wide c ≡ a -ℤ b -ℤ c
   last_is =
-      rw (read_wide a (omega (arith, ints), omega (arith, ints)), read_wide b (omega (arith, ints), omega (arith, ints)),
-      read_wide (a -ℤ b) (omega (arith, ints), omega (arith, ints)), read_wide c (omega (arith, ints), omega (arith, ints))) refl
+      rw (
+        read_wide a (omega (arith, ints), omega (arith, ints)),
+        read_wide b (omega (arith, ints), omega (arith, ints)),
+        read_wide (a -ℤ b) (omega (arith, ints), omega (arith, ints)),
+        read_wide c (omega (arith, ints), omega (arith, ints)),
+      ) refl
 
   pub setup_fits : FitsSigned w128 (wide (wide a -ℤ wide b) -ℤ wide c)
   setup_fits = rw last_is (omega (arith, ints))
@@ -31,8 +35,12 @@ module _ (a b c : ℤ) (edge : IsEdge a) (setup : IsModest b) (comes : IsComing 
 module _ (a b c : ℤ) (comes : IsComing a) (cycle : IsNumerator b) (edge : IsEdge c) where
   next_is : wide (wide a +ℤ wide b) -ℤ wide c ≡ a +ℤ b -ℤ c
   next_is =
-      rw (read_wide a (omega (arith, ints), omega (arith, ints)), read_wide b (omega (arith, ints), omega (arith, ints)),
-      read_wide (a +ℤ b) (omega (arith, ints), omega (arith, ints)), read_wide c (omega (arith, ints), omega (arith, ints))) refl
+      rw (
+        read_wide a (omega (arith, ints), omega (arith, ints)),
+        read_wide b (omega (arith, ints), omega (arith, ints)),
+        read_wide (a +ℤ b) (omega (arith, ints), omega (arith, ints)),
+        read_wide c (omega (arith, ints), omega (arith, ints)),
+      ) refl
 
   pub next_fits : FitsSigned w128 (wide (wide a +ℤ wide b) -ℤ wide c)
   next_fits = rw next_is (omega (arith, ints))

@@ -10,7 +10,7 @@ greater-requires-clause-best c =
     let found = c.loop-number.found.items in
     let to = c.pair.result.now.to in
     let read : c.index-best.result.now ≡ get_or found to None =
-        get_or_read found to c.index-best.result.now (omega (arith, c.loop-number.invariant.count, c.pair.ensures.to)) c.index-best.ensures None in
+    get_or_read found to c.index-best.result.now (omega (arith, c.loop-number.invariant.count, c.pair.ensures.to)) c.index-best.ensures None in
     inside_some c.index-best.result.now _ (λ n e. c.loop-number.invariant.inside to n c.pair.ensures.to (sym read ∙ e))
 
 pub loop-number-preserved : goal.loop-number-preserved
@@ -21,7 +21,7 @@ loop-number-preserved c =
     let found = c.loop-number.found.items in
     let to = c.pair.result.now.to in
     let read : c.index-best.result.now ≡ get_or found to None =
-        get_or_read found to c.index-best.result.now (omega (arith, c.loop-number.invariant.count, c.pair.ensures.to)) c.index-best.ensures None in
+    get_or_read found to c.index-best.result.now (omega (arith, c.loop-number.invariant.count, c.pair.ensures.to)) c.index-best.ensures None in
     greatest_more t time k found to c.greater.result c.loop-number.invariant (ap (λ p. p.to) c.pair.ensures.value) c.pair.ensures.to
     (c.greater.ensures.value ∙ ap (λ o. greater_by time o k) read)
     (some_inside c.greater.result (λ n. n < length t.pairs) c.greater.ensures.inside)

@@ -18,8 +18,8 @@ returns-clause-value c =
     let early = c.args.causes.now.early.now in
     let l = c.args.element in
     let value : c.coming_early.result +ℤ c.cycle.result -ℤ c.edge.result -ℤ c.hold.result
-        ≡ coming_early t s early c.in_ok-pair.pair +ℤ s.cycle -ℤ edge_of t.flat s l -ℤ hold_of t.flat s l =
-        rw (c.coming_early.ensures.value, c.cycle.ensures.value, c.edge.ensures.value, c.hold.ensures.value) refl in
+    ≡ coming_early t s early c.in_ok-pair.pair +ℤ s.cycle -ℤ edge_of t.flat s l -ℤ hold_of t.flat s l =
+    rw (c.coming_early.ensures.value, c.cycle.ensures.value, c.edge.ensures.value, c.hold.ensures.value) refl in
     ap (λ (x : ℤ). Some x) (hold_is c.coming_early.result c.cycle.result c.edge.result c.hold.result c.coming_early.ensures.range c.cycle.ensures.range c.edge.ensures.range c.hold.ensures.range ∙ value)
     ∙ sym (held_room t s early l c.in_ok-pair.pair (ap (λ e. e.has_hold) (sym c.element.ensures.value) ∙ c.if-not-element.false) (sym c.earliest.ensures.value ∙ c.in_ok-pair.was))
 

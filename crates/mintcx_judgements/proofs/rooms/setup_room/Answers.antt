@@ -14,7 +14,7 @@ returns-then-not-element-clause-value c =
     let leaves = c.there.ensures.range in
     let comes : IsComing c.there.result = (omega (arith, ints), omega (arith, ints)) in
     let value : c.edge.result -ℤ c.setup.result -ℤ c.there.result ≡ edge_of t.flat s l -ℤ setup_of t.flat s l -ℤ there t.flat s late l =
-        rw (c.edge.ensures.value, c.setup.ensures.value, c.there.ensures.value) refl in
+    rw (c.edge.ensures.value, c.setup.ensures.value, c.there.ensures.value) refl in
     ap (λ (x : ℤ). Some x) (setup_is c.edge.result c.setup.result c.there.result c.edge.ensures.range c.setup.ensures.range comes ∙ value)
     ∙ sym (latch_room t s late l (ap (λ e. e.flop) (sym c.element.ensures.value) ∙ c.if-not-element.true))
 
@@ -29,7 +29,7 @@ returns-clause-value c =
     let late = c.args.causes.now.late.now in
     let l = c.args.element in
     let value : c.edge.result -ℤ c.setup.result -ℤ c.coming_late.result ≡ edge_of t.flat s l -ℤ setup_of t.flat s l -ℤ coming_late t s late c.in_ok-pair.pair =
-        rw (c.edge.ensures.value, c.setup.ensures.value, c.coming_late.ensures.value) refl in
+    rw (c.edge.ensures.value, c.setup.ensures.value, c.coming_late.ensures.value) refl in
     ap (λ (x : ℤ). Some x) (setup_is c.edge.result c.setup.result c.coming_late.result c.edge.ensures.range c.setup.ensures.range c.coming_late.ensures.range ∙ value)
     ∙ sym (flop_room t s late l c.in_ok-pair.pair (ap (λ e. e.flop) (sym c.element.ensures.value) ∙ c.if-not-element.false) (sym c.latest.ensures.value ∙ c.in_ok-pair.was))
 

@@ -21,8 +21,8 @@ returns c =
     let kept = c.element.ensures.kept.width in
     let width : to_z w64 (of_z w64 c.element.result.now.width) ≡ c.element.result.now.width = omega (arith, ints, kept) in
     let wants : wide c.scaled-wants.result ≡ (element_at design l).width *ℤ s.den =
-        read_wide c.scaled-wants.result (omega (arith, ints), omega (arith, ints)) ∙ c.scaled-wants.ensures.value
-        ∙ ap (λ x. x *ℤ s.den) width ∙ ap (λ e. e.width *ℤ s.den) c.element.ensures.value in
+    read_wide c.scaled-wants.result (omega (arith, ints), omega (arith, ints)) ∙ c.scaled-wants.ensures.value
+    ∙ ap (λ x. x *ℤ s.den) width ∙ ap (λ e. e.width *ℤ s.den) c.element.ensures.value in
     on_ok_weaker c.put_timed.result
     (λ e. rw c.in-Some.is
     (claimed c.args.lines.now c.put-2.new.self c.put-3.new.self c.put_timed.new.lines (codes " wide, ") (element_name design l) (codes " wants pulses of ")

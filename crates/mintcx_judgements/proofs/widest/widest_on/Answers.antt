@@ -11,13 +11,13 @@ loop-number-preserved c =
     let k = c.loop-number.number in
     let phase : c.element.result.now.phase ≡ phase_of design k = ap (λ e. e.phase) c.element.ensures.value in
     elim c.if-element-phase.branch [
-      then-element-phase w ↦ record {
+      | then-element-phase w ↦ record {
         value =
             w.best-is ∙ w.wider-best.ensures.value ∙ ap (λ o. wider_of design o k) c.loop-number.invariant.value
             ∙ sym (widest_here design c.args.phase k _ refl (sym phase ∙ w.if-element-phase.true));
         inside = rw w.best-is w.wider-best.ensures.inside;
       }
-    | else-element-phase w ↦ record {
+      | else-element-phase w ↦ record {
         value =
             w.best-is ∙ c.loop-number.invariant.value
             ∙ sym (widest_there design c.args.phase k _ refl (λ e. w.if-element-phase.false (phase ∙ e)));
