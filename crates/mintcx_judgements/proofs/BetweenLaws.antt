@@ -26,3 +26,5 @@ module _ (t : Timing) (i j n : ℕ) where
   between_end h =
       let none : length t.pairs - n ≡ 0 = omega arith in
       ap (λ k. first_between t i j (range_with_len n k)) none
+
+pub ruleset between = (between_none, between_some, between_end)

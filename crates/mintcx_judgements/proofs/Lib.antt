@@ -2,5 +2,9 @@ mod BetweenLaws
 mod CauseLaws
 mod NamedLaws
 mod PlaceLaws
+mod RoomLaws
 mod RuleLaws
 mod Sizes
+mod WideLaws
+mod WidestLaws
+mod WrittenLaws

@@ -61,7 +61,7 @@ abbrev pub place_of : List Violation → ℕ → ℕ × ℤ × ℕ
 place_of vs n = (rank_of (violation_at vs n).broken, ahead_of (violation_at vs n), n)
 
 abbrev pub place_cmp : ℕ × ℤ × ℕ → ℕ × ℤ × ℕ → Ordering
-place_cmp x y = ordering_then (nat_cmp x.0 y.0) (ordering_then (int_cmp x.1 y.1) (nat_cmp x.2 y.2))
+place_cmp x y = ordering_then (ordering_then (nat_cmp x.0 y.0) (int_cmp x.1 y.1)) (nat_cmp x.2 y.2)
 
 -- The places are those of all violations, in order.
 pub record AreRanked (vs : List Violation) (places : List (ℕ × ℤ × ℕ)) : Type 0 where

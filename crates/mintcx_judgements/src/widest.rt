@@ -51,11 +51,7 @@ fn is_between(told: &Told<'_>, i: u32, j: u32, pair: usize) -> bool
 }
 
 /// The first pair from an element on a phase to a latch on another.
-#[tactic(auto, using(
-    crate::proofs::BetweenLaws::between_none,
-    crate::proofs::BetweenLaws::between_some,
-    crate::proofs::BetweenLaws::between_end
-))]
+#[tactic(auto, using(crate::proofs::BetweenLaws::between))]
 pub(crate) fn first_between(told: &Told<'_>, i: u32, j: u32) -> Option<usize>
     ensures value { result ≡ first_between told.now.system.now i j (numbers_of told.now.system.now) }
     ensures inside { IfSome result (λ n. n < length told.now.system.now.pairs) }

@@ -1,5 +1,5 @@
 use Rattle.mintcx_judgements.proofs.RuleLaws.{some_cycles}
 use Rattle.mintcx_judgements.proofs.rules.put_less.Goals as goal
 
-pub returns-2 : goal.returns-2
-returns-2 c = rw (some_cycles c.args.cycles c.if-cycles-eq0.false) c.put.ensures.ok
+pub returns : goal.returns
+returns c = rw (some_cycles c.args.cycles c.if-cycles-eq0.false) c.put.ensures.ok
