@@ -1,0 +1,10 @@
+mod BetweenLaws
+mod CauseLaws
+mod NamedLaws
+mod PlaceLaws
+mod RoomLaws
+mod RuleLaws
+mod Sizes
+mod WideLaws
+mod WidestLaws
+mod WrittenLaws

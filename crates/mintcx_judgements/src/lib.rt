@@ -1,0 +1,27 @@
+//! Judgements for people: what a schedule passes with, what it fails and why, and what a certificate is worth.
+//!
+//! Under `pass` stand the phases, and the room that each setup and each hold leaves. Under `fail` stand the
+//! violations: the rules of the clock in mintc's order, then the setups, then the holds, of each kind the worst first.
+//! A setup or a hold that fails is told with the data that causes it: from where it comes, when it leaves, how long it
+//! takes, and when it is wanted. Each text has one definition, and each number in it is that of the exact amount. No
+//! call refuses: those that write may lack memory, and nothing else.
+#![tactic(auto)]
+
+mod causes;
+mod data;
+mod fail;
+mod judged;
+mod laws;
+mod pass;
+mod ranking;
+mod rooms;
+mod rules;
+mod shown;
+mod sources;
+mod told;
+mod widest;
+
+pub use fail::fail_text;
+pub use judged::Judged;
+pub use laws::violations_are_named;
+pub use pass::pass_text;

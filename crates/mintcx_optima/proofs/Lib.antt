@@ -1,0 +1,5 @@
+mod FoundLaws
+mod HoldLaws
+mod NeverLaws
+mod OptimumLaws
+mod RingLaws

@@ -1,0 +1,136 @@
+-- What a request asks of mintc: a command, and the files that it names.
+use Rattle.std.specs.Prelude.{◌≡◌, ◌&&◌, ◌==◌, ◌+◌, ℕ, Bool, true, false, nat_le, List, [], ◌∷◌, ◌++◌, length}
+use Rattle.std.specs.Prelude.{Option, option_to_list, Some, None, Result, Ok, Err, if◌then◌else◌}
+use Rattle.mintc_command_answers.specs.Commands.{roles_of}
+use Rattle.mintc_command_answers.specs.declared.command.Command.{Command}
+use Rattle.mintc_command_answers.specs.declared.command.Command.TheVariants.{OfDesign, Sample, Corners}
+use Rattle.mintc_command_answers.specs.declared.command.Job.{Job}
+use Rattle.mintc_command_answers.specs.declared.command.Job.TheVariants as job
+use Rattle.mintc_command_answers.specs.declared.command.Source.{Source}
+use Rattle.mintc_command_answers.specs.declared.command.Source.TheVariants as source
+use Rattle.mintcx_manners.specs.declared.manners.Format.{Format}
+use Rattle.mintcx_manners.specs.declared.manners.Format.TheVariants as format
+use Rattle.mintcx_requests.specs.Requests.{Text, is_empty}
+use Rattle.mintcx_requests.specs.declared.requests.Cells.{Cells}
+use Rattle.mintcx_requests.specs.declared.requests.Cells.TheVariants as cells
+use Rattle.mintcx_requests.specs.declared.requests.Design.{Design}
+use Rattle.mintcx_requests.specs.declared.requests.Design.TheVariants as design
+use Rattle.mintcx_requests.specs.declared.requests.Task.{Task}
+use Rattle.mintcx_requests.specs.declared.requests.Task.TheVariants as task
+use Rattle.mintcx_translation.specs.declared.calls.Call.{Call}
+use Rattle.mintcx_translation.specs.declared.calls.Gap.{Gap}
+use Rattle.mintcx_translation.specs.declared.calls.Gap.TheVariants as gap
+use Rattle.mintcx_translation.specs.declared.calls.NoCall.{NoCall}
+use Rattle.mintcx_translation.specs.declared.calls.NoCall.TheVariants as none
+
+-- a value and then the next step, or the gap
+abbrev pub and_then : {A B : Type 0} → Result A Gap → (A → Result B Gap) → Result B Gap
+and_then (Ok x) next = next x
+and_then (Err e) next = Err e
+
+-- ---- the files
+
+-- what the cells are read from
+abbrev pub cells_file : Cells → Text
+cells_file (cells.Description file) = file
+cells_file (cells.Library file gates) = file
+
+-- the files of a design, in mintc's order: of `corners` the delays come last
+abbrev pub design_files : Bool → Design → List Text
+design_files for_corners (design.Table table) = table ∷ []
+design_files for_corners (design.Files netlist delays kind clock) = if for_corners
+    then (netlist ∷ cells_file kind ∷ clock ∷ []) ++ delays
+    else ((netlist ∷ []) ++ delays) ++ (cells_file kind ∷ clock ∷ [])
+
+-- the file that stands beside the design's, where there is one
+abbrev pub own_file : Task → Option Text
+own_file (task.Check schedule) = Some schedule
+own_file (task.Verify certificate) = Some certificate
+own_file what = None
+
+-- the task is about several delay files
+abbrev pub is_corners : Task → Bool
+is_corners task.Corners = true
+is_corners what = false
+
+-- all files of a task on a design, in mintc's order
+abbrev pub files_of : Task → Design → List Text
+files_of what files = design_files (is_corners what) files ++ option_to_list (own_file what)
+
+-- ---- the command
+
+-- the least cycle time is asked for, with no file for its certificate and no other cycle time
+abbrev pub optimum_of : Option Text → Option ℕ → Result Job Gap
+optimum_of (Some certificate) cycle = Err gap.Certificate
+optimum_of None (Some cycle) = Err gap.Cycle
+optimum_of None None = Ok job.Optimise
+
+-- the job of a task on one design
+abbrev pub job_of : Task → Result Job Gap
+job_of (task.Check schedule) = Ok job.Check
+job_of (task.Optimise certificate cycle) = optimum_of certificate cycle
+job_of (task.Verify certificate) = Ok job.Verify
+job_of task.Report = Ok job.Report
+job_of task.Safe = Ok job.Safe
+job_of (task.Slack histogram) = if histogram then Err gap.Histogram else Ok job.Slack
+job_of task.Corners = Err gap.Misfit
+job_of (task.Schedule certificate cycle) = Err gap.Schedule
+job_of (task.Sdc file) = Err gap.Sdc
+job_of (task.Draw file histogram) = Err gap.Draw
+
+-- the source of a design with these cells
+abbrev pub source_of : Cells → Result Source Gap
+source_of (cells.Description file) = Ok source.Files
+source_of (cells.Library file gates) = if is_empty gates then Ok source.Liberty else Err gap.ClockCells
+
+-- the command of a job on a design
+abbrev pub job_on : Job → Design → Result Command Gap
+job_on work (design.Table table) = Ok (OfDesign work source.Table)
+job_on work (design.Files netlist delays kind clock) = and_then (source_of kind) (λ from. Ok (OfDesign work from))
+
+-- the command of so many corners, with cells that are described
+abbrev pub corners_on : Design → Result Command Gap
+corners_on (design.Table table) = Err gap.Misfit
+corners_on (design.Files netlist delays (cells.Description file) clock) =
+    if nat_le 2 (length delays) && nat_le (length delays) 4 then Ok (Corners (length delays)) else Err gap.Misfit
+corners_on (design.Files netlist delays (cells.Library file gates) clock) = Err gap.CornersOfLibrary
+
+-- the command of a task on a design
+abbrev pub command_for : Task → Design → Result Command Gap
+command_for what files =
+    if is_corners what then corners_on files else and_then (job_of what) (λ work. job_on work files)
+
+-- the command names so many files
+abbrev pub is_fitting : Command → ℕ → Bool
+is_fitting (OfDesign work from) count = count == length (roles_of (OfDesign work from))
+is_fitting (Sample number) count = false
+is_fitting (Corners corners) count = (nat_le 2 corners && nat_le corners 4) && (count == corners + 3)
+
+-- ---- the call
+
+-- a form that is not there yet, or a clamp of delays
+abbrev pub form_of : Format → Bool → Option Gap
+form_of format.Json clamp = Some gap.Json
+form_of format.Csv clamp = Some gap.Csv
+form_of form clamp = if clamp then Some gap.Clamp else None
+
+-- a command with the names of its files, where these are as many as it takes
+abbrev pub fitting : Call → Result Call Gap
+fitting call = if is_fitting call.command (length call.files) then Ok call else Err gap.Misfit
+
+-- the command of a task on a design, with the names of all its files
+abbrev pub call_on : Option Gap → Task → Design → Result Call Gap
+call_on (Some missing) what files = Err missing
+call_on None what files = and_then (command_for what files) (λ command. fitting (record {
+  command = command;
+  files = files_of what files;
+}))
+
+-- what is asked of mintc, or what of it is not there yet
+abbrev pub call_for : Format → Bool → Task → Design → Result Call Gap
+call_for form clamp what files = call_on (form_of form clamp) what files
+
+-- why a task on a design is no call
+abbrev pub IsNoCall : Result Call Gap → NoCall → Type 0
+IsNoCall found (none.Missing missing) = found ≡ Err missing
+IsNoCall found none.OutOfMemory = Unit {0}

@@ -1,0 +1,304 @@
+//! What a request asks of mintc.
+ghost use Rattle.std.specs.Prelude.{◌≡◌, ◌≢◌, ◌++◌, ◌∷◌, [], ℕ, length, IfOk, IfErr, Ok};
+ghost use Rattle.mintc_command_answers.specs.Commands.{IsNumberInRange, roles_of};
+ghost use Rattle.mintcx_translation.specs.Calls.{IsNoCall, call_for, cells_file, command_for, corners_on, design_files};
+ghost use Rattle.mintcx_translation.specs.Calls.{files_of, form_of, is_corners, is_fitting, job_of, job_on, own_file, source_of};
+
+use mintc_command_answers::{Command, Job, Source};
+use mintc_text::{Name, Names, OutOfMemory};
+use mintcx_manners::Format;
+use mintcx_requests::{Cells, Design, Task};
+use std::alloc::Global;
+
+/// A command of mintc, and the names of its files, in their order.
+#[derive(Debug, Drop)]
+pub struct Call {
+    pub command: Command,
+    pub files: Names,
+}
+
+/// What of a request is not there yet.
+#[derive(Clone, Copy, Debug, PartialEq, Eq)]
+pub enum Gap {
+    Explain,
+    Schedule,
+    Sdc,
+    Draw,
+    /// The form of the answer.
+    Json,
+    /// The form of the answer.
+    Csv,
+    /// Delays below 0 that are taken as 0.
+    Clamp,
+    /// A cycle time other than the least.
+    Cycle,
+    /// A file for the certificate.
+    Certificate,
+    /// Gates of a library that carry the clock alone.
+    ClockCells,
+    /// Several delay files with a library.
+    CornersOfLibrary,
+    /// The pairs counted by their slack.
+    Histogram,
+    /// A text for people that answers the command.
+    ForPeople,
+    /// The files aren't as many as the command takes; no request of words has it.
+    Misfit,
+}
+
+/// Why a request is no call.
+#[derive(Clone, Copy, Debug, PartialEq, Eq)]
+pub enum NoCall {
+    /// This of it is not there yet.
+    Missing(Gap),
+    /// Memory was wanting.
+    OutOfMemory,
+}
+
+impl From<Gap> for NoCall {
+    ghost use Rattle.std.specs.Prelude.{◌≡◌};
+    ghost use Rattle.mintcx_translation.specs.declared.calls.NoCall.TheVariants as none;
+
+    ghost from_gives = { λ gap e. e ≡ none.Missing gap };
+
+    fn from(gap: Gap) -> Self {
+        NoCall::Missing(gap)
+    }
+}
+
+impl From<OutOfMemory> for NoCall {
+    ghost use Rattle.std.specs.Prelude.{◌≡◌};
+    ghost use Rattle.mintcx_translation.specs.declared.calls.NoCall.TheVariants as none;
+
+    ghost from_gives = { λ _ e. e ≡ none.OutOfMemory };
+
+    fn from(_: OutOfMemory) -> Self {
+        NoCall::OutOfMemory
+    }
+}
+
+/// What the cells are read from.
+fn cells_file(cells: Cells) -> Name
+    ensures { result ≡ cells_file cells }
+{
+    match cells {
+        Cells::Description(file) => file,
+        Cells::Library { file, .. } => file,
+    }
+}
+
+/// The files of a design with its delays, in the order of `corners`.
+fn corners_files(
+    alloc: Global,
+    netlist: Name,
+    delays: Names,
+    cells: Name,
+    clock: Name,
+) -> Result<Vec<Name>, OutOfMemory>
+    ensures { IfOk result (λ files. files.items ≡ (netlist ∷ cells ∷ clock ∷ []) ++ delays) }
+{
+    let mut files = vec![in alloc; netlist, cells, clock]?;
+    files.append(&mut delays.into_vec())?;
+    Ok(files)
+}
+
+/// The files of a design with its delays, in the order of one design.
+fn lone_files(
+    alloc: Global,
+    netlist: Name,
+    delays: Names,
+    cells: Name,
+    clock: Name,
+) -> Result<Vec<Name>, OutOfMemory>
+    ensures { IfOk result
+        (λ files. files.items ≡ ((netlist ∷ []) ++ delays) ++ (cells ∷ clock ∷ [])) }
+{
+    let mut files = vec![in alloc; netlist]?;
+    files.append(&mut delays.into_vec())?;
+    files.append(&mut vec![in alloc; cells, clock]?)?;
+    Ok(files)
+}
+
+/// The files of a design, in mintc's order.
+fn design_files(alloc: Global, for_corners: bool, design: Design) -> Result<Vec<Name>, OutOfMemory>
+    ensures { IfOk result (λ files. files.items ≡ design_files for_corners design) }
+{
+    match design {
+        Design::Table(table) => Ok(vec![in alloc; table]?),
+        Design::Files {
+            netlist,
+            delays,
+            cells,
+            clock,
+        } => {
+            let cells = cells_file(cells);
+            if for_corners {
+                corners_files(alloc, netlist, delays, cells, clock)
+            } else {
+                lone_files(alloc, netlist, delays, cells, clock)
+            }
+        }
+    }
+}
+
+/// Whether a task is about several delay files.
+fn is_corners(task: &Task) -> bool
+    ensures { result ≡ is_corners task.now }
+{
+    matches!(task, Task::Corners)
+}
+
+/// The file that stands beside the design's.
+fn own_file(task: Task) -> Option<Name>
+    ensures { result ≡ own_file task }
+{
+    match task {
+        Task::Check { schedule } => Some(schedule),
+        Task::Verify { certificate } => Some(certificate),
+        _ => None,
+    }
+}
+
+/// All files of a task on a design, in mintc's order.
+fn files_of(alloc: Global, task: Task, design: Design) -> Result<Names, OutOfMemory>
+    ensures { IfOk result (λ files. files ≡ files_of task design) }
+{
+    let for_corners = is_corners(&task);
+    let mut files = design_files(alloc, for_corners, design)?;
+    if let Some(own) = own_file(task) {
+        files.push(own)?;
+    }
+    Ok(Names::new(files))
+}
+
+/// The job of a task on one design.
+fn job_of(task: &Task) -> Result<Job, Gap>
+    ensures { result ≡ job_of task.now }
+{
+    match task {
+        Task::Check { .. } => Ok(Job::Check),
+        Task::Optimise { certificate, cycle } => match (certificate, cycle) {
+            (Some(_), _) => Err(Gap::Certificate),
+            (None, Some(_)) => Err(Gap::Cycle),
+            (None, None) => Ok(Job::Optimise),
+        },
+        Task::Verify { .. } => Ok(Job::Verify),
+        Task::Report => Ok(Job::Report),
+        Task::Safe => Ok(Job::Safe),
+        Task::Slack { histogram: true } => Err(Gap::Histogram),
+        Task::Slack { histogram: false } => Ok(Job::Slack),
+        Task::Corners => Err(Gap::Misfit),
+        Task::Schedule { .. } => Err(Gap::Schedule),
+        Task::Sdc { .. } => Err(Gap::Sdc),
+        Task::Draw { .. } => Err(Gap::Draw),
+    }
+}
+
+/// The source of a design with these cells.
+fn source_of(cells: &Cells) -> Result<Source, Gap>
+    ensures { result ≡ source_of cells.now }
+{
+    match cells {
+        Cells::Description(_) => Ok(Source::Files),
+        Cells::Library { clock_cells, .. } => {
+            if clock_cells.items().is_empty() {
+                Ok(Source::Liberty)
+            } else {
+                Err(Gap::ClockCells)
+            }
+        }
+    }
+}
+
+/// The command of a job on a design.
+fn job_on(job: Job, design: &Design) -> Result<Command, Gap>
+    ensures { result ≡ job_on job design.now }
+{
+    let source = match design {
+        Design::Table(_) => Source::Table,
+        Design::Files { cells, .. } => source_of(cells)?,
+    };
+    Ok(Command::OfDesign { job, source })
+}
+
+/// The command of corners.
+fn corners_on(design: &Design) -> Result<Command, Gap>
+    ensures { result ≡ corners_on design.now }
+{
+    let Design::Files { delays, cells, .. } = design else {
+        return Err(Gap::Misfit);
+    };
+    if let Cells::Library { .. } = cells {
+        return Err(Gap::CornersOfLibrary);
+    }
+    let count = delays.items().len();
+    if 2 <= count && count <= 4 {
+        Ok(Command::Corners {
+            count: count as u32,
+        })
+    } else {
+        Err(Gap::Misfit)
+    }
+}
+
+/// The command of a task on a design.
+fn command_for(task: &Task, design: &Design) -> Result<Command, Gap>
+    ensures { result ≡ command_for task.now design.now }
+{
+    if is_corners(task) {
+        return corners_on(design);
+    }
+    let job = job_of(task)?;
+    job_on(job, design)
+}
+
+/// Whether a command names so many files.
+fn is_fitting(command: Command, count: usize) -> bool
+    ensures { result ≡ is_fitting command count }
+{
+    match command {
+        Command::OfDesign { .. } => count == command.roles().len(),
+        Command::Sample { .. } => false,
+        Command::Corners { count: corners } => {
+            2 <= corners && corners <= 4 && count == corners as usize + 3
+        }
+    }
+}
+
+/// What of a form isn't there yet.
+fn form_of(format: Format, clamp: bool) -> Option<Gap>
+    ensures { result ≡ form_of format clamp }
+{
+    match format {
+        Format::Json => Some(Gap::Json),
+        Format::Csv => Some(Gap::Csv),
+        Format::Text | Format::Plain => { if clamp { Some(Gap::Clamp) } else { None } }
+    }
+}
+
+/// What a task on a design asks of mintc, where its form is there; `clamp` says whether 0 is taken for each delay
+/// below 0.
+pub fn call_of(
+    alloc: Global,
+    format: Format,
+    clamp: bool,
+    task: Task,
+    design: Design,
+) -> Result<Call, NoCall>
+    ensures value { IfOk result (λ call. call_for format clamp task design ≡ Ok call) }
+    ensures none { IfErr result (IsNoCall (call_for format clamp task design)) }
+    ensures count { IfOk result (λ call. length call.files ≡ length (roles_of call.command)) }
+    ensures in_range { IfOk result (λ call. IsNumberInRange call.command) }
+    ensures files { IfOk result (λ call. (number : ℕ) → call.command ≢ Command.Sample number) }
+{
+    if let Some(gap) = form_of(format, clamp) {
+        return Err(NoCall::Missing(gap));
+    }
+    let command = command_for(&task, &design)?;
+    let files = files_of(alloc, task, design)?;
+    if is_fitting(command, files.items().len()) {
+        Ok(Call { command, files })
+    } else {
+        Err(NoCall::Missing(Gap::Misfit))
+    }
+}

@@ -1,0 +1,42 @@
+//! What is said of requests that are not answered yet.
+
+use crate::calls::Gap;
+use std::error::Error;
+use std::fmt;
+
+impl Gap {
+    /// What is said of it.
+    fn text(self) -> &'static str {
+        match self {
+            Gap::Explain => "'explain' isn't there yet; docs/refusals.md explains each refusal",
+            Gap::Schedule => "'schedule' isn't there yet; 'optimise --format plain' has a schedule",
+            Gap::Sdc => "'sdc' isn't there yet",
+            Gap::Draw => "'draw' isn't there yet",
+            Gap::Json => "'--format json' isn't there yet; text and plain are",
+            Gap::Csv => "'--format csv' isn't there yet; text and plain are",
+            Gap::Clamp => "'--clamp-negative' isn't there yet",
+            Gap::Cycle => "'--cycle' isn't there yet",
+            Gap::Certificate => {
+                "'--certificate' isn't there yet; 'optimise --format plain -o FILE' writes the certificate"
+            }
+            Gap::ClockCells =>
+                "'--clock-cell' isn't there yet; liberty2toml writes cells to be edited",
+            Gap::CornersOfLibrary => {
+                "corners of a library aren't there yet; liberty2toml writes its cells for '--cells'"
+            }
+            Gap::Histogram => "'--histogram' isn't there yet",
+            Gap::ForPeople => {
+                "this command has no text for people yet; '--format plain' gives that of mintc"
+            }
+            Gap::Misfit => "the files aren't as many as the command takes",
+        }
+    }
+}
+
+impl fmt::Display for Gap {
+    fn fmt<W: fmt::Write>(&self, f: &mut fmt::Formatter<W>) -> fmt::Result {
+        f.write_str(self.text())
+    }
+}
+
+impl Error for Gap {}
