@@ -21,7 +21,7 @@ use mintc_timing_text::read_schedule;
 use std::alloc::Global;
 
 /// The schedule of a text, which is to have so many phases, or its first refusal.
-fn schedule_of(text: &[u8], phases: u32) -> Result<Schedule, Refusal>
+pub fn schedule_of(text: &[u8], phases: u32) -> Result<Schedule, Refusal>
     requires text { length text.now ≤ MOST_BYTES }
     requires few { phases ≤ 8 }
     ensures value { IfOk result (λ schedule. IsScheduleOf text.now phases schedule) }
@@ -40,7 +40,7 @@ fn schedule_of(text: &[u8], phases: u32) -> Result<Schedule, Refusal>
 }
 
 /// A room for the judgement of a schedule.
-fn room_for(alloc: Global, system: &System) -> Result<Room, OutOfMemory>
+pub fn room_for(alloc: Global, system: &System) -> Result<Room, OutOfMemory>
     ensures { IfOk result (λ room. 1 + 2 * phase_count system.now.flat + element_count system.now.flat ≤ room.nodes) }
 {
     Room::reserve(alloc, system.flat().node_count() as usize, 0)

@@ -27,7 +27,7 @@ use std::sync::ledger::{Blank, Ledger};
 
 /// Why corners have no systems.
 #[derive(Drop)]
-pub(crate) enum CornerStop {
+pub enum CornerStop {
     /// The files of this corner, counted from 1, are the first that are refused, and so they are.
     Refused { corner: u32, own: Refusal },
     OutOfMemory,
@@ -59,7 +59,7 @@ fn corner_system(
 }
 
 /// The systems of the corners of these delays, in order.
-fn corner_systems(
+pub fn corner_systems(
     alloc: Global,
     limits: &Limits,
     texts: &[Bytes],
@@ -93,7 +93,7 @@ fn corner_systems(
 }
 
 /// The limit of elements, where those of all corners pass it.
-fn too_many(limits: &Limits, systems: &[System]) -> Option<Refusal>
+pub fn too_many(limits: &Limits, systems: &[System]) -> Option<Refusal>
     requires some { 1 ≤ length systems.now }
     requires few { length systems.now ≤ 4 }
     ensures { MatchOption result (elements_together systems.now ≤ limits.now.elements)
@@ -111,7 +111,7 @@ fn too_many(limits: &Limits, systems: &[System]) -> Option<Refusal>
 }
 
 /// The certificate of the optimum of all corners, with the steps of its search counted from a blank.
-fn certificate_from<L: Ledger>(
+pub fn certificate_from<L: Ledger>(
     alloc: Global,
     systems: &[System],
     blank: Blank,

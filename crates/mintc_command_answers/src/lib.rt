@@ -6,7 +6,8 @@
 //! say that a first refusal excludes every other answer and is one, but for the choice of a loop, and that what
 //! `optimise` answers, `verify` calls valid.
 //!
-//! The crate above gets the defined answer of the command and the bytes.
+//! The crates above get the defined answer of the command and the bytes, or the parts of which it is made: systems of
+//! files, optima, judgements, and refusals.
 #![tactic(auto)]
 
 mod answer;
@@ -25,10 +26,16 @@ mod verify_answers;
 
 pub use answer::Answer;
 pub use answering::answer_to;
+pub use check_answers::{room_for, schedule_of};
 pub use command::{Command, Job, Source, command_of};
+pub use corners_answers::{CornerStop, certificate_from, corner_systems, too_many};
 pub use laws::{
     answers_are_of_commands, joint_optima_are_determined, optima_are_determined,
     optima_are_verified, refusals_are_determined, refusals_exclude_answers,
     safe_optima_are_determined, statuses_are_determined, usual_limits,
 };
+pub use optimise_answers::optimum;
+pub use safe_answers::safe_from;
+pub use slack_answers::slacks_from;
+pub use source::{own_file, system_of, too_long};
 pub use status::Status;

@@ -33,7 +33,7 @@ fn optimum_from<L: Ledger>(
 }
 
 /// The certificate of a system's optimum.
-fn optimum(alloc: Global, system: &System) -> Result<Certificate, OutOfMemory>
+pub fn optimum(alloc: Global, system: &System) -> Result<Certificate, OutOfMemory>
     ensures optimum { IfOk result (IsOptimum system.now) }
     ensures in_range { IfOk result IsCertificateInRange }
 {

@@ -14,7 +14,7 @@ use std::marker::Brand;
 use std::sync::ledger::{Blank, Ledger};
 
 /// The certificate of the least cycle time that keeps every hold, with the steps of its search counted from a blank.
-fn safe_from<L: Ledger>(
+pub fn safe_from<L: Ledger>(
     alloc: Global,
     system: &System,
     blank: Blank,

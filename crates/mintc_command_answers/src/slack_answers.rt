@@ -18,7 +18,7 @@ use std::marker::Brand;
 use std::sync::ledger::{Blank, Ledger};
 
 /// The slacks of a system, with the steps of the walks counted from a blank.
-fn slacks_from<L: Ledger>(
+pub fn slacks_from<L: Ledger>(
     alloc: Global,
     system: &System,
     blank: Blank,

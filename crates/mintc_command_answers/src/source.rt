@@ -16,7 +16,7 @@ use mintc_timing::{Flat, Order, System, systems_are_accepted};
 use std::alloc::Global;
 
 /// The refusal of the first file that is too long.
-pub(crate) fn too_long(limits: &Limits, roles: &[Role], files: &[Bytes]) -> Option<Refusal>
+pub fn too_long(limits: &Limits, roles: &[Role], files: &[Bytes]) -> Option<Refusal>
     requires { length files.now ≡ length roles.now }
     ensures { MatchOption result (AreShort limits.now files.now) (IsLengthRefusal limits.now roles.now files.now) }
 {
@@ -89,7 +89,7 @@ fn give_back(alloc: Global, source: Source, files: &mut [Bytes])
 
 /// The system of the design that the first files give, or the first refusal of these files. The memory of these
 /// files is given back once the design is read.
-pub(crate) fn system_of(
+pub fn system_of(
     alloc: Global,
     limits: &Limits,
     source: Source,
@@ -138,7 +138,7 @@ pub(crate) fn ordered_of(
 }
 
 /// The bytes of the file that stands after those of the design, or none where there is no such file.
-pub(crate) fn own_file<'a>(limits: &Limits, source: Source, files: &'a [Bytes]) -> &'a [u8]
+pub fn own_file<'a>(limits: &Limits, source: Source, files: &'a [Bytes]) -> &'a [u8]
     requires { AreShort limits.now files.now }
     ensures value { result.now ≡ own_file source files.now }
     ensures short { length result.now ≤ MOST_BYTES }
