@@ -1,2 +1,2 @@
 -- What contracts of public calls and laws say:
-pub mod Statuses
+pub mod Answers

@@ -1,27 +1,120 @@
 //! What is asked of a design, in a text for people.
-ghost use Rattle.std.specs.Prelude.{◌≡◌, ◌≤◌, true, length, IfOk, IfErr};
+ghost use Rattle.std.specs.Prelude.{◌≡◌, ◌≢◌, ◌≤◌, ◌+◌, ◌*◌, [], List, ℕ, true, length, IfOk, IfErr};
+ghost use Rattle.mintc_fraction.specs.Ratio.{IsModest, over};
 ghost use Rattle.mintc_text.specs.Stops.{StopsAt};
-ghost use Rattle.mintc_timing.specs.Design.{phase_count};
+ghost use Rattle.mintc_text.specs.declared.limits.TheConstants.{MOST_SLACK};
+ghost use Rattle.mintc_timing.specs.Design.{element_count, phase_count};
 ghost use Rattle.mintc_timing.specs.Limits.{IsInRange};
-ghost use Rattle.mintc_command_answers.specs.Jobs.{IsFileRefused, IsScheduleRefused, certificate_status};
+ghost use Rattle.mintc_timing.specs.Violations.{AreViolations};
+ghost use Rattle.mintc_certificate.specs.declared.certificate.Certificate.{Certificate};
+ghost use Rattle.mintc_command_answers.specs.Jobs.{IsFileRefused, IsOptimum, IsScheduleRefused, certificate_status};
 ghost use Rattle.mintc_command_answers.specs.Jobs.{safe_status, slack_status};
-ghost use Rattle.mintcx_answers.specs.Statuses.{IsCheckStatus, IsJobStatus, IsJudged, IsOptimumStatus};
-ghost use Rattle.mintcx_answers.specs.Statuses.{IsSafeStatus, IsSlackStatus, judged_status, job_has_text};
+ghost use Rattle.mintcx_answers.specs.Answers.{IsCheckAnswer, IsFail, IsJobAnswer, IsJudgement, IsOptimumAnswer};
+ghost use Rattle.mintcx_answers.specs.Answers.{IsSafeAnswer, IsSlacksAnswer, job_has_text, least_cycle};
 
 use mintc_certificate::Certificate;
 use mintc_command_answers::{
     Answer, Job, Status, optimum, room_for, safe_from, schedule_of, slacks_from,
 };
-use mintc_departure::violations;
+use mintc_constraints::Room;
+use mintc_departure::{Settling, early, late, violations};
+use mintc_fraction::Fraction;
 use mintc_safe::SafeCertificate;
 use mintc_slack::Slacks;
 use mintc_text::limits::MOST_BYTES;
-use mintc_text::{Bytes, Lines, OutOfMemory, Stop};
+use mintc_text::{Bytes, Kind, Limits, OutOfMemory, Refusal, Stop};
 use mintc_timing::{Schedule, System, Violation};
-use mintcx_frame::{View, put_subject};
+use mintcx_frame::View;
+use mintcx_judgements::{Judged, fail_text, pass_text, violations_are_named};
+use mintcx_optima::{optimum_text, safe_text};
+use mintcx_slacks::slack_text;
 use std::alloc::Global;
 use std::marker::Brand;
 use std::sync::ledger::Blank;
+
+/// The text of a fail that breaks just these. Where its departures don't settle, it names none.
+fn failed(
+    alloc: Global,
+    system: &System,
+    schedule: &Schedule,
+    violations: &[Violation],
+    room: &mut Room,
+    view: &View,
+) -> Result<Bytes, OutOfMemory>
+    requires in_range { IsInRange schedule.now }
+    requires phases { length schedule.now.starts ≡ phase_count system.now.flat }
+    requires violations { AreViolations system.now schedule.now violations.now }
+    requires some { violations.now ≢ [] }
+    requires room { 1 + 2 * phase_count system.now.flat + element_count system.now.flat ≤ room.old.nodes }
+    ensures { IfOk result (IsFail system.now schedule.now view.now) }
+{
+    violations_are_named();
+    match late(system, schedule, room) {
+        Settling::Settled => {
+            early(system, schedule, room);
+            let judged = Judged {
+                system,
+                schedule,
+                late: room.late(),
+                early: room.early(),
+            };
+            fail_text(alloc, &judged, violations, view)
+        }
+        Settling::Loop => {
+            let judged = Judged {
+                system,
+                schedule,
+                late: &[],
+                early: &[],
+            };
+            fail_text(alloc, &judged, violations, view)
+        }
+    }
+}
+
+/// The judgement of a schedule: a pass, or a fail with all its violations.
+fn judge(
+    alloc: Global,
+    system: &System,
+    schedule: &Schedule,
+    view: &View,
+) -> Result<Answer, OutOfMemory>
+    requires in_range { IsInRange schedule.now }
+    requires phases { length schedule.now.starts ≡ phase_count system.now.flat }
+    ensures { IfOk result (λ answer. IsJudgement system.now schedule.now view.now answer.status answer.text) }
+{
+    let mut room = room_for(alloc, system)?;
+    let violations = violations(alloc, system, schedule, &mut room)?;
+    if !violations.is_empty() {
+        let text = failed(alloc, system, schedule, violations.as_slice(), &mut room, view)?;
+        return Ok(Answer {
+            status: Status::Found,
+            text,
+        });
+    }
+    let judged = Judged {
+        system,
+        schedule,
+        late: room.late(),
+        early: room.early(),
+    };
+    let text = pass_text(alloc, &judged, view)?;
+    Ok(Answer {
+        status: Status::Done,
+        text,
+    })
+}
+
+/// The judgement of the schedule of a text, or why the text is refused.
+fn check_answer(alloc: Global, system: &System, file: &[u8], view: &View) -> Result<Answer, Stop>
+    requires { length file.now ≤ MOST_BYTES }
+    ensures value { IfOk result
+        (λ answer. IsCheckAnswer system.now file.now view.now answer.status answer.text) }
+    ensures stop { IfErr result (StopsAt (IsScheduleRefused file.now (phase_count system.now.flat))) }
+{
+    let schedule = schedule_of(file, system.flat().phase_count())?;
+    Ok(judge(alloc, system, &schedule, view)?)
+}
 
 /// How a run ends that has this certificate.
 fn status_of(certificate: &Certificate) -> Status
@@ -33,71 +126,35 @@ fn status_of(certificate: &Certificate) -> Status
     }
 }
 
-/// A text of the first line alone: the verdict, and what it is about.
-fn verdict_line(alloc: Global, verdict: &[u8], view: &View) -> Result<Bytes, OutOfMemory> {
-    let mut lines = Lines::new(alloc);
-    lines.put(verdict)?;
-    put_subject(&mut lines, view)?;
-    Ok(Bytes::new(lines.into_bytes()))
-}
-
-/// The judgement of a schedule that breaks just these: a pass where there are none, or a fail.
-fn judgement(alloc: Global, violations: &[Violation], view: &View) -> Result<Answer, OutOfMemory>
-    ensures { IfOk result (λ answer. answer.status ≡ judged_status violations.now) }
-{
-    if !violations.is_empty() {
-        return Ok(Answer {
-            status: Status::Found,
-            text: verdict_line(alloc, b"fail", view)?,
-        });
-    }
-    Ok(Answer {
-        status: Status::Done,
-        text: verdict_line(alloc, b"pass", view)?,
-    })
-}
-
-/// The judgement of a schedule.
-fn judge(
-    alloc: Global,
-    system: &System,
-    schedule: &Schedule,
-    view: &View,
-) -> Result<Answer, OutOfMemory>
-    requires in_range { IsInRange schedule.now }
-    requires phases { length schedule.now.starts ≡ phase_count system.now.flat }
-    ensures { IfOk result (λ answer. IsJudged system.now schedule.now answer.status) }
-{
-    let mut room = room_for(alloc, system)?;
-    let violations = violations(alloc, system, schedule, &mut room)?;
-    judgement(alloc, violations.as_slice(), view)
-}
-
-/// The judgement of the schedule of a text, or why the text is refused.
-fn check_answer(alloc: Global, system: &System, file: &[u8], view: &View) -> Result<Answer, Stop>
-    requires { length file.now ≤ MOST_BYTES }
-    ensures status { IfOk result (λ answer. IsCheckStatus system.now file.now answer.status) }
-    ensures stop { IfErr result (StopsAt (IsScheduleRefused file.now (phase_count system.now.flat))) }
-{
-    let schedule = schedule_of(file, system.flat().phase_count())?;
-    Ok(judge(alloc, system, &schedule, view)?)
-}
-
 /// The text of the optimum.
 fn optimum_answer(alloc: Global, system: &System, view: &View) -> Result<Answer, OutOfMemory>
-    ensures { IfOk result (λ answer. IsOptimumStatus system.now answer.status) }
+    ensures { IfOk result (λ answer. IsOptimumAnswer system.now view.now answer.status answer.text) }
 {
     let certificate = optimum(alloc, system)?;
+    let text = optimum_text(alloc, system, &certificate, view)?;
     let status = status_of(&certificate);
-    let text = verdict_line(alloc, verdict_of(status), view)?;
     Ok(Answer { status, text })
 }
 
-/// What the first line says where a run ends so.
-fn verdict_of(status: Status) -> &'static [u8] {
-    match status {
-        Status::Found => b"never",
-        _ => b"least",
+/// The cycle time of a schedule, in femtoseconds.
+fn cycle_of(schedule: &Schedule) -> Fraction
+    requires { IsInRange schedule.now }
+    ensures value { result ≡ over schedule.now.cycle schedule.now.den }
+    ensures modest { IsModest result }
+{
+    Fraction::new(i128::from(schedule.cycle), i128::from(schedule.den))
+}
+
+/// The least cycle time in femtoseconds, 0 where no schedule is right.
+fn least_cycle(alloc: Global, system: &System) -> Result<Fraction, OutOfMemory>
+    ensures value { IfOk result
+        (λ cycle. (least : Certificate) × IsOptimum system.now least × (cycle ≡ least_cycle least)) }
+    ensures modest { IfOk result IsModest }
+{
+    let certificate = optimum(alloc, system)?;
+    match &certificate {
+        Certificate::Least { schedule, .. } => Ok(cycle_of(schedule)),
+        Certificate::Never { .. } => Ok(Fraction::new(0, 1)),
     }
 }
 
@@ -113,11 +170,12 @@ fn safe_status(certificate: &SafeCertificate) -> Status
 
 /// The text of the optimum that keeps each hold.
 fn safe_answer(alloc: Global, system: &System, view: &View) -> Result<Answer, OutOfMemory>
-    ensures { IfOk result (λ answer. IsSafeStatus system.now answer.status) }
+    ensures { IfOk result (λ answer. IsSafeAnswer system.now view.now answer.status answer.text) }
 {
     let certificate = safe_from::<Brand>(alloc, system, Blank::new(1))?;
+    let without = least_cycle(alloc, system)?;
+    let text = safe_text(alloc, system, &certificate, &without, view)?;
     let status = safe_status(&certificate);
-    let text = verdict_line(alloc, verdict_of(status), view)?;
     Ok(Answer { status, text })
 }
 
@@ -131,20 +189,44 @@ fn slack_status(slacks: &Slacks) -> Status
     }
 }
 
-/// The text of the slacks at the least cycle.
-fn slack_answer(alloc: Global, system: &System, view: &View) -> Result<Answer, OutOfMemory>
-    ensures { IfOk result (λ answer. IsSlackStatus system.now answer.status) }
+/// The text of the slacks at the least cycle time.
+fn slack_answer_within(alloc: Global, system: &System, view: &View) -> Result<Answer, OutOfMemory>
+    requires { element_count system.now.flat ≤ MOST_SLACK }
+    ensures { IfOk result (λ answer. IsSlacksAnswer system.now view.now answer.status answer.text) }
 {
     let slacks = slacks_from::<Brand>(alloc, system, Blank::new(1))?;
+    let text = slack_text(alloc, system, &slacks, view)?;
     let status = slack_status(&slacks);
-    let text = verdict_line(alloc, verdict_of(status), view)?;
     Ok(Answer { status, text })
+}
+
+/// The text of the slacks, or the limit of the elements for which slacks are found.
+fn slack_answer(
+    alloc: Global,
+    limits: &Limits,
+    system: &System,
+    view: &View,
+) -> Result<Answer, Stop>
+    ensures value { (file : List ℕ) → IfOk result
+        (λ answer. IsJobAnswer limits.now Job.Slack system.now file view.now answer.status answer.text) }
+    ensures stop { (file : List ℕ) → IfErr result
+        (StopsAt (IsFileRefused limits.now Job.Slack system.now.flat file)) }
+{
+    let elements = system.flat().elements().len();
+    if elements > limits.most().slack {
+        return Err(Stop::Refused(Refusal::Limit {
+            kind: Kind::Elements,
+            count: elements as u64,
+        }));
+    }
+    Ok(slack_answer_within(alloc, system, view)?)
 }
 
 /// The answer to a job that has a text, on a system and on the file that stands beside the design's, or why that file
 /// is refused.
 pub(crate) fn job_text(
     alloc: Global,
+    limits: &Limits,
     job: Job,
     system: &System,
     file: &[u8],
@@ -152,14 +234,15 @@ pub(crate) fn job_text(
 ) -> Result<Answer, Stop>
     requires short { length file.now ≤ MOST_BYTES }
     requires worded { job_has_text job ≡ true }
-    ensures status { IfOk result (λ answer. IsJobStatus job system.now file.now answer.status) }
-    ensures stop { IfErr result (StopsAt (IsFileRefused job system.now.flat file.now)) }
+    ensures value { IfOk result
+        (λ answer. IsJobAnswer limits.now job system.now file.now view.now answer.status answer.text) }
+    ensures stop { IfErr result (StopsAt (IsFileRefused limits.now job system.now.flat file.now)) }
 {
     match job {
         Job::Check => check_answer(alloc, system, file, view),
-        Job::Optimise | Job::Report => Ok(optimum_answer(alloc, system, view)?),
+        Job::Optimise => Ok(optimum_answer(alloc, system, view)?),
         Job::Safe => Ok(safe_answer(alloc, system, view)?),
-        Job::Slack => Ok(slack_answer(alloc, system, view)?),
-        Job::Verify => unreachable!(),
+        Job::Slack => slack_answer(alloc, limits, system, view),
+        Job::Verify | Job::Report => unreachable!(),
     }
 }

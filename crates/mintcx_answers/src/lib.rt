@@ -9,4 +9,5 @@ mod answering;
 mod jobs;
 mod subjects;
 
-pub use answering::{NoAnswer, answer_text, has_text};
+pub use answering::{answer_text, has_text};
+pub use subjects::subject_of;

@@ -1,8 +1,6 @@
 //! What an answer is about.
-ghost use Rattle.std.specs.Prelude.{◌≡◌, ◌≤◌, true, length};
+ghost use Rattle.std.specs.Prelude.{◌≡◌, ◌≤◌, length};
 ghost use Rattle.mintc_command_answers.specs.Commands.{roles_of, source_roles};
-ghost use Rattle.mintc_command_answers.specs.Sources.{AreShort};
-ghost use Rattle.mintcx_answers.specs.Statuses.{has_text};
 
 use mintc_clock::read_clock;
 use mintc_command_answers::{Command, Job, Source};
@@ -54,9 +52,10 @@ fn first_top(alloc: Global, modules: &[Module]) -> Result<Option<Name>, OutOfMem
 }
 
 /// The top module that a clock names, where it can be read and names one.
-fn clock_top(alloc: Global, clock: &[u8]) -> Option<Name>
-    requires { length clock.now ≤ MOST_BYTES }
-{
+fn clock_top(alloc: Global, clock: &[u8]) -> Option<Name> {
+    if clock.len() > MOST_BYTES {
+        return None;
+    }
     match read_clock(alloc, clock) {
         Ok(clock) => clock.top,
         Err(_) => None,
@@ -65,12 +64,12 @@ fn clock_top(alloc: Global, clock: &[u8]) -> Option<Name>
 
 /// The top module of a netlist with a clock, where both can be read: the one that the clock names, or else the first
 /// that no module instantiates.
-fn top_name(alloc: Global, netlist: &[u8], clock: &[u8]) -> Result<Option<Name>, OutOfMemory>
-    requires netlist { length netlist.now ≤ MOST_BYTES }
-    requires clock { length clock.now ≤ MOST_BYTES }
-{
+fn top_name(alloc: Global, netlist: &[u8], clock: &[u8]) -> Result<Option<Name>, OutOfMemory> {
     if let Some(top) = clock_top(alloc, clock) {
         return Ok(Some(top));
+    }
+    if netlist.len() > MOST_BYTES {
+        return Ok(None);
     }
     match read_netlist(alloc, netlist) {
         Ok(netlist) => first_top(alloc, netlist.modules.items()),
@@ -84,10 +83,7 @@ fn netlist_subject(
     name: &Name,
     netlist: &[u8],
     clock: &[u8],
-) -> Result<Name, OutOfMemory>
-    requires netlist { length netlist.now ≤ MOST_BYTES }
-    requires clock { length clock.now ≤ MOST_BYTES }
-{
+) -> Result<Name, OutOfMemory> {
     match top_name(alloc, netlist, clock)? {
         Some(top) => Ok(top),
         None => Name::new(alloc, base_name(name)),
@@ -103,7 +99,6 @@ fn design_subject(
 ) -> Result<Name, OutOfMemory>
     requires names { length (source_roles source) ≤ length names.now }
     requires files { length (source_roles source) ≤ length files.now }
-    requires short { AreShort files.now }
 {
     match source {
         Source::Table => Name::new(alloc, base_name(&names[0])),
@@ -122,8 +117,9 @@ fn under(alloc: Global, design: &Name, schedule: &Name) -> Result<Name, OutOfMem
     Name::new(alloc, &lines.into_bytes())
 }
 
-/// What the answer to a command is about, of the names and the first bytes of its files.
-pub(crate) fn subject_of(
+/// What the answer to a command is about, by the names and the first bytes of its files: the file of a table or the top
+/// module of a netlist, and of a judgement the schedule's file.
+pub fn subject_of(
     alloc: Global,
     command: Command,
     names: &[Name],
@@ -131,8 +127,6 @@ pub(crate) fn subject_of(
 ) -> Result<Name, OutOfMemory>
     requires count { length files.now ≡ length (roles_of command) }
     requires names { length names.now ≡ length (roles_of command) }
-    requires worded { has_text command ≡ true }
-    requires short { AreShort files.now }
 {
     match command {
         Command::OfDesign { job, source } => {
@@ -142,6 +136,9 @@ pub(crate) fn subject_of(
                 _ => Ok(design),
             }
         }
-        Command::Corners { .. } | Command::Sample { .. } => unreachable!(),
+        Command::Corners { .. } => {
+            netlist_subject(alloc, &names[0], files[0].items(), files[2].items())
+        }
+        Command::Sample { .. } => Name::new(alloc, b"sample"),
     }
 }

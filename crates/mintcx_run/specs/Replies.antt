@@ -2,6 +2,7 @@
 use Rattle.std.specs.Prelude.{◌≡◌, ◌≢◌, ◌<◌, ◌≤◌, ◌+◌, ◌⊎◌, ℕ, List, length, Option, Some, None}
 use Rattle.std.specs.Prelude.{true, false, Ok, Err, Contains, IsUtf8, codes, if◌then◌else◌}
 use Rattle.clap.specs.Words.{App}
+use Rattle.mintc_text.specs.Limits.{large}
 use Rattle.mintc_text.specs.declared.limits.TheConstants.{MOST_BYTES}
 use Rattle.mintc_text.specs.declared.refusals.Refusal.{Refusal}
 use Rattle.mintc_text.specs.Outside.{Files, IsFront}
@@ -29,7 +30,8 @@ use Rattle.mintcx_words.specs.CommandLine.{IsProgram}
 use Rattle.mintcx_words.specs.Misread.{IsReading}
 use Rattle.mintcx_words.specs.declared.words.Misread.{Misread}
 use Rattle.mintcx_words.specs.declared.words.Misread.TheVariants as misread
-use Rattle.mintcx_answers.specs.Statuses.{HasStatus, has_text}
+use Rattle.mintcx_answers.specs.Answers.{HasAnswer, has_text}
+use Rattle.mintcx_frame.specs.declared.view.View.{View}
 use Rattle.mintcx_run.specs.declared.calling.Order.{Order}
 use Rattle.mintcx_run.specs.declared.reply.Place.{Place}
 use Rattle.mintcx_run.specs.declared.reply.Place.TheVariants as place
@@ -149,9 +151,9 @@ place_for (Some name) = place.File name
 abbrev pub place_of : Manner → Place
 place_of manner = if manner.quiet then place.Nowhere else place_for manner.output
 
--- the plain answer to a call, of the first bytes of its files: mintc's own
+-- the plain answer to a call, of the first bytes of its files: mintc's own, at the largest limits
 pub record IsPlain (order : Order) (fronts : List Text) (reply : Reply) : Type 0 where
-  pub defined : IsDefined order.call.command fronts reply.status reply.text
+  pub defined : IsDefined large order.call.command fronts reply.status reply.text
   pub of_command : IsOfCommand reply.status
   pub placed : reply.place ≡ place_of order.manner
 
@@ -159,15 +161,19 @@ pub record IsPlain (order : Order) (fronts : List Text) (reply : Reply) : Type 0
 abbrev pub IsPlainReply : Order → List Text → Reply → Type 0
 IsPlainReply order fronts reply = IsOutOfMemory reply ⊎ IsPlain order fronts reply
 
--- the answer to a call for people, whose status is mintc's
+-- the answer to a call for people, in the unit and with the rows that are asked
 pub record IsForPeople (order : Order) (fronts : List Text) (reply : Reply) : Type 0 where
-  pub has_status : HasStatus order.call.command fronts reply.status
+  pub view : View
+  pub unit : view.unit ≡ order.manner.unit
+  pub limit : view.limit ≡ order.manner.limit
+  pub answered : HasAnswer large order.call.command fronts view reply.status reply.text
+  pub of_command : IsOfCommand reply.status
   pub placed : reply.place ≡ place_of order.manner
 
 -- that; or mintc's first refusal, as a message; or memory was wanting
 abbrev pub IsTextReply : Order → List Text → Reply → Type 0
 IsTextReply order fronts reply = IsOutOfMemory reply ⊎ (IsForPeople order fronts reply
-    ⊎ ((refused : Refusal) × IsFirstRefusal order.call.command fronts refused × IsMessage Refused reply))
+    ⊎ ((refused : Refusal) × IsFirstRefusal large order.call.command fronts refused × IsMessage Refused reply))
 
 -- the answer in its form
 abbrev pub IsAnswerReply : Order → List Text → Reply → Type 0

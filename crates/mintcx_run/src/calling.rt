@@ -3,7 +3,7 @@ ghost use Rattle.std.specs.Prelude.{◌≡◌, ◌≢◌, ◌≤◌, ℕ, true, 
 ghost use Rattle.mintc_text.specs.Outside.{Rose};
 ghost use Rattle.mintc_command.specs.Answers.{MakesAtMost};
 ghost use Rattle.mintc_command_answers.specs.Commands.{IsNumberInRange, roles_of};
-ghost use Rattle.mintcx_answers.specs.Statuses.{has_text};
+ghost use Rattle.mintcx_answers.specs.Answers.{has_text};
 ghost use Rattle.mintcx_requests.specs.Requests.{request_of};
 ghost use Rattle.mintcx_run.specs.Replies.{IsAnswerReply, IsCallReply, IsEarlyReply, IsFaultyReply, IsGapReply};
 ghost use Rattle.mintcx_run.specs.Replies.{IsGivenReply, IsMessage, IsOfReply, IsWorded};
@@ -14,8 +14,9 @@ use crate::reading::read_files;
 use crate::refusals::refused;
 use crate::reply::{Place, Reply};
 use mintc_command_answers::{Answer, Status, answer_to};
-use mintc_text::{Bytes, OutOfMemory, Shelf};
-use mintcx_answers::{NoAnswer, answer_text, has_text};
+use mintc_text::{Bytes, Limits, OutOfMemory, Shelf, Stop};
+use mintcx_answers::{answer_text, has_text, subject_of};
+use mintcx_frame::View;
 use mintcx_manners::Format;
 use mintcx_project::Settings;
 use mintcx_requests::{Given, Manner, Request, request_of};
@@ -98,7 +99,7 @@ fn plain_reply(alloc: Global, order: Order, files: &mut [Bytes]) -> Reply
     ensures reply { IsPlainReply order files.old result }
     ensures status { IsOfReply result.status }
 {
-    match answer_to(alloc, order.call.command, files) {
+    match answer_to(alloc, &Limits::large(), order.call.command, files) {
         Ok(Answer { status, text }) => Reply {
             status,
             place: place_of(order.manner),
@@ -108,25 +109,40 @@ fn plain_reply(alloc: Global, order: Order, files: &mut [Bytes]) -> Reply
     }
 }
 
+/// How the answer to a call is shown.
+fn view_of(alloc: Global, order: &Order, files: &[Bytes]) -> Result<View, OutOfMemory>
+    requires count { length files.now ≡ length (roles_of order.now.call.command) }
+    requires names { length order.now.call.files ≡ length (roles_of order.now.call.command) }
+    ensures unit { IfOk result (λ view. view.unit ≡ order.now.manner.unit) }
+    ensures limit { IfOk result (λ view. view.limit ≡ order.now.manner.limit) }
+{
+    let subject = subject_of(alloc, order.call.command, order.call.files.items(), files)?;
+    Ok(View {
+        subject,
+        unit: order.manner.unit,
+        limit: order.manner.limit,
+    })
+}
+
 /// The answer to a call for people.
 fn text_reply(alloc: Global, order: Order, files: &mut [Bytes]) -> Reply
     requires count { length files.old ≡ length (roles_of order.call.command) }
     requires names { length order.call.files ≡ length (roles_of order.call.command) }
-    requires in_range { IsNumberInRange order.call.command }
     requires worded { has_text order.call.command ≡ true }
     ensures reply { IsTextReply order files.old result }
     ensures status { IsOfReply result.status }
 {
-    let (unit, limit) = (order.manner.unit, order.manner.limit);
-    let names = order.call.files.items();
-    match answer_text(alloc, order.call.command, names, unit, limit, files) {
+    let Ok(view) = view_of(alloc, &order, files) else {
+        return Reply::out_of_memory(alloc);
+    };
+    match answer_text(alloc, &Limits::large(), order.call.command, &view, files) {
         Ok(Answer { status, text }) => Reply {
             status,
             place: place_of(order.manner),
             text,
         },
-        Err(NoAnswer::Refused { refusal, own }) => refused(alloc, &refusal, &own),
-        Err(NoAnswer::OutOfMemory) => Reply::out_of_memory(alloc),
+        Err(Stop::Refused(refusal)) => refused(alloc, &refusal),
+        Err(Stop::OutOfMemory) => Reply::out_of_memory(alloc),
     }
 }
 

@@ -68,11 +68,7 @@ fn settings_in(alloc: Global, name: &Name, text: &[u8]) -> Result<Settings, Repl
     ensures reply { IfErr result (IsSilentReply text.now) }
 {
     if text.len() > MOST_BYTES {
-        return Err(Reply::message(
-            alloc,
-            Status::Usage,
-            &"the project file has more than 67108864 bytes",
-        ));
+        return Err(Reply::message(alloc, Status::Usage, &"the project file is too long"));
     }
     match read_project(alloc, name.bytes(), text) {
         Ok(settings) => Ok(settings),

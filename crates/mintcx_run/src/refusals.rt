@@ -38,24 +38,21 @@ fn number_of(refusal: &Refusal) -> u32
     }
 }
 
-/// What is said of a refusal: its number, mintc's own line, and for a corner the line of its own files.
-fn said(alloc: Global, refusal: &Refusal, own: &Option<Refusal>) -> Result<Vec<u8>, OutOfMemory> {
+/// What is said of a refusal: its number, and mintc's own line.
+fn said(alloc: Global, refusal: &Refusal) -> Result<Vec<u8>, OutOfMemory> {
     let mut lines = Lines::new(alloc);
     lines.put(b"error[")?;
     lines.number(i128::from(number_of(refusal)))?;
     lines.put(b"]: ")?;
     lines.put(&refusal_text(alloc, refusal)?)?;
-    if let Some(own) = own {
-        lines.put(&refusal_text(alloc, own)?)?;
-    }
     Ok(lines.into_bytes())
 }
 
 /// The reply that the files are refused.
-pub(crate) fn refused(alloc: Global, refusal: &Refusal, own: &Option<Refusal>) -> Reply
+pub(crate) fn refused(alloc: Global, refusal: &Refusal) -> Reply
     ensures { IsMessage Status.Refused result }
 {
-    match said(alloc, refusal, own) {
+    match said(alloc, refusal) {
         Ok(text) => Reply::saying(alloc, Status::Refused, Place::Errors, &text),
         Err(OutOfMemory) => Reply::out_of_memory(alloc),
     }
