@@ -7,6 +7,7 @@ mod RefusalLaws
 mod CornerLaws
 mod OptimumLaws
 mod NumberLaws
+pub mod SharedStopLaws
 mod VerdictLaws
 mod StatusLaws
 mod EarliestLaws

@@ -8,9 +8,9 @@ use Rattle.mintc_timing.specs.Design.{Design, Timing}
 use Rattle.mintc_timing.specs.Order.{ArePathsShort}
 use Rattle.mintc_timing.specs.Paths.{ArePairs}
 use Rattle.mintc_certificate.specs.CertificateText.{IsCertificateRefusal}
-use Rattle.mintc_command_answers.specs.Answers.{IsContentAnswer, IsContentRefusal, of_design, of_file}
-use Rattle.mintc_command_answers.specs.Jobs.{IsFileRefused, IsJobAnswer}
-use Rattle.mintc_command_answers.specs.Sources.{Gives, GivesOrdered, IsSourceRefused, own_file}
+use Rattle.mintc_command_answers.specs.Answers.{IsContentAnswer, IsContentRefusal, of_file}
+use Rattle.mintc_command_answers.specs.Jobs.{IsJobAnswer}
+use Rattle.mintc_command_answers.specs.Sources.{Gives, GivesOrdered, own_file}
 use Rattle.mintc_command_answers.specs.declared.answer.Answer.{Answer}
 use Rattle.mintc_command_answers.specs.declared.command.Command.TheVariants.{OfDesign}
 use Rattle.mintc_command_answers.specs.declared.command.Job.{Job}
@@ -37,17 +37,7 @@ module _ (most : Most) where
   answer_on_system (Err e) job t design file is same pairs v = tt
   answer_on_system (Ok a) job t design file is same pairs v = subst (λ (j : Job). IsJobAnswer most j t file a.status a.text) (sym is) (v t (sym same) pairs)
 
-  -- What stops the source's texts, or the text beside them, stops the command; and what is answered on both is its answer.
-  pub stop_on_source : (job : Job) (source : Source) (texts : List (List ℕ)) (s : Stop) → StopsAt (IsSourceRefused most source texts) s → StopsAt (IsContentRefusal most (OfDesign job source) texts) s
-  stop_on_source job source texts (stop.Refused refused) h = of_design h
-  stop_on_source job source texts stop.OutOfMemory h = tt
-
-  pub stop_on_file : (r : Result Answer Stop) (job : Job) (source : Source) (texts : List (List ℕ)) (t : Timing) (file : List ℕ) → Gives most source texts t → file ≡ own_file source texts →
-      IfErr r (StopsAt (IsFileRefused most job t.flat file)) → IfErr r (StopsAt (IsContentRefusal most (OfDesign job source) texts))
-  stop_on_file (Ok a) job source texts t file gives same h = tt
-  stop_on_file (Err (stop.Refused refused)) job source texts t file gives same h = of_file t gives (subst (λ f. IsFileRefused most job t.flat f refused) same h)
-  stop_on_file (Err stop.OutOfMemory) job source texts t file gives same h = tt
-
+  -- What is answered on the source's texts and on the text beside them is the command's answer.
   pub answer_on_file : {E : Type 0} (r : Result Answer E) (job : Job) (source : Source) (texts : List (List ℕ)) (t : Timing) (file : List ℕ) → Gives most source texts t → file ≡ own_file source texts →
       IfOk r (λ (a : Answer). IsJobAnswer most job t file a.status a.text) → IfOk r (λ (a : Answer). IsContentAnswer most (OfDesign job source) texts a.status a.text)
   answer_on_file (Err e) job source texts t file gives same h = tt

@@ -1,26 +1,23 @@
--- Statuses of answers for people, and why there is none.
-use Rattle.std.proofs.Common.{◌≡◌, ℕ, List, [], ◌∷◌, length, true, refl, sym, subst, Option, Some, None, Result, Ok, Err, IfOk, IfErr}
+-- Answers for people on the texts of a command, and why there is none.
+use Rattle.std.proofs.Common.{◌≡◌, ℕ, List, true, sym, subst, Result, Ok, Err, IfOk, IfErr}
 use Rattle.mintc_text.specs.Stops.{StopsAt}
+use Rattle.mintc_text.specs.declared.limits.Most.{Most}
 use Rattle.mintc_text.specs.declared.refusals.Refusal.{Refusal}
 use Rattle.mintc_text.specs.declared.refusals.Role.{Role}
 use Rattle.mintc_text.specs.declared.refusals.Stop.{Stop}
 use Rattle.mintc_text.specs.declared.refusals.Stop.TheVariants as stop
 use Rattle.mintc_timing.specs.Design.{Timing}
-use Rattle.mintc_timing.specs.Violations.{AreViolations}
 use Rattle.mintc_timing.specs.declared.clocking.Schedule.{Schedule}
-use Rattle.mintc_timing.specs.declared.violation.Violation.{Violation}
 use Rattle.mintc_certificate.specs.declared.certificate.Certificate.{Certificate}
 use Rattle.mintc_certificate.specs.declared.certificate.Certificate.TheVariants as certificate
-use Rattle.mintc_checker.specs.declared.verdict.Verdict.{Verdict}
-use Rattle.mintc_checker.specs.declared.verdict.Verdict.TheVariants as verdict
 use Rattle.mintc_safe.specs.declared.certificate.SafeCertificate.{SafeCertificate}
 use Rattle.mintc_safe.specs.declared.certificate.SafeCertificate.TheVariants as kept
 use Rattle.mintc_slack.specs.declared.finding.Slacks.{Slacks}
 use Rattle.mintc_slack.specs.declared.finding.Slacks.TheVariants as slacks
-use Rattle.mintc_command_answers.specs.Answers.{IsJobRefusal, IsOfCommand, of_contents, of_design, of_file, too_long}
-use Rattle.mintc_command_answers.specs.Commands.{roles_of}
-use Rattle.mintc_command_answers.specs.Jobs.{IsFileRefused, certificate_status, safe_status, slack_status, verdict_status}
-use Rattle.mintc_command_answers.specs.Sources.{AreShort, Gives, IsLengthRefusal, IsSourceRefused, own_file}
+use Rattle.mintc_command_answers.specs.Answers.{IsFirstRefusal, IsJobRefusal, IsOfCommand, of_contents, too_long}
+use Rattle.mintc_command_answers.specs.Commands.{IsNumberInRange, roles_of}
+use Rattle.mintc_command_answers.specs.Jobs.{certificate_status, safe_status, slack_status}
+use Rattle.mintc_command_answers.specs.Sources.{AreShort, Gives, IsLengthRefusal, own_file}
 use Rattle.mintc_command_answers.specs.declared.answer.Answer.{Answer}
 use Rattle.mintc_command_answers.specs.declared.command.Command.{Command}
 use Rattle.mintc_command_answers.specs.declared.command.Command.TheVariants.{OfDesign, Sample, Corners}
@@ -28,87 +25,82 @@ use Rattle.mintc_command_answers.specs.declared.command.Job.{Job}
 use Rattle.mintc_command_answers.specs.declared.command.Job.TheVariants.{Check, Optimise, Verify, Report, Safe, Slack}
 use Rattle.mintc_command_answers.specs.declared.command.Source.{Source}
 use Rattle.mintc_command_answers.specs.declared.status.Status.{Status}
-use Rattle.mintcx_answers.specs.Statuses.{HasStatus, IsContentStatus, IsJobStatus, IsJudged, IsNoAnswer, IsStopped, has_text, judged_status}
-use Rattle.mintcx_answers.specs.declared.answering.NoAnswer.{NoAnswer}
-use Rattle.mintcx_answers.specs.declared.answering.NoAnswer.TheVariants as none
+use Rattle.mintc_command_answers.specs.declared.status.Status.TheVariants as status
+use Rattle.mintcx_frame.specs.declared.view.View.{View}
+use Rattle.mintcx_answers.specs.Answers.{HasAnswer, IsContentAnswer, IsJobAnswer, IsJudgement, has_text}
 
--- ---- what stops the texts of a design, and what is answered on them
+-- a command that has a text
+pub in_range : (command : Command) → has_text command ≡ true → IsNumberInRange command
+in_range (OfDesign job source) worded = tt
+in_range (Sample number) worded = absurd (cc worded)
+in_range (Corners count) worded = absurd (cc worded)
 
-pub stop_on_source : (job : Job) (source : Source) (texts : List (List ℕ)) (s : Stop) → StopsAt (IsSourceRefused source texts) s → StopsAt (IsJobRefusal job source texts) s
-stop_on_source job source texts (stop.Refused refused) h = of_design h
-stop_on_source job source texts stop.OutOfMemory h = tt
+-- In a run with these limits.
+module _ (most : Most) where
+  -- what is answered on the texts of a design and on the text beside them
+  pub answer_on_file : {E : Type 0} (r : Result Answer E) (job : Job) (source : Source) (texts : List (List ℕ)) (t : Timing) (file : List ℕ) (view : View) → Gives most source texts t →
+      file ≡ own_file source texts → IfOk r (λ (a : Answer). IsJobAnswer most job t file view a.status a.text) →
+      IfOk r (λ (a : Answer). IsContentAnswer most (OfDesign job source) texts view a.status a.text)
+  answer_on_file (Err e) job source texts t file view gives same h = tt
+  answer_on_file (Ok a) job source texts t file view gives same h = (t, gives, subst (λ f. IsJobAnswer most job t f view a.status a.text) same h)
 
-pub stop_on_file : (r : Result Answer Stop) (job : Job) (source : Source) (texts : List (List ℕ)) (t : Timing) (file : List ℕ) → Gives source texts t → file ≡ own_file source texts →
-    IfErr r (StopsAt (IsFileRefused job t.flat file)) → IfErr r (StopsAt (IsJobRefusal job source texts))
-stop_on_file (Ok a) job source texts t file gives same h = tt
-stop_on_file (Err (stop.Refused refused)) job source texts t file gives same h = of_file t gives (subst (λ f. IsFileRefused job t.flat f refused) same h)
-stop_on_file (Err stop.OutOfMemory) job source texts t file gives same h = tt
+  -- so it is for a command that is of a design
+  pub answered : {E : Type 0} (r : Result Answer E) (command : Command) (job : Job) (source : Source) (texts : List (List ℕ)) (view : View) → command ≡ OfDesign job source → AreShort most texts →
+      IfOk r (λ (a : Answer). IsContentAnswer most (OfDesign job source) texts view a.status a.text) → IfOk r (λ (a : Answer). HasAnswer most command texts view a.status a.text)
+  answered (Err e) command job source texts view is short h = tt
+  answered (Ok a) command job source texts view is short h =
+      let own : HasAnswer most (OfDesign job source) texts view a.status a.text = (short, h) in
+      subst (λ (x : Command). HasAnswer most x texts view a.status a.text) (sym is) own
 
-pub status_on_file : {E : Type 0} (r : Result Answer E) (job : Job) (source : Source) (texts : List (List ℕ)) (t : Timing) (file : List ℕ) → Gives source texts t → file ≡ own_file source texts →
-    IfOk r (λ (a : Answer). IsJobStatus job t file a.status) → IfOk r (λ (a : Answer). IsContentStatus (OfDesign job source) texts a.status)
-status_on_file (Err e) job source texts t file gives same h = tt
-status_on_file (Ok a) job source texts t file gives same h = (t, gives, subst (λ f. IsJobStatus job t f a.status) same h)
+  -- and so is what stops it
+  stopped_at : (job : Job) (source : Source) (texts : List (List ℕ)) (s : Stop) → AreShort most texts → StopsAt (IsJobRefusal most job source texts) s →
+      StopsAt (IsFirstRefusal most (OfDesign job source) texts) s
+  stopped_at job source texts (stop.Refused refused) short h = of_contents short h
+  stopped_at job source texts stop.OutOfMemory short h = tt
 
--- ---- the status of an answer
+  pub stopped : {A : Type 0} (r : Result A Stop) (command : Command) (job : Job) (source : Source) (texts : List (List ℕ)) → command ≡ OfDesign job source → AreShort most texts →
+      IfErr r (StopsAt (IsJobRefusal most job source texts)) → IfErr r (StopsAt (IsFirstRefusal most command texts))
+  stopped (Ok a) command job source texts is short h = tt
+  stopped (Err s) command job source texts is short h = subst (λ (x : Command). StopsAt (IsFirstRefusal most x texts) s) (sym is) (stopped_at job source texts s short h)
 
-of_violations : (violations : List Violation) → IsOfCommand (judged_status violations)
-of_violations [] = tt
-of_violations (v ∷ violations) = tt
+  pub refused_length : (command : Command) (texts : List (List ℕ)) (roles : List Role) (refused : Refusal) → has_text command ≡ true → roles ≡ roles_of command →
+      IsLengthRefusal most roles texts refused → IsFirstRefusal most command texts refused
+  refused_length (OfDesign job source) texts roles refused worded same h = too_long (subst (λ (x : List Role). IsLengthRefusal most x texts refused) same h)
+  refused_length (Sample number) texts roles refused worded same h = absurd (cc worded)
+  refused_length (Corners count) texts roles refused worded same h = absurd (cc worded)
 
-of_certificate : (c : Certificate) → IsOfCommand (certificate_status c)
-of_certificate (certificate.Least s ds m) = tt
-of_certificate (certificate.Never m) = tt
+  -- ---- the status of an answer
 
-of_verdict : (v : Verdict) → IsOfCommand (verdict_status v)
-of_verdict verdict.Valid = tt
-of_verdict (verdict.Invalid n) = tt
+  of_certificate : (c : Certificate) → IsOfCommand (certificate_status c)
+  of_certificate (certificate.Least s ds m) = tt
+  of_certificate (certificate.Never m) = tt
 
-of_safe : (c : SafeCertificate) → IsOfCommand (safe_status c)
-of_safe (kept.Least s ds m) = tt
-of_safe (kept.Never m) = tt
+  of_safe : (c : SafeCertificate) → IsOfCommand (safe_status c)
+  of_safe (kept.Least s ds m) = tt
+  of_safe (kept.Never m) = tt
 
-of_slacks : (x : Slacks) → IsOfCommand (slack_status x)
-of_slacks (slacks.Least c e) = tt
-of_slacks slacks.Never = tt
+  of_slacks : (x : Slacks) → IsOfCommand (slack_status x)
+  of_slacks (slacks.Least c e) = tt
+  of_slacks slacks.Never = tt
 
-of_job : (job : Job) (t : Timing) (file : List ℕ) (status : Status) → IsJobStatus job t file status → IsOfCommand status
-of_job Check t file status (s, is_of, (violations, are_all, same)) = subst IsOfCommand (sym same) (of_violations violations)
-of_job Optimise t file status (c, optimum, same) = subst IsOfCommand (sym same) (of_certificate c)
-of_job Verify t file status (c, v, is_text, is_verdict, same) = subst IsOfCommand (sym same) (of_verdict v)
-of_job Report t file status (c, optimum, same) = subst IsOfCommand (sym same) (of_certificate c)
-of_job Safe t file status (c, optimum, same) = subst IsOfCommand (sym same) (of_safe c)
-of_job Slack t file status (x, answer, same) = subst IsOfCommand (sym same) (of_slacks x)
+  of_judgement : (t : Timing) (s : Schedule) (view : View) (st : Status) (text : List ℕ) → IsJudgement t s view st text → IsOfCommand st
+  of_judgement t s view status.Done text h = tt
+  of_judgement t s view status.Found text h = tt
+  of_judgement t s view status.Refused text h = absurd h
+  of_judgement t s view status.Usage text h = absurd h
+  of_judgement t s view status.ReadFault text h = absurd h
+  of_judgement t s view status.WriteFault text h = absurd h
+  of_judgement t s view status.OutOfMemory text h = absurd h
 
-pub status_of_command : (job : Job) (source : Source) (texts : List (List ℕ)) (status : Status) → IsContentStatus (OfDesign job source) texts status → IsOfCommand status
-status_of_command job source texts status (t, gives, h) = of_job job t (own_file source texts) status h
+  of_job : (job : Job) (t : Timing) (file : List ℕ) (view : View) (st : Status) (text : List ℕ) → IsJobAnswer most job t file view st text → IsOfCommand st
+  of_job Check t file view st text (s, is_of, judged) = of_judgement t s view st text judged
+  of_job Optimise t file view st text (c, optimum, same, is_text) = subst IsOfCommand (sym same) (of_certificate c)
+  of_job Verify t file view st text h = absurd h
+  of_job Report t file view st text h = absurd h
+  of_job Safe t file view st text (c, optimum, same, rest) = subst IsOfCommand (sym same) (of_safe c)
+  of_job Slack t file view st text (few, (x, answer, same, is_text)) = subst IsOfCommand (sym same) (of_slacks x)
 
-pub status_on : (command : Command) (job : Job) (source : Source) (texts : List (List ℕ)) (status : Status) → command ≡ OfDesign job source → AreShort texts →
-    IsContentStatus (OfDesign job source) texts status → HasStatus command texts status
-status_on command job source texts status is short h =
-    let own : HasStatus (OfDesign job source) texts status = (short, h) in
-    subst (λ (x : Command). HasStatus x texts status) (sym is) own
-
--- ---- why there is no answer
-
-pub none_stopped : (command : Command) (job : Job) (source : Source) (texts : List (List ℕ)) (s : Stop) (e : NoAnswer) → command ≡ OfDesign job source → AreShort texts →
-    StopsAt (IsJobRefusal job source texts) s → IsStopped s e → IsNoAnswer command texts e
-none_stopped command job source texts (stop.Refused refused) e is short h same =
-    let own : IsNoAnswer (OfDesign job source) texts (none.Refused refused None) = (of_contents short h, refl) in
-    subst (λ (x : Command). IsNoAnswer x texts e) (sym is) (subst (λ (x : NoAnswer). IsNoAnswer (OfDesign job source) texts x) (sym same) own)
-none_stopped command job source texts stop.OutOfMemory e is short h same =
-    let own : IsNoAnswer (OfDesign job source) texts none.OutOfMemory = tt in
-    subst (λ (x : Command). IsNoAnswer x texts e) (sym is) (subst (λ (x : NoAnswer). IsNoAnswer (OfDesign job source) texts x) (sym same) own)
-
-pub none_too_long : (command : Command) (texts : List (List ℕ)) (roles : List Role) (refused : Refusal) → has_text command ≡ true → roles ≡ roles_of command →
-    IsLengthRefusal roles texts refused → IsNoAnswer command texts (none.Refused refused None)
-none_too_long (OfDesign job source) texts roles refused worded same h =
-    (too_long (subst (λ (x : List Role). IsLengthRefusal x texts refused) same h), refl)
-none_too_long (Sample number) texts roles refused worded same h = absurd (cc worded)
-none_too_long (Corners count) texts roles refused worded same h = absurd (cc worded)
-
--- ---- the judgement of a schedule
-
-pub judged : {E : Type 0} (r : Result Answer E) (t : Timing) (s : Schedule) (violations seen : List Violation) → AreViolations t s violations → seen ≡ violations →
-    IfOk r (λ (a : Answer). a.status ≡ judged_status seen) → IfOk r (λ (a : Answer). IsJudged t s a.status)
-judged (Err e) t s violations seen are_all same h = tt
-judged (Ok a) t s violations seen are_all same h = (seen, subst (λ (x : List Violation). AreViolations t s x) (sym same) are_all, h)
+  pub of_command : {E : Type 0} (r : Result Answer E) (job : Job) (source : Source) (texts : List (List ℕ)) (view : View) →
+      IfOk r (λ (a : Answer). IsContentAnswer most (OfDesign job source) texts view a.status a.text) → IfOk r (λ (a : Answer). IsOfCommand a.status)
+  of_command (Err e) job source texts view h = tt
+  of_command (Ok a) job source texts view (t, gives, h) = of_job job t (own_file source texts) view a.status a.text h

@@ -1,1 +1,2 @@
 mod AnsweringLaws
+mod JobLaws

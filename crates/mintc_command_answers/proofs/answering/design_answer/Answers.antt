@@ -1,6 +1,7 @@
 use Rattle.std.proofs.Common.{◌∙◌}
 use Rattle.std.proofs.lemmas.Result.{err_from_is_err_and}
-use Rattle.mintc_command_answers.proofs.VerdictLaws.{answer_on_file, as_verify, refused_as_verify, stop_on_file, stop_on_source}
+use Rattle.mintc_command_answers.proofs.SharedStopLaws.{stop_on_file, stop_on_source}
+use Rattle.mintc_command_answers.proofs.VerdictLaws.{answer_on_file, as_verify, refused_as_verify}
 use Rattle.mintc_command_answers.proofs.answering.design_answer.Goals as goal
 
 pub returns-in-Verify-clause-value : goal.returns-in-Verify-clause-value

@@ -1,7 +1,8 @@
 use Rattle.std.proofs.Common.{◌∙◌}
 use Rattle.std.proofs.lemmas.Result.{err_from_is_err_and}
 use Rattle.mintc_command_answers.specs.declared.command.Job.TheVariants.{Verify}
-use Rattle.mintc_command_answers.proofs.VerdictLaws.{answer_on_ordered, refusal_on_ordered, short_paths, stop_on_source}
+use Rattle.mintc_command_answers.proofs.SharedStopLaws.{stop_on_source}
+use Rattle.mintc_command_answers.proofs.VerdictLaws.{answer_on_ordered, refusal_on_ordered, short_paths}
 use Rattle.mintc_command_answers.proofs.answering.verdict_answer.Goals as goal
 
 pub verify_answer-requires-clause-order : goal.verify_answer-requires-clause-order
