@@ -27,7 +27,11 @@ use Rattle.mintc_command_answers.specs.declared.command.Source.{Source}
 use Rattle.mintc_command_answers.specs.declared.status.Status.{Status}
 use Rattle.mintc_command_answers.specs.declared.status.Status.TheVariants as status
 use Rattle.mintcx_frame.specs.declared.view.View.{View}
-use Rattle.mintcx_answers.specs.Answers.{HasAnswer, IsContentAnswer, IsJobAnswer, IsJudgement, has_text}
+use Rattle.mintcx_cycles.specs.declared.cycles.AtCycle.{AtCycle}
+use Rattle.mintcx_cycles.specs.declared.cycles.AtCycle.TheVariants as at
+use Rattle.mintcx_translation.specs.declared.calls.Aspect.{Aspect}
+use Rattle.mintcx_translation.specs.declared.calls.Aspect.TheVariants as aspect
+use Rattle.mintcx_answers.specs.Answers.{HasAnswer, IsContentAnswer, IsJobAnswer, IsJudgement, IsOptimiseAnswer, cycle_status, has_text}
 
 -- a command that has a text
 pub in_range : (command : Command) → has_text command ≡ true → IsNumberInRange command
@@ -38,19 +42,19 @@ in_range (Corners count) worded = absurd (cc worded)
 -- In a run with these limits.
 module _ (most : Most) where
   -- what is answered on the texts of a design and on the text beside them
-  pub answer_on_file : {E : Type 0} (r : Result Answer E) (job : Job) (source : Source) (texts : List (List ℕ)) (t : Timing) (file : List ℕ) (view : View) → Gives most source texts t →
-      file ≡ own_file source texts → IfOk r (λ (a : Answer). IsJobAnswer most job t file view a.status a.text) →
-      IfOk r (λ (a : Answer). IsContentAnswer most (OfDesign job source) texts view a.status a.text)
-  answer_on_file (Err e) job source texts t file view gives same h = tt
-  answer_on_file (Ok a) job source texts t file view gives same h = (t, gives, subst (λ f. IsJobAnswer most job t f view a.status a.text) same h)
+  pub answer_on_file : {E : Type 0} (r : Result Answer E) (job : Job) (told : Aspect) (source : Source) (texts : List (List ℕ)) (t : Timing) (file : List ℕ) (view : View) → Gives most source texts t →
+      file ≡ own_file source texts → IfOk r (λ (a : Answer). IsJobAnswer most job told t file view a.status a.text) →
+      IfOk r (λ (a : Answer). IsContentAnswer most (OfDesign job source) told texts view a.status a.text)
+  answer_on_file (Err e) job told source texts t file view gives same h = tt
+  answer_on_file (Ok a) job told source texts t file view gives same h = (t, gives, subst (λ f. IsJobAnswer most job told t f view a.status a.text) same h)
 
   -- so it is for a command that is of a design
-  pub answered : {E : Type 0} (r : Result Answer E) (command : Command) (job : Job) (source : Source) (texts : List (List ℕ)) (view : View) → command ≡ OfDesign job source → AreShort most texts →
-      IfOk r (λ (a : Answer). IsContentAnswer most (OfDesign job source) texts view a.status a.text) → IfOk r (λ (a : Answer). HasAnswer most command texts view a.status a.text)
-  answered (Err e) command job source texts view is short h = tt
-  answered (Ok a) command job source texts view is short h =
-      let own : HasAnswer most (OfDesign job source) texts view a.status a.text = (short, h) in
-      subst (λ (x : Command). HasAnswer most x texts view a.status a.text) (sym is) own
+  pub answered : {E : Type 0} (r : Result Answer E) (command : Command) (job : Job) (told : Aspect) (source : Source) (texts : List (List ℕ)) (view : View) → command ≡ OfDesign job source → AreShort most texts →
+      IfOk r (λ (a : Answer). IsContentAnswer most (OfDesign job source) told texts view a.status a.text) → IfOk r (λ (a : Answer). HasAnswer most command told texts view a.status a.text)
+  answered (Err e) command job told source texts view is short h = tt
+  answered (Ok a) command job told source texts view is short h =
+      let own : HasAnswer most (OfDesign job source) told texts view a.status a.text = (short, h) in
+      subst (λ (x : Command). HasAnswer most x told texts view a.status a.text) (sym is) own
 
   -- and so is what stops it
   stopped_at : (job : Job) (source : Source) (texts : List (List ℕ)) (s : Stop) → AreShort most texts → StopsAt (IsJobRefusal most job source texts) s →
@@ -92,15 +96,24 @@ module _ (most : Most) where
   of_judgement t s view status.WriteFault text h = absurd h
   of_judgement t s view status.OutOfMemory text h = absurd h
 
-  of_job : (job : Job) (t : Timing) (file : List ℕ) (view : View) (st : Status) (text : List ℕ) → IsJobAnswer most job t file view st text → IsOfCommand st
-  of_job Check t file view st text (s, is_of, judged) = of_judgement t s view st text judged
-  of_job Optimise t file view st text (c, optimum, same, is_text) = subst IsOfCommand (sym same) (of_certificate c)
-  of_job Verify t file view st text h = absurd h
-  of_job Report t file view st text h = absurd h
-  of_job Safe t file view st text (c, optimum, same, rest) = subst IsOfCommand (sym same) (of_safe c)
-  of_job Slack t file view st text (few, (x, answer, same, is_text)) = subst IsOfCommand (sym same) (of_slacks x)
+  of_cycle : (found : AtCycle) → IsOfCommand (cycle_status found)
+  of_cycle (at.Right s ds) = tt
+  of_cycle (at.Short m) = tt
 
-  pub of_command : {E : Type 0} (r : Result Answer E) (job : Job) (source : Source) (texts : List (List ℕ)) (view : View) →
-      IfOk r (λ (a : Answer). IsContentAnswer most (OfDesign job source) texts view a.status a.text) → IfOk r (λ (a : Answer). IsOfCommand a.status)
-  of_command (Err e) job source texts view h = tt
-  of_command (Ok a) job source texts view (t, gives, h) = of_job job t (own_file source texts) view a.status a.text h
+  of_optimise : (told : Aspect) (t : Timing) (view : View) (st : Status) (text : List ℕ) → IsOptimiseAnswer t told view st text → IsOfCommand st
+  of_optimise aspect.Whole t view st text (c, optimum, same, is_text) = subst IsOfCommand (sym same) (of_certificate c)
+  of_optimise (aspect.Cycle cycle) t view st text (found, is_at, same, is_text) = subst IsOfCommand (sym same) (of_cycle found)
+  of_optimise aspect.Histogram t view st text (c, optimum, same, is_text) = subst IsOfCommand (sym same) (of_certificate c)
+
+  of_job : (job : Job) (told : Aspect) (t : Timing) (file : List ℕ) (view : View) (st : Status) (text : List ℕ) → IsJobAnswer most job told t file view st text → IsOfCommand st
+  of_job Check told t file view st text (s, is_of, judged) = of_judgement t s view st text judged
+  of_job Optimise told t file view st text h = of_optimise told t view st text h
+  of_job Verify told t file view st text h = absurd h
+  of_job Report told t file view st text h = absurd h
+  of_job Safe told t file view st text (c, optimum, same, rest) = subst IsOfCommand (sym same) (of_safe c)
+  of_job Slack told t file view st text (few, (x, answer, same, is_text)) = subst IsOfCommand (sym same) (of_slacks x)
+
+  pub of_command : {E : Type 0} (r : Result Answer E) (job : Job) (told : Aspect) (source : Source) (texts : List (List ℕ)) (view : View) →
+      IfOk r (λ (a : Answer). IsContentAnswer most (OfDesign job source) told texts view a.status a.text) → IfOk r (λ (a : Answer). IsOfCommand a.status)
+  of_command (Err e) job told source texts view h = tt
+  of_command (Ok a) job told source texts view (t, gives, h) = of_job job told t (own_file source texts) view a.status a.text h

@@ -22,11 +22,18 @@ use Rattle.mintc_command_answers.specs.declared.command.Job.TheVariants.{Check, 
 use Rattle.mintc_command_answers.specs.declared.status.Status.{Status}
 use Rattle.mintc_command_answers.specs.declared.status.Status.TheVariants.{Done, Found}
 use Rattle.mintcx_frame.specs.declared.view.View.{View}
+use Rattle.mintcx_cycles.specs.AtCycles.{IsAtCycle}
+use Rattle.mintcx_cycles.specs.declared.cycles.AtCycle.{AtCycle}
+use Rattle.mintcx_cycles.specs.declared.cycles.AtCycle.TheVariants as at
 use Rattle.mintcx_judgements.specs.Fails.{IsFailText}
 use Rattle.mintcx_judgements.specs.Passes.{IsPassText}
+use Rattle.mintcx_optima.specs.Cycles.{IsCycleText}
 use Rattle.mintcx_optima.specs.Optimum.{IsOptimumText}
 use Rattle.mintcx_optima.specs.Safe.{IsSafeText}
+use Rattle.mintcx_slacks.specs.Histograms.{IsHistogramText}
 use Rattle.mintcx_slacks.specs.Slacks.{IsSlackText}
+use Rattle.mintcx_translation.specs.declared.calls.Aspect.{Aspect}
+use Rattle.mintcx_translation.specs.declared.calls.Aspect.TheVariants as aspect
 
 -- there is a text for people that answers the job
 abbrev pub job_has_text : Job → Bool
@@ -78,6 +85,21 @@ abbrev pub IsOptimumAnswer : Timing → View → Status → List ℕ → Type 0
 IsOptimumAnswer t view status text = (c : Certificate) × IsOptimum t c × (status ≡ certificate_status c)
     × IsOptimumText t.flat c view text
 
+-- how a run ends that has found this at a cycle time: that it is too short is found
+abbrev pub cycle_status : AtCycle → Status
+cycle_status (at.Right s departures) = Done
+cycle_status (at.Short chain) = Found
+
+-- The answer of `optimise` for a cycle time in femtoseconds: the text of what there is at it.
+abbrev pub IsCycleAnswer : Timing → ℕ → View → Status → List ℕ → Type 0
+IsCycleAnswer t cycle view status text = (found : AtCycle) × IsAtCycle t cycle found × (status ≡ cycle_status found)
+    × IsCycleText t.flat cycle found view text
+
+-- the answer of `optimise`, of the least cycle time or of another one
+abbrev pub IsOptimiseAnswer : Timing → Aspect → View → Status → List ℕ → Type 0
+IsOptimiseAnswer t (aspect.Cycle cycle) view status text = IsCycleAnswer t cycle view status text
+IsOptimiseAnswer t told view status text = IsOptimumAnswer t view status text
+
 -- the least cycle time of a certificate in femtoseconds, 0 where no schedule is right
 abbrev pub least_cycle : Certificate → Ratio
 least_cycle (certificate.Least s departures chain) = over s.cycle s.den
@@ -88,30 +110,38 @@ abbrev pub IsSafeAnswer : Timing → View → Status → List ℕ → Type 0
 IsSafeAnswer t view status text = (c : SafeCertificate) × IsSafeOptimum t c × (status ≡ safe_status c)
     × ((least : Certificate) × IsOptimum t least × IsSafeText t.flat c (least_cycle least) view text)
 
+-- the text of the slacks at the least cycle time, a row for each pair or a count of pairs for each bar
+abbrev pub IsTextOfSlacks : Timing → Aspect → View → Slacks → List ℕ → Type 0
+IsTextOfSlacks t aspect.Histogram view x text = IsHistogramText view x text
+IsTextOfSlacks t told view x text = IsSlackText t view x text
+
 -- The answer of `slack`: the text of the slacks at the least cycle time.
-abbrev pub IsSlacksAnswer : Timing → View → Status → List ℕ → Type 0
-IsSlacksAnswer t view status text = (x : Slacks) × IsSlackAnswer t x × (status ≡ slack_status x)
-    × IsSlackText t view x text
+abbrev pub IsSlacksAnswer : Timing → Aspect → View → Status → List ℕ → Type 0
+IsSlacksAnswer t told view status text = (x : Slacks) × IsSlackAnswer t x × (status ≡ slack_status x)
+    × IsTextOfSlacks t told view x text
 
 -- ---- commands
 
--- The answer to a job on a design, and on the text of the file that stands beside the design's.
-abbrev pub IsJobAnswer : Most → Job → Timing → List ℕ → View → Status → List ℕ → Type 0
-IsJobAnswer most Check t file view status text = IsCheckAnswer t file view status text
-IsJobAnswer most Optimise t file view status text = IsOptimumAnswer t view status text
-IsJobAnswer most Verify t file view status text = ⊥
-IsJobAnswer most Report t file view status text = ⊥
-IsJobAnswer most Safe t file view status text = IsSafeAnswer t view status text
-IsJobAnswer most Slack t file view status text = (element_count t.flat ≤ most.slack) × IsSlacksAnswer t view status text
+-- The answer to a job, with what of it is told, on a design and on the text of the file that stands beside the
+-- design's.
+abbrev pub IsJobAnswer : Most → Job → Aspect → Timing → List ℕ → View → Status → List ℕ → Type 0
+IsJobAnswer most Check told t file view status text = IsCheckAnswer t file view status text
+IsJobAnswer most Optimise told t file view status text = IsOptimiseAnswer t told view status text
+IsJobAnswer most Verify told t file view status text = ⊥
+IsJobAnswer most Report told t file view status text = ⊥
+IsJobAnswer most Safe told t file view status text = IsSafeAnswer t view status text
+IsJobAnswer most Slack told t file view status text = (element_count t.flat ≤ most.slack)
+    × IsSlacksAnswer t told view status text
 
 -- The answer of a command on texts of which none is refused.
-abbrev pub IsContentAnswer : Most → Command → List (List ℕ) → View → Status → List ℕ → Type 0
-IsContentAnswer most (OfDesign job from) files view status text = (t : Timing) × Gives most from files t
-    × IsJobAnswer most job t (own_file from files) view status text
-IsContentAnswer most (Sample number) files view status text = ⊥
-IsContentAnswer most (Corners count) files view status text = ⊥
+abbrev pub IsContentAnswer : Most → Command → Aspect → List (List ℕ) → View → Status → List ℕ → Type 0
+IsContentAnswer most (OfDesign job from) told files view status text = (t : Timing) × Gives most from files t
+    × IsJobAnswer most job told t (own_file from files) view status text
+IsContentAnswer most (Sample number) told files view status text = ⊥
+IsContentAnswer most (Corners count) told files view status text = ⊥
 
--- The answer for people to a command, on the bytes of its files, of which none is refused: mintc's status, and the text
--- of what is found, shown in this view.
-abbrev pub HasAnswer : Most → Command → List (List ℕ) → View → Status → List ℕ → Type 0
-HasAnswer most command files view status text = AreShort most files × IsContentAnswer most command files view status text
+-- The answer for people to a command, on the bytes of its files, of which none is refused: the status, which is mintc's
+-- where the whole is told, and the text of what is found, shown in this view.
+abbrev pub HasAnswer : Most → Command → Aspect → List (List ℕ) → View → Status → List ℕ → Type 0
+HasAnswer most command told files view status text = AreShort most files
+    × IsContentAnswer most command told files view status text

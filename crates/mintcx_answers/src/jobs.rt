@@ -9,8 +9,10 @@ ghost use Rattle.mintc_timing.specs.Violations.{AreViolations};
 ghost use Rattle.mintc_certificate.specs.declared.certificate.Certificate.{Certificate};
 ghost use Rattle.mintc_command_answers.specs.Jobs.{IsFileRefused, IsOptimum, IsScheduleRefused, certificate_status};
 ghost use Rattle.mintc_command_answers.specs.Jobs.{safe_status, slack_status};
-ghost use Rattle.mintcx_answers.specs.Answers.{IsCheckAnswer, IsFail, IsJobAnswer, IsJudgement, IsOptimumAnswer};
-ghost use Rattle.mintcx_answers.specs.Answers.{IsSafeAnswer, IsSlacksAnswer, job_has_text, least_cycle};
+ghost use Rattle.mintcx_slacks.specs.Slacks.{AreOfPairs};
+ghost use Rattle.mintcx_answers.specs.Answers.{IsCheckAnswer, IsCycleAnswer, IsFail, IsJobAnswer, IsJudgement};
+ghost use Rattle.mintcx_answers.specs.Answers.{IsOptimiseAnswer, IsOptimumAnswer, IsSafeAnswer, IsSlacksAnswer};
+ghost use Rattle.mintcx_answers.specs.Answers.{IsTextOfSlacks, cycle_status, job_has_text, least_cycle};
 
 use mintc_certificate::Certificate;
 use mintc_command_answers::{
@@ -24,13 +26,22 @@ use mintc_slack::Slacks;
 use mintc_text::limits::MOST_BYTES;
 use mintc_text::{Bytes, Kind, Limits, OutOfMemory, Refusal, Stop};
 use mintc_timing::{Schedule, System, Violation};
+use mintcx_cycles::{AtCycle, at_cycle_uncounted};
 use mintcx_frame::View;
 use mintcx_judgements::{Judged, fail_text, pass_text, violations_are_named};
-use mintcx_optima::{optimum_text, safe_text};
-use mintcx_slacks::slack_text;
+use mintcx_optima::{cycle_text, optimum_text, safe_text};
+use mintcx_slacks::{histogram_text, slack_text};
+use mintcx_translation::Aspect;
 use std::alloc::Global;
 use std::marker::Brand;
 use std::sync::ledger::Blank;
+
+/// What is asked of a design, and what of it is told.
+#[derive(Clone, Copy)]
+pub(crate) struct Question {
+    pub(crate) job: Job,
+    pub(crate) aspect: Aspect,
+}
 
 /// The text of a fail that breaks just these. Where its departures don't settle, it names none.
 fn failed(
@@ -136,6 +147,46 @@ fn optimum_answer(alloc: Global, system: &System, view: &View) -> Result<Answer,
     Ok(Answer { status, text })
 }
 
+/// How a run ends that has found this at a cycle time.
+fn cycle_status(found: &AtCycle) -> Status
+    ensures { result ≡ cycle_status found.now }
+{
+    match found {
+        AtCycle::Right { .. } => Status::Done,
+        AtCycle::Short { .. } => Status::Found,
+    }
+}
+
+/// The text of what there is at a cycle time in femtoseconds.
+fn cycle_answer(
+    alloc: Global,
+    system: &System,
+    cycle: u32,
+    view: &View,
+) -> Result<Answer, OutOfMemory>
+    ensures { IfOk result (λ answer. IsCycleAnswer system.now cycle view.now answer.status answer.text) }
+{
+    let found = at_cycle_uncounted(alloc, system, cycle)?;
+    let text = cycle_text(alloc, system, cycle, &found, view)?;
+    let status = cycle_status(&found);
+    Ok(Answer { status, text })
+}
+
+/// The text of the least cycle time, or of what there is at another one.
+fn optimise_answer(
+    alloc: Global,
+    aspect: Aspect,
+    system: &System,
+    view: &View,
+) -> Result<Answer, OutOfMemory>
+    ensures { IfOk result (λ answer. IsOptimiseAnswer system.now aspect view.now answer.status answer.text) }
+{
+    match aspect {
+        Aspect::Cycle(cycle) => cycle_answer(alloc, system, cycle, view),
+        Aspect::Whole | Aspect::Histogram => optimum_answer(alloc, system, view),
+    }
+}
+
 /// The cycle time of a schedule, in femtoseconds.
 fn cycle_of(schedule: &Schedule) -> Fraction
     requires { IsInRange schedule.now }
@@ -189,13 +240,35 @@ fn slack_status(slacks: &Slacks) -> Status
     }
 }
 
+/// The text of slacks, a row for each pair or a count of pairs for each bar.
+fn text_of_slacks(
+    alloc: Global,
+    aspect: Aspect,
+    system: &System,
+    slacks: &Slacks,
+    view: &View,
+) -> Result<Bytes, OutOfMemory>
+    requires { AreOfPairs system.now slacks.now }
+    ensures { IfOk result (IsTextOfSlacks system.now aspect view.now slacks.now) }
+{
+    match aspect {
+        Aspect::Histogram => histogram_text(alloc, system, slacks, view),
+        Aspect::Whole | Aspect::Cycle(_) => slack_text(alloc, system, slacks, view),
+    }
+}
+
 /// The text of the slacks at the least cycle time.
-fn slack_answer_within(alloc: Global, system: &System, view: &View) -> Result<Answer, OutOfMemory>
+fn slack_answer_within(
+    alloc: Global,
+    aspect: Aspect,
+    system: &System,
+    view: &View,
+) -> Result<Answer, OutOfMemory>
     requires { element_count system.now.flat ≤ MOST_SLACK }
-    ensures { IfOk result (λ answer. IsSlacksAnswer system.now view.now answer.status answer.text) }
+    ensures { IfOk result (λ answer. IsSlacksAnswer system.now aspect view.now answer.status answer.text) }
 {
     let slacks = slacks_from::<Brand>(alloc, system, Blank::new(1))?;
-    let text = slack_text(alloc, system, &slacks, view)?;
+    let text = text_of_slacks(alloc, aspect, system, &slacks, view)?;
     let status = slack_status(&slacks);
     Ok(Answer { status, text })
 }
@@ -204,11 +277,12 @@ fn slack_answer_within(alloc: Global, system: &System, view: &View) -> Result<An
 fn slack_answer(
     alloc: Global,
     limits: &Limits,
+    aspect: Aspect,
     system: &System,
     view: &View,
 ) -> Result<Answer, Stop>
     ensures value { (file : List ℕ) → IfOk result
-        (λ answer. IsJobAnswer limits.now Job.Slack system.now file view.now answer.status answer.text) }
+        (λ answer. IsJobAnswer limits.now Job.Slack aspect system.now file view.now answer.status answer.text) }
     ensures stop { (file : List ℕ) → IfErr result
         (StopsAt (IsFileRefused limits.now Job.Slack system.now.flat file)) }
 {
@@ -219,7 +293,7 @@ fn slack_answer(
             count: elements as u64,
         }));
     }
-    Ok(slack_answer_within(alloc, system, view)?)
+    Ok(slack_answer_within(alloc, aspect, system, view)?)
 }
 
 /// The answer to a job that has a text, on a system and on the file that stands beside the design's, or why that file
@@ -227,22 +301,23 @@ fn slack_answer(
 pub(crate) fn job_text(
     alloc: Global,
     limits: &Limits,
-    job: Job,
+    question: Question,
     system: &System,
     file: &[u8],
     view: &View,
 ) -> Result<Answer, Stop>
     requires short { length file.now ≤ MOST_BYTES }
-    requires worded { job_has_text job ≡ true }
+    requires worded { job_has_text question.job ≡ true }
     ensures value { IfOk result
-        (λ answer. IsJobAnswer limits.now job system.now file.now view.now answer.status answer.text) }
-    ensures stop { IfErr result (StopsAt (IsFileRefused limits.now job system.now.flat file.now)) }
+        (λ answer. IsJobAnswer limits.now question.job question.aspect system.now file.now view.now answer.status
+        answer.text) }
+    ensures stop { IfErr result (StopsAt (IsFileRefused limits.now question.job system.now.flat file.now)) }
 {
-    match job {
+    match question.job {
         Job::Check => check_answer(alloc, system, file, view),
-        Job::Optimise => Ok(optimum_answer(alloc, system, view)?),
+        Job::Optimise => Ok(optimise_answer(alloc, question.aspect, system, view)?),
         Job::Safe => Ok(safe_answer(alloc, system, view)?),
-        Job::Slack => slack_answer(alloc, limits, system, view),
+        Job::Slack => slack_answer(alloc, limits, question.aspect, system, view),
         Job::Verify | Job::Report => unreachable!(),
     }
 }

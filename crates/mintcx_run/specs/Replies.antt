@@ -166,7 +166,7 @@ pub record IsForPeople (order : Order) (fronts : List Text) (reply : Reply) : Ty
   pub view : View
   pub unit : view.unit ≡ order.manner.unit
   pub limit : view.limit ≡ order.manner.limit
-  pub answered : HasAnswer large order.call.command fronts view reply.status reply.text
+  pub answered : HasAnswer large order.call.command order.call.aspect fronts view reply.status reply.text
   pub of_command : IsOfCommand reply.status
   pub placed : reply.place ≡ place_of order.manner
 

@@ -17,6 +17,8 @@ use Rattle.mintcx_requests.specs.declared.requests.Design.{Design}
 use Rattle.mintcx_requests.specs.declared.requests.Design.TheVariants as design
 use Rattle.mintcx_requests.specs.declared.requests.Task.{Task}
 use Rattle.mintcx_requests.specs.declared.requests.Task.TheVariants as task
+use Rattle.mintcx_translation.specs.declared.calls.Aspect.{Aspect}
+use Rattle.mintcx_translation.specs.declared.calls.Aspect.TheVariants as aspect
 use Rattle.mintcx_translation.specs.declared.calls.Call.{Call}
 use Rattle.mintcx_translation.specs.declared.calls.Gap.{Gap}
 use Rattle.mintcx_translation.specs.declared.calls.Gap.TheVariants as gap
@@ -59,24 +61,29 @@ files_of what files = design_files (is_corners what) files ++ option_to_list (ow
 
 -- ---- the command
 
--- the least cycle time is asked for, with no file for its certificate and no other cycle time
-abbrev pub optimum_of : Option Text → Option ℕ → Result Job Gap
-optimum_of (Some certificate) cycle = Err gap.Certificate
-optimum_of None (Some cycle) = Err gap.Cycle
-optimum_of None None = Ok job.Optimise
+-- a cycle time is asked for, with no file for its certificate
+abbrev pub optimum_of : Option Text → Result Job Gap
+optimum_of (Some certificate) = Err gap.Certificate
+optimum_of None = Ok job.Optimise
 
 -- the job of a task on one design
 abbrev pub job_of : Task → Result Job Gap
 job_of (task.Check schedule) = Ok job.Check
-job_of (task.Optimise certificate cycle) = optimum_of certificate cycle
+job_of (task.Optimise certificate cycle) = optimum_of certificate
 job_of (task.Verify certificate) = Ok job.Verify
 job_of task.Report = Ok job.Report
 job_of task.Safe = Ok job.Safe
-job_of (task.Slack histogram) = if histogram then Err gap.Histogram else Ok job.Slack
+job_of (task.Slack histogram) = Ok job.Slack
 job_of task.Corners = Err gap.Misfit
 job_of (task.Schedule certificate cycle) = Err gap.Schedule
 job_of (task.Sdc file) = Err gap.Sdc
 job_of (task.Draw file histogram) = Err gap.Draw
+
+-- what of a task's command is told
+abbrev pub aspect_of : Task → Aspect
+aspect_of (task.Optimise certificate (Some cycle)) = aspect.Cycle cycle
+aspect_of (task.Slack true) = aspect.Histogram
+aspect_of what = aspect.Whole
 
 -- the source of a design with these cells
 abbrev pub source_of : Cells → Result Source Gap
@@ -108,11 +115,18 @@ is_fitting (Corners corners) count = (nat_le 2 corners && nat_le corners 4) && (
 
 -- ---- the call
 
+-- what mintc has no text for
+abbrev pub plain_gap : Aspect → Option Gap
+plain_gap aspect.Whole = None
+plain_gap (aspect.Cycle cycle) = Some gap.Cycle
+plain_gap aspect.Histogram = Some gap.Histogram
+
 -- a form that is not there yet, or a clamp of delays
-abbrev pub form_of : Format → Bool → Option Gap
-form_of format.Json clamp = Some gap.Json
-form_of format.Csv clamp = Some gap.Csv
-form_of form clamp = if clamp then Some gap.Clamp else None
+abbrev pub form_of : Format → Bool → Aspect → Option Gap
+form_of format.Json clamp told = Some gap.Json
+form_of format.Csv clamp told = Some gap.Csv
+form_of format.Text clamp told = if clamp then Some gap.Clamp else None
+form_of format.Plain clamp told = if clamp then Some gap.Clamp else plain_gap told
 
 -- a command with the names of its files, where these are as many as it takes
 abbrev pub fitting : Call → Result Call Gap
@@ -123,12 +137,13 @@ abbrev pub call_on : Option Gap → Task → Design → Result Call Gap
 call_on (Some missing) what files = Err missing
 call_on None what files = and_then (command_for what files) (λ command. fitting (record {
   command = command;
+  aspect = aspect_of what;
   files = files_of what files;
 }))
 
 -- what is asked of mintc, or what of it is not there yet
 abbrev pub call_for : Format → Bool → Task → Design → Result Call Gap
-call_for form clamp what files = call_on (form_of form clamp) what files
+call_for form clamp what files = call_on (form_of form clamp (aspect_of what)) what files
 
 -- why a task on a design is no call
 abbrev pub IsNoCall : Result Call Gap → NoCall → Type 0

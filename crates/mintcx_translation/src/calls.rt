@@ -1,8 +1,9 @@
 //! What a request asks of mintc.
 ghost use Rattle.std.specs.Prelude.{◌≡◌, ◌≢◌, ◌++◌, ◌∷◌, [], ℕ, length, IfOk, IfErr, Ok};
 ghost use Rattle.mintc_command_answers.specs.Commands.{IsNumberInRange, roles_of};
-ghost use Rattle.mintcx_translation.specs.Calls.{IsNoCall, call_for, cells_file, command_for, corners_on, design_files};
-ghost use Rattle.mintcx_translation.specs.Calls.{files_of, form_of, is_corners, is_fitting, job_of, job_on, own_file, source_of};
+ghost use Rattle.mintcx_translation.specs.Calls.{IsNoCall, aspect_of, call_for, cells_file, command_for, corners_on, design_files};
+ghost use Rattle.mintcx_translation.specs.Calls.{files_of, form_of, is_corners, is_fitting, job_of, job_on, own_file, plain_gap};
+ghost use Rattle.mintcx_translation.specs.Calls.{source_of};
 
 use mintc_command_answers::{Command, Job, Source};
 use mintc_text::{Name, Names, OutOfMemory};
@@ -10,10 +11,22 @@ use mintcx_manners::Format;
 use mintcx_requests::{Cells, Design, Task};
 use std::alloc::Global;
 
-/// A command of mintc, and the names of its files, in their order.
+/// What of a command is told to people.
+#[derive(Clone, Copy, Debug, PartialEq, Eq)]
+pub enum Aspect {
+    /// What mintc answers.
+    Whole,
+    /// Of `optimise`: what there is at a cycle time in femtoseconds.
+    Cycle(u32),
+    /// Of `slack`: the pairs counted by their slack.
+    Histogram,
+}
+
+/// A command of mintc, what of it is told, and the names of its files, in their order.
 #[derive(Debug, Drop)]
 pub struct Call {
     pub command: Command,
+    pub aspect: Aspect,
     pub files: Names,
 }
 
@@ -30,7 +43,7 @@ pub enum Gap {
     Csv,
     /// Delays below 0 that are taken as 0.
     Clamp,
-    /// A cycle time other than the least.
+    /// mintc's own text of a cycle time other than the least.
     Cycle,
     /// A file for the certificate.
     Certificate,
@@ -38,7 +51,7 @@ pub enum Gap {
     ClockCells,
     /// Several delay files with a library.
     CornersOfLibrary,
-    /// The pairs counted by their slack.
+    /// mintc's own text of pairs counted by their slack.
     Histogram,
     /// A text for people that answers the command.
     ForPeople,
@@ -177,20 +190,36 @@ fn job_of(task: &Task) -> Result<Job, Gap>
 {
     match task {
         Task::Check { .. } => Ok(Job::Check),
-        Task::Optimise { certificate, cycle } => match (certificate, cycle) {
-            (Some(_), _) => Err(Gap::Certificate),
-            (None, Some(_)) => Err(Gap::Cycle),
-            (None, None) => Ok(Job::Optimise),
-        },
+        Task::Optimise {
+            certificate: Some(_),
+            ..
+        } => Err(Gap::Certificate),
+        Task::Optimise {
+            certificate: None,
+            ..
+        } => Ok(Job::Optimise),
         Task::Verify { .. } => Ok(Job::Verify),
         Task::Report => Ok(Job::Report),
         Task::Safe => Ok(Job::Safe),
-        Task::Slack { histogram: true } => Err(Gap::Histogram),
-        Task::Slack { histogram: false } => Ok(Job::Slack),
+        Task::Slack { .. } => Ok(Job::Slack),
         Task::Corners => Err(Gap::Misfit),
         Task::Schedule { .. } => Err(Gap::Schedule),
         Task::Sdc { .. } => Err(Gap::Sdc),
         Task::Draw { .. } => Err(Gap::Draw),
+    }
+}
+
+/// What of a task's command is told.
+fn aspect_of(task: &Task) -> Aspect
+    ensures { result ≡ aspect_of task.now }
+{
+    match task {
+        Task::Optimise {
+            cycle: Some(cycle),
+            ..
+        } => Aspect::Cycle(*cycle),
+        Task::Slack { histogram: true } => Aspect::Histogram,
+        _ => Aspect::Whole,
     }
 }
 
@@ -265,14 +294,26 @@ fn is_fitting(command: Command, count: usize) -> bool
     }
 }
 
+/// What of an answer mintc has no text for.
+fn plain_gap(aspect: Aspect) -> Option<Gap>
+    ensures { result ≡ plain_gap aspect }
+{
+    match aspect {
+        Aspect::Whole => None,
+        Aspect::Cycle(_) => Some(Gap::Cycle),
+        Aspect::Histogram => Some(Gap::Histogram),
+    }
+}
+
 /// What of a form isn't there yet.
-fn form_of(format: Format, clamp: bool) -> Option<Gap>
-    ensures { result ≡ form_of format clamp }
+fn form_of(format: Format, clamp: bool, aspect: Aspect) -> Option<Gap>
+    ensures { result ≡ form_of format clamp aspect }
 {
     match format {
         Format::Json => Some(Gap::Json),
         Format::Csv => Some(Gap::Csv),
-        Format::Text | Format::Plain => { if clamp { Some(Gap::Clamp) } else { None } }
+        Format::Text => { if clamp { Some(Gap::Clamp) } else { None } }
+        Format::Plain => { if clamp { Some(Gap::Clamp) } else { plain_gap(aspect) } }
     }
 }
 
@@ -291,13 +332,18 @@ pub fn call_of(
     ensures in_range { IfOk result (λ call. IsNumberInRange call.command) }
     ensures files { IfOk result (λ call. (number : ℕ) → call.command ≢ Command.Sample number) }
 {
-    if let Some(gap) = form_of(format, clamp) {
+    let aspect = aspect_of(&task);
+    if let Some(gap) = form_of(format, clamp, aspect) {
         return Err(NoCall::Missing(gap));
     }
     let command = command_for(&task, &design)?;
     let files = files_of(alloc, task, design)?;
     if is_fitting(command, files.items().len()) {
-        Ok(Call { command, files })
+        Ok(Call {
+            command,
+            aspect,
+            files,
+        })
     } else {
         Err(NoCall::Missing(Gap::Misfit))
     }

@@ -15,7 +15,7 @@ impl Gap {
             Gap::Json => "'--format json' isn't there yet; text and plain are",
             Gap::Csv => "'--format csv' isn't there yet; text and plain are",
             Gap::Clamp => "'--clamp-negative' isn't there yet",
-            Gap::Cycle => "'--cycle' isn't there yet",
+            Gap::Cycle => "'--cycle' has no plain form; '--format text' has one",
             Gap::Certificate => {
                 "'--certificate' isn't there yet; 'optimise --format plain -o FILE' writes the certificate"
             }
@@ -24,7 +24,7 @@ impl Gap {
             Gap::CornersOfLibrary => {
                 "corners of a library aren't there yet; liberty2toml writes its cells for '--cells'"
             }
-            Gap::Histogram => "'--histogram' isn't there yet",
+            Gap::Histogram => "'--histogram' has no plain form; '--format text' has one",
             Gap::ForPeople => {
                 "this command has no text for people yet; '--format plain' gives that of mintc"
             }

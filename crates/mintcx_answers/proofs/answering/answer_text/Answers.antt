@@ -15,7 +15,7 @@ returns-in-OfDesign c =
     let texts = c.args.files.now in
     let told = c.design_text.ensures in
     record {
-      value = answered c.args.limits.now c.design_text.result c.args.command job source texts c.args.view.now c.in-OfDesign.is c.in_default.ensures told.value;
-      of_command = of_command c.args.limits.now c.design_text.result job source texts c.args.view.now told.value;
+      value = answered c.args.limits.now c.design_text.result c.args.command job c.args.aspect source texts c.args.view.now c.in-OfDesign.is c.in_default.ensures told.value;
+      of_command = of_command c.args.limits.now c.design_text.result job c.args.aspect source texts c.args.view.now told.value;
       stop = stopped c.args.limits.now c.design_text.result c.args.command job source texts c.in-OfDesign.is c.in_default.ensures told.stop;
     }
