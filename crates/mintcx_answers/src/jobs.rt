@@ -9,7 +9,7 @@ ghost use Rattle.mintc_timing.specs.Violations.{AreViolations};
 ghost use Rattle.mintc_certificate.specs.declared.certificate.Certificate.{Certificate};
 ghost use Rattle.mintc_command_answers.specs.Jobs.{IsFileRefused, IsOptimum, IsScheduleRefused, certificate_status};
 ghost use Rattle.mintc_command_answers.specs.Jobs.{safe_status, slack_status};
-ghost use Rattle.mintcx_slacks.specs.Slacks.{AreOfPairs};
+ghost use Rattle.mintc_slack.specs.Answers.{AreOfPairs};
 ghost use Rattle.mintcx_answers.specs.Answers.{IsCheckAnswer, IsCycleAnswer, IsFail, IsJobAnswer, IsJudgement};
 ghost use Rattle.mintcx_answers.specs.Answers.{IsOptimiseAnswer, IsOptimumAnswer, IsSafeAnswer, IsSlacksAnswer};
 ghost use Rattle.mintcx_answers.specs.Answers.{IsTextOfSlacks, cycle_status, job_has_text, least_cycle};
