@@ -2,32 +2,12 @@
 #![tactic(auto)]
 
 use liberty2toml_command::convert;
+use mintc_arguments::{status_of, words};
 use mintc_text::{FolderShelf, StreamSink};
-use std::alloc::AllocError;
 use std::process::ExitCode;
-use std::rt::Env;
-use std::{env, io};
-
-/// Why there are no words, as an exit status: memory was wanting, or the arguments can't be read.
-fn status_of(error: &io::Error) -> u8 {
-    if error.kind() == io::ErrorKind::OutOfMemory {
-        6
-    } else {
-        7
-    }
-}
-
-/// The words after the program's name.
-fn words(rt: &(impl Env + AllocGlobal)) -> io::Result<Vec<String>> {
-    let mut words = Vec::new(rt.alloc());
-    for word in env::args(rt)?.skip(1) {
-        words.push(word)?;
-    }
-    Ok(words)
-}
 
 fn main(rt: HostRuntime) -> ExitCode {
-    match words(&rt) {
+    match words(&rt, 1) {
         Ok(words) => {
             let mut shelf = FolderShelf::new(&rt);
             let mut out = StreamSink::new(&rt);

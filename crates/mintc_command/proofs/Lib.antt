@@ -1,4 +1,5 @@
-mod Calls
+pub mod SharedCalls
+pub mod SharedReadingLaws
 mod CommandLaws
 mod ReadingLaws
 mod AnswerLaws

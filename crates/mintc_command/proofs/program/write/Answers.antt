@@ -1,4 +1,4 @@
-use Rattle.mintc_command.proofs.Calls.{MakesAtMost-one}
+use Rattle.mintc_command.proofs.SharedCalls.{MakesAtMost-one}
 use Rattle.mintc_command.proofs.program.write.Goals as goal
 
 pub returns-in-Ok-clause-writes : goal.returns-in-Ok-clause-writes

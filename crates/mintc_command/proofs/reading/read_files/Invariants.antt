@@ -1,7 +1,7 @@
 use Rattle.std.proofs.Common.{◌+◌, take}
 use Rattle.mintc_command.specs.Answers.{HoldsAll}
 use Rattle.mintc_command_answers.specs.Commands.{bytes_of}
-use Rattle.mintc_command.proofs.ReadingLaws.{IsReading}
+use Rattle.mintc_command.proofs.SharedReadingLaws.{IsReading}
 use Rattle.mintc_command.proofs.reading.read_files.Given as goal
 
 abbrev pub invariant-loop-name : goal.invariant-loop-name

@@ -1,4 +1,4 @@
-use Rattle.mintcx_run.proofs.Calls.{MakesAtMost-one}
+use Rattle.mintc_command.proofs.SharedCalls.{MakesAtMost-one}
 use Rattle.mintcx_run.proofs.program.write.Goals as goal
 
 pub returns-in-Ok-clause-writes : goal.returns-in-Ok-clause-writes
