@@ -36,28 +36,24 @@ decided by a chain of 2 constraints that takes 100 fs in 1 cycle:
 times in fs
 ||";
 
-/// The report of the table.
-const REPORT: &str = "0|least  cycle 100 fs, 10.000 THz  (two.table)
+/// What there is at a cycle time above the least one.
+const RIGHT: &str = "0|right  cycle 1 ns, 1000.000 MHz  (two.table)
 
   phase  starts  ends  width
-  phi1        0    10     10
-  phi2       10    40     30
+  phi1        0     0      0
+  phi2        0     0      0
 
-decided by a chain of 2 constraints that takes 100 fs in 1 cycle:
+times in ns
+||";
 
-  cycle  delay  time  at
-      1            0  a  latch on phi1, open from 0 to 10
-            10    10    D -> Q
-            20    30    to b
-      1           30  b  latch on phi2, open from 10 to 40, borrows 20
-            10    40    D -> Q
-            60   100    to a
-      2          100  a again, 1 cycle on
+/// What there is at one below it.
+const SHORT: &str = "1|short  cycle 80 fs, 12.500 THz  (two.table)
 
-1 latch of 2 borrows:
+a chain of 2 constraints takes 100 fs in 1 cycle, and so needs a cycle of 100:
 
-  borrows  element  on
-       20  b        latch on phi2
+  from  delay  cycles  to  through
+  a        30       0  b
+  b        70       1  a
 
 times in fs
 ||";
@@ -90,6 +86,17 @@ const SLACK: &str = "0|slack  cycle 100 fs, 10.000 THz  (two.table)
       0  b     a      70
 
 times in fs; slack is how much a pair's delay may grow, alone, at this cycle
+||";
+
+/// The slacks of the table, counted.
+const BARS: &str = "0|slack  cycle 100 fs, 10.000 THz  (two.table)
+
+2 pairs of elements; 2 have no slack and hold the clock back
+
+  slack  pairs
+   none      2  ########################################
+
+times in fs
 ||";
 
 /// The judgement of the right schedule.
@@ -155,20 +162,6 @@ decided by a chain of 2 constraints that takes 80 fs in 1 cycle:
 times in fs
 ||";
 
-/// The least cycle time of two equal corners.
-const CORNERS: &str = "0|least  cycle 100 fs, 10.000 THz  (two, 2 corners)
-
-  corner  delays   cycle alone
-       1  two.sdf          100
-       2  two.sdf          100
-
-  phase  starts  ends  width
-  p1          0    10     10
-  p2         10    40     30
-
-times in fs
-||";
-
 /// What is said where a command has no text for people.
 const NO_TEXT: &str =
     "3||error: this command has no text for people yet; '--format plain' gives that of mintc\n|";
@@ -220,9 +213,11 @@ const TABLE: Rows = Rows {
             "mintcx optimise -p none.toml",
             "4||error: 'none.toml' can't be read\n|",
         ),
+        ("mintcx optimise --cycle 1ns", RIGHT),
+        ("mintcx optimise --cycle 80fs", SHORT),
         (
-            "mintcx optimise --cycle 1ns",
-            "3||error: '--cycle' isn't there yet\n|",
+            "mintcx optimise --cycle 80fs --format plain",
+            "3||error: '--cycle' has no plain form; '--format text' has one\n|",
         ),
         (
             "mintcx optimise --lib x --table y",
@@ -230,13 +225,10 @@ const TABLE: Rows = Rows {
         ),
         ("mintcx --version", "0|mintcx 0.1.0\n||"),
         ("mintcx optimise", LEAST),
-        ("mintcx report", REPORT),
+        ("mintcx report", NO_TEXT),
         ("mintcx safe", SAFE),
         ("mintcx slack", SLACK),
-        (
-            "mintcx slack --histogram",
-            "3||error: '--histogram' isn't there yet\n|",
-        ),
+        ("mintcx slack --histogram", BARS),
         ("mintcx verify two.cert", NO_TEXT),
         ("mintcx check two.schedule", PASS),
         ("mintcx check fast.schedule", FAIL),
@@ -263,7 +255,7 @@ const FILES: Rows = Rows {
         ),
         (
             "mintcx corners --netlist two.v --sdf two.sdf --sdf two.sdf --cells two.toml --clock clock.toml",
-            CORNERS,
+            NO_TEXT,
         ),
         (
             "mintcx optimise --netlist two.v --sdf two.sdf --lib two.lib --clock-cell X --clock clock.toml",
