@@ -135,12 +135,8 @@ fn text_reply(alloc: Global, order: Order, files: &mut [Bytes]) -> Reply
     let Ok(view) = view_of(alloc, &order, files) else {
         return Reply::out_of_memory(alloc);
     };
-    let Call {
-        command,
-        aspect,
-        ..
-    } = order.call;
-    match answer_text(alloc, &Limits::large(), command, aspect, &view, files) {
+    let call = &order.call;
+    match answer_text(alloc, &Limits::large(), call.command, call.aspect, &view, files) {
         Ok(Answer { status, text }) => Reply {
             status,
             place: place_of(order.manner),
