@@ -97,7 +97,14 @@ fn judge(
     let mut room = room_for(alloc, system)?;
     let violations = violations(alloc, system, schedule, &mut room)?;
     if !violations.is_empty() {
-        let text = failed(alloc, system, schedule, violations.as_slice(), &mut room, view)?;
+        let text = failed(
+            alloc,
+            system,
+            schedule,
+            violations.as_slice(),
+            &mut room,
+            view,
+        )?;
         return Ok(Answer {
             status: Status::Found,
             text,

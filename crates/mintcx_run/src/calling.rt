@@ -136,7 +136,14 @@ fn text_reply(alloc: Global, order: Order, files: &mut [Bytes]) -> Reply
         return Reply::out_of_memory(alloc);
     };
     let call = &order.call;
-    match answer_text(alloc, &Limits::large(), call.command, call.aspect, &view, files) {
+    match answer_text(
+        alloc,
+        &Limits::large(),
+        call.command,
+        call.aspect,
+        &view,
+        files,
+    ) {
         Ok(Answer { status, text }) => Reply {
             status,
             place: place_of(order.manner),

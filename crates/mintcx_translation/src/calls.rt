@@ -313,7 +313,13 @@ fn form_of(format: Format, clamp: bool, aspect: Aspect) -> Option<Gap>
         Format::Json => Some(Gap::Json),
         Format::Csv => Some(Gap::Csv),
         Format::Text => { if clamp { Some(Gap::Clamp) } else { None } }
-        Format::Plain => { if clamp { Some(Gap::Clamp) } else { plain_gap(aspect) } }
+        Format::Plain => {
+            if clamp {
+                Some(Gap::Clamp)
+            } else {
+                plain_gap(aspect)
+            }
+        }
     }
 }
 
