@@ -1,5 +1,8 @@
 -- Judgements and optima for people.
-use Rattle.std.proofs.Common.{◌≡◌, ◌≢◌, ℕ, ℤ, List, [], sym, subst, inl, inr, Result, Ok, Err, IfOk}
+use Rattle.std.proofs.Common.{◌≡◌, ◌≢◌, ℕ, ℤ, List, [], length, Bool, true, arith, sym, subst, inl, inr, Result, Ok, Err, IfOk}
+use Rattle.std.specs.Bool.{◌==◌}
+use Rattle.std.proofs.lemmas.List.{nil_from_length}
+use Rattle.std.proofs.lemmas.Bool.Decides.{nat_tests}
 use Rattle.mintc_timing.specs.Departures.{AreEarly, AreExact, AreLate}
 use Rattle.mintc_timing.specs.Design.{Timing}
 use Rattle.mintc_timing.specs.Violations.{AreViolations}
@@ -26,3 +29,9 @@ fail_unsettled (Ok text) t s view violations late early are some none no_late no
 pub is_pass : (t : Timing) (s : Schedule) (view : View) (violations : List Violation) (late early : List ℤ) (text : List ℕ) → violations ≡ [] → AreViolations t s violations →
     AreLate t s late → AreEarly t s early → IsPassText t s late early view text → IsPass t s view text
 is_pass t s view violations late early text none are is_late is_early h = (subst (λ (x : List Violation). AreViolations t s x) none are, (late, early, is_late, is_early, h))
+
+-- a list that is empty by its test
+pub is_none : (vs : List Violation) (count : ℕ) (empty : Bool) → count ≡ length vs → empty ≡ (count == 0) → empty ≡ true → vs ≡ []
+is_none vs count empty same is holds =
+    let none : length vs ≡ 0 = grind (arith, nat_tests) in
+    nil_from_length vs none

@@ -96,29 +96,29 @@ fn judge(
 {
     let mut room = room_for(alloc, system)?;
     let violations = violations(alloc, system, schedule, &mut room)?;
-    if !violations.is_empty() {
-        let text = failed(
-            alloc,
+    if violations.is_empty() {
+        let judged = Judged {
             system,
             schedule,
-            violations.as_slice(),
-            &mut room,
-            view,
-        )?;
+            late: room.late(),
+            early: room.early(),
+        };
+        let text = pass_text(alloc, &judged, view)?;
         return Ok(Answer {
-            status: Status::Found,
+            status: Status::Done,
             text,
         });
     }
-    let judged = Judged {
+    let text = failed(
+        alloc,
         system,
         schedule,
-        late: room.late(),
-        early: room.early(),
-    };
-    let text = pass_text(alloc, &judged, view)?;
+        violations.as_slice(),
+        &mut room,
+        view,
+    )?;
     Ok(Answer {
-        status: Status::Done,
+        status: Status::Found,
         text,
     })
 }

@@ -8,8 +8,8 @@ pub returns-in-Some-clause-stop : goal.returns-in-Some-clause-stop
 returns-in-Some-clause-stop c =
     refused_length c.args.limits.now c.args.command c.args.files.now c.roles.result.now c.in-Some.refusal c.requires.worded c.roles.ensures c.in-Some.ensures
 
-pub returns-in-OfDesign : goal.returns-in-OfDesign
-returns-in-OfDesign c =
+pub returns : goal.returns
+returns c =
     let job = c.in-OfDesign.job in
     let source = c.in-OfDesign.source in
     let texts = c.args.files.now in

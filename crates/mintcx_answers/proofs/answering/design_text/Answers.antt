@@ -14,9 +14,9 @@ returns-in_err-system c =
 
 pub returns : goal.returns
 returns c =
-    let same = c.own_file.ensures.value ∙ c.in_ok-system.ensures.own in
+    let same = c.own_file-file.ensures.value ∙ c.in_ok-system.ensures.own in
     record {
-      value = answer_on_file c.args.limits.now c.job_text.result c.args.question.job c.args.question.aspect c.args.source c.args.texts.now c.in_ok-system.system c.own_file.result.now c.args.view.now c.in_ok-system.ensures.value same
+      value = answer_on_file c.args.limits.now c.job_text.result c.args.question.job c.args.question.aspect c.args.source c.args.texts.now c.in_ok-system.system c.own_file-file.result.now c.args.view.now c.in_ok-system.ensures.value same
           c.job_text.ensures.value;
-      stop = stop_on_file c.args.limits.now c.job_text.result c.args.question.job c.args.source c.args.texts.now c.in_ok-system.system c.own_file.result.now c.in_ok-system.ensures.value same c.job_text.ensures.stop;
+      stop = stop_on_file c.args.limits.now c.job_text.result c.args.question.job c.args.source c.args.texts.now c.in_ok-system.system c.own_file-file.result.now c.in_ok-system.ensures.value same c.job_text.ensures.stop;
     }
