@@ -2,8 +2,11 @@
 use Rattle.std.proofs.Common.{◌≡◌, ℕ, ◌+◌, ◌<◌, List, [], ◌∷◌, ◌++◌, length, take, drop, get_or, Bool, true, false, not, ◌||◌, cond, bytes_eq, Option, Some, None, refl, sym, ap, ◌∙◌, append_assoc}
 use Rattle.std.specs.List.{cons_option, flat_map}
 use Rattle.std.proofs.lemmas.List.{drop_more, take_more, append-nil}
+use Rattle.std.proofs.lemmas.List.Elements.{filter_map-append}
 use Rattle.mintc_text_names.specs.Names.{is_among, with_name}
 use Rattle.mintc_netlist.specs.Again.{comes_again}
+use Rattle.mintc_netlist.specs.Connections.{named_pins}
+use Rattle.mintc_netlist.specs.declared.module.Connection.{Connection}
 use Rattle.mintc_netlist.specs.declared.module.Item.{Item}
 use Rattle.mintc_netlist.specs.Nets.{port_names, net_names}
 use Rattle.mintc_flatten_hierarchy.specs.Faults.{instance_names, is_name_twice}
@@ -14,7 +17,7 @@ use Rattle.mintc_netlist.specs.Ordinary.{entry_of}
 use Rattle.mintc_netlist.specs.Statements.{statement_of}
 use Rattle.mintc_flatten_rules.specs.Firsts.{first_after}
 use Rattle.mintc_flatten_rules.proofs.FirstLaws.{first_after-turn}
-use Rattle.mintc_flatten_rules.specs.Twice.{AddsPin, IsSeen, gives_item}
+use Rattle.mintc_flatten_rules.specs.Twice.{AddsPin, IsSeen, gives_item, is_pin_among}
 use Rattle.mintc_netlist_nets.proofs.SharedNetLaws.{among_last}
 
 comes_same : (seen seen' xs : List (List ℕ)) → ((name : List ℕ) → is_among name seen ≡ is_among name seen') → comes_again bytes_eq seen xs ≡ comes_again bytes_eq seen' xs
@@ -64,6 +67,26 @@ step_old start seen more n x inside is left there =
 pub pin_step : (pin : Option (List ℕ)) (seen news rest : List (List ℕ)) (fresh : Bool) → AddsPin seen news pin fresh → fresh ≡ true → comes_again bytes_eq seen (cons_option pin rest) ≡ comes_again bytes_eq news rest
 pin_step None seen news rest fresh h new = ap (λ (s : List (List ℕ)). comes_again bytes_eq s rest) (sym h.1)
 pin_step (Some pin) seen news rest fresh h new = (new_one seen news pin rest (sym new ∙ h.0) h.1).1
+
+pin_on : (pin : Option (List ℕ)) (seen rest : List (List ℕ)) → comes_again bytes_eq seen (cons_option pin rest) ≡ (is_pin_among seen pin || comes_again bytes_eq (seen ++ cons_option pin []) rest)
+pin_on None seen rest = ap (λ (s : List (List ℕ)). comes_again bytes_eq s rest) (sym (append-nil seen))
+pin_on (Some pin) seen rest = ap (λ b. is_among pin seen || b) (comes_last seen pin rest)
+
+-- one connection on, where those before it are looked through
+pub pin_turn : (cs : List Connection) (n : ℕ) (x : Connection) (b : Bool) → n < length cs → x ≡ get_or cs n x → b ≡ is_pin_among (named_pins (take n cs)) x.pin →
+    comes_again bytes_eq (named_pins (take n cs)) (named_pins (drop n cs)) ≡ comes_again bytes_eq [] (named_pins cs) →
+    (b || comes_again bytes_eq (named_pins (take (n + 1) cs)) (named_pins (drop (n + 1) cs))) ≡ comes_again bytes_eq [] (named_pins cs)
+pin_turn cs n x b inside is e left =
+    let seen = named_pins (take n cs) in
+    let rest = named_pins (drop (n + 1) cs) in
+    let here : drop n cs ≡ x ∷ drop (n + 1) cs = drop_more cs n x inside ∙ ap (λ (y : Connection). y ∷ drop (n + 1) cs) (sym is) in
+    let longer : take (n + 1) cs ≡ take n cs ++ x ∷ [] = take_more cs n x inside ∙ ap (λ (y : Connection). take n cs ++ y ∷ []) (sym is) in
+    let more : named_pins (take (n + 1) cs) ≡ seen ++ cons_option x.pin [] = ap named_pins longer ∙ filter_map-append (λ (c : Connection). c.pin) (take n cs) (x ∷ []) in
+    ap (λ (c : Bool). c || comes_again bytes_eq (named_pins (take (n + 1) cs)) rest) e
+    ∙ ap (λ (s : List (List ℕ)). is_pin_among seen x.pin || comes_again bytes_eq s rest) more
+    ∙ sym (pin_on x.pin seen rest)
+    ∙ sym (ap (λ (l : List Connection). comes_again bytes_eq seen (named_pins l)) here)
+    ∙ left
 
 -- what is kept after one more item
 pub seen_step : (p n q p' n' q' : List (List ℕ)) (before : List Item) (i : Item) → IsSeen p n q before → p' ≡ p ++ port_names i → n' ≡ n ++ net_names i → q' ≡ q ++ instance_names i → IsSeen p' n' q' (before ++ i ∷ [])

@@ -1,6 +1,6 @@
 -- What is kept of a module's items to find names that come again.
-use Rattle.std.specs.Prelude.{◌≡◌, ℕ, List, [], ◌∷◌, ◌++◌, Bool, true, not, ◌||◌, cond, bytes_eq, Option, Some, None}
-use Rattle.std.specs.Option.{option_or}
+use Rattle.std.specs.Prelude.{◌≡◌, ℕ, List, [], ◌∷◌, ◌++◌, Bool, true, not, ◌||◌, cond, bytes_eq, Option, Some, None, false}
+use Rattle.std.specs.Option.{option_or, option_map_or}
 use Rattle.std.specs.List.{flat_map}
 use Rattle.mintc_netlist.specs.declared.module.Item.{Item}
 use Rattle.mintc_netlist.specs.Nets.{port_names, net_names}
@@ -18,6 +18,10 @@ pub record IsSeen (of_ports of_nets of_instances : List (List ℕ)) (before : Li
   pub ports : of_ports ≡ flat_map port_names before
   pub nets : of_nets ≡ flat_map net_names before
   pub instances : of_instances ≡ flat_map instance_names before
+
+-- whether a pin, if one is named, is among some names
+abbrev pub is_pin_among : List (List ℕ) → Option (List ℕ) → Bool
+is_pin_among names pin = option_map_or (λ (name : List ℕ). is_among name names) pin false
 
 -- What is kept of named pins after one more connection: its pin, if it names one, and whether that wasn't there.
 abbrev pub AddsPin : List (List ℕ) → List (List ℕ) → Option (List ℕ) → Bool → Type 0

@@ -1,12 +1,13 @@
 //! Names that are given twice.
 ghost use Rattle.std.specs.Prelude.{◌≡◌, ◌||◌, ◌++◌, ◌∷◌, [], None, false, bytes_eq, IfOk};
 ghost use Rattle.std.specs.List.{filter_map};
+ghost use Rattle.std.specs.Option.{option_map_or};
 ghost use Rattle.mintc_text_names.specs.Names.{is_among};
 ghost use Rattle.mintc_netlist.specs.Again.{comes_again};
 ghost use Rattle.mintc_netlist.specs.Connections.{named_pins};
 ghost use Rattle.mintc_flatten_hierarchy.specs.Faults.{is_name_twice};
 ghost use Rattle.mintc_flatten_rules.specs.Firsts.{first_after};
-ghost use Rattle.mintc_flatten_rules.specs.Twice.{AddsPin, first_again};
+ghost use Rattle.mintc_flatten_rules.specs.Twice.{AddsPin, first_again, is_pin_among};
 ghost use Rattle.mintc_flatten_hierarchy.specs.Sources.{source_of, modules_of};
 ghost use Rattle.mintc_netlist.specs.Statements.{first_at_fault};
 
@@ -29,10 +30,60 @@ fn add_again(alloc: Global, names: &mut NameSet, more: &[Name]) -> Result<bool, 
     Ok(false)
 }
 
+/// So many connections are rather compared with one another than kept by the names of their pins.
+const FEW: usize = 16;
+
+/// Whether a connection names a pin.
+fn is_to(pin: &[u8], connection: &Connection) -> bool
+    ensures { result ≡ option_map_or (bytes_eq pin.now) connection.now.pin false }
+{
+    match &connection.pin {
+        Some(other) => pin == other.bytes(),
+        None => false,
+    }
+}
+
+/// Whether one of some connections names a pin.
+fn is_named(pin: &[u8], connections: &[Connection]) -> bool
+    ensures { result ≡ is_among pin.now (named_pins connections.now) }
+{
+    for connection in connections {
+        if is_to(pin, connection) {
+            return true;
+        }
+    }
+    false
+}
+
+/// Whether a connection names a pin that one before it names.
+fn is_again(before: &[Connection], connection: &Connection) -> bool
+    ensures { result ≡ is_pin_among (named_pins before.now) connection.now.pin }
+{
+    match &connection.pin {
+        Some(pin) => is_named(pin.bytes(), before),
+        None => false,
+    }
+}
+
+/// Whether a pin is connected twice by name, of a few connections.
+fn few_pins_again(connections: &[Connection]) -> bool
+    ensures { result ≡ comes_again bytes_eq [] (named_pins connections.now) }
+{
+    for (number, connection) in connections.iter().enumerate() {
+        if is_again(&connections[..number], connection) {
+            return true;
+        }
+    }
+    false
+}
+
 /// Whether a pin is connected twice by name.
 fn pins_again(alloc: Global, connections: &[Connection]) -> Result<bool, OutOfMemory>
     ensures { IfOk result (λ again. again ≡ comes_again bytes_eq [] (named_pins connections.now)) }
 {
+    if connections.len() <= FEW {
+        return Ok(few_pins_again(connections));
+    }
     let mut names = NameSet::new(alloc);
     for connection in connections {
         if !add_pin(alloc, &mut names, connection)? {

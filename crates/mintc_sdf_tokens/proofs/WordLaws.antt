@@ -1,5 +1,6 @@
 -- Words cut into pieces.
 use Rattle.std.proofs.Common.{◌≡◌, ℕ, suc, ◌+◌, ◌<◌, Bool, false, not, ◌&&◌, ◌==◌, List, [], ◌∷◌, ◌++◌, map, length, take, drop, refl, sym, ap, ◌∙◌, arith, append_assoc}
+use Rattle.std.specs.List.{list_any}
 use Rattle.mintc_sdf_tokens.specs.Words.{pieces_from, unescaped, names_of}
 use Rattle.mintc_sdf_tokens.specs.Pieces.{piece_size}
 
@@ -33,3 +34,8 @@ names-end d word rest n out new e h whole pushed =
     take-all : (bs : List ℕ) → take (length bs) bs ≡ bs
     take-all [] = refl
     take-all (b ∷ bs) = ap (λ l. b ∷ l) (take-all bs)
+
+-- a word without backslashes stays as it is
+pub unescaped-plain : (w : List ℕ) → list_any (λ b. b == 92) w ≡ false → unescaped w ≡ w
+unescaped-plain [] h = refl
+unescaped-plain (b ∷ bs) h = let go = unescaped-plain bs in grind (arith, go, h)

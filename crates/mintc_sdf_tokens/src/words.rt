@@ -98,10 +98,13 @@ fn push_kept(out: &mut Vec<u8>, b: u8, kept: bool) -> Result<(), OutOfMemory>
     Ok(out.push(b)?)
 }
 
-/// A word without its backslashes.
+/// A word without its backslashes. Most words have none, and are copied as they are.
 pub fn without_escapes(alloc: Global, word: &[u8]) -> Result<Name, OutOfMemory>
     ensures { IfOk result (λ name. name ≡ unescaped word.now) }
 {
+    if !word.contains(&b'\\') {
+        return Name::new(alloc, word);
+    }
     let mut out = Vec::new(alloc);
     let mut kept = false;
     for byte in word {

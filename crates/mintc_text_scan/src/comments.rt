@@ -3,6 +3,7 @@ ghost use Rattle.std.specs.Prelude.{◌≡◌, ◌≤◌, ◌<◌, ◌+◌, ◌=
 ghost use Rattle.mintc_text_scan.specs.Bytes.{comment_end, comment_size, EndsBefore};
 
 use crate::bytes::{byte_at, is_pair, line_size, rest_from};
+use mintc_text::place_of;
 
 /// Whether a star and a slash stand at a place.
 fn is_end_mark(bytes: &[u8], at: usize) -> bool
@@ -36,13 +37,15 @@ fn later_end(text: &[u8], at: usize, last: usize) -> usize
     if is_end_mark(text, at) { at + 2 } else { last }
 }
 
-/// The place behind the last `*/`, or 0.
+/// The place behind the last `*/`, or 0. The stars of a text are looked for, which are few.
 pub fn last_end(text: &[u8]) -> usize
     ensures { EndsBefore text.now result }
 {
     let mut last = 0;
-    for at in 0..text.len() {
+    let mut at = place_of(b'*', text, 0);
+    while at < text.len() {
         last = later_end(text, at, last);
+        at = place_of(b'*', text, at + 1);
     }
     last
 }

@@ -1,6 +1,7 @@
 pub mod SharedWritten
 pub mod SharedFound
 mod Values
+mod ReservedLaws
 mod Front
 mod Nest
 pub mod SharedHalted

@@ -4,3 +4,5 @@ pub mod Expressions
 pub mod Left
 pub mod Reading
 pub mod Keys
+-- What only the proofs need:
+pub mod Reserved

@@ -1,11 +1,38 @@
 //! The reserved words.
 ghost use Rattle.std.specs.Prelude.{◌≡◌};
+ghost use Rattle.std.specs.Char.{is_ascii_lowercase};
+ghost use Rattle.std.specs.List.{list_all};
 ghost use Rattle.mintc_verilog_expressions.specs.Lexemes.{is_reserved, is_module_word, is_net_word, is_assign_word};
 ghost use Rattle.mintc_verilog_expressions.specs.Lexemes.{is_process_word, is_gate_word, is_buffer_word};
+ghost use Rattle.mintc_verilog_expressions.specs.Reserved.{looks_reserved};
 
-/// Whether a word is no name.
-#[tactic(auto, unfolding(crate::specs::Lexemes::is_reserved))]
+/// Whether a word is no name. Most names don't look like reserved words, and aren't compared with them.
 pub(crate) fn is_reserved(word: &[u8]) -> bool
+    ensures { result ≡ is_reserved word.now }
+{
+    if !looks_reserved(word) {
+        return false;
+    }
+    is_listed(word)
+}
+
+/// Whether all bytes are lower-case letters.
+fn are_lowercase(bytes: &[u8]) -> bool
+    ensures { result ≡ list_all is_ascii_lowercase bytes.now }
+{
+    bytes.iter().all(|byte| byte.is_ascii_lowercase())
+}
+
+/// Whether all bytes of a word but the last are lower-case letters, as those of each reserved word are.
+fn looks_reserved(word: &[u8]) -> bool
+    ensures { result ≡ looks_reserved word.now }
+{
+    are_lowercase(&word[..word.len().saturating_sub(1)])
+}
+
+/// Whether a word is one of the reserved words.
+#[tactic(auto, unfolding(crate::specs::Lexemes::is_reserved))]
+fn is_listed(word: &[u8]) -> bool
     ensures { result ≡ is_reserved word.now }
 {
     is_module_word(word)
