@@ -1,1 +1,3 @@
+mod FaultLaws
 mod ReadingLaws
+mod ReplyLaws

@@ -19,7 +19,7 @@ use mintcx_answers::{answer_text, has_text, subject_of};
 use mintcx_frame::View;
 use mintcx_manners::Format;
 use mintcx_project::Settings;
-use mintcx_requests::{Given, Manner, Request, request_of};
+use mintcx_requests::{Design, Given, Manner, Request, Task, request_of};
 use mintcx_translation::{Call, Gap, NoCall, call_of};
 use std::alloc::Global;
 
@@ -55,6 +55,27 @@ fn worded(alloc: Global, order: Order) -> Result<Order, Reply>
     }
 }
 
+/// The call of mintc for a task on a design, or what isn't there yet.
+fn design_order(
+    alloc: Global,
+    task: Task,
+    design: Design,
+    clamp: bool,
+    manner: Manner,
+) -> Result<Order, Reply>
+    ensures value { IfOk result (IsOrderOf (Request.OfDesign task design clamp manner)) }
+    ensures count { IfOk result (λ order. length order.call.files ≡ length (roles_of order.call.command)) }
+    ensures in_range { IfOk result (λ order. IsNumberInRange order.call.command) }
+    ensures worded { IfOk result IsWorded }
+    ensures reply { IfErr result (IsGapReply (Request.OfDesign task design clamp manner)) }
+{
+    match call_of(alloc, manner.format, clamp, task, design) {
+        Ok(call) => worded(alloc, Order { call, manner }),
+        Err(NoCall::Missing(gap)) => Err(Reply::message(alloc, Status::Usage, &gap)),
+        Err(NoCall::OutOfMemory) => Err(Reply::out_of_memory(alloc)),
+    }
+}
+
 /// The call of mintc for a request, or what isn't there yet.
 fn order_of(alloc: Global, asked: Request) -> Result<Order, Reply>
     ensures value { IfOk result (IsOrderOf asked) }
@@ -63,19 +84,14 @@ fn order_of(alloc: Global, asked: Request) -> Result<Order, Reply>
     ensures worded { IfOk result IsWorded }
     ensures reply { IfErr result (IsGapReply asked) }
 {
-    let Request::OfDesign {
-        task,
-        design,
-        clamp,
-        manner,
-    } = asked
-    else {
-        return Err(Reply::message(alloc, Status::Usage, &Gap::Explain));
-    };
-    match call_of(alloc, manner.format, clamp, task, design) {
-        Ok(call) => worded(alloc, Order { call, manner }),
-        Err(NoCall::Missing(gap)) => Err(Reply::message(alloc, Status::Usage, &gap)),
-        Err(NoCall::OutOfMemory) => Err(Reply::out_of_memory(alloc)),
+    match asked {
+        Request::Explain { .. } => Err(Reply::message(alloc, Status::Usage, &Gap::Explain)),
+        Request::OfDesign {
+            task,
+            design,
+            clamp,
+            manner,
+        } => design_order(alloc, task, design, clamp, manner),
     }
 }
 

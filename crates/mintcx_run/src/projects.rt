@@ -49,7 +49,8 @@ pub(crate) fn given_of(alloc: Global, words: &[String]) -> Result<Given, Reply>
 
 /// The reply that a project file says nothing, and why.
 fn project_reply(alloc: Global, name: &Name, fault: &ProjectFault) -> Reply
-    ensures { IsFaultReply fault.now result }
+    ensures reply { IsFaultReply fault.now result }
+    ensures no_fault { result.status ≢ Status.WriteFault }
 {
     if let ProjectFault::OutOfMemory = fault {
         return Reply::out_of_memory(alloc);
@@ -66,6 +67,7 @@ fn settings_in(alloc: Global, name: &Name, text: &[u8]) -> Result<Settings, Repl
     ensures short { IfOk result (λ _. length text.now ≤ MOST_BYTES) }
     ensures value { IfOk result (Says name.now text.now) }
     ensures reply { IfErr result (IsSilentReply text.now) }
+    ensures no_fault { IfErr result (λ reply. reply.status ≢ Status.WriteFault) }
 {
     if text.len() > MOST_BYTES {
         return Err(Reply::message(alloc, Status::Usage, &"the project file is too long"));
@@ -80,6 +82,7 @@ fn settings_in(alloc: Global, name: &Name, text: &[u8]) -> Result<Settings, Repl
 fn default_settings<S: Shelf>(alloc: Global, shelf: &mut S) -> Result<Settings, Reply>
     ensures value { IfOk result (IsSettings (S.files shelf.old) None) }
     ensures reply { IfErr result (IsSettingsReply (S.files shelf.old) None) }
+    ensures no_fault { IfErr result (λ reply. reply.status ≢ Status.WriteFault) }
     ensures same { S.files shelf.new ≡ S.files shelf.old }
     ensures later { S.faults shelf.old ≤ S.faults shelf.new }
     ensures read { IfErr result (λ reply. reply.status ≢ Status.ReadFault) }
@@ -99,6 +102,7 @@ fn default_settings<S: Shelf>(alloc: Global, shelf: &mut S) -> Result<Settings, 
 fn named_settings<S: Shelf>(alloc: Global, shelf: &mut S, name: &Name) -> Result<Settings, Reply>
     ensures value { IfOk result (IsSettings (S.files shelf.old) (Some name.now)) }
     ensures reply { IfErr result (IsSettingsReply (S.files shelf.old) (Some name.now)) }
+    ensures no_fault { IfErr result (λ reply. reply.status ≢ Status.WriteFault) }
     ensures same { S.files shelf.new ≡ S.files shelf.old }
     ensures later { S.faults shelf.old ≤ S.faults shelf.new }
     ensures cause { IfErr result
@@ -117,6 +121,7 @@ pub(crate) fn settings_of<S: Shelf>(
 ) -> Result<Settings, Reply>
     ensures value { IfOk result (IsSettings (S.files shelf.old) named.now) }
     ensures reply { IfErr result (IsSettingsReply (S.files shelf.old) named.now) }
+    ensures no_fault { IfErr result (λ reply. reply.status ≢ Status.WriteFault) }
     ensures same { S.files shelf.new ≡ S.files shelf.old }
     ensures later { S.faults shelf.old ≤ S.faults shelf.new }
     ensures cause { IfErr result

@@ -1,5 +1,5 @@
 //! Reading the files that a call names.
-ghost use Rattle.std.specs.Prelude.{◌≡◌, ◌+◌, ◌≤◌, length, IfOk, IfErr};
+ghost use Rattle.std.specs.Prelude.{◌≡◌, ◌≢◌, ◌+◌, ◌≤◌, length, IfOk, IfErr};
 ghost use Rattle.mintc_text.specs.Outside.{IsFront, Rose};
 ghost use Rattle.mintc_command.specs.Answers.{AreFronts, MakesAtMost};
 ghost use Rattle.mintcx_run.specs.Replies.{AreUnread, IsUnread};
@@ -17,7 +17,8 @@ pub(crate) fn shown(name: &Name) -> &str {
 
 /// The reply that a file can't be read.
 fn unread(alloc: Global, name: &Name) -> Reply
-    ensures { IsUnread name.now result }
+    ensures unread { IsUnread name.now result }
+    ensures no_fault { result.status ≢ Status.WriteFault }
 {
     let name = shown(name);
     match format!(in alloc; "'{name}' can't be read") {
@@ -30,6 +31,7 @@ fn unread(alloc: Global, name: &Name) -> Reply
 pub(crate) fn read_file<S: Shelf>(alloc: Global, shelf: &mut S, name: &Name) -> Result<Bytes, Reply>
     ensures front { IfOk result (λ bytes. IsFront (S.files shelf.old) name.now (MOST_BYTES + 1) bytes) }
     ensures unread { IfErr result (IsUnread name.now) }
+    ensures no_fault { IfErr result (λ reply. reply.status ≢ Status.WriteFault) }
     ensures same { S.files shelf.new ≡ S.files shelf.old }
     ensures later { S.faults shelf.old ≤ S.faults shelf.new }
     ensures cause { IfErr result
