@@ -3,3 +3,4 @@ mod HoldLaws
 mod NeverLaws
 mod OptimumLaws
 mod RingLaws
+mod WrittenLaws

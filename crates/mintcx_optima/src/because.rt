@@ -131,7 +131,7 @@ fn put_after(lines: &mut Lines, flat: &Flat, from: u32, to: u32) -> Result<(), O
 }
 
 /// Writes why a stage asks for time.
-pub(crate) fn put_because(
+pub fn put_because(
     lines: &mut Lines,
     alloc: Global,
     flat: &Flat,

@@ -30,7 +30,12 @@ pub(crate) fn lent_cell(alloc: Global, time: i64, den: i64, unit: Unit) -> Resul
 }
 
 /// A time on a chain, a numerator over a denominator in femtoseconds, as a cell.
-pub(crate) fn moment_cell(alloc: Global, time: i128, den: i64, unit: Unit) -> Result<Name, OutOfMemory>
+pub(crate) fn moment_cell(
+    alloc: Global,
+    time: i128,
+    den: i64,
+    unit: Unit,
+) -> Result<Name, OutOfMemory>
     requires time { IsChainTime time }
     requires den { IsDenominator den }
     ensures { IfOk result (λ cell. cell ≡ amount_text unit (over time den)) }

@@ -16,7 +16,7 @@ fn plural(count: u64) -> &'static [u8]
 }
 
 /// Writes so many of a thing, by its word for one.
-pub(crate) fn put_counted(lines: &mut Lines, count: u64, word: &[u8]) -> Result<(), OutOfMemory>
+pub fn put_counted(lines: &mut Lines, count: u64, word: &[u8]) -> Result<(), OutOfMemory>
     ensures { OnOk result (lines.new ≡ lines.old ++ counted count word.now) }
 {
     put_number(lines, count)?;
@@ -26,7 +26,7 @@ pub(crate) fn put_counted(lines: &mut Lines, count: u64, word: &[u8]) -> Result<
 }
 
 /// Writes the line that says how long a chain takes, in how many cycles.
-pub(crate) fn put_decided(
+pub fn put_decided(
     lines: &mut Lines,
     count: u64,
     sums: &Sums,

@@ -31,7 +31,7 @@ pub(crate) struct Opening<'a> {
 }
 
 /// The cycle time of a schedule, in femtoseconds.
-pub(crate) fn cycle_of(schedule: &Schedule) -> Fraction
+pub fn cycle_of(schedule: &Schedule) -> Fraction
     requires { IsInRange schedule.now }
     ensures value { result ≡ cycle_of schedule.now }
     ensures modest { IsModest result }
@@ -40,7 +40,7 @@ pub(crate) fn cycle_of(schedule: &Schedule) -> Fraction
 }
 
 /// The unit of the times of an answer with a schedule.
-pub(crate) fn unit_of(schedule: &Schedule, view: &View) -> Unit
+pub fn unit_of(schedule: &Schedule, view: &View) -> Unit
     requires { IsInRange schedule.now }
     ensures { result ≡ unit_of schedule.now view.now }
 {

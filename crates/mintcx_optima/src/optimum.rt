@@ -16,7 +16,7 @@ use mintcx_frame::View;
 use std::alloc::Global;
 
 /// The stages of the members of a chain, from its beginning by departures.
-pub(crate) fn chain_of(
+pub fn chain_of(
     alloc: Global,
     system: &System,
     departures: &[i64],
@@ -61,7 +61,7 @@ fn least_of(
 }
 
 /// The text where the members of a chain forbid every cycle time.
-pub(crate) fn never_of(
+pub fn never_of(
     alloc: Global,
     system: &System,
     members: &[Member],

@@ -13,6 +13,7 @@ ghost use Rattle.mintcx_optima.specs.Cycles.{short_head, short_text, IsCycleText
 
 use crate::cells::through_cell;
 use crate::counts::put_counted;
+use crate::least::{cycle_of, unit_of};
 use crate::never::put_asks;
 use crate::optimum::chain_of;
 use mintc_certificate::Member;
@@ -98,7 +99,11 @@ fn put_needs(lines: &mut Lines, stages: &[Stage], unit: Unit) -> Result<(), OutO
     lines.put(b" in ")?;
     put_counted(lines, sums.cycles, b"cycle")?;
     lines.put(b", and so needs a cycle of ")?;
-    put_amount(lines, &Fraction::new(i128::from(sums.delay), i128::from(sums.cycles)), unit)?;
+    put_amount(
+        lines,
+        &Fraction::new(i128::from(sums.delay), i128::from(sums.cycles)),
+        unit,
+    )?;
     lines.put(b":\n\n")
 }
 
@@ -180,9 +185,8 @@ fn put_right(
     requires widths { length schedule.now.widths ≡ phase_count flat.now }
     ensures { OnOk result (lines.new ≡ lines.old ++ right_text flat.now schedule.now view.now) }
 {
-    let cycle = Fraction::new(i128::from(schedule.cycle), i128::from(schedule.den));
-    let unit = view.unit_for(&cycle);
-    put_head(lines, b"right", &cycle, view)?;
+    let unit = unit_of(schedule, view);
+    put_head(lines, b"right", &cycle_of(schedule), view)?;
     lines.put(b"\n")?;
     put_phases(lines, alloc, flat, schedule, unit)?;
     lines.put(b"\n")?;

@@ -28,3 +28,8 @@ rest_written unit greatest old a b c d new n some e f g h i =
 pub tight_written : (old a new : List ℕ) (n : ℕ) → n ≢ 0 → n ≢ 1 → a ≡ old ++ decimal n → new ≡ a ++ codes " have no slack and hold the clock back" →
     new ≡ old ++ tight_text n
 tight_written old a new n some more e f = rw (more_tight n some more, f, e) (simp append_assoc)
+
+-- a whole text in seven parts
+pub whole_written : (begun a b c d e f new p q r s t u v : List ℕ) → begun ≡ [] → a ≡ begun ++ p → b ≡ a ++ q → c ≡ b ++ r → d ≡ c ++ s → e ≡ d ++ t →
+    f ≡ e ++ u → new ≡ f ++ v → new ≡ p ++ q ++ r ++ s ++ t ++ u ++ v
+whole_written begun a b c d e f new p q r s t u v g h i j k l m n = rw (n, m, l, k, j, i, h, g) refl

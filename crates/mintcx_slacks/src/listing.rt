@@ -4,7 +4,8 @@ ghost use Rattle.mintc_fraction.specs.Ratio.{IsModest};
 ghost use Rattle.mintc_slack.specs.Answers.{AreOfPairs};
 ghost use Rattle.mintc_text.specs.Lines.{ended};
 ghost use Rattle.mintcx_slacks.specs.Slacks.{AreBySlack, IsSlackText, least_text as least_text_of, never_text};
-ghost use Rattle.mintcx_slacks.specs.Slacks.{listed_text, pairs_line, pairs_word, rest_text, tight_text};
+ghost use Rattle.mintcx_columns.specs.Tables.{table_text};
+ghost use Rattle.mintcx_slacks.specs.Slacks.{listed_text, pairs_line, pairs_word, rest_text, slack_grid, tight_text};
 
 use crate::order::{Place, by_slack, greatest_slack, tight_count};
 use crate::table::{slack_table, whole};
@@ -66,6 +67,21 @@ fn put_rest(lines: &mut Lines, unit: Unit, greatest: i64, count: usize) -> Resul
     lines.put(b" (--limit all)\n")
 }
 
+/// Writes the table of some places.
+fn put_table(
+    lines: &mut Lines,
+    alloc: Global,
+    system: &System,
+    unit: Unit,
+    places: &[Place],
+) -> Result<(), OutOfMemory>
+    requires { All (λ (place : ℤ × ℕ). place.1 < length system.now.pairs) places.now }
+    ensures { OnOk result (lines.new ≡ lines.old ++ table_text (slack_grid system.now unit places.now)) }
+{
+    let table = slack_table(alloc, system, unit, places)?.text(alloc)?;
+    lines.put(&table)
+}
+
 /// Writes the pairs of places with their slacks, as many as a limit allows, and the line for those that it leaves out.
 fn put_listed(
     lines: &mut Lines,
@@ -79,8 +95,7 @@ fn put_listed(
     ensures { OnOk result (lines.new ≡ lines.old ++ listed_text system.now unit limit places.now) }
 {
     let shown = shown_rows(limit, places.len());
-    let table = slack_table(alloc, system, unit, &places[..shown])?.text(alloc)?;
-    lines.put(&table)?;
+    put_table(lines, alloc, system, unit, &places[..shown])?;
     put_rest(lines, unit, greatest_slack(places), places.len() - shown)
 }
 

@@ -10,5 +10,5 @@ places_text-requires-clause-places c = rw c.deref.ensures.value (by_slack_inside
 pub returns : goal.returns
 returns c =
     IfOk-weaker c.places_text.result _ _
-    (λ text e. (c.in_ok-places.places.items, (c.in_ok-places.ensures, e ∙ ap (least_text c.args.system.now c.args.cycle.now c.args.extra.now c.args.view.now) c.deref.ensures.value)))
+    (λ text e. (c.in_ok-places.places.items, c.in_ok-places.ensures, e ∙ ap (least_text c.args.system.now c.args.cycle.now c.args.extra.now c.args.view.now) c.deref.ensures.value))
     c.places_text.ensures
