@@ -37,13 +37,13 @@ times in fs
 ||";
 
 /// What there is at a cycle time above the least one.
-const RIGHT: &str = "0|right  cycle 1 ns, 1000.000 MHz  (two.table)
+const RIGHT: &str = "0|right  cycle 1000 ps, 1000.000 MHz  (two.table)
 
   phase  starts  ends  width
-  phi1        0     0      0
-  phi2        0     0      0
+  phi1        0  0.01   0.01
+  phi2     0.01  0.04   0.03
 
-times in ns
+times in ps
 ||";
 
 /// What there is at one below it.
